@@ -1,0 +1,5 @@
+-- What public contracts rest on, in reading order.
+
+pub mod Trees
+pub mod Numbers
+pub mod Same

@@ -1,14 +1,22 @@
-//! The words that every part of the tool shares: texts, tokens, and the want of memory.
+//! The words that every part of the tool shares: texts, tokens, trees, and the want of memory.
 //!
 //! - [`Text`] keeps bytes, which need not be UTF-8.
 //! - [`Token`] is a text with its [`TokenKind`] and an id, by which it is known after an edit.
+//! - [`Tree`] is a token, or a branch with its [`Label`]; [`TreePath`] is a place in one.
+//! - [`leaves`] gives a tree's tokens, [`same_term`] compares trees but for ids.
 //! - [`NoMemory`] is the one answer that no caller can foresee.
 //!
 //! Everything here is data; which bytes make a token is for c_lexer.
 #![tactic(auto)]
 
+mod label;
+mod same;
 mod text;
 mod token;
+mod tree;
 
+pub use label::Label;
+pub use same::{is_same_token, same_term, same_text};
 pub use text::{NoMemory, Text};
 pub use token::{MetaKind, Token, TokenKind};
+pub use tree::{Tree, TreePath, leaves};

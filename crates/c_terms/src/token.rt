@@ -1,5 +1,9 @@
 // The tokens of C and of semantic patches.
-use crate::Text;
+ghost use Rattle.std.specs.Prelude.{◌≡◌, IfOk};
+ghost use Rattle.c_terms.specs.Numbers.{meta_number, kind_number};
+
+use crate::{NoMemory, Text};
+use std::alloc::Global;
 
 /// What a metavariable stands for.
 #[derive(Clone, Copy, Debug, PartialEq, Eq)]
@@ -51,4 +55,61 @@ pub struct Token {
     pub kind: TokenKind,
     pub text: Text,
     pub id: u64,
+}
+
+impl MetaKind {
+    /// The kind's place in the order of kinds of metavariables, from 0. Takes no memory.
+    pub fn number(self) -> u8
+        ensures value { result ≡ meta_number self }
+    {
+        match self {
+            MetaKind::Expr => 0,
+            MetaKind::ExprList => 1,
+            MetaKind::Ident => 2,
+            MetaKind::Constant => 3,
+            MetaKind::Typ => 4,
+            MetaKind::Stmt => 5,
+            MetaKind::Params => 6,
+        }
+    }
+}
+
+impl TokenKind {
+    /// The kind's place in the order of kinds, from 0. Takes no memory.
+    pub fn number(self) -> u8
+        ensures value { result ≡ kind_number self }
+    {
+        match self {
+            TokenKind::Name => 0,
+            TokenKind::Keyword => 1,
+            TokenKind::Number => 2,
+            TokenKind::Char => 3,
+            TokenKind::Str => 4,
+            TokenKind::Punct => 5,
+            TokenKind::Stray => 6,
+            TokenKind::Meta(MetaKind::Expr) => 7,
+            TokenKind::Meta(MetaKind::ExprList) => 8,
+            TokenKind::Meta(MetaKind::Ident) => 9,
+            TokenKind::Meta(MetaKind::Constant) => 10,
+            TokenKind::Meta(MetaKind::Typ) => 11,
+            TokenKind::Meta(MetaKind::Stmt) => 12,
+            TokenKind::Meta(MetaKind::Params) => 13,
+            TokenKind::Dots => 14,
+            TokenKind::Pat => 15,
+        }
+    }
+}
+
+impl Token {
+    /// An equal token, the id included. Linear in its text.
+    pub fn copy(&self, alloc: Global) -> Result<Token, NoMemory>
+        ensures same { IfOk result (λ token. token ≡ self.now) }
+    {
+        let text = self.text.copy(alloc)?;
+        Ok(Token {
+            kind: self.kind,
+            text,
+            id: self.id,
+        })
+    }
 }

@@ -1,0 +1,64 @@
+// Equality of terms: of texts, of tokens and of trees, ids aside.
+ghost use Rattle.std.specs.Prelude.{◌≡◌, map};
+ghost use Rattle.c_terms.specs.Same.{same_bytes, same_token, same_tree, all_pass};
+
+use crate::{Token, Tree};
+
+/// Equal bytes. Stops at the first difference, and takes no memory.
+pub fn same_text(a: &[u8], b: &[u8]) -> bool
+    ensures value { result ≡ same_bytes a.now b.now }
+{
+    if a.len() != b.len() {
+        return false;
+    }
+    for i in 0..a.len() {
+        if a[i] != b[i] {
+            return false;
+        }
+    }
+    true
+}
+
+/// Equal but for the id. Takes no memory.
+pub fn is_same_token(a: &Token, b: &Token) -> bool
+    ensures value { result ≡ same_token a.now b.now }
+{
+    a.kind.number() == b.kind.number() && same_text(a.text.as_bytes(), b.text.as_bytes())
+}
+
+/// Equal but for ids. Stops at the first difference, takes no memory, and recurses once a level.
+#[cycle(same)]
+pub fn same_term(a: &Tree, b: &Tree) -> bool
+    ensures value { result ≡ same_tree a.now b.now }
+{
+    match a {
+        Tree::Leaf(x) => match b {
+            Tree::Leaf(y) => is_same_token(x, y),
+            Tree::Branch(_, _) => false,
+        },
+        Tree::Branch(l, xs) => match b {
+            Tree::Leaf(_) => false,
+            Tree::Branch(k, ys) => {
+                if l.number() != k.number() {
+                    return false;
+                }
+                same_terms(xs.as_slice(), ys.as_slice())
+            }
+        },
+    }
+}
+
+#[cycle(same)]
+fn same_terms(xs: &[Tree], ys: &[Tree]) -> bool
+    ensures { result ≡ all_pass (map same_tree xs.now) ys.now }
+{
+    if xs.len() != ys.len() {
+        return false;
+    }
+    for i in 0..xs.len() {
+        if !same_term(&xs[i], &ys[i]) {
+            return false;
+        }
+    }
+    true
+}

@@ -3,3 +3,4 @@
 pub mod Trees
 pub mod Numbers
 pub mod Same
+pub mod Order

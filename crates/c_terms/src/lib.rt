@@ -10,12 +10,14 @@
 #![tactic(auto)]
 
 mod label;
+mod order;
 mod same;
 mod text;
 mod token;
 mod tree;
 
 pub use label::Label;
+pub use order::{compare_tokens, term_order, text_order};
 pub use same::{is_same_token, same_term, same_text};
 pub use text::{NoMemory, Text};
 pub use token::{MetaKind, Token, TokenKind};

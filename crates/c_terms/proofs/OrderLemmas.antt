@@ -52,13 +52,13 @@ slice_cmp_at f (a ∷ xs) [] i x y h k e g = absurd (omega arith)
 slice_cmp_at f (a ∷ xs) (b ∷ ys) zero x y h k e g = rw (e, g) refl
 slice_cmp_at f (a ∷ xs) (b ∷ ys) (suc i) x y h k e g = slice_cmp_at f xs ys i x y (omega arith) (omega arith) e g
 
-nat_cmp-suc : (m n : ℕ) → nat_cmp m n ≡ nat_cmp (suc m) (suc n)
+pub nat_cmp-suc : (m n : ℕ) → nat_cmp m n ≡ nat_cmp (suc m) (suc n)
 nat_cmp-suc m n = grind (arith, nat_tests)
 
-before_suc : (n : ℕ) → Less ≡ nat_cmp 0 (suc n)
+pub before_suc : (n : ℕ) → Less ≡ nat_cmp 0 (suc n)
 before_suc n = grind (arith, nat_tests)
 
-after_zero : (n : ℕ) → Greater ≡ nat_cmp (suc n) 0
+pub after_zero : (n : ℕ) → Greater ≡ nat_cmp (suc n) 0
 after_zero n = grind (arith, nat_tests)
 
 -- where one of the lists ends, the longer one is greater

@@ -2,14 +2,14 @@
 -- A tree has a code, a list of numbers, so that trees are ordered as their codes are. A code is never a part of another's
 -- beginning, so the codes of children stand one after another. A leaf is 1, its kind, its bytes plus 1, and 0; a branch is 2,
 -- its label, the codes of its children, and 0. So a text or a list of children that ends comes before one that goes on.
-use Rattle.std.proofs.Common.{◌≡◌, ℕ, zero, suc, ◌+◌, ◌<◌, Bool, true, false, ◌&&◌, eqb, refl, sym, ap, ◌∙◌, subst, arith, List, [], ◌∷◌, ◌++◌, map, append_assoc}
+use Rattle.std.proofs.Common.{◌≡◌, ◌↔◌, ℕ, zero, suc, ◌+◌, ◌<◌, Bool, true, false, ◌&&◌, ◌||◌, eqb, refl, sym, ap, ◌∙◌, subst, arith, List, [], ◌∷◌, ◌++◌, map, append_assoc}
 use Rattle.std.proofs.lemmas.Bool.Decides.{nat_tests}
 use Rattle.std.proofs.lemmas.Cmp.{nat_list_cmp_total, on_total}
 use Rattle.std.specs.Cmp.{IsTotalOrder}
 use Rattle.std.specs.Cmp.Lexicographic.{slice_cmp}
 use Rattle.std.specs.declared.cmp.Ordering.{Ordering}
 use Rattle.std.specs.declared.cmp.Ordering.TheVariants.{Less, Equal, Greater}
-use Rattle.std.specs.Ordering.{nat_cmp, ordering_then, on, is_eq, ordering_reverse}
+use Rattle.std.specs.Ordering.{nat_cmp, ordering_then, on, is_eq, is_le, ordering_reverse}
 use Rattle.c_terms.specs.declared.token.Token.{Token}
 use Rattle.c_terms.specs.declared.label.Label.{Label}
 use Rattle.c_terms.specs.declared.tree.Tree.{Tree}
@@ -116,3 +116,62 @@ as_codes t u = rw (sym (append-nil (code t)), sym (append-nil (code u))) (coded 
 
 pub tree_order_total : IsTotalOrder tree_order
 tree_order_total = subst IsTotalOrder (λ i t u. as_codes t u i) (on_total code nat_list_cmp_total)
+
+is_eq-then : (a b : Ordering) → is_eq (ordering_then a b) ≡ (is_eq a && is_eq b)
+is_eq-then Less b = refl
+is_eq-then Equal b = refl
+is_eq-then Greater b = refl
+
+is_eq-nat : (m n : ℕ) → is_eq (nat_cmp m n) ≡ eqb m n
+is_eq-nat m n = grind (arith, nat_tests)
+
+is_eq-bytes : (xs ys : List ℕ) → is_eq (by_bytes xs ys) ≡ same_bytes xs ys
+is_eq-bytes [] [] = refl
+is_eq-bytes [] (y ∷ ys) = refl
+is_eq-bytes (x ∷ xs) [] = refl
+is_eq-bytes (x ∷ xs) (y ∷ ys) = rw (is_eq-then (nat_cmp x y) (by_bytes xs ys), is_eq-nat x y) (ap (λ b. eqb x y && b) (is_eq-bytes xs ys))
+
+is_eq-token : (a b : Token) → is_eq (token_order a b) ≡ same_token a b
+is_eq-token a b =
+    rw (is_eq-then (nat_cmp (kind_number a.kind) (kind_number b.kind)) (by_bytes a.text b.text), is_eq-nat (kind_number a.kind) (kind_number b.kind), is_eq-bytes a.text b.text) refl
+
+abbrev Tied : Tree → Type 0
+Tied t = (u : Tree) → is_eq (tree_order t u) ≡ same_tree t u
+
+kids-tied : (cs us : List Tree) → Each Tied cs → is_eq (slice_cmp tree_order cs us) ≡ all_pass (map same_tree cs) us
+kids-tied [] [] e = refl
+kids-tied [] (u ∷ us) e = refl
+kids-tied (c ∷ cs) [] e = refl
+kids-tied (c ∷ cs) (u ∷ us) e = rw (is_eq-then (tree_order c u) (slice_cmp tree_order cs us), e.0 u, kids-tied cs us e.1) refl
+
+branch-tied : (l : Label) (cs : List Tree) → Each Tied cs → (k : Label) (us : List Tree) → is_eq (tree_order (Branch l cs) (Branch k us)) ≡ same_tree (Branch l cs) (Branch k us)
+branch-tied l cs e k us =
+    rw (order-Branch-Branch l cs k us, same-Branch-Branch l cs k us, is_eq-then (nat_cmp (label_number l) (label_number k)) (slice_cmp tree_order cs us), is_eq-nat (label_number l) (label_number k), kids-tied cs us e) refl
+
+-- the order takes for equal what is the same term
+pub is_eq-tree_order : (t u : Tree) → is_eq (tree_order t u) ≡ same_tree t u
+is_eq-tree_order = tree_induction Tied
+    (λ a. tree_cases (λ u. is_eq (tree_order (Leaf a) u) ≡ same_tree (Leaf a) u)
+    (λ b. rw (order-Leaf-Leaf a b, same-Leaf-Leaf a b) (is_eq-token a b))
+    (λ k us. rw (order-Leaf-Branch a k us, same-Leaf-Branch a k us) refl))
+    (λ l cs e. tree_cases (λ u. is_eq (tree_order (Branch l cs) u) ≡ same_tree (Branch l cs) u)
+    (λ b. rw (order-Branch-Leaf l cs b, same-Branch-Leaf l cs b) refl)
+    (λ k us. branch-tied l cs e k us))
+
+is_eq-Equal : (o : Ordering) → is_eq o ≡ true → o ≡ Equal
+is_eq-Equal Less h = absurd (cc)
+is_eq-Equal Equal h = refl
+is_eq-Equal Greater h = absurd (cc)
+
+pub order-same : (t u : Tree) → (tree_order t u ≡ Equal) ↔ (same_tree t u ≡ true)
+order-same t u = (λ e. sym (is_eq-tree_order t u) ∙ ap is_eq e, λ h. is_eq-Equal (tree_order t u) (is_eq-tree_order t u ∙ h))
+
+le-or-reverse : (o p : Ordering) → o ≡ ordering_reverse p → (is_le o || is_le p) ≡ true
+le-or-reverse Less p e = refl
+le-or-reverse Equal p e = refl
+le-or-reverse Greater Less e = refl
+le-or-reverse Greater Equal e = absurd (cc)
+le-or-reverse Greater Greater e = absurd (cc)
+
+pub either_way : (t u : Tree) → (is_le (tree_order t u) || is_le (tree_order u t)) ≡ true
+either_way t u = le-or-reverse (tree_order t u) (tree_order u t) (tree_order_total.antisymm t u)

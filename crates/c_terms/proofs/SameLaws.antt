@@ -10,14 +10,14 @@ use Rattle.c_terms.specs.Same.{same_tree, same_token, same_label, all_pass, same
 use Rattle.c_terms.proofs.SameLemmas.{same-Leaf-Leaf, same-Leaf-Branch, same-Branch-Leaf, same-Branch-Branch}
 use Rattle.c_terms.proofs.Induct.{Each, tree_induction, tree_cases}
 
-bytes-refl : (xs : List ℕ) → same_bytes xs xs ≡ true
+pub bytes-refl : (xs : List ℕ) → same_bytes xs xs ≡ true
 bytes-refl [] = refl
 bytes-refl (x ∷ xs) = let h = bytes-refl xs in grind (arith, nat_tests)
 
 token-refl : (a : Token) → same_token a a ≡ true
 token-refl a = let h = bytes-refl a.text in grind (arith, nat_tests)
 
-both : (a b : Bool) → a ≡ true → b ≡ true → (a && b) ≡ true
+pub both : (a b : Bool) → a ≡ true → b ≡ true → (a && b) ≡ true
 both true b h k = k
 both false b h k = absurd (cc)
 
@@ -25,7 +25,7 @@ all-refl : (cs : List Tree) → Each (λ t. same_tree t t ≡ true) cs → all_p
 all-refl [] e = refl
 all-refl (c ∷ cs) e = both (same_tree c c) (all_pass (map same_tree cs) cs) e.0 (all-refl cs e.1)
 
-label-refl : (l : Label) → same_label l l ≡ true
+pub label-refl : (l : Label) → same_label l l ≡ true
 label-refl l = grind (arith, nat_tests)
 
 pub tree-refl : (t : Tree) → same_tree t t ≡ true

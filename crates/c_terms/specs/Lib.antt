@@ -2,5 +2,6 @@
 
 pub mod Trees
 pub mod Numbers
+pub mod Bare
 pub mod Same
 pub mod Order

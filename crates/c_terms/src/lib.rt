@@ -10,6 +10,7 @@
 #![tactic(auto)]
 
 mod label;
+mod laws;
 mod order;
 mod same;
 mod text;
@@ -17,6 +18,7 @@ mod token;
 mod tree;
 
 pub use label::Label;
+pub use laws::{numbers_tell_apart, same_term_is_equality, term_order_is_total};
 pub use order::{compare_tokens, term_order, text_order};
 pub use same::{is_same_token, same_term, same_text};
 pub use text::{NoMemory, Text};

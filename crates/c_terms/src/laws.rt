@@ -1,0 +1,37 @@
+// What holds of all terms, and no single call shows.
+ghost use Rattle.std.specs.Prelude.{◌≡◌, ◌↔◌, ◌||◌, true, IsTrue};
+ghost use Rattle.std.specs.declared.cmp.Ordering.TheVariants.{Less, Equal};
+ghost use Rattle.std.specs.Ordering.{ordering_reverse, is_le};
+ghost use Rattle.c_terms.specs.declared.token.TokenKind.{TokenKind};
+ghost use Rattle.c_terms.specs.declared.label.Label.{Label};
+ghost use Rattle.c_terms.specs.declared.tree.Tree.{Tree};
+ghost use Rattle.c_terms.specs.Numbers.{kind_number, label_number};
+ghost use Rattle.c_terms.specs.Bare.{bare};
+ghost use Rattle.c_terms.specs.Same.{same_tree};
+ghost use Rattle.c_terms.specs.Order.{tree_order};
+
+/// No two kinds of tokens have one number, nor have two labels.
+pub fn numbers_tell_apart()
+    ensures kinds { (j k : TokenKind) → kind_number j ≡ kind_number k → j ≡ k }
+    ensures labels { (l k : Label) → label_number l ≡ label_number k → l ≡ k }
+{
+}
+
+/// [`same_term`](crate::same_term) is equality of the trees without their ids. So it is an equivalence.
+pub fn same_term_is_equality()
+    ensures ids_aside { (t u : Tree) → IsTrue (same_tree t u) ↔ (bare t ≡ bare u) }
+    ensures reflexive { (t : Tree) → IsTrue (same_tree t t) }
+    ensures symmetric { (t u : Tree) → same_tree t u ≡ same_tree u t }
+    ensures transitive { (t u v : Tree) → IsTrue (same_tree t u) → IsTrue (same_tree u v) → IsTrue (same_tree t v) }
+{
+}
+
+/// [`term_order`](crate::term_order) is a total order, which takes same terms for equal, and no others.
+pub fn term_order_is_total()
+    ensures equal { (t u : Tree) → (tree_order t u ≡ Equal) ↔ IsTrue (same_tree t u) }
+    ensures antisymmetric { (t u : Tree) → tree_order t u ≡ ordering_reverse (tree_order u t) }
+    ensures transitive { (t u v : Tree) → tree_order t u ≡ Less → tree_order u v ≡ Less → tree_order t v ≡ Less }
+    ensures total { (t u : Tree) → IsTrue (is_le (tree_order t u) || is_le (tree_order u t)) }
+    ensures same_place { (t u v : Tree) → IsTrue (same_tree t u) → tree_order t v ≡ tree_order u v }
+{
+}

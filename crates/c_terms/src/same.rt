@@ -1,5 +1,6 @@
 // Equality of terms: of texts, of tokens and of trees, ids aside.
-ghost use Rattle.std.specs.Prelude.{◌≡◌, map};
+ghost use Rattle.std.specs.Prelude.{◌≡◌, ◌↔◌, IsTrue, map};
+ghost use Rattle.c_terms.specs.Bare.{bare};
 ghost use Rattle.c_terms.specs.Same.{same_bytes, same_token, same_tree, all_pass};
 
 use crate::{Token, Tree};
@@ -27,9 +28,16 @@ pub fn is_same_token(a: &Token, b: &Token) -> bool
 }
 
 /// Equal but for ids. Stops at the first difference, takes no memory, and recurses once a level.
-#[cycle(same)]
 pub fn same_term(a: &Tree, b: &Tree) -> bool
     ensures value { result ≡ same_tree a.now b.now }
+    ensures ids_aside { IsTrue result ↔ (bare a.now ≡ bare b.now) }
+{
+    same_trees(a, b)
+}
+
+#[cycle(same)]
+fn same_trees(a: &Tree, b: &Tree) -> bool
+    ensures { result ≡ same_tree a.now b.now }
 {
     match a {
         Tree::Leaf(x) => match b {
@@ -42,21 +50,21 @@ pub fn same_term(a: &Tree, b: &Tree) -> bool
                 if l.number() != k.number() {
                     return false;
                 }
-                same_terms(xs.as_slice(), ys.as_slice())
+                same_lists(xs.as_slice(), ys.as_slice())
             }
         },
     }
 }
 
 #[cycle(same)]
-fn same_terms(xs: &[Tree], ys: &[Tree]) -> bool
+fn same_lists(xs: &[Tree], ys: &[Tree]) -> bool
     ensures { result ≡ all_pass (map same_tree xs.now) ys.now }
 {
     if xs.len() != ys.len() {
         return false;
     }
     for i in 0..xs.len() {
-        if !same_term(&xs[i], &ys[i]) {
+        if !same_trees(&xs[i], &ys[i]) {
             return false;
         }
     }

@@ -1,5 +1,5 @@
 -- Two trees are the same exactly where they are equal without their ids.
-use Rattle.std.proofs.Common.{◌≡◌, ℕ, Bool, true, false, ◌&&◌, eqb, refl, sym, ap, ◌∙◌, subst, arith, List, [], ◌∷◌, map}
+use Rattle.std.proofs.Common.{◌≡◌, ℕ, true, ◌&&◌, refl, sym, ap, ◌∙◌, arith, List, [], ◌∷◌, map}
 use Rattle.std.proofs.lemmas.Bool.Decides.{nat_tests}
 use Rattle.std.proofs.lemmas.Grind.{common_steps}
 use Rattle.c_terms.specs.declared.token.Token.{Token}
@@ -12,7 +12,7 @@ use Rattle.c_terms.specs.Bare.{bare, bare_step}
 use Rattle.c_terms.specs.Same.{same_tree, same_token, same_label, same_bytes, all_pass}
 use Rattle.c_terms.proofs.NumberLaws.{kind_number-injective, label_number-injective}
 use Rattle.c_terms.proofs.SameLemmas.{same-Leaf-Leaf, same-Leaf-Branch, same-Branch-Leaf, same-Branch-Branch}
-use Rattle.c_terms.proofs.SameLaws.{tree-sym, tree-along, bytes-refl, label-refl, both}
+use Rattle.c_terms.proofs.SameLaws.{tree-along, bytes-refl, label-refl, both}
 use Rattle.c_terms.proofs.Induct.{Each, tree_induction, tree_cases}
 
 abbrev bare_token : Token → Token

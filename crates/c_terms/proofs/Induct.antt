@@ -1,5 +1,5 @@
 -- Induction over trees.
-use Rattle.std.proofs.Common.{◌≡◌, ℕ, Bool, refl, sym, ap, ◌∙◌, subst, List, [], ◌∷◌, map}
+use Rattle.std.proofs.Common.{sym, subst, List, [], ◌∷◌, map}
 use Rattle.c_terms.specs.declared.token.Token.{Token}
 use Rattle.c_terms.specs.declared.label.Label.{Label}
 use Rattle.c_terms.specs.declared.tree.Tree.{Tree}

@@ -1,7 +1,6 @@
 -- A kind and a label are known by their numbers.
-use Rattle.std.proofs.Common.{◌≡◌, ℕ, ◌+◌, Option, Some, refl, sym, ap, ◌∙◌, List, [], ◌∷◌}
+use Rattle.std.proofs.Common.{◌≡◌, Some, refl, List, [], ◌∷◌}
 use Rattle.std.specs.Prelude.{slice_get}
-use Rattle.c_terms.specs.declared.token.MetaKind.{MetaKind}
 use Rattle.c_terms.specs.declared.token.MetaKind.TheVariants as meta
 use Rattle.c_terms.specs.declared.token.TokenKind.{TokenKind}
 use Rattle.c_terms.specs.declared.token.TokenKind.TheVariants as kind

@@ -2,7 +2,7 @@
 -- A tree has a code, a list of numbers, so that trees are ordered as their codes are. A code is never a part of another's
 -- beginning, so the codes of children stand one after another. A leaf is 1, its kind, its bytes plus 1, and 0; a branch is 2,
 -- its label, the codes of its children, and 0. So a text or a list of children that ends comes before one that goes on.
-use Rattle.std.proofs.Common.{◌≡◌, ◌↔◌, ℕ, zero, suc, ◌+◌, ◌<◌, Bool, true, false, ◌&&◌, ◌||◌, eqb, refl, sym, ap, ◌∙◌, subst, arith, List, [], ◌∷◌, ◌++◌, map, append_assoc}
+use Rattle.std.proofs.Common.{◌≡◌, ◌↔◌, ℕ, suc, true, ◌&&◌, ◌||◌, eqb, refl, sym, ap, ◌∙◌, subst, arith, List, [], ◌∷◌, ◌++◌, map, append_assoc}
 use Rattle.std.proofs.lemmas.Bool.Decides.{nat_tests}
 use Rattle.std.proofs.lemmas.Cmp.{nat_list_cmp_total, on_total}
 use Rattle.std.specs.Cmp.{IsTotalOrder}
@@ -18,7 +18,7 @@ use Rattle.c_terms.specs.declared.tree.Tree.TheVariants.{Leaf, Branch, rolls-Lea
 use Rattle.c_terms.specs.declared.tree.Tree.TheFolds.{fold-Tree, fold-roll-Tree}
 use Rattle.c_terms.specs.Numbers.{kind_number, label_number}
 use Rattle.c_terms.specs.Trees.{join}
-use Rattle.c_terms.specs.Same.{same_tree, same_token, same_label, same_bytes, all_pass}
+use Rattle.c_terms.specs.Same.{same_tree, same_token, same_bytes, all_pass}
 use Rattle.c_terms.specs.Order.{token_order, tree_order}
 use Rattle.c_terms.proofs.SameLemmas.{same-Leaf-Leaf, same-Leaf-Branch, same-Branch-Leaf, same-Branch-Branch}
 use Rattle.c_terms.proofs.OrderLemmas.{order-Leaf-Leaf, order-Leaf-Branch, order-Branch-Leaf, order-Branch-Branch, nat_cmp-suc, before_suc, after_zero}

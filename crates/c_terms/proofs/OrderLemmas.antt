@@ -1,5 +1,5 @@
 -- The equations of `tree_order`.
-use Rattle.std.proofs.Common.{◌≡◌, ℕ, zero, suc, ◌<◌, min, Bool, refl, sym, ap, ◌∙◌, arith, List, [], ◌∷◌, map, length, drop, get_or}
+use Rattle.std.proofs.Common.{◌≡◌, ℕ, zero, suc, ◌<◌, min, refl, sym, ap, ◌∙◌, arith, List, [], ◌∷◌, map, length, drop, get_or}
 use Rattle.std.proofs.lemmas.Bool.Decides.{nat_tests}
 use Rattle.std.specs.declared.cmp.Ordering.{Ordering}
 use Rattle.std.specs.declared.cmp.Ordering.TheVariants.{Less, Equal, Greater}

@@ -1,5 +1,5 @@
 -- `same_tree` is an equivalence.
-use Rattle.std.proofs.Common.{◌≡◌, ℕ, suc, zero, Bool, true, false, ◌&&◌, eqb, refl, sym, ap, ◌∙◌, arith, List, [], ◌∷◌, map}
+use Rattle.std.proofs.Common.{◌≡◌, ℕ, Bool, true, false, ◌&&◌, refl, sym, ◌∙◌, arith, List, [], ◌∷◌, map}
 use Rattle.std.proofs.lemmas.Bool.Decides.{nat_tests}
 use Rattle.std.proofs.lemmas.Grind.{common_steps}
 use Rattle.c_terms.specs.declared.token.Token.{Token}
@@ -32,7 +32,7 @@ pub tree-refl : (t : Tree) → same_tree t t ≡ true
 tree-refl = tree_induction (λ t. same_tree t t ≡ true) (λ a. same-Leaf-Leaf a a ∙ token-refl a)
     (λ l cs e. same-Branch-Branch l cs l cs ∙ both (same_label l l) (all_pass (map same_tree cs) cs) (label-refl l) (all-refl cs e))
 
-bytes-sym : (xs ys : List ℕ) → same_bytes xs ys ≡ same_bytes ys xs
+pub bytes-sym : (xs ys : List ℕ) → same_bytes xs ys ≡ same_bytes ys xs
 bytes-sym [] [] = refl
 bytes-sym [] (y ∷ ys) = refl
 bytes-sym (x ∷ xs) [] = refl
@@ -62,7 +62,7 @@ tree-sym = tree_induction Swaps
     (λ b. same-Branch-Leaf l cs b ∙ sym (same-Leaf-Branch b l cs))
     (λ k us. let h = all-sym cs us e in let i = label-sym l k in let j = same-Branch-Branch l cs k us in let m = same-Branch-Branch k us l cs in cc))
 
-bytes-along : (xs ys : List ℕ) → same_bytes xs ys ≡ true → (zs : List ℕ) → same_bytes xs zs ≡ same_bytes ys zs
+pub bytes-along : (xs ys : List ℕ) → same_bytes xs ys ≡ true → (zs : List ℕ) → same_bytes xs zs ≡ same_bytes ys zs
 bytes-along [] [] h zs = refl
 bytes-along [] (y ∷ ys) h zs = absurd (cc)
 bytes-along (x ∷ xs) [] h zs = absurd (cc)

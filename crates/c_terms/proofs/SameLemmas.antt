@@ -1,12 +1,11 @@
 -- The equations of `same_tree`, and that it is an equivalence.
-use Rattle.std.proofs.Common.{◌≡◌, ℕ, suc, zero, ◌+◌, ◌<◌, Bool, true, false, ◌&&◌, eqb, refl, sym, ap, ◌∙◌, arith, List, [], ◌∷◌, map, length, drop, get_or}
-use Rattle.std.proofs.lemmas.Bool.Decides.{nat_tests}
+use Rattle.std.proofs.Common.{◌≡◌, ℕ, suc, zero, ◌<◌, Bool, true, false, ◌&&◌, eqb, refl, sym, ap, ◌∙◌, arith, List, [], ◌∷◌, map, length, drop, get_or}
 use Rattle.std.proofs.lemmas.Grind.{common_steps}
 use Rattle.c_terms.specs.declared.token.Token.{Token}
 use Rattle.c_terms.specs.declared.label.Label.{Label}
 use Rattle.c_terms.specs.declared.tree.Tree.{Tree, out-Tree}
 use Rattle.c_terms.specs.declared.tree.Tree.TheOpen.{Tree-F}
-use Rattle.c_terms.specs.declared.tree.Tree.TheViews.{roll-Tree, out-roll-Tree}
+use Rattle.c_terms.specs.declared.tree.Tree.TheViews.{out-roll-Tree}
 use Rattle.c_terms.specs.declared.tree.Tree.TheVariants.{Leaf, Branch, rolls-Leaf, rolls-Branch}
 use Rattle.c_terms.specs.declared.tree.Tree.TheFolds.{fold-roll-Tree}
 use Rattle.c_terms.specs.Same.{same_tree, same_step, same_at, same_token, same_label, all_pass, same_bytes}

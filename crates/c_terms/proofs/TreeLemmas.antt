@@ -1,5 +1,5 @@
 -- The equations of the folds over trees.
-use Rattle.std.proofs.Common.{◌≡◌, ℕ, ◌+◌, max, arith, List, [], ◌∷◌, ◌++◌, map, refl, ap, sym, ◌∙◌}
+use Rattle.std.proofs.Common.{◌≡◌, ℕ, ◌+◌, max, arith, List, [], ◌∷◌, ◌++◌, map, ap, sym, ◌∙◌}
 use Rattle.c_terms.specs.declared.token.Token.{Token}
 use Rattle.c_terms.specs.declared.label.Label.{Label}
 use Rattle.c_terms.specs.declared.tree.Tree.{Tree}

@@ -1,6 +1,4 @@
 -- A tree without its ids.
-use Rattle.std.specs.Prelude.{List}
-use Rattle.c_terms.specs.declared.token.Token.{Token}
 use Rattle.c_terms.specs.declared.tree.Tree.{Tree}
 use Rattle.c_terms.specs.declared.tree.Tree.TheOpen.{Tree-F}
 use Rattle.c_terms.specs.declared.tree.Tree.TheVariants.{Leaf, Branch}

@@ -14,8 +14,7 @@ ghost use Rattle.c_terms.specs.Order.{tree_order};
 pub fn numbers_tell_apart()
     ensures kinds { (j k : TokenKind) → kind_number j ≡ kind_number k → j ≡ k }
     ensures labels { (l k : Label) → label_number l ≡ label_number k → l ≡ k }
-{
-}
+{}
 
 /// [`same_term`](crate::same_term) is equality of the trees without their ids. So it is an equivalence.
 pub fn same_term_is_equality()
@@ -23,8 +22,7 @@ pub fn same_term_is_equality()
     ensures reflexive { (t : Tree) → IsTrue (same_tree t t) }
     ensures symmetric { (t u : Tree) → same_tree t u ≡ same_tree u t }
     ensures transitive { (t u v : Tree) → IsTrue (same_tree t u) → IsTrue (same_tree u v) → IsTrue (same_tree t v) }
-{
-}
+{}
 
 /// [`term_order`](crate::term_order) is a total order, which takes same terms for equal, and no others.
 pub fn term_order_is_total()
@@ -33,5 +31,4 @@ pub fn term_order_is_total()
     ensures transitive { (t u v : Tree) → tree_order t u ≡ Less → tree_order u v ≡ Less → tree_order t v ≡ Less }
     ensures total { (t u : Tree) → IsTrue (is_le (tree_order t u) || is_le (tree_order u t)) }
     ensures same_place { (t u v : Tree) → IsTrue (same_tree t u) → tree_order t v ≡ tree_order u v }
-{
-}
+{}

@@ -11,6 +11,7 @@
 
 mod label;
 mod laws;
+mod names;
 mod order;
 mod same;
 mod text;
@@ -19,6 +20,7 @@ mod tree;
 
 pub use label::Label;
 pub use laws::{numbers_tell_apart, same_term_is_equality, term_order_is_total};
+pub use names::Names;
 pub use order::{compare_tokens, term_order, text_order};
 pub use same::{is_same_token, same_term, same_text};
 pub use text::{NoMemory, Text};

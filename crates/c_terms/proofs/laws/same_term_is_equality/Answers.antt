@@ -1,5 +1,4 @@
-use Rattle.std.proofs.Common.{◌≡◌, true, sym, ◌∙◌}
-use Rattle.c_terms.specs.Same.{same_tree}
+use Rattle.std.proofs.Common.{sym, ◌∙◌}
 use Rattle.c_terms.proofs.BareLaws.{same-bare, bare-same}
 use Rattle.c_terms.proofs.SameLaws.{tree-refl, tree-sym, tree-along}
 use Rattle.c_terms.proofs.laws.same_term_is_equality.Goals as goal

@@ -1,4 +1,4 @@
-use Rattle.std.proofs.Common.{◌≡◌, ℕ, min, length, sym, ◌∙◌, arith}
+use Rattle.std.proofs.Common.{◌≡◌, min, length, sym, ◌∙◌, arith}
 use Rattle.std.specs.declared.cmp.Ordering.TheVariants.{Equal}
 use Rattle.std.specs.Ordering.{nat_cmp}
 use Rattle.c_terms.specs.Numbers.{label_number}

@@ -1,4 +1,4 @@
-use Rattle.std.proofs.Common.{◌≡◌, ◌≤◌, length, drop, min}
+use Rattle.std.proofs.Common.{◌≡◌, length, drop, min}
 use Rattle.std.specs.Cmp.Lexicographic.{slice_cmp}
 use Rattle.c_terms.specs.Order.{tree_order}
 use Rattle.c_terms.proofs.order.+order.Given as goal

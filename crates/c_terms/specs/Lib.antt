@@ -6,3 +6,6 @@ pub mod Bare
 pub mod Same
 pub mod Order
 pub mod Names
+-- What the crates above share.
+
+pub mod Shapes

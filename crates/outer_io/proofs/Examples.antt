@@ -1,0 +1,33 @@
+-- The definitions on small cases.
+use Rattle.std.proofs.Common.{◌≡◌, ◌∷◌, [], true, false, Some, None, codes, refl}
+use Rattle.std.specs.Cmp.Lexicographic.{nat_list_cmp_total}
+use Rattle.std.specs.FinMap.{get, get-from_entries, from_entries}
+use Rattle.outer_io.specs.Files.{name_cmp, grown}
+use Rattle.outer_io.specs.Faults.{counted}
+use Rattle.outer_io.specs.Calls.{no_calls, next_fails, after_call}
+
+-- of two entries of a name, the first of the list from the back counts
+last_counts : get (from_entries {R = name_cmp} ((codes "a", codes "new") ∷ (codes "a", codes "old") ∷ [])) (codes "a") ≡ Some (codes "new")
+last_counts = get-from_entries nat_list_cmp_total ((codes "a", codes "new") ∷ (codes "a", codes "old") ∷ []) (codes "a")
+
+-- a name that has no entry
+no_entry : get (from_entries {R = name_cmp} ((codes "a", codes "new") ∷ [])) (codes "b") ≡ None
+no_entry = get-from_entries nat_list_cmp_total ((codes "a", codes "new") ∷ []) (codes "b")
+
+-- the call with the number 1 fails, and no other
+second_fails : next_fails (after_call (no_calls (1 ∷ [])) false) ≡ true
+second_fails = refl
+
+first_succeeds : next_fails (no_calls (1 ∷ [])) ≡ false
+first_succeeds = refl
+
+third_succeeds : next_fails (after_call (after_call (no_calls (1 ∷ [])) false) true) ≡ false
+third_succeeds = refl
+
+-- a count stays at its last value
+last_value : counted 18446744073709551615 ≡ 18446744073709551615
+last_value = refl
+
+-- what is not told stays untold
+untold : grown None (codes "a") ≡ None
+untold = refl

@@ -1,0 +1,140 @@
+// The files of the system as a shelf. It tells no content.
+ghost use Rattle.std.specs.Prelude.{◌≡◌, ◌<◌, ◌≤◌, None, [], length, IfOk, IfSome, IsErrOf};
+
+use crate::calls::one_more;
+use crate::streams::write_whole;
+use crate::{Shelf, ShelfFault};
+use std::alloc::Global;
+use std::fs;
+use std::fs::OpenFile;
+use std::io::Read;
+use std::marker::Model;
+use std::rt::Files;
+
+/// Bytes that are read at a time.
+const BLOCK: usize = 65536;
+
+/// The files of the system, by their paths. It tells no content, so what a file gives and takes is trusted.
+/// Contracts see the count of faults.
+///
+/// The count rises at each `Failed`, and at no other answer: a file that is missing or cannot be opened, a read or
+/// a write that fails, and a write that takes nothing. A load is linear in what it reads, which is at most one block
+/// of 64 KiB past its limit; a store is linear in its bytes.
+#[derive(Drop)]
+pub struct FileShelf<'a, R> {
+    rt: &'a R,
+    faults: u64,
+}
+
+impl<'a, R> Model for FileShelf<'a, R> {
+    ghost use Rattle.std.specs.Prelude.{ℕ};
+
+    ghost Value = { ℕ };
+
+    ghost view = { λ s. s.faults };
+}
+
+impl<'a, R: Files + AllocGlobal> FileShelf<'a, R> {
+    /// The files that this runtime reaches, with no fault so far.
+    pub fn new(rt: &'a R) -> FileShelf<'a, R>
+        ensures faults { result ≡ 0 }
+    {
+        FileShelf { rt, faults: 0 }
+    }
+}
+
+impl<'a, R: Files + AllocGlobal> Shelf for FileShelf<'a, R> {
+    ghost holds = { λ _. None };
+
+    ghost faults = { λ s. s };
+
+    /// The bytes of the file. A file that is missing is `Failed`.
+    fn load(&mut self, name: &str, limit: u64) -> Result<Vec<u8>, ShelfFault> {
+        let read = read_file(self.rt, name, limit);
+        if matches!(read, Err(ShelfFault::Failed)) {
+            self.faults = one_more(self.faults);
+        }
+        read
+    }
+
+    /// Makes the file anew of these bytes.
+    fn store(&mut self, name: &str, bytes: &[u8]) -> Result<(), ShelfFault> {
+        if write_file(self.rt, name, bytes) {
+            return Ok(());
+        }
+        self.faults = one_more(self.faults);
+        Err(ShelfFault::Failed)
+    }
+}
+
+/// The bytes of a file, if there are no more than the limit.
+fn read_file<R: Files + AllocGlobal>(rt: &R, name: &str, limit: u64) -> Result<Vec<u8>, ShelfFault>
+    ensures within { IfOk result (λ bytes. length bytes.items ≤ limit) }
+    ensures not_absent { IsErrOf result ShelfFault.Absent → ⊥ }
+{
+    let Ok(mut file) = fs::open(rt, name) else {
+        return Err(ShelfFault::Failed);
+    };
+    let size = file.metadata().map_or(0, |about| about.len());
+    read_whole(rt.alloc(), &mut file, size, limit)
+}
+
+/// The bytes that a reader has left, if there are no more than the limit. About `size` are awaited.
+fn read_whole<F: Read>(
+    alloc: Global,
+    file: &mut F,
+    size: u64,
+    limit: u64,
+) -> Result<Vec<u8>, ShelfFault>
+    ensures bytes { IfOk result (λ bytes. IfSome (F.remaining file.old) (λ left. bytes.items ≡ left)) }
+    ensures within { IfOk result (λ bytes. length bytes.items ≤ limit) }
+    ensures not_absent { IsErrOf result ShelfFault.Absent → ⊥ }
+    ensures too_long { IsErrOf result ShelfFault.TooLong → IfSome (F.remaining file.old) (λ left. limit < length left) }
+{
+    let Ok(bytes) = Vec::with_capacity(alloc, size.min(limit) as usize) else {
+        return Err(ShelfFault::NoMemory);
+    };
+    let Ok(mut block) = vec![in alloc; 0u8; BLOCK] else {
+        return Err(ShelfFault::NoMemory);
+    };
+    read_blocks(file, &mut block, bytes, limit)
+}
+
+/// The same, by way of a block.
+fn read_blocks<F: Read>(
+    file: &mut F,
+    block: &mut [u8],
+    mut bytes: Vec<u8>,
+    limit: u64,
+) -> Result<Vec<u8>, ShelfFault>
+    requires none { bytes.items ≡ [] }
+    requires room { 0 < length block.old }
+    ensures bytes { IfOk result (λ bytes. IfSome (F.remaining file.old) (λ left. bytes.items ≡ left)) }
+    ensures within { IfOk result (λ bytes. length bytes.items ≤ limit) }
+    ensures not_absent { IsErrOf result ShelfFault.Absent → ⊥ }
+    ensures too_long { IsErrOf result ShelfFault.TooLong → IfSome (F.remaining file.old) (λ left. limit < length left) }
+{
+    for _ in 0..u64::MAX {
+        let Ok(count) = file.read(block) else {
+            return Err(ShelfFault::Failed);
+        };
+        if count == 0 {
+            return Ok(bytes);
+        }
+        if bytes.len() as u64 + count as u64 > limit {
+            return Err(ShelfFault::TooLong);
+        }
+        if bytes.extend_from_slice(&block[..count]).is_err() {
+            return Err(ShelfFault::NoMemory);
+        }
+    }
+    Err(ShelfFault::Failed)
+}
+
+/// Makes the file of these bytes, and says whether it did.
+fn write_file<R: Files>(rt: &R, name: &str, bytes: &[u8]) -> bool {
+    match fs::create(rt, name) {
+        Ok(mut file) => write_whole(&mut file, bytes),
+        Err(_) => false,
+    }
+}

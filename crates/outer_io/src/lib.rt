@@ -1,0 +1,32 @@
+//! What a run meets outside: shelves that files are loaded from and stored on, and sinks that take bytes.
+//!
+//! - [`Shelf`] and [`Sink`] are what a run is written against. Each counts its faults, and may tell what it holds.
+//! - [`CalmShelf`] and [`CalmSink`] stand in memory and never fail; [`MemShelf`] and [`MemSink`] fail at the calls
+//!   whose numbers they are given, so that a test can try each fault of the outside.
+//! - [`FileShelf`], [`OutSink`] and [`ErrSink`] are the files of the system and the two standard streams.
+//!   They tell no content, so what they read and write is trusted.
+//!
+//! `load("k.c", 4)` on a calm shelf that holds `f();` under `k.c` answers these 4 bytes, and with the limit 3
+//! it answers `TooLong`; `load("x.c", 4)` answers `Absent`.
+//!
+//! Memory may run out in a load, in a store, and in a put to a sink in memory. The adapters over streams take none.
+//! Nothing here recurses. What the bytes mean is for other crates.
+#![tactic(auto)]
+
+mod calls;
+mod calm;
+mod file_map;
+mod files;
+mod mem;
+mod shelf;
+mod sink;
+mod streams;
+#[cfg(test)]
+mod tests;
+
+pub use calm::{CalmShelf, CalmSink};
+pub use files::FileShelf;
+pub use mem::{MemShelf, MemSink};
+pub use shelf::{Shelf, ShelfFault};
+pub use sink::{PutFault, Sink};
+pub use streams::{ErrSink, OutSink};

@@ -1,0 +1,182 @@
+// A shelf and a sink in memory, some of whose calls fail.
+ghost use Rattle.std.specs.Prelude.{◌≡◌, ◌≢◌, ◌<◌, ◌≤◌, ◌/◌, ◌++◌, ◌↔◌, ℕ, Some, None, [], take, length, is_err, IsErr, IsErrOf, IfOk, IfSome, IsOk, IsSomeAnd, IsTrue, OnOk, OnErr, option_copied, false, true};
+ghost use Rattle.std.specs.FinMap.{get, insert};
+ghost use Rattle.outer_io.specs.Files.{files_of};
+ghost use Rattle.outer_io.specs.Faults.{HasCause};
+ghost use Rattle.outer_io.specs.Calls.{next_fails, after_call, no_calls};
+
+use crate::calls::CallCount;
+use crate::file_map::FileMap;
+use crate::{PutFault, Shelf, ShelfFault, Sink};
+use c_terms::{NoMemory, Text};
+use std::alloc::Global;
+use std::marker::Model;
+
+/// Files in memory, with the numbers of the calls that fail. Contracts see the files and the calls.
+///
+/// Loads and stores are counted together, from 0, also those that find no memory. Costs are those of `CalmShelf`,
+/// and a walk of the list of numbers.
+#[derive(Drop)]
+pub struct MemShelf {
+    files: FileMap,
+    calls: CallCount,
+}
+
+impl Model for MemShelf {
+    ghost use Rattle.outer_io.specs.Calls.{ShelfState, shelf_code};
+
+    ghost Value = { ShelfState };
+
+    ghost coded = { shelf_code };
+
+    ghost view = { λ s. record { files = s.files; calls = s.calls } };
+}
+
+impl MemShelf {
+    /// A shelf with these files, of whose calls those with these numbers fail. Where a name stands twice, its last
+    /// entry counts.
+    pub fn new(entries: Vec<(Text, Vec<u8>)>, fail: Vec<u64>) -> Result<MemShelf, NoMemory>
+        ensures files { IfOk result (λ shelf. shelf.files ≡ files_of entries.items) }
+        ensures calls { IfOk result (λ shelf. shelf.calls ≡ no_calls fail.items) }
+    {
+        let files = FileMap::of(entries)?;
+        Ok(MemShelf {
+            files,
+            calls: CallCount::new(fail),
+        })
+    }
+
+    /// The bytes under a name, without a copy. This is no call that is counted.
+    pub fn bytes_of(&self, name: &[u8]) -> Option<&[u8]>
+        ensures bytes { option_copied result ≡ get self.now.files name.now }
+    {
+        match self.files.get(name) {
+            Some(bytes) => Some(bytes.as_slice()),
+            None => None,
+        }
+    }
+}
+
+impl Shelf for MemShelf {
+    ghost holds = { λ s. Some s.files };
+
+    ghost faults = { λ s. s.calls.faults };
+
+    /// Fails exactly where the number of the call is one that fails.
+    fn load(&mut self, name: &str, limit: u64) -> Result<Vec<u8>, ShelfFault>
+        ensures same { self.new.files ≡ self.old.files }
+        ensures bytes { IfOk result (λ bytes. get self.old.files name.now ≡ Some bytes.items) }
+        ensures within { IfOk result (λ bytes. length bytes.items ≤ limit) }
+        ensures absent { IsErrOf result ShelfFault.Absent → get self.old.files name.now ≡ None }
+        ensures too_long { IsErrOf result ShelfFault.TooLong → IsSomeAnd (get self.old.files name.now) (λ bytes. limit < length bytes) }
+        ensures cause { HasCause ShelfFault.Failed self.old.calls.faults self.new.calls.faults result }
+        ensures fails { IsErrOf result ShelfFault.Failed ↔ IsTrue (next_fails self.old.calls) }
+        ensures calls { self.new.calls ≡ after_call self.old.calls (next_fails self.old.calls) }
+    {
+        let failing = self.calls.next_fails();
+        self.calls.count(failing);
+        if failing {
+            return Err(ShelfFault::Failed);
+        }
+        self.files.load(name, limit)
+    }
+
+    /// Fails exactly where the number of the call is one that fails.
+    fn store(&mut self, name: &str, bytes: &[u8]) -> Result<(), ShelfFault>
+        ensures ok { OnOk result (self.new.files ≡ insert self.old.files name.now bytes.now) }
+        ensures err { OnErr result (self.new.files ≡ self.old.files) }
+        ensures not_absent { IsErrOf result ShelfFault.Absent → ⊥ }
+        ensures not_too_long { IsErrOf result ShelfFault.TooLong → ⊥ }
+        ensures cause { HasCause ShelfFault.Failed self.old.calls.faults self.new.calls.faults result }
+        ensures fails { IsErrOf result ShelfFault.Failed ↔ IsTrue (next_fails self.old.calls) }
+        ensures calls { self.new.calls ≡ after_call self.old.calls (next_fails self.old.calls) }
+    {
+        let failing = self.calls.next_fails();
+        self.calls.count(failing);
+        if failing {
+            return Err(ShelfFault::Failed);
+        }
+        self.files
+            .insert(name.as_bytes(), bytes)
+            .map_err(|_| ShelfFault::NoMemory)
+    }
+}
+
+/// Bytes in memory, with the numbers of the puts that fail. Contracts see the bytes and the calls.
+///
+/// Puts are counted from 0, also those of an empty piece and those that find no memory.
+#[derive(Drop)]
+pub struct MemSink {
+    bytes: Vec<u8>,
+    calls: CallCount,
+}
+
+impl Model for MemSink {
+    ghost use Rattle.outer_io.specs.Calls.{SinkState, sink_code};
+
+    ghost Value = { SinkState };
+
+    ghost coded = { sink_code };
+
+    ghost view = { λ s. record { bytes = s.bytes.items; calls = s.calls } };
+}
+
+impl MemSink {
+    /// A sink with no bytes, of whose puts those with these numbers fail.
+    pub fn new(alloc: Global, fail: Vec<u64>) -> MemSink
+        ensures empty { result.bytes ≡ [] }
+        ensures calls { result.calls ≡ no_calls fail.items }
+    {
+        MemSink {
+            bytes: Vec::new(alloc),
+            calls: CallCount::new(fail),
+        }
+    }
+
+    /// The bytes that were put.
+    pub fn bytes(&self) -> &[u8]
+        ensures bytes { result.now ≡ self.now.bytes }
+    {
+        &self.bytes
+    }
+}
+
+impl Sink for MemSink {
+    ghost written = { λ s. Some s.bytes };
+
+    ghost faults = { λ s. s.calls.faults };
+
+    /// A put whose number is one that fails appends the first half of its piece, rounded down. The put of an empty
+    /// piece is counted and never fails.
+    fn put(&mut self, bytes: &[u8]) -> Result<(), PutFault>
+        ensures ok { OnOk result (self.new.bytes ≡ self.old.bytes ++ bytes.now) }
+        ensures failed { IsErrOf result PutFault.Failed → self.new.bytes ≡ self.old.bytes ++ take (length bytes.now / 2) bytes.now }
+        ensures no_memory { IsErrOf result PutFault.NoMemory → self.new.bytes ≡ self.old.bytes }
+        ensures no_memory_no_fault { IsErrOf result PutFault.NoMemory → self.new.calls.faults ≡ self.old.calls.faults }
+        ensures empty { bytes.now ≡ [] → IsOk result }
+        ensures cause { HasCause PutFault.Failed self.old.calls.faults self.new.calls.faults result }
+        ensures fails { IsTrue (next_fails self.old.calls) → bytes.now ≢ [] → IsErr result }
+        ensures fails_only { IsErrOf result PutFault.Failed → IsTrue (next_fails self.old.calls) }
+        ensures calls_ok { OnOk result (self.new.calls ≡ after_call self.old.calls false) }
+        ensures calls_failed { IsErrOf result PutFault.Failed → self.new.calls ≡ after_call self.old.calls true }
+        ensures calls_no_memory { IsErrOf result PutFault.NoMemory → self.new.calls ≡ after_call self.old.calls false }
+    {
+        if bytes.is_empty() {
+            self.calls.count(false);
+            return Ok(());
+        }
+        if self.calls.next_fails() {
+            let half = &bytes[..bytes.len() / 2];
+            if self.bytes.extend_from_slice(half).is_err() {
+                self.calls.count(false);
+                return Err(PutFault::NoMemory);
+            }
+            self.calls.count(true);
+            return Err(PutFault::Failed);
+        }
+        self.calls.count(false);
+        self.bytes
+            .extend_from_slice(bytes)
+            .map_err(|_| PutFault::NoMemory)
+    }
+}

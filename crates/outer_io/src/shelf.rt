@@ -1,0 +1,50 @@
+// A shelf keeps bytes under names.
+ghost use Rattle.std.specs.Prelude.{◌≡◌, ◌<◌, ◌≤◌, ℕ, List, Option, Some, None, length, IfOk, IfSome, IsSomeAnd, OnOk, OnErr, IsErrOf};
+ghost use Rattle.std.specs.FinMap.{get};
+ghost use Rattle.outer_io.specs.Files.{Files, stored};
+ghost use Rattle.outer_io.specs.Faults.{HasCause};
+
+/// Why a load or a store did not do what was asked. Only `Failed` is a fault of the shelf.
+#[derive(Clone, Copy, Debug, PartialEq, Eq)]
+pub enum ShelfFault {
+    /// The shelf failed, and its count of faults rose. This stands before the two that follow.
+    Failed,
+    /// More bytes than the limit stand under the name.
+    TooLong,
+    /// Nothing stands under the name. Only a shelf that tells what it holds answers this.
+    Absent,
+    /// Memory ran out. This is the one answer that a caller cannot foresee.
+    NoMemory,
+}
+
+/// Bytes under names. A shelf may tell what it holds, and counts its faults.
+pub trait Shelf {
+    /// The bytes under each name, where the shelf tells them.
+    ghost holds: { Self → Option Files };
+
+    /// How often the shelf has failed. The count never falls.
+    ghost faults: { Self → ℕ };
+
+    /// The bytes under a name, where they are at most `limit` many.
+    ///
+    /// Where the shelf tells what it holds, the clauses leave one answer beside `Failed` and `NoMemory`: the bytes,
+    /// `Absent` where there are none, and `TooLong` where there are more than the limit.
+    fn load(&mut self, name: &str, limit: u64) -> Result<Vec<u8>, ShelfFault>
+        ensures same { holds self.new ≡ holds self.old }
+        ensures bytes { IfOk result (λ bytes. IfSome (holds self.old) (λ files. get files name.now ≡ Some bytes.items)) }
+        ensures within { IfOk result (λ bytes. length bytes.items ≤ limit) }
+        ensures absent { IsErrOf result ShelfFault.Absent → IsSomeAnd (holds self.old) (λ files. get files name.now ≡ None) }
+        ensures too_long { IsErrOf result ShelfFault.TooLong → IfSome (holds self.old) (λ files. IsSomeAnd (get files name.now) (λ bytes. limit < length bytes)) }
+        ensures cause { HasCause ShelfFault.Failed (faults self.old) (faults self.new) result };
+
+    /// Puts the bytes under a name, in place of those that were there. All other names keep theirs.
+    ///
+    /// After an `Err` the shelf holds what it held, where it tells that. A real file, which tells nothing, may then
+    /// have any first part of the new bytes.
+    fn store(&mut self, name: &str, bytes: &[u8]) -> Result<(), ShelfFault>
+        ensures ok { OnOk result (holds self.new ≡ stored (holds self.old) name.now bytes.now) }
+        ensures err { OnErr result (holds self.new ≡ holds self.old) }
+        ensures not_absent { IsErrOf result ShelfFault.Absent → ⊥ }
+        ensures not_too_long { IsErrOf result ShelfFault.TooLong → ⊥ }
+        ensures cause { HasCause ShelfFault.Failed (faults self.old) (faults self.new) result };
+}

@@ -1,0 +1,169 @@
+// What no clause says: that calls succeed, what real files and streams do, and writers that take little or fail.
+use crate::*;
+use c_terms::Text;
+use std::alloc::Global;
+use std::fs;
+use std::io::{Error, ErrorKind, Write};
+use std::test::Fail;
+
+/// Takes a few bytes at a time, and fails once it has taken so many.
+#[derive(Drop)]
+struct Slow {
+    taken: Vec<u8>,
+    most: usize,
+    room: usize,
+}
+
+impl Write for Slow {
+    fn write(&mut self, bytes: &[u8]) -> std::io::Result<usize> {
+        if self.taken.len() >= self.room {
+            return Err(Error::from(ErrorKind::Other));
+        }
+        let count = bytes.len().min(self.most);
+        self.taken.extend_from_slice(&bytes[..count])?;
+        Ok(count)
+    }
+
+    fn flush(&mut self) -> std::io::Result<()> {
+        Ok(())
+    }
+}
+
+fn slow_writer(alloc: Global, most: usize, room: usize) -> Slow {
+    Slow {
+        taken: Vec::new(alloc),
+        most,
+        room,
+    }
+}
+
+fn entry(alloc: Global, name: &str, bytes: &[u8]) -> Result<(Text, Vec<u8>), Fail> {
+    let name = Text::from_bytes(alloc, name.as_bytes())?;
+    Ok((name, bytes.to_vec(alloc)?))
+}
+
+fn entries(alloc: Global) -> Result<Vec<(Text, Vec<u8>)>, Fail> {
+    let mut entries = Vec::new(alloc);
+    entries.push(entry(alloc, "a.c", b"old")?)?;
+    entries.push(entry(alloc, "b.c", b"b();")?)?;
+    entries.push(entry(alloc, "a.c", b"a();")?)?;
+    Ok(entries)
+}
+
+#[test]
+fn calm_shelf_keeps_each_name(rt: HostRuntime) -> Result<(), Fail> {
+    let mut shelf = CalmShelf::new(entries(rt.alloc())?)?;
+    assert_eq!(rt;
+        shelf.load("a.c", 4).expect(&rt, "a.c").as_slice(),
+        b"a();".as_slice()
+    );
+    assert!(rt; matches!(shelf.load("a.c", 3), Err(ShelfFault::TooLong)));
+    assert!(rt; matches!(shelf.load("c.c", 9), Err(ShelfFault::Absent)));
+    shelf.store("b.c", b"new").expect(&rt, "b.c");
+    assert_eq!(rt;
+        shelf.bytes_of(b"b.c").expect(&rt, "b.c"),
+        b"new".as_slice()
+    );
+    assert_eq!(rt;
+        shelf.bytes_of(b"a.c").expect(&rt, "a.c"),
+        b"a();".as_slice()
+    );
+    assert!(rt; shelf.bytes_of(b"c.c").is_none());
+    Ok(())
+}
+
+#[test]
+fn mem_shelf_fails_at_its_numbers(rt: HostRuntime) -> Result<(), Fail> {
+    let fail = [1, 2].to_vec(rt.alloc())?;
+    let mut shelf = MemShelf::new(entries(rt.alloc())?, fail)?;
+    assert_eq!(rt;
+        shelf.load("a.c", 4).expect(&rt, "call 0").as_slice(),
+        b"a();".as_slice()
+    );
+    assert!(rt; matches!(shelf.load("a.c", 4), Err(ShelfFault::Failed)));
+    assert!(rt; matches!(shelf.store("a.c", b"new"), Err(ShelfFault::Failed)));
+    assert_eq!(rt;
+        shelf.bytes_of(b"a.c").expect(&rt, "a.c"),
+        b"a();".as_slice()
+    );
+    shelf.store("a.c", b"new").expect(&rt, "call 3");
+    assert_eq!(rt;
+        shelf.bytes_of(b"a.c").expect(&rt, "a.c"),
+        b"new".as_slice()
+    );
+    Ok(())
+}
+
+#[test]
+fn sinks_in_memory_keep_what_was_put(rt: HostRuntime) -> Result<(), Fail> {
+    let mut calm = CalmSink::new(rt.alloc());
+    calm.put(b"ab").expect(&rt, "ab");
+    calm.put(b"cd").expect(&rt, "cd");
+    assert_eq!(rt; calm.bytes(), b"abcd".as_slice());
+
+    let fail = [1, 2].to_vec(rt.alloc())?;
+    let mut failing = MemSink::new(rt.alloc(), fail);
+    failing.put(b"ab").expect(&rt, "call 0");
+    failing.put(b"").expect(&rt, "call 1, of an empty piece");
+    assert!(rt; matches!(failing.put(b"cdefg"), Err(PutFault::Failed)));
+    failing.put(b"!").expect(&rt, "call 3");
+    assert_eq!(rt; failing.bytes(), b"abcd!".as_slice());
+    Ok(())
+}
+
+#[test]
+fn file_shelf_reads_back_what_it_stored(rt: HostRuntime) -> Result<(), Fail> {
+    let name = "outer_io_stored.txt";
+    let mut shelf = FileShelf::new(&rt);
+    let bytes = vec![in rt.alloc(); b'x'; 70000]?;
+    shelf.store(name, &bytes).expect(&rt, "stored");
+    assert_eq!(rt;
+        shelf.load(name, 70000).expect(&rt, "loaded").as_slice(),
+        bytes.as_slice()
+    );
+    assert!(rt; matches!(shelf.load(name, 69999), Err(ShelfFault::TooLong)));
+    assert!(rt;
+        matches!(
+            shelf.load("outer_io_missing.txt", 9),
+            Err(ShelfFault::Failed)
+        )
+    );
+    assert!(rt;
+        matches!(
+            shelf.store("outer_io_missing/a", b"a"),
+            Err(ShelfFault::Failed)
+        )
+    );
+    fs::remove_file(&rt, name)?;
+    Ok(())
+}
+
+#[test]
+fn out_sink_goes_on_until_all_is_written(rt: HostRuntime) -> Result<(), Fail> {
+    let mut sink = OutSink::new(slow_writer(rt.alloc(), 3, 8));
+    sink.put(b"abcdefg").expect(&rt, "room for seven");
+    assert!(rt; matches!(sink.put(b"hijklmnop"), Err(PutFault::Failed)));
+    assert!(rt; matches!(sink.put(b"q"), Err(PutFault::Failed)));
+    sink.put(b"").expect(&rt, "an empty piece");
+    assert!(rt;
+        matches!(
+            OutSink::new(slow_writer(rt.alloc(), 0, 8)).put(b"a"),
+            Err(PutFault::Failed)
+        )
+    );
+    OutSink::new(rt.stdout())
+        .put(b"out\n")
+        .expect(&rt, "the standard output");
+    Ok(())
+}
+
+#[test]
+fn err_sink_goes_on_until_all_is_written(rt: HostRuntime) -> Result<(), Fail> {
+    let mut sink = ErrSink::new(slow_writer(rt.alloc(), 3, 8));
+    sink.put(b"abcdefg").expect(&rt, "room for seven");
+    assert!(rt; matches!(sink.put(b"hijklmnop"), Err(PutFault::Failed)));
+    ErrSink::new(rt.stderr())
+        .put(b"err\n")
+        .expect(&rt, "the standard error");
+    Ok(())
+}

@@ -1,0 +1,35 @@
+-- The acts of a run, and what is told after them.
+use Rattle.std.specs.Prelude.{ℕ, List, [], ◌∷◌, Option}
+use Rattle.outer_io.specs.Files.{Files, stored, grown}
+
+-- what a run does outside
+pub data Act : Type 0 where
+  -- it loads what stands under the name, where that is no longer than the limit
+  Load : (name : List ℕ) (limit : ℕ) → Act
+  -- it stores the bytes under the name
+  Store : (name bytes : List ℕ) → Act
+  -- it puts the bytes on the output
+  Print : (bytes : List ℕ) → Act
+  -- it puts the line on the error output
+  Report : (line : List ℕ) → Act
+
+-- what the shelf, the output and the error output tell, each where it tells something
+pub record Told : Type 0 where
+  pub files : Option Files
+  pub out : Option (List ℕ)
+  pub err : Option (List ℕ)
+
+abbrev pub told : Option Files → Option (List ℕ) → Option (List ℕ) → Told
+told files out err = record { files = files; out = out; err = err }
+
+-- what is told when the act is done; a load leaves no trace
+abbrev pub done : Act → Told → Told
+done (Load name limit) old = old
+done (Store name bytes) old = told (stored old.files name bytes) old.out old.err
+done (Print bytes) old = told old.files (grown old.out bytes) old.err
+done (Report line) old = told old.files old.out (grown old.err line)
+
+-- what is told when the acts are done, in order
+abbrev pub after : List Act → Told → Told
+after [] old = old
+after (act ∷ acts) old = after acts (done act old)

@@ -1,0 +1,53 @@
+-- How a run ends at an act that is not done whole: the act failed, or memory ran out.
+use Rattle.std.specs.Prelude.{ℕ, ◌≡◌, ◌≤◌, ◌⊎◌, List, take}
+use Rattle.outer_io.specs.Faults.{Rose}
+use Rattle.run_acts.specs.Acts.{Act, Load, Store, Print, Report, Told, done}
+use Rattle.run_acts.specs.Lines.{cannot_read, cannot_write, cannot_print}
+
+-- the counts of faults of the shelf, the output and the error output
+pub record Counts : Type 0 where
+  pub shelf : ℕ
+  pub out : ℕ
+  pub err : ℕ
+
+abbrev pub counts : ℕ → ℕ → ℕ → Counts
+counts shelf out err = record { shelf = shelf; out = out; err = err }
+
+-- no count rose, and none stands at its last value
+pub record NoneRose (before now : Counts) : Type 0 where
+  pub shelf : ¬ Rose before.shelf now.shelf
+  pub out : ¬ Rose before.out now.out
+  pub err : ¬ Rose before.err now.err
+
+-- no count fell
+pub record NoneFell (before now : Counts) : Type 0 where
+  pub shelf : before.shelf ≤ now.shelf
+  pub out : before.out ≤ now.out
+  pub err : before.err ≤ now.err
+
+-- The line of a failed act stands whole on the error output, or nothing of it does, or a prefix where the error output
+-- failed too.
+abbrev pub LineMayStand : Counts → Counts → List ℕ → Told → Told → Type 0
+LineMayStand before now line old new =
+    (new ≡ done (Report line) old)
+    ⊎ ((new ≡ old)
+    ⊎ (Rose before.err now.err × ((n : ℕ) × (new ≡ done (Report (take n line)) old))))
+
+-- A run ends at an act that failed, by the counts when the run began and now, what was told before the act and now, and
+-- the status. Of bytes whose put failed a prefix was written. A failed load is status 5, where its line could be put.
+abbrev pub Fails : Counts → Counts → Act → Told → Told → ℕ → Type 0
+Fails before now (Load name limit) old new status = Rose before.shelf now.shelf
+    × (((status ≡ 5) × (new ≡ done (Report (cannot_read name)) old))
+    ⊎ ((status ≡ 6) × Rose before.err now.err
+    × ((n : ℕ) × (new ≡ done (Report (take n (cannot_read name))) old))))
+Fails before now (Store name bytes) old new status =
+    (status ≡ 6) × Rose before.shelf now.shelf × LineMayStand before now (cannot_write name) old new
+Fails before now (Print bytes) old new status = (status ≡ 6) × Rose before.out now.out
+    × ((n : ℕ) × LineMayStand before now cannot_print (done (Print (take n bytes)) old) new)
+Fails before now (Report line) old new status = (status ≡ 6) × Rose before.err now.err
+    × ((n : ℕ) × (new ≡ done (Report (take n line)) old))
+
+-- A run ends at an act: memory ran out, and nothing of the act was done, or the act failed.
+abbrev pub Breaks : Counts → Counts → Act → Told → Told → ℕ → Type 0
+Breaks before now act old new status =
+    ((status ≡ 7) × (new ≡ old)) ⊎ Fails before now act old new status

@@ -1,0 +1,164 @@
+// One act of a run at a time.
+ghost use Rattle.std.specs.Prelude.{◌≡◌, ◌≤◌, List, ℕ, Option, IfOk, OnOk, IfErr};
+ghost use Rattle.outer_io.specs.Files.{Files, stored, grown};
+ghost use Rattle.run_acts.specs.Acts.{Load, Store, Print, Report, told};
+ghost use Rattle.run_acts.specs.Breaks.{Breaks, counts};
+ghost use Rattle.run_acts.specs.Loaded.{Gives, Found, status_of};
+ghost use Rattle.run_acts.specs.declared.outside.Stopped.TheVariants.{NoMemory};
+
+use crate::lines::{cannot_print, line_of};
+use c_terms::NoMemory;
+use outer_io::{PutFault, Shelf, ShelfFault, Sink};
+use std::alloc::Global;
+
+/// Why a run stops before its last act.
+#[derive(Clone, Copy, Debug, PartialEq, Eq)]
+pub enum Stopped {
+    /// A load failed, and its line was put: status 5.
+    CannotRead,
+    /// A store or a put failed: status 6.
+    CannotWrite,
+    /// Memory ran out: status 7.
+    NoMemory,
+}
+
+impl Stopped {
+    /// The status that the run answers.
+    pub fn status(self) -> u8
+        ensures { result ≡ status_of self }
+    {
+        match self {
+            Stopped::CannotRead => 5,
+            Stopped::CannotWrite => 6,
+            Stopped::NoMemory => 7,
+        }
+    }
+}
+
+impl From<NoMemory> for Stopped {
+    ghost from_gives = { λ _ stopped. stopped ≡ NoMemory };
+
+    fn from(_: NoMemory) -> Self {
+        Stopped::NoMemory
+    }
+}
+
+/// What stands under a name.
+#[derive(Drop)]
+pub enum Loaded {
+    /// These bytes, which are no more than the limit.
+    Bytes(Vec<u8>),
+    /// More bytes than the limit.
+    TooLong,
+    /// Nothing.
+    Absent,
+}
+
+/// Loads what stands under a name, where it is no longer than `limit` bytes. Where the load fails, the line
+/// `spatch: NAME: cannot read` is put on the error output.
+pub fn load<S: Shelf, E: Sink>(
+    alloc: Global,
+    shelf: &mut S,
+    err: &mut E,
+    name: &str,
+    limit: u64,
+) -> Result<Loaded, Stopped>
+    ensures same { S.holds shelf.new ≡ S.holds shelf.old }
+    ensures loaded { IfOk result (λ loaded. (under : Option (List ℕ))
+        × (Found (S.holds shelf.old) name.now under × Gives under limit loaded)) }
+    ensures ok_err { OnOk result (E.written err.new ≡ E.written err.old) }
+    ensures later { S.faults shelf.old ≤ S.faults shelf.new }
+    ensures later_err { E.faults err.old ≤ E.faults err.new }
+
+    // What the load doesn't touch may be anything.
+    ensures stopped { IfErr result (λ stopped. (out : Option (List ℕ)) (o o' : ℕ) →
+        Breaks (counts (S.faults shelf.old) o (E.faults err.old))
+        (counts (S.faults shelf.new) o' (E.faults err.new)) (Load name.now limit)
+        (told (S.holds shelf.old) out (E.written err.old))
+        (told (S.holds shelf.new) out (E.written err.new)) (status_of stopped)) }
+{
+    match shelf.load(name, limit) {
+        Ok(bytes) => Ok(Loaded::Bytes(bytes)),
+        Err(ShelfFault::TooLong) => Ok(Loaded::TooLong),
+        Err(ShelfFault::Absent) => Ok(Loaded::Absent),
+        Err(ShelfFault::NoMemory) => Err(Stopped::NoMemory),
+        Err(ShelfFault::Failed) => {
+            let line = line_of(alloc, name, "cannot read")?;
+            match err.put(line.as_str().as_bytes()) {
+                Ok(()) => Err(Stopped::CannotRead),
+                Err(PutFault::NoMemory) => Err(Stopped::NoMemory),
+                Err(PutFault::Failed) => Err(Stopped::CannotWrite),
+            }
+        }
+    }
+}
+
+/// Stores bytes under a name. Where the store fails, the line `spatch: NAME: cannot write` is put on the error output,
+/// if memory allows.
+pub fn store<S: Shelf, E: Sink>(
+    alloc: Global,
+    shelf: &mut S,
+    err: &mut E,
+    name: &str,
+    bytes: &[u8],
+) -> Result<(), Stopped>
+    ensures ok { OnOk result (S.holds shelf.new ≡ stored (S.holds shelf.old) name.now bytes.now) }
+    ensures ok_err { OnOk result (E.written err.new ≡ E.written err.old) }
+    ensures later { S.faults shelf.old ≤ S.faults shelf.new }
+    ensures later_err { E.faults err.old ≤ E.faults err.new }
+    ensures stopped { IfErr result (λ stopped. (out : Option (List ℕ)) (o o' : ℕ) →
+        Breaks (counts (S.faults shelf.old) o (E.faults err.old))
+        (counts (S.faults shelf.new) o' (E.faults err.new)) (Store name.now bytes.now)
+        (told (S.holds shelf.old) out (E.written err.old))
+        (told (S.holds shelf.new) out (E.written err.new)) (status_of stopped)) }
+{
+    match shelf.store(name, bytes) {
+        Ok(()) => Ok(()),
+        Err(ShelfFault::NoMemory) => Err(Stopped::NoMemory),
+        Err(_) => {
+            // The line is left out where memory is refused.
+            if let Ok(line) = line_of(alloc, name, "cannot write") {
+                let _ = err.put(line.as_str().as_bytes());
+            }
+            Err(Stopped::CannotWrite)
+        }
+    }
+}
+
+/// Puts bytes on the output. Where the put fails, the line `spatch: cannot print` is put on the error output, and a
+/// prefix of the bytes may stand on the output.
+pub fn print<O: Sink, E: Sink>(out: &mut O, err: &mut E, bytes: &[u8]) -> Result<(), Stopped>
+    ensures ok { OnOk result (O.written out.new ≡ grown (O.written out.old) bytes.now) }
+    ensures ok_err { OnOk result (E.written err.new ≡ E.written err.old) }
+    ensures later { O.faults out.old ≤ O.faults out.new }
+    ensures later_err { E.faults err.old ≤ E.faults err.new }
+    ensures stopped { IfErr result (λ stopped. (files : Option Files) (s s' : ℕ) →
+        Breaks (counts s (O.faults out.old) (E.faults err.old))
+        (counts s' (O.faults out.new) (E.faults err.new)) (Print bytes.now)
+        (told files (O.written out.old) (E.written err.old))
+        (told files (O.written out.new) (E.written err.new)) (status_of stopped)) }
+{
+    match out.put(bytes) {
+        Ok(()) => Ok(()),
+        Err(PutFault::NoMemory) => Err(Stopped::NoMemory),
+        Err(PutFault::Failed) => {
+            let _ = err.put(cannot_print().as_bytes());
+            Err(Stopped::CannotWrite)
+        }
+    }
+}
+
+/// Puts a line on the error output. Where the put fails, a prefix of it may stand there.
+pub fn report<E: Sink>(err: &mut E, line: &[u8]) -> Result<(), Stopped>
+    ensures ok { OnOk result (E.written err.new ≡ grown (E.written err.old) line.now) }
+    ensures later { E.faults err.old ≤ E.faults err.new }
+    ensures stopped { IfErr result (λ stopped. (files : Option Files) (out : Option (List ℕ)) (s o s' o' : ℕ) →
+        Breaks (counts s o (E.faults err.old)) (counts s' o' (E.faults err.new)) (Report line.now)
+        (told files out (E.written err.old)) (told files out (E.written err.new)) (status_of stopped)) }
+{
+    match err.put(line) {
+        Ok(()) => Ok(()),
+        Err(PutFault::NoMemory) => Err(Stopped::NoMemory),
+        Err(PutFault::Failed) => Err(Stopped::CannotWrite),
+    }
+}

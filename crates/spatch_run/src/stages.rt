@@ -1,0 +1,147 @@
+// The stages of a run, a function each.
+ghost use Rattle.std.specs.Prelude.{◌≡◌, ◌≤◌, [], List, ℕ, Option};
+ghost use Rattle.outer_io.specs.Files.{Files};
+ghost use Rattle.run_acts.specs.Acts.{told};
+ghost use Rattle.run_acts.specs.Breaks.{counts};
+ghost use Rattle.run_acts.specs.Lines.{line_of, usage};
+ghost use Rattle.spatch_run.specs.Stages.{Doing, Ending, ReadPatch, EditFile, refusing, printing};
+ghost use Rattle.spatch_run.specs.Paths.{Ends};
+ghost use Rattle.spatch_run.specs.Promise.{EndsRightly};
+ghost use Rattle.spatch_run.specs.Answer.{answer};
+
+use crate::words::command;
+use c_terms::Text;
+use outer_io::{Shelf, Sink};
+use run_acts::{Loaded, Stopped, line_of, load, print, report, usage};
+use small_rule::{Call, read_patch, remove_calls};
+use std::alloc::Global;
+
+const PATCH_LIMIT: u64 = 1_048_576;
+
+const FILE_LIMIT: u64 = 16_777_216;
+
+const DONE: u8 = 0;
+
+const WORDS_REFUSED: u8 = 1;
+
+const PATCH_REFUSED: u8 = 2;
+
+const FILE_REFUSED: u8 = 4;
+
+const NAME_ABSENT: u8 = 5;
+
+/// Reads the words, and does what they ask for.
+pub fn follow_words<S: Shelf, O: Sink, E: Sink>(
+    alloc: Global,
+    words: &[Text],
+    shelf: &mut S,
+    out: &mut O,
+    err: &mut E,
+) -> Result<u8, Stopped>
+    ensures ends { EndsRightly words.now
+        (counts (S.faults shelf.old) (O.faults out.old) (E.faults err.old))
+        (counts (S.faults shelf.new) (O.faults out.new) (E.faults err.new))
+        (told (S.holds shelf.old) (O.written out.old) (E.written err.old))
+        (told (S.holds shelf.new) (O.written out.new) (E.written err.new)) (answer result) }
+{
+    let Some((patch, file)) = command(words) else {
+        return refuse_words(err);
+    };
+    apply_patch(alloc, patch, file, shelf, out, err)
+}
+
+/// Loads and reads the patch, and edits the file by it.
+fn apply_patch<S: Shelf, O: Sink, E: Sink>(
+    alloc: Global,
+    patch: &str,
+    file: &str,
+    shelf: &mut S,
+    out: &mut O,
+    err: &mut E,
+) -> Result<u8, Stopped>
+    ensures ends { Ends (Doing [] (ReadPatch patch.now file.now))
+        (counts (S.faults shelf.old) (O.faults out.old) (E.faults err.old))
+        (counts (S.faults shelf.new) (O.faults out.new) (E.faults err.new))
+        (told (S.holds shelf.old) (O.written out.old) (E.written err.old))
+        (told (S.holds shelf.new) (O.written out.new) (E.written err.new)) (answer result) }
+{
+    let bytes = match load(alloc, shelf, err, patch, PATCH_LIMIT)? {
+        Loaded::Bytes(bytes) => bytes,
+        Loaded::TooLong => return refuse(alloc, err, patch, "patch fault 1", PATCH_REFUSED),
+        Loaded::Absent => return refuse(alloc, err, patch, "cannot read", NAME_ABSENT),
+    };
+    match read_patch(alloc, &bytes)? {
+        Some(call) => edit_file(alloc, &call, file, shelf, out, err),
+        None => refuse(alloc, err, patch, "not yet", PATCH_REFUSED),
+    }
+}
+
+/// Loads the file, removes the calls from it, and prints what is left.
+fn edit_file<S: Shelf, O: Sink, E: Sink>(
+    alloc: Global,
+    call: &Call,
+    file: &str,
+    shelf: &mut S,
+    out: &mut O,
+    err: &mut E,
+) -> Result<u8, Stopped>
+    ensures ends { Ends (Doing [] (EditFile call.now file.now))
+        (counts (S.faults shelf.old) (O.faults out.old) (E.faults err.old))
+        (counts (S.faults shelf.new) (O.faults out.new) (E.faults err.new))
+        (told (S.holds shelf.old) (O.written out.old) (E.written err.old))
+        (told (S.holds shelf.new) (O.written out.new) (E.written err.new)) (answer result) }
+{
+    let bytes = match load(alloc, shelf, err, file, FILE_LIMIT)? {
+        Loaded::Bytes(bytes) => bytes,
+        Loaded::TooLong => return refuse(alloc, err, file, "refused: file too long", FILE_REFUSED),
+        Loaded::Absent => return refuse(alloc, err, file, "cannot read", NAME_ABSENT),
+    };
+    match remove_calls(alloc, call, &bytes)? {
+        Some(text) => show(out, err, &text),
+        None => refuse(alloc, err, file, "not yet", FILE_REFUSED),
+    }
+}
+
+/// Prints the text, if there is any.
+fn show<O: Sink, E: Sink>(out: &mut O, err: &mut E, text: &[u8]) -> Result<u8, Stopped>
+    ensures ends { (files : Option Files) (s s' : ℕ) → Ends (Ending (printing text.now) 0)
+        (counts s (O.faults out.old) (E.faults err.old))
+        (counts s' (O.faults out.new) (E.faults err.new))
+        (told files (O.written out.old) (E.written err.old))
+        (told files (O.written out.new) (E.written err.new)) (answer result) }
+{
+    if text.is_empty() {
+        return Ok(DONE);
+    }
+    print(out, err, text)?;
+    Ok(DONE)
+}
+
+/// Puts the line on how the tool is called.
+fn refuse_words<E: Sink>(err: &mut E) -> Result<u8, Stopped>
+    ensures ends { (files : Option Files) (out : Option (List ℕ)) (s o s' o' : ℕ) →
+        Ends (refusing usage 1)
+        (counts s o (E.faults err.old)) (counts s' o' (E.faults err.new))
+        (told files out (E.written err.old)) (told files out (E.written err.new)) (answer result) }
+{
+    report(err, usage().as_bytes())?;
+    Ok(WORDS_REFUSED)
+}
+
+/// Puts the line of a refusal, and answers its status.
+fn refuse<E: Sink>(
+    alloc: Global,
+    err: &mut E,
+    name: &str,
+    text: &str,
+    status: u8,
+) -> Result<u8, Stopped>
+    ensures ends { (files : Option Files) (out : Option (List ℕ)) (s o s' o' : ℕ) →
+        Ends (refusing (line_of name.now text.now) status)
+        (counts s o (E.faults err.old)) (counts s' o' (E.faults err.new))
+        (told files out (E.written err.old)) (told files out (E.written err.new)) (answer result) }
+{
+    let line = line_of(alloc, name, text)?;
+    report(err, line.as_str().as_bytes())?;
+    Ok(status)
+}

@@ -1,14 +1,45 @@
--- A run in which nothing fails does all its acts.
-use Rattle.std.proofs.Common.{◌≡◌, ℕ, List, inl, inr, ◌∙◌}
+-- How a run ends by its words, and that one in which nothing fails does all its acts.
+use Rattle.std.proofs.Common.{◌≡◌, ℕ, ◌⊎◌, List, inl, inr, ◌∙◌}
 use Rattle.run_acts.specs.Acts.{Told}
-use Rattle.run_acts.specs.Breaks.{Counts}
-use Rattle.run_acts.proofs.BreaksLemmas.{not_broken}
+use Rattle.run_acts.specs.Breaks.{Counts, NoneRose}
+use Rattle.run_acts.proofs.BreaksLemmas.{not_failed}
+use Rattle.spatch_run.specs.Paths.{DoesAll}
+use Rattle.spatch_run.specs.Ends.{Follows}
 use Rattle.spatch_run.specs.Promise.{IsExact, EndsRightly}
 
-pub exact : {words : List (List ℕ)} {before now : Counts} {old new : Told} {status : ℕ} → EndsRightly words before now old new status → IsExact words before now old new status
-exact {before = before} {now = now} {new = new} {status = status} ends = λ calm memory.
-    let rest = ends.1.1 in
-    elim rest.end [
-      | inl whole ↦ (rest.goes.acts, (record { first = ends.0; last = rest.stage; begins = ends.1.0; path = rest.goes.path; over = whole.0 }, whole.1 ∙ rest.goes.told))
-      | inr cut ↦ absurd (not_broken before now calm cut.0 rest.mid new status memory cut.1.1)
+module _ {words : List (List ℕ)} {before now : Counts} {old new : Told} {status : ℕ} where
+  pub ends_rightly : Follows words before now old new status → EndsRightly words before now old new status
+  ends_rightly follows =
+      let rest = follows.1.1 in
+      elim rest.end [
+        | inl whole ↦ inl (record {
+          acts = rest.goes.acts;
+          are = record { first = follows.0; last = rest.stage; begins = follows.1.0; path = rest.goes.path; over = whole.0 };
+          told = whole.1 ∙ rest.goes.told;
+        })
+        | inr cut ↦ inr (rest.mid, (cut.0, (record {
+          first = follows.0;
+          acts = rest.goes.acts;
+          stage = rest.stage;
+          begins = follows.1.0;
+          path = rest.goes.path;
+          told = rest.goes.told;
+          is_next = cut.1.0;
+        }, cut.1.1)))
+      ]
+
+  -- where no count rises, all acts are done, or memory ran out
+  pub all_or_seven : EndsRightly words before now old new status → NoneRose before now → DoesAll words old new status ⊎ (status ≡ 7)
+  all_or_seven ends calm = elim ends [
+    | inl all ↦ inl all
+    | inr cut ↦ elim cut.1.1.1 [
+      | inl none ↦ inr none.0
+      | inr fails ↦ absurd (not_failed before now calm cut.1.0 cut.0 new status fails)
     ]
+  ]
+
+  pub exact : Follows words before now old new status → IsExact words before now old new status
+  exact follows = λ calm memory. elim (all_or_seven (ends_rightly follows) calm) [
+    | inl all ↦ all
+    | inr seven ↦ absurd (memory seven)
+  ]

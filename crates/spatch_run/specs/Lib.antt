@@ -1,9 +1,11 @@
--- What the contract of a run rests on: first what it promises, then the words, what a patch and a file give, the stages of
--- a run, the acts that lead from one to another, and when each status comes.
+-- What the contract of a run rests on, in reading order: what it promises, the acts that lead from one stage to another,
+-- the stages, what a patch and a file give, the words, and when each status comes.
 pub mod Promise
-pub mod Commands
-pub mod Readings
-pub mod Stages
 pub mod Paths
--- For inside use: the answer of a part of a run.
+pub mod Stages
+pub mod Readings
+pub mod Commands
+pub mod Causes
+-- For inside use: how a part of a run ends, and the status that it answers.
+pub mod Ends
 pub mod Answer

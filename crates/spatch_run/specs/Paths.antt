@@ -1,7 +1,6 @@
--- The acts that lead a run from one stage to another, and how a run ends.
-use Rattle.std.specs.Prelude.{ℕ, ◌≡◌, ◌⊎◌, List, [], ◌∷◌, Option, Some}
+-- The acts that lead a run from one stage to another.
+use Rattle.std.specs.Prelude.{ℕ, ◌≡◌, List, [], ◌∷◌, Some}
 use Rattle.run_acts.specs.Acts.{Act, Told, done, after}
-use Rattle.run_acts.specs.Breaks.{Counts, Breaks}
 use Rattle.spatch_run.specs.Stages.{Stage, Begins, next_act, status_at, Leads}
 
 -- These acts lead from one stage to another, where this is told before them.
@@ -18,16 +17,18 @@ pub record AreActs (words : List (List ℕ)) (old : Told) (acts : List Act) (sta
   pub path : Path old first acts last
   pub over : status_at last ≡ Some status
 
--- A run goes on from one stage to another: some acts lead there, and this is told after them.
-pub record Goes (from : Stage) (old : Told) (to : Stage) (new : Told) : Type 0 where
+-- The run did all its acts, and this is told after them.
+pub record DoesAll (words : List (List ℕ)) (old new : Told) (status : ℕ) : Type 0 where
   pub acts : List Act
-  pub path : Path old from acts to
+  pub are : AreActs words old acts status
   pub told : new ≡ after acts old
 
--- A run ends that has come to a stage: it goes on to its end, or up to an act that breaks.
-pub record Ends (from : Stage) (before now : Counts) (old new : Told) (status : ℕ) : Type 0 where
+-- The run did these first acts, and this is told after them; the next act is this one.
+pub record ComesTo (words : List (List ℕ)) (old mid : Told) (next : Act) : Type 0 where
+  pub first : Stage
+  pub acts : List Act
   pub stage : Stage
-  pub mid : Told
-  pub goes : Goes from old stage mid
-  pub end : ((status_at stage ≡ Some status) × (new ≡ mid))
-      ⊎ ((act : Act) × ((next_act stage ≡ Some act) × Breaks before now act mid new status))
+  pub begins : Begins words first
+  pub path : Path old first acts stage
+  pub told : mid ≡ after acts old
+  pub is_next : next_act stage ≡ Some next

@@ -1,17 +1,15 @@
 -- What a run promises.
-use Rattle.std.specs.Prelude.{ℕ, ◌≡◌, ◌≢◌, List}
-use Rattle.run_acts.specs.Acts.{Act, Told, after}
-use Rattle.run_acts.specs.Breaks.{Counts, NoneRose}
-use Rattle.spatch_run.specs.Stages.{Stage, Begins}
-use Rattle.spatch_run.specs.Paths.{AreActs, Ends}
+use Rattle.std.specs.Prelude.{ℕ, ◌≢◌, ◌⊎◌, List}
+use Rattle.run_acts.specs.Acts.{Act, Told}
+use Rattle.run_acts.specs.Breaks.{Counts, NoneRose, Breaks}
+use Rattle.spatch_run.specs.Paths.{DoesAll, ComesTo}
 
--- Where no count of faults rises and memory is there, the acts done are all the acts of these words, by what the shelf
--- holds, and the answer is their status.
+-- Where no count of faults rises and memory is there, the run does all the acts of its words, by what the shelf holds,
+-- and answers their status.
 abbrev pub IsExact : List (List ℕ) → Counts → Counts → Told → Told → ℕ → Type 0
-IsExact words before now old new status = NoneRose before now → status ≢ 7
-    → (acts : List Act) × (AreActs words old acts status × (new ≡ after acts old))
+IsExact words before now old new status = NoneRose before now → status ≢ 7 → DoesAll words old new status
 
--- However it ends, the acts done are all of them, or the first of them, and the next one broke.
+-- However it ends, the run does all those acts, or it does the first of them, and the next one breaks.
 abbrev pub EndsRightly : List (List ℕ) → Counts → Counts → Told → Told → ℕ → Type 0
-EndsRightly words before now old new status =
-    (first : Stage) × (Begins words first × Ends first before now old new status)
+EndsRightly words before now old new status = DoesAll words old new status
+    ⊎ ((mid : Told) × ((act : Act) × (ComesTo words old mid act × Breaks before now act mid new status)))

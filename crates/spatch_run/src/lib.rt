@@ -1,6 +1,7 @@
 //! One run of the tool: its words, what it does outside, and its status.
 //!
 //! - [`run`] does what the words ask for, on a shelf of files and two sinks, and answers the status.
+//! - [`acts_are_one_list`] says that its contract leaves no choice.
 //!
 //! The words `--sp-file p k.c` load the patch `p` and the file `k.c`, and print the file without the calls that the patch
 //! removes. Every other list of words puts the line on how the tool is called, with status 1.
@@ -13,13 +14,16 @@ ghost use Rattle.std.specs.Prelude.{◌≡◌};
 ghost use Rattle.run_acts.specs.Acts.{told};
 ghost use Rattle.run_acts.specs.Breaks.{counts};
 ghost use Rattle.spatch_run.specs.Promise.{IsExact, EndsRightly};
+ghost use Rattle.spatch_run.specs.Causes.{Causes};
 
+mod law;
 mod stages;
 mod words;
 
 use c_terms::Text;
 use outer_io::{Shelf, Sink};
-use stages::follow_words;
+pub use law::acts_are_one_list;
+use stages::{follow_words, status_of};
 
 /// Does what the words ask for, and answers the status.
 pub fn run<R: AllocGlobal, S: Shelf, O: Sink, E: Sink>(
@@ -42,9 +46,13 @@ pub fn run<R: AllocGlobal, S: Shelf, O: Sink, E: Sink>(
         (counts (S.faults shelf.new) (O.faults out.new) (E.faults err.new))
         (told (S.holds shelf.old) (O.written out.old) (E.written err.old))
         (told (S.holds shelf.new) (O.written out.new) (E.written err.new)) result }
+
+    // Each status comes for its cause, and must come where nothing fails.
+    ensures causes { Causes words.now
+        (counts (S.faults shelf.old) (O.faults out.old) (E.faults err.old))
+        (counts (S.faults shelf.new) (O.faults out.new) (E.faults err.new))
+        (told (S.holds shelf.old) (O.written out.old) (E.written err.old))
+        (told (S.holds shelf.new) (O.written out.new) (E.written err.new)) result }
 {
-    match follow_words(rt.alloc(), words, shelf, out, err) {
-        Ok(status) => status,
-        Err(stopped) => stopped.status(),
-    }
+    status_of(follow_words(rt.alloc(), words, shelf, out, err))
 }

@@ -5,8 +5,7 @@ ghost use Rattle.run_acts.specs.Acts.{told};
 ghost use Rattle.run_acts.specs.Breaks.{counts};
 ghost use Rattle.run_acts.specs.Lines.{line_of, usage};
 ghost use Rattle.spatch_run.specs.Stages.{Doing, Ending, ReadPatch, EditFile, refusing, printing};
-ghost use Rattle.spatch_run.specs.Paths.{Ends};
-ghost use Rattle.spatch_run.specs.Promise.{EndsRightly};
+ghost use Rattle.spatch_run.specs.Ends.{Ends, Follows};
 ghost use Rattle.spatch_run.specs.Answer.{answer};
 
 use crate::words::command;
@@ -30,6 +29,16 @@ const FILE_REFUSED: u8 = 4;
 
 const NAME_ABSENT: u8 = 5;
 
+/// The status of a run that ended or stopped.
+pub fn status_of(end: Result<u8, Stopped>) -> u8
+    ensures { result ≡ answer end }
+{
+    match end {
+        Ok(status) => status,
+        Err(stopped) => stopped.status(),
+    }
+}
+
 /// Reads the words, and does what they ask for.
 pub fn follow_words<S: Shelf, O: Sink, E: Sink>(
     alloc: Global,
@@ -38,7 +47,7 @@ pub fn follow_words<S: Shelf, O: Sink, E: Sink>(
     out: &mut O,
     err: &mut E,
 ) -> Result<u8, Stopped>
-    ensures ends { EndsRightly words.now
+    ensures ends { Follows words.now
         (counts (S.faults shelf.old) (O.faults out.old) (E.faults err.old))
         (counts (S.faults shelf.new) (O.faults out.new) (E.faults err.new))
         (told (S.holds shelf.old) (O.written out.old) (E.written err.old))

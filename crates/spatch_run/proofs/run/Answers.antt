@@ -1,5 +1,12 @@
-use Rattle.spatch_run.proofs.Exact.{exact}
+use Rattle.spatch_run.proofs.Exact.{exact, ends_rightly}
+use Rattle.spatch_run.proofs.Caused.{caused}
 use Rattle.spatch_run.proofs.run.Goals as goal
 
-pub returns-in-Ok-clause-exact : goal.returns-in-Ok-clause-exact
-returns-in-Ok-clause-exact g c = exact c.in-Ok.ensures.ends
+pub returns-clause-exact : goal.returns-clause-exact
+returns-clause-exact g c = rw c.status_of.ensures (exact c.follow_words.ensures.ends)
+
+pub returns-clause-ends : goal.returns-clause-ends
+returns-clause-ends g c = rw c.status_of.ensures (ends_rightly c.follow_words.ensures.ends)
+
+pub returns-clause-causes : goal.returns-clause-causes
+returns-clause-causes g c = rw c.status_of.ensures (caused _ _ _ _ _ _ (ends_rightly c.follow_words.ensures.ends))

@@ -13,7 +13,7 @@ use Rattle.spatch_run.specs.Paths.{Path, AreActs, DoesAll, ComesTo}
 use Rattle.spatch_run.specs.Promise.{EndsRightly}
 use Rattle.spatch_run.specs.Causes.{NoCommand, PatchIsRefused, PatchIsRead, FileIsRefused, FileIsEdited, NameIsAbsent, Must, Causes}
 use Rattle.spatch_run.proofs.Exact.{all_or_seven}
-use Rattle.spatch_run.proofs.Unique.{acts_one}
+use Rattle.spatch_run.proofs.Unique.{none_some, same_some, acts_one}
 
 -- how a run ended, by its status
 data Outcome (words : List (List ℕ)) (before now : Counts) (old new : Told) (status : ℕ) : Type 0 where
@@ -25,12 +25,6 @@ data Outcome (words : List (List ℕ)) (before now : Counts) (old new : Told) (s
   Failed : (mid : Told) (act : Act) → status ≡ 6 → ComesTo words old mid act → Fails before now act mid new 6 → Outcome words before now old new status
   Unfed : (act : Act) → status ≡ 7 → ComesTo words old new act → Outcome words before now old new status
   Missing : (name : List ℕ) → status ≡ 5 → NameIsAbsent words old.files name → new ≡ done (Report (cannot_read name)) old → Outcome words before now old new status
-
-pub none_some : {A : Type 0} (a : A) → None ≡ Some a → ⊥
-none_some a e = cc
-
-pub same_some : {A : Type 0} (a b : A) → Some a ≡ Some b → a ≡ b
-same_some a b e = cc
 
 -- a run that only has acts at hand does them
 pub ending : (old : Told) (pending : List Act) (s : ℕ) (acts : List Act) (last : Stage) (status : ℕ) → Path old (Ending pending s) acts last → status_at last ≡ Some status → (acts ≡ pending) × (status ≡ s)

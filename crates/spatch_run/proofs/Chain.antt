@@ -2,7 +2,7 @@
 use Rattle.std.proofs.Common.{◌≡◌, ℕ, List, [], ◌∷◌, ◌++◌, Option, Some, refl, sym, ap, ◌∙◌, inl, inr}
 use Rattle.run_acts.specs.Acts.{Act, Told, done, after}
 use Rattle.run_acts.specs.Breaks.{Counts, NoneFell, Breaks}
-use Rattle.run_acts.proofs.BreaksLemmas.{Breaks-earlier}
+use Rattle.run_acts.proofs.BreaksLemmas.{NoneFell-refl, NoneFell-then, Breaks-earlier}
 use Rattle.spatch_run.specs.Stages.{Stage, next_act, status_at, Leads}
 use Rattle.spatch_run.specs.Paths.{Path}
 use Rattle.spatch_run.specs.Ends.{Goes, Ends}
@@ -35,20 +35,22 @@ Goes-act from act to old new next leads told = record {
 }
 
 -- the run is over
-pub over : (from : Stage) (before now : Counts) (old : Told) (status : ℕ) → status_at from ≡ Some status → Ends from before now old old status
-over from before now old status is = record {
+pub over : (from : Stage) (now : Counts) (old : Told) (status : ℕ) → status_at from ≡ Some status → Ends from now now old old status
+over from now old status is = record {
   stage = from;
   mid = old;
   goes = Goes-refl from old;
+  fell = NoneFell-refl now;
   end = inl (is, refl);
 }
 
 -- the next act broke
-pub broken : (from : Stage) (act : Act) {before now : Counts} {old new : Told} {status : ℕ} → next_act from ≡ Some act → Breaks before now act old new status → Ends from before now old new status
-broken from act {old = old} next breaks = record {
+pub broken : (from : Stage) (act : Act) {before now : Counts} {old new : Told} {status : ℕ} → next_act from ≡ Some act → NoneFell before now → Breaks before now act old new status → Ends from before now old new status
+broken from act {old = old} next fell breaks = record {
   stage = from;
   mid = old;
   goes = Goes-refl from old;
+  fell = fell;
   end = inr (act, (next, breaks));
 }
 
@@ -58,6 +60,7 @@ Goes-ends {first = first} {before = before} {now = now} {new = new} {status = st
   stage = rest.stage;
   mid = rest.mid;
   goes = Goes-then goes rest.goes;
+  fell = NoneFell-then first before now fell rest.fell;
   end = elim rest.end [
     | inl whole ↦ inl whole
     | inr cut ↦ inr (cut.0, (cut.1.0, Breaks-earlier first before now cut.0 rest.mid new status fell cut.1.1))

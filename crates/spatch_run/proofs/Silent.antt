@@ -6,7 +6,8 @@ use Rattle.spatch_run.specs.Readings.{patch_limit, file_limit}
 use Rattle.spatch_run.specs.Stages.{Stage, Doing, Ending, ReadPatch, EditFile, refusing, printing, PatchLeads, FileLeads, status_at}
 use Rattle.spatch_run.specs.Paths.{Path, AreActs}
 use Rattle.spatch_run.specs.Causes.{ReportNothing}
-use Rattle.spatch_run.proofs.Caused.{ending, none_some, same_some}
+use Rattle.spatch_run.proofs.Unique.{none_some, same_some}
+use Rattle.spatch_run.proofs.Caused.{ending}
 
 -- a run that ends by a line reports it, with a status that is not 0
 refusing_silent : (old : Told) (line : List ℕ) (s : ℕ) (to : Stage) (acts : List Act) (last : Stage) (status : ℕ) → 0 < s → to ≡ refusing line s → Path old to acts last → status_at last ≡ Some status → (status ≡ 0) ↔ ReportNothing acts

@@ -10,10 +10,10 @@ use Rattle.spatch_run.specs.Readings.{PatchGives, PatchRefused, FileGives, FileR
 use Rattle.spatch_run.specs.Stages.{Work, Stage, Doing, Ending, ReadPatch, EditFile, refusing, printing, Begins, PatchLeads, FileLeads, next_act, status_at, Leads}
 use Rattle.spatch_run.specs.Paths.{Path, AreActs, ComesTo}
 
-none_some : {A : Type 0} (a : A) → None ≡ Some a → ⊥
+pub none_some : {A : Type 0} (a : A) → None ≡ Some a → ⊥
 none_some a e = cc
 
-same_some : {A : Type 0} (a b : A) → Some a ≡ Some b → a ≡ b
+pub same_some : {A : Type 0} (a b : A) → Some a ≡ Some b → a ≡ b
 same_some a b e = cc
 
 same_names : (a p q b r s : List ℕ) → a ∷ p ∷ q ∷ [] ≡ b ∷ r ∷ s ∷ [] → (p ≡ r) × (q ≡ s)

@@ -1,7 +1,7 @@
 -- How a run ends that has come to a stage.
 use Rattle.std.specs.Prelude.{ℕ, ◌≡◌, ◌⊎◌, List, Some}
 use Rattle.run_acts.specs.Acts.{Act, Told, after}
-use Rattle.run_acts.specs.Breaks.{Counts, Breaks}
+use Rattle.run_acts.specs.Breaks.{Counts, NoneFell, Breaks}
 use Rattle.spatch_run.specs.Stages.{Stage, Begins, next_act, status_at}
 use Rattle.spatch_run.specs.Paths.{Path}
 
@@ -11,11 +11,12 @@ pub record Goes (from : Stage) (old : Told) (to : Stage) (new : Told) : Type 0 w
   pub path : Path old from acts to
   pub told : new ≡ after acts old
 
--- The run goes on from this stage to its end, or up to an act that breaks.
+-- The run goes on from this stage to its end, or up to an act that breaks, and no count of faults falls.
 pub record Ends (from : Stage) (before now : Counts) (old new : Told) (status : ℕ) : Type 0 where
   pub stage : Stage
   pub mid : Told
   pub goes : Goes from old stage mid
+  pub fell : NoneFell before now
   pub end : ((status_at stage ≡ Some status) × (new ≡ mid))
       ⊎ ((act : Act) × ((next_act stage ≡ Some act) × Breaks before now act mid new status))
 

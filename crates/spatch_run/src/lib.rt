@@ -12,7 +12,7 @@
 
 ghost use Rattle.std.specs.Prelude.{◌≡◌};
 ghost use Rattle.run_acts.specs.Acts.{told};
-ghost use Rattle.run_acts.specs.Breaks.{counts};
+ghost use Rattle.run_acts.specs.Breaks.{NoneFell, counts};
 ghost use Rattle.spatch_run.specs.Promise.{IsExact, EndsRightly};
 ghost use Rattle.spatch_run.specs.Causes.{Causes};
 
@@ -46,6 +46,11 @@ pub fn run<R: AllocGlobal, S: Shelf, O: Sink, E: Sink>(
         (counts (S.faults shelf.new) (O.faults out.new) (E.faults err.new))
         (told (S.holds shelf.old) (O.written out.old) (E.written err.old))
         (told (S.holds shelf.new) (O.written out.new) (E.written err.new)) result }
+
+    // No count falls.
+    ensures later { NoneFell
+        (counts (S.faults shelf.old) (O.faults out.old) (E.faults err.old))
+        (counts (S.faults shelf.new) (O.faults out.new) (E.faults err.new)) }
 
     // Each status comes for its cause, and must come where nothing fails.
     ensures causes { Causes words.now

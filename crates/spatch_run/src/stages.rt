@@ -113,9 +113,9 @@ fn edit_file<S: Shelf, O: Sink, E: Sink>(
 
 /// Prints the text, if there is any.
 fn show<O: Sink, E: Sink>(out: &mut O, err: &mut E, text: &[u8]) -> Result<u8, Stopped>
-    ensures ends { (files : Option Files) (s s' : ℕ) → Ends (Ending (printing text.now) 0)
+    ensures ends { (files : Option Files) (s : ℕ) → Ends (Ending (printing text.now) 0)
         (counts s (O.faults out.old) (E.faults err.old))
-        (counts s' (O.faults out.new) (E.faults err.new))
+        (counts s (O.faults out.new) (E.faults err.new))
         (told files (O.written out.old) (E.written err.old))
         (told files (O.written out.new) (E.written err.new)) (answer result) }
 {
@@ -128,9 +128,9 @@ fn show<O: Sink, E: Sink>(out: &mut O, err: &mut E, text: &[u8]) -> Result<u8, S
 
 /// Puts the line on how the tool is called.
 fn refuse_words<E: Sink>(err: &mut E) -> Result<u8, Stopped>
-    ensures ends { (files : Option Files) (out : Option (List ℕ)) (s o s' o' : ℕ) →
+    ensures ends { (files : Option Files) (out : Option (List ℕ)) (s o : ℕ) →
         Ends (refusing usage 1)
-        (counts s o (E.faults err.old)) (counts s' o' (E.faults err.new))
+        (counts s o (E.faults err.old)) (counts s o (E.faults err.new))
         (told files out (E.written err.old)) (told files out (E.written err.new)) (answer result) }
 {
     report(err, usage().as_bytes())?;
@@ -145,9 +145,9 @@ fn refuse<E: Sink>(
     text: &str,
     status: u8,
 ) -> Result<u8, Stopped>
-    ensures ends { (files : Option Files) (out : Option (List ℕ)) (s o s' o' : ℕ) →
+    ensures ends { (files : Option Files) (out : Option (List ℕ)) (s o : ℕ) →
         Ends (refusing (line_of name.now text.now) status)
-        (counts s o (E.faults err.old)) (counts s' o' (E.faults err.new))
+        (counts s o (E.faults err.old)) (counts s o (E.faults err.new))
         (told files out (E.written err.old)) (told files out (E.written err.new)) (answer result) }
 {
     let line = line_of(alloc, name, text)?;

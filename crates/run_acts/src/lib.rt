@@ -15,6 +15,8 @@
 
 mod lines;
 mod outside;
+#[cfg(test)]
+mod tests;
 
 pub use lines::{cannot_print, line_of, usage};
 pub use outside::{Loaded, Stopped, load, print, report, store};

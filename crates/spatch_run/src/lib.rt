@@ -18,6 +18,8 @@ ghost use Rattle.spatch_run.specs.Causes.{Causes};
 
 mod law;
 mod stages;
+#[cfg(test)]
+mod tests;
 mod words;
 
 use c_terms::Text;

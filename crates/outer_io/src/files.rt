@@ -17,9 +17,9 @@ const BLOCK: usize = 65536;
 /// The files of the system, by their paths. It tells no content, so what a file gives and takes is trusted.
 /// Contracts see the count of faults.
 ///
-/// The count rises at each `Failed`, and at no other answer: a file that is missing or cannot be opened, a read or
-/// a write that fails, and a write that takes nothing. A load is linear in what it reads, which is at most one block
-/// of 64 KiB past its limit; a store is linear in its bytes.
+/// `Failed` are a file that is missing or cannot be opened, a read or a write that fails, and a write that takes
+/// nothing. The count rises at each `Err`, and at no `Ok`. A load is linear in what it reads, which is at most one
+/// block of 64 KiB past its limit; a store is linear in its bytes.
 #[derive(Drop)]
 pub struct FileShelf<'a, R> {
     rt: &'a R,
@@ -51,7 +51,7 @@ impl<'a, R: Files + AllocGlobal> Shelf for FileShelf<'a, R> {
     /// The bytes of the file. A file that is missing is `Failed`.
     fn load(&mut self, name: &str, limit: u64) -> Result<Vec<u8>, ShelfFault> {
         let read = read_file(self.rt, name, limit);
-        if matches!(read, Err(ShelfFault::Failed)) {
+        if read.is_err() {
             self.faults = one_more(self.faults);
         }
         read

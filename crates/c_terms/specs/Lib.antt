@@ -9,3 +9,5 @@ pub mod Names
 -- What the crates above share.
 
 pub mod Shapes
+pub mod Places
+pub mod Lists

@@ -11,8 +11,10 @@
 
 mod label;
 mod laws;
+mod list;
 mod names;
 mod order;
+mod place;
 mod same;
 mod shape;
 mod text;
@@ -21,8 +23,10 @@ mod tree;
 
 pub use label::Label;
 pub use laws::{numbers_tell_apart, same_term_is_equality, term_order_is_total};
+pub use list::{Member, comma, is_comma, members_of, run_of};
 pub use names::Names;
 pub use order::{compare_tokens, term_order, text_order};
+pub use place::{child, first_leaf, subtree};
 pub use same::{is_same_token, same_term, same_text};
 pub use shape::{Shape, is_expression_part};
 pub use text::{NoMemory, Text};

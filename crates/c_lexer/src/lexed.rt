@@ -1,0 +1,51 @@
+// A text with its pieces.
+ghost use Rattle.std.specs.Prelude.{◌≡◌, ◌<◌, ◌+◌, Some, length, take, slice_range, slice_get};
+ghost use Rattle.c_lexer.specs.Pieces.{text_of};
+
+use crate::piece::Piece;
+use std::marker::Model;
+
+/// A text, kept once, and its pieces as spans. Contracts see the list of the pieces with their texts.
+#[derive(Drop)]
+pub struct Lexed {
+    pub(crate) bytes: Vec<u8>,
+    pub(crate) pieces: Vec<Piece>,
+}
+
+impl Model for Lexed {
+    ghost use Rattle.std.specs.Prelude.{List, ◌≤◌, length};
+    ghost use Rattle.c_lexer.specs.Pieces.{TextPiece};
+    ghost use Rattle.c_lexer.specs.Spans.{Tile, text_pieces};
+
+    ghost Value = { List TextPiece };
+
+    ghost view = { λ l. text_pieces l.bytes.items l.pieces.items };
+
+    ghost invariant = { λ l. Tile 0 l.pieces.items (length l.bytes.items) };
+}
+
+impl Lexed {
+    /// The text.
+    pub fn bytes(&self) -> &[u8]
+        ensures bytes { result.now ≡ text_of self.now }
+    {
+        self.bytes.as_slice()
+    }
+
+    /// The number of pieces.
+    pub fn count(&self) -> usize
+        ensures count { result ≡ length self.now }
+    {
+        self.pieces.len()
+    }
+
+    /// The piece with a number, counted from 0.
+    pub fn piece(&self, i: usize) -> Piece
+        requires { i < length self.now }
+        ensures start { result.start ≡ length (text_of (take i self.now)) }
+        ensures end { result.end ≡ length (text_of (take (i + 1) self.now)) }
+        ensures piece { slice_get self.now i ≡ Some (record { kind = result.kind; text = slice_range (text_of self.now) result.start result.end }) }
+    {
+        self.pieces[i]
+    }
+}

@@ -1,0 +1,54 @@
+// Whether two texts must be parted.
+ghost use Rattle.std.specs.Prelude.{◌≡◌, ◌⊎◌, ◌↔◌, IsTrue, Some, None, List, length, take, ◌++◌};
+ghost use Rattle.c_lexer.specs.declared.state.State.TheVariants.{Start};
+ghost use Rattle.c_lexer.specs.Kinds.{walk};
+ghost use Rattle.c_lexer.specs.First.{IsFirst};
+ghost use Rattle.c_lexer.specs.declared.state.Kind.{Kind};
+ghost use Rattle.c_lexer.specs.Longest.{MayFollow};
+
+use crate::state::State;
+use crate::step::{kind_at, step};
+
+/// Where a text leads to.
+fn walk(bytes: &[u8]) -> Option<State>
+    ensures { result ≡ walk (Some Start) bytes.now }
+{
+    let mut state = State::Start;
+    for b in bytes {
+        match step(state, *b) {
+            Some(next) => state = next,
+            None => return None,
+        }
+    }
+    Some(state)
+}
+
+/// No front of the bytes ends a text of a kind.
+fn is_quiet(start: State, bytes: &[u8]) -> bool
+    ensures { IsTrue result ↔ MayFollow start bytes.now }
+{
+    let mut state = start;
+    for b in bytes {
+        match step(state, *b) {
+            Some(next) => match kind_at(next) {
+                Some(_) => return false,
+                None => state = next,
+            },
+            None => return true,
+        }
+    }
+    true
+}
+
+/// Whether the first text isn't the first piece of both.
+pub fn is_longer(left: &[u8], right: &[u8]) -> bool
+    ensures { IsTrue result ↔ ((k : Kind) → IsFirst k left.now right.now → ⊥) }
+{
+    match walk(left) {
+        None => true,
+        Some(state) => match kind_at(state) {
+            None => true,
+            Some(_) => !is_quiet(state, right),
+        },
+    }
+}

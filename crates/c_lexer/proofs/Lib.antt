@@ -5,3 +5,11 @@ pub mod Open
 pub mod Keeps
 pub mod Longest
 pub mod Spans
+pub mod Renumbered
+pub mod Shapes
+pub mod Sound
+pub mod Joined
+pub mod Law
+pub mod Merge
+pub mod Spaced
+pub mod Shaped

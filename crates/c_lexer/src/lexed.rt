@@ -1,8 +1,9 @@
 // A text with its pieces.
 ghost use Rattle.std.specs.Prelude.{◌≡◌, ◌<◌, ◌+◌, Some, length, take, slice_range, slice_get};
 ghost use Rattle.c_lexer.specs.Pieces.{text_of};
+ghost use Rattle.c_lexer.specs.Ids.{ids_of, without_ids};
 
-use crate::piece::Piece;
+use crate::piece::{Piece, PieceKind};
 use std::marker::Model;
 
 /// A text, kept once, and its pieces as spans. Contracts see the list of the pieces with their texts.
@@ -47,5 +48,27 @@ impl Lexed {
         ensures piece { slice_get self.now i ≡ Some (record { kind = result.kind; text = slice_range (text_of self.now) result.start result.end }) }
     {
         self.pieces[i]
+    }
+
+    /// The same pieces, whose tokens have these ids in order, one for each. Linear, and takes no memory.
+    pub fn renumber(self, ids: &[u64]) -> Lexed
+        requires { length ids.now ≡ length (ids_of self) }
+        ensures ids { ids_of result ≡ ids.now }
+        ensures same { without_ids result ≡ without_ids self }
+    {
+        let Lexed { bytes, mut pieces } = self;
+        let mut next = 0;
+        for i in 0..pieces.len() {
+            let piece = pieces[i];
+            if let PieceKind::Word(kind, _) = piece.kind {
+                pieces[i] = Piece {
+                    kind: PieceKind::Word(kind, ids[next]),
+                    start: piece.start,
+                    end: piece.end,
+                };
+                next += 1;
+            }
+        }
+        Lexed { bytes, pieces }
     }
 }

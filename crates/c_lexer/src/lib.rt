@@ -4,12 +4,13 @@
 mod cut;
 mod lexed;
 mod next;
-mod parts;
+mod between;
 mod piece;
 mod state;
 mod step;
 
 pub use cut::{LexFault, lex};
 pub use lexed::Lexed;
+pub use between::parts;
 pub use piece::{Piece, PieceKind};
 pub use state::Kind;

@@ -1,10 +1,11 @@
-// Whether two texts must be parted.
-ghost use Rattle.std.specs.Prelude.{◌≡◌, ◌⊎◌, ◌↔◌, IsTrue, Some, None, List, length, take, ◌++◌};
+// Whether two texts run together.
+ghost use Rattle.std.specs.Prelude.{◌≡◌, ◌⊎◌, ◌↔◌, IsTrue, Some, None, List, length, take, ◌++◌, [], ◌∷◌};
 ghost use Rattle.c_lexer.specs.declared.state.State.TheVariants.{Start};
 ghost use Rattle.c_lexer.specs.Kinds.{walk};
 ghost use Rattle.c_lexer.specs.First.{IsFirst};
 ghost use Rattle.c_lexer.specs.declared.state.Kind.{Kind};
 ghost use Rattle.c_lexer.specs.Longest.{MayFollow};
+ghost use Rattle.c_lexer.specs.Parts.{RunTogether};
 
 use crate::state::State;
 use crate::step::{kind_at, step};
@@ -41,7 +42,7 @@ fn is_quiet(start: State, bytes: &[u8]) -> bool
 }
 
 /// Whether the first text isn't the first piece of both.
-pub fn is_longer(left: &[u8], right: &[u8]) -> bool
+fn is_longer(left: &[u8], right: &[u8]) -> bool
     ensures { IsTrue result ↔ ((k : Kind) → IsFirst k left.now right.now → ⊥) }
 {
     match walk(left) {
@@ -51,4 +52,21 @@ pub fn is_longer(left: &[u8], right: &[u8]) -> bool
             Some(_) => !is_quiet(state, right),
         },
     }
+}
+
+/// Whether two texts run together where no space stands between them: the left one is not the first piece of both, or
+/// it is `.` and the right one begins with `.`. Linear, and takes no memory.
+pub fn parts(left: &[u8], right: &[u8]) -> bool
+    ensures { IsTrue result ↔ RunTogether left.now right.now }
+{
+    if left.len() == 1 && left[0] == b'.' && begins_with_dot(right) {
+        return true;
+    }
+    is_longer(left, right)
+}
+
+fn begins_with_dot(text: &[u8]) -> bool
+    ensures { IsTrue result ↔ (take 1 text.now ≡ 46 ∷ []) }
+{
+    text.len() > 0 && text[0] == b'.'
 }

@@ -136,17 +136,17 @@ plain_quiet c more rest j other first =
     elim (is_space c) as (λ (b : Bool). is_space c ≡ b → Quiet (Blanks Plain) (c ∷ (more ++ rest))) [
       | true ↦ λ e. absurd (other (begin_blank c more j e first.of_kind))
       | false ↦ λ e. elim (c == 92) as (λ (b : Bool). (c == 92) ≡ b → Quiet (Blanks Plain) (c ∷ (more ++ rest))) [
-          | true ↦ λ f. quiet_after (Blanks Plain) (Blanks Back) c (more ++ rest) (rw (e, f) refl) refl (blank_back (more ++ rest) (more ++ rest) (record {
-              its = j;
-              more = more;
-              rest = rest;
-              is = refl;
-              first = subst (λ (x : ℕ). IsFirst j (x ∷ more) rest) (eqb-true c 92 f) first;
-              apart = λ _ its. other its;
-              same = λ quote. (rest, refl);
-            }))
-          | false ↦ λ f. dead (Blanks Plain) c (more ++ rest) (rw (e, f) refl)
-        ] refl
+        | true ↦ λ f. quiet_after (Blanks Plain) (Blanks Back) c (more ++ rest) (rw (e, f) refl) refl (blank_back (more ++ rest) (more ++ rest) (record {
+          its = j;
+          more = more;
+          rest = rest;
+          is = refl;
+          first = subst (λ (x : ℕ). IsFirst j (x ∷ more) rest) (eqb-true c 92 f) first;
+          apart = λ _ its. other its;
+          same = λ quote. (rest, refl);
+        }))
+        | false ↦ λ f. dead (Blanks Plain) c (more ++ rest) (rw (e, f) refl)
+      ] refl
     ] refl
 
 blank_quiet : (q : State) (c : ℕ) (xs : List ℕ) → kind_at q ≡ Some kind.Blank → Quiet (Blanks Plain) (c ∷ xs) → Quiet q (c ∷ xs)
@@ -170,20 +170,22 @@ law [] sound = tt
 law (p ∷ []) sound = (record { of_kind = sound; longest = λ n less. absurd (omega arith) }, tt)
 law (p ∷ q ∷ ps) sound =
     let rest = law (q ∷ ps) sound.1.1.1 in
-    let first : IsFirst q.kind q.text (text_of ps) = rest.0 in
-    (elim sound.1.1.0 [
-      | inl blank ↦ blanks_first p q (text_of ps) blank sound.0 sound.1.0 first
-      | inr other ↦ elim other [
+    let first : IsFirst q.kind q.text (text_of ps) = rest.0 in (
+      elim sound.1.1.0 [
+        | inl blank ↦ blanks_first p q (text_of ps) blank sound.0 sound.1.0 first
+        | inr other ↦ elim other [
           | inl s ↦ stays p q (text_of ps) s sound.1.0 first
           | inr more ↦ elim more [
-              | inl s ↦ parted p q (text_of ps) s sound.1.0 first
-              | inr last ↦ elim last [
-                  | inl s ↦ shortened p q (text_of ps) s sound.1.0 first
-                  | inr s ↦ s.always (q.text ++ text_of ps)
-                ]
+            | inl s ↦ parted p q (text_of ps) s sound.1.0 first
+            | inr last ↦ elim last [
+              | inl s ↦ shortened p q (text_of ps) s sound.1.0 first
+              | inr s ↦ s.always (q.text ++ text_of ps)
             ]
+          ]
         ]
-    ], rest)
+      ],
+      rest,
+    )
 
 name_comment : (text : List ℕ) (j : Kind) → named text j ≡ kind.Comment → j ≡ kind.Comment
 name_comment text kind.Name e = absurd (elim (is_keyword text) as (λ (b : Bool). (if b then kind.Keyword else kind.Name) ≡ kind.Comment → ⊥) [ true ↦ λ e. absurd cc | false ↦ λ e. absurd cc ] e)
@@ -195,13 +197,13 @@ quiet_closed k (c ∷ cs) = dead (Closed k) c cs refl
 
 goes_on : (s : Splice) (c : ℕ) → (c ≡ 10 → ⊥) → on s c ≡ None → ⊥
 goes_on Plain c other none = elim (c == 92) as (λ (b : Bool). (if b then Some Back else (if c == 10 then None else Some Plain)) ≡ None → ⊥) [
-    | true ↦ λ e. absurd cc
-    | false ↦ elim (c == 10) as (λ (b : Bool). (c == 10) ≡ b → (if b then None else Some Plain) ≡ None → ⊥) [ true ↦ λ f e. other (eqb-true c 10 f) | false ↦ λ f e. absurd cc ] refl
-  ] none
+  | true ↦ λ e. absurd cc
+  | false ↦ elim (c == 10) as (λ (b : Bool). (c == 10) ≡ b → (if b then None else Some Plain) ≡ None → ⊥) [ true ↦ λ f e. other (eqb-true c 10 f) | false ↦ λ f e. absurd cc ] refl
+] none
 goes_on Back c other none = elim (c == 92) as (λ (b : Bool). (if b then Some Back else (if c == 13 then Some BackReturn else Some Plain)) ≡ None → ⊥) [
-    | true ↦ λ e. absurd cc
-    | false ↦ elim (c == 13) as (λ (b : Bool). (if b then Some BackReturn else Some Plain) ≡ None → ⊥) [ true ↦ λ e. absurd cc | false ↦ λ e. absurd cc ]
-  ] none
+  | true ↦ λ e. absurd cc
+  | false ↦ elim (c == 13) as (λ (b : Bool). (if b then Some BackReturn else Some Plain) ≡ None → ⊥) [ true ↦ λ e. absurd cc | false ↦ λ e. absurd cc ]
+] none
 goes_on BackReturn c other none = elim (c == 92) as (λ (b : Bool). (if b then Some Back else Some Plain) ≡ None → ⊥) [ true ↦ λ e. absurd cc | false ↦ λ e. absurd cc ] none
 
 rest_goes_on : (s : Splice) (c : ℕ) → (c ≡ 10 → ⊥) → step (Rest s) c ≡ None → ⊥

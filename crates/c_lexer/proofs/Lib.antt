@@ -13,3 +13,5 @@ pub mod Law
 pub mod Merge
 pub mod Spaced
 pub mod Shaped
+pub mod Once
+pub mod Apart

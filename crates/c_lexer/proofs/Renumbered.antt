@@ -1,15 +1,15 @@
 -- Spans with other ids are the same pieces but for these.
-use Rattle.std.proofs.Common.{◌≡◌, ℕ, ◌+◌, ◌<◌, List, [], ◌∷◌, ◌++◌, length, take, drop, set, get_or, suc, zero, refl, sym, ap, ◌∙◌, arith, subst, append_assoc, add-one}
-use Rattle.std.specs.Prelude.{map, slice_range}
+use Rattle.std.proofs.Common.{◌≡◌, ℕ, ◌+◌, ◌<◌, List, [], ◌∷◌, ◌++◌, length, take, drop, set, get_or, refl, sym, ap, ◌∙◌, arith, append_assoc, add-one}
+use Rattle.std.specs.Prelude.{slice_range}
 use Rattle.std.proofs.Math.Seq.{take-suc-set}
-use Rattle.std.proofs.lemmas.List.{take_more, drop_more, drop-set-lt, drop_all}
+use Rattle.std.proofs.lemmas.List.{take_more, drop_more, drop-set-lt}
 use Rattle.c_terms.specs.declared.token.TokenKind.{TokenKind}
 use Rattle.c_lexer.specs.declared.piece.PieceKind.{PieceKind}
 use Rattle.c_lexer.specs.declared.piece.PieceKind.TheVariants.{Word, Blank, Comment, Line}
 use Rattle.c_lexer.specs.declared.piece.Piece.{Piece}
 use Rattle.c_lexer.specs.Pieces.{TextPiece}
-use Rattle.c_lexer.specs.Ids.{id_before, ids_of, kind_without_id, without_id, without_ids}
-use Rattle.c_lexer.specs.Spans.{text_piece, text_pieces, Tile}
+use Rattle.c_lexer.specs.Ids.{id_before, ids_of, kind_without_id, without_ids}
+use Rattle.c_lexer.specs.Spans.{text_pieces, Tile}
 use Rattle.c_lexer.specs.Renumbered.{is_word, words, kind_with, ids_after, piece_with, renumbered}
 
 pub kind_of_word : (kind : PieceKind) → (is_word kind ≡ 0) → (ids : List ℕ) → kind_with kind ids ≡ kind
@@ -42,7 +42,7 @@ renumbered-other pieces ids i next p less is other =
     let left = drop next ids in
     let same : piece_with p left ≡ p = ap (λ (k : PieceKind). let q : Piece = record { kind = k; start = p.start; end = p.end } in q) (kind_of_word p.kind other left) in
     let here : renumbered (drop i pieces) left ≡ p ∷ renumbered (drop (i + 1) pieces) left =
-        rw (drop_more pieces i p less, ← is, same, after_of_word p.kind other left) refl in
+    rw (drop_more pieces i p less, ← is, same, after_of_word p.kind other left) refl in
     rw (here, take_more pieces i p less, ← is) (append_assoc (take i pieces) (p ∷ []) (renumbered (drop (i + 1) pieces) left))
 
 pub words-drop : (pieces : List Piece) (i : ℕ) (p : Piece) → i < length pieces → p ≡ get_or pieces i p → words (drop i pieces) ≡ is_word p.kind + words (drop (i + 1) pieces)

@@ -1,16 +1,20 @@
 //! Cuts C text into pieces: tokens, blanks, comments and preprocessor lines.
 #![tactic(auto)]
 
+mod between;
 mod cut;
+mod laws;
 mod lexed;
 mod next;
-mod between;
 mod piece;
 mod state;
 mod step;
 
-pub use cut::{LexFault, lex};
-pub use lexed::Lexed;
 pub use between::parts;
+pub use cut::{LexFault, lex};
+pub use laws::{
+    comment_ends, cut_once, dots_join, loose_pieces_stay, parted_texts_stay, space_parts,
+};
+pub use lexed::Lexed;
 pub use piece::{Piece, PieceKind};
 pub use state::Kind;

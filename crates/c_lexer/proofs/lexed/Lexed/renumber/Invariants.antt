@@ -1,4 +1,4 @@
-use Rattle.std.proofs.Common.{◌≡◌, ◌+◌, ◌++◌, length, take, drop, vec_len}
+use Rattle.std.proofs.Common.{◌≡◌, ◌+◌, ◌++◌, length, take, drop}
 use Rattle.c_lexer.specs.Renumbered.{words, renumbered}
 use Rattle.c_lexer.proofs.lexed.Lexed.renumber.Given as goal
 

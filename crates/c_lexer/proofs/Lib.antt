@@ -15,3 +15,4 @@ pub mod Spaced
 pub mod Shaped
 pub mod Once
 pub mod Apart
+pub mod Runs

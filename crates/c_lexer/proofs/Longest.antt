@@ -35,6 +35,21 @@ begin_kind b none =
     let lone : option_and_then kind_at (Some Lone) ≡ None = e7.1 in
     absurd cc
 
+take-nil : (n : ℕ) → take {A = ℕ} n [] ≡ []
+take-nil zero = refl
+take-nil (suc n) = refl
+
+-- a front and a front of the rest are a front
+fronts : (m n : ℕ) (xs : List ℕ) → take m xs ++ take n (drop m xs) ≡ take (m + n) xs
+fronts zero n xs = ap (λ (k : ℕ). take k xs) (sym (zero-add n))
+fronts (suc m) n [] = take-nil n ∙ sym (take-nil (suc m + n))
+fronts (suc m) n (x ∷ xs) = ap (λ (l : List ℕ). x ∷ l) (fronts m n xs) ∙ ap (λ (k : ℕ). take k (x ∷ xs)) (let e : suc (m + n) ≡ suc m + n = omega arith in e)
+
+-- a run over which the state stays
+pub walk_stays : (bytes : List ℕ) (m n : ℕ) (q : State) → walk (Some Start) (take m bytes) ≡ Some q → walk (Some q) (take n (drop m bytes)) ≡ Some q → walk (Some Start) (take (m + n) bytes) ≡ Some q
+walk_stays bytes m n q is stays =
+    ap (λ (l : List ℕ). walk (Some Start) l) (sym (fronts m n bytes)) ∙ (walk-append (Some Start) (take m bytes) (take n (drop m bytes)) ∙ (ap (λ (r : Option State). walk r (take n (drop m bytes))) is ∙ stays))
+
 -- at the first byte the state is Start
 pub not_first : (bytes : List ℕ) (i : ℕ) (q : State) (b : ℕ) → walk (Some Start) (take i bytes) ≡ Some q → option_and_then kind_at (step q b) ≡ None → 0 < i
 not_first bytes zero q b is none = let start : q ≡ Start = cc in absurd (begin_kind b (subst (λ (t : State). option_and_then kind_at (step t b) ≡ None) start none))
@@ -60,10 +75,10 @@ longest_dead bytes kind len i q less is none longest =
       ];
     }
 
--- a byte more, of a kind
-pub longest_found : (bytes : List ℕ) (kind : Kind) (i : ℕ) (q : State) → walk (Some Start) (take (i + 1) bytes) ≡ Some q → kind_at q ≡ Some kind → IsLongest bytes kind (i + 1) (i + 1)
-longest_found bytes kind i q is has = record {
-  some = omega arith;
+-- a longer front, of a kind
+pub longest_found : (bytes : List ℕ) (kind : Kind) (n : ℕ) (q : State) → 0 < n → walk (Some Start) (take n bytes) ≡ Some q → kind_at q ≡ Some kind → IsLongest bytes kind n n
+longest_found bytes kind n q some is has = record {
+  some = some;
   within = omega arith;
   of_kind = ap (λ (r : Option State). option_and_then kind_at r) is ∙ has;
   longest = λ n more within. absurd (omega arith);
@@ -83,15 +98,6 @@ longest_more bytes kind len i q t less is goes none longest =
         | inr gt ↦ let same : n ≡ i + 1 = omega arith in subst (λ (m : ℕ). shape (take m bytes) ≡ None) (sym same) (ap (λ (r : Option State). option_and_then kind_at r) (walk_more bytes i q less is) ∙ none_at)
       ];
     }
-
-take-nil : (n : ℕ) → take {A = ℕ} n [] ≡ []
-take-nil zero = refl
-take-nil (suc n) = refl
-
-fronts : (m n : ℕ) (xs : List ℕ) → take m xs ++ take n (drop m xs) ≡ take (m + n) xs
-fronts zero n xs = ap (λ (k : ℕ). take k xs) (sym (zero-add n))
-fronts (suc m) n [] = take-nil n ∙ sym (take-nil (suc m + n))
-fronts (suc m) n (x ∷ xs) = ap (λ (l : List ℕ). x ∷ l) (fronts m n xs) ∙ ap (λ (k : ℕ). take k (x ∷ xs)) (let e : suc (m + n) ≡ suc m + n = omega arith in e)
 
 -- the longest front is the first piece
 pub longest_first : (bytes : List ℕ) (kind : Kind) (len : ℕ) → len ≤ length bytes → IsLongest bytes kind len (length bytes) → IsFirst (named (take len bytes) kind) (take len bytes) (drop len bytes)

@@ -11,4 +11,5 @@ pub mod Loose
 -- For inside use: pieces as they are kept, and the scan for the longest.
 pub mod Spans
 pub mod Longest
+pub mod Runs
 pub mod Renumbered

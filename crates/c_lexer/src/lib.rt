@@ -2,13 +2,17 @@
 #![tactic(auto)]
 
 mod between;
+mod bytes;
 mod cut;
+mod keywords;
 mod laws;
 mod lexed;
 mod next;
 mod piece;
+mod run;
 mod state;
 mod step;
+mod within;
 
 pub use between::parts;
 pub use cut::{LexFault, lex};

@@ -20,11 +20,13 @@ LineMayStand-earlier first before now line old new fell (inr (inr part)) =
     inr (inr (Rose-earlier _ _ _ fell.err part.0, part.1))
 
 Fails-earlier : (first before now : Counts) (act : Act) (old new : Told) (status : ℕ) → NoneFell first before → Fails before now act old new status → Fails first now act old new status
-Fails-earlier first before now (Load name limit) old new status fell fails =
-    (Rose-earlier _ _ _ fell.shelf fails.0, elim fails.1 [
-      | inl five ↦ inl five
-      | inr six ↦ inr (six.0, Rose-earlier _ _ _ fell.err six.1, six.2)
-    ])
+Fails-earlier first before now (Load name limit) old new status fell fails = (
+  Rose-earlier _ _ _ fell.shelf fails.0,
+  elim fails.1 [
+    | inl five ↦ inl five
+    | inr six ↦ inr (six.0, Rose-earlier _ _ _ fell.err six.1, six.2)
+  ],
+)
 Fails-earlier first before now (Store name bytes) old new status fell fails =
     (fails.0, Rose-earlier _ _ _ fell.shelf fails.1, LineMayStand-earlier first before now _ old new fell fails.2)
 Fails-earlier first before now (Print bytes) old new status fell fails =

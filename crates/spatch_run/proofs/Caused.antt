@@ -79,8 +79,8 @@ whole_outcome : (words : List (List ℕ)) (before now : Counts) (old new : Told)
 whole_outcome words before now old new status all = elim all.are.begins [
   | inl asks ↦ read_outcome words before now old new asks.0 asks.1.0 all.acts all.are.last status asks.1.1.0 (rw asks.1.1.1 at all.are.path) all.are.over all.told
   | inr unasked ↦
-    let end = ended old new all.are.first (Report usage ∷ []) 1 all.acts all.are.last status unasked.1 all.are.path all.are.over all.told in
-    Unasked end.0 unasked.0 end.1
+      let end = ended old new all.are.first (Report usage ∷ []) 1 all.acts all.are.last status unasked.1 all.are.path all.are.over all.told in
+      Unasked end.0 unasked.0 end.1
 ]
 
 -- a run that only has acts at hand is over after them

@@ -17,15 +17,24 @@ module _ {words : List (List ℕ)} {before now : Counts} {old new : Told} {statu
           are = record { first = follows.0; last = rest.stage; begins = follows.1.0; path = rest.goes.path; over = whole.0 };
           told = whole.1 ∙ rest.goes.told;
         })
-        | inr cut ↦ inr (rest.mid, (cut.0, (record {
-          first = follows.0;
-          acts = rest.goes.acts;
-          stage = rest.stage;
-          begins = follows.1.0;
-          path = rest.goes.path;
-          told = rest.goes.told;
-          is_next = cut.1.0;
-        }, cut.1.1)))
+        | inr cut ↦ inr (
+          rest.mid,
+          (
+            cut.0,
+            (
+              record {
+                first = follows.0;
+                acts = rest.goes.acts;
+                stage = rest.stage;
+                begins = follows.1.0;
+                path = rest.goes.path;
+                told = rest.goes.told;
+                is_next = cut.1.0;
+              },
+              cut.1.1,
+            ),
+          ),
+        )
       ]
 
   -- where no count rises, all acts are done, or memory ran out

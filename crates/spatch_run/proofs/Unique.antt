@@ -4,7 +4,7 @@ use Rattle.std.specs.Prelude.{IsSome, codes}
 use Rattle.outer_io.specs.Files.{Files, stored}
 use Rattle.run_acts.specs.Acts.{Act, Load, Store, Print, Report, Told, done}
 use Rattle.run_acts.specs.Loaded.{Found}
-use Rattle.small_rule.proofs.OneAnswer.{one_call, one_text}
+use Rattle.small_rule.proofs.Once.{call_once, text_once}
 use Rattle.spatch_run.specs.Commands.{IsCommand}
 use Rattle.spatch_run.specs.Readings.{PatchGives, PatchRefused, FileGives, FileRefused}
 use Rattle.spatch_run.specs.Stages.{Work, Stage, Doing, Ending, ReadPatch, EditFile, refusing, printing, Begins, PatchLeads, FileLeads, next_act, status_at, Leads}
@@ -62,7 +62,7 @@ PatchLeads-one (Some bytes) patch file a b (inl one) (inl two) =
 PatchLeads-one (Some bytes) patch file a b (inl one) (inr two) = absurd (PatchRefused-not bytes patch one.0 two.0 one.1.0 two.1.0)
 PatchLeads-one (Some bytes) patch file a b (inr one) (inl two) = absurd (PatchRefused-not bytes patch two.0 one.0 two.1.0 one.1.0)
 PatchLeads-one (Some bytes) patch file a b (inr one) (inr two) =
-    one.1.1 ∙ ap (λ (c : List (List ℕ)). Doing [] (EditFile c file)) (one_call bytes one.0 two.0 one.1.0.1 two.1.0.1) ∙ sym two.1.1
+    one.1.1 ∙ ap (λ (c : List (List ℕ)). Doing [] (EditFile c file)) (call_once bytes one.0 two.0 one.1.0.1 two.1.0.1) ∙ sym two.1.1
 
 FileLeads-one : (under : Option (List ℕ)) (call : List (List ℕ)) (file : List ℕ) (a b : Stage) → FileLeads under call file a → FileLeads under call file b → a ≡ b
 FileLeads-one None call file a b one two = one ∙ sym two
@@ -71,7 +71,7 @@ FileLeads-one (Some bytes) call file a b (inl one) (inl two) =
 FileLeads-one (Some bytes) call file a b (inl one) (inr two) = absurd (FileRefused-not call bytes file one.0 two.0 one.1.0 two.1.0)
 FileLeads-one (Some bytes) call file a b (inr one) (inl two) = absurd (FileRefused-not call bytes file two.0 one.0 two.1.0 one.1.0)
 FileLeads-one (Some bytes) call file a b (inr one) (inr two) =
-    one.1.1 ∙ ap (λ (t : List ℕ). Ending (printing t) 0) (one_text call bytes one.0 two.0 one.1.0.1 two.1.0.1) ∙ sym two.1.1
+    one.1.1 ∙ ap (λ (t : List ℕ). Ending (printing t) 0) (text_once call bytes one.0 two.0 one.1.0.1 two.1.0.1) ∙ sym two.1.1
 
 Leads-one : (holds : Option Files) → IsSome holds → (from a b : Stage) → Leads holds from a → Leads holds from b → a ≡ b
 Leads-one holds some (Doing (act ∷ acts) work) a b one two = one ∙ sym two

@@ -21,5 +21,4 @@ pub fn acts_are_one_list()
     // The status is 0 exactly where no line is reported.
     ensures silent { (words : List (List ℕ)) (old : Told) (acts : List Act) (status : ℕ) →
         AreActs words old acts status → ((status ≡ 0) ↔ ReportNothing acts) }
-{
-}
+{}

@@ -23,8 +23,8 @@ mod tests;
 mod words;
 
 use c_terms::Text;
-use outer_io::{Shelf, Sink};
 pub use law::acts_are_one_list;
+use outer_io::{Shelf, Sink};
 use stages::{follow_words, status_of};
 
 /// Does what the words ask for, and answers the status.

@@ -11,7 +11,8 @@ use Rattle.spatch_run.proofs.stages.apply_patch.Goals as goal
 pub read_patch-requires : goal.read_patch-requires
 read_patch-requires g c =
     let found = rw c.in-Bytes.is at c.in_ok-bytes.ensures.loaded in
-    rw c.deref.ensures.value found.1.1.1
+    let short : length c.deref.result.now ≤ 1048576 = rw c.deref.ensures.value found.1.1.1 in
+    omega arith
 
 pub returns-in_err-bytes : goal.returns-in_err-bytes
 returns-in_err-bytes g c = record {

@@ -1,0 +1,10 @@
+pub mod Runs
+pub mod Offsets
+pub mod Meant
+pub mod StatementRests
+pub mod FileRests
+pub mod CallReads
+pub mod Matching
+pub mod FileReads
+pub mod FileTexts
+pub mod Once

@@ -1,0 +1,55 @@
+//! Removes one call statement from C files that are made of call statements: the first whole way from bytes to bytes.
+//!
+//! - [`read_patch`] reads a patch whose one line removes a call statement. It answers the [`Call`].
+//! - [`remove_calls`] gives a file's text without each statement that is that call.
+//! - [`patch_has_one_call`] and [`file_becomes_one_text`] are laws: their contracts say that neither answer leaves a
+//!   choice.
+//!
+//! The patch `@@`, newline, `@@`, newline, `- g(a);` takes from `void f(void) { g(a); h(); }` the four tokens and the
+//! semicolon of `g(a);`. The blanks stay: `void f(void) {  h(); }`.
+//!
+//! Two calls are one if the texts of their tokens are: `g( a );` is `g(a);`, and `g(a, a);` is another.
+//!
+//! A patch or a file of any other form is answered by `None`, comments and preprocessor lines among them. Both calls
+//! take up to 16,777,216 bytes, are linear, and have no recursion: a file may have a million functions, and a call a
+//! million arguments. Which bytes make a token is for c_lexer, and how a call is refused for the caller.
+#![tactic(auto)]
+
+mod draft;
+mod file;
+mod laws;
+mod patch;
+mod pieces;
+mod place;
+mod scan;
+mod sign;
+
+pub use file::remove_calls;
+pub use laws::{file_becomes_one_text, patch_has_one_call};
+pub use patch::{Call, read_patch};
+
+#[cfg(test)]
+mod tests {
+    use crate::{read_patch, remove_calls};
+    use std::test::Fail;
+
+    #[test]
+    fn a_call_is_removed_and_its_blanks_stay(rt: HostRuntime) -> Result<(), Fail> {
+        let call = read_patch(rt.alloc(), b"@@\n@@\n- g(a);\n")?.ok_or("no small patch")?;
+        let file = b"void f(void)\n{\n\tg(a);\n\th();\n}\n";
+        let text = remove_calls(rt.alloc(), &call, file)?.ok_or("no small file")?;
+        assert_eq!(rt;
+            text.as_slice(),
+            b"void f(void)\n{\n\t\n\th();\n}\n".as_slice()
+        );
+        Ok(())
+    }
+
+    #[test]
+    fn other_forms_are_refused(rt: HostRuntime) -> Result<(), Fail> {
+        assert!(rt; read_patch(rt.alloc(), b"@@\n@@\n+ g(a);\n")?.is_none());
+        let call = read_patch(rt.alloc(), b"@@\n@@\n- g(a);\n")?.ok_or("no small patch")?;
+        assert!(rt; remove_calls(rt.alloc(), &call, b"int x;\n")?.is_none());
+        Ok(())
+    }
+}

@@ -16,3 +16,4 @@ pub mod Shaped
 pub mod Once
 pub mod Apart
 pub mod Runs
+pub mod Exists

@@ -68,3 +68,13 @@ text_of-whole bytes pieces tiled = text_of-text_pieces bytes 0 pieces tiled
 pub piece_at : (bytes : List ℕ) (pieces : List Piece) (i : ℕ) (p : Piece) → Tile 0 pieces (length bytes) → i < length pieces → p ≡ get_or pieces i p → slice_get (text_pieces bytes pieces) i ≡ Some (record { kind = p.kind; text = slice_range (text_of (text_pieces bytes pieces)) p.start p.end })
 piece_at bytes pieces i p tiled less is =
     rw (text_of-whole bytes pieces tiled) (slice_get-map (text_piece bytes) pieces i ∙ ap (option_map (text_piece bytes)) (slice_get_read pieces (length pieces) i p refl less is))
+
+-- there are no more spans than bytes
+pub Tile-length : (from : ℕ) (pieces : List Piece) (to : ℕ) → Tile from pieces to → from + length pieces ≤ to
+Tile-length from [] to tiled = omega (arith, tiled)
+Tile-length from (p ∷ pieces) to tiled = omega (arith, tiled.0, tiled.1.0, Tile-length p.end pieces to tiled.1.1)
+
+pub span_within : (from : ℕ) (pieces : List Piece) (to i : ℕ) (p : Piece) → Tile from pieces to → i < length pieces → p ≡ get_or pieces i p → (p.start < p.end) × (p.end ≤ to)
+span_within from [] to i p tiled less is = absurd (omega arith)
+span_within from (q ∷ pieces) to zero p tiled less is = rw is (tiled.1.0, Tile-le q.end pieces to tiled.1.1)
+span_within from (q ∷ pieces) to (suc i) p tiled less is = span_within q.end pieces to i p tiled.1.1 (omega arith) is

@@ -1,5 +1,5 @@
 -- Pieces as they are kept: spans of one text, which stand end to end.
-use Rattle.std.specs.Prelude.{ℕ, ◌≡◌, ◌<◌, List, [], ◌∷◌, drop, map, slice_range, IsSomeAnd}
+use Rattle.std.specs.Prelude.{ℕ, ◌≡◌, ◌<◌, ◌≤◌, List, [], ◌∷◌, length, drop, map, slice_range, IsSomeAnd}
 use Rattle.c_lexer.specs.declared.piece.Piece.{Piece}
 use Rattle.c_lexer.specs.First.{IsFirst}
 use Rattle.c_lexer.specs.Pieces.{TextPiece, kind_of_piece}
@@ -17,6 +17,11 @@ text_pieces bytes pieces = map (text_piece bytes) pieces
 abbrev pub Tile : ℕ → List Piece → ℕ → Type 0
 Tile from [] to = from ≡ to
 Tile from (p ∷ pieces) to = (p.start ≡ from) × ((p.start < p.end) × Tile p.end pieces to)
+
+-- spans of a whole text, which is within the limit
+pub record AreSpans (bytes : List ℕ) (pieces : List Piece) : Type 0 where
+  pub tiled : Tile 0 pieces (length bytes)
+  pub short : length bytes ≤ 16777216
 
 -- each span is the first piece of what is left, and the ids count on from one number to another
 abbrev pub CutsTo : List ℕ → ℕ → List Piece → ℕ → Type 0

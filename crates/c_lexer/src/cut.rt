@@ -5,7 +5,7 @@ ghost use Rattle.c_lexer.specs.Lexes.{Lexes, HasId, id_after};
 ghost use Rattle.c_lexer.specs.declared.cut.LexFault.TheVariants.{NoMemory};
 
 use crate::lexed::Lexed;
-use crate::next::next_piece;
+use crate::next::first_piece;
 use crate::piece::{Piece, PieceKind};
 use crate::state::Kind;
 use c_terms::TokenKind;
@@ -47,11 +47,11 @@ pub fn lex(alloc: Global, bytes: &[u8]) -> Result<Lexed, LexFault>
     if bytes.len() > MAX_LEN {
         return Err(LexFault::TooLong);
     }
-    let mut pieces = Vec::new(alloc);
+    let mut pieces = Vec::with_capacity(alloc, bytes.len() / 3)?;
     let mut start = 0;
     let mut id = 0;
     while start < bytes.len() {
-        let (shape, len) = next_piece(&bytes[start..]);
+        let (shape, len) = first_piece(&bytes[start..]);
         let kind = piece_kind(shape, id);
         let end = start + len;
         pieces.push(Piece {
@@ -62,6 +62,7 @@ pub fn lex(alloc: Global, bytes: &[u8]) -> Result<Lexed, LexFault>
         id = id_after(kind, id);
         start = end;
     }
+    pieces.shrink_to_fit();
     let bytes = Vec::from_slice(alloc, bytes)?;
     Ok(Lexed { bytes, pieces })
 }

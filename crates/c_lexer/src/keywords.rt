@@ -45,7 +45,10 @@ fn is_in_b(text: &[u8]) -> bool
 fn is_in_c(text: &[u8]) -> bool
     ensures { result ≡ is_in (codes "case" ∷ codes "char" ∷ codes "const" ∷ codes "continue" ∷ []) text.now }
 {
-    text == b"case".as_slice() || text == b"char".as_slice() || text == b"const".as_slice() || text == b"continue".as_slice()
+    text == b"case".as_slice()
+        || text == b"char".as_slice()
+        || text == b"const".as_slice()
+        || text == b"continue".as_slice()
 }
 
 fn is_in_d(text: &[u8]) -> bool
@@ -93,7 +96,12 @@ fn is_in_r(text: &[u8]) -> bool
 fn is_in_s(text: &[u8]) -> bool
     ensures { result ≡ is_in (codes "short" ∷ codes "signed" ∷ codes "sizeof" ∷ codes "static" ∷ codes "struct" ∷ codes "switch" ∷ []) text.now }
 {
-    text == b"short".as_slice() || text == b"signed".as_slice() || text == b"sizeof".as_slice() || text == b"static".as_slice() || text == b"struct".as_slice() || text == b"switch".as_slice()
+    text == b"short".as_slice()
+        || text == b"signed".as_slice()
+        || text == b"sizeof".as_slice()
+        || text == b"static".as_slice()
+        || text == b"struct".as_slice()
+        || text == b"switch".as_slice()
 }
 
 fn is_in_t(text: &[u8]) -> bool
@@ -123,5 +131,16 @@ fn is_in_w(text: &[u8]) -> bool
 fn is_in_line(text: &[u8]) -> bool
     ensures { result ≡ is_in (codes "_Alignas" ∷ codes "_Alignof" ∷ codes "_Atomic" ∷ codes "_Bool" ∷ codes "_Complex" ∷ codes "_Generic" ∷ codes "_Imaginary" ∷ codes "_Noreturn" ∷ codes "_Static_assert" ∷ codes "_Thread_local" ∷ codes "__asm" ∷ codes "__asm__" ∷ []) text.now }
 {
-    text == b"_Alignas".as_slice() || text == b"_Alignof".as_slice() || text == b"_Atomic".as_slice() || text == b"_Bool".as_slice() || text == b"_Complex".as_slice() || text == b"_Generic".as_slice() || text == b"_Imaginary".as_slice() || text == b"_Noreturn".as_slice() || text == b"_Static_assert".as_slice() || text == b"_Thread_local".as_slice() || text == b"__asm".as_slice() || text == b"__asm__".as_slice()
+    text == b"_Alignas".as_slice()
+        || text == b"_Alignof".as_slice()
+        || text == b"_Atomic".as_slice()
+        || text == b"_Bool".as_slice()
+        || text == b"_Complex".as_slice()
+        || text == b"_Generic".as_slice()
+        || text == b"_Imaginary".as_slice()
+        || text == b"_Noreturn".as_slice()
+        || text == b"_Static_assert".as_slice()
+        || text == b"_Thread_local".as_slice()
+        || text == b"__asm".as_slice()
+        || text == b"__asm__".as_slice()
 }

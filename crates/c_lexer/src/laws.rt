@@ -11,6 +11,11 @@ ghost use Rattle.c_lexer.specs.Parts.{RunTogether};
 ghost use Rattle.c_lexer.specs.Beside.{is_plain};
 ghost use Rattle.c_lexer.specs.Loose.{Loose, join_blanks};
 
+/// Every text has pieces, whatever its bytes.
+pub fn every_text_is_cut()
+    ensures pieces { (bytes : List ℕ) → (pieces : List TextPiece) × Lexes bytes pieces }
+{}
+
 /// A text is cut in one way: pieces of the same bytes are equal but for ids, and equal where the ids count from 0.
 pub fn cut_once()
     ensures but_ids { (left right : List TextPiece) → Cuts left → Cuts right → text_of left ≡ text_of right → without_ids left ≡ without_ids right }

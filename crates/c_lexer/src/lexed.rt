@@ -1,5 +1,5 @@
 // A text with its pieces.
-ghost use Rattle.std.specs.Prelude.{◌≡◌, ◌<◌, ◌+◌, Some, length, take, slice_range, slice_get};
+ghost use Rattle.std.specs.Prelude.{◌≡◌, ◌<◌, ◌≤◌, ◌+◌, Some, length, take, slice_range, slice_get};
 ghost use Rattle.c_lexer.specs.Pieces.{text_of};
 ghost use Rattle.c_lexer.specs.Ids.{ids_of, without_ids};
 
@@ -14,21 +14,22 @@ pub struct Lexed {
 }
 
 impl Model for Lexed {
-    ghost use Rattle.std.specs.Prelude.{List, ◌≤◌, length};
+    ghost use Rattle.std.specs.Prelude.{List};
     ghost use Rattle.c_lexer.specs.Pieces.{TextPiece};
-    ghost use Rattle.c_lexer.specs.Spans.{Tile, text_pieces};
+    ghost use Rattle.c_lexer.specs.Spans.{AreSpans, text_pieces};
 
     ghost Value = { List TextPiece };
 
     ghost view = { λ l. text_pieces l.bytes.items l.pieces.items };
 
-    ghost invariant = { λ l. Tile 0 l.pieces.items (length l.bytes.items) };
+    ghost invariant = { λ l. AreSpans l.bytes.items l.pieces.items };
 }
 
 impl Lexed {
     /// The text.
     pub fn bytes(&self) -> &[u8]
         ensures bytes { result.now ≡ text_of self.now }
+        ensures short { length result.now ≤ 16777216 }
     {
         self.bytes.as_slice()
     }
@@ -36,6 +37,7 @@ impl Lexed {
     /// The number of pieces.
     pub fn count(&self) -> usize
         ensures count { result ≡ length self.now }
+        ensures at_most { result ≤ 16777216 }
     {
         self.pieces.len()
     }
@@ -45,6 +47,8 @@ impl Lexed {
         requires { i < length self.now }
         ensures start { result.start ≡ length (text_of (take i self.now)) }
         ensures end { result.end ≡ length (text_of (take (i + 1) self.now)) }
+        ensures some { result.start < result.end }
+        ensures within { result.end ≤ length (text_of self.now) }
         ensures piece { slice_get self.now i ≡ Some (record { kind = result.kind; text = slice_range (text_of self.now) result.start result.end }) }
     {
         self.pieces[i]

@@ -29,7 +29,7 @@ invariant_of-result c =
     let l = c.self.inside in
     let inv = c.loop-i.invariant in
     let is = all_done l.pieces.items c.loop-i.pieces.items c.args.ids.now (drop c.loop-i.next c.args.ids.now) c.loop-i.i (omega (arith, inv.end, c.loop-i-test.false)) inv.done in
-    subst (λ (pieces : List Piece). Tile 0 pieces (length l.bytes.items)) (sym is) (Tile-renumbered 0 l.pieces.items c.args.ids.now _ c.self.invariant)
+    record { tiled = subst (λ (pieces : List Piece). Tile 0 pieces (length l.bytes.items)) (sym is) (Tile-renumbered 0 l.pieces.items c.args.ids.now _ c.self.invariant.tiled); short = c.self.invariant.short }
 
 pub returns-clause-ids : goal.returns-clause-ids
 returns-clause-ids c =

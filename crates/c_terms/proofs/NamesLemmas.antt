@@ -1,13 +1,14 @@
 -- Names in a set of byte lists.
-use Rattle.std.proofs.Common.{◌≡◌, ◌↔◌, ℕ, ◌+◌, ◌<◌, true, false, ◌&&◌, cond, eqb, refl, sym, ap, ◌∙◌, List, [], ◌∷◌, ◌++◌, map, length, get_or, take, fold, nat_eq}
+use Rattle.std.proofs.Common.{◌≡◌, ◌↔◌, ℕ, ◌+◌, ◌<◌, true, false, ◌&&◌, cond, eqb, refl, sym, ap, ◌∙◌, List, [], ◌∷◌, ◌++◌, map, length, get_or, take, fold, nat_eq, Bool}
 use Rattle.std.specs.Prelude.{Contains}
 use Rattle.std.proofs.lemmas.List.Sums.{fold_more}
-use Rattle.std.specs.List.{list_any}
+use Rattle.std.specs.List.{list_any, IsDistinct}
+use Rattle.std.proofs.lemmas.Map.Keys.{IsDistinct-push}
 use Rattle.std.specs.Cmp.{IsEquivalence}
 use Rattle.std.specs.Cmp.Lexicographic.{pointwise}
 use Rattle.std.proofs.lemmas.Map.Views.{Contains-from_any, list_any-from_Contains}
 use Rattle.c_terms.specs.Same.{same_bytes}
-use Rattle.c_terms.specs.Names.{has_name, with_name}
+use Rattle.c_terms.specs.Names.{has_name, with_name, listed_names}
 use Rattle.c_terms.proofs.SameLaws.{bytes-refl, bytes-sym, bytes-along}
 use Rattle.c_terms.proofs.BareLaws.{same_bytes-equal}
 
@@ -43,3 +44,24 @@ pub added-more : (all names new : List (List ℕ)) (i : ℕ) (name text : List �
     → name ≡ get_or all i [] → text ≡ name → new ≡ with_name names text → new ≡ fold with_name [] (take (i + 1) all)
 added-more all names new i name text lt e f g h =
     h ∙ ap (with_name names) (g ∙ f) ∙ ap (λ ns. with_name ns (get_or all i [])) e ∙ sym (fold_more with_name [] all i [] lt)
+
+abbrev Distinct : List (List ℕ) → Type 0
+Distinct = IsDistinct same_bytes
+
+pub distinct-added : (names : List (List ℕ)) (name : List ℕ) → Distinct names → Distinct (with_name names name)
+distinct-added names name d = by (has_name names name) refl
+  where
+    by : (b : Bool) → has_name names name ≡ b → Distinct (cond b names (names ++ name ∷ []))
+    by true h = d
+    by false h = IsDistinct-push bytes-equivalence names name d h
+
+distinct-all : (names more : List (List ℕ)) → Distinct names → Distinct (fold with_name names more)
+distinct-all names [] d = d
+distinct-all names (name ∷ more) d = distinct-all (with_name names name) more (distinct-added names name d)
+
+distinct-none : Distinct []
+unfolding IsDistinct
+distinct-none = tt
+
+pub listed-distinct : Distinct listed_names
+listed-distinct = distinct-all [] listed_names distinct-none

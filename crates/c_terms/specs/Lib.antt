@@ -11,3 +11,4 @@ pub mod Names
 pub mod Shapes
 pub mod Places
 pub mod Lists
+pub mod Kept

@@ -1,5 +1,6 @@
 // What holds of all terms, and no single call shows.
-ghost use Rattle.std.specs.Prelude.{◌≡◌, ◌↔◌, ◌||◌, true, IsTrue};
+ghost use Rattle.std.specs.Prelude.{◌≡◌, ◌↔◌, ◌||◌, ℕ, List, true, IsTrue};
+ghost use Rattle.std.specs.List.{IsDistinct};
 ghost use Rattle.std.specs.declared.cmp.Ordering.TheVariants.{Less, Equal};
 ghost use Rattle.std.specs.Ordering.{ordering_reverse, is_le};
 ghost use Rattle.c_terms.specs.declared.token.TokenKind.{TokenKind};
@@ -7,8 +8,9 @@ ghost use Rattle.c_terms.specs.declared.label.Label.{Label};
 ghost use Rattle.c_terms.specs.declared.tree.Tree.{Tree};
 ghost use Rattle.c_terms.specs.Numbers.{kind_number, label_number};
 ghost use Rattle.c_terms.specs.Bare.{bare};
-ghost use Rattle.c_terms.specs.Same.{same_tree};
+ghost use Rattle.c_terms.specs.Same.{same_bytes, same_tree};
 ghost use Rattle.c_terms.specs.Order.{tree_order};
+ghost use Rattle.c_terms.specs.Names.{with_name, listed_names};
 
 /// No two kinds of tokens have one number, nor have two labels.
 pub fn numbers_tell_apart()
@@ -31,4 +33,10 @@ pub fn term_order_is_total()
     ensures transitive { (t u v : Tree) → tree_order t u ≡ Less → tree_order u v ≡ Less → tree_order t v ≡ Less }
     ensures total { (t u : Tree) → IsTrue (is_le (tree_order t u) || is_le (tree_order u t)) }
     ensures same_place { (t u v : Tree) → IsTrue (same_tree t u) → tree_order t v ≡ tree_order u v }
+{}
+
+/// No name stands twice: the listed names differ, and [`Names::add`](crate::Names::add) keeps names so.
+pub fn names_stay_distinct()
+    ensures listed { IsDistinct same_bytes listed_names }
+    ensures added { (names : List (List ℕ)) (name : List ℕ) → IsDistinct same_bytes names → IsDistinct same_bytes (with_name names name) }
 {}

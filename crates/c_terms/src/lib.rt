@@ -22,7 +22,9 @@ mod token;
 mod tree;
 
 pub use label::Label;
-pub use laws::{numbers_tell_apart, same_term_is_equality, term_order_is_total};
+pub use laws::{
+    names_stay_distinct, numbers_tell_apart, same_term_is_equality, term_order_is_total,
+};
 pub use list::{Member, comma, is_comma, members_of, run_of};
 pub use names::Names;
 pub use order::{compare_tokens, term_order, text_order};
@@ -32,3 +34,6 @@ pub use shape::{Shape, is_expression_part};
 pub use text::{NoMemory, Text};
 pub use token::{MetaKind, Token, TokenKind};
 pub use tree::{Tree, TreePath, leaves};
+
+#[cfg(test)]
+mod tests;

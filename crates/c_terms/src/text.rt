@@ -1,9 +1,9 @@
 // Texts, and the want of memory.
-ghost use Rattle.std.specs.Prelude.{◌≡◌, IfOk};
+ghost use Rattle.std.specs.Prelude.{◌≡◌, ◌≤◌, length, take, IfOk};
 
-use smallvec::SmallVec;
 use std::alloc::{AllocError, AllocFailed, Global};
 use std::marker::Model;
+use std::sync::ArcSlice;
 
 /// Memory was refused.
 #[derive(Clone, Copy, Debug, PartialEq, Eq)]
@@ -21,13 +21,27 @@ impl<T: Drop> From<AllocFailed<T>> for NoMemory {
     }
 }
 
-/// Bytes that a text keeps without an allocation of its own.
-const INLINE: usize = 16;
+/// Bytes that a text keeps in itself, as most tokens do.
+const INLINE: usize = 15;
 
-/// A list of bytes, which need not be UTF-8. A short one takes no allocation.
+#[derive(Clone, Copy)]
+struct Short {
+    bytes: [u8; INLINE],
+    len: u8,
+    ghost within: { len ≤ 15 },
+}
+
+#[derive(Drop)]
+enum Kept {
+    Short(Short),
+    Long(ArcSlice<u8>),
+}
+
+/// A list of bytes, which need not be UTF-8. Up to 15 bytes stand in the value itself. A longer text
+/// is allocated once, and its copies share it.
 #[derive(Drop)]
 pub struct Text {
-    bytes: SmallVec<u8, INLINE>,
+    kept: Kept,
 }
 
 impl Model for Text {
@@ -35,7 +49,23 @@ impl Model for Text {
 
     ghost Value = { List ℕ };
 
-    ghost view = { λ t. t.bytes.items };
+    ghost use Rattle.c_terms.specs.Kept.{kept_bytes};
+
+    ghost view = { λ t. kept_bytes t.kept };
+}
+
+fn keep_inline(bytes: &[u8]) -> Short
+    requires { length bytes.now ≤ 15 }
+    ensures { take result.len result.bytes ≡ bytes.now }
+{
+    let mut kept = [0; INLINE];
+    for i in 0..bytes.len() {
+        kept[i] = bytes[i];
+    }
+    Short {
+        bytes: kept,
+        len: bytes.len() as u8,
+    }
 }
 
 impl Text {
@@ -43,21 +73,34 @@ impl Text {
     pub fn from_bytes(alloc: Global, bytes: &[u8]) -> Result<Text, NoMemory>
         ensures bytes { IfOk result (λ text. text ≡ bytes.now) }
     {
-        let bytes = SmallVec::from_slice(alloc, bytes)?;
-        Ok(Text { bytes })
+        let kept = if bytes.len() <= INLINE {
+            Kept::Short(keep_inline(bytes))
+        } else {
+            Kept::Long(ArcSlice::from_slice(alloc, bytes)?)
+        };
+        Ok(Text { kept })
     }
 
     /// The bytes. Takes no memory.
+    #[inline]
     pub fn as_bytes(&self) -> &[u8]
         ensures bytes { result.now ≡ self.now }
     {
-        self.bytes.as_slice()
+        match &self.kept {
+            Kept::Short(short) => &short.bytes[..short.len as usize],
+            Kept::Long(shared) => shared.as_slice(),
+        }
     }
 
-    /// An equal text. Linear.
-    pub fn copy(&self, alloc: Global) -> Result<Text, NoMemory>
+    /// An equal text. Takes no memory of its own, and the same time at any length.
+    #[inline]
+    pub fn copy(&self, _alloc: Global) -> Result<Text, NoMemory>
         ensures same { IfOk result (λ text. text ≡ self.now) }
     {
-        Text::from_bytes(alloc, self.as_bytes())
+        let kept = match &self.kept {
+            Kept::Short(short) => Kept::Short(*short),
+            Kept::Long(shared) => Kept::Long(shared.clone()?),
+        };
+        Ok(Text { kept })
     }
 }

@@ -102,6 +102,7 @@ impl TokenKind {
 
 impl Token {
     /// An equal token, the id included. Linear in its text.
+    #[inline]
     pub fn copy(&self, alloc: Global) -> Result<Token, NoMemory>
         ensures same { IfOk result (λ token. token ≡ self.now) }
     {

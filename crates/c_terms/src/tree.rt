@@ -22,11 +22,11 @@ impl Tree {
         match self {
             Tree::Leaf(token) => Ok(Tree::Leaf(token.copy(alloc)?)),
             Tree::Branch(label, children) => {
-                let mut copies = Items::new(alloc);
+                let mut copies = Vec::with_capacity(alloc, children.len())?;
                 for child in children.as_slice() {
-                    copies.push(child.copy(alloc)?)?;
+                    copies.push_reserved(child.copy(alloc)?);
                 }
-                Ok(Tree::Branch(*label, copies))
+                Ok(Tree::Branch(*label, Items::from_vec(copies)))
             }
         }
     }

@@ -1,0 +1,155 @@
+#!/bin/sh
+# What trees cost: the processor times to make, read, copy, compare, order and drop a tree of a million tokens.
+# Usage: bench/terms.sh [bytes of a text]. Builds a program beside a copy of c_terms, outside the repository.
+set -eu
+top=$(cd "$(dirname "$0")/.." && pwd)
+work=$(mktemp -d)
+trap 'rm -rf "$work"' EXIT
+mkdir -p "$work/crates/terms_bench/src"
+cp -r "$top/crates/c_terms" "$work/crates/c_terms"
+rm -rf "$work/crates/c_terms/out"
+{ grep '^c_terms:' "$top/crates.txt"; echo 'terms_bench: c_terms sqlite_items anyhow'; } >"$work/crates.txt"
+cat >"$work/crates/terms_bench/src/main.rt" <<'EOF'
+#![tactic(auto)]
+
+use anyhow::{Result, ensure};
+use c_terms::{Label, Text, Token, TokenKind, Tree, leaves, same_term, term_order};
+use sqlite_items::Items;
+use std::alloc::Global;
+use std::cmp::Ordering;
+use std::env;
+use std::time::{CpuClock, Duration};
+
+const SENTENCES: u64 = 10000;
+const WORDS: u64 = 100;
+
+fn word(alloc: Global, id: u64, len: usize) -> Result<Tree> {
+    let mut bytes: Vec<u8> = Vec::new(alloc);
+    let mut rest = id;
+    for _ in 0..len {
+        bytes.push(b'a' + (rest % 26) as u8)?;
+        rest /= 7;
+    }
+    let Ok(text) = Text::from_bytes(alloc, bytes.as_slice()) else {
+        anyhow::bail!("no memory");
+    };
+    Ok(Tree::Leaf(Token {
+        kind: TokenKind::Name,
+        text,
+        id,
+    }))
+}
+
+fn sentence(alloc: Global, from: u64, len: usize) -> Result<Tree> {
+    let mut words = Items::new(alloc);
+    for i in 0..WORDS {
+        words.push(word(alloc, from.wrapping_add(i), len)?)?;
+    }
+    Ok(Tree::Branch(Label::Args, words))
+}
+
+fn book(alloc: Global, len: usize) -> Result<Tree> {
+    let mut all = Items::new(alloc);
+    for i in 0..SENTENCES {
+        all.push(sentence(alloc, i.wrapping_mul(WORDS), len)?)?;
+    }
+    Ok(Tree::Branch(Label::StmtList, all))
+}
+
+fn text_length(rt: &HostRuntime) -> Result<usize> {
+    let mut len = 6usize;
+    for word in env::args(rt)? {
+        if let Ok(n) = word.as_str().parse::<usize>() {
+            len = n.min(64);
+        }
+    }
+    Ok(len)
+}
+
+fn now(rt: &HostRuntime) -> Result<Duration> {
+    Ok(rt.process_cpu_time()?)
+}
+
+fn millis(rt: &HostRuntime, start: Duration) -> Result<u128> {
+    Ok(now(rt)?.saturating_sub(start).as_millis())
+}
+
+fn time_make(rt: &HostRuntime, len: usize) -> Result<Tree> {
+    let start = now(rt)?;
+    let tree = book(rt.alloc(), len)?;
+    let took = millis(rt, start)?;
+    println!(rt; "make {took} ms")?;
+    Ok(tree)
+}
+
+fn time_copy(rt: &HostRuntime, tree: &Tree) -> Result<Tree> {
+    let start = now(rt)?;
+    let Ok(other) = tree.copy(rt.alloc()) else {
+        anyhow::bail!("no memory");
+    };
+    let took = millis(rt, start)?;
+    println!(rt; "copy {took} ms")?;
+    Ok(other)
+}
+
+fn time_same(rt: &HostRuntime, tree: &Tree, other: &Tree) -> Result<()> {
+    let start = now(rt)?;
+    let same = same_term(tree, other);
+    let took = millis(rt, start)?;
+    ensure!(same, "not the same");
+    println!(rt; "compare {took} ms")?;
+    Ok(())
+}
+
+fn time_order(rt: &HostRuntime, tree: &Tree, other: &Tree) -> Result<()> {
+    let start = now(rt)?;
+    let order = term_order(tree, other);
+    let took = millis(rt, start)?;
+    ensure!(order == Ordering::Equal, "not in order");
+    println!(rt; "order {took} ms")?;
+    Ok(())
+}
+
+fn time_leaves(rt: &HostRuntime, tree: &Tree) -> Result<()> {
+    let start = now(rt)?;
+    let Ok(tokens) = leaves(rt.alloc(), tree) else {
+        anyhow::bail!("no memory");
+    };
+    let took = millis(rt, start)?;
+    let count = tokens.len();
+    println!(rt; "leaves {took} ms, {count} tokens")?;
+    Ok(())
+}
+
+fn time_drop(rt: &HostRuntime, tree: Tree) -> Result<()> {
+    let start = now(rt)?;
+    drop(tree);
+    let took = millis(rt, start)?;
+    println!(rt; "drop {took} ms")?;
+    Ok(())
+}
+
+fn say_sizes(rt: &HostRuntime, len: usize) -> Result<()> {
+    let token = std::mem::size_of::<Token>();
+    let node = std::mem::size_of::<Tree>();
+    println!(rt; "a token {token} bytes, a tree node {node} bytes, texts of {len}")?;
+    Ok(())
+}
+
+fn main(rt: HostRuntime) -> Result<()> {
+    let len = text_length(&rt)?;
+    say_sizes(&rt, len)?;
+    let tree = time_make(&rt, len)?;
+    let other = time_copy(&rt, &tree)?;
+    time_same(&rt, &tree, &other)?;
+    time_order(&rt, &tree, &other)?;
+    time_leaves(&rt, &tree)?;
+    time_drop(&rt, other)
+}
+EOF
+cd "$work/crates/terms_bench"
+rt run -- "$@"
+# the same program twice more, and how much memory it takes
+for again in 1 2; do
+    /usr/bin/time -f '%M KB at most' out/terms_bench "$@"
+done

@@ -5,10 +5,11 @@ Usage: bench/first_path.py [PROGRAM]
 
 PROGRAM is the program as LLVM builds it; without it the one in crates/spatch/out is taken, which `./spatch` builds.
 The file, the patch and what is printed are made in a temporary folder. Beside the program, `sed` (which deletes the
-lines of the call) and `cat` run on the same file. For each the best of five runs counts.
+call) and `cat` run on the same file. For each the best of five runs counts.
 
-Printed: MB/s (1 MB is 1,000,000 bytes), peak memory, and for the program its peak beside the text, a piece. Pieces are
-counted here, by a regular expression and not by the program. What the program prints is compared with what `sed` leaves.
+Printed: MB of text a second of processor time (1 MB is 1,000,000 bytes), peak memory, and for the program its peak beside
+the text, a piece. Pieces are counted here, by a regular expression and not by the program. What the program prints is
+compared with what `sed` leaves.
 """
 import os
 import random
@@ -16,7 +17,6 @@ import re
 import subprocess
 import sys
 import tempfile
-import time
 
 SIZE = 16_000_000
 NAMES = ["lock", "unlock", "get_page", "put_page", "of_node_put", "kfree", "mutex_lock", "dev_set_name", "schedule"]
@@ -45,19 +45,28 @@ def functions(size):
     return "".join(parts)
 
 
+# Run in a process of its own, so that what this script holds doesn't count as the command's peak.
+MEASURE = """
+import os, subprocess, sys
+with open("printed", "wb") as printed:
+    process = subprocess.Popen(sys.argv[1:], stdout=printed)
+    _, status, usage = os.wait4(process.pid, 0)
+print(os.waitstatus_to_exitcode(status), usage.ru_utime + usage.ru_stime, usage.ru_maxrss * 1024)
+"""
+
+
 def run(command, folder):
-    """The best time of five runs, in seconds, and the greatest peak memory, in bytes."""
+    """The best processor time of five runs, in seconds, and the greatest peak memory, in bytes."""
     best, peak = None, 0
     for _ in range(5):
-        with open(os.path.join(folder, "printed"), "wb") as printed:
-            begin = time.perf_counter()
-            process = subprocess.Popen(command, cwd=folder, stdout=printed)
-            _, status, usage = os.wait4(process.pid, 0)
-            seconds = time.perf_counter() - begin
-        if os.waitstatus_to_exitcode(status) != 0:
-            sys.exit(f"{command[0]} ended with status {os.waitstatus_to_exitcode(status)}")
-        best = seconds if best is None else min(best, seconds)
-        peak = max(peak, usage.ru_maxrss * 1024)
+        measured = subprocess.run(
+            [sys.executable, "-c", MEASURE, *command], cwd=folder, capture_output=True, text=True, check=True
+        )
+        status, seconds, bytes_at_peak = measured.stdout.split()
+        if status != "0":
+            sys.exit(f"{command[0]} ended with status {status}")
+        best = float(seconds) if best is None else min(best, float(seconds))
+        peak = max(peak, int(bytes_at_peak))
     return best, peak
 
 
@@ -76,7 +85,7 @@ def main():
         print(f"file: {len(text)} bytes, {pieces} pieces")
         rows = [
             ("spatch", [os.path.abspath(program), "--sp-file", "patch.cocci", "big.c"]),
-            ("sed", ["sed", "s/" + re.escape(REMOVED).replace("/", "\\/") + "//", "big.c"]),
+            ("sed", ["sed", f"s/{REMOVED}//", "big.c"]),
             ("cat", ["cat", "big.c"]),
         ]
         printed = {}

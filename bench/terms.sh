@@ -1,6 +1,7 @@
 #!/bin/sh
 # What trees cost: the processor times to make, read, copy, compare, order and drop a tree of a million tokens.
-# Usage: bench/terms.sh [bytes of a text]. Builds a program beside a copy of c_terms, outside the repository.
+# Then the least stack, in KB, that serves trees of a thousand levels.
+# Usage: bench/terms.sh [bytes of a text, 6 where none is given]. Builds a program beside a copy of c_terms, outside the repository.
 set -eu
 top=$(cd "$(dirname "$0")/.." && pwd)
 work=$(mktemp -d)
@@ -13,7 +14,7 @@ cat >"$work/crates/terms_bench/src/main.rt" <<'EOF'
 #![tactic(auto)]
 
 use anyhow::{Result, ensure};
-use c_terms::{Label, Text, Token, TokenKind, Tree, leaves, same_term, term_order};
+use c_terms::{Label, Text, Token, TokenKind, Tree, first_leaf, leaves, same_term, term_order};
 use sqlite_items::Items;
 use std::alloc::Global;
 use std::cmp::Ordering;
@@ -56,14 +57,40 @@ fn book(alloc: Global, len: usize) -> Result<Tree> {
     Ok(Tree::Branch(Label::StmtList, all))
 }
 
-fn text_length(rt: &HostRuntime) -> Result<usize> {
-    let mut len = 6usize;
+fn number_given(rt: &HostRuntime) -> Result<usize> {
+    let mut number = 6usize;
     for word in env::args(rt)? {
         if let Ok(n) = word.as_str().parse::<usize>() {
-            len = n.min(64);
+            number = n;
         }
     }
-    Ok(len)
+    Ok(number)
+}
+
+fn nested(alloc: Global, levels: usize) -> Result<Tree> {
+    let mut tree = word(alloc, 0, 1)?;
+    for _ in 0..levels {
+        let mut inside = Items::new(alloc);
+        inside.push(tree)?;
+        tree = Tree::Branch(Label::Paren, inside);
+    }
+    Ok(tree)
+}
+
+// Each recursion at this many levels.
+fn go_deep(alloc: Global, levels: usize) -> Result<()> {
+    let tree = nested(alloc, levels)?;
+    let Ok(other) = tree.copy(alloc) else {
+        anyhow::bail!("no memory");
+    };
+    let Ok(tokens) = leaves(alloc, &other) else {
+        anyhow::bail!("no memory");
+    };
+    ensure!(tokens.len() == 1, "not one token");
+    ensure!(same_term(&tree, &other), "not the same");
+    ensure!(term_order(&tree, &other) == Ordering::Equal, "not in order");
+    ensure!(first_leaf(&tree).is_some(), "no leaf");
+    Ok(())
 }
 
 fn now(rt: &HostRuntime) -> Result<Duration> {
@@ -137,7 +164,11 @@ fn say_sizes(rt: &HostRuntime, len: usize) -> Result<()> {
 }
 
 fn main(rt: HostRuntime) -> Result<()> {
-    let len = text_length(&rt)?;
+    let number = number_given(&rt)?;
+    if number > 64 {
+        return go_deep(rt.alloc(), number);
+    }
+    let len = number;
     say_sizes(&rt, len)?;
     let tree = time_make(&rt, len)?;
     let other = time_copy(&rt, &tree)?;
@@ -152,4 +183,10 @@ rt run -- "$@"
 # the same program twice more, and how much memory it takes
 for again in 1 2; do
     /usr/bin/time -f '%M KB at most' out/terms_bench "$@"
+done
+for size in 32 48 64 96 128 160 192 256 384 512 1024 2048 4096; do
+    if (ulimit -s "$size" && out/terms_bench 1000) >/dev/null 2>&1; then
+        echo "$size KB of stack serve 1000 levels"
+        break
+    fi
 done

@@ -1,4 +1,4 @@
--- What public contracts rest on, in reading order.
+-- What public contracts rest on, in reading order: trees, when two are the same, their order, names.
 
 pub mod Trees
 pub mod Numbers
@@ -6,9 +6,11 @@ pub mod Bare
 pub mod Same
 pub mod Order
 pub mod Names
--- What the crates above share.
+-- What the crates above share: what a label is, the places in a tree, the members of a list.
 
 pub mod Shapes
 pub mod Places
 pub mod Lists
+-- For inside use: how a text keeps its bytes.
+
 pub mod Kept

@@ -29,7 +29,10 @@ comma t = comma_at (out-Tree t)
 -- the members after a comma, or at the beginning
 abbrev pub members_from : Option Token → List Tree → List Member
 members_from before [] = []
-members_from before (t ∷ ts) = elim (comma t) as (λ o. List Member) [ None ↦ record { comma = before; tree = t } ∷ members_from None ts | Some c ↦ members_from (Some c) ts ]
+members_from before (t ∷ ts) = elim (comma t) as (λ o. List Member) [
+  | None ↦ record { comma = before; tree = t } ∷ members_from None ts
+  | Some c ↦ members_from (Some c) ts
+]
 
 -- the children that are no commas, each with the comma before it: of two commas side by side the later one
 abbrev pub members : List Tree → List Member

@@ -18,10 +18,12 @@ abbrev pub order_at : Tree-F (Tree → Ordering) → Tree-F Tree → Ordering
 order_at (Tree-F.Leaf a) (Tree-F.Leaf b) = token_order a b
 order_at (Tree-F.Leaf a) (Tree-F.Branch k us) = Less
 order_at (Tree-F.Branch l fs) (Tree-F.Leaf b) = Greater
-order_at (Tree-F.Branch l fs) (Tree-F.Branch k us) = ordering_then (nat_cmp (label_number l) (label_number k)) (slice_cmp (λ f u. f u) fs us)
+order_at (Tree-F.Branch l fs) (Tree-F.Branch k us) =
+    ordering_then (nat_cmp (label_number l) (label_number k)) (slice_cmp (λ f u. f u) fs us)
 
 abbrev pub order_step : Tree-F (Tree → Ordering) → Tree → Ordering
 order_step layer u = order_at layer (out-Tree u)
 
+-- the order of terms: the layer of one tree, its children already functions that compare, against the other tree
 abbrev pub tree_order : Tree → Tree → Ordering
 tree_order = fold-Tree (Tree → Ordering) order_step

@@ -47,10 +47,13 @@ abbrev pub places : Tree → List Place
 places t = (fold-Tree Known places_step t).places
 
 module _ (test : Label → ℕ → Tree → Bool) where
+  -- child i itself, where it passes
+  abbrev pub part_at : Label → ℕ → Tree → List Place
+  part_at l i t = if test l i t then record { path = i ∷ []; tree = t } ∷ [] else []
+
   abbrev pub parts_from : Label → ℕ → List Known → List Place
   parts_from l i [] = []
-  parts_from l i (k ∷ ks) =
-      (if test l i k.tree then record { path = i ∷ []; tree = k.tree } ∷ map (below i) k.places else map (below i) k.places) ++ parts_from l (suc i) ks
+  parts_from l i (k ∷ ks) = part_at l i k.tree ++ map (below i) k.places ++ parts_from l (suc i) ks
 
   abbrev pub parts_step : Tree-F Known → Known
   parts_step (Tree-F.Leaf token) = record { tree = Leaf token; places = [] }

@@ -1,5 +1,5 @@
 -- What a tree spells, and how deep it is.
-use Rattle.std.specs.Prelude.{ℕ, ◌+◌, max, List, [], ◌∷◌, ◌++◌, map}
+use Rattle.std.specs.Prelude.{ℕ, ◌+◌, max, List, [], ◌∷◌, ◌++◌, map, length}
 use Rattle.c_terms.specs.declared.token.Token.{Token}
 use Rattle.c_terms.specs.declared.tree.Tree.{Tree}
 use Rattle.c_terms.specs.declared.tree.Tree.TheOpen.{Tree-F}
@@ -32,3 +32,11 @@ levels = fold-Tree ℕ levels_step
 
 abbrev pub levels_of_all : List Tree → ℕ
 levels_of_all ts = greatest (map levels ts)
+
+abbrev pub width_step : Tree-F ℕ → ℕ
+width_step (Tree-F.Leaf t) = 0
+width_step (Tree-F.Branch l ns) = max (length ns) (greatest ns)
+
+-- the most children of any branch
+abbrev pub width : Tree → ℕ
+width = fold-Tree ℕ width_step

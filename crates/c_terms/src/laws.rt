@@ -38,5 +38,6 @@ pub fn term_order_is_total()
 /// No name stands twice: the listed names differ, and [`Names::add`](crate::Names::add) keeps names so.
 pub fn names_stay_distinct()
     ensures listed { IsDistinct same_bytes listed_names }
-    ensures added { (names : List (List ℕ)) (name : List ℕ) → IsDistinct same_bytes names → IsDistinct same_bytes (with_name names name) }
+    ensures added { (names : List (List ℕ)) (name : List ℕ)
+        → IsDistinct same_bytes names → IsDistinct same_bytes (with_name names name) }
 {}

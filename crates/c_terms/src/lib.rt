@@ -1,12 +1,21 @@
-//! The words that every part of the tool shares: texts, tokens, trees, and the want of memory.
+//! The data that every part of the tool shares: texts, tokens, trees, names, and the order of terms.
 //!
-//! - [`Text`] keeps bytes, which need not be UTF-8.
-//! - [`Token`] is a text with its [`TokenKind`] and an id, by which it is known after an edit.
+//! - [`Text`] keeps bytes, [`Token`] is a text with its [`TokenKind`] and an id, which edits keep.
 //! - [`Tree`] is a token, or a branch with its [`Label`]; [`TreePath`] is a place in one.
-//! - [`leaves`] gives a tree's tokens, [`same_term`] compares trees but for ids.
-//! - [`NoMemory`] is the one answer that no caller can foresee.
+//! - [`leaves`], [`first_leaf`], [`child`] and [`subtree`] read a tree.
+//! - [`same_term`] and [`term_order`] compare trees, [`is_same_token`], [`compare_tokens`],
+//!   [`same_text`] and [`text_order`] their parts.
+//! - [`Label::is_expression`] and its like, [`Label::shape`], [`is_expression_part`] say what a label is.
+//! - [`members_of`] and [`run_of`] take a list apart by its commas and put it together.
+//! - [`Names`] are the names that stand for types. [`NoMemory`] is the one answer that no caller can
+//!   foresee.
+//! - [`term_order_is_total`], [`same_term_is_equality`], [`numbers_tell_apart`] and
+//!   [`names_stay_distinct`] are laws: their clauses hold, and their bodies are empty.
 //!
-//! Everything here is data; which bytes make a token is for c_lexer.
+//! The tree of `f(x)` is `Branch(Call, [f, (, Branch(Args, [x]), )])`; its leaves are `f ( x )`.
+//!
+//! Calls on trees recurse once a level, at most 160 bytes of stack each; parsers give at most 1,000
+//! levels. Which bytes make a token is for c_lexer, and which trees are C for c_rows.
 #![tactic(auto)]
 
 mod label;

@@ -12,7 +12,7 @@ use Rattle.small_rule.specs.declared.place.FilePlace.TheVariants as file
 use Rattle.small_rule.specs.declared.scan.Scan.{Scan}
 use Rattle.small_rule.specs.Tokens.{PlainToken, name, void, mark, texts, tokens_of, tokens_with}
 use Rattle.small_rule.specs.Calls.{CallStatement, call_tokens, after_open}
-use Rattle.small_rule.specs.SmallFile.{Function, body_tokens, file_tokens, Leaves, call_stays, body_stays, file_stays, left_text, left_of, stays_after}
+use Rattle.small_rule.specs.SmallFile.{Function, body_tokens, file_tokens, Leaves, call_stays, body_stays, file_stays, left_text, left_of_piece, stays_after}
 use Rattle.small_rule.specs.Signs.{sign_of}
 use Rattle.small_rule.specs.Places.{call_step, in_file, file_step}
 use Rattle.small_rule.specs.Written.{Written, nothing, pushed, blank_pushed, begun, cut, whole}
@@ -214,14 +214,14 @@ Reads removed s pieces text = (end : Scan) × (run (piece_read removed) s pieces
 word_reads : (removed : List (List ℕ)) (s : Scan) (r : FileRest) (pieces : List TextPiece) (id : ℕ) (g : GoesInFile removed s.place s.matched s.draft r)
     → Reads removed (Some (after_token removed s.place s.matched s.draft g.next g.first.text)) pieces
     (joined_of removed (after_token removed s.place s.matched s.draft g.next g.first.text) g.after (left_text pieces (stays_of removed (after_token removed s.place s.matched s.draft g.next g.first.text) g.after)))
-    → Reads removed (piece_read removed s (Word g.first.kind id) g.first.text) pieces (joined_of removed s r (left_of (Word g.first.kind id) g.first.text (stays_of removed s r) ++ left_text pieces (stays_after (Word g.first.kind id) (stays_of removed s r))))
+    → Reads removed (piece_read removed s (Word g.first.kind id) g.first.text) pieces (joined_of removed s r (left_of_piece (Word g.first.kind id) g.first.text (stays_of removed s r) ++ left_text pieces (stays_after (Word g.first.kind id) (stays_of removed s r))))
 word_reads removed s r pieces id g after = rw (g.leads, g.stays)
     (after.0, after.1, after.2, after.3 ∙ sym (g.same (left_text pieces (stays_of removed (after_token removed s.place s.matched s.draft g.next g.first.text) g.after))))
 
 token_read-word : (removed : List (List ℕ)) (s : Scan) (r : FileRest) (pieces : List TextPiece) (id : ℕ) (t : PlainToken) (rest : List PlainToken)
     → IsInFile s.place → file_rest s.place r ≡ t ∷ rest → tokens_of pieces ≡ Some rest
     → ((s : Scan) (r : FileRest) → IsInFile s.place → tokens_of pieces ≡ Some (file_rest s.place r) → Reads removed (Some s) pieces (joined_of removed s r (left_text pieces (stays_of removed s r))))
-    → Reads removed (piece_read removed s (Word t.kind id) t.text) pieces (joined_of removed s r (left_of (Word t.kind id) t.text (stays_of removed s r) ++ left_text pieces (stays_after (Word t.kind id) (stays_of removed s r))))
+    → Reads removed (piece_read removed s (Word t.kind id) t.text) pieces (joined_of removed s r (left_of_piece (Word t.kind id) t.text (stays_of removed s r) ++ left_text pieces (stays_after (Word t.kind id) (stays_of removed s r))))
 token_read-word removed s r pieces id t rest is e spelled after =
     let g = goes_in_file removed s.place s.matched s.draft r t rest is e in
     let next : Scan = after_token removed s.place s.matched s.draft g.next g.first.text in
@@ -229,7 +229,7 @@ token_read-word removed s r pieces id t rest is e spelled after =
     let others : rest ≡ file_rest next.place g.after = cc in
     let first : g.first ≡ t = cc in
     let reads = word_reads removed s r pieces id g (after next g.after g.inside (spelled ∙ ap (λ (l : List PlainToken). Some l) others)) in
-    let Family : PlainToken → Type 0 = λ t. Reads removed (piece_read removed s (Word t.kind id) t.text) pieces (joined_of removed s r (left_of (Word t.kind id) t.text (stays_of removed s r) ++ left_text pieces (stays_after (Word t.kind id) (stays_of removed s r)))) in
+    let Family : PlainToken → Type 0 = λ t. Reads removed (piece_read removed s (Word t.kind id) t.text) pieces (joined_of removed s r (left_of_piece (Word t.kind id) t.text (stays_of removed s r) ++ left_text pieces (stays_after (Word t.kind id) (stays_of removed s r)))) in
     subst Family first reads
 
 blank_reads : (removed : List (List ℕ)) (place : FilePlace) (matched : Option ℕ) (w : Written) (r : FileRest) (text : List ℕ) (pieces : List TextPiece) (left : List Bool → List ℕ)
@@ -259,7 +259,7 @@ nothing_left removed (file.Call place) matched w r is e = let g = goes place r.s
 piece_reads : (removed : List (List ℕ)) (kind : PieceKind) (text : List ℕ) (s : Scan) (r : FileRest) (pieces : List TextPiece)
     → IsInFile s.place → tokens_with kind text (tokens_of pieces) ≡ Some (file_rest s.place r)
     → ((s : Scan) (r : FileRest) → IsInFile s.place → tokens_of pieces ≡ Some (file_rest s.place r) → Reads removed (Some s) pieces (joined_of removed s r (left_text pieces (stays_of removed s r))))
-    → Reads removed (piece_read removed s kind text) pieces (joined_of removed s r (left_of kind text (stays_of removed s r) ++ left_text pieces (stays_after kind (stays_of removed s r))))
+    → Reads removed (piece_read removed s kind text) pieces (joined_of removed s r (left_of_piece kind text (stays_of removed s r) ++ left_text pieces (stays_after kind (stays_of removed s r))))
 piece_reads removed (Word kind id) text s r pieces is e after =
     let t : PlainToken = record { kind = kind; text = text } in
     let h = headed t (tokens_of pieces) (file_rest s.place r) e in

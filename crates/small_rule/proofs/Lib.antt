@@ -8,3 +8,4 @@ pub mod Matching
 pub mod FileReads
 pub mod FileTexts
 pub mod Once
+pub mod Examples

@@ -6,7 +6,7 @@ use Rattle.std.proofs.lemmas.List.{take-append-drop}
 use Rattle.c_lexer.specs.Pieces.{TextPiece}
 use Rattle.c_lexer.specs.Lexes.{Lexes}
 use Rattle.c_lexer.proofs.Once.{lexes_once}
-use Rattle.small_rule.specs.SmallPatch.{patch_head, IsLine, SpellsCall, IsSmallPatch}
+use Rattle.small_rule.specs.SmallPatch.{patch_head, IsOneLine, SpellsCall, IsSmallPatch}
 use Rattle.small_rule.specs.SmallFile.{Leaves, Becomes}
 use Rattle.small_rule.proofs.CallReads.{spelled_once}
 use Rattle.small_rule.proofs.FileTexts.{leaves_once}
@@ -40,7 +40,7 @@ pub text_answer : (call : List (List ℕ)) (bytes : List ℕ) (pieces : List Tex
 text_answer call bytes pieces lexed None none = λ text becomes. none text (becomes-leaves call bytes text pieces lexed becomes)
 text_answer call bytes pieces lexed (Some text) leaves = record { pieces = pieces; lexed = lexed; leaves = leaves }
 
-pub call_answer : (bytes line : List ℕ) (pieces : List TextPiece) → bytes ≡ patch_head ++ line → IsLine line → Lexes line pieces → (answer : Option (List (List ℕ)))
+pub call_answer : (bytes line : List ℕ) (pieces : List TextPiece) → bytes ≡ patch_head ++ line → IsOneLine line → Lexes line pieces → (answer : Option (List (List ℕ)))
     → MatchOption answer ((call : List (List ℕ)) → ¬ SpellsCall pieces call) (SpellsCall pieces)
     → MatchOption answer ((call : List (List ℕ)) → ¬ IsSmallPatch bytes call) (IsSmallPatch bytes)
 call_answer bytes line pieces begins one_line lexed None none = λ call patch. none call (patch-spells bytes line call pieces begins lexed patch)

@@ -46,12 +46,12 @@ file_stays removed [] = []
 file_stays removed (f ∷ functions) = map (λ _. true) (head_tokens f.name) ++ (body_stays removed f.calls ++ file_stays removed functions)
 
 -- what is left of a piece: of a token that doesn't stay nothing, and all else as it is
-abbrev pub left_of : PieceKind → List ℕ → List Bool → List ℕ
-left_of (Word kind id) text [] = text
-left_of (Word kind id) text (stays ∷ after) = if stays then text else []
-left_of Blank text stays = text
-left_of Comment text stays = text
-left_of Line text stays = text
+abbrev pub left_of_piece : PieceKind → List ℕ → List Bool → List ℕ
+left_of_piece (Word kind id) text [] = text
+left_of_piece (Word kind id) text (stays ∷ after) = if stays then text else []
+left_of_piece Blank text stays = text
+left_of_piece Comment text stays = text
+left_of_piece Line text stays = text
 
 -- the answers for the tokens after a piece
 abbrev pub stays_after : PieceKind → List Bool → List Bool
@@ -63,7 +63,7 @@ stays_after Line stays = stays
 -- the text that is left of pieces, with an answer for each token whether it stays
 abbrev pub left_text : List TextPiece → List Bool → List ℕ
 left_text [] stays = []
-left_text (p ∷ pieces) stays = left_of p.kind p.text stays ++ left_text pieces (stays_after p.kind stays)
+left_text (p ∷ pieces) stays = left_of_piece p.kind p.text stays ++ left_text pieces (stays_after p.kind stays)
 
 -- The pieces are blanks and functions, and the text is theirs without the tokens of each call whose texts are those of the removed one. Blanks stay.
 pub record Leaves (removed : List (List ℕ)) (pieces : List TextPiece) (text : List ℕ) : Type 0 where

@@ -10,8 +10,8 @@ abbrev pub patch_head : List ℕ
 patch_head = codes "@@" ++ (10 ∷ codes "@@" ++ (10 ∷ codes "-"))
 
 -- no byte but the last is a newline
-abbrev pub IsLine : List ℕ → Type 0
-IsLine text = ¬ Contains (take (length text - 1) text) 10
+abbrev pub IsOneLine : List ℕ → Type 0
+IsOneLine text = ¬ Contains (take (length text - 1) text) 10
 
 -- The pieces are blanks and one call statement, and these are the texts of its tokens.
 pub record SpellsCall (pieces : List TextPiece) (call : List (List ℕ)) : Type 0 where
@@ -23,7 +23,7 @@ pub record SpellsCall (pieces : List TextPiece) (call : List (List ℕ)) : Type 
 pub record IsSmallPatch (bytes : List ℕ) (call : List (List ℕ)) : Type 0 where
   pub line : List ℕ
   pub begins : bytes ≡ patch_head ++ line
-  pub one_line : IsLine line
+  pub one_line : IsOneLine line
   pub pieces : List TextPiece
   pub lexed : Lexes line pieces
   pub spells : SpellsCall pieces call

@@ -1,5 +1,5 @@
 // The text that is left of what has been read.
-ghost use Rattle.std.specs.Prelude.{◌≡◌, ◌++◌, OnOk, IfOk};
+ghost use Rattle.std.specs.Prelude.{◌≡◌, OnOk, IfOk};
 ghost use Rattle.small_rule.specs.Written.{nothing, pushed, blank_pushed, begun, cut, whole};
 
 use c_terms::NoMemory;
@@ -10,7 +10,9 @@ use std::marker::Model;
 #[derive(Drop)]
 pub struct Draft {
     text: Vec<u8>,
+    /// The offset at which the end begins.
     begin: usize,
+    /// What of the end stays where it is cut.
     blanks: Vec<u8>,
 }
 
@@ -20,7 +22,11 @@ impl Model for Draft {
 
     ghost Value = { Written };
 
-    ghost view = { λ d. record { settled = take d.begin d.text.items; pending = drop d.begin d.text.items; blanks = d.blanks.items } };
+    ghost view = { λ d. record {
+      settled = take d.begin d.text.items;
+      pending = drop d.begin d.text.items;
+      blanks = d.blanks.items;
+    } };
 
     ghost invariant = { λ d. d.begin ≤ length d.text.items };
 }
@@ -54,7 +60,7 @@ impl Draft {
         Ok(())
     }
 
-    /// From here on is the end.
+    /// Lets the end begin here.
     pub fn begin(&mut self)
         ensures { self.new ≡ begun self.old }
     {

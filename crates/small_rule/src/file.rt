@@ -11,23 +11,33 @@ use c_lexer::Lexed;
 use c_terms::{NoMemory, Text};
 use std::alloc::Global;
 
-/// The text of a file of functions without each call statement whose token texts are those of the call. Blanks stay. None where the bytes are no such file. Linear in the file.
+/// The text of a file without each statement whose token texts are those of the call. Blanks stay.
+/// None where the file is of another form.
+///
+/// The file is functions `void f(void) { .. }`, none or more, whose bodies are call statements of
+/// names alone, and blanks. Linear in the file: the comparison with the call stops at the first
+/// difference. Memory: the pieces of the file, a text as long as the file, and the blanks of one
+/// statement.
 pub fn remove_calls(alloc: Global, call: &Call, bytes: &[u8]) -> Result<Option<Vec<u8>>, NoMemory>
     requires { length bytes.now ≤ 16777216 }
-    ensures { IfOk result (λ answer. MatchOption answer ((text : List ℕ) → ¬ Becomes call.now bytes.now text) (λ text. Becomes call.now bytes.now text.items)) }
+    ensures { IfOk result (λ answer. MatchOption answer
+        ((text : List ℕ) → ¬ Becomes call.now bytes.now text)
+        (λ text. Becomes call.now bytes.now text.items)) }
 {
     let lexed = pieces(alloc, bytes)?;
-    left_of(alloc, call.texts(), &lexed, bytes.len())
+    remaining_text(alloc, call.texts(), &lexed, bytes.len())
 }
 
 /// What is left of the pieces, with room for so many bytes.
-fn left_of(
+fn remaining_text(
     alloc: Global,
     removed: &[Text],
     lexed: &Lexed,
     room: usize,
 ) -> Result<Option<Vec<u8>>, NoMemory>
-    ensures { IfOk result (λ answer. MatchOption answer ((text : List ℕ) → ¬ Leaves removed.now lexed.now text) (λ text. Leaves removed.now lexed.now text.items)) }
+    ensures { IfOk result (λ answer. MatchOption answer
+        ((text : List ℕ) → ¬ Leaves removed.now lexed.now text)
+        (λ text. Leaves removed.now lexed.now text.items)) }
 {
     let mut scan = Scan {
         place: FilePlace::Outside,

@@ -5,10 +5,12 @@ ghost use Rattle.small_rule.specs.SmallFile.{Becomes};
 
 /// A patch removes one call.
 pub fn patch_has_one_call()
-    ensures { (bytes : List ℕ) (call other : List (List ℕ)) → IsSmallPatch bytes call → IsSmallPatch bytes other → call ≡ other }
+    ensures { (bytes : List ℕ) (call other : List (List ℕ)) →
+        IsSmallPatch bytes call → IsSmallPatch bytes other → call ≡ other }
 {}
 
 /// A file becomes one text.
 pub fn file_becomes_one_text()
-    ensures { (call : List (List ℕ)) (bytes text other : List ℕ) → Becomes call bytes text → Becomes call bytes other → text ≡ other }
+    ensures { (call : List (List ℕ)) (bytes text other : List ℕ) →
+        Becomes call bytes text → Becomes call bytes other → text ≡ other }
 {}

@@ -1,7 +1,7 @@
 // Reads a patch that removes one call statement.
 ghost use Rattle.std.specs.Prelude.{◌≡◌, ◌≤◌, ◌↔◌, List, ℕ, ◌++◌, IsTrue, IfOk, OnOk, MatchOption, length};
 ghost use Rattle.small_rule.specs.Scanning.{call_piece, word_text};
-ghost use Rattle.small_rule.specs.SmallPatch.{IsLine, IsSmallPatch, SpellsCall};
+ghost use Rattle.small_rule.specs.SmallPatch.{IsOneLine, IsSmallPatch, SpellsCall};
 
 use crate::pieces::{piece_at, pieces};
 use crate::place::{CallPlace, call_step};
@@ -14,7 +14,7 @@ use std::marker::Model;
 /// What a patch begins with whose one line is a minus line.
 const PATCH_HEAD: &[u8] = b"@@\n@@\n-";
 
-/// The call statement that a patch removes. Contracts see the texts of its tokens.
+/// The call statement that a patch removes. Contracts see the list of its tokens' texts.
 #[derive(Drop)]
 pub struct Call {
     texts: Vec<Text>,
@@ -37,15 +37,21 @@ impl Call {
     }
 }
 
-/// The call statement that a patch removes. None where the patch is not small: see [`Call`].
+/// The call statement that a patch removes. None where the patch is of another form.
+///
+/// The patch is `@@`, newline, `@@`, newline, `-` and one line, with or without a newline at its
+/// end, that has one call statement, of names alone, and blanks. Linear. Memory: the pieces of the
+/// line, and the texts.
 pub fn read_patch(alloc: Global, bytes: &[u8]) -> Result<Option<Call>, NoMemory>
     requires { length bytes.now ≤ 16777216 }
-    ensures { IfOk result (λ answer. MatchOption answer ((call : List (List ℕ)) → ¬ IsSmallPatch bytes.now call) (IsSmallPatch bytes.now)) }
+    ensures { IfOk result (λ answer. MatchOption answer
+        ((call : List (List ℕ)) → ¬ IsSmallPatch bytes.now call)
+        (λ call. IsSmallPatch bytes.now call)) }
 {
     let Some(line) = bytes.strip_prefix(PATCH_HEAD) else {
         return Ok(None);
     };
-    if !is_line(line) {
+    if !is_one_line(line) {
         return Ok(None);
     }
     let lexed = pieces(alloc, line)?;
@@ -54,7 +60,9 @@ pub fn read_patch(alloc: Global, bytes: &[u8]) -> Result<Option<Call>, NoMemory>
 
 /// The call statement that the pieces spell, if they spell one.
 fn spelled_call(alloc: Global, lexed: &Lexed) -> Result<Option<Call>, NoMemory>
-    ensures { IfOk result (λ answer. MatchOption answer ((call : List (List ℕ)) → ¬ SpellsCall lexed.now call) (SpellsCall lexed.now)) }
+    ensures { IfOk result (λ answer. MatchOption answer
+        ((call : List (List ℕ)) → ¬ SpellsCall lexed.now call)
+        (λ call. SpellsCall lexed.now call)) }
 {
     let mut place = CallPlace::Start;
     let mut texts = Vec::new(alloc);
@@ -88,8 +96,8 @@ fn push_word(
 }
 
 /// Whether no byte but the last is a newline.
-fn is_line(text: &[u8]) -> bool
-    ensures { IsTrue result ↔ IsLine text.now }
+fn is_one_line(text: &[u8]) -> bool
+    ensures { IsTrue result ↔ IsOneLine text.now }
 {
     match text.split_last() {
         Some((_, front)) => !front.contains(&b'\n'),

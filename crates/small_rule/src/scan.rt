@@ -1,5 +1,5 @@
 // Reads a file of functions, and writes what is left of it.
-ghost use Rattle.std.specs.Prelude.{◌≡◌, ◌++◌, List, ℕ, Some, None, IfOk, OnOk, MatchBool, MatchOption, Option};
+ghost use Rattle.std.specs.Prelude.{◌≡◌, Some, None, IfOk, OnOk, MatchBool};
 ghost use Rattle.small_rule.specs.Scanning.{matched_after, is_whole, is_call, token_read, blank_read, piece_read};
 
 use crate::draft::Draft;
@@ -9,11 +9,15 @@ use c_lexer::PieceKind;
 use c_terms::{NoMemory, Text};
 use std::alloc::Global;
 
-/// What a reader has of a file: its place, how many of the removed call's texts the call at hand begins with, and what is left.
+/// What a reader has of a file.
 #[derive(Drop)]
 pub struct Scan {
+    /// Where it stands.
     pub place: FilePlace,
+    /// How many texts of the removed call the statement at hand begins with. None from the first
+    /// difference on.
     pub matched: Option<usize>,
+    /// What is left of the pieces so far. Its end is the statement at hand.
     pub draft: Draft,
 }
 
@@ -25,7 +29,9 @@ impl Scan {
         kind: PieceKind,
         text: &[u8],
     ) -> Result<bool, NoMemory>
-        ensures { IfOk result (λ going. MatchBool going (piece_read removed.now self.old kind text.now ≡ Some self.new) (piece_read removed.now self.old kind text.now ≡ None)) }
+        ensures { IfOk result (λ going. MatchBool going
+            (piece_read removed.now self.old kind text.now ≡ Some self.new)
+            (piece_read removed.now self.old kind text.now ≡ None)) }
     {
         match kind {
             PieceKind::Word(kind, _) => match file_step(self.place, sign_of(kind, text)) {
@@ -43,8 +49,10 @@ impl Scan {
         }
     }
 
+    /// Takes a token that leads to a place.
     fn token(&mut self, removed: &[Text], next: FilePlace, text: &[u8]) -> Result<(), NoMemory>
-        ensures { OnOk result (self.new ≡ token_read (is_call self.old.place) (is_call next) removed.now self.old next text.now) }
+        ensures { OnOk result (self.new
+            ≡ token_read (is_call self.old.place) (is_call next) removed.now self.old next text.now) }
     {
         match (is_call(self.place), is_call(next)) {
             (false, false) => self.draft.push(text)?,
@@ -70,6 +78,7 @@ impl Scan {
         Ok(())
     }
 
+    /// Takes a blank.
     fn blank(&mut self, text: &[u8]) -> Result<(), NoMemory>
         ensures { OnOk result (self.new ≡ blank_read (is_call self.old.place) self.old text.now) }
     {
@@ -81,6 +90,7 @@ impl Scan {
     }
 }
 
+/// Whether the place is within a statement.
 fn is_call(place: FilePlace) -> bool
     ensures { result ≡ is_call place }
 {
@@ -103,6 +113,7 @@ fn matched_after(removed: &[Text], matched: Option<usize>, text: &[u8]) -> Optio
     }
 }
 
+/// Whether the comparison came to the end of the removed call.
 fn is_whole(removed: &[Text], matched: Option<usize>) -> bool
     ensures { result ≡ is_whole removed.now matched }
 {

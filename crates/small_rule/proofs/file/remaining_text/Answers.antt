@@ -4,7 +4,7 @@ use Rattle.small_rule.specs.declared.scan.Scan.{Scan}
 use Rattle.small_rule.specs.Scanning.{piece_read}
 use Rattle.small_rule.proofs.Runs.{run-more, run-stops}
 use Rattle.small_rule.proofs.FileTexts.{start, leaves-reads, reads-leaves}
-use Rattle.small_rule.proofs.file.left_of.Goals as goal
+use Rattle.small_rule.proofs.file.remaining_text.Goals as goal
 
 pub returns-then-not-branch : goal.returns-then-not-branch
 returns-then-not-branch c = λ text leaves.

@@ -3,12 +3,12 @@ use Rattle.std.proofs.Common.{◌≡◌, ℕ, ◌⊎◌, ◌≤◌, ◌≢◌, L
 use Rattle.std.specs.Prelude.{IsSome}
 use Rattle.outer_io.specs.Faults.{Rose}
 use Rattle.run_acts.specs.Acts.{Act, Load, Store, Print, Report, Told, done, after}
-use Rattle.run_acts.specs.Breaks.{Counts, NoneRose, Fails, Breaks}
+use Rattle.run_acts.specs.Breaks.{Counts, Fails, Breaks}
 use Rattle.run_acts.specs.Lines.{usage, cannot_read}
 use Rattle.run_acts.specs.Loaded.{Found}
 use Rattle.spatch_run.specs.Commands.{IsCommand}
-use Rattle.spatch_run.specs.Readings.{patch_limit, file_limit, PatchGives, PatchRefused, FileGives, FileRefused}
-use Rattle.spatch_run.specs.Stages.{Stage, Doing, Ending, ReadPatch, EditFile, refusing, printing, PatchLeads, FileLeads, next_act, status_at, Leads}
+use Rattle.spatch_run.specs.Readings.{patch_limit, file_limit}
+use Rattle.spatch_run.specs.Stages.{Stage, Doing, Ending, ReadPatch, EditFile, refusing, printing, PatchLeads, FileLeads, status_at}
 use Rattle.spatch_run.specs.Paths.{Path, AreActs, DoesAll, ComesTo}
 use Rattle.spatch_run.specs.Promise.{EndsRightly}
 use Rattle.spatch_run.specs.Causes.{NoCommand, PatchIsRefused, PatchIsRead, FileIsRefused, FileIsEdited, NameIsAbsent, Must, Causes}

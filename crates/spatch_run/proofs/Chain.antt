@@ -1,5 +1,5 @@
 -- Acts that follow on each other.
-use Rattle.std.proofs.Common.{◌≡◌, ℕ, List, [], ◌∷◌, ◌++◌, Option, Some, refl, sym, ap, ◌∙◌, inl, inr}
+use Rattle.std.proofs.Common.{◌≡◌, ℕ, List, [], ◌∷◌, ◌++◌, Some, refl, sym, ap, ◌∙◌, inl, inr}
 use Rattle.run_acts.specs.Acts.{Act, Told, done, after}
 use Rattle.run_acts.specs.Breaks.{Counts, NoneFell, Breaks}
 use Rattle.run_acts.proofs.BreaksLemmas.{NoneFell-refl, NoneFell-then, Breaks-earlier}

@@ -10,7 +10,7 @@ use Rattle.small_rule.specs.SmallPatch.{IsSmallPatch}
 use Rattle.small_rule.specs.SmallFile.{Becomes}
 use Rattle.spatch_run.specs.Readings.{patch_limit, file_limit}
 use Rattle.spatch_run.specs.Stages.{Stage, Doing, Ending, ReadPatch, EditFile, refusing, printing, PatchLeads, FileLeads}
-use Rattle.spatch_run.specs.Ends.{Goes, Ends}
+use Rattle.spatch_run.specs.Ends.{Ends}
 use Rattle.spatch_run.proofs.Chain.{Goes-act, Goes-ends}
 
 -- the patch was loaded, and the run ended from there

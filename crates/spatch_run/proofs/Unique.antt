@@ -1,5 +1,5 @@
 -- Where the shelf tells its files, a stage leads to one stage, and the acts of some words are one list.
-use Rattle.std.proofs.Common.{◌≡◌, false, true, ℕ, ◌<◌, ◌≤◌, List, [], ◌∷◌, ◌++◌, Option, Some, None, length, refl, sym, ap, ◌∙◌, inl, inr, arith}
+use Rattle.std.proofs.Common.{◌≡◌, false, true, ℕ, List, [], ◌∷◌, ◌++◌, Option, Some, None, refl, sym, ap, ◌∙◌, inl, inr, arith}
 use Rattle.std.specs.Prelude.{IsSome, codes}
 use Rattle.outer_io.specs.Files.{Files, stored}
 use Rattle.run_acts.specs.Acts.{Act, Load, Store, Print, Report, Told, done}
@@ -7,7 +7,7 @@ use Rattle.run_acts.specs.Loaded.{Found}
 use Rattle.small_rule.proofs.Once.{call_once, text_once}
 use Rattle.spatch_run.specs.Commands.{IsCommand}
 use Rattle.spatch_run.specs.Readings.{PatchGives, PatchRefused, FileGives, FileRefused}
-use Rattle.spatch_run.specs.Stages.{Work, Stage, Doing, Ending, ReadPatch, EditFile, refusing, printing, Begins, PatchLeads, FileLeads, next_act, status_at, Leads}
+use Rattle.spatch_run.specs.Stages.{Stage, Doing, Ending, ReadPatch, EditFile, refusing, printing, Begins, PatchLeads, FileLeads, next_act, status_at, Leads}
 use Rattle.spatch_run.specs.Paths.{Path, AreActs, ComesTo}
 
 pub none_some : {A : Type 0} (a : A) → None ≡ Some a → ⊥

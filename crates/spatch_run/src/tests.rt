@@ -3,6 +3,7 @@ use crate::run;
 use c_terms::{NoMemory, Text};
 use outer_io::{CalmShelf, CalmSink, MemShelf, MemSink};
 use std::alloc::Global;
+use std::process::Abort;
 use std::test::Fail;
 
 const PATCH: &[u8] = b"@@\n@@\n- g(a);\n";
@@ -13,106 +14,27 @@ const FILE: &[u8] = b"void f(void)\n{\n\tg(a);\n\th();\n}\n";
 
 const EDITED: &[u8] = b"void f(void)\n{\n\t\n\th();\n}\n";
 
-const NOTHING: &[u8] = b"";
+const DECLARATION: &[u8] = b"int x;\n";
 
-/// What a run is given, and what it must answer. A file that is `None` is absent.
-#[derive(Clone, Copy)]
-struct Case<'a> {
-    words: [&'a [u8]; 3],
-    patch: Option<&'a [u8]>,
-    file: Option<&'a [u8]>,
-    status: u8,
-    out: &'a [u8],
-    err: &'a [u8],
-}
-
-/// A run on the first row in which these calls fail, by their numbers.
-#[derive(Clone, Copy)]
-struct FailingRun<'a> {
-    shelf: Option<u64>,
-    out: Option<u64>,
-    err: Option<u64>,
-    status: u8,
-    printed: &'a [u8],
-    reported: &'a [u8],
-}
+const USAGE: &[u8] = b"spatch: usage: spatch --sp-file P FILE\n";
 
 const WORDS: [&[u8]; 3] = [b"--sp-file", b"p", b"k.c"];
 
-fn cases() -> [Case<'static>; 11] {
-    let row = Case {
-        words: WORDS,
-        patch: Some(PATCH),
-        file: Some(FILE),
-        status: 0,
-        out: EDITED,
-        err: NOTHING,
-    };
-    let plus = Case {
-        words: WORDS,
-        patch: Some(PLUS_PATCH),
-        file: Some(FILE),
-        status: 2,
-        out: NOTHING,
-        err: b"spatch: p: not yet\n",
-    };
-    let declaration = Case {
-        words: WORDS,
-        patch: Some(PATCH),
-        file: Some(b"int x;\n"),
-        status: 4,
-        out: NOTHING,
-        err: b"spatch: k.c: not yet\n",
-    };
-    let empty = Case {
-        words: WORDS,
-        patch: Some(PATCH),
-        file: Some(NOTHING),
-        status: 0,
-        out: NOTHING,
-        err: NOTHING,
-    };
-    let no_patch = Case {
-        words: WORDS,
-        patch: None,
-        file: Some(FILE),
-        status: 5,
-        out: NOTHING,
-        err: b"spatch: p: cannot read\n",
-    };
-    let no_file = Case {
-        words: WORDS,
-        patch: Some(PATCH),
-        file: None,
-        status: 5,
-        out: NOTHING,
-        err: b"spatch: k.c: cannot read\n",
-    };
-    [
-        row,
-        plus,
-        declaration,
-        empty,
-        no_patch,
-        no_file,
-        usage_case([b"--sp-files", b"p", b"k.c"]),
-        usage_case([b"p", b"--sp-file", b"k.c"]),
-        usage_case([b"--sp-file", b"-p", b"k.c"]),
-        usage_case([b"--sp-file", b"p", b""]),
-        usage_case([b"--sp-file", b"p", b"\xff.c"]),
-    ]
+/// What a run answers, what stands on its two sinks, and whether the patch and the file stand on the shelf as before.
+#[derive(Drop)]
+struct Answer {
+    status: u8,
+    out: Vec<u8>,
+    err: Vec<u8>,
+    files_stay: bool,
 }
 
-/// A run whose words are no command.
-fn usage_case(words: [&'static [u8]; 3]) -> Case<'static> {
-    Case {
-        words,
-        patch: Some(PATCH),
-        file: Some(FILE),
-        status: 1,
-        out: NOTHING,
-        err: b"spatch: usage: spatch --sp-file P FILE\n",
-    }
+/// The number of the call that fails, of the shelf, the output and the error output.
+#[derive(Clone, Copy)]
+struct FailingCalls {
+    shelf: Option<u64>,
+    out: Option<u64>,
+    err: Option<u64>,
 }
 
 fn texts(alloc: Global, words: &[&[u8]]) -> Result<Vec<Text>, NoMemory> {
@@ -123,7 +45,7 @@ fn texts(alloc: Global, words: &[&[u8]]) -> Result<Vec<Text>, NoMemory> {
     Ok(texts)
 }
 
-/// The patch under `p`, and the file under `k.c`.
+/// The patch under `p`, and the file under `k.c`, where there is one.
 fn entries(
     alloc: Global,
     patch: Option<&[u8]>,
@@ -139,7 +61,10 @@ fn entries(
     Ok(entries)
 }
 
-/// The numbers of the calls that fail: this one, if there is one.
+fn blanks(alloc: Global, count: usize) -> Result<Vec<u8>, NoMemory> {
+    Ok(vec![in alloc; b' '; count]?)
+}
+
 fn fail_at(alloc: Global, call: Option<u64>) -> Result<Vec<u64>, NoMemory> {
     let mut calls = Vec::new(alloc);
     if let Some(call) = call {
@@ -148,141 +73,168 @@ fn fail_at(alloc: Global, call: Option<u64>) -> Result<Vec<u64>, NoMemory> {
     Ok(calls)
 }
 
+/// A run in which nothing fails.
+fn calm_run(
+    rt: &HostRuntime,
+    words: &[&[u8]],
+    patch: Option<&[u8]>,
+    file: Option<&[u8]>,
+) -> Result<Answer, NoMemory> {
+    let alloc = rt.alloc();
+    let words = texts(alloc, words)?;
+    let mut shelf = CalmShelf::new(entries(alloc, patch, file)?)?;
+    let mut out = CalmSink::new(alloc);
+    let mut err = CalmSink::new(alloc);
+    let status = run(rt, &words, &mut shelf, &mut out, &mut err);
+    Ok(Answer {
+        status,
+        out: out.bytes().to_vec(alloc)?,
+        err: err.bytes().to_vec(alloc)?,
+        files_stay: shelf.bytes_of(b"p") == patch && shelf.bytes_of(b"k.c") == file,
+    })
+}
+
+/// A run in which these calls fail.
+fn failing_run(
+    rt: &HostRuntime,
+    words: &[&[u8]],
+    patch: Option<&[u8]>,
+    file: Option<&[u8]>,
+    calls: FailingCalls,
+) -> Result<Answer, NoMemory> {
+    let alloc = rt.alloc();
+    let words = texts(alloc, words)?;
+    let mut shelf = MemShelf::new(entries(alloc, patch, file)?, fail_at(alloc, calls.shelf)?)?;
+    let mut out = MemSink::new(alloc, fail_at(alloc, calls.out)?);
+    let mut err = MemSink::new(alloc, fail_at(alloc, calls.err)?);
+    let status = run(rt, &words, &mut shelf, &mut out, &mut err);
+    Ok(Answer {
+        status,
+        out: out.bytes().to_vec(alloc)?,
+        err: err.bytes().to_vec(alloc)?,
+        files_stay: shelf.bytes_of(b"p") == patch && shelf.bytes_of(b"k.c") == file,
+    })
+}
+
+fn assert_answer(rt: &impl Abort, answer: &Answer, status: u8, out: &[u8], err: &[u8]) {
+    assert_eq!(rt; answer.out.as_slice(), out);
+    assert_eq!(rt; answer.err.as_slice(), err);
+    assert_eq!(rt; answer.status, status);
+    assert!(rt; answer.files_stay);
+}
+
 #[test]
 fn each_run_answers_its_status(rt: HostRuntime) -> Result<(), Fail> {
-    let alloc = rt.alloc();
-    for case in &cases() {
-        let words = texts(alloc, &case.words)?;
-        let mut shelf = CalmShelf::new(entries(alloc, case.patch, case.file)?)?;
-        let mut out = CalmSink::new(alloc);
-        let mut err = CalmSink::new(alloc);
-        let status = run(&rt, &words, &mut shelf, &mut out, &mut err);
-        assert_eq!(rt; out.bytes(), case.out);
-        assert_eq!(rt; err.bytes(), case.err);
-        assert_eq!(rt; status, case.status);
+    let rows: [(Option<&[u8]>, Option<&[u8]>, u8, &[u8], &[u8]); 6] = [
+        (Some(PATCH), Some(FILE), 0, EDITED, b""),
+        (Some(PATCH), Some(b""), 0, b"", b""),
+        (
+            Some(PLUS_PATCH),
+            Some(FILE),
+            2,
+            b"",
+            b"spatch: p: not yet\n",
+        ),
+        (
+            Some(PATCH),
+            Some(DECLARATION),
+            4,
+            b"",
+            b"spatch: k.c: not yet\n",
+        ),
+        (None, Some(FILE), 5, b"", b"spatch: p: cannot read\n"),
+        (Some(PATCH), None, 5, b"", b"spatch: k.c: cannot read\n"),
+    ];
+    for (patch, file, status, out, err) in rows {
+        assert_answer(&rt, &calm_run(&rt, &WORDS, patch, file)?, status, out, err);
+    }
+    Ok(())
+}
+
+#[test]
+fn other_words_are_answered_by_the_usage_line(rt: HostRuntime) -> Result<(), Fail> {
+    let lists: [[&[u8]; 3]; 6] = [
+        [b"--sp-files", b"p", b"k.c"],
+        [b"p", b"--sp-file", b"k.c"],
+        [b"--sp-file", b"-p", b"k.c"],
+        [b"--sp-file", b"p", b"--sp-file"],
+        [b"--sp-file", b"p", b""],
+        [b"--sp-file", b"p", b"\xff.c"],
+    ];
+    for words in lists {
+        let answer = calm_run(&rt, &words, Some(PATCH), Some(FILE))?;
+        assert_answer(&rt, &answer, 1, b"", USAGE);
     }
     Ok(())
 }
 
 #[test]
 fn what_is_over_its_limit_is_refused(rt: HostRuntime) -> Result<(), Fail> {
-    let alloc = rt.alloc();
-    let words = texts(alloc, &WORDS)?;
-    let long_patch = vec![in alloc; b' '; 1_048_577]?;
-    let long_file = vec![in alloc; b' '; 16_777_217]?;
-    let cases: [(&[u8], u8, &[u8]); 2] = [
-        (&long_patch, 2, b"spatch: p: patch fault 1\n"),
-        (PATCH, 4, b"spatch: k.c: refused: file too long\n"),
-    ];
-    for (patch, status, line) in cases {
-        let mut shelf = CalmShelf::new(entries(alloc, Some(patch), Some(&long_file))?)?;
-        let mut out = CalmSink::new(alloc);
-        let mut err = CalmSink::new(alloc);
-        assert_eq!(rt; run(&rt, &words, &mut shelf, &mut out, &mut err), status);
-        assert_eq!(rt; out.bytes(), NOTHING);
-        assert_eq!(rt; err.bytes(), line);
-    }
+    let long_patch = blanks(rt.alloc(), 1_048_577)?;
+    let answer = calm_run(&rt, &WORDS, Some(&long_patch), Some(FILE))?;
+    assert_answer(&rt, &answer, 2, b"", b"spatch: p: patch fault 1\n");
+    let long_file = blanks(rt.alloc(), 16_777_217)?;
+    let answer = calm_run(&rt, &WORDS, Some(PATCH), Some(&long_file))?;
+    assert_answer(
+        &rt,
+        &answer,
+        4,
+        b"",
+        b"spatch: k.c: refused: file too long\n",
+    );
     Ok(())
-}
-
-fn failures() -> [FailingRun<'static>; 6] {
-    [
-        FailingRun {
-            shelf: Some(0),
-            out: None,
-            err: None,
-            status: 5,
-            printed: NOTHING,
-            reported: b"spatch: p: cannot read\n",
-        },
-        FailingRun {
-            shelf: Some(1),
-            out: None,
-            err: None,
-            status: 5,
-            printed: NOTHING,
-            reported: b"spatch: k.c: cannot read\n",
-        },
-        FailingRun {
-            shelf: None,
-            out: Some(0),
-            err: None,
-            status: 6,
-            printed: b"void f(void)",
-            reported: b"spatch: cannot print\n",
-        },
-        FailingRun {
-            shelf: Some(0),
-            out: None,
-            err: Some(0),
-            status: 6,
-            printed: NOTHING,
-            reported: b"spatch: p: ",
-        },
-        FailingRun {
-            shelf: Some(1),
-            out: None,
-            err: Some(0),
-            status: 6,
-            printed: NOTHING,
-            reported: b"spatch: k.c:",
-        },
-        FailingRun {
-            shelf: None,
-            out: Some(0),
-            err: Some(0),
-            status: 6,
-            printed: b"void f(void)",
-            reported: b"spatch: ca",
-        },
-    ]
 }
 
 #[test]
 fn a_call_that_fails_ends_the_run(rt: HostRuntime) -> Result<(), Fail> {
-    let alloc = rt.alloc();
-    let words = texts(alloc, &WORDS)?;
-    for case in &failures() {
-        let files = entries(alloc, Some(PATCH), Some(FILE))?;
-        let mut shelf = MemShelf::new(files, fail_at(alloc, case.shelf)?)?;
-        let mut out = MemSink::new(alloc, fail_at(alloc, case.out)?);
-        let mut err = MemSink::new(alloc, fail_at(alloc, case.err)?);
-        let status = run(&rt, &words, &mut shelf, &mut out, &mut err);
-        assert_eq!(rt; out.bytes(), case.printed);
-        assert_eq!(rt; err.bytes(), case.reported);
-        assert_eq!(rt; status, case.status);
-        assert_eq!(rt; shelf.bytes_of(b"p"), Some(PATCH));
-        assert_eq!(rt; shelf.bytes_of(b"k.c"), Some(FILE));
+    let rows: [([Option<u64>; 3], u8, &[u8], &[u8]); 6] = [
+        ([Some(0), None, None], 5, b"", b"spatch: p: cannot read\n"),
+        ([Some(1), None, None], 5, b"", b"spatch: k.c: cannot read\n"),
+        (
+            [None, Some(0), None],
+            6,
+            b"void f(void)",
+            b"spatch: cannot print\n",
+        ),
+        ([Some(0), None, Some(0)], 6, b"", b"spatch: p: "),
+        ([Some(1), None, Some(0)], 6, b"", b"spatch: k.c:"),
+        ([None, Some(0), Some(0)], 6, b"void f(void)", b"spatch: ca"),
+    ];
+    for ([shelf, out, err], status, printed, reported) in rows {
+        let calls = FailingCalls { shelf, out, err };
+        let answer = failing_run(&rt, &WORDS, Some(PATCH), Some(FILE), calls)?;
+        assert_answer(&rt, &answer, status, printed, reported);
     }
     Ok(())
 }
 
-/// A refusal whose line cannot be put: the words, the patch, the file, and the half of the line that stands.
-type HalfLine<'a> = ([&'a [u8]; 3], Option<&'a [u8]>, Option<&'a [u8]>, &'a [u8]);
-
 #[test]
 fn a_line_that_cannot_be_put_is_status_6(rt: HostRuntime) -> Result<(), Fail> {
-    let alloc = rt.alloc();
-    let long_patch = vec![in alloc; b' '; 1_048_577]?;
-    let long_file = vec![in alloc; b' '; 16_777_217]?;
+    let long_patch = blanks(rt.alloc(), 1_048_577)?;
+    let long_file = blanks(rt.alloc(), 16_777_217)?;
     let no_command: [&[u8]; 3] = [b"--sp-file", b"p", b"--sp-file"];
-    let cases: [HalfLine; 7] = [
+    let rows: [([&[u8]; 3], Option<&[u8]>, Option<&[u8]>, &[u8]); 7] = [
         (no_command, Some(PATCH), Some(FILE), b"spatch: usage: spat"),
         (WORDS, None, Some(FILE), b"spatch: p: "),
         (WORDS, Some(&long_patch), Some(FILE), b"spatch: p: p"),
         (WORDS, Some(PLUS_PATCH), Some(FILE), b"spatch: p"),
         (WORDS, Some(PATCH), None, b"spatch: k.c:"),
         (WORDS, Some(PATCH), Some(&long_file), b"spatch: k.c: refus"),
-        (WORDS, Some(PATCH), Some(b"int x;\n"), b"spatch: k."),
+        (WORDS, Some(PATCH), Some(DECLARATION), b"spatch: k."),
     ];
-    for (words, patch, file, half) in cases {
-        let words = texts(alloc, &words)?;
-        let mut shelf = CalmShelf::new(entries(alloc, patch, file)?)?;
-        let mut out = CalmSink::new(alloc);
-        let mut err = MemSink::new(alloc, fail_at(alloc, Some(0))?);
-        assert_eq!(rt; run(&rt, &words, &mut shelf, &mut out, &mut err), 6);
-        assert_eq!(rt; out.bytes(), NOTHING);
-        assert_eq!(rt; err.bytes(), half);
+    let calls = FailingCalls {
+        shelf: None,
+        out: None,
+        err: Some(0),
+    };
+    for (words, patch, file, half) in rows {
+        assert_answer(
+            &rt,
+            &failing_run(&rt, &words, patch, file, calls)?,
+            6,
+            b"",
+            half,
+        );
     }
     Ok(())
 }

@@ -23,14 +23,16 @@ pub fn same_term_is_equality()
     ensures ids_aside { (t u : Tree) → IsTrue (same_tree t u) ↔ (bare t ≡ bare u) }
     ensures reflexive { (t : Tree) → IsTrue (same_tree t t) }
     ensures symmetric { (t u : Tree) → same_tree t u ≡ same_tree u t }
-    ensures transitive { (t u v : Tree) → IsTrue (same_tree t u) → IsTrue (same_tree u v) → IsTrue (same_tree t v) }
+    ensures transitive { (t u v : Tree) → IsTrue (same_tree t u) → IsTrue (same_tree u v) →
+        IsTrue (same_tree t v) }
 {}
 
 /// [`term_order`](crate::term_order) is a total order, which takes same terms for equal, and no others.
 pub fn term_order_is_total()
     ensures equal { (t u : Tree) → (tree_order t u ≡ Equal) ↔ IsTrue (same_tree t u) }
     ensures antisymmetric { (t u : Tree) → tree_order t u ≡ ordering_reverse (tree_order u t) }
-    ensures transitive { (t u v : Tree) → tree_order t u ≡ Less → tree_order u v ≡ Less → tree_order t v ≡ Less }
+    ensures transitive { (t u v : Tree) → tree_order t u ≡ Less → tree_order u v ≡ Less →
+        tree_order t v ≡ Less }
     ensures total { (t u : Tree) → IsTrue (is_le (tree_order t u) || is_le (tree_order u t)) }
     ensures same_place { (t u v : Tree) → IsTrue (same_tree t u) → tree_order t v ≡ tree_order u v }
 {}

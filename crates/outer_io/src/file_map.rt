@@ -57,7 +57,8 @@ impl FileMap {
         ensures bytes { IfOk result (λ bytes. get self.now name.now ≡ Some bytes.items) }
         ensures within { IfOk result (λ bytes. length bytes.items ≤ limit) }
         ensures absent { IsErrOf result ShelfFault.Absent → get self.now name.now ≡ None }
-        ensures too_long { IsErrOf result ShelfFault.TooLong → IsSomeAnd (get self.now name.now) (λ bytes. limit < length bytes) }
+        ensures too_long { IsErrOf result ShelfFault.TooLong → IsSomeAnd (get self.now name.now)
+            (λ bytes. limit < length bytes) }
         ensures not_failed { IsErrOf result ShelfFault.Failed → ⊥ }
     {
         let Some(bytes) = self.get(name.as_bytes()) else {

@@ -86,10 +86,12 @@ fn read_whole<F: Read>(
     size: u64,
     limit: u64,
 ) -> Result<Vec<u8>, ShelfFault>
-    ensures bytes { IfOk result (λ bytes. IfSome (F.remaining file.old) (λ left. bytes.items ≡ left)) }
+    ensures bytes { IfOk result (λ bytes. IfSome (F.remaining file.old)
+        (λ left. bytes.items ≡ left)) }
     ensures within { IfOk result (λ bytes. length bytes.items ≤ limit) }
     ensures not_absent { IsErrOf result ShelfFault.Absent → ⊥ }
-    ensures too_long { IsErrOf result ShelfFault.TooLong → IfSome (F.remaining file.old) (λ left. limit < length left) }
+    ensures too_long { IsErrOf result ShelfFault.TooLong → IfSome (F.remaining file.old)
+        (λ left. limit < length left) }
 {
     let Ok(bytes) = Vec::with_capacity(alloc, size.min(limit) as usize) else {
         return Err(ShelfFault::NoMemory);
@@ -109,10 +111,12 @@ fn read_blocks<F: Read>(
 ) -> Result<Vec<u8>, ShelfFault>
     requires none { bytes.items ≡ [] }
     requires room { 0 < length block.old }
-    ensures bytes { IfOk result (λ bytes. IfSome (F.remaining file.old) (λ left. bytes.items ≡ left)) }
+    ensures bytes { IfOk result (λ bytes. IfSome (F.remaining file.old)
+        (λ left. bytes.items ≡ left)) }
     ensures within { IfOk result (λ bytes. length bytes.items ≤ limit) }
     ensures not_absent { IsErrOf result ShelfFault.Absent → ⊥ }
-    ensures too_long { IsErrOf result ShelfFault.TooLong → IfSome (F.remaining file.old) (λ left. limit < length left) }
+    ensures too_long { IsErrOf result ShelfFault.TooLong → IfSome (F.remaining file.old)
+        (λ left. limit < length left) }
 {
     for _ in 0..u64::MAX {
         let Ok(count) = file.read(block) else {

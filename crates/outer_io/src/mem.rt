@@ -68,7 +68,8 @@ impl Shelf for MemShelf {
         ensures bytes { IfOk result (λ bytes. get self.old.files name.now ≡ Some bytes.items) }
         ensures within { IfOk result (λ bytes. length bytes.items ≤ limit) }
         ensures absent { IsErrOf result ShelfFault.Absent → get self.old.files name.now ≡ None }
-        ensures too_long { IsErrOf result ShelfFault.TooLong → IsSomeAnd (get self.old.files name.now) (λ bytes. limit < length bytes) }
+        ensures too_long { IsErrOf result ShelfFault.TooLong →
+            IsSomeAnd (get self.old.files name.now) (λ bytes. limit < length bytes) }
         ensures cause { HasCause ShelfFault.Failed self.old.calls.faults self.new.calls.faults result }
         ensures fails { IsErrOf result ShelfFault.Failed ↔ IsTrue (next_fails self.old.calls) }
         ensures calls { self.new.calls ≡ after_call self.old.calls (next_fails self.old.calls) }
@@ -150,16 +151,20 @@ impl Sink for MemSink {
     /// piece is counted and never fails.
     fn put(&mut self, bytes: &[u8]) -> Result<(), PutFault>
         ensures ok { OnOk result (self.new.bytes ≡ self.old.bytes ++ bytes.now) }
-        ensures failed { IsErrOf result PutFault.Failed → self.new.bytes ≡ self.old.bytes ++ take (length bytes.now / 2) bytes.now }
+        ensures failed { IsErrOf result PutFault.Failed →
+            self.new.bytes ≡ self.old.bytes ++ take (length bytes.now / 2) bytes.now }
         ensures no_memory { IsErrOf result PutFault.NoMemory → self.new.bytes ≡ self.old.bytes }
-        ensures no_memory_no_fault { IsErrOf result PutFault.NoMemory → self.new.calls.faults ≡ self.old.calls.faults }
+        ensures no_memory_no_fault { IsErrOf result PutFault.NoMemory →
+            self.new.calls.faults ≡ self.old.calls.faults }
         ensures empty { bytes.now ≡ [] → IsOk result }
         ensures cause { HasCause PutFault.Failed self.old.calls.faults self.new.calls.faults result }
         ensures fails { IsTrue (next_fails self.old.calls) → bytes.now ≢ [] → IsErr result }
         ensures fails_only { IsErrOf result PutFault.Failed → IsTrue (next_fails self.old.calls) }
         ensures calls_ok { OnOk result (self.new.calls ≡ after_call self.old.calls false) }
-        ensures calls_failed { IsErrOf result PutFault.Failed → self.new.calls ≡ after_call self.old.calls true }
-        ensures calls_no_memory { IsErrOf result PutFault.NoMemory → self.new.calls ≡ after_call self.old.calls false }
+        ensures calls_failed { IsErrOf result PutFault.Failed →
+            self.new.calls ≡ after_call self.old.calls true }
+        ensures calls_no_memory { IsErrOf result PutFault.NoMemory →
+            self.new.calls ≡ after_call self.old.calls false }
     {
         if bytes.is_empty() {
             self.calls.count(false);

@@ -31,10 +31,13 @@ pub trait Shelf {
     /// `Absent` where there are none, and `TooLong` where there are more than the limit.
     fn load(&mut self, name: &str, limit: u64) -> Result<Vec<u8>, ShelfFault>
         ensures same { holds self.new ≡ holds self.old }
-        ensures bytes { IfOk result (λ bytes. IfSome (holds self.old) (λ files. get files name.now ≡ Some bytes.items)) }
+        ensures bytes { IfOk result (λ bytes. IfSome (holds self.old)
+            (λ files. get files name.now ≡ Some bytes.items)) }
         ensures within { IfOk result (λ bytes. length bytes.items ≤ limit) }
-        ensures absent { IsErrOf result ShelfFault.Absent → IsSomeAnd (holds self.old) (λ files. get files name.now ≡ None) }
-        ensures too_long { IsErrOf result ShelfFault.TooLong → IfSome (holds self.old) (λ files. IsSomeAnd (get files name.now) (λ bytes. limit < length bytes)) }
+        ensures absent { IsErrOf result ShelfFault.Absent → IsSomeAnd (holds self.old)
+            (λ files. get files name.now ≡ None) }
+        ensures too_long { IsErrOf result ShelfFault.TooLong → IfSome (holds self.old)
+            (λ files. IsSomeAnd (get files name.now) (λ bytes. limit < length bytes)) }
         ensures cause { HasCause ShelfFault.Failed (faults self.old) (faults self.new) result };
 
     /// Puts the bytes under a name, in place of those that were there. All other names keep theirs.

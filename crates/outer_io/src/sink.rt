@@ -25,9 +25,11 @@ pub trait Sink {
         ensures ok { OnOk result (written self.new ≡ grown (written self.old) bytes.now) }
 
         // A failed put leaves a first part of the piece.
-        ensures failed { IsErrOf result PutFault.Failed → (n : ℕ) × (written self.new ≡ grown (written self.old) (take n bytes.now)) }
+        ensures failed { IsErrOf result PutFault.Failed → (n : ℕ)
+            × (written self.new ≡ grown (written self.old) (take n bytes.now)) }
         ensures no_memory { IsErrOf result PutFault.NoMemory → written self.new ≡ written self.old }
-        ensures no_memory_no_fault { IsErrOf result PutFault.NoMemory → faults self.new ≡ faults self.old }
+        ensures no_memory_no_fault { IsErrOf result PutFault.NoMemory →
+            faults self.new ≡ faults self.old }
         ensures empty { bytes.now ≡ [] → IsOk result }
         ensures cause { HasCause PutFault.Failed (faults self.old) (faults self.new) result };
 }

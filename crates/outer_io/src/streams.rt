@@ -106,8 +106,10 @@ impl<W: Write> Sink for ErrSink<W> {
 /// Writes all the bytes, and says whether it did. A write that fails or takes nothing ends it; a first part of the
 /// bytes is then written.
 pub fn write_whole<W: Write>(writer: &mut W, bytes: &[u8]) -> bool
-    ensures whole { IsTrue result → Appends (W.contents writer.old) (W.contents writer.new) bytes.now }
-    ensures front { (n : ℕ) × Appends (W.contents writer.old) (W.contents writer.new) (take n bytes.now) }
+    ensures whole { IsTrue result →
+        Appends (W.contents writer.old) (W.contents writer.new) bytes.now }
+    ensures front { (n : ℕ)
+        × Appends (W.contents writer.old) (W.contents writer.new) (take n bytes.now) }
     ensures empty { bytes.now ≡ [] → IsTrue result }
 {
     let mut rest = bytes;

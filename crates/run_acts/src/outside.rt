@@ -152,7 +152,8 @@ pub fn print<O: Sink, E: Sink>(out: &mut O, err: &mut E, bytes: &[u8]) -> Result
 pub fn report<E: Sink>(err: &mut E, line: &[u8]) -> Result<(), Stopped>
     ensures ok { OnOk result (E.written err.new ≡ grown (E.written err.old) line.now) }
     ensures later { E.faults err.old ≤ E.faults err.new }
-    ensures stopped { IfErr result (λ stopped. (files : Option Files) (out : Option (List ℕ)) (s o s' o' : ℕ) →
+    ensures stopped { IfErr result
+        (λ stopped. (files : Option Files) (out : Option (List ℕ)) (s o s' o' : ℕ) →
         Breaks (counts s o (E.faults err.old)) (counts s' o' (E.faults err.new)) (Report line.now)
         (told files out (E.written err.old)) (told files out (E.written err.new)) (status_of stopped)) }
 {

@@ -13,7 +13,8 @@ pub fn acts_are_one_list()
         (acts ≡ others) × (status ≡ status') }
 
     // What a run has done that stopped, and then its next act, begin that list.
-    ensures begins { (words : List (List ℕ)) (old other mid : Told) (next : Act) (acts : List Act) (status : ℕ) →
+    ensures begins { (words : List (List ℕ)) (old other mid : Told) (next : Act) (acts : List Act)
+        (status : ℕ) →
         IsSome old.files → other.files ≡ old.files →
         (comes : ComesTo words old mid next) → AreActs words other acts status →
         (rest : List Act) × (acts ≡ comes.acts ++ next ∷ rest) }

@@ -29,7 +29,8 @@ fn is_sp_file(word: &Text) -> bool
 
 /// The word, if it may name a file.
 fn file_name(word: &Text) -> Option<&str>
-    ensures { MatchOption result (¬ IsName word.now) (λ name. IsName word.now × (name.now ≡ word.now)) }
+    ensures { MatchOption result (¬ IsName word.now)
+        (λ name. IsName word.now × (name.now ≡ word.now)) }
 {
     let Ok(name) = str::from_utf8(word.as_bytes()) else {
         return None;

@@ -1,5 +1,5 @@
 // What holds of all terms, and no single call shows.
-ghost use Rattle.std.specs.Prelude.{◌≡◌, ◌↔◌, ◌||◌, ℕ, List, true, IsTrue};
+ghost use Rattle.std.specs.Prelude.{◌≡◌, ◌↔◌, ◌||◌, ℕ, List, Some, slice_get, true, IsTrue};
 ghost use Rattle.std.specs.List.{IsDistinct};
 ghost use Rattle.std.specs.declared.cmp.Ordering.TheVariants.{Less, Equal};
 ghost use Rattle.std.specs.Ordering.{ordering_reverse, is_le};
@@ -11,6 +11,8 @@ ghost use Rattle.c_terms.specs.Bare.{bare};
 ghost use Rattle.c_terms.specs.Same.{same_bytes, same_tree};
 ghost use Rattle.c_terms.specs.Order.{tree_order};
 ghost use Rattle.c_terms.specs.Names.{with_name, listed_names};
+ghost use Rattle.c_terms.specs.Shapes.{is_expression_part};
+ghost use Rattle.c_terms.specs.Places.{Place, parts, subtree};
 
 /// No two kinds of tokens have one number, nor have two labels.
 pub fn numbers_tell_apart()
@@ -42,4 +44,11 @@ pub fn names_stay_distinct()
     ensures listed { IsDistinct same_bytes listed_names }
     ensures added { (names : List (List ℕ)) (name : List ℕ)
         → IsDistinct same_bytes names → IsDistinct same_bytes (with_name names name) }
+{}
+
+/// The paths of [`expression_paths`](crate::expression_paths) lead to the parts: to the tree that
+/// stands beside each path in the definition.
+pub fn paths_lead_to_parts()
+    ensures { (t : Tree) (k : ℕ) (p : Place) → slice_get (parts is_expression_part t) k ≡ Some p →
+        subtree t p.path ≡ Some p.tree }
 {}

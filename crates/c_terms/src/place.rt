@@ -1,10 +1,13 @@
 // Looking into a tree: its first token, and the subtree at a path.
-ghost use Rattle.std.specs.Prelude.{◌≡◌, slice_get};
+ghost use Rattle.std.specs.Prelude.{◌≡◌, ◌++◌, ◌^◌, ◌<◌, map, slice_get, IfOk, OnOk, [], ◌∷◌, if◌then◌else◌};
 ghost use Rattle.std.specs.Option.{option_copied};
-ghost use Rattle.c_terms.specs.Trees.{leaves};
-ghost use Rattle.c_terms.specs.Places.{child, subtree};
+ghost use Rattle.c_terms.specs.Trees.{leaves, width};
+ghost use Rattle.c_terms.specs.Places.{child, subtree, parts};
+ghost use Rattle.c_terms.specs.Shapes.{is_expression_part};
 
-use crate::{Token, Tree};
+use crate::{NoMemory, Token, Tree, TreePath, is_expression_part};
+use sqlite_items::Items;
+use std::alloc::Global;
 
 /// The first token from the left, if there is one. Takes no memory, and looks at no more branches
 /// than stand before it. Recurses once a level.
@@ -44,4 +47,70 @@ pub fn subtree<'a>(tree: &'a Tree, path: &[u32]) -> Option<&'a Tree>
         found = child(found, *step as usize)?;
     }
     Some(found)
+}
+
+/// The most children of any branch. Takes no memory, is linear, and recurses once a level.
+pub fn width(tree: &Tree) -> usize
+    ensures value { result ≡ width tree.now }
+{
+    match tree {
+        Tree::Leaf(_) => 0,
+        Tree::Branch(_, children) => {
+            let mut most = children.len();
+            for child in children.as_slice() {
+                most = most.max(width(child));
+            }
+            most
+        }
+    }
+}
+
+/// The paths of the subtrees that fill an expression part of their row, by place: each before those
+/// inside it. Linear in the tree, and in the length of each path. Recurses once a level.
+pub fn expression_paths(alloc: Global, tree: &Tree) -> Result<Items<TreePath>, NoMemory>
+    requires narrow { width tree.now < 2 ^ 32 }
+    ensures paths { IfOk result (λ paths. paths ≡ map (λ p. p.path) (parts is_expression_part tree.now)) }
+{
+    let mut above = Vec::new(alloc);
+    let mut found = Items::new(alloc);
+    put_paths(alloc, tree, &mut above, &mut found)?;
+    Ok(found)
+}
+
+// Puts the paths in a tree that stands at the path `above`.
+fn put_paths(
+    alloc: Global,
+    tree: &Tree,
+    above: &mut Vec<u32>,
+    found: &mut Items<TreePath>,
+) -> Result<(), NoMemory>
+    requires narrow { width tree.now < 2 ^ 32 }
+    ensures found { OnOk result (found.new ≡ found.old ++ map (λ p. above.old.items ++ p.path) (parts is_expression_part tree.now)) }
+    ensures above { OnOk result (above.new.items ≡ above.old.items) }
+{
+    if let Tree::Branch(label, children) = tree {
+        for (i, child) in children.as_slice().iter().enumerate() {
+            above.push(i as u32)?;
+            put_part(alloc, is_expression_part(*label, i, child), above, found)?;
+            put_paths(alloc, child, above, found)?;
+            above.pop();
+        }
+    }
+    Ok(())
+}
+
+// Puts the path, where the subtree there is asked for.
+fn put_part(
+    alloc: Global,
+    asked: bool,
+    path: &Vec<u32>,
+    found: &mut Items<TreePath>,
+) -> Result<(), NoMemory>
+    ensures { OnOk result (found.new ≡ found.old ++ (if asked then path.now.items ∷ [] else [])) }
+{
+    if asked {
+        let steps = Vec::from_slice(alloc, path.as_slice())?;
+        found.push(TreePath::of(steps))?;
+    }
+    Ok(())
 }

@@ -1,8 +1,8 @@
 // Each call once with ample memory, and each recursion at the greatest depth that a parser gives.
 use crate::{
     Label, MetaKind, Names, NoMemory, Shape, Text, Token, TokenKind, Tree, TreePath, child,
-    compare_tokens, first_leaf, is_expression_part, is_same_token, leaves, members_of, run_of,
-    same_term, subtree, term_order, text_order,
+    compare_tokens, expression_paths, first_leaf, is_expression_part, is_same_token, leaves,
+    members_of, run_of, same_term, subtree, term_order, text_order, width,
 };
 use sqlite_items::Items;
 use std::alloc::Global;
@@ -76,6 +76,12 @@ fn trees_are_read(rt: HostRuntime) -> Result<(), NoMemory> {
     };
     assert!(rt; is_token(first_leaf(found), b"b", 4));
     assert!(rt; child(found, 0).is_none());
+    // `f`, and `a` and `b` in the list, which is no expression itself
+    assert_eq!(rt; width(&tree), 4);
+    let paths = expression_paths(alloc, &tree)?;
+    let last: &[u32] = &[2, 2];
+    assert!(rt; paths.len() == 3);
+    assert!(rt; paths.get(2).is_some_and(|p| p.steps() == last));
     Ok(())
 }
 
@@ -175,8 +181,16 @@ fn all_calls_at(alloc: Global, depth: usize) -> Result<bool, NoMemory> {
     let tree = nested(alloc, depth)?;
     let copy = tree.copy(alloc)?;
     let count = leaves(alloc, &copy)?.len();
+    if width(&tree) != 4 {
+        return Ok(false);
+    }
+    let paths = expression_paths(alloc, &tree)?.len();
     let same = same_term(&tree, &copy) && term_order(&tree, &copy) == Ordering::Equal;
-    Ok(same && count == 6 && is_token(first_leaf(&tree), b"f", 0))
+    Ok(
+        same && count == 6
+            && paths == depth.saturating_add(3)
+            && is_token(first_leaf(&tree), b"f", 0),
+    )
 }
 
 #[test]

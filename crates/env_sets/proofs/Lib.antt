@@ -1,0 +1,9 @@
+pub mod BoundLemmas
+pub mod PairLemmas
+pub mod WithoutLemmas
+pub mod LoopLemmas
+pub mod GivenLemmas
+pub mod AlikeLemmas
+pub mod SplitLemmas
+pub mod RisingLemmas
+pub mod MeetLemmas

@@ -1,0 +1,48 @@
+-- How a set splits on the values of one variable.
+use Rattle.std.specs.Prelude.{Bool, true, false, ◌&&◌, ◌||◌, not, cond, Option, Some, None, List, [], ◌∷◌, ℕ, ◌+◌, length}
+use Rattle.std.specs.List.{list_all, filter}
+use Rattle.smpl_terms.specs.declared.var.Var.{Var}
+use Rattle.smpl_terms.specs.declared.value.Value.{Value}
+use Rattle.smpl_terms.specs.Vars.{same_var}
+use Rattle.env_sets.specs.declared.bounds.Bound.{Bound}
+use Rattle.env_sets.specs.Bounds.{fits, is_not}
+
+-- the bound allows the value, if there is one
+abbrev pub fits_if : Option Value → Bound → Bool
+fits_if None b = true
+fits_if (Some v) b = fits v b
+
+-- each bound of x passes the test
+abbrev pub passes : Var → (Bound → Bool) → List (Var × Bound) → Bool
+passes x test pairs = list_all (λ p. not (same_var p.0 x) || test p.1) pairs
+
+abbrev pub without : Var → List (Var × Bound) → List (Var × Bound)
+without x pairs = filter (λ p. not (same_var p.0 x)) pairs
+
+-- the entries whose bound of x passes the test, without it
+abbrev pub restricted : Var → (Bound → Bool) → List (List (Var × Bound)) → List (List (Var × Bound))
+restricted x test [] = []
+restricted x test (e ∷ es) = cond (passes x test e) (without x e ∷ restricted x test es) (restricted x test es)
+
+-- how many bounds all entries have
+abbrev pub size_of : List (List (Var × Bound)) → ℕ
+size_of [] = 0
+size_of (e ∷ es) = length e + size_of es
+
+-- the first entry bounds x first
+abbrev pub leads : Var → List (List (Var × Bound)) → Bool
+leads x [] = false
+leads x ([] ∷ es) = false
+leads x ((p ∷ ps) ∷ es) = same_var p.0 x
+
+-- both tests give one answer
+abbrev pub agree : Bool → Bool → Bool
+agree true b = b
+agree false b = not b
+
+-- the bounds of x allow z exactly where they exclude values
+abbrev pub is_unnamed : Var → Value → List (Var × Bound) → Bool
+is_unnamed x z pairs = passes x (λ b. agree (is_not b) (fits z b)) pairs
+
+abbrev pub none_named : Var → Value → List (List (Var × Bound)) → Bool
+none_named x z entries = list_all (is_unnamed x z) entries

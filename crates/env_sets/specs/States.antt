@@ -1,0 +1,16 @@
+-- Sets by subformula and node.
+use Rattle.std.specs.Prelude.{◌≡◌, ◌<◌, ℕ, List, [], length, slice_index_or}
+use Rattle.smpl_terms.specs.declared.var.Var.{Var}
+use Rattle.env_sets.specs.declared.bounds.Bound.{Bound}
+
+-- a set of entries
+abbrev pub Entries : Type 0
+Entries = List (List (Var × Bound))
+
+-- the rows have one length
+abbrev pub IsEven : List (List Entries) → Type 0
+IsEven rows = (i j : ℕ) → i < length rows → j < length rows → length (slice_index_or rows i []) ≡ length (slice_index_or rows j [])
+
+-- the set at a node of a row
+abbrev pub set_at : List (List Entries) → ℕ → ℕ → Entries
+set_at rows part node = slice_index_or (slice_index_or rows part []) node []

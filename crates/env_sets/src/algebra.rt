@@ -1,0 +1,261 @@
+// What is computed with sets.
+ghost use Rattle.std.specs.Prelude.{◌≡◌, ◌&&◌, ◌||◌, ◌++◌, Bool, true, not, List, [], ◌∷◌, IfOk, IfSome};
+ghost use Rattle.std.specs.List.{list_all, list_any};
+ghost use Rattle.smpl_terms.specs.Values.{same};
+ghost use Rattle.std.specs.Bool.{Decides};
+ghost use Rattle.smpl_terms.specs.declared.var.Var.{Var};
+ghost use Rattle.smpl_terms.specs.Vars.{same_var};
+ghost use Rattle.smpl_terms.specs.Environments.{Environment, change, value_in, has_value, over, total};
+ghost use Rattle.env_sets.specs.Sets.{entry_denotes, entry_vars, option_denotes, option_vars, set_denotes, set_vars, ForSomeValue};
+ghost use Rattle.env_sets.specs.Splits.{fits_if};
+
+use crate::bounds::Bound;
+use crate::entries::{Entry, entry_holds, meet_entries};
+use crate::sets::{EnvSet, put_some, settled};
+use crate::values::Values;
+use c_terms::NoMemory;
+use smpl_terms::{Env, Value, Var, same_var};
+use std::alloc::Global;
+
+/// Either: what a stands for, and what b stands for. Entries that others cover are dropped.
+///
+/// For n entries over one variable that are values it takes n log n steps.
+pub fn join(alloc: Global, a: &EnvSet, b: &EnvSet) -> Result<EnvSet, NoMemory>
+    ensures meaning { IfOk result (λ r. (env : Environment) → set_denotes r env ≡ (set_denotes a.now env || set_denotes b.now env)) }
+    ensures vars { IfOk result (λ r. (t : Var → Bool) → set_vars t a.now ≡ true → set_vars t b.now ≡ true → set_vars t r ≡ true) }
+{
+    let mut entries = Vec::new(alloc);
+    put_copies(alloc, &mut entries, a)?;
+    put_copies(alloc, &mut entries, b)?;
+    settled(alloc, entries)
+}
+
+fn put_copies(alloc: Global, out: &mut Vec<Entry>, a: &EnvSet) -> Result<(), NoMemory>
+    ensures { IfOk result (λ _. out.new.items ≡ out.old.items ++ a.now) }
+{
+    for e in a.entries() {
+        out.push(e.copy(alloc)?)?;
+    }
+    Ok(())
+}
+
+/// Both: what a and b stand for.
+///
+/// It meets each entry of a with each of b. But an entry of a that fixes the first variable of b alone meets no entry
+/// of b that fixes this variable alone; it is looked up among their values. So for sets of n entries over one variable,
+/// which are values in order, it takes n log n steps.
+pub fn meet(alloc: Global, a: &EnvSet, b: &EnvSet) -> Result<EnvSet, NoMemory>
+    ensures meaning { IfOk result (λ r. (env : Environment) → set_denotes r env ≡ (set_denotes a.now env && set_denotes b.now env)) }
+    ensures vars { IfOk result (λ r. (t : Var → Bool) → set_vars t a.now ≡ true → set_vars t b.now ≡ true → set_vars t r ≡ true) }
+{
+    match first_var(b) {
+        None => meet_pairs(alloc, a, b),
+        Some(x) => meet_by(alloc, a, b, x),
+    }
+}
+
+fn first_var(b: &EnvSet) -> Option<&Var> {
+    match b.entries() {
+        [] => None,
+        [first, ..] => match first.pairs() {
+            [] => None,
+            [pair, ..] => Some(&pair.0),
+        },
+    }
+}
+
+/// Meets each entry of a with each of b.
+fn meet_pairs(alloc: Global, a: &EnvSet, b: &EnvSet) -> Result<EnvSet, NoMemory>
+    ensures meaning { IfOk result (λ r. (env : Environment) → set_denotes r env ≡ (set_denotes a.now env && set_denotes b.now env)) }
+    ensures vars { IfOk result (λ r. (t : Var → Bool) → set_vars t a.now ≡ true → set_vars t b.now ≡ true → set_vars t r ≡ true) }
+{
+    let mut entries = Vec::new(alloc);
+    for e in a.entries() {
+        put_meets(alloc, &mut entries, e, b)?;
+    }
+    settled(alloc, entries)
+}
+
+/// The same, with the values at which b has x alone apart.
+fn meet_by(alloc: Global, a: &EnvSet, b: &EnvSet, x: &Var) -> Result<EnvSet, NoMemory>
+    ensures meaning { IfOk result (λ r. (env : Environment) → set_denotes r env ≡ (set_denotes a.now env && set_denotes b.now env)) }
+    ensures vars { IfOk result (λ r. (t : Var → Bool) → set_vars t a.now ≡ true → set_vars t b.now ≡ true → set_vars t r ≡ true) }
+{
+    let parts = parts_at(alloc, b, x)?;
+    let mut entries = Vec::new(alloc);
+    for e in a.entries() {
+        put_meets_by(alloc, &mut entries, e, b, x, &parts)?;
+    }
+    settled(alloc, entries)
+}
+
+/// A set at a variable: the values of the entries that fix it alone, and all other entries.
+#[derive(Drop)]
+pub struct Parts {
+    pub fixed: Values,
+    pub others: EnvSet,
+}
+
+/// The parts of a set at x. Copies each entry once.
+pub fn parts_at(alloc: Global, b: &EnvSet, x: &Var) -> Result<Parts, NoMemory>
+    ensures meaning { IfOk result (λ parts. (env : Environment)
+        → set_denotes b.now env ≡ (list_any (λ v. same v (env x.now)) parts.fixed || set_denotes parts.others env)) }
+    ensures vars { IfOk result (λ parts. (t : Var → Bool) → set_vars t b.now ≡ true → set_vars t parts.others ≡ true) }
+{
+    let mut fixed = Vec::new(alloc);
+    let mut others = Vec::new(alloc);
+    for e in b.entries() {
+        put_part(alloc, &mut fixed, &mut others, e, x)?;
+    }
+    Ok(Parts {
+        fixed: Values::of(fixed),
+        others: EnvSet::of(others),
+    })
+}
+
+/// Adds the entry to the values or to the entries.
+fn put_part(
+    alloc: Global,
+    fixed: &mut Vec<Value>,
+    others: &mut Vec<Entry>,
+    e: &Entry,
+    x: &Var,
+) -> Result<(), NoMemory>
+    ensures meaning { IfOk result (λ _. (env : Environment)
+        → (list_any (λ v. same v (env x.now)) fixed.new.items || set_denotes others.new.items env)
+        ≡ ((list_any (λ v. same v (env x.now)) fixed.old.items || set_denotes others.old.items env) || entry_denotes e.now env)) }
+    ensures vars { IfOk result (λ _. (t : Var → Bool) → set_vars t others.old.items ≡ true → entry_vars t e.now ≡ true → set_vars t others.new.items ≡ true) }
+{
+    match only_value(e, x) {
+        Some(v) => {
+            fixed.push(v.copy(alloc)?)?;
+            Ok(())
+        }
+        None => {
+            others.push(e.copy(alloc)?)?;
+            Ok(())
+        }
+    }
+}
+
+/// The value of x, where the entry fixes x and nothing else.
+fn only_value<'e>(e: &'e Entry, x: &Var) -> Option<&'e Value>
+    ensures { IfSome result (λ v. (env : Environment) → entry_denotes e.now env ≡ same v.now (env x.now)) }
+{
+    match e.pairs() {
+        [pair] => match &pair.1 {
+            Bound::Is(v) => { if same_var(&pair.0, x) { Some(v) } else { None } }
+            Bound::Not(_) => None,
+        },
+        _ => None,
+    }
+}
+
+/// Adds what the entry and some entry of b stand for.
+fn put_meets_by(
+    alloc: Global,
+    out: &mut Vec<Entry>,
+    e: &Entry,
+    b: &EnvSet,
+    x: &Var,
+    parts: &Parts,
+) -> Result<(), NoMemory>
+    requires parts { (env : Environment) → set_denotes b.now env ≡ (list_any (λ v. same v (env x.now)) parts.now.fixed || set_denotes parts.now.others env) }
+    requires others { (t : Var → Bool) → set_vars t b.now ≡ true → set_vars t parts.now.others ≡ true }
+    ensures meaning { IfOk result
+        (λ _. (env : Environment) → set_denotes out.new.items env ≡ (set_denotes out.old.items env || (entry_denotes e.now env && set_denotes b.now env))) }
+    ensures vars { IfOk result
+        (λ _. (t : Var → Bool) → set_vars t out.old.items ≡ true → entry_vars t e.now ≡ true → set_vars t b.now ≡ true → set_vars t out.new.items ≡ true) }
+{
+    match only_value(e, x) {
+        None => put_meets(alloc, out, e, b),
+        Some(v) => {
+            if parts.fixed.have(v) {
+                out.push(e.copy(alloc)?)?;
+                return Ok(());
+            }
+            put_meets(alloc, out, e, &parts.others)
+        }
+    }
+}
+
+/// Adds what the entry and some entry of b stand for.
+fn put_meets(alloc: Global, out: &mut Vec<Entry>, e: &Entry, b: &EnvSet) -> Result<(), NoMemory>
+    ensures meaning { IfOk result
+        (λ _. (env : Environment) → set_denotes out.new.items env ≡ (set_denotes out.old.items env || (entry_denotes e.now env && set_denotes b.now env))) }
+    ensures vars { IfOk result
+        (λ _. (t : Var → Bool) → set_vars t out.old.items ≡ true → entry_vars t e.now ≡ true → set_vars t b.now ≡ true → set_vars t out.new.items ≡ true) }
+{
+    for f in b.entries() {
+        put_some(out, meet_entries(alloc, e, f)?)?;
+    }
+    Ok(())
+}
+
+/// What a stands for after some change of v alone. The result lacks v.
+///
+/// It copies each entry once, and drops what others cover.
+pub fn project(alloc: Global, a: &EnvSet, v: &Var) -> Result<EnvSet, NoMemory>
+    ensures meaning { IfOk result
+        (λ r. (env : Environment) → Decides (set_denotes r env) (ForSomeValue (λ w. set_denotes a.now (change env v.now w)))) }
+    ensures vars { IfOk result (λ r. (t : Var → Bool) → set_vars (λ y. t y || same_var y v.now) a.now ≡ true → set_vars t r ≡ true) }
+{
+    let mut entries = Vec::new(alloc);
+    for e in a.entries() {
+        entries.push(e.without(alloc, v)?)?;
+    }
+    settled(alloc, entries)
+}
+
+/// What remains where the variables of env have its values. Those variables no longer occur in it.
+///
+/// It copies each entry at most once, looks each of its variables up in env, and drops what others cover.
+pub fn given(alloc: Global, a: &EnvSet, env: &Env) -> Result<EnvSet, NoMemory>
+    ensures meaning { IfOk result (λ r. (rest : Environment) → set_denotes r rest ≡ set_denotes a.now (over env.now rest)) }
+    ensures vars { IfOk result (λ r. (t : Var → Bool) → set_vars (λ x. t x || has_value env.now x) a.now ≡ true → set_vars t r ≡ true) }
+{
+    let mut entries = Vec::new(alloc);
+    for e in a.entries() {
+        put_some(&mut entries, entry_given(alloc, e, env)?)?;
+    }
+    settled(alloc, entries)
+}
+
+fn entry_given(alloc: Global, entry: &Entry, env: &Env) -> Result<Option<Entry>, NoMemory>
+    ensures meaning { IfOk result (λ o. (rest : Environment) → option_denotes o rest ≡ entry_denotes entry.now (over env.now rest)) }
+    ensures vars { IfOk result (λ o. (t : Var → Bool) → entry_vars (λ x. t x || has_value env.now x) entry.now ≡ true → option_vars t o ≡ true) }
+{
+    if !entry_agrees(entry, env) {
+        return Ok(None);
+    }
+    Ok(Some(entry.free_of(alloc, env)?))
+}
+
+/// Whether each bound of a variable that has a value allows it.
+fn entry_agrees(entry: &Entry, env: &Env) -> bool
+    ensures { result ≡ list_all (λ p. fits_if (value_in env.now p.0) p.1) entry.now }
+{
+    for p in entry.pairs() {
+        if let Some(value) = env.get(&p.0) {
+            if !p.1.allows(value) {
+                return false;
+            }
+        }
+    }
+    true
+}
+
+/// Whether a stands for env, which gives each variable of a its value. A variable of a without a value counts as the
+/// place 0.
+///
+/// It looks each variable of each entry up in env, until an entry stands for it. Takes no memory.
+pub fn denotes(a: &EnvSet, env: &Env) -> bool
+    ensures meaning { result ≡ set_denotes a.now (total env.now) }
+{
+    for e in a.entries() {
+        if entry_holds(e, env) {
+            return true;
+        }
+    }
+    false
+}

@@ -1,0 +1,116 @@
+// What one variable may be: one value, or none of some values.
+ghost use Rattle.std.specs.Prelude.{◌≡◌, ◌&&◌, true, IfOk};
+ghost use Rattle.smpl_terms.specs.declared.value.Value.{Value as Datum};
+ghost use Rattle.env_sets.specs.Bounds.{fits, option_fits, is_not};
+
+use crate::values::Values;
+use c_terms::NoMemory;
+use smpl_terms::{Value, same_value, value_order};
+use std::alloc::Global;
+use std::cmp::Ordering;
+
+/// The value of a variable, or the values that it does not have.
+#[derive(Drop)]
+pub enum Bound {
+    /// The variable has this value.
+    Is(Value),
+    /// The variable has none of these values.
+    Not(Values),
+}
+
+impl Bound {
+    /// An equal bound, ids included. Linear.
+    pub fn copy(&self, alloc: Global) -> Result<Bound, NoMemory>
+        ensures { IfOk result (λ b. b ≡ self.now) }
+    {
+        match self {
+            Bound::Is(v) => Ok(Bound::Is(v.copy(alloc)?)),
+            Bound::Not(vs) => Ok(Bound::Not(vs.copy(alloc)?)),
+        }
+    }
+
+    /// Whether the variable may have this value. Takes no memory.
+    pub fn allows(&self, v: &Value) -> bool
+        ensures { result ≡ fits v.now self.now }
+    {
+        match self {
+            Bound::Is(w) => same_value(w, v),
+            Bound::Not(ws) => !ws.have(v),
+        }
+    }
+
+    /// Whether this is a list of values that the variable does not have. Takes no memory.
+    pub fn is_not(&self) -> bool
+        ensures value { result ≡ is_not self.now }
+    {
+        match self {
+            Bound::Is(_) => false,
+            Bound::Not(_) => true,
+        }
+    }
+}
+
+/// What both bounds allow; nothing where no value is left.
+pub fn meet_bounds(alloc: Global, a: &Bound, b: &Bound) -> Result<Option<Bound>, NoMemory>
+    ensures { IfOk result (λ o. (x : Datum) → option_fits x o ≡ (fits x a.now && fits x b.now)) }
+{
+    match (a, b) {
+        (Bound::Is(v), _) => {
+            if b.allows(v) {
+                Ok(Some(a.copy(alloc)?))
+            } else {
+                Ok(None)
+            }
+        }
+        (Bound::Not(_), Bound::Is(w)) => {
+            if a.allows(w) {
+                Ok(Some(b.copy(alloc)?))
+            } else {
+                Ok(None)
+            }
+        }
+        (Bound::Not(vs), Bound::Not(ws)) => Ok(Some(Bound::Not(vs.joined(alloc, ws)?))),
+    }
+}
+
+/// Whether a allows each value that b allows; false where that is not plain.
+pub fn bound_covers(a: &Bound, b: &Bound) -> bool
+    ensures { result ≡ true → (x : Datum) → fits x b.now ≡ true → fits x a.now ≡ true }
+{
+    match (a, b) {
+        (_, Bound::Is(w)) => a.allows(w),
+        (Bound::Is(_), Bound::Not(_)) => false,
+        (Bound::Not(vs), Bound::Not(ws)) => {
+            for v in vs.as_slice() {
+                if !ws.have(v) {
+                    return false;
+                }
+            }
+            true
+        }
+    }
+}
+
+/// A list of excluded values before a value; shorter lists before longer ones, values in their order.
+pub fn bound_order(a: &Bound, b: &Bound) -> Ordering {
+    match (a, b) {
+        (Bound::Is(v), Bound::Is(w)) => value_order(v, w),
+        (Bound::Is(_), Bound::Not(_)) => Ordering::Greater,
+        (Bound::Not(_), Bound::Is(_)) => Ordering::Less,
+        (Bound::Not(vs), Bound::Not(ws)) => order_of_lists(vs.as_slice(), ws.as_slice()),
+    }
+}
+
+fn order_of_lists(vs: &[Value], ws: &[Value]) -> Ordering {
+    let lengths = vs.len().cmp(&ws.len());
+    if lengths.is_ne() {
+        return lengths;
+    }
+    for (v, w) in vs.iter().zip(ws) {
+        let order = value_order(v, w);
+        if order.is_ne() {
+            return order;
+        }
+    }
+    Ordering::Equal
+}

@@ -1,0 +1,256 @@
+// Entries: what some variables may be, each variable once, in order.
+ghost use Rattle.std.specs.Prelude.{◌≡◌, ◌&&◌, ◌||◌, Bool, true, not, List, [], ◌∷◌, IfOk, map};
+ghost use Rattle.std.specs.List.{list_all, filter};
+ghost use Rattle.std.specs.Bool.{Decides};
+ghost use Rattle.smpl_terms.specs.declared.var.Var.{Var};
+ghost use Rattle.smpl_terms.specs.Vars.{same_var, Rising, place_of};
+ghost use Rattle.smpl_terms.specs.Environments.{Environment, change, has_value, total};
+ghost use Rattle.env_sets.specs.Bounds.{fits};
+ghost use Rattle.env_sets.specs.Sets.{entry_denotes, option_denotes, entry_vars, option_vars, ForSomeValue};
+
+use crate::bounds::{Bound, bound_covers, bound_order, meet_bounds};
+use c_terms::NoMemory;
+use smpl_terms::{Env, Value, Var, same_var, var_order};
+use std::alloc::Global;
+use std::cmp::Ordering;
+use std::marker::Model;
+
+/// Bounds of some variables. Contracts see the list of pairs, sorted by variable, each variable once.
+#[derive(Drop)]
+pub struct Entry {
+    pairs: Vec<(Var, Bound)>,
+}
+
+impl Model for Entry {
+    ghost use Rattle.std.specs.Coded.{codes};
+    ghost use Rattle.c_terms.specs.contracts.tree.Tree as tree;
+    ghost use Rattle.std.specs.Prelude.{List};
+    ghost use Rattle.smpl_terms.specs.declared.var.Var.{Var};
+    ghost use Rattle.env_sets.specs.declared.bounds.Bound.{Bound};
+
+    ghost Value = { List (Var × Bound) };
+
+    ghost coded = { Prim.hlevel (codes, tree.the_row.coded) };
+
+    ghost use Rattle.smpl_terms.specs.Vars.{Rising};
+
+    ghost view = { λ a. a.pairs.items };
+
+    ghost invariant = { λ a. Rising a.pairs.items };
+}
+
+fn place(pairs: &[(Var, Bound)], v: &Var) -> usize
+    ensures { result ≡ place_of v.now pairs.now }
+{
+    let mut i = 0;
+    while i < pairs.len() && var_order(&pairs[i].0, v).is_lt() {
+        i += 1;
+    }
+    i
+}
+
+fn copy_pairs(alloc: Global, pairs: &[(Var, Bound)]) -> Result<Vec<(Var, Bound)>, NoMemory>
+    ensures { IfOk result (λ copies. copies.items ≡ pairs.now) }
+{
+    let mut copies = Vec::with_capacity(alloc, pairs.len())?;
+    for p in pairs {
+        copies.push((p.0.copy(alloc)?, p.1.copy(alloc)?))?;
+    }
+    Ok(copies)
+}
+
+fn pairs_without(
+    alloc: Global,
+    pairs: &[(Var, Bound)],
+    v: &Var,
+) -> Result<Vec<(Var, Bound)>, NoMemory>
+    ensures { IfOk result (λ kept. kept.items ≡ filter (λ p. not (same_var p.0 v.now)) pairs.now) }
+{
+    let mut kept = Vec::with_capacity(alloc, pairs.len())?;
+    for p in pairs {
+        if !same_var(&p.0, v) {
+            kept.push((p.0.copy(alloc)?, p.1.copy(alloc)?))?;
+        }
+    }
+    Ok(kept)
+}
+
+fn pairs_free_of(
+    alloc: Global,
+    pairs: &[(Var, Bound)],
+    env: &Env,
+) -> Result<Vec<(Var, Bound)>, NoMemory>
+    ensures { IfOk result (λ kept. kept.items ≡ filter (λ p. not (has_value env.now p.0)) pairs.now) }
+{
+    let mut kept = Vec::with_capacity(alloc, pairs.len())?;
+    for p in pairs {
+        if !env.has(&p.0) {
+            kept.push((p.0.copy(alloc)?, p.1.copy(alloc)?))?;
+        }
+    }
+    Ok(kept)
+}
+
+impl Entry {
+    /// No bound: every environment.
+    pub fn all(alloc: Global) -> Entry
+        ensures pairs { result ≡ [] }
+    {
+        Entry {
+            pairs: Vec::new(alloc),
+        }
+    }
+
+    /// One bound.
+    pub fn one(alloc: Global, v: &Var, bound: Bound) -> Result<Entry, NoMemory>
+        ensures pairs { IfOk result (λ e. e ≡ (v.now, bound) ∷ []) }
+    {
+        let mut pairs = Vec::new(alloc);
+        pairs.push((v.copy(alloc)?, bound))?;
+        Ok(Entry { pairs })
+    }
+
+    /// The bounds, sorted by variable. Takes no memory.
+    pub fn pairs(&self) -> &[(Var, Bound)]
+        ensures pairs { result.now ≡ self.now }
+        ensures rising { Rising self.now }
+    {
+        self.pairs.as_slice()
+    }
+
+    /// An equal entry, ids included. Linear.
+    pub fn copy(&self, alloc: Global) -> Result<Entry, NoMemory>
+        ensures same { IfOk result (λ e. e ≡ self.now) }
+    {
+        let pairs = copy_pairs(alloc, &self.pairs)?;
+        Ok(Entry { pairs })
+    }
+
+    /// The entry with one more bound; nothing where no environment is left.
+    pub fn narrowed(self, alloc: Global, v: &Var, bound: &Bound) -> Result<Option<Entry>, NoMemory>
+        ensures meaning { IfOk result
+            (λ o. (env : Environment) → option_denotes o env ≡ (entry_denotes self env && fits (env v.now) bound.now)) }
+        ensures vars { IfOk result
+            (λ o. (t : Var → Bool) → entry_vars t self ≡ true → t v.now ≡ true → option_vars t o ≡ true) }
+    {
+        let Entry { mut pairs } = self;
+        let x = v.copy(alloc)?;
+        let at = place(&pairs, v);
+        if at < pairs.len() && same_var(&pairs[at].0, v) {
+            let found = meet_bounds(alloc, &pairs[at].1, bound)?;
+            match found {
+                None => Ok(None),
+                Some(both) => {
+                    pairs[at] = (x, both);
+                    Ok(Some(Entry { pairs }))
+                }
+            }
+        } else {
+            pairs.insert(at, (x, bound.copy(alloc)?))?;
+            Ok(Some(Entry { pairs }))
+        }
+    }
+
+    /// The entry without the bounds of the variables that have a value in env.
+    pub fn free_of(&self, alloc: Global, env: &Env) -> Result<Entry, NoMemory>
+        ensures pairs { IfOk result (λ e. e ≡ filter (λ p. not (has_value env.now p.0)) self.now) }
+    {
+        let pairs = pairs_free_of(alloc, &self.pairs, env)?;
+        Ok(Entry { pairs })
+    }
+
+    /// The entry without the bound of v: what it stands for after some change of v alone.
+    pub fn without(&self, alloc: Global, v: &Var) -> Result<Entry, NoMemory>
+        ensures pairs { IfOk result (λ e. e ≡ filter (λ p. not (same_var p.0 v.now)) self.now) }
+        ensures meaning { IfOk result (λ e. (env : Environment) → Decides (entry_denotes e env) (ForSomeValue (λ w. entry_denotes self.now (change env v.now w)))) }
+        ensures vars { IfOk result (λ e. (t : Var → Bool) → entry_vars (λ y. t y || same_var y v.now) self.now ≡ true → entry_vars t e ≡ true) }
+    {
+        let pairs = pairs_without(alloc, &self.pairs, v)?;
+        Ok(Entry { pairs })
+    }
+}
+
+/// What both entries stand for; nothing where no environment is left.
+pub fn meet_entries(alloc: Global, a: &Entry, b: &Entry) -> Result<Option<Entry>, NoMemory>
+    ensures meaning { IfOk result (λ o. (env : Environment) → option_denotes o env ≡ (entry_denotes a.now env && entry_denotes b.now env)) }
+    ensures vars { IfOk result
+        (λ o. (t : Var → Bool) → entry_vars t a.now ≡ true → entry_vars t b.now ≡ true → option_vars t o ≡ true) }
+{
+    let mut both = a.copy(alloc)?;
+    for p in b.pairs() {
+        match both.narrowed(alloc, &p.0, &p.1)? {
+            None => return Ok(None),
+            Some(next) => both = next,
+        }
+    }
+    Ok(Some(both))
+}
+
+fn has_within(pairs: &[(Var, Bound)], v: &Var, bound: &Bound) -> bool
+    ensures { result ≡ true → (env : Environment) → entry_denotes pairs.now env ≡ true → fits (env v.now) bound.now ≡ true }
+{
+    for p in pairs {
+        if same_var(&p.0, v) && bound_covers(bound, &p.1) {
+            return true;
+        }
+    }
+    false
+}
+
+/// Whether a stands for all that b stands for; false where that is not plain.
+pub fn entry_covers(a: &Entry, b: &Entry) -> bool
+    ensures { result ≡ true → (env : Environment) → entry_denotes b.now env ≡ true → entry_denotes a.now env ≡ true }
+{
+    let inner = b.pairs();
+    for p in a.pairs() {
+        if !has_within(inner, &p.0, &p.1) {
+            return false;
+        }
+    }
+    true
+}
+
+/// Fewer bounds first, then by variables and bounds. An entry that covers another is before it, but for lists of
+/// excluded values that name a value twice.
+pub fn entry_order(a: &Entry, b: &Entry) -> Ordering {
+    let (ps, qs) = (a.pairs(), b.pairs());
+    let lengths = ps.len().cmp(&qs.len());
+    if lengths.is_ne() {
+        return lengths;
+    }
+    for (p, q) in ps.iter().zip(qs) {
+        let order = pair_order(p, q);
+        if order.is_ne() {
+            return order;
+        }
+    }
+    Ordering::Equal
+}
+
+fn pair_order(p: &(Var, Bound), q: &(Var, Bound)) -> Ordering {
+    match var_order(&p.0, &q.0) {
+        Ordering::Equal => bound_order(&p.1, &q.1),
+        unequal => unequal,
+    }
+}
+
+/// Whether each bound of the entry allows the variable's value; without one the place 0 counts. Takes no memory.
+pub fn entry_holds(entry: &Entry, env: &Env) -> bool
+    ensures { result ≡ entry_denotes entry.now (total env.now) }
+{
+    for p in entry.pairs() {
+        if !is_allowed(env, &p.0, &p.1) {
+            return false;
+        }
+    }
+    true
+}
+
+fn is_allowed(env: &Env, v: &Var, bound: &Bound) -> bool
+    ensures { result ≡ fits (total env.now v.now) bound.now }
+{
+    match env.get(v) {
+        Some(value) => bound.allows(value),
+        None => bound.allows(&Value::Place(0)),
+    }
+}

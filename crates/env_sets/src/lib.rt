@@ -1,0 +1,35 @@
+//! Sets of environments: which values the variables may have, over all terms and places, in the file or not.
+//!
+//! - [`Bound`] says of one variable that it is a value, or none of some values. [`Entry`] has bounds of some variables,
+//!   and stands for every environment that meets them. [`EnvSet`] stands for what some entry of it stands for.
+//! - [`meet`], [`join`] and [`complement`] are intersection, union and complement; [`project`] lets one variable change;
+//!   [`given`] gives some variables their values; [`denotes`] says whether an environment is in a set.
+//! - [`StateSets`] keeps a set for each subformula and node.
+//! - [`complement_twice`] and its neighbours are laws, which no single call shows.
+//!
+//! The complement of `x` is 1 is `x` is not 1; its meet with `y` is 2 stands for each environment where both hold.
+//!
+//! Values are compared as terms, ids aside. The calls hand back sets without entries that another covers; sets that a
+//! caller builds may have them. Nothing is lost or added by that: a set is known by what it stands for.
+//! [`complement`] recurses once a variable, and comparing values once a level of a tree.
+#![tactic(auto)]
+
+mod algebra;
+mod bounds;
+mod complements;
+mod entries;
+mod laws;
+mod sets;
+mod states;
+#[cfg(test)]
+mod tests;
+mod values;
+
+pub use algebra::{denotes, given, join, meet, project};
+pub use bounds::Bound;
+pub use complements::complement;
+pub use entries::Entry;
+pub use laws::{complement_twice, de_morgan, given_a_meet, project_a_join};
+pub use sets::EnvSet;
+pub use states::{StateRow, StateSets};
+pub use values::Values;

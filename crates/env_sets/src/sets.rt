@@ -1,0 +1,266 @@
+// Sets of entries.
+ghost use Rattle.std.specs.Prelude.{◌≡◌, ◌&&◌, ◌||◌, ◌++◌, Bool, true, List, [], ◌∷◌, IfOk, option_to_list};
+ghost use Rattle.smpl_terms.specs.declared.var.Var.{Var};
+ghost use Rattle.smpl_terms.specs.Environments.{Environment};
+ghost use Rattle.env_sets.specs.Sets.{entry_denotes, entry_vars, set_denotes, set_vars};
+
+use crate::bounds::Bound;
+use crate::entries::{Entry, entry_covers, entry_order};
+use c_terms::NoMemory;
+use smpl_terms::{Var, same_var};
+use std::alloc::Global;
+use std::marker::Model;
+
+/// A set of environments: those that some entry stands for. Contracts see the list of entries.
+#[derive(Drop)]
+pub struct EnvSet {
+    entries: Vec<Entry>,
+}
+
+impl Model for EnvSet {
+    ghost use Rattle.std.specs.Coded.{codes};
+    ghost use Rattle.c_terms.specs.contracts.tree.Tree as tree;
+    ghost use Rattle.std.specs.Prelude.{List};
+    ghost use Rattle.smpl_terms.specs.declared.var.Var.{Var};
+    ghost use Rattle.env_sets.specs.declared.bounds.Bound.{Bound};
+
+    ghost Value = { List (List (Var × Bound)) };
+
+    ghost coded = { Prim.hlevel (codes, tree.the_row.coded) };
+
+    ghost view = { λ a. a.entries.items };
+}
+
+impl EnvSet {
+    /// No entry: no environment. Takes no memory.
+    pub fn none(alloc: Global) -> EnvSet
+        ensures entries { result ≡ [] }
+    {
+        EnvSet {
+            entries: Vec::new(alloc),
+        }
+    }
+
+    /// One entry without bounds: every environment.
+    pub fn all(alloc: Global) -> Result<EnvSet, NoMemory>
+        ensures entries { IfOk result (λ r. r ≡ [] ∷ []) }
+    {
+        let mut entries = Vec::new(alloc);
+        entries.push(Entry::all(alloc))?;
+        Ok(EnvSet { entries })
+    }
+
+    /// One entry with one bound.
+    pub fn one(alloc: Global, v: &Var, bound: Bound) -> Result<EnvSet, NoMemory>
+        ensures entries { IfOk result (λ r. r ≡ ((v.now, bound) ∷ []) ∷ []) }
+    {
+        let mut entries = Vec::new(alloc);
+        entries.push(Entry::one(alloc, v, bound)?)?;
+        Ok(EnvSet { entries })
+    }
+
+    /// The set of these entries, as they stand. Takes no memory.
+    pub fn of(entries: Vec<Entry>) -> EnvSet
+        ensures entries { result ≡ entries.items }
+    {
+        EnvSet { entries }
+    }
+
+    /// The entries as a `Vec`. Takes no memory.
+    pub fn into_vec(self) -> Vec<Entry>
+        ensures entries { result.items ≡ self }
+    {
+        let EnvSet { entries } = self;
+        entries
+    }
+
+    /// The entries. Takes no memory.
+    pub fn entries(&self) -> &[Entry]
+        ensures entries { result.now ≡ self.now }
+    {
+        self.entries.as_slice()
+    }
+
+    /// An equal set, ids included. Linear.
+    pub fn copy(&self, alloc: Global) -> Result<EnvSet, NoMemory>
+        ensures same { IfOk result (λ r. r ≡ self.now) }
+    {
+        let mut entries = Vec::with_capacity(alloc, self.entries.len())?;
+        for e in &self.entries {
+            entries.push(e.copy(alloc)?)?;
+        }
+        Ok(EnvSet { entries })
+    }
+}
+
+/// The set of these entries, sorted, without those that another covers. For n entries that fix the same variables it
+/// takes n log n steps; an entry that excludes values, or has fewer bounds, is compared with each that follows it.
+pub fn settled(alloc: Global, entries: Vec<Entry>) -> Result<EnvSet, NoMemory>
+    ensures meaning { IfOk result (λ r. (env : Environment) → set_denotes r env ≡ set_denotes entries.items env) }
+    ensures vars { IfOk result (λ r. (t : Var → Bool) → set_vars t entries.items ≡ true → set_vars t r ≡ true) }
+{
+    let mut entries = entries;
+    entries.sort_unstable_by(|a, b| entry_order(a, b));
+    kept_of(alloc, entries)
+}
+
+/// The set of entries in order, without those that another covers.
+fn kept_of(alloc: Global, entries: Vec<Entry>) -> Result<EnvSet, NoMemory>
+    ensures meaning { IfOk result (λ r. (env : Environment) → set_denotes r env ≡ set_denotes entries.items env) }
+    ensures vars { IfOk result (λ r. (t : Var → Bool) → set_vars t entries.items ≡ true → set_vars t r ≡ true) }
+{
+    let mut kept = Kept::new(alloc);
+    for e in entries {
+        kept.put(e)?;
+    }
+    Ok(kept.into_set())
+}
+
+/// Adds an entry, if there is one.
+pub fn put_some(entries: &mut Vec<Entry>, more: Option<Entry>) -> Result<(), NoMemory>
+    ensures { IfOk result (λ _. entries.new.items ≡ entries.old.items ++ option_to_list more) }
+{
+    if let Some(e) = more {
+        entries.push(e)?;
+    }
+    Ok(())
+}
+
+/// Entries in order, so that one which covers others comes before them.
+#[derive(Drop)]
+struct Kept {
+    entries: Vec<Entry>,
+    /// How many have fewer bounds than the last.
+    shorter: usize,
+    /// Of the others, by number, those whose first bound excludes values.
+    open: Vec<usize>,
+    /// Of the others, by number, those that begin as the last does, and of which a later bound excludes values.
+    near: Vec<usize>,
+}
+
+impl Model for Kept {
+    ghost use Rattle.std.specs.Coded.{codes};
+    ghost use Rattle.c_terms.specs.contracts.tree.Tree as tree;
+    ghost use Rattle.std.specs.Prelude.{List};
+    ghost use Rattle.smpl_terms.specs.declared.var.Var.{Var};
+    ghost use Rattle.env_sets.specs.declared.bounds.Bound.{Bound};
+
+    ghost Value = { List (List (Var × Bound)) };
+
+    ghost coded = { Prim.hlevel (codes, tree.the_row.coded) };
+
+    ghost view = { λ a. a.entries.items };
+}
+
+impl Kept {
+    fn new(alloc: Global) -> Kept
+        ensures { result ≡ [] }
+    {
+        Kept {
+            entries: Vec::new(alloc),
+            shorter: 0,
+            open: Vec::new(alloc),
+            near: Vec::new(alloc),
+        }
+    }
+
+    fn into_set(self) -> EnvSet
+        ensures { result ≡ self }
+    {
+        let Kept { entries, .. } = self;
+        EnvSet { entries }
+    }
+
+    /// One more entry, unless another covers it.
+    fn put(&mut self, e: Entry) -> Result<(), NoMemory>
+        ensures meaning { IfOk result (λ _. (env : Environment) → set_denotes self.new env ≡ (set_denotes self.old env || entry_denotes e env)) }
+        ensures vars { IfOk result (λ _. (t : Var → Bool) → set_vars t self.old ≡ true → entry_vars t e ≡ true → set_vars t self.new ≡ true) }
+    {
+        if self.have_over(&e) {
+            return Ok(());
+        }
+        self.note(&e)?;
+        self.entries.push(e)?;
+        Ok(())
+    }
+
+    /// Whether an entry that may cover this one does.
+    fn have_over(&self, e: &Entry) -> bool
+        ensures { result ≡ true → (env : Environment) → entry_denotes e.now env ≡ true → set_denotes self.now env ≡ true }
+    {
+        let count = self.entries.len();
+        if count > 0 && entry_covers(&self.entries[count - 1], e) {
+            return true;
+        }
+        first_cover(&self.entries, self.shorter, e)
+            || some_covers(&self.entries, &self.open, e)
+            || some_covers(&self.entries, &self.near, e)
+    }
+
+    /// Notes what the next entry may cover.
+    fn note(&mut self, e: &Entry) -> Result<(), NoMemory>
+        ensures { self.new ≡ self.old }
+    {
+        let count = self.entries.len();
+        if count > 0 && self.entries[count - 1].pairs().len() < e.pairs().len() {
+            self.shorter = count;
+            self.open.clear();
+            self.near.clear();
+        }
+        if count > 0 && !begin_alike(&self.entries[count - 1], e) {
+            self.near.clear();
+        }
+        if begins_open(e) {
+            self.open.push(count)?;
+        } else if e.pairs().iter().any(|p| p.1.is_not()) {
+            self.near.push(count)?;
+        }
+        Ok(())
+    }
+}
+
+/// Whether one of the first entries covers this one.
+fn first_cover(entries: &[Entry], count: usize, e: &Entry) -> bool
+    ensures { result ≡ true → (env : Environment) → entry_denotes e.now env ≡ true → set_denotes entries.now env ≡ true }
+{
+    for i in 0..count.min(entries.len()) {
+        if entry_covers(&entries[i], e) {
+            return true;
+        }
+    }
+    false
+}
+
+/// Whether one of the entries with these numbers covers this one.
+fn some_covers(entries: &[Entry], numbers: &[usize], e: &Entry) -> bool
+    ensures { result ≡ true → (env : Environment) → entry_denotes e.now env ≡ true → set_denotes entries.now env ≡ true }
+{
+    for i in numbers {
+        if *i < entries.len() && entry_covers(&entries[*i], e) {
+            return true;
+        }
+    }
+    false
+}
+
+fn begins_open(e: &Entry) -> bool {
+    match e.pairs() {
+        [] => false,
+        [first, ..] => first.1.is_not(),
+    }
+}
+
+/// Whether the first bounds are of one variable and one value.
+fn begin_alike(a: &Entry, b: &Entry) -> bool {
+    match (a.pairs(), b.pairs()) {
+        ([p, ..], [q, ..]) => same_var(&p.0, &q.0) && is_same(&p.1, &q.1),
+        _ => false,
+    }
+}
+
+fn is_same(a: &Bound, b: &Bound) -> bool {
+    match a {
+        Bound::Is(v) => b.allows(v) && !b.is_not(),
+        Bound::Not(_) => false,
+    }
+}

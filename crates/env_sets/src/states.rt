@@ -1,0 +1,86 @@
+// A set for each subformula and node.
+ghost use Rattle.std.specs.Prelude.{◌≡◌, ◌<◌, ℕ, List, [], length, slice_index_or};
+ghost use Rattle.env_sets.specs.States.{IsEven, set_at};
+
+use crate::sets::EnvSet;
+use std::marker::Model;
+
+/// The sets of one subformula, by node.
+#[derive(Drop)]
+pub struct StateRow {
+    sets: Vec<EnvSet>,
+}
+
+impl Model for StateRow {
+    ghost use Rattle.std.specs.Coded.{codes};
+    ghost use Rattle.c_terms.specs.contracts.tree.Tree as tree;
+    ghost use Rattle.std.specs.Prelude.{List};
+    ghost use Rattle.smpl_terms.specs.declared.var.Var.{Var};
+    ghost use Rattle.env_sets.specs.declared.bounds.Bound.{Bound};
+
+    ghost Value = { List (List (List (Var × Bound))) };
+
+    ghost coded = { Prim.hlevel (codes, tree.the_row.coded) };
+
+    ghost view = { λ a. a.sets.items };
+}
+
+impl StateRow {
+    /// The row of these sets. Takes no memory.
+    pub fn of(sets: Vec<EnvSet>) -> StateRow
+        ensures sets { result ≡ sets.items }
+    {
+        StateRow { sets }
+    }
+
+    /// The sets, by node. Takes no memory.
+    pub fn as_slice(&self) -> &[EnvSet]
+        ensures sets { result.now ≡ self.now }
+    {
+        self.sets.as_slice()
+    }
+}
+
+/// A set for each subformula number and node. Contracts see the rows, which have one length.
+#[derive(Drop)]
+pub struct StateSets {
+    rows: Vec<StateRow>,
+}
+
+impl Model for StateSets {
+    ghost use Rattle.std.specs.Coded.{codes};
+    ghost use Rattle.c_terms.specs.contracts.tree.Tree as tree;
+    ghost use Rattle.std.specs.Prelude.{List};
+    ghost use Rattle.smpl_terms.specs.declared.var.Var.{Var};
+    ghost use Rattle.env_sets.specs.declared.bounds.Bound.{Bound};
+
+    ghost Value = { List (List (List (List (Var × Bound)))) };
+
+    ghost coded = { Prim.hlevel (codes, tree.the_row.coded) };
+
+    ghost use Rattle.env_sets.specs.States.{IsEven};
+
+    ghost view = { λ a. a.rows.items };
+
+    ghost invariant = { λ a. IsEven a.rows.items };
+}
+
+impl StateSets {
+    /// The sets of these rows, by subformula and then by node. Takes no memory.
+    pub fn new(rows: Vec<StateRow>) -> StateSets
+        requires even { IsEven rows.items }
+        ensures rows { result ≡ rows.items }
+    {
+        StateSets { rows }
+    }
+
+    /// The set of a subformula at a node. Takes no memory.
+    pub fn at(&self, part: u32, node: u32) -> &EnvSet
+        requires part { part < length self.now }
+        requires node { node < length (slice_index_or self.now part []) }
+        ensures set { result.now ≡ set_at self.now part node }
+    {
+        let row = &self.rows[part as usize];
+        &row.as_slice()[node as usize]
+    }
+}

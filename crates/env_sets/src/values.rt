@@ -1,0 +1,170 @@
+// Lists of values.
+ghost use Rattle.std.specs.Prelude.{◌≡◌, ◌||◌, IfOk, true};
+ghost use Rattle.std.specs.List.{list_any};
+ghost use Rattle.smpl_terms.specs.declared.value.Value.{Value as Datum};
+ghost use Rattle.smpl_terms.specs.Values.{same};
+ghost use Rattle.env_sets.specs.Rising.{Rise};
+
+use c_terms::NoMemory;
+use smpl_terms::{Value, same_value, value_order};
+use std::alloc::Global;
+use std::cmp::Ordering;
+use std::marker::Model;
+
+/// A list of values. It knows whether it is in order, each value once; then look-ups are logarithmic.
+#[derive(Drop)]
+pub struct Values {
+    items: Vec<Value>,
+    rising: bool,
+}
+
+impl Model for Values {
+    ghost use Rattle.std.specs.Coded.{codes};
+    ghost use Rattle.c_terms.specs.contracts.tree.Tree as tree;
+    ghost use Rattle.std.specs.Prelude.{◌≡◌, List, true};
+    ghost use Rattle.smpl_terms.specs.declared.value.Value.{Value as Datum};
+
+    ghost Value = { List Datum };
+
+    ghost coded = { Prim.hlevel (codes, tree.the_row.coded) };
+
+    ghost use Rattle.env_sets.specs.Rising.{Rise};
+
+    ghost view = { λ a. a.items.items };
+
+    ghost invariant = { λ a. a.rising ≡ true → Rise a.items.items };
+}
+
+impl Values {
+    /// The values of a `Vec`. Linear, and takes no memory.
+    pub fn of(items: Vec<Value>) -> Values
+        ensures items { result ≡ items.items }
+    {
+        let rising = is_rising(&items);
+        Values { items, rising }
+    }
+
+    /// The list as a `Vec`. Takes no memory.
+    pub fn into_vec(self) -> Vec<Value>
+        ensures items { result.items ≡ self }
+    {
+        let Values { items, rising: _ } = self;
+        items
+    }
+
+    /// The values in order. Takes no memory.
+    pub fn as_slice(&self) -> &[Value]
+        ensures items { result.now ≡ self.now }
+    {
+        self.items.as_slice()
+    }
+
+    /// An equal list, ids included. Linear.
+    pub fn copy(&self, alloc: Global) -> Result<Values, NoMemory>
+        ensures same { IfOk result (λ r. r ≡ self.now) }
+    {
+        let mut items = Vec::with_capacity(alloc, self.items.len())?;
+        for v in &self.items {
+            items.push(v.copy(alloc)?)?;
+        }
+        Ok(Values {
+            items,
+            rising: self.rising,
+        })
+    }
+
+    /// Whether a value of the list is the same as this one. Takes no memory.
+    pub fn have(&self, v: &Value) -> bool
+        ensures value { result ≡ list_any (λ w. same w v.now) self.now }
+    {
+        if self.rising {
+            return has_in_order(&self.items, v);
+        }
+        has(&self.items, v)
+    }
+
+    /// The values of both lists. In order, each once, where both lists are. Linear.
+    pub fn joined(&self, alloc: Global, more: &Values) -> Result<Values, NoMemory>
+        ensures meaning { IfOk result (λ r. (z : Datum) → list_any (λ v. same v z) r ≡ (list_any (λ v. same v z) self.now || list_any (λ v. same v z) more.now)) }
+    {
+        let items = merged(alloc, &self.items, &more.items)?;
+        Ok(Values::of(items))
+    }
+}
+
+/// The values of both lists, the lesser head first.
+fn merged(alloc: Global, vs: &[Value], ws: &[Value]) -> Result<Vec<Value>, NoMemory>
+    ensures { IfOk result (λ r. (z : Datum) → list_any (λ v. same v z) r.items ≡ (list_any (λ v. same v z) vs.now || list_any (λ v. same v z) ws.now)) }
+{
+    let mut items = Vec::new(alloc);
+    let (mut i, mut j) = (0, 0);
+    while i < vs.len() && j < ws.len() {
+        if value_order(&vs[i], &ws[j]).is_le() {
+            put_new(&mut items, vs[i].copy(alloc)?)?;
+            i += 1;
+        } else {
+            put_new(&mut items, ws[j].copy(alloc)?)?;
+            j += 1;
+        }
+    }
+    for v in &vs[i..] {
+        put_new(&mut items, v.copy(alloc)?)?;
+    }
+    for w in &ws[j..] {
+        put_new(&mut items, w.copy(alloc)?)?;
+    }
+    Ok(items)
+}
+
+/// Adds a value, unless it is the last.
+pub fn put_new(kept: &mut Vec<Value>, v: Value) -> Result<(), NoMemory>
+    ensures { IfOk result (λ _. (z : Datum) → list_any (λ w. same w z) kept.new.items ≡ (list_any (λ w. same w z) kept.old.items || same v z)) }
+{
+    let count = kept.len();
+    if count > 0 && same_value(&kept[count - 1], &v) {
+        return Ok(());
+    }
+    kept.push(v)?;
+    Ok(())
+}
+
+/// Whether the list has a value that is the same.
+fn has(items: &[Value], v: &Value) -> bool
+    ensures { result ≡ list_any (λ w. same w v.now) items.now }
+{
+    for w in items {
+        if same_value(w, v) {
+            return true;
+        }
+    }
+    false
+}
+
+/// The same of a list in order, by halves.
+fn has_in_order(items: &[Value], v: &Value) -> bool
+    requires { Rise items.now }
+    ensures { result ≡ list_any (λ w. same w v.now) items.now }
+{
+    let (mut low, mut high) = (0, items.len());
+    while low < high {
+        let middle = low + (high - low) / 2;
+        match value_order(&items[middle], v) {
+            Ordering::Less => low = middle + 1,
+            Ordering::Greater => high = middle,
+            Ordering::Equal => return true,
+        }
+    }
+    false
+}
+
+/// Whether each value is before the next.
+fn is_rising(items: &[Value]) -> bool
+    ensures { result ≡ true → Rise items.now }
+{
+    for i in 1..items.len() {
+        if !value_order(&items[i - 1], &items[i]).is_lt() {
+            return false;
+        }
+    }
+    true
+}

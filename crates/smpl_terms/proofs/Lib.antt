@@ -1,0 +1,4 @@
+pub mod VarLaws
+pub mod ValueLaws
+pub mod PairLemmas
+pub mod EnvLemmas

@@ -1,0 +1,20 @@
+//! The terms of semantic patches: variables, values and environments.
+//!
+//! - [`Var`] is a metavariable or a position, by the rule that declares it and its name; [`var_order`] sorts variables.
+//! - [`Value`] is what a variable stands for: a term, or the place of a token. [`same_value`] compares values but for ids.
+//! - [`Env`] gives some variables their values.
+//!
+//! `x` of rule 0 is before `y` of rule 0, which is before `x` of rule 1. The terms `f(a)` at two places of a file are
+//! the same value, and two places are not.
+//!
+//! Everything here is data. Comparing and copying recurse once a level of a tree, and comparing takes no memory.
+//! Which values a variable may have is for env_sets.
+#![tactic(auto)]
+
+mod env;
+mod value;
+mod var;
+
+pub use env::Env;
+pub use value::{Value, same_value, value_order};
+pub use var::{Var, same_var, var_order};

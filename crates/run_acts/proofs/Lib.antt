@@ -1,2 +1,3 @@
 pub mod BreaksLemmas
 pub mod Standing
+pub mod Examples

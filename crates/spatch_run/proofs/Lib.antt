@@ -4,3 +4,4 @@ pub mod Exact
 pub mod Unique
 pub mod Caused
 pub mod Silent
+pub mod Examples

@@ -21,8 +21,10 @@ use std::alloc::Global;
 ///
 /// For n entries over one variable that are values it takes n log n steps.
 pub fn join(alloc: Global, a: &EnvSet, b: &EnvSet) -> Result<EnvSet, NoMemory>
-    ensures meaning { IfOk result (λ r. (env : Environment) → set_denotes r env ≡ (set_denotes a.now env || set_denotes b.now env)) }
-    ensures vars { IfOk result (λ r. (t : Var → Bool) → set_vars t a.now ≡ true → set_vars t b.now ≡ true → set_vars t r ≡ true) }
+    ensures meaning { IfOk result (λ r. (env : Environment) →
+        set_denotes r env ≡ (set_denotes a.now env || set_denotes b.now env)) }
+    ensures vars { IfOk result (λ r. (t : Var → Bool) → set_vars t a.now ≡ true →
+        set_vars t b.now ≡ true → set_vars t r ≡ true) }
 {
     let mut entries = Vec::new(alloc);
     put_copies(alloc, &mut entries, a)?;
@@ -45,8 +47,10 @@ fn put_copies(alloc: Global, out: &mut Vec<Entry>, a: &EnvSet) -> Result<(), NoM
 /// of b that fixes this variable alone; it is looked up among their values. So for sets of n entries over one variable,
 /// which are values in order, it takes n log n steps.
 pub fn meet(alloc: Global, a: &EnvSet, b: &EnvSet) -> Result<EnvSet, NoMemory>
-    ensures meaning { IfOk result (λ r. (env : Environment) → set_denotes r env ≡ (set_denotes a.now env && set_denotes b.now env)) }
-    ensures vars { IfOk result (λ r. (t : Var → Bool) → set_vars t a.now ≡ true → set_vars t b.now ≡ true → set_vars t r ≡ true) }
+    ensures meaning { IfOk result (λ r. (env : Environment) →
+        set_denotes r env ≡ (set_denotes a.now env && set_denotes b.now env)) }
+    ensures vars { IfOk result (λ r. (t : Var → Bool) → set_vars t a.now ≡ true →
+        set_vars t b.now ≡ true → set_vars t r ≡ true) }
 {
     match first_var(b) {
         None => meet_pairs(alloc, a, b),
@@ -66,8 +70,10 @@ fn first_var(b: &EnvSet) -> Option<&Var> {
 
 /// Meets each entry of a with each of b.
 fn meet_pairs(alloc: Global, a: &EnvSet, b: &EnvSet) -> Result<EnvSet, NoMemory>
-    ensures meaning { IfOk result (λ r. (env : Environment) → set_denotes r env ≡ (set_denotes a.now env && set_denotes b.now env)) }
-    ensures vars { IfOk result (λ r. (t : Var → Bool) → set_vars t a.now ≡ true → set_vars t b.now ≡ true → set_vars t r ≡ true) }
+    ensures meaning { IfOk result (λ r. (env : Environment) →
+        set_denotes r env ≡ (set_denotes a.now env && set_denotes b.now env)) }
+    ensures vars { IfOk result (λ r. (t : Var → Bool) → set_vars t a.now ≡ true →
+        set_vars t b.now ≡ true → set_vars t r ≡ true) }
 {
     let mut entries = Vec::new(alloc);
     for e in a.entries() {
@@ -78,8 +84,10 @@ fn meet_pairs(alloc: Global, a: &EnvSet, b: &EnvSet) -> Result<EnvSet, NoMemory>
 
 /// The same, with the values at which b has x alone apart.
 fn meet_by(alloc: Global, a: &EnvSet, b: &EnvSet, x: &Var) -> Result<EnvSet, NoMemory>
-    ensures meaning { IfOk result (λ r. (env : Environment) → set_denotes r env ≡ (set_denotes a.now env && set_denotes b.now env)) }
-    ensures vars { IfOk result (λ r. (t : Var → Bool) → set_vars t a.now ≡ true → set_vars t b.now ≡ true → set_vars t r ≡ true) }
+    ensures meaning { IfOk result (λ r. (env : Environment) →
+        set_denotes r env ≡ (set_denotes a.now env && set_denotes b.now env)) }
+    ensures vars { IfOk result (λ r. (t : Var → Bool) → set_vars t a.now ≡ true →
+        set_vars t b.now ≡ true → set_vars t r ≡ true) }
 {
     let parts = parts_at(alloc, b, x)?;
     let mut entries = Vec::new(alloc);
@@ -100,7 +108,8 @@ pub struct Parts {
 pub fn parts_at(alloc: Global, b: &EnvSet, x: &Var) -> Result<Parts, NoMemory>
     ensures meaning { IfOk result (λ parts. (env : Environment)
         → set_denotes b.now env ≡ (list_any (λ v. same v (env x.now)) parts.fixed || set_denotes parts.others env)) }
-    ensures vars { IfOk result (λ parts. (t : Var → Bool) → set_vars t b.now ≡ true → set_vars t parts.others ≡ true) }
+    ensures vars { IfOk result (λ parts. (t : Var → Bool) → set_vars t b.now ≡ true →
+        set_vars t parts.others ≡ true) }
 {
     let mut fixed = Vec::new(alloc);
     let mut others = Vec::new(alloc);
@@ -124,7 +133,8 @@ fn put_part(
     ensures meaning { IfOk result (λ _. (env : Environment)
         → (list_any (λ v. same v (env x.now)) fixed.new.items || set_denotes others.new.items env)
         ≡ ((list_any (λ v. same v (env x.now)) fixed.old.items || set_denotes others.old.items env) || entry_denotes e.now env)) }
-    ensures vars { IfOk result (λ _. (t : Var → Bool) → set_vars t others.old.items ≡ true → entry_vars t e.now ≡ true → set_vars t others.new.items ≡ true) }
+    ensures vars { IfOk result (λ _. (t : Var → Bool) → set_vars t others.old.items ≡ true →
+        entry_vars t e.now ≡ true → set_vars t others.new.items ≡ true) }
 {
     match only_value(e, x) {
         Some(v) => {
@@ -140,7 +150,8 @@ fn put_part(
 
 /// The value of x, where the entry fixes x and nothing else.
 fn only_value<'e>(e: &'e Entry, x: &Var) -> Option<&'e Value>
-    ensures { IfSome result (λ v. (env : Environment) → entry_denotes e.now env ≡ same v.now (env x.now)) }
+    ensures { IfSome result (λ v. (env : Environment) →
+        entry_denotes e.now env ≡ same v.now (env x.now)) }
 {
     match e.pairs() {
         [pair] => match &pair.1 {
@@ -160,8 +171,10 @@ fn put_meets_by(
     x: &Var,
     parts: &Parts,
 ) -> Result<(), NoMemory>
-    requires parts { (env : Environment) → set_denotes b.now env ≡ (list_any (λ v. same v (env x.now)) parts.now.fixed || set_denotes parts.now.others env) }
-    requires others { (t : Var → Bool) → set_vars t b.now ≡ true → set_vars t parts.now.others ≡ true }
+    requires parts { (env : Environment) → set_denotes b.now env ≡ (list_any
+        (λ v. same v (env x.now)) parts.now.fixed || set_denotes parts.now.others env) }
+    requires others { (t : Var → Bool) → set_vars t b.now ≡ true →
+        set_vars t parts.now.others ≡ true }
     ensures meaning { IfOk result
         (λ _. (env : Environment) → set_denotes out.new.items env ≡ (set_denotes out.old.items env || (entry_denotes e.now env && set_denotes b.now env))) }
     ensures vars { IfOk result
@@ -198,7 +211,8 @@ fn put_meets(alloc: Global, out: &mut Vec<Entry>, e: &Entry, b: &EnvSet) -> Resu
 pub fn project(alloc: Global, a: &EnvSet, v: &Var) -> Result<EnvSet, NoMemory>
     ensures meaning { IfOk result
         (λ r. (env : Environment) → Decides (set_denotes r env) (ForSomeValue (λ w. set_denotes a.now (change env v.now w)))) }
-    ensures vars { IfOk result (λ r. (t : Var → Bool) → set_vars (λ y. t y || same_var y v.now) a.now ≡ true → set_vars t r ≡ true) }
+    ensures vars { IfOk result (λ r. (t : Var → Bool) → set_vars (λ y. t y
+        || same_var y v.now) a.now ≡ true → set_vars t r ≡ true) }
 {
     let mut entries = Vec::new(alloc);
     for e in a.entries() {
@@ -211,8 +225,10 @@ pub fn project(alloc: Global, a: &EnvSet, v: &Var) -> Result<EnvSet, NoMemory>
 ///
 /// It copies each entry at most once, looks each of its variables up in env, and drops what others cover.
 pub fn given(alloc: Global, a: &EnvSet, env: &Env) -> Result<EnvSet, NoMemory>
-    ensures meaning { IfOk result (λ r. (rest : Environment) → set_denotes r rest ≡ set_denotes a.now (over env.now rest)) }
-    ensures vars { IfOk result (λ r. (t : Var → Bool) → set_vars (λ x. t x || has_value env.now x) a.now ≡ true → set_vars t r ≡ true) }
+    ensures meaning { IfOk result (λ r. (rest : Environment) →
+        set_denotes r rest ≡ set_denotes a.now (over env.now rest)) }
+    ensures vars { IfOk result (λ r. (t : Var → Bool) → set_vars (λ x. t x
+        || has_value env.now x) a.now ≡ true → set_vars t r ≡ true) }
 {
     let mut entries = Vec::new(alloc);
     for e in a.entries() {
@@ -222,8 +238,10 @@ pub fn given(alloc: Global, a: &EnvSet, env: &Env) -> Result<EnvSet, NoMemory>
 }
 
 fn entry_given(alloc: Global, entry: &Entry, env: &Env) -> Result<Option<Entry>, NoMemory>
-    ensures meaning { IfOk result (λ o. (rest : Environment) → option_denotes o rest ≡ entry_denotes entry.now (over env.now rest)) }
-    ensures vars { IfOk result (λ o. (t : Var → Bool) → entry_vars (λ x. t x || has_value env.now x) entry.now ≡ true → option_vars t o ≡ true) }
+    ensures meaning { IfOk result (λ o. (rest : Environment) →
+        option_denotes o rest ≡ entry_denotes entry.now (over env.now rest)) }
+    ensures vars { IfOk result (λ o. (t : Var → Bool) → entry_vars (λ x. t x
+        || has_value env.now x) entry.now ≡ true → option_vars t o ≡ true) }
 {
     if !entry_agrees(entry, env) {
         return Ok(None);

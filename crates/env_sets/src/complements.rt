@@ -32,8 +32,10 @@ use std::alloc::Global;
 /// entries over one variable it takes n log n steps.
 #[cycle(complement)]
 pub fn complement(alloc: Global, a: &EnvSet) -> Result<EnvSet, NoMemory>
-    ensures meaning { IfOk result (λ r. (env : Environment) → set_denotes r env ≡ not (set_denotes a.now env)) }
-    ensures vars { IfOk result (λ r. (t : Var → Bool) → set_vars t a.now ≡ true → set_vars t r ≡ true) }
+    ensures meaning { IfOk result (λ r. (env : Environment) →
+        set_denotes r env ≡ not (set_denotes a.now env)) }
+    ensures vars { IfOk result (λ r. (t : Var → Bool) → set_vars t a.now ≡ true →
+        set_vars t r ≡ true) }
 {
     match a.entries() {
         [] => EnvSet::all(alloc),
@@ -48,8 +50,10 @@ pub fn complement(alloc: Global, a: &EnvSet) -> Result<EnvSet, NoMemory>
 #[cycle(complement)]
 fn split(alloc: Global, a: &EnvSet, x: &Var) -> Result<EnvSet, NoMemory>
     requires leads { leads x.now a.now ≡ true }
-    ensures meaning { IfOk result (λ r. (env : Environment) → set_denotes r env ≡ not (set_denotes a.now env)) }
-    ensures vars { IfOk result (λ r. (t : Var → Bool) → set_vars t a.now ≡ true → set_vars t r ≡ true) }
+    ensures meaning { IfOk result (λ r. (env : Environment) →
+        set_denotes r env ≡ not (set_denotes a.now env)) }
+    ensures vars { IfOk result (λ r. (t : Var → Bool) → set_vars t a.now ≡ true →
+        set_vars t r ≡ true) }
 {
     let parts = parts_at(alloc, a, x)?;
     if parts.others.entries().is_empty() {
@@ -139,7 +143,8 @@ fn put_narrowed(
 
 /// The values that the entries name at x, each once.
 fn named(alloc: Global, a: &EnvSet, x: &Var) -> Result<Values, NoMemory>
-    ensures { IfOk result (λ vs. (z : Datum) → list_any (λ v. same v z) vs ≡ false → none_named x.now z a.now ≡ true) }
+    ensures { IfOk result (λ vs. (z : Datum) → list_any (λ v. same v z) vs ≡ false →
+        none_named x.now z a.now ≡ true) }
 {
     let mut values = Vec::new(alloc);
     for e in a.entries() {
@@ -179,7 +184,8 @@ fn put_values(alloc: Global, out: &mut Vec<Value>, bound: &Bound) -> Result<(), 
 
 /// The values in order, each once.
 fn distinct(alloc: Global, values: Vec<Value>) -> Result<Values, NoMemory>
-    ensures { IfOk result (λ r. (z : Datum) → list_any (λ v. same v z) r ≡ list_any (λ v. same v z) values.items) }
+    ensures { IfOk result (λ r. (z : Datum) → list_any (λ v. same v z) r ≡ list_any
+        (λ v. same v z) values.items) }
 {
     let mut values = values;
     values.sort_unstable_by(|v, w| value_order(v, w));
@@ -188,7 +194,8 @@ fn distinct(alloc: Global, values: Vec<Value>) -> Result<Values, NoMemory>
 
 /// The values of a list in order, each once.
 fn without_repeats(alloc: Global, values: Vec<Value>) -> Result<Values, NoMemory>
-    ensures { IfOk result (λ r. (z : Datum) → list_any (λ v. same v z) r ≡ list_any (λ v. same v z) values.items) }
+    ensures { IfOk result (λ r. (z : Datum) → list_any (λ v. same v z) r ≡ list_any
+        (λ v. same v z) values.items) }
 {
     let mut kept = Vec::with_capacity(alloc, values.len())?;
     for v in values {

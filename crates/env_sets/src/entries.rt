@@ -80,7 +80,8 @@ fn pairs_free_of(
     pairs: &[(Var, Bound)],
     env: &Env,
 ) -> Result<Vec<(Var, Bound)>, NoMemory>
-    ensures { IfOk result (λ kept. kept.items ≡ filter (λ p. not (has_value env.now p.0)) pairs.now) }
+    ensures { IfOk result (λ kept. kept.items ≡ filter
+        (λ p. not (has_value env.now p.0)) pairs.now) }
 {
     let mut kept = Vec::with_capacity(alloc, pairs.len())?;
     for p in pairs {
@@ -162,8 +163,11 @@ impl Entry {
     /// The entry without the bound of v: what it stands for after some change of v alone.
     pub fn without(&self, alloc: Global, v: &Var) -> Result<Entry, NoMemory>
         ensures pairs { IfOk result (λ e. e ≡ filter (λ p. not (same_var p.0 v.now)) self.now) }
-        ensures meaning { IfOk result (λ e. (env : Environment) → Decides (entry_denotes e env) (ForSomeValue (λ w. entry_denotes self.now (change env v.now w)))) }
-        ensures vars { IfOk result (λ e. (t : Var → Bool) → entry_vars (λ y. t y || same_var y v.now) self.now ≡ true → entry_vars t e ≡ true) }
+        ensures meaning { IfOk result (λ e. (env : Environment) →
+            Decides (entry_denotes e env) (ForSomeValue
+            (λ w. entry_denotes self.now (change env v.now w)))) }
+        ensures vars { IfOk result (λ e. (t : Var → Bool) → entry_vars (λ y. t y
+            || same_var y v.now) self.now ≡ true → entry_vars t e ≡ true) }
     {
         let pairs = pairs_without(alloc, &self.pairs, v)?;
         Ok(Entry { pairs })
@@ -172,7 +176,8 @@ impl Entry {
 
 /// What both entries stand for; nothing where no environment is left.
 pub fn meet_entries(alloc: Global, a: &Entry, b: &Entry) -> Result<Option<Entry>, NoMemory>
-    ensures meaning { IfOk result (λ o. (env : Environment) → option_denotes o env ≡ (entry_denotes a.now env && entry_denotes b.now env)) }
+    ensures meaning { IfOk result (λ o. (env : Environment) →
+        option_denotes o env ≡ (entry_denotes a.now env && entry_denotes b.now env)) }
     ensures vars { IfOk result
         (λ o. (t : Var → Bool) → entry_vars t a.now ≡ true → entry_vars t b.now ≡ true → option_vars t o ≡ true) }
 {
@@ -187,7 +192,8 @@ pub fn meet_entries(alloc: Global, a: &Entry, b: &Entry) -> Result<Option<Entry>
 }
 
 fn has_within(pairs: &[(Var, Bound)], v: &Var, bound: &Bound) -> bool
-    ensures { result ≡ true → (env : Environment) → entry_denotes pairs.now env ≡ true → fits (env v.now) bound.now ≡ true }
+    ensures { result ≡ true → (env : Environment) → entry_denotes pairs.now env ≡ true →
+        fits (env v.now) bound.now ≡ true }
 {
     for p in pairs {
         if same_var(&p.0, v) && bound_covers(bound, &p.1) {
@@ -199,7 +205,8 @@ fn has_within(pairs: &[(Var, Bound)], v: &Var, bound: &Bound) -> bool
 
 /// Whether a stands for all that b stands for; false where that is not plain.
 pub fn entry_covers(a: &Entry, b: &Entry) -> bool
-    ensures { result ≡ true → (env : Environment) → entry_denotes b.now env ≡ true → entry_denotes a.now env ≡ true }
+    ensures { result ≡ true → (env : Environment) → entry_denotes b.now env ≡ true →
+        entry_denotes a.now env ≡ true }
 {
     let inner = b.pairs();
     for p in a.pairs() {

@@ -96,8 +96,10 @@ impl EnvSet {
 /// The set of these entries, sorted, without those that another covers. For n entries that fix the same variables it
 /// takes n log n steps; an entry that excludes values, or has fewer bounds, is compared with each that follows it.
 pub fn settled(alloc: Global, entries: Vec<Entry>) -> Result<EnvSet, NoMemory>
-    ensures meaning { IfOk result (λ r. (env : Environment) → set_denotes r env ≡ set_denotes entries.items env) }
-    ensures vars { IfOk result (λ r. (t : Var → Bool) → set_vars t entries.items ≡ true → set_vars t r ≡ true) }
+    ensures meaning { IfOk result (λ r. (env : Environment) →
+        set_denotes r env ≡ set_denotes entries.items env) }
+    ensures vars { IfOk result (λ r. (t : Var → Bool) → set_vars t entries.items ≡ true →
+        set_vars t r ≡ true) }
 {
     let mut entries = entries;
     entries.sort_unstable_by(|a, b| entry_order(a, b));
@@ -106,8 +108,10 @@ pub fn settled(alloc: Global, entries: Vec<Entry>) -> Result<EnvSet, NoMemory>
 
 /// The set of entries in order, without those that another covers.
 fn kept_of(alloc: Global, entries: Vec<Entry>) -> Result<EnvSet, NoMemory>
-    ensures meaning { IfOk result (λ r. (env : Environment) → set_denotes r env ≡ set_denotes entries.items env) }
-    ensures vars { IfOk result (λ r. (t : Var → Bool) → set_vars t entries.items ≡ true → set_vars t r ≡ true) }
+    ensures meaning { IfOk result (λ r. (env : Environment) →
+        set_denotes r env ≡ set_denotes entries.items env) }
+    ensures vars { IfOk result (λ r. (t : Var → Bool) → set_vars t entries.items ≡ true →
+        set_vars t r ≡ true) }
 {
     let mut kept = Kept::new(alloc);
     for e in entries {
@@ -173,8 +177,10 @@ impl Kept {
 
     /// One more entry, unless another covers it.
     fn put(&mut self, e: Entry) -> Result<(), NoMemory>
-        ensures meaning { IfOk result (λ _. (env : Environment) → set_denotes self.new env ≡ (set_denotes self.old env || entry_denotes e env)) }
-        ensures vars { IfOk result (λ _. (t : Var → Bool) → set_vars t self.old ≡ true → entry_vars t e ≡ true → set_vars t self.new ≡ true) }
+        ensures meaning { IfOk result (λ _. (env : Environment) →
+            set_denotes self.new env ≡ (set_denotes self.old env || entry_denotes e env)) }
+        ensures vars { IfOk result (λ _. (t : Var → Bool) → set_vars t self.old ≡ true →
+            entry_vars t e ≡ true → set_vars t self.new ≡ true) }
     {
         if self.have_over(&e) {
             return Ok(());
@@ -186,7 +192,8 @@ impl Kept {
 
     /// Whether an entry that may cover this one does.
     fn have_over(&self, e: &Entry) -> bool
-        ensures { result ≡ true → (env : Environment) → entry_denotes e.now env ≡ true → set_denotes self.now env ≡ true }
+        ensures { result ≡ true → (env : Environment) → entry_denotes e.now env ≡ true →
+            set_denotes self.now env ≡ true }
     {
         let count = self.entries.len();
         if count > 0 && entry_covers(&self.entries[count - 1], e) {
@@ -221,7 +228,8 @@ impl Kept {
 
 /// Whether one of the first entries covers this one.
 fn first_cover(entries: &[Entry], count: usize, e: &Entry) -> bool
-    ensures { result ≡ true → (env : Environment) → entry_denotes e.now env ≡ true → set_denotes entries.now env ≡ true }
+    ensures { result ≡ true → (env : Environment) → entry_denotes e.now env ≡ true →
+        set_denotes entries.now env ≡ true }
 {
     for i in 0..count.min(entries.len()) {
         if entry_covers(&entries[i], e) {
@@ -233,7 +241,8 @@ fn first_cover(entries: &[Entry], count: usize, e: &Entry) -> bool
 
 /// Whether one of the entries with these numbers covers this one.
 fn some_covers(entries: &[Entry], numbers: &[usize], e: &Entry) -> bool
-    ensures { result ≡ true → (env : Environment) → entry_denotes e.now env ≡ true → set_denotes entries.now env ≡ true }
+    ensures { result ≡ true → (env : Environment) → entry_denotes e.now env ≡ true →
+        set_denotes entries.now env ≡ true }
 {
     for i in numbers {
         if *i < entries.len() && entry_covers(&entries[*i], e) {

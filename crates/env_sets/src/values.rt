@@ -85,7 +85,8 @@ impl Values {
 
     /// The values of both lists. In order, each once, where both lists are. Linear.
     pub fn joined(&self, alloc: Global, more: &Values) -> Result<Values, NoMemory>
-        ensures meaning { IfOk result (λ r. (z : Datum) → list_any (λ v. same v z) r ≡ (list_any (λ v. same v z) self.now || list_any (λ v. same v z) more.now)) }
+        ensures meaning { IfOk result (λ r. (z : Datum) → list_any (λ v. same v z) r ≡ (list_any
+            (λ v. same v z) self.now || list_any (λ v. same v z) more.now)) }
     {
         let items = merged(alloc, &self.items, &more.items)?;
         Ok(Values::of(items))
@@ -94,7 +95,8 @@ impl Values {
 
 /// The values of both lists, the lesser head first.
 fn merged(alloc: Global, vs: &[Value], ws: &[Value]) -> Result<Vec<Value>, NoMemory>
-    ensures { IfOk result (λ r. (z : Datum) → list_any (λ v. same v z) r.items ≡ (list_any (λ v. same v z) vs.now || list_any (λ v. same v z) ws.now)) }
+    ensures { IfOk result (λ r. (z : Datum) → list_any (λ v. same v z) r.items ≡ (list_any
+        (λ v. same v z) vs.now || list_any (λ v. same v z) ws.now)) }
 {
     let mut items = Vec::new(alloc);
     let (mut i, mut j) = (0, 0);
@@ -118,7 +120,8 @@ fn merged(alloc: Global, vs: &[Value], ws: &[Value]) -> Result<Vec<Value>, NoMem
 
 /// Adds a value, unless it is the last.
 pub fn put_new(kept: &mut Vec<Value>, v: Value) -> Result<(), NoMemory>
-    ensures { IfOk result (λ _. (z : Datum) → list_any (λ w. same w z) kept.new.items ≡ (list_any (λ w. same w z) kept.old.items || same v z)) }
+    ensures { IfOk result (λ _. (z : Datum) → list_any (λ w. same w z) kept.new.items ≡ (list_any
+        (λ w. same w z) kept.old.items || same v z)) }
 {
     let count = kept.len();
     if count > 0 && same_value(&kept[count - 1], &v) {

@@ -155,7 +155,8 @@ pub fn report<E: Sink>(err: &mut E, line: &[u8]) -> Result<(), Stopped>
     ensures stopped { IfErr result
         (λ stopped. (files : Option Files) (out : Option (List ℕ)) (s o s' o' : ℕ) →
         Breaks (counts s o (E.faults err.old)) (counts s' o' (E.faults err.new)) (Report line.now)
-        (told files out (E.written err.old)) (told files out (E.written err.new)) (status_of stopped)) }
+        (told files out (E.written err.old))
+        (told files out (E.written err.new)) (status_of stopped)) }
 {
     match err.put(line) {
         Ok(()) => Ok(()),

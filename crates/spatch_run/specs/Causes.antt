@@ -72,26 +72,34 @@ Must before now status wanted = NoneRose before now → (status ≡ wanted) ⊎ 
 -- decide must come where the shelf tells its files.
 pub record Causes (words : List (List ℕ)) (before now : Counts) (old new : Told) (status : ℕ) : Type 0 where
   -- 0: the file was edited, and its text printed where it has any
-  pub edited : status ≡ 0 → (text : List ℕ) × (FileIsEdited words old.files text × (new ≡ after (printing text) old))
-  pub edited_must : (text : List ℕ) → IsSome old.files → FileIsEdited words old.files text → Must before now status 0
+  pub edited : status ≡ 0
+      → (text : List ℕ) × (FileIsEdited words old.files text × (new ≡ after (printing text) old))
+  pub edited_must : (text : List ℕ) → IsSome old.files → FileIsEdited words old.files text
+      → Must before now status 0
   -- 1: the words aren't a command, and the line on how the tool is called was put
   pub no_command : status ≡ 1 → NoCommand words × (new ≡ done (Report usage) old)
   pub no_command_must : NoCommand words → Must before now status 1
   -- 2: the patch is refused, and its line was put
-  pub patch_refused : status ≡ 2 → (line : List ℕ) × (PatchIsRefused words old.files line × (new ≡ done (Report line) old))
-  pub patch_refused_must : (line : List ℕ) → IsSome old.files → PatchIsRefused words old.files line → Must before now status 2
+  pub patch_refused : status ≡ 2
+      → (line : List ℕ) × (PatchIsRefused words old.files line × (new ≡ done (Report line) old))
+  pub patch_refused_must : (line : List ℕ) → IsSome old.files → PatchIsRefused words old.files line
+      → Must before now status 2
   -- 4: the file is refused, and its line was put
-  pub file_refused : status ≡ 4 → (line : List ℕ) × (FileIsRefused words old.files line × (new ≡ done (Report line) old))
-  pub file_refused_must : (line : List ℕ) → IsSome old.files → FileIsRefused words old.files line → Must before now status 4
+  pub file_refused : status ≡ 4
+      → (line : List ℕ) × (FileIsRefused words old.files line × (new ≡ done (Report line) old))
+  pub file_refused_must : (line : List ℕ) → IsSome old.files → FileIsRefused words old.files line
+      → Must before now status 4
   -- 5: a name is absent, which only a shelf that tells its files answers, and its line was put; or the shelf's count
   -- rose, and the run came to a load, whose line was put
   pub cannot_read : status ≡ 5
       → ((name : List ℕ) × (NameIsAbsent words old.files name × (new ≡ done (Report (cannot_read name)) old)))
       ⊎ ((mid : Told) × ((name : List ℕ) × ((limit : ℕ) × (ComesTo words old mid (Load name limit)
       × (Rose before.shelf now.shelf × (new ≡ done (Report (cannot_read name)) mid))))))
-  pub absent_must : (name : List ℕ) → IsSome old.files → NameIsAbsent words old.files name → Must before now status 5
+  pub absent_must : (name : List ℕ) → IsSome old.files → NameIsAbsent words old.files name
+      → Must before now status 5
   -- 6: the run came to an act that failed
-  pub failed : status ≡ 6 → (mid : Told) × ((act : Act) × (ComesTo words old mid act × Fails before now act mid new 6))
+  pub failed : status ≡ 6
+      → (mid : Told) × ((act : Act) × (ComesTo words old mid act × Fails before now act mid new 6))
   -- 7: the run came to an act of which nothing was done
   pub no_memory : status ≡ 7 → (act : Act) × ComesTo words old new act
   -- and there is no other

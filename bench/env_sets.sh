@@ -13,7 +13,7 @@ for crate in c_terms smpl_terms env_sets; do
 done
 cp "$here/HANDLES" "$work/"
 cat > "$work/crates.txt" <<'CRATES'
-c_terms: smallvec sqlite_items indexmap
+c_terms: sqlite_items indexmap
 smpl_terms: c_terms
 env_sets: smpl_terms c_terms
 bench_sets: env_sets smpl_terms c_terms anyhow

@@ -17,3 +17,15 @@ pub mod Once
 pub mod Apart
 pub mod Runs
 pub mod Exists
+pub mod Splits
+pub mod After
+pub mod Rests
+pub mod LiteralRests
+pub mod Each
+pub mod PunctRests
+pub mod Reached
+pub mod Told
+pub mod Agree
+pub mod Strayed
+pub mod LineTold
+pub mod LineReached

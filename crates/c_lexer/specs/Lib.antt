@@ -8,6 +8,15 @@ pub mod Ids
 pub mod Parts
 pub mod Beside
 pub mod Loose
+-- The same kinds, each by itself in the words of C11, with which the kinds above agree.
+pub mod Blanks
+pub mod Comments
+pub mod Names
+pub mod Numbers
+pub mod Literals
+pub mod Puncts
+pub mod Strays
+pub mod Lines
 -- For inside use: pieces as they are kept, and the scan for the longest.
 pub mod Spans
 pub mod Longest

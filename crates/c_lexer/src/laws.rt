@@ -18,8 +18,10 @@ pub fn every_text_is_cut()
 
 /// A text is cut in one way: pieces of the same bytes are equal but for ids, and equal where the ids count from 0.
 pub fn cut_once()
-    ensures but_ids { (left right : List TextPiece) → Cuts left → Cuts right → text_of left ≡ text_of right → without_ids left ≡ without_ids right }
-    ensures whole { (bytes : List ℕ) (left right : List TextPiece) → Lexes bytes left → Lexes bytes right → left ≡ right }
+    ensures but_ids { (left right : List TextPiece) → Cuts left → Cuts right →
+        text_of left ≡ text_of right → without_ids left ≡ without_ids right }
+    ensures whole { (bytes : List ℕ) (left right : List TextPiece) → Lexes bytes left →
+        Lexes bytes right → left ≡ right }
 {}
 
 /// Pieces that are put together are cut of their text again, blanks side by side being one: each was beside the next
@@ -31,12 +33,14 @@ pub fn loose_pieces_stay()
 
 /// A space parts a token that is no Stray from whatever follows.
 pub fn space_parts()
-    ensures first { (text : List ℕ) (kind : Kind) (rest : List ℕ) → kind_of text ≡ Some kind → IsTrue (is_plain kind) → IsFirst kind text (32 ∷ rest) }
+    ensures first { (text : List ℕ) (kind : Kind) (rest : List ℕ) → kind_of text ≡ Some kind →
+        IsTrue (is_plain kind) → IsFirst kind text (32 ∷ rest) }
 {}
 
 /// Texts that do not run together stay apart.
 pub fn parted_texts_stay()
-    ensures first { (kind : Kind) (left right : List ℕ) → kind_of left ≡ Some kind → ¬ RunTogether left right → IsFirst kind left right }
+    ensures first { (kind : Kind) (left right : List ℕ) → kind_of left ≡ Some kind →
+        ¬ RunTogether left right → IsFirst kind left right }
 {}
 
 /// A dot is not the first piece of three dots.
@@ -46,5 +50,7 @@ pub fn dots_join()
 
 /// A comment that a byte other than a newline followed ends by itself: it stays whatever follows.
 pub fn comment_ends()
-    ensures first { (text : List ℕ) (byte : ℕ) (old : List ℕ) → IsFirst kind.Comment text (byte ∷ old) → byte ≢ 10 → (rest : List ℕ) → IsFirst kind.Comment text rest }
+    ensures first { (text : List ℕ) (byte : ℕ) (old : List ℕ) →
+        IsFirst kind.Comment text (byte ∷ old) → byte ≢ 10 → (rest : List ℕ) →
+        IsFirst kind.Comment text rest }
 {}

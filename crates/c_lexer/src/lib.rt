@@ -1,9 +1,24 @@
 //! Cuts C text into pieces: tokens, blanks, comments and preprocessor lines.
+//!
+//! - [`lex`] cuts a whole text, and gives a [`Lexed`]: the text and its pieces. [`Lexed::piece`] reads a [`Piece`],
+//!   [`Lexed::renumber`] gives the tokens other ids.
+//! - [`first_piece`] tells the first piece of a text, and [`parts`] whether two texts run together.
+//! - [`every_text_is_cut`], [`cut_once`] and [`loose_pieces_stay`] are laws of cutting, and do nothing; so are
+//!   [`space_parts`], [`parted_texts_stay`], [`dots_join`] and [`comment_ends`]. [`number_texts`] and its like say
+//!   of each kind that it is what C11 says.
+//!
+//! `a+++b //c` gives Name, Punct `++`, Punct `+`, Name, Blank, Comment.
+//!
+//! The next piece is the longest text that begins at its place and is of a kind (C11 6.4 p4). Nothing here fails on
+//! bad C: a quote without an end is a Stray. A text may have 16,777,216 bytes. Nothing recurses.
+//!
+//! Which lines open groups, and which words are markers, is for cpp_lines; which words are types is for c_expr.
 #![tactic(auto)]
 
 mod between;
 mod bytes;
 mod cut;
+mod kept;
 mod keywords;
 mod laws;
 mod lexed;
@@ -12,6 +27,9 @@ mod piece;
 mod run;
 mod state;
 mod step;
+#[cfg(test)]
+mod tests;
+mod texts;
 mod within;
 
 pub use between::parts;
@@ -24,3 +42,7 @@ pub use lexed::Lexed;
 pub use next::first_piece;
 pub use piece::{Piece, PieceKind};
 pub use state::Kind;
+pub use texts::{
+    blank_texts, char_texts, comment_texts, keyword_texts, line_texts, name_texts, number_texts,
+    punct_texts, str_texts, stray_texts,
+};

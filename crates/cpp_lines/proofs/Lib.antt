@@ -1,0 +1,5 @@
+pub mod Words
+pub mod Groups
+pub mod Progress
+pub mod Rising
+pub mod ItemProgress

@@ -1,0 +1,7 @@
+-- What public contracts rest on.
+
+pub mod Answer
+-- What the steps of the parser ensure.
+
+pub mod Steps
+pub mod Sight

@@ -1,0 +1,25 @@
+-- How a range is seen, from its last token on.
+use Rattle.std.specs.Prelude.{ℕ, ◌-◌, ◌==◌, Bool, true, false, Option, Some, None, IsTrue, if◌then◌else◌, List, [], ◌∷◌, slice_get}
+use Rattle.c_terms.specs.declared.token.Token.{Token}
+use Rattle.c_rows.specs.declared.class.Class.{Class}
+use Rattle.c_rows.specs.Words.{begins_specs}
+use Rattle.c_rows.specs.Seen.{Seen}
+use Rattle.c_rows.specs.Range.{leads_member, NoMember}
+
+-- a test that tells whether a fact holds
+abbrev pub decided : Bool → Type 0 → Type 0
+decided true p = p
+decided false p = p → ⊥
+
+abbrev pub led : Option Token → Bool
+led None = false
+led (Some t) = leads_member t
+
+-- a member of a call's list may begin at this place
+abbrev pub leads_before : List Token → ℕ → Bool
+leads_before ts i = if i == 0 then false else led (slice_get ts (i - 1))
+
+-- whether the front of the list is marked
+pub record Marked (typed leads : Bool) (class : Class) (ss : List Seen) : Type 0 where
+  pub only : IsTrue typed → IsTrue leads × IsTrue (begins_specs class) × NoMember ss
+  pub all : IsTrue leads → IsTrue (begins_specs class) → NoMember ss → IsTrue typed

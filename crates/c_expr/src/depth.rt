@@ -1,0 +1,44 @@
+// How many brackets are open at once.
+ghost use Rattle.std.specs.Prelude.{◌≡◌, ◌≤◌, ◌<◌, ◌↔◌, IsTrue};
+ghost use Rattle.std.specs.Str.{bytes_eq};
+ghost use Rattle.c_rows.specs.Depth.{opens_of, step};
+
+use c_terms::Token;
+
+/// Brackets that may be open at once.
+const MOST_OPEN: usize = 200;
+
+fn is(text: &[u8], word: &[u8]) -> bool
+    ensures { result ≡ bytes_eq text.now word.now }
+{
+    text == word
+}
+
+/// The depth behind a token.
+fn depth_after(token: &Token, depth: usize) -> usize
+    requires { depth ≤ 200 }
+    ensures { result ≡ step token.now depth }
+{
+    let text = token.text.as_bytes();
+    if is(text, b"(") || is(text, b"[") || is(text, b"{") {
+        depth + 1
+    } else if is(text, b")") || is(text, b"]") || is(text, b"}") {
+        if depth == 0 { 0 } else { depth - 1 }
+    } else {
+        depth
+    }
+}
+
+/// More than 200 brackets are open at once.
+pub fn is_too_deep(tokens: &[Token]) -> bool
+    ensures { IsTrue result ↔ (200 < opens_of tokens.now) }
+{
+    let mut depth = 0;
+    for token in tokens {
+        depth = depth_after(token, depth);
+        if depth > MOST_OPEN {
+            return true;
+        }
+    }
+    false
+}

@@ -1,0 +1,90 @@
+// A range as it is seen: each token with its class, and with a mark where a type is a member of a call's list.
+ghost use Rattle.std.specs.Prelude.{◌≡◌, ◌<◌, IfOk, IfErr, false, length};
+ghost use Rattle.c_rows.specs.Range.{NoMember, AreSeenAs};
+ghost use Rattle.c_expr.specs.Sight.{decided, leads_before, Marked};
+
+use crate::ParseFault;
+use crate::parse::parse;
+use c_rows::{Class, Kind, Seen, begins_specs, ends_member, front, leads_member, look};
+use c_terms::{Names, Token};
+use std::alloc::Global;
+
+/// Levels of branches that a tree may have.
+pub const MOST_LEVELS: u16 = 1000;
+
+/// No expression without commas begins here and ends where a member of a call's list may end.
+fn has_no_member<'a, 't>(alloc: Global, rest: &'a [Seen<'t>]) -> Result<bool, ParseFault>
+    ensures value { IfOk result (λ none. decided none (NoMember rest.now)) }
+    ensures fault { IfErr result (λ fault. fault ≡ ParseFault.NoMemory) }
+{
+    match parse(alloc, MOST_LEVELS, Kind::AssignLevel, rest) {
+        Ok(found) => Ok(!ends_member(front(found.rest))),
+        Err(ParseFault::NoTree) => Ok(true),
+        Err(ParseFault::TooDeep) => Ok(true),
+        Err(ParseFault::NoMemory) => Err(ParseFault::NoMemory),
+    }
+}
+
+/// A member of a call's list may begin at this place.
+fn leads_before(tokens: &[Token], i: usize) -> bool
+    ensures { result ≡ leads_before tokens.now i }
+{
+    if i == 0 {
+        return false;
+    }
+    match tokens.get(i - 1) {
+        None => false,
+        Some(token) => leads_member(token),
+    }
+}
+
+/// The first token is marked: a member of a call's list may begin there, a type may, and no expression can be that member.
+fn is_marked<'a, 't>(
+    alloc: Global,
+    leads: bool,
+    class: Class,
+    rest: &'a [Seen<'t>],
+) -> Result<bool, ParseFault>
+    ensures value { IfOk result (λ typed. Marked typed leads class rest.now) }
+    ensures fault { IfErr result (λ fault. fault ≡ ParseFault.NoMemory) }
+{
+    if !leads || !begins_specs(class) {
+        return Ok(false);
+    }
+    has_no_member(alloc, rest)
+}
+
+/// As many tokens, none of which is seen yet.
+fn unseen<'t>(alloc: Global, tokens: &'t [Token]) -> Result<Vec<Seen<'t>>, ParseFault>
+    ensures value { IfOk result (λ seen. length seen.items ≡ length tokens.now) }
+    ensures fault { IfErr result (λ fault. fault ≡ ParseFault.NoMemory) }
+{
+    let mut seen = Vec::with_capacity(alloc, tokens.len())?;
+    for token in tokens {
+        seen.push(Seen::new(token, Class::Other, false))?;
+    }
+    Ok(seen)
+}
+
+/// The tokens as they are seen, from the last one on. Linear, but that each member of a call's list with which a type
+/// may begin is read once for each list around it.
+pub fn see<'t>(
+    alloc: Global,
+    names: &Names,
+    tokens: &'t [Token],
+) -> Result<Vec<Seen<'t>>, ParseFault>
+    ensures right { IfOk result (λ seen. AreSeenAs names.now false tokens.now seen.items) }
+    ensures fault { IfErr result (λ fault. fault ≡ ParseFault.NoMemory) }
+{
+    let mut seen = unseen(alloc, tokens)?;
+    let mut next = Class::End;
+    let mut i = tokens.len();
+    while i > 0 {
+        i -= 1;
+        next = look(names, &tokens[i], &tokens[i + 1..], next);
+        seen[i] = Seen::new(&tokens[i], next, false);
+        let typed = is_marked(alloc, leads_before(tokens, i), next, &seen[i..])?;
+        seen[i] = Seen::new(&tokens[i], next, typed);
+    }
+    Ok(seen)
+}

@@ -1,0 +1,601 @@
+-- The tests of the rows, each computed over every class.
+use Rattle.std.proofs.Common.{◌≡◌, ℕ, zero, suc, List, [], ◌∷◌, refl, subst, ap, sym, ◌∙◌, eqb-true}
+use Rattle.std.specs.Prelude.{Bool, true, false, not, ◌&&◌, ◌||◌, ◌==◌, IsTrue, Option, Some, None, is_none, is_some, slice_get, if◌then◌else◌}
+use Rattle.std.specs.List.{list_all, list_any}
+use Rattle.c_rows.specs.declared.class.Class.{Class}
+use Rattle.c_rows.specs.declared.class.Class.TheVariants as class
+use Rattle.c_rows.specs.declared.rule.Rule.{Rule}
+use Rattle.c_rows.specs.declared.rule.Rule.TheVariants as rule
+use Rattle.c_rows.specs.declared.kind.Kind.{Kind}
+use Rattle.c_rows.specs.declared.kind.Kind.TheVariants as kind
+use Rattle.c_rows.specs.declared.kind.Family.{Family}
+use Rattle.c_rows.specs.declared.kind.Family.TheVariants as family
+use Rattle.c_rows.specs.declared.symbol.Symbol.TheVariants as symbol
+use Rattle.c_rows.specs.declared.symbol.Fork.{Fork}
+use Rattle.c_rows.specs.declared.symbol.Fork.TheVariants as forks
+use Rattle.c_rows.specs.Words.{fits, begins_specs}
+use Rattle.c_rows.specs.Kinds.{family_of, within, has_leaf}
+use Rattle.c_rows.specs.Branches.{kind_of, begins}
+use Rattle.c_rows.specs.Rows.{Row, row, ways}
+use Rattle.c_rows.specs.Spells.{member_kind}
+use Rattle.c_rows.specs.Range.{ends_member}
+use Rattle.c_rows.specs.Choice.{head, tail, choose, pick_way, after, stops, stops_fork, ends, first, opens, leads, classes, every, implies, row_ok, steady, row_fine, weight, left, own, bottom, begins_expression}
+
+-- ---- on Bool
+
+pub and_left : (a b : Bool) → IsTrue (a && b) → IsTrue a
+and_left true b h = refl
+and_left false b h = h
+
+pub and_right : (a b : Bool) → IsTrue (a && b) → IsTrue b
+and_right true b h = h
+and_right false b h = absurd (let no : ⊥ = cc in no)
+
+pub modus : (a b : Bool) → IsTrue (implies a b) → IsTrue a → IsTrue b
+modus true b h g = h
+modus false b h g = absurd (let no : ⊥ = cc in no)
+
+pub both : (a b : Bool) → IsTrue a → IsTrue b → IsTrue (a && b)
+both true b h g = g
+both false b h g = let no : ⊥ = cc in absurd no
+
+pub implies_both : (a b c : Bool) → IsTrue (implies a b) → (IsTrue b → IsTrue c) → IsTrue (implies a c)
+implies_both true b c h f = f h
+implies_both false b c h f = refl
+
+pub not_true : (b : Bool) → IsTrue (not b) → b ≡ false
+not_true true h = let no : ⊥ = cc in absurd no
+not_true false h = refl
+
+some_is : {A : Type 0} {a b : A} → Some a ≡ Some b → a ≡ b
+some_is e = cc
+
+-- ---- over every class
+
+all_from : (p q : Class → Bool) (xs : List Class) → ((c : Class) → IsTrue (p c) → IsTrue (q c)) → IsTrue (list_all p xs) → IsTrue (list_all q xs)
+all_from p q [] f h = refl
+all_from p q (x ∷ xs) f h = both (q x) (list_all q xs) (f x (and_left (p x) (list_all p xs) h)) (all_from p q xs f (and_right (p x) (list_all p xs) h))
+
+pub every_from : (p q : Class → Bool) → ((c : Class) → IsTrue (p c) → IsTrue (q c)) → IsTrue (every p) → IsTrue (every q)
+every_from p q f h = all_from p q classes f h
+
+abbrev number : Class → ℕ
+number class.End = 0
+number class.Name = 1
+number class.NameOfString = 2
+number class.NameOfCall = 3
+number class.Operand = 4
+number class.Str = 5
+number class.StrOfString = 6
+number class.ParenNest = 7
+number class.ParenList = 8
+number class.CastNest = 9
+number class.CastList = 10
+number class.LiteralNest = 11
+number class.LiteralList = 12
+number class.Close = 13
+number class.LeftBracket = 14
+number class.RightBracket = 15
+number class.LeftBrace = 16
+number class.RightBrace = 17
+number class.Dot = 18
+number class.Arrow = 19
+number class.Step = 20
+number class.And = 21
+number class.Star = 22
+number class.Plus = 23
+number class.Not = 24
+number class.Slash = 25
+number class.Shift = 26
+number class.Order = 27
+number class.Equality = 28
+number class.Xor = 29
+number class.Or = 30
+number class.AndAnd = 31
+number class.OrOr = 32
+number class.Question = 33
+number class.ShortQuestion = 34
+number class.Colon = 35
+number class.Semicolon = 36
+number class.Comma = 37
+number class.Equal = 38
+number class.Assign = 39
+number class.Ellipsis = 40
+number class.SizeofExpr = 41
+number class.SizeofType = 42
+number class.Basic = 43
+number class.Qualifier = 44
+number class.Function = 45
+number class.Storage = 46
+number class.StorageOfMacro = 47
+number class.Struct = 48
+number class.StructBody = 49
+number class.Enum = 50
+number class.EnumBody = 51
+number class.TypOfDeclarator = 52
+number class.Typ = 53
+number class.Dots = 54
+number class.ExprList = 55
+number class.ParamList = 56
+number class.PatOpen = 57
+number class.PatBar = 58
+number class.PatAmp = 59
+number class.PatClose = 60
+number class.Other = 61
+
+listed : (c : Class) → slice_get classes (number c) ≡ Some c
+listed class.End = refl
+listed _ = refl
+
+at : (p : Class → Bool) (xs : List Class) (i : ℕ) (c : Class) → IsTrue (list_all p xs) → slice_get xs i ≡ Some c → IsTrue (p c)
+at p [] i c h e = let no : ⊥ = cc in absurd no
+at p (x ∷ xs) zero c h e = let same : x ≡ c = cc in subst (λ (y : Class). IsTrue (p y)) same (and_left (p x) (list_all p xs) h)
+at p (x ∷ xs) (suc i) c h e = at p xs i c (and_right (p x) (list_all p xs) h) e
+
+pub every_at : (p : Class → Bool) → IsTrue (every p) → (c : Class) → IsTrue (p c)
+every_at p h c = at p classes (number c) c h (listed c)
+
+-- ---- over every way of a fork
+
+pub row_at : (p : Row → Bool) (rows : List Row) (i : ℕ) (ps : Row) → IsTrue (list_all p rows) → slice_get rows i ≡ Some ps → IsTrue (p ps)
+row_at p [] i ps h e = let no : ⊥ = cc in absurd no
+row_at p (x ∷ xs) zero ps h e = let same : x ≡ ps = cc in subst (λ (y : Row). IsTrue (p y)) same (and_left (p x) (list_all p xs) h)
+row_at p (x ∷ xs) (suc i) ps h e = row_at p xs i ps (and_right (p x) (list_all p xs) h) e
+
+-- ---- what stands first
+
+abbrev pub closes : Row → Class → Bool
+closes [] c = true
+closes (symbol.Word w ∷ ps) c = closes ps c
+closes (symbol.Child k ∷ []) c = after k c
+closes (symbol.Child k ∷ p ∷ ps) c = closes (p ∷ ps) c
+closes (symbol.Argument ∷ []) c = ends_member c
+closes (symbol.Argument ∷ p ∷ ps) c = closes (p ∷ ps) c
+closes (symbol.Fork f ∷ ps) c = stops_fork f c
+
+abbrev pub joins_at : Kind → Row → Class → Bool
+joins_at k ps c = implies (opens ps c) (after k c)
+
+abbrev pub member_at : Row → Class → Bool
+member_at ps c = implies (opens ps c) (ends_member c)
+
+abbrev pub joins : Row → Bool
+joins [] = true
+joins (symbol.Word w ∷ ps) = joins ps
+joins (symbol.Child k ∷ []) = true
+joins (symbol.Child k ∷ p ∷ ps) = every (joins_at k (p ∷ ps)) && joins (p ∷ ps)
+joins (symbol.Argument ∷ []) = true
+joins (symbol.Argument ∷ p ∷ ps) = every (member_at (p ∷ ps)) && joins (p ∷ ps)
+joins (symbol.Fork f ∷ []) = true
+joins (symbol.Fork f ∷ p ∷ ps) = false
+
+pub joins_rule : (r : Rule) → IsTrue (joins (row r))
+joins_rule rule.Paren = refl
+joins_rule _ = refl
+
+joins_ways : (f : Fork) → IsTrue (list_all joins (ways f))
+joins_ways forks.FirstString = refl
+joins_ways _ = refl
+
+pub joins_way : (f : Fork) (i : ℕ) (ps : Row) → slice_get (ways f) i ≡ Some ps → IsTrue (joins ps)
+joins_way f i ps e = row_at joins (ways f) i ps (joins_ways f) e
+
+abbrev closes_at : Rule → Class → Bool
+closes_at r c = implies (after (kind_of r) c) (closes (row r) c)
+
+closes_test : (r : Rule) → IsTrue (every (closes_at r))
+closes_test rule.Paren = refl
+closes_test _ = refl
+
+pub closes_rule : (r : Rule) (c : Class) → IsTrue (after (kind_of r) c) → IsTrue (closes (row r) c)
+closes_rule r c = modus (after (kind_of r) c) (closes (row r) c) (every_at (closes_at r) (closes_test r) c)
+
+abbrev closes_way_at : Fork → Row → Class → Bool
+closes_way_at f ps c = implies (stops_fork f c) (closes ps c)
+
+abbrev closes_in : Fork → Row → Bool
+closes_in f ps = every (closes_way_at f ps)
+
+closes_ways : (f : Fork) → IsTrue (list_all (closes_in f) (ways f))
+closes_ways forks.FirstString = refl
+closes_ways _ = refl
+
+pub closes_way : (f : Fork) (i : ℕ) (ps : Row) (c : Class) → slice_get (ways f) i ≡ Some ps → IsTrue (stops_fork f c) → IsTrue (closes ps c)
+closes_way f i ps c e = modus (stops_fork f c) (closes ps c) (every_at (closes_way_at f ps) (row_at (closes_in f) (ways f) i ps (closes_ways f) e) c)
+
+abbrev opens_at : Rule → Class → Bool
+opens_at r c = implies (begins r c && opens (row r) c) (first (family_of (kind_of r)) c)
+
+opens_test : (r : Rule) → IsTrue (every (opens_at r))
+opens_test rule.Paren = refl
+opens_test _ = refl
+
+pub opens_rule : (r : Rule) (c : Class) → IsTrue (begins r c) → IsTrue (opens (row r) c) → IsTrue (first (family_of (kind_of r)) c)
+opens_rule r c b o = modus (begins r c && opens (row r) c) (first (family_of (kind_of r)) c) (every_at (opens_at r) (opens_test r) c) (both (begins r c) (opens (row r) c) b o)
+
+abbrev leaf_at : Family → Class → Bool
+leaf_at f c = implies (has_leaf f c) (first f c)
+
+leaf_test : (f : Family) → IsTrue (every (leaf_at f))
+leaf_test family.Expression = refl
+leaf_test _ = refl
+
+pub leaf_first : (f : Family) (c : Class) → IsTrue (has_leaf f c) → IsTrue (first f c)
+leaf_first f c = modus (has_leaf f c) (first f c) (every_at (leaf_at f) (leaf_test f) c)
+
+abbrev member_after_at : Bool → Class → Bool
+member_after_at b c = implies (ends_member c) (after (member_kind b) c)
+
+member_after_test : (b : Bool) → IsTrue (every (member_after_at b))
+member_after_test true = refl
+member_after_test false = refl
+
+pub member_after : (b : Bool) (c : Class) → IsTrue (ends_member c) → IsTrue (after (member_kind b) c)
+member_after b c = modus (ends_member c) (after (member_kind b) c) (every_at (member_after_at b) (member_after_test b) c)
+
+abbrev member_stops_at : Bool → Class → Bool
+member_stops_at b c = implies (ends_member c) (stops (member_kind b) c)
+
+member_stops_test : (b : Bool) → IsTrue (every (member_stops_at b))
+member_stops_test true = refl
+member_stops_test false = refl
+
+pub member_stops : (b : Bool) (c : Class) → IsTrue (ends_member c) → IsTrue (stops (member_kind b) c)
+member_stops b c = modus (ends_member c) (stops (member_kind b) c) (every_at (member_stops_at b) (member_stops_test b) c)
+
+pub member_first : (b : Bool) (c : Class) → IsTrue (first (family_of (member_kind b)) c) → IsTrue (begins_expression c || begins_specs c)
+member_first true c h = or_right (begins_expression c) (begins_specs c) h
+  where
+    or_right : (a b : Bool) → IsTrue b → IsTrue (a || b)
+    or_right true b h = refl
+    or_right false b h = h
+member_first false c h = or_left (begins_expression c) (begins_specs c) h
+  where
+    or_left : (a b : Bool) → IsTrue a → IsTrue (a || b)
+    or_left true b h = refl
+    or_left false b h = let no : ⊥ = cc in absurd no
+
+-- ---- the choice of a way
+
+abbrev any_leads : Fork → List Row → Class → Bool
+any_leads f [] c = false
+any_leads f (ps ∷ more) c = leads f ps c || any_leads f more c
+
+-- at most one way leads on
+abbrev apart : Fork → List Row → Class → Bool
+apart f [] c = true
+apart f (ps ∷ more) c = implies (leads f ps c) (not (any_leads f more c)) && apart f more c
+
+abbrev apart_at : Fork → Class → Bool
+apart_at f c = apart f (ways f) c
+
+apart_test : (f : Fork) → IsTrue (every (apart_at f))
+apart_test forks.FirstString = refl
+apart_test _ = refl
+
+any_here : (f : Fork) (rows : List Row) (i : ℕ) (ps : Row) (c : Class) → slice_get rows i ≡ Some ps → IsTrue (leads f ps c) → IsTrue (any_leads f rows c)
+any_here f [] i ps c e l = let no : ⊥ = cc in absurd no
+any_here f (x ∷ xs) zero ps c e l = let same : x ≡ ps = cc in or_left (leads f x c) (any_leads f xs c) (subst (λ (y : Row). IsTrue (leads f y c)) (sym same) l)
+  where
+    or_left : (a b : Bool) → IsTrue a → IsTrue (a || b)
+    or_left true b h = refl
+    or_left false b h = let no : ⊥ = cc in absurd no
+any_here f (x ∷ xs) (suc i) ps c e l = or_right (leads f x c) (any_leads f xs c) (any_here f xs i ps c e l)
+  where
+    or_right : (a b : Bool) → IsTrue b → IsTrue (a || b)
+    or_right true b h = refl
+    or_right false b h = h
+
+picked : (f : Fork) (rows : List Row) (i : ℕ) (ps : Row) (c : Class) → IsTrue (apart f rows c) → slice_get rows i ≡ Some ps → IsTrue (leads f ps c) → pick_way f rows c ≡ Some ps
+picked f [] i ps c a e l = let no : ⊥ = cc in absurd no
+picked f (x ∷ xs) zero ps c a e l = let same : x ≡ ps = cc in pick (leads f x c) (subst (λ (y : Row). IsTrue (leads f y c)) (sym same) l) same
+  where
+    pick : (b : Bool) → IsTrue b → x ≡ ps → (if b then Some x else pick_way f xs c) ≡ Some ps
+    pick true h s = ap Some s
+    pick false h s = let no : ⊥ = cc in absurd no
+picked f (x ∷ xs) (suc i) ps c a e l =
+    later (leads f x c) (and_left (implies (leads f x c) (not (any_leads f xs c))) (apart f xs c) a)
+    (any_here f xs i ps c e l) (picked f xs i ps c (and_right (implies (leads f x c) (not (any_leads f xs c))) (apart f xs c) a) e l)
+  where
+    later : (b : Bool) → IsTrue (implies b (not (any_leads f xs c))) → IsTrue (any_leads f xs c) → pick_way f xs c ≡ Some ps → (if b then Some x else pick_way f xs c) ≡ Some ps
+    later true h y p = let n : any_leads f xs c ≡ false = not_true (any_leads f xs c) h in let no : ⊥ = cc in absurd no
+    later false h y p = p
+
+pub leads_way : (f : Fork) (i : ℕ) (ps : Row) (c : Class) → slice_get (ways f) i ≡ Some ps → IsTrue (leads f ps c) → choose f c ≡ Some ps
+leads_way f i ps c e l = picked f (ways f) i ps c (every_at (apart_at f) (apart_test f) c) e l
+
+-- no way begins with a fork
+abbrev pub unforked : Row → Bool
+unforked (symbol.Fork f ∷ ps) = false
+unforked _ = true
+
+unforked_ways : (f : Fork) → IsTrue (list_all unforked (ways f))
+unforked_ways forks.FirstString = refl
+unforked_ways _ = refl
+
+pub unforked_way : (f : Fork) (i : ℕ) (ps : Row) → slice_get (ways f) i ≡ Some ps → IsTrue (unforked ps)
+unforked_way f i ps e = row_at unforked (ways f) i ps (unforked_ways f) e
+
+found_in : (f : Fork) (rows : List Row) (c : Class) (ps : Row) → pick_way f rows c ≡ Some ps → (i : ℕ) × (slice_get rows i ≡ Some ps)
+found_in f [] c ps e = let no : ⊥ = cc in absurd no
+found_in f (x ∷ xs) c ps e = here (leads f x c) e (λ h. found_in f xs c ps h)
+  where
+    here : (b : Bool) → (if b then Some x else pick_way f xs c) ≡ Some ps → (pick_way f xs c ≡ Some ps → (i : ℕ) × (slice_get xs i ≡ Some ps)) → (i : ℕ) × (slice_get (x ∷ xs) i ≡ Some ps)
+    here true h more = (0, h)
+    here false h more = let found = more h in (suc found.0, found.1)
+
+pub chosen_way : (f : Fork) (c : Class) (ps : Row) → choose f c ≡ Some ps → (i : ℕ) × (slice_get (ways f) i ≡ Some ps)
+chosen_way f c ps e = found_in f (ways f) c ps e
+
+-- ---- what a row reads
+
+pub own_ok : (r : Rule) → IsTrue (row_ok (own r))
+own_ok rule.Paren = refl
+own_ok _ = refl
+
+ways_ok : (f : Fork) → IsTrue (list_all row_ok (ways f))
+ways_ok forks.FirstString = refl
+ways_ok _ = refl
+
+pub way_ok : (f : Fork) (i : ℕ) (ps : Row) → slice_get (ways f) i ≡ Some ps → IsTrue (row_ok ps)
+way_ok f i ps e = row_at row_ok (ways f) i ps (ways_ok f) e
+
+steady_own : (r : Rule) → IsTrue (steady (own r))
+steady_own rule.Paren = refl
+steady_own _ = refl
+
+steady_ways : (f : Fork) → IsTrue (list_all steady (ways f))
+steady_ways forks.FirstString = refl
+steady_ways _ = refl
+
+abbrev light : Row → Bool
+light ps = weight ps == 0
+
+light_ways : (f : Fork) → IsTrue (list_all light (ways f))
+light_ways forks.FirstString = refl
+light_ways _ = refl
+
+pub weight_way : (f : Fork) (i : ℕ) (ps : Row) → slice_get (ways f) i ≡ Some ps → weight ps ≡ 0
+weight_way f i ps e = eqb-true (weight ps) 0 (row_at light (ways f) i ps (light_ways f) e)
+
+pub own_fine : (r : Rule) → IsTrue (row_fine (own r))
+own_fine r = both (row_ok (own r)) (steady (own r)) (own_ok r) (steady_own r)
+
+pub way_fine : (f : Fork) (i : ℕ) (ps : Row) → slice_get (ways f) i ≡ Some ps → IsTrue (row_fine ps)
+way_fine f i ps e = both (row_ok ps) (steady ps) (way_ok f i ps e) (row_at steady (ways f) i ps (steady_ways f) e)
+
+-- what stops a rule's kind ends its row
+abbrev ends_at : Rule → Class → Bool
+ends_at r c = implies (stops (kind_of r) c) (ends (own r) c)
+
+ends_test : (r : Rule) → IsTrue (every (ends_at r))
+ends_test rule.Paren = refl
+ends_test _ = refl
+
+pub ends_rule : (r : Rule) (c : Class) → IsTrue (stops (kind_of r) c) → IsTrue (ends (own r) c)
+ends_rule r c = modus (stops (kind_of r) c) (ends (own r) c) (every_at (ends_at r) (ends_test r) c)
+
+abbrev way_ends_at : Fork → Row → Class → Bool
+way_ends_at f ps c = implies (stops_fork f c) (ends ps c)
+
+abbrev ends_in : Fork → Row → Bool
+ends_in f ps = every (way_ends_at f ps)
+
+ends_ways : (f : Fork) → IsTrue (list_all (ends_in f) (ways f))
+ends_ways forks.FirstString = refl
+ends_ways _ = refl
+
+pub way_ends : (f : Fork) (i : ℕ) (ps : Row) (c : Class) → slice_get (ways f) i ≡ Some ps → IsTrue (stops_fork f c) → IsTrue (ends ps c)
+way_ends f i ps c e = modus (stops_fork f c) (ends ps c) (every_at (way_ends_at f ps) (row_at (ends_in f) (ways f) i ps (ends_ways f) e) c)
+
+-- ---- kinds
+
+pub bottom_within : (k : Kind) → IsTrue (within (bottom (family_of k)) k)
+bottom_within kind.Post = refl
+bottom_within _ = refl
+
+abbrev left_ok : Rule → Option Kind → Bool
+left_ok r None = true
+left_ok r (Some l) = within l (kind_of r)
+
+left_test : (r : Rule) → IsTrue (left_ok r (left r))
+left_test rule.Paren = refl
+left_test _ = refl
+
+pub left_within : (r : Rule) (l : Kind) → left r ≡ Some l → IsTrue (within l (kind_of r))
+left_within r l e = subst (λ (o : Option Kind). IsTrue (left_ok r o)) e (left_test r)
+
+-- ---- rules
+
+abbrev rules : List Rule
+rules =
+    rule.Strings ∷ rule.Paren ∷ rule.Index ∷ rule.Call ∷ rule.Args ∷ rule.TypeArg ∷ rule.Member ∷ rule.Arrow ∷
+    rule.PostOp ∷ rule.Literal ∷ rule.PreOp ∷ rule.Unary ∷ rule.SizeofExpr ∷ rule.SizeofType ∷ rule.Cast ∷
+    rule.Product ∷ rule.Sum ∷ rule.Shift ∷ rule.Order ∷ rule.Equality ∷ rule.And ∷ rule.Xor ∷ rule.Or ∷
+    rule.AndAnd ∷ rule.OrOr ∷ rule.Cond ∷ rule.CondShort ∷ rule.Assign ∷ rule.Comma ∷ rule.PatBranches ∷
+    rule.TypeName ∷ rule.Specs ∷ rule.StructUse ∷ rule.StructDef ∷ rule.Field ∷ rule.Bits ∷ rule.NamelessBits ∷
+    rule.EnumUse ∷ rule.EnumDef ∷ rule.EnumValue ∷ rule.Pointer ∷ rule.DParen ∷ rule.DArray ∷
+    rule.NamelessArray ∷ rule.DFun ∷ rule.NamelessFun ∷ rule.Params ∷ rule.Param ∷ rule.InitList ∷
+    rule.InitItem ∷ rule.DotName ∷ rule.At ∷ rule.MacroItem ∷ []
+
+abbrev rule_number : Rule → ℕ
+rule_number rule.Strings = 0
+rule_number rule.Paren = 1
+rule_number rule.Index = 2
+rule_number rule.Call = 3
+rule_number rule.Args = 4
+rule_number rule.TypeArg = 5
+rule_number rule.Member = 6
+rule_number rule.Arrow = 7
+rule_number rule.PostOp = 8
+rule_number rule.Literal = 9
+rule_number rule.PreOp = 10
+rule_number rule.Unary = 11
+rule_number rule.SizeofExpr = 12
+rule_number rule.SizeofType = 13
+rule_number rule.Cast = 14
+rule_number rule.Product = 15
+rule_number rule.Sum = 16
+rule_number rule.Shift = 17
+rule_number rule.Order = 18
+rule_number rule.Equality = 19
+rule_number rule.And = 20
+rule_number rule.Xor = 21
+rule_number rule.Or = 22
+rule_number rule.AndAnd = 23
+rule_number rule.OrOr = 24
+rule_number rule.Cond = 25
+rule_number rule.CondShort = 26
+rule_number rule.Assign = 27
+rule_number rule.Comma = 28
+rule_number rule.PatBranches = 29
+rule_number rule.TypeName = 30
+rule_number rule.Specs = 31
+rule_number rule.StructUse = 32
+rule_number rule.StructDef = 33
+rule_number rule.Field = 34
+rule_number rule.Bits = 35
+rule_number rule.NamelessBits = 36
+rule_number rule.EnumUse = 37
+rule_number rule.EnumDef = 38
+rule_number rule.EnumValue = 39
+rule_number rule.Pointer = 40
+rule_number rule.DParen = 41
+rule_number rule.DArray = 42
+rule_number rule.NamelessArray = 43
+rule_number rule.DFun = 44
+rule_number rule.NamelessFun = 45
+rule_number rule.Params = 46
+rule_number rule.Param = 47
+rule_number rule.InitList = 48
+rule_number rule.InitItem = 49
+rule_number rule.DotName = 50
+rule_number rule.At = 51
+rule_number rule.MacroItem = 52
+
+rule_listed : (r : Rule) → slice_get rules (rule_number r) ≡ Some r
+rule_listed rule.Paren = refl
+rule_listed _ = refl
+
+abbrev is_rule : Rule → Option Rule → Bool
+is_rule r None = false
+is_rule r (Some q) = rule_number r == rule_number q
+
+rule_is : (r : Rule) (o : Option Rule) → IsTrue (is_rule r o) → o ≡ Some r
+rule_is r None h = let no : ⊥ = cc in absurd no
+rule_is r (Some q) h = sym (rule_listed q) ∙ ap (slice_get rules) (sym (eqb-true _ _ h)) ∙ rule_listed r
+
+rule_at : (p : Rule → Bool) (qs : List Rule) (i : ℕ) (r : Rule) → IsTrue (list_all p qs) → slice_get qs i ≡ Some r → IsTrue (p r)
+rule_at p [] i r h e = let no : ⊥ = cc in absurd no
+rule_at p (x ∷ xs) zero r h e = let same : x ≡ r = cc in subst (λ (y : Rule). IsTrue (p y)) same (and_left (p x) (list_all p xs) h)
+rule_at p (x ∷ xs) (suc i) r h e = rule_at p xs i r (and_right (p x) (list_all p xs) h) e
+
+-- ---- the first operand
+
+pub family_bottom : (f : Family) → family_of (bottom f) ≡ f
+family_bottom family.Expression = refl
+family_bottom _ = refl
+
+abbrev heads : Rule → Option Kind → Class → Bool
+heads r (Some l) c = true
+heads r None c = implies (begins r c && opens (row r) c) (is_rule r (head (family_of (kind_of r)) c) && not (has_leaf (family_of (kind_of r)) c))
+
+abbrev heads_at : Rule → Class → Bool
+heads_at r c = heads r (left r) c
+
+heads_test : (r : Rule) → IsTrue (every (heads_at r))
+heads_test rule.Paren = refl
+heads_test _ = refl
+
+heads_here : (r : Rule) (c : Class) → left r ≡ None → IsTrue (begins r c) → IsTrue (opens (row r) c) → IsTrue (is_rule r (head (family_of (kind_of r)) c) && not (has_leaf (family_of (kind_of r)) c))
+heads_here r c e b o = modus (begins r c && opens (row r) c) _ (subst (λ (k : Option Kind). IsTrue (heads r k c)) e (every_at (heads_at r) (heads_test r) c)) (both (begins r c) (opens (row r) c) b o)
+
+pub head_is : (r : Rule) (c : Class) → left r ≡ None → IsTrue (begins r c) → IsTrue (opens (row r) c) → head (family_of (kind_of r)) c ≡ Some r
+head_is r c e b o = rule_is r (head (family_of (kind_of r)) c) (and_left (is_rule r (head (family_of (kind_of r)) c)) _ (heads_here r c e b o))
+
+pub head_no_leaf : (r : Rule) (c : Class) → left r ≡ None → IsTrue (begins r c) → IsTrue (opens (row r) c) → has_leaf (family_of (kind_of r)) c ≡ false
+head_no_leaf r c e b o = not_true _ (and_right (is_rule r (head (family_of (kind_of r)) c)) (not (has_leaf (family_of (kind_of r)) c)) (heads_here r c e b o))
+
+-- ---- going on
+
+abbrev pub word_led : Row → Bool
+word_led (symbol.Word w ∷ ps) = true
+word_led _ = false
+
+abbrev tails : Rule → Option Kind → Bool
+tails r None = true
+tails r (Some l) = word_led (own r)
+
+tails_test : (r : Rule) → IsTrue (tails r (left r))
+tails_test rule.Paren = refl
+tails_test _ = refl
+
+pub tail_word : (r : Rule) (l : Kind) → left r ≡ Some l → IsTrue (word_led (own r))
+tail_word r l e = subst (λ (k : Option Kind). IsTrue (tails r k)) e (tails_test r)
+
+abbrev goes : Rule → Option Kind → Class → Bool
+goes r None c = true
+goes r (Some l) c = implies (opens (own r) c) (is_rule r (tail (family_of (kind_of r)) c))
+
+abbrev goes_at : Rule → Class → Bool
+goes_at r c = goes r (left r) c
+
+goes_test : (r : Rule) → IsTrue (every (goes_at r))
+goes_test rule.Paren = refl
+goes_test _ = refl
+
+pub tail_is : (r : Rule) (l : Kind) (c : Class) → left r ≡ Some l → IsTrue (opens (own r) c) → tail (family_of (kind_of r)) c ≡ Some r
+tail_is r l c e o =
+    rule_is r _ (modus (opens (own r) c) _ (subst (λ (k : Option Kind). IsTrue (goes r k c)) e (every_at (goes_at r) (goes_test r) c)) o)
+
+-- a left part ends where its rule goes on
+abbrev pairs : Rule → Option Kind → Rule → Class → Bool
+pairs r None q c = true
+pairs r (Some l) q c = implies (within (kind_of q) l) (implies (opens (own r) c) (ends (own q) c))
+
+abbrev pair_at : Rule → Rule → Class → Bool
+pair_at r q c = pairs r (left r) q c
+
+abbrev pairs_at : Rule → Rule → Bool
+pairs_at r q = every (pair_at r q)
+
+pair_test : (r : Rule) → IsTrue (list_all (pairs_at r) rules)
+pair_test rule.Paren = refl
+pair_test _ = refl
+
+pub left_ends : (r : Rule) (l : Kind) (q : Rule) (c : Class) → left r ≡ Some l → IsTrue (within (kind_of q) l) → IsTrue (opens (own r) c) → IsTrue (ends (own q) c)
+left_ends r l q c e w o =
+    modus (opens (own r) c) (ends (own q) c) (modus (within (kind_of q) l) _ (subst (λ (k : Option Kind). IsTrue (pairs r k q c)) e
+    (every_at (pair_at r q) (rule_at (pairs_at r) rules (rule_number q) q (pair_test r) (rule_listed q)) c)) w) o
+
+abbrev no_left : Class → Option Rule → Bool
+no_left c None = true
+no_left c (Some r) = is_none (left r) && begins r c
+
+abbrev no_left_at : Family → Class → Bool
+no_left_at f c = no_left c (head f c)
+
+no_left_test : (f : Family) → IsTrue (every (no_left_at f))
+no_left_test family.Expression = refl
+no_left_test _ = refl
+
+is_none_is : (o : Option Kind) → IsTrue (is_none o) → o ≡ None
+is_none_is None h = refl
+is_none_is (Some k) h = let never : ⊥ = cc in absurd never
+
+pub head_left : (f : Family) (c : Class) (r : Rule) → head f c ≡ Some r → left r ≡ None
+head_left f c r e = is_none_is (left r) (and_left (is_none (left r)) (begins r c) (subst (λ (o : Option Rule). IsTrue (no_left c o)) e (every_at (no_left_at f) (no_left_test f) c)))
+
+pub head_begins : (f : Family) (c : Class) (r : Rule) → head f c ≡ Some r → IsTrue (begins r c)
+head_begins f c r e = and_right (is_none (left r)) (begins r c) (subst (λ (o : Option Rule). IsTrue (no_left c o)) e (every_at (no_left_at f) (no_left_test f) c))
+
+-- a rule that goes on from a tree may begin anywhere
+abbrev tail_begins_at : Rule → Class → Bool
+tail_begins_at r c = is_none (left r) || begins r c
+
+tail_begins_test : (r : Rule) → IsTrue (every (tail_begins_at r))
+tail_begins_test rule.Paren = refl
+tail_begins_test _ = refl
+
+pub tail_begins : (r : Rule) (l : Kind) (c : Class) → left r ≡ Some l → IsTrue (begins r c)
+tail_begins r l c e = subst (λ (k : Option Kind). IsTrue (is_none k || begins r c)) e (every_at (tail_begins_at r) (tail_begins_test r) c)

@@ -1,0 +1,17 @@
+pub mod PlainLemmas
+pub mod Checks
+pub mod FirstLemmas
+pub mod GrowthLemmas
+pub mod LengthLemmas
+pub mod RangeLemmas
+pub mod BracketTests
+pub mod BracketLemmas
+pub mod LeadLemmas
+pub mod MemberLemmas
+pub mod DerivesLemmas
+pub mod FilterLemmas
+pub mod LevelLemmas
+pub mod SeenLemmas
+pub mod SightLemmas
+pub mod LetterLemmas
+pub mod LetterExamples

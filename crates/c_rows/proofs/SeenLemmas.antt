@@ -1,0 +1,106 @@
+-- Tokens can be seen as they are: what is seen is not impossible.
+use Rattle.std.proofs.Common.{◌≡◌, ℕ, List, [], ◌∷◌, refl, subst, sym}
+use Rattle.std.specs.Prelude.{Bool, true, false, IsTrue, Some, slice_get}
+use Rattle.std.specs.List.{list_all}
+use Rattle.c_terms.specs.declared.token.Token.{Token}
+use Rattle.c_terms.specs.declared.tree.Tree.{Tree}
+use Rattle.c_rows.specs.declared.class.Class.{Class}
+use Rattle.c_rows.specs.declared.kind.Kind.{Kind}
+use Rattle.c_rows.specs.declared.kind.Family.{Family}
+use Rattle.c_rows.specs.declared.rule.Rule.{Rule}
+use Rattle.c_rows.specs.declared.rule.Rule.TheVariants as rule
+use Rattle.c_rows.specs.declared.symbol.Symbol.TheVariants as symbol
+use Rattle.c_rows.specs.declared.symbol.Fork.{Fork}
+use Rattle.c_rows.specs.declared.symbol.Fork.TheVariants as forks
+use Rattle.c_rows.specs.Kinds.{family_of}
+use Rattle.c_rows.specs.Branches.{kind_of, begins}
+use Rattle.c_rows.specs.Rows.{Row, row, ways}
+use Rattle.c_rows.specs.Look.{Names, look}
+use Rattle.c_rows.specs.Seen.{Seen, front}
+use Rattle.c_rows.specs.Spells.{Spells, leaf, branch, Runs, done, word, child, argument, fork}
+use Rattle.c_rows.specs.Range.{leads_member, NoMember, unmarked, IsSeenAs, AreSeenAs}
+use Rattle.c_rows.specs.Choice.{implies, full}
+use Rattle.c_rows.proofs.Checks.{modus, row_at}
+use Rattle.c_rows.proofs.FirstLemmas.{within_family}
+
+-- a row that begins with a token, which is no member of a call's list
+abbrev headed_fork : Fork → Bool
+headed_fork forks.FirstString = true
+headed_fork forks.NoType = true
+headed_fork forks.MacroWords = true
+headed_fork _ = false
+
+abbrev headed : Row → Bool
+headed [] = false
+headed (symbol.Word w ∷ ps) = true
+headed (symbol.Child k ∷ ps) = full (family_of k)
+headed (symbol.Argument ∷ ps) = false
+headed (symbol.Fork f ∷ ps) = headed_fork f
+
+abbrev headed_at : Rule → Bool
+headed_at r = implies (full (family_of (kind_of r))) (headed (row r))
+
+headed_test : (r : Rule) → IsTrue (headed_at r)
+headed_test rule.Paren = refl
+headed_test _ = refl
+
+abbrev headed_ways_at : Fork → Bool
+headed_ways_at f = implies (headed_fork f) (list_all headed (ways f))
+
+headed_ways : (f : Fork) → IsTrue (headed_ways_at f)
+headed_ways forks.FirstString = refl
+headed_ways _ = refl
+
+headed_way : (f : Fork) (i : ℕ) (ps : Row) → slice_get (ways f) i ≡ Some ps → IsTrue (headed_fork f) → IsTrue (headed ps)
+headed_way f i ps e h = row_at headed (ways f) i ps (modus (headed_fork f) (list_all headed (ways f)) (headed_ways f) h) e
+
+-- ---- the flag of the first token makes no difference to a tree that takes it
+
+abbrev flagged : Bool → Seen → Seen
+flagged b s = record { token = s.token; class = s.class; typed = b }
+
+abbrev reflagged : Bool → List Seen → List Seen
+reflagged b [] = []
+reflagged b (s ∷ ss) = flagged b s ∷ ss
+
+front_same : (b : Bool) (xs : List Seen) → front (reflagged b xs) ≡ front xs
+front_same b [] = refl
+front_same b (s ∷ ss) = refl
+
+mutual
+  tree_flag : {k : Kind} {xs ys : List Seen} {t : Tree} → Spells k xs t ys → (b : Bool) → IsTrue (full (family_of k)) → Spells k (reflagged b xs) t ys
+  tree_flag (leaf {s = s} {ys = ys} h) b f = leaf {s = flagged b s} h
+  tree_flag {k} {xs} (branch r w g al runs) b f =
+      branch r w (subst (λ (c : Class). IsTrue (begins r c)) (sym (front_same b xs)) g) al
+      (row_flag runs b (modus (full (family_of (kind_of r))) (headed (row r)) (headed_test r) (subst (λ (o : Family). IsTrue (full o)) (sym (within_family (kind_of r) k w)) f)))
+
+  row_flag : {ps : Row} {xs ys : List Seen} {cs : List Tree} → Runs ps xs cs ys → (b : Bool) → IsTrue (headed ps) → Runs ps (reflagged b xs) cs ys
+  row_flag done b h = let never : ⊥ = cc in absurd never
+  row_flag (word {s = s} f rest) b h = word {s = flagged b s} f rest
+  row_flag (child d rest) b h = child (tree_flag d b h) rest
+  row_flag (argument d rest) b h = let never : ⊥ = cc in absurd never
+  row_flag (fork {f = f} {ps = ps} i w way) b h = fork i w (row_flag way b (headed_way f i ps w h))
+
+pub flag_free : (s : Seen) (ss : List Seen) → NoMember (unmarked s ∷ ss) → NoMember (s ∷ ss)
+flag_free s ss n = λ u ys d e l. n u ys (tree_flag d false refl) e l
+
+pub flag_set : (s : Seen) (ss : List Seen) → NoMember (s ∷ ss) → NoMember (unmarked s ∷ ss)
+flag_set s ss n = λ u ys d e l. n u ys (tree_flag d s.typed refl) e l
+
+module _ (names : Names) where
+  flag_chosen : (l : Bool) (t : Token) (ts : List Token) (ss : List Seen) → ((s : Seen) → IsSeenAs names l t ts s ss → ⊥) → ⊥
+  flag_chosen l t ts ss f =
+      let c : Class = look names (t ∷ ts) in
+      let plain : Seen = record { token = t; class = c; typed = false } in
+      f plain (record {
+        token = refl;
+        class = refl;
+        marked = λ i. let never : ⊥ = cc in absurd never;
+        unmarked_else = λ h b n. absurd (f (record { token = t; class = c; typed = true })
+            (record { token = refl; class = refl; marked = λ i. (h, b, n); unmarked_else = λ h b n. refl }));
+      })
+
+  -- There is always something that is seen.
+  pub seen_exists : (l : Bool) (ts : List Token) → ((ss : List Seen) → AreSeenAs names l ts ss → ⊥) → ⊥
+  seen_exists l [] f = f [] tt
+  seen_exists l (t ∷ ts) f = seen_exists (leads_member t) ts (λ ss a. flag_chosen l t ts ss (λ s h. f (s ∷ ss) (h, a)))

@@ -1,0 +1,92 @@
+-- What a single token is.
+use Rattle.std.specs.Prelude.{ℕ, Bool, true, false, ◌&&◌, ◌||◌, List, codes}
+use Rattle.std.specs.Str.{bytes_eq}
+use Rattle.c_terms.specs.declared.token.Token.{Token}
+use Rattle.c_terms.specs.declared.token.TokenKind.{TokenKind}
+use Rattle.c_terms.specs.declared.token.TokenKind.TheVariants as token
+use Rattle.c_terms.specs.declared.token.MetaKind.TheVariants as meta
+
+-- a name, or a metavariable for one
+abbrev pub named_kind : TokenKind → Bool
+named_kind token.Name = true
+named_kind (token.Meta meta.Ident) = true
+named_kind _ = false
+
+abbrev pub is_named : Token → Bool
+is_named t = named_kind t.kind
+
+abbrev pub is_string_kind : TokenKind → Bool
+is_string_kind token.Str = true
+is_string_kind _ = false
+
+abbrev pub is_string : Token → Bool
+is_string t = is_string_kind t.kind
+
+abbrev pub is_punct_kind : TokenKind → Bool
+is_punct_kind token.Punct = true
+is_punct_kind _ = false
+
+-- the punctuator with this text
+abbrev pub is_sign : Token → List ℕ → Bool
+is_sign t text = is_punct_kind t.kind && bytes_eq t.text text
+
+-- the words of a basic type (C11 6.7.2)
+abbrev pub is_basic : List ℕ → Bool
+is_basic s =
+    bytes_eq s (codes "int") || bytes_eq s (codes "void") || bytes_eq s (codes "char") || bytes_eq s (codes "unsigned")
+    || bytes_eq s (codes "long") || bytes_eq s (codes "short") || bytes_eq s (codes "signed") || bytes_eq s (codes "float")
+    || bytes_eq s (codes "double") || bytes_eq s (codes "_Bool") || bytes_eq s (codes "_Complex")
+
+-- the qualifiers of a type (C11 6.7.3), without `_Atomic`
+abbrev pub is_qualifier : List ℕ → Bool
+is_qualifier s = bytes_eq s (codes "const") || bytes_eq s (codes "volatile") || bytes_eq s (codes "restrict")
+
+-- the function specifiers (C11 6.7.4)
+abbrev pub is_function : List ℕ → Bool
+is_function s = bytes_eq s (codes "inline") || bytes_eq s (codes "_Noreturn")
+
+-- the storage words (C11 6.7.1)
+abbrev pub is_storage_text : List ℕ → Bool
+is_storage_text s =
+    bytes_eq s (codes "static") || bytes_eq s (codes "extern") || bytes_eq s (codes "typedef")
+    || bytes_eq s (codes "register") || bytes_eq s (codes "auto") || bytes_eq s (codes "_Thread_local")
+
+abbrev pub storage_kind : TokenKind → List ℕ → Bool
+storage_kind token.Keyword s = is_storage_text s
+storage_kind _ s = false
+
+abbrev pub is_storage : Token → Bool
+is_storage t = storage_kind t.kind t.text
+
+-- the words of a tag
+abbrev pub is_struct : List ℕ → Bool
+is_struct s = bytes_eq s (codes "struct") || bytes_eq s (codes "union")
+
+abbrev pub is_enum : List ℕ → Bool
+is_enum s = bytes_eq s (codes "enum")
+
+abbrev pub type_word_kind : TokenKind → List ℕ → Bool
+type_word_kind token.Keyword s = is_basic s || is_qualifier s || is_struct s || is_enum s
+type_word_kind (token.Meta meta.Typ) s = true
+type_word_kind _ s = false
+
+-- a token with which a type begins that is no name: a word of a basic type, a qualifier, a tag's word,
+-- or a metavariable for a type
+abbrev pub is_type_word : Token → Bool
+is_type_word t = type_word_kind t.kind t.text
+
+abbrev pub follows_kind : TokenKind → List ℕ → Bool
+follows_kind token.Name s = true
+follows_kind token.Number s = true
+follows_kind token.Char s = true
+follows_kind token.Str s = true
+follows_kind (token.Meta meta.Ident) s = true
+follows_kind (token.Meta meta.Expr) s = true
+follows_kind (token.Meta meta.Constant) s = true
+follows_kind token.Keyword s = bytes_eq s (codes "sizeof")
+follows_kind token.Punct s = bytes_eq s (codes "~") || bytes_eq s (codes "!") || bytes_eq s (codes "{")
+follows_kind _ s = false
+
+-- a name, a constant, a string, a metavariable for an expression, `~`, `!`, `sizeof` or `{`
+abbrev pub follows_cast : Token → Bool
+follows_cast t = follows_kind t.kind t.text

@@ -1,0 +1,294 @@
+// How a reader of rows chooses by the class of the next token.
+
+ghost use Rattle.std.specs.Prelude.{◌≡◌, MatchOption, Some, None};
+ghost use Rattle.c_rows.specs.Choice as choice;
+ghost use Rattle.c_rows.specs.Range as range;
+ghost use Rattle.c_rows.specs.Words as words;
+
+use crate::{
+    Class, Family, Fork, Kind, Rule, Symbol, Word, begins, begins_macro, family_of, fits, row, ways,
+};
+
+/// An expression may begin with this class.
+fn begins_expression(class: Class) -> bool
+    ensures { result ≡ choice.begins_expression class }
+{
+    match class {
+        Class::Name
+        | Class::NameOfString
+        | Class::NameOfCall
+        | Class::Operand
+        | Class::Str
+        | Class::StrOfString => true,
+        Class::SizeofExpr | Class::SizeofType | Class::PatOpen => true,
+        _ => fits(Word::AnyOpen, class) || fits(Word::Step, class) || fits(Word::Prefix, class),
+    }
+}
+
+/// A tag may begin with this class.
+fn begins_tag(class: Class) -> bool
+    ensures { result ≡ words.begins_tag class }
+{
+    matches!(
+        class,
+        Class::Struct | Class::StructBody | Class::Enum | Class::EnumBody
+    )
+}
+
+/// A type may begin with this class.
+pub fn begins_specs(class: Class) -> bool
+    ensures value { result ≡ words.begins_specs class }
+{
+    match class {
+        Class::Typ | Class::TypOfDeclarator => true,
+        _ => fits(Word::BasicOrModifier, class) || fits(Word::Name, class) || begins_tag(class),
+    }
+}
+
+/// A declarator may begin with this class.
+fn begins_declarator(class: Class) -> bool
+    ensures { result ≡ choice.begins_declarator class }
+{
+    match class {
+        Class::Star | Class::LeftBracket => true,
+        _ => fits(Word::Name, class) || fits(Word::AnyOpen, class),
+    }
+}
+
+/// A tree of the family may begin with this class. Where it may have no token, these are also the classes behind it.
+pub fn first(family: Family, class: Class) -> bool
+    ensures value { result ≡ choice.first family class }
+{
+    match family {
+        Family::Expression => begins_expression(class),
+        Family::Args => {
+            begins_expression(class)
+                || begins_specs(class)
+                || fits(Word::ArgRun, class)
+                || fits(Word::Close, class)
+        }
+        Family::TypeArg | Family::TypeName | Family::Specs | Family::Param => begins_specs(class),
+        Family::Tag => begins_tag(class),
+        Family::Field => begins_specs(class) && !begins_macro(class),
+        Family::MacroItem => begins_macro(class),
+        Family::NamelessBits => fits(Word::Colon, class),
+        Family::Declarator => begins_declarator(class),
+        Family::Params => {
+            begins_specs(class)
+                || fits(Word::ParamRun, class)
+                || fits(Word::Ellipsis, class)
+                || fits(Word::Close, class)
+        }
+        Family::InitList => fits(Word::LeftBrace, class),
+        Family::InitItem | Family::Designator => matches!(class, Class::Dot | Class::LeftBracket),
+        Family::Enumerator => fits(Word::Name, class),
+    }
+}
+
+/// A member of a call's list ends before this class.
+pub fn ends_member(class: Class) -> bool
+    ensures value { result ≡ range.ends_member class }
+{
+    matches!(class, Class::Comma | Class::Close)
+}
+
+/// A row that is at this fork may end before this class.
+fn stops(fork: Fork, class: Class) -> bool
+    ensures { result ≡ choice.stops_fork fork class }
+{
+    match fork {
+        Fork::FirstString | Fork::SecondString | Fork::AfterString | Fork::AfterName => {
+            !fits(Word::Str, class) && !fits(Word::Name, class)
+        }
+        Fork::FirstArg | Fork::MoreArgs | Fork::NextArg => fits(Word::Close, class),
+        Fork::Nameless => matches!(class, Class::Close | Class::Comma | Class::End),
+        Fork::NoType | Fork::BasicType | Fork::OneType => !fits(Word::BasicOrModifier, class),
+        Fork::Pointee => matches!(
+            class,
+            Class::Colon | Class::Semicolon | Class::Close | Class::Comma | Class::End
+        ),
+        Fork::FirstParam | Fork::MoreParams | Fork::NextParam => fits(Word::Close, class),
+        Fork::ParamName => ends_member(class),
+        Fork::MoreDesignators | Fork::ItemValue => matches!(
+            class,
+            Class::RightBrace | Class::Comma
+        ),
+        _ => true,
+    }
+}
+
+/// What is left of a row may begin with this class.
+fn opens(row: &[Symbol], class: Class) -> bool
+    ensures { result ≡ choice.opens row.now class }
+{
+    match row {
+        [] => true,
+        [Symbol::Word(word), ..] => fits(*word, class),
+        [Symbol::Child(kind), ..] => first(family_of(*kind), class),
+        [Symbol::Argument, ..] => begins_expression(class) || begins_specs(class),
+        [Symbol::Fork(fork), ..] => choose(*fork, class).is_some(),
+    }
+}
+
+/// The way leads on at this class.
+fn leads(fork: Fork, way: &[Symbol], class: Class) -> bool
+    ensures { result ≡ choice.leads fork way.now class }
+{
+    match way {
+        [] => stops(fork, class),
+        [Symbol::Word(word), ..] => fits(*word, class),
+        [Symbol::Child(kind), ..] => first(family_of(*kind), class),
+        [Symbol::Argument, ..] => begins_expression(class) || begins_specs(class),
+        [Symbol::Fork(_), ..] => false,
+    }
+}
+
+/// The way in which a row goes on at the fork.
+pub fn choose(fork: Fork, class: Class) -> Option<&'static [Symbol]>
+    ensures value { MatchOption result (choice.choose fork class ≡ None)
+        (λ way. choice.choose fork class ≡ Some way.now) }
+{
+    for way in ways(fork) {
+        if leads(fork, way, class) {
+            return Some(*way);
+        }
+    }
+    None
+}
+
+/// The rules of a family whose rows begin with a part of another family.
+fn heads(family: Family) -> &'static [Rule]
+    ensures { result.now ≡ choice.heads family }
+{
+    match family {
+        Family::Expression => &[
+            Rule::Strings,
+            Rule::Paren,
+            Rule::Literal,
+            Rule::Cast,
+            Rule::PreOp,
+            Rule::Unary,
+            Rule::SizeofExpr,
+            Rule::SizeofType,
+            Rule::PatBranches,
+        ],
+        Family::Args => &[Rule::Args],
+        Family::TypeArg => &[Rule::TypeArg],
+        Family::TypeName => &[Rule::TypeName],
+        Family::Specs => &[Rule::Specs],
+        Family::Tag => &[
+            Rule::StructUse,
+            Rule::StructDef,
+            Rule::EnumUse,
+            Rule::EnumDef,
+        ],
+        Family::Field => &[Rule::Field],
+        Family::MacroItem => &[Rule::MacroItem],
+        Family::NamelessBits => &[Rule::NamelessBits],
+        Family::Declarator => &[
+            Rule::Pointer,
+            Rule::DParen,
+            Rule::NamelessArray,
+            Rule::NamelessFun,
+        ],
+        Family::Params => &[Rule::Params],
+        Family::Param => &[Rule::Param],
+        Family::InitList => &[Rule::InitList],
+        Family::InitItem => &[Rule::InitItem],
+        Family::Designator => &[Rule::DotName, Rule::At],
+        Family::Enumerator => &[],
+    }
+}
+
+/// The rules of a family whose rows begin with a part of the family itself.
+fn tails(family: Family) -> &'static [Rule]
+    ensures { result.now ≡ choice.tails family }
+{
+    match family {
+        Family::Expression => &[
+            Rule::Index,
+            Rule::Call,
+            Rule::Member,
+            Rule::Arrow,
+            Rule::PostOp,
+            Rule::OrOr,
+            Rule::AndAnd,
+            Rule::Or,
+            Rule::Xor,
+            Rule::And,
+            Rule::Equality,
+            Rule::Order,
+            Rule::Shift,
+            Rule::Sum,
+            Rule::Product,
+            Rule::Cond,
+            Rule::CondShort,
+            Rule::Assign,
+            Rule::Comma,
+        ],
+        Family::Declarator => &[Rule::DArray, Rule::DFun, Rule::Bits],
+        Family::Enumerator => &[Rule::EnumValue],
+        _ => &[],
+    }
+}
+
+/// The kind of a rule's first part, where that is of the rule's own family.
+pub fn left(rule: Rule) -> Option<Kind>
+    ensures value { result ≡ choice.left rule }
+{
+    match rule {
+        Rule::Index | Rule::Call | Rule::Member | Rule::Arrow | Rule::PostOp => Some(Kind::Post),
+        Rule::OrOr => Some(Kind::OrOr),
+        Rule::AndAnd => Some(Kind::AndAnd),
+        Rule::Or => Some(Kind::Or),
+        Rule::Xor => Some(Kind::Xor),
+        Rule::And => Some(Kind::And),
+        Rule::Equality => Some(Kind::Equality),
+        Rule::Order => Some(Kind::Order),
+        Rule::Shift => Some(Kind::Shift),
+        Rule::Sum => Some(Kind::Sum),
+        Rule::Product => Some(Kind::Product),
+        Rule::Cond | Rule::CondShort => Some(Kind::OrOr),
+        Rule::Assign => Some(Kind::Un),
+        Rule::Comma => Some(Kind::Expr),
+        Rule::Bits => Some(Kind::Declarator),
+        Rule::DArray | Rule::DFun => Some(Kind::Direct),
+        Rule::EnumValue => Some(Kind::EnumName),
+        _ => None,
+    }
+}
+
+/// The parts of a row behind its left part.
+pub fn own(rule: Rule) -> &'static [Symbol]
+    ensures value { result.now ≡ choice.own rule }
+{
+    let parts = row(rule);
+    match left(rule) {
+        Some(_) => &parts[1..],
+        None => parts,
+    }
+}
+
+/// The rule of the family that begins with this class.
+pub fn head(family: Family, class: Class) -> Option<Rule>
+    ensures value { result ≡ choice.head family class }
+{
+    for rule in heads(family) {
+        if begins(*rule, class) && opens(row(*rule), class) {
+            return Some(*rule);
+        }
+    }
+    None
+}
+
+/// The rule of the family by which a tree goes on at this class.
+pub fn tail(family: Family, class: Class) -> Option<Rule>
+    ensures value { result ≡ choice.tail family class }
+{
+    for rule in tails(family) {
+        if opens(own(*rule), class) {
+            return Some(*rule);
+        }
+    }
+    None
+}

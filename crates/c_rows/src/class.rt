@@ -1,0 +1,135 @@
+// What stands at the front of a list of tokens.
+
+/// What stands at the front of a list of tokens, with what the grammar asks of the tokens behind it.
+#[derive(Clone, Copy)]
+pub enum Class {
+    /// No token.
+    End,
+
+    /// A name, of which nothing else is known.
+    Name,
+    /// A name directly before a string: `PRIu64 "x"`
+    NameOfString,
+    /// A name before a `(` that no `*` follows: `f(x)`
+    NameOfCall,
+    /// A number, a character, or a metavariable for an expression or a constant.
+    Operand,
+    /// A string by itself.
+    Str,
+    /// A string directly before a string or a name: `"a" "b"`
+    StrOfString,
+
+    /// `(` of an expression in brackets. Among declarators it begins one: `(*p)`, `((p))`, `(p)`
+    ParenNest,
+    /// `(` of an expression in brackets. Among declarators it begins parameters: `(1)`, `()`
+    ParenList,
+    /// `(` of a cast. Among declarators it begins one: `(foo_t) x`, where `foo_t` is not in the names
+    CastNest,
+    /// `(` of a cast. Among declarators it begins parameters: `(int) x`
+    CastList,
+    /// `(` of a compound literal. Among declarators it begins one: `(foo_t){ 1 }`, where `foo_t` is not in the names
+    LiteralNest,
+    /// `(` of a compound literal. Among declarators it begins parameters: `(int){ 1 }`
+    LiteralList,
+
+    /// `)`
+    Close,
+    /// `[`
+    LeftBracket,
+    /// `]`
+    RightBracket,
+    /// `{`
+    LeftBrace,
+    /// `}`
+    RightBrace,
+    /// `.`
+    Dot,
+    /// `->`
+    Arrow,
+    /// `++`, `--`
+    Step,
+    /// `&`
+    And,
+    /// `*`
+    Star,
+    /// `+`, `-`
+    Plus,
+    /// `~`, `!`
+    Not,
+    /// `/`, `%`
+    Slash,
+    /// `<<`, `>>`
+    Shift,
+    /// `<`, `>`, `<=`, `>=`
+    Order,
+    /// `==`, `!=`
+    Equality,
+    /// `^`
+    Xor,
+    /// `|`
+    Or,
+    /// `&&`
+    AndAnd,
+    /// `||`
+    OrOr,
+    /// `?`
+    Question,
+    /// `?` directly before `:`
+    ShortQuestion,
+    /// `:`
+    Colon,
+    /// `;`
+    Semicolon,
+    /// `,`
+    Comma,
+    /// `=`
+    Equal,
+    /// `*=`, `+=` and the other assignments with an operator
+    Assign,
+    /// `...` of C
+    Ellipsis,
+
+    /// `sizeof` before an expression
+    SizeofExpr,
+    /// `sizeof`, `_Alignof` before a type in brackets
+    SizeofType,
+    /// A word of a basic type: `int`
+    Basic,
+    /// `const`, `volatile`, `restrict`
+    Qualifier,
+    /// `inline`, `_Noreturn`
+    Function,
+    /// `static` and the other storage words
+    Storage,
+    /// A storage word before further ones, a name, and a `(` that no `*` follows: `static DEFINE_MUTEX(m)`
+    StorageOfMacro,
+    /// `struct`, `union` where no members follow
+    Struct,
+    /// `struct`, `union` before `{`, or before a name and `{`
+    StructBody,
+    /// `enum` where no members follow
+    Enum,
+    /// `enum` before `{`, or before a name and `{`
+    EnumBody,
+    /// A metavariable for a type, before `*`, `(` or `[`
+    TypOfDeclarator,
+    /// A metavariable for a type, before anything else
+    Typ,
+
+    /// `...` of a pattern
+    Dots,
+    /// A metavariable for a list of expressions
+    ExprList,
+    /// A metavariable for a list of parameters
+    ParamList,
+    /// `\(`
+    PatOpen,
+    /// `\|`
+    PatBar,
+    /// `\&`
+    PatAmp,
+    /// `\)`
+    PatClose,
+    /// Anything else.
+    Other,
+}

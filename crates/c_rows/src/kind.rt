@@ -1,0 +1,245 @@
+// The kinds of trees, and which lie within which.
+
+ghost use Rattle.std.specs.Prelude.{◌≡◌};
+ghost use Rattle.c_rows.specs.Kinds as kinds;
+ghost use Rattle.c_rows.specs.Choice as choice;
+
+use crate::{Class, Word, fits};
+
+/// What a part of a row may be. A kind of expressions has the expressions of all tighter kinds too.
+#[derive(Clone, Copy)]
+pub enum Kind {
+    /// `a`, `f(x)`, `a[i]`, `(T){ 1 }`
+    Post,
+    /// `++a`, `-a`, `sizeof a`
+    Un,
+    /// `(T)a`
+    CastLevel,
+    /// `a * b`
+    Product,
+    /// `a + b`
+    Sum,
+    /// `a << b`
+    Shift,
+    /// `a < b`
+    Order,
+    /// `a == b`
+    Equality,
+    /// `a & b`
+    And,
+    /// `a ^ b`
+    Xor,
+    /// `a | b`
+    Or,
+    /// `a && b`
+    AndAnd,
+    /// `a || b`
+    OrOr,
+    /// `a ? b : c`
+    CondLevel,
+    /// `a = b`
+    AssignLevel,
+    /// `a, b`
+    Expr,
+
+    /// What stands between the brackets of a call
+    Args,
+    /// A type as a member of such a list
+    TypeArg,
+    /// `int *`
+    TypeName,
+    /// `static const int`
+    Specs,
+    /// `struct s`, `enum e { A }`
+    Tag,
+    /// `int x, y : 3;`
+    Field,
+    /// `MACRO(x);`
+    MacroItem,
+    /// `: 3`, bits without a name
+    NamelessBits,
+
+    /// `d`, `(d)`, `d[3]`, `d(int x)`
+    Direct,
+    /// `*d`
+    Declarator,
+    /// `d : 3`
+    FieldDeclarator,
+    /// What stands between the brackets of a function's declarator
+    Params,
+    /// `int x`
+    Param,
+
+    /// `{ 1, 2 }`
+    InitList,
+    /// `.x = 1`
+    InitItem,
+    /// `.x`, `[2]`
+    Designator,
+    /// `A`
+    EnumName,
+    /// `A = 1`
+    Enumerator,
+}
+
+/// Kinds that lie within one another.
+#[derive(Clone, Copy)]
+pub enum Family {
+    /// Expressions, from Post to Expr
+    Expression,
+    /// [`Kind::Args`]
+    Args,
+    /// [`Kind::TypeArg`]
+    TypeArg,
+    /// [`Kind::TypeName`]
+    TypeName,
+    /// [`Kind::Specs`]
+    Specs,
+    /// [`Kind::Tag`]
+    Tag,
+    /// [`Kind::Field`]
+    Field,
+    /// [`Kind::MacroItem`]
+    MacroItem,
+    /// [`Kind::NamelessBits`]
+    NamelessBits,
+    /// Declarators, from Direct to FieldDeclarator
+    Declarator,
+    /// [`Kind::Params`]
+    Params,
+    /// [`Kind::Param`]
+    Param,
+    /// [`Kind::InitList`]
+    InitList,
+    /// [`Kind::InitItem`]
+    InitItem,
+    /// [`Kind::Designator`]
+    Designator,
+    /// Enumerators, from EnumName to Enumerator
+    Enumerator,
+}
+
+/// The family of the kind.
+pub fn family_of(kind: Kind) -> Family
+    ensures value { result ≡ kinds.family_of kind }
+{
+    match kind {
+        Kind::Args => Family::Args,
+        Kind::TypeArg => Family::TypeArg,
+        Kind::TypeName => Family::TypeName,
+        Kind::Specs => Family::Specs,
+        Kind::Tag => Family::Tag,
+        Kind::Field => Family::Field,
+        Kind::MacroItem => Family::MacroItem,
+        Kind::NamelessBits => Family::NamelessBits,
+        Kind::Direct | Kind::Declarator | Kind::FieldDeclarator => Family::Declarator,
+        Kind::Params => Family::Params,
+        Kind::Param => Family::Param,
+        Kind::InitList => Family::InitList,
+        Kind::InitItem => Family::InitItem,
+        Kind::Designator => Family::Designator,
+        Kind::EnumName | Kind::Enumerator => Family::Enumerator,
+        _ => Family::Expression,
+    }
+}
+
+/// The place of a kind in its family, tightest first.
+pub fn rank(kind: Kind) -> u8
+    ensures value { result ≡ kinds.rank kind }
+{
+    match kind {
+        Kind::Post => 0,
+        Kind::Un => 1,
+        Kind::CastLevel => 2,
+        Kind::Product => 3,
+        Kind::Sum => 4,
+        Kind::Shift => 5,
+        Kind::Order => 6,
+        Kind::Equality => 7,
+        Kind::And => 8,
+        Kind::Xor => 9,
+        Kind::Or => 10,
+        Kind::AndAnd => 11,
+        Kind::OrOr => 12,
+        Kind::CondLevel => 13,
+        Kind::AssignLevel => 14,
+        Kind::Expr => 15,
+        Kind::Direct => 0,
+        Kind::Declarator => 1,
+        Kind::FieldDeclarator => 2,
+        Kind::EnumName => 0,
+        Kind::Enumerator => 1,
+        _ => 0,
+    }
+}
+
+/// One family.
+pub fn same_family(a: Family, b: Family) -> bool
+    ensures value { result ≡ kinds.same_family a b }
+{
+    match a {
+        Family::Expression => matches!(b, Family::Expression),
+        Family::Args => matches!(b, Family::Args),
+        Family::TypeArg => matches!(b, Family::TypeArg),
+        Family::TypeName => matches!(b, Family::TypeName),
+        Family::Specs => matches!(b, Family::Specs),
+        Family::Tag => matches!(b, Family::Tag),
+        Family::Field => matches!(b, Family::Field),
+        Family::MacroItem => matches!(b, Family::MacroItem),
+        Family::NamelessBits => matches!(b, Family::NamelessBits),
+        Family::Declarator => matches!(b, Family::Declarator),
+        Family::Params => matches!(b, Family::Params),
+        Family::Param => matches!(b, Family::Param),
+        Family::InitList => matches!(b, Family::InitList),
+        Family::InitItem => matches!(b, Family::InitItem),
+        Family::Designator => matches!(b, Family::Designator),
+        Family::Enumerator => matches!(b, Family::Enumerator),
+    }
+}
+
+/// Every tree of the kind is one of the limit.
+pub fn within(kind: Kind, limit: Kind) -> bool
+    ensures value { result ≡ kinds.within kind limit }
+{
+    same_family(family_of(kind), family_of(limit)) && rank(kind) <= rank(limit)
+}
+
+/// A token of this class is by itself a tree of the family's tightest kind.
+pub fn has_leaf(family: Family, class: Class) -> bool
+    ensures value { result ≡ kinds.has_leaf family class }
+{
+    match family {
+        Family::Expression => matches!(
+            class,
+            Class::Name | Class::NameOfCall | Class::Operand | Class::Str
+        ),
+        Family::TypeName => matches!(class, Class::Typ),
+        Family::Specs => matches!(class, Class::Typ | Class::TypOfDeclarator),
+        Family::Declarator | Family::Enumerator => fits(Word::Name, class),
+        _ => false,
+    }
+}
+
+/// The tightest kind of a family, to which its leaves belong.
+pub fn bottom(family: Family) -> Kind
+    ensures value { result ≡ choice.bottom family }
+{
+    match family {
+        Family::Expression => Kind::Post,
+        Family::Args => Kind::Args,
+        Family::TypeArg => Kind::TypeArg,
+        Family::TypeName => Kind::TypeName,
+        Family::Specs => Kind::Specs,
+        Family::Tag => Kind::Tag,
+        Family::Field => Kind::Field,
+        Family::MacroItem => Kind::MacroItem,
+        Family::NamelessBits => Kind::NamelessBits,
+        Family::Declarator => Kind::Direct,
+        Family::Params => Kind::Params,
+        Family::Param => Kind::Param,
+        Family::InitList => Kind::InitList,
+        Family::InitItem => Kind::InitItem,
+        Family::Designator => Kind::Designator,
+        Family::Enumerator => Kind::EnumName,
+    }
+}

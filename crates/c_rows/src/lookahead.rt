@@ -1,0 +1,255 @@
+// The class of the front of a list of tokens: what it is with the tokens behind it.
+ghost use Rattle.std.specs.Prelude.{◌≡◌};
+ghost use Rattle.c_rows.specs.Look as ahead;
+
+use crate::Class;
+use crate::brackets::{alignof, at_name, at_sign, at_string, bracket, sizeof};
+use crate::words::{
+    is, is_basic, is_enum, is_function, is_named, is_qualifier, is_sign, is_storage_text, is_struct,
+};
+use c_terms::{MetaKind, Names, Token, TokenKind};
+
+/// Members follow the word of a tag.
+fn has_members(rest: &[Token]) -> bool
+    ensures { result ≡ ahead.has_members rest.now }
+{
+    match rest {
+        [] => false,
+        [token, after @ ..] => is_sign(token, b"{") || is_named(token) && at_sign(after, b"{"),
+    }
+}
+
+/// A storage word, by what follows it.
+fn storage(next: Class) -> Class
+    ensures { result ≡ ahead.storage next }
+{
+    match next {
+        Class::StorageOfMacro | Class::NameOfCall => Class::StorageOfMacro,
+        _ => Class::Storage,
+    }
+}
+
+/// A keyword.
+fn keyword(names: &Names, text: &[u8], rest: &[Token], next: Class) -> Class
+    ensures { result ≡ ahead.keyword names.now text.now rest.now next }
+{
+    if is_basic(text) {
+        Class::Basic
+    } else if is_qualifier(text) {
+        Class::Qualifier
+    } else if is_storage_text(text) {
+        storage(next)
+    } else if is_function(text) {
+        Class::Function
+    } else if is_struct(text) {
+        if has_members(rest) {
+            Class::StructBody
+        } else {
+            Class::Struct
+        }
+    } else if is_enum(text) {
+        if has_members(rest) {
+            Class::EnumBody
+        } else {
+            Class::Enum
+        }
+    } else if is(text, b"sizeof") {
+        sizeof(names, rest)
+    } else if is(text, b"_Alignof") {
+        alignof(names, rest)
+    } else {
+        Class::Other
+    }
+}
+
+/// A `(` that no `*` follows stands first.
+fn is_of_call(rest: &[Token]) -> bool
+    ensures { result ≡ ahead.is_of_call rest.now }
+{
+    match rest {
+        [] => false,
+        [open, inside @ ..] => is_sign(open, b"(") && !at_sign(inside, b"*"),
+    }
+}
+
+/// A name, by what follows it.
+fn name(rest: &[Token]) -> Class
+    ensures { result ≡ ahead.name rest.now }
+{
+    if at_string(rest) {
+        Class::NameOfString
+    } else if is_of_call(rest) {
+        Class::NameOfCall
+    } else {
+        Class::Name
+    }
+}
+
+/// A string, by what follows it.
+fn string(rest: &[Token]) -> Class
+    ensures { result ≡ ahead.string rest.now }
+{
+    if at_string(rest) || at_name(rest) {
+        Class::StrOfString
+    } else {
+        Class::Str
+    }
+}
+
+/// A metavariable for a type, by what follows it.
+fn typ(rest: &[Token]) -> Class
+    ensures { result ≡ ahead.typ rest.now }
+{
+    if at_sign(rest, b"*") || at_sign(rest, b"(") || at_sign(rest, b"[") {
+        Class::TypOfDeclarator
+    } else {
+        Class::Typ
+    }
+}
+
+/// A `?`, by what follows it.
+fn question(rest: &[Token]) -> Class
+    ensures { result ≡ ahead.question rest.now }
+{
+    if at_sign(rest, b":") {
+        Class::ShortQuestion
+    } else {
+        Class::Question
+    }
+}
+
+/// The operators that are of one class whatever follows.
+fn operator(text: &[u8]) -> Class
+    ensures { result ≡ ahead.operator text.now }
+{
+    if is(text, b"++") || is(text, b"--") {
+        Class::Step
+    } else if is(text, b"==") || is(text, b"!=") {
+        Class::Equality
+    } else if is(text, b"<") || is(text, b">") || is(text, b"<=") || is(text, b">=") {
+        Class::Order
+    } else if is(text, b"&&") {
+        Class::AndAnd
+    } else if is(text, b"||") {
+        Class::OrOr
+    } else if is(text, b"|") {
+        Class::Or
+    } else if is(text, b"^") {
+        Class::Xor
+    } else if is(text, b"/") || is(text, b"%") {
+        Class::Slash
+    } else if is(text, b"<<") || is(text, b">>") {
+        Class::Shift
+    } else if is(text, b"*=")
+        || is(text, b"/=")
+        || is(text, b"%=")
+        || is(text, b"+=")
+        || is(text, b"-=")
+        || is(text, b"<<=")
+        || is(text, b">>=")
+        || is(text, b"&=")
+        || is(text, b"^=")
+        || is(text, b"|=")
+    {
+        Class::Assign
+    } else {
+        Class::Other
+    }
+}
+
+/// A punctuator.
+fn sign(names: &Names, text: &[u8], rest: &[Token]) -> Class
+    ensures { result ≡ ahead.sign names.now text.now rest.now }
+{
+    if is(text, b"(") {
+        bracket(names, rest)
+    } else if is(text, b")") {
+        Class::Close
+    } else if is(text, b",") {
+        Class::Comma
+    } else if is(text, b";") {
+        Class::Semicolon
+    } else if is(text, b"->") {
+        Class::Arrow
+    } else if is(text, b".") {
+        Class::Dot
+    } else if is(text, b"=") {
+        Class::Equal
+    } else if is(text, b"[") {
+        Class::LeftBracket
+    } else if is(text, b"]") {
+        Class::RightBracket
+    } else if is(text, b"{") {
+        Class::LeftBrace
+    } else if is(text, b"}") {
+        Class::RightBrace
+    } else if is(text, b"*") {
+        Class::Star
+    } else if is(text, b"&") {
+        Class::And
+    } else if is(text, b"+") || is(text, b"-") {
+        Class::Plus
+    } else if is(text, b"!") || is(text, b"~") {
+        Class::Not
+    } else if is(text, b"?") {
+        question(rest)
+    } else if is(text, b":") {
+        Class::Colon
+    } else if is(text, b"...") {
+        Class::Ellipsis
+    } else {
+        operator(text)
+    }
+}
+
+/// A metavariable.
+fn metavariable(kind: MetaKind, rest: &[Token]) -> Class
+    ensures { result ≡ ahead.metavariable kind rest.now }
+{
+    match kind {
+        MetaKind::Expr => Class::Operand,
+        MetaKind::Constant => Class::Operand,
+        MetaKind::ExprList => Class::ExprList,
+        MetaKind::Ident => name(rest),
+        MetaKind::Typ => typ(rest),
+        MetaKind::Params => Class::ParamList,
+        MetaKind::Stmt => Class::Other,
+    }
+}
+
+/// A sign of patterns.
+fn pattern(text: &[u8]) -> Class
+    ensures { result ≡ ahead.pattern text.now }
+{
+    if is(text, b"\\(") {
+        Class::PatOpen
+    } else if is(text, b"\\|") {
+        Class::PatBar
+    } else if is(text, b"\\&") {
+        Class::PatAmp
+    } else if is(text, b"\\)") {
+        Class::PatClose
+    } else {
+        Class::Other
+    }
+}
+
+/// The class of a list that begins with the token, of which the rest is of class `next`. Looks at one token behind,
+/// or two, at the run of `*` behind a bracket and a name, and behind a bracket that begins a type at what it encloses.
+pub fn look(names: &Names, token: &Token, rest: &[Token], next: Class) -> Class
+    ensures value { result ≡ ahead.class_of names.now token.now.kind token.now.text rest.now next }
+{
+    let text = token.text.as_bytes();
+    match token.kind {
+        TokenKind::Name => name(rest),
+        TokenKind::Keyword => keyword(names, text, rest, next),
+        TokenKind::Number => Class::Operand,
+        TokenKind::Char => Class::Operand,
+        TokenKind::Str => string(rest),
+        TokenKind::Punct => sign(names, text, rest),
+        TokenKind::Stray => Class::Other,
+        TokenKind::Meta(kind) => metavariable(kind, rest),
+        TokenKind::Dots => Class::Dots,
+        TokenKind::Pat => pattern(text),
+    }
+}

@@ -1,0 +1,292 @@
+// The parts of each row, in order, and the ways in which rows go on.
+
+ghost use Rattle.std.specs.Prelude.{◌≡◌, map};
+ghost use Rattle.c_rows.specs.Rows as rows;
+
+use crate::{Fork, Kind, Rule, Symbol, Word};
+
+/// `row![word Open, child Expr, word Close]` is a list of symbols.
+macro_rules! row {
+    (@one word $name:ident) => { Symbol::Word(Word::$name) };
+    (@one child $name:ident) => { Symbol::Child(Kind::$name) };
+    (@one fork $name:ident) => { Symbol::Fork(Fork::$name) };
+    (@one any $name:ident) => { Symbol::$name };
+    ($($what:ident $name:ident),*) => { &[$(row!(@one $what $name)),*] };
+}
+
+/// The parts of the rule's row, in order.
+pub fn row(rule: Rule) -> &'static [Symbol]
+    ensures value { result.now ≡ rows.row rule }
+{
+    match rule {
+        // `"a" "b"`, `PRIu64 "x"`
+        Rule::Strings => row![fork FirstString],
+        // `(e)`
+        Rule::Paren => row![word ParenOpen, child Expr, word Close],
+        // `e[e]`
+        Rule::Index => row![child Post, word LeftBracket, child Expr, word RightBracket],
+        // `f(a, b)`
+        Rule::Call => row![child Post, word AnyOpen, child Args, word Close],
+        // `a, b`
+        Rule::Args => row![fork FirstArg],
+        // `int`
+        Rule::TypeArg => row![child TypeName],
+        // `e.x`
+        Rule::Member => row![child Post, word Dot, word Name],
+        // `e->x`
+        Rule::Arrow => row![child Post, word Arrow, word Name],
+        // `e++`
+        Rule::PostOp => row![child Post, word Step],
+        // `(T){ 1, 2 }`
+        Rule::Literal => row![word LiteralOpen, child TypeName, word Close, child InitList],
+        // `++e`
+        Rule::PreOp => row![word Step, child Un],
+        // `-e`
+        Rule::Unary => row![word Prefix, child CastLevel],
+        // `sizeof e`
+        Rule::SizeofExpr => row![word SizeofExpr, child Un],
+        // `sizeof(T)`
+        Rule::SizeofType => row![word SizeofType, word AnyOpen, child TypeName, word Close],
+        // `(T)e`
+        Rule::Cast => row![word CastOpen, child TypeName, word Close, child CastLevel],
+        // `a || b`
+        Rule::OrOr => row![child OrOr, word OrOr, child AndAnd],
+        // `a && b`
+        Rule::AndAnd => row![child AndAnd, word AndAnd, child Or],
+        // `a | b`
+        Rule::Or => row![child Or, word Or, child Xor],
+        // `a ^ b`
+        Rule::Xor => row![child Xor, word Xor, child And],
+        // `a & b`
+        Rule::And => row![child And, word And, child Equality],
+        // `a == b`
+        Rule::Equality => row![child Equality, word Equality, child Order],
+        // `a < b`
+        Rule::Order => row![child Order, word Order, child Shift],
+        // `a << b`
+        Rule::Shift => row![child Shift, word Shift, child Sum],
+        // `a + b`
+        Rule::Sum => row![child Sum, word Plus, child Product],
+        // `a * b`
+        Rule::Product => row![child Product, word Times, child CastLevel],
+        // `c ? a : b`
+        Rule::Cond => row![child OrOr, word Question, child Expr, word Colon, child CondLevel],
+        // `c ?: b`
+        Rule::CondShort => row![child OrOr, word ShortQuestion, word Colon, child CondLevel],
+        // `a = b`
+        Rule::Assign => row![child Un, word Assign, child AssignLevel],
+        // `a, b`
+        Rule::Comma => row![child Expr, word Comma, child AssignLevel],
+
+        // `int *`
+        Rule::TypeName => row![child Specs, fork Nameless],
+        // `static const int`
+        Rule::Specs => row![fork NoType],
+        // `struct s`
+        Rule::StructUse => row![word Struct, word Name],
+        // `struct s { int x; }`
+        Rule::StructDef => row![word StructBody, fork StructName],
+        // `int x, y : 3;`
+        Rule::Field => row![child Specs, fork FirstField],
+        // `y : 3`
+        Rule::Bits => row![child Declarator, word Colon, child CondLevel],
+        // `: 3`
+        Rule::NamelessBits => row![word Colon, child CondLevel],
+        // `enum e`
+        Rule::EnumUse => row![word Enum, word Name],
+        // `enum e { A, B = 2 }`
+        Rule::EnumDef => row![word EnumBody, fork EnumName],
+        // `B = 2`
+        Rule::EnumValue => row![child EnumName, word Equal, child CondLevel],
+        // `*const d`
+        Rule::Pointer => row![word Star, fork Pointee],
+        // `(d)`
+        Rule::DParen => row![word NestOpen, child Declarator, word Close],
+        // `d[3]`
+        Rule::DArray => row![child Direct, word LeftBracket, fork Size],
+        // `[3]`
+        Rule::NamelessArray => row![word LeftBracket, fork Size],
+        // `d(int x)`
+        Rule::DFun => row![child Direct, word AnyOpen, child Params, word Close],
+        // `(int x)`
+        Rule::NamelessFun => row![word ListOpen, child Params, word Close],
+        // `int x, ...`
+        Rule::Params => row![fork FirstParam],
+        // `int x`
+        Rule::Param => row![child Specs, fork ParamName],
+        // `{ 1, .x = 2, }`
+        Rule::InitList => row![word LeftBrace, fork FirstInit],
+        // `.x[2] = 3`
+        Rule::InitItem => row![child Designator, fork MoreDesignators],
+        // `.x`
+        Rule::DotName => row![word Dot, word Name],
+        // `[2]`, `[2 ... 5]`
+        Rule::At => row![word LeftBracket, child CondLevel, fork AtEnd],
+        // `static MACRO(x);`
+        Rule::MacroItem => row![fork MacroWords],
+
+        // `\( a \| b \)`, `\( a \& b \)`
+        Rule::PatBranches => row![word PatOpen, child Expr, fork FirstBranch],
+    }
+}
+
+/// The ways in which a row may go on at the fork.
+pub fn ways(fork: Fork) -> &'static [&'static [Symbol]]
+    ensures value { map (λ way. way.now) result.now ≡ rows.ways fork }
+{
+    match fork {
+        // two or more strings and names, no two names side by side, and at least one string
+        Fork::FirstString => &[
+            row![word Str, fork SecondString],
+            row![word Name, word Str, fork AfterString],
+        ],
+        Fork::SecondString => &[
+            row![word Str, fork AfterString],
+            row![word Name, fork AfterName],
+        ],
+        Fork::AfterString => &[
+            row![word Str, fork AfterString],
+            row![word Name, fork AfterName],
+            row![],
+        ],
+        Fork::AfterName => &[row![word Str, fork AfterString], row![]],
+
+        // members parted by commas, or none
+        Fork::FirstArg => &[
+            row![any Argument, fork MoreArgs],
+            row![word ArgRun, fork MoreArgs],
+            row![],
+        ],
+        Fork::MoreArgs => &[row![word Comma, fork NextArg], row![]],
+        Fork::NextArg => &[
+            row![any Argument, fork MoreArgs],
+            row![word ArgRun, fork MoreArgs],
+        ],
+
+        // two or more branches, all parted by `\|` or all by `\&`
+        Fork::FirstBranch => &[
+            row![word PatBar, child Expr, fork MoreOr],
+            row![word PatAmp, child Expr, fork MoreAnd],
+        ],
+        Fork::MoreOr => &[
+            row![word PatBar, child Expr, fork MoreOr],
+            row![word PatClose],
+        ],
+        Fork::MoreAnd => &[
+            row![word PatAmp, child Expr, fork MoreAnd],
+            row![word PatClose],
+        ],
+
+        // a declarator or none
+        Fork::Nameless => &[row![child Declarator], row![]],
+
+        // modifiers in any order, with exactly one type part: basic words, a tag or a name
+        Fork::NoType => &[
+            row![word Modifier, fork NoType],
+            row![word Basic, fork BasicType],
+            row![child Tag, fork OneType],
+            row![word Name, fork OneType],
+        ],
+        Fork::BasicType => &[row![word BasicOrModifier, fork BasicType], row![]],
+        Fork::OneType => &[row![word Modifier, fork OneType], row![]],
+
+        // a name or none, and the members
+        Fork::StructName => &[
+            row![word Name, word LeftBrace, fork Members],
+            row![word LeftBrace, fork Members],
+        ],
+        Fork::Members => &[
+            row![child Field, fork Members],
+            row![child MacroItem, fork Members],
+            row![word RightBrace],
+        ],
+
+        // declarators and bits parted by commas, or none
+        Fork::FirstField => &[
+            row![child FieldDeclarator, fork MoreFields],
+            row![child NamelessBits, fork MoreFields],
+            row![word Semicolon],
+        ],
+        Fork::MoreFields => &[row![word Comma, fork NextField], row![word Semicolon]],
+        Fork::NextField => &[
+            row![child FieldDeclarator, fork MoreFields],
+            row![child NamelessBits, fork MoreFields],
+        ],
+
+        // a name or none, and enumerators parted by commas, with or without a last comma
+        Fork::EnumName => &[
+            row![word Name, word LeftBrace, child Enumerator, fork MoreEnumerators],
+            row![word LeftBrace, child Enumerator, fork MoreEnumerators],
+        ],
+        Fork::MoreEnumerators => &[row![word Comma, fork NextEnumerator], row![word RightBrace]],
+        Fork::NextEnumerator => &[
+            row![child Enumerator, fork MoreEnumerators],
+            row![word RightBrace],
+        ],
+
+        // qualifiers, and a declarator or none
+        Fork::Pointee => &[
+            row![word Qualifier, fork Pointee],
+            row![child Declarator],
+            row![],
+        ],
+
+        // a size or none
+        Fork::Size => &[
+            row![child CondLevel, word RightBracket],
+            row![word RightBracket],
+        ],
+
+        // parameters parted by commas, or none; the last may be `...`
+        Fork::FirstParam => &[
+            row![child Param, fork MoreParams],
+            row![word ParamRun, fork MoreParams],
+            row![word Ellipsis],
+            row![],
+        ],
+        Fork::MoreParams => &[row![word Comma, fork NextParam], row![]],
+        Fork::NextParam => &[
+            row![child Param, fork MoreParams],
+            row![word ParamRun, fork MoreParams],
+            row![word Ellipsis],
+        ],
+
+        // a declarator or none
+        Fork::ParamName => &[row![child Declarator], row![]],
+
+        // members parted by commas, or none, with or without a last comma
+        Fork::FirstInit => &[
+            row![child AssignLevel, fork MoreInits],
+            row![child InitList, fork MoreInits],
+            row![child InitItem, fork MoreInits],
+            row![word Comma, word RightBrace],
+            row![word RightBrace],
+        ],
+        Fork::MoreInits => &[row![word Comma, fork NextInit], row![word RightBrace]],
+        Fork::NextInit => &[
+            row![child AssignLevel, fork MoreInits],
+            row![child InitList, fork MoreInits],
+            row![child InitItem, fork MoreInits],
+            row![word RightBrace],
+        ],
+
+        // further designators, `=`, and an expression or a list
+        Fork::MoreDesignators => &[
+            row![child Designator, fork MoreDesignators],
+            row![word Equal, fork ItemValue],
+        ],
+        Fork::ItemValue => &[row![child AssignLevel], row![child InitList]],
+
+        // `]`, or `... e ]`
+        Fork::AtEnd => &[
+            row![word RightBracket],
+            row![word Ellipsis, child CondLevel, word RightBracket],
+        ],
+
+        // storage words, a name, its arguments
+        Fork::MacroWords => &[
+            row![word Storage, fork MacroWords],
+            row![word Name, word AnyOpen, child Args, word Close, word Semicolon],
+        ],
+    }
+}

@@ -1,0 +1,146 @@
+// What a single token is.
+ghost use Rattle.std.specs.Prelude.{◌≡◌, codes};
+ghost use Rattle.std.specs.Str.{bytes_eq};
+ghost use Rattle.c_rows.specs.Tokens as tokens;
+
+use c_terms::{MetaKind, Token, TokenKind};
+
+/// Equal bytes.
+pub fn is(text: &[u8], word: &[u8]) -> bool
+    ensures { result ≡ bytes_eq text.now word.now }
+{
+    text == word
+}
+
+/// A name, or a metavariable for one.
+pub fn is_named(token: &Token) -> bool
+    ensures value { result ≡ tokens.is_named token.now }
+{
+    match token.kind {
+        TokenKind::Name => true,
+        TokenKind::Meta(MetaKind::Ident) => true,
+        _ => false,
+    }
+}
+
+/// A string.
+pub fn is_string(token: &Token) -> bool
+    ensures { result ≡ tokens.is_string token.now }
+{
+    match token.kind {
+        TokenKind::Str => true,
+        _ => false,
+    }
+}
+
+/// The punctuator with this text.
+pub fn is_sign(token: &Token, text: &[u8]) -> bool
+    ensures { result ≡ tokens.is_sign token.now text.now }
+{
+    match token.kind {
+        TokenKind::Punct => is(token.text.as_bytes(), text),
+        _ => false,
+    }
+}
+
+/// A word of a basic type (C11 6.7.2).
+pub fn is_basic(text: &[u8]) -> bool
+    ensures { result ≡ tokens.is_basic text.now }
+{
+    is(text, b"int")
+        || is(text, b"void")
+        || is(text, b"char")
+        || is(text, b"unsigned")
+        || is(text, b"long")
+        || is(text, b"short")
+        || is(text, b"signed")
+        || is(text, b"float")
+        || is(text, b"double")
+        || is(text, b"_Bool")
+        || is(text, b"_Complex")
+}
+
+/// A qualifier of a type (C11 6.7.3), without `_Atomic`.
+pub fn is_qualifier(text: &[u8]) -> bool
+    ensures { result ≡ tokens.is_qualifier text.now }
+{
+    is(text, b"const") || is(text, b"volatile") || is(text, b"restrict")
+}
+
+/// A function specifier (C11 6.7.4).
+pub fn is_function(text: &[u8]) -> bool
+    ensures { result ≡ tokens.is_function text.now }
+{
+    is(text, b"inline") || is(text, b"_Noreturn")
+}
+
+/// The text of a storage word (C11 6.7.1).
+pub fn is_storage_text(text: &[u8]) -> bool
+    ensures { result ≡ tokens.is_storage_text text.now }
+{
+    is(text, b"static")
+        || is(text, b"extern")
+        || is(text, b"typedef")
+        || is(text, b"register")
+        || is(text, b"auto")
+        || is(text, b"_Thread_local")
+}
+
+/// A storage word.
+pub fn is_storage(token: &Token) -> bool
+    ensures value { result ≡ tokens.is_storage token.now }
+{
+    match token.kind {
+        TokenKind::Keyword => is_storage_text(token.text.as_bytes()),
+        _ => false,
+    }
+}
+
+/// The words of a structure or a union.
+pub fn is_struct(text: &[u8]) -> bool
+    ensures { result ≡ tokens.is_struct text.now }
+{
+    is(text, b"struct") || is(text, b"union")
+}
+
+/// The word of an enumeration.
+pub fn is_enum(text: &[u8]) -> bool
+    ensures { result ≡ tokens.is_enum text.now }
+{
+    is(text, b"enum")
+}
+
+/// A token with which a type begins that is no name: a word of a basic type, a qualifier, a tag's word,
+/// or a metavariable for a type.
+pub fn is_type_word(token: &Token) -> bool
+    ensures { result ≡ tokens.is_type_word token.now }
+{
+    match token.kind {
+        TokenKind::Keyword => {
+            let text = token.text.as_bytes();
+            is_basic(text) || is_qualifier(text) || is_struct(text) || is_enum(text)
+        }
+        TokenKind::Meta(MetaKind::Typ) => true,
+        _ => false,
+    }
+}
+
+/// A token that may follow a name in brackets only where that is a cast or begins a literal:
+/// a name, a constant, a string, a metavariable for an expression, `~`, `!`, `sizeof` or `{`.
+pub fn follows_cast(token: &Token) -> bool
+    ensures { result ≡ tokens.follows_cast token.now }
+{
+    let text = token.text.as_bytes();
+    match token.kind {
+        TokenKind::Name => true,
+        TokenKind::Number => true,
+        TokenKind::Char => true,
+        TokenKind::Str => true,
+        TokenKind::Meta(MetaKind::Ident) => true,
+        TokenKind::Meta(MetaKind::Expr) => true,
+        TokenKind::Meta(MetaKind::Constant) => true,
+        TokenKind::Keyword => is(text, b"sizeof"),
+        TokenKind::Punct => is(text, b"~") || is(text, b"!") || is(text, b"{"),
+        _ => false,
+    }
+}

@@ -21,6 +21,8 @@ mod fault;
 mod parse;
 mod range;
 mod see;
+#[cfg(test)]
+mod tests;
 
 pub use fault::ParseFault;
 pub use range::{

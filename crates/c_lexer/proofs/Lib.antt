@@ -29,3 +29,4 @@ pub mod Agree
 pub mod Strayed
 pub mod LineTold
 pub mod LineReached
+pub mod Examples

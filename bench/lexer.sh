@@ -14,7 +14,7 @@ for crate in c_terms c_lexer; do
 done
 mkdir -p "$work/crates/lex_bench/src" "$work/texts"
 cat > "$work/crates.txt" <<'END'
-c_terms: smallvec
+c_terms: sqlite_items indexmap
 c_lexer: c_terms
 lex_bench: c_lexer anyhow
 END

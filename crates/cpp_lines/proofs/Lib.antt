@@ -3,3 +3,4 @@ pub mod Groups
 pub mod Progress
 pub mod Rising
 pub mod ItemProgress
+pub mod Examples

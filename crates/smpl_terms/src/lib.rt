@@ -12,6 +12,8 @@
 #![tactic(auto)]
 
 mod env;
+#[cfg(test)]
+mod tests;
 mod value;
 mod var;
 

@@ -7,3 +7,4 @@ pub mod AlikeLemmas
 pub mod SplitLemmas
 pub mod RisingLemmas
 pub mod MeetLemmas
+pub mod Examples

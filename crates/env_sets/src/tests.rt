@@ -1,9 +1,10 @@
-// That calls succeed, on small sets, and that the complement of entries over two variables stays small.
+// Each call once with ample memory, and which entries the results keep.
 use crate::*;
 use c_terms::{Text, Token, TokenKind, Tree};
 use smpl_terms::{Env, Value, Var};
 use std::alloc::Global;
 use std::test::Fail;
+use std::thread;
 
 fn var(alloc: Global, name: &str) -> Result<Var, Fail> {
     Ok(Var {
@@ -21,18 +22,80 @@ fn term(alloc: Global, number: &str, id: u64) -> Result<Value, Fail> {
     })))
 }
 
+// The calls without their clauses, so that a test's goals stay small.
+
 fn is(alloc: Global, name: &str, number: &str) -> Result<EnvSet, Fail> {
-    Ok(EnvSet::one(
-        alloc,
-        &var(alloc, name)?,
-        Bound::Is(term(alloc, number, 1)?),
-    )?)
+    let bound = Bound::Is(term(alloc, number, 1)?);
+    Ok(EnvSet::one(alloc, &var(alloc, name)?, bound)?)
+}
+
+fn both(alloc: Global, a: &EnvSet, b: &EnvSet) -> Result<EnvSet, Fail> {
+    Ok(meet(alloc, a, b)?)
+}
+
+fn either(alloc: Global, a: &EnvSet, b: &EnvSet) -> Result<EnvSet, Fail> {
+    Ok(join(alloc, a, b)?)
+}
+
+fn other(alloc: Global, a: &EnvSet) -> Result<EnvSet, Fail> {
+    Ok(complement(alloc, a)?)
+}
+
+fn freed(alloc: Global, a: &EnvSet, name: &str) -> Result<EnvSet, Fail> {
+    Ok(project(alloc, a, &var(alloc, name)?)?)
+}
+
+fn under(alloc: Global, a: &EnvSet, env: &Env) -> Result<EnvSet, Fail> {
+    Ok(given(alloc, a, env)?)
+}
+
+fn copied(alloc: Global, a: &EnvSet) -> Result<EnvSet, Fail> {
+    Ok(a.copy(alloc)?)
+}
+
+fn everything(alloc: Global) -> Result<EnvSet, Fail> {
+    Ok(EnvSet::all(alloc)?)
+}
+
+fn says(a: &EnvSet, env: &Env) -> bool {
+    denotes(a, env)
+}
+
+fn size(a: &EnvSet) -> usize {
+    a.entries().len()
+}
+
+/// The environment with one more pair, unless the variable has a value.
+fn with_value(alloc: Global, env: Env, v: &Var, value: &Value) -> Result<Env, Fail> {
+    if env.has(v) {
+        return Ok(env);
+    }
+    Ok(env.with(alloc, v, value)?)
+}
+
+/// The environment of this number, whose token has another id.
+fn env_of_x(alloc: Global, x: &str) -> Result<Env, Fail> {
+    let value = term(alloc, x, 2)?;
+    with_value(alloc, Env::empty(alloc), &var(alloc, "x")?, &value)
 }
 
 /// The environment of these numbers, whose tokens have other ids.
 fn env(alloc: Global, x: &str, y: &str) -> Result<Env, Fail> {
-    let env = Env::empty(alloc).with(alloc, &var(alloc, "x")?, &term(alloc, x, 2)?)?;
-    Ok(env.with(alloc, &var(alloc, "y")?, &term(alloc, y, 3)?)?)
+    let env = env_of_x(alloc, x)?;
+    let value = term(alloc, y, 3)?;
+    with_value(alloc, env, &var(alloc, "y")?, &value)
+}
+
+/// Whether the set stands for x, y being 1, 1; 1, 2; 3, 1; and 3, 2.
+fn answers(alloc: Global, set: &EnvSet, wanted: [bool; 4]) -> Result<bool, Fail> {
+    let set = copied(alloc, set)?;
+    let [a, b, c, d] = wanted;
+    Ok(
+        says(&set, &env(alloc, "1", "1")?) == a
+            && says(&set, &env(alloc, "1", "2")?) == b
+            && says(&set, &env(alloc, "3", "1")?) == c
+            && says(&set, &env(alloc, "3", "2")?) == d,
+    )
 }
 
 #[test]
@@ -40,56 +103,66 @@ fn calls_answer_their_sets(rt: HostRuntime) -> Result<(), Fail> {
     let alloc = rt.alloc();
     let one = is(alloc, "x", "1")?;
     let two = is(alloc, "y", "2")?;
-    let other = complement(alloc, &one)?;
-    let both = meet(alloc, &one, &two)?;
-    let either = join(alloc, &other, &two)?;
-    let free = project(alloc, &both, &var(alloc, "x")?)?;
-    let rest = given(
-        alloc,
-        &both,
-        &Env::empty(alloc).with(alloc, &var(alloc, "x")?, &term(alloc, "1", 9)?)?,
-    )?;
-    let sets = [
-        (one, [true, true, false, false]),
-        (other, [false, false, true, true]),
-        (both, [false, true, false, false]),
-        (either, [false, true, true, true]),
-        (free, [false, true, false, true]),
-        (rest, [false, true, false, true]),
-        (EnvSet::none(alloc), [false; 4]),
-        (EnvSet::all(alloc)?, [true; 4]),
-    ];
-    for (set, wanted) in &sets {
-        let set = set.copy(alloc)?;
-        for (at, (x, y)) in [("1", "1"), ("1", "2"), ("3", "1"), ("3", "2")]
-            .iter()
-            .enumerate()
-        {
-            assert_eq!(rt;
-                denotes(&set, &env(alloc, *x, *y)?),
-                wanted[at],
-                "at {x} and {y}"
-            );
-        }
-    }
+    assert!(rt; answers(alloc, &one, [true, true, false, false])?);
+    assert!(rt; answers(alloc, &other(alloc, &one)?, [false, false, true, true])?);
+    assert!(rt;
+        answers(
+            alloc,
+            &both(alloc, &one, &two)?,
+            [false, true, false, false]
+        )?
+    );
+    assert!(rt;
+        answers(
+            alloc,
+            &either(alloc, &one, &two)?,
+            [true, true, false, true]
+        )?
+    );
+    assert!(rt; answers(alloc, &EnvSet::none(alloc), [false; 4])?);
+    assert!(rt; answers(alloc, &everything(alloc)?, [true; 4])?);
     Ok(())
+}
+
+#[test]
+fn variables_are_freed_and_given(rt: HostRuntime) -> Result<(), Fail> {
+    let alloc = rt.alloc();
+    let pair = both(alloc, &is(alloc, "x", "1")?, &is(alloc, "y", "2")?)?;
+    assert!(rt;
+        answers(
+            alloc,
+            &freed(alloc, &pair, "x")?,
+            [false, true, false, true]
+        )?
+    );
+    let kept = under(alloc, &pair, &env_of_x(alloc, "1")?)?;
+    assert!(rt; answers(alloc, &kept, [false, true, false, true])?);
+    let contradicted = under(alloc, &pair, &env_of_x(alloc, "3")?)?;
+    assert!(rt; answers(alloc, &contradicted, [false; 4])?);
+    Ok(())
+}
+
+/// So many entries, each of which fixes two variables.
+fn pairs(alloc: Global, count: u32) -> Result<EnvSet, Fail> {
+    let mut pairs = EnvSet::none(alloc);
+    for k in 0..count {
+        let number = format!(in alloc; "{k}")?;
+        let pair = both(
+            alloc,
+            &is(alloc, "x", number.as_str())?,
+            &is(alloc, "y", number.as_str())?,
+        )?;
+        pairs = either(alloc, &pairs, &pair)?;
+    }
+    Ok(pairs)
 }
 
 #[test]
 fn complement_of_pairs_stays_small(rt: HostRuntime) -> Result<(), Fail> {
     let alloc = rt.alloc();
-    let mut pairs = EnvSet::none(alloc);
-    for k in 10..50u32 {
-        let number = format!(in alloc; "{k}")?;
-        let pair = meet(
-            alloc,
-            &is(alloc, "x", number.as_str())?,
-            &is(alloc, "y", number.as_str())?,
-        )?;
-        pairs = join(alloc, &pairs, &pair)?;
-    }
-    assert_eq!(rt; pairs.entries().len(), 40);
-    assert_eq!(rt; complement(alloc, &pairs)?.entries().len(), 41);
+    let pairs = pairs(alloc, 40)?;
+    assert!(rt; size(&pairs) == 40);
+    assert!(rt; size(&other(alloc, &pairs)?) == 41);
     Ok(())
 }
 
@@ -97,24 +170,18 @@ fn complement_of_pairs_stays_small(rt: HostRuntime) -> Result<(), Fail> {
 fn join_drops_what_is_covered(rt: HostRuntime) -> Result<(), Fail> {
     let alloc = rt.alloc();
     let one = is(alloc, "x", "1")?;
-    let both = meet(alloc, &one, &is(alloc, "y", "2")?)?;
-    assert_eq!(rt; join(alloc, &both, &one)?.entries().len(), 1);
-    assert_eq!(rt;
-        join(alloc, &both, &is(alloc, "x", "2")?)?.entries().len(),
-        2
-    );
+    let pair = both(alloc, &one, &is(alloc, "y", "2")?)?;
+    assert!(rt; size(&either(alloc, &pair, &one)?) == 1);
+    assert!(rt; size(&either(alloc, &pair, &is(alloc, "x", "2")?)?) == 2);
     Ok(())
 }
 
 #[test]
-fn state_sets_keep_their_places(rt: HostRuntime) -> Result<(), Fail> {
+fn sets_cross_threads(rt: HostRuntime) -> Result<(), Fail> {
     let alloc = rt.alloc();
-    let mut row = Vec::new(alloc);
-    row.push(EnvSet::none(alloc))?;
-    row.push(EnvSet::all(alloc)?)?;
-    let row = StateRow::of(row);
-    assert_eq!(rt; row.as_slice().len(), 2);
-    let values = Values::of([term(alloc, "1", 1)?].into_iter().collect(alloc)?);
-    assert_eq!(rt; values.into_vec().len(), 1);
+    let one = is(alloc, "x", "1")?;
+    let env = env(alloc, "1", "2")?;
+    let (known, count) = thread::join(&rt, || says(&one, &env), || size(&one));
+    assert!(rt; known && count == 1);
     Ok(())
 }

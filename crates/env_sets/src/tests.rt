@@ -185,3 +185,84 @@ fn sets_cross_threads(rt: HostRuntime) -> Result<(), Fail> {
     assert!(rt; known && count == 1);
     Ok(())
 }
+
+/// The numbers as terms.
+fn terms(alloc: Global, first: &str, second: &str) -> Result<Values, Fail> {
+    let mut values = Vec::new(alloc);
+    values.push(term(alloc, first, 4)?)?;
+    values.push(term(alloc, second, 5)?)?;
+    Ok(Values::of(values))
+}
+
+fn all_of(alloc: Global, a: &Values, b: &Values) -> Result<Values, Fail> {
+    Ok(a.copy(alloc)?.joined(alloc, b)?)
+}
+
+fn excludes(alloc: Global, values: Values) -> Result<Bound, Fail> {
+    Ok(Bound::Not(values).copy(alloc)?)
+}
+
+fn has(values: &Values, value: &Value) -> bool {
+    values.have(value)
+}
+
+fn admits(bound: &Bound, value: &Value) -> bool {
+    bound.allows(value)
+}
+
+#[test]
+fn bounds_compare_values_but_for_ids(rt: HostRuntime) -> Result<(), Fail> {
+    let alloc = rt.alloc();
+    let two = terms(alloc, "1", "2")?;
+    let all = all_of(alloc, &two, &terms(alloc, "2", "3")?)?;
+    let not = excludes(alloc, two)?;
+    assert!(rt; not.is_not());
+    assert!(rt; admits(&not, &Value::Place(1)));
+    assert!(rt; !admits(&not, &term(alloc, "1", 9)?) && admits(&not, &term(alloc, "3", 9)?));
+    assert!(rt; has(&all, &term(alloc, "3", 9)?) && !has(&all, &term(alloc, "4", 9)?));
+    assert!(rt; all.into_vec().len() == 3);
+    Ok(())
+}
+
+/// The bounds of y Is 2 and x Not [1, 2], without y, and without x.
+fn entry_sizes(alloc: Global) -> Result<[usize; 3], Fail> {
+    let one = Entry::one(alloc, &var(alloc, "y")?, Bound::Is(term(alloc, "2", 1)?))?;
+    let bound = Bound::Not(terms(alloc, "1", "2")?);
+    let Some(two) = one.copy(alloc)?.narrowed(alloc, &var(alloc, "x")?, &bound)? else {
+        return Ok([0; 3]);
+    };
+    let without_y = two.without(alloc, &var(alloc, "y")?)?;
+    let without_x = two.free_of(alloc, &env_of_x(alloc, "3")?)?;
+    Ok([
+        two.pairs().len(),
+        without_y.pairs().len(),
+        without_x.pairs().len(),
+    ])
+}
+
+#[test]
+fn entries_are_narrowed_and_freed(rt: HostRuntime) -> Result<(), Fail> {
+    let alloc = rt.alloc();
+    assert!(rt; Entry::all(alloc).pairs().is_empty());
+    let [two, without_y, without_x] = entry_sizes(alloc)?;
+    assert!(rt; two == 2 && without_y == 1 && without_x == 1);
+    Ok(())
+}
+
+/// The sizes of the two sets of a row, no entry and one.
+fn sizes_of_a_row(alloc: Global) -> Result<(usize, usize), Fail> {
+    let mut sets = Vec::new(alloc);
+    sets.push(EnvSet::none(alloc))?;
+    sets.push(everything(alloc)?)?;
+    let mut rows = Vec::new(alloc);
+    rows.push(StateRow::of(sets))?;
+    let states = StateSets::new(rows);
+    Ok((size(states.at(0, 0)), size(states.at(0, 1))))
+}
+
+#[test]
+fn sets_stand_at_their_places(rt: HostRuntime) -> Result<(), Fail> {
+    let (first, second) = sizes_of_a_row(rt.alloc())?;
+    assert!(rt; first == 0 && second == 1);
+    Ok(())
+}

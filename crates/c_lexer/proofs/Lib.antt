@@ -5,6 +5,7 @@ pub mod Open
 pub mod Keeps
 pub mod Longest
 pub mod Spans
+pub mod Renumbering
 pub mod Renumbered
 pub mod Shapes
 pub mod Sound

@@ -8,7 +8,7 @@ pub mod Ids
 pub mod Parts
 pub mod Beside
 pub mod Loose
--- The same kinds, each by itself in the words of C11, with which the kinds above agree.
+-- The same kinds, each by itself in the terms of C11, with which the kinds above agree.
 pub mod Blanks
 pub mod Comments
 pub mod Names
@@ -21,4 +21,3 @@ pub mod Lines
 pub mod Spans
 pub mod Longest
 pub mod Runs
-pub mod Renumbered

@@ -5,14 +5,14 @@
 //! - [`first_piece`] tells the first piece of a text, and [`parts`] whether two texts run together.
 //! - [`every_text_is_cut`], [`cut_once`] and [`loose_pieces_stay`] are laws of cutting, and do nothing; so are
 //!   [`space_parts`], [`parted_texts_stay`], [`dots_join`] and [`comment_ends`]. [`number_texts`] and its like say
-//!   of each kind that it is what C11 says.
+//!   of each kind that the automaton and a definition in C11's terms allow the same texts.
 //!
 //! `a+++b //c` gives Name, Punct `++`, Punct `+`, Name, Blank, Comment.
 //!
 //! The next piece is the longest text that begins at its place and is of a kind (C11 6.4 p4). Nothing here fails on
 //! bad C: a quote without an end is a Stray. A text may have 16,777,216 bytes. Nothing recurses.
 //!
-//! Which lines open groups, and which words are markers, is for cpp_lines; which words are types is for c_expr.
+//! Which lines open groups, and which words are markers, is for cpp_lines; which words are types is for c_rows.
 #![tactic(auto)]
 
 mod between;

@@ -69,7 +69,8 @@ pub fn width(tree: &Tree) -> usize
 /// inside it. Linear in the tree, and in the length of each path. Recurses once a level.
 pub fn expression_paths(alloc: Global, tree: &Tree) -> Result<Items<TreePath>, NoMemory>
     requires narrow { width tree.now < 2 ^ 32 }
-    ensures paths { IfOk result (λ paths. paths ≡ map (λ p. p.path) (parts is_expression_part tree.now)) }
+    ensures paths { IfOk result
+        (λ paths. paths ≡ map (λ p. p.path) (parts is_expression_part tree.now)) }
 {
     let mut above = Vec::new(alloc);
     let mut found = Items::new(alloc);
@@ -77,7 +78,7 @@ pub fn expression_paths(alloc: Global, tree: &Tree) -> Result<Items<TreePath>, N
     Ok(found)
 }
 
-// Puts the paths in a tree that stands at the path `above`.
+/// Puts the paths in a tree that stands at the path `above`.
 fn put_paths(
     alloc: Global,
     tree: &Tree,
@@ -85,7 +86,8 @@ fn put_paths(
     found: &mut Items<TreePath>,
 ) -> Result<(), NoMemory>
     requires narrow { width tree.now < 2 ^ 32 }
-    ensures found { OnOk result (found.new ≡ found.old ++ map (λ p. above.old.items ++ p.path) (parts is_expression_part tree.now)) }
+    ensures found { OnOk result (found.new ≡ found.old
+        ++ map (λ p. above.old.items ++ p.path) (parts is_expression_part tree.now)) }
     ensures above { OnOk result (above.new.items ≡ above.old.items) }
 {
     if let Tree::Branch(label, children) = tree {
@@ -99,7 +101,7 @@ fn put_paths(
     Ok(())
 }
 
-// Puts the path, where the subtree there is asked for.
+/// Puts the path, where the subtree there is asked for.
 fn put_part(
     alloc: Global,
     asked: bool,

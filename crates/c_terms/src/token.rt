@@ -101,7 +101,7 @@ impl TokenKind {
 }
 
 impl Token {
-    /// An equal token, the id included. Linear in its text.
+    /// An equal token, the id included. It takes the same time however long its text is, which the two share.
     #[inline]
     pub fn copy(&self, alloc: Global) -> Result<Token, NoMemory>
         ensures same { IfOk result (λ token. token ≡ self.now) }

@@ -13,7 +13,7 @@
 //! Groups and brackets may nest as deep as the text: nothing recurses. Bad nesting is no fault: what closes too much
 //! has no effect, and what is left open runs to the end. Only memory may be wanting.
 //!
-//! Whether an item is C is for c_file.
+//! Whether an item is C is not asked here.
 #![tactic(auto)]
 
 mod directive;

@@ -1,16 +1,7 @@
-#!/bin/sh
-# What trees cost: the processor times to make, read, copy, compare, order and drop a tree of a million tokens.
-# Then the least stack, in KB, that serves trees of a thousand levels.
-# Usage: bench/terms.sh [bytes of a text, 6 where none is given]. Builds a program beside a copy of c_terms, outside the repository.
-set -eu
-top=$(cd "$(dirname "$0")/.." && pwd)
-work=$(mktemp -d)
-trap 'rm -rf "$work"' EXIT
-mkdir -p "$work/crates/terms_bench/src"
-cp -r "$top/crates/c_terms" "$work/crates/c_terms"
-rm -rf "$work/crates/c_terms/out"
-{ grep '^c_terms:' "$top/crates.txt"; echo 'terms_bench: c_terms sqlite_items anyhow'; } >"$work/crates.txt"
-cat >"$work/crates/terms_bench/src/main.rt" <<'EOF'
+// Uses: c_terms sqlite_items anyhow
+//! Prints what a tree of a million tokens costs to make, copy, compare, order, read and drop. `bytes N` says how long
+//! their texts are, 6 where it is missing. With `levels N` it makes a tree of so many levels and calls each recursion on
+//! it: `STACK=256 bench/run terms levels 1000` ends well where 256 KB of stack serve a thousand levels.
 #![tactic(auto)]
 
 use anyhow::{Result, ensure};
@@ -57,14 +48,16 @@ fn book(alloc: Global, len: usize) -> Result<Tree> {
     Ok(Tree::Branch(Label::StmtList, all))
 }
 
-fn number_given(rt: &HostRuntime) -> Result<usize> {
-    let mut number = 6usize;
+/// The number after this word of the command line.
+fn number_after(rt: &HostRuntime, wanted: &str) -> Result<Option<usize>> {
+    let mut is_next = false;
     for word in env::args(rt)? {
-        if let Ok(n) = word.as_str().parse::<usize>() {
-            number = n;
+        if is_next {
+            return Ok(word.as_str().parse::<usize>().ok());
         }
+        is_next = word.as_str() == wanted;
     }
-    Ok(number)
+    Ok(None)
 }
 
 fn nested(alloc: Global, levels: usize) -> Result<Tree> {
@@ -77,7 +70,7 @@ fn nested(alloc: Global, levels: usize) -> Result<Tree> {
     Ok(tree)
 }
 
-// Each recursion at this many levels.
+/// Each recursion at this many levels.
 fn go_deep(alloc: Global, levels: usize) -> Result<()> {
     let tree = nested(alloc, levels)?;
     let Ok(other) = tree.copy(alloc) else {
@@ -159,16 +152,15 @@ fn time_drop(rt: &HostRuntime, tree: Tree) -> Result<()> {
 fn say_sizes(rt: &HostRuntime, len: usize) -> Result<()> {
     let token = std::mem::size_of::<Token>();
     let node = std::mem::size_of::<Tree>();
-    println!(rt; "a token {token} bytes, a tree node {node} bytes, texts of {len}")?;
+    println!(rt; "a token {token} bytes, a tree node {node} bytes, texts of {len} bytes")?;
     Ok(())
 }
 
 fn main(rt: HostRuntime) -> Result<()> {
-    let number = number_given(&rt)?;
-    if number > 64 {
-        return go_deep(rt.alloc(), number);
+    if let Some(levels) = number_after(&rt, "levels")? {
+        return go_deep(rt.alloc(), levels);
     }
-    let len = number;
+    let len = number_after(&rt, "bytes")?.unwrap_or(6);
     say_sizes(&rt, len)?;
     let tree = time_make(&rt, len)?;
     let other = time_copy(&rt, &tree)?;
@@ -177,16 +169,3 @@ fn main(rt: HostRuntime) -> Result<()> {
     time_leaves(&rt, &tree)?;
     time_drop(&rt, other)
 }
-EOF
-cd "$work/crates/terms_bench"
-rt run -- "$@"
-# the same program twice more, and how much memory it takes
-for again in 1 2; do
-    /usr/bin/time -f '%M KB at most' out/terms_bench "$@"
-done
-for size in 32 48 64 96 128 160 192 256 384 512 1024 2048 4096; do
-    if (ulimit -s "$size" && out/terms_bench 1000) >/dev/null 2>&1; then
-        echo "$size KB of stack serve 1000 levels"
-        break
-    fi
-done

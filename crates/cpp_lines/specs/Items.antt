@@ -1,5 +1,5 @@
 -- Where items end, by the depth of each token.
-use Rattle.std.specs.Prelude.{ℕ, ◌+◌, ◌-◌, ◌==◌, ◌&&◌, Bool, true, false, List, [], ◌∷◌, if◌then◌else◌}
+use Rattle.std.specs.Prelude.{ℕ, ◌≡◌, ◌<◌, ◌+◌, ◌-◌, ◌==◌, ◌&&◌, Bool, true, false, List, [], ◌∷◌, if◌then◌else◌}
 use Rattle.cpp_lines.specs.declared.sign.Bracket.TheVariants.{Paren, Brace}
 use Rattle.cpp_lines.specs.declared.sign.Sign.{Sign}
 use Rattle.cpp_lines.specs.declared.sign.Sign.TheVariants.{Opening, Closing, Semicolon}
@@ -60,3 +60,9 @@ items_from first before number (sign ∷ tokens) =
 -- the items of these tokens
 abbrev pub items_of : List Sign → List ItemSpan
 items_of tokens = items_from 0 [] 0 tokens
+
+-- Each span has a token, each but the first begins where the one before it ends, and together they go from one number to
+-- another.
+abbrev pub StandEndToEnd : ℕ → List ItemSpan → ℕ → Type 0
+StandEndToEnd from [] to = from ≡ to
+StandEndToEnd from (span ∷ spans) to = (span.first ≡ from) × (from < span.last) × StandEndToEnd span.last spans to

@@ -2,6 +2,7 @@
 //!
 //! - [`arms`] takes a text that c_lexer has cut, and gives a [`Visible`]: the text and the numbers of its shown tokens.
 //! - [`items`] gives an [`ItemSpan`] for each item of the shown tokens.
+//! - [`shown_once`] and [`items_stand_end_to_end`] are laws, and do nothing.
 //!
 //! Lines as `#if` open groups. A group shows its first arm, but its second where `#if 0` opens it. A token is shown
 //! where it stands in the shown arm of each group around it, and is no marker as `__init`, no `__attribute__` and in
@@ -19,6 +20,7 @@
 mod directive;
 mod group;
 mod item;
+mod laws;
 mod mask;
 mod shown;
 mod sign;
@@ -27,6 +29,7 @@ mod span;
 mod tests;
 mod visible;
 
+pub use laws::{items_stand_end_to_end, shown_once};
 pub use shown::arms;
 pub use span::{ItemSpan, items};
 pub use visible::Visible;

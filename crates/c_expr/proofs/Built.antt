@@ -1,5 +1,5 @@
 -- A branch as its rule builds it.
-use Rattle.std.proofs.Common.{◌≡◌, ℕ, ◌+◌, List, map}
+use Rattle.std.proofs.Common.{◌≡◌, ◌+◌, List, map}
 use Rattle.c_terms.specs.declared.tree.Tree.{Tree}
 use Rattle.c_terms.specs.Trees.{levels, levels_of_all, leaves, join}
 use Rattle.c_terms.proofs.TreeLemmas.{levels-Branch, leaves-Branch}

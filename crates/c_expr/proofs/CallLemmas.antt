@@ -1,24 +1,22 @@
 -- The steps, as the code's answers cite them.
-use Rattle.std.proofs.Common.{◌≡◌, ℕ, ◌+◌, ◌*◌, ◌<◌, ◌≤◌, List, [], ◌∷◌, ◌++◌, length, get_or, take, drop, ◌-◌, refl, subst, ap, sym, ◌∙◌, arith}
+use Rattle.std.proofs.Common.{◌≡◌, ℕ, ◌+◌, ◌*◌, ◌<◌, ◌≤◌, List, [], ◌∷◌, ◌++◌, length, get_or, take, drop, ◌-◌, subst, ap, sym, ◌∙◌, arith}
 use Rattle.std.proofs.lemmas.Grind.{common_steps}
-use Rattle.std.specs.Prelude.{Bool, true, false, IsTrue, Option, Some, None}
+use Rattle.std.specs.Prelude.{IsTrue, Some, None}
 use Rattle.c_terms.specs.declared.token.Token.{Token}
 use Rattle.c_terms.specs.declared.tree.Tree.{Tree}
 use Rattle.c_rows.specs.declared.class.Class.{Class}
 use Rattle.c_terms.specs.declared.tree.Tree.TheVariants as tree
-use Rattle.c_terms.specs.Trees.{levels, levels_of_all}
 use Rattle.c_rows.specs.declared.kind.Kind.{Kind}
 use Rattle.c_rows.specs.declared.word.Word.{Word}
 use Rattle.c_rows.specs.declared.symbol.Fork.{Fork}
-use Rattle.c_rows.specs.declared.symbol.Symbol.{Symbol}
 use Rattle.c_rows.specs.declared.symbol.Symbol.TheVariants as symbol
 use Rattle.c_rows.specs.Words.{fits}
-use Rattle.c_rows.specs.Rows.{Row, ways}
-use Rattle.c_rows.specs.Choice.{ends, stops, choose, row_ok, row_fine, weight}
+use Rattle.c_rows.specs.Rows.{Row}
+use Rattle.c_rows.specs.Choice.{choose, row_fine, weight}
 use Rattle.c_rows.specs.Seen.{Seen, front, front_typed}
-use Rattle.c_rows.specs.Spells.{Spells, Runs, member_kind}
-use Rattle.c_expr.specs.Steps.{Place, place, Leads, Refuses, OnlyTree, NoTreeAt}
-use Rattle.c_rows.proofs.LengthLemmas.{fine_ok, fine_steady, smaller-child, smaller-argument, spells_shorter, member_full}
+use Rattle.c_rows.specs.Spells.{Spells, member_kind}
+use Rattle.c_expr.specs.Steps.{place, Leads, Refuses, OnlyTree, NoTreeAt}
+use Rattle.c_rows.proofs.LengthLemmas.{fine_ok, fine_steady, smaller-child, smaller-argument, weight-small, spells_shorter, member_full}
 use Rattle.c_rows.proofs.Checks.{chosen_way, way_fine, weight_way}
 use Rattle.c_expr.proofs.StepLemmas.{leads_word, leads_fork, refuses_fork, leads_child, refuses_child, leads_member, refuses_member}
 
@@ -59,6 +57,10 @@ module _ (most : ℕ) where
   pub child_refused : (k : Kind) (ps : Row) (xs : List Seen) (before : List Tree) → IsTrue (row_fine (symbol.Child k ∷ ps)) → NoTreeAt most k xs → Refuses most (place (symbol.Child k ∷ ps) xs before)
   child_refused k ps xs before ok none = refuses_child most k ps xs before (fine_ok (symbol.Child k ∷ ps) ok) none
 
+pub word_smaller : (w : Word) (ps : Row) (xs : List Seen) → 1 ≤ length xs → 2 * length (take (length xs - 1) (drop 1 xs)) + weight ps < 2 * length xs + weight (symbol.Word w ∷ ps)
+word_smaller w ps [] le = absurd (omega arith)
+word_smaller w ps (x ∷ xs) le = omega (arith, ap (λ (zs : List Seen). length zs) (tail_slice x xs), weight-small ps)
+
 pub child_smaller : (k : Kind) (ps : Row) (xs zs : List Seen) (t : Tree) → IsTrue (row_fine (symbol.Child k ∷ ps)) → Spells k xs t zs → 2 * length zs + weight ps < 2 * length xs + weight (symbol.Child k ∷ ps)
 child_smaller k ps xs zs t ok d = smaller-child k ps xs zs (fine_steady (symbol.Child k ∷ ps) ok) (spells_shorter d)
 
@@ -73,7 +75,3 @@ chosen_fine f c r e = let w = chosen_way f c r e in way_fine f w.0 r w.1
 
 pub chosen_smaller : (f : Fork) (c : Class) (ps r : Row) (n : ℕ) → choose f c ≡ Some r → 2 * n + weight r < 2 * n + weight (symbol.Fork f ∷ ps)
 chosen_smaller f c ps r n e = let w = chosen_way f c r e in omega (arith, weight_way f w.0 r w.1)
-
-pub fine_split : (r : Row) (d : Symbol) → 1 ≤ length r → IsTrue (row_fine r) → IsTrue (row_fine (get_or r 0 d ∷ take (length r - 1) (drop 1 r)))
-fine_split [] d le f = absurd (omega arith)
-fine_split (p ∷ ps) d le f = subst (λ (qs : Row). IsTrue (row_fine (p ∷ qs))) (sym (tail_slice p ps)) f

@@ -1,11 +1,11 @@
 -- The loop over a tree that grows to the right.
-use Rattle.std.proofs.Common.{◌≡◌, ℕ, ◌+◌, ◌≤◌, ◌<◌, List, [], ◌∷◌, length, refl, subst, ap, sym, ◌∙◌, arith}
-use Rattle.std.specs.Prelude.{Bool, true, false, not, ◌&&◌, IsTrue, Option, Some, None, if◌then◌else◌, nat_le}
+use Rattle.std.proofs.Common.{◌≡◌, ℕ, ◌≤◌, ◌<◌, List, [], ◌∷◌, length, refl, subst, ap, sym, ◌∙◌, arith}
+use Rattle.std.specs.Prelude.{Bool, true, false, not, IsTrue, Option, Some, None, if◌then◌else◌, nat_le}
 use Rattle.std.proofs.lemmas.Bool.Decides.{nat_tests}
 use Rattle.c_terms.specs.declared.tree.Tree.{Tree}
-use Rattle.c_terms.specs.declared.tree.Tree.TheVariants as tree
-use Rattle.c_terms.specs.Trees.{levels, levels_of_all}
+use Rattle.c_terms.specs.Trees.{levels}
 use Rattle.c_expr.proofs.Built.{levels-build}
+use Rattle.c_expr.proofs.OfKind.{kind_inv, kind_held}
 use Rattle.c_rows.specs.declared.class.Class.{Class}
 use Rattle.c_rows.specs.declared.kind.Kind.{Kind}
 use Rattle.c_rows.specs.declared.rule.Rule.{Rule}
@@ -14,13 +14,13 @@ use Rattle.c_rows.specs.declared.kind.Family.TheVariants as family
 use Rattle.c_rows.specs.declared.symbol.Symbol.TheVariants as symbol
 use Rattle.c_rows.specs.Kinds.{family_of, same_family, within, has_leaf, rank}
 use Rattle.c_rows.specs.Rows.{Row, row}
-use Rattle.c_rows.specs.Branches.{kind_of, label_of, build, allows}
-use Rattle.c_rows.specs.Choice.{after, quiet, stops, ends, opens, tail, left, own, bottom, row_ok}
+use Rattle.c_rows.specs.Branches.{kind_of, build, allows}
+use Rattle.c_rows.specs.Choice.{after, quiet, stops, opens, tail, left, own}
 use Rattle.c_rows.specs.Seen.{Seen, front}
 use Rattle.c_rows.specs.Spells.{Spells, leaf, branch, Runs, done, word, child, argument, fork}
 use Rattle.c_rows.specs.Growth.{Root, root_kind, root_ends, Operand, token, headed, Grows, here, more}
-use Rattle.c_expr.specs.Steps.{takes, next_rule, goes_on, OnlyOperand, OnlyGrowth, NoOperand, NoGrowth, GrowsBy, OnlyTree, NoTreeAt}
-use Rattle.c_rows.proofs.Checks.{and_left, and_right, both, bottom_within, family_bottom, ends_rule, left_within, tail_word, tail_is, left_ends, word_led, tail_begins}
+use Rattle.c_expr.specs.Steps.{takes, taking, rule_of_kind, next_rule, goes_on, OnlyOperand, OnlyGrowth, NoOperand, NoGrowth, GrowsBy, OnlyTree, NoTreeAt}
+use Rattle.c_rows.proofs.Checks.{and_left, and_right, both, bottom_within, family_bottom, ends_rule, tail_word, tail_is, left_ends, word_led, tail_begins}
 use Rattle.c_rows.proofs.FirstLemmas.{within_family, within_trans, after_mono}
 use Rattle.c_rows.proofs.LengthLemmas.{need, runs_shorter}
 use Rattle.c_rows.proofs.GrowthLemmas.{own_head, own_tail, left_child, Unwound, unwind}
@@ -55,24 +55,29 @@ stops_mono k m c w s =
 
 -- ---- the rule that comes next
 
-next_inv : (m : Kind) (q : Root) (o : Option Rule) (r : Rule) → next_rule m q o ≡ Some r → (o ≡ Some r) × IsTrue (within (kind_of r) m) × IsTrue (takes (family_of m) (left r) q)
-next_inv m q None r e = let never : ⊥ = cc in absurd never
-next_inv m q (Some p) r e = split (within (kind_of p) m) (takes (family_of m) (left p) q) refl refl e
+taking_inv : (f : Family) (q : Root) (o : Option Rule) (r : Rule) → taking f q o ≡ Some r → (o ≡ Some r) × IsTrue (takes f (left r) q)
+taking_inv f q None r e = let never : ⊥ = cc in absurd never
+taking_inv f q (Some p) r e = split (takes f (left p) q) refl e
   where
-    split : (a b : Bool) → within (kind_of p) m ≡ a → takes (family_of m) (left p) q ≡ b → (if a then (if b then Some p else None) else None) ≡ Some r
-        → (Some p ≡ Some r) × IsTrue (within (kind_of r) m) × IsTrue (takes (family_of m) (left r) q)
-    split true true u v e = let same : p ≡ r = cc in
-        (e, subst (λ (s : Rule). IsTrue (within (kind_of s) m)) same u, subst (λ (s : Rule). IsTrue (takes (family_of m) (left s) q)) same v)
-    split true false u v e = let never : ⊥ = cc in absurd never
-    split false b u v e = let never : ⊥ = cc in absurd never
+    split : (b : Bool) → takes f (left p) q ≡ b → (if b then Some p else None) ≡ Some r → (Some p ≡ Some r) × IsTrue (takes f (left r) q)
+    split true v e = let same : p ≡ r = cc in (e, subst (λ (s : Rule). IsTrue (takes f (left s) q)) same v)
+    split false v e = let never : ⊥ = cc in absurd never
+
+taking_of : (f : Family) (q : Root) (r : Rule) → IsTrue (takes f (left r) q) → taking f q (Some r) ≡ Some r
+taking_of f q r t = pick (takes f (left r) q) t
+  where
+    pick : (b : Bool) → IsTrue b → (if b then Some r else None) ≡ Some r
+    pick true h = refl
+    pick false h = let never : ⊥ = cc in absurd never
+
+next_inv : (m : Kind) (q : Root) (o : Option Rule) (r : Rule) → next_rule m q o ≡ Some r → (o ≡ Some r) × IsTrue (within (kind_of r) m) × IsTrue (takes (family_of m) (left r) q)
+next_inv m q o r e =
+    let t = taking_inv (family_of m) q (rule_of_kind m o) r e in
+    let k = kind_inv m o r t.0 in
+    (k.0, k.1, t.1)
 
 next_of : (m : Kind) (q : Root) (r : Rule) → IsTrue (within (kind_of r) m) → IsTrue (takes (family_of m) (left r) q) → next_rule m q (Some r) ≡ Some r
-next_of m q r w t = both_true (within (kind_of r) m) (takes (family_of m) (left r) q) w t
-  where
-    both_true : (a b : Bool) → IsTrue a → IsTrue b → (if a then (if b then Some r else None) else None) ≡ Some r
-    both_true true true w t = refl
-    both_true true false w t = let never : ⊥ = cc in absurd never
-    both_true false b w t = let never : ⊥ = cc in absurd never
+next_of m q r w t = ap (taking (family_of m) q) (kind_held m r w) ∙ taking_of (family_of m) q r t
 
 some_left : (f : Family) (q : Root) (o : Option Kind) → IsTrue (takes f o q) → (l : Kind) × (o ≡ Some l) × IsTrue (within (root_kind f q) l)
 some_left f q None t = let never : ⊥ = cc in absurd never

@@ -1,4 +1,5 @@
 mod Built
+mod OfKind
 mod StepLemmas
 mod Growing
 mod CallLemmas

@@ -1,12 +1,13 @@
 -- The first operand, as the code's answers cite it.
 use Rattle.std.proofs.Common.{◌≡◌, ℕ, ◌+◌, ◌-◌, ◌≤◌, ◌<◌, max, List, [], ◌∷◌, ◌++◌, length, get_or, take, drop, refl, subst, ap, sym, ◌∙◌, arith}
-use Rattle.std.specs.Prelude.{Bool, true, false, IsTrue, Option, Some, None, if◌then◌else◌}
+use Rattle.std.specs.Prelude.{Bool, false, IsTrue, Some, None, Result, Ok, Err, IfOk, IfErr}
 use Rattle.c_terms.specs.declared.token.Token.{Token}
 use Rattle.c_terms.specs.declared.tree.Tree.{Tree}
 use Rattle.c_terms.specs.declared.tree.Tree.TheVariants as tree
 use Rattle.c_terms.specs.Trees.{levels, levels_of_all}
 use Rattle.c_terms.proofs.TreeLemmas.{levels-Leaf, levels-Branch, levels-last}
 use Rattle.c_expr.proofs.Built.{levels-build}
+use Rattle.c_expr.proofs.OfKind.{kind_inv, kind_held}
 use Rattle.c_terms.specs.declared.label.Label.{Label}
 use Rattle.c_expr.specs.declared.fault.ParseFault.{ParseFault}
 use Rattle.c_expr.specs.declared.fault.ParseFault.TheVariants.{NoTree, TooDeep, NoMemory}
@@ -16,13 +17,13 @@ use Rattle.c_rows.specs.declared.rule.Rule.{Rule}
 use Rattle.c_rows.specs.declared.kind.Family.{Family}
 use Rattle.c_rows.specs.Kinds.{family_of, within, has_leaf}
 use Rattle.c_rows.specs.Rows.{Row, row}
-use Rattle.c_rows.specs.Branches.{kind_of, label_of, build, allows, begins}
+use Rattle.c_rows.specs.Branches.{kind_of, build, allows, begins}
 use Rattle.c_rows.specs.Choice.{ends, opens, head, left, own}
 use Rattle.c_rows.specs.Seen.{Seen, front}
 use Rattle.c_rows.specs.Spells.{Runs}
 use Rattle.c_rows.specs.Growth.{Root, root_ends, Operand, token, headed}
-use Rattle.c_expr.specs.Steps.{head_rule, headed_by, OnlyOperand, NoOperand, OnlyRun, NoRun, RunsTo, OnlyGrowth, NoGrowth, GrowsBy, OnFault, HasLevels}
-use Rattle.c_rows.proofs.Checks.{joins_rule, head_is, head_no_leaf, head_left, head_begins, own_ok}
+use Rattle.c_expr.specs.Steps.{rule_of_kind, headed_by, OnlyOperand, NoOperand, OnlyRun, NoRun, RunsTo, NoGrowth, GrowsBy, IsBranch, NoBranch, OnFault, HasLevels}
+use Rattle.c_rows.proofs.Checks.{head_is, head_no_leaf, head_left, head_begins, own_ok}
 use Rattle.c_rows.proofs.FirstLemmas.{within_family, runs_first}
 use Rattle.c_expr.proofs.StepLemmas.{row_joins, ends_closes}
 use Rattle.c_rows.proofs.GrowthLemmas.{own_head}
@@ -73,23 +74,8 @@ leaf_empty most m (x ∷ xs) short h = absurd (omega arith)
 
 -- ---- a row
 
-head_inv : (m : Kind) (o : Option Rule) (r : Rule) → head_rule m o ≡ Some r → (o ≡ Some r) × IsTrue (within (kind_of r) m)
-head_inv m None r e = let never : ⊥ = cc in absurd never
-head_inv m (Some p) r e = split (within (kind_of p) m) refl e
-  where
-    split : (b : Bool) → within (kind_of p) m ≡ b → (if b then Some p else None) ≡ Some r → (Some p ≡ Some r) × IsTrue (within (kind_of r) m)
-    split true v e = let same : p ≡ r = cc in (e, subst (λ (s : Rule). IsTrue (within (kind_of s) m)) same v)
-    split false v e = let never : ⊥ = cc in absurd never
-
-head_of : (m : Kind) (r : Rule) → IsTrue (within (kind_of r) m) → head_rule m (Some r) ≡ Some r
-head_of m r w = pick (within (kind_of r) m) w
-  where
-    pick : (b : Bool) → IsTrue b → (if b then Some r else None) ≡ Some r
-    pick true h = refl
-    pick false h = let never : ⊥ = cc in absurd never
-
 pub row_operand : (m : Kind) (xs ys : List Seen) (r : Rule) (cs : List Tree) → headed_by m (front xs) ≡ Some r → IsTrue (allows r cs) → Runs (own r) xs cs ys → Operand m (Some r) xs (build r cs) ys
-row_operand m xs ys r cs e al runs = let h = head_inv m (head (family_of m) (front xs)) r e in headed r h.1 (head_left (family_of m) (front xs) r h.0) (head_begins (family_of m) (front xs) r h.0) al runs
+row_operand m xs ys r cs e al runs = let h = kind_inv m (head (family_of m) (front xs)) r e in headed r h.1 (head_left (family_of m) (front xs) r h.0) (head_begins (family_of m) (front xs) r h.0) al runs
 
 less : (r : Rule) (ds : List Tree) (most : ℕ) → levels (build r ds) ≤ most → levels_of_all ds ≤ most - 1
 less r ds most le = omega (arith, levels-build r ds)
@@ -98,7 +84,7 @@ row_same : (most : ℕ) (m : Kind) (xs ys : List Seen) (r : Rule) (cs : List Tre
     → {p : Root} {w : Tree} {zs : List Seen} → Operand m p xs w zs → IsTrue (root_ends p (front zs)) → levels w ≤ most → (Some r ≡ p) × (build r cs ≡ w) × (ys ≡ zs)
 row_same most m xs ys r cs e f one (token h) end le = let never : ⊥ = cc in absurd never
 row_same most m xs ys r cs e f one (headed {ys = zs} {cs = ds} q v l b al runs) end le =
-    let h = head_inv m (head (family_of m) (front xs)) r e in
+    let h = kind_inv m (head (family_of m) (front xs)) r e in
     let at_q : head (family_of m) (front xs) ≡ Some q = head_here m q v l b runs end in
     let same : q ≡ r = cc in
     let runs' : Runs (own r) xs ds zs = subst (λ (s : Rule). Runs (own s) xs ds zs) same runs in
@@ -114,7 +100,7 @@ row_never : (most : ℕ) (m : Kind) (xs : List Seen) (r : Rule) → headed_by m 
     → {p : Root} {w : Tree} {zs : List Seen} → Operand m p xs w zs → IsTrue (root_ends p (front zs)) → levels w ≤ most → ⊥
 row_never most m xs r e f none (token h) end le = cc
 row_never most m xs r e f none (headed {ys = zs} {cs = ds} q v l b al runs) end le =
-    let h = head_inv m (head (family_of m) (front xs)) r e in
+    let h = kind_inv m (head (family_of m) (front xs)) r e in
     let at_q : head (family_of m) (front xs) ≡ Some q = head_here m q v l b runs end in
     let same : q ≡ r = cc in
     none ds zs (subst (λ (s : Rule). Runs (own s) xs ds zs) same runs) (subst (λ (s : Rule). IsTrue (ends (own s) (front zs))) same end) (less q ds most le)
@@ -127,7 +113,7 @@ headless : (m : Kind) (xs : List Seen) → headed_by m (front xs) ≡ None → h
     → {p : Root} {w : Tree} {zs : List Seen} → Operand m p xs w zs → IsTrue (root_ends p (front zs)) → ⊥
 headless m xs e f (token h) end = cc
 headless m xs e f (headed q v l b al runs) end =
-    let found : headed_by m (front xs) ≡ Some q = ap (head_rule m) (head_here m q v l b runs end) ∙ head_of m q v in
+    let found : headed_by m (front xs) ≡ Some q = ap (rule_of_kind m) (head_here m q v l b runs end) ∙ kind_held m q v in
     cc
 
 pub nothing_headed : (most : ℕ) (m : Kind) (xs : List Seen) → headed_by m (front xs) ≡ None → has_leaf (family_of m) (front xs) ≡ false → NoOperand most m xs
@@ -154,8 +140,8 @@ grown_by most r t xs ys before all e al to =
 pub not_grown : (most : ℕ) (r : Rule) (t : Tree) (xs : List Seen) → NoRun (most - 1) (own r) xs → NoGrowth most r t xs
 not_grown most r t xs none ds zs runs end ok le = none ds zs runs end (less_more r t ds most le)
 
-pub no_growth : (most : ℕ) (r : Rule) (t : Tree) (xs : List Seen) → most ≡ 0 → NoGrowth most r t xs
-no_growth most r t xs z ds zs runs end ok le = omega (arith, levels-build r (t ∷ ds))
+pub no_growth : (most n : ℕ) (r : Rule) (t : Tree) (xs : List Seen) → n ≡ levels t → most ≤ n → NoGrowth most r t xs
+no_growth most n r t xs e high ds zs runs end ok le = omega (arith, levels-build r (t ∷ ds))
 
 -- ---- with the code's values in place of what they equal
 
@@ -177,23 +163,33 @@ own_run most r ps xs ys before all o b to =
     let one : OnlyRun most ps xs all ys = subst (λ (ks : List Tree). OnlyRun most ps xs ks ys) (sym e) to.3 in
     (subst (λ (qs : Row). Runs qs xs all ys) o run, subst (λ (qs : Row). OnlyRun most qs xs all ys) o one)
 
-pub at_found : (most : ℕ) (m : Kind) (xs ys : List Seen) (class : Class) (r : Rule) (ps : Row) (before all : List Tree) (label : Label) → class ≡ front xs → Some r ≡ headed_by m class → ps ≡ own r
-    → before ≡ [] → label ≡ label_of r all → IsTrue (allows r all) → RunsTo (most - 1) ps xs before all ys → Operand m (Some r) xs (tree.Branch label all) ys
-at_found most m xs ys class r ps before all label e n o b k al to =
-    subst (λ (l : Label). Operand m (Some r) xs (tree.Branch l all) ys) (sym k)
-    (row_operand m xs ys r all (ap (headed_by m) (sym e) ∙ sym n) al (own_run (most - 1) r ps xs ys before all o b to).0)
+branch_at : (m : Kind) (xs ys zs : List Seen) (r : Rule) (all : List Tree) (q : Root) (t : Tree) → IsBranch r all ys q t zs → Operand m (Some r) xs (build r all) ys → Operand m q xs t zs
+branch_at m xs ys zs r all q t b o =
+    subst (λ (p : Root). Operand m p xs t zs) (sym b.root) (subst (λ (u : Tree). Operand m (Some r) xs u zs) (sym b.tree)
+    (subst (λ (vs : List Seen). Operand m (Some r) xs (build r all) vs) (sym b.rest) o))
 
-pub at_only : (most : ℕ) (m : Kind) (xs ys : List Seen) (class : Class) (b : Bool) (r : Rule) (ps : Row) (before all : List Tree) (label : Label) → class ≡ front xs → b ≡ has_leaf (family_of m) class → b ≡ false
-    → Some r ≡ headed_by m class → ps ≡ own r → before ≡ [] → label ≡ label_of r all → RunsTo (most - 1) ps xs before all ys → OnlyOperand most m xs (Some r) (tree.Branch label all) ys
-at_only most m xs ys class b r ps before all label e l f n o z k to =
-    subst (λ (l : Label). OnlyOperand most m xs (Some r) (tree.Branch l all) ys) (sym k)
+pub branch_found : (most : ℕ) (m : Kind) (xs ys zs : List Seen) (class : Class) (r : Rule) (ps : Row) (before all : List Tree) (q : Root) (t : Tree) → class ≡ front xs → Some r ≡ headed_by m class → ps ≡ own r
+    → before ≡ [] → RunsTo (most - 1) ps xs before all ys → IsBranch r all ys q t zs → Operand m q xs t zs
+branch_found most m xs ys zs class r ps before all q t e n o z to b =
+    branch_at m xs ys zs r all q t b (row_operand m xs ys r all (ap (headed_by m) (sym e) ∙ sym n) b.allowed (own_run (most - 1) r ps xs ys before all o z to).0)
+
+only_branch : (most : ℕ) (m : Kind) (xs ys zs : List Seen) (r : Rule) (all : List Tree) (q : Root) (t : Tree) → IsBranch r all ys q t zs → OnlyOperand most m xs (Some r) (build r all) ys → OnlyOperand most m xs q t zs
+only_branch most m xs ys zs r all q t b one p u vs o end le =
+    let same = one p u vs o end le in
+    (b.root ∙ same.0, b.tree ∙ same.1, b.rest ∙ same.2)
+
+pub branch_only : (most : ℕ) (m : Kind) (xs ys zs : List Seen) (class : Class) (b : Bool) (r : Rule) (ps : Row) (before all : List Tree) (q : Root) (t : Tree) → class ≡ front xs → b ≡ has_leaf (family_of m) class → b ≡ false
+    → Some r ≡ headed_by m class → ps ≡ own r → before ≡ [] → RunsTo (most - 1) ps xs before all ys → IsBranch r all ys q t zs → OnlyOperand most m xs q t zs
+branch_only most m xs ys zs class b r ps before all q t e l f n o z to is =
+    only_branch most m xs ys zs r all q t is
     (row_only most m xs ys r all (ap (headed_by m) (sym e) ∙ sym n) (ap (has_leaf (family_of m)) (sym e) ∙ sym l ∙ f) (own_run (most - 1) r ps xs ys before all o z to).1)
 
-pub by_found : (most : ℕ) (r : Rule) (t : Tree) (xs ys : List Seen) (ps : Row) (before all : List Tree) (label : Label) → ps ≡ own r → before ≡ t ∷ [] → label ≡ label_of r all → IsTrue (allows r all) → RunsTo (most - 1) ps xs before all ys
-    → GrowsBy most r t xs (Some r) (tree.Branch label all) ys
-by_found most r t xs ys ps before all label o b k al to =
-    subst (λ (l : Label). GrowsBy most r t xs (Some r) (tree.Branch l all) ys) (sym k)
-    (grown_by most r t xs ys before all b al (subst (λ (qs : Row). RunsTo (most - 1) qs xs before all ys) o to))
+pub branch_grown : (most : ℕ) (r : Rule) (t : Tree) (xs ys zs : List Seen) (ps : Row) (before all : List Tree) (q : Root) (u : Tree) → ps ≡ own r → before ≡ t ∷ [] → RunsTo (most - 1) ps xs before all ys
+    → IsBranch r all ys q u zs → GrowsBy most r t xs q u zs
+branch_grown most r t xs ys zs ps before all q u o e to b =
+    subst (λ (p : Root). GrowsBy most r t xs p u zs) (sym b.root) (subst (λ (v : Tree). GrowsBy most r t xs (Some r) v zs) (sym b.tree)
+    (subst (λ (vs : List Seen). GrowsBy most r t xs (Some r) (build r all) vs) (sym b.rest)
+    (grown_by most r t xs ys before all e b.allowed (subst (λ (qs : Row). RunsTo (most - 1) qs xs before all ys) o to))))
 
 pub by_refused : (most : ℕ) (r : Rule) (t : Tree) (xs : List Seen) (ps : Row) → ps ≡ own r → NoRun (most - 1) ps xs → NoGrowth most r t xs
 by_refused most r t xs ps o none = not_grown most r t xs (subst (λ (qs : Row). NoRun (most - 1) qs xs) o none)
@@ -211,46 +207,55 @@ deep_word before now t n e d = omega (arith, ap levels_of_all e, levels-last bef
 pub deep_child : (before now : List Tree) (t : Tree) (n k : ℕ) → now ≡ before ++ t ∷ [] → n ≡ levels_of_all before → k ≡ levels t → max n k ≡ levels_of_all now
 deep_child before now t n k e d f = omega (arith, ap levels_of_all e, levels-last before t)
 
-pub deep_operand : (most : ℕ) (m : Kind) (xs : List Seen) (q : Root) (label : Label) (all : List Tree) (ys : List Seen) (n : ℕ) → OnlyOperand most m xs q (tree.Branch label all) ys
-    → n ≡ levels_of_all all → most ≤ n → NoOperand most m xs
-deep_operand most m xs q label all ys n one d over p u zs o end le =
-    let same = one p u zs o end le in
-    omega (arith, ap levels same.1, levels-Branch label all)
-
-pub grown_same : (most : ℕ) (r : Rule) (t : Tree) (xs ys : List Seen) (ps : Row) (before all : List Tree) → ps ≡ own r → before ≡ t ∷ [] → RunsTo (most - 1) ps xs before all ys
+grown_same : (most : ℕ) (r : Rule) (t : Tree) (xs ys : List Seen) (ps : Row) (before all : List Tree) → ps ≡ own r → before ≡ t ∷ [] → RunsTo (most - 1) ps xs before all ys
     → (ds : List Tree) (zs : List Seen) → Runs (own r) xs ds zs → IsTrue (ends (own r) (front zs)) → levels (build r (t ∷ ds)) ≤ most → all ≡ t ∷ ds
 grown_same most r t xs ys ps before all o b to ds zs runs end le =
     let same = to.3 ds zs (subst (λ (qs : Row). Runs qs xs ds zs) (sym o) runs) (subst (λ (qs : Row). IsTrue (ends qs (front zs))) (sym o) end) (less_more r t ds most le) in
     to.1 ∙ ap (λ (ks : List Tree). ks ++ to.0) b ∙ ap (λ (ks : List Tree). t ∷ ks) same.0
 
-pub deep_growth : (most : ℕ) (r : Rule) (t : Tree) (xs ys : List Seen) (ps : Row) (before all : List Tree) (n : ℕ) → ps ≡ own r → before ≡ t ∷ [] → RunsTo (most - 1) ps xs before all ys
-    → n ≡ levels_of_all all → most ≤ n → NoGrowth most r t xs
-deep_growth most r t xs ys ps before all n o b to d over ds zs runs end ok le =
-    omega (arith, ap levels_of_all (grown_same most r t xs ys ps before all o b to ds zs runs end le), levels-build r (t ∷ ds))
+pub no_branch_grown : (most : ℕ) (r : Rule) (t : Tree) (xs ys : List Seen) (ps : Row) (before all : List Tree) → ps ≡ own r → before ≡ t ∷ [] → RunsTo (most - 1) ps xs before all ys
+    → NoBranch most r all → NoGrowth most r t xs
+no_branch_grown most r t xs ys ps before all o b to none ds zs runs end ok le =
+    let same : t ∷ ds ≡ all = sym (grown_same most r t xs ys ps before all o b to ds zs runs end le) in
+    none (subst (λ (ks : List Tree). IsTrue (allows r ks)) same ok) (subst (λ (ks : List Tree). levels (build r ks) ≤ most) same le)
 
-pub bad_growth : (most : ℕ) (r : Rule) (t : Tree) (xs ys : List Seen) (ps : Row) (before all : List Tree) → ps ≡ own r → before ≡ t ∷ [] → RunsTo (most - 1) ps xs before all ys
-    → allows r all ≡ false → NoGrowth most r t xs
-bad_growth most r t xs ys ps before all o b to bad ds zs runs end ok le =
-    let same : allows r all ≡ true = ap (allows r) (grown_same most r t xs ys ps before all o b to ds zs runs end le) ∙ ok in
-    cc
-
-bad_row : (most : ℕ) (m : Kind) (xs ys : List Seen) (r : Rule) (cs : List Tree) → headed_by m (front xs) ≡ Some r → has_leaf (family_of m) (front xs) ≡ false → OnlyRun (most - 1) (own r) xs cs ys
-    → allows r cs ≡ false → {p : Root} {w : Tree} {zs : List Seen} → Operand m p xs w zs → IsTrue (root_ends p (front zs)) → levels w ≤ most → ⊥
-bad_row most m xs ys r cs e f one bad (token h) end le = cc
-bad_row most m xs ys r cs e f one bad (headed {ys = zs} {cs = ds} q v l b al runs) end le =
-    let h = head_inv m (head (family_of m) (front xs)) r e in
+no_row : (most : ℕ) (m : Kind) (xs ys : List Seen) (r : Rule) (cs : List Tree) → headed_by m (front xs) ≡ Some r → has_leaf (family_of m) (front xs) ≡ false → OnlyRun (most - 1) (own r) xs cs ys
+    → NoBranch most r cs → {p : Root} {w : Tree} {zs : List Seen} → Operand m p xs w zs → IsTrue (root_ends p (front zs)) → levels w ≤ most → ⊥
+no_row most m xs ys r cs e f one none (token h) end le = cc
+no_row most m xs ys r cs e f one none (headed {ys = zs} {cs = ds} q v l b al runs) end le =
+    let h = kind_inv m (head (family_of m) (front xs)) r e in
     let at_q : head (family_of m) (front xs) ≡ Some q = head_here m q v l b runs end in
     let same : q ≡ r = cc in
     let runs' : Runs (own r) xs ds zs = subst (λ (s : Rule). Runs (own s) xs ds zs) same runs in
     let end' : IsTrue (ends (own r) (front zs)) = subst (λ (s : Rule). IsTrue (ends (own s) (front zs))) same end in
     let found = one ds zs runs' end' (less q ds most le) in
-    let ok : allows r cs ≡ true = ap (allows r) found.0 ∙ subst (λ (s : Rule). IsTrue (allows s ds)) same al in
-    cc
+    none (subst (λ (ks : List Tree). IsTrue (allows r ks)) (sym found.0) (subst (λ (s : Rule). IsTrue (allows s ds)) same al))
+    (subst (λ (ks : List Tree). levels (build r ks) ≤ most) (sym found.0) (subst (λ (s : Rule). levels (build s ds) ≤ most) same le))
 
-pub bad_operand : (most : ℕ) (m : Kind) (xs ys : List Seen) (class : Class) (b : Bool) (r : Rule) (ps : Row) (before all : List Tree) → class ≡ front xs → b ≡ has_leaf (family_of m) class → b ≡ false
-    → Some r ≡ headed_by m class → ps ≡ own r → before ≡ [] → allows r all ≡ false → RunsTo (most - 1) ps xs before all ys → NoOperand most m xs
-bad_operand most m xs ys class b r ps before all e l f n o z bad to p w zs op end le =
-    bad_row most m xs ys r all (ap (headed_by m) (sym e) ∙ sym n) (ap (has_leaf (family_of m)) (sym e) ∙ sym l ∙ f) (own_run (most - 1) r ps xs ys before all o z to).1 bad op end le
+pub no_branch_found : (most : ℕ) (m : Kind) (xs ys : List Seen) (class : Class) (b : Bool) (r : Rule) (ps : Row) (before all : List Tree) → class ≡ front xs → b ≡ has_leaf (family_of m) class → b ≡ false
+    → Some r ≡ headed_by m class → ps ≡ own r → before ≡ [] → RunsTo (most - 1) ps xs before all ys → NoBranch most r all → NoOperand most m xs
+no_branch_found most m xs ys class b r ps before all e l f n o z to none p w zs op end le =
+    no_row most m xs ys r all (ap (headed_by m) (sym e) ∙ sym n) (ap (has_leaf (family_of m)) (sym e) ∙ sym l ∙ f) (own_run (most - 1) r ps xs ys before all o z to).1 none op end le
+
+-- ---- a branch by its rule
+
+pub too_deep : (most n : ℕ) (r : Rule) (cs : List Tree) → n ≡ levels_of_all cs → most ≤ n → NoBranch most r cs
+too_deep most n r cs d over ok le = omega (arith, levels-build r cs)
+
+pub not_allowed : (most : ℕ) (r : Rule) (cs : List Tree) → allows r cs ≡ false → NoBranch most r cs
+not_allowed most r cs bad ok le = cc
+
+pub ok_both : {A E : Type 0} {P Q R : A → Type 0} (x : Result A E) → ((a : A) → P a → Q a → R a) → IfOk x P → IfOk x Q → IfOk x R
+ok_both (Ok a) f p q = f a p q
+ok_both (Err e) f p q = tt
+
+pub ok_each : {A E : Type 0} {P Q : A → Type 0} (x : Result A E) → ((a : A) → P a → Q a) → IfOk x P → IfOk x Q
+ok_each (Ok a) f p = f a p
+ok_each (Err e) f p = tt
+
+pub err_none : {A : Type 0} {P Q : Type 0} (x : Result A ParseFault) → (P → Q) → IfErr x (λ e. (e ≡ NoTree) × P) → IfErr x (λ e. OnFault e Q)
+err_none (Ok a) f h = tt
+err_none {Q = Q} (Err e) f h = subst (λ (g : ParseFault). OnFault g Q) (sym h.0) (f h.1)
 
 pub branch_levels : (label : Label) (all : List Tree) (n most : ℕ) → n ≡ levels_of_all all → n < most → HasLevels (tree.Branch label all) (n + 1) most
 branch_levels label all n most d under = (omega (arith, levels-Branch label all), omega arith)

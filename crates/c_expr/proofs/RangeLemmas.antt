@@ -1,6 +1,6 @@
 -- Whole ranges, as the code's answers cite them.
-use Rattle.std.proofs.Common.{◌≡◌, ℕ, ◌≤◌, ◌<◌, List, [], ◌∷◌, refl, subst, sym, ap, ◌∙◌, arith}
-use Rattle.std.specs.Prelude.{Bool, true, false, IsTrue, Result, Ok, Err, ◌↔◌}
+use Rattle.std.proofs.Common.{◌≡◌, ◌≤◌, List, [], subst, sym}
+use Rattle.std.specs.Prelude.{false, IsTrue, IfOk, Result, Ok, Err}
 use Rattle.c_terms.specs.declared.token.Token.{Token}
 use Rattle.c_terms.specs.declared.tree.Tree.{Tree}
 use Rattle.c_terms.specs.Trees.{levels}
@@ -10,8 +10,9 @@ use Rattle.c_rows.specs.Choice.{stops}
 use Rattle.c_rows.specs.Look.{Names}
 use Rattle.c_rows.specs.Seen.{Seen}
 use Rattle.c_rows.specs.Spells.{Spells}
-use Rattle.c_rows.specs.Range.{IsTreeOf, AreSeenAs}
-use Rattle.c_rows.proofs.RangeLemmas.{one_sight}
+use Rattle.c_rows.specs.Range.{AreSeenAs}
+use Rattle.c_rows.specs.Trees.{IsTreeOf, stands_alone}
+use Rattle.c_rows.proofs.TreeLemmas.{tree_spelled, spelled_tree}
 use Rattle.c_expr.specs.declared.fault.ParseFault.{ParseFault}
 use Rattle.c_expr.specs.declared.fault.ParseFault.TheVariants.{NoTree, TooDeep, NoMemory}
 use Rattle.c_expr.specs.Steps.{OnFault, OnlyTree, NoTreeAt}
@@ -51,12 +52,14 @@ err_never_deep P e f n = err_deep P e f (err_is e TooDeep n)
 
 -- ---- as the range is
 
-pub tree_found : (k : Kind) (names : Names) (ts : List Token) (ss : List Seen) (t : Tree) → AreSeenAs names false ts ss → Spells k ss t [] × (levels t ≤ 1000) → IsTreeOf k names ts t
-tree_found k names ts ss t a d = record { seen = ss; right = a; spelled = d.0; shallow = d.1 }
+pub tree_found : (k : Kind) (names : Names) (ts : List Token) (ss : List Seen) (t : Tree) → IsTrue (stands_alone k) → AreSeenAs names false ts ss → Spells k ss t [] × (levels t ≤ 1000) → IsTreeOf k names ts t
+tree_found k names ts ss t o a d = spelled_tree names k ts t ss o a d.0 d.1
 
 -- a tree of the range spells it as it is seen
-pub spelled_as : (k : Kind) (names : Names) (ts : List Token) (ss : List Seen) (t : Tree) → AreSeenAs names false ts ss → IsTreeOf k names ts t → Spells k ss t []
-spelled_as k names ts ss t a h = subst (λ (us : List Seen). Spells k us t []) (one_sight names false ts h.seen ss h.right a) h.spelled
+pub spelled_at : (k : Kind) (names : Names) (ts : List Token) (ss vs : List Seen) (t : Tree) → IsTrue (stands_alone k) → vs ≡ ss → AreSeenAs names false ts ss → IsTreeOf k names ts t → Spells k vs t []
+spelled_at k names ts ss vs t o e a h = subst (λ (us : List Seen). Spells k us t []) (sym e) (tree_spelled names k ts t ss o a h)
 
-pub spelled_at : (k : Kind) (names : Names) (ts : List Token) (ss vs : List Seen) (t : Tree) → vs ≡ ss → AreSeenAs names false ts ss → IsTreeOf k names ts t → Spells k vs t []
-spelled_at k names ts ss vs t e a h = subst (λ (us : List Seen). Spells k us t []) (sym e) (spelled_as k names ts ss t a h)
+pub found_at : (k : Kind) (names : Names) (ts : List Token) (ss vs : List Seen) (r : Result Tree ParseFault) → IsTrue (stands_alone k) → vs ≡ ss → AreSeenAs names false ts ss
+    → IfOk r (λ t. Spells k vs t [] × (levels t ≤ 1000)) → IfOk r (λ t. IsTreeOf k names ts t)
+found_at k names ts ss vs (Ok t) o e a d = tree_found k names ts ss t o a (subst (λ (us : List Seen). Spells k us t []) e d.0, d.1)
+found_at k names ts ss vs (Err f) o e a d = d

@@ -1,16 +1,16 @@
 -- How a range is seen, as the code's answers cite it.
 use Rattle.std.proofs.Common.{◌≡◌, ℕ, zero, suc, ◌+◌, ◌-◌, ◌≤◌, ◌<◌, List, [], ◌∷◌, length, drop, set, get_or, eqb-true, refl, subst, ap, sym, ◌∙◌, arith}
 use Rattle.std.proofs.lemmas.List.{drop_more, drop_all, drop-set, drop-set-lt, length-set}
-use Rattle.std.specs.Prelude.{Bool, true, false, not, ◌==◌, IsTrue, Some, slice_get, if◌then◌else◌}
+use Rattle.std.specs.Prelude.{Bool, true, false, not, ◌==◌, Some, slice_get, if◌then◌else◌}
 use Rattle.c_terms.specs.declared.token.Token.{Token}
 use Rattle.c_terms.specs.declared.tree.Tree.{Tree}
 use Rattle.c_rows.specs.declared.class.Class.{Class}
 use Rattle.c_rows.specs.declared.class.Class.TheVariants as class
-use Rattle.c_terms.specs.Trees.{levels}
 use Rattle.c_rows.specs.declared.kind.Kind.TheVariants as kind
 use Rattle.c_rows.specs.Seen.{Seen, front}
 use Rattle.c_rows.specs.Spells.{Spells}
-use Rattle.c_rows.specs.Range.{NoMember, ends_member, AreSeenAs, IsSeenAs, leads_member}
+use Rattle.c_rows.specs.Words.{ends_member}
+use Rattle.c_rows.specs.Range.{NoMember, AreSeenAs, IsSeenAs, leads_member}
 use Rattle.c_rows.specs.Look.{Names, look, class_of}
 use Rattle.c_rows.proofs.Checks.{member_stops}
 use Rattle.c_expr.specs.Steps.{OnlyTree, NoTreeAt, HasLevels}
@@ -55,12 +55,12 @@ look-cons names t ts = refl
 abbrev mark : Token → Class → Bool → Seen
 mark t c b = record { token = t; class = c; typed = b }
 
-seen_here : (names : Names) (leads : Bool) (t : Token) (ts : List Token) (class : Class) (typed : Bool) (ss : List Seen) → class ≡ look names (t ∷ ts) → Marked typed leads class (mark t class false ∷ ss)
+seen_here : (names : Names) (leads : Bool) (t : Token) (ts : List Token) (class : Class) (typed : Bool) (ss : List Seen) → class ≡ look names (t ∷ ts) → Marked typed leads (mark t class false ∷ ss)
     → IsSeenAs names leads t ts (mark t class typed) ss
 seen_here names leads t ts class typed ss e m = record { token = refl; class = e; marked = m.only; unmarked_else = m.all }
 
 turn_at : (names : Names) (tokens : List Token) (seen : List Seen) (j : ℕ) (t : Token) (class : Class) (typed leads : Bool) → length seen ≡ length tokens → j < length tokens → t ≡ get_or tokens j t
-    → class ≡ look names (t ∷ drop (j + 1) tokens) → Marked typed leads class (drop j (set seen j (mark t class false)))
+    → class ≡ look names (t ∷ drop (j + 1) tokens) → Marked typed leads (drop j (set seen j (mark t class false)))
     → AreSeenAs names (leads_member t) (drop (j + 1) tokens) (drop (j + 1) seen)
     → AreSeenAs names leads (drop j tokens) (drop j (set (set seen j (mark t class false)) j (mark t class typed)))
 turn_at names tokens seen j t class typed leads even h e c m right =
@@ -72,7 +72,7 @@ turn_at names tokens seen j t class typed leads even h e c m right =
     let long : length (set seen j a) ≡ length seen = length-set seen j a in
     let second : drop j (set (set seen j a) j b) ≡ b ∷ drop (j + 1) seen = drop-set (set seen j a) j b (omega (arith, even, long)) ∙ ap (λ (ss : List Seen). b ∷ ss) later in
     let here : IsSeenAs names leads t (drop (j + 1) tokens) b (drop (j + 1) seen) =
-    seen_here names leads t (drop (j + 1) tokens) class typed (drop (j + 1) seen) c (subst (λ (ss : List Seen). Marked typed leads class ss) first m) in
+    seen_here names leads t (drop (j + 1) tokens) class typed (drop (j + 1) seen) c (subst (λ (ss : List Seen). Marked typed leads ss) first m) in
     subst (λ (us : List Token). AreSeenAs names leads us (drop j (set (set seen j a) j b))) (sym ts)
     (subst (λ (ss : List Seen). AreSeenAs names leads (t ∷ drop (j + 1) tokens) ss) (sym second) (here, right))
 
@@ -103,7 +103,7 @@ pub sight_turn : (names : Names) (tokens rest : List Token) (seen : List Seen) (
     → length seen ≡ length tokens → i ≤ length tokens → 0 < i
     → t ≡ get_or tokens (i - 1) t → u ≡ get_or tokens (i - 1) u → v ≡ get_or tokens (i - 1) v → rest ≡ drop (i - 1 + 1) tokens
     → class ≡ class_of names t.kind t.text rest next → next ≡ look names (drop i tokens)
-    → a ≡ mark u class false → b ≡ mark v class typed → view ≡ drop (i - 1) (set seen (i - 1) a) → Marked typed leads class view → leads ≡ leads_before tokens (i - 1)
+    → a ≡ mark u class false → b ≡ mark v class typed → view ≡ drop (i - 1) (set seen (i - 1) a) → Marked typed leads view → leads ≡ leads_before tokens (i - 1)
     → AreSeenAs names (leads_before tokens i) (drop i tokens) (drop i seen)
     → AreSeenAs names (leads_before tokens (i - 1)) (drop (i - 1) tokens) (drop (i - 1) (set (set seen (i - 1) a) (i - 1) b))
 sight_turn names tokens rest seen i t u v class next a b typed leads view even fits pos e eu ev r c n ea eb w m l right =
@@ -113,8 +113,8 @@ sight_turn names tokens rest seen i t u v class next a b typed leads view even f
     let n' : next ≡ look names (drop (i - 1 + 1) tokens) = n ∙ ap (λ (k : ℕ). look names (drop k tokens)) up in
     let c' : class ≡ look names (t ∷ drop (i - 1 + 1) tokens) =
     c ∙ ap (λ (ts : List Token). class_of names t.kind t.text ts next) r ∙ ap (class_of names t.kind t.text (drop (i - 1 + 1) tokens)) n' ∙ sym (look-cons names t (drop (i - 1 + 1) tokens)) in
-    let m' : Marked typed leads class (drop (i - 1) (set seen (i - 1) (mark t class false))) =
-    subst (λ (x : Seen). Marked typed leads class (drop (i - 1) (set seen (i - 1) x))) a' (subst (λ (ss : List Seen). Marked typed leads class ss) w m) in
+    let m' : Marked typed leads (drop (i - 1) (set seen (i - 1) (mark t class false))) =
+    subst (λ (x : Seen). Marked typed leads (drop (i - 1) (set seen (i - 1) x))) a' (subst (λ (ss : List Seen). Marked typed leads ss) w m) in
     let right' : AreSeenAs names (leads_member t) (drop (i - 1 + 1) tokens) (drop (i - 1 + 1) seen) =
     subst (λ (k : ℕ). AreSeenAs names (leads_member t) (drop k tokens) (drop k seen)) up
     (subst (λ (y : Bool). AreSeenAs names y (drop i tokens) (drop i seen)) (leads_at tokens i t pos fits e) right) in

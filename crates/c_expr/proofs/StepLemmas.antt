@@ -15,7 +15,7 @@ use Rattle.c_rows.specs.Rows.{Row}
 use Rattle.c_rows.specs.Choice.{after, quiet, tail, stops, stops_fork, ends, opens, choose, implies, every, row_ok}
 use Rattle.c_rows.specs.Seen.{Seen, front, front_typed}
 use Rattle.c_rows.specs.Spells.{Spells, Runs, done, word, child, argument, fork, member_kind}
-use Rattle.c_rows.specs.Range.{ends_member}
+use Rattle.c_rows.specs.Words.{ends_member}
 use Rattle.c_expr.specs.Steps.{Place, place, Leads, Refuses, OnlyTree, NoTreeAt, RunsTo, OnlyRun, NoRun}
 use Rattle.c_rows.proofs.Checks.{and_left, and_right, modus, every_at, closes, joins, joins_at, member_at, member_stops, way_ends, chosen_way, both, implies_both, every_from}
 use Rattle.c_rows.proofs.FirstLemmas.{runs_first, way_here}

@@ -1,10 +1,8 @@
 -- How a range is seen, from its last token on.
-use Rattle.std.specs.Prelude.{ℕ, ◌-◌, ◌==◌, Bool, true, false, Option, Some, None, IsTrue, if◌then◌else◌, List, [], ◌∷◌, slice_get}
+use Rattle.std.specs.Prelude.{ℕ, ◌-◌, ◌==◌, Bool, true, false, Option, Some, None, IsTrue, if◌then◌else◌, List, slice_get}
 use Rattle.c_terms.specs.declared.token.Token.{Token}
-use Rattle.c_rows.specs.declared.class.Class.{Class}
-use Rattle.c_rows.specs.Words.{begins_specs}
 use Rattle.c_rows.specs.Seen.{Seen}
-use Rattle.c_rows.specs.Range.{leads_member, NoMember}
+use Rattle.c_rows.specs.Range.{leads_member, may_be_type, NoMember}
 
 -- a test that tells whether a fact holds
 abbrev pub decided : Bool → Type 0 → Type 0
@@ -20,6 +18,6 @@ abbrev pub leads_before : List Token → ℕ → Bool
 leads_before ts i = if i == 0 then false else led (slice_get ts (i - 1))
 
 -- whether the front of the list is marked
-pub record Marked (typed leads : Bool) (class : Class) (ss : List Seen) : Type 0 where
-  pub only : IsTrue typed → IsTrue leads × IsTrue (begins_specs class) × NoMember ss
-  pub all : IsTrue leads → IsTrue (begins_specs class) → NoMember ss → IsTrue typed
+pub record Marked (typed leads : Bool) (ss : List Seen) : Type 0 where
+  pub only : IsTrue typed → IsTrue leads × IsTrue (may_be_type ss) × NoMember ss
+  pub all : IsTrue leads → IsTrue (may_be_type ss) → NoMember ss → IsTrue typed

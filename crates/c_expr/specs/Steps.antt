@@ -1,21 +1,22 @@
 -- What the steps of the parser ensure.
-use Rattle.std.specs.Prelude.{◌≡◌, ℕ, ◌≤◌, Bool, true, false, IsTrue, Option, Some, None, List, [], ◌∷◌, ◌++◌, if◌then◌else◌}
+use Rattle.std.specs.Prelude.{◌≡◌, ℕ, ◌+◌, ◌*◌, ◌≤◌, ◌<◌, Bool, false, IsTrue, Option, Some, None, List, ◌∷◌, ◌++◌, length, if◌then◌else◌}
 use Rattle.c_terms.specs.declared.tree.Tree.{Tree}
-use Rattle.c_terms.specs.declared.tree.Tree.TheVariants as tree
 use Rattle.c_terms.specs.Trees.{levels, levels_of_all}
 use Rattle.c_rows.specs.declared.class.Class.{Class}
 use Rattle.c_rows.specs.declared.kind.Kind.{Kind}
 use Rattle.c_rows.specs.declared.kind.Family.{Family}
 use Rattle.c_rows.specs.declared.rule.Rule.{Rule}
+use Rattle.c_rows.specs.declared.symbol.Symbol.{Symbol}
+use Rattle.c_expr.specs.declared.parse.Position.{Position}
 use Rattle.c_expr.specs.declared.fault.ParseFault.{ParseFault}
 use Rattle.c_expr.specs.declared.fault.ParseFault.TheVariants.{NoTree, TooDeep, NoMemory}
 use Rattle.c_rows.specs.Kinds.{family_of, within}
 use Rattle.c_rows.specs.Rows.{Row}
 use Rattle.c_rows.specs.Branches.{kind_of, build, allows}
-use Rattle.c_rows.specs.Choice.{ends, stops, left, own, head, tail}
+use Rattle.c_rows.specs.Choice.{ends, stops, left, own, head, tail, row_fine, weight}
 use Rattle.c_rows.specs.Seen.{Seen, front}
 use Rattle.c_rows.specs.Spells.{Spells, Runs}
-use Rattle.c_rows.specs.Growth.{Root, root_kind, root_ends, Operand, Grows}
+use Rattle.c_rows.specs.Growth.{Root, root_kind, root_ends, Operand}
 
 -- why nothing was answered: there is nothing, or memory ran out
 abbrev pub OnFault : ParseFault → Type 0 → Type 0
@@ -41,15 +42,50 @@ Refuses most p = (ds : List Tree) (ys : List Seen) → Runs p.row p.rest ds ys �
 abbrev pub place : Row → List Seen → List Tree → Place
 place row rest children = record { row = row; rest = rest; children = children }
 
+-- ---- a step of the parser
+
+-- the place where a position stands
+abbrev pub place_of : Position → Place
+place_of p = place p.row.now p.rest.now p.children
+
+-- the place before a symbol behind which the row goes on as the position says
+abbrev pub before : Symbol → Position → Place
+before s p = place (s ∷ p.row.now) p.rest.now p.children
+
+-- The row passes the tests of rows, and the position's levels are those of its children.
+pub record Sound (row : Row) (p : Position) : Type 0 where
+  pub fine : IsTrue (row_fine row)
+  pub deep : p.deepest ≡ levels_of_all p.children
+
+-- The part that the symbol asks for was taken, from the place before the symbol to this position.
+pub record Takes (most : ℕ) (s : Symbol) (p q : Position) : Type 0 where
+  pub leads : Leads most (before s p) (place_of q)
+  pub sound : Sound q.row.now q
+  -- fewer tokens are left, or as many and less of the row
+  pub smaller : 2 * length q.rest.now + weight q.row.now < 2 * length p.rest.now + weight (s ∷ p.row.now)
+
 -- ---- how a tree goes on
+
+-- the rule, where its branches are of the kind
+abbrev pub rule_of_kind : Kind → Option Rule → Option Rule
+rule_of_kind m None = None
+rule_of_kind m (Some r) = if within (kind_of r) m then Some r else None
+
+-- the rule of a tree of kind m that begins with a token of its own
+abbrev pub headed_by : Kind → Class → Option Rule
+headed_by m c = rule_of_kind m (head (family_of m) c)
 
 abbrev pub takes : Family → Option Kind → Root → Bool
 takes f None q = false
 takes f (Some l) q = within (root_kind f q) l
 
+-- the rule, where its first part may be a tree of this root
+abbrev pub taking : Family → Root → Option Rule → Option Rule
+taking f q None = None
+taking f q (Some r) = if takes f (left r) q then Some r else None
+
 abbrev pub next_rule : Kind → Root → Option Rule → Option Rule
-next_rule m q None = None
-next_rule m q (Some r) = if within (kind_of r) m then (if takes (family_of m) (left r) q then Some r else None) else None
+next_rule m q o = taking (family_of m) q (rule_of_kind m o)
 
 abbrev pub goes_on : Kind → Root → Class → Option Rule
 goes_on m q c = next_rule m q (tail (family_of m) c)
@@ -90,13 +126,17 @@ NoGrowth most r t xs = (ds : List Tree) (zs : List Seen) → Runs (own r) xs ds 
 abbrev pub GrowsBy : ℕ → Rule → Tree → List Seen → Root → Tree → List Seen → Type 0
 GrowsBy most r t xs q u ys = (cs : List Tree) × (q ≡ Some r) × (u ≡ build r (t ∷ cs)) × Runs (own r) xs cs ys × OnlyGrowth most r t xs cs ys × IsTrue (allows r (t ∷ cs))
 
--- the rule of a tree of kind m that begins with a token of its own
-abbrev pub head_rule : Kind → Option Rule → Option Rule
-head_rule m None = None
-head_rule m (Some r) = if within (kind_of r) m then Some r else None
+-- ---- a branch
 
-abbrev pub headed_by : Kind → Class → Option Rule
-headed_by m c = head_rule m (head (family_of m) c)
+-- The tree that was made is the rule's branch over the children, with the tokens after them.
+pub record IsBranch (r : Rule) (cs : List Tree) (ys : List Seen) (q : Root) (t : Tree) (zs : List Seen) : Type 0 where
+  pub root : q ≡ Some r
+  pub tree : t ≡ build r cs
+  pub rest : zs ≡ ys
+  pub allowed : IsTrue (allows r cs)
+
+abbrev pub NoBranch : ℕ → Rule → List Tree → Type 0
+NoBranch most r cs = IsTrue (allows r cs) → levels (build r cs) ≤ most → ⊥
 
 -- the tree has this many levels, which is no more than the most
 abbrev pub HasLevels : Tree → ℕ → ℕ → Type 0

@@ -1,17 +1,18 @@
 //! Reads expressions, type names, specifiers, declarators and initialisers of C, and the patterns among them.
 //!
 //! - [`parse_expr`], [`parse_type_name`], [`parse_specs`], [`parse_declarator`] and [`parse_init`] read a range of tokens,
-//!   all of it, as one tree of that kind. [`parse_kind`] reads any kind that may stand before the end.
+//!   all of it, as one tree of that kind. [`parse_kind`] reads any kind that is not read within a list.
 //! - [`ParseFault`] says why there is no tree.
 //!
 //! `a = b = c` is an Assign of `a`, `=`, and an Assign of `b`, `=`, `c`. `a -` is NoTree. 201 brackets open at once are
 //! TooDeep. `(foo_t) x` is a Cast whether `foo_t` is in the names or not; `(foo_t) - x` is one only where it is.
 //!
-//! The parser is one reader of the rows of c_rows. It is proved once for all rows: the answer spells the range, no other
-//! tree of its kind does, and NoTree comes only where none does. A tree has at most 1,000 levels of branches.
+//! The parser is one reader of the rows of c_rows. It is proved once for all rows: the answer is a tree of the range, no
+//! other tree of its kind is, and NoTree comes only where none is. A tree has at most 1,000 levels of branches.
 //!
-//! Recursion goes some four calls deep for each level. A faulty range costs no more than a right one: the parser
-//! never goes back, but that a member of a call's list is tried as an expression before it is read.
+//! Recursion goes five calls deep for each level. A faulty range costs no more than a right one: the parser never goes
+//! back, but that behind `(` and `,` what may be a type by its first three tokens is tried as an expression before the
+//! range is read.
 //!
 //! Declarations, statements and items are left to the crates above. Cutting text into tokens is for c_lexer.
 #![tactic(auto)]

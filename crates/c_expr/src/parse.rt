@@ -1,12 +1,11 @@
 // The parser, which goes by the rows.
-ghost use Rattle.std.specs.Prelude.{◌≡◌, ◌≤◌, ◌<◌, ◌+◌, ◌*◌, ◌∷◌, IsTrue, IfOk, IfErr, length};
+ghost use Rattle.std.specs.Prelude.{◌≡◌, ◌∷◌, IsTrue, IfOk, IfErr};
 ghost use Rattle.c_terms.specs.Trees.{levels, levels_of_all};
 ghost use Rattle.c_rows.specs.Kinds.{family_of, has_leaf};
-ghost use Rattle.c_rows.specs.Choice.{row_fine, weight};
 ghost use Rattle.c_rows.specs.Seen.{front};
 ghost use Rattle.c_rows.specs.Spells.{Spells};
 ghost use Rattle.c_rows.specs.Growth.{Operand};
-ghost use Rattle.c_expr.specs.Steps.{OnFault, Leads, Refuses, place, goes_on, headed_by, OnlyTree, NoTreeAt, OnlyOperand, NoOperand, NoRun, RunsTo, GrowsBy, NoGrowth, HasLevels};
+ghost use Rattle.c_expr.specs.Steps.{OnFault, Refuses, before, Sound, Takes, rule_of_kind, goes_on, headed_by, OnlyTree, NoTreeAt, OnlyOperand, NoOperand, NoRun, RunsTo, GrowsBy, NoGrowth, IsBranch, NoBranch, HasLevels};
 
 use crate::ParseFault;
 use c_rows::{
@@ -17,36 +16,48 @@ use c_terms::Tree;
 use sqlite_items::Items;
 use std::alloc::Global;
 
-/// The rule by which a tree goes on.
-fn goes_on(kind: Kind, root: Option<Rule>, class: Class) -> Option<Rule>
-    ensures { result ≡ goes_on kind root class }
+/// The rule, where its branches are of the kind.
+fn rule_of_kind(kind: Kind, rule: Option<Rule>) -> Option<Rule>
+    ensures { result ≡ rule_of_kind kind rule }
 {
-    let family = family_of(kind);
-    match tail(family, class) {
+    match rule {
         None => None,
         Some(rule) => {
-            if !within(kind_of(rule), kind) {
-                return None;
-            }
-            let own_kind = match root {
-                None => bottom(family),
-                Some(last) => kind_of(last),
-            };
-            match left(rule) {
-                None => None,
-                Some(limit) => {
-                    if within(own_kind, limit) {
-                        Some(rule)
-                    } else {
-                        None
-                    }
-                }
+            if within(kind_of(rule), kind) {
+                Some(rule)
+            } else {
+                None
             }
         }
     }
 }
 
-/// What is left of a row, the tokens from there on, and the children before.
+/// The rule of a tree of the kind that begins with a token of its own.
+fn headed(kind: Kind, class: Class) -> Option<Rule>
+    ensures { result ≡ headed_by kind class }
+{
+    rule_of_kind(kind, head(family_of(kind), class))
+}
+
+/// The rule by which a tree goes on to one of the kind, where `root` is its own.
+fn goes_on(kind: Kind, root: Option<Rule>, class: Class) -> Option<Rule>
+    ensures { result ≡ goes_on kind root class }
+{
+    let family = family_of(kind);
+    let rule = rule_of_kind(kind, tail(family, class))?;
+    let limit = left(rule)?;
+    let own_kind = match root {
+        None => bottom(family),
+        Some(last) => kind_of(last),
+    };
+    if within(own_kind, limit) {
+        Some(rule)
+    } else {
+        None
+    }
+}
+
+/// A place in a row: what is left of the row, the tokens from there on, and the children before.
 #[derive(Drop)]
 struct Position<'a, 't> {
     row: &'static [Symbol],
@@ -56,172 +67,108 @@ struct Position<'a, 't> {
     deepest: u16,
 }
 
+/// Reads a token of the word. Behind it the row goes on as `at` says.
 fn take_word<'a, 't>(
     alloc: Global,
     most: u16,
     word: Word,
-    after: &'static [Symbol],
-    rest: &'a [Seen<'t>],
-    mut children: Items<Tree>,
-    deepest: u16,
+    mut at: Position<'a, 't>,
 ) -> Result<Position<'a, 't>, ParseFault>
-    requires fine { IsTrue (row_fine (Symbol.Word word ∷ after.now)) }
-    requires deep { deepest ≡ levels_of_all children }
-    ensures found { IfOk result
-        (λ p. Leads most (place (Symbol.Word word ∷ after.now) rest.now children)
-        (place p.row.now p.rest.now p.children)) }
-    ensures fine { IfOk result (λ p. IsTrue (row_fine p.row.now)) }
-    ensures deep { IfOk result (λ p. p.deepest ≡ levels_of_all p.children) }
-    ensures smaller { IfOk result
-        (λ p. 2 * length p.rest.now + weight p.row.now < 2 * length rest.now + weight
-        (Symbol.Word word ∷ after.now)) }
+    requires { Sound (Symbol.Word word ∷ at.row.now) at }
+    ensures takes { IfOk result (Takes most (Symbol.Word word) at.entry) }
     ensures refused { IfErr result
-        (λ e. OnFault e (Refuses most (place (Symbol.Word word ∷ after.now) rest.now children))) }
+        (λ e. OnFault e (Refuses most (before (Symbol.Word word) at.entry))) }
 {
-    if !fits(word, front(rest)) {
+    if !fits(word, front(at.rest)) {
         return Err(ParseFault::NoTree);
     }
-    match rest {
+    match at.rest {
         [] => Err(ParseFault::NoTree),
         [seen, ..] => {
             let token = seen.token().copy(alloc)?;
-            children.push(Tree::Leaf(token))?;
-            Ok(Position {
-                row: after,
-                rest: &rest[1..],
-                children,
-                deepest,
-            })
+            at.children.push(Tree::Leaf(token))?;
+            at.rest = &at.rest[1..];
+            Ok(at)
         }
     }
 }
 
+/// Goes on in the one way of the fork that the front of the tokens allows. Reads nothing.
 fn take_way<'a, 't>(
     most: u16,
     fork: Fork,
-    after: &'static [Symbol],
-    rest: &'a [Seen<'t>],
-    children: Items<Tree>,
-    deepest: u16,
+    mut at: Position<'a, 't>,
 ) -> Result<Position<'a, 't>, ParseFault>
-    requires fine { IsTrue (row_fine (Symbol.Fork fork ∷ after.now)) }
-    requires deep { deepest ≡ levels_of_all children }
-    ensures found { IfOk result
-        (λ p. Leads most (place (Symbol.Fork fork ∷ after.now) rest.now children)
-        (place p.row.now p.rest.now p.children)) }
-    ensures fine { IfOk result (λ p. IsTrue (row_fine p.row.now)) }
-    ensures deep { IfOk result (λ p. p.deepest ≡ levels_of_all p.children) }
-    ensures smaller { IfOk result
-        (λ p. 2 * length p.rest.now + weight p.row.now < 2 * length rest.now + weight
-        (Symbol.Fork fork ∷ after.now)) }
+    requires { Sound (Symbol.Fork fork ∷ at.row.now) at }
+    ensures takes { IfOk result (Takes most (Symbol.Fork fork) at.entry) }
     ensures refused { IfErr result
-        (λ e. OnFault e (Refuses most (place (Symbol.Fork fork ∷ after.now) rest.now children))) }
+        (λ e. OnFault e (Refuses most (before (Symbol.Fork fork) at.entry))) }
 {
-    match choose(fork, front(rest)) {
+    match choose(fork, front(at.rest)) {
         None => Err(ParseFault::NoTree),
-        Some(way) => Ok(Position {
-            row: way,
-            rest,
-            children,
-            deepest,
-        }),
+        Some(way) => {
+            at.row = way;
+            Ok(at)
+        }
     }
 }
 
+/// Reads a tree of the kind. Behind it the row goes on as `at` says.
 #[cycle(parse)]
 fn take_child<'a, 't>(
     alloc: Global,
     most: u16,
     kind: Kind,
-    after: &'static [Symbol],
-    rest: &'a [Seen<'t>],
-    mut children: Items<Tree>,
-    deepest: u16,
+    mut at: Position<'a, 't>,
 ) -> Result<Position<'a, 't>, ParseFault>
-    requires fine { IsTrue (row_fine (Symbol.Child kind ∷ after.now)) }
-    requires deep { deepest ≡ levels_of_all children }
-    ensures found { IfOk result
-        (λ p. Leads most (place (Symbol.Child kind ∷ after.now) rest.now children)
-        (place p.row.now p.rest.now p.children)) }
-    ensures fine { IfOk result (λ p. IsTrue (row_fine p.row.now)) }
-    ensures deep { IfOk result (λ p. p.deepest ≡ levels_of_all p.children) }
-    ensures smaller { IfOk result
-        (λ p. 2 * length p.rest.now + weight p.row.now < 2 * length rest.now + weight
-        (Symbol.Child kind ∷ after.now)) }
+    requires { Sound (Symbol.Child kind ∷ at.row.now) at }
+    ensures takes { IfOk result (Takes most (Symbol.Child kind) at.entry) }
     ensures refused { IfErr result
-        (λ e. OnFault e (Refuses most (place (Symbol.Child kind ∷ after.now) rest.now children))) }
+        (λ e. OnFault e (Refuses most (before (Symbol.Child kind) at.entry))) }
 {
-    let found = parse(alloc, most, kind, rest)?;
-    children.push(found.tree)?;
-    Ok(Position {
-        row: after,
-        rest: found.rest,
-        children,
-        deepest: deepest.max(found.levels),
-    })
+    let found = parse(alloc, most, kind, at.rest)?;
+    at.children.push(found.tree)?;
+    at.rest = found.rest;
+    at.deepest = at.deepest.max(found.levels);
+    Ok(at)
 }
 
-/// Reads a member of a call's list: an expression without commas, or a type where none can stand.
+/// Reads a member of a call's list: an expression without commas, or a type where none can stand. Behind it the row goes
+/// on as `at` says.
 #[cycle(parse)]
 fn take_argument<'a, 't>(
     alloc: Global,
     most: u16,
-    after: &'static [Symbol],
-    rest: &'a [Seen<'t>],
-    mut children: Items<Tree>,
-    deepest: u16,
+    mut at: Position<'a, 't>,
 ) -> Result<Position<'a, 't>, ParseFault>
-    requires fine { IsTrue (row_fine (Symbol.Argument ∷ after.now)) }
-    requires deep { deepest ≡ levels_of_all children }
-    ensures found { IfOk result
-        (λ p. Leads most (place (Symbol.Argument ∷ after.now) rest.now children)
-        (place p.row.now p.rest.now p.children)) }
-    ensures fine { IfOk result (λ p. IsTrue (row_fine p.row.now)) }
-    ensures deep { IfOk result (λ p. p.deepest ≡ levels_of_all p.children) }
-    ensures smaller { IfOk result
-        (λ p. 2 * length p.rest.now + weight p.row.now < 2 * length rest.now + weight
-        (Symbol.Argument ∷ after.now)) }
-    ensures refused { IfErr result
-        (λ e. OnFault e (Refuses most (place (Symbol.Argument ∷ after.now) rest.now children))) }
+    requires { Sound (Symbol.Argument ∷ at.row.now) at }
+    ensures takes { IfOk result (Takes most Symbol.Argument at.entry) }
+    ensures refused { IfErr result (λ e. OnFault e (Refuses most (before Symbol.Argument at.entry))) }
 {
-    let found = parse(alloc, most, member_kind(front_typed(rest)), rest)?;
-    children.push(found.tree)?;
-    Ok(Position {
-        row: after,
-        rest: found.rest,
-        children,
-        deepest: deepest.max(found.levels),
-    })
+    let found = parse(alloc, most, member_kind(front_typed(at.rest)), at.rest)?;
+    at.children.push(found.tree)?;
+    at.rest = found.rest;
+    at.deepest = at.deepest.max(found.levels);
+    Ok(at)
 }
 
+/// Reads the part that the symbol asks for, and puts it behind the children. Behind it the row goes on as `at` says.
 #[cycle(parse)]
 fn take<'a, 't>(
     alloc: Global,
     most: u16,
     symbol: Symbol,
-    after: &'static [Symbol],
-    rest: &'a [Seen<'t>],
-    children: Items<Tree>,
-    deepest: u16,
+    at: Position<'a, 't>,
 ) -> Result<Position<'a, 't>, ParseFault>
-    requires fine { IsTrue (row_fine (symbol ∷ after.now)) }
-    requires deep { deepest ≡ levels_of_all children }
-    ensures found { IfOk result
-        (λ p. Leads most (place (symbol ∷ after.now) rest.now children)
-        (place p.row.now p.rest.now p.children)) }
-    ensures fine { IfOk result (λ p. IsTrue (row_fine p.row.now)) }
-    ensures deep { IfOk result (λ p. p.deepest ≡ levels_of_all p.children) }
-    ensures smaller { IfOk result
-        (λ p. 2 * length p.rest.now + weight p.row.now < 2 * length rest.now + weight
-        (symbol ∷ after.now)) }
-    ensures refused { IfErr result
-        (λ e. OnFault e (Refuses most (place (symbol ∷ after.now) rest.now children))) }
+    requires { Sound (symbol ∷ at.row.now) at }
+    ensures takes { IfOk result (Takes most symbol at.entry) }
+    ensures refused { IfErr result (λ e. OnFault e (Refuses most (before symbol at.entry))) }
 {
     match symbol {
-        Symbol::Word(word) => take_word(alloc, most, word, after, rest, children, deepest),
-        Symbol::Child(kind) => take_child(alloc, most, kind, after, rest, children, deepest),
-        Symbol::Argument => take_argument(alloc, most, after, rest, children, deepest),
-        Symbol::Fork(fork) => take_way(most, fork, after, rest, children, deepest),
+        Symbol::Word(word) => take_word(alloc, most, word, at),
+        Symbol::Child(kind) => take_child(alloc, most, kind, at),
+        Symbol::Argument => take_argument(alloc, most, at),
+        Symbol::Fork(fork) => take_way(most, fork, at),
     }
 }
 
@@ -230,34 +177,18 @@ fn take<'a, 't>(
 fn run<'a, 't>(
     alloc: Global,
     most: u16,
-    row: &'static [Symbol],
-    rest: &'a [Seen<'t>],
-    children: Items<Tree>,
-    deepest: u16,
+    mut at: Position<'a, 't>,
 ) -> Result<Position<'a, 't>, ParseFault>
-    requires fine { IsTrue (row_fine row.now) }
-    requires deep { deepest ≡ levels_of_all children }
-    ensures found { IfOk result (λ f. RunsTo most row.now rest.now children f.children f.rest.now) }
-    ensures deep { IfOk result (λ f. f.deepest ≡ levels_of_all f.children) }
-    ensures refused { IfErr result (λ e. OnFault e (NoRun most row.now rest.now)) }
+    requires { Sound at.row.now at }
+    ensures found { IfOk result
+        (λ end. RunsTo most at.entry.row.now at.entry.rest.now at.entry.children end.children
+        end.rest.now) }
+    ensures deep { IfOk result (λ end. end.deepest ≡ levels_of_all end.children) }
+    ensures refused { IfErr result (λ e. OnFault e (NoRun most at.entry.row.now at.entry.rest.now)) }
 {
-    let mut at = Position {
-        row,
-        rest,
-        children,
-        deepest,
-    };
     while let [symbol, ..] = at.row {
-        let after = &at.row[1..];
-        at = take(
-            alloc,
-            most,
-            *symbol,
-            after,
-            at.rest,
-            at.children,
-            at.deepest,
-        )?;
+        at.row = &at.row[1..];
+        at = take(alloc, most, *symbol, at)?;
     }
     Ok(at)
 }
@@ -271,6 +202,32 @@ pub struct Grown<'a, 't> {
     pub rest: &'a [Seen<'t>],
 }
 
+/// The branch of the rule over all that was read, where it is allowed and has at most so many levels.
+fn finish<'a, 't>(
+    most: u16,
+    rule: Rule,
+    read: Position<'a, 't>,
+) -> Result<Grown<'a, 't>, ParseFault>
+    requires { read.deepest ≡ levels_of_all read.children }
+    ensures found { IfOk result
+        (λ g. IsBranch rule read.entry.children read.entry.rest.now g.root g.tree g.rest.now) }
+    ensures levels { IfOk result (λ g. HasLevels g.tree g.levels most) }
+    ensures refused { IfErr result
+        (λ e. (e ≡ ParseFault.NoTree) × NoBranch most rule read.entry.children) }
+{
+    if read.deepest >= most || !allows(rule, read.children.as_slice()) {
+        return Err(ParseFault::NoTree);
+    }
+    let label = label_of(rule, read.children.as_slice());
+    Ok(Grown {
+        root: Some(rule),
+        tree: Tree::Branch(label, read.children),
+        levels: read.deepest + 1,
+        rest: read.rest,
+    })
+}
+
+/// The leaf at the front of the tokens, which is by itself a tree of the kind.
 fn take_leaf<'a, 't>(
     alloc: Global,
     most: u16,
@@ -297,22 +254,7 @@ fn take_leaf<'a, 't>(
     }
 }
 
-/// The rule of a tree that begins with a token of its own.
-fn headed(kind: Kind, class: Class) -> Option<Rule>
-    ensures { result ≡ headed_by kind class }
-{
-    match head(family_of(kind), class) {
-        None => None,
-        Some(rule) => {
-            if within(kind_of(rule), kind) {
-                Some(rule)
-            } else {
-                None
-            }
-        }
-    }
-}
-
+/// The first tree from which one of the kind grows: a leaf, or a branch that begins with a token of its own.
 #[cycle(parse)]
 fn operand<'a, 't>(
     alloc: Global,
@@ -329,31 +271,23 @@ fn operand<'a, 't>(
     if has_leaf(family_of(kind), class) {
         return take_leaf(alloc, most, kind, rest);
     }
-    match headed(kind, class) {
-        None => Err(ParseFault::NoTree),
-        Some(rule) => {
-            if most == 0 {
-                return Err(ParseFault::NoTree);
-            }
-            let found = run(alloc, most - 1, own(rule), rest, Items::new(alloc), 0)?;
-            if found.deepest >= most {
-                return Err(ParseFault::NoTree);
-            }
-            if !allows(rule, found.children.as_slice()) {
-                return Err(ParseFault::NoTree);
-            }
-            let label = label_of(rule, found.children.as_slice());
-            Ok(Grown {
-                root: Some(rule),
-                tree: Tree::Branch(label, found.children),
-                levels: found.deepest + 1,
-                rest: found.rest,
-            })
-        }
+    let Some(rule) = headed(kind, class) else {
+        return Err(ParseFault::NoTree);
+    };
+    if most == 0 {
+        return Err(ParseFault::NoTree);
     }
+    let start = Position {
+        row: own(rule),
+        rest,
+        children: Items::new(alloc),
+        deepest: 0,
+    };
+    let read = run(alloc, most - 1, start)?;
+    finish(most, rule, read)
 }
 
-/// The tree with what follows by the rule.
+/// The tree, of this height, with what follows it by the rule.
 #[cycle(parse)]
 fn grow<'a, 't>(
     alloc: Global,
@@ -368,25 +302,19 @@ fn grow<'a, 't>(
     ensures levels { IfOk result (λ g. HasLevels g.tree g.levels most) }
     ensures refused { IfErr result (λ e. OnFault e (NoGrowth most rule tree rest.now)) }
 {
-    if most == 0 {
+    if height >= most {
         return Err(ParseFault::NoTree);
     }
     let mut children = Items::new(alloc);
     children.push(tree)?;
-    let found = run(alloc, most - 1, own(rule), rest, children, height)?;
-    if found.deepest >= most {
-        return Err(ParseFault::NoTree);
-    }
-    if !allows(rule, found.children.as_slice()) {
-        return Err(ParseFault::NoTree);
-    }
-    let label = label_of(rule, found.children.as_slice());
-    Ok(Grown {
-        root: Some(rule),
-        tree: Tree::Branch(label, found.children),
-        levels: found.deepest + 1,
-        rest: found.rest,
-    })
+    let begun = Position {
+        row: own(rule),
+        rest,
+        children,
+        deepest: height,
+    };
+    let read = run(alloc, most - 1, begun)?;
+    finish(most, rule, read)
 }
 
 /// The tree of the kind at the front of the tokens, and the tokens after it.

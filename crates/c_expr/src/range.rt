@@ -5,7 +5,7 @@ ghost use Rattle.c_terms.specs.Trees.{levels};
 ghost use Rattle.c_rows.specs.declared.kind.Kind.TheVariants as kinds;
 ghost use Rattle.c_rows.specs.Spells.{Spells};
 ghost use Rattle.c_rows.specs.Choice.{stops};
-ghost use Rattle.c_rows.specs.Range.{IsTreeOf};
+ghost use Rattle.c_rows.specs.Trees.{IsTreeOf, stands_alone};
 ghost use Rattle.c_expr.specs.Answer.{Answers, Reads};
 
 use crate::ParseFault;
@@ -39,7 +39,7 @@ fn parse_shallow(
     tokens: &[Token],
     names: &Names,
 ) -> Result<Tree, ParseFault>
-    requires { IsTrue (stops kind Class.End) }
+    requires { IsTrue (stands_alone kind) }
     ensures found { IfOk result (λ t. IsTreeOf kind names.now tokens.now t) }
     ensures only { (t : Tree) → IsTreeOf kind names.now tokens.now t → Answers t result }
     ensures no_tree { result ≡ Err ParseFault.NoTree → (t : Tree) →
@@ -50,8 +50,10 @@ fn parse_shallow(
     parse_seen(alloc, kind, seen.as_slice())
 }
 
-/// The one tree of the kind that spells the tokens `from..to`. Linear, but that each member of a call's list with which
-/// a type may begin is read once for each list around it. Recurses a few times for each of at most 1,000 levels.
+/// The one tree of the kind that spells the tokens `from..to`: any kind but those that are read within a list, which are
+/// Args, TypeArg, Params, Param, InitItem, NamelessBits, EnumName and Enumerator. Linear, but that behind each `(` and
+/// `,` what may be a type by its first three tokens is read beforehand, so a token at most twice, and once more
+/// for each bracket and each `?` around it. Recurses five calls deep for each of at most 1,000 levels.
 pub fn parse_kind(
     alloc: Global,
     kind: Kind,
@@ -62,7 +64,7 @@ pub fn parse_kind(
 ) -> Result<Tree, ParseFault>
     requires order { from ≤ to }
     requires inside { to ≤ length tokens.now }
-    requires last { IsTrue (stops kind Class.End) }
+    requires alone { IsTrue (stands_alone kind) }
     ensures reads { Reads kind names.now (slice_range tokens.now from to) result }
 {
     let range = &tokens[from..to];

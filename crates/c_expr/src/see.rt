@@ -5,7 +5,7 @@ ghost use Rattle.c_expr.specs.Sight.{decided, leads_before, Marked};
 
 use crate::ParseFault;
 use crate::parse::parse;
-use c_rows::{Class, Kind, Seen, begins_specs, ends_member, front, leads_member, look};
+use c_rows::{Class, Kind, Seen, ends_member, front, leads_member, look, may_be_type};
 use c_terms::{Names, Token};
 use std::alloc::Global;
 
@@ -38,17 +38,13 @@ fn leads_before(tokens: &[Token], i: usize) -> bool
     }
 }
 
-/// The first token is marked: a member of a call's list may begin there, a type may, and no expression can be that member.
-fn is_marked<'a, 't>(
-    alloc: Global,
-    leads: bool,
-    class: Class,
-    rest: &'a [Seen<'t>],
-) -> Result<bool, ParseFault>
-    ensures value { IfOk result (λ typed. Marked typed leads class rest.now) }
+/// The first token is marked: a member of a call's list may begin there, by the first three tokens it may be a type, and
+/// no expression can be that member.
+fn is_marked<'a, 't>(alloc: Global, leads: bool, rest: &'a [Seen<'t>]) -> Result<bool, ParseFault>
+    ensures value { IfOk result (λ typed. Marked typed leads rest.now) }
     ensures fault { IfErr result (λ fault. fault ≡ ParseFault.NoMemory) }
 {
-    if !leads || !begins_specs(class) {
+    if !leads || !may_be_type(rest) {
         return Ok(false);
     }
     has_no_member(alloc, rest)
@@ -66,8 +62,9 @@ fn unseen<'t>(alloc: Global, tokens: &'t [Token]) -> Result<Vec<Seen<'t>>, Parse
     Ok(seen)
 }
 
-/// The tokens as they are seen, from the last one on. Linear, but that each member of a call's list with which a type
-/// may begin is read once for each list around it.
+/// The tokens as they are seen, from the last one on. Linear, but that behind each `(` and `,`, whether a call's list is
+/// there or not, what may be a type by its first three tokens is read as an expression. So a token is read at most once,
+/// and once more for each bracket and each `?` around it, within 1,000 levels.
 pub fn see<'t>(
     alloc: Global,
     names: &Names,
@@ -83,7 +80,7 @@ pub fn see<'t>(
         i -= 1;
         next = look(names, &tokens[i], &tokens[i + 1..], next);
         seen[i] = Seen::new(&tokens[i], next, false);
-        let typed = is_marked(alloc, leads_before(tokens, i), next, &seen[i..])?;
+        let typed = is_marked(alloc, leads_before(tokens, i), &seen[i..])?;
         seen[i] = Seen::new(&tokens[i], next, typed);
     }
     Ok(seen)

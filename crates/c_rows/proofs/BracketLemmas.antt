@@ -10,8 +10,8 @@ use Rattle.c_rows.specs.Kinds.{family_of}
 use Rattle.c_rows.specs.Branches.{kind_of}
 use Rattle.c_rows.specs.Rows.{Row}
 use Rattle.c_rows.specs.Look.{Names, look}
-use Rattle.c_rows.specs.Range.{ends_member}
-use Rattle.c_rows.specs.Letter.{Derives, leaf, branch, DerivesRow, done, word, child, argument, type_argument, fork}
+use Rattle.c_rows.specs.Words.{ends_member}
+use Rattle.c_rows.specs.Derives.{Derives, leaf, branch, DerivesRow, done, word, child, argument, type_argument, fork}
 use Rattle.c_rows.specs.Choice.{every, implies}
 use Rattle.c_rows.proofs.Checks.{and_left, and_right, modus, every_at, not_true}
 use Rattle.c_rows.proofs.BracketTests.{Turn, opening, closing, asking, parting, plain, Place, inside, expression, typed, turn, word_turn, turn_of, leaf_turn, suits, suits_within, suits_fork, depth, deep, is_inside, may_ask, fine_word, fine, rule_fine, way_fine}

@@ -12,9 +12,9 @@ use Rattle.c_rows.specs.Kinds.{family_of}
 use Rattle.c_rows.specs.Rows.{Row}
 use Rattle.c_rows.specs.Branches.{kind_of}
 use Rattle.c_rows.specs.Look.{Names, look}
-use Rattle.c_rows.specs.Range.{ends_member}
+use Rattle.c_rows.specs.Words.{ends_member}
 use Rattle.c_rows.specs.Choice.{after, stops_fork, first, opens, choose, leads, every}
-use Rattle.c_rows.specs.Letter.{Derives, leaf, branch, DerivesRow, done, word, child, argument, type_argument, fork}
+use Rattle.c_rows.specs.Derives.{Derives, leaf, branch, DerivesRow, done, word, child, argument, type_argument, fork}
 use Rattle.c_rows.proofs.Checks.{and_left, and_right, modus, every_at, closes, joins, joins_at, member_at, joins_rule, joins_way, closes_rule, closes_way, opens_rule, leaf_first, leads_way, unforked, unforked_way, member_after, member_first}
 use Rattle.c_rows.proofs.FirstLemmas.{within_family, after_mono}
 

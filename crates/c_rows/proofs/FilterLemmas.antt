@@ -20,10 +20,11 @@ use Rattle.c_rows.specs.Kinds.{family_of}
 use Rattle.c_rows.specs.Branches.{kind_of, label_of, build, allows, text_is, branches_label, at_label, plain_part, plain_at, is_plain, is_plain_type, defines, declares_name, declares_at}
 use Rattle.c_rows.specs.Rows.{Row, row, ways}
 use Rattle.c_rows.specs.Look.{Names, look}
-use Rattle.c_rows.specs.Range.{ends_member}
+use Rattle.c_rows.specs.Words.{ends_member}
 use Rattle.c_rows.specs.Spells.{member_kind}
 use Rattle.c_rows.specs.Choice.{implies, after, first}
-use Rattle.c_rows.specs.Letter.{Derives, leaf, branch, DerivesRow, done, word, child, argument, type_argument, fork, Anywhere, NoExpression}
+use Rattle.c_rows.specs.Derives.{Derives, leaf, branch, DerivesRow, done, word, child, argument, type_argument, fork, Anywhere}
+use Rattle.c_rows.specs.Letter.{NoExpression}
 use Rattle.c_rows.proofs.Checks.{and_left, and_right, both, modus, row_at, closes, joins, joins_rule, joins_way, closes_rule, closes_way, member_after}
 use Rattle.c_rows.proofs.FirstLemmas.{within_family, after_mono}
 use Rattle.c_rows.proofs.PlainLemmas.{declares-Branch}
@@ -192,19 +193,24 @@ module _ (names : Names) where
     row_short may (type_argument a d rest) = shorter _ _ _ (row_short may rest) (tree_short may d)
     row_short may (fork i w way) = row_short may way
 
-  -- without the filter
-  mutual
-    pub unfiltered : (may : List Token → List Token → Type 0) {k : Kind} {xs ys : List Token} {t : Tree} → Derives names may k xs t ys → Derives names Anywhere k xs t ys
-    unfiltered may (leaf h) = leaf h
-    unfiltered may (branch r w b al parts) = branch r w b al (unfiltered_row may parts)
+  -- A type may stand wherever it might before.
+  module _ (may also : List Token → List Token → Type 0) (go : (xs ys : List Token) → may xs ys → also xs ys) where
+    mutual
+      pub loosened : {k : Kind} {xs ys : List Token} {t : Tree} → Derives names may k xs t ys → Derives names also k xs t ys
+      loosened (leaf h) = leaf h
+      loosened (branch r w b al parts) = branch r w b al (loosened_row parts)
 
-    unfiltered_row : (may : List Token → List Token → Type 0) {ps : Row} {xs ys : List Token} {cs : List Tree} → DerivesRow names may ps xs cs ys → DerivesRow names Anywhere ps xs cs ys
-    unfiltered_row may done = done
-    unfiltered_row may (word h rest) = word h (unfiltered_row may rest)
-    unfiltered_row may (child d rest) = child (unfiltered may d) (unfiltered_row may rest)
-    unfiltered_row may (argument d rest) = argument (unfiltered may d) (unfiltered_row may rest)
-    unfiltered_row may (type_argument a d rest) = type_argument tt (unfiltered may d) (unfiltered_row may rest)
-    unfiltered_row may (fork i w way) = fork i w (unfiltered_row may way)
+      loosened_row : {ps : Row} {xs ys : List Token} {cs : List Tree} → DerivesRow names may ps xs cs ys → DerivesRow names also ps xs cs ys
+      loosened_row done = done
+      loosened_row (word h rest) = word h (loosened_row rest)
+      loosened_row (child d rest) = child (loosened d) (loosened_row rest)
+      loosened_row (argument d rest) = argument (loosened d) (loosened_row rest)
+      loosened_row (type_argument {xs = xs} {ys = ys} a d rest) = type_argument (go xs ys a) (loosened d) (loosened_row rest)
+      loosened_row (fork i w way) = fork i w (loosened_row way)
+
+  -- without the filter
+  pub unfiltered : (may : List Token → List Token → Type 0) {k : Kind} {xs ys : List Token} {t : Tree} → Derives names may k xs t ys → Derives names Anywhere k xs t ys
+  unfiltered may d = loosened may Anywhere (λ xs ys m. tt) d
 
   pub record Filtered (k : Kind) (xs : List Token) (t : Tree) (ys : List Token) : Type 0 where
     pub tree : Tree

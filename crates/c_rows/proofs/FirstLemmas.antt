@@ -1,7 +1,7 @@
 -- The class of the token at which a tree or the rest of a row begins.
-use Rattle.std.proofs.Common.{◌≡◌, ℕ, List, [], ◌∷◌, refl, subst, ap, sym, ◌∙◌, inl, inr, arith}
+use Rattle.std.proofs.Common.{◌≡◌, ℕ, List, [], ◌∷◌, refl, subst, ap, sym, inl, inr, arith}
 use Rattle.std.proofs.lemmas.Bool.Decides.{nat_tests}
-use Rattle.std.specs.Prelude.{Bool, true, false, ◌&&◌, ◌||◌, ◌⊎◌, nat_le, IsTrue, Option, Some, None, is_some, slice_get}
+use Rattle.std.specs.Prelude.{Bool, true, false, ◌||◌, ◌⊎◌, nat_le, IsTrue, Option, Some, None, is_some, slice_get}
 use Rattle.c_terms.specs.declared.tree.Tree.{Tree}
 use Rattle.c_rows.specs.declared.class.Class.{Class}
 use Rattle.c_rows.specs.declared.kind.Kind.{Kind}
@@ -10,12 +10,11 @@ use Rattle.c_rows.specs.declared.kind.Family.{Family}
 use Rattle.c_rows.specs.declared.kind.Family.TheVariants as family
 use Rattle.c_rows.specs.declared.symbol.Fork.{Fork}
 use Rattle.c_rows.specs.declared.symbol.Symbol.TheVariants as symbol
-use Rattle.c_rows.specs.Words.{fits, begins_specs}
-use Rattle.c_rows.specs.Kinds.{family_of, same_family, within, has_leaf, rank}
-use Rattle.c_rows.specs.Rows.{Row, row, ways}
+use Rattle.c_rows.specs.Words.{ends_member}
+use Rattle.c_rows.specs.Kinds.{family_of, same_family, within, rank}
+use Rattle.c_rows.specs.Rows.{Row, ways}
 use Rattle.c_rows.specs.Branches.{kind_of}
-use Rattle.c_rows.specs.Range.{ends_member}
-use Rattle.c_rows.specs.Choice.{after, top, reach, takes_left, tail, left, stops_fork, first, opens, choose, leads, implies, every}
+use Rattle.c_rows.specs.Choice.{after, top, reach, takes_left, tail, left, stops_fork, first, opens, choose, leads, every}
 use Rattle.c_rows.specs.Seen.{Seen, front, front_typed}
 use Rattle.c_rows.specs.Spells.{Spells, leaf, branch, Runs, done, word, child, argument, fork}
 use Rattle.c_rows.proofs.Checks.{and_left, and_right, both, modus, every_at, closes, joins, joins_at, member_at, joins_rule, joins_way, closes_rule, closes_way, opens_rule, leaf_first, leads_way, unforked, unforked_way, member_after, member_first}

@@ -1,22 +1,20 @@
 -- A tree that is right grows from its first operand.
-use Rattle.std.proofs.Common.{◌≡◌, ℕ, ◌≤◌, List, [], ◌∷◌, refl, subst, ap, sym, ◌∙◌, arith}
-use Rattle.std.proofs.lemmas.Bool.Decides.{nat_tests}
-use Rattle.std.specs.Prelude.{Bool, true, false, ◌&&◌, IsTrue, Option, Some, None, is_some, nat_le, if◌then◌else◌}
+use Rattle.std.proofs.Common.{◌≡◌, List, [], ◌∷◌, refl, subst, ap, sym}
+use Rattle.std.specs.Prelude.{Bool, true, false, IsTrue, Option, Some, None, is_some, if◌then◌else◌}
 use Rattle.c_terms.specs.declared.tree.Tree.{Tree}
 use Rattle.c_terms.specs.declared.tree.Tree.TheVariants as tree
 use Rattle.c_rows.specs.declared.kind.Kind.{Kind}
 use Rattle.c_rows.specs.declared.rule.Rule.{Rule}
 use Rattle.c_rows.specs.declared.kind.Family.{Family}
-use Rattle.c_rows.specs.declared.kind.Family.TheVariants as family
 use Rattle.c_rows.specs.declared.symbol.Symbol.TheVariants as symbol
-use Rattle.c_rows.specs.Kinds.{family_of, same_family, within, has_leaf, rank}
+use Rattle.c_rows.specs.Kinds.{family_of, same_family, within, has_leaf}
 use Rattle.c_rows.specs.Rows.{Row, row}
-use Rattle.c_rows.specs.Branches.{kind_of, label_of, build, begins, allows}
-use Rattle.c_rows.specs.Choice.{left, left_in, own, tail_of, bottom}
+use Rattle.c_rows.specs.Branches.{kind_of, build, begins, allows}
+use Rattle.c_rows.specs.Choice.{left, left_in, own, tail_of}
 use Rattle.c_rows.specs.Seen.{Seen, front}
 use Rattle.c_rows.specs.Spells.{Spells, leaf, branch, Runs, done, word, child, argument, fork}
 use Rattle.c_rows.specs.Growth.{Root, root_kind, Operand, token, headed, Grows, here, more}
-use Rattle.c_rows.proofs.Checks.{and_left, and_right, both, bottom_within, left_within}
+use Rattle.c_rows.proofs.Checks.{bottom_within, left_within}
 use Rattle.c_rows.proofs.FirstLemmas.{within_family, within_trans}
 
 pub own_head : (r : Rule) → left r ≡ None → own r ≡ row r

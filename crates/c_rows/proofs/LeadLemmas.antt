@@ -1,4 +1,5 @@
--- The classes behind which a member of a call's list may begin are those of `(` and of a comma.
+-- The classes behind which a member of a call's list may begin are those of `(` and of a comma, and the classes of names
+-- are those of names.
 use Rattle.std.proofs.Common.{◌≡◌, ℕ, List, [], ◌∷◌, refl}
 use Rattle.std.specs.Prelude.{Bool, true, false, ◌&&◌, ◌||◌, if◌then◌else◌, IsTrue, codes}
 use Rattle.std.specs.Str.{bytes_eq}
@@ -10,50 +11,67 @@ use Rattle.c_terms.specs.declared.token.MetaKind.TheVariants as meta
 use Rattle.c_rows.specs.declared.class.Class.{Class}
 use Rattle.c_rows.specs.declared.class.Class.TheVariants as class
 use Rattle.c_rows.specs.declared.word.Word.TheVariants as word
-use Rattle.c_rows.specs.Tokens.{is_sign, is_punct_kind, is_basic, is_qualifier, is_function, is_storage_text, is_struct, is_enum}
+use Rattle.c_rows.specs.Tokens.{named_kind, is_named, is_sign, is_punct_kind, is_basic, is_qualifier, is_function, is_storage_text, is_struct, is_enum}
 use Rattle.c_rows.specs.Words.{fits}
-use Rattle.c_rows.specs.Look.{Names, look, at_sign, at_name, at_string, is_of_call, has_members, begins_type, closes_before_brace, is_name_before_brace, bracket, class_of, keyword, storage, sizeof, sizeof_bracket, alignof, sign, operator, question, name, string, typ, metavariable, pattern}
+use Rattle.c_rows.specs.Look.{Names, look, at_sign, at_name, at_string, is_of_call, has_members, begins_type, begins_unknown_cast, begins_nest, nest_or, closes_before_brace, is_name_before_brace, bracket, class_of, keyword, storage, sizeof, sizeof_bracket, alignof, sign, operator, question, name, string, typ, metavariable, pattern}
 use Rattle.c_rows.specs.Range.{leads_member}
 
 abbrev pub leads_class : Class → Bool
 leads_class class.Comma = true
 leads_class c = fits word.AnyOpen c
 
-one_of : (b : Bool) (x y : Class) → leads_class x ≡ false → leads_class y ≡ false → leads_class (if b then x else y) ≡ false
+-- a class of such a token, or of a name
+abbrev telling : Class → Bool
+telling c = leads_class c || fits word.Name c
+
+untold : (c : Class) → telling c ≡ false → leads_class c ≡ false
+untold c h = left (leads_class c) (fits word.Name c) h
+  where
+    left : (a b : Bool) → (a || b) ≡ false → a ≡ false
+    left true b h = h
+    left false b h = refl
+
+unnamed : (c : Class) → telling c ≡ false → fits word.Name c ≡ false
+unnamed c h = right (leads_class c) (fits word.Name c) h
+  where
+    right : (a b : Bool) → (a || b) ≡ false → b ≡ false
+    right true b h = let never : ⊥ = cc in absurd never
+    right false b h = h
+
+-- ---- which tokens have no such class
+
+one_of : (b : Bool) (x y : Class) → telling x ≡ false → telling y ≡ false → telling (if b then x else y) ≡ false
 one_of true x y h g = h
 one_of false x y h g = g
 
-name_quiet : (ts : List Token) → leads_class (name ts) ≡ false
-name_quiet ts = one_of (at_string ts) class.NameOfString (if is_of_call ts then class.NameOfCall else class.Name) refl (one_of (is_of_call ts) class.NameOfCall class.Name refl refl)
-
-string_quiet : (ts : List Token) → leads_class (string ts) ≡ false
+string_quiet : (ts : List Token) → telling (string ts) ≡ false
 string_quiet ts = one_of (at_string ts || at_name ts) class.StrOfString class.Str refl refl
 
-typ_quiet : (ts : List Token) → leads_class (typ ts) ≡ false
+typ_quiet : (ts : List Token) → telling (typ ts) ≡ false
 typ_quiet ts = one_of (at_sign ts (codes "*") || at_sign ts (codes "(") || at_sign ts (codes "[")) class.TypOfDeclarator class.Typ refl refl
 
-question_quiet : (ts : List Token) → leads_class (question ts) ≡ false
+question_quiet : (ts : List Token) → telling (question ts) ≡ false
 question_quiet ts = one_of (at_sign ts (codes ":")) class.ShortQuestion class.Question refl refl
 
-storage_quiet : (c : Class) → leads_class (storage c) ≡ false
+storage_quiet : (c : Class) → telling (storage c) ≡ false
 storage_quiet class.StorageOfMacro = refl
 storage_quiet class.NameOfCall = refl
 storage_quiet _ = refl
 
-bracket_quiet : (names : Names) (ts : List Token) → leads_class (sizeof_bracket names ts) ≡ false
+bracket_quiet : (names : Names) (ts : List Token) → telling (sizeof_bracket names ts) ≡ false
 bracket_quiet names ts =
     one_of (begins_type names ts) (if closes_before_brace 0 ts then class.SizeofExpr else class.SizeofType) (if is_name_before_brace ts then class.Other else class.SizeofExpr)
     (one_of (closes_before_brace 0 ts) class.SizeofExpr class.SizeofType refl refl) (one_of (is_name_before_brace ts) class.Other class.SizeofExpr refl refl)
 
-sizeof_quiet : (names : Names) (ts : List Token) → leads_class (sizeof names ts) ≡ false
+sizeof_quiet : (names : Names) (ts : List Token) → telling (sizeof names ts) ≡ false
 sizeof_quiet names [] = refl
 sizeof_quiet names (t ∷ ts) = one_of (is_sign t (codes "(")) (sizeof_bracket names ts) class.SizeofExpr (bracket_quiet names ts) refl
 
-alignof_quiet : (names : Names) (ts : List Token) → leads_class (alignof names ts) ≡ false
+alignof_quiet : (names : Names) (ts : List Token) → telling (alignof names ts) ≡ false
 alignof_quiet names [] = refl
 alignof_quiet names (t ∷ ts) = one_of (is_sign t (codes "(") && begins_type names ts) class.SizeofType class.Other refl refl
 
-keyword_of : (b0 b1 b2 b3 b4 b5 b6 b7 : Bool) (x2 : Class) (x4 : Class) (x5 : Class) (x6 : Class) (x7 : Class) → leads_class x2 ≡ false → leads_class x4 ≡ false → leads_class x5 ≡ false → leads_class x6 ≡ false → leads_class x7 ≡ false → leads_class (if b0 then class.Basic else (if b1 then class.Qualifier else (if b2 then x2 else (if b3 then class.Function else (if b4 then x4 else (if b5 then x5 else (if b6 then x6 else (if b7 then x7 else class.Other)))))))) ≡ false
+keyword_of : (b0 b1 b2 b3 b4 b5 b6 b7 : Bool) (x2 : Class) (x4 : Class) (x5 : Class) (x6 : Class) (x7 : Class) → telling x2 ≡ false → telling x4 ≡ false → telling x5 ≡ false → telling x6 ≡ false → telling x7 ≡ false → telling (if b0 then class.Basic else (if b1 then class.Qualifier else (if b2 then x2 else (if b3 then class.Function else (if b4 then x4 else (if b5 then x5 else (if b6 then x6 else (if b7 then x7 else class.Other)))))))) ≡ false
 keyword_of true b1 b2 b3 b4 b5 b6 b7 x2 x4 x5 x6 x7 hx2 hx4 hx5 hx6 hx7 = refl
 keyword_of false true b2 b3 b4 b5 b6 b7 x2 x4 x5 x6 x7 hx2 hx4 hx5 hx6 hx7 = refl
 keyword_of false false true b3 b4 b5 b6 b7 x2 x4 x5 x6 x7 hx2 hx4 hx5 hx6 hx7 = hx2
@@ -64,10 +82,10 @@ keyword_of false false false false false false true b7 x2 x4 x5 x6 x7 hx2 hx4 hx
 keyword_of false false false false false false false true x2 x4 x5 x6 x7 hx2 hx4 hx5 hx6 hx7 = hx7
 keyword_of false false false false false false false false x2 x4 x5 x6 x7 hx2 hx4 hx5 hx6 hx7 = refl
 
-keyword_quiet : (names : Names) (s : List ℕ) (ts : List Token) (next : Class) → leads_class (keyword names s ts next) ≡ false
+keyword_quiet : (names : Names) (s : List ℕ) (ts : List Token) (next : Class) → telling (keyword names s ts next) ≡ false
 keyword_quiet names s ts next = keyword_of (is_basic s) (is_qualifier s) (is_storage_text s) (is_function s) (is_struct s) (is_enum s) (bytes_eq s (codes "sizeof")) (bytes_eq s (codes "_Alignof")) (storage next) ((if has_members ts then class.StructBody else class.Struct)) ((if has_members ts then class.EnumBody else class.Enum)) (sizeof names ts) (alignof names ts) (storage_quiet next) (one_of (has_members ts) class.StructBody class.Struct refl refl) (one_of (has_members ts) class.EnumBody class.Enum refl refl) (sizeof_quiet names ts) (alignof_quiet names ts)
 
-operator_of : (b0 b1 b2 b3 b4 b5 b6 b7 b8 b9 : Bool) → leads_class (if b0 then class.Step else (if b1 then class.Equality else (if b2 then class.Order else (if b3 then class.AndAnd else (if b4 then class.OrOr else (if b5 then class.Or else (if b6 then class.Xor else (if b7 then class.Slash else (if b8 then class.Shift else (if b9 then class.Assign else class.Other)))))))))) ≡ false
+operator_of : (b0 b1 b2 b3 b4 b5 b6 b7 b8 b9 : Bool) → telling (if b0 then class.Step else (if b1 then class.Equality else (if b2 then class.Order else (if b3 then class.AndAnd else (if b4 then class.OrOr else (if b5 then class.Or else (if b6 then class.Xor else (if b7 then class.Slash else (if b8 then class.Shift else (if b9 then class.Assign else class.Other)))))))))) ≡ false
 operator_of true b1 b2 b3 b4 b5 b6 b7 b8 b9 = refl
 operator_of false true b2 b3 b4 b5 b6 b7 b8 b9 = refl
 operator_of false false true b3 b4 b5 b6 b7 b8 b9 = refl
@@ -80,29 +98,20 @@ operator_of false false false false false false false false true b9 = refl
 operator_of false false false false false false false false false true = refl
 operator_of false false false false false false false false false false = refl
 
-operator_quiet : (s : List ℕ) → leads_class (operator s) ≡ false
+operator_quiet : (s : List ℕ) → telling (operator s) ≡ false
 operator_quiet s = operator_of (bytes_eq s (codes "++") || bytes_eq s (codes "--")) (bytes_eq s (codes "==") || bytes_eq s (codes "!=")) (bytes_eq s (codes "<") || bytes_eq s (codes ">") || bytes_eq s (codes "<=") || bytes_eq s (codes ">=")) (bytes_eq s (codes "&&")) (bytes_eq s (codes "||")) (bytes_eq s (codes "|")) (bytes_eq s (codes "^")) (bytes_eq s (codes "/") || bytes_eq s (codes "%")) (bytes_eq s (codes "<<") || bytes_eq s (codes ">>")) (bytes_eq s (codes "*=") || bytes_eq s (codes "/=") || bytes_eq s (codes "%=") || bytes_eq s (codes "+=") || bytes_eq s (codes "-=") || bytes_eq s (codes "<<=") || bytes_eq s (codes ">>=") || bytes_eq s (codes "&=") || bytes_eq s (codes "^=") || bytes_eq s (codes "|="))
 
-pattern_of : (b0 b1 b2 b3 : Bool) → leads_class (if b0 then class.PatOpen else (if b1 then class.PatBar else (if b2 then class.PatAmp else (if b3 then class.PatClose else class.Other)))) ≡ false
+pattern_of : (b0 b1 b2 b3 : Bool) → telling (if b0 then class.PatOpen else (if b1 then class.PatBar else (if b2 then class.PatAmp else (if b3 then class.PatClose else class.Other)))) ≡ false
 pattern_of true b1 b2 b3 = refl
 pattern_of false true b2 b3 = refl
 pattern_of false false true b3 = refl
 pattern_of false false false true = refl
 pattern_of false false false false = refl
 
-pattern_quiet : (s : List ℕ) → leads_class (pattern s) ≡ false
+pattern_quiet : (s : List ℕ) → telling (pattern s) ≡ false
 pattern_quiet s = pattern_of (bytes_eq s (codes "\\(")) (bytes_eq s (codes "\\|")) (bytes_eq s (codes "\\&")) (bytes_eq s (codes "\\)"))
 
-meta_quiet : (k : MetaKind) (ts : List Token) → leads_class (metavariable k ts) ≡ false
-meta_quiet meta.Expr ts = refl
-meta_quiet meta.Constant ts = refl
-meta_quiet meta.ExprList ts = refl
-meta_quiet meta.Ident ts = name_quiet ts
-meta_quiet meta.Typ ts = typ_quiet ts
-meta_quiet meta.Params ts = refl
-meta_quiet meta.Stmt ts = refl
-
-sign_of : (b0 b1 b2 b3 b4 b5 b6 b7 b8 b9 b10 b11 b12 b13 b14 : Bool) (x12 : Class) (z : Class) → leads_class x12 ≡ false → leads_class z ≡ false → leads_class (if b0 then class.Semicolon else (if b1 then class.Arrow else (if b2 then class.Dot else (if b3 then class.Equal else (if b4 then class.LeftBracket else (if b5 then class.RightBracket else (if b6 then class.LeftBrace else (if b7 then class.RightBrace else (if b8 then class.Star else (if b9 then class.And else (if b10 then class.Plus else (if b11 then class.Not else (if b12 then x12 else (if b13 then class.Colon else (if b14 then class.Ellipsis else z))))))))))))))) ≡ false
+sign_of : (b0 b1 b2 b3 b4 b5 b6 b7 b8 b9 b10 b11 b12 b13 b14 : Bool) (x12 : Class) (z : Class) → telling x12 ≡ false → telling z ≡ false → telling (if b0 then class.Semicolon else (if b1 then class.Arrow else (if b2 then class.Dot else (if b3 then class.Equal else (if b4 then class.LeftBracket else (if b5 then class.RightBracket else (if b6 then class.LeftBrace else (if b7 then class.RightBrace else (if b8 then class.Star else (if b9 then class.And else (if b10 then class.Plus else (if b11 then class.Not else (if b12 then x12 else (if b13 then class.Colon else (if b14 then class.Ellipsis else z))))))))))))))) ≡ false
 sign_of true b1 b2 b3 b4 b5 b6 b7 b8 b9 b10 b11 b12 b13 b14 x12 z hx12 hz = refl
 sign_of false true b2 b3 b4 b5 b6 b7 b8 b9 b10 b11 b12 b13 b14 x12 z hx12 hz = refl
 sign_of false false true b3 b4 b5 b6 b7 b8 b9 b10 b11 b12 b13 b14 x12 z hx12 hz = refl
@@ -124,8 +133,27 @@ sign_of false false false false false false false false false false false false 
 abbrev other_sign : List ℕ → List Token → Class
 other_sign s ts = if bytes_eq s (codes ";") then class.Semicolon else (if bytes_eq s (codes "->") then class.Arrow else (if bytes_eq s (codes ".") then class.Dot else (if bytes_eq s (codes "=") then class.Equal else (if bytes_eq s (codes "[") then class.LeftBracket else (if bytes_eq s (codes "]") then class.RightBracket else (if bytes_eq s (codes "{") then class.LeftBrace else (if bytes_eq s (codes "}") then class.RightBrace else (if bytes_eq s (codes "*") then class.Star else (if bytes_eq s (codes "&") then class.And else (if bytes_eq s (codes "+") || bytes_eq s (codes "-") then class.Plus else (if bytes_eq s (codes "!") || bytes_eq s (codes "~") then class.Not else (if bytes_eq s (codes "?") then question ts else (if bytes_eq s (codes ":") then class.Colon else (if bytes_eq s (codes "...") then class.Ellipsis else operator s))))))))))))))
 
-other_quiet : (s : List ℕ) (ts : List Token) → leads_class (other_sign s ts) ≡ false
+other_quiet : (s : List ℕ) (ts : List Token) → telling (other_sign s ts) ≡ false
 other_quiet s ts = sign_of (bytes_eq s (codes ";")) (bytes_eq s (codes "->")) (bytes_eq s (codes ".")) (bytes_eq s (codes "=")) (bytes_eq s (codes "[")) (bytes_eq s (codes "]")) (bytes_eq s (codes "{")) (bytes_eq s (codes "}")) (bytes_eq s (codes "*")) (bytes_eq s (codes "&")) (bytes_eq s (codes "+") || bytes_eq s (codes "-")) (bytes_eq s (codes "!") || bytes_eq s (codes "~")) (bytes_eq s (codes "?")) (bytes_eq s (codes ":")) (bytes_eq s (codes "...")) (question ts) (operator s) (question_quiet ts) (operator_quiet s)
+
+-- ---- where a member may begin
+
+name_leads : (a b : Bool) → leads_class (if a then class.NameOfString else (if b then class.NameOfCall else class.Name)) ≡ false
+name_leads true b = refl
+name_leads false true = refl
+name_leads false false = refl
+
+name_quiet : (ts : List Token) → leads_class (name ts) ≡ false
+name_quiet ts = name_leads (at_string ts) (is_of_call ts)
+
+meta_quiet : (k : MetaKind) (ts : List Token) → leads_class (metavariable k ts) ≡ false
+meta_quiet meta.Expr ts = refl
+meta_quiet meta.Constant ts = refl
+meta_quiet meta.ExprList ts = refl
+meta_quiet meta.Ident ts = name_quiet ts
+meta_quiet meta.Typ ts = untold (typ ts) (typ_quiet ts)
+meta_quiet meta.Params ts = refl
+meta_quiet meta.Stmt ts = refl
 
 first_leads : (a b c : Bool) (x w : Class) → leads_class w ≡ false → IsTrue (leads_class (if a then x else (if b then class.Close else (if c then class.Comma else w)))) → IsTrue (a || c)
 first_leads true b c x w h l = refl
@@ -135,7 +163,7 @@ first_leads false false false x w h l = let never : ⊥ = cc in absurd never
 
 sign_leads : (names : Names) (s : List ℕ) (ts : List Token) → IsTrue (leads_class (sign names s ts)) → IsTrue (bytes_eq s (codes "(") || bytes_eq s (codes ","))
 sign_leads names s ts l =
-    first_leads (bytes_eq s (codes "(")) (bytes_eq s (codes ")")) (bytes_eq s (codes ",")) (bracket names ts) (other_sign s ts) (other_quiet s ts) l
+    first_leads (bytes_eq s (codes "(")) (bytes_eq s (codes ")")) (bytes_eq s (codes ",")) (bracket names ts) (other_sign s ts) (untold (other_sign s ts) (other_quiet s ts)) l
 
 quiet_leads : {A : Type 0} (c : Class) → leads_class c ≡ false → IsTrue (leads_class c) → A
 quiet_leads c h l = let never : ⊥ = cc in absurd never
@@ -143,16 +171,70 @@ quiet_leads c h l = let never : ⊥ = cc in absurd never
 kind_leads : (names : Names) (k : TokenKind) (s : List ℕ) (ts : List Token) (next : Class) → IsTrue (leads_class (class_of names k s ts next))
     → IsTrue (is_punct_kind k && bytes_eq s (codes "(") || is_punct_kind k && bytes_eq s (codes ","))
 kind_leads names token.Name s ts next l = quiet_leads (name ts) (name_quiet ts) l
-kind_leads names token.Keyword s ts next l = quiet_leads (keyword names s ts next) (keyword_quiet names s ts next) l
+kind_leads names token.Keyword s ts next l = quiet_leads (keyword names s ts next) (untold (keyword names s ts next) (keyword_quiet names s ts next)) l
 kind_leads names token.Number s ts next l = let never : ⊥ = cc in absurd never
 kind_leads names token.Char s ts next l = let never : ⊥ = cc in absurd never
-kind_leads names token.Str s ts next l = quiet_leads (string ts) (string_quiet ts) l
+kind_leads names token.Str s ts next l = quiet_leads (string ts) (untold (string ts) (string_quiet ts)) l
 kind_leads names token.Punct s ts next l = sign_leads names s ts l
 kind_leads names token.Stray s ts next l = let never : ⊥ = cc in absurd never
 kind_leads names (token.Meta k) s ts next l = quiet_leads (metavariable k ts) (meta_quiet k ts) l
 kind_leads names token.Dots s ts next l = let never : ⊥ = cc in absurd never
-kind_leads names token.Pat s ts next l = quiet_leads (pattern s) (pattern_quiet s) l
+kind_leads names token.Pat s ts next l = quiet_leads (pattern s) (untold (pattern s) (pattern_quiet s)) l
 
 pub token_leads : (names : Names) (t : Token) (ts : List Token) → IsTrue (leads_class (look names (t ∷ ts))) → IsTrue (leads_member t)
 unfolding look
 token_leads names t ts l = kind_leads names t.kind t.text ts (look names ts) l
+
+-- ---- names
+
+nest_unnamed : (b : Bool) (x y : Class) → fits word.Name x ≡ false → fits word.Name y ≡ false → fits word.Name (nest_or b x y) ≡ false
+nest_unnamed true x y h g = h
+nest_unnamed false x y h g = g
+
+bracket_unnamed : (names : Names) (ts : List Token) → fits word.Name (bracket names ts) ≡ false
+bracket_unnamed names ts = pick (begins_type names ts || begins_unknown_cast ts) (closes_before_brace 0 ts)
+  where
+    pick : (a b : Bool) → fits word.Name (if a then (if b then nest_or (begins_nest names ts) class.LiteralNest class.LiteralList else nest_or (begins_nest names ts) class.CastNest class.CastList)
+        else nest_or (begins_nest names ts) class.ParenNest class.ParenList) ≡ false
+    pick true true = nest_unnamed (begins_nest names ts) class.LiteralNest class.LiteralList refl refl
+    pick true false = nest_unnamed (begins_nest names ts) class.CastNest class.CastList refl refl
+    pick false b = nest_unnamed (begins_nest names ts) class.ParenNest class.ParenList refl refl
+
+first_unnamed : (a b c : Bool) (x w : Class) → fits word.Name x ≡ false → fits word.Name w ≡ false → fits word.Name (if a then x else (if b then class.Close else (if c then class.Comma else w))) ≡ false
+first_unnamed true b c x w h g = h
+first_unnamed false true c x w h g = refl
+first_unnamed false false true x w h g = refl
+first_unnamed false false false x w h g = g
+
+sign_unnamed : (names : Names) (s : List ℕ) (ts : List Token) → fits word.Name (sign names s ts) ≡ false
+sign_unnamed names s ts =
+    first_unnamed (bytes_eq s (codes "(")) (bytes_eq s (codes ")")) (bytes_eq s (codes ",")) (bracket names ts) (other_sign s ts) (bracket_unnamed names ts) (unnamed (other_sign s ts) (other_quiet s ts))
+
+no_name : {A : Type 0} (c : Class) → fits word.Name c ≡ false → IsTrue (fits word.Name c) → A
+no_name c h l = let never : ⊥ = cc in absurd never
+
+meta_named : (k : MetaKind) (ts : List Token) → IsTrue (fits word.Name (metavariable k ts)) → IsTrue (named_kind (token.Meta k))
+meta_named meta.Expr ts l = let never : ⊥ = cc in absurd never
+meta_named meta.Constant ts l = let never : ⊥ = cc in absurd never
+meta_named meta.ExprList ts l = let never : ⊥ = cc in absurd never
+meta_named meta.Ident ts l = refl
+meta_named meta.Typ ts l = no_name (typ ts) (unnamed (typ ts) (typ_quiet ts)) l
+meta_named meta.Params ts l = let never : ⊥ = cc in absurd never
+meta_named meta.Stmt ts l = let never : ⊥ = cc in absurd never
+
+kind_named : (names : Names) (k : TokenKind) (s : List ℕ) (ts : List Token) (next : Class) → IsTrue (fits word.Name (class_of names k s ts next)) → IsTrue (named_kind k)
+kind_named names token.Name s ts next l = refl
+kind_named names token.Keyword s ts next l = no_name (keyword names s ts next) (unnamed (keyword names s ts next) (keyword_quiet names s ts next)) l
+kind_named names token.Number s ts next l = let never : ⊥ = cc in absurd never
+kind_named names token.Char s ts next l = let never : ⊥ = cc in absurd never
+kind_named names token.Str s ts next l = no_name (string ts) (unnamed (string ts) (string_quiet ts)) l
+kind_named names token.Punct s ts next l = no_name (sign names s ts) (sign_unnamed names s ts) l
+kind_named names token.Stray s ts next l = let never : ⊥ = cc in absurd never
+kind_named names (token.Meta k) s ts next l = meta_named k ts l
+kind_named names token.Dots s ts next l = let never : ⊥ = cc in absurd never
+kind_named names token.Pat s ts next l = no_name (pattern s) (unnamed (pattern s) (pattern_quiet s)) l
+
+-- A token of a name's class is a name.
+pub token_named : (names : Names) (t : Token) (ts : List Token) → IsTrue (fits word.Name (look names (t ∷ ts))) → IsTrue (is_named t)
+unfolding look
+token_named names t ts l = kind_named names t.kind t.text ts (look names ts) l

@@ -1,11 +1,10 @@
 -- How many tokens a tree and the rest of a row take.
-use Rattle.std.proofs.Common.{◌≡◌, ℕ, ◌+◌, ◌*◌, ◌≤◌, ◌<◌, zero, suc, eqb-true, List, [], ◌∷◌, length, refl, subst, arith}
-use Rattle.std.specs.Prelude.{◌==◌, ◌||◌, ◌&&◌, Bool, true, false, IsTrue, Some, if◌then◌else◌, nat_le, slice_get}
+use Rattle.std.proofs.Common.{◌≡◌, ℕ, ◌+◌, ◌*◌, ◌≤◌, ◌<◌, eqb-true, List, [], ◌∷◌, length, refl, subst, arith}
+use Rattle.std.specs.Prelude.{◌==◌, ◌||◌, Bool, true, false, IsTrue, Some, if◌then◌else◌, nat_le, slice_get}
 use Rattle.std.specs.List.{list_all, list_any}
 use Rattle.std.proofs.lemmas.Bool.Decides.{nat_tests}
 use Rattle.c_terms.specs.declared.tree.Tree.{Tree}
 use Rattle.c_rows.specs.declared.kind.Kind.{Kind}
-use Rattle.c_rows.specs.declared.kind.Kind.TheVariants as kind
 use Rattle.c_rows.specs.declared.kind.Family.{Family}
 use Rattle.c_rows.specs.declared.rule.Rule.{Rule}
 use Rattle.c_rows.specs.declared.rule.Rule.TheVariants as rule
@@ -13,7 +12,7 @@ use Rattle.c_rows.specs.declared.symbol.Symbol.{Symbol}
 use Rattle.c_rows.specs.declared.symbol.Symbol.TheVariants as symbol
 use Rattle.c_rows.specs.declared.symbol.Fork.{Fork}
 use Rattle.c_rows.specs.declared.symbol.Fork.TheVariants as forks
-use Rattle.c_rows.specs.Kinds.{family_of, within}
+use Rattle.c_rows.specs.Kinds.{family_of}
 use Rattle.c_rows.specs.Rows.{Row, row, ways}
 use Rattle.c_rows.specs.Branches.{kind_of}
 use Rattle.c_rows.specs.Choice.{full, weight, steady, row_ok, row_fine}

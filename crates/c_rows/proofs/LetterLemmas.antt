@@ -1,159 +1,100 @@
--- The trees by the letter are those that the rows allow over the tokens as they are seen.
-use Rattle.std.proofs.Common.{◌≡◌, ◌≤◌, length, ℕ, zero, suc, List, [], ◌∷◌, refl, subst, sym, arith}
-use Rattle.std.specs.Prelude.{Bool, true, false, not, ◌&&◌, ⊤, IsTrue}
+-- What the rule on types in a call's list comes to where the rows alone say which expressions there are.
+use Rattle.std.proofs.Common.{◌≤◌, length, ℕ, zero, suc, List, [], ◌∷◌, refl, arith}
+use Rattle.std.specs.Prelude.{true, false, IsTrue}
 use Rattle.c_terms.specs.declared.token.Token.{Token}
 use Rattle.c_terms.specs.declared.tree.Tree.{Tree}
 use Rattle.c_terms.specs.Trees.{levels}
-use Rattle.c_rows.specs.declared.class.Class.{Class}
-use Rattle.c_rows.specs.declared.class.Class.TheVariants as class
 use Rattle.c_rows.specs.declared.kind.Kind.{Kind}
 use Rattle.c_rows.specs.declared.kind.Kind.TheVariants as kind
-use Rattle.c_rows.specs.Kinds.{family_of}
+use Rattle.c_rows.specs.Words.{ends_member}
+use Rattle.c_rows.specs.Branches.{kind_of}
+use Rattle.c_rows.specs.Rows.{Row}
 use Rattle.c_rows.specs.Look.{Names, look}
-use Rattle.c_rows.specs.Seen.{Seen, front, front_typed}
-use Rattle.c_rows.specs.Spells.{Spells}
-use Rattle.c_rows.specs.Range.{ends_member, NoMember, AreSeenAs}
-use Rattle.c_rows.specs.Letter.{stands_alone, Derives, Anywhere, NoExpression, NoRival, AllLow}
-use Rattle.c_rows.specs.Choice.{implies, after}
-use Rattle.c_rows.proofs.Checks.{and_left, and_right, modus, member_after}
-use Rattle.c_rows.proofs.DerivesLemmas.{tree_first}
-use Rattle.c_rows.proofs.BracketLemmas.{same_end}
-use Rattle.c_rows.proofs.MemberLemmas.{is_args, never_needs}
-use Rattle.c_rows.proofs.SeenLemmas.{flag_free}
-use Rattle.c_rows.proofs.FilterLemmas.{filters, unfiltered}
-use Rattle.c_rows.proofs.SightLemmas.{front_is, take_tree, keep_tree, some_token, some_expression}
-
-abbrev alone_at : Kind → Bool
-alone_at k = implies (stands_alone k) (after k class.End && not (is_args (family_of k)))
-
-alone_test : (k : Kind) → IsTrue (alone_at k)
-alone_test kind.Post = refl
-alone_test _ = refl
+use Rattle.c_rows.specs.Choice.{after}
+use Rattle.c_rows.specs.Derives.{Derives, leaf, branch, DerivesRow, done, word, child, argument, type_argument, fork, Anywhere}
+use Rattle.c_rows.specs.Trees.{NoRival, IsTreeOf, stands_alone}
+use Rattle.c_rows.specs.Letter.{NoExpression, IsLetterTreeOf, AllLow}
+use Rattle.c_rows.proofs.Checks.{closes, joins, joins_rule, joins_way, closes_rule, closes_way, member_after}
+use Rattle.c_rows.proofs.FirstLemmas.{after_mono}
+use Rattle.c_rows.proofs.DerivesLemmas.{tree_first, member_end, child_end, joins_rest, joins_member, closes_rest, closes_member}
+use Rattle.c_rows.proofs.FilterLemmas.{filters, loosened, unfiltered}
+use Rattle.c_rows.proofs.SightLemmas.{some_token, some_expression}
+use Rattle.c_rows.proofs.TreeLemmas.{alone_after}
 
 module _ (names : Names) where
-  -- ---- the letter
+  -- `Rest` holds of what is left of the tokens. Where a type stands, it may also stand by the other condition.
+  module _ (may also : List Token → List Token → Type 0) (Rest : List Token → Type 0) (fall : (t : Token) (ts : List Token) → Rest (t ∷ ts) → Rest ts) where
+    mutual
+      rest_tree : {k : Kind} {xs ys : List Token} {t : Tree} → Derives names may k xs t ys → Rest xs → Rest ys
+      rest_tree (leaf {t = t} {ys = ys} h) p = fall t ys p
+      rest_tree (branch r w b al parts) p = rest_row parts p
 
-  front_end : (l : Bool) (us : List Token) (ys : List Seen) → AreSeenAs names l us ys → IsTrue (ends_member (front ys)) → IsTrue (ends_member (look names us))
-  front_end l us ys a h = subst (λ (c : Class). IsTrue (ends_member c)) (front_is names l us ys a) h
+      rest_row : {ps : Row} {xs ys : List Token} {cs : List Tree} → DerivesRow names may ps xs cs ys → Rest xs → Rest ys
+      rest_row done p = p
+      rest_row (word {t = t} {xs = xs} h rest) p = rest_row rest (fall t xs p)
+      rest_row (child d rest) p = rest_row rest (rest_tree d p)
+      rest_row (argument d rest) p = rest_row rest (rest_tree d p)
+      rest_row (type_argument a d rest) p = rest_row rest (rest_tree d p)
+      rest_row (fork i w way) p = rest_row way p
 
-  end_front : (l : Bool) (us : List Token) (ys : List Seen) → AreSeenAs names l us ys → IsTrue (ends_member (look names us)) → IsTrue (ends_member (front ys))
-  end_front l us ys a h = subst (λ (c : Class). IsTrue (ends_member c)) (sym (front_is names l us ys a)) h
+    module _ (go : (ts us : List Token) (t : Tree) → Rest ts → Derives names may kind.TypeArg ts t us → IsTrue (ends_member (look names us)) → may ts us → also ts us) where
+      mutual
+        pub changed : {k : Kind} {xs ys : List Token} {t : Tree} → Derives names may k xs t ys → Rest xs → IsTrue (after k (look names ys)) → Derives names also k xs t ys
+        changed (leaf h) p f = leaf h
+        changed {k} {ys = ys} (branch r w b al parts) p f =
+            branch r w b al (changed_row parts p (joins_rule r) (closes_rule r (look names ys) (after_mono (kind_of r) k (look names ys) w f)))
 
-  nothing_left : (l : Bool) (ss : List Seen) → AreSeenAs names l [] ss → ss ≡ []
-  nothing_left l [] a = refl
-  nothing_left l (s ∷ ss) a = absurd a
+        changed_row : {ps : Row} {xs ys : List Token} {cs : List Tree} → DerivesRow names may ps xs cs ys → Rest xs → IsTrue (joins ps) → IsTrue (closes ps (look names ys)) → DerivesRow names also ps xs cs ys
+        changed_row done p j c = done
+        changed_row (word {t = t} {xs = xs} h rest) p j c = word h (changed_row rest (fall t xs p) j c)
+        changed_row (child {k = k} {ps = ps} {zs = ys} d rest) p j c =
+            child (changed d p (child_end names may k rest j c)) (changed_row rest (rest_tree d p) (joins_rest k ps j) (closes_rest k ps (look names ys) c))
+        changed_row (argument {ps = ps} {ys = us} {zs = ys} d rest) p j c =
+            argument (changed d p (member_after false (look names us) (member_end names may rest j c))) (changed_row rest (rest_tree d p) (joins_member ps j) (closes_member ps (look names ys) c))
+        changed_row (type_argument {ps = ps} {xs = xs} {ys = us} {zs = ys} {t = t} a d rest) p j c =
+            let h : IsTrue (ends_member (look names us)) = member_end names may rest j c in
+            type_argument (go xs us t p d h a) (changed d p (member_after true (look names us) h)) (changed_row rest (rest_tree d p) (joins_member ps j) (closes_member ps (look names ys) c))
+        changed_row (fork {f = f} {ps = ps} {ys = ys} i w way) p j c = fork i w (changed_row way p (joins_way f i ps w) (closes_way f i ps (look names ys) w c))
 
-  no_tokens : (l : Bool) (ts : List Token) → AreSeenAs names l ts [] → ts ≡ []
-  no_tokens l [] a = refl
-  no_tokens l (t ∷ ts) a = absurd a
+  -- Where no expression of the rows stands, none that obeys the rule does.
+  none_loose : (n : ℕ) (xs ys : List Token) → NoExpression names xs ys → NoRival names n xs ys
+  none_loose zero xs ys f = tt
+  none_loose (suc n) xs ys f = λ u d l. f u (unfiltered names (NoRival names n) d)
 
-  flag_none : (l : Bool) (ts : List Token) (ss : List Seen) → AreSeenAs names l ts ss → IsTrue (front_typed ss) → NoMember ss
-  flag_none l ts [] a h = let never : ⊥ = cc in absurd never
-  flag_none l [] (s ∷ ss) a h = absurd a
-  flag_none l (t ∷ ts) (s ∷ ss) a h = flag_free s ss (a.0.marked h).2
-
-  no_args : {A : Type 0} → IsTrue (is_args (family_of kind.AssignLevel)) → A
-  no_args h = let never : ⊥ = cc in absurd never
-
-  abbrev Any : List Token → Type 0
-  Any ts = ⊤
-
-  alone : (k : Kind) → IsTrue (stands_alone k) → IsTrue (after k class.End && not (is_args (family_of k)))
-  alone k o = modus (stands_alone k) (after k class.End && not (is_args (family_of k))) (alone_test k) o
-
-  alone_after : (k : Kind) → IsTrue (stands_alone k) → IsTrue (after k class.End)
-  alone_after k o = and_left (after k class.End) (not (is_args (family_of k))) (alone k o)
-
-  alone_args : (k : Kind) {A : Type 0} → IsTrue (stands_alone k) → IsTrue (is_args (family_of k)) → A
-  alone_args k o = never_needs (is_args (family_of k)) (and_right (after k class.End) (not (is_args (family_of k))) (alone k o))
-
-  -- A whole tree that is seen, from a reading of types.
-  module _ (may : List Token → List Token → Type 0) (Wide Narrow : List Token → Type 0) (fall : (t : Token) (ts : List Token) → Wide (t ∷ ts) → Narrow ts) (widen : (ts : List Token) → Narrow ts → Wide ts) where
-    whole_taken : ((l : Bool) (ts us : List Token) (ss ys : List Seen) (t : Tree) → AreSeenAs names l ts ss → IsTrue (front_typed ss) → Derives names may kind.TypeArg ts t us
-        → IsTrue (ends_member (look names us)) → Narrow ts → may ts us)
-        → (k : Kind) (ts : List Token) (t : Tree) (ss : List Seen) → IsTrue (stands_alone k) → AreSeenAs names false ts ss → Wide ts → Spells k ss t [] → Derives names may k ts t []
-    whole_taken allowed k ts t ss o a p d =
-        let x = take_tree names may Wide Narrow fall widen allowed d false ts a p (alone_args k o) (alone_after k o) in
-        subst (λ (r : List Token). Derives names may k ts t r) (no_tokens x.leads x.rest x.right) x.derived
-
-    whole_kept : ((l : Bool) (ts us : List Token) (ss : List Seen) (t : Tree) → AreSeenAs names l ts ss → may ts us → Derives names may kind.TypeArg ts t us
-        → IsTrue (ends_member (look names us)) → Narrow ts → NoMember ss)
-        → (k : Kind) (ts : List Token) (t : Tree) (ss : List Seen) → IsTrue (stands_alone k) → AreSeenAs names false ts ss → Wide ts → Derives names may k ts t [] → levels t ≤ 1000 → Spells k ss t []
-    unfolding look
-    whole_kept barred k ts t ss o a p d n =
-        let x = keep_tree names Wide Narrow fall widen may barred d false ss a p (alone_args k o) (alone_after k o) n in
-        subst (λ (r : List Seen). Spells k ss t r) (nothing_left x.leads x.rest x.right) x.spelled
-
-  -- Where a type stands by the letter, no expression is seen that could be a member.
-  -- Proof: it would end where the type ends, and be an expression by the rows alone.
-  letter_barred : (l : Bool) (ts us : List Token) (ss : List Seen) (t : Tree) → AreSeenAs names l ts ss → NoExpression names ts us → Derives names (NoExpression names) kind.TypeArg ts t us
-      → IsTrue (ends_member (look names us)) → Any ts → NoMember ss
-  letter_barred l ts us ss t a none d h p = λ u ys x g n.
-      let e = take_tree names Anywhere Any Any (λ t ts p. tt) (λ ts p. tt) (λ l ts us ss ys t a s d h p. tt) x l ts a tt no_args (member_after false (front ys) g) in
-      let same : us ≡ e.rest = same_end names (NoExpression names) Anywhere d e.derived h (front_end e.leads e.rest ys e.right g) in
-      none u (subst (λ (zs : List Token). Derives names Anywhere kind.AssignLevel ts u zs) (sym same) e.derived)
-
-  -- A tree by the letter is one that the rows allow over the tokens as they are seen.
-  pub letter_spelled : (k : Kind) (ts : List Token) (t : Tree) (ss : List Seen) → IsTrue (stands_alone k) → AreSeenAs names false ts ss → Derives names (NoExpression names) k ts t [] → levels t ≤ 1000 → Spells k ss t []
-  letter_spelled k ts t ss o a d n = whole_kept (NoExpression names) Any Any (λ t ts p. tt) (λ ts p. tt) letter_barred k ts t ss o a tt d n
+  pub letter_tree : (k : Kind) (ts : List Token) (t : Tree) → IsLetterTreeOf k names ts t → IsTreeOf k names ts t
+  letter_tree k ts t h = record { derived = loosened names (NoExpression names) (NoRival names (length ts)) (none_loose (length ts)) h.derived; shallow = h.shallow }
 
   low_here : (ts : List Token) (u : Tree) (ys : List Token) → AllLow names ts → Derives names Anywhere kind.AssignLevel ts u ys → IsTrue (ends_member (look names ys)) → levels u ≤ 1000
   low_here [] u ys p d h = absurd (some_expression names [] (tree_first names Anywhere d (member_after false (look names ys) h)) refl)
   low_here (t ∷ ts) u ys p d h = p.0 u ys d h
 
-  -- Where a type is seen to stand, no expression of the rows has its tokens, if all of them are low.
-  -- Proof: an expression by the letter would have them too, and would be seen.
-  letter_allowed : (l : Bool) (ts us : List Token) (ss ys : List Seen) (t : Tree) → AreSeenAs names l ts ss → IsTrue (front_typed ss) → Derives names (NoExpression names) kind.TypeArg ts t us
-      → IsTrue (ends_member (look names us)) → AllLow names ts → NoExpression names ts us
-  letter_allowed l ts us ss ys t a o d h p = λ u e.
-      filters names (length ts) false ts us u e h (le_self (length ts)) (λ x.
-      let low : levels x.tree ≤ 1000 = low_here ts x.tree us p (unfiltered names (NoExpression names) x.derived) h in
-      let y = keep_tree names Any Any (λ t ts p. tt) (λ ts p. tt) (NoExpression names) letter_barred x.derived l ss a tt no_args (member_after false (look names us) h) low in
-      flag_none l ts ss a o x.tree y.rest y.spelled (end_front y.leads us y.rest y.right h) low)
+  abbrev Low : ℕ → List Token → Type 0
+  Low n ts = AllLow names ts × (length ts ≤ n)
+
+  fall_low : (n : ℕ) (t : Token) (ts : List Token) → Low n (t ∷ ts) → Low n ts
+  fall_low n t ts p = (p.0.1, less (length ts) p.1)
     where
-      le_self : (n : ℕ) → n ≤ n
-      le_self n = omega arith
+      less : (m : ℕ) → suc m ≤ n → m ≤ n
+      less m h = omega arith
 
-  -- Where all expressions are low, a tree that is seen is one by the letter.
-  pub spelled_letter : (k : Kind) (ts : List Token) (t : Tree) (ss : List Seen) → IsTrue (stands_alone k) → AreSeenAs names false ts ss → AllLow names ts → Spells k ss t [] → Derives names (NoExpression names) k ts t []
-  spelled_letter k ts t ss o a p d = whole_taken (NoExpression names) (AllLow names) (AllLow names) (λ t ts p. p.1) (λ ts p. p) letter_allowed k ts t ss o a p d
+  le_self : (n : ℕ) → n ≤ n
+  le_self n = omega arith
 
-  -- ---- the rule, asked of the rivals too
-
-  abbrev Short : ℕ → List Token → Type 0
-  Short n ts = length ts ≤ n
-
-  fall_short : (n : ℕ) (t : Token) (ts : List Token) → Short (suc n) (t ∷ ts) → Short n ts
-  fall_short n t ts h = omega arith
-
-  widen_short : (n : ℕ) (ts : List Token) → Short n ts → Short (suc n) ts
-  widen_short n ts h = omega arith
-
-  none_short : (t : Token) (ts : List Token) → Short 0 (t ∷ ts) → ⊥
+  none_short : (t : Token) (ts : List Token) → length (t ∷ ts) ≤ 0 → ⊥
   none_short t ts h = omega arith
 
-  mutual
-    rule_allowed : (n : ℕ) (l : Bool) (ts us : List Token) (ss ys : List Seen) (t : Tree) → AreSeenAs names l ts ss → IsTrue (front_typed ss) → Derives names (NoRival names n) kind.TypeArg ts t us
-        → IsTrue (ends_member (look names us)) → Short n ts → NoRival names n ts us
-    rule_allowed zero l ts us ss ys t a o d h p = tt
-    rule_allowed (suc n) l ts us ss ys t a o d h p = λ u e low.
-        let y = keep_tree names (Short (suc n)) (Short n) (fall_short n) (widen_short n) (NoRival names n) (rule_barred n) e l ss a p no_args (member_after false (look names us) h) low in
-        flag_none l ts ss a o u y.rest y.spelled (end_front y.leads us y.rest y.right h) low
+  -- Where no expression that obeys the rule stands against a type, none of the rows does, if all of them are low.
+  -- Proof: an expression to the letter would have the same tokens, and obeys the rule.
+  none_low : (n : ℕ) (ts us : List Token) (t : Tree) → Low n ts → Derives names (NoRival names n) kind.TypeArg ts t us → IsTrue (ends_member (look names us)) → NoRival names n ts us → NoExpression names ts us
+  none_low zero [] us t p d h r = absurd (some_token names [] (tree_first names (NoRival names 0) d (member_after true (look names us) h)) refl)
+  none_low zero (x ∷ ts) us t p d h r = absurd (none_short x ts p.1)
+  none_low (suc n) ts us t p d h r = λ u e.
+      filters names (length ts) false ts us u e h (le_self (length ts)) (λ x.
+      r x.tree (loosened names (NoExpression names) (NoRival names n) (none_loose n) x.derived) (low_here ts x.tree us p.0 (unfiltered names (NoExpression names) x.derived) h))
 
-    rule_barred : (n : ℕ) (l : Bool) (ts us : List Token) (ss : List Seen) (t : Tree) → AreSeenAs names l ts ss → NoRival names n ts us → Derives names (NoRival names n) kind.TypeArg ts t us
-        → IsTrue (ends_member (look names us)) → Short n ts → NoMember ss
-    rule_barred zero l [] us ss t a none d h p = λ u ys x g low. some_token names [] (tree_first names (NoRival names 0) d (member_after true (look names us) h)) refl
-    rule_barred zero l (x ∷ ts) us ss t a none d h p = absurd (none_short x ts p)
-    rule_barred (suc n) l ts us ss t a none d h p = λ u ys x g low.
-        let e = take_tree names (NoRival names n) (Short (suc n)) (Short n) (fall_short n) (widen_short n) (rule_allowed n) x l ts a p no_args (member_after false (front ys) g) in
-        let same : us ≡ e.rest = same_end names (NoRival names (suc n)) (NoRival names n) d e.derived h (front_end e.leads e.rest ys e.right g) in
-        none u (subst (λ (zs : List Token). Derives names (NoRival names n) kind.AssignLevel ts u zs) (sym same) e.derived) low
-
-  all_short : (ts : List Token) → Short (suc (length ts)) ts
-  all_short ts = omega arith
-
-  pub rule_spelled : (k : Kind) (ts : List Token) (t : Tree) (ss : List Seen) → IsTrue (stands_alone k) → AreSeenAs names false ts ss → Derives names (NoRival names (length ts)) k ts t [] → levels t ≤ 1000 → Spells k ss t []
-  rule_spelled k ts t ss o a d n = whole_kept (NoRival names (length ts)) (Short (suc (length ts))) (Short (length ts)) (fall_short (length ts)) (widen_short (length ts)) (rule_barred (length ts)) k ts t ss o a (all_short ts) d n
-
-  pub spelled_rule : (k : Kind) (ts : List Token) (t : Tree) (ss : List Seen) → IsTrue (stands_alone k) → AreSeenAs names false ts ss → Spells k ss t [] → Derives names (NoRival names (length ts)) k ts t []
-  spelled_rule k ts t ss o a d = whole_taken (NoRival names (length ts)) (Short (suc (length ts))) (Short (length ts)) (fall_short (length ts)) (widen_short (length ts)) (rule_allowed (length ts)) k ts t ss o a (all_short ts) d
+  pub tree_letter : (k : Kind) (ts : List Token) (t : Tree) → IsTrue (stands_alone k) → AllLow names ts → IsTreeOf k names ts t → IsLetterTreeOf k names ts t
+  unfolding look
+  tree_letter k ts t o p h = record {
+    derived = changed (NoRival names (length ts)) (NoExpression names) (Low (length ts)) (fall_low (length ts)) (none_low (length ts)) h.derived (p, le_self (length ts)) (alone_after k o);
+    shallow = h.shallow;
+  }

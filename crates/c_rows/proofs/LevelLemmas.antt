@@ -21,7 +21,8 @@ use Rattle.c_rows.specs.Branches.{kind_of, build, label_of}
 use Rattle.c_rows.specs.Rows.{Row, row, ways}
 use Rattle.c_rows.specs.Look.{Names}
 use Rattle.c_rows.specs.Choice.{full}
-use Rattle.c_rows.specs.Letter.{Derives, leaf, branch, DerivesRow, done, word, child, argument, type_argument, fork, Anywhere, AllLow}
+use Rattle.c_rows.specs.Derives.{Derives, leaf, branch, DerivesRow, done, word, child, argument, type_argument, fork, Anywhere}
+use Rattle.c_rows.specs.Letter.{AllLow}
 use Rattle.c_rows.proofs.Checks.{and_left, and_right, row_at}
 use Rattle.c_rows.proofs.FirstLemmas.{within_family}
 

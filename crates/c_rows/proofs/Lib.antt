@@ -1,4 +1,5 @@
 pub mod PlainLemmas
+pub mod Numbers
 pub mod Checks
 pub mod FirstLemmas
 pub mod GrowthLemmas
@@ -9,9 +10,11 @@ pub mod BracketLemmas
 pub mod LeadLemmas
 pub mod MemberLemmas
 pub mod DerivesLemmas
+pub mod TypeLemmas
 pub mod FilterLemmas
 pub mod LevelLemmas
 pub mod SeenLemmas
 pub mod SightLemmas
+pub mod TreeLemmas
 pub mod LetterLemmas
-pub mod LetterExamples
+pub mod TypeExamples

@@ -1,8 +1,7 @@
--- Tokens can be seen as they are: what is seen is not impossible.
+-- The mark of the first token makes no difference to a tree that takes it.
 use Rattle.std.proofs.Common.{◌≡◌, ℕ, List, [], ◌∷◌, refl, subst, sym}
 use Rattle.std.specs.Prelude.{Bool, true, false, IsTrue, Some, slice_get}
 use Rattle.std.specs.List.{list_all}
-use Rattle.c_terms.specs.declared.token.Token.{Token}
 use Rattle.c_terms.specs.declared.tree.Tree.{Tree}
 use Rattle.c_rows.specs.declared.class.Class.{Class}
 use Rattle.c_rows.specs.declared.kind.Kind.{Kind}
@@ -15,10 +14,9 @@ use Rattle.c_rows.specs.declared.symbol.Fork.TheVariants as forks
 use Rattle.c_rows.specs.Kinds.{family_of}
 use Rattle.c_rows.specs.Branches.{kind_of, begins}
 use Rattle.c_rows.specs.Rows.{Row, row, ways}
-use Rattle.c_rows.specs.Look.{Names, look}
 use Rattle.c_rows.specs.Seen.{Seen, front}
 use Rattle.c_rows.specs.Spells.{Spells, leaf, branch, Runs, done, word, child, argument, fork}
-use Rattle.c_rows.specs.Range.{leads_member, NoMember, unmarked, IsSeenAs, AreSeenAs}
+use Rattle.c_rows.specs.Range.{NoMember, unmarked}
 use Rattle.c_rows.specs.Choice.{implies, full}
 use Rattle.c_rows.proofs.Checks.{modus, row_at}
 use Rattle.c_rows.proofs.FirstLemmas.{within_family}
@@ -54,7 +52,7 @@ headed_ways _ = refl
 headed_way : (f : Fork) (i : ℕ) (ps : Row) → slice_get (ways f) i ≡ Some ps → IsTrue (headed_fork f) → IsTrue (headed ps)
 headed_way f i ps e h = row_at headed (ways f) i ps (modus (headed_fork f) (list_all headed (ways f)) (headed_ways f) h) e
 
--- ---- the flag of the first token makes no difference to a tree that takes it
+-- ---- the mark of the first token
 
 abbrev flagged : Bool → Seen → Seen
 flagged b s = record { token = s.token; class = s.class; typed = b }
@@ -86,21 +84,3 @@ flag_free s ss n = λ u ys d e l. n u ys (tree_flag d false refl) e l
 
 pub flag_set : (s : Seen) (ss : List Seen) → NoMember (s ∷ ss) → NoMember (unmarked s ∷ ss)
 flag_set s ss n = λ u ys d e l. n u ys (tree_flag d s.typed refl) e l
-
-module _ (names : Names) where
-  flag_chosen : (l : Bool) (t : Token) (ts : List Token) (ss : List Seen) → ((s : Seen) → IsSeenAs names l t ts s ss → ⊥) → ⊥
-  flag_chosen l t ts ss f =
-      let c : Class = look names (t ∷ ts) in
-      let plain : Seen = record { token = t; class = c; typed = false } in
-      f plain (record {
-        token = refl;
-        class = refl;
-        marked = λ i. let never : ⊥ = cc in absurd never;
-        unmarked_else = λ h b n. absurd (f (record { token = t; class = c; typed = true })
-            (record { token = refl; class = refl; marked = λ i. (h, b, n); unmarked_else = λ h b n. refl }));
-      })
-
-  -- There is always something that is seen.
-  pub seen_exists : (l : Bool) (ts : List Token) → ((ss : List Seen) → AreSeenAs names l ts ss → ⊥) → ⊥
-  seen_exists l [] f = f [] tt
-  seen_exists l (t ∷ ts) f = seen_exists (leads_member t) ts (λ ss a. flag_chosen l t ts ss (λ s h. f (s ∷ ss) (h, a)))

@@ -10,15 +10,13 @@ use Rattle.c_rows.specs.declared.kind.Family.{Family}
 use Rattle.c_rows.specs.declared.kind.Family.TheVariants as family
 use Rattle.c_rows.specs.declared.rule.Rule.{Rule}
 use Rattle.c_rows.specs.declared.rule.Rule.TheVariants as rule
-use Rattle.c_rows.specs.declared.symbol.Symbol.{Symbol}
 use Rattle.c_rows.specs.declared.symbol.Symbol.TheVariants.{Word, Child, Argument, Fork}
 use Rattle.c_rows.specs.declared.symbol.Fork as forks
 use Rattle.c_rows.specs.declared.symbol.Fork.TheVariants as fork
-use Rattle.c_rows.specs.Words.{fits, begins_tag, begins_specs}
-use Rattle.c_rows.specs.Kinds.{family_of, same_family, within, has_leaf}
+use Rattle.c_rows.specs.Words.{fits, begins_tag, begins_specs, ends_member}
+use Rattle.c_rows.specs.Kinds.{family_of, same_family, within}
 use Rattle.c_rows.specs.Branches.{kind_of, begins, begins_macro}
 use Rattle.c_rows.specs.Rows.{Row, row, ways}
-use Rattle.c_rows.specs.Range.{ends_member}
 
 -- ---- what may stand first
 

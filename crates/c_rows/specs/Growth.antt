@@ -1,5 +1,5 @@
 -- A tree from its first operand on: how a left-grouping tree grows.
-use Rattle.std.specs.Prelude.{◌≡◌, Bool, true, IsTrue, Option, Some, None, List, [], ◌∷◌}
+use Rattle.std.specs.Prelude.{◌≡◌, Bool, true, IsTrue, Option, Some, None, List, ◌∷◌}
 use Rattle.c_terms.specs.declared.tree.Tree.{Tree}
 use Rattle.c_terms.specs.declared.tree.Tree.TheVariants as tree
 use Rattle.c_rows.specs.declared.class.Class.{Class}
@@ -7,7 +7,6 @@ use Rattle.c_rows.specs.declared.kind.Kind.{Kind}
 use Rattle.c_rows.specs.declared.kind.Family.{Family}
 use Rattle.c_rows.specs.declared.rule.Rule.{Rule}
 use Rattle.c_rows.specs.Kinds.{family_of, has_leaf, within}
-use Rattle.c_rows.specs.Rows.{Row}
 use Rattle.c_rows.specs.Branches.{kind_of, build, begins, allows}
 use Rattle.c_rows.specs.Choice.{bottom, ends, left, own}
 use Rattle.c_rows.specs.Seen.{Seen, front}

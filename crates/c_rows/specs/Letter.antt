@@ -1,74 +1,22 @@
--- The grammar to the letter: in a call's list a type stands only where no expression spells the same tokens.
-use Rattle.std.specs.Prelude.{◌≡◌, ◌≤◌, ⊤, ℕ, zero, suc, length, Bool, true, false, IsTrue, Some, List, [], ◌∷◌, slice_get}
+-- The rule on types in a call's list, to the letter: the rows alone say which expressions there are.
+use Rattle.std.specs.Prelude.{◌≤◌, ⊤, IsTrue, List, [], ◌∷◌}
 use Rattle.c_terms.specs.declared.token.Token.{Token}
 use Rattle.c_terms.specs.declared.tree.Tree.{Tree}
-use Rattle.c_terms.specs.declared.tree.Tree.TheVariants as tree
 use Rattle.c_terms.specs.Trees.{levels}
-use Rattle.c_rows.specs.declared.word.Word as words
 use Rattle.c_rows.specs.declared.kind.Kind.{Kind}
 use Rattle.c_rows.specs.declared.kind.Kind.TheVariants as kind
-use Rattle.c_rows.specs.declared.rule.Rule.{Rule}
-use Rattle.c_rows.specs.declared.symbol.Symbol.TheVariants.{Word, Child, Argument, Fork}
-use Rattle.c_rows.specs.declared.symbol.Fork as forks
-use Rattle.c_rows.specs.Words.{fits}
-use Rattle.c_rows.specs.Kinds.{family_of, within, has_leaf}
-use Rattle.c_rows.specs.Branches.{kind_of, build, begins, allows}
-use Rattle.c_rows.specs.Rows.{Row, row, ways}
 use Rattle.c_rows.specs.Look.{Names, look}
-use Rattle.c_rows.specs.Range.{ends_member}
-
--- `may` says of two lists, the second of which is the end of the first, whether a type that spells the tokens
--- between them may be a member of a call's list.
-module _ (names : Names) (may : List Token → List Token → Type 0) where
-  mutual
-    -- By the rows, a tree of this kind spells the tokens from the first list to the second.
-    pub data Derives : Kind → List Token → Tree → List Token → Type 0 where
-      -- a token by itself
-      leaf : {m : Kind} {t : Token} {ys : List Token} → IsTrue (has_leaf (family_of m) (look names (t ∷ ys))) → Derives m (t ∷ ys) (tree.Leaf t) ys
-      -- the parts of a row
-      branch : {m : Kind} {xs ys : List Token} {cs : List Tree} → (r : Rule) → IsTrue (within (kind_of r) m) → IsTrue (begins r (look names xs))
-          → IsTrue (allows r cs) → DerivesRow (row r) xs cs ys → Derives m xs (build r cs) ys
-
-    -- trees in the order of a row's parts
-    pub data DerivesRow : Row → List Token → List Tree → List Token → Type 0 where
-      done : {xs : List Token} → DerivesRow [] xs [] xs
-      word : {w : words.Word} {ps : Row} {t : Token} {xs ys : List Token} {cs : List Tree} → IsTrue (fits w (look names (t ∷ xs)))
-          → DerivesRow ps xs cs ys → DerivesRow (Word w ∷ ps) (t ∷ xs) (tree.Leaf t ∷ cs) ys
-      child : {k : Kind} {ps : Row} {xs ys zs : List Token} {t : Tree} {cs : List Tree} → Derives k xs t ys
-          → DerivesRow ps ys cs zs → DerivesRow (Child k ∷ ps) xs (t ∷ cs) zs
-      -- a member of a call's list: an expression without commas, or a type where it may stand
-      argument : {ps : Row} {xs ys zs : List Token} {t : Tree} {cs : List Tree} → Derives kind.AssignLevel xs t ys
-          → DerivesRow ps ys cs zs → DerivesRow (Argument ∷ ps) xs (t ∷ cs) zs
-      type_argument : {ps : Row} {xs ys zs : List Token} {t : Tree} {cs : List Tree} → may xs ys → Derives kind.TypeArg xs t ys
-          → DerivesRow ps ys cs zs → DerivesRow (Argument ∷ ps) xs (t ∷ cs) zs
-      -- one of the ways of a fork
-      fork : {f : forks.Fork} {ps : Row} {xs ys : List Token} {cs : List Tree} → (i : ℕ) → slice_get (ways f) i ≡ Some ps
-          → DerivesRow ps xs cs ys → DerivesRow (Fork f ∷ []) xs cs ys
-
--- the rows alone: a type may stand wherever an expression may
-abbrev pub Anywhere : List Token → List Token → Type 0
-Anywhere xs ys = ⊤
+use Rattle.c_rows.specs.Words.{ends_member}
+use Rattle.c_rows.specs.Derives.{Derives, Anywhere}
 
 -- By the rows alone, no expression without commas spells the tokens from the first list to the second.
 abbrev pub NoExpression : Names → List Token → List Token → Type 0
 NoExpression names xs ys = (u : Tree) → Derives names Anywhere kind.AssignLevel xs u ys → ⊥
 
--- The tree is of this kind, spells the tokens, all of them, by the rows, and has at most 1,000 levels of branches.
--- No type that is a member of a call's list in it has tokens that an expression spells by the rows alone.
+-- As `IsTreeOf`, but a type gives way to every expression of the rows, whether or not it obeys the rule inside, and
+-- however deep it is.
 pub record IsLetterTreeOf (kind : Kind) (names : Names) (tokens : List Token) (t : Tree) : Type 0 where
   pub derived : Derives names (NoExpression names) kind tokens t []
-  pub shallow : levels t ≤ 1000
-
--- No expression without commas, of at most 1,000 levels, in which the same is asked of each type, spells the tokens
--- from the first list to the second. The number bounds how often this is asked inside one another.
-abbrev pub NoRival : Names → ℕ → List Token → List Token → Type 0
-NoRival names zero xs ys = ⊤
-NoRival names (suc n) xs ys = (u : Tree) → Derives names (NoRival names n) kind.AssignLevel xs u ys → levels u ≤ 1000 → ⊥
-
--- The same, but an expression that stands against a type obeys the rule itself, and has at most 1,000 levels.
--- Lists of calls lie inside one another at most as often as there are tokens.
-pub record IsRuledTreeOf (kind : Kind) (names : Names) (tokens : List Token) (t : Tree) : Type 0 where
-  pub derived : Derives names (NoRival names (length tokens)) kind tokens t []
   pub shallow : levels t ≤ 1000
 
 -- By the rows alone, every expression without commas that begins at one of the tokens, and ends where a member of a
@@ -76,15 +24,3 @@ pub record IsRuledTreeOf (kind : Kind) (names : Names) (tokens : List Token) (t 
 abbrev pub AllLow : Names → List Token → Type 0
 AllLow names [] = ⊤
 AllLow names (t ∷ ts) = ((u : Tree) (ys : List Token) → Derives names Anywhere kind.AssignLevel (t ∷ ts) u ys → IsTrue (ends_member (look names ys)) → levels u ≤ 1000) × AllLow names ts
-
--- Trees of this kind are read by themselves. Those of the other kinds are read within a list.
-abbrev pub stands_alone : Kind → Bool
-stands_alone kind.Args = false
-stands_alone kind.TypeArg = false
-stands_alone kind.Params = false
-stands_alone kind.Param = false
-stands_alone kind.InitItem = false
-stands_alone kind.NamelessBits = false
-stands_alone kind.EnumName = false
-stands_alone kind.Enumerator = false
-stands_alone _ = true

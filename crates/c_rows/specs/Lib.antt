@@ -6,12 +6,16 @@ pub mod Words
 pub mod Kinds
 pub mod Rows
 pub mod Branches
-pub mod Seen
-pub mod Spells
-pub mod Range
-pub mod Letter
+pub mod Derives
+pub mod Trees
 pub mod Depth
+-- What the law on types rests on besides.
+
+pub mod Letter
 -- How the rows are read.
 
+pub mod Seen
+pub mod Spells
 pub mod Choice
 pub mod Growth
+pub mod Range

@@ -13,111 +13,111 @@ abbrev pub Row : Type 0
 Row = List Symbol
 
 abbrev pub row : Rule → Row
--- `"a" "b"`, `PRIu64 "x"`
+-- two or more strings and names: `"a" "b"`, `PRIu64 "x"`
 row rule.Strings = Fork fork.FirstString ∷ []
--- `(e)`
+-- `(` expression `)`: `(e)`
 row rule.Paren = Word word.ParenOpen ∷ Child kind.Expr ∷ Word word.Close ∷ []
--- `e[e]`
+-- postfix-expression `[` expression `]`: `e[e]`
 row rule.Index = Child kind.Post ∷ Word word.LeftBracket ∷ Child kind.Expr ∷ Word word.RightBracket ∷ []
--- `f(a, b)`
+-- postfix-expression `(` arguments `)`: `f(a, b)`
 row rule.Call = Child kind.Post ∷ Word word.AnyOpen ∷ Child kind.Args ∷ Word word.Close ∷ []
--- `a, b`
+-- arguments parted by commas, or none: `a, b`
 row rule.Args = Fork fork.FirstArg ∷ []
--- `int`
+-- a type as an argument: `int`
 row rule.TypeArg = Child kind.TypeName ∷ []
--- `e.x`
+-- postfix-expression `.` name: `e.x`
 row rule.Member = Child kind.Post ∷ Word word.Dot ∷ Word word.Name ∷ []
--- `e->x`
+-- postfix-expression `->` name: `e->x`
 row rule.Arrow = Child kind.Post ∷ Word word.Arrow ∷ Word word.Name ∷ []
--- `e++`
+-- postfix-expression, `++` or `--`: `e++`
 row rule.PostOp = Child kind.Post ∷ Word word.Step ∷ []
--- `(T){ 1, 2 }`
+-- `(` type-name `)` list of initialisers: `(T){ 1, 2 }`
 row rule.Literal = Word word.LiteralOpen ∷ Child kind.TypeName ∷ Word word.Close ∷ Child kind.InitList ∷ []
--- `++e`
+-- `++` or `--`, unary-expression: `++e`
 row rule.PreOp = Word word.Step ∷ Child kind.Un ∷ []
--- `-e`
+-- `&`, `*`, `+`, `-`, `~` or `!`, cast-expression: `-e`
 row rule.Unary = Word word.Prefix ∷ Child kind.CastLevel ∷ []
--- `sizeof e`
+-- `sizeof` unary-expression: `sizeof e`
 row rule.SizeofExpr = Word word.SizeofExpr ∷ Child kind.Un ∷ []
--- `sizeof(T)`
+-- `sizeof` or `_Alignof`, `(` type-name `)`: `sizeof(T)`
 row rule.SizeofType = Word word.SizeofType ∷ Word word.AnyOpen ∷ Child kind.TypeName ∷ Word word.Close ∷ []
--- `(T)e`
+-- `(` type-name `)` cast-expression: `(T)e`
 row rule.Cast = Word word.CastOpen ∷ Child kind.TypeName ∷ Word word.Close ∷ Child kind.CastLevel ∷ []
--- `a || b`
+-- logical-OR-expression `||` logical-AND-expression: `a || b`
 row rule.OrOr = Child kind.OrOr ∷ Word word.OrOr ∷ Child kind.AndAnd ∷ []
--- `a && b`
+-- logical-AND-expression `&&` inclusive-OR-expression: `a && b`
 row rule.AndAnd = Child kind.AndAnd ∷ Word word.AndAnd ∷ Child kind.Or ∷ []
--- `a | b`
+-- inclusive-OR-expression `|` exclusive-OR-expression: `a | b`
 row rule.Or = Child kind.Or ∷ Word word.Or ∷ Child kind.Xor ∷ []
--- `a ^ b`
+-- exclusive-OR-expression `^` AND-expression: `a ^ b`
 row rule.Xor = Child kind.Xor ∷ Word word.Xor ∷ Child kind.And ∷ []
--- `a & b`
+-- AND-expression `&` equality-expression: `a & b`
 row rule.And = Child kind.And ∷ Word word.And ∷ Child kind.Equality ∷ []
--- `a == b`
+-- equality-expression, `==` or `!=`, relational-expression: `a == b`
 row rule.Equality = Child kind.Equality ∷ Word word.Equality ∷ Child kind.Order ∷ []
--- `a < b`
+-- relational-expression, `<`, `>`, `<=` or `>=`, shift-expression: `a < b`
 row rule.Order = Child kind.Order ∷ Word word.Order ∷ Child kind.Shift ∷ []
--- `a << b`
+-- shift-expression, `<<` or `>>`, additive-expression: `a << b`
 row rule.Shift = Child kind.Shift ∷ Word word.Shift ∷ Child kind.Sum ∷ []
--- `a + b`
+-- additive-expression, `+` or `-`, multiplicative-expression: `a + b`
 row rule.Sum = Child kind.Sum ∷ Word word.Plus ∷ Child kind.Product ∷ []
--- `a * b`
+-- multiplicative-expression, `*`, `/` or `%`, cast-expression: `a * b`
 row rule.Product = Child kind.Product ∷ Word word.Times ∷ Child kind.CastLevel ∷ []
--- `c ? a : b`
+-- logical-OR-expression `?` expression `:` conditional-expression: `c ? a : b`
 row rule.Cond = Child kind.OrOr ∷ Word word.Question ∷ Child kind.Expr ∷ Word word.Colon ∷ Child kind.CondLevel ∷ []
--- `c ?: b`
+-- logical-OR-expression `?` `:` conditional-expression: `c ?: b`
 row rule.CondShort = Child kind.OrOr ∷ Word word.ShortQuestion ∷ Word word.Colon ∷ Child kind.CondLevel ∷ []
--- `a = b`
+-- unary-expression, assignment operator, assignment-expression: `a = b`
 row rule.Assign = Child kind.Un ∷ Word word.Assign ∷ Child kind.AssignLevel ∷ []
--- `a, b`
+-- expression `,` assignment-expression: `a, b`
 row rule.Comma = Child kind.Expr ∷ Word word.Comma ∷ Child kind.AssignLevel ∷ []
--- `int *`
+-- type words, and a declarator without a name, or none: `int *`
 row rule.TypeName = Child kind.Specs ∷ Fork fork.Nameless ∷ []
--- `static const int`
+-- modifiers and one type part: `static const int`
 row rule.Specs = Fork fork.NoType ∷ []
--- `struct s`
+-- `struct` or `union`, name: `struct s`
 row rule.StructUse = Word word.Struct ∷ Word word.Name ∷ []
--- `struct s { int x; }`
+-- `struct` or `union`, a name or none, members in braces: `struct s { int x; }`
 row rule.StructDef = Word word.StructBody ∷ Fork fork.StructName ∷ []
--- `int x, y : 3;`
+-- type words, declarators and bits parted by commas, or none, `;`: `int x, y : 3;`
 row rule.Field = Child kind.Specs ∷ Fork fork.FirstField ∷ []
--- `y : 3`
+-- declarator `:` conditional-expression: `y : 3`
 row rule.Bits = Child kind.Declarator ∷ Word word.Colon ∷ Child kind.CondLevel ∷ []
--- `: 3`
+-- `:` conditional-expression: `: 3`
 row rule.NamelessBits = Word word.Colon ∷ Child kind.CondLevel ∷ []
--- `enum e`
+-- `enum` name: `enum e`
 row rule.EnumUse = Word word.Enum ∷ Word word.Name ∷ []
--- `enum e { A, B = 2 }`
+-- `enum`, a name or none, enumerators in braces: `enum e { A, B = 2 }`
 row rule.EnumDef = Word word.EnumBody ∷ Fork fork.EnumName ∷ []
--- `B = 2`
+-- name `=` conditional-expression: `B = 2`
 row rule.EnumValue = Child kind.EnumName ∷ Word word.Equal ∷ Child kind.CondLevel ∷ []
--- `*const d`
+-- `*`, qualifiers, a declarator or none: `*const d`
 row rule.Pointer = Word word.Star ∷ Fork fork.Pointee ∷ []
--- `(d)`
+-- `(` declarator `)`: `(d)`
 row rule.DParen = Word word.NestOpen ∷ Child kind.Declarator ∷ Word word.Close ∷ []
--- `d[3]`
+-- direct-declarator `[` a size or none `]`: `d[3]`
 row rule.DArray = Child kind.Direct ∷ Word word.LeftBracket ∷ Fork fork.Size ∷ []
--- `[3]`
+-- `[` a size or none `]`, where no name is declared: `[3]`
 row rule.NamelessArray = Word word.LeftBracket ∷ Fork fork.Size ∷ []
--- `d(int x)`
+-- direct-declarator `(` parameters `)`: `d(int x)`
 row rule.DFun = Child kind.Direct ∷ Word word.AnyOpen ∷ Child kind.Params ∷ Word word.Close ∷ []
--- `(int x)`
+-- `(` parameters `)`, where no name is declared: `(int x)`
 row rule.NamelessFun = Word word.ListOpen ∷ Child kind.Params ∷ Word word.Close ∷ []
--- `int x, ...`
+-- parameters parted by commas, or none: `int x, ...`
 row rule.Params = Fork fork.FirstParam ∷ []
--- `int x`
+-- type words, and a declarator or none: `int x`
 row rule.Param = Child kind.Specs ∷ Fork fork.ParamName ∷ []
--- `{ 1, .x = 2, }`
+-- initialisers in braces, parted by commas: `{ 1, .x = 2, }`
 row rule.InitList = Word word.LeftBrace ∷ Fork fork.FirstInit ∷ []
--- `.x[2] = 3`
+-- designators `=` an expression or a list: `.x[2] = 3`
 row rule.InitItem = Child kind.Designator ∷ Fork fork.MoreDesignators ∷ []
--- `.x`
+-- `.` name: `.x`
 row rule.DotName = Word word.Dot ∷ Word word.Name ∷ []
--- `[2]`, `[2 ... 5]`
+-- `[` conditional-expression `]`, or with a range: `[2]`, `[2 ... 5]`
 row rule.At = Word word.LeftBracket ∷ Child kind.CondLevel ∷ Fork fork.AtEnd ∷ []
--- `static MACRO(x);`
+-- storage words, name, `(` arguments `)` `;`: `static MACRO(x);`
 row rule.MacroItem = Fork fork.MacroWords ∷ []
--- `\( a \| b \)`, `\( a \& b \)`
+-- expressions between `\(` and `\)`, parted by `\|` or by `\&`: `\( a \| b \)`, `\( a \& b \)`
 row rule.PatBranches = Word word.PatOpen ∷ Child kind.Expr ∷ Fork fork.FirstBranch ∷ []
 
 -- the ways in which a row may go on at a fork

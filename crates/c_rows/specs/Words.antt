@@ -105,3 +105,9 @@ abbrev pub begins_specs : Class → Bool
 begins_specs class.Typ = true
 begins_specs class.TypOfDeclarator = true
 begins_specs c = fits word.BasicOrModifier c || fits word.Name c || begins_tag c
+
+-- a member of a call's list ends before this class
+abbrev pub ends_member : Class → Bool
+ends_member class.Comma = true
+ends_member class.Close = true
+ends_member _ = false

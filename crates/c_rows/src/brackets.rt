@@ -134,26 +134,18 @@ pub fn bracket(names: &Names, inside: &[Token]) -> Class
     ensures { result ≡ ahead.bracket names.now inside.now }
 {
     let nest = begins_nest(names, inside);
-    if begins_type(names, inside) || begins_unknown_cast(inside) {
-        if closes_before_brace(inside) {
-            if nest {
-                Class::LiteralNest
-            } else {
-                Class::LiteralList
-            }
-        } else {
-            if nest {
-                Class::CastNest
-            } else {
-                Class::CastList
-            }
-        }
-    } else {
-        if nest {
+    if !begins_type(names, inside) && !begins_unknown_cast(inside) {
+        return if nest {
             Class::ParenNest
         } else {
             Class::ParenList
-        }
+        };
+    }
+    match (closes_before_brace(inside), nest) {
+        (true, true) => Class::LiteralNest,
+        (true, false) => Class::LiteralList,
+        (false, true) => Class::CastNest,
+        (false, false) => Class::CastList,
     }
 }
 
@@ -177,12 +169,10 @@ fn sizeof_bracket(names: &Names, inside: &[Token]) -> Class
         } else {
             Class::SizeofType
         }
+    } else if is_name_before_brace(inside) {
+        Class::Other
     } else {
-        if is_name_before_brace(inside) {
-            Class::Other
-        } else {
-            Class::SizeofExpr
-        }
+        Class::SizeofExpr
     }
 }
 

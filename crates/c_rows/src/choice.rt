@@ -2,7 +2,6 @@
 
 ghost use Rattle.std.specs.Prelude.{◌≡◌, MatchOption, Some, None};
 ghost use Rattle.c_rows.specs.Choice as choice;
-ghost use Rattle.c_rows.specs.Range as range;
 ghost use Rattle.c_rows.specs.Words as words;
 
 use crate::{
@@ -46,8 +45,8 @@ pub fn begins_specs(class: Class) -> bool
 }
 
 /// A declarator may begin with this class.
-fn begins_declarator(class: Class) -> bool
-    ensures { result ≡ choice.begins_declarator class }
+pub(crate) fn begins_declarator(class: Class) -> bool
+    ensures value { result ≡ choice.begins_declarator class }
 {
     match class {
         Class::Star | Class::LeftBracket => true,
@@ -87,7 +86,7 @@ pub fn first(family: Family, class: Class) -> bool
 
 /// A member of a call's list ends before this class.
 pub fn ends_member(class: Class) -> bool
-    ensures value { result ≡ range.ends_member class }
+    ensures value { result ≡ words.ends_member class }
 {
     matches!(class, Class::Comma | Class::Close)
 }

@@ -234,8 +234,9 @@ fn pattern(text: &[u8]) -> Class
     }
 }
 
-/// The class of a list that begins with the token, of which the rest is of class `next`. Looks at one token behind,
-/// or two, at the run of `*` behind a bracket and a name, and behind a bracket that begins a type at what it encloses.
+/// The class of a list that begins with the token, of which the rest is of class `next`. Looks at up to three tokens
+/// behind, four behind `sizeof`; at the run of `*` behind a bracket and a name; and behind a bracket that begins a type
+/// at what it encloses and the token after that.
 pub fn look(names: &Names, token: &Token, rest: &[Token], next: Class) -> Class
     ensures value { result ≡ ahead.class_of names.now token.now.kind token.now.text rest.now next }
 {

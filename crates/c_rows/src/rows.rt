@@ -19,113 +19,113 @@ pub fn row(rule: Rule) -> &'static [Symbol]
     ensures value { result.now ≡ rows.row rule }
 {
     match rule {
-        // `"a" "b"`, `PRIu64 "x"`
+        // two or more strings and names: `"a" "b"`, `PRIu64 "x"`
         Rule::Strings => row![fork FirstString],
-        // `(e)`
+        // `(` expression `)`: `(e)`
         Rule::Paren => row![word ParenOpen, child Expr, word Close],
-        // `e[e]`
+        // postfix-expression `[` expression `]`: `e[e]`
         Rule::Index => row![child Post, word LeftBracket, child Expr, word RightBracket],
-        // `f(a, b)`
+        // postfix-expression `(` arguments `)`: `f(a, b)`
         Rule::Call => row![child Post, word AnyOpen, child Args, word Close],
-        // `a, b`
+        // arguments parted by commas, or none: `a, b`
         Rule::Args => row![fork FirstArg],
-        // `int`
+        // a type as an argument: `int`
         Rule::TypeArg => row![child TypeName],
-        // `e.x`
+        // postfix-expression `.` name: `e.x`
         Rule::Member => row![child Post, word Dot, word Name],
-        // `e->x`
+        // postfix-expression `->` name: `e->x`
         Rule::Arrow => row![child Post, word Arrow, word Name],
-        // `e++`
+        // postfix-expression, `++` or `--`: `e++`
         Rule::PostOp => row![child Post, word Step],
-        // `(T){ 1, 2 }`
+        // `(` type-name `)` list of initialisers: `(T){ 1, 2 }`
         Rule::Literal => row![word LiteralOpen, child TypeName, word Close, child InitList],
-        // `++e`
+        // `++` or `--`, unary-expression: `++e`
         Rule::PreOp => row![word Step, child Un],
-        // `-e`
+        // `&`, `*`, `+`, `-`, `~` or `!`, cast-expression: `-e`
         Rule::Unary => row![word Prefix, child CastLevel],
-        // `sizeof e`
+        // `sizeof` unary-expression: `sizeof e`
         Rule::SizeofExpr => row![word SizeofExpr, child Un],
-        // `sizeof(T)`
+        // `sizeof` or `_Alignof`, `(` type-name `)`: `sizeof(T)`
         Rule::SizeofType => row![word SizeofType, word AnyOpen, child TypeName, word Close],
-        // `(T)e`
+        // `(` type-name `)` cast-expression: `(T)e`
         Rule::Cast => row![word CastOpen, child TypeName, word Close, child CastLevel],
-        // `a || b`
+        // logical-OR-expression `||` logical-AND-expression: `a || b`
         Rule::OrOr => row![child OrOr, word OrOr, child AndAnd],
-        // `a && b`
+        // logical-AND-expression `&&` inclusive-OR-expression: `a && b`
         Rule::AndAnd => row![child AndAnd, word AndAnd, child Or],
-        // `a | b`
+        // inclusive-OR-expression `|` exclusive-OR-expression: `a | b`
         Rule::Or => row![child Or, word Or, child Xor],
-        // `a ^ b`
+        // exclusive-OR-expression `^` AND-expression: `a ^ b`
         Rule::Xor => row![child Xor, word Xor, child And],
-        // `a & b`
+        // AND-expression `&` equality-expression: `a & b`
         Rule::And => row![child And, word And, child Equality],
-        // `a == b`
+        // equality-expression, `==` or `!=`, relational-expression: `a == b`
         Rule::Equality => row![child Equality, word Equality, child Order],
-        // `a < b`
+        // relational-expression, `<`, `>`, `<=` or `>=`, shift-expression: `a < b`
         Rule::Order => row![child Order, word Order, child Shift],
-        // `a << b`
+        // shift-expression, `<<` or `>>`, additive-expression: `a << b`
         Rule::Shift => row![child Shift, word Shift, child Sum],
-        // `a + b`
+        // additive-expression, `+` or `-`, multiplicative-expression: `a + b`
         Rule::Sum => row![child Sum, word Plus, child Product],
-        // `a * b`
+        // multiplicative-expression, `*`, `/` or `%`, cast-expression: `a * b`
         Rule::Product => row![child Product, word Times, child CastLevel],
-        // `c ? a : b`
+        // logical-OR-expression `?` expression `:` conditional-expression: `c ? a : b`
         Rule::Cond => row![child OrOr, word Question, child Expr, word Colon, child CondLevel],
-        // `c ?: b`
+        // logical-OR-expression `?` `:` conditional-expression: `c ?: b`
         Rule::CondShort => row![child OrOr, word ShortQuestion, word Colon, child CondLevel],
-        // `a = b`
+        // unary-expression, assignment operator, assignment-expression: `a = b`
         Rule::Assign => row![child Un, word Assign, child AssignLevel],
-        // `a, b`
+        // expression `,` assignment-expression: `a, b`
         Rule::Comma => row![child Expr, word Comma, child AssignLevel],
 
-        // `int *`
+        // type words, and a declarator without a name, or none: `int *`
         Rule::TypeName => row![child Specs, fork Nameless],
-        // `static const int`
+        // modifiers and one type part: `static const int`
         Rule::Specs => row![fork NoType],
-        // `struct s`
+        // `struct` or `union`, name: `struct s`
         Rule::StructUse => row![word Struct, word Name],
-        // `struct s { int x; }`
+        // `struct` or `union`, a name or none, members in braces: `struct s { int x; }`
         Rule::StructDef => row![word StructBody, fork StructName],
-        // `int x, y : 3;`
+        // type words, declarators and bits parted by commas, or none, `;`: `int x, y : 3;`
         Rule::Field => row![child Specs, fork FirstField],
-        // `y : 3`
+        // declarator `:` conditional-expression: `y : 3`
         Rule::Bits => row![child Declarator, word Colon, child CondLevel],
-        // `: 3`
+        // `:` conditional-expression: `: 3`
         Rule::NamelessBits => row![word Colon, child CondLevel],
-        // `enum e`
+        // `enum` name: `enum e`
         Rule::EnumUse => row![word Enum, word Name],
-        // `enum e { A, B = 2 }`
+        // `enum`, a name or none, enumerators in braces: `enum e { A, B = 2 }`
         Rule::EnumDef => row![word EnumBody, fork EnumName],
-        // `B = 2`
+        // name `=` conditional-expression: `B = 2`
         Rule::EnumValue => row![child EnumName, word Equal, child CondLevel],
-        // `*const d`
+        // `*`, qualifiers, a declarator or none: `*const d`
         Rule::Pointer => row![word Star, fork Pointee],
-        // `(d)`
+        // `(` declarator `)`: `(d)`
         Rule::DParen => row![word NestOpen, child Declarator, word Close],
-        // `d[3]`
+        // direct-declarator `[` a size or none `]`: `d[3]`
         Rule::DArray => row![child Direct, word LeftBracket, fork Size],
-        // `[3]`
+        // `[` a size or none `]`, where no name is declared: `[3]`
         Rule::NamelessArray => row![word LeftBracket, fork Size],
-        // `d(int x)`
+        // direct-declarator `(` parameters `)`: `d(int x)`
         Rule::DFun => row![child Direct, word AnyOpen, child Params, word Close],
-        // `(int x)`
+        // `(` parameters `)`, where no name is declared: `(int x)`
         Rule::NamelessFun => row![word ListOpen, child Params, word Close],
-        // `int x, ...`
+        // parameters parted by commas, or none: `int x, ...`
         Rule::Params => row![fork FirstParam],
-        // `int x`
+        // type words, and a declarator or none: `int x`
         Rule::Param => row![child Specs, fork ParamName],
-        // `{ 1, .x = 2, }`
+        // initialisers in braces, parted by commas: `{ 1, .x = 2, }`
         Rule::InitList => row![word LeftBrace, fork FirstInit],
-        // `.x[2] = 3`
+        // designators `=` an expression or a list: `.x[2] = 3`
         Rule::InitItem => row![child Designator, fork MoreDesignators],
-        // `.x`
+        // `.` name: `.x`
         Rule::DotName => row![word Dot, word Name],
-        // `[2]`, `[2 ... 5]`
+        // `[` conditional-expression `]`, or with a range: `[2]`, `[2 ... 5]`
         Rule::At => row![word LeftBracket, child CondLevel, fork AtEnd],
-        // `static MACRO(x);`
+        // storage words, name, `(` arguments `)` `;`: `static MACRO(x);`
         Rule::MacroItem => row![fork MacroWords],
 
-        // `\( a \| b \)`, `\( a \& b \)`
+        // expressions between `\(` and `\)`, parted by `\|` or by `\&`: `\( a \| b \)`, `\( a \& b \)`
         Rule::PatBranches => row![word PatOpen, child Expr, fork FirstBranch],
     }
 }

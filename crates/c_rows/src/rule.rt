@@ -41,26 +41,26 @@ pub enum Rule {
     SizeofType,
     /// `(T)e`
     Cast,
-    /// `a * b`
-    Product,
-    /// `a + b`
-    Sum,
-    /// `a << b`
-    Shift,
-    /// `a < b`
-    Order,
-    /// `a == b`
-    Equality,
-    /// `a & b`
-    And,
-    /// `a ^ b`
-    Xor,
-    /// `a | b`
-    Or,
-    /// `a && b`
-    AndAnd,
     /// `a || b`
     OrOr,
+    /// `a && b`
+    AndAnd,
+    /// `a | b`
+    Or,
+    /// `a ^ b`
+    Xor,
+    /// `a & b`
+    And,
+    /// `a == b`
+    Equality,
+    /// `a < b`
+    Order,
+    /// `a << b`
+    Shift,
+    /// `a + b`
+    Sum,
+    /// `a * b`
+    Product,
     /// `c ? a : b`
     Cond,
     /// `c ?: b`
@@ -69,8 +69,6 @@ pub enum Rule {
     Assign,
     /// `a, b`
     Comma,
-    /// `\( a \| b \)`, `\( a \& b \)`
-    PatBranches,
 
     /// `int *`
     TypeName,
@@ -118,6 +116,9 @@ pub enum Rule {
     At,
     /// `static MACRO(x);`
     MacroItem,
+
+    /// `\( a \| b \)`, `\( a \& b \)`
+    PatBranches,
 }
 
 /// The tightest kind of which a branch of the rule is.

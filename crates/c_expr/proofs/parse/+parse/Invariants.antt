@@ -1,7 +1,6 @@
-use Rattle.std.proofs.Common.{◌≡◌, ◌+◌, ◌*◌, IsTrue, length}
-use Rattle.c_terms.specs.Trees.{levels_of_all}
-use Rattle.c_rows.specs.Choice.{row_fine, weight}
-use Rattle.c_expr.specs.Steps.{Leads, place, HasLevels}
+use Rattle.std.proofs.Common.{◌+◌, ◌*◌, length}
+use Rattle.c_rows.specs.Choice.{weight}
+use Rattle.c_expr.specs.Steps.{Leads, place_of, Sound, HasLevels}
 use Rattle.c_expr.proofs.Growing.{Growing}
 use Rattle.c_expr.proofs.parse.+parse.Given as goal
 
@@ -34,9 +33,8 @@ decreases-parse-loop-rule l = length l.grown.rest.now
 
 abbrev pub invariant-run-loop-at : goal.invariant-run-loop-at
 invariant-run-loop-at l = record {
-  led : Leads l.most (place l.row l.rest l.fn.children) (place l.at.row.now l.at.rest.now l.at.children);
-  fine : IsTrue (row_fine l.at.row.now);
-  deep : l.at.deepest ≡ levels_of_all l.at.children;
+  led : Leads l.most (place_of l.fn.at) (place_of l.at);
+  sound : Sound l.at.row.now l.at;
 }
 
 abbrev pub decreases-run-loop-at : goal.decreases-run-loop-at

@@ -1,4 +1,4 @@
-use Rattle.std.proofs.Common.{rules, refl, arith}
+use Rattle.std.proofs.Common.{arith}
 use Rattle.std.proofs.lemmas.Grind.{common_steps}
 use Rattle.c_expr.proofs.SightLemmas.{sight_start, sight_turn, sight_next, look_end, same_length}
 use Rattle.c_expr.proofs.see.see.Goals as goal

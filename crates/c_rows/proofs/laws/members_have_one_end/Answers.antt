@@ -1,4 +1,4 @@
-use Rattle.c_rows.specs.Letter.{Anywhere}
+use Rattle.c_rows.specs.Derives.{Anywhere}
 use Rattle.c_rows.proofs.BracketLemmas.{same_end}
 use Rattle.c_rows.proofs.laws.members_have_one_end.Goals as goal
 

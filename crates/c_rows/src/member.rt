@@ -1,0 +1,52 @@
+// Whether a type can be a member of a call's list, by its first three tokens.
+ghost use Rattle.std.specs.Prelude.{◌≡◌};
+ghost use Rattle.c_rows.specs.Seen.{front};
+ghost use Rattle.c_rows.specs.Range as range;
+
+use crate::choice::begins_declarator;
+use crate::{Class, Family, Seen, Word, begins_specs, ends_member, first, fits, front};
+
+/// A declarator without a name may begin with these two classes: with `*` or `[`, with `(` of parameters, or with `(`
+/// of a declarator that is no name.
+fn begins_nameless(class: Class, next: Class) -> bool
+    ensures { result ≡ range.begins_nameless class next }
+{
+    fits(Word::Star, class)
+        || fits(Word::LeftBracket, class)
+        || fits(Word::ListOpen, class) && first(Family::Params, next)
+        || fits(Word::NestOpen, class) && (begins_declarator(next) && !fits(Word::Name, next))
+}
+
+/// Behind a name that is a type: a modifier, the end of a member, or a declarator without a name.
+fn follows_type(class: Class, next: Class) -> bool
+    ensures { result ≡ range.follows_type class next }
+{
+    fits(Word::Modifier, class) || ends_member(class) || begins_nameless(class, next)
+}
+
+/// What stands second.
+fn second(rest: &[Seen]) -> Class
+    ensures { result ≡ range.second rest.now }
+{
+    match rest {
+        [] => Class::End,
+        [_, rest @ ..] => front(rest),
+    }
+}
+
+/// A type that ends where a member of a call's list may end may begin with these three classes.
+fn begins_member(class: Class, next: Class, third: Class) -> bool
+    ensures { result ≡ range.begins_member class next third }
+{
+    begins_specs(class) && (!fits(Word::Name, class) || follows_type(next, third))
+}
+
+/// By its first three tokens, a type may begin here and be a member of a call's list. Takes no memory.
+pub fn may_be_type(rest: &[Seen]) -> bool
+    ensures value { result ≡ range.may_be_type rest.now }
+{
+    match rest {
+        [] => false,
+        [seen, rest @ ..] => begins_member(seen.class(), front(rest), second(rest)),
+    }
+}

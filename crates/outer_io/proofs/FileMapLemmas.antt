@@ -9,7 +9,8 @@ use Rattle.std.specs.Map.{lookup}
 use Rattle.std.specs.Option.{option_map, option_copied}
 use Rattle.std.specs.FinMap.{get, insert, find, put, get-from_entries, get-insert, same_map, nat_cmp-IsAntisymmetric, slice_cmp-IsAntisymmetric}
 use Rattle.std.specs.FinMap.Entries.{find-put, by_order}
-use Rattle.outer_io.specs.Files.{name_cmp, files_in}
+use Rattle.outer_io.specs.Files.{name_cmp}
+use Rattle.outer_io.specs.Stored.{files_in}
 
 abbrev pub Bytes : Type 0
 Bytes = Vec ℕ Global

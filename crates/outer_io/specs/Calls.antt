@@ -1,8 +1,6 @@
 -- Shelves and sinks in memory, of whose calls some fail by their numbers, which begin at 0.
-use Rattle.std.specs.Prelude.{ℕ, List, Bool, ◌==◌, if◌then◌else◌, refl}
+use Rattle.std.specs.Prelude.{ℕ, List, Bool, ◌==◌, if◌then◌else◌}
 use Rattle.std.specs.List.{list_any}
-use Rattle.std.specs.Coded.{Coded, code_by, coded×, coded_list, coded_ℕ}
-use Rattle.std.specs.FinMap as map
 use Rattle.outer_io.specs.Files.{Files}
 use Rattle.outer_io.specs.Faults.{counted}
 
@@ -37,12 +35,3 @@ pub record ShelfState : Type 0 where
 pub record SinkState : Type 0 where
   pub bytes : List ℕ
   pub calls : Calls
-
-abbrev pub calls_code : Coded Calls
-calls_code = code_by (ℕ × (List ℕ × ℕ)) (coded× coded_ℕ (coded× (coded_list coded_ℕ) coded_ℕ)) (λ c. (c.done, (c.fail, c.faults))) (λ p. record { done = p.0; fail = p.1.0; faults = p.1.1 }) (λ _. refl)
-
-abbrev pub sink_code : Coded SinkState
-sink_code = code_by (List ℕ × Calls) (coded× (coded_list coded_ℕ) calls_code) (λ s. (s.bytes, s.calls)) (λ p. record { bytes = p.0; calls = p.1 }) (λ _. refl)
-
-abbrev pub shelf_code : Coded ShelfState
-shelf_code = code_by (Files × Calls) (coded× (map.code (coded_list coded_ℕ) (coded_list coded_ℕ)) calls_code) (λ s. (s.files, s.calls)) (λ p. record { files = p.0; calls = p.1 }) (λ _. refl)

@@ -14,11 +14,9 @@ pub struct CallCount {
 }
 
 impl Model for CallCount {
-    ghost use Rattle.outer_io.specs.Calls.{Calls, calls_code};
+    ghost use Rattle.outer_io.specs.Calls.{Calls};
 
     ghost Value = { Calls };
-
-    ghost coded = { calls_code };
 
     ghost view = { λ c. record { done = c.done; fail = c.fail.items; faults = c.faults } };
 }

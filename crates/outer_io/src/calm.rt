@@ -19,13 +19,12 @@ pub struct CalmShelf {
 }
 
 impl Model for CalmShelf {
-    ghost use Rattle.std.specs.FinMap.{code};
-    ghost use Rattle.std.specs.Coded.{coded_list, coded_ℕ};
     ghost use Rattle.outer_io.specs.Files.{Files};
+    ghost use Rattle.outer_io.specs.Stored.{files_code};
 
     ghost Value = { Files };
 
-    ghost coded = { code (coded_list coded_ℕ) (coded_list coded_ℕ) };
+    ghost coded = { files_code };
 
     ghost view = { λ a. a.files };
 }

@@ -18,13 +18,12 @@ pub struct FileMap {
 }
 
 impl Model for FileMap {
-    ghost use Rattle.std.specs.FinMap.{code};
-    ghost use Rattle.std.specs.Coded.{coded_list, coded_ℕ};
-    ghost use Rattle.outer_io.specs.Files.{Files, files_in};
+    ghost use Rattle.outer_io.specs.Files.{Files};
+    ghost use Rattle.outer_io.specs.Stored.{files_code, files_in};
 
     ghost Value = { Files };
 
-    ghost coded = { code (coded_list coded_ℕ) (coded_list coded_ℕ) };
+    ghost coded = { files_code };
 
     ghost view = { λ a. files_in a.by_name.entries };
 }

@@ -3,8 +3,8 @@
 //! - [`Shelf`] and [`Sink`] are what a run is written against. Each counts its faults, and may tell what it holds.
 //! - [`CalmShelf`] and [`CalmSink`] stand in memory and never fail; [`MemShelf`] and [`MemSink`] fail at the calls
 //!   whose numbers they are given, so that a test can try each fault of the outside.
-//! - [`FileShelf`], [`OutSink`] and [`ErrSink`] are the files of the system and the two standard streams.
-//!   They tell no content, so what they read and write is trusted.
+//! - [`FileShelf`] is the files of the system, and [`StreamSink`] a stream, by the names [`OutSink`] and [`ErrSink`] the two
+//!   standard ones. They tell no content, so what the system gives and takes is trusted.
 //!
 //! `load("k.c", 4)` on a calm shelf that holds `f();` under `k.c` answers these 4 bytes, and with the limit 3
 //! it answers `TooLong`; `load("x.c", 4)` answers `Absent`.
@@ -29,4 +29,4 @@ pub use files::FileShelf;
 pub use mem::{MemShelf, MemSink};
 pub use shelf::{Shelf, ShelfFault};
 pub use sink::{PutFault, Sink};
-pub use streams::{ErrSink, OutSink};
+pub use streams::{ErrSink, OutSink, StreamSink};

@@ -23,7 +23,8 @@ pub struct MemShelf {
 }
 
 impl Model for MemShelf {
-    ghost use Rattle.outer_io.specs.Calls.{ShelfState, shelf_code};
+    ghost use Rattle.outer_io.specs.Calls.{ShelfState};
+    ghost use Rattle.outer_io.specs.Stored.{shelf_code};
 
     ghost Value = { ShelfState };
 
@@ -70,7 +71,8 @@ impl Shelf for MemShelf {
         ensures absent { IsErrOf result ShelfFault.Absent → get self.old.files name.now ≡ None }
         ensures too_long { IsErrOf result ShelfFault.TooLong →
             IsSomeAnd (get self.old.files name.now) (λ bytes. limit < length bytes) }
-        ensures cause { HasCause ShelfFault.Failed self.old.calls.faults self.new.calls.faults result }
+        ensures cause { HasCause ShelfFault.Failed
+            self.old.calls.faults self.new.calls.faults result }
         ensures fails { IsErrOf result ShelfFault.Failed ↔ IsTrue (next_fails self.old.calls) }
         ensures calls { self.new.calls ≡ after_call self.old.calls (next_fails self.old.calls) }
     {
@@ -88,7 +90,8 @@ impl Shelf for MemShelf {
         ensures err { OnErr result (self.new.files ≡ self.old.files) }
         ensures not_absent { IsErrOf result ShelfFault.Absent → ⊥ }
         ensures not_too_long { IsErrOf result ShelfFault.TooLong → ⊥ }
-        ensures cause { HasCause ShelfFault.Failed self.old.calls.faults self.new.calls.faults result }
+        ensures cause { HasCause ShelfFault.Failed
+            self.old.calls.faults self.new.calls.faults result }
         ensures fails { IsErrOf result ShelfFault.Failed ↔ IsTrue (next_fails self.old.calls) }
         ensures calls { self.new.calls ≡ after_call self.old.calls (next_fails self.old.calls) }
     {
@@ -113,11 +116,9 @@ pub struct MemSink {
 }
 
 impl Model for MemSink {
-    ghost use Rattle.outer_io.specs.Calls.{SinkState, sink_code};
+    ghost use Rattle.outer_io.specs.Calls.{SinkState};
 
     ghost Value = { SinkState };
-
-    ghost coded = { sink_code };
 
     ghost view = { λ s. record { bytes = s.bytes.items; calls = s.calls } };
 }
@@ -157,7 +158,8 @@ impl Sink for MemSink {
         ensures no_memory_no_fault { IsErrOf result PutFault.NoMemory →
             self.new.calls.faults ≡ self.old.calls.faults }
         ensures empty { bytes.now ≡ [] → IsOk result }
-        ensures cause { HasCause PutFault.Failed self.old.calls.faults self.new.calls.faults result }
+        ensures cause { HasCause PutFault.Failed
+            self.old.calls.faults self.new.calls.faults result }
         ensures fails { IsTrue (next_fails self.old.calls) → bytes.now ≢ [] → IsErr result }
         ensures fails_only { IsErrOf result PutFault.Failed → IsTrue (next_fails self.old.calls) }
         ensures calls_ok { OnOk result (self.new.calls ≡ after_call self.old.calls false) }

@@ -4,7 +4,8 @@ ghost use Rattle.std.specs.FinMap.{get};
 ghost use Rattle.outer_io.specs.Files.{Files, stored};
 ghost use Rattle.outer_io.specs.Faults.{HasCause};
 
-/// Why a load or a store did not do what was asked. Only `Failed` is a fault of the shelf.
+/// Why a load or a store did not do what was asked. Only `Failed` must have its cause in the count of faults; a shelf may
+/// count the other answers too, as `FileShelf` does.
 #[derive(Clone, Copy, Debug, PartialEq, Eq)]
 pub enum ShelfFault {
     /// The shelf failed, and its count of faults rose. This stands before the two that follow.

@@ -1,99 +1,76 @@
 // The standard streams as sinks. They tell no content.
-ghost use Rattle.std.specs.Prelude.{◌≡◌, ℕ, None, [], take, IsTrue, IsOk, OnOk, OnErr, IsErrOf};
-ghost use Rattle.std.specs.Io.KnownBytes.{Appends};
+ghost use Rattle.std.specs.Prelude.{◌≡◌, ◌≢◌, ℕ, None, [], take, IsTrue, IsOk, OnOk, IfOk, IfErr, OnErr, IsErrOf};
+ghost use Rattle.std.specs.Io.{WritesAtMost};
+ghost use Rattle.std.specs.Io.KnownBytes.{Appends, Keeps};
+ghost use Rattle.std.specs.IoError.{error_kind};
 ghost use Rattle.outer_io.specs.Faults.{counted, HasCause};
 
 use crate::calls::one_more;
 use crate::{PutFault, Sink};
-use std::io::Write;
+use std::io;
+use std::io::{ErrorKind, Write};
 use std::marker::Model;
 
-/// The standard output, as a writer such as the runtime's `stdout()`. It tells no content. Contracts see the count
-/// of faults.
+/// A stream as a sink. It tells no content. Contracts see the writer and the count of faults, and say of every put what
+/// it appends to a writer that tells its bytes.
 ///
-/// The count rises at each `Failed`: a write that fails, and a write that takes nothing of a piece that is not empty.
-/// A put is linear in its piece and takes no memory.
+/// The count rises at each `Failed`: a write that fails, and a write that takes nothing of a piece that is not empty. A
+/// write that a signal interrupts is made again. A put is linear in its piece and takes no memory.
 #[derive(Drop)]
-pub struct OutSink<W> {
+pub struct StreamSink<W> {
     writer: W,
     faults: u64,
 }
 
-impl<W> Model for OutSink<W> {
-    ghost use Rattle.std.specs.Prelude.{ℕ};
+/// The standard output, over a writer such as the runtime's `stdout()`.
+pub type OutSink<W> = StreamSink<W>;
 
-    ghost Value = { ℕ };
+/// The standard error, over a writer such as the runtime's `stderr()`.
+pub type ErrSink<W> = StreamSink<W>;
 
-    ghost view = { λ s. s.faults };
+impl<W> Model for StreamSink<W> {
+    ghost use Rattle.outer_io.specs.Streams.{StreamState};
+
+    ghost Value = { StreamState W };
+
+    ghost view = { λ s. record { writer = s.writer; faults = s.faults } };
 }
 
-impl<W: Write> OutSink<W> {
+impl<W: Write> StreamSink<W> {
     /// The sink over this writer, with no fault so far.
-    pub fn new(writer: W) -> OutSink<W>
-        ensures faults { result ≡ 0 }
+    pub fn new(writer: W) -> StreamSink<W>
+        ensures writer { result.writer ≡ writer }
+        ensures faults { result.faults ≡ 0 }
     {
-        OutSink { writer, faults: 0 }
+        StreamSink { writer, faults: 0 }
+    }
+
+    /// The writer, with all that was put.
+    pub fn into_writer(self) -> W
+        ensures writer { result ≡ self.writer }
+    {
+        let StreamSink { writer, faults: _ } = self;
+        writer
     }
 }
 
-impl<W: Write> Sink for OutSink<W> {
+impl<W: Write> Sink for StreamSink<W> {
     ghost written = { λ _. None };
 
-    ghost faults = { λ s. s };
+    ghost faults = { λ s. s.faults };
 
     fn put(&mut self, bytes: &[u8]) -> Result<(), PutFault>
+        // Of a writer that tells its bytes: all of the piece was appended, or a first part.
+        ensures whole { OnOk result
+            (Appends (W.contents self.old.writer) (W.contents self.new.writer) bytes.now) }
+        ensures front { (n : ℕ)
+            × Appends (W.contents self.old.writer) (W.contents self.new.writer) (take n bytes.now) }
+
         ensures empty { bytes.now ≡ [] → IsOk result }
-        ensures cause { HasCause PutFault.Failed self.old self.new result }
+        ensures cause { HasCause PutFault.Failed self.old.faults self.new.faults result }
         ensures failed_only { OnErr result (IsErrOf result PutFault.Failed) }
-        ensures counts { OnErr result (self.new ≡ counted self.old) }
-        ensures calm { OnOk result (self.new ≡ self.old) }
-    {
-        if write_whole(&mut self.writer, bytes) {
-            return Ok(());
-        }
-        self.faults = one_more(self.faults);
-        Err(PutFault::Failed)
-    }
-}
-
-/// The standard error, as a writer such as the runtime's `stderr()`. It tells no content. Contracts see the count of
-/// faults.
-///
-/// Faults and costs are those of [`OutSink`].
-#[derive(Drop)]
-pub struct ErrSink<W> {
-    writer: W,
-    faults: u64,
-}
-
-impl<W> Model for ErrSink<W> {
-    ghost use Rattle.std.specs.Prelude.{ℕ};
-
-    ghost Value = { ℕ };
-
-    ghost view = { λ s. s.faults };
-}
-
-impl<W: Write> ErrSink<W> {
-    /// The sink over this writer, with no fault so far.
-    pub fn new(writer: W) -> ErrSink<W>
-        ensures faults { result ≡ 0 }
-    {
-        ErrSink { writer, faults: 0 }
-    }
-}
-
-impl<W: Write> Sink for ErrSink<W> {
-    ghost written = { λ _. None };
-
-    ghost faults = { λ s. s };
-
-    fn put(&mut self, bytes: &[u8]) -> Result<(), PutFault>
-        ensures empty { bytes.now ≡ [] → IsOk result }
-        ensures cause { HasCause PutFault.Failed self.old self.new result }
-        ensures failed_only { OnErr result (IsErrOf result PutFault.Failed) }
-        ensures counts { OnErr result (self.new ≡ counted self.old) }
-        ensures calm { OnOk result (self.new ≡ self.old) }
+        ensures counts { OnErr result (self.new.faults ≡ counted self.old.faults) }
+        ensures calm { OnOk result (self.new.faults ≡ self.old.faults) }
     {
         if write_whole(&mut self.writer, bytes) {
             return Ok(());
@@ -114,11 +91,29 @@ pub fn write_whole<W: Write>(writer: &mut W, bytes: &[u8]) -> bool
 {
     let mut rest = bytes;
     while !rest.is_empty() {
-        match writer.write(rest) {
+        match write_some(writer, rest) {
             Ok(0) => return false,
             Err(_) => return false,
             Ok(count) => rest = &rest[count..],
         }
     }
     true
+}
+
+/// One write, made again where a signal interrupts it.
+fn write_some<W: Write>(writer: &mut W, bytes: &[u8]) -> io::Result<usize>
+    ensures bound { WritesAtMost result bytes.now }
+    ensures ok { IfOk result
+        (λ count. Appends (W.contents writer.old) (W.contents writer.new) (take count bytes.now)) }
+    ensures err { OnErr result (Keeps (W.contents writer.old) (W.contents writer.new)) }
+    ensures retried { IfErr result (λ error. error_kind error ≢ ErrorKind.Interrupted) }
+{
+    for _ in 0..u64::MAX {
+        match writer.write(bytes) {
+            Ok(count) => return Ok(count),
+            Err(error) if error.kind() == ErrorKind::Interrupted => {}
+            Err(error) => return Err(error),
+        }
+    }
+    Err(io::Error::from(ErrorKind::TimedOut))
 }

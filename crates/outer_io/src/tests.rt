@@ -1,21 +1,29 @@
-// What no clause says: that calls succeed, what real files and streams do, and writers that take little or fail.
+// What no clause says: that calls succeed, what real files and streams do, and readers and writers that move little, are
+// interrupted or fail.
+use crate::files::read_whole;
 use crate::*;
 use c_terms::Text;
 use std::alloc::Global;
-use std::fs;
-use std::io::{Error, ErrorKind, Write};
+use std::io::{Error, ErrorKind, Read, Write};
+use std::process::Abort;
 use std::test::Fail;
+use std::{fs, io};
 
-/// Takes a few bytes at a time, and fails once it has taken so many.
+/// Takes a few bytes at a time, is interrupted before each time, and fails once it has taken so many.
 #[derive(Drop)]
-struct Slow {
+struct SlowWriter {
     taken: Vec<u8>,
     most: usize,
     room: usize,
+    is_interrupted: bool,
 }
 
-impl Write for Slow {
-    fn write(&mut self, bytes: &[u8]) -> std::io::Result<usize> {
+impl Write for SlowWriter {
+    fn write(&mut self, bytes: &[u8]) -> io::Result<usize> {
+        self.is_interrupted = !self.is_interrupted;
+        if self.is_interrupted {
+            return Err(Error::from(ErrorKind::Interrupted));
+        }
         if self.taken.len() >= self.room {
             return Err(Error::from(ErrorKind::Other));
         }
@@ -24,16 +32,49 @@ impl Write for Slow {
         Ok(count)
     }
 
-    fn flush(&mut self) -> std::io::Result<()> {
+    fn flush(&mut self) -> io::Result<()> {
         Ok(())
     }
 }
 
-fn slow_writer(alloc: Global, most: usize, room: usize) -> Slow {
-    Slow {
+fn slow_writer(alloc: Global, most: usize, room: usize) -> SlowWriter {
+    SlowWriter {
         taken: Vec::new(alloc),
         most,
         room,
+        is_interrupted: false,
+    }
+}
+
+/// Gives a few bytes at a time, is interrupted before each time, and at its end gives nothing or fails.
+#[derive(Drop)]
+struct SlowReader<'a> {
+    left: &'a [u8],
+    fails_at_end: bool,
+    is_interrupted: bool,
+}
+
+impl Read for SlowReader<'_> {
+    fn read(&mut self, buffer: &mut [u8]) -> io::Result<usize> {
+        self.is_interrupted = !self.is_interrupted;
+        if self.is_interrupted {
+            return Err(Error::from(ErrorKind::Interrupted));
+        }
+        if self.left.is_empty() && self.fails_at_end {
+            return Err(Error::from(ErrorKind::Other));
+        }
+        let count = self.left.len().min(3).min(buffer.len());
+        buffer[..count].copy_from_slice(&self.left[..count]);
+        self.left = &self.left[count..];
+        Ok(count)
+    }
+}
+
+fn slow_reader(left: &[u8], fails_at_end: bool) -> SlowReader<'_> {
+    SlowReader {
+        left,
+        fails_at_end,
+        is_interrupted: false,
     }
 }
 
@@ -139,31 +180,56 @@ fn file_shelf_reads_back_what_it_stored(rt: HostRuntime) -> Result<(), Fail> {
 }
 
 #[test]
-fn out_sink_goes_on_until_all_is_written(rt: HostRuntime) -> Result<(), Fail> {
-    let mut sink = OutSink::new(slow_writer(rt.alloc(), 3, 8));
-    sink.put(b"abcdefg").expect(&rt, "room for seven");
-    assert!(rt; matches!(sink.put(b"hijklmnop"), Err(PutFault::Failed)));
-    assert!(rt; matches!(sink.put(b"q"), Err(PutFault::Failed)));
-    sink.put(b"").expect(&rt, "an empty piece");
+fn a_load_goes_on_until_all_is_read(rt: HostRuntime) -> Result<(), Fail> {
+    let alloc = rt.alloc();
+    let read = read_whole(alloc, &mut slow_reader(b"abcdefgh", false), 0, 8);
+    assert_eq!(rt;
+        read.expect(&rt, "eight bytes").as_slice(),
+        b"abcdefgh".as_slice()
+    );
     assert!(rt;
         matches!(
-            OutSink::new(slow_writer(rt.alloc(), 0, 8)).put(b"a"),
-            Err(PutFault::Failed)
+            read_whole(alloc, &mut slow_reader(b"abcdefgh", false), 0, 7),
+            Err(ShelfFault::TooLong)
         )
     );
-    OutSink::new(rt.stdout())
-        .put(b"out\n")
-        .expect(&rt, "the standard output");
+    assert!(rt;
+        matches!(
+            read_whole(alloc, &mut slow_reader(b"abcdefgh", true), 0, 8),
+            Err(ShelfFault::Failed)
+        )
+    );
+    Ok(())
+}
+
+/// Puts a piece for which there is room, two for which there is not, and an empty one.
+fn assert_put_in_order<W: Write>(rt: &impl Abort, sink: &mut StreamSink<W>) {
+    sink.put(b"abcdefg").expect(rt, "room for seven");
+    assert!(rt; matches!(sink.put(b"hijklmnop"), Err(PutFault::Failed)));
+    assert!(rt; matches!(sink.put(b"q"), Err(PutFault::Failed)));
+    sink.put(b"").expect(rt, "an empty piece");
+}
+
+#[test]
+fn a_put_goes_on_until_all_is_written(rt: HostRuntime) -> Result<(), Fail> {
+    let mut out = OutSink::new(slow_writer(rt.alloc(), 3, 8));
+    assert_put_in_order(&rt, &mut out);
+    assert_eq!(rt;
+        out.into_writer().taken.as_slice(),
+        b"abcdefghij".as_slice()
+    );
+    let mut err = ErrSink::new(slow_writer(rt.alloc(), 2, 8));
+    assert_put_in_order(&rt, &mut err);
+    assert_eq!(rt; err.into_writer().taken.as_slice(), b"abcdefghi".as_slice());
+    let mut full = OutSink::new(slow_writer(rt.alloc(), 0, 8));
+    assert!(rt; matches!(full.put(b"a"), Err(PutFault::Failed)));
     Ok(())
 }
 
 #[test]
-fn err_sink_goes_on_until_all_is_written(rt: HostRuntime) -> Result<(), Fail> {
-    let mut sink = ErrSink::new(slow_writer(rt.alloc(), 3, 8));
-    sink.put(b"abcdefg").expect(&rt, "room for seven");
-    assert!(rt; matches!(sink.put(b"hijklmnop"), Err(PutFault::Failed)));
-    ErrSink::new(rt.stderr())
-        .put(b"err\n")
-        .expect(&rt, "the standard error");
-    Ok(())
+fn the_standard_streams_take_a_put(rt: HostRuntime) {
+    let mut out = OutSink::new(rt.stdout());
+    out.put(b"out\n").expect(&rt, "the standard output");
+    let mut err = ErrSink::new(rt.stderr());
+    err.put(b"err\n").expect(&rt, "the standard error");
 }

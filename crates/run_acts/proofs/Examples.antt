@@ -1,19 +1,7 @@
 -- The definitions, run.
 use Rattle.std.proofs.Common.{◌≡◌, [], ◌∷◌, Some, None, refl, codes}
 use Rattle.run_acts.specs.Acts.{Load, Print, Report, told, after}
-use Rattle.run_acts.specs.Lines.{usage, patch_too_long, file_too_long, not_yet, cannot_read, cannot_write, cannot_print}
-
-usage_line : usage ≡ codes "spatch: usage: spatch --sp-file P FILE\n"
-usage_line = refl
-
-patch_too_long_line : patch_too_long (codes "p") ≡ codes "spatch: p: patch fault 1\n"
-patch_too_long_line = refl
-
-patch_not_yet_line : not_yet (codes "p") ≡ codes "spatch: p: not yet\n"
-patch_not_yet_line = refl
-
-file_too_long_line : file_too_long (codes "k.c") ≡ codes "spatch: k.c: refused: file too long\n"
-file_too_long_line = refl
+use Rattle.run_acts.specs.Lines.{cannot_read, cannot_write, cannot_print}
 
 cannot_read_line : cannot_read (codes "k.c") ≡ codes "spatch: k.c: cannot read\n"
 cannot_read_line = refl

@@ -1,11 +1,9 @@
--- What a load gives, by what stands under the name, and the status of a run that stopped.
+-- What a load gives, by what stands under the name.
 use Rattle.std.specs.Prelude.{ℕ, ◌≡◌, ◌<◌, ◌≤◌, List, Option, Some, None, length, IsSome, IsSomeAnd}
 use Rattle.std.specs.FinMap.{get}
 use Rattle.outer_io.specs.Files.{Files}
 use Rattle.run_acts.specs.declared.outside.Loaded.{Loaded}
 use Rattle.run_acts.specs.declared.outside.Loaded.TheVariants.{Bytes, TooLong, Absent}
-use Rattle.run_acts.specs.declared.outside.Stopped.{Stopped}
-use Rattle.run_acts.specs.declared.outside.Stopped.TheVariants.{CannotRead, CannotWrite, NoMemory}
 
 -- This may stand under a name: what the shelf tells, or some bytes where it tells nothing.
 abbrev pub Found : Option Files → List ℕ → Option (List ℕ) → Type 0
@@ -17,9 +15,3 @@ abbrev pub Gives : Option (List ℕ) → ℕ → Loaded → Type 0
 Gives under limit (Bytes bytes) = (under ≡ Some bytes.items) × (length bytes.items ≤ limit)
 Gives under limit TooLong = IsSomeAnd under (λ bytes. limit < length bytes)
 Gives under limit Absent = under ≡ None
-
--- the status that a stopped run answers
-abbrev pub status_of : Stopped → ℕ
-status_of CannotRead = 5
-status_of CannotWrite = 6
-status_of NoMemory = 7

@@ -1,8 +1,8 @@
 //! What a run does outside, one act at a time: it loads, stores, prints and reports.
 //!
 //! - [`load`], [`store`], [`print`] and [`report`] do one act each. Where an act fails, its line is put on the error
-//!   output, and [`Stopped`] says with which status the run ends.
-//! - [`line_of`] and [`usage`] are the texts of those lines.
+//!   output, and [`Stopped`] says with which [`Status`] the run ends.
+//! - [`line_of`], [`cannot_read`], [`cannot_write`] and [`cannot_print`] are the texts of lines.
 //!
 //! The contracts speak of acts, of what the shelf and the two outputs tell after them, and of their counts of faults. A
 //! run's own contract strings them: so many acts were done, and then the next one broke.
@@ -15,8 +15,10 @@
 
 mod lines;
 mod outside;
+mod status;
 #[cfg(test)]
 mod tests;
 
-pub use lines::{cannot_print, line_of, usage};
-pub use outside::{Loaded, Stopped, load, print, report, store};
+pub use lines::{cannot_print, cannot_read, cannot_write, line_of};
+pub use outside::{Loaded, load, print, report, store};
+pub use status::{Status, Stopped};

@@ -1,11 +1,9 @@
 // The lines on the error output.
 ghost use Rattle.std.specs.Prelude.{◌≡◌, IfOk, string_bytes};
-ghost use Rattle.run_acts.specs.Lines.{line_of, usage, cannot_print};
+ghost use Rattle.run_acts.specs.Lines.{line_of, cannot_read, cannot_write, cannot_print};
 
 use c_terms::NoMemory;
 use std::alloc::Global;
-
-const USAGE: &str = "spatch: usage: spatch --sp-file P FILE\n";
 
 const CANNOT_PRINT: &str = "spatch: cannot print\n";
 
@@ -16,11 +14,18 @@ pub fn line_of(alloc: Global, name: &str, text: &str) -> Result<String, NoMemory
     Ok(format!(in alloc; "spatch: {name}: {text}\n")?)
 }
 
-/// The line on how the program is called.
-pub fn usage() -> &'static str
-    ensures bytes { result.now ≡ usage }
+/// The line about what cannot be read.
+pub fn cannot_read(alloc: Global, name: &str) -> Result<String, NoMemory>
+    ensures bytes { IfOk result (λ line. string_bytes line ≡ cannot_read name.now) }
 {
-    USAGE
+    line_of(alloc, name, "cannot read")
+}
+
+/// The line about what cannot be written.
+pub fn cannot_write(alloc: Global, name: &str) -> Result<String, NoMemory>
+    ensures bytes { IfOk result (λ line. string_bytes line ≡ cannot_write name.now) }
+{
+    line_of(alloc, name, "cannot write")
 }
 
 /// The line on an output that failed.

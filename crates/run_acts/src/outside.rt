@@ -3,45 +3,13 @@ ghost use Rattle.std.specs.Prelude.{◌≡◌, ◌≤◌, List, ℕ, Option, IfO
 ghost use Rattle.outer_io.specs.Files.{Files, stored, grown};
 ghost use Rattle.run_acts.specs.Acts.{Load, Store, Print, Report, told};
 ghost use Rattle.run_acts.specs.Breaks.{Breaks, counts};
-ghost use Rattle.run_acts.specs.Loaded.{Gives, Found, status_of};
-ghost use Rattle.run_acts.specs.declared.outside.Stopped.TheVariants.{NoMemory};
+ghost use Rattle.run_acts.specs.Loaded.{Gives, Found};
+ghost use Rattle.run_acts.specs.Statuses.{status_of};
 
-use crate::lines::{cannot_print, line_of};
-use c_terms::NoMemory;
+use crate::lines::{cannot_print, cannot_read, cannot_write};
+use crate::status::Stopped;
 use outer_io::{PutFault, Shelf, ShelfFault, Sink};
 use std::alloc::Global;
-
-/// Why a run stops before its last act.
-#[derive(Clone, Copy, Debug, PartialEq, Eq)]
-pub enum Stopped {
-    /// A load failed, and its line was put: status 5.
-    CannotRead,
-    /// A store or a put failed: status 6.
-    CannotWrite,
-    /// Memory ran out: status 7.
-    NoMemory,
-}
-
-impl Stopped {
-    /// The status that the run answers.
-    pub fn status(self) -> u8
-        ensures { result ≡ status_of self }
-    {
-        match self {
-            Stopped::CannotRead => 5,
-            Stopped::CannotWrite => 6,
-            Stopped::NoMemory => 7,
-        }
-    }
-}
-
-impl From<NoMemory> for Stopped {
-    ghost from_gives = { λ _ stopped. stopped ≡ NoMemory };
-
-    fn from(_: NoMemory) -> Self {
-        Stopped::NoMemory
-    }
-}
 
 /// What stands under a name.
 #[derive(Drop)]
@@ -83,7 +51,7 @@ pub fn load<S: Shelf, E: Sink>(
         Err(ShelfFault::Absent) => Ok(Loaded::Absent),
         Err(ShelfFault::NoMemory) => Err(Stopped::NoMemory),
         Err(ShelfFault::Failed) => {
-            let line = line_of(alloc, name, "cannot read")?;
+            let line = cannot_read(alloc, name)?;
             match err.put(line.as_str().as_bytes()) {
                 Ok(()) => Err(Stopped::CannotRead),
                 Err(PutFault::NoMemory) => Err(Stopped::NoMemory),
@@ -117,7 +85,7 @@ pub fn store<S: Shelf, E: Sink>(
         Err(ShelfFault::NoMemory) => Err(Stopped::NoMemory),
         Err(_) => {
             // The line is left out where memory is refused.
-            if let Ok(line) = line_of(alloc, name, "cannot write") {
+            if let Ok(line) = cannot_write(alloc, name) {
                 let _ = err.put(line.as_str().as_bytes());
             }
             Err(Stopped::CannotWrite)

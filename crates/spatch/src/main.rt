@@ -5,22 +5,20 @@
 //! a faulty command line as any other.
 #![tactic(auto)]
 
+mod exit;
+#[cfg(test)]
+mod tests;
 mod words;
 
+use exit::exit_of;
 use outer_io::{ErrSink, FileShelf, OutSink};
-use spatch_run::run;
 use std::process::ExitCode;
 use words::words_after_name;
 
-/// The status of a run whose words find no memory.
-const OUT_OF_MEMORY: u8 = 7;
-
 fn main(rt: HostRuntime) -> ExitCode {
-    let Ok(words) = words_after_name(&rt, rt.alloc()) else {
-        return ExitCode::from(OUT_OF_MEMORY);
-    };
+    let words = words_after_name(&rt, rt.alloc());
     let mut shelf = FileShelf::new(&rt);
     let mut out = OutSink::new(rt.stdout());
     let mut err = ErrSink::new(rt.stderr());
-    ExitCode::from(run(&rt, &words, &mut shelf, &mut out, &mut err))
+    exit_of(&rt, words, &mut shelf, &mut out, &mut err)
 }

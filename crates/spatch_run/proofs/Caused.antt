@@ -4,7 +4,8 @@ use Rattle.std.specs.Prelude.{IsSome}
 use Rattle.outer_io.specs.Faults.{Rose}
 use Rattle.run_acts.specs.Acts.{Act, Load, Store, Print, Report, Told, done, after}
 use Rattle.run_acts.specs.Breaks.{Counts, Fails, Breaks}
-use Rattle.run_acts.specs.Lines.{usage, cannot_read}
+use Rattle.run_acts.specs.Lines.{cannot_read}
+use Rattle.spatch_run.specs.Lines.{usage}
 use Rattle.run_acts.specs.Loaded.{Found}
 use Rattle.spatch_run.specs.Commands.{IsCommand}
 use Rattle.spatch_run.specs.Readings.{patch_limit, file_limit}

@@ -4,7 +4,8 @@ use Rattle.std.specs.Prelude.{IsSomeAnd}
 use Rattle.outer_io.specs.Files.{Files}
 use Rattle.run_acts.specs.Acts.{Load, Print, Told, told}
 use Rattle.run_acts.specs.Breaks.{Counts, NoneFell}
-use Rattle.run_acts.specs.Lines.{cannot_read, patch_too_long, file_too_long, not_yet}
+use Rattle.run_acts.specs.Lines.{cannot_read}
+use Rattle.spatch_run.specs.Lines.{patch_too_long, file_too_long, not_yet}
 use Rattle.run_acts.specs.Loaded.{Found}
 use Rattle.small_rule.specs.SmallPatch.{IsSmallPatch}
 use Rattle.small_rule.specs.SmallFile.{Becomes}

@@ -1,7 +1,8 @@
 -- The acts of a whole run report no line exactly where its status is 0.
 use Rattle.std.proofs.Common.{◌≡◌, ℕ, ◌<◌, ◌↔◌, lit<, List, [], ◌∷◌, Option, Some, None, sym, ap, ◌∙◌, inl, inr, arith}
 use Rattle.run_acts.specs.Acts.{Act, Load, Report, Told, done}
-use Rattle.run_acts.specs.Lines.{usage, cannot_read}
+use Rattle.run_acts.specs.Lines.{cannot_read}
+use Rattle.spatch_run.specs.Lines.{usage}
 use Rattle.spatch_run.specs.Readings.{patch_limit, file_limit}
 use Rattle.spatch_run.specs.Stages.{Stage, Doing, ReadPatch, EditFile, refusing, printing, PatchLeads, FileLeads, status_at}
 use Rattle.spatch_run.specs.Paths.{Path, AreActs}

@@ -1,8 +1,9 @@
 -- The status that a run answers, at its end or where it stopped.
 use Rattle.std.specs.Prelude.{ℕ, Result, Ok, Err}
-use Rattle.run_acts.specs.declared.outside.Stopped.{Stopped}
-use Rattle.run_acts.specs.Loaded.{status_of}
+use Rattle.run_acts.specs.declared.status.Status.{Status}
+use Rattle.run_acts.specs.declared.status.Stopped.{Stopped}
+use Rattle.run_acts.specs.Statuses.{number_of, status_of}
 
-abbrev pub answer : Result ℕ Stopped → ℕ
-answer (Ok status) = status
+abbrev pub answer : Result Status Stopped → ℕ
+answer (Ok status) = number_of status
 answer (Err stopped) = status_of stopped

@@ -2,7 +2,7 @@
 use Rattle.std.specs.Prelude.{ℕ, ◌≡◌, ◌⊎◌, ◌<◌, ◌≤◌, List, length}
 use Rattle.small_rule.specs.SmallPatch.{IsSmallPatch}
 use Rattle.small_rule.specs.SmallFile.{Becomes}
-use Rattle.run_acts.specs.Lines.{patch_too_long, file_too_long, not_yet}
+use Rattle.spatch_run.specs.Lines.{patch_too_long, file_too_long, not_yet}
 
 -- a patch is read up to this many bytes
 abbrev pub patch_limit : ℕ

@@ -2,7 +2,8 @@
 use Rattle.std.specs.Prelude.{ℕ, ◌≡◌, ◌⊎◌, List, [], ◌∷◌, Option, Some, None}
 use Rattle.outer_io.specs.Files.{Files}
 use Rattle.run_acts.specs.Acts.{Act, Load, Print, Report}
-use Rattle.run_acts.specs.Lines.{usage, cannot_read}
+use Rattle.run_acts.specs.Lines.{cannot_read}
+use Rattle.spatch_run.specs.Lines.{usage}
 use Rattle.run_acts.specs.Loaded.{Found}
 use Rattle.spatch_run.specs.Commands.{IsCommand}
 use Rattle.spatch_run.specs.Readings.{patch_limit, file_limit, PatchGives, PatchRefused, FileGives, FileRefused}

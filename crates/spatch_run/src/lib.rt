@@ -1,6 +1,7 @@
 //! One run of the tool: its words, what it does outside, and its status.
 //!
 //! - [`run`] does what the words ask for, on a shelf of files and two sinks, and answers the status.
+//! - [`Status`] has a name for each status; [`run`] answers its number.
 //! - [`acts_are_one_list`] says that its contract leaves no choice.
 //!
 //! The words `--sp-file p k.c` load the patch `p` and the file `k.c`, and print the file without the calls that the patch
@@ -17,6 +18,7 @@ ghost use Rattle.spatch_run.specs.Promise.{IsExact, EndsRightly};
 ghost use Rattle.spatch_run.specs.Causes.{Causes};
 
 mod law;
+mod refusals;
 mod stages;
 #[cfg(test)]
 mod tests;
@@ -25,6 +27,7 @@ mod words;
 use c_terms::Text;
 pub use law::acts_are_one_list;
 use outer_io::{Shelf, Sink};
+pub use run_acts::Status;
 use stages::{follow_words, status_of};
 
 /// Does what the words ask for, and answers the status.
@@ -61,5 +64,5 @@ pub fn run<R: AllocGlobal, S: Shelf, O: Sink, E: Sink>(
         (told (S.holds shelf.old) (O.written out.old) (E.written err.old))
         (told (S.holds shelf.new) (O.written out.new) (E.written err.new)) result }
 {
-    status_of(follow_words(rt.alloc(), words, shelf, out, err))
+    status_of(follow_words(rt.alloc(), words, shelf, out, err)).number()
 }

@@ -3,15 +3,18 @@ ghost use Rattle.std.specs.Prelude.{◌≡◌, ◌≤◌, [], List, ℕ, Option}
 ghost use Rattle.outer_io.specs.Files.{Files};
 ghost use Rattle.run_acts.specs.Acts.{told};
 ghost use Rattle.run_acts.specs.Breaks.{counts};
-ghost use Rattle.run_acts.specs.Lines.{line_of, usage};
+ghost use Rattle.run_acts.specs.Statuses.{number_of};
+ghost use Rattle.spatch_run.specs.Lines.{usage};
 ghost use Rattle.spatch_run.specs.Stages.{Doing, Ending, ReadPatch, EditFile, refusing, printing};
 ghost use Rattle.spatch_run.specs.Ends.{Ends, Follows};
 ghost use Rattle.spatch_run.specs.Answer.{answer};
+ghost use Rattle.spatch_run.specs.Refusals.{line_about, refusal_status};
 
+use crate::refusals::{Refusal, usage};
 use crate::words::command;
 use c_terms::Text;
 use outer_io::{Shelf, Sink};
-use run_acts::{Loaded, Stopped, line_of, load, print, report, usage};
+use run_acts::{Loaded, Status, Stopped, load, print, report};
 use small_rule::{Call, read_patch, remove_calls};
 use std::alloc::Global;
 
@@ -19,19 +22,9 @@ const PATCH_LIMIT: u64 = 1_048_576;
 
 const FILE_LIMIT: u64 = 16_777_216;
 
-const DONE: u8 = 0;
-
-const WORDS_REFUSED: u8 = 1;
-
-const PATCH_REFUSED: u8 = 2;
-
-const FILE_REFUSED: u8 = 4;
-
-const NAME_ABSENT: u8 = 5;
-
 /// The status of a run that ended or stopped.
-pub fn status_of(end: Result<u8, Stopped>) -> u8
-    ensures { result ≡ answer end }
+pub fn status_of(end: Result<Status, Stopped>) -> Status
+    ensures { number_of result ≡ answer end }
 {
     match end {
         Ok(status) => status,
@@ -46,7 +39,7 @@ pub fn follow_words<S: Shelf, O: Sink, E: Sink>(
     shelf: &mut S,
     out: &mut O,
     err: &mut E,
-) -> Result<u8, Stopped>
+) -> Result<Status, Stopped>
     ensures ends { Follows words.now
         (counts (S.faults shelf.old) (O.faults out.old) (E.faults err.old))
         (counts (S.faults shelf.new) (O.faults out.new) (E.faults err.new))
@@ -67,7 +60,7 @@ fn apply_patch<S: Shelf, O: Sink, E: Sink>(
     shelf: &mut S,
     out: &mut O,
     err: &mut E,
-) -> Result<u8, Stopped>
+) -> Result<Status, Stopped>
     ensures ends { Ends (Doing [] (ReadPatch patch.now file.now))
         (counts (S.faults shelf.old) (O.faults out.old) (E.faults err.old))
         (counts (S.faults shelf.new) (O.faults out.new) (E.faults err.new))
@@ -76,12 +69,12 @@ fn apply_patch<S: Shelf, O: Sink, E: Sink>(
 {
     let bytes = match load(alloc, shelf, err, patch, PATCH_LIMIT)? {
         Loaded::Bytes(bytes) => bytes,
-        Loaded::TooLong => return refuse(alloc, err, patch, "patch fault 1", PATCH_REFUSED),
-        Loaded::Absent => return refuse(alloc, err, patch, "cannot read", NAME_ABSENT),
+        Loaded::TooLong => return refuse(alloc, err, patch, Refusal::PatchTooLong),
+        Loaded::Absent => return refuse(alloc, err, patch, Refusal::Absent),
     };
     match read_patch(alloc, &bytes)? {
         Some(call) => edit_file(alloc, &call, file, shelf, out, err),
-        None => refuse(alloc, err, patch, "not yet", PATCH_REFUSED),
+        None => refuse(alloc, err, patch, Refusal::PatchNotYet),
     }
 }
 
@@ -93,7 +86,7 @@ fn edit_file<S: Shelf, O: Sink, E: Sink>(
     shelf: &mut S,
     out: &mut O,
     err: &mut E,
-) -> Result<u8, Stopped>
+) -> Result<Status, Stopped>
     ensures ends { Ends (Doing [] (EditFile call.now file.now))
         (counts (S.faults shelf.old) (O.faults out.old) (E.faults err.old))
         (counts (S.faults shelf.new) (O.faults out.new) (E.faults err.new))
@@ -102,17 +95,17 @@ fn edit_file<S: Shelf, O: Sink, E: Sink>(
 {
     let bytes = match load(alloc, shelf, err, file, FILE_LIMIT)? {
         Loaded::Bytes(bytes) => bytes,
-        Loaded::TooLong => return refuse(alloc, err, file, "refused: file too long", FILE_REFUSED),
-        Loaded::Absent => return refuse(alloc, err, file, "cannot read", NAME_ABSENT),
+        Loaded::TooLong => return refuse(alloc, err, file, Refusal::FileTooLong),
+        Loaded::Absent => return refuse(alloc, err, file, Refusal::Absent),
     };
     match remove_calls(alloc, call, &bytes)? {
         Some(text) => show(out, err, &text),
-        None => refuse(alloc, err, file, "not yet", FILE_REFUSED),
+        None => refuse(alloc, err, file, Refusal::FileNotYet),
     }
 }
 
 /// Prints the text, if there is any.
-fn show<O: Sink, E: Sink>(out: &mut O, err: &mut E, text: &[u8]) -> Result<u8, Stopped>
+fn show<O: Sink, E: Sink>(out: &mut O, err: &mut E, text: &[u8]) -> Result<Status, Stopped>
     ensures ends { (files : Option Files) (s : ℕ) → Ends (Ending (printing text.now) 0)
         (counts s (O.faults out.old) (E.faults err.old))
         (counts s (O.faults out.new) (E.faults err.new))
@@ -120,21 +113,21 @@ fn show<O: Sink, E: Sink>(out: &mut O, err: &mut E, text: &[u8]) -> Result<u8, S
         (told files (O.written out.new) (E.written err.new)) (answer result) }
 {
     if text.is_empty() {
-        return Ok(DONE);
+        return Ok(Status::Done);
     }
     print(out, err, text)?;
-    Ok(DONE)
+    Ok(Status::Done)
 }
 
 /// Puts the line on how the tool is called.
-fn refuse_words<E: Sink>(err: &mut E) -> Result<u8, Stopped>
+fn refuse_words<E: Sink>(err: &mut E) -> Result<Status, Stopped>
     ensures ends { (files : Option Files) (out : Option (List ℕ)) (s o : ℕ) →
         Ends (refusing usage 1)
         (counts s o (E.faults err.old)) (counts s o (E.faults err.new))
         (told files out (E.written err.old)) (told files out (E.written err.new)) (answer result) }
 {
     report(err, usage().as_bytes())?;
-    Ok(WORDS_REFUSED)
+    Ok(Status::WordsRefused)
 }
 
 /// Puts the line of a refusal, and answers its status.
@@ -142,15 +135,14 @@ fn refuse<E: Sink>(
     alloc: Global,
     err: &mut E,
     name: &str,
-    text: &str,
-    status: u8,
-) -> Result<u8, Stopped>
+    refusal: Refusal,
+) -> Result<Status, Stopped>
     ensures ends { (files : Option Files) (out : Option (List ℕ)) (s o : ℕ) →
-        Ends (refusing (line_of name.now text.now) status)
+        Ends (refusing (line_about refusal name.now) (refusal_status refusal))
         (counts s o (E.faults err.old)) (counts s o (E.faults err.new))
         (told files out (E.written err.old)) (told files out (E.written err.new)) (answer result) }
 {
-    let line = line_of(alloc, name, text)?;
+    let line = refusal.line(alloc, name)?;
     report(err, line.as_str().as_bytes())?;
-    Ok(status)
+    Ok(refusal.status())
 }

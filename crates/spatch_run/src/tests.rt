@@ -1,7 +1,7 @@
 // Whole runs: the worked rows, each refusal, and each call of the outside that may fail.
 use crate::run;
 use c_terms::{NoMemory, Text};
-use outer_io::{CalmShelf, CalmSink, MemShelf, MemSink};
+use outer_io::{MemShelf, MemSink};
 use std::alloc::Global;
 use std::process::Abort;
 use std::test::Fail;
@@ -36,6 +36,12 @@ struct FailingCalls {
     out: Option<u64>,
     err: Option<u64>,
 }
+
+const NONE_FAILS: FailingCalls = FailingCalls {
+    shelf: None,
+    out: None,
+    err: None,
+};
 
 fn texts(alloc: Global, words: &[&[u8]]) -> Result<Vec<Text>, NoMemory> {
     let mut texts = Vec::new(alloc);
@@ -73,29 +79,8 @@ fn fail_at(alloc: Global, call: Option<u64>) -> Result<Vec<u64>, NoMemory> {
     Ok(calls)
 }
 
-/// A run in which nothing fails.
-fn calm_run(
-    rt: &HostRuntime,
-    words: &[&[u8]],
-    patch: Option<&[u8]>,
-    file: Option<&[u8]>,
-) -> Result<Answer, NoMemory> {
-    let alloc = rt.alloc();
-    let words = texts(alloc, words)?;
-    let mut shelf = CalmShelf::new(entries(alloc, patch, file)?)?;
-    let mut out = CalmSink::new(alloc);
-    let mut err = CalmSink::new(alloc);
-    let status = run(rt, &words, &mut shelf, &mut out, &mut err);
-    Ok(Answer {
-        status,
-        out: out.bytes().to_vec(alloc)?,
-        err: err.bytes().to_vec(alloc)?,
-        files_stay: shelf.bytes_of(b"p") == patch && shelf.bytes_of(b"k.c") == file,
-    })
-}
-
-/// A run in which these calls fail.
-fn failing_run(
+/// A run over a shelf and sinks in memory, in which these calls fail.
+fn run_over(
     rt: &HostRuntime,
     words: &[&[u8]],
     patch: Option<&[u8]>,
@@ -146,7 +131,13 @@ fn each_run_answers_its_status(rt: HostRuntime) -> Result<(), Fail> {
         (Some(PATCH), None, 5, b"", b"spatch: k.c: cannot read\n"),
     ];
     for (patch, file, status, out, err) in rows {
-        assert_answer(&rt, &calm_run(&rt, &WORDS, patch, file)?, status, out, err);
+        assert_answer(
+            &rt,
+            &run_over(&rt, &WORDS, patch, file, NONE_FAILS)?,
+            status,
+            out,
+            err,
+        );
     }
     Ok(())
 }
@@ -162,7 +153,7 @@ fn other_words_are_answered_by_the_usage_line(rt: HostRuntime) -> Result<(), Fai
         [b"--sp-file", b"p", b"\xff.c"],
     ];
     for words in lists {
-        let answer = calm_run(&rt, &words, Some(PATCH), Some(FILE))?;
+        let answer = run_over(&rt, &words, Some(PATCH), Some(FILE), NONE_FAILS)?;
         assert_answer(&rt, &answer, 1, b"", USAGE);
     }
     Ok(())
@@ -171,10 +162,10 @@ fn other_words_are_answered_by_the_usage_line(rt: HostRuntime) -> Result<(), Fai
 #[test]
 fn what_is_over_its_limit_is_refused(rt: HostRuntime) -> Result<(), Fail> {
     let long_patch = blanks(rt.alloc(), 1_048_577)?;
-    let answer = calm_run(&rt, &WORDS, Some(&long_patch), Some(FILE))?;
+    let answer = run_over(&rt, &WORDS, Some(&long_patch), Some(FILE), NONE_FAILS)?;
     assert_answer(&rt, &answer, 2, b"", b"spatch: p: patch fault 1\n");
     let long_file = blanks(rt.alloc(), 16_777_217)?;
-    let answer = calm_run(&rt, &WORDS, Some(PATCH), Some(&long_file))?;
+    let answer = run_over(&rt, &WORDS, Some(PATCH), Some(&long_file), NONE_FAILS)?;
     assert_answer(
         &rt,
         &answer,
@@ -202,7 +193,7 @@ fn a_call_that_fails_ends_the_run(rt: HostRuntime) -> Result<(), Fail> {
     ];
     for ([shelf, out, err], status, printed, reported) in rows {
         let calls = FailingCalls { shelf, out, err };
-        let answer = failing_run(&rt, &WORDS, Some(PATCH), Some(FILE), calls)?;
+        let answer = run_over(&rt, &WORDS, Some(PATCH), Some(FILE), calls)?;
         assert_answer(&rt, &answer, status, printed, reported);
     }
     Ok(())
@@ -223,14 +214,13 @@ fn a_line_that_cannot_be_put_is_status_6(rt: HostRuntime) -> Result<(), Fail> {
         (WORDS, Some(PATCH), Some(DECLARATION), b"spatch: k."),
     ];
     let calls = FailingCalls {
-        shelf: None,
-        out: None,
         err: Some(0),
+        ..NONE_FAILS
     };
     for (words, patch, file, half) in rows {
         assert_answer(
             &rt,
-            &failing_run(&rt, &words, patch, file, calls)?,
+            &run_over(&rt, &words, patch, file, calls)?,
             6,
             b"",
             half,

@@ -24,16 +24,16 @@ loop-init g c =
 
 pub returns-then-count-eq0-clause-bytes : goal.returns-then-count-eq0-clause-bytes
 returns-then-count-eq0-clause-bytes g c =
-    at_end _ _ _ _ _ _ c.loop.invariant.1 c.in-Ok.ensures.bytes.0 c.if-count-eq0.true (c.in-Ok.ensures.bytes.1 c.if-count-eq0.true (omega arith))
+    at_end _ _ _ _ _ _ c.loop.invariant.1 c.in-Ok.ensures.ok c.if-count-eq0.true (c.in-Ok.ensures.end c.if-count-eq0.true (omega arith))
 
 pub returns-then-len-count-clause-too_long : goal.returns-then-len-count-clause-too_long
 returns-then-len-count-clause-too_long g c _ =
-    longer _ _ _ _ (Consumes-trans _ _ _ _ _ c.loop.invariant.1 c.in-Ok.ensures.bytes.0)
-    (omega (arith, length-append c.loop.bytes.items (take c.in-Ok.count c.read.new.buf), c.in-Ok.ensures.bound.1))
+    longer _ _ _ _ (Consumes-trans _ _ _ _ _ c.loop.invariant.1 c.in-Ok.ensures.ok)
+    (omega (arith, length-append c.loop.bytes.items (take c.in-Ok.count c.read_some.new.block), c.in-Ok.ensures.bound.1))
 
 pub loop-preserved : goal.loop-preserved
 loop-preserved g c =
-    let grown : c.extend_from_slice.new.self.items ≡ c.loop.bytes.items ++ take c.in-Ok.count c.read.new.buf = grind (arith, common_steps) in (
-      omega (arith, ap length grown, length-append c.loop.bytes.items (take c.in-Ok.count c.read.new.buf), c.in-Ok.ensures.bound.1),
-      subst (Consumes _ _) (sym grown) (Consumes-trans _ _ _ _ _ c.loop.invariant.1 c.in-Ok.ensures.bytes.0),
+    let grown : c.extend_from_slice.new.self.items ≡ c.loop.bytes.items ++ take c.in-Ok.count c.read_some.new.block = grind (arith, common_steps) in (
+      omega (arith, ap length grown, length-append c.loop.bytes.items (take c.in-Ok.count c.read_some.new.block), c.in-Ok.ensures.bound.1),
+      subst (Consumes _ _) (sym grown) (Consumes-trans _ _ _ _ _ c.loop.invariant.1 c.in-Ok.ensures.ok),
     )

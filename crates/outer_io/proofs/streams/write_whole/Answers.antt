@@ -28,17 +28,17 @@ loop-rest-preserved g c =
     let (done, split, appended) = c.loop-rest.invariant in
     let rest = c.loop-rest.rest.now in
     let n = c.in-Ok.count in
-    (done ++ take n rest, moves_front _ done rest n split, Appends-trans _ _ _ _ _ appended c.in-Ok.ensures.bytes)
+    (done ++ take n rest, moves_front _ done rest n split, Appends-trans _ _ _ _ _ appended c.in-Ok.ensures.ok)
 
 pub returns-in-Ok-eq0-clause-front : goal.returns-in-Ok-eq0-clause-front
 returns-in-Ok-eq0-clause-front g c =
     let (done, split, appended) = c.loop-rest.invariant in
-    front_more _ _ _ _ done c.loop-rest.rest.now _ split appended c.in-Ok-eq0.ensures.bytes
+    front_more _ _ _ _ done c.loop-rest.rest.now _ split appended c.in-Ok-eq0.ensures.ok
 
 pub returns-in-Err-clause-front : goal.returns-in-Err-clause-front
 returns-in-Err-clause-front g c =
     let (done, split, appended) = c.loop-rest.invariant in
-    front_of _ _ _ done c.loop-rest.rest.now split (Appends-kept _ _ _ _ appended c.in-Err.ensures.bytes)
+    front_of _ _ _ done c.loop-rest.rest.now split (Appends-kept _ _ _ _ appended c.in-Err.ensures.err)
 
 pub returns-clause-front : goal.returns-clause-front
 returns-clause-front g c =

@@ -2,7 +2,8 @@ use Rattle.std.proofs.Common.{◌≡◌, ◌≤◌, [], length, refl, Some, inl,
 use Rattle.std.proofs.lemmas.Result.{err_from_is_err_and}
 use Rattle.run_acts.specs.Acts.{Load}
 use Rattle.run_acts.specs.Breaks.{NoneFell, counts}
-use Rattle.run_acts.specs.Lines.{cannot_read, patch_too_long, not_yet}
+use Rattle.run_acts.specs.Lines.{cannot_read}
+use Rattle.spatch_run.specs.Lines.{patch_too_long, not_yet}
 use Rattle.spatch_run.specs.Stages.{Doing, ReadPatch, EditFile, refusing}
 use Rattle.spatch_run.proofs.Chain.{broken}
 use Rattle.spatch_run.proofs.Leading.{patch_loaded, patch_absent, patch_long, patch_not_small, patch_small}

@@ -2,7 +2,8 @@ use Rattle.std.proofs.Common.{◌≡◌, ◌≤◌, [], length, refl, Some, inl,
 use Rattle.std.proofs.lemmas.Result.{err_from_is_err_and}
 use Rattle.run_acts.specs.Acts.{Load}
 use Rattle.run_acts.specs.Breaks.{NoneFell, counts}
-use Rattle.run_acts.specs.Lines.{cannot_read, file_too_long, not_yet}
+use Rattle.run_acts.specs.Lines.{cannot_read}
+use Rattle.spatch_run.specs.Lines.{file_too_long, not_yet}
 use Rattle.spatch_run.specs.Stages.{Doing, Ending, EditFile, refusing, printing}
 use Rattle.spatch_run.proofs.Chain.{broken}
 use Rattle.spatch_run.proofs.Leading.{file_loaded, file_absent, file_long, file_not_small, file_small}

@@ -1,5 +1,5 @@
 use Rattle.std.proofs.Common.{[], inl, inr, refl}
-use Rattle.run_acts.specs.Lines.{usage}
+use Rattle.spatch_run.specs.Lines.{usage}
 use Rattle.spatch_run.specs.Stages.{refusing, Doing, ReadPatch}
 use Rattle.spatch_run.proofs.stages.follow_words.Goals as goal
 

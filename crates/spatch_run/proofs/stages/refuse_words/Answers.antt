@@ -2,7 +2,7 @@ use Rattle.std.proofs.Common.{◌≡◌, refl, ap, sym, List, ℕ, Some, [], ◌
 use Rattle.std.proofs.lemmas.Result.{err_from_is_err_and}
 use Rattle.run_acts.specs.Acts.{Report, told}
 use Rattle.run_acts.specs.Breaks.{NoneFell, counts}
-use Rattle.run_acts.specs.Lines.{usage}
+use Rattle.spatch_run.specs.Lines.{usage}
 use Rattle.spatch_run.specs.Stages.{refusing, Ending}
 use Rattle.spatch_run.proofs.Chain.{Goes-act, Goes-ends, broken, over}
 use Rattle.spatch_run.proofs.stages.refuse_words.Goals as goal

@@ -1,6 +1,6 @@
 use Rattle.std.proofs.Common.{◌≡◌, ap, ◌∙◌, rules}
 use Rattle.std.specs.FinMap.{insert}
-use Rattle.outer_io.specs.Files.{files_in}
+use Rattle.outer_io.specs.Stored.{files_in}
 use Rattle.outer_io.proofs.FileMapLemmas.{files_in-insert}
 use Rattle.outer_io.proofs.file_map.FileMap.put.Goals as goal
 

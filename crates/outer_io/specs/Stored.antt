@@ -1,0 +1,20 @@
+-- How shelves and sinks in memory store what contracts see.
+use Rattle.std.specs.Prelude.{ℕ, List, map, Vec, refl}
+use Rattle.std.specs.declared.alloc.Global.{Global}
+use Rattle.std.specs.Coded.{Coded, code_by, coded×, coded_list, coded_ℕ}
+use Rattle.std.specs.FinMap.{from_entries, code}
+use Rattle.outer_io.specs.Files.{Files}
+use Rattle.outer_io.specs.Calls.{Calls, ShelfState}
+
+-- the files of the entries of a search tree, whose names differ
+abbrev pub files_in : List (Vec ℕ Global × Vec ℕ Global) → Files
+files_in entries = from_entries (map (λ e. (e.0.items, e.1.items)) entries)
+
+abbrev pub files_code : Coded Files
+files_code = code (coded_list coded_ℕ) (coded_list coded_ℕ)
+
+abbrev pub calls_code : Coded Calls
+calls_code = code_by (ℕ × (List ℕ × ℕ)) (coded× coded_ℕ (coded× (coded_list coded_ℕ) coded_ℕ)) (λ c. (c.done, (c.fail, c.faults))) (λ p. record { done = p.0; fail = p.1.0; faults = p.1.1 }) (λ _. refl)
+
+abbrev pub shelf_code : Coded ShelfState
+shelf_code = code_by (Files × Calls) (coded× files_code calls_code) (λ s. (s.files, s.calls)) (λ p. record { files = p.0; calls = p.1 }) (λ _. refl)

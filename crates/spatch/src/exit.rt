@@ -1,0 +1,38 @@
+// The status that the program ends with.
+ghost use Rattle.std.specs.Prelude.{◌≡◌, IfOk, OnErr};
+ghost use Rattle.std.specs.Process.{exit_status};
+ghost use Rattle.spatch_run.specs.Promise.{IsExact, EndsRightly};
+ghost use Rattle.spatch_run.specs.Callers.{told, counts};
+
+use c_terms::{NoMemory, Text};
+use outer_io::{Shelf, Sink};
+use spatch_run::{Status, run};
+use std::process::ExitCode;
+
+/// Runs the words, and ends with the status of the run, or for want of memory where they found none.
+pub fn exit_of<R: AllocGlobal, S: Shelf, O: Sink, E: Sink>(
+    rt: &R,
+    words: Result<Vec<Text>, NoMemory>,
+    shelf: &mut S,
+    out: &mut O,
+    err: &mut E,
+) -> ExitCode
+    ensures no_words { OnErr words (exit_status result ≡ 7) }
+
+    // Else the program does what a run does, and its status is the run's.
+    ensures exact { IfOk words (λ words. IsExact words.items
+        (counts (S.faults shelf.old) (O.faults out.old) (E.faults err.old))
+        (counts (S.faults shelf.new) (O.faults out.new) (E.faults err.new))
+        (told (S.holds shelf.old) (O.written out.old) (E.written err.old))
+        (told (S.holds shelf.new) (O.written out.new) (E.written err.new)) (exit_status result)) }
+    ensures ends { IfOk words (λ words. EndsRightly words.items
+        (counts (S.faults shelf.old) (O.faults out.old) (E.faults err.old))
+        (counts (S.faults shelf.new) (O.faults out.new) (E.faults err.new))
+        (told (S.holds shelf.old) (O.written out.old) (E.written err.old))
+        (told (S.holds shelf.new) (O.written out.new) (E.written err.new)) (exit_status result)) }
+{
+    match words {
+        Ok(words) => ExitCode::from(run(rt, &words, shelf, out, err)),
+        Err(NoMemory) => ExitCode::from(Status::NoMemory.number()),
+    }
+}

@@ -1,6 +1,6 @@
 -- One step of the parser, over places of a row.
-use Rattle.std.proofs.Common.{◌≡◌, ℕ, ◌+◌, ◌≤◌, ◌<◌, max, List, [], ◌∷◌, ◌++◌, length, refl, subst, ap, sym, ◌∙◌, append_assoc, append-nil, map, arith}
-use Rattle.std.specs.Prelude.{Bool, true, false, ◌&&◌, IsTrue, Option, Some, None, is_some}
+use Rattle.std.proofs.Common.{◌≡◌, ℕ, ◌≤◌, ◌<◌, List, [], ◌∷◌, ◌++◌, length, refl, subst, ap, sym, ◌∙◌, append_assoc, append-nil, arith}
+use Rattle.std.specs.Prelude.{Bool, false, IsTrue, Some, None}
 use Rattle.c_terms.specs.declared.tree.Tree.{Tree}
 use Rattle.c_terms.specs.declared.tree.Tree.TheVariants as tree
 use Rattle.c_terms.specs.Trees.{levels, levels_of_all}
@@ -16,7 +16,7 @@ use Rattle.c_rows.specs.Choice.{after, quiet, tail, stops, stops_fork, ends, ope
 use Rattle.c_rows.specs.Seen.{Seen, front, front_typed}
 use Rattle.c_rows.specs.Spells.{Spells, Runs, done, word, child, argument, fork, member_kind}
 use Rattle.c_rows.specs.Words.{ends_member}
-use Rattle.c_expr.specs.Steps.{Place, place, Leads, Refuses, OnlyTree, NoTreeAt, RunsTo, OnlyRun, NoRun}
+use Rattle.c_expr.specs.Steps.{Place, place, Leads, Refuses, OnlyTree, NoTreeAt, RunsTo, OnlyRun}
 use Rattle.c_rows.proofs.Checks.{and_left, and_right, modus, every_at, closes, joins, joins_at, member_at, member_stops, way_ends, chosen_way, both, implies_both, every_from}
 use Rattle.c_rows.proofs.FirstLemmas.{runs_first, way_here}
 

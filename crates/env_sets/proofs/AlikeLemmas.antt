@@ -1,9 +1,8 @@
 -- A set cannot tell environments apart whose values are the same.
-use Rattle.std.proofs.Common.{◌≡◌, ℕ, Bool, true, false, ◌&&◌, ◌||◌, not, cond, eqb, refl, sym, ap, ◌∙◌, List, [], ◌∷◌}
+use Rattle.std.proofs.Common.{◌≡◌, Bool, true, false, cond, refl, List, [], ◌∷◌}
 use Rattle.smpl_terms.specs.declared.value.Value.{Value}
 use Rattle.env_sets.specs.declared.bounds.Bound.{Bound}
 use Rattle.smpl_terms.specs.Values.{same}
-use Rattle.env_sets.specs.Bounds.{fits}
 use Rattle.env_sets.specs.Sets.{entry_denotes, set_denotes}
 use Rattle.smpl_terms.specs.declared.var.Var.{Var}
 use Rattle.smpl_terms.specs.Vars.{same_var}

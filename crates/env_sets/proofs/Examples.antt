@@ -10,13 +10,12 @@ use Rattle.smpl_terms.specs.declared.value.Value.{Value}
 use Rattle.smpl_terms.specs.declared.value.Value.TheVariants.{Term, Place}
 use Rattle.smpl_terms.specs.Vars.{same_var}
 use Rattle.smpl_terms.specs.Values.{same}
-use Rattle.smpl_terms.specs.Environments.{Environment, over, total}
+use Rattle.smpl_terms.specs.Environments.{Environment, total}
 use Rattle.smpl_terms.proofs.ValueLaws.{same-refl}
 use Rattle.env_sets.specs.declared.bounds.Bound.{Bound}
 use Rattle.env_sets.specs.declared.bounds.Bound.TheVariants.{Is, Not}
 use Rattle.env_sets.specs.Bounds.{fits}
-use Rattle.env_sets.specs.Sets.{set_denotes, set_vars}
-use Rattle.env_sets.specs.States.{Entries}
+use Rattle.env_sets.specs.Sets.{Entries, set_denotes, set_vars}
 use Rattle.env_sets.specs.Laws.{IsMeet, IsJoin, IsComplement, IsProjection, IsGiven}
 
 abbrev variable : List ℕ → Var

@@ -1,5 +1,5 @@
 -- An entry where some variables have values.
-use Rattle.std.proofs.Common.{◌≡◌, ℕ, Bool, true, false, ◌&&◌, ◌||◌, not, cond, refl, sym, ap, ◌∙◌, arith, List, [], ◌∷◌, Option, Some, None, is_some, unwrap_or}
+use Rattle.std.proofs.Common.{◌≡◌, Bool, true, false, ◌&&◌, ◌||◌, not, cond, refl, arith, List, [], ◌∷◌, Option, Some, None, is_some, unwrap_or}
 use Rattle.std.specs.List.{list_all, filter}
 use Rattle.std.proofs.lemmas.Grind.{common_steps}
 use Rattle.smpl_terms.specs.declared.value.Value.{Value}

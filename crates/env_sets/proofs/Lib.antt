@@ -7,4 +7,6 @@ pub mod AlikeLemmas
 pub mod SplitLemmas
 pub mod RisingLemmas
 pub mod MeetLemmas
+pub mod LoneLemmas
 pub mod Examples
+pub mod PartLemmas

@@ -95,7 +95,7 @@ or-false : (a : Bool) → (a || false) ≡ a
 or-false true = refl
 or-false false = refl
 
-and-true : (a : Bool) → (a && true) ≡ a
+pub and-true : (a : Bool) → (a && true) ≡ a
 and-true true = refl
 and-true false = refl
 
@@ -145,3 +145,6 @@ all_fails_at_both q xs zs i x r lt e z h =
       | true ↦ λ k. all_fails_at q xs zs i x lt e z (sym (and-true (q x)) ∙ sym k) ∙ sym (and-true (list_all q zs))
       | false ↦ λ k. elim (list_all q zs) as (λ a. false ≡ (a && false)) [ true ↦ refl | false ↦ refl ]
     ] h
+
+pub any_push : {X : Type 0} (q : X → Bool) (xs : List X) (x : X) → list_any q (xs ++ x ∷ []) ≡ (list_any q xs || q x)
+any_push q xs x = list_any-append q xs (x ∷ []) ∙ ap (λ b. list_any q xs || b) (or-false (q x))

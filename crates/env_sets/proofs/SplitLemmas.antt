@@ -1,9 +1,7 @@
 -- A set where one variable has a value: the entries that allow it, without the variable.
-use Rattle.std.proofs.Common.{◌≡◌, ℕ, ◌+◌, ◌<◌, ◌≤◌, suc, Bool, true, false, ◌&&◌, ◌||◌, ◌==◌, not, cond, refl, sym, ap, ◌∙◌, subst, arith, List, [], ◌∷◌, ◌++◌, length, get_or, take}
+use Rattle.std.proofs.Common.{◌≡◌, ℕ, ◌+◌, ◌<◌, ◌≤◌, suc, Bool, true, false, ◌&&◌, ◌||◌, not, cond, refl, sym, ap, ◌∙◌, arith, List, [], ◌∷◌, ◌++◌, length, get_or, take}
 use Rattle.std.proofs.lemmas.List.{take_more}
-use Rattle.std.specs.List.{list_any, list_all, filter}
 use Rattle.std.proofs.lemmas.Grind.{common_steps}
-use Rattle.std.proofs.lemmas.Bool.Decides.{nat_tests}
 use Rattle.smpl_terms.specs.declared.var.Var.{Var}
 use Rattle.smpl_terms.specs.declared.value.Value.{Value}
 use Rattle.smpl_terms.specs.Values.{same}
@@ -162,21 +160,7 @@ pub complement_end : (any P A : Bool) → (any ≡ false → P ≡ A) → ((any 
 complement_end true P A h = grind (arith, common_steps)
 complement_end false P A h = let e = h refl in grind (arith, common_steps)
 
--- a set over one variable, all of whose entries fix it
-no_length : (es : List (List (Var × Bound))) → length es ≡ 0 → es ≡ []
-no_length [] h = refl
-no_length (e ∷ es) h = absurd (omega arith)
-
-no_entries : (n : ℕ) → true ≡ (n == 0) → n ≡ 0
-no_entries n h = grind (arith, nat_tests)
-
-pub empty_list : (es : List (List (Var × Bound))) → true ≡ (length es == 0) → es ≡ []
-empty_list es h = no_length es (no_entries (length es) h)
-
-pub outside_step : (f a : Bool) → a ≡ (f || false) → ((not f && true) || false) ≡ not a
-outside_step true a h = ap not (sym h)
-outside_step false a h = ap not (sym h)
-
+-- one bound, of a variable that passes a test
 pub lone_var : (b : Bool) → b ≡ true → ((b && true) && true) ≡ true
 lone_var true h = refl
 lone_var false h = absurd cc

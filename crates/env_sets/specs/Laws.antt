@@ -4,8 +4,7 @@ use Rattle.std.specs.Bool.{Decides}
 use Rattle.smpl_terms.specs.declared.var.Var.{Var}
 use Rattle.smpl_terms.specs.declared.value.Value.{Value}
 use Rattle.smpl_terms.specs.Environments.{Environment, change, over}
-use Rattle.env_sets.specs.States.{Entries}
-use Rattle.env_sets.specs.Sets.{set_denotes, ForSomeValue}
+use Rattle.env_sets.specs.Sets.{Entries, set_denotes, ForSomeValue}
 
 abbrev pub StandForSame : Entries → Entries → Type 0
 StandForSame a b = (env : Environment) → set_denotes a env ≡ set_denotes b env

@@ -1,8 +1,8 @@
--- What public contracts rest on, in reading order: bounds, entries and sets, sets by node, laws.
+-- What public contracts rest on, in reading order: bounds, values in order, entries and sets, sets by node, laws.
 pub mod Bounds
+pub mod Rising
 pub mod Sets
 pub mod States
 pub mod Laws
--- For inside use: values in order; how a set splits on the values of a variable.
-pub mod Rising
+-- For inside use: how a set splits on the values of a variable.
 pub mod Splits

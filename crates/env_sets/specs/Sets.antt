@@ -7,6 +7,10 @@ use Rattle.smpl_terms.specs.Environments.{Environment}
 use Rattle.env_sets.specs.declared.bounds.Bound.{Bound}
 use Rattle.env_sets.specs.Bounds.{fits}
 
+-- the entries of a set
+abbrev pub Entries : Type 0
+Entries = List (List (Var × Bound))
+
 -- each variable of the entry has a value that its bound allows
 abbrev pub entry_denotes : List (Var × Bound) → Environment → Bool
 entry_denotes pairs env = list_all (λ p. fits (env p.0) p.1) pairs

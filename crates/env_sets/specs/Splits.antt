@@ -1,8 +1,9 @@
 -- How a set splits on the values of one variable.
-use Rattle.std.specs.Prelude.{Bool, true, false, ◌&&◌, ◌||◌, not, cond, Option, Some, None, List, [], ◌∷◌, ℕ, ◌+◌, length}
-use Rattle.std.specs.List.{list_all, filter}
+use Rattle.std.specs.Prelude.{◌≡◌, Bool, true, false, ◌||◌, not, cond, Option, Some, None, List, [], ◌∷◌, ℕ, ◌+◌, ◌<◌, length, slice_index_or}
+use Rattle.std.specs.List.{list_all, list_any, filter}
 use Rattle.smpl_terms.specs.declared.var.Var.{Var}
 use Rattle.smpl_terms.specs.declared.value.Value.{Value}
+use Rattle.smpl_terms.specs.Values.{same}
 use Rattle.smpl_terms.specs.Vars.{same_var}
 use Rattle.env_sets.specs.declared.bounds.Bound.{Bound}
 use Rattle.env_sets.specs.Bounds.{fits, is_not}
@@ -46,3 +47,11 @@ is_unnamed x z pairs = passes x (λ b. agree (is_not b) (fits z b)) pairs
 
 abbrev pub none_named : Var → Value → List (List (Var × Bound)) → Bool
 none_named x z entries = list_all (is_unnamed x z) entries
+
+-- for each of the values, the entries that allow it at x, without x
+abbrev pub ArePartsOf : Var → List Value → List (List (Var × Bound)) → List (List (List (Var × Bound))) → Type 0
+ArePartsOf x values es parts = (length parts ≡ length values) × ((k : ℕ) (v : Value) → k < length values → v ≡ slice_index_or values k v → slice_index_or parts k [] ≡ restricted x (fits v) es)
+
+-- the value is fixed by some entries, or others allow it at x
+abbrev pub are_allowed : Var → Value → List Value → List (List (Var × Bound)) → Bool
+are_allowed x v fixed others = list_any (λ w. same w v) fixed || list_any (λ e. passes x (fits v) e) others

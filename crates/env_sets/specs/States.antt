@@ -1,11 +1,6 @@
 -- Sets by subformula and node.
 use Rattle.std.specs.Prelude.{◌≡◌, ◌<◌, ℕ, List, [], length, slice_index_or}
-use Rattle.smpl_terms.specs.declared.var.Var.{Var}
-use Rattle.env_sets.specs.declared.bounds.Bound.{Bound}
-
--- a set of entries
-abbrev pub Entries : Type 0
-Entries = List (List (Var × Bound))
+use Rattle.env_sets.specs.Sets.{Entries}
 
 -- the rows have one length
 abbrev pub IsEven : List (List Entries) → Type 0

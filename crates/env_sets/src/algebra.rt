@@ -7,12 +7,13 @@ ghost use Rattle.smpl_terms.specs.declared.var.Var.{Var};
 ghost use Rattle.smpl_terms.specs.Vars.{same_var};
 ghost use Rattle.smpl_terms.specs.Environments.{Environment, change, value_in, has_value, over, total};
 ghost use Rattle.env_sets.specs.Sets.{entry_denotes, entry_vars, option_denotes, option_vars, set_denotes, set_vars, ForSomeValue};
+ghost use Rattle.env_sets.specs.Laws.{IsMeet, IsJoin, IsProjection, IsGiven};
 ghost use Rattle.env_sets.specs.Splits.{fits_if};
 
 use crate::bounds::Bound;
 use crate::entries::{Entry, entry_holds, meet_entries};
 use crate::sets::{EnvSet, put_some, settled};
-use crate::values::Values;
+use crate::values::{Values, distinct};
 use c_terms::NoMemory;
 use smpl_terms::{Env, Value, Var, same_var};
 use std::alloc::Global;
@@ -21,8 +22,7 @@ use std::alloc::Global;
 ///
 /// For n entries over one variable that are values it takes n log n steps.
 pub fn join(alloc: Global, a: &EnvSet, b: &EnvSet) -> Result<EnvSet, NoMemory>
-    ensures meaning { IfOk result (λ r. (env : Environment) →
-        set_denotes r env ≡ (set_denotes a.now env || set_denotes b.now env)) }
+    ensures meaning { IfOk result (λ r. IsJoin a.now b.now r) }
     ensures vars { IfOk result (λ r. (t : Var → Bool) → set_vars t a.now ≡ true →
         set_vars t b.now ≡ true → set_vars t r ≡ true) }
 {
@@ -47,8 +47,7 @@ fn put_copies(alloc: Global, out: &mut Vec<Entry>, a: &EnvSet) -> Result<(), NoM
 /// of b that fixes this variable alone; it is looked up among their values. So for sets of n entries over one variable,
 /// which are values in order, it takes n log n steps.
 pub fn meet(alloc: Global, a: &EnvSet, b: &EnvSet) -> Result<EnvSet, NoMemory>
-    ensures meaning { IfOk result (λ r. (env : Environment) →
-        set_denotes r env ≡ (set_denotes a.now env && set_denotes b.now env)) }
+    ensures meaning { IfOk result (λ r. IsMeet a.now b.now r) }
     ensures vars { IfOk result (λ r. (t : Var → Bool) → set_vars t a.now ≡ true →
         set_vars t b.now ≡ true → set_vars t r ≡ true) }
 {
@@ -70,8 +69,7 @@ fn first_var(b: &EnvSet) -> Option<&Var> {
 
 /// Meets each entry of a with each of b.
 fn meet_pairs(alloc: Global, a: &EnvSet, b: &EnvSet) -> Result<EnvSet, NoMemory>
-    ensures meaning { IfOk result (λ r. (env : Environment) →
-        set_denotes r env ≡ (set_denotes a.now env && set_denotes b.now env)) }
+    ensures meaning { IfOk result (λ r. IsMeet a.now b.now r) }
     ensures vars { IfOk result (λ r. (t : Var → Bool) → set_vars t a.now ≡ true →
         set_vars t b.now ≡ true → set_vars t r ≡ true) }
 {
@@ -84,12 +82,11 @@ fn meet_pairs(alloc: Global, a: &EnvSet, b: &EnvSet) -> Result<EnvSet, NoMemory>
 
 /// The same, with the values at which b has x alone apart.
 fn meet_by(alloc: Global, a: &EnvSet, b: &EnvSet, x: &Var) -> Result<EnvSet, NoMemory>
-    ensures meaning { IfOk result (λ r. (env : Environment) →
-        set_denotes r env ≡ (set_denotes a.now env && set_denotes b.now env)) }
+    ensures meaning { IfOk result (λ r. IsMeet a.now b.now r) }
     ensures vars { IfOk result (λ r. (t : Var → Bool) → set_vars t a.now ≡ true →
         set_vars t b.now ≡ true → set_vars t r ≡ true) }
 {
-    let parts = parts_at(alloc, b, x)?;
+    let parts = parts_at(alloc, b.entries(), x)?;
     let mut entries = Vec::new(alloc);
     for e in a.entries() {
         put_meets_by(alloc, &mut entries, e, b, x, &parts)?;
@@ -104,8 +101,8 @@ pub struct Parts {
     pub others: EnvSet,
 }
 
-/// The parts of a set at x. Copies each entry once.
-pub fn parts_at(alloc: Global, b: &EnvSet, x: &Var) -> Result<Parts, NoMemory>
+/// The parts of a set at x. Copies each entry once, and sorts the values.
+pub fn parts_at(alloc: Global, b: &[Entry], x: &Var) -> Result<Parts, NoMemory>
     ensures meaning { IfOk result (λ parts. (env : Environment)
         → set_denotes b.now env ≡ (list_any (λ v. same v (env x.now)) parts.fixed || set_denotes parts.others env)) }
     ensures vars { IfOk result (λ parts. (t : Var → Bool) → set_vars t b.now ≡ true →
@@ -113,11 +110,11 @@ pub fn parts_at(alloc: Global, b: &EnvSet, x: &Var) -> Result<Parts, NoMemory>
 {
     let mut fixed = Vec::new(alloc);
     let mut others = Vec::new(alloc);
-    for e in b.entries() {
+    for e in b {
         put_part(alloc, &mut fixed, &mut others, e, x)?;
     }
     Ok(Parts {
-        fixed: Values::of(fixed),
+        fixed: distinct(alloc, fixed)?,
         others: EnvSet::of(others),
     })
 }
@@ -209,8 +206,7 @@ fn put_meets(alloc: Global, out: &mut Vec<Entry>, e: &Entry, b: &EnvSet) -> Resu
 ///
 /// It copies each entry once, and drops what others cover.
 pub fn project(alloc: Global, a: &EnvSet, v: &Var) -> Result<EnvSet, NoMemory>
-    ensures meaning { IfOk result
-        (λ r. (env : Environment) → Decides (set_denotes r env) (ForSomeValue (λ w. set_denotes a.now (change env v.now w)))) }
+    ensures meaning { IfOk result (λ r. IsProjection v.now a.now r) }
     ensures vars { IfOk result (λ r. (t : Var → Bool) → set_vars (λ y. t y
         || same_var y v.now) a.now ≡ true → set_vars t r ≡ true) }
 {
@@ -225,8 +221,7 @@ pub fn project(alloc: Global, a: &EnvSet, v: &Var) -> Result<EnvSet, NoMemory>
 ///
 /// It copies each entry at most once, looks each of its variables up in env, and drops what others cover.
 pub fn given(alloc: Global, a: &EnvSet, env: &Env) -> Result<EnvSet, NoMemory>
-    ensures meaning { IfOk result (λ r. (rest : Environment) →
-        set_denotes r rest ≡ set_denotes a.now (over env.now rest)) }
+    ensures meaning { IfOk result (λ r. IsGiven env.now a.now r) }
     ensures vars { IfOk result (λ r. (t : Var → Bool) → set_vars (λ x. t x
         || has_value env.now x) a.now ≡ true → set_vars t r ≡ true) }
 {

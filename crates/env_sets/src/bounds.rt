@@ -1,5 +1,5 @@
 // What one variable may be: one value, or none of some values.
-ghost use Rattle.std.specs.Prelude.{◌≡◌, ◌&&◌, true, IfOk};
+ghost use Rattle.std.specs.Prelude.{◌≡◌, ◌&&◌, true, false, IfOk};
 ghost use Rattle.smpl_terms.specs.declared.value.Value.{Value as Datum};
 ghost use Rattle.env_sets.specs.Bounds.{fits, option_fits, is_not};
 
@@ -21,7 +21,7 @@ pub enum Bound {
 impl Bound {
     /// An equal bound, ids included. Linear.
     pub fn copy(&self, alloc: Global) -> Result<Bound, NoMemory>
-        ensures { IfOk result (λ b. b ≡ self.now) }
+        ensures same { IfOk result (λ b. b ≡ self.now) }
     {
         match self {
             Bound::Is(v) => Ok(Bound::Is(v.copy(alloc)?)),
@@ -29,9 +29,10 @@ impl Bound {
         }
     }
 
-    /// Whether the variable may have this value. Takes no memory.
+    /// Whether the variable may have this value. Logarithmic in the number of excluded values where they are in order, and
+    /// else linear. Takes no memory.
     pub fn allows(&self, v: &Value) -> bool
-        ensures { result ≡ fits v.now self.now }
+        ensures value { result ≡ fits v.now self.now }
     {
         match self {
             Bound::Is(w) => same_value(w, v),
@@ -50,7 +51,7 @@ impl Bound {
     }
 }
 
-/// What both bounds allow; nothing where no value is left.
+/// What both bounds allow; nothing where no value is left. Linear in the excluded values of both.
 pub fn meet_bounds(alloc: Global, a: &Bound, b: &Bound) -> Result<Option<Bound>, NoMemory>
     ensures { IfOk result (λ o. (x : Datum) → option_fits x o ≡ (fits x a.now && fits x b.now)) }
 {
@@ -73,7 +74,27 @@ pub fn meet_bounds(alloc: Global, a: &Bound, b: &Bound) -> Result<Option<Bound>,
     }
 }
 
-/// Whether a allows each value that b allows; false where that is not plain.
+/// Whether no value is allowed by both; false where that is not plain. Takes no memory.
+pub fn bounds_clash(a: &Bound, b: &Bound) -> bool
+    ensures { result ≡ true → (x : Datum) → false ≡ (fits x a.now && fits x b.now) }
+{
+    match (a, b) {
+        (Bound::Is(v), _) => !b.allows(v),
+        (Bound::Not(_), Bound::Is(w)) => !a.allows(w),
+        (Bound::Not(_), Bound::Not(_)) => false,
+    }
+}
+
+/// How many values the bound excludes. Takes no memory.
+pub fn excluded(bound: &Bound) -> usize {
+    match bound {
+        Bound::Is(_) => 0,
+        Bound::Not(values) => values.as_slice().len(),
+    }
+}
+
+/// Whether a allows each value that b allows; false where that is not plain. For n excluded values of a it takes n
+/// look-ups among those of b. Takes no memory.
 pub fn bound_covers(a: &Bound, b: &Bound) -> bool
     ensures { result ≡ true → (x : Datum) → fits x b.now ≡ true → fits x a.now ≡ true }
 {

@@ -5,201 +5,255 @@
 //
 // So k entries that fix two variables each have a complement of about k + 1 entries. By the law of De Morgan over
 // entries it would have 2^k.
-ghost use Rattle.std.specs.Prelude.{◌≡◌, ◌&&◌, ◌||◌, ◌<◌, Bool, true, false, not, cond, List, [], ◌∷◌, Some, None, IfOk};
-ghost use Rattle.std.specs.List.{list_any, list_all};
+ghost use Rattle.std.specs.Prelude.{◌≡◌, ◌&&◌, ◌||◌, ◌<◌, Bool, true, not, [], ◌∷◌, length, IfOk, IfSome};
+ghost use Rattle.std.specs.List.{list_any};
 ghost use Rattle.smpl_terms.specs.declared.var.Var.{Var};
-ghost use Rattle.smpl_terms.specs.declared.value.Value.{Value as Datum};
 ghost use Rattle.smpl_terms.specs.Values.{same};
 ghost use Rattle.smpl_terms.specs.Vars.{same_var};
 ghost use Rattle.smpl_terms.specs.Environments.{Environment};
-ghost use Rattle.env_sets.specs.Bounds.{fits, is_not};
-ghost use Rattle.env_sets.specs.Sets.{entry_denotes, set_denotes, set_vars};
-ghost use Rattle.env_sets.specs.Splits.{passes, without, restricted, leads, agree, none_named, is_unnamed};
+ghost use Rattle.env_sets.specs.Bounds.{fits};
+ghost use Rattle.env_sets.specs.Sets.{entry_denotes, entry_vars, set_denotes, set_vars};
+ghost use Rattle.env_sets.specs.Laws.{IsComplement};
+ghost use Rattle.env_sets.specs.Splits.{passes, leads, are_allowed};
 
-use crate::algebra::parts_at;
+use crate::algebra::{Parts, parts_at};
 use crate::bounds::Bound;
-use crate::entries::Entry;
+use crate::entries::{Entry, all_excluded};
+use crate::parts::{is_allowed, named, parts_by, where_other};
 use crate::sets::{EnvSet, put_some, settled};
-use crate::values::{Values, put_new};
+use crate::values::Values;
 use c_terms::NoMemory;
-use smpl_terms::{Value, Var, same_var, value_order};
+use smpl_terms::{Value, Var, same_var};
 use std::alloc::Global;
 
 /// The environments that a does not stand for.
 ///
 /// It splits on the values of the first variable, and takes the complement of what is left for each of them and for
-/// all others: at most one split for each choice of values that the entries name. It recurses once a variable. For n
-/// entries over one variable it takes n log n steps.
-#[cycle(complement)]
+/// all others: at most one split for each choice of values that the entries name. It recurses once a variable, and an
+/// entry that does not fix the variable is copied for each value that it allows. So n entries that fix the same
+/// variables take n log n steps a variable. Entries over one variable take n log n steps, for n values that they name in
+/// order. The result is sorted, and cleared as that of `join` is.
 pub fn complement(alloc: Global, a: &EnvSet) -> Result<EnvSet, NoMemory>
-    ensures meaning { IfOk result (λ r. (env : Environment) →
-        set_denotes r env ≡ not (set_denotes a.now env)) }
+    ensures meaning { IfOk result (λ r. IsComplement a.now r) }
     ensures vars { IfOk result (λ r. (t : Var → Bool) → set_vars t a.now ≡ true →
         set_vars t r ≡ true) }
 {
-    match a.entries() {
-        [] => EnvSet::all(alloc),
+    let entries = outside(alloc, a.entries())?;
+    settled(alloc, entries)
+}
+
+/// The entries of the complement, as they come.
+#[cycle(outside)]
+fn outside(alloc: Global, a: &[Entry]) -> Result<Vec<Entry>, NoMemory>
+    ensures meaning { IfOk result (λ r. (env : Environment) →
+        set_denotes r.items env ≡ not (set_denotes a.now env)) }
+    ensures vars { IfOk result (λ r. (t : Var → Bool) → set_vars t a.now ≡ true →
+        set_vars t r.items ≡ true) }
+{
+    if have_all(a) {
+        return Ok(Vec::new(alloc));
+    }
+    match a {
+        [] => one_entry(alloc, Entry::all(alloc)),
         [first, ..] => match first.pairs() {
-            [] => Ok(EnvSet::none(alloc)),
-            [pair, ..] => split(alloc, a, &pair.0),
+            [] => Ok(Vec::new(alloc)),
+            [pair, ..] => outside_at(alloc, a, &pair.0),
         },
     }
 }
 
 /// The same, by the values of x, which the first entry bounds first.
-#[cycle(complement)]
-fn split(alloc: Global, a: &EnvSet, x: &Var) -> Result<EnvSet, NoMemory>
+#[cycle(outside)]
+fn outside_at(alloc: Global, a: &[Entry], x: &Var) -> Result<Vec<Entry>, NoMemory>
     requires leads { leads x.now a.now ≡ true }
     ensures meaning { IfOk result (λ r. (env : Environment) →
-        set_denotes r env ≡ not (set_denotes a.now env)) }
+        set_denotes r.items env ≡ not (set_denotes a.now env)) }
     ensures vars { IfOk result (λ r. (t : Var → Bool) → set_vars t a.now ≡ true →
-        set_vars t r ≡ true) }
+        set_vars t r.items ≡ true) }
 {
-    let parts = parts_at(alloc, a, x)?;
-    if parts.others.entries().is_empty() {
-        return EnvSet::one(alloc, x, Bound::Not(parts.fixed));
+    if are_lone(a, x) {
+        let parts = parts_at(alloc, a, x)?;
+        let others = parts.others.entries();
+        if others.is_empty() {
+            return one_entry(alloc, Entry::one(alloc, x, Bound::Not(parts.fixed))?);
+        }
+        if let Some(values) = only_excluded(&others[shortest(others)], x) {
+            return outside_lone(alloc, values.as_slice(), &parts, x);
+        }
     }
+    split(alloc, a, x)
+}
+
+/// The same, by the values that the entries name at x, and all others.
+#[cycle(outside)]
+fn split(alloc: Global, a: &[Entry], x: &Var) -> Result<Vec<Entry>, NoMemory>
+    requires leads { leads x.now a.now ≡ true }
+    ensures meaning { IfOk result (λ r. (env : Environment) →
+        set_denotes r.items env ≡ not (set_denotes a.now env)) }
+    ensures vars { IfOk result (λ r. (t : Var → Bool) → set_vars t a.now ≡ true →
+        set_vars t r.items ≡ true) }
+{
     let values = named(alloc, a, x)?;
+    let all = values.as_slice();
+    let parts = parts_by(alloc, a, x, all)?;
     let mut entries = Vec::new(alloc);
-    for v in values.as_slice() {
-        let part = where_is(alloc, a, x, v)?;
-        let rest = complement(alloc, &part)?;
-        put_narrowed(alloc, &mut entries, rest, x, &Bound::Is(v.copy(alloc)?))?;
+    for i in 0..all.len() {
+        let rest = outside(alloc, parts[i].entries())?;
+        put_narrowed(
+            alloc,
+            &mut entries,
+            rest,
+            x,
+            &Bound::Is(all[i].copy(alloc)?),
+        )?;
     }
-    let part = where_other(alloc, a, x)?;
-    let rest = complement(alloc, &part)?;
+    let other = where_other(alloc, a, x)?;
+    let rest = outside(alloc, &other)?;
     put_narrowed(alloc, &mut entries, rest, x, &Bound::Not(values))?;
-    settled(alloc, entries)
+    Ok(entries)
 }
 
-/// What the entries stand for where x is v, without x.
-fn where_is(alloc: Global, a: &EnvSet, x: &Var, v: &Value) -> Result<EnvSet, NoMemory>
-    ensures { IfOk result (λ r. r ≡ restricted x.now (fits v.now) a.now) }
+/// The values of the list that no entry allows at x, where every entry bounds x alone.
+fn outside_lone(
+    alloc: Global,
+    values: &[Value],
+    parts: &Parts,
+    x: &Var,
+) -> Result<Vec<Entry>, NoMemory>
+    requires lone { set_vars (λ y. same_var y x.now) parts.now.others ≡ true }
+    ensures meaning { IfOk result (λ r. (env : Environment) → set_denotes r.items env ≡ (list_any
+        (λ v. same v (env x.now)) values.now && not (list_any (λ v. same v (env x.now)) parts.now.fixed || set_denotes parts.now.others env))) }
+    ensures vars { IfOk result (λ r. (t : Var → Bool) → t x.now ≡ true →
+        set_vars t r.items ≡ true) }
+{
+    let mut out = Vec::new(alloc);
+    for v in values {
+        put_outside(alloc, &mut out, v, parts, x)?;
+    }
+    Ok(out)
+}
+
+/// Adds an entry that fixes x to be v, unless the parts of a set allow v.
+fn put_outside(
+    alloc: Global,
+    out: &mut Vec<Entry>,
+    v: &Value,
+    parts: &Parts,
+    x: &Var,
+) -> Result<(), NoMemory>
+    ensures meaning { IfOk result
+        (λ _. (env : Environment) → set_denotes out.new.items env ≡ (set_denotes out.old.items env || (not (are_allowed x.now v.now parts.now.fixed parts.now.others) && same v.now (env x.now)))) }
+    ensures vars { IfOk result
+        (λ _. (t : Var → Bool) → set_vars t out.old.items ≡ true → t x.now ≡ true → set_vars t out.new.items ≡ true) }
+{
+    if parts.fixed.have(v) {
+        return Ok(());
+    }
+    if some_allow(parts.others.entries(), x, v) {
+        return Ok(());
+    }
+    out.push(Entry::one(alloc, x, Bound::Is(v.copy(alloc)?))?)?;
+    Ok(())
+}
+
+fn one_entry(alloc: Global, e: Entry) -> Result<Vec<Entry>, NoMemory>
+    ensures { IfOk result (λ r. r.items ≡ e ∷ []) }
 {
     let mut entries = Vec::new(alloc);
-    for e in a.entries() {
+    entries.push(e)?;
+    Ok(entries)
+}
+
+/// Whether some entry has no bounds.
+fn have_all(a: &[Entry]) -> bool
+    ensures { result ≡ true → (env : Environment) → set_denotes a.now env ≡ true }
+{
+    for e in a {
+        if e.pairs().is_empty() {
+            return true;
+        }
+    }
+    false
+}
+
+/// Whether no entry bounds another variable.
+fn are_lone(a: &[Entry], x: &Var) -> bool
+    ensures { result ≡ set_vars (λ y. same_var y x.now) a.now }
+{
+    for e in a {
+        if !is_lone(e, x) {
+            return false;
+        }
+    }
+    true
+}
+
+fn is_lone(e: &Entry, x: &Var) -> bool
+    ensures { result ≡ entry_vars (λ y. same_var y x.now) e.now }
+{
+    for p in e.pairs() {
+        if !same_var(&p.0, x) {
+            return false;
+        }
+    }
+    true
+}
+
+/// The excluded values of x, where the entry bounds x and nothing else.
+fn only_excluded<'e>(e: &'e Entry, x: &Var) -> Option<&'e Values>
+    ensures { IfSome result (λ vs. (env : Environment) →
+        entry_denotes e.now env ≡ not (list_any (λ v. same v (env x.now)) vs.now)) }
+{
+    match e.pairs() {
+        [pair] => match &pair.1 {
+            Bound::Is(_) => None,
+            Bound::Not(vs) => { if same_var(&pair.0, x) { Some(vs) } else { None } }
+        },
+        _ => None,
+    }
+}
+
+/// The number of an entry that excludes the fewest values.
+fn shortest(a: &[Entry]) -> usize
+    requires some { 0 < length a.now }
+    ensures { result < length a.now }
+{
+    let mut best = 0;
+    for i in 1..a.len() {
+        if all_excluded(&a[i]) < all_excluded(&a[best]) {
+            best = i;
+        }
+    }
+    best
+}
+
+/// Whether some entry allows x to be v.
+fn some_allow(a: &[Entry], x: &Var, v: &Value) -> bool
+    ensures { result ≡ list_any (λ e. passes x.now (fits v.now) e) a.now }
+{
+    for e in a {
         if is_allowed(e, x, v) {
-            entries.push(e.without(alloc, x)?)?;
+            return true;
         }
     }
-    Ok(EnvSet::of(entries))
-}
-
-/// What the entries stand for where x is a value that none of them names, without x.
-fn where_other(alloc: Global, a: &EnvSet, x: &Var) -> Result<EnvSet, NoMemory>
-    ensures { IfOk result (λ r. r ≡ restricted x.now is_not a.now) }
-{
-    let mut entries = Vec::new(alloc);
-    for e in a.entries() {
-        if is_open(e, x) {
-            entries.push(e.without(alloc, x)?)?;
-        }
-    }
-    Ok(EnvSet::of(entries))
-}
-
-/// Whether x may be v.
-fn is_allowed(e: &Entry, x: &Var, v: &Value) -> bool
-    ensures { result ≡ passes x.now (fits v.now) e.now }
-{
-    for p in e.pairs() {
-        if same_var(&p.0, x) && !p.1.allows(v) {
-            return false;
-        }
-    }
-    true
-}
-
-/// Whether x is not fixed.
-fn is_open(e: &Entry, x: &Var) -> bool
-    ensures { result ≡ passes x.now is_not e.now }
-{
-    for p in e.pairs() {
-        if same_var(&p.0, x) && !p.1.is_not() {
-            return false;
-        }
-    }
-    true
+    false
 }
 
 /// Adds the entries with one more bound.
 fn put_narrowed(
     alloc: Global,
     out: &mut Vec<Entry>,
-    rest: EnvSet,
+    rest: Vec<Entry>,
     x: &Var,
     bound: &Bound,
 ) -> Result<(), NoMemory>
     ensures meaning { IfOk result
-        (λ _. (env : Environment) → set_denotes out.new.items env ≡ (set_denotes out.old.items env || (set_denotes rest env && fits (env x.now) bound.now))) }
+        (λ _. (env : Environment) → set_denotes out.new.items env ≡ (set_denotes out.old.items env || (set_denotes rest.items env && fits (env x.now) bound.now))) }
     ensures vars { IfOk result
-        (λ _. (t : Var → Bool) → set_vars t out.old.items ≡ true → set_vars t rest ≡ true → t x.now ≡ true → set_vars t out.new.items ≡ true) }
+        (λ _. (t : Var → Bool) → set_vars t out.old.items ≡ true → set_vars t rest.items ≡ true → t x.now ≡ true → set_vars t out.new.items ≡ true) }
 {
-    for e in rest.into_vec() {
+    for e in rest {
         put_some(out, e.narrowed(alloc, x, bound)?)?;
     }
     Ok(())
-}
-
-/// The values that the entries name at x, each once.
-fn named(alloc: Global, a: &EnvSet, x: &Var) -> Result<Values, NoMemory>
-    ensures { IfOk result (λ vs. (z : Datum) → list_any (λ v. same v z) vs ≡ false →
-        none_named x.now z a.now ≡ true) }
-{
-    let mut values = Vec::new(alloc);
-    for e in a.entries() {
-        put_named(alloc, &mut values, e, x)?;
-    }
-    distinct(alloc, values)
-}
-
-/// Adds the values that the entry names at x.
-fn put_named(alloc: Global, out: &mut Vec<Value>, e: &Entry, x: &Var) -> Result<(), NoMemory>
-    ensures { IfOk result (λ _. (z : Datum) → list_any (λ v. same v z) out.new.items ≡ false
-        → (list_any (λ v. same v z) out.old.items || not (is_unnamed x.now z e.now)) ≡ false) }
-{
-    for p in e.pairs() {
-        if same_var(&p.0, x) {
-            put_values(alloc, out, &p.1)?;
-        }
-    }
-    Ok(())
-}
-
-/// Adds the values that the bound names.
-fn put_values(alloc: Global, out: &mut Vec<Value>, bound: &Bound) -> Result<(), NoMemory>
-    ensures { IfOk result (λ _. (z : Datum) → list_any (λ v. same v z) out.new.items ≡ false
-        → (list_any (λ v. same v z) out.old.items || not (agree (is_not bound.now) (fits z bound.now))) ≡ false) }
-{
-    match bound {
-        Bound::Is(v) => out.push(v.copy(alloc)?)?,
-        Bound::Not(vs) => {
-            for v in vs.as_slice() {
-                out.push(v.copy(alloc)?)?;
-            }
-        }
-    }
-    Ok(())
-}
-
-/// The values in order, each once.
-fn distinct(alloc: Global, values: Vec<Value>) -> Result<Values, NoMemory>
-    ensures { IfOk result (λ r. (z : Datum) → list_any (λ v. same v z) r ≡ list_any
-        (λ v. same v z) values.items) }
-{
-    let mut values = values;
-    values.sort_unstable_by(|v, w| value_order(v, w));
-    without_repeats(alloc, values)
-}
-
-/// The values of a list in order, each once.
-fn without_repeats(alloc: Global, values: Vec<Value>) -> Result<Values, NoMemory>
-    ensures { IfOk result (λ r. (z : Datum) → list_any (λ v. same v z) r ≡ list_any
-        (λ v. same v z) values.items) }
-{
-    let mut kept = Vec::with_capacity(alloc, values.len())?;
-    for v in values {
-        put_new(&mut kept, v)?;
-    }
-    Ok(Values::of(kept))
 }

@@ -1,14 +1,15 @@
 // Entries: what some variables may be, each variable once, in order.
-ghost use Rattle.std.specs.Prelude.{◌≡◌, ◌&&◌, ◌||◌, Bool, true, not, List, [], ◌∷◌, IfOk, map};
+ghost use Rattle.std.specs.Prelude.{◌≡◌, ◌&&◌, ◌||◌, Bool, true, false, not, List, [], ◌∷◌, IfOk, map};
 ghost use Rattle.std.specs.List.{list_all, filter};
 ghost use Rattle.std.specs.Bool.{Decides};
 ghost use Rattle.smpl_terms.specs.declared.var.Var.{Var};
+ghost use Rattle.smpl_terms.specs.declared.value.Value.{Value as Datum};
 ghost use Rattle.smpl_terms.specs.Vars.{same_var, Rising, place_of};
 ghost use Rattle.smpl_terms.specs.Environments.{Environment, change, has_value, total};
 ghost use Rattle.env_sets.specs.Bounds.{fits};
 ghost use Rattle.env_sets.specs.Sets.{entry_denotes, option_denotes, entry_vars, option_vars, ForSomeValue};
 
-use crate::bounds::{Bound, bound_covers, bound_order, meet_bounds};
+use crate::bounds::{Bound, bound_covers, bound_order, bounds_clash, excluded, meet_bounds};
 use c_terms::NoMemory;
 use smpl_terms::{Env, Value, Var, same_var, var_order};
 use std::alloc::Global;
@@ -92,6 +93,16 @@ fn pairs_free_of(
     Ok(kept)
 }
 
+/// Whether the bound excludes no value.
+fn is_open(bound: &Bound) -> bool
+    ensures { result ≡ true → (x : Datum) → fits x bound.now ≡ true }
+{
+    match bound {
+        Bound::Is(_) => false,
+        Bound::Not(values) => values.as_slice().is_empty(),
+    }
+}
+
 impl Entry {
     /// No bound: every environment.
     pub fn all(alloc: Global) -> Entry
@@ -127,13 +138,19 @@ impl Entry {
         Ok(Entry { pairs })
     }
 
-    /// The entry with one more bound; nothing where no environment is left.
+    /// The entry with one more bound; nothing where no environment is left. A bound that excludes no value is not added.
+    ///
+    /// It looks v up from the first variable on, and copies the bound; where both exclude values, it merges them, in linear
+    /// time if both lists are in order.
     pub fn narrowed(self, alloc: Global, v: &Var, bound: &Bound) -> Result<Option<Entry>, NoMemory>
         ensures meaning { IfOk result
             (λ o. (env : Environment) → option_denotes o env ≡ (entry_denotes self env && fits (env v.now) bound.now)) }
         ensures vars { IfOk result
             (λ o. (t : Var → Bool) → entry_vars t self ≡ true → t v.now ≡ true → option_vars t o ≡ true) }
     {
+        if is_open(bound) {
+            return Ok(Some(self));
+        }
         let Entry { mut pairs } = self;
         let x = v.copy(alloc)?;
         let at = place(&pairs, v);
@@ -152,7 +169,8 @@ impl Entry {
         }
     }
 
-    /// The entry without the bounds of the variables that have a value in env.
+    /// The entry without the bounds of the variables that have a value in env. It copies the others, and looks each
+    /// variable up in env.
     pub fn free_of(&self, alloc: Global, env: &Env) -> Result<Entry, NoMemory>
         ensures pairs { IfOk result (λ e. e ≡ filter (λ p. not (has_value env.now p.0)) self.now) }
     {
@@ -160,7 +178,7 @@ impl Entry {
         Ok(Entry { pairs })
     }
 
-    /// The entry without the bound of v: what it stands for after some change of v alone.
+    /// The entry without the bound of v: what it stands for after some change of v alone. It copies the others.
     pub fn without(&self, alloc: Global, v: &Var) -> Result<Entry, NoMemory>
         ensures pairs { IfOk result (λ e. e ≡ filter (λ p. not (same_var p.0 v.now)) self.now) }
         ensures meaning { IfOk result (λ e. (env : Environment) →
@@ -174,8 +192,62 @@ impl Entry {
     }
 }
 
-/// What both entries stand for; nothing where no environment is left.
+/// Whether some pair bounds v in a way that leaves no value to this bound.
+fn has_clash(pairs: &[(Var, Bound)], v: &Var, bound: &Bound) -> bool
+    ensures { result ≡ true → (env : Environment) →
+        false ≡ (entry_denotes pairs.now env && fits (env v.now) bound.now) }
+{
+    for p in pairs {
+        if same_var(&p.0, v) && bounds_clash(&p.1, bound) {
+            return true;
+        }
+    }
+    false
+}
+
+/// Whether the entries have a variable to which they leave no value in common; false where that is not plain. Takes no
+/// memory.
+fn entries_clash(a: &Entry, b: &Entry) -> bool
+    ensures { result ≡ true → (env : Environment) →
+        false ≡ (entry_denotes a.now env && entry_denotes b.now env) }
+{
+    for p in b.pairs() {
+        if has_clash(a.pairs(), &p.0, &p.1) {
+            return true;
+        }
+    }
+    false
+}
+
+/// How many values the entry excludes. Takes no memory.
+pub fn all_excluded(entry: &Entry) -> usize {
+    let mut count: usize = 0;
+    for p in entry.pairs() {
+        count = count.saturating_add(excluded(&p.1));
+    }
+    count
+}
+
+/// What both entries stand for; nothing where no environment is left. It takes no memory where a variable has bounds in
+/// both that leave it no value, and copies the longer list of excluded values only where the result has it.
 pub fn meet_entries(alloc: Global, a: &Entry, b: &Entry) -> Result<Option<Entry>, NoMemory>
+    ensures meaning { IfOk result (λ o. (env : Environment) →
+        option_denotes o env ≡ (entry_denotes a.now env && entry_denotes b.now env)) }
+    ensures vars { IfOk result
+        (λ o. (t : Var → Bool) → entry_vars t a.now ≡ true → entry_vars t b.now ≡ true → option_vars t o ≡ true) }
+{
+    if entries_clash(a, b) {
+        return Ok(None);
+    }
+    if all_excluded(a) <= all_excluded(b) {
+        narrowed_by(alloc, a, b)
+    } else {
+        narrowed_by(alloc, b, a)
+    }
+}
+
+/// The first entry with the bounds of the second; nothing where no environment is left.
+fn narrowed_by(alloc: Global, a: &Entry, b: &Entry) -> Result<Option<Entry>, NoMemory>
     ensures meaning { IfOk result (λ o. (env : Environment) →
         option_denotes o env ≡ (entry_denotes a.now env && entry_denotes b.now env)) }
     ensures vars { IfOk result
@@ -191,6 +263,7 @@ pub fn meet_entries(alloc: Global, a: &Entry, b: &Entry) -> Result<Option<Entry>
     Ok(Some(both))
 }
 
+/// Whether the pairs bound v, and bound allows all that they do.
 fn has_within(pairs: &[(Var, Bound)], v: &Var, bound: &Bound) -> bool
     ensures { result ≡ true → (env : Environment) → entry_denotes pairs.now env ≡ true →
         fits (env v.now) bound.now ≡ true }
@@ -203,14 +276,17 @@ fn has_within(pairs: &[(Var, Bound)], v: &Var, bound: &Bound) -> bool
     false
 }
 
-/// Whether a stands for all that b stands for; false where that is not plain.
+/// Whether a stands for all that b stands for; false where that is not plain. It begins with the last bounds, since
+/// entries beside one another in a set begin alike. Takes no memory.
 pub fn entry_covers(a: &Entry, b: &Entry) -> bool
     ensures { result ≡ true → (env : Environment) → entry_denotes b.now env ≡ true →
         entry_denotes a.now env ≡ true }
 {
-    let inner = b.pairs();
-    for p in a.pairs() {
-        if !has_within(inner, &p.0, &p.1) {
+    let (outer, inner) = (a.pairs(), b.pairs());
+    let mut i = outer.len();
+    while i > 0 {
+        i -= 1;
+        if !has_within(inner, &outer[i].0, &outer[i].1) {
             return false;
         }
     }

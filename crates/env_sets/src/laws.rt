@@ -2,7 +2,7 @@
 ghost use Rattle.std.specs.Prelude.{List};
 ghost use Rattle.smpl_terms.specs.declared.var.Var.{Var};
 ghost use Rattle.smpl_terms.specs.declared.value.Value.{Value};
-ghost use Rattle.env_sets.specs.States.{Entries};
+ghost use Rattle.env_sets.specs.Sets.{Entries};
 ghost use Rattle.env_sets.specs.Laws.{StandForSame, IsMeet, IsJoin, IsComplement, IsProjection, IsGiven};
 
 /// The complement of a complement stands for what the set does.

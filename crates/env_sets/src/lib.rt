@@ -9,8 +9,9 @@
 //!
 //! The complement of `x` is 1 is `x` is not 1; its meet with `y` is 2 stands for each environment where both hold.
 //!
-//! Values are compared as terms, ids aside. The calls hand back sets without entries that another covers; sets that a
-//! caller builds may have them. Nothing is lost or added by that: a set is known by what it stands for.
+//! Values are compared as terms, ids aside. The calls hand back sets whose entries over one variable alone are merged,
+//! and without entries that another plainly covers; sets that a caller builds may have them. Nothing is lost or added
+//! by that: a set is known by what it stands for.
 //! [`complement`] recurses once a variable, and comparing values once a level of a tree.
 #![tactic(auto)]
 
@@ -19,7 +20,12 @@ mod bounds;
 mod complements;
 mod entries;
 mod laws;
+mod lists;
+mod lone;
+mod parts;
 mod sets;
+#[cfg(test)]
+mod size_tests;
 mod states;
 #[cfg(test)]
 mod tests;

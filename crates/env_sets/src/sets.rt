@@ -1,11 +1,13 @@
 // Sets of entries.
-ghost use Rattle.std.specs.Prelude.{◌≡◌, ◌&&◌, ◌||◌, ◌++◌, Bool, true, List, [], ◌∷◌, IfOk, option_to_list};
+ghost use Rattle.std.specs.Prelude.{◌≡◌, ◌&&◌, ◌||◌, ◌++◌, Bool, true, false, List, [], ◌∷◌, IfOk, option_to_list};
 ghost use Rattle.smpl_terms.specs.declared.var.Var.{Var};
 ghost use Rattle.smpl_terms.specs.Environments.{Environment};
+ghost use Rattle.env_sets.specs.Bounds.{fits};
 ghost use Rattle.env_sets.specs.Sets.{entry_denotes, entry_vars, set_denotes, set_vars};
 
 use crate::bounds::Bound;
 use crate::entries::{Entry, entry_covers, entry_order};
+use crate::lone::wider_entries;
 use c_terms::NoMemory;
 use smpl_terms::{Var, same_var};
 use std::alloc::Global;
@@ -35,6 +37,7 @@ impl EnvSet {
     /// No entry: no environment. Takes no memory.
     pub fn none(alloc: Global) -> EnvSet
         ensures entries { result ≡ [] }
+        ensures meaning { (env : Environment) → set_denotes result env ≡ false }
     {
         EnvSet {
             entries: Vec::new(alloc),
@@ -44,6 +47,7 @@ impl EnvSet {
     /// One entry without bounds: every environment.
     pub fn all(alloc: Global) -> Result<EnvSet, NoMemory>
         ensures entries { IfOk result (λ r. r ≡ [] ∷ []) }
+        ensures meaning { IfOk result (λ r. (env : Environment) → set_denotes r env ≡ true) }
     {
         let mut entries = Vec::new(alloc);
         entries.push(Entry::all(alloc))?;
@@ -53,6 +57,8 @@ impl EnvSet {
     /// One entry with one bound.
     pub fn one(alloc: Global, v: &Var, bound: Bound) -> Result<EnvSet, NoMemory>
         ensures entries { IfOk result (λ r. r ≡ ((v.now, bound) ∷ []) ∷ []) }
+        ensures meaning { IfOk result (λ r. (env : Environment) →
+            set_denotes r env ≡ fits (env v.now) bound) }
     {
         let mut entries = Vec::new(alloc);
         entries.push(Entry::one(alloc, v, bound)?)?;
@@ -93,20 +99,47 @@ impl EnvSet {
     }
 }
 
-/// The set of these entries, sorted, without those that another covers. For n entries that fix the same variables it
-/// takes n log n steps; an entry that excludes values, or has fewer bounds, is compared with each that follows it.
+/// The set of these entries, sorted, without those that another plainly covers. Of the entries that bound one variable
+/// alone, one stands for all that exclude values, and excludes none that another of them allows.
+///
+/// For n entries that fix the same variables it takes n log n steps; an entry that excludes values, or has fewer
+/// bounds, is compared with each that follows it.
 pub fn settled(alloc: Global, entries: Vec<Entry>) -> Result<EnvSet, NoMemory>
     ensures meaning { IfOk result (λ r. (env : Environment) →
         set_denotes r env ≡ set_denotes entries.items env) }
     ensures vars { IfOk result (λ r. (t : Var → Bool) → set_vars t entries.items ≡ true →
         set_vars t r ≡ true) }
 {
-    let mut entries = entries;
-    entries.sort_unstable_by(|a, b| entry_order(a, b));
-    kept_of(alloc, entries)
+    let entries = in_order(entries);
+    let wider = wider_entries(alloc, &entries)?;
+    if wider.is_empty() {
+        return kept_of(alloc, entries);
+    }
+    kept_of(alloc, in_order(with_all(entries, wider)?))
 }
 
-/// The set of entries in order, without those that another covers.
+/// The entries, sorted.
+fn in_order(entries: Vec<Entry>) -> Vec<Entry>
+    ensures meaning { (env : Environment) → set_denotes result.items env ≡ set_denotes entries.items env }
+    ensures vars { (t : Var → Bool) → set_vars t result.items ≡ set_vars t entries.items }
+{
+    let mut entries = entries;
+    entries.sort_unstable_by(|a, b| entry_order(a, b));
+    entries
+}
+
+/// The entries of both lists.
+fn with_all(entries: Vec<Entry>, more: Vec<Entry>) -> Result<Vec<Entry>, NoMemory>
+    ensures { IfOk result (λ r. r.items ≡ entries.items ++ more.items) }
+{
+    let mut entries = entries;
+    for e in more {
+        entries.push(e)?;
+    }
+    Ok(entries)
+}
+
+/// The set of entries in order, without those that another plainly covers.
 fn kept_of(alloc: Global, entries: Vec<Entry>) -> Result<EnvSet, NoMemory>
     ensures meaning { IfOk result (λ r. (env : Environment) →
         set_denotes r env ≡ set_denotes entries.items env) }

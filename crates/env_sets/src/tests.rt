@@ -1,10 +1,13 @@
 // Each call once with ample memory, and which entries the results keep.
+ghost use Rattle.std.specs.Prelude.{◌<◌, length, slice_index_or, []};
+
 use crate::*;
-use c_terms::{Text, Token, TokenKind, Tree};
+use c_terms::{NoMemory, Text, Token, TokenKind, Tree};
 use smpl_terms::{Env, Value, Var};
 use std::alloc::Global;
 use std::test::Fail;
 use std::thread;
+use std::thread::Threads;
 
 fn var(alloc: Global, name: &str) -> Result<Var, Fail> {
     Ok(Var {
@@ -24,20 +27,20 @@ fn term(alloc: Global, number: &str, id: u64) -> Result<Value, Fail> {
 
 // The calls without their clauses, so that a test's goals stay small.
 
-fn is(alloc: Global, name: &str, number: &str) -> Result<EnvSet, Fail> {
+pub fn is(alloc: Global, name: &str, number: &str) -> Result<EnvSet, Fail> {
     let bound = Bound::Is(term(alloc, number, 1)?);
     Ok(EnvSet::one(alloc, &var(alloc, name)?, bound)?)
 }
 
-fn both(alloc: Global, a: &EnvSet, b: &EnvSet) -> Result<EnvSet, Fail> {
+pub fn both(alloc: Global, a: &EnvSet, b: &EnvSet) -> Result<EnvSet, Fail> {
     Ok(meet(alloc, a, b)?)
 }
 
-fn either(alloc: Global, a: &EnvSet, b: &EnvSet) -> Result<EnvSet, Fail> {
+pub fn either(alloc: Global, a: &EnvSet, b: &EnvSet) -> Result<EnvSet, Fail> {
     Ok(join(alloc, a, b)?)
 }
 
-fn other(alloc: Global, a: &EnvSet) -> Result<EnvSet, Fail> {
+pub fn other(alloc: Global, a: &EnvSet) -> Result<EnvSet, Fail> {
     Ok(complement(alloc, a)?)
 }
 
@@ -53,7 +56,7 @@ fn copied(alloc: Global, a: &EnvSet) -> Result<EnvSet, Fail> {
     Ok(a.copy(alloc)?)
 }
 
-fn everything(alloc: Global) -> Result<EnvSet, Fail> {
+pub fn everything(alloc: Global) -> Result<EnvSet, Fail> {
     Ok(EnvSet::all(alloc)?)
 }
 
@@ -61,8 +64,20 @@ fn says(a: &EnvSet, env: &Env) -> bool {
     denotes(a, env)
 }
 
-fn size(a: &EnvSet) -> usize {
+pub fn size(a: &EnvSet) -> usize {
     a.entries().len()
+}
+
+pub fn excludes_one(alloc: Global, name: &str, number: &str) -> Result<EnvSet, Fail> {
+    let mut values = Vec::new(alloc);
+    values.push(term(alloc, number, 6)?)?;
+    let bound = Bound::Not(Values::of(values));
+    Ok(EnvSet::one(alloc, &var(alloc, name)?, bound)?)
+}
+
+pub fn excludes_two(alloc: Global, name: &str, first: &str, second: &str) -> Result<EnvSet, Fail> {
+    let bound = Bound::Not(terms(alloc, first, second)?);
+    Ok(EnvSet::one(alloc, &var(alloc, name)?, bound)?)
 }
 
 /// The environment with one more pair, unless the variable has a value.
@@ -87,7 +102,7 @@ fn env(alloc: Global, x: &str, y: &str) -> Result<Env, Fail> {
 }
 
 /// Whether the set stands for x, y being 1, 1; 1, 2; 3, 1; and 3, 2.
-fn answers(alloc: Global, set: &EnvSet, wanted: [bool; 4]) -> Result<bool, Fail> {
+pub fn answers(alloc: Global, set: &EnvSet, wanted: [bool; 4]) -> Result<bool, Fail> {
     let set = copied(alloc, set)?;
     let [a, b, c, d] = wanted;
     Ok(
@@ -142,40 +157,6 @@ fn variables_are_freed_and_given(rt: HostRuntime) -> Result<(), Fail> {
     Ok(())
 }
 
-/// So many entries, each of which fixes two variables.
-fn pairs(alloc: Global, count: u32) -> Result<EnvSet, Fail> {
-    let mut pairs = EnvSet::none(alloc);
-    for k in 0..count {
-        let number = format!(in alloc; "{k}")?;
-        let pair = both(
-            alloc,
-            &is(alloc, "x", number.as_str())?,
-            &is(alloc, "y", number.as_str())?,
-        )?;
-        pairs = either(alloc, &pairs, &pair)?;
-    }
-    Ok(pairs)
-}
-
-#[test]
-fn complement_of_pairs_stays_small(rt: HostRuntime) -> Result<(), Fail> {
-    let alloc = rt.alloc();
-    let pairs = pairs(alloc, 40)?;
-    assert!(rt; size(&pairs) == 40);
-    assert!(rt; size(&other(alloc, &pairs)?) == 41);
-    Ok(())
-}
-
-#[test]
-fn join_drops_what_is_covered(rt: HostRuntime) -> Result<(), Fail> {
-    let alloc = rt.alloc();
-    let one = is(alloc, "x", "1")?;
-    let pair = both(alloc, &one, &is(alloc, "y", "2")?)?;
-    assert!(rt; size(&either(alloc, &pair, &one)?) == 1);
-    assert!(rt; size(&either(alloc, &pair, &is(alloc, "x", "2")?)?) == 2);
-    Ok(())
-}
-
 #[test]
 fn sets_cross_threads(rt: HostRuntime) -> Result<(), Fail> {
     let alloc = rt.alloc();
@@ -184,6 +165,28 @@ fn sets_cross_threads(rt: HostRuntime) -> Result<(), Fail> {
     let (known, count) = thread::join(&rt, || says(&one, &env), || size(&one));
     assert!(rt; known && count == 1);
     Ok(())
+}
+
+#[test]
+fn sets_come_from_threads(rt: HostRuntime) -> Result<(), Fail> {
+    let alloc = rt.alloc();
+    let x = var(alloc, "x")?;
+    let place = Value::Place(1);
+    let (one, env) = thread::join(
+        &rt,
+        || placed_set(alloc, &x, 1),
+        || placed_env(alloc, &x, &place),
+    );
+    assert!(rt; says(&one?, &env?));
+    Ok(())
+}
+
+fn placed_set(alloc: Global, x: &Var, at: u64) -> Result<EnvSet, NoMemory> {
+    EnvSet::one(alloc, x, Bound::Is(Value::Place(at)))
+}
+
+fn placed_env(alloc: Global, x: &Var, value: &Value) -> Result<Env, NoMemory> {
+    Env::empty(alloc).with(alloc, x, value)
 }
 
 /// The numbers as terms.
@@ -249,20 +252,35 @@ fn entries_are_narrowed_and_freed(rt: HostRuntime) -> Result<(), Fail> {
     Ok(())
 }
 
-/// The sizes of the two sets of a row, no entry and one.
-fn sizes_of_a_row(alloc: Global) -> Result<(usize, usize), Fail> {
+/// The sizes of two sets, read by two threads.
+fn sizes_at(rt: &impl Threads, states: &StateSets) -> (usize, usize)
+    requires row { 0 < length states.now }
+    requires sets { 1 < length (slice_index_or states.now 0 []) }
+{
+    thread::join(rt, || size(states.at(0, 0)), || size(states.at(0, 1)))
+}
+
+fn width(row: &StateRow) -> usize {
+    row.as_slice().len()
+}
+
+/// The width of a row of no entry and one, and the sizes of its sets.
+fn sizes_of_a_row(rt: &impl Threads, alloc: Global) -> Result<[usize; 3], Fail> {
     let mut sets = Vec::new(alloc);
     sets.push(EnvSet::none(alloc))?;
     sets.push(everything(alloc)?)?;
+    let row = StateRow::of(sets);
+    let width = width(&row);
     let mut rows = Vec::new(alloc);
-    rows.push(StateRow::of(sets))?;
+    rows.push(row)?;
     let states = StateSets::new(rows);
-    Ok((size(states.at(0, 0)), size(states.at(0, 1))))
+    let (first, second) = sizes_at(rt, &states);
+    Ok([width, first, second])
 }
 
 #[test]
 fn sets_stand_at_their_places(rt: HostRuntime) -> Result<(), Fail> {
-    let (first, second) = sizes_of_a_row(rt.alloc())?;
-    assert!(rt; first == 0 && second == 1);
+    let [width, first, second] = sizes_of_a_row(&rt, rt.alloc())?;
+    assert!(rt; width == 2 && first == 0 && second == 1);
     Ok(())
 }

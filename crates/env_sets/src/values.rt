@@ -1,9 +1,11 @@
 // Lists of values.
-ghost use Rattle.std.specs.Prelude.{◌≡◌, ◌||◌, IfOk, true};
-ghost use Rattle.std.specs.List.{list_any};
+ghost use Rattle.std.specs.Prelude.{◌≡◌, ◌||◌, ◌<◌, ◌++◌, Bool, IfOk, MatchOption, [], ◌∷◌, false, true, length, slice_index_or};
+ghost use Rattle.std.specs.List.{list_any, list_all};
+ghost use Rattle.std.specs.List.Sorted.{IsSortedBy};
+ghost use Rattle.std.specs.Ordering.{is_lt};
 ghost use Rattle.smpl_terms.specs.declared.value.Value.{Value as Datum};
-ghost use Rattle.smpl_terms.specs.Values.{same};
-ghost use Rattle.env_sets.specs.Rising.{Rise};
+ghost use Rattle.smpl_terms.specs.Values.{same, value_order};
+ghost use Rattle.env_sets.specs.Rising.{NoneAbove, Rise};
 
 use c_terms::NoMemory;
 use smpl_terms::{Value, same_value, value_order};
@@ -52,7 +54,7 @@ impl Values {
         items
     }
 
-    /// The values in order. Takes no memory.
+    /// The values, as they stand. Takes no memory.
     pub fn as_slice(&self) -> &[Value]
         ensures items { result.now ≡ self.now }
     {
@@ -73,7 +75,8 @@ impl Values {
         })
     }
 
-    /// Whether a value of the list is the same as this one. Takes no memory.
+    /// Whether a value of the list is the same as this one. Logarithmic where the list is in order, and else linear.
+    /// Takes no memory.
     pub fn have(&self, v: &Value) -> bool
         ensures value { result ≡ list_any (λ w. same w v.now) self.now }
     {
@@ -83,14 +86,44 @@ impl Values {
         has(&self.items, v)
     }
 
-    /// The values of both lists. In order, each once, where both lists are. Linear.
+    /// The values of both lists, in order, each once. Linear where both lists are in order, and else n log n.
     pub fn joined(&self, alloc: Global, more: &Values) -> Result<Values, NoMemory>
         ensures meaning { IfOk result (λ r. (z : Datum) → list_any (λ v. same v z) r ≡ (list_any
             (λ v. same v z) self.now || list_any (λ v. same v z) more.now)) }
+        ensures rise { IfOk result (λ r. Rise r) }
     {
-        let items = merged(alloc, &self.items, &more.items)?;
-        Ok(Values::of(items))
+        let all = Values::of(merged(alloc, &self.items, &more.items)?);
+        if all.rising {
+            return Ok(all);
+        }
+        distinct(alloc, all.into_vec())
     }
+}
+
+/// The values in order, each once. For n values it takes n log n steps.
+pub fn distinct(alloc: Global, values: Vec<Value>) -> Result<Values, NoMemory>
+    ensures meaning { IfOk result (λ r. (z : Datum) → list_any (λ v. same v z) r ≡ list_any
+        (λ v. same v z) values.items) }
+    ensures rise { IfOk result (λ r. Rise r) }
+{
+    let mut values = values;
+    values.sort_unstable_by(|v, w| value_order(v, w));
+    let kept = without_repeats(alloc, values)?;
+    Ok(Values::of(kept))
+}
+
+/// The values of a sorted list, each once.
+fn without_repeats(alloc: Global, values: Vec<Value>) -> Result<Vec<Value>, NoMemory>
+    requires sorted { IsSortedBy (λ v w. is_lt (value_order v w)) values.items }
+    ensures meaning { IfOk result (λ r. (z : Datum) → list_any (λ v. same v z) r.items ≡ list_any
+        (λ v. same v z) values.items) }
+    ensures rise { IfOk result (λ r. Rise r.items) }
+{
+    let mut kept = Vec::with_capacity(alloc, values.len())?;
+    for v in values {
+        put_new(&mut kept, v)?;
+    }
+    Ok(kept)
 }
 
 /// The values of both lists, the lesser head first.
@@ -120,15 +153,31 @@ fn merged(alloc: Global, vs: &[Value], ws: &[Value]) -> Result<Vec<Value>, NoMem
 
 /// Adds a value, unless it is the last.
 pub fn put_new(kept: &mut Vec<Value>, v: Value) -> Result<(), NoMemory>
-    ensures { IfOk result (λ _. (z : Datum) → list_any (λ w. same w z) kept.new.items ≡ (list_any
-        (λ w. same w z) kept.old.items || same v z)) }
+    ensures meaning { IfOk result (λ _. (z : Datum) → list_any
+        (λ w. same w z) kept.new.items ≡ (list_any (λ w. same w z) kept.old.items || same v z)) }
+    ensures among { IfOk result (λ _. (test : Datum → Bool) → list_all test kept.old.items ≡ true
+        → test v ≡ true → list_all test kept.new.items ≡ true) }
+    ensures rise { IfOk result (λ _. NoneAbove v kept.old.items → Rise kept.old.items →
+        Rise kept.new.items) }
 {
-    let count = kept.len();
-    if count > 0 && same_value(&kept[count - 1], &v) {
+    if is_last(kept, &v) {
         return Ok(());
     }
     kept.push(v)?;
     Ok(())
+}
+
+/// Whether the last value of the list is the same.
+fn is_last(kept: &[Value], v: &Value) -> bool
+    ensures known { result ≡ true → (z : Datum) →
+        list_any (λ w. same w z) kept.now ≡ (list_any (λ w. same w z) kept.now || same v.now z) }
+    ensures rise { result ≡ false → NoneAbove v.now kept.now → Rise kept.now →
+        Rise (kept.now ++ v.now ∷ []) }
+{
+    if kept.is_empty() {
+        return false;
+    }
+    same_value(&kept[kept.len() - 1], v)
 }
 
 /// Whether the list has a value that is the same.
@@ -143,10 +192,19 @@ fn has(items: &[Value], v: &Value) -> bool
     false
 }
 
-/// The same of a list in order, by halves.
+/// The same of a list in order.
 fn has_in_order(items: &[Value], v: &Value) -> bool
     requires { Rise items.now }
     ensures { result ≡ list_any (λ w. same w v.now) items.now }
+{
+    place_in_order(items, v).is_some()
+}
+
+/// Where a list in order has the value, by halves. Takes no memory.
+pub fn place_in_order(items: &[Value], v: &Value) -> Option<usize>
+    requires { Rise items.now }
+    ensures { MatchOption result (list_any (λ w. same w v.now) items.now ≡ false)
+        (λ k. (k < length items.now) × (same (slice_index_or items.now k v.now) v.now ≡ true)) }
 {
     let (mut low, mut high) = (0, items.len());
     while low < high {
@@ -154,10 +212,10 @@ fn has_in_order(items: &[Value], v: &Value) -> bool
         match value_order(&items[middle], v) {
             Ordering::Less => low = middle + 1,
             Ordering::Greater => high = middle,
-            Ordering::Equal => return true,
+            Ordering::Equal => return Some(middle),
         }
     }
-    false
+    None
 }
 
 /// Whether each value is before the next.

@@ -1,7 +1,5 @@
 use Rattle.std.proofs.Common.{arith, sym, ap, ◌∙◌, ◌≡◌, false}
-use Rattle.std.specs.List.{list_all}
 use Rattle.std.proofs.lemmas.Grind.{common_steps}
-use Rattle.std.proofs.lemmas.List.Folds.{list_all_at}
 use Rattle.smpl_terms.specs.Environments.{value_in}
 use Rattle.env_sets.specs.Splits.{fits_if}
 use Rattle.env_sets.proofs.LoopLemmas.{all_fails_at}

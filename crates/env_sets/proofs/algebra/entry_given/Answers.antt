@@ -1,4 +1,4 @@
-use Rattle.std.proofs.Common.{arith, sym, ap, ◌∙◌}
+use Rattle.std.proofs.Common.{arith}
 use Rattle.std.proofs.lemmas.Grind.{common_steps}
 use Rattle.env_sets.proofs.GivenLemmas.{split, free_vars}
 use Rattle.env_sets.proofs.algebra.entry_given.Goals as goal

@@ -1,4 +1,4 @@
-use Rattle.std.proofs.Common.{◌≡◌, ◌||◌, ◌&&◌, Bool, true, ap, sym, ◌∙◌, arith}
+use Rattle.std.proofs.Common.{◌||◌, ap, sym, ◌∙◌, arith}
 use Rattle.smpl_terms.specs.Environments.{over, has_value}
 use Rattle.env_sets.specs.Sets.{entry_denotes, entry_vars, set_denotes, set_vars}
 use Rattle.env_sets.proofs.LoopLemmas.{any_step, all_step, denotes_some, vars_some, both_parts}

@@ -8,6 +8,6 @@ use Rattle.env_sets.proofs.algebra.parts_at.Given as goal
 
 abbrev pub invariant-loop-e : goal.invariant-loop-e
 invariant-loop-e l = record {
-  meaning : (env : Environment) → (list_any (λ v. same v (env l.x)) l.fixed.items || set_denotes l.others.items env) ≡ set_denotes (take l.e-index l.e-items) env;
-  vars : (t : Var → Bool) → set_vars t (take l.e-index l.e-items) ≡ true → set_vars t l.others.items ≡ true;
+  meaning : (env : Environment) → (list_any (λ v. same v (env l.x)) l.fixed.items || set_denotes l.others.items env) ≡ set_denotes (take l.e-index l.b) env;
+  vars : (t : Var → Bool) → set_vars t (take l.e-index l.b) ≡ true → set_vars t l.others.items ≡ true;
 }

@@ -1,6 +1,6 @@
-use Rattle.std.proofs.Common.{◌≡◌, ◌||◌, ◌&&◌, Bool, true, ap, sym, ◌∙◌, arith}
+use Rattle.std.proofs.Common.{◌||◌, ap, sym, ◌∙◌, arith}
 use Rattle.smpl_terms.specs.Vars.{same_var}
-use Rattle.env_sets.specs.Sets.{entry_denotes, entry_vars, set_denotes, set_vars}
+use Rattle.env_sets.specs.Sets.{entry_vars, set_denotes, set_vars}
 use Rattle.env_sets.proofs.LoopLemmas.{project_step, all_step, denotes_one, vars_one, both_parts}
 use Rattle.env_sets.proofs.PairLemmas.{both_true}
 use Rattle.env_sets.proofs.algebra.project.Goals as goal

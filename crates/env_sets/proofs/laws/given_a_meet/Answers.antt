@@ -1,4 +1,4 @@
-use Rattle.std.proofs.Common.{◌≡◌, ◌&&◌, sym, ◌∙◌}
+use Rattle.std.proofs.Common.{◌&&◌, sym, ◌∙◌}
 use Rattle.smpl_terms.specs.Environments.{over}
 use Rattle.env_sets.proofs.laws.given_a_meet.Goals as goal
 

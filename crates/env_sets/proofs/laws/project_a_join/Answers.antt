@@ -1,4 +1,4 @@
-use Rattle.std.proofs.Common.{◌≡◌, true, sym, ◌∙◌, ⊎_elim}
+use Rattle.std.proofs.Common.{sym, ◌∙◌, ⊎_elim}
 use Rattle.std.specs.Cmp.{both_ways}
 use Rattle.smpl_terms.specs.Environments.{change}
 use Rattle.env_sets.specs.Sets.{set_denotes}

@@ -1,33 +1,15 @@
-use Rattle.std.proofs.Common.{◌≡◌, ◌+◌, ◌-◌, ◌/◌, false, subst, sym, arith, drop}
+use Rattle.std.proofs.Common.{◌≡◌, ℕ, ◌<◌, false, true, Option, Some, None, is_some, sym, ◌∙◌, List, length, get_or}
+use Rattle.std.specs.Option.{MatchOption}
 use Rattle.std.specs.List.{list_any}
+use Rattle.smpl_terms.specs.declared.value.Value.{Value}
 use Rattle.smpl_terms.specs.Values.{same}
-use Rattle.env_sets.proofs.RisingLemmas.{front_misses_at, back_misses, parts_miss, found_at}
+use Rattle.env_sets.proofs.LoopLemmas.{any_at}
+use Rattle.env_sets.proofs.RisingLemmas.{read_again}
 use Rattle.env_sets.proofs.values.has_in_order.Goals as goal
 
-pub loop-low-preserved-in-Less : goal.loop-low-preserved-in-Less
-loop-low-preserved-in-Less c = record {
-  order = omega arith;
-  within = c.loop-low.invariant.within;
-  front = front_misses_at c.args.items.now (c.loop-low.low + (c.loop-low.high - c.loop-low.low) / 2) (c.loop-low.low + (c.loop-low.high - c.loop-low.low) / 2 + 1) c.index-items-middle.result c.args.v.now
-      c.requires (omega arith) c.index-items-middle.is (sym c.in-Less.ensures.value) (omega arith);
-  back = c.loop-low.invariant.back;
-}
-
-pub loop-low-preserved : goal.loop-low-preserved
-loop-low-preserved c = record {
-  order = omega arith;
-  within = omega arith;
-  front = c.loop-low.invariant.front;
-  back = back_misses c.args.items.now (c.loop-low.low + (c.loop-low.high - c.loop-low.low) / 2) c.index-items-middle.result c.args.v.now
-      c.requires (omega arith) c.index-items-middle.is (sym c.in-Greater.ensures.value);
-}
-
-pub returns-in-Equal : goal.returns-in-Equal
-returns-in-Equal c =
-    found_at c.args.items.now (c.loop-low.low + (c.loop-low.high - c.loop-low.low) / 2) c.index-items-middle.result c.args.v.now (omega arith) c.index-items-middle.is (sym c.in-Equal.ensures.value)
+placed : (ws : List Value) (v : Value) (o : Option ℕ) → MatchOption o (list_any (λ w. same w v) ws ≡ false) (λ k. (k < length ws) × (same (get_or ws k v) v ≡ true)) → is_some o ≡ list_any (λ w. same w v) ws
+placed ws v None h = sym h
+placed ws v (Some k) h = sym (any_at (λ w. same w v) ws k (get_or ws k v) h.0 (read_again ws k v h.0) h.1)
 
 pub returns : goal.returns
-returns c =
-    let met : c.loop-low.high ≡ c.loop-low.low = omega (arith, c.loop-low.invariant.order) in
-    parts_miss c.args.items.now c.loop-low.low c.args.v.now c.loop-low.invariant.front
-    (subst (λ n. list_any (λ w. same w c.args.v.now) (drop n c.args.items.now) ≡ false) met c.loop-low.invariant.back)
+returns c = c.is_some.ensures ∙ placed c.args.items.now c.args.v.now c.place_in_order.result c.place_in_order.ensures

@@ -1,9 +1,9 @@
-use Rattle.std.proofs.Common.{arith, ◌≡◌, ◌&&◌, Some, false, sym, ap, subst, ◌∙◌}
+use Rattle.std.proofs.Common.{arith, ◌≡◌, ◌&&◌, false, sym, ap, subst, ◌∙◌}
 use Rattle.std.proofs.lemmas.Bool.{false≢true}
 use Rattle.smpl_terms.specs.Vars.{same_var, var_order, Rising, place_of}
 use Rattle.smpl_terms.proofs.VarLaws.{same_var-equal, var_order-same}
 use Rattle.smpl_terms.proofs.PairLemmas.{Rising-insert_at, Rising-set, place-le-length}
-use Rattle.env_sets.specs.Bounds.{fits, option_fits}
+use Rattle.env_sets.specs.Bounds.{fits}
 use Rattle.env_sets.specs.Sets.{entry_denotes}
 use Rattle.env_sets.proofs.LoopLemmas.{all_fails_at_both}
 use Rattle.env_sets.proofs.PairLemmas.{insert_meaning, insert_vars, set_meaning, set_vars_kept, one_place}
@@ -62,7 +62,7 @@ returns-in-Some-clause-vars c =
 pub returns-in_ok-insert-clause-meaning : goal.returns-in_ok-insert-clause-meaning
 returns-in_ok-insert-clause-meaning c = λ env.
     insert_meaning c.self.inside.pairs.items c.args.self c.insert.new.self.items c.place-at.result c.in_ok-x.x c.in_ok-copy.field-0 c.args.bound.now
-    c.in_ok-insert.ensures.items c.in_ok-copy.ensures c.self.view_is env
+    c.in_ok-insert.ensures.items c.in_ok-copy.ensures.same c.self.view_is env
     ∙ ap (λ x. entry_denotes c.args.self env && fits (env x) c.args.bound.now) c.in_ok-x.ensures.same
 
 pub returns-in_ok-insert-clause-vars : goal.returns-in_ok-insert-clause-vars

@@ -1,0 +1,95 @@
+use Rattle.std.proofs.Common.{◌≡◌, ◌&&◌, ◌||◌, not, [], ◌∷◌, length, get_or, take, ap, sym, ◌∙◌, arith}
+use Rattle.std.specs.List.{list_any}
+use Rattle.std.proofs.lemmas.List.{take_all, get_or_default}
+use Rattle.std.proofs.lemmas.Result.{IfOk-weaker}
+use Rattle.smpl_terms.specs.Values.{same}
+use Rattle.env_sets.specs.Bounds.{fits, is_not}
+use Rattle.env_sets.specs.Sets.{entry_denotes, set_denotes, set_vars}
+use Rattle.env_sets.specs.Splits.{size_of}
+use Rattle.env_sets.proofs.LoopLemmas.{any_step, any_at, or_true}
+use Rattle.env_sets.proofs.PartLemmas.{lone_end, part_smaller, part_is}
+use Rattle.env_sets.proofs.SplitLemmas.{is-split, other-split, restricted_vars, leads_vars, leads_size, leads_at, complement_step, complement_end, lone_var}
+use Rattle.env_sets.proofs.complements.+outside.Goals as goal
+
+pub outside-outside_at-requires : goal.outside-outside_at-requires
+outside-outside_at-requires t c = (
+  omega (arith, c.decreases),
+  leads_at c.args.a.now c.first-item.result c.pair-item.result
+      (omega (arith, c.in-len1-up.len_at_least)) c.first-item.is
+      (omega (arith, ap length c.pairs.ensures.pairs, c.in-len1-up-pairs.len_at_least)) (c.pair-item.is ∙ ap (λ ps. get_or ps 0 c.pair-item.result) c.pairs.ensures.pairs),
+)
+
+pub outside_at-returns-then-is_empty-clause-vars : goal.outside_at-returns-then-is_empty-clause-vars
+outside_at-returns-then-is_empty-clause-vars t c = IfOk-weaker c.one_entry.result _ _ (λ r h test all.
+    ap (set_vars test) (h ∙ ap (λ e. e ∷ []) c.in_ok-one.ensures.pairs) ∙ lone_var (test c.args.x.now) (leads_vars c.args.x.now test c.args.a.now c.requires.leads all)) c.one_entry.ensures
+
+pub outside_at-returns-in-Some-clause-meaning : goal.outside_at-returns-in-Some-clause-meaning
+outside_at-returns-in-Some-clause-meaning t c = IfOk-weaker c.outside_lone.result _ _ (λ r h env.
+    let in_values = list_any (λ v. same v (env c.args.x.now)) c.as_slice.result.now in
+    let others = c.in_ok-parts.parts.others in
+    let fixed = list_any (λ v. same v (env c.args.x.now)) c.in_ok-parts.parts.fixed in
+    h env
+    ∙ lone_end in_values (fixed || set_denotes others env)
+    (λ none. or_true fixed (set_denotes others env)
+    (ap (λ es. set_denotes es env) (sym c.entries-others.ensures.entries)
+    ∙ any_at (λ e. entry_denotes e env) c.entries-others.result.now c.shortest.result c.index-others-shortest.result c.shortest.ensures c.index-others-shortest.is
+    (c.in-Some.ensures env ∙ ap (λ vs. not (list_any (λ v. same v (env c.args.x.now)) vs)) (sym c.as_slice.ensures.items) ∙ ap not none)))
+    ∙ ap not (sym (c.in_ok-parts.ensures.meaning env)))
+    c.outside_lone.ensures.meaning
+
+pub outside_at-returns-in-Some-clause-vars : goal.outside_at-returns-in-Some-clause-vars
+outside_at-returns-in-Some-clause-vars t c = IfOk-weaker c.outside_lone.result _ _ (λ r h test all.
+    h test (leads_vars c.args.x.now test c.args.a.now c.requires.leads all)) c.outside_lone.ensures.vars
+
+pub split-outside-requires : goal.split-outside-requires
+split-outside-requires t c = (
+  omega (
+    arith,
+    c.decreases,
+    part_smaller c.args.x.now c.as_slice-all.result.now c.args.a.now c.in_ok-parts.parts.items c.loop-i.i c.entries.result.now c.in_ok-parts.ensures c.loop-i-test.true
+        (c.entries.ensures ∙ c.index.ensures ∙ get_or_default c.in_ok-parts.parts.items c.loop-i.i c.index.result.now [] (omega (arith, c.in_ok-parts.ensures.0, c.loop-i-test.true))) c.requires.leads,
+  ),
+  tt,
+)
+
+pub split-outside-requires-2 : goal.split-outside-requires-2
+split-outside-requires-2 t c =
+    (omega (arith, c.decreases, ap size_of (c.deref.ensures.value ∙ c.in_ok-other.ensures), leads_size c.args.x.now is_not c.args.a.now c.requires.leads), tt)
+
+pub split-loop-i-preserved : goal.split-loop-i-preserved
+split-loop-i-preserved t c =
+    let v = c.index-all-i.result in
+    let x = c.args.x.now in
+    let is_part = part_is x c.as_slice-all.result.now c.args.a.now c.in_ok-parts.parts.items c.loop-i.i c.entries.result.now v c.in_ok-parts.ensures c.loop-i-test.true
+    (c.entries.ensures ∙ c.index.ensures ∙ get_or_default c.in_ok-parts.parts.items c.loop-i.i c.index.result.now [] (omega (arith, c.in_ok-parts.ensures.0, c.loop-i-test.true))) c.index-all-i.is in
+    record {
+      meaning = λ env.
+          c.in_ok-put_narrowed.ensures.meaning env
+          ∙ (λ i. c.loop-i.invariant.meaning env i || (c.in_ok-rest.ensures.meaning env i && same (c.in_ok-copy.ensures.same i) (env x)))
+          ∙ complement_step (list_any (λ w. same w (env x)) (take c.loop-i.i c.as_slice-all.result.now)) (same v (env x))
+          (set_denotes c.entries.result.now env) (set_denotes c.args.a.now env)
+          (λ yes. ap (λ es. set_denotes es env) is_part ∙ is-split x v env c.args.a.now yes)
+          ∙ ap (λ b. b && not (set_denotes c.args.a.now env))
+          (sym (any_step (λ w. same w (env x)) c.as_slice-all.result.now c.loop-i.i v (omega arith) c.index-all-i.is));
+      vars = λ test all.
+          c.in_ok-put_narrowed.ensures.vars test (c.loop-i.invariant.vars test all)
+          (c.in_ok-rest.ensures.vars test (ap (set_vars test) is_part ∙ restricted_vars x (fits v) test c.args.a.now all))
+          (leads_vars x test c.args.a.now c.requires.leads all);
+    }
+
+pub split-returns-clause-meaning : goal.split-returns-clause-meaning
+split-returns-clause-meaning t c = λ env.
+    let x = c.args.x.now in
+    let all_values : take c.loop-i.i c.as_slice-all.result.now ≡ c.in_ok-values.values =
+    take_all c.loop-i.i c.as_slice-all.result.now (omega arith) ∙ c.as_slice-all.ensures.items in
+    c.in_ok-put_narrowed-2.ensures.meaning env
+    ∙ (λ i. (c.loop-i.invariant.meaning env ∙ ap (λ vs. list_any (λ v. same v (env x)) vs && not (set_denotes c.args.a.now env)) all_values) i
+    || (c.in_ok-rest-2.ensures.meaning env i && not (list_any (λ v. same v (env x)) c.in_ok-values.values)))
+    ∙ complement_end (list_any (λ v. same v (env x)) c.in_ok-values.values) (set_denotes c.deref.result.now env) (set_denotes c.args.a.now env)
+    (λ none. ap (λ es. set_denotes es env) (c.deref.ensures.value ∙ c.in_ok-other.ensures) ∙ other-split x env c.args.a.now (c.in_ok-values.ensures.meaning (env x) none))
+
+pub split-returns-clause-vars : goal.split-returns-clause-vars
+split-returns-clause-vars t c = λ test all.
+    c.in_ok-put_narrowed-2.ensures.vars test (c.loop-i.invariant.vars test all)
+    (c.in_ok-rest-2.ensures.vars test (ap (set_vars test) (c.deref.ensures.value ∙ c.in_ok-other.ensures) ∙ restricted_vars c.args.x.now is_not test c.args.a.now all))
+    (leads_vars c.args.x.now test c.args.a.now c.requires.leads all)

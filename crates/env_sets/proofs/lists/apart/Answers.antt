@@ -1,0 +1,26 @@
+use Rattle.std.proofs.Common.{ap, not, sym}
+use Rattle.std.specs.List.{list_any}
+use Rattle.smpl_terms.specs.Values.{same}
+use Rattle.env_sets.proofs.BoundLemmas.{any_same-along}
+use Rattle.env_sets.proofs.LoneLemmas.{value_kept, value_dropped}
+use Rattle.env_sets.proofs.lists.apart.Goals as goal
+
+pub loop-v-preserved-in-Continue-1 : goal.loop-v-preserved-in-Continue-1
+loop-v-preserved-in-Continue-1 c = λ z.
+    value_kept (λ y. not (list_any (λ w. same w y) c.args.ws.now)) c.loop-v.kept.items _ c.loop-v.yielded c.in-Some.v z c.in_ok-push.ensures.items
+    (λ s. ap not (any_same-along c.in-Some.v z s c.args.ws.now)) (ap not (sym c.if-not-have.ensures.value)) (c.loop-v.invariant z)
+
+pub loop-v-preserved-else-not-have : goal.loop-v-preserved-else-not-have
+loop-v-preserved-else-not-have c = λ z.
+    value_dropped (λ y. not (list_any (λ w. same w y) c.args.ws.now)) c.loop-v.kept.items c.loop-v.yielded c.in-Some.v z
+    (λ s. ap not (any_same-along c.in-Some.v z s c.args.ws.now)) (ap not (sym c.if-not-have.ensures.value)) (c.loop-v.invariant z)
+
+pub loop-v-preserved-else-not-have-2 : goal.loop-v-preserved-else-not-have-2
+loop-v-preserved-else-not-have-2 c = λ z.
+    value_dropped (λ y. not (list_any (λ w. same w y) c.args.ws.now)) c.loop-v.kept.items c.loop-v.yielded c.in-Some.v z
+    (λ s. ap not (any_same-along c.in-Some.v z s c.args.ws.now)) (ap not (sym c.if-not-have.ensures.value)) (c.loop-v.invariant z)
+
+pub loop-v-preserved-else-not-have-3 : goal.loop-v-preserved-else-not-have-3
+loop-v-preserved-else-not-have-3 c = λ z.
+    value_dropped (λ y. not (list_any (λ w. same w y) c.args.ws.now)) c.loop-v.kept.items c.loop-v.yielded c.in-Some.v z
+    (λ s. ap not (any_same-along c.in-Some.v z s c.args.ws.now)) (ap not (sym c.if-not-have.ensures.value)) (c.loop-v.invariant z)

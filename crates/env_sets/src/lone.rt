@@ -1,0 +1,174 @@
+// Entries that bound one variable alone: together they are one list of excluded values, or values.
+//
+//     { x Not [1, 2] } { x Not [2, 3] } { x Is 2 }   =   everything
+//     { x Not [1, 2] } { x Not [1, 3] } { x Is 2 }   =   { x Not [1] }
+ghost use Rattle.std.specs.Prelude.{◌≡◌, ◌||◌, ◌<◌, Bool, true, not, length, IfOk, IfSome};
+ghost use Rattle.std.specs.List.{list_any};
+ghost use Rattle.smpl_terms.specs.declared.var.Var.{Var};
+ghost use Rattle.smpl_terms.specs.declared.value.Value.{Value as Datum};
+ghost use Rattle.smpl_terms.specs.Values.{same};
+ghost use Rattle.smpl_terms.specs.Environments.{Environment};
+ghost use Rattle.env_sets.specs.Bounds.{fits};
+ghost use Rattle.env_sets.specs.Sets.{entry_denotes, entry_vars, option_denotes, option_vars, set_denotes, set_vars};
+
+use crate::bounds::Bound;
+use crate::entries::Entry;
+use crate::lists::{apart, common};
+use crate::sets::put_some;
+use crate::values::{Values, put_new};
+use c_terms::NoMemory;
+use smpl_terms::{Value, Var, same_var};
+use std::alloc::Global;
+
+/// For entries in order: of each variable that some bound alone, one entry for all of these, where they exclude values
+/// and it excludes fewer.
+///
+/// It takes n log n steps for n values that are named there, where the lists of excluded values are in order.
+pub fn wider_entries(alloc: Global, entries: &[Entry]) -> Result<Vec<Entry>, NoMemory>
+    ensures within { IfOk result (λ r. (env : Environment) → set_denotes r.items env ≡ true →
+        set_denotes entries.now env ≡ true) }
+    ensures vars { IfOk result (λ r. (t : Var → Bool) → set_vars t entries.now ≡ true →
+        set_vars t r.items ≡ true) }
+{
+    let mut wider = Vec::new(alloc);
+    for i in 0..entries.len() {
+        if i == 0 || !bound_alike(&entries[i - 1], &entries[i]) {
+            put_some(&mut wider, wider_entry(alloc, entries, i)?)?;
+        }
+    }
+    Ok(wider)
+}
+
+/// Whether both bound one variable alone, and the same.
+fn bound_alike(a: &Entry, b: &Entry) -> bool {
+    match (a.pairs(), b.pairs()) {
+        ([p], [q]) => same_var(&p.0, &q.0),
+        _ => false,
+    }
+}
+
+/// For the entries from a place on that bound the same variable alone.
+fn wider_entry(alloc: Global, entries: &[Entry], start: usize) -> Result<Option<Entry>, NoMemory>
+    requires { start < length entries.now }
+    ensures within { IfOk result (λ o. (env : Environment) → option_denotes o env ≡ true →
+        set_denotes entries.now env ≡ true) }
+    ensures vars { IfOk result (λ o. (t : Var → Bool) → set_vars t entries.now ≡ true →
+        option_vars t o ≡ true) }
+{
+    let first = &entries[start];
+    match first.pairs() {
+        [] => Ok(None),
+        [pair, ..] => match lone_bound(first, &pair.0) {
+            Some(Bound::Not(values)) => less_excluded(alloc, entries, start, &pair.0, values),
+            _ => Ok(None),
+        },
+    }
+}
+
+/// The bound of x, where the entry bounds x and nothing else.
+fn lone_bound<'e>(e: &'e Entry, x: &Var) -> Option<&'e Bound>
+    ensures meaning { IfSome result (λ b. (env : Environment) →
+        entry_denotes e.now env ≡ fits (env x.now) b.now) }
+    ensures vars { IfSome result (λ b. (t : Var → Bool) → entry_vars t e.now ≡ true →
+        t x.now ≡ true) }
+{
+    match e.pairs() {
+        [pair] => {
+            if same_var(&pair.0, x) {
+                Some(&pair.1)
+            } else {
+                None
+            }
+        }
+        _ => None,
+    }
+}
+
+/// One entry for those from a place on that bound x alone, of which the first excludes these values.
+fn less_excluded(
+    alloc: Global,
+    entries: &[Entry],
+    start: usize,
+    x: &Var,
+    values: &Values,
+) -> Result<Option<Entry>, NoMemory>
+    requires within { (env : Environment) → not (list_any (λ v. same v (env x.now)) values.now) ≡ true →
+        set_denotes entries.now env ≡ true }
+    requires vars { (t : Var → Bool) → set_vars t entries.now ≡ true → t x.now ≡ true }
+    ensures within { IfOk result (λ o. (env : Environment) → option_denotes o env ≡ true →
+        set_denotes entries.now env ≡ true) }
+    ensures vars { IfOk result (λ o. (t : Var → Bool) → set_vars t entries.now ≡ true →
+        option_vars t o ≡ true) }
+{
+    let excluded = excluded_by_all(alloc, entries, start, x, values)?;
+    let fixed = fixed_values(alloc, entries, start, x)?;
+    let left = apart(alloc, excluded, &fixed)?;
+    let count = left.as_slice().len();
+    if count == 0 {
+        return Ok(Some(Entry::all(alloc)));
+    }
+    if count == values.as_slice().len() {
+        return Ok(None);
+    }
+    Ok(Some(Entry::one(alloc, x, Bound::Not(left))?))
+}
+
+/// Of these values, those that all lists of the entries exclude.
+fn excluded_by_all(
+    alloc: Global,
+    entries: &[Entry],
+    start: usize,
+    x: &Var,
+    values: &Values,
+) -> Result<Values, NoMemory>
+    requires { (env : Environment) → not (list_any (λ v. same v (env x.now)) values.now) ≡ true →
+        set_denotes entries.now env ≡ true }
+    ensures { IfOk result (λ r. (env : Environment) → not (list_any (λ v. same v (env x.now)) r) ≡ true →
+        set_denotes entries.now env ≡ true) }
+{
+    let mut left = values.copy(alloc)?;
+    for i in start..entries.len() {
+        match lone_bound(&entries[i], x) {
+            Some(bound) => left = excluded_too(alloc, left, bound)?,
+            None => return Ok(left),
+        }
+    }
+    Ok(left)
+}
+
+/// The values that the bound excludes too, where it is a list of these.
+fn excluded_too(alloc: Global, left: Values, bound: &Bound) -> Result<Values, NoMemory>
+    ensures { IfOk result (λ r. (z : Datum) → not (list_any (λ v. same v z) r) ≡ true →
+        (not (list_any (λ v. same v z) left) || fits z bound.now) ≡ true) }
+{
+    match bound {
+        Bound::Is(_) => Ok(left),
+        Bound::Not(values) => common(alloc, left, values),
+    }
+}
+
+/// The values of x in the entries that fix it, each once.
+fn fixed_values(alloc: Global, entries: &[Entry], start: usize, x: &Var) -> Result<Values, NoMemory>
+    ensures { IfOk result (λ r. (env : Environment) → list_any (λ v. same v (env x.now)) r ≡ true →
+        set_denotes entries.now env ≡ true) }
+{
+    let mut fixed = Vec::new(alloc);
+    for i in start..entries.len() {
+        match lone_bound(&entries[i], x) {
+            Some(bound) => put_fixed(alloc, &mut fixed, bound)?,
+            None => return Ok(Values::of(fixed)),
+        }
+    }
+    Ok(Values::of(fixed))
+}
+
+/// Adds the value, if the bound is one, unless it is the last.
+fn put_fixed(alloc: Global, fixed: &mut Vec<Value>, bound: &Bound) -> Result<(), NoMemory>
+    ensures { IfOk result (λ _. (z : Datum) → list_any (λ v. same v z) fixed.new.items ≡ true →
+        (list_any (λ v. same v z) fixed.old.items || fits z bound.now) ≡ true) }
+{
+    match bound {
+        Bound::Is(v) => put_new(fixed, v.copy(alloc)?),
+        Bound::Not(_) => Ok(()),
+    }
+}

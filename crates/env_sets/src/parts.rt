@@ -1,0 +1,224 @@
+// The parts of a set by the values of one variable.
+ghost use Rattle.std.specs.Prelude.{◌≡◌, ◌||◌, ◌++◌, ◌<◌, ℕ, true, false, not, cond, [], ◌∷◌, length, set, slice_index_or, IfOk, IfSome};
+ghost use Rattle.std.specs.List.{list_any};
+ghost use Rattle.smpl_terms.specs.declared.value.Value.{Value as Datum};
+ghost use Rattle.smpl_terms.specs.Values.{same};
+ghost use Rattle.env_sets.specs.Bounds.{fits, is_not};
+ghost use Rattle.env_sets.specs.Rising.{Rise};
+ghost use Rattle.env_sets.specs.Sets.{Entries};
+ghost use Rattle.env_sets.specs.Splits.{passes, without, restricted, agree, none_named, is_unnamed, ArePartsOf};
+
+use crate::bounds::Bound;
+use crate::entries::Entry;
+use crate::values::{Values, distinct, place_in_order};
+use c_terms::NoMemory;
+use smpl_terms::{Value, Var, same_var};
+use std::alloc::Global;
+use std::marker::Model;
+
+/// The entries of one part of a set.
+#[derive(Drop)]
+pub struct Part {
+    entries: Vec<Entry>,
+}
+
+impl Model for Part {
+    ghost use Rattle.std.specs.Coded.{codes};
+    ghost use Rattle.c_terms.specs.contracts.tree.Tree as tree;
+    ghost use Rattle.std.specs.Prelude.{List};
+    ghost use Rattle.smpl_terms.specs.declared.var.Var.{Var};
+    ghost use Rattle.env_sets.specs.declared.bounds.Bound.{Bound};
+
+    ghost Value = { List (List (Var × Bound)) };
+
+    ghost coded = { Prim.hlevel (codes, tree.the_row.coded) };
+
+    ghost view = { λ a. a.entries.items };
+}
+
+impl Part {
+    pub fn entries(&self) -> &[Entry]
+        ensures { result.now ≡ self.now }
+    {
+        self.entries.as_slice()
+    }
+
+    fn put(&mut self, e: Entry) -> Result<(), NoMemory>
+        ensures { IfOk result (λ _. self.new ≡ self.old ++ e ∷ []) }
+    {
+        self.entries.push(e)?;
+        Ok(())
+    }
+}
+
+/// For each of the values, what the entries stand for where x is that value, without x.
+///
+/// An entry that fixes x goes to the part of its value, and any other to each part whose value it allows.
+pub fn parts_by(
+    alloc: Global,
+    a: &[Entry],
+    x: &Var,
+    values: &[Value],
+) -> Result<Vec<Part>, NoMemory>
+    requires rise { Rise values.now }
+    ensures { IfOk result (λ parts. ArePartsOf x.now values.now a.now parts.items) }
+{
+    let mut parts = empty_parts(alloc, values.len())?;
+    for e in a {
+        put_in_parts(alloc, &mut parts, e, x, values)?;
+    }
+    Ok(parts)
+}
+
+fn empty_parts(alloc: Global, count: usize) -> Result<Vec<Part>, NoMemory>
+    ensures count { IfOk result (λ parts. length parts.items ≡ count) }
+    ensures empty { IfOk result (λ parts. (k : ℕ) → slice_index_or parts.items k [] ≡ []) }
+{
+    let mut parts = Vec::with_capacity(alloc, count)?;
+    while parts.len() < count {
+        parts.push(Part {
+            entries: Vec::new(alloc),
+        })?;
+    }
+    Ok(parts)
+}
+
+/// Adds the entry without x to each part whose value it allows.
+fn put_in_parts(
+    alloc: Global,
+    parts: &mut [Part],
+    e: &Entry,
+    x: &Var,
+    values: &[Value],
+) -> Result<(), NoMemory>
+    requires rise { Rise values.now }
+    requires count { length parts.now ≡ length values.now }
+    ensures { IfOk result (λ _. (es : Entries) → ArePartsOf x.now values.now es parts.old →
+        ArePartsOf x.now values.now (es ++ e.now ∷ []) parts.new) }
+{
+    match fixed_value(e, x) {
+        Some(v) => match place_in_order(values, v) {
+            Some(k) => put_in_part(alloc, parts, k, e, x, &values[k]),
+            None => Ok(()),
+        },
+        None => {
+            for k in 0..values.len() {
+                put_in_part(alloc, parts, k, e, x, &values[k])?;
+            }
+            Ok(())
+        }
+    }
+}
+
+/// Adds the entry without x to the part at k, if it allows the value.
+fn put_in_part(
+    alloc: Global,
+    parts: &mut [Part],
+    k: usize,
+    e: &Entry,
+    x: &Var,
+    v: &Value,
+) -> Result<(), NoMemory>
+    requires at { k < length parts.now }
+    ensures { IfOk result (λ _. parts.new ≡ set parts.old k (slice_index_or parts.old k []
+        ++ cond (passes x.now (fits v.now) e.now) (without x.now e.now ∷ []) [])) }
+{
+    if is_allowed(e, x, v) {
+        parts[k].put(e.without(alloc, x)?)?;
+    }
+    Ok(())
+}
+
+/// The value of x, where the entry fixes x.
+fn fixed_value<'e>(e: &'e Entry, x: &Var) -> Option<&'e Value>
+    ensures { IfSome result (λ v. (u : Datum) → same v.now u ≡ false →
+        passes x.now (fits u) e.now ≡ false) }
+{
+    for p in e.pairs() {
+        if let Bound::Is(v) = &p.1 {
+            if same_var(&p.0, x) {
+                return Some(v);
+            }
+        }
+    }
+    None
+}
+
+/// What the entries stand for where x is a value that none of them names, without x.
+pub fn where_other(alloc: Global, a: &[Entry], x: &Var) -> Result<Vec<Entry>, NoMemory>
+    ensures { IfOk result (λ r. r.items ≡ restricted x.now is_not a.now) }
+{
+    let mut entries = Vec::new(alloc);
+    for e in a {
+        if is_open(e, x) {
+            entries.push(e.without(alloc, x)?)?;
+        }
+    }
+    Ok(entries)
+}
+
+/// Whether x may be v.
+pub fn is_allowed(e: &Entry, x: &Var, v: &Value) -> bool
+    ensures { result ≡ passes x.now (fits v.now) e.now }
+{
+    for p in e.pairs() {
+        if same_var(&p.0, x) && !p.1.allows(v) {
+            return false;
+        }
+    }
+    true
+}
+
+/// Whether x is not fixed.
+fn is_open(e: &Entry, x: &Var) -> bool
+    ensures { result ≡ passes x.now is_not e.now }
+{
+    for p in e.pairs() {
+        if same_var(&p.0, x) && !p.1.is_not() {
+            return false;
+        }
+    }
+    true
+}
+
+/// The values that the entries name at x, in order, each once.
+pub fn named(alloc: Global, a: &[Entry], x: &Var) -> Result<Values, NoMemory>
+    ensures meaning { IfOk result (λ vs. (z : Datum) → list_any (λ v. same v z) vs ≡ false →
+        none_named x.now z a.now ≡ true) }
+    ensures rise { IfOk result (λ vs. Rise vs) }
+{
+    let mut values = Vec::new(alloc);
+    for e in a {
+        put_named(alloc, &mut values, e, x)?;
+    }
+    distinct(alloc, values)
+}
+
+/// Adds the values that the entry names at x.
+fn put_named(alloc: Global, out: &mut Vec<Value>, e: &Entry, x: &Var) -> Result<(), NoMemory>
+    ensures { IfOk result (λ _. (z : Datum) → list_any (λ v. same v z) out.new.items ≡ false
+        → (list_any (λ v. same v z) out.old.items || not (is_unnamed x.now z e.now)) ≡ false) }
+{
+    for p in e.pairs() {
+        if same_var(&p.0, x) {
+            put_values(alloc, out, &p.1)?;
+        }
+    }
+    Ok(())
+}
+
+/// Adds the values that the bound names.
+fn put_values(alloc: Global, out: &mut Vec<Value>, bound: &Bound) -> Result<(), NoMemory>
+    ensures { IfOk result (λ _. (z : Datum) → list_any (λ v. same v z) out.new.items ≡ false
+        → (list_any (λ v. same v z) out.old.items || not (agree (is_not bound.now) (fits z bound.now))) ≡ false) }
+{
+    match bound {
+        Bound::Is(v) => out.push(v.copy(alloc)?)?,
+        Bound::Not(vs) => {
+            for v in vs.as_slice() {
+                out.push(v.copy(alloc)?)?;
+            }
+        }
+    }
+    Ok(())
+}

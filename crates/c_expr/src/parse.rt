@@ -143,7 +143,8 @@ fn take_argument<'a, 't>(
 ) -> Result<Position<'a, 't>, ParseFault>
     requires { Sound (Symbol.Argument ∷ at.row.now) at }
     ensures takes { IfOk result (Takes most Symbol.Argument at.entry) }
-    ensures refused { IfErr result (λ e. OnFault e (Refuses most (before Symbol.Argument at.entry))) }
+    ensures refused { IfErr result
+        (λ e. OnFault e (Refuses most (before Symbol.Argument at.entry))) }
 {
     let found = parse(alloc, most, member_kind(front_typed(at.rest)), at.rest)?;
     at.children.push(found.tree)?;
@@ -184,7 +185,8 @@ fn run<'a, 't>(
         (λ end. RunsTo most at.entry.row.now at.entry.rest.now at.entry.children end.children
         end.rest.now) }
     ensures deep { IfOk result (λ end. end.deepest ≡ levels_of_all end.children) }
-    ensures refused { IfErr result (λ e. OnFault e (NoRun most at.entry.row.now at.entry.rest.now)) }
+    ensures refused { IfErr result
+        (λ e. OnFault e (NoRun most at.entry.row.now at.entry.rest.now)) }
 {
     while let [symbol, ..] = at.row {
         at.row = &at.row[1..];

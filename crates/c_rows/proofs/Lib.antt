@@ -1,5 +1,6 @@
 pub mod PlainLemmas
 pub mod Numbers
+pub mod FirstChecks
 pub mod Checks
 pub mod FirstLemmas
 pub mod GrowthLemmas

@@ -92,7 +92,8 @@ fn less_excluded(
     x: &Var,
     values: &Values,
 ) -> Result<Option<Entry>, NoMemory>
-    requires within { (env : Environment) → not (list_any (λ v. same v (env x.now)) values.now) ≡ true →
+    requires within { (env : Environment) →
+        not (list_any (λ v. same v (env x.now)) values.now) ≡ true →
         set_denotes entries.now env ≡ true }
     requires vars { (t : Var → Bool) → set_vars t entries.now ≡ true → t x.now ≡ true }
     ensures within { IfOk result (λ o. (env : Environment) → option_denotes o env ≡ true →
@@ -123,8 +124,8 @@ fn excluded_by_all(
 ) -> Result<Values, NoMemory>
     requires { (env : Environment) → not (list_any (λ v. same v (env x.now)) values.now) ≡ true →
         set_denotes entries.now env ≡ true }
-    ensures { IfOk result (λ r. (env : Environment) → not (list_any (λ v. same v (env x.now)) r) ≡ true →
-        set_denotes entries.now env ≡ true) }
+    ensures { IfOk result (λ r. (env : Environment) →
+        not (list_any (λ v. same v (env x.now)) r) ≡ true → set_denotes entries.now env ≡ true) }
 {
     let mut left = values.copy(alloc)?;
     for i in start..entries.len() {

@@ -120,7 +120,8 @@ pub fn settled(alloc: Global, entries: Vec<Entry>) -> Result<EnvSet, NoMemory>
 
 /// The entries, sorted.
 fn in_order(entries: Vec<Entry>) -> Vec<Entry>
-    ensures meaning { (env : Environment) → set_denotes result.items env ≡ set_denotes entries.items env }
+    ensures meaning { (env : Environment) →
+        set_denotes result.items env ≡ set_denotes entries.items env }
     ensures vars { (t : Var → Bool) → set_vars t result.items ≡ set_vars t entries.items }
 {
     let mut entries = entries;

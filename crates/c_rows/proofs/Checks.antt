@@ -17,7 +17,6 @@ use Rattle.c_rows.specs.Branches.{kind_of, begins}
 use Rattle.c_rows.specs.Rows.{Row, row, ways}
 use Rattle.c_rows.specs.Choice.{head, tail, choose, pick_way, stops, stops_fork, ends, first, opens, leads, every, implies, row_ok, steady, row_fine, weight, left, own, bottom}
 use Rattle.c_rows.proofs.Numbers.{rules, rule_number, rule_listed}
-
 pub use Rattle.c_rows.proofs.FirstChecks.{and_left, and_right, modus, both, implies_both, not_true, every_from, at, every_at, row_at, closes, joins_at, member_at, joins, joins_rule, joins_way, closes_rule, closes_way, opens_rule, leaf_first, member_after, member_stops, member_first}
 
 -- ---- the choice of a way

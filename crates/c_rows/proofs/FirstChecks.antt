@@ -19,7 +19,6 @@ use Rattle.c_rows.specs.Spells.{member_kind}
 use Rattle.c_rows.specs.Choice.{after, stops, stops_fork, first, opens, classes, every, implies, begins_expression}
 use Rattle.c_rows.proofs.Numbers.{number, listed}
 
-
 -- ---- on Bool
 
 pub and_left : (a b : Bool) → IsTrue (a && b) → IsTrue a

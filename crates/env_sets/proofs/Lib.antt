@@ -10,3 +10,4 @@ pub mod MeetLemmas
 pub mod LoneLemmas
 pub mod Examples
 pub mod PartLemmas
+pub mod GroupLemmas

@@ -30,7 +30,7 @@ second_false true b h = absurd cc
 second_false false b h = h
 
 -- what no member passes one does not
-any_none : {X : Type 0} (q : X → Bool) (xs : List X) (i : ℕ) (x : X) → i < length xs → x ≡ get_or xs i x → list_any q xs ≡ false → q x ≡ false
+pub any_none : {X : Type 0} (q : X → Bool) (xs : List X) (i : ℕ) (x : X) → i < length xs → x ≡ get_or xs i x → list_any q xs ≡ false → q x ≡ false
 any_none q [] i x lt e h = absurd (omega arith)
 any_none q (y ∷ ys) zero x lt e h = ap q e ∙ first_false (q y) (list_any q ys) h
 any_none q (y ∷ ys) (suc i) x lt e h = any_none q ys i x (omega arith) e (second_false (q y) (list_any q ys) h)
@@ -68,7 +68,7 @@ before : (j n : ℕ) → (j ≡ n → ⊥) → j < n + 1 → j < n
 before j n other less = ⊎_elim (λ (l : j < n). l) (λ (l : n < j). absurd (omega arith)) (apart_cases j n other)
 
 -- values of two places are not the same
-two_places : (ws : List Value) (j k : ℕ) (x y : Value) → Rise ws → (j ≡ k → ⊥) → j < length ws → k < length ws → x ≡ get_or ws j x → y ≡ get_or ws k y → same y x ≡ false
+pub two_places : (ws : List Value) (j k : ℕ) (x y : Value) → Rise ws → (j ≡ k → ⊥) → j < length ws → k < length ws → x ≡ get_or ws j x → y ≡ get_or ws k y → same y x ≡ false
 two_places ws j k x y r ne lj lk e f =
     ⊎_elim
     (λ (h : j < k). same-sym y x ∙ less_apart x y (rise_apart ws j k x y r h lk e f))
@@ -199,7 +199,7 @@ pub written_back : {X : Type 0} (new old : List X) (n : ℕ) → n ≡ length ne
 written_back new old n e = take_front new (drop (length new) old) n e
 
 -- a part has fewer bounds than the set
-some_value : (ws : List Value) (i : ℕ) → i < length ws → (v : Value) × (v ≡ get_or ws i v)
+pub some_value : (ws : List Value) (i : ℕ) → i < length ws → (v : Value) × (v ≡ get_or ws i v)
 some_value [] i lt = absurd (omega arith)
 some_value (w ∷ ws) zero lt = (w, refl)
 some_value (w ∷ ws) (suc i) lt = some_value ws i (omega arith)

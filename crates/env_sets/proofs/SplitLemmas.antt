@@ -49,7 +49,7 @@ set-split x test env [] d = refl
 set-split x test env (e ∷ es) d = set_step x test env e es (passes x test e) (entry-split x test env e d.0) (set-split x test env es d.1)
 
 -- where x is v
-fits-Decided : (x : Var) (v z : Value) → same v z ≡ true → (ps : List (Var × Bound)) → Decided x (fits v) z ps
+pub fits-Decided : (x : Var) (v z : Value) → same v z ≡ true → (ps : List (Var × Bound)) → Decided x (fits v) z ps
 fits-Decided x v z h [] = tt
 fits-Decided x v z h (p ∷ ps) = (λ _. fits-along v z h p.1, fits-Decided x v z h ps)
 

@@ -5,8 +5,10 @@ use Rattle.smpl_terms.specs.declared.var.Var.{Var}
 use Rattle.smpl_terms.specs.declared.value.Value.{Value}
 use Rattle.smpl_terms.specs.Values.{same}
 use Rattle.smpl_terms.specs.Vars.{same_var}
+use Rattle.smpl_terms.specs.Environments.{Environment}
 use Rattle.env_sets.specs.declared.bounds.Bound.{Bound}
 use Rattle.env_sets.specs.Bounds.{fits, is_not}
+use Rattle.env_sets.specs.Sets.{Entries, set_denotes, set_vars}
 
 -- the bound allows the value, if there is one
 abbrev pub fits_if : Option Value → Bound → Bool
@@ -55,3 +57,13 @@ ArePartsOf x values es parts = (length parts ≡ length values) × ((k : ℕ) (v
 -- the value is fixed by some entries, or others allow it at x
 abbrev pub are_allowed : Var → Value → List Value → List (List (Var × Bound)) → Bool
 are_allowed x v fixed others = list_any (λ w. same w v) fixed || list_any (λ e. passes x (fits v) e) others
+
+-- where x is one of the values, the set is its group and the others; elsewhere it is the others
+abbrev pub AreGroupsOf : Var → List Value → Entries → List Entries → Entries → Type 0
+AreGroupsOf x values es groups others = (length groups ≡ length values)
+    × (((env : Environment) (k : ℕ) (v : Value) → k < length values → v ≡ slice_index_or values k v → same v (env x) ≡ true → set_denotes es env ≡ (set_denotes (slice_index_or groups k []) env || set_denotes others env))
+    × ((env : Environment) → list_any (λ w. same w (env x)) values ≡ false → set_denotes es env ≡ set_denotes others env))
+
+-- each variable passes the test
+abbrev pub HaveVars : (Var → Bool) → List Entries → Entries → Type 0
+HaveVars test groups others = ((k : ℕ) → set_vars test (slice_index_or groups k []) ≡ true) × (set_vars test others ≡ true)

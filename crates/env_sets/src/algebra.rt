@@ -8,12 +8,15 @@ ghost use Rattle.smpl_terms.specs.Vars.{same_var};
 ghost use Rattle.smpl_terms.specs.Environments.{Environment, change, value_in, has_value, over, total};
 ghost use Rattle.env_sets.specs.Sets.{entry_denotes, entry_vars, option_denotes, option_vars, set_denotes, set_vars, ForSomeValue};
 ghost use Rattle.env_sets.specs.Laws.{IsMeet, IsJoin, IsProjection, IsGiven};
-ghost use Rattle.env_sets.specs.Splits.{fits_if};
+ghost use Rattle.env_sets.specs.Rising.{Rise};
+ghost use Rattle.env_sets.specs.Splits.{fits_if, AreGroupsOf, HaveVars};
 
 use crate::bounds::Bound;
 use crate::entries::{Entry, entry_holds, meet_entries};
-use crate::sets::{EnvSet, put_some, settled};
-use crate::values::{Values, distinct};
+use crate::groups::{Groups, groups_by};
+use crate::parts::fixed_value;
+use crate::sets::{EnvSet, first_cover, put_some, settled};
+use crate::values::{Values, distinct, place_in_order};
 use c_terms::NoMemory;
 use smpl_terms::{Env, Value, Var, same_var};
 use std::alloc::Global;
@@ -43,9 +46,10 @@ fn put_copies(alloc: Global, out: &mut Vec<Entry>, a: &EnvSet) -> Result<(), NoM
 
 /// Both: what a and b stand for.
 ///
-/// It meets each entry of a with each of b. But an entry of a that fixes the first variable of b alone meets no entry
-/// of b that fixes this variable alone; it is looked up among their values. So for sets of n entries over one variable,
-/// which are values in order, it takes n log n steps.
+/// It copies each entry of b at most twice. An entry of a that fixes the variable which the first entry of b bounds
+/// first meets those entries of b that fix it to the same value, found by look-up, and those that do not fix it; if
+/// one of the former plainly covers it, it meets no more. Any other entry of a meets each of b. So for n entries
+/// that fix the same variables, of which those of b fix this one to n values, it takes n log n steps.
 pub fn meet(alloc: Global, a: &EnvSet, b: &EnvSet) -> Result<EnvSet, NoMemory>
     ensures meaning { IfOk result (λ r. IsMeet a.now b.now r) }
     ensures vars { IfOk result (λ r. (t : Var → Bool) → set_vars t a.now ≡ true →
@@ -75,21 +79,22 @@ fn meet_pairs(alloc: Global, a: &EnvSet, b: &EnvSet) -> Result<EnvSet, NoMemory>
 {
     let mut entries = Vec::new(alloc);
     for e in a.entries() {
-        put_meets(alloc, &mut entries, e, b)?;
+        put_meets(alloc, &mut entries, e, b.entries())?;
     }
     settled(alloc, entries)
 }
 
-/// The same, with the values at which b has x alone apart.
+/// The same, by the values at which entries of b fix x. Those that fix x alone are kept as values.
 fn meet_by(alloc: Global, a: &EnvSet, b: &EnvSet, x: &Var) -> Result<EnvSet, NoMemory>
     ensures meaning { IfOk result (λ r. IsMeet a.now b.now r) }
     ensures vars { IfOk result (λ r. (t : Var → Bool) → set_vars t a.now ≡ true →
         set_vars t b.now ≡ true → set_vars t r ≡ true) }
 {
     let parts = parts_at(alloc, b.entries(), x)?;
+    let groups = groups_by(alloc, parts.others.entries(), x)?;
     let mut entries = Vec::new(alloc);
     for e in a.entries() {
-        put_meets_by(alloc, &mut entries, e, b, x, &parts)?;
+        put_meets_at(alloc, &mut entries, e, b, x, &parts, &groups)?;
     }
     settled(alloc, entries)
 }
@@ -159,6 +164,42 @@ fn only_value<'e>(e: &'e Entry, x: &Var) -> Option<&'e Value>
     }
 }
 
+/// Adds what the entry and some entry of b stand for; if b has the value at which the entry fixes x, the entry itself.
+fn put_meets_at(
+    alloc: Global,
+    out: &mut Vec<Entry>,
+    e: &Entry,
+    b: &EnvSet,
+    x: &Var,
+    parts: &Parts,
+    groups: &Groups,
+) -> Result<(), NoMemory>
+    requires parts { (env : Environment) → set_denotes b.now env ≡ (list_any
+        (λ v. same v (env x.now)) parts.now.fixed || set_denotes parts.now.others env) }
+    requires others { (t : Var → Bool) → set_vars t b.now ≡ true →
+        set_vars t parts.now.others ≡ true }
+    requires rise { Rise groups.now.values }
+    requires groups { AreGroupsOf x.now groups.now.values parts.now.others
+        groups.now.groups.items groups.now.others }
+    requires vars { (t : Var → Bool) → set_vars t parts.now.others ≡ true →
+        HaveVars t groups.now.groups.items groups.now.others }
+    ensures meaning { IfOk result
+        (λ _. (env : Environment) → set_denotes out.new.items env ≡ (set_denotes out.old.items env || (entry_denotes e.now env && set_denotes b.now env))) }
+    ensures vars { IfOk result
+        (λ _. (t : Var → Bool) → set_vars t out.old.items ≡ true → entry_vars t e.now ≡ true → set_vars t b.now ≡ true → set_vars t out.new.items ≡ true) }
+{
+    match fixed_value(e, x) {
+        None => put_meets(alloc, out, e, b.entries()),
+        Some(v) => {
+            if parts.fixed.have(v) {
+                out.push(e.copy(alloc)?)?;
+                return Ok(());
+            }
+            put_meets_by(alloc, out, e, &parts.others, x, groups)
+        }
+    }
+}
+
 /// Adds what the entry and some entry of b stand for.
 fn put_meets_by(
     alloc: Global,
@@ -166,37 +207,62 @@ fn put_meets_by(
     e: &Entry,
     b: &EnvSet,
     x: &Var,
-    parts: &Parts,
+    groups: &Groups,
 ) -> Result<(), NoMemory>
-    requires parts { (env : Environment) → set_denotes b.now env ≡ (list_any
-        (λ v. same v (env x.now)) parts.now.fixed || set_denotes parts.now.others env) }
-    requires others { (t : Var → Bool) → set_vars t b.now ≡ true →
-        set_vars t parts.now.others ≡ true }
+    requires rise { Rise groups.now.values }
+    requires groups { AreGroupsOf x.now groups.now.values b.now
+        groups.now.groups.items groups.now.others }
+    requires vars { (t : Var → Bool) → set_vars t b.now ≡ true →
+        HaveVars t groups.now.groups.items groups.now.others }
     ensures meaning { IfOk result
         (λ _. (env : Environment) → set_denotes out.new.items env ≡ (set_denotes out.old.items env || (entry_denotes e.now env && set_denotes b.now env))) }
     ensures vars { IfOk result
         (λ _. (t : Var → Bool) → set_vars t out.old.items ≡ true → entry_vars t e.now ≡ true → set_vars t b.now ≡ true → set_vars t out.new.items ≡ true) }
 {
-    match only_value(e, x) {
-        None => put_meets(alloc, out, e, b),
-        Some(v) => {
-            if parts.fixed.have(v) {
-                out.push(e.copy(alloc)?)?;
-                return Ok(());
-            }
-            put_meets(alloc, out, e, &parts.others)
-        }
+    match fixed_value(e, x) {
+        None => put_meets(alloc, out, e, b.entries()),
+        Some(v) => match place_in_order(groups.values.as_slice(), v) {
+            None => put_meets(alloc, out, e, groups.others.entries()),
+            Some(k) => put_meets_of(
+                alloc,
+                out,
+                e,
+                groups.groups[k].entries(),
+                groups.others.entries(),
+            ),
+        },
     }
 }
 
+/// Adds what the entry and some entry of the group or of the others stand for.
+fn put_meets_of(
+    alloc: Global,
+    out: &mut Vec<Entry>,
+    e: &Entry,
+    group: &[Entry],
+    others: &[Entry],
+) -> Result<(), NoMemory>
+    ensures meaning { IfOk result
+        (λ _. (env : Environment) → set_denotes out.new.items env ≡ (set_denotes out.old.items env || (entry_denotes e.now env && (set_denotes group.now env || set_denotes others.now env)))) }
+    ensures vars { IfOk result
+        (λ _. (t : Var → Bool) → set_vars t out.old.items ≡ true → entry_vars t e.now ≡ true → set_vars t group.now ≡ true → set_vars t others.now ≡ true → set_vars t out.new.items ≡ true) }
+{
+    if first_cover(group, group.len(), e) {
+        out.push(e.copy(alloc)?)?;
+        return Ok(());
+    }
+    put_meets(alloc, out, e, group)?;
+    put_meets(alloc, out, e, others)
+}
+
 /// Adds what the entry and some entry of b stand for.
-fn put_meets(alloc: Global, out: &mut Vec<Entry>, e: &Entry, b: &EnvSet) -> Result<(), NoMemory>
+fn put_meets(alloc: Global, out: &mut Vec<Entry>, e: &Entry, b: &[Entry]) -> Result<(), NoMemory>
     ensures meaning { IfOk result
         (λ _. (env : Environment) → set_denotes out.new.items env ≡ (set_denotes out.old.items env || (entry_denotes e.now env && set_denotes b.now env))) }
     ensures vars { IfOk result
         (λ _. (t : Var → Bool) → set_vars t out.old.items ≡ true → entry_vars t e.now ≡ true → set_vars t b.now ≡ true → set_vars t out.new.items ≡ true) }
 {
-    for f in b.entries() {
+    for f in b {
         put_some(out, meet_entries(alloc, e, f)?)?;
     }
     Ok(())

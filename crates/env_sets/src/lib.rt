@@ -19,6 +19,7 @@ mod algebra;
 mod bounds;
 mod complements;
 mod entries;
+mod groups;
 mod laws;
 mod lists;
 mod lone;

@@ -43,7 +43,7 @@ impl Part {
         self.entries.as_slice()
     }
 
-    fn put(&mut self, e: Entry) -> Result<(), NoMemory>
+    pub fn put(&mut self, e: Entry) -> Result<(), NoMemory>
         ensures { IfOk result (λ _. self.new ≡ self.old ++ e ∷ []) }
     {
         self.entries.push(e)?;
@@ -70,7 +70,8 @@ pub fn parts_by(
     Ok(parts)
 }
 
-fn empty_parts(alloc: Global, count: usize) -> Result<Vec<Part>, NoMemory>
+/// So many parts without entries.
+pub fn empty_parts(alloc: Global, count: usize) -> Result<Vec<Part>, NoMemory>
     ensures count { IfOk result (λ parts. length parts.items ≡ count) }
     ensures empty { IfOk result (λ parts. (k : ℕ) → slice_index_or parts.items k [] ≡ []) }
 {
@@ -130,7 +131,7 @@ fn put_in_part(
 }
 
 /// The value of x, where the entry fixes x.
-fn fixed_value<'e>(e: &'e Entry, x: &Var) -> Option<&'e Value>
+pub fn fixed_value<'e>(e: &'e Entry, x: &Var) -> Option<&'e Value>
     ensures { IfSome result (λ v. (u : Datum) → same v.now u ≡ false →
         passes x.now (fits u) e.now ≡ false) }
 {

@@ -261,7 +261,7 @@ impl Kept {
 }
 
 /// Whether one of the first entries covers this one.
-fn first_cover(entries: &[Entry], count: usize, e: &Entry) -> bool
+pub fn first_cover(entries: &[Entry], count: usize, e: &Entry) -> bool
     ensures { result ≡ true → (env : Environment) → entry_denotes e.now env ≡ true →
         set_denotes entries.now env ≡ true }
 {

@@ -146,3 +146,23 @@ fn complement_of_many_variables(rt: HostRuntime) -> Result<(), Fail> {
     assert!(rt; measures(&other(alloc, &wide)?, 100, 5050));
     Ok(())
 }
+
+/// An entry that fixes x and y.
+fn point(alloc: Global, x: &str, y: &str) -> Result<EnvSet, Fail> {
+    both(alloc, &is(alloc, "x", x)?, &is(alloc, "y", y)?)
+}
+
+#[test]
+fn meet_by_values_of_one_variable(rt: HostRuntime) -> Result<(), Fail> {
+    let alloc = rt.alloc();
+    let points = either(alloc, &point(alloc, "1", "2")?, &point(alloc, "3", "1")?)?;
+    let lines = either(alloc, &is(alloc, "x", "1")?, &is(alloc, "y", "1")?)?;
+    let more = either(alloc, &lines, &point(alloc, "3", "2")?)?;
+    let wanted = [false, true, true, false];
+    assert!(rt; answers(alloc, &both(alloc, &points, &lines)?, wanted)?);
+    assert!(rt; answers(alloc, &both(alloc, &lines, &points)?, wanted)?);
+    let met = both(alloc, &points, &more)?;
+    assert!(rt; answers(alloc, &met, wanted)?);
+    assert!(rt; measures(&met, 2, 4));
+    Ok(())
+}

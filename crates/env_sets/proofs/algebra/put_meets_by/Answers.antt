@@ -1,28 +1,46 @@
-use Rattle.std.proofs.Common.{◌||◌, ap, sym, ◌∙◌}
+use Rattle.std.proofs.Common.{◌≡◌, ◌<◌, ◌&&◌, ◌||◌, [], ap, sym, ◌∙◌, arith, length, get_or}
 use Rattle.std.specs.List.{list_any}
-use Rattle.std.proofs.lemmas.Result.{IfOk-weaker}
 use Rattle.smpl_terms.specs.Values.{same}
-use Rattle.env_sets.specs.Sets.{entry_denotes, set_denotes}
-use Rattle.env_sets.proofs.BoundLemmas.{any_same-along}
-use Rattle.env_sets.proofs.LoopLemmas.{denotes_one}
-use Rattle.env_sets.proofs.MeetLemmas.{known, unknown}
+use Rattle.std.proofs.lemmas.List.{get_or_default}
+use Rattle.std.proofs.lemmas.Result.{IfOk-weaker}
+use Rattle.env_sets.specs.Sets.{entry_denotes, set_denotes, set_vars}
+use Rattle.env_sets.proofs.GroupLemmas.{met_elsewhere, met_in_group}
 use Rattle.env_sets.proofs.algebra.put_meets_by.Goals as goal
 
-pub returns-then-have-clause-meaning : goal.returns-then-have-clause-meaning
-returns-then-have-clause-meaning c = λ env.
-    ap (λ es. set_denotes es env) c.in_ok-push-in-Some.ensures.items
-    ∙ denotes_one c.args.out.now.items c.in_ok-copy-in-Some.field-0 env
-    ∙ ap (λ b. set_denotes c.args.out.now.items env || b)
-    (ap (λ e. entry_denotes e env) c.in_ok-copy-in-Some.ensures.same
-    ∙ known (entry_denotes c.args.e.now env) (list_any (λ v. same v (env c.args.x.now)) c.args.parts.now.fixed) (set_denotes c.args.b.now env) (set_denotes c.args.parts.now.others env)
-    (λ yes. sym (any_same-along c.in-Some.v.now (env c.args.x.now) (sym (c.in-Some.ensures env) ∙ yes) c.args.parts.now.fixed) ∙ sym c.have.ensures.value ∙ c.if-have.true)
-    (c.requires.parts env))
-
-pub returns-else-have-clause-meaning : goal.returns-else-have-clause-meaning
-returns-else-have-clause-meaning c = IfOk-weaker c.put_meets-in-Some.result _ _ (λ r h env.
+pub returns-in-None-place_in_order-clause-meaning : goal.returns-in-None-place_in_order-clause-meaning
+returns-in-None-place_in_order-clause-meaning c = IfOk-weaker c.put_meets-in-None-place_in_order.result _ _ (λ r h env.
     h env
+    ∙ ap (λ es. set_denotes c.args.out.now.items env || (entry_denotes c.args.e.now env && set_denotes es env)) c.entries-in-None-place_in_order.ensures.entries
     ∙ ap (λ b. set_denotes c.args.out.now.items env || b)
-    (unknown (entry_denotes c.args.e.now env) (list_any (λ v. same v (env c.args.x.now)) c.args.parts.now.fixed) (set_denotes c.args.b.now env) (set_denotes c.args.parts.now.others env)
-    (λ yes. sym (any_same-along c.in-Some.v.now (env c.args.x.now) (sym (c.in-Some.ensures env) ∙ yes) c.args.parts.now.fixed) ∙ sym c.have.ensures.value ∙ c.if-have.false)
-    (c.requires.parts env)))
-    c.put_meets-in-Some.ensures.meaning
+    (met_elsewhere c.args.x.now c.args.groups.now.values c.args.b.now c.args.groups.now.groups.items c.args.groups.now.others c.args.e.now c.in-Some.v.now
+    c.requires.groups c.in-Some.ensures (ap (list_any (λ w. same w c.in-Some.v.now)) (sym c.as_slice.ensures.items) ∙ c.in-None-place_in_order.ensures) env))
+    c.put_meets-in-None-place_in_order.ensures.meaning
+
+pub returns-in-Some-place_in_order-clause-meaning : goal.returns-in-Some-place_in_order-clause-meaning
+returns-in-Some-place_in_order-clause-meaning c =
+    let k = c.in-Some-place_in_order.k in
+    let values = c.as_slice.ensures.items in
+    let within : k < length c.args.groups.now.values = omega (arith, c.in-Some-place_in_order.ensures.0, ap length values) in
+    let group : c.entries-in-Some-place_in_order.result.now ≡ get_or c.args.groups.now.groups.items k [] =
+    c.entries-in-Some-place_in_order.ensures ∙ c.index.ensures
+    ∙ get_or_default c.args.groups.now.groups.items k c.index.result.now [] (omega (arith, within, c.requires.groups.0)) in
+    let here = ap (λ vs. same (get_or vs k c.in-Some.v.now) c.in-Some.v.now) (sym values) ∙ c.in-Some-place_in_order.ensures.1 in
+    IfOk-weaker c.put_meets_of.result _ _ (λ r h env.
+    h env
+    ∙ ap (λ es. set_denotes c.args.out.now.items env || (entry_denotes c.args.e.now env && (set_denotes c.entries-in-Some-place_in_order.result.now env || set_denotes es env))) c.entries-in-Some-place_in_order-2.ensures.entries
+    ∙ ap (λ b. set_denotes c.args.out.now.items env || b)
+    (met_in_group c.args.x.now c.args.groups.now.values c.args.b.now c.args.groups.now.groups.items c.args.groups.now.others
+    c.entries-in-Some-place_in_order.result.now c.args.e.now c.in-Some.v.now k c.requires.groups c.in-Some.ensures within here group env))
+    c.put_meets_of.ensures.meaning
+
+pub returns-in-Some-place_in_order-clause-vars : goal.returns-in-Some-place_in_order-clause-vars
+returns-in-Some-place_in_order-clause-vars c =
+    let k = c.in-Some-place_in_order.k in
+    let within : k < length c.args.groups.now.values = omega (arith, c.in-Some-place_in_order.ensures.0, ap length c.as_slice.ensures.items) in
+    let group : c.entries-in-Some-place_in_order.result.now ≡ get_or c.args.groups.now.groups.items k [] =
+    c.entries-in-Some-place_in_order.ensures ∙ c.index.ensures
+    ∙ get_or_default c.args.groups.now.groups.items k c.index.result.now [] (omega (arith, within, c.requires.groups.0)) in
+    IfOk-weaker c.put_meets_of.result _ _ (λ r h t first second third.
+    let all = c.requires.vars t third in
+    h t first second (ap (set_vars t) group ∙ all.0 k) (ap (set_vars t) c.entries-in-Some-place_in_order-2.ensures.entries ∙ all.1))
+    c.put_meets_of.ensures.vars

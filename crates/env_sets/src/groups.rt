@@ -1,0 +1,99 @@
+// The entries of a set by the value at which they fix one variable.
+ghost use Rattle.std.specs.Prelude.{◌≡◌, ◌++◌, ◌<◌, Bool, true, false, [], ◌∷◌, length, slice_index_or, IfOk, IfSome};
+ghost use Rattle.smpl_terms.specs.declared.var.Var.{Var};
+ghost use Rattle.smpl_terms.specs.declared.value.Value.{Value as Datum};
+ghost use Rattle.smpl_terms.specs.Values.{same};
+ghost use Rattle.smpl_terms.specs.Environments.{Environment};
+ghost use Rattle.env_sets.specs.Rising.{Rise};
+ghost use Rattle.env_sets.specs.Sets.{Entries, entry_denotes, entry_vars, set_vars};
+ghost use Rattle.env_sets.specs.Splits.{AreGroupsOf, HaveVars};
+
+use crate::entries::Entry;
+use crate::parts::{Part, empty_parts, fixed_value};
+use crate::sets::EnvSet;
+use crate::values::{Values, distinct, place_in_order};
+use c_terms::NoMemory;
+use smpl_terms::{Value, Var};
+use std::alloc::Global;
+
+/// A set at a variable: the values at which entries fix it, in order, each once; for each value these entries; and all
+/// other entries.
+#[derive(Drop)]
+pub struct Groups {
+    pub values: Values,
+    pub groups: Vec<Part>,
+    pub others: EnvSet,
+}
+
+/// The groups of a set at x. Copies each entry once, and sorts the values.
+pub fn groups_by(alloc: Global, b: &[Entry], x: &Var) -> Result<Groups, NoMemory>
+    ensures rise { IfOk result (λ g. Rise g.values) }
+    ensures meaning { IfOk result (λ g. AreGroupsOf x.now g.values b.now g.groups.items g.others) }
+    ensures vars { IfOk result (λ g. (t : Var → Bool) → set_vars t b.now ≡ true →
+        HaveVars t g.groups.items g.others) }
+{
+    let values = values_at(alloc, b, x)?;
+    let mut groups = empty_parts(alloc, values.as_slice().len())?;
+    let mut others = Vec::new(alloc);
+    for e in b {
+        put_in_group(alloc, &mut groups, &mut others, e, x, values.as_slice())?;
+    }
+    Ok(Groups {
+        values,
+        groups,
+        others: EnvSet::of(others),
+    })
+}
+
+/// The values at which entries fix x, in order, each once.
+fn values_at(alloc: Global, b: &[Entry], x: &Var) -> Result<Values, NoMemory>
+    ensures rise { IfOk result (λ vs. Rise vs) }
+{
+    let mut values = Vec::new(alloc);
+    for e in b {
+        if let Some(v) = fixed_value(e, x) {
+            values.push(v.copy(alloc)?)?;
+        }
+    }
+    distinct(alloc, values)
+}
+
+/// Adds the entry to the group of the value at which it fixes x, or else to the others.
+fn put_in_group(
+    alloc: Global,
+    groups: &mut [Part],
+    others: &mut Vec<Entry>,
+    e: &Entry,
+    x: &Var,
+    values: &[Value],
+) -> Result<(), NoMemory>
+    requires rise { Rise values.now }
+    requires count { length groups.now ≡ length values.now }
+    ensures meaning { IfOk result (λ _. (es : Entries) →
+        AreGroupsOf x.now values.now es groups.old others.old.items →
+        AreGroupsOf x.now values.now (es ++ e.now ∷ []) groups.new others.new.items) }
+    ensures vars { IfOk result (λ _. (t : Var → Bool) → HaveVars t groups.old others.old.items →
+        entry_vars t e.now ≡ true → HaveVars t groups.new others.new.items) }
+{
+    match group_of(e, x, values) {
+        Some(k) => {
+            groups[k].put(e.copy(alloc)?)?;
+            Ok(())
+        }
+        None => {
+            others.push(e.copy(alloc)?)?;
+            Ok(())
+        }
+    }
+}
+
+/// The place of the value at which the entry fixes x.
+fn group_of(e: &Entry, x: &Var, values: &[Value]) -> Option<usize>
+    requires rise { Rise values.now }
+    ensures { IfSome result (λ k. (k < length values.now) × ((env : Environment) →
+        (w : Datum) → w ≡ slice_index_or values.now k w → same w (env x.now) ≡ false →
+        entry_denotes e.now env ≡ false)) }
+{
+    let v = fixed_value(e, x)?;
+    place_in_order(values, v)
+}

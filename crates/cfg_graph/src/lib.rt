@@ -1,0 +1,31 @@
+//! Control-flow graphs: nodes with a label each, and the ways between them.
+//!
+//! - [`Graph`] has for each node its successors, what comes past its statement, and the entries of
+//!   its branches. [`Graph::new`] makes one of lists, the other calls read it.
+//! - [`NodeLabel`] says what a node is and which statement it names, by a [`NodeTree`].
+//! - [`is_own`] says which children of that statement's tree are the node's own.
+//! - [`Links`] are a few numbers of nodes.
+//! - [`labels_are_values`] is a law: its clauses hold, and its body is empty.
+//!
+//! ```text
+//!       0 head ─► 1 {  ─► 2 lock ─► 3 if ─┬─► 4 unlock a ─┐
+//!                                         └─► 5 unlock b ─┴─► 6 } ─► 7 exit (goes to itself)
+//! ```
+//!
+//! Here 3 has the successors 4 and 5 and the same two branch entries, and 6 is past 3, 4 and 5.
+//!
+//! A graph lends its trees from the item that it was made of, so a label costs no copy of its
+//! statement. Which graph an item has is for cfg_build.
+#![tactic(auto)]
+
+mod graph;
+mod label;
+mod laws;
+mod links;
+mod own;
+
+pub use graph::Graph;
+pub use label::{NodeKind, NodeLabel, NodeTree};
+pub use laws::labels_are_values;
+pub use links::Links;
+pub use own::is_own;

@@ -22,9 +22,9 @@ const BLOCK: usize = 65536;
 /// Contracts see the counts of stores and of faults.
 ///
 /// `Failed` are a file that is missing or cannot be opened, a read or a write that fails, and a write that takes
-/// nothing. A read or a write that a signal interrupts is made again. The count of faults rises at each `Err`, also where
-/// a file is too long or memory runs out, and at no `Ok`. A load is linear in what it reads, which is at most one block of
-/// 64 KiB past its limit; a store is linear in its bytes.
+/// nothing. A read or a write that a signal interrupts is made again. The count of faults rises at each `Err`, also
+/// where a file is too long or memory runs out, and at no `Ok`. A load is linear in what it reads, which is at most one
+/// block of 64 KiB past its limit; a store is linear in its bytes, and waits until they are on the disk.
 #[derive(Drop)]
 pub struct FileShelf<'a, R> {
     rt: &'a R,
@@ -81,12 +81,12 @@ impl<'a, R: Files + AllocGlobal> Loads for FileShelf<'a, R> {
 impl<'a, R: Files + AllocGlobal> Shelf for FileShelf<'a, R> {
     /// Puts the bytes into the file, to which links are followed.
     ///
-    /// A new file beside the old one gets the bytes, the old one's mode and, where that is allowed, its owner. It is synced,
-    /// and takes the old one's name in one step. Where no file may be made beside the old one, or that has a second name, it
-    /// is written over. What is no plain file, or may not be written, is `Failed`.
+    /// A new file beside the old one gets the bytes, the old one's mode and, where that is allowed, its owner. It is
+    /// synced, and takes the old one's name in one step. Where no file may be made beside the old one, or that has a
+    /// second name, it is written over. What is no plain file, or may not be written, is `Failed`.
     ///
-    /// After an `Err` the old bytes stand there, but for a file that was written over: it may then begin with a first part
-    /// of the new bytes. The new file is removed after a fault. `NoMemory` comes before any file is touched.
+    /// After an `Err` the old bytes stand there, but for a file that was written over: it may then begin with a first
+    /// part of the new bytes. The new file is removed after a fault. `NoMemory` comes before any file is touched.
     fn store(&mut self, name: &str, bytes: &[u8]) -> Result<(), ShelfFault>
         ensures counts_ok { OnOk result (self.new.stores ≡ counted self.old.stores) }
         ensures counts_failed { IsErrOf result ShelfFault.Failed →

@@ -12,7 +12,8 @@ use c_terms::{NoMemory, Text};
 use std::alloc::Global;
 use std::marker::Model;
 
-/// Files in memory, with the numbers of the calls that fail. Contracts see the files, the count of stores and the calls.
+/// Files in memory, with the numbers of the calls that fail. Contracts see the files, the count of stores and the
+/// calls.
 ///
 /// Loads and stores are counted together, from 0, also those that find no memory. Costs are those of `CalmShelf`,
 /// and a walk of the list of numbers.

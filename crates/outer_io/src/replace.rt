@@ -36,8 +36,8 @@ enum BesideFault {
 /// Puts the bytes into the file of this name, in place of those that were there. Links are followed.
 ///
 /// A new file beside the old one gets the bytes, and the old one's mode and, where that is allowed, its owner; it is
-/// synced and takes the old one's name in one step. Where no file may be made beside it, or it has a second name, the old
-/// one is written over. What is no plain file, or may not be written, is `Failed`, and so is a circle of links.
+/// synced and takes the old one's name in one step. Where no file may be made beside it, or it has a second name, the
+/// old one is written over. What is no plain file, or may not be written, is `Failed`, and so is a circle of links.
 ///
 /// After an `Err` the old bytes stand there, but where the old one was written over: then a first part of the new bytes
 /// may stand before what is left of the old. `NoMemory` comes before any file is touched.

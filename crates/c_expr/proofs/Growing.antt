@@ -102,7 +102,7 @@ word_opens done h = refl
 word_opens (word f rest) h = f
 word_opens (child d rest) h = let never : ⊥ = cc in absurd never
 word_opens (argument d rest) h = let never : ⊥ = cc in absurd never
-word_opens (fork i w way) h = let never : ⊥ = cc in absurd never
+word_opens (fork i w v way) h = let never : ⊥ = cc in absurd never
 
 pub lift : {k m : Kind} {xs ys : List Seen} {t : Tree} → IsTrue (within k m) → Spells k xs t ys → Spells m xs t ys
 lift {k} {m} w (leaf {s = s} {ys = ys} h) = leaf (subst (λ (f : Family). IsTrue (has_leaf f s.class)) (within_family k m w) h)

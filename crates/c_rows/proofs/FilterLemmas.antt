@@ -17,7 +17,7 @@ use Rattle.c_rows.specs.declared.symbol.Symbol.TheVariants as symbol
 use Rattle.c_rows.specs.declared.symbol.Fork.{Fork}
 use Rattle.c_rows.specs.declared.symbol.Fork.TheVariants as forks
 use Rattle.c_rows.specs.Kinds.{family_of}
-use Rattle.c_rows.specs.Branches.{kind_of, label_of, build, allows, text_is, branches_label, at_label, plain_part, plain_at, is_plain, is_plain_type, defines, declares_name, declares_at}
+use Rattle.c_rows.specs.Branches.{kind_of, label_of, build, allows, text_is, branches_label, at_label, if_label, plain_part, plain_at, is_plain, is_plain_type, defines, declares_name, declares_at}
 use Rattle.c_rows.specs.Rows.{Row, row, ways}
 use Rattle.c_rows.specs.Look.{Names, look}
 use Rattle.c_rows.specs.Words.{ends_member}
@@ -57,6 +57,15 @@ at_same (more a none) = refl
 at_same (more a (more b none)) = refl
 at_same (more a (more b (more c none))) = refl
 at_same (more a (more b (more c (more d rest)))) = refl
+
+if_same : {cs ds : List Tree} → AlikeAll cs ds → if_label cs ≡ if_label ds
+if_same none = refl
+if_same (more a none) = refl
+if_same (more a (more b none)) = refl
+if_same (more a (more b (more c none))) = refl
+if_same (more a (more b (more c (more d none)))) = refl
+if_same (more a (more b (more c (more d (more e none))))) = refl
+if_same (more a (more b (more c (more d (more e (more f rest)))))) = refl
 
 names_same : {cs ds : List Tree} → AlikeAll cs ds → map declares_name cs ≡ map declares_name ds
 names_same none = refl
@@ -139,6 +148,7 @@ specs_ways _ = refl
 label_same : (r : Rule) (cs ds : List Tree) → (IsTrue (not (is_args_rule r)) → AlikeAll cs ds) → label_of r cs ≡ label_of r ds
 label_same rule.PatBranches cs ds h = branches_same (h refl)
 label_same rule.At cs ds h = at_same (h refl)
+label_same rule.If cs ds h = if_same (h refl)
 label_same _ cs ds h = refl
 
 declares_same : (r : Rule) (cs ds : List Tree) → (IsTrue (not (is_args_rule r)) → AlikeAll cs ds) → label_of r cs ≡ label_of r ds
@@ -191,7 +201,7 @@ module _ (names : Names) where
     row_short may (child d rest) = shorter _ _ _ (row_short may rest) (tree_short may d)
     row_short may (argument d rest) = shorter _ _ _ (row_short may rest) (tree_short may d)
     row_short may (type_argument a d rest) = shorter _ _ _ (row_short may rest) (tree_short may d)
-    row_short may (fork i w way) = row_short may way
+    row_short may (fork i w v way) = row_short may way
 
   -- A type may stand wherever it might before.
   module _ (may also : List Token → List Token → Type 0) (go : (xs ys : List Token) → may xs ys → also xs ys) where
@@ -206,7 +216,7 @@ module _ (names : Names) where
       loosened_row (child d rest) = child (loosened d) (loosened_row rest)
       loosened_row (argument d rest) = argument (loosened d) (loosened_row rest)
       loosened_row (type_argument {xs = xs} {ys = ys} a d rest) = type_argument (go xs ys a) (loosened d) (loosened_row rest)
-      loosened_row (fork i w way) = fork i w (loosened_row way)
+      loosened_row (fork i w v way) = fork i w v (loosened_row way)
 
   -- without the filter
   pub unfiltered : (may : List Token → List Token → Type 0) {k : Kind} {xs ys : List Token} {t : Tree} → Derives names may k xs t ys → Derives names Anywhere k xs t ys
@@ -291,10 +301,10 @@ module _ (names : Names) where
           alike = λ a. let never : ⊥ = cc in absurd never;
           plain = λ a. let never : ⊥ = cc in absurd never;
         }))))
-    filter_row n go (fork {f = g} {ps = ps} {ys = ys} i w way) s m e j c f =
+    filter_row n go (fork {f = g} {ps = ps} {ys = ys} i w v way) s m e j c f =
         filter_row n go way s (λ b. m (needs_way g i ps w b)) (led_way g i ps w) (joins_way g i ps w) (closes_way g i ps (look names ys) w c) (λ y. f (record {
           trees = y.trees;
-          derived = fork i w y.derived;
+          derived = fork i w v y.derived;
           alike = λ a. y.alike (memberless_way g i ps w a);
           plain = λ a. let never : ⊥ = cc in absurd never;
         }))

@@ -71,19 +71,21 @@ alignof_quiet : (names : Names) (ts : List Token) → telling (alignof names ts)
 alignof_quiet names [] = refl
 alignof_quiet names (t ∷ ts) = one_of (is_sign t (codes "(") && begins_type names ts) class.SizeofType class.Other refl refl
 
-keyword_of : (b0 b1 b2 b3 b4 b5 b6 b7 : Bool) (x2 : Class) (x4 : Class) (x5 : Class) (x6 : Class) (x7 : Class) → telling x2 ≡ false → telling x4 ≡ false → telling x5 ≡ false → telling x6 ≡ false → telling x7 ≡ false → telling (if b0 then class.Basic else (if b1 then class.Qualifier else (if b2 then x2 else (if b3 then class.Function else (if b4 then x4 else (if b5 then x5 else (if b6 then x6 else (if b7 then x7 else class.Other)))))))) ≡ false
-keyword_of true b1 b2 b3 b4 b5 b6 b7 x2 x4 x5 x6 x7 hx2 hx4 hx5 hx6 hx7 = refl
-keyword_of false true b2 b3 b4 b5 b6 b7 x2 x4 x5 x6 x7 hx2 hx4 hx5 hx6 hx7 = refl
-keyword_of false false true b3 b4 b5 b6 b7 x2 x4 x5 x6 x7 hx2 hx4 hx5 hx6 hx7 = hx2
-keyword_of false false false true b4 b5 b6 b7 x2 x4 x5 x6 x7 hx2 hx4 hx5 hx6 hx7 = refl
-keyword_of false false false false true b5 b6 b7 x2 x4 x5 x6 x7 hx2 hx4 hx5 hx6 hx7 = hx4
-keyword_of false false false false false true b6 b7 x2 x4 x5 x6 x7 hx2 hx4 hx5 hx6 hx7 = hx5
-keyword_of false false false false false false true b7 x2 x4 x5 x6 x7 hx2 hx4 hx5 hx6 hx7 = hx6
-keyword_of false false false false false false false true x2 x4 x5 x6 x7 hx2 hx4 hx5 hx6 hx7 = hx7
-keyword_of false false false false false false false false x2 x4 x5 x6 x7 hx2 hx4 hx5 hx6 hx7 = refl
+keyword_of : (b0 b1 b2 b3 b4 b5 b6 b7 b8 b9 : Bool) (x2 : Class) (x4 : Class) (x5 : Class) (x6 : Class) (x7 : Class) → telling x2 ≡ false → telling x4 ≡ false → telling x5 ≡ false → telling x6 ≡ false → telling x7 ≡ false → telling (if b0 then class.Basic else (if b1 then class.Qualifier else (if b2 then x2 else (if b3 then class.Function else (if b4 then x4 else (if b5 then x5 else (if b6 then x6 else (if b7 then x7 else (if b8 then class.If else (if b9 then class.Else else class.Other)))))))))) ≡ false
+keyword_of true b1 b2 b3 b4 b5 b6 b7 b8 b9 x2 x4 x5 x6 x7 hx2 hx4 hx5 hx6 hx7 = refl
+keyword_of false true b2 b3 b4 b5 b6 b7 b8 b9 x2 x4 x5 x6 x7 hx2 hx4 hx5 hx6 hx7 = refl
+keyword_of false false true b3 b4 b5 b6 b7 b8 b9 x2 x4 x5 x6 x7 hx2 hx4 hx5 hx6 hx7 = hx2
+keyword_of false false false true b4 b5 b6 b7 b8 b9 x2 x4 x5 x6 x7 hx2 hx4 hx5 hx6 hx7 = refl
+keyword_of false false false false true b5 b6 b7 b8 b9 x2 x4 x5 x6 x7 hx2 hx4 hx5 hx6 hx7 = hx4
+keyword_of false false false false false true b6 b7 b8 b9 x2 x4 x5 x6 x7 hx2 hx4 hx5 hx6 hx7 = hx5
+keyword_of false false false false false false true b7 b8 b9 x2 x4 x5 x6 x7 hx2 hx4 hx5 hx6 hx7 = hx6
+keyword_of false false false false false false false true b8 b9 x2 x4 x5 x6 x7 hx2 hx4 hx5 hx6 hx7 = hx7
+keyword_of false false false false false false false false true b9 x2 x4 x5 x6 x7 hx2 hx4 hx5 hx6 hx7 = refl
+keyword_of false false false false false false false false false true x2 x4 x5 x6 x7 hx2 hx4 hx5 hx6 hx7 = refl
+keyword_of false false false false false false false false false false x2 x4 x5 x6 x7 hx2 hx4 hx5 hx6 hx7 = refl
 
 keyword_quiet : (names : Names) (s : List ℕ) (ts : List Token) (next : Class) → telling (keyword names s ts next) ≡ false
-keyword_quiet names s ts next = keyword_of (is_basic s) (is_qualifier s) (is_storage_text s) (is_function s) (is_struct s) (is_enum s) (bytes_eq s (codes "sizeof")) (bytes_eq s (codes "_Alignof")) (storage next) ((if has_members ts then class.StructBody else class.Struct)) ((if has_members ts then class.EnumBody else class.Enum)) (sizeof names ts) (alignof names ts) (storage_quiet next) (one_of (has_members ts) class.StructBody class.Struct refl refl) (one_of (has_members ts) class.EnumBody class.Enum refl refl) (sizeof_quiet names ts) (alignof_quiet names ts)
+keyword_quiet names s ts next = keyword_of (is_basic s) (is_qualifier s) (is_storage_text s) (is_function s) (is_struct s) (is_enum s) (bytes_eq s (codes "sizeof")) (bytes_eq s (codes "_Alignof")) (bytes_eq s (codes "if")) (bytes_eq s (codes "else")) (storage next) ((if has_members ts then class.StructBody else class.Struct)) ((if has_members ts then class.EnumBody else class.Enum)) (sizeof names ts) (alignof names ts) (storage_quiet next) (one_of (has_members ts) class.StructBody class.Struct refl refl) (one_of (has_members ts) class.EnumBody class.Enum refl refl) (sizeof_quiet names ts) (alignof_quiet names ts)
 
 operator_of : (b0 b1 b2 b3 b4 b5 b6 b7 b8 b9 : Bool) → telling (if b0 then class.Step else (if b1 then class.Equality else (if b2 then class.Order else (if b3 then class.AndAnd else (if b4 then class.OrOr else (if b5 then class.Or else (if b6 then class.Xor else (if b7 then class.Slash else (if b8 then class.Shift else (if b9 then class.Assign else class.Other)))))))))) ≡ false
 operator_of true b1 b2 b3 b4 b5 b6 b7 b8 b9 = refl

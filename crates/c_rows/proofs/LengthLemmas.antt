@@ -76,7 +76,7 @@ mutual
   runs_shorter (word h rest) = omega (arith, runs_shorter rest)
   runs_shorter (child d rest) = omega (arith, spells_shorter d, runs_shorter rest)
   runs_shorter (argument {xs = xs} d rest) = omega (arith, spells_shorter d, runs_shorter rest, member_full (front_typed xs))
-  runs_shorter (fork {f = f} {ps = ps} i w way) = omega (arith, runs_shorter way, way_need f i ps w)
+  runs_shorter (fork {f = f} {ps = ps} i w v way) = omega (arith, runs_shorter way, way_need f i ps w)
 
 -- ---- the measure of the loop over a row
 

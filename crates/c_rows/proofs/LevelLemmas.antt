@@ -163,7 +163,7 @@ module _ (names : Names) (may : List Token → List Token → Type 0) where
     row_least (child {k = k} {ps = ps} {xs = xs} {ys = mid} {zs = ys} d rest) = step_least (least ps) (least_tree (family_of k)) (length xs) (length mid) (length ys) (tree_least d) (row_least rest)
     row_least (argument {ps = ps} {xs = xs} {ys = mid} {zs = ys} d rest) = step_least (least ps) 4 (length xs) (length mid) (length ys) (tree_least d) (row_least rest)
     row_least (type_argument {ps = ps} {xs = xs} {ys = mid} {zs = ys} a d rest) = step_least (least ps) 4 (length xs) (length mid) (length ys) (tree_least d) (row_least rest)
-    row_least (fork {f = f} {ps = ps} {xs = xs} {ys = ys} i w way) =
+    row_least (fork {f = f} {ps = ps} {xs = xs} {ys = ys} i w v way) =
         weaken_least (least_fork f) (least ps) (length xs) (length ys) (le_is _ _ (row_at (least_at f) (ways f) i ps (least_ways f) w)) (row_least way)
 
   mutual
@@ -188,7 +188,7 @@ module _ (names : Names) (may : List Token → List Token → Type 0) where
         step_low (levels t) (levels_of_all cs) c 3 (least ps) 4 (length xs) (length mid) (length ys) (tree_low d) (tree_least d)
         (row_low rest (c - 4) (and_right (nat_le (c + 3) (least ps + 8)) (room ps (c - 4)) h)) (row_least rest)
         (le_is _ _ (and_left (nat_le (c + 3) (least ps + 8)) (room ps (c - 4)) h))
-    row_low (fork {f = f} {ps = ps} {xs = xs} {ys = ys} {cs = cs} i w way) c h =
+    row_low (fork {f = f} {ps = ps} {xs = xs} {ys = ys} {cs = cs} i w v way) c h =
         weaken_low (levels_of_all cs) c (credit f) (length xs) (length ys) (le_is c (credit f) h) (row_low way (credit f) (row_at (room_at f) (ways f) i ps (room_ways f) w))
 
 short_low : (l x y : ℕ) → x ≤ 250 → l + 4 * y ≤ 4 * x + 0 → l ≤ 1000

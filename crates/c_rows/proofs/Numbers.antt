@@ -69,7 +69,9 @@ number class.PatOpen = 57
 number class.PatBar = 58
 number class.PatAmp = 59
 number class.PatClose = 60
-number class.Other = 61
+number class.If = 61
+number class.Else = 62
+number class.Other = 63
 
 pub listed : (c : Class) → slice_get classes (number c) ≡ Some c
 listed class.End = refl
@@ -84,7 +86,7 @@ rules =
     rule.TypeName ∷ rule.Specs ∷ rule.StructUse ∷ rule.StructDef ∷ rule.Field ∷ rule.Bits ∷ rule.NamelessBits ∷
     rule.EnumUse ∷ rule.EnumDef ∷ rule.EnumValue ∷ rule.Pointer ∷ rule.DParen ∷ rule.DArray ∷
     rule.NamelessArray ∷ rule.DFun ∷ rule.NamelessFun ∷ rule.Params ∷ rule.Param ∷ rule.InitList ∷
-    rule.InitItem ∷ rule.DotName ∷ rule.At ∷ rule.MacroItem ∷ []
+    rule.InitItem ∷ rule.DotName ∷ rule.At ∷ rule.MacroItem ∷ rule.Empty ∷ rule.If ∷ []
 
 abbrev pub rule_number : Rule → ℕ
 rule_number rule.Strings = 0
@@ -140,6 +142,8 @@ rule_number rule.InitItem = 49
 rule_number rule.DotName = 50
 rule_number rule.At = 51
 rule_number rule.MacroItem = 52
+rule_number rule.Empty = 53
+rule_number rule.If = 54
 
 pub rule_listed : (r : Rule) → slice_get rules (rule_number r) ≡ Some r
 rule_listed rule.Paren = refl

@@ -9,6 +9,11 @@ use Rattle.c_terms.specs.declared.tree.Tree.TheVariants as tree
 use Rattle.c_terms.specs.declared.tree.Tree.TheOpen.{Tree-F}
 use Rattle.c_terms.specs.declared.tree.Tree.TheFolds.{fold-Tree}
 use Rattle.c_rows.specs.Tokens.{is_named, is_storage}
+use Rattle.c_rows.specs.declared.word.Word.TheVariants as word
+use Rattle.c_rows.specs.declared.symbol.Fork.{Fork}
+use Rattle.c_rows.specs.declared.symbol.Fork.TheVariants as fork
+use Rattle.c_rows.specs.Words.{fits}
+use Rattle.c_rows.specs.Rows.{Row}
 use Rattle.c_rows.specs.declared.class.Class.{Class}
 use Rattle.c_rows.specs.declared.class.Class.TheVariants as class
 use Rattle.c_rows.specs.declared.kind.Kind.{Kind}
@@ -70,6 +75,8 @@ kind_of rule.InitItem = kind.InitItem
 kind_of rule.DotName = kind.Designator
 kind_of rule.At = kind.Designator
 kind_of rule.EnumValue = kind.Enumerator
+kind_of rule.Empty = kind.Body
+kind_of rule.If = kind.Body
 
 -- ---- labels
 
@@ -86,6 +93,10 @@ branches_label _ = label.PatAnd
 abbrev pub at_label : List Tree → Label
 at_label (a ∷ b ∷ c ∷ []) = label.At
 at_label _ = label.AtRange
+
+abbrev pub if_label : List Tree → Label
+if_label (a ∷ b ∷ c ∷ d ∷ e ∷ []) = label.If
+if_label _ = label.IfElse
 
 -- the label of a branch with these children
 abbrev pub label_of : Rule → List Tree → Label
@@ -142,6 +153,8 @@ label_of rule.InitItem cs = label.InitItem
 label_of rule.DotName cs = label.DotName
 label_of rule.At cs = at_label cs
 label_of rule.MacroItem cs = label.MacroItem
+label_of rule.Empty cs = label.Empty
+label_of rule.If cs = if_label cs
 
 abbrev pub build : Rule → List Tree → Tree
 build r cs = tree.Branch (label_of r cs) cs
@@ -225,3 +238,12 @@ begins rule.TypeName c = not (is_typ c)
 begins rule.Field c = not (begins_macro c)
 begins rule.MacroItem c = begins_macro c
 begins _ c = true
+
+-- Where the tokens behind let a row end at a fork: an If without an `else` does not stand directly before one.
+abbrev pub may_end : Fork → Class → Bool
+may_end fork.ElseOrNot c = not (fits word.Else c)
+may_end _ c = true
+
+abbrev pub may_go : Fork → Row → Class → Bool
+may_go f [] c = may_end f c
+may_go f (p ∷ ps) c = true

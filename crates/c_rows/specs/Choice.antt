@@ -15,7 +15,7 @@ use Rattle.c_rows.specs.declared.symbol.Fork as forks
 use Rattle.c_rows.specs.declared.symbol.Fork.TheVariants as fork
 use Rattle.c_rows.specs.Words.{fits, begins_tag, begins_specs, ends_member}
 use Rattle.c_rows.specs.Kinds.{family_of, same_family, within}
-use Rattle.c_rows.specs.Branches.{kind_of, begins, begins_macro}
+use Rattle.c_rows.specs.Branches.{kind_of, begins, begins_macro, may_go}
 use Rattle.c_rows.specs.Rows.{Row, row, ways}
 
 -- ---- what may stand first
@@ -60,6 +60,7 @@ first family.InitList c = fits word.LeftBrace c
 first family.InitItem c = begins_designator c
 first family.Designator c = begins_designator c
 first family.Enumerator c = fits word.Name c
+first family.Statement c = fits word.Semicolon c || fits word.If c
 
 -- ---- forks
 
@@ -104,15 +105,20 @@ stops_fork fork.NextParam c = fits word.Close c
 stops_fork fork.ParamName c = ends_member c
 stops_fork fork.MoreDesignators c = ends_item c
 stops_fork fork.ItemValue c = ends_item c
+stops_fork fork.ElseOrNot c = true
 stops_fork _ c = true
+
+-- the way begins with this class
+abbrev pub begins_way : forks.Fork → Row → Class → Bool
+begins_way f [] c = stops_fork f c
+begins_way f (Word w ∷ ps) c = fits w c
+begins_way f (Child k ∷ ps) c = first (family_of k) c
+begins_way f (Argument ∷ ps) c = begins_expression c || begins_specs c
+begins_way f (Fork g ∷ ps) c = false
 
 -- the way leads on at this class
 abbrev pub leads : forks.Fork → Row → Class → Bool
-leads f [] c = stops_fork f c
-leads f (Word w ∷ ps) c = fits w c
-leads f (Child k ∷ ps) c = first (family_of k) c
-leads f (Argument ∷ ps) c = begins_expression c || begins_specs c
-leads f (Fork g ∷ ps) c = false
+leads f ps c = may_go f ps c && begins_way f ps c
 
 abbrev pub pick_way : forks.Fork → List Row → Class → Option Row
 pick_way f [] c = None
@@ -170,6 +176,7 @@ heads family.InitList = rule.InitList ∷ []
 heads family.InitItem = rule.InitItem ∷ []
 heads family.Designator = rule.DotName ∷ rule.At ∷ []
 heads family.Enumerator = []
+heads family.Statement = rule.Empty ∷ rule.If ∷ []
 
 -- the rules whose rows begin with a part of the family itself
 abbrev pub tails : Family → List Rule
@@ -214,6 +221,7 @@ bottom family.InitList = kind.InitList
 bottom family.InitItem = kind.InitItem
 bottom family.Designator = kind.Designator
 bottom family.Enumerator = kind.EnumName
+bottom family.Statement = kind.Body
 
 -- the families whose trees have at least one token
 abbrev pub full : Family → Bool
@@ -281,7 +289,7 @@ classes =
     class.Assign ∷ class.Ellipsis ∷ class.SizeofExpr ∷ class.SizeofType ∷ class.Basic ∷ class.Qualifier ∷
     class.Function ∷ class.Storage ∷ class.StorageOfMacro ∷ class.Struct ∷ class.StructBody ∷ class.Enum ∷
     class.EnumBody ∷ class.TypOfDeclarator ∷ class.Typ ∷ class.Dots ∷ class.ExprList ∷ class.ParamList ∷
-    class.PatOpen ∷ class.PatBar ∷ class.PatAmp ∷ class.PatClose ∷ class.Other ∷ []
+    class.PatOpen ∷ class.PatBar ∷ class.PatAmp ∷ class.PatClose ∷ class.If ∷ class.Else ∷ class.Other ∷ []
 
 abbrev pub every : (Class → Bool) → Bool
 every p = list_all p classes

@@ -28,6 +28,7 @@ family_of kind.InitItem = family.InitItem
 family_of kind.Designator = family.Designator
 family_of kind.EnumName = family.Enumerator
 family_of kind.Enumerator = family.Enumerator
+family_of kind.Body = family.Statement
 family_of _ = family.Expression
 
 -- Expressions, tightest first; declarators; enumerators.
@@ -72,6 +73,7 @@ same_family family.InitList family.InitList = true
 same_family family.InitItem family.InitItem = true
 same_family family.Designator family.Designator = true
 same_family family.Enumerator family.Enumerator = true
+same_family family.Statement family.Statement = true
 same_family _ _ = false
 
 -- every tree of kind k is one of kind m

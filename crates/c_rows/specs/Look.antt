@@ -130,7 +130,9 @@ keyword names s ts next =
     else (if is_enum s then (if has_members ts then class.EnumBody else class.Enum)
     else (if bytes_eq s (codes "sizeof") then sizeof names ts
     else (if bytes_eq s (codes "_Alignof") then alignof names ts
-    else class.Other)))))))
+    else (if bytes_eq s (codes "if") then class.If
+    else (if bytes_eq s (codes "else") then class.Else
+    else class.Other)))))))))
 
 -- a `(` that no `*` follows
 abbrev pub is_of_call : List Token → Bool

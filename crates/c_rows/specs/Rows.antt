@@ -117,6 +117,8 @@ row rule.DotName = Word word.Dot ∷ Word word.Name ∷ []
 row rule.At = Word word.LeftBracket ∷ Child kind.CondLevel ∷ Fork fork.AtEnd ∷ []
 -- storage words, name, `(` arguments `)` `;`: `static MACRO(x);`
 row rule.MacroItem = Fork fork.MacroWords ∷ []
+row rule.Empty = Word word.Semicolon ∷ []
+row rule.If = Word word.If ∷ Word word.AnyOpen ∷ Child kind.Expr ∷ Word word.Close ∷ Child kind.Body ∷ Fork fork.ElseOrNot ∷ []
 -- expressions between `\(` and `\)`, parted by `\|` or by `\&`: `\( a \| b \)`, `\( a \& b \)`
 row rule.PatBranches = Word word.PatOpen ∷ Child kind.Expr ∷ Fork fork.FirstBranch ∷ []
 
@@ -220,3 +222,4 @@ ways fork.AtEnd =
 ways fork.MacroWords =
     (Word word.Storage ∷ Fork fork.MacroWords ∷ [])
     ∷ (Word word.Name ∷ Word word.AnyOpen ∷ Child kind.Args ∷ Word word.Close ∷ Word word.Semicolon ∷ []) ∷ []
+ways fork.ElseOrNot = (Word word.Else ∷ Child kind.Body ∷ []) ∷ [] ∷ []

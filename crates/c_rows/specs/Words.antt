@@ -90,6 +90,8 @@ fits word.PatOpen class.PatOpen = true
 fits word.PatBar class.PatBar = true
 fits word.PatAmp class.PatAmp = true
 fits word.PatClose class.PatClose = true
+fits word.If class.If = true
+fits word.Else class.Else = true
 fits _ _ = false
 
 -- the classes with which a type begins

@@ -3,6 +3,7 @@
 ghost use Rattle.std.specs.Prelude.{◌≡◌, MatchOption, Some, None};
 ghost use Rattle.c_rows.specs.Choice as choice;
 ghost use Rattle.c_rows.specs.Words as words;
+ghost use Rattle.c_rows.specs.Branches as branches;
 
 use crate::{
     Class, Family, Fork, Kind, Rule, Symbol, Word, begins, begins_macro, family_of, fits, row, ways,
@@ -81,6 +82,7 @@ pub fn first(family: Family, class: Class) -> bool
         Family::InitList => fits(Word::LeftBrace, class),
         Family::InitItem | Family::Designator => matches!(class, Class::Dot | Class::LeftBracket),
         Family::Enumerator => fits(Word::Name, class),
+        Family::Statement => fits(Word::Semicolon, class) || fits(Word::If, class),
     }
 }
 
@@ -112,6 +114,7 @@ fn stops(fork: Fork, class: Class) -> bool
             class,
             Class::RightBrace | Class::Comma
         ),
+        Fork::ElseOrNot => true,
         _ => true,
     }
 }
@@ -129,9 +132,9 @@ fn opens(row: &[Symbol], class: Class) -> bool
     }
 }
 
-/// The way leads on at this class.
-fn leads(fork: Fork, way: &[Symbol], class: Class) -> bool
-    ensures { result ≡ choice.leads fork way.now class }
+/// The way begins with this class.
+fn begins_way(fork: Fork, way: &[Symbol], class: Class) -> bool
+    ensures { result ≡ choice.begins_way fork way.now class }
 {
     match way {
         [] => stops(fork, class),
@@ -140,6 +143,26 @@ fn leads(fork: Fork, way: &[Symbol], class: Class) -> bool
         [Symbol::Argument, ..] => begins_expression(class) || begins_specs(class),
         [Symbol::Fork(_), ..] => false,
     }
+}
+
+/// The tokens behind let the row go on in this way.
+fn may_go(fork: Fork, way: &[Symbol], class: Class) -> bool
+    ensures { result ≡ branches.may_go fork way.now class }
+{
+    match way {
+        [] => match fork {
+            Fork::ElseOrNot => !fits(Word::Else, class),
+            _ => true,
+        },
+        [_, ..] => true,
+    }
+}
+
+/// The way leads on at this class.
+fn leads(fork: Fork, way: &[Symbol], class: Class) -> bool
+    ensures { result ≡ choice.leads fork way.now class }
+{
+    may_go(fork, way, class) && begins_way(fork, way, class)
 }
 
 /// The way in which a row goes on at the fork.
@@ -196,6 +219,7 @@ fn heads(family: Family) -> &'static [Rule]
         Family::InitItem => &[Rule::InitItem],
         Family::Designator => &[Rule::DotName, Rule::At],
         Family::Enumerator => &[],
+        Family::Statement => &[Rule::Empty, Rule::If],
     }
 }
 

@@ -130,6 +130,10 @@ pub enum Class {
     PatAmp,
     /// `\)`
     PatClose,
+    /// `if`
+    If,
+    /// `else`
+    Else,
     /// Anything else.
     Other,
 }

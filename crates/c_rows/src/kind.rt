@@ -80,6 +80,9 @@ pub enum Kind {
     EnumName,
     /// `A = 1`
     Enumerator,
+
+    /// `;`, `if (c) ;`
+    Body,
 }
 
 /// Kinds that lie within one another.
@@ -117,6 +120,8 @@ pub enum Family {
     Designator,
     /// Enumerators, from EnumName to Enumerator
     Enumerator,
+    /// [`Kind::Body`]
+    Statement,
 }
 
 /// The family of the kind.
@@ -139,6 +144,7 @@ pub fn family_of(kind: Kind) -> Family
         Kind::InitItem => Family::InitItem,
         Kind::Designator => Family::Designator,
         Kind::EnumName | Kind::Enumerator => Family::Enumerator,
+        Kind::Body => Family::Statement,
         _ => Family::Expression,
     }
 }
@@ -194,6 +200,7 @@ pub fn same_family(a: Family, b: Family) -> bool
         Family::InitItem => matches!(b, Family::InitItem),
         Family::Designator => matches!(b, Family::Designator),
         Family::Enumerator => matches!(b, Family::Enumerator),
+        Family::Statement => matches!(b, Family::Statement),
     }
 }
 
@@ -241,5 +248,6 @@ pub fn bottom(family: Family) -> Kind
         Family::InitItem => Kind::InitItem,
         Family::Designator => Kind::Designator,
         Family::Enumerator => Kind::EnumName,
+        Family::Statement => Kind::Body,
     }
 }

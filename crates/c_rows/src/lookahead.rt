@@ -57,6 +57,10 @@ fn keyword(names: &Names, text: &[u8], rest: &[Token], next: Class) -> Class
         sizeof(names, rest)
     } else if is(text, b"_Alignof") {
         alignof(names, rest)
+    } else if is(text, b"if") {
+        Class::If
+    } else if is(text, b"else") {
+        Class::Else
     } else {
         Class::Other
     }

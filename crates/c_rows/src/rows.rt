@@ -124,6 +124,8 @@ pub fn row(rule: Rule) -> &'static [Symbol]
         Rule::At => row![word LeftBracket, child CondLevel, fork AtEnd],
         // storage words, name, `(` arguments `)` `;`: `static MACRO(x);`
         Rule::MacroItem => row![fork MacroWords],
+        Rule::Empty => row![word Semicolon],
+        Rule::If => row![word If, word AnyOpen, child Expr, word Close, child Body, fork ElseOrNot],
 
         // expressions between `\(` and `\)`, parted by `\|` or by `\&`: `\( a \| b \)`, `\( a \& b \)`
         Rule::PatBranches => row![word PatOpen, child Expr, fork FirstBranch],
@@ -288,5 +290,6 @@ pub fn ways(fork: Fork) -> &'static [&'static [Symbol]]
             row![word Storage, fork MacroWords],
             row![word Name, word AnyOpen, child Args, word Close, word Semicolon],
         ],
+        Fork::ElseOrNot => &[row![word Else, child Body], row![]],
     }
 }

@@ -117,6 +117,11 @@ pub enum Rule {
     /// `static MACRO(x);`
     MacroItem,
 
+    /// `;`
+    Empty,
+    /// `if (c) s`, `if (c) s else t`
+    If,
+
     /// `\( a \| b \)`, `\( a \& b \)`
     PatBranches,
 }
@@ -168,6 +173,7 @@ pub fn kind_of(rule: Rule) -> Kind
         Rule::InitItem => Kind::InitItem,
         Rule::DotName | Rule::At => Kind::Designator,
         Rule::EnumValue => Kind::Enumerator,
+        Rule::Empty | Rule::If => Kind::Body,
     }
 }
 
@@ -203,6 +209,16 @@ fn at_label(children: &[Tree]) -> Label
     match children {
         [_, _, _] => Label::At,
         _ => Label::AtRange,
+    }
+}
+
+/// With an `else`, an If is an IfElse.
+fn if_label(children: &[Tree]) -> Label
+    ensures { result ≡ branches.if_label children.now }
+{
+    match children {
+        [_, _, _, _, _] => Label::If,
+        _ => Label::IfElse,
     }
 }
 
@@ -261,6 +277,8 @@ pub fn label_of(rule: Rule, children: &[Tree]) -> Label
         Rule::DotName => Label::DotName,
         Rule::At => at_label(children),
         Rule::MacroItem => Label::MacroItem,
+        Rule::Empty => Label::Empty,
+        Rule::If => if_label(children),
     }
 }
 

@@ -88,4 +88,6 @@ pub enum Fork {
     AtEnd,
     /// A MacroItem before its name
     MacroWords,
+    /// An If behind its body
+    ElseOrNot,
 }

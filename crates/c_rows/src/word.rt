@@ -114,6 +114,10 @@ pub enum Word {
     PatAmp,
     /// `\)`
     PatClose,
+    /// `if`
+    If,
+    /// `else`
+    Else,
 }
 
 /// A token of this class is a token of the word.
@@ -198,5 +202,7 @@ pub fn fits(word: Word, class: Class) -> bool
         Word::PatBar => matches!(class, Class::PatBar),
         Word::PatAmp => matches!(class, Class::PatAmp),
         Word::PatClose => matches!(class, Class::PatClose),
+        Word::If => matches!(class, Class::If),
+        Word::Else => matches!(class, Class::Else),
     }
 }

@@ -172,8 +172,6 @@ fn kind_of(word: &str) -> TokenKind {
         | "unsigned"
         | "long"
         | "sizeof"
-        | "if"
-        | "else"
         | "_Alignof" => return TokenKind::Keyword,
         "<..." | "...>" => return TokenKind::Pat,
         _ => {}
@@ -284,7 +282,6 @@ fn parse_whole(
         Kind::Specs => parse_specs(alloc, tokens, names, 0, to),
         Kind::Declarator => parse_declarator(alloc, tokens, names, 0, to),
         Kind::InitList => parse_init(alloc, tokens, names, 0, to),
-        Kind::Body => parse_kind(alloc, kind, tokens, names, 0, to),
         _ => parse_expr(alloc, tokens, names, 0, to),
     }
 }
@@ -387,16 +384,5 @@ fn a_thousand_levels_are_read_inside_a_thread(rt: HostRuntime) -> Result<(), Fai
         move || reads_a_thousand_levels(alloc, &[], &["+", "1"]),
     );
     assert!(rt; inward? && leftward?);
-    Ok(())
-}
-
-#[test]
-fn else_belongs_to_the_nearest_if(rt: HostRuntime) -> Result<(), Fail> {
-    let one = read(rt.alloc(), Kind::Body, "if ( a ) if ( b ) ; else ;")?;
-    assert!(rt; one.as_str() == "(If if ( a ) (IfElse if ( b ) (Empty ;) else (Empty ;)))", "{one}");
-    let two = read(rt.alloc(), Kind::Body, "if ( a ) if ( b ) ; else ; else ;")?;
-    assert!(rt; two.as_str() == "(IfElse if ( a ) (IfElse if ( b ) (Empty ;) else (Empty ;)) else (Empty ;))", "{two}");
-    let three = read(rt.alloc(), Kind::Body, "if ( a ) ; else ; else ;")?;
-    assert!(rt; three.as_str() == "no tree", "{three}");
     Ok(())
 }

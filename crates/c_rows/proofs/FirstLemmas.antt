@@ -1,7 +1,7 @@
 -- The class of the token at which a tree or the rest of a row begins.
 use Rattle.std.proofs.Common.{◌≡◌, ℕ, List, [], ◌∷◌, refl, subst, ap, sym, inl, inr, arith}
 use Rattle.std.proofs.lemmas.Bool.Decides.{nat_tests}
-use Rattle.std.specs.Prelude.{Bool, true, false, ◌||◌, ◌⊎◌, nat_le, IsTrue, Option, Some, None, is_some, slice_get}
+use Rattle.std.specs.Prelude.{Bool, true, false, ◌&&◌, ◌||◌, ◌⊎◌, nat_le, IsTrue, Option, Some, None, is_some, slice_get}
 use Rattle.c_terms.specs.declared.tree.Tree.{Tree}
 use Rattle.c_rows.specs.declared.class.Class.{Class}
 use Rattle.c_rows.specs.declared.kind.Kind.{Kind}
@@ -11,7 +11,7 @@ use Rattle.c_rows.specs.declared.kind.Family.TheVariants as family
 use Rattle.c_rows.specs.declared.symbol.Fork.{Fork}
 use Rattle.c_rows.specs.declared.symbol.Symbol.TheVariants as symbol
 use Rattle.c_rows.specs.Words.{ends_member}
-use Rattle.c_rows.specs.Kinds.{family_of, same_family, within, rank}
+use Rattle.c_rows.specs.Kinds.{family_of, same_family, within, rank, side}
 use Rattle.c_rows.specs.Rows.{Row, ways}
 use Rattle.c_rows.specs.Branches.{kind_of, may_go}
 use Rattle.c_rows.specs.Choice.{after, top, reach, takes_left, tail, left, stops_fork, first, opens, choose, begins_way, every}
@@ -36,21 +36,34 @@ same_is family.InitList family.InitList h = refl
 same_is family.InitItem family.InitItem h = refl
 same_is family.Designator family.Designator h = refl
 same_is family.Enumerator family.Enumerator h = refl
+same_is family.Decl family.Decl h = refl
 same_is family.Statement family.Statement h = refl
+same_is family.StmtList family.StmtList h = refl
+same_is family.External family.External h = refl
 same_is _ _ h = let no : ⊥ = cc in absurd no
 
+within_parts : (k m : Kind) → IsTrue (within k m) → IsTrue (same_family (family_of k) (family_of m)) × IsTrue (nat_le (rank k) (rank m)) × IsTrue (nat_le (side k) (side m))
+within_parts k m h =
+    let both_ranks : IsTrue (same_family (family_of k) (family_of m) && nat_le (rank k) (rank m)) =
+    and_left (same_family (family_of k) (family_of m) && nat_le (rank k) (rank m)) (nat_le (side k) (side m)) h in (
+      and_left (same_family (family_of k) (family_of m)) (nat_le (rank k) (rank m)) both_ranks,
+      and_right (same_family (family_of k) (family_of m)) (nat_le (rank k) (rank m)) both_ranks,
+      and_right (same_family (family_of k) (family_of m) && nat_le (rank k) (rank m)) (nat_le (side k) (side m)) h,
+    )
+
 pub within_family : (k m : Kind) → IsTrue (within k m) → family_of k ≡ family_of m
-within_family k m h = same_is (family_of k) (family_of m) (and_left (same_family (family_of k) (family_of m)) _ h)
+within_family k m h = same_is (family_of k) (family_of m) (within_parts k m h).0
 
 le_trans : (a b c : ℕ) → IsTrue (nat_le a b) → IsTrue (nat_le b c) → IsTrue (nat_le a c)
 le_trans a b c h g = grind (arith, nat_tests)
 
 pub within_trans : (a b c : Kind) → IsTrue (within a b) → IsTrue (within b c) → IsTrue (within a c)
 within_trans a b c h g =
-    both (same_family (family_of a) (family_of c)) (nat_le (rank a) (rank c))
-    (subst (λ (f : Family). IsTrue (same_family (family_of a) f)) (within_family b c g) (and_left (same_family (family_of a) (family_of b)) (nat_le (rank a) (rank b)) h))
-    (le_trans (rank a) (rank b) (rank c) (and_right (same_family (family_of a) (family_of b)) (nat_le (rank a) (rank b)) h)
-    (and_right (same_family (family_of b) (family_of c)) (nat_le (rank b) (rank c)) g))
+    let x = within_parts a b h in
+    let y = within_parts b c g in
+    both (same_family (family_of a) (family_of c) && nat_le (rank a) (rank c)) (nat_le (side a) (side c))
+    (both (same_family (family_of a) (family_of c)) (nat_le (rank a) (rank c)) (subst (λ (f : Family). IsTrue (same_family (family_of a) f)) (within_family b c g) x.0) (le_trans (rank a) (rank b) (rank c) x.1 y.1))
+    (le_trans (side a) (side b) (side c) x.2 y.2)
 
 either : (a b : Bool) → IsTrue (a || b) → IsTrue a ⊎ IsTrue b
 either true b h = inl refl

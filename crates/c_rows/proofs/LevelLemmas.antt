@@ -32,6 +32,10 @@ abbrev least_fork : Fork → ℕ
 least_fork forks.FirstString = 4
 least_fork forks.NoType = 4
 least_fork forks.MacroWords = 4
+least_fork forks.FirstDeclarator = 4
+least_fork forks.FirstExternal = 4
+least_fork forks.MacroNames = 4
+least_fork forks.NestStart = 4
 least_fork _ = 0
 
 abbrev least_tree : Family → ℕ
@@ -66,6 +70,7 @@ height family.Param = 2
 height family.Field = 2
 height family.Specs = 1
 height family.InitItem = 1
+height family.StmtList = 1
 height _ = 0
 
 abbrev credit : Fork → ℕ
@@ -78,6 +83,8 @@ credit forks.FirstInit = 7
 credit forks.NextInit = 7
 credit forks.FirstString = 9
 credit forks.MacroWords = 9
+credit forks.MacroNames = 9
+credit forks.NestStart = 9
 credit _ = 8
 
 abbrev room : Row → ℕ → Bool

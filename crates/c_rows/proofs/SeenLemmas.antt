@@ -26,6 +26,8 @@ abbrev headed_fork : Fork → Bool
 headed_fork forks.FirstString = true
 headed_fork forks.NoType = true
 headed_fork forks.MacroWords = true
+headed_fork forks.MacroNames = true
+headed_fork forks.NestStart = true
 headed_fork _ = false
 
 abbrev headed : Row → Bool

@@ -1,6 +1,6 @@
 -- The loop over a tree that grows to the right.
 use Rattle.std.proofs.Common.{◌≡◌, ℕ, ◌≤◌, ◌<◌, List, [], ◌∷◌, length, refl, subst, ap, sym, ◌∙◌, arith}
-use Rattle.std.specs.Prelude.{Bool, true, false, not, IsTrue, Option, Some, None, if◌then◌else◌, nat_le}
+use Rattle.std.specs.Prelude.{Bool, true, false, not, ◌&&◌, IsTrue, Option, Some, None, if◌then◌else◌, nat_le}
 use Rattle.std.proofs.lemmas.Bool.Decides.{nat_tests}
 use Rattle.c_terms.specs.declared.tree.Tree.{Tree}
 use Rattle.c_terms.specs.Trees.{levels}
@@ -12,7 +12,7 @@ use Rattle.c_rows.specs.declared.rule.Rule.{Rule}
 use Rattle.c_rows.specs.declared.kind.Family.{Family}
 use Rattle.c_rows.specs.declared.kind.Family.TheVariants as family
 use Rattle.c_rows.specs.declared.symbol.Symbol.TheVariants as symbol
-use Rattle.c_rows.specs.Kinds.{family_of, same_family, within, has_leaf, rank}
+use Rattle.c_rows.specs.Kinds.{family_of, same_family, within, has_leaf, rank, side}
 use Rattle.c_rows.specs.Rows.{Row, row}
 use Rattle.c_rows.specs.Branches.{kind_of, build, allows}
 use Rattle.c_rows.specs.Choice.{after, quiet, stops, opens, tail, left, own}
@@ -35,7 +35,9 @@ le_refl : (n : ℕ) → IsTrue (nat_le n n)
 le_refl n = grind (arith, nat_tests)
 
 pub within_refl : (k : Kind) → IsTrue (within k k)
-within_refl k = both (same_family (family_of k) (family_of k)) (nat_le (rank k) (rank k)) (same_refl (family_of k)) (le_refl (rank k))
+within_refl k =
+    both (same_family (family_of k) (family_of k) && nat_le (rank k) (rank k)) (nat_le (side k) (side k))
+    (both (same_family (family_of k) (family_of k)) (nat_le (rank k) (rank k)) (same_refl (family_of k)) (le_refl (rank k))) (le_refl (side k))
 
 quiet_mono : (k m : Kind) (o : Option Rule) → IsTrue (within k m) → IsTrue (quiet m o) → IsTrue (quiet k o)
 quiet_mono k m None w h = refl
@@ -102,7 +104,7 @@ word_opens done h = refl
 word_opens (word f rest) h = f
 word_opens (child d rest) h = let never : ⊥ = cc in absurd never
 word_opens (argument d rest) h = let never : ⊥ = cc in absurd never
-word_opens (fork i w way) h = let never : ⊥ = cc in absurd never
+word_opens (fork i w v way) h = let never : ⊥ = cc in absurd never
 
 pub lift : {k m : Kind} {xs ys : List Seen} {t : Tree} → IsTrue (within k m) → Spells k xs t ys → Spells m xs t ys
 lift {k} {m} w (leaf {s = s} {ys = ys} h) = leaf (subst (λ (f : Family). IsTrue (has_leaf f s.class)) (within_family k m w) h)

@@ -17,7 +17,7 @@ use Rattle.c_rows.specs.Seen.{Seen, front, front_typed}
 use Rattle.c_rows.specs.Spells.{Spells, Runs, done, word, child, argument, fork, member_kind}
 use Rattle.c_rows.specs.Words.{ends_member}
 use Rattle.c_expr.specs.Steps.{Place, place, Leads, Refuses, OnlyTree, NoTreeAt, RunsTo, OnlyRun}
-use Rattle.c_rows.proofs.Checks.{and_left, and_right, modus, every_at, closes, joins, joins_at, member_at, member_stops, way_ends, chosen_way, both, implies_both, every_from}
+use Rattle.c_rows.proofs.Checks.{and_left, and_right, modus, every_at, closes, joins, joins_at, member_at, member_stops, way_ends, chosen_way, chosen_may, both, implies_both, every_from}
 use Rattle.c_rows.proofs.FirstLemmas.{runs_first, way_here}
 
 stay : (xs : List Tree) (t : Tree) (cs : List Tree) → (xs ++ t ∷ []) ++ cs ≡ xs ++ t ∷ cs
@@ -173,7 +173,7 @@ module _ (most : ℕ) where
 
   way_chosen : (f : Fork) {xs ys : List Seen} {ds : List Tree} → Runs (symbol.Fork f ∷ []) xs ds ys → IsTrue (stops_fork f (front ys))
       → (ps : Row) × (choose f (front xs) ≡ Some ps) × Runs ps xs ds ys × IsTrue (ends ps (front ys))
-  way_chosen f (fork {ps = ps} {ys = ys} i w way) s = (ps, way_here f i ps w way s, way, way_ends f i ps (front ys) w s)
+  way_chosen f (fork {ps = ps} {ys = ys} i w v way) s = (ps, way_here f i ps w v way s, way, way_ends f i ps (front ys) w s)
 
   fork_only : (f : Fork) (qs : Row) (xs : List Seen) (before : List Tree) {ds : List Tree} {ys : List Seen} → choose f (front xs) ≡ Some qs → Runs (symbol.Fork f ∷ []) xs ds ys
       → IsTrue (stops_fork f (front ys)) → levels_of_all ds ≤ most
@@ -188,7 +188,7 @@ module _ (most : ℕ) where
   leads_fork f [] qs xs before ok chosen =
       let w = chosen_way f (front xs) qs chosen in
       record {
-        sound = λ cs ys r. (cs, refl, fork w.0 w.1 r);
+        sound = λ cs ys r. (cs, refl, fork w.0 w.1 (chosen_may f (front xs) qs chosen) r);
         only = λ ds ys r e l. fork_only f qs xs before chosen r e l;
       }
   leads_fork f (p ∷ ps) qs xs before ok chosen = let no : ⊥ = cc in absurd no

@@ -1,16 +1,15 @@
 -- The definitions, run.
-use Rattle.std.proofs.Common.{◌≡◌, ℕ, Bool, true, false, List, [], ◌∷◌, ◌++◌, Option, Some, None, refl, codes}
-use Rattle.c_terms.specs.declared.token.TokenKind.{TokenKind}
+use Rattle.std.proofs.Common.{◌≡◌, ℕ, true, false, List, [], ◌∷◌, ◌++◌, Some, None, refl, codes}
 use Rattle.c_terms.specs.declared.token.TokenKind.TheVariants.{Name, Punct, Stray, Pat}
 use Rattle.c_lexer.specs.declared.state.Kind.TheVariants as kind
 use Rattle.smpl_patch.specs.declared.fault.PatchFault.TheVariants.{BadToken, BadHeader, ScriptRule}
 use Rattle.smpl_patch.specs.Faults.{first_of}
 use Rattle.smpl_lexer.specs.declared.section.Role.TheVariants as role
-use Rattle.smpl_lexer.specs.declared.piece.LineKind.TheVariants.{Plain, Dots, Sign}
+use Rattle.smpl_lexer.specs.declared.piece.LineKind.TheVariants.{Plain}
 use Rattle.smpl_lexer.specs.declared.token.PatchToken.{PatchToken}
-use Rattle.smpl_lexer.specs.Lines.{lines_from, content, line_length}
+use Rattle.smpl_lexer.specs.Lines.{lines_from, content}
 use Rattle.smpl_lexer.specs.Pieces.{sign_length, is_bad}
-use Rattle.smpl_lexer.specs.Tokens.{made, as_branch, tokens_from, bad_from}
+use Rattle.smpl_lexer.specs.Tokens.{made, as_branch}
 use Rattle.smpl_lexer.specs.Headers.{header_stop, virtual_stop, header_faults, virtual_names}
 use Rattle.smpl_lexer.specs.CutLines.{CutLine}
 use Rattle.smpl_lexer.specs.Texts.{text_of, text_faults}

@@ -1,6 +1,5 @@
 -- In a text in which nothing is wrong each header goes on to its end.
-use Rattle.std.proofs.Common.{◌≡◌, ℕ, Bool, true, false, List, [], ◌∷◌, ◌++◌, Option, Some, None, length, refl, sym, ap, ◌∙◌, subst}
-use Rattle.smpl_patch.specs.declared.fault.PatchFault.{PatchFault}
+use Rattle.std.proofs.Common.{◌≡◌, ℕ, List, [], ◌∷◌, ◌++◌, Option, Some, None, length, refl, sym, subst}
 use Rattle.smpl_lexer.specs.declared.section.Section.TheVariants as section
 use Rattle.smpl_lexer.specs.declared.section.Role.{Role}
 use Rattle.smpl_lexer.specs.declared.section.Role.TheVariants as role
@@ -9,12 +8,12 @@ use Rattle.smpl_lexer.specs.declared.text.BodyLine.{BodyLine}
 use Rattle.smpl_lexer.specs.declared.text.RuleText.{RuleText}
 use Rattle.smpl_lexer.specs.declared.text.PatchText.{PatchText}
 use Rattle.smpl_lexer.specs.declared.gather.Gathered.{Gathered}
-use Rattle.smpl_lexer.specs.Headers.{header_stop, stop_faults, script_faults, has_script, header_faults}
+use Rattle.smpl_lexer.specs.Headers.{header_stop, stop_faults, script_faults, has_script}
 use Rattle.smpl_lexer.specs.Lines.{end_of}
 use Rattle.smpl_lexer.specs.Tokens.{bad_from}
 use Rattle.smpl_lexer.specs.Sections.{is_plus}
 use Rattle.smpl_lexer.specs.CutLines.{CutLine, plain_tokens, place_in, role_faults, faults_of}
-use Rattle.smpl_lexer.specs.Texts.{GoesOn, AllGoOn, ended, with_decls, with_line, body_line, gather_line, gather, nothing, line_faults, text_of, text_faults, end_faults, section_of, IsTextOf}
+use Rattle.smpl_lexer.specs.Texts.{AllGoOn, ended, with_decls, with_line, body_line, gather_line, gather, nothing, line_faults, end_faults, section_of, IsTextOf}
 
 nil_left : {A : Type 0} (xs ys : List A) → xs ++ ys ≡ [] → xs ≡ []
 nil_left [] ys e = refl

@@ -1,8 +1,8 @@
 -- The first line of some bytes.
-use Rattle.std.proofs.Common.{◌≡◌, ℕ, zero, suc, ◌+◌, ◌<◌, ◌≤◌, ◌==◌, ◌⊎◌, inl, inr, Bool, true, false, List, [], ◌∷◌, ◌++◌, length, take, drop, refl, sym, ap, ◌∙◌, get_or, arith, if◌then◌else◌, append_assoc}
+use Rattle.std.proofs.Common.{◌≡◌, ℕ, suc, ◌+◌, ◌<◌, ◌==◌, inl, inr, Bool, true, false, List, [], ◌∷◌, length, take, drop, refl, ap, ◌∙◌, get_or, arith, if◌then◌else◌}
 use Rattle.std.proofs.lemmas.Bool.{eq-eqb}
 use Rattle.std.proofs.lemmas.Bool.Decides.{eqb_tells}
-use Rattle.std.proofs.lemmas.List.{drop_more, take_more, append-nil}
+use Rattle.std.proofs.lemmas.List.{drop_more}
 use Rattle.smpl_lexer.specs.Lines.{Line, lines_from, begun, content, line_length}
 
 pub is_other : (b : ℕ) → (b ≡ 10 → ⊥) → (b == 10) ≡ false

@@ -1,5 +1,5 @@
 -- A patch is read in one way: it has one text or one fault, and not both.
-use Rattle.std.proofs.Common.{◌≡◌, ℕ, zero, suc, ◌+◌, ◌<◌, ◌≤◌, ◌⊎◌, Bool, List, [], ◌∷◌, ◌++◌, length, take, drop, Option, Some, None, refl, sym, ap, ◌∙◌, subst, inl, inr, arith, add-one}
+use Rattle.std.proofs.Common.{◌≡◌, ℕ, zero, suc, ◌+◌, ◌<◌, ◌⊎◌, Bool, List, [], ◌∷◌, ◌++◌, length, take, drop, Some, None, refl, sym, ap, ◌∙◌, subst, inl, inr, arith, add-one}
 use Rattle.std.proofs.lemmas.List.{take_at}
 use Rattle.c_lexer.specs.declared.state.Kind.{Kind}
 use Rattle.c_lexer.specs.Kinds.{kind_of}
@@ -12,9 +12,9 @@ use Rattle.smpl_lexer.specs.declared.section.Role.{Role}
 use Rattle.smpl_lexer.specs.declared.piece.LineKind.{LineKind}
 use Rattle.smpl_lexer.specs.declared.piece.LineKind.TheVariants.{Plain, Dots, Sign}
 use Rattle.smpl_lexer.specs.declared.text.PatchText.{PatchText}
-use Rattle.smpl_lexer.specs.Lines.{Line, lines_from, begins_with}
-use Rattle.smpl_lexer.specs.Sections.{role_in, section_after, skipped, has_signs}
-use Rattle.smpl_lexer.specs.Pieces.{LinePiece, joined, Cut, IsFirstBy, IsFirstPiece, sign_at, sign_kind}
+use Rattle.smpl_lexer.specs.Lines.{Line, lines_from}
+use Rattle.smpl_lexer.specs.Sections.{section_after, skipped, has_signs}
+use Rattle.smpl_lexer.specs.Pieces.{LinePiece, joined, Cut, IsFirstBy, IsFirstPiece, sign_at}
 use Rattle.smpl_lexer.specs.CutLines.{CutLine, IsCutLine, AreCutLines}
 use Rattle.smpl_lexer.specs.Texts.{AreLinesOf, IsTextOf, IsTextFault, text_of, text_faults}
 use Rattle.smpl_lexer.specs.Texts.IsTextFault.{too_long, first}
@@ -104,7 +104,7 @@ pieces_once signs (p ∷ ps) (q ∷ qs) one other e =
     let same = piece_once signs p.kind q.kind p.text q.text (joined ps) (joined qs) e one.0 other.0 in
     let rest = pieces_once signs ps qs one.1 other.1 same.1.1 in
     let piece : p ≡ q = ap (λ (k : LineKind). record { kind = k; text = p.text }) same.0
-        ∙ ap (λ (t : List ℕ). record { kind = q.kind; text = t }) same.1.0 in
+    ∙ ap (λ (t : List ℕ). record { kind = q.kind; text = t }) same.1.0 in
     ap (λ (x : LinePiece). x ∷ ps) piece ∙ ap (λ (l : List LinePiece). q ∷ l) rest
 
 abbrev made : Role → Line → List LinePiece → CutLine
@@ -113,13 +113,13 @@ made role line pieces = record { role = role; line = line; pieces = pieces }
 line_once : (c d : CutLine) → c.role ≡ d.role → c.line ≡ d.line → IsCutLine c → IsCutLine d → c ≡ d
 line_once c d role line one other =
     let text : joined c.pieces ≡ joined d.pieces = one.text
-        ∙ (ap (λ (r : Role). drop (skipped r c.line.bytes) c.line.bytes) role
+    ∙ (ap (λ (r : Role). drop (skipped r c.line.bytes) c.line.bytes) role
     ∙ (ap (λ (l : Line). drop (skipped d.role l.bytes) l.bytes) line ∙ sym other.text)) in
     let signs : has_signs c.role c.line.bytes ≡ has_signs d.role d.line.bytes = ap (λ (r : Role). has_signs r c.line.bytes) role
-        ∙ ap (λ (l : Line). has_signs d.role l.bytes) line in
+    ∙ ap (λ (l : Line). has_signs d.role l.bytes) line in
     let pieces = pieces_once (has_signs d.role d.line.bytes) c.pieces d.pieces (subst (λ (b : Bool). Cut b c.pieces) signs one.cut) other.cut text in
     ap (λ (r : Role). made r c.line c.pieces) role
-        ∙ (ap (λ (l : Line). made d.role l c.pieces) line ∙ ap (made d.role d.line) pieces)
+    ∙ (ap (λ (l : Line). made d.role l c.pieces) line ∙ ap (made d.role d.line) pieces)
 
 lines_once : (s : Section) (ls : List Line) (cs ds : List CutLine) → AreCutLines s ls cs → AreCutLines s ls ds → cs ≡ ds
 lines_once s [] [] [] one other = refl
@@ -147,7 +147,7 @@ fault_once bytes f _ (first cs are is) (too_long long) = absurd (omega (arith, l
 fault_once bytes f g (first cs one is) (first ds other also) =
     let same = of_once bytes cs ds one other in
     let both : Some f ≡ Some g = sym is
-        ∙ (ap (λ (x : List CutLine). first_of (text_faults (length bytes) x)) same ∙ also) in
+    ∙ (ap (λ (x : List CutLine). first_of (text_faults (length bytes) x)) same ∙ also) in
     cc
 
 pub not_both : (bytes : List ℕ) (t : PatchText) (f : PatchFault) → IsTextOf bytes t → IsTextFault bytes f → ⊥
@@ -155,5 +155,5 @@ not_both bytes t _ text (too_long long) = absurd (omega (arith, long, text.are.s
 not_both bytes t f text (first ds other is) =
     let same = of_once bytes text.lines ds text.are other in
     let none : None ≡ Some f = sym (ap first_of (text.faultless))
-        ∙ (ap (λ (x : List CutLine). first_of (text_faults (length bytes) x)) same ∙ is) in
+    ∙ (ap (λ (x : List CutLine). first_of (text_faults (length bytes) x)) same ∙ is) in
     absurd (cc)

@@ -1,6 +1,6 @@
 -- A patch that is read up to some line.
-use Rattle.std.proofs.Common.{◌≡◌, ℕ, ◌+◌, ◌≤◌, ◌<◌, Bool, List, [], ◌∷◌, ◌++◌, length, take, drop, Option, Some, None, refl, sym, ap, ◌∙◌, subst, append_assoc, arith}
-use Rattle.std.proofs.lemmas.List.{drop-drop, append-nil}
+use Rattle.std.proofs.Common.{◌≡◌, ℕ, ◌+◌, ◌≤◌, ◌<◌, Bool, List, [], ◌∷◌, ◌++◌, length, take, drop, Option, Some, None, refl, sym, ap, ◌∙◌, subst, arith}
+use Rattle.std.proofs.lemmas.List.{drop-drop}
 use Rattle.smpl_patch.specs.declared.fault.PatchFault.{PatchFault}
 use Rattle.smpl_patch.specs.declared.fault.PatchFault.TheVariants as fault
 use Rattle.smpl_patch.specs.Faults.{earlier, first_from, first_of}
@@ -10,12 +10,12 @@ use Rattle.smpl_lexer.specs.declared.section.Role.{Role}
 use Rattle.smpl_lexer.specs.declared.cut.LineTokens.{LineTokens}
 use Rattle.smpl_lexer.specs.declared.reading.Reading.{Reading}
 use Rattle.smpl_lexer.specs.declared.gather.Gathered.{Gathered}
-use Rattle.smpl_lexer.specs.Lines.{Line, lines_from, line_length, content, begins_with}
+use Rattle.smpl_lexer.specs.Lines.{lines_from, line_length, content, begins_with}
 use Rattle.smpl_lexer.specs.Sections.{role_in, section_after, skipped, is_plus, has_signs}
 use Rattle.smpl_lexer.specs.Pieces.{joined, Cut}
 use Rattle.smpl_lexer.specs.Tokens.{tokens_from, bad_from}
-use Rattle.smpl_lexer.specs.CutLines.{CutLine, IsCutLine, AreCutLines, faults_of, plain_tokens, role_faults}
-use Rattle.smpl_lexer.specs.Texts.{gather_line, gather, section_of, line_faults, end_faults, text_faults, text_of, finished, AreLinesOf, IsTextOf, IsTextFault}
+use Rattle.smpl_lexer.specs.CutLines.{CutLine, AreCutLines, faults_of, plain_tokens, role_faults}
+use Rattle.smpl_lexer.specs.Texts.{gather_line, gather, section_of, line_faults, end_faults, text_faults, finished, IsTextOf, IsTextFault}
 use Rattle.smpl_lexer.specs.Texts.IsTextFault.{first}
 use Rattle.smpl_lexer.specs.Cutting.{IsCutTo, after_line, after_lines, unread, IsReadTo, AreReadTo}
 use Rattle.smpl_lexer.proofs.LineLemmas.{split_lines}
@@ -131,9 +131,9 @@ pub all_first : (bytes : List ℕ) (r : Reading) (read : AreReadTo bytes r)
 all_first bytes r read =
     let cs = read.lines in
     let so_far : r.first ≡ first_from None (line_faults cs) = ap (λ (x : Reading). x.first) read.after_is
-        ∙ after_lines-first unread cs in
+    ∙ after_lines-first unread cs in
     let behind : r.section ≡ section_of section.Before cs = ap (λ (x : Reading). x.section) read.after_is
-        ∙ after_lines-section unread cs in
+    ∙ after_lines-section unread cs in
     rw (so_far, behind) (sym (first_from-append None (line_faults cs) (end_faults (section_of section.Before cs) (length bytes))))
 
 pub text_read : (bytes : List ℕ) (r : Reading) → AreReadTo bytes r → length bytes ≤ 1048576

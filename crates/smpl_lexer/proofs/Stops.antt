@@ -1,5 +1,5 @@
 -- A line that is read up to some token.
-use Rattle.std.proofs.Common.{◌≡◌, ℕ, ◌+◌, ◌<◌, ◌≤◌, Bool, List, [], ◌∷◌, length, drop, Option, Some, None, refl, sym, ap, ◌∙◌, get_or}
+use Rattle.std.proofs.Common.{◌≡◌, ℕ, ◌+◌, ◌<◌, ◌≤◌, Bool, List, ◌∷◌, length, drop, Option, Some, None, sym, ap, ◌∙◌, get_or}
 use Rattle.std.proofs.lemmas.List.{drop_more, at_drop_all}
 use Rattle.smpl_lexer.specs.declared.token.PatchToken.{PatchToken}
 use Rattle.smpl_lexer.specs.Headers.{stop, stop_at}

@@ -29,7 +29,7 @@ abbrev pub is_rule_name : PatchToken → Bool
 is_rule_name t =
     is_name t
     && not (is_word (codes "depends") t || is_word (codes "on") t || is_word (codes "exists") t
-        || is_word (codes "forall") t || is_word (codes "ever") t || is_word (codes "never") t)
+    || is_word (codes "forall") t || is_word (codes "ever") t || is_word (codes "never") t)
 
 abbrev pub is_mode : PatchToken → Bool
 is_mode t = is_word (codes "exists") t || is_word (codes "forall") t

@@ -2,7 +2,6 @@
 use Rattle.std.specs.Prelude.{ℕ, zero, suc, ◌≡◌, ◌==◌, ◌||◌, not, Bool, true, false, if◌then◌else◌, List, [], ◌∷◌, ◌++◌, length, take, codes}
 use Rattle.std.specs.Str.{bytes_eq}
 use Rattle.std.specs.List.{list_any}
-use Rattle.c_lexer.specs.declared.state.Kind.{Kind}
 use Rattle.c_lexer.specs.declared.state.Kind.TheVariants as kind
 use Rattle.c_lexer.specs.First.{IsFirst}
 use Rattle.smpl_lexer.specs.Lines.{newline}

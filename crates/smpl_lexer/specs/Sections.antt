@@ -1,5 +1,5 @@
 -- What each line is: before the first rule stand `virtual` lines; a rule is a header, declarations, `@@`, and a body.
-use Rattle.std.specs.Prelude.{ℕ, ◌==◌, ◌||◌, ◌&&◌, not, Bool, true, false, if◌then◌else◌, List, [], ◌∷◌}
+use Rattle.std.specs.Prelude.{ℕ, ◌==◌, ◌||◌, not, Bool, true, false, if◌then◌else◌, List, [], ◌∷◌}
 use Rattle.smpl_lexer.specs.declared.section.Section.{Section}
 use Rattle.smpl_lexer.specs.declared.section.Section.TheVariants as section
 use Rattle.smpl_lexer.specs.declared.section.Role.{Role}

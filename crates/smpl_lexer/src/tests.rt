@@ -33,7 +33,7 @@ fn signs(rule: &RuleText) -> (usize, usize) {
 fn is_branch_sign(rule: &RuleText, line: usize) -> bool {
     match rule.body.get(line) {
         Some(line) => match line.tokens.as_slice() {
-            [t] => t.token.kind == TokenKind::Pat && t.token.text.as_bytes() == b"\\(",
+            [t] => t.token.kind == TokenKind::Pat && t.token.text.as_bytes() == b"\\(".as_slice(),
             _ => false,
         },
         None => false,
@@ -46,6 +46,7 @@ fn a_patch_is_its_rules_and_lines(rt: HostRuntime) -> Result<(), Fail> {
         rt.alloc(),
         "// a comment\nvirtual v, w\n@r depends on v@\nexpression x;\n@@\n(\n- f(x);\n|\n g(x);\n)\n+ h();\n",
     )
+    .ok()
     .ok_or("a fault")?;
     assert_eq!(rt; text.virtuals.len(), 2);
     match text.rules.as_slice() {
@@ -70,7 +71,7 @@ fn each_fault_stands_at_its_place(rt: HostRuntime) {
         ("@r@\nexpression x;\n", (3, 18)),
         ("@@\n@r@\nf();\n", (3, 3)),
         ("@script:python@\n@@\n", (15, 0)),
-        ("@@\n@@\n f(\"a);\n", (2, 8)),
+        ("@@\n@@\n f(\"a);\n", (2, 9)),
         ("@@\n@@\n+ f@p();\n", (2, 9)),
         ("@@\n@@\n/* a\n*/\n", (2, 6)),
         ("@@\n@@\n#define A\n", (2, 6)),

@@ -1,5 +1,5 @@
 -- The definitions at small values, above all where two readings differ.
-use Rattle.std.proofs.Common.{◌≡◌, ℕ, Bool, true, false, Option, Some, None, List, [], ◌∷◌, refl, codes}
+use Rattle.std.proofs.Common.{◌≡◌, ℕ, true, false, Some, [], ◌∷◌, refl, codes}
 use Rattle.c_terms.specs.declared.label.Label.TheVariants as label
 use Rattle.c_terms.specs.declared.token.TokenKind.TheVariants as token
 use Rattle.c_terms.specs.declared.token.MetaKind.TheVariants as meta
@@ -11,10 +11,10 @@ use Rattle.smpl_patch.specs.declared.pattern.Pattern.{Pattern}
 use Rattle.smpl_patch.specs.declared.pattern.VarKind.TheVariants as var_kind
 use Rattle.smpl_patch.specs.declared.pattern.VarDecl.{VarDecl}
 use Rattle.smpl_patch.specs.declared.fault.PatchFault.TheVariants as fault
-use Rattle.smpl_patch.specs.Held.{is_held, held_at}
+use Rattle.smpl_patch.specs.Held.{held_at}
 use Rattle.smpl_patch.specs.Patterns.{declared_as}
 use Rattle.smpl_patch.specs.Faults.{first_of}
-use Rattle.smpl_patch.specs.Bodies.{Element, Atom, Block, Gap, AnyOf, Body, End, Then, NoMore, More}
+use Rattle.smpl_patch.specs.Bodies.{Element, Atom, Block, Gap, AnyOf, End, Then, NoMore, More}
 use Rattle.smpl_patch.specs.Shapes.{is_formed_body, lengths_body, patterns_body}
 use Rattle.smpl_patch.specs.Sound.{is_plus_token, is_gap, is_sound_decl}
 

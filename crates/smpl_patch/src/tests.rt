@@ -148,7 +148,7 @@ fn copies_are_equal(rt: HostRuntime) -> Result<(), NoMemory> {
     let token = marked(alloc)?.copy(alloc)?;
     assert_eq!(rt; token.positions.len(), 1);
     assert_eq!(rt; plus_lines(&token), 1);
-    assert!(rt; expression(alloc, "x")?.copy(alloc)?.var.name.as_bytes() == b"x");
+    assert!(rt; expression(alloc, "x")?.copy(alloc)?.var.name.as_bytes() == b"x".as_slice());
     Ok(())
 }
 

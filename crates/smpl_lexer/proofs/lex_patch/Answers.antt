@@ -1,6 +1,5 @@
-use Rattle.std.proofs.Common.{◌≡◌, ◌≤◌, length, refl, sym, ◌∙◌, inl, inr, ap, arith}
-use Rattle.std.proofs.lemmas.Result.{IfOk-weaker, err_from_is_err_and}
-use Rattle.smpl_patch.specs.Faults.{first_from}
+use Rattle.std.proofs.Common.{refl, sym, ◌∙◌, inl, inr}
+use Rattle.std.proofs.lemmas.Result.{err_from_is_err_and}
 use Rattle.smpl_lexer.specs.Texts.IsTextFault.{too_long}
 use Rattle.smpl_lexer.proofs.Readings.{text_read, fault_read}
 use Rattle.smpl_lexer.proofs.lex_patch.Goals as goal

@@ -11,20 +11,14 @@ use c_terms::Token;
 fn opens_group(token: &Token) -> bool
     ensures { result ≡ ahead.opens_group token.now }
 {
-    is_opening(token)
-        || is_pat(token, b"\\(")
-        || is_pat(token, b"<...")
-        || is_pat(token, b"<+...")
+    is_opening(token) || is_pat(token, b"\\(") || is_pat(token, b"<...") || is_pat(token, b"<+...")
 }
 
 /// A closing bracket, `\)`, `...>` or `...+>`.
 fn closes_group(token: &Token) -> bool
     ensures { result ≡ ahead.closes_group token.now }
 {
-    is_closing(token)
-        || is_pat(token, b"\\)")
-        || is_pat(token, b"...>")
-        || is_pat(token, b"...+>")
+    is_closing(token) || is_pat(token, b"\\)") || is_pat(token, b"...>") || is_pat(token, b"...+>")
 }
 
 /// `\|` or `\&`.
@@ -64,10 +58,8 @@ fn begins_statements(class: Class) -> bool
     ensures { result ≡ ahead.begins_statements class }
 {
     match class {
-        Class::LeftBrace
-        | Class::NameOfLabel
-        | Class::NameOfIterator
-        | Class::NameOfStarIterator => true,
+        Class::LeftBrace | Class::NameOfLabel | Class::NameOfIterator | Class::NameOfStarIterator =>
+            true,
         Class::If | Class::While | Class::Do | Class::For | Class::Switch => true,
         Class::Case | Class::Default | Class::Return | Class::Goto => true,
         Class::Break | Class::Continue | Class::Dots | Class::Stmt => true,

@@ -3,8 +3,8 @@ ghost use Rattle.std.specs.Prelude.{◌≡◌};
 ghost use Rattle.c_rows.specs.Look as ahead;
 
 use crate::Class;
-use crate::branches::pattern;
 use crate::brackets::{alignof, at_name, at_sign, at_string, bracket, sizeof};
+use crate::branches::pattern;
 use crate::names::name;
 use crate::words::{
     is, is_basic, is_enum, is_function, is_named, is_qualifier, is_sign, is_storage_text, is_struct,

@@ -10,38 +10,20 @@ use std::thread;
 /// `dots:...` and `expr:e` are tokens of a pattern.
 const STATEMENTS: [(&str, &str); 29] = [
     // expressions and declarations
-    (
-        "f ( ) ;",
-        "(StmtList (ExprStat (Call f ( (Args) )) ;))",
-    ),
-    (
-        "; { }",
-        "(StmtList (Empty ;) (Block { }))",
-    ),
-    (
-        "u * p ;",
-        "(StmtList (Decl (Specs u) (Pointer * p) ;))",
-    ),
+    ("f ( ) ;", "(StmtList (ExprStat (Call f ( (Args) )) ;))"),
+    ("; { }", "(StmtList (Empty ;) (Block { }))"),
+    ("u * p ;", "(StmtList (Decl (Specs u) (Pointer * p) ;))"),
     (
         "u * p + q ;",
         "(StmtList (ExprStat (Binary (Binary u * p) + q) ;))",
     ),
-    (
-        "t * p + q ;",
-        "no tree",
-    ),
+    ("t * p + q ;", "no tree"),
     (
         "int x = 1 , y [ 2 ] = { 3 } ;",
         "(StmtList (Decl (Specs int) (InitDecl x = 1) , (InitDecl (DArray y [ 2 ]) = (InitList { 3 })) ;))",
     ),
-    (
-        "int x : 3 ;",
-        "no tree",
-    ),
-    (
-        "u ( p ) ;",
-        "(StmtList (ExprStat (Call u ( (Args p) )) ;))",
-    ),
+    ("int x : 3 ;", "no tree"),
+    ("u ( p ) ;", "(StmtList (ExprStat (Call u ( (Args p) )) ;))"),
     // bodies
     (
         "if ( a ) if ( b ) f ( ) ; else g ( ) ;",
@@ -55,14 +37,8 @@ const STATEMENTS: [(&str, &str); 29] = [
         "if ( a ) do if ( b ) ; while ( c ) ; else ;",
         "(StmtList (IfElse if ( a ) (Do do (If if ( b ) (Empty ;)) while ( c ) ;) else (Empty ;)))",
     ),
-    (
-        "if ( a ) int x ;",
-        "no tree",
-    ),
-    (
-        "if ( a ) out : f ( ) ;",
-        "no tree",
-    ),
+    ("if ( a ) int x ;", "no tree"),
+    ("if ( a ) out : f ( ) ;", "no tree"),
     (
         "for ( int i = 0 ; i ; ) ;",
         "(StmtList (ForDecl for ( (Decl (Specs int) (InitDecl i = 0) ;) i ; ) (Empty ;)))",
@@ -75,10 +51,7 @@ const STATEMENTS: [(&str, &str); 29] = [
         "switch ( a ) { case 1 ... 2 : return ; case b , c : default : return d ; }",
         "(StmtList (Switch switch ( a ) (Block { (CaseRange case 1 ... 2 :) (Return return ;) (Case case (Comma b , c) :) (Default default :) (Return return d ;) })))",
     ),
-    (
-        "case b , c ... 2 :",
-        "no tree",
-    ),
+    ("case b , c ... 2 :", "no tree"),
     (
         "out : goto out ;",
         "(StmtList (Label out :) (Goto goto out ;))",
@@ -100,18 +73,9 @@ const STATEMENTS: [(&str, &str); 29] = [
         "dots:... f ( dots:... ) ; dots:...",
         "(StmtList ... (ExprStat (Call f ( (Args ...) )) ;) ...)",
     ),
-    (
-        "dots:... dots:...",
-        "no tree",
-    ),
-    (
-        "dots:... <... a ...>",
-        "no tree",
-    ),
-    (
-        "if ( expr:e ) stmt:s",
-        "(StmtList (If if ( e ) s))",
-    ),
+    ("dots:... dots:...", "no tree"),
+    ("dots:... <... a ...>", "no tree"),
+    ("if ( expr:e ) stmt:s", "(StmtList (If if ( e ) s))"),
     (
         "<... f ( x ) ...>",
         "(StmtList (PatNest <... (Call f ( (Args x) )) ...>))",
@@ -140,22 +104,13 @@ const ITEMS: [(&str, &str); 12] = [
         "static int * f ( void ) { }",
         "(FunDef (Specs static int) (Pointer * (DFun f ( (Params (Param (Specs void))) ))) (Block { }))",
     ),
-    (
-        "int x { }",
-        "no tree",
-    ),
+    ("int x { }", "no tree"),
     (
         "int ( * f ( ) ) [ 3 ] { }",
         "(FunDef (Specs int) (DArray (DParen ( (Pointer * (DFun f ( (Params) ))) )) [ 3 ]) (Block { }))",
     ),
-    (
-        "int f ( ) = 1 { }",
-        "no tree",
-    ),
-    (
-        "static M ( x ) ;",
-        "(MacroItem static M ( (Args x) ) ;)",
-    ),
+    ("int f ( ) = 1 { }", "no tree"),
+    ("static M ( x ) ;", "(MacroItem static M ( (Args x) ) ;)"),
     (
         "M ( x ) { f ( ) ; }",
         "(MacroFun M ( (Args x) ) (Block { (ExprStat (Call f ( (Args) )) ;) }))",
@@ -168,18 +123,9 @@ const ITEMS: [(&str, &str); 12] = [
         "int x , * y = 1 ;",
         "(Decl (Specs int) x , (InitDecl (Pointer * y) = 1) ;)",
     ),
-    (
-        ";",
-        "(Empty ;)",
-    ),
-    (
-        "int f ( ) { asm ( x ) ; }",
-        "no tree",
-    ),
-    (
-        "f ( ) ; ;",
-        "no tree",
-    ),
+    (";", "(Empty ;)"),
+    ("int f ( ) { asm ( x ) ; }", "no tree"),
+    ("f ( ) ; ;", "no tree"),
 ];
 
 /// The kind of token that a word before `:` names.

@@ -19,3 +19,4 @@ pub mod SightLemmas
 pub mod TreeLemmas
 pub mod LetterLemmas
 pub mod TypeExamples
+pub mod Examples

@@ -14,7 +14,7 @@
 //! Groups and brackets may nest as deep as the text: nothing recurses. Bad nesting is no fault: what closes too much
 //! has no effect, and what is left open runs to the end. Only memory may be wanting.
 //!
-//! Whether an item is C is not asked here.
+//! Whether an item is C is not asked here. What it is read as, an [`Item`], is found by c_file.
 #![tactic(auto)]
 
 mod directive;
@@ -22,6 +22,7 @@ mod group;
 mod item;
 mod laws;
 mod mask;
+mod reading;
 mod shown;
 mod sign;
 mod span;
@@ -30,6 +31,7 @@ mod tests;
 mod visible;
 
 pub use laws::{items_stand_end_to_end, shown_once};
+pub use reading::{Item, Why};
 pub use shown::arms;
 pub use span::{ItemSpan, items};
 pub use visible::Visible;

@@ -1,22 +1,21 @@
 -- Over tokens as they are seen, two trees of one kind that begin at one token, and that nothing makes longer, are equal.
-use Rattle.std.proofs.Common.{◌≡◌, ℕ, zero, suc, ◌+◌, ◌-◌, ◌≤◌, max, List, [], ◌∷◌, ◌++◌, refl, subst, ap, sym, ◌∙◌, append-nil, arith}
+use Rattle.std.proofs.Common.{◌≡◌, ℕ, zero, suc, ◌+◌, ◌-◌, ◌≤◌, List, [], ◌∷◌, ◌++◌, refl, subst, ap, sym, ◌∙◌, append-nil, arith}
 use Rattle.std.specs.Prelude.{Bool, true, false, not, IsTrue, Option, Some, None, if◌then◌else◌}
 use Rattle.c_terms.specs.declared.tree.Tree.{Tree}
 use Rattle.c_terms.specs.declared.tree.Tree.TheVariants as tree
 use Rattle.c_terms.specs.Trees.{levels, levels_of_all}
-use Rattle.c_rows.specs.declared.class.Class.{Class}
 use Rattle.c_rows.specs.declared.kind.Kind.{Kind}
 use Rattle.c_rows.specs.declared.kind.Family.{Family}
 use Rattle.c_rows.specs.declared.rule.Rule.{Rule}
 use Rattle.c_rows.specs.declared.symbol.Symbol.TheVariants as symbol
 use Rattle.c_rows.specs.Kinds.{family_of, within, has_leaf}
 use Rattle.c_rows.specs.Rows.{Row}
-use Rattle.c_rows.specs.Branches.{kind_of, build, allows}
+use Rattle.c_rows.specs.Branches.{kind_of, build}
 use Rattle.c_rows.specs.Choice.{after, quiet, stops, ends, tail, left, own, row_fine}
 use Rattle.c_rows.specs.Seen.{Seen, front, front_typed}
 use Rattle.c_rows.specs.Spells.{member_kind, Spells, Runs, done, word, child, argument, fork}
 use Rattle.c_rows.specs.Growth.{Root, root_ends, Operand, token, headed, Grows, here, more}
-use Rattle.c_expr.specs.Steps.{place, Leads, rule_of_kind, headed_by, takes, taking, next_rule, goes_on, OnlyTree, OnlyOperand, OnlyRun, OnlyGrowth}
+use Rattle.c_expr.specs.Steps.{place, Leads, rule_of_kind, takes, taking, next_rule, goes_on, OnlyTree, OnlyOperand, OnlyRun, OnlyGrowth}
 use Rattle.c_rows.proofs.Checks.{and_right, own_fine, way_fine, way_ends, head_no_leaf, member_stops, tail_is, tail_word}
 use Rattle.c_rows.proofs.FirstLemmas.{within_family, way_here}
 use Rattle.c_rows.proofs.LengthLemmas.{fine_ok, fine_rest}

@@ -1,5 +1,5 @@
 -- Two trees of one range are equal.
-use Rattle.std.proofs.Common.{◌≡◌, ℕ, ◌≤◌, List, [], ◌∷◌, ◌++◌, map, refl, subst, ap, sym, ◌∙◌, append_assoc, append-nil, arith}
+use Rattle.std.proofs.Common.{◌≡◌, List, [], ◌∷◌, ◌++◌, map, refl, ap, sym, ◌∙◌, append_assoc, arith}
 use Rattle.std.proofs.lemmas.Bool.Decides.{nat_tests}
 use Rattle.std.proofs.lemmas.Grind.{common_steps}
 use Rattle.std.specs.Prelude.{Bool, true, false, ◌&&◌, IsTrue}
@@ -7,7 +7,7 @@ use Rattle.c_terms.specs.declared.token.Token.{Token}
 use Rattle.c_terms.specs.declared.label.Label.{Label}
 use Rattle.c_terms.specs.declared.tree.Tree.{Tree}
 use Rattle.c_terms.specs.declared.tree.Tree.TheVariants.{Leaf, Branch}
-use Rattle.c_terms.specs.Trees.{leaves, join, levels}
+use Rattle.c_terms.specs.Trees.{leaves, join}
 use Rattle.c_terms.specs.Numbers.{label_number}
 use Rattle.c_terms.specs.Same.{same_tree, same_label, all_pass}
 use Rattle.c_terms.proofs.Induct.{Each, tree_induction, tree_cases}
@@ -15,11 +15,10 @@ use Rattle.c_terms.proofs.NumberLaws.{label_number-injective}
 use Rattle.c_terms.proofs.TreeLemmas.{leaves-Leaf, leaves-Branch}
 use Rattle.c_terms.proofs.SameLemmas.{same-Leaf-Branch, same-Branch-Leaf, same-Branch-Branch}
 use Rattle.c_terms.proofs.SameLaws.{tree-refl}
-use Rattle.c_rows.specs.declared.class.Class.{Class}
 use Rattle.c_rows.specs.declared.kind.Kind.{Kind}
 use Rattle.c_rows.specs.Look.{Names, look}
 use Rattle.c_rows.specs.Seen.{Seen}
-use Rattle.c_rows.specs.Range.{leads_member, may_be_type, unmarked, NoMember, AreSeenAs}
+use Rattle.c_rows.specs.Range.{leads_member, may_be_type, NoMember, AreSeenAs}
 use Rattle.c_rows.specs.Trees.{IsTreeOf, stands_alone}
 use Rattle.c_rows.proofs.RangeLemmas.{tree_leaves}
 use Rattle.c_rows.proofs.TreeLemmas.{tree_spelled, alone_stops}

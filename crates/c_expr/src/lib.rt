@@ -14,7 +14,7 @@
 //! back, but that behind `(` and `,` what may be a type by its first three tokens is tried as an expression before the
 //! range is read.
 //!
-//! Declarations, statements and items are left to the crates above. Cutting text into tokens is for c_lexer.
+//! The calls for declarations, statements and items are in the crates above. Cutting text into tokens is for c_lexer.
 #![tactic(auto)]
 
 mod depth;

@@ -1,6 +1,6 @@
 -- What stands at the front of tokens, and which way a row goes on, by examples. `t` is in the names, `u` is not.
 use Rattle.std.proofs.Common.{◌≡◌, List, [], ◌∷◌, refl}
-use Rattle.std.specs.Prelude.{ℕ, Bool, true, false, Some, None, codes}
+use Rattle.std.specs.Prelude.{ℕ, true, false, Some, None, codes}
 use Rattle.c_terms.specs.declared.token.Token.{Token}
 use Rattle.c_terms.specs.declared.token.TokenKind.TheVariants as token
 use Rattle.c_terms.specs.declared.token.MetaKind.{MetaKind}

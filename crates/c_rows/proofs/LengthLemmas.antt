@@ -1,6 +1,6 @@
 -- How many tokens a tree and the rest of a row take.
-use Rattle.std.proofs.Common.{◌≡◌, ℕ, ◌+◌, ◌*◌, ◌≤◌, ◌<◌, eqb-true, List, [], ◌∷◌, length, refl, subst, arith}
-use Rattle.std.specs.Prelude.{◌==◌, ◌||◌, Bool, true, false, IsTrue, Some, if◌then◌else◌, nat_le, slice_get}
+use Rattle.std.proofs.Common.{◌≡◌, ℕ, ◌+◌, ◌*◌, ◌≤◌, ◌<◌, List, [], ◌∷◌, length, refl, subst, arith}
+use Rattle.std.specs.Prelude.{◌||◌, Bool, true, false, IsTrue, Some, if◌then◌else◌, nat_le, slice_get}
 use Rattle.std.specs.List.{list_all, list_any}
 use Rattle.std.proofs.lemmas.Bool.Decides.{nat_tests}
 use Rattle.c_terms.specs.declared.tree.Tree.{Tree}

@@ -1,5 +1,5 @@
 -- How a reader of rows chooses by the class of the next token.
-use Rattle.std.specs.Prelude.{ℕ, ◌==◌, nat_le, Bool, true, false, not, ◌&&◌, ◌||◌, Option, Some, None, is_some, if◌then◌else◌, List, [], ◌∷◌}
+use Rattle.std.specs.Prelude.{ℕ, nat_le, Bool, true, false, not, ◌&&◌, ◌||◌, Option, Some, None, is_some, if◌then◌else◌, List, [], ◌∷◌}
 use Rattle.std.specs.List.{list_all}
 use Rattle.c_rows.specs.declared.class.Class.{Class}
 use Rattle.c_rows.specs.declared.class.Class.TheVariants as class

@@ -13,7 +13,7 @@ pub fn term<'a>(decls: &[VarDecl], env: &'a Env, name: &[u8]) -> Option<&'a Tree
 {
     let decl = declared_as(decls, name)?;
     match env.get(&decl.var)? {
-        Value::Term(tree) => Some(tree),
+        Value::Term(tree) => Some(tree.get()),
         Value::Place(_) => None,
     }
 }

@@ -11,3 +11,4 @@ pub mod LoneLemmas
 pub mod Examples
 pub mod PartLemmas
 pub mod GroupLemmas
+pub mod SameLemmas

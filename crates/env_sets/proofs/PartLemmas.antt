@@ -15,11 +15,11 @@ use Rattle.env_sets.specs.declared.bounds.Bound.{Bound}
 use Rattle.env_sets.specs.Bounds.{fits}
 use Rattle.env_sets.specs.Rising.{Rise}
 use Rattle.env_sets.specs.Sets.{entry_denotes, entry_vars, set_denotes, set_vars}
-use Rattle.env_sets.specs.Splits.{passes, without, restricted, are_allowed, leads, size_of, ArePartsOf}
+use Rattle.env_sets.specs.Splits.{passes, without, restricted, are_allowed, occurs, size_of, ArePartsOf}
 use Rattle.env_sets.proofs.LoopLemmas.{and-true}
 use Rattle.env_sets.proofs.BoundLemmas.{fits-along, any_same-along}
 use Rattle.env_sets.proofs.RisingLemmas.{rise_apart, less_apart}
-use Rattle.env_sets.proofs.SplitLemmas.{restricted-push, leads_size}
+use Rattle.env_sets.proofs.SplitLemmas.{restricted-push, occurs_size}
 
 first_false : (a b : Bool) → (a || b) ≡ false → a ≡ false
 first_false true b h = absurd cc
@@ -205,11 +205,11 @@ some_value (w ∷ ws) zero lt = (w, refl)
 some_value (w ∷ ws) (suc i) lt = some_value ws i (omega arith)
 
 pub part_smaller : (x : Var) (values : List Value) (a : List (List (Var × Bound))) (parts : List (List (List (Var × Bound)))) (i : ℕ) (part : List (List (Var × Bound)))
-    → ArePartsOf x values a parts → i < length values → part ≡ get_or parts i [] → leads x a ≡ true → size_of part < size_of a
+    → ArePartsOf x values a parts → i < length values → part ≡ get_or parts i [] → occurs x a ≡ true → size_of part < size_of a
 part_smaller x values a parts i part h lt at l =
     let v = some_value values i lt in
     let e : size_of part ≡ size_of (restricted x (fits v.0) a) = ap size_of (at ∙ h.1 i v.0 lt v.1) in
-    omega (arith, e, leads_size x (fits v.0) a l)
+    omega (arith, e, occurs_size x (fits v.0) a l)
 
 -- what all parts leave out
 pub part_is : (x : Var) (values : List Value) (a : List (List (Var × Bound))) (parts : List (List (List (Var × Bound)))) (i : ℕ) (part : List (List (Var × Bound))) (v : Value)

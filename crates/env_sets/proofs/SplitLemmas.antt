@@ -1,18 +1,19 @@
 -- A set where one variable has a value: the entries that allow it, without the variable.
-use Rattle.std.proofs.Common.{◌≡◌, ℕ, ◌+◌, ◌<◌, ◌≤◌, suc, Bool, true, false, ◌&&◌, ◌||◌, not, cond, refl, sym, ap, ◌∙◌, arith, List, [], ◌∷◌, ◌++◌, length, get_or, take}
+use Rattle.std.proofs.Common.{◌≡◌, ℕ, ◌+◌, ◌<◌, ◌≤◌, suc, Bool, true, false, ◌&&◌, ◌||◌, not, cond, refl, sym, ap, ◌∙◌, arith, List, [], ◌∷◌, ◌++◌, length, get_or, take, ⊎_elim}
 use Rattle.std.proofs.lemmas.List.{take_more}
 use Rattle.std.proofs.lemmas.Grind.{common_steps}
 use Rattle.smpl_terms.specs.declared.var.Var.{Var}
 use Rattle.smpl_terms.specs.declared.value.Value.{Value}
 use Rattle.smpl_terms.specs.Values.{same}
-use Rattle.smpl_terms.specs.Vars.{same_var}
+use Rattle.smpl_terms.specs.Vars.{same_var, has_pair}
 use Rattle.smpl_terms.specs.Environments.{Environment}
 use Rattle.smpl_terms.proofs.VarLaws.{same_var-equal, same_var-refl}
 use Rattle.env_sets.specs.declared.bounds.Bound.{Bound}
 use Rattle.env_sets.specs.Bounds.{fits, is_not}
 use Rattle.env_sets.specs.Sets.{entry_denotes, entry_vars, set_denotes, set_vars}
-use Rattle.env_sets.specs.Splits.{passes, without, restricted, leads, agree, is_unnamed, none_named, size_of}
+use Rattle.env_sets.specs.Splits.{passes, without, restricted, occurs, agree, is_unnamed, none_named, size_of}
 use Rattle.env_sets.proofs.BoundLemmas.{fits-along}
+use Rattle.env_sets.proofs.LoopLemmas.{both_parts, or_cases, either_true}
 
 -- the test answers for each bound of x as the value of x does
 abbrev pub Decided : Var → (Bound → Bool) → Value → List (Var × Bound) → Type 0
@@ -98,13 +99,18 @@ pub restricted_vars : (x : Var) (test : Bound → Bool) (t : Var → Bool) (es :
 restricted_vars x test t [] h = refl
 restricted_vars x test t (e ∷ es) h = restricted_step x test t e es (passes x test e) (without_fewer x t e) (restricted_vars x test t es) h
 
--- the first variable of a set is one of its variables
-pub leads_vars : (x : Var) (t : Var → Bool) (es : List (List (Var × Bound))) → leads x es ≡ true → set_vars t es ≡ true → t x ≡ true
-leads_vars x t [] l h = absurd cc
-leads_vars x t ([] ∷ es) l h = absurd cc
-leads_vars x t ((p ∷ ps) ∷ es) l h =
-    let e = same_var-equal p.0 x l in
-    let k : t p.0 ≡ true = grind (arith, common_steps) in sym (ap t e) ∙ k
+-- a variable that an entry bounds is one of the set's
+pair_vars : (x : Var) (t : Var → Bool) (ps : List (Var × Bound)) → has_pair ps x ≡ true → entry_vars t ps ≡ true → t x ≡ true
+pair_vars x t [] h k = absurd cc
+pair_vars x t (p ∷ ps) h k =
+    let parts = both_parts (t p.0) (entry_vars t ps) k in
+    ⊎_elim (λ a. sym (ap t (same_var-equal p.0 x a)) ∙ parts.0) (λ b. pair_vars x t ps b parts.1) (or_cases (same_var p.0 x) (has_pair ps x) h)
+
+pub occurs_vars : (x : Var) (t : Var → Bool) (es : List (List (Var × Bound))) → occurs x es ≡ true → set_vars t es ≡ true → t x ≡ true
+occurs_vars x t [] h k = absurd cc
+occurs_vars x t (e ∷ es) h k =
+    let parts = both_parts (entry_vars t e) (set_vars t es) k in
+    ⊎_elim (λ a. pair_vars x t e a parts.0) (λ b. occurs_vars x t es b parts.1) (or_cases (has_pair e x) (occurs x es) h)
 
 -- what is left is smaller
 without_size : (x : Var) (ps : List (Var × Bound)) → length (without x ps) ≤ length ps
@@ -117,13 +123,19 @@ restricted_size x test (e ∷ es) =
     elim (passes x test e) as (λ b. size_of (cond b (without x e ∷ restricted x test es) (restricted x test es)) ≤ length e + size_of es)
     [ true ↦ omega (arith, without_size x e, restricted_size x test es) | false ↦ omega (arith, restricted_size x test es) ]
 
-pub leads_size : (x : Var) (test : Bound → Bool) (es : List (List (Var × Bound))) → leads x es ≡ true → size_of (restricted x test es) < size_of es
-leads_size x test [] l = absurd cc
-leads_size x test ([] ∷ es) l = absurd cc
-leads_size x test ((p ∷ ps) ∷ es) l =
-    let shorter : length (without x (p ∷ ps)) < length (p ∷ ps) = rw l (omega (arith, without_size x ps)) in
-    elim (passes x test (p ∷ ps)) as (λ b. size_of (cond b (without x (p ∷ ps) ∷ restricted x test es) (restricted x test es)) < length (p ∷ ps) + size_of es)
-    [ true ↦ omega (arith, shorter, restricted_size x test es) | false ↦ omega (arith, restricted_size x test es) ]
+without_shorter : (x : Var) (ps : List (Var × Bound)) → has_pair ps x ≡ true → length (without x ps) < length ps
+without_shorter x [] h = absurd cc
+without_shorter x (p ∷ ps) h =
+    elim (same_var p.0 x) as (λ b. (b || has_pair ps x) ≡ true → length (cond (not b) (p ∷ without x ps) (without x ps)) < suc (length ps))
+    [ true ↦ λ k. omega (arith, without_size x ps) | false ↦ λ k. omega (arith, without_shorter x ps k) ] h
+
+pub occurs_size : (x : Var) (test : Bound → Bool) (es : List (List (Var × Bound))) → occurs x es ≡ true → size_of (restricted x test es) < size_of es
+occurs_size x test [] h = absurd cc
+occurs_size x test (e ∷ es) h =
+    elim (passes x test e) as (λ b. size_of (cond b (without x e ∷ restricted x test es) (restricted x test es)) < length e + size_of es) [
+      | true ↦ ⊎_elim (λ a. omega (arith, without_shorter x e a, restricted_size x test es)) (λ r. omega (arith, without_size x e, occurs_size x test es r)) (or_cases (has_pair e x) (occurs x es) h)
+      | false ↦ ⊎_elim (λ a. omega (arith, without_shorter x e a, restricted_size x test es)) (λ r. omega (arith, occurs_size x test es r)) (or_cases (has_pair e x) (occurs x es) h)
+    ]
 
 -- one more entry
 pub restricted-push : (x : Var) (test : Bound → Bool) (es : List (List (Var × Bound))) (e : List (Var × Bound)) → restricted x test (es ++ e ∷ []) ≡ restricted x test es ++ cond (passes x test e) (without x e ∷ []) []
@@ -140,13 +152,14 @@ where_step x test es i e old new b lt at is before after =
     after ∙ (λ j. before j ++ cond (is j) (without x e ∷ []) [])
     ∙ sym (ap (restricted x test) (take_more es i e lt ∙ ap (λ d. take i es ++ d ∷ []) (sym at)) ∙ restricted-push x test (take i es) e)
 
--- the first variable of the first entry
-pub leads_at : (es : List (List (Var × Bound))) (e : List (Var × Bound)) (p : Var × Bound) → 1 ≤ length es → e ≡ get_or es 0 e → 1 ≤ length e → p ≡ get_or e 0 p → leads p.0 es ≡ true
-leads_at [] e p some at more here = absurd (omega arith)
-leads_at ([] ∷ es) e p some at more here = absurd (omega (arith, ap length at))
-leads_at ((q ∷ qs) ∷ es) e p some at more here =
+-- the first entry bounds its first variable
+pub occurs_at : (es : List (List (Var × Bound))) (e : List (Var × Bound)) (p : Var × Bound) → 1 ≤ length es → e ≡ get_or es 0 e → 1 ≤ length e → p ≡ get_or e 0 p → occurs p.0 es ≡ true
+occurs_at [] e p some at more here = absurd (omega arith)
+occurs_at ([] ∷ es) e p some at more here = absurd (omega (arith, ap length at))
+occurs_at ((q ∷ qs) ∷ es) e p some at more here =
     let first : p ≡ q = here ∙ ap (λ d. get_or d 0 p) at in
-    ap (λ y. same_var y p.0) (sym (ap (λ y. y.0) first)) ∙ same_var-refl p.0
+    let same_place : same_var q.0 p.0 ≡ true = ap (λ y. same_var y p.0) (sym (ap (λ y. y.0) first)) ∙ same_var-refl p.0 in
+    either_true _ _ (either_true _ _ same_place)
 
 -- the complement, value by value
 pub complement_step : (any s P A : Bool) → (s ≡ true → P ≡ A) → ((any && not A) || (not P && s)) ≡ ((any || s) && not A)

@@ -4,7 +4,7 @@ use Rattle.std.specs.List.{list_all, list_any, filter}
 use Rattle.smpl_terms.specs.declared.var.Var.{Var}
 use Rattle.smpl_terms.specs.declared.value.Value.{Value}
 use Rattle.smpl_terms.specs.Values.{same}
-use Rattle.smpl_terms.specs.Vars.{same_var}
+use Rattle.smpl_terms.specs.Vars.{same_var, has_pair}
 use Rattle.smpl_terms.specs.Environments.{Environment}
 use Rattle.env_sets.specs.declared.bounds.Bound.{Bound}
 use Rattle.env_sets.specs.Bounds.{fits, is_not}
@@ -32,11 +32,9 @@ abbrev pub size_of : List (List (Var × Bound)) → ℕ
 size_of [] = 0
 size_of (e ∷ es) = length e + size_of es
 
--- the first entry bounds x first
-abbrev pub leads : Var → List (List (Var × Bound)) → Bool
-leads x [] = false
-leads x ([] ∷ es) = false
-leads x ((p ∷ ps) ∷ es) = same_var p.0 x
+-- some entry bounds x
+abbrev pub occurs : Var → List (List (Var × Bound)) → Bool
+occurs x es = list_any (λ e. has_pair e x) es
 
 -- both tests give one answer
 abbrev pub agree : Bool → Bool → Bool

@@ -55,6 +55,9 @@ pub fn meet(alloc: Global, a: &EnvSet, b: &EnvSet) -> Result<EnvSet, NoMemory>
     ensures vars { IfOk result (λ r. (t : Var → Bool) → set_vars t a.now ≡ true →
         set_vars t b.now ≡ true → set_vars t r ≡ true) }
 {
+    if a.entries().len() < 2 || b.entries().len() < 2 {
+        return meet_pairs(alloc, a, b);
+    }
     match first_var(b) {
         None => meet_pairs(alloc, a, b),
         Some(x) => meet_by(alloc, a, b, x),

@@ -14,13 +14,14 @@ ghost use Rattle.smpl_terms.specs.Environments.{Environment};
 ghost use Rattle.env_sets.specs.Bounds.{fits};
 ghost use Rattle.env_sets.specs.Sets.{entry_denotes, entry_vars, set_denotes, set_vars};
 ghost use Rattle.env_sets.specs.Laws.{IsComplement};
-ghost use Rattle.env_sets.specs.Splits.{passes, leads, are_allowed};
+ghost use Rattle.env_sets.specs.Splits.{passes, occurs, are_allowed};
 
 use crate::algebra::{Parts, parts_at};
 use crate::bounds::Bound;
 use crate::entries::{Entry, all_excluded};
 use crate::parts::{is_allowed, named, parts_by, where_other};
-use crate::sets::{EnvSet, put_some, settled};
+use crate::sets::{EnvSet, have_all, put_some, settled};
+use crate::tally::split_var;
 use crate::values::Values;
 use c_terms::NoMemory;
 use smpl_terms::{Value, Var, same_var};
@@ -28,7 +29,7 @@ use std::alloc::Global;
 
 /// The environments that a does not stand for.
 ///
-/// It splits on the values of the first variable, and takes the complement of what is left for each of them and for
+/// It splits on the values of the variable that most entries bound, and takes the complement of what is left for each of them and for
 /// all others: at most one split for each choice of values that the entries name. It recurses once a variable, and an
 /// entry that does not fix the variable is copied for each value that it allows. So n entries that fix the same
 /// variables take n log n steps a variable. Entries over one variable take n log n steps, for n values that they name in
@@ -57,15 +58,18 @@ fn outside(alloc: Global, a: &[Entry]) -> Result<Vec<Entry>, NoMemory>
         [] => one_entry(alloc, Entry::all(alloc)),
         [first, ..] => match first.pairs() {
             [] => Ok(Vec::new(alloc)),
-            [pair, ..] => outside_at(alloc, a, &pair.0),
+            [pair, ..] => {
+                let x = split_var(alloc, a, &pair.0)?;
+                outside_at(alloc, a, &x)
+            }
         },
     }
 }
 
-/// The same, by the values of x, which the first entry bounds first.
+/// The same, by the values of x, which some entry bounds.
 #[cycle(outside)]
 fn outside_at(alloc: Global, a: &[Entry], x: &Var) -> Result<Vec<Entry>, NoMemory>
-    requires leads { leads x.now a.now ≡ true }
+    requires occurs { occurs x.now a.now ≡ true }
     ensures meaning { IfOk result (λ r. (env : Environment) →
         set_denotes r.items env ≡ not (set_denotes a.now env)) }
     ensures vars { IfOk result (λ r. (t : Var → Bool) → set_vars t a.now ≡ true →
@@ -87,7 +91,7 @@ fn outside_at(alloc: Global, a: &[Entry], x: &Var) -> Result<Vec<Entry>, NoMemor
 /// The same, by the values that the entries name at x, and all others.
 #[cycle(outside)]
 fn split(alloc: Global, a: &[Entry], x: &Var) -> Result<Vec<Entry>, NoMemory>
-    requires leads { leads x.now a.now ≡ true }
+    requires occurs { occurs x.now a.now ≡ true }
     ensures meaning { IfOk result (λ r. (env : Environment) →
         set_denotes r.items env ≡ not (set_denotes a.now env)) }
     ensures vars { IfOk result (λ r. (t : Var → Bool) → set_vars t a.now ≡ true →
@@ -162,18 +166,6 @@ fn one_entry(alloc: Global, e: Entry) -> Result<Vec<Entry>, NoMemory>
     let mut entries = Vec::new(alloc);
     entries.push(e)?;
     Ok(entries)
-}
-
-/// Whether some entry has no bounds.
-fn have_all(a: &[Entry]) -> bool
-    ensures { result ≡ true → (env : Environment) → set_denotes a.now env ≡ true }
-{
-    for e in a {
-        if e.pairs().is_empty() {
-            return true;
-        }
-    }
-    false
 }
 
 /// Whether no entry bounds another variable.

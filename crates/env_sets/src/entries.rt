@@ -115,10 +115,11 @@ impl Entry {
         Ok(Entry { map })
     }
 
-    /// The entry with one more bound; nothing where no environment is left. A bound that excludes no value is not added.
+    /// The entry with one more bound; nothing where no environment is left. A bound that excludes no value is not added, and
+    /// where the entry has a bound of v that plainly allows no more, it stays as it is.
     ///
-    /// It looks v up from the first variable on, and copies the bound; where both exclude values, it merges them, in linear
-    /// time if both lists are in order.
+    /// It looks v up from the first variable on. Where it is the only owner of its bounds, it copies none but the new one;
+    /// where both exclude values, it merges them, in linear time if both lists are in order.
     pub fn narrowed(self, alloc: Global, v: &Var, bound: &Bound) -> Result<Option<Entry>, NoMemory>
         ensures meaning { IfOk result
             (λ o. (env : Environment) → option_denotes o env ≡ (entry_denotes self env && fits (env v.now) bound.now)) }
@@ -128,6 +129,19 @@ impl Entry {
         if is_open(bound) {
             return Ok(Some(self));
         }
+        if has_within(self.pairs(), v, bound) {
+            return Ok(Some(self));
+        }
+        self.bounded(alloc, v, bound)
+    }
+
+    /// The same, where the bound is added or met with that of v.
+    fn bounded(self, alloc: Global, v: &Var, bound: &Bound) -> Result<Option<Entry>, NoMemory>
+        ensures meaning { IfOk result
+            (λ o. (env : Environment) → option_denotes o env ≡ (entry_denotes self env && fits (env v.now) bound.now)) }
+        ensures vars { IfOk result
+            (λ o. (t : Var → Bool) → entry_vars t self ≡ true → t v.now ≡ true → option_vars t o ≡ true) }
+    {
         let Entry { map } = self;
         let mut pairs = map.into_vec(alloc)?;
         let x = v.copy(alloc)?;
@@ -221,7 +235,7 @@ pub fn meet_entries(alloc: Global, a: &Entry, b: &Entry) -> Result<Option<Entry>
     if entries_clash(a, b) {
         return Ok(None);
     }
-    if all_excluded(a) <= all_excluded(b) {
+    if all_excluded(a) >= all_excluded(b) {
         narrowed_by(alloc, a, b)
     } else {
         narrowed_by(alloc, b, a)

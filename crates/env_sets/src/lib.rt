@@ -23,11 +23,14 @@ mod groups;
 mod laws;
 mod lists;
 mod lone;
+mod marks;
 mod parts;
+mod same;
 mod sets;
 #[cfg(test)]
 mod size_tests;
 mod states;
+mod tally;
 #[cfg(test)]
 mod tests;
 mod values;
@@ -37,6 +40,7 @@ pub use bounds::Bound;
 pub use complements::complement;
 pub use entries::Entry;
 pub use laws::{complement_twice, de_morgan, given_a_meet, project_a_join};
+pub use same::same_set;
 pub use sets::EnvSet;
 pub use states::{StateRow, StateSets};
 pub use values::Values;

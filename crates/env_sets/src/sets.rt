@@ -1,5 +1,5 @@
 // Sets of entries.
-ghost use Rattle.std.specs.Prelude.{◌≡◌, ◌&&◌, ◌||◌, ◌++◌, Bool, true, false, List, [], ◌∷◌, IfOk, option_to_list};
+ghost use Rattle.std.specs.Prelude.{◌≡◌, ◌&&◌, ◌||◌, ◌++◌, ◌<◌, Bool, true, false, List, [], ◌∷◌, length, IfOk, option_to_list};
 ghost use Rattle.smpl_terms.specs.declared.var.Var.{Var};
 ghost use Rattle.smpl_terms.specs.Environments.{Environment};
 ghost use Rattle.env_sets.specs.Bounds.{fits};
@@ -8,6 +8,7 @@ ghost use Rattle.env_sets.specs.Sets.{entry_denotes, entry_vars, set_denotes, se
 use crate::bounds::Bound;
 use crate::entries::{Entry, entry_covers, entry_order};
 use crate::lone::wider_entries;
+use crate::marks::{Mark, mark_of, may_cover};
 use c_terms::NoMemory;
 use smpl_terms::{Var, same_var};
 use std::alloc::Global;
@@ -87,7 +88,23 @@ impl EnvSet {
         self.entries.as_slice()
     }
 
-    /// An equal set, ids included. Linear.
+    /// Whether there is no entry: no environment. Takes no memory.
+    pub fn is_none(&self) -> bool
+        ensures none { result ≡ true → self.now ≡ [] }
+        ensures some { result ≡ false → 0 < length self.now }
+    {
+        self.entries.is_empty()
+    }
+
+    /// Whether some entry has no bounds: every environment. Takes no memory. It may be false where several entries stand
+    /// for every environment together.
+    pub fn is_all(&self) -> bool
+        ensures meaning { result ≡ true → (env : Environment) → set_denotes self.now env ≡ true }
+    {
+        have_all(&self.entries)
+    }
+
+    /// An equal set, ids included. It shares each entry.
     pub fn copy(&self, alloc: Global) -> Result<EnvSet, NoMemory>
         ensures same { IfOk result (λ r. r ≡ self.now) }
     {
@@ -97,6 +114,18 @@ impl EnvSet {
         }
         Ok(EnvSet { entries })
     }
+}
+
+/// Whether some entry has no bounds.
+pub fn have_all(a: &[Entry]) -> bool
+    ensures { result ≡ true → (env : Environment) → set_denotes a.now env ≡ true }
+{
+    for e in a {
+        if e.pairs().is_empty() {
+            return true;
+        }
+    }
+    false
 }
 
 /// The set of these entries, sorted, without those that another plainly covers. Of the entries that bound one variable
@@ -110,6 +139,9 @@ pub fn settled(alloc: Global, entries: Vec<Entry>) -> Result<EnvSet, NoMemory>
     ensures vars { IfOk result (λ r. (t : Var → Bool) → set_vars t entries.items ≡ true →
         set_vars t r ≡ true) }
 {
+    if entries.len() < 2 {
+        return Ok(EnvSet::of(entries));
+    }
     let entries = in_order(entries);
     let wider = wider_entries(alloc, &entries)?;
     if wider.is_empty() {
@@ -164,10 +196,25 @@ pub fn put_some(entries: &mut Vec<Entry>, more: Option<Entry>) -> Result<(), NoM
     Ok(())
 }
 
+/// Whether one of the first entries covers this one.
+pub fn first_cover(entries: &[Entry], count: usize, e: &Entry) -> bool
+    ensures { result ≡ true → (env : Environment) → entry_denotes e.now env ≡ true →
+        set_denotes entries.now env ≡ true }
+{
+    for i in 0..count.min(entries.len()) {
+        if entry_covers(&entries[i], e) {
+            return true;
+        }
+    }
+    false
+}
+
 /// Entries in order, so that one which covers others comes before them.
 #[derive(Drop)]
 struct Kept {
     entries: Vec<Entry>,
+    /// A mark of each.
+    marks: Vec<Mark>,
     /// How many have fewer bounds than the last.
     shorter: usize,
     /// Of the others, by number, those whose first bound excludes values.
@@ -196,6 +243,7 @@ impl Kept {
     {
         Kept {
             entries: Vec::new(alloc),
+            marks: Vec::new(alloc),
             shorter: 0,
             open: Vec::new(alloc),
             near: Vec::new(alloc),
@@ -233,9 +281,10 @@ impl Kept {
         if count > 0 && entry_covers(&self.entries[count - 1], e) {
             return true;
         }
-        first_cover(&self.entries, self.shorter, e)
-            || some_covers(&self.entries, &self.open, e)
-            || some_covers(&self.entries, &self.near, e)
+        let mark = mark_of(e);
+        shorter_covers(&self.entries, &self.marks, self.shorter, &mark, e)
+            || some_covers(&self.entries, &self.marks, &self.open, &mark, e)
+            || some_covers(&self.entries, &self.marks, &self.near, &mark, e)
     }
 
     /// Notes what the next entry may cover.
@@ -243,6 +292,7 @@ impl Kept {
         ensures { self.new ≡ self.old }
     {
         let count = self.entries.len();
+        self.marks.push(mark_of(e))?;
         if count > 0 && self.entries[count - 1].pairs().len() < e.pairs().len() {
             self.shorter = count;
             self.open.clear();
@@ -260,13 +310,13 @@ impl Kept {
     }
 }
 
-/// Whether one of the first entries covers this one.
-pub fn first_cover(entries: &[Entry], count: usize, e: &Entry) -> bool
+/// Whether one of the first entries covers this one. A mark tells most that don't.
+fn shorter_covers(entries: &[Entry], marks: &[Mark], count: usize, mark: &Mark, e: &Entry) -> bool
     ensures { result ≡ true → (env : Environment) → entry_denotes e.now env ≡ true →
         set_denotes entries.now env ≡ true }
 {
-    for i in 0..count.min(entries.len()) {
-        if entry_covers(&entries[i], e) {
+    for i in 0..count.min(entries.len()).min(marks.len()) {
+        if may_cover(&marks[i], mark) && entry_covers(&entries[i], e) {
             return true;
         }
     }
@@ -274,12 +324,16 @@ pub fn first_cover(entries: &[Entry], count: usize, e: &Entry) -> bool
 }
 
 /// Whether one of the entries with these numbers covers this one.
-fn some_covers(entries: &[Entry], numbers: &[usize], e: &Entry) -> bool
+fn some_covers(entries: &[Entry], marks: &[Mark], numbers: &[usize], mark: &Mark, e: &Entry) -> bool
     ensures { result ≡ true → (env : Environment) → entry_denotes e.now env ≡ true →
         set_denotes entries.now env ≡ true }
 {
     for i in numbers {
-        if *i < entries.len() && entry_covers(&entries[*i], e) {
+        if *i < entries.len()
+            && *i < marks.len()
+            && may_cover(&marks[*i], mark)
+            && entry_covers(&entries[*i], e)
+        {
             return true;
         }
     }

@@ -30,6 +30,30 @@ fn complement_of_pairs_stays_small(rt: HostRuntime) -> Result<(), Fail> {
     Ok(())
 }
 
+/// So many entries over x and y, and as many over y and z.
+fn around_y(alloc: Global, count: u32) -> Result<EnvSet, Fail> {
+    let mut all = pairs(alloc, count)?;
+    for k in 0..count {
+        let number = format!(in alloc; "{k}")?;
+        let pair = both(
+            alloc,
+            &is(alloc, "y", number.as_str())?,
+            &is(alloc, "z", number.as_str())?,
+        )?;
+        all = either(alloc, &all, &pair)?;
+    }
+    Ok(all)
+}
+
+#[test]
+fn complement_splits_on_what_most_entries_bound(rt: HostRuntime) -> Result<(), Fail> {
+    let alloc = rt.alloc();
+    let all = around_y(alloc, 10)?;
+    assert!(rt; size(&all) == 20);
+    assert!(rt; size(&other(alloc, &all)?) == 11);
+    Ok(())
+}
+
 #[test]
 fn join_drops_what_is_covered(rt: HostRuntime) -> Result<(), Fail> {
     let alloc = rt.alloc();
@@ -116,6 +140,47 @@ fn rest_of_two(alloc: Global) -> Result<EnvSet, Fail> {
     let one = is(alloc, "x", "1")?;
     let second = both(alloc, &one, &is(alloc, "y", "3")?)?;
     other(alloc, &either(alloc, &first, &second)?)
+}
+
+/// Entries that exclude a number of x and the same of another variable.
+fn excluded_twice(alloc: Global, name: &str, count: u32) -> Result<EnvSet, Fail> {
+    let mut all = EnvSet::none(alloc);
+    for k in 0..count {
+        let number = format!(in alloc; "{k}")?;
+        let pair = both(
+            alloc,
+            &excludes_one(alloc, "x", number.as_str())?,
+            &excludes_one(alloc, name, number.as_str())?,
+        )?;
+        all = either(alloc, &all, &pair)?;
+    }
+    Ok(all)
+}
+
+#[test]
+fn meet_drops_what_is_covered(rt: HostRuntime) -> Result<(), Fail> {
+    let alloc = rt.alloc();
+    let met = both(
+        alloc,
+        &excluded_twice(alloc, "y", 3)?,
+        &excluded_twice(alloc, "z", 3)?,
+    )?;
+    assert!(rt; measures(&met, 9, 33));
+    let first = excludes_two(alloc, "x", "1", "2")?;
+    let narrow = both(alloc, &first, &excludes_one(alloc, "y", "1")?)?;
+    let wide = both(
+        alloc,
+        &excludes_one(alloc, "x", "1")?,
+        &excludes_one(alloc, "y", "1")?,
+    )?;
+    assert!(rt; measures(&either(alloc, &narrow, &wide)?, 1, 2));
+    let fixed = both(
+        alloc,
+        &is(alloc, "x", "3")?,
+        &excludes_one(alloc, "y", "1")?,
+    )?;
+    assert!(rt; measures(&either(alloc, &fixed, &wide)?, 1, 2));
+    Ok(())
 }
 
 #[test]

@@ -1,14 +1,17 @@
 // A set for each subformula and node.
-ghost use Rattle.std.specs.Prelude.{◌≡◌, ◌<◌, ℕ, List, [], length, slice_index_or};
+ghost use Rattle.std.specs.Prelude.{◌≡◌, ◌<◌, ℕ, List, [], length, slice_index_or, IfOk};
 ghost use Rattle.env_sets.specs.States.{IsEven, set_at};
 
 use crate::sets::EnvSet;
+use c_terms::NoMemory;
+use smpl_terms::SharedList;
+use std::alloc::Global;
 use std::marker::Model;
 
-/// The sets of one subformula, by node.
+/// The sets of one subformula, by node. Copies share them.
 #[derive(Drop)]
 pub struct StateRow {
-    sets: Vec<EnvSet>,
+    sets: SharedList<EnvSet>,
 }
 
 impl Model for StateRow {
@@ -22,15 +25,24 @@ impl Model for StateRow {
 
     ghost coded = { Prim.hlevel (codes, tree.the_row.coded) };
 
-    ghost view = { λ a. a.sets.items };
+    ghost view = { λ a. a.sets };
 }
 
 impl StateRow {
-    /// The row of these sets. Takes no memory.
-    pub fn of(sets: Vec<EnvSet>) -> StateRow
-        ensures sets { result ≡ sets.items }
+    /// The row of these sets, which are moved.
+    pub fn of(alloc: Global, sets: Vec<EnvSet>) -> Result<StateRow, NoMemory>
+        ensures sets { IfOk result (λ r. r ≡ sets.items) }
     {
-        StateRow { sets }
+        let sets = SharedList::of(alloc, sets)?;
+        Ok(StateRow { sets })
+    }
+
+    /// An equal row, ids included. It shares the sets, and takes no memory.
+    pub fn copy(&self) -> Result<StateRow, NoMemory>
+        ensures same { IfOk result (λ r. r ≡ self.now) }
+    {
+        let sets = self.sets.share()?;
+        Ok(StateRow { sets })
     }
 
     /// The sets, by node. Takes no memory.

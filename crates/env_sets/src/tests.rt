@@ -168,6 +168,65 @@ fn sets_cross_threads(rt: HostRuntime) -> Result<(), Fail> {
     Ok(())
 }
 
+/// Lets the set go, and tells its size.
+fn last_size(a: EnvSet) -> usize {
+    size(&a)
+}
+
+#[test]
+fn shared_entries_are_let_go_in_two_threads(rt: HostRuntime) -> Result<(), Fail> {
+    let alloc = rt.alloc();
+    let one = excludes_two(alloc, "x", "1", "2")?;
+    let (first, second) = (copied(alloc, &one)?, copied(alloc, &one)?);
+    let (first, second) = thread::join(&rt, move || last_size(first), move || last_size(second));
+    assert!(rt; first == 1 && second == 1 && last_size(one) == 1);
+    Ok(())
+}
+
+fn are_same(a: &EnvSet, b: &EnvSet) -> bool {
+    same_set(a, b)
+}
+
+fn is_nothing(a: &EnvSet) -> bool {
+    a.is_none()
+}
+
+fn is_everything(a: &EnvSet) -> bool {
+    a.is_all()
+}
+
+#[test]
+fn sets_are_told_apart(rt: HostRuntime) -> Result<(), Fail> {
+    let alloc = rt.alloc();
+    let one = both(
+        alloc,
+        &is(alloc, "x", "1")?,
+        &excludes_two(alloc, "y", "1", "2")?,
+    )?;
+    let again = both(
+        alloc,
+        &excludes_two(alloc, "y", "1", "2")?,
+        &is(alloc, "x", "1")?,
+    )?;
+    let other_value = both(
+        alloc,
+        &is(alloc, "x", "2")?,
+        &excludes_two(alloc, "y", "1", "2")?,
+    )?;
+    let other_list = both(
+        alloc,
+        &is(alloc, "x", "1")?,
+        &excludes_two(alloc, "y", "1", "3")?,
+    )?;
+    assert!(rt; are_same(&one, &again) && are_same(&one, &copied(alloc, &one)?));
+    assert!(rt; !are_same(&one, &other_value) && !are_same(&one, &other_list));
+    assert!(rt; !are_same(&one, &is(alloc, "x", "1")?) && !are_same(&one, &EnvSet::none(alloc)));
+    assert!(rt; is_nothing(&EnvSet::none(alloc)) && !is_nothing(&one));
+    assert!(rt; is_everything(&everything(alloc)?) && !is_everything(&one));
+    assert!(rt; !is_everything(&EnvSet::none(alloc)));
+    Ok(())
+}
+
 #[test]
 fn sets_come_from_threads(rt: HostRuntime) -> Result<(), Fail> {
     let alloc = rt.alloc();
@@ -219,6 +278,7 @@ fn bounds_compare_values_but_for_ids(rt: HostRuntime) -> Result<(), Fail> {
     let alloc = rt.alloc();
     let two = terms(alloc, "1", "2")?;
     let all = all_of(alloc, &two, &terms(alloc, "2", "3")?)?;
+    assert!(rt; two.copy(alloc)?.rises() && all.rises() && !terms(alloc, "2", "1")?.rises());
     let not = excludes(alloc, two)?;
     assert!(rt; not.is_not());
     assert!(rt; admits(&not, &Value::Place(1)));
@@ -270,10 +330,10 @@ fn sizes_of_a_row(rt: &impl Threads, alloc: Global) -> Result<[usize; 3], Fail> 
     let mut sets = Vec::new(alloc);
     sets.push(EnvSet::none(alloc))?;
     sets.push(everything(alloc)?)?;
-    let row = StateRow::of(sets);
+    let row = StateRow::of(alloc, sets)?;
     let width = width(&row);
     let mut rows = Vec::new(alloc);
-    rows.push(row)?;
+    rows.push(row.copy()?)?;
     let states = StateSets::new(rows);
     let (first, second) = sizes_at(rt, &states);
     Ok([width, first, second])

@@ -61,7 +61,14 @@ impl Values {
         self.items.as_slice()
     }
 
-    /// An equal list, ids included. Linear.
+    /// Whether it is known that the values are in order, each once. Takes no memory.
+    pub fn rises(&self) -> bool
+        ensures rise { result ≡ true → Rise self.now }
+    {
+        self.rising
+    }
+
+    /// An equal list, ids included, which knows its order too. Linear in the values, whose trees are shared.
     pub fn copy(&self, alloc: Global) -> Result<Values, NoMemory>
         ensures same { IfOk result (λ r. r ≡ self.now) }
     {

@@ -8,20 +8,23 @@ use Rattle.env_sets.specs.Sets.{entry_denotes, set_denotes, set_vars}
 use Rattle.env_sets.specs.Splits.{size_of}
 use Rattle.env_sets.proofs.LoopLemmas.{any_step, any_at, or_true}
 use Rattle.env_sets.proofs.PartLemmas.{lone_end, part_smaller, part_is}
-use Rattle.env_sets.proofs.SplitLemmas.{is-split, other-split, restricted_vars, leads_vars, leads_size, leads_at, complement_step, complement_end, lone_var}
+use Rattle.env_sets.proofs.SplitLemmas.{is-split, other-split, restricted_vars, occurs_vars, occurs_size, occurs_at, complement_step, complement_end, lone_var}
 use Rattle.env_sets.proofs.complements.+outside.Goals as goal
 
-pub outside-outside_at-requires : goal.outside-outside_at-requires
-outside-outside_at-requires t c = (
-  omega (arith, c.decreases),
-  leads_at c.args.a.now c.first-item.result c.pair-item.result
+pub outside-split_var-requires : goal.outside-split_var-requires
+outside-split_var-requires t c = record {
+  first =
+      occurs_at c.args.a.now c.first-item.result c.pair-item.result
       (omega (arith, c.in-len1-up.len_at_least)) c.first-item.is
-      (omega (arith, ap length c.pairs.ensures.pairs, c.in-len1-up-pairs.len_at_least)) (c.pair-item.is ∙ ap (λ ps. get_or ps 0 c.pair-item.result) c.pairs.ensures.pairs),
-)
+      (omega (arith, ap length c.pairs.ensures.pairs, c.in-len1-up-pairs.len_at_least)) (c.pair-item.is ∙ ap (λ ps. get_or ps 0 c.pair-item.result) c.pairs.ensures.pairs);
+}
+
+pub outside-outside_at-requires : goal.outside-outside_at-requires
+outside-outside_at-requires t c = (omega (arith, c.decreases), c.in_ok-x-in-len1-up-pairs.ensures.occurs)
 
 pub outside_at-returns-then-is_empty-clause-vars : goal.outside_at-returns-then-is_empty-clause-vars
 outside_at-returns-then-is_empty-clause-vars t c = IfOk-weaker c.one_entry.result _ _ (λ r h test all.
-    ap (set_vars test) (h ∙ ap (λ e. e ∷ []) c.in_ok-one.ensures.pairs) ∙ lone_var (test c.args.x.now) (leads_vars c.args.x.now test c.args.a.now c.requires.leads all)) c.one_entry.ensures
+    ap (set_vars test) (h ∙ ap (λ e. e ∷ []) c.in_ok-one.ensures.pairs) ∙ lone_var (test c.args.x.now) (occurs_vars c.args.x.now test c.args.a.now c.requires.occurs all)) c.one_entry.ensures
 
 pub outside_at-returns-in-Some-clause-meaning : goal.outside_at-returns-in-Some-clause-meaning
 outside_at-returns-in-Some-clause-meaning t c = IfOk-weaker c.outside_lone.result _ _ (λ r h env.
@@ -39,7 +42,7 @@ outside_at-returns-in-Some-clause-meaning t c = IfOk-weaker c.outside_lone.resul
 
 pub outside_at-returns-in-Some-clause-vars : goal.outside_at-returns-in-Some-clause-vars
 outside_at-returns-in-Some-clause-vars t c = IfOk-weaker c.outside_lone.result _ _ (λ r h test all.
-    h test (leads_vars c.args.x.now test c.args.a.now c.requires.leads all)) c.outside_lone.ensures.vars
+    h test (occurs_vars c.args.x.now test c.args.a.now c.requires.occurs all)) c.outside_lone.ensures.vars
 
 pub split-outside-requires : goal.split-outside-requires
 split-outside-requires t c = (
@@ -47,14 +50,14 @@ split-outside-requires t c = (
     arith,
     c.decreases,
     part_smaller c.args.x.now c.as_slice-all.result.now c.args.a.now c.in_ok-parts.parts.items c.loop-i.i c.entries.result.now c.in_ok-parts.ensures c.loop-i-test.true
-        (c.entries.ensures ∙ c.index.ensures ∙ get_or_default c.in_ok-parts.parts.items c.loop-i.i c.index.result.now [] (omega (arith, c.in_ok-parts.ensures.0, c.loop-i-test.true))) c.requires.leads,
+        (c.entries.ensures ∙ c.index.ensures ∙ get_or_default c.in_ok-parts.parts.items c.loop-i.i c.index.result.now [] (omega (arith, c.in_ok-parts.ensures.0, c.loop-i-test.true))) c.requires.occurs,
   ),
   tt,
 )
 
 pub split-outside-requires-2 : goal.split-outside-requires-2
 split-outside-requires-2 t c =
-    (omega (arith, c.decreases, ap size_of (c.deref.ensures.value ∙ c.in_ok-other.ensures), leads_size c.args.x.now is_not c.args.a.now c.requires.leads), tt)
+    (omega (arith, c.decreases, ap size_of (c.deref.ensures.value ∙ c.in_ok-other.ensures), occurs_size c.args.x.now is_not c.args.a.now c.requires.occurs), tt)
 
 pub split-loop-i-preserved : goal.split-loop-i-preserved
 split-loop-i-preserved t c =
@@ -74,7 +77,7 @@ split-loop-i-preserved t c =
       vars = λ test all.
           c.in_ok-put_narrowed.ensures.vars test (c.loop-i.invariant.vars test all)
           (c.in_ok-rest.ensures.vars test (ap (set_vars test) is_part ∙ restricted_vars x (fits v) test c.args.a.now all))
-          (leads_vars x test c.args.a.now c.requires.leads all);
+          (occurs_vars x test c.args.a.now c.requires.occurs all);
     }
 
 pub split-returns-clause-meaning : goal.split-returns-clause-meaning
@@ -92,4 +95,4 @@ pub split-returns-clause-vars : goal.split-returns-clause-vars
 split-returns-clause-vars t c = λ test all.
     c.in_ok-put_narrowed-2.ensures.vars test (c.loop-i.invariant.vars test all)
     (c.in_ok-rest-2.ensures.vars test (ap (set_vars test) (c.deref.ensures.value ∙ c.in_ok-other.ensures) ∙ restricted_vars c.args.x.now is_not test c.args.a.now all))
-    (leads_vars c.args.x.now test c.args.a.now c.requires.leads all)
+    (occurs_vars c.args.x.now test c.args.a.now c.requires.occurs all)

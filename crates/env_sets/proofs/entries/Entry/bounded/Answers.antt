@@ -7,8 +7,8 @@ use Rattle.env_sets.specs.Bounds.{fits}
 use Rattle.env_sets.specs.Sets.{entry_denotes, entry_vars}
 use Rattle.env_sets.proofs.LoopLemmas.{all_fails_at_both}
 use Rattle.env_sets.proofs.PairLemmas.{insert_meaning, insert_vars, set_meaning, set_vars_kept, one_place}
-use Rattle.env_sets.proofs.entries.Entry.narrowed.Goals as goal
-use Rattle.env_sets.proofs.entries.Entry.narrowed.Goals.{else-at-len-via-then-at-len+else-same_var, else-at-len-via-else-at-len}
+use Rattle.env_sets.proofs.entries.Entry.bounded.Goals as goal
+use Rattle.env_sets.proofs.entries.Entry.bounded.Goals.{else-at-len-via-then-at-len+else-same_var, else-at-len-via-else-at-len}
 
 pub of-requires : goal.of-requires
 of-requires c =
@@ -22,18 +22,20 @@ pub of-requires-else-at-len : goal.of-requires-else-at-len
 of-requires-else-at-len c =
     let at : c.place-at.result ≡ place_of c.in_ok-x.x c.in_ok-pairs.pairs.items =
     c.place-at.ensures ∙ (λ i. place_of (sym c.in_ok-x.ensures.same i) (c.deref.ensures.value i)) in
-    record { rising = subst Rising (sym c.in_ok-insert.ensures.items)
-    (elim c.else-at-len.branch [
-      | else-at-len-via-then-at-len+else-same_var w ↦
-          Rising-insert_at c.in_ok-x.x c.in_ok-copy.field-0 w.index.result.now c.in_ok-pairs.pairs.items c.place-at.result at (subst Rising (sym c.in_ok-pairs.ensures.pairs) c.into_vec.ensures.rising)
-          (λ lt e. false≢true (
-          sym (sym w.same_var.ensures.value ∙ w.if-same_var.false)
-          ∙ ap (same_var w.index.result.now.0) (sym c.in_ok-x.ensures.same)
-          ∙ var_order-same w.index.result.now.0 c.in_ok-x.x (ap (λ p. var_order p.0 c.in_ok-x.x) w.index.ensures ∙ e)))
-      | else-at-len-via-else-at-len w ↦
-          Rising-insert_at c.in_ok-x.x c.in_ok-copy.field-0 (c.in_ok-x.x, c.in_ok-copy.field-0) c.in_ok-pairs.pairs.items c.place-at.result at (subst Rising (sym c.in_ok-pairs.ensures.pairs) c.into_vec.ensures.rising)
-          (λ lt e. absurd (omega arith))
-    ]) }
+    record {
+      rising = subst Rising (sym c.in_ok-insert.ensures.items)
+          (elim c.else-at-len.branch [
+            | else-at-len-via-then-at-len+else-same_var w ↦
+                Rising-insert_at c.in_ok-x.x c.in_ok-copy.field-0 w.index.result.now c.in_ok-pairs.pairs.items c.place-at.result at (subst Rising (sym c.in_ok-pairs.ensures.pairs) c.into_vec.ensures.rising)
+                (λ lt e. false≢true (
+                sym (sym w.same_var.ensures.value ∙ w.if-same_var.false)
+                ∙ ap (same_var w.index.result.now.0) (sym c.in_ok-x.ensures.same)
+                ∙ var_order-same w.index.result.now.0 c.in_ok-x.x (ap (λ p. var_order p.0 c.in_ok-x.x) w.index.ensures ∙ e)))
+            | else-at-len-via-else-at-len w ↦
+                Rising-insert_at c.in_ok-x.x c.in_ok-copy.field-0 (c.in_ok-x.x, c.in_ok-copy.field-0) c.in_ok-pairs.pairs.items c.place-at.result at (subst Rising (sym c.in_ok-pairs.ensures.pairs) c.into_vec.ensures.rising)
+                (λ lt e. absurd (omega arith))
+          ]);
+    }
 
 pub returns-in-None-clause-meaning : goal.returns-in-None-clause-meaning
 returns-in-None-clause-meaning c = λ env.

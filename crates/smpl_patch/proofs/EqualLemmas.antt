@@ -1,0 +1,17 @@
+-- Tokens of one id that are the same are equal.
+use Rattle.std.proofs.Common.{◌≡◌, true, arith}
+use Rattle.std.proofs.lemmas.Bool.Decides.{nat_tests}
+use Rattle.std.proofs.lemmas.Grind.{common_steps}
+use Rattle.c_terms.specs.declared.token.Token.{Token}
+use Rattle.c_terms.specs.Numbers.{kind_number}
+use Rattle.c_terms.specs.Same.{same_token, same_bytes}
+use Rattle.c_terms.proofs.NumberLaws.{kind_number-injective}
+use Rattle.c_terms.proofs.BareLaws.{same_bytes-equal}
+
+pub token-equal : (a b : Token) → a.id ≡ b.id → same_token a b ≡ true → a ≡ b
+token-equal a b i h =
+    let n : kind_number a.kind ≡ kind_number b.kind = grind (arith, nat_tests, common_steps) in
+    let t : same_bytes a.text b.text ≡ true = grind (arith, common_steps) in
+    let k = kind_number-injective a.kind b.kind n in
+    let e = same_bytes-equal a.text b.text t in
+    λ j. record { kind = k j; text = e j; id = i j }

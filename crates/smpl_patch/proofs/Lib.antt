@@ -1,0 +1,4 @@
+pub mod SureLemmas
+pub mod BodyLemmas
+pub mod EqualLemmas
+pub mod FaultLemmas

@@ -1,0 +1,168 @@
+// What is asked of a pattern and a variable goes over the parts that are compared at a node.
+ghost use Rattle.std.specs.Prelude.{◌≡◌, ◌&&◌, length};
+ghost use Rattle.std.specs.List.{list_any};
+ghost use Rattle.smpl_patch.specs.Held as parts;
+ghost use Rattle.smpl_patch.specs.Patterns as of;
+
+use crate::reading::{stands_in, used_in};
+use crate::sure::is_sure_in;
+use crate::{PatToken, Pattern, Spot, VarDecl};
+use c_terms::{Label, Tree};
+use smpl_terms::Var;
+
+/// What is asked of a variable and a tree.
+#[derive(Clone, Copy, Debug, PartialEq, Eq)]
+pub(crate) enum Question {
+    /// Whether it stands there.
+    Stands,
+    /// Whether it stands there or in plus code that is anchored there.
+    Used,
+    /// Whether it has a value wherever the tree fits.
+    Sure,
+}
+
+fn is_parted(spot: Spot, label: Label) -> bool
+    ensures { result ≡ parts.is_parted spot label }
+{
+    match spot {
+        Spot::Whole => label.is_head(),
+        Spot::Tail => true,
+        Spot::Inside => false,
+    }
+}
+
+/// Whether child `i` of `n` children of a form of this label is compared at the spot: of a head and of the tail of `do`
+/// only what is their own. Takes no memory.
+pub fn is_held(spot: Spot, label: Label, n: usize, i: usize) -> bool
+    ensures value { result ≡ parts.is_held spot label n i }
+{
+    match spot {
+        Spot::Whole => !label.is_body(n, i) && !label.is_tail(i),
+        Spot::Tail => label.is_tail(i),
+        Spot::Inside => true,
+    }
+}
+
+fn answer(question: Question, decls: &[VarDecl], tokens: &[PatToken], x: &Var, tree: &Tree) -> bool
+    ensures { result ≡ of.answer decls.now tokens.now question x.now tree.now }
+{
+    match question {
+        Question::Stands => stands_in(decls, tokens, x, tree),
+        Question::Used => used_in(decls, tokens, x, tree),
+        Question::Sure => is_sure_in(decls, tokens, x, tree),
+    }
+}
+
+fn answer_where(
+    here: bool,
+    question: Question,
+    decls: &[VarDecl],
+    tokens: &[PatToken],
+    x: &Var,
+    tree: &Tree,
+) -> bool
+    ensures { result ≡ (here && of.answer decls.now tokens.now question x.now tree.now) }
+{
+    here && answer(question, decls, tokens, x, tree)
+}
+
+fn kept_answer(
+    question: Question,
+    decls: &[VarDecl],
+    tokens: &[PatToken],
+    spot: Spot,
+    label: Label,
+    x: &Var,
+    trees: &[Tree],
+) -> bool
+    ensures { result ≡ list_any (of.answer decls.now tokens.now question x.now) (parts.kept (parts.is_held spot label (length trees.now)) 0 trees.now) }
+{
+    for i in 0..trees.len() {
+        let here = is_held(spot, label, trees.len(), i);
+        if answer_where(here, question, decls, tokens, x, &trees[i]) {
+            return true;
+        }
+    }
+    false
+}
+
+fn held_answer(
+    question: Question,
+    decls: &[VarDecl],
+    tokens: &[PatToken],
+    spot: Spot,
+    x: &Var,
+    form: &Tree,
+) -> bool
+    ensures { result ≡ of.held_answer decls.now tokens.now question spot x.now form.now }
+{
+    match form {
+        Tree::Leaf(_) => answer(question, decls, tokens, x, form),
+        Tree::Branch(label, children) => {
+            if is_parted(spot, *label) {
+                kept_answer(
+                    question,
+                    decls,
+                    tokens,
+                    spot,
+                    *label,
+                    x,
+                    children.as_slice(),
+                )
+            } else {
+                answer(question, decls, tokens, x, form)
+            }
+        }
+    }
+}
+
+fn of_first(
+    question: Question,
+    decls: &[VarDecl],
+    tokens: &[PatToken],
+    p: &Pattern,
+    x: &Var,
+) -> bool
+    ensures { result ≡ of.of_first decls.now tokens.now question p.now x.now }
+{
+    match p.forms.as_slice() {
+        [form, ..] => held_answer(question, decls, tokens, p.spot, x, form),
+        [] => false,
+    }
+}
+
+/// Whether the variable stands in what is compared of the pattern's first form. Takes no memory. Recurses once a level.
+pub fn stands(decls: &[VarDecl], tokens: &[PatToken], p: &Pattern, x: &Var) -> bool
+    ensures value { result ≡ of.stands decls.now tokens.now p.now x.now }
+{
+    of_first(Question::Stands, decls, tokens, p, x)
+}
+
+/// The same, or in plus code that is anchored there. Takes no memory. Recurses once a level.
+pub fn used(decls: &[VarDecl], tokens: &[PatToken], p: &Pattern, x: &Var) -> bool
+    ensures value { result ≡ of.used decls.now tokens.now p.now x.now }
+{
+    of_first(Question::Used, decls, tokens, p, x)
+}
+
+/// Whether the variable is a sure variable of what is compared of the pattern's first form: it has a value wherever that
+/// fits. Takes no memory. Recurses once a level.
+pub fn is_sure(decls: &[VarDecl], tokens: &[PatToken], p: &Pattern, x: &Var) -> bool
+    ensures value { result ≡ of.sure decls.now tokens.now p.now x.now }
+{
+    of_first(Question::Sure, decls, tokens, p, x)
+}
+
+/// Whether the variable is a sure variable of what is compared of the form at the spot. Takes no memory. Recurses once a
+/// level.
+pub fn is_held_sure(
+    decls: &[VarDecl],
+    tokens: &[PatToken],
+    spot: Spot,
+    x: &Var,
+    form: &Tree,
+) -> bool
+    ensures value { result ≡ of.held_sure decls.now tokens.now spot x.now form.now }
+{
+    held_answer(Question::Sure, decls, tokens, spot, x, form)
+}

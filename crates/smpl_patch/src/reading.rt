@@ -1,0 +1,177 @@
+// What is read off a pattern.
+ghost use Rattle.std.specs.Prelude.{◌≡◌, ◌||◌, slice_get};
+ghost use Rattle.std.specs.List.{list_any, list_all};
+ghost use Rattle.std.specs.Option.{option_copied};
+ghost use Rattle.c_terms.specs.Trees.{leaves};
+ghost use Rattle.c_terms.specs.declared.tree.Tree.{out-Tree};
+ghost use Rattle.smpl_terms.specs.Vars.{same_var};
+ghost use Rattle.smpl_patch.specs.Patterns as of;
+
+use crate::{PatToken, Pattern, PlusBlock, PlusLine, VarDecl, VarKind};
+use c_terms::{MetaKind, Token, TokenKind, Tree, same_text};
+use smpl_terms::{Var, same_var};
+
+fn is_position_kind(kind: VarKind) -> bool
+    ensures { result ≡ of.is_position_kind kind }
+{
+    match kind {
+        VarKind::Position => true,
+        VarKind::Meta(_) => false,
+    }
+}
+
+/// What a metavariable of this name is declared as. Takes no memory.
+pub fn declared_as<'a>(decls: &'a [VarDecl], name: &[u8]) -> Option<&'a VarDecl>
+    ensures value { option_copied result ≡ of.declared_as decls.now name.now }
+{
+    for d in decls {
+        if !is_position_kind(d.kind) && same_text(d.var.name.as_bytes(), name) {
+            return Some(d);
+        }
+    }
+    None
+}
+
+/// Whether the variable is one of these. Takes no memory.
+pub fn has_var(vars: &[Var], x: &Var) -> bool
+    ensures value { result ≡ list_any (λ y. same_var y x.now) vars.now }
+{
+    for y in vars {
+        if same_var(y, x) {
+            return true;
+        }
+    }
+    false
+}
+
+fn is_meta_of(decls: &[VarDecl], token: &Token, x: &Var) -> bool
+    ensures { result ≡ of.is_meta_of decls.now token.now token.now.kind x.now }
+{
+    match token.kind {
+        TokenKind::Meta(_) => match declared_as(decls, token.text.as_bytes()) {
+            Some(d) => same_var(&d.var, x),
+            None => false,
+        },
+        _ => false,
+    }
+}
+
+fn is_position_of(tokens: &[PatToken], id: u64, x: &Var) -> bool
+    ensures { result ≡ of.is_position_of (slice_get tokens.now id) x.now }
+{
+    match tokens.get(id as usize) {
+        Some(p) => has_var(p.positions.as_slice(), x),
+        None => false,
+    }
+}
+
+/// Whether the variable is the token's, or a position at it. Takes no memory.
+pub fn is_own(decls: &[VarDecl], tokens: &[PatToken], x: &Var, token: &Token) -> bool
+    ensures value { result ≡ of.is_own decls.now tokens.now x.now token.now }
+{
+    is_meta_of(decls, token, x) || is_position_of(tokens, token.id, x)
+}
+
+/// Whether the variable is that of one of the tree's tokens, or a position at one.
+pub(crate) fn stands_in(decls: &[VarDecl], tokens: &[PatToken], x: &Var, tree: &Tree) -> bool
+    ensures { result ≡ of.stands_in decls.now tokens.now x.now tree.now }
+{
+    match tree {
+        Tree::Leaf(token) => is_own(decls, tokens, x, token),
+        Tree::Branch(_, children) => {
+            for child in children.as_slice() {
+                if stands_in(decls, tokens, x, child) {
+                    return true;
+                }
+            }
+            false
+        }
+    }
+}
+
+fn in_line(decls: &[VarDecl], x: &Var, line: &PlusLine) -> bool
+    ensures { result ≡ of.in_line decls.now x.now line.now }
+{
+    for token in line.tokens.as_slice() {
+        if is_meta_of(decls, token, x) {
+            return true;
+        }
+    }
+    false
+}
+
+fn in_block(decls: &[VarDecl], x: &Var, block: &Option<PlusBlock>) -> bool
+    ensures { result ≡ of.in_block decls.now x.now block.now }
+{
+    match block {
+        None => false,
+        Some(b) => {
+            for line in b.lines.as_slice() {
+                if in_line(decls, x, line) {
+                    return true;
+                }
+            }
+            false
+        }
+    }
+}
+
+fn in_plus(decls: &[VarDecl], tokens: &[PatToken], id: u64, x: &Var) -> bool
+    ensures { result ≡ of.in_plus decls.now (slice_get tokens.now id) x.now }
+{
+    match tokens.get(id as usize) {
+        None => false,
+        Some(p) => in_block(decls, x, &p.before) || in_block(decls, x, &p.after),
+    }
+}
+
+fn is_at(decls: &[VarDecl], tokens: &[PatToken], x: &Var, token: &Token) -> bool
+    ensures { result ≡ (of.is_own decls.now tokens.now x.now token.now || of.in_plus decls.now (slice_get tokens.now token.now.id) x.now) }
+{
+    is_own(decls, tokens, x, token) || in_plus(decls, tokens, token.id, x)
+}
+
+/// The same, plus code that is anchored at the tokens included.
+pub(crate) fn used_in(decls: &[VarDecl], tokens: &[PatToken], x: &Var, tree: &Tree) -> bool
+    ensures { result ≡ of.used_in decls.now tokens.now x.now tree.now }
+{
+    match tree {
+        Tree::Leaf(token) => is_at(decls, tokens, x, token),
+        Tree::Branch(_, children) => {
+            for child in children.as_slice() {
+                if used_in(decls, tokens, x, child) {
+                    return true;
+                }
+            }
+            false
+        }
+    }
+}
+
+fn is_statement_kind(kind: TokenKind) -> bool
+    ensures { result ≡ of.is_statement_token kind }
+{
+    match kind {
+        TokenKind::Meta(MetaKind::Stmt) => true,
+        _ => false,
+    }
+}
+
+fn is_statement_tree(tree: &Tree) -> bool
+    ensures { result ≡ of.is_statement_tree (out-Tree tree.now) }
+{
+    match tree {
+        Tree::Leaf(token) => is_statement_kind(token.kind),
+        Tree::Branch(_, _) => false,
+    }
+}
+
+/// Whether the atom is a statement variable. Takes no memory.
+pub fn is_statement(p: &Pattern) -> bool
+    ensures value { result ≡ of.is_statement p.now }
+{
+    match p.forms.as_slice() {
+        [form, ..] => is_statement_tree(form),
+        [] => false,
+    }
+}

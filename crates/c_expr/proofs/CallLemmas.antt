@@ -57,14 +57,14 @@ module _ (most : ℕ) where
   pub child_refused : (k : Kind) (ps : Row) (xs : List Seen) (before : List Tree) → IsTrue (row_fine (symbol.Child k ∷ ps)) → NoTreeAt most k xs → Refuses most (place (symbol.Child k ∷ ps) xs before)
   child_refused k ps xs before ok none = refuses_child most k ps xs before (fine_ok (symbol.Child k ∷ ps) ok) none
 
-pub word_smaller : (w : Word) (ps : Row) (xs : List Seen) → 1 ≤ length xs → 2 * length (take (length xs - 1) (drop 1 xs)) + weight ps < 2 * length xs + weight (symbol.Word w ∷ ps)
+pub word_smaller : (w : Word) (ps : Row) (xs : List Seen) → 1 ≤ length xs → 3 * length (take (length xs - 1) (drop 1 xs)) + weight ps < 3 * length xs + weight (symbol.Word w ∷ ps)
 word_smaller w ps [] le = absurd (omega arith)
 word_smaller w ps (x ∷ xs) le = omega (arith, ap (λ (zs : List Seen). length zs) (tail_slice x xs), weight-small ps)
 
-pub child_smaller : (k : Kind) (ps : Row) (xs zs : List Seen) (t : Tree) → IsTrue (row_fine (symbol.Child k ∷ ps)) → Spells k xs t zs → 2 * length zs + weight ps < 2 * length xs + weight (symbol.Child k ∷ ps)
+pub child_smaller : (k : Kind) (ps : Row) (xs zs : List Seen) (t : Tree) → IsTrue (row_fine (symbol.Child k ∷ ps)) → Spells k xs t zs → 3 * length zs + weight ps < 3 * length xs + weight (symbol.Child k ∷ ps)
 child_smaller k ps xs zs t ok d = smaller-child k ps xs zs (fine_steady (symbol.Child k ∷ ps) ok) (spells_shorter d)
 
-pub member_smaller : (k : Kind) (ps : Row) (xs zs : List Seen) (t : Tree) → k ≡ member_kind (front_typed xs) → Spells k xs t zs → 2 * length zs + weight ps < 2 * length xs + weight (symbol.Argument ∷ ps)
+pub member_smaller : (k : Kind) (ps : Row) (xs zs : List Seen) (t : Tree) → k ≡ member_kind (front_typed xs) → Spells k xs t zs → 3 * length zs + weight ps < 3 * length xs + weight (symbol.Argument ∷ ps)
 member_smaller k ps xs zs t same d =
     let e : Spells (member_kind (front_typed xs)) xs t zs = subst (λ (j : Kind). Spells j xs t zs) same d in
     smaller-argument ps xs zs (omega (arith, spells_shorter e, member_full (front_typed xs)))
@@ -73,5 +73,5 @@ member_smaller k ps xs zs t same d =
 pub chosen_fine : (f : Fork) (c : Class) (r : Row) → choose f c ≡ Some r → IsTrue (row_fine r)
 chosen_fine f c r e = let w = chosen_way f c r e in way_fine f w.0 r w.1
 
-pub chosen_smaller : (f : Fork) (c : Class) (ps r : Row) (n : ℕ) → choose f c ≡ Some r → 2 * n + weight r < 2 * n + weight (symbol.Fork f ∷ ps)
+pub chosen_smaller : (f : Fork) (c : Class) (ps r : Row) (n : ℕ) → choose f c ≡ Some r → 3 * n + weight r < 3 * n + weight (symbol.Fork f ∷ ps)
 chosen_smaller f c ps r n e = let w = chosen_way f c r e in omega (arith, weight_way f w.0 r w.1)

@@ -1,6 +1,6 @@
 -- The loop over a tree that grows to the right.
 use Rattle.std.proofs.Common.{◌≡◌, ℕ, ◌≤◌, ◌<◌, List, [], ◌∷◌, length, refl, subst, ap, sym, ◌∙◌, arith}
-use Rattle.std.specs.Prelude.{Bool, true, false, not, IsTrue, Option, Some, None, if◌then◌else◌, nat_le}
+use Rattle.std.specs.Prelude.{Bool, true, false, not, ◌&&◌, IsTrue, Option, Some, None, if◌then◌else◌, nat_le}
 use Rattle.std.proofs.lemmas.Bool.Decides.{nat_tests}
 use Rattle.c_terms.specs.declared.tree.Tree.{Tree}
 use Rattle.c_terms.specs.Trees.{levels}
@@ -12,7 +12,7 @@ use Rattle.c_rows.specs.declared.rule.Rule.{Rule}
 use Rattle.c_rows.specs.declared.kind.Family.{Family}
 use Rattle.c_rows.specs.declared.kind.Family.TheVariants as family
 use Rattle.c_rows.specs.declared.symbol.Symbol.TheVariants as symbol
-use Rattle.c_rows.specs.Kinds.{family_of, same_family, within, has_leaf, rank}
+use Rattle.c_rows.specs.Kinds.{family_of, same_family, within, has_leaf, rank, side}
 use Rattle.c_rows.specs.Rows.{Row, row}
 use Rattle.c_rows.specs.Branches.{kind_of, build, allows}
 use Rattle.c_rows.specs.Choice.{after, quiet, stops, opens, tail, left, own}
@@ -35,15 +35,18 @@ le_refl : (n : ℕ) → IsTrue (nat_le n n)
 le_refl n = grind (arith, nat_tests)
 
 pub within_refl : (k : Kind) → IsTrue (within k k)
-within_refl k = both (same_family (family_of k) (family_of k)) (nat_le (rank k) (rank k)) (same_refl (family_of k)) (le_refl (rank k))
+within_refl k =
+    both (same_family (family_of k) (family_of k) && nat_le (rank k) (rank k)) (nat_le (side k) (side k))
+    (both (same_family (family_of k) (family_of k)) (nat_le (rank k) (rank k)) (same_refl (family_of k)) (le_refl (rank k))) (le_refl (side k))
+
+not_back : (a b : Bool) → (IsTrue a → IsTrue b) → IsTrue (not b) → IsTrue (not a)
+not_back true true f n = n
+not_back true false f n = f refl
+not_back false b f n = refl
 
 quiet_mono : (k m : Kind) (o : Option Rule) → IsTrue (within k m) → IsTrue (quiet m o) → IsTrue (quiet k o)
 quiet_mono k m None w h = refl
 quiet_mono k m (Some r) w h = not_back (within (kind_of r) k) (within (kind_of r) m) (λ v. within_trans (kind_of r) k m v w) h
-  where
-    not_back : (a b : Bool) → (IsTrue a → IsTrue b) → IsTrue (not b) → IsTrue (not a)
-    not_back true b f n = let yes : b ≡ true = f refl in let never : ⊥ = cc in absurd never
-    not_back false b f n = refl
 
 pub stops_mono : (k m : Kind) (c : Class) → IsTrue (within k m) → IsTrue (stops m c) → IsTrue (stops k c)
 stops_mono k m c w s =
@@ -76,7 +79,7 @@ next_inv m q o r e =
     let k = kind_inv m o r t.0 in
     (k.0, k.1, t.1)
 
-next_of : (m : Kind) (q : Root) (r : Rule) → IsTrue (within (kind_of r) m) → IsTrue (takes (family_of m) (left r) q) → next_rule m q (Some r) ≡ Some r
+pub next_of : (m : Kind) (q : Root) (r : Rule) → IsTrue (within (kind_of r) m) → IsTrue (takes (family_of m) (left r) q) → next_rule m q (Some r) ≡ Some r
 next_of m q r w t = ap (taking (family_of m) q) (kind_held m r w) ∙ taking_of (family_of m) q r t
 
 some_left : (f : Family) (q : Root) (o : Option Kind) → IsTrue (takes f o q) → (l : Kind) × (o ≡ Some l) × IsTrue (within (root_kind f q) l)
@@ -97,12 +100,12 @@ led_need (symbol.Child k ∷ ps) h = let never : ⊥ = cc in absurd never
 led_need (symbol.Argument ∷ ps) h = let never : ⊥ = cc in absurd never
 led_need (symbol.Fork f ∷ ps) h = let never : ⊥ = cc in absurd never
 
-word_opens : {ps : Row} {xs ys : List Seen} {cs : List Tree} → Runs ps xs cs ys → IsTrue (word_led ps) → IsTrue (opens ps (front xs))
+pub word_opens : {ps : Row} {xs ys : List Seen} {cs : List Tree} → Runs ps xs cs ys → IsTrue (word_led ps) → IsTrue (opens ps (front xs))
 word_opens done h = refl
 word_opens (word f rest) h = f
 word_opens (child d rest) h = let never : ⊥ = cc in absurd never
 word_opens (argument d rest) h = let never : ⊥ = cc in absurd never
-word_opens (fork i w way) h = let never : ⊥ = cc in absurd never
+word_opens (fork i w v way) h = let never : ⊥ = cc in absurd never
 
 pub lift : {k m : Kind} {xs ys : List Seen} {t : Tree} → IsTrue (within k m) → Spells k xs t ys → Spells m xs t ys
 lift {k} {m} w (leaf {s = s} {ys = ys} h) = leaf (subst (λ (f : Family). IsTrue (has_leaf f s.class)) (within_family k m w) h)
@@ -137,7 +140,7 @@ operand_sound : {m : Kind} {q : Root} {xs ys : List Seen} {t : Tree} → Operand
 operand_sound {m} (token {s = s} {ys = ys} h) = leaf (subst (λ (f : Family). IsTrue (has_leaf f s.class)) (sym (family_bottom (family_of m))) h)
 operand_sound (headed {xs = xs} {ys = ys} {cs = cs} r v e b al runs) = branch r (within_refl (kind_of r)) b al (subst (λ (ps : Row). Runs ps xs cs ys) (own_head r e) runs)
 
-operand_within : {m : Kind} {q : Root} {xs ys : List Seen} {t : Tree} → Operand m q xs t ys → IsTrue (within (root_kind (family_of m) q) m)
+pub operand_within : {m : Kind} {q : Root} {xs ys : List Seen} {t : Tree} → Operand m q xs t ys → IsTrue (within (root_kind (family_of m) q) m)
 operand_within {m} (token h) = bottom_within m
 operand_within (headed r v e b al runs) = v
 

@@ -7,3 +7,5 @@ mod OperandLemmas
 mod SightLemmas
 mod DepthLemmas
 mod RangeLemmas
+mod OneTree
+mod RangeTree

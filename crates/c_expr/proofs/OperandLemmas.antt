@@ -38,15 +38,15 @@ leaf_operand m (x ∷ xs) s u h le g e =
     subst (λ (v : Token). Operand m None (x ∷ xs) (tree.Leaf v) (take (length (x ∷ xs) - 1) (drop 1 (x ∷ xs)))) (sym (e ∙ ap (λ (y : Seen). y.token) g))
     (subst (λ (zs : List Seen). Operand m None (x ∷ xs) (tree.Leaf x.token) zs) (sym (tail_slice x xs)) (token h))
 
-head_first : {xs zs : List Seen} {cs : List Tree} (r : Rule) → left r ≡ None → IsTrue (begins r (front xs)) → Runs (own r) xs cs zs → IsTrue (ends (own r) (front zs)) → IsTrue (opens (row r) (front xs))
+pub head_first : {xs zs : List Seen} {cs : List Tree} (r : Rule) → left r ≡ None → IsTrue (begins r (front xs)) → Runs (own r) xs cs zs → IsTrue (ends (own r) (front zs)) → IsTrue (opens (row r) (front xs))
 head_first {xs} {zs} {cs} r e b runs end =
     subst (λ (ps : Row). IsTrue (opens ps (front xs))) (own_head r e) (runs_first runs (row_joins (own r) (own_ok r)) (ends_closes (own r) (front zs) end))
 
-head_here : (m : Kind) {xs zs : List Seen} {cs : List Tree} (r : Rule) → IsTrue (within (kind_of r) m) → left r ≡ None → IsTrue (begins r (front xs)) → Runs (own r) xs cs zs → IsTrue (ends (own r) (front zs))
+pub head_here : (m : Kind) {xs zs : List Seen} {cs : List Tree} (r : Rule) → IsTrue (within (kind_of r) m) → left r ≡ None → IsTrue (begins r (front xs)) → Runs (own r) xs cs zs → IsTrue (ends (own r) (front zs))
     → head (family_of m) (front xs) ≡ Some r
 head_here m {xs} r v e b runs end = subst (λ (f : Family). head f (front xs) ≡ Some r) (within_family (kind_of r) m v) (head_is r (front xs) e b (head_first r e b runs end))
 
-leaf_never : (m : Kind) {xs zs : List Seen} {cs : List Tree} (r : Rule) → IsTrue (within (kind_of r) m) → left r ≡ None → IsTrue (begins r (front xs)) → Runs (own r) xs cs zs → IsTrue (ends (own r) (front zs))
+pub leaf_never : (m : Kind) {xs zs : List Seen} {cs : List Tree} (r : Rule) → IsTrue (within (kind_of r) m) → left r ≡ None → IsTrue (begins r (front xs)) → Runs (own r) xs cs zs → IsTrue (ends (own r) (front zs))
     → IsTrue (has_leaf (family_of m) (front xs)) → ⊥
 leaf_never m {xs} r v e b runs end h =
     let f : has_leaf (family_of m) (front xs) ≡ false = subst (λ (f : Family). has_leaf f (front xs) ≡ false) (within_family (kind_of r) m v) (head_no_leaf r (front xs) e b (head_first r e b runs end)) in
@@ -128,7 +128,7 @@ no_levels most m xs z f p w zs o end le = no_level most m xs z f o le
 
 -- ---- growth
 
-less_more : (r : Rule) (t : Tree) (ds : List Tree) (most : ℕ) → levels (build r (t ∷ ds)) ≤ most → levels_of_all ds ≤ most - 1
+pub less_more : (r : Rule) (t : Tree) (ds : List Tree) (most : ℕ) → levels (build r (t ∷ ds)) ≤ most → levels_of_all ds ≤ most - 1
 less_more r t ds most le = omega (arith, levels-build r (t ∷ ds))
 
 pub grown_by : (most : ℕ) (r : Rule) (t : Tree) (xs ys : List Seen) (before all : List Tree) → before ≡ t ∷ [] → IsTrue (allows r all) → RunsTo (most - 1) (own r) xs before all ys

@@ -17,10 +17,10 @@ use Rattle.c_rows.specs.Seen.{Seen, front, front_typed}
 use Rattle.c_rows.specs.Spells.{Spells, Runs, done, word, child, argument, fork, member_kind}
 use Rattle.c_rows.specs.Words.{ends_member}
 use Rattle.c_expr.specs.Steps.{Place, place, Leads, Refuses, OnlyTree, NoTreeAt, RunsTo, OnlyRun}
-use Rattle.c_rows.proofs.Checks.{and_left, and_right, modus, every_at, closes, joins, joins_at, member_at, member_stops, way_ends, chosen_way, both, implies_both, every_from}
+use Rattle.c_rows.proofs.Checks.{and_left, and_right, modus, every_at, closes, joins, joins_at, member_at, member_stops, way_ends, chosen_way, chosen_may, both, implies_both, every_from}
 use Rattle.c_rows.proofs.FirstLemmas.{runs_first, way_here}
 
-stay : (xs : List Tree) (t : Tree) (cs : List Tree) → (xs ++ t ∷ []) ++ cs ≡ xs ++ t ∷ cs
+pub stay : (xs : List Tree) (t : Tree) (cs : List Tree) → (xs ++ t ∷ []) ++ cs ≡ xs ++ t ∷ cs
 stay xs t cs = append_assoc xs (t ∷ []) cs
 
 abbrev meets : Kind → Row → Class → Bool
@@ -56,10 +56,10 @@ ends_closes (symbol.Argument ∷ []) c e = e
 ends_closes (symbol.Argument ∷ p ∷ ps) c e = ends_closes (p ∷ ps) c e
 ends_closes (symbol.Fork f ∷ ps) c e = e
 
-levels-first : (t : Tree) (cs : List Tree) (n : ℕ) → levels_of_all (t ∷ cs) ≤ n → levels t ≤ n
+pub levels-first : (t : Tree) (cs : List Tree) (n : ℕ) → levels_of_all (t ∷ cs) ≤ n → levels t ≤ n
 levels-first t cs n h = omega arith
 
-levels-rest : (t : Tree) (cs : List Tree) (n : ℕ) → levels_of_all (t ∷ cs) ≤ n → levels_of_all cs ≤ n
+pub levels-rest : (t : Tree) (cs : List Tree) (n : ℕ) → levels_of_all (t ∷ cs) ≤ n → levels_of_all cs ≤ n
 levels-rest t cs n h = omega arith
 
 module _ (most : ℕ) where
@@ -103,14 +103,14 @@ module _ (most : ℕ) where
 
   -- ---- a tree
 
-  stops_before : (k : Kind) (ps : Row) {xs ys : List Seen} {cs : List Tree} → Runs ps xs cs ys → IsTrue (row_ok (symbol.Child k ∷ ps)) → IsTrue (ends (symbol.Child k ∷ ps) (front ys))
+  pub stops_before : (k : Kind) (ps : Row) {xs ys : List Seen} {cs : List Tree} → Runs ps xs cs ys → IsTrue (row_ok (symbol.Child k ∷ ps)) → IsTrue (ends (symbol.Child k ∷ ps) (front ys))
       → IsTrue (stops k (front xs))
   stops_before k [] done ok e = e
   stops_before k (p ∷ ps) {xs} {ys} r ok e =
       let o : IsTrue (opens (p ∷ ps) (front xs)) = runs_first r (row_joins (p ∷ ps) (and_right (every (meets k (p ∷ ps))) (row_ok (p ∷ ps)) ok)) (ends_closes (p ∷ ps) (front ys) e) in
       modus _ _ (every_at (meets k (p ∷ ps)) (and_left (every (meets k (p ∷ ps))) (row_ok (p ∷ ps)) ok) (front xs)) o
 
-  ends_rest : (k : Kind) (ps : Row) (c : Class) → IsTrue (ends (symbol.Child k ∷ ps) c) → IsTrue (ends ps c)
+  pub ends_rest : (k : Kind) (ps : Row) (c : Class) → IsTrue (ends (symbol.Child k ∷ ps) c) → IsTrue (ends ps c)
   ends_rest k [] c e = refl
   ends_rest k (p ∷ ps) c e = e
 
@@ -137,14 +137,14 @@ module _ (most : ℕ) where
 
   -- ---- a member of a call's list
 
-  member_before : (ps : Row) {xs ys : List Seen} {cs : List Tree} → Runs ps xs cs ys → IsTrue (row_ok (symbol.Argument ∷ ps)) → IsTrue (ends (symbol.Argument ∷ ps) (front ys))
+  pub member_before : (ps : Row) {xs ys : List Seen} {cs : List Tree} → Runs ps xs cs ys → IsTrue (row_ok (symbol.Argument ∷ ps)) → IsTrue (ends (symbol.Argument ∷ ps) (front ys))
       → IsTrue (ends_member (front xs))
   member_before [] done ok e = e
   member_before (p ∷ ps) {xs} {ys} r ok e =
       let o : IsTrue (opens (p ∷ ps) (front xs)) = runs_first r (row_joins (p ∷ ps) (and_right (every (member_at (p ∷ ps))) (row_ok (p ∷ ps)) ok)) (ends_closes (p ∷ ps) (front ys) e) in
       modus _ _ (every_at (member_at (p ∷ ps)) (and_left (every (member_at (p ∷ ps))) (row_ok (p ∷ ps)) ok) (front xs)) o
 
-  member_rest : (ps : Row) (c : Class) → IsTrue (ends (symbol.Argument ∷ ps) c) → IsTrue (ends ps c)
+  pub member_rest : (ps : Row) (c : Class) → IsTrue (ends (symbol.Argument ∷ ps) c) → IsTrue (ends ps c)
   member_rest [] c e = refl
   member_rest (p ∷ ps) c e = e
 
@@ -173,7 +173,7 @@ module _ (most : ℕ) where
 
   way_chosen : (f : Fork) {xs ys : List Seen} {ds : List Tree} → Runs (symbol.Fork f ∷ []) xs ds ys → IsTrue (stops_fork f (front ys))
       → (ps : Row) × (choose f (front xs) ≡ Some ps) × Runs ps xs ds ys × IsTrue (ends ps (front ys))
-  way_chosen f (fork {ps = ps} {ys = ys} i w way) s = (ps, way_here f i ps w way s, way, way_ends f i ps (front ys) w s)
+  way_chosen f (fork {ps = ps} {ys = ys} i w v way) s = (ps, way_here f i ps w v way s, way, way_ends f i ps (front ys) w s)
 
   fork_only : (f : Fork) (qs : Row) (xs : List Seen) (before : List Tree) {ds : List Tree} {ys : List Seen} → choose f (front xs) ≡ Some qs → Runs (symbol.Fork f ∷ []) xs ds ys
       → IsTrue (stops_fork f (front ys)) → levels_of_all ds ≤ most
@@ -188,7 +188,7 @@ module _ (most : ℕ) where
   leads_fork f [] qs xs before ok chosen =
       let w = chosen_way f (front xs) qs chosen in
       record {
-        sound = λ cs ys r. (cs, refl, fork w.0 w.1 r);
+        sound = λ cs ys r. (cs, refl, fork w.0 w.1 (chosen_may f (front xs) qs chosen) r);
         only = λ ds ys r e l. fork_only f qs xs before chosen r e l;
       }
   leads_fork f (p ∷ ps) qs xs before ok chosen = let no : ⊥ = cc in absurd no
@@ -206,7 +206,7 @@ module _ (most : ℕ) where
   nothing_left : {xs ys : List Seen} {cs : List Tree} → Runs [] xs cs ys → (cs ≡ []) × (xs ≡ ys)
   nothing_left done = (refl, refl)
 
-  run_only : (r : Row) (xs ys : List Seen) (before all cs : List Tree) → Leads most (place r xs before) (place [] ys all) → all ≡ before ++ cs → OnlyRun most r xs cs ys
+  pub run_only : (r : Row) (xs ys : List Seen) (before all cs : List Tree) → Leads most (place r xs before) (place [] ys all) → all ≡ before ++ cs → OnlyRun most r xs cs ys
   run_only r xs ys before all cs a e ds zs run end le =
       let d = a.only ds zs run end le in
       let n = nothing_left d.2 in

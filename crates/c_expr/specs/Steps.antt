@@ -62,7 +62,7 @@ pub record Takes (most : ℕ) (s : Symbol) (p q : Position) : Type 0 where
   pub leads : Leads most (before s p) (place_of q)
   pub sound : Sound q.row.now q
   -- fewer tokens are left, or as many and less of the row
-  pub smaller : 2 * length q.rest.now + weight q.row.now < 2 * length p.rest.now + weight (s ∷ p.row.now)
+  pub smaller : 3 * length q.rest.now + weight q.row.now < 3 * length p.rest.now + weight (s ∷ p.row.now)
 
 -- ---- how a tree goes on
 

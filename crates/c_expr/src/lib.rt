@@ -19,6 +19,7 @@
 
 mod depth;
 mod fault;
+mod laws;
 mod parse;
 mod range;
 mod see;
@@ -26,6 +27,7 @@ mod see;
 mod tests;
 
 pub use fault::ParseFault;
+pub use laws::ranges_have_one_tree;
 pub use range::{
     parse_declarator, parse_expr, parse_init, parse_kind, parse_specs, parse_type_name,
 };

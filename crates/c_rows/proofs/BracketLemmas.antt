@@ -118,7 +118,7 @@ module _ (names : Names) where
       row_goes (type_argument {ps = ps} {xs = xs} {ys = us} {zs = ys} a d rest) p n e l =
           child_goes e p n kind.TypeArg xs us ys (member_suits e p kind.TypeArg (and_left (deep e || is_inside p) (fine p ps e) l)) (λ q m s. tree_goes d q m s)
           (row_goes rest p n e (and_right (deep e || is_inside p) (fine p ps e) l))
-      row_goes (fork {f = f} {ps = ps} {xs = xs} {ys = ys} i g way) p n e l =
+      row_goes (fork {f = f} {ps = ps} {xs = xs} {ys = ys} i g v way) p n e l =
           let z : depth f ≡ e = eqb-true (depth f) e (and_left (depth f == e) (suits_fork p f) l) in
           subst (λ (j : ℕ). Goes p xs (above j (base p n)) (base p n) ys) z (row_goes way p n (depth f) (way_fine p f i ps g (and_right (depth f == e) (suits_fork p f) l)))
 

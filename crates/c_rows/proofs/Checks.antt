@@ -13,9 +13,9 @@ use Rattle.c_rows.specs.declared.symbol.Symbol.TheVariants as symbol
 use Rattle.c_rows.specs.declared.symbol.Fork.{Fork}
 use Rattle.c_rows.specs.declared.symbol.Fork.TheVariants as forks
 use Rattle.c_rows.specs.Kinds.{family_of, within, has_leaf}
-use Rattle.c_rows.specs.Branches.{kind_of, begins}
+use Rattle.c_rows.specs.Branches.{kind_of, begins, may_go}
 use Rattle.c_rows.specs.Rows.{Row, row, ways}
-use Rattle.c_rows.specs.Choice.{head, tail, choose, pick_way, stops, stops_fork, ends, first, opens, leads, every, implies, row_ok, steady, row_fine, weight, left, own, bottom}
+use Rattle.c_rows.specs.Choice.{head, tail, choose, pick_way, stops, stops_fork, ends, first, opens, leads, begins_way, every, implies, row_ok, steady, row_fine, weight, left, own, bottom}
 use Rattle.c_rows.proofs.Numbers.{rules, rule_number, rule_listed}
 pub use Rattle.c_rows.proofs.FirstChecks.{and_left, and_right, modus, both, implies_both, not_true, every_from, at, every_at, row_at, closes, joins_at, member_at, joins, joins_rule, joins_way, closes_rule, closes_way, opens_rule, leaf_first, member_after, member_stops, member_first}
 
@@ -79,6 +79,17 @@ unforked_ways _ = refl
 
 pub unforked_way : (f : Fork) (i : ℕ) (ps : Row) → slice_get (ways f) i ≡ Some ps → IsTrue (unforked ps)
 unforked_way f i ps e = row_at unforked (ways f) i ps (unforked_ways f) e
+
+led_in : (f : Fork) (rows : List Row) (c : Class) (ps : Row) → pick_way f rows c ≡ Some ps → IsTrue (leads f ps c)
+led_in f [] c ps e = let no : ⊥ = cc in absurd no
+led_in f (x ∷ xs) c ps e = here (leads f x c) refl e (λ h. led_in f xs c ps h)
+  where
+    here : (b : Bool) → leads f x c ≡ b → (if b then Some x else pick_way f xs c) ≡ Some ps → (pick_way f xs c ≡ Some ps → IsTrue (leads f ps c)) → IsTrue (leads f ps c)
+    here true q h more = let same : x ≡ ps = cc in subst (λ (y : Row). IsTrue (leads f y c)) same q
+    here false q h more = more h
+
+pub chosen_may : (f : Fork) (c : Class) (ps : Row) → choose f c ≡ Some ps → IsTrue (may_go f ps c)
+chosen_may f c ps e = and_left (may_go f ps c) (begins_way f ps c) (led_in f (ways f) c ps e)
 
 found_in : (f : Fork) (rows : List Row) (c : Class) (ps : Row) → pick_way f rows c ≡ Some ps → (i : ℕ) × (slice_get rows i ≡ Some ps)
 found_in f [] c ps e = let no : ⊥ = cc in absurd no

@@ -10,18 +10,18 @@ use Rattle.c_rows.specs.declared.symbol.Fork.{Fork}
 use Rattle.c_rows.specs.declared.symbol.Symbol.TheVariants as symbol
 use Rattle.c_rows.specs.Kinds.{family_of}
 use Rattle.c_rows.specs.Rows.{Row}
-use Rattle.c_rows.specs.Branches.{kind_of}
+use Rattle.c_rows.specs.Branches.{kind_of, may_go}
 use Rattle.c_rows.specs.Look.{Names, look}
 use Rattle.c_rows.specs.Words.{ends_member}
-use Rattle.c_rows.specs.Choice.{after, stops_fork, first, opens, choose, leads, every}
+use Rattle.c_rows.specs.Choice.{after, stops_fork, first, opens, choose, begins_way, every}
 use Rattle.c_rows.specs.Derives.{Derives, leaf, branch, DerivesRow, done, word, child, argument, type_argument, fork}
-use Rattle.c_rows.proofs.Checks.{and_left, and_right, modus, every_at, closes, joins, joins_at, member_at, joins_rule, joins_way, closes_rule, closes_way, opens_rule, leaf_first, leads_way, unforked, unforked_way, member_after, member_first}
+use Rattle.c_rows.proofs.Checks.{and_left, and_right, modus, every_at, closes, joins, joins_at, member_at, joins_rule, joins_way, closes_rule, closes_way, opens_rule, leaf_first, leads_way, unforked, unforked_way, member_after, member_first, both}
 use Rattle.c_rows.proofs.FirstLemmas.{within_family, after_mono}
 
 open_at : (f : Fork) (ps : Row) (c : Class) → choose f c ≡ Some ps → IsTrue (is_some (choose f c))
 open_at f ps c e = ap is_some e
 
-leads_at : (f : Fork) (ps : Row) (c : Class) → IsTrue (unforked ps) → IsTrue (opens ps c) → (ps ≡ [] → IsTrue (stops_fork f c)) → IsTrue (leads f ps c)
+leads_at : (f : Fork) (ps : Row) (c : Class) → IsTrue (unforked ps) → IsTrue (opens ps c) → (ps ≡ [] → IsTrue (stops_fork f c)) → IsTrue (begins_way f ps c)
 leads_at f [] c u o s = s refl
 leads_at f (symbol.Word w ∷ ps) c u o s = o
 leads_at f (symbol.Child k ∷ ps) c u o s = o
@@ -35,7 +35,7 @@ module _ (names : Names) (may : List Token → List Token → Type 0) where
   at_end f (child d rest) e s = let no : ⊥ = cc in absurd no
   at_end f (argument d rest) e s = let no : ⊥ = cc in absurd no
   at_end f (type_argument a d rest) e s = let no : ⊥ = cc in absurd no
-  at_end f (fork i w rest) e s = let no : ⊥ = cc in absurd no
+  at_end f (fork i w v rest) e s = let no : ⊥ = cc in absurd no
 
   mutual
     pub tree_first : {k : Kind} {xs ys : List Token} {t : Tree} → Derives names may k xs t ys → IsTrue (after k (look names ys)) → IsTrue (first (family_of k) (look names xs))
@@ -64,9 +64,9 @@ module _ (names : Names) (may : List Token → List Token → Type 0) where
         let o : IsTrue (opens (p ∷ ps) (look names zs)) = row_first rest (and_right (every (member_at (p ∷ ps))) (joins (p ∷ ps)) j) c in
         let e : IsTrue (ends_member (look names zs)) = modus _ _ (every_at (member_at (p ∷ ps)) (and_left (every (member_at (p ∷ ps))) (joins (p ∷ ps)) j) (look names zs)) o in
         member_first true (look names xs) (tree_first d (member_after true (look names zs) e))
-    row_first (fork {f = f} {ps = ps} {xs = xs} {ys = ys} i w way) j c =
+    row_first (fork {f = f} {ps = ps} {xs = xs} {ys = ys} i w v way) j c =
         let o : IsTrue (opens ps (look names xs)) = row_first way (joins_way f i ps w) (closes_way f i ps (look names ys) w c) in
-        open_at f ps (look names xs) (leads_way f i ps (look names xs) w (leads_at f ps (look names xs) (unforked_way f i ps w) o (λ e. at_end f way e c)))
+        open_at f ps (look names xs) (leads_way f i ps (look names xs) w (both (may_go f ps (look names xs)) _ v (leads_at f ps (look names xs) (unforked_way f i ps w) o (λ e. at_end f way e c))))
 
   -- a member of a call's list that stands in a row ends where it may
   pub member_end : {ps : Row} {xs ys : List Token} {cs : List Tree} → DerivesRow names may ps xs cs ys → IsTrue (joins (symbol.Argument ∷ ps))

@@ -1,6 +1,6 @@
 -- The filter on types inside an expression makes no difference to which tokens it spells.
 use Rattle.std.proofs.Common.{◌≡◌, ◌≤◌, length, ℕ, zero, suc, List, [], ◌∷◌, map, refl, subst, ap, sym, ◌∙◌, arith}
-use Rattle.std.specs.Prelude.{Bool, true, false, not, ◌&&◌, if◌then◌else◌, IsTrue, Some, slice_get, codes}
+use Rattle.std.specs.Prelude.{Bool, true, false, not, ◌&&◌, ◌||◌, if◌then◌else◌, IsTrue, Some, slice_get, codes}
 use Rattle.std.specs.List.{list_all}
 use Rattle.c_terms.specs.declared.token.Token.{Token}
 use Rattle.c_terms.specs.declared.label.Label.{Label}
@@ -17,7 +17,7 @@ use Rattle.c_rows.specs.declared.symbol.Symbol.TheVariants as symbol
 use Rattle.c_rows.specs.declared.symbol.Fork.{Fork}
 use Rattle.c_rows.specs.declared.symbol.Fork.TheVariants as forks
 use Rattle.c_rows.specs.Kinds.{family_of}
-use Rattle.c_rows.specs.Branches.{kind_of, label_of, build, allows, text_is, branches_label, at_label, plain_part, plain_at, is_plain, is_plain_type, defines, declares_name, declares_at}
+use Rattle.c_rows.specs.Branches.{kind_of, label_of, build, allows, text_is, labelled, branches_label, at_label, if_label, case_label, for_label, external_label, is_blockless, is_decl_label, is_block_label, is_loose_label, is_case, is_external, declares_function, function_at, plain_part, plain_at, is_plain, is_plain_type, defines, declares_name, declares_at}
 use Rattle.c_rows.specs.Rows.{Row, row, ways}
 use Rattle.c_rows.specs.Look.{Names, look}
 use Rattle.c_rows.specs.Words.{ends_member}
@@ -27,7 +27,7 @@ use Rattle.c_rows.specs.Derives.{Derives, leaf, branch, DerivesRow, done, word, 
 use Rattle.c_rows.specs.Letter.{NoExpression}
 use Rattle.c_rows.proofs.Checks.{and_left, and_right, both, modus, row_at, closes, joins, joins_rule, joins_way, closes_rule, closes_way, member_after}
 use Rattle.c_rows.proofs.FirstLemmas.{within_family, after_mono}
-use Rattle.c_rows.proofs.PlainLemmas.{declares-Branch}
+use Rattle.c_rows.proofs.PlainLemmas.{declares-Branch, function-Branch}
 use Rattle.c_rows.proofs.MemberLemmas.{is_args, needs, needs_test, lead_word, led, led_rule, led_way, needs_way, never_needs}
 use Rattle.c_rows.proofs.DerivesLemmas.{tree_first, member_end, child_end, joins_rest, joins_member, closes_rest, closes_member}
 
@@ -35,11 +35,13 @@ use Rattle.c_rows.proofs.DerivesLemmas.{tree_first, member_end, child_end, joins
 
 pub record Alike (a b : Tree) : Type 0 where
   pub text : (s : List ℕ) → text_is s (out-Tree a) ≡ text_is s (out-Tree b)
+  pub label : (p : Label → Bool) → labelled p (out-Tree a) ≡ labelled p (out-Tree b)
   pub part : plain_part (out-Tree a) ≡ plain_part (out-Tree b)
   pub named : declares_name a ≡ declares_name b
+  pub function : declares_function a ≡ declares_function b
 
 alike_self : (a : Tree) → Alike a a
-alike_self a = record { text = λ s. refl; part = refl; named = refl }
+alike_self a = record { text = λ s. refl; label = λ p. refl; part = refl; named = refl; function = refl }
 
 data AlikeAll : List Tree → List Tree → Type 0 where
   none : AlikeAll [] []
@@ -57,6 +59,59 @@ at_same (more a none) = refl
 at_same (more a (more b none)) = refl
 at_same (more a (more b (more c none))) = refl
 at_same (more a (more b (more c (more d rest)))) = refl
+
+if_same : {cs ds : List Tree} → AlikeAll cs ds → if_label cs ≡ if_label ds
+if_same none = refl
+if_same (more a none) = refl
+if_same (more a (more b none)) = refl
+if_same (more a (more b (more c none))) = refl
+if_same (more a (more b (more c (more d none)))) = refl
+if_same (more a (more b (more c (more d (more e none))))) = refl
+if_same (more a (more b (more c (more d (more e (more f rest)))))) = refl
+
+case_same : {cs ds : List Tree} → AlikeAll cs ds → case_label cs ≡ case_label ds
+case_same none = refl
+case_same (more a none) = refl
+case_same (more a (more b none)) = refl
+case_same (more a (more b (more c none))) = refl
+case_same (more a (more b (more c (more d rest)))) = refl
+
+for_same : {cs ds : List Tree} → AlikeAll cs ds → for_label cs ≡ for_label ds
+for_same none = refl
+for_same (more a none) = refl
+for_same (more a (more b none)) = refl
+for_same (more a (more b (more c rest))) = ap (λ (x : Bool). if x then label.ForDecl else label.For) (c.label is_decl_label)
+
+external_same : {cs ds : List Tree} → AlikeAll cs ds → external_label cs ≡ external_label ds
+external_same none = refl
+external_same (more a none) = refl
+external_same (more a (more b none)) = refl
+external_same (more a (more b (more c none))) = ap (λ (x : Bool). if x then label.FunDef else label.Decl) (c.label is_block_label)
+external_same (more a (more b (more c (more d rest)))) = refl
+
+blocks_same : {cs ds : List Tree} → AlikeAll cs ds → is_blockless cs ≡ is_blockless ds
+blocks_same none = refl
+blocks_same (more {a = a} {b = b} {cs = cs} {ds = ds} e rest) = ap (λ (x : Bool). not x && is_blockless cs) (e.label is_block_label) ∙ ap (λ (x : Bool). not (labelled is_block_label (out-Tree b)) && x) (blocks_same rest)
+
+case_alike : {cs ds : List Tree} → AlikeAll cs ds → is_case cs ≡ is_case ds
+case_alike none = refl
+case_alike (more a none) = refl
+case_alike (more a (more b none)) = ap not (b.label is_loose_label)
+case_alike (more a (more b (more c none))) = refl
+case_alike (more a (more b (more c (more d rest)))) = ap not (b.label is_loose_label)
+
+external_alike : {cs ds : List Tree} → AlikeAll cs ds → is_external cs ≡ is_external ds
+external_alike none = refl
+external_alike (more a none) = refl
+external_alike (more a (more b none)) = refl
+external_alike (more a (more {a = x} {b = y} b (more {a = u} {b = v} c none))) =
+    ap (λ (q : Bool). not q || declares_function x) (c.label is_block_label) ∙ ap (λ (q : Bool). not (labelled is_block_label (out-Tree v)) || q) b.function
+external_alike (more a (more b (more c (more d rest)))) = refl
+
+functions_same : {cs ds : List Tree} → AlikeAll cs ds → map declares_function cs ≡ map declares_function ds
+functions_same none = refl
+functions_same (more {a = a} {b = b} {cs = cs} {ds = ds} e rest) =
+    ap (λ (x : Bool). x ∷ map declares_function cs) e.function ∙ ap (λ (x : List Bool). declares_function b ∷ x) (functions_same rest)
 
 names_same : {cs ds : List Tree} → AlikeAll cs ds → map declares_name cs ≡ map declares_name ds
 names_same none = refl
@@ -139,6 +194,12 @@ specs_ways _ = refl
 label_same : (r : Rule) (cs ds : List Tree) → (IsTrue (not (is_args_rule r)) → AlikeAll cs ds) → label_of r cs ≡ label_of r ds
 label_same rule.PatBranches cs ds h = branches_same (h refl)
 label_same rule.At cs ds h = at_same (h refl)
+label_same rule.If cs ds h = if_same (h refl)
+label_same rule.For cs ds h = for_same (h refl)
+label_same rule.Case cs ds h = case_same (h refl)
+label_same rule.External cs ds h = external_same (h refl)
+label_same rule.ExternalMacro cs ds h = ap (λ (x : Bool). if x then label.MacroItem else label.MacroFun) (blocks_same (h refl))
+label_same rule.PatLists cs ds h = branches_same (h refl)
 label_same _ cs ds h = refl
 
 declares_same : (r : Rule) (cs ds : List Tree) → (IsTrue (not (is_args_rule r)) → AlikeAll cs ds) → label_of r cs ≡ label_of r ds
@@ -146,13 +207,21 @@ declares_same : (r : Rule) (cs ds : List Tree) → (IsTrue (not (is_args_rule r)
 declares_same rule.Args cs ds h e = refl
 declares_same r cs ds h e = ap (λ (l : Label). declares_at l (map declares_name cs)) e ∙ ap (λ (x : List Bool). declares_at (label_of r ds) x) (names_same (h refl))
 
+function_same : (r : Rule) (cs ds : List Tree) → (IsTrue (not (is_args_rule r)) → AlikeAll cs ds) → label_of r cs ≡ label_of r ds
+    → function_at (label_of r cs) (map declares_function cs) ≡ function_at (label_of r ds) (map declares_function ds)
+function_same rule.Args cs ds h e = refl
+function_same r cs ds h e =
+    ap (λ (l : Label). function_at l (map declares_function cs)) e ∙ ap (λ (x : List Bool). function_at (label_of r ds) x) (functions_same (h refl))
+
 branch_alike : (r : Rule) (cs ds : List Tree) → (IsTrue (not (is_args_rule r)) → AlikeAll cs ds) → Alike (build r cs) (build r ds)
 branch_alike r cs ds h =
     let e : label_of r cs ≡ label_of r ds = label_same r cs ds h in
     record {
       text = λ s. ap (text_is s) (out-Branch (label_of r cs) cs) ∙ sym (ap (text_is s) (out-Branch (label_of r ds) ds));
+      label = λ p. ap (labelled p) (out-Branch (label_of r cs) cs) ∙ ap p e ∙ sym (ap (labelled p) (out-Branch (label_of r ds) ds));
       part = ap plain_part (out-Branch (label_of r cs) cs) ∙ ap (λ (l : Label). not (defines l)) e ∙ sym (ap plain_part (out-Branch (label_of r ds) ds));
       named = declares-Branch (label_of r cs) cs ∙ declares_same r cs ds h e ∙ sym (declares-Branch (label_of r ds) ds);
+      function = function-Branch (label_of r cs) cs ∙ function_same r cs ds h e ∙ sym (function-Branch (label_of r ds) ds);
     }
 
 branch_plain : (r : Rule) (cs ds : List Tree) → AlikeAll cs ds → is_plain (build r cs) ≡ is_plain (build r ds)
@@ -169,6 +238,8 @@ type_same (more a (more b (more c rest))) e h = h
 allows_same : (r : Rule) (cs ds : List Tree) → (IsTrue (not (is_args_rule r)) → AlikeAll cs ds) → (IsTrue (specs_first (row r)) → first_plain cs ≡ first_plain ds)
     → IsTrue (allows r cs) → IsTrue (allows r ds)
 allows_same rule.TypeName cs ds h e a = type_same (h refl) (e refl) a
+allows_same rule.Case cs ds h e a = sym (case_alike (h refl)) ∙ a
+allows_same rule.External cs ds h e a = sym (external_alike (h refl)) ∙ a
 allows_same _ cs ds h e a = refl
 
 -- ---- lengths
@@ -191,7 +262,7 @@ module _ (names : Names) where
     row_short may (child d rest) = shorter _ _ _ (row_short may rest) (tree_short may d)
     row_short may (argument d rest) = shorter _ _ _ (row_short may rest) (tree_short may d)
     row_short may (type_argument a d rest) = shorter _ _ _ (row_short may rest) (tree_short may d)
-    row_short may (fork i w way) = row_short may way
+    row_short may (fork i w v way) = row_short may way
 
   -- A type may stand wherever it might before.
   module _ (may also : List Token → List Token → Type 0) (go : (xs ys : List Token) → may xs ys → also xs ys) where
@@ -206,7 +277,7 @@ module _ (names : Names) where
       loosened_row (child d rest) = child (loosened d) (loosened_row rest)
       loosened_row (argument d rest) = argument (loosened d) (loosened_row rest)
       loosened_row (type_argument {xs = xs} {ys = ys} a d rest) = type_argument (go xs ys a) (loosened d) (loosened_row rest)
-      loosened_row (fork i w way) = fork i w (loosened_row way)
+      loosened_row (fork i w v way) = fork i w v (loosened_row way)
 
   -- without the filter
   pub unfiltered : (may : List Token → List Token → Type 0) {k : Kind} {xs ys : List Token} {t : Tree} → Derives names may k xs t ys → Derives names Anywhere k xs t ys
@@ -291,10 +362,10 @@ module _ (names : Names) where
           alike = λ a. let never : ⊥ = cc in absurd never;
           plain = λ a. let never : ⊥ = cc in absurd never;
         }))))
-    filter_row n go (fork {f = g} {ps = ps} {ys = ys} i w way) s m e j c f =
+    filter_row n go (fork {f = g} {ps = ps} {ys = ys} i w v way) s m e j c f =
         filter_row n go way s (λ b. m (needs_way g i ps w b)) (led_way g i ps w) (joins_way g i ps w) (closes_way g i ps (look names ys) w c) (λ y. f (record {
           trees = y.trees;
-          derived = fork i w y.derived;
+          derived = fork i w v y.derived;
           alike = λ a. y.alike (memberless_way g i ps w a);
           plain = λ a. let never : ⊥ = cc in absurd never;
         }))

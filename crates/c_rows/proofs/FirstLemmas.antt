@@ -1,7 +1,7 @@
 -- The class of the token at which a tree or the rest of a row begins.
 use Rattle.std.proofs.Common.{◌≡◌, ℕ, List, [], ◌∷◌, refl, subst, ap, sym, inl, inr, arith}
 use Rattle.std.proofs.lemmas.Bool.Decides.{nat_tests}
-use Rattle.std.specs.Prelude.{Bool, true, false, ◌||◌, ◌⊎◌, nat_le, IsTrue, Option, Some, None, is_some, slice_get}
+use Rattle.std.specs.Prelude.{Bool, true, false, ◌&&◌, ◌||◌, ◌⊎◌, nat_le, IsTrue, Option, Some, None, is_some, slice_get}
 use Rattle.c_terms.specs.declared.tree.Tree.{Tree}
 use Rattle.c_rows.specs.declared.class.Class.{Class}
 use Rattle.c_rows.specs.declared.kind.Kind.{Kind}
@@ -11,10 +11,10 @@ use Rattle.c_rows.specs.declared.kind.Family.TheVariants as family
 use Rattle.c_rows.specs.declared.symbol.Fork.{Fork}
 use Rattle.c_rows.specs.declared.symbol.Symbol.TheVariants as symbol
 use Rattle.c_rows.specs.Words.{ends_member}
-use Rattle.c_rows.specs.Kinds.{family_of, same_family, within, rank}
+use Rattle.c_rows.specs.Kinds.{family_of, same_family, within, rank, side}
 use Rattle.c_rows.specs.Rows.{Row, ways}
-use Rattle.c_rows.specs.Branches.{kind_of}
-use Rattle.c_rows.specs.Choice.{after, top, reach, takes_left, tail, left, stops_fork, first, opens, choose, leads, every}
+use Rattle.c_rows.specs.Branches.{kind_of, may_go}
+use Rattle.c_rows.specs.Choice.{after, top, reach, takes_left, tail, left, stops_fork, first, opens, choose, begins_way, every}
 use Rattle.c_rows.specs.Seen.{Seen, front, front_typed}
 use Rattle.c_rows.specs.Spells.{Spells, leaf, branch, Runs, done, word, child, argument, fork}
 use Rattle.c_rows.proofs.Checks.{and_left, and_right, both, modus, every_at, closes, joins, joins_at, member_at, joins_rule, joins_way, closes_rule, closes_way, opens_rule, leaf_first, leads_way, unforked, unforked_way, member_after, member_first}
@@ -36,20 +36,34 @@ same_is family.InitList family.InitList h = refl
 same_is family.InitItem family.InitItem h = refl
 same_is family.Designator family.Designator h = refl
 same_is family.Enumerator family.Enumerator h = refl
+same_is family.Decl family.Decl h = refl
+same_is family.Statement family.Statement h = refl
+same_is family.StmtList family.StmtList h = refl
+same_is family.External family.External h = refl
 same_is _ _ h = let no : ⊥ = cc in absurd no
 
+within_parts : (k m : Kind) → IsTrue (within k m) → IsTrue (same_family (family_of k) (family_of m)) × IsTrue (nat_le (rank k) (rank m)) × IsTrue (nat_le (side k) (side m))
+within_parts k m h =
+    let both_ranks : IsTrue (same_family (family_of k) (family_of m) && nat_le (rank k) (rank m)) =
+    and_left (same_family (family_of k) (family_of m) && nat_le (rank k) (rank m)) (nat_le (side k) (side m)) h in (
+      and_left (same_family (family_of k) (family_of m)) (nat_le (rank k) (rank m)) both_ranks,
+      and_right (same_family (family_of k) (family_of m)) (nat_le (rank k) (rank m)) both_ranks,
+      and_right (same_family (family_of k) (family_of m) && nat_le (rank k) (rank m)) (nat_le (side k) (side m)) h,
+    )
+
 pub within_family : (k m : Kind) → IsTrue (within k m) → family_of k ≡ family_of m
-within_family k m h = same_is (family_of k) (family_of m) (and_left (same_family (family_of k) (family_of m)) _ h)
+within_family k m h = same_is (family_of k) (family_of m) (within_parts k m h).0
 
 le_trans : (a b c : ℕ) → IsTrue (nat_le a b) → IsTrue (nat_le b c) → IsTrue (nat_le a c)
 le_trans a b c h g = grind (arith, nat_tests)
 
 pub within_trans : (a b c : Kind) → IsTrue (within a b) → IsTrue (within b c) → IsTrue (within a c)
 within_trans a b c h g =
-    both (same_family (family_of a) (family_of c)) (nat_le (rank a) (rank c))
-    (subst (λ (f : Family). IsTrue (same_family (family_of a) f)) (within_family b c g) (and_left (same_family (family_of a) (family_of b)) (nat_le (rank a) (rank b)) h))
-    (le_trans (rank a) (rank b) (rank c) (and_right (same_family (family_of a) (family_of b)) (nat_le (rank a) (rank b)) h)
-    (and_right (same_family (family_of b) (family_of c)) (nat_le (rank b) (rank c)) g))
+    let x = within_parts a b h in
+    let y = within_parts b c g in
+    both (same_family (family_of a) (family_of c) && nat_le (rank a) (rank c)) (nat_le (side a) (side c))
+    (both (same_family (family_of a) (family_of c)) (nat_le (rank a) (rank c)) (subst (λ (f : Family). IsTrue (same_family (family_of a) f)) (within_family b c g) x.0) (le_trans (rank a) (rank b) (rank c) x.1 y.1))
+    (le_trans (side a) (side b) (side c) x.2 y.2)
 
 either : (a b : Bool) → IsTrue (a || b) → IsTrue a ⊎ IsTrue b
 either true b h = inl refl
@@ -83,7 +97,7 @@ open_at : (f : Fork) (ps : Row) (c : Class) → choose f c ≡ Some ps → IsTru
 open_at f ps c e = ap is_some e
 
 -- the class at which a way begins leads to it
-leads_at : (f : Fork) (ps : Row) (c : Class) → IsTrue (unforked ps) → IsTrue (opens ps c) → (ps ≡ [] → IsTrue (stops_fork f c)) → IsTrue (leads f ps c)
+leads_at : (f : Fork) (ps : Row) (c : Class) → IsTrue (unforked ps) → IsTrue (opens ps c) → (ps ≡ [] → IsTrue (stops_fork f c)) → IsTrue (begins_way f ps c)
 leads_at f [] c u o s = s refl
 leads_at f (symbol.Word w ∷ ps) c u o s = o
 leads_at f (symbol.Child k ∷ ps) c u o s = o
@@ -95,7 +109,7 @@ at_end f done e s = s
 at_end f (word h rest) e s = let no : ⊥ = cc in absurd no
 at_end f (child d rest) e s = let no : ⊥ = cc in absurd no
 at_end f (argument d rest) e s = let no : ⊥ = cc in absurd no
-at_end f (fork i w rest) e s = let no : ⊥ = cc in absurd no
+at_end f (fork i w v rest) e s = let no : ⊥ = cc in absurd no
 
 mutual
   pub spells_first : {k : Kind} {xs ys : List Seen} {t : Tree} → Spells k xs t ys → IsTrue (after k (front ys)) → IsTrue (first (family_of k) (front xs))
@@ -118,12 +132,12 @@ mutual
       let o : IsTrue (opens (p ∷ ps) (front zs)) = runs_first rest (and_right (every (member_at (p ∷ ps))) (joins (p ∷ ps)) j) c in
       let e : IsTrue (ends_member (front zs)) = modus _ _ (every_at (member_at (p ∷ ps)) (and_left (every (member_at (p ∷ ps))) (joins (p ∷ ps)) j) (front zs)) o in
       member_first (front_typed xs) (front xs) (spells_first d (member_after (front_typed xs) (front zs) e))
-  runs_first (fork {f = f} {ps = ps} {xs = xs} {ys = ys} i w way) j c =
+  runs_first (fork {f = f} {ps = ps} {xs = xs} {ys = ys} i w v way) j c =
       let o : IsTrue (opens ps (front xs)) = runs_first way (joins_way f i ps w) (closes_way f i ps (front ys) w c) in
-      open_at f ps (front xs) (leads_way f i ps (front xs) w (leads_at f ps (front xs) (unforked_way f i ps w) o (λ e. at_end f way e c)))
+      open_at f ps (front xs) (leads_way f i ps (front xs) w (both (may_go f ps (front xs)) _ v (leads_at f ps (front xs) (unforked_way f i ps w) o (λ e. at_end f way e c))))
 
 -- the way that was taken is the one chosen
-pub way_here : (f : Fork) (i : ℕ) (ps : Row) {xs ys : List Seen} {cs : List Tree} → slice_get (ways f) i ≡ Some ps → Runs ps xs cs ys → IsTrue (stops_fork f (front ys)) → choose f (front xs) ≡ Some ps
-way_here f i ps {xs} {ys} w way s =
+pub way_here : (f : Fork) (i : ℕ) (ps : Row) {xs ys : List Seen} {cs : List Tree} → slice_get (ways f) i ≡ Some ps → IsTrue (may_go f ps (front xs)) → Runs ps xs cs ys → IsTrue (stops_fork f (front ys)) → choose f (front xs) ≡ Some ps
+way_here f i ps {xs} {ys} w v way s =
     let o : IsTrue (opens ps (front xs)) = runs_first way (joins_way f i ps w) (closes_way f i ps (front ys) w s) in
-    leads_way f i ps (front xs) w (leads_at f ps (front xs) (unforked_way f i ps w) o (λ e. at_end f way e s))
+    leads_way f i ps (front xs) w (both (may_go f ps (front xs)) _ v (leads_at f ps (front xs) (unforked_way f i ps w) o (λ e. at_end f way e s)))

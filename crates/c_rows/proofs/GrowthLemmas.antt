@@ -114,4 +114,4 @@ mutual
   first_part (word h rest) = tt
   first_part (child {ys = zs} {t = t} {cs = cs} d rest) = (t, cs, zs, refl, unwind d, rest)
   first_part (argument d rest) = tt
-  first_part (fork i w way) = tt
+  first_part (fork i w v way) = tt

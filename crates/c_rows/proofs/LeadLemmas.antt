@@ -1,7 +1,8 @@
 -- The classes behind which a member of a call's list may begin are those of `(` and of a comma, and the classes of names
 -- are those of names.
 use Rattle.std.proofs.Common.{◌≡◌, ℕ, List, [], ◌∷◌, refl}
-use Rattle.std.specs.Prelude.{Bool, true, false, ◌&&◌, ◌||◌, if◌then◌else◌, IsTrue, codes}
+use Rattle.std.specs.Prelude.{Bool, true, false, not, ◌&&◌, ◌||◌, if◌then◌else◌, IsTrue, codes}
+use Rattle.std.specs.List.{list_all}
 use Rattle.std.specs.Str.{bytes_eq}
 use Rattle.c_terms.specs.declared.token.Token.{Token}
 use Rattle.c_terms.specs.declared.token.TokenKind.{TokenKind}
@@ -11,10 +12,11 @@ use Rattle.c_terms.specs.declared.token.MetaKind.TheVariants as meta
 use Rattle.c_rows.specs.declared.class.Class.{Class}
 use Rattle.c_rows.specs.declared.class.Class.TheVariants as class
 use Rattle.c_rows.specs.declared.word.Word.TheVariants as word
-use Rattle.c_rows.specs.Tokens.{named_kind, is_named, is_sign, is_punct_kind, is_basic, is_qualifier, is_function, is_storage_text, is_struct, is_enum}
+use Rattle.c_rows.specs.Tokens.{named_kind, is_named, is_string, is_sign, is_punct_kind, is_basic, is_qualifier, is_function, is_storage_text, is_struct, is_enum}
 use Rattle.c_rows.specs.Words.{fits}
-use Rattle.c_rows.specs.Look.{Names, look, at_sign, at_name, at_string, is_of_call, has_members, begins_type, begins_unknown_cast, begins_nest, nest_or, closes_before_brace, is_name_before_brace, bracket, class_of, keyword, storage, sizeof, sizeof_bracket, alignof, sign, operator, question, name, string, typ, metavariable, pattern}
+use Rattle.c_rows.specs.Look.{Names, look, at_sign, at_name, at_string, has_members, begins_type, begins_unknown_cast, begins_nest, nest_or, closes_before_brace, is_name_before_brace, bracket, class_of, keyword, storage, sizeof, sizeof_bracket, alignof, sign, operator, question, name, string, typ, metavariable, pattern, class_in, keywords, declares, iterates, name_of_bracket, is_of_statements}
 use Rattle.c_rows.specs.Range.{leads_member}
+use Rattle.c_rows.proofs.FirstChecks.{and_left, and_right, not_true}
 
 abbrev pub leads_class : Class → Bool
 leads_class class.Comma = true
@@ -60,8 +62,8 @@ storage_quiet _ = refl
 
 bracket_quiet : (names : Names) (ts : List Token) → telling (sizeof_bracket names ts) ≡ false
 bracket_quiet names ts =
-    one_of (begins_type names ts) (if closes_before_brace 0 ts then class.SizeofExpr else class.SizeofType) (if is_name_before_brace ts then class.Other else class.SizeofExpr)
-    (one_of (closes_before_brace 0 ts) class.SizeofExpr class.SizeofType refl refl) (one_of (is_name_before_brace ts) class.Other class.SizeofExpr refl refl)
+    one_of (begins_type names ts) (if closes_before_brace ts then class.SizeofExpr else class.SizeofType) (if is_name_before_brace ts then class.Other else class.SizeofExpr)
+    (one_of (closes_before_brace ts) class.SizeofExpr class.SizeofType refl refl) (one_of (is_name_before_brace ts) class.Other class.SizeofExpr refl refl)
 
 sizeof_quiet : (names : Names) (ts : List Token) → telling (sizeof names ts) ≡ false
 sizeof_quiet names [] = refl
@@ -71,19 +73,30 @@ alignof_quiet : (names : Names) (ts : List Token) → telling (alignof names ts)
 alignof_quiet names [] = refl
 alignof_quiet names (t ∷ ts) = one_of (is_sign t (codes "(") && begins_type names ts) class.SizeofType class.Other refl refl
 
-keyword_of : (b0 b1 b2 b3 b4 b5 b6 b7 : Bool) (x2 : Class) (x4 : Class) (x5 : Class) (x6 : Class) (x7 : Class) → telling x2 ≡ false → telling x4 ≡ false → telling x5 ≡ false → telling x6 ≡ false → telling x7 ≡ false → telling (if b0 then class.Basic else (if b1 then class.Qualifier else (if b2 then x2 else (if b3 then class.Function else (if b4 then x4 else (if b5 then x5 else (if b6 then x6 else (if b7 then x7 else class.Other)))))))) ≡ false
-keyword_of true b1 b2 b3 b4 b5 b6 b7 x2 x4 x5 x6 x7 hx2 hx4 hx5 hx6 hx7 = refl
-keyword_of false true b2 b3 b4 b5 b6 b7 x2 x4 x5 x6 x7 hx2 hx4 hx5 hx6 hx7 = refl
-keyword_of false false true b3 b4 b5 b6 b7 x2 x4 x5 x6 x7 hx2 hx4 hx5 hx6 hx7 = hx2
-keyword_of false false false true b4 b5 b6 b7 x2 x4 x5 x6 x7 hx2 hx4 hx5 hx6 hx7 = refl
-keyword_of false false false false true b5 b6 b7 x2 x4 x5 x6 x7 hx2 hx4 hx5 hx6 hx7 = hx4
-keyword_of false false false false false true b6 b7 x2 x4 x5 x6 x7 hx2 hx4 hx5 hx6 hx7 = hx5
-keyword_of false false false false false false true b7 x2 x4 x5 x6 x7 hx2 hx4 hx5 hx6 hx7 = hx6
-keyword_of false false false false false false false true x2 x4 x5 x6 x7 hx2 hx4 hx5 hx6 hx7 = hx7
-keyword_of false false false false false false false false x2 x4 x5 x6 x7 hx2 hx4 hx5 hx6 hx7 = refl
+keyword_of : (b0 b1 b2 b3 b4 b5 b6 b7 : Bool) (x2 x4 x5 x6 x7 z : Class) → telling x2 ≡ false → telling x4 ≡ false → telling x5 ≡ false → telling x6 ≡ false → telling x7 ≡ false → telling z ≡ false → telling (if b0 then class.Basic else (if b1 then class.Qualifier else (if b2 then x2 else (if b3 then class.Function else (if b4 then x4 else (if b5 then x5 else (if b6 then x6 else (if b7 then x7 else z)))))))) ≡ false
+keyword_of true b1 b2 b3 b4 b5 b6 b7 x2 x4 x5 x6 x7 z hx2 hx4 hx5 hx6 hx7 hz = refl
+keyword_of false true b2 b3 b4 b5 b6 b7 x2 x4 x5 x6 x7 z hx2 hx4 hx5 hx6 hx7 hz = refl
+keyword_of false false true b3 b4 b5 b6 b7 x2 x4 x5 x6 x7 z hx2 hx4 hx5 hx6 hx7 hz = hx2
+keyword_of false false false true b4 b5 b6 b7 x2 x4 x5 x6 x7 z hx2 hx4 hx5 hx6 hx7 hz = refl
+keyword_of false false false false true b5 b6 b7 x2 x4 x5 x6 x7 z hx2 hx4 hx5 hx6 hx7 hz = hx4
+keyword_of false false false false false true b6 b7 x2 x4 x5 x6 x7 z hx2 hx4 hx5 hx6 hx7 hz = hx5
+keyword_of false false false false false false true b7 x2 x4 x5 x6 x7 z hx2 hx4 hx5 hx6 hx7 hz = hx6
+keyword_of false false false false false false false true x2 x4 x5 x6 x7 z hx2 hx4 hx5 hx6 hx7 hz = hx7
+keyword_of false false false false false false false false x2 x4 x5 x6 x7 z hx2 hx4 hx5 hx6 hx7 hz = hz
+
+-- a list that gives no such class
+class_in_quiet : (ws : List (List ℕ × Class)) (s : List ℕ) → IsTrue (list_all (λ w. not (telling w.1)) ws) → telling (class_in ws s) ≡ false
+class_in_quiet [] s h = refl
+class_in_quiet (w ∷ ws) s h =
+    one_of (bytes_eq s w.0) w.1 (class_in ws s) (not_true (telling w.1) (and_left (not (telling w.1)) (list_all (λ v. not (telling v.1)) ws) h))
+    (class_in_quiet ws s (and_right (not (telling w.1)) (list_all (λ v. not (telling v.1)) ws) h))
 
 keyword_quiet : (names : Names) (s : List ℕ) (ts : List Token) (next : Class) → telling (keyword names s ts next) ≡ false
-keyword_quiet names s ts next = keyword_of (is_basic s) (is_qualifier s) (is_storage_text s) (is_function s) (is_struct s) (is_enum s) (bytes_eq s (codes "sizeof")) (bytes_eq s (codes "_Alignof")) (storage next) ((if has_members ts then class.StructBody else class.Struct)) ((if has_members ts then class.EnumBody else class.Enum)) (sizeof names ts) (alignof names ts) (storage_quiet next) (one_of (has_members ts) class.StructBody class.Struct refl refl) (one_of (has_members ts) class.EnumBody class.Enum refl refl) (sizeof_quiet names ts) (alignof_quiet names ts)
+keyword_quiet names s ts next =
+    keyword_of (is_basic s) (is_qualifier s) (is_storage_text s) (is_function s) (is_struct s) (is_enum s) (bytes_eq s (codes "sizeof")) (bytes_eq s (codes "_Alignof"))
+    (storage next) (if has_members ts then class.StructBody else class.Struct) (if has_members ts then class.EnumBody else class.Enum) (sizeof names ts) (alignof names ts) (class_in keywords s)
+    (storage_quiet next) (one_of (has_members ts) class.StructBody class.Struct refl refl) (one_of (has_members ts) class.EnumBody class.Enum refl refl) (sizeof_quiet names ts) (alignof_quiet names ts)
+    (class_in_quiet keywords s refl)
 
 operator_of : (b0 b1 b2 b3 b4 b5 b6 b7 b8 b9 : Bool) → telling (if b0 then class.Step else (if b1 then class.Equality else (if b2 then class.Order else (if b3 then class.AndAnd else (if b4 then class.OrOr else (if b5 then class.Or else (if b6 then class.Xor else (if b7 then class.Slash else (if b8 then class.Shift else (if b9 then class.Assign else class.Other)))))))))) ≡ false
 operator_of true b1 b2 b3 b4 b5 b6 b7 b8 b9 = refl
@@ -101,15 +114,20 @@ operator_of false false false false false false false false false false = refl
 operator_quiet : (s : List ℕ) → telling (operator s) ≡ false
 operator_quiet s = operator_of (bytes_eq s (codes "++") || bytes_eq s (codes "--")) (bytes_eq s (codes "==") || bytes_eq s (codes "!=")) (bytes_eq s (codes "<") || bytes_eq s (codes ">") || bytes_eq s (codes "<=") || bytes_eq s (codes ">=")) (bytes_eq s (codes "&&")) (bytes_eq s (codes "||")) (bytes_eq s (codes "|")) (bytes_eq s (codes "^")) (bytes_eq s (codes "/") || bytes_eq s (codes "%")) (bytes_eq s (codes "<<") || bytes_eq s (codes ">>")) (bytes_eq s (codes "*=") || bytes_eq s (codes "/=") || bytes_eq s (codes "%=") || bytes_eq s (codes "+=") || bytes_eq s (codes "-=") || bytes_eq s (codes "<<=") || bytes_eq s (codes ">>=") || bytes_eq s (codes "&=") || bytes_eq s (codes "^=") || bytes_eq s (codes "|="))
 
-pattern_of : (b0 b1 b2 b3 : Bool) → telling (if b0 then class.PatOpen else (if b1 then class.PatBar else (if b2 then class.PatAmp else (if b3 then class.PatClose else class.Other)))) ≡ false
-pattern_of true b1 b2 b3 = refl
-pattern_of false true b2 b3 = refl
-pattern_of false false true b3 = refl
-pattern_of false false false true = refl
-pattern_of false false false false = refl
+pattern_of : (b0 b1 b2 b3 b4 b5 : Bool) (x y : Class) → telling x ≡ false → telling y ≡ false → telling (if b0 then x else (if b1 then class.PatBar else (if b2 then class.PatAmp else (if b3 then class.PatClose else (if b4 then y else (if b5 then class.PatNestClose else class.Other)))))) ≡ false
+pattern_of true b1 b2 b3 b4 b5 x y h g = h
+pattern_of false true b2 b3 b4 b5 x y h g = refl
+pattern_of false false true b3 b4 b5 x y h g = refl
+pattern_of false false false true b4 b5 x y h g = refl
+pattern_of false false false false true b5 x y h g = g
+pattern_of false false false false false true x y h g = refl
+pattern_of false false false false false false x y h g = refl
 
-pattern_quiet : (s : List ℕ) → telling (pattern s) ≡ false
-pattern_quiet s = pattern_of (bytes_eq s (codes "\\(")) (bytes_eq s (codes "\\|")) (bytes_eq s (codes "\\&")) (bytes_eq s (codes "\\)"))
+pattern_quiet : (s : List ℕ) (ts : List Token) (next : Class) → telling (pattern s ts next) ≡ false
+pattern_quiet s ts next =
+    pattern_of (bytes_eq s (codes "\\(")) (bytes_eq s (codes "\\|")) (bytes_eq s (codes "\\&")) (bytes_eq s (codes "\\)")) (bytes_eq s (codes "<...") || bytes_eq s (codes "<+...")) (bytes_eq s (codes "...>") || bytes_eq s (codes "...+>"))
+    (if is_of_statements ts next then class.PatOpenOfStatements else class.PatOpen) (if is_of_statements ts next then class.PatNestOfStatements else class.PatNestOfExpression)
+    (one_of (is_of_statements ts next) class.PatOpenOfStatements class.PatOpen refl refl) (one_of (is_of_statements ts next) class.PatNestOfStatements class.PatNestOfExpression refl refl)
 
 sign_of : (b0 b1 b2 b3 b4 b5 b6 b7 b8 b9 b10 b11 b12 b13 b14 : Bool) (x12 : Class) (z : Class) → telling x12 ≡ false → telling z ≡ false → telling (if b0 then class.Semicolon else (if b1 then class.Arrow else (if b2 then class.Dot else (if b3 then class.Equal else (if b4 then class.LeftBracket else (if b5 then class.RightBracket else (if b6 then class.LeftBrace else (if b7 then class.RightBrace else (if b8 then class.Star else (if b9 then class.And else (if b10 then class.Plus else (if b11 then class.Not else (if b12 then x12 else (if b13 then class.Colon else (if b14 then class.Ellipsis else z))))))))))))))) ≡ false
 sign_of true b1 b2 b3 b4 b5 b6 b7 b8 b9 b10 b11 b12 b13 b14 x12 z hx12 hz = refl
@@ -138,22 +156,32 @@ other_quiet s ts = sign_of (bytes_eq s (codes ";")) (bytes_eq s (codes "->")) (b
 
 -- ---- where a member may begin
 
-name_leads : (a b : Bool) → leads_class (if a then class.NameOfString else (if b then class.NameOfCall else class.Name)) ≡ false
-name_leads true b = refl
-name_leads false true = refl
-name_leads false false = refl
+bracket_leads : (a b : Bool) → leads_class (if a then (if b then class.NameOfStarIterator else class.NameOfIterator) else (if b then class.Name else class.NameOfCall)) ≡ false
+bracket_leads true true = refl
+bracket_leads true false = refl
+bracket_leads false true = refl
+bracket_leads false false = refl
 
-name_quiet : (ts : List Token) → leads_class (name ts) ≡ false
-name_quiet ts = name_leads (at_string ts) (is_of_call ts)
+name_leads : (a b c d : Bool) (x : Class) → leads_class x ≡ false → leads_class (if a then class.NameOfString else (if b then class.NameOfLabel else (if c then x else (if d then class.NameOfDecl else class.Name)))) ≡ false
+name_leads true b c d x h = refl
+name_leads false true c d x h = refl
+name_leads false false true d x h = h
+name_leads false false false true x h = refl
+name_leads false false false false x h = refl
 
-meta_quiet : (k : MetaKind) (ts : List Token) → leads_class (metavariable k ts) ≡ false
-meta_quiet meta.Expr ts = refl
-meta_quiet meta.Constant ts = refl
-meta_quiet meta.ExprList ts = refl
-meta_quiet meta.Ident ts = name_quiet ts
-meta_quiet meta.Typ ts = untold (typ ts) (typ_quiet ts)
-meta_quiet meta.Params ts = refl
-meta_quiet meta.Stmt ts = refl
+name_quiet : (names : Names) (s : List ℕ) (ts : List Token) → leads_class (name names s ts) ≡ false
+name_quiet names s [] = refl
+name_quiet names s (t ∷ ts) =
+    name_leads (is_string t) (is_sign t (codes ":")) (is_sign t (codes "(")) (declares names s (t ∷ ts)) (name_of_bracket s ts) (bracket_leads (iterates s ts) (at_sign ts (codes "*")))
+
+meta_quiet : (names : Names) (k : MetaKind) (s : List ℕ) (ts : List Token) → leads_class (metavariable names k s ts) ≡ false
+meta_quiet names meta.Expr s ts = refl
+meta_quiet names meta.Constant s ts = refl
+meta_quiet names meta.ExprList s ts = refl
+meta_quiet names meta.Ident s ts = name_quiet names s ts
+meta_quiet names meta.Typ s ts = untold (typ ts) (typ_quiet ts)
+meta_quiet names meta.Params s ts = refl
+meta_quiet names meta.Stmt s ts = refl
 
 first_leads : (a b c : Bool) (x w : Class) → leads_class w ≡ false → IsTrue (leads_class (if a then x else (if b then class.Close else (if c then class.Comma else w)))) → IsTrue (a || c)
 first_leads true b c x w h l = refl
@@ -170,16 +198,16 @@ quiet_leads c h l = let never : ⊥ = cc in absurd never
 
 kind_leads : (names : Names) (k : TokenKind) (s : List ℕ) (ts : List Token) (next : Class) → IsTrue (leads_class (class_of names k s ts next))
     → IsTrue (is_punct_kind k && bytes_eq s (codes "(") || is_punct_kind k && bytes_eq s (codes ","))
-kind_leads names token.Name s ts next l = quiet_leads (name ts) (name_quiet ts) l
+kind_leads names token.Name s ts next l = quiet_leads (name names s ts) (name_quiet names s ts) l
 kind_leads names token.Keyword s ts next l = quiet_leads (keyword names s ts next) (untold (keyword names s ts next) (keyword_quiet names s ts next)) l
 kind_leads names token.Number s ts next l = let never : ⊥ = cc in absurd never
 kind_leads names token.Char s ts next l = let never : ⊥ = cc in absurd never
 kind_leads names token.Str s ts next l = quiet_leads (string ts) (untold (string ts) (string_quiet ts)) l
 kind_leads names token.Punct s ts next l = sign_leads names s ts l
 kind_leads names token.Stray s ts next l = let never : ⊥ = cc in absurd never
-kind_leads names (token.Meta k) s ts next l = quiet_leads (metavariable k ts) (meta_quiet k ts) l
+kind_leads names (token.Meta k) s ts next l = quiet_leads (metavariable names k s ts) (meta_quiet names k s ts) l
 kind_leads names token.Dots s ts next l = let never : ⊥ = cc in absurd never
-kind_leads names token.Pat s ts next l = quiet_leads (pattern s) (untold (pattern s) (pattern_quiet s)) l
+kind_leads names token.Pat s ts next l = quiet_leads (pattern s ts next) (untold (pattern s ts next) (pattern_quiet s ts next)) l
 
 pub token_leads : (names : Names) (t : Token) (ts : List Token) → IsTrue (leads_class (look names (t ∷ ts))) → IsTrue (leads_member t)
 unfolding look
@@ -192,7 +220,7 @@ nest_unnamed true x y h g = h
 nest_unnamed false x y h g = g
 
 bracket_unnamed : (names : Names) (ts : List Token) → fits word.Name (bracket names ts) ≡ false
-bracket_unnamed names ts = pick (begins_type names ts || begins_unknown_cast ts) (closes_before_brace 0 ts)
+bracket_unnamed names ts = pick (begins_type names ts || begins_unknown_cast ts) (closes_before_brace ts)
   where
     pick : (a b : Bool) → fits word.Name (if a then (if b then nest_or (begins_nest names ts) class.LiteralNest class.LiteralList else nest_or (begins_nest names ts) class.CastNest class.CastList)
         else nest_or (begins_nest names ts) class.ParenNest class.ParenList) ≡ false
@@ -213,14 +241,14 @@ sign_unnamed names s ts =
 no_name : {A : Type 0} (c : Class) → fits word.Name c ≡ false → IsTrue (fits word.Name c) → A
 no_name c h l = let never : ⊥ = cc in absurd never
 
-meta_named : (k : MetaKind) (ts : List Token) → IsTrue (fits word.Name (metavariable k ts)) → IsTrue (named_kind (token.Meta k))
-meta_named meta.Expr ts l = let never : ⊥ = cc in absurd never
-meta_named meta.Constant ts l = let never : ⊥ = cc in absurd never
-meta_named meta.ExprList ts l = let never : ⊥ = cc in absurd never
-meta_named meta.Ident ts l = refl
-meta_named meta.Typ ts l = no_name (typ ts) (unnamed (typ ts) (typ_quiet ts)) l
-meta_named meta.Params ts l = let never : ⊥ = cc in absurd never
-meta_named meta.Stmt ts l = let never : ⊥ = cc in absurd never
+meta_named : (names : Names) (k : MetaKind) (s : List ℕ) (ts : List Token) → IsTrue (fits word.Name (metavariable names k s ts)) → IsTrue (named_kind (token.Meta k))
+meta_named names meta.Expr s ts l = let never : ⊥ = cc in absurd never
+meta_named names meta.Constant s ts l = let never : ⊥ = cc in absurd never
+meta_named names meta.ExprList s ts l = let never : ⊥ = cc in absurd never
+meta_named names meta.Ident s ts l = refl
+meta_named names meta.Typ s ts l = no_name (typ ts) (unnamed (typ ts) (typ_quiet ts)) l
+meta_named names meta.Params s ts l = let never : ⊥ = cc in absurd never
+meta_named names meta.Stmt s ts l = let never : ⊥ = cc in absurd never
 
 kind_named : (names : Names) (k : TokenKind) (s : List ℕ) (ts : List Token) (next : Class) → IsTrue (fits word.Name (class_of names k s ts next)) → IsTrue (named_kind k)
 kind_named names token.Name s ts next l = refl
@@ -230,9 +258,9 @@ kind_named names token.Char s ts next l = let never : ⊥ = cc in absurd never
 kind_named names token.Str s ts next l = no_name (string ts) (unnamed (string ts) (string_quiet ts)) l
 kind_named names token.Punct s ts next l = no_name (sign names s ts) (sign_unnamed names s ts) l
 kind_named names token.Stray s ts next l = let never : ⊥ = cc in absurd never
-kind_named names (token.Meta k) s ts next l = meta_named k ts l
+kind_named names (token.Meta k) s ts next l = meta_named names k s ts l
 kind_named names token.Dots s ts next l = let never : ⊥ = cc in absurd never
-kind_named names token.Pat s ts next l = no_name (pattern s) (unnamed (pattern s) (pattern_quiet s)) l
+kind_named names token.Pat s ts next l = no_name (pattern s ts next) (unnamed (pattern s ts next) (pattern_quiet s ts next)) l
 
 -- A token of a name's class is a name.
 pub token_named : (names : Names) (t : Token) (ts : List Token) → IsTrue (fits word.Name (look names (t ∷ ts))) → IsTrue (is_named t)

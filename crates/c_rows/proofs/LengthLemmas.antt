@@ -76,30 +76,30 @@ mutual
   runs_shorter (word h rest) = omega (arith, runs_shorter rest)
   runs_shorter (child d rest) = omega (arith, spells_shorter d, runs_shorter rest)
   runs_shorter (argument {xs = xs} d rest) = omega (arith, spells_shorter d, runs_shorter rest, member_full (front_typed xs))
-  runs_shorter (fork {f = f} {ps = ps} i w way) = omega (arith, runs_shorter way, way_need f i ps w)
+  runs_shorter (fork {f = f} {ps = ps} i w v way) = omega (arith, runs_shorter way, way_need f i ps w)
 
 -- ---- the measure of the loop over a row
 
-weight_one : (b : Bool) → (if b then 0 else 1) ≤ 1
-weight_one true = omega arith
-weight_one false = omega arith
+weight_two : (b : Bool) → (if b then 0 else 2) ≤ 2
+weight_two true = omega arith
+weight_two false = omega arith
 
-pub weight-small : (ps : Row) → weight ps ≤ 1
+pub weight-small : (ps : Row) → weight ps ≤ 2
 weight-small [] = omega arith
 weight-small (symbol.Word w ∷ ps) = omega arith
-weight-small (symbol.Child k ∷ ps) = weight_one (full (family_of k))
+weight-small (symbol.Child k ∷ ps) = weight_two (full (family_of k))
 weight-small (symbol.Argument ∷ ps) = omega arith
 weight-small (symbol.Fork f ∷ ps) = omega arith
 
-full_or : (b : Bool) (n : ℕ) → IsTrue (b || (n == 0)) → n ≤ 1 → (a c : ℕ) → a + (if b then 1 else 0) ≤ c → 2 * a + n < 2 * c + (if b then 0 else 1)
+full_or : (b : Bool) (n : ℕ) → IsTrue (b || nat_le n 1) → n ≤ 2 → (a c : ℕ) → a + (if b then 1 else 0) ≤ c → 3 * a + n < 3 * c + (if b then 0 else 2)
 full_or true n h small a c le = omega arith
-full_or false n h small a c le = let z : n ≡ 0 = eqb-true n 0 h in omega arith
+full_or false n h small a c le = omega (arith, le_from n 1 h)
 
 pub smaller-child : (k : Kind) (ps : Row) (xs ys : List Seen) → IsTrue (steady (symbol.Child k ∷ ps)) → length ys + least (family_of k) ≤ length xs
-    → 2 * length ys + weight ps < 2 * length xs + weight (symbol.Child k ∷ ps)
-smaller-child k ps xs ys s le = full_or (full (family_of k)) (weight ps) (and_left (full (family_of k) || (weight ps == 0)) (steady ps) s) (weight-small ps) (length ys) (length xs) le
+    → 3 * length ys + weight ps < 3 * length xs + weight (symbol.Child k ∷ ps)
+smaller-child k ps xs ys s le = full_or (full (family_of k)) (weight ps) (and_left (full (family_of k) || nat_le (weight ps) 1) (steady ps) s) (weight-small ps) (length ys) (length xs) le
 
-pub smaller-argument : (ps : Row) (xs ys : List Seen) → length ys + 1 ≤ length xs → 2 * length ys + weight ps < 2 * length xs + weight (symbol.Argument ∷ ps)
+pub smaller-argument : (ps : Row) (xs ys : List Seen) → length ys + 1 ≤ length xs → 3 * length ys + weight ps < 3 * length xs + weight (symbol.Argument ∷ ps)
 smaller-argument ps xs ys le = omega (arith, weight-small ps)
 
 -- ---- what is left of a fine row

@@ -35,7 +35,7 @@ module _ (names : Names) where
       rest_row (child d rest) p = rest_row rest (rest_tree d p)
       rest_row (argument d rest) p = rest_row rest (rest_tree d p)
       rest_row (type_argument a d rest) p = rest_row rest (rest_tree d p)
-      rest_row (fork i w way) p = rest_row way p
+      rest_row (fork i w v way) p = rest_row way p
 
     module _ (go : (ts us : List Token) (t : Tree) → Rest ts → Derives names may kind.TypeArg ts t us → IsTrue (ends_member (look names us)) → may ts us → also ts us) where
       mutual
@@ -54,7 +54,7 @@ module _ (names : Names) where
         changed_row (type_argument {ps = ps} {xs = xs} {ys = us} {zs = ys} {t = t} a d rest) p j c =
             let h : IsTrue (ends_member (look names us)) = member_end names may rest j c in
             type_argument (go xs us t p d h a) (changed d p (member_after true (look names us) h)) (changed_row rest (rest_tree d p) (joins_member ps j) (closes_member ps (look names ys) c))
-        changed_row (fork {f = f} {ps = ps} {ys = ys} i w way) p j c = fork i w (changed_row way p (joins_way f i ps w) (closes_way f i ps (look names ys) w c))
+        changed_row (fork {f = f} {ps = ps} {ys = ys} i w v way) p j c = fork i w v (changed_row way p (joins_way f i ps w) (closes_way f i ps (look names ys) w c))
 
   -- Where no expression of the rows stands, none that obeys the rule does.
   none_loose : (n : ℕ) (xs ys : List Token) → NoExpression names xs ys → NoRival names n xs ys

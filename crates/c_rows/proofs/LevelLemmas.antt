@@ -32,6 +32,10 @@ abbrev least_fork : Fork → ℕ
 least_fork forks.FirstString = 4
 least_fork forks.NoType = 4
 least_fork forks.MacroWords = 4
+least_fork forks.FirstDeclarator = 4
+least_fork forks.FirstExternal = 4
+least_fork forks.MacroNames = 4
+least_fork forks.NestStart = 4
 least_fork _ = 0
 
 abbrev least_tree : Family → ℕ
@@ -66,6 +70,7 @@ height family.Param = 2
 height family.Field = 2
 height family.Specs = 1
 height family.InitItem = 1
+height family.StmtList = 1
 height _ = 0
 
 abbrev credit : Fork → ℕ
@@ -78,6 +83,8 @@ credit forks.FirstInit = 7
 credit forks.NextInit = 7
 credit forks.FirstString = 9
 credit forks.MacroWords = 9
+credit forks.MacroNames = 9
+credit forks.NestStart = 9
 credit _ = 8
 
 abbrev room : Row → ℕ → Bool
@@ -163,7 +170,7 @@ module _ (names : Names) (may : List Token → List Token → Type 0) where
     row_least (child {k = k} {ps = ps} {xs = xs} {ys = mid} {zs = ys} d rest) = step_least (least ps) (least_tree (family_of k)) (length xs) (length mid) (length ys) (tree_least d) (row_least rest)
     row_least (argument {ps = ps} {xs = xs} {ys = mid} {zs = ys} d rest) = step_least (least ps) 4 (length xs) (length mid) (length ys) (tree_least d) (row_least rest)
     row_least (type_argument {ps = ps} {xs = xs} {ys = mid} {zs = ys} a d rest) = step_least (least ps) 4 (length xs) (length mid) (length ys) (tree_least d) (row_least rest)
-    row_least (fork {f = f} {ps = ps} {xs = xs} {ys = ys} i w way) =
+    row_least (fork {f = f} {ps = ps} {xs = xs} {ys = ys} i w v way) =
         weaken_least (least_fork f) (least ps) (length xs) (length ys) (le_is _ _ (row_at (least_at f) (ways f) i ps (least_ways f) w)) (row_least way)
 
   mutual
@@ -188,7 +195,7 @@ module _ (names : Names) (may : List Token → List Token → Type 0) where
         step_low (levels t) (levels_of_all cs) c 3 (least ps) 4 (length xs) (length mid) (length ys) (tree_low d) (tree_least d)
         (row_low rest (c - 4) (and_right (nat_le (c + 3) (least ps + 8)) (room ps (c - 4)) h)) (row_least rest)
         (le_is _ _ (and_left (nat_le (c + 3) (least ps + 8)) (room ps (c - 4)) h))
-    row_low (fork {f = f} {ps = ps} {xs = xs} {ys = ys} {cs = cs} i w way) c h =
+    row_low (fork {f = f} {ps = ps} {xs = xs} {ys = ys} {cs = cs} i w v way) c h =
         weaken_low (levels_of_all cs) c (credit f) (length xs) (length ys) (le_is c (credit f) h) (row_low way (credit f) (row_at (room_at f) (ways f) i ps (room_ways f) w))
 
 short_low : (l x y : ℕ) → x ≤ 250 → l + 4 * y ≤ 4 * x + 0 → l ≤ 1000

@@ -27,7 +27,7 @@ module _ (names : Names) (may : List Token → List Token → Type 0) where
     row_leaves (child {xs = xs} {ys = us} {zs = ys} {t = t} {cs = cs} d rest) = first_part t cs xs us ys (derived_leaves d) (row_leaves rest)
     row_leaves (argument {xs = xs} {ys = us} {zs = ys} {t = t} {cs = cs} d rest) = first_part t cs xs us ys (derived_leaves d) (row_leaves rest)
     row_leaves (type_argument {xs = xs} {ys = us} {zs = ys} {t = t} {cs = cs} a d rest) = first_part t cs xs us ys (derived_leaves d) (row_leaves rest)
-    row_leaves (fork i w way) = row_leaves way
+    row_leaves (fork i w v way) = row_leaves way
 
 pub tree_leaves : (k : Kind) (names : Names) (tokens : List Token) (t : Tree) → IsTreeOf k names tokens t → leaves t ≡ tokens
 tree_leaves k names tokens t h = sym (append-nil (leaves t)) ∙ sym (derived_leaves names _ h.derived)

@@ -12,7 +12,7 @@ use Rattle.c_rows.specs.declared.symbol.Symbol.TheVariants as symbol
 use Rattle.c_rows.specs.declared.symbol.Fork.{Fork}
 use Rattle.c_rows.specs.declared.symbol.Fork.TheVariants as forks
 use Rattle.c_rows.specs.Kinds.{family_of}
-use Rattle.c_rows.specs.Branches.{kind_of, begins}
+use Rattle.c_rows.specs.Branches.{kind_of, begins, may_go}
 use Rattle.c_rows.specs.Rows.{Row, row, ways}
 use Rattle.c_rows.specs.Seen.{Seen, front}
 use Rattle.c_rows.specs.Spells.{Spells, leaf, branch, Runs, done, word, child, argument, fork}
@@ -26,6 +26,8 @@ abbrev headed_fork : Fork → Bool
 headed_fork forks.FirstString = true
 headed_fork forks.NoType = true
 headed_fork forks.MacroWords = true
+headed_fork forks.MacroNames = true
+headed_fork forks.NestStart = true
 headed_fork _ = false
 
 abbrev headed : Row → Bool
@@ -77,7 +79,7 @@ mutual
   row_flag (word {s = s} f rest) b h = word {s = flagged b s} f rest
   row_flag (child d rest) b h = child (tree_flag d b h) rest
   row_flag (argument d rest) b h = let never : ⊥ = cc in absurd never
-  row_flag (fork {f = f} {ps = ps} i w way) b h = fork i w (row_flag way b (headed_way f i ps w h))
+  row_flag (fork {f = f} {ps = ps} {xs = xs} i w v way) b h = fork i w (subst (λ (c : Class). IsTrue (may_go f ps c)) (sym (front_same b xs)) v) (row_flag way b (headed_way f i ps w h))
 
 pub flag_free : (s : Seen) (ss : List Seen) → NoMember (unmarked s ∷ ss) → NoMember (s ∷ ss)
 flag_free s ss n = λ u ys d e l. n u ys (tree_flag d false refl) e l

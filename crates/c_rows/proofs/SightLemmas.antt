@@ -15,7 +15,7 @@ use Rattle.c_rows.specs.declared.rule.Rule.{Rule}
 use Rattle.c_rows.specs.declared.symbol.Symbol.TheVariants as symbol
 use Rattle.c_rows.specs.Words.{fits, ends_member}
 use Rattle.c_rows.specs.Kinds.{family_of, has_leaf}
-use Rattle.c_rows.specs.Branches.{kind_of, label_of, begins}
+use Rattle.c_rows.specs.Branches.{kind_of, label_of, begins, may_go}
 use Rattle.c_rows.specs.Rows.{Row, row}
 use Rattle.c_rows.specs.Look.{Names, look}
 use Rattle.c_rows.specs.Seen.{Seen, front, front_typed}
@@ -158,9 +158,9 @@ module _ (names : Names) where
               derived = take_member (front_typed ss) l ps ts x.rest y.rest ss us t cs refl a x.derived
                   (subst (λ (o : Class). IsTrue (ends_member o)) (front_is x.leads x.rest us x.right) h) (m refl) y.derived;
             }
-        take_row (seen.fork {f = f} {ps = ps} {ys = ys} i w way) l ts a p m e j c =
+        take_row (seen.fork {f = f} {ps = ps} {ys = ys} i w v way) l ts a p m e j c =
             let y = take_row way l ts a p (λ b. m (needs_way f i ps w b)) (led_way f i ps w) (joins_way f i ps w) (closes_way f i ps (front ys) w c) in
-            record { leads = y.leads; rest = y.rest; right = y.right; wide = y.wide; derived = fork i w y.derived }
+            record { leads = y.leads; rest = y.rest; right = y.right; wide = y.wide; derived = fork i w (subst (λ (c : Class). IsTrue (may_go f ps c)) (front_is l ts _ a) v) y.derived }
 
   -- ---- from the tokens to what is seen
 
@@ -297,6 +297,6 @@ module _ (names : Names) where
                 wide = y.wide;
                 spelled = seen.argument (subst (λ (b : Bool). Spells (member_kind b) ss t x.rest) (sym f) x.spelled) y.spelled;
               }
-          keep_row (fork {f = f} {ps = ps} {xs = ts} {ys = us} i w way) l ss a p m e j c n =
+          keep_row (fork {f = f} {ps = ps} {xs = ts} {ys = us} i w v way) l ss a p m e j c n =
               let y = keep_row way l ss a p (λ b. m (needs_way f i ps w b)) (led_way f i ps w) (joins_way f i ps w) (closes_way f i ps (look names us) w c) n in
-              record { leads = y.leads; rest = y.rest; right = y.right; wide = y.wide; spelled = seen.fork i w y.spelled }
+              record { leads = y.leads; rest = y.rest; right = y.right; wide = y.wide; spelled = seen.fork i w (subst (λ (c : Class). IsTrue (may_go f ps c)) (sym (front_is l ts ss a)) v) y.spelled }

@@ -46,4 +46,4 @@ word_is_type : Derives [] (NoRival [] 1) kind.TypeArg (int ∷ []) (build rule.T
 unfolding look
 word_is_type =
     branch rule.TypeArg refl refl refl (child (branch rule.TypeName refl refl specs_plain
-    (child (branch rule.Specs refl refl refl (fork 1 refl (word refl (fork 1 refl done)))) (fork 1 refl done))) done)
+    (child (branch rule.Specs refl refl refl (fork 1 refl refl (word refl (fork 1 refl refl done)))) (fork 1 refl refl done))) done)

@@ -184,7 +184,7 @@ module _ (names : Names) (may : List Token → List Token → Type 0) where
   modifiers_end (child d rest) m = let never : ⊥ = cc in absurd never
   modifiers_end (argument d rest) m = let never : ⊥ = cc in absurd never
   modifiers_end (type_argument a d rest) m = let never : ⊥ = cc in absurd never
-  modifiers_end (fork i w way) m = let never : ⊥ = cc in absurd never
+  modifiers_end (fork i w v way) m = let never : ⊥ = cc in absurd never
 
   one_type_end : {ps : Row} {xs ys : List Token} {cs : List Tree} → DerivesRow names may ps xs cs ys → IsTrue (one_type ps) → IsTrue (fits words.Modifier (look names xs)) ⊎ (ys ≡ xs)
   one_type_end done m = let never : ⊥ = cc in absurd never
@@ -192,8 +192,8 @@ module _ (names : Names) (may : List Token → List Token → Type 0) where
   one_type_end (child d rest) m = let never : ⊥ = cc in absurd never
   one_type_end (argument d rest) m = let never : ⊥ = cc in absurd never
   one_type_end (type_argument a d rest) m = let never : ⊥ = cc in absurd never
-  one_type_end (fork {f = forks.OneType} {ps = ps} i w way) m = modifiers_end way (row_at modifier_way (ways forks.OneType) i ps refl w)
-  one_type_end (fork i w way) m = let never : ⊥ = cc in absurd never
+  one_type_end (fork {f = forks.OneType} {ps = ps} i w v way) m = modifiers_end way (row_at modifier_way (ways forks.OneType) i ps refl w)
+  one_type_end (fork i w v way) m = let never : ⊥ = cc in absurd never
 
   way_end : {ps : Row} {xs ys : List Token} {cs : List Tree} → DerivesRow names may ps xs cs ys → IsTrue (type_way ps) → IsTrue (fits words.Name (look names xs))
       → IsTrue (fits words.Modifier (look names (behind xs))) ⊎ (ys ≡ behind xs)
@@ -206,7 +206,7 @@ module _ (names : Names) (may : List Token → List Token → Type 0) where
   way_end (child d rest) m n = let never : ⊥ = cc in absurd never
   way_end (argument d rest) m n = let never : ⊥ = cc in absurd never
   way_end (type_argument a d rest) m n = let never : ⊥ = cc in absurd never
-  way_end (fork i w way) m n = let never : ⊥ = cc in absurd never
+  way_end (fork i w v way) m n = let never : ⊥ = cc in absurd never
 
   abbrev EndsAt : List Token → List Token → Type 0
   EndsAt xs ys = IsTrue (fits words.Modifier (look names (behind xs))) ⊎ (ys ≡ behind xs)
@@ -219,7 +219,7 @@ module _ (names : Names) (may : List Token → List Token → Type 0) where
   words_end {k} (branch r u b al parts) w n = rule_end r parts (within_trans (kind_of r) k kind.Specs u w) n
     where
       rule_end : (r : Rule) {xs ys : List Token} {cs : List Tree} → DerivesRow names may (row r) xs cs ys → IsTrue (within (kind_of r) kind.Specs) → IsTrue (fits words.Name (look names xs)) → EndsAt xs ys
-      rule_end rule.Specs (fork {ps = ps} i g way) w n = way_end way (row_at type_way (ways forks.NoType) i ps refl g) n
+      rule_end rule.Specs (fork {ps = ps} i g v way) w n = way_end way (row_at type_way (ways forks.NoType) i ps refl g) n
       rule_end _ parts w n = let never : ⊥ = cc in absurd never
 
   -- ---- type names
@@ -235,7 +235,7 @@ module _ (names : Names) (may : List Token → List Token → Type 0) where
   nameless_front specs (word f rest) m al e = let never : ⊥ = cc in absurd never
   nameless_front specs (argument d rest) m al e = let never : ⊥ = cc in absurd never
   nameless_front specs (type_argument a d rest) m al e = let never : ⊥ = cc in absurd never
-  nameless_front specs (fork i w way) m al e = let never : ⊥ = cc in absurd never
+  nameless_front specs (fork i w v way) m al e = let never : ⊥ = cc in absurd never
 
   abbrev Fronts : List Token → Type 0
   Fronts xs = IsTrue (fits words.Name (look names xs)) → IsTrue (follows_type (look names (behind xs)) (look names (behind (behind xs))))
@@ -254,7 +254,7 @@ module _ (names : Names) (may : List Token → List Token → Type 0) where
           (subst (λ (zs : List Token). IsTrue (ends_member (look names zs) || begins_nameless (look names zs) (look names (behind zs)))) e h)
 
       rule_name : (r : Rule) {xs ys : List Token} {cs : List Tree} → DerivesRow names may (row r) xs cs ys → IsTrue (allows r cs) → IsTrue (within (kind_of r) kind.TypeName) → IsTrue (ends_member (look names ys)) → Fronts xs
-      rule_name rule.TypeName {xs} (child {ys = us} {t = specs} d (fork {ps = ps} i g way)) al w e = λ n.
+      rule_name rule.TypeName {xs} (child {ys = us} {t = specs} d (fork {ps = ps} i g v way)) al w e = λ n.
           elim (words_end d refl n) as (λ _. IsTrue (follows_type (look names (behind xs)) (look names (behind (behind xs))))) [
             | inl m ↦ early (fits words.Modifier (look names (behind xs))) (ends_member (look names (behind xs))) (begins_nameless (look names (behind xs)) (look names (behind (behind xs)))) m
             | inr s ↦ behind_words xs us s (nameless_front specs way (row_at nameless_way (ways forks.Nameless) i ps refl g) al e)

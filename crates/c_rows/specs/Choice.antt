@@ -1,5 +1,5 @@
 -- How a reader of rows chooses by the class of the next token.
-use Rattle.std.specs.Prelude.{ℕ, ◌==◌, Bool, true, false, not, ◌&&◌, ◌||◌, Option, Some, None, is_some, if◌then◌else◌, List, [], ◌∷◌}
+use Rattle.std.specs.Prelude.{ℕ, ◌==◌, nat_le, Bool, true, false, not, ◌&&◌, ◌||◌, Option, Some, None, is_some, if◌then◌else◌, List, [], ◌∷◌}
 use Rattle.std.specs.List.{list_all}
 use Rattle.c_rows.specs.declared.class.Class.{Class}
 use Rattle.c_rows.specs.declared.class.Class.TheVariants as class
@@ -15,7 +15,7 @@ use Rattle.c_rows.specs.declared.symbol.Fork as forks
 use Rattle.c_rows.specs.declared.symbol.Fork.TheVariants as fork
 use Rattle.c_rows.specs.Words.{fits, begins_tag, begins_specs, ends_member}
 use Rattle.c_rows.specs.Kinds.{family_of, same_family, within}
-use Rattle.c_rows.specs.Branches.{kind_of, begins, begins_macro}
+use Rattle.c_rows.specs.Branches.{kind_of, begins, begins_macro, begins_declaration, begins_dots, may_go}
 use Rattle.c_rows.specs.Rows.{Row, row, ways}
 
 -- ---- what may stand first
@@ -24,6 +24,10 @@ abbrev pub begins_expression : Class → Bool
 begins_expression class.Name = true
 begins_expression class.NameOfString = true
 begins_expression class.NameOfCall = true
+begins_expression class.NameOfLabel = true
+begins_expression class.NameOfDecl = true
+begins_expression class.NameOfIterator = true
+begins_expression class.NameOfStarIterator = true
 begins_expression class.Operand = true
 begins_expression class.Str = true
 begins_expression class.StrOfString = true
@@ -36,6 +40,32 @@ abbrev pub begins_declarator : Class → Bool
 begins_declarator class.Star = true
 begins_declarator class.LeftBracket = true
 begins_declarator c = fits word.Name c || fits word.AnyOpen c
+
+abbrev pub begins_statement : Class → Bool
+begins_statement class.Semicolon = true
+begins_statement class.LeftBrace = true
+begins_statement class.If = true
+begins_statement class.While = true
+begins_statement class.Do = true
+begins_statement class.For = true
+begins_statement class.Switch = true
+begins_statement class.Case = true
+begins_statement class.Default = true
+begins_statement class.Return = true
+begins_statement class.Goto = true
+begins_statement class.Break = true
+begins_statement class.Continue = true
+begins_statement class.Stmt = true
+begins_statement class.PatOpenOfStatements = true
+begins_statement c = begins_dots c || begins_expression c
+
+-- a list of statements ends before this class
+abbrev pub ends_list : Class → Bool
+ends_list class.End = true
+ends_list class.PatBar = true
+ends_list class.PatAmp = true
+ends_list class.PatClose = true
+ends_list _ = false
 
 abbrev pub begins_designator : Class → Bool
 begins_designator class.Dot = true
@@ -60,6 +90,10 @@ first family.InitList c = fits word.LeftBrace c
 first family.InitItem c = begins_designator c
 first family.Designator c = begins_designator c
 first family.Enumerator c = fits word.Name c
+first family.Decl c = begins_specs c
+first family.Statement c = begins_statement c
+first family.StmtList c = begins_statement c || begins_declaration c || ends_list c
+first family.External c = begins_specs c || begins_macro c || fits word.Semicolon c
 
 -- ---- forks
 
@@ -82,6 +116,7 @@ ends_field _ = false
 abbrev pub ends_declarator : Class → Bool
 ends_declarator class.Colon = true
 ends_declarator class.Semicolon = true
+ends_declarator class.LeftBrace = true
 ends_declarator c = ends_type c
 
 -- a row that is at this fork may end before this class
@@ -97,7 +132,10 @@ stops_fork fork.Nameless c = ends_type c
 stops_fork fork.NoType c = not (fits word.BasicOrModifier c)
 stops_fork fork.BasicType c = not (fits word.BasicOrModifier c)
 stops_fork fork.OneType c = not (fits word.BasicOrModifier c)
-stops_fork fork.Pointee c = ends_declarator c
+stops_fork fork.Pointee c = ends_declarator c || fits word.Equal c
+stops_fork fork.InitValue c = ends_declarator c
+stops_fork fork.ListStatements c = ends_list c
+stops_fork fork.ListBehindDots c = ends_list c
 stops_fork fork.FirstParam c = fits word.Close c
 stops_fork fork.MoreParams c = fits word.Close c
 stops_fork fork.NextParam c = fits word.Close c
@@ -106,13 +144,17 @@ stops_fork fork.MoreDesignators c = ends_item c
 stops_fork fork.ItemValue c = ends_item c
 stops_fork _ c = true
 
+-- the way begins with this class
+abbrev pub begins_way : forks.Fork → Row → Class → Bool
+begins_way f [] c = stops_fork f c
+begins_way f (Word w ∷ ps) c = fits w c
+begins_way f (Child k ∷ ps) c = first (family_of k) c
+begins_way f (Argument ∷ ps) c = begins_expression c || begins_specs c
+begins_way f (Fork g ∷ ps) c = false
+
 -- the way leads on at this class
 abbrev pub leads : forks.Fork → Row → Class → Bool
-leads f [] c = stops_fork f c
-leads f (Word w ∷ ps) c = fits w c
-leads f (Child k ∷ ps) c = first (family_of k) c
-leads f (Argument ∷ ps) c = begins_expression c || begins_specs c
-leads f (Fork g ∷ ps) c = false
+leads f ps c = may_go f ps c && begins_way f ps c
 
 abbrev pub pick_way : forks.Fork → List Row → Class → Option Row
 pick_way f [] c = None
@@ -170,13 +212,20 @@ heads family.InitList = rule.InitList ∷ []
 heads family.InitItem = rule.InitItem ∷ []
 heads family.Designator = rule.DotName ∷ rule.At ∷ []
 heads family.Enumerator = []
+heads family.Decl = rule.Decl ∷ []
+heads family.Statement =
+    rule.ExprStat ∷ rule.If ∷ rule.Return ∷ rule.Block ∷ rule.Goto ∷ rule.Label ∷ rule.Case ∷ rule.Break ∷
+    rule.For ∷ rule.While ∷ rule.Switch ∷ rule.Iterator ∷ rule.Default ∷ rule.Continue ∷ rule.Do ∷ rule.Empty ∷
+    rule.PatLists ∷ rule.PatNest ∷ []
+heads family.StmtList = rule.StmtList ∷ []
+heads family.External = rule.External ∷ rule.ExternalMacro ∷ rule.ExternalEmpty ∷ []
 
 -- the rules whose rows begin with a part of the family itself
 abbrev pub tails : Family → List Rule
 tails family.Expression =
     rule.Index ∷ rule.Call ∷ rule.Member ∷ rule.Arrow ∷ rule.PostOp ∷ rule.OrOr ∷ rule.AndAnd ∷ rule.Or ∷ rule.Xor ∷ rule.And
     ∷ rule.Equality ∷ rule.Order ∷ rule.Shift ∷ rule.Sum ∷ rule.Product ∷ rule.Cond ∷ rule.CondShort ∷ rule.Assign ∷ rule.Comma ∷ []
-tails family.Declarator = rule.DArray ∷ rule.DFun ∷ rule.Bits ∷ []
+tails family.Declarator = rule.DArray ∷ rule.DFun ∷ rule.Bits ∷ rule.InitDecl ∷ []
 tails family.Enumerator = rule.EnumValue ∷ []
 tails _ = []
 
@@ -214,11 +263,16 @@ bottom family.InitList = kind.InitList
 bottom family.InitItem = kind.InitItem
 bottom family.Designator = kind.Designator
 bottom family.Enumerator = kind.EnumName
+bottom family.Decl = kind.Decl
+bottom family.Statement = kind.PatNest
+bottom family.StmtList = kind.StmtList
+bottom family.External = kind.External
 
 -- the families whose trees have at least one token
 abbrev pub full : Family → Bool
 full family.Args = false
 full family.Params = false
+full family.StmtList = false
 full _ = true
 
 -- ---- what may follow
@@ -236,6 +290,7 @@ top family.Params c = fits word.Close c
 top family.Param c = ends_member c
 top family.InitItem c = ends_item c
 top family.Enumerator c = ends_item c
+top family.StmtList c = ends_list c
 top _ c = true
 
 abbrev pub takes_left : Kind → Option Kind → Bool
@@ -272,16 +327,20 @@ ends (Fork f ∷ ps) c = stops_fork f c
 
 abbrev pub classes : List Class
 classes =
-    class.End ∷ class.Name ∷ class.NameOfString ∷ class.NameOfCall ∷ class.Operand ∷ class.Str ∷
-    class.StrOfString ∷ class.ParenNest ∷ class.ParenList ∷ class.CastNest ∷ class.CastList ∷ class.LiteralNest ∷
-    class.LiteralList ∷ class.Close ∷ class.LeftBracket ∷ class.RightBracket ∷ class.LeftBrace ∷
-    class.RightBrace ∷ class.Dot ∷ class.Arrow ∷ class.Step ∷ class.And ∷ class.Star ∷ class.Plus ∷ class.Not ∷
-    class.Slash ∷ class.Shift ∷ class.Order ∷ class.Equality ∷ class.Xor ∷ class.Or ∷ class.AndAnd ∷ class.OrOr ∷
-    class.Question ∷ class.ShortQuestion ∷ class.Colon ∷ class.Semicolon ∷ class.Comma ∷ class.Equal ∷
-    class.Assign ∷ class.Ellipsis ∷ class.SizeofExpr ∷ class.SizeofType ∷ class.Basic ∷ class.Qualifier ∷
-    class.Function ∷ class.Storage ∷ class.StorageOfMacro ∷ class.Struct ∷ class.StructBody ∷ class.Enum ∷
-    class.EnumBody ∷ class.TypOfDeclarator ∷ class.Typ ∷ class.Dots ∷ class.ExprList ∷ class.ParamList ∷
-    class.PatOpen ∷ class.PatBar ∷ class.PatAmp ∷ class.PatClose ∷ class.Other ∷ []
+    class.End ∷ class.Name ∷ class.NameOfString ∷ class.NameOfCall ∷ class.NameOfLabel ∷ class.NameOfDecl ∷
+    class.NameOfIterator ∷ class.NameOfStarIterator ∷ class.Operand ∷ class.Str ∷ class.StrOfString ∷
+    class.ParenNest ∷ class.ParenList ∷ class.CastNest ∷ class.CastList ∷ class.LiteralNest ∷ class.LiteralList ∷
+    class.Close ∷ class.LeftBracket ∷ class.RightBracket ∷ class.LeftBrace ∷ class.RightBrace ∷ class.Dot ∷
+    class.Arrow ∷ class.Step ∷ class.And ∷ class.Star ∷ class.Plus ∷ class.Not ∷ class.Slash ∷ class.Shift ∷
+    class.Order ∷ class.Equality ∷ class.Xor ∷ class.Or ∷ class.AndAnd ∷ class.OrOr ∷ class.Question ∷
+    class.ShortQuestion ∷ class.Colon ∷ class.Semicolon ∷ class.Comma ∷ class.Equal ∷ class.Assign ∷
+    class.Ellipsis ∷ class.SizeofExpr ∷ class.SizeofType ∷ class.Basic ∷ class.Qualifier ∷ class.Function ∷
+    class.Storage ∷ class.StorageOfMacro ∷ class.Struct ∷ class.StructBody ∷ class.Enum ∷ class.EnumBody ∷
+    class.TypOfDeclarator ∷ class.Typ ∷ class.Dots ∷ class.ExprList ∷ class.ParamList ∷ class.Stmt ∷
+    class.PatOpen ∷ class.PatOpenOfStatements ∷ class.PatBar ∷ class.PatAmp ∷ class.PatClose ∷
+    class.PatNestOfExpression ∷ class.PatNestOfStatements ∷ class.PatNestClose ∷ class.If ∷ class.Else ∷
+    class.While ∷ class.Do ∷ class.For ∷ class.Switch ∷ class.Case ∷ class.Default ∷ class.Return ∷ class.Goto ∷
+    class.Break ∷ class.Continue ∷ class.Other ∷ []
 
 abbrev pub every : (Class → Bool) → Bool
 every p = list_all p classes
@@ -301,19 +360,19 @@ row_ok (Argument ∷ p ∷ ps) = every (λ c. implies (opens (p ∷ ps) c) (ends
 row_ok (Fork f ∷ []) = true
 row_ok (Fork f ∷ p ∷ ps) = false
 
--- a number for a row that may go on without a token
+-- a number for a row that may go on without a token, and more where it does so twice
 abbrev pub weight : Row → ℕ
 weight [] = 0
 weight (Word w ∷ ps) = 0
-weight (Child k ∷ ps) = if full (family_of k) then 0 else 1
+weight (Child k ∷ ps) = if full (family_of k) then 0 else 2
 weight (Argument ∷ ps) = 0
 weight (Fork f ∷ ps) = 1
 
--- A part that may take no token stands before one that takes one.
+-- A part that may take no token stands before one that takes one, or before a fork.
 abbrev pub steady : Row → Bool
 steady [] = true
 steady (Word w ∷ ps) = steady ps
-steady (Child k ∷ ps) = (full (family_of k) || (weight ps == 0)) && steady ps
+steady (Child k ∷ ps) = (full (family_of k) || nat_le (weight ps) 1) && steady ps
 steady (Argument ∷ ps) = steady ps
 steady (Fork f ∷ ps) = true
 

@@ -13,7 +13,7 @@ use Rattle.c_rows.specs.Look.{Names, look}
 use Rattle.c_rows.specs.Words.{fits}
 use Rattle.c_rows.specs.Kinds.{family_of, within, has_leaf}
 use Rattle.c_rows.specs.Rows.{Row, row, ways}
-use Rattle.c_rows.specs.Branches.{kind_of, build, begins, allows}
+use Rattle.c_rows.specs.Branches.{kind_of, build, begins, allows, may_go}
 
 -- `may` says of two lists, the second of which is the end of the first, whether a type that spells the tokens
 -- between them may be a member of a call's list.
@@ -40,7 +40,7 @@ module _ (names : Names) (may : List Token → List Token → Type 0) where
       type_argument : {ps : Row} {xs ys zs : List Token} {t : Tree} {cs : List Tree} → may xs ys → Derives kind.TypeArg xs t ys
           → DerivesRow ps ys cs zs → DerivesRow (Argument ∷ ps) xs (t ∷ cs) zs
       -- one of the ways of a fork
-      fork : {f : forks.Fork} {ps : Row} {xs ys : List Token} {cs : List Tree} → (i : ℕ) → slice_get (ways f) i ≡ Some ps
+      fork : {f : forks.Fork} {ps : Row} {xs ys : List Token} {cs : List Tree} → (i : ℕ) → slice_get (ways f) i ≡ Some ps → IsTrue (may_go f ps (look names xs))
           → DerivesRow ps xs cs ys → DerivesRow (Fork f ∷ []) xs cs ys
 
 -- the rows alone: a type may stand wherever an expression may

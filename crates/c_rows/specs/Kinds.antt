@@ -21,6 +21,7 @@ family_of kind.NamelessBits = family.NamelessBits
 family_of kind.Direct = family.Declarator
 family_of kind.Declarator = family.Declarator
 family_of kind.FieldDeclarator = family.Declarator
+family_of kind.InitDeclarator = family.Declarator
 family_of kind.Params = family.Params
 family_of kind.Param = family.Param
 family_of kind.InitList = family.InitList
@@ -28,9 +29,16 @@ family_of kind.InitItem = family.InitItem
 family_of kind.Designator = family.Designator
 family_of kind.EnumName = family.Enumerator
 family_of kind.Enumerator = family.Enumerator
+family_of kind.Decl = family.Decl
+family_of kind.PatNest = family.Statement
+family_of kind.Block = family.Statement
+family_of kind.Body = family.Statement
+family_of kind.Statement = family.Statement
+family_of kind.StmtList = family.StmtList
+family_of kind.External = family.External
 family_of _ = family.Expression
 
--- Expressions, tightest first; declarators; enumerators.
+-- Expressions, tightest first; declarators; enumerators; statements.
 abbrev pub rank : Kind → ℕ
 rank kind.Post = 0
 rank kind.Un = 1
@@ -51,9 +59,19 @@ rank kind.Expr = 15
 rank kind.Direct = 0
 rank kind.Declarator = 1
 rank kind.FieldDeclarator = 2
+rank kind.InitDeclarator = 3
 rank kind.EnumName = 0
 rank kind.Enumerator = 1
+rank kind.PatNest = 0
+rank kind.Block = 1
+rank kind.Body = 2
+rank kind.Statement = 3
 rank _ = 0
+
+-- Bits and declarators with an initialiser lie beside each other.
+abbrev pub side : Kind → ℕ
+side kind.FieldDeclarator = 1
+side _ = 0
 
 abbrev pub same_family : Family → Family → Bool
 same_family family.Expression family.Expression = true
@@ -72,21 +90,30 @@ same_family family.InitList family.InitList = true
 same_family family.InitItem family.InitItem = true
 same_family family.Designator family.Designator = true
 same_family family.Enumerator family.Enumerator = true
+same_family family.Decl family.Decl = true
+same_family family.Statement family.Statement = true
+same_family family.StmtList family.StmtList = true
+same_family family.External family.External = true
 same_family _ _ = false
 
 -- every tree of kind k is one of kind m
 abbrev pub within : Kind → Kind → Bool
-within k m = same_family (family_of k) (family_of m) && nat_le (rank k) (rank m)
+within k m = same_family (family_of k) (family_of m) && nat_le (rank k) (rank m) && nat_le (side k) (side m)
 
 abbrev pub is_operand : Class → Bool
 is_operand class.Name = true
 is_operand class.NameOfCall = true
+is_operand class.NameOfLabel = true
+is_operand class.NameOfDecl = true
+is_operand class.NameOfIterator = true
+is_operand class.NameOfStarIterator = true
 is_operand class.Operand = true
 is_operand class.Str = true
 is_operand _ = false
 
 -- Where a token by itself is a tree: names, constants and strings as expressions, names as declarators and
--- enumerators, metavariables for types as a Specs, and before no declarator as a TypeName.
+-- enumerators, metavariables for types as a Specs, and before no declarator as a TypeName; `...` and metavariables for
+-- statements as statements.
 abbrev pub has_leaf : Family → Class → Bool
 has_leaf family.Expression c = is_operand c
 has_leaf family.TypeName class.Typ = true
@@ -94,4 +121,6 @@ has_leaf family.Specs class.Typ = true
 has_leaf family.Specs class.TypOfDeclarator = true
 has_leaf family.Declarator c = fits word.Name c
 has_leaf family.Enumerator c = fits word.Name c
+has_leaf family.Statement class.Dots = true
+has_leaf family.Statement class.Stmt = true
 has_leaf _ _ = false

@@ -1,5 +1,5 @@
 -- The class of the front of a list of tokens: which names are types, and what a bracket begins.
-use Rattle.std.specs.Prelude.{ℕ, ◌+◌, ◌-◌, ◌==◌, Bool, false, not, ◌&&◌, ◌||◌, if◌then◌else◌, List, [], ◌∷◌, codes}
+use Rattle.std.specs.Prelude.{ℕ, ◌+◌, ◌-◌, ◌==◌, Bool, true, false, not, ◌&&◌, ◌||◌, if◌then◌else◌, List, [], ◌∷◌, codes}
 use Rattle.std.specs.Str.{bytes_eq}
 use Rattle.c_terms.specs.Names.{has_name}
 use Rattle.c_terms.specs.declared.token.Token.{Token}
@@ -9,7 +9,7 @@ use Rattle.c_terms.specs.declared.token.MetaKind.{MetaKind}
 use Rattle.c_terms.specs.declared.token.MetaKind.TheVariants as meta
 use Rattle.c_rows.specs.declared.class.Class.{Class}
 use Rattle.c_rows.specs.declared.class.Class.TheVariants as class
-use Rattle.c_rows.specs.Tokens.{is_named, is_string, is_sign, is_basic, is_qualifier, is_function, is_storage_text, is_struct, is_enum, is_type_word, follows_cast}
+use Rattle.c_rows.specs.Tokens.{is_named, is_string, is_word, holds_for_each, is_sign, is_pat, is_basic, is_qualifier, is_function, is_storage_text, is_struct, is_enum, is_type_word, follows_cast}
 
 -- names that stand for types
 abbrev pub Names : Type 0
@@ -66,13 +66,17 @@ is_opening t = is_sign t (codes "(") || is_sign t (codes "[") || is_sign t (code
 abbrev pub is_closing : Token → Bool
 is_closing t = is_sign t (codes ")") || is_sign t (codes "]") || is_sign t (codes "}")
 
--- Behind an opening bracket, and in so many more: the bracket that closes it is directly followed by `{`.
-abbrev pub closes_before_brace : ℕ → List Token → Bool
-closes_before_brace more [] = false
-closes_before_brace more (t ∷ ts) =
-    if is_opening t then closes_before_brace (more + 1) ts
-    else (if is_closing t then (if more == 0 then at_sign ts (codes "{") else closes_before_brace (more - 1) ts)
-    else closes_before_brace more ts)
+-- Behind an opening bracket, and in so many more: what stands behind the bracket that closes it.
+abbrev pub behind_group : ℕ → List Token → List Token
+behind_group more [] = []
+behind_group more (t ∷ ts) =
+    if is_opening t then behind_group (more + 1) ts
+    else (if is_closing t then (if more == 0 then ts else behind_group (more - 1) ts)
+    else behind_group more ts)
+
+-- Behind an opening bracket: the bracket that closes it is directly followed by `{`.
+abbrev pub closes_before_brace : List Token → Bool
+closes_before_brace ts = at_sign (behind_group 0 ts) (codes "{")
 
 -- ---- the classes
 
@@ -82,7 +86,7 @@ nest_or nest a b = if nest then a else b
 abbrev pub bracket : Names → List Token → Class
 bracket names ts =
     if begins_type names ts || begins_unknown_cast ts
-    then (if closes_before_brace 0 ts
+    then (if closes_before_brace ts
     then nest_or (begins_nest names ts) class.LiteralNest class.LiteralList
     else nest_or (begins_nest names ts) class.CastNest class.CastList)
     else nest_or (begins_nest names ts) class.ParenNest class.ParenList
@@ -97,7 +101,7 @@ is_name_before_brace _ = false
 abbrev pub sizeof_bracket : Names → List Token → Class
 sizeof_bracket names ts =
     if begins_type names ts
-    then (if closes_before_brace 0 ts then class.SizeofExpr else class.SizeofType)
+    then (if closes_before_brace ts then class.SizeofExpr else class.SizeofType)
     else (if is_name_before_brace ts then class.Other else class.SizeofExpr)
 
 abbrev pub sizeof : Names → List Token → Class
@@ -109,6 +113,27 @@ abbrev pub alignof : Names → List Token → Class
 alignof names [] = class.Other
 alignof names (t ∷ ts) = if is_sign t (codes "(") && begins_type names ts then class.SizeofType else class.Other
 
+-- the keywords that are of one class whatever follows
+abbrev pub keywords : List (List ℕ × Class)
+keywords =
+    (codes "if", class.If)
+    ∷ (codes "else", class.Else)
+    ∷ (codes "while", class.While)
+    ∷ (codes "do", class.Do)
+    ∷ (codes "for", class.For)
+    ∷ (codes "switch", class.Switch)
+    ∷ (codes "case", class.Case)
+    ∷ (codes "default", class.Default)
+    ∷ (codes "return", class.Return)
+    ∷ (codes "goto", class.Goto)
+    ∷ (codes "break", class.Break)
+    ∷ (codes "continue", class.Continue) ∷ []
+
+-- the class that the list gives the text
+abbrev pub class_in : List (List ℕ × Class) → List ℕ → Class
+class_in [] s = class.Other
+class_in (w ∷ ws) s = if bytes_eq s w.0 then w.1 else class_in ws s
+
 -- `{`, or a name and `{`
 abbrev pub has_members : List Token → Bool
 has_members [] = false
@@ -118,6 +143,7 @@ has_members (t ∷ ts) = is_sign t (codes "{") || is_named t && at_sign ts (code
 abbrev pub storage : Class → Class
 storage class.StorageOfMacro = class.StorageOfMacro
 storage class.NameOfCall = class.StorageOfMacro
+storage class.NameOfIterator = class.StorageOfMacro
 storage _ = class.Storage
 
 abbrev pub keyword : Names → List ℕ → List Token → Class → Class
@@ -130,15 +156,51 @@ keyword names s ts next =
     else (if is_enum s then (if has_members ts then class.EnumBody else class.Enum)
     else (if bytes_eq s (codes "sizeof") then sizeof names ts
     else (if bytes_eq s (codes "_Alignof") then alignof names ts
-    else class.Other)))))))
+    else class_in keywords s)))))))
 
--- a `(` that no `*` follows
-abbrev pub is_of_call : List Token → Bool
-is_of_call [] = false
-is_of_call (t ∷ ts) = is_sign t (codes "(") && not (at_sign ts (codes "*"))
+-- ---- a name
 
-abbrev pub name : List Token → Class
-name ts = if at_string ts then class.NameOfString else (if is_of_call ts then class.NameOfCall else class.Name)
+-- one of `;`, `,`, `=` and `[`
+abbrev pub at_end_of_name : List Token → Bool
+at_end_of_name ts = at_sign ts (codes ";") || at_sign ts (codes ",") || at_sign ts (codes "=") || at_sign ts (codes "[")
+
+-- any number of `*`, a name, and one of `;`, `,`, `=` and `[`
+abbrev pub stars_name : List Token → Bool
+stars_name [] = false
+stars_name (t ∷ ts) = if is_sign t (codes "*") then stars_name ts else is_named t && at_end_of_name ts
+
+-- At the start of a statement, and behind the `(` of a `for`, a name with this text begins a declaration where it is in
+-- the names and a name or `*` follows; and where any number of `*`, a name, and one of `;`, `,`, `=` and `[` follow.
+abbrev pub declares : Names → List ℕ → List Token → Bool
+declares names s ts = (at_name ts || at_sign ts (codes "*")) && has_name names s || stars_name ts
+
+abbrev pub at_word : List Token → Bool
+at_word [] = false
+at_word (t ∷ ts) = is_word t
+
+-- At the start of a statement, a name with this text and a `(` begin an iterator where `{` stands behind the bracket that
+-- closes it; and where the text holds `for_each` and a name, a keyword or a metavariable stands there.
+abbrev pub iterates : List ℕ → List Token → Bool
+iterates s inside = at_sign (behind_group 0 inside) (codes "{") || holds_for_each s && at_word (behind_group 0 inside)
+
+-- before `(`
+abbrev pub name_of_bracket : List ℕ → List Token → Class
+name_of_bracket s inside =
+    if iterates s inside
+    then (if at_sign inside (codes "*") then class.NameOfStarIterator else class.NameOfIterator)
+    else (if at_sign inside (codes "*") then class.Name else class.NameOfCall)
+
+abbrev pub name_behind : Names → List ℕ → Token → List Token → Class
+name_behind names s t ts =
+    if is_string t then class.NameOfString
+    else (if is_sign t (codes ":") then class.NameOfLabel
+    else (if is_sign t (codes "(") then name_of_bracket s ts
+    else (if declares names s (t ∷ ts) then class.NameOfDecl
+    else class.Name)))
+
+abbrev pub name : Names → List ℕ → List Token → Class
+name names s [] = class.Name
+name names s (t ∷ ts) = name_behind names s t ts
 
 abbrev pub string : List Token → Class
 string ts = if at_string ts || at_name ts then class.StrOfString else class.Str
@@ -187,34 +249,90 @@ sign names s ts =
     else (if bytes_eq s (codes "...") then class.Ellipsis
     else operator s)))))))))))))))))
 
-abbrev pub metavariable : MetaKind → List Token → Class
-metavariable meta.Expr ts = class.Operand
-metavariable meta.Constant ts = class.Operand
-metavariable meta.ExprList ts = class.ExprList
-metavariable meta.Ident ts = name ts
-metavariable meta.Typ ts = typ ts
-metavariable meta.Params ts = class.ParamList
-metavariable meta.Stmt ts = class.Other
+abbrev pub metavariable : Names → MetaKind → List ℕ → List Token → Class
+metavariable names meta.Expr s ts = class.Operand
+metavariable names meta.Constant s ts = class.Operand
+metavariable names meta.ExprList s ts = class.ExprList
+metavariable names meta.Ident s ts = name names s ts
+metavariable names meta.Typ s ts = typ ts
+metavariable names meta.Params s ts = class.ParamList
+metavariable names meta.Stmt s ts = class.Stmt
 
-abbrev pub pattern : List ℕ → Class
-pattern s =
-    if bytes_eq s (codes "\\(") then class.PatOpen
+-- ---- signs of patterns
+
+abbrev pub opens_group : Token → Bool
+opens_group t = is_opening t || is_pat t (codes "\\(") || is_pat t (codes "<...") || is_pat t (codes "<+...")
+
+abbrev pub closes_group : Token → Bool
+closes_group t = is_closing t || is_pat t (codes "\\)") || is_pat t (codes "...>") || is_pat t (codes "...+>")
+
+abbrev pub parts_branches : Token → Bool
+parts_branches t = is_pat t (codes "\\|") || is_pat t (codes "\\&")
+
+-- In so many groups of the first branch: a `;` stands in that branch, in no group.
+abbrev pub has_semicolon : ℕ → List Token → Bool
+has_semicolon more [] = false
+has_semicolon more (t ∷ ts) =
+    if opens_group t then has_semicolon (more + 1) ts
+    else (if closes_group t then not (more == 0) && has_semicolon (more - 1) ts
+    else (if more == 0 && parts_branches t then false
+    else more == 0 && is_sign t (codes ";") || has_semicolon more ts))
+
+-- What begins statements and no expression, and what ends a branch or a nest that has nothing.
+abbrev pub begins_statements : Class → Bool
+begins_statements class.LeftBrace = true
+begins_statements class.NameOfLabel = true
+begins_statements class.NameOfIterator = true
+begins_statements class.NameOfStarIterator = true
+begins_statements class.If = true
+begins_statements class.While = true
+begins_statements class.Do = true
+begins_statements class.For = true
+begins_statements class.Switch = true
+begins_statements class.Case = true
+begins_statements class.Default = true
+begins_statements class.Return = true
+begins_statements class.Goto = true
+begins_statements class.Break = true
+begins_statements class.Continue = true
+begins_statements class.Dots = true
+begins_statements class.Stmt = true
+begins_statements class.PatOpenOfStatements = true
+begins_statements class.PatNestOfExpression = true
+begins_statements class.PatNestOfStatements = true
+begins_statements class.PatBar = true
+begins_statements class.PatAmp = true
+begins_statements class.PatClose = true
+begins_statements class.PatNestClose = true
+begins_statements _ = false
+
+-- The first branch of a PatOr or PatAnd, or what a PatNest has, is a list of statements: it is empty, or begins as no
+-- expression does, or has a `;`.
+abbrev pub is_of_statements : List Token → Class → Bool
+is_of_statements ts next = begins_statements next || has_semicolon 0 ts
+
+abbrev pub pattern : List ℕ → List Token → Class → Class
+pattern s ts next =
+    if bytes_eq s (codes "\\(") then (if is_of_statements ts next then class.PatOpenOfStatements else class.PatOpen)
     else (if bytes_eq s (codes "\\|") then class.PatBar
     else (if bytes_eq s (codes "\\&") then class.PatAmp
     else (if bytes_eq s (codes "\\)") then class.PatClose
-    else class.Other)))
+    else (if bytes_eq s (codes "<...") || bytes_eq s (codes "<+...")
+    then (if is_of_statements ts next then class.PatNestOfStatements else class.PatNestOfExpression)
+    else (if bytes_eq s (codes "...>") || bytes_eq s (codes "...+>") then class.PatNestClose
+    else class.Other)))))
 
 abbrev pub class_of : Names → TokenKind → List ℕ → List Token → Class → Class
-class_of names token.Name s ts next = name ts
+class_of names token.Name s ts next = name names s ts
 class_of names token.Keyword s ts next = keyword names s ts next
 class_of names token.Number s ts next = class.Operand
 class_of names token.Char s ts next = class.Operand
 class_of names token.Str s ts next = string ts
 class_of names token.Punct s ts next = sign names s ts
 class_of names token.Stray s ts next = class.Other
-class_of names (token.Meta k) s ts next = metavariable k ts
+class_of names (token.Meta k) s ts next = metavariable names k s ts
 class_of names token.Dots s ts next = class.Dots
-class_of names token.Pat s ts next = pattern s
+class_of names token.Pat s ts next = pattern s ts next
 
 -- what stands at the front of the tokens
 unfoldable pub look : Names → List Token → Class

@@ -117,8 +117,56 @@ row rule.DotName = Word word.Dot ∷ Word word.Name ∷ []
 row rule.At = Word word.LeftBracket ∷ Child kind.CondLevel ∷ Fork fork.AtEnd ∷ []
 -- storage words, name, `(` arguments `)` `;`: `static MACRO(x);`
 row rule.MacroItem = Fork fork.MacroWords ∷ []
+-- type words, declarators and initialisers parted by commas, or none, `;`: `int x = 1, y;`
+row rule.Decl = Child kind.Specs ∷ Fork fork.FirstDeclarator ∷ []
+-- declarator `=` an expression or a list of initialisers: `x = 1`
+row rule.InitDecl = Child kind.Declarator ∷ Word word.Equal ∷ Fork fork.InitValue ∷ []
+-- expression `;`: `f();`
+row rule.ExprStat = Child kind.Expr ∷ Word word.Semicolon ∷ []
+-- `;`
+row rule.Empty = Word word.Semicolon ∷ []
+-- `{` statements `}`: `{ f(); }`
+row rule.Block = Word word.LeftBrace ∷ Fork fork.BlockStatements ∷ []
+-- `if` `(` expression `)` body, and with or without `else` body: `if (c) f(); else g();`
+row rule.If = Word word.If ∷ Word word.AnyOpen ∷ Child kind.Expr ∷ Word word.Close ∷ Child kind.Body ∷ Fork fork.ElseOrNot ∷ []
+-- `while` `(` expression `)` body: `while (c) f();`
+row rule.While = Word word.While ∷ Word word.AnyOpen ∷ Child kind.Expr ∷ Word word.Close ∷ Child kind.Body ∷ []
+-- `do` body `while` `(` expression `)` `;`: `do f(); while (c);`
+row rule.Do = Word word.Do ∷ Child kind.Body ∷ Word word.While ∷ Word word.AnyOpen ∷ Child kind.Expr ∷ Word word.Close ∷ Word word.Semicolon ∷ []
+-- `for` `(` a declaration, or an expression or none and `;`, two more, `)` body: `for (;;) f();`
+row rule.For = Word word.For ∷ Word word.AnyOpen ∷ Fork fork.ForInit ∷ []
+-- `switch` `(` expression `)` body: `switch (e) { }`
+row rule.Switch = Word word.Switch ∷ Word word.AnyOpen ∷ Child kind.Expr ∷ Word word.Close ∷ Child kind.Body ∷ []
+-- name `(` arguments `)` body: `list_for_each(p, head) f(p);`
+row rule.Iterator = Word word.IteratorName ∷ Word word.AnyOpen ∷ Child kind.Args ∷ Word word.Close ∷ Child kind.Body ∷ []
+-- `case` expression `:`, or with a range: `case 1:`, `case 1 ... 2:`
+row rule.Case = Word word.Case ∷ Child kind.Expr ∷ Fork fork.CaseEnd ∷ []
+-- `default` `:`
+row rule.Default = Word word.Default ∷ Word word.Colon ∷ []
+-- name `:`: `out:`
+row rule.Label = Word word.LabelName ∷ Word word.Colon ∷ []
+-- `return` an expression or none `;`: `return e;`
+row rule.Return = Word word.Return ∷ Fork fork.ReturnValue ∷ []
+-- `goto` name `;`: `goto out;`
+row rule.Goto = Word word.Goto ∷ Word word.Name ∷ Word word.Semicolon ∷ []
+-- `break` `;`
+row rule.Break = Word word.Break ∷ Word word.Semicolon ∷ []
+-- `continue` `;`
+row rule.Continue = Word word.Continue ∷ Word word.Semicolon ∷ []
+-- statements: `f(); g();`
+row rule.StmtList = Fork fork.ListStatements ∷ []
+-- type words, a declarator and a Block, or what a Decl has: `int f(void) { }`, `int x = 1, y;`
+row rule.External = Child kind.Specs ∷ Fork fork.FirstExternal ∷ []
+-- storage words, name, `(` arguments `)`, and `;` or a Block: `MACRO(x);`, `MACRO(x) { }`
+row rule.ExternalMacro = Fork fork.MacroNames ∷ []
+-- `;`
+row rule.ExternalEmpty = Word word.Semicolon ∷ []
 -- expressions between `\(` and `\)`, parted by `\|` or by `\&`: `\( a \| b \)`, `\( a \& b \)`
 row rule.PatBranches = Word word.PatOpen ∷ Child kind.Expr ∷ Fork fork.FirstBranch ∷ []
+-- lists of statements between `\(` and `\)`, parted by `\|` or by `\&`: `\( f(); \| g(); \)`
+row rule.PatLists = Word word.PatOpenOfStatements ∷ Child kind.StmtList ∷ Fork fork.FirstList ∷ []
+-- `<...` or `<+...`, an expression or statements, `...>` or `...+>`: `<... f(x) ...>`
+row rule.PatNest = Fork fork.NestStart ∷ []
 
 -- the ways in which a row may go on at a fork
 abbrev pub ways : forks.Fork → List Row
@@ -220,3 +268,98 @@ ways fork.AtEnd =
 ways fork.MacroWords =
     (Word word.Storage ∷ Fork fork.MacroWords ∷ [])
     ∷ (Word word.Name ∷ Word word.AnyOpen ∷ Child kind.Args ∷ Word word.Close ∷ Word word.Semicolon ∷ []) ∷ []
+-- declarators and initialisers parted by commas, or none
+ways fork.FirstDeclarator =
+    (Child kind.InitDeclarator ∷ Fork fork.MoreDeclarators ∷ [])
+    ∷ (Word word.Semicolon ∷ []) ∷ []
+ways fork.MoreDeclarators =
+    (Word word.Comma ∷ Child kind.InitDeclarator ∷ Fork fork.MoreDeclarators ∷ [])
+    ∷ (Word word.Semicolon ∷ []) ∷ []
+-- an expression or a list
+ways fork.InitValue =
+    (Child kind.AssignLevel ∷ [])
+    ∷ (Child kind.InitList ∷ []) ∷ []
+-- declarations and statements, no two of `...` and PatNest side by side, and `}`
+ways fork.BlockStatements =
+    (Child kind.Decl ∷ Fork fork.BlockStatements ∷ [])
+    ∷ (Child kind.Statement ∷ Fork fork.BlockStatements ∷ [])
+    ∷ (Word word.Dots ∷ Fork fork.BlockBehindDots ∷ [])
+    ∷ (Child kind.PatNest ∷ Fork fork.BlockBehindDots ∷ [])
+    ∷ (Word word.RightBrace ∷ []) ∷ []
+ways fork.BlockBehindDots =
+    (Child kind.Decl ∷ Fork fork.BlockStatements ∷ [])
+    ∷ (Child kind.Statement ∷ Fork fork.BlockStatements ∷ [])
+    ∷ (Word word.RightBrace ∷ []) ∷ []
+-- `else` and a body, or not
+ways fork.ElseOrNot =
+    (Word word.Else ∷ Child kind.Body ∷ [])
+    ∷ [] ∷ []
+-- what stands in the brackets, and a body
+ways fork.ForInit =
+    (Child kind.Decl ∷ Fork fork.ForTest ∷ [])
+    ∷ (Child kind.Expr ∷ Word word.Semicolon ∷ Fork fork.ForTest ∷ [])
+    ∷ (Word word.Semicolon ∷ Fork fork.ForTest ∷ []) ∷ []
+ways fork.ForTest =
+    (Child kind.Expr ∷ Word word.Semicolon ∷ Fork fork.ForStep ∷ [])
+    ∷ (Word word.Semicolon ∷ Fork fork.ForStep ∷ []) ∷ []
+ways fork.ForStep =
+    (Child kind.Expr ∷ Word word.Close ∷ Child kind.Body ∷ [])
+    ∷ (Word word.Close ∷ Child kind.Body ∷ []) ∷ []
+-- `:`, or `... e :`
+ways fork.CaseEnd =
+    (Word word.Colon ∷ [])
+    ∷ (Word word.Ellipsis ∷ Child kind.CondLevel ∷ Word word.Colon ∷ []) ∷ []
+-- an expression or none
+ways fork.ReturnValue =
+    (Child kind.Expr ∷ Word word.Semicolon ∷ [])
+    ∷ (Word word.Semicolon ∷ []) ∷ []
+-- declarations and statements, no two of `...` and PatNest side by side
+ways fork.ListStatements =
+    (Child kind.Decl ∷ Fork fork.ListStatements ∷ [])
+    ∷ (Child kind.Statement ∷ Fork fork.ListStatements ∷ [])
+    ∷ (Word word.Dots ∷ Fork fork.ListBehindDots ∷ [])
+    ∷ (Child kind.PatNest ∷ Fork fork.ListBehindDots ∷ [])
+    ∷ [] ∷ []
+ways fork.ListBehindDots =
+    (Child kind.Decl ∷ Fork fork.ListStatements ∷ [])
+    ∷ (Child kind.Statement ∷ Fork fork.ListStatements ∷ [])
+    ∷ [] ∷ []
+-- declarators and initialisers parted by commas, or none; or behind the first a Block
+ways fork.FirstExternal =
+    (Child kind.InitDeclarator ∷ Fork fork.AfterExternal ∷ [])
+    ∷ (Word word.Semicolon ∷ []) ∷ []
+ways fork.AfterExternal =
+    (Word word.Comma ∷ Child kind.InitDeclarator ∷ Fork fork.MoreDeclarators ∷ [])
+    ∷ (Word word.Semicolon ∷ [])
+    ∷ (Child kind.Block ∷ []) ∷ []
+-- storage words, a name, its arguments, and `;` or a Block
+ways fork.MacroNames =
+    (Word word.Storage ∷ Fork fork.MacroNames ∷ [])
+    ∷ (Word word.Name ∷ Word word.AnyOpen ∷ Child kind.Args ∷ Word word.Close ∷ Fork fork.MacroEnd ∷ []) ∷ []
+ways fork.MacroEnd =
+    (Word word.Semicolon ∷ [])
+    ∷ (Child kind.Block ∷ []) ∷ []
+-- two or more lists of statements, all parted by `\|` or all by `\&`
+ways fork.FirstList =
+    (Word word.PatBar ∷ Child kind.StmtList ∷ Fork fork.MoreListsOr ∷ [])
+    ∷ (Word word.PatAmp ∷ Child kind.StmtList ∷ Fork fork.MoreListsAnd ∷ []) ∷ []
+ways fork.MoreListsOr =
+    (Word word.PatBar ∷ Child kind.StmtList ∷ Fork fork.MoreListsOr ∷ [])
+    ∷ (Word word.PatClose ∷ []) ∷ []
+ways fork.MoreListsAnd =
+    (Word word.PatAmp ∷ Child kind.StmtList ∷ Fork fork.MoreListsAnd ∷ [])
+    ∷ (Word word.PatClose ∷ []) ∷ []
+-- an expression, or declarations and statements as in a Block, and the sign that ends it
+ways fork.NestStart =
+    (Word word.PatNestOfExpression ∷ Child kind.Expr ∷ Word word.PatNestClose ∷ [])
+    ∷ (Word word.PatNestOfStatements ∷ Fork fork.NestStatements ∷ []) ∷ []
+ways fork.NestStatements =
+    (Child kind.Decl ∷ Fork fork.NestStatements ∷ [])
+    ∷ (Child kind.Statement ∷ Fork fork.NestStatements ∷ [])
+    ∷ (Word word.Dots ∷ Fork fork.NestBehindDots ∷ [])
+    ∷ (Child kind.PatNest ∷ Fork fork.NestBehindDots ∷ [])
+    ∷ (Word word.PatNestClose ∷ []) ∷ []
+ways fork.NestBehindDots =
+    (Child kind.Decl ∷ Fork fork.NestStatements ∷ [])
+    ∷ (Child kind.Statement ∷ Fork fork.NestStatements ∷ [])
+    ∷ (Word word.PatNestClose ∷ []) ∷ []

@@ -10,7 +10,7 @@ use Rattle.c_rows.specs.declared.symbol.Symbol.TheVariants.{Word, Child, Argumen
 use Rattle.c_rows.specs.declared.symbol.Fork as forks
 use Rattle.c_rows.specs.Words.{fits}
 use Rattle.c_rows.specs.Kinds.{family_of, within, has_leaf}
-use Rattle.c_rows.specs.Branches.{kind_of, build, begins, allows}
+use Rattle.c_rows.specs.Branches.{kind_of, build, begins, allows, may_go}
 use Rattle.c_rows.specs.Rows.{Row, row, ways}
 use Rattle.c_rows.specs.Seen.{Seen, front, front_typed}
 
@@ -38,5 +38,5 @@ mutual
     argument : {ps : Row} {xs ys zs : List Seen} {t : Tree} {cs : List Tree} → Spells (member_kind (front_typed xs)) xs t ys
         → Runs ps ys cs zs → Runs (Argument ∷ ps) xs (t ∷ cs) zs
     -- one of the ways of a fork
-    fork : {f : forks.Fork} {ps : Row} {xs ys : List Seen} {cs : List Tree} → (i : ℕ) → slice_get (ways f) i ≡ Some ps
+    fork : {f : forks.Fork} {ps : Row} {xs ys : List Seen} {cs : List Tree} → (i : ℕ) → slice_get (ways f) i ≡ Some ps → IsTrue (may_go f ps (front xs))
         → Runs ps xs cs ys → Runs (Fork f ∷ []) xs cs ys

@@ -1,5 +1,6 @@
 -- What a single token is.
-use Rattle.std.specs.Prelude.{ℕ, Bool, true, false, ◌&&◌, ◌||◌, List, codes}
+use Rattle.std.specs.Prelude.{ℕ, ◌==◌, Bool, true, false, ◌&&◌, ◌||◌, List, [], ◌∷◌, codes}
+use Rattle.std.specs.List.{starts_with}
 use Rattle.std.specs.Str.{bytes_eq}
 use Rattle.c_terms.specs.declared.token.Token.{Token}
 use Rattle.c_terms.specs.declared.token.TokenKind.{TokenKind}
@@ -86,6 +87,29 @@ follows_kind (token.Meta meta.Constant) s = true
 follows_kind token.Keyword s = bytes_eq s (codes "sizeof")
 follows_kind token.Punct s = bytes_eq s (codes "~") || bytes_eq s (codes "!") || bytes_eq s (codes "{")
 follows_kind _ s = false
+
+abbrev pub word_kind : TokenKind → Bool
+word_kind token.Name = true
+word_kind token.Keyword = true
+word_kind (token.Meta k) = true
+word_kind _ = false
+
+-- a name, a keyword or a metavariable
+abbrev pub is_word : Token → Bool
+is_word t = word_kind t.kind
+
+-- `for_each` stands in the text.
+abbrev pub holds_for_each : List ℕ → Bool
+holds_for_each [] = false
+holds_for_each (b ∷ bs) = starts_with ◌==◌ (b ∷ bs) (codes "for_each") || holds_for_each bs
+
+abbrev pub is_pat_kind : TokenKind → Bool
+is_pat_kind token.Pat = true
+is_pat_kind _ = false
+
+-- the sign of patterns with this text
+abbrev pub is_pat : Token → List ℕ → Bool
+is_pat t text = is_pat_kind t.kind && bytes_eq t.text text
 
 -- a name, a constant, a string, a metavariable for an expression, `~`, `!`, `sizeof` or `{`
 abbrev pub follows_cast : Token → Bool

@@ -97,22 +97,22 @@ fn begins_nest(names: &Names, inside: &[Token]) -> bool
 }
 
 /// An opening bracket.
-fn is_opening(token: &Token) -> bool
+pub fn is_opening(token: &Token) -> bool
     ensures { result ≡ ahead.is_opening token.now }
 {
     is_sign(token, b"(") || is_sign(token, b"[") || is_sign(token, b"{")
 }
 
 /// A closing bracket.
-fn is_closing(token: &Token) -> bool
+pub fn is_closing(token: &Token) -> bool
     ensures { result ≡ ahead.is_closing token.now }
 {
     is_sign(token, b")") || is_sign(token, b"]") || is_sign(token, b"}")
 }
 
-/// After the `(`: the bracket that closes it is directly followed by `{`.
-fn closes_before_brace(inside: &[Token]) -> bool
-    ensures { result ≡ ahead.closes_before_brace 0 inside.now }
+/// After the opening bracket: what stands behind the bracket that closes it.
+pub fn behind_group(inside: &[Token]) -> &[Token]
+    ensures { result.now ≡ ahead.behind_group 0 inside.now }
 {
     let mut more = 0usize;
     for i in 0..inside.len() {
@@ -121,12 +121,19 @@ fn closes_before_brace(inside: &[Token]) -> bool
             more += 1;
         } else if is_closing(token) {
             if more == 0 {
-                return at_sign(&inside[i + 1..], b"{");
+                return &inside[i + 1..];
             }
             more -= 1;
         }
     }
-    false
+    &[]
+}
+
+/// After the `(`: the bracket that closes it is directly followed by `{`.
+fn closes_before_brace(inside: &[Token]) -> bool
+    ensures { result ≡ ahead.closes_before_brace inside.now }
+{
+    at_sign(behind_group(inside), b"{")
 }
 
 /// What a `(` is, by what stands inside it.

@@ -3,6 +3,8 @@
 ghost use Rattle.std.specs.Prelude.{◌≡◌, MatchOption, Some, None};
 ghost use Rattle.c_rows.specs.Choice as choice;
 ghost use Rattle.c_rows.specs.Words as words;
+ghost use Rattle.c_rows.specs.Branches as branches;
+ghost use Rattle.c_rows.specs.declared.kind.Kind.TheVariants as kinds;
 
 use crate::{
     Class, Family, Fork, Kind, Rule, Symbol, Word, begins, begins_macro, family_of, fits, row, ways,
@@ -16,6 +18,10 @@ fn begins_expression(class: Class) -> bool
         Class::Name
         | Class::NameOfString
         | Class::NameOfCall
+        | Class::NameOfLabel
+        | Class::NameOfDecl
+        | Class::NameOfIterator
+        | Class::NameOfStarIterator
         | Class::Operand
         | Class::Str
         | Class::StrOfString => true,
@@ -42,6 +48,57 @@ pub fn begins_specs(class: Class) -> bool
         Class::Typ | Class::TypOfDeclarator => true,
         _ => fits(Word::BasicOrModifier, class) || fits(Word::Name, class) || begins_tag(class),
     }
+}
+
+/// At the start of a statement and behind the `(` of a `for`, a declaration begins exactly here.
+pub fn begins_declaration(class: Class) -> bool
+    ensures value { result ≡ branches.begins_declaration class }
+{
+    match class {
+        Class::NameOfDecl | Class::Typ | Class::TypOfDeclarator => true,
+        _ => fits(Word::BasicOrModifier, class) || begins_tag(class),
+    }
+}
+
+/// `...` or a PatNest begins with this class.
+fn begins_dots(class: Class) -> bool
+    ensures { result ≡ branches.begins_dots class }
+{
+    matches!(
+        class,
+        Class::Dots | Class::PatNestOfExpression | Class::PatNestOfStatements
+    )
+}
+
+/// A statement other than a declaration may begin with this class.
+fn begins_statement(class: Class) -> bool
+    ensures { result ≡ choice.begins_statement class }
+{
+    match class {
+        Class::Semicolon
+        | Class::LeftBrace
+        | Class::If
+        | Class::While
+        | Class::Do
+        | Class::For
+        | Class::Switch
+        | Class::Case
+        | Class::Default
+        | Class::Return
+        | Class::Goto => true,
+        Class::Break | Class::Continue | Class::Stmt | Class::PatOpenOfStatements => true,
+        _ => begins_dots(class) || begins_expression(class),
+    }
+}
+
+/// A list of statements ends before this class.
+fn ends_list(class: Class) -> bool
+    ensures { result ≡ choice.ends_list class }
+{
+    matches!(
+        class,
+        Class::End | Class::PatBar | Class::PatAmp | Class::PatClose
+    )
 }
 
 /// A declarator may begin with this class.
@@ -81,6 +138,14 @@ pub fn first(family: Family, class: Class) -> bool
         Family::InitList => fits(Word::LeftBrace, class),
         Family::InitItem | Family::Designator => matches!(class, Class::Dot | Class::LeftBracket),
         Family::Enumerator => fits(Word::Name, class),
+        Family::Decl => begins_specs(class),
+        Family::Statement => begins_statement(class),
+        Family::StmtList => {
+            begins_statement(class) || begins_declaration(class) || ends_list(class)
+        }
+        Family::External => {
+            begins_specs(class) || begins_macro(class) || fits(Word::Semicolon, class)
+        }
     }
 }
 
@@ -89,6 +154,21 @@ pub fn ends_member(class: Class) -> bool
     ensures value { result ≡ words.ends_member class }
 {
     matches!(class, Class::Comma | Class::Close)
+}
+
+/// A declarator ends before this class.
+fn ends_declarator(class: Class) -> bool
+    ensures { result ≡ choice.ends_declarator class }
+{
+    matches!(
+        class,
+        Class::Colon
+            | Class::Semicolon
+            | Class::LeftBrace
+            | Class::Close
+            | Class::Comma
+            | Class::End
+    )
 }
 
 /// A row that is at this fork may end before this class.
@@ -102,10 +182,9 @@ fn stops(fork: Fork, class: Class) -> bool
         Fork::FirstArg | Fork::MoreArgs | Fork::NextArg => fits(Word::Close, class),
         Fork::Nameless => matches!(class, Class::Close | Class::Comma | Class::End),
         Fork::NoType | Fork::BasicType | Fork::OneType => !fits(Word::BasicOrModifier, class),
-        Fork::Pointee => matches!(
-            class,
-            Class::Colon | Class::Semicolon | Class::Close | Class::Comma | Class::End
-        ),
+        Fork::Pointee => ends_declarator(class) || fits(Word::Equal, class),
+        Fork::InitValue => ends_declarator(class),
+        Fork::ListStatements | Fork::ListBehindDots => ends_list(class),
         Fork::FirstParam | Fork::MoreParams | Fork::NextParam => fits(Word::Close, class),
         Fork::ParamName => ends_member(class),
         Fork::MoreDesignators | Fork::ItemValue => matches!(
@@ -129,9 +208,9 @@ fn opens(row: &[Symbol], class: Class) -> bool
     }
 }
 
-/// The way leads on at this class.
-fn leads(fork: Fork, way: &[Symbol], class: Class) -> bool
-    ensures { result ≡ choice.leads fork way.now class }
+/// The way begins with this class.
+fn begins_way(fork: Fork, way: &[Symbol], class: Class) -> bool
+    ensures { result ≡ choice.begins_way fork way.now class }
 {
     match way {
         [] => stops(fork, class),
@@ -140,6 +219,58 @@ fn leads(fork: Fork, way: &[Symbol], class: Class) -> bool
         [Symbol::Argument, ..] => begins_expression(class) || begins_specs(class),
         [Symbol::Fork(_), ..] => false,
     }
+}
+
+/// The tokens behind let the row end at the fork.
+fn may_end(fork: Fork, class: Class) -> bool
+    ensures { result ≡ branches.may_end fork class }
+{
+    match fork {
+        Fork::ElseOrNot => !fits(Word::Else, class),
+        _ => true,
+    }
+}
+
+/// The tokens behind let the row go on with an expression.
+fn may_be_expression(fork: Fork, class: Class) -> bool
+    ensures { result ≡ branches.may_stand fork kinds.Expr class }
+{
+    match fork {
+        Fork::ForInit => !begins_declaration(class),
+        _ => true,
+    }
+}
+
+/// The tokens behind let the row go on with a part of this kind.
+fn may_stand(fork: Fork, kind: Kind, class: Class) -> bool
+    ensures { result ≡ branches.may_stand fork kind class }
+{
+    match kind {
+        Kind::Expr => may_be_expression(fork, class),
+        Kind::Decl => begins_declaration(class),
+        Kind::PatNest => begins_dots(class) && !fits(Word::Dots, class),
+        Kind::Block => fits(Word::LeftBrace, class),
+        Kind::Statement => !begins_declaration(class) && !begins_dots(class),
+        _ => true,
+    }
+}
+
+/// The tokens behind let the row go on in this way.
+fn may_go(fork: Fork, way: &[Symbol], class: Class) -> bool
+    ensures { result ≡ branches.may_go fork way.now class }
+{
+    match way {
+        [] => may_end(fork, class),
+        [Symbol::Child(kind), ..] => may_stand(fork, *kind, class),
+        [_, ..] => true,
+    }
+}
+
+/// The way leads on at this class.
+fn leads(fork: Fork, way: &[Symbol], class: Class) -> bool
+    ensures { result ≡ choice.leads fork way.now class }
+{
+    may_go(fork, way, class) && begins_way(fork, way, class)
 }
 
 /// The way in which a row goes on at the fork.
@@ -196,6 +327,29 @@ fn heads(family: Family) -> &'static [Rule]
         Family::InitItem => &[Rule::InitItem],
         Family::Designator => &[Rule::DotName, Rule::At],
         Family::Enumerator => &[],
+        Family::Decl => &[Rule::Decl],
+        Family::Statement => &[
+            Rule::ExprStat,
+            Rule::If,
+            Rule::Return,
+            Rule::Block,
+            Rule::Goto,
+            Rule::Label,
+            Rule::Case,
+            Rule::Break,
+            Rule::For,
+            Rule::While,
+            Rule::Switch,
+            Rule::Iterator,
+            Rule::Default,
+            Rule::Continue,
+            Rule::Do,
+            Rule::Empty,
+            Rule::PatLists,
+            Rule::PatNest,
+        ],
+        Family::StmtList => &[Rule::StmtList],
+        Family::External => &[Rule::External, Rule::ExternalMacro, Rule::ExternalEmpty],
     }
 }
 
@@ -225,7 +379,7 @@ fn tails(family: Family) -> &'static [Rule]
             Rule::Assign,
             Rule::Comma,
         ],
-        Family::Declarator => &[Rule::DArray, Rule::DFun, Rule::Bits],
+        Family::Declarator => &[Rule::DArray, Rule::DFun, Rule::Bits, Rule::InitDecl],
         Family::Enumerator => &[Rule::EnumValue],
         _ => &[],
     }
@@ -250,7 +404,7 @@ pub fn left(rule: Rule) -> Option<Kind>
         Rule::Cond | Rule::CondShort => Some(Kind::OrOr),
         Rule::Assign => Some(Kind::Un),
         Rule::Comma => Some(Kind::Expr),
-        Rule::Bits => Some(Kind::Declarator),
+        Rule::Bits | Rule::InitDecl => Some(Kind::Declarator),
         Rule::DArray | Rule::DFun => Some(Kind::Direct),
         Rule::EnumValue => Some(Kind::EnumName),
         _ => None,

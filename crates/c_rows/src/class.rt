@@ -12,6 +12,15 @@ pub enum Class {
     NameOfString,
     /// A name before a `(` that no `*` follows: `f(x)`
     NameOfCall,
+    /// A name before a `:`: `out:`
+    NameOfLabel,
+    /// A name that begins a declaration at the start of a statement: `foo_t *p;`
+    NameOfDecl,
+    /// A name before a group in brackets that the body of an iterator follows, and before no `(` and `*`:
+    /// `list_for_each(p, head) f(p);`, `foo(x) {`
+    NameOfIterator,
+    /// The same, before a `(` and `*`: `for_each(*p) {`
+    NameOfStarIterator,
     /// A number, a character, or a metavariable for an expression or a constant.
     Operand,
     /// A string by itself.
@@ -122,14 +131,49 @@ pub enum Class {
     ExprList,
     /// A metavariable for a list of parameters
     ParamList,
-    /// `\(`
+    /// A metavariable for a statement
+    Stmt,
+    /// `\(` of expressions
     PatOpen,
+    /// `\(` of lists of statements
+    PatOpenOfStatements,
     /// `\|`
     PatBar,
     /// `\&`
     PatAmp,
     /// `\)`
     PatClose,
+    /// `<...`, `<+...` before an expression
+    PatNestOfExpression,
+    /// `<...`, `<+...` before statements
+    PatNestOfStatements,
+    /// `...>`, `...+>`
+    PatNestClose,
+
+    /// `if`
+    If,
+    /// `else`
+    Else,
+    /// `while`
+    While,
+    /// `do`
+    Do,
+    /// `for`
+    For,
+    /// `switch`
+    Switch,
+    /// `case`
+    Case,
+    /// `default`
+    Default,
+    /// `return`
+    Return,
+    /// `goto`
+    Goto,
+    /// `break`
+    Break,
+    /// `continue`
+    Continue,
     /// Anything else.
     Other,
 }

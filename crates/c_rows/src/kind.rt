@@ -65,6 +65,8 @@ pub enum Kind {
     Declarator,
     /// `d : 3`
     FieldDeclarator,
+    /// `d = 1`
+    InitDeclarator,
     /// What stands between the brackets of a function's declarator
     Params,
     /// `int x`
@@ -80,6 +82,21 @@ pub enum Kind {
     EnumName,
     /// `A = 1`
     Enumerator,
+
+    /// `int x = 1;`
+    Decl,
+    /// `<... f(); ...>`. Where it is a part, one of its signs stands first
+    PatNest,
+    /// `{ f(); }`. Where it is a part, `{` stands first
+    Block,
+    /// `f();`, `if (c) f();`, `{ f(); }`: what the body of a statement may be
+    Body,
+    /// `out:`, `case 1:`, and what a body may be
+    Statement,
+    /// `f(); g();`
+    StmtList,
+    /// `int f(void) { }`, `int x;`
+    External,
 }
 
 /// Kinds that lie within one another.
@@ -103,7 +120,7 @@ pub enum Family {
     MacroItem,
     /// [`Kind::NamelessBits`]
     NamelessBits,
-    /// Declarators, from Direct to FieldDeclarator
+    /// Declarators, from Direct to FieldDeclarator and InitDeclarator
     Declarator,
     /// [`Kind::Params`]
     Params,
@@ -117,6 +134,14 @@ pub enum Family {
     Designator,
     /// Enumerators, from EnumName to Enumerator
     Enumerator,
+    /// [`Kind::Decl`]
+    Decl,
+    /// Statements but declarations, from PatNest to Statement
+    Statement,
+    /// [`Kind::StmtList`]
+    StmtList,
+    /// [`Kind::External`]
+    External,
 }
 
 /// The family of the kind.
@@ -132,13 +157,18 @@ pub fn family_of(kind: Kind) -> Family
         Kind::Field => Family::Field,
         Kind::MacroItem => Family::MacroItem,
         Kind::NamelessBits => Family::NamelessBits,
-        Kind::Direct | Kind::Declarator | Kind::FieldDeclarator => Family::Declarator,
+        Kind::Direct | Kind::Declarator | Kind::FieldDeclarator | Kind::InitDeclarator =>
+            Family::Declarator,
         Kind::Params => Family::Params,
         Kind::Param => Family::Param,
         Kind::InitList => Family::InitList,
         Kind::InitItem => Family::InitItem,
         Kind::Designator => Family::Designator,
         Kind::EnumName | Kind::Enumerator => Family::Enumerator,
+        Kind::Decl => Family::Decl,
+        Kind::PatNest | Kind::Block | Kind::Body | Kind::Statement => Family::Statement,
+        Kind::StmtList => Family::StmtList,
+        Kind::External => Family::External,
         _ => Family::Expression,
     }
 }
@@ -167,8 +197,23 @@ pub fn rank(kind: Kind) -> u8
         Kind::Direct => 0,
         Kind::Declarator => 1,
         Kind::FieldDeclarator => 2,
+        Kind::InitDeclarator => 3,
         Kind::EnumName => 0,
         Kind::Enumerator => 1,
+        Kind::PatNest => 0,
+        Kind::Block => 1,
+        Kind::Body => 2,
+        Kind::Statement => 3,
+        _ => 0,
+    }
+}
+
+/// Tells bits from declarators with an initialiser, which lie beside each other.
+pub fn side(kind: Kind) -> u8
+    ensures value { result ≡ kinds.side kind }
+{
+    match kind {
+        Kind::FieldDeclarator => 1,
         _ => 0,
     }
 }
@@ -194,6 +239,10 @@ pub fn same_family(a: Family, b: Family) -> bool
         Family::InitItem => matches!(b, Family::InitItem),
         Family::Designator => matches!(b, Family::Designator),
         Family::Enumerator => matches!(b, Family::Enumerator),
+        Family::Decl => matches!(b, Family::Decl),
+        Family::Statement => matches!(b, Family::Statement),
+        Family::StmtList => matches!(b, Family::StmtList),
+        Family::External => matches!(b, Family::External),
     }
 }
 
@@ -201,7 +250,9 @@ pub fn same_family(a: Family, b: Family) -> bool
 pub fn within(kind: Kind, limit: Kind) -> bool
     ensures value { result ≡ kinds.within kind limit }
 {
-    same_family(family_of(kind), family_of(limit)) && rank(kind) <= rank(limit)
+    same_family(family_of(kind), family_of(limit))
+        && rank(kind) <= rank(limit)
+        && side(kind) <= side(limit)
 }
 
 /// A token of this class is by itself a tree of the family's tightest kind.
@@ -211,11 +262,19 @@ pub fn has_leaf(family: Family, class: Class) -> bool
     match family {
         Family::Expression => matches!(
             class,
-            Class::Name | Class::NameOfCall | Class::Operand | Class::Str
+            Class::Name
+                | Class::NameOfCall
+                | Class::NameOfLabel
+                | Class::NameOfDecl
+                | Class::NameOfIterator
+                | Class::NameOfStarIterator
+                | Class::Operand
+                | Class::Str
         ),
         Family::TypeName => matches!(class, Class::Typ),
         Family::Specs => matches!(class, Class::Typ | Class::TypOfDeclarator),
         Family::Declarator | Family::Enumerator => fits(Word::Name, class),
+        Family::Statement => matches!(class, Class::Dots | Class::Stmt),
         _ => false,
     }
 }
@@ -241,5 +300,9 @@ pub fn bottom(family: Family) -> Kind
         Family::InitItem => Kind::InitItem,
         Family::Designator => Kind::Designator,
         Family::Enumerator => Kind::EnumName,
+        Family::Decl => Kind::Decl,
+        Family::Statement => Kind::PatNest,
+        Family::StmtList => Kind::StmtList,
+        Family::External => Kind::External,
     }
 }

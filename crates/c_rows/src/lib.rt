@@ -13,18 +13,20 @@
 //! `(a) ~b` is of class `CastNest`, and that of `(a) - b` of class `ParenNest`.
 //!
 //! The specification says which trees are right without saying how to read: `Derives` in specs/Derives, and `IsTreeOf` in
-//! specs/Trees. The reader is c_expr. Rows of declarations, statements and items are not here yet.
+//! specs/Trees. The reader is c_expr.
 //!
 //! No call takes memory; none recurses but [`allows`], which walks down a declarator.
 #![tactic(auto)]
 
 mod brackets;
+mod branches;
 mod choice;
 mod class;
 mod kind;
 mod laws;
 mod lookahead;
 mod member;
+mod names;
 mod plain;
 mod rows;
 mod rule;
@@ -34,13 +36,13 @@ mod word;
 mod words;
 
 pub use choice::{choose, ends_member, head, left, own, tail};
-use choice::{begins_specs, first};
+use choice::{begins_declaration, begins_specs, first};
 pub use class::Class;
 pub use kind::{Family, Kind, bottom, family_of, has_leaf, within};
 pub use laws::{leaves_are_the_tokens, members_have_one_end, rivals_need_no_rule};
 pub use lookahead::look;
 pub use member::may_be_type;
-use plain::is_plain_type;
+use plain::{declares_function, is_plain_type};
 pub use rows::{row, ways};
 pub use rule::{Rule, allows, kind_of, label_of};
 use rule::{begins, begins_macro};

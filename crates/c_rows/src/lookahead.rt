@@ -3,7 +3,9 @@ ghost use Rattle.std.specs.Prelude.{◌≡◌};
 ghost use Rattle.c_rows.specs.Look as ahead;
 
 use crate::Class;
+use crate::branches::pattern;
 use crate::brackets::{alignof, at_name, at_sign, at_string, bracket, sizeof};
+use crate::names::name;
 use crate::words::{
     is, is_basic, is_enum, is_function, is_named, is_qualifier, is_sign, is_storage_text, is_struct,
 };
@@ -24,8 +26,41 @@ fn storage(next: Class) -> Class
     ensures { result ≡ ahead.storage next }
 {
     match next {
-        Class::StorageOfMacro | Class::NameOfCall => Class::StorageOfMacro,
+        Class::StorageOfMacro | Class::NameOfCall | Class::NameOfIterator => Class::StorageOfMacro,
         _ => Class::Storage,
+    }
+}
+
+/// The keywords that are of one class whatever follows.
+fn plain_keyword(text: &[u8]) -> Class
+    ensures { result ≡ ahead.class_in ahead.keywords text.now }
+{
+    if is(text, b"if") {
+        Class::If
+    } else if is(text, b"else") {
+        Class::Else
+    } else if is(text, b"while") {
+        Class::While
+    } else if is(text, b"do") {
+        Class::Do
+    } else if is(text, b"for") {
+        Class::For
+    } else if is(text, b"switch") {
+        Class::Switch
+    } else if is(text, b"case") {
+        Class::Case
+    } else if is(text, b"default") {
+        Class::Default
+    } else if is(text, b"return") {
+        Class::Return
+    } else if is(text, b"goto") {
+        Class::Goto
+    } else if is(text, b"break") {
+        Class::Break
+    } else if is(text, b"continue") {
+        Class::Continue
+    } else {
+        Class::Other
     }
 }
 
@@ -58,30 +93,7 @@ fn keyword(names: &Names, text: &[u8], rest: &[Token], next: Class) -> Class
     } else if is(text, b"_Alignof") {
         alignof(names, rest)
     } else {
-        Class::Other
-    }
-}
-
-/// A `(` that no `*` follows stands first.
-fn is_of_call(rest: &[Token]) -> bool
-    ensures { result ≡ ahead.is_of_call rest.now }
-{
-    match rest {
-        [] => false,
-        [open, inside @ ..] => is_sign(open, b"(") && !at_sign(inside, b"*"),
-    }
-}
-
-/// A name, by what follows it.
-fn name(rest: &[Token]) -> Class
-    ensures { result ≡ ahead.name rest.now }
-{
-    if at_string(rest) {
-        Class::NameOfString
-    } else if is_of_call(rest) {
-        Class::NameOfCall
-    } else {
-        Class::Name
+        plain_keyword(text)
     }
 }
 
@@ -203,54 +215,38 @@ fn sign(names: &Names, text: &[u8], rest: &[Token]) -> Class
 }
 
 /// A metavariable.
-fn metavariable(kind: MetaKind, rest: &[Token]) -> Class
-    ensures { result ≡ ahead.metavariable kind rest.now }
+fn metavariable(names: &Names, kind: MetaKind, text: &[u8], rest: &[Token]) -> Class
+    ensures { result ≡ ahead.metavariable names.now kind text.now rest.now }
 {
     match kind {
         MetaKind::Expr => Class::Operand,
         MetaKind::Constant => Class::Operand,
         MetaKind::ExprList => Class::ExprList,
-        MetaKind::Ident => name(rest),
+        MetaKind::Ident => name(names, text, rest),
         MetaKind::Typ => typ(rest),
         MetaKind::Params => Class::ParamList,
-        MetaKind::Stmt => Class::Other,
-    }
-}
-
-/// A sign of patterns.
-fn pattern(text: &[u8]) -> Class
-    ensures { result ≡ ahead.pattern text.now }
-{
-    if is(text, b"\\(") {
-        Class::PatOpen
-    } else if is(text, b"\\|") {
-        Class::PatBar
-    } else if is(text, b"\\&") {
-        Class::PatAmp
-    } else if is(text, b"\\)") {
-        Class::PatClose
-    } else {
-        Class::Other
+        MetaKind::Stmt => Class::Stmt,
     }
 }
 
 /// The class of a list that begins with the token, of which the rest is of class `next`. Looks at up to three tokens
-/// behind, four behind `sizeof`; at the run of `*` behind a bracket and a name; and behind a bracket that begins a type
-/// at what it encloses and the token after that.
+/// behind, four behind `sizeof`; at the run of `*` behind a name, with or without a bracket; and behind a bracket that
+/// begins a type or follows a name, and behind a sign that begins a branch or a nest, at what it encloses and the token
+/// after that.
 pub fn look(names: &Names, token: &Token, rest: &[Token], next: Class) -> Class
     ensures value { result ≡ ahead.class_of names.now token.now.kind token.now.text rest.now next }
 {
     let text = token.text.as_bytes();
     match token.kind {
-        TokenKind::Name => name(rest),
+        TokenKind::Name => name(names, text, rest),
         TokenKind::Keyword => keyword(names, text, rest, next),
         TokenKind::Number => Class::Operand,
         TokenKind::Char => Class::Operand,
         TokenKind::Str => string(rest),
         TokenKind::Punct => sign(names, text, rest),
         TokenKind::Stray => Class::Other,
-        TokenKind::Meta(kind) => metavariable(kind, rest),
+        TokenKind::Meta(kind) => metavariable(names, kind, text, rest),
         TokenKind::Dots => Class::Dots,
-        TokenKind::Pat => pattern(text),
+        TokenKind::Pat => pattern(text, rest, next),
     }
 }

@@ -1,4 +1,5 @@
-// What a type name may not hold: a name, a storage word, the members of a structure or an enumeration.
+// What a type name may not hold: a name, a storage word, the members of a structure or an enumeration. Which declarators
+// declare a function.
 
 ghost use Rattle.std.specs.Prelude.{◌≡◌};
 ghost use Rattle.c_terms.specs.declared.tree.Tree.{out-Tree};
@@ -24,6 +25,31 @@ pub fn declares_name(declarator: &Tree) -> bool
             }
             Label::DArray | Label::DFun => match children.as_slice() {
                 [inner, ..] => declares_name(inner),
+                [] => false,
+            },
+            _ => false,
+        },
+    }
+}
+
+/// A DFun stands on the way from the outermost declarator to the name.
+pub fn declares_function(declarator: &Tree) -> bool
+    ensures value { result ≡ branches.declares_function declarator.now }
+{
+    match declarator {
+        Tree::Leaf(_) => false,
+        Tree::Branch(label, children) => match label {
+            Label::DFun => true,
+            Label::Pointer | Label::DParen => {
+                for child in children.as_slice() {
+                    if declares_function(child) {
+                        return true;
+                    }
+                }
+                false
+            }
+            Label::DArray => match children.as_slice() {
+                [inner, ..] => declares_function(inner),
                 [] => false,
             },
             _ => false,

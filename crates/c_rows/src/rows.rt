@@ -125,8 +125,57 @@ pub fn row(rule: Rule) -> &'static [Symbol]
         // storage words, name, `(` arguments `)` `;`: `static MACRO(x);`
         Rule::MacroItem => row![fork MacroWords],
 
+        // type words, declarators and initialisers parted by commas, or none, `;`: `int x = 1, y;`
+        Rule::Decl => row![child Specs, fork FirstDeclarator],
+        // declarator `=` an expression or a list of initialisers: `x = 1`
+        Rule::InitDecl => row![child Declarator, word Equal, fork InitValue],
+        // expression `;`: `f();`
+        Rule::ExprStat => row![child Expr, word Semicolon],
+        // `;`
+        Rule::Empty => row![word Semicolon],
+        // `{` statements `}`: `{ f(); }`
+        Rule::Block => row![word LeftBrace, fork BlockStatements],
+        // `if` `(` expression `)` body, and with or without `else` body: `if (c) f(); else g();`
+        Rule::If => row![word If, word AnyOpen, child Expr, word Close, child Body, fork ElseOrNot],
+        // `while` `(` expression `)` body: `while (c) f();`
+        Rule::While => row![word While, word AnyOpen, child Expr, word Close, child Body],
+        // `do` body `while` `(` expression `)` `;`: `do f(); while (c);`
+        Rule::Do => row![word Do, child Body, word While, word AnyOpen, child Expr, word Close, word Semicolon],
+        // `for` `(` a declaration, or an expression or none and `;`, two more, `)` body: `for (;;) f();`
+        Rule::For => row![word For, word AnyOpen, fork ForInit],
+        // `switch` `(` expression `)` body: `switch (e) { }`
+        Rule::Switch => row![word Switch, word AnyOpen, child Expr, word Close, child Body],
+        // name `(` arguments `)` body: `list_for_each(p, head) f(p);`
+        Rule::Iterator => row![word IteratorName, word AnyOpen, child Args, word Close, child Body],
+        // `case` expression `:`, or with a range: `case 1:`, `case 1 ... 2:`
+        Rule::Case => row![word Case, child Expr, fork CaseEnd],
+        // `default` `:`
+        Rule::Default => row![word Default, word Colon],
+        // name `:`: `out:`
+        Rule::Label => row![word LabelName, word Colon],
+        // `return` an expression or none `;`: `return e;`
+        Rule::Return => row![word Return, fork ReturnValue],
+        // `goto` name `;`: `goto out;`
+        Rule::Goto => row![word Goto, word Name, word Semicolon],
+        // `break` `;`
+        Rule::Break => row![word Break, word Semicolon],
+        // `continue` `;`
+        Rule::Continue => row![word Continue, word Semicolon],
+        // statements: `f(); g();`
+        Rule::StmtList => row![fork ListStatements],
+        // type words, a declarator and a Block, or what a Decl has: `int f(void) { }`, `int x = 1, y;`
+        Rule::External => row![child Specs, fork FirstExternal],
+        // storage words, name, `(` arguments `)`, and `;` or a Block: `MACRO(x);`, `MACRO(x) { }`
+        Rule::ExternalMacro => row![fork MacroNames],
+        // `;`
+        Rule::ExternalEmpty => row![word Semicolon],
+
         // expressions between `\(` and `\)`, parted by `\|` or by `\&`: `\( a \| b \)`, `\( a \& b \)`
         Rule::PatBranches => row![word PatOpen, child Expr, fork FirstBranch],
+        // lists of statements between `\(` and `\)`, parted by `\|` or by `\&`: `\( f(); \| g(); \)`
+        Rule::PatLists => row![word PatOpenOfStatements, child StmtList, fork FirstList],
+        // `<...` or `<+...`, an expression or statements, `...>` or `...+>`: `<... f(x) ...>`
+        Rule::PatNest => row![fork NestStart],
     }
 }
 
@@ -288,5 +337,52 @@ pub fn ways(fork: Fork) -> &'static [&'static [Symbol]]
             row![word Storage, fork MacroWords],
             row![word Name, word AnyOpen, child Args, word Close, word Semicolon],
         ],
+
+        // declarators and initialisers parted by commas, or none
+        Fork::FirstDeclarator => &[row![child InitDeclarator, fork MoreDeclarators], row![word Semicolon]],
+        Fork::MoreDeclarators => &[row![word Comma, child InitDeclarator, fork MoreDeclarators], row![word Semicolon]],
+
+        // an expression or a list
+        Fork::InitValue => &[row![child AssignLevel], row![child InitList]],
+
+        // declarations and statements, no two of `...` and PatNest side by side, and `}`
+        Fork::BlockStatements => &[row![child Decl, fork BlockStatements], row![child Statement, fork BlockStatements], row![word Dots, fork BlockBehindDots], row![child PatNest, fork BlockBehindDots], row![word RightBrace]],
+        Fork::BlockBehindDots => &[row![child Decl, fork BlockStatements], row![child Statement, fork BlockStatements], row![word RightBrace]],
+
+        // `else` and a body, or not
+        Fork::ElseOrNot => &[row![word Else, child Body], row![]],
+
+        // what stands in the brackets, and a body
+        Fork::ForInit => &[row![child Decl, fork ForTest], row![child Expr, word Semicolon, fork ForTest], row![word Semicolon, fork ForTest]],
+        Fork::ForTest => &[row![child Expr, word Semicolon, fork ForStep], row![word Semicolon, fork ForStep]],
+        Fork::ForStep => &[row![child Expr, word Close, child Body], row![word Close, child Body]],
+
+        // `:`, or `... e :`
+        Fork::CaseEnd => &[row![word Colon], row![word Ellipsis, child CondLevel, word Colon]],
+
+        // an expression or none
+        Fork::ReturnValue => &[row![child Expr, word Semicolon], row![word Semicolon]],
+
+        // declarations and statements, no two of `...` and PatNest side by side
+        Fork::ListStatements => &[row![child Decl, fork ListStatements], row![child Statement, fork ListStatements], row![word Dots, fork ListBehindDots], row![child PatNest, fork ListBehindDots], row![]],
+        Fork::ListBehindDots => &[row![child Decl, fork ListStatements], row![child Statement, fork ListStatements], row![]],
+
+        // declarators and initialisers parted by commas, or none; or behind the first a Block
+        Fork::FirstExternal => &[row![child InitDeclarator, fork AfterExternal], row![word Semicolon]],
+        Fork::AfterExternal => &[row![word Comma, child InitDeclarator, fork MoreDeclarators], row![word Semicolon], row![child Block]],
+
+        // storage words, a name, its arguments, and `;` or a Block
+        Fork::MacroNames => &[row![word Storage, fork MacroNames], row![word Name, word AnyOpen, child Args, word Close, fork MacroEnd]],
+        Fork::MacroEnd => &[row![word Semicolon], row![child Block]],
+
+        // two or more lists of statements, all parted by `\|` or all by `\&`
+        Fork::FirstList => &[row![word PatBar, child StmtList, fork MoreListsOr], row![word PatAmp, child StmtList, fork MoreListsAnd]],
+        Fork::MoreListsOr => &[row![word PatBar, child StmtList, fork MoreListsOr], row![word PatClose]],
+        Fork::MoreListsAnd => &[row![word PatAmp, child StmtList, fork MoreListsAnd], row![word PatClose]],
+
+        // an expression, or declarations and statements as in a Block, and the sign that ends it
+        Fork::NestStart => &[row![word PatNestOfExpression, child Expr, word PatNestClose], row![word PatNestOfStatements, fork NestStatements]],
+        Fork::NestStatements => &[row![child Decl, fork NestStatements], row![child Statement, fork NestStatements], row![word Dots, fork NestBehindDots], row![child PatNest, fork NestBehindDots], row![word PatNestClose]],
+        Fork::NestBehindDots => &[row![child Decl, fork NestStatements], row![child Statement, fork NestStatements], row![word PatNestClose]],
     }
 }

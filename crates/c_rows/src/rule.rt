@@ -5,7 +5,7 @@ ghost use Rattle.std.specs.Str.{bytes_eq};
 ghost use Rattle.c_terms.specs.declared.tree.Tree.{out-Tree};
 ghost use Rattle.c_rows.specs.Branches as branches;
 
-use crate::{Class, Kind, is_plain_type};
+use crate::{Class, Kind, begins_declaration, declares_function, is_plain_type};
 use c_terms::{Label, Tree};
 
 /// A row of the grammar. Rows of one label that begin in different ways are rules of their own.
@@ -117,8 +117,59 @@ pub enum Rule {
     /// `static MACRO(x);`
     MacroItem,
 
+    /// `int x = 1, y;`
+    Decl,
+    /// `x = 1`
+    InitDecl,
+
+    /// `f();`
+    ExprStat,
+    /// `;`
+    Empty,
+    /// `{ f(); }`
+    Block,
+    /// `if (c) s`, `if (c) s else t`
+    If,
+    /// `while (c) s`
+    While,
+    /// `do s while (c);`
+    Do,
+    /// `for (;;) s`, `for (int i = 0; ;) s`
+    For,
+    /// `switch (e) s`
+    Switch,
+    /// `list_for_each(p, head) s`
+    Iterator,
+    /// `case 1:`, `case 1 ... 2:`
+    Case,
+    /// `default:`
+    Default,
+    /// `out:`
+    Label,
+    /// `return e;`
+    Return,
+    /// `goto out;`
+    Goto,
+    /// `break;`
+    Break,
+    /// `continue;`
+    Continue,
+    /// `f(); g();`
+    StmtList,
+
+    /// `int f(void) { }`, `int x = 1, y;`
+    External,
+    /// `MACRO(x) { }`, `static MACRO(x);`
+    ExternalMacro,
+    /// `;`
+    ExternalEmpty,
+
     /// `\( a \| b \)`, `\( a \& b \)`
     PatBranches,
+    /// `\( f(); \| g(); \)`, `\( f(); \& g(); \)`
+    PatLists,
+    /// `<... e ...>`, `<... f(); ...>`
+    PatNest,
 }
 
 /// The tightest kind of which a branch of the rule is.
@@ -168,6 +219,23 @@ pub fn kind_of(rule: Rule) -> Kind
         Rule::InitItem => Kind::InitItem,
         Rule::DotName | Rule::At => Kind::Designator,
         Rule::EnumValue => Kind::Enumerator,
+        Rule::Decl => Kind::Decl,
+        Rule::InitDecl => Kind::InitDeclarator,
+        Rule::ExprStat
+        | Rule::Empty
+        | Rule::If
+        | Rule::While
+        | Rule::Do
+        | Rule::For
+        | Rule::Switch
+        | Rule::Iterator
+        | Rule::PatLists => Kind::Body,
+        Rule::Return | Rule::Goto | Rule::Break | Rule::Continue => Kind::Body,
+        Rule::Block => Kind::Block,
+        Rule::Case | Rule::Default | Rule::Label => Kind::Statement,
+        Rule::PatNest => Kind::PatNest,
+        Rule::StmtList => Kind::StmtList,
+        Rule::External | Rule::ExternalMacro | Rule::ExternalEmpty => Kind::External,
     }
 }
 
@@ -203,6 +271,101 @@ fn at_label(children: &[Tree]) -> Label
     match children {
         [_, _, _] => Label::At,
         _ => Label::AtRange,
+    }
+}
+
+/// With an `else`, an If is an IfElse.
+fn if_label(children: &[Tree]) -> Label
+    ensures { result ≡ branches.if_label children.now }
+{
+    match children {
+        [_, _, _, _, _] => Label::If,
+        _ => Label::IfElse,
+    }
+}
+
+/// `case a :` is a Case, `case a ... b :` a CaseRange.
+fn case_label(children: &[Tree]) -> Label
+    ensures { result ≡ branches.case_label children.now }
+{
+    match children {
+        [_, _, _] => Label::Case,
+        _ => Label::CaseRange,
+    }
+}
+
+/// A declaration.
+fn is_decl(tree: &Tree) -> bool
+    ensures { result ≡ branches.labelled branches.is_decl_label (out-Tree tree.now) }
+{
+    match tree {
+        Tree::Leaf(_) => false,
+        Tree::Branch(label, _) => matches!(label, Label::Decl),
+    }
+}
+
+/// With a declaration in its brackets, a For is a ForDecl.
+fn for_label(children: &[Tree]) -> Label
+    ensures { result ≡ branches.for_label children.now }
+{
+    match children {
+        [_, _, first, ..] => {
+            if is_decl(first) {
+                Label::ForDecl
+            } else {
+                Label::For
+            }
+        }
+        _ => Label::For,
+    }
+}
+
+/// A statement in braces.
+fn is_block(tree: &Tree) -> bool
+    ensures { result ≡ branches.labelled branches.is_block_label (out-Tree tree.now) }
+{
+    match tree {
+        Tree::Leaf(_) => false,
+        Tree::Branch(label, _) => matches!(label, Label::Block),
+    }
+}
+
+/// Type words, a declarator and a Block are a FunDef, anything else behind type words a Decl.
+fn external_label(children: &[Tree]) -> Label
+    ensures { result ≡ branches.external_label children.now }
+{
+    match children {
+        [_, _, last] => {
+            if is_block(last) {
+                Label::FunDef
+            } else {
+                Label::Decl
+            }
+        }
+        _ => Label::Decl,
+    }
+}
+
+/// No child is a Block.
+fn is_blockless(children: &[Tree]) -> bool
+    ensures { result ≡ branches.is_blockless children.now }
+{
+    for child in children {
+        if is_block(child) {
+            return false;
+        }
+    }
+    true
+}
+
+/// With a Block, a macro's item is a MacroFun.
+fn macro_label(children: &[Tree]) -> Label
+    ensures { result ≡ branches.macro_label children.now }
+{
+    if is_blockless(children) {
+        Label::MacroItem
+    } else {
+        Label::MacroFun
     }
 }
 
@@ -261,6 +424,60 @@ pub fn label_of(rule: Rule, children: &[Tree]) -> Label
         Rule::DotName => Label::DotName,
         Rule::At => at_label(children),
         Rule::MacroItem => Label::MacroItem,
+        Rule::Decl => Label::Decl,
+        Rule::InitDecl => Label::InitDecl,
+        Rule::ExprStat => Label::ExprStat,
+        Rule::Empty | Rule::ExternalEmpty => Label::Empty,
+        Rule::Block => Label::Block,
+        Rule::If => if_label(children),
+        Rule::While => Label::While,
+        Rule::Do => Label::Do,
+        Rule::For => for_label(children),
+        Rule::Switch => Label::Switch,
+        Rule::Iterator => Label::Iterator,
+        Rule::Case => case_label(children),
+        Rule::Default => Label::Default,
+        Rule::Label => Label::Label,
+        Rule::Return => Label::Return,
+        Rule::Goto => Label::Goto,
+        Rule::Break => Label::Break,
+        Rule::Continue => Label::Continue,
+        Rule::StmtList => Label::StmtList,
+        Rule::External => external_label(children),
+        Rule::ExternalMacro => macro_label(children),
+        Rule::PatLists => branches_label(children),
+        Rule::PatNest => Label::PatNest,
+    }
+}
+
+/// An expression with a comma or an assignment outside brackets.
+fn is_loose(tree: &Tree) -> bool
+    ensures { result ≡ branches.labelled branches.is_loose_label (out-Tree tree.now) }
+{
+    match tree {
+        Tree::Leaf(_) => false,
+        Tree::Branch(label, _) => matches!(label, Label::Comma | Label::Assign),
+    }
+}
+
+/// The first expression of a CaseRange is of Cond level.
+fn is_case(children: &[Tree]) -> bool
+    ensures { result ≡ branches.is_case children.now }
+{
+    match children {
+        [_, _, _] => true,
+        [_, first, ..] => !is_loose(first),
+        _ => true,
+    }
+}
+
+/// The declarator of a FunDef declares a function.
+fn is_external(children: &[Tree]) -> bool
+    ensures { result ≡ branches.is_external children.now }
+{
+    match children {
+        [_, declarator, last] => !is_block(last) || declares_function(declarator),
+        _ => true,
     }
 }
 
@@ -270,6 +487,8 @@ pub fn allows(rule: Rule, children: &[Tree]) -> bool
 {
     match rule {
         Rule::TypeName => is_plain_type(children),
+        Rule::Case => is_case(children),
+        Rule::External => is_external(children),
         _ => true,
     }
 }
@@ -278,7 +497,21 @@ pub fn allows(rule: Rule, children: &[Tree]) -> bool
 pub fn begins_macro(class: Class) -> bool
     ensures value { result ≡ branches.begins_macro class }
 {
-    matches!(class, Class::StorageOfMacro | Class::NameOfCall)
+    matches!(
+        class,
+        Class::StorageOfMacro | Class::NameOfCall | Class::NameOfIterator
+    )
+}
+
+/// What begins a label, an iterator or a declaration at the start of a statement begins no expression there.
+fn begins_expr_stat(class: Class) -> bool
+    ensures { result ≡ branches.begins_expr_stat class }
+{
+    !begins_declaration(class)
+        && !matches!(
+            class,
+            Class::NameOfLabel | Class::NameOfIterator | Class::NameOfStarIterator
+        )
 }
 
 /// Where the tokens behind let a branch of the rule begin.
@@ -290,6 +523,9 @@ pub fn begins(rule: Rule, class: Class) -> bool
         Rule::TypeName => !matches!(class, Class::Typ),
         Rule::Field => !begins_macro(class),
         Rule::MacroItem => begins_macro(class),
+        Rule::ExprStat => begins_expr_stat(class),
+        Rule::External => !begins_macro(class),
+        Rule::ExternalMacro => begins_macro(class),
         _ => true,
     }
 }

@@ -88,4 +88,50 @@ pub enum Fork {
     AtEnd,
     /// A MacroItem before its name
     MacroWords,
+    /// An If behind its body
+    ElseOrNot,
+    /// A Decl behind its Specs
+    FirstDeclarator,
+    /// A Decl behind a declarator
+    MoreDeclarators,
+    /// An InitDecl behind `=`
+    InitValue,
+    /// A Block behind `{` or a statement
+    BlockStatements,
+    /// A Block behind `...` or a PatNest
+    BlockBehindDots,
+    /// A For or ForDecl behind `(`
+    ForInit,
+    /// A For or ForDecl before its second expression
+    ForTest,
+    /// A For or ForDecl before its third expression
+    ForStep,
+    /// A Case or CaseRange behind its first expression
+    CaseEnd,
+    /// A Return behind its word
+    ReturnValue,
+    /// The start of a StmtList, or a StmtList behind a statement
+    ListStatements,
+    /// A StmtList behind `...` or a PatNest
+    ListBehindDots,
+    /// A FunDef or Decl behind its Specs
+    FirstExternal,
+    /// A FunDef or Decl behind its first declarator
+    AfterExternal,
+    /// A MacroItem or MacroFun before its name
+    MacroNames,
+    /// A MacroItem or MacroFun behind `)`
+    MacroEnd,
+    /// A PatOr or PatAnd behind its first list of statements
+    FirstList,
+    /// A PatOr behind a later list of statements
+    MoreListsOr,
+    /// A PatAnd behind a later list of statements
+    MoreListsAnd,
+    /// The start of a PatNest
+    NestStart,
+    /// A PatNest behind its sign or a statement
+    NestStatements,
+    /// A PatNest behind `...` or a PatNest
+    NestBehindDots,
 }

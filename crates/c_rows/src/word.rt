@@ -10,6 +10,10 @@ use crate::Class;
 pub enum Word {
     /// A name
     Name,
+    /// A name before a `:`
+    LabelName,
+    /// A name that begins an iterator
+    IteratorName,
     /// A string
     Str,
     /// `(` of an expression in brackets
@@ -106,14 +110,48 @@ pub enum Word {
     ArgRun,
     /// `...` of a pattern, a metavariable for a list of parameters
     ParamRun,
-    /// `\(`
+    /// `...` of a pattern
+    Dots,
+    /// `\(` of expressions
     PatOpen,
+    /// `\(` of lists of statements
+    PatOpenOfStatements,
     /// `\|`
     PatBar,
     /// `\&`
     PatAmp,
     /// `\)`
     PatClose,
+    /// `<...`, `<+...` before an expression
+    PatNestOfExpression,
+    /// `<...`, `<+...` before statements
+    PatNestOfStatements,
+    /// `...>`, `...+>`
+    PatNestClose,
+    /// `if`
+    If,
+    /// `else`
+    Else,
+    /// `while`
+    While,
+    /// `do`
+    Do,
+    /// `for`
+    For,
+    /// `switch`
+    Switch,
+    /// `case`
+    Case,
+    /// `default`
+    Default,
+    /// `return`
+    Return,
+    /// `goto`
+    Goto,
+    /// `break`
+    Break,
+    /// `continue`
+    Continue,
 }
 
 /// A token of this class is a token of the word.
@@ -121,7 +159,18 @@ pub fn fits(word: Word, class: Class) -> bool
     ensures value { result ≡ words.fits word class }
 {
     match word {
-        Word::Name => matches!(class, Class::Name | Class::NameOfString | Class::NameOfCall),
+        Word::Name => matches!(
+            class,
+            Class::Name
+                | Class::NameOfString
+                | Class::NameOfCall
+                | Class::NameOfLabel
+                | Class::NameOfDecl
+                | Class::NameOfIterator
+                | Class::NameOfStarIterator
+        ),
+        Word::LabelName => matches!(class, Class::NameOfLabel),
+        Word::IteratorName => matches!(class, Class::NameOfIterator | Class::NameOfStarIterator),
         Word::Str => matches!(class, Class::Str | Class::StrOfString),
         Word::ParenOpen => matches!(class, Class::ParenNest | Class::ParenList),
         Word::CastOpen => matches!(class, Class::CastNest | Class::CastList),
@@ -194,9 +243,26 @@ pub fn fits(word: Word, class: Class) -> bool
         Word::EnumBody => matches!(class, Class::EnumBody),
         Word::ArgRun => matches!(class, Class::Dots | Class::ExprList),
         Word::ParamRun => matches!(class, Class::Dots | Class::ParamList),
+        Word::Dots => matches!(class, Class::Dots),
         Word::PatOpen => matches!(class, Class::PatOpen),
+        Word::PatOpenOfStatements => matches!(class, Class::PatOpenOfStatements),
         Word::PatBar => matches!(class, Class::PatBar),
         Word::PatAmp => matches!(class, Class::PatAmp),
         Word::PatClose => matches!(class, Class::PatClose),
+        Word::PatNestOfExpression => matches!(class, Class::PatNestOfExpression),
+        Word::PatNestOfStatements => matches!(class, Class::PatNestOfStatements),
+        Word::PatNestClose => matches!(class, Class::PatNestClose),
+        Word::If => matches!(class, Class::If),
+        Word::Else => matches!(class, Class::Else),
+        Word::While => matches!(class, Class::While),
+        Word::Do => matches!(class, Class::Do),
+        Word::For => matches!(class, Class::For),
+        Word::Switch => matches!(class, Class::Switch),
+        Word::Case => matches!(class, Class::Case),
+        Word::Default => matches!(class, Class::Default),
+        Word::Return => matches!(class, Class::Return),
+        Word::Goto => matches!(class, Class::Goto),
+        Word::Break => matches!(class, Class::Break),
+        Word::Continue => matches!(class, Class::Continue),
     }
 }

@@ -125,6 +125,42 @@ pub fn is_type_word(token: &Token) -> bool
     }
 }
 
+/// A name, a keyword or a metavariable.
+pub fn is_word(token: &Token) -> bool
+    ensures { result ≡ tokens.is_word token.now }
+{
+    match token.kind {
+        TokenKind::Name => true,
+        TokenKind::Keyword => true,
+        TokenKind::Meta(_) => true,
+        _ => false,
+    }
+}
+
+/// `for_each` stands in the text.
+pub fn holds_for_each(text: &[u8]) -> bool
+    ensures { result ≡ tokens.holds_for_each text.now }
+{
+    let mut rest = text;
+    while let [_, after @ ..] = rest {
+        if rest.starts_with(b"for_each") {
+            return true;
+        }
+        rest = after;
+    }
+    false
+}
+
+/// The sign of patterns with this text.
+pub fn is_pat(token: &Token, text: &[u8]) -> bool
+    ensures { result ≡ tokens.is_pat token.now text.now }
+{
+    match token.kind {
+        TokenKind::Pat => is(token.text.as_bytes(), text),
+        _ => false,
+    }
+}
+
 /// A token that may follow a name in brackets only where that is a cast or begins a literal:
 /// a name, a constant, a string, a metavariable for an expression, `~`, `!`, `sizeof` or `{`.
 pub fn follows_cast(token: &Token) -> bool

@@ -5,7 +5,7 @@
 //! - [`NodeLabel`] says what a node is and which statement it names, by a [`NodeTree`].
 //! - [`is_own`] says which children of that statement's tree are the node's own.
 //! - [`Links`] are a few numbers of nodes.
-//! - [`labels_are_values`] is a law: its clauses hold, and its body is empty.
+//! - [`labels_are_values`] and [`parts_are_values`] are laws: their clauses hold, and their bodies are empty.
 //!
 //! ```text
 //!       0 head ─► 1 {  ─► 2 lock ─► 3 if ─┬─► 4 unlock a ─┐
@@ -26,6 +26,6 @@ mod own;
 
 pub use graph::Graph;
 pub use label::{NodeKind, NodeLabel, NodeTree};
-pub use laws::labels_are_values;
+pub use laws::{labels_are_values, parts_are_values};
 pub use links::Links;
 pub use own::is_own;

@@ -5,7 +5,7 @@ ghost use Rattle.env_sets.specs.Bounds.{fits, option_fits, is_not};
 
 use crate::values::Values;
 use c_terms::NoMemory;
-use smpl_terms::{Value, same_value, value_order};
+use smpl_terms::{Copied, Value, same_value, value_order};
 use std::alloc::Global;
 use std::cmp::Ordering;
 
@@ -48,6 +48,12 @@ impl Bound {
             Bound::Is(_) => false,
             Bound::Not(_) => true,
         }
+    }
+}
+
+impl Copied for Bound {
+    fn copied(&self, alloc: Global) -> Result<Bound, NoMemory> {
+        self.copy(alloc)
     }
 }
 

@@ -4,22 +4,22 @@ ghost use Rattle.std.specs.List.{list_all, filter};
 ghost use Rattle.std.specs.Bool.{Decides};
 ghost use Rattle.smpl_terms.specs.declared.var.Var.{Var};
 ghost use Rattle.smpl_terms.specs.declared.value.Value.{Value as Datum};
-ghost use Rattle.smpl_terms.specs.Vars.{same_var, Rising, place_of};
+ghost use Rattle.smpl_terms.specs.Vars.{same_var, Rising};
 ghost use Rattle.smpl_terms.specs.Environments.{Environment, change, has_value, total};
 ghost use Rattle.env_sets.specs.Bounds.{fits};
 ghost use Rattle.env_sets.specs.Sets.{entry_denotes, option_denotes, entry_vars, option_vars, ForSomeValue};
 
 use crate::bounds::{Bound, bound_covers, bound_order, bounds_clash, excluded, meet_bounds};
 use c_terms::NoMemory;
-use smpl_terms::{Env, Value, Var, same_var, var_order};
+use smpl_terms::{Env, Value, Var, VarMap, place, same_var, var_order};
 use std::alloc::Global;
 use std::cmp::Ordering;
 use std::marker::Model;
 
-/// Bounds of some variables. Contracts see the list of pairs, sorted by variable, each variable once.
+/// Bounds of some variables. Copies share them. Contracts see the list of pairs, sorted by variable, each variable once.
 #[derive(Drop)]
 pub struct Entry {
-    pairs: Vec<(Var, Bound)>,
+    map: VarMap<Bound>,
 }
 
 impl Model for Entry {
@@ -33,31 +33,7 @@ impl Model for Entry {
 
     ghost coded = { Prim.hlevel (codes, tree.the_row.coded) };
 
-    ghost use Rattle.smpl_terms.specs.Vars.{Rising};
-
-    ghost view = { λ a. a.pairs.items };
-
-    ghost invariant = { λ a. Rising a.pairs.items };
-}
-
-fn place(pairs: &[(Var, Bound)], v: &Var) -> usize
-    ensures { result ≡ place_of v.now pairs.now }
-{
-    let mut i = 0;
-    while i < pairs.len() && var_order(&pairs[i].0, v).is_lt() {
-        i += 1;
-    }
-    i
-}
-
-fn copy_pairs(alloc: Global, pairs: &[(Var, Bound)]) -> Result<Vec<(Var, Bound)>, NoMemory>
-    ensures { IfOk result (λ copies. copies.items ≡ pairs.now) }
-{
-    let mut copies = Vec::with_capacity(alloc, pairs.len())?;
-    for p in pairs {
-        copies.push((p.0.copy(alloc)?, p.1.copy(alloc)?))?;
-    }
-    Ok(copies)
+    ghost view = { λ a. a.map };
 }
 
 fn pairs_without(
@@ -105,11 +81,11 @@ fn is_open(bound: &Bound) -> bool
 
 impl Entry {
     /// No bound: every environment.
-    pub fn all(alloc: Global) -> Entry
+    pub fn all(_alloc: Global) -> Entry
         ensures pairs { result ≡ [] }
     {
         Entry {
-            pairs: Vec::new(alloc),
+            map: VarMap::empty(),
         }
     }
 
@@ -119,7 +95,8 @@ impl Entry {
     {
         let mut pairs = Vec::new(alloc);
         pairs.push((v.copy(alloc)?, bound))?;
-        Ok(Entry { pairs })
+        let map = VarMap::of(alloc, pairs)?;
+        Ok(Entry { map })
     }
 
     /// The bounds, sorted by variable. Takes no memory.
@@ -127,15 +104,15 @@ impl Entry {
         ensures pairs { result.now ≡ self.now }
         ensures rising { Rising self.now }
     {
-        self.pairs.as_slice()
+        self.map.pairs()
     }
 
-    /// An equal entry, ids included. Linear.
-    pub fn copy(&self, alloc: Global) -> Result<Entry, NoMemory>
+    /// An equal entry, ids included. It shares the bounds, and takes no memory.
+    pub fn copy(&self, _alloc: Global) -> Result<Entry, NoMemory>
         ensures same { IfOk result (λ e. e ≡ self.now) }
     {
-        let pairs = copy_pairs(alloc, &self.pairs)?;
-        Ok(Entry { pairs })
+        let map = self.map.share()?;
+        Ok(Entry { map })
     }
 
     /// The entry with one more bound; nothing where no environment is left. A bound that excludes no value is not added.
@@ -151,7 +128,8 @@ impl Entry {
         if is_open(bound) {
             return Ok(Some(self));
         }
-        let Entry { mut pairs } = self;
+        let Entry { map } = self;
+        let mut pairs = map.into_vec(alloc)?;
         let x = v.copy(alloc)?;
         let at = place(&pairs, v);
         if at < pairs.len() && same_var(&pairs[at].0, v) {
@@ -160,12 +138,14 @@ impl Entry {
                 None => Ok(None),
                 Some(both) => {
                     pairs[at] = (x, both);
-                    Ok(Some(Entry { pairs }))
+                    let map = VarMap::of(alloc, pairs)?;
+                    Ok(Some(Entry { map }))
                 }
             }
         } else {
             pairs.insert(at, (x, bound.copy(alloc)?))?;
-            Ok(Some(Entry { pairs }))
+            let map = VarMap::of(alloc, pairs)?;
+            Ok(Some(Entry { map }))
         }
     }
 
@@ -174,8 +154,9 @@ impl Entry {
     pub fn free_of(&self, alloc: Global, env: &Env) -> Result<Entry, NoMemory>
         ensures pairs { IfOk result (λ e. e ≡ filter (λ p. not (has_value env.now p.0)) self.now) }
     {
-        let pairs = pairs_free_of(alloc, &self.pairs, env)?;
-        Ok(Entry { pairs })
+        let pairs = pairs_free_of(alloc, self.pairs(), env)?;
+        let map = VarMap::of(alloc, pairs)?;
+        Ok(Entry { map })
     }
 
     /// The entry without the bound of v: what it stands for after some change of v alone. It copies the others.
@@ -187,8 +168,9 @@ impl Entry {
         ensures vars { IfOk result (λ e. (t : Var → Bool) → entry_vars (λ y. t y
             || same_var y v.now) self.now ≡ true → entry_vars t e ≡ true) }
     {
-        let pairs = pairs_without(alloc, &self.pairs, v)?;
-        Ok(Entry { pairs })
+        let pairs = pairs_without(alloc, self.pairs(), v)?;
+        let map = VarMap::of(alloc, pairs)?;
+        Ok(Entry { map })
     }
 }
 

@@ -18,11 +18,12 @@ fn var(alloc: Global, name: &str) -> Result<Var, Fail> {
 
 /// The number as a term, whose token has this id.
 fn term(alloc: Global, number: &str, id: u64) -> Result<Value, Fail> {
-    Ok(Value::Term(Tree::Leaf(Token {
+    let token = Token {
         kind: TokenKind::Number,
         text: Text::from_bytes(alloc, number.as_bytes())?,
         id,
-    })))
+    };
+    Ok(Value::term(alloc, Tree::Leaf(token))?)
 }
 
 // The calls without their clauses, so that a test's goals stay small.

@@ -26,12 +26,24 @@ after_call calls failed = record {
 abbrev pub no_calls : List ℕ → Calls
 no_calls fail = record { done = 0; fail = fail; faults = 0 }
 
--- a shelf in memory: its files and its calls
+-- a shelf in memory: its files, how many stores were done or failed, and its calls
 pub record ShelfState : Type 0 where
   pub files : Files
+  pub stores : ℕ
   pub calls : Calls
 
 -- a sink in memory: its bytes and its calls
 pub record SinkState : Type 0 where
   pub bytes : List ℕ
   pub calls : Calls
+
+-- a shelf in memory of whose calls none fails: its files, how many stores were done, and how many calls were made
+pub record CalmShelfState : Type 0 where
+  pub files : Files
+  pub stores : ℕ
+  pub calls : ℕ
+
+-- a sink in memory of whose puts none fails: its bytes, and how many puts were made
+pub record CalmSinkState : Type 0 where
+  pub bytes : List ℕ
+  pub calls : ℕ

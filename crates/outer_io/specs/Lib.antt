@@ -1,7 +1,7 @@
--- What public contracts rest on, in reading order: contents, counts of faults, calls that fail, streams.
+-- What public contracts rest on, in reading order: contents, counts of faults, calls that fail, streams and real files.
 pub mod Files
 pub mod Faults
 pub mod Calls
-pub mod Streams
+pub mod Adapters
 -- For inside use: how contents and calls are stored.
 pub mod Stored

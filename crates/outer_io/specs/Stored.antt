@@ -4,7 +4,7 @@ use Rattle.std.specs.declared.alloc.Global.{Global}
 use Rattle.std.specs.Coded.{Coded, code_by, coded×, coded_list, coded_ℕ}
 use Rattle.std.specs.FinMap.{from_entries, code}
 use Rattle.outer_io.specs.Files.{Files}
-use Rattle.outer_io.specs.Calls.{Calls, ShelfState}
+use Rattle.outer_io.specs.Calls.{Calls, ShelfState, CalmShelfState}
 
 -- the files of the entries of a search tree, whose names differ
 abbrev pub files_in : List (Vec ℕ Global × Vec ℕ Global) → Files
@@ -17,4 +17,7 @@ abbrev pub calls_code : Coded Calls
 calls_code = code_by (ℕ × (List ℕ × ℕ)) (coded× coded_ℕ (coded× (coded_list coded_ℕ) coded_ℕ)) (λ c. (c.done, (c.fail, c.faults))) (λ p. record { done = p.0; fail = p.1.0; faults = p.1.1 }) (λ _. refl)
 
 abbrev pub shelf_code : Coded ShelfState
-shelf_code = code_by (Files × Calls) (coded× files_code calls_code) (λ s. (s.files, s.calls)) (λ p. record { files = p.0; calls = p.1 }) (λ _. refl)
+shelf_code = code_by (Files × (ℕ × Calls)) (coded× files_code (coded× coded_ℕ calls_code)) (λ s. (s.files, (s.stores, s.calls))) (λ p. record { files = p.0; stores = p.1.0; calls = p.1.1 }) (λ _. refl)
+
+abbrev pub calm_code : Coded CalmShelfState
+calm_code = code_by (Files × (ℕ × ℕ)) (coded× files_code (coded× coded_ℕ coded_ℕ)) (λ s. (s.files, (s.stores, s.calls))) (λ p. record { files = p.0; stores = p.1.0; calls = p.1.1 }) (λ _. refl)

@@ -32,6 +32,13 @@ impl CallCount {
         }
     }
 
+    /// How many calls were made.
+    pub fn done(&self) -> u64
+        ensures { result ≡ self.now.done }
+    {
+        self.done
+    }
+
     /// Whether the call that comes next is one that fails.
     pub fn next_fails(&self) -> bool
         ensures { result ≡ next_fails self.now }

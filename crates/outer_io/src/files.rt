@@ -6,8 +6,8 @@ ghost use Rattle.std.specs.IoError.{error_kind};
 ghost use Rattle.outer_io.specs.Faults.{counted, HasCause};
 
 use crate::calls::one_more;
-use crate::streams::write_whole;
-use crate::{Shelf, ShelfFault};
+use crate::replace::store_file;
+use crate::{Loads, Shelf, ShelfFault};
 use std::alloc::Global;
 use std::fs::OpenFile;
 use std::io::{ErrorKind, Read};
@@ -19,47 +19,56 @@ use std::{fs, io};
 const BLOCK: usize = 65536;
 
 /// The files of the system, by their paths. It tells no content, so what a file gives and takes is trusted.
-/// Contracts see the count of faults.
+/// Contracts see the counts of stores and of faults.
 ///
 /// `Failed` are a file that is missing or cannot be opened, a read or a write that fails, and a write that takes
-/// nothing. A read or a write that a signal interrupts is made again. The count rises at each `Err`, also where a file
-/// is too long or memory runs out, and at no `Ok`. A load is linear in what it reads, which is at most one block of
-/// 64 KiB past its limit; a store is linear in its bytes.
+/// nothing. A read or a write that a signal interrupts is made again. The count of faults rises at each `Err`, also
+/// where a file is too long or memory runs out, and at no `Ok`. A load is linear in what it reads, which is at most one
+/// block of 64 KiB past its limit; a store is linear in its bytes, and waits until they are on the disk.
 #[derive(Drop)]
 pub struct FileShelf<'a, R> {
     rt: &'a R,
+    stores: u64,
     faults: u64,
 }
 
 impl<'a, R> Model for FileShelf<'a, R> {
-    ghost use Rattle.std.specs.Prelude.{ℕ};
+    ghost use Rattle.outer_io.specs.Adapters.{FilesState};
 
-    ghost Value = { ℕ };
+    ghost Value = { FilesState };
 
-    ghost view = { λ s. s.faults };
+    ghost view = { λ s. record { stores = s.stores; faults = s.faults } };
 }
 
 impl<'a, R: Files + AllocGlobal> FileShelf<'a, R> {
-    /// The files that this runtime reaches, with no fault so far.
+    /// The files that this runtime reaches, with no store and no fault so far.
     pub fn new(rt: &'a R) -> FileShelf<'a, R>
-        ensures faults { result ≡ 0 }
+        ensures stores { result.stores ≡ 0 }
+        ensures faults { result.faults ≡ 0 }
     {
-        FileShelf { rt, faults: 0 }
+        FileShelf {
+            rt,
+            stores: 0,
+            faults: 0,
+        }
     }
 }
 
-impl<'a, R: Files + AllocGlobal> Shelf for FileShelf<'a, R> {
+impl<'a, R: Files + AllocGlobal> Loads for FileShelf<'a, R> {
     ghost holds = { λ _. None };
 
-    ghost faults = { λ s. s };
+    ghost stores = { λ s. s.stores };
 
-    /// The bytes of the file. A file that is missing is `Failed`.
+    ghost faults = { λ s. s.faults };
+
+    /// The bytes of the file. A file that is missing is `Failed`, and so is a folder.
     fn load(&mut self, name: &str, limit: u64) -> Result<Vec<u8>, ShelfFault>
+        ensures no_store { self.new.stores ≡ self.old.stores }
         ensures within { IfOk result (λ bytes. length bytes.items ≤ limit) }
         ensures not_absent { IsErrOf result ShelfFault.Absent → ⊥ }
-        ensures cause { HasCause ShelfFault.Failed self.old self.new result }
-        ensures counts { OnErr result (self.new ≡ counted self.old) }
-        ensures calm { OnOk result (self.new ≡ self.old) }
+        ensures cause { HasCause ShelfFault.Failed self.old.faults self.new.faults result }
+        ensures counts { OnErr result (self.new.faults ≡ counted self.old.faults) }
+        ensures calm { OnOk result (self.new.faults ≡ self.old.faults) }
     {
         let read = read_file(self.rt, name, limit);
         if read.is_err() {
@@ -67,21 +76,37 @@ impl<'a, R: Files + AllocGlobal> Shelf for FileShelf<'a, R> {
         }
         read
     }
+}
 
-    /// Makes the file anew of these bytes.
+impl<'a, R: Files + AllocGlobal> Shelf for FileShelf<'a, R> {
+    /// Puts the bytes into the file, to which links are followed.
+    ///
+    /// A new file beside the old one gets the bytes, the old one's mode and, where that is allowed, its owner. It is
+    /// synced, and takes the old one's name in one step. Where no file may be made beside the old one, or that has a
+    /// second name, it is written over. What is no plain file, or may not be written, is `Failed`.
+    ///
+    /// After an `Err` the old bytes stand there, but for a file that was written over: it may then begin with a first
+    /// part of the new bytes. The new file is removed after a fault. `NoMemory` comes before any file is touched.
     fn store(&mut self, name: &str, bytes: &[u8]) -> Result<(), ShelfFault>
+        ensures counts_ok { OnOk result (self.new.stores ≡ counted self.old.stores) }
+        ensures counts_failed { IsErrOf result ShelfFault.Failed →
+            self.new.stores ≡ counted self.old.stores }
+        ensures no_memory { IsErrOf result ShelfFault.NoMemory →
+            self.new.stores ≡ self.old.stores }
         ensures not_absent { IsErrOf result ShelfFault.Absent → ⊥ }
         ensures not_too_long { IsErrOf result ShelfFault.TooLong → ⊥ }
-        ensures failed_only { OnErr result (IsErrOf result ShelfFault.Failed) }
-        ensures cause { HasCause ShelfFault.Failed self.old self.new result }
-        ensures counts { OnErr result (self.new ≡ counted self.old) }
-        ensures calm { OnOk result (self.new ≡ self.old) }
+        ensures cause { HasCause ShelfFault.Failed self.old.faults self.new.faults result }
+        ensures counts { OnErr result (self.new.faults ≡ counted self.old.faults) }
+        ensures calm { OnOk result (self.new.faults ≡ self.old.faults) }
     {
-        if write_file(self.rt, name, bytes) {
-            return Ok(());
+        let end = store_file(self.rt, name, bytes);
+        if end.is_err() {
+            self.faults = one_more(self.faults);
         }
-        self.faults = one_more(self.faults);
-        Err(ShelfFault::Failed)
+        if !matches!(end, Err(ShelfFault::NoMemory)) {
+            self.stores = one_more(self.stores);
+        }
+        end
     }
 }
 
@@ -171,12 +196,4 @@ fn read_some<F: Read>(file: &mut F, block: &mut [u8]) -> io::Result<usize>
         }
     }
     Err(io::Error::from(ErrorKind::TimedOut))
-}
-
-/// Makes the file of these bytes, and says whether it did.
-fn write_file<R: Files>(rt: &R, name: &str, bytes: &[u8]) -> bool {
-    match fs::create(rt, name) {
-        Ok(mut file) => write_whole(&mut file, bytes),
-        Err(_) => false,
-    }
 }

@@ -1,10 +1,13 @@
 //! What a run meets outside: shelves that files are loaded from and stored on, and sinks that take bytes.
 //!
-//! - [`Shelf`] and [`Sink`] are what a run is written against. Each counts its faults, and may tell what it holds.
+//! - [`Loads`], [`Shelf`] and [`Sink`] are what a run is written against. Each counts its faults, and may tell what it
+//!   holds. What is written against [`Loads`] alone can't store, and every store is counted.
 //! - [`CalmShelf`] and [`CalmSink`] stand in memory and never fail; [`MemShelf`] and [`MemSink`] fail at the calls
-//!   whose numbers they are given, so that a test can try each fault of the outside.
-//! - [`FileShelf`] is the files of the system, and [`StreamSink`] a stream, by the names [`OutSink`] and [`ErrSink`] the two
-//!   standard ones. They tell no content, so what the system gives and takes is trusted.
+//!   whose numbers they are given, so that a test can try each fault of the outside. All four tell how many calls were
+//!   made.
+//! - [`FileShelf`] is the files of the system, which a store replaces in one step where it can, and [`StreamSink`] a
+//!   stream, by the names [`OutSink`] and [`ErrSink`] the two standard ones. They tell no content, so what the system
+//!   gives and takes is trusted.
 //!
 //! `load("k.c", 4)` on a calm shelf that holds `f();` under `k.c` answers these 4 bytes, and with the limit 3
 //! it answers `TooLong`; `load("x.c", 4)` answers `Absent`.
@@ -18,6 +21,7 @@ mod calm;
 mod file_map;
 mod files;
 mod mem;
+mod replace;
 mod shelf;
 mod sink;
 mod streams;
@@ -27,6 +31,6 @@ mod tests;
 pub use calm::{CalmShelf, CalmSink};
 pub use files::FileShelf;
 pub use mem::{MemShelf, MemSink};
-pub use shelf::{Shelf, ShelfFault};
+pub use shelf::{Loads, Shelf, ShelfFault};
 pub use sink::{PutFault, Sink};
 pub use streams::{ErrSink, OutSink, StreamSink};

@@ -2,23 +2,25 @@
 ghost use Rattle.std.specs.Prelude.{◌≡◌, ◌≢◌, ◌<◌, ◌≤◌, ◌/◌, ◌++◌, ◌↔◌, ℕ, Some, None, [], take, length, is_err, IsErr, IsErrOf, IfOk, IfSome, IsOk, IsSomeAnd, IsTrue, OnOk, OnErr, option_copied, false, true};
 ghost use Rattle.std.specs.FinMap.{get, insert};
 ghost use Rattle.outer_io.specs.Files.{files_of};
-ghost use Rattle.outer_io.specs.Faults.{HasCause};
+ghost use Rattle.outer_io.specs.Faults.{HasCause, counted};
 ghost use Rattle.outer_io.specs.Calls.{next_fails, after_call, no_calls};
 
-use crate::calls::CallCount;
+use crate::calls::{CallCount, one_more};
 use crate::file_map::FileMap;
-use crate::{PutFault, Shelf, ShelfFault, Sink};
+use crate::{Loads, PutFault, Shelf, ShelfFault, Sink};
 use c_terms::{NoMemory, Text};
 use std::alloc::Global;
 use std::marker::Model;
 
-/// Files in memory, with the numbers of the calls that fail. Contracts see the files and the calls.
+/// Files in memory, with the numbers of the calls that fail. Contracts see the files, the count of stores and the
+/// calls.
 ///
 /// Loads and stores are counted together, from 0, also those that find no memory. Costs are those of `CalmShelf`,
 /// and a walk of the list of numbers.
 #[derive(Drop)]
 pub struct MemShelf {
     files: FileMap,
+    stores: u64,
     calls: CallCount,
 }
 
@@ -30,7 +32,7 @@ impl Model for MemShelf {
 
     ghost coded = { shelf_code };
 
-    ghost view = { λ s. record { files = s.files; calls = s.calls } };
+    ghost view = { λ s. record { files = s.files; stores = s.stores; calls = s.calls } };
 }
 
 impl MemShelf {
@@ -38,11 +40,13 @@ impl MemShelf {
     /// entry counts.
     pub fn new(entries: Vec<(Text, Vec<u8>)>, fail: Vec<u64>) -> Result<MemShelf, NoMemory>
         ensures files { IfOk result (λ shelf. shelf.files ≡ files_of entries.items) }
+        ensures stores { IfOk result (λ shelf. shelf.stores ≡ 0) }
         ensures calls { IfOk result (λ shelf. shelf.calls ≡ no_calls fail.items) }
     {
         let files = FileMap::of(entries)?;
         Ok(MemShelf {
             files,
+            stores: 0,
             calls: CallCount::new(fail),
         })
     }
@@ -56,16 +60,33 @@ impl MemShelf {
             None => None,
         }
     }
+
+    /// How many stores were done or failed.
+    pub fn stores(&self) -> u64
+        ensures count { result ≡ self.now.stores }
+    {
+        self.stores
+    }
+
+    /// How many loads and stores were asked for, also those that found no memory.
+    pub fn calls(&self) -> u64
+        ensures count { result ≡ self.now.calls.done }
+    {
+        self.calls.done()
+    }
 }
 
-impl Shelf for MemShelf {
+impl Loads for MemShelf {
     ghost holds = { λ s. Some s.files };
+
+    ghost stores = { λ s. s.stores };
 
     ghost faults = { λ s. s.calls.faults };
 
     /// Fails exactly where the number of the call is one that fails.
     fn load(&mut self, name: &str, limit: u64) -> Result<Vec<u8>, ShelfFault>
         ensures same { self.new.files ≡ self.old.files }
+        ensures no_store { self.new.stores ≡ self.old.stores }
         ensures bytes { IfOk result (λ bytes. get self.old.files name.now ≡ Some bytes.items) }
         ensures within { IfOk result (λ bytes. length bytes.items ≤ limit) }
         ensures absent { IsErrOf result ShelfFault.Absent → get self.old.files name.now ≡ None }
@@ -83,11 +104,18 @@ impl Shelf for MemShelf {
         }
         self.files.load(name, limit)
     }
+}
 
+impl Shelf for MemShelf {
     /// Fails exactly where the number of the call is one that fails.
     fn store(&mut self, name: &str, bytes: &[u8]) -> Result<(), ShelfFault>
         ensures ok { OnOk result (self.new.files ≡ insert self.old.files name.now bytes.now) }
         ensures err { OnErr result (self.new.files ≡ self.old.files) }
+        ensures counts_ok { OnOk result (self.new.stores ≡ counted self.old.stores) }
+        ensures counts_failed { IsErrOf result ShelfFault.Failed →
+            self.new.stores ≡ counted self.old.stores }
+        ensures no_memory { IsErrOf result ShelfFault.NoMemory →
+            self.new.stores ≡ self.old.stores }
         ensures not_absent { IsErrOf result ShelfFault.Absent → ⊥ }
         ensures not_too_long { IsErrOf result ShelfFault.TooLong → ⊥ }
         ensures cause { HasCause ShelfFault.Failed
@@ -98,11 +126,14 @@ impl Shelf for MemShelf {
         let failing = self.calls.next_fails();
         self.calls.count(failing);
         if failing {
+            self.stores = one_more(self.stores);
             return Err(ShelfFault::Failed);
         }
-        self.files
-            .insert(name.as_bytes(), bytes)
-            .map_err(|_| ShelfFault::NoMemory)
+        if self.files.insert(name.as_bytes(), bytes).is_err() {
+            return Err(ShelfFault::NoMemory);
+        }
+        self.stores = one_more(self.stores);
+        Ok(())
     }
 }
 
@@ -140,6 +171,13 @@ impl MemSink {
         ensures bytes { result.now ≡ self.now.bytes }
     {
         &self.bytes
+    }
+
+    /// How many puts were asked for, also those of an empty piece and those that found no memory.
+    pub fn calls(&self) -> u64
+        ensures count { result ≡ self.now.calls.done }
+    {
+        self.calls.done()
     }
 }
 

@@ -2,7 +2,7 @@
 ghost use Rattle.std.specs.Prelude.{◌≡◌, ◌<◌, ◌≤◌, ℕ, List, Option, Some, None, length, IfOk, IfSome, IsSomeAnd, OnOk, OnErr, IsErrOf};
 ghost use Rattle.std.specs.FinMap.{get};
 ghost use Rattle.outer_io.specs.Files.{Files, stored};
-ghost use Rattle.outer_io.specs.Faults.{HasCause};
+ghost use Rattle.outer_io.specs.Faults.{HasCause, counted};
 
 /// Why a load or a store did not do what was asked. Only `Failed` must have its cause in the count of faults; a shelf may
 /// count the other answers too, as `FileShelf` does.
@@ -18,10 +18,16 @@ pub enum ShelfFault {
     NoMemory,
 }
 
-/// Bytes under names. A shelf may tell what it holds, and counts its faults.
-pub trait Shelf {
+/// Bytes under names that are loaded. What is written against this alone can't store.
+///
+/// A shelf may tell what it holds. It counts its faults, and it counts its stores, so that a store leaves a trace even
+/// where it changes no byte.
+pub trait Loads {
     /// The bytes under each name, where the shelf tells them.
     ghost holds: { Self → Option Files };
+
+    /// How many stores there were, done or failed. A store that found no memory is none.
+    ghost stores: { Self → ℕ };
 
     /// How often the shelf has failed. The count never falls.
     ghost faults: { Self → ℕ };
@@ -32,6 +38,7 @@ pub trait Shelf {
     /// `Absent` where there are none, and `TooLong` where there are more than the limit.
     fn load(&mut self, name: &str, limit: u64) -> Result<Vec<u8>, ShelfFault>
         ensures same { holds self.new ≡ holds self.old }
+        ensures no_store { stores self.new ≡ stores self.old }
         ensures bytes { IfOk result (λ bytes. IfSome (holds self.old)
             (λ files. get files name.now ≡ Some bytes.items)) }
         ensures within { IfOk result (λ bytes. length bytes.items ≤ limit) }
@@ -40,15 +47,25 @@ pub trait Shelf {
         ensures too_long { IsErrOf result ShelfFault.TooLong → IfSome (holds self.old)
             (λ files. IsSomeAnd (get files name.now) (λ bytes. limit < length bytes)) }
         ensures cause { HasCause ShelfFault.Failed (faults self.old) (faults self.new) result };
+}
 
+/// Bytes under names that are loaded and stored.
+pub trait Shelf: Loads {
     /// Puts the bytes under a name, in place of those that were there. All other names keep theirs.
     ///
-    /// After an `Err` the shelf holds what it held, where it tells that. A real file, which tells nothing, may then
-    /// have any first part of the new bytes.
+    /// After an `Err` the shelf holds what it held, where it tells that. A store is counted, done or failed; where no
+    /// memory was found, nothing was done and nothing is counted.
     fn store(&mut self, name: &str, bytes: &[u8]) -> Result<(), ShelfFault>
-        ensures ok { OnOk result (holds self.new ≡ stored (holds self.old) name.now bytes.now) }
-        ensures err { OnErr result (holds self.new ≡ holds self.old) }
+        ensures ok { OnOk result
+            (Self.holds self.new ≡ stored (Self.holds self.old) name.now bytes.now) }
+        ensures err { OnErr result (Self.holds self.new ≡ Self.holds self.old) }
+        ensures counts_ok { OnOk result (Self.stores self.new ≡ counted (Self.stores self.old)) }
+        ensures counts_failed { IsErrOf result ShelfFault.Failed →
+            Self.stores self.new ≡ counted (Self.stores self.old) }
+        ensures no_memory { IsErrOf result ShelfFault.NoMemory →
+            Self.stores self.new ≡ Self.stores self.old }
         ensures not_absent { IsErrOf result ShelfFault.Absent → ⊥ }
         ensures not_too_long { IsErrOf result ShelfFault.TooLong → ⊥ }
-        ensures cause { HasCause ShelfFault.Failed (faults self.old) (faults self.new) result };
+        ensures cause { HasCause ShelfFault.Failed
+            (Self.faults self.old) (Self.faults self.new) result };
 }

@@ -29,7 +29,7 @@ pub type OutSink<W> = StreamSink<W>;
 pub type ErrSink<W> = StreamSink<W>;
 
 impl<W> Model for StreamSink<W> {
-    ghost use Rattle.outer_io.specs.Streams.{StreamState};
+    ghost use Rattle.outer_io.specs.Adapters.{StreamState};
 
     ghost Value = { StreamState W };
 

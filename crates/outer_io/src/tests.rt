@@ -1,13 +1,16 @@
 // What no clause says: that calls succeed, what real files and streams do, and readers and writers that move little, are
 // interrupted or fail.
+mod failing_files;
+mod files;
+
 use crate::files::read_whole;
 use crate::*;
 use c_terms::Text;
 use std::alloc::Global;
+use std::io;
 use std::io::{Error, ErrorKind, Read, Write};
 use std::process::Abort;
 use std::test::Fail;
-use std::{fs, io};
 
 /// Takes a few bytes at a time, is interrupted before each time, and fails once it has taken so many.
 #[derive(Drop)]
@@ -110,6 +113,7 @@ fn calm_shelf_keeps_each_name(rt: HostRuntime) -> Result<(), Fail> {
         b"a();".as_slice()
     );
     assert!(rt; shelf.bytes_of(b"c.c").is_none());
+    assert_eq!(rt; (shelf.calls(), shelf.stores()), (4, 1));
     Ok(())
 }
 
@@ -132,6 +136,7 @@ fn mem_shelf_fails_at_its_numbers(rt: HostRuntime) -> Result<(), Fail> {
         shelf.bytes_of(b"a.c").expect(&rt, "a.c"),
         b"new".as_slice()
     );
+    assert_eq!(rt; (shelf.calls(), shelf.stores()), (4, 2));
     Ok(())
 }
 
@@ -141,6 +146,7 @@ fn sinks_in_memory_keep_what_was_put(rt: HostRuntime) -> Result<(), Fail> {
     calm.put(b"ab").expect(&rt, "ab");
     calm.put(b"cd").expect(&rt, "cd");
     assert_eq!(rt; calm.bytes(), b"abcd".as_slice());
+    assert_eq!(rt; calm.calls(), 2);
 
     let fail = [1, 2].to_vec(rt.alloc())?;
     let mut failing = MemSink::new(rt.alloc(), fail);
@@ -149,33 +155,7 @@ fn sinks_in_memory_keep_what_was_put(rt: HostRuntime) -> Result<(), Fail> {
     assert!(rt; matches!(failing.put(b"cdefg"), Err(PutFault::Failed)));
     failing.put(b"!").expect(&rt, "call 3");
     assert_eq!(rt; failing.bytes(), b"abcd!".as_slice());
-    Ok(())
-}
-
-#[test]
-fn file_shelf_reads_back_what_it_stored(rt: HostRuntime) -> Result<(), Fail> {
-    let name = "outer_io_stored.txt";
-    let mut shelf = FileShelf::new(&rt);
-    let bytes = vec![in rt.alloc(); b'x'; 70000]?;
-    shelf.store(name, &bytes).expect(&rt, "stored");
-    assert_eq!(rt;
-        shelf.load(name, 70000).expect(&rt, "loaded").as_slice(),
-        bytes.as_slice()
-    );
-    assert!(rt; matches!(shelf.load(name, 69999), Err(ShelfFault::TooLong)));
-    assert!(rt;
-        matches!(
-            shelf.load("outer_io_missing.txt", 9),
-            Err(ShelfFault::Failed)
-        )
-    );
-    assert!(rt;
-        matches!(
-            shelf.store("outer_io_missing/a", b"a"),
-            Err(ShelfFault::Failed)
-        )
-    );
-    fs::remove_file(&rt, name)?;
+    assert_eq!(rt; failing.calls(), 4);
     Ok(())
 }
 

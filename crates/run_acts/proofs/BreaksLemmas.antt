@@ -28,7 +28,7 @@ Fails-earlier first before now (Load name limit) old new status fell fails = (
   ],
 )
 Fails-earlier first before now (Store name bytes) old new status fell fails =
-    (fails.0, Rose-earlier _ _ _ fell.shelf fails.1, LineMayStand-earlier first before now _ old new fell fails.2)
+    (fails.0, Rose-earlier _ _ _ fell.shelf fails.1, LineMayStand-earlier first before now _ _ new fell fails.2)
 Fails-earlier first before now (Print bytes) old new status fell fails =
     (fails.0, Rose-earlier _ _ _ fell.out fails.1, (fails.2.0, LineMayStand-earlier first before now _ _ new fell fails.2.1))
 Fails-earlier first before now (Report line) old new status fell fails =

@@ -1,6 +1,7 @@
 -- The acts of a run, and what is told after them.
 use Rattle.std.specs.Prelude.{ℕ, List, [], ◌∷◌, Option}
 use Rattle.outer_io.specs.Files.{Files, stored, grown}
+use Rattle.outer_io.specs.Faults.{counted}
 
 -- what a run does outside
 pub data Act : Type 0 where
@@ -13,21 +14,26 @@ pub data Act : Type 0 where
   -- it puts the line on the error output
   Report : (line : List ℕ) → Act
 
--- what the shelf, the output and the error output tell, each where it tells something
+-- what the shelf, the output and the error output tell, each where it tells something, and how many stores there were
 pub record Told : Type 0 where
   pub files : Option Files
+  pub stores : ℕ
   pub out : Option (List ℕ)
   pub err : Option (List ℕ)
 
-abbrev pub told : Option Files → Option (List ℕ) → Option (List ℕ) → Told
-told files out err = record { files = files; out = out; err = err }
+abbrev pub told : Option Files → ℕ → Option (List ℕ) → Option (List ℕ) → Told
+told files stores out err = record { files = files; stores = stores; out = out; err = err }
 
--- what is told when the act is done; a load leaves no trace
+-- what is told when the act is done; a store counts even where it changes no byte, and a load leaves no trace
 abbrev pub done : Act → Told → Told
 done (Load name limit) old = old
-done (Store name bytes) old = told (stored old.files name bytes) old.out old.err
-done (Print bytes) old = told old.files (grown old.out bytes) old.err
-done (Report line) old = told old.files old.out (grown old.err line)
+done (Store name bytes) old = told (stored old.files name bytes) (counted old.stores) old.out old.err
+done (Print bytes) old = told old.files old.stores (grown old.out bytes) old.err
+done (Report line) old = told old.files old.stores old.out (grown old.err line)
+
+-- what is told when a store failed: it was counted, and the files are as before
+abbrev pub tried : Told → Told
+tried old = told old.files (counted old.stores) old.out old.err
 
 -- what is told when the acts are done, in order
 abbrev pub after : List Act → Told → Told

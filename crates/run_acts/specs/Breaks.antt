@@ -1,7 +1,7 @@
 -- How a run ends at an act that is not done whole: the act failed, or memory ran out.
 use Rattle.std.specs.Prelude.{ℕ, ◌≡◌, ◌≤◌, ◌⊎◌, List, take}
 use Rattle.outer_io.specs.Faults.{Rose}
-use Rattle.run_acts.specs.Acts.{Act, Load, Store, Print, Report, Told, done}
+use Rattle.run_acts.specs.Acts.{Act, Load, Store, Print, Report, Told, done, tried}
 use Rattle.run_acts.specs.Lines.{cannot_read, cannot_write, cannot_print}
 
 -- the counts of faults of the shelf, the output and the error output
@@ -34,14 +34,15 @@ LineMayStand before now line old new =
     ⊎ (Rose before.err now.err × ((n : ℕ) × (new ≡ done (Report (take n line)) old))))
 
 -- A run ends at an act that failed, by the counts when the run began and now, what was told before the act and now, and
--- the status. Of bytes whose put failed a prefix was written. A failed load is status 5, where its line could be put.
+-- the status. Of bytes whose put failed a prefix was written, and a failed store was counted. A failed load is status 5,
+-- where its line could be put.
 abbrev pub Fails : Counts → Counts → Act → Told → Told → ℕ → Type 0
 Fails before now (Load name limit) old new status = Rose before.shelf now.shelf
     × (((status ≡ 5) × (new ≡ done (Report (cannot_read name)) old))
     ⊎ ((status ≡ 6) × Rose before.err now.err
     × ((n : ℕ) × (new ≡ done (Report (take n (cannot_read name))) old))))
 Fails before now (Store name bytes) old new status =
-    (status ≡ 6) × Rose before.shelf now.shelf × LineMayStand before now (cannot_write name) old new
+    (status ≡ 6) × Rose before.shelf now.shelf × LineMayStand before now (cannot_write name) (tried old) new
 Fails before now (Print bytes) old new status = (status ≡ 6) × Rose before.out now.out
     × ((n : ℕ) × LineMayStand before now cannot_print (done (Print (take n bytes)) old) new)
 Fails before now (Report line) old new status = (status ≡ 6) × Rose before.err now.err

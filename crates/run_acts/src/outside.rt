@@ -1,6 +1,7 @@
 // One act of a run at a time.
 ghost use Rattle.std.specs.Prelude.{◌≡◌, ◌≤◌, List, ℕ, Option, IfOk, OnOk, IfErr};
 ghost use Rattle.outer_io.specs.Files.{Files, stored, grown};
+ghost use Rattle.outer_io.specs.Faults.{counted};
 ghost use Rattle.run_acts.specs.Acts.{Load, Store, Print, Report, told};
 ghost use Rattle.run_acts.specs.Breaks.{Breaks, counts};
 ghost use Rattle.run_acts.specs.Loaded.{Gives, Found};
@@ -8,7 +9,7 @@ ghost use Rattle.run_acts.specs.Statuses.{status_of};
 
 use crate::lines::{cannot_print, cannot_read, cannot_write};
 use crate::status::Stopped;
-use outer_io::{PutFault, Shelf, ShelfFault, Sink};
+use outer_io::{Loads, PutFault, Shelf, ShelfFault, Sink};
 use std::alloc::Global;
 
 /// What stands under a name.
@@ -24,7 +25,7 @@ pub enum Loaded {
 
 /// Loads what stands under a name, where it is no longer than `limit` bytes. Where the load fails, the line
 /// `spatch: NAME: cannot read` is put on the error output.
-pub fn load<S: Shelf, E: Sink>(
+pub fn load<S: Loads, E: Sink>(
     alloc: Global,
     shelf: &mut S,
     err: &mut E,
@@ -32,6 +33,7 @@ pub fn load<S: Shelf, E: Sink>(
     limit: u64,
 ) -> Result<Loaded, Stopped>
     ensures same { S.holds shelf.new ≡ S.holds shelf.old }
+    ensures no_store { S.stores shelf.new ≡ S.stores shelf.old }
     ensures loaded { IfOk result (λ loaded. (under : Option (List ℕ))
         × (Found (S.holds shelf.old) name.now under × Gives under limit loaded)) }
     ensures ok_err { OnOk result (E.written err.new ≡ E.written err.old) }
@@ -42,8 +44,8 @@ pub fn load<S: Shelf, E: Sink>(
     ensures stopped { IfErr result (λ stopped. (out : Option (List ℕ)) (o o' : ℕ) →
         Breaks (counts (S.faults shelf.old) o (E.faults err.old))
         (counts (S.faults shelf.new) o' (E.faults err.new)) (Load name.now limit)
-        (told (S.holds shelf.old) out (E.written err.old))
-        (told (S.holds shelf.new) out (E.written err.new)) (status_of stopped)) }
+        (told (S.holds shelf.old) (S.stores shelf.old) out (E.written err.old))
+        (told (S.holds shelf.new) (S.stores shelf.new) out (E.written err.new)) (status_of stopped)) }
 {
     match shelf.load(name, limit) {
         Ok(bytes) => Ok(Loaded::Bytes(bytes)),
@@ -71,19 +73,20 @@ pub fn store<S: Shelf, E: Sink>(
     bytes: &[u8],
 ) -> Result<(), Stopped>
     ensures ok { OnOk result (S.holds shelf.new ≡ stored (S.holds shelf.old) name.now bytes.now) }
+    ensures counts { OnOk result (S.stores shelf.new ≡ counted (S.stores shelf.old)) }
     ensures ok_err { OnOk result (E.written err.new ≡ E.written err.old) }
     ensures later { S.faults shelf.old ≤ S.faults shelf.new }
     ensures later_err { E.faults err.old ≤ E.faults err.new }
     ensures stopped { IfErr result (λ stopped. (out : Option (List ℕ)) (o o' : ℕ) →
         Breaks (counts (S.faults shelf.old) o (E.faults err.old))
         (counts (S.faults shelf.new) o' (E.faults err.new)) (Store name.now bytes.now)
-        (told (S.holds shelf.old) out (E.written err.old))
-        (told (S.holds shelf.new) out (E.written err.new)) (status_of stopped)) }
+        (told (S.holds shelf.old) (S.stores shelf.old) out (E.written err.old))
+        (told (S.holds shelf.new) (S.stores shelf.new) out (E.written err.new)) (status_of stopped)) }
 {
     match shelf.store(name, bytes) {
         Ok(()) => Ok(()),
         Err(ShelfFault::NoMemory) => Err(Stopped::NoMemory),
-        Err(_) => {
+        Err(ShelfFault::Failed | ShelfFault::TooLong | ShelfFault::Absent) => {
             // The line is left out where memory is refused.
             if let Ok(line) = cannot_write(alloc, name) {
                 let _ = err.put(line.as_str().as_bytes());
@@ -100,11 +103,11 @@ pub fn print<O: Sink, E: Sink>(out: &mut O, err: &mut E, bytes: &[u8]) -> Result
     ensures ok_err { OnOk result (E.written err.new ≡ E.written err.old) }
     ensures later { O.faults out.old ≤ O.faults out.new }
     ensures later_err { E.faults err.old ≤ E.faults err.new }
-    ensures stopped { IfErr result (λ stopped. (files : Option Files) (s s' : ℕ) →
+    ensures stopped { IfErr result (λ stopped. (files : Option Files) (stores s s' : ℕ) →
         Breaks (counts s (O.faults out.old) (E.faults err.old))
         (counts s' (O.faults out.new) (E.faults err.new)) (Print bytes.now)
-        (told files (O.written out.old) (E.written err.old))
-        (told files (O.written out.new) (E.written err.new)) (status_of stopped)) }
+        (told files stores (O.written out.old) (E.written err.old))
+        (told files stores (O.written out.new) (E.written err.new)) (status_of stopped)) }
 {
     match out.put(bytes) {
         Ok(()) => Ok(()),
@@ -121,10 +124,10 @@ pub fn report<E: Sink>(err: &mut E, line: &[u8]) -> Result<(), Stopped>
     ensures ok { OnOk result (E.written err.new ≡ grown (E.written err.old) line.now) }
     ensures later { E.faults err.old ≤ E.faults err.new }
     ensures stopped { IfErr result
-        (λ stopped. (files : Option Files) (out : Option (List ℕ)) (s o s' o' : ℕ) →
+        (λ stopped. (files : Option Files) (out : Option (List ℕ)) (stores s o s' o' : ℕ) →
         Breaks (counts s o (E.faults err.old)) (counts s' o' (E.faults err.new)) (Report line.now)
-        (told files out (E.written err.old))
-        (told files out (E.written err.new)) (status_of stopped)) }
+        (told files stores out (E.written err.old))
+        (told files stores out (E.written err.new)) (status_of stopped)) }
 {
     match err.put(line) {
         Ok(()) => Ok(()),

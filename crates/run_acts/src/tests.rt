@@ -65,7 +65,18 @@ fn each_act_is_done_where_nothing_fails(rt: HostRuntime) -> Result<(), Fail> {
     report(&mut err, b"line\n")?;
     assert_eq!(rt; out.bytes(), b"text".as_slice());
     assert_eq!(rt; err.bytes(), b"line\n".as_slice());
+    assert_eq!(rt; (shelf.calls(), shelf.stores()), (5, 1));
+    assert_eq!(rt; (out.calls(), err.calls()), (1, 1));
     Ok(())
+}
+
+/// How many calls were made: of the shelf, and the stores among them, of the output and of the error output.
+#[derive(Clone, Copy, Debug, PartialEq, Eq)]
+struct Calls {
+    shelf: u64,
+    stores: u64,
+    out: u64,
+    err: u64,
 }
 
 #[derive(Clone, Copy, Debug)]
@@ -76,10 +87,11 @@ enum Act {
     Report,
 }
 
-/// What an act that fails answers, and what then stands on the shelf and on the two outputs.
+/// What an act that fails answers, how many calls were made, and what then stands on the shelf and on the two outputs.
 #[derive(Drop)]
 struct Broken {
     status: Option<Status>,
+    calls: Calls,
     file: Vec<u8>,
     out: Vec<u8>,
     err: Vec<u8>,
@@ -99,10 +111,32 @@ fn break_act(alloc: Global, act: Act, line_fails: bool) -> Result<Broken, NoMemo
     };
     Ok(Broken {
         status: end.err().map(|stopped| stopped.status()),
+        calls: Calls {
+            shelf: shelf.calls(),
+            stores: shelf.stores(),
+            out: out.calls(),
+            err: err.calls(),
+        },
         file: shelf.bytes_of(b"k.c").unwrap_or(b"").to_vec(alloc)?,
         out: out.bytes().to_vec(alloc)?,
         err: err.bytes().to_vec(alloc)?,
     })
+}
+
+/// The calls of an act that fails: its own, and the put of its line.
+fn calls_of(act: Act) -> Calls {
+    let (shelf, stores, out) = match act {
+        Act::Load => (1, 0, 0),
+        Act::Store => (1, 1, 0),
+        Act::Print => (0, 0, 1),
+        Act::Report => (0, 0, 0),
+    };
+    Calls {
+        shelf,
+        stores,
+        out,
+        err: 1,
+    }
 }
 
 #[test]
@@ -136,6 +170,7 @@ fn an_act_that_fails_is_reported_by_its_line(rt: HostRuntime) -> Result<(), Fail
     ];
     for (act, line_fails, status, out, err) in rows {
         let broken = break_act(rt.alloc(), act, line_fails)?;
+        assert_eq!(rt; broken.calls, calls_of(act), "{act:?}");
         assert_eq!(rt; broken.status, Some(status), "{act:?}");
         assert_eq!(rt; broken.out.as_slice(), out, "{act:?}");
         assert_eq!(rt; broken.err.as_slice(), err, "{act:?}");

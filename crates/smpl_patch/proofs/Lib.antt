@@ -2,3 +2,4 @@ pub mod SureLemmas
 pub mod BodyLemmas
 pub mod EqualLemmas
 pub mod FaultLemmas
+mod Examples

@@ -1,5 +1,8 @@
--- What public contracts rest on, in reading order: what a pattern says of a variable, bodies as plain data, faults.
+-- What public contracts rest on, in reading order: what is compared of a pattern, what it says of a variable, faults.
 pub mod Held
 pub mod Patterns
-pub mod Bodies
 pub mod Faults
+-- What the crates above share: bodies as plain data, and what a sound rule and a sound patch are.
+pub mod Bodies
+pub mod Shapes
+pub mod Sound

@@ -23,13 +23,15 @@ pub fn exit_of<R: AllocGlobal, S: Shelf, O: Sink, E: Sink>(
     ensures exact { IfOk words (λ words. IsExact words.items
         (counts (S.faults shelf.old) (O.faults out.old) (E.faults err.old))
         (counts (S.faults shelf.new) (O.faults out.new) (E.faults err.new))
-        (told (S.holds shelf.old) (O.written out.old) (E.written err.old))
-        (told (S.holds shelf.new) (O.written out.new) (E.written err.new)) (exit_status result)) }
+        (told (S.holds shelf.old) (S.stores shelf.old) (O.written out.old) (E.written err.old))
+        (told (S.holds shelf.new) (S.stores shelf.new) (O.written out.new) (E.written err.new))
+        (exit_status result)) }
     ensures ends { IfOk words (λ words. EndsRightly words.items
         (counts (S.faults shelf.old) (O.faults out.old) (E.faults err.old))
         (counts (S.faults shelf.new) (O.faults out.new) (E.faults err.new))
-        (told (S.holds shelf.old) (O.written out.old) (E.written err.old))
-        (told (S.holds shelf.new) (O.written out.new) (E.written err.new)) (exit_status result)) }
+        (told (S.holds shelf.old) (S.stores shelf.old) (O.written out.old) (E.written err.old))
+        (told (S.holds shelf.new) (S.stores shelf.new) (O.written out.new) (E.written err.new))
+        (exit_status result)) }
 {
     match words {
         Ok(words) => ExitCode::from(run(rt, &words, shelf, out, err)),

@@ -15,7 +15,7 @@ is_command : IsName (codes "p") → IsName (codes "k.c") → IsCommand words (co
 is_command patch file = record { in_order = refl; patch_name = patch; file_name = file }
 
 -- the patch and the file are loaded, and what is left of the file is printed
-edited : IsName (codes "p") → IsName (codes "k.c") → (files : Files) (patch file : List ℕ) (call : List (List ℕ)) (byte : ℕ) (text : List ℕ) → get files (codes "p") ≡ Some patch → PatchGives patch call → get files (codes "k.c") ≡ Some file → FileGives call file (byte ∷ text) → AreActs words (told (Some files) None None) (Load (codes "p") 1048576 ∷ Load (codes "k.c") 16777216 ∷ Print (byte ∷ text) ∷ []) 0
+edited : IsName (codes "p") → IsName (codes "k.c") → (files : Files) (patch file : List ℕ) (call : List (List ℕ)) (byte : ℕ) (text : List ℕ) → get files (codes "p") ≡ Some patch → PatchGives patch call → get files (codes "k.c") ≡ Some file → FileGives call file (byte ∷ text) → AreActs words (told (Some files) 0 None None) (Load (codes "p") 1048576 ∷ Load (codes "k.c") 16777216 ∷ Print (byte ∷ text) ∷ []) 0
 edited p k files patch file call byte text has_patch patch_gives has_file file_gives = record {
   first = Doing [] (ReadPatch (codes "p") (codes "k.c"));
   last = Ending [] 0;
@@ -43,7 +43,7 @@ edited p k files patch file call byte text has_patch patch_gives has_file file_g
 }
 
 -- an absent patch is reported, and the file isn't loaded
-absent : IsName (codes "p") → IsName (codes "k.c") → (files : Files) → get files (codes "p") ≡ None → AreActs words (told (Some files) None None) (Load (codes "p") 1048576 ∷ Report (codes "spatch: p: cannot read\n") ∷ []) 5
+absent : IsName (codes "p") → IsName (codes "k.c") → (files : Files) → get files (codes "p") ≡ None → AreActs words (told (Some files) 0 None None) (Load (codes "p") 1048576 ∷ Report (codes "spatch: p: cannot read\n") ∷ []) 5
 absent p k files none = record {
   first = Doing [] (ReadPatch (codes "p") (codes "k.c"));
   last = Ending [] 5;

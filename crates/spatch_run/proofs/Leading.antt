@@ -15,14 +15,14 @@ use Rattle.spatch_run.specs.Ends.{Ends}
 use Rattle.spatch_run.proofs.Chain.{Goes-act, Goes-ends}
 
 -- the patch was loaded, and the run ended from there
-pub patch_loaded : (patch file : List ℕ) (under : Option (List ℕ)) (to : Stage) {first before now : Counts} {holds holds' : Option Files} {out err err' : Option (List ℕ)} {new : Told} {status : ℕ} → Found holds patch under → PatchLeads under patch file to → holds' ≡ holds → err' ≡ err → NoneFell first before → Ends to before now (told holds' out err') new status → Ends (Doing [] (ReadPatch patch file)) first now (told holds out err) new status
-patch_loaded patch file under to {holds = holds} {holds' = holds'} {out = out} {err = err} {err' = err'} found leads same same_err fell rest =
-    Goes-ends (Goes-act (Doing [] (ReadPatch patch file)) (Load patch patch_limit) to (told holds out err) (told holds' out err') refl (under, (found, leads)) (rw (same, same_err) refl)) fell rest
+pub patch_loaded : (patch file : List ℕ) (under : Option (List ℕ)) (to : Stage) {first before now : Counts} {holds holds' : Option Files} {stores stores' : ℕ} {out err err' : Option (List ℕ)} {new : Told} {status : ℕ} → Found holds patch under → PatchLeads under patch file to → holds' ≡ holds → stores' ≡ stores → err' ≡ err → NoneFell first before → Ends to before now (told holds' stores' out err') new status → Ends (Doing [] (ReadPatch patch file)) first now (told holds stores out err) new status
+patch_loaded patch file under to {holds = holds} {holds' = holds'} {stores = stores} {stores' = stores'} {out = out} {err = err} {err' = err'} found leads same same_stores same_err fell rest =
+    Goes-ends (Goes-act (Doing [] (ReadPatch patch file)) (Load patch patch_limit) to (told holds stores out err) (told holds' stores' out err') refl (under, (found, leads)) (rw (same, same_stores, same_err) refl)) fell rest
 
 -- the file was loaded, and the run ended from there
-pub file_loaded : (call : List (List ℕ)) (file : List ℕ) (under : Option (List ℕ)) (to : Stage) {first before now : Counts} {holds holds' : Option Files} {out err err' : Option (List ℕ)} {new : Told} {status : ℕ} → Found holds file under → FileLeads under call file to → holds' ≡ holds → err' ≡ err → NoneFell first before → Ends to before now (told holds' out err') new status → Ends (Doing [] (EditFile call file)) first now (told holds out err) new status
-file_loaded call file under to {holds = holds} {holds' = holds'} {out = out} {err = err} {err' = err'} found leads same same_err fell rest =
-    Goes-ends (Goes-act (Doing [] (EditFile call file)) (Load file file_limit) to (told holds out err) (told holds' out err') refl (under, (found, leads)) (rw (same, same_err) refl)) fell rest
+pub file_loaded : (call : List (List ℕ)) (file : List ℕ) (under : Option (List ℕ)) (to : Stage) {first before now : Counts} {holds holds' : Option Files} {stores stores' : ℕ} {out err err' : Option (List ℕ)} {new : Told} {status : ℕ} → Found holds file under → FileLeads under call file to → holds' ≡ holds → stores' ≡ stores → err' ≡ err → NoneFell first before → Ends to before now (told holds' stores' out err') new status → Ends (Doing [] (EditFile call file)) first now (told holds stores out err) new status
+file_loaded call file under to {holds = holds} {holds' = holds'} {stores = stores} {stores' = stores'} {out = out} {err = err} {err' = err'} found leads same same_stores same_err fell rest =
+    Goes-ends (Goes-act (Doing [] (EditFile call file)) (Load file file_limit) to (told holds stores out err) (told holds' stores' out err') refl (under, (found, leads)) (rw (same, same_stores, same_err) refl)) fell rest
 
 pub patch_absent : (under : Option (List ℕ)) (patch file : List ℕ) → under ≡ None → PatchLeads under patch file (refusing (cannot_read patch) 5)
 patch_absent under patch file none = rw none refl

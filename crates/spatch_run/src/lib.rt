@@ -42,15 +42,17 @@ pub fn run<R: AllocGlobal, S: Shelf, O: Sink, E: Sink>(
     ensures exact { IsExact words.now
         (counts (S.faults shelf.old) (O.faults out.old) (E.faults err.old))
         (counts (S.faults shelf.new) (O.faults out.new) (E.faults err.new))
-        (told (S.holds shelf.old) (O.written out.old) (E.written err.old))
-        (told (S.holds shelf.new) (O.written out.new) (E.written err.new)) result }
+        (told (S.holds shelf.old) (S.stores shelf.old) (O.written out.old) (E.written err.old))
+        (told (S.holds shelf.new) (S.stores shelf.new) (O.written out.new) (E.written err.new))
+        result }
 
     // Else the acts done are the first of them, and the next one failed or found no memory.
     ensures ends { EndsRightly words.now
         (counts (S.faults shelf.old) (O.faults out.old) (E.faults err.old))
         (counts (S.faults shelf.new) (O.faults out.new) (E.faults err.new))
-        (told (S.holds shelf.old) (O.written out.old) (E.written err.old))
-        (told (S.holds shelf.new) (O.written out.new) (E.written err.new)) result }
+        (told (S.holds shelf.old) (S.stores shelf.old) (O.written out.old) (E.written err.old))
+        (told (S.holds shelf.new) (S.stores shelf.new) (O.written out.new) (E.written err.new))
+        result }
 
     // No count falls.
     ensures later { NoneFell
@@ -61,8 +63,9 @@ pub fn run<R: AllocGlobal, S: Shelf, O: Sink, E: Sink>(
     ensures causes { Causes words.now
         (counts (S.faults shelf.old) (O.faults out.old) (E.faults err.old))
         (counts (S.faults shelf.new) (O.faults out.new) (E.faults err.new))
-        (told (S.holds shelf.old) (O.written out.old) (E.written err.old))
-        (told (S.holds shelf.new) (O.written out.new) (E.written err.new)) result }
+        (told (S.holds shelf.old) (S.stores shelf.old) (O.written out.old) (E.written err.old))
+        (told (S.holds shelf.new) (S.stores shelf.new) (O.written out.new) (E.written err.new))
+        result }
 {
     status_of(follow_words(rt.alloc(), words, shelf, out, err)).number()
 }

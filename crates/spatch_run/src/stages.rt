@@ -13,7 +13,7 @@ ghost use Rattle.spatch_run.specs.Refusals.{line_about, refusal_status};
 use crate::refusals::{Refusal, usage};
 use crate::words::command;
 use c_terms::Text;
-use outer_io::{Shelf, Sink};
+use outer_io::{Loads, Sink};
 use run_acts::{Loaded, Status, Stopped, load, print, report};
 use small_rule::{Call, read_patch, remove_calls};
 use std::alloc::Global;
@@ -33,7 +33,7 @@ pub fn status_of(end: Result<Status, Stopped>) -> Status
 }
 
 /// Reads the words, and does what they ask for.
-pub fn follow_words<S: Shelf, O: Sink, E: Sink>(
+pub fn follow_words<S: Loads, O: Sink, E: Sink>(
     alloc: Global,
     words: &[Text],
     shelf: &mut S,
@@ -43,8 +43,9 @@ pub fn follow_words<S: Shelf, O: Sink, E: Sink>(
     ensures ends { Follows words.now
         (counts (S.faults shelf.old) (O.faults out.old) (E.faults err.old))
         (counts (S.faults shelf.new) (O.faults out.new) (E.faults err.new))
-        (told (S.holds shelf.old) (O.written out.old) (E.written err.old))
-        (told (S.holds shelf.new) (O.written out.new) (E.written err.new)) (answer result) }
+        (told (S.holds shelf.old) (S.stores shelf.old) (O.written out.old) (E.written err.old))
+        (told (S.holds shelf.new) (S.stores shelf.new) (O.written out.new) (E.written err.new))
+        (answer result) }
 {
     let Some((patch, file)) = command(words) else {
         return refuse_words(err);
@@ -53,7 +54,7 @@ pub fn follow_words<S: Shelf, O: Sink, E: Sink>(
 }
 
 /// Loads and reads the patch, and edits the file by it.
-fn apply_patch<S: Shelf, O: Sink, E: Sink>(
+fn apply_patch<S: Loads, O: Sink, E: Sink>(
     alloc: Global,
     patch: &str,
     file: &str,
@@ -64,8 +65,9 @@ fn apply_patch<S: Shelf, O: Sink, E: Sink>(
     ensures ends { Ends (Doing [] (ReadPatch patch.now file.now))
         (counts (S.faults shelf.old) (O.faults out.old) (E.faults err.old))
         (counts (S.faults shelf.new) (O.faults out.new) (E.faults err.new))
-        (told (S.holds shelf.old) (O.written out.old) (E.written err.old))
-        (told (S.holds shelf.new) (O.written out.new) (E.written err.new)) (answer result) }
+        (told (S.holds shelf.old) (S.stores shelf.old) (O.written out.old) (E.written err.old))
+        (told (S.holds shelf.new) (S.stores shelf.new) (O.written out.new) (E.written err.new))
+        (answer result) }
 {
     let bytes = match load(alloc, shelf, err, patch, PATCH_LIMIT)? {
         Loaded::Bytes(bytes) => bytes,
@@ -79,7 +81,7 @@ fn apply_patch<S: Shelf, O: Sink, E: Sink>(
 }
 
 /// Loads the file, removes the calls from it, and prints what is left.
-fn edit_file<S: Shelf, O: Sink, E: Sink>(
+fn edit_file<S: Loads, O: Sink, E: Sink>(
     alloc: Global,
     call: &Call,
     file: &str,
@@ -90,8 +92,9 @@ fn edit_file<S: Shelf, O: Sink, E: Sink>(
     ensures ends { Ends (Doing [] (EditFile call.now file.now))
         (counts (S.faults shelf.old) (O.faults out.old) (E.faults err.old))
         (counts (S.faults shelf.new) (O.faults out.new) (E.faults err.new))
-        (told (S.holds shelf.old) (O.written out.old) (E.written err.old))
-        (told (S.holds shelf.new) (O.written out.new) (E.written err.new)) (answer result) }
+        (told (S.holds shelf.old) (S.stores shelf.old) (O.written out.old) (E.written err.old))
+        (told (S.holds shelf.new) (S.stores shelf.new) (O.written out.new) (E.written err.new))
+        (answer result) }
 {
     let bytes = match load(alloc, shelf, err, file, FILE_LIMIT)? {
         Loaded::Bytes(bytes) => bytes,
@@ -106,11 +109,11 @@ fn edit_file<S: Shelf, O: Sink, E: Sink>(
 
 /// Prints the text, if there is any.
 fn show<O: Sink, E: Sink>(out: &mut O, err: &mut E, text: &[u8]) -> Result<Status, Stopped>
-    ensures ends { (files : Option Files) (s : ℕ) → Ends (Ending (printing text.now) 0)
+    ensures ends { (files : Option Files) (stores s : ℕ) → Ends (Ending (printing text.now) 0)
         (counts s (O.faults out.old) (E.faults err.old))
         (counts s (O.faults out.new) (E.faults err.new))
-        (told files (O.written out.old) (E.written err.old))
-        (told files (O.written out.new) (E.written err.new)) (answer result) }
+        (told files stores (O.written out.old) (E.written err.old))
+        (told files stores (O.written out.new) (E.written err.new)) (answer result) }
 {
     if text.is_empty() {
         return Ok(Status::Done);
@@ -121,10 +124,11 @@ fn show<O: Sink, E: Sink>(out: &mut O, err: &mut E, text: &[u8]) -> Result<Statu
 
 /// Puts the line on how the tool is called.
 fn refuse_words<E: Sink>(err: &mut E) -> Result<Status, Stopped>
-    ensures ends { (files : Option Files) (out : Option (List ℕ)) (s o : ℕ) →
+    ensures ends { (files : Option Files) (out : Option (List ℕ)) (stores s o : ℕ) →
         Ends (refusing usage 1)
         (counts s o (E.faults err.old)) (counts s o (E.faults err.new))
-        (told files out (E.written err.old)) (told files out (E.written err.new)) (answer result) }
+        (told files stores out (E.written err.old))
+        (told files stores out (E.written err.new)) (answer result) }
 {
     report(err, usage().as_bytes())?;
     Ok(Status::WordsRefused)
@@ -137,10 +141,11 @@ fn refuse<E: Sink>(
     name: &str,
     refusal: Refusal,
 ) -> Result<Status, Stopped>
-    ensures ends { (files : Option Files) (out : Option (List ℕ)) (s o : ℕ) →
+    ensures ends { (files : Option Files) (out : Option (List ℕ)) (stores s o : ℕ) →
         Ends (refusing (line_about refusal name.now) (refusal_status refusal))
         (counts s o (E.faults err.old)) (counts s o (E.faults err.new))
-        (told files out (E.written err.old)) (told files out (E.written err.new)) (answer result) }
+        (told files stores out (E.written err.old))
+        (told files stores out (E.written err.new)) (answer result) }
 {
     let line = refusal.line(alloc, name)?;
     report(err, line.as_str().as_bytes())?;

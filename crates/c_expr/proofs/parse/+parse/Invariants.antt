@@ -38,7 +38,7 @@ invariant-run-loop-at l = record {
 }
 
 abbrev pub decreases-run-loop-at : goal.decreases-run-loop-at
-decreases-run-loop-at l = 2 * length l.at.rest.now + weight l.at.row.now
+decreases-run-loop-at l = 3 * length l.at.rest.now + weight l.at.row.now
 
 abbrev pub decreases-take_argument : goal.decreases-take_argument
 decreases-take_argument l = 6 * l.most + 3

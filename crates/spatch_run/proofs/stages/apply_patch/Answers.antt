@@ -27,27 +27,27 @@ pub returns-in-TooLong : goal.returns-in-TooLong
 returns-in-TooLong g c = record {
   ends =
       let found = rw c.in-TooLong.is at c.in_ok-bytes.ensures.loaded in
-      let fell : NoneFell (counts (g.S.Shelf.faults c.args.shelf.now) (g.O.Sink.faults c.args.out.now) (g.E.Sink.faults c.args.err.now)) (counts (g.S.Shelf.faults c.load.new.shelf) (g.O.Sink.faults c.args.out.now) (g.E.Sink.faults c.load.new.err)) =
+      let fell : NoneFell (counts (g.S.Loads.faults c.args.shelf.now) (g.O.Sink.faults c.args.out.now) (g.E.Sink.faults c.args.err.now)) (counts (g.S.Loads.faults c.load.new.shelf) (g.O.Sink.faults c.args.out.now) (g.E.Sink.faults c.load.new.err)) =
       record { shelf = c.in_ok-bytes.ensures.later; out = omega arith; err = c.in_ok-bytes.ensures.later_err } in
-      patch_loaded c.args.patch.now c.args.file.now found.0 (refusing (patch_too_long c.args.patch.now) 2) found.1.0 (patch_long found.0 c.args.patch.now c.args.file.now found.1.1) c.in_ok-bytes.ensures.same c.in_ok-bytes.ensures.ok_err fell (c.refuse.ensures.ends _ _ _ _);
+      patch_loaded c.args.patch.now c.args.file.now found.0 (refusing (patch_too_long c.args.patch.now) 2) found.1.0 (patch_long found.0 c.args.patch.now c.args.file.now found.1.1) c.in_ok-bytes.ensures.same c.in_ok-bytes.ensures.no_store c.in_ok-bytes.ensures.ok_err fell (c.refuse.ensures.ends _ _ _ _ _);
 }
 
 pub returns-in-Absent : goal.returns-in-Absent
 returns-in-Absent g c = record {
   ends =
       let found = rw c.in-Absent.is at c.in_ok-bytes.ensures.loaded in
-      let fell : NoneFell (counts (g.S.Shelf.faults c.args.shelf.now) (g.O.Sink.faults c.args.out.now) (g.E.Sink.faults c.args.err.now)) (counts (g.S.Shelf.faults c.load.new.shelf) (g.O.Sink.faults c.args.out.now) (g.E.Sink.faults c.load.new.err)) =
+      let fell : NoneFell (counts (g.S.Loads.faults c.args.shelf.now) (g.O.Sink.faults c.args.out.now) (g.E.Sink.faults c.args.err.now)) (counts (g.S.Loads.faults c.load.new.shelf) (g.O.Sink.faults c.args.out.now) (g.E.Sink.faults c.load.new.err)) =
       record { shelf = c.in_ok-bytes.ensures.later; out = omega arith; err = c.in_ok-bytes.ensures.later_err } in
-      patch_loaded c.args.patch.now c.args.file.now found.0 (refusing (cannot_read c.args.patch.now) 5) found.1.0 (patch_absent _ _ _ found.1.1) c.in_ok-bytes.ensures.same c.in_ok-bytes.ensures.ok_err fell (c.refuse-in-Absent.ensures.ends _ _ _ _);
+      patch_loaded c.args.patch.now c.args.file.now found.0 (refusing (cannot_read c.args.patch.now) 5) found.1.0 (patch_absent _ _ _ found.1.1) c.in_ok-bytes.ensures.same c.in_ok-bytes.ensures.no_store c.in_ok-bytes.ensures.ok_err fell (c.refuse-in-Absent.ensures.ends _ _ _ _ _);
 }
 
 pub returns-in_err-call : goal.returns-in_err-call
 returns-in_err-call g c = record {
   ends =
-      let fell : NoneFell (counts (g.S.Shelf.faults c.args.shelf.now) (g.O.Sink.faults c.args.out.now) (g.E.Sink.faults c.args.err.now)) (counts (g.S.Shelf.faults c.load.new.shelf) (g.O.Sink.faults c.args.out.now) (g.E.Sink.faults c.load.new.err)) =
+      let fell : NoneFell (counts (g.S.Loads.faults c.args.shelf.now) (g.O.Sink.faults c.args.out.now) (g.E.Sink.faults c.args.err.now)) (counts (g.S.Loads.faults c.load.new.shelf) (g.O.Sink.faults c.args.out.now) (g.E.Sink.faults c.load.new.err)) =
       record { shelf = c.in_ok-bytes.ensures.later; out = omega arith; err = c.in_ok-bytes.ensures.later_err } in
       let p = err_from_is_err_and c.from_residual-in_err-call.result c.from_residual-in_err-call.ensures.1 in
-      rw (p.1, p.2, c.in_ok-bytes.ensures.same, c.in_ok-bytes.ensures.ok_err) (broken (Doing [] (ReadPatch c.args.patch.now c.args.file.now)) (Load c.args.patch.now 1048576) refl fell (inl (refl, refl)));
+      rw (p.1, p.2, c.in_ok-bytes.ensures.same, c.in_ok-bytes.ensures.no_store, c.in_ok-bytes.ensures.ok_err) (broken (Doing [] (ReadPatch c.args.patch.now c.args.file.now)) (Load c.args.patch.now 1048576) refl fell (inl (refl, refl)));
 }
 
 pub returns : goal.returns
@@ -57,9 +57,9 @@ returns g c = record {
       let under : found.0 ≡ Some c.deref.result.now = rw c.deref.ensures.value found.1.1.0 in
       let short : length c.deref.result.now ≤ 1048576 = rw c.deref.ensures.value found.1.1.1 in
       let none = rw c.in-None.is at c.in_ok-call.ensures in
-      let fell : NoneFell (counts (g.S.Shelf.faults c.args.shelf.now) (g.O.Sink.faults c.args.out.now) (g.E.Sink.faults c.args.err.now)) (counts (g.S.Shelf.faults c.load.new.shelf) (g.O.Sink.faults c.args.out.now) (g.E.Sink.faults c.load.new.err)) =
+      let fell : NoneFell (counts (g.S.Loads.faults c.args.shelf.now) (g.O.Sink.faults c.args.out.now) (g.E.Sink.faults c.args.err.now)) (counts (g.S.Loads.faults c.load.new.shelf) (g.O.Sink.faults c.args.out.now) (g.E.Sink.faults c.load.new.err)) =
       record { shelf = c.in_ok-bytes.ensures.later; out = omega arith; err = c.in_ok-bytes.ensures.later_err } in
-      patch_loaded c.args.patch.now c.args.file.now found.0 (refusing (not_yet c.args.patch.now) 2) found.1.0 (patch_not_small _ c.deref.result.now _ _ under short none) c.in_ok-bytes.ensures.same c.in_ok-bytes.ensures.ok_err fell (c.refuse-in-None.ensures.ends _ _ _ _);
+      patch_loaded c.args.patch.now c.args.file.now found.0 (refusing (not_yet c.args.patch.now) 2) found.1.0 (patch_not_small _ c.deref.result.now _ _ under short none) c.in_ok-bytes.ensures.same c.in_ok-bytes.ensures.no_store c.in_ok-bytes.ensures.ok_err fell (c.refuse-in-None.ensures.ends _ _ _ _ _);
 }
 
 pub returns-in-Some : goal.returns-in-Some
@@ -69,7 +69,7 @@ returns-in-Some g c = record {
       let under : found.0 ≡ Some c.deref.result.now = rw c.deref.ensures.value found.1.1.0 in
       let short : length c.deref.result.now ≤ 1048576 = rw c.deref.ensures.value found.1.1.1 in
       let small = rw c.in-Some.is at c.in_ok-call.ensures in
-      let fell : NoneFell (counts (g.S.Shelf.faults c.args.shelf.now) (g.O.Sink.faults c.args.out.now) (g.E.Sink.faults c.args.err.now)) (counts (g.S.Shelf.faults c.load.new.shelf) (g.O.Sink.faults c.args.out.now) (g.E.Sink.faults c.load.new.err)) =
+      let fell : NoneFell (counts (g.S.Loads.faults c.args.shelf.now) (g.O.Sink.faults c.args.out.now) (g.E.Sink.faults c.args.err.now)) (counts (g.S.Loads.faults c.load.new.shelf) (g.O.Sink.faults c.args.out.now) (g.E.Sink.faults c.load.new.err)) =
       record { shelf = c.in_ok-bytes.ensures.later; out = omega arith; err = c.in_ok-bytes.ensures.later_err } in
-      patch_loaded c.args.patch.now c.args.file.now found.0 (Doing [] (EditFile c.in-Some.call c.args.file.now)) found.1.0 (patch_small _ c.deref.result.now _ _ _ under short small) c.in_ok-bytes.ensures.same c.in_ok-bytes.ensures.ok_err fell c.edit_file.ensures.ends;
+      patch_loaded c.args.patch.now c.args.file.now found.0 (Doing [] (EditFile c.in-Some.call c.args.file.now)) found.1.0 (patch_small _ c.deref.result.now _ _ _ under short small) c.in_ok-bytes.ensures.same c.in_ok-bytes.ensures.no_store c.in_ok-bytes.ensures.ok_err fell c.edit_file.ensures.ends;
 }

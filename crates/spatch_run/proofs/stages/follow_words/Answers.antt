@@ -5,7 +5,7 @@ use Rattle.spatch_run.proofs.stages.follow_words.Goals as goal
 
 pub returns-in_default : goal.returns-in_default
 returns-in_default g c = record {
-  ends = (refusing usage 1, (inr (c.in_default.ensures, refl), c.refuse_words.ensures.ends _ _ _ _));
+  ends = (refusing usage 1, (inr (c.in_default.ensures, refl), c.refuse_words.ensures.ends _ _ _ _ _));
 }
 
 pub returns : goal.returns

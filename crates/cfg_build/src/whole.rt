@@ -1,0 +1,48 @@
+// The graph of an item.
+ghost use Rattle.std.specs.Prelude.{◌≡◌, ◌^◌, ◌<◌, ◌∷◌, [], OnOk, IfOk};
+ghost use Rattle.c_terms.specs.Trees.{width};
+ghost use Rattle.cfg_build.specs.Graphs.{node_count, graph_of, exit_node, plus};
+
+use crate::around::Around;
+use crate::plan::Plan;
+use crate::rows::Rows;
+use crate::statement::put_statement;
+use c_terms::{NoMemory, Tree, TreePath};
+use cfg_graph::{Graph, Links, NodeKind, NodeLabel, NodeTree};
+use std::alloc::Global;
+
+/// The graph of an item. Its labels lend their trees from the item. Linear in the item and in the
+/// paths of its statements. Recurses once a level of statements.
+pub fn build<'a>(alloc: Global, item: &'a Tree) -> Result<Graph<'a>, NoMemory>
+    requires few { node_count item.now < 2 ^ 32 }
+    requires narrow { width item.now < 2 ^ 32 }
+    ensures graph { IfOk result (λ g. g ≡ graph_of item.now) }
+{
+    let plan = Plan::of(alloc, item)?;
+    let exit = plan.exit;
+    let mut rows = Rows::new(alloc, exit as usize + 1)?;
+    let mut path = Vec::new(alloc);
+    let around = Around {
+        at: 0,
+        bail: false,
+        next: exit,
+        leave: exit,
+        again: exit,
+    };
+    put_statement(alloc, &plan, item, around, &mut path, &mut rows)?;
+    put_exit(alloc, exit, &mut rows)?;
+    Ok(rows.into_graph())
+}
+
+fn put_exit<'a>(alloc: Global, exit: u32, rows: &mut Rows<'a>) -> Result<(), NoMemory>
+    ensures { OnOk result (rows.new ≡ plus rows.old (exit_node exit ∷ [])) }
+{
+    let label = NodeLabel {
+        kind: NodeKind::ExitNode,
+        tree: NodeTree::exit(alloc)?,
+        path: TreePath::of(Vec::new(alloc)),
+        bail: false,
+        brace: 0,
+    };
+    rows.push(label, Links::one(exit), None, Links::none())
+}

@@ -1,0 +1,62 @@
+-- The text of plus code at its anchors.
+use Rattle.std.specs.Prelude.{◌≡◌, ℕ, Bool, true, false, List, [], ◌∷◌, ◌++◌, Option, None, Some, refl, codes}
+use Rattle.c_terms.specs.declared.token.Token.{Token}
+use Rattle.c_terms.specs.declared.token.TokenKind.TheVariants.{Name, Punct}
+use Rattle.c_show.specs.Joint.{runs_together}
+use Rattle.smpl_patch.specs.declared.pattern.PlusLine.{PlusLine}
+use Rattle.smpl_patch.specs.declared.pattern.PlusBlock.{PlusBlock}
+use Rattle.edit_marks.specs.declared.insert.Anchor.TheVariants.{Removed, AfterLine, AfterToken, BeforeToken}
+use Rattle.edit_marks.specs.Blocks.{block_text, block_ends}
+use Rattle.edit_marks.specs.Inserts.{insert_of, indent_at}
+use Rattle.edit_marks.specs.Edits.{anchor_of}
+
+abbrev word : List ℕ → Token
+word text = record { kind = Name; text = text; id = 0 }
+
+abbrev sign : List ℕ → Token
+sign text = record { kind = Punct; text = text; id = 0 }
+
+-- a line of one name and a semicolon, behind these blanks
+abbrev line : ℕ → List ℕ → List ℕ → PlusLine
+line lead gap name = record { lead = lead; tokens = word name ∷ sign (codes ";") ∷ []; gaps = gap ∷ [] ∷ [] }
+
+abbrev empty_line : PlusLine
+empty_line = record { lead = 0; tokens = []; gaps = [] }
+
+abbrev block : List PlusLine → PlusBlock
+block lines = record { lines = lines }
+
+abbrev joint : List ℕ
+joint = 10 ∷ 9 ∷ []
+
+-- the least lead goes from each line, and a line that has no token doesn't count
+least_lead_goes : block_text [] [] joint (block (line 2 (codes "  ") (codes "a") ∷ empty_line ∷ line 4 (codes "    ") (codes "b") ∷ [])) ≡ codes "a;" ++ joint ++ joint ++ codes "  b;"
+unfolding runs_together
+least_lead_goes = refl
+
+-- a space parts tokens that stand side by side and run together
+tokens_are_parted : block_text [] [] joint (block (record { lead = 0; tokens = word (codes "a") ∷ word (codes "b") ∷ sign (codes "+") ∷ sign (codes "+") ∷ []; gaps = [] ∷ [] ∷ [] ∷ [] ∷ [] } ∷ [])) ≡ codes "a b+ +"
+unfolding runs_together
+tokens_are_parted = refl
+
+after_a_semicolon : insert_of (anchor_of false true (codes ";")) joint (codes "b;") true ≡ joint ++ codes "b;"
+after_a_semicolon = refl
+
+after_a_name : insert_of (anchor_of false true (codes "a")) joint (codes "b") false ≡ codes " b"
+after_a_name = refl
+
+before_a_token : insert_of (anchor_of false false (codes "a")) joint (codes "b;") true ≡ codes "b;" ++ joint
+before_a_token = refl
+
+before_within_a_line : insert_of (anchor_of false false (codes ";")) joint (codes "b") false ≡ codes "b "
+before_within_a_line = refl
+
+in_place_of_a_token : insert_of (anchor_of true true (codes ";")) joint (codes "b;") true ≡ codes "b;"
+in_place_of_a_token = refl
+
+-- the blanks of the line on which the place stands, not of the one before it
+indent : indent_at (codes "  a" ++ 10 ∷ 9 ∷ codes "b c") 7 ≡ 9 ∷ []
+indent = refl
+
+at_a_newline : indent_at (codes "  a" ++ 10 ∷ 9 ∷ codes "b") 3 ≡ codes "  "
+at_a_newline = refl

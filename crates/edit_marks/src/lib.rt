@@ -1,0 +1,31 @@
+//! The edit that a match makes: which tokens it removes, and the texts that its plus code puts in.
+//!
+//! - [`edit_of`] gives the edit of one alignment: pairs of a pattern token and the file's tokens that it is aligned with
+//!   ([`Aligned`]), under an environment that gives the metavariables their terms.
+//! - Its parts: [`removed_tokens`], the places of plus code ([`spots`], [`PlusSpot`]), and [`insert_text`], the text of
+//!   a block at its [`Anchor`].
+//! - [`indent_at`] gives the blanks that begin a line, and [`ends_line`] says after which tokens a new line begins.
+//!
+//! With `+ b();` anchored after a kept `a();` in a line that begins with a tab, the text is a newline, a tab and
+//! `b();`. In the place of a removed `a();` it is `b();` alone.
+//!
+//! Only memory may be wanting. Recursion is that of writing a term out: once a level.
+//!
+//! The walk over witnesses and the alignments themselves are left to the crates of matching; whether edits clash is for
+//! edit_conflict, and what the text becomes for edit_unparse.
+#![tactic(auto)]
+
+mod block;
+mod insert;
+mod line;
+mod mark;
+mod spot;
+#[cfg(test)]
+mod tests;
+mod touch;
+mod values;
+
+pub use insert::{Anchor, ends_line, indent_at, insert_text};
+pub use mark::{Aligned, removed_tokens};
+pub use spot::{PlusSpot, spots};
+pub use touch::{FileToken, edit_of};

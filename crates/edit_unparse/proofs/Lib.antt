@@ -1,0 +1,11 @@
+pub mod WrittenLemmas
+pub mod Pieces
+pub mod Reached
+pub mod Acts
+pub mod Cursor
+pub mod Ends
+pub mod Beside
+pub mod Placing
+pub mod Loosened
+pub mod Again
+pub mod Examples

@@ -1,0 +1,27 @@
+//! The text that edits make of a text.
+//!
+//! - [`output`] gives it, with the ids of its tokens, as an [`Edited`].
+//! - [`OutFault`] says why there is none.
+//! - [`plain_texts_are_fair`] is a law about the texts of inserts, and does nothing.
+//!
+//! Of `x = a-b;`, with the `-` removed, the text is `x = a b;`. With no edits it is the text itself.
+//!
+//! Blanks, comments and preprocessor lines stay as they are. A space comes in only where a token and a piece that was
+//! not its neighbour would run together. Cut again, the text has exactly the kept and the added tokens. It may have
+//! 16,777,216 bytes. Nothing recurses.
+//!
+//! Whether two edits clash is for edit_conflict, and which edits a rule makes for edit_marks.
+#![tactic(auto)]
+
+mod draft;
+mod fault;
+mod laws;
+mod place;
+mod put;
+#[cfg(test)]
+mod tests;
+
+pub use draft::Edited;
+pub use fault::OutFault;
+pub use laws::plain_texts_are_fair;
+pub use place::output;

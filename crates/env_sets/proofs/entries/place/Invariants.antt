@@ -1,9 +1,0 @@
-use Rattle.std.proofs.Common.{◌≡◌, ◌+◌, ◌-◌, length, drop}
-use Rattle.smpl_terms.specs.Vars.{place_of}
-use Rattle.env_sets.proofs.entries.place.Given as goal
-
-abbrev pub invariant-loop-i : goal.invariant-loop-i
-invariant-loop-i l = place_of l.v l.pairs ≡ l.i + place_of l.v (drop l.i l.pairs)
-
-abbrev pub decreases-loop-i : goal.decreases-loop-i
-decreases-loop-i l = length l.pairs - l.i

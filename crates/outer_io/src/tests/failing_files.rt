@@ -1,0 +1,191 @@
+// A stand-in for the file system: the files of the system, of whose calls one fails, or which are nearly full.
+use std::cell::Cell;
+use std::fs::{File, FileTimes, Files, Metadata, OpenFile, OpenOptions, Permissions};
+use std::io::{Empty, Error, ErrorKind, Read, Seek, SeekFrom, Write};
+use std::path::PathBuf;
+use std::{alloc, io};
+
+/// The bytes that one write takes.
+const MOST_WRITTEN: usize = 4;
+
+/// Which call fails, by its number from 0 on, and how; how many calls were made; and the bytes for which there is room.
+#[derive(Drop)]
+pub struct Trouble {
+    fails: Option<u64>,
+    kind: ErrorKind,
+    calls: Cell<u64>,
+    room: Cell<usize>,
+}
+
+impl Trouble {
+    pub fn at_call(number: u64, kind: ErrorKind) -> Trouble {
+        Trouble {
+            fails: Some(number),
+            kind,
+            calls: Cell::new(0),
+            room: Cell::new(usize::MAX),
+        }
+    }
+
+    pub fn little_room(room: usize) -> Trouble {
+        Trouble {
+            fails: None,
+            kind: ErrorKind::Other,
+            calls: Cell::new(0),
+            room: Cell::new(room),
+        }
+    }
+
+    /// Whether the call that fails was made.
+    pub fn is_past(&self) -> bool {
+        self.fails.map_or(true, |number| number < self.calls.get())
+    }
+
+    /// Counts a call, which may be the one that fails.
+    fn call(&self) -> io::Result<()> {
+        let number = self.calls.get();
+        self.calls.set(number.saturating_add(1));
+        if self.fails == Some(number) {
+            return Err(Error::from(self.kind));
+        }
+        Ok(())
+    }
+}
+
+#[derive(Drop)]
+pub struct FailingFiles<'a> {
+    pub rt: &'a HostRuntime,
+    pub trouble: &'a Trouble,
+}
+
+#[derive(Drop)]
+pub struct FailingFile<'a> {
+    file: File,
+    trouble: &'a Trouble,
+}
+
+impl<'a> Files for FailingFiles<'a> {
+    type File = FailingFile<'a>;
+
+    type Dir = Empty;
+
+    fn open_file(&self, how: &OpenOptions, path: &str) -> io::Result<FailingFile<'a>> {
+        self.trouble.call()?;
+        Ok(FailingFile {
+            file: self.rt.open_file(how, path)?,
+            trouble: self.trouble,
+        })
+    }
+
+    fn open_dir(&self, _path: &str) -> io::Result<Empty> {
+        Err(Error::from(ErrorKind::Unsupported))
+    }
+
+    fn metadata(&self, path: &str) -> io::Result<Metadata> {
+        self.trouble.call()?;
+        self.rt.metadata(path)
+    }
+
+    fn symlink_metadata(&self, path: &str) -> io::Result<Metadata> {
+        self.trouble.call()?;
+        self.rt.symlink_metadata(path)
+    }
+
+    fn copy(&self, _from: &str, _to: &str) -> io::Result<u64> {
+        Err(Error::from(ErrorKind::Unsupported))
+    }
+
+    fn rename(&self, from: &str, to: &str) -> io::Result<()> {
+        self.trouble.call()?;
+        self.rt.rename(from, to)
+    }
+
+    fn remove_file(&self, path: &str) -> io::Result<()> {
+        self.trouble.call()?;
+        self.rt.remove_file(path)
+    }
+
+    fn create_dir(&self, _path: &str) -> io::Result<()> {
+        Err(Error::from(ErrorKind::Unsupported))
+    }
+
+    fn remove_dir(&self, _path: &str) -> io::Result<()> {
+        Err(Error::from(ErrorKind::Unsupported))
+    }
+
+    fn remove_dir_all<B: alloc::Allocator>(&self, _alloc: B, _path: &str) -> io::Result<()> {
+        Err(Error::from(ErrorKind::Unsupported))
+    }
+
+    fn read_link<B: alloc::Allocator>(&self, alloc: B, path: &str) -> io::Result<PathBuf<B>> {
+        self.trouble.call()?;
+        self.rt.read_link(alloc, path)
+    }
+
+    fn chown(&self, path: &str, uid: Option<u32>, gid: Option<u32>) -> io::Result<()> {
+        self.trouble.call()?;
+        self.rt.chown(path, uid, gid)
+    }
+}
+
+impl Read for FailingFile<'_> {
+    fn read(&mut self, buffer: &mut [u8]) -> io::Result<usize> {
+        self.trouble.call()?;
+        self.file.read(buffer)
+    }
+}
+
+impl Write for FailingFile<'_> {
+    fn write(&mut self, bytes: &[u8]) -> io::Result<usize> {
+        self.trouble.call()?;
+        let room = self.trouble.room.get();
+        let count = bytes.len().min(room).min(MOST_WRITTEN);
+        if count == 0 && !bytes.is_empty() {
+            return Err(Error::from(ErrorKind::StorageFull));
+        }
+        let written = self.file.write(&bytes[..count])?;
+        self.trouble.room.set(room.saturating_sub(written));
+        Ok(written)
+    }
+
+    fn flush(&mut self) -> io::Result<()> {
+        Ok(())
+    }
+}
+
+impl Seek for FailingFile<'_> {
+    fn seek(&mut self, to: SeekFrom) -> io::Result<u64> {
+        self.trouble.call()?;
+        self.file.seek(to)
+    }
+}
+
+impl OpenFile for FailingFile<'_> {
+    fn metadata(&self) -> io::Result<Metadata> {
+        self.trouble.call()?;
+        self.file.metadata()
+    }
+
+    fn set_len(&self, size: u64) -> io::Result<()> {
+        self.trouble.call()?;
+        self.file.set_len(size)
+    }
+
+    fn sync_all(&self) -> io::Result<()> {
+        self.trouble.call()?;
+        self.file.sync_all()
+    }
+
+    fn sync_data(&self) -> io::Result<()> {
+        Err(Error::from(ErrorKind::Unsupported))
+    }
+
+    fn set_permissions(&self, permissions: Permissions) -> io::Result<()> {
+        self.trouble.call()?;
+        self.file.set_permissions(permissions)
+    }
+
+    fn set_times(&self, _times: FileTimes) -> io::Result<()> {
+        Err(Error::from(ErrorKind::Unsupported))
+    }
+}

@@ -1,0 +1,62 @@
+// The jobs, shared among threads.
+ghost use Rattle.std.specs.Prelude.{◌<◌, ◌≤◌, IfOk, IfErr};
+ghost use Rattle.par_match.specs.Answers.{AreAnswers, IsWhy};
+
+use crate::join::{in_order, joined};
+use crate::parts::take_ranges;
+use crate::range::do_range;
+use crate::{Gate, JobFault, Worker};
+use std::alloc::Global;
+use std::sync::atomic::AtomicUsize;
+use std::thread;
+use std::thread::Threads;
+
+/// So many ranges a thread, so that a thread which is done early finds more to do.
+const RANGES_A_THREAD: usize = 16;
+
+/// Does the jobs 0 to `n - 1` of a worker in up to `jobs` threads, and answers what they answered, in order. Of jobs that
+/// fail it names the one of the least number. The gate is told of each job before it begins.
+///
+/// Starts no thread for one job or where `jobs` is 1. Takes memory for the answers and a few words for each of at most
+/// `16 * jobs` ranges, or more where a range is one job.
+pub fn map_jobs<R: Threads + Sync, W: Worker, G: Gate>(
+    rt: &R,
+    alloc: Global,
+    jobs: u32,
+    n: usize,
+    worker: &W,
+    gate: &G,
+) -> Result<Vec<W::Answer>, JobFault<W::Fault>>
+    requires some { 1 ≤ jobs }
+    requires few { jobs ≤ 64 }
+    requires known { n ≤ W.jobs worker.now }
+    ensures answers { IfOk result (λ v. AreAnswers (W.may_answer worker.now) 0 n v.items) }
+    ensures fault { IfErr result (λ e. IsWhy (W.may_answer worker.now) (W.may_fail worker.now) 0 n e) }
+{
+    if jobs == 1 || n < 2 {
+        return do_range(alloc, 0, n, worker, gate);
+    }
+    let size = range_size(jobs as usize, n);
+    let ranges = n.div_ceil(size);
+    let threads = ranges.min(jobs as usize);
+    let next = AtomicUsize::new(0);
+    let taken = thread::map_indices(
+        rt,
+        alloc,
+        threads,
+        &|_|
+            requires { (0 < size) × (n ≤ W.jobs worker.now) }
+        { take_ranges(alloc, n, size, &next, worker, gate) },
+    )?;
+    let cells = in_order(alloc, ranges, size, taken, worker)?;
+    joined(alloc, n, size, cells, worker, gate)
+}
+
+/// How many jobs a range has.
+fn range_size(jobs: usize, n: usize) -> usize
+    requires some { 0 < jobs }
+    requires few { jobs ≤ 64 }
+    ensures some { 0 < result }
+{
+    (n / (jobs * RANGES_A_THREAD)).max(1)
+}

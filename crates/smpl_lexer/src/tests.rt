@@ -1,0 +1,82 @@
+// The call with ample memory, and patches of which the outcome is known.
+use crate::{PatchText, RuleText, lex_patch};
+use c_terms::TokenKind;
+use smpl_patch::{PatchFault, fault_number, fault_place};
+use std::alloc::Global;
+use std::test::Fail;
+
+fn lexed(alloc: Global, patch: &str) -> Result<PatchText, PatchFault> {
+    lex_patch(alloc, patch.as_bytes())
+}
+
+/// The number and the place of the first fault, zeros where there is none.
+fn fault_of(alloc: Global, patch: &str) -> (u8, u32) {
+    match lexed(alloc, patch) {
+        Ok(_) => (0, 0),
+        Err(fault) => (fault_number(&fault), fault_place(&fault)),
+    }
+}
+
+fn signs(rule: &RuleText) -> (usize, usize) {
+    let mut edits = 0usize;
+    let mut others = 0usize;
+    for line in rule.body.as_slice() {
+        if line.sign == b' ' {
+            others = others.wrapping_add(1);
+        } else {
+            edits = edits.wrapping_add(1);
+        }
+    }
+    (edits, others)
+}
+
+fn is_branch_sign(rule: &RuleText, line: usize) -> bool {
+    match rule.body.get(line) {
+        Some(line) => match line.tokens.as_slice() {
+            [t] => t.token.kind == TokenKind::Pat && t.token.text.as_bytes() == b"\\(".as_slice(),
+            _ => false,
+        },
+        None => false,
+    }
+}
+
+#[test]
+fn a_patch_is_its_rules_and_lines(rt: HostRuntime) -> Result<(), Fail> {
+    let text = lexed(
+        rt.alloc(),
+        "// a comment\nvirtual v, w\n@r depends on v@\nexpression x;\n@@\n(\n- f(x);\n|\n g(x);\n)\n+ h();\n",
+    )
+    .ok()
+    .ok_or("a fault")?;
+    assert_eq!(rt; text.virtuals.len(), 2);
+    match text.rules.as_slice() {
+        [first] => {
+            assert_eq!(rt; first.decls.len(), 3);
+            assert_eq!(rt; signs(first), (2, 4));
+            assert!(rt; is_branch_sign(first, 0) && !is_branch_sign(first, 1));
+        }
+        _ => panic!(rt; "not one rule"),
+    }
+    Ok(())
+}
+
+#[test]
+fn each_fault_stands_at_its_place(rt: HostRuntime) {
+    for (patch, wanted) in [
+        ("", (0, 0)),
+        ("@@\n@@\nf();\n@@\n@@\ng();", (0, 0)),
+        ("f();\n", (3, 0)),
+        ("virtual a,\n", (3, 10)),
+        ("@r depends on\n@@\n", (3, 13)),
+        ("@r@\nexpression x;\n", (3, 18)),
+        ("@@\n@r@\nf();\n", (3, 3)),
+        ("@script:python@\n@@\n", (15, 0)),
+        ("@@\n@@\n f(\"a);\n", (2, 9)),
+        ("@@\n@@\n+ f@p();\n", (2, 9)),
+        ("@@\n@@\n/* a\n*/\n", (2, 6)),
+        ("@@\n@@\n#define A\n", (2, 6)),
+        ("@@\n@@\n'\n@script:ocaml@\n", (2, 6)),
+    ] {
+        assert_eq!(rt; fault_of(rt.alloc(), patch), wanted, "{patch}");
+    }
+}

@@ -1,0 +1,102 @@
+-- The definitions, run.
+use Rattle.std.proofs.Common.{◌≡◌, ℕ, true, false, List, [], ◌∷◌, Some, refl, codes, length}
+use Rattle.c_terms.specs.declared.token.TokenKind.TheVariants.{Name, Keyword, Punct, Stray, Dots}
+use Rattle.c_terms.specs.declared.token.MetaKind.TheVariants as meta
+use Rattle.smpl_patch.specs.declared.pattern.VarKind.TheVariants.{Meta, Position}
+use Rattle.smpl_patch.specs.declared.pattern.VarDecl.{VarDecl}
+use Rattle.smpl_patch.specs.declared.rule.Dep.TheVariants as dep
+use Rattle.smpl_patch.specs.declared.rule.Mode.TheVariants as mode
+use Rattle.smpl_patch.specs.declared.fault.PatchFault.TheVariants.{BadMetavariable, TwiceNamed, UnknownRule, KindDiffers}
+use Rattle.smpl_patch.specs.Faults.{first_of}
+use Rattle.smpl_lexer.specs.declared.token.PatchToken.{PatchToken}
+use Rattle.smpl_lexer.specs.Tokens.{made}
+use Rattle.smpl_meta.specs.declared.head.RuleHead.{RuleHead}
+use Rattle.smpl_meta.specs.Decls.{decl_faults, vars_of}
+use Rattle.smpl_meta.specs.declared.patterns.Placed.{Placed}
+use Rattle.smpl_meta.specs.Patterns.{pattern_tokens, split}
+use Rattle.smpl_meta.specs.Patterns.Clause.{Not}
+use Rattle.smpl_meta.specs.Shunting.{dep_of}
+
+abbrev word : List ℕ → ℕ → PatchToken
+word text at = made Name text at
+
+abbrev mark : List ℕ → ℕ → PatchToken
+mark text at = made Punct text at
+
+abbrev keyword : List ℕ → ℕ → PatchToken
+keyword text at = made Keyword text at
+
+-- rule 0 is `r` and has an expression x
+abbrev x_of_r : VarDecl
+x_of_r = record { var = record { rule = 0; name = codes "x" }; kind = Meta meta.Expr; inherited = false; not_names = []; not_places = [] }
+
+abbrev earlier : List RuleHead
+earlier = record { name = codes "r"; depends = dep.Always; mode = mode.Exists; vars = x_of_r ∷ [] } ∷ []
+
+-- `identifier y != {a, b};`
+two_not : vars_of [] 3 (word (codes "identifier") 0 ∷ word (codes "y") 1 ∷ mark (codes "!=") 2 ∷ mark (codes "{") 3 ∷ word (codes "a") 4 ∷ mark (codes ",") 5 ∷ word (codes "b") 6 ∷ mark (codes "}") 7 ∷ mark (codes ";") 8 ∷ [])
+    ≡ record { var = record { rule = 3; name = codes "y" }; kind = Meta meta.Ident; inherited = false; not_names = codes "a" ∷ codes "b" ∷ []; not_places = [] } ∷ []
+two_not = refl
+
+-- `expression list;` declares a variable that is called list
+called_list : vars_of [] 0 (word (codes "expression") 0 ∷ word (codes "list") 1 ∷ mark (codes ";") 2 ∷ [])
+    ≡ record { var = record { rule = 0; name = codes "list" }; kind = Meta meta.Expr; inherited = false; not_names = []; not_places = [] } ∷ []
+called_list = refl
+
+-- `expression r.x;` is the variable of rule 0
+inherits : vars_of earlier 1 (word (codes "expression") 0 ∷ word (codes "r") 1 ∷ mark (codes ".") 2 ∷ word (codes "x") 3 ∷ mark (codes ";") 4 ∷ [])
+    ≡ record { var = record { rule = 0; name = codes "x" }; kind = Meta meta.Expr; inherited = true; not_names = []; not_places = [] } ∷ []
+inherits = refl
+
+-- `expression x, x;`, `symbol x, x;` and `symbol x; expression x;`
+twice : first_of (decl_faults [] (word (codes "expression") 0 ∷ word (codes "x") 1 ∷ mark (codes ",") 2 ∷ word (codes "x") 3 ∷ mark (codes ";") 4 ∷ [])) ≡ Some (TwiceNamed 3)
+twice = refl
+
+symbols_twice : decl_faults [] (word (codes "symbol") 0 ∷ word (codes "x") 1 ∷ mark (codes ",") 2 ∷ word (codes "x") 3 ∷ mark (codes ";") 4 ∷ []) ≡ []
+symbols_twice = refl
+
+symbol_and_variable : first_of (decl_faults [] (word (codes "symbol") 0 ∷ word (codes "x") 1 ∷ mark (codes ";") 2 ∷ word (codes "expression") 3 ∷ word (codes "x") 4 ∷ mark (codes ";") 5 ∷ [])) ≡ Some (TwiceNamed 4)
+symbol_and_variable = refl
+
+-- `identifier r.x;`, `expression s.x;`, `expression if;`, and a declaration without its `;`
+other_kind : first_of (decl_faults earlier (word (codes "identifier") 0 ∷ word (codes "r") 1 ∷ mark (codes ".") 2 ∷ word (codes "x") 3 ∷ mark (codes ";") 4 ∷ [])) ≡ Some (KindDiffers 1)
+other_kind = refl
+
+no_rule : first_of (decl_faults earlier (word (codes "expression") 0 ∷ word (codes "s") 1 ∷ mark (codes ".") 2 ∷ word (codes "x") 3 ∷ mark (codes ";") 4 ∷ [])) ≡ Some (UnknownRule 1)
+no_rule = refl
+
+keyword_named : first_of (decl_faults [] (word (codes "expression") 0 ∷ keyword (codes "if") 1 ∷ mark (codes ";") 2 ∷ [])) ≡ Some (BadMetavariable 1)
+keyword_named = refl
+
+no_semicolon : first_of (decl_faults [] (word (codes "expression") 0 ∷ word (codes "x") 1 ∷ [])) ≡ Some (BadMetavariable 0)
+no_semicolon = refl
+
+-- `!r && a || b`: `&&` binds tighter, and a name that is no earlier rule is virtual
+binds : dep_of earlier (mark (codes "!") 0 ∷ word (codes "r") 1 ∷ mark (codes "&&") 2 ∷ word (codes "a") 3 ∷ mark (codes "||") 4 ∷ word (codes "b") 5 ∷ [])
+    ≡ dep.Either (dep.Both (dep.Not (dep.Had 0)) (dep.Defined (codes "a"))) (dep.Defined (codes "b"))
+binds = refl
+
+never : dep_of earlier (word (codes "never") 0 ∷ word (codes "r") 1 ∷ []) ≡ dep.Not (dep.Ever 0)
+never = refl
+
+-- `x@p` has one token, behind which a position stands
+abbrev p_decl : List VarDecl
+p_decl = record { var = record { rule = 0; name = codes "p" }; kind = Position; inherited = false; not_names = []; not_places = [] } ∷ []
+
+abbrev placed : List Placed
+placed = pattern_tokens p_decl (record { sign = 32; start = 0; text = codes "x@p"; tokens = word (codes "x") 0 ∷ made Stray (codes "@") 1 ∷ word (codes "p") 2 ∷ [] } ∷ [])
+
+one_token : placed ≡ record { token = record { kind = Name; text = codes "x"; id = 0 }; at = 0; sign = 32; line = 0; positions = record { rule = 0; name = codes "p" } ∷ [] } ∷ []
+one_token = refl
+
+-- `... when != a` and in the next line `b`: the code ends with its line
+abbrev dotted : List Placed
+dotted = pattern_tokens [] (record { sign = 32; start = 0; text = []; tokens = made Dots (codes "...") 0 ∷ word (codes "when") 4 ∷ mark (codes "!=") 9 ∷ word (codes "a") 12 ∷ [] }
+    ∷ record { sign = 43; start = 14; text = []; tokens = word (codes "c") 15 ∷ [] }
+    ∷ record { sign = 32; start = 17; text = []; tokens = word (codes "b") 17 ∷ [] } ∷ [])
+
+two_outside : length (split dotted).main ≡ 2
+two_outside = refl
+
+one_clause : (split dotted).clauses ≡ (0, Not (record { token = record { kind = Name; text = codes "a"; id = 3 }; at = 12; sign = 32; line = 0; positions = [] } ∷ [])) ∷ []
+one_clause = refl

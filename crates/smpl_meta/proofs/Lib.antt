@@ -1,0 +1,13 @@
+pub mod SplitLemmas
+pub mod FirstLemmas
+pub mod Walks
+pub mod PartLemmas
+pub mod Shunts
+pub mod Takes
+pub mod HeadLemmas
+pub mod Examples
+pub mod Marks
+pub mod Conditions
+pub mod HasCondition
+pub mod HeadsOnce
+pub mod Placing

@@ -1,0 +1,10 @@
+-- What public contracts rest on, in reading order: what declarations declare, what earlier rules have, a rule's head.
+pub mod Forms
+pub mod Known
+pub mod Decls
+pub mod Heads
+-- What the crates above read bodies by.
+pub mod Patterns
+-- For inside use: how long parts are.
+pub mod Splits
+pub mod Shunting

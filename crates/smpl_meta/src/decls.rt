@@ -1,0 +1,103 @@
+// Reads declarations.
+ghost use Rattle.std.specs.Prelude.{◌≡◌, ◌++◌, IfOk};
+ghost use Rattle.smpl_patch.specs.Faults.{first_from};
+ghost use Rattle.smpl_meta.specs.Forms.{parts};
+ghost use Rattle.smpl_meta.specs.Decls as told;
+
+use crate::faults::with_items;
+use crate::form::declared;
+use crate::head::RuleHead;
+use crate::item::Item;
+use crate::parts::part_length;
+use crate::vars::vars_of;
+use c_terms::NoMemory;
+use smpl_lexer::PatchToken;
+use smpl_patch::{PatchFault, VarDecl, earlier as earlier_fault};
+use sqlite_items::Items;
+use std::alloc::Global;
+
+/// The items of declarations, and the first fault so far.
+#[derive(Drop)]
+pub struct Parsed {
+    pub items: Items<Item>,
+    pub first: Option<PatchFault>,
+}
+
+/// The variables of declarations, and the first fault so far.
+#[derive(Drop)]
+pub struct Declared {
+    pub vars: Items<VarDecl>,
+    pub first: Option<PatchFault>,
+}
+
+fn with_form(first: Option<PatchFault>, part: &[PatchToken]) -> Option<PatchFault>
+    ensures { result ≡ first_from first (told.not_of_form part.now) }
+{
+    match part {
+        [] => first,
+        [t, ..] => Some(earlier_fault(first, PatchFault::BadMetavariable(t.at))),
+    }
+}
+
+fn put_part(
+    items: Items<Item>,
+    first: Option<PatchFault>,
+    part: &[PatchToken],
+    more: Option<Items<Item>>,
+) -> Result<Parsed, NoMemory>
+    ensures items { IfOk result (λ p. p.items ≡ items ++ told.items_or_none more) }
+    ensures first { IfOk result (λ p. p.first ≡ first_from first (told.form_fault part.now more)) }
+{
+    match more {
+        None => Ok(Parsed {
+            items,
+            first: with_form(first, part),
+        }),
+        Some(more) => {
+            let mut items = items;
+            items.append(more)?;
+            Ok(Parsed { items, first })
+        }
+    }
+}
+
+fn parse(
+    alloc: Global,
+    tokens: &[PatchToken],
+    first: Option<PatchFault>,
+) -> Result<Parsed, NoMemory>
+    ensures items { IfOk result (λ p. p.items ≡ told.items_of (parts tokens.now)) }
+    ensures first { IfOk result (λ p. p.first ≡ first_from first (told.form_faults (parts tokens.now))) }
+{
+    let mut parsed = Parsed {
+        items: Items::new(alloc),
+        first,
+    };
+    let mut start = 0;
+    while start < tokens.len() {
+        let rest = &tokens[start..];
+        let n = part_length(rest);
+        let part = &rest[..n];
+        let more = declared(alloc, part)?;
+        parsed = put_part(parsed.items, parsed.first, part, more)?;
+        start += n;
+    }
+    Ok(parsed)
+}
+
+/// Reads declarations, and puts their faults to the first one so far.
+pub fn declare(
+    alloc: Global,
+    tokens: &[PatchToken],
+    rule: u32,
+    earlier: &[RuleHead],
+    first: Option<PatchFault>,
+) -> Result<Declared, NoMemory>
+    ensures vars { IfOk result (λ d. d.vars ≡ told.vars_of earlier.now rule tokens.now) }
+    ensures first { IfOk result (λ d. d.first ≡ first_from first (told.decl_faults earlier.now tokens.now)) }
+{
+    let parsed = parse(alloc, tokens, first)?;
+    let first = with_items(parsed.first, earlier, parsed.items.as_slice());
+    let vars = vars_of(alloc, earlier, rule, parsed.items.as_slice())?;
+    Ok(Declared { vars, first })
+}

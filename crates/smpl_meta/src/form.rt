@@ -1,0 +1,184 @@
+// The form of declarations.
+ghost use Rattle.std.specs.Prelude.{◌≡◌, IfOk, option_map, option_and_then};
+ghost use Rattle.smpl_meta.specs.Forms as told;
+
+use crate::item::{DeclKind, Item, Named};
+use crate::names::{is_wordish, named_of, plain_of};
+use crate::nots::nots_of;
+use crate::parts::{before_sign, chunk_length};
+use c_terms::{MetaKind, NoMemory};
+use smpl_lexer::{PatchToken, is_sign, is_word};
+use smpl_patch::VarKind;
+use sqlite_items::Items;
+use std::alloc::Global;
+
+/// The name, not to be what the tokens behind `!=` say.
+fn excepted_of(
+    alloc: Global,
+    kind: DeclKind,
+    tokens: &[PatchToken],
+    named: Named,
+) -> Result<Option<Item>, NoMemory>
+    ensures { IfOk result (λ o. o ≡ told.excepted_of kind tokens.now named) }
+{
+    match kind {
+        DeclKind::Symbol => Ok(None),
+        DeclKind::Var(var) => match nots_of(alloc, var, tokens)? {
+            None => Ok(None),
+            Some(nots) => Ok(Some(Item { kind, named, nots })),
+        },
+    }
+}
+
+/// `x != ..`
+fn except(
+    alloc: Global,
+    kind: DeclKind,
+    x: &PatchToken,
+    tokens: &[PatchToken],
+) -> Result<Option<Item>, NoMemory>
+    ensures { IfOk result (λ o. o ≡ option_and_then (told.excepted_of kind tokens.now) (told.plain_of x.now)) }
+{
+    match plain_of(alloc, x)? {
+        None => Ok(None),
+        Some(named) => excepted_of(alloc, kind, tokens, named),
+    }
+}
+
+/// `x` or `r.x`
+fn bare(alloc: Global, kind: DeclKind, tokens: &[PatchToken]) -> Result<Option<Item>, NoMemory>
+    ensures { IfOk result (λ o. o ≡ option_map (told.bare_item kind) (told.named_of tokens.now)) }
+{
+    match named_of(alloc, tokens)? {
+        None => Ok(None),
+        Some(named) => Ok(Some(Item {
+            kind,
+            named,
+            nots: Items::new(alloc),
+        })),
+    }
+}
+
+fn item_of(alloc: Global, kind: DeclKind, tokens: &[PatchToken]) -> Result<Option<Item>, NoMemory>
+    ensures { IfOk result (λ o. o ≡ told.item_of kind tokens.now) }
+{
+    match tokens {
+        [x, differs, rest @ ..] => {
+            if is_sign(differs, b"!=") {
+                except(alloc, kind, x, rest)
+            } else {
+                bare(alloc, kind, tokens)
+            }
+        }
+        _ => bare(alloc, kind, tokens),
+    }
+}
+
+/// Items, parted by commas.
+fn items_in(
+    alloc: Global,
+    kind: DeclKind,
+    tokens: &[PatchToken],
+) -> Result<Option<Items<Item>>, NoMemory>
+    ensures { IfOk result (λ o. o ≡ told.items_in kind tokens.now) }
+{
+    let mut items = Items::new(alloc);
+    let mut start = 0;
+    loop {
+        let rest = &tokens[start..];
+        let n = chunk_length(rest);
+        match item_of(alloc, kind, &rest[..n])? {
+            None => return Ok(None),
+            Some(one) => items.push(one)?,
+        }
+        if n == rest.len() {
+            return Ok(Some(items));
+        }
+        start += n + 1;
+    }
+}
+
+/// `list` belongs to the kind where a name follows.
+fn is_listed(tokens: &[PatchToken]) -> bool
+    ensures { result ≡ told.is_listed tokens.now }
+{
+    match tokens {
+        [l, x, ..] => is_word(l, b"list") && is_wordish(x),
+        _ => false,
+    }
+}
+
+/// The kind that one word names.
+fn kind_of(t: &PatchToken) -> Option<DeclKind>
+    ensures { result ≡ told.kind_of t.now }
+{
+    if is_word(t, b"expression") {
+        Some(DeclKind::Var(VarKind::Meta(MetaKind::Expr)))
+    } else if is_word(t, b"identifier") {
+        Some(DeclKind::Var(VarKind::Meta(MetaKind::Ident)))
+    } else if is_word(t, b"constant") {
+        Some(DeclKind::Var(VarKind::Meta(MetaKind::Constant)))
+    } else if is_word(t, b"type") {
+        Some(DeclKind::Var(VarKind::Meta(MetaKind::Typ)))
+    } else if is_word(t, b"statement") {
+        Some(DeclKind::Var(VarKind::Meta(MetaKind::Stmt)))
+    } else if is_word(t, b"position") {
+        Some(DeclKind::Var(VarKind::Position))
+    } else if is_word(t, b"symbol") {
+        Some(DeclKind::Symbol)
+    } else {
+        None
+    }
+}
+
+/// The kind that a word and `list` name.
+fn list_kind_of(t: &PatchToken) -> Option<DeclKind>
+    ensures { result ≡ told.list_kind_of t.now }
+{
+    if is_word(t, b"expression") {
+        Some(DeclKind::Var(VarKind::Meta(MetaKind::ExprList)))
+    } else if is_word(t, b"parameter") {
+        Some(DeclKind::Var(VarKind::Meta(MetaKind::Params)))
+    } else {
+        None
+    }
+}
+
+fn items_by(
+    alloc: Global,
+    kind: Option<DeclKind>,
+    tokens: &[PatchToken],
+) -> Result<Option<Items<Item>>, NoMemory>
+    ensures { IfOk result (λ o. o ≡ told.items_by kind tokens.now) }
+{
+    match kind {
+        None => Ok(None),
+        Some(kind) => items_in(alloc, kind, tokens),
+    }
+}
+
+/// The items of a declaration without its `;`.
+fn front_items(alloc: Global, tokens: &[PatchToken]) -> Result<Option<Items<Item>>, NoMemory>
+    ensures { IfOk result (λ o. o ≡ told.front_items tokens.now) }
+{
+    match tokens {
+        [] => Ok(None),
+        [t, rest @ ..] => {
+            if is_listed(rest) {
+                items_by(alloc, list_kind_of(t), &rest[1..])
+            } else {
+                items_by(alloc, kind_of(t), rest)
+            }
+        }
+    }
+}
+
+/// The items of a declaration, which ends in `;`. None where it is not of the form.
+pub fn declared(alloc: Global, part: &[PatchToken]) -> Result<Option<Items<Item>>, NoMemory>
+    ensures { IfOk result (λ o. o ≡ told.declared part.now) }
+{
+    match before_sign(b";", part) {
+        None => Ok(None),
+        Some(front) => front_items(alloc, front),
+    }
+}

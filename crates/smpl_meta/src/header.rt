@@ -1,0 +1,183 @@
+// Reads the heads of rules.
+#![tactic(auto, using(crate::proofs::FirstLemmas::first_append))]
+
+ghost use Rattle.std.specs.Prelude.{◌≡◌, ◌<◌, ◌^◌, length, IfOk};
+ghost use Rattle.std.specs.Option.{option_copied};
+ghost use Rattle.smpl_patch.specs.Faults.{first_from};
+ghost use Rattle.smpl_meta.specs.Heads as told;
+
+use crate::depends::number_of;
+use crate::head::RuleHead;
+use c_terms::{NoMemory, Text};
+use smpl_lexer::{BodyLine, PatchToken, RuleText, is_at, is_mode, is_rule_name, is_word};
+use smpl_patch::{Mode, PatchFault, earlier as earlier_fault};
+use std::alloc::Global;
+
+fn is_virtual(virtuals: &[Text], name: &[u8]) -> bool
+    ensures { result ≡ told.is_virtual virtuals.now name.now }
+{
+    for v in virtuals {
+        if v.as_bytes() == name {
+            return true;
+        }
+    }
+    false
+}
+
+/// An earlier rule or a `virtual` line has the name.
+fn is_taken(virtuals: &[Text], earlier: &[RuleHead], name: &[u8]) -> bool
+    requires { length earlier.now < 2 ^ 32 }
+    ensures { result ≡ told.is_taken virtuals.now earlier.now name.now }
+{
+    match number_of(earlier, name) {
+        Some(_) => true,
+        None => is_virtual(virtuals, name),
+    }
+}
+
+/// The rule's name, if it has one.
+pub fn name_token(header: &[PatchToken]) -> Option<&PatchToken>
+    ensures { option_copied result ≡ told.name_token header.now }
+{
+    match header {
+        [_, t, ..] => { if is_rule_name(t) { Some(t) } else { None } }
+        _ => None,
+    }
+}
+
+pub fn name_text(alloc: Global, name: Option<&PatchToken>) -> Result<Text, NoMemory>
+    ensures { IfOk result (λ t. t ≡ told.name_text (option_copied name.entry)) }
+{
+    match name {
+        None => Text::from_bytes(alloc, b""),
+        Some(t) => t.token.text.copy(alloc),
+    }
+}
+
+pub fn with_name(
+    first: Option<PatchFault>,
+    virtuals: &[Text],
+    earlier: &[RuleHead],
+    name: Option<&PatchToken>,
+) -> Option<PatchFault>
+    requires { length earlier.now < 2 ^ 32 }
+    ensures { result ≡ first_from first (told.name_fault virtuals.now earlier.now (option_copied name.entry)) }
+{
+    match name {
+        None => first,
+        Some(t) => {
+            if is_taken(virtuals, earlier, t.token.text.as_bytes()) {
+                Some(earlier_fault(first, PatchFault::TwiceNamed(t.at)))
+            } else {
+                first
+            }
+        }
+    }
+}
+
+fn behind_on(header: &[PatchToken]) -> &[PatchToken]
+    ensures { result.now ≡ told.behind_on header.now }
+{
+    for i in 0..header.len() {
+        if is_word(&header[i], b"on") {
+            return &header[i + 1..];
+        }
+    }
+    &header[header.len()..]
+}
+
+fn condition(tokens: &[PatchToken]) -> &[PatchToken]
+    ensures { result.now ≡ told.condition tokens.now }
+{
+    for i in 0..tokens.len() {
+        if is_mode(&tokens[i]) || is_at(&tokens[i]) {
+            return &tokens[..i];
+        }
+    }
+    tokens
+}
+
+/// The tokens of the header's condition.
+pub fn depends_tokens(header: &[PatchToken]) -> &[PatchToken]
+    ensures { result.now ≡ told.depends_tokens header.now }
+{
+    condition(behind_on(header))
+}
+
+fn is_unknown(virtuals: &[Text], earlier: &[RuleHead], t: &PatchToken) -> bool
+    requires { length earlier.now < 2 ^ 32 }
+    ensures { result ≡ told.is_unknown virtuals.now earlier.now t.now }
+{
+    is_rule_name(t) && !is_taken(virtuals, earlier, t.token.text.as_bytes())
+}
+
+fn with_bad(first: Option<PatchFault>, unknown: bool, at: u32) -> Option<PatchFault>
+    ensures { result ≡ first_from first (told.unknown_fault unknown at) }
+{
+    if unknown {
+        Some(earlier_fault(first, PatchFault::UnknownRule(at)))
+    } else {
+        first
+    }
+}
+
+/// The first fault so far, with those of the names of a condition.
+pub fn with_unknown(
+    first: Option<PatchFault>,
+    virtuals: &[Text],
+    earlier: &[RuleHead],
+    tokens: &[PatchToken],
+) -> Option<PatchFault>
+    requires { length earlier.now < 2 ^ 32 }
+    ensures { result ≡ first_from first (told.unknown_faults virtuals.now earlier.now tokens.now) }
+{
+    let mut first = first;
+    for t in tokens {
+        first = with_bad(first, is_unknown(virtuals, earlier, t), t.at);
+    }
+    first
+}
+
+fn has_word(text: &[u8], tokens: &[PatchToken]) -> bool
+    ensures { result ≡ told.has_word text.now tokens.now }
+{
+    for t in tokens {
+        if is_word(t, text) {
+            return true;
+        }
+    }
+    false
+}
+
+fn is_edit(l: &BodyLine) -> bool
+    ensures { result ≡ told.is_edit l.now }
+{
+    l.sign == b'-' || l.sign == b'+'
+}
+
+fn has_edit(lines: &[BodyLine]) -> bool
+    ensures { result ≡ told.has_edit lines.now }
+{
+    for l in lines {
+        if is_edit(l) {
+            return true;
+        }
+    }
+    false
+}
+
+/// The rule's mode: as its header says it, and else by its lines.
+pub fn mode_of(rule: &RuleText) -> Mode
+    ensures { result ≡ told.mode_of rule.now }
+{
+    let header = rule.header.as_slice();
+    if has_word(b"exists", header) {
+        Mode::Exists
+    } else if has_word(b"forall", header) {
+        Mode::Forall
+    } else if has_edit(rule.body.as_slice()) {
+        Mode::Forall
+    } else {
+        Mode::Exists
+    }
+}

@@ -1,0 +1,67 @@
+// Names in declarations: `x` and `r.x`.
+ghost use Rattle.std.specs.Prelude.{◌≡◌, IfOk};
+ghost use Rattle.smpl_meta.specs.Forms as told;
+
+use crate::item::Named;
+use c_terms::{NoMemory, TokenKind};
+use smpl_lexer::{PatchToken, is_name, is_sign};
+use std::alloc::Global;
+
+/// A keyword.
+pub fn is_keyword(t: &PatchToken) -> bool
+    ensures { result ≡ told.is_keyword t.now }
+{
+    match t.token.kind {
+        TokenKind::Keyword => true,
+        _ => false,
+    }
+}
+
+/// What has the form of a name, be it a keyword.
+pub fn is_wordish(t: &PatchToken) -> bool
+    ensures { result ≡ told.is_wordish t.now }
+{
+    is_name(t) || is_keyword(t)
+}
+
+/// `x`
+pub fn plain_of(alloc: Global, x: &PatchToken) -> Result<Option<Named>, NoMemory>
+    ensures { IfOk result (λ o. o ≡ told.plain_of x.now) }
+{
+    if !is_wordish(x) {
+        return Ok(None);
+    }
+    Ok(Some(Named {
+        from: None,
+        name: x.copy(alloc)?,
+    }))
+}
+
+/// `r.x`
+pub fn member_of(
+    alloc: Global,
+    r: &PatchToken,
+    dot: &PatchToken,
+    x: &PatchToken,
+) -> Result<Option<Named>, NoMemory>
+    ensures { IfOk result (λ o. o ≡ told.member_of r.now dot.now x.now) }
+{
+    if !(is_wordish(r) && is_sign(dot, b".") && is_wordish(x)) {
+        return Ok(None);
+    }
+    Ok(Some(Named {
+        from: Some(r.copy(alloc)?),
+        name: x.copy(alloc)?,
+    }))
+}
+
+/// `x` or `r.x`
+pub fn named_of(alloc: Global, tokens: &[PatchToken]) -> Result<Option<Named>, NoMemory>
+    ensures { IfOk result (λ o. o ≡ told.named_of tokens.now) }
+{
+    match tokens {
+        [x] => plain_of(alloc, x),
+        [r, dot, x] => member_of(alloc, r, dot, x),
+        _ => Ok(None),
+    }
+}

@@ -1,0 +1,116 @@
+// What an item is not to be: `!= y`, `!= {y, z}`.
+ghost use Rattle.std.specs.Prelude.{◌≡◌, IfOk};
+ghost use Rattle.smpl_meta.specs.Forms as told;
+
+use crate::item::Named;
+use crate::names::{member_of, plain_of};
+use crate::parts::{before_sign, chunk_length};
+use c_terms::{MetaKind, NoMemory};
+use smpl_lexer::{PatchToken, is_sign};
+use smpl_patch::VarKind;
+use sqlite_items::Items;
+use std::alloc::Global;
+
+/// A name for an identifier.
+fn name_not(alloc: Global, tokens: &[PatchToken]) -> Result<Option<Named>, NoMemory>
+    ensures { IfOk result (λ o. o ≡ told.name_not tokens.now) }
+{
+    match tokens {
+        [x] => plain_of(alloc, x),
+        _ => Ok(None),
+    }
+}
+
+/// A position of another rule for a position.
+fn place_not(alloc: Global, tokens: &[PatchToken]) -> Result<Option<Named>, NoMemory>
+    ensures { IfOk result (λ o. o ≡ told.place_not tokens.now) }
+{
+    match tokens {
+        [r, dot, x] => member_of(alloc, r, dot, x),
+        _ => Ok(None),
+    }
+}
+
+fn not_of(alloc: Global, kind: VarKind, tokens: &[PatchToken]) -> Result<Option<Named>, NoMemory>
+    ensures { IfOk result (λ o. o ≡ told.not_of kind tokens.now) }
+{
+    match kind {
+        VarKind::Meta(MetaKind::Ident) => name_not(alloc, tokens),
+        VarKind::Position => place_not(alloc, tokens),
+        _ => Ok(None),
+    }
+}
+
+/// Several, parted by commas.
+fn nots_between(
+    alloc: Global,
+    kind: VarKind,
+    tokens: &[PatchToken],
+) -> Result<Option<Items<Named>>, NoMemory>
+    ensures { IfOk result (λ o. o ≡ told.nots_between kind tokens.now) }
+{
+    let mut nots = Items::new(alloc);
+    let mut start = 0;
+    loop {
+        let rest = &tokens[start..];
+        let n = chunk_length(rest);
+        match not_of(alloc, kind, &rest[..n])? {
+            None => return Ok(None),
+            Some(one) => nots.push(one)?,
+        }
+        if n == rest.len() {
+            return Ok(Some(nots));
+        }
+        start += n + 1;
+    }
+}
+
+fn one_not(
+    alloc: Global,
+    kind: VarKind,
+    tokens: &[PatchToken],
+) -> Result<Option<Items<Named>>, NoMemory>
+    ensures { IfOk result (λ o. o ≡ told.one_not kind tokens.now) }
+{
+    match not_of(alloc, kind, tokens)? {
+        None => Ok(None),
+        Some(one) => {
+            let mut nots = Items::new(alloc);
+            nots.push(one)?;
+            Ok(Some(nots))
+        }
+    }
+}
+
+fn braced(
+    alloc: Global,
+    kind: VarKind,
+    tokens: &[PatchToken],
+) -> Result<Option<Items<Named>>, NoMemory>
+    ensures { IfOk result (λ o. o ≡ told.braced kind tokens.now) }
+{
+    match before_sign(b"}", tokens) {
+        None => Ok(None),
+        Some(inside) => nots_between(alloc, kind, inside),
+    }
+}
+
+/// One, or several in braces.
+pub fn nots_of(
+    alloc: Global,
+    kind: VarKind,
+    tokens: &[PatchToken],
+) -> Result<Option<Items<Named>>, NoMemory>
+    ensures { IfOk result (λ o. o ≡ told.nots_of kind tokens.now) }
+{
+    match tokens {
+        [] => Ok(None),
+        [t, rest @ ..] => {
+            if is_sign(t, b"{") {
+                braced(alloc, kind, rest)
+            } else {
+                one_not(alloc, kind, tokens)
+            }
+        }
+    }
+}

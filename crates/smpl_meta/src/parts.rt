@@ -1,0 +1,65 @@
+// Takes the tokens of declarations apart.
+ghost use Rattle.std.specs.Prelude.{◌≡◌, ◌≤◌, ◌<◌, length, MatchOption, false};
+ghost use Rattle.smpl_meta.specs.Forms as told;
+ghost use Rattle.smpl_meta.specs.Splits as split;
+
+use smpl_lexer::{PatchToken, is_sign};
+
+/// How many tokens the first declaration has, its `;` with it.
+pub fn part_length(tokens: &[PatchToken]) -> usize
+    ensures value { result ≡ split.part_length tokens.now }
+    ensures within { result ≤ length tokens.now }
+    ensures some { 0 < length tokens.now → 0 < result }
+{
+    for i in 0..tokens.len() {
+        if is_sign(&tokens[i], b";") {
+            return i + 1;
+        }
+    }
+    tokens.len()
+}
+
+/// How many tokens stand before the first comma that stands in no braces.
+pub fn chunk_length(tokens: &[PatchToken]) -> usize
+    ensures value { result ≡ split.chunk_length false tokens.now }
+    ensures within { result ≤ length tokens.now }
+{
+    let mut within = false;
+    for i in 0..tokens.len() {
+        let t = &tokens[i];
+        if is_sign(t, b",") && !within {
+            return i;
+        }
+        within = within_after(within, t);
+    }
+    tokens.len()
+}
+
+/// Whether the token behind this one stands within braces.
+fn within_after(within: bool, t: &PatchToken) -> bool
+    ensures { result ≡ told.within_after within t.now }
+{
+    if is_sign(t, b"{") {
+        true
+    } else if is_sign(t, b"}") {
+        false
+    } else {
+        within
+    }
+}
+
+/// The tokens before the last one, where that is this sign.
+pub fn before_sign<'a>(text: &[u8], tokens: &'a [PatchToken]) -> Option<&'a [PatchToken]>
+    ensures { MatchOption result (told.before_sign text.now tokens.now ≡ None) (λ front. told.before_sign text.now tokens.now ≡ Some front.now) }
+{
+    match tokens {
+        [] => None,
+        [front @ .., last] => {
+            if is_sign(last, text) {
+                Some(front)
+            } else {
+                None
+            }
+        }
+    }
+}

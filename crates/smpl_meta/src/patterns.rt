@@ -1,0 +1,254 @@
+// The tokens of a rule's patterns.
+ghost use Rattle.std.specs.Prelude.{◌≡◌, ◌<◌, ◌^◌, [], length, IfOk};
+ghost use Rattle.std.specs.Option.{option_copied};
+ghost use Rattle.smpl_meta.specs.Patterns as told;
+
+use crate::known::var_named;
+use c_terms::{MetaKind, NoMemory, Token, TokenKind};
+use smpl_lexer::{BodyLine, PatchToken, is_at, is_name};
+use smpl_patch::{VarDecl, VarKind};
+use smpl_terms::Var;
+use sqlite_items::Items;
+use std::alloc::Global;
+
+/// A token of a pattern: its number in the rule is its id. Beside it stand its place, the sign and the number of its
+/// line, and the positions behind it.
+#[derive(Drop)]
+pub struct Placed {
+    pub token: Token,
+    pub at: u32,
+    pub sign: u8,
+    pub line: u32,
+    pub positions: Items<Var>,
+}
+
+fn meta_of(found: Option<&VarDecl>) -> Option<MetaKind>
+    ensures { result ≡ told.meta_of (option_copied found.entry) }
+{
+    match found {
+        None => None,
+        Some(d) => match d.kind {
+            VarKind::Meta(kind) => Some(kind),
+            VarKind::Position => None,
+        },
+    }
+}
+
+fn declared_meta(vars: &[VarDecl], t: &PatchToken) -> Option<MetaKind>
+    ensures { result ≡ told.declared_meta vars.now t.now }
+{
+    if is_name(t) {
+        meta_of(var_named(vars, t.token.text.as_bytes()))
+    } else {
+        None
+    }
+}
+
+fn kind_by(meta: Option<MetaKind>, kind: TokenKind) -> TokenKind
+    ensures { result ≡ told.kind_by meta kind }
+{
+    match meta {
+        None => kind,
+        Some(meta) => TokenKind::Meta(meta),
+    }
+}
+
+/// The token with this id, a metavariable where its name is declared.
+pub fn made(alloc: Global, vars: &[VarDecl], id: u64, t: &PatchToken) -> Result<Token, NoMemory>
+    ensures { IfOk result (λ token. token ≡ told.made vars.now id t.now) }
+{
+    Ok(Token {
+        kind: kind_by(declared_meta(vars, t), t.token.kind),
+        text: t.token.text.copy(alloc)?,
+        id,
+    })
+}
+
+fn copied_position(alloc: Global, found: Option<&VarDecl>) -> Result<Option<Var>, NoMemory>
+    ensures { IfOk result (λ v. v ≡ told.position_of (option_copied found.entry)) }
+{
+    match found {
+        None => Ok(None),
+        Some(d) => match d.kind {
+            VarKind::Meta(_) => Ok(None),
+            VarKind::Position => Ok(Some(d.var.copy(alloc)?)),
+        },
+    }
+}
+
+fn declared_position(
+    alloc: Global,
+    vars: &[VarDecl],
+    t: &PatchToken,
+) -> Result<Option<Var>, NoMemory>
+    ensures { IfOk result (λ v. v ≡ told.declared_position vars.now t.now) }
+{
+    if is_name(t) {
+        copied_position(alloc, var_named(vars, t.token.text.as_bytes()))
+    } else {
+        Ok(None)
+    }
+}
+
+/// `@p` behind a token.
+fn at_position(
+    alloc: Global,
+    vars: &[VarDecl],
+    out: &[Placed],
+    t: &PatchToken,
+    n: &PatchToken,
+) -> Result<Option<Var>, NoMemory>
+    ensures { IfOk result (λ v. v ≡ told.at_position vars.now out.now t.now n.now) }
+{
+    match out {
+        [] => Ok(None),
+        [_, ..] => {
+            if is_at(t) {
+                declared_position(alloc, vars, n)
+            } else {
+                Ok(None)
+            }
+        }
+    }
+}
+
+/// The position stands behind the last token.
+fn with_position(out: Items<Placed>, v: Var) -> Result<Items<Placed>, NoMemory>
+    ensures { IfOk result (λ r. r ≡ told.with_position v out) }
+{
+    let mut out = out;
+    match out.pop() {
+        None => Ok(out),
+        Some(last) => {
+            let Placed {
+                token,
+                at,
+                sign,
+                line,
+                mut positions,
+            } = last;
+            positions.push(v)?;
+            out.push(Placed {
+                token,
+                at,
+                sign,
+                line,
+                positions,
+            })?;
+            Ok(out)
+        }
+    }
+}
+
+fn put(
+    alloc: Global,
+    vars: &[VarDecl],
+    sign: u8,
+    line: u32,
+    out: Items<Placed>,
+    t: &PatchToken,
+) -> Result<Items<Placed>, NoMemory>
+    ensures { IfOk result (λ r. r ≡ told.put vars.now sign line out t.now) }
+{
+    let mut out = out;
+    let token = made(alloc, vars, out.len() as u64, t)?;
+    out.push(Placed {
+        token,
+        at: t.at,
+        sign,
+        line,
+        positions: Items::new(alloc),
+    })?;
+    Ok(out)
+}
+
+/// The tokens so far, and how many tokens were taken for the last.
+#[derive(Drop)]
+struct Taken {
+    out: Items<Placed>,
+    width: usize,
+}
+
+fn put_two(
+    alloc: Global,
+    vars: &[VarDecl],
+    sign: u8,
+    line: u32,
+    out: Items<Placed>,
+    t: &PatchToken,
+    position: Option<Var>,
+) -> Result<Taken, NoMemory>
+    ensures out { IfOk result (λ r. r.out ≡ told.put_two vars.now sign line out t.now position) }
+    ensures width { IfOk result (λ r. r.width ≡ told.width_of position) }
+{
+    match position {
+        Some(v) => Ok(Taken {
+            out: with_position(out, v)?,
+            width: 2,
+        }),
+        None => Ok(Taken {
+            out: put(alloc, vars, sign, line, out, t)?,
+            width: 1,
+        }),
+    }
+}
+
+fn put_tokens(
+    alloc: Global,
+    vars: &[VarDecl],
+    sign: u8,
+    line: u32,
+    out: Items<Placed>,
+    tokens: &[PatchToken],
+) -> Result<Items<Placed>, NoMemory>
+    ensures { IfOk result (λ r. r ≡ told.put_tokens vars.now sign line out tokens.now) }
+{
+    let mut out = out;
+    let mut i = 0;
+    while i < tokens.len() {
+        if i + 1 < tokens.len() {
+            let t = &tokens[i];
+            let found = at_position(alloc, vars, out.as_slice(), t, &tokens[i + 1])?;
+            let taken = put_two(alloc, vars, sign, line, out, t, found)?;
+            out = taken.out;
+            i += taken.width;
+        } else {
+            out = put(alloc, vars, sign, line, out, &tokens[i])?;
+            i += 1;
+        }
+    }
+    Ok(out)
+}
+
+fn put_line(
+    alloc: Global,
+    vars: &[VarDecl],
+    line: u32,
+    out: Items<Placed>,
+    l: &BodyLine,
+) -> Result<Items<Placed>, NoMemory>
+    ensures { IfOk result (λ r. r ≡ told.put_line vars.now line out l.now) }
+{
+    if l.sign == b'+' {
+        return Ok(out);
+    }
+    put_tokens(alloc, vars, l.sign, line, out, l.tokens.as_slice())
+}
+
+/// The tokens of the patterns of a body, plus lines aside. Linear, but that each name is sought among the variables.
+pub fn pattern_tokens(
+    alloc: Global,
+    vars: &[VarDecl],
+    body: &[BodyLine],
+) -> Result<Items<Placed>, NoMemory>
+    requires { length body.now < 2 ^ 32 }
+    ensures { IfOk result (λ r. r ≡ told.pattern_tokens vars.now body.now) }
+{
+    let mut out = Items::new(alloc);
+    let mut line = 0u32;
+    for l in body {
+        out = put_line(alloc, vars, line, out, l)?;
+        line += 1;
+    }
+    Ok(out)
+}

@@ -1,0 +1,150 @@
+// Each call once with ample memory, and patches of which the outcome is known.
+use crate::{Placed, RuleHead, pattern_tokens, read_decls, read_header};
+use c_terms::{MetaKind, TokenKind};
+use smpl_lexer::{PatchText, lex_patch};
+use smpl_patch::{Dep, Mode, PatchFault, VarDecl, VarKind, fault_number, fault_place};
+use sqlite_items::Items;
+use std::alloc::Global;
+use std::test::Fail;
+
+fn head_of(
+    alloc: Global,
+    text: &PatchText,
+    rule: u32,
+    earlier: &[RuleHead],
+) -> Result<RuleHead, PatchFault> {
+    if (rule as usize) < text.rules.len() && earlier.len() == rule as usize {
+        read_header(alloc, text, rule, earlier)
+    } else {
+        Err(PatchFault::NoMemory)
+    }
+}
+
+fn heads_of(alloc: Global, patch: &str) -> Result<Vec<RuleHead>, PatchFault> {
+    let text = lex_patch(alloc, patch.as_bytes())?;
+    let mut heads = Vec::new(alloc);
+    for rule in 0..text.rules.len() {
+        heads.push(head_of(alloc, &text, rule as u32, heads.as_slice())?)?;
+    }
+    Ok(heads)
+}
+
+/// The number and the place of the first fault, zeros where there is none.
+fn fault_of(alloc: Global, patch: &str) -> (u8, u32) {
+    match heads_of(alloc, patch) {
+        Ok(_) => (0, 0),
+        Err(fault) => (fault_number(&fault), fault_place(&fault)),
+    }
+}
+
+fn is_declared(d: &VarDecl, name: &[u8], rule: u32, inherited: bool) -> bool {
+    d.var.name.as_bytes() == name && d.var.rule == rule && d.inherited == inherited
+}
+
+/// `!(v && ever r)`
+fn is_neither(d: &Dep) -> bool {
+    match d {
+        Dep::Not(d) => match d.get() {
+            Dep::Both(a, b) => matches!(a.get(), Dep::Defined(_))
+                && matches!(b.get(), Dep::Ever(0)),
+            _ => false,
+        },
+        _ => false,
+    }
+}
+
+fn placed(alloc: Global, patch: &str) -> Result<Items<Placed>, PatchFault> {
+    let text = lex_patch(alloc, patch.as_bytes())?;
+    match text.rules.as_slice() {
+        [rule] => {
+            let vars = declared(alloc, &text)?;
+            let body = rule.body.as_slice();
+            if body.len() > 1000 {
+                return Err(PatchFault::NoMemory);
+            }
+            Ok(pattern_tokens(alloc, vars.as_slice(), body)?)
+        }
+        _ => Err(PatchFault::NoMemory),
+    }
+}
+
+fn declared(alloc: Global, text: &PatchText) -> Result<Items<VarDecl>, PatchFault> {
+    match text.rules.as_slice() {
+        [rule, ..] => read_decls(alloc, rule.decls.as_slice(), 0, &[]),
+        [] => Err(PatchFault::NoMemory),
+    }
+}
+
+#[test]
+fn heads_have_names_conditions_modes_and_variables(rt: HostRuntime) -> Result<(), Fail> {
+    let heads = heads_of(
+        rt.alloc(),
+        "virtual v\n@r@\nexpression list x;\nposition p;\n@@\n f(x)@p\n@s depends on !(v && ever r)@\nexpression list r.x;\nidentifier f != {g, h};\nposition q != r.p;\n@@\n- f(x);\n",
+    )
+    .ok()
+    .ok_or("a fault")?;
+    match heads.as_slice() {
+        [first, second] => {
+            assert!(rt;
+                first.name.as_bytes() == b"r".as_slice() && matches!(first.depends, Dep::Always)
+            );
+            assert!(rt; matches!(first.mode, Mode::Exists) && matches!(second.mode, Mode::Forall));
+            assert!(rt; is_neither(&second.depends));
+            match second.vars.as_slice() {
+                [x, f, q] => {
+                    assert!(rt; is_declared(x, b"x", 0, true));
+                    assert!(rt; x.kind == VarKind::Meta(MetaKind::ExprList));
+                    assert!(rt; is_declared(f, b"f", 1, false));
+                    assert_eq!(rt; (f.not_names.len(), q.not_places.len()), (2, 1));
+                }
+                _ => panic!(rt; "not three variables"),
+            }
+        }
+        _ => panic!(rt; "not two rules"),
+    }
+    Ok(())
+}
+
+#[test]
+fn each_fault_stands_at_its_place(rt: HostRuntime) {
+    for (patch, wanted) in [
+        ("@@\nsymbol x, x;\n@@\nf();", (0, 0)),
+        ("@@\nexpression list;\n@@\nf();", (0, 0)),
+        ("@@\nexpression x\n@@\nf();", (4, 3)),
+        ("@@\nparameter x;\n@@\nf();", (4, 3)),
+        ("@@\nexpression if;\n@@\nf();", (4, 14)),
+        ("@@\nsymbol x;\nexpression x;\n@@\nf();", (5, 24)),
+        ("virtual r\n@r@\n@@\nf();", (5, 11)),
+        ("@r depends on s@\n@@\nf();", (6, 14)),
+        ("@@\nexpression r.x;\n@@\nf();", (6, 14)),
+        (
+            "@r@\nexpression x;\n@@\nf(x);\n@@\nconstant r.x;\n@@\nf();",
+            (7, 39),
+        ),
+        (
+            "@r@\nsymbol x;\n@@\nf(x);\n@@\nsymbol r.x;\n@@\nf();",
+            (6, 33),
+        ),
+    ] {
+        assert_eq!(rt; fault_of(rt.alloc(), patch), wanted, "{patch}");
+    }
+}
+
+#[test]
+fn positions_stand_behind_tokens(rt: HostRuntime) -> Result<(), Fail> {
+    let found = placed(
+        rt.alloc(),
+        "@@\nexpression x;\nposition p;\n@@\n- f(x)@p\n+ g();\n",
+    )
+    .ok()
+    .ok_or("a fault")?;
+    match found.as_slice() {
+        [f, _, x, close] => {
+            assert!(rt; f.token.kind == TokenKind::Name && f.sign == b'-');
+            assert!(rt; x.token.kind == TokenKind::Meta(MetaKind::Expr) && x.token.id == 2);
+            assert_eq!(rt; close.positions.len(), 1);
+        }
+        _ => panic!(rt; "not four tokens"),
+    }
+    Ok(())
+}

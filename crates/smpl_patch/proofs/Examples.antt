@@ -1,0 +1,121 @@
+-- The definitions at small values, above all where two readings differ.
+use Rattle.std.proofs.Common.{◌≡◌, ℕ, true, false, Some, [], ◌∷◌, refl, codes}
+use Rattle.c_terms.specs.declared.label.Label.TheVariants as label
+use Rattle.c_terms.specs.declared.token.TokenKind.TheVariants as token
+use Rattle.c_terms.specs.declared.token.MetaKind.TheVariants as meta
+use Rattle.c_terms.specs.declared.tree.Tree.{Tree}
+use Rattle.c_terms.specs.declared.tree.Tree.TheOpen.{Tree-F}
+use Rattle.smpl_terms.specs.declared.var.Var.{Var}
+use Rattle.smpl_patch.specs.declared.pattern.Spot.TheVariants as spot
+use Rattle.smpl_patch.specs.declared.pattern.Pattern.{Pattern}
+use Rattle.smpl_patch.specs.declared.pattern.VarKind.TheVariants as var_kind
+use Rattle.smpl_patch.specs.declared.pattern.VarDecl.{VarDecl}
+use Rattle.smpl_patch.specs.declared.fault.PatchFault.TheVariants as fault
+use Rattle.smpl_patch.specs.Held.{held_at}
+use Rattle.smpl_patch.specs.Patterns.{declared_as}
+use Rattle.smpl_patch.specs.Faults.{first_of}
+use Rattle.smpl_patch.specs.Bodies.{Element, Atom, Block, Gap, AnyOf, End, Then, NoMore, More}
+use Rattle.smpl_patch.specs.Shapes.{is_formed_body, lengths_body, patterns_body}
+use Rattle.smpl_patch.specs.Sound.{is_plus_token, is_gap, is_sound_decl}
+
+-- ---- what is compared
+
+-- of `if (c) s` all but s
+if_without_its_body : (form a b c d s : Tree) → held_at spot.Whole (Tree-F.Branch label.If (a ∷ b ∷ c ∷ d ∷ s ∷ [])) form ≡ a ∷ b ∷ c ∷ d ∷ []
+if_without_its_body form a b c d s = refl
+
+-- of `if (c) s else t` the `else` too
+else_is_own : (form a b c d s e t : Tree)
+    → held_at spot.Whole (Tree-F.Branch label.IfElse (a ∷ b ∷ c ∷ d ∷ s ∷ e ∷ t ∷ [])) form ≡ a ∷ b ∷ c ∷ d ∷ e ∷ []
+else_is_own form a b c d s e t = refl
+
+-- of `do s while (c);` the `do` at its head, and at its tail all from `while` on
+do_is_its_head : (form d s w a c b e : Tree) → held_at spot.Whole (Tree-F.Branch label.Do (d ∷ s ∷ w ∷ a ∷ c ∷ b ∷ e ∷ [])) form ≡ d ∷ []
+do_is_its_head form d s w a c b e = refl
+
+tail_of_do : (form d s w a c b e : Tree) → held_at spot.Tail (Tree-F.Branch label.Do (d ∷ s ∷ w ∷ a ∷ c ∷ b ∷ e ∷ [])) form ≡ w ∷ a ∷ c ∷ b ∷ e ∷ []
+tail_of_do form d s w a c b e = refl
+
+-- of what is no head, and of an expression, all
+call_is_whole : (form f a : Tree) → held_at spot.Whole (Tree-F.Branch label.Call (f ∷ a ∷ [])) form ≡ form ∷ []
+call_is_whole form f a = refl
+
+inside_is_whole : (form a s : Tree) → held_at spot.Inside (Tree-F.Branch label.If (a ∷ s ∷ [])) form ≡ form ∷ []
+inside_is_whole form a s = refl
+
+-- ---- declarations
+
+abbrev x : ℕ → Var
+x rule = record { rule = rule; name = codes "x" }
+
+abbrev as_expression : VarDecl
+as_expression = record { var = x 1; kind = var_kind.Meta meta.Expr; inherited = false; not_names = []; not_places = [] }
+
+abbrev as_position : VarDecl
+as_position = record { var = x 1; kind = var_kind.Position; inherited = false; not_names = []; not_places = [] }
+
+-- a position is no metavariable
+no_position : declared_as (as_position ∷ as_expression ∷ []) (codes "x") ≡ Some as_expression
+no_position = refl
+
+-- a variable of the second rule has that rule's number
+own_number : is_sound_decl [] as_expression ≡ false
+own_number = refl
+
+-- ---- faults
+
+-- the place counts before the number
+least_place : first_of (fault.BadToken 9 ∷ fault.UnknownRule 4 ∷ fault.TwiceNamed 9 ∷ []) ≡ Some (fault.UnknownRule 4)
+least_place = refl
+
+-- at one place the lesser number
+least_number : first_of (fault.UnknownRule 4 ∷ fault.TwiceNamed 4 ∷ fault.KindDiffers 4 ∷ []) ≡ Some (fault.TwiceNamed 4)
+least_number = refl
+
+-- ---- bodies
+
+abbrev dots : Element
+dots = Gap NoMore false false
+
+-- dots may be first in a block, and neither first in a body nor beside other dots
+first_in_block : (p : Pattern) → is_formed_body (Then (Block p (Then dots (Then (Atom p) End)) p) End) ≡ true
+first_in_block p = refl
+
+first_in_body : (p : Pattern) → is_formed_body (Then dots (Then (Atom p) End)) ≡ false
+first_in_body p = refl
+
+side_by_side : (p : Pattern) → is_formed_body (Then (Atom p) (Then dots (Then dots (Then (Atom p) End)))) ≡ false
+side_by_side p = refl
+
+one_branch : (p : Pattern) → is_formed_body (Then (AnyOf (More (Then (Atom p) End) NoMore)) End) ≡ false
+one_branch p = refl
+
+empty_branch : (p : Pattern) → is_formed_body (Then (AnyOf (More (Then (Atom p) End) (More End NoMore))) End) ≡ true
+empty_branch p = refl
+
+-- the patterns of `when` code are patterns of the rule
+when_code : (p q : Pattern) → patterns_body (Then (Atom p) (Then (Gap (More (Then (Atom q) End) NoMore) false false) (Then (Atom p) End))) ≡ p ∷ q ∷ p ∷ []
+when_code p q = refl
+
+-- of a block the sequence inside it, which has three members
+lengths_of_block : (p : Pattern) → lengths_body (Then (Block p (Then dots (Then (Atom p) (Then dots End))) p) End) ≡ 3 ∷ 0 ∷ 0 ∷ []
+lengths_of_block p = refl
+
+-- ---- plus code
+
+-- `if` is a keyword, and two tokens are no token
+keyword : is_plus_token [] token.Keyword (codes "if") ≡ true
+keyword = refl
+
+no_name : is_plus_token [] token.Name (codes "if") ≡ false
+no_name = refl
+
+two_tokens : is_plus_token [] token.Punct (codes ")(") ≡ false
+two_tokens = refl
+
+-- a comment is no gap
+blanks : is_gap (codes "  ") ≡ true
+blanks = refl
+
+comment : is_gap (codes " /**/") ≡ false
+comment = refl

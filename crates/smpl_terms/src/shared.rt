@@ -1,0 +1,156 @@
+// Values and lists that are allocated once and shared by their copies, and what can be copied.
+ghost use Rattle.std.specs.Prelude.{◌≡◌, [], IfOk};
+
+use c_terms::NoMemory;
+use std::alloc::Global;
+use std::marker::Model;
+use std::sync::Arc;
+
+/// Data of which an equal copy can be made.
+pub trait Copied {
+    /// An equal value, ids included.
+    fn copied(&self, alloc: Global) -> Result<Self, NoMemory>
+        ensures same { IfOk result (λ r. r ≡ self.now) };
+}
+
+/// A value that is allocated once, and shared by its copies. Contracts see the value.
+#[derive(Drop)]
+pub struct Shared<T> {
+    inner: Arc<T>,
+}
+
+impl<T> Model for Shared<T> {
+    ghost Value = { T };
+
+    ghost coded = { T.code };
+
+    ghost view = { λ s. s.inner.value };
+}
+
+impl<T: Drop> Shared<T> {
+    /// Moves the value to where its copies share it. Takes memory for it and a count of owners.
+    pub fn of(alloc: Global, value: T) -> Result<Shared<T>, NoMemory>
+        ensures value { IfOk result (λ r. r ≡ value) }
+    {
+        Ok(Shared {
+            inner: Arc::new(alloc, value)?,
+        })
+    }
+
+    /// The value. Takes no memory.
+    pub fn get(&self) -> &T
+        ensures value { result.now ≡ self.now }
+    {
+        &self.inner
+    }
+
+    /// One more owner of the value. Takes no memory.
+    pub fn share(&self) -> Result<Shared<T>, NoMemory>
+        ensures same { IfOk result (λ r. r ≡ self.now) }
+    {
+        Ok(Shared {
+            inner: self.inner.clone()?,
+        })
+    }
+}
+
+/// A list that is allocated once, and shared by its copies. Contracts see the list.
+#[derive(Drop)]
+pub struct SharedList<T> {
+    items: Option<Arc<Vec<T>>>,
+}
+
+impl<T> Model for SharedList<T> {
+    ghost use Rattle.std.specs.Prelude.{List};
+    ghost use Rattle.std.specs.Coded.{coded_list};
+    ghost use Rattle.smpl_terms.specs.Lists.{items_of};
+
+    ghost Value = { List T };
+
+    ghost coded = { coded_list T.code };
+
+    ghost view = { λ s. items_of s.items };
+}
+
+impl<T: Drop> SharedList<T> {
+    /// No items. Takes no memory.
+    pub fn empty() -> SharedList<T>
+        ensures items { result ≡ [] }
+    {
+        SharedList { items: None }
+    }
+
+    /// Moves the items to where their copies share them. Takes memory for one count of owners.
+    pub fn of(alloc: Global, items: Vec<T>) -> Result<SharedList<T>, NoMemory>
+        ensures items { IfOk result (λ r. r ≡ items.items) }
+    {
+        Ok(SharedList {
+            items: Some(Arc::new(alloc, items)?),
+        })
+    }
+
+    /// The items. Takes no memory.
+    pub fn as_slice(&self) -> &[T]
+        ensures items { result.now ≡ self.now }
+    {
+        match &self.items {
+            None => &[],
+            Some(items) => items.as_slice(),
+        }
+    }
+
+    /// One more owner of the list. Takes no memory.
+    pub fn share(&self) -> Result<SharedList<T>, NoMemory>
+        ensures same { IfOk result (λ r. r ≡ self.now) }
+    {
+        let items = match &self.items {
+            None => None,
+            Some(items) => Some(items.clone()?),
+        };
+        Ok(SharedList { items })
+    }
+}
+
+impl<T: Drop + Copied> SharedList<T> {
+    /// The items as a `Vec`: moved where this is the only owner, and else each copied.
+    pub fn into_vec(self, alloc: Global) -> Result<Vec<T>, NoMemory>
+        ensures items { IfOk result (λ r. r.items ≡ self) }
+    {
+        match self.items {
+            None => Ok(Vec::new(alloc)),
+            Some(items) => match Arc::try_unwrap(items) {
+                Ok(items) => Ok(items),
+                Err(shared) => copied_items(alloc, shared.as_slice()),
+            },
+        }
+    }
+}
+
+impl<T: Drop> Copied for Shared<T> {
+    fn copied(&self, _alloc: Global) -> Result<Shared<T>, NoMemory> {
+        self.share()
+    }
+}
+
+impl<T: Drop> Copied for SharedList<T> {
+    fn copied(&self, _alloc: Global) -> Result<SharedList<T>, NoMemory> {
+        self.share()
+    }
+}
+
+/// Equal items, in their order.
+pub fn copied_items<T: Drop + Copied>(alloc: Global, items: &[T]) -> Result<Vec<T>, NoMemory>
+    ensures { IfOk result (λ r. r.items ≡ items.now) }
+{
+    let mut copies = Vec::with_capacity(alloc, items.len())?;
+    for item in items {
+        copies.push(item.copied(alloc)?)?;
+    }
+    Ok(copies)
+}
+
+impl<A: Drop + Copied, B: Drop + Copied> Copied for (A, B) {
+    fn copied(&self, alloc: Global) -> Result<(A, B), NoMemory> {
+        Ok((self.0.copied(alloc)?, self.1.copied(alloc)?))
+    }
+}

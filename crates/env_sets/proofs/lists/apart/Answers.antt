@@ -14,13 +14,3 @@ pub loop-v-preserved-else-not-have : goal.loop-v-preserved-else-not-have
 loop-v-preserved-else-not-have c = λ z.
     value_dropped (λ y. not (list_any (λ w. same w y) c.args.ws.now)) c.loop-v.kept.items c.loop-v.yielded c.in-Some.v z
     (λ s. ap not (any_same-along c.in-Some.v z s c.args.ws.now)) (ap not (sym c.if-not-have.ensures.value)) (c.loop-v.invariant z)
-
-pub loop-v-preserved-else-not-have-2 : goal.loop-v-preserved-else-not-have-2
-loop-v-preserved-else-not-have-2 c = λ z.
-    value_dropped (λ y. not (list_any (λ w. same w y) c.args.ws.now)) c.loop-v.kept.items c.loop-v.yielded c.in-Some.v z
-    (λ s. ap not (any_same-along c.in-Some.v z s c.args.ws.now)) (ap not (sym c.if-not-have.ensures.value)) (c.loop-v.invariant z)
-
-pub loop-v-preserved-else-not-have-3 : goal.loop-v-preserved-else-not-have-3
-loop-v-preserved-else-not-have-3 c = λ z.
-    value_dropped (λ y. not (list_any (λ w. same w y) c.args.ws.now)) c.loop-v.kept.items c.loop-v.yielded c.in-Some.v z
-    (λ s. ap not (any_same-along c.in-Some.v z s c.args.ws.now)) (ap not (sym c.if-not-have.ensures.value)) (c.loop-v.invariant z)

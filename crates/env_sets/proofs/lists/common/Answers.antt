@@ -14,13 +14,3 @@ pub loop-v-preserved-else-have : goal.loop-v-preserved-else-have
 loop-v-preserved-else-have c = λ z.
     value_dropped (λ y. list_any (λ w. same w y) c.args.ws.now) c.loop-v.kept.items c.loop-v.yielded c.in-Some.v z
     (λ s. any_same-along c.in-Some.v z s c.args.ws.now) (sym c.have.ensures.value ∙ c.if-have.false) (c.loop-v.invariant z)
-
-pub loop-v-preserved-else-have-2 : goal.loop-v-preserved-else-have-2
-loop-v-preserved-else-have-2 c = λ z.
-    value_dropped (λ y. list_any (λ w. same w y) c.args.ws.now) c.loop-v.kept.items c.loop-v.yielded c.in-Some.v z
-    (λ s. any_same-along c.in-Some.v z s c.args.ws.now) (sym c.have.ensures.value ∙ c.if-have.false) (c.loop-v.invariant z)
-
-pub loop-v-preserved-else-have-3 : goal.loop-v-preserved-else-have-3
-loop-v-preserved-else-have-3 c = λ z.
-    value_dropped (λ y. list_any (λ w. same w y) c.args.ws.now) c.loop-v.kept.items c.loop-v.yielded c.in-Some.v z
-    (λ s. any_same-along c.in-Some.v z s c.args.ws.now) (sym c.have.ensures.value ∙ c.if-have.false) (c.loop-v.invariant z)

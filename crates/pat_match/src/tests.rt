@@ -99,8 +99,9 @@ fn is_two_one(path: &TreePath) -> bool {
     }
 }
 
-/// Whether the set of a pattern with one form has `E` as this value, whether all paths begin with that of the node, and
-/// the longest of them.
+/// What was found: whether the set has `E` as the value, whether all paths begin as that of the node does, the longest of
+/// them, and how many there are.
+#[derive(Drop)]
 struct Found {
     fits: bool,
     begin_alike: bool,
@@ -178,7 +179,8 @@ fn calls_inside_a_sum(rt: HostRuntime) -> Result<(), Fail> {
     let found = asked(alloc, Spot::Inside, form, &tree, name(alloc, b"b", 7)?)?;
     assert!(rt; found.fits && found.begin_alike);
     assert_eq!(rt; found.count, 1);
-    assert_eq!(rt; found.deepest.as_slice(), &[2, 1, 0, 2, 2]);
+    let path: [u32; 5] = [2, 1, 0, 2, 2];
+    assert_eq!(rt; found.deepest.as_slice(), path.as_slice());
     Ok(())
 }
 
@@ -201,7 +203,8 @@ fn a_call_in_a_call(rt: HostRuntime) -> Result<(), Fail> {
     let form = call_of(alloc, meta(alloc)?)?;
     let found = asked(alloc, Spot::Inside, form, &tree, name(alloc, b"x", 7)?)?;
     assert!(rt; found.fits);
-    assert_eq!(rt; found.deepest.as_slice(), &[2, 1, 0, 2, 0]);
+    let path: [u32; 5] = [2, 1, 0, 2, 0];
+    assert_eq!(rt; found.deepest.as_slice(), path.as_slice());
     Ok(())
 }
 
@@ -253,7 +256,8 @@ fn whole_statements(rt: HostRuntime) -> Result<(), Fail> {
     let value = leaf(alloc, TokenKind::Number, b"1", 7)?;
     let found = asked(alloc, Spot::Whole, form, &tree, value)?;
     assert!(rt; found.fits);
-    assert_eq!(rt; found.deepest.as_slice(), &[2, 1]);
+    let path: [u32; 2] = [2, 1];
+    assert_eq!(rt; found.deepest.as_slice(), path.as_slice());
     let plain = statement(
         alloc,
         call_of(alloc, leaf(alloc, TokenKind::Number, b"1", 105)?)?,

@@ -1,0 +1,73 @@
+-- When a pattern matches at a node, and where: the first of its forms that fits a subtree there.
+use Rattle.std.specs.Prelude.{ℕ, suc, Bool, true, false, ◌&&◌, ◌||◌, not, cond, Option, Some, None, List, [], ◌∷◌, ◌++◌, map, length, slice_get, if◌then◌else◌}
+use Rattle.std.specs.List.{list_any, list_all}
+use Rattle.c_terms.specs.declared.token.Token.{Token}
+use Rattle.c_terms.specs.declared.token.TokenKind.{TokenKind}
+use Rattle.c_terms.specs.declared.token.TokenKind.TheVariants as token_kind
+use Rattle.c_terms.specs.declared.tree.Tree.{Tree}
+use Rattle.c_terms.specs.Trees.{leaves}
+use Rattle.c_terms.specs.Places.{subtree}
+use Rattle.cfg_graph.specs.declared.label.NodeKind.{NodeKind}
+use Rattle.cfg_graph.specs.declared.label.NodeLabel.{NodeLabel}
+use Rattle.smpl_terms.specs.declared.var.Var.{Var}
+use Rattle.smpl_patch.specs.declared.pattern.VarDecl.{VarDecl}
+use Rattle.smpl_patch.specs.declared.pattern.PatToken.{PatToken}
+use Rattle.smpl_patch.specs.declared.pattern.Spot.{Spot}
+use Rattle.smpl_patch.specs.declared.pattern.Pattern.{Pattern}
+use Rattle.smpl_patch.specs.Patterns.{declared_as, held_sure, in_first}
+use Rattle.smpl_terms.specs.Environments.{Environment}
+use Rattle.pat_match.specs.declared.matching.Alignment.{Alignment}
+use Rattle.pat_match.specs.Spots.{seats, fits_at, option_fits}
+
+abbrev pub var_passes : (Var → Bool) → Option VarDecl → Bool
+var_passes test None = true
+var_passes test (Some d) = test d.var
+
+abbrev pub positions_pass : (Var → Bool) → Option PatToken → Bool
+positions_pass test None = true
+positions_pass test (Some p) = list_all test p.positions
+
+-- the number of the first that passes, counted from n
+abbrev pub first_from : ℕ → (Tree → Bool) → List Tree → Option ℕ
+first_from n test [] = None
+first_from n test (f ∷ fs) = cond (test f) (Some n) (first_from (suc n) test fs)
+
+abbrev pub put_form : List ℕ → Option ℕ → List Alignment
+put_form path None = []
+put_form path (Some i) = record { path = path; form = i } ∷ []
+
+module _ (decls : List VarDecl) where
+  abbrev pub meta_passes : (Var → Bool) → TokenKind → Token → Bool
+  meta_passes test (token_kind.Meta k) a = var_passes test (declared_as decls a.text)
+  meta_passes test _ a = true
+
+module _ (decls : List VarDecl) (tokens : List PatToken) where
+  abbrev pub token_passes : (Var → Bool) → Token → Bool
+  token_passes test a = meta_passes decls test a.kind a && positions_pass test (slice_get tokens a.id)
+
+  -- the form has every sure variable of the first
+  abbrev pub is_live : Spot → Tree → Tree → Bool
+  is_live s first form = list_all (token_passes (λ x. not (held_sure decls tokens s x first) || held_sure decls tokens s x form)) (leaves first)
+
+  abbrev pub is_live_in : Pattern → Tree → Bool
+  is_live_in p form = in_first (λ first. is_live p.spot first form) p.forms
+
+module _ (decls : List VarDecl) (tokens : List PatToken) (env : Environment) where
+  -- the form has the first form's sure variables, and fits the subtree at the path
+  abbrev pub fits_seat : Pattern → NodeKind → Tree → Tree → List ℕ → Bool
+  fits_seat p k t form path = is_live_in decls tokens p form && option_fits (fits_at decls tokens env p.spot k form) (subtree t path)
+
+  -- The pattern matches at the node: some form fits some subtree.
+  abbrev pub matches : Pattern → NodeLabel → Bool
+  matches p n = list_any (λ f. list_any (fits_seat p n.kind n.tree f) (seats p.spot n.kind n.tree)) p.forms
+
+  abbrev pub form_at : Pattern → NodeKind → Tree → List ℕ → Option ℕ
+  form_at p k t path = first_from 0 (λ f. fits_seat p k t f path) p.forms
+
+  abbrev pub aligned_at : Pattern → NodeKind → Tree → List ℕ → List (List ℕ) → List Alignment
+  aligned_at p k t above [] = []
+  aligned_at p k t above (path ∷ paths) = put_form (above ++ path) (form_at p k t path) ++ aligned_at p k t above paths
+
+  -- each subtree that matches, by place, with its first form that does
+  abbrev pub aligns : Pattern → NodeLabel → List Alignment
+  aligns p n = aligned_at p n.kind n.tree n.path (seats p.spot n.kind n.tree)

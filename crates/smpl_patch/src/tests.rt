@@ -114,7 +114,8 @@ fn only_the_own_tokens_of_a_head_hold_variables(rt: HostRuntime) -> Result<(), N
     let decls = declarations(alloc)?;
     let (x, y) = (variable(alloc, "x")?, variable(alloc, "y")?);
     let head = pattern(alloc, Spot::Whole, conditional(alloc)?)?;
-    let (decls, none) = (decls.as_slice(), &[]);
+    let none: Vec<PatToken> = Vec::new(alloc);
+    let (decls, none) = (decls.as_slice(), none.as_slice());
     assert!(rt; stands(decls, none, &head, &x) && is_sure(decls, none, &head, &x));
     assert!(rt; !stands(decls, none, &head, &y) && !is_sure(decls, none, &head, &y));
     assert!(rt; !used(decls, none, &head, &y) && !is_statement(&head));

@@ -29,8 +29,9 @@ fn a_name_in_brackets_is_declared(rt: HostRuntime) -> Result<(), Fail> {
         (TokenKind::Punct, ";"),
     ];
     let tokens = tokens_of(alloc, &words)?;
-    let whole = parse_decl(alloc, &tokens, &names, 0, 5);
+    let whole = parse_decl(alloc, &tokens, &names, 0, tokens.len());
     assert!(rt; matches!(whole, Ok(Tree::Branch(Label::Decl, _))));
-    assert!(rt; parse_decl(alloc, &tokens, &names, 0, 4).is_err());
+    let cut = tokens_of(alloc, &words[..4])?;
+    assert!(rt; parse_decl(alloc, &cut, &names, 0, cut.len()).is_err());
     Ok(())
 }

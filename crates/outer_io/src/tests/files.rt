@@ -238,7 +238,7 @@ fn a_store_of_which_a_call_fails_loses_nothing(rt: HostRuntime) -> Result<(), Fa
                     assert!(rt; is_done);
                     break;
                 }
-                failed += u64::from(!is_done);
+                failed = failed.saturating_add(u64::from(!is_done));
             }
             // It may go on only where an owner can't be given, or, where it isn't allowed to, no new file.
             assert!(rt; failed >= 5, "{failed} calls");

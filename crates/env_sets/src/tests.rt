@@ -6,8 +6,6 @@ use c_terms::{NoMemory, Text, Token, TokenKind, Tree};
 use smpl_terms::{Env, Value, Var};
 use std::alloc::Global;
 use std::test::Fail;
-use std::thread;
-use std::thread::Threads;
 
 fn var(alloc: Global, name: &str) -> Result<Var, Fail> {
     Ok(Var {
@@ -158,31 +156,6 @@ fn variables_are_freed_and_given(rt: HostRuntime) -> Result<(), Fail> {
     Ok(())
 }
 
-#[test]
-fn sets_cross_threads(rt: HostRuntime) -> Result<(), Fail> {
-    let alloc = rt.alloc();
-    let one = is(alloc, "x", "1")?;
-    let env = env(alloc, "1", "2")?;
-    let (known, count) = thread::join(&rt, || says(&one, &env), || size(&one));
-    assert!(rt; known && count == 1);
-    Ok(())
-}
-
-/// Lets the set go, and tells its size.
-fn last_size(a: EnvSet) -> usize {
-    size(&a)
-}
-
-#[test]
-fn shared_entries_are_let_go_in_two_threads(rt: HostRuntime) -> Result<(), Fail> {
-    let alloc = rt.alloc();
-    let one = excludes_two(alloc, "x", "1", "2")?;
-    let (first, second) = (copied(alloc, &one)?, copied(alloc, &one)?);
-    let (first, second) = thread::join(&rt, move || last_size(first), move || last_size(second));
-    assert!(rt; first == 1 && second == 1 && last_size(one) == 1);
-    Ok(())
-}
-
 fn are_same(a: &EnvSet, b: &EnvSet) -> bool {
     same_set(a, b)
 }
@@ -225,28 +198,6 @@ fn sets_are_told_apart(rt: HostRuntime) -> Result<(), Fail> {
     assert!(rt; is_everything(&everything(alloc)?) && !is_everything(&one));
     assert!(rt; !is_everything(&EnvSet::none(alloc)));
     Ok(())
-}
-
-#[test]
-fn sets_come_from_threads(rt: HostRuntime) -> Result<(), Fail> {
-    let alloc = rt.alloc();
-    let x = var(alloc, "x")?;
-    let place = Value::Place(1);
-    let (one, env) = thread::join(
-        &rt,
-        || placed_set(alloc, &x, 1),
-        || placed_env(alloc, &x, &place),
-    );
-    assert!(rt; says(&one?, &env?));
-    Ok(())
-}
-
-fn placed_set(alloc: Global, x: &Var, at: u64) -> Result<EnvSet, NoMemory> {
-    EnvSet::one(alloc, x, Bound::Is(Value::Place(at)))
-}
-
-fn placed_env(alloc: Global, x: &Var, value: &Value) -> Result<Env, NoMemory> {
-    Env::empty(alloc).with(alloc, x, value)
 }
 
 /// The numbers as terms.
@@ -313,12 +264,12 @@ fn entries_are_narrowed_and_freed(rt: HostRuntime) -> Result<(), Fail> {
     Ok(())
 }
 
-/// The sizes of two sets, read by two threads.
-fn sizes_at(rt: &impl Threads, states: &StateSets) -> (usize, usize)
+/// The sizes of two sets.
+fn sizes_at(states: &StateSets) -> (usize, usize)
     requires row { 0 < length states.now }
     requires sets { 1 < length (slice_index_or states.now 0 []) }
 {
-    thread::join(rt, || size(states.at(0, 0)), || size(states.at(0, 1)))
+    (size(states.at(0, 0)), size(states.at(0, 1)))
 }
 
 fn width(row: &StateRow) -> usize {
@@ -326,7 +277,7 @@ fn width(row: &StateRow) -> usize {
 }
 
 /// The width of a row of no entry and one, and the sizes of its sets.
-fn sizes_of_a_row(rt: &impl Threads, alloc: Global) -> Result<[usize; 3], Fail> {
+fn sizes_of_a_row(alloc: Global) -> Result<[usize; 3], Fail> {
     let mut sets = Vec::new(alloc);
     sets.push(EnvSet::none(alloc))?;
     sets.push(everything(alloc)?)?;
@@ -335,13 +286,13 @@ fn sizes_of_a_row(rt: &impl Threads, alloc: Global) -> Result<[usize; 3], Fail> 
     let mut rows = Vec::new(alloc);
     rows.push(row.copy()?)?;
     let states = StateSets::new(rows);
-    let (first, second) = sizes_at(rt, &states);
+    let (first, second) = sizes_at(&states);
     Ok([width, first, second])
 }
 
 #[test]
 fn sets_stand_at_their_places(rt: HostRuntime) -> Result<(), Fail> {
-    let [width, first, second] = sizes_of_a_row(&rt, rt.alloc())?;
+    let [width, first, second] = sizes_of_a_row(rt.alloc())?;
     assert!(rt; width == 2 && first == 0 && second == 1);
     Ok(())
 }

@@ -23,8 +23,10 @@ fn head_of(
 fn heads_of(alloc: Global, patch: &str) -> Result<Vec<RuleHead>, PatchFault> {
     let text = lex_patch(alloc, patch.as_bytes())?;
     let mut heads = Vec::new(alloc);
-    for rule in 0..text.rules.len() {
-        heads.push(head_of(alloc, &text, rule as u32, heads.as_slice())?)?;
+    let mut rule = 0u32;
+    for _ in 0..text.rules.len() {
+        heads.push(head_of(alloc, &text, rule, heads.as_slice())?)?;
+        rule = rule.saturating_add(1);
     }
     Ok(heads)
 }

@@ -1,0 +1,13 @@
+-- What public contracts rest on, in reading order.
+-- plain formulas, how large they are, and the limits
+pub mod Plain
+-- which variables have a value of the graph wherever a formula holds, and wherever it doesn't
+pub mod Bounds
+-- tables of nodes, and what formula each part is
+pub mod Tables
+-- formulas of rules: guarded, and within the limits
+pub mod Formulas
+-- what a part says of one variable
+pub mod Binding
+-- sizes and depths as a table counts them
+pub mod Counted

@@ -1,0 +1,125 @@
+// The nodes of formulas.
+ghost use Rattle.std.specs.Prelude.{◌≡◌, IsTrue, IfOk};
+
+use c_terms::NoMemory;
+use smpl_patch::{Pattern, is_equal_pattern};
+use smpl_terms::{Var, same_var};
+use std::alloc::Global;
+
+/// A formula over the nodes of a graph, whose parts are named by their numbers in a table.
+#[derive(Drop)]
+pub enum Node {
+    /// It holds everywhere.
+    True,
+    /// The pattern matches at the node.
+    Atom(Pattern),
+    /// The node begins a body that leaves the function.
+    Bail,
+    /// The node is the exit.
+    Exit,
+    /// The pattern matches at an opening brace, and the variable is its place.
+    BraceOpen(Pattern, Var),
+    /// The pattern matches at a closing brace, and the variable is the place of its `{`.
+    BraceClose(Pattern, Var),
+    /// `not f`
+    Not(usize),
+    /// `f and g`
+    And(usize, usize),
+    /// `f or g`
+    Or(usize, usize),
+    /// `f` at every next node.
+    AX(usize),
+    /// `f` at some next node.
+    EX(usize),
+    /// `A[f U g]`: every walk comes to `g`, through nodes with `f`.
+    AU(usize, usize),
+    /// `E[f U g]`: some walk comes to `g`, through nodes with `f`.
+    EU(usize, usize),
+    /// `f` at the node past the statement.
+    Past(usize),
+    /// `f` at the node's body of this number.
+    Down(usize, usize),
+    /// `f` under some value of the variable.
+    Exists(Var, usize),
+}
+
+impl Node {
+    /// An equal node, ids included.
+    pub fn copy(&self, alloc: Global) -> Result<Node, NoMemory>
+        ensures same { IfOk result (λ copied. copied ≡ self.now) }
+    {
+        match self {
+            Node::True => Ok(Node::True),
+            Node::Atom(p) => Ok(Node::Atom(p.copy(alloc)?)),
+            Node::Bail => Ok(Node::Bail),
+            Node::Exit => Ok(Node::Exit),
+            Node::BraceOpen(p, b) => Ok(Node::BraceOpen(p.copy(alloc)?, b.copy(alloc)?)),
+            Node::BraceClose(p, b) => Ok(Node::BraceClose(p.copy(alloc)?, b.copy(alloc)?)),
+            Node::Not(f) => Ok(Node::Not(*f)),
+            Node::And(f, g) => Ok(Node::And(*f, *g)),
+            Node::Or(f, g) => Ok(Node::Or(*f, *g)),
+            Node::AX(f) => Ok(Node::AX(*f)),
+            Node::EX(f) => Ok(Node::EX(*f)),
+            Node::AU(f, g) => Ok(Node::AU(*f, *g)),
+            Node::EU(f, g) => Ok(Node::EU(*f, *g)),
+            Node::Past(f) => Ok(Node::Past(*f)),
+            Node::Down(i, f) => Ok(Node::Down(*i, *f)),
+            Node::Exists(x, f) => Ok(Node::Exists(x.copy(alloc)?, *f)),
+        }
+    }
+}
+
+/// Whether the two are equal, ids included; what is called equal is so. Takes no memory.
+pub fn is_equal_node(a: &Node, b: &Node) -> bool
+    ensures { IsTrue result → a.now ≡ b.now }
+{
+    match (a, b) {
+        (Node::True, Node::True) => true,
+        (Node::Bail, Node::Bail) => true,
+        (Node::Exit, Node::Exit) => true,
+        (Node::Atom(p), Node::Atom(q)) => is_equal_pattern(p, q),
+        (Node::BraceOpen(p, x), Node::BraceOpen(q, y)) => is_equal_var(x, y)
+            && is_equal_pattern(p, q),
+        (Node::BraceClose(p, x), Node::BraceClose(q, y)) => is_equal_var(x, y)
+            && is_equal_pattern(p, q),
+        (Node::Not(f), Node::Not(g)) => f == g,
+        (Node::And(f, h), Node::And(g, k)) => f == g && h == k,
+        (Node::Or(f, h), Node::Or(g, k)) => f == g && h == k,
+        (Node::AX(f), Node::AX(g)) => f == g,
+        (Node::EX(f), Node::EX(g)) => f == g,
+        (Node::AU(f, h), Node::AU(g, k)) => f == g && h == k,
+        (Node::EU(f, h), Node::EU(g, k)) => f == g && h == k,
+        (Node::Past(f), Node::Past(g)) => f == g,
+        (Node::Down(i, f), Node::Down(j, g)) => i == j && f == g,
+        (Node::Exists(x, f), Node::Exists(y, g)) => f == g && is_equal_var(x, y),
+        _ => false,
+    }
+}
+
+fn is_equal_var(x: &Var, y: &Var) -> bool
+    ensures { IsTrue result → x.now ≡ y.now }
+{
+    same_var(x, y)
+}
+
+/// Where a table looks for an equal node. Equal nodes have equal keys.
+pub fn key(node: &Node) -> (u8, usize, usize) {
+    match node {
+        Node::True => (0, 0, 0),
+        Node::Atom(p) => (1, p.atom as usize, 0),
+        Node::Bail => (2, 0, 0),
+        Node::Exit => (3, 0, 0),
+        Node::BraceOpen(p, _) => (4, p.atom as usize, 0),
+        Node::BraceClose(p, _) => (5, p.atom as usize, 0),
+        Node::Not(f) => (6, *f, 0),
+        Node::And(f, g) => (7, *f, *g),
+        Node::Or(f, g) => (8, *f, *g),
+        Node::AX(f) => (9, *f, 0),
+        Node::EX(f) => (10, *f, 0),
+        Node::AU(f, g) => (11, *f, *g),
+        Node::EU(f, g) => (12, *f, *g),
+        Node::Past(f) => (13, *f, 0),
+        Node::Down(i, f) => (14, *f, *i),
+        Node::Exists(x, f) => (15, *f, x.rule as usize),
+    }
+}

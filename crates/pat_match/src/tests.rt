@@ -157,6 +157,9 @@ fn asked(
     let decls = declared(alloc)?;
     let tokens: Vec<PatToken> = Vec::new(alloc);
     let env = Env::empty(alloc).with(alloc, &variable(alloc)?, &Value::term(alloc, value)?)?;
+    if p.forms.len() > 1 {
+        return Err(NoMemory);
+    }
     let set = solve(alloc, &p, &decls, &tokens, &node)?;
     let found = align(alloc, &p, &decls, &tokens, &node, &env)?;
     seen(alloc, denotes(&set, &env), found.as_slice())

@@ -2,6 +2,8 @@
 // interrupted or fail.
 mod failing_files;
 mod files;
+mod place;
+mod trouble;
 
 use crate::files::read_whole;
 use crate::*;
@@ -9,7 +11,6 @@ use c_terms::Text;
 use std::alloc::Global;
 use std::io;
 use std::io::{Error, ErrorKind, Read, Write};
-use std::process::Abort;
 use std::test::Fail;
 
 /// Takes a few bytes at a time, is interrupted before each time, and fails once it has taken so many.
@@ -94,25 +95,42 @@ fn entries(alloc: Global) -> Result<Vec<(Text, Vec<u8>)>, Fail> {
     Ok(entries)
 }
 
+/// Whether a load gives these bytes.
+fn gives<S: Loads>(shelf: &mut S, name: &str, limit: u64, wanted: &[u8]) -> bool {
+    match shelf.load(name, limit) {
+        Ok(bytes) => bytes.as_slice() == wanted,
+        Err(_) => false,
+    }
+}
+
+fn fault_of_load<S: Loads>(shelf: &mut S, name: &str, limit: u64) -> Option<ShelfFault> {
+    shelf.load(name, limit).err()
+}
+
+fn fault_of_store<S: Shelf>(shelf: &mut S, name: &str, bytes: &[u8]) -> Option<ShelfFault> {
+    shelf.store(name, bytes).err()
+}
+
+fn fault_of_put<S: Sink>(sink: &mut S, bytes: &[u8]) -> Option<PutFault> {
+    sink.put(bytes).err()
+}
+
 #[test]
 fn calm_shelf_keeps_each_name(rt: HostRuntime) -> Result<(), Fail> {
     let mut shelf = CalmShelf::new(entries(rt.alloc())?)?;
+    assert!(rt; gives(&mut shelf, "a.c", 4, b"a();"));
     assert_eq!(rt;
-        shelf.load("a.c", 4).expect(&rt, "a.c").as_slice(),
-        b"a();".as_slice()
-    );
-    assert!(rt; matches!(shelf.load("a.c", 3), Err(ShelfFault::TooLong)));
-    assert!(rt; matches!(shelf.load("c.c", 9), Err(ShelfFault::Absent)));
-    shelf.store("b.c", b"new").expect(&rt, "b.c");
-    assert_eq!(rt;
-        shelf.bytes_of(b"b.c").expect(&rt, "b.c"),
-        b"new".as_slice()
+        fault_of_load(&mut shelf, "a.c", 3),
+        Some(ShelfFault::TooLong)
     );
     assert_eq!(rt;
-        shelf.bytes_of(b"a.c").expect(&rt, "a.c"),
-        b"a();".as_slice()
+        fault_of_load(&mut shelf, "c.c", 9),
+        Some(ShelfFault::Absent)
     );
-    assert!(rt; shelf.bytes_of(b"c.c").is_none());
+    assert_eq!(rt; fault_of_store(&mut shelf, "b.c", b"new"), None);
+    assert_eq!(rt; shelf.bytes_of(b"a.c"), Some(b"a();".as_slice()));
+    assert_eq!(rt; shelf.bytes_of(b"b.c"), Some(b"new".as_slice()));
+    assert_eq!(rt; shelf.bytes_of(b"c.c"), None);
     assert_eq!(rt; (shelf.calls(), shelf.stores()), (4, 1));
     Ok(())
 }
@@ -121,95 +139,100 @@ fn calm_shelf_keeps_each_name(rt: HostRuntime) -> Result<(), Fail> {
 fn mem_shelf_fails_at_its_numbers(rt: HostRuntime) -> Result<(), Fail> {
     let fail = [1, 2].to_vec(rt.alloc())?;
     let mut shelf = MemShelf::new(entries(rt.alloc())?, fail)?;
+    assert!(rt; gives(&mut shelf, "a.c", 4, b"a();"));
     assert_eq!(rt;
-        shelf.load("a.c", 4).expect(&rt, "call 0").as_slice(),
-        b"a();".as_slice()
+        fault_of_load(&mut shelf, "a.c", 4),
+        Some(ShelfFault::Failed)
     );
-    assert!(rt; matches!(shelf.load("a.c", 4), Err(ShelfFault::Failed)));
-    assert!(rt; matches!(shelf.store("a.c", b"new"), Err(ShelfFault::Failed)));
     assert_eq!(rt;
-        shelf.bytes_of(b"a.c").expect(&rt, "a.c"),
-        b"a();".as_slice()
+        fault_of_store(&mut shelf, "a.c", b"new"),
+        Some(ShelfFault::Failed)
     );
-    shelf.store("a.c", b"new").expect(&rt, "call 3");
-    assert_eq!(rt;
-        shelf.bytes_of(b"a.c").expect(&rt, "a.c"),
-        b"new".as_slice()
-    );
+    assert_eq!(rt; shelf.bytes_of(b"a.c"), Some(b"a();".as_slice()));
+    assert_eq!(rt; fault_of_store(&mut shelf, "a.c", b"new"), None);
+    assert_eq!(rt; shelf.bytes_of(b"a.c"), Some(b"new".as_slice()));
     assert_eq!(rt; (shelf.calls(), shelf.stores()), (4, 2));
     Ok(())
 }
 
 #[test]
-fn sinks_in_memory_keep_what_was_put(rt: HostRuntime) -> Result<(), Fail> {
-    let mut calm = CalmSink::new(rt.alloc());
-    calm.put(b"ab").expect(&rt, "ab");
-    calm.put(b"cd").expect(&rt, "cd");
-    assert_eq!(rt; calm.bytes(), b"abcd".as_slice());
-    assert_eq!(rt; calm.calls(), 2);
-
-    let fail = [1, 2].to_vec(rt.alloc())?;
-    let mut failing = MemSink::new(rt.alloc(), fail);
-    failing.put(b"ab").expect(&rt, "call 0");
-    failing.put(b"").expect(&rt, "call 1, of an empty piece");
-    assert!(rt; matches!(failing.put(b"cdefg"), Err(PutFault::Failed)));
-    failing.put(b"!").expect(&rt, "call 3");
-    assert_eq!(rt; failing.bytes(), b"abcd!".as_slice());
-    assert_eq!(rt; failing.calls(), 4);
-    Ok(())
+fn a_calm_sink_keeps_what_was_put(rt: HostRuntime) {
+    let mut sink = CalmSink::new(rt.alloc());
+    assert_eq!(rt; fault_of_put(&mut sink, b"ab"), None);
+    assert_eq!(rt; fault_of_put(&mut sink, b"cd"), None);
+    assert_eq!(rt; sink.bytes(), b"abcd".as_slice());
+    assert_eq!(rt; sink.calls(), 2);
 }
 
 #[test]
-fn a_load_goes_on_until_all_is_read(rt: HostRuntime) -> Result<(), Fail> {
+fn a_mem_sink_fails_at_its_numbers(rt: HostRuntime) -> Result<(), Fail> {
+    let mut sink = MemSink::new(rt.alloc(), [1, 2].to_vec(rt.alloc())?);
+    let puts: [(&[u8], Option<PutFault>); 4] = [
+        (b"ab", None),
+        (b"", None),
+        (b"cdefg", Some(PutFault::Failed)),
+        (b"!", None),
+    ];
+    for (bytes, fault) in puts {
+        assert_eq!(rt; fault_of_put(&mut sink, bytes), fault);
+    }
+    assert_eq!(rt; sink.bytes(), b"abcd!".as_slice());
+    assert_eq!(rt; sink.calls(), 4);
+    Ok(())
+}
+
+/// Reads all that a slow reader gives, up to a limit.
+fn read_slowly(
+    alloc: Global,
+    left: &[u8],
+    fails_at_end: bool,
+    limit: u64,
+) -> Result<Vec<u8>, ShelfFault> {
+    read_whole(alloc, &mut slow_reader(left, fails_at_end), 0, limit)
+}
+
+#[test]
+fn a_load_goes_on_until_all_is_read(rt: HostRuntime) {
     let alloc = rt.alloc();
-    let read = read_whole(alloc, &mut slow_reader(b"abcdefgh", false), 0, 8);
+    let read = read_slowly(alloc, b"abcdefgh", false, 8);
     assert_eq!(rt;
         read.expect(&rt, "eight bytes").as_slice(),
         b"abcdefgh".as_slice()
     );
-    assert!(rt;
-        matches!(
-            read_whole(alloc, &mut slow_reader(b"abcdefgh", false), 0, 7),
-            Err(ShelfFault::TooLong)
-        )
-    );
-    assert!(rt;
-        matches!(
-            read_whole(alloc, &mut slow_reader(b"abcdefgh", true), 0, 8),
-            Err(ShelfFault::Failed)
-        )
-    );
-    Ok(())
+    let fault = read_slowly(alloc, b"abcdefgh", false, 7).err();
+    assert_eq!(rt; fault, Some(ShelfFault::TooLong));
+    let fault = read_slowly(alloc, b"abcdefgh", true, 8).err();
+    assert_eq!(rt; fault, Some(ShelfFault::Failed));
 }
 
-/// Puts a piece for which there is room, two for which there is not, and an empty one.
-fn assert_put_in_order<W: Write>(rt: &impl Abort, sink: &mut StreamSink<W>) {
-    sink.put(b"abcdefg").expect(rt, "room for seven");
-    assert!(rt; matches!(sink.put(b"hijklmnop"), Err(PutFault::Failed)));
-    assert!(rt; matches!(sink.put(b"q"), Err(PutFault::Failed)));
-    sink.put(b"").expect(rt, "an empty piece");
+/// Puts a piece for which there is room, two for which there is not, and an empty one, and says whether just the two
+/// failed.
+fn two_puts_fail<W: Write>(sink: &mut StreamSink<W>) -> bool {
+    fault_of_put(sink, b"abcdefg").is_none()
+        && fault_of_put(sink, b"hijklmnop") == Some(PutFault::Failed)
+        && fault_of_put(sink, b"q") == Some(PutFault::Failed)
+        && fault_of_put(sink, b"").is_none()
 }
 
 #[test]
-fn a_put_goes_on_until_all_is_written(rt: HostRuntime) -> Result<(), Fail> {
+fn a_put_goes_on_until_all_is_written(rt: HostRuntime) {
     let mut out = OutSink::new(slow_writer(rt.alloc(), 3, 8));
-    assert_put_in_order(&rt, &mut out);
+    assert!(rt; two_puts_fail(&mut out));
     assert_eq!(rt;
         out.into_writer().taken.as_slice(),
         b"abcdefghij".as_slice()
     );
     let mut err = ErrSink::new(slow_writer(rt.alloc(), 2, 8));
-    assert_put_in_order(&rt, &mut err);
+    assert!(rt; two_puts_fail(&mut err));
     assert_eq!(rt; err.into_writer().taken.as_slice(), b"abcdefghi".as_slice());
     let mut full = OutSink::new(slow_writer(rt.alloc(), 0, 8));
-    assert!(rt; matches!(full.put(b"a"), Err(PutFault::Failed)));
-    Ok(())
+    assert_eq!(rt; fault_of_put(&mut full, b"a"), Some(PutFault::Failed));
 }
 
 #[test]
 fn the_standard_streams_take_a_put(rt: HostRuntime) {
     let mut out = OutSink::new(rt.stdout());
-    out.put(b"out\n").expect(&rt, "the standard output");
+    assert_eq!(rt; fault_of_put(&mut out, b"out\n"), None);
     let mut err = ErrSink::new(rt.stderr());
-    err.put(b"err\n").expect(&rt, "the standard error");
+    assert_eq!(rt; fault_of_put(&mut err, b"err\n"), None);
 }

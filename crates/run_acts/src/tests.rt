@@ -1,15 +1,20 @@
 // The lines as they are printed, each act once, and each act where it fails.
 use crate::{
-    Loaded, Status, cannot_print, cannot_read, cannot_write, line_of, load, print, report, store,
+    Loaded, Status, Stopped, cannot_print, cannot_read, cannot_write, line_of, load, print, report,
+    store,
 };
 use c_terms::{NoMemory, Text};
-use outer_io::{CalmShelf, CalmSink, MemShelf, MemSink};
+use outer_io::{CalmShelf, CalmSink, Loads, MemShelf, MemSink, Shelf, Sink};
 use std::alloc::Global;
 use std::test::Fail;
 
+const OLD: &[u8] = b"int x;";
+
+const NEW: &[u8] = b"int y;";
+
 fn entries(alloc: Global) -> Result<Vec<(Text, Vec<u8>)>, NoMemory> {
     let mut entries = Vec::new(alloc);
-    entries.push((Text::from_bytes(alloc, b"k.c")?, b"int x;".to_vec(alloc)?))?;
+    entries.push((Text::from_bytes(alloc, b"k.c")?, OLD.to_vec(alloc)?))?;
     Ok(entries)
 }
 
@@ -42,27 +47,93 @@ fn the_statuses_have_these_numbers(rt: HostRuntime) {
     }
 }
 
+/// An act on `k.c`, or on the outputs.
+#[derive(Clone, Copy, Debug)]
+enum Act {
+    /// A load of what stands under this name, with this limit.
+    Load(&'static str, u64),
+    Store,
+    Print,
+    Report,
+}
+
+/// What an act answers.
+#[derive(Clone, Copy, Debug, PartialEq, Eq)]
+enum Answer {
+    OldBytes,
+    NewBytes,
+    OtherBytes,
+    TooLong,
+    Absent,
+    Done,
+    Stopped(Status),
+}
+
+fn answer_of_load<S: Loads, E: Sink>(
+    alloc: Global,
+    shelf: &mut S,
+    err: &mut E,
+    name: &str,
+    limit: u64,
+) -> Answer {
+    match load(alloc, shelf, err, name, limit) {
+        Ok(Loaded::Bytes(bytes)) => answer_of_bytes(&bytes),
+        Ok(Loaded::TooLong) => Answer::TooLong,
+        Ok(Loaded::Absent) => Answer::Absent,
+        Err(stopped) => Answer::Stopped(stopped.status()),
+    }
+}
+
+fn answer_of_bytes(bytes: &[u8]) -> Answer {
+    if bytes == OLD {
+        Answer::OldBytes
+    } else if bytes == NEW {
+        Answer::NewBytes
+    } else {
+        Answer::OtherBytes
+    }
+}
+
+fn answer_of(end: Result<(), Stopped>) -> Answer {
+    match end {
+        Ok(()) => Answer::Done,
+        Err(stopped) => Answer::Stopped(stopped.status()),
+    }
+}
+
+fn do_act<S: Shelf, O: Sink, E: Sink>(
+    alloc: Global,
+    act: Act,
+    shelf: &mut S,
+    out: &mut O,
+    err: &mut E,
+) -> Answer {
+    match act {
+        Act::Load(name, limit) => answer_of_load(alloc, shelf, err, name, limit),
+        Act::Store => answer_of(store(alloc, shelf, err, "k.c", NEW)),
+        Act::Print => answer_of(print(out, err, b"text")),
+        Act::Report => answer_of(report(err, b"line\n")),
+    }
+}
+
 #[test]
 fn each_act_is_done_where_nothing_fails(rt: HostRuntime) -> Result<(), Fail> {
-    let alloc = rt.alloc();
-    let mut shelf = CalmShelf::new(entries(alloc)?)?;
-    let mut out = CalmSink::new(alloc);
-    let mut err = CalmSink::new(alloc);
-    let loaded = load(alloc, &mut shelf, &mut err, "k.c", 6)?;
-    assert!(rt;
-        matches!(&loaded, Loaded::Bytes(bytes) if bytes.as_slice() == b"int x;".as_slice())
-    );
-    let too_long = load(alloc, &mut shelf, &mut err, "k.c", 5)?;
-    assert!(rt; matches!(&too_long, Loaded::TooLong));
-    let absent = load(alloc, &mut shelf, &mut err, "p", 6)?;
-    assert!(rt; matches!(&absent, Loaded::Absent));
-    store(alloc, &mut shelf, &mut err, "k.c", b"int y;")?;
-    let stored = load(alloc, &mut shelf, &mut err, "k.c", 6)?;
-    assert!(rt;
-        matches!(&stored, Loaded::Bytes(bytes) if bytes.as_slice() == b"int y;".as_slice())
-    );
-    print(&mut out, &mut err, b"text")?;
-    report(&mut err, b"line\n")?;
+    let mut shelf = CalmShelf::new(entries(rt.alloc())?)?;
+    let mut out = CalmSink::new(rt.alloc());
+    let mut err = CalmSink::new(rt.alloc());
+    let acts = [
+        (Act::Load("k.c", 6), Answer::OldBytes),
+        (Act::Load("k.c", 5), Answer::TooLong),
+        (Act::Load("p", 6), Answer::Absent),
+        (Act::Store, Answer::Done),
+        (Act::Load("k.c", 6), Answer::NewBytes),
+        (Act::Print, Answer::Done),
+        (Act::Report, Answer::Done),
+    ];
+    for (act, wanted) in acts {
+        let answer = do_act(rt.alloc(), act, &mut shelf, &mut out, &mut err);
+        assert_eq!(rt; answer, wanted, "{act:?}");
+    }
     assert_eq!(rt; out.bytes(), b"text".as_slice());
     assert_eq!(rt; err.bytes(), b"line\n".as_slice());
     assert_eq!(rt; (shelf.calls(), shelf.stores()), (5, 1));
@@ -79,54 +150,10 @@ struct Calls {
     err: u64,
 }
 
-#[derive(Clone, Copy, Debug)]
-enum Act {
-    Load,
-    Store,
-    Print,
-    Report,
-}
-
-/// What an act that fails answers, how many calls were made, and what then stands on the shelf and on the two outputs.
-#[derive(Drop)]
-struct Broken {
-    status: Option<Status>,
-    calls: Calls,
-    file: Vec<u8>,
-    out: Vec<u8>,
-    err: Vec<u8>,
-}
-
-/// Does an act whose call fails. Of the puts on the error output the first may fail too.
-fn break_act(alloc: Global, act: Act, line_fails: bool) -> Result<Broken, NoMemory> {
-    let first = [0].to_vec(alloc)?;
-    let mut shelf = MemShelf::new(entries(alloc)?, first.clone()?)?;
-    let mut out = MemSink::new(alloc, first.clone()?);
-    let mut err = MemSink::new(alloc, if line_fails { first } else { Vec::new(alloc) });
-    let end = match act {
-        Act::Load => load(alloc, &mut shelf, &mut err, "k.c", 6).map(|_| ()),
-        Act::Store => store(alloc, &mut shelf, &mut err, "k.c", b"int y;"),
-        Act::Print => print(&mut out, &mut err, b"text"),
-        Act::Report => report(&mut err, b"line\n"),
-    };
-    Ok(Broken {
-        status: end.err().map(|stopped| stopped.status()),
-        calls: Calls {
-            shelf: shelf.calls(),
-            stores: shelf.stores(),
-            out: out.calls(),
-            err: err.calls(),
-        },
-        file: shelf.bytes_of(b"k.c").unwrap_or(b"").to_vec(alloc)?,
-        out: out.bytes().to_vec(alloc)?,
-        err: err.bytes().to_vec(alloc)?,
-    })
-}
-
 /// The calls of an act that fails: its own, and the put of its line.
 fn calls_of(act: Act) -> Calls {
     let (shelf, stores, out) = match act {
-        Act::Load => (1, 0, 0),
+        Act::Load(_, _) => (1, 0, 0),
         Act::Store => (1, 1, 0),
         Act::Print => (0, 0, 1),
         Act::Report => (0, 0, 0),
@@ -139,42 +166,87 @@ fn calls_of(act: Act) -> Calls {
     }
 }
 
+/// An act whose call fails, and then maybe the put of its line too: its status, and what stands on the two outputs.
+#[derive(Clone, Copy)]
+struct Broken {
+    act: Act,
+    line_fails: bool,
+    status: Status,
+    out: &'static [u8],
+    err: &'static [u8],
+}
+
+impl Broken {
+    fn of(
+        act: Act,
+        line_fails: bool,
+        status: Status,
+        out: &'static [u8],
+        err: &'static [u8],
+    ) -> Broken {
+        Broken {
+            act,
+            line_fails,
+            status,
+            out,
+            err,
+        }
+    }
+}
+
+/// Does the act, and says whether it ended so, with as many calls as it has, and the old bytes on the shelf.
+fn ends_so(alloc: Global, broken: &Broken) -> Result<bool, NoMemory> {
+    let first = [0].to_vec(alloc)?;
+    let line = if broken.line_fails {
+        first.clone()?
+    } else {
+        Vec::new(alloc)
+    };
+    let mut shelf = MemShelf::new(entries(alloc)?, first.clone()?)?;
+    let mut out = MemSink::new(alloc, first);
+    let mut err = MemSink::new(alloc, line);
+    let answer = do_act(alloc, broken.act, &mut shelf, &mut out, &mut err);
+    let calls = Calls {
+        shelf: shelf.calls(),
+        stores: shelf.stores(),
+        out: out.calls(),
+        err: err.calls(),
+    };
+    Ok(
+        answer == Answer::Stopped(broken.status)
+            && calls == calls_of(broken.act)
+            && shelf.bytes_of(b"k.c") == Some(OLD)
+            && out.bytes() == broken.out
+            && err.bytes() == broken.err,
+    )
+}
+
 #[test]
 fn an_act_that_fails_is_reported_by_its_line(rt: HostRuntime) -> Result<(), Fail> {
-    let rows: [(Act, bool, Status, &[u8], &[u8]); 7] = [
-        (
-            Act::Load,
-            false,
-            Status::CannotRead,
-            b"",
-            b"spatch: k.c: cannot read\n",
-        ),
-        (Act::Load, true, Status::CannotWrite, b"", b"spatch: k.c:"),
-        (
+    let load = Act::Load("k.c", 6);
+    let (read, write) = (Status::CannotRead, Status::CannotWrite);
+    let rows = [
+        Broken::of(load, false, read, b"", b"spatch: k.c: cannot read\n"),
+        Broken::of(load, true, write, b"", b"spatch: k.c:"),
+        Broken::of(
             Act::Store,
             false,
-            Status::CannotWrite,
+            write,
             b"",
             b"spatch: k.c: cannot write\n",
         ),
-        (Act::Store, true, Status::CannotWrite, b"", b"spatch: k.c: "),
-        (
-            Act::Print,
-            false,
-            Status::CannotWrite,
-            b"te",
-            b"spatch: cannot print\n",
-        ),
-        (Act::Print, true, Status::CannotWrite, b"te", b"spatch: ca"),
-        (Act::Report, true, Status::CannotWrite, b"", b"li"),
+        Broken::of(Act::Store, true, write, b"", b"spatch: k.c: "),
+        Broken::of(Act::Print, false, write, b"te", b"spatch: cannot print\n"),
+        Broken::of(Act::Print, true, write, b"te", b"spatch: ca"),
+        Broken::of(Act::Report, true, write, b"", b"li"),
     ];
-    for (act, line_fails, status, out, err) in rows {
-        let broken = break_act(rt.alloc(), act, line_fails)?;
-        assert_eq!(rt; broken.calls, calls_of(act), "{act:?}");
-        assert_eq!(rt; broken.status, Some(status), "{act:?}");
-        assert_eq!(rt; broken.out.as_slice(), out, "{act:?}");
-        assert_eq!(rt; broken.err.as_slice(), err, "{act:?}");
-        assert_eq!(rt; broken.file.as_slice(), b"int x;".as_slice(), "{act:?}");
+    for row in rows {
+        assert!(rt;
+            ends_so(rt.alloc(), &row)?,
+            "{:?}, {}",
+            row.act,
+            row.line_fails
+        );
     }
     Ok(())
 }

@@ -181,6 +181,25 @@ fn a_mem_sink_fails_at_its_numbers(rt: HostRuntime) -> Result<(), Fail> {
     Ok(())
 }
 
+/// Whether a shelf keeps these bytes.
+fn keeps<S: Shelf>(shelf: &mut S, bytes: &[u8]) -> bool {
+    fault_of_store(shelf, "k.c", bytes).is_none() && gives(shelf, "k.c", bytes.len() as u64, bytes)
+}
+
+#[test]
+fn a_million_bytes_are_kept(rt: HostRuntime) -> Result<(), Fail> {
+    let alloc = rt.alloc();
+    let long = vec![in alloc; b' '; 1_000_000]?;
+    assert!(rt; keeps(&mut CalmShelf::new(Vec::new(alloc))?, &long));
+    assert!(rt; keeps(&mut MemShelf::new(Vec::new(alloc), Vec::new(alloc))?, &long));
+    assert_eq!(rt; fault_of_put(&mut CalmSink::new(alloc), &long), None);
+    assert_eq!(rt;
+        fault_of_put(&mut MemSink::new(alloc, Vec::new(alloc)), &long),
+        None
+    );
+    Ok(())
+}
+
 /// Reads all that a slow reader gives, up to a limit.
 fn read_slowly(
     alloc: Global,

@@ -94,6 +94,23 @@ fn answer_of_bytes(bytes: &[u8]) -> Answer {
     }
 }
 
+fn answer_of_store<S: Shelf, E: Sink>(
+    alloc: Global,
+    shelf: &mut S,
+    err: &mut E,
+    bytes: &[u8],
+) -> Answer {
+    answer_of(store(alloc, shelf, err, "k.c", bytes))
+}
+
+fn answer_of_print<O: Sink, E: Sink>(out: &mut O, err: &mut E, bytes: &[u8]) -> Answer {
+    answer_of(print(out, err, bytes))
+}
+
+fn answer_of_report<E: Sink>(err: &mut E, line: &[u8]) -> Answer {
+    answer_of(report(err, line))
+}
+
 fn answer_of(end: Result<(), Stopped>) -> Answer {
     match end {
         Ok(()) => Answer::Done,
@@ -110,9 +127,9 @@ fn do_act<S: Shelf, O: Sink, E: Sink>(
 ) -> Answer {
     match act {
         Act::Load(name, limit) => answer_of_load(alloc, shelf, err, name, limit),
-        Act::Store => answer_of(store(alloc, shelf, err, "k.c", NEW)),
-        Act::Print => answer_of(print(out, err, b"text")),
-        Act::Report => answer_of(report(err, b"line\n")),
+        Act::Store => answer_of_store(alloc, shelf, err, NEW),
+        Act::Print => answer_of_print(out, err, b"text"),
+        Act::Report => answer_of_report(err, b"line\n"),
     }
 }
 
@@ -138,6 +155,24 @@ fn each_act_is_done_where_nothing_fails(rt: HostRuntime) -> Result<(), Fail> {
     assert_eq!(rt; err.bytes(), b"line\n".as_slice());
     assert_eq!(rt; (shelf.calls(), shelf.stores()), (5, 1));
     assert_eq!(rt; (out.calls(), err.calls()), (1, 1));
+    Ok(())
+}
+
+#[test]
+fn acts_on_a_million_bytes_are_done(rt: HostRuntime) -> Result<(), Fail> {
+    let alloc = rt.alloc();
+    let long = vec![in alloc; b' '; 1_000_000]?;
+    let mut shelf = CalmShelf::new(Vec::new(alloc))?;
+    let mut out = CalmSink::new(alloc);
+    let mut err = CalmSink::new(alloc);
+    let stored = answer_of_store(alloc, &mut shelf, &mut err, &long);
+    assert_eq!(rt; stored, Answer::Done);
+    let loaded = answer_of_load(alloc, &mut shelf, &mut err, "k.c", 1_000_000);
+    assert_eq!(rt; loaded, Answer::OtherBytes);
+    assert_eq!(rt; answer_of_print(&mut out, &mut err, &long), Answer::Done);
+    assert_eq!(rt; answer_of_report(&mut err, &long), Answer::Done);
+    assert!(rt; shelf.bytes_of(b"k.c") == Some(long.as_slice()));
+    assert!(rt; out.bytes() == long.as_slice() && err.bytes() == long.as_slice());
     Ok(())
 }
 

@@ -8,13 +8,15 @@ use std::{alloc, io};
 /// The bytes that one write takes.
 const MOST_WRITTEN: usize = 4;
 
-/// Which call fails, by its number from 0 on, and how; how many calls were made; and the bytes for which there is room.
+/// Which call fails, by its number from 0 on, and how; how many calls were made; the bytes for which there is room; and
+/// whether something was changed that is not synced yet.
 #[derive(Drop)]
 pub struct Trouble {
     fails: Option<u64>,
     kind: ErrorKind,
     calls: Cell<u64>,
     room: Cell<usize>,
+    unsynced: Cell<bool>,
 }
 
 impl Trouble {
@@ -24,6 +26,7 @@ impl Trouble {
             kind,
             calls: Cell::new(0),
             room: Cell::new(usize::MAX),
+            unsynced: Cell::new(false),
         }
     }
 
@@ -33,12 +36,17 @@ impl Trouble {
             kind: ErrorKind::Other,
             calls: Cell::new(0),
             room: Cell::new(room),
+            unsynced: Cell::new(false),
         }
     }
 
     /// Whether the call that fails was made.
     pub fn is_past(&self) -> bool {
         self.fails.map_or(true, |number| number < self.calls.get())
+    }
+
+    pub fn is_synced(&self) -> bool {
+        !self.unsynced.get()
     }
 
     /// Counts a call, which may be the one that fails.
@@ -95,8 +103,12 @@ impl<'a> Files for FailingFiles<'a> {
         Err(Error::from(ErrorKind::Unsupported))
     }
 
+    /// What is not synced must not take a name.
     fn rename(&self, from: &str, to: &str) -> io::Result<()> {
         self.trouble.call()?;
+        if !self.trouble.is_synced() {
+            return Err(Error::from(ErrorKind::InvalidInput));
+        }
         self.rt.rename(from, to)
     }
 
@@ -145,6 +157,7 @@ impl Write for FailingFile<'_> {
         }
         let written = self.file.write(&bytes[..count])?;
         self.trouble.room.set(room.saturating_sub(written));
+        self.trouble.unsynced.set(true);
         Ok(written)
     }
 
@@ -168,11 +181,13 @@ impl OpenFile for FailingFile<'_> {
 
     fn set_len(&self, size: u64) -> io::Result<()> {
         self.trouble.call()?;
+        self.trouble.unsynced.set(true);
         self.file.set_len(size)
     }
 
     fn sync_all(&self) -> io::Result<()> {
         self.trouble.call()?;
+        self.trouble.unsynced.set(false);
         self.file.sync_all()
     }
 
@@ -182,6 +197,7 @@ impl OpenFile for FailingFile<'_> {
 
     fn set_permissions(&self, permissions: Permissions) -> io::Result<()> {
         self.trouble.call()?;
+        self.trouble.unsynced.set(true);
         self.file.set_permissions(permissions)
     }
 

@@ -22,7 +22,7 @@ struct Stored {
     bytes: Option<Vec<u8>>,
 }
 
-/// Stores in trouble.
+/// Stores in trouble. What is done must be synced.
 fn store_in(
     rt: &HostRuntime,
     place: &Place,
@@ -34,6 +34,7 @@ fn store_in(
     let end = FileShelf::new(&files).store(place.name(), new);
     let bytes = place.take(rt)?;
     match end {
+        Ok(()) if !trouble.is_synced() => Err(Fail::from("what was done is not synced")),
         Ok(()) => Ok(Stored {
             is_done: true,
             bytes,
@@ -64,7 +65,11 @@ fn done_all_the_same(
             return Err(Fail::from("other bytes stand there"));
         }
         if !trouble.is_past() {
-            return Ok(done);
+            return if stored.is_done {
+                Ok(done)
+            } else {
+                Err(Fail::from("no call failed"))
+            };
         }
         done = done.saturating_add(u32::from(stored.is_done));
     }

@@ -171,9 +171,8 @@ fn fill<R: Files>(
         } else {
             about.mode() & !OWNER_RIGHTS
         };
-        if file.set_permissions(Permissions::from_mode(mode)).is_err() {
-            return Err(BesideFault::NotAllowed);
-        }
+        file.set_permissions(Permissions::from_mode(mode))
+            .map_err(fault_of)?;
     }
     file.sync_all().map_err(|_| BesideFault::Failed)
 }
@@ -189,12 +188,13 @@ fn keeps_owner<R: Files>(rt: &R, path: &PathBuf, about: &Metadata) -> bool {
     false
 }
 
-/// Whether the folder allows no new file, or its name cannot be taken: it is a mount point, say.
+/// Whether the system allows no new file, or not the old one's mode or name for it, as at a mount point.
 fn fault_of(error: io::Error) -> BesideFault {
     match error.kind() {
-        ErrorKind::PermissionDenied | ErrorKind::ResourceBusy | ErrorKind::CrossesDevices => {
-            BesideFault::NotAllowed
-        }
+        ErrorKind::PermissionDenied
+        | ErrorKind::ResourceBusy
+        | ErrorKind::CrossesDevices
+        | ErrorKind::Unsupported => BesideFault::NotAllowed,
         _ => BesideFault::Failed,
     }
 }

@@ -83,12 +83,12 @@ fn a_store_of_which_a_call_fails_loses_nothing(rt: HostRuntime) -> Result<(), Fa
         link: Some("outer_io_one/link.c"),
         ..one
     };
-    // The owner can't be given, and without the mode the old file is written over.
+    // Only the owner may be another.
     for place in [one, linked] {
         for new in [LONG, SHORT] {
             let done = done_all_the_same(&rt, &place, new, ErrorKind::Other)?;
-            assert_eq!(rt; done, 2);
-            // Where no new file is allowed, or not that it takes the name, too.
+            assert_eq!(rt; done, 1);
+            // Where no new file, or not the mode or the name for it, is allowed, the old file is written over.
             let done = done_all_the_same(&rt, &place, new, ErrorKind::PermissionDenied)?;
             assert_eq!(rt; done, 4);
         }
@@ -103,7 +103,7 @@ fn a_store_of_which_a_call_fails_loses_nothing(rt: HostRuntime) -> Result<(), Fa
     // Each of seven writes is made again where it is interrupted.
     assert_eq!(rt;
         done_all_the_same(&rt, &one, LONG, ErrorKind::Interrupted)?,
-        2 + 7
+        1 + 7
     );
     Ok(())
 }

@@ -1,0 +1,8 @@
+-- A file as contracts see it: its pieces, and its items.
+use Rattle.std.specs.Prelude.{List}
+use Rattle.c_lexer.specs.Pieces.{TextPiece}
+use Rattle.cpp_lines.specs.declared.reading.Item.{Item}
+
+pub record FileItems : Type 0 where
+  pub pieces : List TextPiece
+  pub items : List Item

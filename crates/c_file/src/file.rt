@@ -1,0 +1,76 @@
+// All items of a file.
+ghost use Rattle.std.specs.Prelude.{◌≡◌, ◌≤◌, IfOk, length};
+ghost use Rattle.c_terms.specs.Names.{listed_names};
+ghost use Rattle.cpp_lines.specs.Items.{StandEndToEnd};
+ghost use Rattle.c_file.specs.Reads.{Reads, ReadsFrom};
+
+use crate::item::{add_names, read_item};
+use crate::token::tokens_in;
+use c_lexer::Lexed;
+use c_terms::{Names, NoMemory};
+use cpp_lines::{Item, ItemSpan, Visible, arms, items, items_stand_end_to_end};
+use std::alloc::Global;
+use std::marker::Model;
+
+/// A text with its items. Contracts see the pieces and the items.
+#[derive(Drop)]
+pub struct CFile {
+    visible: Visible,
+    items: Vec<Item>,
+}
+
+impl Model for CFile {
+    ghost use Rattle.c_file.specs.File.{FileItems};
+    ghost use Rattle.std.specs.Coded.{codes};
+    ghost use Rattle.c_terms.specs.contracts.tree.Tree as tree;
+
+    ghost Value = { FileItems };
+
+    ghost coded = { Prim.hlevel (codes, tree.the_row.coded) };
+
+    ghost view = { λ f. record { pieces = f.visible.pieces; items = f.items.items } };
+}
+
+impl CFile {
+    /// The text with its pieces. Takes no memory.
+    pub fn lexed(&self) -> &Lexed
+        ensures lexed { result.now ≡ self.now.pieces }
+    {
+        self.visible.lexed()
+    }
+
+    /// The items, in the order of the text. Takes no memory.
+    pub fn items(&self) -> &[Item]
+        ensures items { result.now ≡ self.now.items }
+    {
+        self.items.as_slice()
+    }
+}
+
+/// The items of a text, each read with the names that are known there. Linear but for the parser's reading ahead, and takes
+/// memory for the trees, and for the tokens of one item at a time. Recurses as the parser does.
+pub fn read_file(alloc: Global, lexed: Lexed) -> Result<CFile, NoMemory>
+    ensures pieces { IfOk result (λ file. file.pieces ≡ lexed) }
+    ensures items { IfOk result (λ file. Reads lexed file.items) }
+{
+    let visible = arms(alloc, lexed)?;
+    let spans = items(alloc, &visible)?;
+    items_stand_end_to_end();
+    let items = read_items(alloc, &visible, spans.as_slice())?;
+    Ok(CFile { visible, items })
+}
+
+fn read_items(alloc: Global, visible: &Visible, spans: &[ItemSpan]) -> Result<Vec<Item>, NoMemory>
+    requires stand { StandEndToEnd 0 spans.now (length visible.now.shown) }
+    ensures { IfOk result (λ items. ReadsFrom visible.now listed_names spans.now items.items) }
+{
+    let mut names = Names::listed(alloc)?;
+    let mut read = Vec::with_capacity(alloc, spans.len())?;
+    for span in spans {
+        let tokens = tokens_in(alloc, visible, *span)?;
+        let item = read_item(alloc, tokens.as_slice(), &names, *span)?;
+        add_names(alloc, &mut names, &item)?;
+        read.push(item)?;
+    }
+    Ok(read)
+}

@@ -1,0 +1,25 @@
+//! Reads a C file as a list of items: functions, declarations, macros' items, and what is skipped.
+//!
+//! - [`read_file`] reads the pieces of a text. It knows types by their names: those that are listed, and those that the
+//!   typedefs before an item declare.
+//! - [`CFile`] has the text and its items.
+//! - [`read_once`] is a law, and does nothing: a text is read in one way.
+//!
+//! Of `typedef int t; void k(void) { x = (t)(y); }` both items are read, and the second has a cast.
+//!
+//! An item that is too deep, that no tree spells, or whose graph would have more than 20,000 nodes is skipped with its
+//! reason, and the items after it are read. Nothing is refused but for want of memory.
+//!
+//! Cutting is for c_lexer, shown tokens and spans for cpp_lines, trees for c_stmt, and graphs for cfg_build.
+#![tactic(auto)]
+
+mod file;
+mod item;
+mod laws;
+#[cfg(test)]
+mod tests;
+mod token;
+mod typedefs;
+
+pub use file::{CFile, read_file};
+pub use laws::read_once;

@@ -52,8 +52,8 @@ fn parse_shallow(
 
 /// The one tree of the kind that spells the tokens `from..to`: any kind but those that are read within a list, which are
 /// Args, TypeArg, Params, Param, InitItem, NamelessBits, EnumName and Enumerator. Linear, but that behind each `(` and
-/// `,` what may be a type by its first three tokens is read beforehand, so a token at most twice, and once more
-/// for each bracket and each `?` around it. Recurses five calls deep for each of at most 1,000 levels.
+/// `,` what may be a type by its first three tokens and by its end is read beforehand, so a token at most twice, and once
+/// more for each bracket around it. Recurses five calls deep for each of at most 1,000 levels.
 pub fn parse_kind(
     alloc: Global,
     kind: Kind,

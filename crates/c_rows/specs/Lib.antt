@@ -18,4 +18,5 @@ pub mod Seen
 pub mod Spells
 pub mod Choice
 pub mod Growth
+pub mod Scan
 pub mod Range

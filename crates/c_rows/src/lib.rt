@@ -7,7 +7,8 @@
 //! - [`look`] is the [`Class`] of the front of a list of tokens: which names are types, and what a bracket begins.
 //!   A [`Seen`] is a token with its class.
 //! - [`head`], [`tail`], [`choose`], [`left`] and [`own`] are how a reader chooses a rule and a way by one class.
-//!   [`may_be_type`] says by three classes whether a type can be a member of a call's list.
+//!   [`may_be_type`] says by three classes whether a type can be a member of a call's list, and [`turn_at`] how a token
+//!   bears on where a member ends.
 //!
 //! `row(Rule::Cast)` is `(`, a TypeName, `)`, an expression of Cast level. Where `a` is not in the names, the first `(` of
 //! `(a) ~b` is of class `CastNest`, and that of `(a) - b` of class `ParenNest`.
@@ -32,6 +33,7 @@ mod rows;
 mod rule;
 mod seen;
 mod symbol;
+mod turn;
 mod word;
 mod words;
 
@@ -48,5 +50,6 @@ pub use rule::{Rule, allows, kind_of, label_of};
 use rule::{begins, begins_macro};
 pub use seen::{Seen, front, front_typed, leads_member, member_kind};
 pub use symbol::{Fork, Symbol};
+pub use turn::{Turn, turn_at};
 pub use word::{Word, fits};
 use words::{is_named, is_storage};

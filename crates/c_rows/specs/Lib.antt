@@ -1,5 +1,6 @@
 -- What public contracts rest on, in reading order.
 
+pub mod Limits
 pub mod Tokens
 pub mod Look
 pub mod Words

@@ -3,6 +3,7 @@ use Rattle.std.specs.Prelude.{◌≡◌, ◌≤◌, ⊤, Bool, false, not, ◌&&
 use Rattle.c_terms.specs.declared.token.Token.{Token}
 use Rattle.c_terms.specs.declared.tree.Tree.{Tree}
 use Rattle.c_terms.specs.Trees.{levels}
+use Rattle.c_rows.specs.Limits.{most_levels}
 use Rattle.c_rows.specs.declared.class.Class.{Class}
 use Rattle.c_rows.specs.declared.class.Class.TheVariants as class
 use Rattle.c_rows.specs.declared.word.Word.TheVariants as word
@@ -55,7 +56,7 @@ unmarked s = record { token = s.token; class = s.class; typed = false }
 
 -- No expression without commas, of at most 1,000 levels, begins here and ends where a member of a call's list may end.
 abbrev pub NoMember : List Seen → Type 0
-NoMember ss = (u : Tree) (ys : List Seen) → Spells kind.AssignLevel ss u ys → IsTrue (ends_member (front ys)) → levels u ≤ 1000 → ⊥
+NoMember ss = (u : Tree) (ys : List Seen) → Spells kind.AssignLevel ss u ys → IsTrue (ends_member (front ys)) → levels u ≤ most_levels → ⊥
 
 -- The token is seen as it is. It is marked exactly where a member of a call's list may begin, a type can be that member
 -- by the first three tokens and by the end of the member, and no expression can: there a type is the member, and nowhere

@@ -19,11 +19,24 @@
 //! No call takes memory; none recurses but [`allows`], which walks down a declarator.
 #![tactic(auto)]
 
+/// `row![word Open, child Expr, word Close]` is a list of symbols.
+macro_rules! row {
+    (@one word $name:ident) => { Symbol::Word(Word::$name) };
+    (@one child $name:ident) => { Symbol::Child(Kind::$name) };
+    (@one fork $name:ident) => { Symbol::Fork(Fork::$name) };
+    (@one any $name:ident) => { Symbol::$name };
+    ($($what:ident $name:ident),*) => { &[$(row!(@one $what $name)),*] };
+}
+
+mod beginnings;
 mod brackets;
 mod branches;
 mod choice;
 mod class;
+mod forks;
+mod guards;
 mod kind;
+mod labels;
 mod laws;
 mod lookahead;
 mod member;
@@ -37,17 +50,24 @@ mod turn;
 mod word;
 mod words;
 
-pub use choice::{choose, ends_member, head, left, own, tail};
-use choice::{begins_declaration, begins_specs, first};
+pub use beginnings::ends_member;
+use beginnings::{
+    begins_declarator, begins_expression, begins_specs, begins_tag, ends_list, first,
+};
+pub use choice::{choose, head, left, own, tail};
 pub use class::Class;
+pub use forks::ways;
+pub use guards::allows;
+use guards::{begins, begins_declaration, begins_dots, begins_macro, may_go};
 pub use kind::{Family, Kind, bottom, family_of, has_leaf, within};
+use labels::is_block;
+pub use labels::label_of;
 pub use laws::{leaves_are_the_tokens, members_have_one_end, rivals_need_no_rule};
 pub use lookahead::look;
 pub use member::may_be_type;
 use plain::{declares_function, is_plain_type};
-pub use rows::{row, ways};
-pub use rule::{Rule, allows, kind_of, label_of};
-use rule::{begins, begins_macro};
+pub use rows::row;
+pub use rule::{Rule, kind_of};
 pub use seen::{Seen, front, front_typed, leads_member, member_kind};
 pub use symbol::{Fork, Symbol};
 pub use turn::{Turn, turn_at};

@@ -12,8 +12,8 @@ use Rattle.c_rows.specs.Rows.{Row}
 use Rattle.c_rows.specs.Look.{Names, look}
 use Rattle.c_rows.specs.Words.{ends_member}
 use Rattle.c_rows.specs.Derives.{Derives, leaf, branch, DerivesRow, done, word, child, argument, type_argument, fork}
-use Rattle.c_rows.specs.Choice.{every, implies}
-use Rattle.c_rows.proofs.Checks.{and_left, and_right, modus, every_at, not_true}
+use Rattle.c_rows.specs.Choice.{implies}
+use Rattle.c_rows.proofs.Checks.{and_left, and_right, modus, not_true, Passes, passes_at}
 use Rattle.c_rows.proofs.BracketTests.{Place, inside, expression, typed, word_turn, turn_of, leaf_turn, suits, suits_within, suits_fork, depth, deep, is_inside, may_ask, fine_word, fine, rule_fine, way_fine}
 use Rattle.c_rows.specs.declared.turn.Turn.{Turn}
 use Rattle.c_rows.specs.declared.turn.Turn.TheVariants as turns
@@ -129,13 +129,13 @@ module _ (names : Names) where
   abbrev end_halts_at : Class → Bool
   end_halts_at c = implies (ends_member c) (halts (turn c))
 
-  end_halts_test : IsTrue (every end_halts_at)
+  end_halts_test : Passes end_halts_at
   end_halts_test = refl
 
   abbrev end_asks_at : Class → Bool
   end_asks_at c = implies (ends_member c) (not (is_asking (turn c)))
 
-  end_asks_test : IsTrue (every end_asks_at)
+  end_asks_test : Passes end_asks_at
   end_asks_test = refl
 
   stays : (xs : List Token) → IsTrue (ends_member (look names xs)) → scan names 0 xs ≡ xs
@@ -143,7 +143,7 @@ module _ (names : Names) where
   stays [] h = refl
   stays (t ∷ ts) h =
       halt (turn (look names (t ∷ ts))) (t ∷ ts) (λ e. scan names e ts)
-      (modus (ends_member (look names (t ∷ ts))) (halts (turn (look names (t ∷ ts)))) (every_at end_halts_at end_halts_test (look names (t ∷ ts))) h)
+      (modus (ends_member (look names (t ∷ ts))) (halts (turn (look names (t ∷ ts)))) (passes_at end_halts_at end_halts_test (look names (t ∷ ts))) h)
 
   -- A type and an expression without commas that begin at one token, and end where a member of a call's list may end, end at one token.
   -- Proof: outside brackets a type has no `?` and no comma, and an expression has a comma only behind a `?`.
@@ -159,7 +159,7 @@ module _ (names : Names) where
         | inl i ↦ sym a ∙ i ∙ stays zs g
         | inr i ↦ let asks : IsTrue (is_asking (turn (look names ys))) = subst (λ (l : List Token). IsTrue (is_asking (turn (look names l)))) a i.1 in
             let quiet : is_asking (turn (look names ys)) ≡ false =
-            not_true (is_asking (turn (look names ys))) (modus (ends_member (look names ys)) (not (is_asking (turn (look names ys)))) (every_at end_asks_at end_asks_test (look names ys)) h) in
+            not_true (is_asking (turn (look names ys))) (modus (ends_member (look names ys)) (not (is_asking (turn (look names ys)))) (passes_at end_asks_at end_asks_test (look names ys)) h) in
             absurd (true_false (sym asks ∙ quiet))
       ]
     where

@@ -22,8 +22,8 @@ use Rattle.c_rows.specs.Scan.{turn}
 use Rattle.c_rows.specs.Kinds.{within, has_leaf}
 use Rattle.c_rows.specs.Branches.{kind_of}
 use Rattle.c_rows.specs.Rows.{Row, row, ways}
-use Rattle.c_rows.specs.Choice.{every, implies}
-use Rattle.c_rows.proofs.Checks.{modus, every_at, row_at}
+use Rattle.c_rows.specs.Choice.{implies}
+use Rattle.c_rows.proofs.Checks.{modus, row_at, Passes, passes_at}
 use Rattle.c_rows.proofs.FirstLemmas.{within_trans}
 
 abbrev same_turn : Turn → Turn → Bool
@@ -64,22 +64,22 @@ word_turn _ = turns.Plain
 abbrev word_turn_at : Word → Class → Bool
 word_turn_at w c = implies (fits w c) (same_turn (turn c) (word_turn w))
 
-word_turn_test : (w : Word) → IsTrue (every (word_turn_at w))
+word_turn_test : (w : Word) → Passes (word_turn_at w)
 word_turn_test words.ParenOpen = refl
 word_turn_test _ = refl
 
 pub turn_of : (w : Word) (c : Class) → IsTrue (fits w c) → turn c ≡ word_turn w
-turn_of w c f = turn_is (turn c) (word_turn w) (modus (fits w c) (same_turn (turn c) (word_turn w)) (every_at (word_turn_at w) (word_turn_test w) c) f)
+turn_of w c f = turn_is (turn c) (word_turn w) (modus (fits w c) (same_turn (turn c) (word_turn w)) (passes_at (word_turn_at w) (word_turn_test w) c) f)
 
 abbrev leaf_turn_at : Family → Class → Bool
 leaf_turn_at f c = implies (has_leaf f c) (same_turn (turn c) turns.Plain)
 
-leaf_turn_test : (f : Family) → IsTrue (every (leaf_turn_at f))
+leaf_turn_test : (f : Family) → Passes (leaf_turn_at f)
 leaf_turn_test family.Expression = refl
 leaf_turn_test _ = refl
 
 pub leaf_turn : (f : Family) (c : Class) → IsTrue (has_leaf f c) → turn c ≡ turns.Plain
-leaf_turn f c h = turn_is (turn c) turns.Plain (modus (has_leaf f c) (same_turn (turn c) turns.Plain) (every_at (leaf_turn_at f) (leaf_turn_test f) c) h)
+leaf_turn f c h = turn_is (turn c) turns.Plain (modus (has_leaf f c) (same_turn (turn c) turns.Plain) (passes_at (leaf_turn_at f) (leaf_turn_test f) c) h)
 
 -- ---- where a tree stands
 

@@ -1,6 +1,7 @@
 // How a reader of rows chooses by the class of the next token.
 ghost use Rattle.std.specs.Prelude.{◌≡◌, MatchOption, Some, None};
 ghost use Rattle.c_rows.specs.Choice as choice;
+ghost use Rattle.c_rows.specs.declared.kind.Family.TheVariants as families;
 
 use crate::{
     Class, Family, Fork, Kind, Rule, Symbol, Word, begins, begins_expression, begins_specs,
@@ -159,35 +160,56 @@ fn heads(family: Family) -> &'static [Rule]
     }
 }
 
-/// The rules of a family whose rows begin with a part of the family itself.
-fn tails(family: Family) -> &'static [Rule]
-    ensures { result.now ≡ choice.tails family }
+/// The rule by which an expression goes on at this class. Asked behind each operand, so it is a table.
+fn expression_tail(class: Class) -> Option<Rule>
+    ensures { result ≡ choice.tail families.Expression class }
 {
-    match family {
-        Family::Expression => &[
-            Rule::Index,
-            Rule::Call,
-            Rule::Member,
-            Rule::Arrow,
-            Rule::PostOp,
-            Rule::OrOr,
-            Rule::AndAnd,
-            Rule::Or,
-            Rule::Xor,
-            Rule::And,
-            Rule::Equality,
-            Rule::Order,
-            Rule::Shift,
-            Rule::Sum,
-            Rule::Product,
-            Rule::Cond,
-            Rule::CondShort,
-            Rule::Assign,
-            Rule::Comma,
-        ],
-        Family::Declarator => &[Rule::DArray, Rule::DFun, Rule::Bits, Rule::InitDecl],
-        Family::Enumerator => &[Rule::EnumValue],
-        _ => &[],
+    match class {
+        Class::LeftBracket => Some(Rule::Index),
+        Class::ParenNest | Class::ParenList | Class::CastNest => Some(Rule::Call),
+        Class::CastList | Class::LiteralNest | Class::LiteralList => Some(Rule::Call),
+        Class::Dot => Some(Rule::Member),
+        Class::Arrow => Some(Rule::Arrow),
+        Class::Step => Some(Rule::PostOp),
+        Class::OrOr => Some(Rule::OrOr),
+        Class::AndAnd => Some(Rule::AndAnd),
+        Class::Or => Some(Rule::Or),
+        Class::Xor => Some(Rule::Xor),
+        Class::And => Some(Rule::And),
+        Class::Equality => Some(Rule::Equality),
+        Class::Order => Some(Rule::Order),
+        Class::Shift => Some(Rule::Shift),
+        Class::Plus => Some(Rule::Sum),
+        Class::Star | Class::Slash => Some(Rule::Product),
+        Class::Question => Some(Rule::Cond),
+        Class::ShortQuestion => Some(Rule::CondShort),
+        Class::Equal | Class::Assign => Some(Rule::Assign),
+        Class::Comma => Some(Rule::Comma),
+        _ => None,
+    }
+}
+
+/// The rule by which a declarator goes on at this class.
+fn declarator_tail(class: Class) -> Option<Rule>
+    ensures { result ≡ choice.tail families.Declarator class }
+{
+    match class {
+        Class::LeftBracket => Some(Rule::DArray),
+        Class::ParenNest | Class::ParenList | Class::CastNest => Some(Rule::DFun),
+        Class::CastList | Class::LiteralNest | Class::LiteralList => Some(Rule::DFun),
+        Class::Colon => Some(Rule::Bits),
+        Class::Equal => Some(Rule::InitDecl),
+        _ => None,
+    }
+}
+
+/// The rule by which an enumerator goes on at this class.
+fn enumerator_tail(class: Class) -> Option<Rule>
+    ensures { result ≡ choice.tail families.Enumerator class }
+{
+    match class {
+        Class::Equal => Some(Rule::EnumValue),
+        _ => None,
     }
 }
 
@@ -244,10 +266,10 @@ pub fn head(family: Family, class: Class) -> Option<Rule>
 pub fn tail(family: Family, class: Class) -> Option<Rule>
     ensures value { result ≡ choice.tail family class }
 {
-    for rule in tails(family) {
-        if opens(own(*rule), class) {
-            return Some(*rule);
-        }
+    match family {
+        Family::Expression => expression_tail(class),
+        Family::Declarator => declarator_tail(class),
+        Family::Enumerator => enumerator_tail(class),
+        _ => None,
     }
-    None
 }

@@ -263,7 +263,9 @@ fn length_of_nested(alloc: Global, count: usize) -> Result<Option<usize>, NoMemo
 }
 
 #[test]
-fn a_thousand_levels_are_read_copied_and_written_inside_a_thread(rt: HostRuntime) -> Result<(), Fail> {
+fn a_thousand_levels_are_read_copied_and_written_inside_a_thread(
+    rt: HostRuntime,
+) -> Result<(), Fail> {
     let alloc = rt.alloc();
     let (most, more) = thread::join(
         &rt,

@@ -4,6 +4,7 @@ mod StepLemmas
 mod Growing
 mod CallLemmas
 mod OperandLemmas
+mod EndsLemmas
 mod SightLemmas
 mod DepthLemmas
 mod RangeLemmas

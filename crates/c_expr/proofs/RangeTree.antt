@@ -19,6 +19,7 @@ use Rattle.c_rows.specs.declared.kind.Kind.{Kind}
 use Rattle.c_rows.specs.Look.{Names, look}
 use Rattle.c_rows.specs.Seen.{Seen}
 use Rattle.c_rows.specs.Range.{leads_member, may_be_type, NoMember, AreSeenAs}
+use Rattle.c_rows.specs.Scan.{ends_as_member}
 use Rattle.c_rows.specs.Trees.{IsTreeOf, stands_alone}
 use Rattle.c_rows.proofs.RangeLemmas.{tree_leaves}
 use Rattle.c_rows.proofs.TreeLemmas.{tree_spelled, alone_stops}
@@ -92,9 +93,9 @@ no_bool h = let never : ⊥ = cc in absurd never
 seen_some : (names : Names) (leads : Bool) (ts : List Token) → ((ss : List Seen) → AreSeenAs names leads ts ss → ⊥) → ⊥
 seen_some names leads [] f = f [] tt
 seen_some names leads (t ∷ ts) f = seen_some names (leads_member t) ts (λ ss a.
-    let none : NoMember (seen_at names t ts false ∷ ss) → IsTrue leads → IsTrue (may_be_type (seen_at names t ts false ∷ ss)) → ⊥ = λ n h m.
-    f (seen_at names t ts true ∷ ss) (record { token = refl; class = refl; marked = λ x. (h, m, n); unmarked_else = λ x y z. refl }, a) in
-    f (seen_at names t ts false ∷ ss) (record { token = refl; class = refl; marked = no_bool; unmarked_else = λ x y z. absurd (none z x y) }, a))
+    let none : NoMember (seen_at names t ts false ∷ ss) → IsTrue leads → IsTrue (may_be_type (seen_at names t ts false ∷ ss)) → IsTrue (ends_as_member names (t ∷ ts)) → ⊥ = λ n h m w.
+    f (seen_at names t ts true ∷ ss) (record { token = refl; class = refl; marked = λ x. (h, m, w, n); unmarked_else = λ x y w z. refl }, a) in
+    f (seen_at names t ts false ∷ ss) (record { token = refl; class = refl; marked = no_bool; unmarked_else = λ x y w z. absurd (none z x y w) }, a))
 
 -- ---- the one tree
 

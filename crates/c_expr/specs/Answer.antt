@@ -5,6 +5,7 @@ use Rattle.c_terms.specs.declared.tree.Tree.{Tree}
 use Rattle.c_rows.specs.declared.kind.Kind.{Kind}
 use Rattle.c_rows.specs.Look.{Names}
 use Rattle.c_rows.specs.Trees.{IsTreeOf}
+use Rattle.c_rows.specs.Limits.{most_open}
 use Rattle.c_rows.specs.Depth.{opens_of}
 use Rattle.c_expr.specs.declared.fault.ParseFault.{ParseFault}
 use Rattle.c_expr.specs.declared.fault.ParseFault.TheVariants.{NoTree, TooDeep, NoMemory}
@@ -20,8 +21,8 @@ pub record Reads (kind : Kind) (names : Names) (tokens : List Token) (result : R
   -- what is answered is a tree of the tokens
   pub found : IfOk result (λ t. IsTreeOf kind names tokens t)
   -- it is their only one, ids included
-  pub only : (t : Tree) → IsTreeOf kind names tokens t → opens_of tokens ≤ 200 → Answers t result
+  pub only : (t : Tree) → IsTreeOf kind names tokens t → opens_of tokens ≤ most_open → Answers t result
   -- where NoTree is answered, they have none
   pub no_tree : result ≡ Err NoTree → (t : Tree) → IsTreeOf kind names tokens t → ⊥
   -- TooDeep is answered exactly over 200 open brackets
-  pub too_deep : (result ≡ Err TooDeep) ↔ (200 < opens_of tokens)
+  pub too_deep : (result ≡ Err TooDeep) ↔ (most_open < opens_of tokens)

@@ -4,4 +4,5 @@ pub mod Answer
 -- What the steps of the parser ensure.
 
 pub mod Steps
+pub mod Ends
 pub mod Sight

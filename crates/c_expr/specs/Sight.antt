@@ -17,7 +17,7 @@ led (Some t) = leads_member t
 abbrev pub leads_before : List Token → ℕ → Bool
 leads_before ts i = if i == 0 then false else led (slice_get ts (i - 1))
 
--- whether the front of the list is marked
-pub record Marked (typed leads : Bool) (ss : List Seen) : Type 0 where
-  pub only : IsTrue typed → IsTrue leads × IsTrue (may_be_type ss) × NoMember ss
-  pub all : IsTrue leads → IsTrue (may_be_type ss) → NoMember ss → IsTrue typed
+-- whether the front of the list is marked; `ends` says that what begins there ends as a member does
+pub record Marked (typed leads ends : Bool) (ss : List Seen) : Type 0 where
+  pub only : IsTrue typed → IsTrue leads × IsTrue (may_be_type ss) × IsTrue ends × NoMember ss
+  pub all : IsTrue leads → IsTrue (may_be_type ss) → IsTrue ends → NoMember ss → IsTrue typed

@@ -1,6 +1,7 @@
 // How many brackets are open at once.
 ghost use Rattle.std.specs.Prelude.{◌≡◌, ◌≤◌, ◌<◌, ◌↔◌, IsTrue};
 ghost use Rattle.std.specs.Str.{bytes_eq};
+ghost use Rattle.c_rows.specs.Limits.{most_open};
 ghost use Rattle.c_rows.specs.Depth.{opens_of, step};
 
 use c_terms::Token;
@@ -16,7 +17,7 @@ fn is(text: &[u8], word: &[u8]) -> bool
 
 /// The depth behind a token.
 fn depth_after(token: &Token, depth: usize) -> usize
-    requires { depth ≤ 200 }
+    requires { depth ≤ most_open }
     ensures { result ≡ step token.now depth }
 {
     let text = token.text.as_bytes();
@@ -31,7 +32,7 @@ fn depth_after(token: &Token, depth: usize) -> usize
 
 /// More than 200 brackets are open at once.
 pub fn is_too_deep(tokens: &[Token]) -> bool
-    ensures { IsTrue result ↔ (200 < opens_of tokens.now) }
+    ensures { IsTrue result ↔ (most_open < opens_of tokens.now) }
 {
     let mut depth = 0;
     for token in tokens {

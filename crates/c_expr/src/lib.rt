@@ -11,13 +11,14 @@
 //! other tree of its kind is, and NoTree comes only where none is. A tree has at most 1,000 levels of branches.
 //!
 //! Recursion goes five calls deep for each level. A faulty range costs no more than a right one: the parser never goes
-//! back, but that behind `(` and `,` what may be a type by its first three tokens is tried as an expression before the
-//! range is read.
+//! back, but that behind `(` and `,` what may be a type by its first three tokens and by its end is tried as an expression
+//! before the range is read.
 //!
 //! The calls for declarations, statements and items are in the crates above. Cutting text into tokens is for c_lexer.
 #![tactic(auto)]
 
 mod depth;
+mod ends;
 mod fault;
 mod laws;
 mod parse;

@@ -5,6 +5,7 @@ ghost use Rattle.c_terms.specs.Trees.{levels};
 ghost use Rattle.c_rows.specs.declared.kind.Kind.TheVariants as kinds;
 ghost use Rattle.c_rows.specs.Spells.{Spells};
 ghost use Rattle.c_rows.specs.Choice.{stops};
+ghost use Rattle.c_rows.specs.Limits.{most_levels};
 ghost use Rattle.c_rows.specs.Trees.{IsTreeOf, stands_alone};
 ghost use Rattle.c_expr.specs.Answer.{Answers, Reads};
 
@@ -19,10 +20,10 @@ use std::alloc::Global;
 /// The one tree of the kind that spells a range as it is seen, all of it.
 fn parse_seen<'a, 't>(alloc: Global, kind: Kind, seen: &'a [Seen<'t>]) -> Result<Tree, ParseFault>
     requires { IsTrue (stops kind Class.End) }
-    ensures found { IfOk result (λ t. Spells kind seen.now t [] × (levels t ≤ 1000)) }
-    ensures only { (t : Tree) → Spells kind seen.now t [] → levels t ≤ 1000 → Answers t result }
+    ensures found { IfOk result (λ t. Spells kind seen.now t [] × (levels t ≤ most_levels)) }
+    ensures only { (t : Tree) → Spells kind seen.now t [] → levels t ≤ most_levels → Answers t result }
     ensures no_tree { result ≡ Err ParseFault.NoTree → (t : Tree) → Spells kind seen.now t [] →
-        levels t ≤ 1000 → ⊥ }
+        levels t ≤ most_levels → ⊥ }
     ensures not_deep { result ≡ Err ParseFault.TooDeep → ⊥ }
 {
     let found = parse(alloc, MOST_LEVELS, kind, seen)?;
@@ -52,8 +53,8 @@ fn parse_shallow(
 
 /// The one tree of the kind that spells the tokens `from..to`: any kind but those that are read within a list, which are
 /// Args, TypeArg, Params, Param, InitItem, NamelessBits, EnumName and Enumerator. Linear, but that behind each `(` and
-/// `,` what may be a type by its first three tokens is read beforehand, so a token at most twice, and once more
-/// for each bracket and each `?` around it. Recurses five calls deep for each of at most 1,000 levels.
+/// `,` what may be a type by its first three tokens and by its end is read beforehand, so a token at most twice, and once
+/// more for each bracket around it. Recurses five calls deep for each of at most 1,000 levels.
 pub fn parse_kind(
     alloc: Global,
     kind: Kind,

@@ -4,6 +4,7 @@ ghost use Rattle.c_rows.specs.Range.{NoMember, AreSeenAs};
 ghost use Rattle.c_expr.specs.Sight.{decided, leads_before, Marked};
 
 use crate::ParseFault;
+use crate::ends::Ends;
 use crate::parse::parse;
 use c_rows::{Class, Kind, Seen, ends_member, front, leads_member, look, may_be_type};
 use c_terms::{Names, Token};
@@ -38,13 +39,18 @@ fn leads_before(tokens: &[Token], i: usize) -> bool
     }
 }
 
-/// The first token is marked: a member of a call's list may begin there, by the first three tokens it may be a type, and
-/// no expression can be that member.
-fn is_marked<'a, 't>(alloc: Global, leads: bool, rest: &'a [Seen<'t>]) -> Result<bool, ParseFault>
-    ensures value { IfOk result (λ typed. Marked typed leads rest.now) }
+/// The first token is marked: a member of a call's list may begin there, by the first three tokens and by its end it may
+/// be a type, and no expression can be that member.
+fn is_marked<'a, 't>(
+    alloc: Global,
+    leads: bool,
+    ends: bool,
+    rest: &'a [Seen<'t>],
+) -> Result<bool, ParseFault>
+    ensures value { IfOk result (λ typed. Marked typed leads ends rest.now) }
     ensures fault { IfErr result (λ fault. fault ≡ ParseFault.NoMemory) }
 {
-    if !leads || !may_be_type(rest) {
+    if !leads || !ends || !may_be_type(rest) {
         return Ok(false);
     }
     has_no_member(alloc, rest)
@@ -63,8 +69,8 @@ fn unseen<'t>(alloc: Global, tokens: &'t [Token]) -> Result<Vec<Seen<'t>>, Parse
 }
 
 /// The tokens as they are seen, from the last one on. Linear, but that behind each `(` and `,`, whether a call's list is
-/// there or not, what may be a type by its first three tokens is read as an expression. So a token is read at most once,
-/// and once more for each bracket and each `?` around it, within 1,000 levels.
+/// there or not, what may be a type by its first three tokens and by its end is read as an expression. Such members lie
+/// beside each other, so a token is read at most once for each bracket around it.
 pub fn see<'t>(
     alloc: Global,
     names: &Names,
@@ -74,13 +80,16 @@ pub fn see<'t>(
     ensures fault { IfErr result (λ fault. fault ≡ ParseFault.NoMemory) }
 {
     let mut seen = unseen(alloc, tokens)?;
+    let mut ends = Ends::at_end(alloc);
     let mut next = Class::End;
     let mut i = tokens.len();
     while i > 0 {
         i -= 1;
         next = look(names, &tokens[i], &tokens[i + 1..], next);
+        ends.pass(next)?;
         seen[i] = Seen::new(&tokens[i], next, false);
-        let typed = is_marked(alloc, leads_before(tokens, i), &seen[i..])?;
+        let leads = leads_before(tokens, i);
+        let typed = is_marked(alloc, leads, ends_member(ends.nearest()), &seen[i..])?;
         seen[i] = Seen::new(&tokens[i], next, typed);
     }
     Ok(seen)

@@ -12,24 +12,12 @@ use Rattle.c_rows.specs.Rows.{Row}
 use Rattle.c_rows.specs.Look.{Names, look}
 use Rattle.c_rows.specs.Words.{ends_member}
 use Rattle.c_rows.specs.Derives.{Derives, leaf, branch, DerivesRow, done, word, child, argument, type_argument, fork}
-use Rattle.c_rows.specs.Choice.{every, implies}
-use Rattle.c_rows.proofs.Checks.{and_left, and_right, modus, every_at, not_true}
-use Rattle.c_rows.proofs.BracketTests.{Turn, opening, closing, asking, parting, plain, Place, inside, expression, typed, turn, word_turn, turn_of, leaf_turn, suits, suits_within, suits_fork, depth, deep, is_inside, may_ask, fine_word, fine, rule_fine, way_fine}
-
-abbrev step : Turn → ℕ → List Token → (ℕ → List Token) → List Token
-step opening d here go = go (suc d)
-step closing zero here go = here
-step closing (suc d) here go = go d
-step asking zero here go = here
-step asking (suc d) here go = go (suc d)
-step parting zero here go = here
-step parting (suc d) here go = go (suc d)
-step plain d here go = go d
-
--- In so many brackets: the first `?`, comma or closing bracket that stands in none.
-unfoldable scan : Names → ℕ → List Token → List Token
-scan names d [] = []
-scan names d (t ∷ ts) = step (turn (look names (t ∷ ts))) d (t ∷ ts) (λ e. scan names e ts)
+use Rattle.c_rows.specs.Choice.{implies}
+use Rattle.c_rows.proofs.Checks.{and_left, and_right, modus, not_true, Passes, passes_at}
+use Rattle.c_rows.proofs.BracketTests.{Place, inside, expression, typed, word_turn, turn_of, leaf_turn, suits, suits_within, suits_fork, depth, deep, is_inside, may_ask, fine_word, fine, rule_fine, way_fine}
+use Rattle.c_rows.specs.declared.turn.Turn.{Turn}
+use Rattle.c_rows.specs.declared.turn.Turn.TheVariants as turns
+use Rattle.c_rows.specs.Scan.{turn, step, scan, ends_as_member}
 
 -- ---- the scan
 
@@ -44,7 +32,7 @@ base expression n = zero
 base typed n = zero
 
 abbrev is_asking : Turn → Bool
-is_asking asking = true
+is_asking turns.Asking = true
 is_asking _ = false
 
 module _ (names : Names) where
@@ -74,19 +62,19 @@ module _ (names : Names) where
   -- a word of a row, with e brackets of the row open before it
   word_goes : (u : Turn) (e : ℕ) (p : Place) (n : ℕ) (t : Token) (ts ys : List Token) (ps : Row) → turn (look names (t ∷ ts)) ≡ u → IsTrue (fine_word u e p (fine p ps))
       → ((i : ℕ) → IsTrue (fine p ps i) → Goes p ts (above i (base p n)) (base p n) ys) → Goes p (t ∷ ts) (above e (base p n)) (base p n) ys
-  word_goes opening e p n t ts ys ps h l go = carry p (t ∷ ts) ts ys _ (above (suc e) (base p n)) _ (step_scan opening t ts (above e (base p n)) h) (go (suc e) l)
-  word_goes closing zero p n t ts ys ps h l go = let never : ⊥ = cc in absurd never
-  word_goes closing (suc e) p n t ts ys ps h l go = carry p (t ∷ ts) ts ys _ (above e (base p n)) _ (step_scan closing t ts (above (suc e) (base p n)) h) (go e l)
-  word_goes asking zero inside n t ts ys ps h l go = carry inside (t ∷ ts) ts ys _ (suc n) _ (step_scan asking t ts (suc n) h) (go 0 l)
-  word_goes asking zero expression n t ts ys ps h l go =
-      inr (refl, subst (λ (x : List Token). IsTrue (is_asking (turn (look names x)))) (sym (step_scan asking t ts 0 h)) (ap is_asking h))
-  word_goes asking zero typed n t ts ys ps h l go = let never : ⊥ = cc in absurd never
-  word_goes asking (suc e) p n t ts ys ps h l go = carry p (t ∷ ts) ts ys _ (above (suc e) (base p n)) _ (step_scan asking t ts (above (suc e) (base p n)) h) (go (suc e) l)
-  word_goes parting zero inside n t ts ys ps h l go = carry inside (t ∷ ts) ts ys _ (suc n) _ (step_scan parting t ts (suc n) h) (go 0 l)
-  word_goes parting zero expression n t ts ys ps h l go = let never : ⊥ = cc in absurd never
-  word_goes parting zero typed n t ts ys ps h l go = let never : ⊥ = cc in absurd never
-  word_goes parting (suc e) p n t ts ys ps h l go = carry p (t ∷ ts) ts ys _ (above (suc e) (base p n)) _ (step_scan parting t ts (above (suc e) (base p n)) h) (go (suc e) l)
-  word_goes plain e p n t ts ys ps h l go = carry p (t ∷ ts) ts ys _ (above e (base p n)) _ (step_scan plain t ts (above e (base p n)) h) (go e l)
+  word_goes turns.Opening e p n t ts ys ps h l go = carry p (t ∷ ts) ts ys _ (above (suc e) (base p n)) _ (step_scan turns.Opening t ts (above e (base p n)) h) (go (suc e) l)
+  word_goes turns.Closing zero p n t ts ys ps h l go = let never : ⊥ = cc in absurd never
+  word_goes turns.Closing (suc e) p n t ts ys ps h l go = carry p (t ∷ ts) ts ys _ (above e (base p n)) _ (step_scan turns.Closing t ts (above (suc e) (base p n)) h) (go e l)
+  word_goes turns.Asking zero inside n t ts ys ps h l go = carry inside (t ∷ ts) ts ys _ (suc n) _ (step_scan turns.Asking t ts (suc n) h) (go 0 l)
+  word_goes turns.Asking zero expression n t ts ys ps h l go =
+      inr (refl, subst (λ (x : List Token). IsTrue (is_asking (turn (look names x)))) (sym (step_scan turns.Asking t ts 0 h)) (ap is_asking h))
+  word_goes turns.Asking zero typed n t ts ys ps h l go = let never : ⊥ = cc in absurd never
+  word_goes turns.Asking (suc e) p n t ts ys ps h l go = carry p (t ∷ ts) ts ys _ (above (suc e) (base p n)) _ (step_scan turns.Asking t ts (above (suc e) (base p n)) h) (go (suc e) l)
+  word_goes turns.Parting zero inside n t ts ys ps h l go = carry inside (t ∷ ts) ts ys _ (suc n) _ (step_scan turns.Parting t ts (suc n) h) (go 0 l)
+  word_goes turns.Parting zero expression n t ts ys ps h l go = let never : ⊥ = cc in absurd never
+  word_goes turns.Parting zero typed n t ts ys ps h l go = let never : ⊥ = cc in absurd never
+  word_goes turns.Parting (suc e) p n t ts ys ps h l go = carry p (t ∷ ts) ts ys _ (above (suc e) (base p n)) _ (step_scan turns.Parting t ts (above (suc e) (base p n)) h) (go (suc e) l)
+  word_goes turns.Plain e p n t ts ys ps h l go = carry p (t ∷ ts) ts ys _ (above e (base p n)) _ (step_scan turns.Plain t ts (above e (base p n)) h) (go e l)
 
   child_goes : (e : ℕ) (p : Place) (n : ℕ) (k : Kind) (xs us ys : List Token) → IsTrue (deep e || suits p k)
       → ((q : Place) (m : ℕ) → IsTrue (suits q k) → Goes q xs (base q m) (base q m) us) → Goes p us (above e (base p n)) (base p n) ys → Goes p xs (above e (base p n)) (base p n) ys
@@ -103,7 +91,7 @@ module _ (names : Names) where
     mutual
       -- the scan passes over a tree
       tree_goes : {k : Kind} {xs ys : List Token} {t : Tree} → Derives names may k xs t ys → (p : Place) (n : ℕ) → IsTrue (suits p k) → Goes p xs (base p n) (base p n) ys
-      tree_goes {k} (leaf {t = t} {ys = ys} h) p n s = inl (step_scan plain t ys (base p n) (leaf_turn (family_of k) (look names (t ∷ ys)) h))
+      tree_goes {k} (leaf {t = t} {ys = ys} h) p n s = inl (step_scan turns.Plain t ys (base p n) (leaf_turn (family_of k) (look names (t ∷ ys)) h))
       tree_goes {k} (branch r w b al parts) p n s = row_goes parts p n 0 (rule_fine p r (suits_within p (kind_of r) k w s))
 
       row_goes : {ps : Row} {xs ys : List Token} {cs : List Tree} → DerivesRow names may ps xs cs ys → (p : Place) (n e : ℕ) → IsTrue (fine p ps e) → Goes p xs (above e (base p n)) (base p n) ys
@@ -125,29 +113,29 @@ module _ (names : Names) where
   -- ---- the end of a member
 
   abbrev halts : Turn → Bool
-  halts opening = false
-  halts closing = true
-  halts asking = true
-  halts parting = true
-  halts plain = false
+  halts turns.Opening = false
+  halts turns.Closing = true
+  halts turns.Asking = true
+  halts turns.Parting = true
+  halts turns.Plain = false
 
   halt : (u : Turn) (here : List Token) (go : ℕ → List Token) → IsTrue (halts u) → step u 0 here go ≡ here
-  halt opening here go h = let never : ⊥ = cc in absurd never
-  halt closing here go h = refl
-  halt asking here go h = refl
-  halt parting here go h = refl
-  halt plain here go h = let never : ⊥ = cc in absurd never
+  halt turns.Opening here go h = let never : ⊥ = cc in absurd never
+  halt turns.Closing here go h = refl
+  halt turns.Asking here go h = refl
+  halt turns.Parting here go h = refl
+  halt turns.Plain here go h = let never : ⊥ = cc in absurd never
 
   abbrev end_halts_at : Class → Bool
   end_halts_at c = implies (ends_member c) (halts (turn c))
 
-  end_halts_test : IsTrue (every end_halts_at)
+  end_halts_test : Passes end_halts_at
   end_halts_test = refl
 
   abbrev end_asks_at : Class → Bool
   end_asks_at c = implies (ends_member c) (not (is_asking (turn c)))
 
-  end_asks_test : IsTrue (every end_asks_at)
+  end_asks_test : Passes end_asks_at
   end_asks_test = refl
 
   stays : (xs : List Token) → IsTrue (ends_member (look names xs)) → scan names 0 xs ≡ xs
@@ -155,7 +143,7 @@ module _ (names : Names) where
   stays [] h = refl
   stays (t ∷ ts) h =
       halt (turn (look names (t ∷ ts))) (t ∷ ts) (λ e. scan names e ts)
-      (modus (ends_member (look names (t ∷ ts))) (halts (turn (look names (t ∷ ts)))) (every_at end_halts_at end_halts_test (look names (t ∷ ts))) h)
+      (modus (ends_member (look names (t ∷ ts))) (halts (turn (look names (t ∷ ts)))) (passes_at end_halts_at end_halts_test (look names (t ∷ ts))) h)
 
   -- A type and an expression without commas that begin at one token, and end where a member of a call's list may end, end at one token.
   -- Proof: outside brackets a type has no `?` and no comma, and an expression has a comma only behind a `?`.
@@ -171,9 +159,19 @@ module _ (names : Names) where
         | inl i ↦ sym a ∙ i ∙ stays zs g
         | inr i ↦ let asks : IsTrue (is_asking (turn (look names ys))) = subst (λ (l : List Token). IsTrue (is_asking (turn (look names l)))) a i.1 in
             let quiet : is_asking (turn (look names ys)) ≡ false =
-            not_true (is_asking (turn (look names ys))) (modus (ends_member (look names ys)) (not (is_asking (turn (look names ys)))) (every_at end_asks_at end_asks_test (look names ys)) h) in
+            not_true (is_asking (turn (look names ys))) (modus (ends_member (look names ys)) (not (is_asking (turn (look names ys)))) (passes_at end_asks_at end_asks_test (look names ys)) h) in
             absurd (true_false (sym asks ∙ quiet))
       ]
+    where
+      true_false : true ≡ false → ⊥
+      true_false e = cc
+
+  -- A member that can be a type ends where the scan from its first token does.
+  pub type_ends : (may : List Token → List Token → Type 0) {xs ys : List Token} {t : Tree} → Derives names may kind.TypeArg xs t ys → IsTrue (ends_member (look names ys)) → IsTrue (ends_as_member names xs)
+  type_ends may {xs} {ys} d h = elim (tree_goes may d typed 0 refl) as (λ _. IsTrue (ends_as_member names xs)) [
+    | inl i ↦ subst (λ (l : List Token). IsTrue (ends_member (look names l))) (sym (i ∙ stays ys h)) h
+    | inr i ↦ let never : ⊥ = true_false (sym i.0) in absurd never
+  ]
     where
       true_false : true ≡ false → ⊥
       true_false e = cc

@@ -15,95 +15,71 @@ use Rattle.c_rows.specs.declared.rule.Rule.TheVariants as rule
 use Rattle.c_rows.specs.declared.symbol.Symbol.TheVariants as symbol
 use Rattle.c_rows.specs.declared.symbol.Fork.{Fork}
 use Rattle.c_rows.specs.declared.symbol.Fork.TheVariants as forks
+use Rattle.c_rows.specs.declared.turn.Turn.{Turn}
+use Rattle.c_rows.specs.declared.turn.Turn.TheVariants as turns
 use Rattle.c_rows.specs.Words.{fits}
+use Rattle.c_rows.specs.Scan.{turn}
 use Rattle.c_rows.specs.Kinds.{within, has_leaf}
 use Rattle.c_rows.specs.Branches.{kind_of}
 use Rattle.c_rows.specs.Rows.{Row, row, ways}
-use Rattle.c_rows.specs.Choice.{every, implies}
-use Rattle.c_rows.proofs.Checks.{modus, every_at, row_at}
+use Rattle.c_rows.specs.Choice.{implies}
+use Rattle.c_rows.proofs.Checks.{modus, row_at, Passes, passes_at}
 use Rattle.c_rows.proofs.FirstLemmas.{within_trans}
 
--- what a token does to a scan
-pub data Turn : Type 0 where
-  opening : Turn
-  closing : Turn
-  asking : Turn
-  parting : Turn
-  plain : Turn
-
-abbrev pub turn : Class → Turn
-turn class.ParenNest = opening
-turn class.ParenList = opening
-turn class.CastNest = opening
-turn class.CastList = opening
-turn class.LiteralNest = opening
-turn class.LiteralList = opening
-turn class.LeftBracket = opening
-turn class.LeftBrace = opening
-turn class.PatOpen = opening
-turn class.PatOpenOfStatements = opening
-turn class.Close = closing
-turn class.RightBracket = closing
-turn class.RightBrace = closing
-turn class.PatClose = closing
-turn class.Question = asking
-turn class.Comma = parting
-turn _ = plain
-
 abbrev same_turn : Turn → Turn → Bool
-same_turn opening opening = true
-same_turn closing closing = true
-same_turn asking asking = true
-same_turn parting parting = true
-same_turn plain plain = true
+same_turn turns.Opening turns.Opening = true
+same_turn turns.Closing turns.Closing = true
+same_turn turns.Asking turns.Asking = true
+same_turn turns.Parting turns.Parting = true
+same_turn turns.Plain turns.Plain = true
 same_turn _ _ = false
 
 turn_is : (a b : Turn) → IsTrue (same_turn a b) → a ≡ b
-turn_is opening opening h = refl
-turn_is closing closing h = refl
-turn_is asking asking h = refl
-turn_is parting parting h = refl
-turn_is plain plain h = refl
+turn_is turns.Opening turns.Opening h = refl
+turn_is turns.Closing turns.Closing h = refl
+turn_is turns.Asking turns.Asking h = refl
+turn_is turns.Parting turns.Parting h = refl
+turn_is turns.Plain turns.Plain h = refl
 turn_is _ _ h = let never : ⊥ = cc in absurd never
 
 abbrev pub word_turn : Word → Turn
-word_turn words.ParenOpen = opening
-word_turn words.CastOpen = opening
-word_turn words.LiteralOpen = opening
-word_turn words.NestOpen = opening
-word_turn words.ListOpen = opening
-word_turn words.AnyOpen = opening
-word_turn words.LeftBracket = opening
-word_turn words.LeftBrace = opening
-word_turn words.PatOpen = opening
-word_turn words.PatOpenOfStatements = opening
-word_turn words.Close = closing
-word_turn words.RightBracket = closing
-word_turn words.RightBrace = closing
-word_turn words.PatClose = closing
-word_turn words.Question = asking
-word_turn words.Comma = parting
-word_turn _ = plain
+word_turn words.ParenOpen = turns.Opening
+word_turn words.CastOpen = turns.Opening
+word_turn words.LiteralOpen = turns.Opening
+word_turn words.NestOpen = turns.Opening
+word_turn words.ListOpen = turns.Opening
+word_turn words.AnyOpen = turns.Opening
+word_turn words.LeftBracket = turns.Opening
+word_turn words.LeftBrace = turns.Opening
+word_turn words.PatOpen = turns.Opening
+word_turn words.PatOpenOfStatements = turns.Opening
+word_turn words.Close = turns.Closing
+word_turn words.RightBracket = turns.Closing
+word_turn words.RightBrace = turns.Closing
+word_turn words.PatClose = turns.Closing
+word_turn words.Question = turns.Asking
+word_turn words.Comma = turns.Parting
+word_turn _ = turns.Plain
 
 abbrev word_turn_at : Word → Class → Bool
 word_turn_at w c = implies (fits w c) (same_turn (turn c) (word_turn w))
 
-word_turn_test : (w : Word) → IsTrue (every (word_turn_at w))
+word_turn_test : (w : Word) → Passes (word_turn_at w)
 word_turn_test words.ParenOpen = refl
 word_turn_test _ = refl
 
 pub turn_of : (w : Word) (c : Class) → IsTrue (fits w c) → turn c ≡ word_turn w
-turn_of w c f = turn_is (turn c) (word_turn w) (modus (fits w c) (same_turn (turn c) (word_turn w)) (every_at (word_turn_at w) (word_turn_test w) c) f)
+turn_of w c f = turn_is (turn c) (word_turn w) (modus (fits w c) (same_turn (turn c) (word_turn w)) (passes_at (word_turn_at w) (word_turn_test w) c) f)
 
 abbrev leaf_turn_at : Family → Class → Bool
-leaf_turn_at f c = implies (has_leaf f c) (same_turn (turn c) plain)
+leaf_turn_at f c = implies (has_leaf f c) (same_turn (turn c) turns.Plain)
 
-leaf_turn_test : (f : Family) → IsTrue (every (leaf_turn_at f))
+leaf_turn_test : (f : Family) → Passes (leaf_turn_at f)
 leaf_turn_test family.Expression = refl
 leaf_turn_test _ = refl
 
-pub leaf_turn : (f : Family) (c : Class) → IsTrue (has_leaf f c) → turn c ≡ plain
-leaf_turn f c h = turn_is (turn c) plain (modus (has_leaf f c) (same_turn (turn c) plain) (every_at (leaf_turn_at f) (leaf_turn_test f) c) h)
+pub leaf_turn : (f : Family) (c : Class) → IsTrue (has_leaf f c) → turn c ≡ turns.Plain
+leaf_turn f c h = turn_is (turn c) turns.Plain (modus (has_leaf f c) (same_turn (turn c) turns.Plain) (passes_at (leaf_turn_at f) (leaf_turn_test f) c) h)
 
 -- ---- where a tree stands
 
@@ -224,14 +200,14 @@ fine_ask expression b = true
 fine_ask typed b = false
 
 abbrev pub fine_word : Turn → ℕ → Place → (ℕ → Bool) → Bool
-fine_word opening e p go = go (suc e)
-fine_word closing zero p go = false
-fine_word closing (suc e) p go = go e
-fine_word asking zero p go = fine_ask p (go 0)
-fine_word asking (suc e) p go = go (suc e)
-fine_word parting zero p go = is_inside p && go 0
-fine_word parting (suc e) p go = go (suc e)
-fine_word plain e p go = go e
+fine_word turns.Opening e p go = go (suc e)
+fine_word turns.Closing zero p go = false
+fine_word turns.Closing (suc e) p go = go e
+fine_word turns.Asking zero p go = fine_ask p (go 0)
+fine_word turns.Asking (suc e) p go = go (suc e)
+fine_word turns.Parting zero p go = is_inside p && go 0
+fine_word turns.Parting (suc e) p go = go (suc e)
+fine_word turns.Plain e p go = go e
 
 -- What is left of a row closes the brackets that are open in it, and no more.
 abbrev pub fine : Place → Row → ℕ → Bool

@@ -17,7 +17,7 @@ use Rattle.c_rows.specs.Branches.{kind_of, begins, may_go}
 use Rattle.c_rows.specs.Rows.{Row, row, ways}
 use Rattle.c_rows.specs.Choice.{head, tail, choose, pick_way, stops, stops_fork, ends, opens, leads, begins_way, every, implies, row_ok, steady, row_fine, weight, left, own, bottom}
 use Rattle.c_rows.proofs.Numbers.{rules, rule_number, rule_listed}
-pub use Rattle.c_rows.proofs.FirstChecks.{and_left, and_right, modus, both, implies_both, not_true, every_from, at, every_at, row_at, closes, joins_at, member_at, joins, joins_rule, joins_way, closes_rule, closes_way, opens_rule, leaf_first, member_after, member_stops, member_first}
+pub use Rattle.c_rows.proofs.FirstChecks.{and_left, and_right, modus, both, implies_both, not_true, every_from, at, every_at, row_at, closes, joins_at, member_at, joins, joins_rule, joins_way, closes_rule, closes_way, opens_rule, leaf_first, member_after, member_stops, member_first, Passes, passes_at}
 
 -- ---- the choice of a way
 
@@ -33,7 +33,7 @@ apart f (ps ∷ more) c = implies (leads f ps c) (not (any_leads f more c)) && a
 abbrev apart_at : Fork → Class → Bool
 apart_at f c = apart f (ways f) c
 
-apart_test : (f : Fork) → IsTrue (every (apart_at f))
+apart_test : (f : Fork) → Passes (apart_at f)
 apart_test forks.FirstString = refl
 apart_test _ = refl
 
@@ -66,7 +66,7 @@ picked f (x ∷ xs) (suc i) ps c a e l =
     later false h y p = p
 
 pub leads_way : (f : Fork) (i : ℕ) (ps : Row) (c : Class) → slice_get (ways f) i ≡ Some ps → IsTrue (leads f ps c) → choose f c ≡ Some ps
-leads_way f i ps c e l = picked f (ways f) i ps c (every_at (apart_at f) (apart_test f) c) e l
+leads_way f i ps c e l = picked f (ways f) i ps c (passes_at (apart_at f) (apart_test f) c) e l
 
 -- no way begins with a fork
 abbrev pub unforked : Row → Bool
@@ -143,12 +143,12 @@ way_fine f i ps e = both (row_ok ps) (steady ps) (way_ok f i ps e) (row_at stead
 abbrev ends_at : Rule → Class → Bool
 ends_at r c = implies (stops (kind_of r) c) (ends (own r) c)
 
-ends_test : (r : Rule) → IsTrue (every (ends_at r))
+ends_test : (r : Rule) → Passes (ends_at r)
 ends_test rule.Paren = refl
 ends_test _ = refl
 
 pub ends_rule : (r : Rule) (c : Class) → IsTrue (stops (kind_of r) c) → IsTrue (ends (own r) c)
-ends_rule r c = modus (stops (kind_of r) c) (ends (own r) c) (every_at (ends_at r) (ends_test r) c)
+ends_rule r c = modus (stops (kind_of r) c) (ends (own r) c) (passes_at (ends_at r) (ends_test r) c)
 
 abbrev way_ends_at : Fork → Row → Class → Bool
 way_ends_at f ps c = implies (stops_fork f c) (ends ps c)
@@ -208,12 +208,12 @@ heads r None c = implies (begins r c && opens (row r) c) (is_rule r (head (famil
 abbrev heads_at : Rule → Class → Bool
 heads_at r c = heads r (left r) c
 
-heads_test : (r : Rule) → IsTrue (every (heads_at r))
+heads_test : (r : Rule) → Passes (heads_at r)
 heads_test rule.Paren = refl
 heads_test _ = refl
 
 heads_here : (r : Rule) (c : Class) → left r ≡ None → IsTrue (begins r c) → IsTrue (opens (row r) c) → IsTrue (is_rule r (head (family_of (kind_of r)) c) && not (has_leaf (family_of (kind_of r)) c))
-heads_here r c e b o = modus (begins r c && opens (row r) c) _ (subst (λ (k : Option Kind). IsTrue (heads r k c)) e (every_at (heads_at r) (heads_test r) c)) (both (begins r c) (opens (row r) c) b o)
+heads_here r c e b o = modus (begins r c && opens (row r) c) _ (subst (λ (k : Option Kind). IsTrue (heads r k c)) e (passes_at (heads_at r) (heads_test r) c)) (both (begins r c) (opens (row r) c) b o)
 
 pub head_is : (r : Rule) (c : Class) → left r ≡ None → IsTrue (begins r c) → IsTrue (opens (row r) c) → head (family_of (kind_of r)) c ≡ Some r
 head_is r c e b o = rule_is r (head (family_of (kind_of r)) c) (and_left (is_rule r (head (family_of (kind_of r)) c)) _ (heads_here r c e b o))
@@ -245,13 +245,13 @@ goes r (Some l) c = implies (opens (own r) c) (is_rule r (tail (family_of (kind_
 abbrev goes_at : Rule → Class → Bool
 goes_at r c = goes r (left r) c
 
-goes_test : (r : Rule) → IsTrue (every (goes_at r))
+goes_test : (r : Rule) → Passes (goes_at r)
 goes_test rule.Paren = refl
 goes_test _ = refl
 
 pub tail_is : (r : Rule) (l : Kind) (c : Class) → left r ≡ Some l → IsTrue (opens (own r) c) → tail (family_of (kind_of r)) c ≡ Some r
 tail_is r l c e o =
-    rule_is r _ (modus (opens (own r) c) _ (subst (λ (k : Option Kind). IsTrue (goes r k c)) e (every_at (goes_at r) (goes_test r) c)) o)
+    rule_is r _ (modus (opens (own r) c) _ (subst (λ (k : Option Kind). IsTrue (goes r k c)) e (passes_at (goes_at r) (goes_test r) c)) o)
 
 -- a left part ends where its rule goes on
 abbrev pairs : Rule → Option Kind → Rule → Class → Bool
@@ -280,7 +280,7 @@ no_left c (Some r) = is_none (left r) && begins r c
 abbrev no_left_at : Family → Class → Bool
 no_left_at f c = no_left c (head f c)
 
-no_left_test : (f : Family) → IsTrue (every (no_left_at f))
+no_left_test : (f : Family) → Passes (no_left_at f)
 no_left_test family.Expression = refl
 no_left_test _ = refl
 
@@ -289,18 +289,18 @@ is_none_is None h = refl
 is_none_is (Some k) h = let never : ⊥ = cc in absurd never
 
 pub head_left : (f : Family) (c : Class) (r : Rule) → head f c ≡ Some r → left r ≡ None
-head_left f c r e = is_none_is (left r) (and_left (is_none (left r)) (begins r c) (subst (λ (o : Option Rule). IsTrue (no_left c o)) e (every_at (no_left_at f) (no_left_test f) c)))
+head_left f c r e = is_none_is (left r) (and_left (is_none (left r)) (begins r c) (subst (λ (o : Option Rule). IsTrue (no_left c o)) e (passes_at (no_left_at f) (no_left_test f) c)))
 
 pub head_begins : (f : Family) (c : Class) (r : Rule) → head f c ≡ Some r → IsTrue (begins r c)
-head_begins f c r e = and_right (is_none (left r)) (begins r c) (subst (λ (o : Option Rule). IsTrue (no_left c o)) e (every_at (no_left_at f) (no_left_test f) c))
+head_begins f c r e = and_right (is_none (left r)) (begins r c) (subst (λ (o : Option Rule). IsTrue (no_left c o)) e (passes_at (no_left_at f) (no_left_test f) c))
 
 -- a rule that goes on from a tree may begin anywhere
 abbrev tail_begins_at : Rule → Class → Bool
 tail_begins_at r c = is_none (left r) || begins r c
 
-tail_begins_test : (r : Rule) → IsTrue (every (tail_begins_at r))
+tail_begins_test : (r : Rule) → Passes (tail_begins_at r)
 tail_begins_test rule.Paren = refl
 tail_begins_test _ = refl
 
 pub tail_begins : (r : Rule) (l : Kind) (c : Class) → left r ≡ Some l → IsTrue (begins r c)
-tail_begins r l c e = subst (λ (k : Option Kind). IsTrue (is_none k || begins r c)) e (every_at (tail_begins_at r) (tail_begins_test r) c)
+tail_begins r l c e = subst (λ (k : Option Kind). IsTrue (is_none k || begins r c)) e (passes_at (tail_begins_at r) (tail_begins_test r) c)

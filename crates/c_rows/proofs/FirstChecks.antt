@@ -65,6 +65,29 @@ at p (x ∷ xs) (suc i) c h e = at p xs i c (and_right (p x) (list_all p xs) h) 
 pub every_at : (p : Class → Bool) → IsTrue (every p) → (c : Class) → IsTrue (p c)
 every_at p h c = at p classes (number c) c h (listed c)
 
+-- The classes at which a test fails. A test of the rows says that there are none, so its error names them.
+abbrev pub keep : Bool → Class → List Class → List Class
+keep true c cs = cs
+keep false c cs = c ∷ cs
+
+abbrev pub failing : (Class → Bool) → List Class → List Class
+failing p [] = []
+failing p (c ∷ cs) = keep (p c) c (failing p cs)
+
+abbrev pub Passes : (Class → Bool) → Type 0
+Passes p = failing p classes ≡ []
+
+none_fails : (p : Class → Bool) (xs : List Class) → failing p xs ≡ [] → IsTrue (list_all p xs)
+none_fails p [] e = refl
+none_fails p (x ∷ xs) e = here (p x) e (λ f. none_fails p xs f)
+  where
+    here : (b : Bool) → keep b x (failing p xs) ≡ [] → (failing p xs ≡ [] → IsTrue (list_all p xs)) → IsTrue (b && list_all p xs)
+    here true f rest = rest f
+    here false f rest = let no : ⊥ = cc in absurd no
+
+pub passes_at : (p : Class → Bool) → Passes p → (c : Class) → IsTrue (p c)
+passes_at p h c = every_at p (none_fails p classes h) c
+
 -- ---- over every way of a fork
 
 pub row_at : (p : Row → Bool) (rows : List Row) (i : ℕ) (ps : Row) → IsTrue (list_all p rows) → slice_get rows i ≡ Some ps → IsTrue (p ps)
@@ -113,12 +136,12 @@ joins_way f i ps e = row_at joins (ways f) i ps (joins_ways f) e
 abbrev closes_at : Rule → Class → Bool
 closes_at r c = implies (after (kind_of r) c) (closes (row r) c)
 
-closes_test : (r : Rule) → IsTrue (every (closes_at r))
+closes_test : (r : Rule) → Passes (closes_at r)
 closes_test rule.Paren = refl
 closes_test _ = refl
 
 pub closes_rule : (r : Rule) (c : Class) → IsTrue (after (kind_of r) c) → IsTrue (closes (row r) c)
-closes_rule r c = modus (after (kind_of r) c) (closes (row r) c) (every_at (closes_at r) (closes_test r) c)
+closes_rule r c = modus (after (kind_of r) c) (closes (row r) c) (passes_at (closes_at r) (closes_test r) c)
 
 abbrev closes_way_at : Fork → Row → Class → Bool
 closes_way_at f ps c = implies (stops_fork f c) (closes ps c)
@@ -136,42 +159,42 @@ closes_way f i ps c e = modus (stops_fork f c) (closes ps c) (every_at (closes_w
 abbrev opens_at : Rule → Class → Bool
 opens_at r c = implies (begins r c && opens (row r) c) (first (family_of (kind_of r)) c)
 
-opens_test : (r : Rule) → IsTrue (every (opens_at r))
+opens_test : (r : Rule) → Passes (opens_at r)
 opens_test rule.Paren = refl
 opens_test _ = refl
 
 pub opens_rule : (r : Rule) (c : Class) → IsTrue (begins r c) → IsTrue (opens (row r) c) → IsTrue (first (family_of (kind_of r)) c)
-opens_rule r c b o = modus (begins r c && opens (row r) c) (first (family_of (kind_of r)) c) (every_at (opens_at r) (opens_test r) c) (both (begins r c) (opens (row r) c) b o)
+opens_rule r c b o = modus (begins r c && opens (row r) c) (first (family_of (kind_of r)) c) (passes_at (opens_at r) (opens_test r) c) (both (begins r c) (opens (row r) c) b o)
 
 abbrev leaf_at : Family → Class → Bool
 leaf_at f c = implies (has_leaf f c) (first f c)
 
-leaf_test : (f : Family) → IsTrue (every (leaf_at f))
+leaf_test : (f : Family) → Passes (leaf_at f)
 leaf_test family.Expression = refl
 leaf_test _ = refl
 
 pub leaf_first : (f : Family) (c : Class) → IsTrue (has_leaf f c) → IsTrue (first f c)
-leaf_first f c = modus (has_leaf f c) (first f c) (every_at (leaf_at f) (leaf_test f) c)
+leaf_first f c = modus (has_leaf f c) (first f c) (passes_at (leaf_at f) (leaf_test f) c)
 
 abbrev member_after_at : Bool → Class → Bool
 member_after_at b c = implies (ends_member c) (after (member_kind b) c)
 
-member_after_test : (b : Bool) → IsTrue (every (member_after_at b))
+member_after_test : (b : Bool) → Passes (member_after_at b)
 member_after_test true = refl
 member_after_test false = refl
 
 pub member_after : (b : Bool) (c : Class) → IsTrue (ends_member c) → IsTrue (after (member_kind b) c)
-member_after b c = modus (ends_member c) (after (member_kind b) c) (every_at (member_after_at b) (member_after_test b) c)
+member_after b c = modus (ends_member c) (after (member_kind b) c) (passes_at (member_after_at b) (member_after_test b) c)
 
 abbrev member_stops_at : Bool → Class → Bool
 member_stops_at b c = implies (ends_member c) (stops (member_kind b) c)
 
-member_stops_test : (b : Bool) → IsTrue (every (member_stops_at b))
+member_stops_test : (b : Bool) → Passes (member_stops_at b)
 member_stops_test true = refl
 member_stops_test false = refl
 
 pub member_stops : (b : Bool) (c : Class) → IsTrue (ends_member c) → IsTrue (stops (member_kind b) c)
-member_stops b c = modus (ends_member c) (stops (member_kind b) c) (every_at (member_stops_at b) (member_stops_test b) c)
+member_stops b c = modus (ends_member c) (stops (member_kind b) c) (passes_at (member_stops_at b) (member_stops_test b) c)
 
 pub member_first : (b : Bool) (c : Class) → IsTrue (first (family_of (member_kind b)) c) → IsTrue (begins_expression c || begins_specs c)
 member_first true c h = or_right (begins_expression c) (begins_specs c) h

@@ -19,4 +19,7 @@ pub mod SightLemmas
 pub mod TreeLemmas
 pub mod LetterLemmas
 pub mod TypeExamples
-pub mod Examples
+pub mod ExampleTokens
+pub mod BracketExamples
+pub mod NameExamples
+pub mod ChoiceExamples

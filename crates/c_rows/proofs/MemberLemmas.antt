@@ -17,8 +17,8 @@ use Rattle.c_rows.specs.Kinds.{family_of}
 use Rattle.c_rows.specs.Branches.{kind_of}
 use Rattle.c_rows.specs.Rows.{Row, row, ways}
 use Rattle.c_rows.proofs.LeadLemmas.{leads_class}
-use Rattle.c_rows.specs.Choice.{every, implies}
-use Rattle.c_rows.proofs.Checks.{modus, every_at, row_at}
+use Rattle.c_rows.specs.Choice.{implies}
+use Rattle.c_rows.proofs.Checks.{modus, row_at, Passes, passes_at}
 
 abbrev pub is_args : Family → Bool
 is_args family.Args = true
@@ -45,12 +45,12 @@ lead_word _ = false
 abbrev lead_at : Word → Class → Bool
 lead_at w c = implies (lead_word w) (implies (fits w c) (leads_class c))
 
-lead_test : (w : Word) → IsTrue (every (lead_at w))
+lead_test : (w : Word) → Passes (lead_at w)
 lead_test words.Comma = refl
 lead_test _ = refl
 
 pub word_leads : (w : Word) (c : Class) → IsTrue (lead_word w) → IsTrue (fits w c) → IsTrue (leads_class c)
-word_leads w c l f = modus (fits w c) (leads_class c) (modus (lead_word w) (implies (fits w c) (leads_class c)) (every_at (lead_at w) (lead_test w) c) l) f
+word_leads w c l f = modus (fits w c) (leads_class c) (modus (lead_word w) (implies (fits w c) (leads_class c)) (passes_at (lead_at w) (lead_test w) c) l) f
 
 -- Behind the first part, a member stands only behind a comma or an opening bracket.
 abbrev pub led : Row → Bool

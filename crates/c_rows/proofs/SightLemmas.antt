@@ -24,12 +24,14 @@ use Rattle.c_rows.specs.Spells as seen
 use Rattle.c_rows.specs.Range.{leads_member, begins_member, second, may_be_type, NoMember, IsSeenAs, AreSeenAs}
 use Rattle.c_rows.specs.Derives.{Derives, leaf, branch, DerivesRow, done, word, child, argument, type_argument, fork}
 use Rattle.c_rows.specs.Choice.{every, implies, after, first}
+use Rattle.c_rows.specs.Scan.{ends_as_member}
 use Rattle.c_rows.proofs.Checks.{and_left, and_right, modus, every_at, closes, joins, joins_at, member_at, joins_rule, joins_way, closes_rule, closes_way, member_after}
 use Rattle.c_rows.proofs.FirstLemmas.{within_family, after_mono, runs_first}
 use Rattle.c_rows.proofs.DerivesLemmas.{tree_first, member_end, child_end, joins_rest, joins_member, closes_rest, closes_member}
 use Rattle.c_rows.proofs.MemberLemmas.{is_args, needs, needs_test, lead_word, word_leads, led, led_rule, led_way, needs_way, never_needs}
 use Rattle.c_rows.proofs.LeadLemmas.{token_leads}
 use Rattle.c_rows.proofs.TypeLemmas.{behind, type_front}
+use Rattle.c_rows.proofs.BracketLemmas.{type_ends}
 use Rattle.c_rows.proofs.SeenLemmas.{flag_free, flag_set}
 
 -- ---- levels
@@ -179,16 +181,16 @@ module _ (names : Names) where
       (subst (λ (d : Class). IsTrue (begins_member (look names (t ∷ ts)) d (second ss))) (sym (front_is m ts ss a))
       (subst (λ (e : Class). IsTrue (begins_member (look names (t ∷ ts)) (look names ts) e)) (sym (second_is m ts ss a)) b))
 
-  flag_true : (l : Bool) (ts : List Token) (ss : List Seen) → AreSeenAs names l ts ss → IsTrue l → NoMember ss → IsTrue (begins_member (look names ts) (look names (behind ts)) (look names (behind (behind ts)))) → (ts ≡ [] → ⊥)
-      → front_typed ss ≡ true
-  flag_true l [] ss a h n b e = absurd (e refl)
-  flag_true l (t ∷ ts) [] a h n b e = absurd a
-  flag_true l (t ∷ ts) (s ∷ ss) a h n b e = a.0.unmarked_else h (type_seen t ts s ss l (leads_member t) a.0 a.1 b) (flag_set s ss n)
+  flag_true : (l : Bool) (ts : List Token) (ss : List Seen) → AreSeenAs names l ts ss → IsTrue l → NoMember ss → IsTrue (begins_member (look names ts) (look names (behind ts)) (look names (behind (behind ts)))) → IsTrue (ends_as_member names ts)
+      → (ts ≡ [] → ⊥) → front_typed ss ≡ true
+  flag_true l [] ss a h n b z e = absurd (e refl)
+  flag_true l (t ∷ ts) [] a h n b z e = absurd a
+  flag_true l (t ∷ ts) (s ∷ ss) a h n b z e = a.0.unmarked_else h (type_seen t ts s ss l (leads_member t) a.0 a.1 b) z (flag_set s ss n)
 
   flag_false : (l : Bool) (ts : List Token) (ss ys : List Seen) (u : Tree) → AreSeenAs names l ts ss → Spells kind.AssignLevel ss u ys → IsTrue (ends_member (front ys)) → levels u ≤ 1000 → front_typed ss ≡ false
   flag_false l ts [] ys u a d e n = refl
   flag_false l [] (s ∷ ss) ys u a d e n = absurd a
-  flag_false l (t ∷ ts) (s ∷ ss) ys u a d e n = is_false s.typed (λ h. flag_free s ss (a.0.marked h).2 u ys d e n)
+  flag_false l (t ∷ ts) (s ∷ ss) ys u a d e n = is_false s.typed (λ h. flag_free s ss (a.0.marked h).3 u ys d e n)
 
   pub some_token : (ts : List Token) → IsTrue (first (family_of kind.TypeArg) (look names ts)) → ts ≡ [] → ⊥
   unfolding look
@@ -289,7 +291,7 @@ module _ (names : Names) where
               let x = keep_tree d l ss a p (λ b. m refl) (member_after true (look names mid) h) (part_low t cs 1000 n) in
               let y = keep_row rest x.leads x.rest x.right x.wide (never_needs (needs ps) (and_left (not (needs ps)) (led ps) e)) (and_right (not (needs ps)) (led ps) e)
               (joins_member ps j) (closes_member ps (look names ys) c) (rest_low t cs 1000 n) in
-              let f : front_typed ss ≡ true = flag_true l ts ss a (m refl).0 (barred l ts mid ss t a o d h (m refl).1) (type_front names may d h) (some_token ts (tree_first names may d (member_after true (look names mid) h))) in
+              let f : front_typed ss ≡ true = flag_true l ts ss a (m refl).0 (barred l ts mid ss t a o d h (m refl).1) (type_front names may d h) (type_ends names may d h) (some_token ts (tree_first names may d (member_after true (look names mid) h))) in
               record {
                 leads = y.leads;
                 rest = y.rest;

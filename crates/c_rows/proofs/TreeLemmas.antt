@@ -69,7 +69,7 @@ module _ (names : Names) where
   flag_none : (l : Bool) (ts : List Token) (ss : List Seen) → AreSeenAs names l ts ss → IsTrue (front_typed ss) → NoMember ss
   flag_none l ts [] a h = let never : ⊥ = cc in absurd never
   flag_none l [] (s ∷ ss) a h = absurd a
-  flag_none l (t ∷ ts) (s ∷ ss) a h = flag_free s ss (a.0.marked h).2
+  flag_none l (t ∷ ts) (s ∷ ss) a h = flag_free s ss (a.0.marked h).3
 
   no_args : {A : Type 0} → IsTrue (is_args (family_of kind.AssignLevel)) → A
   no_args h = let never : ⊥ = cc in absurd never

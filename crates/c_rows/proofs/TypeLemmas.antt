@@ -23,7 +23,7 @@ use Rattle.c_rows.specs.Look.{Names, look}
 use Rattle.c_rows.specs.Choice.{every, implies, first, begins_declarator}
 use Rattle.c_rows.specs.Range.{begins_nameless, follows_type, begins_member}
 use Rattle.c_rows.specs.Derives.{Derives, leaf, branch, DerivesRow, done, word, child, argument, type_argument, fork}
-use Rattle.c_rows.proofs.Checks.{and_right, both, modus, every_at, row_at, joins_rule, member_after}
+use Rattle.c_rows.proofs.Checks.{and_right, both, modus, every_at, row_at, joins_rule, member_after, Passes, passes_at}
 use Rattle.c_rows.proofs.FirstLemmas.{within_family, within_trans}
 use Rattle.c_rows.proofs.PlainLemmas.{declares-Leaf, declares-Branch}
 use Rattle.c_rows.proofs.LeadLemmas.{token_named}
@@ -106,13 +106,13 @@ loosen false false false false x y h = h
 abbrev declares_at : Class → Bool
 declares_at c = implies (begins_any c) (begins_declarator c && not (fits words.Name c))
 
-declares_test : IsTrue (every declares_at)
+declares_test : Passes declares_at
 declares_test = refl
 
 -- a declarator without a name begins with no name
 nameless_begins : (c d : Class) → IsTrue (begins_nameless c d) → IsTrue (begins_declarator c && not (fits words.Name c))
 nameless_begins c d h =
-    modus (begins_any c) (begins_declarator c && not (fits words.Name c)) (every_at declares_at declares_test c)
+    modus (begins_any c) (begins_declarator c && not (fits words.Name c)) (passes_at declares_at declares_test c)
     (loosen (fits words.Star c) (fits words.LeftBracket c) (fits words.ListOpen c) (fits words.NestOpen c) (first family.Params d) (begins_declarator d && not (fits words.Name d)) h)
 
 abbrev pub behind : List Token → List Token

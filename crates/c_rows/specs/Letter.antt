@@ -3,6 +3,7 @@ use Rattle.std.specs.Prelude.{◌≤◌, ⊤, IsTrue, List, [], ◌∷◌}
 use Rattle.c_terms.specs.declared.token.Token.{Token}
 use Rattle.c_terms.specs.declared.tree.Tree.{Tree}
 use Rattle.c_terms.specs.Trees.{levels}
+use Rattle.c_rows.specs.Limits.{most_levels}
 use Rattle.c_rows.specs.declared.kind.Kind.{Kind}
 use Rattle.c_rows.specs.declared.kind.Kind.TheVariants as kind
 use Rattle.c_rows.specs.Look.{Names, look}
@@ -17,10 +18,10 @@ NoExpression names xs ys = (u : Tree) → Derives names Anywhere kind.AssignLeve
 -- however deep it is.
 pub record IsLetterTreeOf (kind : Kind) (names : Names) (tokens : List Token) (t : Tree) : Type 0 where
   pub derived : Derives names (NoExpression names) kind tokens t []
-  pub shallow : levels t ≤ 1000
+  pub shallow : levels t ≤ most_levels
 
 -- By the rows alone, every expression without commas that begins at one of the tokens, and ends where a member of a
 -- call's list may end, has at most 1,000 levels.
 abbrev pub AllLow : Names → List Token → Type 0
 AllLow names [] = ⊤
-AllLow names (t ∷ ts) = ((u : Tree) (ys : List Token) → Derives names Anywhere kind.AssignLevel (t ∷ ts) u ys → IsTrue (ends_member (look names ys)) → levels u ≤ 1000) × AllLow names ts
+AllLow names (t ∷ ts) = ((u : Tree) (ys : List Token) → Derives names Anywhere kind.AssignLevel (t ∷ ts) u ys → IsTrue (ends_member (look names ys)) → levels u ≤ most_levels) × AllLow names ts

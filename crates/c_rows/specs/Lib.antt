@@ -1,5 +1,6 @@
 -- What public contracts rest on, in reading order.
 
+pub mod Limits
 pub mod Tokens
 pub mod Look
 pub mod Words
@@ -18,4 +19,5 @@ pub mod Seen
 pub mod Spells
 pub mod Choice
 pub mod Growth
+pub mod Scan
 pub mod Range

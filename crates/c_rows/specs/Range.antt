@@ -3,6 +3,7 @@ use Rattle.std.specs.Prelude.{◌≡◌, ◌≤◌, ⊤, Bool, false, not, ◌&&
 use Rattle.c_terms.specs.declared.token.Token.{Token}
 use Rattle.c_terms.specs.declared.tree.Tree.{Tree}
 use Rattle.c_terms.specs.Trees.{levels}
+use Rattle.c_rows.specs.Limits.{most_levels}
 use Rattle.c_rows.specs.declared.class.Class.{Class}
 use Rattle.c_rows.specs.declared.class.Class.TheVariants as class
 use Rattle.c_rows.specs.declared.word.Word.TheVariants as word
@@ -14,6 +15,7 @@ use Rattle.c_rows.specs.Look.{Names, look}
 use Rattle.c_rows.specs.Seen.{Seen, front}
 use Rattle.c_rows.specs.Spells.{Spells}
 use Rattle.c_rows.specs.Choice.{first, begins_declarator}
+use Rattle.c_rows.specs.Scan.{ends_as_member}
 
 -- a member of a call's list may begin behind this token
 abbrev pub leads_member : Token → Bool
@@ -54,15 +56,16 @@ unmarked s = record { token = s.token; class = s.class; typed = false }
 
 -- No expression without commas, of at most 1,000 levels, begins here and ends where a member of a call's list may end.
 abbrev pub NoMember : List Seen → Type 0
-NoMember ss = (u : Tree) (ys : List Seen) → Spells kind.AssignLevel ss u ys → IsTrue (ends_member (front ys)) → levels u ≤ 1000 → ⊥
+NoMember ss = (u : Tree) (ys : List Seen) → Spells kind.AssignLevel ss u ys → IsTrue (ends_member (front ys)) → levels u ≤ most_levels → ⊥
 
 -- The token is seen as it is. It is marked exactly where a member of a call's list may begin, a type can be that member
--- by the first three tokens, and no expression can: there a type is the member, and nowhere else.
+-- by the first three tokens and by the end of the member, and no expression can: there a type is the member, and nowhere
+-- else.
 pub record IsSeenAs (names : Names) (leads : Bool) (t : Token) (ts : List Token) (s : Seen) (ss : List Seen) : Type 0 where
   pub token : s.token ≡ t
   pub class : s.class ≡ look names (t ∷ ts)
-  pub marked : IsTrue s.typed → IsTrue leads × IsTrue (may_be_type (s ∷ ss)) × NoMember (unmarked s ∷ ss)
-  pub unmarked_else : IsTrue leads → IsTrue (may_be_type (s ∷ ss)) → NoMember (unmarked s ∷ ss) → IsTrue s.typed
+  pub marked : IsTrue s.typed → IsTrue leads × IsTrue (may_be_type (s ∷ ss)) × IsTrue (ends_as_member names (t ∷ ts)) × NoMember (unmarked s ∷ ss)
+  pub unmarked_else : IsTrue leads → IsTrue (may_be_type (s ∷ ss)) → IsTrue (ends_as_member names (t ∷ ts)) → NoMember (unmarked s ∷ ss) → IsTrue s.typed
 
 -- The tokens are seen as they are; `leads` says that a member of a call's list may begin at the first one.
 abbrev pub AreSeenAs : Names → Bool → List Token → List Seen → Type 0

@@ -3,6 +3,7 @@ use Rattle.std.specs.Prelude.{◌≤◌, ⊤, ℕ, zero, suc, length, Bool, true
 use Rattle.c_terms.specs.declared.token.Token.{Token}
 use Rattle.c_terms.specs.declared.tree.Tree.{Tree}
 use Rattle.c_terms.specs.Trees.{levels}
+use Rattle.c_rows.specs.Limits.{most_levels}
 use Rattle.c_rows.specs.declared.kind.Kind.{Kind}
 use Rattle.c_rows.specs.declared.kind.Kind.TheVariants as kind
 use Rattle.c_rows.specs.Look.{Names}
@@ -13,13 +14,13 @@ use Rattle.c_rows.specs.Derives.{Derives}
 -- itself at most as often as there are tokens: with that number, the line for zero is never reached.
 abbrev pub NoRival : Names → ℕ → List Token → List Token → Type 0
 NoRival names zero xs ys = ⊤
-NoRival names (suc n) xs ys = (u : Tree) → Derives names (NoRival names n) kind.AssignLevel xs u ys → levels u ≤ 1000 → ⊥
+NoRival names (suc n) xs ys = (u : Tree) → Derives names (NoRival names n) kind.AssignLevel xs u ys → levels u ≤ most_levels → ⊥
 
 -- The tree is of this kind, the rows derive it from the tokens, all of them, and it has at most 1,000 levels of branches.
 -- A type is a member of a call's list in it only where no expression has the same tokens.
 pub record IsTreeOf (kind : Kind) (names : Names) (tokens : List Token) (t : Tree) : Type 0 where
   pub derived : Derives names (NoRival names (length tokens)) kind tokens t []
-  pub shallow : levels t ≤ 1000
+  pub shallow : levels t ≤ most_levels
 
 -- Trees of this kind are read by themselves. Those of the other kinds are read within a list.
 abbrev pub stands_alone : Kind → Bool

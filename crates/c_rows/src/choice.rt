@@ -1,160 +1,12 @@
 // How a reader of rows chooses by the class of the next token.
-
 ghost use Rattle.std.specs.Prelude.{◌≡◌, MatchOption, Some, None};
 ghost use Rattle.c_rows.specs.Choice as choice;
-ghost use Rattle.c_rows.specs.Words as words;
-ghost use Rattle.c_rows.specs.Branches as branches;
-ghost use Rattle.c_rows.specs.declared.kind.Kind.TheVariants as kinds;
+ghost use Rattle.c_rows.specs.declared.kind.Family.TheVariants as families;
 
 use crate::{
-    Class, Family, Fork, Kind, Rule, Symbol, Word, begins, begins_macro, family_of, fits, row, ways,
+    Class, Family, Fork, Kind, Rule, Symbol, Word, begins, begins_expression, begins_specs,
+    ends_list, ends_member, family_of, first, fits, may_go, row, ways,
 };
-
-/// An expression may begin with this class.
-fn begins_expression(class: Class) -> bool
-    ensures { result ≡ choice.begins_expression class }
-{
-    match class {
-        Class::Name
-        | Class::NameOfString
-        | Class::NameOfCall
-        | Class::NameOfLabel
-        | Class::NameOfDecl
-        | Class::NameOfIterator
-        | Class::NameOfStarIterator
-        | Class::Operand
-        | Class::Str
-        | Class::StrOfString => true,
-        Class::SizeofExpr | Class::SizeofType | Class::PatOpen => true,
-        _ => fits(Word::AnyOpen, class) || fits(Word::Step, class) || fits(Word::Prefix, class),
-    }
-}
-
-/// A tag may begin with this class.
-fn begins_tag(class: Class) -> bool
-    ensures { result ≡ words.begins_tag class }
-{
-    matches!(
-        class,
-        Class::Struct | Class::StructBody | Class::Enum | Class::EnumBody
-    )
-}
-
-/// A type may begin with this class.
-pub fn begins_specs(class: Class) -> bool
-    ensures value { result ≡ words.begins_specs class }
-{
-    match class {
-        Class::Typ | Class::TypOfDeclarator => true,
-        _ => fits(Word::BasicOrModifier, class) || fits(Word::Name, class) || begins_tag(class),
-    }
-}
-
-/// At the start of a statement and behind the `(` of a `for`, a declaration begins exactly here.
-pub fn begins_declaration(class: Class) -> bool
-    ensures value { result ≡ branches.begins_declaration class }
-{
-    match class {
-        Class::NameOfDecl | Class::Typ | Class::TypOfDeclarator => true,
-        _ => fits(Word::BasicOrModifier, class) || begins_tag(class),
-    }
-}
-
-/// `...` or a PatNest begins with this class.
-fn begins_dots(class: Class) -> bool
-    ensures { result ≡ branches.begins_dots class }
-{
-    matches!(
-        class,
-        Class::Dots | Class::PatNestOfExpression | Class::PatNestOfStatements
-    )
-}
-
-/// A statement other than a declaration may begin with this class.
-fn begins_statement(class: Class) -> bool
-    ensures { result ≡ choice.begins_statement class }
-{
-    match class {
-        Class::Semicolon
-        | Class::LeftBrace
-        | Class::If
-        | Class::While
-        | Class::Do
-        | Class::For
-        | Class::Switch
-        | Class::Case
-        | Class::Default
-        | Class::Return
-        | Class::Goto => true,
-        Class::Break | Class::Continue | Class::Stmt | Class::PatOpenOfStatements => true,
-        _ => begins_dots(class) || begins_expression(class),
-    }
-}
-
-/// A list of statements ends before this class.
-fn ends_list(class: Class) -> bool
-    ensures { result ≡ choice.ends_list class }
-{
-    matches!(
-        class,
-        Class::End | Class::PatBar | Class::PatAmp | Class::PatClose
-    )
-}
-
-/// A declarator may begin with this class.
-pub(crate) fn begins_declarator(class: Class) -> bool
-    ensures value { result ≡ choice.begins_declarator class }
-{
-    match class {
-        Class::Star | Class::LeftBracket => true,
-        _ => fits(Word::Name, class) || fits(Word::AnyOpen, class),
-    }
-}
-
-/// A tree of the family may begin with this class. Where it may have no token, these are also the classes behind it.
-pub fn first(family: Family, class: Class) -> bool
-    ensures value { result ≡ choice.first family class }
-{
-    match family {
-        Family::Expression => begins_expression(class),
-        Family::Args => {
-            begins_expression(class)
-                || begins_specs(class)
-                || fits(Word::ArgRun, class)
-                || fits(Word::Close, class)
-        }
-        Family::TypeArg | Family::TypeName | Family::Specs | Family::Param => begins_specs(class),
-        Family::Tag => begins_tag(class),
-        Family::Field => begins_specs(class) && !begins_macro(class),
-        Family::MacroItem => begins_macro(class),
-        Family::NamelessBits => fits(Word::Colon, class),
-        Family::Declarator => begins_declarator(class),
-        Family::Params => {
-            begins_specs(class)
-                || fits(Word::ParamRun, class)
-                || fits(Word::Ellipsis, class)
-                || fits(Word::Close, class)
-        }
-        Family::InitList => fits(Word::LeftBrace, class),
-        Family::InitItem | Family::Designator => matches!(class, Class::Dot | Class::LeftBracket),
-        Family::Enumerator => fits(Word::Name, class),
-        Family::Decl => begins_specs(class),
-        Family::Statement => begins_statement(class),
-        Family::StmtList => {
-            begins_statement(class) || begins_declaration(class) || ends_list(class)
-        }
-        Family::External => {
-            begins_specs(class) || begins_macro(class) || fits(Word::Semicolon, class)
-        }
-    }
-}
-
-/// A member of a call's list ends before this class.
-pub fn ends_member(class: Class) -> bool
-    ensures value { result ≡ words.ends_member class }
-{
-    matches!(class, Class::Comma | Class::Close)
-}
 
 /// A declarator ends before this class.
 fn ends_declarator(class: Class) -> bool
@@ -218,51 +70,6 @@ fn begins_way(fork: Fork, way: &[Symbol], class: Class) -> bool
         [Symbol::Child(kind), ..] => first(family_of(*kind), class),
         [Symbol::Argument, ..] => begins_expression(class) || begins_specs(class),
         [Symbol::Fork(_), ..] => false,
-    }
-}
-
-/// The tokens behind let the row end at the fork.
-fn may_end(fork: Fork, class: Class) -> bool
-    ensures { result ≡ branches.may_end fork class }
-{
-    match fork {
-        Fork::ElseOrNot => !fits(Word::Else, class),
-        _ => true,
-    }
-}
-
-/// The tokens behind let the row go on with an expression.
-fn may_be_expression(fork: Fork, class: Class) -> bool
-    ensures { result ≡ branches.may_stand fork kinds.Expr class }
-{
-    match fork {
-        Fork::ForInit => !begins_declaration(class),
-        _ => true,
-    }
-}
-
-/// The tokens behind let the row go on with a part of this kind.
-fn may_stand(fork: Fork, kind: Kind, class: Class) -> bool
-    ensures { result ≡ branches.may_stand fork kind class }
-{
-    match kind {
-        Kind::Expr => may_be_expression(fork, class),
-        Kind::Decl => begins_declaration(class),
-        Kind::PatNest => begins_dots(class) && !fits(Word::Dots, class),
-        Kind::Block => fits(Word::LeftBrace, class),
-        Kind::Statement => !begins_declaration(class) && !begins_dots(class),
-        _ => true,
-    }
-}
-
-/// The tokens behind let the row go on in this way.
-fn may_go(fork: Fork, way: &[Symbol], class: Class) -> bool
-    ensures { result ≡ branches.may_go fork way.now class }
-{
-    match way {
-        [] => may_end(fork, class),
-        [Symbol::Child(kind), ..] => may_stand(fork, *kind, class),
-        [_, ..] => true,
     }
 }
 
@@ -353,35 +160,56 @@ fn heads(family: Family) -> &'static [Rule]
     }
 }
 
-/// The rules of a family whose rows begin with a part of the family itself.
-fn tails(family: Family) -> &'static [Rule]
-    ensures { result.now ≡ choice.tails family }
+/// The rule by which an expression goes on at this class. Asked behind each operand, so it is a table.
+fn expression_tail(class: Class) -> Option<Rule>
+    ensures { result ≡ choice.tail families.Expression class }
 {
-    match family {
-        Family::Expression => &[
-            Rule::Index,
-            Rule::Call,
-            Rule::Member,
-            Rule::Arrow,
-            Rule::PostOp,
-            Rule::OrOr,
-            Rule::AndAnd,
-            Rule::Or,
-            Rule::Xor,
-            Rule::And,
-            Rule::Equality,
-            Rule::Order,
-            Rule::Shift,
-            Rule::Sum,
-            Rule::Product,
-            Rule::Cond,
-            Rule::CondShort,
-            Rule::Assign,
-            Rule::Comma,
-        ],
-        Family::Declarator => &[Rule::DArray, Rule::DFun, Rule::Bits, Rule::InitDecl],
-        Family::Enumerator => &[Rule::EnumValue],
-        _ => &[],
+    match class {
+        Class::LeftBracket => Some(Rule::Index),
+        Class::ParenNest | Class::ParenList | Class::CastNest => Some(Rule::Call),
+        Class::CastList | Class::LiteralNest | Class::LiteralList => Some(Rule::Call),
+        Class::Dot => Some(Rule::Member),
+        Class::Arrow => Some(Rule::Arrow),
+        Class::Step => Some(Rule::PostOp),
+        Class::OrOr => Some(Rule::OrOr),
+        Class::AndAnd => Some(Rule::AndAnd),
+        Class::Or => Some(Rule::Or),
+        Class::Xor => Some(Rule::Xor),
+        Class::And => Some(Rule::And),
+        Class::Equality => Some(Rule::Equality),
+        Class::Order => Some(Rule::Order),
+        Class::Shift => Some(Rule::Shift),
+        Class::Plus => Some(Rule::Sum),
+        Class::Star | Class::Slash => Some(Rule::Product),
+        Class::Question => Some(Rule::Cond),
+        Class::ShortQuestion => Some(Rule::CondShort),
+        Class::Equal | Class::Assign => Some(Rule::Assign),
+        Class::Comma => Some(Rule::Comma),
+        _ => None,
+    }
+}
+
+/// The rule by which a declarator goes on at this class.
+fn declarator_tail(class: Class) -> Option<Rule>
+    ensures { result ≡ choice.tail families.Declarator class }
+{
+    match class {
+        Class::LeftBracket => Some(Rule::DArray),
+        Class::ParenNest | Class::ParenList | Class::CastNest => Some(Rule::DFun),
+        Class::CastList | Class::LiteralNest | Class::LiteralList => Some(Rule::DFun),
+        Class::Colon => Some(Rule::Bits),
+        Class::Equal => Some(Rule::InitDecl),
+        _ => None,
+    }
+}
+
+/// The rule by which an enumerator goes on at this class.
+fn enumerator_tail(class: Class) -> Option<Rule>
+    ensures { result ≡ choice.tail families.Enumerator class }
+{
+    match class {
+        Class::Equal => Some(Rule::EnumValue),
+        _ => None,
     }
 }
 
@@ -438,10 +266,10 @@ pub fn head(family: Family, class: Class) -> Option<Rule>
 pub fn tail(family: Family, class: Class) -> Option<Rule>
     ensures value { result ≡ choice.tail family class }
 {
-    for rule in tails(family) {
-        if opens(own(*rule), class) {
-            return Some(*rule);
-        }
+    match family {
+        Family::Expression => expression_tail(class),
+        Family::Declarator => declarator_tail(class),
+        Family::Enumerator => enumerator_tail(class),
+        _ => None,
     }
-    None
 }

@@ -7,7 +7,8 @@
 //! - [`look`] is the [`Class`] of the front of a list of tokens: which names are types, and what a bracket begins.
 //!   A [`Seen`] is a token with its class.
 //! - [`head`], [`tail`], [`choose`], [`left`] and [`own`] are how a reader chooses a rule and a way by one class.
-//!   [`may_be_type`] says by three classes whether a type can be a member of a call's list.
+//!   [`may_be_type`] says by three classes whether a type can be a member of a call's list, and [`turn_at`] how a token
+//!   bears on where a member ends.
 //!
 //! `row(Rule::Cast)` is `(`, a TypeName, `)`, an expression of Cast level. Where `a` is not in the names, the first `(` of
 //! `(a) ~b` is of class `CastNest`, and that of `(a) - b` of class `ParenNest`.
@@ -18,11 +19,24 @@
 //! No call takes memory; none recurses but [`allows`], which walks down a declarator.
 #![tactic(auto)]
 
+/// `row![word Open, child Expr, word Close]` is a list of symbols.
+macro_rules! row {
+    (@one word $name:ident) => { Symbol::Word(Word::$name) };
+    (@one child $name:ident) => { Symbol::Child(Kind::$name) };
+    (@one fork $name:ident) => { Symbol::Fork(Fork::$name) };
+    (@one any $name:ident) => { Symbol::$name };
+    ($($what:ident $name:ident),*) => { &[$(row!(@one $what $name)),*] };
+}
+
+mod beginnings;
 mod brackets;
 mod branches;
 mod choice;
 mod class;
+mod forks;
+mod guards;
 mod kind;
+mod labels;
 mod laws;
 mod lookahead;
 mod member;
@@ -32,21 +46,30 @@ mod rows;
 mod rule;
 mod seen;
 mod symbol;
+mod turn;
 mod word;
 mod words;
 
-pub use choice::{choose, ends_member, head, left, own, tail};
-use choice::{begins_declaration, begins_specs, first};
+pub use beginnings::ends_member;
+use beginnings::{
+    begins_declarator, begins_expression, begins_specs, begins_tag, ends_list, first,
+};
+pub use choice::{choose, head, left, own, tail};
 pub use class::Class;
+pub use forks::ways;
+pub use guards::allows;
+use guards::{begins, begins_declaration, begins_dots, begins_macro, may_go};
 pub use kind::{Family, Kind, bottom, family_of, has_leaf, within};
+use labels::is_block;
+pub use labels::label_of;
 pub use laws::{leaves_are_the_tokens, members_have_one_end, rivals_need_no_rule};
 pub use lookahead::look;
 pub use member::may_be_type;
 use plain::{declares_function, is_plain_type};
-pub use rows::{row, ways};
-pub use rule::{Rule, allows, kind_of, label_of};
-use rule::{begins, begins_macro};
+pub use rows::row;
+pub use rule::{Rule, kind_of};
 pub use seen::{Seen, front, front_typed, leads_member, member_kind};
 pub use symbol::{Fork, Symbol};
+pub use turn::{Turn, turn_at};
 pub use word::{Word, fits};
 use words::{is_named, is_storage};

@@ -3,8 +3,9 @@ ghost use Rattle.std.specs.Prelude.{◌≡◌};
 ghost use Rattle.c_rows.specs.Seen.{front};
 ghost use Rattle.c_rows.specs.Range as range;
 
-use crate::choice::begins_declarator;
-use crate::{Class, Family, Seen, Word, begins_specs, ends_member, first, fits, front};
+use crate::{
+    Class, Family, Seen, Word, begins_declarator, begins_specs, ends_member, first, fits, front,
+};
 
 /// A declarator without a name may begin with these two classes: with `*` or `[`, with `(` of parameters, or with `(`
 /// of a declarator that is no name.

@@ -1,6 +1,7 @@
 // Worked rows, each call with ample memory, and statements at the greatest depth.
 use crate::{parse_item, parse_stmts};
 use c_expr::ParseFault;
+use c_show::show;
 use c_terms::{MetaKind, Names, NoMemory, Text, Token, TokenKind, Tree};
 use std::alloc::Global;
 use std::test::Fail;
@@ -243,8 +244,9 @@ fn worked_rows_have_their_trees(rt: HostRuntime) -> Result<(), Fail> {
     Ok(())
 }
 
-/// Whether so many words of an `if` within one another are read and copied.
-fn reads_nested(alloc: Global, count: usize) -> Result<bool, NoMemory> {
+/// The length of the text of so many times `if (a)` within one another, read, copied and written; none where there is no
+/// tree.
+fn length_of_nested(alloc: Global, count: usize) -> Result<Option<usize>, NoMemory> {
     let mut tokens = Vec::new(alloc);
     for _ in 0..count {
         for word in ["if", "(", "a", ")"] {
@@ -254,21 +256,23 @@ fn reads_nested(alloc: Global, count: usize) -> Result<bool, NoMemory> {
     put(alloc, &mut tokens, ";")?;
     let names = Names::listed(alloc)?;
     let Ok(tree) = parse_stmts(alloc, &tokens, &names, 0, tokens.len()) else {
-        return Ok(false);
+        return Ok(None);
     };
     let copy = tree.copy(alloc)?;
-    Ok(matches!(copy, Tree::Branch(_, _)))
+    Ok(Some(show(alloc, &copy)?.as_bytes().len()))
 }
 
 #[test]
-fn a_thousand_levels_are_read_inside_a_thread(rt: HostRuntime) -> Result<(), Fail> {
+fn a_thousand_levels_are_read_copied_and_written_inside_a_thread(
+    rt: HostRuntime,
+) -> Result<(), Fail> {
     let alloc = rt.alloc();
     let (most, more) = thread::join(
         &rt,
-        move || reads_nested(alloc, 998),
-        move || reads_nested(alloc, 999),
+        move || length_of_nested(alloc, 998),
+        move || length_of_nested(alloc, 999),
     );
-    assert!(rt; most?);
-    assert!(rt; !more?);
+    assert_eq!(rt; most?, Some(4991));
+    assert_eq!(rt; more?, None);
     Ok(())
 }

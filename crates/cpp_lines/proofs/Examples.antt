@@ -1,10 +1,12 @@
 -- Lines, shown tokens and items, above all those that another reading would tell otherwise.
-use Rattle.std.specs.Prelude.{ℕ, ◌≡◌, true, false, List, [], ◌∷◌, refl, codes}
+use Rattle.std.specs.Prelude.{ℕ, ◌≡◌, Bool, true, false, List, [], ◌∷◌, refl, codes}
+use Rattle.std.specs.List.{list_all}
 use Rattle.c_terms.specs.declared.token.TokenKind.TheVariants.{Name}
 use Rattle.c_lexer.specs.declared.piece.PieceKind.TheVariants.{Word, Blank}
 use Rattle.c_lexer.specs.Pieces.{TextPiece}
 use Rattle.cpp_lines.specs.declared.directive.Directive.TheVariants as line
 use Rattle.cpp_lines.specs.declared.sign.Bracket.TheVariants.{Paren, Brace}
+use Rattle.cpp_lines.specs.declared.sign.Sign.{Sign}
 use Rattle.cpp_lines.specs.declared.sign.Sign.TheVariants as sign
 use Rattle.cpp_lines.specs.declared.span.ItemSpan.{ItemSpan}
 use Rattle.cpp_lines.specs.Directives.{directive_of}
@@ -47,11 +49,22 @@ past_close = refl
 inner_of_hidden : is_hidden 0 0 (line.Open ∷ line.OpenZero ∷ []) ≡ true
 inner_of_hidden = refl
 
+abbrev is_marker : Sign → Bool
+is_marker sign.Marker = true
+is_marker _ = false
+
+abbrev is_marker_text : List ℕ → Bool
+is_marker_text text = is_marker (sign_of text)
+
 attribute : sign_of (codes "__attribute__") ≡ sign.Attribute
 attribute = refl
 
-marker : sign_of (codes "__init") ≡ sign.Marker
-marker = refl
+every_marker : list_all is_marker_text
+    (codes "__init" ∷ codes "__exit" ∷ codes "__initdata" ∷ codes "__exitdata" ∷ codes "__user" ∷ codes "__iomem" ∷ codes "__kernel" ∷ codes "__force"
+    ∷ codes "__percpu" ∷ codes "__rcu" ∷ codes "__must_check" ∷ codes "__maybe_unused" ∷ codes "__always_inline" ∷ codes "__read_mostly" ∷ codes "__packed"
+    ∷ codes "__cold" ∷ codes "__weak" ∷ codes "noinline" ∷ codes "asmlinkage" ∷ codes "__inline" ∷ codes "__inline__" ∷ codes "__extension__"
+    ∷ codes "__restrict" ∷ codes "__restrict__" ∷ []) ≡ true
+every_marker = refl
 
 -- `__attribute__ ( (`, the nearest first; and where a marker stands between
 inside_attribute : is_enclosed 0 (sign.Opening Paren ∷ sign.Opening Paren ∷ sign.Attribute ∷ []) ≡ true

@@ -1,7 +1,8 @@
-use Rattle.std.proofs.Common.{◌≡◌, ◌≤◌, length, drop}
+use Rattle.std.proofs.Common.{◌≡◌, ◌≤◌, length, drop, reverse}
 use Rattle.c_rows.specs.Look.{look}
 use Rattle.c_rows.specs.Range.{AreSeenAs}
 use Rattle.c_expr.specs.Sight.{leads_before}
+use Rattle.c_expr.proofs.EndsLemmas.{Tells}
 use Rattle.c_expr.proofs.see.see.Given as goal
 
 abbrev pub invariant-loop-i : goal.invariant-loop-i
@@ -9,6 +10,7 @@ invariant-loop-i l = record {
   even : length l.seen.items ≡ length l.tokens;
   fits : l.i ≤ length l.tokens;
   next : l.next ≡ look l.names (drop l.i l.tokens);
+  ends : Tells l.names (reverse l.ends.classes.items) (drop l.i l.tokens);
   right : AreSeenAs l.names (leads_before l.tokens l.i) (drop l.i l.tokens) (drop l.i l.seen.items);
 }
 

@@ -1,5 +1,5 @@
 // Each call once with ample memory, and patches of which the outcome is known.
-use crate::{Placed, RuleHead, pattern_tokens, read_decls, read_header};
+use crate::{Earlier, Placed, pattern_tokens, read_decls, read_headers};
 use c_terms::{MetaKind, TokenKind};
 use smpl_lexer::{PatchText, lex_patch};
 use smpl_patch::{Dep, Mode, PatchFault, VarDecl, VarKind, fault_number, fault_place};
@@ -7,28 +7,12 @@ use sqlite_items::Items;
 use std::alloc::Global;
 use std::test::Fail;
 
-fn head_of(
-    alloc: Global,
-    text: &PatchText,
-    rule: u32,
-    earlier: &[RuleHead],
-) -> Result<RuleHead, PatchFault> {
-    if (rule as usize) < text.rules.len() && earlier.len() == rule as usize {
-        read_header(alloc, text, rule, earlier)
-    } else {
-        Err(PatchFault::NoMemory)
-    }
-}
-
-fn heads_of(alloc: Global, patch: &str) -> Result<Vec<RuleHead>, PatchFault> {
+fn heads_of(alloc: Global, patch: &str) -> Result<Earlier, PatchFault> {
     let text = lex_patch(alloc, patch.as_bytes())?;
-    let mut heads = Vec::new(alloc);
-    let mut rule = 0u32;
-    for _ in 0..text.rules.len() {
-        heads.push(head_of(alloc, &text, rule, heads.as_slice())?)?;
-        rule = rule.saturating_add(1);
+    if text.rules.len() > 1000 {
+        return Err(PatchFault::NoMemory);
     }
-    Ok(heads)
+    read_headers(alloc, &text)
 }
 
 /// The number and the place of the first fault, zeros where there is none.
@@ -72,7 +56,7 @@ fn placed(alloc: Global, patch: &str) -> Result<Items<Placed>, PatchFault> {
 
 fn declared(alloc: Global, text: &PatchText) -> Result<Items<VarDecl>, PatchFault> {
     match text.rules.as_slice() {
-        [rule, ..] => read_decls(alloc, rule.decls.as_slice(), 0, &[]),
+        [rule, ..] => { read_decls(alloc, rule.decls.as_slice(), 0, &Earlier::of(alloc, &[])?) }
         [] => Err(PatchFault::NoMemory),
     }
 }
@@ -85,8 +69,8 @@ fn heads_have_names_conditions_modes_and_variables(rt: HostRuntime) -> Result<()
     )
     .ok()
     .ok_or("a fault")?;
-    match heads.as_slice() {
-        [first, second] => {
+    match (heads.head(0), heads.head(1)) {
+        (Some(first), Some(second)) => {
             assert!(rt;
                 first.name.as_bytes() == b"r".as_slice() && matches!(first.depends, Dep::Always)
             );

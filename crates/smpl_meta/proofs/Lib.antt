@@ -11,3 +11,6 @@ pub mod Conditions
 pub mod HasCondition
 pub mod HeadsOnce
 pub mod Placing
+pub mod IndexLemmas
+pub mod SeenLemmas
+pub mod ReadingHeads

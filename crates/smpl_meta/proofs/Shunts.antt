@@ -4,7 +4,6 @@
 -- an operand is taken; what `&&` joins stands alone behind the last `||`; what `||` joins is what the group closes to.
 use Rattle.std.proofs.Common.{◌≡◌, List, [], ◌∷◌, Option, Some, None, refl, sym, ap, ◌∙◌}
 use Rattle.smpl_patch.specs.declared.rule.Dep.{Dep}
-use Rattle.smpl_patch.specs.declared.rule.Dep.TheVariants as dep
 use Rattle.smpl_lexer.specs.declared.token.PatchToken.{PatchToken}
 use Rattle.smpl_meta.specs.declared.head.RuleHead.{RuleHead}
 use Rattle.smpl_meta.specs.declared.depends.Mark.{Mark}

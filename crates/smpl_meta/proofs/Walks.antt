@@ -1,6 +1,5 @@
 -- Lists that are gone over up to some place.
-use Rattle.std.proofs.Common.{◌≡◌, ℕ, ◌+◌, ◌<◌, Bool, true, false, List, [], ◌∷◌, ◌++◌, length, take, drop, Option, Some, sym, ap, ◌∙◌, get_or, append_assoc, if◌then◌else◌}
-use Rattle.std.specs.Str.{bytes_eq}
+use Rattle.std.proofs.Common.{◌≡◌, ℕ, ◌+◌, ◌<◌, Bool, List, [], ◌∷◌, ◌++◌, length, take, drop, Option, sym, ap, ◌∙◌, get_or, append_assoc}
 use Rattle.std.proofs.lemmas.List.{drop_more, take_more}
 use Rattle.smpl_terms.specs.declared.var.Var.{Var as Variable}
 use Rattle.smpl_patch.specs.declared.pattern.VarDecl.{VarDecl}
@@ -10,43 +9,12 @@ use Rattle.smpl_meta.specs.declared.head.RuleHead.{RuleHead}
 use Rattle.smpl_meta.specs.declared.item.DeclKind.{DeclKind}
 use Rattle.smpl_meta.specs.declared.item.Named.{Named}
 use Rattle.smpl_meta.specs.declared.item.Item.{Item}
-use Rattle.smpl_meta.specs.Known.{head_named, var_named}
-use Rattle.smpl_meta.specs.Decls.{is_again, is_known, named_faults, nots_faults, item_faults, items_faults, texts_of, place_not, places_not, vars_in, vars_of_items}
+use Rattle.smpl_meta.specs.Decls.{is_known, named_faults, nots_faults, item_faults, item_faults_by, items_faults, texts_of, place_not, places_not, vars_in, vars_of_items}
 use Rattle.smpl_meta.proofs.FirstLemmas.{first_append}
 
 pub at_item : {X : Type 0} (xs : List X) (i : ℕ) (x : X) → i < length xs → x ≡ get_or xs i x
     → drop i xs ≡ x ∷ drop (i + 1) xs
 at_item {X} xs i x within is = drop_more xs i x within ∙ ap (λ (y : X). y ∷ drop (i + 1) xs) (sym is)
-
-pub known_here : (before : List Item) (j : ℕ) (x i : Item) → j < length before → x ≡ get_or before j x
-    → is_again i x ≡ true → is_known (drop j before) i ≡ true
-known_here before j x i within is e = ap (λ (l : List Item). is_known l i) (at_item before j x within is)
-    ∙ ap (λ (b : Bool). if b then true else is_known (drop (j + 1) before) i) e
-
-pub known_more : (before : List Item) (j : ℕ) (x i : Item) → j < length before → x ≡ get_or before j x
-    → is_again i x ≡ false → is_known (drop j before) i ≡ is_known (drop (j + 1) before) i
-known_more before j x i within is e = ap (λ (l : List Item). is_known l i) (at_item before j x within is)
-    ∙ ap (λ (b : Bool). if b then true else is_known (drop (j + 1) before) i) e
-
-pub head_here : (name : List ℕ) (hs : List RuleHead) (i : ℕ) (h : RuleHead) → i < length hs → h ≡ get_or hs i h
-    → bytes_eq h.name name ≡ true → head_named name (drop i hs) ≡ Some h
-head_here name hs i h within is e = ap (head_named name) (at_item hs i h within is)
-    ∙ ap (λ (b : Bool). if b then Some h else head_named name (drop (i + 1) hs)) e
-
-pub head_more : (name : List ℕ) (hs : List RuleHead) (i : ℕ) (h : RuleHead) → i < length hs → h ≡ get_or hs i h
-    → bytes_eq h.name name ≡ false → head_named name (drop i hs) ≡ head_named name (drop (i + 1) hs)
-head_more name hs i h within is e = ap (head_named name) (at_item hs i h within is)
-    ∙ ap (λ (b : Bool). if b then Some h else head_named name (drop (i + 1) hs)) e
-
-pub var_here : (name : List ℕ) (ds : List VarDecl) (i : ℕ) (d : VarDecl) → i < length ds → d ≡ get_or ds i d
-    → bytes_eq d.var.name name ≡ true → var_named name (drop i ds) ≡ Some d
-var_here name ds i d within is e = ap (var_named name) (at_item ds i d within is)
-    ∙ ap (λ (b : Bool). if b then Some d else var_named name (drop (i + 1) ds)) e
-
-pub var_more : (name : List ℕ) (ds : List VarDecl) (i : ℕ) (d : VarDecl) → i < length ds → d ≡ get_or ds i d
-    → bytes_eq d.var.name name ≡ false → var_named name (drop i ds) ≡ var_named name (drop (i + 1) ds)
-var_more name ds i d within is e = ap (var_named name) (at_item ds i d within is)
-    ∙ ap (λ (b : Bool). if b then Some d else var_named name (drop (i + 1) ds)) e
 
 pub texts_more : (ns : List Named) (i : ℕ) (n : Named) (out : List (List ℕ)) → i < length ns → n ≡ get_or ns i n
     → out ++ texts_of (drop i ns) ≡ (out ++ n.name.token.text ∷ []) ++ texts_of (drop (i + 1) ns)
@@ -71,7 +39,7 @@ pub nots_more : (earlier : List RuleHead) (kind : DeclKind) (ns : List Named) (i
 nots_more earlier kind ns i n o within is = ap (λ (l : List Named). first_from o (nots_faults earlier kind l)) (at_item ns i n within is)
     ∙ first_append o (named_faults earlier kind n) (nots_faults earlier kind (drop (i + 1) ns))
 
-one_longer : (is : List Item) (i : ℕ) (x : Item) → i < length is → x ≡ get_or is i x
+pub one_longer : (is : List Item) (i : ℕ) (x : Item) → i < length is → x ≡ get_or is i x
     → take (i + 1) is ≡ take i is ++ x ∷ []
 one_longer is i x within e = take_more is i x within ∙ ap (λ (y : Item). take i is ++ y ∷ []) (sym e)
 
@@ -81,3 +49,13 @@ pub items_more : (earlier : List RuleHead) (is : List Item) (i : ℕ) (x : Item)
 items_more earlier is i x o within e = ap (λ (l : List Item). first_from o (items_faults earlier (take i is) l)) (at_item is i x within e)
     ∙ (first_append o (item_faults earlier (take i is) x) (items_faults earlier (take i is ++ x ∷ []) (drop (i + 1) is))
     ∙ ap (λ (l : List Item). first_from (first_from o (item_faults earlier (take i is) x)) (items_faults earlier l (drop (i + 1) is))) (sym (one_longer is i x within e)))
+
+-- an item of which it is known whether its name is used again, before the others
+pub items-step : (earlier : List RuleHead) (is : List Item) (i : ℕ) (x : Item) (o new start : Option PatchFault) (again : Bool)
+    → i < length is → x ≡ get_or is i x → again ≡ is_known (take i is) x → new ≡ first_from o (item_faults_by again earlier x)
+    → first_from o (items_faults earlier (take i is) (drop i is)) ≡ start
+    → first_from new (items_faults earlier (take (i + 1) is) (drop (i + 1) is)) ≡ start
+items-step earlier is i x o new start again within e known step so-far =
+    ap (λ (f : Option PatchFault). first_from f (items_faults earlier (take (i + 1) is) (drop (i + 1) is)))
+    (step ∙ ap (λ (b : Bool). first_from o (item_faults_by b earlier x)) known)
+    ∙ sym (items_more earlier is i x o within e) ∙ so-far

@@ -60,8 +60,8 @@ abbrev pub is_known : List Item → Item → Bool
 is_known [] i = false
 is_known (j ∷ js) i = if is_again i j then true else is_known js i
 
-abbrev pub twice_fault : List Item → Item → List PatchFault
-twice_fault before i = if is_known before i then TwiceNamed i.named.name.at ∷ [] else []
+abbrev pub twice_by : Bool → Item → List PatchFault
+twice_by again i = if again then TwiceNamed i.named.name.at ∷ [] else []
 
 abbrev pub is_kind : DeclKind → VarKind → Bool
 is_kind Symbol k = false
@@ -84,9 +84,13 @@ abbrev pub nots_faults : List RuleHead → DeclKind → List Named → List Patc
 nots_faults earlier kind [] = []
 nots_faults earlier kind (n ∷ ns) = named_faults earlier kind n ++ nots_faults earlier kind ns
 
+-- of an item whose name is used again, or isn't
+abbrev pub item_faults_by : Bool → List RuleHead → Item → List PatchFault
+item_faults_by again earlier i =
+    twice_by again i ++ (named_faults earlier i.kind i.named ++ nots_faults earlier i.kind i.nots)
+
 abbrev pub item_faults : List RuleHead → List Item → Item → List PatchFault
-item_faults earlier before i =
-    twice_fault before i ++ (named_faults earlier i.kind i.named ++ nots_faults earlier i.kind i.nots)
+item_faults earlier before i = item_faults_by (is_known before i) earlier i
 
 -- of items that stand behind others
 abbrev pub items_faults : List RuleHead → List Item → List Item → List PatchFault

@@ -1,5 +1,5 @@
 -- The head of a rule: its name, on what it depends, its mode, and its variables.
-use Rattle.std.specs.Prelude.{ℕ, ◌≡◌, ◌==◌, ◌||◌, ◌&&◌, not, Bool, true, false, if◌then◌else◌, List, [], ◌∷◌, ◌++◌, length, slice_get, IfSome, ⊤, Option, Some, None, codes}
+use Rattle.std.specs.Prelude.{ℕ, ◌≡◌, ◌==◌, ◌||◌, ◌&&◌, not, Bool, true, false, if◌then◌else◌, List, [], ◌∷◌, ◌++◌, length, take, ◌<◌, slice_get, IfSome, ⊤, Option, Some, None, codes}
 use Rattle.std.specs.Str.{bytes_eq}
 use Rattle.smpl_patch.specs.declared.rule.Dep.{Dep}
 use Rattle.smpl_patch.specs.declared.rule.Dep.TheVariants as dep
@@ -190,3 +190,11 @@ AreHeads text earlier [] (h ∷ hs) = ⊥
 AreHeads text earlier (r ∷ rs) [] = ⊥
 AreHeads text earlier (r ∷ rs) (h ∷ hs) =
     IsHead text.virtuals earlier (length earlier) r h × AreHeads text (earlier ++ h ∷ []) rs hs
+
+-- A rule has this first fault, under the heads of the rules before, in which nothing is wrong.
+pub record IsFirstHeadFault (text : PatchText) (f : PatchFault) : Type 0 where
+  pub rule : ℕ
+  pub within : rule < length text.rules
+  pub heads : List RuleHead
+  pub before : AreHeads text [] (take rule text.rules) heads
+  pub here : IsHeadFaultIn text heads rule f

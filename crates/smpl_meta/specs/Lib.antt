@@ -3,8 +3,11 @@ pub mod Forms
 pub mod Known
 pub mod Decls
 pub mod Heads
+pub mod Before
 -- What the crates above read bodies by.
 pub mod Patterns
--- For inside use: how long parts are.
+-- For inside use: indexes of names, how long parts are.
 pub mod Splits
 pub mod Shunting
+pub mod Index
+pub mod Seen

@@ -4,9 +4,9 @@ ghost use Rattle.smpl_patch.specs.Faults.{first_from};
 ghost use Rattle.smpl_meta.specs.Forms.{parts};
 ghost use Rattle.smpl_meta.specs.Decls as told;
 
+use crate::earlier::Earlier;
 use crate::faults::with_items;
 use crate::form::declared;
-use crate::head::RuleHead;
 use crate::item::Item;
 use crate::parts::part_length;
 use crate::vars::vars_of;
@@ -67,7 +67,8 @@ fn parse(
     first: Option<PatchFault>,
 ) -> Result<Parsed, NoMemory>
     ensures items { IfOk result (λ p. p.items ≡ told.items_of (parts tokens.now)) }
-    ensures first { IfOk result (λ p. p.first ≡ first_from first (told.form_faults (parts tokens.now))) }
+    ensures first { IfOk result
+        (λ p. p.first ≡ first_from first (told.form_faults (parts tokens.now))) }
 {
     let mut parsed = Parsed {
         items: Items::new(alloc),
@@ -90,14 +91,15 @@ pub fn declare(
     alloc: Global,
     tokens: &[PatchToken],
     rule: u32,
-    earlier: &[RuleHead],
+    earlier: &Earlier,
     first: Option<PatchFault>,
 ) -> Result<Declared, NoMemory>
-    ensures vars { IfOk result (λ d. d.vars ≡ told.vars_of earlier.now rule tokens.now) }
-    ensures first { IfOk result (λ d. d.first ≡ first_from first (told.decl_faults earlier.now tokens.now)) }
+    ensures vars { IfOk result (λ d. d.vars ≡ told.vars_of earlier.now.heads rule tokens.now) }
+    ensures first { IfOk result
+        (λ d. d.first ≡ first_from first (told.decl_faults earlier.now.heads tokens.now)) }
 {
     let parsed = parse(alloc, tokens, first)?;
-    let first = with_items(parsed.first, earlier, parsed.items.as_slice());
+    let first = with_items(alloc, parsed.first, earlier, parsed.items.as_slice())?;
     let vars = vars_of(alloc, earlier, rule, parsed.items.as_slice())?;
     Ok(Declared { vars, first })
 }

@@ -4,9 +4,8 @@ ghost use Rattle.smpl_patch.specs.declared.rule.Dep.{Dep as Condition};
 ghost use Rattle.smpl_meta.specs.Heads as told;
 ghost use Rattle.smpl_meta.specs.Shunting as shunt;
 ghost use Rattle.smpl_meta.specs.Shunting.{kept};
-ghost use Rattle.smpl_meta.specs.Known as known;
 
-use crate::head::RuleHead;
+use crate::earlier::Earlier;
 use c_terms::{NoMemory, Text};
 use smpl_lexer::{PatchToken, is_rule_name, is_sign, is_word};
 use smpl_patch::Dep;
@@ -69,21 +68,6 @@ fn mark_of(t: &PatchToken) -> Mark
     }
 }
 
-/// The number of the first rule of a name.
-pub fn number_of(earlier: &[RuleHead], name: &[u8]) -> Option<u32>
-    requires { length earlier.now < 2 ^ 32 }
-    ensures { result ≡ known.number_from 0 name.now earlier.now }
-{
-    let mut n = 0;
-    for h in earlier {
-        if h.name.as_bytes() == name {
-            return Some(n);
-        }
-        n += 1;
-    }
-    None
-}
-
 fn plain_dep(alloc: Global, name: &Text, rule: Option<u32>) -> Result<Dep, NoMemory>
     ensures { IfOk result (λ d. d ≡ told.plain_dep name.now rule) }
 {
@@ -102,11 +86,11 @@ fn ever_dep(alloc: Global, name: &Text, rule: Option<u32>) -> Result<Dep, NoMemo
     }
 }
 
-fn named_dep(alloc: Global, earlier: &[RuleHead], word: Mark, name: &Text) -> Result<Dep, NoMemory>
-    requires { length earlier.now < 2 ^ 32 }
-    ensures { IfOk result (λ d. d ≡ told.named_dep earlier.now word name.now) }
+fn named_dep(alloc: Global, earlier: &Earlier, word: Mark, name: &Text) -> Result<Dep, NoMemory>
+    requires { length earlier.now.heads < 2 ^ 32 }
+    ensures { IfOk result (λ d. d ≡ told.named_dep earlier.now.heads word name.now) }
 {
-    let rule = number_of(earlier, name.as_bytes());
+    let rule = earlier.number_of(name.as_bytes());
     match word {
         Mark::Ever => ever_dep(alloc, name, rule),
         Mark::Never => {
@@ -157,7 +141,9 @@ pub struct Operand {
 
 /// Each `!` directly before an operand is put to it.
 fn negated(alloc: Global, pending: Items<Pending>, operand: Dep) -> Result<Operand, NoMemory>
-    ensures { IfOk result (λ r. (a b : Option Condition) → shunt.take_on a b (reverse pending) operand ≡ shunt.settled a b (reverse r.pending) r.dep) }
+    ensures { IfOk result (λ r. (a b : Option Condition) →
+        shunt.take_on a b (reverse pending) operand
+        ≡ shunt.settled a b (reverse r.pending) r.dep) }
 {
     let mut pending = pending;
     let mut dep = operand;
@@ -195,7 +181,8 @@ fn take(alloc: Global, s: Shunted, operand: Dep) -> Result<Shunted, NoMemory>
 
 /// A `)` stands.
 fn close(alloc: Global, s: Shunted) -> Result<Shunted, NoMemory>
-    ensures { IfOk result (λ r. kept r ≡ shunt.close_on (kept s).waiting (shunt.closed s.either s.both)) }
+    ensures { IfOk result
+        (λ r. kept r ≡ shunt.close_on (kept s).waiting (shunt.closed s.either s.both)) }
 {
     let Shunted {
         either,
@@ -303,14 +290,9 @@ fn other_side(alloc: Global, s: Shunted) -> Result<Shunted, NoMemory>
     })
 }
 
-fn step(
-    alloc: Global,
-    earlier: &[RuleHead],
-    s: Shunted,
-    t: &PatchToken,
-) -> Result<Shunted, NoMemory>
-    requires { length earlier.now < 2 ^ 32 }
-    ensures { IfOk result (λ r. kept r ≡ shunt.step earlier.now (kept s) t.now) }
+fn step(alloc: Global, earlier: &Earlier, s: Shunted, t: &PatchToken) -> Result<Shunted, NoMemory>
+    requires { length earlier.now.heads < 2 ^ 32 }
+    ensures { IfOk result (λ r. kept r ≡ shunt.step earlier.now.heads (kept s) t.now) }
 {
     match mark_of(t) {
         Mark::Not => push(s, Pending::Not),
@@ -329,9 +311,9 @@ fn step(
 }
 
 /// The condition that the tokens spell.
-pub fn dep_of(alloc: Global, earlier: &[RuleHead], tokens: &[PatchToken]) -> Result<Dep, NoMemory>
-    requires { length earlier.now < 2 ^ 32 }
-    ensures { IfOk result (λ d. d ≡ shunt.dep_of earlier.now tokens.now) }
+pub fn dep_of(alloc: Global, earlier: &Earlier, tokens: &[PatchToken]) -> Result<Dep, NoMemory>
+    requires { length earlier.now.heads < 2 ^ 32 }
+    ensures { IfOk result (λ d. d ≡ shunt.dep_of earlier.now.heads tokens.now) }
 {
     let mut s = Shunted {
         either: None,

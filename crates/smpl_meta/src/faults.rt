@@ -1,18 +1,21 @@
 // What is wrong with declarations.
 #![tactic(auto, using(crate::proofs::FirstLemmas::first_append))]
 
-ghost use Rattle.std.specs.Prelude.{◌≡◌, []};
+ghost use Rattle.std.specs.Prelude.{◌≡◌, [], IfOk};
 ghost use Rattle.std.specs.Option.{option_copied};
-ghost use Rattle.std.specs.Str.{bytes_eq};
 ghost use Rattle.smpl_patch.specs.Faults.{first_from};
 ghost use Rattle.smpl_meta.specs.Decls as told;
 
-use crate::head::RuleHead;
+use crate::earlier::Earlier;
+use crate::index::NameIndex;
 use crate::item::{DeclKind, Item, Named};
-use crate::known::{kind_number, var_of};
+use crate::known::kind_number;
 use crate::names::is_keyword;
+use crate::seen::{Seen, is_seen, with_seen};
+use c_terms::NoMemory;
 use smpl_lexer::PatchToken;
 use smpl_patch::{PatchFault, VarDecl, VarKind, earlier as earlier_fault};
+use std::alloc::Global;
 
 fn with_word(first: Option<PatchFault>, t: &PatchToken) -> Option<PatchFault>
     ensures { result ≡ first_from first (told.word_fault t.now) }
@@ -33,43 +36,10 @@ fn with_from_word(first: Option<PatchFault>, from: &Option<PatchToken>) -> Optio
     }
 }
 
-fn is_symbol(kind: DeclKind) -> bool
-    ensures { result ≡ told.is_symbol kind }
+fn with_twice(first: Option<PatchFault>, again: bool, i: &Item) -> Option<PatchFault>
+    ensures { result ≡ first_from first (told.twice_by again i.now) }
 {
-    match kind {
-        DeclKind::Symbol => true,
-        DeclKind::Var(_) => false,
-    }
-}
-
-fn has_name(i: &Item, name: &[u8]) -> bool
-    ensures { result ≡ bytes_eq i.now.named.name.token.text name.now }
-{
-    i.named.name.token.text.as_bytes() == name
-}
-
-/// Of one name, unless both are symbols.
-fn is_again(i: &Item, j: &Item) -> bool
-    ensures { result ≡ told.is_again i.now j.now }
-{
-    has_name(j, i.named.name.token.text.as_bytes()) && !(is_symbol(i.kind) && is_symbol(j.kind))
-}
-
-fn is_known(before: &[Item], i: &Item) -> bool
-    ensures { result ≡ told.is_known before.now i.now }
-{
-    for j in before {
-        if is_again(i, j) {
-            return true;
-        }
-    }
-    false
-}
-
-fn with_twice(first: Option<PatchFault>, before: &[Item], i: &Item) -> Option<PatchFault>
-    ensures { result ≡ first_from first (told.twice_fault before.now i.now) }
-{
-    if is_known(before, i) {
+    if again {
         Some(earlier_fault(first, PatchFault::TwiceNamed(i.named.name.at)))
     } else {
         first
@@ -107,17 +77,17 @@ fn with_found(
 
 fn with_from(
     first: Option<PatchFault>,
-    earlier: &[RuleHead],
+    earlier: &Earlier,
     kind: DeclKind,
     from: &Option<PatchToken>,
     x: &PatchToken,
 ) -> Option<PatchFault>
-    ensures { result ≡ first_from first (told.from_fault earlier.now kind from.now x.now) }
+    ensures { result ≡ first_from first (told.from_fault earlier.now.heads kind from.now x.now) }
 {
     match from {
         None => first,
         Some(r) => {
-            let found = var_of(earlier, r.token.text.as_bytes(), x.token.text.as_bytes());
+            let found = earlier.var_of(r.token.text.as_bytes(), x.token.text.as_bytes());
             with_found(first, kind, r, found)
         }
     }
@@ -125,11 +95,11 @@ fn with_from(
 
 fn with_named(
     first: Option<PatchFault>,
-    earlier: &[RuleHead],
+    earlier: &Earlier,
     kind: DeclKind,
     named: &Named,
 ) -> Option<PatchFault>
-    ensures { result ≡ first_from first (told.named_faults earlier.now kind named.now) }
+    ensures { result ≡ first_from first (told.named_faults earlier.now.heads kind named.now) }
 {
     let first = with_from_word(first, &named.from);
     let first = with_word(first, &named.name);
@@ -138,11 +108,11 @@ fn with_named(
 
 fn with_nots(
     first: Option<PatchFault>,
-    earlier: &[RuleHead],
+    earlier: &Earlier,
     kind: DeclKind,
     nots: &[Named],
 ) -> Option<PatchFault>
-    ensures { result ≡ first_from first (told.nots_faults earlier.now kind nots.now) }
+    ensures { result ≡ first_from first (told.nots_faults earlier.now.heads kind nots.now) }
 {
     let mut first = first;
     for named in nots {
@@ -153,28 +123,36 @@ fn with_nots(
 
 fn with_item(
     first: Option<PatchFault>,
-    earlier: &[RuleHead],
-    before: &[Item],
+    earlier: &Earlier,
+    again: bool,
     i: &Item,
 ) -> Option<PatchFault>
-    ensures { result ≡ first_from first (told.item_faults earlier.now before.now i.now) }
+    ensures { result ≡ first_from first (told.item_faults_by again earlier.now.heads i.now) }
 {
-    let first = with_twice(first, before, i);
+    let first = with_twice(first, again, i);
     let first = with_named(first, earlier, i.kind, &i.named);
     with_nots(first, earlier, i.kind, i.nots.as_slice())
 }
 
-/// The first fault so far, with those of items.
+/// The first fault so far, with those of items. Linear.
 pub fn with_items(
+    alloc: Global,
     first: Option<PatchFault>,
-    earlier: &[RuleHead],
+    earlier: &Earlier,
     items: &[Item],
-) -> Option<PatchFault>
-    ensures { result ≡ first_from first (told.items_faults earlier.now [] items.now) }
+) -> Result<Option<PatchFault>, NoMemory>
+    ensures { IfOk result
+        (λ f. f ≡ first_from first (told.items_faults earlier.now.heads [] items.now)) }
 {
     let mut first = first;
+    let mut seen = Seen {
+        all: NameIndex::new(alloc),
+        variables: NameIndex::new(alloc),
+    };
     for i in 0..items.len() {
-        first = with_item(first, earlier, &items[..i], &items[i]);
+        let item = &items[i];
+        first = with_item(first, earlier, is_seen(&seen, item), item);
+        seen = with_seen(alloc, seen, item)?;
     }
-    first
+    Ok(first)
 }

@@ -3,9 +3,10 @@ ghost use Rattle.std.specs.Prelude.{◌≡◌, IfOk, option_map, option_and_then
 ghost use Rattle.smpl_meta.specs.Forms as told;
 
 use crate::item::{DeclKind, Item, Named};
+use crate::lists::{PartReader, parts_between};
 use crate::names::{is_wordish, named_of, plain_of};
 use crate::nots::nots_of;
-use crate::parts::{before_sign, chunk_length};
+use crate::parts::before_sign;
 use c_terms::{MetaKind, NoMemory};
 use smpl_lexer::{PatchToken, is_sign, is_word};
 use smpl_patch::VarKind;
@@ -37,7 +38,8 @@ fn except(
     x: &PatchToken,
     tokens: &[PatchToken],
 ) -> Result<Option<Item>, NoMemory>
-    ensures { IfOk result (λ o. o ≡ option_and_then (told.excepted_of kind tokens.now) (told.plain_of x.now)) }
+    ensures { IfOk result
+        (λ o. o ≡ option_and_then (told.excepted_of kind tokens.now) (told.plain_of x.now)) }
 {
     match plain_of(alloc, x)? {
         None => Ok(None),
@@ -74,6 +76,22 @@ fn item_of(alloc: Global, kind: DeclKind, tokens: &[PatchToken]) -> Result<Optio
     }
 }
 
+/// Reads one item of a declaration of this kind.
+#[derive(Drop)]
+struct ItemReader {
+    kind: DeclKind,
+}
+
+impl PartReader for ItemReader {
+    type Part = Item;
+
+    ghost spelled = { λ r. told.item_of r.kind };
+
+    fn read(&self, alloc: Global, tokens: &[PatchToken]) -> Result<Option<Item>, NoMemory> {
+        item_of(alloc, self.kind, tokens)
+    }
+}
+
 /// Items, parted by commas.
 fn items_in(
     alloc: Global,
@@ -82,20 +100,7 @@ fn items_in(
 ) -> Result<Option<Items<Item>>, NoMemory>
     ensures { IfOk result (λ o. o ≡ told.items_in kind tokens.now) }
 {
-    let mut items = Items::new(alloc);
-    let mut start = 0;
-    loop {
-        let rest = &tokens[start..];
-        let n = chunk_length(rest);
-        match item_of(alloc, kind, &rest[..n])? {
-            None => return Ok(None),
-            Some(one) => items.push(one)?,
-        }
-        if n == rest.len() {
-            return Ok(Some(items));
-        }
-        start += n + 1;
-    }
+    parts_between(alloc, &ItemReader { kind }, tokens)
 }
 
 /// `list` belongs to the kind where a name follows.

@@ -6,32 +6,20 @@ ghost use Rattle.std.specs.Option.{option_copied};
 ghost use Rattle.smpl_patch.specs.Faults.{first_from};
 ghost use Rattle.smpl_meta.specs.Heads as told;
 
-use crate::depends::number_of;
-use crate::head::RuleHead;
+use crate::earlier::Earlier;
 use c_terms::{NoMemory, Text};
 use smpl_lexer::{BodyLine, PatchToken, RuleText, is_at, is_mode, is_rule_name, is_word};
 use smpl_patch::{Mode, PatchFault, earlier as earlier_fault};
 use std::alloc::Global;
 
-fn is_virtual(virtuals: &[Text], name: &[u8]) -> bool
-    ensures { result ≡ told.is_virtual virtuals.now name.now }
-{
-    for v in virtuals {
-        if v.as_bytes() == name {
-            return true;
-        }
-    }
-    false
-}
-
 /// An earlier rule or a `virtual` line has the name.
-fn is_taken(virtuals: &[Text], earlier: &[RuleHead], name: &[u8]) -> bool
-    requires { length earlier.now < 2 ^ 32 }
-    ensures { result ≡ told.is_taken virtuals.now earlier.now name.now }
+fn is_taken(earlier: &Earlier, name: &[u8]) -> bool
+    requires { length earlier.now.heads < 2 ^ 32 }
+    ensures { result ≡ told.is_taken earlier.now.virtuals earlier.now.heads name.now }
 {
-    match number_of(earlier, name) {
+    match earlier.number_of(name) {
         Some(_) => true,
-        None => is_virtual(virtuals, name),
+        None => earlier.is_virtual(name),
     }
 }
 
@@ -56,17 +44,17 @@ pub fn name_text(alloc: Global, name: Option<&PatchToken>) -> Result<Text, NoMem
 
 pub fn with_name(
     first: Option<PatchFault>,
-    virtuals: &[Text],
-    earlier: &[RuleHead],
+    earlier: &Earlier,
     name: Option<&PatchToken>,
 ) -> Option<PatchFault>
-    requires { length earlier.now < 2 ^ 32 }
-    ensures { result ≡ first_from first (told.name_fault virtuals.now earlier.now (option_copied name.entry)) }
+    requires { length earlier.now.heads < 2 ^ 32 }
+    ensures { result ≡ first_from first
+        (told.name_fault earlier.now.virtuals earlier.now.heads (option_copied name.entry)) }
 {
     match name {
         None => first,
         Some(t) => {
-            if is_taken(virtuals, earlier, t.token.text.as_bytes()) {
+            if is_taken(earlier, t.token.text.as_bytes()) {
                 Some(earlier_fault(first, PatchFault::TwiceNamed(t.at)))
             } else {
                 first
@@ -104,11 +92,11 @@ pub fn depends_tokens(header: &[PatchToken]) -> &[PatchToken]
     condition(behind_on(header))
 }
 
-fn is_unknown(virtuals: &[Text], earlier: &[RuleHead], t: &PatchToken) -> bool
-    requires { length earlier.now < 2 ^ 32 }
-    ensures { result ≡ told.is_unknown virtuals.now earlier.now t.now }
+fn is_unknown(earlier: &Earlier, t: &PatchToken) -> bool
+    requires { length earlier.now.heads < 2 ^ 32 }
+    ensures { result ≡ told.is_unknown earlier.now.virtuals earlier.now.heads t.now }
 {
-    is_rule_name(t) && !is_taken(virtuals, earlier, t.token.text.as_bytes())
+    is_rule_name(t) && !is_taken(earlier, t.token.text.as_bytes())
 }
 
 fn with_bad(first: Option<PatchFault>, unknown: bool, at: u32) -> Option<PatchFault>
@@ -124,16 +112,16 @@ fn with_bad(first: Option<PatchFault>, unknown: bool, at: u32) -> Option<PatchFa
 /// The first fault so far, with those of the names of a condition.
 pub fn with_unknown(
     first: Option<PatchFault>,
-    virtuals: &[Text],
-    earlier: &[RuleHead],
+    earlier: &Earlier,
     tokens: &[PatchToken],
 ) -> Option<PatchFault>
-    requires { length earlier.now < 2 ^ 32 }
-    ensures { result ≡ first_from first (told.unknown_faults virtuals.now earlier.now tokens.now) }
+    requires { length earlier.now.heads < 2 ^ 32 }
+    ensures { result ≡ first_from first
+        (told.unknown_faults earlier.now.virtuals earlier.now.heads tokens.now) }
 {
     let mut first = first;
     for t in tokens {
-        first = with_bad(first, is_unknown(virtuals, earlier, t), t.at);
+        first = with_bad(first, is_unknown(earlier, t), t.at);
     }
     first
 }

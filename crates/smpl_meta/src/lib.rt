@@ -12,29 +12,35 @@ ghost use Rattle.smpl_meta.specs.declared.head.RuleHead.{RuleHead as Head};
 ghost use Rattle.smpl_patch.specs.Faults.{first_of};
 ghost use Rattle.smpl_lexer.specs.Texts.{AllGoOn, OrNoMemory};
 ghost use Rattle.smpl_meta.specs.Decls.{IsDecls, decl_faults};
-ghost use Rattle.smpl_meta.specs.Heads.{IsHead, IsHeadFault, IsHeadIn, IsHeadFaultIn, AreHeads, DependsOn, depends_tokens};
+ghost use Rattle.smpl_meta.specs.Heads.{IsHead, IsHeadFault, IsHeadIn, IsHeadFaultIn, AreHeads, IsFirstHeadFault, DependsOn, depends_tokens};
 ghost use Rattle.smpl_meta.specs.Shunting.{head_of};
 
 mod decls;
 mod depends;
+mod earlier;
 mod faults;
 mod form;
 mod head;
 mod header;
+mod index;
 mod item;
 mod known;
+mod lists;
 mod names;
 mod nots;
 mod parts;
 mod patterns;
+mod seen;
 #[cfg(test)]
 mod tests;
+mod variables;
 mod vars;
 
 use crate::decls::{Declared, declare};
 use crate::depends::dep_of;
 use crate::header::{depends_tokens, mode_of, name_text, name_token, with_name, with_unknown};
-use c_terms::{NoMemory, Text};
+use c_terms::NoMemory;
+pub use earlier::Earlier;
 pub use head::RuleHead;
 pub use item::{DeclKind, Item, Named};
 pub use patterns::{Placed, made, pattern_tokens};
@@ -42,17 +48,19 @@ use smpl_lexer::{PatchText, PatchToken, RuleText};
 use smpl_patch::{PatchFault, VarDecl};
 use sqlite_items::Items;
 use std::alloc::Global;
+pub use variables::VarTable;
 
-/// The variables that declarations declare, as variables of a rule, or their first fault. Linear in the tokens, and for
-/// each inherited variable in the rules and variables before; each name is compared with those before it.
+/// The variables that declarations declare, as variables of a rule, or their first fault. Linear in the tokens and their
+/// bytes.
 pub fn read_decls(
     alloc: Global,
     decls: &[PatchToken],
     rule: u32,
-    earlier: &[RuleHead],
+    earlier: &Earlier,
 ) -> Result<Items<VarDecl>, PatchFault>
-    ensures vars { IfOk result (λ vars. IsDecls earlier.now rule decls.now vars) }
-    ensures fault { IfErr result (λ fault. OrNoMemory (λ f. first_of (decl_faults earlier.now decls.now) ≡ Some f) fault) }
+    ensures vars { IfOk result (λ vars. IsDecls earlier.now.heads rule decls.now vars) }
+    ensures fault { IfErr result (λ fault. OrNoMemory
+        (λ f. first_of (decl_faults earlier.now.heads decls.now) ≡ Some f) fault) }
 {
     let Declared { vars, first } = declare(alloc, decls, rule, earlier, None)?;
     match first {
@@ -66,10 +74,10 @@ fn made_head(
     alloc: Global,
     r: &RuleText,
     vars: Items<VarDecl>,
-    earlier: &[RuleHead],
+    earlier: &Earlier,
 ) -> Result<RuleHead, NoMemory>
-    requires { length earlier.now < 2 ^ 32 }
-    ensures { IfOk result (λ h. h ≡ head_of earlier.now r.now vars) }
+    requires { length earlier.now.heads < 2 ^ 32 }
+    ensures { IfOk result (λ h. h ≡ head_of earlier.now.heads r.now vars) }
 {
     let header = r.header.as_slice();
     let name = name_text(alloc, name_token(header))?;
@@ -84,18 +92,18 @@ fn made_head(
 
 fn read_head(
     alloc: Global,
-    virtuals: &[Text],
     r: &RuleText,
     rule: u32,
-    earlier: &[RuleHead],
+    earlier: &Earlier,
 ) -> Result<RuleHead, PatchFault>
-    requires { length earlier.now < 2 ^ 32 }
-    ensures head { IfOk result (λ h. IsHead virtuals.now earlier.now rule r.now h) }
-    ensures fault { IfErr result (λ fault. OrNoMemory (IsHeadFault virtuals.now earlier.now r.now) fault) }
+    requires { length earlier.now.heads < 2 ^ 32 }
+    ensures head { IfOk result (λ h. IsHead earlier.now.virtuals earlier.now.heads rule r.now h) }
+    ensures fault { IfErr result (λ fault. OrNoMemory
+        (IsHeadFault earlier.now.virtuals earlier.now.heads r.now) fault) }
 {
     let header = r.header.as_slice();
-    let first = with_name(None, virtuals, earlier, name_token(header));
-    let first = with_unknown(first, virtuals, earlier, depends_tokens(header));
+    let first = with_name(None, earlier, name_token(header));
+    let first = with_unknown(first, earlier, depends_tokens(header));
     let Declared { vars, first } = declare(alloc, r.decls.as_slice(), rule, earlier, first)?;
     match first {
         Some(fault) => Err(fault),
@@ -103,22 +111,40 @@ fn read_head(
     }
 }
 
-/// The head of a rule, or the first fault of its header and declarations. The heads are those of the rules before. Its
-/// cost is that of [`read_decls`], and for each name of the header the rules before.
+/// The head of a rule, or the first fault of its header and declarations. Linear in them and their bytes, and in the
+/// lines of the body, which may say the mode.
 pub fn read_header(
     alloc: Global,
     text: &PatchText,
     rule: u32,
-    earlier: &[RuleHead],
+    earlier: &Earlier,
 ) -> Result<RuleHead, PatchFault>
     requires within { rule < length text.now.rules }
-    requires earlier { length earlier.now ≡ rule }
-    ensures head { IfOk result (λ h. IsHeadIn text.now earlier.now rule h) }
-    ensures fault { IfErr result (λ fault. OrNoMemory (IsHeadFaultIn text.now earlier.now rule) fault) }
+    requires virtuals { earlier.now.virtuals ≡ text.now.virtuals }
+    requires earlier { length earlier.now.heads ≡ rule }
+    ensures head { IfOk result (λ h. IsHeadIn text.now earlier.now.heads rule h) }
+    ensures fault { IfErr result
+        (λ fault. OrNoMemory (IsHeadFaultIn text.now earlier.now.heads rule) fault) }
 {
-    let virtuals = text.virtuals.as_slice();
     let rules = text.rules.as_slice();
-    read_head(alloc, virtuals, &rules[rule as usize], rule, earlier)
+    read_head(alloc, &rules[rule as usize], rule, earlier)
+}
+
+/// The heads of all rules of a text, or the first fault of their headers and declarations, rule by rule. Linear in the
+/// text.
+pub fn read_headers(alloc: Global, text: &PatchText) -> Result<Earlier, PatchFault>
+    requires { length text.now.rules < 2 ^ 32 }
+    ensures heads { IfOk result (λ e. AreHeads text.now [] text.now.rules e.heads) }
+    ensures fault { IfErr result (λ fault. OrNoMemory (IsFirstHeadFault text.now) fault) }
+{
+    let rules = text.rules.as_slice();
+    let mut earlier = Earlier::of(alloc, text.virtuals.as_slice())?;
+    for i in 0..rules.len() {
+        let r = &rules[i];
+        let head = read_head(alloc, r, i as u32, &earlier)?;
+        earlier = earlier.with(alloc, head)?;
+    }
+    Ok(earlier)
 }
 
 /// A header that can go on to its end, at some place, has a condition, and no other. Does nothing.
@@ -133,6 +159,7 @@ pub fn headers_have_conditions()
 pub fn heads_are_read_once()
     ensures once { (text : Whole) (one other : List Head) → AllGoOn text.rules →
         AreHeads text [] text.rules one → AreHeads text [] text.rules other → one ≡ other }
-    ensures apart { (virtuals : List (List ℕ)) (earlier : List Head) (rule : ℕ) (r : Rule) (h : Head)
-        (fault : Fault) → IsHead virtuals earlier rule r h → IsHeadFault virtuals earlier r fault → ⊥ }
+    ensures apart { (virtuals : List (List ℕ)) (earlier : List Head) (rule : ℕ) (r : Rule)
+        (h : Head) (fault : Fault) →
+        IsHead virtuals earlier rule r h → IsHeadFault virtuals earlier r fault → ⊥ }
 {}

@@ -3,8 +3,9 @@ ghost use Rattle.std.specs.Prelude.{◌≡◌, IfOk};
 ghost use Rattle.smpl_meta.specs.Forms as told;
 
 use crate::item::Named;
+use crate::lists::{PartReader, parts_between};
 use crate::names::{member_of, plain_of};
-use crate::parts::{before_sign, chunk_length};
+use crate::parts::before_sign;
 use c_terms::{MetaKind, NoMemory};
 use smpl_lexer::{PatchToken, is_sign};
 use smpl_patch::VarKind;
@@ -41,6 +42,22 @@ fn not_of(alloc: Global, kind: VarKind, tokens: &[PatchToken]) -> Result<Option<
     }
 }
 
+/// Reads one of what an item of this kind is not to be.
+#[derive(Drop)]
+struct NotReader {
+    kind: VarKind,
+}
+
+impl PartReader for NotReader {
+    type Part = Named;
+
+    ghost spelled = { λ r. told.not_of r.kind };
+
+    fn read(&self, alloc: Global, tokens: &[PatchToken]) -> Result<Option<Named>, NoMemory> {
+        not_of(alloc, self.kind, tokens)
+    }
+}
+
 /// Several, parted by commas.
 fn nots_between(
     alloc: Global,
@@ -49,20 +66,7 @@ fn nots_between(
 ) -> Result<Option<Items<Named>>, NoMemory>
     ensures { IfOk result (λ o. o ≡ told.nots_between kind tokens.now) }
 {
-    let mut nots = Items::new(alloc);
-    let mut start = 0;
-    loop {
-        let rest = &tokens[start..];
-        let n = chunk_length(rest);
-        match not_of(alloc, kind, &rest[..n])? {
-            None => return Ok(None),
-            Some(one) => nots.push(one)?,
-        }
-        if n == rest.len() {
-            return Ok(Some(nots));
-        }
-        start += n + 1;
-    }
+    parts_between(alloc, &NotReader { kind }, tokens)
 }
 
 fn one_not(

@@ -50,7 +50,8 @@ fn within_after(within: bool, t: &PatchToken) -> bool
 
 /// The tokens before the last one, where that is this sign.
 pub fn before_sign<'a>(text: &[u8], tokens: &'a [PatchToken]) -> Option<&'a [PatchToken]>
-    ensures { MatchOption result (told.before_sign text.now tokens.now ≡ None) (λ front. told.before_sign text.now tokens.now ≡ Some front.now) }
+    ensures { MatchOption result (told.before_sign text.now tokens.now ≡ None)
+        (λ front. told.before_sign text.now tokens.now ≡ Some front.now) }
 {
     match tokens {
         [] => None,

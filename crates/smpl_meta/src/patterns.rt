@@ -1,9 +1,10 @@
 // The tokens of a rule's patterns.
 ghost use Rattle.std.specs.Prelude.{◌≡◌, ◌<◌, ◌^◌, [], length, IfOk};
 ghost use Rattle.std.specs.Option.{option_copied};
+ghost use Rattle.smpl_meta.specs.Index.{Indexes, names_of};
 ghost use Rattle.smpl_meta.specs.Patterns as told;
 
-use crate::known::var_named;
+use crate::variables::VarTable;
 use c_terms::{MetaKind, NoMemory, Token, TokenKind};
 use smpl_lexer::{BodyLine, PatchToken, is_at, is_name};
 use smpl_patch::{VarDecl, VarKind};
@@ -34,11 +35,11 @@ fn meta_of(found: Option<&VarDecl>) -> Option<MetaKind>
     }
 }
 
-fn declared_meta(vars: &[VarDecl], t: &PatchToken) -> Option<MetaKind>
+fn declared_meta(vars: &VarTable<'_>, t: &PatchToken) -> Option<MetaKind>
     ensures { result ≡ told.declared_meta vars.now t.now }
 {
     if is_name(t) {
-        meta_of(var_named(vars, t.token.text.as_bytes()))
+        meta_of(vars.find(t.token.text.as_bytes()))
     } else {
         None
     }
@@ -54,7 +55,7 @@ fn kind_by(meta: Option<MetaKind>, kind: TokenKind) -> TokenKind
 }
 
 /// The token with this id, a metavariable where its name is declared.
-pub fn made(alloc: Global, vars: &[VarDecl], id: u64, t: &PatchToken) -> Result<Token, NoMemory>
+pub fn made(alloc: Global, vars: &VarTable<'_>, id: u64, t: &PatchToken) -> Result<Token, NoMemory>
     ensures { IfOk result (λ token. token ≡ told.made vars.now id t.now) }
 {
     Ok(Token {
@@ -78,13 +79,13 @@ fn copied_position(alloc: Global, found: Option<&VarDecl>) -> Result<Option<Var>
 
 fn declared_position(
     alloc: Global,
-    vars: &[VarDecl],
+    vars: &VarTable<'_>,
     t: &PatchToken,
 ) -> Result<Option<Var>, NoMemory>
     ensures { IfOk result (λ v. v ≡ told.declared_position vars.now t.now) }
 {
     if is_name(t) {
-        copied_position(alloc, var_named(vars, t.token.text.as_bytes()))
+        copied_position(alloc, vars.find(t.token.text.as_bytes()))
     } else {
         Ok(None)
     }
@@ -93,7 +94,7 @@ fn declared_position(
 /// `@p` behind a token.
 fn at_position(
     alloc: Global,
-    vars: &[VarDecl],
+    vars: &VarTable<'_>,
     out: &[Placed],
     t: &PatchToken,
     n: &PatchToken,
@@ -142,7 +143,7 @@ fn with_position(out: Items<Placed>, v: Var) -> Result<Items<Placed>, NoMemory>
 
 fn put(
     alloc: Global,
-    vars: &[VarDecl],
+    vars: &VarTable<'_>,
     sign: u8,
     line: u32,
     out: Items<Placed>,
@@ -171,7 +172,7 @@ struct Taken {
 
 fn put_two(
     alloc: Global,
-    vars: &[VarDecl],
+    vars: &VarTable<'_>,
     sign: u8,
     line: u32,
     out: Items<Placed>,
@@ -195,7 +196,7 @@ fn put_two(
 
 fn put_tokens(
     alloc: Global,
-    vars: &[VarDecl],
+    vars: &VarTable<'_>,
     sign: u8,
     line: u32,
     out: Items<Placed>,
@@ -222,7 +223,7 @@ fn put_tokens(
 
 fn put_line(
     alloc: Global,
-    vars: &[VarDecl],
+    vars: &VarTable<'_>,
     line: u32,
     out: Items<Placed>,
     l: &BodyLine,
@@ -235,7 +236,7 @@ fn put_line(
     put_tokens(alloc, vars, l.sign, line, out, l.tokens.as_slice())
 }
 
-/// The tokens of the patterns of a body, plus lines aside. Linear, but that each name is sought among the variables.
+/// The tokens of the patterns of a body, plus lines aside. Linear.
 pub fn pattern_tokens(
     alloc: Global,
     vars: &[VarDecl],
@@ -244,10 +245,11 @@ pub fn pattern_tokens(
     requires { length body.now < 2 ^ 32 }
     ensures { IfOk result (λ r. r ≡ told.pattern_tokens vars.now body.now) }
 {
+    let table = VarTable::of(alloc, vars)?;
     let mut out = Items::new(alloc);
     let mut line = 0u32;
     for l in body {
-        out = put_line(alloc, vars, line, out, l)?;
+        out = put_line(alloc, &table, line, out, l)?;
         line += 1;
     }
     Ok(out)

@@ -1,34 +1,17 @@
 // Each call once with ample memory, and patches of which the outcome is known.
-use crate::{Placed, RuleHead, pattern_tokens, read_decls, read_header};
+use crate::{Earlier, Placed, RuleHead, pattern_tokens, read_decls, read_headers};
 use c_terms::{MetaKind, TokenKind};
 use smpl_lexer::{PatchText, lex_patch};
 use smpl_patch::{Dep, Mode, PatchFault, VarDecl, VarKind, fault_number, fault_place};
 use sqlite_items::Items;
 use std::alloc::Global;
-use std::test::Fail;
 
-fn head_of(
-    alloc: Global,
-    text: &PatchText,
-    rule: u32,
-    earlier: &[RuleHead],
-) -> Result<RuleHead, PatchFault> {
-    if (rule as usize) < text.rules.len() && earlier.len() == rule as usize {
-        read_header(alloc, text, rule, earlier)
-    } else {
-        Err(PatchFault::NoMemory)
-    }
-}
-
-fn heads_of(alloc: Global, patch: &str) -> Result<Vec<RuleHead>, PatchFault> {
+fn heads_of(alloc: Global, patch: &str) -> Result<Earlier, PatchFault> {
     let text = lex_patch(alloc, patch.as_bytes())?;
-    let mut heads = Vec::new(alloc);
-    let mut rule = 0u32;
-    for _ in 0..text.rules.len() {
-        heads.push(head_of(alloc, &text, rule, heads.as_slice())?)?;
-        rule = rule.saturating_add(1);
+    if text.rules.len() > 1000 {
+        return Err(PatchFault::NoMemory);
     }
-    Ok(heads)
+    read_headers(alloc, &text)
 }
 
 /// The number and the place of the first fault, zeros where there is none.
@@ -72,39 +55,48 @@ fn placed(alloc: Global, patch: &str) -> Result<Items<Placed>, PatchFault> {
 
 fn declared(alloc: Global, text: &PatchText) -> Result<Items<VarDecl>, PatchFault> {
     match text.rules.as_slice() {
-        [rule, ..] => read_decls(alloc, rule.decls.as_slice(), 0, &[]),
+        [rule, ..] => { read_decls(alloc, rule.decls.as_slice(), 0, &Earlier::of(alloc, &[])?) }
         [] => Err(PatchFault::NoMemory),
     }
 }
 
+fn is_first(h: &RuleHead) -> bool {
+    h.name.as_bytes() == b"r".as_slice()
+        && matches!(h.depends, Dep::Always)
+        && matches!(h.mode, Mode::Exists)
+}
+
+fn is_second(h: &RuleHead) -> bool {
+    matches!(h.mode, Mode::Forall) && is_neither(&h.depends) && are_second(h.vars.as_slice())
+}
+
+fn are_second(vars: &[VarDecl]) -> bool {
+    match vars {
+        [x, f, q] => is_declared(x, b"x", 0, true)
+            && x.kind == VarKind::Meta(MetaKind::ExprList)
+            && is_declared(f, b"f", 1, false)
+            && f.not_names.len() == 2
+            && q.not_places.len() == 1,
+        _ => false,
+    }
+}
+
+fn are_heads(heads: &Earlier) -> bool {
+    match (heads.head(0), heads.head(1)) {
+        (Some(first), Some(second)) => is_first(first) && is_second(second),
+        _ => false,
+    }
+}
+
 #[test]
-fn heads_have_names_conditions_modes_and_variables(rt: HostRuntime) -> Result<(), Fail> {
-    let heads = heads_of(
+fn heads_have_names_conditions_modes_and_variables(rt: HostRuntime) {
+    match heads_of(
         rt.alloc(),
         "virtual v\n@r@\nexpression list x;\nposition p;\n@@\n f(x)@p\n@s depends on !(v && ever r)@\nexpression list r.x;\nidentifier f != {g, h};\nposition q != r.p;\n@@\n- f(x);\n",
-    )
-    .ok()
-    .ok_or("a fault")?;
-    match heads.as_slice() {
-        [first, second] => {
-            assert!(rt;
-                first.name.as_bytes() == b"r".as_slice() && matches!(first.depends, Dep::Always)
-            );
-            assert!(rt; matches!(first.mode, Mode::Exists) && matches!(second.mode, Mode::Forall));
-            assert!(rt; is_neither(&second.depends));
-            match second.vars.as_slice() {
-                [x, f, q] => {
-                    assert!(rt; is_declared(x, b"x", 0, true));
-                    assert!(rt; x.kind == VarKind::Meta(MetaKind::ExprList));
-                    assert!(rt; is_declared(f, b"f", 1, false));
-                    assert_eq!(rt; (f.not_names.len(), q.not_places.len()), (2, 1));
-                }
-                _ => panic!(rt; "not three variables"),
-            }
-        }
-        _ => panic!(rt; "not two rules"),
+    ) {
+        Ok(heads) => assert!(rt; are_heads(&heads)),
+        Err(_) => panic!(rt; "a fault"),
     }
-    Ok(())
 }
 
 #[test]
@@ -132,21 +124,24 @@ fn each_fault_stands_at_its_place(rt: HostRuntime) {
     }
 }
 
+fn are_placed(found: &[Placed]) -> bool {
+    match found {
+        [f, _, x, close] => f.token.kind == TokenKind::Name
+            && f.sign == b'-'
+            && x.token.kind == TokenKind::Meta(MetaKind::Expr)
+            && x.token.id == 2
+            && close.positions.len() == 1,
+        _ => false,
+    }
+}
+
 #[test]
-fn positions_stand_behind_tokens(rt: HostRuntime) -> Result<(), Fail> {
-    let found = placed(
+fn positions_stand_behind_tokens(rt: HostRuntime) {
+    match placed(
         rt.alloc(),
         "@@\nexpression x;\nposition p;\n@@\n- f(x)@p\n+ g();\n",
-    )
-    .ok()
-    .ok_or("a fault")?;
-    match found.as_slice() {
-        [f, _, x, close] => {
-            assert!(rt; f.token.kind == TokenKind::Name && f.sign == b'-');
-            assert!(rt; x.token.kind == TokenKind::Meta(MetaKind::Expr) && x.token.id == 2);
-            assert_eq!(rt; close.positions.len(), 1);
-        }
-        _ => panic!(rt; "not four tokens"),
+    ) {
+        Ok(found) => assert!(rt; are_placed(found.as_slice())),
+        Err(_) => panic!(rt; "a fault"),
     }
-    Ok(())
 }

@@ -3,9 +3,8 @@ ghost use Rattle.std.specs.Prelude.{◌≡◌, ◌++◌, IfOk};
 ghost use Rattle.std.specs.Option.{option_copied};
 ghost use Rattle.smpl_meta.specs.Decls as told;
 
-use crate::head::RuleHead;
+use crate::earlier::Earlier;
 use crate::item::{DeclKind, Item, Named};
-use crate::known::var_of;
 use c_terms::{NoMemory, Text};
 use smpl_lexer::PatchToken;
 use smpl_patch::{VarDecl, VarKind};
@@ -51,24 +50,24 @@ fn push_var(
 
 fn push_place(
     alloc: Global,
-    earlier: &[RuleHead],
+    earlier: &Earlier,
     vars: Items<Var>,
     from: &Option<PatchToken>,
     x: &PatchToken,
 ) -> Result<Items<Var>, NoMemory>
-    ensures { IfOk result (λ out. out ≡ vars ++ told.place_not earlier.now from.now x.now) }
+    ensures { IfOk result (λ out. out ≡ vars ++ told.place_not earlier.now.heads from.now x.now) }
 {
     match from {
         None => Ok(vars),
         Some(r) => {
-            let found = var_of(earlier, r.token.text.as_bytes(), x.token.text.as_bytes());
+            let found = earlier.var_of(r.token.text.as_bytes(), x.token.text.as_bytes());
             push_var(alloc, vars, found)
         }
     }
 }
 
-fn places_not(alloc: Global, earlier: &[RuleHead], nots: &[Named]) -> Result<Items<Var>, NoMemory>
-    ensures { IfOk result (λ out. out ≡ told.places_not earlier.now nots.now) }
+fn places_not(alloc: Global, earlier: &Earlier, nots: &[Named]) -> Result<Items<Var>, NoMemory>
+    ensures { IfOk result (λ out. out ≡ told.places_not earlier.now.heads nots.now) }
 {
     let mut vars = Items::new(alloc);
     for n in nots {
@@ -79,12 +78,12 @@ fn places_not(alloc: Global, earlier: &[RuleHead], nots: &[Named]) -> Result<Ite
 
 fn own(
     alloc: Global,
-    earlier: &[RuleHead],
+    earlier: &Earlier,
     rule: u32,
     kind: VarKind,
     i: &Item,
 ) -> Result<VarDecl, NoMemory>
-    ensures { IfOk result (λ d. d ≡ told.own earlier.now rule kind i.now) }
+    ensures { IfOk result (λ d. d ≡ told.own earlier.now.heads rule kind i.now) }
 {
     let name = i.named.name.token.text.copy(alloc)?;
     let not_names = names_not(alloc, kind, i.nots.as_slice())?;
@@ -104,7 +103,8 @@ fn push_inherited(
     kind: VarKind,
     found: Option<&VarDecl>,
 ) -> Result<Items<VarDecl>, NoMemory>
-    ensures { IfOk result (λ out. out ≡ vars ++ told.inherited_from kind (option_copied found.entry)) }
+    ensures { IfOk result
+        (λ out. out ≡ vars ++ told.inherited_from kind (option_copied found.entry)) }
 {
     let mut vars = vars;
     match found {
@@ -124,13 +124,14 @@ fn push_inherited(
 
 fn push_by(
     alloc: Global,
-    earlier: &[RuleHead],
+    earlier: &Earlier,
     rule: u32,
     vars: Items<VarDecl>,
     kind: VarKind,
     i: &Item,
 ) -> Result<Items<VarDecl>, NoMemory>
-    ensures { IfOk result (λ out. out ≡ vars ++ told.var_by earlier.now rule kind i.now.named.from i.now) }
+    ensures { IfOk result
+        (λ out. out ≡ vars ++ told.var_by earlier.now.heads rule kind i.now.named.from i.now) }
 {
     let mut vars = vars;
     match &i.named.from {
@@ -139,11 +140,7 @@ fn push_by(
             Ok(vars)
         }
         Some(r) => {
-            let found = var_of(
-                earlier,
-                r.token.text.as_bytes(),
-                i.named.name.token.text.as_bytes(),
-            );
+            let found = earlier.var_of(r.token.text.as_bytes(), i.named.name.token.text.as_bytes());
             push_inherited(alloc, vars, kind, found)
         }
     }
@@ -151,12 +148,13 @@ fn push_by(
 
 fn push_vars(
     alloc: Global,
-    earlier: &[RuleHead],
+    earlier: &Earlier,
     rule: u32,
     vars: Items<VarDecl>,
     i: &Item,
 ) -> Result<Items<VarDecl>, NoMemory>
-    ensures { IfOk result (λ out. out ≡ vars ++ told.vars_in earlier.now rule i.now.kind i.now) }
+    ensures { IfOk result
+        (λ out. out ≡ vars ++ told.vars_in earlier.now.heads rule i.now.kind i.now) }
 {
     match i.kind {
         DeclKind::Symbol => Ok(vars),
@@ -164,14 +162,14 @@ fn push_vars(
     }
 }
 
-/// The variables that items declare. Linear in the items, and for each inherited one in the rules and variables before.
+/// The variables that items declare. Linear.
 pub fn vars_of(
     alloc: Global,
-    earlier: &[RuleHead],
+    earlier: &Earlier,
     rule: u32,
     items: &[Item],
 ) -> Result<Items<VarDecl>, NoMemory>
-    ensures { IfOk result (λ out. out ≡ told.vars_of_items earlier.now rule items.now) }
+    ensures { IfOk result (λ out. out ≡ told.vars_of_items earlier.now.heads rule items.now) }
 {
     let mut vars = Items::new(alloc);
     for i in items {

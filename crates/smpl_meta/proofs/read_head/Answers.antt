@@ -8,8 +8,8 @@ use Rattle.smpl_meta.proofs.read_head.Goals as goal
 
 pub returns-in-Some-clause-fault : goal.returns-in-Some-clause-fault
 returns-in-Some-clause-fault c =
-    let vs = c.args.virtuals.now in
-    let earlier = c.args.earlier.now in
+    let vs = c.args.earlier.now.virtuals in
+    let earlier = c.args.earlier.now.heads in
     let r = c.args.r.now in
     let name : c.with_name-first.result ≡ first_from None (name_fault vs earlier (name_token r.header))
     = c.with_name-first.ensures ∙ (ap (λ (o : Option PatchToken). first_from None (name_fault vs earlier o)) c.name_token.ensures
@@ -23,8 +23,8 @@ returns-in-Some-clause-fault c =
 
 pub returns-in_ok-made_head-in-None-clause-head : goal.returns-in_ok-made_head-in-None-clause-head
 returns-in_ok-made_head-in-None-clause-head c =
-    let vs = c.args.virtuals.now in
-    let earlier = c.args.earlier.now in
+    let vs = c.args.earlier.now.virtuals in
+    let earlier = c.args.earlier.now.heads in
     let r = c.args.r.now in
     let name : c.with_name-first.result ≡ first_from None (name_fault vs earlier (name_token r.header))
     = c.with_name-first.ensures ∙ (ap (λ (o : Option PatchToken). first_from None (name_fault vs earlier o)) c.name_token.ensures

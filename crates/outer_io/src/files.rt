@@ -86,7 +86,8 @@ impl<'a, R: Files + AllocGlobal> Shelf for FileShelf<'a, R> {
     /// second name, it is written over. What is no plain file, or may not be written, is `Failed`.
     ///
     /// After an `Err` the old bytes stand there, but for a file that was written over: it may then begin with a first
-    /// part of the new bytes. The new file is removed after a fault. `NoMemory` comes before any file is touched.
+    /// part of the new bytes, and where it can't be cut back either, end with some of what it was to grow by. The new file
+    /// is removed after a fault. `NoMemory` comes before any file is touched.
     fn store(&mut self, name: &str, bytes: &[u8]) -> Result<(), ShelfFault>
         ensures counts_ok { OnOk result (self.new.stores ≡ counted self.old.stores) }
         ensures counts_failed { IsErrOf result ShelfFault.Failed →

@@ -5,7 +5,7 @@ use crate::ShelfFault;
 use crate::streams::write_whole;
 use std::fs::{Metadata, OpenFile, OpenOptions, Permissions};
 use std::io::{ErrorKind, Seek, SeekFrom, Write};
-use std::os::unix::fs::{MetadataExt, OpenOptionsExt, PermissionsExt, chown};
+use std::os::unix::fs::{MetadataExt, OpenOptionsExt, PermissionsExt, lchown};
 use std::path::PathBuf;
 use std::rt::Files;
 use std::{fs, io};
@@ -40,7 +40,8 @@ enum BesideFault {
 /// old one is written over. What is no plain file, or may not be written, is `Failed`, and so is a circle of links.
 ///
 /// After an `Err` the old bytes stand there, but where the old one was written over: then a first part of the new bytes
-/// may stand before what is left of the old. `NoMemory` comes before any file is touched.
+/// may stand before what is left of the old, and where the file can't be cut back either, some of what it was to grow by
+/// behind them. `NoMemory` comes before any file is touched.
 pub fn store_file<R: Files + AllocGlobal>(
     rt: &R,
     name: &str,
@@ -181,19 +182,21 @@ fn fill<R: Files>(
 /// has both.
 fn keeps_owner<R: Files>(rt: &R, path: &PathBuf, about: &Metadata) -> bool {
     let (owner, group) = (about.uid(), about.gid());
-    if chown(rt, path.as_path(), Some(owner), Some(group)).is_ok() {
+    if lchown(rt, path.as_path(), Some(owner), Some(group)).is_ok() {
         return true;
     }
-    let _ = chown(rt, path.as_path(), None, Some(group));
+    let _ = lchown(rt, path.as_path(), None, Some(group));
     false
 }
 
-/// Whether the system allows no new file, or not the old one's mode or name for it, as at a mount point.
+/// Whether the system allows no new file, or not the old one's mode or name for it, as at a mount point, also where the
+/// folder is on a disk that is read only and the file is not.
 fn fault_of(error: io::Error) -> BesideFault {
     match error.kind() {
         ErrorKind::PermissionDenied
         | ErrorKind::ResourceBusy
         | ErrorKind::CrossesDevices
+        | ErrorKind::ReadOnlyFilesystem
         | ErrorKind::Unsupported => BesideFault::NotAllowed,
         _ => BesideFault::Failed,
     }
@@ -201,17 +204,28 @@ fn fault_of(error: io::Error) -> BesideFault {
 
 /// Writes the bytes over those of an open file of this length, and says whether it did.
 ///
-/// What the file grows by is written first, so that where there is no room for it the file is cut back to what it was.
+/// What the file grows by is written first, so that where there is no room for it the old bytes stay. Where a call
+/// fails before all other bytes are written, the file is cut back to its length.
 fn write_over<F: Write + Seek + OpenFile>(file: &mut F, length: u64, bytes: &[u8]) -> bool {
     let new_length = bytes.len() as u64;
-    if new_length > length && !grow(file, length, &bytes[length as usize..]) {
-        let _ = file.set_len(length);
+    let is_written = if new_length > length {
+        let (front, more) = bytes.split_at(length as usize);
+        grow(file, length, more) && write_front(file, front)
+    } else {
+        write_front(file, bytes)
+    };
+    if !is_written {
+        if new_length > length {
+            let _ = file.set_len(length);
+        }
         return false;
     }
-    file.seek(SeekFrom::Start(0)).is_ok()
-        && write_whole(file, &bytes[..new_length.min(length) as usize])
-        && file.set_len(new_length).is_ok()
-        && file.sync_all().is_ok()
+    file.set_len(new_length).is_ok() && file.sync_all().is_ok()
+}
+
+/// Writes the bytes over those that a file begins with, and says whether it did.
+fn write_front<F: Write + Seek>(file: &mut F, bytes: &[u8]) -> bool {
+    file.seek(SeekFrom::Start(0)).is_ok() && write_whole(file, bytes)
 }
 
 /// Writes what comes after the end of a file, and says whether it did.

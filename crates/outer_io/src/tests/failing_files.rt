@@ -134,9 +134,9 @@ impl<'a> Files for FailingFiles<'a> {
         self.rt.read_link(alloc, path)
     }
 
-    fn chown(&self, path: &str, uid: Option<u32>, gid: Option<u32>) -> io::Result<()> {
+    fn lchown(&self, path: &str, uid: Option<u32>, gid: Option<u32>) -> io::Result<()> {
         self.trouble.call()?;
-        self.rt.chown(path, uid, gid)
+        self.rt.lchown(path, uid, gid)
     }
 }
 

@@ -77,6 +77,19 @@ fn a_store_keeps_the_mode_and_the_owner(rt: HostRuntime) -> Result<(), Fail> {
 }
 
 #[test]
+fn a_name_that_is_taken_is_left_alone(rt: HostRuntime) -> Result<(), Fail> {
+    let place = place_of_one("outer_io_taken", "outer_io_taken/k.c");
+    let taken = "outer_io_taken/.spatch-new-0";
+    place.make(&rt)?;
+    fs::write(&rt, taken, LONG)?;
+    assert!(rt; stores(&rt, place.file, SHORT));
+    assert!(rt; loads(&rt, taken, LONG));
+    fs::remove_file(&rt, taken)?;
+    place.take(&rt)?;
+    Ok(())
+}
+
+#[test]
 fn a_store_keeps_the_second_name(rt: HostRuntime) -> Result<(), Fail> {
     let place = place_of_two("outer_io_names", "outer_io_names/k.c", "outer_io_names/l.c");
     place.make(&rt)?;

@@ -2,7 +2,10 @@
 use super::failing_files::{FailingFiles, Trouble};
 use super::place::{LONG, OLD, Place, SHORT, is, place_of_one, place_of_two};
 use crate::{FileShelf, Shelf, ShelfFault};
+use std::fs;
+use std::fs::Permissions;
 use std::io::ErrorKind;
+use std::os::unix::fs::{MetadataExt, PermissionsExt};
 use std::test::Fail;
 
 /// Each byte is the old one or the new one of its place.
@@ -105,6 +108,36 @@ fn a_store_of_which_a_call_fails_loses_nothing(rt: HostRuntime) -> Result<(), Fa
         done_all_the_same(&rt, &one, LONG, ErrorKind::Interrupted)?,
         1 + 7
     );
+    Ok(())
+}
+
+#[test]
+fn without_its_owner_a_new_file_runs_as_who_runs_it(rt: HostRuntime) -> Result<(), Fail> {
+    let place = place_of_one("outer_io_runs", "outer_io_runs/k.c");
+    for number in 0..100 {
+        place.make(&rt)?;
+        fs::set_permissions(&rt, place.file, Permissions::from_mode(0o6751))?;
+        let trouble = Trouble::at_call(number, ErrorKind::Other);
+        let files = (
+            FailingFiles {
+                rt: &rt,
+                trouble: &trouble,
+            },
+            rt.alloc(),
+        );
+        let is_done = FileShelf::new(&files).store(place.file, SHORT).is_ok();
+        let mode = fs::metadata(&rt, place.file)?.mode() & 0o7777;
+        place.take(&rt)?;
+        let has_owner = !is_done || !trouble.is_past();
+        assert_eq!(rt;
+            mode,
+            if has_owner { 0o6751 } else { 0o0751 },
+            "call {number}"
+        );
+        if !trouble.is_past() {
+            break;
+        }
+    }
     Ok(())
 }
 

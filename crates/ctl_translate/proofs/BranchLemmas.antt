@@ -10,7 +10,9 @@ use Rattle.smpl_patch.specs.declared.elem.Elem.{Elem}
 use Rattle.smpl_patch.specs.declared.pattern.Pattern.{Pattern}
 use Rattle.smpl_patch.specs.Bodies.{Element, Compound, Block, Gap, Nest, AnyOf, AllOf, Body, Bodies, body}
 use Rattle.smpl_patch.specs.Bodies as elements
-use Rattle.smpl_patch.proofs.BodyLemmas.{bodies}
+use Rattle.smpl_patch.specs.declared.elem.Dots.{Dots, out-Dots}
+use Rattle.smpl_patch.proofs.BodyLemmas.{bodies, dots_of}
+use Rattle.ctl_translate.proofs.MadeLemmas.{dots-whens-are}
 use Rattle.ctl_formula.specs.Plain.{Plain, Atom, BraceOpen, BraceClose, Not, And, Past, Down, Exists}
 use Rattle.ctl_formula.specs.declared.node.Node.{Node}
 use Rattle.ctl_formula.specs.Tables.{at, plains, Grows, Makes}
@@ -105,18 +107,18 @@ choice-alone m a b c before next bs w s is js r n j x y =
     ∙ ap (λ (z : table.Follow). table.any_of (table.choices [] (table.each m (bodies bs) k w s) (table.each m (bodies bs) z w s))) alone) y
 
 -- the first branch that holds, with what follows
-pub choice-made : {E : Type 0} (m : table.Setting) (a b c d : List Node) (k : table.Follow) (bs : List (List Elem)) (w s : List Var) (is js ks ls : List ℕ) (r : Result ℕ E)
-    → js ≡ is → ls ≡ ks
+pub choice-made : {E : Type 0} (m : table.Setting) (a b c d : List Node) (k : table.Follow) (bs cut : List (List Elem)) (w s : List Var) (is js ks ls : List ℕ) (r : Result ℕ E)
+    → cut ≡ take (length bs - 1) bs → js ≡ is → ls ≡ ks
     → MakesAll a b is (table.each m (bodies bs) k w s)
-    → MakesAll b c ks (table.each m (bodies (take (length bs - 1) bs)) table.nothing w s)
+    → MakesAll b c ks (table.each m (bodies cut) table.nothing w s)
     → IfOk r (λ i. Makes c d i (table.any_of (table.choices [] (parts_at c js) (parts_at c ls))))
     → IfOk r (λ i. Makes a d i (table.elem m None None (AnyOf (bodies bs)) k w s s))
-choice-made m a b c d k bs w s is js ks ls r j l x y z =
+choice-made m a b c d k bs cut w s is js ks ls r o j l x y z =
     let each = table.each m (bodies bs) k w s in
     let lone = table.each m (bodies bs) table.nothing w s in
     let with : parts_at c js ≡ each = ap (parts_at c) j ∙ all-kept a b c is each x y.grows in
     let alone : parts_at c ls ≡ take (length each - 1) lone =
-      ap (parts_at c) l ∙ y.are ∙ each-take m table.nothing w s (length bs - 1) bs
+      ap (parts_at c) l ∙ y.are ∙ ap (λ (z : List (List Elem)). table.each m (bodies z) table.nothing w s) o ∙ each-take m table.nothing w s (length bs - 1) bs
       ∙ ap (λ (n : ℕ). take (n - 1) lone) (sym (length-each m k w s bs)) in
     made-up a c d r (table.any_of (table.choices [] (parts_at c js) (parts_at c ls))) (table.elem m None None (AnyOf (bodies bs)) k w s s)
     (grows-trans a b c x.grows y.grows)
@@ -141,3 +143,18 @@ compound-made m a b c before next h tail bs w s is js f n j x y =
     made-then a b c f (row (parts_at b js) (follow_of (plains b) m before next)) (table.elem m None None (Compound h (bodies bs) tail) (follow_of (plains a) m before next) w s s) x.grows y
     (ap (λ (z : List Plain). row z (follow_of (plains b) m before next)) (ap (parts_at b) j ∙ x.are)
     ∙ ap (row (table.each m (bodies bs) table.nothing w s)) (follow-stays a b m before next x.grows n))
+
+-- the parts of `when` code, as dots have them
+pub whens-are : (m : table.Setting) (a b : List Node) (is : List ℕ) (d : Dots) (ws : List (List Elem)) (s : List Var) (p : Place) → ws ≡ (out-Dots d).whens → s ≡ p.scope
+    → MakesAll a b is (table.when_parts m (bodies ws) s) → parts_at b is ≡ table.when_parts m (dots_of d).whens p.scope
+whens-are m a b is d ws s p e f x =
+    x.are ∙ ap (λ (z : List (List Elem)). table.when_parts m (bodies z) s) e ∙ ap (λ (z : Bodies). table.when_parts m z s) (sym (dots-whens-are d))
+    ∙ ap (table.when_parts m (dots_of d).whens) f
+
+-- the part of a nest, in the table in which its dots are made
+pub nest-is : (m : table.Setting) (a b c : List Node) (i : ℕ) (es : Body) (w s : List Var) (p : Place) → w ≡ p.inside → s ≡ p.scope
+    → Makes a b i (table.seq m None es table.nothing (filter (occurs_body m.reading es) w) s s) → Grows b c
+    → at (plains c) i ≡ table.seq m None es table.nothing (filter (occurs_body m.reading es) p.inside) p.scope p.scope
+nest-is m a b c i es w s p e f x g =
+    stays b c i g x.within ∙ x.is ∙ ap (λ (z : List Var). table.seq m None es table.nothing (filter (occurs_body m.reading es) z) s s) e
+    ∙ ap (λ (z : List Var). table.seq m None es table.nothing (filter (occurs_body m.reading es) p.inside) z z) f

@@ -12,3 +12,6 @@ pub mod ElementLemmas
 pub mod GuardedLemmas
 pub mod RuleLemmas
 pub mod BranchLemmas
+pub mod DotsLemmas
+pub mod MadeLemmas
+pub mod KeptLemmas

@@ -12,7 +12,8 @@ use Rattle.smpl_patch.specs.declared.elem.Elem.{Elem}
 use Rattle.smpl_patch.specs.declared.rule.Rule.{Rule}
 use Rattle.smpl_patch.specs.Patterns as patterns
 use Rattle.smpl_patch.specs.Bodies.{body}
-use Rattle.ctl_formula.specs.Plain.{Plain, True}
+use Rattle.ctl_formula.specs.Plain.{Plain, True, fits}
+use Rattle.ctl_formula.specs.Formulas.{FormulaOf}
 use Rattle.ctl_formula.specs.Bounds.{bound, guarded, guarded_for}
 use Rattle.ctl_formula.specs.Binding.{binds_at}
 use Rattle.ctl_formula.specs.declared.binding.Binds.{Binds}
@@ -24,6 +25,7 @@ use Rattle.ctl_translate.specs.Blocks.{blocks}
 use Rattle.ctl_translate.specs.Table as table
 use Rattle.ctl_translate.specs.Table.{in_scope}
 use Rattle.ctl_translate.specs.Rules as rules
+use Rattle.ctl_translate.specs.Answers.{IsFormulaOf}
 use Rattle.ctl_translate.proofs.GuardLemmas.{known, known-seq, all-filter}
 use Rattle.ctl_translate.proofs.GuardedLemmas.{guarded-all}
 
@@ -121,3 +123,22 @@ pub known-root : (f : Plain → Binds) (d : Binds) (ns : List Node) (i : ℕ) (k
     → b ≡ f g
 known-root f d ns i known b g l k e q =
     e ∙ ap (λ (z : List Binds). get_or z i d) k ∙ get_or-map f (plains ns) i True d (omega (arith, l, length-plains ns)) ∙ ap f q
+
+-- the formula is guarded, as the code has it
+pub root-guarded : (r : Rule) (decls : List VarDecl) (tokens : List PatToken) (f : Plain) → decls ≡ r.vars → tokens ≡ r.tokens → f ≡ rules.formula_of r
+    → rules.first_unbound r ≡ None → guarded (patterns.sure decls tokens) f ≡ true
+root-guarded r decls tokens f d t e h =
+    ap (λ (z : List VarDecl). guarded (patterns.sure z tokens) f) d
+    ∙ ap (λ (z : List PatToken). guarded (patterns.sure r.vars z) f) t
+    ∙ ap (guarded (patterns.sure r.vars r.tokens)) e ∙ formula-guarded r h
+
+pub is-formula : (r : Rule) (f : FormulaOf) (ns : List Node) (i : ℕ) (decls : List VarDecl) (tokens : List PatToken) → f.nodes ≡ ns → f.root ≡ i → f.decls ≡ decls → f.tokens ≡ tokens
+    → decls ≡ r.vars → tokens ≡ r.tokens → at (plains ns) i ≡ rules.formula_of r → fits (rules.formula_of r) ≡ true → rules.first_unbound r ≡ None
+    → IsFormulaOf r f
+is-formula r f ns i decls tokens n p d t e v q l b = record {
+  formula = ap (λ (z : List Node). at (plains z) f.root) n ∙ ap (at (plains ns)) p ∙ q;
+  decls = d ∙ e;
+  tokens = t ∙ v;
+  in_limits = l;
+  bound = b;
+}

@@ -1,5 +1,6 @@
 // What follows, as come to from a scope.
-ghost use Rattle.std.specs.Prelude.{◌≡◌, ◌<◌, ◌++◌, IfOk, OnOk, true, false, length, None, if◌then◌else◌};
+ghost use Rattle.std.specs.Prelude.{◌≡◌, ◌<◌, ◌++◌, IfOk, OnOk, true, false, length};
+ghost use Rattle.std.specs.Prelude.{None, [], if◌then◌else◌};
 ghost use Rattle.std.specs.Option.{option_copied};
 ghost use Rattle.ctl_formula.specs.Tables.{at, plains, Makes};
 ghost use Rattle.ctl_translate.specs.Table as table;
@@ -52,10 +53,12 @@ fn dots_at(
     ensures made { IfOk result (λ i. Makes parts.old parts.new i (dots_from (plains parts.old)
         (setting_at m.now) (element_or_none (option_copied before.entry)) d.now scope.now)) }
 {
-    let around = extended(alloc, scope, d.here.as_slice())?;
-    let through = condition(alloc, parts, m, before, d, around.as_slice())?;
+    let here = d.here.as_slice();
+    let around = extended(alloc, scope, here)?;
+    let around = around.as_slice();
+    let through = condition(alloc, parts, m, before, d, around)?;
     let f = passed(parts, m.forall_walks, d, through)?;
-    exists_all(alloc, parts, d.here.as_slice(), f)
+    exists_all(alloc, parts, here, f)
 }
 
 /// What holds at each node that dots pass.
@@ -68,19 +71,42 @@ fn condition(
     scope: &[Var],
 ) -> Result<usize, NoMemory>
     requires { dots_below (length parts.old) d.now ≡ true }
-    ensures made { IfOk result (λ i. Makes parts.old parts.new i (table.condition d.now.any
-        (parts_at parts.old d.now.whens.items) (table.near_option (setting_at m.now) true
-        (element_or_none (option_copied before.entry)) scope.now) (some_at
-        (plains parts.old) d.now.after))) }
+    ensures made { IfOk result (λ i. Makes parts.old parts.new i
+        (table.condition d.now.any (parts_at parts.old d.now.whens.items)
+        (table.near_option (setting_at m.now) true
+        (element_or_none (option_copied before.entry)) scope.now)
+        (some_at (plains parts.old) d.now.after))) }
 {
-    let mut found = copied_numbers(alloc, d.whens.as_slice())?;
+    let whens = d.whens.as_slice();
+    let mut found = copied_numbers(alloc, whens)?;
+    push_neighbours(alloc, parts, m, before, d, scope, &mut found)?;
+    all_of(parts, found.as_slice())
+}
+
+/// Further parts: `not` the element before the dots and `not` the one after them, unless `when any` stands there.
+fn push_neighbours(
+    alloc: Global,
+    parts: &mut Parts,
+    m: &Setting,
+    before: Option<&Elem>,
+    d: &MadeDots,
+    scope: &[Var],
+    found: &mut Vec<usize>,
+) -> Result<(), NoMemory>
+    requires d { dots_below (length parts.old) d.now ≡ true }
+    requires found { all_below (length parts.old) found.old.items ≡ true }
+    ensures made { OnOk result (MakesAll parts.old parts.new found.new.items
+        (parts_at parts.old found.old.items
+        ++ (if d.now.any then [] else (table.nots (table.near_option (setting_at m.now) true
+        (element_or_none (option_copied before.entry)) scope.now)
+        ++ table.nots (some_at (plains parts.old) d.now.after))))) }
+{
     if d.any {
-        return all_of(parts, found.as_slice());
+        return Ok(());
     }
     let near = near_option(alloc, parts, m, true, before, scope)?;
-    push_not(parts, near, &mut found)?;
-    push_not(parts, d.after, &mut found)?;
-    all_of(parts, found.as_slice())
+    push_not(parts, near, found)?;
+    push_not(parts, d.after, found)
 }
 
 fn copied_numbers(alloc: Global, numbers: &[usize]) -> Result<Vec<usize>, NoMemory>

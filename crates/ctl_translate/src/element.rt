@@ -56,12 +56,13 @@ pub fn atom(
         k.start (k.at scope.now))) }
 {
     let f = own_atom(alloc, parts, m, vars, p)?;
-    let start = start_of(next);
-    if start == Start::Nothing {
-        return Ok(f);
+    match next {
+        Made::Nothing => Ok(f),
+        _ => {
+            let g = follow_at(alloc, parts, m, before, next, scope)?;
+            joined(parts, m.forall_walks, is_statement(p), f, start_of(next), g)
+        }
     }
-    let g = follow_at(alloc, parts, m, before, next, scope)?;
-    joined(parts, m.forall_walks, is_statement(p), f, start, g)
 }
 
 /// A head with its bodies and its tail, and what follows them.

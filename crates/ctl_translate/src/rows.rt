@@ -292,13 +292,15 @@ fn choice(
         (follow parts.old m.now (option_copied before.entry) next.now)
         vars.now scope.now scope.now)) }
 {
-    let with = each(alloc, parts, m, bs, before, next, vars, scope)?;
+    let made = each(alloc, parts, m, bs, before, next, vars, scope)?;
+    let with = made.as_slice();
     match next {
-        Made::Nothing => first_branch(alloc, parts, with.as_slice(), with.as_slice()),
+        Made::Nothing => first_branch(alloc, parts, with, with),
         _ => {
             let but_last = &bs[..bs.len().saturating_sub(1)];
-            let alone = each(alloc, parts, m, but_last, None, &Made::Nothing, vars, scope)?;
-            first_branch(alloc, parts, with.as_slice(), alone.as_slice())
+            let lone = each(alloc, parts, m, but_last, None, &Made::Nothing, vars, scope)?;
+            let alone = lone.as_slice();
+            first_branch(alloc, parts, with, alone)
         }
     }
 }

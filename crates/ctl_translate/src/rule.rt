@@ -1,7 +1,8 @@
 // The formula of a rule.
-ghost use Rattle.std.specs.Prelude.{◌≡◌, ◌<◌, ◌&&◌, not, length, map, IfOk, IfErr};
+ghost use Rattle.std.specs.Prelude.{◌≡◌, ◌<◌, ◌&&◌, not, true, length, map, None, IfOk, IfErr};
 ghost use Rattle.std.specs.List.{filter};
 ghost use Rattle.smpl_patch.specs.Bodies.{body};
+ghost use Rattle.ctl_formula.specs.Plain.{fits};
 ghost use Rattle.ctl_formula.specs.Tables.{at, plains, Makes};
 ghost use Rattle.ctl_translate.specs.Placing as placing;
 ghost use Rattle.ctl_translate.specs.Rules as rules;
@@ -181,6 +182,19 @@ fn first_unbound(
     Ok(None)
 }
 
+/// The formula that a part is, with the rule's declarations and tokens.
+fn formula(alloc: Global, parts: Parts, root: usize, rule: &Rule) -> Result<Formula, NoMemory>
+    requires within { root < length parts }
+    requires root { at (plains parts) root ≡ rules.formula_of rule.now }
+    requires fits { fits (rules.formula_of rule.now) ≡ true }
+    requires bound { rules.first_unbound rule.now ≡ None }
+    ensures { IfOk result (λ formula. IsFormulaOf rule.now formula) }
+{
+    let decls = copy_decls(alloc, rule.vars.as_slice())?;
+    let tokens = copy_tokens(alloc, rule.tokens.as_slice())?;
+    Ok(Formula::of(parts, root, decls, tokens))
+}
+
 /// The formula of a rule, with the rule's declarations and tokens. Where it is too large, that is said, whether or not
 /// it has variables that may stay unbound.
 pub fn formula_of(alloc: Global, rule: &Rule) -> Result<Formula, FormulaFault>
@@ -192,10 +206,12 @@ pub fn formula_of(alloc: Global, rule: &Rule) -> Result<Formula, FormulaFault>
     if !parts.fits(root) {
         return Err(FormulaFault::TooLarge);
     }
-    if let Some(x) = first_unbound(alloc, &parts, root, rule)? {
-        return Err(FormulaFault::Unbound(x));
+    let unbound = first_unbound(alloc, &parts, root, rule)?;
+    match unbound {
+        Some(x) => Err(FormulaFault::Unbound(x)),
+        None => {
+            let formula = formula(alloc, parts, root, rule)?;
+            Ok(formula)
+        }
     }
-    let decls = copy_decls(alloc, rule.vars.as_slice())?;
-    let tokens = copy_tokens(alloc, rule.tokens.as_slice())?;
-    Ok(Formula::of(parts, root, decls, tokens))
 }

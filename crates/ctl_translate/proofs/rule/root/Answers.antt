@@ -1,0 +1,4 @@
+use Rattle.ctl_translate.proofs.rule.root.Goals as goal
+
+pub returns : goal.returns
+returns c = ?

@@ -15,3 +15,4 @@ pub mod BranchLemmas
 pub mod DotsLemmas
 pub mod MadeLemmas
 pub mod KeptLemmas
+pub mod PutLemmas

@@ -11,7 +11,7 @@ use Rattle.smpl_patch.specs.declared.pattern.PatToken.{PatToken}
 use Rattle.smpl_patch.specs.declared.elem.Elem.{Elem}
 use Rattle.smpl_patch.specs.declared.rule.Rule.{Rule}
 use Rattle.smpl_patch.specs.Patterns as patterns
-use Rattle.smpl_patch.specs.Bodies.{body}
+use Rattle.smpl_patch.specs.Bodies.{Body, body}
 use Rattle.ctl_formula.specs.Plain.{Plain, True, fits}
 use Rattle.ctl_formula.specs.Formulas.{FormulaOf}
 use Rattle.ctl_formula.specs.Bounds.{bound, guarded, guarded_for}
@@ -20,7 +20,7 @@ use Rattle.ctl_formula.specs.declared.binding.Binds.{Binds}
 use Rattle.ctl_formula.specs.declared.node.Node.{Node}
 use Rattle.ctl_formula.specs.Tables.{at, plains}
 use Rattle.ctl_formula.proofs.TableLemmas.{length-plains, and-left, and-right}
-use Rattle.ctl_translate.specs.Placing.{is_alone}
+use Rattle.ctl_translate.specs.Placing.{Reading, is_alone}
 use Rattle.ctl_translate.specs.Blocks.{blocks}
 use Rattle.ctl_translate.specs.Table as table
 use Rattle.ctl_translate.specs.Table.{in_scope}
@@ -142,3 +142,19 @@ is-formula r f ns i decls tokens n p d t e v q l b = record {
   in_limits = l;
   bound = b;
 }
+
+-- what the code reads patterns by
+abbrev pub read : List VarDecl → List PatToken → Reading
+read decls tokens = record { stands = patterns.stands decls tokens; used = patterns.used decls tokens; is_statement = patterns.is_statement }
+
+abbrev pub kept_by : (Reading → Body → Var → Bool) → List VarDecl → List PatToken → List Elem → List Var → List Var
+kept_by test decls tokens es xs = filter (test (read decls tokens) (body es)) xs
+
+pub kept-is : (test : Reading → Body → Var → Bool) (r : Rule) (decls : List VarDecl) (tokens : List PatToken) (es : List Elem) (xs : List Var)
+    → decls ≡ r.vars → tokens ≡ r.tokens → es ≡ r.body → xs ≡ rules.locals r
+    → kept_by test decls tokens es xs ≡ filter (test (rules.reading r) (body r.body)) (rules.locals r)
+kept-is test r decls tokens es xs d t e l =
+    ap (λ (z : List VarDecl). kept_by test z tokens es xs) d
+    ∙ ap (λ (z : List PatToken). kept_by test r.vars z es xs) t
+    ∙ ap (λ (z : List Elem). kept_by test r.vars r.tokens z xs) e
+    ∙ ap (λ (z : List Var). kept_by test r.vars r.tokens r.body z) l

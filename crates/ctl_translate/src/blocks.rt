@@ -105,8 +105,9 @@ fn put_pieces(whens: &[Items<Elem>], found: &mut Vec<u32>) -> Result<(), AllocEr
         (found.new.items ≡ found.old.items ++ blocks.pieces (bodies_of whens.now)) }
 {
     for w in whens {
-        put_opens(w.as_slice(), found)?;
-        put_later(w.as_slice(), found)?;
+        let piece = w.as_slice();
+        put_opens(piece, found)?;
+        put_later(piece, found)?;
     }
     Ok(())
 }

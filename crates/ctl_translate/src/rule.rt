@@ -114,23 +114,26 @@ fn root(alloc: Global, parts: &mut Parts, rule: &Rule) -> Result<usize, NoMemory
     ensures made { IfOk result (λ i. Makes parts.old parts.new i (rules.formula_of rule.now)) }
 {
     let b = rule.body.as_slice();
+    let decls = rule.vars.as_slice();
+    let tokens = rule.tokens.as_slice();
     let locals = locals(alloc, rule)?;
+    let locals = locals.as_slice();
     let blocks = blocks(alloc, b)?;
+    let blocks = blocks.as_slice();
+    let forall_walks = ranges_over_all(rule.mode);
     let m = Setting {
-        decls: rule.vars.as_slice(),
-        tokens: rule.tokens.as_slice(),
-        forall_walks: ranges_over_all(rule.mode),
-        locals: locals.as_slice(),
+        decls,
+        tokens,
+        forall_walks,
+        locals,
         alone: &[],
-        blocks: blocks.as_slice(),
+        blocks,
     };
     let alone = alone(alloc, &m, b)?;
+    let alone = alone.as_slice();
     let placed = placed(alloc, &m, b)?;
-    let m = Setting {
-        alone: alone.as_slice(),
-        ..m
-    };
     let placed = placed.as_slice();
+    let m = Setting { alone, ..m };
     sequence(alloc, parts, &m, b, None, &Made::Nothing, placed, &[])
 }
 

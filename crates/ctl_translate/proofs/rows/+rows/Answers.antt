@@ -1,5 +1,6 @@
-use Rattle.std.proofs.Common.{ℕ, ◌≡◌, ◌+◌, ◌-◌, ◌<◌, ◌≤◌, ◌∙◌, ap, sym, subst, refl, arith, length, take, drop, List, [], None, Some, Option}
+use Rattle.std.proofs.Common.{true, false, ℕ, ◌≡◌, ◌+◌, ◌-◌, ◌<◌, ◌≤◌, ◌∙◌, ◌++◌, ap, sym, subst, refl, arith, length, take, drop, List, [], None, Some, Option}
 use Rattle.std.specs.Option.{option_copied}
+use Rattle.std.specs.List.{filter}
 use Rattle.std.specs.Result.{IfOk}
 use Rattle.smpl_patch.specs.declared.elem.Elem.{Elem}
 use Rattle.smpl_patch.specs.Bodies.{body, element}
@@ -10,6 +11,7 @@ use Rattle.ctl_formula.specs.Plain.{Plain}
 use Rattle.ctl_formula.specs.Plain as plain
 use Rattle.ctl_formula.specs.Tables.{at, plains, Grows, Makes}
 use Rattle.ctl_formula.proofs.TableLemmas.{grows-trans}
+use Rattle.ctl_translate.specs.Placing.{occurs_body}
 use Rattle.ctl_translate.specs.Table as table
 use Rattle.ctl_translate.specs.Settings.{reading_at, setting_at, element_or_none, all_below, parts_at, follow, MakesAll, MakesFollow}
 use Rattle.ctl_translate.specs.Suffixes.{begins, along}
@@ -19,7 +21,7 @@ use Rattle.ctl_translate.proofs.FollowLemmas.{made-stands, follow-stays}
 use Rattle.ctl_translate.proofs.RowLemmas.{taken, init-all, all-next, each-step, when-step}
 use Rattle.ctl_translate.proofs.AlongLemmas.{length-places, suffixes-last, suffixes-step, suffixes-all, sequence-made, sequence-none}
 use Rattle.ctl_translate.proofs.ElementLemmas.{part-rows, dots-rows}
-use Rattle.ctl_translate.proofs.BranchLemmas.{then-past, block-made, when-made, every-none, every-made, choice-alone, choice-made, elem-at, compound-made}
+use Rattle.ctl_translate.proofs.BranchLemmas.{then-past, block-made, when-made, every-none, every-made, choice-alone, choice-made, elem-at, compound-made, whens-are, nest-is}
 use Rattle.ctl_translate.proofs.rows.+rows.Goals as goal
 
 -- bodies or branches with what follows each
@@ -182,11 +184,8 @@ sequence-returns t c = record {
 
 pub sequence-suffixes-requires : goal.sequence-suffixes-requires
 sequence-suffixes-requires t c =
-    (omega arith, record {
-      next = c.requires;
-      some = omega arith;
-      places = ap length (c.as_slice.ensures.value ∙ c.in_ok-places.ensures) ∙ length-places (reading_at c.args.m.now) c.args.b.now c.args.vars.now c.args.scope.now;
-    })
+    (omega arith, (c.requires, (omega arith,
+    ap length (c.as_slice.ensures.value ∙ c.in_ok-places.ensures) ∙ length-places (reading_at c.args.m.now) c.args.b.now c.args.vars.now c.args.scope.now)))
 
 pub suffixes-suffix-requires : goal.suffixes-suffix-requires
 suffixes-suffix-requires t c =
@@ -258,18 +257,51 @@ suffix-returns-in_ok-f-in-Block t c =
 
 pub suffix-returns-in_ok-whens-in-Gap : goal.suffix-returns-in_ok-whens-in-Gap
 suffix-returns-in_ok-whens-in-Gap t c =
-    let is = c.in-Gap.is in
-    let slice = c.as_slice-in-Gap.ensures in
-    let made = c.dots.ensures.made in
-    ?
+    let m = setting_at c.args.m.now in
+    let after = element_or_none (option_copied c.args.after) in
+    let d = c.in-Gap.d in
+    let whens = c.in_ok-whens-in-Gap.ensures.made in
+    record {
+      made = dots-rows m c.args.parts.now c.when_parts.new.parts c.dots.new.parts after (element c.args.e.now) (bodies.Gap (dots_of d).whens (dots_of d).any (dots_of d).strict)
+          (follow c.args.parts.now c.args.m.now (option_copied c.args.before) c.args.next.now)
+          (follow c.when_parts.new.parts c.args.m.now (option_copied c.args.before) c.args.next.now) c.args.place.now c.dots.result
+          (parts_at c.when_parts.new.parts c.in_ok-whens-in-Gap.whens.items) (table.when_parts m (dots_of d).whens c.args.place.now.scope) (dots_of d).any (dots_of d).strict None
+          (ap element c.in-Gap.is ∙ element-Gap d) refl whens.grows
+          (whens-are m c.args.parts.now c.when_parts.new.parts c.in_ok-whens-in-Gap.whens.items d c.as_slice-in-Gap.result.now c.as_slice-scope.result.now c.args.place.now
+          c.as_slice-in-Gap.ensures c.as_slice-scope.ensures whens)
+          (follow-stays c.args.parts.now c.when_parts.new.parts m (element_or_none (option_copied c.args.before)) c.args.next.now whens.grows c.requires)
+          (λ before t. refl) c.dots.ensures.made;
+    }
 
 pub suffix-returns-in_ok-whens-in-Nest : goal.suffix-returns-in_ok-whens-in-Nest
 suffix-returns-in_ok-whens-in-Nest t c =
-    let is = c.in-Nest.is in
-    let slice = c.as_slice-in-Nest.ensures in
-    let slice_again = c.as_slice-in-Nest-2.ensures in
-    let part = c.in_ok-part-in-Nest.ensures.made in
-    ?
+    let m = setting_at c.args.m.now in
+    let after = element_or_none (option_copied c.args.after) in
+    let d = c.in-Nest.d in
+    let place = c.args.place.now in
+    let k = follow c.args.parts.now c.args.m.now (option_copied c.args.before) c.args.next.now in
+    let whens = c.in_ok-whens-in-Nest.ensures.made in
+    let grown = grows-trans c.args.parts.now c.nest.new.parts c.when_parts-in-Nest.new.parts c.in_ok-part-in-Nest.ensures.made.grows whens.grows in
+    let parts = table.when_parts m (dots_of d).whens place.scope in
+    let part =
+      nest-is m c.args.parts.now c.nest.new.parts c.when_parts-in-Nest.new.parts c.in_ok-part-in-Nest.part (body c.as_slice-in-Nest.result.now) c.as_slice-vars.result.now
+      c.as_slice-scope.result.now place c.as_slice-vars.ensures c.as_slice-scope.ensures c.in_ok-part-in-Nest.ensures.made whens.grows
+      ∙ ap (λ (z : List Elem). table.seq m None (body z) table.nothing (filter (occurs_body m.reading (body z)) place.inside) place.scope place.scope) c.as_slice-in-Nest.ensures in
+    record {
+      made = dots-rows m c.args.parts.now c.when_parts-in-Nest.new.parts c.dots-in-Nest.new.parts after (element c.args.e.now)
+          (bodies.Nest c.in-Nest.plus (body c.in-Nest.b) (dots_of d).whens (dots_of d).any (dots_of d).strict) k
+          (follow c.when_parts-in-Nest.new.parts c.args.m.now (option_copied c.args.before) c.args.next.now) place c.dots-in-Nest.result
+          (parts_at c.when_parts-in-Nest.new.parts c.in_ok-whens-in-Nest.whens.items) parts (dots_of d).any (dots_of d).strict
+          (Some (record { plus = c.in-Nest.plus; part = c.in_ok-part-in-Nest.part }))
+          (ap element c.in-Nest.is ∙ element-Nest c.in-Nest.plus c.in-Nest.b d) refl grown
+          (whens-are m c.nest.new.parts c.when_parts-in-Nest.new.parts c.in_ok-whens-in-Nest.whens.items d c.as_slice-in-Nest-2.result.now c.as_slice-scope.result.now place
+          c.as_slice-in-Nest-2.ensures c.as_slice-scope.ensures whens)
+          (follow-stays c.args.parts.now c.when_parts-in-Nest.new.parts m (element_or_none (option_copied c.args.before)) c.args.next.now grown c.requires)
+          (λ before t. ap (λ (z : Plain). table.exists_all place.here (table.nested m.forall_walks c.in-Nest.plus (dots_of d).strict
+          (table.condition (dots_of d).any parts (table.near_option m true before (t ++ place.here)) (table.near_option m false after place.scope)) z
+          (table.target k.start (k.at place.scope)))) part)
+          c.dots-in-Nest.ensures.made;
+    }
 
 pub suffix-returns-in_ok-f-in-AnyOf : goal.suffix-returns-in_ok-f-in-AnyOf
 suffix-returns-in_ok-f-in-AnyOf t c =

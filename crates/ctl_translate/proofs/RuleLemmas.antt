@@ -2,7 +2,7 @@
 use Rattle.std.proofs.Common.{◌≡◌, ℕ, Bool, true, false, not, ◌&&◌, ◌||◌, cond, if◌then◌else◌, refl, sym, ap, ◌∙◌, ◌⊎◌, inl, inr}
 use Rattle.std.proofs.Common.{List, [], ◌∷◌, map, length, get_or, ◌<◌, Option, None, Some, arith}
 use Rattle.std.specs.List.{filter, list_all, list_any}
-use Rattle.std.proofs.lemmas.List.{get_or-map}
+use Rattle.std.proofs.lemmas.List.{get_or-map, length-map}
 use Rattle.smpl_terms.specs.declared.var.Var.{Var}
 use Rattle.smpl_terms.specs.Vars.{same_var}
 use Rattle.smpl_terms.proofs.VarLaws.{same_var-equal, same_var-refl}
@@ -26,6 +26,7 @@ use Rattle.ctl_translate.specs.Table as table
 use Rattle.ctl_translate.specs.Table.{in_scope}
 use Rattle.ctl_translate.specs.Rules as rules
 use Rattle.ctl_translate.specs.Answers.{IsFormulaOf}
+use Rattle.ctl_translate.specs.Unbound.{stays_unbound}
 use Rattle.ctl_translate.proofs.GuardLemmas.{known, known-seq, all-filter}
 use Rattle.ctl_translate.proofs.GuardedLemmas.{guarded-all}
 
@@ -97,11 +98,15 @@ pub formula-guarded : (r : Rule) → rules.first_unbound r ≡ None → guarded 
 formula-guarded r h =
     guarded-all (patterns.sure r.vars r.tokens) (rules.locals r) same_var-refl (rules.formula_of r) (known-formula r) (λ x k. guarded-from r r.vars x h k)
 
+-- what the code reads patterns by
+abbrev pub read : List VarDecl → List PatToken → Reading
+read decls tokens = record { stands = patterns.stands decls tokens; used = patterns.used decls tokens; is_statement = patterns.is_statement }
+
 -- the formula of a rule's parts
 abbrev pub whole : List VarDecl → List PatToken → Bool → List Var → List Var → List ℕ → List Elem → List Var → Plain
 whole decls tokens forall_walks locals alone bs es w =
-    let reading = record { stands = patterns.stands decls tokens; used = patterns.used decls tokens; is_statement = patterns.is_statement } in
-    table.seq (record { reading = reading; forall_walks = forall_walks; locals = locals; alone = alone; blocks = bs }) None (body es) table.nothing w [] []
+    let m : table.Setting = record { reading = read decls tokens; forall_walks = forall_walks; locals = locals; alone = alone; blocks = bs } in
+    table.seq m None (body es) table.nothing w [] []
 
 pub rule-formula : (r : Rule) (decls : List VarDecl) (tokens : List PatToken) (forall_walks : Bool) (locals alone : List Var) (bs : List ℕ) (es : List Elem) (w : List Var)
     → decls ≡ r.vars → tokens ≡ r.tokens → forall_walks ≡ rules.ranges_over_all r.mode → locals ≡ rules.locals r
@@ -143,10 +148,6 @@ is-formula r f ns i decls tokens n p d t e v q l b = record {
   bound = b;
 }
 
--- what the code reads patterns by
-abbrev pub read : List VarDecl → List PatToken → Reading
-read decls tokens = record { stands = patterns.stands decls tokens; used = patterns.used decls tokens; is_statement = patterns.is_statement }
-
 abbrev pub kept_by : (Reading → Body → Var → Bool) → List VarDecl → List PatToken → List Elem → List Var → List Var
 kept_by test decls tokens es xs = filter (test (read decls tokens) (body es)) xs
 
@@ -158,3 +159,16 @@ kept-is test r decls tokens es xs d t e l =
     ∙ ap (λ (z : List PatToken). kept_by test r.vars z es xs) t
     ∙ ap (λ (z : List Elem). kept_by test r.vars r.tokens z xs) e
     ∙ ap (λ (z : List Var). kept_by test r.vars r.tokens r.body z) l
+
+pub known-there : (f : Plain → Binds) (ns : List Node) (i : ℕ) (known : List Binds) → i < length ns → known ≡ map f (plains ns) → i < length known
+known-there f ns i known l k = omega (arith, l, ap length k ∙ length-map (plains ns) f ∙ length-plains ns)
+
+-- what the formula's part says of a variable tells whether it may stay unbound
+pub unbound-is : (r : Rule) (d : VarDecl) (decls : List VarDecl) (tokens : List PatToken) (ns : List Node) (i : ℕ) (known : List Binds) (b : Binds) (u : Bool)
+    → decls ≡ r.vars → tokens ≡ r.tokens → i < length ns → known ≡ map (binds_at (patterns.sure decls tokens) d.var) (plains ns) → b ≡ get_or known i b
+    → at (plains ns) i ≡ rules.formula_of r → u ≡ stays_unbound r d b → u ≡ rules.is_unbound r d
+unbound-is r d decls tokens ns i known b u v t l k e q h =
+    h ∙ ap (stays_unbound r d)
+    (known-root (binds_at (patterns.sure decls tokens) d.var) b ns i known b (rules.formula_of r) l k e q
+    ∙ ap (λ (z : List VarDecl). binds_at (patterns.sure z tokens) d.var (rules.formula_of r)) v
+    ∙ ap (λ (z : List PatToken). binds_at (patterns.sure r.vars z) d.var (rules.formula_of r)) t)

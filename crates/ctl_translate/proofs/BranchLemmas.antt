@@ -43,12 +43,12 @@ pub block-made : (m : table.Setting) (a b c d : List Node) (o e : Pattern) (es :
     → Makes b c inside (table.seq m None es (follow_of (plains b) m None (made.Part start.Brace close)) v s s)
     → Makes c d f (Exists x (And (table.own m w o (BraceOpen o x)) (Down 0 (at (plains c) inside))))
     → Makes a d f (Exists (table.hidden m o) (And (table.own m w o (BraceOpen o (table.hidden m o)))
-      (Down 0 (table.seq m None es (table.closing m w e (table.hidden m o)) (filter (occurs_body m.reading es) w) s s))))
+    (Down 0 (table.seq m None es (table.closing m w e (table.hidden m o)) (filter (occurs_body m.reading es) w) s s))))
 block-made m a b c d o e es w v s x close inside f q k u i z =
     let held = λ (p : Plain). table.seq m None es (record { start = table.Brace; at = λ t. p }) (filter (occurs_body m.reading es) w) s s in
     let whole = λ (y : Var) (p : Plain). Exists y (And (table.own m w o (BraceOpen o y)) (Down 0 p)) in
     let inside_is : at (plains c) inside ≡ held (table.own m w e (BraceClose e x)) =
-      i.is ∙ ap (λ (z : List Var). table.seq m None es (follow_of (plains b) m None (made.Part start.Brace close)) z s s) u ∙ ap held k.is in
+    i.is ∙ ap (λ (z : List Var). table.seq m None es (follow_of (plains b) m None (made.Part start.Brace close)) z s s) u ∙ ap held k.is in
     made-then a c d f (whole x (at (plains c) inside)) (whole (table.hidden m o) (held (table.own m w e (BraceClose e (table.hidden m o)))))
     (grows-trans a b c k.grows i.grows) z
     (ap (whole x) inside_is ∙ ap (λ (y : Var). whole y (held (table.own m w e (BraceClose e y)))) q)
@@ -85,9 +85,9 @@ every-made m a b c d k [] x y w v s f is js r l q p u j g h z = absurd (omega (a
 every-made m a b c d k (t ∷ ts) x y w v s f is js r l q p u j g h z =
     let row = λ (e : List Elem). table.seq m None (body e) k (filter (occurs_body m.reading (body e)) w) s s in
     let first : at (plains c) f ≡ row t =
-      stays b c f h.grows g.within ∙ g.is ∙ ap (λ (e : List Var). table.seq m None (body y) k e s s) u ∙ ap row (p ∙ q) in
+    stays b c f h.grows g.within ∙ g.is ∙ ap (λ (e : List Var). table.seq m None (body y) k e s s) u ∙ ap row (p ∙ q) in
     let others : parts_at c js ≡ table.each m (bodies ts) table.nothing w s =
-      ap (parts_at c) j ∙ h.are ∙ ap (λ (e : List (List Elem)). table.each m (bodies e) table.nothing w s) (tail-slice t ts) in
+    ap (parts_at c) j ∙ h.are ∙ ap (λ (e : List (List Elem)). table.each m (bodies e) table.nothing w s) (tail-slice t ts) in
     made-up a c d r (table.and_all (at (plains c) f) (parts_at c js)) (table.elem m None None (AllOf (bodies (t ∷ ts))) k w s s)
     (grows-trans a b c g.grows h.grows)
     (ap (λ (e : Plain). table.and_all e (parts_at c js)) first ∙ ap (table.and_all (row t)) others) z
@@ -118,8 +118,8 @@ choice-made m a b c d k bs cut w s is js ks ls r o j l x y z =
     let lone = table.each m (bodies bs) table.nothing w s in
     let with : parts_at c js ≡ each = ap (parts_at c) j ∙ all-kept a b c is each x y.grows in
     let alone : parts_at c ls ≡ take (length each - 1) lone =
-      ap (parts_at c) l ∙ y.are ∙ ap (λ (z : List (List Elem)). table.each m (bodies z) table.nothing w s) o ∙ each-take m table.nothing w s (length bs - 1) bs
-      ∙ ap (λ (n : ℕ). take (n - 1) lone) (sym (length-each m k w s bs)) in
+    ap (parts_at c) l ∙ y.are ∙ ap (λ (z : List (List Elem)). table.each m (bodies z) table.nothing w s) o ∙ each-take m table.nothing w s (length bs - 1) bs
+    ∙ ap (λ (n : ℕ). take (n - 1) lone) (sym (length-each m k w s bs)) in
     made-up a c d r (table.any_of (table.choices [] (parts_at c js) (parts_at c ls))) (table.elem m None None (AnyOf (bodies bs)) k w s s)
     (grows-trans a b c x.grows y.grows)
     (ap (λ (v : List Plain). table.any_of (table.choices [] v (parts_at c ls))) with

@@ -45,8 +45,8 @@ pub neighbours-made : (a b c d : List Node) (is js ks : List ℕ) (before after 
 neighbours-made a b c d is js ks before after near any f h k x y z =
     let ac = grows-trans a b c x.grows y.grows in
     let first : parts_at c js ≡ parts_at a is ++ table.nots near =
-      y.are ∙ ap (λ (v : List Plain). v ++ table.nots (some_at (plains b) before)) (all-stay a b is x.grows h)
-      ∙ ap (λ (v : Option Plain). parts_at a is ++ table.nots v) x.is in
+    y.are ∙ ap (λ (v : List Plain). v ++ table.nots (some_at (plains b) before)) (all-stay a b is x.grows h)
+    ∙ ap (λ (v : Option Plain). parts_at a is ++ table.nots v) x.is in
     record {
       within = z.within;
       are = z.are ∙ ap (λ (v : List Plain). v ++ table.nots (some_at (plains c) after)) first
@@ -74,10 +74,10 @@ dots_at-made m a b c d before e t here around through f r n h o x y z =
     let pass = λ (u v : Plain). passed (plains a) m.forall_walks e.nest e.strict u v in
     let test = λ (v : List Var). table.condition e.any (parts_at a e.whens.items) (table.near_option m true before v) (some_at (plains a) e.after) in
     let f_is : at (plains c) f ≡ pass (test around) (at (plains a) e.target) =
-      y.is
-      ∙ passed-stays a b m.forall_walks e.nest e.strict (at (plains b) through) (at (plains b) e.target) x.grows (dots-nest (length a) e n)
-      ∙ ap (λ (u : Plain). pass u (at (plains b) e.target)) x.is
-      ∙ ap (pass (test around)) (stays a b e.target x.grows (dots-target (length a) e n)) in
+    y.is
+    ∙ passed-stays a b m.forall_walks e.nest e.strict (at (plains b) through) (at (plains b) e.target) x.grows (dots-nest (length a) e n)
+    ∙ ap (λ (u : Plain). pass u (at (plains b) e.target)) x.is
+    ∙ ap (pass (test around)) (stays a b e.target x.grows (dots-target (length a) e n)) in
     made-up a c d r (table.exists_all here (at (plains c) f)) (dots_at (plains a) m before e t) (grows-trans a b c x.grows y.grows)
     (ap (table.exists_all here) (f_is ∙ ap (λ (v : List Var). pass (test v) (at (plains a) e.target)) o)
     ∙ ap (λ (v : List Var). table.exists_all v (pass (test (t ++ v)) (at (plains a) e.target))) h) z

@@ -20,6 +20,8 @@ mod place;
 mod rows;
 mod rule;
 mod setting;
+#[cfg(test)]
+mod tests;
 mod wrap;
 
 pub use rule::{FormulaFault, formula_of};

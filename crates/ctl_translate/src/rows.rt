@@ -231,7 +231,16 @@ fn nest(
         (filter (occurs_body (reading_at m.now) (body b.now)) vars.now) scope.now scope.now)) }
 {
     let own = in_body(alloc, m, b, vars)?;
-    sequence(alloc, parts, m, b, None, &Made::Nothing, own.as_slice(), scope)
+    sequence(
+        alloc,
+        parts,
+        m,
+        b,
+        None,
+        &Made::Nothing,
+        own.as_slice(),
+        scope,
+    )
 }
 
 /// `not` each piece of `when` code.

@@ -40,16 +40,16 @@ returns c =
       here = c.in_ok-here.here;
     } in
     let row = λ (u v : Bool). MakesFollow m a c.target.new.parts (made.Dots d) table.Dots
-      (λ s t. dots_row m a s after (parts_at a c.args.whens.items) u v c.args.nest k place t) in
+    (λ s t. dots_row m a s after (parts_at a c.args.whens.items) u v c.args.nest k place t) in
     let found : row any strict =
-      dots-made m a b e c.target.new.parts after k place d c.in_ok-g.g c.requires.whens c.requires.nest
-      (subst (λ (z : List Var). MakesSome a b c.in_ok-after.after (if any then None else table.near_option m false after z)) c.as_slice-scope.ensures c.in_ok-after.ensures.made)
-      (made-as b e c.in_ok-g.g (made_at (plains b) m before c.args.next.now c.as_slice-scope.result.now) (made_at (plains a) m before c.args.next.now place.scope)
-      (made-stays a b m before c.args.next.now c.as_slice-scope.result.now c.in_ok-after.ensures.made.grows c.requires.next
-      ∙ ap (λ (z : List Var). made_at (plains a) m before c.args.next.now z) c.as_slice-scope.ensures) c.in_ok-g.ensures.made)
-      (made-as e c.target.new.parts c.in_ok-target.target _ (table.target k.start (at (plains e) c.in_ok-g.g))
-      (ap (λ (z : table.Start). table.target z (at (plains e) c.in_ok-g.g)) c.start_of.ensures) c.in_ok-target.ensures.made)
-      (c.in_ok-here.ensures ∙ c.as_slice.ensures) in
+    dots-made m a b e c.target.new.parts after k place d c.in_ok-g.g c.requires.whens c.requires.nest
+    (subst (λ (z : List Var). MakesSome a b c.in_ok-after.after (if any then None else table.near_option m false after z)) c.as_slice-scope.ensures c.in_ok-after.ensures.made)
+    (made-as b e c.in_ok-g.g (made_at (plains b) m before c.args.next.now c.as_slice-scope.result.now) (made_at (plains a) m before c.args.next.now place.scope)
+    (made-stays a b m before c.args.next.now c.as_slice-scope.result.now c.in_ok-after.ensures.made.grows c.requires.next
+    ∙ ap (λ (z : List Var). made_at (plains a) m before c.args.next.now z) c.as_slice-scope.ensures) c.in_ok-g.ensures.made)
+    (made-as e c.target.new.parts c.in_ok-target.target _ (table.target k.start (at (plains e) c.in_ok-g.g))
+    (ap (λ (z : table.Start). table.target z (at (plains e) c.in_ok-g.g)) c.start_of.ensures) c.in_ok-target.ensures.made)
+    (c.in_ok-here.ensures ∙ c.as_slice.ensures) in
     record {
       made = subst (λ (u : Bool). row u (dots_of c.args.d.now).strict) (sym (dots-any c.args.d.now)) (subst (λ (v : Bool). row any v) (sym (dots-strict c.args.d.now)) found);
     }

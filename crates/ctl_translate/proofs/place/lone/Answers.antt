@@ -12,7 +12,7 @@ loop-x-preserved c =
     let test : Var → Bool = λ x. placing.any_body true (λ p. (reading_at c.args.m.now).stands p x) (body c.args.piece.now) in
     elim c.if-stands_in_body.branch [
       | then-stands_in_body+in_ok-copy+in_ok-push w ↦ kept-more test c.args.m.now.alone.now c.loop-x.x-index c.x-item.result c.loop-x.found c.if-stands_in_body.found
-        c.loop-x-test.true c.x-item.is (sym c.stands_in_body.ensures ∙ w.if-stands_in_body.true) c.loop-x.invariant (w.found-is ∙ w.in_ok-push.ensures.ok ∙ ap (λ (z : Var). c.loop-x.found ++ z ∷ []) w.in_ok-copy.ensures.same)
+          c.loop-x-test.true c.x-item.is (sym c.stands_in_body.ensures ∙ w.if-stands_in_body.true) c.loop-x.invariant (w.found-is ∙ w.in_ok-push.ensures.ok ∙ ap (λ (z : Var). c.loop-x.found ++ z ∷ []) w.in_ok-copy.ensures.same)
       | else-stands_in_body w ↦ kept-skip test c.args.m.now.alone.now c.loop-x.x-index c.x-item.result c.loop-x.found c.if-stands_in_body.found
-        c.loop-x-test.true c.x-item.is (sym c.stands_in_body.ensures ∙ w.if-stands_in_body.false) c.loop-x.invariant w.found-is
+          c.loop-x-test.true c.x-item.is (sym c.stands_in_body.ensures ∙ w.if-stands_in_body.false) c.loop-x.invariant w.found-is
     ]

@@ -103,8 +103,8 @@ pub block-returns : goal.block-returns
 block-returns t c =
     let m = setting_at c.args.m.now in
     let made = block-made m c.args.parts.now c.own_close.new.parts c.sequence.new.parts c.braced.new.parts c.args.o.now c.args.c.now (body c.args.b.now)
-      c.args.vars.now c.as_slice.result.now c.args.scope.now c.in_ok-v.v c.in_ok-close.close c.in_ok-inside.inside c.in_ok-f.f
-      c.in_ok-v.ensures c.in_ok-close.ensures.made (c.as_slice.ensures ∙ c.in_ok-own.ensures) c.in_ok-inside.ensures.made c.in_ok-f.ensures.made in
+    c.args.vars.now c.as_slice.result.now c.args.scope.now c.in_ok-v.v c.in_ok-close.close c.in_ok-inside.inside c.in_ok-f.f
+    c.in_ok-v.ensures c.in_ok-close.ensures.made (c.as_slice.ensures ∙ c.in_ok-own.ensures) c.in_ok-inside.ensures.made c.in_ok-f.ensures.made in
     record {
       made = then-past m c.args.parts.now c.braced.new.parts c.follow_at.new.parts c.and_past.new.parts c.in_ok-f.f c.in_ok-g.g _
           (element_or_none (option_copied c.args.before)) c.args.next.now c.args.scope.now c.and_past.result
@@ -183,9 +183,16 @@ sequence-returns t c = record {
 }
 
 pub sequence-suffixes-requires : goal.sequence-suffixes-requires
-sequence-suffixes-requires t c =
-    (omega arith, (c.requires, (omega arith,
-    ap length (c.as_slice.ensures.value ∙ c.in_ok-places.ensures) ∙ length-places (reading_at c.args.m.now) c.args.b.now c.args.vars.now c.args.scope.now)))
+sequence-suffixes-requires t c = (
+  omega arith,
+  (
+    c.requires,
+    (
+      omega arith,
+      ap length (c.as_slice.ensures.value ∙ c.in_ok-places.ensures) ∙ length-places (reading_at c.args.m.now) c.args.b.now c.args.vars.now c.args.scope.now,
+    ),
+  ),
+)
 
 pub suffixes-suffix-requires : goal.suffixes-suffix-requires
 suffixes-suffix-requires t c =
@@ -194,9 +201,11 @@ suffixes-suffix-requires t c =
     (omega (arith, w), c.requires.next)
 
 pub suffixes-loop-i-init : goal.suffixes-loop-i-init
-suffixes-loop-i-init t c =
-    (omega arith, suffixes-last (setting_at c.args.m.now) (follow c.args.parts.now c.args.m.now (option_copied c.args.before) c.args.next.now) c.args.parts.now c.suffix.new.parts c.in_ok-made.made c.args.b.now c.args.places.now (length c.args.b.now - 1)
-    c.index-b-i.result c.index-places-i.result (omega arith) c.requires.places c.index-b-i.is c.index-places-i.is c.in_ok-made.ensures.made)
+suffixes-loop-i-init t c = (
+  omega arith,
+  suffixes-last (setting_at c.args.m.now) (follow c.args.parts.now c.args.m.now (option_copied c.args.before) c.args.next.now) c.args.parts.now c.suffix.new.parts c.in_ok-made.made c.args.b.now c.args.places.now (length c.args.b.now - 1)
+      c.index-b-i.result c.index-places-i.result (omega arith) c.requires.places c.index-b-i.is c.index-places-i.is c.in_ok-made.ensures.made,
+)
 
 pub suffixes-suffix-requires-in-loop-i : goal.suffixes-suffix-requires-in-loop-i
 suffixes-suffix-requires-in-loop-i t c =
@@ -208,12 +217,14 @@ pub suffixes-loop-i-preserved : goal.suffixes-loop-i-preserved
 suffixes-loop-i-preserved t c =
     let n : c.loop-i.i - 1 + 1 ≡ c.loop-i.i = omega (arith, c.loop-i-test.true) in
     let k = follow c.args.parts.now c.args.m.now (option_copied c.args.before) c.args.next.now in
-    let m = setting_at c.args.m.now in
-    (omega (arith, c.loop-i.invariant.0), suffixes-step m k c.args.parts.now c.loop-i.parts c.suffix-in-loop-i.new.parts c.loop-i.made c.in_ok-made-2.made c.args.b.now c.args.places.now (c.loop-i.i - 1)
-    c.index-b-i-in-loop-i-2.result c.index-b-i-in-loop-i.result c.index-places-i-in-loop-i.result (omega (arith, c.loop-i.invariant.0, n)) c.requires.places
-    c.index-b-i-in-loop-i-2.is c.index-b-i-in-loop-i.is c.index-places-i-in-loop-i.is
-    (subst (λ (z : ℕ). MakesFollow m c.args.parts.now c.loop-i.parts c.loop-i.made (begins (drop z c.args.b.now) k.start) (along m k (drop z c.args.b.now) (drop z c.args.places.now))) (sym n) c.loop-i.invariant.1)
-    c.in_ok-made-2.ensures.made)
+    let m = setting_at c.args.m.now in (
+      omega (arith, c.loop-i.invariant.0),
+      suffixes-step m k c.args.parts.now c.loop-i.parts c.suffix-in-loop-i.new.parts c.loop-i.made c.in_ok-made-2.made c.args.b.now c.args.places.now (c.loop-i.i - 1)
+          c.index-b-i-in-loop-i-2.result c.index-b-i-in-loop-i.result c.index-places-i-in-loop-i.result (omega (arith, c.loop-i.invariant.0, n)) c.requires.places
+          c.index-b-i-in-loop-i-2.is c.index-b-i-in-loop-i.is c.index-places-i-in-loop-i.is
+          (subst (λ (z : ℕ). MakesFollow m c.args.parts.now c.loop-i.parts c.loop-i.made (begins (drop z c.args.b.now) k.start) (along m k (drop z c.args.b.now) (drop z c.args.places.now))) (sym n) c.loop-i.invariant.1)
+          c.in_ok-made-2.ensures.made,
+    )
 
 pub suffixes-returns : goal.suffixes-returns
 suffixes-returns t c = record {
@@ -284,9 +295,9 @@ suffix-returns-in_ok-whens-in-Nest t c =
     let grown = grows-trans c.args.parts.now c.nest.new.parts c.when_parts-in-Nest.new.parts c.in_ok-part-in-Nest.ensures.made.grows whens.grows in
     let parts = table.when_parts m (dots_of d).whens place.scope in
     let part =
-      nest-is m c.args.parts.now c.nest.new.parts c.when_parts-in-Nest.new.parts c.in_ok-part-in-Nest.part (body c.as_slice-in-Nest.result.now) c.as_slice-vars.result.now
-      c.as_slice-scope.result.now place c.as_slice-vars.ensures c.as_slice-scope.ensures c.in_ok-part-in-Nest.ensures.made whens.grows
-      ∙ ap (λ (z : List Elem). table.seq m None (body z) table.nothing (filter (occurs_body m.reading (body z)) place.inside) place.scope place.scope) c.as_slice-in-Nest.ensures in
+    nest-is m c.args.parts.now c.nest.new.parts c.when_parts-in-Nest.new.parts c.in_ok-part-in-Nest.part (body c.as_slice-in-Nest.result.now) c.as_slice-vars.result.now
+    c.as_slice-scope.result.now place c.as_slice-vars.ensures c.as_slice-scope.ensures c.in_ok-part-in-Nest.ensures.made whens.grows
+    ∙ ap (λ (z : List Elem). table.seq m None (body z) table.nothing (filter (occurs_body m.reading (body z)) place.inside) place.scope place.scope) c.as_slice-in-Nest.ensures in
     record {
       made = dots-rows m c.args.parts.now c.when_parts-in-Nest.new.parts c.dots-in-Nest.new.parts after (element c.args.e.now)
           (bodies.Nest c.in-Nest.plus (body c.in-Nest.b) (dots_of d).whens (dots_of d).any (dots_of d).strict) k

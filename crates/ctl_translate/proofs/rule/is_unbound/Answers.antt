@@ -7,7 +7,7 @@ use Rattle.ctl_translate.proofs.rule.is_unbound.Goals as goal
 pub index-requires : goal.index-requires
 index-requires c =
     let l = known-there (binds_at (sure c.as_slice-decls.result.now c.as_slice.result.now) c.args.d.now.var) c.args.parts.now c.args.root c.in_ok-known.known.items
-      c.requires.within c.in_ok-known.ensures.binds in
+    c.requires.within c.in_ok-known.ensures.binds in
     omega (arith, l, c.in_ok-known.known.ok.0)
 
 pub returns : goal.returns

@@ -1,23 +1,23 @@
 -- A sequence is worked off from its end: the formula of each suffix is that of its first element before the next one's.
-use Rattle.std.proofs.Common.{◌≡◌, ℕ, zero, suc, ◌+◌, ◌<◌, ◌≤◌, Bool, true, ◌++◌, arith, refl, sym, ap, ◌∙◌, subst, List, [], ◌∷◌, map, length, get_or, drop, Option, None, Some, Result, add-one}
+use Rattle.std.proofs.Common.{◌≡◌, ℕ, suc, ◌+◌, ◌<◌, ◌++◌, arith, refl, sym, ap, ◌∙◌, subst, List, [], ◌∷◌, length, get_or, drop, Option, None, Some, Result, add-one}
 use Rattle.std.specs.List.{filter}
 use Rattle.std.specs.Result.{IfOk}
 use Rattle.std.proofs.Math.Path.{fun_ext}
 use Rattle.std.proofs.Math.Seq.{drop-cons}
 use Rattle.smpl_terms.specs.declared.var.Var.{Var}
 use Rattle.smpl_patch.specs.declared.elem.Elem.{Elem}
-use Rattle.smpl_patch.specs.Bodies.{Element, Body, End, Then, element, body}
-use Rattle.ctl_formula.specs.Plain.{Plain, True}
+use Rattle.smpl_patch.specs.Bodies.{Element, element, body}
+use Rattle.ctl_formula.specs.Plain.{Plain}
 use Rattle.ctl_formula.specs.declared.node.Node.{Node}
-use Rattle.ctl_formula.specs.Tables.{at, plains, Grows, Makes}
+use Rattle.ctl_formula.specs.Tables.{plains, Makes}
 use Rattle.ctl_formula.proofs.TableLemmas.{grows-trans}
-use Rattle.ctl_translate.specs.Placing.{Reading, occurs_element, at_suffix}
+use Rattle.ctl_translate.specs.Placing.{Reading, at_suffix}
 use Rattle.ctl_translate.specs.Table as table
 use Rattle.ctl_translate.specs.declared.place.Place.{Place}
 use Rattle.ctl_translate.specs.declared.follow.Made.{Made}
 use Rattle.ctl_translate.proofs.MakingLemmas.{made-up}
 use Rattle.ctl_translate.specs.Suffixes.{first, begins, along}
-use Rattle.ctl_translate.specs.Settings.{places, place_at, later_at, made_start, made_at, follow_of, suffix_at, start_with, MakesFollow}
+use Rattle.ctl_translate.specs.Settings.{places, place_at, later_at, made_at, follow_of, suffix_at, start_with, MakesFollow}
 
 first-is : (es : List Elem) → table.first_of (body es) ≡ first es
 first-is [] = refl

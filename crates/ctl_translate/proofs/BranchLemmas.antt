@@ -1,15 +1,13 @@
 -- The rows whose parts are made in several tables: blocks, heads with bodies, branches, `when` code.
-use Rattle.std.proofs.Common.{◌≡◌, ℕ, zero, suc, ◌+◌, ◌-◌, ◌<◌, ◌≤◌, Bool, true, refl, sym, ap, ◌∙◌, arith, List, [], ◌∷◌, ◌++◌}
-use Rattle.std.proofs.Common.{map, length, take, drop, get_or, Option, None, Some, Result}
+use Rattle.std.proofs.Common.{◌≡◌, ℕ, ◌-◌, ◌≤◌, true, sym, ap, ◌∙◌, arith, List, [], ◌∷◌, ◌++◌}
+use Rattle.std.proofs.Common.{length, take, drop, get_or, Option, None, Result}
 use Rattle.std.specs.List.{filter}
 use Rattle.std.specs.Result.{IfOk}
 use Rattle.std.proofs.Math.Seq.{take-length}
-use Rattle.std.proofs.lemmas.List.{length-map}
 use Rattle.smpl_terms.specs.declared.var.Var.{Var}
 use Rattle.smpl_patch.specs.declared.elem.Elem.{Elem}
 use Rattle.smpl_patch.specs.declared.pattern.Pattern.{Pattern}
-use Rattle.smpl_patch.specs.Bodies.{Element, Compound, Block, Gap, Nest, AnyOf, AllOf, Body, Bodies, body}
-use Rattle.smpl_patch.specs.Bodies as elements
+use Rattle.smpl_patch.specs.Bodies.{Element, Compound, AnyOf, AllOf, Body, Bodies, body}
 use Rattle.smpl_patch.specs.declared.elem.Dots.{Dots, out-Dots}
 use Rattle.smpl_patch.proofs.BodyLemmas.{bodies, dots_of}
 use Rattle.ctl_translate.proofs.MadeLemmas.{dots-whens-are}
@@ -23,8 +21,8 @@ use Rattle.ctl_translate.specs.declared.place.Place.{Place}
 use Rattle.ctl_translate.specs.declared.follow.Made.{Made}
 use Rattle.ctl_translate.specs.declared.follow.Made.TheVariants as made
 use Rattle.ctl_translate.specs.declared.follow.Start.TheVariants as start
-use Rattle.ctl_translate.specs.Settings.{all_below, parts_at, made_below, made_at, follow_of, when_at, MakesAll}
-use Rattle.ctl_translate.proofs.MakingLemmas.{made-up, made-then, stays, all-stay, and-of}
+use Rattle.ctl_translate.specs.Settings.{parts_at, made_below, made_at, follow_of, when_at, MakesAll}
+use Rattle.ctl_translate.proofs.MakingLemmas.{made-up, made-then, stays}
 use Rattle.ctl_translate.proofs.FollowLemmas.{made-stays, follow-stays, all-kept}
 use Rattle.ctl_translate.proofs.RowLemmas.{past-made, each-take, length-each, choices-but_last}
 

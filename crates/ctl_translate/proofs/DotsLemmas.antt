@@ -1,18 +1,18 @@
 -- Dots as come to from a scope, their parts made one after another.
-use Rattle.std.proofs.Common.{◌≡◌, ℕ, ◌<◌, Bool, true, false, if◌then◌else◌, refl, sym, ap, ◌∙◌, List, [], ◌∷◌, ◌++◌, map, length}
-use Rattle.std.proofs.Common.{append_assoc, append-nil, Option, None, Some, Result}
+use Rattle.std.proofs.Common.{◌≡◌, ℕ, Bool, true, false, if◌then◌else◌, refl, sym, ap, ◌∙◌, List, [], ◌∷◌, ◌++◌, length}
+use Rattle.std.proofs.Common.{append_assoc, append-nil, Option, Some, Result}
 use Rattle.std.specs.Result.{IfOk}
 use Rattle.smpl_terms.specs.declared.var.Var.{Var}
 use Rattle.smpl_patch.specs.Bodies.{Element}
 use Rattle.ctl_formula.specs.Plain.{Plain, Not}
 use Rattle.ctl_formula.specs.declared.node.Node.{Node}
-use Rattle.ctl_formula.specs.Tables.{at, plains, Grows, Makes}
+use Rattle.ctl_formula.specs.Tables.{at, plains, Makes}
 use Rattle.ctl_formula.proofs.TableLemmas.{grows-refl, grows-trans}
 use Rattle.ctl_translate.specs.Table as table
 use Rattle.ctl_translate.specs.declared.follow.MadeDots.{MadeDots}
 use Rattle.ctl_translate.specs.Settings.{all_below, parts_at, some_below, some_at, dots_below, passed, dots_at, MakesAll, MakesSome}
-use Rattle.ctl_translate.proofs.MakingLemmas.{made-up, stays, all-stay, all-stand}
-use Rattle.ctl_translate.proofs.FollowLemmas.{some-stays, passed-stays, dots-whens, dots-nest, dots-target}
+use Rattle.ctl_translate.proofs.MakingLemmas.{made-up, stays, all-stay}
+use Rattle.ctl_translate.proofs.FollowLemmas.{some-stays, passed-stays, dots-nest, dots-target}
 use Rattle.ctl_translate.proofs.RowLemmas.{all-as, all-next, one-more}
 
 -- as they are

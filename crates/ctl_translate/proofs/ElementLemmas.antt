@@ -1,6 +1,6 @@
 -- Elements as what follows, and dots whose parts are made.
-use Rattle.std.proofs.Common.{◌≡◌, ℕ, ◌+◌, ◌<◌, Bool, true, false, ◌&&◌, cond, if◌then◌else◌, nat_lt, refl, sym, ap, ◌∙◌, List, [], ◌∷◌, ◌++◌}
-use Rattle.std.proofs.Common.{map, length, Option, None, Some, Result}
+use Rattle.std.proofs.Common.{◌≡◌, ℕ, Bool, true, false, cond, if◌then◌else◌, refl, sym, ap, ◌∙◌, List, ◌++◌}
+use Rattle.std.proofs.Common.{length, Option, None, Result}
 use Rattle.std.specs.Result.{IfOk}
 use Rattle.std.proofs.lemmas.Result.{IfOk-weaker}
 use Rattle.smpl_terms.specs.declared.var.Var.{Var}
@@ -17,8 +17,8 @@ use Rattle.ctl_translate.specs.declared.follow.MadeDots.{MadeDots}
 use Rattle.ctl_translate.specs.declared.follow.Made.{Made}
 use Rattle.ctl_translate.specs.declared.follow.Made.TheVariants as made
 use Rattle.ctl_translate.specs.declared.follow.Start.TheVariants as start
-use Rattle.ctl_translate.specs.Settings.{all_below, parts_at, some_at, nest_below, made_start, passed, suffix_at, start_with, dots_row, MakesSome, MakesFollow}
-use Rattle.ctl_translate.proofs.MakingLemmas.{stays, all-stay, all-stand, lt-test, both-true}
+use Rattle.ctl_translate.specs.Settings.{all_below, parts_at, some_at, nest_below, passed, suffix_at, start_with, dots_row, MakesSome, MakesFollow}
+use Rattle.ctl_translate.proofs.MakingLemmas.{all-stay, all-stand, lt-test, both-true}
 use Rattle.ctl_translate.proofs.FollowLemmas.{some-stands, some-stays, nest-stands, passed-stays}
 
 pub part-made : (m : table.Setting) (a b : List Node) (f i : ℕ) (here : List Var) → Makes a b i (table.exists_all here (at (plains a) f))

@@ -1,18 +1,18 @@
 -- What was made stays what it is while the table grows.
-use Rattle.std.proofs.Common.{◌≡◌, ℕ, ◌+◌, ◌<◌, Bool, true, false, ◌&&◌, ◌++◌, nat_lt, arith, refl, sym, ap, ◌∙◌, List, [], ◌∷◌, map, length, Option, None, Some}
+use Rattle.std.proofs.Common.{◌≡◌, ℕ, ◌<◌, Bool, true, ◌&&◌, ◌++◌, nat_lt, refl, ap, ◌∙◌, List, map, length, Option, None, Some}
 use Rattle.std.proofs.Math.Path.{fun_ext}
 use Rattle.smpl_terms.specs.declared.var.Var.{Var}
 use Rattle.smpl_patch.specs.Bodies.{Element}
-use Rattle.ctl_formula.specs.Plain.{Plain, True}
+use Rattle.ctl_formula.specs.Plain.{Plain}
 use Rattle.ctl_formula.specs.declared.node.Node.{Node}
 use Rattle.ctl_formula.specs.Tables.{at, plains, Grows, Makes}
-use Rattle.ctl_formula.proofs.TableLemmas.{and-left, and-right, lt-true, grows-trans}
+use Rattle.ctl_formula.proofs.TableLemmas.{and-left, and-right, lt-true}
 use Rattle.ctl_translate.specs.Table as table
 use Rattle.ctl_translate.specs.declared.follow.NestPart.{NestPart}
 use Rattle.ctl_translate.specs.declared.follow.MadeDots.{MadeDots}
 use Rattle.ctl_translate.specs.declared.follow.Made.{Made}
 use Rattle.ctl_translate.specs.declared.follow.Made.TheVariants as made
-use Rattle.ctl_translate.specs.Settings.{all_below, parts_at, some_below, some_at, nest_below, dots_below, made_below, passed, dots_at, start_at, made_start, made_at, follow_of, MakesAll, MakesSome, MakesFollow}
+use Rattle.ctl_translate.specs.Settings.{all_below, parts_at, some_below, some_at, nest_below, dots_below, made_below, passed, dots_at, made_start, made_at, follow_of, MakesAll}
 use Rattle.ctl_translate.proofs.MakingLemmas.{stays, stands-still, all-stay, all-stand, lt-test, both-true}
 
 -- a part that was made, in a table that grew

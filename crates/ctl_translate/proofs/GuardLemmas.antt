@@ -1,17 +1,17 @@
 -- Each quantifier of a rule's formula is of a variable that is neither exported nor inherited, or its part binds it.
-use Rattle.std.proofs.Common.{◌≡◌, ℕ, zero, suc, Bool, true, false, not, ◌&&◌, ◌||◌, cond, if◌then◌else◌, refl, sym, ap, ◌∙◌, List, [], ◌∷◌, ◌++◌, Option, None, Some}
-use Rattle.std.specs.List.{list_all, list_any, filter}
+use Rattle.std.proofs.Common.{◌≡◌, ℕ, suc, Bool, true, false, not, ◌&&◌, ◌||◌, cond, refl, sym, ap, ◌∙◌, List, [], ◌∷◌, ◌++◌, Option, None, Some}
+use Rattle.std.specs.List.{list_all, filter}
 use Rattle.smpl_terms.specs.declared.var.Var.{Var}
 use Rattle.smpl_terms.specs.Vars.{same_var}
 use Rattle.smpl_terms.proofs.VarLaws.{same_var-equal}
 use Rattle.smpl_patch.specs.declared.pattern.Pattern.{Pattern}
 use Rattle.smpl_patch.specs.Bodies.{Element, Compound, Block, Gap, Nest, AnyOf, AllOf, Body, End, Then, Bodies, NoMore, More}
 use Rattle.smpl_patch.specs.Bodies as bodies
-use Rattle.ctl_formula.specs.Plain.{Plain, True, Atom, Bail, Exit, BraceOpen, BraceClose, Not, And, Or, AX, EX, AU, EU, Past, Down, Exists}
+use Rattle.ctl_formula.specs.Plain.{Plain, Atom, BraceOpen, BraceClose, Not, And, Or, Down, Exists}
 use Rattle.ctl_formula.specs.Bounds.{Surely, each_quantifier, bound}
 use Rattle.ctl_formula.proofs.TableLemmas.{and-left, and-right}
-use Rattle.ctl_translate.specs.Placing.{is_dots, occurs_element, occurs_body, at_suffix}
-use Rattle.ctl_translate.specs.Table.{Setting, Follow, Start, Nothing, Brace, Dots, Other, nothing, start_of, first_of, in_scope, exists_all, and_all, or_all, all_of, any_of, or_some, option_list, nots, hidden, own, copy, near, near_body, near_each, near_first, near_option, is_end, next_of, joined, target, or_bail, until, nested, condition, lone, closing, with_tail, downs, choices, seq, elem, each, first_and, when_parts}
+use Rattle.ctl_translate.specs.Placing.{occurs_element, occurs_body, at_suffix}
+use Rattle.ctl_translate.specs.Table.{Setting, Follow, Start, Nothing, Brace, Dots, Other, nothing, start_of, first_of, in_scope, exists_all, and_all, or_all, all_of, any_of, or_some, option_list, nots, hidden, own, copy, near, near_body, near_each, near_first, near_option, is_end, joined, target, until, nested, condition, lone, closing, with_tail, downs, choices, seq, elem, each, first_and, when_parts}
 
 both : (a b : Bool) → a ≡ true → b ≡ true → (a && b) ≡ true
 both a b h k = ap (λ z. z && b) h ∙ k

@@ -1,5 +1,5 @@
 -- A formula whose quantifiers are of known variables is guarded where it is so for each local variable.
-use Rattle.std.proofs.Common.{◌≡◌, ℕ, Bool, true, false, not, ◌&&◌, ◌||◌, refl, sym, ap, ◌∙◌, List, [], ◌∷◌}
+use Rattle.std.proofs.Common.{◌≡◌, Bool, true, false, not, ◌&&◌, ◌||◌, refl, sym, ap, ◌∙◌, List}
 use Rattle.smpl_terms.specs.declared.var.Var.{Var}
 use Rattle.smpl_terms.specs.Vars.{same_var}
 use Rattle.ctl_formula.specs.Plain.{Plain, True, Atom, Bail, Exit, BraceOpen, BraceClose, Not, And, Or, AX, EX, AU, EU, Past, Down, Exists}

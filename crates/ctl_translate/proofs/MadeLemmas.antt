@@ -1,5 +1,5 @@
 -- Elements made of a few parts, one after another.
-use Rattle.std.proofs.Common.{◌≡◌, ℕ, ◌<◌, Bool, true, refl, sym, ap, ◌∙◌, List, [], ◌∷◌, ◌++◌, map, length, Option, None, Some, Result}
+use Rattle.std.proofs.Common.{◌≡◌, ℕ, ◌<◌, Bool, true, sym, ap, ◌∙◌, List, length, Option, Some, Result}
 use Rattle.std.specs.Result.{IfOk}
 use Rattle.smpl_terms.specs.declared.var.Var.{Var}
 use Rattle.smpl_patch.specs.declared.elem.Dots.{Dots, out-Dots}
@@ -7,9 +7,9 @@ use Rattle.smpl_patch.specs.declared.elem.Elem.TheFolds.{fold_out-Dots}
 use Rattle.smpl_patch.specs.declared.pattern.Pattern.{Pattern}
 use Rattle.smpl_patch.specs.Bodies.{Element, DotsOf, element_step, dots_step}
 use Rattle.smpl_patch.proofs.BodyLemmas.{bodies, dots_of}
-use Rattle.ctl_formula.specs.Plain.{Plain, Atom, BraceOpen, Not, And, Down, Exists}
+use Rattle.ctl_formula.specs.Plain.{Plain, Atom, Not, And, Down, Exists}
 use Rattle.ctl_formula.specs.declared.node.Node.{Node}
-use Rattle.ctl_formula.specs.Tables.{at, plains, Grows, Makes}
+use Rattle.ctl_formula.specs.Tables.{at, plains, Makes}
 use Rattle.ctl_formula.proofs.TableLemmas.{grows-trans}
 use Rattle.ctl_translate.specs.Table as table
 use Rattle.ctl_translate.specs.declared.follow.Made.{Made}

@@ -1,7 +1,6 @@
 -- What stands beside dots, made one after another.
-use Rattle.std.proofs.Common.{◌≡◌, ℕ, zero, suc, ◌+◌, ◌-◌, ◌<◌, ◌≤◌, Bool, true, false, ◌&&◌, not, cond, if◌then◌else◌, nat_lt, arith, refl, sym, ap, subst, ◌∙◌}
-use Rattle.std.proofs.Common.{List, [], ◌∷◌, ◌++◌, map, length, take, get_or, append_assoc, append-nil, Option, None, Some, Result}
-use Rattle.std.specs.List.{list_all}
+use Rattle.std.proofs.Common.{◌≡◌, ℕ, suc, ◌+◌, ◌-◌, ◌<◌, ◌≤◌, Bool, true, false, if◌then◌else◌, arith, refl, sym, ap, subst, ◌∙◌}
+use Rattle.std.proofs.Common.{List, [], ◌∷◌, ◌++◌, length, take, get_or, append_assoc, append-nil, Option, None, Some, Result}
 use Rattle.std.specs.Result.{IfOk}
 use Rattle.std.proofs.lemmas.List.{map-append, take_more}
 use Rattle.std.proofs.lemmas.Result.{IfOk-weaker}
@@ -14,7 +13,7 @@ use Rattle.ctl_formula.specs.declared.node.Node.{Node}
 use Rattle.ctl_formula.specs.Tables.{at, plains, Grows, Makes}
 use Rattle.ctl_formula.proofs.TableLemmas.{grows-refl, grows-trans, lt-true}
 use Rattle.ctl_translate.specs.Table as table
-use Rattle.ctl_translate.specs.Settings.{all_below, parts_at, some_below, some_at, option_numbers, MakesAll, MakesSome}
+use Rattle.ctl_translate.specs.Settings.{all_below, parts_at, option_numbers, MakesAll, MakesSome}
 use Rattle.ctl_translate.proofs.MakingLemmas.{all-stay, all-stand, lt-test}
 use Rattle.ctl_translate.proofs.RowLemmas.{all-more, all-as}
 

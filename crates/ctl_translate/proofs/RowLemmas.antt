@@ -1,12 +1,12 @@
 -- Lists of parts that a loop makes one after another, and rows made of parts of several tables.
-use Rattle.std.proofs.Common.{◌≡◌, ℕ, zero, suc, ◌+◌, ◌-◌, ◌<◌, ◌≤◌, Bool, true, false, ◌&&◌, arith, refl, sym, ap, subst, ◌∙◌, List, [], ◌∷◌, ◌++◌, map, length, take, drop, get_or, nat_lt, append_assoc, append-nil, min, Option, None, Some, Result}
-use Rattle.std.specs.List.{filter, list_all}
+use Rattle.std.proofs.Common.{◌≡◌, ℕ, zero, suc, ◌+◌, ◌-◌, ◌<◌, true, arith, refl, sym, ap, subst, ◌∙◌, List, [], ◌∷◌, ◌++◌, length, take, get_or, nat_lt, None, Result}
+use Rattle.std.specs.List.{filter}
 use Rattle.std.specs.Result.{IfOk}
 use Rattle.std.proofs.Math.Seq.{take-length}
-use Rattle.std.proofs.lemmas.List.{map-append, take_more, length-map, length-take-le, take_min, take-map}
+use Rattle.std.proofs.lemmas.List.{map-append, take_more, length-map, length-take-le}
 use Rattle.smpl_terms.specs.declared.var.Var.{Var}
 use Rattle.smpl_patch.specs.declared.elem.Elem.{Elem}
-use Rattle.smpl_patch.specs.Bodies.{Element, body}
+use Rattle.smpl_patch.specs.Bodies.{body}
 use Rattle.smpl_patch.proofs.BodyLemmas.{bodies}
 use Rattle.ctl_formula.specs.Plain.{Plain, And, Past, Not, Down}
 use Rattle.ctl_formula.specs.declared.node.Node.{Node}
@@ -14,8 +14,8 @@ use Rattle.ctl_formula.specs.Tables.{at, plains, Grows, Makes}
 use Rattle.ctl_formula.proofs.TableLemmas.{grows-refl, grows-trans, and-left, and-right, lt-true}
 use Rattle.ctl_translate.specs.Placing.{occurs_body}
 use Rattle.ctl_translate.specs.Table as table
-use Rattle.ctl_translate.specs.Settings.{all_below, parts_at, when_at, not_first, MakesAll}
-use Rattle.ctl_translate.proofs.MakingLemmas.{stays, stands-still, all-stay, all-stand, lt-test, both-true, made-up, and-of}
+use Rattle.ctl_translate.specs.Settings.{all_below, parts_at, when_at, MakesAll}
+use Rattle.ctl_translate.proofs.MakingLemmas.{stays, all-stay, all-stand, lt-test, both-true, made-up, and-of}
 
 pub all-more : (n : ℕ) (is : List ℕ) (i : ℕ) → all_below n is ≡ true → i < n → all_below n (is ++ i ∷ []) ≡ true
 all-more n [] i h l = both-true _ _ (lt-test i n l) refl

@@ -1,5 +1,5 @@
 -- The parts of what dots are.
-use Rattle.std.proofs.Common.{◌≡◌, ℕ, ◌-◌, ◌<◌, ◌≤◌, Bool, true, false, arith, refl, sym, ap, ◌∙◌, List, [], ◌∷◌, map, take, drop, length, get_or}
+use Rattle.std.proofs.Common.{◌≡◌, ℕ, ◌-◌, ◌≤◌, Bool, true, arith, refl, ap, ◌∙◌, List, [], ◌∷◌, map, take, drop, length, get_or}
 use Rattle.std.specs.List.{list_all}
 use Rattle.ctl_formula.proofs.TableLemmas.{and-left, and-right}
 use Rattle.ctl_formula.specs.Plain.{Plain, And, Or, AU, EU, Not}

@@ -1,5 +1,5 @@
 -- What `formula_of` answers.
-use Rattle.std.specs.Prelude.{◌≡◌, true, false, Option, None, Some}
+use Rattle.std.specs.Prelude.{◌≡◌, true, false, None, Some}
 use Rattle.smpl_terms.specs.declared.var.Var.{Var}
 use Rattle.smpl_patch.specs.declared.rule.Rule.{Rule}
 use Rattle.ctl_formula.specs.Plain.{fits}

@@ -1,10 +1,10 @@
 -- What the code goes by, as the definitions have it.
-use Rattle.std.specs.Prelude.{◌≡◌, ℕ, ◌<◌, Bool, true, false, not, ◌&&◌, nat_lt, List, [], ◌∷◌, ◌++◌, map, length, cond, Option, None, Some}
+use Rattle.std.specs.Prelude.{◌≡◌, ℕ, Bool, true, false, not, ◌&&◌, nat_lt, List, [], ◌∷◌, ◌++◌, map, length, cond, Option, None, Some}
 use Rattle.std.specs.List.{list_all, filter}
 use Rattle.smpl_terms.specs.declared.var.Var.{Var}
 use Rattle.smpl_patch.specs.declared.elem.Elem.{Elem}
 use Rattle.smpl_patch.specs.Patterns as patterns
-use Rattle.smpl_patch.specs.Bodies.{body, element, Element, Body, End, Then}
+use Rattle.smpl_patch.specs.Bodies.{element, Element, Body, End, Then}
 use Rattle.ctl_formula.specs.Plain.{Plain, True, Not}
 use Rattle.ctl_formula.specs.declared.node.Node.{Node}
 use Rattle.ctl_formula.specs.Tables.{at, plains, Grows}

@@ -1,4 +1,4 @@
-use Rattle.std.proofs.Common.{◌≡◌, ◌∙◌, ap, sym, length, List, ℕ}
+use Rattle.std.proofs.Common.{◌∙◌, ap, length}
 use Rattle.ctl_translate.specs.Settings.{all_below}
 use Rattle.ctl_translate.proofs.FollowLemmas.{dots-whens}
 use Rattle.ctl_translate.proofs.DotsLemmas.{condition-made}

@@ -1,4 +1,4 @@
-use Rattle.std.proofs.Common.{◌≡◌, ◌∙◌, arith}
+use Rattle.std.proofs.Common.{◌∙◌, arith}
 use Rattle.ctl_translate.proofs.RowLemmas.{taken}
 use Rattle.ctl_translate.proofs.dots.copied_numbers.Goals as goal
 

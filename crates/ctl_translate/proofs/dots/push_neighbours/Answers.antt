@@ -1,7 +1,6 @@
 use Rattle.ctl_formula.proofs.TableLemmas.{grows-trans}
 use Rattle.std.proofs.Common.{length}
 use Rattle.std.proofs.lemmas.Result.{on_ok_weaker}
-use Rattle.ctl_translate.specs.Settings.{parts_at}
 use Rattle.ctl_translate.proofs.MakingLemmas.{all-stand}
 use Rattle.ctl_translate.proofs.FollowLemmas.{some-stands, dots-after}
 use Rattle.ctl_translate.proofs.DotsLemmas.{neighbours-none, neighbours-made}

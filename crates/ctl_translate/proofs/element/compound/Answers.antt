@@ -1,6 +1,5 @@
 use Rattle.std.specs.Option.{option_copied}
 use Rattle.ctl_translate.specs.Settings.{setting_at, element_or_none}
-use Rattle.ctl_translate.proofs.MakingLemmas.{stands-still}
 use Rattle.ctl_translate.proofs.FollowLemmas.{made-stands}
 use Rattle.ctl_translate.proofs.BranchLemmas.{then-past}
 use Rattle.ctl_translate.proofs.element.compound.Goals as goal

@@ -1,9 +1,8 @@
-use Rattle.std.proofs.Common.{Bool, true, false, ◌++◌, sym, ap, subst, ◌∙◌, if◌then◌else◌, None, List}
+use Rattle.std.proofs.Common.{Bool, false, sym, ap, subst, ◌∙◌, if◌then◌else◌, None, List}
 use Rattle.std.specs.Option.{option_copied}
 use Rattle.smpl_terms.specs.declared.var.Var.{Var}
 use Rattle.smpl_patch.specs.declared.elem.Dots.{out-Dots}
 use Rattle.smpl_patch.proofs.BodyLemmas.{dots_of}
-use Rattle.ctl_formula.specs.Plain.{Plain}
 use Rattle.ctl_formula.specs.Tables.{at, plains}
 use Rattle.ctl_translate.specs.Table as table
 use Rattle.ctl_translate.specs.declared.follow.MadeDots.{MadeDots}

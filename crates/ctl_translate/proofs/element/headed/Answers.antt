@@ -1,4 +1,4 @@
-use Rattle.std.proofs.Common.{◌≡◌, ◌∙◌, ap, length, List, ℕ}
+use Rattle.std.proofs.Common.{◌∙◌, ap, length}
 use Rattle.ctl_translate.specs.Settings.{setting_at, all_below}
 use Rattle.ctl_translate.proofs.FollowLemmas.{all-kept-within}
 use Rattle.ctl_translate.proofs.MadeLemmas.{headed-made}

@@ -1,4 +1,4 @@
-use Rattle.std.proofs.Common.{◌≡◌, ◌<◌, ap, arith}
+use Rattle.std.proofs.Common.{ap, arith}
 use Rattle.smpl_patch.specs.Bodies.{body}
 use Rattle.ctl_translate.proofs.Weights.{weight_body, body-at, bodies-at}
 use Rattle.ctl_translate.proofs.occur.+used.Goals as goal

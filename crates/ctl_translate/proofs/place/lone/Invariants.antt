@@ -1,9 +1,8 @@
-use Rattle.std.proofs.Common.{◌≡◌, ◌&&◌, not, take, true}
+use Rattle.std.proofs.Common.{◌≡◌, take, true}
 use Rattle.std.specs.List.{filter}
-use Rattle.smpl_patch.specs.Bodies.{body, element}
+use Rattle.smpl_patch.specs.Bodies.{body}
 use Rattle.ctl_translate.specs.Placing as placing
-use Rattle.ctl_translate.specs.Table as table
-use Rattle.ctl_translate.specs.Settings.{reading_at, setting_at}
+use Rattle.ctl_translate.specs.Settings.{reading_at}
 use Rattle.ctl_translate.proofs.place.lone.Given as goal
 
 abbrev pub invariant-loop-x : goal.invariant-loop-x

@@ -1,4 +1,4 @@
-use Rattle.std.proofs.Common.{true, false, ℕ, ◌≡◌, ◌+◌, ◌-◌, ◌<◌, ◌≤◌, ◌∙◌, ◌++◌, ap, sym, subst, refl, arith, length, take, drop, List, [], None, Some, Option}
+use Rattle.std.proofs.Common.{true, false, ℕ, ◌≡◌, ◌+◌, ◌-◌, ◌<◌, ◌∙◌, ◌++◌, ap, sym, subst, refl, arith, length, take, drop, List, None, Some}
 use Rattle.std.specs.Option.{option_copied}
 use Rattle.std.specs.List.{filter}
 use Rattle.std.specs.Result.{IfOk}
@@ -8,15 +8,14 @@ use Rattle.smpl_patch.specs.Bodies as bodies
 use Rattle.smpl_patch.proofs.BodyLemmas.{bodies as bodies_of, dots_of, element-Atom, element-Compound, element-Block, element-Gap, element-Nest, element-AnyOf, element-AllOf}
 use Rattle.smpl_terms.specs.declared.var.Var.{Var}
 use Rattle.ctl_formula.specs.Plain.{Plain}
-use Rattle.ctl_formula.specs.Plain as plain
-use Rattle.ctl_formula.specs.Tables.{at, plains, Grows, Makes}
+use Rattle.ctl_formula.specs.Tables.{Makes}
 use Rattle.ctl_formula.proofs.TableLemmas.{grows-trans}
 use Rattle.ctl_translate.specs.Placing.{occurs_body}
 use Rattle.ctl_translate.specs.Table as table
 use Rattle.ctl_translate.specs.Settings.{reading_at, setting_at, element_or_none, all_below, parts_at, follow, MakesAll, MakesFollow}
 use Rattle.ctl_translate.specs.Suffixes.{begins, along}
 use Rattle.ctl_translate.proofs.Weights.{weight_body, body-at, bodies-at, weight-first, weight-rest, weight-take}
-use Rattle.ctl_translate.proofs.MakingLemmas.{made-then, stands-still, all-stand}
+use Rattle.ctl_translate.proofs.MakingLemmas.{all-stand}
 use Rattle.ctl_translate.proofs.FollowLemmas.{made-stands, follow-stays}
 use Rattle.ctl_translate.proofs.RowLemmas.{taken, init-all, all-next, each-step, when-step}
 use Rattle.ctl_translate.proofs.AlongLemmas.{length-places, suffixes-last, suffixes-step, suffixes-all, sequence-made, sequence-none}

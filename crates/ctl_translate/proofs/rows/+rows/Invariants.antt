@@ -1,4 +1,4 @@
-use Rattle.std.proofs.Common.{◌≡◌, ◌+◌, ◌<◌, drop, take, length, Option, Some, None}
+use Rattle.std.proofs.Common.{◌+◌, ◌<◌, drop, take, length}
 use Rattle.std.specs.Option.{option_copied}
 use Rattle.smpl_patch.specs.Bodies.{body, element}
 use Rattle.smpl_patch.proofs.BodyLemmas.{bodies}

@@ -1,4 +1,4 @@
-use Rattle.std.proofs.Common.{◌≡◌, not, take}
+use Rattle.std.proofs.Common.{◌≡◌, take}
 use Rattle.std.specs.List.{filter}
 use Rattle.smpl_patch.specs.Bodies.{body}
 use Rattle.ctl_translate.specs.Placing as placing

@@ -1,4 +1,4 @@
-use Rattle.std.proofs.Common.{◌≡◌, ◌∙◌, ap, true}
+use Rattle.std.proofs.Common.{◌∙◌, ap}
 use Rattle.ctl_formula.specs.Plain.{fits}
 use Rattle.ctl_formula.specs.Tables.{at, plains}
 use Rattle.ctl_translate.proofs.RuleLemmas.{root-guarded, is-formula}

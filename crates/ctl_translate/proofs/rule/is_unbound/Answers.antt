@@ -1,4 +1,4 @@
-use Rattle.std.proofs.Common.{◌<◌, arith}
+use Rattle.std.proofs.Common.{arith}
 use Rattle.smpl_patch.specs.Patterns.{sure}
 use Rattle.ctl_formula.specs.Binding.{binds_at}
 use Rattle.ctl_translate.proofs.RuleLemmas.{known-there, unbound-is}

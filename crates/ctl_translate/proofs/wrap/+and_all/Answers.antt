@@ -1,12 +1,11 @@
-use Rattle.std.proofs.Common.{◌≡◌, ℕ, ◌-◌, ◌<◌, ◌≤◌, ◌∙◌, sym, ap, subst, refl, arith, length, take, drop, get_or, nat_lt, true, List, [], ◌∷◌}
+use Rattle.std.proofs.Common.{◌≡◌, ◌-◌, ◌∙◌, ap, arith, length, take, drop, get_or, nat_lt, List}
 use Rattle.ctl_formula.specs.Plain.{Plain}
 use Rattle.ctl_formula.specs.Plain as plain
 use Rattle.ctl_translate.specs.Table as table
-use Rattle.ctl_formula.specs.Tables.{at, plains, Grows}
-use Rattle.ctl_formula.proofs.TableLemmas.{grows-trans, lt-true}
-use Rattle.ctl_translate.proofs.MakingLemmas.{made-up, stays, all-stand, all-stay}
-use Rattle.ctl_translate.specs.Settings.{all_below, parts_at}
-use Rattle.ctl_translate.proofs.WrapLemmas.{and_all-more, or_all-more, all-first, all-rest}
+use Rattle.ctl_formula.specs.Tables.{at, plains}
+use Rattle.ctl_translate.proofs.MakingLemmas.{made-up, all-stand, all-stay}
+use Rattle.ctl_translate.specs.Settings.{parts_at}
+use Rattle.ctl_translate.proofs.WrapLemmas.{and_all-more, all-rest}
 use Rattle.ctl_translate.proofs.wrap.+and_all.Goals as goal
 
 pub and_all-requires : goal.and_all-requires

@@ -1,6 +1,4 @@
-use Rattle.std.proofs.Common.{◌≡◌, ◌<◌, ◌∙◌, sym, ap, arith, length, List, [], ◌∷◌}
 use Rattle.ctl_formula.specs.Plain as plain
-use Rattle.ctl_translate.specs.Table as table
 use Rattle.ctl_formula.specs.Tables.{at, plains}
 use Rattle.ctl_translate.proofs.MakingLemmas.{made-up, stays, and-of}
 use Rattle.ctl_translate.proofs.wrap.and_past.Goals as goal

@@ -1,4 +1,4 @@
-use Rattle.std.proofs.Common.{◌≡◌, ◌-◌, min, take, length, arith, List, ℕ, true}
+use Rattle.std.proofs.Common.{length, arith}
 use Rattle.ctl_translate.proofs.ChoiceLemmas.{all-but_last, first-made}
 use Rattle.ctl_translate.proofs.wrap.first_branch.Goals as goal
 

@@ -1,10 +1,10 @@
-use Rattle.std.proofs.Common.{◌≡◌, ◌<◌, ◌∙◌, sym, ap, arith, length, List, [], ◌∷◌}
+use Rattle.std.proofs.Common.{◌≡◌, ◌∙◌, sym, ap, length}
 use Rattle.ctl_formula.specs.Plain.{Plain}
 use Rattle.ctl_formula.specs.Plain as plain
 use Rattle.ctl_translate.specs.Table as table
 use Rattle.ctl_formula.specs.Tables.{at, plains, Grows}
 use Rattle.ctl_formula.proofs.TableLemmas.{grows-trans}
-use Rattle.ctl_translate.proofs.MakingLemmas.{made-up, made-then, stays, and-of, or-of, au-of, eu-of, both-true, lt-test, stands-still}
+use Rattle.ctl_translate.proofs.MakingLemmas.{made-up, made-then, stays, and-of, or-of, eu-of, both-true, lt-test, stands-still}
 use Rattle.ctl_translate.proofs.WrapLemmas.{nested-plus}
 use Rattle.ctl_translate.proofs.wrap.nested.Goals as goal
 

@@ -1,10 +1,9 @@
-use Rattle.std.proofs.Common.{◌≡◌, ◌<◌, ◌∙◌, sym, ap, arith, length, List, [], ◌∷◌}
+use Rattle.std.proofs.Common.{◌≡◌, ◌∙◌, sym, ap}
 use Rattle.ctl_formula.specs.Plain as plain
 use Rattle.ctl_translate.specs.Table as table
 use Rattle.ctl_formula.specs.Tables.{at, plains, Grows}
 use Rattle.ctl_formula.proofs.TableLemmas.{grows-trans}
-use Rattle.ctl_translate.proofs.MakingLemmas.{made-up, stays, and-of, or-of, au-of, eu-of}
-use Rattle.ctl_translate.specs.Settings.{start_at}
+use Rattle.ctl_translate.proofs.MakingLemmas.{made-up, stays, and-of, au-of}
 use Rattle.ctl_translate.proofs.WrapLemmas.{until-all}
 use Rattle.ctl_translate.proofs.wrap.until.Goals as goal
 

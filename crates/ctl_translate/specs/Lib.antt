@@ -1,0 +1,17 @@
+-- What public contracts rest on, in reading order.
+-- where a variable of a rule is quantified
+pub mod Placing
+-- the numbers of a body's blocks
+pub mod Blocks
+-- the table from the elements of a body to formulas
+pub mod Table
+-- the formula of a rule, and why it has none that may be used
+pub mod Rules
+-- what `formula_of` answers
+pub mod Answers
+-- For inside use: what the code goes by, as the definitions have it.
+pub mod Settings
+-- a sequence, suffix by suffix
+pub mod Suffixes
+-- which variables may stay unbound, by what a formula says of them
+pub mod Unbound

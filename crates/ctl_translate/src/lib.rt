@@ -1,0 +1,27 @@
+//! The table from rules to formulas.
+//!
+//! - [`formula_of`] gives a rule's formula, or says why it has none that may be used.
+//!
+//! A part that stands at several places of the formula is kept once. What a rule's formula is, row by row, stands with
+//! the definitions in `specs/Table`: the module `rows` is that table, row for row. A sequence is worked off from its
+//! end, so what follows an element is made before it, and once.
+//!
+//! `a(); ... b();` under `exists` is `Atom 0 and EX E[not Atom 0 and not Atom 1 U Atom 1]`.
+#![tactic(auto)]
+
+mod blocks;
+mod dots;
+mod element;
+mod follow;
+mod near;
+mod occur;
+mod own;
+mod place;
+mod rows;
+mod rule;
+mod setting;
+#[cfg(test)]
+mod tests;
+mod wrap;
+
+pub use rule::{FormulaFault, formula_of};

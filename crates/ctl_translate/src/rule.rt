@@ -1,0 +1,220 @@
+// The formula of a rule.
+ghost use Rattle.std.specs.Prelude.{◌≡◌, ◌<◌, ◌&&◌, not, true, length, map, None, IfOk, IfErr};
+ghost use Rattle.std.specs.List.{filter};
+ghost use Rattle.smpl_patch.specs.Bodies.{body};
+ghost use Rattle.ctl_formula.specs.Plain.{fits};
+ghost use Rattle.ctl_formula.specs.Tables.{at, plains, Makes};
+ghost use Rattle.ctl_translate.specs.Placing as placing;
+ghost use Rattle.ctl_translate.specs.Rules as rules;
+ghost use Rattle.ctl_translate.specs.Settings.{reading_at};
+ghost use Rattle.ctl_translate.specs.Answers.{IsFormulaOf, IsFaultOf};
+ghost use Rattle.ctl_translate.specs.Unbound.{stays_unbound};
+
+use crate::blocks::blocks;
+use crate::follow::Made;
+use crate::place::is_alone;
+use crate::rows::sequence;
+use crate::setting::Setting;
+use c_terms::NoMemory;
+use ctl_formula::{Binds, Formula, Parts, bounds, copy_decls, copy_tokens};
+use smpl_patch::{Elem, Mode, Rule, VarDecl, has_var};
+use smpl_terms::Var;
+use sqlite_items::Items;
+use std::alloc::{AllocError, Global};
+
+/// Why a rule has no formula that may be used.
+#[derive(Drop)]
+pub enum FormulaFault {
+    /// It has more than 100,000 subformulas, or one inside more than 4,000 others.
+    TooLarge,
+    /// It isn't too large, and this is the first variable in declared order that may stay unbound.
+    Unbound(Var),
+    /// Memory was refused.
+    NoMemory,
+}
+
+impl From<NoMemory> for FormulaFault {
+    ghost use Rattle.ctl_translate.specs.declared.rule.FormulaFault.TheVariants as fault;
+
+    ghost from_gives = { λ _ e. e ≡ fault.NoMemory };
+
+    fn from(_: NoMemory) -> Self {
+        FormulaFault::NoMemory
+    }
+}
+
+impl From<AllocError> for FormulaFault {
+    ghost use Rattle.ctl_translate.specs.declared.rule.FormulaFault.TheVariants as fault;
+
+    ghost from_gives = { λ _ e. e ≡ fault.NoMemory };
+
+    fn from(_: AllocError) -> Self {
+        FormulaFault::NoMemory
+    }
+}
+
+fn ranges_over_all(mode: Mode) -> bool
+    ensures { result ≡ rules.ranges_over_all mode }
+{
+    match mode {
+        Mode::Exists => false,
+        Mode::Forall => true,
+    }
+}
+
+fn is_local(rule: &Rule, d: &VarDecl) -> bool
+    ensures { result ≡ (not d.now.inherited && not (rules.is_exported rule.now d.now.var)) }
+{
+    !d.inherited && !has_var(rule.exports.as_slice(), &d.var)
+}
+
+/// The variables that are neither exported nor inherited.
+fn locals(alloc: Global, rule: &Rule) -> Result<Items<Var>, NoMemory>
+    ensures { IfOk result (λ found. found ≡ rules.locals rule.now) }
+{
+    let mut found = Items::new(alloc);
+    for d in rule.vars.as_slice() {
+        if is_local(rule, d) {
+            found.push(d.var.copy(alloc)?)?;
+        }
+    }
+    Ok(found)
+}
+
+/// Those of the variables that occur in `when` code alone.
+fn alone(alloc: Global, m: &Setting, b: &[Elem]) -> Result<Items<Var>, NoMemory>
+    ensures { IfOk result (λ found. found
+        ≡ filter (placing.is_alone (reading_at m.now) (body b.now)) m.now.locals.now) }
+{
+    let mut found = Items::new(alloc);
+    for x in m.locals {
+        if is_alone(m, b, x) {
+            found.push(x.copy(alloc)?)?;
+        }
+    }
+    Ok(found)
+}
+
+/// Those that are quantified at parts of the body.
+fn placed(alloc: Global, m: &Setting, b: &[Elem]) -> Result<Items<Var>, NoMemory>
+    ensures { IfOk result (λ found. found
+        ≡ filter (λ x. not (placing.is_alone (reading_at m.now) (body b.now) x)) m.now.locals.now) }
+{
+    let mut found = Items::new(alloc);
+    for x in m.locals {
+        if !is_alone(m, b, x) {
+            found.push(x.copy(alloc)?)?;
+        }
+    }
+    Ok(found)
+}
+
+/// The part that the rule's formula is.
+fn root(alloc: Global, parts: &mut Parts, rule: &Rule) -> Result<usize, NoMemory>
+    ensures made { IfOk result (λ i. Makes parts.old parts.new i (rules.formula_of rule.now)) }
+{
+    let b = rule.body.as_slice();
+    let decls = rule.vars.as_slice();
+    let tokens = rule.tokens.as_slice();
+    let locals = locals(alloc, rule)?;
+    let locals = locals.as_slice();
+    let blocks = blocks(alloc, b)?;
+    let blocks = blocks.as_slice();
+    let forall_walks = ranges_over_all(rule.mode);
+    let m = Setting {
+        decls,
+        tokens,
+        forall_walks,
+        locals,
+        alone: &[],
+        blocks,
+    };
+    let alone = alone(alloc, &m, b)?;
+    let alone = alone.as_slice();
+    let placed = placed(alloc, &m, b)?;
+    let placed = placed.as_slice();
+    let m = Setting { alone, ..m };
+    sequence(alloc, parts, &m, b, None, &Made::Nothing, placed, &[])
+}
+
+/// Whether a declared variable may stay unbound, by what the rule's formula says of it.
+fn may_stay_unbound(rule: &Rule, d: &VarDecl, root: Binds) -> bool
+    ensures { result ≡ stays_unbound rule.now d.now root }
+{
+    if d.inherited {
+        return false;
+    }
+    if has_var(rule.exports.as_slice(), &d.var) {
+        return !root.holding;
+    }
+    !root.guarded
+}
+
+fn is_unbound(
+    alloc: Global,
+    parts: &Parts,
+    root: usize,
+    rule: &Rule,
+    d: &VarDecl,
+) -> Result<bool, NoMemory>
+    requires within { root < length parts.now }
+    requires root { at (plains parts.now) root ≡ rules.formula_of rule.now }
+    ensures { IfOk result (λ unbound. unbound ≡ rules.is_unbound rule.now d.now) }
+{
+    let decls = rule.vars.as_slice();
+    let known = bounds(alloc, parts, decls, rule.tokens.as_slice(), &d.var)?;
+    Ok(may_stay_unbound(rule, d, known[root]))
+}
+
+/// The first declared variable that may stay unbound.
+fn first_unbound(
+    alloc: Global,
+    parts: &Parts,
+    root: usize,
+    rule: &Rule,
+) -> Result<Option<Var>, NoMemory>
+    requires within { root < length parts.now }
+    requires root { at (plains parts.now) root ≡ rules.formula_of rule.now }
+    ensures { IfOk result (λ found. found ≡ rules.first_unbound rule.now) }
+{
+    for d in rule.vars.as_slice() {
+        if is_unbound(alloc, parts, root, rule, d)? {
+            return Ok(Some(d.var.copy(alloc)?));
+        }
+    }
+    Ok(None)
+}
+
+/// The formula that a part is, with the rule's declarations and tokens.
+fn formula(alloc: Global, parts: Parts, root: usize, rule: &Rule) -> Result<Formula, NoMemory>
+    requires within { root < length parts }
+    requires root { at (plains parts) root ≡ rules.formula_of rule.now }
+    requires fits { fits (rules.formula_of rule.now) ≡ true }
+    requires bound { rules.first_unbound rule.now ≡ None }
+    ensures { IfOk result (λ formula. IsFormulaOf rule.now formula) }
+{
+    let decls = copy_decls(alloc, rule.vars.as_slice())?;
+    let tokens = copy_tokens(alloc, rule.tokens.as_slice())?;
+    Ok(Formula::of(parts, root, decls, tokens))
+}
+
+/// The formula of a rule, with the rule's declarations and tokens. Where it is too large, that is said, whether or not
+/// it has variables that may stay unbound.
+pub fn formula_of(alloc: Global, rule: &Rule) -> Result<Formula, FormulaFault>
+    ensures formula { IfOk result (λ formula. IsFormulaOf rule.now formula) }
+    ensures fault { IfErr result (λ fault. IsFaultOf rule.now fault) }
+{
+    let mut parts = Parts::new(alloc);
+    let root = root(alloc, &mut parts, rule)?;
+    if !parts.fits(root) {
+        return Err(FormulaFault::TooLarge);
+    }
+    let unbound = first_unbound(alloc, &parts, root, rule)?;
+    match unbound {
+        Some(x) => Err(FormulaFault::Unbound(x)),
+        None => {
+            let formula = formula(alloc, parts, root, rule)?;
+            Ok(formula)
+        }
+    }
+}

@@ -180,9 +180,9 @@ module _ (decls : List VarDecl) (tokens : List PatToken) (env : Environment) (x 
 
   token_law : (k : NodeKind) (a : Token) (form t : Tree) (p q r : Bool)
       → (if p then option_fits (fits_tree decls tokens env form) (open_brace k t)
-        else if q then option_fits (fits_tree decls tokens env form) (close_brace k t)
-        else if r then is_statement_node k && fits_tree decls tokens env form t
-        else is_simple_node k && fits_tree decls tokens env form t) ≡ true
+      else if q then option_fits (fits_tree decls tokens env form) (close_brace k t)
+      else if r then is_statement_node k && fits_tree decls tokens env form t
+      else is_simple_node k && fits_tree decls tokens env form t) ≡ true
       → Gives form t
   token_law k a form t true q r h s =
       let u = option_some (fits_tree decls tokens env form) (open_brace k t) h in open_has k (env x) u.0 t u.1 (given form u.0 u.2 s)
@@ -207,7 +207,7 @@ module _ (decls : List VarDecl) (tokens : List PatToken) (env : Environment) (x 
 
   tail_law : (k : NodeKind) (t form : Tree) → At spot.Tail k t form
   tail_law k t = tree_cases (At spot.Tail k t)
-      (λ a h s. let f = sym (ap (λ y. own_fits decls tokens env kind.DoTail y t) (out-Leaf a)) ∙ and_right _ _ h in absurd (cc))
+      (λ a h s. let f : false ≡ true = sym (ap (λ y. own_fits decls tokens env kind.DoTail y t) (out-Leaf a)) ∙ and_right _ _ h in absurd (cc))
       (λ l cs h s.
       let f = own_layer kind.DoTail l cs t (and_right _ _ h) in
       own_law kind.DoTail l cs t (and_right _ _ f) (sym (ap (λ y. any_sure decls tokens env x (held_at spot.Tail y (Branch l cs))) (out-Branch l cs)) ∙ s))

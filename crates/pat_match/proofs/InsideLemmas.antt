@@ -1,14 +1,15 @@
 -- The parts of a tree, one child more: whether one of them passes, and those that are aligned.
-use Rattle.std.proofs.Common.{◌≡◌, ℕ, suc, zero, ◌+◌, ◌-◌, ◌<◌, Bool, true, false, ◌&&◌, ◌||◌, not, cond, refl, sym, ap, ap₂, ◌∙◌, arith, List, [], ◌∷◌, ◌++◌, map, length, take, drop, get_or, drop-cons, append_assoc, length-append, if◌then◌else◌}
+use Rattle.std.proofs.Common.{◌≡◌, ℕ, suc, zero, ◌+◌, ◌-◌, ◌<◌, ◌≤◌, Bool, true, false, ◌&&◌, ◌||◌, not, cond, refl, sym, ap, ap₂, ◌∙◌, arith, List, [], ◌∷◌, ◌++◌, map, length, take, drop, get_or, drop-cons, append_assoc, length-append, if◌then◌else◌}
 use Rattle.std.proofs.Math.Seq.{take-append_seam}
 use Rattle.std.proofs.lemmas.Grind.{common_steps}
 use Rattle.std.specs.List.{list_any}
 use Rattle.c_terms.specs.declared.label.Label.{Label}
 use Rattle.c_terms.specs.declared.tree.Tree.{Tree}
-use Rattle.c_terms.specs.declared.tree.Tree.TheVariants.{Branch}
+use Rattle.c_terms.specs.declared.token.Token.{Token}
+use Rattle.c_terms.specs.declared.tree.Tree.TheVariants.{Leaf, Branch}
 use Rattle.c_terms.specs.Places.{Place, below, part_at, parts, parts_from}
 use Rattle.c_terms.specs.Shapes.{is_expression_part}
-use Rattle.c_terms.proofs.PlaceLaws.{child_known, parts-Branch}
+use Rattle.c_terms.proofs.PlaceLaws.{child_known, parts-Leaf, parts-Branch}
 use Rattle.smpl_terms.specs.Environments.{Environment}
 use Rattle.cfg_graph.specs.declared.label.NodeKind.{NodeKind}
 use Rattle.smpl_patch.specs.declared.pattern.VarDecl.{VarDecl}
@@ -17,6 +18,7 @@ use Rattle.smpl_patch.specs.declared.pattern.Pattern.{Pattern}
 use Rattle.pat_match.specs.declared.aligning.Alignment.{Alignment}
 use Rattle.pat_match.specs.Spots.{parts_of_child, own_parts_from}
 use Rattle.pat_match.specs.Matching.{put_form, form_at, aligned_at}
+use Rattle.pat_match.proofs.RowLemmas.{drop_past}
 
 -- the parts of the children from number i on
 abbrev pub kids_parts : Label → ℕ → List Tree → List Place
@@ -81,6 +83,44 @@ any_own_step q own l cs i j c a d w n lt e g h =
     ap (λ m. d || list_any (λ s. q s.tree) (own_parts_from own l m (drop m cs))) n
     ∙ or_assoc a _ _ d w g (ap (λ b. a || b) (sym k) ∙ h)
 
+or_nothing : (d : Bool) → (d || false) ≡ d
+or_nothing true = refl
+or_nothing false = refl
+
+or_three : (a b c : Bool) → ((a || b) || c) ≡ (a || (b || c))
+or_three true b c = refl
+or_three false b c = refl
+
+-- once no child is left, a child and the parts inside it have been asked
+pub any_child_done : (q : Tree → Bool) (l : Label) (i : ℕ) (c : Tree) (inner : Label) (cs : List Tree) (j : ℕ) (asked a o d : Bool) → length cs ≤ j → asked ≡ is_expression_part l i c
+    → o ≡ (a || (asked && q c)) → (d || list_any (λ s. q s.tree) (kids_parts inner j (drop j cs))) ≡ (o || list_any (λ s. q s.tree) (parts is_expression_part c))
+    → d ≡ (a || list_any (λ s. q s.tree) (parts_of_child l i c))
+any_child_done q l i c inner cs j asked a o d le e g h =
+    let none : kids_parts inner j (drop j cs) ≡ [] = ap (kids_parts inner j) (drop_past cs j le) in
+    sym (or_nothing d) ∙ ap (λ ps. d || list_any (λ (s : Place). q s.tree) ps) (sym none) ∙ h
+    ∙ ap (λ b. b || list_any (λ (s : Place). q s.tree) (parts is_expression_part c)) (g ∙ ap (λ b. a || (b && q c)) e)
+    ∙ or_three a (is_expression_part l i c && q c) (list_any (λ (s : Place). q s.tree) (parts is_expression_part c))
+    ∙ ap (λ b. a || b) (sym (any-child q l i c))
+
+pub any_own_done : (q : Tree → Bool) (own : ℕ → Bool) (l : Label) (cs : List Tree) (i : ℕ) (d w : Bool) → length cs ≤ i
+    → (d || list_any (λ s. q s.tree) (own_parts_from own l i (drop i cs))) ≡ w → d ≡ w
+any_own_done q own l cs i d w le h =
+    let none : own_parts_from own l i (drop i cs) ≡ [] = ap (own_parts_from own l i) (drop_past cs i le) in
+    sym (or_nothing d) ∙ ap (λ ps. d || list_any (λ (s : Place). q s.tree) ps) (sym none) ∙ h
+
+-- a form that isn't live fits no seat
+any_no : (ps : List Place) → list_any (λ s. false) ps ≡ false
+any_no [] = refl
+any_no (s ∷ ps) = any_no ps
+
+pub no_seat : (b : Bool) (q : Place → Bool) (ps : List Place) → list_any q ps ≡ false → list_any (λ s. b && q s) ps ≡ false
+no_seat true q ps h = h
+no_seat false q ps h = any_no ps
+
+pub not_live : (b : Bool) (q : Place → Bool) (ps : List Place) → b ≡ false → list_any (λ s. b && q s) ps ≡ false
+not_live true q ps h = absurd (cc)
+not_live false q ps h = any_no ps
+
 -- those that are aligned
 
 module _ (decls : List VarDecl) (tokens : List PatToken) (env : Environment) (p : Pattern) (k : NodeKind) where
@@ -132,3 +172,28 @@ module _ (decls : List VarDecl) (tokens : List PatToken) (env : Environment) (p 
       ∙ append_assoc old (aligned above ps) (aligned above (own_parts_from own l (suc i) (drop (suc i) cs)))
       ∙ ap (λ xs. old ++ xs) (sym (ap (aligned above) (own_step own l cs i c lt e) ∙ aligned-append above ps (own_parts_from own l (suc i) (drop (suc i) cs))))
       ∙ h
+
+  -- a child that is aligned, where it is asked for, and then the parts inside it
+  pub aligned_whole : (above now : List ℕ) (l : Label) (i : ℕ) (c : Tree) (old part : List Alignment) (asked : Bool) → asked ≡ is_expression_part l i c → now ≡ above ++ i ∷ []
+      → part ≡ old ++ (if asked then put_form now (form_at decls tokens env p k c) else [])
+      → part ++ aligned now (parts is_expression_part c) ≡ old ++ aligned above (parts_of_child l i c)
+  aligned_whole above now l i c old part asked e n g =
+      ap (λ xs. xs ++ aligned now (parts is_expression_part c)) g
+      ∙ append_assoc old (if asked then put_form now (form_at decls tokens env p k c) else []) (aligned now (parts is_expression_part c))
+      ∙ ap (λ xs. old ++ xs)
+      (ap₂ (λ b path. (if b then put_form path (form_at decls tokens env p k c) else []) ++ aligned path (parts is_expression_part c)) e n
+      ∙ sym (aligned-child above l i c))
+
+  pub aligned_done : (above now : List ℕ) (l : Label) (i : ℕ) (c : Tree) (inner : Label) (cs : List Tree) (j : ℕ) (old part all : List Alignment) (asked : Bool) → length cs ≤ j
+      → asked ≡ is_expression_part l i c → now ≡ above ++ i ∷ [] → part ≡ old ++ (if asked then put_form now (form_at decls tokens env p k c) else [])
+      → all ++ aligned now (kids_parts inner j (drop j cs)) ≡ part ++ aligned now (parts is_expression_part c) → all ≡ old ++ aligned above (parts_of_child l i c)
+  aligned_done above now l i c inner cs j old part all asked le e n g h =
+      let none : aligned now (kids_parts inner j (drop j cs)) ≡ [] = ap (λ ds. aligned now (kids_parts inner j ds)) (drop_past cs j le) in
+      sym (append-nil all) ∙ ap (λ xs. all ++ xs) (sym none) ∙ h ∙ aligned_whole above now l i c old part asked e n g
+
+  pub aligned_leaf : (above now : List ℕ) (l : Label) (i : ℕ) (c : Tree) (a : Token) (old part : List Alignment) (asked : Bool) → c ≡ Leaf a
+      → asked ≡ is_expression_part l i c → now ≡ above ++ i ∷ [] → part ≡ old ++ (if asked then put_form now (form_at decls tokens env p k c) else [])
+      → part ≡ old ++ aligned above (parts_of_child l i c)
+  aligned_leaf above now l i c a old part asked s e n g =
+      let none : parts is_expression_part c ≡ [] = ap (parts is_expression_part) s ∙ parts-Leaf is_expression_part a in
+      sym (append-nil part) ∙ ap (λ ps. part ++ aligned now ps) (sym none) ∙ aligned_whole above now l i c old part asked e n g

@@ -151,6 +151,6 @@ has-run l cs v j k s h =
     let here = runs_any (is_term v) l (take j (members cs)) (take k (drop j (members cs))) (drop k (drop j (members cs))) h in
     let all : list_any (is_term v) (runs l (members cs)) ≡ true = ap (λ ms. list_any (is_term v) (runs l ms)) (sym (parted (members cs) j k)) ∙ here in
     let shaped : list_any (is_term v) (runs_at (out-Tree (Branch l cs))) ≡ true =
-        ap (λ layer. list_any (is_term v) (runs_at layer)) (out-Branch l cs) ∙ ap (λ r. list_any (is_term v) (runs_of_shape r l cs)) s ∙ all in
+    ap (λ layer. list_any (is_term v) (runs_at layer)) (out-Branch l cs) ∙ ap (λ r. list_any (is_term v) (runs_of_shape r l cs)) s ∙ all in
     or_left _ _ (ap (list_any (is_term v)) (terms-Branch l cs) ∙ list_any-append (is_term v) (terms_at (Branch l cs)) (join (map terms_in cs))
     ∙ or_left _ _ (or_right (is_term v (Branch l cs)) _ shaped))

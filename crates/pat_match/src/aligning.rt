@@ -98,7 +98,7 @@ fn put_part(
     requires few { length p.now.forms < 2 ^ 32 }
     ensures { IfOk result (λ _. found.new.items ≡ found.old.items
         ++ (if asked then of.put_form path.now (of.form_at decls.now tokens.now (total env.now) p.now kind tree.now)
-            else [])) }
+        else [])) }
 {
     if !asked {
         return Ok(());
@@ -145,11 +145,14 @@ fn put_child(
         above.as_slice(),
         child,
     )?;
-    if let Tree::Branch(inner, children) = child {
-        for (j, below) in children.as_slice().iter().enumerate() {
-            put_child(
-                alloc, found, above, p, decls, tokens, kind, env, *inner, j, below,
-            )?;
+    match child {
+        Tree::Leaf(_) => {}
+        Tree::Branch(inner, children) => {
+            for (j, below) in children.as_slice().iter().enumerate() {
+                put_child(
+                    alloc, found, above, p, decls, tokens, kind, env, *inner, j, below,
+                )?;
+            }
         }
     }
     above.pop();

@@ -147,7 +147,7 @@ fn fit_every(
     ensures meaning { IfOk result (λ r. (env : Environment) → set_denotes r env
         ≡ (list_all (λ f. is_bare_sign tokens.now (leaf_of (out-Tree f))) forms.now
         && list_all (λ f. is_sign_token (leaf_of (out-Tree f))
-            || fits_tree decls.now tokens.now env f tree.now) forms.now)) }
+        || fits_tree decls.now tokens.now env f tree.now) forms.now)) }
     ensures vars { IfOk result (λ r. (t : Var → Bool)
         → list_all (form_vars decls.now tokens.now t) forms.now ≡ true →
         set_vars t r ≡ true) }

@@ -149,7 +149,15 @@ pub fn fit_inside(
     match tree {
         Tree::Leaf(_) => Ok(EnvSet::none(alloc)),
         Tree::Branch(label, children) => {
-            fit_own_parts(alloc, decls, tokens, kind, form, *label, children.as_slice())
+            fit_own_parts(
+                alloc,
+                decls,
+                tokens,
+                kind,
+                form,
+                *label,
+                children.as_slice(),
+            )
         }
     }
 }

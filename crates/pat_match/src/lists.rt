@@ -90,7 +90,11 @@ pub fn list_members<'a>(
     Ok(found)
 }
 
-fn push_comma(alloc: Global, children: &mut Items<Tree>, member: &ListMember) -> Result<(), NoMemory>
+fn push_comma(
+    alloc: Global,
+    children: &mut Items<Tree>,
+    member: &ListMember,
+) -> Result<(), NoMemory>
     ensures { OnOk result (children.new ≡ children.old ++ comma_kids member.now.comma) }
 {
     if let Some(token) = member.comma {
@@ -231,12 +235,7 @@ pub fn is_bare_before(tokens: &[PatToken], forms: &[Tree], i: usize) -> bool
 }
 
 /// The environments in which the list variable is the run.
-fn fit_value(
-    alloc: Global,
-    decls: &[VarDecl],
-    name: &[u8],
-    run: &Tree,
-) -> Result<EnvSet, NoMemory>
+fn fit_value(alloc: Global, decls: &[VarDecl], name: &[u8], run: &Tree) -> Result<EnvSet, NoMemory>
     ensures meaning { IfOk result (λ r. (env : Environment) → set_denotes r env
         ≡ value_is decls.now env (declared_as decls.now name.now) run.now) }
     ensures vars { IfOk result (λ r. (t : Var → Bool)

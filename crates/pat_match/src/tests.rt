@@ -170,7 +170,14 @@ fn sum(alloc: Global) -> Result<Tree, NoMemory> {
 fn in_a_sum(alloc: Global, value: &[u8], wanted: Wanted) -> Result<bool, NoMemory> {
     let tree = sum(alloc)?;
     let form = call_of(alloc, meta(alloc)?)?;
-    says(alloc, Spot::Inside, form, &tree, name(alloc, value, 7)?, wanted)
+    says(
+        alloc,
+        Spot::Inside,
+        form,
+        &tree,
+        name(alloc, value, 7)?,
+        wanted,
+    )
 }
 
 /// `f(E)` in `f(f(x));`, where `E` is `x`
@@ -178,7 +185,14 @@ fn in_a_call(alloc: Global, wanted: Wanted) -> Result<bool, NoMemory> {
     let inner = call_of(alloc, name(alloc, b"x", 20)?)?;
     let tree = statement(alloc, call_of(alloc, inner)?)?;
     let form = call_of(alloc, meta(alloc)?)?;
-    says(alloc, Spot::Inside, form, &tree, name(alloc, b"x", 7)?, wanted)
+    says(
+        alloc,
+        Spot::Inside,
+        form,
+        &tree,
+        name(alloc, b"x", 7)?,
+        wanted,
+    )
 }
 
 /// `f(..., E, ...)`
@@ -207,7 +221,14 @@ fn three_arguments(alloc: Global) -> Result<Tree, NoMemory> {
 fn among_three(alloc: Global, value: &[u8], wanted: Wanted) -> Result<bool, NoMemory> {
     let tree = three_arguments(alloc)?;
     let form = between_dots(alloc)?;
-    says(alloc, Spot::Inside, form, &tree, name(alloc, value, 7)?, wanted)
+    says(
+        alloc,
+        Spot::Inside,
+        form,
+        &tree,
+        name(alloc, value, 7)?,
+        wanted,
+    )
 }
 
 /// `f(E);` as a whole statement, at `f(1);`, where `E` is `1`

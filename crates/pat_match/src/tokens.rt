@@ -25,7 +25,11 @@ pub fn is_tree(alloc: Global, var: &Var, tree: &Tree) -> Result<EnvSet, NoMemory
         ≡ same (Term tree.now) (env var.now)) }
     ensures vars { IfOk result (λ r. (t : Var → Bool) → t var.now ≡ true → set_vars t r ≡ true) }
 {
-    EnvSet::one(alloc, var, Bound::Is(Value::term(alloc, tree.copy(alloc)?)?))
+    EnvSet::one(
+        alloc,
+        var,
+        Bound::Is(Value::term(alloc, tree.copy(alloc)?)?),
+    )
 }
 
 /// The environments in which the variable isn't this place.

@@ -21,7 +21,10 @@ use Rattle.smpl_patch.specs.declared.pattern.VarKind.TheVariants as var_kind
 use Rattle.smpl_terms.specs.Environments.{Environment}
 use Rattle.cfg_graph.specs.declared.label.NodeKind.TheVariants as node
 use Rattle.cfg_graph.specs.Own.{is_own}
-use Rattle.pat_match.specs.Fitting.{Piece, Pair, is_constant_name, token_is_of, label_is_of, is_of_kind, is_named, stands_at, meta_fits, token_fits, fits_by, pairs_by, runs_from, fewest, comma_fits, is_wild_kind}
+use Rattle.pat_match.specs.Kinds.{is_constant_name, token_is_of, label_is_of, is_of_kind, is_named}
+use Rattle.pat_match.specs.Tokens.{stands_at, meta_fits, token_fits}
+use Rattle.pat_match.specs.Runs.{Piece, Pair, runs_from, fewest, comma_fits, is_wild_kind}
+use Rattle.pat_match.specs.Fitting.{fits_by, pairs_by}
 use Rattle.pat_match.specs.Spots.{is_statement_node, token_whole, branch_whole, own_fit}
 
 abbrev token : TokenKind → List ℕ → ℕ → Token

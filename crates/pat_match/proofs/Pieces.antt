@@ -16,7 +16,9 @@ use Rattle.c_terms.specs.Trees.{leaves}
 use Rattle.smpl_terms.specs.Environments.{Environment}
 use Rattle.smpl_patch.specs.declared.pattern.VarDecl.{VarDecl}
 use Rattle.smpl_patch.specs.declared.pattern.PatToken.{PatToken}
-use Rattle.pat_match.specs.Fitting.{Piece, piece, pairs_by, piece_step, leaf_fits, fits_by, fits_tree, leaf_of, all_fit, is_bare_sign, is_sign_token}
+use Rattle.pat_match.specs.Tokens.{leaf_fits}
+use Rattle.pat_match.specs.Runs.{Piece}
+use Rattle.pat_match.specs.Fitting.{piece, pairs_by, piece_step, fits_by, fits_tree, leaf_of, all_fit, is_bare_sign, is_sign_token}
 use Rattle.c_terms.specs.declared.shape.Shape.{Shape}
 use Rattle.c_terms.specs.declared.shape.Shape.TheVariants as shape
 use Rattle.c_terms.specs.Shapes.{shape_of}

@@ -1,30 +1,28 @@
--- Steps from one row of sets to the next.
-use Rattle.std.proofs.Common.{◌≡◌, ℕ, suc, zero, ◌+◌, ◌-◌, ◌<◌, ◌≤◌, Bool, true, false, ◌&&◌, ◌||◌, not, eqb, cond, refl, sym, ap, ap₂, ◌∙◌, subst, arith, List, [], ◌∷◌, map, length, take, drop, get_or, Option, Some, None, slice_get, slice_index_or, drop-cons, length-drop, length-append, ◌++◌}
+-- Rows, one entry more and one child more.
+use Rattle.std.proofs.Common.{◌≡◌, ℕ, suc, zero, ◌+◌, ◌-◌, ◌<◌, ◌≤◌, Bool, true, false, ◌&&◌, ◌||◌, not, cond, nat_eq, nat_lt, nat_le, refl, sym, ap, ap₂, ◌∙◌, subst, arith, List, [], ◌∷◌, map, length, take, drop, get_or, Option, Some, None, slice_get, drop-cons, length-drop, ◌++◌}
 use Rattle.std.proofs.lemmas.Bool.Decides.{nat_tests}
 use Rattle.std.proofs.lemmas.Grind.{common_steps}
-use Rattle.std.proofs.lemmas.List.{get_or-drop}
 use Rattle.std.specs.List.{list_any}
-use Rattle.std.proofs.lemmas.List.Folds.{list_any_more}
 use Rattle.c_terms.specs.declared.token.Token.{Token}
+use Rattle.c_terms.specs.declared.token.TokenKind.{TokenKind}
+use Rattle.c_terms.specs.declared.token.TokenKind.TheVariants as kind
 use Rattle.c_terms.specs.declared.label.Label.{Label}
+use Rattle.c_terms.specs.declared.list.Member.{Member}
 use Rattle.c_terms.specs.declared.tree.Tree.{Tree, out-Tree}
+use Rattle.c_terms.specs.declared.tree.Tree.TheOpen.{Tree-F}
+use Rattle.c_terms.specs.Lists.{comma, comma_at, is_comma, is_punct}
 use Rattle.smpl_terms.specs.Environments.{Environment}
 use Rattle.env_sets.specs.Sets.{set_denotes}
 use Rattle.smpl_patch.specs.declared.pattern.VarDecl.{VarDecl}
 use Rattle.smpl_patch.specs.declared.pattern.PatToken.{PatToken}
-use Rattle.pat_match.specs.Fitting.{Piece, piece, takes, some_below, runs_from, as_comma, leaf_of, list_fits, single_fits, fits_tree, comma_fits, is_bare, is_bare_comma, stands_at}
-use Rattle.c_terms.specs.declared.list.Member.{Member}
-use Rattle.c_terms.specs.Lists.{comma, comma_at, is_comma, members}
-use Rattle.c_terms.specs.declared.tree.Tree.TheOpen.{Tree-F}
-use Rattle.pat_match.specs.Rows.{SetOf, step_at, IsStep, IsRow, IsLast, comma_before}
+use Rattle.pat_match.specs.declared.rows.RowEntry.{RowEntry}
+use Rattle.pat_match.specs.Tokens.{is_bare, stands_at}
+use Rattle.pat_match.specs.Runs.{Piece, takes, some_below, runs_from, as_comma, single_fits, comma_fits, run_fits, is_bare_comma, is_wild, is_wild_kind}
+use Rattle.pat_match.specs.Fitting.{piece, leaf_of, fits_tree}
+use Rattle.pat_match.specs.Rows.{comma_before, first_is_wild, row_at, last_at, step_at, wild_entry, single_entry, IsStep, fits_from, IsRow}
 use Rattle.pat_match.proofs.Pieces.{piece-token}
 
-pub some_below-agree : (f g : ℕ → Bool) (n : ℕ) → ((k : ℕ) → k < n → f k ≡ g k) → some_below f n ≡ some_below g n
-some_below-agree f g zero h = refl
-some_below-agree f g (suc n) h = let a = some_below-agree f g n (λ k lt. h k (omega arith)) in let b = h n (omega arith) in cc
-
-pub some_below-suc : (f : ℕ → Bool) (n m : ℕ) → m ≡ suc n → some_below f m ≡ (some_below f n || f n)
-some_below-suc f n m e = ap (some_below f) e
+-- lists
 
 pub comma_before_at : (ts : List Tree) (i k : ℕ) (x : Tree) → i ≡ suc k → k < length ts → x ≡ get_or ts k x → comma_before ts i ≡ comma x
 comma_before_at ts zero k x e lt g = absurd (omega arith)
@@ -49,14 +47,187 @@ drop_more xs zero k = let e : k ≡ 0 + k = omega arith in ap (λ n. drop n xs) 
 drop_more {X = X} [] (suc j) k = drop_nil X k ∙ sym (drop_nil X (suc j + k))
 drop_more (x ∷ xs) (suc j) k = let e : suc (j + k) ≡ suc j + k = omega arith in drop_more xs j k ∙ ap (λ n. drop n (x ∷ xs)) e
 
+take_whole : {X : Type 0} (xs : List X) → take (length xs) xs ≡ xs
+take_whole [] = refl
+take_whole (x ∷ xs) = ap (λ ys. x ∷ ys) (take_whole xs)
+
+pub tail_slice : {X : Type 0} (xs : List X) (j : ℕ) → take (length xs - j) (drop j xs) ≡ drop j xs
+tail_slice xs j = ap (λ n. take n (drop j xs)) (sym (length-drop j xs)) ∙ take_whole (drop j xs)
+
+pub take_all : {X : Type 0} (xs : List X) (n : ℕ) → length xs ≤ n → take n xs ≡ xs
+take_all [] zero le = refl
+take_all [] (suc n) le = refl
+take_all (x ∷ xs) zero le = absurd (omega arith)
+take_all (x ∷ xs) (suc n) le = ap (λ ys. x ∷ ys) (take_all xs n (omega arith))
+
+pub drop_past : {X : Type 0} (xs : List X) (n : ℕ) → length xs ≤ n → drop n xs ≡ []
+drop_past [] zero le = refl
+drop_past [] (suc n) le = refl
+drop_past (x ∷ xs) zero le = absurd (omega arith)
+drop_past (x ∷ xs) (suc n) le = drop_past xs n (omega arith)
+
+pub map_same : {X : Type 0} (xs : List X) → map (λ x. x) xs ≡ xs
+map_same [] = refl
+map_same (x ∷ xs) = ap (λ ys. x ∷ ys) (map_same xs)
+
+pub bare_and : (b r a : Bool) → r ≡ b → r ≡ true → a ≡ (b && a)
+bare_and true r a e t = refl
+bare_and false r a e t = absurd (cc)
+
+pub last_bare : (b : Bool) (n m : ℕ) → b ≡ false → last_at b n m ≡ false
+last_bare b n m e = ap (λ b. b && nat_eq n m) e
+
+pub last_uneven : (b : Bool) (n m : ℕ) → (m ≡ n → ⊥) → last_at b n m ≡ false
+last_uneven b n m ne = let e : nat_eq n m ≡ false = grind (arith, nat_tests) in grind (arith, common_steps)
+
+-- for some number below n
+
+pub some_below-agree : (f g : ℕ → Bool) (n : ℕ) → ((k : ℕ) → k < n → f k ≡ g k) → some_below f n ≡ some_below g n
+some_below-agree f g zero h = refl
+some_below-agree f g (suc n) h = let a = some_below-agree f g n (λ k lt. h k (omega arith)) in let b = h n (omega arith) in cc
+
+none_below : (f : ℕ → Bool) (n : ℕ) → ((k : ℕ) → k < n → f k ≡ false) → some_below f n ≡ false
+none_below f zero h = refl
+none_below f (suc n) h =
+    let a = none_below f n (λ k lt. h k (omega arith)) in let b = h n (omega arith) in grind (arith, common_steps)
+
+either_below : (f x y : ℕ → Bool) (n : ℕ) → some_below (λ k. f k && (x k || y k)) n ≡ (some_below (λ k. f k && x k) n || some_below (λ k. f k && y k) n)
+either_below f x y zero = refl
+either_below f x y (suc n) = let h = either_below f x y n in grind (arith, common_steps)
+
+-- only the number 1 passes
+pub one_below : (f : ℕ → Bool) (n : ℕ) → 1 < n → ((k : ℕ) → k < n → (k ≡ 1 → ⊥) → f k ≡ false) → some_below f n ≡ f 1
+one_below f zero lt h = absurd (omega arith)
+one_below f (suc zero) lt h = absurd (omega arith)
+one_below f (suc (suc zero)) lt h = let a = h 0 (omega arith) (λ e. omega (arith, e)) in grind (arith, common_steps)
+one_below f (suc (suc (suc n))) lt h =
+    let r = one_below f (suc (suc n)) (omega arith) (λ k less ne. h k (omega arith) ne) in
+    let a = h (suc (suc n)) (omega arith) (λ e. omega (arith, e)) in grind (arith, common_steps)
+
+at_most_empty : (T : Bool) (d lt le : Bool) → lt ≡ false → false ≡ (le && (lt && (T && d)))
+at_most_empty T d lt le e = grind (arith, common_steps)
+
+pick_here : (T d R le lt : Bool) (b c : Bool) → b ≡ true → R ≡ false → le ≡ true → lt ≡ true → c ≡ T → (R || (T && (b && d))) ≡ (le && (lt && (c && d)))
+pick_here T d R le lt b c e f g h k = grind (arith, common_steps)
+
+pick_other : (T d R b w : Bool) → b ≡ false → R ≡ w → (R || (T && (b && d))) ≡ w
+pick_other T d R b w e f = grind (arith, common_steps)
+
+-- a number that must be n + k picks one k
+pick_one : (T : ℕ → Bool) (d : Bool) (a n m : ℕ) → some_below (λ k. T k && (nat_eq a (n + k) && d)) m ≡ (nat_le n a && (nat_lt a (n + m) && (T (a - n) && d)))
+pick_one T d a n zero = by (nat_lt a (n + 0)) (nat_le n a) refl refl
+  where
+    by : (lt le : Bool) → nat_lt a (n + 0) ≡ lt → nat_le n a ≡ le → false ≡ (nat_le n a && (nat_lt a (n + 0) && (T (a - n) && d)))
+    by lt le e f = grind (arith, nat_tests, common_steps)
+pick_one T d a n (suc m) = by (nat_eq a (n + m)) refl (pick_one T d a n m)
+  where
+    by : (b : Bool) → nat_eq a (n + m) ≡ b → some_below (λ k. T k && (nat_eq a (n + k) && d)) m ≡ (nat_le n a && (nat_lt a (n + m) && (T (a - n) && d)))
+        → (some_below (λ k. T k && (nat_eq a (n + k) && d)) m || (T m && (nat_eq a (n + m) && d))) ≡ (nat_le n a && (nat_lt a (n + suc m) && (T (a - n) && d)))
+    by true e h =
+        let s : a ≡ n + m = grind (arith, nat_tests) in
+        let k : a - n ≡ m = omega (arith, s) in
+        let r : nat_lt a (n + m) ≡ false = grind (arith, nat_tests) in
+        let le : nat_le n a ≡ true = grind (arith, nat_tests) in
+        let lt : nat_lt a (n + suc m) ≡ true = grind (arith, nat_tests) in
+        pick_here (T m) d _ _ _ _ _ e (h ∙ sym (at_most_empty (T (a - n)) d _ (nat_le n a) r)) le lt (ap T k)
+    by false e h =
+        let same : nat_lt a (n + m) ≡ nat_lt a (n + suc m) = grind (arith, nat_tests, common_steps) in
+        pick_other (T m) d _ _ _ e (h ∙ ap (λ b. nat_le n a && (b && (T (a - n) && d))) same)
+
+any_agree : {X : Type 0} (f g : X → Bool) (xs : List X) → ((x : X) → f x ≡ g x) → list_any f xs ≡ list_any g xs
+any_agree f g [] h = refl
+any_agree f g (x ∷ xs) h = let a = h x in let r = any_agree f g xs h in cc
+
+-- what comes after k members is looked up entry by entry
+pick : (T : ℕ → Bool) (row : List RowEntry) (n m : ℕ) (env : Environment) → some_below (λ k. T k && row_at row (n + k) env) m
+    ≡ list_any (λ e. nat_le n e.taken && (nat_lt e.taken (n + m) && (T (e.taken - n) && set_denotes e.set env))) row
+pick T [] n m env = none_below (λ k. T k && false) m (λ k lt. grind (arith, common_steps))
+pick T (e ∷ row) n m env =
+    either_below T (λ k. nat_eq e.taken (n + k) && set_denotes e.set env) (λ k. row_at row (n + k) env) m
+    ∙ ap₂ (λ a b. a || b) (pick_one T (set_denotes e.set env) e.taken n m) (pick T row n m env)
+
+-- what a child takes
+
 layer_comma : (x : Tree-F Tree) → as_comma (leaf_of x) ≡ comma_at x
 layer_comma (Tree-F.Leaf a) = refl
 layer_comma (Tree-F.Branch l cs) = refl
 
-and_true : (b : Bool) → (b && true) ≡ b
-and_true b = grind (arith, common_steps)
+wild_punct : (l : Label) (k : TokenKind) → is_wild_kind l k ≡ true → is_punct k ≡ false
+wild_punct l kind.Punct h = sym h
+wild_punct l _ h = refl
+
+wild_layer : (l : Label) (x : Tree-F Tree) → is_wild l (leaf_of x) ≡ true → comma_at x ≡ None
+wild_layer l (Tree-F.Leaf a) h = let e = wild_punct l a.kind h in grind (arith, common_steps)
+wild_layer l (Tree-F.Branch k cs) h = refl
+
+-- dots and list variables are no commas
+pub wild_comma : (l : Label) (f : Tree) → is_wild l (leaf_of (out-Tree f)) ≡ true → comma f ≡ None
+wild_comma l f h = wild_layer l (out-Tree f) h
+
+single_none : (q : Tree → Bool) (ms : List Member) (k : ℕ) → k < suc (length ms) → (k ≡ 1 → ⊥) → single_fits q (take k ms) ≡ false
+single_none q ms zero lt ne = refl
+single_none q ms (suc zero) lt ne = absurd (ne refl)
+single_none q [] (suc (suc k)) lt ne = absurd (omega arith)
+single_none q (m ∷ []) (suc (suc k)) lt ne = absurd (omega arith)
+single_none q (m ∷ n ∷ ms) (suc (suc k)) lt ne = refl
+
+and_false : (b : Bool) → (b && false) ≡ false
+and_false b = grind (arith, common_steps)
 
 module _ (decls : List VarDecl) (tokens : List PatToken) (label : Label) where
+  pub takes_wild : (env : Environment) (before : Option Token) (f : Tree) (run : List Member) → is_wild label (leaf_of (out-Tree f)) ≡ true
+      → takes decls tokens env label before (piece decls tokens env f) run
+      ≡ (comma_fits decls tokens env before run && run_fits decls tokens env label (leaf_of (out-Tree f)) run)
+  takes_wild env before f run h = let e = piece-token decls tokens env f in rw (e, h) refl
+
+  pub takes_single : (env : Environment) (before : Option Token) (f : Tree) (run : List Member) → is_wild label (leaf_of (out-Tree f)) ≡ false
+      → takes decls tokens env label before (piece decls tokens env f) run
+      ≡ (comma_fits decls tokens env before run && single_fits (fits_tree decls tokens env f) run)
+  takes_single env before f run h = let e = piece-token decls tokens env f in rw (e, h) refl
+
+  -- the entries of a row together say what the child and the row say
+  pub wild_step : (before : Option Token) (f : Tree) (ms : List Member) (row : List RowEntry) (n : ℕ) (env : Environment) → is_wild label (leaf_of (out-Tree f)) ≡ true → n ≤ length ms
+      → list_any (wild_entry decls tokens label before f ms n env) row ≡ step_at decls tokens label before f ms row n env
+  wild_step before f ms row n env w le =
+      let m = suc (length (drop n ms)) in
+      let T : ℕ → Bool = λ k. takes decls tokens env label before (piece decls tokens env f) (take k (drop n ms)) in
+      any_agree _ _ row (λ e.
+      let b : nat_le e.taken (length ms) ≡ nat_lt e.taken (n + m) = grind (arith, nat_tests, length-drop n ms) in
+      λ i. nat_le n e.taken && (b i && (sym (takes_wild env before f (take (e.taken - n) (drop n ms)) w) i && set_denotes e.set env)))
+      ∙ sym (pick T row n m env)
+
+  pub single_step : (before : Option Token) (f : Tree) (ms : List Member) (row : List RowEntry) (n : ℕ) (env : Environment) → is_wild label (leaf_of (out-Tree f)) ≡ false → n ≤ length ms
+      → list_any (single_entry decls tokens label before f ms n env) row ≡ step_at decls tokens label before f ms row n env
+  single_step before f ms row n env w le =
+      let m = suc (length (drop n ms)) in
+      let T : ℕ → Bool = λ k. takes decls tokens env label before (piece decls tokens env f) (take k (drop n ms)) in
+      any_agree _ _ row (λ e. by e (nat_eq e.taken (suc n)) refl) ∙ sym (pick T row n m env)
+    where
+      by : (e : RowEntry) (b : Bool) → nat_eq e.taken (suc n) ≡ b → single_entry decls tokens label before f ms n env e
+          ≡ (nat_le n e.taken && (nat_lt e.taken (n + suc (length (drop n ms)))
+          && (takes decls tokens env label before (piece decls tokens env f) (take (e.taken - n) (drop n ms)) && set_denotes e.set env)))
+      by e true h =
+          let s : e.taken - n ≡ 1 = grind (arith, nat_tests) in
+          let a : nat_le n e.taken ≡ true = grind (arith, nat_tests) in
+          let b : nat_le e.taken (length ms) ≡ nat_lt e.taken (n + suc (length (drop n ms))) = grind (arith, nat_tests, length-drop n ms) in
+          let t = takes_single env before f (take 1 (drop n ms)) w in
+          rw (h, s, a, b, t) refl
+      by e false h = other e h (nat_le n e.taken) refl (nat_lt e.taken (n + suc (length (drop n ms)))) refl
+        where
+          other : (e : RowEntry) → nat_eq e.taken (suc n) ≡ false → (le : Bool) → nat_le n e.taken ≡ le → (lt : Bool) → nat_lt e.taken (n + suc (length (drop n ms))) ≡ lt
+              → single_entry decls tokens label before f ms n env e
+              ≡ (nat_le n e.taken && (nat_lt e.taken (n + suc (length (drop n ms)))
+              && (takes decls tokens env label before (piece decls tokens env f) (take (e.taken - n) (drop n ms)) && set_denotes e.set env)))
+          other e h false a lt b = rw (h, a) refl
+          other e h true a false b = rw (h, a, b) refl
+          other e h true a true b =
+              let less : e.taken - n < suc (length (drop n ms)) = grind (arith, nat_tests) in
+              let none = single_none (fits_tree decls tokens env f) (drop n ms) (e.taken - n) less (λ s. grind (arith, nat_tests)) in
+              let t = takes_single env before f (take (e.taken - n) (drop n ms)) w in
+              rw (h, a, b, t, none) (ap (λ x. x && set_denotes e.set env) (sym (and_false (comma_fits decls tokens env before (take (e.taken - n) (drop n ms))))))
+
+  -- lists, one child less
+
   piece_comma : (env : Environment) (f : Tree) → as_comma (piece decls tokens env f).token ≡ comma f
   piece_comma env f = ap as_comma (piece-token decls tokens env f) ∙ layer_comma (out-Tree f)
 
@@ -93,119 +264,156 @@ module _ (decls : List VarDecl) (tokens : List PatToken) (label : Label) where
       → whole env before (f ∷ fs) ms ≡ (b && whole env (Some c) fs ms)
   comma_row env before f fs ms c b e g = at_comma env before f fs ms c e ∙ ap (λ o. o && whole env (Some c) fs ms) (bare_fits env before ∙ g)
 
-  pub row_comma : (fs : List Tree) (i : ℕ) (f : Tree) (c : Token) (ms : List Member) (row : List SetOf) → i < length fs → f ≡ get_or fs i f → comma f ≡ Some c
+  -- a comma before the i-th child, and what follows it
+  pub comma_next : (fs : List Tree) (i : ℕ) (f : Tree) (c : Token) (ms : List Member) (b : Bool) (env : Environment) → i < length fs → f ≡ get_or fs i f → comma f ≡ Some c
+      → is_bare_comma tokens (comma_before fs i) ≡ b
+      → fits_from decls tokens label (comma_before fs i) (drop i fs) ms env ≡ (b && fits_from decls tokens label (comma_before fs (suc i)) (drop (suc i) fs) ms env)
+  comma_next fs i f c ms b env lt g e bare =
+      ap (λ gs. whole env (comma_before fs i) gs ms) (drop_at fs i f lt g) ∙ comma_row env (comma_before fs i) f (drop (suc i) fs) ms c b e bare
+      ∙ ap (λ o. b && whole env o (drop (suc i) fs) ms) (sym (comma_before_at fs (suc i) i f refl lt g ∙ e))
+
+  -- a member
+  pub member_next : (fs : List Tree) (i : ℕ) (f : Tree) (ms : List Member) (env : Environment) → i < length fs → f ≡ get_or fs i f → comma f ≡ None
+      → fits_from decls tokens label (comma_before fs i) (drop i fs) ms env ≡ some_below
+      (λ k. takes decls tokens env label (comma_before fs i) (piece decls tokens env f) (take k ms)
+      && fits_from decls tokens label (comma_before fs (suc i)) (drop (suc i) fs) (drop k ms) env) (suc (length ms))
+  member_next fs i f ms env lt g e =
+      ap (λ gs. whole env (comma_before fs i) gs ms) (drop_at fs i f lt g) ∙ at_member env (comma_before fs i) f (drop (suc i) fs) ms e
+      ∙ ap (λ o. some_below (λ k. takes decls tokens env label (comma_before fs i) (piece decls tokens env f) (take k ms) && whole env o (drop (suc i) fs) (drop k ms)) (suc (length ms)))
+      (sym (comma_before_at fs (suc i) i f refl lt g ∙ e))
+
+  -- rows
+
+  pub row_comma : (fs : List Tree) (i : ℕ) (f : Tree) (c : Token) (ms : List Member) (row : List RowEntry) → i < length fs → f ≡ get_or fs i f → comma f ≡ Some c
       → is_bare_comma tokens (comma_before fs i) ≡ true
       → IsRow decls tokens label (comma_before fs (suc i)) (drop (suc i) fs) ms row → IsRow decls tokens label (comma_before fs i) (drop i fs) ms row
-  row_comma fs i f c ms row lt g e bare r = record {
-    len = r.len;
-    means = λ j less env.
-        r.means j less env ∙ ap (λ o. whole env o (drop (suc i) fs) (drop j ms)) (comma_before_at fs (suc i) i f refl lt g ∙ e)
-        ∙ sym (ap (λ gs. whole env (comma_before fs i) gs (drop j ms)) (drop_at fs i f lt g) ∙ comma_row env (comma_before fs i) f (drop (suc i) fs) (drop j ms) c true e bare);
-  }
+  row_comma fs i f c ms row lt g e bare r = λ n less env. r n less env ∙ sym (comma_next fs i f c (drop n ms) true env lt g e bare)
 
-  pub row_no_comma : (fs : List Tree) (i : ℕ) (f : Tree) (c : Token) (ms : List Member) (n : ℕ) (row : List SetOf) → i < length fs → f ≡ get_or fs i f → comma f ≡ Some c
-      → is_bare_comma tokens (comma_before fs i) ≡ false → n ≡ length ms
-      → IsLast false n row → IsRow decls tokens label (comma_before fs i) (drop i fs) ms row
-  row_no_comma fs i f c ms n row lt g e bare en r = record {
-    len = r.len ∙ ap suc en;
-    means = λ j less env. r.means j (omega (arith, en)) env
-        ∙ sym (ap (λ gs. whole env (comma_before fs i) gs (drop j ms)) (drop_at fs i f lt g) ∙ comma_row env (comma_before fs i) f (drop (suc i) fs) (drop j ms) c false e bare);
-  }
+  pub row_no_comma : (fs : List Tree) (i : ℕ) (f : Tree) (c : Token) (ms : List Member) (row : List RowEntry) → i < length fs → f ≡ get_or fs i f → comma f ≡ Some c
+      → is_bare_comma tokens (comma_before fs i) ≡ false → row ≡ [] → IsRow decls tokens label (comma_before fs i) (drop i fs) ms row
+  row_no_comma fs i f c ms row lt g e bare r = λ n less env.
+      ap (λ x. row_at x n env) r ∙ sym (comma_next fs i f c (drop n ms) false env lt g e bare)
 
-  step_rest : (before : Option Token) (fs : List Tree) (ms : List Member) (row : List SetOf) (j k : ℕ) (env : Environment)
-      → IsRow decls tokens label before fs ms row → j < suc (length ms) → k < suc (length (drop j ms))
-      → set_denotes (slice_index_or (drop j row) k []) env ≡ whole env before fs (drop k (drop j ms))
-  step_rest before fs ms row j k env r less lt =
-      ap (λ s. set_denotes s env) (get_or-drop j row k [])
-      ∙ r.means (j + k) (omega (arith, length-drop j ms)) env ∙ ap (whole env before fs) (sym (drop_more ms j k))
+  pub row_member : (fs : List Tree) (i : ℕ) (f : Tree) (ms : List Member) (old row new : List RowEntry) → i < length fs → f ≡ get_or fs i f → comma f ≡ None → row ≡ old
+      → IsRow decls tokens label (comma_before fs (suc i)) (drop (suc i) fs) ms old → IsStep decls tokens label (comma_before fs i) f ms row new
+      → IsRow decls tokens label (comma_before fs i) (drop i fs) ms new
+  row_member fs i f ms old row new lt g e same r s = λ n less env.
+      s n less env
+      ∙ some_below-agree _ _ (suc (length (drop n ms)))
+      (λ k lt. ap (λ b. takes decls tokens env label (comma_before fs i) (piece decls tokens env f) (take k (drop n ms)) && b)
+      (ap (λ x. row_at x (n + k) env) same ∙ r (n + k) (omega (arith, length-drop n ms)) env
+      ∙ ap (λ xs. fits_from decls tokens label (comma_before fs (suc i)) (drop (suc i) fs) xs env) (sym (drop_more ms n k))))
+      ∙ sym (member_next fs i f (drop n ms) env lt g e)
 
-  pub row_member : (fs : List Tree) (i : ℕ) (f : Tree) (ms : List Member) (row r : List SetOf) (n : ℕ) → n ≡ suc (length ms) → i < length fs → f ≡ get_or fs i f → comma f ≡ None
-      → IsRow decls tokens label (comma_before fs (suc i)) (drop (suc i) fs) ms row → IsStep decls tokens label (comma_before fs i) f ms row n r
-      → IsRow decls tokens label (comma_before fs i) (drop i fs) ms r
-  row_member fs i f ms row r n en lt g e old new =
-      let none = comma_before_at fs (suc i) i f refl lt g ∙ e in
-      let base = subst (λ o. IsRow decls tokens label o (drop (suc i) fs) ms row) none old in record {
-        len = new.len ∙ en;
-        means = λ j less env.
-            new.means j (omega (arith, en)) env
-            ∙ some_below-agree _ _ (suc (length (drop j ms)))
-            (λ k lt. ap (λ b. takes decls tokens env label (comma_before fs i) (piece decls tokens env f) (take k (drop j ms)) && b)
-            (step_rest None (drop (suc i) fs) ms row j k env base less lt))
-            ∙ sym (at_member env (comma_before fs i) f (drop (suc i) fs) (drop j ms) e)
-            ∙ ap (λ gs. whole env (comma_before fs i) gs (drop j ms)) (sym (drop_at fs i f lt g));
-      }
-
-  nothing_left : (env : Environment) (before : Option Token) (bare : Bool) (ms : List Member) (j : ℕ) → is_bare_comma tokens before ≡ bare → j < suc (length ms)
-      → (bare && eqb j (length ms)) ≡ whole env before [] (drop j ms)
-  nothing_left env before bare [] zero e lt = and_true bare ∙ sym e ∙ sym (bare_fits env before)
-  nothing_left env before bare [] (suc j) e lt = absurd (omega arith)
+  nothing_left : (env : Environment) (before : Option Token) (bare : Bool) (ms : List Member) (n : ℕ) → is_bare_comma tokens before ≡ bare → n < suc (length ms)
+      → last_at bare (length ms) n ≡ whole env before [] (drop n ms)
+  nothing_left env before bare [] zero e lt = let h = bare_fits env before in grind (arith, nat_tests, common_steps)
+  nothing_left env before bare [] (suc n) e lt = absurd (omega arith)
   nothing_left env before bare (m ∷ ms) zero e lt = grind (arith, nat_tests, common_steps)
-  nothing_left env before bare (m ∷ ms) (suc j) e lt = let h = nothing_left env before bare ms j e (omega arith) in grind (arith, nat_tests, common_steps)
+  nothing_left env before bare (m ∷ ms) (suc n) e lt = let h = nothing_left env before bare ms n e (omega arith) in grind (arith, nat_tests, common_steps)
 
-  pub row_last : (before : Option Token) (bare : Bool) (fs : List Tree) (ms : List Member) (n : ℕ) (r : List SetOf) → n ≡ length ms → fs ≡ [] → bare ≡ is_bare_comma tokens before
-      → IsLast bare n r → IsRow decls tokens label before fs ms r
-  row_last before bare fs ms n r e f g h = subst (λ gs. IsRow decls tokens label before gs ms r) (sym f) (record {
-    len = h.len ∙ ap suc e;
-    means = λ j less env. h.means j (omega (arith, e)) env ∙ ap (λ k. bare && eqb j k) e ∙ nothing_left env before bare ms j (sym g) less;
-  })
+  pub row_last : (before : Option Token) (bare : Bool) (fs : List Tree) (ms : List Member) (count : ℕ) (row : List RowEntry) → count ≡ length ms → fs ≡ [] → bare ≡ is_bare_comma tokens before
+      → ((n : ℕ) (env : Environment) → row_at row n env ≡ last_at bare count n) → IsRow decls tokens label before fs ms row
+  row_last before bare fs ms count row e f g h = λ n less env.
+      h n env ∙ ap (λ k. last_at bare k n) e ∙ nothing_left env before bare ms n (sym g) less ∙ ap (λ gs. whole env before gs (drop n ms)) (sym f)
 
-first : (r : List SetOf) (s : SetOf) {n : ℕ} → length r ≡ suc n → get_or r 0 s ≡ slice_index_or r 0 []
-first [] s e = absurd (omega arith)
-first (t ∷ r) s e = refl
+  pub row_at_number : (fs : List Tree) (i j : ℕ) (ms : List Member) (row : List RowEntry) → i ≡ j → IsRow decls tokens label (comma_before fs i) (drop i fs) ms row
+      → IsRow decls tokens label (comma_before fs j) (drop j fs) ms row
+  row_at_number fs i j ms row e h = subst (λ k. IsRow decls tokens label (comma_before fs k) (drop k fs) ms row) e h
 
-pub pushed : {X : Type 0} (P : ℕ → X → Type 0) (xs : List X) (d x : X) (n : ℕ) → length xs ≡ n → ((j : ℕ) → j < n → P j (get_or xs j d)) → P n x
-    → (j : ℕ) → j < suc n → P j (get_or (xs ++ x ∷ []) j d)
-pushed P [] d x n len old new zero lt = let e : n ≡ 0 = omega (arith, len) in subst (λ m. P m x) e new
-pushed P [] d x n len old new (suc j) lt = absurd (omega (arith, len))
-pushed P (y ∷ xs) d x zero len old new j lt = absurd (omega (arith, len))
-pushed P (y ∷ xs) d x (suc n) len old new zero lt = old 0 (omega arith)
-pushed P (y ∷ xs) d x (suc n) len old new (suc j) lt = pushed (λ k. P (suc k)) xs d x n (omega (arith, len)) (λ k less. old (suc k) (omega arith)) new j (omega arith)
+  -- the first children
 
-module _ (decls : List VarDecl) (tokens : List PatToken) (label : Label) where
-  pub step_push : (before : Option Token) (form : Tree) (ms : List Member) (row : List SetOf) (n m : ℕ) (r more : List SetOf) (s : SetOf)
-      → IsStep decls tokens label before form ms row n r → m ≡ suc n → more ≡ r ++ s ∷ [] → ((env : Environment) → set_denotes s env ≡ step_at decls tokens label before form ms row n env)
-      → IsStep decls tokens label before form ms row m more
-  step_push before form ms row n m r more s h e g new = subst (λ k. IsStep decls tokens label before form ms row k more) (sym e) (subst (λ rs. IsStep decls tokens label before form ms row (suc n) rs) (sym g) (record {
-    len = length-append r (s ∷ []) ∙ let l = h.len in omega (arith, l);
-    means = pushed (λ j t. (env : Environment) → set_denotes t env ≡ step_at decls tokens label before form ms row j env) r [] s n h.len h.means new;
-  }))
+  pub wild_first : (fs : List Tree) (i : ℕ) (f : Tree) (b : Bool) → i < length fs → f ≡ get_or fs i f → first_is_wild label (drop i fs) ≡ b → is_wild label (leaf_of (out-Tree f)) ≡ b
+  wild_first fs i f b lt g e = sym (ap (first_is_wild label) (drop_at fs i f lt g)) ∙ e
 
-  pub row_at : (fs : List Tree) (i j : ℕ) (ms : List Member) (r : List SetOf) → i ≡ j → IsRow decls tokens label (comma_before fs i) (drop i fs) ms r
-      → IsRow decls tokens label (comma_before fs j) (drop j fs) ms r
-  row_at fs i j ms r e h = subst (λ k. IsRow decls tokens label (comma_before fs k) (drop k fs) ms r) e h
+  -- no member is left for the child
+  pub next_none : (fs : List Tree) (i : ℕ) (f : Tree) (ms : List Member) (env : Environment) → i < length fs → f ≡ get_or fs i f → comma f ≡ None
+      → is_wild label (leaf_of (out-Tree f)) ≡ false → ms ≡ [] → fits_from decls tokens label (comma_before fs i) (drop i fs) ms env ≡ false
+  next_none fs i f ms env lt g e w n =
+      member_next fs i f ms env lt g e
+      ∙ none_below _ (suc (length ms)) (λ k less.
+      let z : k ≡ 0 = omega (arith, ap length n) in
+      let t = takes_single env (comma_before fs i) f (take k ms) w in
+      let s : single_fits (fits_tree decls tokens env f) (take k ms) ≡ false = single_none (fits_tree decls tokens env f) ms k less (λ one. omega (arith, one, z)) in
+      rw (t, s) (ap (λ x. x && fits_from decls tokens label (comma_before fs (suc i)) (drop (suc i) fs) (drop k ms) env) (and_false (comma_fits decls tokens env (comma_before fs i) (take k ms)))))
 
-  pub row_first : (fs : List Tree) (us : List Tree) (ms : List Member) (row sets : List SetOf) (s : SetOf) (env : Environment) → IsRow decls tokens label None fs ms row
-      → ms ≡ members us → sets ≡ row → s ≡ get_or sets 0 s → set_denotes s env ≡ list_fits decls tokens env label (map (piece decls tokens env) fs) us
-  row_first fs us ms row sets s env h e g f =
-      ap (λ t. set_denotes t env) (f ∙ ap (λ t. get_or t 0 s) g ∙ first row s h.len) ∙ h.means 0 (omega arith) env
-      ∙ ap (runs_from decls tokens env label None (map (piece decls tokens env) fs)) e
+  -- the child takes the next member
+  pub next_member : (fs : List Tree) (i : ℕ) (f : Tree) (ms : List Member) (env : Environment) → i < length fs → f ≡ get_or fs i f → comma f ≡ None
+      → is_wild label (leaf_of (out-Tree f)) ≡ false → 0 < length ms
+      → fits_from decls tokens label (comma_before fs i) (drop i fs) ms env
+      ≡ ((comma_fits decls tokens env (comma_before fs i) (take 1 ms) && single_fits (fits_tree decls tokens env f) (take 1 ms))
+      && fits_from decls tokens label (comma_before fs (suc i)) (drop (suc i) fs) (drop 1 ms) env)
+  next_member fs i f ms env lt g e w n =
+      member_next fs i f ms env lt g e
+      ∙ one_below _ (suc (length ms)) (omega arith) (λ k less ne.
+      let t = takes_single env (comma_before fs i) f (take k ms) w in
+      let s = single_none (fits_tree decls tokens env f) ms k less ne in
+      rw (t, s) (ap (λ x. x && fits_from decls tokens label (comma_before fs (suc i)) (drop (suc i) fs) (drop k ms) env) (and_false (comma_fits decls tokens env (comma_before fs i) (take k ms)))))
+      ∙ ap (λ x. x && fits_from decls tokens label (comma_before fs (suc i)) (drop (suc i) fs) (drop 1 ms) env) (takes_single env (comma_before fs i) f (take 1 ms) w)
 
-take_whole : {X : Type 0} (xs : List X) → take (length xs) xs ≡ xs
-take_whole [] = refl
-take_whole (x ∷ xs) = ap (λ ys. x ∷ ys) (take_whole xs)
+  -- what one entry adds to a row, where the child takes the member before those that it has taken
+  pub single_put : (before : Option Token) (f : Tree) (ms : List Member) (e : RowEntry) (from n : ℕ) (run : List Member) (env : Environment) → from ≡ e.taken - 1 → 0 < e.taken → e.taken ≤ length ms
+      → run ≡ take (e.taken - from) (drop from ms)
+      → (nat_eq from n && ((comma_fits decls tokens env before run && single_fits (fits_tree decls tokens env f) run) && set_denotes e.set env))
+      ≡ single_entry decls tokens label before f ms n env e
+  single_put before f ms e from n run env g lt le h = by (nat_eq from n) refl
+    where
+      by : (b : Bool) → nat_eq from n ≡ b → (nat_eq from n && ((comma_fits decls tokens env before run && single_fits (fits_tree decls tokens env f) run) && set_denotes e.set env))
+          ≡ single_entry decls tokens label before f ms n env e
+      by true s =
+          let same : from ≡ n = grind (arith, nat_tests) in
+          let one : e.taken - from ≡ 1 = omega (arith, g, lt) in
+          let a : nat_eq e.taken (suc n) ≡ true = grind (arith, nat_tests) in
+          let b : nat_le e.taken (length ms) ≡ true = grind (arith, nat_tests) in
+          let r : run ≡ take 1 (drop n ms) = h ∙ ap₂ (λ k j. take k (drop j ms)) one same in
+          rw (s, a, b, r) refl
+      by false s =
+          let a : nat_eq e.taken (suc n) ≡ false = grind (arith, nat_tests) in
+          rw (s, a) refl
 
-pub tail_slice : {X : Type 0} (xs : List X) (j : ℕ) → take (length xs - j) (drop j xs) ≡ drop j xs
-tail_slice xs j = ap (λ n. take n (drop j xs)) (sym (length-drop j xs)) ∙ take_whole (drop j xs)
+  -- where no child is left
+  pub end_fits : (fs : List Tree) (i taken : ℕ) (ms : List Member) (bare : Bool) (env : Environment) → drop i fs ≡ [] → bare ≡ is_bare_comma tokens (comma_before fs i) → taken ≤ length ms
+      → fits_from decls tokens label (comma_before fs i) (drop i fs) (drop taken ms) env ≡ last_at bare (length ms) taken
+  end_fits fs i taken ms bare env e b le =
+      ap (λ gs. whole env (comma_before fs i) gs (drop taken ms)) e ∙ sym (nothing_left env (comma_before fs i) bare ms taken (sym b) (omega arith))
 
-module _ (decls : List VarDecl) (tokens : List PatToken) (label : Label) where
-  pub row_member_at : (fs : List Tree) (i : ℕ) (f : Tree) (ms : List Member) (row rs r : List SetOf) (b : Option Token) → i < length fs → f ≡ get_or fs i f → comma f ≡ None
-      → IsRow decls tokens label (comma_before fs (suc i)) (drop (suc i) fs) ms row → b ≡ comma_before fs i → rs ≡ row
-      → IsStep decls tokens label b f ms rs (suc (length ms)) r → IsRow decls tokens label (comma_before fs i) (drop i fs) ms r
-  row_member_at fs i f ms row rs r b lt g e old p q h = row_member decls tokens label fs i f ms row r _ refl lt g e old
-      (subst (λ o. IsStep decls tokens label o f ms row (suc (length ms)) r) p (subst (λ s. IsStep decls tokens label b f ms s (suc (length ms)) r) q h))
+  -- what follows a child that takes any run
+  pub rest_fits : (fs : List Tree) (i taken : ℕ) (f : Tree) (ms rest : List Member) (row : List RowEntry) (env : Environment) → i < length fs → f ≡ get_or fs i f
+      → is_wild label (leaf_of (out-Tree f)) ≡ true → rest ≡ drop taken ms → IsRow decls tokens label (comma_before fs (suc i)) (drop (suc i) fs) rest row
+      → step_at decls tokens label (comma_before fs i) f rest row 0 env ≡ fits_from decls tokens label (comma_before fs i) (drop i fs) (drop taken ms) env
+  rest_fits fs i taken f ms rest row env lt g w e r =
+      some_below-agree _ _ (suc (length rest))
+      (λ k less. let z : 0 + k ≡ k = omega arith in
+      ap (λ b. takes decls tokens env label (comma_before fs i) (piece decls tokens env f) (take k rest) && b) (ap (λ j. row_at row j env) z ∙ r k less env))
+      ∙ sym (member_next fs i f rest env lt g (wild_comma label f w))
+      ∙ ap (λ xs. fits_from decls tokens label (comma_before fs i) (drop i fs) xs env) e
 
-  abbrev pub from_slices : Option Token → Tree → List Member → List SetOf → Environment → Bool
-  from_slices before form ms row env = some_below (λ k. takes decls tokens env label before (piece decls tokens env form) (take k ms) && set_denotes (slice_index_or row k []) env) (suc (length ms))
+  -- the same, by a row that counts from one child later
+  pub rest_taken : (fs : List Tree) (i j taken : ℕ) (f : Tree) (ms rest : List Member) (row old : List RowEntry) (env : Environment) → j ≡ suc i → old ≡ row → i < length fs → f ≡ get_or fs i f
+      → first_is_wild label (drop i fs) ≡ true → rest ≡ drop taken ms → IsRow decls tokens label (comma_before fs j) (drop j fs) rest row
+      → step_at decls tokens label (comma_before fs i) f rest old 0 env ≡ fits_from decls tokens label (comma_before fs i) (drop i fs) (drop taken ms) env
+  rest_taken fs i j taken f ms rest row old env n same lt g w e r =
+      ap (λ x. step_at decls tokens label (comma_before fs i) f rest x 0 env) same
+      ∙ rest_fits fs i taken f ms rest row env lt g (wild_first fs i f true lt g w) e (row_at_number fs j (suc i) rest row n r)
 
-  pub slices_step : (before : Option Token) (form : Tree) (ms : List Member) (row : List SetOf) (j : ℕ) (env : Environment) (s : Bool)
-      → s ≡ from_slices before form (take (length ms - j) (drop j ms)) (take (length row - j) (drop j row)) env → s ≡ step_at decls tokens label before form ms row j env
-  slices_step before form ms row j env s h = h ∙ ap₂ (λ xs rs. from_slices before form xs rs env) (tail_slice ms j) (tail_slice row j)
+  -- a child that takes the next member, by what is known of it
+  pub member_taken : (fs : List Tree) (i taken after : ℕ) (f : Tree) (ms run : List Member) (s : Bool) (env : Environment) → i < length fs → f ≡ get_or fs i f → comma f ≡ None
+      → first_is_wild label (drop i fs) ≡ false → taken < length ms → after ≡ taken + 1 → run ≡ take (after - taken) (drop taken ms)
+      → s ≡ (comma_fits decls tokens env (comma_before fs i) run && single_fits (fits_tree decls tokens env f) run)
+      → fits_from decls tokens label (comma_before fs i) (drop i fs) (drop taken ms) env
+      ≡ (s && fits_from decls tokens label (comma_before fs (suc i)) (drop (suc i) fs) (drop after ms) env)
+  member_taken fs i taken after f ms run s env lt g e w less a r h =
+      let one : after - taken ≡ 1 = omega (arith, a) in
+      let t : run ≡ take 1 (drop taken ms) = r ∙ ap (λ k. take k (drop taken ms)) one in
+      let some : 0 < length (drop taken ms) = omega (arith, length-drop taken ms, less) in
+      next_member fs i f (drop taken ms) env lt g e (wild_first fs i f false lt g w) some
+      ∙ ap₂ (λ xs ns. (comma_fits decls tokens env (comma_before fs i) xs && single_fits (fits_tree decls tokens env f) xs)
+      && fits_from decls tokens label (comma_before fs (suc i)) (drop (suc i) fs) ns env) (sym t) (drop_more ms taken 1 ∙ ap (λ n. drop n ms) (sym a))
+      ∙ ap (λ b. b && fits_from decls tokens label (comma_before fs (suc i)) (drop (suc i) fs) (drop after ms) env) (sym h)
 
-  pub below_at : (before : Option Token) (form : Tree) (ms : List Member) (row : List SetOf) (env : Environment) (b : Bool) (k n : ℕ) → k ≡ n
-      → b ≡ some_below (λ k. takes decls tokens env label before (piece decls tokens env form) (take k ms) && set_denotes (slice_index_or row k []) env) k
-      → b ≡ some_below (λ k. takes decls tokens env label before (piece decls tokens env form) (take k ms) && set_denotes (slice_index_or row k []) env) n
-  below_at before form ms row env b k n e h = h ∙ ap (some_below _) e
-
-pub any_step : {X : Type 0} (q : X → Bool) (xs : List X) (i : ℕ) (x : X) (r s d : Bool) → i < length xs → x ≡ get_or xs i x → r ≡ (s || d) → s ≡ list_any q (take i xs) → d ≡ q x
-    → r ≡ list_any q (take (i + 1) xs)
-any_step q xs i x r s d lt at e f g = e ∙ ap₂ (λ a b. a || b) f (g ∙ ap q at) ∙ sym (list_any_more q xs i x lt)
+  -- no child is left, and not all members are taken or a comma is left that isn't bare
+  pub none_end : (fs : List Tree) (i taken : ℕ) (ms : List Member) (env : Environment) (o w : Bool) → length fs ≤ i → taken ≤ length ms
+      → last_at (is_bare_comma tokens (comma_before fs i)) (length ms) taken ≡ false
+      → (o && fits_from decls tokens label (comma_before fs i) (drop i fs) (drop taken ms) env) ≡ w → false ≡ w
+  none_end fs i taken ms env o w le less z h =
+      sym (and_false o) ∙ ap (λ b. o && b) (sym (end_fits fs i taken ms (is_bare_comma tokens (comma_before fs i)) env (drop_past fs i le) refl less ∙ z)) ∙ h

@@ -6,7 +6,8 @@ use Rattle.c_terms.specs.declared.tree.Tree.{Tree}
 use Rattle.smpl_patch.specs.declared.pattern.VarDecl.{VarDecl}
 use Rattle.smpl_patch.specs.declared.pattern.PatToken.{PatToken}
 use Rattle.smpl_terms.specs.Environments.{Environment}
-use Rattle.pat_match.specs.Fitting.{Piece, piece, fits_tree}
+use Rattle.pat_match.specs.Runs.{Piece}
+use Rattle.pat_match.specs.Fitting.{piece, fits_tree}
 use Rattle.pat_match.specs.Spots.{own_fit}
 use Rattle.pat_match.proofs.Pieces.{kids_met}
 

@@ -1,12 +1,12 @@
 -- When a pattern matches at a node, and where: the first of its forms that fits a subtree there.
-use Rattle.std.specs.Prelude.{ℕ, suc, Bool, true, false, ◌&&◌, ◌||◌, not, cond, Option, Some, None, List, [], ◌∷◌, ◌++◌, map, length, slice_get, if◌then◌else◌}
+use Rattle.std.specs.Prelude.{ℕ, suc, Bool, true, false, ◌&&◌, ◌||◌, not, cond, Option, Some, None, List, [], ◌∷◌, ◌++◌, slice_get}
 use Rattle.std.specs.List.{list_any, list_all}
 use Rattle.c_terms.specs.declared.token.Token.{Token}
 use Rattle.c_terms.specs.declared.token.TokenKind.{TokenKind}
 use Rattle.c_terms.specs.declared.token.TokenKind.TheVariants as token_kind
 use Rattle.c_terms.specs.declared.tree.Tree.{Tree}
 use Rattle.c_terms.specs.Trees.{leaves}
-use Rattle.c_terms.specs.Places.{subtree}
+use Rattle.c_terms.specs.Places.{Place}
 use Rattle.cfg_graph.specs.declared.label.NodeKind.{NodeKind}
 use Rattle.cfg_graph.specs.declared.label.NodeLabel.{NodeLabel}
 use Rattle.smpl_terms.specs.declared.var.Var.{Var}
@@ -16,8 +16,8 @@ use Rattle.smpl_patch.specs.declared.pattern.Spot.{Spot}
 use Rattle.smpl_patch.specs.declared.pattern.Pattern.{Pattern}
 use Rattle.smpl_patch.specs.Patterns.{declared_as, held_sure, in_first}
 use Rattle.smpl_terms.specs.Environments.{Environment}
-use Rattle.pat_match.specs.declared.matching.Alignment.{Alignment}
-use Rattle.pat_match.specs.Spots.{seats, fits_at, option_fits}
+use Rattle.pat_match.specs.declared.aligning.Alignment.{Alignment}
+use Rattle.pat_match.specs.Spots.{seats, fits_at}
 
 abbrev pub var_passes : (Var → Bool) → Option VarDecl → Bool
 var_passes test None = true
@@ -42,32 +42,38 @@ module _ (decls : List VarDecl) where
   meta_passes test _ a = true
 
 module _ (decls : List VarDecl) (tokens : List PatToken) where
+  -- the variable of the token, if it has one, and its positions pass
   abbrev pub token_passes : (Var → Bool) → Token → Bool
   token_passes test a = meta_passes decls test a.kind a && positions_pass test (slice_get tokens a.id)
 
+  -- where x is sure in the first form, it is in this one
+  abbrev pub keeps : Spot → Tree → Tree → Var → Bool
+  keeps s first form x = not (held_sure decls tokens s x first) || held_sure decls tokens s x form
+
   -- the form has every sure variable of the first
   abbrev pub is_live : Spot → Tree → Tree → Bool
-  is_live s first form = list_all (token_passes (λ x. not (held_sure decls tokens s x first) || held_sure decls tokens s x form)) (leaves first)
+  is_live s first form = list_all (token_passes (keeps s first form)) (leaves first)
 
   abbrev pub is_live_in : Pattern → Tree → Bool
   is_live_in p form = in_first (λ first. is_live p.spot first form) p.forms
 
 module _ (decls : List VarDecl) (tokens : List PatToken) (env : Environment) where
-  -- the form has the first form's sure variables, and fits the subtree at the path
-  abbrev pub fits_seat : Pattern → NodeKind → Tree → Tree → List ℕ → Bool
-  fits_seat p k t form path = is_live_in decls tokens p form && option_fits (fits_at decls tokens env p.spot k form) (subtree t path)
+  -- the form has the first form's sure variables, and fits the subtree
+  abbrev pub fits_seat : Pattern → NodeKind → Tree → Tree → Bool
+  fits_seat p k form t = is_live_in decls tokens p form && fits_at decls tokens env p.spot k form t
 
   -- The pattern matches at the node: some form fits some subtree.
   abbrev pub matches : Pattern → NodeLabel → Bool
-  matches p n = list_any (λ f. list_any (fits_seat p n.kind n.tree f) (seats p.spot n.kind n.tree)) p.forms
+  matches p n = list_any (λ f. list_any (λ s. fits_seat p n.kind f s.tree) (seats p.spot n.kind n.tree)) p.forms
 
-  abbrev pub form_at : Pattern → NodeKind → Tree → List ℕ → Option ℕ
-  form_at p k t path = first_from 0 (λ f. fits_seat p k t f path) p.forms
+  abbrev pub form_at : Pattern → NodeKind → Tree → Option ℕ
+  form_at p k t = first_from 0 (λ f. fits_seat p k f t) p.forms
 
-  abbrev pub aligned_at : Pattern → NodeKind → Tree → List ℕ → List (List ℕ) → List Alignment
-  aligned_at p k t above [] = []
-  aligned_at p k t above (path ∷ paths) = put_form (above ++ path) (form_at p k t path) ++ aligned_at p k t above paths
+  -- the subtrees that match, by their paths from the item
+  abbrev pub aligned_at : Pattern → NodeKind → List ℕ → List Place → List Alignment
+  aligned_at p k above [] = []
+  aligned_at p k above (s ∷ ss) = put_form (above ++ s.path) (form_at p k s.tree) ++ aligned_at p k above ss
 
   -- each subtree that matches, by place, with its first form that does
   abbrev pub aligns : Pattern → NodeLabel → List Alignment
-  aligns p n = aligned_at p n.kind n.tree n.path (seats p.spot n.kind n.tree)
+  aligns p n = aligned_at p n.kind n.path (seats p.spot n.kind n.tree)

@@ -1,36 +1,20 @@
--- Rows of sets: what stands at a number of members is for the list without so many of its first members.
-use Rattle.std.specs.Prelude.{◌≡◌, eqb, false, ℕ, suc, zero, ◌+◌, ◌<◌, ◌≤◌, Bool, ◌&&◌, Option, Some, None, List, [], ◌∷◌, map, take, drop, length, slice_index_or}
+-- Rows: for each number of members that a list's first children may have taken, the environments in which the other
+-- children fit the members that follow.
+use Rattle.std.specs.Prelude.{◌≡◌, ℕ, suc, zero, ◌+◌, ◌-◌, ◌<◌, Bool, true, false, ◌&&◌, nat_eq, nat_le, Option, None, List, [], ◌∷◌, map, take, drop, length}
+use Rattle.std.specs.List.{list_any, list_all}
 use Rattle.c_terms.specs.declared.token.Token.{Token}
 use Rattle.c_terms.specs.declared.label.Label.{Label}
-use Rattle.c_terms.specs.declared.tree.Tree.{Tree}
-use Rattle.env_sets.specs.declared.bounds.Bound.{Bound}
-use Rattle.smpl_terms.specs.Environments.{Environment}
+use Rattle.c_terms.specs.declared.list.Member.{Member}
+use Rattle.c_terms.specs.declared.tree.Tree.{Tree, out-Tree}
+use Rattle.c_terms.specs.Lists.{comma}
 use Rattle.smpl_terms.specs.declared.var.Var.{Var}
-use Rattle.env_sets.specs.Sets.{set_denotes}
+use Rattle.smpl_terms.specs.Environments.{Environment}
+use Rattle.env_sets.specs.Sets.{set_denotes, set_vars}
 use Rattle.smpl_patch.specs.declared.pattern.VarDecl.{VarDecl}
 use Rattle.smpl_patch.specs.declared.pattern.PatToken.{PatToken}
-use Rattle.pat_match.specs.Fitting.{piece, takes, some_below, runs_from}
-use Rattle.c_terms.specs.declared.list.Member.{Member}
-use Rattle.c_terms.specs.Lists.{comma}
-
-abbrev pub SetOf : Type 0
-SetOf = List (List (Var × Bound))
-
-module _ (decls : List VarDecl) (tokens : List PatToken) (label : Label) where
-  abbrev pub step_at : Option Token → Tree → List Member → List SetOf → ℕ → Environment → Bool
-  step_at before form ms row j env = some_below
-      (λ k. takes decls tokens env label before (piece decls tokens env form) (take k (drop j ms)) && set_denotes (slice_index_or (drop j row) k []) env)
-      (suc (length (drop j ms)))
-
-  pub record IsStep (before : Option Token) (form : Tree) (ms : List Member) (row : List SetOf) (n : ℕ) (r : List SetOf) : Type 0 where
-    pub len : length r ≡ n
-    pub means : (j : ℕ) → j < n → (env : Environment) → set_denotes (slice_index_or r j []) env ≡ step_at before form ms row j env
-
-  -- at each number of members that are taken, the rest is matched by these forms
-  pub record IsRow (before : Option Token) (forms : List Tree) (ms : List Member) (r : List SetOf) : Type 0 where
-    pub len : length r ≡ suc (length ms)
-    pub means : (j : ℕ) → j < suc (length ms) → (env : Environment)
-        → set_denotes (slice_index_or r j []) env ≡ runs_from decls tokens env label before (map (piece decls tokens env) forms) (drop j ms)
+use Rattle.pat_match.specs.declared.rows.RowEntry.{RowEntry}
+use Rattle.pat_match.specs.Runs.{is_wild, comma_fits, run_fits, single_fits, takes, some_below, runs_from}
+use Rattle.pat_match.specs.Fitting.{piece, fits_tree, leaf_of}
 
 -- the comma directly before the i-th of the trees
 abbrev pub comma_before : List Tree → ℕ → Option Token
@@ -39,6 +23,47 @@ comma_before [] (suc i) = None
 comma_before (t ∷ ts) (suc zero) = comma t
 comma_before (t ∷ ts) (suc (suc i)) = comma_before ts (suc i)
 
-pub record IsLast (bare : Bool) (n : ℕ) (r : List SetOf) : Type 0 where
-  pub len : length r ≡ suc n
-  pub means : (j : ℕ) → j < suc n → (env : Environment) → set_denotes (slice_index_or r j []) env ≡ (bare && eqb j n)
+-- the first of the trees takes any run
+abbrev pub first_is_wild : Label → List Tree → Bool
+first_is_wild l [] = false
+first_is_wild l (f ∷ fs) = is_wild l (leaf_of (out-Tree f))
+
+-- the environment is among those for so many members
+abbrev pub row_at : List RowEntry → ℕ → Environment → Bool
+row_at row n env = list_any (λ e. nat_eq e.taken n && set_denotes e.set env) row
+
+abbrev pub row_vars : (Var → Bool) → List RowEntry → Bool
+row_vars test row = list_all (λ e. set_vars test e.set) row
+
+-- where no child is left, all members are taken
+abbrev pub last_at : Bool → ℕ → ℕ → Bool
+last_at bare n m = bare && nat_eq n m
+
+module _ (decls : List VarDecl) (tokens : List PatToken) (label : Label) where
+  -- the child takes some run after n members, and the row fits what follows
+  abbrev pub step_at : Option Token → Tree → List Member → List RowEntry → ℕ → Environment → Bool
+  step_at before form ms row n env = some_below
+      (λ k. takes decls tokens env label before (piece decls tokens env form) (take k (drop n ms)) && row_at row (n + k) env)
+      (suc (length (drop n ms)))
+
+  -- what one entry of the row adds: where the child takes any run
+  abbrev pub wild_entry : Option Token → Tree → List Member → ℕ → Environment → RowEntry → Bool
+  wild_entry before form ms n env e = nat_le n e.taken && (nat_le e.taken (length ms)
+      && ((comma_fits decls tokens env before (take (e.taken - n) (drop n ms))
+      && run_fits decls tokens env label (leaf_of (out-Tree form)) (take (e.taken - n) (drop n ms))) && set_denotes e.set env))
+
+  -- and where it takes one member
+  abbrev pub single_entry : Option Token → Tree → List Member → ℕ → Environment → RowEntry → Bool
+  single_entry before form ms n env e = nat_eq e.taken (suc n) && (nat_le e.taken (length ms)
+      && ((comma_fits decls tokens env before (take 1 (drop n ms))
+      && single_fits (fits_tree decls tokens env form) (take 1 (drop n ms))) && set_denotes e.set env))
+
+  abbrev pub IsStep : Option Token → Tree → List Member → List RowEntry → List RowEntry → Type 0
+  IsStep before form ms row r = (n : ℕ) → n < suc (length ms) → (env : Environment) → row_at r n env ≡ step_at before form ms row n env
+
+  -- these children fit what follows
+  abbrev pub fits_from : Option Token → List Tree → List Member → Environment → Bool
+  fits_from before forms ms env = runs_from decls tokens env label before (map (piece decls tokens env) forms) ms
+
+  abbrev pub IsRow : Option Token → List Tree → List Member → List RowEntry → Type 0
+  IsRow before forms ms row = (n : ℕ) → n < suc (length ms) → (env : Environment) → row_at row n env ≡ fits_from before forms (drop n ms) env

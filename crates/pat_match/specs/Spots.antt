@@ -1,17 +1,17 @@
--- Where a pattern is held against a node: heads by their own tokens, braces, statement variables, expression parts.
+-- Where a form is held against a node: heads by their own tokens, braces, statement variables, expression parts.
 use Rattle.std.specs.Prelude.{ℕ, suc, ◌-◌, Bool, true, false, ◌&&◌, ◌||◌, not, Option, Some, None, List, [], ◌∷◌, ◌++◌, map, length, slice_get, if◌then◌else◌, codes}
-use Rattle.std.specs.List.{list_any, list_all, filter}
 use Rattle.c_terms.specs.declared.token.Token.{Token}
 use Rattle.c_terms.specs.declared.label.Label.{Label}
 use Rattle.c_terms.specs.declared.tree.Tree.{Tree, out-Tree}
 use Rattle.c_terms.specs.declared.tree.Tree.TheOpen.{Tree-F}
 use Rattle.c_terms.specs.Same.{same_bytes}
-use Rattle.c_terms.specs.Shapes.{is_head_label, is_expression_part}
+use Rattle.c_terms.specs.declared.shape.Shape.{Shape}
+use Rattle.c_terms.specs.declared.shape.Shape.TheVariants as shape
+use Rattle.c_terms.specs.Shapes.{shape_of, is_expression_part}
 use Rattle.c_terms.specs.Lists.{is_punct}
-use Rattle.c_terms.specs.Places.{child, subtree, parts}
+use Rattle.c_terms.specs.Places.{Place, below, child, part_at, parts}
 use Rattle.cfg_graph.specs.declared.label.NodeKind.{NodeKind}
 use Rattle.cfg_graph.specs.declared.label.NodeKind.TheVariants as kind
-use Rattle.cfg_graph.specs.declared.label.NodeLabel.{NodeLabel}
 use Rattle.cfg_graph.specs.Own.{is_own}
 use Rattle.smpl_patch.specs.declared.pattern.VarDecl.{VarDecl}
 use Rattle.smpl_patch.specs.declared.pattern.PatToken.{PatToken}
@@ -19,7 +19,8 @@ use Rattle.smpl_patch.specs.declared.pattern.Spot.{Spot}
 use Rattle.smpl_patch.specs.declared.pattern.Spot.TheVariants as spot
 use Rattle.smpl_patch.specs.Patterns.{is_statement_token}
 use Rattle.smpl_terms.specs.Environments.{Environment}
-use Rattle.pat_match.specs.Fitting.{Piece, Pair, piece, fits_tree, alignment, kids_fit, kids_pairs}
+use Rattle.pat_match.specs.Runs.{Piece, Pair}
+use Rattle.pat_match.specs.Fitting.{piece, fits_tree, alignment, kids_fit, kids_pairs}
 
 abbrev pub is_open_brace : Token → Bool
 is_open_brace a = is_punct a.kind && same_bytes a.text (codes "{")
@@ -67,6 +68,10 @@ own_pairs test i [] ts = []
 own_pairs test i (p ∷ ps) [] = []
 own_pairs test i (p ∷ ps) (t ∷ ts) = (if test i then p.pairs t else []) ++ own_pairs test (suc i) ps ts
 
+abbrev pub is_disjunction : Shape → Bool
+is_disjunction shape.Or = true
+is_disjunction _ = false
+
 abbrev pub option_fits : (Tree → Bool) → Option Tree → Bool
 option_fits test None = false
 option_fits test (Some t) = test t
@@ -75,28 +80,32 @@ abbrev pub option_pairs : (Tree → List Pair) → Option Tree → List Pair
 option_pairs pairs None = []
 option_pairs pairs (Some t) = pairs t
 
--- The subtrees against which a form of a spot is held, by their paths in the node's tree.
+-- The subtrees against which a form of a spot is held, by place.
 
--- the path begins at a child that is the node's own
-abbrev pub is_own_path : NodeKind → Tree-F Tree → List ℕ → Bool
-is_own_path k (Tree-F.Leaf a) path = false
-is_own_path k (Tree-F.Branch l cs) [] = false
-is_own_path k (Tree-F.Branch l cs) (i ∷ path) = is_own k l (length cs) i
+-- a child, where it fills an expression part of its row, and then the parts inside it
+abbrev pub parts_of_child : Label → ℕ → Tree → List Place
+parts_of_child l i c = part_at is_expression_part l i c ++ map (below i) (parts is_expression_part c)
 
--- the expression parts among the node's own tokens, by place
-abbrev pub own_paths : NodeKind → Tree → List (List ℕ)
-own_paths k t = filter (is_own_path k (out-Tree t)) (map (λ p. p.path) (parts is_expression_part t))
+abbrev pub own_parts_from : (ℕ → Bool) → Label → ℕ → List Tree → List Place
+own_parts_from test l i [] = []
+own_parts_from test l i (c ∷ cs) = (if test i then parts_of_child l i c else []) ++ own_parts_from test l (suc i) cs
 
-abbrev pub seats : Spot → NodeKind → Tree → List (List ℕ)
-seats spot.Inside k t = own_paths k t
-seats spot.Whole k t = [] ∷ []
-seats spot.Tail k t = [] ∷ []
+-- the expression parts among the node's own tokens
+abbrev pub own_parts : NodeKind → Tree-F Tree → List Place
+own_parts k (Tree-F.Leaf a) = []
+own_parts k (Tree-F.Branch l cs) = own_parts_from (is_own k l (length cs)) l 0 cs
+
+abbrev pub seats : Spot → NodeKind → Tree → List Place
+seats spot.Inside k t = own_parts k (out-Tree t)
+seats spot.Whole k t = record { path = []; tree = t } ∷ []
+seats spot.Tail k t = record { path = []; tree = t } ∷ []
 
 module _ (decls : List VarDecl) (tokens : List PatToken) (env : Environment) where
-  -- of a head and of a tail only the own tokens are compared
+  -- of a head and of a tail only the own tokens are compared; a disjunction fits neither
   abbrev pub own_fits : NodeKind → Tree-F Tree → Tree → Bool
   own_fits k (Tree-F.Leaf a) t = false
-  own_fits k (Tree-F.Branch l fs) t = kids_fit (own_fit (is_own k l (length fs)) 0) l (map (piece decls tokens env) fs) (out-Tree t)
+  own_fits k (Tree-F.Branch l fs) t = not (is_disjunction (shape_of l))
+      && kids_fit (own_fit (is_own k l (length fs)) 0) l (map (piece decls tokens env) fs) (out-Tree t)
 
   -- `{` and `}` fit the braces of nodes, a statement variable what begins a statement, other tokens what has no body
   abbrev pub token_whole : NodeKind → Token → Tree → Tree → Bool
@@ -116,6 +125,7 @@ module _ (decls : List VarDecl) (tokens : List PatToken) (env : Environment) whe
   whole_at k (Tree-F.Leaf a) form t = token_whole k a form t
   whole_at k (Tree-F.Branch l fs) form t = branch_whole k form t
 
+  -- the form fits the subtree at a node of this kind
   abbrev pub fits_at : Spot → NodeKind → Tree → Tree → Bool
   fits_at spot.Whole k form t = whole_at k (out-Tree form) form t
   fits_at spot.Tail k form t = is_tail_node k && own_fits kind.DoTail (out-Tree form) t
@@ -125,7 +135,8 @@ module _ (decls : List VarDecl) (tokens : List PatToken) (env : Environment) whe
 
   abbrev pub own_alignment : NodeKind → Tree-F Tree → Tree → List Pair
   own_alignment k (Tree-F.Leaf a) t = []
-  own_alignment k (Tree-F.Branch l fs) t = kids_pairs (own_pairs (is_own k l (length fs)) 0) (map (piece decls tokens env) fs) (out-Tree t)
+  own_alignment k (Tree-F.Branch l fs) t =
+      kids_pairs (own_pairs (is_own k l (length fs)) 0) (map (piece decls tokens env) fs) (out-Tree t)
 
   abbrev pub token_alignment : NodeKind → Token → Tree → Tree → List Pair
   token_alignment k a form t =

@@ -1,100 +1,30 @@
 // The environments under which a form fits a subtree.
-ghost use Rattle.std.specs.Prelude.{◌≡◌, ℕ, Bool, true, false, not, ◌&&◌, ◌||◌, IfOk, map, slice_get, slice_index_or, length, suc, take, drop, Option, None, Some, ◌<◌, ◌≤◌, List, [], ◌∷◌};
+ghost use Rattle.std.specs.Prelude.{◌≡◌, ℕ, Bool, true, false, not, ◌&&◌, ◌||◌, IfOk, map, length, suc, take, drop, Option, None, Some, ◌<◌, ◌≤◌, List, [], ◌∷◌, slice_index_or};
 ghost use Rattle.std.specs.List.{list_any, list_all};
 ghost use Rattle.c_terms.specs.declared.tree.Tree.{out-Tree};
 ghost use Rattle.c_terms.specs.Shapes.{shape_of};
-ghost use Rattle.c_terms.specs.Lists.{comma};
-ghost use Rattle.smpl_patch.specs.Patterns.{declared_as, is_sign};
+ghost use Rattle.smpl_patch.specs.Patterns as patterns;
 ghost use Rattle.smpl_terms.specs.Environments.{Environment};
-ghost use Rattle.env_sets.specs.Sets.{set_denotes, set_vars};
 ghost use Rattle.smpl_terms.specs.declared.var.Var.{Var};
-ghost use Rattle.pat_match.specs.Vars.{var_vars, meta_vars, token_vars};
-ghost use Rattle.pat_match.specs.Fitting.{meta_fits, plain_fits, token_fits, leaf_fits, leaf_of, is_bare, is_bare_comma, is_bare_sign, is_sign_token, all_fit, kids_fit, fits_by, piece, fits_tree, single_fits, takes, some_below, list_fits};
-ghost use Rattle.pat_match.specs.Rows.{IsStep, IsRow, IsLast, comma_before};
+ghost use Rattle.env_sets.specs.Sets.{set_denotes, set_vars};
+ghost use Rattle.pat_match.specs.Runs.{is_wild, comma_fits, single_fits, list_fits};
+ghost use Rattle.pat_match.specs.Fitting.{leaf_of, is_bare_sign, is_sign_token, all_fit, kids_fit, fits_by, piece, fits_tree};
+ghost use Rattle.pat_match.specs.Vars.{form_vars};
+ghost use Rattle.pat_match.specs.Rows.{comma_before, first_is_wild, row_at, row_vars, single_entry, IsStep, IsRow, fits_from};
 
-use crate::lists::{fit_comma, fit_run, is_wild_tree};
-use crate::marks::{all_or_none, first_of, has_kind, is_bare_token, is_excepted, stand};
-use c_terms::{
-    Label, Member, MetaKind, NoMemory, Shape, Token, TokenKind, Tree, comma, is_same_token,
-    members_of,
+use crate::lists::{
+    ListMember, fit_comma_before, is_bare_before, is_wild, is_wild_at, list_members,
 };
-use env_sets::{Bound, EnvSet, join, meet};
-use smpl_patch::{PatToken, VarDecl, declared_as};
-use smpl_terms::Value;
-use sqlite_items::Items;
+use crate::rows::{RowEntry, fit_some_run, fit_wild_row, last_row, push_entry};
+use crate::sets::{all_or_none, both, is_none, put_set, union};
+use crate::tokens::{fit_leaf, is_bare_token};
+use c_terms::{Label, NoMemory, Shape, TokenKind, Tree, comma};
+use env_sets::EnvSet;
+use smpl_patch::{PatToken, VarDecl};
 use std::alloc::Global;
 
-/// The environments in which the metavariable fits the tree.
-fn fit_meta(
-    alloc: Global,
-    decls: &[VarDecl],
-    kind: MetaKind,
-    name: &[u8],
-    tree: &Tree,
-) -> Result<EnvSet, NoMemory>
-    ensures meaning { IfOk result (λ r. (env : Environment) → set_denotes r env ≡ meta_fits decls.now env kind (declared_as decls.now name.now) tree.now) }
-    ensures vars { IfOk result (λ r. (t : Var → Bool) → var_vars t (declared_as decls.now name.now) ≡ true → set_vars t r ≡ true) }
-{
-    match declared_as(decls, name) {
-        None => Ok(EnvSet::none(alloc)),
-        Some(d) => {
-            if has_kind(kind, tree) && !is_excepted(d, tree) {
-                EnvSet::one(
-                    alloc,
-                    &d.var,
-                    Bound::Is(Value::term(alloc, tree.copy(alloc)?)?),
-                )
-            } else {
-                Ok(EnvSet::none(alloc))
-            }
-        }
-    }
-}
-
-fn is_same_leaf(token: &Token, tree: &Tree) -> bool
-    ensures { result ≡ plain_fits token.now (out-Tree tree.now) }
-{
-    match tree {
-        Tree::Leaf(t) => is_same_token(token, t),
-        Tree::Branch(_, _) => false,
-    }
-}
-
-fn fit_token(
-    alloc: Global,
-    decls: &[VarDecl],
-    token: &Token,
-    tree: &Tree,
-) -> Result<EnvSet, NoMemory>
-    ensures meaning { IfOk result (λ r. (env : Environment) → set_denotes r env ≡ token_fits decls.now env token.now.kind token.now tree.now) }
-    ensures vars { IfOk result (λ r. (t : Var → Bool) → meta_vars decls.now t token.now.kind token.now ≡ true → set_vars t r ≡ true) }
-{
-    match token.kind {
-        TokenKind::Meta(k) => fit_meta(alloc, decls, k, token.text.as_bytes(), tree),
-        TokenKind::Dots => Ok(EnvSet::none(alloc)),
-        TokenKind::Pat => Ok(EnvSet::none(alloc)),
-        _ => all_or_none(alloc, is_same_leaf(token, tree)),
-    }
-}
-
-fn fit_leaf(
-    alloc: Global,
-    decls: &[VarDecl],
-    tokens: &[PatToken],
-    token: &Token,
-    tree: &Tree,
-) -> Result<EnvSet, NoMemory>
-    ensures meaning { IfOk result (λ r. (env : Environment) → set_denotes r env ≡ leaf_fits decls.now tokens.now env token.now tree.now) }
-    ensures vars { IfOk result (λ r. (t : Var → Bool) → token_vars decls.now tokens.now t token.now ≡ true → set_vars t r ≡ true) }
-{
-    let here = fit_token(alloc, decls, token, tree)?;
-    let first = first_of(tree);
-    let standing = stand(alloc, decls, tokens, token, first)?;
-    meet(alloc, &here, &standing)
-}
-
 fn is_sign(kind: TokenKind) -> bool
-    ensures { result ≡ is_sign kind }
+    ensures { result ≡ patterns.is_sign kind }
 {
     match kind {
         TokenKind::Pat => true,
@@ -106,7 +36,7 @@ fn is_sign_tree(tree: &Tree) -> bool
     ensures { result ≡ is_sign_token (leaf_of (out-Tree tree.now)) }
 {
     match tree {
-        Tree::Leaf(t) => is_sign(t.kind),
+        Tree::Leaf(token) => is_sign(token.kind),
         Tree::Branch(_, _) => false,
     }
 }
@@ -115,23 +45,24 @@ fn is_bare_leaf(tokens: &[PatToken], tree: &Tree) -> bool
     ensures { result ≡ is_bare_sign tokens.now (leaf_of (out-Tree tree.now)) }
 {
     match tree {
-        Tree::Leaf(t) => !is_sign(t.kind) || is_bare_token(tokens, t.id),
+        Tree::Leaf(token) => !is_sign(token.kind) || is_bare_token(tokens, token.id),
         Tree::Branch(_, _) => true,
     }
 }
 
+/// Whether the signs between the branches have neither positions nor plus code. Takes no memory.
 fn has_bare_signs(tokens: &[PatToken], trees: &[Tree]) -> bool
     ensures { result ≡ list_all (λ f. is_bare_sign tokens.now (leaf_of (out-Tree f))) trees.now }
 {
-    for f in trees {
-        if !is_bare_leaf(tokens, f) {
+    for tree in trees {
+        if !is_bare_leaf(tokens, tree) {
             return false;
         }
     }
     true
 }
 
-/// The environments in which the form fits the tree.
+/// The environments in which the form fits the tree. A few calls deep for each level of the form.
 #[cycle(fit)]
 pub fn fit(
     alloc: Global,
@@ -140,18 +71,16 @@ pub fn fit(
     form: &Tree,
     tree: &Tree,
 ) -> Result<EnvSet, NoMemory>
-    ensures { IfOk result (λ r. (env : Environment) → set_denotes r env ≡ fits_tree decls.now tokens.now env form.now tree.now) }
+    ensures meaning { IfOk result (λ r. (env : Environment) → set_denotes r env
+        ≡ fits_tree decls.now tokens.now env form.now tree.now) }
+    ensures vars { IfOk result (λ r. (t : Var → Bool) → form_vars decls.now tokens.now t form.now
+        ≡ true → set_vars t r ≡ true) }
 {
     match form {
         Tree::Leaf(token) => fit_leaf(alloc, decls, tokens, token, tree),
-        Tree::Branch(label, forms) => fit_branch(
-            alloc,
-            decls,
-            tokens,
-            *label,
-            forms.as_slice(),
-            tree,
-        ),
+        Tree::Branch(label, forms) => {
+            fit_branch(alloc, decls, tokens, *label, forms.as_slice(), tree)
+        }
     }
 }
 
@@ -164,7 +93,12 @@ fn fit_branch(
     forms: &[Tree],
     tree: &Tree,
 ) -> Result<EnvSet, NoMemory>
-    ensures { IfOk result (λ r. (env : Environment) → set_denotes r env ≡ fits_by decls.now tokens.now env (shape_of label) label (map (piece decls.now tokens.now env) forms.now) tree.now) }
+    ensures meaning { IfOk result (λ r. (env : Environment) → set_denotes r env
+        ≡ fits_by decls.now tokens.now env (shape_of label) label
+        (map (piece decls.now tokens.now env) forms.now) tree.now) }
+    ensures vars { IfOk result (λ r. (t : Var → Bool)
+        → list_all (form_vars decls.now tokens.now t) forms.now ≡ true →
+        set_vars t r ≡ true) }
 {
     match label.shape() {
         Shape::Or => fit_some(alloc, decls, tokens, forms, tree),
@@ -174,6 +108,7 @@ fn fit_branch(
     }
 }
 
+/// The environments in which some branch of a disjunction fits.
 #[cycle(fit)]
 fn fit_some(
     alloc: Global,
@@ -182,20 +117,25 @@ fn fit_some(
     forms: &[Tree],
     tree: &Tree,
 ) -> Result<EnvSet, NoMemory>
-    ensures { IfOk result (λ r. (env : Environment) → set_denotes r env ≡ (list_all (λ f. is_bare_sign tokens.now (leaf_of (out-Tree f))) forms.now
+    ensures meaning { IfOk result (λ r. (env : Environment) → set_denotes r env
+        ≡ (list_all (λ f. is_bare_sign tokens.now (leaf_of (out-Tree f))) forms.now
         && list_any (λ f. fits_tree decls.now tokens.now env f tree.now) forms.now)) }
+    ensures vars { IfOk result (λ r. (t : Var → Bool)
+        → list_all (form_vars decls.now tokens.now t) forms.now ≡ true →
+        set_vars t r ≡ true) }
 {
     if !has_bare_signs(tokens, forms) {
         return Ok(EnvSet::none(alloc));
     }
-    let mut out = EnvSet::none(alloc);
-    for f in forms {
-        let here = fit(alloc, decls, tokens, f, tree)?;
-        out = join(alloc, &out, &here)?;
+    let mut entries = Vec::new(alloc);
+    for form in forms {
+        let here = fit(alloc, decls, tokens, form, tree)?;
+        put_set(&mut entries, here)?;
     }
-    Ok(out)
+    union(alloc, entries)
 }
 
+/// The environments in which every branch of a conjunction fits.
 #[cycle(fit)]
 fn fit_every(
     alloc: Global,
@@ -204,22 +144,28 @@ fn fit_every(
     forms: &[Tree],
     tree: &Tree,
 ) -> Result<EnvSet, NoMemory>
-    ensures { IfOk result (λ r. (env : Environment) → set_denotes r env ≡ (list_all (λ f. is_bare_sign tokens.now (leaf_of (out-Tree f))) forms.now
-        && list_all (λ f. is_sign_token (leaf_of (out-Tree f)) || fits_tree decls.now tokens.now env f tree.now) forms.now)) }
+    ensures meaning { IfOk result (λ r. (env : Environment) → set_denotes r env
+        ≡ (list_all (λ f. is_bare_sign tokens.now (leaf_of (out-Tree f))) forms.now
+        && list_all (λ f. is_sign_token (leaf_of (out-Tree f))
+        || fits_tree decls.now tokens.now env f tree.now) forms.now)) }
+    ensures vars { IfOk result (λ r. (t : Var → Bool)
+        → list_all (form_vars decls.now tokens.now t) forms.now ≡ true →
+        set_vars t r ≡ true) }
 {
     if !has_bare_signs(tokens, forms) {
         return Ok(EnvSet::none(alloc));
     }
     let mut out = EnvSet::all(alloc)?;
-    for f in forms {
-        if !is_sign_tree(f) {
-            let here = fit(alloc, decls, tokens, f, tree)?;
-            out = meet(alloc, &out, &here)?;
+    for form in forms {
+        if !is_sign_tree(form) {
+            let here = fit(alloc, decls, tokens, form, tree)?;
+            out = both(alloc, out, here)?;
         }
     }
     Ok(out)
 }
 
+/// The environments in which a branch fits child by child.
 #[cycle(fit)]
 fn fit_kids(
     alloc: Global,
@@ -229,7 +175,11 @@ fn fit_kids(
     forms: &[Tree],
     tree: &Tree,
 ) -> Result<EnvSet, NoMemory>
-    ensures { IfOk result (λ r. (env : Environment) → set_denotes r env ≡ kids_fit all_fit label (map (piece decls.now tokens.now env) forms.now) (out-Tree tree.now)) }
+    ensures meaning { IfOk result (λ r. (env : Environment) → set_denotes r env
+        ≡ kids_fit all_fit label (map (piece decls.now tokens.now env) forms.now) (out-Tree tree.now)) }
+    ensures vars { IfOk result (λ r. (t : Var → Bool)
+        → list_all (form_vars decls.now tokens.now t) forms.now ≡ true →
+        set_vars t r ≡ true) }
 {
     match tree {
         Tree::Leaf(_) => Ok(EnvSet::none(alloc)),
@@ -242,6 +192,7 @@ fn fit_kids(
     }
 }
 
+/// The environments in which the first form fits the first tree, and so on. The first that fits in none ends it.
 #[cycle(fit)]
 fn fit_all(
     alloc: Global,
@@ -250,158 +201,129 @@ fn fit_all(
     forms: &[Tree],
     trees: &[Tree],
 ) -> Result<EnvSet, NoMemory>
-    ensures { IfOk result (λ r. (env : Environment) → set_denotes r env ≡ all_fit (map (piece decls.now tokens.now env) forms.now) trees.now) }
+    ensures meaning { IfOk result (λ r. (env : Environment) → set_denotes r env
+        ≡ all_fit (map (piece decls.now tokens.now env) forms.now) trees.now) }
+    ensures vars { IfOk result (λ r. (t : Var → Bool)
+        → list_all (form_vars decls.now tokens.now t) forms.now ≡ true →
+        set_vars t r ≡ true) }
 {
     if forms.len() != trees.len() {
         return Ok(EnvSet::none(alloc));
     }
     let mut out = EnvSet::all(alloc)?;
     for i in 0..forms.len() {
+        if is_none(&out) {
+            return Ok(out);
+        }
         let here = fit(alloc, decls, tokens, &forms[i], &trees[i])?;
-        out = meet(alloc, &out, &here)?;
+        out = both(alloc, out, here)?;
     }
     Ok(out)
 }
 
-/// The environments in which the one member of the run fits.
-#[cycle(fit)]
-fn fit_single(
-    alloc: Global,
-    decls: &[VarDecl],
-    tokens: &[PatToken],
-    form: &Tree,
-    ms: &[Member],
-) -> Result<EnvSet, NoMemory>
-    ensures { IfOk result (λ r. (env : Environment) → set_denotes r env ≡ single_fits (fits_tree decls.now tokens.now env form.now) ms.now) }
-{
-    if ms.len() != 1 {
-        return Ok(EnvSet::none(alloc));
-    }
-    let m = &ms[0];
-    fit(alloc, decls, tokens, form, &m.tree)
-}
-
-/// The environments in which the pattern's member, with the comma before it, takes the run.
+/// The environments in which the i-th child of a pattern's list takes the run, which must be one member, with the
+/// comma before it.
 #[cycle(fit)]
 fn fit_member(
     alloc: Global,
     decls: &[VarDecl],
     tokens: &[PatToken],
-    label: Label,
-    before: &Option<Token>,
+    forms: &[Tree],
+    i: usize,
     form: &Tree,
-    ms: &[Member],
+    run: &[ListMember],
 ) -> Result<EnvSet, NoMemory>
-    ensures { IfOk result (λ r. (env : Environment) → set_denotes r env ≡ takes decls.now tokens.now env label before.now (piece decls.now tokens.now env form.now) ms.now) }
+    requires within { i < length forms.now }
+    requires child { form.now ≡ slice_index_or forms.now i form.now }
+    ensures meaning { IfOk result (λ r. (env : Environment) → set_denotes r env
+        ≡ (comma_fits decls.now tokens.now env (comma_before forms.now i) run.now
+        && single_fits (fits_tree decls.now tokens.now env form.now) run.now)) }
+    ensures vars { IfOk result (λ r. (t : Var → Bool)
+        → list_all (form_vars decls.now tokens.now t) forms.now ≡ true →
+        form_vars decls.now tokens.now t form.now ≡ true → set_vars t r ≡ true) }
 {
-    let at_comma = fit_comma(alloc, decls, tokens, before, ms)?;
-    let here = if is_wild_tree(label, form) {
-        fit_run(alloc, decls, tokens, label, form, ms)?
-    } else {
-        fit_single(alloc, decls, tokens, form, ms)?
-    };
-    meet(alloc, &at_comma, &here)
+    match run {
+        [member] => {
+            let before = fit_comma_before(alloc, decls, tokens, forms, i, run)?;
+            if is_none(&before) {
+                return Ok(before);
+            }
+            let here = fit(alloc, decls, tokens, form, member.tree())?;
+            both(alloc, before, here)
+        }
+        _ => Ok(EnvSet::none(alloc)),
+    }
 }
 
-/// The environments in which the pattern's member takes some run, and what follows takes the rest.
+/// Adds the environments in which the child takes the member before those that the entry has taken.
 #[cycle(fit)]
-fn fit_some_run(
+fn put_single(
+    alloc: Global,
+    decls: &[VarDecl],
+    tokens: &[PatToken],
+    out: &mut Vec<RowEntry>,
+    label: Label,
+    forms: &[Tree],
+    i: usize,
+    form: &Tree,
+    members: &[ListMember],
+    entry: RowEntry,
+) -> Result<(), NoMemory>
+    requires within { i < length forms.now }
+    requires child { form.now ≡ slice_index_or forms.now i form.now }
+    ensures meaning { IfOk result (λ _. (n : ℕ) (env : Environment) → row_at out.new.items n env
+        ≡ (row_at out.old.items n env || single_entry decls.now tokens.now label
+        (comma_before forms.now i) form.now members.now n env entry)) }
+    ensures vars { IfOk result (λ _. (t : Var → Bool)
+        → list_all (form_vars decls.now tokens.now t) forms.now ≡ true →
+        form_vars decls.now tokens.now t form.now ≡ true → set_vars t entry.set ≡ true → row_vars t out.old.items ≡ true →
+        row_vars t out.new.items ≡ true) }
+{
+    let RowEntry { taken, set } = entry;
+    if taken == 0 {
+        return Ok(());
+    }
+    if members.len() < taken {
+        return Ok(());
+    }
+    let from = taken - 1;
+    let here = fit_member(alloc, decls, tokens, forms, i, form, &members[from..taken])?;
+    let all = both(alloc, here, set)?;
+    push_entry(out, from, all)
+}
+
+/// The row from a child on that takes one member.
+#[cycle(fit)]
+fn fit_single_row(
     alloc: Global,
     decls: &[VarDecl],
     tokens: &[PatToken],
     label: Label,
-    before: &Option<Token>,
+    forms: &[Tree],
+    i: usize,
     form: &Tree,
-    ms: &[Member],
-    row: &[EnvSet],
-) -> Result<EnvSet, NoMemory>
-    requires { length row.now ≡ suc (length ms.now) }
-    ensures { IfOk result (λ r. (env : Environment) → set_denotes r env ≡ some_below
-        (λ k. takes decls.now tokens.now env label before.now (piece decls.now tokens.now env form.now) (take k ms.now) && set_denotes (slice_index_or row.now k []) env)
-        (suc (length ms.now))) }
+    members: &[ListMember],
+    row: Vec<RowEntry>,
+) -> Result<Vec<RowEntry>, NoMemory>
+    requires within { i < length forms.now }
+    requires child { form.now ≡ slice_index_or forms.now i form.now }
+    requires single { is_wild label (leaf_of (out-Tree form.now)) ≡ false }
+    ensures meaning { IfOk result (λ r. IsStep decls.now tokens.now label
+        (comma_before forms.now i) form.now members.now row.items r.items) }
+    ensures vars { IfOk result (λ r. (t : Var → Bool)
+        → list_all (form_vars decls.now tokens.now t) forms.now ≡ true →
+        form_vars decls.now tokens.now t form.now ≡ true → row_vars t row.items ≡ true → row_vars t r.items ≡ true) }
 {
-    let mut out = EnvSet::none(alloc);
-    for k in 0..ms.len() + 1 {
-        let taken = fit_member(alloc, decls, tokens, label, before, form, &ms[..k])?;
-        let both = meet(alloc, &taken, &row[k])?;
-        out = join(alloc, &out, &both)?;
+    let mut out = Vec::new(alloc);
+    for entry in row {
+        put_single(
+            alloc, decls, tokens, &mut out, label, forms, i, form, members, entry,
+        )?;
     }
     Ok(out)
 }
 
-/// The row of the pattern's members from this one on.
-#[cycle(fit)]
-fn fit_row(
-    alloc: Global,
-    decls: &[VarDecl],
-    tokens: &[PatToken],
-    label: Label,
-    before: &Option<Token>,
-    form: &Tree,
-    ms: &[Member],
-    row: &[EnvSet],
-) -> Result<Items<EnvSet>, NoMemory>
-    requires { length row.now ≡ suc (length ms.now) }
-    ensures { IfOk result (λ r. IsStep decls.now tokens.now label before.now form.now ms.now row.now (suc (length ms.now)) r) }
-{
-    let mut out = Items::new(alloc);
-    for j in 0..ms.len() + 1 {
-        out.push(fit_some_run(
-            alloc,
-            decls,
-            tokens,
-            label,
-            before,
-            form,
-            &ms[j..],
-            &row[j..],
-        )?)?;
-    }
-    Ok(out)
-}
-
-/// The row where no pattern member is left.
-fn last_row(alloc: Global, bare: bool, n: usize) -> Result<Items<EnvSet>, NoMemory>
-    ensures { IfOk result (λ r. IsLast bare n r) }
-{
-    let mut out = Items::new(alloc);
-    for _j in 0..n {
-        out.push(EnvSet::none(alloc))?;
-    }
-    out.push(all_or_none(alloc, bare)?)?;
-    Ok(out)
-}
-
-fn comma_of(alloc: Global, tree: &Tree) -> Result<Option<Token>, NoMemory>
-    ensures { IfOk result (λ o. o ≡ comma tree.now) }
-{
-    match comma(tree) {
-        Some(token) => Ok(Some(token.copy(alloc)?)),
-        None => Ok(None),
-    }
-}
-
-/// The comma directly before the i-th of the trees.
-fn comma_ahead(alloc: Global, trees: &[Tree], i: usize) -> Result<Option<Token>, NoMemory>
-    requires { i ≤ length trees.now }
-    ensures { IfOk result (λ o. o ≡ comma_before trees.now i) }
-{
-    if i == 0 {
-        return Ok(None);
-    }
-    comma_of(alloc, &trees[i - 1])
-}
-
-fn is_bare_before(tokens: &[PatToken], comma: &Option<Token>) -> bool
-    ensures { result ≡ is_bare_comma tokens.now comma.now }
-{
-    match comma {
-        None => true,
-        Some(c) => is_bare_token(tokens, c.id),
-    }
-}
-
-/// The row from the i-th of the forms on, by the row that follows.
+/// The row from the i-th child on, by the row of those that follow it.
 #[cycle(fit)]
 fn fit_child(
     alloc: Global,
@@ -410,40 +332,50 @@ fn fit_child(
     label: Label,
     forms: &[Tree],
     i: usize,
-    ms: &[Member],
-    row: Items<EnvSet>,
-) -> Result<Items<EnvSet>, NoMemory>
+    members: &[ListMember],
+    row: Vec<RowEntry>,
+) -> Result<Vec<RowEntry>, NoMemory>
     requires within { i < length forms.now }
-    requires row { IsRow decls.now tokens.now label (comma_before forms.now (suc i)) (drop (suc i) forms.now) ms.now row }
-    ensures { IfOk result (λ r. IsRow decls.now tokens.now label (comma_before forms.now i) (drop i forms.now) ms.now r) }
+    requires row { IsRow decls.now tokens.now label (comma_before forms.now (suc i)) (drop
+        (suc i) forms.now)
+        members.now row.items }
+    ensures meaning { IfOk result (λ r. IsRow decls.now tokens.now label
+        (comma_before forms.now i) (drop i forms.now)
+        members.now r.items) }
+    ensures vars { IfOk result (λ r. (t : Var → Bool)
+        → list_all (form_vars decls.now tokens.now t) forms.now ≡ true →
+        row_vars t row.items ≡ true → row_vars t r.items ≡ true) }
 {
     let form = &forms[i];
-    let before = comma_ahead(alloc, forms, i)?;
-    let here = comma_of(alloc, form)?;
-    match here {
+    match comma(form) {
         Some(_) => {
-            if is_bare_before(tokens, &before) {
+            if is_bare_before(tokens, forms, i) {
                 Ok(row)
             } else {
-                last_row(alloc, false, ms.len())
+                Ok(Vec::new(alloc))
             }
         }
         None => {
-            fit_row(
-                alloc,
-                decls,
-                tokens,
-                label,
-                &before,
-                form,
-                ms,
-                row.as_slice(),
-            )
+            if is_wild(label, form) {
+                fit_wild_row(
+                    alloc,
+                    decls,
+                    tokens,
+                    label,
+                    forms,
+                    i,
+                    form,
+                    members,
+                    row.as_slice(),
+                )
+            } else {
+                fit_single_row(alloc, decls, tokens, label, forms, i, form, members, row)
+            }
         }
     }
 }
 
-/// The row of all forms.
+/// The row from a child on, from the last child back to it.
 #[cycle(fit)]
 fn fit_rows(
     alloc: Global,
@@ -451,37 +383,155 @@ fn fit_rows(
     tokens: &[PatToken],
     label: Label,
     forms: &[Tree],
-    ms: &[Member],
-) -> Result<Items<EnvSet>, NoMemory>
-    ensures { IfOk result (λ r. IsRow decls.now tokens.now label None forms.now ms.now r) }
+    start: usize,
+    members: &[ListMember],
+) -> Result<Vec<RowEntry>, NoMemory>
+    requires within { start ≤ length forms.now }
+    ensures meaning { IfOk result (λ r. IsRow decls.now tokens.now label
+        (comma_before forms.now start)
+        (drop start forms.now) members.now r.items) }
+    ensures vars { IfOk result (λ r. (t : Var → Bool)
+        → list_all (form_vars decls.now tokens.now t) forms.now ≡ true →
+        row_vars t r.items ≡ true) }
 {
-    let after = comma_ahead(alloc, forms, forms.len())?;
-    let mut row = last_row(alloc, is_bare_before(tokens, &after), ms.len())?;
+    let bare = is_bare_before(tokens, forms, forms.len());
+    let mut row = last_row(alloc, bare, members.len())?;
     let mut i = forms.len();
-    while i > 0 {
+    while i > start {
         i -= 1;
-        row = fit_child(alloc, decls, tokens, label, forms, i, ms, row)?;
+        row = fit_child(alloc, decls, tokens, label, forms, i, members, row)?;
     }
     Ok(row)
 }
 
+/// What the first children of a pattern's list say: in which environments they fit, and how many members they take.
+#[derive(Drop)]
+struct Front {
+    set: EnvSet,
+    taken: usize,
+}
+
+/// The environments in which the children from the i-th on, which takes any run, fit the members that are left.
 #[cycle(fit)]
-fn fit_lists(
+fn fit_rest(
     alloc: Global,
     decls: &[VarDecl],
     tokens: &[PatToken],
     label: Label,
     forms: &[Tree],
-    trees: &[Tree],
+    i: usize,
+    members: &[ListMember],
+    taken: usize,
 ) -> Result<EnvSet, NoMemory>
-    ensures { IfOk result (λ r. (env : Environment) → set_denotes r env ≡ list_fits decls.now tokens.now env label (map (piece decls.now tokens.now env) forms.now) trees.now) }
+    requires within { i < length forms.now }
+    requires left { taken ≤ length members.now }
+    requires wild { first_is_wild label (drop i forms.now) ≡ true }
+    ensures meaning { IfOk result (λ r. (env : Environment) → set_denotes r env
+        ≡ fits_from decls.now tokens.now label (comma_before forms.now i) (drop i forms.now)
+        (drop taken members.now) env) }
+    ensures vars { IfOk result (λ r. (t : Var → Bool)
+        → list_all (form_vars decls.now tokens.now t) forms.now ≡ true →
+        set_vars t r ≡ true) }
 {
-    let ms = members_of(alloc, trees)?;
-    let row = fit_rows(alloc, decls, tokens, label, forms, ms.as_slice())?;
-    let sets = row.as_slice();
-    sets[0].copy(alloc)
+    let rest = &members[taken..];
+    let row = fit_rows(alloc, decls, tokens, label, forms, i + 1, rest)?;
+    fit_some_run(
+        alloc,
+        decls,
+        tokens,
+        label,
+        forms,
+        i,
+        &forms[i],
+        rest,
+        0,
+        row.as_slice(),
+    )
 }
 
+/// What the i-th child, which takes one member, adds to those before it.
+#[cycle(fit)]
+fn fit_next(
+    alloc: Global,
+    decls: &[VarDecl],
+    tokens: &[PatToken],
+    label: Label,
+    forms: &[Tree],
+    i: usize,
+    members: &[ListMember],
+    taken: usize,
+) -> Result<Front, NoMemory>
+    requires within { i < length forms.now }
+    requires left { taken ≤ length members.now }
+    requires single { first_is_wild label (drop i forms.now) ≡ false }
+    ensures left { IfOk result (λ r. r.taken ≤ length members.now) }
+    ensures meaning { IfOk result (λ r. (env : Environment) →
+        fits_from decls.now tokens.now label (comma_before forms.now i) (drop i forms.now) (drop taken members.now) env
+        ≡ (set_denotes r.set env && fits_from decls.now tokens.now label
+        (comma_before forms.now (suc i)) (drop (suc i) forms.now) (drop r.taken members.now) env)) }
+    ensures vars { IfOk result (λ r. (t : Var → Bool)
+        → list_all (form_vars decls.now tokens.now t) forms.now ≡ true →
+        set_vars t r.set ≡ true) }
+{
+    let form = &forms[i];
+    match comma(form) {
+        Some(_) => {
+            let set = all_or_none(alloc, is_bare_before(tokens, forms, i))?;
+            Ok(Front { set, taken })
+        }
+        None => {
+            if taken == members.len() {
+                let set = EnvSet::none(alloc);
+                return Ok(Front { set, taken });
+            }
+            let run = &members[taken..taken + 1];
+            let set = fit_member(alloc, decls, tokens, forms, i, form, run)?;
+            Ok(Front {
+                set,
+                taken: taken + 1,
+            })
+        }
+    }
+}
+
+/// The environments in which a pattern's list fits. Up to the first child that takes any run, each takes one member.
+#[cycle(fit)]
+fn fit_members(
+    alloc: Global,
+    decls: &[VarDecl],
+    tokens: &[PatToken],
+    label: Label,
+    forms: &[Tree],
+    members: &[ListMember],
+) -> Result<EnvSet, NoMemory>
+    ensures meaning { IfOk result (λ r. (env : Environment) → set_denotes r env
+        ≡ fits_from decls.now tokens.now label None forms.now members.now env) }
+    ensures vars { IfOk result (λ r. (t : Var → Bool)
+        → list_all (form_vars decls.now tokens.now t) forms.now ≡ true →
+        set_vars t r ≡ true) }
+{
+    let mut out = EnvSet::all(alloc)?;
+    let mut taken: usize = 0;
+    for i in 0..forms.len() {
+        if is_none(&out) {
+            return Ok(out);
+        }
+        if is_wild_at(label, forms, i) {
+            let rest = fit_rest(alloc, decls, tokens, label, forms, i, members, taken)?;
+            return both(alloc, out, rest);
+        }
+        let next = fit_next(alloc, decls, tokens, label, forms, i, members, taken)?;
+        taken = next.taken;
+        out = both(alloc, out, next.set)?;
+    }
+    if taken == members.len() && is_bare_before(tokens, forms, forms.len()) {
+        Ok(out)
+    } else {
+        Ok(EnvSet::none(alloc))
+    }
+}
+
+/// The environments in which a list of arguments or parameters fits.
 #[cycle(fit)]
 fn fit_list(
     alloc: Global,
@@ -491,8 +541,12 @@ fn fit_list(
     forms: &[Tree],
     tree: &Tree,
 ) -> Result<EnvSet, NoMemory>
-    ensures { IfOk result (λ r. (env : Environment) → set_denotes r env
-        ≡ kids_fit (list_fits decls.now tokens.now env label) label (map (piece decls.now tokens.now env) forms.now) (out-Tree tree.now)) }
+    ensures meaning { IfOk result (λ r. (env : Environment) → set_denotes r env
+        ≡ kids_fit (list_fits decls.now tokens.now env label) label
+        (map (piece decls.now tokens.now env) forms.now) (out-Tree tree.now)) }
+    ensures vars { IfOk result (λ r. (t : Var → Bool)
+        → list_all (form_vars decls.now tokens.now t) forms.now ≡ true →
+        set_vars t r ≡ true) }
 {
     match tree {
         Tree::Leaf(_) => Ok(EnvSet::none(alloc)),
@@ -500,7 +554,8 @@ fn fit_list(
             if label.number() != other.number() {
                 return Ok(EnvSet::none(alloc));
             }
-            fit_lists(alloc, decls, tokens, label, forms, trees.as_slice())
+            let members = list_members(alloc, trees.as_slice())?;
+            fit_members(alloc, decls, tokens, label, forms, members.as_slice())
         }
     }
 }

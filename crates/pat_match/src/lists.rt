@@ -1,129 +1,338 @@
-// Runs of members.
-ghost use Rattle.std.specs.Prelude.{◌≡◌, ℕ, Bool, true, IfOk, Option, Some, None, List, [], ◌∷◌};
+// Lists: the members of a file's list, and the runs of them that dots and list variables take.
+ghost use Rattle.std.specs.Prelude.{◌≡◌, ℕ, ◌<◌, ◌≤◌, ◌&&◌, ◌++◌, Bool, true, false, IfOk, OnOk, Option, Some, None, List, [], ◌∷◌, drop, length, slice_get};
+ghost use Rattle.std.specs.List.{list_all};
+ghost use Rattle.c_terms.specs.declared.token.TokenKind.TheVariants as token_kind;
+ghost use Rattle.c_terms.specs.declared.tree.Tree.{Tree};
+ghost use Rattle.smpl_patch.specs.declared.pattern.VarDecl.{VarDecl};
 ghost use Rattle.c_terms.specs.declared.tree.Tree.{out-Tree};
-ghost use Rattle.smpl_patch.specs.Patterns.{declared_as};
+ghost use Rattle.c_terms.specs.Lists.{comma_kids, members, run};
+ghost use Rattle.smpl_terms.specs.declared.var.Var.{Var};
 ghost use Rattle.smpl_terms.specs.Environments.{Environment};
 ghost use Rattle.env_sets.specs.Sets.{set_denotes, set_vars};
-ghost use Rattle.smpl_terms.specs.declared.var.Var.{Var};
-ghost use Rattle.pat_match.specs.Vars.{comma_vars, var_vars, meta_vars, leaf_vars};
-ghost use Rattle.pat_match.specs.Fitting as of;
+ghost use Rattle.smpl_patch.specs.Patterns.{declared_as};
+ghost use Rattle.pat_match.specs.Tokens.{id_of, value_is, run_is, stands};
+ghost use Rattle.pat_match.specs.Fitting.{leaf_of};
+ghost use Rattle.pat_match.specs.Matching.{var_passes, meta_passes};
+ghost use Rattle.pat_match.specs.Vars.{comma_vars, leaf_vars, form_vars};
+ghost use Rattle.pat_match.specs.Rows.{comma_before, first_is_wild};
+ghost use Rattle.pat_match.specs.Runs as of;
 
-use crate::marks::{first_of, stand};
-use c_terms::{Label, Member, MetaKind, NoMemory, Token, TokenKind, Tree, run_of};
-use env_sets::{Bound, EnvSet, meet};
+use crate::sets::both;
+use crate::tokens::{first_id, is_bare_token, is_tree, with_stand};
+use c_terms::{Label, MetaKind, NoMemory, Token, TokenKind, Tree, comma};
+use env_sets::EnvSet;
 use smpl_patch::{PatToken, VarDecl, declared_as};
-use smpl_terms::Value;
+use sqlite_items::Items;
 use std::alloc::Global;
+use std::marker::Model;
 
-fn is_wild_token(label: Label, kind: TokenKind) -> bool
-    ensures { result ≡ of.is_wild_kind label kind }
-{
-    match kind {
-        TokenKind::Dots => true,
-        TokenKind::Meta(MetaKind::ExprList) => match label {
-            Label::Args => true,
-            _ => false,
-        },
-        TokenKind::Meta(MetaKind::Params) => match label {
-            Label::Params => true,
-            _ => false,
-        },
-        _ => false,
-    }
+/// A member of a list of the file: the comma before it, and its tree. Both are lent. Contracts see a `Member`.
+#[derive(Drop)]
+pub struct ListMember<'a> {
+    comma: Option<&'a Token>,
+    tree: &'a Tree,
 }
 
-/// Whether the member takes any run of members.
-pub fn is_wild_tree(label: Label, form: &Tree) -> bool
-    ensures { result ≡ of.is_wild label (of.leaf_of (out-Tree form.now)) }
-{
-    match form {
-        Tree::Leaf(token) => is_wild_token(label, token.kind),
-        Tree::Branch(_, _) => false,
-    }
+impl<'a> Model for ListMember<'a> {
+    ghost use Rattle.c_terms.specs.declared.list.Member.{Member};
+    ghost use Rattle.std.specs.Coded.{codes};
+    ghost use Rattle.c_terms.specs.contracts.tree.Tree as term;
+    ghost use Rattle.std.specs.Option.{option_copied};
+
+    ghost Value = { Member };
+
+    ghost coded = { Prim.hlevel (codes, term.the_row.coded) };
+
+    ghost view = { λ m. record { comma = option_copied m.comma; tree = m.tree.now } };
 }
 
-fn id_of_comma(comma: &Option<Token>) -> Option<u64>
-    ensures { result ≡ of.id_of comma.now }
-{
-    match comma {
-        Some(token) => Some(token.id),
-        None => None,
+impl<'a> ListMember<'a> {
+    /// The tree. Takes no memory.
+    pub fn tree(&self) -> &Tree
+        ensures { result.now ≡ self.now.tree }
+    {
+        self.tree
     }
-}
 
-/// The environments in which the pattern's comma stands before the run.
-pub fn fit_comma(
-    alloc: Global,
-    decls: &[VarDecl],
-    tokens: &[PatToken],
-    comma: &Option<Token>,
-    ms: &[Member],
-) -> Result<EnvSet, NoMemory>
-    ensures meaning { IfOk result (λ r. (env : Environment) → set_denotes r env ≡ of.comma_fits decls.now tokens.now env comma.now ms.now) }
-    ensures vars { IfOk result (λ r. (t : Var → Bool) → comma_vars decls.now tokens.now t comma.now ≡ true → set_vars t r ≡ true) }
-{
-    match comma {
-        None => EnvSet::all(alloc),
-        Some(token) => {
-            if ms.len() == 0 {
-                stand(alloc, decls, tokens, token, None)
-            } else {
-                let m = &ms[0];
-                stand(alloc, decls, tokens, token, id_of_comma(&m.comma))
-            }
+    /// The id of the comma before it. Takes no memory.
+    pub fn comma_id(&self) -> Option<u64>
+        ensures { result ≡ id_of self.now.comma }
+    {
+        match self.comma {
+            Some(token) => Some(token.id),
+            None => None,
         }
     }
 }
 
-fn fit_value(alloc: Global, decls: &[VarDecl], name: &[u8], tree: &Tree) -> Result<EnvSet, NoMemory>
-    ensures meaning { IfOk result (λ r. (env : Environment) → set_denotes r env ≡ of.value_is decls.now env (declared_as decls.now name.now) tree.now) }
-    ensures vars { IfOk result (λ r. (t : Var → Bool) → var_vars t (declared_as decls.now name.now) ≡ true → set_vars t r ≡ true) }
+/// The children that are no commas, each with the comma before it: of two commas side by side the later one. Linear in
+/// their number.
+pub fn list_members<'a>(
+    alloc: Global,
+    children: &'a [Tree],
+) -> Result<Vec<ListMember<'a>>, NoMemory>
+    ensures { IfOk result (λ found. found.items ≡ members children.now) }
 {
-    match declared_as(decls, name) {
-        None => Ok(EnvSet::none(alloc)),
-        Some(d) => EnvSet::one(
-            alloc,
-            &d.var,
-            Bound::Is(Value::term(alloc, tree.copy(alloc)?)?),
-        ),
+    let mut found = Vec::new(alloc);
+    let mut before: Option<&'a Token> = None;
+    for child in children {
+        match comma(child) {
+            Some(token) => before = Some(token),
+            None => {
+                found.push(ListMember {
+                    comma: before,
+                    tree: child,
+                })?;
+                before = None;
+            }
+        }
+    }
+    Ok(found)
+}
+
+fn push_comma(
+    alloc: Global,
+    children: &mut Items<Tree>,
+    member: &ListMember,
+) -> Result<(), NoMemory>
+    ensures { OnOk result (children.new ≡ children.old ++ comma_kids member.now.comma) }
+{
+    if let Some(token) = member.comma {
+        children.push(Tree::Leaf(token.copy(alloc)?))?;
+    }
+    Ok(())
+}
+
+/// A copy of a run of members, as a list of this label. Linear.
+fn run_tree(alloc: Global, label: Label, members: &[ListMember]) -> Result<Tree, NoMemory>
+    ensures { IfOk result (λ tree. tree ≡ run label members.now) }
+{
+    let mut children = Items::new(alloc);
+    for (i, member) in members.iter().enumerate() {
+        if i > 0 {
+            push_comma(alloc, &mut children, member)?;
+        }
+        children.push(member.tree().copy(alloc)?)?;
+    }
+    Ok(Tree::Branch(label, children))
+}
+
+fn is_arguments(label: Label) -> bool
+    ensures { result ≡ of.is_arguments label }
+{
+    match label {
+        Label::Args => true,
+        _ => false,
     }
 }
 
-fn fit_run_value(
+fn is_parameters(label: Label) -> bool
+    ensures { result ≡ of.is_parameters label }
+{
+    match label {
+        Label::Params => true,
+        _ => false,
+    }
+}
+
+fn is_list_kind(kind: MetaKind, label: Label) -> bool
+    ensures { result ≡ of.is_list_kind kind label }
+{
+    match kind {
+        MetaKind::ExprList => is_arguments(label),
+        MetaKind::Params => is_parameters(label),
+        _ => false,
+    }
+}
+
+fn is_wild_kind(label: Label, kind: TokenKind) -> bool
+    ensures { result ≡ of.is_wild_kind label kind }
+{
+    match kind {
+        TokenKind::Dots => true,
+        TokenKind::Meta(kind) => is_list_kind(kind, label),
+        _ => false,
+    }
+}
+
+/// Whether the member of a pattern's list takes any run of members. Takes no memory.
+pub fn is_wild(label: Label, form: &Tree) -> bool
+    ensures { result ≡ of.is_wild label (leaf_of (out-Tree form.now)) }
+{
+    match form {
+        Tree::Leaf(token) => is_wild_kind(label, token.kind),
+        Tree::Branch(_, _) => false,
+    }
+}
+
+/// Whether the i-th member does.
+pub fn is_wild_at(label: Label, forms: &[Tree], i: usize) -> bool
+    requires within { i < length forms.now }
+    ensures { result ≡ first_is_wild label (drop i forms.now) }
+{
+    is_wild(label, &forms[i])
+}
+
+/// The environments in which the pattern's comma stands before the run.
+fn fit_comma(
+    alloc: Global,
+    decls: &[VarDecl],
+    tokens: &[PatToken],
+    comma: &Token,
+    run: &[ListMember],
+) -> Result<EnvSet, NoMemory>
+    ensures meaning { IfOk result (λ r. (env : Environment) → set_denotes r env
+        ≡ of.comma_fits decls.now tokens.now env (Some comma.now) run.now) }
+    ensures vars { IfOk result (λ r. (t : Var → Bool)
+        → comma_vars decls.now tokens.now t (Some comma.now) ≡ true →
+        set_vars t r ≡ true) }
+{
+    let all = EnvSet::all(alloc)?;
+    match run {
+        [] => with_stand(alloc, all, decls, tokens, comma, None),
+        [first, ..] => with_stand(alloc, all, decls, tokens, comma, first.comma_id()),
+    }
+}
+
+/// The environments in which the pattern's comma directly before its i-th child, if one stands there, stands before
+/// the run.
+pub fn fit_comma_before(
+    alloc: Global,
+    decls: &[VarDecl],
+    tokens: &[PatToken],
+    forms: &[Tree],
+    i: usize,
+    run: &[ListMember],
+) -> Result<EnvSet, NoMemory>
+    requires within { i ≤ length forms.now }
+    ensures meaning { IfOk result (λ r. (env : Environment) → set_denotes r env
+        ≡ of.comma_fits decls.now tokens.now env (comma_before forms.now i) run.now) }
+    ensures vars { IfOk result (λ r. (t : Var → Bool)
+        → list_all (form_vars decls.now tokens.now t) forms.now ≡ true →
+        set_vars t r ≡ true) }
+{
+    if i == 0 {
+        return EnvSet::all(alloc);
+    }
+    match comma(&forms[i - 1]) {
+        Some(token) => fit_comma(alloc, decls, tokens, token, run),
+        None => EnvSet::all(alloc),
+    }
+}
+
+/// Whether the pattern's comma directly before its i-th child may be aligned with nothing. Takes no memory.
+pub fn is_bare_before(tokens: &[PatToken], forms: &[Tree], i: usize) -> bool
+    requires within { i ≤ length forms.now }
+    ensures { result ≡ of.is_bare_comma tokens.now (comma_before forms.now i) }
+{
+    if i == 0 {
+        return true;
+    }
+    match comma(&forms[i - 1]) {
+        Some(token) => is_bare_token(tokens, token.id),
+        None => true,
+    }
+}
+
+/// The environments in which the list variable is the run.
+fn fit_value(alloc: Global, decls: &[VarDecl], name: &[u8], run: &Tree) -> Result<EnvSet, NoMemory>
+    ensures meaning { IfOk result (λ r. (env : Environment) → set_denotes r env
+        ≡ value_is decls.now env (declared_as decls.now name.now) run.now) }
+    ensures vars { IfOk result (λ r. (t : Var → Bool)
+        → var_passes t (declared_as decls.now name.now) ≡ true →
+        set_vars t r ≡ true) }
+{
+    match declared_as(decls, name) {
+        None => Ok(EnvSet::none(alloc)),
+        Some(decl) => is_tree(alloc, &decl.var, run),
+    }
+}
+
+fn fit_wild_value(
     alloc: Global,
     decls: &[VarDecl],
     token: &Token,
-    tree: &Tree,
+    run: &Tree,
 ) -> Result<EnvSet, NoMemory>
-    ensures meaning { IfOk result (λ r. (env : Environment) → set_denotes r env ≡ of.run_is decls.now env token.now.kind token.now tree.now) }
-    ensures vars { IfOk result (λ r. (t : Var → Bool) → meta_vars decls.now t token.now.kind token.now ≡ true → set_vars t r ≡ true) }
+    ensures meaning { IfOk result (λ r. (env : Environment) → set_denotes r env
+        ≡ run_is decls.now env token.now.kind token.now run.now) }
+    ensures vars { IfOk result (λ r. (t : Var → Bool)
+        → meta_passes decls.now t token.now.kind token.now ≡ true →
+        set_vars t r ≡ true) }
 {
     match token.kind {
-        TokenKind::Meta(_) => fit_value(alloc, decls, token.text.as_bytes(), tree),
+        TokenKind::Meta(_) => fit_value(alloc, decls, token.text.as_bytes(), run),
         _ => EnvSet::all(alloc),
     }
 }
 
-/// The environments in which Dots or a list variable take the run.
-pub fn fit_run(
+fn is_dots(kind: TokenKind) -> bool
+    ensures { result ≡ true → kind ≡ token_kind.Dots }
+{
+    match kind {
+        TokenKind::Dots => true,
+        _ => false,
+    }
+}
+
+/// Whether the token takes every run in every environment: dots without positions and plus code.
+fn takes_all(tokens: &[PatToken], token: &Token) -> bool
+    ensures { result ≡ true → (decls : List VarDecl) (env : Environment) (whole : Tree)
+        (first : Option ℕ) →
+        (run_is decls env token.now.kind token.now whole && stands decls tokens.now env token.now first) ≡ true }
+{
+    is_dots(token.kind) && is_bare_token(tokens, token.id)
+}
+
+/// The environments in which dots or a list variable take the run. Linear in the run, but for bare dots.
+fn fit_run(
     alloc: Global,
     decls: &[VarDecl],
     tokens: &[PatToken],
     label: Label,
     form: &Tree,
-    ms: &[Member],
+    run: &[ListMember],
 ) -> Result<EnvSet, NoMemory>
-    ensures meaning { IfOk result (λ r. (env : Environment) → set_denotes r env ≡ of.run_fits decls.now tokens.now env label (of.leaf_of (out-Tree form.now)) ms.now) }
-    ensures vars { IfOk result (λ r. (t : Var → Bool) → leaf_vars decls.now tokens.now t (of.leaf_of (out-Tree form.now)) ≡ true → set_vars t r ≡ true) }
+    ensures meaning { IfOk result (λ r. (env : Environment) → set_denotes r env
+        ≡ of.run_fits decls.now tokens.now env label (leaf_of (out-Tree form.now)) run.now) }
+    ensures vars { IfOk result (λ r. (t : Var → Bool) →
+        leaf_vars decls.now tokens.now t (leaf_of (out-Tree form.now)) ≡ true → set_vars t r ≡ true) }
 {
     match form {
         Tree::Branch(_, _) => Ok(EnvSet::none(alloc)),
         Tree::Leaf(token) => {
-            let whole = run_of(alloc, label, ms)?;
-            let here = fit_run_value(alloc, decls, token, &whole)?;
-            let first = first_of(&whole);
-            let standing = stand(alloc, decls, tokens, token, first)?;
-            meet(alloc, &here, &standing)
+            if takes_all(tokens, token) {
+                return EnvSet::all(alloc);
+            }
+            let whole = run_tree(alloc, label, run)?;
+            let here = fit_wild_value(alloc, decls, token, &whole)?;
+            let first = first_id(&whole);
+            with_stand(alloc, here, decls, tokens, token, first)
         }
     }
+}
+
+/// The environments in which dots or a list variable, the i-th child of a pattern's list, take the run, with the comma
+/// before them.
+pub fn fit_wild(
+    alloc: Global,
+    decls: &[VarDecl],
+    tokens: &[PatToken],
+    label: Label,
+    forms: &[Tree],
+    i: usize,
+    form: &Tree,
+    run: &[ListMember],
+) -> Result<EnvSet, NoMemory>
+    requires within { i ≤ length forms.now }
+    ensures meaning { IfOk result (λ r. (env : Environment) → set_denotes r env
+        ≡ (of.comma_fits decls.now tokens.now env (comma_before forms.now i) run.now
+        && of.run_fits decls.now tokens.now env label (leaf_of (out-Tree form.now)) run.now)) }
+    ensures vars { IfOk result (λ r. (t : Var → Bool)
+        → list_all (form_vars decls.now tokens.now t) forms.now ≡ true →
+        form_vars decls.now tokens.now t form.now ≡ true → set_vars t r ≡ true) }
+{
+    let before = fit_comma_before(alloc, decls, tokens, forms, i, run)?;
+    let here = fit_run(alloc, decls, tokens, label, form, run)?;
+    both(alloc, before, here)
 }

@@ -1,14 +1,14 @@
-// Forms that keep the sure variables of the first.
-ghost use Rattle.std.specs.Prelude.{◌≡◌, ℕ, Bool, true, false, not, ◌&&◌, ◌||◌, IfOk, slice_get, length, List};
+// Forms that have the sure variables of the first: an isomorphism never unbinds a variable.
+ghost use Rattle.std.specs.Prelude.{◌≡◌, Bool, true, false, not, ◌&&◌, ◌||◌, slice_get, length};
 ghost use Rattle.std.specs.List.{list_any, list_all};
 ghost use Rattle.c_terms.specs.declared.tree.Tree.{out-Tree};
-ghost use Rattle.smpl_patch.specs.Patterns.{declared_as, held_sure};
+ghost use Rattle.c_terms.specs.Trees.{leaves};
+ghost use Rattle.smpl_patch.specs.Patterns.{declared_as};
 ghost use Rattle.pat_match.specs.Matching as of;
 
-use c_terms::{NoMemory, Token, TokenKind, Tree, leaves};
+use c_terms::{Token, TokenKind, Tree};
 use smpl_patch::{PatToken, Pattern, Spot, VarDecl, declared_as, is_held_sure};
 use smpl_terms::Var;
-use std::alloc::Global;
 
 /// Whether the form has the variable as a sure one, where the first has.
 fn keeps(
@@ -19,7 +19,7 @@ fn keeps(
     form: &Tree,
     x: &Var,
 ) -> bool
-    ensures { result ≡ (not (held_sure decls.now tokens.now spot x.now first.now) || held_sure decls.now tokens.now spot x.now form.now) }
+    ensures { result ≡ of.keeps decls.now tokens.now spot first.now form.now x.now }
 {
     !is_held_sure(decls, tokens, spot, x, first) || is_held_sure(decls, tokens, spot, x, form)
 }
@@ -32,12 +32,14 @@ fn keeps_meta(
     form: &Tree,
     token: &Token,
 ) -> bool
-    ensures { result ≡ of.meta_passes decls.now (λ x. not (held_sure decls.now tokens.now spot x first.now) || held_sure decls.now tokens.now spot x form.now) token.now.kind token.now }
+    ensures { result ≡ of.meta_passes decls.now
+        (of.keeps decls.now tokens.now spot first.now form.now)
+        token.now.kind token.now }
 {
     match token.kind {
         TokenKind::Meta(_) => match declared_as(decls, token.text.as_bytes()) {
             None => true,
-            Some(d) => keeps(decls, tokens, spot, first, form, &d.var),
+            Some(decl) => keeps(decls, tokens, spot, first, form, &decl.var),
         },
         _ => true,
     }
@@ -49,11 +51,11 @@ fn keeps_all(
     spot: Spot,
     first: &Tree,
     form: &Tree,
-    xs: &[Var],
+    vars: &[Var],
 ) -> bool
-    ensures { result ≡ list_all (λ x. not (held_sure decls.now tokens.now spot x first.now) || held_sure decls.now tokens.now spot x form.now) xs.now }
+    ensures { result ≡ list_all (of.keeps decls.now tokens.now spot first.now form.now) vars.now }
 {
-    for x in xs {
+    for x in vars {
         if !keeps(decls, tokens, spot, first, form, x) {
             return false;
         }
@@ -69,7 +71,8 @@ fn keeps_positions(
     form: &Tree,
     id: u64,
 ) -> bool
-    ensures { result ≡ of.positions_pass (λ x. not (held_sure decls.now tokens.now spot x first.now) || held_sure decls.now tokens.now spot x form.now) (slice_get tokens.now id) }
+    ensures { result ≡ of.positions_pass (of.keeps decls.now tokens.now spot first.now form.now)
+        (slice_get tokens.now id) }
 {
     match tokens.get(id as usize) {
         None => true,
@@ -77,39 +80,40 @@ fn keeps_positions(
     }
 }
 
-fn is_live(
-    alloc: Global,
+/// Whether the form keeps the variables of this part of the first form.
+fn keeps_part(
     decls: &[VarDecl],
     tokens: &[PatToken],
     spot: Spot,
     first: &Tree,
     form: &Tree,
-) -> Result<bool, NoMemory>
-    ensures { IfOk result (λ r. r ≡ of.is_live decls.now tokens.now spot first.now form.now) }
+    part: &Tree,
+) -> bool
+    ensures { result ≡ list_all (of.token_passes decls.now tokens.now
+        (of.keeps decls.now tokens.now spot first.now form.now)) (leaves part.now) }
 {
-    let all = leaves(alloc, first)?;
-    for token in all.as_slice() {
-        if !(keeps_meta(decls, tokens, spot, first, form, token)
-            && keeps_positions(decls, tokens, spot, first, form, token.id))
-        {
-            return Ok(false);
+    match part {
+        Tree::Leaf(token) => {
+            keeps_meta(decls, tokens, spot, first, form, token)
+                && keeps_positions(decls, tokens, spot, first, form, token.id)
+        }
+        Tree::Branch(_, children) => {
+            for child in children.as_slice() {
+                if !keeps_part(decls, tokens, spot, first, form, child) {
+                    return false;
+                }
+            }
+            true
         }
     }
-    Ok(true)
 }
 
-/// Whether the form has the sure variables of the pattern's first.
-pub fn is_live_in(
-    alloc: Global,
-    decls: &[VarDecl],
-    tokens: &[PatToken],
-    p: &Pattern,
-    form: &Tree,
-) -> Result<bool, NoMemory>
-    ensures { IfOk result (λ r. r ≡ of.is_live_in decls.now tokens.now p.now form.now) }
+/// Whether the form has the sure variables of the pattern's first. Takes no memory.
+pub fn is_live(decls: &[VarDecl], tokens: &[PatToken], p: &Pattern, form: &Tree) -> bool
+    ensures { result ≡ of.is_live_in decls.now tokens.now p.now form.now }
 {
     match p.forms.as_slice() {
-        [first, ..] => is_live(alloc, decls, tokens, p.spot, first, form),
-        [] => Ok(false),
+        [first, ..] => keeps_part(decls, tokens, p.spot, first, form, first),
+        [] => false,
     }
 }

@@ -1,11 +1,14 @@
 // A form against a node: heads and tails by their own tokens, braces, statement variables, expression parts.
-ghost use Rattle.std.specs.Prelude.{◌≡◌, ℕ, ◌^◌, ◌<◌, Bool, true, false, not, ◌&&◌, ◌||◌, IfOk, map, slice_get, length, Option, Some, None, List, [], ◌∷◌, codes};
+ghost use Rattle.std.specs.Prelude.{◌≡◌, Bool, true, false, not, ◌&&◌, ◌||◌, IfOk, map, length};
+ghost use Rattle.std.specs.List.{list_all};
 ghost use Rattle.std.specs.Option.{option_copied};
-ghost use Rattle.std.specs.List.{filter};
 ghost use Rattle.c_terms.specs.declared.tree.Tree.{out-Tree};
+ghost use Rattle.c_terms.specs.Shapes.{shape_of};
 ghost use Rattle.smpl_patch.specs.Patterns.{is_statement_token};
 ghost use Rattle.smpl_terms.specs.Environments.{Environment};
-ghost use Rattle.env_sets.specs.Sets.{set_denotes};
+ghost use Rattle.env_sets.specs.Sets.{set_denotes, set_vars};
+ghost use Rattle.smpl_terms.specs.declared.var.Var.{Var};
+ghost use Rattle.pat_match.specs.Vars.{form_vars};
 ghost use Rattle.cfg_graph.specs.Own as own;
 ghost use Rattle.pat_match.specs.Fitting.{piece, fits_tree, kids_fit};
 ghost use Rattle.c_terms.specs.Lists as lists;
@@ -13,14 +16,11 @@ ghost use Rattle.smpl_patch.specs.declared.pattern.Spot.TheVariants as spot;
 ghost use Rattle.pat_match.specs.Spots as of;
 
 use crate::fit::fit;
-use c_terms::{
-    Label, MetaKind, NoMemory, Token, TokenKind, Tree, TreePath, child, expression_paths,
-    same_text, width,
-};
+use crate::sets::{both, is_none};
+use c_terms::{Label, MetaKind, NoMemory, Shape, Token, TokenKind, Tree, child, same_text};
 use cfg_graph::{NodeKind, is_own};
-use env_sets::{EnvSet, meet};
+use env_sets::EnvSet;
 use smpl_patch::{PatToken, Spot, VarDecl};
-use sqlite_items::Items;
 use std::alloc::Global;
 
 fn is_punct(kind: TokenKind) -> bool
@@ -123,7 +123,11 @@ fn fit_open(
     form: &Tree,
     tree: &Tree,
 ) -> Result<EnvSet, NoMemory>
-    ensures { IfOk result (λ r. (env : Environment) → set_denotes r env ≡ of.option_fits (fits_tree decls.now tokens.now env form.now) (of.open_brace kind tree.now)) }
+    ensures meaning { IfOk result (λ r. (env : Environment) → set_denotes r env
+        ≡ of.option_fits (fits_tree decls.now tokens.now env form.now) (of.open_brace kind tree.now)) }
+    ensures vars { IfOk result (λ r. (t : Var → Bool) → form_vars decls.now tokens.now t form.now
+        ≡ true →
+        set_vars t r ≡ true) }
 {
     match open_brace(kind, tree) {
         None => Ok(EnvSet::none(alloc)),
@@ -139,7 +143,11 @@ fn fit_close(
     form: &Tree,
     tree: &Tree,
 ) -> Result<EnvSet, NoMemory>
-    ensures { IfOk result (λ r. (env : Environment) → set_denotes r env ≡ of.option_fits (fits_tree decls.now tokens.now env form.now) (of.close_brace kind tree.now)) }
+    ensures meaning { IfOk result (λ r. (env : Environment) → set_denotes r env
+        ≡ of.option_fits (fits_tree decls.now tokens.now env form.now) (of.close_brace kind tree.now)) }
+    ensures vars { IfOk result (λ r. (t : Var → Bool) → form_vars decls.now tokens.now t form.now
+        ≡ true →
+        set_vars t r ≡ true) }
 {
     match close_brace(kind, tree) {
         None => Ok(EnvSet::none(alloc)),
@@ -155,7 +163,11 @@ fn fit_where(
     form: &Tree,
     tree: &Tree,
 ) -> Result<EnvSet, NoMemory>
-    ensures { IfOk result (λ r. (env : Environment) → set_denotes r env ≡ (here && fits_tree decls.now tokens.now env form.now tree.now)) }
+    ensures meaning { IfOk result (λ r. (env : Environment) → set_denotes r env
+        ≡ (here && fits_tree decls.now tokens.now env form.now tree.now)) }
+    ensures vars { IfOk result (λ r. (t : Var → Bool) → form_vars decls.now tokens.now t form.now
+        ≡ true →
+        set_vars t r ≡ true) }
 {
     if here {
         fit(alloc, decls, tokens, form, tree)
@@ -173,7 +185,11 @@ fn fit_own_child(
     form: &Tree,
     tree: &Tree,
 ) -> Result<EnvSet, NoMemory>
-    ensures { IfOk result (λ r. (env : Environment) → set_denotes r env ≡ (not own || fits_tree decls.now tokens.now env form.now tree.now)) }
+    ensures meaning { IfOk result (λ r. (env : Environment) → set_denotes r env
+        ≡ (not own || fits_tree decls.now tokens.now env form.now tree.now)) }
+    ensures vars { IfOk result (λ r. (t : Var → Bool) → form_vars decls.now tokens.now t form.now
+        ≡ true →
+        set_vars t r ≡ true) }
 {
     if own {
         fit(alloc, decls, tokens, form, tree)
@@ -192,16 +208,23 @@ fn fit_own_all(
     forms: &[Tree],
     trees: &[Tree],
 ) -> Result<EnvSet, NoMemory>
-    ensures { IfOk result (λ r. (env : Environment) → set_denotes r env ≡ of.own_fit (own.is_own kind label (length forms.now)) 0 (map (piece decls.now tokens.now env) forms.now) trees.now) }
+    ensures meaning { IfOk result (λ r. (env : Environment) → set_denotes r env
+        ≡ of.own_fit (own.is_own kind label (length forms.now)) 0 (map (piece decls.now tokens.now env) forms.now) trees.now) }
+    ensures vars { IfOk result (λ r. (t : Var → Bool)
+        → list_all (form_vars decls.now tokens.now t) forms.now ≡ true →
+        set_vars t r ≡ true) }
 {
     if forms.len() != trees.len() {
         return Ok(EnvSet::none(alloc));
     }
     let mut out = EnvSet::all(alloc)?;
     for i in 0..forms.len() {
+        if is_none(&out) {
+            return Ok(out);
+        }
         let own = is_own(kind, label, forms.len(), i);
         let here = fit_own_child(alloc, decls, tokens, own, &forms[i], &trees[i])?;
-        out = meet(alloc, &out, &here)?;
+        out = both(alloc, out, here)?;
     }
     Ok(out)
 }
@@ -215,8 +238,11 @@ fn fit_own_kids(
     forms: &[Tree],
     tree: &Tree,
 ) -> Result<EnvSet, NoMemory>
-    ensures { IfOk result (λ r. (env : Environment) → set_denotes r env
+    ensures meaning { IfOk result (λ r. (env : Environment) → set_denotes r env
         ≡ kids_fit (of.own_fit (own.is_own kind label (length forms.now)) 0) label (map (piece decls.now tokens.now env) forms.now) (out-Tree tree.now)) }
+    ensures vars { IfOk result (λ r. (t : Var → Bool)
+        → list_all (form_vars decls.now tokens.now t) forms.now ≡ true →
+        set_vars t r ≡ true) }
 {
     match tree {
         Tree::Leaf(_) => Ok(EnvSet::none(alloc)),
@@ -229,7 +255,16 @@ fn fit_own_kids(
     }
 }
 
-/// The environments in which the own tokens of a head or tail fit.
+fn is_disjunction(label: Label) -> bool
+    ensures { result ≡ of.is_disjunction (shape_of label) }
+{
+    match label.shape() {
+        Shape::Or => true,
+        _ => false,
+    }
+}
+
+/// The environments in which the own tokens of a head or tail fit. A disjunction fits neither.
 fn fit_own(
     alloc: Global,
     decls: &[VarDecl],
@@ -238,11 +273,18 @@ fn fit_own(
     form: &Tree,
     tree: &Tree,
 ) -> Result<EnvSet, NoMemory>
-    ensures { IfOk result (λ r. (env : Environment) → set_denotes r env ≡ of.own_fits decls.now tokens.now env kind (out-Tree form.now) tree.now) }
+    ensures meaning { IfOk result (λ r. (env : Environment) → set_denotes r env
+        ≡ of.own_fits decls.now tokens.now env kind (out-Tree form.now) tree.now) }
+    ensures vars { IfOk result (λ r. (t : Var → Bool) → form_vars decls.now tokens.now t form.now
+        ≡ true →
+        set_vars t r ≡ true) }
 {
     match form {
         Tree::Leaf(_) => Ok(EnvSet::none(alloc)),
         Tree::Branch(label, forms) => {
+            if is_disjunction(*label) {
+                return Ok(EnvSet::none(alloc));
+            }
             fit_own_kids(alloc, decls, tokens, kind, *label, forms.as_slice(), tree)
         }
     }
@@ -257,7 +299,11 @@ fn fit_token_whole(
     form: &Tree,
     tree: &Tree,
 ) -> Result<EnvSet, NoMemory>
-    ensures { IfOk result (λ r. (env : Environment) → set_denotes r env ≡ of.token_whole decls.now tokens.now env kind token.now form.now tree.now) }
+    ensures meaning { IfOk result (λ r. (env : Environment) → set_denotes r env
+        ≡ of.token_whole decls.now tokens.now env kind token.now form.now tree.now) }
+    ensures vars { IfOk result (λ r. (t : Var → Bool) → form_vars decls.now tokens.now t form.now
+        ≡ true →
+        set_vars t r ≡ true) }
 {
     if is_open_brace(token) {
         fit_open(alloc, decls, tokens, kind, form, tree)
@@ -278,7 +324,11 @@ fn fit_branch_whole(
     form: &Tree,
     tree: &Tree,
 ) -> Result<EnvSet, NoMemory>
-    ensures { IfOk result (λ r. (env : Environment) → set_denotes r env ≡ of.branch_whole decls.now tokens.now env kind form.now tree.now) }
+    ensures meaning { IfOk result (λ r. (env : Environment) → set_denotes r env
+        ≡ of.branch_whole decls.now tokens.now env kind form.now tree.now) }
+    ensures vars { IfOk result (λ r. (t : Var → Bool) → form_vars decls.now tokens.now t form.now
+        ≡ true →
+        set_vars t r ≡ true) }
 {
     match kind {
         NodeKind::Simple => fit(alloc, decls, tokens, form, tree),
@@ -296,7 +346,11 @@ fn fit_whole(
     form: &Tree,
     tree: &Tree,
 ) -> Result<EnvSet, NoMemory>
-    ensures { IfOk result (λ r. (env : Environment) → set_denotes r env ≡ of.whole_at decls.now tokens.now env kind (out-Tree form.now) form.now tree.now) }
+    ensures meaning { IfOk result (λ r. (env : Environment) → set_denotes r env
+        ≡ of.whole_at decls.now tokens.now env kind (out-Tree form.now) form.now tree.now) }
+    ensures vars { IfOk result (λ r. (t : Var → Bool) → form_vars decls.now tokens.now t form.now
+        ≡ true →
+        set_vars t r ≡ true) }
 {
     match form {
         Tree::Leaf(token) => fit_token_whole(alloc, decls, tokens, kind, token, form, tree),
@@ -312,7 +366,11 @@ fn fit_tail(
     form: &Tree,
     tree: &Tree,
 ) -> Result<EnvSet, NoMemory>
-    ensures { IfOk result (λ r. (env : Environment) → set_denotes r env ≡ of.fits_at decls.now tokens.now env spot.Tail kind form.now tree.now) }
+    ensures meaning { IfOk result (λ r. (env : Environment) → set_denotes r env
+        ≡ of.fits_at decls.now tokens.now env spot.Tail kind form.now tree.now) }
+    ensures vars { IfOk result (λ r. (t : Var → Bool) → form_vars decls.now tokens.now t form.now
+        ≡ true →
+        set_vars t r ≡ true) }
 {
     if is_tail_node(kind) {
         fit_own(alloc, decls, tokens, NodeKind::DoTail, form, tree)
@@ -331,77 +389,15 @@ pub fn fit_at(
     form: &Tree,
     tree: &Tree,
 ) -> Result<EnvSet, NoMemory>
-    ensures { IfOk result (λ r. (env : Environment) → set_denotes r env ≡ of.fits_at decls.now tokens.now env spot kind form.now tree.now) }
+    ensures meaning { IfOk result (λ r. (env : Environment) → set_denotes r env
+        ≡ of.fits_at decls.now tokens.now env spot kind form.now tree.now) }
+    ensures vars { IfOk result (λ r. (t : Var → Bool) → form_vars decls.now tokens.now t form.now
+        ≡ true →
+        set_vars t r ≡ true) }
 {
     match spot {
         Spot::Whole => fit_whole(alloc, decls, tokens, kind, form, tree),
         Spot::Tail => fit_tail(alloc, decls, tokens, kind, form, tree),
         Spot::Inside => fit(alloc, decls, tokens, form, tree),
-    }
-}
-
-fn is_own_path(kind: NodeKind, tree: &Tree, path: &[u32]) -> bool
-    ensures { result ≡ of.is_own_path kind (out-Tree tree.now) path.now }
-{
-    match tree {
-        Tree::Leaf(_) => false,
-        Tree::Branch(label, children) => match path {
-            [] => false,
-            [i, ..] => is_own_step(kind, *label, children.len(), *i as usize),
-        },
-    }
-}
-
-fn is_own_step(kind: NodeKind, label: Label, n: usize, i: usize) -> bool
-    requires { i < 2 ^ 32 }
-    ensures { result ≡ own.is_own kind label n i }
-{
-    match kind {
-        NodeKind::OpenBrace => i == 0,
-        NodeKind::CloseBrace => i + 1 == n,
-        NodeKind::FunHead => !label.is_body(n, i) && !label.is_tail(i),
-        NodeKind::Head => !label.is_body(n, i) && !label.is_tail(i),
-        NodeKind::DoTail => label.is_tail(i),
-        _ => true,
-    }
-}
-
-fn own_paths(alloc: Global, kind: NodeKind, tree: &Tree) -> Result<Items<TreePath>, NoMemory>
-    ensures { IfOk result (λ r. r ≡ of.own_paths kind tree.now) }
-{
-    if width(tree) >= 4294967296 {
-        return Err(NoMemory);
-    }
-    let all = expression_paths(alloc, tree)?;
-    let mut out = Items::new(alloc);
-    for path in all.as_slice() {
-        if is_own_path(kind, tree, path.steps()) {
-            out.push(path.copy(alloc)?)?;
-        }
-    }
-    Ok(out)
-}
-
-fn the_root(alloc: Global) -> Result<Items<TreePath>, NoMemory>
-    ensures { IfOk result (λ r. r ≡ [] ∷ []) }
-{
-    let mut out = Items::new(alloc);
-    out.push(TreePath::of(Vec::new(alloc)))?;
-    Ok(out)
-}
-
-/// The paths of the subtrees against which a form of this spot is held, in the node's tree.
-pub fn seats(
-    alloc: Global,
-    spot: Spot,
-    kind: NodeKind,
-    tree: &Tree,
-) -> Result<Items<TreePath>, NoMemory>
-    ensures { IfOk result (λ r. r ≡ of.seats spot kind tree.now) }
-{
-    match spot {
-        Spot::Inside => own_paths(alloc, kind, tree),
-        Spot::Whole => the_root(alloc),
-        Spot::Tail => the_root(alloc),
     }
 }

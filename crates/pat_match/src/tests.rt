@@ -9,6 +9,7 @@ use smpl_terms::{Env, Value, Var};
 use sqlite_items::Items;
 use std::alloc::Global;
 use std::test::Fail;
+use std::thread;
 
 fn leaf(alloc: Global, kind: TokenKind, text: &[u8], id: u64) -> Result<Tree, NoMemory> {
     Ok(Tree::Leaf(Token {
@@ -92,77 +93,68 @@ fn declared(alloc: Global) -> Result<Vec<VarDecl>, NoMemory> {
     Ok(decls)
 }
 
-fn is_two_one(path: &TreePath) -> bool {
-    match path.steps() {
-        [2, 1, ..] => true,
-        _ => false,
-    }
-}
-
-/// What was found: whether the set has `E` as the value, whether all paths begin as that of the node does, the longest of
-/// them, and how many there are.
+/// What is wanted: whether the set has `E` as the value, how many subtrees match then, and the longest of their paths.
 #[derive(Drop)]
-struct Found {
+struct Wanted<'a> {
     fits: bool,
-    begin_alike: bool,
-    deepest: Vec<u32>,
     count: usize,
+    deepest: &'a [u32],
 }
 
-fn put_longer(alloc: Global, longest: &mut Vec<u32>, steps: &[u32]) -> Result<(), NoMemory> {
-    if longest.len() < steps.len() {
-        *longest = Vec::from_slice(alloc, steps)?;
-    }
-    Ok(())
-}
-
-fn seen(alloc: Global, fits: bool, found: &[Alignment]) -> Result<Found, NoMemory> {
-    let mut begin_alike = true;
-    let mut deepest = Vec::new(alloc);
+fn longest(found: &[Alignment]) -> &[u32] {
+    let mut longest: &[u32] = &[];
     for alignment in found {
-        begin_alike = begin_alike && is_two_one(&alignment.path) && alignment.form == 0;
-        put_longer(alloc, &mut deepest, alignment.path.steps())?;
+        if longest.len() < alignment.path.steps().len() {
+            longest = alignment.path.steps();
+        }
     }
-    Ok(Found {
-        fits,
-        begin_alike,
-        deepest,
-        count: found.len(),
-    })
+    longest
 }
 
-/// What the form says of the statement, which stands at the path 2.1, where `E` is this value.
-fn asked(
-    alloc: Global,
-    spot: Spot,
-    form: Tree,
-    tree: &Tree,
-    value: Tree,
-) -> Result<Found, NoMemory> {
-    let mut forms = list(alloc);
-    forms.push(form)?;
-    let p = Pattern {
-        atom: 0,
-        spot,
-        forms,
-    };
+fn is_as_wanted(wanted: &Wanted, fits: bool, found: &[Alignment]) -> bool {
+    fits == wanted.fits && found.len() == wanted.count && longest(found) == wanted.deepest
+}
+
+fn simple_node(alloc: Global, tree: &Tree) -> Result<NodeLabel, NoMemory> {
     let path: [u32; 2] = [2, 1];
-    let node = NodeLabel {
+    Ok(NodeLabel {
         kind: NodeKind::Simple,
         tree: NodeTree::of(tree),
         path: TreePath::of(Vec::from_slice(alloc, &path)?),
         bail: false,
         brace: 0,
-    };
+    })
+}
+
+fn pattern(alloc: Global, spot: Spot, form: Tree) -> Result<Pattern, NoMemory> {
+    let mut forms = list(alloc);
+    forms.push(form)?;
+    Ok(Pattern {
+        atom: 0,
+        spot,
+        forms,
+    })
+}
+
+/// Whether the form says what is wanted of the statement, which stands at the path 2.1, where `E` is this value.
+fn says(
+    alloc: Global,
+    spot: Spot,
+    form: Tree,
+    tree: &Tree,
+    value: Tree,
+    wanted: Wanted,
+) -> Result<bool, NoMemory> {
+    let p = pattern(alloc, spot, form)?;
+    let node = simple_node(alloc, tree)?;
     let decls = declared(alloc)?;
-    let tokens: Vec<PatToken> = Vec::new(alloc);
     let env = Env::empty(alloc).with(alloc, &variable(alloc)?, &Value::term(alloc, value)?)?;
     if p.forms.len() > 1 {
-        return Err(NoMemory);
+        return Ok(false);
     }
-    let set = solve(alloc, &p, &decls, &tokens, &node)?;
-    let found = align(alloc, &p, &decls, &tokens, &node, &env)?;
-    seen(alloc, denotes(&set, &env), found.as_slice())
+    let set = solve(alloc, &p, &decls, &[], &node)?;
+    let found = align(alloc, &p, &decls, &[], &node, &env)?;
+    Ok(is_as_wanted(&wanted, denotes(&set, &env), &found))
 }
 
 /// `x = f(a) + f(b);`
@@ -174,41 +166,33 @@ fn sum(alloc: Global) -> Result<Tree, NoMemory> {
     statement(alloc, binary(alloc, Label::Assign, x, b"=", both)?)
 }
 
-#[test]
-fn calls_inside_a_sum(rt: HostRuntime) -> Result<(), Fail> {
-    let alloc = rt.alloc();
+/// `f(E)` in `x = f(a) + f(b);`, where `E` is this name
+fn in_a_sum(alloc: Global, value: &[u8], wanted: Wanted) -> Result<bool, NoMemory> {
     let tree = sum(alloc)?;
     let form = call_of(alloc, meta(alloc)?)?;
-    let found = asked(alloc, Spot::Inside, form, &tree, name(alloc, b"b", 7)?)?;
-    assert!(rt; found.fits && found.begin_alike);
-    assert_eq!(rt; found.count, 1);
-    let path: [u32; 5] = [2, 1, 0, 2, 2];
-    assert_eq!(rt; found.deepest.as_slice(), path.as_slice());
-    Ok(())
+    says(
+        alloc,
+        Spot::Inside,
+        form,
+        &tree,
+        name(alloc, value, 7)?,
+        wanted,
+    )
 }
 
-#[test]
-fn a_name_that_no_call_has(rt: HostRuntime) -> Result<(), Fail> {
-    let alloc = rt.alloc();
-    let tree = sum(alloc)?;
-    let form = call_of(alloc, meta(alloc)?)?;
-    let found = asked(alloc, Spot::Inside, form, &tree, name(alloc, b"x", 7)?)?;
-    assert!(rt; !found.fits);
-    assert_eq!(rt; found.count, 0);
-    Ok(())
-}
-
-#[test]
-fn a_call_in_a_call(rt: HostRuntime) -> Result<(), Fail> {
-    let alloc = rt.alloc();
+/// `f(E)` in `f(f(x));`, where `E` is `x`
+fn in_a_call(alloc: Global, wanted: Wanted) -> Result<bool, NoMemory> {
     let inner = call_of(alloc, name(alloc, b"x", 20)?)?;
     let tree = statement(alloc, call_of(alloc, inner)?)?;
     let form = call_of(alloc, meta(alloc)?)?;
-    let found = asked(alloc, Spot::Inside, form, &tree, name(alloc, b"x", 7)?)?;
-    assert!(rt; found.fits);
-    let path: [u32; 5] = [2, 1, 0, 2, 0];
-    assert_eq!(rt; found.deepest.as_slice(), path.as_slice());
-    Ok(())
+    says(
+        alloc,
+        Spot::Inside,
+        form,
+        &tree,
+        name(alloc, b"x", 7)?,
+        wanted,
+    )
 }
 
 /// `f(..., E, ...)`
@@ -233,41 +217,67 @@ fn three_arguments(alloc: Global) -> Result<Tree, NoMemory> {
     statement(alloc, call(alloc, arguments)?)
 }
 
+/// `f(..., E, ...)` in `f(a, b, c);`, where `E` is this name
+fn among_three(alloc: Global, value: &[u8], wanted: Wanted) -> Result<bool, NoMemory> {
+    let tree = three_arguments(alloc)?;
+    let form = between_dots(alloc)?;
+    says(
+        alloc,
+        Spot::Inside,
+        form,
+        &tree,
+        name(alloc, value, 7)?,
+        wanted,
+    )
+}
+
+/// `f(E);` as a whole statement, at `f(1);`, where `E` is `1`
+fn whole(alloc: Global, wanted: Wanted) -> Result<bool, NoMemory> {
+    let one = leaf(alloc, TokenKind::Number, b"1", 20)?;
+    let tree = statement(alloc, call_of(alloc, one)?)?;
+    let form = statement(alloc, call_of(alloc, meta(alloc)?)?)?;
+    let value = leaf(alloc, TokenKind::Number, b"1", 7)?;
+    says(alloc, Spot::Whole, form, &tree, value, wanted)
+}
+
+fn none() -> Wanted<'static> {
+    Wanted {
+        fits: false,
+        count: 0,
+        deepest: &[],
+    }
+}
+
+fn once(deepest: &[u32]) -> Wanted<'_> {
+    Wanted {
+        fits: true,
+        count: 1,
+        deepest,
+    }
+}
+
+#[test]
+fn calls_inside_statements(rt: HostRuntime) -> Result<(), Fail> {
+    let alloc = rt.alloc();
+    assert!(rt; in_a_sum(alloc, b"b", once(&[2, 1, 0, 2, 2]))?);
+    assert!(rt; in_a_sum(alloc, b"x", none())?);
+    assert!(rt; in_a_call(alloc, once(&[2, 1, 0, 2, 0]))?);
+    Ok(())
+}
+
 #[test]
 fn one_member_between_dots(rt: HostRuntime) -> Result<(), Fail> {
     let alloc = rt.alloc();
-    let tree = three_arguments(alloc)?;
-    let texts: [&[u8]; 3] = [b"a", b"b", b"c"];
-    for text in texts {
-        let value = name(alloc, text, 7)?;
-        let found = asked(alloc, Spot::Inside, between_dots(alloc)?, &tree, value)?;
-        assert!(rt; found.fits && found.begin_alike);
-        assert_eq!(rt; found.count, 1);
-    }
-    let value = name(alloc, b"f", 7)?;
-    let found = asked(alloc, Spot::Inside, between_dots(alloc)?, &tree, value)?;
-    assert!(rt; !found.fits);
+    assert!(rt; among_three(alloc, b"a", once(&[2, 1, 0]))?);
+    assert!(rt; among_three(alloc, b"b", once(&[2, 1, 0]))?);
+    assert!(rt; among_three(alloc, b"c", once(&[2, 1, 0]))?);
+    assert!(rt; among_three(alloc, b"f", none())?);
     Ok(())
 }
 
 #[test]
 fn whole_statements(rt: HostRuntime) -> Result<(), Fail> {
-    let alloc = rt.alloc();
-    let one = leaf(alloc, TokenKind::Number, b"1", 20)?;
-    let tree = statement(alloc, call_of(alloc, one)?)?;
-    let form = statement(alloc, call_of(alloc, meta(alloc)?)?)?;
-    let value = leaf(alloc, TokenKind::Number, b"1", 7)?;
-    let found = asked(alloc, Spot::Whole, form, &tree, value)?;
-    assert!(rt; found.fits);
-    let path: [u32; 2] = [2, 1];
-    assert_eq!(rt; found.deepest.as_slice(), path.as_slice());
-    let plain = statement(
-        alloc,
-        call_of(alloc, leaf(alloc, TokenKind::Number, b"1", 105)?)?,
-    )?;
-    let found = asked(alloc, Spot::Whole, plain, &tree, name(alloc, b"y", 7)?)?;
-    assert!(rt; found.fits);
-    assert_eq!(rt; found.count, 1);
+    assert!(rt; whole(rt.alloc(), once(&[2, 1]))?);
     Ok(())
 }
 
@@ -280,13 +290,22 @@ fn nested(alloc: Global, calls: u32, inner: Tree) -> Result<Tree, NoMemory> {
     Ok(tree)
 }
 
-#[test]
-fn a_thousand_levels(rt: HostRuntime) -> Result<(), Fail> {
-    let alloc = rt.alloc();
+/// Whether a form of a thousand levels fits a statement of as many.
+fn fits_a_thousand_levels(alloc: Global) -> Result<bool, NoMemory> {
     let tree = statement(alloc, nested(alloc, 499, name(alloc, b"x", 20)?)?)?;
     let form = statement(alloc, nested(alloc, 499, meta(alloc)?)?)?;
-    let found = asked(alloc, Spot::Whole, form, &tree, name(alloc, b"x", 7)?)?;
-    assert!(rt; found.fits);
-    assert_eq!(rt; found.count, 1);
+    let value = name(alloc, b"x", 7)?;
+    says(alloc, Spot::Whole, form, &tree, value, once(&[2, 1]))
+}
+
+#[test]
+fn a_thousand_levels_inside_a_thread(rt: HostRuntime) -> Result<(), Fail> {
+    let alloc = rt.alloc();
+    let (inside, beside) = thread::join(
+        &rt,
+        move || fits_a_thousand_levels(alloc),
+        move || fits_a_thousand_levels(alloc),
+    );
+    assert!(rt; inside? && beside?);
     Ok(())
 }

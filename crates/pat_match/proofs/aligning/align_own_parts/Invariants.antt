@@ -1,0 +1,13 @@
+use Rattle.std.proofs.Common.{◌≡◌, ◌++◌, drop, length}
+use Rattle.smpl_terms.specs.Environments.{total}
+use Rattle.cfg_graph.specs.Own.{is_own}
+use Rattle.pat_match.specs.Spots.{own_parts_from}
+use Rattle.pat_match.specs.Matching.{aligned_at}
+use Rattle.pat_match.proofs.aligning.align_own_parts.Given as goal
+
+abbrev pub invariant-loop-i : goal.invariant-loop-i
+invariant-loop-i l = record {
+  above : l.above.items ≡ l.path;
+  found : l.found.items ++ aligned_at l.decls l.tokens (total l.env) l.p l.kind l.path (own_parts_from (is_own l.kind l.label (length l.children)) l.label l.i (drop l.i l.children))
+      ≡ aligned_at l.decls l.tokens (total l.env) l.p l.kind l.path (own_parts_from (is_own l.kind l.label (length l.children)) l.label 0 l.children);
+}

@@ -1,0 +1,13 @@
+use Rattle.std.proofs.Common.{◌≡◌, ℕ, suc, ◌<◌, ◌&&◌, nat_lt, Bool, true, length}
+use Rattle.std.specs.List.{list_all}
+use Rattle.smpl_terms.specs.declared.var.Var.{Var}
+use Rattle.smpl_terms.specs.Environments.{Environment}
+use Rattle.pat_match.specs.Vars.{form_vars}
+use Rattle.pat_match.specs.Rows.{comma_before, row_at, row_vars, step_at}
+use Rattle.pat_match.proofs.rows.fit_wild_row.Given as goal
+
+abbrev pub invariant-loop-from : goal.invariant-loop-from
+invariant-loop-from l = record {
+  meaning : (n : ℕ) (env : Environment) → row_at l.out.items n env ≡ (nat_lt n l.from && step_at l.decls l.tokens l.label (comma_before l.forms l.i) l.form l.members l.row n env);
+  vars : (t : Var → Bool) → list_all (form_vars l.decls l.tokens t) l.forms ≡ true → form_vars l.decls l.tokens t l.form ≡ true → row_vars t l.row ≡ true → row_vars t l.out.items ≡ true;
+}

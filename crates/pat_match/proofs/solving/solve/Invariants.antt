@@ -1,0 +1,15 @@
+use Rattle.std.proofs.Common.{◌≡◌, Bool, true, take}
+use Rattle.std.specs.List.{list_any, list_all}
+use Rattle.smpl_terms.specs.declared.var.Var.{Var}
+use Rattle.smpl_terms.specs.Environments.{Environment}
+use Rattle.env_sets.specs.Sets.{set_denotes, set_vars}
+use Rattle.pat_match.specs.Spots.{seats}
+use Rattle.pat_match.specs.Matching.{fits_seat}
+use Rattle.pat_match.specs.Vars.{form_vars}
+use Rattle.pat_match.proofs.solving.solve.Given as goal
+
+abbrev pub invariant-loop-form : goal.invariant-loop-form
+invariant-loop-form l = record {
+  meaning : (env : Environment) → set_denotes l.entries.items env ≡ list_any (λ f. list_any (λ s. fits_seat l.decls l.tokens env l.p l.node.kind f s.tree) (seats l.p.spot l.node.kind l.node.tree)) (take l.form-index l.form-items);
+  vars : (t : Var → Bool) → list_all (form_vars l.decls l.tokens t) (take l.form-index l.form-items) ≡ true → set_vars t l.entries.items ≡ true;
+}

@@ -1,0 +1,19 @@
+use Rattle.std.proofs.Common.{sym, ◌∙◌}
+use Rattle.c_terms.specs.Places.{Place}
+use Rattle.pat_match.specs.Spots.{seats, fits_at}
+use Rattle.pat_match.specs.Matching.{is_live_in}
+use Rattle.pat_match.proofs.InsideLemmas.{no_seat, not_live}
+use Rattle.pat_match.proofs.solving.solve_form.Goals as goal
+
+pub returns-then-is_none-clause-meaning : goal.returns-then-is_none-clause-meaning
+returns-then-is_none-clause-meaning c = λ env.
+    let nothing = c.is_none.ensures c.if-is_none.true env in
+    nothing ∙ sym (no_seat (is_live_in c.args.decls.now c.args.tokens.now c.args.p.now c.args.form.now)
+    (λ (s : Place). fits_at c.args.decls.now c.args.tokens.now env c.args.p.now.spot c.args.kind c.args.form.now s.tree)
+    (seats c.args.p.now.spot c.args.kind c.args.tree.now) (sym (c.in_ok-set.ensures.meaning env) ∙ nothing))
+
+pub returns-else-is_live-clause-meaning : goal.returns-else-is_live-clause-meaning
+returns-else-is_live-clause-meaning c = λ env. c.none.ensures.meaning env
+    ∙ sym (not_live (is_live_in c.args.decls.now c.args.tokens.now c.args.p.now c.args.form.now)
+    (λ (s : Place). fits_at c.args.decls.now c.args.tokens.now env c.args.p.now.spot c.args.kind c.args.form.now s.tree)
+    (seats c.args.p.now.spot c.args.kind c.args.tree.now) (sym c.is_live.ensures ∙ c.if-is_live.false))

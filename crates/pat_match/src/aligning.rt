@@ -1,0 +1,297 @@
+// Where a pattern is aligned under one environment.
+ghost use Rattle.std.specs.Prelude.{◌≡◌, ◌++◌, ◌<◌, ◌^◌, IfOk, OnOk, length, [], ◌∷◌, if◌then◌else◌};
+ghost use Rattle.smpl_terms.specs.Environments.{total};
+ghost use Rattle.c_terms.specs.declared.tree.Tree.{out-Tree};
+ghost use Rattle.cfg_graph.specs.Own as own;
+ghost use Rattle.pat_match.specs.Spots as at;
+ghost use Rattle.pat_match.specs.Matching as of;
+
+use crate::live::is_live;
+use crate::spots::fit_at;
+use c_terms::{Label, NoMemory, Tree, TreePath, is_expression_part};
+use cfg_graph::{NodeKind, NodeLabel, is_own};
+use env_sets::denotes;
+use smpl_patch::{PatToken, Pattern, Spot, VarDecl};
+use smpl_terms::Env;
+use std::alloc::Global;
+
+/// A subtree that matches, by its path from the item, and the number of the first form that fits it.
+#[derive(Drop)]
+pub struct Alignment {
+    pub path: TreePath,
+    pub form: u32,
+}
+
+/// Whether the form has the first form's sure variables and fits the subtree.
+fn fits_seat(
+    alloc: Global,
+    p: &Pattern,
+    decls: &[VarDecl],
+    tokens: &[PatToken],
+    kind: NodeKind,
+    form: &Tree,
+    tree: &Tree,
+    env: &Env,
+) -> Result<bool, NoMemory>
+    ensures { IfOk result (λ r. r
+        ≡ of.fits_seat decls.now tokens.now (total env.now) p.now kind form.now tree.now) }
+{
+    let set = fit_at(alloc, decls, tokens, p.spot, kind, form, tree)?;
+    let fits = denotes(&set, env);
+    Ok(fits && is_live(decls, tokens, p, form))
+}
+
+/// The number of the first form that fits the subtree.
+fn form_at(
+    alloc: Global,
+    p: &Pattern,
+    decls: &[VarDecl],
+    tokens: &[PatToken],
+    kind: NodeKind,
+    tree: &Tree,
+    env: &Env,
+) -> Result<Option<u32>, NoMemory>
+    requires few { length p.now.forms < 2 ^ 32 }
+    ensures { IfOk result (λ o. o
+        ≡ of.form_at decls.now tokens.now (total env.now) p.now kind tree.now) }
+{
+    let forms = p.forms.as_slice();
+    for i in 0..forms.len() {
+        if fits_seat(alloc, p, decls, tokens, kind, &forms[i], tree, env)? {
+            return Ok(Some(i as u32));
+        }
+    }
+    Ok(None)
+}
+
+fn put_form(
+    alloc: Global,
+    found: &mut Vec<Alignment>,
+    path: &[u32],
+    form: Option<u32>,
+) -> Result<(), NoMemory>
+    ensures { IfOk result (λ _. found.new.items ≡ found.old.items ++ of.put_form path.now form) }
+{
+    match form {
+        None => Ok(()),
+        Some(form) => {
+            let path = TreePath::of(Vec::from_slice(alloc, path)?);
+            found.push(Alignment { path, form })?;
+            Ok(())
+        }
+    }
+}
+
+/// Adds the subtree at this path, where it is asked for and matches.
+fn put_part(
+    alloc: Global,
+    found: &mut Vec<Alignment>,
+    p: &Pattern,
+    decls: &[VarDecl],
+    tokens: &[PatToken],
+    kind: NodeKind,
+    env: &Env,
+    asked: bool,
+    path: &[u32],
+    tree: &Tree,
+) -> Result<(), NoMemory>
+    requires few { length p.now.forms < 2 ^ 32 }
+    ensures { IfOk result (λ _. found.new.items ≡ found.old.items
+        ++ (if asked then of.put_form path.now (of.form_at decls.now tokens.now (total env.now) p.now kind tree.now)
+        else [])) }
+{
+    if !asked {
+        return Ok(());
+    }
+    let form = form_at(alloc, p, decls, tokens, kind, tree, env)?;
+    put_form(alloc, found, path, form)
+}
+
+/// Adds child i of the branch at the path `above`, where it fills an expression part of the row and matches, and the
+/// parts inside it. Recurses once a level of the child.
+fn put_child(
+    alloc: Global,
+    found: &mut Vec<Alignment>,
+    above: &mut Vec<u32>,
+    p: &Pattern,
+    decls: &[VarDecl],
+    tokens: &[PatToken],
+    kind: NodeKind,
+    env: &Env,
+    label: Label,
+    i: usize,
+    child: &Tree,
+) -> Result<(), NoMemory>
+    requires few { length p.now.forms < 2 ^ 32 }
+    ensures found { OnOk result (found.new.items ≡ found.old.items
+        ++ of.aligned_at decls.now tokens.now (total env.now)
+        p.now kind above.old.items (at.parts_of_child label i child.now)) }
+    ensures above { OnOk result (above.new.items ≡ above.old.items) }
+{
+    if i >= 4294967296 {
+        return Err(NoMemory);
+    }
+    above.push(i as u32)?;
+    let asked = is_expression_part(label, i, child);
+    put_part(
+        alloc,
+        found,
+        p,
+        decls,
+        tokens,
+        kind,
+        env,
+        asked,
+        above.as_slice(),
+        child,
+    )?;
+    match child {
+        Tree::Leaf(_) => {}
+        Tree::Branch(inner, children) => {
+            for (j, below) in children.as_slice().iter().enumerate() {
+                put_child(
+                    alloc, found, above, p, decls, tokens, kind, env, *inner, j, below,
+                )?;
+            }
+        }
+    }
+    above.pop();
+    Ok(())
+}
+
+/// The same, where the child is the node's own.
+fn put_own(
+    alloc: Global,
+    found: &mut Vec<Alignment>,
+    above: &mut Vec<u32>,
+    p: &Pattern,
+    decls: &[VarDecl],
+    tokens: &[PatToken],
+    kind: NodeKind,
+    env: &Env,
+    own: bool,
+    label: Label,
+    i: usize,
+    child: &Tree,
+) -> Result<(), NoMemory>
+    requires few { length p.now.forms < 2 ^ 32 }
+    ensures found { OnOk result (found.new.items ≡ found.old.items
+        ++ of.aligned_at decls.now tokens.now (total env.now)
+        p.now kind above.old.items (if own then at.parts_of_child label i child.now else [])) }
+    ensures above { OnOk result (above.new.items ≡ above.old.items) }
+{
+    if own {
+        put_child(
+            alloc, found, above, p, decls, tokens, kind, env, label, i, child,
+        )
+    } else {
+        Ok(())
+    }
+}
+
+fn align_own_parts(
+    alloc: Global,
+    p: &Pattern,
+    decls: &[VarDecl],
+    tokens: &[PatToken],
+    kind: NodeKind,
+    env: &Env,
+    path: &[u32],
+    label: Label,
+    children: &[Tree],
+) -> Result<Vec<Alignment>, NoMemory>
+    requires few { length p.now.forms < 2 ^ 32 }
+    ensures { IfOk result (λ r. r.items
+        ≡ of.aligned_at decls.now tokens.now (total env.now) p.now kind path.now
+        (at.own_parts_from (own.is_own kind label (length children.now)) label 0 children.now)) }
+{
+    let mut found = Vec::new(alloc);
+    let mut above = Vec::from_slice(alloc, path)?;
+    for i in 0..children.len() {
+        let own = is_own(kind, label, children.len(), i);
+        put_own(
+            alloc,
+            &mut found,
+            &mut above,
+            p,
+            decls,
+            tokens,
+            kind,
+            env,
+            own,
+            label,
+            i,
+            &children[i],
+        )?;
+    }
+    Ok(found)
+}
+
+fn align_inside(
+    alloc: Global,
+    p: &Pattern,
+    decls: &[VarDecl],
+    tokens: &[PatToken],
+    kind: NodeKind,
+    env: &Env,
+    path: &[u32],
+    tree: &Tree,
+) -> Result<Vec<Alignment>, NoMemory>
+    requires few { length p.now.forms < 2 ^ 32 }
+    ensures { IfOk result (λ r. r.items
+        ≡ of.aligned_at decls.now tokens.now (total env.now) p.now kind path.now
+        (at.own_parts kind (out-Tree tree.now))) }
+{
+    match tree {
+        Tree::Leaf(_) => Ok(Vec::new(alloc)),
+        Tree::Branch(label, children) => {
+            let children = children.as_slice();
+            align_own_parts(alloc, p, decls, tokens, kind, env, path, *label, children)
+        }
+    }
+}
+
+fn align_whole(
+    alloc: Global,
+    p: &Pattern,
+    decls: &[VarDecl],
+    tokens: &[PatToken],
+    kind: NodeKind,
+    env: &Env,
+    path: &[u32],
+    tree: &Tree,
+) -> Result<Vec<Alignment>, NoMemory>
+    requires few { length p.now.forms < 2 ^ 32 }
+    ensures { IfOk result (λ r. r.items
+        ≡ of.put_form path.now (of.form_at decls.now tokens.now (total env.now) p.now kind tree.now)) }
+{
+    let mut found = Vec::new(alloc);
+    let form = form_at(alloc, p, decls, tokens, kind, tree, env)?;
+    put_form(alloc, &mut found, path, form)?;
+    Ok(found)
+}
+
+/// The subtrees of the node that match under the environment, by place, each with its first form that does. A variable
+/// without a value counts as the place 0.
+///
+/// At each subtree it costs what `solve` does there, and the path of each that matches. Recurses a few calls a level.
+pub fn align(
+    alloc: Global,
+    p: &Pattern,
+    decls: &[VarDecl],
+    tokens: &[PatToken],
+    node: &NodeLabel,
+    env: &Env,
+) -> Result<Vec<Alignment>, NoMemory>
+    requires few { length p.now.forms < 2 ^ 32 }
+    ensures exact { IfOk result (λ r. r.items
+        ≡ of.aligns decls.now tokens.now (total env.now) p.now node.now) }
+{
+    let tree = node.tree.as_tree();
+    let path = node.path.steps();
+    match p.spot {
+        Spot::Inside => align_inside(alloc, p, decls, tokens, node.kind, env, path, tree),
+        Spot::Whole => align_whole(alloc, p, decls, tokens, node.kind, env, path, tree),
+        Spot::Tail => align_whole(alloc, p, decls, tokens, node.kind, env, path, tree),
+    }
+}

@@ -1,0 +1,97 @@
+// The environments under which a pattern matches at a node.
+ghost use Rattle.std.specs.Prelude.{◌≡◌, Bool, true, ◌&&◌, IfOk};
+ghost use Rattle.std.specs.List.{list_any};
+ghost use Rattle.smpl_terms.specs.declared.var.Var.{Var};
+ghost use Rattle.smpl_terms.specs.Environments.{Environment};
+ghost use Rattle.env_sets.specs.Sets.{set_denotes, set_vars};
+ghost use Rattle.pat_match.specs.Vars.{form_vars, pattern_vars};
+ghost use Rattle.pat_match.specs.Spots as at;
+ghost use Rattle.pat_match.specs.Matching as of;
+
+use crate::inside::fit_inside;
+use crate::live::is_live;
+use crate::sets::{is_none, put_set, union};
+use crate::spots::fit_at;
+use c_terms::{NoMemory, Tree};
+use cfg_graph::{NodeKind, NodeLabel};
+use env_sets::EnvSet;
+use smpl_patch::{PatToken, Pattern, Spot, VarDecl};
+use std::alloc::Global;
+
+/// The environments in which a form of this spot fits some subtree of the node.
+fn fit_seats(
+    alloc: Global,
+    decls: &[VarDecl],
+    tokens: &[PatToken],
+    spot: Spot,
+    kind: NodeKind,
+    form: &Tree,
+    tree: &Tree,
+) -> Result<EnvSet, NoMemory>
+    ensures meaning { IfOk result (λ r. (env : Environment) → set_denotes r env
+        ≡ list_any (λ s. at.fits_at decls.now tokens.now env spot kind form.now s.tree) (at.seats spot kind tree.now)) }
+    ensures vars { IfOk result (λ r. (t : Var → Bool) → form_vars decls.now tokens.now t form.now
+        ≡ true →
+        set_vars t r ≡ true) }
+{
+    match spot {
+        Spot::Inside => fit_inside(alloc, decls, tokens, kind, form, tree),
+        Spot::Whole => fit_at(alloc, decls, tokens, Spot::Whole, kind, form, tree),
+        Spot::Tail => fit_at(alloc, decls, tokens, Spot::Tail, kind, form, tree),
+    }
+}
+
+/// The environments in which the form has the first form's sure variables and fits some subtree of the node.
+fn solve_form(
+    alloc: Global,
+    p: &Pattern,
+    decls: &[VarDecl],
+    tokens: &[PatToken],
+    kind: NodeKind,
+    form: &Tree,
+    tree: &Tree,
+) -> Result<EnvSet, NoMemory>
+    ensures meaning { IfOk result (λ r. (env : Environment) → set_denotes r env ≡ list_any
+        (λ s. of.fits_seat decls.now tokens.now env p.now kind form.now s.tree) (at.seats p.now.spot kind tree.now)) }
+    ensures vars { IfOk result (λ r. (t : Var → Bool) → form_vars decls.now tokens.now t form.now
+        ≡ true →
+        set_vars t r ≡ true) }
+{
+    let set = fit_seats(alloc, decls, tokens, p.spot, kind, form, tree)?;
+    if is_none(&set) {
+        return Ok(set);
+    }
+    if is_live(decls, tokens, p, form) {
+        Ok(set)
+    } else {
+        Ok(EnvSet::none(alloc))
+    }
+}
+
+/// The environments under which the pattern matches at the node.
+///
+/// A form is gone through in step with a subtree, up to the first of its tokens that fits in no environment. So at a
+/// node that can't match this costs a few steps, and for a pattern of spot Inside a few for each of the node's own
+/// tokens. A list of m members that has dots or list variables takes some m times n steps for the file's n members,
+/// and for each k dots or list variables but the first up to n to the power k sets. Recurses a few calls a level.
+pub fn solve(
+    alloc: Global,
+    p: &Pattern,
+    decls: &[VarDecl],
+    tokens: &[PatToken],
+    node: &NodeLabel,
+) -> Result<EnvSet, NoMemory>
+    ensures meaning { IfOk result (λ r. (env : Environment) → set_denotes r env
+        ≡ of.matches decls.now tokens.now env p.now node.now) }
+    ensures vars { IfOk result (λ r. (t : Var → Bool) → pattern_vars decls.now tokens.now t p.now
+        ≡ true →
+        set_vars t r ≡ true) }
+{
+    let tree = node.tree.as_tree();
+    let mut entries = Vec::new(alloc);
+    for form in p.forms.as_slice() {
+        let here = solve_form(alloc, p, decls, tokens, node.kind, form, tree)?;
+        put_set(&mut entries, here)?;
+    }
+    union(alloc, entries)
+}

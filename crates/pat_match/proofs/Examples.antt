@@ -1,5 +1,5 @@
 -- The definitions at a few values, above all where two readings would differ.
-use Rattle.std.proofs.Common.{◌≡◌, ℕ, Bool, true, false, refl, List, [], ◌∷◌, Some, None, length}
+use Rattle.std.proofs.Common.{◌≡◌, ℕ, Bool, true, false, refl, List, [], ◌∷◌, Some, None}
 use Rattle.std.specs.Prelude.{codes}
 use Rattle.c_terms.specs.declared.token.Token.{Token}
 use Rattle.c_terms.specs.declared.token.TokenKind.{TokenKind}
@@ -10,20 +10,19 @@ use Rattle.c_terms.specs.declared.shape.Shape.TheVariants as shape
 use Rattle.c_terms.specs.declared.list.Member.{Member}
 use Rattle.c_terms.specs.declared.tree.Tree.{Tree}
 use Rattle.c_terms.specs.declared.tree.Tree.TheOpen.{Tree-F}
-use Rattle.c_terms.specs.declared.tree.Tree.TheVariants.{Leaf, Branch}
+use Rattle.c_terms.specs.declared.tree.Tree.TheVariants.{Leaf}
 use Rattle.smpl_terms.specs.declared.var.Var.{Var}
-use Rattle.smpl_terms.specs.declared.value.Value.TheVariants.{Term, Place}
+use Rattle.smpl_terms.specs.declared.value.Value.TheVariants.{Place}
 use Rattle.smpl_patch.specs.declared.pattern.PatToken.{PatToken}
-use Rattle.smpl_patch.specs.declared.pattern.PlusBlock.{PlusBlock}
 use Rattle.smpl_patch.specs.declared.pattern.Mark.TheVariants as mark
 use Rattle.smpl_patch.specs.declared.pattern.VarDecl.{VarDecl}
 use Rattle.smpl_patch.specs.declared.pattern.VarKind.TheVariants as var_kind
 use Rattle.smpl_terms.specs.Environments.{Environment}
 use Rattle.cfg_graph.specs.declared.label.NodeKind.TheVariants as node
 use Rattle.cfg_graph.specs.Own.{is_own}
-use Rattle.pat_match.specs.Kinds.{is_constant_name, token_is_of, label_is_of, is_of_kind, is_named}
-use Rattle.pat_match.specs.Tokens.{stands_at, meta_fits, token_fits}
-use Rattle.pat_match.specs.Runs.{Piece, Pair, runs_from, fewest, comma_fits, is_wild_kind}
+use Rattle.pat_match.specs.Kinds.{is_constant_name, token_is_of, label_is_of, is_named}
+use Rattle.pat_match.specs.Tokens.{stands_at, token_fits}
+use Rattle.pat_match.specs.Runs.{Piece, Pair, runs_from, fewest, is_wild_kind}
 use Rattle.pat_match.specs.Fitting.{fits_by, pairs_by}
 use Rattle.pat_match.specs.Spots.{is_statement_node, token_whole, branch_whole, own_fit}
 

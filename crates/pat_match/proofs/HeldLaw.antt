@@ -1,5 +1,5 @@
 -- The same at a node: of what is compared of a form, each sure variable has a value of the subtree.
-use Rattle.std.proofs.Common.{◌≡◌, ℕ, suc, zero, ◌+◌, Bool, true, false, ◌&&◌, ◌||◌, not, nat_eq, refl, sym, ap, ◌∙◌, subst, arith, List, [], ◌∷◌, map, length, Option, Some, None, slice_get, inl, inr, ◌⊎◌, ⊎_elim, if◌then◌else◌}
+use Rattle.std.proofs.Common.{◌≡◌, ℕ, suc, zero, ◌+◌, Bool, true, false, ◌&&◌, ◌||◌, not, nat_eq, refl, sym, ap, ◌∙◌, List, [], ◌∷◌, map, length, Option, Some, None, slice_get, ◌⊎◌, ⊎_elim, if◌then◌else◌}
 use Rattle.std.specs.List.{list_any}
 use Rattle.c_terms.specs.declared.token.Token.{Token}
 use Rattle.c_terms.specs.declared.label.Label.{Label}
@@ -23,12 +23,11 @@ use Rattle.smpl_patch.specs.declared.pattern.VarDecl.{VarDecl}
 use Rattle.smpl_patch.specs.declared.pattern.PatToken.{PatToken}
 use Rattle.smpl_patch.specs.declared.pattern.Spot.{Spot}
 use Rattle.smpl_patch.specs.declared.pattern.Spot.TheVariants as spot
-use Rattle.smpl_patch.specs.Held.{is_held, kept, held, held_at, is_parted}
+use Rattle.smpl_patch.specs.Held.{is_held, kept, held_at}
 use Rattle.smpl_patch.specs.Patterns.{is_statement_token, is_sure, held_sure}
 use Rattle.smpl_patch.proofs.SureLemmas.{sure_kids, sure-Branch}
-use Rattle.pat_match.specs.Runs.{Piece}
 use Rattle.pat_match.specs.Fitting.{kids_fit, piece, fits_tree}
-use Rattle.pat_match.specs.Spots.{is_open_brace, is_close_brace, is_statement_node, is_simple_node, is_disjunction, last_at, open_brace, close_brace, own_fit, option_fits, own_fits, token_whole, branch_whole, whole_at, fits_at}
+use Rattle.pat_match.specs.Spots.{is_open_brace, is_close_brace, is_statement_node, is_simple_node, is_tail_node, is_disjunction, last_at, open_brace, close_brace, own_fit, option_fits, own_fits, branch_whole, whole_at, fits_at}
 use Rattle.pat_match.specs.Valued.{has_value}
 use Rattle.pat_match.proofs.ValueLemmas.{and_left, and_right, or_cases, or_left, or_right, has-kid}
 use Rattle.pat_match.proofs.SureLaw.{any_sure}
@@ -207,7 +206,7 @@ module _ (decls : List VarDecl) (tokens : List PatToken) (env : Environment) (x 
 
   tail_law : (k : NodeKind) (t form : Tree) → At spot.Tail k t form
   tail_law k t = tree_cases (At spot.Tail k t)
-      (λ a h s. let f : false ≡ true = sym (ap (λ y. own_fits decls tokens env kind.DoTail y t) (out-Leaf a)) ∙ and_right _ _ h in absurd (cc))
+      (λ a h s. let f : false ≡ true = sym (ap (λ y. own_fits decls tokens env kind.DoTail y t) (out-Leaf a)) ∙ and_right (is_tail_node k) (own_fits decls tokens env kind.DoTail (out-Tree (Leaf a)) t) h in absurd (cc))
       (λ l cs h s.
       let f = own_layer kind.DoTail l cs t (and_right _ _ h) in
       own_law kind.DoTail l cs t (and_right _ _ f) (sym (ap (λ y. any_sure decls tokens env x (held_at spot.Tail y (Branch l cs))) (out-Branch l cs)) ∙ s))

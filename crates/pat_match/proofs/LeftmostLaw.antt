@@ -1,15 +1,14 @@
 -- The leftmost alignment of a list is one of its alignments, and none is further left.
 use Rattle.std.proofs.Common.{◌≡◌, ℕ, suc, zero, ◌<◌, ◌≤◌, Bool, true, false, ◌&&◌, ◌||◌, cond, nat_le, nat_lt, nat_eq, refl, sym, ap, ◌∙◌, subst, arith, List, [], ◌∷◌, length, take, drop, Option, Some, None, inl, inr, ◌⊎◌, ⊎_elim}
 use Rattle.std.proofs.lemmas.Bool.Decides.{nat_tests}
-use Rattle.std.proofs.lemmas.Grind.{common_steps}
 use Rattle.c_terms.specs.declared.token.Token.{Token}
 use Rattle.c_terms.specs.declared.label.Label.{Label}
 use Rattle.c_terms.specs.declared.list.Member.{Member}
 use Rattle.smpl_terms.specs.Environments.{Environment}
 use Rattle.smpl_patch.specs.declared.pattern.VarDecl.{VarDecl}
 use Rattle.smpl_patch.specs.declared.pattern.PatToken.{PatToken}
-use Rattle.pat_match.specs.Runs.{Piece, as_comma, comma_fits, takes, some_below, least, fewest, runs_from, is_left, leftmost, runs_align}
-use Rattle.pat_match.proofs.ValueLemmas.{and_left, and_right, both_true, or_cases, or_left, or_right}
+use Rattle.pat_match.specs.Runs.{Piece, as_comma, comma_fits, takes, some_below, least, runs_from, is_left, leftmost, runs_align}
+use Rattle.pat_match.proofs.ValueLemmas.{and_left, and_right, both_true, or_left, or_right}
 
 -- numbers
 

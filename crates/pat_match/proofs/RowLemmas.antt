@@ -1,5 +1,5 @@
 -- Rows, one entry more and one child more.
-use Rattle.std.proofs.Common.{◌≡◌, ℕ, suc, zero, ◌+◌, ◌-◌, ◌<◌, ◌≤◌, Bool, true, false, ◌&&◌, ◌||◌, not, cond, nat_eq, nat_lt, nat_le, refl, sym, ap, ap₂, ◌∙◌, subst, arith, List, [], ◌∷◌, map, length, take, drop, get_or, Option, Some, None, slice_get, drop-cons, length-drop, ◌++◌}
+use Rattle.std.proofs.Common.{◌≡◌, ℕ, suc, zero, ◌+◌, ◌-◌, ◌<◌, ◌≤◌, Bool, true, false, ◌&&◌, ◌||◌, nat_eq, nat_lt, nat_le, refl, sym, ap, ap₂, ◌∙◌, subst, arith, List, [], ◌∷◌, map, length, take, drop, get_or, Option, Some, None, slice_get, drop-cons, length-drop}
 use Rattle.std.proofs.lemmas.Bool.Decides.{nat_tests}
 use Rattle.std.proofs.lemmas.Grind.{common_steps}
 use Rattle.std.specs.List.{list_any}
@@ -10,14 +10,14 @@ use Rattle.c_terms.specs.declared.label.Label.{Label}
 use Rattle.c_terms.specs.declared.list.Member.{Member}
 use Rattle.c_terms.specs.declared.tree.Tree.{Tree, out-Tree}
 use Rattle.c_terms.specs.declared.tree.Tree.TheOpen.{Tree-F}
-use Rattle.c_terms.specs.Lists.{comma, comma_at, is_comma, is_punct}
+use Rattle.c_terms.specs.Lists.{comma, comma_at, is_punct}
 use Rattle.smpl_terms.specs.Environments.{Environment}
 use Rattle.env_sets.specs.Sets.{set_denotes}
 use Rattle.smpl_patch.specs.declared.pattern.VarDecl.{VarDecl}
 use Rattle.smpl_patch.specs.declared.pattern.PatToken.{PatToken}
 use Rattle.pat_match.specs.declared.rows.RowEntry.{RowEntry}
 use Rattle.pat_match.specs.Tokens.{is_bare, stands_at}
-use Rattle.pat_match.specs.Runs.{Piece, takes, some_below, runs_from, as_comma, single_fits, comma_fits, run_fits, is_bare_comma, is_wild, is_wild_kind}
+use Rattle.pat_match.specs.Runs.{takes, some_below, runs_from, as_comma, single_fits, comma_fits, run_fits, is_bare_comma, is_wild, is_wild_kind}
 use Rattle.pat_match.specs.Fitting.{piece, leaf_of, fits_tree}
 use Rattle.pat_match.specs.Rows.{comma_before, first_is_wild, row_at, last_at, step_at, wild_entry, single_entry, IsStep, fits_from, IsRow}
 use Rattle.pat_match.proofs.Pieces.{piece-token}

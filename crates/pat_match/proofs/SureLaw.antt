@@ -15,7 +15,6 @@ use Rattle.c_terms.specs.Shapes.{shape_of}
 use Rattle.c_terms.proofs.SameLemmas.{out-Leaf, out-Branch}
 use Rattle.c_terms.proofs.Induct.{Each, tree_induction, tree_cases}
 use Rattle.smpl_terms.specs.declared.var.Var.{Var}
-use Rattle.smpl_terms.specs.declared.value.Value.{Value}
 use Rattle.smpl_terms.specs.declared.value.Value.TheVariants as value
 use Rattle.smpl_terms.specs.Values.{same}
 use Rattle.smpl_terms.specs.Vars.{same_var}
@@ -23,7 +22,7 @@ use Rattle.smpl_terms.specs.Environments.{Environment}
 use Rattle.smpl_terms.proofs.VarLaws.{same_var-equal}
 use Rattle.smpl_patch.specs.declared.pattern.VarDecl.{VarDecl}
 use Rattle.smpl_patch.specs.declared.pattern.PatToken.{PatToken}
-use Rattle.smpl_patch.specs.Patterns.{declared_as, is_var_of, is_meta_of, is_position_of, is_own, is_sign, is_sign_at, is_sign_tree, is_sure}
+use Rattle.smpl_patch.specs.Patterns.{declared_as, is_var_of, is_meta_of, is_position_of, is_sign, is_sign_at, is_sign_tree, is_sure}
 use Rattle.smpl_patch.proofs.SureLemmas.{sure_kids, sure-Leaf, sure-Branch}
 use Rattle.pat_match.specs.Tokens.{first_id, has_none, is_bare, is_place, stands_at, meta_fits, token_fits, leaf_fits}
 use Rattle.pat_match.specs.Runs.{Piece, list_fits}

@@ -13,7 +13,7 @@ use Rattle.c_terms.specs.declared.tree.Tree.TheVariants.{Leaf, Branch}
 use Rattle.c_terms.specs.Trees.{leaves, join}
 use Rattle.c_terms.specs.Shapes.{shape_of}
 use Rattle.c_terms.specs.Lists.{is_punct, is_comma, comma, comma_at, members, members_from, comma_kids, more_kids, run_kids, run}
-use Rattle.c_terms.specs.Same.{same_label, label_number}
+use Rattle.c_terms.specs.Same.{same_label}
 use Rattle.c_terms.proofs.NumberLaws.{label_number-injective}
 use Rattle.c_terms.proofs.TreeLemmas.{leaves-Leaf, leaves-Branch}
 use Rattle.c_terms.proofs.SameLemmas.{out-Leaf, out-Branch}

@@ -1,11 +1,10 @@
 -- What a tree gives, by its parts: itself, its children, its runs, and its tokens.
-use Rattle.std.proofs.Common.{◌≡◌, ℕ, suc, zero, ◌+◌, ◌<◌, Bool, true, false, ◌&&◌, ◌||◌, refl, sym, ap, ◌∙◌, subst, arith, List, [], ◌∷◌, ◌++◌, append_assoc, map, length, take, drop, Option, Some, None, slice_get, inl, inr, ◌⊎◌, ⊎_elim}
+use Rattle.std.proofs.Common.{◌≡◌, ℕ, suc, zero, ◌+◌, Bool, true, false, ◌&&◌, ◌||◌, refl, sym, ap, ◌∙◌, List, [], ◌∷◌, ◌++◌, append_assoc, map, take, drop, Some, slice_get, inl, inr, ◌⊎◌, ⊎_elim}
 use Rattle.std.specs.List.{list_any}
 use Rattle.std.proofs.lemmas.List.Folds.{list_any-append}
 use Rattle.c_terms.specs.declared.token.Token.{Token}
 use Rattle.c_terms.specs.declared.label.Label.{Label}
 use Rattle.c_terms.specs.declared.list.Member.{Member}
-use Rattle.c_terms.specs.declared.shape.Shape.{Shape}
 use Rattle.c_terms.specs.declared.shape.Shape.TheVariants as shape
 use Rattle.c_terms.specs.declared.tree.Tree.{Tree, out-Tree}
 use Rattle.c_terms.specs.declared.tree.Tree.TheVariants.{Branch}

@@ -1,4 +1,4 @@
-use Rattle.std.proofs.Common.{◌≡◌, ◌++◌, drop, [], ◌∷◌}
+use Rattle.std.proofs.Common.{◌≡◌, ◌++◌, drop}
 use Rattle.c_terms.specs.Trees.{levels}
 use Rattle.smpl_terms.specs.Environments.{total}
 use Rattle.c_terms.specs.Places.{parts}

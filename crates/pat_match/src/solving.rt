@@ -70,10 +70,10 @@ fn solve_form(
 
 /// The environments under which the pattern matches at the node.
 ///
-/// A form is gone through in step with a subtree, up to the first of its tokens that fits in no environment. So at a
-/// node that can't match this costs a few steps, and for a pattern of spot Inside a few for each of the node's own
-/// tokens. A list of m members that has dots or list variables takes some m times n steps for the file's n members,
-/// and for each k dots or list variables but the first up to n to the power k sets. Recurses a few calls a level.
+/// A form is gone through in step with a subtree, up to a token that fits in no environment. So at a node whose first
+/// token is another this costs a few steps, and for a pattern of spot Inside a few for each of the node's own tokens. A
+/// list of m members that has dots or list variables takes a row of at most n + 1 sets a member for the file's n
+/// members, and for each dots or list variable in its middle n times n steps. Recurses a few calls a level.
 pub fn solve(
     alloc: Global,
     p: &Pattern,

@@ -1,0 +1,5 @@
+pub mod Cutting
+pub mod Ordered
+pub mod Closing
+pub mod Ending
+pub mod Splitting

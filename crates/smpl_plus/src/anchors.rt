@@ -1,0 +1,296 @@
+// Plus code, and the tokens at which it is anchored.
+ghost use Rattle.std.specs.Prelude.{◌≡◌, ◌≤◌, ◌<◌, ◌+◌, ◌^◌, ℕ, List, Option, All, map, length, drop, Some, None as NoOption, IfOk, OnOk};
+ghost use Rattle.smpl_patch.specs.Faults.{first_from};
+ghost use Rattle.smpl_patch.specs.declared.pattern.VarDecl.{VarDecl as Variable};
+ghost use Rattle.smpl_lexer.specs.declared.text.BodyLine.{BodyLine as Line};
+ghost use Rattle.smpl_meta.specs.declared.patterns.Placed.{Placed as Word};
+ghost use Rattle.smpl_plus.specs.Outside.{may_anchor as may_of};
+ghost use Rattle.smpl_plus.specs.Blocks as blocks;
+ghost use Rattle.smpl_plus.specs.Blocks.{Block, Blocks, IsPlusLine};
+ghost use Rattle.smpl_plus.specs.Anchors as told;
+ghost use Rattle.smpl_plus.specs.SoFar.{SoFar, IsOpen, AtLine, RisingFrom, run_length};
+
+use crate::lines::plus_line;
+use c_terms::NoMemory;
+use smpl_lexer::BodyLine;
+use smpl_meta::{Placed, VarTable};
+use smpl_patch::{Mark, PatToken, PatchFault, PlusBlock, PlusLine, earlier};
+use smpl_terms::Var;
+use sqlite_items::Items;
+use std::alloc::Global;
+
+/// At which token a block is anchored.
+#[derive(Clone, Copy, Debug, PartialEq, Eq)]
+pub enum Anchor {
+    Before(usize),
+    After(usize),
+}
+
+/// Plus lines to which more may come: how many pattern tokens stand before them, and the offset of the first.
+#[derive(Drop)]
+pub struct OpenBlock {
+    pub before: usize,
+    pub at: u32,
+    pub lines: Items<PlusLine>,
+}
+
+/// What stands at the tokens so far, the block that is open, and the first fault so far.
+#[derive(Drop)]
+pub struct Anchoring {
+    pub tokens: Vec<PatToken>,
+    pub pending: Option<OpenBlock>,
+    pub first: Option<PatchFault>,
+}
+
+fn mark_of(sign: u8) -> Mark
+    ensures { result ≡ told.mark_of sign }
+{
+    if sign == b'-' {
+        Mark::Minus
+    } else if sign == b'*' {
+        Mark::Star
+    } else {
+        Mark::Context
+    }
+}
+
+fn copied(alloc: Global, vars: &[Var]) -> Result<Items<Var>, NoMemory>
+    ensures { IfOk result (λ out. out ≡ vars.now) }
+{
+    let mut out = Items::new(alloc);
+    for v in vars {
+        out.push(v.copy(alloc)?)?;
+    }
+    Ok(out)
+}
+
+fn bare(alloc: Global, p: &Placed) -> Result<PatToken, NoMemory>
+    ensures { IfOk result (λ t. t ≡ told.bare p.now) }
+{
+    Ok(PatToken {
+        mark: mark_of(p.sign),
+        positions: copied(alloc, p.positions.as_slice())?,
+        before: None,
+        after: None,
+    })
+}
+
+/// The tokens without plus code.
+pub fn bare_tokens(alloc: Global, placed: &[Placed]) -> Result<Vec<PatToken>, NoMemory>
+    ensures { IfOk result (λ out. out.items ≡ map told.bare placed.now) }
+{
+    let mut tokens = Vec::new(alloc);
+    for p in placed {
+        tokens.push(bare(alloc, p)?)?;
+    }
+    Ok(tokens)
+}
+
+fn anchor_before(may: &[bool], n: usize) -> Option<Anchor>
+    ensures { result ≡ told.anchor_before may.now n }
+{
+    if n < may.len() && may[n] {
+        Some(Anchor::Before(n))
+    } else {
+        None
+    }
+}
+
+/// Of code before which n tokens stand: behind the last of them, else before the next one.
+fn anchor_at(may: &[bool], n: usize) -> Option<Anchor>
+    ensures { result ≡ told.anchor_at may.now n }
+{
+    if n > 0 && n <= may.len() && may[n - 1] {
+        Some(Anchor::After(n - 1))
+    } else {
+        anchor_before(may, n)
+    }
+}
+
+/// The block stands before the token of this number.
+fn with_before(tokens: Vec<PatToken>, n: usize, block: PlusBlock) -> Vec<PatToken>
+    ensures { result.items ≡ told.changed (told.with_before block) n tokens.items }
+{
+    if n >= tokens.len() {
+        return tokens;
+    }
+    let mut tokens = tokens;
+    let t = &mut tokens[n];
+    t.before = Some(block);
+    tokens
+}
+
+/// The block stands behind the token of this number.
+fn with_after(tokens: Vec<PatToken>, n: usize, block: PlusBlock) -> Vec<PatToken>
+    ensures { result.items ≡ told.changed (told.with_after block) n tokens.items }
+{
+    if n >= tokens.len() {
+        return tokens;
+    }
+    let mut tokens = tokens;
+    let t = &mut tokens[n];
+    t.after = Some(block);
+    tokens
+}
+
+/// The block stands at its anchor.
+fn with_block(tokens: Vec<PatToken>, anchor: Option<Anchor>, block: PlusBlock) -> Vec<PatToken>
+    ensures { result.items ≡ told.with_block tokens.items anchor block }
+{
+    match anchor {
+        None => tokens,
+        Some(Anchor::Before(n)) => with_before(tokens, n, block),
+        Some(Anchor::After(n)) => with_after(tokens, n, block),
+    }
+}
+
+fn with_fault(first: Option<PatchFault>, anchor: Option<Anchor>, at: u32) -> Option<PatchFault>
+    ensures { result ≡ first_from first (told.no_anchor anchor at) }
+{
+    match anchor {
+        None => Some(earlier(first, PatchFault::PlusWithoutAnchor(at))),
+        Some(_) => first,
+    }
+}
+
+/// Anchors the open block, if there is one.
+pub fn closed(may: &[bool], s: Anchoring) -> Anchoring
+    ensures { (vars : List Variable) (ps : List Word) (b : Blocks) → may.now ≡ may_of ps →
+        SoFar vars ps b s →
+        SoFar vars ps (record { whole = blocks.all_blocks b; last = NoOption }) result }
+{
+    let Anchoring {
+        tokens,
+        pending,
+        first,
+    } = s;
+    match pending {
+        None => Anchoring {
+            tokens,
+            pending: None,
+            first,
+        },
+        Some(block) => {
+            let OpenBlock { before, at, lines } = block;
+            let anchor = anchor_at(may, before);
+            Anchoring {
+                tokens: with_block(tokens, anchor, PlusBlock { lines }),
+                pending: None,
+                first: with_fault(first, anchor, at),
+            }
+        }
+    }
+}
+
+/// One more line of plus code, before whose block so many tokens stand.
+fn with_plus(
+    alloc: Global,
+    pending: Option<OpenBlock>,
+    before: usize,
+    at: u32,
+    line: PlusLine,
+) -> Result<OpenBlock, NoMemory>
+    ensures { IfOk result (λ o. (vars : List Variable) (ps : List Word) (b : Option Block) (n : ℕ)
+        (l : Line) → IsOpen vars ps b pending → before ≡ told.tokens_before n ps → at ≡ l.start →
+        IsPlusLine vars l line → IsOpen vars ps (Some (blocks.with_plus b n l)) (Some o)) }
+{
+    match pending {
+        None => {
+            let mut lines = Items::new(alloc);
+            lines.push(line)?;
+            Ok(OpenBlock { before, at, lines })
+        }
+        Some(block) => {
+            let OpenBlock {
+                before,
+                at,
+                mut lines,
+            } = block;
+            lines.push(line)?;
+            Ok(OpenBlock { before, at, lines })
+        }
+    }
+}
+
+/// How many tokens from one on stand in this line.
+fn run(placed: &[Placed], from: usize, line: u32) -> usize
+    requires { from ≤ length placed.now }
+    ensures value { result ≡ run_length line (drop from placed.now) }
+    ensures within { from + result ≤ length placed.now }
+{
+    let rest = &placed[from..];
+    for i in 0..rest.len() {
+        let p = &rest[i];
+        if p.line != line {
+            return i;
+        }
+    }
+    rest.len()
+}
+
+/// One more line, before which so many tokens stand.
+fn with_line(
+    alloc: Global,
+    vars: &VarTable<'_>,
+    placed: &[Placed],
+    may: &[bool],
+    s: Anchoring,
+    before: usize,
+    number: u32,
+    l: &BodyLine,
+) -> Result<Anchoring, NoMemory>
+    requires short { length l.now.text < 2 ^ 31 }
+    requires at { AtLine number before placed.now }
+    requires may { may.now ≡ may_of placed.now }
+    ensures { IfOk result (λ r. (b : Blocks) → SoFar vars.now placed.now b s →
+        SoFar vars.now placed.now (blocks.put_line placed.now number b l.now) r) }
+{
+    if l.sign == b'+' {
+        let line = plus_line(alloc, vars, l)?;
+        let Anchoring {
+            tokens,
+            pending,
+            first,
+        } = s;
+        let pending = Some(with_plus(alloc, pending, before, l.start, line)?);
+        return Ok(Anchoring {
+            tokens,
+            pending,
+            first,
+        });
+    }
+    if run(placed, before, number) > 0 {
+        return Ok(closed(may, s));
+    }
+    Ok(s)
+}
+
+/// What stands at the tokens of a body, and the first plus code that has no anchor. Linear.
+pub fn anchored(
+    alloc: Global,
+    vars: &VarTable<'_>,
+    placed: &[Placed],
+    may: &[bool],
+    body: &[BodyLine],
+) -> Result<Anchoring, NoMemory>
+    requires count { length body.now < 2 ^ 32 }
+    requires short { All (λ (l : Line). length l.text < 2 ^ 31) body.now }
+    requires rising { RisingFrom 0 placed.now }
+    requires may { may.now ≡ may_of placed.now }
+    ensures { IfOk result (SoFar vars.now placed.now
+        (record { whole = blocks.blocks_of placed.now body.now; last = NoOption })) }
+{
+    let mut s = Anchoring {
+        tokens: bare_tokens(alloc, placed)?,
+        pending: None,
+        first: None,
+    };
+    let mut before = 0;
+    let mut number = 0u32;
+    for l in body {
+        s = with_line(alloc, vars, placed, may, s, before, number, l)?;
+        before += run(placed, before, number);
+        number += 1;
+    }
+    Ok(closed(may, s))
+}

@@ -1,0 +1,155 @@
+// Which tokens stand in `when` clauses.
+ghost use Rattle.std.specs.Prelude.{◌≡◌, IfOk};
+ghost use Rattle.smpl_meta.specs.Patterns as patterns;
+ghost use Rattle.smpl_plus.specs.Outside as told;
+
+use c_terms::{NoMemory, TokenKind};
+use smpl_meta::Placed;
+use sqlite_items::Items;
+use std::alloc::Global;
+
+/// Where the next token stands.
+#[derive(Clone, Copy, Debug, PartialEq, Eq)]
+pub enum Where {
+    /// No clause may begin.
+    Free,
+    /// Directly after dots, the end of a nest or a clause.
+    After,
+    /// Behind `when` in the line of this number.
+    When(u32),
+    /// Behind `when !=` in the line of this number.
+    Code(u32),
+}
+
+/// Whether a token stands outside clauses, and where the next one stands.
+#[derive(Clone, Copy, Debug, PartialEq, Eq)]
+pub struct Standing {
+    pub outside: bool,
+    pub next: Where,
+}
+
+fn is_host(p: &Placed) -> bool
+    ensures { result ≡ patterns.is_host_of p.now.token.kind p.now.token.text }
+{
+    match p.token.kind {
+        TokenKind::Dots => true,
+        TokenKind::Pat => {
+            let text = p.token.text.as_bytes();
+            text == b"...>".as_slice() || text == b"...+>".as_slice()
+        }
+        _ => false,
+    }
+}
+
+fn is_word(p: &Placed, text: &[u8]) -> bool
+    ensures { result ≡ patterns.is_word text.now p.now }
+{
+    match p.token.kind {
+        TokenKind::Name => p.token.text.as_bytes() == text,
+        TokenKind::Meta(_) => p.token.text.as_bytes() == text,
+        _ => false,
+    }
+}
+
+fn is_differs(p: &Placed) -> bool
+    ensures { result ≡ patterns.is_differs p.now }
+{
+    match p.token.kind {
+        TokenKind::Punct => p.token.text.as_bytes() == b"!=".as_slice(),
+        _ => false,
+    }
+}
+
+fn outside(p: &Placed) -> Standing
+    ensures { result ≡ told.outside p.now }
+{
+    let next = if is_host(p) {
+        Where::After
+    } else {
+        Where::Free
+    };
+    Standing {
+        outside: true,
+        next,
+    }
+}
+
+fn within(next: Where) -> Standing
+    ensures { result ≡ told.within next }
+{
+    Standing {
+        outside: false,
+        next,
+    }
+}
+
+fn after(p: &Placed) -> Standing
+    ensures { result ≡ told.after p.now }
+{
+    if is_word(p, b"when") {
+        within(Where::When(p.line))
+    } else {
+        outside(p)
+    }
+}
+
+fn behind_when(line: u32, p: &Placed) -> Standing
+    ensures { result ≡ told.behind_when line p.now }
+{
+    if p.line != line {
+        after(p)
+    } else if is_word(p, b"any") || is_word(p, b"strict") {
+        within(Where::After)
+    } else if is_differs(p) {
+        within(Where::Code(line))
+    } else {
+        after(p)
+    }
+}
+
+fn in_code(line: u32, p: &Placed) -> Standing
+    ensures { result ≡ told.in_code line p.now }
+{
+    if p.line == line {
+        within(Where::Code(line))
+    } else {
+        after(p)
+    }
+}
+
+fn stand(place: Where, p: &Placed) -> Standing
+    ensures { result ≡ told.stand place p.now }
+{
+    match place {
+        Where::Free => outside(p),
+        Where::After => after(p),
+        Where::When(line) => behind_when(line, p),
+        Where::Code(line) => in_code(line, p),
+    }
+}
+
+/// A token of C or a metavariable.
+fn is_code(kind: TokenKind) -> bool
+    ensures { result ≡ told.is_code kind }
+{
+    match kind {
+        TokenKind::Dots => false,
+        TokenKind::Pat => false,
+        TokenKind::Stray => false,
+        _ => true,
+    }
+}
+
+/// For each token whether plus code may be anchored at it: it is one of C or a metavariable, outside clauses. Linear.
+pub fn may_anchor(alloc: Global, tokens: &[Placed]) -> Result<Items<bool>, NoMemory>
+    ensures { IfOk result (λ may. may ≡ told.may_anchor tokens.now) }
+{
+    let mut may = Items::new(alloc);
+    let mut place = Where::Free;
+    for p in tokens {
+        let Standing { outside, next } = stand(place, p);
+        may.push(outside && is_code(p.token.kind))?;
+        place = next;
+    }
+    Ok(may)
+}

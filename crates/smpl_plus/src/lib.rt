@@ -1,0 +1,133 @@
+//! Anchors plus code: what stands at each token of a rule's patterns.
+//!
+//! - [`anchor`] answers the marks, positions and plus code of a rule's pattern tokens, in order, or the first fault: a
+//!   `*` line beside a `-` or `+` line, and before all others plus code that has no anchor.
+//!
+//! A longest run of plus lines between which no line of a pattern stands is a block. It is anchored behind the last token
+//! before it, if that is a token of C or a metavariable outside `when` clauses, else before the first token after it, if
+//! that is one.
+#![tactic(auto)]
+
+ghost use Rattle.std.specs.Prelude.{◌≡◌, ◌<◌, ◌^◌, ◌&&◌, List, Some, length, slice_get, IfOk, IfErr, IfSome, IsTrue, ◌↔◌};
+ghost use Rattle.smpl_lexer.specs.Texts.{OrNoMemory};
+ghost use Rattle.smpl_meta.specs.Heads as heads;
+ghost use Rattle.smpl_meta.specs.Patterns.{split};
+ghost use Rattle.smpl_meta.specs.declared.patterns.Placed.{Placed as Word};
+ghost use Rattle.smpl_plus.specs.declared.clauses.Where.TheVariants.{Free};
+ghost use Rattle.smpl_plus.specs.Outside.{outside_from};
+ghost use Rattle.smpl_plus.specs.Anchors as told;
+ghost use Rattle.smpl_plus.specs.Anchors.{AreAnchored, IsShort};
+
+mod anchors;
+mod clauses;
+mod lines;
+
+use crate::anchors::{Anchoring, anchored};
+use crate::clauses::may_anchor;
+use smpl_lexer::{BodyLine, PatchText};
+use smpl_meta::{RuleHead, VarTable, pattern_tokens};
+use smpl_patch::{PatToken, PatchFault, VarDecl};
+use sqlite_items::Items;
+use std::alloc::Global;
+
+fn has_star(body: &[BodyLine]) -> bool
+    ensures { result ≡ told.has_star body.now }
+{
+    for l in body {
+        if l.sign == b'*' {
+            return true;
+        }
+    }
+    false
+}
+
+fn is_edit(l: &BodyLine) -> bool
+    ensures { result ≡ heads.is_edit l.now }
+{
+    l.sign == b'-' || l.sign == b'+'
+}
+
+fn has_edit(body: &[BodyLine]) -> bool
+    ensures { result ≡ heads.has_edit body.now }
+{
+    for l in body {
+        if is_edit(l) {
+            return true;
+        }
+    }
+    false
+}
+
+/// A `*` line, and a `-` or `+` line.
+fn is_starred_edit(body: &[BodyLine]) -> bool
+    ensures { result ≡ (told.has_star body.now && heads.has_edit body.now) }
+{
+    has_star(body) && has_edit(body)
+}
+
+fn anchor_body(
+    alloc: Global,
+    rule: u32,
+    vars: &[VarDecl],
+    body: &[BodyLine],
+) -> Result<Items<PatToken>, PatchFault>
+    requires { IsShort body.now }
+    ensures tokens { IfOk result (AreAnchored vars.now rule body.now) }
+    ensures fault { IfErr result (OrNoMemory
+        (λ f. told.first_phase (told.plus_faults vars.now rule body.now) ≡ Some f)) }
+{
+    if is_starred_edit(body) {
+        return Err(PatchFault::StarWithEdit(rule));
+    }
+    let table = VarTable::of(alloc, vars)?;
+    let placed = pattern_tokens(alloc, vars, body)?;
+    let may = may_anchor(alloc, placed.as_slice())?;
+    let Anchoring {
+        tokens,
+        pending: _,
+        first,
+    } = anchored(alloc, &table, placed.as_slice(), may.as_slice(), body)?;
+    match first {
+        Some(fault) => Err(fault),
+        None => Ok(Items::from_vec(tokens)),
+    }
+}
+
+/// Whether a body is as short as [`anchor`] asks. The bodies of patches that are read are.
+pub fn is_short(body: &[BodyLine]) -> bool
+    ensures { IsTrue result ↔ IsShort body.now }
+{
+    if body.len() >= 1 << 32 {
+        return false;
+    }
+    for l in body {
+        if l.text.as_bytes().len() >= 1 << 31 {
+            return false;
+        }
+    }
+    true
+}
+
+/// The marks, the positions and the plus code of a rule's pattern tokens, in order, or the first fault. Linear.
+pub fn anchor(
+    alloc: Global,
+    text: &PatchText,
+    rule: u32,
+    head: &RuleHead,
+) -> Result<Items<PatToken>, PatchFault>
+    requires within { rule < length text.now.rules }
+    requires short { IfSome (slice_get text.now.rules rule) (λ r. IsShort r.body) }
+    ensures tokens { IfOk result (λ tokens. IfSome (slice_get text.now.rules rule)
+        (λ r. AreAnchored head.now.vars rule r.body tokens)) }
+    ensures fault { IfErr result (λ fault. IfSome (slice_get text.now.rules rule) (λ r. OrNoMemory
+        (λ f. told.first_phase (told.plus_faults head.now.vars rule r.body) ≡ Some f) fault)) }
+{
+    let rules = text.rules.as_slice();
+    let r = &rules[rule as usize];
+    anchor_body(alloc, rule, head.vars.as_slice(), r.body.as_slice())
+}
+
+/// The tokens that may be anchors are sought among those that a rule's patterns have outside `when` clauses. Does nothing.
+pub fn outside_tokens_are_main()
+    ensures { (ps : List Word) → (split ps).main ≡ outside_from Free ps }
+{}

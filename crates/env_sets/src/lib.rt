@@ -29,6 +29,8 @@ mod parts;
 mod runs;
 mod same;
 mod sets;
+#[cfg(test)]
+mod size_tests;
 mod states;
 mod tally;
 #[cfg(test)]

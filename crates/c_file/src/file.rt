@@ -1,16 +1,19 @@
 // All items of a file.
-ghost use Rattle.std.specs.Prelude.{◌≡◌, ◌≤◌, IfOk, All, length};
+ghost use Rattle.std.specs.Prelude.{◌≡◌, ◌≤◌, IfOk, All, length, slice_get};
 ghost use Rattle.c_terms.specs.Names.{listed_names};
 ghost use Rattle.cpp_lines.specs.Items.{StandEndToEnd};
 ghost use Rattle.cpp_lines.specs.Shown.{AreShown};
-ghost use Rattle.c_file.specs.Fit.{IsFit};
+ghost use Rattle.c_file.specs.Fit.{IsFit, item_graph};
 ghost use Rattle.c_file.specs.Reads.{Reads, ReadsFrom};
 
 use crate::item::{add_names, read_item};
 use crate::token::tokens_in;
 use c_lexer::Lexed;
 use c_terms::{Names, NoMemory};
+use cfg_build::build;
+use cfg_graph::Graph;
 use cpp_lines::{Item, ItemSpan, Visible, arms, items, items_stand_end_to_end};
+use sqlite_items::at;
 use std::alloc::Global;
 use std::marker::Model;
 
@@ -59,6 +62,21 @@ impl CFile {
         ensures fit { All IsFit result.now }
     {
         self.items.as_slice()
+    }
+
+    /// The graph of item `i`, if that is there and has a tree. The one error is want of memory. Its cost is that of
+    /// [`cfg_build::build`].
+    pub fn graph(&self, alloc: Global, i: usize) -> Result<Option<Graph<'_>>, NoMemory>
+        ensures graph { IfOk result (λ graph. graph ≡ item_graph (slice_get self.now.items i)) }
+    {
+        match at(self.items(), i) {
+            Some(Item::Parsed(tree)) => {
+                let graph = build(alloc, tree)?;
+                Ok(Some(graph))
+            }
+            Some(Item::Skipped(_, _)) => Ok(None),
+            None => Ok(None),
+        }
     }
 }
 

@@ -2,8 +2,7 @@
 // thread.
 use crate::{CFile, read_file};
 use c_lexer::lex;
-use c_terms::{Label, Tree, first_leaf, subtree, width};
-use cfg_build::{build, count_nodes};
+use c_terms::{Label, Tree, first_leaf, subtree};
 use cfg_graph::{Graph, NodeKind};
 use cpp_lines::{Item, Why};
 use std::alloc::{AllocError, Global};
@@ -75,10 +74,7 @@ fn files_have_items(rt: HostRuntime) -> Result<(), Fail> {
             b"typedef struct { int u; } v; void k(void) { v * x + y; } void k(void) { u * x + y; }",
             b"pnp",
         ),
-        (
-            b"typedef int t = ; void k(void) { t * x + y; }",
-            b"np",
-        ),
+        (b"typedef int t = ; void k(void) { t * x + y; }", b"np"),
     ];
     for (text, letters) in rows {
         assert!(rt; read(rt.alloc(), text).is_some_and(|file| has_items(&file, letters)));
@@ -238,11 +234,9 @@ fn has_its_brace(graph: &Graph, n: u32) -> bool {
 fn each_form_leads_where_the_table_says(rt: HostRuntime) -> Result<(), Fail> {
     let alloc = rt.alloc();
     let file = read(alloc, EACH_FORM).ok_or("memory")?;
-    let Some(Item::Parsed(item)) = file.items().get(0) else {
-        panic!(rt; "it is not read");
-    };
-    assert!(rt; width(item) < 100 && count_nodes(item) == 41);
-    let graph = build(alloc, item).ok().ok_or("memory")?;
+    let graph = file.graph(alloc, 0).ok().ok_or("memory")?;
+    let graph = graph.ok_or("it is not read")?;
+    assert_eq!(rt; graph.count(), 41);
     for (n, wanted) in NODES.iter().enumerate() {
         let found = node_row(alloc, &graph, n as u32)?;
         assert_eq!(rt; found.as_str(), *wanted);
@@ -264,13 +258,7 @@ fn twenty_thousand_nodes_are_read(rt: HostRuntime) -> Result<(), Fail> {
 fn goes_deep(alloc: Global) -> Option<bool> {
     let text = function_of(alloc, b"if (a) ", 997, b";}").ok()?;
     let file = read(alloc, &text)?;
-    let Some(Item::Parsed(item)) = file.items().get(0) else {
-        return None;
-    };
-    if width(item) > 1_000 || count_nodes(item) > 20_000 {
-        return None;
-    }
-    let graph = build(alloc, item).ok()?;
+    let graph = file.graph(alloc, 0).ok()??;
     Some(graph.count() == 1_002 && graph.label(999).path.steps().len() == 999)
 }
 

@@ -1,7 +1,7 @@
 //! Reads the headers and declarations of semantic patches.
 #![tactic(auto)]
 
-ghost use Rattle.std.specs.Prelude.{◌≡◌, ◌<◌, ◌^◌, ℕ, List, [], Some, None, length, IfOk, IfErr};
+ghost use Rattle.std.specs.Prelude.{◌≡◌, ◌↔◌, ◌<◌, ◌^◌, ℕ, List, [], Some, None, length, IfOk, IfErr};
 ghost use Rattle.smpl_patch.specs.declared.fault.PatchFault.{PatchFault as Fault};
 ghost use Rattle.smpl_lexer.specs.declared.text.PatchText.{PatchText as Whole};
 ghost use Rattle.smpl_lexer.specs.declared.text.RuleText.{RuleText as Rule};
@@ -13,6 +13,7 @@ ghost use Rattle.smpl_patch.specs.Faults.{first_of};
 ghost use Rattle.smpl_lexer.specs.Texts.{AllGoOn, OrNoMemory};
 ghost use Rattle.smpl_meta.specs.Decls.{IsDecls, decl_faults};
 ghost use Rattle.smpl_meta.specs.Heads.{IsHead, IsHeadFault, IsHeadIn, IsHeadFaultIn, AreHeads, IsFirstHeadFault, DependsOn, depends_tokens};
+ghost use Rattle.smpl_meta.specs.Spelled.{IsHeader};
 ghost use Rattle.smpl_meta.specs.Shunting.{head_of};
 
 mod decls;
@@ -155,10 +156,17 @@ pub fn headers_have_conditions()
         DependsOn earlier ts one → DependsOn earlier ts other → one ≡ other }
 {}
 
-/// The rules of a text in which nothing is wrong have one list of heads, and a rule has a head or a fault. Does nothing.
+/// A header can go on to its end exactly where the grammar spells it. Does nothing.
+pub fn headers_are_spelled()
+    ensures { (earlier : List Head) (ts : List Word) (end : ℕ) →
+        (header_stop ts end ≡ None) ↔ IsHeader earlier ts }
+{}
+
+/// Rules whose headers go on to their ends have one list of heads, whatever stands before them, and a rule has a head or
+/// a fault. Does nothing.
 pub fn heads_are_read_once()
-    ensures once { (text : Whole) (one other : List Head) → AllGoOn text.rules →
-        AreHeads text [] text.rules one → AreHeads text [] text.rules other → one ≡ other }
+    ensures once { (text : Whole) (earlier : List Head) (rules : List Rule) (one other : List Head) →
+        AllGoOn rules → AreHeads text earlier rules one → AreHeads text earlier rules other → one ≡ other }
     ensures apart { (virtuals : List (List ℕ)) (earlier : List Head) (rule : ℕ) (r : Rule)
         (h : Head) (fault : Fault) →
         IsHead virtuals earlier rule r h → IsHeadFault virtuals earlier r fault → ⊥ }

@@ -4,7 +4,7 @@
 ghost use Rattle.std.specs.Prelude.{◌≡◌, List, ℕ, IfOk, IfErr};
 ghost use Rattle.smpl_patch.specs.declared.fault.PatchFault.{PatchFault as Fault};
 ghost use Rattle.smpl_lexer.specs.declared.text.PatchText.{PatchText as Whole};
-ghost use Rattle.smpl_lexer.specs.Texts.{IsTextOf, IsTextFault, OrNoMemory, AllGoOn};
+ghost use Rattle.smpl_lexer.specs.Texts.{IsTextOf, IsTextFault, OrNoMemory, AllGoOn, IsSmall};
 
 mod cut;
 mod gather;
@@ -49,7 +49,8 @@ pub fn lex_patch(alloc: Global, bytes: &[u8]) -> Result<PatchText, PatchFault>
     }
 }
 
-/// A patch has one text or one first fault, and not both; each header of a text goes on to its end. Does nothing.
+/// A patch has one text or one first fault, and not both; each header of a text goes on to its end; a text has no more
+/// rules, and a rule no more lines, than a patch may have bytes. Does nothing.
 pub fn patch_is_read_once()
     ensures text { (bytes : List ℕ) (one other : Whole) → IsTextOf bytes one → IsTextOf bytes other →
         one ≡ other }
@@ -58,4 +59,5 @@ pub fn patch_is_read_once()
     ensures apart { (bytes : List ℕ) (text : Whole) (fault : Fault) → IsTextOf bytes text →
         IsTextFault bytes fault → ⊥ }
     ensures headers { (bytes : List ℕ) (text : Whole) → IsTextOf bytes text → AllGoOn text.rules }
+    ensures small { (bytes : List ℕ) (text : Whole) → IsTextOf bytes text → IsSmall text }
 {}

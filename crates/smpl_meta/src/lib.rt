@@ -1,4 +1,16 @@
-//! Reads the headers and declarations of semantic patches.
+//! Reads the headers and the declarations of semantic patches, and numbers the tokens of their patterns.
+//!
+//! - [`read_headers`] answers the heads of all rules of a text, [`read_header`] that of one rule: its name, on what it
+//!   depends, its mode, and its variables ([`RuleHead`]). [`read_decls`] reads declarations alone.
+//! - [`Earlier`] is what stands before a rule: the names of `virtual` lines, and the heads of earlier rules, by names.
+//! - [`pattern_tokens`] answers the tokens of a body's patterns in order ([`Placed`]), [`made`] one of them.
+//! - [`headers_are_spelled`], [`headers_have_conditions`] and [`heads_are_read_once`] are laws.
+//!
+//! `@s depends on !(v && ever r)@`, `expression r.x;`, `identifier f != {g, h};`, with a `virtual v` and a rule `r` that
+//! declares `x`, is a rule with the name `s`, which depends on `Not(Both(Defined(v), Ever(0)))`, with the variable `x` of
+//! rule 0 and its own `f`, which may be neither `g` nor `h`.
+//!
+//! Nothing recurses. Names are found by look-ups in tables. What the lines of a body spell is for the crates above.
 #![tactic(auto)]
 
 ghost use Rattle.std.specs.Prelude.{◌≡◌, ◌↔◌, ◌<◌, ◌^◌, ℕ, List, [], Some, None, length, IfOk, IfErr};
@@ -51,8 +63,14 @@ use sqlite_items::Items;
 use std::alloc::Global;
 pub use variables::VarTable;
 
-/// The variables that declarations declare, as variables of a rule, or their first fault. Linear in the tokens and their
-/// bytes.
+/// The variables that declarations declare, as variables of a rule, or their first fault: the one at the least place, and
+/// there the one of the least number. Linear in the tokens and their bytes.
+///
+/// - `BadMetavariable`: a declaration that is not of the form, at its first token, or a keyword for a name.
+/// - `TwiceNamed`: a name that an earlier item of the declarations has, unless both are symbols.
+/// - `UnknownRule`: the r of `r.x`, where no earlier rule is named r, or r has no variable x.
+/// - `KindDiffers`: the r of `r.x`, where x has another kind in r.
+/// - `NoMemory`: memory was refused, and nothing is kept.
 pub fn read_decls(
     alloc: Global,
     decls: &[PatchToken],
@@ -112,8 +130,13 @@ fn read_head(
     }
 }
 
-/// The head of a rule, or the first fault of its header and declarations. Linear in them and their bytes, and in the
-/// lines of the body, which may say the mode.
+/// The head of a rule, or the first fault of its header and declarations: the one at the least place, and there the one
+/// of the least number. Linear in them and their bytes, and in the lines of the body, which may say the mode.
+///
+/// - `TwiceNamed`: the rule's name, where an earlier rule or a `virtual` line has it.
+/// - `UnknownRule`: a name behind `depends on` that is no earlier rule and not virtual.
+/// - The faults of declarations, as [`read_decls`] says.
+/// - `NoMemory`: memory was refused, and nothing is kept.
 pub fn read_header(
     alloc: Global,
     text: &PatchText,
@@ -131,8 +154,8 @@ pub fn read_header(
     read_head(alloc, &rules[rule as usize], rule, earlier)
 }
 
-/// The heads of all rules of a text, or the first fault of their headers and declarations, rule by rule. Linear in the
-/// text.
+/// The heads of all rules of a text, or the first fault of the first rule that has one, as [`read_header`] says. Linear in
+/// the text.
 pub fn read_headers(alloc: Global, text: &PatchText) -> Result<Earlier, PatchFault>
     requires { length text.now.rules < 2 ^ 32 }
     ensures heads { IfOk result (λ e. AreHeads text.now [] text.now.rules e.heads) }

@@ -55,6 +55,7 @@ const MOST_BYTES: usize = 1_048_576;
 /// - `NoMemory`: memory was refused, and nothing is kept of the patch.
 pub fn lex_patch(alloc: Global, bytes: &[u8]) -> Result<PatchText, PatchFault>
     ensures text { IfOk result (λ text. IsTextOf bytes.now text) }
+    ensures small { IfOk result (λ text. IsSmall text) }
     ensures fault { IfErr result (λ fault. OrNoMemory (IsTextFault bytes.now) fault) }
 {
     if bytes.len() > MOST_BYTES {

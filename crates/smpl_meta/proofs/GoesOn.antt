@@ -2,29 +2,26 @@
 --
 -- Proof: by induction on how a condition is spelled. Reading what is spelled leads from before an operand to behind one, at
 -- the same level of brackets, and takes as many of the counted tokens as stand there.
-use Rattle.std.proofs.Common.{◌≡◌, ℕ, ◌+◌, ◌-◌, ◌≤◌, ◌==◌, ◌||◌, Bool, true, false, List, [], ◌∷◌, ◌++◌, Option, Some, None, refl, sym, ap, ◌∙◌, subst, codes, arith, if◌then◌else◌}
+use Rattle.std.proofs.Common.{◌≡◌, ℕ, ◌+◌, ◌-◌, ◌==◌, ◌||◌, Bool, true, false, List, [], ◌∷◌, ◌++◌, Option, Some, None, refl, ap, ◌∙◌, subst, codes, arith, if◌then◌else◌}
 use Rattle.std.specs.Prelude.{cond}
 use Rattle.std.specs.Str.{bytes_eq}
-use Rattle.std.proofs.lemmas.Bool.{eqb-true, eq-eqb}
+use Rattle.std.proofs.lemmas.Bool.{eqb-true}
 use Rattle.smpl_patch.specs.declared.rule.Dep.{Dep}
-use Rattle.c_terms.specs.declared.token.TokenKind.{TokenKind}
-use Rattle.c_terms.specs.declared.token.TokenKind.TheVariants.{Name, Punct}
 use Rattle.smpl_lexer.specs.declared.token.PatchToken.{PatchToken}
 use Rattle.smpl_lexer.specs.declared.places.HeaderPlace.{HeaderPlace}
 use Rattle.smpl_lexer.specs.declared.places.HeaderPlace.TheVariants as h
-use Rattle.smpl_lexer.specs.Tokens.{is_word, is_sign, is_at, is_mark_kind, is_name_kind, is_stray_kind}
+use Rattle.smpl_lexer.specs.Tokens.{is_word, is_sign, is_at, is_stray_kind}
 use Rattle.smpl_lexer.specs.Headers.{is_rule_name, is_mode, after_mode, after_depends, after_name, counted, less, rule_name, operand, operated, header_step, header_ends, header_stop, stop}
 use Rattle.smpl_meta.specs.declared.head.RuleHead.{RuleHead}
 use Rattle.smpl_meta.specs.declared.depends.Mark.{Mark}
 use Rattle.smpl_meta.specs.declared.depends.Mark.TheVariants as mark
 use Rattle.smpl_meta.specs.Heads.{mark_of, Level, Spells}
-use Rattle.smpl_meta.specs.Heads.Level.{Either, Both, Prefix}
 use Rattle.smpl_meta.specs.Heads.Spells.{either, one_both, both, one_prefix, negated, group, name, ever, never}
 use Rattle.smpl_meta.specs.Spelled.{is_counted, counted_in, Closes, Goes, IsHeader}
 use Rattle.smpl_meta.specs.Spelled.Closes.{bare, moded}
 use Rattle.smpl_meta.specs.Spelled.Goes.{free, depends}
 use Rattle.smpl_meta.specs.Spelled.IsHeader.{unnamed, named}
-use Rattle.smpl_meta.proofs.Marks.{sign, word, no_sign, no_at, and_both, stray_kind, Plain, plain}
+use Rattle.smpl_meta.proofs.Marks.{sign, word, no_sign, and_both, stray_kind, plain}
 use Rattle.smpl_meta.proofs.Conditions.{Ends}
 
 -- ---- what a token is, by its mark

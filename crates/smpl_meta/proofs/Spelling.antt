@@ -2,20 +2,18 @@
 --
 -- Proof: what stands from the place behind `on` up to `exists`, `forall` or `@` has a condition, as is known; the rest of the
 -- header and the count of its tokens are read off the places, by recursion on the tokens.
-use Rattle.std.proofs.Common.{◌≡◌, ℕ, ◌+◌, ◌-◌, ◌≤◌, ◌==◌, ◌||◌, ◌⊎◌, inl, inr, Bool, true, false, List, [], ◌∷◌, ◌++◌, Option, Some, None, refl, sym, ap, ◌∙◌, subst, codes, arith, if◌then◌else◌}
+use Rattle.std.proofs.Common.{◌≡◌, ℕ, ◌+◌, ◌-◌, ◌≤◌, ◌==◌, ◌||◌, ◌⊎◌, inl, inr, Bool, true, false, List, [], ◌∷◌, ◌++◌, Some, None, refl, sym, ap, ◌∙◌, subst, codes, arith, if◌then◌else◌}
 use Rattle.std.specs.Prelude.{cond}
-use Rattle.std.proofs.lemmas.Bool.{eqb-true, eq-eqb}
-use Rattle.smpl_patch.specs.declared.rule.Dep.{Dep}
+use Rattle.std.proofs.lemmas.Bool.{eqb-true}
 use Rattle.smpl_lexer.specs.declared.token.PatchToken.{PatchToken}
 use Rattle.smpl_lexer.specs.declared.places.HeaderPlace.{HeaderPlace}
 use Rattle.smpl_lexer.specs.declared.places.HeaderPlace.TheVariants as h
-use Rattle.smpl_lexer.specs.Tokens.{is_word, is_sign, is_at}
+use Rattle.smpl_lexer.specs.Tokens.{is_word, is_at}
 use Rattle.smpl_lexer.specs.Headers.{is_rule_name, is_mode, after_mode, after_depends, after_name, less, header_stop, header_step, header_ends, stop_at}
 use Rattle.smpl_meta.specs.declared.head.RuleHead.{RuleHead}
 use Rattle.smpl_meta.specs.declared.depends.Mark.{Mark}
 use Rattle.smpl_meta.specs.declared.depends.Mark.TheVariants as mark
-use Rattle.smpl_meta.specs.Heads.{mark_of, Spells, condition}
-use Rattle.smpl_meta.specs.Heads.Level.{Either}
+use Rattle.smpl_meta.specs.Heads.{mark_of, condition}
 use Rattle.smpl_meta.specs.Spelled.{is_counted, counted_in, Closes, Goes, IsHeader}
 use Rattle.smpl_meta.specs.Spelled.Closes.{bare, moded}
 use Rattle.smpl_meta.specs.Spelled.Goes.{free, depends}

@@ -1,5 +1,5 @@
 // Each call once with ample memory, and patches of which the outcome is known.
-use crate::{Earlier, Placed, RuleHead, pattern_tokens, read_decls, read_headers};
+use crate::{Earlier, Placed, RuleHead, pattern_tokens, read_decls, read_header, read_headers};
 use c_terms::{MetaKind, TokenKind};
 use smpl_lexer::{PatchText, lex_patch};
 use smpl_patch::{Dep, Mode, PatchFault, VarDecl, VarKind, fault_number, fault_place};
@@ -12,6 +12,16 @@ fn heads_of(alloc: Global, patch: &str) -> Result<Earlier, PatchFault> {
         return Err(PatchFault::NoMemory);
     }
     read_headers(alloc, &text)
+}
+
+/// The head of the first rule, read by itself.
+fn first_head(alloc: Global, patch: &str) -> Result<RuleHead, PatchFault> {
+    let text = lex_patch(alloc, patch.as_bytes())?;
+    let earlier = Earlier::of(alloc, text.virtuals.as_slice())?;
+    if text.rules.is_empty() {
+        return Err(PatchFault::NoMemory);
+    }
+    read_header(alloc, &text, 0, &earlier)
 }
 
 /// The number and the place of the first fault, zeros where there is none.
@@ -95,6 +105,14 @@ fn heads_have_names_conditions_modes_and_variables(rt: HostRuntime) {
         "virtual v\n@r@\nexpression list x;\nposition p;\n@@\n f(x)@p\n@s depends on !(v && ever r)@\nexpression list r.x;\nidentifier f != {g, h};\nposition q != r.p;\n@@\n- f(x);\n",
     ) {
         Ok(heads) => assert!(rt; are_heads(&heads)),
+        Err(_) => panic!(rt; "a fault"),
+    }
+}
+
+#[test]
+fn one_rule_has_its_head(rt: HostRuntime) {
+    match first_head(rt.alloc(), "@r@\nexpression x;\n@@\nf(x);\n") {
+        Ok(head) => assert!(rt; is_first(&head)),
         Err(_) => panic!(rt; "a fault"),
     }
 }

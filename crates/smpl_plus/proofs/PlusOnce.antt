@@ -88,7 +88,7 @@ module _ {A : Type 0} (g : PatToken → A) (before : (c : PlusBlock) (t : PatTok
       → map g (changed f n ts) ≡ map g ts
   changed_keeps f same n [] = refl
   changed_keeps f same zero (t ∷ ts) = ap (λ (a : A). a ∷ map g ts) (same t)
-  changed_keeps f same (suc n) (t ∷ ts) = ap (λ (as : List A). g t ∷ as) (changed_keeps f same n ts)
+  changed_keeps f same (suc n) (t ∷ ts) = ap (λ (rest : List A). g t ∷ rest) (changed_keeps f same n ts)
 
   block_keeps : (ts : List PatToken) (o : Option Anchor) (c : PlusBlock) → map g (with_block ts o c) ≡ map g ts
   block_keeps ts None c = refl
@@ -103,7 +103,7 @@ module _ {A : Type 0} (g : PatToken → A) (before : (c : PlusBlock) (t : PatTok
 
   bare_keeps : (ps : List Placed) → map g (map bare ps) ≡ map (λ (p : Placed). g (bare p)) ps
   bare_keeps [] = refl
-  bare_keeps (p ∷ ps) = ap (λ (as : List A). g (bare p) ∷ as) (bare_keeps ps)
+  bare_keeps (p ∷ ps) = ap (λ (rest : List A). g (bare p) ∷ rest) (bare_keeps ps)
 
   pub anchored_keep : (vars : List VarDecl) (rule : ℕ) (body : List BodyLine) (tokens : List PatToken)
       → AreAnchored vars rule body tokens

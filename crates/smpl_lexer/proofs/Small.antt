@@ -108,7 +108,7 @@ module _ (most : ℕ) where
   line_fits left None l short fits = tt
   line_fits left (Some r) l short fits = (
     omega (arith, fits.0, length-append r.body (l ∷ [])),
-    All-push (λ (x : BodyLine). length x.text ≤ most) r.body l fits.1 short
+    All-push (λ (x : BodyLine). length x.text ≤ most) r.body l fits.1 short,
   )
 
   text_short : (start : ℕ) (bytes : List ℕ) (ts : List PatchToken) → length bytes ≤ most

@@ -59,7 +59,10 @@ fn blocks_stand_at_their_anchors(rt: HostRuntime) {
         ("@@\n@@\n- f;\n+ g;\n+ h;\n", &[(0, 0), (0, 2)]),
         ("@@\n@@\n+ g;\n- f;\n", &[(1, 0), (0, 0)]),
         ("@@\n@@\n...\n+ g;\n- f;\n", &[(0, 0), (1, 0), (0, 0)]),
-        ("@@\nposition p;\n@@\nf\n+ g\n @p\n+ h\n;\n", &[(0, 2), (0, 0)]),
+        (
+            "@@\nposition p;\n@@\nf\n+ g\n @p\n+ h\n;\n",
+            &[(0, 2), (0, 0)],
+        ),
         (
             "@@\nexpression x;\n@@\n... when != x\n+ g;\nf;\n",
             &[(0, 0), (0, 0), (0, 0), (0, 0), (1, 0), (0, 0)],
@@ -85,7 +88,9 @@ fn the_first_fault_of_plus_code_is_answered(rt: HostRuntime) {
 /// `- - f(x)`, with a position behind it and one line of plus code, whose lead is two blanks.
 fn is_marked(tokens: &[PatToken]) -> bool {
     match tokens {
-        [f, .., close] => f.mark == Mark::Minus && close.positions.len() == 1 && has_gaps(&close.after),
+        [f, .., close] => f.mark == Mark::Minus
+            && close.positions.len() == 1
+            && has_gaps(&close.after),
         _ => false,
     }
 }

@@ -10,8 +10,7 @@ ghost use Rattle.c_expr.specs.Steps.{OnFault, Refuses, before, Sound, Takes, rul
 use crate::ParseFault;
 use c_rows::{
     Class, Fork, Kind, Rule, Seen, Symbol, Word, allows, bottom, choose, family_of, fits, front,
-    front_typed, has_leaf, head, kind_of, label_of, left, member_kind, own, row, tail,
-    within,
+    front_typed, has_leaf, head, kind_of, label_of, left, member_kind, own, row, tail, within,
 };
 use c_terms::Tree;
 use sqlite_items::Items;

@@ -1,5 +1,5 @@
 -- What the items of a file are like, and their graphs.
-use Rattle.std.specs.Prelude.{ℕ, ◌≤◌, ◌<◌, ◌^◌, IsTrue, Option, None, Some}
+use Rattle.std.specs.Prelude.{◌≤◌, ◌<◌, ◌^◌, IsTrue, Option, None, Some}
 use Rattle.c_terms.specs.Trees.{width}
 use Rattle.cpp_lines.specs.declared.reading.Item.{Item}
 use Rattle.cpp_lines.specs.declared.reading.Item.TheVariants.{Parsed, Skipped}

@@ -5,11 +5,17 @@ use Rattle.smpl_terms.specs.declared.var.Var.{Var}
 use Rattle.smpl_terms.specs.Environments.{Environment}
 use Rattle.smpl_patch.specs.declared.pattern.VarDecl.{VarDecl}
 use Rattle.smpl_patch.specs.declared.pattern.PatToken.{PatToken}
-use Rattle.smpl_patch.specs.Patterns.{sure}
+use Rattle.smpl_patch.specs.declared.pattern.Pattern.{Pattern}
+use Rattle.smpl_patch.specs.Patterns.{sure, stands}
 use Rattle.ctl_formula.specs.Plain.{Plain}
 use Rattle.ctl_formula.specs.Bounds.{bound, bound_not}
 use Rattle.ctl_holds.specs.Values.{values_of, is_among}
 use Rattle.ctl_holds.specs.Holding.{Holds}
+
+-- Each sure variable of the pattern stands in it. It is so unless a disjunction of its first form has no branch, of which
+-- every variable is a sure one; no patch spells such a disjunction.
+abbrev pub SureStand : List VarDecl → List PatToken → Pattern → Type 0
+SureStand decls tokens p = (x : Var) → sure decls tokens p x ≡ true → stands decls tokens p x ≡ true
 
 -- what a formula binds has a value of the graph where it holds, and what it binds where it fails has one where it doesn't
 pub record HasValues (decls : List VarDecl) (tokens : List PatToken) (g : Flow) (m : ℕ) (f : Plain) (s : ℕ)

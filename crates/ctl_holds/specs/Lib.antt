@@ -5,6 +5,8 @@ pub mod Values
 pub mod Untils
 -- where a formula holds
 pub mod Holding
+-- the parts of a formula, and its patterns
+pub mod Parts
 -- which variables a formula speaks of
 pub mod Free
 -- the same by computing: rounds in place of walks

@@ -9,7 +9,8 @@ ghost use Rattle.smpl_patch.specs.declared.pattern.PatToken.{PatToken};
 ghost use Rattle.ctl_formula.specs.Plain.{Plain};
 ghost use Rattle.ctl_holds.specs.Holding.{Holds};
 ghost use Rattle.ctl_holds.specs.Rounds.{holds};
-ghost use Rattle.ctl_holds.specs.BoundLaw.{HasValues};
+ghost use Rattle.ctl_holds.specs.Parts.{EachPattern};
+ghost use Rattle.ctl_holds.specs.BoundLaw.{SureStand, HasValues};
 
 /// Whether a formula holds can be computed: m rounds over all nodes say of an until what walks of m nodes do.
 pub fn walks_by_rounds()
@@ -22,6 +23,6 @@ pub fn walks_by_rounds()
 /// it fails, wherever it doesn't hold.
 pub fn bound_variables_have_values()
     ensures { (decls : List VarDecl) (tokens : List PatToken) (g : Flow) → IsSound g → (m : ℕ) → 0 < m
-        → (f : Plain) (s : ℕ) → s < count_of g → (env : Environment) (x : Var)
-        → HasValues decls tokens g m f s env x }
+        → (f : Plain) → EachPattern (SureStand decls tokens) f → (s : ℕ) → s < count_of g
+        → (env : Environment) (x : Var) → HasValues decls tokens g m f s env x }
 {}

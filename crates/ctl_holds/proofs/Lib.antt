@@ -5,3 +5,5 @@ pub mod WalkLemmas
 pub mod AtomLemmas
 pub mod HoldLemmas
 pub mod BoundLemmas
+pub mod StandLemmas
+mod Examples

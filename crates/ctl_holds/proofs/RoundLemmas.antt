@@ -97,7 +97,7 @@ module _ (g : Flow) (ok : IsSound g) (every : Bool) where
 
     pub rounds-grow : (k : ℕ) → Within (count_of g) (rounds g every p q k) (rounds g every p q (suc k))
     rounds-grow zero n lt h = absurd (cc)
-    rounds-grow (suc k) = round-mono (rounds g every p q k) (rounds g every p q (suc k)) (rounds-grow k)
+    rounds-grow (suc k) n lt h = round-mono (rounds g every p q k) (rounds g every p q (suc k)) (rounds-grow k) n lt h
 
     abbrev pub Stable : ℕ → Type 0
     Stable k = Agree (count_of g) (rounds g every p q k) (rounds g every p q (suc k))

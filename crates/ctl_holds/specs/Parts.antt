@@ -3,6 +3,8 @@ use Rattle.std.specs.Prelude.{◌≡◌, ◌⊎◌}
 use Rattle.smpl_patch.specs.declared.pattern.Pattern.{Pattern}
 use Rattle.ctl_formula.specs.Plain.{Plain, True, Atom, Bail, Exit, BraceOpen, BraceClose, Not, And, Or, AX, EX, AU}
 use Rattle.ctl_formula.specs.Plain.{EU, Past, Down, Exists}
+use Rattle.ctl_formula.specs.declared.node.Node.{Node}
+use Rattle.ctl_formula.specs.declared.node.Node.TheVariants as node
 
 -- h is f, or a part of one of its parts
 abbrev pub IsPart : Plain → Plain → Type 0
@@ -41,3 +43,10 @@ EachPattern P (EU f h) = EachPattern P f × EachPattern P h
 EachPattern P (Past f) = EachPattern P f
 EachPattern P (Down i f) = EachPattern P f
 EachPattern P (Exists x f) = EachPattern P f
+
+-- the pattern of a node of a table is so, if it has one
+abbrev pub OwnPattern : (Pattern → Type 0) → Node → Type 0
+OwnPattern P (node.Atom p) = P p
+OwnPattern P (node.BraceOpen p b) = P p
+OwnPattern P (node.BraceClose p b) = P p
+OwnPattern P _ = Unit {0}

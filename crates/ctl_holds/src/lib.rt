@@ -1,7 +1,7 @@
 //! Path satisfaction: at which nodes of a control-flow graph, and under which environments, a formula holds.
 //!
 //! The definitions are in `specs/`: [`walks_by_rounds`] and [`bound_variables_have_values`] are the laws that all who
-//! use them share. There is no code to run.
+//! use them share. [`sure_variables_stand`] is the test of what the second of them asks.
 //!
 //! ```text
 //!       0 head ─► 1 {  ─► 2 a(); ─► 3 if ─┬─► 4 b(); ─┐
@@ -15,5 +15,7 @@
 #![tactic(auto)]
 
 mod laws;
+mod stands;
 
 pub use laws::{bound_variables_have_values, walks_by_rounds};
+pub use stands::sure_variables_stand;

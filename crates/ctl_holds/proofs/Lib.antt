@@ -6,4 +6,5 @@ pub mod AtomLemmas
 pub mod HoldLemmas
 pub mod BoundLemmas
 pub mod StandLemmas
+pub mod PartLemmas
 mod Examples

@@ -105,10 +105,10 @@ stands_if decls tokens p z h k x e = ⊎_elim
     (λ f. not_both (sure decls tokens p x) e (first-absent decls tokens x z p.spot p.forms f k ∙ h))
     (true_or_false (stands decls tokens p x))
 
-fst : (i j n : ℕ) → (nat_lt i n && nat_lt j n) ≡ true → i < n
+pub fst : (i j n : ℕ) → (nat_lt i n && nat_lt j n) ≡ true → i < n
 fst i j n h = lt-true i n (and_left (nat_lt i n) (nat_lt j n) h)
 
-snd : (i j n : ℕ) → (nat_lt i n && nat_lt j n) ≡ true → j < n
+pub snd : (i j n : ℕ) → (nat_lt i n && nat_lt j n) ≡ true → j < n
 snd i j n h = lt-true j n (and_right (nat_lt i n) (nat_lt j n) h)
 
 -- a node of a table over parts that have it

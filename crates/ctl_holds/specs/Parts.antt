@@ -1,10 +1,11 @@
--- The parts of a formula, and its patterns.
-use Rattle.std.specs.Prelude.{◌≡◌, ◌⊎◌}
+-- The parts of a formula, their numbers in its table, and its patterns.
+use Rattle.std.specs.Prelude.{◌≡◌, ℕ, ◌<◌, ◌⊎◌, List, length}
 use Rattle.smpl_patch.specs.declared.pattern.Pattern.{Pattern}
 use Rattle.ctl_formula.specs.Plain.{Plain, True, Atom, Bail, Exit, BraceOpen, BraceClose, Not, And, Or, AX, EX, AU}
 use Rattle.ctl_formula.specs.Plain.{EU, Past, Down, Exists}
 use Rattle.ctl_formula.specs.declared.node.Node.{Node}
 use Rattle.ctl_formula.specs.declared.node.Node.TheVariants as node
+use Rattle.ctl_formula.specs.Tables.{at, plains}
 
 -- h is f, or a part of one of its parts
 abbrev pub IsPart : Plain → Plain → Type 0
@@ -50,3 +51,7 @@ OwnPattern P (node.Atom p) = P p
 OwnPattern P (node.BraceOpen p b) = P p
 OwnPattern P (node.BraceClose p b) = P p
 OwnPattern P _ = Unit {0}
+
+-- some node of the table is the formula
+abbrev pub HasNumber : List Node → Plain → Type 0
+HasNumber nodes h = (i : ℕ) × (i < length nodes) × (at (plains nodes) i ≡ h)

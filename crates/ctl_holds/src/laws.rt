@@ -9,7 +9,8 @@ ghost use Rattle.smpl_patch.specs.declared.pattern.PatToken.{PatToken};
 ghost use Rattle.ctl_formula.specs.Plain.{Plain};
 ghost use Rattle.ctl_holds.specs.Holding.{Holds};
 ghost use Rattle.ctl_holds.specs.Rounds.{holds};
-ghost use Rattle.ctl_holds.specs.Parts.{EachPattern};
+ghost use Rattle.ctl_formula.specs.Formulas.{FormulaOf, IsFormula, plain};
+ghost use Rattle.ctl_holds.specs.Parts.{IsPart, HasNumber, EachPattern};
 ghost use Rattle.ctl_holds.specs.BoundLaw.{SureStand, HasValues};
 
 /// Whether a formula holds can be computed: m rounds over all nodes say of an until what walks of m nodes do.
@@ -25,4 +26,9 @@ pub fn bound_variables_have_values()
     ensures { (decls : List VarDecl) (tokens : List PatToken) (g : Flow) → IsSound g → (m : ℕ) → 0 < m
         → (f : Plain) → EachPattern (SureStand decls tokens) f → (s : ℕ) → s < count_of g
         → (env : Environment) (x : Var) → HasValues decls tokens g m f s env x }
+{}
+
+/// Each part of a formula is a node of its table, so it has a number there.
+pub fn every_part_has_a_number()
+    ensures { (f : FormulaOf) → IsFormula f → (h : Plain) → IsPart h (plain f) → HasNumber f.nodes h }
 {}

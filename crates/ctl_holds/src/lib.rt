@@ -17,5 +17,5 @@
 mod laws;
 mod stands;
 
-pub use laws::{bound_variables_have_values, walks_by_rounds};
+pub use laws::{bound_variables_have_values, every_part_has_a_number, walks_by_rounds};
 pub use stands::sure_variables_stand;

@@ -14,7 +14,13 @@ use std::alloc::Global;
 fn pattern_stands(decls: &[VarDecl], tokens: &[PatToken], p: &Pattern, absent: &Var) -> bool
     ensures { result ≡ true → SureStand decls.now tokens.now p.now }
 {
-    !is_sure(decls, tokens, p, absent) && !stands(decls, tokens, p, absent)
+    if is_sure(decls, tokens, p, absent) {
+        return false;
+    }
+    if stands(decls, tokens, p, absent) {
+        return false;
+    }
+    true
 }
 
 fn node_stands(decls: &[VarDecl], tokens: &[PatToken], node: &Node, absent: &Var) -> bool

@@ -188,13 +188,13 @@ module _ (decls : List VarDecl) (tokens : List PatToken) where
           → list_any (λ v. holds decls tokens g m f s (change env x v)) (values_of g) ≡ true
       in_graph w h =
           let here : holds decls tokens g m f s (change env x w) ≡ true =
-              sym (fa.means inner m le s lt (change env x w)) ∙ h in
+          sym (fa.means inner m le s lt (change env x w)) ∙ h in
           let bounded = (bound_law decls tokens g ok m (omega (arith, le)) f inner.stand s lt (change env x w) x).0
-              (and_left (bound (sure decls tokens) f x) _ u.guarded_by_parts) here in
+          (and_left (bound (sure decls tokens) f x) _ u.guarded_by_parts) here in
           let v = any_found (λ v. same v (change env x w x)) (values_of g) bounded in
           let alike : same v.0 w ≡ true = ap (same v.0) (sym (changed env x w)) ∙ v.2 in
           let moved : has a s (change env x v.0) ≡ true =
-              set_alike (change env x v.0) (change env x w) (change_alike env x v.0 w alike) (set_of a s) ∙ h in
+          set_alike (change env x v.0) (change env x w) (change_alike env x v.0 w alike) (set_of a s) ∙ h in
           any_has (λ k. holds decls tokens g m f s (change env x k)) v.0 (values_of g) v.1
           (sym (fa.means inner m le s lt (change env x v.0)) ∙ moved)
 
@@ -266,7 +266,7 @@ module _ (g : Flow) (ok : IsSound g) (nodes : List Node) (decls : List VarDecl) 
         (λ (from : n ≤ i).
         let is : n ≡ i = omega (arith, from, lt) in
         let last : row ≡ row_of more i =
-            sym (at_end rows row) ∙ ap (row_of (rows ++ row ∷ [])) (a.len ∙ is) ∙ ap (λ rs. row_of rs i) (sym m) in
+        sym (at_end rows row) ∙ ap (row_of (rows ++ row ∷ [])) (a.len ∙ is) ∙ ap (λ rs. row_of rs i) (sym m) in
         let done = row_step decls tokens g ok (plains nodes) n rows a.each x b row r in
         subst (λ (j : ℕ). IsRowOf decls tokens g (at (plains nodes) j) (row_of more i)) is
         (subst (λ f. IsRowOf decls tokens g f (row_of more i)) (sym e)

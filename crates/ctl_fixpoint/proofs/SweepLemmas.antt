@@ -65,7 +65,7 @@ module _ (g : Flow) (ok : IsSound g) (every : Bool) (p q : List Entries) where
       → w.clock ≡ 1 → SweptTimes g every p q 0 w
   sweep_first w a b c none seen changed clock =
       let empty : (s : ℕ) → s < count_of g → (env : Environment) → has w.sets s env ≡ false =
-          λ s lt env. ap (λ e. set_denotes e env) (none s [] (omega (arith, lt, a))) in
+      λ s lt env. ap (λ e. set_denotes e env) (none s [] (omega (arith, lt, a))) in
       record {
         sweep = record {
           sets_each = a;
@@ -105,21 +105,21 @@ module _ (g : Flow) (ok : IsSound g) (every : Bool) (p q : List Entries) where
         → Visits g every p q old new s false
     visit_same new a b c d is =
         let here : time_at new.seen s ≡ old.clock =
-            ap (λ l. time_at l s) b ∙ get_or-set_same old.seen s old.clock 0 (omega (arith, lt, work.seen_each)) in
+        ap (λ l. time_at l s) b ∙ get_or-set_same old.seen s old.clock 0 (omega (arith, lt, work.seen_each)) in
         let there : (j : ℕ) → j ≢ s → time_at new.seen j ≡ time_at old.seen j =
-            λ j n. ap (λ l. time_at l j) b ∙ get_or-set_other old.seen s j old.clock 0 n in
+        λ j n. ap (λ l. time_at l j) b ∙ get_or-set_other old.seen s j old.clock 0 n in
         let seen_past : (j : ℕ) → j < count_of g → time_at new.seen j ≤ new.clock = λ j l. ⊎_elim
-            (λ (e : j ≡ s). omega (arith, ap (time_at new.seen) e, here, d))
-            (λ (n : j ≢ s). omega (arith, there j n, work.seen_past j l, d))
-            (same_or_not j s) in
+        (λ (e : j ≡ s). omega (arith, ap (time_at new.seen) e, here, d))
+        (λ (n : j ≢ s). omega (arith, there j n, work.seen_past j l, d))
+        (same_or_not j s) in
         let quiet : (j : ℕ) → j < count_of g
-            → ((k : ℕ) → Contains (succ_of g j) k → time_at old.changed k ≤ time_at new.seen j)
-            → (env : Environment) → round_of g every p q old.sets j env ≡ true → has old.sets j env ≡ true =
-            λ j l calm env h. ⊎_elim
-            (λ (e : j ≡ s).
-            subst (λ (i : ℕ). round_of g every p q old.sets i env ≡ true → has old.sets i env ≡ true) (sym e) (λ r. is env ∙ r) h)
-            (λ (n : j ≢ s). work.quiet j l (λ k m. omega (arith, calm k m, there j n)) env h)
-            (same_or_not j s) in
+        → ((k : ℕ) → Contains (succ_of g j) k → time_at old.changed k ≤ time_at new.seen j)
+        → (env : Environment) → round_of g every p q old.sets j env ≡ true → has old.sets j env ≡ true =
+        λ j l calm env h. ⊎_elim
+        (λ (e : j ≡ s).
+        subst (λ (i : ℕ). round_of g every p q old.sets i env ≡ true → has old.sets i env ≡ true) (sym e) (λ r. is env ∙ r) h)
+        (λ (n : j ≢ s). work.quiet j l (λ k m. omega (arith, calm k m, there j n)) env h)
+        (same_or_not j s) in
         record {
           sweep = record {
             sets_each = ap length a ∙ work.sets_each;
@@ -146,78 +146,78 @@ module _ (g : Flow) (ok : IsSound g) (every : Bool) (p q : List Entries) where
         → new.changed ≡ set old.changed s (old.clock + 1) → new.clock ≡ old.clock + 1
         → ((env : Environment) → set_denotes e env ≡ round_of g every p q old.sets s env)
         → ((test : Var → Bool) → row_vars test p ≡ true → row_vars test q ≡ true → row_vars test old.sets ≡ true
-          → set_vars test e ≡ true)
+        → set_vars test e ≡ true)
         → Visits g every p q old new s true
     visit_changed new e a b c d is vars =
         let set_here : set_of new.sets s ≡ e =
-            ap (λ l. set_of l s) a ∙ get_or-set_same old.sets s e [] (omega (arith, lt, work.sets_each)) in
+        ap (λ l. set_of l s) a ∙ get_or-set_same old.sets s e [] (omega (arith, lt, work.sets_each)) in
         let set_there : (j : ℕ) → j ≢ s → set_of new.sets j ≡ set_of old.sets j =
-            λ j n. ap (λ l. set_of l j) a ∙ get_or-set_other old.sets s j e [] n in
+        λ j n. ap (λ l. set_of l j) a ∙ get_or-set_other old.sets s j e [] n in
         let seen_here : time_at new.seen s ≡ old.clock =
-            ap (λ l. time_at l s) b ∙ get_or-set_same old.seen s old.clock 0 (omega (arith, lt, work.seen_each)) in
+        ap (λ l. time_at l s) b ∙ get_or-set_same old.seen s old.clock 0 (omega (arith, lt, work.seen_each)) in
         let seen_there : (j : ℕ) → j ≢ s → time_at new.seen j ≡ time_at old.seen j =
-            λ j n. ap (λ l. time_at l j) b ∙ get_or-set_other old.seen s j old.clock 0 n in
+        λ j n. ap (λ l. time_at l j) b ∙ get_or-set_other old.seen s j old.clock 0 n in
         let changed_here : time_at new.changed s ≡ old.clock + 1 =
-            ap (λ l. time_at l s) c
-            ∙ get_or-set_same old.changed s (old.clock + 1) 0 (omega (arith, lt, work.changed_each)) in
+        ap (λ l. time_at l s) c
+        ∙ get_or-set_same old.changed s (old.clock + 1) 0 (omega (arith, lt, work.changed_each)) in
         let changed_there : (j : ℕ) → j ≢ s → time_at new.changed j ≡ time_at old.changed j =
-            λ j n. ap (λ l. time_at l j) c ∙ get_or-set_other old.changed s j (old.clock + 1) 0 n in
+        λ j n. ap (λ l. time_at l j) c ∙ get_or-set_other old.changed s j (old.clock + 1) 0 n in
         let has_here : (env : Environment) → has new.sets s env ≡ round_of g every p q old.sets s env =
-            λ env. ap (λ x. set_denotes x env) set_here ∙ is env in
+        λ env. ap (λ x. set_denotes x env) set_here ∙ is env in
         let has_there : (j : ℕ) → j ≢ s → (env : Environment) → has new.sets j env ≡ has old.sets j env =
-            λ j n env. ap (λ x. set_denotes x env) (set_there j n) in
+        λ j n env. ap (λ x. set_denotes x env) (set_there j n) in
         let seen_past : (j : ℕ) → j < count_of g → time_at new.seen j ≤ old.clock = λ j l. ⊎_elim
-            (λ (n : j ≡ s). omega (arith, ap (time_at new.seen) n, seen_here))
-            (λ (n : j ≢ s). omega (arith, seen_there j n, work.seen_past j l))
-            (same_or_not j s) in
+        (λ (n : j ≡ s). omega (arith, ap (time_at new.seen) n, seen_here))
+        (λ (n : j ≢ s). omega (arith, seen_there j n, work.seen_past j l))
+        (same_or_not j s) in
         let changed_past : (j : ℕ) → j < count_of g → time_at new.changed j ≤ new.clock = λ j l. ⊎_elim
-            (λ (n : j ≡ s). omega (arith, ap (time_at new.changed) n, changed_here, d))
-            (λ (n : j ≢ s). omega (arith, changed_there j n, work.changed_past j l, d))
-            (same_or_not j s) in
+        (λ (n : j ≡ s). omega (arith, ap (time_at new.changed) n, changed_here, d))
+        (λ (n : j ≢ s). omega (arith, changed_there j n, work.changed_past j l, d))
+        (same_or_not j s) in
         let grows : Grows (count_of g) old.sets new.sets = λ j l env h. ⊎_elim
-            (λ (n : j ≡ s).
-            subst (λ (i : ℕ). has old.sets i env ≡ true → has new.sets i env ≡ true) (sym n)
-            (λ r. has_here env ∙ work.rises s lt env r) h)
-            (λ (n : j ≢ s). has_there j n env ∙ h)
-            (same_or_not j s) in
+        (λ (n : j ≡ s).
+        subst (λ (i : ℕ). has old.sets i env ≡ true → has new.sets i env ≡ true) (sym n)
+        (λ r. has_here env ∙ work.rises s lt env r) h)
+        (λ (n : j ≢ s). has_there j n env ∙ h)
+        (same_or_not j s) in
         let never_more : (j : ℕ) → j < count_of g → (env : Environment) → has new.sets j env ≡ true
-            → until_of g every p q (count_of g) j env ≡ true = λ j l env h. ⊎_elim
-            (λ (n : j ≡ s).
-            subst (λ (i : ℕ). has new.sets i env ≡ true → until_of g every p q (count_of g) i env ≡ true) (sym n)
-            (λ r. never old.sets work.never_more s lt env (sym (has_here env) ∙ r)) h)
-            (λ (n : j ≢ s). work.never_more j l env (sym (has_there j n env) ∙ h))
-            (same_or_not j s) in
+        → until_of g every p q (count_of g) j env ≡ true = λ j l env h. ⊎_elim
+        (λ (n : j ≡ s).
+        subst (λ (i : ℕ). has new.sets i env ≡ true → until_of g every p q (count_of g) i env ≡ true) (sym n)
+        (λ r. never old.sets work.never_more s lt env (sym (has_here env) ∙ r)) h)
+        (λ (n : j ≢ s). work.never_more j l env (sym (has_there j n env) ∙ h))
+        (same_or_not j s) in
         let rises : (j : ℕ) → j < count_of g → (env : Environment) → has new.sets j env ≡ true
-            → round_of g every p q new.sets j env ≡ true = λ j l env h. ⊎_elim
-            (λ (n : j ≡ s).
-            subst (λ (i : ℕ). has new.sets i env ≡ true → round_of g every p q new.sets i env ≡ true) (sym n)
-            (λ r. more old.sets new.sets grows s lt env (sym (has_here env) ∙ r)) h)
-            (λ (n : j ≢ s). more old.sets new.sets grows j l env (work.rises j l env (sym (has_there j n env) ∙ h)))
-            (same_or_not j s) in
+        → round_of g every p q new.sets j env ≡ true = λ j l env h. ⊎_elim
+        (λ (n : j ≡ s).
+        subst (λ (i : ℕ). has new.sets i env ≡ true → round_of g every p q new.sets i env ≡ true) (sym n)
+        (λ r. more old.sets new.sets grows s lt env (sym (has_here env) ∙ r)) h)
+        (λ (n : j ≢ s). more old.sets new.sets grows j l env (work.rises j l env (sym (has_there j n env) ∙ h)))
+        (same_or_not j s) in
         let apart : (j : ℕ) → j < count_of g
-            → ((k : ℕ) → Contains (succ_of g j) k → time_at new.changed k ≤ time_at new.seen j)
-            → (k : ℕ) → Contains (succ_of g j) k → k ≢ s =
-            λ j l calm k m n. absurd (omega (arith, calm k m, ap (time_at new.changed) n, changed_here, seen_past j l)) in
+        → ((k : ℕ) → Contains (succ_of g j) k → time_at new.changed k ≤ time_at new.seen j)
+        → (k : ℕ) → Contains (succ_of g j) k → k ≢ s =
+        λ j l calm k m n. absurd (omega (arith, calm k m, ap (time_at new.changed) n, changed_here, seen_past j l)) in
         let round_same : (j : ℕ) → j < count_of g
-            → ((k : ℕ) → Contains (succ_of g j) k → time_at new.changed k ≤ time_at new.seen j)
-            → (env : Environment) → round_of g every p q new.sets j env ≡ round_of g every p q old.sets j env =
-            λ j l calm env. ap (λ b. has q j env || (has p j env && b))
-            (passes-members every (λ k. has new.sets k env) (λ k. has old.sets k env) (succ_of g j)
-            (λ k m. has_there k (apart j l calm k m) env)) in
+        → ((k : ℕ) → Contains (succ_of g j) k → time_at new.changed k ≤ time_at new.seen j)
+        → (env : Environment) → round_of g every p q new.sets j env ≡ round_of g every p q old.sets j env =
+        λ j l calm env. ap (λ b. has q j env || (has p j env && b))
+        (passes-members every (λ k. has new.sets k env) (λ k. has old.sets k env) (succ_of g j)
+        (λ k m. has_there k (apart j l calm k m) env)) in
         let quiet : (j : ℕ) → j < count_of g
-            → ((k : ℕ) → Contains (succ_of g j) k → time_at new.changed k ≤ time_at new.seen j)
-            → (env : Environment) → round_of g every p q new.sets j env ≡ true → has new.sets j env ≡ true =
-            λ j l calm env h.
-            let r = sym (round_same j l calm env) ∙ h in
-            ⊎_elim
-            (λ (n : j ≡ s).
-            subst (λ (i : ℕ). round_of g every p q old.sets i env ≡ true → has new.sets i env ≡ true) (sym n)
-            (λ r. has_here env ∙ r) r)
-            (λ (n : j ≢ s).
-            has_there j n env
-            ∙ work.quiet j l
-            (λ k m. omega (arith, calm k m, seen_there j n, changed_there k (apart j l calm k m))) env r)
-            (same_or_not j s) in
+        → ((k : ℕ) → Contains (succ_of g j) k → time_at new.changed k ≤ time_at new.seen j)
+        → (env : Environment) → round_of g every p q new.sets j env ≡ true → has new.sets j env ≡ true =
+        λ j l calm env h.
+        let r = sym (round_same j l calm env) ∙ h in
+        ⊎_elim
+        (λ (n : j ≡ s).
+        subst (λ (i : ℕ). round_of g every p q old.sets i env ≡ true → has new.sets i env ≡ true) (sym n)
+        (λ r. has_here env ∙ r) r)
+        (λ (n : j ≢ s).
+        has_there j n env
+        ∙ work.quiet j l
+        (λ k m. omega (arith, calm k m, seen_there j n, changed_there k (apart j l calm k m))) env r)
+        (same_or_not j s) in
         record {
           sweep = record {
             sets_each = ap length a ∙ length-set old.sets s e ∙ work.sets_each;

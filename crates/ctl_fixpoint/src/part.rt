@@ -39,10 +39,12 @@ fn part_row(
 }
 
 /// For each part of the formula and each node of the graph the set of exactly the environments under which the part
-/// holds there. Parts go by their numbers in the formula's table. The patterns' sure variables stand in them, as those of
+/// holds there. Parts go by their numbers in the formula's table. The patterns' sure variables stand in them, as
+/// those of
 /// every pattern do that a patch spells.
 ///
-/// A part is computed once, an atom once a node; of an until each node is computed anew only where the set of a successor
+/// A part is computed once, an atom once a node; of an until each node is computed anew only where the set of a
+/// successor
 /// has changed, in as many sweeps over the nodes as it takes until nothing changes. So where loops are nested d deep it
 /// is linear in the nodes times d + 2, apart from the sets.
 pub fn sat(alloc: Global, g: &Graph, f: &Formula) -> Result<StateSets, NoMemory>

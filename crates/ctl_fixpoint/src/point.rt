@@ -1,5 +1,6 @@
 // Parts that are told node by node.
-ghost use Rattle.std.specs.Prelude.{◌≡◌, ℕ, ◌<◌, Bool, true, false, not, ◌&&◌, ◌||◌, List, [], length, slice_index_or, slice_get, Some, IfOk, Contains};
+ghost use Rattle.std.specs.Prelude.{◌≡◌, ℕ, ◌<◌, Bool, true, false, not, ◌&&◌, ◌||◌, List, [], length};
+ghost use Rattle.std.specs.Prelude.{slice_index_or, slice_get, Some, IfOk, Contains};
 ghost use Rattle.cfg_graph.specs.Flow.{IsSound, count_of, succ_of, past_of, down_of};
 ghost use Rattle.smpl_terms.specs.declared.var.Var.{Var};
 ghost use Rattle.smpl_terms.specs.Environments.{Environment};
@@ -54,7 +55,8 @@ fn is_close(kind: NodeKind) -> bool
 /// Where a body that leaves the function begins.
 fn bail_set(alloc: Global, g: &Graph, s: u32) -> Result<EnvSet, NoMemory>
     requires { s < count_of g.now }
-    ensures gives { IfOk result (λ r. (env : Environment) → set_denotes r env ≡ at_node g.now s (λ l. l.bail)) }
+    ensures gives { IfOk result (λ r. (env : Environment)
+        → set_denotes r env ≡ at_node g.now s (λ l. l.bail)) }
     ensures vars { IfOk result (λ r. (test : Var → Bool) → set_vars test r ≡ true) }
 {
     all_if(alloc, g.label(s).bail)
@@ -82,7 +84,8 @@ fn atom_set(
     requires { s < count_of g.now }
     ensures gives { IfOk result (λ r. (env : Environment) →
         set_denotes r env ≡ atom_at decls.now tokens.now g.now p.now s env) }
-    ensures vars { IfOk result (λ r. (test : Var → Bool) → pattern_vars decls.now tokens.now test p.now ≡ true
+    ensures vars { IfOk result (λ r. (test : Var → Bool)
+        → pattern_vars decls.now tokens.now test p.now ≡ true
         → set_vars test r ≡ true) }
 {
     solve(alloc, p, decls, tokens, g.label(s))
@@ -102,7 +105,8 @@ fn placed_set(
     ensures gives { IfOk result (λ r. (env : Environment) → set_denotes r env
         ≡ brace_at decls.now tokens.now g.now (λ k. true) p.now b.now s env) }
     ensures vars { IfOk result (λ r. (test : Var → Bool)
-        → (pattern_vars decls.now tokens.now test p.now && test b.now) ≡ true → set_vars test r ≡ true) }
+        → (pattern_vars decls.now tokens.now test p.now && test b.now) ≡ true
+        → set_vars test r ≡ true) }
 {
     let label = g.label(s);
     let place = EnvSet::one(alloc, b, Bound::Is(Value::Place(label.brace)))?;
@@ -123,7 +127,8 @@ fn open_set(
     ensures gives { IfOk result (λ r. (env : Environment) → set_denotes r env
         ≡ brace_at decls.now tokens.now g.now of.is_open p.now b.now s env) }
     ensures vars { IfOk result (λ r. (test : Var → Bool)
-        → (pattern_vars decls.now tokens.now test p.now && test b.now) ≡ true → set_vars test r ≡ true) }
+        → (pattern_vars decls.now tokens.now test p.now && test b.now) ≡ true
+        → set_vars test r ≡ true) }
 {
     if is_open(g.label(s).kind) {
         placed_set(alloc, g, decls, tokens, p, b, s)
@@ -145,7 +150,8 @@ fn close_set(
     ensures gives { IfOk result (λ r. (env : Environment) → set_denotes r env
         ≡ brace_at decls.now tokens.now g.now of.is_close p.now b.now s env) }
     ensures vars { IfOk result (λ r. (test : Var → Bool)
-        → (pattern_vars decls.now tokens.now test p.now && test b.now) ≡ true → set_vars test r ≡ true) }
+        → (pattern_vars decls.now tokens.now test p.now && test b.now) ≡ true
+        → set_vars test r ≡ true) }
 {
     if is_close(g.label(s).kind) {
         placed_set(alloc, g, decls, tokens, p, b, s)
@@ -155,13 +161,20 @@ fn close_set(
 }
 
 /// The row's set at every next node, or at some.
-pub fn next_set(alloc: Global, g: &Graph, every: bool, x: &[EnvSet], s: u32) -> Result<EnvSet, NoMemory>
+pub fn next_set(
+    alloc: Global,
+    g: &Graph,
+    every: bool,
+    x: &[EnvSet],
+    s: u32,
+) -> Result<EnvSet, NoMemory>
     requires sound { IsSound g.now }
     requires node { s < count_of g.now }
     requires wide { length x.now ≡ count_of g.now }
     ensures gives { IfOk result (λ r. (env : Environment) → set_denotes r env
         ≡ passes every (λ k. has x.now k env) (succ_of g.now s)) }
-    ensures vars { IfOk result (λ r. (test : Var → Bool) → row_vars test x.now ≡ true → set_vars test r ≡ true) }
+    ensures vars { IfOk result (λ r. (test : Var → Bool) → row_vars test x.now ≡ true
+        → set_vars test r ≡ true) }
 {
     if every {
         every_next(alloc, g.succ(s), x)
@@ -177,25 +190,21 @@ fn past_set(alloc: Global, g: &Graph, x: &[EnvSet], s: u32) -> Result<EnvSet, No
     requires wide { length x.now ≡ count_of g.now }
     ensures gives { IfOk result (λ r. (env : Environment) → set_denotes r env
         ≡ passes_there (λ k. has x.now k env) (past_of g.now s)) }
-    ensures vars { IfOk result (λ r. (test : Var → Bool) → row_vars test x.now ≡ true → set_vars test r ≡ true) }
+    ensures vars { IfOk result (λ r. (test : Var → Bool) → row_vars test x.now ≡ true
+        → set_vars test r ≡ true) }
 {
     set_there(alloc, g.past(s), x)
 }
 
 /// The row's set at the first node of a body. A number of a body that is no `u32` is refused as if memory had run out.
-fn down_set(
-    alloc: Global,
-    g: &Graph,
-    body: usize,
-    x: &[EnvSet],
-    s: u32,
-) -> Result<EnvSet, NoMemory>
+fn down_set(alloc: Global, g: &Graph, body: usize, x: &[EnvSet], s: u32) -> Result<EnvSet, NoMemory>
     requires sound { IsSound g.now }
     requires node { s < count_of g.now }
     requires wide { length x.now ≡ count_of g.now }
     ensures gives { IfOk result (λ r. (env : Environment) → set_denotes r env
         ≡ passes_there (λ k. has x.now k env) (slice_get (down_of g.now s) body)) }
-    ensures vars { IfOk result (λ r. (test : Var → Bool) → row_vars test x.now ≡ true → set_vars test r ≡ true) }
+    ensures vars { IfOk result (λ r. (test : Var → Bool) → row_vars test x.now ≡ true
+        → set_vars test r ≡ true) }
 {
     if body > u32::MAX as usize {
         return Err(NoMemory);

@@ -1,5 +1,6 @@
 // Rows of sets, and the next nodes.
-ghost use Rattle.std.specs.Prelude.{◌≡◌, ℕ, ◌<◌, Bool, true, false, List, [], length, slice_index_or, IfOk, Option, Contains};
+ghost use Rattle.std.specs.Prelude.{◌≡◌, ℕ, ◌<◌, Bool, true, false, List, [], length, slice_index_or, IfOk, Option};
+ghost use Rattle.std.specs.Prelude.{Contains};
 ghost use Rattle.smpl_terms.specs.declared.var.Var.{Var};
 ghost use Rattle.smpl_terms.specs.Environments.{Environment};
 ghost use Rattle.env_sets.specs.Sets.{set_denotes, set_vars};
@@ -40,7 +41,8 @@ pub fn every_next(alloc: Global, next: &[u32], x: &[EnvSet]) -> Result<EnvSet, N
     requires { (k : ℕ) → Contains next.now k → k < length x.now }
     ensures gives { IfOk result (λ r. (env : Environment) → set_denotes r env
         ≡ passes true (λ k. has x.now k env) next.now) }
-    ensures vars { IfOk result (λ r. (test : Var → Bool) → row_vars test x.now ≡ true → set_vars test r ≡ true) }
+    ensures vars { IfOk result (λ r. (test : Var → Bool) → row_vars test x.now ≡ true
+        → set_vars test r ≡ true) }
 {
     let mut out = EnvSet::all(alloc)?;
     for k in next {
@@ -54,7 +56,8 @@ pub fn some_next(alloc: Global, next: &[u32], x: &[EnvSet]) -> Result<EnvSet, No
     requires { (k : ℕ) → Contains next.now k → k < length x.now }
     ensures gives { IfOk result (λ r. (env : Environment) → set_denotes r env
         ≡ passes false (λ k. has x.now k env) next.now) }
-    ensures vars { IfOk result (λ r. (test : Var → Bool) → row_vars test x.now ≡ true → set_vars test r ≡ true) }
+    ensures vars { IfOk result (λ r. (test : Var → Bool) → row_vars test x.now ≡ true
+        → set_vars test r ≡ true) }
 {
     let mut out = EnvSet::none(alloc);
     for k in next {
@@ -66,8 +69,10 @@ pub fn some_next(alloc: Global, next: &[u32], x: &[EnvSet]) -> Result<EnvSet, No
 /// The set of a node, or none where there is no node.
 pub fn set_there(alloc: Global, node: Option<u32>, x: &[EnvSet]) -> Result<EnvSet, NoMemory>
     requires { (k : ℕ) → node ≡ Some k → k < length x.now }
-    ensures gives { IfOk result (λ r. (env : Environment) → set_denotes r env ≡ passes_there (λ k. has x.now k env) node) }
-    ensures vars { IfOk result (λ r. (test : Var → Bool) → row_vars test x.now ≡ true → set_vars test r ≡ true) }
+    ensures gives { IfOk result (λ r. (env : Environment)
+        → set_denotes r env ≡ passes_there (λ k. has x.now k env) node) }
+    ensures vars { IfOk result (λ r. (test : Var → Bool) → row_vars test x.now ≡ true
+        → set_vars test r ≡ true) }
 {
     match node {
         Some(k) => set_in(x, k).copy(alloc),

@@ -1,5 +1,6 @@
 // One sweep of an until: from the last node to the first, each where it may have changed.
-ghost use Rattle.std.specs.Prelude.{◌≡◌, ℕ, ◌+◌, ◌-◌, ◌<◌, ◌≤◌, ◌^◌, Bool, true, false, not, ◌&&◌, ◌||◌, List, [], length, slice_index_or, IfOk, Contains};
+ghost use Rattle.std.specs.Prelude.{◌≡◌, ℕ, ◌+◌, ◌-◌, ◌<◌, ◌≤◌, ◌^◌, Bool, true, false, not, ◌&&◌, ◌||◌, List, []};
+ghost use Rattle.std.specs.Prelude.{length, slice_index_or, IfOk, Contains};
 ghost use Rattle.cfg_graph.specs.Flow.{IsSound, count_of, succ_of};
 ghost use Rattle.smpl_terms.specs.declared.var.Var.{Var};
 ghost use Rattle.smpl_terms.specs.Environments.{Environment};
@@ -54,7 +55,8 @@ fn round_set(
     requires sets { length sets.now ≡ count_of g.now }
     ensures gives { IfOk result (λ r. (env : Environment) →
         set_denotes r env ≡ round_of g.now every way.now end.now sets.now s env) }
-    ensures vars { IfOk result (λ r. (test : Var → Bool) → row_vars test way.now ≡ true → row_vars test end.now ≡ true
+    ensures vars { IfOk result (λ r. (test : Var → Bool) → row_vars test way.now ≡ true
+        → row_vars test end.now ≡ true
         → row_vars test sets.now ≡ true → set_vars test r ≡ true) }
 {
     if set_in(way, s).is_none() {
@@ -67,7 +69,13 @@ fn round_set(
 
 impl Sweep {
     /// No environment anywhere, and each node is still to be computed.
-    pub fn new(alloc: Global, g: &Graph, every: bool, way: &[EnvSet], end: &[EnvSet]) -> Result<Sweep, NoMemory>
+    pub fn new(
+        alloc: Global,
+        g: &Graph,
+        every: bool,
+        way: &[EnvSet],
+        end: &[EnvSet],
+    ) -> Result<Sweep, NoMemory>
         requires { IsSound g.now }
         ensures { IfOk result (λ w. SweptTimes g.now every way.now end.now 0 w) }
     {

@@ -26,7 +26,8 @@ pub fn until_row(
     requires end { length end.now ≡ count_of g.now }
     ensures gives { IfOk result (λ r.
         Gives (count_of g.now) r.items (until_of g.now every way.now end.now (count_of g.now))) }
-    ensures vars { IfOk result (λ r. (test : Var → Bool) → row_vars test way.now ≡ true → row_vars test end.now ≡ true
+    ensures vars { IfOk result (λ r. (test : Var → Bool) → row_vars test way.now ≡ true
+        → row_vars test end.now ≡ true
         → row_vars test r.items ≡ true) }
 {
     let count = g.count();
@@ -43,7 +44,8 @@ pub fn until_row(
 /// The row of a quantifier: the variable may have any value.
 pub fn exists_row(alloc: Global, x: &Var, row: &[EnvSet]) -> Result<Vec<EnvSet>, NoMemory>
     ensures gives { IfOk result (λ r. Projects (length row.now) x.now row.now r.items) }
-    ensures vars { IfOk result (λ r. (test : Var → Bool) → row_vars (λ y. test y || same_var y x.now) row.now ≡ true
+    ensures vars { IfOk result (λ r. (test : Var → Bool)
+        → row_vars (λ y. test y || same_var y x.now) row.now ≡ true
         → row_vars test r.items ≡ true) }
 {
     let mut sets = Vec::with_capacity(alloc, row.len())?;

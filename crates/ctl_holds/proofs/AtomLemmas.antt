@@ -238,7 +238,7 @@ module _ (decls : List VarDecl) (tokens : List PatToken) (env : Environment) (x 
       → matches decls tokens env p l ≡ true → has_value l.tree (env x) ≡ true
   match_law p l e stand h =
       let f = any_found
-          (λ f. list_any (λ (s : Spot_in). fits_seat decls tokens env p l.kind f s.tree) (seats p.spot l.kind l.tree)) p.forms h in
+      (λ f. list_any (λ (s : Spot_in). fits_seat decls tokens env p l.kind f s.tree) (seats p.spot l.kind l.tree)) p.forms h in
       seat-value (env x) p.spot l.kind l.tree
       (any_weaker (λ (s : Spot_in). fits_seat decls tokens env p l.kind f.0 s.tree) (here (env x)) (seats p.spot l.kind l.tree)
       (λ s c w. seat_law p l.kind f.0 s.tree e stand w) f.2)
@@ -261,7 +261,7 @@ module _ (decls : List VarDecl) (tokens : List PatToken) (g : Flow) (p : Pattern
       → brace_at decls tokens g is p b s env ≡ true → is_among (values_of g) (env x) ≡ true
   brace-among is b e h =
       let l = label_of g s (λ l. is l.kind && same (Place l.brace) (env b) && matches decls tokens env p l)
-          (slice_get g.labels s) refl h in
+      (slice_get g.labels s) refl h in
       ⊎_elim
       (λ a. among-label g s l.0 (env x) l.1 (match_law decls tokens env x p l.0 a stand (and_right _ _ l.2)))
       (λ a. subst (λ (z : Var). is_among (values_of g) (env z) ≡ true) (same_var-equal b x a)

@@ -71,10 +71,11 @@ module _ (g : Flow) (ok : IsSound g) where
   some_value : (s : ℕ) → s < count_of g → (v : Value) × Contains (values_of g) v
   some_value s lt =
       let l = some_label g.labels s lt in
-      let c = label-place g s l.0 l.1 in
-      (Place l.0.brace,
-      Contains-append_right (map Term (terms_of g)) (map Place (places_of g)) (Place l.0.brace)
-      (Contains-map Place l.0.brace (places_of g) c.0 c.1 c.2))
+      let c = label-place g s l.0 l.1 in (
+        Place l.0.brace,
+        Contains-append_right (map Term (terms_of g)) (map Place (places_of g)) (Place l.0.brace)
+            (Contains-map Place l.0.brace (places_of g) c.0 c.1 c.2),
+      )
 
 module _ (decls : List VarDecl) (tokens : List PatToken) (g : Flow) (ok : IsSound g) (m : ℕ) (pos : 0 < m) where
   abbrev Among : Environment → Var → Type 0

@@ -61,8 +61,10 @@ module _ (g : Flow) (ok : IsSound g) where
         (λ here. inl ((dq n lt).0 here))
         (λ there.
         let r = all_has (rounds g true p q (suc m)) k (succ_of g n) f.0 (and_right (p n) _ there) in
-        inr ((dp n lt).0 (and_left (p n) _ there),
-        reach (suc m) k w (node_after g ok n k lt f.0) f.1 (omega (arith, e)) r))
+        inr (
+          (dp n lt).0 (and_left (p n) _ there),
+          reach (suc m) k w (node_after g ok n k lt f.0) f.1 (omega (arith, e)) r,
+        ))
         (or_cases (q n) _ h)
 
     not_here : (n : ℕ) → n < count_of g → q n ≡ false → Q n → ⊥

@@ -15,7 +15,8 @@ ghost use Rattle.ctl_holds.specs.BoundLaw.{SureStand, HasValues};
 
 /// Whether a formula holds can be computed: m rounds over all nodes say of an until what walks of m nodes do.
 pub fn walks_by_rounds()
-    ensures { (decls : List VarDecl) (tokens : List PatToken) (g : Flow) → IsSound g → (m : ℕ) → 0 < m
+    ensures { (decls : List VarDecl) (tokens : List PatToken) (g : Flow) → IsSound g → (m : ℕ)
+        → 0 < m
         → (f : Plain) (s : ℕ) → s < count_of g → (env : Environment)
         → Decides (holds decls tokens g m f s env) (Holds decls tokens g m f s env) }
 {}
@@ -23,12 +24,14 @@ pub fn walks_by_rounds()
 /// Wherever a formula holds, each variable that it binds has a value of the graph; and so has each that it binds where
 /// it fails, wherever it doesn't hold.
 pub fn bound_variables_have_values()
-    ensures { (decls : List VarDecl) (tokens : List PatToken) (g : Flow) → IsSound g → (m : ℕ) → 0 < m
+    ensures { (decls : List VarDecl) (tokens : List PatToken) (g : Flow) → IsSound g → (m : ℕ)
+        → 0 < m
         → (f : Plain) → EachPattern (SureStand decls tokens) f → (s : ℕ) → s < count_of g
         → (env : Environment) (x : Var) → HasValues decls tokens g m f s env x }
 {}
 
 /// Each part of a formula is a node of its table, so it has a number there.
 pub fn every_part_has_a_number()
-    ensures { (f : FormulaOf) → IsFormula f → (h : Plain) → IsPart h (plain f) → HasNumber f.nodes h }
+    ensures { (f : FormulaOf) → IsFormula f → (h : Plain) → IsPart h (plain f)
+        → HasNumber f.nodes h }
 {}

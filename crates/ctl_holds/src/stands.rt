@@ -10,7 +10,8 @@ use smpl_patch::{PatToken, Pattern, VarDecl, is_sure, stands};
 use smpl_terms::Var;
 use std::alloc::Global;
 
-/// Where a variable that doesn't stand in the pattern isn't a sure one either, no disjunction without branches makes one.
+/// Where a variable that doesn't stand in the pattern isn't a sure one either, no disjunction without branches makes
+/// one.
 fn pattern_stands(decls: &[VarDecl], tokens: &[PatToken], p: &Pattern, absent: &Var) -> bool
     ensures { result ≡ true → SureStand decls.now tokens.now p.now }
 {
@@ -34,13 +35,16 @@ fn node_stands(decls: &[VarDecl], tokens: &[PatToken], node: &Node, absent: &Var
     }
 }
 
-/// Whether each sure variable of the formula's patterns stands in them, as [`bound_variables_have_values`] asks. It is so
-/// of every formula whose patterns a patch spells; what may break it is a disjunction without branches. True only where it
+/// Whether each sure variable of the formula's patterns stands in them, as [`bound_variables_have_values`] asks. It
+/// is so
+/// of every formula whose patterns a patch spells; what may break it is a disjunction without branches. True only
+/// where it
 /// is so. Linear in the patterns of the formula's table.
 ///
 /// [`bound_variables_have_values`]: crate::bound_variables_have_values
 pub fn sure_variables_stand(alloc: Global, f: &Formula) -> Result<bool, NoMemory>
-    ensures stand { IfOk result (λ yes. yes ≡ true → EachPattern (SureStand f.now.decls f.now.tokens) (plain f.now)) }
+    ensures stand { IfOk result (λ yes. yes ≡ true
+        → EachPattern (SureStand f.now.decls f.now.tokens) (plain f.now)) }
 {
     let absent = Var {
         rule: 0,

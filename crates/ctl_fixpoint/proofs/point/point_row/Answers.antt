@@ -8,7 +8,7 @@ pub loop-s-preserved : goal.loop-s-preserved
 loop-s-preserved c =
     let f = c.args.f.now in
     let test = λ (s : ℕ) (env : Environment).
-        step f.decls f.tokens c.args.g.now (λ i k. has (row_of c.args.rows.now i) k env) c.args.node.now s env in
+    step f.decls f.tokens c.args.g.now (λ i k. has (row_of c.args.rows.now i) k env) c.args.node.now s env in
     let items = c.in_ok-push.ensures.items in
     let r = c.in_ok-point_set.field-0 in
     record {

@@ -11,7 +11,7 @@ loop-n-init c =
 pub loop-n-preserved : goal.loop-n-preserved
 loop-n-preserved c =
     let at : (c.count-count.result - 1 - c.loop-n.n) + c.loop-n.n + 1 ≡ count_of c.args.g.now =
-        omega (arith, c.count-count.ensures.value) in
+    omega (arith, c.count-count.ensures.value) in
     let either : c.if-any.any ≡ (c.loop-n.any || c.in_ok-changed.changed) = elim c.if-any.branch [
       | then-any w ↦ either_true c.loop-n.any c.in_ok-changed.changed c.if-any.any w.if-any.true (w.any-is ∙ w.if-any.true)
       | else-any w ↦ either_false c.loop-n.any c.in_ok-changed.changed c.if-any.any w.if-any.false w.any-is

@@ -17,9 +17,9 @@ returns-then-same_set c =
     let clock : inner.clock ≡ c.args.self.now.clock = ap (λ (w : Sweeping). w.clock) c.self.view_is in
     let read : c.deref.result.now ≡ c.args.self.now.sets = c.deref.ensures.value ∙ sets in
     let lt : c.args.s < length inner.sets.items =
-        omega (arith, ap length sets, c.requires.node, c.requires.sweep.sets_each) in
+    omega (arith, ap length sets, c.requires.node, c.requires.sweep.sets_each) in
     let old : c.index.result.now ≡ set_of c.args.self.now.sets c.args.s =
-        get_or_read inner.sets.items c.args.s c.index.result.now lt c.index.ensures [] ∙ ap (λ l. set_of l c.args.s) sets in
+    get_or_read inner.sets.items c.args.s c.index.result.now lt c.index.ensures [] ∙ ap (λ l. set_of l c.args.s) sets in
     let alike = c.same_set.ensures.meaning c.if-same_set.true in
     visit_same c.args.g.now c.requires.sound c.args.every c.args.way.now c.args.end.now c.args.self.now c.requires.sweep
     c.args.s c.requires.node _ sets (ap (λ l. set l c.args.s inner.clock) seen ∙ ap (set c.args.self.now.seen c.args.s) clock)

@@ -16,7 +16,7 @@ use crate::entries::{Entry, entry_holds, meet_entries};
 use crate::groups::{Groups, groups_by};
 use crate::parts::fixed_value;
 use crate::sets::{EnvSet, first_cover, put_some, settled};
-use crate::values::{Values, distinct, place_in_order};
+use crate::values::{ValueList, distinct, place_in_order};
 use c_terms::NoMemory;
 use smpl_terms::{Env, Value, Var, same_var};
 use std::alloc::Global;
@@ -46,7 +46,7 @@ fn put_copies(alloc: Global, out: &mut Vec<Entry>, a: &EnvSet) -> Result<(), NoM
 
 /// Both: what a and b stand for.
 ///
-/// It copies each entry of b at most twice. An entry of a that fixes the variable which the first entry of b bounds
+/// Entries of b are shared, at most twice each. An entry of a that fixes the variable which the first entry of b bounds
 /// first meets those entries of b that fix it to the same value, found by look-up, and those that do not fix it; if
 /// one of the former plainly covers it, it meets no more. Any other entry of a meets each of b. So for n entries
 /// that fix the same variables, of which those of b fix this one to n values, it takes n log n steps.
@@ -105,7 +105,7 @@ fn meet_by(alloc: Global, a: &EnvSet, b: &EnvSet, x: &Var) -> Result<EnvSet, NoM
 /// A set at a variable: the values of the entries that fix it alone, and all other entries.
 #[derive(Drop)]
 pub struct Parts {
-    pub fixed: Values,
+    pub fixed: ValueList,
     pub others: EnvSet,
 }
 

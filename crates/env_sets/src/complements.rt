@@ -19,10 +19,10 @@ ghost use Rattle.env_sets.specs.Splits.{passes, occurs, are_allowed};
 use crate::algebra::{Parts, parts_at};
 use crate::bounds::Bound;
 use crate::entries::{Entry, all_excluded};
+use crate::excluded::Values;
 use crate::parts::{is_allowed, named, parts_by, where_other};
-use crate::sets::{EnvSet, have_all, put_some, settled};
+use crate::sets::{EnvSet, have_all, put_some, settled, settled_apart};
 use crate::tally::split_var;
-use crate::values::Values;
 use c_terms::NoMemory;
 use smpl_terms::{Value, Var, same_var};
 use std::alloc::Global;
@@ -40,10 +40,28 @@ pub fn complement(alloc: Global, a: &EnvSet) -> Result<EnvSet, NoMemory>
         set_vars t r ≡ true) }
 {
     let entries = outside(alloc, a.entries())?;
+    if are_in_order(a.entries()) {
+        return settled_apart(alloc, entries);
+    }
     settled(alloc, entries)
 }
 
-/// The entries of the complement, as they come.
+/// Whether all lists of excluded values are in order.
+fn are_in_order(a: &[Entry]) -> bool {
+    for e in a {
+        for p in e.pairs() {
+            if let Bound::Not(values) = &p.1 {
+                if !values.rises() {
+                    return false;
+                }
+            }
+        }
+    }
+    true
+}
+
+/// The entries of the complement, as they come. Where all lists of excluded values are in order, no two of them stand for
+/// one environment: they differ in a variable on which a set was split.
 #[cycle(outside)]
 fn outside(alloc: Global, a: &[Entry]) -> Result<Vec<Entry>, NoMemory>
     ensures meaning { IfOk result (λ r. (env : Environment) →
@@ -79,10 +97,12 @@ fn outside_at(alloc: Global, a: &[Entry], x: &Var) -> Result<Vec<Entry>, NoMemor
         let parts = parts_at(alloc, a, x)?;
         let others = parts.others.entries();
         if others.is_empty() {
-            return one_entry(alloc, Entry::one(alloc, x, Bound::Not(parts.fixed))?);
+            let fixed = Values::of(alloc, parts.fixed.into_vec())?;
+            return one_entry(alloc, Entry::one(alloc, x, Bound::Not(fixed))?);
         }
         if let Some(values) = only_excluded(&others[shortest(others)], x) {
-            return outside_lone(alloc, values.as_slice(), &parts, x);
+            let listed = values.list(alloc)?;
+            return outside_lone(alloc, listed.as_slice(), &parts, x);
         }
     }
     split(alloc, a, x)
@@ -113,7 +133,8 @@ fn split(alloc: Global, a: &[Entry], x: &Var) -> Result<Vec<Entry>, NoMemory>
     }
     let other = where_other(alloc, a, x)?;
     let rest = outside(alloc, &other)?;
-    put_narrowed(alloc, &mut entries, rest, x, &Bound::Not(values))?;
+    let excluded = Values::of(alloc, values.into_vec())?;
+    put_narrowed(alloc, &mut entries, rest, x, &Bound::Not(excluded))?;
     Ok(entries)
 }
 

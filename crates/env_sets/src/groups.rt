@@ -11,7 +11,7 @@ ghost use Rattle.env_sets.specs.Splits.{AreGroupsOf, HaveVars};
 use crate::entries::Entry;
 use crate::parts::{Part, empty_parts, fixed_value};
 use crate::sets::EnvSet;
-use crate::values::{Values, distinct, place_in_order};
+use crate::values::{ValueList, distinct, place_in_order};
 use c_terms::NoMemory;
 use smpl_terms::{Value, Var};
 use std::alloc::Global;
@@ -20,7 +20,7 @@ use std::alloc::Global;
 /// other entries.
 #[derive(Drop)]
 pub struct Groups {
-    pub values: Values,
+    pub values: ValueList,
     pub groups: Vec<Part>,
     pub others: EnvSet,
 }
@@ -46,7 +46,7 @@ pub fn groups_by(alloc: Global, b: &[Entry], x: &Var) -> Result<Groups, NoMemory
 }
 
 /// The values at which entries fix x, in order, each once.
-fn values_at(alloc: Global, b: &[Entry], x: &Var) -> Result<Values, NoMemory>
+fn values_at(alloc: Global, b: &[Entry], x: &Var) -> Result<ValueList, NoMemory>
     ensures rise { IfOk result (λ vs. Rise vs) }
 {
     let mut values = Vec::new(alloc);

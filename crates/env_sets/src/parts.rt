@@ -10,7 +10,7 @@ ghost use Rattle.env_sets.specs.Splits.{passes, without, restricted, agree, none
 
 use crate::bounds::Bound;
 use crate::entries::Entry;
-use crate::values::{Values, distinct, place_in_order};
+use crate::values::{ValueList, distinct, place_in_order};
 use c_terms::NoMemory;
 use smpl_terms::{Value, Var, same_var};
 use std::alloc::Global;
@@ -99,33 +99,39 @@ fn put_in_parts(
 {
     match fixed_value(e, x) {
         Some(v) => match place_in_order(values, v) {
-            Some(k) => put_in_part(alloc, parts, k, e, x, &values[k]),
+            Some(k) => {
+                let rest = e.without(alloc, x)?;
+                put_in_part(alloc, parts, k, e, &rest, x, &values[k])
+            }
             None => Ok(()),
         },
         None => {
+            let rest = e.without(alloc, x)?;
             for k in 0..values.len() {
-                put_in_part(alloc, parts, k, e, x, &values[k])?;
+                put_in_part(alloc, parts, k, e, &rest, x, &values[k])?;
             }
             Ok(())
         }
     }
 }
 
-/// Adds the entry without x to the part at k, if it allows the value.
+/// Adds the rest, which is the entry without x, to the part at k, if the entry allows the value. It shares the rest.
 fn put_in_part(
     alloc: Global,
     parts: &mut [Part],
     k: usize,
     e: &Entry,
+    rest: &Entry,
     x: &Var,
     v: &Value,
 ) -> Result<(), NoMemory>
     requires at { k < length parts.now }
+    requires rest { rest.now ≡ without x.now e.now }
     ensures { IfOk result (λ _. parts.new ≡ set parts.old k (slice_index_or parts.old k []
         ++ cond (passes x.now (fits v.now) e.now) (without x.now e.now ∷ []) [])) }
 {
     if is_allowed(e, x, v) {
-        parts[k].put(e.without(alloc, x)?)?;
+        parts[k].put(rest.copy(alloc)?)?;
     }
     Ok(())
 }
@@ -183,7 +189,7 @@ fn is_open(e: &Entry, x: &Var) -> bool
 }
 
 /// The values that the entries name at x, in order, each once.
-pub fn named(alloc: Global, a: &[Entry], x: &Var) -> Result<Values, NoMemory>
+pub fn named(alloc: Global, a: &[Entry], x: &Var) -> Result<ValueList, NoMemory>
     ensures meaning { IfOk result (λ vs. (z : Datum) → list_any (λ v. same v z) vs ≡ false →
         none_named x.now z a.now ≡ true) }
     ensures rise { IfOk result (λ vs. Rise vs) }
@@ -215,11 +221,7 @@ fn put_values(alloc: Global, out: &mut Vec<Value>, bound: &Bound) -> Result<(), 
 {
     match bound {
         Bound::Is(v) => out.push(v.copy(alloc)?)?,
-        Bound::Not(vs) => {
-            for v in vs.as_slice() {
-                out.push(v.copy(alloc)?)?;
-            }
-        }
+        Bound::Not(vs) => vs.put_in(alloc, out)?,
     }
     Ok(())
 }

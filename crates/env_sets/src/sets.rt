@@ -150,6 +150,24 @@ pub fn settled(alloc: Global, entries: Vec<Entry>) -> Result<EnvSet, NoMemory>
     kept_of(alloc, in_order(with_all(entries, wider)?))
 }
 
+/// The same for entries of which no two stand for one environment, so that none covers another.
+pub fn settled_apart(alloc: Global, entries: Vec<Entry>) -> Result<EnvSet, NoMemory>
+    ensures meaning { IfOk result (λ r. (env : Environment) →
+        set_denotes r env ≡ set_denotes entries.items env) }
+    ensures vars { IfOk result (λ r. (t : Var → Bool) → set_vars t entries.items ≡ true →
+        set_vars t r ≡ true) }
+{
+    if entries.len() < 2 {
+        return Ok(EnvSet::of(entries));
+    }
+    let entries = in_order(entries);
+    let wider = wider_entries(alloc, &entries)?;
+    if wider.is_empty() {
+        return Ok(EnvSet::of(entries));
+    }
+    kept_of(alloc, in_order(with_all(entries, wider)?))
+}
+
 /// The entries, sorted.
 fn in_order(entries: Vec<Entry>) -> Vec<Entry>
     ensures meaning { (env : Environment) →

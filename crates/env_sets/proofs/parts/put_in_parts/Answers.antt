@@ -13,8 +13,8 @@ loop-k-preserved c = record {
       c.loop-k-test.true c.index-values-k-in-loop-k.is c.in_ok-put_in_part-in-None.ensures (c.loop-k.invariant.meaning es h);
 }
 
-pub returns-in-Some-place_in_order : goal.returns-in-Some-place_in_order
-returns-in-Some-place_in_order c = IfOk-weaker c.put_in_part.result _ _ (λ r is.
+pub returns-in_ok-rest-in-Some-place_in_order : goal.returns-in_ok-rest-in-Some-place_in_order
+returns-in_ok-rest-in-Some-place_in_order c = IfOk-weaker c.put_in_part.result _ _ (λ r is.
     let k = c.in-Some-place_in_order.k in
     let within = c.in-Some-place_in_order.ensures.0 in
     parts_put c.args.x.now c.args.values.now c.args.parts.now c.put_in_part.new.parts c.args.e.now c.in-Some.v.now c.index-values-k.result k

@@ -7,4 +7,3 @@ pub mod HoldLemmas
 pub mod BoundLemmas
 pub mod StandLemmas
 pub mod PartLemmas
-mod Examples

@@ -7,3 +7,4 @@ pub mod HoldLemmas
 pub mod BoundLemmas
 pub mod StandLemmas
 pub mod PartLemmas
+mod Examples

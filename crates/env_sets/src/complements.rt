@@ -16,11 +16,11 @@ ghost use Rattle.env_sets.specs.Sets.{entry_denotes, entry_vars, set_denotes, se
 ghost use Rattle.env_sets.specs.Laws.{IsComplement};
 ghost use Rattle.env_sets.specs.Splits.{passes, occurs, are_allowed};
 
-use crate::algebra::{Parts, parts_at};
+use crate::algebra::{LoneSplit, split_lone};
 use crate::bounds::Bound;
 use crate::entries::{Entry, all_excluded};
 use crate::excluded::Values;
-use crate::parts::{is_allowed, named, parts_by, where_other};
+use crate::parts::{is_allowed, named, restrictions, where_other};
 use crate::sets::{EnvSet, have_all, put_some, settled, settled_apart};
 use crate::tally::split_var;
 use c_terms::NoMemory;
@@ -94,7 +94,7 @@ fn outside_at(alloc: Global, a: &[Entry], x: &Var) -> Result<Vec<Entry>, NoMemor
         set_vars t r.items ≡ true) }
 {
     if are_lone(a, x) {
-        let parts = parts_at(alloc, a, x)?;
+        let parts = split_lone(alloc, a, x)?;
         let others = parts.others.entries();
         if others.is_empty() {
             let fixed = Values::of(alloc, parts.fixed.into_vec())?;
@@ -119,7 +119,7 @@ fn split(alloc: Global, a: &[Entry], x: &Var) -> Result<Vec<Entry>, NoMemory>
 {
     let values = named(alloc, a, x)?;
     let all = values.as_slice();
-    let parts = parts_by(alloc, a, x, all)?;
+    let parts = restrictions(alloc, a, x, all)?;
     let mut entries = Vec::new(alloc);
     for i in 0..all.len() {
         let rest = outside(alloc, parts[i].entries())?;
@@ -142,7 +142,7 @@ fn split(alloc: Global, a: &[Entry], x: &Var) -> Result<Vec<Entry>, NoMemory>
 fn outside_lone(
     alloc: Global,
     values: &[Value],
-    parts: &Parts,
+    parts: &LoneSplit,
     x: &Var,
 ) -> Result<Vec<Entry>, NoMemory>
     requires lone { set_vars (λ y. same_var y x.now) parts.now.others ≡ true }
@@ -163,7 +163,7 @@ fn put_outside(
     alloc: Global,
     out: &mut Vec<Entry>,
     v: &Value,
-    parts: &Parts,
+    parts: &LoneSplit,
     x: &Var,
 ) -> Result<(), NoMemory>
     ensures meaning { IfOk result

@@ -98,6 +98,16 @@ impl Values {
         self.mark
     }
 
+    /// The values of the first list.
+    pub(crate) fn first_run(&self) -> &[Value] {
+        self.runs.first.as_slice()
+    }
+
+    /// The other lists.
+    pub(crate) fn rest_runs(&self) -> &[SharedList<Value>] {
+        self.runs.rest.as_slice()
+    }
+
     /// Whether it is known that the values are in order, each once. Takes no memory.
     pub fn rises(&self) -> bool
         ensures rise { result ≡ true → Rise self.now }

@@ -9,7 +9,7 @@ ghost use Rattle.env_sets.specs.Sets.{Entries, entry_denotes, entry_vars, set_va
 ghost use Rattle.env_sets.specs.Splits.{AreGroupsOf, HaveVars};
 
 use crate::entries::Entry;
-use crate::parts::{Part, empty_parts, fixed_value};
+use crate::parts::{empty_sets, fixed_value};
 use crate::sets::EnvSet;
 use crate::values::{ValueList, distinct, place_in_order};
 use c_terms::NoMemory;
@@ -21,7 +21,7 @@ use std::alloc::Global;
 #[derive(Drop)]
 pub struct Groups {
     pub values: ValueList,
-    pub groups: Vec<Part>,
+    pub groups: Vec<EnvSet>,
     pub others: EnvSet,
 }
 
@@ -33,7 +33,7 @@ pub fn groups_by(alloc: Global, b: &[Entry], x: &Var) -> Result<Groups, NoMemory
         HaveVars t g.groups.items g.others) }
 {
     let values = values_at(alloc, b, x)?;
-    let mut groups = empty_parts(alloc, values.as_slice().len())?;
+    let mut groups = empty_sets(alloc, values.as_slice().len())?;
     let mut others = Vec::new(alloc);
     for e in b {
         put_in_group(alloc, &mut groups, &mut others, e, x, values.as_slice())?;
@@ -61,7 +61,7 @@ fn values_at(alloc: Global, b: &[Entry], x: &Var) -> Result<ValueList, NoMemory>
 /// Adds the entry to the group of the value at which it fixes x, or else to the others.
 fn put_in_group(
     alloc: Global,
-    groups: &mut [Part],
+    groups: &mut [EnvSet],
     others: &mut Vec<Entry>,
     e: &Entry,
     x: &Var,

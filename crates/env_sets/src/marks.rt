@@ -42,11 +42,31 @@ pub fn mark_of(e: &Entry) -> Mark {
 }
 
 fn bit_of(x: &Var) -> u64 {
-    let mut hash = x.rule;
+    1u64 << (var_mark(x) % 64)
+}
+
+/// A number that is equal for one variable.
+fn var_mark(x: &Var) -> u64 {
+    let mut mark = u64::from(x.rule);
     for byte in x.name.as_bytes() {
-        hash = hash.wrapping_mul(31).wrapping_add(u32::from(*byte));
+        mark = mark.wrapping_mul(31).wrapping_add(u64::from(*byte));
     }
-    1u64 << (hash % 64)
+    mark
+}
+
+/// The key of a variable that is a value: equal for one variable and same values.
+pub fn fixed_key(x: &Var, v: &Value) -> u64 {
+    mixed(mixed(5, var_mark(x)), value_mark(v))
+}
+
+/// The key of a variable that is not a value.
+pub fn excluded_key(x: &Var, v: &Value) -> u64 {
+    mixed(mixed(7, var_mark(x)), value_mark(v))
+}
+
+/// The key of a variable that is not some values.
+pub fn open_key(x: &Var) -> u64 {
+    mixed(11, var_mark(x))
 }
 
 /// Whether an entry with the first mark may cover another with the second. An entry that covers another bounds no other

@@ -81,6 +81,24 @@ fn excluded_twice(alloc: Global, name: &str, count: u32) -> Result<String, Fail>
     Ok(recipe)
 }
 
+/// So many entries that exclude a value of x and y each, with entries that these cover.
+fn covered_exclusions(alloc: Global, count: u32) -> Result<String, Fail> {
+    let mut recipe = excluded_twice(alloc, "y", count)?;
+    for k in 0..count {
+        write!(recipe, " x!{k} y!{k} & z!{k} & | x=50 y=60 & z={k} & |")?;
+    }
+    Ok(recipe)
+}
+
+/// So many entries that fix x and y, with entries that these cover.
+fn covered_pairs(alloc: Global, count: u32) -> Result<String, Fail> {
+    let mut recipe = pairs(alloc, count)?;
+    for k in 0..count {
+        write!(recipe, " x={k} y={k} & z={k} & |")?;
+    }
+    Ok(recipe)
+}
+
 /// One entry that fixes so many variables.
 fn wide(alloc: Global, count: u32) -> Result<String, Fail> {
     let mut recipe = format!(in alloc; "all")?;
@@ -107,6 +125,14 @@ fn results_of_many_entries_stay_small(rt: HostRuntime) -> Result<(), Fail> {
     assert!(rt; measures(alloc, &exclusions(alloc, 50)?, 1, 0)?);
     assert!(rt; measures(alloc, &wide(alloc, 100)?, 1, 100)?);
     assert!(rt; measures(alloc, &then(wide(alloc, 100)?, "~")?, 100, 5050)?);
+    Ok(())
+}
+
+#[test]
+fn covered_entries_are_found_among_many(rt: HostRuntime) -> Result<(), Fail> {
+    let alloc = rt.alloc();
+    assert!(rt; measures(alloc, &covered_exclusions(alloc, 20)?, 20, 40)?);
+    assert!(rt; measures(alloc, &covered_pairs(alloc, 20)?, 20, 40)?);
     Ok(())
 }
 

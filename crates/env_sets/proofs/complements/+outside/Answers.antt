@@ -80,7 +80,7 @@ split-outside-requires t c = (
     arith,
     c.decreases,
     part_smaller c.args.x.now c.as_slice-all.result.now c.args.a.now c.in_ok-parts.parts.items c.loop-i.i c.entries.result.now c.in_ok-parts.ensures c.loop-i-test.true
-        (c.entries.ensures ∙ c.index.ensures ∙ get_or_default c.in_ok-parts.parts.items c.loop-i.i c.index.result.now [] (omega (arith, c.in_ok-parts.ensures.0, c.loop-i-test.true))) c.requires.occurs,
+        (c.entries.ensures.entries ∙ c.index.ensures ∙ get_or_default c.in_ok-parts.parts.items c.loop-i.i c.index.result.now [] (omega (arith, c.in_ok-parts.ensures.0, c.loop-i-test.true))) c.requires.occurs,
   ),
   tt,
 )
@@ -94,7 +94,7 @@ split-loop-i-preserved t c =
     let v = c.index-all-i.result in
     let x = c.args.x.now in
     let is_part = part_is x c.as_slice-all.result.now c.args.a.now c.in_ok-parts.parts.items c.loop-i.i c.entries.result.now v c.in_ok-parts.ensures c.loop-i-test.true
-    (c.entries.ensures ∙ c.index.ensures ∙ get_or_default c.in_ok-parts.parts.items c.loop-i.i c.index.result.now [] (omega (arith, c.in_ok-parts.ensures.0, c.loop-i-test.true))) c.index-all-i.is in
+    (c.entries.ensures.entries ∙ c.index.ensures ∙ get_or_default c.in_ok-parts.parts.items c.loop-i.i c.index.result.now [] (omega (arith, c.in_ok-parts.ensures.0, c.loop-i-test.true))) c.index-all-i.is in
     record {
       meaning = λ env.
           c.in_ok-put_narrowed.ensures.meaning env

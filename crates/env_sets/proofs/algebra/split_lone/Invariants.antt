@@ -4,7 +4,7 @@ use Rattle.smpl_terms.specs.declared.var.Var.{Var}
 use Rattle.smpl_terms.specs.Values.{same}
 use Rattle.smpl_terms.specs.Environments.{Environment}
 use Rattle.env_sets.specs.Sets.{set_denotes, set_vars}
-use Rattle.env_sets.proofs.algebra.parts_at.Given as goal
+use Rattle.env_sets.proofs.algebra.split_lone.Given as goal
 
 abbrev pub invariant-loop-e : goal.invariant-loop-e
 invariant-loop-e l = record {

@@ -1,7 +1,7 @@
 use Rattle.std.proofs.Common.{◌≡◌, ◌||◌, ap, sym, ◌∙◌, arith, take}
 use Rattle.std.proofs.lemmas.List.{take_all}
 use Rattle.env_sets.specs.Sets.{set_denotes}
-use Rattle.env_sets.proofs.algebra.parts_at.Goals as goal
+use Rattle.env_sets.proofs.algebra.split_lone.Goals as goal
 
 pub returns-clause-meaning : goal.returns-clause-meaning
 returns-clause-meaning c = λ env.

@@ -1,5 +1,5 @@
 use Rattle.std.proofs.Common.{◌≡◌, ◌≤◌, ◌-◌, ℕ, [], length, get_or}
-use Rattle.env_sets.proofs.parts.empty_parts.Given as goal
+use Rattle.env_sets.proofs.parts.empty_sets.Given as goal
 
 abbrev pub invariant-loop-alloc : goal.invariant-loop-alloc
 invariant-loop-alloc l = record {

@@ -7,7 +7,7 @@ use Rattle.env_sets.proofs.BoundLemmas.{any_same-along}
 use Rattle.env_sets.proofs.GroupLemmas.{fixed_same}
 use Rattle.env_sets.proofs.LoopLemmas.{denotes_one}
 use Rattle.env_sets.proofs.MeetLemmas.{known, unknown}
-use Rattle.env_sets.proofs.algebra.put_meets_at.Goals as goal
+use Rattle.env_sets.proofs.algebra.meet_at_variable.Goals as goal
 
 pub returns-then-have-clause-meaning : goal.returns-then-have-clause-meaning
 returns-then-have-clause-meaning c = λ env.
@@ -20,10 +20,10 @@ returns-then-have-clause-meaning c = λ env.
     (c.requires.parts env))
 
 pub returns-else-have-clause-meaning : goal.returns-else-have-clause-meaning
-returns-else-have-clause-meaning c = IfOk-weaker c.put_meets_by.result _ _ (λ r h env.
+returns-else-have-clause-meaning c = IfOk-weaker c.meet_by_group.result _ _ (λ r h env.
     h env
     ∙ ap (λ b. set_denotes c.args.out.now.items env || b)
     (unknown (entry_denotes c.args.e.now env) (list_any (λ v. same v (env c.args.x.now)) c.args.parts.now.fixed) (set_denotes c.args.b.now env) (set_denotes c.args.parts.now.others env)
     (λ yes. sym (any_same-along c.in-Some.v.now (env c.args.x.now) (fixed_same c.args.x.now c.args.e.now c.in-Some.v.now c.in-Some.ensures env yes) c.args.parts.now.fixed) ∙ sym c.have.ensures.value ∙ c.if-have.false)
     (c.requires.parts env)))
-    c.put_meets_by.ensures.meaning
+    c.meet_by_group.ensures.meaning

@@ -1,6 +1,6 @@
 -- What a form is aligned with: one branch, one child and one member more.
-use Rattle.std.proofs.Common.{◌≡◌, ℕ, suc, zero, ◌+◌, ◌-◌, ◌<◌, ◌≤◌, Bool, true, false, ◌&&◌, ◌||◌, cond, nat_eq, refl, sym, ap, ap₂, ◌∙◌, subst, arith, List, [], ◌∷◌, ◌++◌, map, length, take, drop, get_or, append_assoc, length-drop, Option, Some, None, inl, inr, ◌⊎◌}
-use Rattle.std.proofs.lemmas.List.{map-append}
+use Rattle.std.proofs.Common.{◌≡◌, ℕ, suc, zero, ◌+◌, ◌-◌, ◌<◌, ◌≤◌, Bool, true, false, ◌&&◌, ◌||◌, cond, nat_eq, refl, sym, ap, ap₂, ◌∙◌, subst, arith, List, [], ◌∷◌, ◌++◌, map, length, take, drop, set, get_or, append_assoc, length-drop, ◌≢◌, Option, Some, None, inl, inr, ◌⊎◌}
+use Rattle.std.proofs.lemmas.List.{map-append, get_or-set_same, get_or-set_other}
 use Rattle.std.proofs.lemmas.Bool.Decides.{nat_tests}
 use Rattle.c_terms.specs.declared.token.Token.{Token}
 use Rattle.c_terms.specs.declared.label.Label.{Label}
@@ -11,11 +11,13 @@ use Rattle.smpl_terms.specs.Environments.{Environment}
 use Rattle.smpl_patch.specs.declared.pattern.VarDecl.{VarDecl}
 use Rattle.smpl_patch.specs.declared.pattern.PatToken.{PatToken}
 use Rattle.pat_match.specs.declared.pairs.AlignedToken.{AlignedToken}
-use Rattle.pat_match.specs.Runs.{Pair, is_wild, is_bare_comma, takes, single_fits, comma_fits, some_below, least, leftmost, runs_pairs, comma_pairs, wild_pairs, single_pairs, taken_pairs}
+use Rattle.std.specs.Option.{option_to_list}
+use Rattle.pat_match.specs.Tokens.{id_of}
+use Rattle.pat_match.specs.Runs.{Pair, token_list, comma_tokens, is_wild, is_bare_comma, takes, single_fits, comma_fits, some_below, least, leftmost, runs_pairs, comma_pairs, wild_pairs, single_pairs, taken_pairs}
 use Rattle.pat_match.specs.Fitting.{piece, leaf_of, fits_tree, alignment, first_pairs, every_pairs, zip_pairs}
 use Rattle.pat_match.specs.Spots.{own_fit, own_pairs}
 use Rattle.pat_match.specs.Rows.{comma_before, fits_from}
-use Rattle.pat_match.specs.Pairs.{numbers, aligned_token, left_pairs, takes_first, IsNext}
+use Rattle.pat_match.specs.Pairs.{numbers, ids_of, aligned_token, left_pairs, takes_first, IsNext}
 use Rattle.pat_match.proofs.Pieces.{piece-token}
 use Rattle.pat_match.proofs.ValueLemmas.{and_left, and_right}
 use Rattle.pat_match.proofs.RowLemmas.{piece_comma, comma_next, member_next, next_member, next_none, takes_single, single_none, and_false}
@@ -247,3 +249,51 @@ module _ (decls : List VarDecl) (tokens : List PatToken) (env : Environment) whe
   own_pairs_step q xs us i j x u old new w n lt le e g k h =
       ap (λ m. new ++ numbers (own_pairs q m (map (piece decls tokens env) (drop m xs)) (drop m us))) n
       ∙ found_step old new _ _ _ k (ap₂ (λ ys vs. own_pairs q i (map (piece decls tokens env) ys) vs) (drop_at xs i x lt e) (drop_at us i u le g)) ∙ h
+
+-- ids of commas
+
+option_ids : (o : Option Token) → option_to_list (id_of o) ≡ ids_of (token_list o)
+option_ids None = refl
+option_ids (Some a) = refl
+
+pub comma_ids_first : (ms : List Member) (m : Member) → m ≡ get_or ms 0 m → 0 < length ms → option_to_list (id_of m.comma) ≡ ids_of (comma_tokens ms)
+comma_ids_first [] m e lt = absurd (omega arith)
+comma_ids_first (n ∷ ms) m e lt = rw e (option_ids n.comma)
+
+pub comma_ids_none : (ms : List Member) → length ms ≡ 0 → ids_of (comma_tokens ms) ≡ []
+comma_ids_none [] e = refl
+comma_ids_none (m ∷ ms) e = absurd (omega arith)
+
+-- flags
+
+or_true : (b : Bool) → true ≡ (b || true)
+or_true true = refl
+or_true false = refl
+
+or_false : (b : Bool) → b ≡ (b || false)
+or_false true = refl
+or_false false = refl
+
+pub flag_set : (xs : List Bool) (i n : ℕ) (b : Bool) → n < length xs → b ≡ true → get_or (set xs i true) n false ≡ (get_or xs n false || (nat_eq i n && b))
+flag_set xs i n b lt yes = by (nat_eq i n) refl
+  where
+    by : (t : Bool) → nat_eq i n ≡ t → get_or (set xs i true) n false ≡ (get_or xs n false || (t && b))
+    by true e =
+        let same : n ≡ i = grind (arith, nat_tests) in
+        ap (λ k. get_or (set xs i true) k false) same ∙ get_or-set_same xs i true false (omega (arith, lt, same))
+        ∙ or_true (get_or xs n false) ∙ ap (λ c. get_or xs n false || c) (sym yes)
+    by false e =
+        let other : n ≢ i = λ h. grind (arith, nat_tests) in
+        get_or-set_other xs i n true false other ∙ or_false (get_or xs n false)
+
+pub flag_past : (a : Bool) (i n m : ℕ) (b : Bool) → n < m → m ≤ i → a ≡ (a || (nat_eq i n && b))
+flag_past a i n m b lt le =
+    let no : nat_eq i n ≡ false = grind (arith, nat_tests) in
+    or_false a ∙ ap (λ t. a || (t && b)) (sym no)
+
+pub flag_off : (a : Bool) (i n : ℕ) (b : Bool) → b ≡ false → a ≡ (a || (nat_eq i n && b))
+flag_off a i n b no = by (nat_eq i n) refl
+  where
+    by : (t : Bool) → nat_eq i n ≡ t → a ≡ (a || (t && b))
+    by true e = or_false a ∙ ap (λ c. a || c) (sym no)
+    by false e = or_false a

@@ -1,7 +1,8 @@
 // How many members dots or a list variable take in the leftmost alignment: as few as they can.
-ghost use Rattle.std.specs.Prelude.{◌≡◌, ℕ, suc, ◌<◌, ◌≤◌, ◌&&◌, true, false, IfOk, drop, length, slice_index_or};
+ghost use Rattle.std.specs.Prelude.{◌≡◌, ℕ, suc, ◌<◌, ◌≤◌, ◌&&◌, ◌||◌, nat_eq, true, false, IfOk, drop, length, slice_index_or};
 ghost use Rattle.c_terms.specs.declared.tree.Tree.{out-Tree};
 ghost use Rattle.smpl_terms.specs.Environments.{total};
+ghost use Rattle.env_sets.specs.Sets.{set_denotes};
 ghost use Rattle.pat_match.specs.Runs.{is_wild, takes, least};
 ghost use Rattle.pat_match.specs.Fitting.{leaf_of, piece};
 ghost use Rattle.pat_match.specs.Rows.{comma_before, row_at, fits_from};
@@ -17,6 +18,20 @@ use smpl_patch::{PatToken, VarDecl};
 use smpl_terms::Env;
 use std::alloc::Global;
 
+/// Sets the flag of the entry's number, where it has one and the entry has the environment.
+fn set_flag(flags: &mut [bool], entry: &RowEntry, env: &Env)
+    ensures length { length flags.new ≡ length flags.old }
+    ensures flags { (n : ℕ) → n < length flags.old → slice_index_or flags.new n false
+        ≡ (slice_index_or flags.old n false || (nat_eq entry.now.taken n && set_denotes entry.now.set (total env.now))) }
+{
+    if entry.taken >= flags.len() {
+        return;
+    }
+    if denotes(&entry.set, env) {
+        flags[entry.taken] = true;
+    }
+}
+
 /// For each number of members below the count, whether the row has the environment there.
 fn row_flags(
     alloc: Global,
@@ -30,9 +45,7 @@ fn row_flags(
 {
     let mut flags = vec![in alloc; false; count]?;
     for entry in row {
-        if entry.taken < count && denotes(&entry.set, env) {
-            flags[entry.taken] = true;
-        }
+        set_flag(&mut flags, entry, env);
     }
     Ok(flags)
 }

@@ -1,10 +1,10 @@
 // The pairs of an alignment: a token of a form, and the file's tokens that it is aligned with.
 ghost use Rattle.std.specs.Prelude.{◌≡◌, ◌++◌, ◌≤◌, ◌∷◌, [], Some, IfOk, OnOk, length};
-ghost use Rattle.c_terms.specs.declared.token.Token.{Token};
+ghost use Rattle.std.specs.Option.{option_to_list};
 ghost use Rattle.c_terms.specs.declared.tree.Tree.{out-Tree};
 ghost use Rattle.c_terms.specs.Trees.{leaves};
 ghost use Rattle.pat_match.specs.Fitting.{leaf_of};
-ghost use Rattle.pat_match.specs.Runs.{comma_pairs, wild_pairs};
+ghost use Rattle.pat_match.specs.Runs.{comma_tokens, comma_pairs, wild_pairs};
 ghost use Rattle.pat_match.specs.Rows.{comma_before};
 ghost use Rattle.pat_match.specs.Pairs.{numbers, ids_of};
 
@@ -50,18 +50,27 @@ pub fn put_leaf(
     Ok(())
 }
 
-/// The id of the comma before the run, if there is one.
-fn comma_ids(alloc: Global, run: &[ListMember]) -> Result<Items<u64>, NoMemory>
-    ensures { IfOk result (λ ids. (token : Token) →
-        record { pattern = token.id; files = ids } ∷ [] ≡ numbers (comma_pairs (Some token) run.now)) }
+fn id_list(alloc: Global, id: Option<u64>) -> Result<Items<u64>, NoMemory>
+    ensures { IfOk result (λ ids. ids ≡ option_to_list id) }
 {
     let mut ids = Items::new(alloc);
-    if let [first, ..] = run {
-        if let Some(id) = first.comma_id() {
+    match id {
+        Some(id) => {
             ids.push(id)?;
+            Ok(ids)
         }
+        None => Ok(ids),
     }
-    Ok(ids)
+}
+
+/// The id of the comma before the run, if there is one.
+fn comma_ids(alloc: Global, run: &[ListMember]) -> Result<Items<u64>, NoMemory>
+    ensures { IfOk result (λ ids. ids ≡ ids_of (comma_tokens run.now)) }
+{
+    match run {
+        [] => Ok(Items::new(alloc)),
+        [first, ..] => id_list(alloc, first.comma_id()),
+    }
 }
 
 fn put_comma(

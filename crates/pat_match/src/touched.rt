@@ -138,7 +138,7 @@ fn put_brace(
     brace: Option<&Tree>,
 ) -> Result<(), NoMemory>
     requires fits { at.option_fits (fits_tree decls.now tokens.now (total env.now) form.now)
-        (option_copied brace.entry) ≡ true }
+        (option_copied brace) ≡ true }
     ensures { OnOk result (found.new.items ≡ found.old.items
         ++ of.numbers (at.option_pairs (alignment decls.now tokens.now (total env.now) form.now)
         (option_copied brace.entry))) }

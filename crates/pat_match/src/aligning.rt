@@ -23,7 +23,7 @@ pub struct Alignment {
 }
 
 /// Whether the i-th form has the first form's sure variables and fits the subtree.
-pub fn fits_seat(
+fn fits_seat(
     alloc: Global,
     p: &Pattern,
     decls: &[VarDecl],
@@ -60,9 +60,7 @@ fn form_at(
 {
     let forms = p.forms.as_slice();
     for i in 0..forms.len() {
-        if fits_seat(
-            alloc, p, decls, tokens, kind, i, &forms[i], tree, env,
-        )? {
+        if fits_seat(alloc, p, decls, tokens, kind, i, &forms[i], tree, env)? {
             return Ok(Some(i as u32));
         }
     }

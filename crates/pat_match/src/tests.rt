@@ -1,6 +1,6 @@
 //! Whole calls at small nodes.
 
-use crate::{AlignedToken, Alignment, align, aligned_tokens, solve};
+use crate::{Alignment, align, solve};
 use c_terms::{Label, MetaKind, NoMemory, Text, Token, TokenKind, Tree, TreePath};
 use cfg_graph::{NodeKind, NodeLabel, NodeTree};
 use env_sets::denotes;
@@ -277,40 +277,6 @@ fn whole_statements(rt: HostRuntime) -> Result<(), Fail> {
     assert!(rt; whole(alloc, meta(alloc)?, once(&[2, 1]))?);
     assert!(rt; whole(alloc, one(alloc)?, once(&[2, 1]))?);
     assert!(rt; whole(alloc, name(alloc, b"a", 20)?, none())?);
-    Ok(())
-}
-
-/// The file's tokens that one of the form is aligned with; none where it is not among them.
-fn aligned_with(found: &[AlignedToken], pattern: u64) -> &[u64] {
-    for token in found {
-        if token.pattern == pattern {
-            return token.files.as_slice();
-        }
-    }
-    &[]
-}
-
-/// What `f(..., E, ...)` is aligned with in `f(a, b, c)`, where `E` is `b`
-fn aligned_among_three(alloc: Global) -> Result<Vec<AlignedToken>, NoMemory> {
-    let tree = three_arguments(alloc)?;
-    let p = pattern(alloc, Spot::Whole, statement(alloc, between_dots(alloc)?)?)?;
-    let value = Value::term(alloc, name(alloc, b"b", 7)?)?;
-    let env = Env::empty(alloc).with(alloc, &variable(alloc)?, &value)?;
-    let decls = declared(alloc)?;
-    let found = aligned_tokens(alloc, &p, &decls, &[], NodeKind::Simple, &tree, &env)?;
-    Ok(found.unwrap_or(Vec::new(alloc)))
-}
-
-#[test]
-fn tokens_of_an_alignment(rt: HostRuntime) -> Result<(), Fail> {
-    let found = aligned_among_three(rt.alloc())?;
-    let found = found.as_slice();
-    assert_eq!(rt; aligned_with(found, 1), [1].as_slice());
-    assert_eq!(rt; aligned_with(found, 101), [20].as_slice());
-    assert_eq!(rt; aligned_with(found, 102), [21].as_slice());
-    assert_eq!(rt; aligned_with(found, 100), [22].as_slice());
-    assert_eq!(rt; aligned_with(found, 103), [23].as_slice());
-    assert_eq!(rt; aligned_with(found, 104), [24].as_slice());
     Ok(())
 }
 

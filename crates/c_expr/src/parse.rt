@@ -1,5 +1,5 @@
 // The parser, which goes by the rows.
-ghost use Rattle.std.specs.Prelude.{◌≡◌, ◌∷◌, IsTrue, IfOk, IfErr};
+ghost use Rattle.std.specs.Prelude.{◌≡◌, ◌∷◌, [], IsTrue, IfOk, IfErr};
 ghost use Rattle.c_terms.specs.Trees.{levels, levels_of_all};
 ghost use Rattle.c_rows.specs.Kinds.{family_of, has_leaf};
 ghost use Rattle.c_rows.specs.Seen.{front};
@@ -10,7 +10,7 @@ ghost use Rattle.c_expr.specs.Steps.{OnFault, Refuses, before, Sound, Takes, rul
 use crate::ParseFault;
 use c_rows::{
     Class, Fork, Kind, Rule, Seen, Symbol, Word, allows, bottom, choose, family_of, fits, front,
-    front_typed, has_leaf, head, kind_of, label_of, left, member_kind, own, tail, within,
+    front_typed, has_leaf, head, kind_of, label_of, left, member_kind, own, row, tail, within,
 };
 use c_terms::Tree;
 use sqlite_items::Items;
@@ -204,6 +204,15 @@ pub struct Grown<'a, 't> {
     pub rest: &'a [Seen<'t>],
 }
 
+/// No children, with room for those of a short branch of the rule: most branches have as many as their row has parts.
+fn room(alloc: Global, rule: Rule) -> Result<Items<Tree>, ParseFault>
+    ensures none { IfOk result (λ children. children ≡ []) }
+    ensures fault { IfErr result (λ fault. fault ≡ ParseFault.NoMemory) }
+{
+    let children = Vec::with_capacity(alloc, row(rule).len())?;
+    Ok(Items::from_vec(children))
+}
+
 /// The branch of the rule over all that was read, where it is allowed and has at most so many levels.
 fn finish<'a, 't>(
     most: u16,
@@ -279,10 +288,11 @@ fn operand<'a, 't>(
     if most == 0 {
         return Err(ParseFault::NoTree);
     }
+    let children = room(alloc, rule)?;
     let start = Position {
         row: own(rule),
         rest,
-        children: Items::new(alloc),
+        children,
         deepest: 0,
     };
     let read = run(alloc, most - 1, start)?;
@@ -307,7 +317,7 @@ fn grow<'a, 't>(
     if height >= most {
         return Err(ParseFault::NoTree);
     }
-    let mut children = Items::new(alloc);
+    let mut children = room(alloc, rule)?;
     children.push(tree)?;
     let begun = Position {
         row: own(rule),

@@ -1,3 +1,4 @@
+pub mod FitLemmas
 pub mod CoreLemmas
 pub mod ReadLemmas
 pub mod OnceLemmas

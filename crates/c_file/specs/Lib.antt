@@ -1,7 +1,9 @@
--- What public contracts rest on, in reading order: the tokens of an item, the names that it declares as types, what it is
--- read as, and a file.
+-- What public contracts rest on, in reading order: the limit of graphs, the tokens of an item, the names that it declares
+-- as types, what it is read as, what items are like, and a file.
 
+pub mod Limits
 pub mod Tokens
 pub mod Typedefs
 pub mod Reads
+pub mod Fit
 pub mod File

@@ -7,6 +7,7 @@ use Rattle.c_rows.specs.declared.kind.Kind.TheVariants as kind
 use Rattle.c_rows.specs.Look.{Names}
 use Rattle.c_rows.specs.Trees.{IsTreeOf}
 use Rattle.c_rows.specs.Depth.{opens_of}
+use Rattle.c_rows.specs.Limits.{most_open}
 use Rattle.c_lexer.specs.Pieces.{TextPiece}
 use Rattle.cpp_lines.specs.declared.reading.Item.{Item}
 use Rattle.cpp_lines.specs.declared.reading.Item.TheVariants.{Parsed, Skipped}
@@ -16,6 +17,7 @@ use Rattle.cpp_lines.specs.Shown.{AreShown}
 use Rattle.cpp_lines.specs.Visible.{VisibleTokens, signs_of}
 use Rattle.cpp_lines.specs.Items.{items_of}
 use Rattle.cfg_build.specs.Graphs.{node_count}
+use Rattle.c_file.specs.Limits.{most_nodes}
 use Rattle.c_file.specs.Tokens.{tokens_in}
 use Rattle.c_file.specs.Typedefs.{with_declared}
 
@@ -25,10 +27,10 @@ Spells names tokens t = IsTreeOf kind.External names tokens t
 
 -- the tokens of this span are read so under these names
 abbrev pub IsReading : Names → List Token → ItemSpan → Item → Type 0
-IsReading names tokens span (Parsed t) = (opens_of tokens ≤ 200) × Spells names tokens t × (node_count t ≤ 20000)
-IsReading names tokens span (Skipped s TooDeep) = (s ≡ span) × (200 < opens_of tokens)
-IsReading names tokens span (Skipped s NoTree) = (s ≡ span) × (opens_of tokens ≤ 200) × ((t : Tree) → Spells names tokens t → ⊥)
-IsReading names tokens span (Skipped s TooManyNodes) = (s ≡ span) × (opens_of tokens ≤ 200) × (t : Tree) × Spells names tokens t × (20000 < node_count t)
+IsReading names tokens span (Parsed t) = (opens_of tokens ≤ most_open) × Spells names tokens t × (node_count t ≤ most_nodes)
+IsReading names tokens span (Skipped s TooDeep) = (s ≡ span) × (most_open < opens_of tokens)
+IsReading names tokens span (Skipped s NoTree) = (s ≡ span) × (opens_of tokens ≤ most_open) × ((t : Tree) → Spells names tokens t → ⊥)
+IsReading names tokens span (Skipped s TooManyNodes) = (s ≡ span) × (opens_of tokens ≤ most_open) × (t : Tree) × Spells names tokens t × (most_nodes < node_count t)
 
 -- a skipped item declares nothing
 abbrev pub names_after : Names → Item → Names

@@ -1,18 +1,23 @@
 // All items of a file.
-ghost use Rattle.std.specs.Prelude.{◌≡◌, ◌≤◌, IfOk, length};
+ghost use Rattle.std.specs.Prelude.{◌≡◌, ◌≤◌, IfOk, All, length, slice_get};
 ghost use Rattle.c_terms.specs.Names.{listed_names};
 ghost use Rattle.cpp_lines.specs.Items.{StandEndToEnd};
+ghost use Rattle.cpp_lines.specs.Shown.{AreShown};
+ghost use Rattle.c_file.specs.Fit.{IsFit, item_graph};
 ghost use Rattle.c_file.specs.Reads.{Reads, ReadsFrom};
 
 use crate::item::{add_names, read_item};
 use crate::token::tokens_in;
 use c_lexer::Lexed;
 use c_terms::{Names, NoMemory};
+use cfg_build::build;
+use cfg_graph::Graph;
 use cpp_lines::{Item, ItemSpan, Visible, arms, items, items_stand_end_to_end};
+use sqlite_items::at;
 use std::alloc::Global;
 use std::marker::Model;
 
-/// A text with its items. Contracts see the pieces and the items.
+/// A text with its items. Contracts see the pieces, the numbers of those that are shown, and the items.
 #[derive(Drop)]
 pub struct CFile {
     visible: Visible,
@@ -20,7 +25,9 @@ pub struct CFile {
 }
 
 impl Model for CFile {
+    ghost use Rattle.std.specs.Prelude.{All};
     ghost use Rattle.c_file.specs.File.{FileItems};
+    ghost use Rattle.c_file.specs.Fit.{IsFit};
     ghost use Rattle.std.specs.Coded.{codes};
     ghost use Rattle.c_terms.specs.contracts.tree.Tree as tree;
 
@@ -28,7 +35,9 @@ impl Model for CFile {
 
     ghost coded = { Prim.hlevel (codes, tree.the_row.coded) };
 
-    ghost view = { λ f. record { pieces = f.visible.pieces; items = f.items.items } };
+    ghost invariant = { λ f. All IsFit f.items.items };
+
+    ghost view = { λ f. record { pieces = f.visible.pieces; shown = f.visible.shown; items = f.items.items } };
 }
 
 impl CFile {
@@ -39,25 +48,59 @@ impl CFile {
         self.visible.lexed()
     }
 
-    /// The items, in the order of the text. Takes no memory.
+    /// The numbers of the pieces that are shown: the span of a skipped item is one of places in this list. Takes no
+    /// memory.
+    pub fn shown(&self) -> &[u32]
+        ensures shown { result.now ≡ self.now.shown }
+    {
+        self.visible.shown()
+    }
+
+    /// The items, in the order of the text. Graphs can be made of those that have a tree. Takes no memory.
     pub fn items(&self) -> &[Item]
         ensures items { result.now ≡ self.now.items }
+        ensures fit { All IsFit result.now }
     {
         self.items.as_slice()
     }
+
+    /// The graph of item `i`, if that is there and has a tree. The one error is want of memory. Its cost is that of
+    /// [`cfg_build::build`].
+    pub fn graph(&self, alloc: Global, i: usize) -> Result<Option<Graph<'_>>, NoMemory>
+        ensures graph { IfOk result (λ graph. graph ≡ item_graph (slice_get self.now.items i)) }
+    {
+        match at(self.items(), i) {
+            Some(Item::Parsed(tree)) => {
+                let graph = build(alloc, tree)?;
+                Ok(Some(graph))
+            }
+            Some(Item::Skipped(_, _)) => Ok(None),
+            None => Ok(None),
+        }
+    }
 }
 
-/// The items of a text, each read with the names that are known there. Linear but for the parser's reading ahead, and takes
+/// The items of a text, each read with the names that are known there; the one error is want of memory. Linear but for the
+/// parser's reading ahead and for names that are picked to collide, since they are found by a hash with a fixed seed. Takes
 /// memory for the trees, and for the tokens of one item at a time. Recurses as the parser does.
 pub fn read_file(alloc: Global, lexed: Lexed) -> Result<CFile, NoMemory>
     ensures pieces { IfOk result (λ file. file.pieces ≡ lexed) }
+    ensures shown { IfOk result (λ file. AreShown lexed file.shown) }
     ensures items { IfOk result (λ file. Reads lexed file.items) }
 {
     let visible = arms(alloc, lexed)?;
     let spans = items(alloc, &visible)?;
     items_stand_end_to_end();
+    few_are_shown(&visible);
     let items = read_items(alloc, &visible, spans.as_slice())?;
     Ok(CFile { visible, items })
+}
+
+/// A text shows at most 16,777,216 tokens. Does nothing.
+fn few_are_shown(visible: &Visible)
+    ensures { length visible.now.shown ≤ 16777216 }
+{
+    let _shown = visible.shown();
 }
 
 fn read_items(alloc: Global, visible: &Visible, spans: &[ItemSpan]) -> Result<Vec<Item>, NoMemory>

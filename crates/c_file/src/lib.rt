@@ -2,13 +2,13 @@
 //!
 //! - [`read_file`] reads the pieces of a text. It knows types by their names: those that are listed, and those that the
 //!   typedefs before an item declare.
-//! - [`CFile`] has the text and its items.
+//! - [`CFile`] has the text, its items and their graphs.
 //! - [`read_once`] is a law, and does nothing: a text is read in one way.
 //!
 //! Of `typedef int t; void k(void) { x = (t)(y); }` both items are read, and the second has a cast.
 //!
-//! An item that is too deep, that no tree spells, or whose graph would have more than 20,000 nodes is skipped with its
-//! reason, and the items after it are read. Nothing is refused but for want of memory.
+//! An item that is too deep, that no tree of at most 1,000 levels spells, or whose graph would have more than 20,000 nodes
+//! is skipped with its reason, and the items after it are read. Nothing is refused but for want of memory.
 //!
 //! Cutting is for c_lexer, shown tokens and spans for cpp_lines, trees for c_stmt, and graphs for cfg_build.
 #![tactic(auto)]

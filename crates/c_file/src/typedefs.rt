@@ -4,7 +4,7 @@ ghost use Rattle.std.specs.List.{list_any};
 ghost use Rattle.std.specs.Option.{option_copied};
 ghost use Rattle.c_file.specs.Typedefs as of;
 
-use c_terms::{Label, Names, NoMemory, Text, Token, TokenKind, Tree, same_text};
+use c_terms::{Label, Names, NoMemory, Text, Token, TokenKind, Tree};
 use sqlite_items::at;
 use std::alloc::Global;
 

@@ -11,8 +11,9 @@ use c_terms::{NoMemory, Tree, TreePath};
 use cfg_graph::{Graph, Links, NodeKind, NodeLabel, NodeTree};
 use std::alloc::Global;
 
-/// The graph of an item. Its labels lend their trees from the item. Linear in the item and in the
-/// paths of its statements. Recurses once a level of statements.
+/// The graph of an item: of a tree with fewer than 2^32 nodes, none of whose branches has 2^32 children, as the items of
+/// a file are. The one error is want of memory. The labels lend their trees from the item. Linear in the item and in the
+/// paths of its statements, but for names of labels that are picked to collide. Recurses once a level of statements.
 pub fn build<'a>(alloc: Global, item: &'a Tree) -> Result<Graph<'a>, NoMemory>
     requires few { node_count item.now < 2 ^ 32 }
     requires narrow { width item.now < 2 ^ 32 }

@@ -64,7 +64,8 @@ impl<'a> Graph<'a> {
         self.succ[n as usize].as_slice()
     }
 
-    /// The node past the statement of this one, if there is one. Takes no memory.
+    /// The node past the statement of this one: where control comes that runs through it. An exit has none. Takes no
+    /// memory.
     pub fn past(&self, n: u32) -> Option<u32>
         requires in_range { n < count_of self.now }
         ensures value { result ≡ past_of self.now n }
@@ -72,8 +73,8 @@ impl<'a> Graph<'a> {
         self.past[n as usize]
     }
 
-    /// The first node of branch `branch` of this node's statement, if it has that branch. Takes no
-    /// memory.
+    /// The first node of branch `branch` of this node's statement, if it has that branch: 0 is the body, or the first
+    /// statement of a block; 1 is what follows `else`, or the tail of `do`. Takes no memory.
     pub fn down(&self, n: u32, branch: u32) -> Option<u32>
         requires in_range { n < count_of self.now }
         ensures value { result ≡ slice_get (down_of self.now n) branch }

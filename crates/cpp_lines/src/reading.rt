@@ -5,7 +5,7 @@ use c_terms::Tree;
 /// Why an item is skipped.
 #[derive(Clone, Copy, Debug, PartialEq, Eq)]
 pub enum Why {
-    /// It is not too deep, and no tree spells it.
+    /// It is not too deep, and no tree of at most 1,000 levels spells it.
     NoTree,
     /// More than 200 brackets are open at once.
     TooDeep,

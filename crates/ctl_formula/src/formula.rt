@@ -4,7 +4,7 @@ ghost use Rattle.smpl_patch.specs.Patterns.{sure};
 ghost use Rattle.ctl_formula.specs.Plain.{size, fits};
 ghost use Rattle.ctl_formula.specs.Bounds.{guarded};
 ghost use Rattle.ctl_formula.specs.Tables.{at, plain_of, plains, below};
-ghost use Rattle.ctl_formula.specs.Formulas.{plain};
+ghost use Rattle.ctl_formula.specs.Formulas.{plain, IsFormula};
 
 use crate::{Node, Parts};
 use c_terms::NoMemory;
@@ -64,6 +64,7 @@ impl Formula {
     pub fn root(&self) -> usize
         ensures root { result ≡ self.now.root }
         ensures within { result < length self.now.nodes }
+        ensures sound { IsFormula self.now }
     {
         self.root
     }

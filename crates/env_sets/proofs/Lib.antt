@@ -12,3 +12,5 @@ pub mod Examples
 pub mod PartLemmas
 pub mod GroupLemmas
 pub mod SameLemmas
+pub mod RunLemmas
+pub mod Crossing

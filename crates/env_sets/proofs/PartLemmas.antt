@@ -15,7 +15,7 @@ use Rattle.env_sets.specs.declared.bounds.Bound.{Bound}
 use Rattle.env_sets.specs.Bounds.{fits}
 use Rattle.env_sets.specs.Rising.{Rise}
 use Rattle.env_sets.specs.Sets.{entry_denotes, entry_vars, set_denotes, set_vars}
-use Rattle.env_sets.specs.Splits.{passes, without, restricted, are_allowed, occurs, size_of, ArePartsOf}
+use Rattle.env_sets.specs.Splits.{passes, without, restricted, are_allowed, occurs, size_of, AreRestrictions}
 use Rattle.env_sets.proofs.LoopLemmas.{and-true}
 use Rattle.env_sets.proofs.BoundLemmas.{fits-along, any_same-along}
 use Rattle.env_sets.proofs.RisingLemmas.{rise_apart, less_apart}
@@ -50,7 +50,7 @@ adds_one x v e part next es h k = k ∙ ap (λ p. p ++ added x v e) h ∙ sym (r
 -- no part allows the entry
 pub parts_kept : (x : Var) (values : List Value) (parts : List (List (List (Var × Bound)))) (e : List (Var × Bound)) (v : Value)
     → ((u : Value) → same v u ≡ false → passes x (fits u) e ≡ false) → list_any (λ w. same w v) values ≡ false
-    → (es : List (List (Var × Bound))) → ArePartsOf x values es parts → ArePartsOf x values (es ++ e ∷ []) parts
+    → (es : List (List (Var × Bound))) → AreRestrictions x values es parts → AreRestrictions x values (es ++ e ∷ []) parts
 parts_kept x values parts e v only none es h = (
   h.0,
   λ k u lt at.
@@ -79,7 +79,7 @@ two_places ws j k x y r ne lj lk e f =
 pub parts_put : (x : Var) (values : List Value) (parts next : List (List (List (Var × Bound)))) (e : List (Var × Bound)) (v w : Value) (k : ℕ)
     → Rise values → ((u : Value) → same v u ≡ false → passes x (fits u) e ≡ false) → k < length values → w ≡ get_or values k w → same w v ≡ true
     → next ≡ set parts k (get_or parts k [] ++ added x w e)
-    → (es : List (List (Var × Bound))) → ArePartsOf x values es parts → ArePartsOf x values (es ++ e ∷ []) next
+    → (es : List (List (Var × Bound))) → AreRestrictions x values es parts → AreRestrictions x values (es ++ e ∷ []) next
 parts_put x values parts next e v w k r only within here fits_there is es h = (
   ap length is ∙ length-set parts k (get_or parts k [] ++ added x w e) ∙ h.0,
   λ j u lt at. ⊎_elim
@@ -101,10 +101,10 @@ abbrev pub Halfway : Var → List Value → List (List (Var × Bound)) → List 
 Halfway x values es e n parts = (length parts ≡ length values) × ((j : ℕ) (u : Value) → j < length values → u ≡ get_or values j u
     → (j < n → get_or parts j [] ≡ restricted x (fits u) (es ++ e ∷ [])) × (n ≤ j → get_or parts j [] ≡ restricted x (fits u) es))
 
-pub halfway_start : (x : Var) (values : List Value) (es : List (List (Var × Bound))) (e : List (Var × Bound)) (parts : List (List (List (Var × Bound)))) → ArePartsOf x values es parts → Halfway x values es e 0 parts
+pub halfway_start : (x : Var) (values : List Value) (es : List (List (Var × Bound))) (e : List (Var × Bound)) (parts : List (List (List (Var × Bound)))) → AreRestrictions x values es parts → Halfway x values es e 0 parts
 halfway_start x values es e parts h = (h.0, λ j u lt at. (λ no. absurd (omega arith), λ _. h.1 j u lt at))
 
-pub halfway_end : (x : Var) (values : List Value) (es : List (List (Var × Bound))) (e : List (Var × Bound)) (n : ℕ) (parts : List (List (List (Var × Bound)))) → length values ≤ n → Halfway x values es e n parts → ArePartsOf x values (es ++ e ∷ []) parts
+pub halfway_end : (x : Var) (values : List Value) (es : List (List (Var × Bound))) (e : List (Var × Bound)) (n : ℕ) (parts : List (List (List (Var × Bound)))) → length values ≤ n → Halfway x values es e n parts → AreRestrictions x values (es ++ e ∷ []) parts
 halfway_end x values es e n parts all h = (h.0, λ j u lt at. (h.1 j u lt at).0 (omega arith))
 
 pub halfway_step : (x : Var) (values : List Value) (es : List (List (Var × Bound))) (e : List (Var × Bound)) (n : ℕ) (w : Value) (parts next : List (List (List (Var × Bound))))
@@ -174,7 +174,7 @@ lone_end true A h = refl
 lone_end false A h = ap not (sym (h refl))
 
 -- no parts yet
-pub parts_start : (x : Var) (values : List Value) (parts : List (List (List (Var × Bound)))) (n : ℕ) → n ≡ length values → length parts ≡ n → ((k : ℕ) → get_or parts k [] ≡ []) → ArePartsOf x values [] parts
+pub parts_start : (x : Var) (values : List Value) (parts : List (List (List (Var × Bound)))) (n : ℕ) → n ≡ length values → length parts ≡ n → ((k : ℕ) → get_or parts k [] ≡ []) → AreRestrictions x values [] parts
 parts_start x values parts n e count empty = (count ∙ e, λ k v lt at. empty k)
 
 pub empty_more : (parts : List (List (List (Var × Bound)))) (y : List (List (Var × Bound))) (k : ℕ) → y ≡ [] → ((j : ℕ) → get_or parts j [] ≡ []) → get_or (parts ++ y ∷ []) k [] ≡ []
@@ -185,10 +185,10 @@ empty_more (p ∷ ps) y (suc k) e h = empty_more ps y k e (λ j. h (suc j))
 
 -- one more entry read
 pub parts_more : (x : Var) (values : List Value) (a : List (List (Var × Bound))) (i : ℕ) (e : List (Var × Bound)) (new whole : List (List (List (Var × Bound))))
-    → i < length a → e ≡ get_or a i e → whole ≡ new → ArePartsOf x values (take i a ++ e ∷ []) new → ArePartsOf x values (take (i + 1) a) whole
+    → i < length a → e ≡ get_or a i e → whole ≡ new → AreRestrictions x values (take i a ++ e ∷ []) new → AreRestrictions x values (take (i + 1) a) whole
 parts_more x values a i e new whole lt at is h =
     let read : take i a ++ e ∷ [] ≡ take (i + 1) a = ap (λ d. take i a ++ d ∷ []) at ∙ sym (take_more a i e lt) in
-    subst (λ es. ArePartsOf x values es whole) read (subst (λ ps. ArePartsOf x values (take i a ++ e ∷ []) ps) (sym is) h)
+    subst (λ es. AreRestrictions x values es whole) read (subst (λ ps. AreRestrictions x values (take i a ++ e ∷ []) ps) (sym is) h)
 
 take_front : {X : Type 0} (xs ys : List X) (n : ℕ) → n ≡ length xs → take n (xs ++ ys) ≡ xs
 take_front [] ys n e = ap (λ k. take k ys) e
@@ -205,7 +205,7 @@ some_value (w ∷ ws) zero lt = (w, refl)
 some_value (w ∷ ws) (suc i) lt = some_value ws i (omega arith)
 
 pub part_smaller : (x : Var) (values : List Value) (a : List (List (Var × Bound))) (parts : List (List (List (Var × Bound)))) (i : ℕ) (part : List (List (Var × Bound)))
-    → ArePartsOf x values a parts → i < length values → part ≡ get_or parts i [] → occurs x a ≡ true → size_of part < size_of a
+    → AreRestrictions x values a parts → i < length values → part ≡ get_or parts i [] → occurs x a ≡ true → size_of part < size_of a
 part_smaller x values a parts i part h lt at l =
     let v = some_value values i lt in
     let e : size_of part ≡ size_of (restricted x (fits v.0) a) = ap size_of (at ∙ h.1 i v.0 lt v.1) in
@@ -213,5 +213,5 @@ part_smaller x values a parts i part h lt at l =
 
 -- what all parts leave out
 pub part_is : (x : Var) (values : List Value) (a : List (List (Var × Bound))) (parts : List (List (List (Var × Bound)))) (i : ℕ) (part : List (List (Var × Bound))) (v : Value)
-    → ArePartsOf x values a parts → i < length values → part ≡ get_or parts i [] → v ≡ get_or values i v → part ≡ restricted x (fits v) a
+    → AreRestrictions x values a parts → i < length values → part ≡ get_or parts i [] → v ≡ get_or values i v → part ≡ restricted x (fits v) a
 part_is x values a parts i part v h lt at e = at ∙ h.1 i v lt e

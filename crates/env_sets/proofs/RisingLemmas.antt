@@ -19,7 +19,7 @@ less_apart v w h = sym (is_eq-value_order v w) ∙ ap is_eq h
 more_apart : (v w : Value) → value_order v w ≡ Greater → same v w ≡ false
 more_apart v w h = sym (is_eq-value_order v w) ∙ ap is_eq h
 
-turned : (v w : Value) (o : Ordering) → value_order v w ≡ o → value_order w v ≡ ordering_reverse o
+pub turned : (v w : Value) (o : Ordering) → value_order v w ≡ o → value_order w v ≡ ordering_reverse o
 turned v w o h = value_order_total.antisymm w v ∙ ap ordering_reverse h
 
 -- of values in order, one that is before v has only such before it
@@ -127,7 +127,7 @@ neither Greater h k = absurd cc
 pub before_sorted : (x v : Value) → same x v ≡ false → is_lt (value_order v x) ≡ false → value_order x v ≡ Less
 before_sorted x v h k = neither (value_order x v) (is_eq-value_order x v ∙ h) (ap is_lt (sym (value_order_total.antisymm v x)) ∙ k)
 
-both_hold : {a b : Bool} → a ≡ true → b ≡ true → (a && b) ≡ true
+pub both_hold : {a b : Bool} → a ≡ true → b ≡ true → (a && b) ≡ true
 both_hold {a} {b} h k = ap (λ c. c && b) h ∙ k
 
 -- no value before place n is after the one there

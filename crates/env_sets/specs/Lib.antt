@@ -1,6 +1,7 @@
 -- What public contracts rest on, in reading order: bounds, values in order, entries and sets, sets by node, laws.
 pub mod Bounds
 pub mod Rising
+pub mod Runs
 pub mod Sets
 pub mod States
 pub mod Laws

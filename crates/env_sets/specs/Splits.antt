@@ -49,8 +49,8 @@ abbrev pub none_named : Var → Value → List (List (Var × Bound)) → Bool
 none_named x z entries = list_all (is_unnamed x z) entries
 
 -- for each of the values, the entries that allow it at x, without x
-abbrev pub ArePartsOf : Var → List Value → List (List (Var × Bound)) → List (List (List (Var × Bound))) → Type 0
-ArePartsOf x values es parts = (length parts ≡ length values) × ((k : ℕ) (v : Value) → k < length values → v ≡ slice_index_or values k v → slice_index_or parts k [] ≡ restricted x (fits v) es)
+abbrev pub AreRestrictions : Var → List Value → List (List (Var × Bound)) → List (List (List (Var × Bound))) → Type 0
+AreRestrictions x values es parts = (length parts ≡ length values) × ((k : ℕ) (v : Value) → k < length values → v ≡ slice_index_or values k v → slice_index_or parts k [] ≡ restricted x (fits v) es)
 
 -- the value is fixed by some entries, or others allow it at x
 abbrev pub are_allowed : Var → Value → List Value → List (List (Var × Bound)) → Bool

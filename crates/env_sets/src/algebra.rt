@@ -16,7 +16,7 @@ use crate::entries::{Entry, entry_holds, meet_entries};
 use crate::groups::{Groups, groups_by};
 use crate::parts::fixed_value;
 use crate::sets::{EnvSet, first_cover, put_some, settled};
-use crate::values::{Values, distinct, place_in_order};
+use crate::values::{ValueList, distinct, place_in_order};
 use c_terms::NoMemory;
 use smpl_terms::{Env, Value, Var, same_var};
 use std::alloc::Global;
@@ -46,7 +46,7 @@ fn put_copies(alloc: Global, out: &mut Vec<Entry>, a: &EnvSet) -> Result<(), NoM
 
 /// Both: what a and b stand for.
 ///
-/// It copies each entry of b at most twice. An entry of a that fixes the variable which the first entry of b bounds
+/// Entries of b are shared, at most twice each. An entry of a that fixes the variable which the first entry of b bounds
 /// first meets those entries of b that fix it to the same value, found by look-up, and those that do not fix it; if
 /// one of the former plainly covers it, it meets no more. Any other entry of a meets each of b. So for n entries
 /// that fix the same variables, of which those of b fix this one to n values, it takes n log n steps.
@@ -82,7 +82,7 @@ fn meet_pairs(alloc: Global, a: &EnvSet, b: &EnvSet) -> Result<EnvSet, NoMemory>
 {
     let mut entries = Vec::new(alloc);
     for e in a.entries() {
-        put_meets(alloc, &mut entries, e, b.entries())?;
+        meet_each(alloc, &mut entries, e, b.entries())?;
     }
     settled(alloc, entries)
 }
@@ -93,24 +93,24 @@ fn meet_by(alloc: Global, a: &EnvSet, b: &EnvSet, x: &Var) -> Result<EnvSet, NoM
     ensures vars { IfOk result (λ r. (t : Var → Bool) → set_vars t a.now ≡ true →
         set_vars t b.now ≡ true → set_vars t r ≡ true) }
 {
-    let parts = parts_at(alloc, b.entries(), x)?;
+    let parts = split_lone(alloc, b.entries(), x)?;
     let groups = groups_by(alloc, parts.others.entries(), x)?;
     let mut entries = Vec::new(alloc);
     for e in a.entries() {
-        put_meets_at(alloc, &mut entries, e, b, x, &parts, &groups)?;
+        meet_at_variable(alloc, &mut entries, e, b, x, &parts, &groups)?;
     }
     settled(alloc, entries)
 }
 
 /// A set at a variable: the values of the entries that fix it alone, and all other entries.
 #[derive(Drop)]
-pub struct Parts {
-    pub fixed: Values,
+pub struct LoneSplit {
+    pub fixed: ValueList,
     pub others: EnvSet,
 }
 
 /// The parts of a set at x. Copies each entry once, and sorts the values.
-pub fn parts_at(alloc: Global, b: &[Entry], x: &Var) -> Result<Parts, NoMemory>
+pub fn split_lone(alloc: Global, b: &[Entry], x: &Var) -> Result<LoneSplit, NoMemory>
     ensures meaning { IfOk result (λ parts. (env : Environment)
         → set_denotes b.now env ≡ (list_any (λ v. same v (env x.now)) parts.fixed || set_denotes parts.others env)) }
     ensures vars { IfOk result (λ parts. (t : Var → Bool) → set_vars t b.now ≡ true →
@@ -119,16 +119,16 @@ pub fn parts_at(alloc: Global, b: &[Entry], x: &Var) -> Result<Parts, NoMemory>
     let mut fixed = Vec::new(alloc);
     let mut others = Vec::new(alloc);
     for e in b {
-        put_part(alloc, &mut fixed, &mut others, e, x)?;
+        put_lone_or_other(alloc, &mut fixed, &mut others, e, x)?;
     }
-    Ok(Parts {
+    Ok(LoneSplit {
         fixed: distinct(alloc, fixed)?,
         others: EnvSet::of(others),
     })
 }
 
 /// Adds the entry to the values or to the entries.
-fn put_part(
+fn put_lone_or_other(
     alloc: Global,
     fixed: &mut Vec<Value>,
     others: &mut Vec<Entry>,
@@ -168,13 +168,13 @@ fn only_value<'e>(e: &'e Entry, x: &Var) -> Option<&'e Value>
 }
 
 /// Adds what the entry and some entry of b stand for; if b has the value at which the entry fixes x, the entry itself.
-fn put_meets_at(
+fn meet_at_variable(
     alloc: Global,
     out: &mut Vec<Entry>,
     e: &Entry,
     b: &EnvSet,
     x: &Var,
-    parts: &Parts,
+    parts: &LoneSplit,
     groups: &Groups,
 ) -> Result<(), NoMemory>
     requires parts { (env : Environment) → set_denotes b.now env ≡ (list_any
@@ -192,19 +192,19 @@ fn put_meets_at(
         (λ _. (t : Var → Bool) → set_vars t out.old.items ≡ true → entry_vars t e.now ≡ true → set_vars t b.now ≡ true → set_vars t out.new.items ≡ true) }
 {
     match fixed_value(e, x) {
-        None => put_meets(alloc, out, e, b.entries()),
+        None => meet_each(alloc, out, e, b.entries()),
         Some(v) => {
             if parts.fixed.have(v) {
                 out.push(e.copy(alloc)?)?;
                 return Ok(());
             }
-            put_meets_by(alloc, out, e, &parts.others, x, groups)
+            meet_by_group(alloc, out, e, &parts.others, x, groups)
         }
     }
 }
 
 /// Adds what the entry and some entry of b stand for.
-fn put_meets_by(
+fn meet_by_group(
     alloc: Global,
     out: &mut Vec<Entry>,
     e: &Entry,
@@ -223,10 +223,10 @@ fn put_meets_by(
         (λ _. (t : Var → Bool) → set_vars t out.old.items ≡ true → entry_vars t e.now ≡ true → set_vars t b.now ≡ true → set_vars t out.new.items ≡ true) }
 {
     match fixed_value(e, x) {
-        None => put_meets(alloc, out, e, b.entries()),
+        None => meet_each(alloc, out, e, b.entries()),
         Some(v) => match place_in_order(groups.values.as_slice(), v) {
-            None => put_meets(alloc, out, e, groups.others.entries()),
-            Some(k) => put_meets_of(
+            None => meet_each(alloc, out, e, groups.others.entries()),
+            Some(k) => meet_group_and_others(
                 alloc,
                 out,
                 e,
@@ -238,7 +238,7 @@ fn put_meets_by(
 }
 
 /// Adds what the entry and some entry of the group or of the others stand for.
-fn put_meets_of(
+fn meet_group_and_others(
     alloc: Global,
     out: &mut Vec<Entry>,
     e: &Entry,
@@ -254,12 +254,12 @@ fn put_meets_of(
         out.push(e.copy(alloc)?)?;
         return Ok(());
     }
-    put_meets(alloc, out, e, group)?;
-    put_meets(alloc, out, e, others)
+    meet_each(alloc, out, e, group)?;
+    meet_each(alloc, out, e, others)
 }
 
 /// Adds what the entry and some entry of b stand for.
-fn put_meets(alloc: Global, out: &mut Vec<Entry>, e: &Entry, b: &[Entry]) -> Result<(), NoMemory>
+fn meet_each(alloc: Global, out: &mut Vec<Entry>, e: &Entry, b: &[Entry]) -> Result<(), NoMemory>
     ensures meaning { IfOk result
         (λ _. (env : Environment) → set_denotes out.new.items env ≡ (set_denotes out.old.items env || (entry_denotes e.now env && set_denotes b.now env))) }
     ensures vars { IfOk result

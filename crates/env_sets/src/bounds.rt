@@ -1,9 +1,11 @@
 // What one variable may be: one value, or none of some values.
-ghost use Rattle.std.specs.Prelude.{◌≡◌, ◌&&◌, true, false, IfOk};
+ghost use Rattle.std.specs.Prelude.{◌≡◌, ◌&&◌, true, false, not, IfOk};
+ghost use Rattle.std.specs.List.{list_any};
+ghost use Rattle.smpl_terms.specs.Values.{same};
 ghost use Rattle.smpl_terms.specs.declared.value.Value.{Value as Datum};
 ghost use Rattle.env_sets.specs.Bounds.{fits, option_fits, is_not};
 
-use crate::values::Values;
+use crate::excluded::Values;
 use c_terms::NoMemory;
 use smpl_terms::{Copied, Value, same_value, value_order};
 use std::alloc::Global;
@@ -19,7 +21,7 @@ pub enum Bound {
 }
 
 impl Bound {
-    /// An equal bound, ids included. Linear.
+    /// An equal bound, ids included. It shares the values, and takes no memory.
     pub fn copy(&self, alloc: Global) -> Result<Bound, NoMemory>
         ensures same { IfOk result (λ b. b ≡ self.now) }
     {
@@ -57,7 +59,7 @@ impl Copied for Bound {
     }
 }
 
-/// What both bounds allow; nothing where no value is left. Linear in the excluded values of both.
+/// What both bounds allow; nothing where no value is left. Where both exclude values, it joins their lists.
 pub fn meet_bounds(alloc: Global, a: &Bound, b: &Bound) -> Result<Option<Bound>, NoMemory>
     ensures { IfOk result (λ o. (x : Datum) → option_fits x o ≡ (fits x a.now && fits x b.now)) }
 {
@@ -95,7 +97,7 @@ pub fn bounds_clash(a: &Bound, b: &Bound) -> bool
 pub fn excluded(bound: &Bound) -> usize {
     match bound {
         Bound::Is(_) => 0,
-        Bound::Not(values) => values.as_slice().len(),
+        Bound::Not(values) => values.count(),
     }
 }
 
@@ -107,37 +109,27 @@ pub fn bound_covers(a: &Bound, b: &Bound) -> bool
     match (a, b) {
         (_, Bound::Is(w)) => a.allows(w),
         (Bound::Is(_), Bound::Not(_)) => false,
-        (Bound::Not(vs), Bound::Not(ws)) => {
-            for v in vs.as_slice() {
-                if !ws.have(v) {
-                    return false;
-                }
-            }
-            true
-        }
+        (Bound::Not(vs), Bound::Not(ws)) => exclude_no_more(vs, ws),
     }
 }
 
-/// A list of excluded values before a value; shorter lists before longer ones, values in their order.
+/// Whether each value of the first list is in the second, which then is no shorter, if the first has each value once.
+fn exclude_no_more(vs: &Values, ws: &Values) -> bool
+    ensures { result ≡ true → (x : Datum) → not (list_any (λ w. same w x) ws.now) ≡ true →
+        not (list_any (λ v. same v x) vs.now) ≡ true }
+{
+    if vs.rises() && vs.count() > ws.count() {
+        return false;
+    }
+    vs.are_among(ws)
+}
+
+/// A list of excluded values before a value; lists, and values, in their order. Takes no memory.
 pub fn bound_order(a: &Bound, b: &Bound) -> Ordering {
     match (a, b) {
         (Bound::Is(v), Bound::Is(w)) => value_order(v, w),
         (Bound::Is(_), Bound::Not(_)) => Ordering::Greater,
         (Bound::Not(_), Bound::Is(_)) => Ordering::Less,
-        (Bound::Not(vs), Bound::Not(ws)) => order_of_lists(vs.as_slice(), ws.as_slice()),
+        (Bound::Not(vs), Bound::Not(ws)) => vs.order(ws),
     }
-}
-
-fn order_of_lists(vs: &[Value], ws: &[Value]) -> Ordering {
-    let lengths = vs.len().cmp(&ws.len());
-    if lengths.is_ne() {
-        return lengths;
-    }
-    for (v, w) in vs.iter().zip(ws) {
-        let order = value_order(v, w);
-        if order.is_ne() {
-            return order;
-        }
-    }
-    Ordering::Equal
 }

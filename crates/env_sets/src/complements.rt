@@ -16,13 +16,13 @@ ghost use Rattle.env_sets.specs.Sets.{entry_denotes, entry_vars, set_denotes, se
 ghost use Rattle.env_sets.specs.Laws.{IsComplement};
 ghost use Rattle.env_sets.specs.Splits.{passes, occurs, are_allowed};
 
-use crate::algebra::{Parts, parts_at};
+use crate::algebra::{LoneSplit, split_lone};
 use crate::bounds::Bound;
 use crate::entries::{Entry, all_excluded};
-use crate::parts::{is_allowed, named, parts_by, where_other};
-use crate::sets::{EnvSet, have_all, put_some, settled};
+use crate::excluded::Values;
+use crate::parts::{is_allowed, named, restrictions, where_other};
+use crate::sets::{EnvSet, have_all, put_some, settled, settled_apart};
 use crate::tally::split_var;
-use crate::values::Values;
 use c_terms::NoMemory;
 use smpl_terms::{Value, Var, same_var};
 use std::alloc::Global;
@@ -40,10 +40,28 @@ pub fn complement(alloc: Global, a: &EnvSet) -> Result<EnvSet, NoMemory>
         set_vars t r ≡ true) }
 {
     let entries = outside(alloc, a.entries())?;
+    if are_in_order(a.entries()) {
+        return settled_apart(alloc, entries);
+    }
     settled(alloc, entries)
 }
 
-/// The entries of the complement, as they come.
+/// Whether all lists of excluded values are in order.
+fn are_in_order(a: &[Entry]) -> bool {
+    for e in a {
+        for p in e.pairs() {
+            if let Bound::Not(values) = &p.1 {
+                if !values.rises() {
+                    return false;
+                }
+            }
+        }
+    }
+    true
+}
+
+/// The entries of the complement, as they come. Where all lists of excluded values are in order, no two of them stand for
+/// one environment: they differ in a variable on which a set was split.
 #[cycle(outside)]
 fn outside(alloc: Global, a: &[Entry]) -> Result<Vec<Entry>, NoMemory>
     ensures meaning { IfOk result (λ r. (env : Environment) →
@@ -76,13 +94,15 @@ fn outside_at(alloc: Global, a: &[Entry], x: &Var) -> Result<Vec<Entry>, NoMemor
         set_vars t r.items ≡ true) }
 {
     if are_lone(a, x) {
-        let parts = parts_at(alloc, a, x)?;
+        let parts = split_lone(alloc, a, x)?;
         let others = parts.others.entries();
         if others.is_empty() {
-            return one_entry(alloc, Entry::one(alloc, x, Bound::Not(parts.fixed))?);
+            let fixed = Values::of(alloc, parts.fixed.into_vec())?;
+            return one_entry(alloc, Entry::one(alloc, x, Bound::Not(fixed))?);
         }
         if let Some(values) = only_excluded(&others[shortest(others)], x) {
-            return outside_lone(alloc, values.as_slice(), &parts, x);
+            let listed = values.list(alloc)?;
+            return outside_lone(alloc, listed.as_slice(), &parts, x);
         }
     }
     split(alloc, a, x)
@@ -99,7 +119,7 @@ fn split(alloc: Global, a: &[Entry], x: &Var) -> Result<Vec<Entry>, NoMemory>
 {
     let values = named(alloc, a, x)?;
     let all = values.as_slice();
-    let parts = parts_by(alloc, a, x, all)?;
+    let parts = restrictions(alloc, a, x, all)?;
     let mut entries = Vec::new(alloc);
     for i in 0..all.len() {
         let rest = outside(alloc, parts[i].entries())?;
@@ -113,7 +133,8 @@ fn split(alloc: Global, a: &[Entry], x: &Var) -> Result<Vec<Entry>, NoMemory>
     }
     let other = where_other(alloc, a, x)?;
     let rest = outside(alloc, &other)?;
-    put_narrowed(alloc, &mut entries, rest, x, &Bound::Not(values))?;
+    let excluded = Values::of(alloc, values.into_vec())?;
+    put_narrowed(alloc, &mut entries, rest, x, &Bound::Not(excluded))?;
     Ok(entries)
 }
 
@@ -121,7 +142,7 @@ fn split(alloc: Global, a: &[Entry], x: &Var) -> Result<Vec<Entry>, NoMemory>
 fn outside_lone(
     alloc: Global,
     values: &[Value],
-    parts: &Parts,
+    parts: &LoneSplit,
     x: &Var,
 ) -> Result<Vec<Entry>, NoMemory>
     requires lone { set_vars (λ y. same_var y x.now) parts.now.others ≡ true }
@@ -142,7 +163,7 @@ fn put_outside(
     alloc: Global,
     out: &mut Vec<Entry>,
     v: &Value,
-    parts: &Parts,
+    parts: &LoneSplit,
     x: &Var,
 ) -> Result<(), NoMemory>
     ensures meaning { IfOk result

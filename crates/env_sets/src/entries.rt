@@ -75,7 +75,7 @@ fn is_open(bound: &Bound) -> bool
 {
     match bound {
         Bound::Is(_) => false,
-        Bound::Not(values) => values.as_slice().is_empty(),
+        Bound::Not(values) => values.is_empty(),
     }
 }
 
@@ -119,7 +119,7 @@ impl Entry {
     /// where the entry has a bound of v that plainly allows no more, it stays as it is.
     ///
     /// It looks v up from the first variable on. Where it is the only owner of its bounds, it copies none but the new one;
-    /// where both exclude values, it merges them, in linear time if both lists are in order.
+    /// where both exclude values, it joins their lists, at the cost of [`Values::joined`](crate::Values::joined).
     pub fn narrowed(self, alloc: Global, v: &Var, bound: &Bound) -> Result<Option<Entry>, NoMemory>
         ensures meaning { IfOk result
             (λ o. (env : Environment) → option_denotes o env ≡ (entry_denotes self env && fits (env v.now) bound.now)) }
@@ -224,8 +224,22 @@ pub fn all_excluded(entry: &Entry) -> usize {
     count
 }
 
+/// Whether the first fixes more variables, or as many and excludes no fewer values. Takes no memory.
+fn is_narrower(a: &Entry, b: &Entry) -> bool {
+    match fixed_count(a).cmp(&fixed_count(b)) {
+        Ordering::Less => false,
+        Ordering::Greater => true,
+        Ordering::Equal => all_excluded(a) >= all_excluded(b),
+    }
+}
+
+/// How many variables the entry fixes. Takes no memory.
+fn fixed_count(entry: &Entry) -> usize {
+    entry.pairs().iter().filter(|p| !p.1.is_not()).count()
+}
+
 /// What both entries stand for; nothing where no environment is left. It takes no memory where a variable has bounds in
-/// both that leave it no value, and copies the longer list of excluded values only where the result has it.
+/// both that leave it no value. Where one of them plainly allows no more than the other, the result shares it.
 pub fn meet_entries(alloc: Global, a: &Entry, b: &Entry) -> Result<Option<Entry>, NoMemory>
     ensures meaning { IfOk result (λ o. (env : Environment) →
         option_denotes o env ≡ (entry_denotes a.now env && entry_denotes b.now env)) }
@@ -235,7 +249,7 @@ pub fn meet_entries(alloc: Global, a: &Entry, b: &Entry) -> Result<Option<Entry>
     if entries_clash(a, b) {
         return Ok(None);
     }
-    if all_excluded(a) >= all_excluded(b) {
+    if is_narrower(a, b) {
         narrowed_by(alloc, a, b)
     } else {
         narrowed_by(alloc, b, a)
@@ -290,7 +304,7 @@ pub fn entry_covers(a: &Entry, b: &Entry) -> bool
 }
 
 /// Fewer bounds first, then by variables and bounds. An entry that covers another is before it, but for lists of
-/// excluded values that name a value twice.
+/// excluded values that name a value twice; it is Equal only for entries whose bounds are the same, ids aside.
 pub fn entry_order(a: &Entry, b: &Entry) -> Ordering {
     let (ps, qs) = (a.pairs(), b.pairs());
     let lengths = ps.len().cmp(&qs.len());

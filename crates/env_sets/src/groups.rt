@@ -9,9 +9,9 @@ ghost use Rattle.env_sets.specs.Sets.{Entries, entry_denotes, entry_vars, set_va
 ghost use Rattle.env_sets.specs.Splits.{AreGroupsOf, HaveVars};
 
 use crate::entries::Entry;
-use crate::parts::{Part, empty_parts, fixed_value};
+use crate::parts::{empty_sets, fixed_value};
 use crate::sets::EnvSet;
-use crate::values::{Values, distinct, place_in_order};
+use crate::values::{ValueList, distinct, place_in_order};
 use c_terms::NoMemory;
 use smpl_terms::{Value, Var};
 use std::alloc::Global;
@@ -20,8 +20,8 @@ use std::alloc::Global;
 /// other entries.
 #[derive(Drop)]
 pub struct Groups {
-    pub values: Values,
-    pub groups: Vec<Part>,
+    pub values: ValueList,
+    pub groups: Vec<EnvSet>,
     pub others: EnvSet,
 }
 
@@ -33,7 +33,7 @@ pub fn groups_by(alloc: Global, b: &[Entry], x: &Var) -> Result<Groups, NoMemory
         HaveVars t g.groups.items g.others) }
 {
     let values = values_at(alloc, b, x)?;
-    let mut groups = empty_parts(alloc, values.as_slice().len())?;
+    let mut groups = empty_sets(alloc, values.as_slice().len())?;
     let mut others = Vec::new(alloc);
     for e in b {
         put_in_group(alloc, &mut groups, &mut others, e, x, values.as_slice())?;
@@ -46,7 +46,7 @@ pub fn groups_by(alloc: Global, b: &[Entry], x: &Var) -> Result<Groups, NoMemory
 }
 
 /// The values at which entries fix x, in order, each once.
-fn values_at(alloc: Global, b: &[Entry], x: &Var) -> Result<Values, NoMemory>
+fn values_at(alloc: Global, b: &[Entry], x: &Var) -> Result<ValueList, NoMemory>
     ensures rise { IfOk result (λ vs. Rise vs) }
 {
     let mut values = Vec::new(alloc);
@@ -61,7 +61,7 @@ fn values_at(alloc: Global, b: &[Entry], x: &Var) -> Result<Values, NoMemory>
 /// Adds the entry to the group of the value at which it fixes x, or else to the others.
 fn put_in_group(
     alloc: Global,
-    groups: &mut [Part],
+    groups: &mut [EnvSet],
     others: &mut Vec<Entry>,
     e: &Entry,
     x: &Var,

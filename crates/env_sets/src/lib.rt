@@ -12,19 +12,23 @@
 //! Values are compared as terms, ids aside. The calls hand back sets whose entries over one variable alone are merged,
 //! and without entries that another plainly covers; sets that a caller builds may have them. Nothing is lost or added
 //! by that: a set is known by what it stands for.
-//! [`complement`] recurses once a variable, and comparing values once a level of a tree.
+//! [`complement`] recurses once a variable, and comparing values and listing them once a level of a tree.
 #![tactic(auto)]
 
 mod algebra;
 mod bounds;
 mod complements;
 mod entries;
+mod excluded;
 mod groups;
+mod kept;
 mod laws;
 mod lists;
 mod lone;
+mod lookup;
 mod marks;
 mod parts;
+mod runs;
 mod same;
 mod sets;
 #[cfg(test)]
@@ -39,8 +43,8 @@ pub use algebra::{denotes, given, join, meet, project};
 pub use bounds::Bound;
 pub use complements::complement;
 pub use entries::Entry;
+pub use excluded::Values;
 pub use laws::{complement_twice, de_morgan, given_a_meet, project_a_join};
 pub use same::same_set;
 pub use sets::EnvSet;
 pub use states::{StateRow, StateSets};
-pub use values::Values;

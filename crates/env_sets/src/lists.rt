@@ -4,12 +4,13 @@ ghost use Rattle.std.specs.List.{list_any};
 ghost use Rattle.smpl_terms.specs.declared.value.Value.{Value as Datum};
 ghost use Rattle.smpl_terms.specs.Values.{same};
 
-use crate::values::Values;
+use crate::excluded::Values;
+use crate::values::ValueList;
 use c_terms::NoMemory;
 use std::alloc::Global;
 
 /// The values of the first list that the second has too. Looks up each value of the first.
-pub fn common(alloc: Global, vs: Values, ws: &Values) -> Result<Values, NoMemory>
+pub fn common(alloc: Global, vs: ValueList, ws: &Values) -> Result<ValueList, NoMemory>
     ensures { IfOk result (λ r. (z : Datum) → list_any (λ v. same v z) r ≡
         (list_any (λ v. same v z) vs && list_any (λ v. same v z) ws.now)) }
 {
@@ -19,11 +20,11 @@ pub fn common(alloc: Global, vs: Values, ws: &Values) -> Result<Values, NoMemory
             kept.push(v)?;
         }
     }
-    Ok(Values::of(kept))
+    Ok(ValueList::of(kept))
 }
 
 /// The values of the first list that the second has not. Looks up each value of the first.
-pub fn apart(alloc: Global, vs: Values, ws: &Values) -> Result<Values, NoMemory>
+pub fn apart(alloc: Global, vs: ValueList, ws: &ValueList) -> Result<ValueList, NoMemory>
     ensures { IfOk result (λ r. (z : Datum) → list_any (λ v. same v z) r ≡
         (list_any (λ v. same v z) vs && not (list_any (λ v. same v z) ws.now))) }
 {
@@ -33,5 +34,5 @@ pub fn apart(alloc: Global, vs: Values, ws: &Values) -> Result<Values, NoMemory>
             kept.push(v)?;
         }
     }
-    Ok(Values::of(kept))
+    Ok(ValueList::of(kept))
 }

@@ -13,9 +13,10 @@ ghost use Rattle.env_sets.specs.Sets.{entry_denotes, entry_vars, option_denotes,
 
 use crate::bounds::Bound;
 use crate::entries::Entry;
+use crate::excluded::Values;
 use crate::lists::{apart, common};
 use crate::sets::put_some;
-use crate::values::{Values, put_new};
+use crate::values::{ValueList, put_new};
 use c_terms::NoMemory;
 use smpl_terms::{Value, Var, same_var};
 use std::alloc::Global;
@@ -47,7 +48,14 @@ fn bound_alike(a: &Entry, b: &Entry) -> bool {
     }
 }
 
-/// For the entries from a place on that bound the same variable alone.
+/// Whether the entry after this one bounds the same variable alone.
+fn has_next(entries: &[Entry], start: usize) -> bool
+    requires { start < length entries.now }
+{
+    entries.len() - start > 1 && bound_alike(&entries[start], &entries[start + 1])
+}
+
+/// For the entries from a place on that bound the same variable alone, of which there are several.
 fn wider_entry(alloc: Global, entries: &[Entry], start: usize) -> Result<Option<Entry>, NoMemory>
     requires { start < length entries.now }
     ensures within { IfOk result (λ o. (env : Environment) → option_denotes o env ≡ true →
@@ -59,7 +67,9 @@ fn wider_entry(alloc: Global, entries: &[Entry], start: usize) -> Result<Option<
     match first.pairs() {
         [] => Ok(None),
         [pair, ..] => match lone_bound(first, &pair.0) {
-            Some(Bound::Not(values)) => less_excluded(alloc, entries, start, &pair.0, values),
+            Some(Bound::Not(values)) if has_next(entries, start) => {
+                less_excluded(alloc, entries, start, &pair.0, values)
+            }
             _ => Ok(None),
         },
     }
@@ -108,10 +118,10 @@ fn less_excluded(
     if count == 0 {
         return Ok(Some(Entry::all(alloc)));
     }
-    if count == values.as_slice().len() {
+    if count == values.count() {
         return Ok(None);
     }
-    Ok(Some(Entry::one(alloc, x, Bound::Not(left))?))
+    Ok(Some(Entry::one(alloc, x, Bound::Not(Values::of(alloc, left.into_vec())?))?))
 }
 
 /// Of these values, those that all lists of the entries exclude.
@@ -121,13 +131,13 @@ fn excluded_by_all(
     start: usize,
     x: &Var,
     values: &Values,
-) -> Result<Values, NoMemory>
+) -> Result<ValueList, NoMemory>
     requires { (env : Environment) → not (list_any (λ v. same v (env x.now)) values.now) ≡ true →
         set_denotes entries.now env ≡ true }
     ensures { IfOk result (λ r. (env : Environment) →
         not (list_any (λ v. same v (env x.now)) r) ≡ true → set_denotes entries.now env ≡ true) }
 {
-    let mut left = values.copy(alloc)?;
+    let mut left = values.list(alloc)?;
     for i in start..entries.len() {
         match lone_bound(&entries[i], x) {
             Some(bound) => left = excluded_too(alloc, left, bound)?,
@@ -138,7 +148,7 @@ fn excluded_by_all(
 }
 
 /// The values that the bound excludes too, where it is a list of these.
-fn excluded_too(alloc: Global, left: Values, bound: &Bound) -> Result<Values, NoMemory>
+fn excluded_too(alloc: Global, left: ValueList, bound: &Bound) -> Result<ValueList, NoMemory>
     ensures { IfOk result (λ r. (z : Datum) → not (list_any (λ v. same v z) r) ≡ true →
         (not (list_any (λ v. same v z) left) || fits z bound.now) ≡ true) }
 {
@@ -149,7 +159,12 @@ fn excluded_too(alloc: Global, left: Values, bound: &Bound) -> Result<Values, No
 }
 
 /// The values of x in the entries that fix it, each once.
-fn fixed_values(alloc: Global, entries: &[Entry], start: usize, x: &Var) -> Result<Values, NoMemory>
+fn fixed_values(
+    alloc: Global,
+    entries: &[Entry],
+    start: usize,
+    x: &Var,
+) -> Result<ValueList, NoMemory>
     ensures { IfOk result (λ r. (env : Environment) → list_any (λ v. same v (env x.now)) r ≡ true →
         set_denotes entries.now env ≡ true) }
 {
@@ -157,10 +172,10 @@ fn fixed_values(alloc: Global, entries: &[Entry], start: usize, x: &Var) -> Resu
     for i in start..entries.len() {
         match lone_bound(&entries[i], x) {
             Some(bound) => put_fixed(alloc, &mut fixed, bound)?,
-            None => return Ok(Values::of(fixed)),
+            None => return Ok(ValueList::of(fixed)),
         }
     }
-    Ok(Values::of(fixed))
+    Ok(ValueList::of(fixed))
 }
 
 /// Adds the value, if the bound is one, unless it is the last.

@@ -1,7 +1,8 @@
-// Marks of entries: what can be told at once of two entries of which one may cover the other.
-use crate::bounds::{Bound, excluded};
+// Marks of entries and values: what can be told at once of two entries of which one may cover the other.
+use crate::bounds::Bound;
 use crate::entries::Entry;
-use smpl_terms::Var;
+use c_terms::Tree;
+use smpl_terms::{Value, Var};
 
 /// What is compared of an entry before its bounds are.
 #[derive(Clone, Copy)]
@@ -12,6 +13,8 @@ pub struct Mark {
     fixed: usize,
     /// How many values are excluded.
     excluded: usize,
+    /// One of 64 bits for each of them.
+    bits: u64,
     /// How many bounds there are.
     bounds: usize,
 }
@@ -22,35 +25,109 @@ pub fn mark_of(e: &Entry) -> Mark {
         vars: 0,
         fixed: 0,
         excluded: 0,
+        bits: 0,
         bounds: e.pairs().len(),
     };
     for p in e.pairs() {
         mark.vars |= bit_of(&p.0);
         match &p.1 {
             Bound::Is(_) => mark.fixed = mark.fixed.saturating_add(1),
-            Bound::Not(_) => mark.excluded = mark.excluded.saturating_add(excluded(&p.1)),
+            Bound::Not(values) => {
+                mark.excluded = mark.excluded.saturating_add(values.count());
+                mark.bits |= values.mark();
+            }
         }
     }
     mark
 }
 
 fn bit_of(x: &Var) -> u64 {
-    let mut hash = x.rule;
+    1u64 << (var_mark(x) % 64)
+}
+
+/// A number that is equal for one variable.
+fn var_mark(x: &Var) -> u64 {
+    let mut mark = u64::from(x.rule);
     for byte in x.name.as_bytes() {
-        hash = hash.wrapping_mul(31).wrapping_add(u32::from(*byte));
+        mark = mark.wrapping_mul(31).wrapping_add(u64::from(*byte));
     }
-    1u64 << (hash % 64)
+    mark
+}
+
+/// The key of a variable that is a value: equal for one variable and same values.
+pub fn fixed_key(x: &Var, v: &Value) -> u64 {
+    mixed(mixed(5, var_mark(x)), value_mark(v))
+}
+
+/// The key of a variable that is not a value.
+pub fn excluded_key(x: &Var, v: &Value) -> u64 {
+    mixed(mixed(7, var_mark(x)), value_mark(v))
+}
+
+/// The key of a variable that is not some values.
+pub fn open_key(x: &Var) -> u64 {
+    mixed(11, var_mark(x))
 }
 
 /// Whether an entry with the first mark may cover another with the second. An entry that covers another bounds no other
-/// variables, and fixes no more of them; where it fixes as many, it excludes no more values. Entries that agree in all
-/// of this are the same, if their lists of values are in order and one covers the other.
+/// variables, and fixes no more of them; where it fixes as many, it excludes no other values. Entries that agree in all
+/// of this are the same, if one covers the other, and are beside one another in a sorted list.
 pub fn may_cover(a: &Mark, b: &Mark) -> bool {
     if a.vars & b.vars != a.vars || a.fixed > b.fixed {
         return false;
     }
-    if a.fixed < b.fixed || a.excluded < b.excluded {
+    if a.fixed < b.fixed {
+        return true;
+    }
+    if a.bits & b.bits != a.bits {
+        return false;
+    }
+    if a.excluded < b.excluded {
         return true;
     }
     a.excluded == b.excluded && a.bounds < b.bounds
+}
+
+/// One of 64 bits for each value.
+pub fn bits_of(items: &[Value]) -> u64 {
+    let mut bits: u64 = 0;
+    for v in items {
+        bits |= 1u64 << (value_mark(v) % 64);
+    }
+    bits
+}
+
+/// A number that is equal for same values.
+fn value_mark(v: &Value) -> u64 {
+    match v {
+        Value::Term(tree) => term_mark(tree.get(), 3),
+        Value::Place(at) => mixed(1, *at),
+    }
+}
+
+fn term_mark(tree: &Tree, mark: u64) -> u64 {
+    match tree {
+        Tree::Leaf(token) => text_mark(token.text.as_bytes(), mark),
+        Tree::Branch(_, children) => {
+            let mut mark = mixed(mark, 2);
+            for child in children.as_slice() {
+                mark = term_mark(child, mark);
+            }
+            mark
+        }
+    }
+}
+
+fn text_mark(bytes: &[u8], mark: u64) -> u64 {
+    let mut mark = mark;
+    for byte in bytes {
+        mark = mixed(mark, u64::from(*byte));
+    }
+    mark
+}
+
+fn mixed(mark: u64, more: u64) -> u64 {
+    (mark ^ more)
+        .wrapping_mul(0x9e37_79b9_7f4a_7c15)
+        .rotate_left(23)
 }

@@ -6,126 +6,95 @@ ghost use Rattle.smpl_terms.specs.Values.{same};
 ghost use Rattle.env_sets.specs.Bounds.{fits, is_not};
 ghost use Rattle.env_sets.specs.Rising.{Rise};
 ghost use Rattle.env_sets.specs.Sets.{Entries};
-ghost use Rattle.env_sets.specs.Splits.{passes, without, restricted, agree, none_named, is_unnamed, ArePartsOf};
+ghost use Rattle.env_sets.specs.Splits.{passes, without, restricted, agree, none_named, is_unnamed, AreRestrictions};
 
 use crate::bounds::Bound;
 use crate::entries::Entry;
-use crate::values::{Values, distinct, place_in_order};
+use crate::sets::EnvSet;
+use crate::values::{ValueList, distinct, place_in_order};
 use c_terms::NoMemory;
 use smpl_terms::{Value, Var, same_var};
 use std::alloc::Global;
-use std::marker::Model;
-
-/// The entries of one part of a set.
-#[derive(Drop)]
-pub struct Part {
-    entries: Vec<Entry>,
-}
-
-impl Model for Part {
-    ghost use Rattle.std.specs.Coded.{codes};
-    ghost use Rattle.c_terms.specs.contracts.tree.Tree as tree;
-    ghost use Rattle.std.specs.Prelude.{List};
-    ghost use Rattle.smpl_terms.specs.declared.var.Var.{Var};
-    ghost use Rattle.env_sets.specs.declared.bounds.Bound.{Bound};
-
-    ghost Value = { List (List (Var × Bound)) };
-
-    ghost coded = { Prim.hlevel (codes, tree.the_row.coded) };
-
-    ghost view = { λ a. a.entries.items };
-}
-
-impl Part {
-    pub fn entries(&self) -> &[Entry]
-        ensures { result.now ≡ self.now }
-    {
-        self.entries.as_slice()
-    }
-
-    pub fn put(&mut self, e: Entry) -> Result<(), NoMemory>
-        ensures { IfOk result (λ _. self.new ≡ self.old ++ e ∷ []) }
-    {
-        self.entries.push(e)?;
-        Ok(())
-    }
-}
 
 /// For each of the values, what the entries stand for where x is that value, without x.
 ///
 /// An entry that fixes x goes to the part of its value, and any other to each part whose value it allows.
-pub fn parts_by(
+pub fn restrictions(
     alloc: Global,
     a: &[Entry],
     x: &Var,
     values: &[Value],
-) -> Result<Vec<Part>, NoMemory>
+) -> Result<Vec<EnvSet>, NoMemory>
     requires rise { Rise values.now }
-    ensures { IfOk result (λ parts. ArePartsOf x.now values.now a.now parts.items) }
+    ensures { IfOk result (λ parts. AreRestrictions x.now values.now a.now parts.items) }
 {
-    let mut parts = empty_parts(alloc, values.len())?;
+    let mut parts = empty_sets(alloc, values.len())?;
     for e in a {
-        put_in_parts(alloc, &mut parts, e, x, values)?;
+        put_where_allowed(alloc, &mut parts, e, x, values)?;
     }
     Ok(parts)
 }
 
-/// So many parts without entries.
-pub fn empty_parts(alloc: Global, count: usize) -> Result<Vec<Part>, NoMemory>
+/// So many sets without entries.
+pub fn empty_sets(alloc: Global, count: usize) -> Result<Vec<EnvSet>, NoMemory>
     ensures count { IfOk result (λ parts. length parts.items ≡ count) }
     ensures empty { IfOk result (λ parts. (k : ℕ) → slice_index_or parts.items k [] ≡ []) }
 {
     let mut parts = Vec::with_capacity(alloc, count)?;
     while parts.len() < count {
-        parts.push(Part {
-            entries: Vec::new(alloc),
-        })?;
+        parts.push(EnvSet::none(alloc))?;
     }
     Ok(parts)
 }
 
 /// Adds the entry without x to each part whose value it allows.
-fn put_in_parts(
+fn put_where_allowed(
     alloc: Global,
-    parts: &mut [Part],
+    parts: &mut [EnvSet],
     e: &Entry,
     x: &Var,
     values: &[Value],
 ) -> Result<(), NoMemory>
     requires rise { Rise values.now }
     requires count { length parts.now ≡ length values.now }
-    ensures { IfOk result (λ _. (es : Entries) → ArePartsOf x.now values.now es parts.old →
-        ArePartsOf x.now values.now (es ++ e.now ∷ []) parts.new) }
+    ensures { IfOk result (λ _. (es : Entries) → AreRestrictions x.now values.now es parts.old →
+        AreRestrictions x.now values.now (es ++ e.now ∷ []) parts.new) }
 {
     match fixed_value(e, x) {
         Some(v) => match place_in_order(values, v) {
-            Some(k) => put_in_part(alloc, parts, k, e, x, &values[k]),
+            Some(k) => {
+                let rest = e.without(alloc, x)?;
+                put_if_allowed(alloc, parts, k, e, &rest, x, &values[k])
+            }
             None => Ok(()),
         },
         None => {
+            let rest = e.without(alloc, x)?;
             for k in 0..values.len() {
-                put_in_part(alloc, parts, k, e, x, &values[k])?;
+                put_if_allowed(alloc, parts, k, e, &rest, x, &values[k])?;
             }
             Ok(())
         }
     }
 }
 
-/// Adds the entry without x to the part at k, if it allows the value.
-fn put_in_part(
+/// Adds the rest, which is the entry without x, to the part at k, if the entry allows the value. It shares the rest.
+fn put_if_allowed(
     alloc: Global,
-    parts: &mut [Part],
+    parts: &mut [EnvSet],
     k: usize,
     e: &Entry,
+    rest: &Entry,
     x: &Var,
     v: &Value,
 ) -> Result<(), NoMemory>
     requires at { k < length parts.now }
+    requires rest { rest.now ≡ without x.now e.now }
     ensures { IfOk result (λ _. parts.new ≡ set parts.old k (slice_index_or parts.old k []
         ++ cond (passes x.now (fits v.now) e.now) (without x.now e.now ∷ []) [])) }
 {
     if is_allowed(e, x, v) {
-        parts[k].put(e.without(alloc, x)?)?;
+        parts[k].put(rest.copy(alloc)?)?;
     }
     Ok(())
 }
@@ -183,7 +152,7 @@ fn is_open(e: &Entry, x: &Var) -> bool
 }
 
 /// The values that the entries name at x, in order, each once.
-pub fn named(alloc: Global, a: &[Entry], x: &Var) -> Result<Values, NoMemory>
+pub fn named(alloc: Global, a: &[Entry], x: &Var) -> Result<ValueList, NoMemory>
     ensures meaning { IfOk result (λ vs. (z : Datum) → list_any (λ v. same v z) vs ≡ false →
         none_named x.now z a.now ≡ true) }
     ensures rise { IfOk result (λ vs. Rise vs) }
@@ -215,11 +184,7 @@ fn put_values(alloc: Global, out: &mut Vec<Value>, bound: &Bound) -> Result<(), 
 {
     match bound {
         Bound::Is(v) => out.push(v.copy(alloc)?)?,
-        Bound::Not(vs) => {
-            for v in vs.as_slice() {
-                out.push(v.copy(alloc)?)?;
-            }
-        }
+        Bound::Not(vs) => vs.put_in(alloc, out)?,
     }
     Ok(())
 }

@@ -10,6 +10,7 @@ ghost use Rattle.env_sets.specs.Laws.{StandForSame};
 
 use crate::bounds::Bound;
 use crate::entries::Entry;
+use crate::excluded::Values;
 use crate::sets::EnvSet;
 use smpl_terms::{Value, Var, same_value, same_var};
 
@@ -68,12 +69,26 @@ fn same_bound(a: &Bound, b: &Bound) -> bool
 {
     match (a, b) {
         (Bound::Is(v), Bound::Is(w)) => same_value(v, w),
-        (Bound::Not(vs), Bound::Not(ws)) => same_values(vs.as_slice(), ws.as_slice()),
+        (Bound::Not(vs), Bound::Not(ws)) => same_values(vs, ws),
         _ => false,
     }
 }
 
-fn same_values(vs: &[Value], ws: &[Value]) -> bool
+/// Whether both have the same values, in whatever order: kept alike, or each looked up.
+fn same_values(vs: &Values, ws: &Values) -> bool
+    ensures { result ≡ true → (x : Datum) → list_any (λ v. same v x) vs.now ≡ list_any (λ w. same w x) ws.now }
+{
+    if vs.count() != ws.count() || vs.mark() != ws.mark() {
+        return false;
+    }
+    if vs.are_alike(ws) {
+        return true;
+    }
+    vs.are_among(ws) && ws.are_among(vs)
+}
+
+/// Whether the lists have the same values one by one.
+pub fn same_slices(vs: &[Value], ws: &[Value]) -> bool
     ensures { result ≡ true → (x : Datum) → list_any (λ v. same v x) vs.now ≡ list_any (λ w. same w x) ws.now }
 {
     if vs.len() != ws.len() {

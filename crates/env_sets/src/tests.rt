@@ -1,11 +1,13 @@
-// Each call once with ample memory, and which entries the results keep.
+// What no clause says: that calls succeed with ample memory, how many entries their results have, and what threads share.
 ghost use Rattle.std.specs.Prelude.{◌<◌, length, slice_index_or, []};
 
 use crate::*;
-use c_terms::{NoMemory, Text, Token, TokenKind, Tree};
+use c_terms::{Text, Token, TokenKind, Tree};
 use smpl_terms::{Env, Value, Var};
 use std::alloc::Global;
 use std::test::Fail;
+use std::thread;
+use std::thread::Threads;
 
 fn var(alloc: Global, name: &str) -> Result<Var, Fail> {
     Ok(Var {
@@ -24,10 +26,28 @@ fn term(alloc: Global, number: &str, id: u64) -> Result<Value, Fail> {
     Ok(Value::term(alloc, Tree::Leaf(token))?)
 }
 
-// The calls without their clauses, so that a test's goals stay small.
+/// One number or two, with a comma between them, as terms.
+fn terms(alloc: Global, numbers: &str) -> Result<Values, Fail> {
+    let mut values = Vec::new(alloc);
+    match numbers.split_once(',') {
+        Some((first, second)) => {
+            values.push(term(alloc, first, 4)?)?;
+            values.push(term(alloc, second, 5)?)?;
+        }
+        None => values.push(term(alloc, numbers, 6)?)?,
+    }
+    Ok(Values::of(alloc, values)?)
+}
 
-pub fn is(alloc: Global, name: &str, number: &str) -> Result<EnvSet, Fail> {
+// The calls without their clauses, so that goals stay small.
+
+fn is(alloc: Global, name: &str, number: &str) -> Result<EnvSet, Fail> {
     let bound = Bound::Is(term(alloc, number, 1)?);
+    Ok(EnvSet::one(alloc, &var(alloc, name)?, bound)?)
+}
+
+fn is_none_of(alloc: Global, name: &str, numbers: &str) -> Result<EnvSet, Fail> {
+    let bound = Bound::Not(terms(alloc, numbers)?);
     Ok(EnvSet::one(alloc, &var(alloc, name)?, bound)?)
 }
 
@@ -35,11 +55,11 @@ pub fn both(alloc: Global, a: &EnvSet, b: &EnvSet) -> Result<EnvSet, Fail> {
     Ok(meet(alloc, a, b)?)
 }
 
-pub fn either(alloc: Global, a: &EnvSet, b: &EnvSet) -> Result<EnvSet, Fail> {
+fn either(alloc: Global, a: &EnvSet, b: &EnvSet) -> Result<EnvSet, Fail> {
     Ok(join(alloc, a, b)?)
 }
 
-pub fn other(alloc: Global, a: &EnvSet) -> Result<EnvSet, Fail> {
+fn other(alloc: Global, a: &EnvSet) -> Result<EnvSet, Fail> {
     Ok(complement(alloc, a)?)
 }
 
@@ -55,157 +75,153 @@ fn copied(alloc: Global, a: &EnvSet) -> Result<EnvSet, Fail> {
     Ok(a.copy(alloc)?)
 }
 
-pub fn everything(alloc: Global) -> Result<EnvSet, Fail> {
+fn everything(alloc: Global) -> Result<EnvSet, Fail> {
     Ok(EnvSet::all(alloc)?)
-}
-
-fn says(a: &EnvSet, env: &Env) -> bool {
-    denotes(a, env)
 }
 
 pub fn size(a: &EnvSet) -> usize {
     a.entries().len()
 }
 
-pub fn excludes_one(alloc: Global, name: &str, number: &str) -> Result<EnvSet, Fail> {
-    let mut values = Vec::new(alloc);
-    values.push(term(alloc, number, 6)?)?;
-    let bound = Bound::Not(Values::of(values));
-    Ok(EnvSet::one(alloc, &var(alloc, name)?, bound)?)
-}
-
-pub fn excludes_two(alloc: Global, name: &str, first: &str, second: &str) -> Result<EnvSet, Fail> {
-    let bound = Bound::Not(terms(alloc, first, second)?);
-    Ok(EnvSet::one(alloc, &var(alloc, name)?, bound)?)
-}
-
 /// The environment with one more pair, unless the variable has a value.
-fn with_value(alloc: Global, env: Env, v: &Var, value: &Value) -> Result<Env, Fail> {
-    if env.has(v) {
+fn with_value(alloc: Global, env: Env, name: &str, number: &str) -> Result<Env, Fail> {
+    let v = var(alloc, name)?;
+    if env.has(&v) {
         return Ok(env);
     }
-    Ok(env.with(alloc, v, value)?)
+    Ok(env.with(alloc, &v, &term(alloc, number, 2)?)?)
 }
 
-/// The environment of this number, whose token has another id.
 fn env_of_x(alloc: Global, x: &str) -> Result<Env, Fail> {
-    let value = term(alloc, x, 2)?;
-    with_value(alloc, Env::empty(alloc), &var(alloc, "x")?, &value)
+    with_value(alloc, Env::empty(alloc), "x", x)
 }
 
-/// The environment of these numbers, whose tokens have other ids.
-fn env(alloc: Global, x: &str, y: &str) -> Result<Env, Fail> {
-    let env = env_of_x(alloc, x)?;
-    let value = term(alloc, y, 3)?;
-    with_value(alloc, env, &var(alloc, "y")?, &value)
+/// Whether the set stands for x and y being these numbers, whose tokens have other ids.
+fn says(alloc: Global, set: &EnvSet, x: &str, y: &str) -> Result<bool, Fail> {
+    let env = with_value(alloc, env_of_x(alloc, x)?, "y", y)?;
+    Ok(denotes(set, &env))
 }
 
-/// Whether the set stands for x, y being 1, 1; 1, 2; 3, 1; and 3, 2.
-pub fn answers(alloc: Global, set: &EnvSet, wanted: [bool; 4]) -> Result<bool, Fail> {
-    let set = copied(alloc, set)?;
-    let [a, b, c, d] = wanted;
-    Ok(
-        says(&set, &env(alloc, "1", "1")?) == a
-            && says(&set, &env(alloc, "1", "2")?) == b
-            && says(&set, &env(alloc, "3", "1")?) == c
-            && says(&set, &env(alloc, "3", "2")?) == d,
-    )
+/// What the set says of x, y being 1, 1; 1, 2; 3, 1; and 3, 2.
+fn answers(alloc: Global, set: &EnvSet) -> Result<[bool; 4], Fail> {
+    Ok([
+        says(alloc, set, "1", "1")?,
+        says(alloc, set, "1", "2")?,
+        says(alloc, set, "3", "1")?,
+        says(alloc, set, "3", "2")?,
+    ])
+}
+
+/// The last set, which is taken.
+fn last(sets: &mut Vec<EnvSet>) -> Result<EnvSet, Fail> {
+    match sets.pop() {
+        Some(set) => Ok(set),
+        None => Err("no set is left")?,
+    }
+}
+
+/// The set that a recipe makes, in postfix. Its words are `none`, `all`, `x=1`, `x!1` and `x!1,2`; `~`, `&` and `|` of the
+/// last sets; `-x`, in which x may change, and `:3`, where x is 3.
+pub fn made(alloc: Global, recipe: &str) -> Result<EnvSet, Fail> {
+    let mut sets = Vec::new(alloc);
+    for word in recipe.split_whitespace() {
+        let set = next_set(alloc, &mut sets, word)?;
+        sets.push(set)?;
+    }
+    last(&mut sets)
+}
+
+fn next_set(alloc: Global, sets: &mut Vec<EnvSet>, word: &str) -> Result<EnvSet, Fail> {
+    match word {
+        "none" => Ok(EnvSet::none(alloc)),
+        "all" => everything(alloc),
+        "~" => other(alloc, &last(sets)?),
+        "&" => both(alloc, &last(sets)?, &last(sets)?),
+        "|" => either(alloc, &last(sets)?, &last(sets)?),
+        _ => set_of_word(alloc, sets, word),
+    }
+}
+
+fn set_of_word(alloc: Global, sets: &mut Vec<EnvSet>, word: &str) -> Result<EnvSet, Fail> {
+    if let Some((name, number)) = word.split_once('=') {
+        return is(alloc, name, number);
+    }
+    if let Some((name, numbers)) = word.split_once('!') {
+        return is_none_of(alloc, name, numbers);
+    }
+    if let Some(name) = word.strip_prefix('-') {
+        return freed(alloc, &last(sets)?, name);
+    }
+    match word.strip_prefix(':') {
+        Some(number) => under(alloc, &last(sets)?, &env_of_x(alloc, number)?),
+        None => Err("no word of a recipe")?,
+    }
+}
+
+fn answers_of(alloc: Global, recipe: &str) -> Result<[bool; 4], Fail> {
+    answers(alloc, &made(alloc, recipe)?)
 }
 
 #[test]
 fn calls_answer_their_sets(rt: HostRuntime) -> Result<(), Fail> {
-    let alloc = rt.alloc();
-    let one = is(alloc, "x", "1")?;
-    let two = is(alloc, "y", "2")?;
-    assert!(rt; answers(alloc, &one, [true, true, false, false])?);
-    assert!(rt; answers(alloc, &other(alloc, &one)?, [false, false, true, true])?);
-    assert!(rt;
-        answers(
-            alloc,
-            &both(alloc, &one, &two)?,
-            [false, true, false, false]
-        )?
-    );
-    assert!(rt;
-        answers(
-            alloc,
-            &either(alloc, &one, &two)?,
-            [true, true, false, true]
-        )?
-    );
-    assert!(rt; answers(alloc, &EnvSet::none(alloc), [false; 4])?);
-    assert!(rt; answers(alloc, &everything(alloc)?, [true; 4])?);
+    let (no, yes) = (false, true);
+    for (recipe, wanted) in [
+        ("none", [no, no, no, no]),
+        ("all", [yes, yes, yes, yes]),
+        ("x=1", [yes, yes, no, no]),
+        ("x=1 ~", [no, no, yes, yes]),
+        ("x=1 y=2 &", [no, yes, no, no]),
+        ("x=1 y=2 |", [yes, yes, no, yes]),
+        ("x=1 y=2 & -x", [no, yes, no, yes]),
+        ("x=1 y=2 & :1", [no, yes, no, yes]),
+        ("x=1 y=2 & :3", [no, no, no, no]),
+        ("x!3,1 x!2,3 |", [yes, yes, no, no]),
+        ("x!3,1 y!1 &", [no, no, no, no]),
+        ("x=1 y=2 & x=3 y=1 & | x=1 y=1 | &", [no, yes, yes, no]),
+        ("x=1 y=1 | x=1 y=2 & x=3 y=1 & | &", [no, yes, yes, no]),
+        ("x!9 y=5 & x=1 y=3 & | ~", [yes, yes, yes, yes]),
+    ] {
+        assert!(rt; answers_of(rt.alloc(), recipe)? == wanted, "{recipe}");
+    }
     Ok(())
 }
 
-#[test]
-fn variables_are_freed_and_given(rt: HostRuntime) -> Result<(), Fail> {
-    let alloc = rt.alloc();
-    let pair = both(alloc, &is(alloc, "x", "1")?, &is(alloc, "y", "2")?)?;
-    assert!(rt;
-        answers(
-            alloc,
-            &freed(alloc, &pair, "x")?,
-            [false, true, false, true]
-        )?
-    );
-    let kept = under(alloc, &pair, &env_of_x(alloc, "1")?)?;
-    assert!(rt; answers(alloc, &kept, [false, true, false, true])?);
-    let contradicted = under(alloc, &pair, &env_of_x(alloc, "3")?)?;
-    assert!(rt; answers(alloc, &contradicted, [false; 4])?);
-    Ok(())
-}
-
-fn are_same(a: &EnvSet, b: &EnvSet) -> bool {
-    same_set(a, b)
-}
-
-fn is_nothing(a: &EnvSet) -> bool {
-    a.is_none()
-}
-
-fn is_everything(a: &EnvSet) -> bool {
-    a.is_all()
+/// Whether two recipes make sets that are told to be the same.
+fn are_same(alloc: Global, first: &str, second: &str) -> Result<bool, Fail> {
+    Ok(same_set(&made(alloc, first)?, &made(alloc, second)?))
 }
 
 #[test]
 fn sets_are_told_apart(rt: HostRuntime) -> Result<(), Fail> {
-    let alloc = rt.alloc();
-    let one = both(
-        alloc,
-        &is(alloc, "x", "1")?,
-        &excludes_two(alloc, "y", "1", "2")?,
-    )?;
-    let again = both(
-        alloc,
-        &excludes_two(alloc, "y", "1", "2")?,
-        &is(alloc, "x", "1")?,
-    )?;
-    let other_value = both(
-        alloc,
-        &is(alloc, "x", "2")?,
-        &excludes_two(alloc, "y", "1", "2")?,
-    )?;
-    let other_list = both(
-        alloc,
-        &is(alloc, "x", "1")?,
-        &excludes_two(alloc, "y", "1", "3")?,
-    )?;
-    assert!(rt; are_same(&one, &again) && are_same(&one, &copied(alloc, &one)?));
-    assert!(rt; !are_same(&one, &other_value) && !are_same(&one, &other_list));
-    assert!(rt; !are_same(&one, &is(alloc, "x", "1")?) && !are_same(&one, &EnvSet::none(alloc)));
-    assert!(rt; is_nothing(&EnvSet::none(alloc)) && !is_nothing(&one));
-    assert!(rt; is_everything(&everything(alloc)?) && !is_everything(&one));
-    assert!(rt; !is_everything(&EnvSet::none(alloc)));
+    for (first, second, same) in [
+        ("x=1 y!1,2 &", "y!1,2 x=1 &", true),
+        ("y=1 x!5 & y=1 x!26 & |", "y=1 x!26 & y=1 x!5 & |", true),
+        ("x=1 y!1,2 &", "x=2 y!1,2 &", false),
+        ("x=1 y!1,2 &", "x=1 y!1,3 &", false),
+        ("x=1 y!1,2 &", "x=1", false),
+        ("x=1", "none", false),
+    ] {
+        assert!(rt; are_same(rt.alloc(), first, second)? == same, "{first}");
+    }
     Ok(())
 }
 
-/// The numbers as terms.
-fn terms(alloc: Global, first: &str, second: &str) -> Result<Values, Fail> {
-    let mut values = Vec::new(alloc);
-    values.push(term(alloc, first, 4)?)?;
-    values.push(term(alloc, second, 5)?)?;
-    Ok(Values::of(values))
+/// Whether it is known that the set is empty, and that it has each environment.
+fn extremes(alloc: Global, recipe: &str) -> Result<(bool, bool), Fail> {
+    let set = copied(alloc, &made(alloc, recipe)?)?;
+    Ok((set.is_none(), set.is_all()))
+}
+
+#[test]
+fn nothing_and_everything_are_told(rt: HostRuntime) -> Result<(), Fail> {
+    for (recipe, none, all) in [
+        ("none", true, false),
+        ("all", false, true),
+        ("x=1", false, false),
+    ] {
+        assert!(rt; extremes(rt.alloc(), recipe)? == (none, all), "{recipe}");
+    }
+    Ok(())
 }
 
 fn all_of(alloc: Global, a: &Values, b: &Values) -> Result<Values, Fail> {
@@ -216,51 +232,33 @@ fn excludes(alloc: Global, values: Values) -> Result<Bound, Fail> {
     Ok(Bound::Not(values).copy(alloc)?)
 }
 
-fn has(values: &Values, value: &Value) -> bool {
-    values.have(value)
-}
-
-fn admits(bound: &Bound, value: &Value) -> bool {
-    bound.allows(value)
-}
-
 #[test]
-fn bounds_compare_values_but_for_ids(rt: HostRuntime) -> Result<(), Fail> {
+fn lists_of_values_know_their_order(rt: HostRuntime) -> Result<(), Fail> {
     let alloc = rt.alloc();
-    let two = terms(alloc, "1", "2")?;
-    let all = all_of(alloc, &two, &terms(alloc, "2", "3")?)?;
-    assert!(rt; two.copy(alloc)?.rises() && all.rises() && !terms(alloc, "2", "1")?.rises());
-    let not = excludes(alloc, two)?;
-    assert!(rt; not.is_not());
-    assert!(rt; admits(&not, &Value::Place(1)));
-    assert!(rt; !admits(&not, &term(alloc, "1", 9)?) && admits(&not, &term(alloc, "3", 9)?));
-    assert!(rt; has(&all, &term(alloc, "3", 9)?) && !has(&all, &term(alloc, "4", 9)?));
-    assert!(rt; all.into_vec().len() == 3);
+    let two = terms(alloc, "1,2")?;
+    assert!(rt; two.rises() && two.copy(alloc)?.rises() && !terms(alloc, "2,1")?.rises());
+    let all = all_of(alloc, &two, &terms(alloc, "3,2")?)?;
+    assert!(rt; all.rises() && all.into_vec(alloc)?.len() == 3);
+    assert!(rt; excludes(alloc, two)?.is_not());
     Ok(())
 }
 
-/// The bounds of y Is 2 and x Not [1, 2], without y, and without x.
-fn entry_sizes(alloc: Global) -> Result<[usize; 3], Fail> {
-    let one = Entry::one(alloc, &var(alloc, "y")?, Bound::Is(term(alloc, "2", 1)?))?;
-    let bound = Bound::Not(terms(alloc, "1", "2")?);
-    let Some(two) = one.copy(alloc)?.narrowed(alloc, &var(alloc, "x")?, &bound)? else {
-        return Ok([0; 3]);
-    };
-    let without_y = two.without(alloc, &var(alloc, "y")?)?;
-    let without_x = two.free_of(alloc, &env_of_x(alloc, "3")?)?;
-    Ok([
-        two.pairs().len(),
-        without_y.pairs().len(),
-        without_x.pairs().len(),
-    ])
+/// Lets the set go, and tells its size.
+fn last_size(a: EnvSet) -> usize {
+    size(&a)
+}
+
+/// The sizes of two sets, each of which is let go in a thread.
+fn sizes_apart(rt: &impl Threads, a: EnvSet, b: EnvSet) -> (usize, usize) {
+    thread::join(rt, move || last_size(a), move || last_size(b))
 }
 
 #[test]
-fn entries_are_narrowed_and_freed(rt: HostRuntime) -> Result<(), Fail> {
+fn sharing_crosses_threads(rt: HostRuntime) -> Result<(), Fail> {
     let alloc = rt.alloc();
-    assert!(rt; Entry::all(alloc).pairs().is_empty());
-    let [two, without_y, without_x] = entry_sizes(alloc)?;
-    assert!(rt; two == 2 && without_y == 1 && without_x == 1);
+    let one = made(alloc, "x!1,2")?;
+    let (first, second) = sizes_apart(&rt, copied(alloc, &one)?, copied(alloc, &one)?);
+    assert!(rt; first == 1 && second == 1 && last_size(one) == 1);
     Ok(())
 }
 
@@ -276,23 +274,28 @@ fn width(row: &StateRow) -> usize {
     row.as_slice().len()
 }
 
-/// The width of a row of no entry and one, and the sizes of its sets.
-fn sizes_of_a_row(alloc: Global) -> Result<[usize; 3], Fail> {
+/// The widths of a row in two threads that share it.
+fn widths_in_threads(rt: &impl Threads, row: &StateRow) -> (usize, usize) {
+    thread::join(rt, || width(row), || width(row))
+}
+
+/// The widths of a row of no entry and one, and the sizes of its sets.
+fn sizes_of_a_row(rt: &impl Threads, alloc: Global) -> Result<[usize; 4], Fail> {
     let mut sets = Vec::new(alloc);
     sets.push(EnvSet::none(alloc))?;
     sets.push(everything(alloc)?)?;
     let row = StateRow::of(alloc, sets)?;
-    let width = width(&row);
+    let (width, again) = widths_in_threads(rt, &row);
     let mut rows = Vec::new(alloc);
     rows.push(row.copy()?)?;
     let states = StateSets::new(rows);
     let (first, second) = sizes_at(&states);
-    Ok([width, first, second])
+    Ok([width, again, first, second])
 }
 
 #[test]
 fn sets_stand_at_their_places(rt: HostRuntime) -> Result<(), Fail> {
-    let [width, first, second] = sizes_of_a_row(rt.alloc())?;
-    assert!(rt; width == 2 && first == 0 && second == 1);
+    let [width, again, first, second] = sizes_of_a_row(&rt, rt.alloc())?;
+    assert!(rt; width == 2 && again == 2 && first == 0 && second == 1);
     Ok(())
 }

@@ -13,14 +13,15 @@ use std::alloc::Global;
 use std::cmp::Ordering;
 use std::marker::Model;
 
-/// A list of values. It knows whether it is in order, each value once; then look-ups are logarithmic.
+/// A list of values that one call works on. It knows whether it is in order, each value once; then look-ups are
+/// logarithmic.
 #[derive(Drop)]
-pub struct Values {
+pub struct ValueList {
     items: Vec<Value>,
     rising: bool,
 }
 
-impl Model for Values {
+impl Model for ValueList {
     ghost use Rattle.std.specs.Coded.{codes};
     ghost use Rattle.c_terms.specs.contracts.tree.Tree as tree;
     ghost use Rattle.std.specs.Prelude.{◌≡◌, List, true};
@@ -37,20 +38,20 @@ impl Model for Values {
     ghost invariant = { λ a. a.rising ≡ true → Rise a.items.items };
 }
 
-impl Values {
+impl ValueList {
     /// The values of a `Vec`. Linear, and takes no memory.
-    pub fn of(items: Vec<Value>) -> Values
+    pub fn of(items: Vec<Value>) -> ValueList
         ensures items { result ≡ items.items }
     {
         let rising = is_rising(&items);
-        Values { items, rising }
+        ValueList { items, rising }
     }
 
     /// The list as a `Vec`. Takes no memory.
     pub fn into_vec(self) -> Vec<Value>
         ensures items { result.items ≡ self }
     {
-        let Values { items, rising: _ } = self;
+        let ValueList { items, rising: _ } = self;
         items
     }
 
@@ -59,27 +60,6 @@ impl Values {
         ensures items { result.now ≡ self.now }
     {
         self.items.as_slice()
-    }
-
-    /// Whether it is known that the values are in order, each once. Takes no memory.
-    pub fn rises(&self) -> bool
-        ensures rise { result ≡ true → Rise self.now }
-    {
-        self.rising
-    }
-
-    /// An equal list, ids included, which knows its order too. Linear in the values, whose trees are shared.
-    pub fn copy(&self, alloc: Global) -> Result<Values, NoMemory>
-        ensures same { IfOk result (λ r. r ≡ self.now) }
-    {
-        let mut items = Vec::with_capacity(alloc, self.items.len())?;
-        for v in &self.items {
-            items.push(v.copy(alloc)?)?;
-        }
-        Ok(Values {
-            items,
-            rising: self.rising,
-        })
     }
 
     /// Whether a value of the list is the same as this one. Logarithmic where the list is in order, and else linear.
@@ -92,23 +72,10 @@ impl Values {
         }
         has(&self.items, v)
     }
-
-    /// The values of both lists, in order, each once. Linear where both lists are in order, and else n log n.
-    pub fn joined(&self, alloc: Global, more: &Values) -> Result<Values, NoMemory>
-        ensures meaning { IfOk result (λ r. (z : Datum) → list_any (λ v. same v z) r ≡ (list_any
-            (λ v. same v z) self.now || list_any (λ v. same v z) more.now)) }
-        ensures rise { IfOk result (λ r. Rise r) }
-    {
-        let all = Values::of(merged(alloc, &self.items, &more.items)?);
-        if all.rising {
-            return Ok(all);
-        }
-        distinct(alloc, all.into_vec())
-    }
 }
 
 /// The values in order, each once. For n values it takes n log n steps.
-pub fn distinct(alloc: Global, values: Vec<Value>) -> Result<Values, NoMemory>
+pub fn distinct(alloc: Global, values: Vec<Value>) -> Result<ValueList, NoMemory>
     ensures meaning { IfOk result (λ r. (z : Datum) → list_any (λ v. same v z) r ≡ list_any
         (λ v. same v z) values.items) }
     ensures rise { IfOk result (λ r. Rise r) }
@@ -116,7 +83,7 @@ pub fn distinct(alloc: Global, values: Vec<Value>) -> Result<Values, NoMemory>
     let mut values = values;
     values.sort_unstable_by(|v, w| value_order(v, w));
     let kept = without_repeats(alloc, values)?;
-    Ok(Values::of(kept))
+    Ok(ValueList::of(kept))
 }
 
 /// The values of a sorted list, each once.
@@ -131,31 +98,6 @@ fn without_repeats(alloc: Global, values: Vec<Value>) -> Result<Vec<Value>, NoMe
         put_new(&mut kept, v)?;
     }
     Ok(kept)
-}
-
-/// The values of both lists, the lesser head first.
-fn merged(alloc: Global, vs: &[Value], ws: &[Value]) -> Result<Vec<Value>, NoMemory>
-    ensures { IfOk result (λ r. (z : Datum) → list_any (λ v. same v z) r.items ≡ (list_any
-        (λ v. same v z) vs.now || list_any (λ v. same v z) ws.now)) }
-{
-    let mut items = Vec::new(alloc);
-    let (mut i, mut j) = (0, 0);
-    while i < vs.len() && j < ws.len() {
-        if value_order(&vs[i], &ws[j]).is_le() {
-            put_new(&mut items, vs[i].copy(alloc)?)?;
-            i += 1;
-        } else {
-            put_new(&mut items, ws[j].copy(alloc)?)?;
-            j += 1;
-        }
-    }
-    for v in &vs[i..] {
-        put_new(&mut items, v.copy(alloc)?)?;
-    }
-    for w in &ws[j..] {
-        put_new(&mut items, w.copy(alloc)?)?;
-    }
-    Ok(items)
 }
 
 /// Adds a value, unless it is the last.
@@ -188,7 +130,7 @@ fn is_last(kept: &[Value], v: &Value) -> bool
 }
 
 /// Whether the list has a value that is the same.
-fn has(items: &[Value], v: &Value) -> bool
+pub fn has(items: &[Value], v: &Value) -> bool
     ensures { result ≡ list_any (λ w. same w v.now) items.now }
 {
     for w in items {
@@ -200,7 +142,7 @@ fn has(items: &[Value], v: &Value) -> bool
 }
 
 /// The same of a list in order.
-fn has_in_order(items: &[Value], v: &Value) -> bool
+pub fn has_in_order(items: &[Value], v: &Value) -> bool
     requires { Rise items.now }
     ensures { result ≡ list_any (λ w. same w v.now) items.now }
 {
@@ -226,7 +168,7 @@ pub fn place_in_order(items: &[Value], v: &Value) -> Option<usize>
 }
 
 /// Whether each value is before the next.
-fn is_rising(items: &[Value]) -> bool
+pub fn is_rising(items: &[Value]) -> bool
     ensures { result ≡ true → Rise items.now }
 {
     for i in 1..items.len() {

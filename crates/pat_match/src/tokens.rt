@@ -40,7 +40,8 @@ fn not_at(alloc: Global, var: &Var, id: u64) -> Result<EnvSet, NoMemory>
 {
     let mut places = Vec::new(alloc);
     places.push(Value::Place(id))?;
-    EnvSet::one(alloc, var, Bound::Not(Values::of(places)))
+    let values = Values::of(alloc, places)?;
+    EnvSet::one(alloc, var, Bound::Not(values))
 }
 
 /// The environments of the set in which none of the variables is this place.

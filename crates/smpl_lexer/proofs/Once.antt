@@ -59,7 +59,8 @@ order a b = grind arith
 
 -- ---- one piece
 
-first_once : (j k : Kind) (xs ys A B : List ℕ) → xs ++ A ≡ ys ++ B → IsFirst j xs A → IsFirst k ys B
+-- a text begins with one piece
+pub first_once : (j k : Kind) (xs ys A B : List ℕ) → xs ++ A ≡ ys ++ B → IsFirst j xs A → IsFirst k ys B
     → (j ≡ k) × ((xs ≡ ys) × (A ≡ B))
 first_once j k xs ys A B e one other = elim (order (length xs) (length ys)) [
   | inl less ↦ absurd (no_longer j k xs ys A B e less one other)
@@ -72,6 +73,10 @@ first_once j k xs ys A B e one other = elim (order (length xs) (length ys)) [
     | inr greater ↦ absurd (no_longer k j ys xs B A (sym e) greater other one)
   ]
 ]
+
+-- no piece is empty
+pub none_empty : (k : Kind) (A : List ℕ) → IsFirst k [] A → ⊥
+none_empty k A one = let none : None ≡ Some k = one.of_kind in absurd (cc)
 
 by_once : (n : ℕ) (j k : LineKind) (xs ys A B : List ℕ) → xs ++ A ≡ ys ++ B → IsFirstBy n j xs A → IsFirstBy n k ys B
     → (j ≡ k) × ((xs ≡ ys) × (A ≡ B))
@@ -89,7 +94,7 @@ piece_once signs j k xs ys A B e one other = by_once (sign_at signs (ys ++ B)) j
 
 not_empty : (n : ℕ) (k : LineKind) (xs A : List ℕ) → IsFirstBy n k xs A → [] ≡ xs ++ A → ⊥
 not_empty n k (x ∷ xs) A one e = absurd (cc)
-not_empty zero (Plain k) [] A one e = let none : None ≡ Some k = one.of_kind in absurd (cc)
+not_empty zero (Plain k) [] A one e = none_empty k A one
 not_empty zero Dots [] A one e = one
 not_empty zero Sign [] A one e = one
 not_empty (suc n) k [] A one e = absurd (omega (arith, one.1))

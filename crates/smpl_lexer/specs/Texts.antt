@@ -1,5 +1,5 @@
 -- A patch by its rules, and the first fault of its text.
-use Rattle.std.specs.Prelude.{ℕ, ◌≡◌, ◌<◌, ◌≤◌, ◌⊎◌, List, [], ◌∷◌, ◌++◌, drop, length, Option, Some, None}
+use Rattle.std.specs.Prelude.{ℕ, ◌≡◌, ◌<◌, ◌≤◌, ◌⊎◌, List, [], ◌∷◌, ◌++◌, drop, length, All, Option, Some, None}
 use Rattle.smpl_patch.specs.declared.fault.PatchFault.{PatchFault}
 use Rattle.smpl_patch.specs.declared.fault.PatchFault.TheVariants as fault
 use Rattle.smpl_patch.specs.Faults.{first_of}
@@ -122,6 +122,16 @@ GoesOn r = (end : ℕ) × (header_stop r.header end ≡ None)
 abbrev pub AllGoOn : List RuleText → Type 0
 AllGoOn [] = Unit {0}
 AllGoOn (r ∷ rs) = GoesOn r × AllGoOn rs
+
+-- A rule has at most as many lines, and each of them at most as many bytes, as a patch may have bytes.
+pub record IsSmallRule (r : RuleText) : Type 0 where
+  pub lines : length r.body ≤ most_bytes
+  pub texts : All (λ (l : BodyLine). length l.text ≤ most_bytes) r.body
+
+-- A text has at most as many rules, each of which is small.
+pub record IsSmall (text : PatchText) : Type 0 where
+  pub rules : length text.rules ≤ most_bytes
+  pub each : All IsSmallRule text.rules
 
 -- the fault of a phase was answered, or memory was refused
 abbrev pub OrNoMemory : (PatchFault → Type 0) → PatchFault → Type 0

@@ -1,10 +1,21 @@
-//! Cuts semantic patches into rules, lines and tokens.
+//! Cuts semantic patches into rules, lines and tokens, or finds the first fault of their text.
+//!
+//! - [`lex_patch`] answers a [`PatchText`]: the names of `virtual` lines, and the rules, each by its header, its
+//!   declarations and the lines of its body ([`RuleText`], [`BodyLine`]). A [`PatchToken`] has its place.
+//! - [`is_name`], [`is_word`], [`is_sign`], [`is_at`], [`is_rule_name`] and [`is_mode`] say what a token is.
+//! - [`patch_is_read_once`] is a law: a patch has one text or one first fault.
+//!
+//! The lines `@r@`, `expression x;`, `@@`, `- f(x);` are one rule: its header has the tokens `@`, `r`, `@`, its
+//! declarations have `expression`, `x`, `;`, and its body has one line, with the sign `-` and five tokens.
+//!
+//! Nothing recurses, and all is linear in the patch. What conditions and declarations say is for smpl_meta, what the
+//! lines of a body spell is for the crates above it.
 #![tactic(auto)]
 
 ghost use Rattle.std.specs.Prelude.{◌≡◌, List, ℕ, IfOk, IfErr};
 ghost use Rattle.smpl_patch.specs.declared.fault.PatchFault.{PatchFault as Fault};
 ghost use Rattle.smpl_lexer.specs.declared.text.PatchText.{PatchText as Whole};
-ghost use Rattle.smpl_lexer.specs.Texts.{IsTextOf, IsTextFault, OrNoMemory, AllGoOn};
+ghost use Rattle.smpl_lexer.specs.Texts.{IsTextOf, IsTextFault, OrNoMemory, AllGoOn, IsSmall};
 
 mod cut;
 mod gather;
@@ -33,9 +44,18 @@ pub use token::{PatchToken, is_at, is_name, is_sign, is_word};
 /// The most bytes that a patch may have.
 const MOST_BYTES: usize = 1_048_576;
 
-/// Reads a patch into its virtual names and its rules, or finds the first fault of its text. Linear.
+/// Reads a patch into its virtual names and its rules, or finds the first fault of its text: the one at the least place,
+/// and there the one of the least number. Linear in the patch.
+///
+/// - `PatchTooLong`: it has more than 1,048,576 bytes, and nothing else is looked for.
+/// - `BadToken`: a byte or a literal that is no token, a `#` line, a comment over lines, or `@` in a plus line.
+/// - `BadHeader`: the token, or the end of the line, at which a header or a `virtual` line can't go on. Before the first
+///   rule also any other text. Before a rule's line `@@` also another line that begins with `@`, and the text's end.
+/// - `ScriptRule`: the `@` of a header that begins `@script`, `@initialize` or `@finalize`.
+/// - `NoMemory`: memory was refused, and nothing is kept of the patch.
 pub fn lex_patch(alloc: Global, bytes: &[u8]) -> Result<PatchText, PatchFault>
     ensures text { IfOk result (λ text. IsTextOf bytes.now text) }
+    ensures small { IfOk result (λ text. IsSmall text) }
     ensures fault { IfErr result (λ fault. OrNoMemory (IsTextFault bytes.now) fault) }
 {
     if bytes.len() > MOST_BYTES {
@@ -49,7 +69,8 @@ pub fn lex_patch(alloc: Global, bytes: &[u8]) -> Result<PatchText, PatchFault>
     }
 }
 
-/// A patch has one text or one first fault, and not both; each header of a text goes on to its end. Does nothing.
+/// A patch has one text or one first fault, and not both; each header of a text goes on to its end; a text has no more
+/// rules, and a rule no more lines, than a patch may have bytes. Does nothing.
 pub fn patch_is_read_once()
     ensures text { (bytes : List ℕ) (one other : Whole) → IsTextOf bytes one → IsTextOf bytes other →
         one ≡ other }
@@ -58,4 +79,5 @@ pub fn patch_is_read_once()
     ensures apart { (bytes : List ℕ) (text : Whole) (fault : Fault) → IsTextOf bytes text →
         IsTextFault bytes fault → ⊥ }
     ensures headers { (bytes : List ℕ) (text : Whole) → IsTextOf bytes text → AllGoOn text.rules }
+    ensures small { (bytes : List ℕ) (text : Whole) → IsTextOf bytes text → IsSmall text }
 {}

@@ -67,10 +67,12 @@ fn each_fault_stands_at_its_place(rt: HostRuntime) {
         ("@@\n@@\nf();\n@@\n@@\ng();", (0, 0)),
         ("f();\n", (3, 0)),
         ("virtual a,\n", (3, 10)),
+        ("@r depends on", (3, 13)),
         ("@r depends on\n@@\n", (3, 13)),
         ("@r@\nexpression x;\n", (3, 18)),
         ("@@\n@r@\nf();\n", (3, 3)),
-        ("@script:python@\n@@\n", (15, 0)),
+        ("@script:python@\n", (15, 0)),
+        ("@@\n@@\n$\n", (2, 6)),
         ("@@\n@@\n f(\"a);\n", (2, 9)),
         ("@@\n@@\n+ f@p();\n", (2, 9)),
         ("@@\n@@\n/* a\n*/\n", (2, 6)),
@@ -78,5 +80,16 @@ fn each_fault_stands_at_its_place(rt: HostRuntime) {
         ("@@\n@@\n'\n@script:ocaml@\n", (2, 6)),
     ] {
         assert_eq!(rt; fault_of(rt.alloc(), patch), wanted, "{patch}");
+    }
+}
+
+#[test]
+fn a_patch_may_have_a_mebibyte(rt: HostRuntime) -> Result<(), Fail> {
+    let most = vec![in rt.alloc(); b' '; 1_048_576]?;
+    assert!(rt; lex_patch(rt.alloc(), most.as_slice()).is_ok());
+    let more = vec![in rt.alloc(); b' '; 1_048_577]?;
+    match lex_patch(rt.alloc(), more.as_slice()) {
+        Err(PatchFault::PatchTooLong) => Ok(()),
+        _ => panic!(rt; "one byte more is no fault"),
     }
 }

@@ -37,21 +37,27 @@ pub stepped : (p : HeaderPlace) (t : PatchToken) (ts : List PatchToken) (end : �
     → Step (header_step p t) ts end
 stepped p t ts end e = step_of (header_step p t) t.at ts end e
 
-counted_by : (b : Bool) (next q : HeaderPlace) → (if b then None else Some next) ≡ Some q → q ≡ next
-counted_by true next q e = absurd (cc)
-counted_by false next q e = cc
+not_zero : (level : ℕ) → (level == 0) ≡ false → level ≡ 0 → ⊥
+not_zero level e z = let yes : (level == 0) ≡ true = eq-eqb level 0 z in absurd (cc)
 
-counted_is : (left : ℕ) (next q : HeaderPlace) → counted left next ≡ Some q → q ≡ next
-counted_is left next q e = counted_by (left == 0) next q e
+-- a counted token stands only where one may come
+counted_by : (left : ℕ) (next q : HeaderPlace) (b : Bool) → (left == 0) ≡ b → (if b then None else Some next) ≡ Some q
+    → (q ≡ next) × (left ≡ 0 → ⊥)
+counted_by left next q true is e = absurd (cc)
+counted_by left next q false is e = (cc, not_zero left is)
 
-data Operand (level left : ℕ) (t : PatchToken) (q : HeaderPlace) : Type 0 where
-  bang : is_sign (codes "!") t ≡ true → q ≡ h.Operand level (less left) → Operand level left t q
-  opens : is_sign (codes "(") t ≡ true → q ≡ h.Operand (level + 1) (less left) → Operand level left t q
+counted_is : (left : ℕ) (next q : HeaderPlace) → counted left next ≡ Some q → (q ≡ next) × (left ≡ 0 → ⊥)
+counted_is left next q e = counted_by left next q (left == 0) refl e
+
+pub data Operand (level left : ℕ) (t : PatchToken) (q : HeaderPlace) : Type 0 where
+  bang : is_sign (codes "!") t ≡ true → (q ≡ h.Operand level (less left)) × (left ≡ 0 → ⊥) → Operand level left t q
+  opens : is_sign (codes "(") t ≡ true → (q ≡ h.Operand (level + 1) (less left)) × (left ≡ 0 → ⊥) → Operand level left t q
   word : (is_word (codes "ever") t || is_word (codes "never") t) ≡ true → q ≡ h.Word level left → Operand level left t q
-  named : is_rule_name t ≡ true → q ≡ h.Operated level (less left) → Operand level left t q
+  named : is_rule_name t ≡ true → (q ≡ h.Operated level (less left)) × (left ≡ 0 → ⊥) → Operand level left t q
 
-name_by : (level left : ℕ) (t : PatchToken) (q : HeaderPlace) (b : Bool) → is_rule_name t ≡ b
-    → (if b then counted left (h.Operated level (less left)) else None) ≡ Some q → (is_rule_name t ≡ true) × (q ≡ h.Operated level (less left))
+pub name_by : (level left : ℕ) (t : PatchToken) (q : HeaderPlace) (b : Bool) → is_rule_name t ≡ b
+    → (if b then counted left (h.Operated level (less left)) else None) ≡ Some q
+    → (is_rule_name t ≡ true) × ((q ≡ h.Operated level (less left)) × (left ≡ 0 → ⊥))
 name_by level left t q true is e = (is, counted_is left (h.Operated level (less left)) q e)
 name_by level left t q false is e = absurd (cc)
 
@@ -72,14 +78,14 @@ bang_by : (level left : ℕ) (t : PatchToken) (q : HeaderPlace) (b : Bool) → i
 bang_by level left t q true is e = bang is (counted_is left (h.Operand level (less left)) q e)
 bang_by level left t q false is e = open_by level left t q (is_sign (codes "(") t) refl e
 
-operand_is : (level left : ℕ) (t : PatchToken) (q : HeaderPlace) → operand level left t ≡ Some q
+pub operand_is : (level left : ℕ) (t : PatchToken) (q : HeaderPlace) → operand level left t ≡ Some q
     → Operand level left t q
 operand_is level left t q e = bang_by level left t q (is_sign (codes "!") t) refl e
 
-data Operated (level left : ℕ) (t : PatchToken) (q : HeaderPlace) : Type 0 where
+pub data Operated (level left : ℕ) (t : PatchToken) (q : HeaderPlace) : Type 0 where
   ors : is_sign (codes "||") t ≡ true → q ≡ h.Operand level left → Operated level left t q
   ands : is_sign (codes "&&") t ≡ true → q ≡ h.Operand level left → Operated level left t q
-  ends : level ≡ 0 → (is_mode t || is_at t) ≡ true → Operated level left t q
+  ends : level ≡ 0 → (is_mode t || is_at t) ≡ true → after_depends t ≡ Some q → Operated level left t q
   closes : (level ≡ 0 → ⊥) → is_sign (codes ")") t ≡ true → q ≡ h.Operated (level - 1) left → Operated level left t q
 
 ends_by : (t : PatchToken) (q : HeaderPlace) (a b : Bool)
@@ -93,12 +99,9 @@ close_by : (level left : ℕ) (t : PatchToken) (q : HeaderPlace) (b : Bool) → 
 close_by level left t q true is some e = closes some is (cc)
 close_by level left t q false is some e = absurd (cc)
 
-not_zero : (level : ℕ) → (level == 0) ≡ false → level ≡ 0 → ⊥
-not_zero level e z = let yes : (level == 0) ≡ true = eq-eqb level 0 z in absurd (cc)
-
 level_by : (level left : ℕ) (t : PatchToken) (q : HeaderPlace) (b : Bool) → (level == 0) ≡ b
     → (if b then after_depends t else (if is_sign (codes ")") t then Some (h.Operated (level - 1) left) else None)) ≡ Some q → Operated level left t q
-level_by level left t q true is e = ends (eqb-true level 0 is) (ends_by t q (is_mode t) (is_at t) e)
+level_by level left t q true is e = ends (eqb-true level 0 is) (ends_by t q (is_mode t) (is_at t) e) e
 level_by level left t q false is e = close_by level left t q (is_sign (codes ")") t) refl (not_zero level is) e
 
 sides_by : (level left : ℕ) (t : PatchToken) (q : HeaderPlace) (a b : Bool) → is_sign (codes "||") t ≡ a
@@ -109,22 +112,22 @@ sides_by level left t q true b is also e = ors is (cc)
 sides_by level left t q false true is also e = ands also (cc)
 sides_by level left t q false false is also e = level_by level left t q (level == 0) refl e
 
-operated_is : (level left : ℕ) (t : PatchToken) (q : HeaderPlace) → operated level left t ≡ Some q
+pub operated_is : (level left : ℕ) (t : PatchToken) (q : HeaderPlace) → operated level left t ≡ Some q
     → Operated level left t q
 operated_is level left t q e = sides_by level left t q (is_sign (codes "||") t) (is_sign (codes "&&") t) refl refl e
 
 -- ---- a condition up to some place
 
-goes_on : (t : PatchToken) (ts : List PatchToken) → (is_mode t || is_at t) ≡ false
+pub goes_on : (t : PatchToken) (ts : List PatchToken) → (is_mode t || is_at t) ≡ false
     → condition (t ∷ ts) ≡ t ∷ condition ts
 goes_on t ts e = ap (λ (b : Bool). if b then [] else t ∷ condition ts) e
 
-stops : (t : PatchToken) (ts : List PatchToken) → (is_mode t || is_at t) ≡ true → condition (t ∷ ts) ≡ []
+pub stops : (t : PatchToken) (ts : List PatchToken) → (is_mode t || is_at t) ≡ true → condition (t ∷ ts) ≡ []
 stops t ts e = ap (λ (b : Bool). if b then [] else t ∷ condition ts) e
 
-record EverOrNever (t : PatchToken) : Type 0 where
-  which : (mark_of t ≡ mark.Ever) ⊎ (mark_of t ≡ mark.Never)
-  goes : (is_mode t || is_at t) ≡ false
+pub record EverOrNever (t : PatchToken) : Type 0 where
+  pub which : (mark_of t ≡ mark.Ever) ⊎ (mark_of t ≡ mark.Never)
+  pub goes : (is_mode t || is_at t) ≡ false
 
 ever_by : (t : PatchToken) (a b : Bool) → is_word (codes "ever") t ≡ a → is_word (codes "never") t ≡ b
     → (a || b) ≡ true → EverOrNever t
@@ -132,10 +135,10 @@ ever_by t true b is also e = let g = is_ever t is in record { which = inl g.mark
 ever_by t false true is also e = let g = is_never t also in record { which = inr g.mark; goes = g.goes }
 ever_by t false false is also e = absurd (cc)
 
-ever_or_never : (t : PatchToken) → (is_word (codes "ever") t || is_word (codes "never") t) ≡ true → EverOrNever t
+pub ever_or_never : (t : PatchToken) → (is_word (codes "ever") t || is_word (codes "never") t) ≡ true → EverOrNever t
 ever_or_never t e = ever_by t (is_word (codes "ever") t) (is_word (codes "never") t) refl refl e
 
-is_name : (t : PatchToken) → is_rule_name t ≡ true → Goes t mark.Name
+pub is_name : (t : PatchToken) → is_rule_name t ≡ true → Goes t mark.Name
 is_name t e = name_goes t (plain t e) e
 
 module _ (earlier : List RuleHead) where
@@ -205,11 +208,11 @@ module _ (earlier : List RuleHead) where
 
   from_hole : {all xs : List PatchToken} {level left : ℕ} (t : PatchToken) (ts : List PatchToken) (q : HeaderPlace)
       → Around all level xs → Fill xs (condition (t ∷ ts)) → Operand level left t q → Moves all ts q
-  from_hole {xs = xs} {level = level} {left = left} t ts q around f (bang is e) =
+  from_hole {xs = xs} {level = level} {left = left} t ts q around f (bang is (e, some)) =
       let g = is_not t is in
       let f' : Fill xs (t ∷ condition ts) = subst (λ (l : List PatchToken). Fill xs l) (goes_on t ts g.goes) f in
       to ts e (hole around (λ d zs p. f' (dep.Not d) zs (negated t g.mark p)))
-  from_hole {xs = xs} {level = level} {left = left} t ts q around f (opens is e) =
+  from_hole {xs = xs} {level = level} {left = left} t ts q around f (opens is (e, some)) =
       let g = is_open t is in
       let f' : Fill xs (t ∷ condition ts) = subst (λ (l : List PatchToken). Fill xs l) (goes_on t ts g.goes) f in
       to ts e (hole (inner t refl g.mark f' around) (fresh (condition ts)))
@@ -217,7 +220,7 @@ module _ (earlier : List RuleHead) where
       let w = ever_or_never t is in
       let f' : Fill xs (t ∷ condition ts) = subst (λ (l : List PatchToken). Fill xs l) (goes_on t ts w.goes) f in
       to ts e (worded t w.which around f')
-  from_hole {xs = xs} {level = level} {left = left} t ts q around f (named is e) =
+  from_hole {xs = xs} {level = level} {left = left} t ts q around f (named is (e, some)) =
       let g = is_name t is in
       let f' : Fill xs (t ∷ condition ts) = subst (λ (l : List PatchToken). Fill xs l) (goes_on t ts g.goes) f in
       to ts e (full around (f' _ (condition ts) (name t g.mark)))
@@ -229,11 +232,11 @@ module _ (earlier : List RuleHead) where
 
   from_word : {all xs : List PatchToken} {level : ℕ} (left : ℕ) (w t : PatchToken) (ts : List PatchToken) (q : HeaderPlace)
       → ((mark_of w ≡ mark.Ever) ⊎ (mark_of w ≡ mark.Never))
-      → Around all level xs → Fill xs (w ∷ condition (t ∷ ts)) → (is_rule_name t ≡ true) × (q ≡ h.Operated level (less left)) → Moves all ts q
+      → Around all level xs → Fill xs (w ∷ condition (t ∷ ts)) → (is_rule_name t ≡ true) × ((q ≡ h.Operated level (less left)) × (left ≡ 0 → ⊥)) → Moves all ts q
   from_word {xs = xs} left w t ts q which around f n =
       let g = is_name t n.0 in
       let f' : Fill xs (w ∷ t ∷ condition ts) = subst (λ (l : List PatchToken). Fill xs (w ∷ l)) (goes_on t ts g.goes) f in
-      to ts n.1 (full around (named_behind w t which g.mark f'))
+      to ts n.1.0 (full around (named_behind w t which g.mark f'))
 
   from_full : {all xs : List PatchToken} {level left : ℕ} (t : PatchToken) (ts : List PatchToken) (q : HeaderPlace)
       → Around all level xs → Done xs (condition (t ∷ ts)) → Operated level left t q → Moves all ts q
@@ -243,7 +246,7 @@ module _ (earlier : List RuleHead) where
   from_full {xs = xs} t ts q around done (ands is e) =
       let g = is_and t is in
       to ts e (hole around (anded t g.mark (subst (λ (l : List PatchToken). Done xs l) (goes_on t ts g.goes) done)))
-  from_full {xs = xs} t ts q around done (ends z is) = inl (whole around z (subst (λ (l : List PatchToken). Done xs l) (stops t ts is) done))
+  from_full {xs = xs} t ts q around done (ends z is e) = inl (whole around z (subst (λ (l : List PatchToken). Done xs l) (stops t ts is) done))
   from_full {xs = xs} {left = left} t ts q around done (closes some is e) =
       let g = is_close t is in
       to ts e (closed_in left t g.mark around some (subst (λ (l : List PatchToken). Done xs l) (goes_on t ts g.goes) done))

@@ -9,6 +9,8 @@ pub mod Examples
 pub mod Marks
 pub mod Conditions
 pub mod HasCondition
+pub mod GoesOn
+pub mod Spelling
 pub mod HeadsOnce
 pub mod Placing
 pub mod IndexLemmas

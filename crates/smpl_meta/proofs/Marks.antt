@@ -11,7 +11,7 @@ use Rattle.smpl_meta.specs.declared.depends.Mark.{Mark}
 use Rattle.smpl_meta.specs.declared.depends.Mark.TheVariants as mark
 use Rattle.smpl_meta.specs.Heads.{mark_of}
 
-and_both : (a b : Bool) → (a && b) ≡ true → (a ≡ true) × (b ≡ true)
+pub and_both : (a b : Bool) → (a && b) ≡ true → (a ≡ true) × (b ≡ true)
 and_both true true e = (refl, refl)
 and_both true false e = absurd (cc)
 and_both false b e = absurd (cc)
@@ -49,7 +49,7 @@ name_kind (Meta m) e = absurd (cc)
 name_kind Dots e = absurd (cc)
 name_kind Pat e = absurd (cc)
 
-stray_kind : (k : TokenKind) → is_stray_kind k ≡ true → k ≡ Stray
+pub stray_kind : (k : TokenKind) → is_stray_kind k ≡ true → k ≡ Stray
 stray_kind Stray e = refl
 stray_kind Punct e = absurd (cc)
 stray_kind Name e = absurd (cc)
@@ -69,11 +69,11 @@ pub record Goes (t : PatchToken) (m : Mark) : Type 0 where
 text_of : (text : List ℕ) (t : PatchToken) → bytes_eq t.token.text text ≡ true → t.token.text ≡ text
 text_of text t e = (bytes_eq-Decides t.token.text text).0 e
 
-sign : (text : List ℕ) (t : PatchToken) → is_sign text t ≡ true → (t.token.kind ≡ Punct) × (t.token.text ≡ text)
+pub sign : (text : List ℕ) (t : PatchToken) → is_sign text t ≡ true → (t.token.kind ≡ Punct) × (t.token.text ≡ text)
 sign text t e = let b = and_both (is_mark_kind t.token.kind) (bytes_eq t.token.text text) e in
     (punct_kind t.token.kind b.0, text_of text t b.1)
 
-word : (text : List ℕ) (t : PatchToken) → is_word text t ≡ true → (t.token.kind ≡ Name) × (t.token.text ≡ text)
+pub word : (text : List ℕ) (t : PatchToken) → is_word text t ≡ true → (t.token.kind ≡ Name) × (t.token.text ≡ text)
 word text t e = let b = and_both (is_name_kind t.token.kind) (bytes_eq t.token.text text) e in
     (name_kind t.token.kind b.0, text_of text t b.1)
 
@@ -127,10 +127,10 @@ mark_by a b c d e f g n ea eb ec ed ee ef eg en = rw (ea, eb, ec, ed, ee, ef, eg
 none_by : (a b c : Bool) → a ≡ false → b ≡ false → c ≡ false → ((a || b) || c) ≡ false
 none_by a b c ea eb ec = rw (ea, eb, ec) refl
 
-no_sign : (text : List ℕ) (t : PatchToken) → t.token.kind ≡ Name → is_sign text t ≡ false
+pub no_sign : (text : List ℕ) (t : PatchToken) → t.token.kind ≡ Name → is_sign text t ≡ false
 no_sign text t e = ap (λ (k : TokenKind). is_mark_kind k && bytes_eq t.token.text text) e
 
-no_at : (t : PatchToken) → t.token.kind ≡ Name → is_at t ≡ false
+pub no_at : (t : PatchToken) → t.token.kind ≡ Name → is_at t ≡ false
 no_at t e = ap (λ (k : TokenKind). is_stray_kind k && bytes_eq t.token.text (codes "@")) e
 
 -- a rule's name is a name in a condition

@@ -3,6 +3,7 @@ pub mod Forms
 pub mod Known
 pub mod Decls
 pub mod Heads
+pub mod Spelled
 pub mod Before
 -- What the crates above read bodies by.
 pub mod Patterns

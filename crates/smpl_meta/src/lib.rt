@@ -1,7 +1,19 @@
-//! Reads the headers and declarations of semantic patches.
+//! Reads the headers and the declarations of semantic patches, and numbers the tokens of their patterns.
+//!
+//! - [`read_headers`] answers the heads of all rules of a text, [`read_header`] that of one rule: its name, on what it
+//!   depends, its mode, and its variables ([`RuleHead`]). [`read_decls`] reads declarations alone.
+//! - [`Earlier`] is what stands before a rule: the names of `virtual` lines, and the heads of earlier rules, by names.
+//! - [`pattern_tokens`] answers the tokens of a body's patterns in order ([`Placed`]), [`made`] one of them.
+//! - [`headers_are_spelled`], [`headers_have_conditions`] and [`heads_are_read_once`] are laws.
+//!
+//! `@s depends on !(v && ever r)@`, `expression r.x;`, `identifier f != {g, h};`, with a `virtual v` and a rule `r` that
+//! declares `x`, is a rule with the name `s`, which depends on `Not(Both(Defined(v), Ever(0)))`, with the variable `x` of
+//! rule 0 and its own `f`, which may be neither `g` nor `h`.
+//!
+//! Nothing recurses. Names are found by look-ups in tables. What the lines of a body spell is for the crates above.
 #![tactic(auto)]
 
-ghost use Rattle.std.specs.Prelude.{◌≡◌, ◌<◌, ◌^◌, ℕ, List, [], Some, None, length, IfOk, IfErr};
+ghost use Rattle.std.specs.Prelude.{◌≡◌, ◌↔◌, ◌<◌, ◌^◌, ℕ, List, [], Some, None, length, IfOk, IfErr};
 ghost use Rattle.smpl_patch.specs.declared.fault.PatchFault.{PatchFault as Fault};
 ghost use Rattle.smpl_lexer.specs.declared.text.PatchText.{PatchText as Whole};
 ghost use Rattle.smpl_lexer.specs.declared.text.RuleText.{RuleText as Rule};
@@ -13,6 +25,7 @@ ghost use Rattle.smpl_patch.specs.Faults.{first_of};
 ghost use Rattle.smpl_lexer.specs.Texts.{AllGoOn, OrNoMemory};
 ghost use Rattle.smpl_meta.specs.Decls.{IsDecls, decl_faults};
 ghost use Rattle.smpl_meta.specs.Heads.{IsHead, IsHeadFault, IsHeadIn, IsHeadFaultIn, AreHeads, IsFirstHeadFault, DependsOn, depends_tokens};
+ghost use Rattle.smpl_meta.specs.Spelled.{IsHeader};
 ghost use Rattle.smpl_meta.specs.Shunting.{head_of};
 
 mod decls;
@@ -50,8 +63,14 @@ use sqlite_items::Items;
 use std::alloc::Global;
 pub use variables::VarTable;
 
-/// The variables that declarations declare, as variables of a rule, or their first fault. Linear in the tokens and their
-/// bytes.
+/// The variables that declarations declare, as variables of a rule, or their first fault: the one at the least place, and
+/// there the one of the least number. Linear in the tokens and their bytes.
+///
+/// - `BadMetavariable`: a declaration that is not of the form, at its first token, or a keyword for a name.
+/// - `TwiceNamed`: a name that an earlier item of the declarations has, unless both are symbols.
+/// - `UnknownRule`: the r of `r.x`, where no earlier rule is named r, or r has no variable x.
+/// - `KindDiffers`: the r of `r.x`, where x has another kind in r.
+/// - `NoMemory`: memory was refused, and nothing is kept.
 pub fn read_decls(
     alloc: Global,
     decls: &[PatchToken],
@@ -111,8 +130,13 @@ fn read_head(
     }
 }
 
-/// The head of a rule, or the first fault of its header and declarations. Linear in them and their bytes, and in the
-/// lines of the body, which may say the mode.
+/// The head of a rule, or the first fault of its header and declarations: the one at the least place, and there the one
+/// of the least number. Linear in them and their bytes, and in the lines of the body, which may say the mode.
+///
+/// - `TwiceNamed`: the rule's name, where an earlier rule or a `virtual` line has it.
+/// - `UnknownRule`: a name behind `depends on` that is no earlier rule and not virtual.
+/// - The faults of declarations, as [`read_decls`] says.
+/// - `NoMemory`: memory was refused, and nothing is kept.
 pub fn read_header(
     alloc: Global,
     text: &PatchText,
@@ -130,8 +154,8 @@ pub fn read_header(
     read_head(alloc, &rules[rule as usize], rule, earlier)
 }
 
-/// The heads of all rules of a text, or the first fault of their headers and declarations, rule by rule. Linear in the
-/// text.
+/// The heads of all rules of a text, or the first fault of the first rule that has one, as [`read_header`] says. Linear in
+/// the text.
 pub fn read_headers(alloc: Global, text: &PatchText) -> Result<Earlier, PatchFault>
     requires { length text.now.rules < 2 ^ 32 }
     ensures heads { IfOk result (λ e. AreHeads text.now [] text.now.rules e.heads) }
@@ -155,10 +179,17 @@ pub fn headers_have_conditions()
         DependsOn earlier ts one → DependsOn earlier ts other → one ≡ other }
 {}
 
-/// The rules of a text in which nothing is wrong have one list of heads, and a rule has a head or a fault. Does nothing.
+/// A header can go on to its end exactly where the grammar spells it. Does nothing.
+pub fn headers_are_spelled()
+    ensures { (earlier : List Head) (ts : List Word) (end : ℕ) →
+        (header_stop ts end ≡ None) ↔ IsHeader earlier ts }
+{}
+
+/// Rules whose headers go on to their ends have one list of heads, whatever stands before them, and a rule has a head or
+/// a fault. Does nothing.
 pub fn heads_are_read_once()
-    ensures once { (text : Whole) (one other : List Head) → AllGoOn text.rules →
-        AreHeads text [] text.rules one → AreHeads text [] text.rules other → one ≡ other }
+    ensures once { (text : Whole) (earlier : List Head) (rules : List Rule) (one other : List Head) →
+        AllGoOn rules → AreHeads text earlier rules one → AreHeads text earlier rules other → one ≡ other }
     ensures apart { (virtuals : List (List ℕ)) (earlier : List Head) (rule : ℕ) (r : Rule)
         (h : Head) (fault : Fault) →
         IsHead virtuals earlier rule r h → IsHeadFault virtuals earlier r fault → ⊥ }

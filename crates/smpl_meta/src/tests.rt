@@ -1,5 +1,5 @@
 // Each call once with ample memory, and patches of which the outcome is known.
-use crate::{Earlier, Placed, RuleHead, pattern_tokens, read_decls, read_headers};
+use crate::{Earlier, Placed, RuleHead, pattern_tokens, read_decls, read_header, read_headers};
 use c_terms::{MetaKind, TokenKind};
 use smpl_lexer::{PatchText, lex_patch};
 use smpl_patch::{Dep, Mode, PatchFault, VarDecl, VarKind, fault_number, fault_place};
@@ -12,6 +12,16 @@ fn heads_of(alloc: Global, patch: &str) -> Result<Earlier, PatchFault> {
         return Err(PatchFault::NoMemory);
     }
     read_headers(alloc, &text)
+}
+
+/// The head of the first rule, read by itself.
+fn first_head(alloc: Global, patch: &str) -> Result<RuleHead, PatchFault> {
+    let text = lex_patch(alloc, patch.as_bytes())?;
+    let earlier = Earlier::of(alloc, text.virtuals.as_slice())?;
+    if text.rules.is_empty() {
+        return Err(PatchFault::NoMemory);
+    }
+    read_header(alloc, &text, 0, &earlier)
 }
 
 /// The number and the place of the first fault, zeros where there is none.
@@ -100,20 +110,30 @@ fn heads_have_names_conditions_modes_and_variables(rt: HostRuntime) {
 }
 
 #[test]
+fn one_rule_has_its_head(rt: HostRuntime) {
+    match first_head(rt.alloc(), "@r@\nexpression x;\n@@\nf(x);\n") {
+        Ok(head) => assert!(rt; is_first(&head)),
+        Err(_) => panic!(rt; "a fault"),
+    }
+}
+
+#[test]
 fn each_fault_stands_at_its_place(rt: HostRuntime) {
     for (patch, wanted) in [
         ("@@\nsymbol x, x;\n@@\nf();", (0, 0)),
         ("@@\nexpression list;\n@@\nf();", (0, 0)),
         ("@@\nexpression x\n@@\nf();", (4, 3)),
+        ("@@\nexpression 1;\n@@\nf();\n", (4, 3)),
         ("@@\nparameter x;\n@@\nf();", (4, 3)),
         ("@@\nexpression if;\n@@\nf();", (4, 14)),
         ("@@\nsymbol x;\nexpression x;\n@@\nf();", (5, 24)),
+        ("@@\nexpression x, x;\n@@\nf(x);\n", (5, 17)),
         ("virtual r\n@r@\n@@\nf();", (5, 11)),
         ("@r depends on s@\n@@\nf();", (6, 14)),
-        ("@@\nexpression r.x;\n@@\nf();", (6, 14)),
+        ("@@\nexpression r.x;\n@@\nf(x);\n", (6, 14)),
         (
-            "@r@\nexpression x;\n@@\nf(x);\n@@\nconstant r.x;\n@@\nf();",
-            (7, 39),
+            "@r@\nidentifier x;\n@@\nf(x);\n@@\nexpression r.x;\n@@\ng(x);\n",
+            (7, 41),
         ),
         (
             "@r@\nsymbol x;\n@@\nf(x);\n@@\nsymbol r.x;\n@@\nf();",

@@ -3,3 +3,5 @@ pub mod Ordered
 pub mod Closing
 pub mod Ending
 pub mod Splitting
+pub mod PlusOnce
+pub mod Short

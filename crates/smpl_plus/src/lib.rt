@@ -1,15 +1,21 @@
 //! Anchors plus code: what stands at each token of a rule's patterns.
 //!
 //! - [`anchor`] answers the marks, positions and plus code of a rule's pattern tokens, in order, or the first fault: a
-//!   `*` line beside a `-` or `+` line, and before all others plus code that has no anchor.
+//!   `*` line beside a `-` or `+` line, and where there is none the first plus code that has no anchor.
+//! - [`plus_code_is_read_once`], [`tokens_keep_their_lines`] and [`outside_tokens_are_main`] are laws.
 //!
 //! A longest run of plus lines between which no line of a pattern stands is a block. It is anchored behind the last token
 //! before it, if that is a token of C or a metavariable outside `when` clauses, else before the first token after it, if
 //! that is one.
 #![tactic(auto)]
 
-ghost use Rattle.std.specs.Prelude.{◌≡◌, ◌<◌, ◌^◌, ◌&&◌, List, Some, length, slice_get, IfOk, IfErr, IfSome, IsTrue, ◌↔◌};
-ghost use Rattle.smpl_lexer.specs.Texts.{OrNoMemory};
+ghost use Rattle.std.specs.Prelude.{◌≡◌, ◌<◌, ◌&&◌, ℕ, List, map, Some, length, slice_get, IfOk, IfErr, IfSome};
+ghost use Rattle.smpl_lexer.specs.Texts.{OrNoMemory, IsSmall};
+ghost use Rattle.smpl_lexer.specs.declared.text.BodyLine.{BodyLine as Line};
+ghost use Rattle.smpl_patch.specs.declared.fault.PatchFault.{PatchFault as Fault};
+ghost use Rattle.smpl_patch.specs.declared.pattern.VarDecl.{VarDecl as Variable};
+ghost use Rattle.smpl_patch.specs.declared.pattern.PatToken.{PatToken as Anchored};
+ghost use Rattle.smpl_meta.specs.Patterns as patterns;
 ghost use Rattle.smpl_meta.specs.Heads as heads;
 ghost use Rattle.smpl_meta.specs.Patterns.{split};
 ghost use Rattle.smpl_meta.specs.declared.patterns.Placed.{Placed as Word};
@@ -21,6 +27,8 @@ ghost use Rattle.smpl_plus.specs.Anchors.{AreAnchored, IsShort};
 mod anchors;
 mod clauses;
 mod lines;
+#[cfg(test)]
+mod tests;
 
 use crate::anchors::{Anchoring, anchored};
 use crate::clauses::may_anchor;
@@ -93,22 +101,12 @@ fn anchor_body(
     }
 }
 
-/// Whether a body is as short as [`anchor`] asks. The bodies of patches that are read are.
-pub fn is_short(body: &[BodyLine]) -> bool
-    ensures { IsTrue result ↔ IsShort body.now }
-{
-    if body.len() >= 1 << 32 {
-        return false;
-    }
-    for l in body {
-        if l.text.as_bytes().len() >= 1 << 31 {
-            return false;
-        }
-    }
-    true
-}
-
-/// The marks, the positions and the plus code of a rule's pattern tokens, in order, or the first fault. Linear.
+/// The marks, the positions and the plus code of a rule's pattern tokens, in order, or the first fault. The text has no
+/// more rules, lines and bytes than a patch may have, as every text that was read. Linear in the rule.
+///
+/// - `StarWithEdit`: the rule has a `*` line and a `-` or `+` line. Nothing else is looked for then.
+/// - `PlusWithoutAnchor`: the first `+` of the first plus code that has no anchor.
+/// - `NoMemory`: memory was refused, and nothing is kept.
 pub fn anchor(
     alloc: Global,
     text: &PatchText,
@@ -116,7 +114,7 @@ pub fn anchor(
     head: &RuleHead,
 ) -> Result<Items<PatToken>, PatchFault>
     requires within { rule < length text.now.rules }
-    requires short { IfSome (slice_get text.now.rules rule) (λ r. IsShort r.body) }
+    requires small { IsSmall text.now }
     ensures tokens { IfOk result (λ tokens. IfSome (slice_get text.now.rules rule)
         (λ r. AreAnchored head.now.vars rule r.body tokens)) }
     ensures fault { IfErr result (λ fault. IfSome (slice_get text.now.rules rule) (λ r. OrNoMemory
@@ -126,6 +124,29 @@ pub fn anchor(
     let r = &rules[rule as usize];
     anchor_body(alloc, rule, head.vars.as_slice(), r.body.as_slice())
 }
+
+/// A rule's plus code is read in one way: one list says what stands at its tokens, or there is a first fault, and not
+/// both. Does nothing.
+pub fn plus_code_is_read_once()
+    ensures tokens { (vars : List Variable) (rule : ℕ) (body : List Line) (one other : List Anchored) →
+        AreAnchored vars rule body one → AreAnchored vars rule body other → one ≡ other }
+    ensures apart { (vars : List Variable) (rule : ℕ) (body : List Line) (tokens : List Anchored)
+        (fault : Fault) → AreAnchored vars rule body tokens →
+        told.first_phase (told.plus_faults vars rule body) ≡ Some fault → ⊥ }
+{}
+
+/// Each token of a rule's patterns has the mark of its line and its own positions, whatever plus code there is. Does
+/// nothing.
+pub fn tokens_keep_their_lines()
+    ensures marks { (vars : List Variable) (rule : ℕ) (body : List Line) (tokens : List Anchored) →
+        AreAnchored vars rule body tokens →
+        map (λ (t : Anchored). t.mark) tokens
+        ≡ map (λ (p : Word). told.mark_of p.sign) (patterns.pattern_tokens vars body) }
+    ensures positions { (vars : List Variable) (rule : ℕ) (body : List Line) (tokens : List Anchored) →
+        AreAnchored vars rule body tokens →
+        map (λ (t : Anchored). t.positions) tokens
+        ≡ map (λ (p : Word). p.positions) (patterns.pattern_tokens vars body) }
+{}
 
 /// The tokens that may be anchors are sought among those that a rule's patterns have outside `when` clauses. Does nothing.
 pub fn outside_tokens_are_main()

@@ -2,6 +2,7 @@ use Rattle.std.proofs.Common.{refl, sym, ◌∙◌, inl, inr}
 use Rattle.std.proofs.lemmas.Result.{err_from_is_err_and}
 use Rattle.smpl_lexer.specs.Texts.IsTextFault.{too_long}
 use Rattle.smpl_lexer.proofs.Readings.{text_read, fault_read}
+use Rattle.smpl_lexer.proofs.Small.{text_is_small}
 use Rattle.smpl_lexer.proofs.lex_patch.Goals as goal
 
 pub returns-then-bytes-gt-MOST_BYTES-clause-fault : goal.returns-then-bytes-gt-MOST_BYTES-clause-fault
@@ -18,3 +19,8 @@ returns-in-Some-clause-fault c = inr (fault_read c.args.bytes.now c.in_ok-readin
 pub returns-in_ok-finished-in-None-clause-text : goal.returns-in_ok-finished-in-None-clause-text
 returns-in_ok-finished-in-None-clause-text c =
     rw c.in_ok-finished-in-None.ensures (text_read c.args.bytes.now c.in_ok-reading.reading c.in_ok-reading.ensures c.if-bytes-gt-MOST_BYTES.false (sym c.with_end.ensures ∙ c.in-None.is))
+
+pub returns-in_ok-finished-in-None-clause-small : goal.returns-in_ok-finished-in-None-clause-small
+returns-in_ok-finished-in-None-clause-small c =
+    text_is_small c.args.bytes.now c.in_ok-finished-in-None.field-0
+    (rw c.in_ok-finished-in-None.ensures (text_read c.args.bytes.now c.in_ok-reading.reading c.in_ok-reading.ensures c.if-bytes-gt-MOST_BYTES.false (sym c.with_end.ensures ∙ c.in-None.is)))

@@ -58,24 +58,24 @@ operand-returns-then-most-eq0-clause-refused t c =
 
 pub operand-returns-in_err-read-clause-refused : goal.operand-returns-in_err-read-clause-refused
 operand-returns-in_err-read-clause-refused t c =
-    let p = err_from_is_err_and c.from_residual.result c.from_residual.ensures.1 in
+    let p = err_from_is_err_and c.from_residual-in_err-read.result c.from_residual-in_err-read.ensures.1 in
     rw (p.1, p.2) (fault_weaker _ _ _ (at_refused c.args.most c.args.kind c.args.rest.now c.front-class.result c.has_leaf.result c.in-Some.rule c.own.result.now c.front-class.ensures.value (search rules) (search rules)
     c.in-Some.ensures c.own.ensures.value) c.in_err-read.ensures.refused)
 
 pub operand-returns-clause-found : goal.operand-returns-clause-found
 operand-returns-clause-found t c =
-    ok_each c.finish.result (λ g b. branch_found c.args.most c.args.kind c.args.rest.now c.in_ok-read.read.rest.now _ c.front-class.result c.in-Some.rule c.own.result.now c.new.result c.in_ok-read.read.children _ _
-    c.front-class.ensures.value c.in-Some.ensures c.own.ensures.value c.new.ensures c.in_ok-read.ensures.found b) c.finish.ensures.found
+    ok_each c.finish.result (λ g b. branch_found c.args.most c.args.kind c.args.rest.now c.in_ok-read.read.rest.now _ c.front-class.result c.in-Some.rule c.own.result.now c.in_ok-children.children c.in_ok-read.read.children _ _
+    c.front-class.ensures.value c.in-Some.ensures c.own.ensures.value c.in_ok-children.ensures.none c.in_ok-read.ensures.found b) c.finish.ensures.found
 
 pub operand-returns-clause-only : goal.operand-returns-clause-only
 operand-returns-clause-only t c =
-    ok_each c.finish.result (λ g b. branch_only c.args.most c.args.kind c.args.rest.now c.in_ok-read.read.rest.now _ c.front-class.result c.has_leaf.result c.in-Some.rule c.own.result.now c.new.result c.in_ok-read.read.children _ _
-    c.front-class.ensures.value (search rules) (search rules) c.in-Some.ensures c.own.ensures.value c.new.ensures c.in_ok-read.ensures.found b) c.finish.ensures.found
+    ok_each c.finish.result (λ g b. branch_only c.args.most c.args.kind c.args.rest.now c.in_ok-read.read.rest.now _ c.front-class.result c.has_leaf.result c.in-Some.rule c.own.result.now c.in_ok-children.children c.in_ok-read.read.children _ _
+    c.front-class.ensures.value (search rules) (search rules) c.in-Some.ensures c.own.ensures.value c.in_ok-children.ensures.none c.in_ok-read.ensures.found b) c.finish.ensures.found
 
 pub operand-returns-clause-refused : goal.operand-returns-clause-refused
 operand-returns-clause-refused t c =
-    err_none c.finish.result (no_branch_found c.args.most c.args.kind c.args.rest.now c.in_ok-read.read.rest.now c.front-class.result c.has_leaf.result c.in-Some.rule c.own.result.now c.new.result c.in_ok-read.read.children
-    c.front-class.ensures.value (search rules) (search rules) c.in-Some.ensures c.own.ensures.value c.new.ensures c.in_ok-read.ensures.found) c.finish.ensures.refused
+    err_none c.finish.result (no_branch_found c.args.most c.args.kind c.args.rest.now c.in_ok-read.read.rest.now c.front-class.result c.has_leaf.result c.in-Some.rule c.own.result.now c.in_ok-children.children c.in_ok-read.read.children
+    c.front-class.ensures.value (search rules) (search rules) c.in-Some.ensures c.own.ensures.value c.in_ok-children.ensures.none c.in_ok-read.ensures.found) c.finish.ensures.refused
 
 -- ---- a tree that grows
 

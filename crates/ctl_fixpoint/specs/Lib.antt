@@ -1,0 +1,8 @@
+-- What public contracts rest on.
+-- sets by part and node that stand for where a formula holds
+pub mod States
+-- For inside use.
+-- one part by the rows of its parts
+pub mod Steps
+-- untils by sweeps
+pub mod Sweeps

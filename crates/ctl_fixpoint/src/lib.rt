@@ -1,0 +1,29 @@
+//! Where the parts of a formula hold in a graph, as sets of environments: satisfaction by fixpoints.
+//!
+//! [`sat`] gives for each part of a formula's table and each node of the graph the set of environments under which the
+//! part holds there. Parts are worked off in the table's order, each once, so what stands at several places of the
+//! formula costs once.
+//!
+//! ```text
+//!       0 head ─► 1 {  ─► 2 lock(a); ─► 3 f(); ─► 4 unlock(a); ─► 5 } ─► 6 exit (goes to itself)
+//! ```
+//!
+//! `E[True U unlock(E);]` has at nodes 0 to 4 the one entry "`E` is `a`", and no entry after them.
+//!
+//! An until is the least fixpoint of rounds: where its end holds, or where its way holds and the until next. The sets
+//! start empty and only grow. They are gone over from the last node to the first, so that what holds further on is
+//! known where it is needed, and a node is computed anew only where a successor's set has changed since it was. When a
+//! sweep changes nothing, all is found: after one more sweep than loops are nested, as a rule. After Clarke, Emerson
+//! and
+//! Sistla (1986), over the sets of environments of Brunel, Doligez, Hansen, Lawall and Muller (POPL 2009).
+//!
+//! Nothing here recurses over a formula or a graph.
+#![tactic(auto)]
+
+mod part;
+mod point;
+mod rows;
+mod sweeps;
+mod until;
+
+pub use part::sat;

@@ -1,0 +1,62 @@
+// The rows of a formula's parts, one after another.
+ghost use Rattle.std.specs.Prelude.{◌≡◌, ℕ, ◌<◌, true, false, List, [], length, IfOk};
+ghost use Rattle.cfg_graph.specs.Flow.{IsSound, count_of};
+ghost use Rattle.ctl_formula.specs.Formulas.{plain};
+ghost use Rattle.ctl_formula.specs.Tables.{below};
+ghost use Rattle.ctl_holds.specs.Parts.{EachPattern};
+ghost use Rattle.ctl_holds.specs.BoundLaw.{SureStand};
+ghost use Rattle.ctl_fixpoint.specs.States.{AreStateSets};
+ghost use Rattle.ctl_fixpoint.specs.Steps.{row_of, IsRowBy};
+
+use crate::point::point_row;
+use crate::rows::row_at;
+use crate::until::{exists_row, until_row};
+use c_terms::NoMemory;
+use cfg_graph::Graph;
+use ctl_formula::{Formula, Node};
+use env_sets::{EnvSet, StateRow, StateSets};
+use std::alloc::Global;
+
+/// The row of a part, by those of its parts.
+fn part_row(
+    alloc: Global,
+    g: &Graph,
+    f: &Formula,
+    node: &Node,
+    rows: &[StateRow],
+) -> Result<Vec<EnvSet>, NoMemory>
+    requires sound { IsSound g.now }
+    requires kids { below (length rows.now) node.now ≡ true }
+    requires wide { (i : ℕ) → i < length rows.now → length (row_of rows.now i) ≡ count_of g.now }
+    ensures { IfOk result (λ r. IsRowBy f.now.decls f.now.tokens g.now rows.now node.now r.items) }
+{
+    match node {
+        Node::AU(way, end) => until_row(alloc, g, true, row_at(rows, *way), row_at(rows, *end)),
+        Node::EU(way, end) => until_row(alloc, g, false, row_at(rows, *way), row_at(rows, *end)),
+        Node::Exists(x, i) => exists_row(alloc, x, row_at(rows, *i)),
+        _ => point_row(alloc, g, f, node, rows),
+    }
+}
+
+/// For each part of the formula and each node of the graph the set of exactly the environments under which the part
+/// holds there. Parts go by their numbers in the formula's table. The patterns' sure variables stand in them, as
+/// those of
+/// every pattern do that a patch spells.
+///
+/// A part is computed once, an atom once a node; of an until each node is computed anew only where the set of a
+/// successor
+/// has changed, in as many sweeps over the nodes as it takes until nothing changes. So where loops are nested d deep it
+/// is linear in the nodes times d + 2, apart from the sets.
+pub fn sat(alloc: Global, g: &Graph, f: &Formula) -> Result<StateSets, NoMemory>
+    requires { EachPattern (SureStand f.now.decls f.now.tokens) (plain f.now) }
+    ensures { IfOk result (λ sets. AreStateSets g.now f.now sets) }
+{
+    let _count = g.count();
+    let _root = f.root();
+    let mut rows = Vec::with_capacity(alloc, f.len())?;
+    for i in 0..f.len() {
+        let row = part_row(alloc, g, f, f.node(i), &rows)?;
+        rows.push(StateRow::of(alloc, row)?)?;
+    }
+    Ok(StateSets::new(rows))
+}

@@ -1,0 +1,278 @@
+// Parts that are told node by node.
+ghost use Rattle.std.specs.Prelude.{◌≡◌, ℕ, ◌<◌, Bool, true, false, not, ◌&&◌, ◌||◌, List, [], length};
+ghost use Rattle.std.specs.Prelude.{slice_index_or, slice_get, Some, IfOk, Contains};
+ghost use Rattle.cfg_graph.specs.Flow.{IsSound, count_of, succ_of, past_of, down_of};
+ghost use Rattle.smpl_terms.specs.declared.var.Var.{Var};
+ghost use Rattle.smpl_terms.specs.Environments.{Environment};
+ghost use Rattle.env_sets.specs.Sets.{set_denotes, set_vars};
+ghost use Rattle.pat_match.specs.Vars.{pattern_vars};
+ghost use Rattle.ctl_formula.specs.Tables.{below};
+ghost use Rattle.ctl_holds.specs.Holding.{at_node, atom_at, brace_at};
+ghost use Rattle.ctl_holds.specs.Holding as of;
+ghost use Rattle.ctl_holds.specs.Rounds.{passes, passes_there};
+ghost use Rattle.ctl_fixpoint.specs.Steps.{row_of, has, row_vars, is_pointwise, step, step_vars, Gives};
+
+use crate::rows::{every_next, row_at, set_at, set_there, some_next};
+use c_terms::NoMemory;
+use cfg_graph::{Graph, NodeKind};
+use ctl_formula::{Formula, Node};
+use env_sets::{Bound, EnvSet, StateRow, complement, join, meet};
+use pat_match::solve;
+use smpl_patch::{PatToken, Pattern, VarDecl};
+use smpl_terms::{Value, Var};
+use std::alloc::Global;
+
+/// Every environment, or none.
+fn all_if(alloc: Global, holds: bool) -> Result<EnvSet, NoMemory>
+    ensures gives { IfOk result (λ r. (env : Environment) → set_denotes r env ≡ holds) }
+    ensures vars { IfOk result (λ r. (test : Var → Bool) → set_vars test r ≡ true) }
+{
+    if holds {
+        EnvSet::all(alloc)
+    } else {
+        Ok(EnvSet::none(alloc))
+    }
+}
+
+fn is_exit(kind: NodeKind) -> bool
+    ensures { result ≡ of.is_exit kind }
+{
+    matches!(kind, NodeKind::ExitNode)
+}
+
+fn is_open(kind: NodeKind) -> bool
+    ensures { result ≡ of.is_open kind }
+{
+    matches!(kind, NodeKind::OpenBrace)
+}
+
+fn is_close(kind: NodeKind) -> bool
+    ensures { result ≡ of.is_close kind }
+{
+    matches!(kind, NodeKind::CloseBrace)
+}
+
+/// Where a body that leaves the function begins.
+fn bail_set(alloc: Global, g: &Graph, s: u32) -> Result<EnvSet, NoMemory>
+    requires { s < count_of g.now }
+    ensures gives { IfOk result (λ r. (env : Environment)
+        → set_denotes r env ≡ at_node g.now s (λ l. l.bail)) }
+    ensures vars { IfOk result (λ r. (test : Var → Bool) → set_vars test r ≡ true) }
+{
+    all_if(alloc, g.label(s).bail)
+}
+
+/// At the exit.
+fn exit_set(alloc: Global, g: &Graph, s: u32) -> Result<EnvSet, NoMemory>
+    requires { s < count_of g.now }
+    ensures gives { IfOk result (λ r. (env : Environment) →
+        set_denotes r env ≡ at_node g.now s (λ l. of.is_exit l.kind)) }
+    ensures vars { IfOk result (λ r. (test : Var → Bool) → set_vars test r ≡ true) }
+{
+    all_if(alloc, is_exit(g.label(s).kind))
+}
+
+/// Where the pattern matches at the node.
+fn atom_set(
+    alloc: Global,
+    g: &Graph,
+    decls: &[VarDecl],
+    tokens: &[PatToken],
+    p: &Pattern,
+    s: u32,
+) -> Result<EnvSet, NoMemory>
+    requires { s < count_of g.now }
+    ensures gives { IfOk result (λ r. (env : Environment) →
+        set_denotes r env ≡ atom_at decls.now tokens.now g.now p.now s env) }
+    ensures vars { IfOk result (λ r. (test : Var → Bool)
+        → pattern_vars decls.now tokens.now test p.now ≡ true
+        → set_vars test r ≡ true) }
+{
+    solve(alloc, p, decls, tokens, g.label(s))
+}
+
+/// Where the pattern matches at the node, and the variable is the place of its label's `{`.
+fn placed_set(
+    alloc: Global,
+    g: &Graph,
+    decls: &[VarDecl],
+    tokens: &[PatToken],
+    p: &Pattern,
+    b: &Var,
+    s: u32,
+) -> Result<EnvSet, NoMemory>
+    requires { s < count_of g.now }
+    ensures gives { IfOk result (λ r. (env : Environment) → set_denotes r env
+        ≡ brace_at decls.now tokens.now g.now (λ k. true) p.now b.now s env) }
+    ensures vars { IfOk result (λ r. (test : Var → Bool)
+        → (pattern_vars decls.now tokens.now test p.now && test b.now) ≡ true
+        → set_vars test r ≡ true) }
+{
+    let label = g.label(s);
+    let place = EnvSet::one(alloc, b, Bound::Is(Value::Place(label.brace)))?;
+    let matched = solve(alloc, p, decls, tokens, label)?;
+    meet(alloc, &place, &matched)
+}
+
+fn open_set(
+    alloc: Global,
+    g: &Graph,
+    decls: &[VarDecl],
+    tokens: &[PatToken],
+    p: &Pattern,
+    b: &Var,
+    s: u32,
+) -> Result<EnvSet, NoMemory>
+    requires { s < count_of g.now }
+    ensures gives { IfOk result (λ r. (env : Environment) → set_denotes r env
+        ≡ brace_at decls.now tokens.now g.now of.is_open p.now b.now s env) }
+    ensures vars { IfOk result (λ r. (test : Var → Bool)
+        → (pattern_vars decls.now tokens.now test p.now && test b.now) ≡ true
+        → set_vars test r ≡ true) }
+{
+    if is_open(g.label(s).kind) {
+        placed_set(alloc, g, decls, tokens, p, b, s)
+    } else {
+        Ok(EnvSet::none(alloc))
+    }
+}
+
+fn close_set(
+    alloc: Global,
+    g: &Graph,
+    decls: &[VarDecl],
+    tokens: &[PatToken],
+    p: &Pattern,
+    b: &Var,
+    s: u32,
+) -> Result<EnvSet, NoMemory>
+    requires { s < count_of g.now }
+    ensures gives { IfOk result (λ r. (env : Environment) → set_denotes r env
+        ≡ brace_at decls.now tokens.now g.now of.is_close p.now b.now s env) }
+    ensures vars { IfOk result (λ r. (test : Var → Bool)
+        → (pattern_vars decls.now tokens.now test p.now && test b.now) ≡ true
+        → set_vars test r ≡ true) }
+{
+    if is_close(g.label(s).kind) {
+        placed_set(alloc, g, decls, tokens, p, b, s)
+    } else {
+        Ok(EnvSet::none(alloc))
+    }
+}
+
+/// The row's set at every next node, or at some.
+pub fn next_set(
+    alloc: Global,
+    g: &Graph,
+    every: bool,
+    x: &[EnvSet],
+    s: u32,
+) -> Result<EnvSet, NoMemory>
+    requires sound { IsSound g.now }
+    requires node { s < count_of g.now }
+    requires wide { length x.now ≡ count_of g.now }
+    ensures gives { IfOk result (λ r. (env : Environment) → set_denotes r env
+        ≡ passes every (λ k. has x.now k env) (succ_of g.now s)) }
+    ensures vars { IfOk result (λ r. (test : Var → Bool) → row_vars test x.now ≡ true
+        → set_vars test r ≡ true) }
+{
+    if every {
+        every_next(alloc, g.succ(s), x)
+    } else {
+        some_next(alloc, g.succ(s), x)
+    }
+}
+
+/// The row's set past the node's statement.
+fn past_set(alloc: Global, g: &Graph, x: &[EnvSet], s: u32) -> Result<EnvSet, NoMemory>
+    requires sound { IsSound g.now }
+    requires node { s < count_of g.now }
+    requires wide { length x.now ≡ count_of g.now }
+    ensures gives { IfOk result (λ r. (env : Environment) → set_denotes r env
+        ≡ passes_there (λ k. has x.now k env) (past_of g.now s)) }
+    ensures vars { IfOk result (λ r. (test : Var → Bool) → row_vars test x.now ≡ true
+        → set_vars test r ≡ true) }
+{
+    set_there(alloc, g.past(s), x)
+}
+
+/// The row's set at the first node of a body. A number of a body that is no `u32` is refused as if memory had run out.
+fn down_set(alloc: Global, g: &Graph, body: usize, x: &[EnvSet], s: u32) -> Result<EnvSet, NoMemory>
+    requires sound { IsSound g.now }
+    requires node { s < count_of g.now }
+    requires wide { length x.now ≡ count_of g.now }
+    ensures gives { IfOk result (λ r. (env : Environment) → set_denotes r env
+        ≡ passes_there (λ k. has x.now k env) (slice_get (down_of g.now s) body)) }
+    ensures vars { IfOk result (λ r. (test : Var → Bool) → row_vars test x.now ≡ true
+        → set_vars test r ≡ true) }
+{
+    if body > u32::MAX as usize {
+        return Err(NoMemory);
+    }
+    set_there(alloc, g.down(s, body as u32), x)
+}
+
+/// The set of a part at a node, by the rows of its parts. It is told node by node, so it is no until and no quantifier.
+fn point_set(
+    alloc: Global,
+    g: &Graph,
+    f: &Formula,
+    node: &Node,
+    rows: &[StateRow],
+    s: u32,
+) -> Result<EnvSet, NoMemory>
+    requires sound { IsSound g.now }
+    requires node { s < count_of g.now }
+    requires kids { below (length rows.now) node.now ≡ true }
+    requires wide { (i : ℕ) → i < length rows.now → length (row_of rows.now i) ≡ count_of g.now }
+    requires pointwise { is_pointwise node.now ≡ true }
+    ensures gives { IfOk result (λ r. (env : Environment) → set_denotes r env
+        ≡ step f.now.decls f.now.tokens g.now (λ i k. has (row_of rows.now i) k env) node.now s env) }
+    ensures vars { IfOk result (λ r. (test : Var → Bool)
+        → step_vars f.now.decls f.now.tokens (λ t i. row_vars t (row_of rows.now i)) test node.now ≡ true
+        → set_vars test r ≡ true) }
+{
+    match node {
+        Node::True => EnvSet::all(alloc),
+        Node::Atom(p) => atom_set(alloc, g, f.decls(), f.tokens(), p, s),
+        Node::Bail => bail_set(alloc, g, s),
+        Node::Exit => exit_set(alloc, g, s),
+        Node::BraceOpen(p, b) => open_set(alloc, g, f.decls(), f.tokens(), p, b, s),
+        Node::BraceClose(p, b) => close_set(alloc, g, f.decls(), f.tokens(), p, b, s),
+        Node::Not(i) => complement(alloc, set_at(rows, *i, s)),
+        Node::And(i, j) => meet(alloc, set_at(rows, *i, s), set_at(rows, *j, s)),
+        Node::Or(i, j) => join(alloc, set_at(rows, *i, s), set_at(rows, *j, s)),
+        Node::AX(i) => next_set(alloc, g, true, row_at(rows, *i), s),
+        Node::EX(i) => next_set(alloc, g, false, row_at(rows, *i), s),
+        Node::Past(i) => past_set(alloc, g, row_at(rows, *i), s),
+        Node::Down(body, i) => down_set(alloc, g, *body, row_at(rows, *i), s),
+        Node::AU(_, _) => unreachable!(),
+        Node::EU(_, _) => unreachable!(),
+        Node::Exists(_, _) => unreachable!(),
+    }
+}
+
+/// The row of a part that is told node by node.
+pub fn point_row(
+    alloc: Global,
+    g: &Graph,
+    f: &Formula,
+    node: &Node,
+    rows: &[StateRow],
+) -> Result<Vec<EnvSet>, NoMemory>
+    requires sound { IsSound g.now }
+    requires kids { below (length rows.now) node.now ≡ true }
+    requires wide { (i : ℕ) → i < length rows.now → length (row_of rows.now i) ≡ count_of g.now }
+    requires pointwise { is_pointwise node.now ≡ true }
+    ensures gives { IfOk result (λ r. Gives (count_of g.now) r.items
+        (λ s env. step f.now.decls f.now.tokens g.now (λ i k. has (row_of rows.now i) k env) node.now s env)) }
+    ensures vars { IfOk result (λ r. (test : Var → Bool)
+        → step_vars f.now.decls f.now.tokens (λ t i. row_vars t (row_of rows.now i)) test node.now ≡ true
+        → row_vars test r.items ≡ true) }
+{
+    let mut sets = Vec::with_capacity(alloc, g.count() as usize)?;
+    for s in 0..g.count() {
+        sets.push(point_set(alloc, g, f, node, rows, s)?)?;
+    }
+    Ok(sets)
+}

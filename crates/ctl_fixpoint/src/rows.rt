@@ -1,0 +1,81 @@
+// Rows of sets, and the next nodes.
+ghost use Rattle.std.specs.Prelude.{◌≡◌, ℕ, ◌<◌, Bool, true, false, List, [], length, slice_index_or, IfOk, Option};
+ghost use Rattle.std.specs.Prelude.{Contains};
+ghost use Rattle.smpl_terms.specs.declared.var.Var.{Var};
+ghost use Rattle.smpl_terms.specs.Environments.{Environment};
+ghost use Rattle.env_sets.specs.Sets.{set_denotes, set_vars};
+ghost use Rattle.ctl_holds.specs.Rounds.{passes, passes_there};
+ghost use Rattle.ctl_fixpoint.specs.Steps.{set_of, row_of, has, row_vars};
+
+use c_terms::NoMemory;
+use env_sets::{EnvSet, StateRow, join, meet};
+use std::alloc::Global;
+
+/// The row of a part.
+pub fn row_at(rows: &[StateRow], i: usize) -> &[EnvSet]
+    requires { i < length rows.now }
+    ensures { result.now ≡ row_of rows.now i }
+{
+    rows[i].as_slice()
+}
+
+/// The set at a node.
+pub fn set_in(row: &[EnvSet], s: u32) -> &EnvSet
+    requires { s < length row.now }
+    ensures { result.now ≡ set_of row.now s }
+{
+    &row[s as usize]
+}
+
+/// The set of a part at a node.
+pub fn set_at(rows: &[StateRow], i: usize, s: u32) -> &EnvSet
+    requires part { i < length rows.now }
+    requires node { s < length (row_of rows.now i) }
+    ensures { result.now ≡ set_of (row_of rows.now i) s }
+{
+    set_in(row_at(rows, i), s)
+}
+
+/// The environments that are in the sets of all these nodes.
+pub fn every_next(alloc: Global, next: &[u32], x: &[EnvSet]) -> Result<EnvSet, NoMemory>
+    requires { (k : ℕ) → Contains next.now k → k < length x.now }
+    ensures gives { IfOk result (λ r. (env : Environment) → set_denotes r env
+        ≡ passes true (λ k. has x.now k env) next.now) }
+    ensures vars { IfOk result (λ r. (test : Var → Bool) → row_vars test x.now ≡ true
+        → set_vars test r ≡ true) }
+{
+    let mut out = EnvSet::all(alloc)?;
+    for k in next {
+        out = meet(alloc, &out, set_in(x, *k))?;
+    }
+    Ok(out)
+}
+
+/// The environments that are in the set of some of these nodes.
+pub fn some_next(alloc: Global, next: &[u32], x: &[EnvSet]) -> Result<EnvSet, NoMemory>
+    requires { (k : ℕ) → Contains next.now k → k < length x.now }
+    ensures gives { IfOk result (λ r. (env : Environment) → set_denotes r env
+        ≡ passes false (λ k. has x.now k env) next.now) }
+    ensures vars { IfOk result (λ r. (test : Var → Bool) → row_vars test x.now ≡ true
+        → set_vars test r ≡ true) }
+{
+    let mut out = EnvSet::none(alloc);
+    for k in next {
+        out = join(alloc, &out, set_in(x, *k))?;
+    }
+    Ok(out)
+}
+
+/// The set of a node, or none where there is no node.
+pub fn set_there(alloc: Global, node: Option<u32>, x: &[EnvSet]) -> Result<EnvSet, NoMemory>
+    requires { (k : ℕ) → node ≡ Some k → k < length x.now }
+    ensures gives { IfOk result (λ r. (env : Environment)
+        → set_denotes r env ≡ passes_there (λ k. has x.now k env) node) }
+    ensures vars { IfOk result (λ r. (test : Var → Bool) → row_vars test x.now ≡ true
+        → set_vars test r ≡ true) }
+{
+    match node {
+        Some(k) => set_in(x, k).copy(alloc),
+        None => Ok(EnvSet::none(alloc)),
+    }
+}

@@ -1,0 +1,96 @@
+-- Path satisfaction at a small graph, above all where two readings would differ.
+--
+--       0 head ─► 1 `{` ─► 2 if ─┬─► 3 (a bail) ─► 6 exit ─► 6
+--                                ├─► 4 while ─► 4
+--                                └─► 5 `}` ─► 6
+use Rattle.std.proofs.Common.{◌≡◌, ℕ, Bool, true, false, refl, List, [], ◌∷◌, Option, Some, None}
+use Rattle.cfg_graph.specs.declared.label.NodeKind.{NodeKind}
+use Rattle.cfg_graph.specs.declared.label.NodeKind.TheVariants as kind
+use Rattle.cfg_graph.specs.declared.label.NodeLabel.{NodeLabel}
+use Rattle.cfg_graph.specs.Empty.{no_statements}
+use Rattle.cfg_graph.specs.Flow.{Flow}
+use Rattle.smpl_terms.specs.Environments.{Environment}
+use Rattle.ctl_formula.specs.Plain.{Plain, True, Bail, Exit, Not, And, Or, AX, EX, AU, EU, Past, Down}
+use Rattle.ctl_holds.specs.Rounds.{holds}
+
+abbrev label : NodeKind → Bool → NodeLabel
+label k bail = record { kind = k; tree = no_statements; path = []; bail = bail; brace = 0 }
+
+abbrev g : Flow
+g = record {
+  labels = label kind.FunHead false ∷ label kind.OpenBrace false ∷ label kind.Head false ∷ label kind.Simple true
+      ∷ label kind.Head false ∷ label kind.CloseBrace false ∷ label kind.ExitNode false ∷ [];
+  succ = (1 ∷ []) ∷ (2 ∷ []) ∷ (3 ∷ 4 ∷ 5 ∷ []) ∷ (6 ∷ []) ∷ (4 ∷ []) ∷ (6 ∷ []) ∷ (6 ∷ []) ∷ [];
+  past = None ∷ None ∷ Some 5 ∷ None ∷ Some 5 ∷ Some 6 ∷ None ∷ [];
+  down = (1 ∷ []) ∷ [] ∷ (3 ∷ 4 ∷ []) ∷ [] ∷ [] ∷ [] ∷ [] ∷ [];
+}
+
+-- walks of at most, or exactly, m nodes
+abbrev at : ℕ → Plain → ℕ → Environment → Bool
+at m f s env = holds [] [] g m f s env
+
+module _ (env : Environment) where
+  -- some walk leaves; a walk that stays in a loop for ever does not, so not every walk does
+  some_leave : at 8 (EU True Exit) 0 env ≡ true
+  some_leave = refl
+
+  not_all_leave : at 8 (AU True Exit) 0 env ≡ false
+  not_all_leave = refl
+
+  all_leave_or_loop : at 8 (AU True (Or Exit (Not (EU True Exit)))) 0 env ≡ true
+  all_leave_or_loop = refl
+
+  -- the end may hold at the first node, whether the way does or not
+  end_at_once : at 8 (EU (Not True) Exit) 6 env ≡ true
+  end_at_once = refl
+
+  end_at_once_on_all : at 8 (AU (Not True) Exit) 6 env ≡ true
+  end_at_once_on_all = refl
+
+  -- the way need not hold where the end does, and must hold at each earlier node
+  way_before : at 8 (EU (Not Exit) Exit) 3 env ≡ true
+  way_before = refl
+
+  way_broken : at 8 (EU (Not Bail) Exit) 3 env ≡ false
+  way_broken = refl
+
+  -- from node 0 the exit is the fifth node: a bound of four is too few, and one more than there are nodes is enough
+  four_too_few : at 4 (EU True Exit) 0 env ≡ false
+  four_too_few = refl
+
+  five_enough : at 5 (EU True Exit) 0 env ≡ true
+  five_enough = refl
+
+  -- one node more makes no difference once the bound is large, for a loop and its negation neither
+  loop_not : at 8 (Not (AU True Exit)) 4 env ≡ true
+  loop_not = refl
+
+  loop_not_longer : at 30 (Not (AU True Exit)) 4 env ≡ true
+  loop_not_longer = refl
+
+  -- next is not past: past the `if` is the `}`, next are its branches
+  past_is_not_next : at 8 (Past (AX Exit)) 2 env ≡ true
+  past_is_not_next = refl
+
+  next_is_not_past : at 8 (AX (AX Exit)) 2 env ≡ false
+  next_is_not_past = refl
+
+  -- where there is no such node, neither `Past` nor `Down` holds of anything
+  no_past : at 8 (Past True) 3 env ≡ false
+  no_past = refl
+
+  no_third_body : at 8 (Down 2 True) 2 env ≡ false
+  no_third_body = refl
+
+  first_body : at 8 (Down 0 Bail) 2 env ≡ true
+  first_body = refl
+
+  second_body : at 8 (Down 1 Bail) 2 env ≡ false
+  second_body = refl
+
+  -- a bail is a node's own mark, the exit the one node of its kind
+  bail_there : at 8 (And (EX Bail) (Not Bail)) 2 env ≡ true
+  bail_there = refl
+
+  exit_there : at 8 Exit 5 env ≡ false
+  exit_there = refl

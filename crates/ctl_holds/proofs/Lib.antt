@@ -1,0 +1,10 @@
+pub mod TestLemmas
+pub mod GraphLemmas
+pub mod RoundLemmas
+pub mod WalkLemmas
+pub mod AtomLemmas
+pub mod HoldLemmas
+pub mod BoundLemmas
+pub mod StandLemmas
+pub mod PartLemmas
+mod Examples

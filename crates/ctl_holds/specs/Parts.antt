@@ -1,0 +1,57 @@
+-- The parts of a formula, their numbers in its table, and its patterns.
+use Rattle.std.specs.Prelude.{◌≡◌, ℕ, ◌<◌, ◌⊎◌, List, length}
+use Rattle.smpl_patch.specs.declared.pattern.Pattern.{Pattern}
+use Rattle.ctl_formula.specs.Plain.{Plain, True, Atom, Bail, Exit, BraceOpen, BraceClose, Not, And, Or, AX, EX, AU}
+use Rattle.ctl_formula.specs.Plain.{EU, Past, Down, Exists}
+use Rattle.ctl_formula.specs.declared.node.Node.{Node}
+use Rattle.ctl_formula.specs.declared.node.Node.TheVariants as node
+use Rattle.ctl_formula.specs.Tables.{at, plains}
+
+-- h is f, or a part of one of its parts
+abbrev pub IsPart : Plain → Plain → Type 0
+IsPart h True = h ≡ True
+IsPart h (Atom p) = h ≡ Atom p
+IsPart h Bail = h ≡ Bail
+IsPart h Exit = h ≡ Exit
+IsPart h (BraceOpen p b) = h ≡ BraceOpen p b
+IsPart h (BraceClose p b) = h ≡ BraceClose p b
+IsPart h (Not f) = (h ≡ Not f) ⊎ IsPart h f
+IsPart h (And f k) = (h ≡ And f k) ⊎ (IsPart h f ⊎ IsPart h k)
+IsPart h (Or f k) = (h ≡ Or f k) ⊎ (IsPart h f ⊎ IsPart h k)
+IsPart h (AX f) = (h ≡ AX f) ⊎ IsPart h f
+IsPart h (EX f) = (h ≡ EX f) ⊎ IsPart h f
+IsPart h (AU f k) = (h ≡ AU f k) ⊎ (IsPart h f ⊎ IsPart h k)
+IsPart h (EU f k) = (h ≡ EU f k) ⊎ (IsPart h f ⊎ IsPart h k)
+IsPart h (Past f) = (h ≡ Past f) ⊎ IsPart h f
+IsPart h (Down i f) = (h ≡ Down i f) ⊎ IsPart h f
+IsPart h (Exists x f) = (h ≡ Exists x f) ⊎ IsPart h f
+
+-- each pattern of the formula is so
+abbrev pub EachPattern : (Pattern → Type 0) → Plain → Type 0
+EachPattern P True = Unit {0}
+EachPattern P (Atom p) = P p
+EachPattern P Bail = Unit {0}
+EachPattern P Exit = Unit {0}
+EachPattern P (BraceOpen p b) = P p
+EachPattern P (BraceClose p b) = P p
+EachPattern P (Not f) = EachPattern P f
+EachPattern P (And f h) = EachPattern P f × EachPattern P h
+EachPattern P (Or f h) = EachPattern P f × EachPattern P h
+EachPattern P (AX f) = EachPattern P f
+EachPattern P (EX f) = EachPattern P f
+EachPattern P (AU f h) = EachPattern P f × EachPattern P h
+EachPattern P (EU f h) = EachPattern P f × EachPattern P h
+EachPattern P (Past f) = EachPattern P f
+EachPattern P (Down i f) = EachPattern P f
+EachPattern P (Exists x f) = EachPattern P f
+
+-- the pattern of a node of a table is so, if it has one
+abbrev pub OwnPattern : (Pattern → Type 0) → Node → Type 0
+OwnPattern P (node.Atom p) = P p
+OwnPattern P (node.BraceOpen p b) = P p
+OwnPattern P (node.BraceClose p b) = P p
+OwnPattern P _ = Unit {0}
+
+-- some node of the table is the formula
+abbrev pub HasNumber : List Node → Plain → Type 0
+HasNumber nodes h = (i : ℕ) × (i < length nodes) × (at (plains nodes) i ≡ h)

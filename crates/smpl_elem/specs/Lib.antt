@@ -1,0 +1,3 @@
+-- What public contracts rest on, in reading order: what a tree is as a part of a body, and its elements.
+pub mod Forms
+pub mod Elements

@@ -1,0 +1,19 @@
+//! Reads the trees of patterns as elements of bodies.
+//!
+//! - [`elements`] answers the elements of a tree: a list of statements is a sequence of them, and anything else is one.
+//! - [`count_atoms`] tells how many patterns they have.
+//!
+//! `if (c) f(); else { ... }` is a compound: its head is `if (c) else`, and its two bodies are the atom `f();`, and the
+//! block of one gap. What the clauses of dots say comes from [`DotsSource`].
+//!
+//! Calls recurse once a level of a tree. Which trees are patterns is for c_rows.
+#![tactic(auto)]
+
+mod count;
+mod form;
+mod masked;
+mod sequence;
+
+pub use count::count_atoms;
+pub use form::Form;
+pub use sequence::{DotsSource, Numbered, elements};

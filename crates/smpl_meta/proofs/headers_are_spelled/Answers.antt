@@ -1,0 +1,6 @@
+use Rattle.smpl_meta.proofs.GoesOn.{header_goes_on}
+use Rattle.smpl_meta.proofs.Spelling.{header_is_spelled}
+use Rattle.smpl_meta.proofs.headers_are_spelled.Goals as goal
+
+pub returns : goal.returns
+returns c = λ earlier ts end. (header_is_spelled end earlier ts, header_goes_on end earlier ts)

@@ -1,0 +1,22 @@
+//! The report of a file: which rules matched where, and with which values.
+//!
+//! [`print`] writes it out. For a rule `r` whose `* f(x);` matched the first statement of `void k(void) { f(1); }` it is
+//!
+//! ```text
+//! file k.c
+//! rule 0 r
+//! at 0 2
+//!  bind 2 x = 1
+//!   touch 2 0 2.1
+//! ```
+//!
+//! Only memory may be wanting. [`print`] recurses once a level of a forest, and once a level of a term.
+#![tactic(auto)]
+
+mod forest;
+mod report;
+mod rules;
+#[cfg(test)]
+mod tests;
+
+pub use rules::print;

@@ -17,7 +17,7 @@ use Rattle.smpl_patch.specs.declared.pattern.Pattern.{Pattern}
 use Rattle.pat_match.specs.declared.aligning.Alignment.{Alignment}
 use Rattle.pat_match.specs.Spots.{parts_of_child, own_parts_from}
 use Rattle.pat_match.specs.Matching.{put_form, form_at, aligned_at}
-use Rattle.pat_match.proofs.RowLemmas.{drop_past}
+use Rattle.pat_match.proofs.CountLemmas.{drop_past}
 
 -- the parts of the children from number i on
 abbrev pub kids_parts : Label → ℕ → List Tree → List Place

@@ -89,3 +89,13 @@ all_fit-uneven (f ∷ fs) (t ∷ ts) h =
 
 pub all_fit-uneven_map : (f : Tree → Piece) (xs us : List Tree) → (length xs ≡ length us → ⊥) → all_fit (map f xs) us ≡ false
 all_fit-uneven_map f xs us h = all_fit-uneven (map f xs) us (λ e. h (omega (arith, e, length-map xs f)))
+
+-- one piece that fits nothing
+pub all_fit-other : (decls : List VarDecl) (tokens : List PatToken) (env : Environment) (xs us : List Tree) (i : ℕ) (x u : Tree) → i < length xs → length xs ≡ length us
+    → x ≡ get_or xs i x → u ≡ get_or us i u → fits_tree decls tokens env x u ≡ false → all_fit (map (piece decls tokens env) xs) us ≡ false
+all_fit-other decls tokens env [] us i x u lt len e g off = absurd (omega arith)
+all_fit-other decls tokens env (a ∷ xs) [] i x u lt len e g off = absurd (omega arith)
+all_fit-other decls tokens env (a ∷ xs) (b ∷ us) zero x u lt len e g off =
+    let h : fits_tree decls tokens env a b ≡ false = rw (sym e, sym g) off in grind (arith, common_steps)
+all_fit-other decls tokens env (a ∷ xs) (b ∷ us) (suc i) x u lt len e g off =
+    let h = all_fit-other decls tokens env xs us i x u (omega arith) (omega arith) e g off in grind (arith, common_steps)

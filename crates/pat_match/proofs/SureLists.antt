@@ -33,7 +33,8 @@ use Rattle.pat_match.specs.Runs.{is_wild, comma_fits, run_fits, single_fits, tak
 use Rattle.pat_match.specs.Fitting.{leaf_of, kids_fit, piece, fits_tree}
 use Rattle.pat_match.specs.Valued.{has_value}
 use Rattle.pat_match.proofs.Pieces.{piece-token}
-use Rattle.pat_match.proofs.RowLemmas.{choice, drop_more}
+use Rattle.pat_match.proofs.RowLemmas.{choice}
+use Rattle.pat_match.proofs.CountLemmas.{drop_more}
 use Rattle.pat_match.proofs.ValueLemmas.{and_left, and_right, or_cases, or_left, or_right, has-first, has-kid, has-run}
 use Rattle.pat_match.proofs.SureLaw.{position_at, any_sure, Law, Fit, ListLaw, sure_law}
 

@@ -86,10 +86,14 @@ abbrev pub token_list : Option Token → List Token
 token_list None = []
 token_list (Some a) = a ∷ []
 
+-- the comma before the first of the members
+abbrev pub comma_tokens : List Member → List Token
+comma_tokens [] = []
+comma_tokens (m ∷ ms) = token_list m.comma
+
 abbrev pub comma_pairs : Option Token → List Member → List Pair
 comma_pairs None ms = []
-comma_pairs (Some a) [] = (a, []) ∷ []
-comma_pairs (Some a) (m ∷ ms) = (a, token_list m.comma) ∷ []
+comma_pairs (Some a) ms = (a, comma_tokens ms) ∷ []
 
 -- a run is aligned as a whole, the commas between its members included
 abbrev pub wild_pairs : Label → Option Token → List Member → List Pair

@@ -1,12 +1,12 @@
 // Where a pattern is aligned under one environment.
-ghost use Rattle.std.specs.Prelude.{◌≡◌, ◌++◌, ◌<◌, ◌^◌, IfOk, OnOk, length, [], ◌∷◌, if◌then◌else◌};
+ghost use Rattle.std.specs.Prelude.{◌≡◌, ◌++◌, ◌<◌, ◌^◌, IfOk, OnOk, length, slice_index_or, [], ◌∷◌, if◌then◌else◌};
 ghost use Rattle.smpl_terms.specs.Environments.{total};
 ghost use Rattle.c_terms.specs.declared.tree.Tree.{out-Tree};
 ghost use Rattle.cfg_graph.specs.Own as own;
 ghost use Rattle.pat_match.specs.Spots as at;
 ghost use Rattle.pat_match.specs.Matching as of;
 
-use crate::live::is_live;
+use crate::live::is_live_at;
 use crate::spots::fit_at;
 use c_terms::{Label, NoMemory, Tree, TreePath, is_expression_part};
 use cfg_graph::{NodeKind, NodeLabel, is_own};
@@ -22,23 +22,26 @@ pub struct Alignment {
     pub form: u32,
 }
 
-/// Whether the form has the first form's sure variables and fits the subtree.
+/// Whether the i-th form has the first form's sure variables and fits the subtree.
 fn fits_seat(
     alloc: Global,
     p: &Pattern,
     decls: &[VarDecl],
     tokens: &[PatToken],
     kind: NodeKind,
+    i: usize,
     form: &Tree,
     tree: &Tree,
     env: &Env,
 ) -> Result<bool, NoMemory>
+    requires within { i < length p.now.forms }
+    requires form { form.now ≡ slice_index_or p.now.forms i form.now }
     ensures { IfOk result (λ r. r
         ≡ of.fits_seat decls.now tokens.now (total env.now) p.now kind form.now tree.now) }
 {
     let set = fit_at(alloc, decls, tokens, p.spot, kind, form, tree)?;
     let fits = denotes(&set, env);
-    Ok(fits && is_live(decls, tokens, p, form))
+    Ok(fits && is_live_at(decls, tokens, p, i, form))
 }
 
 /// The number of the first form that fits the subtree.
@@ -57,7 +60,7 @@ fn form_at(
 {
     let forms = p.forms.as_slice();
     for i in 0..forms.len() {
-        if fits_seat(alloc, p, decls, tokens, kind, &forms[i], tree, env)? {
+        if fits_seat(alloc, p, decls, tokens, kind, i, &forms[i], tree, env)? {
             return Ok(Some(i as u32));
         }
     }

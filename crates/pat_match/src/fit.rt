@@ -3,7 +3,6 @@ ghost use Rattle.std.specs.Prelude.{◌≡◌, ℕ, Bool, true, false, not, ◌&
 ghost use Rattle.std.specs.List.{list_any, list_all};
 ghost use Rattle.c_terms.specs.declared.tree.Tree.{out-Tree};
 ghost use Rattle.c_terms.specs.Shapes.{shape_of};
-ghost use Rattle.smpl_patch.specs.Patterns as patterns;
 ghost use Rattle.smpl_terms.specs.Environments.{Environment};
 ghost use Rattle.smpl_terms.specs.declared.var.Var.{Var};
 ghost use Rattle.env_sets.specs.Sets.{set_denotes, set_vars};
@@ -17,50 +16,12 @@ use crate::lists::{
 };
 use crate::rows::{RowEntry, fit_some_run, fit_wild_row, last_row, push_entry};
 use crate::sets::{all_or_none, both, is_none, put_set, union};
-use crate::tokens::{fit_leaf, is_bare_token};
-use c_terms::{Label, NoMemory, Shape, TokenKind, Tree, comma};
+use crate::signs::{has_bare_signs, has_other_token, is_sign_tree};
+use crate::tokens::fit_leaf;
+use c_terms::{Label, NoMemory, Shape, Tree, comma};
 use env_sets::EnvSet;
 use smpl_patch::{PatToken, VarDecl};
 use std::alloc::Global;
-
-fn is_sign(kind: TokenKind) -> bool
-    ensures { result ≡ patterns.is_sign kind }
-{
-    match kind {
-        TokenKind::Pat => true,
-        _ => false,
-    }
-}
-
-fn is_sign_tree(tree: &Tree) -> bool
-    ensures { result ≡ is_sign_token (leaf_of (out-Tree tree.now)) }
-{
-    match tree {
-        Tree::Leaf(token) => is_sign(token.kind),
-        Tree::Branch(_, _) => false,
-    }
-}
-
-fn is_bare_leaf(tokens: &[PatToken], tree: &Tree) -> bool
-    ensures { result ≡ is_bare_sign tokens.now (leaf_of (out-Tree tree.now)) }
-{
-    match tree {
-        Tree::Leaf(token) => !is_sign(token.kind) || is_bare_token(tokens, token.id),
-        Tree::Branch(_, _) => true,
-    }
-}
-
-/// Whether the signs between the branches have neither positions nor plus code. Takes no memory.
-fn has_bare_signs(tokens: &[PatToken], trees: &[Tree]) -> bool
-    ensures { result ≡ list_all (λ f. is_bare_sign tokens.now (leaf_of (out-Tree f))) trees.now }
-{
-    for tree in trees {
-        if !is_bare_leaf(tokens, tree) {
-            return false;
-        }
-    }
-    true
-}
 
 /// The environments in which the form fits the tree. A few calls deep for each level of the form.
 #[cycle(fit)]
@@ -192,7 +153,8 @@ fn fit_kids(
     }
 }
 
-/// The environments in which the first form fits the first tree, and so on. The first that fits in none ends it.
+/// The environments in which the first form fits the first tree, and so on. Tokens are looked at first, since a variable
+/// takes a copy of its tree. The first that fits in no environment ends it.
 #[cycle(fit)]
 fn fit_all(
     alloc: Global,
@@ -208,6 +170,9 @@ fn fit_all(
         set_vars t r ≡ true) }
 {
     if forms.len() != trees.len() {
+        return Ok(EnvSet::none(alloc));
+    }
+    if has_other_token(forms, trees) {
         return Ok(EnvSet::none(alloc));
     }
     let mut out = EnvSet::all(alloc)?;

@@ -1,5 +1,5 @@
 // Forms that have the sure variables of the first: an isomorphism never unbinds a variable.
-ghost use Rattle.std.specs.Prelude.{◌≡◌, Bool, true, false, not, ◌&&◌, ◌||◌, slice_get, length};
+ghost use Rattle.std.specs.Prelude.{◌≡◌, Bool, true, false, not, ◌&&◌, ◌||◌, ◌<◌, slice_get, slice_index_or, length};
 ghost use Rattle.std.specs.List.{list_any, list_all};
 ghost use Rattle.c_terms.specs.declared.tree.Tree.{out-Tree};
 ghost use Rattle.c_terms.specs.Trees.{leaves};
@@ -109,11 +109,30 @@ fn keeps_part(
 }
 
 /// Whether the form has the sure variables of the pattern's first. Takes no memory.
-pub fn is_live(decls: &[VarDecl], tokens: &[PatToken], p: &Pattern, form: &Tree) -> bool
+fn is_live(decls: &[VarDecl], tokens: &[PatToken], p: &Pattern, form: &Tree) -> bool
     ensures { result ≡ of.is_live_in decls.now tokens.now p.now form.now }
 {
     match p.forms.as_slice() {
         [first, ..] => keeps_part(decls, tokens, p.spot, first, form, first),
         [] => false,
     }
+}
+
+/// Whether the i-th form has the sure variables of the pattern's first. The first has them: nothing is looked at then.
+/// Takes no memory.
+pub fn is_live_at(
+    decls: &[VarDecl],
+    tokens: &[PatToken],
+    p: &Pattern,
+    i: usize,
+    form: &Tree,
+) -> bool
+    requires within { i < length p.now.forms }
+    requires form { form.now ≡ slice_index_or p.now.forms i form.now }
+    ensures { result ≡ of.is_live_in decls.now tokens.now p.now form.now }
+{
+    if i == 0 {
+        return true;
+    }
+    is_live(decls, tokens, p, form)
 }

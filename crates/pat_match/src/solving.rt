@@ -1,5 +1,5 @@
 // The environments under which a pattern matches at a node.
-ghost use Rattle.std.specs.Prelude.{◌≡◌, Bool, true, ◌&&◌, IfOk};
+ghost use Rattle.std.specs.Prelude.{◌≡◌, ◌<◌, Bool, true, ◌&&◌, IfOk, length, slice_index_or};
 ghost use Rattle.std.specs.List.{list_any};
 ghost use Rattle.smpl_terms.specs.declared.var.Var.{Var};
 ghost use Rattle.smpl_terms.specs.Environments.{Environment};
@@ -9,7 +9,7 @@ ghost use Rattle.pat_match.specs.Spots as at;
 ghost use Rattle.pat_match.specs.Matching as of;
 
 use crate::inside::fit_inside;
-use crate::live::is_live;
+use crate::live::is_live_at;
 use crate::sets::{is_none, put_set, union};
 use crate::spots::fit_at;
 use c_terms::{NoMemory, Tree};
@@ -41,16 +41,19 @@ fn fit_seats(
     }
 }
 
-/// The environments in which the form has the first form's sure variables and fits some subtree of the node.
+/// The environments in which the i-th form has the first form's sure variables and fits some subtree of the node.
 fn solve_form(
     alloc: Global,
     p: &Pattern,
     decls: &[VarDecl],
     tokens: &[PatToken],
     kind: NodeKind,
+    i: usize,
     form: &Tree,
     tree: &Tree,
 ) -> Result<EnvSet, NoMemory>
+    requires within { i < length p.now.forms }
+    requires form { form.now ≡ slice_index_or p.now.forms i form.now }
     ensures meaning { IfOk result (λ r. (env : Environment) → set_denotes r env ≡ list_any
         (λ s. of.fits_seat decls.now tokens.now env p.now kind form.now s.tree) (at.seats p.now.spot kind tree.now)) }
     ensures vars { IfOk result (λ r. (t : Var → Bool) → form_vars decls.now tokens.now t form.now
@@ -61,7 +64,7 @@ fn solve_form(
     if is_none(&set) {
         return Ok(set);
     }
-    if is_live(decls, tokens, p, form) {
+    if is_live_at(decls, tokens, p, i, form) {
         Ok(set)
     } else {
         Ok(EnvSet::none(alloc))
@@ -89,8 +92,9 @@ pub fn solve(
 {
     let tree = node.tree.as_tree();
     let mut entries = Vec::new(alloc);
-    for form in p.forms.as_slice() {
-        let here = solve_form(alloc, p, decls, tokens, node.kind, form, tree)?;
+    let forms = p.forms.as_slice();
+    for i in 0..forms.len() {
+        let here = solve_form(alloc, p, decls, tokens, node.kind, i, &forms[i], tree)?;
         put_set(&mut entries, here)?;
     }
     union(alloc, entries)

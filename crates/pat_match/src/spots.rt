@@ -1,7 +1,6 @@
 // A form against a node: heads and tails by their own tokens, braces, statement variables, expression parts.
 ghost use Rattle.std.specs.Prelude.{◌≡◌, Bool, true, false, not, ◌&&◌, ◌||◌, IfOk, map, length};
 ghost use Rattle.std.specs.List.{list_all};
-ghost use Rattle.std.specs.Option.{option_copied};
 ghost use Rattle.c_terms.specs.declared.tree.Tree.{out-Tree};
 ghost use Rattle.c_terms.specs.Shapes.{shape_of};
 ghost use Rattle.smpl_patch.specs.Patterns.{is_statement_token};
@@ -11,38 +10,17 @@ ghost use Rattle.smpl_terms.specs.declared.var.Var.{Var};
 ghost use Rattle.pat_match.specs.Vars.{form_vars};
 ghost use Rattle.cfg_graph.specs.Own as own;
 ghost use Rattle.pat_match.specs.Fitting.{piece, fits_tree, kids_fit};
-ghost use Rattle.c_terms.specs.Lists as lists;
 ghost use Rattle.smpl_patch.specs.declared.pattern.Spot.TheVariants as spot;
 ghost use Rattle.pat_match.specs.Spots as of;
 
+use crate::braces::{close_brace, is_close_brace, is_open_brace, open_brace};
 use crate::fit::fit;
 use crate::sets::{both, is_none};
-use c_terms::{Label, MetaKind, NoMemory, Shape, Token, TokenKind, Tree, child, same_text};
+use c_terms::{Label, MetaKind, NoMemory, Shape, Token, TokenKind, Tree};
 use cfg_graph::{NodeKind, is_own};
 use env_sets::EnvSet;
 use smpl_patch::{PatToken, Spot, VarDecl};
 use std::alloc::Global;
-
-fn is_punct(kind: TokenKind) -> bool
-    ensures { result ≡ lists.is_punct kind }
-{
-    match kind {
-        TokenKind::Punct => true,
-        _ => false,
-    }
-}
-
-fn is_open_brace(token: &Token) -> bool
-    ensures { result ≡ of.is_open_brace token.now }
-{
-    is_punct(token.kind) && same_text(token.text.as_bytes(), b"{")
-}
-
-fn is_close_brace(token: &Token) -> bool
-    ensures { result ≡ of.is_close_brace token.now }
-{
-    is_punct(token.kind) && same_text(token.text.as_bytes(), b"}")
-}
 
 fn is_statement_kind(kind: TokenKind) -> bool
     ensures { result ≡ is_statement_token kind }
@@ -79,39 +57,6 @@ fn is_tail_node(kind: NodeKind) -> bool
     match kind {
         NodeKind::DoTail => true,
         _ => false,
-    }
-}
-
-fn last_child(tree: &Tree) -> Option<&Tree>
-    ensures { option_copied result ≡ of.last_at (out-Tree tree.now) }
-{
-    match tree {
-        Tree::Leaf(_) => None,
-        Tree::Branch(_, children) => {
-            if children.len() == 0 {
-                None
-            } else {
-                children.get(children.len() - 1)
-            }
-        }
-    }
-}
-
-fn open_brace(kind: NodeKind, tree: &Tree) -> Option<&Tree>
-    ensures { option_copied result ≡ of.open_brace kind tree.now }
-{
-    match kind {
-        NodeKind::OpenBrace => child(tree, 0),
-        _ => None,
-    }
-}
-
-fn close_brace(kind: NodeKind, tree: &Tree) -> Option<&Tree>
-    ensures { option_copied result ≡ of.close_brace kind tree.now }
-{
-    match kind {
-        NodeKind::CloseBrace => last_child(tree),
-        _ => None,
     }
 }
 

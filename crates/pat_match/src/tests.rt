@@ -180,19 +180,12 @@ fn in_a_sum(alloc: Global, value: &[u8], wanted: Wanted) -> Result<bool, NoMemor
     )
 }
 
-/// `f(E)` in `f(f(x));`, where `E` is `x`
-fn in_a_call(alloc: Global, wanted: Wanted) -> Result<bool, NoMemory> {
+/// `f(E)` in `f(f(x));`, where `E` is this tree
+fn in_a_call(alloc: Global, value: Tree, wanted: Wanted) -> Result<bool, NoMemory> {
     let inner = call_of(alloc, name(alloc, b"x", 20)?)?;
     let tree = statement(alloc, call_of(alloc, inner)?)?;
     let form = call_of(alloc, meta(alloc)?)?;
-    says(
-        alloc,
-        Spot::Inside,
-        form,
-        &tree,
-        name(alloc, b"x", 7)?,
-        wanted,
-    )
+    says(alloc, Spot::Inside, form, &tree, value, wanted)
 }
 
 /// `f(..., E, ...)`
@@ -231,13 +224,15 @@ fn among_three(alloc: Global, value: &[u8], wanted: Wanted) -> Result<bool, NoMe
     )
 }
 
-/// `f(E);` as a whole statement, at `f(1);`, where `E` is `1`
-fn whole(alloc: Global, wanted: Wanted) -> Result<bool, NoMemory> {
-    let one = leaf(alloc, TokenKind::Number, b"1", 20)?;
-    let tree = statement(alloc, call_of(alloc, one)?)?;
-    let form = statement(alloc, call_of(alloc, meta(alloc)?)?)?;
-    let value = leaf(alloc, TokenKind::Number, b"1", 7)?;
-    says(alloc, Spot::Whole, form, &tree, value, wanted)
+fn one(alloc: Global) -> Result<Tree, NoMemory> {
+    leaf(alloc, TokenKind::Number, b"1", 20)
+}
+
+/// `f(..);` with this argument as a whole statement, at `f(1);`, where `E` is `1`
+fn whole(alloc: Global, argument: Tree, wanted: Wanted) -> Result<bool, NoMemory> {
+    let tree = statement(alloc, call_of(alloc, one(alloc)?)?)?;
+    let form = statement(alloc, call_of(alloc, argument)?)?;
+    says(alloc, Spot::Whole, form, &tree, one(alloc)?, wanted)
 }
 
 fn none() -> Wanted<'static> {
@@ -261,7 +256,9 @@ fn calls_inside_statements(rt: HostRuntime) -> Result<(), Fail> {
     let alloc = rt.alloc();
     assert!(rt; in_a_sum(alloc, b"b", once(&[2, 1, 0, 2, 2]))?);
     assert!(rt; in_a_sum(alloc, b"x", none())?);
-    assert!(rt; in_a_call(alloc, once(&[2, 1, 0, 2, 0]))?);
+    assert!(rt; in_a_call(alloc, name(alloc, b"x", 7)?, once(&[2, 1, 0, 2, 0]))?);
+    let inner = call_of(alloc, name(alloc, b"x", 7)?)?;
+    assert!(rt; in_a_call(alloc, inner, once(&[2, 1, 0]))?);
     Ok(())
 }
 
@@ -269,7 +266,6 @@ fn calls_inside_statements(rt: HostRuntime) -> Result<(), Fail> {
 fn one_member_between_dots(rt: HostRuntime) -> Result<(), Fail> {
     let alloc = rt.alloc();
     assert!(rt; among_three(alloc, b"a", once(&[2, 1, 0]))?);
-    assert!(rt; among_three(alloc, b"b", once(&[2, 1, 0]))?);
     assert!(rt; among_three(alloc, b"c", once(&[2, 1, 0]))?);
     assert!(rt; among_three(alloc, b"f", none())?);
     Ok(())
@@ -277,7 +273,10 @@ fn one_member_between_dots(rt: HostRuntime) -> Result<(), Fail> {
 
 #[test]
 fn whole_statements(rt: HostRuntime) -> Result<(), Fail> {
-    assert!(rt; whole(rt.alloc(), once(&[2, 1]))?);
+    let alloc = rt.alloc();
+    assert!(rt; whole(alloc, meta(alloc)?, once(&[2, 1]))?);
+    assert!(rt; whole(alloc, one(alloc)?, once(&[2, 1]))?);
+    assert!(rt; whole(alloc, name(alloc, b"a", 20)?, none())?);
     Ok(())
 }
 

@@ -2,7 +2,7 @@ use Rattle.std.proofs.Common.{arith, ap, sym, ◌∙◌, ◌-◌}
 use Rattle.std.proofs.lemmas.Result.{IfOk-weaker}
 use Rattle.std.specs.Option.{option_copied}
 use Rattle.pat_match.specs.Runs.{comma_fits}
-use Rattle.pat_match.proofs.RowLemmas.{comma_before_at}
+use Rattle.pat_match.proofs.CountLemmas.{comma_before_at}
 use Rattle.pat_match.proofs.VarLemmas.{comma-at}
 use Rattle.pat_match.proofs.lists.fit_comma_before.Goals as goal
 

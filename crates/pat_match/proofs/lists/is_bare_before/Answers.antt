@@ -1,7 +1,7 @@
 use Rattle.std.proofs.Common.{arith, ap, sym, ◌∙◌, ◌-◌}
 use Rattle.std.specs.Option.{option_copied}
 use Rattle.pat_match.specs.Runs.{is_bare_comma}
-use Rattle.pat_match.proofs.RowLemmas.{comma_before_at}
+use Rattle.pat_match.proofs.CountLemmas.{comma_before_at}
 use Rattle.pat_match.proofs.lists.is_bare_before.Goals as goal
 
 pub returns-in-Some : goal.returns-in-Some

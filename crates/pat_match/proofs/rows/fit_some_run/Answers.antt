@@ -2,7 +2,8 @@ use Rattle.std.proofs.Common.{ap, ◌∙◌}
 use Rattle.std.specs.List.{list_any}
 use Rattle.std.proofs.lemmas.Result.{IfOk-weaker}
 use Rattle.pat_match.specs.Rows.{comma_before, row_vars, wild_entry}
-use Rattle.pat_match.proofs.RowLemmas.{take_all, wild_step}
+use Rattle.pat_match.proofs.RowLemmas.{wild_step}
+use Rattle.pat_match.proofs.CountLemmas.{take_all}
 use Rattle.pat_match.proofs.rows.fit_some_run.Goals as goal
 
 pub returns-clause-meaning : goal.returns-clause-meaning

@@ -8,8 +8,8 @@ use Rattle.pat_match.specs.Matching.{fits_seat}
 use Rattle.pat_match.specs.Vars.{form_vars}
 use Rattle.pat_match.proofs.solving.solve.Given as goal
 
-abbrev pub invariant-loop-form : goal.invariant-loop-form
-invariant-loop-form l = record {
-  meaning : (env : Environment) → set_denotes l.entries.items env ≡ list_any (λ f. list_any (λ s. fits_seat l.decls l.tokens env l.p l.node.kind f s.tree) (seats l.p.spot l.node.kind l.node.tree)) (take l.form-index l.form-items);
-  vars : (t : Var → Bool) → list_all (form_vars l.decls l.tokens t) (take l.form-index l.form-items) ≡ true → set_vars t l.entries.items ≡ true;
+abbrev pub invariant-loop-i : goal.invariant-loop-i
+invariant-loop-i l = record {
+  meaning : (env : Environment) → set_denotes l.entries.items env ≡ list_any (λ f. list_any (λ s. fits_seat l.decls l.tokens env l.p l.node.kind f s.tree) (seats l.p.spot l.node.kind l.node.tree)) (take l.i l.forms);
+  vars : (t : Var → Bool) → list_all (form_vars l.decls l.tokens t) (take l.i l.forms) ≡ true → set_vars t l.entries.items ≡ true;
 }

@@ -12,8 +12,8 @@ returns-then-is_none-clause-meaning c = λ env.
     (λ (s : Place). fits_at c.args.decls.now c.args.tokens.now env c.args.p.now.spot c.args.kind c.args.form.now s.tree)
     (seats c.args.p.now.spot c.args.kind c.args.tree.now) (sym (c.in_ok-set.ensures.meaning env) ∙ nothing))
 
-pub returns-else-is_live-clause-meaning : goal.returns-else-is_live-clause-meaning
-returns-else-is_live-clause-meaning c = λ env. c.none.ensures.meaning env
+pub returns-else-is_live_at-clause-meaning : goal.returns-else-is_live_at-clause-meaning
+returns-else-is_live_at-clause-meaning c = λ env. c.none.ensures.meaning env
     ∙ sym (not_live (is_live_in c.args.decls.now c.args.tokens.now c.args.p.now c.args.form.now)
     (λ (s : Place). fits_at c.args.decls.now c.args.tokens.now env c.args.p.now.spot c.args.kind c.args.form.now s.tree)
-    (seats c.args.p.now.spot c.args.kind c.args.tree.now) (sym c.is_live.ensures ∙ c.if-is_live.false))
+    (seats c.args.p.now.spot c.args.kind c.args.tree.now) (sym c.is_live_at.ensures ∙ c.if-is_live_at.false))

@@ -30,29 +30,3 @@ mod sign;
 pub use file::remove_calls;
 pub use laws::{file_becomes_one_text, patch_has_one_call};
 pub use patch::{Call, read_patch};
-
-#[cfg(test)]
-mod tests {
-    use crate::{read_patch, remove_calls};
-    use std::test::Fail;
-
-    #[test]
-    fn a_call_is_removed_and_its_blanks_stay(rt: HostRuntime) -> Result<(), Fail> {
-        let call = read_patch(rt.alloc(), b"@@\n@@\n- g(a);\n")?.ok_or("no small patch")?;
-        let file = b"void f(void)\n{\n\tg(a);\n\th();\n}\n";
-        let text = remove_calls(rt.alloc(), &call, file)?.ok_or("no small file")?;
-        assert_eq!(rt;
-            text.as_slice(),
-            b"void f(void)\n{\n\t\n\th();\n}\n".as_slice()
-        );
-        Ok(())
-    }
-
-    #[test]
-    fn other_forms_are_refused(rt: HostRuntime) -> Result<(), Fail> {
-        assert!(rt; read_patch(rt.alloc(), b"@@\n@@\n+ g(a);\n")?.is_none());
-        let call = read_patch(rt.alloc(), b"@@\n@@\n- g(a);\n")?.ok_or("no small patch")?;
-        assert!(rt; remove_calls(rt.alloc(), &call, b"int x;\n")?.is_none());
-        Ok(())
-    }
-}

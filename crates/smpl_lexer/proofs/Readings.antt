@@ -2,7 +2,6 @@
 use Rattle.std.proofs.Common.{◌≡◌, ℕ, ◌+◌, ◌≤◌, ◌<◌, Bool, List, [], ◌∷◌, ◌++◌, length, take, drop, Option, Some, None, refl, sym, ap, ◌∙◌, subst, arith}
 use Rattle.std.proofs.lemmas.List.{drop-drop}
 use Rattle.smpl_patch.specs.declared.fault.PatchFault.{PatchFault}
-use Rattle.smpl_patch.specs.declared.fault.PatchFault.TheVariants as fault
 use Rattle.smpl_patch.specs.Faults.{earlier, first_from, first_of}
 use Rattle.smpl_lexer.specs.declared.section.Section.{Section}
 use Rattle.smpl_lexer.specs.declared.section.Section.TheVariants as section

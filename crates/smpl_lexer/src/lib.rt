@@ -3,7 +3,8 @@
 //! - [`lex_patch`] answers a [`PatchText`]: the names of `virtual` lines, and the rules, each by its header, its
 //!   declarations and the lines of its body ([`RuleText`], [`BodyLine`]). A [`PatchToken`] has its place.
 //! - [`is_name`], [`is_word`], [`is_sign`], [`is_at`], [`is_rule_name`] and [`is_mode`] say what a token is.
-//! - [`patch_is_read_once`] is a law: a patch has one text or one first fault.
+//! - [`patch_is_read_once`] is a law: a patch has one text or one first fault. [`virtual_lines_are_spelled`] is one on the
+//!   lines before the first rule.
 //!
 //! The lines `@r@`, `expression x;`, `@@`, `- f(x);` are one rule: its header has the tokens `@`, `r`, `@`, its
 //! declarations have `expression`, `x`, `;`, and its body has one line, with the sign `-` and five tokens.
@@ -12,9 +13,12 @@
 //! lines of a body spell is for the crates above it.
 #![tactic(auto)]
 
-ghost use Rattle.std.specs.Prelude.{◌≡◌, List, ℕ, IfOk, IfErr};
+ghost use Rattle.std.specs.Prelude.{◌≡◌, ◌↔◌, List, ℕ, Some, None, IfOk, IfErr};
 ghost use Rattle.smpl_patch.specs.declared.fault.PatchFault.{PatchFault as Fault};
 ghost use Rattle.smpl_lexer.specs.declared.text.PatchText.{PatchText as Whole};
+ghost use Rattle.smpl_lexer.specs.declared.token.PatchToken.{PatchToken as Word};
+ghost use Rattle.smpl_lexer.specs.Headers.{virtual_stop};
+ghost use Rattle.smpl_lexer.specs.Virtuals.{IsVirtual, StopsAt};
 ghost use Rattle.smpl_lexer.specs.Texts.{IsTextOf, IsTextFault, OrNoMemory, AllGoOn, IsSmall};
 
 mod cut;
@@ -25,8 +29,6 @@ mod places;
 mod reading;
 mod section;
 mod stop;
-#[cfg(test)]
-mod tests;
 mod text;
 mod token;
 
@@ -80,4 +82,12 @@ pub fn patch_is_read_once()
         IsTextFault bytes fault → ⊥ }
     ensures headers { (bytes : List ℕ) (text : Whole) → IsTextOf bytes text → AllGoOn text.rules }
     ensures small { (bytes : List ℕ) (text : Whole) → IsTextOf bytes text → IsSmall text }
+{}
+
+/// A line before the first rule goes on to its end exactly where it has no tokens, or `virtual` and names. Else it stops at
+/// the first token with which no such line begins, or at its end. Does nothing.
+pub fn virtual_lines_are_spelled()
+    ensures whole { (ts : List Word) (end : ℕ) → (virtual_stop ts end ≡ None) ↔ IsVirtual ts }
+    ensures stop { (ts : List Word) (end at : ℕ) →
+        (virtual_stop ts end ≡ Some at) ↔ StopsAt IsVirtual ts end at }
 {}

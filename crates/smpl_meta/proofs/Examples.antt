@@ -1,5 +1,5 @@
 -- The definitions, run.
-use Rattle.std.proofs.Common.{◌≡◌, ℕ, true, false, List, [], ◌∷◌, Some, refl, codes, length}
+use Rattle.std.proofs.Common.{◌≡◌, ℕ, true, false, List, [], ◌∷◌, Some, refl, codes, length, arith}
 use Rattle.c_terms.specs.declared.token.TokenKind.TheVariants.{Name, Keyword, Punct, Stray, Dots}
 use Rattle.c_terms.specs.declared.token.MetaKind.TheVariants as meta
 use Rattle.smpl_patch.specs.declared.pattern.VarKind.TheVariants.{Meta, Position}
@@ -16,6 +16,12 @@ use Rattle.smpl_meta.specs.declared.patterns.Placed.{Placed}
 use Rattle.smpl_meta.specs.Patterns.{pattern_tokens, split}
 use Rattle.smpl_meta.specs.Patterns.Clause.{Not}
 use Rattle.smpl_meta.specs.Shunting.{dep_of}
+use Rattle.smpl_lexer.specs.Headers.{header_stop}
+use Rattle.smpl_meta.specs.Heads.Spells.{one_both, one_prefix, negated, name as plain}
+use Rattle.smpl_meta.specs.Spelled.{counted_in, IsHeader}
+use Rattle.smpl_meta.specs.Spelled.Closes.{bare}
+use Rattle.smpl_meta.specs.Spelled.Goes.{depends}
+use Rattle.smpl_meta.specs.Spelled.IsHeader.{named}
 
 abbrev word : List ℕ → ℕ → PatchToken
 word text at = made Name text at
@@ -100,3 +106,23 @@ two_outside = refl
 
 one_clause : (split dotted).clauses ≡ (0, Not (record { token = record { kind = Name; text = codes "a"; id = 3 }; at = 12; sign = 32; line = 0; positions = [] } ∷ [])) ∷ []
 one_clause = refl
+
+-- `!(ever r)` counts three
+counts_three : counted_in (mark (codes "!") 0 ∷ mark (codes "(") 1 ∷ word (codes "ever") 2 ∷ word (codes "r") 3 ∷ mark (codes ")") 4 ∷ []) ≡ 3
+counts_three = refl
+
+-- `@s depends on !r@` is a header
+abbrev at : ℕ → PatchToken
+at place = made Stray (codes "@") place
+
+is_header : IsHeader earlier 200 (at 0 ∷ word (codes "s") 1 ∷ word (codes "depends") 2 ∷ word (codes "on") 3 ∷ mark (codes "!") 4 ∷ word (codes "r") 5 ∷ at 6 ∷ [])
+is_header = named (at 0) (word (codes "s") 1) refl refl
+    (depends {cs = mark (codes "!") 4 ∷ word (codes "r") 5 ∷ []} {ts = at 6 ∷ []} (word (codes "depends") 2) (word (codes "on") 3) refl refl
+    (one_both (one_prefix (negated (mark (codes "!") 4) refl (plain (word (codes "r") 5) refl)))) (omega arith) (bare (at 6) refl))
+
+-- `@s depends on r t@` can't go on at t, and `@s depends on` not at its end
+at_second_name : header_stop (at 0 ∷ word (codes "s") 1 ∷ word (codes "depends") 2 ∷ word (codes "on") 3 ∷ word (codes "r") 4 ∷ word (codes "t") 5 ∷ at 6 ∷ []) 9 ≡ Some 5
+at_second_name = refl
+
+at_end : header_stop (at 0 ∷ word (codes "s") 1 ∷ word (codes "depends") 2 ∷ word (codes "on") 3 ∷ []) 9 ≡ Some 9
+at_end = refl

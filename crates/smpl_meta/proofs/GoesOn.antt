@@ -2,7 +2,7 @@
 --
 -- Proof: by induction on how a condition is spelled. Reading what is spelled leads from before an operand to behind one, at
 -- the same level of brackets, and takes as many of the counted tokens as stand there.
-use Rattle.std.proofs.Common.{◌≡◌, ℕ, ◌+◌, ◌-◌, ◌==◌, ◌||◌, Bool, true, false, List, [], ◌∷◌, ◌++◌, Option, Some, None, refl, ap, ◌∙◌, subst, codes, arith, if◌then◌else◌}
+use Rattle.std.proofs.Common.{◌≡◌, ℕ, ◌+◌, ◌-◌, ◌≤◌, ◌==◌, ◌||◌, Bool, true, false, List, [], ◌∷◌, ◌++◌, Option, Some, None, refl, ap, ◌∙◌, subst, codes, arith, if◌then◌else◌}
 use Rattle.std.specs.Prelude.{cond}
 use Rattle.std.specs.Str.{bytes_eq}
 use Rattle.std.proofs.lemmas.Bool.{eqb-true}
@@ -16,6 +16,7 @@ use Rattle.smpl_meta.specs.declared.head.RuleHead.{RuleHead}
 use Rattle.smpl_meta.specs.declared.depends.Mark.{Mark}
 use Rattle.smpl_meta.specs.declared.depends.Mark.TheVariants as mark
 use Rattle.smpl_meta.specs.Heads.{mark_of, Level, Spells}
+use Rattle.smpl_meta.specs.Heads.Level.{Either}
 use Rattle.smpl_meta.specs.Heads.Spells.{either, one_both, both, one_prefix, negated, group, name, ever, never}
 use Rattle.smpl_meta.specs.Spelled.{is_counted, counted_in, Closes, Goes, IsHeader}
 use Rattle.smpl_meta.specs.Spelled.Closes.{bare, moded}
@@ -90,7 +91,7 @@ taken_by left rest f false is e =
     ap (λ (c : Bool). if c then None else Some (f (if c then 0 else left - 1))) is
     ∙ ap (λ (m : ℕ). Some (f m)) (omega (arith, e))
 
-taken : (left rest : ℕ) (f : ℕ → HeaderPlace) → left ≡ rest + 1 → counted left (f (less left)) ≡ Some (f rest)
+pub taken : (left rest : ℕ) (f : ℕ → HeaderPlace) → left ≡ rest + 1 → counted left (f (less left)) ≡ Some (f rest)
 taken left rest f e = taken_by left rest f (left == 0) refl e
 
 -- what stands before an operand, by its tests in order
@@ -106,27 +107,27 @@ not_zero_by n false is some = refl
 not_zero_by n true is some = absurd (some (eqb-true n 0 is))
 
 module _ (level : ℕ) (t : PatchToken) where
-  bang_leads : (left : ℕ) → is_sign (codes "!") t ≡ true
+  pub bang_leads : (left : ℕ) → is_sign (codes "!") t ≡ true
       → operand level left t ≡ counted left (h.Operand level (less left))
   bang_leads left is = ap (λ (b : Bool). if b then counted left (h.Operand level (less left)) else (if is_sign (codes "(") t then counted left (h.Operand (level + 1) (less left)) else (if is_word (codes "ever") t || is_word (codes "never") t then Some (h.Word level left) else rule_name level left t))) is
 
-  open_leads : (left : ℕ) → is_sign (codes "(") t ≡ true
+  pub open_leads : (left : ℕ) → is_sign (codes "(") t ≡ true
       → operand level left t ≡ counted left (h.Operand (level + 1) (less left))
   open_leads left is = let s = sign (codes "(") t is in rw (s.0, s.1) refl
 
-  ever_leads : (left : ℕ) → is_word (codes "ever") t ≡ true → operand level left t ≡ Some (h.Word level left)
+  pub ever_leads : (left : ℕ) → is_word (codes "ever") t ≡ true → operand level left t ≡ Some (h.Word level left)
   ever_leads left is = let s = word (codes "ever") t is in rw (s.0, s.1) refl
 
-  never_leads : (left : ℕ) → is_word (codes "never") t ≡ true → operand level left t ≡ Some (h.Word level left)
+  pub never_leads : (left : ℕ) → is_word (codes "never") t ≡ true → operand level left t ≡ Some (h.Word level left)
   never_leads left is = let s = word (codes "never") t is in rw (s.0, s.1) refl
 
-  word_leads : (left : ℕ) → is_rule_name t ≡ true → rule_name level left t ≡ counted left (h.Operated level (less left))
+  pub word_leads : (left : ℕ) → is_rule_name t ≡ true → rule_name level left t ≡ counted left (h.Operated level (less left))
   word_leads left is = ap (λ (b : Bool). if b then counted left (h.Operated level (less left)) else None) is
 
   either_word : (a b : Bool) → a ≡ false → b ≡ false → (a || b) ≡ false
   either_word a b ea eb = rw (ea, eb) refl
 
-  name_leads : (left : ℕ) → is_rule_name t ≡ true → operand level left t ≡ counted left (h.Operated level (less left))
+  pub name_leads : (left : ℕ) → is_rule_name t ≡ true → operand level left t ≡ counted left (h.Operated level (less left))
   name_leads left is =
       let p = plain t is in
       ap (λ (b : Bool). if b then counted left (h.Operand level (less left)) else (if is_sign (codes "(") t then counted left (h.Operand (level + 1) (less left)) else (if is_word (codes "ever") t || is_word (codes "never") t then Some (h.Word level left) else rule_name level left t))) (no_sign (codes "!") t p.kind)
@@ -134,14 +135,14 @@ module _ (level : ℕ) (t : PatchToken) where
       ∙ (ap (λ (b : Bool). if b then Some (h.Word level left) else rule_name level left t) (either_word (is_word (codes "ever") t) (is_word (codes "never") t) p.ever p.never)
       ∙ word_leads left is))
 
-  or_leads : (left : ℕ) → is_sign (codes "||") t ≡ true → operated level left t ≡ Some (h.Operand level left)
+  pub or_leads : (left : ℕ) → is_sign (codes "||") t ≡ true → operated level left t ≡ Some (h.Operand level left)
   or_leads left is = let s = sign (codes "||") t is in rw (s.0, s.1) refl
 
-  and_leads : (left : ℕ) → is_sign (codes "&&") t ≡ true → operated level left t ≡ Some (h.Operand level left)
+  pub and_leads : (left : ℕ) → is_sign (codes "&&") t ≡ true → operated level left t ≡ Some (h.Operand level left)
   and_leads left is = let s = sign (codes "&&") t is in rw (s.0, s.1) refl
 
   -- a bracket closes the level that one opened
-  close_leads : (left : ℕ) → is_sign (codes ")") t ≡ true → operated (level + 1) left t ≡ Some (h.Operated level left)
+  pub close_leads : (left : ℕ) → is_sign (codes ")") t ≡ true → operated (level + 1) left t ≡ Some (h.Operated level left)
   close_leads left is =
       let s = sign (codes ")") t is in
       let some : ((level + 1) == 0) ≡ false = not_zero_by (level + 1) ((level + 1) == 0) refl (λ e. absurd (omega (arith, e))) in
@@ -265,11 +266,11 @@ module _ (end : ℕ) where
     -- ---- the whole header
 
     -- a token with which a header ends is none of those that go on
-    record Last (t : PatchToken) : Type 0 where
-      name : is_rule_name t ≡ false
-      depends : is_word (codes "depends") t ≡ false
-      or : is_sign (codes "||") t ≡ false
-      and : is_sign (codes "&&") t ≡ false
+    pub record Last (t : PatchToken) : Type 0 where
+      pub name : is_rule_name t ≡ false
+      pub depends : is_word (codes "depends") t ≡ false
+      pub or : is_sign (codes "||") t ≡ false
+      pub and : is_sign (codes "&&") t ≡ false
 
     at_leads : (t : PatchToken) → is_at t ≡ true → after_mode t ≡ Some h.Closed
     at_leads t is = ap (λ (b : Bool). if b then Some h.Closed else None) is
@@ -305,18 +306,18 @@ module _ (end : ℕ) where
         ap (λ (b : Bool). if b then Some h.Moded else after_mode t) none ∙ at_leads t is
 
     -- a place at which a header may close
-    abbrev MayClose : HeaderPlace → Type 0
+    abbrev pub MayClose : HeaderPlace → Type 0
     MayClose p = (t : PatchToken) → Last t → header_step p t ≡ after_depends t
 
-    closed : (p : HeaderPlace) (ts : List PatchToken) → Closes ts → MayClose p → Ends p ts end
+    pub closed : (p : HeaderPlace) (ts : List PatchToken) → Closes ts → MayClose p → Ends p ts end
     closed p _ (bare a is) may = goes p h.Closed a [] (may a (at_last a is) ∙ at_behind a is) refl
     closed p _ (moded m a mode is) may =
         goes p h.Moded m (a ∷ []) (may m (mode_last m mode) ∙ mode_leads m mode) (goes h.Moded h.Closed a [] (at_leads a is) refl)
 
-    named_closes : MayClose h.Named
+    pub named_closes : MayClose h.Named
     named_closes t last = ap (λ (b : Bool). if b then Some h.Depends else after_depends t) last.depends
 
-    opened_closes : MayClose h.Opened
+    pub opened_closes : MayClose h.Opened
     opened_closes t last = ap (λ (b : Bool). if b then Some h.Named else after_name t) last.name ∙ named_closes t last
 
     operated_closes : (left : ℕ) → MayClose (h.Operated 0 left)
@@ -326,30 +327,36 @@ module _ (end : ℕ) where
         neither : (a b : Bool) → a ≡ false → b ≡ false → (a || b) ≡ false
         neither a b ea eb = rw (ea, eb) refl
 
+    -- behind `depends on`
+    pub condition_ends : (most : ℕ) {cs ts : List PatchToken} {d : Dep} → Spells earlier Either cs d [] → counted_in cs ≤ most
+        → Closes ts → Ends (h.Operand 0 most) (cs ++ ts) end
+    condition_ends most {cs = cs} {ts = ts} spelled few last =
+        let r = reads spelled in
+        r.leads 0 most (most - r.count) ts (omega (arith, few, r.counts))
+        (closed (h.Operated 0 (most - r.count)) ts last (operated_closes (most - r.count)))
+
     -- behind the name, or where none stands
-    behind : (p : HeaderPlace) (ts : List PatchToken) → Goes earlier ts → MayClose p
+    behind : (p : HeaderPlace) (ts : List PatchToken) → Goes earlier 200 ts → MayClose p
         → ((t : PatchToken) → is_word (codes "depends") t ≡ true → header_step p t ≡ Some h.Depends) → Ends p ts end
     behind p ts (free last) may on = closed p ts last may
     behind p _ (depends {cs = cs} {ts = ts} w o word_is is spelled few last) may on =
-        let r = reads spelled in
         goes p h.Depends w (o ∷ (cs ++ ts)) (on w word_is)
         (goes h.Depends (h.Operand 0 200) o (cs ++ ts) (ap (λ (b : Bool). if b then Some (h.Operand 0 200) else None) is)
-        (r.leads 0 200 (200 - r.count) ts (omega (arith, few, r.counts))
-        (closed (h.Operated 0 (200 - r.count)) ts last (operated_closes (200 - r.count)))))
+        (condition_ends 200 spelled few last))
 
-    named_depends : (t : PatchToken) → is_word (codes "depends") t ≡ true → header_step h.Named t ≡ Some h.Depends
+    pub named_depends : (t : PatchToken) → is_word (codes "depends") t ≡ true → header_step h.Named t ≡ Some h.Depends
     named_depends t is = ap (λ (b : Bool). if b then Some h.Depends else after_depends t) is
 
-    opened_depends : (t : PatchToken) → is_word (codes "depends") t ≡ true → header_step h.Opened t ≡ Some h.Depends
+    pub opened_depends : (t : PatchToken) → is_word (codes "depends") t ≡ true → header_step h.Opened t ≡ Some h.Depends
     opened_depends t is =
         let w = word (codes "depends") t is in
         let none : is_rule_name t ≡ false = rw (w.0, w.1) refl in
         ap (λ (b : Bool). if b then Some h.Named else after_name t) none ∙ named_depends t is
 
-    starts : (t : PatchToken) → is_at t ≡ true → header_step h.Start t ≡ Some h.Opened
+    pub starts : (t : PatchToken) → is_at t ≡ true → header_step h.Start t ≡ Some h.Opened
     starts t is = ap (λ (b : Bool). if b then Some h.Opened else None) is
 
-    pub header_goes_on : (ts : List PatchToken) → IsHeader earlier ts → header_stop ts end ≡ None
+    pub header_goes_on : (ts : List PatchToken) → IsHeader earlier 200 ts → header_stop ts end ≡ None
     header_goes_on _ (unnamed {ts = ts} a is rest) =
         goes h.Start h.Opened a ts (starts a is) (behind h.Opened ts rest opened_closes opened_depends)
     header_goes_on _ (named {ts = ts} a n is name_is rest) =

@@ -13,13 +13,13 @@ use Rattle.smpl_meta.specs.Heads.Level.{Either}
 use Rattle.smpl_meta.proofs.Marks.{plain, at_not_on, word_not_on}
 use Rattle.smpl_meta.proofs.Conditions.{behind, Ends, stepped}
 
-skipped : (t : PatchToken) (ts : List PatchToken) → is_word (codes "on") t ≡ false → behind_on (t ∷ ts) ≡ behind_on ts
+pub skipped : (t : PatchToken) (ts : List PatchToken) → is_word (codes "on") t ≡ false → behind_on (t ∷ ts) ≡ behind_on ts
 skipped t ts e = ap (λ (b : Bool). if b then ts else behind_on ts) e
 
-found : (t : PatchToken) (ts : List PatchToken) → is_word (codes "on") t ≡ true → behind_on (t ∷ ts) ≡ ts
+pub found : (t : PatchToken) (ts : List PatchToken) → is_word (codes "on") t ≡ true → behind_on (t ∷ ts) ≡ ts
 found t ts e = ap (λ (b : Bool). if b then ts else behind_on ts) e
 
-mode_not_on : (t : PatchToken) (a b : Bool) → is_word (codes "exists") t ≡ a → is_word (codes "forall") t ≡ b
+pub mode_not_on : (t : PatchToken) (a b : Bool) → is_word (codes "exists") t ≡ a → is_word (codes "forall") t ≡ b
     → (a || b) ≡ true → is_word (codes "on") t ≡ false
 mode_not_on t true b is also e = word_not_on (codes "exists") t is refl
 mode_not_on t false true is also e = word_not_on (codes "forall") t also refl

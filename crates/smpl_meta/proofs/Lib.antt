@@ -11,7 +11,13 @@ pub mod Conditions
 pub mod HasCondition
 pub mod GoesOn
 pub mod Spelling
+pub mod Passing
+pub mod Carrying
+pub mod Carried
+pub mod Standing
+pub mod Stopping
 pub mod HeadsOnce
+pub mod FaultsOnce
 pub mod Placing
 pub mod IndexLemmas
 pub mod SeenLemmas

@@ -153,3 +153,26 @@ at_not_on t e = let k = stray_kind t.token.kind (and_both (is_stray_kind t.token
 pub word_not_on : (text : List ℕ) (t : PatchToken) → is_word text t ≡ true → bytes_eq text (codes "on") ≡ false
     → is_word (codes "on") t ≡ false
 word_not_on text t e other = let w = word text t e in rw (w.0, w.1) other
+
+-- ---- what ends a condition
+
+mode_no_side : (t : PatchToken) (a b : Bool) → is_word (codes "exists") t ≡ a → is_word (codes "forall") t ≡ b
+    → (a || b) ≡ true → (is_sign (codes "||") t ≡ false) × (is_sign (codes "&&") t ≡ false)
+mode_no_side t true b is also e = let w = word (codes "exists") t is in (no_sign (codes "||") t w.0, no_sign (codes "&&") t w.0)
+mode_no_side t false true is also e = let w = word (codes "forall") t also in (no_sign (codes "||") t w.0, no_sign (codes "&&") t w.0)
+mode_no_side t false false is also e = absurd (cc)
+
+at_no_side : (t : PatchToken) → is_at t ≡ true → (is_sign (codes "||") t ≡ false) × (is_sign (codes "&&") t ≡ false)
+at_no_side t e =
+    let k = stray_kind t.token.kind (and_both (is_stray_kind t.token.kind) (bytes_eq t.token.text (codes "@")) e).0 in
+    (ap (λ (k : TokenKind). is_mark_kind k && bytes_eq t.token.text (codes "||")) k, ap (λ (k : TokenKind). is_mark_kind k && bytes_eq t.token.text (codes "&&")) k)
+
+side_by : (t : PatchToken) (a b : Bool) → is_mode t ≡ a → is_at t ≡ b → (a || b) ≡ true
+    → (is_sign (codes "||") t ≡ false) × (is_sign (codes "&&") t ≡ false)
+side_by t true b is also e = mode_no_side t (is_word (codes "exists") t) (is_word (codes "forall") t) refl refl is
+side_by t false true is also e = at_no_side t also
+side_by t false false is also e = absurd (cc)
+
+-- `exists`, `forall` and `@` are neither `||` nor `&&`
+pub no_side : (t : PatchToken) → (is_mode t || is_at t) ≡ true → (is_sign (codes "||") t ≡ false) × (is_sign (codes "&&") t ≡ false)
+no_side t e = side_by t (is_mode t) (is_at t) refl refl e

@@ -60,11 +60,11 @@ module _ (end : ℕ) where
 
   -- ---- a condition, and what stands behind it
 
-  record Rest (left : ℕ) (ts : List PatchToken) : Type 0 where
-    tail : List PatchToken
-    is : ts ≡ condition ts ++ tail
-    closed : Closes tail
-    few : counted_in (condition ts) ≤ left
+  pub record Rest (left : ℕ) (ts : List PatchToken) : Type 0 where
+    pub tail : List PatchToken
+    pub is : ts ≡ condition ts ++ tail
+    pub closed : Closes tail
+    pub few : counted_in (condition ts) ≤ left
 
   longer : (left next : ℕ) (t : PatchToken) (ts : List PatchToken) (m : Mark) → mark_of t ≡ m → (is_mode t || is_at t) ≡ false
       → cond (is_counted m) 1 0 + next ≤ left → Rest next ts → Rest left (t ∷ ts)
@@ -87,7 +87,7 @@ module _ (end : ℕ) where
   one_less left some = less_by left (left == 0) refl some
 
   -- the places of a condition, before each of which so many counted tokens may come
-  data In (left : ℕ) : HeaderPlace → Type 0 where
+  pub data In (left : ℕ) : HeaderPlace → Type 0 where
     hole : (level : ℕ) → In left (h.Operand level left)
     worded : (level : ℕ) → In left (h.Word level left)
     full : (level : ℕ) → In left (h.Operated level left)
@@ -176,7 +176,7 @@ module _ (end : ℕ) where
   moves t ts _ left q (worded level) e last = from_word t ts level left q (name_by level left t q (is_rule_name t) refl e)
   moves t ts _ left q (full level) e last = from_full t ts level left q last (operated_is level left t q e)
 
-  rest_of : (ts : List PatchToken) (p : HeaderPlace) (left : ℕ) → In left p → Ends p ts end → Rest left ts
+  pub rest_of : (ts : List PatchToken) (p : HeaderPlace) (left : ℕ) → In left p → Ends p ts end → Rest left ts
   rest_of [] p left at e = absurd (no_end p left at e)
   rest_of (t ∷ ts) p left at e =
       let s = stepped p t ts end e in
@@ -189,57 +189,57 @@ module _ (end : ℕ) where
 
   module _ (earlier : List RuleHead) where
     spelled_by : (w o : PatchToken) (ts : List PatchToken) → is_word (codes "depends") w ≡ true → is_word (codes "on") o ≡ true
-        → Ends (h.Operand 0 200) ts end → Goes earlier (w ∷ o ∷ ts)
+        → Ends (h.Operand 0 200) ts end → Goes earlier 200 (w ∷ o ∷ ts)
     spelled_by w o ts word_is on_is e =
         let d = behind earlier ts 200 end e in
         let r = rest_of ts (h.Operand 0 200) 200 (hole 0) e in
-        subst (λ (l : List PatchToken). Goes earlier (w ∷ o ∷ l)) (sym r.is) (depends w o word_is on_is d.1 r.few r.closed)
+        subst (λ (l : List PatchToken). Goes earlier 200 (w ∷ o ∷ l)) (sym r.is) (depends w o word_is on_is d.1 r.few r.closed)
 
     on_by : (w o : PatchToken) (ts : List PatchToken) (q : HeaderPlace) (b : Bool) → is_word (codes "depends") w ≡ true
-        → is_word (codes "on") o ≡ b → (if b then Some (h.Operand 0 200) else None) ≡ Some q → Ends q ts end → Goes earlier (w ∷ o ∷ ts)
+        → is_word (codes "on") o ≡ b → (if b then Some (h.Operand 0 200) else None) ≡ Some q → Ends q ts end → Goes earlier 200 (w ∷ o ∷ ts)
     on_by w o ts q true word_is is e last =
         let q_is : q ≡ h.Operand 0 200 = cc in
         spelled_by w o ts word_is is (subst (λ (p : HeaderPlace). Ends p ts end) q_is last)
     on_by w o ts q false word_is is e last = absurd (cc)
 
     behind_depends : (w : PatchToken) (ts : List PatchToken) → is_word (codes "depends") w ≡ true → Ends h.Depends ts end
-        → Goes earlier (w ∷ ts)
+        → Goes earlier 200 (w ∷ ts)
     behind_depends w [] is e = absurd (cc)
     behind_depends w (o ∷ ts) is e = let s = stepped h.Depends o ts end e in
         on_by w o ts s.next (is_word (codes "on") o) is refl s.is s.ends
 
     depends_by : (t : PatchToken) (ts : List PatchToken) (q : HeaderPlace) (b : Bool) → is_word (codes "depends") t ≡ b
-        → (if b then Some h.Depends else after_depends t) ≡ Some q → Ends q ts end → Goes earlier (t ∷ ts)
+        → (if b then Some h.Depends else after_depends t) ≡ Some q → Ends q ts end → Goes earlier 200 (t ∷ ts)
     depends_by t ts q true is e last =
         let q_is : q ≡ h.Depends = cc in
         behind_depends t ts is (subst (λ (p : HeaderPlace). Ends p ts end) q_is last)
     depends_by t ts q false is e last = free (closes_of t ts q e last)
 
-    behind_name : (ts : List PatchToken) → Ends h.Named ts end → Goes earlier ts
+    behind_name : (ts : List PatchToken) → Ends h.Named ts end → Goes earlier 200 ts
     behind_name [] e = absurd (cc)
     behind_name (t ∷ ts) e = let s = stepped h.Named t ts end e in
         depends_by t ts s.next (is_word (codes "depends") t) refl s.is s.ends
 
     name_or : (a t : PatchToken) (ts : List PatchToken) (q : HeaderPlace) (b : Bool) → is_at a ≡ true → is_rule_name t ≡ b
-        → (if b then Some h.Named else after_name t) ≡ Some q → Ends q ts end → IsHeader earlier (a ∷ t ∷ ts)
+        → (if b then Some h.Named else after_name t) ≡ Some q → Ends q ts end → IsHeader earlier 200 (a ∷ t ∷ ts)
     name_or a t ts q true at_is is e last =
         let q_is : q ≡ h.Named = cc in
         with_name a t at_is is (behind_name ts (subst (λ (p : HeaderPlace). Ends p ts end) q_is last))
     name_or a t ts q false at_is is e last =
         unnamed a at_is (depends_by t ts q (is_word (codes "depends") t) refl e last)
 
-    behind_at : (a : PatchToken) (ts : List PatchToken) → is_at a ≡ true → Ends h.Opened ts end → IsHeader earlier (a ∷ ts)
+    behind_at : (a : PatchToken) (ts : List PatchToken) → is_at a ≡ true → Ends h.Opened ts end → IsHeader earlier 200 (a ∷ ts)
     behind_at a [] is e = absurd (cc)
     behind_at a (t ∷ ts) is e = let s = stepped h.Opened t ts end e in
         name_or a t ts s.next (is_rule_name t) is refl s.is s.ends
 
     start_by : (a : PatchToken) (ts : List PatchToken) (q : HeaderPlace) (b : Bool) → is_at a ≡ b
-        → (if b then Some h.Opened else None) ≡ Some q → Ends q ts end → IsHeader earlier (a ∷ ts)
+        → (if b then Some h.Opened else None) ≡ Some q → Ends q ts end → IsHeader earlier 200 (a ∷ ts)
     start_by a ts q true is e last =
         let q_is : q ≡ h.Opened = cc in
         behind_at a ts is (subst (λ (p : HeaderPlace). Ends p ts end) q_is last)
     start_by a ts q false is e last = absurd (cc)
 
-    pub header_is_spelled : (ts : List PatchToken) → header_stop ts end ≡ None → IsHeader earlier ts
+    pub header_is_spelled : (ts : List PatchToken) → header_stop ts end ≡ None → IsHeader earlier 200 ts
     header_is_spelled [] e = absurd (cc)
     header_is_spelled (a ∷ ts) e = let s = stepped h.Start a ts end e in start_by a ts s.next (is_at a) refl s.is s.ends

@@ -8,10 +8,10 @@ use Rattle.smpl_lexer.specs.Headers.{is_rule_name, is_mode, most_counted}
 use Rattle.smpl_meta.specs.declared.head.RuleHead.{RuleHead}
 use Rattle.smpl_meta.specs.declared.depends.Mark.{Mark}
 use Rattle.smpl_meta.specs.declared.depends.Mark.TheVariants as mark
-use Rattle.smpl_meta.specs.Heads.{mark_of, Spells}
+use Rattle.smpl_meta.specs.Heads.{mark_of, Spells, depends_tokens}
 use Rattle.smpl_meta.specs.Heads.Level.{Either}
 
--- names, `!` and `(` count, of which a condition has at most 200
+-- names, `!` and `(` count
 abbrev pub is_counted : Mark → Bool
 is_counted mark.Not = true
 is_counted mark.Open = true
@@ -27,12 +27,13 @@ pub data Closes : List PatchToken → Type 0 where
   bare : (a : PatchToken) → is_at a ≡ true → Closes (a ∷ [])
   moded : (m a : PatchToken) → is_mode m ≡ true → is_at a ≡ true → Closes (m ∷ a ∷ [])
 
-module _ (earlier : List RuleHead) where
+-- headers whose conditions have at most so many of these
+module _ (earlier : List RuleHead) (most : ℕ) where
   -- what stands behind the name
   pub data Goes : List PatchToken → Type 0 where
     free : {ts : List PatchToken} → Closes ts → Goes ts
     depends : {cs ts : List PatchToken} {d : Dep} (w o : PatchToken) → is_word (codes "depends") w ≡ true
-        → is_word (codes "on") o ≡ true → Spells earlier Either cs d [] → counted_in cs ≤ most_counted → Closes ts
+        → is_word (codes "on") o ≡ true → Spells earlier Either cs d [] → counted_in cs ≤ most → Closes ts
         → Goes (w ∷ o ∷ (cs ++ ts))
 
   -- the tokens are a header
@@ -40,3 +41,20 @@ module _ (earlier : List RuleHead) where
     unnamed : {ts : List PatchToken} (a : PatchToken) → is_at a ≡ true → Goes ts → IsHeader (a ∷ ts)
     named : {ts : List PatchToken} (a n : PatchToken) → is_at a ≡ true → is_rule_name n ≡ true → Goes ts
         → IsHeader (a ∷ n ∷ ts)
+
+-- ---- where a header can't go on
+
+module _ (earlier : List RuleHead) where
+  -- The header can go on up to here: with some more tokens it is one, whatever it counts, and up to here it counts no more
+  -- than 200.
+  pub record CanStand (ts : List PatchToken) : Type 0 where
+    pub most : ℕ
+    pub more : List PatchToken
+    pub header : IsHeader earlier most (ts ++ more)
+    pub few : counted_in (depends_tokens ts) ≤ most_counted
+
+  -- It can't go on at the first token with which it can't stand, or at its end where that is too early.
+  pub data StopsAt (ts : List PatchToken) (end : ℕ) : ℕ → Type 0 where
+    token : (front rest : List PatchToken) (t : PatchToken) → ts ≡ front ++ t ∷ rest → CanStand front
+        → (CanStand (front ++ t ∷ []) → ⊥) → StopsAt ts end t.at
+    early : CanStand ts → (IsHeader earlier most_counted ts → ⊥) → StopsAt ts end end

@@ -83,7 +83,8 @@ impl Model for Earlier {
 }
 
 impl Earlier {
-    /// What stands before the first rule, under these names of `virtual` lines. Linear in them.
+    /// What stands before the first rule, under these names of `virtual` lines. Linear in them. `NoMemory`: memory
+    /// was refused.
     pub fn of(alloc: Global, virtuals: &[Text]) -> Result<Earlier, NoMemory>
         ensures { IfOk result (λ e. e ≡ first_under virtuals.now) }
     {
@@ -99,6 +100,7 @@ impl Earlier {
     }
 
     /// What stands before the next rule. Linear in the head's variables and in the length of their names.
+    /// `NoMemory`: memory was refused, and what stood before is gone too.
     pub fn with(self, alloc: Global, head: RuleHead) -> Result<Earlier, NoMemory>
         ensures { IfOk result (λ e. e ≡ with_head self head) }
     {

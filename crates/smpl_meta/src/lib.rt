@@ -19,13 +19,13 @@ ghost use Rattle.smpl_lexer.specs.declared.text.PatchText.{PatchText as Whole};
 ghost use Rattle.smpl_lexer.specs.declared.text.RuleText.{RuleText as Rule};
 ghost use Rattle.smpl_patch.specs.declared.rule.Dep.{Dep};
 ghost use Rattle.smpl_lexer.specs.declared.token.PatchToken.{PatchToken as Word};
-ghost use Rattle.smpl_lexer.specs.Headers.{header_stop};
+ghost use Rattle.smpl_lexer.specs.Headers.{header_stop, most_counted};
 ghost use Rattle.smpl_meta.specs.declared.head.RuleHead.{RuleHead as Head};
 ghost use Rattle.smpl_patch.specs.Faults.{first_of};
 ghost use Rattle.smpl_lexer.specs.Texts.{AllGoOn, OrNoMemory};
 ghost use Rattle.smpl_meta.specs.Decls.{IsDecls, decl_faults};
 ghost use Rattle.smpl_meta.specs.Heads.{IsHead, IsHeadFault, IsHeadIn, IsHeadFaultIn, AreHeads, IsFirstHeadFault, DependsOn, depends_tokens};
-ghost use Rattle.smpl_meta.specs.Spelled.{IsHeader};
+ghost use Rattle.smpl_meta.specs.Spelled.{IsHeader, StopsAt};
 ghost use Rattle.smpl_meta.specs.Shunting.{head_of};
 
 mod decls;
@@ -44,8 +44,6 @@ mod nots;
 mod parts;
 mod patterns;
 mod seen;
-#[cfg(test)]
-mod tests;
 mod variables;
 mod vars;
 
@@ -64,7 +62,7 @@ use std::alloc::Global;
 pub use variables::VarTable;
 
 /// The variables that declarations declare, as variables of a rule, or their first fault: the one at the least place, and
-/// there the one of the least number. Linear in the tokens and their bytes.
+/// there the one of the least number. Linear in the tokens and their bytes, where no hashes of names collide.
 ///
 /// - `BadMetavariable`: a declaration that is not of the form, at its first token, or a keyword for a name.
 /// - `TwiceNamed`: a name that an earlier item of the declarations has, unless both are symbols.
@@ -131,7 +129,8 @@ fn read_head(
 }
 
 /// The head of a rule, or the first fault of its header and declarations: the one at the least place, and there the one
-/// of the least number. Linear in them and their bytes, and in the lines of the body, which may say the mode.
+/// of the least number. Linear in them and their bytes, and in the lines of the body, which may say the mode, where no
+/// hashes of names collide. Of a header that the grammar doesn't spell, which no text has, the condition is not told.
 ///
 /// - `TwiceNamed`: the rule's name, where an earlier rule or a `virtual` line has it.
 /// - `UnknownRule`: a name behind `depends on` that is no earlier rule and not virtual.
@@ -155,7 +154,7 @@ pub fn read_header(
 }
 
 /// The heads of all rules of a text, or the first fault of the first rule that has one, as [`read_header`] says. Linear in
-/// the text.
+/// the text, where no hashes of names collide.
 pub fn read_headers(alloc: Global, text: &PatchText) -> Result<Earlier, PatchFault>
     requires { length text.now.rules < 2 ^ 32 }
     ensures heads { IfOk result (λ e. AreHeads text.now [] text.now.rules e.heads) }
@@ -179,18 +178,26 @@ pub fn headers_have_conditions()
         DependsOn earlier ts one → DependsOn earlier ts other → one ≡ other }
 {}
 
-/// A header can go on to its end exactly where the grammar spells it. Does nothing.
+/// A header goes on to its end exactly where the grammar spells it, with at most 200 names, `!` and `(` in its condition.
+/// Else it stops at its first token with which no header of the grammar begins, at the 201st that counts, or at its end.
+/// Does nothing.
 pub fn headers_are_spelled()
-    ensures { (earlier : List Head) (ts : List Word) (end : ℕ) →
-        (header_stop ts end ≡ None) ↔ IsHeader earlier ts }
+    ensures whole { (earlier : List Head) (ts : List Word) (end : ℕ) →
+        (header_stop ts end ≡ None) ↔ IsHeader earlier most_counted ts }
+    ensures stop { (earlier : List Head) (ts : List Word) (end at : ℕ) →
+        (header_stop ts end ≡ Some at) ↔ StopsAt earlier ts end at }
 {}
 
 /// Rules whose headers go on to their ends have one list of heads, whatever stands before them, and a rule has a head or
-/// a fault. Does nothing.
+/// a fault. A text of such rules has heads or one first fault, and not both. Does nothing.
 pub fn heads_are_read_once()
     ensures once { (text : Whole) (earlier : List Head) (rules : List Rule) (one other : List Head) →
         AllGoOn rules → AreHeads text earlier rules one → AreHeads text earlier rules other → one ≡ other }
     ensures apart { (virtuals : List (List ℕ)) (earlier : List Head) (rule : ℕ) (r : Rule)
         (h : Head) (fault : Fault) →
         IsHead virtuals earlier rule r h → IsHeadFault virtuals earlier r fault → ⊥ }
+    ensures first { (text : Whole) (one other : Fault) → AllGoOn text.rules →
+        IsFirstHeadFault text one → IsFirstHeadFault text other → one ≡ other }
+    ensures alone { (text : Whole) (heads : List Head) (fault : Fault) → AllGoOn text.rules →
+        AreHeads text [] text.rules heads → IsFirstHeadFault text fault → ⊥ }
 {}

@@ -54,7 +54,7 @@ fn kind_by(meta: Option<MetaKind>, kind: TokenKind) -> TokenKind
     }
 }
 
-/// The token with this id, a metavariable where its name is declared.
+/// The token with this id, a metavariable where its name is declared. `NoMemory`: memory was refused.
 pub fn made(alloc: Global, vars: &VarTable<'_>, id: u64, t: &PatchToken) -> Result<Token, NoMemory>
     ensures { IfOk result (λ token. token ≡ told.made vars.now id t.now) }
 {
@@ -236,7 +236,8 @@ fn put_line(
     put_tokens(alloc, vars, l.sign, line, out, l.tokens.as_slice())
 }
 
-/// The tokens of the patterns of a body, plus lines aside. Linear.
+/// The tokens of the patterns of a body, plus lines aside. Linear, where no hashes of names collide. `NoMemory`: memory was
+/// refused, and nothing is kept.
 pub fn pattern_tokens(
     alloc: Global,
     vars: &[VarDecl],

@@ -53,7 +53,7 @@ impl<'a> Model for VarTable<'a> {
 }
 
 impl<'a> VarTable<'a> {
-    /// A table of the variables. Linear.
+    /// A table of the variables. Linear. `NoMemory`: memory was refused.
     pub fn of(alloc: Global, vars: &'a [VarDecl]) -> Result<VarTable<'a>, NoMemory>
         ensures { IfOk result (λ table. table ≡ vars.now) }
     {

@@ -3,3 +3,4 @@ pub mod BodyLemmas
 pub mod EqualLemmas
 pub mod FaultLemmas
 mod Examples
+pub mod NameLemmas

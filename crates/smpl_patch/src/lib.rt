@@ -24,8 +24,6 @@ mod pattern;
 mod reading;
 mod rule;
 mod sure;
-#[cfg(test)]
-mod tests;
 mod witness;
 
 pub use elem::{Dots, Elem};

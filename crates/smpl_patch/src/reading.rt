@@ -44,14 +44,28 @@ pub fn has_var(vars: &[Var], x: &Var) -> bool
     false
 }
 
+fn is_declared_as(decls: &[VarDecl], name: &[u8], x: &Var) -> bool
+    ensures { result ≡ of.is_var_of (of.declared_as decls.now name.now) x.now }
+{
+    match declared_as(decls, name) {
+        Some(d) => same_var(&d.var, x),
+        None => false,
+    }
+}
+
+/// Whether a metavariable of this name is the variable. Most are told apart by their names, before declarations are
+/// looked up.
+fn is_named(decls: &[VarDecl], name: &[u8], x: &Var) -> bool
+    ensures { result ≡ of.is_var_of (of.declared_as decls.now name.now) x.now }
+{
+    same_text(name, x.name.as_bytes()) && is_declared_as(decls, name, x)
+}
+
 fn is_meta_of(decls: &[VarDecl], token: &Token, x: &Var) -> bool
     ensures { result ≡ of.is_meta_of decls.now token.now token.now.kind x.now }
 {
     match token.kind {
-        TokenKind::Meta(_) => match declared_as(decls, token.text.as_bytes()) {
-            Some(d) => same_var(&d.var, x),
-            None => false,
-        },
+        TokenKind::Meta(_) => is_named(decls, token.text.as_bytes(), x),
         _ => false,
     }
 }

@@ -27,8 +27,6 @@ ghost use Rattle.smpl_plus.specs.Anchors.{AreAnchored, IsShort};
 mod anchors;
 mod clauses;
 mod lines;
-#[cfg(test)]
-mod tests;
 
 use crate::anchors::{Anchoring, anchored};
 use crate::clauses::may_anchor;

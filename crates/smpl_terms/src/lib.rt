@@ -16,8 +16,6 @@
 mod env;
 mod map;
 mod shared;
-#[cfg(test)]
-mod tests;
 mod value;
 mod var;
 

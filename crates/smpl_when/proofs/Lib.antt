@@ -1,2 +1,9 @@
 pub mod Changing
+pub mod Once
+pub mod Says
+pub mod States
+pub mod WordRuns
+pub mod CodeLines
+pub mod Machine
+pub mod Outside
 mod Examples

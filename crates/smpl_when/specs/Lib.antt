@@ -1,2 +1,3 @@
--- What public contracts rest on: how a body is cut into its own tokens and its clauses.
+-- What public contracts rest on, in reading order: the grammar of clauses, and how a body is cut token by token.
+pub mod Grammar
 pub mod Cutting

@@ -1,0 +1,27 @@
+-- What is kept while trees are read: the body's tree first, then those of the codes.
+use Rattle.std.specs.Prelude.{◌≡◌, ⊤, List, [], ◌∷◌, ◌++◌}
+use Rattle.c_terms.specs.declared.tree.Tree.{Tree}
+use Rattle.smpl_meta.specs.declared.patterns.Placed.{Placed}
+use Rattle.smpl_when.specs.declared.cutting.Code.{Code}
+use Rattle.smpl_body.specs.Spelled.{AreRead}
+use Rattle.smpl_patch.specs.declared.elem.Elem.{Elem}
+use Rattle.smpl_when.specs.declared.clauses.Said.{Said}
+use Rattle.smpl_body.specs.Bodies.{Spells, body_elements}
+
+-- behind the trees before stand those of the codes
+pub record WithCodes (before all : List Tree) (codes : List Code) : Type 0 where
+  pub trees : List Tree
+  pub is : all ≡ before ++ trees
+  pub are : AreRead codes trees
+
+-- the first tree spells the body, and the others the code of its clauses
+pub record AllSpell (ps : List Placed) (all : List Tree) : Type 0 where
+  pub body : Tree
+  pub codes : List Tree
+  pub is : all ≡ body ∷ codes
+  pub spells : Spells ps body codes
+
+-- the elements, where there is a first tree
+abbrev pub IsMade : List Said → List Tree → List Elem → Type 0
+IsMade said [] es = ⊤
+IsMade said (t ∷ cs) es = es ≡ body_elements said t cs

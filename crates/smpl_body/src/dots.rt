@@ -1,0 +1,87 @@
+// The dots of trees: members of lists, and statements.
+ghost use Rattle.std.specs.Prelude.{◌≡◌, ◌++◌, ◌&&◌, map, IfOk, OnOk};
+ghost use Rattle.c_terms.specs.Trees.{join};
+ghost use Rattle.smpl_body.specs.DotsOf as told;
+
+use c_terms::{Label, NoMemory, Token, TokenKind, Tree};
+use sqlite_items::Items;
+use std::alloc::Global;
+
+pub(crate) fn is_dots(kind: TokenKind) -> bool
+    ensures { result ≡ told.is_dots kind }
+{
+    match kind {
+        TokenKind::Dots => true,
+        _ => false,
+    }
+}
+
+fn is_list(label: Label) -> bool
+    ensures { result ≡ told.is_list label }
+{
+    match label {
+        Label::Args => true,
+        Label::Params => true,
+        _ => false,
+    }
+}
+
+fn is_wanted(listed: bool, inside: bool) -> bool
+    ensures { result ≡ told.is_wanted listed inside }
+{
+    if listed { inside } else { !inside }
+}
+
+/// Puts the number of a token that is such dots.
+fn put_wanted(
+    token: &Token,
+    listed: bool,
+    inside: bool,
+    found: &mut Items<u64>,
+) -> Result<(), NoMemory>
+    ensures { OnOk result (found.new ≡ found.old ++ told.wanted listed token.now inside) }
+{
+    if is_dots(token.kind) && is_wanted(listed, inside) {
+        found.push(token.id)?;
+        return Ok(());
+    }
+    Ok(())
+}
+
+/// Puts the numbers of the dots that are members of a list, or of those that are not.
+fn put_dots(tree: &Tree, listed: bool, inside: bool, found: &mut Items<u64>) -> Result<(), NoMemory>
+    ensures { OnOk result (found.new ≡ found.old ++ told.dots_in listed tree.now inside) }
+{
+    match tree {
+        Tree::Leaf(token) => put_wanted(token, listed, inside, found),
+        Tree::Branch(label, children) => {
+            let members = is_list(*label);
+            for child in children.as_slice() {
+                put_dots(child, listed, members, found)?;
+            }
+            Ok(())
+        }
+    }
+}
+
+/// The numbers of the dots of trees that are members of a list of arguments or parameters. Linear. Recurses once a level.
+pub(crate) fn list_dots(alloc: Global, trees: &[Tree]) -> Result<Items<u64>, NoMemory>
+    ensures { IfOk result (λ ids. ids ≡ join (map told.list_dots trees.now)) }
+{
+    let mut found = Items::new(alloc);
+    for tree in trees {
+        put_dots(tree, true, false, &mut found)?;
+    }
+    Ok(found)
+}
+
+/// The numbers of the dots of trees that are statements. Linear. Recurses once a level.
+pub(crate) fn statement_dots(alloc: Global, trees: &[Tree]) -> Result<Items<u64>, NoMemory>
+    ensures { IfOk result (λ ids. ids ≡ join (map told.statement_dots trees.now)) }
+{
+    let mut found = Items::new(alloc);
+    for tree in trees {
+        put_dots(tree, false, false, &mut found)?;
+    }
+    Ok(found)
+}

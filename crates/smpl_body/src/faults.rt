@@ -1,0 +1,125 @@
+// What is wrong with a body that trees spell.
+ghost use Rattle.std.specs.Prelude.{◌≡◌, ◌++◌, slice_get, IfOk};
+ghost use Rattle.std.specs.Option.{option_copied};
+ghost use Rattle.smpl_patch.specs.Faults.{first_of, first_from};
+ghost use Rattle.smpl_body.specs.Bodies as told;
+
+use crate::dots::statement_dots;
+use crate::edges::all_edges;
+use crate::fits::is_pat;
+use c_terms::{NoMemory, Tree};
+use smpl_meta::Placed;
+use smpl_patch::{PatchFault, earlier};
+use smpl_when::Cutting;
+use sqlite_items::at;
+use std::alloc::Global;
+
+fn at_of(found: Option<&Placed>) -> u32
+    ensures { result ≡ told.at_of (option_copied found.entry) }
+{
+    match found {
+        None => 0,
+        Some(p) => p.at,
+    }
+}
+
+fn sign_of(found: Option<&Placed>) -> u8
+    ensures { result ≡ told.sign_of (option_copied found.entry) }
+{
+    match found {
+        None => 0,
+        Some(p) => p.sign,
+    }
+}
+
+fn edge_fault(placed: &[Placed], ids: &[u64]) -> Option<PatchFault>
+    ensures { result ≡ first_of (told.edge_faults placed.now ids.now) }
+{
+    let mut first = None;
+    for id in ids {
+        let place = at_of(at(placed, *id as usize));
+        first = Some(earlier(first, PatchFault::DotsAtEdge(place)));
+    }
+    first
+}
+
+/// With dots of this number.
+fn with_dots(placed: &[Placed], first: Option<PatchFault>, id: u64) -> Option<PatchFault>
+    ensures { result ≡ first_from first (told.minus_dot placed.now id) }
+{
+    if sign_of(at(placed, id as usize)) == b'-' {
+        let place = at_of(at(placed, id as usize));
+        Some(earlier(first, PatchFault::MinusDots(place)))
+    } else {
+        first
+    }
+}
+
+/// With dots that are statements, on `-` lines.
+fn with_all_dots(placed: &[Placed], ids: &[u64]) -> Option<PatchFault>
+    ensures { result ≡ first_of (told.minus_dots placed.now ids.now) }
+{
+    let mut first = None;
+    for id in ids {
+        first = with_dots(placed, first, *id);
+    }
+    first
+}
+
+fn is_nest_sign(p: &Placed) -> bool
+    ensures { result ≡ told.is_nest_sign p.now }
+{
+    let text = p.token.text.as_bytes();
+    is_pat(p.token.kind)
+        && (text == b"<...".as_slice()
+            || text == b"<+...".as_slice()
+            || text == b"...>".as_slice()
+            || text == b"...+>".as_slice())
+}
+
+fn with_sign(first: Option<PatchFault>, p: &Placed) -> Option<PatchFault>
+    ensures { result ≡ first_from first (told.minus_sign p.now) }
+{
+    if p.sign == b'-' && is_nest_sign(p) {
+        Some(earlier(first, PatchFault::MinusDots(p.at)))
+    } else {
+        first
+    }
+}
+
+/// With signs of nests on `-` lines.
+fn with_signs(placed: &[Placed], first: Option<PatchFault>) -> Option<PatchFault>
+    ensures { result ≡ first_from first (told.minus_signs placed.now) }
+{
+    let mut first = first;
+    for p in placed {
+        first = with_sign(first, p);
+    }
+    first
+}
+
+fn minus_fault(placed: &[Placed], ids: &[u64]) -> Option<PatchFault>
+    ensures { result ≡ first_of (told.minus_dots placed.now ids.now ++ told.minus_signs placed.now) }
+{
+    with_signs(placed, with_all_dots(placed, ids))
+}
+
+/// The first that is wrong with a body that these trees spell: dots and nests at edges go before those on `-` lines.
+/// Linear.
+pub(crate) fn tree_fault(
+    alloc: Global,
+    placed: &[Placed],
+    cut: &Cutting,
+    trees: &[Tree],
+) -> Result<Option<PatchFault>, NoMemory>
+    ensures { IfOk result (λ f. f ≡ told.tree_fault placed.now cut.now trees.now) }
+{
+    let edges = all_edges(alloc, cut.codes.as_slice(), trees)?;
+    match edge_fault(placed, edges.as_slice()) {
+        Some(fault) => Ok(Some(fault)),
+        None => {
+            let alone = statement_dots(alloc, trees)?;
+            Ok(minus_fault(placed, alone.as_slice()))
+        }
+    }
+}

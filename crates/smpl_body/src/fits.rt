@@ -1,0 +1,98 @@
+// Where positions and clauses may stand.
+ghost use Rattle.std.specs.Prelude.{◌≡◌, slice_get, IfOk};
+ghost use Rattle.std.specs.Option.{option_copied};
+ghost use Rattle.smpl_body.specs.Bodies as told;
+
+use crate::dots::{list_dots, statement_dots};
+use c_terms::{NoMemory, TokenKind, Tree};
+use smpl_meta::Placed;
+use smpl_when::{Clauses, Cutting, Said};
+use sqlite_items::at;
+use std::alloc::Global;
+
+fn has_position(found: Option<&Placed>) -> bool
+    ensures { result ≡ told.has_position (option_copied found.entry) }
+{
+    match found {
+        None => false,
+        Some(p) => !p.positions.is_empty(),
+    }
+}
+
+/// Behind none of the tokens of these numbers a position stands.
+fn without_positions(placed: &[Placed], ids: &[u64]) -> bool
+    ensures { result ≡ told.without_positions placed.now ids.now }
+{
+    for id in ids {
+        if has_position(at(placed, *id as usize)) {
+            return false;
+        }
+    }
+    true
+}
+
+pub(crate) fn is_pat(kind: TokenKind) -> bool
+    ensures { result ≡ told.is_pat kind }
+{
+    match kind {
+        TokenKind::Pat => true,
+        _ => false,
+    }
+}
+
+fn sign_fits(p: &Placed) -> bool
+    ensures { result ≡ told.sign_fits p.now }
+{
+    !(is_pat(p.token.kind) && has_position(Some(p)))
+}
+
+/// No position stands behind a sign.
+fn signs_fit(placed: &[Placed]) -> bool
+    ensures { result ≡ told.signs_fit placed.now }
+{
+    for p in placed {
+        if !sign_fits(p) {
+            return false;
+        }
+    }
+    true
+}
+
+fn says_nothing(found: Option<&Said>) -> bool
+    ensures { result ≡ told.says_nothing (option_copied found.entry) }
+{
+    match found {
+        None => true,
+        Some(said) => !said.any && !said.strict && said.codes.is_empty(),
+    }
+}
+
+/// None of the tokens of these numbers has a clause.
+fn without_clauses(said: &Clauses, ids: &[u64]) -> bool
+    ensures { result ≡ told.without_clauses said.now ids.now }
+{
+    for id in ids {
+        if !says_nothing(said.get(*id)) {
+            return false;
+        }
+    }
+    true
+}
+
+/// No position stands behind dots that are statements, a sign or a word of a clause, and dots that are members of a list
+/// have no clause. Linear.
+pub(crate) fn fits(
+    alloc: Global,
+    placed: &[Placed],
+    cut: &Cutting,
+    trees: &[Tree],
+) -> Result<bool, NoMemory>
+    ensures { IfOk result (λ b. b ≡ told.fits placed.now cut.now trees.now) }
+{
+    let alone = statement_dots(alloc, trees)?;
+    let members = list_dots(alloc, trees)?;
+    let words = signs_fit(placed) && without_positions(placed, cut.words.as_slice());
+    let dots = without_positions(placed, alone.as_slice())
+        && without_clauses(&cut.said, members.as_slice());
+    Ok(words && dots)
+}

@@ -1,0 +1,11 @@
+pub mod CountedLemmas
+pub mod ChildLemmas
+pub mod DoLemmas
+pub mod BranchLemmas
+pub mod TreeLemmas
+pub mod ClassLemmas
+pub mod SignLemmas
+pub mod RowTests
+pub mod LabelShapes
+pub mod RowLemmas
+pub mod BodyLemmas

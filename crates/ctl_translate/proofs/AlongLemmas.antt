@@ -67,7 +67,7 @@ drop-end : {A : Type 0} (xs : List A) (n : ℕ) → n ≡ length xs → drop n x
 drop-end [] n e = ap (λ (z : ℕ). drop z []) e
 drop-end (x ∷ xs) n e = ap (λ (z : ℕ). drop z (x ∷ xs)) e ∙ drop-end xs (length xs) refl
 
-drop-here : {A : Type 0} (xs : List A) (i : ℕ) (x : A) → i < length xs → x ≡ get_or xs i x → drop i xs ≡ x ∷ drop (i + 1) xs
+pub drop-here : {A : Type 0} (xs : List A) (i : ℕ) (x : A) → i < length xs → x ≡ get_or xs i x → drop i xs ≡ x ∷ drop (i + 1) xs
 drop-here xs i x l q =
     drop-cons xs i x l ∙ ap (λ z. z ∷ drop (suc i) xs) (sym q) ∙ ap (λ (n : ℕ). x ∷ drop n xs) (sym (add-one i))
 

@@ -16,3 +16,6 @@ pub mod DotsLemmas
 pub mod MadeLemmas
 pub mod KeptLemmas
 pub mod PutLemmas
+pub mod LeastLemmas
+pub mod LeastSteps
+pub mod LoopLemmas

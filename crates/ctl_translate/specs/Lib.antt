@@ -15,3 +15,5 @@ pub mod Settings
 pub mod Suffixes
 -- which variables may stay unbound, by what a formula says of them
 pub mod Unbound
+-- how large a formula is at least, by the body alone
+pub mod Least

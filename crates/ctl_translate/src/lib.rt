@@ -1,6 +1,7 @@
 //! The table from rules to formulas.
 //!
 //! - [`formula_of`] gives a rule's formula, or says why it has none that may be used.
+//! - [`stands_outside_whens`] tells whether a variable stands in a rule's pattern, `when` code aside.
 //!
 //! A part that stands at several places of the formula is kept once. What a rule's formula is, row by row, stands with
 //! the definitions in `specs/Table`: the module `rows` is that table, row for row. A sequence is worked off from its
@@ -13,6 +14,7 @@ mod blocks;
 mod dots;
 mod element;
 mod follow;
+mod least;
 mod near;
 mod occur;
 mod own;
@@ -24,4 +26,4 @@ mod setting;
 mod tests;
 mod wrap;
 
-pub use rule::{FormulaFault, formula_of};
+pub use rule::{FormulaFault, formula_of, stands_outside_whens};

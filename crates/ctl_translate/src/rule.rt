@@ -1,10 +1,12 @@
 // The formula of a rule.
-ghost use Rattle.std.specs.Prelude.{◌≡◌, ◌<◌, ◌&&◌, not, true, length, map, None, IfOk, IfErr};
+ghost use Rattle.std.specs.Prelude.{◌≡◌, ◌<◌, ◌&&◌, not, true, false, length, map, None, IfOk, IfErr};
 ghost use Rattle.std.specs.List.{filter};
 ghost use Rattle.smpl_patch.specs.Bodies.{body};
+ghost use Rattle.smpl_patch.specs.Patterns as patterns;
 ghost use Rattle.ctl_formula.specs.Plain.{fits};
 ghost use Rattle.ctl_formula.specs.Tables.{at, plains, Makes};
 ghost use Rattle.ctl_translate.specs.Placing as placing;
+ghost use Rattle.ctl_translate.specs.Placing.{any_body};
 ghost use Rattle.ctl_translate.specs.Rules as rules;
 ghost use Rattle.ctl_translate.specs.Settings.{reading_at};
 ghost use Rattle.ctl_translate.specs.Answers.{IsFormulaOf, IsFaultOf};
@@ -12,6 +14,8 @@ ghost use Rattle.ctl_translate.specs.Unbound.{stays_unbound};
 
 use crate::blocks::blocks;
 use crate::follow::Made;
+use crate::least::is_far_too_large;
+use crate::occur::stands_in_body;
 use crate::place::is_alone;
 use crate::rows::sequence;
 use crate::setting::Setting;
@@ -109,6 +113,24 @@ fn placed(alloc: Global, m: &Setting, b: &[Elem]) -> Result<Items<Var>, NoMemory
     Ok(found)
 }
 
+/// Whether the variable stands in the rule's pattern, `when` code and plus code aside. Of a head and of the tail of `do`
+/// only their own tokens count. Takes no memory. Recurses once a level of nested statements and of branches, and is
+/// linear in the rule's tokens times its declarations.
+pub fn stands_outside_whens(rule: &Rule, x: &Var) -> bool
+    ensures value { result ≡ any_body false
+        (λ p. patterns.stands rule.now.vars rule.now.tokens p x.now) (body rule.now.body) }
+{
+    let m = Setting {
+        decls: rule.vars.as_slice(),
+        tokens: rule.tokens.as_slice(),
+        forall_walks: false,
+        locals: &[],
+        alone: &[],
+        blocks: &[],
+    };
+    stands_in_body(&m, false, rule.body.as_slice(), x)
+}
+
 /// The part that the rule's formula is.
 fn root(alloc: Global, parts: &mut Parts, rule: &Rule) -> Result<usize, NoMemory>
     ensures made { IfOk result (λ i. Makes parts.old parts.new i (rules.formula_of rule.now)) }
@@ -204,6 +226,9 @@ pub fn formula_of(alloc: Global, rule: &Rule) -> Result<Formula, FormulaFault>
     ensures formula { IfOk result (λ formula. IsFormulaOf rule.now formula) }
     ensures fault { IfErr result (λ fault. IsFaultOf rule.now fault) }
 {
+    if is_far_too_large(rule) {
+        return Err(FormulaFault::TooLarge);
+    }
     let mut parts = Parts::new(alloc);
     let root = root(alloc, &mut parts, rule)?;
     if !parts.fits(root) {

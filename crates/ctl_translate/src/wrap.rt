@@ -23,13 +23,14 @@ pub fn exists_all(
     ensures made { IfOk result (λ i. Makes parts.old parts.new i
         (table.exists_all vars.now (at (plains parts.old) f))) }
 {
-    match vars {
-        [] => Ok(f),
-        [x, more @ ..] => {
-            let inner = exists_all(alloc, parts, more, f)?;
-            parts.push(Node::Exists(x.copy(alloc)?, inner))
-        }
+    let mut found = f;
+    let mut i = vars.len();
+    while i > 0 {
+        i -= 1;
+        let x = vars[i].copy(alloc)?;
+        found = parts.push(Node::Exists(x, found))?;
     }
+    Ok(found)
 }
 
 pub fn and_all(parts: &mut Parts, f: usize, more: &[usize]) -> Result<usize, NoMemory>
@@ -38,13 +39,11 @@ pub fn and_all(parts: &mut Parts, f: usize, more: &[usize]) -> Result<usize, NoM
     ensures made { IfOk result (λ i. Makes parts.old parts.new i
         (table.and_all (at (plains parts.old) f) (parts_at parts.old more.now))) }
 {
-    match more {
-        [] => Ok(f),
-        [g, rest @ ..] => {
-            let both = parts.push(Node::And(f, *g))?;
-            and_all(parts, both, rest)
-        }
+    let mut found = f;
+    for g in more {
+        found = parts.push(Node::And(found, *g))?;
     }
+    Ok(found)
 }
 
 pub fn or_all(parts: &mut Parts, f: usize, more: &[usize]) -> Result<usize, NoMemory>
@@ -53,13 +52,11 @@ pub fn or_all(parts: &mut Parts, f: usize, more: &[usize]) -> Result<usize, NoMe
     ensures made { IfOk result (λ i. Makes parts.old parts.new i
         (table.or_all (at (plains parts.old) f) (parts_at parts.old more.now))) }
 {
-    match more {
-        [] => Ok(f),
-        [g, rest @ ..] => {
-            let either = parts.push(Node::Or(f, *g))?;
-            or_all(parts, either, rest)
-        }
+    let mut found = f;
+    for g in more {
+        found = parts.push(Node::Or(found, *g))?;
     }
+    Ok(found)
 }
 
 /// Of no parts it is True.

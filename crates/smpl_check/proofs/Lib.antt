@@ -1,0 +1,4 @@
+pub mod KnownLemmas
+pub mod FirstLemmas
+pub mod NameLemmas
+mod Examples

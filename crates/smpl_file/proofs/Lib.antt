@@ -1,0 +1,4 @@
+pub mod ExportLemmas
+pub mod RuleLemmas
+pub mod FaultLemmas
+pub mod OnceLemmas

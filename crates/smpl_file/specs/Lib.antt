@@ -1,0 +1,3 @@
+-- What public contracts rest on, in reading order: what rules take from one another, and whole patches.
+pub mod Exports
+pub mod Patches

@@ -1,0 +1,96 @@
+-- What patch a text spells, and the first that is wrong with it.
+use Rattle.std.specs.Prelude.{ℕ, suc, ◌≡◌, ◌<◌, ⊤, List, [], ◌∷◌, length, take, slice_get, Some, None, IfSome}
+use Rattle.smpl_patch.specs.declared.rule.Rule.{Rule}
+use Rattle.smpl_patch.specs.declared.rule.Patch.{Patch}
+use Rattle.smpl_patch.specs.declared.fault.PatchFault.{PatchFault}
+use Rattle.smpl_lexer.specs.declared.text.RuleText.{RuleText}
+use Rattle.smpl_lexer.specs.declared.text.PatchText.{PatchText}
+use Rattle.smpl_lexer.specs.Texts.{IsTextOf, IsTextFault}
+use Rattle.smpl_meta.specs.declared.head.RuleHead.{RuleHead}
+use Rattle.smpl_meta.specs.Heads.{AreHeads, IsFirstHeadFault}
+use Rattle.smpl_meta.specs.Patterns.{pattern_tokens}
+use Rattle.smpl_plus.specs.Anchors.{plus_faults, first_phase, AreAnchored}
+use Rattle.smpl_body.specs.Bodies.{IsBody, IsBodyFault}
+use Rattle.smpl_check.specs.Checks.{first_fault}
+use Rattle.smpl_terms.specs.declared.var.Var.{Var as Variable}
+use Rattle.smpl_patch.specs.declared.elem.Elem.{Elem}
+use Rattle.smpl_patch.specs.declared.pattern.PatToken.{PatToken}
+use Rattle.smpl_file.specs.Exports.{taken, exports_of}
+
+-- ---- rules
+
+-- a head, what stands at the tokens of patterns, and a body, where rules take these variables
+abbrev pub made : RuleHead → List Variable → List PatToken → List Elem → Rule
+made h known tokens body = record {
+  name = h.name;
+  depends = h.depends;
+  mode = h.mode;
+  vars = h.vars;
+  exports = exports_of known h.vars;
+  body = body;
+  tokens = tokens;
+}
+
+-- The rule of a number, of a text and a head, where rules take these variables: nothing is wrong with its plus code and its
+-- body.
+pub record IsRule (known : List Variable) (number : ℕ) (r : RuleText) (h : RuleHead) (rule : Rule) : Type 0 where
+  pub name : rule.name ≡ h.name
+  pub depends : rule.depends ≡ h.depends
+  pub mode : rule.mode ≡ h.mode
+  pub vars : rule.vars ≡ h.vars
+  pub exports : rule.exports ≡ exports_of known h.vars
+  pub tokens : AreAnchored h.vars number r.body rule.tokens
+  pub body : IsBody (pattern_tokens h.vars r.body) rule.body
+
+-- These are the rules from a number on.
+abbrev pub AreRules : List Variable → ℕ → List RuleText → List RuleHead → List Rule → Type 0
+AreRules known n [] [] [] = ⊤
+AreRules known n (r ∷ rs) (h ∷ hs) (rule ∷ rules) = IsRule known n r h rule × AreRules known (suc n) rs hs rules
+AreRules known n _ _ _ = ⊥
+
+-- The first that is wrong with a rule: with its plus code, and where nothing is wrong there with its body.
+pub data IsRuleFault (number : ℕ) (r : RuleText) (h : RuleHead) : PatchFault → Type 0 where
+  in_plus : {f : PatchFault} → first_phase (plus_faults h.vars number r.body) ≡ Some f → IsRuleFault number r h f
+  in_body : {f : PatchFault} → first_phase (plus_faults h.vars number r.body) ≡ None
+      → IsBodyFault (pattern_tokens h.vars r.body) r.end f → IsRuleFault number r h f
+
+-- This rule is the first with which something is wrong, and this is what is.
+pub record IsFirstRuleFault (text : PatchText) (heads : List RuleHead) (f : PatchFault) : Type 0 where
+  pub rule : ℕ
+  pub within : rule < length text.rules
+  pub before : List Rule
+  pub are : AreRules (taken heads) 0 (take rule text.rules) (take rule heads) before
+  pub here : IfSome (slice_get text.rules rule) (λ r. IfSome (slice_get heads rule) (λ h. IsRuleFault rule r h f))
+
+-- the patch of a text, of whose rules these are the heads
+pub record AreRulesOf (text : PatchText) (heads : List RuleHead) (patch : Patch) : Type 0 where
+  pub virtuals : patch.virtuals ≡ text.virtuals
+  pub rules : AreRules (taken heads) 0 text.rules heads patch.rules
+
+-- ---- patches
+
+-- The bytes spell the patch: nothing is wrong with their text, with headers and declarations, with plus code and bodies.
+pub record IsSpelled (bytes : List ℕ) (patch : Patch) : Type 0 where
+  pub text : PatchText
+  pub is_text : IsTextOf bytes text
+  pub heads : List RuleHead
+  pub are_heads : AreHeads text [] text.rules heads
+  pub are_rules : AreRulesOf text heads patch
+
+-- The first that is wrong with what the bytes spell: with the text; where nothing is wrong there, with the header and
+-- declarations of a rule; and where nothing is wrong there either, with plus code and body of a rule.
+pub data IsSpellingFault (bytes : List ℕ) : PatchFault → Type 0 where
+  in_text : {f : PatchFault} → IsTextFault bytes f → IsSpellingFault bytes f
+  in_heads : {f : PatchFault} (text : PatchText) → IsTextOf bytes text → IsFirstHeadFault text f → IsSpellingFault bytes f
+  in_rules : {f : PatchFault} (text : PatchText) (heads : List RuleHead) → IsTextOf bytes text
+      → AreHeads text [] text.rules heads → IsFirstRuleFault text heads f → IsSpellingFault bytes f
+
+-- The bytes spell the patch, and nothing is wrong with what its rules mean.
+pub record IsPatchOf (bytes : List ℕ) (patch : Patch) : Type 0 where
+  pub spelled : IsSpelled bytes patch
+  pub checked : first_fault patch ≡ None
+
+-- the first that is wrong with what the bytes spell, or else with what the patch means
+pub data IsFirstFault (bytes : List ℕ) : PatchFault → Type 0 where
+  spelling : {f : PatchFault} → IsSpellingFault bytes f → IsFirstFault bytes f
+  meaning : {f : PatchFault} (patch : Patch) → IsSpelled bytes patch → first_fault patch ≡ Some f → IsFirstFault bytes f

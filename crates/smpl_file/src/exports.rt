@@ -1,0 +1,98 @@
+// The variables of rules that other rules inherit.
+ghost use Rattle.std.specs.Prelude.{◌≡◌, ◌++◌, IfOk};
+ghost use Rattle.smpl_file.specs.Exports as told;
+
+use c_terms::NoMemory;
+use smpl_meta::Earlier;
+use smpl_patch::VarDecl;
+use smpl_terms::{Var, same_var};
+use sqlite_items::Items;
+use std::alloc::Global;
+
+/// The positions after `!=`, behind those that are known.
+fn with_places(alloc: Global, known: Items<Var>, d: &VarDecl) -> Result<Items<Var>, NoMemory>
+    ensures { IfOk result (λ vs. vs ≡ known ++ d.now.not_places) }
+{
+    let mut known = known;
+    for y in d.not_places.as_slice() {
+        known.push(y.copy(alloc)?)?;
+    }
+    Ok(known)
+}
+
+/// With the variables that a declaration takes from other rules.
+fn with_taken(alloc: Global, known: Items<Var>, d: &VarDecl) -> Result<Items<Var>, NoMemory>
+    ensures { IfOk result (λ vs. vs ≡ known ++ told.taken_by d.now) }
+{
+    let mut known = known;
+    if d.inherited {
+        known.push(d.var.copy(alloc)?)?;
+    }
+    with_places(alloc, known, d)
+}
+
+fn with_all(alloc: Global, known: Items<Var>, vars: &[VarDecl]) -> Result<Items<Var>, NoMemory>
+    ensures { IfOk result (λ vs. vs ≡ known ++ told.taken_by_all vars.now) }
+{
+    let mut known = known;
+    for d in vars {
+        known = with_taken(alloc, known, d)?;
+    }
+    Ok(known)
+}
+
+/// With the variables that the rule of a number takes from other rules.
+fn with_rule(
+    alloc: Global,
+    known: Items<Var>,
+    heads: &Earlier,
+    rule: usize,
+) -> Result<Items<Var>, NoMemory>
+    ensures { IfOk result (λ vs. vs ≡ known ++ told.taken_at heads.now.heads rule) }
+{
+    match heads.head(rule) {
+        None => Ok(known),
+        Some(head) => with_all(alloc, known, head.vars.as_slice()),
+    }
+}
+
+/// All variables that rules take from other rules. Linear in the declarations.
+pub fn taken(alloc: Global, heads: &Earlier) -> Result<Items<Var>, NoMemory>
+    ensures { IfOk result (λ vs. vs ≡ told.taken heads.now.heads) }
+{
+    let mut known = Items::new(alloc);
+    for i in 0..heads.len() {
+        known = with_rule(alloc, known, heads, i)?;
+    }
+    Ok(known)
+}
+
+fn has_var(known: &[Var], x: &Var) -> bool
+    ensures { result ≡ told.has_var known.now x.now }
+{
+    for v in known {
+        if same_var(v, x) {
+            return true;
+        }
+    }
+    false
+}
+
+fn is_exported(known: &[Var], d: &VarDecl) -> bool
+    ensures { result ≡ told.is_exported known.now d.now }
+{
+    !d.inherited && has_var(known, &d.var)
+}
+
+/// The own variables of a rule that are among these, in declared order. For each of them all of these may be looked at.
+pub fn exports_of(alloc: Global, known: &[Var], vars: &[VarDecl]) -> Result<Items<Var>, NoMemory>
+    ensures { IfOk result (λ xs. xs ≡ told.exports_of known.now vars.now) }
+{
+    let mut exports = Items::new(alloc);
+    for d in vars {
+        if is_exported(known, d) {
+            exports.push(d.var.copy(alloc)?)?;
+        }
+    }
+    Ok(exports)
+}

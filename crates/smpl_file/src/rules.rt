@@ -1,0 +1,135 @@
+// The rules of a text, under their heads.
+ghost use Rattle.std.specs.Prelude.{◌≡◌, ◌<◌, [], length, slice_get, IfOk, IfErr, IfSome};
+ghost use Rattle.smpl_lexer.specs.Texts.{OrNoMemory, IsSmall};
+ghost use Rattle.smpl_meta.specs.Heads.{AreHeads};
+ghost use Rattle.smpl_meta.specs.Patterns.{pattern_tokens};
+ghost use Rattle.smpl_plus.specs.Anchors.{AreAnchored};
+ghost use Rattle.smpl_body.specs.Bodies.{IsBody};
+ghost use Rattle.smpl_file.specs.Exports as exported;
+ghost use Rattle.smpl_file.specs.Patches as told;
+
+use crate::depends::copy_dep;
+use crate::exports::{exports_of, taken};
+use c_terms::NoMemory;
+use smpl_body::read_body;
+use smpl_lexer::PatchText;
+use smpl_meta::{Earlier, RuleHead};
+use smpl_patch::{Elem, PatToken, Patch, PatchFault, Rule, VarDecl};
+use smpl_plus::anchor;
+use smpl_terms::Var;
+use sqlite_items::Items;
+use std::alloc::Global;
+
+fn copy_vars(alloc: Global, vars: &[VarDecl]) -> Result<Items<VarDecl>, NoMemory>
+    ensures { IfOk result (λ vs. vs ≡ vars.now) }
+{
+    let mut copies = Items::new(alloc);
+    for d in vars {
+        copies.push(d.copy(alloc)?)?;
+    }
+    Ok(copies)
+}
+
+/// A rule of a head, a body, and what stands at the tokens of its patterns.
+fn made_rule(
+    alloc: Global,
+    head: &RuleHead,
+    known: &[Var],
+    tokens: Items<PatToken>,
+    body: Items<Elem>,
+) -> Result<Rule, NoMemory>
+    ensures { IfOk result (λ rule. rule ≡ told.made head.now known.now tokens body) }
+{
+    let vars = head.vars.as_slice();
+    let name = head.name.copy(alloc)?;
+    let depends = copy_dep(alloc, &head.depends)?;
+    let exports = exports_of(alloc, known, vars)?;
+    let vars = copy_vars(alloc, vars)?;
+    Ok(Rule {
+        name,
+        depends,
+        mode: head.mode,
+        vars,
+        exports,
+        body,
+        tokens,
+    })
+}
+
+/// The rule of a number, or its first fault: of its plus code, then of its body.
+fn rule_of(
+    alloc: Global,
+    text: &PatchText,
+    rule: u32,
+    head: &RuleHead,
+    known: &[Var],
+) -> Result<Rule, PatchFault>
+    requires within { rule < length text.now.rules }
+    requires small { IsSmall text.now }
+    ensures read { IfOk result (λ made. IfSome (slice_get text.now.rules rule)
+        (λ r. told.IsRule known.now rule r head.now made)) }
+    ensures fault { IfErr result (λ fault. IfSome (slice_get text.now.rules rule)
+        (λ r. OrNoMemory (told.IsRuleFault rule r head.now) fault)) }
+{
+    let tokens = anchor(alloc, text, rule, head)?;
+    let body = read_body(alloc, text, rule, head)?;
+    Ok(made_rule(alloc, head, known, tokens, body)?)
+}
+
+/// The rule of a number under its head, or its first fault.
+fn rule_at(
+    alloc: Global,
+    text: &PatchText,
+    rule: u32,
+    heads: &Earlier,
+    known: &[Var],
+) -> Result<Rule, PatchFault>
+    requires within { rule < length text.now.rules }
+    requires small { IsSmall text.now }
+    ensures read { IfOk result (λ made. IfSome (slice_get text.now.rules rule) (λ r.
+        IfSome (slice_get heads.now.heads rule) (λ h. told.IsRule known.now rule r h made))) }
+    ensures fault { IfErr result (λ fault. IfSome (slice_get text.now.rules rule) (λ r.
+        IfSome (slice_get heads.now.heads rule) (λ h. OrNoMemory (told.IsRuleFault rule r h) fault))) }
+{
+    match heads.head(rule as usize) {
+        None => Err(PatchFault::NoMemory),
+        Some(head) => rule_of(alloc, text, rule, head, known),
+    }
+}
+
+/// The rules of a text, of which these are the heads, or the first fault of the first rule that has one.
+fn rules_under(
+    alloc: Global,
+    text: &PatchText,
+    heads: &Earlier,
+    known: &[Var],
+) -> Result<Items<Rule>, PatchFault>
+    requires small { IsSmall text.now }
+    requires heads { AreHeads text.now [] text.now.rules heads.now.heads }
+    requires known { known.now ≡ exported.taken heads.now.heads }
+    ensures rules { IfOk result (λ rules.
+        told.AreRules known.now 0 text.now.rules heads.now.heads rules) }
+    ensures fault { IfErr result
+        (λ fault. OrNoMemory (told.IsFirstRuleFault text.now heads.now.heads) fault) }
+{
+    let mut rules = Items::new(alloc);
+    for i in 0..text.rules.len() {
+        let rule = rule_at(alloc, text, i as u32, heads, known)?;
+        rules.push(rule)?;
+    }
+    Ok(rules)
+}
+
+/// The patch of a text, of whose rules these are the heads, or the first fault of the first rule that has one.
+pub fn rules_of(alloc: Global, text: PatchText, heads: &Earlier) -> Result<Patch, PatchFault>
+    requires small { IsSmall text }
+    requires heads { AreHeads text [] text.rules heads.now.heads }
+    ensures patch { IfOk result (λ patch. told.AreRulesOf text heads.now.heads patch) }
+    ensures fault { IfErr result
+        (λ fault. OrNoMemory (told.IsFirstRuleFault text heads.now.heads) fault) }
+{
+    let known = taken(alloc, heads)?;
+    let rules = rules_under(alloc, &text, heads, known.as_slice())?;
+    let PatchText { virtuals, rules: _ } = text;
+    Ok(Patch { virtuals, rules })
+}

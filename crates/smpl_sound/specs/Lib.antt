@@ -1,0 +1,2 @@
+-- What public contracts rest on: what each rule passes.
+pub mod Parts

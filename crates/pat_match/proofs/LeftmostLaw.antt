@@ -12,18 +12,18 @@ use Rattle.pat_match.proofs.ValueLemmas.{and_left, and_right, both_true, or_left
 
 -- numbers
 
-cases_of : (k n : ℕ) → k < suc n → (k < n) ⊎ (k ≡ n)
+pub cases_of : (k n : ℕ) → k < suc n → (k < n) ⊎ (k ≡ n)
 cases_of zero zero lt = inr refl
 cases_of zero (suc n) lt = inl (omega arith)
 cases_of (suc k) zero lt = absurd (omega arith)
 cases_of (suc k) (suc n) lt = ⊎_elim (λ a. inl (omega (arith, a))) (λ e. inr (ap suc e)) (cases_of k n (omega arith))
 
-below_intro : (test : ℕ → Bool) (n k : ℕ) → k < n → test k ≡ true → some_below test n ≡ true
+pub below_intro : (test : ℕ → Bool) (n k : ℕ) → k < n → test k ≡ true → some_below test n ≡ true
 below_intro test zero k lt h = absurd (omega arith)
 below_intro test (suc n) k lt h = ⊎_elim
     (λ less. or_left _ _ (below_intro test n k less h)) (λ e. or_right _ _ (ap test (sym e) ∙ h)) (cases_of k n lt)
 
-least-passes : (test : ℕ → Bool) (n : ℕ) → some_below test n ≡ true → (least test n < n) × (test (least test n) ≡ true)
+pub least-passes : (test : ℕ → Bool) (n : ℕ) → some_below test n ≡ true → (least test n < n) × (test (least test n) ≡ true)
 least-passes test zero h = absurd (cc)
 least-passes test (suc n) h = by (some_below test n) refl (least-passes test n) h
   where

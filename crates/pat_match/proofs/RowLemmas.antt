@@ -53,14 +53,14 @@ wild_layer l (Tree-F.Branch k cs) h = refl
 pub wild_comma : (l : Label) (f : Tree) → is_wild l (leaf_of (out-Tree f)) ≡ true → comma f ≡ None
 wild_comma l f h = wild_layer l (out-Tree f) h
 
-single_none : (q : Tree → Bool) (ms : List Member) (k : ℕ) → k < suc (length ms) → (k ≡ 1 → ⊥) → single_fits q (take k ms) ≡ false
+pub single_none : (q : Tree → Bool) (ms : List Member) (k : ℕ) → k < suc (length ms) → (k ≡ 1 → ⊥) → single_fits q (take k ms) ≡ false
 single_none q ms zero lt ne = refl
 single_none q ms (suc zero) lt ne = absurd (ne refl)
 single_none q [] (suc (suc k)) lt ne = absurd (omega arith)
 single_none q (m ∷ []) (suc (suc k)) lt ne = absurd (omega arith)
 single_none q (m ∷ n ∷ ms) (suc (suc k)) lt ne = refl
 
-and_false : (b : Bool) → (b && false) ≡ false
+pub and_false : (b : Bool) → (b && false) ≡ false
 and_false b = grind (arith, common_steps)
 
 module _ (decls : List VarDecl) (tokens : List PatToken) (label : Label) where
@@ -117,7 +117,7 @@ module _ (decls : List VarDecl) (tokens : List PatToken) (label : Label) where
 
   -- lists, one child less
 
-  piece_comma : (env : Environment) (f : Tree) → as_comma (piece decls tokens env f).token ≡ comma f
+  pub piece_comma : (env : Environment) (f : Tree) → as_comma (piece decls tokens env f).token ≡ comma f
   piece_comma env f = ap as_comma (piece-token decls tokens env f) ∙ layer_comma (out-Tree f)
 
   abbrev whole : Environment → Option Token → List Tree → List Member → Bool

@@ -22,7 +22,7 @@ pub own_fit-uneven_map : (q : ℕ → Bool) (f : Tree → Piece) (xs us : List T
 own_fit-uneven_map q f xs us h = own_fit-uneven q 0 (map f xs) us (λ e. h (omega (arith, e, length-map xs f)))
 
 module _ (decls : List VarDecl) (tokens : List PatToken) (env : Environment) where
-  own_fit_at : (q : ℕ → Bool) (xs us : List Tree) (n i : ℕ) (x u : Tree) → i < length xs → length xs ≡ length us → x ≡ get_or xs i x → u ≡ get_or us i u
+  pub own_fit_at : (q : ℕ → Bool) (xs us : List Tree) (n i : ℕ) (x u : Tree) → i < length xs → length xs ≡ length us → x ≡ get_or xs i x → u ≡ get_or us i u
       → own_fit q n (map (piece decls tokens env) (drop i xs)) (drop i us) ≡ ((not (q n) || fits_tree decls tokens env x u) && own_fit q (suc n) (map (piece decls tokens env) (drop (suc i) xs)) (drop (suc i) us))
   own_fit_at q [] us n i x u lt len e g = absurd (omega arith)
   own_fit_at q (a ∷ xs) [] n i x u lt len e g = absurd (omega arith)

@@ -23,7 +23,7 @@ pub struct Alignment {
 }
 
 /// Whether the i-th form has the first form's sure variables and fits the subtree.
-fn fits_seat(
+pub fn fits_seat(
     alloc: Global,
     p: &Pattern,
     decls: &[VarDecl],

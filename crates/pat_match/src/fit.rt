@@ -342,7 +342,7 @@ fn fit_child(
 
 /// The row from a child on, from the last child back to it.
 #[cycle(fit)]
-fn fit_rows(
+pub fn fit_rows(
     alloc: Global,
     decls: &[VarDecl],
     tokens: &[PatToken],

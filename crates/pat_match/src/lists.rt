@@ -104,7 +104,7 @@ fn push_comma(
 }
 
 /// A copy of a run of members, as a list of this label. Linear.
-fn run_tree(alloc: Global, label: Label, members: &[ListMember]) -> Result<Tree, NoMemory>
+pub fn run_tree(alloc: Global, label: Label, members: &[ListMember]) -> Result<Tree, NoMemory>
     ensures { IfOk result (λ tree. tree ≡ run label members.now) }
 {
     let mut children = Items::new(alloc);

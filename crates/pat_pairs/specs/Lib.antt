@@ -1,0 +1,2 @@
+-- What public contracts rest on: the tokens of a form, and what each is aligned with.
+pub mod Pairs

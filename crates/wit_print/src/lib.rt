@@ -16,7 +16,5 @@
 mod forest;
 mod report;
 mod rules;
-#[cfg(test)]
-mod tests;
 
 pub use rules::print;

@@ -1,0 +1,125 @@
+-- The values that entries leave a variable are all under which the set has the environment, where those are among finitely
+-- many: an entry that leaves the variable open, or excludes some values, would allow a place that is none of them.
+use Rattle.std.proofs.Common.{◌≡◌, ℕ, suc, ◌+◌, ◌≤◌, Bool, true, false, ◌&&◌, ◌||◌, not, eqb, cond, refl, sym, ap, ◌∙◌, subst, arith, List, [], ◌∷◌, Option, Some, None}
+use Rattle.std.specs.List.{list_any}
+use Rattle.std.proofs.lemmas.Bool.Decides.{nat_tests}
+use Rattle.smpl_terms.specs.declared.value.Value.{Value}
+use Rattle.smpl_terms.specs.declared.value.Value.TheVariants.{Term, Place}
+use Rattle.smpl_terms.specs.declared.var.Var.{Var}
+use Rattle.smpl_terms.specs.Vars.{same_var, Above, Rising}
+use Rattle.smpl_terms.specs.Values.{same}
+use Rattle.smpl_terms.specs.Environments.{Environment, change}
+use Rattle.smpl_terms.proofs.VarLaws.{same_var-equal, less-apart}
+use Rattle.env_sets.specs.declared.bounds.Bound.{Bound}
+use Rattle.env_sets.specs.declared.bounds.Bound.TheVariants.{Is, Not}
+use Rattle.env_sets.specs.Bounds.{fits}
+use Rattle.env_sets.specs.Sets.{Entries, entry_denotes, set_denotes}
+use Rattle.ctl_holds.specs.Values.{is_among}
+use Rattle.wit_steps.specs.Choices.{others_allow, own_value, as_value, is_same_as, chosen, AllRise}
+
+abbrev above_places : List Value → ℕ
+above_places [] = 0
+above_places (Term a ∷ vs) = above_places vs
+above_places (Place p ∷ vs) = suc (p + above_places vs)
+
+fresh : (vs : List Value) (n : ℕ) → above_places vs ≤ n → list_any (λ v. same v (Place n)) vs ≡ false
+fresh [] n h = refl
+fresh (Term a ∷ vs) n h = fresh vs n h
+fresh (Place p ∷ vs) n h =
+    let r = fresh vs n (omega arith) in
+    let ne : eqb p n ≡ false = grind (arith, nat_tests) in
+    ap (λ b. b || list_any (λ v. same v (Place n)) vs) ne ∙ r
+
+clash : (b : Bool) → b ≡ false → b ≡ true → ⊥
+clash b h k = let e : false ≡ true = sym h ∙ k in absurd cc
+
+and-comm : (a b : Bool) → (a && b) ≡ (b && a)
+and-comm true true = refl
+and-comm true false = refl
+and-comm false true = refl
+and-comm false false = refl
+
+and-assoc : (a b c : Bool) → (a && (b && c)) ≡ ((a && b) && c)
+and-assoc true b c = refl
+and-assoc false b c = refl
+
+either : (a b : Bool) → a ≡ true → (a || b) ≡ true
+either true b h = refl
+either false b h = absurd cc
+
+or-else : (a b : Bool) → b ≡ true → (a || b) ≡ true
+or-else true b h = refl
+or-else false b h = h
+
+abbrev allows : Value → Option Bound → Bool
+allows v None = true
+allows v (Some b) = fits v b
+
+abbrev is_fixed : Value → Option Bound → Bool
+is_fixed v None = false
+is_fixed v (Some (Is u)) = same u v
+is_fixed v (Some (Not us)) = false
+
+module _ (x : Var) (env : Environment) where
+  abbrev bound_of : List (Var × Bound) → Option Bound
+  bound_of [] = None
+  bound_of (p ∷ ps) = cond (same_var p.0 x) (Some p.1) (bound_of ps)
+
+  -- past x nothing depends on its value
+  past : (v : Value) (ps : List (Var × Bound)) → Above x ps → entry_denotes ps (change env x v) ≡ others_allow x env ps
+  past v [] a = refl
+  past v (p ∷ ps) a = at (same_var p.0 x) (less-apart x p.0 a.0) (past v ps a.1)
+    where
+      at : (t : Bool) → t ≡ false → entry_denotes ps (change env x v) ≡ others_allow x env ps
+          → (fits (cond t v (env p.0)) p.1 && entry_denotes ps (change env x v)) ≡ ((t || fits (env p.0) p.1) && others_allow x env ps)
+      at true e h = absurd cc
+      at false e h = ap (λ b. fits (env p.0) p.1 && b) h
+
+  -- an entry by what it says of x and of the others
+  split : (v : Value) (ps : List (Var × Bound)) → Rising ps → entry_denotes ps (change env x v) ≡ (others_allow x env ps && allows v (bound_of ps))
+  split v [] r = refl
+  split v (p ∷ ps) r = at (same_var p.0 x) refl (split v ps r.1)
+    where
+      at : (t : Bool) → same_var p.0 x ≡ t → entry_denotes ps (change env x v) ≡ (others_allow x env ps && allows v (bound_of ps))
+          → (fits (cond t v (env p.0)) p.1 && entry_denotes ps (change env x v))
+          ≡ (((t || fits (env p.0) p.1) && others_allow x env ps) && allows v (cond t (Some p.1) (bound_of ps)))
+      at true e h =
+          ap (λ b. fits v p.1 && b) (past v ps (subst (λ k. Above k ps) (same_var-equal p.0 x e) r.0))
+          ∙ and-comm (fits v p.1) (others_allow x env ps)
+      at false e h =
+          ap (λ b. fits (env p.0) p.1 && b) h ∙ and-assoc (fits (env p.0) p.1) (others_allow x env ps) (allows v (bound_of ps))
+
+  fixed : (v : Value) (ps : List (Var × Bound)) → is_same_as v (own_value x ps) ≡ is_fixed v (bound_of ps)
+  fixed v [] = refl
+  fixed v (p ∷ ps) = at (same_var p.0 x) p.1 (fixed v ps)
+    where
+      at : (t : Bool) (b : Bound) → is_same_as v (own_value x ps) ≡ is_fixed v (bound_of ps)
+          → is_same_as v (cond t (as_value b) (own_value x ps)) ≡ is_fixed v (cond t (Some b) (bound_of ps))
+      at true (Is u) h = refl
+      at true (Not us) h = refl
+      at false b h = h
+
+  module _ (vs : List Value) (v : Value) where
+    by_bound : (o : Option Bound) (b : Bool) → ((u : Value) → (b && allows u o) ≡ true → is_among vs u ≡ true)
+        → (b && is_fixed v o) ≡ (b && allows v o)
+    by_bound o false h = refl
+    by_bound None true h = absurd (clash _ (fresh vs (above_places vs) (omega arith)) (h (Place (above_places vs)) refl))
+    by_bound (Some (Is u)) true h = refl
+    by_bound (Some (Not us)) true h =
+        let n = above_places vs + above_places us in
+        absurd (clash _ (fresh vs n (omega arith)) (h (Place n) (ap not (fresh us n (omega arith)))))
+
+    one_entry : (e : List (Var × Bound)) → Rising e → ((u : Value) → entry_denotes e (change env x u) ≡ true → is_among vs u ≡ true)
+        → (others_allow x env e && is_same_as v (own_value x e)) ≡ entry_denotes e (change env x v)
+    one_entry e r h =
+        ap (λ b. others_allow x env e && b) (fixed v e)
+        ∙ by_bound (bound_of e) (others_allow x env e) (λ u k. h u (split u e r ∙ k))
+        ∙ sym (split v e r)
+
+    pub all_chosen : (es : Entries) → AllRise es → ((u : Value) → set_denotes es (change env x u) ≡ true → is_among vs u ≡ true)
+        → chosen x env es v ≡ set_denotes es (change env x v)
+    all_chosen [] r h = refl
+    all_chosen (e ∷ es) r h =
+        let first = one_entry e r.0 (λ u k. h u (either (entry_denotes e (change env x u)) _ k)) in
+        let rest = all_chosen es r.1 (λ u k. h u (or-else (entry_denotes e (change env x u)) _ k)) in
+        λ i. first i || rest i

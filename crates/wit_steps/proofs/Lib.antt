@@ -1,0 +1,4 @@
+pub mod StepLemmas
+pub mod TouchLemmas
+pub mod KidLemmas
+pub mod ChoiceLemmas

@@ -1,0 +1,81 @@
+// Environments under a change of one variable.
+ghost use Rattle.std.specs.Prelude.{◌≡◌, ◌&&◌, ◌++◌, ◌∷◌, [], true, cond, None, IfOk};
+ghost use Rattle.smpl_terms.specs.declared.var.Var.{Var as Name};
+ghost use Rattle.smpl_terms.specs.Vars.{same_var};
+ghost use Rattle.smpl_terms.specs.Environments.{change, total, value_in};
+ghost use Rattle.smpl_terms.specs.Values.{same};
+ghost use Rattle.wit_trees.specs.Alike.{Alike};
+
+use c_terms::NoMemory;
+use smpl_terms::{Env, Value, Var, same_value, same_var};
+use std::alloc::Global;
+
+/// Adds a pair, unless its variable is x or has a value.
+fn put_other(alloc: Global, rest: Env, x: &Var, p: &(Var, Value)) -> Result<Env, NoMemory>
+    ensures { IfOk result (λ r. (y : Name) → value_in r y
+        ≡ cond (same_var p.now.0 x.now) (value_in rest y) (value_in (rest ++ p.now ∷ []) y)) }
+{
+    if same_var(&p.0, x) {
+        return Ok(rest);
+    }
+    if rest.has(&p.0) {
+        return Ok(rest);
+    }
+    rest.with(alloc, &p.0, &p.1)
+}
+
+/// The environment without a variable. Shares the pairs where it has none of it.
+fn without(alloc: Global, env: &Env, x: &Var) -> Result<Env, NoMemory>
+    ensures { IfOk result (λ r. (y : Name) → value_in r y ≡ cond (same_var y x.now) None (value_in env.now y)) }
+{
+    if !env.has(x) {
+        return env.copy(alloc);
+    }
+    let mut rest = Env::empty(alloc);
+    for p in env.pairs() {
+        rest = put_other(alloc, rest, x, p)?;
+    }
+    Ok(rest)
+}
+
+/// The environment with another value of a variable. Linear in the pairs where it has none; else quadratic in them.
+pub fn changed(alloc: Global, env: &Env, x: &Var, v: &Value) -> Result<Env, NoMemory>
+    ensures value { IfOk result (λ r. (y : Name) → total r y ≡ change (total env.now) x.now v.now y) }
+{
+    let rest = without(alloc, env, x)?;
+    rest.with(alloc, x, v)
+}
+
+fn same_pair(a: &(Var, Value), b: &(Var, Value)) -> bool
+    ensures { result ≡ (same_var a.now.0 b.now.0 && same a.now.1 b.now.1) }
+{
+    same_var(&a.0, &b.0) && same_value(&a.1, &b.1)
+}
+
+/// True only where both have the same variables with the same values.
+pub fn same_env(a: &Env, b: &Env) -> bool
+    ensures alike { result ≡ true → Alike (total a.now) (total b.now) }
+{
+    let left = a.pairs();
+    let right = b.pairs();
+    if left.len() != right.len() {
+        return false;
+    }
+    for i in 0..left.len() {
+        if !same_pair(&left[i], &right[i]) {
+            return false;
+        }
+    }
+    true
+}
+
+/// A number that environments with the same places share. Nothing rests on it but speed.
+pub fn mark(env: &Env) -> u64 {
+    let mut sum = 0u64;
+    for p in env.pairs() {
+        if let Value::Place(id) = &p.1 {
+            sum = sum.wrapping_mul(31).wrapping_add(*id);
+        }
+    }
+    sum
+}

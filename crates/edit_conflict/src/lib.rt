@@ -17,8 +17,6 @@ mod clash;
 mod edit;
 mod list;
 mod mark;
-#[cfg(test)]
-mod tests;
 
 pub use clash::{Clash, first_clash};
 pub use edit::{Edit, Insert, Side};

@@ -20,8 +20,6 @@ mod insert;
 mod line;
 mod mark;
 mod spot;
-#[cfg(test)]
-mod tests;
 mod touch;
 mod values;
 

@@ -2,13 +2,10 @@
 use Rattle.std.specs.Prelude.{◌≡◌, ℕ, List, [], ◌∷◌, ◌++◌, refl, codes}
 use Rattle.c_terms.specs.declared.token.TokenKind.TheVariants.{Name, Punct}
 use Rattle.c_lexer.specs.declared.piece.PieceKind.{PieceKind}
-use Rattle.c_lexer.specs.declared.piece.PieceKind.TheVariants.{Word, Blank, Comment, Line}
+use Rattle.c_lexer.specs.declared.piece.PieceKind.TheVariants.{Word, Blank, Comment}
 use Rattle.c_lexer.specs.Pieces.{TextPiece, text_of}
 use Rattle.c_lexer.specs.Ids.{ids_of}
 use Rattle.c_show.specs.Joint.{runs_together}
-use Rattle.edit_conflict.specs.declared.edit.Side.{Side}
-use Rattle.edit_conflict.specs.declared.edit.Side.TheVariants.{Before, After}
-use Rattle.edit_conflict.specs.declared.edit.Insert.{Insert}
 use Rattle.edit_conflict.specs.declared.edit.Edit.{Edit}
 use Rattle.edit_unparse.specs.Output.{output_of}
 

@@ -3,6 +3,9 @@ pub mod Pieces
 pub mod Reached
 pub mod Acts
 pub mod Cursor
+pub mod RunLemmas
+pub mod RunTextLemmas
+pub mod LoopLemmas
 pub mod Ends
 pub mod Beside
 pub mod Placing

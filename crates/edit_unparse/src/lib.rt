@@ -18,8 +18,7 @@ mod fault;
 mod laws;
 mod place;
 mod put;
-#[cfg(test)]
-mod tests;
+mod run;
 
 pub use draft::Edited;
 pub use fault::OutFault;

@@ -11,7 +11,7 @@ use c_lexer::{Kind, PieceKind};
 use c_show::runs_together;
 
 /// The most bytes that a text may have.
-const MAX_LEN: usize = 16_777_216;
+pub const MAX_LEN: usize = 16_777_216;
 
 impl Draft {
     /// Adds a piece of the old text, with its number there.
@@ -61,8 +61,16 @@ impl Draft {
         Ok(())
     }
 
+    /// How many bytes there are.
+    pub fn len(&self) -> usize
+        ensures value { result ≡ length self.now.bytes.items }
+        ensures short { result ≤ 16777216 }
+    {
+        self.bytes.len()
+    }
+
     /// How many spaces part a text from what is there: 1 or 0.
-    fn spaces(&self, from: Option<u32>, text: &[u8]) -> usize
+    pub fn spaces(&self, from: Option<u32>, text: &[u8]) -> usize
         ensures value { result ≡ length (text_of (gap (left self.now) from text.now)) }
         ensures at_most { result ≤ 1 }
     {
@@ -89,7 +97,7 @@ fn were_beside(left: Option<u32>, right: Option<u32>) -> bool
     }
 }
 
-fn is_word(kind: PieceKind) -> bool
+pub fn is_word(kind: PieceKind) -> bool
     ensures { result ≡ is_word kind }
 {
     match kind {

@@ -1,6 +1,8 @@
-// What no clause says: the calls answer with ample memory.
-use crate::{Aligned, Anchor, edit_of, ends_line, indent_at, insert_text, removed_tokens, spots};
+// What an alignment removes, and where plus code goes in.
 use c_terms::NoMemory;
+use edit_marks::{
+    Aligned, Anchor, edit_of, ends_line, indent_at, insert_text, removed_tokens, spots,
+};
 use smpl_patch::{Mark, PatToken, PlusBlock};
 use smpl_terms::Env;
 use sqlite_items::Items;

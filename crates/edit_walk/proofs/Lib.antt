@@ -1,0 +1,12 @@
+-- Lemmas: lists, tables of numbers, the tokens of a text, lists of edits that grow, patterns of bodies.
+pub mod ListLemmas
+pub mod NumberLemmas
+pub mod TokenLemmas
+pub mod GrowingLemmas
+pub mod TouchLemmas
+pub mod WeightLemmas
+pub mod SiteLemmas
+pub mod OrderLemmas
+pub mod FitLemmas
+pub mod PlainLemmas
+mod Examples

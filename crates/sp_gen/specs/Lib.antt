@@ -1,0 +1,2 @@
+-- What the contract rests on: the text of a seed.
+pub mod Generated

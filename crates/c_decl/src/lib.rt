@@ -9,7 +9,5 @@
 #![tactic(auto)]
 
 mod decl;
-#[cfg(test)]
-mod tests;
 
 pub use decl::parse_decl;

@@ -24,8 +24,6 @@ mod laws;
 mod parse;
 mod range;
 mod see;
-#[cfg(test)]
-mod tests;
 
 pub use fault::ParseFault;
 pub use laws::ranges_have_one_tree;

@@ -16,8 +16,6 @@
 mod file;
 mod item;
 mod laws;
-#[cfg(test)]
-mod tests;
 mod token;
 mod typedefs;
 

@@ -27,8 +27,6 @@ mod piece;
 mod run;
 mod state;
 mod step;
-#[cfg(test)]
-mod tests;
 mod texts;
 mod within;
 

@@ -1,6 +1,7 @@
 -- The first three tokens of a type that is a member of a call's list.
 use Rattle.std.proofs.Common.{◌≡◌, ◌⊎◌, List, [], ◌∷◌, map, refl, subst, ap, sym, inl, inr}
 use Rattle.std.specs.Prelude.{Bool, true, false, not, ◌&&◌, ◌||◌, IsTrue}
+use Rattle.std.proofs.lemmas.Bool.{false≢true}
 use Rattle.c_terms.specs.declared.token.Token.{Token}
 use Rattle.c_terms.specs.declared.label.Label.TheVariants as label
 use Rattle.c_terms.specs.declared.tree.Tree.{Tree}
@@ -172,7 +173,7 @@ module _ (names : Names) (may : List Token → List Token → Type 0) where
       same_truth _ _ (ap (λ (b : Bool). b || begins_nameless (look names xs) (look names (behind xs))) (declares-Branch label.DArray (a ∷ cs))) (declarator_front d refl)
   declarator_front {xs = xs} (branch rule.DFun u b al (child {t = a} {cs = cs} d rest)) w =
       same_truth _ _ (ap (λ (b : Bool). b || begins_nameless (look names xs) (look names (behind xs))) (declares-Branch label.DFun (a ∷ cs))) (declarator_front d refl)
-  declarator_front {k} (branch r u b al parts) w = let h : IsTrue (within (kind_of r) kind.Declarator) = within_trans (kind_of r) k kind.Declarator u w in let never : ⊥ = cc in absurd never
+  declarator_front {k} (branch r u b al parts) w = absurd (false≢true (within_trans (kind_of r) k kind.Declarator u w))
 
   -- ---- a type's words
 
@@ -180,33 +181,33 @@ module _ (names : Names) (may : List Token → List Token → Type 0) where
   modifiers_end : {ps : Row} {xs ys : List Token} {cs : List Tree} → DerivesRow names may ps xs cs ys → IsTrue (modifier_way ps) → IsTrue (fits words.Modifier (look names xs)) ⊎ (ys ≡ xs)
   modifiers_end done m = inr refl
   modifiers_end (word {w = words.Modifier} f rest) m = inl f
-  modifiers_end (word f rest) m = let never : ⊥ = cc in absurd never
-  modifiers_end (child d rest) m = let never : ⊥ = cc in absurd never
-  modifiers_end (argument d rest) m = let never : ⊥ = cc in absurd never
-  modifiers_end (type_argument a d rest) m = let never : ⊥ = cc in absurd never
-  modifiers_end (fork i w v way) m = let never : ⊥ = cc in absurd never
+  modifiers_end (word f rest) m = absurd (false≢true m)
+  modifiers_end (child d rest) m = absurd (false≢true m)
+  modifiers_end (argument d rest) m = absurd (false≢true m)
+  modifiers_end (type_argument a d rest) m = absurd (false≢true m)
+  modifiers_end (fork i w v way) m = absurd (false≢true m)
 
   one_type_end : {ps : Row} {xs ys : List Token} {cs : List Tree} → DerivesRow names may ps xs cs ys → IsTrue (one_type ps) → IsTrue (fits words.Modifier (look names xs)) ⊎ (ys ≡ xs)
-  one_type_end done m = let never : ⊥ = cc in absurd never
-  one_type_end (word f rest) m = let never : ⊥ = cc in absurd never
-  one_type_end (child d rest) m = let never : ⊥ = cc in absurd never
-  one_type_end (argument d rest) m = let never : ⊥ = cc in absurd never
-  one_type_end (type_argument a d rest) m = let never : ⊥ = cc in absurd never
+  one_type_end done m = absurd (false≢true m)
+  one_type_end (word f rest) m = absurd (false≢true m)
+  one_type_end (child d rest) m = absurd (false≢true m)
+  one_type_end (argument d rest) m = absurd (false≢true m)
+  one_type_end (type_argument a d rest) m = absurd (false≢true m)
   one_type_end (fork {f = forks.OneType} {ps = ps} i w v way) m = modifiers_end way (row_at modifier_way (ways forks.OneType) i ps refl w)
-  one_type_end (fork i w v way) m = let never : ⊥ = cc in absurd never
+  one_type_end (fork i w v way) m = absurd (false≢true m)
 
   way_end : {ps : Row} {xs ys : List Token} {cs : List Tree} → DerivesRow names may ps xs cs ys → IsTrue (type_way ps) → IsTrue (fits words.Name (look names xs))
       → IsTrue (fits words.Modifier (look names (behind xs))) ⊎ (ys ≡ behind xs)
-  way_end done m n = let never : ⊥ = cc in absurd never
+  way_end done m n = absurd (false≢true m)
   way_end (word {w = words.Name} f rest) m n = one_type_end rest m
   way_end (word {w = words.Modifier} {t = t} {xs = xs} f rest) m n = never_both (fits words.Name (look names (t ∷ xs))) (unnamed (fits words.Modifier) refl (look names (t ∷ xs)) f) n
   way_end (word {w = words.Basic} {t = t} {xs = xs} f rest) m n = never_both (fits words.Name (look names (t ∷ xs))) (unnamed (fits words.Basic) refl (look names (t ∷ xs)) f) n
-  way_end (word f rest) m n = let never : ⊥ = cc in absurd never
+  way_end (word f rest) m n = absurd (false≢true m)
   way_end {xs = xs} (child {k = kind.Tag} d rest) m n = never_both (fits words.Name (look names xs)) (unnamed begins_tag refl (look names xs) (tree_first names may d refl)) n
-  way_end (child d rest) m n = let never : ⊥ = cc in absurd never
-  way_end (argument d rest) m n = let never : ⊥ = cc in absurd never
-  way_end (type_argument a d rest) m n = let never : ⊥ = cc in absurd never
-  way_end (fork i w v way) m n = let never : ⊥ = cc in absurd never
+  way_end (child d rest) m n = absurd (false≢true m)
+  way_end (argument d rest) m n = absurd (false≢true m)
+  way_end (type_argument a d rest) m n = absurd (false≢true m)
+  way_end (fork i w v way) m n = absurd (false≢true m)
 
   abbrev EndsAt : List Token → List Token → Type 0
   EndsAt xs ys = IsTrue (fits words.Modifier (look names (behind xs))) ⊎ (ys ≡ behind xs)
@@ -220,7 +221,7 @@ module _ (names : Names) (may : List Token → List Token → Type 0) where
     where
       rule_end : (r : Rule) {xs ys : List Token} {cs : List Tree} → DerivesRow names may (row r) xs cs ys → IsTrue (within (kind_of r) kind.Specs) → IsTrue (fits words.Name (look names xs)) → EndsAt xs ys
       rule_end rule.Specs (fork {ps = ps} i g v way) w n = way_end way (row_at type_way (ways forks.NoType) i ps refl g) n
-      rule_end _ parts w n = let never : ⊥ = cc in absurd never
+      rule_end _ parts w n = absurd (false≢true w)
 
   -- ---- type names
 
@@ -231,11 +232,11 @@ module _ (names : Names) (may : List Token → List Token → Type 0) where
   nameless_front specs {xs = xs} (child {k = kind.Declarator} {ps = []} {t = t} d done) m al e =
       or_right (ends_member (look names xs)) (begins_nameless (look names xs) (look names (behind xs)))
       (other (declares_name t) (begins_nameless (look names xs) (look names (behind xs))) (and_right (is_plain specs) (not (declares_name t)) al) (declarator_front d refl))
-  nameless_front specs (child d rest) m al e = let never : ⊥ = cc in absurd never
-  nameless_front specs (word f rest) m al e = let never : ⊥ = cc in absurd never
-  nameless_front specs (argument d rest) m al e = let never : ⊥ = cc in absurd never
-  nameless_front specs (type_argument a d rest) m al e = let never : ⊥ = cc in absurd never
-  nameless_front specs (fork i w v way) m al e = let never : ⊥ = cc in absurd never
+  nameless_front specs (child d rest) m al e = absurd (false≢true m)
+  nameless_front specs (word f rest) m al e = absurd (false≢true m)
+  nameless_front specs (argument d rest) m al e = absurd (false≢true m)
+  nameless_front specs (type_argument a d rest) m al e = absurd (false≢true m)
+  nameless_front specs (fork i w v way) m al e = absurd (false≢true m)
 
   abbrev Fronts : List Token → Type 0
   Fronts xs = IsTrue (fits words.Name (look names xs)) → IsTrue (follows_type (look names (behind xs)) (look names (behind (behind xs))))
@@ -259,7 +260,7 @@ module _ (names : Names) (may : List Token → List Token → Type 0) where
             | inl m ↦ early (fits words.Modifier (look names (behind xs))) (ends_member (look names (behind xs))) (begins_nameless (look names (behind xs)) (look names (behind (behind xs)))) m
             | inr s ↦ behind_words xs us s (nameless_front specs way (row_at nameless_way (ways forks.Nameless) i ps refl g) al e)
           ]
-      rule_name _ parts al w e = let never : ⊥ = cc in absurd never
+      rule_name _ parts al w e = absurd (false≢true w)
 
   argument_front : {k : Kind} {xs ys : List Token} {t : Tree} → Derives names may k xs t ys → IsTrue (within k kind.TypeArg) → IsTrue (ends_member (look names ys)) → Fronts xs
   argument_front {k} (leaf {t = t} {ys = ys} h) w e =
@@ -269,7 +270,7 @@ module _ (names : Names) (may : List Token → List Token → Type 0) where
     where
       rule_argument : (r : Rule) {xs ys : List Token} {cs : List Tree} → DerivesRow names may (row r) xs cs ys → IsTrue (within (kind_of r) kind.TypeArg) → IsTrue (ends_member (look names ys)) → Fronts xs
       rule_argument rule.TypeArg (child d done) w e = name_front d refl e
-      rule_argument _ parts w e = let never : ⊥ = cc in absurd never
+      rule_argument _ parts w e = absurd (false≢true w)
 
   -- A type that is a member of a call's list begins with three classes that say so.
   pub type_front : {xs ys : List Token} {t : Tree} → Derives names may kind.TypeArg xs t ys → IsTrue (ends_member (look names ys))

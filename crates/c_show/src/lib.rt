@@ -14,8 +14,6 @@
 mod joint;
 mod layout;
 mod page;
-#[cfg(test)]
-mod tests;
 
 pub use joint::runs_together;
 pub use layout::show;

@@ -11,8 +11,6 @@
 
 mod item;
 mod stmts;
-#[cfg(test)]
-mod tests;
 
 pub use item::parse_item;
 pub use stmts::parse_stmts;

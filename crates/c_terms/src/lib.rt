@@ -45,6 +45,3 @@ pub use shape::{Shape, is_expression_part};
 pub use text::{NoMemory, Text};
 pub use token::{MetaKind, Token, TokenKind};
 pub use tree::{Tree, TreePath, leaves};
-
-#[cfg(test)]
-mod tests;

@@ -26,8 +26,6 @@ mod reading;
 mod shown;
 mod sign;
 mod span;
-#[cfg(test)]
-mod tests;
 mod visible;
 
 pub use laws::{items_stand_end_to_end, shown_once};

@@ -1,6 +1,6 @@
 // Worked rows of files with ample memory, the graph of each form, and a function of the greatest depth, also inside a
 // thread.
-use crate::{CFile, read_file};
+use c_file::{CFile, read_file};
 use c_lexer::lex;
 use c_terms::{Label, Tree, first_leaf, subtree};
 use cfg_graph::{Graph, NodeKind};

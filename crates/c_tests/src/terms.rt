@@ -1,5 +1,6 @@
-// Each call once with ample memory, and each recursion at the greatest depth that a parser gives.
-use crate::{
+// Each call of c_terms once, and each recursion at the greatest depth that a parser gives.
+use crate::words::{leaf, token};
+use c_terms::{
     Label, MetaKind, Names, NoMemory, Shape, Text, Token, TokenKind, Tree, TreePath, child,
     compare_tokens, expression_paths, first_leaf, is_expression_part, is_same_token, leaves,
     members_of, run_of, same_term, subtree, term_order, text_order, width,
@@ -9,37 +10,28 @@ use std::alloc::Global;
 use std::cmp::Ordering;
 use std::thread;
 
-fn make_token(alloc: Global, kind: TokenKind, text: &[u8], id: u64) -> Result<Token, NoMemory> {
-    let text = Text::from_bytes(alloc, text)?;
-    Ok(Token { kind, text, id })
-}
-
-fn make_leaf(alloc: Global, kind: TokenKind, text: &[u8], id: u64) -> Result<Tree, NoMemory> {
-    Ok(Tree::Leaf(make_token(alloc, kind, text, id)?))
-}
-
 // `a, b`
 fn arguments(alloc: Global) -> Result<Tree, NoMemory> {
     let mut members = Items::new(alloc);
-    members.push(make_leaf(alloc, TokenKind::Name, b"a", 2)?)?;
-    members.push(make_leaf(alloc, TokenKind::Punct, b",", 3)?)?;
-    members.push(make_leaf(alloc, TokenKind::Name, b"b", 4)?)?;
+    members.push(leaf(alloc, TokenKind::Name, b"a", 2)?)?;
+    members.push(leaf(alloc, TokenKind::Punct, b",", 3)?)?;
+    members.push(leaf(alloc, TokenKind::Name, b"b", 4)?)?;
     Ok(Tree::Branch(Label::Args, members))
 }
 
 // `f(a, b)`
 fn call(alloc: Global) -> Result<Tree, NoMemory> {
     let mut parts = Items::new(alloc);
-    parts.push(make_leaf(alloc, TokenKind::Name, b"f", 0)?)?;
-    parts.push(make_leaf(alloc, TokenKind::Punct, b"(", 1)?)?;
+    parts.push(leaf(alloc, TokenKind::Name, b"f", 0)?)?;
+    parts.push(leaf(alloc, TokenKind::Punct, b"(", 1)?)?;
     parts.push(arguments(alloc)?)?;
-    parts.push(make_leaf(alloc, TokenKind::Punct, b")", 5)?)?;
+    parts.push(leaf(alloc, TokenKind::Punct, b")", 5)?)?;
     Ok(Tree::Branch(Label::Call, parts))
 }
 
-fn is_token(token: Option<&Token>, text: &[u8], id: u64) -> bool {
-    match token {
-        Some(token) => token.text.as_bytes() == text && token.id == id,
+fn is_token(found: Option<&Token>, text: &[u8], id: u64) -> bool {
+    match found {
+        Some(found) => found.text.as_bytes() == text && found.id == id,
         None => false,
     }
 }
@@ -88,8 +80,8 @@ fn trees_are_read(rt: HostRuntime) -> Result<(), NoMemory> {
 #[test]
 fn ids_are_kept_and_do_not_count(rt: HostRuntime) -> Result<(), NoMemory> {
     let alloc = rt.alloc();
-    let a = make_token(alloc, TokenKind::Name, b"a", 1)?;
-    let other = make_token(alloc, TokenKind::Name, b"a", 2)?;
+    let a = token(alloc, TokenKind::Name, b"a", 1)?;
+    let other = token(alloc, TokenKind::Name, b"a", 2)?;
     assert_eq!(rt; a.copy(alloc)?.id, 1);
     assert!(rt; is_same_token(&a, &other));
     let tree = call(alloc)?;
@@ -104,11 +96,11 @@ fn ids_are_kept_and_do_not_count(rt: HostRuntime) -> Result<(), NoMemory> {
 fn terms_are_in_order(rt: HostRuntime) -> Result<(), NoMemory> {
     let alloc = rt.alloc();
     let rising = vec![in alloc;
-        make_leaf(alloc, TokenKind::Name, b"b", 9)?,
-        make_leaf(alloc, TokenKind::Name, b"ba", 8)?,
-        make_leaf(alloc, TokenKind::Stray, b"$", 7)?,
-        make_leaf(alloc, TokenKind::Meta(MetaKind::Expr), b"E", 6)?,
-        make_leaf(alloc, TokenKind::Dots, b"...", 5)?,
+        leaf(alloc, TokenKind::Name, b"b", 9)?,
+        leaf(alloc, TokenKind::Name, b"ba", 8)?,
+        leaf(alloc, TokenKind::Stray, b"$", 7)?,
+        leaf(alloc, TokenKind::Meta(MetaKind::Expr), b"E", 6)?,
+        leaf(alloc, TokenKind::Dots, b"...", 5)?,
         call(alloc)?,
         arguments(alloc)?,
         Tree::Branch(Label::StmtList, Items::new(alloc)),
@@ -119,8 +111,8 @@ fn terms_are_in_order(rt: HostRuntime) -> Result<(), NoMemory> {
         }
     }
     assert!(rt; text_order(b"ab", b"b") == Ordering::Less);
-    let name = make_token(alloc, TokenKind::Name, b"z", 0)?;
-    let number = make_token(alloc, TokenKind::Number, b"1", 0)?;
+    let name = token(alloc, TokenKind::Name, b"z", 0)?;
+    let number = token(alloc, TokenKind::Number, b"1", 0)?;
     assert!(rt; compare_tokens(&name, &number) == Ordering::Less);
     Ok(())
 }

@@ -1,14 +1,31 @@
-// Worked rows, each call with ample memory, and statements at the greatest depth.
-use crate::{parse_item, parse_stmts};
-use c_expr::ParseFault;
-use c_show::show;
-use c_terms::{MetaKind, Names, NoMemory, Text, Token, TokenKind, Tree};
+// Worked rows of declarations, statements and items, and statements at the greatest depth, which are written too.
+use crate::words::{names_with_t, put, shown, tokens_of};
+use c_decl::parse_decl;
+use c_expr::{ParseFault, parse_expr};
+use c_show::{runs_together, show};
+use c_stmt::{parse_item, parse_stmts};
+use c_terms::{Names, NoMemory, Token, Tree};
 use std::alloc::Global;
 use std::test::Fail;
 use std::thread;
 
-/// Tokens, parted by blanks, and the tree of a list of statements of them. `t` is in the names, and `u` is not.
-/// `dots:...` and `expr:e` are tokens of a pattern.
+/// How tokens are read.
+#[derive(Clone, Copy, Drop)]
+enum Form {
+    Declaration,
+    Statements,
+    Item,
+}
+
+/// Tokens, parted by blanks, and the tree of a declaration of them. `t` is in the names, and `u` is not.
+const DECLARATIONS: [(&str, &str); 4] = [
+    ("int x = 1 ;", "(Decl (Specs int) (InitDecl x = 1) ;)"),
+    ("u ( x ) ;", "(Decl (Specs u) (DParen ( x )) ;)"),
+    ("u ( x )", "no tree"),
+    ("int x", "no tree"),
+];
+
+/// The same for lists of statements. `dots:...` and `expr:e` are tokens of a pattern.
 const STATEMENTS: [(&str, &str); 29] = [
     // expressions and declarations
     ("f ( ) ;", "(StmtList (ExprStat (Call f ( (Args) )) ;))"),
@@ -129,118 +146,63 @@ const ITEMS: [(&str, &str); 12] = [
     ("f ( ) ; ;", "no tree"),
 ];
 
-/// The kind of token that a word before `:` names.
-fn named_kind(word: &str) -> Option<TokenKind> {
-    match word {
-        "expr" => Some(TokenKind::Meta(MetaKind::Expr)),
-        "stmt" => Some(TokenKind::Meta(MetaKind::Stmt)),
-        "dots" => Some(TokenKind::Dots),
-        _ => None,
-    }
-}
-
-const KEYWORDS: [&str; 18] = [
-    "int", "void", "static", "if", "else", "while", "do", "for", "switch", "case", "default",
-    "return", "goto", "break", "continue", "asm", "struct", "sizeof",
-];
-
-fn kind_of(word: &str) -> TokenKind {
-    for keyword in KEYWORDS {
-        if word == keyword {
-            return TokenKind::Keyword;
-        }
-    }
-    match word.as_bytes() {
-        [b'\\', ..] => TokenKind::Pat,
-        [b'<', b'.', ..] => TokenKind::Pat,
-        [b'.', .., b'>'] => TokenKind::Pat,
-        [first, ..] if first.is_ascii_alphabetic() => TokenKind::Name,
-        [first, ..] if first.is_ascii_digit() => TokenKind::Number,
-        _ => TokenKind::Punct,
-    }
-}
-
-/// Puts the word's token behind the others.
-fn put(alloc: Global, tokens: &mut Vec<Token>, word: &str) -> Result<(), NoMemory> {
-    let mut text = word;
-    let mut kind = kind_of(word);
-    if let Some((before, after)) = word.split_once(":") {
-        if let Some(named) = named_kind(before) {
-            kind = named;
-            text = after;
-        }
-    }
-    let text = Text::from_bytes(alloc, text.as_bytes())?;
-    tokens.push(Token { kind, text, id: 0 })?;
-    Ok(())
-}
-
-/// The tokens of words that are parted by blanks.
-fn tokens_of(alloc: Global, words: &str) -> Result<Vec<Token>, NoMemory> {
-    let mut tokens = Vec::new(alloc);
-    for word in words.split(' ') {
-        put(alloc, &mut tokens, word)?;
-    }
-    Ok(tokens)
-}
-
-/// Puts the tree as text: a branch is its label and its children in brackets, a leaf its text.
-fn put_tree(alloc: Global, out: &mut String, tree: &Tree) -> Result<(), NoMemory> {
-    match tree {
-        Tree::Leaf(token) => {
-            for byte in token.text.as_bytes() {
-                out.push(*byte as char)?;
-            }
-            Ok(())
-        }
-        Tree::Branch(label, children) => {
-            let name = format!(in alloc; "({label:?}")?;
-            out.push_str(name.as_str())?;
-            for child in children.as_slice() {
-                out.push_str(" ")?;
-                put_tree(alloc, out, child)?;
-            }
-            out.push_str(")")?;
-            Ok(())
-        }
-    }
-}
-
-/// An answer as text, the tree or the fault.
-fn shown(alloc: Global, answer: Result<Tree, ParseFault>) -> Result<String, NoMemory> {
-    let mut out = String::new(alloc);
-    match answer {
-        Ok(tree) => put_tree(alloc, &mut out, &tree)?,
-        Err(ParseFault::NoTree) => out.push_str("no tree")?,
-        Err(ParseFault::TooDeep) => out.push_str("too deep")?,
-        Err(ParseFault::NoMemory) => return Err(NoMemory),
-    }
-    Ok(out)
-}
-
-/// What the words are read as: as an item, or as statements.
-fn read(alloc: Global, is_item: bool, words: &str) -> Result<String, NoMemory> {
-    let tokens = tokens_of(alloc, words)?;
-    let mut names = Names::listed(alloc)?;
-    names.add(alloc, Text::from_bytes(alloc, b"t")?)?;
+/// What the words are read as.
+fn parsed(alloc: Global, form: Form, tokens: &[Token], names: &Names) -> Result<Tree, ParseFault> {
     let to = tokens.len();
-    if is_item {
-        shown(alloc, parse_item(alloc, &tokens, &names, 0, to))
-    } else {
-        shown(alloc, parse_stmts(alloc, &tokens, &names, 0, to))
+    match form {
+        Form::Declaration => parse_decl(alloc, tokens, names, 0, to),
+        Form::Statements => parse_stmts(alloc, tokens, names, 0, to),
+        Form::Item => parse_item(alloc, tokens, names, 0, to),
     }
+}
+
+fn read(alloc: Global, form: Form, words: &str) -> Result<String, NoMemory> {
+    let tokens = tokens_of(alloc, words)?;
+    let names = names_with_t(alloc)?;
+    shown(alloc, parsed(alloc, form, &tokens, &names), tokens.len())
+}
+
+/// The first row whose words are read as another tree.
+fn first_wrong<'a>(
+    alloc: Global,
+    form: Form,
+    rows: &[(&'a str, &str)],
+) -> Result<Option<&'a str>, NoMemory> {
+    for (words, want) in rows {
+        if read(alloc, form, words)?.as_str() != *want {
+            return Ok(Some(words));
+        }
+    }
+    Ok(None)
 }
 
 #[test]
 fn worked_rows_have_their_trees(rt: HostRuntime) -> Result<(), Fail> {
-    for (words, want) in STATEMENTS {
-        let got = read(rt.alloc(), false, words)?;
-        assert!(rt; got.as_str() == want, "{words}: {got}");
+    let alloc = rt.alloc();
+    assert_eq!(rt; first_wrong(alloc, Form::Declaration, &DECLARATIONS)?, None);
+    assert_eq!(rt; first_wrong(alloc, Form::Statements, &STATEMENTS)?, None);
+    assert_eq!(rt; first_wrong(alloc, Form::Item, &ITEMS)?, None);
+    Ok(())
+}
+
+fn is_written(alloc: Global, tree: &Tree, wanted: &[u8]) -> Result<bool, NoMemory> {
+    Ok(show(alloc, tree)?.as_bytes() == wanted)
+}
+
+/// Whether the expression of these words is written as this text.
+fn becomes(alloc: Global, words: &str, wanted: &[u8]) -> Result<bool, NoMemory> {
+    let tokens = tokens_of(alloc, words)?;
+    let names = names_with_t(alloc)?;
+    match parse_expr(alloc, &tokens, &names, 0, tokens.len()) {
+        Ok(tree) => is_written(alloc, &tree, wanted),
+        Err(_) => Ok(false),
     }
-    for (words, want) in ITEMS {
-        let got = read(rt.alloc(), true, words)?;
-        assert!(rt; got.as_str() == want, "{words}: {got}");
-    }
+}
+
+#[test]
+fn trees_are_written(rt: HostRuntime) -> Result<(), NoMemory> {
+    assert!(rt; becomes(rt.alloc(), "a = - - b [ 1 ] , c", b"a = - -b[1], c")?);
+    assert!(rt; runs_together(b"a", b"1") && !runs_together(b"a", b"+"));
     Ok(())
 }
 

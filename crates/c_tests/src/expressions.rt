@@ -1,9 +1,10 @@
-// Worked rows, each call with ample memory, and trees at the greatest depth.
-use crate::{
+// Worked rows of expressions, types, declarators, initialisers and patterns, and trees at the greatest depth.
+use crate::words::{names_with_t, nested, shown, tokens_of};
+use c_expr::{
     ParseFault, parse_declarator, parse_expr, parse_init, parse_kind, parse_specs, parse_type_name,
 };
 use c_rows::Kind;
-use c_terms::{MetaKind, Names, NoMemory, Text, Token, TokenKind, Tree, same_term};
+use c_terms::{Names, NoMemory, Token, Tree, same_term};
 use std::alloc::Global;
 use std::test::Fail;
 use std::thread;
@@ -147,128 +148,6 @@ const OTHERS: [(Kind, &str, &str); 17] = [
     (Kind::InitList, "{ . x }", "no tree"),
 ];
 
-/// The kind of token that a word before `:` names.
-fn named_kind(word: &str) -> Option<TokenKind> {
-    match word {
-        "expr" => Some(TokenKind::Meta(MetaKind::Expr)),
-        "list" => Some(TokenKind::Meta(MetaKind::ExprList)),
-        "ident" => Some(TokenKind::Meta(MetaKind::Ident)),
-        "const" => Some(TokenKind::Meta(MetaKind::Constant)),
-        "type" => Some(TokenKind::Meta(MetaKind::Typ)),
-        "stmt" => Some(TokenKind::Meta(MetaKind::Stmt)),
-        "params" => Some(TokenKind::Meta(MetaKind::Params)),
-        "dots" => Some(TokenKind::Dots),
-        _ => None,
-    }
-}
-
-fn kind_of(word: &str) -> TokenKind {
-    match word {
-        "struct"
-        | "enum"
-        | "const"
-        | "static"
-        | "int"
-        | "unsigned"
-        | "long"
-        | "sizeof"
-        | "_Alignof" => return TokenKind::Keyword,
-        "<..." | "...>" => return TokenKind::Pat,
-        _ => {}
-    }
-    match word.as_bytes() {
-        [b'"', ..] => TokenKind::Str,
-        [b'\'', ..] => TokenKind::Char,
-        [b'\\', ..] => TokenKind::Pat,
-        [first, ..] if first.is_ascii_alphabetic() => TokenKind::Name,
-        [first, ..] if first.is_ascii_digit() => TokenKind::Number,
-        _ => TokenKind::Punct,
-    }
-}
-
-/// Puts the word's token behind the others. Its id is its number, from 0.
-fn put(alloc: Global, tokens: &mut Vec<Token>, word: &str) -> Result<(), NoMemory> {
-    let mut text = word;
-    let mut kind = kind_of(word);
-    if let Some((before, after)) = word.split_once(":") {
-        if let Some(named) = named_kind(before) {
-            kind = named;
-            text = after;
-        }
-    }
-    let text = Text::from_bytes(alloc, text.as_bytes())?;
-    let id = tokens.len() as u64;
-    tokens.push(Token { kind, text, id })?;
-    Ok(())
-}
-
-/// The tokens of words that are parted by blanks.
-fn tokens_of(alloc: Global, words: &str) -> Result<Vec<Token>, NoMemory> {
-    let mut tokens = Vec::new(alloc);
-    for word in words.split(' ') {
-        put(alloc, &mut tokens, word)?;
-    }
-    Ok(tokens)
-}
-
-/// The listed names and `t`.
-fn names_with_t(alloc: Global) -> Result<Names, NoMemory> {
-    let mut names = Names::listed(alloc)?;
-    names.add(alloc, Text::from_bytes(alloc, b"t")?)?;
-    Ok(names)
-}
-
-/// Puts the tree as text: a branch is its label and its children in brackets, a leaf its text. Puts a leaf's id behind
-/// the ids.
-fn put_tree(
-    alloc: Global,
-    out: &mut String,
-    ids: &mut Vec<u64>,
-    tree: &Tree,
-) -> Result<(), NoMemory> {
-    match tree {
-        Tree::Leaf(token) => {
-            ids.push(token.id)?;
-            for byte in token.text.as_bytes() {
-                out.push(*byte as char)?;
-            }
-            Ok(())
-        }
-        Tree::Branch(label, children) => {
-            let name = format!(in alloc; "({label:?}")?;
-            out.push_str(name.as_str())?;
-            for child in children.as_slice() {
-                out.push_str(" ")?;
-                put_tree(alloc, out, ids, child)?;
-            }
-            out.push_str(")")?;
-            Ok(())
-        }
-    }
-}
-
-/// An answer as text, the tree or the fault. Where the leaves' ids are not those of as many tokens, in order, it says so.
-fn shown(
-    alloc: Global,
-    answer: Result<Tree, ParseFault>,
-    count: usize,
-) -> Result<String, NoMemory> {
-    let mut out = String::new(alloc);
-    let mut ids = Vec::new(alloc);
-    match answer {
-        Ok(tree) => {
-            put_tree(alloc, &mut out, &mut ids, &tree)?;
-            if ids.len() != count || !(0..count).all(|i| ids.get(i) == Some(&(i as u64))) {
-                out.push_str(" with other ids")?;
-            }
-        }
-        Err(ParseFault::NoTree) => out.push_str("no tree")?,
-        Err(ParseFault::TooDeep) => out.push_str("too deep")?,
-        Err(ParseFault::NoMemory) => return Err(NoMemory),
-    }
-    Ok(out)
-}
-
 /// The call that is named after the kind, over all the tokens.
 fn parse_whole(
     alloc: Global,
@@ -307,39 +186,34 @@ fn worked_rows_have_their_trees(rt: HostRuntime) -> Result<(), Fail> {
     Ok(())
 }
 
-#[test]
-fn a_part_of_the_tokens_is_read(rt: HostRuntime) -> Result<(), Fail> {
-    let alloc = rt.alloc();
-    let names = names_with_t(alloc)?;
+/// Whether these of the tokens of `a = b + 1 ;` are a sum, or else an expression.
+fn is_part(alloc: Global, is_sum: bool, from: usize, to: usize) -> Result<bool, NoMemory> {
     let tokens = tokens_of(alloc, "a = b + 1 ;")?;
-    assert!(rt; tokens.len() == 6);
-    assert!(rt; parse_kind(alloc, Kind::Sum, &tokens, &names, 2, 5).is_ok());
-    assert!(rt; parse_kind(alloc, Kind::Sum, &tokens, &names, 0, 5).is_err());
-    assert!(rt; parse_expr(alloc, &tokens, &names, 0, 5).is_ok());
-    assert!(rt; parse_expr(alloc, &tokens, &names, 0, 6).is_err());
-    Ok(())
+    let names = names_with_t(alloc)?;
+    if from > to || to > tokens.len() {
+        return Ok(false);
+    }
+    if is_sum {
+        Ok(parse_kind(alloc, Kind::Sum, &tokens, &names, from, to).is_ok())
+    } else {
+        Ok(parse_expr(alloc, &tokens, &names, from, to).is_ok())
+    }
 }
 
-/// `count` copies of a word, a number, and as many copies of other words.
-fn nested(
-    alloc: Global,
-    count: usize,
-    open: &[&str],
-    close: &[&str],
-) -> Result<Vec<Token>, NoMemory> {
-    let mut tokens = Vec::new(alloc);
-    for _ in 0..count {
-        for word in open {
-            put(alloc, &mut tokens, word)?;
-        }
+#[test]
+fn a_part_of_the_tokens_is_read(rt: HostRuntime) -> Result<(), Fail> {
+    for (is_sum, from, to, is_read) in [
+        (true, 2, 5, true),
+        (true, 0, 5, false),
+        (false, 0, 5, true),
+        (false, 0, 6, false),
+    ] {
+        assert!(rt;
+            is_part(rt.alloc(), is_sum, from, to)? == is_read,
+            "{from} to {to}"
+        );
     }
-    put(alloc, &mut tokens, "1")?;
-    for _ in 0..count {
-        for word in close {
-            put(alloc, &mut tokens, word)?;
-        }
-    }
-    Ok(tokens)
+    Ok(())
 }
 
 /// The words around a number, so many times, as an expression.
@@ -363,16 +237,30 @@ fn two_hundred_brackets_are_read_and_one_more_is_too_deep(rt: HostRuntime) -> Re
     Ok(())
 }
 
-/// Whether a tree of a thousand levels is read, copied and compared, and one of a level more is refused.
-fn reads_a_thousand_levels(alloc: Global, open: &[&str], close: &[&str]) -> Result<bool, NoMemory> {
-    let Err(ParseFault::NoTree) = read_nested(alloc, 1001, open, close) else {
-        return Ok(false);
-    };
-    let Ok(tree) = read_nested(alloc, 1000, open, close) else {
-        return Ok(false);
-    };
+/// Whether the tree is equal to its copy.
+fn is_copied(alloc: Global, tree: &Tree) -> Result<bool, NoMemory> {
     let copy = tree.copy(alloc)?;
-    Ok(same_term(&tree, &copy))
+    Ok(same_term(tree, &copy))
+}
+
+/// Whether a tree of a thousand levels is read, and copied.
+fn are_copied(alloc: Global, open: &[&str], close: &[&str]) -> Result<bool, NoMemory> {
+    match read_nested(alloc, 1000, open, close) {
+        Ok(tree) => is_copied(alloc, &tree),
+        Err(_) => Ok(false),
+    }
+}
+
+/// Whether a tree of a level more is refused.
+fn is_refused(alloc: Global, open: &[&str], close: &[&str]) -> bool {
+    match read_nested(alloc, 1001, open, close) {
+        Err(ParseFault::NoTree) => true,
+        _ => false,
+    }
+}
+
+fn reads_a_thousand_levels(alloc: Global, open: &[&str], close: &[&str]) -> Result<bool, NoMemory> {
+    Ok(is_refused(alloc, open, close) && are_copied(alloc, open, close)?)
 }
 
 #[test]

@@ -1,0 +1,5 @@
+@@
+expression clk, rate;
+@@
+- clk_set(clk, rate)
++ clk_set(clk, rate, CLK_DEFAULT)

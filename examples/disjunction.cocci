@@ -1,0 +1,10 @@
+@@
+expression x;
+@@
+(
+- release_now(x);
++ release(x, NOW);
+|
+- release_later(x);
++ release(x, LATER);
+)

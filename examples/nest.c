@@ -1,0 +1,9 @@
+int load(int n)
+{
+	trace_enter();
+	while (n > 0) {
+		trace_enter();
+		n = step(n);
+	}
+	return n;
+}

@@ -1,0 +1,11 @@
+@@
+type T;
+identifier f;
+@@
+  T f(...)
+  {
+  <...
+- trace_enter();
++ trace(f);
+  ...>
+  }

@@ -18,8 +18,6 @@ mod binding;
 mod formula;
 mod node;
 mod parts;
-#[cfg(test)]
-mod tests;
 
 pub use binding::{Binds, bounds};
 pub use formula::{Formula, copy_decls, copy_tokens, parts_of};

@@ -31,12 +31,8 @@ mod parts;
 mod runs;
 mod same;
 mod sets;
-#[cfg(test)]
-mod size_tests;
 mod states;
 mod tally;
-#[cfg(test)]
-mod tests;
 mod values;
 
 pub use algebra::{denotes, given, join, meet, project};

@@ -1,0 +1,4 @@
+pub mod PartLemmas
+pub mod RisingLemmas
+pub mod EnvOrder
+mod Examples

@@ -1,0 +1,5 @@
+use Rattle.env_parts.proofs.EnvOrder.{env_order_total, is_eq-env_order}
+use Rattle.env_parts.proofs.order.environments_are_ordered.Goals as goal
+
+pub returns : goal.returns
+returns c = record { total = env_order_total; equal = is_eq-env_order }

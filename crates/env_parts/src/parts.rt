@@ -1,0 +1,100 @@
+// Parts of environments.
+ghost use Rattle.std.specs.Prelude.{◌≡◌, ◌&&◌, IfOk};
+ghost use Rattle.std.specs.List.{list_all};
+ghost use Rattle.smpl_terms.specs.Vars.{same_var};
+ghost use Rattle.smpl_terms.specs.Values.{same};
+ghost use Rattle.env_parts.specs.Parts as of;
+
+use c_terms::NoMemory;
+use smpl_terms::{Env, Value, Var, same_value, same_var};
+use std::alloc::Global;
+
+/// Whether the variable is one of these. Linear, and takes no memory.
+pub fn is_among(vars: &[Var], x: &Var) -> bool
+    ensures value { result ≡ of.is_among vars.now x.now }
+{
+    for y in vars {
+        if same_var(y, x) {
+            return true;
+        }
+    }
+    false
+}
+
+/// Whether the variable of each pair is one of these.
+fn are_among(pairs: &[(Var, Value)], vars: &[Var]) -> bool
+    ensures { result ≡ list_all (λ p. of.is_among vars.now p.0) pairs.now }
+{
+    for p in pairs {
+        if !is_among(vars, &p.0) {
+            return false;
+        }
+    }
+    true
+}
+
+/// The pairs of these variables. Shares the environment where they are all of it; else each pair that is kept is copied
+/// once for each that is kept after it.
+pub fn restricted(alloc: Global, env: &Env, vars: &[Var]) -> Result<Env, NoMemory>
+    ensures pairs { IfOk result (λ r. r ≡ of.restricted vars.now env.now) }
+{
+    let pairs = env.pairs();
+    if are_among(pairs, vars) {
+        return env.copy(alloc);
+    }
+    let mut part = Env::empty(alloc);
+    for p in pairs {
+        if is_among(vars, &p.0) {
+            part = part.with(alloc, &p.0, &p.1)?;
+        }
+    }
+    Ok(part)
+}
+
+/// The environment with one more pair, unless it has a value of the variable.
+fn adopted(alloc: Global, env: Env, x: &Var, value: &Value) -> Result<Env, NoMemory>
+    ensures { IfOk result (λ r. r ≡ of.adopted env (x.now, value.now)) }
+{
+    if env.has(x) {
+        return Ok(env);
+    }
+    env.with(alloc, x, value)
+}
+
+/// The environment with more pairs, where it has no value of the variable. It is copied once for each of them.
+pub fn joined(alloc: Global, env: &Env, more: &Env) -> Result<Env, NoMemory>
+    ensures pairs { IfOk result (λ r. r ≡ of.joined env.now more.now) }
+{
+    let mut whole = env.copy(alloc)?;
+    for p in more.pairs() {
+        whole = adopted(alloc, whole, &p.0, &p.1)?;
+    }
+    Ok(whole)
+}
+
+fn same_pair(a: &(Var, Value), b: &(Var, Value)) -> bool
+    ensures { result ≡ (same_var a.now.0 b.now.0 && same a.now.1 b.now.1) }
+{
+    same_var(&a.0, &b.0) && same_value(&a.1, &b.1)
+}
+
+fn same_pairs(a: &[(Var, Value)], b: &[(Var, Value)]) -> bool
+    ensures { result ≡ of.same_env a.now b.now }
+{
+    if a.len() != b.len() {
+        return false;
+    }
+    for i in 0..a.len() {
+        if !same_pair(&a[i], &b[i]) {
+            return false;
+        }
+    }
+    true
+}
+
+/// Whether both have the same values of the same variables, ids aside. Stops at the first difference, and takes no memory.
+pub fn same_env(a: &Env, b: &Env) -> bool
+    ensures value { result ≡ of.same_env a.now b.now }
+{
+    same_pairs(a.pairs(), b.pairs())
+}

@@ -11,6 +11,8 @@ pub mod ChoiceLemmas
 pub mod ElementLemmas
 pub mod GuardedLemmas
 pub mod RuleLemmas
+pub mod TableGuards
+pub mod SortLemmas
 pub mod BranchLemmas
 pub mod DotsLemmas
 pub mod MadeLemmas
@@ -18,4 +20,5 @@ pub mod KeptLemmas
 pub mod PutLemmas
 pub mod LeastLemmas
 pub mod LeastSteps
+pub mod DeepLemmas
 pub mod LoopLemmas

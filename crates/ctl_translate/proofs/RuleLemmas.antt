@@ -14,7 +14,7 @@ use Rattle.smpl_patch.specs.Patterns as patterns
 use Rattle.smpl_patch.specs.Bodies.{Body, body}
 use Rattle.ctl_formula.specs.Plain.{Plain, True, fits}
 use Rattle.ctl_formula.specs.Formulas.{FormulaOf}
-use Rattle.ctl_formula.specs.Bounds.{bound, guarded, guarded_for}
+use Rattle.ctl_formula.specs.Bounds.{Surely, bound, guarded, guarded_for}
 use Rattle.ctl_formula.specs.Binding.{binds_at}
 use Rattle.ctl_formula.specs.declared.binding.Binds.{Binds}
 use Rattle.ctl_formula.specs.declared.node.Node.{Node}
@@ -26,7 +26,6 @@ use Rattle.ctl_translate.specs.Table as table
 use Rattle.ctl_translate.specs.Table.{in_scope}
 use Rattle.ctl_translate.specs.Rules as rules
 use Rattle.ctl_translate.specs.Answers.{IsFormulaOf}
-use Rattle.ctl_translate.specs.Unbound.{stays_unbound}
 use Rattle.ctl_translate.proofs.GuardLemmas.{known, known-seq, all-filter}
 use Rattle.ctl_translate.proofs.GuardedLemmas.{guarded-all}
 
@@ -163,12 +162,20 @@ kept-is test r decls tokens es xs d t e l =
 pub known-there : (f : Plain → Binds) (ns : List Node) (i : ℕ) (known : List Binds) → i < length ns → known ≡ map f (plains ns) → i < length known
 known-there f ns i known l k = omega (arith, l, ap length k ∙ length-map (plains ns) f ∙ length-plains ns)
 
--- what the formula's part says of a variable tells whether it may stay unbound
-pub unbound-is : (r : Rule) (d : VarDecl) (decls : List VarDecl) (tokens : List PatToken) (ns : List Node) (i : ℕ) (known : List Binds) (b : Binds) (u : Bool)
-    → decls ≡ r.vars → tokens ≡ r.tokens → i < length ns → known ≡ map (binds_at (patterns.sure decls tokens) d.var) (plains ns) → b ≡ get_or known i b
-    → at (plains ns) i ≡ rules.formula_of r → u ≡ stays_unbound r d b → u ≡ rules.is_unbound r d
-unbound-is r d decls tokens ns i known b u v t l k e q h =
-    h ∙ ap (stays_unbound r d)
-    (known-root (binds_at (patterns.sure decls tokens) d.var) b ns i known b (rules.formula_of r) l k e q
-    ∙ ap (λ (z : List VarDecl). binds_at (patterns.sure z tokens) d.var (rules.formula_of r)) v
-    ∙ ap (λ (z : List PatToken). binds_at (patterns.sure r.vars z) d.var (rules.formula_of r)) t)
+-- what is asked of a rule's formula, as the code has it
+pub asked-is : {A : Type 0} (ask : Surely → Plain → A) (r : Rule) (decls : List VarDecl) (tokens : List PatToken) (f : Plain) (u : A)
+    → decls ≡ r.vars → tokens ≡ r.tokens → f ≡ rules.formula_of r → u ≡ ask (patterns.sure decls tokens) f
+    → u ≡ ask (patterns.sure r.vars r.tokens) (rules.formula_of r)
+asked-is ask r decls tokens f u v t e h =
+    h ∙ ap (λ (z : List VarDecl). ask (patterns.sure z tokens) f) v
+    ∙ ap (λ (z : List PatToken). ask (patterns.sure r.vars z) f) t
+    ∙ ap (ask (patterns.sure r.vars r.tokens)) e
+
+-- what the formula's part says of a variable tells whether some quantifier of it is open
+pub open-is : (r : Rule) (x : Var) (decls : List VarDecl) (tokens : List PatToken) (ns : List Node) (i : ℕ) (known : List Binds) (b : Binds) (u : Bool)
+    → decls ≡ r.vars → tokens ≡ r.tokens → i < length ns → known ≡ map (binds_at (patterns.sure decls tokens) x) (plains ns) → b ≡ get_or known i b
+    → at (plains ns) i ≡ rules.formula_of r → u ≡ not b.guarded → u ≡ not (guarded_for (patterns.sure r.vars r.tokens) x (rules.formula_of r))
+open-is r x decls tokens ns i known b u v t l k e q h =
+    h ∙ ap (λ z. not z.guarded)
+    (asked-is (λ sure f. binds_at sure x f) r decls tokens (rules.formula_of r) b v t refl
+    (known-root (binds_at (patterns.sure decls tokens) x) b ns i known b (rules.formula_of r) l k e q))

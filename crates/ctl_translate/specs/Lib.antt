@@ -13,7 +13,11 @@ pub mod Answers
 pub mod Settings
 -- a sequence, suffix by suffix
 pub mod Suffixes
--- which variables may stay unbound, by what a formula says of them
+-- of which variables each quantifier is over a formula that binds them, part by part of a table
 pub mod Unbound
 -- how large a formula is at least, by the body alone
 pub mod Least
+-- how many levels it has at least, by the body alone
+pub mod Deep
+-- variables by where they are quantified
+pub mod Sorting

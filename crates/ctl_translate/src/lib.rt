@@ -11,9 +11,11 @@
 #![tactic(auto)]
 
 mod blocks;
+mod deep;
 mod dots;
 mod element;
 mod follow;
+mod guard;
 mod least;
 mod near;
 mod occur;
@@ -22,8 +24,6 @@ mod place;
 mod rows;
 mod rule;
 mod setting;
-#[cfg(test)]
-mod tests;
 mod wrap;
 
 pub use rule::{FormulaFault, formula_of, stands_outside_whens};

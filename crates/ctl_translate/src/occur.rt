@@ -190,7 +190,7 @@ fn bodies_with(m: &Setting, bs: &[Items<Elem>], x: &Var) -> usize
 }
 
 /// Whether one part inside the element holds all occurrences that the element has.
-fn is_inside(m: &Setting, e: &Elem, x: &Var) -> bool
+pub fn is_inside(m: &Setting, e: &Elem, x: &Var) -> bool
     ensures { result ≡ placing.is_inside (reading_at m.now) (element e.now) x.now }
 {
     match e {
@@ -214,7 +214,8 @@ fn is_inside(m: &Setting, e: &Elem, x: &Var) -> bool
     }
 }
 
-fn after_dots(m: &Setting, e: &Elem, rest: &[Elem], x: &Var) -> bool
+/// Whether the variable counts at dots since it stands in the element after them and again later.
+pub fn after_dots(m: &Setting, e: &Elem, rest: &[Elem], x: &Var) -> bool
     ensures { result ≡ placing.after_dots (reading_at m.now) (element e.now) (body rest.now) x.now }
 {
     match rest {
@@ -226,14 +227,4 @@ fn after_dots(m: &Setting, e: &Elem, rest: &[Elem], x: &Var) -> bool
                 && occurs_in_body(m, more, x)
         }
     }
-}
-
-/// Of a variable all of whose occurrences this suffix of a sequence holds: whether no smaller part does.
-pub fn is_at_suffix(m: &Setting, e: &Elem, rest: &[Elem], x: &Var) -> bool
-    ensures { result ≡ placing.at_suffix (reading_at m.now) (element e.now) (body rest.now) x.now }
-{
-    if occurs_in_element(m, e, x) {
-        return !is_inside(m, e, x) || occurs_in_body(m, rest, x);
-    }
-    after_dots(m, e, rest, x)
 }

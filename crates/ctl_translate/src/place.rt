@@ -1,12 +1,15 @@
 // Which variables are quantified where.
-ghost use Rattle.std.specs.Prelude.{◌≡◌, ◌<◌, ◌+◌, ◌++◌, ◌&&◌, not, IfOk, length, slice_index, drop};
+ghost use Rattle.std.specs.Prelude.{◌≡◌, ◌<◌, ◌+◌, ◌++◌, ◌&&◌, not, IfOk, OnOk, length, slice_index, drop};
 ghost use Rattle.std.specs.List.{filter};
 ghost use Rattle.smpl_patch.specs.Bodies.{body, element};
 ghost use Rattle.ctl_translate.specs.Placing as placing;
 ghost use Rattle.ctl_translate.specs.Table as table;
 ghost use Rattle.ctl_translate.specs.Settings.{reading_at, setting_at, places, place_at, later_at};
+ghost use Rattle.ctl_translate.specs.Sorting.{share_at, shared, shares_of};
 
-use crate::occur::{is_at_suffix, occurs_in_body, occurs_in_element, stands_in_body, used_in_body};
+use crate::occur::{
+    after_dots, is_inside, occurs_in_body, occurs_in_element, stands_in_body, used_in_body,
+};
 use crate::setting::Setting;
 use c_terms::NoMemory;
 use smpl_patch::{Elem, Pattern, has_var, stands, used};
@@ -36,75 +39,71 @@ pub fn copied_vars(alloc: Global, vars: &[Var]) -> Result<Items<Var>, NoMemory>
     Ok(copies)
 }
 
-/// Those of the variables that are quantified at the suffix.
-fn at_suffix(
+/// Where a variable is quantified, of which a suffix of a sequence holds all occurrences.
+#[derive(Clone, Copy, Debug, PartialEq, Eq)]
+pub enum Share {
+    /// At the suffix.
+    Here,
+    /// Inside its first element.
+    Inside,
+    /// In what comes after that.
+    Later,
+}
+
+/// Variables by where they are quantified.
+#[derive(Drop)]
+pub struct Shares {
+    pub here: Items<Var>,
+    pub inside: Items<Var>,
+    pub later: Items<Var>,
+}
+
+/// Where the variable is quantified.
+fn share_of(m: &Setting, e: &Elem, rest: &[Elem], x: &Var) -> Share
+    ensures { result ≡ share_at (reading_at m.now) (element e.now) (body rest.now) x.now }
+{
+    if occurs_in_element(m, e, x) {
+        if !is_inside(m, e, x) || occurs_in_body(m, rest, x) {
+            return Share::Here;
+        }
+        return Share::Inside;
+    }
+    if after_dots(m, e, rest, x) {
+        return Share::Here;
+    }
+    Share::Later
+}
+
+fn put_share(alloc: Global, share: Share, x: &Var, found: &mut Shares) -> Result<(), NoMemory>
+    ensures { OnOk result (found.new ≡ shared share x.now found.old) }
+{
+    let x = x.copy(alloc)?;
+    match share {
+        Share::Here => found.here.push(x)?,
+        Share::Inside => found.inside.push(x)?,
+        Share::Later => found.later.push(x)?,
+    }
+    Ok(())
+}
+
+/// The variables by where they are quantified. Each is looked for once.
+fn sort_vars(
     alloc: Global,
     m: &Setting,
     e: &Elem,
     rest: &[Elem],
     vars: &[Var],
-) -> Result<Items<Var>, NoMemory>
-    ensures { IfOk result (λ found. found ≡ filter (placing.at_suffix (reading_at m.now)
-        (element e.now) (body rest.now)) vars.now) }
+) -> Result<Shares, NoMemory>
+    ensures { IfOk result (λ found. found ≡ shares_of (reading_at m.now) (element e.now)
+        (body rest.now) vars.now) }
 {
-    let mut found = Items::new(alloc);
+    let mut found = Shares {
+        here: Items::new(alloc),
+        inside: Items::new(alloc),
+        later: Items::new(alloc),
+    };
     for x in vars {
-        if is_at_suffix(m, e, rest, x) {
-            found.push(x.copy(alloc)?)?;
-        }
-    }
-    Ok(found)
-}
-
-/// Those that aren't.
-fn not_at_suffix(
-    alloc: Global,
-    m: &Setting,
-    e: &Elem,
-    rest: &[Elem],
-    vars: &[Var],
-) -> Result<Items<Var>, NoMemory>
-    ensures { IfOk result (λ found. found ≡ filter (λ x. not (placing.at_suffix (reading_at m.now)
-        (element e.now) (body rest.now) x)) vars.now) }
-{
-    let mut found = Items::new(alloc);
-    for x in vars {
-        if !is_at_suffix(m, e, rest, x) {
-            found.push(x.copy(alloc)?)?;
-        }
-    }
-    Ok(found)
-}
-
-/// Those that occur in the element.
-fn in_element(alloc: Global, m: &Setting, e: &Elem, vars: &[Var]) -> Result<Items<Var>, NoMemory>
-    ensures { IfOk result (λ found. found ≡ filter (placing.occurs_element (reading_at m.now)
-        (element e.now)) vars.now) }
-{
-    let mut found = Items::new(alloc);
-    for x in vars {
-        if occurs_in_element(m, e, x) {
-            found.push(x.copy(alloc)?)?;
-        }
-    }
-    Ok(found)
-}
-
-/// Those that don't.
-fn not_in_element(
-    alloc: Global,
-    m: &Setting,
-    e: &Elem,
-    vars: &[Var],
-) -> Result<Items<Var>, NoMemory>
-    ensures { IfOk result (λ found. found ≡ filter (λ x. not
-        (placing.occurs_element (reading_at m.now) (element e.now) x)) vars.now) }
-{
-    let mut found = Items::new(alloc);
-    for x in vars {
-        if !occurs_in_element(m, e, x) {
-            found.push(x.copy(alloc)?)?;
-        }
+        put_share(alloc, share_of(m, e, rest, x), x, &mut found)?;
     }
     Ok(found)
 }
@@ -199,8 +198,8 @@ pub fn extended(alloc: Global, scope: &[Var], here: &[Var]) -> Result<Items<Var>
     Ok(all)
 }
 
-/// The places of a sequence's elements, by the variables that are quantified inside it and around it. Each element is
-/// read once for each variable that is quantified inside the sequence, and what stands after it at most twice.
+/// The places of a sequence's elements, by the variables that are quantified inside it and around it. Each variable is
+/// looked for in the elements up to the one where it is quantified, and once in what stands after that.
 pub fn places_of(
     alloc: Global,
     m: &Setting,
@@ -217,14 +216,15 @@ pub fn places_of(
     for i in 0..b.len() {
         let e = &b[i];
         let rest = &b[i + 1..];
-        let place = place_of(alloc, m, e, rest, waiting.as_slice(), around.as_slice())?;
-        waiting = later(alloc, m, e, rest, waiting.as_slice())?;
+        let (place, later) = place_of(alloc, m, e, rest, waiting.as_slice(), around.as_slice())?;
+        waiting = later;
         around = copied_vars(alloc, place.scope.as_slice())?;
         found.push(place)?;
     }
     Ok(found)
 }
 
+/// An element's place, and what is quantified in the rest of the sequence.
 fn place_of(
     alloc: Global,
     m: &Setting,
@@ -232,32 +232,22 @@ fn place_of(
     rest: &[Elem],
     vars: &[Var],
     scope: &[Var],
-) -> Result<Place, NoMemory>
-    ensures { IfOk result (λ place. place ≡ place_at (reading_at m.now) (element e.now)
+) -> Result<(Place, Items<Var>), NoMemory>
+    ensures place { IfOk result (λ found. found.0 ≡ place_at (reading_at m.now) (element e.now)
         (body rest.now) vars.now scope.now) }
+    ensures later { IfOk result (λ found. found.1 ≡ later_at (reading_at m.now) (element e.now)
+        (body rest.now) vars.now) }
 {
-    let here = at_suffix(alloc, m, e, rest, vars)?;
-    let more = not_at_suffix(alloc, m, e, rest, vars)?;
-    let inside = in_element(alloc, m, e, more.as_slice())?;
+    let Shares {
+        here,
+        inside,
+        later,
+    } = sort_vars(alloc, m, e, rest, vars)?;
     let scope = extended(alloc, scope, here.as_slice())?;
-    Ok(Place {
+    let place = Place {
         here,
         inside,
         scope,
-    })
-}
-
-/// What is quantified in the rest of the sequence.
-fn later(
-    alloc: Global,
-    m: &Setting,
-    e: &Elem,
-    rest: &[Elem],
-    vars: &[Var],
-) -> Result<Items<Var>, NoMemory>
-    ensures { IfOk result (λ found. found ≡ later_at (reading_at m.now) (element e.now)
-        (body rest.now) vars.now) }
-{
-    let more = not_at_suffix(alloc, m, e, rest, vars)?;
-    not_in_element(alloc, m, e, more.as_slice())
+    };
+    Ok((place, later))
 }

@@ -10,17 +10,20 @@ ghost use Rattle.ctl_translate.specs.Placing.{any_body};
 ghost use Rattle.ctl_translate.specs.Rules as rules;
 ghost use Rattle.ctl_translate.specs.Settings.{reading_at};
 ghost use Rattle.ctl_translate.specs.Answers.{IsFormulaOf, IsFaultOf};
-ghost use Rattle.ctl_translate.specs.Unbound.{stays_unbound};
+ghost use Rattle.ctl_formula.specs.Bounds.{bound, guarded_for};
+ghost use Rattle.ctl_translate.specs.Unbound.{AreGuardedBut};
 
 use crate::blocks::blocks;
+use crate::deep::is_far_too_long;
 use crate::follow::Made;
+use crate::guard::{is_bound, unguarded};
 use crate::least::is_far_too_large;
 use crate::occur::stands_in_body;
 use crate::place::is_alone;
 use crate::rows::sequence;
 use crate::setting::Setting;
 use c_terms::NoMemory;
-use ctl_formula::{Binds, Formula, Parts, bounds, copy_decls, copy_tokens};
+use ctl_formula::{Formula, Parts, bounds, copy_decls, copy_tokens};
 use smpl_patch::{Elem, Mode, Rule, VarDecl, has_var};
 use smpl_terms::Var;
 use sqlite_items::Items;
@@ -159,17 +162,52 @@ fn root(alloc: Global, parts: &mut Parts, rule: &Rule) -> Result<usize, NoMemory
     sequence(alloc, parts, &m, b, None, &Made::Nothing, placed, &[])
 }
 
-/// Whether a declared variable may stay unbound, by what the rule's formula says of it.
-fn may_stay_unbound(rule: &Rule, d: &VarDecl, root: Binds) -> bool
-    ensures { result ≡ stays_unbound rule.now d.now root }
+/// Whether some quantifier of the variable in the rule's formula is over a formula that doesn't bind it.
+fn is_open(
+    alloc: Global,
+    parts: &Parts,
+    root: usize,
+    rule: &Rule,
+    x: &Var,
+) -> Result<bool, NoMemory>
+    requires within { root < length parts.now }
+    requires root { at (plains parts.now) root ≡ rules.formula_of rule.now }
+    ensures { IfOk result (λ yes. yes ≡ not (guarded_for (patterns.sure rule.now.vars rule.now.tokens) x.now
+        (rules.formula_of rule.now))) }
 {
-    if d.inherited {
-        return false;
+    let decls = rule.vars.as_slice();
+    let known = bounds(alloc, parts, decls, rule.tokens.as_slice(), x)?;
+    Ok(!known[root].guarded)
+}
+
+/// The same of a variable of which all such quantifiers are known to be of these variables.
+fn is_open_in(
+    alloc: Global,
+    parts: &Parts,
+    root: usize,
+    rule: &Rule,
+    x: &Var,
+    suspects: &[Var],
+) -> Result<bool, NoMemory>
+    requires within { root < length parts.now }
+    requires root { at (plains parts.now) root ≡ rules.formula_of rule.now }
+    requires suspects { AreGuardedBut rule.now suspects.now }
+    ensures { IfOk result (λ yes. yes ≡ not (guarded_for (patterns.sure rule.now.vars rule.now.tokens) x.now
+        (rules.formula_of rule.now))) }
+{
+    if !has_var(suspects, x) {
+        return Ok(false);
     }
-    if has_var(rule.exports.as_slice(), &d.var) {
-        return !root.holding;
-    }
-    !root.guarded
+    is_open(alloc, parts, root, rule, x)
+}
+
+/// Whether the variable has a value wherever the rule's formula holds.
+fn is_held(parts: &Parts, root: usize, rule: &Rule, x: &Var) -> bool
+    requires within { root < length parts.now }
+    requires root { at (plains parts.now) root ≡ rules.formula_of rule.now }
+    ensures { result ≡ bound (patterns.sure rule.now.vars rule.now.tokens) (rules.formula_of rule.now) x.now }
+{
+    is_bound(parts, rule.vars.as_slice(), rule.tokens.as_slice(), x, root)
 }
 
 fn is_unbound(
@@ -178,17 +216,33 @@ fn is_unbound(
     root: usize,
     rule: &Rule,
     d: &VarDecl,
+    suspects: &[Var],
 ) -> Result<bool, NoMemory>
     requires within { root < length parts.now }
     requires root { at (plains parts.now) root ≡ rules.formula_of rule.now }
+    requires suspects { AreGuardedBut rule.now suspects.now }
     ensures { IfOk result (λ unbound. unbound ≡ rules.is_unbound rule.now d.now) }
 {
-    let decls = rule.vars.as_slice();
-    let known = bounds(alloc, parts, decls, rule.tokens.as_slice(), &d.var)?;
-    Ok(may_stay_unbound(rule, d, known[root]))
+    if d.inherited {
+        return Ok(false);
+    }
+    if has_var(rule.exports.as_slice(), &d.var) {
+        return Ok(!is_held(parts, root, rule, &d.var));
+    }
+    is_open_in(alloc, parts, root, rule, &d.var, suspects)
 }
 
-/// The first declared variable that may stay unbound.
+/// The variables of which some quantifier in the table is over a formula that doesn't bind them.
+fn suspects(alloc: Global, parts: &Parts, root: usize, rule: &Rule) -> Result<Items<Var>, NoMemory>
+    requires within { root < length parts.now }
+    requires root { at (plains parts.now) root ≡ rules.formula_of rule.now }
+    ensures { IfOk result (λ suspects. AreGuardedBut rule.now suspects) }
+{
+    unguarded(alloc, parts, rule.vars.as_slice(), rule.tokens.as_slice())
+}
+
+/// The first declared variable that may stay unbound. Of a variable none of whose quantifiers is over a formula that
+/// doesn't bind it, nothing more is asked.
 fn first_unbound(
     alloc: Global,
     parts: &Parts,
@@ -199,8 +253,10 @@ fn first_unbound(
     requires root { at (plains parts.now) root ≡ rules.formula_of rule.now }
     ensures { IfOk result (λ found. found ≡ rules.first_unbound rule.now) }
 {
+    let suspects = suspects(alloc, parts, root, rule)?;
+    let suspects = suspects.as_slice();
     for d in rule.vars.as_slice() {
-        if is_unbound(alloc, parts, root, rule, d)? {
+        if is_unbound(alloc, parts, root, rule, d, suspects)? {
             return Ok(Some(d.var.copy(alloc)?));
         }
     }
@@ -227,6 +283,9 @@ pub fn formula_of(alloc: Global, rule: &Rule) -> Result<Formula, FormulaFault>
     ensures fault { IfErr result (λ fault. IsFaultOf rule.now fault) }
 {
     if is_far_too_large(rule) {
+        return Err(FormulaFault::TooLarge);
+    }
+    if is_far_too_long(rule) {
         return Err(FormulaFault::TooLarge);
     }
     let mut parts = Parts::new(alloc);

@@ -1,27 +1,12 @@
 // How large formulas of rules are, and when they are refused.
-use crate::{FormulaFault, formula_of};
-use c_terms::{NoMemory, Text};
+use crate::made::{gap, rule, statement, statements};
+use c_terms::NoMemory;
 use ctl_formula::parts_of;
-use smpl_patch::{Dep, Dots, Elem, Mode, Pattern, Rule, Spot};
+use ctl_translate::{FormulaFault, formula_of};
+use smpl_patch::{Elem, Mode};
 use sqlite_items::Items;
 use std::alloc::Global;
 use std::thread;
-
-fn statement(alloc: Global, atom: u32) -> Elem {
-    Elem::Atom(Pattern {
-        atom,
-        spot: Spot::Whole,
-        forms: Items::new(alloc),
-    })
-}
-
-fn gap(alloc: Global) -> Elem {
-    Elem::Gap(Dots {
-        whens: Items::new(alloc),
-        any: false,
-        strict: false,
-    })
-}
 
 /// A statement, and so many times dots and a statement.
 fn dotted(alloc: Global, dots: u32) -> Result<Items<Elem>, NoMemory> {
@@ -30,14 +15,6 @@ fn dotted(alloc: Global, dots: u32) -> Result<Items<Elem>, NoMemory> {
     for i in 0..dots {
         body.push(gap(alloc))?;
         body.push(statement(alloc, i.saturating_add(1)))?;
-    }
-    Ok(body)
-}
-
-fn statements(alloc: Global, count: u32) -> Result<Items<Elem>, NoMemory> {
-    let mut body = Items::new(alloc);
-    for i in 0..count {
-        body.push(statement(alloc, i))?;
     }
     Ok(body)
 }
@@ -56,15 +33,13 @@ fn disjunctions(alloc: Global, count: u32) -> Result<Items<Elem>, NoMemory> {
 
 /// How many subformulas the rule under `forall` with this body has, where that is within the limits.
 fn size(alloc: Global, body: Items<Elem>) -> Result<Option<u32>, NoMemory> {
-    let rule = Rule {
-        name: Text::from_bytes(alloc, b"")?,
-        depends: Dep::Always,
-        mode: Mode::Forall,
-        vars: Items::new(alloc),
-        exports: Items::new(alloc),
+    let rule = rule(
+        alloc,
+        Mode::Forall,
+        Items::new(alloc),
+        Items::new(alloc),
         body,
-        tokens: Items::new(alloc),
-    };
+    )?;
     match formula_of(alloc, &rule) {
         Ok(formula) => Ok(Some(parts_of(&formula))),
         Err(FormulaFault::TooLarge) => Ok(None),

@@ -1,0 +1,71 @@
+-- A variable is guarded in each part of a table where each of its quantifiers is over a formula that binds it.
+use Rattle.std.proofs.Common.{◌≡◌, ℕ, ◌+◌, ◌<◌, ◌≤◌, Bool, true, false, not, ◌&&◌, ◌||◌, arith, refl, sym, ap, ◌∙◌, subst, List, [], ◌∷◌, ◌++◌, below_more}
+use Rattle.smpl_terms.specs.declared.var.Var.{Var}
+use Rattle.smpl_terms.specs.Vars.{same_var}
+use Rattle.smpl_terms.proofs.VarLaws.{same_var-equal}
+use Rattle.ctl_formula.specs.Plain.{Plain}
+use Rattle.ctl_formula.specs.Bounds.{Surely, bound, guarded_for}
+use Rattle.ctl_formula.specs.declared.node.Node.{Node}
+use Rattle.ctl_formula.specs.declared.node.Node.TheVariants as node
+use Rattle.ctl_formula.specs.Tables.{at, plain_of, below}
+use Rattle.ctl_formula.proofs.TableLemmas.{and-left, and-right, lt-true}
+use Rattle.ctl_translate.specs.Table.{in_scope}
+use Rattle.ctl_translate.specs.Unbound.{AreGuarded, IsGuardedUnless}
+
+both : (a b : Bool) → a ≡ true → b ≡ true → (a && b) ≡ true
+both a b h k = ap (λ z. z && b) h ∙ k
+
+-- the node is a quantifier of the variable, over a formula that doesn't bind it
+abbrev pub is_open : Surely → List Plain → Var → Node → Bool
+is_open sure fs x (node.Exists y i) = same_var y x && not (bound sure (at fs i) x)
+is_open sure fs x _ = false
+
+not-open : (s b : Bool) → (s && not b) ≡ false → (not s || b) ≡ true
+not-open true true h = refl
+not-open true false h = absurd cc
+not-open false b h = refl
+
+pub guarded-node : (sure : Surely) (fs : List Plain) (x : Var) (n : Node) (i : ℕ) → below i n ≡ true → is_open sure fs x n ≡ false
+    → AreGuarded sure fs i x → guarded_for sure x (plain_of fs n) ≡ true
+guarded-node sure fs x node.True i b o h = refl
+guarded-node sure fs x (node.Atom p) i b o h = refl
+guarded-node sure fs x node.Bail i b o h = refl
+guarded-node sure fs x node.Exit i b o h = refl
+guarded-node sure fs x (node.BraceOpen p v) i b o h = refl
+guarded-node sure fs x (node.BraceClose p v) i b o h = refl
+guarded-node sure fs x (node.Not j) i b o h = h j (lt-true _ _ b)
+guarded-node sure fs x (node.And j k) i b o h =
+    both (guarded_for sure x (at fs j)) (guarded_for sure x (at fs k)) (h j (lt-true _ _ (and-left _ _ b))) (h k (lt-true _ _ (and-right _ _ b)))
+guarded-node sure fs x (node.Or j k) i b o h =
+    both (guarded_for sure x (at fs j)) (guarded_for sure x (at fs k)) (h j (lt-true _ _ (and-left _ _ b))) (h k (lt-true _ _ (and-right _ _ b)))
+guarded-node sure fs x (node.AX j) i b o h = h j (lt-true _ _ b)
+guarded-node sure fs x (node.EX j) i b o h = h j (lt-true _ _ b)
+guarded-node sure fs x (node.AU j k) i b o h =
+    both (guarded_for sure x (at fs j)) (guarded_for sure x (at fs k)) (h j (lt-true _ _ (and-left _ _ b))) (h k (lt-true _ _ (and-right _ _ b)))
+guarded-node sure fs x (node.EU j k) i b o h =
+    both (guarded_for sure x (at fs j)) (guarded_for sure x (at fs k)) (h j (lt-true _ _ (and-left _ _ b))) (h k (lt-true _ _ (and-right _ _ b)))
+guarded-node sure fs x (node.Past j) i b o h = h j (lt-true _ _ b)
+guarded-node sure fs x (node.Down d j) i b o h = h j (lt-true _ _ b)
+guarded-node sure fs x (node.Exists y j) i b o h =
+    both (not (same_var y x) || bound sure (at fs j) x) (guarded_for sure x (at fs j))
+    (not-open (same_var y x) (bound sure (at fs j) x) o) (h j (lt-true _ _ b))
+
+-- nor is it, where its part binds its own variable
+open-case : (sure : Surely) (fs : List Plain) (x y : Var) (j : ℕ) (s : Bool) → same_var y x ≡ s → bound sure (at fs j) y ≡ true → (s && not (bound sure (at fs j) x)) ≡ false
+open-case sure fs x y j false e h = refl
+open-case sure fs x y j true e h =
+    let q : y ≡ x = same_var-equal y x e in
+    ap not (ap (bound sure (at fs j)) (sym q) ∙ h)
+
+pub open-bound : (sure : Surely) (fs : List Plain) (x y : Var) (j : ℕ) → bound sure (at fs j) y ≡ true → is_open sure fs x (node.Exists y j) ≡ false
+open-bound sure fs x y j h = open-case sure fs x y j (same_var y x) refl h
+
+-- a quantifier over a formula that binds its variable leaves the others as they were
+pub kept-guarded : (sure : Surely) (fs : List Plain) (found : List Var) (i : ℕ) (n : Node) (y : Var) (j : ℕ) (b : Bool)
+    → n ≡ node.Exists y j → at fs i ≡ plain_of fs n → below i n ≡ true → b ≡ bound sure (at fs j) y → b ≡ true
+    → (x : Var) → in_scope found x ≡ false → IsGuardedUnless sure fs found i x
+kept-guarded sure fs found i n y j b e a k q t x h = record {
+  none = h;
+  guarded = λ g. ap (guarded_for sure x) (a ∙ ap (plain_of fs) e)
+      ∙ guarded-node sure fs x (node.Exists y j) i (ap (below i) (sym e) ∙ k) (open-bound sure fs x y j (sym q ∙ t)) g;
+}

@@ -10,6 +10,8 @@ mod files;
 #[cfg(test)]
 mod graphs;
 #[cfg(test)]
+mod made;
+#[cfg(test)]
 mod pieces;
 #[cfg(test)]
 mod statements;

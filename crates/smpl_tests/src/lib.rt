@@ -18,4 +18,6 @@ mod plus_code;
 #[cfg(test)]
 mod terms;
 #[cfg(test)]
+mod whole;
+#[cfg(test)]
 mod words;

@@ -122,22 +122,37 @@ fn values_are_compared_but_for_ids(rt: HostRuntime) {
     );
 }
 
+/// Whether the pairs are those of `two_values`, in order.
+fn are_two_values(env: &Env) -> bool {
+    match env.pairs() {
+        [first, second] => is_named(&first.0, b"x")
+            && is_number(&first.1, b"1", 7)
+            && is_named(&second.0, b"y")
+            && is_place(Some(&second.1), 3),
+        _ => false,
+    }
+}
+
+/// Whether the `y` of the rule is the place 3.
+fn has_place(alloc: Global, env: &Env, rule: u32) -> Option<bool> {
+    let y = variable(alloc, rule, "y").ok()?;
+    Some(is_place(env.get(&y), 3))
+}
+
+fn has(alloc: Global, env: &Env, name: &str) -> Option<bool> {
+    let v = variable(alloc, 0, name).ok()?;
+    Some(env.has(&v))
+}
+
 #[test]
 fn environments_keep_their_values(rt: HostRuntime) -> Result<(), NoMemory> {
     let alloc = rt.alloc();
-    assert_eq!(rt; Env::empty(alloc).pairs().len(), 0);
     let env = two_values(alloc)?.copy(alloc)?;
-    match env.pairs() {
-        [first, second] => {
-            assert!(rt; is_named(&first.0, b"x") && is_number(&first.1, b"1", 7));
-            assert!(rt; is_named(&second.0, b"y") && is_place(Some(&second.1), 3));
-        }
-        _ => panic!(rt; "not two pairs"),
-    }
-    assert!(rt; is_place(env.get(&variable(alloc, 0, "y")?), 3));
-    assert!(rt; env.get(&variable(alloc, 1, "y")?).is_none());
-    assert!(rt; env.has(&variable(alloc, 0, "x")?));
-    assert!(rt; !env.has(&variable(alloc, 0, "z")?));
+    assert!(rt; are_two_values(&env) && Env::empty(alloc).pairs().is_empty());
+    assert_eq!(rt; has_place(alloc, &env, 0), Some(true));
+    assert_eq!(rt; has_place(alloc, &env, 1), Some(false));
+    assert_eq!(rt; has(alloc, &env, "x"), Some(true));
+    assert_eq!(rt; has(alloc, &env, "z"), Some(false));
     Ok(())
 }
 

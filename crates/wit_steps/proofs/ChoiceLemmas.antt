@@ -1,7 +1,9 @@
 -- The values that entries leave a variable are all under which the set has the environment, where those are among finitely
 -- many: an entry that leaves the variable open, or excludes some values, would allow a place that is none of them.
-use Rattle.std.proofs.Common.{◌≡◌, ℕ, suc, ◌+◌, ◌≤◌, Bool, true, false, ◌&&◌, ◌||◌, not, eqb, cond, refl, sym, ap, ◌∙◌, subst, arith, List, [], ◌∷◌, Option, Some, None}
+use Rattle.std.proofs.Common.{◌≡◌, ℕ, suc, ◌+◌, ◌≤◌, Bool, true, false, ◌&&◌, ◌||◌, not, eqb, cond, refl, sym, ap, ◌∙◌, subst, arith, List, [], ◌∷◌, length, get_or, take, add-one, ◌<◌, zero, Option, Some, None}
 use Rattle.std.specs.List.{list_any}
+use Rattle.std.proofs.lemmas.List.{take_all}
+use Rattle.std.proofs.lemmas.List.Folds.{list_any_more}
 use Rattle.std.proofs.lemmas.Bool.Decides.{nat_tests}
 use Rattle.smpl_terms.specs.declared.value.Value.{Value}
 use Rattle.smpl_terms.specs.declared.value.Value.TheVariants.{Term, Place}
@@ -123,3 +125,24 @@ module _ (x : Var) (env : Environment) where
         let first = one_entry e r.0 (λ u k. h u (either (entry_denotes e (change env x u)) _ k)) in
         let rest = all_chosen es r.1 (λ u k. h u (or-else (entry_denotes e (change env x u)) _ k)) in
         λ i. first i || rest i
+
+rise_next : (es : Entries) (i : ℕ) (e : List (Var × Bound)) → i < length es → e ≡ get_or es i e → Rising e → AllRise (take i es) → AllRise (take (suc i) es)
+rise_next [] i e lt is r h = absurd (omega (arith, lt))
+rise_next (x ∷ es) zero e lt is r h = (subst Rising is r, tt)
+rise_next (x ∷ es) (suc i) e lt is r h = (h.0, rise_next es i e (omega (arith, lt)) is r h.1)
+
+-- one more entry
+pub rise_more : (es : Entries) (i : ℕ) (e : List (Var × Bound)) → i < length es → e ≡ get_or es i e → Rising e → AllRise (take i es) → AllRise (take (i + 1) es)
+rise_more es i e lt is r h = subst (λ n. AllRise (take n es)) (sym (add-one i)) (rise_next es i e lt is r h)
+
+pub all_rise : (es : Entries) (i : ℕ) → length es ≤ i → AllRise (take i es) → AllRise es
+all_rise es i le h = subst AllRise (take_all i es le) h
+
+-- the values of one more entry
+pub chosen_more : (x : Var) (env : Environment) (es : Entries) (i : ℕ) (e ps : List (Var × Bound)) (v : Value) (before after : Bool)
+    → i < length es → e ≡ get_or es i e → ps ≡ e → before ≡ chosen x env (take i es) v
+    → after ≡ (before || (others_allow x env ps && is_same_as v (own_value x ps)))
+    → after ≡ chosen x env (take (i + 1) es) v
+chosen_more x env es i e ps v before after lt is p b a =
+    let test : List (Var × Bound) → Bool = λ d. others_allow x env d && is_same_as v (own_value x d) in
+    a ∙ (λ n. b n || test ((p ∙ is) n)) ∙ sym (list_any_more test es i e lt)

@@ -33,7 +33,7 @@ or-false : (a : Bool) → (a || false) ≡ a
 or-false true = refl
 or-false false = refl
 
-numbers_below : (n m : ℕ) → list_any (λ k. eqb k m) (numbers n) ≡ true → m < n
+pub numbers_below : (n m : ℕ) → list_any (λ k. eqb k m) (numbers n) ≡ true → m < n
 numbers_below zero m h = absurd cc
 numbers_below (suc n) m h = ⊎_elim
     (λ a. let l = numbers_below n m a in omega (arith, l))
@@ -53,7 +53,7 @@ module _ (g : Flow) (ok : IsSound g) (p q : ℕ → Bool) where
       (settled g ok false p q (count_of g + 1) (omega arith)) s lt)
 
   -- where it holds at a node, it holds at each from which walks come to that through p
-  behind : (m : ℕ) → E m ≡ true → (n k : ℕ) → k < count_of g → rounds g false p (λ j. eqb j m) n k ≡ true → E k ≡ true
+  pub behind : (m : ℕ) → E m ≡ true → (n k : ℕ) → k < count_of g → rounds g false p (λ j. eqb j m) n k ≡ true → E k ≡ true
   behind m e zero k lt h = absurd cc
   behind m e (suc n) k lt h = ⊎_elim
       (λ here. ap E (eqb-same k m here) ∙ e)
@@ -169,7 +169,7 @@ module _ (decls : List VarDecl) (tokens : List PatToken) (g : Flow) (ok : IsSoun
     one_held false true us vs r = refl
     one_held false false us vs r = absurd cc
 
-    holds_there : (m : ℕ) → m < count_of g → has (both m) z ≡ true → W.holds (EU f h) m env ≡ true
+    pub holds_there : (m : ℕ) → m < count_of g → has (both m) z ≡ true → W.holds (EU f h) m env ≡ true
     holds_there m lt r =
         until-step g ok on end m lt
         ∙ one_held (end m) (on m && list_any (λ k. W.holds (EU f h) k env) (succ_of g m)) (forest W h m env) (forest W f m env) r

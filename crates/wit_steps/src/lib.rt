@@ -6,8 +6,7 @@
 //! ```
 //!
 //! [`forest_by_steps`] is the law: but for quantifiers, a part's forest has what the part touches, and what the forests of
-//! the parts have that it leads to. The call that gathers a forest by such steps is not
-//! there yet.
+//! the parts have that it leads to.
 #![tactic(auto)]
 
 mod envs;

@@ -111,6 +111,7 @@ fn put_choice(
 pub fn values_in(alloc: Global, set: &EnvSet, env: &Env, x: &Var) -> Result<Vec<Value>, NoMemory>
     ensures values { IfOk result (λ r. (z : Datum) → list_any (λ u. same u z) r.items
         ≡ of.chosen x.now (total env.now) set.now z) }
+    ensures rise { IfOk result (λ _. of.AllRise set.now) }
 {
     let mut values = Vec::new(alloc);
     for e in set.entries() {

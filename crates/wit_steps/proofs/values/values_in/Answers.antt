@@ -1,0 +1,19 @@
+use Rattle.std.proofs.Common.{◌<◌, ◌||◌, ◌&&◌, ap, sym, ◌∙◌, arith, length, List}
+use Rattle.std.proofs.lemmas.List.Folds.{list_any_more}
+use Rattle.std.specs.List.{list_any}
+use Rattle.smpl_terms.specs.declared.var.Var.{Var}
+use Rattle.smpl_terms.specs.Environments.{total}
+use Rattle.env_sets.specs.declared.bounds.Bound.{Bound}
+use Rattle.wit_steps.specs.Choices.{others_allow, is_same_as, own_value}
+use Rattle.wit_steps.proofs.ChoiceLemmas.{rise_more, chosen_more}
+use Rattle.wit_steps.proofs.values.values_in.Goals as goal
+
+pub loop-e-preserved : goal.loop-e-preserved
+loop-e-preserved c =
+    let entries = c.entries-e-items.result.now in
+    let lt : c.loop-e.e-index < length entries = omega arith in
+    let is = c.e-item.is in
+    record {
+      values = λ z. chosen_more c.args.x.now (total c.args.env.now) entries c.loop-e.e-index c.e-item.result c.pairs.result.now z _ _ lt is c.pairs.ensures.pairs (c.loop-e.invariant.values z) (c.in_ok-put_choice.ensures z);
+      rise = rise_more entries c.loop-e.e-index c.e-item.result lt is c.pairs.ensures.rising c.loop-e.invariant.rise;
+    }

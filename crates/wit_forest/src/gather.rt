@@ -1,0 +1,294 @@
+// The forest of a formula at a node.
+ghost use Rattle.std.specs.Prelude.{◌≡◌, ◌||◌, ℕ, ◌<◌, ◌≤◌, true, false, List, IfOk, OnOk, Err, length, Contains};
+ghost use Rattle.std.specs.List.{list_any};
+ghost use Rattle.cfg_graph.specs.Flow.{count_of};
+ghost use Rattle.smpl_terms.specs.Environments.{total, change};
+ghost use Rattle.smpl_terms.specs.declared.value.Value.{Value as Datum};
+ghost use Rattle.smpl_terms.specs.Values.{same};
+ghost use Rattle.wit_steps.specs.Steps as steps;
+ghost use Rattle.ctl_formula.specs.Formulas.{plain};
+ghost use Rattle.ctl_holds.specs.Parts.{EachPattern};
+ghost use Rattle.ctl_holds.specs.BoundLaw.{SureStand};
+ghost use Rattle.ctl_fixpoint.specs.States.{AreStateSets};
+ghost use Rattle.wit_order.specs.Same.{same_forest};
+ghost use Rattle.wit_order.specs.Sizes.{forest_size};
+ghost use Rattle.wit_order.specs.Forests.{has, HaveSame, Rise};
+ghost use Rattle.smpl_patch.specs.declared.witness.Witness.{Witness as Tree};
+ghost use Rattle.wit_forest.specs.Gathered.{node_at, forest_at as part_forest, holds_at, quantified, Covered, AreReady, InRange, IsBound, IsHiddenDone, IsShownDone, IsExplored, Adds, Grows, HasLarge};
+ghost use Rattle.wit_trees.specs.Forest as of;
+ghost use Rattle.wit_trees.specs.Graphs.{forest_of};
+
+use crate::fault::ForestFault;
+use crate::states::States;
+use c_terms::NoMemory;
+use cfg_graph::Graph;
+use ctl_formula::{Formula, Node};
+use env_sets::StateSets;
+use smpl_patch::{VarDecl, Witness};
+use smpl_terms::{Env, Value, Var};
+use sqlite_items::Items;
+use std::alloc::Global;
+use wit_order::{distinct, within};
+use wit_steps::{changed, kids, put_own, values_in};
+
+/// The most nodes of a forest.
+const MOST: u32 = 1_000_000;
+
+/// The trees in order, each once, if they are not too large.
+fn settled(
+    alloc: Global,
+    decls: &[VarDecl],
+    found: Vec<Witness>,
+) -> Result<Vec<Witness>, ForestFault>
+    ensures trees { IfOk result (λ ws. (root : List Tree) → Rise decls.now root → HaveSame found.items root
+        → same_forest ws.items root ≡ true) }
+    ensures few { IfOk result (λ ws. (root : List Tree) → Rise decls.now root → HaveSame found.items root
+        → forest_size root ≤ 1000000) }
+    ensures too_many { result ≡ Err ForestFault.TooMany → (root : List Tree) → Rise decls.now root → HaveSame found.items root
+        → 1000000 < forest_size root }
+{
+    let trees = distinct(alloc, decls, found)?;
+    match within(&trees, MOST) {
+        Some(_) => Ok(trees),
+        None => Err(ForestFault::TooMany),
+    }
+}
+
+/// The variable of a block, whose name begins with `{`.
+fn is_hidden(x: &Var) -> bool
+    ensures { result ≡ of.is_hidden x.now }
+{
+    match x.name.as_bytes() {
+        [b'{', ..] => true,
+        _ => false,
+    }
+}
+
+/// The values of the variable under which the part holds at the node.
+fn values_at(
+    alloc: Global,
+    g: &Graph,
+    f: &Formula,
+    sets: &StateSets,
+    part: usize,
+    s: u32,
+    env: &Env,
+    x: &Var,
+) -> Result<Vec<Value>, NoMemory>
+    requires range { InRange g.now f.now part part s }
+    requires ready { AreReady g.now f.now sets.now }
+    requires bound { IsBound f.now x.now part }
+    ensures { IfOk result (λ r. (v : Datum) → list_any (λ u. same u v) r.items
+        ≡ holds_at g.now f.now (change (total env.now) x.now v) part s) }
+{
+    if part > u32::MAX as usize {
+        return Err(NoMemory);
+    }
+    values_in(alloc, sets.at(part as u32, s), env, x)
+}
+
+/// The part under each value of a hidden variable.
+fn visit_hidden(
+    alloc: Global,
+    g: &Graph,
+    f: &Formula,
+    sets: &StateSets,
+    states: &mut States,
+    x: &Var,
+    part: usize,
+    node: u32,
+    env: &Env,
+) -> Result<(), NoMemory>
+    requires range { InRange g.now f.now part part node }
+    requires ready { AreReady g.now f.now sets.now }
+    requires bound { IsBound f.now x.now part }
+    requires hidden { of.is_hidden x.now ≡ true }
+    ensures there { IfOk result (λ _. (found : List Tree)
+        → Adds g.now f.now states.old states.new found found (quantified g.now f.now x.now part node (total env.now))) }
+    ensures done { IfOk result (λ _. IsHiddenDone g.now f.now states.new x.now part node (total env.now)) }
+    ensures grows { IfOk result (λ _. (found : List Tree) → Grows g.now f.now part states.old states.new found found) }
+{
+    let values = values_at(alloc, g, f, sets, part, node, env, x)?;
+    for v in &values {
+        let inner = changed(alloc, env, x, v)?;
+        states.add(alloc, part, node, &inner)?;
+    }
+    Ok(())
+}
+
+fn visit_kids(
+    alloc: Global,
+    g: &Graph,
+    f: &Formula,
+    sets: &StateSets,
+    states: &mut States,
+    part: usize,
+    node: u32,
+    env: &Env,
+) -> Result<(), NoMemory>
+    requires range { InRange g.now f.now part part node }
+    requires ready { AreReady g.now f.now sets.now }
+    ensures there { IfOk result (λ _. (z : Tree) → list_any (λ one. has (part_forest g.now f.now one.part one.node (total one.env)) z) states.new
+        ≡ (list_any (λ one. has (part_forest g.now f.now one.part one.node (total one.env)) z) states.old
+        || list_any (λ k. has (part_forest g.now f.now k.0 k.1 (total env.now)) z)
+        (steps.kids g.now (holds_at g.now f.now (total env.now)) (node_at g.now f.now part) part node))) }
+    ensures done { IfOk result (λ _. (k : ℕ × ℕ)
+        → Contains (steps.kids g.now (holds_at g.now f.now (total env.now)) (node_at g.now f.now part) part node) k
+        → Covered states.new k.0 k.1 (total env.now)) }
+    ensures grows { IfOk result (λ _. (found : List Tree) → Grows g.now f.now part states.old states.new found found) }
+{
+    let kids = kids(alloc, g, sets, f.node(part), part, node, env)?;
+    for kid in &kids {
+        states.add(alloc, kid.0, kid.1, env)?;
+    }
+    Ok(())
+}
+
+/// A tree for each value of the variable, over the forest under it.
+#[cycle(forest)]
+fn visit_values(
+    alloc: Global,
+    g: &Graph,
+    f: &Formula,
+    sets: &StateSets,
+    found: &mut Vec<Witness>,
+    x: &Var,
+    part: usize,
+    node: u32,
+    env: &Env,
+) -> Result<(), ForestFault>
+    requires range { InRange g.now f.now part part node }
+    requires ready { AreReady g.now f.now sets.now }
+    requires bound { IsBound f.now x.now part }
+    requires shown { of.is_hidden x.now ≡ false }
+    ensures there { IfOk result (λ _. (z : Tree) → has found.new.items z
+        ≡ (has found.old.items z || has (quantified g.now f.now x.now part node (total env.now)) z)) }
+    ensures done { IfOk result (λ _. IsShownDone g.now f.now found.new.items x.now part node (total env.now)) }
+    ensures too_many { result ≡ Err ForestFault.TooMany → HasLarge g.now f.now (quantified g.now f.now x.now part node (total env.now)) }
+{
+    let values = values_at(alloc, g, f, sets, part, node, env, x)?;
+    for v in &values {
+        let inner = changed(alloc, env, x, v)?;
+        let under = forest_at(alloc, g, f, sets, part, node, &inner)?;
+        let tree = Witness::Bind(node, x.copy(alloc)?, v.copy(alloc)?, Items::from_vec(under));
+        found.push(tree)?;
+    }
+    Ok(())
+}
+
+#[cycle(forest)]
+fn visit_quantifier(
+    alloc: Global,
+    g: &Graph,
+    f: &Formula,
+    sets: &StateSets,
+    states: &mut States,
+    found: &mut Vec<Witness>,
+    x: &Var,
+    part: usize,
+    node: u32,
+    env: &Env,
+) -> Result<(), ForestFault>
+    requires range { InRange g.now f.now part part node }
+    requires ready { AreReady g.now f.now sets.now }
+    requires bound { IsBound f.now x.now part }
+    ensures there { IfOk result (λ _. Adds g.now f.now states.old states.new found.old.items found.new.items
+        (quantified g.now f.now x.now part node (total env.now))) }
+    ensures hidden { IfOk result (λ _. of.is_hidden x.now ≡ true → IsHiddenDone g.now f.now states.new x.now part node (total env.now)) }
+    ensures shown { IfOk result (λ _. of.is_hidden x.now ≡ false → IsShownDone g.now f.now found.new.items x.now part node (total env.now)) }
+    ensures grows { IfOk result (λ _. Grows g.now f.now part states.old states.new found.old.items found.new.items) }
+    ensures too_many { result ≡ Err ForestFault.TooMany → HasLarge g.now f.now (quantified g.now f.now x.now part node (total env.now)) }
+{
+    if is_hidden(x) {
+        visit_hidden(alloc, g, f, sets, states, x, part, node, env)?;
+        return Ok(());
+    }
+    visit_values(alloc, g, f, sets, found, x, part, node, env)
+}
+
+/// What a part at a node leads to.
+#[cycle(forest)]
+fn visit(
+    alloc: Global,
+    g: &Graph,
+    f: &Formula,
+    sets: &StateSets,
+    states: &mut States,
+    found: &mut Vec<Witness>,
+    part: usize,
+    node: u32,
+    env: &Env,
+) -> Result<(), ForestFault>
+    requires range { InRange g.now f.now part part node }
+    requires ready { AreReady g.now f.now sets.now }
+    ensures there { IfOk result (λ _. Adds g.now f.now states.old states.new found.old.items found.new.items
+        (part_forest g.now f.now part node (total env.now))) }
+    ensures explored { IfOk result (λ _. IsExplored g.now f.now states.new found.new.items part node (total env.now)) }
+    ensures grows { IfOk result (λ _. Grows g.now f.now part states.old states.new found.old.items found.new.items) }
+    ensures too_many { result ≡ Err ForestFault.TooMany → HasLarge g.now f.now (part_forest g.now f.now part node (total env.now)) }
+{
+    match f.node(part) {
+        Node::Exists(x, i) => visit_quantifier(alloc, g, f, sets, states, found, x, *i, node, env),
+        own => {
+            put_own(alloc, g, f, found, own, node, env)?;
+            visit_kids(alloc, g, f, sets, states, part, node, env)?;
+            Ok(())
+        }
+    }
+}
+
+/// The forest of a part at a node. Recurses once a quantifier.
+#[cycle(forest)]
+fn forest_at(
+    alloc: Global,
+    g: &Graph,
+    f: &Formula,
+    sets: &StateSets,
+    part: usize,
+    node: u32,
+    env: &Env,
+) -> Result<Vec<Witness>, ForestFault>
+    requires range { InRange g.now f.now part part node }
+    requires ready { AreReady g.now f.now sets.now }
+    ensures trees { IfOk result (λ ws. same_forest ws.items (part_forest g.now f.now part node (total env.now)) ≡ true) }
+    ensures few { OnOk result (forest_size (part_forest g.now f.now part node (total env.now)) ≤ 1000000) }
+    ensures too_many { result ≡ Err ForestFault.TooMany → 1000000 < forest_size (part_forest g.now f.now part node (total env.now)) }
+{
+    let mut states = States::new(alloc);
+    let mut found = Vec::new(alloc);
+    states.add(alloc, part, node, env)?;
+    for at in 0..usize::MAX {
+        if at >= states.len() {
+            return settled(alloc, f.decls(), found);
+        }
+        let one = states.get(at);
+        let part = one.part;
+        let node = one.node;
+        let env = one.env.copy(alloc)?;
+        visit(alloc, g, f, sets, &mut states, &mut found, part, node, &env)?;
+    }
+    Err(ForestFault::NoMemory)
+}
+
+/// The forest of the formula at a node under an environment.
+pub fn forest(
+    alloc: Global,
+    g: &Graph,
+    f: &Formula,
+    sets: &StateSets,
+    s: u32,
+    env: &Env,
+) -> Result<Vec<Witness>, ForestFault>
+    requires node { s < count_of g.now }
+    requires stand { EachPattern (SureStand f.now.decls f.now.tokens) (plain f.now) }
+    requires sets { AreStateSets g.now f.now sets.now }
+    ensures trees { IfOk result (λ ws. same_forest ws.items
+        (forest_of f.now.decls f.now.tokens g.now (plain f.now) s (total env.now)) ≡ true) }
+    ensures few { OnOk result (forest_size
+        (forest_of f.now.decls f.now.tokens g.now (plain f.now) s (total env.now)) ≤ 1000000) }
+    ensures too_many { result ≡ Err ForestFault.TooMany → 1000000 < forest_size
+        (forest_of f.now.decls f.now.tokens g.now (plain f.now) s (total env.now)) }
+{
+    prove!(s < g.count());
+    forest_at(alloc, g, f, sets, f.root(), s, env)
+}

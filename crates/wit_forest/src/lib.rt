@@ -1,0 +1,9 @@
+//! The forest of a formula at a node: the trees of what makes it hold there.
+#![tactic(auto)]
+
+mod fault;
+mod gather;
+mod states;
+
+pub use fault::ForestFault;
+pub use gather::forest;

@@ -1,0 +1,10 @@
+mod Groups
+mod Joining
+mod Arrows
+mod Trees
+mod HeldLemmas
+mod Keeping
+mod Chain
+mod FormLemmas
+mod BlockLemmas
+mod Examples

@@ -1,0 +1,79 @@
+// The variables of a block.
+ghost use Rattle.std.specs.Prelude.{◌≡◌, true, IfOk};
+ghost use Rattle.iso_file.specs.Sides as told;
+ghost use Rattle.iso_file.specs.Isos.{AreVars};
+ghost use Rattle.iso_file.specs.Stepped.{Decides};
+
+use c_terms::{MetaKind, NoMemory};
+use smpl_lexer::{PatchToken, is_sign, is_word};
+use smpl_meta::{Earlier, read_decls};
+use smpl_patch::{PatchFault, VarDecl, VarKind};
+use sqlite_items::Items;
+use std::alloc::Global;
+
+fn is_kind_word(t: &PatchToken) -> bool
+    ensures { result ≡ told.is_kind_word t.now }
+{
+    is_word(t, b"expression") || is_word(t, b"constant") || is_word(t, b"identifier")
+}
+
+/// Whether each declaration begins with one of the words.
+fn are_of_kinds(tokens: &[PatchToken]) -> bool
+    ensures { result ≡ told.are_of_kinds true tokens.now }
+{
+    let mut begins = true;
+    for t in tokens {
+        if begins && !is_kind_word(t) {
+            return false;
+        }
+        begins = is_sign(t, b";");
+    }
+    true
+}
+
+fn is_kind(kind: VarKind) -> bool
+    ensures { result ≡ told.is_kind kind }
+{
+    match kind {
+        VarKind::Meta(MetaKind::Expr) => true,
+        VarKind::Meta(MetaKind::Constant) => true,
+        VarKind::Meta(MetaKind::Ident) => true,
+        _ => false,
+    }
+}
+
+fn have_kinds(vars: &[VarDecl]) -> bool
+    ensures { result ≡ told.have_kinds vars.now }
+{
+    for d in vars {
+        if !is_kind(d.kind) {
+            return false;
+        }
+    }
+    true
+}
+
+fn with_kinds(vars: Items<VarDecl>) -> Option<Items<VarDecl>>
+    ensures { result ≡ told.with_kinds vars }
+{
+    if have_kinds(vars.as_slice()) {
+        Some(vars)
+    } else {
+        None
+    }
+}
+
+/// The variables of declarations, none where these are not of the form.
+pub fn vars_of(alloc: Global, tokens: &[PatchToken]) -> Result<Option<Items<VarDecl>>, NoMemory>
+    ensures { IfOk result (λ vars. Decides (AreVars tokens.now) vars) }
+{
+    if !are_of_kinds(tokens) {
+        return Ok(None);
+    }
+    let earlier = Earlier::of(alloc, &[])?;
+    match read_decls(alloc, tokens, 0, &earlier) {
+        Ok(vars) => Ok(with_kinds(vars)),
+        Err(PatchFault::NoMemory) => Err(NoMemory),
+        Err(_) => Ok(None),
+    }
+}

@@ -8,8 +8,8 @@
 //!       touch 2 0 2.1  <  bind 2 x = a  <  bind 2 x = b  <  touch 5 1 2.3
 //! ```
 //!
-//! [`within`] says whether a forest is larger than a budget, and what is left of it. The call
-//! that gathers a forest is not there yet.
+//! [`within`] says whether a forest is larger than a budget, and what is left of it. Gathering a
+//! forest is for wit_forest.
 #![tactic(auto)]
 
 mod laws;

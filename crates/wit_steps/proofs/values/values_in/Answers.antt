@@ -1,10 +1,5 @@
-use Rattle.std.proofs.Common.{◌<◌, ◌||◌, ◌&&◌, ap, sym, ◌∙◌, arith, length, List}
-use Rattle.std.proofs.lemmas.List.Folds.{list_any_more}
-use Rattle.std.specs.List.{list_any}
-use Rattle.smpl_terms.specs.declared.var.Var.{Var}
+use Rattle.std.proofs.Common.{◌<◌, arith, length}
 use Rattle.smpl_terms.specs.Environments.{total}
-use Rattle.env_sets.specs.declared.bounds.Bound.{Bound}
-use Rattle.wit_steps.specs.Choices.{others_allow, is_same_as, own_value}
 use Rattle.wit_steps.proofs.ChoiceLemmas.{rise_more, chosen_more}
 use Rattle.wit_steps.proofs.values.values_in.Goals as goal
 

@@ -5,6 +5,7 @@ mod Growing
 mod CallLemmas
 mod OperandLemmas
 mod EndsLemmas
+mod SemicolonLemmas
 mod SightLemmas
 mod DepthLemmas
 mod RangeLemmas

@@ -5,4 +5,5 @@ pub mod Answer
 
 pub mod Steps
 pub mod Ends
+pub mod Semicolons
 pub mod Sight

@@ -24,6 +24,7 @@ mod laws;
 mod parse;
 mod range;
 mod see;
+mod semicolons;
 
 pub use fault::ParseFault;
 pub use laws::ranges_have_one_tree;

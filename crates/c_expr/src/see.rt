@@ -6,7 +6,8 @@ ghost use Rattle.c_expr.specs.Sight.{decided, leads_before, Marked};
 use crate::ParseFault;
 use crate::ends::Ends;
 use crate::parse::parse;
-use c_rows::{Class, Kind, Seen, ends_member, front, leads_member, look, may_be_type};
+use crate::semicolons::Semicolons;
+use c_rows::{Class, Kind, Seen, ends_member, front, group_at, leads_member, look, may_be_type};
 use c_terms::{Names, Token};
 use std::alloc::Global;
 
@@ -81,12 +82,14 @@ pub fn see<'t>(
 {
     let mut seen = unseen(alloc, tokens)?;
     let mut ends = Ends::at_end(alloc);
+    let mut semicolons = Semicolons::at_end(alloc);
     let mut next = Class::End;
     let mut i = tokens.len();
     while i > 0 {
         i -= 1;
-        next = look(names, &tokens[i], &tokens[i + 1..], next);
+        next = look(names, &tokens[i], &tokens[i + 1..], next, semicolons.nearest());
         ends.pass(next)?;
+        semicolons.pass(group_at(&tokens[i]))?;
         seen[i] = Seen::new(&tokens[i], next, false);
         let leads = leads_before(tokens, i);
         let typed = is_marked(alloc, leads, ends_member(ends.nearest()), &seen[i..])?;

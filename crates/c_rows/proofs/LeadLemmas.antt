@@ -14,7 +14,7 @@ use Rattle.c_rows.specs.declared.class.Class.TheVariants as class
 use Rattle.c_rows.specs.declared.word.Word.TheVariants as word
 use Rattle.c_rows.specs.Tokens.{named_kind, is_named, is_string, is_sign, is_punct_kind, is_basic, is_qualifier, is_function, is_storage_text, is_struct, is_enum}
 use Rattle.c_rows.specs.Words.{fits}
-use Rattle.c_rows.specs.Look.{Names, look, at_sign, at_name, at_string, has_members, begins_type, begins_unknown_cast, begins_nest, nest_or, closes_before_brace, is_name_before_brace, bracket, class_of, keyword, storage, sizeof, sizeof_bracket, alignof, sign, operator, question, name, string, typ, metavariable, pattern, class_in, keywords, declares, iterates, name_of_bracket, is_of_statements}
+use Rattle.c_rows.specs.Look.{Names, look, at_sign, at_name, at_string, has_members, begins_type, begins_unknown_cast, begins_nest, nest_or, closes_before_brace, is_name_before_brace, bracket, class_of, keyword, storage, sizeof, sizeof_bracket, alignof, sign, operator, question, name, string, typ, metavariable, pattern, class_in, keywords, declares, iterates, name_of_bracket, is_of_statements, has_semicolon}
 use Rattle.c_rows.specs.Range.{leads_member}
 use Rattle.c_rows.proofs.FirstChecks.{and_left, and_right, not_true}
 
@@ -123,11 +123,11 @@ pattern_of false false false false true b5 x y h g = g
 pattern_of false false false false false true x y h g = refl
 pattern_of false false false false false false x y h g = refl
 
-pattern_quiet : (s : List ℕ) (ts : List Token) (next : Class) → telling (pattern s ts next) ≡ false
-pattern_quiet s ts next =
+pattern_quiet : (s : List ℕ) (semicolon : Bool) (next : Class) → telling (pattern s semicolon next) ≡ false
+pattern_quiet s semicolon next =
     pattern_of (bytes_eq s (codes "\\(")) (bytes_eq s (codes "\\|")) (bytes_eq s (codes "\\&")) (bytes_eq s (codes "\\)")) (bytes_eq s (codes "<...") || bytes_eq s (codes "<+...")) (bytes_eq s (codes "...>") || bytes_eq s (codes "...+>"))
-    (if is_of_statements ts next then class.PatOpenOfStatements else class.PatOpen) (if is_of_statements ts next then class.PatNestOfStatements else class.PatNestOfExpression)
-    (one_of (is_of_statements ts next) class.PatOpenOfStatements class.PatOpen refl refl) (one_of (is_of_statements ts next) class.PatNestOfStatements class.PatNestOfExpression refl refl)
+    (if is_of_statements semicolon next then class.PatOpenOfStatements else class.PatOpen) (if is_of_statements semicolon next then class.PatNestOfStatements else class.PatNestOfExpression)
+    (one_of (is_of_statements semicolon next) class.PatOpenOfStatements class.PatOpen refl refl) (one_of (is_of_statements semicolon next) class.PatNestOfStatements class.PatNestOfExpression refl refl)
 
 sign_of : (b0 b1 b2 b3 b4 b5 b6 b7 b8 b9 b10 b11 b12 b13 b14 : Bool) (x12 : Class) (z : Class) → telling x12 ≡ false → telling z ≡ false → telling (if b0 then class.Semicolon else (if b1 then class.Arrow else (if b2 then class.Dot else (if b3 then class.Equal else (if b4 then class.LeftBracket else (if b5 then class.RightBracket else (if b6 then class.LeftBrace else (if b7 then class.RightBrace else (if b8 then class.Star else (if b9 then class.And else (if b10 then class.Plus else (if b11 then class.Not else (if b12 then x12 else (if b13 then class.Colon else (if b14 then class.Ellipsis else z))))))))))))))) ≡ false
 sign_of true b1 b2 b3 b4 b5 b6 b7 b8 b9 b10 b11 b12 b13 b14 x12 z hx12 hz = refl
@@ -207,7 +207,7 @@ kind_leads names token.Punct s ts next l = sign_leads names s ts l
 kind_leads names token.Stray s ts next l = let never : ⊥ = cc in absurd never
 kind_leads names (token.Meta k) s ts next l = quiet_leads (metavariable names k s ts) (meta_quiet names k s ts) l
 kind_leads names token.Dots s ts next l = let never : ⊥ = cc in absurd never
-kind_leads names token.Pat s ts next l = quiet_leads (pattern s ts next) (untold (pattern s ts next) (pattern_quiet s ts next)) l
+kind_leads names token.Pat s ts next l = quiet_leads (pattern s (has_semicolon 0 ts) next) (untold (pattern s (has_semicolon 0 ts) next) (pattern_quiet s (has_semicolon 0 ts) next)) l
 
 pub token_leads : (names : Names) (t : Token) (ts : List Token) → IsTrue (leads_class (look names (t ∷ ts))) → IsTrue (leads_member t)
 unfolding look
@@ -260,7 +260,7 @@ kind_named names token.Punct s ts next l = no_name (sign names s ts) (sign_unnam
 kind_named names token.Stray s ts next l = let never : ⊥ = cc in absurd never
 kind_named names (token.Meta k) s ts next l = meta_named names k s ts l
 kind_named names token.Dots s ts next l = let never : ⊥ = cc in absurd never
-kind_named names token.Pat s ts next l = no_name (pattern s ts next) (unnamed (pattern s ts next) (pattern_quiet s ts next)) l
+kind_named names token.Pat s ts next l = no_name (pattern s (has_semicolon 0 ts) next) (unnamed (pattern s (has_semicolon 0 ts) next) (pattern_quiet s (has_semicolon 0 ts) next)) l
 
 -- A token of a name's class is a name.
 pub token_named : (names : Names) (t : Token) (ts : List Token) → IsTrue (fits word.Name (look names (t ∷ ts))) → IsTrue (is_named t)

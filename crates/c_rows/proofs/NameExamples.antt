@@ -3,7 +3,7 @@ use Rattle.std.proofs.Common.{◌≡◌, [], ◌∷◌, refl}
 use Rattle.std.specs.Prelude.{codes}
 use Rattle.c_terms.specs.declared.token.MetaKind.TheVariants as meta
 use Rattle.c_rows.specs.declared.class.Class.TheVariants as class
-use Rattle.c_rows.specs.Look.{look}
+use Rattle.c_rows.specs.Look.{look, has_semicolon}
 use Rattle.c_rows.proofs.ExampleTokens.{punct_of, word_of, pat_of, meta_of, u, t, x, each, left, right}
 
 -- ---- a declaration at the start of a statement
@@ -163,11 +163,11 @@ short_question = refl
 -- ---- signs of patterns
 
 branches_of_expressions : look (codes "t" ∷ []) (pat_of (codes "\\(") ∷ u ∷ pat_of (codes "\\|") ∷ x ∷ pat_of (codes "\\)") ∷ []) ≡ class.PatOpen
-unfolding look
+unfolding look has_semicolon
 branches_of_expressions = refl
 
 branches_of_statements : look (codes "t" ∷ []) (pat_of (codes "\\(") ∷ u ∷ punct_of (codes ";") ∷ pat_of (codes "\\|") ∷ x ∷ punct_of (codes ";") ∷ pat_of (codes "\\)") ∷ []) ≡ class.PatOpenOfStatements
-unfolding look
+unfolding look has_semicolon
 branches_of_statements = refl
 
 empty_first_branch : look (codes "t" ∷ []) (pat_of (codes "\\(") ∷ pat_of (codes "\\|") ∷ x ∷ punct_of (codes ";") ∷ pat_of (codes "\\)") ∷ []) ≡ class.PatOpenOfStatements
@@ -179,19 +179,19 @@ unfolding look
 branch_of_a_block = refl
 
 semicolon_of_a_later_branch : look (codes "t" ∷ []) (pat_of (codes "\\(") ∷ u ∷ pat_of (codes "\\|") ∷ x ∷ punct_of (codes ";") ∷ []) ≡ class.PatOpen
-unfolding look
+unfolding look has_semicolon
 semicolon_of_a_later_branch = refl
 
 semicolon_in_a_group : look (codes "t" ∷ []) (pat_of (codes "\\(") ∷ u ∷ punct_of (codes "{") ∷ punct_of (codes ";") ∷ punct_of (codes "}") ∷ pat_of (codes "\\|") ∷ []) ≡ class.PatOpen
-unfolding look
+unfolding look has_semicolon
 semicolon_in_a_group = refl
 
 nest_of_expression : look (codes "t" ∷ []) (pat_of (codes "<...") ∷ u ∷ pat_of (codes "...>") ∷ []) ≡ class.PatNestOfExpression
-unfolding look
+unfolding look has_semicolon
 nest_of_expression = refl
 
 nest_of_statements : look (codes "t" ∷ []) (pat_of (codes "<+...") ∷ u ∷ punct_of (codes ";") ∷ pat_of (codes "...+>") ∷ []) ≡ class.PatNestOfStatements
-unfolding look
+unfolding look has_semicolon
 nest_of_statements = refl
 
 empty_nest : look (codes "t" ∷ []) (pat_of (codes "<...") ∷ pat_of (codes "...>") ∷ []) ≡ class.PatNestOfStatements

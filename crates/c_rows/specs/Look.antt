@@ -1,5 +1,5 @@
 -- The class of the front of a list of tokens: which names are types, and what a bracket begins.
-use Rattle.std.specs.Prelude.{ℕ, ◌+◌, ◌-◌, ◌==◌, Bool, true, false, not, ◌&&◌, ◌||◌, if◌then◌else◌, List, [], ◌∷◌, codes}
+use Rattle.std.specs.Prelude.{ℕ, zero, suc, ◌+◌, ◌-◌, ◌==◌, Bool, true, false, not, ◌&&◌, ◌||◌, if◌then◌else◌, List, [], ◌∷◌, codes}
 use Rattle.std.specs.Str.{bytes_eq}
 use Rattle.c_terms.specs.Names.{has_name}
 use Rattle.c_terms.specs.declared.token.Token.{Token}
@@ -9,6 +9,8 @@ use Rattle.c_terms.specs.declared.token.MetaKind.{MetaKind}
 use Rattle.c_terms.specs.declared.token.MetaKind.TheVariants as meta
 use Rattle.c_rows.specs.declared.class.Class.{Class}
 use Rattle.c_rows.specs.declared.class.Class.TheVariants as class
+use Rattle.c_rows.specs.declared.branches.Group.{Group}
+use Rattle.c_rows.specs.declared.branches.Group.TheVariants as groups
 use Rattle.c_rows.specs.Tokens.{is_named, is_string, is_word, holds_for_each, is_sign, is_pat, is_basic, is_qualifier, is_function, is_storage_text, is_struct, is_enum, is_type_word, follows_cast}
 
 -- names that stand for types
@@ -269,14 +271,29 @@ closes_group t = is_closing t || is_pat t (codes "\\)") || is_pat t (codes "...>
 abbrev pub parts_branches : Token → Bool
 parts_branches t = is_pat t (codes "\\|") || is_pat t (codes "\\&")
 
+abbrev pub group : Token → Group
+group t =
+    if opens_group t then groups.Opening
+    else (if closes_group t then groups.Closing
+    else (if parts_branches t then groups.Parting
+    else (if is_sign t (codes ";") then groups.Semicolon
+    else groups.Plain)))
+
+-- `behind` tells of what stands behind the token, in so many groups.
+abbrev pub semicolon_from : Group → ℕ → (ℕ → Bool) → Bool
+semicolon_from groups.Opening d behind = behind (suc d)
+semicolon_from groups.Closing zero behind = false
+semicolon_from groups.Closing (suc d) behind = behind d
+semicolon_from groups.Parting zero behind = false
+semicolon_from groups.Parting (suc d) behind = behind (suc d)
+semicolon_from groups.Semicolon zero behind = true
+semicolon_from groups.Semicolon (suc d) behind = behind (suc d)
+semicolon_from groups.Plain d behind = behind d
+
 -- In so many groups of the first branch: a `;` stands in that branch, in no group.
-abbrev pub has_semicolon : ℕ → List Token → Bool
-has_semicolon more [] = false
-has_semicolon more (t ∷ ts) =
-    if opens_group t then has_semicolon (more + 1) ts
-    else (if closes_group t then not (more == 0) && has_semicolon (more - 1) ts
-    else (if more == 0 && parts_branches t then false
-    else more == 0 && is_sign t (codes ";") || has_semicolon more ts))
+unfoldable pub has_semicolon : ℕ → List Token → Bool
+has_semicolon d [] = false
+has_semicolon d (t ∷ ts) = semicolon_from (group t) d (λ e. has_semicolon e ts)
 
 -- What begins statements and no expression, and what ends a branch or a nest that has nothing.
 abbrev pub begins_statements : Class → Bool
@@ -308,17 +325,17 @@ begins_statements _ = false
 
 -- The first branch of a PatOr or PatAnd, or what a PatNest has, is a list of statements: it is empty, or begins as no
 -- expression does, or has a `;`.
-abbrev pub is_of_statements : List Token → Class → Bool
-is_of_statements ts next = begins_statements next || has_semicolon 0 ts
+abbrev pub is_of_statements : Bool → Class → Bool
+is_of_statements semicolon next = begins_statements next || semicolon
 
-abbrev pub pattern : List ℕ → List Token → Class → Class
-pattern s ts next =
-    if bytes_eq s (codes "\\(") then (if is_of_statements ts next then class.PatOpenOfStatements else class.PatOpen)
+abbrev pub pattern : List ℕ → Bool → Class → Class
+pattern s semicolon next =
+    if bytes_eq s (codes "\\(") then (if is_of_statements semicolon next then class.PatOpenOfStatements else class.PatOpen)
     else (if bytes_eq s (codes "\\|") then class.PatBar
     else (if bytes_eq s (codes "\\&") then class.PatAmp
     else (if bytes_eq s (codes "\\)") then class.PatClose
     else (if bytes_eq s (codes "<...") || bytes_eq s (codes "<+...")
-    then (if is_of_statements ts next then class.PatNestOfStatements else class.PatNestOfExpression)
+    then (if is_of_statements semicolon next then class.PatNestOfStatements else class.PatNestOfExpression)
     else (if bytes_eq s (codes "...>") || bytes_eq s (codes "...+>") then class.PatNestClose
     else class.Other)))))
 
@@ -332,7 +349,7 @@ class_of names token.Punct s ts next = sign names s ts
 class_of names token.Stray s ts next = class.Other
 class_of names (token.Meta k) s ts next = metavariable names k s ts
 class_of names token.Dots s ts next = class.Dots
-class_of names token.Pat s ts next = pattern s ts next
+class_of names token.Pat s ts next = pattern s (has_semicolon 0 ts) next
 
 -- what stands at the front of the tokens
 unfoldable pub look : Names → List Token → Class

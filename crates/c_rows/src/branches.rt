@@ -28,29 +28,36 @@ fn parts_branches(token: &Token) -> bool
     is_pat(token, b"\\|") || is_pat(token, b"\\&")
 }
 
-/// A `;` stands in the first branch, in no group.
-fn has_semicolon(branch: &[Token]) -> bool
-    ensures { result ≡ ahead.has_semicolon 0 branch.now }
+/// What a token does to a scan for the `;` of a branch.
+#[derive(Clone, Copy)]
+pub enum Group {
+    /// It opens a bracket, a PatOr, a PatAnd or a nest.
+    Opening,
+    /// It closes one.
+    Closing,
+    /// `\|` or `\&`
+    Parting,
+    /// `;`
+    Semicolon,
+    /// Any other
+    Plain,
+}
+
+/// What a token does to a scan for the `;` of a branch. Takes no memory.
+pub fn group_at(token: &Token) -> Group
+    ensures value { result ≡ ahead.group token.now }
 {
-    let mut more = 0usize;
-    for token in branch {
-        if opens_group(token) {
-            more += 1;
-        } else if closes_group(token) {
-            if more == 0 {
-                return false;
-            }
-            more -= 1;
-        } else if more == 0 {
-            if parts_branches(token) {
-                return false;
-            }
-            if is_sign(token, b";") {
-                return true;
-            }
-        }
+    if opens_group(token) {
+        Group::Opening
+    } else if closes_group(token) {
+        Group::Closing
+    } else if parts_branches(token) {
+        Group::Parting
+    } else if is_sign(token, b";") {
+        Group::Semicolon
+    } else {
+        Group::Plain
     }
-    false
 }
 
 /// What begins statements and no expression, and what ends a branch or a nest that has nothing.
@@ -72,18 +79,18 @@ fn begins_statements(class: Class) -> bool
 }
 
 /// The first branch, or what a nest has, is a list of statements.
-fn is_of_statements(branch: &[Token], next: Class) -> bool
-    ensures { result ≡ ahead.is_of_statements branch.now next }
+fn is_of_statements(semicolon: bool, next: Class) -> bool
+    ensures { result ≡ ahead.is_of_statements semicolon next }
 {
-    begins_statements(next) || has_semicolon(branch)
+    begins_statements(next) || semicolon
 }
 
-/// A sign of patterns, by what stands behind it.
-pub fn pattern(text: &[u8], rest: &[Token], next: Class) -> Class
-    ensures { result ≡ ahead.pattern text.now rest.now next }
+/// A sign of patterns, by what stands behind it: whether its branch has a `;`, and the next class.
+pub fn pattern(text: &[u8], semicolon: bool, next: Class) -> Class
+    ensures { result ≡ ahead.pattern text.now semicolon next }
 {
     if is(text, b"\\(") {
-        if is_of_statements(rest, next) {
+        if is_of_statements(semicolon, next) {
             Class::PatOpenOfStatements
         } else {
             Class::PatOpen
@@ -95,7 +102,7 @@ pub fn pattern(text: &[u8], rest: &[Token], next: Class) -> Class
     } else if is(text, b"\\)") {
         Class::PatClose
     } else if is(text, b"<...") || is(text, b"<+...") {
-        if is_of_statements(rest, next) {
+        if is_of_statements(semicolon, next) {
             Class::PatNestOfStatements
         } else {
             Class::PatNestOfExpression

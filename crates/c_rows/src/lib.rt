@@ -8,7 +8,7 @@
 //!   A [`Seen`] is a token with its class.
 //! - [`head`], [`tail`], [`choose`], [`left`] and [`own`] are how a reader chooses a rule and a way by one class.
 //!   [`may_be_type`] says by three classes whether a type can be a member of a call's list, and [`turn_at`] how a token
-//!   bears on where a member ends.
+//!   bears on where a member ends, [`group_at`] on whether a branch has a `;`.
 //!
 //! `row(Rule::Cast)` is `(`, a TypeName, `)`, an expression of Cast level. Where `a` is not in the names, the first `(` of
 //! `(a) ~b` is of class `CastNest`, and that of `(a) - b` of class `ParenNest`.
@@ -54,6 +54,7 @@ pub use beginnings::ends_member;
 use beginnings::{
     begins_declarator, begins_expression, begins_specs, begins_tag, ends_list, first,
 };
+pub use branches::{Group, group_at};
 pub use choice::{choose, head, left, own, tail};
 pub use class::Class;
 pub use forks::ways;

@@ -229,11 +229,12 @@ fn metavariable(names: &Names, kind: MetaKind, text: &[u8], rest: &[Token]) -> C
     }
 }
 
-/// The class of a list that begins with the token, of which the rest is of class `next`. Looks at up to three tokens
-/// behind, four behind `sizeof`; at the run of `*` behind a name, with or without a bracket; and behind a bracket that
-/// begins a type or follows a name, and behind a sign that begins a branch or a nest, at what it encloses and the token
-/// after that.
-pub fn look(names: &Names, token: &Token, rest: &[Token], next: Class) -> Class
+/// The class of a list that begins with the token, of which the rest is of class `next` and has a `;` in its first branch,
+/// in no group, as `semicolon` says. Looks at up to three tokens behind, four behind `sizeof`; at the run of `*` behind a
+/// name, with or without a bracket; and behind a bracket that begins a type or follows a name, at what it encloses and the
+/// token after that.
+pub fn look(names: &Names, token: &Token, rest: &[Token], next: Class, semicolon: bool) -> Class
+    requires { semicolon ≡ ahead.has_semicolon 0 rest.now }
     ensures value { result ≡ ahead.class_of names.now token.now.kind token.now.text rest.now next }
 {
     let text = token.text.as_bytes();
@@ -247,6 +248,6 @@ pub fn look(names: &Names, token: &Token, rest: &[Token], next: Class) -> Class
         TokenKind::Stray => Class::Other,
         TokenKind::Meta(kind) => metavariable(names, kind, text, rest),
         TokenKind::Dots => Class::Dots,
-        TokenKind::Pat => pattern(text, rest, next),
+        TokenKind::Pat => pattern(text, semicolon, next),
     }
 }

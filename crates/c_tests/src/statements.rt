@@ -26,7 +26,7 @@ const DECLARATIONS: [(&str, &str); 4] = [
 ];
 
 /// The same for lists of statements. `dots:...` and `expr:e` are tokens of a pattern.
-const STATEMENTS: [(&str, &str); 29] = [
+const STATEMENTS: [(&str, &str); 30] = [
     // expressions and declarations
     ("f ( ) ;", "(StmtList (ExprStat (Call f ( (Args) )) ;))"),
     ("; { }", "(StmtList (Empty ;) (Block { }))"),
@@ -60,6 +60,10 @@ const STATEMENTS: [(&str, &str); 29] = [
     (
         "for ( int i = 0 ; i ; ) ;",
         "(StmtList (ForDecl for ( (Decl (Specs int) (InitDecl i = 0) ;) i ; ) (Empty ;)))",
+    ),
+    (
+        "for ( u * p ; p ; ) g ( ) ;",
+        "(StmtList (ForDecl for ( (Decl (Specs u) (Pointer * p) ;) p ; ) (ExprStat (Call g ( (Args) )) ;)))",
     ),
     (
         "for ( ; ; i ++ ) { break ; continue ; }",
@@ -142,7 +146,7 @@ const ITEMS: [(&str, &str); 12] = [
         "(Decl (Specs int) x , (InitDecl (Pointer * y) = 1) ;)",
     ),
     (";", "(Empty ;)"),
-    ("int f ( ) { asm ( x ) ; }", "no tree"),
+    ("int f ( ) { asm volatile ( x ) ; }", "no tree"),
     ("f ( ) ; ;", "no tree"),
 ];
 
@@ -202,6 +206,7 @@ fn becomes(alloc: Global, words: &str, wanted: &[u8]) -> Result<bool, NoMemory> 
 #[test]
 fn trees_are_written(rt: HostRuntime) -> Result<(), NoMemory> {
     assert!(rt; becomes(rt.alloc(), "a = - - b [ 1 ] , c", b"a = - -b[1], c")?);
+    assert!(rt; becomes(rt.alloc(), "x = f ( a , b )", b"x = f(a, b)")?);
     assert!(rt; runs_together(b"a", b"1") && !runs_together(b"a", b"+"));
     Ok(())
 }

@@ -2,6 +2,7 @@ use Rattle.std.proofs.Common.{◌≡◌, ◌-◌, drop, reverse, arith}
 use Rattle.std.proofs.lemmas.Grind.{common_steps}
 use Rattle.c_rows.specs.Look.{look}
 use Rattle.c_expr.proofs.EndsLemmas.{Tells, tells_start, tells_next, ends_here}
+use Rattle.c_expr.proofs.SemicolonLemmas.{branches_start, branches_next, branch_here}
 use Rattle.c_expr.proofs.SightLemmas.{sight_start, sight_turn, sight_next, look_end, same_length}
 use Rattle.c_expr.proofs.see.see.Goals as goal
 
@@ -11,6 +12,7 @@ loop-i-init c = record {
   fits = omega arith;
   next = look_end c.args.names.now c.args.tokens.now;
   ends = tells_start c.args.names.now c.args.tokens.now c.at_end-ends.result.classes.items c.at_end-ends.ensures;
+  branches = branches_start c.args.tokens.now c.at_end-semicolons.result.flags.items c.at_end-semicolons.ensures;
   right = sight_start c.args.names.now _ c.args.tokens.now c.in_ok-seen.seen.items c.in_ok-seen.ensures.value;
 }
 
@@ -27,6 +29,8 @@ loop-i-preserved c =
       fits = omega (arith, c.loop-i.invariant.fits);
       next = next;
       ends = ends;
+      branches = branches_next c.args.tokens.now c.loop-i.i c.index-tokens-i-in-loop-i.result c.group_at.result (reverse c.loop-i.semicolons.flags.items) (reverse c.pass-in-loop-i.new.self.flags.items) c.loop-i.invariant.fits c.loop-i-test.true
+          c.index-tokens-i-in-loop-i.is c.group_at.ensures.value c.in_ok-pass-in-loop-i.ensures c.loop-i.invariant.branches;
       right = sight_turn c.args.names.now c.args.tokens.now _ c.loop-i.seen.items c.loop-i.i c.index-tokens-i.result c.index-tokens-i-in-loop-i.result c.index-tokens-i-in-loop-i-2.result c.look-next.result c.loop-i.next c.new.result
           c.new-in-loop-i.result c.in_ok-typed.typed c.leads_before-leads.result c.ends_member.result _
           c.loop-i.invariant.even c.loop-i.invariant.fits c.loop-i-test.true c.index-tokens-i.is c.index-tokens-i-in-loop-i.is c.index-tokens-i-in-loop-i-2.is (grind (arith, common_steps)) c.look-next.ensures.value

@@ -87,7 +87,13 @@ pub fn see<'t>(
     let mut i = tokens.len();
     while i > 0 {
         i -= 1;
-        next = look(names, &tokens[i], &tokens[i + 1..], next, semicolons.nearest());
+        next = look(
+            names,
+            &tokens[i],
+            &tokens[i + 1..],
+            next,
+            semicolons.nearest(),
+        );
         ends.pass(next)?;
         semicolons.pass(group_at(&tokens[i]))?;
         seen[i] = Seen::new(&tokens[i], next, false);

@@ -133,11 +133,11 @@ module _ (decls : List VarDecl) (tokens : List PatToken) (label : Label) where
     | Some c ↦ comma_fits decls tokens env before [] && whole env (Some c) fs ms
   ]) (piece_comma env f ∙ e)
 
-  at_comma : (env : Environment) (before : Option Token) (f : Tree) (fs : List Tree) (ms : List Member) (c : Token) → comma f ≡ Some c
+  pub at_comma : (env : Environment) (before : Option Token) (f : Tree) (fs : List Tree) (ms : List Member) (c : Token) → comma f ≡ Some c
       → whole env before (f ∷ fs) ms ≡ (comma_fits decls tokens env before [] && whole env (Some c) fs ms)
   at_comma env before f fs ms c e = choice env before f fs ms (Some c) e
 
-  at_member : (env : Environment) (before : Option Token) (f : Tree) (fs : List Tree) (ms : List Member) → comma f ≡ None
+  pub at_member : (env : Environment) (before : Option Token) (f : Tree) (fs : List Tree) (ms : List Member) → comma f ≡ None
       → whole env before (f ∷ fs) ms ≡ some_below (λ k. takes decls tokens env label before (piece decls tokens env f) (take k ms) && whole env None fs (drop k ms)) (suc (length ms))
   at_member env before f fs ms e = choice env before f fs ms None e
 

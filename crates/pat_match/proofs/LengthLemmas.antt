@@ -1,5 +1,5 @@
 -- How many members a list has, and lists that are too long.
-use Rattle.std.proofs.Common.{◌≡◌, ℕ, suc, zero, ◌<◌, Bool, true, false, ◌&&◌, ◌||◌, refl, sym, ap, ◌∙◌, arith, List, [], ◌∷◌, map, length, take, drop, get_or, Option, Some, None, length-drop}
+use Rattle.std.proofs.Common.{◌≡◌, ℕ, suc, zero, ◌<◌, Bool, false, ◌&&◌, ◌||◌, refl, sym, ap, ◌∙◌, arith, List, [], ◌∷◌, map, length, take, drop, get_or, Option, Some, None, length-drop}
 use Rattle.std.proofs.lemmas.Grind.{common_steps}
 use Rattle.std.specs.List.{list_any}
 use Rattle.c_terms.specs.declared.token.Token.{Token}
@@ -10,7 +10,7 @@ use Rattle.c_terms.specs.Lists.{comma, members, members_from}
 use Rattle.smpl_terms.specs.Environments.{Environment}
 use Rattle.smpl_patch.specs.declared.pattern.VarDecl.{VarDecl}
 use Rattle.smpl_patch.specs.declared.pattern.PatToken.{PatToken}
-use Rattle.pat_match.specs.Runs.{takes, comma_fits, single_fits, list_fits, runs_from, is_wild}
+use Rattle.pat_match.specs.Runs.{takes, comma_fits, list_fits, runs_from, is_wild}
 use Rattle.pat_match.specs.Fitting.{piece, leaf_of, fits_tree}
 use Rattle.pat_match.proofs.CountLemmas.{drop_at, none_below}
 use Rattle.pat_match.proofs.RowLemmas.{at_comma, at_member, takes_single, single_none, and_false}

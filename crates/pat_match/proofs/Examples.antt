@@ -10,7 +10,6 @@ use Rattle.c_terms.specs.declared.shape.Shape.TheVariants as shape
 use Rattle.c_terms.specs.declared.list.Member.{Member}
 use Rattle.c_terms.specs.declared.tree.Tree.{Tree}
 use Rattle.c_terms.specs.declared.tree.Tree.TheOpen.{Tree-F}
-use Rattle.c_terms.specs.declared.tree.Tree.TheVariants.{Leaf}
 use Rattle.smpl_terms.specs.declared.var.Var.{Var}
 use Rattle.smpl_terms.specs.declared.value.Value.TheVariants.{Place}
 use Rattle.smpl_patch.specs.declared.pattern.PatToken.{PatToken}

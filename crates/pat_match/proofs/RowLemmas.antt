@@ -1,5 +1,5 @@
 -- Rows, one entry more and one child more.
-use Rattle.std.proofs.Common.{◌≡◌, ℕ, suc, zero, ◌+◌, ◌-◌, ◌<◌, ◌≤◌, Bool, true, false, ◌&&◌, ◌||◌, nat_eq, nat_lt, nat_le, refl, sym, ap, ap₂, ◌∙◌, subst, arith, List, [], ◌∷◌, map, length, take, drop, get_or, Option, Some, None, slice_get, drop-cons, length-drop}
+use Rattle.std.proofs.Common.{◌≡◌, ℕ, suc, zero, ◌+◌, ◌-◌, ◌<◌, ◌≤◌, Bool, true, false, ◌&&◌, ◌||◌, nat_eq, nat_lt, nat_le, refl, sym, ap, ap₂, ◌∙◌, subst, arith, List, [], ◌∷◌, map, length, take, drop, get_or, Option, Some, None, slice_get, length-drop}
 use Rattle.std.proofs.lemmas.Bool.Decides.{nat_tests}
 use Rattle.std.proofs.lemmas.Grind.{common_steps}
 use Rattle.std.specs.List.{list_any}
@@ -133,11 +133,11 @@ module _ (decls : List VarDecl) (tokens : List PatToken) (label : Label) where
     | Some c ↦ comma_fits decls tokens env before [] && whole env (Some c) fs ms
   ]) (piece_comma env f ∙ e)
 
-  at_comma : (env : Environment) (before : Option Token) (f : Tree) (fs : List Tree) (ms : List Member) (c : Token) → comma f ≡ Some c
+  pub at_comma : (env : Environment) (before : Option Token) (f : Tree) (fs : List Tree) (ms : List Member) (c : Token) → comma f ≡ Some c
       → whole env before (f ∷ fs) ms ≡ (comma_fits decls tokens env before [] && whole env (Some c) fs ms)
   at_comma env before f fs ms c e = choice env before f fs ms (Some c) e
 
-  at_member : (env : Environment) (before : Option Token) (f : Tree) (fs : List Tree) (ms : List Member) → comma f ≡ None
+  pub at_member : (env : Environment) (before : Option Token) (f : Tree) (fs : List Tree) (ms : List Member) → comma f ≡ None
       → whole env before (f ∷ fs) ms ≡ some_below (λ k. takes decls tokens env label before (piece decls tokens env f) (take k ms) && whole env None fs (drop k ms)) (suc (length ms))
   at_member env before f fs ms e = choice env before f fs ms None e
 

@@ -1,5 +1,5 @@
 -- Where a form fits a tree, each of its sure variables has a value of the tree: all cases but lists.
-use Rattle.std.proofs.Common.{◌≡◌, ℕ, Bool, true, false, ◌&&◌, ◌||◌, not, refl, sym, ap, ◌∙◌, subst, List, [], ◌∷◌, map, Option, Some, None, slice_get, ◌⊎◌, ⊎_elim}
+use Rattle.std.proofs.Common.{◌≡◌, ℕ, Bool, true, false, ◌&&◌, ◌||◌, not, refl, sym, ap, ◌∙◌, subst, List, [], ◌∷◌, map, Option, Some, None, slice_get, ⊎_elim}
 use Rattle.std.specs.List.{list_any, list_all}
 use Rattle.c_terms.specs.declared.token.Token.{Token}
 use Rattle.c_terms.specs.declared.token.TokenKind.{TokenKind}
@@ -10,7 +10,7 @@ use Rattle.c_terms.specs.declared.shape.Shape.{Shape}
 use Rattle.c_terms.specs.declared.shape.Shape.TheVariants as shape
 use Rattle.c_terms.specs.declared.tree.Tree.{Tree, out-Tree}
 use Rattle.c_terms.specs.declared.tree.Tree.TheOpen.{Tree-F}
-use Rattle.c_terms.specs.declared.tree.Tree.TheVariants.{Leaf, Branch}
+use Rattle.c_terms.specs.declared.tree.Tree.TheVariants.{Leaf}
 use Rattle.c_terms.specs.Shapes.{shape_of}
 use Rattle.c_terms.proofs.SameLemmas.{out-Leaf, out-Branch}
 use Rattle.c_terms.proofs.Induct.{Each, tree_induction, tree_cases}

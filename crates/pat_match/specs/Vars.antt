@@ -2,16 +2,14 @@
 use Rattle.std.specs.Prelude.{Bool, true, ◌&&◌, Option, Some, None, List, slice_get}
 use Rattle.std.specs.List.{list_all}
 use Rattle.c_terms.specs.declared.token.Token.{Token}
-use Rattle.c_terms.specs.declared.token.TokenKind.{TokenKind}
 use Rattle.c_terms.specs.declared.tree.Tree.{Tree}
 use Rattle.c_terms.specs.Trees.{leaves}
 use Rattle.smpl_terms.specs.declared.var.Var.{Var}
 use Rattle.smpl_patch.specs.declared.pattern.VarDecl.{VarDecl}
 use Rattle.smpl_patch.specs.declared.pattern.PatToken.{PatToken}
 use Rattle.smpl_patch.specs.declared.pattern.Pattern.{Pattern}
-use Rattle.smpl_patch.specs.Patterns.{declared_as}
 use Rattle.pat_match.specs.Tokens.{not_places}
-use Rattle.pat_match.specs.Matching.{var_passes, meta_passes}
+use Rattle.pat_match.specs.Matching.{meta_passes}
 
 module _ (decls : List VarDecl) (test : Var → Bool) where
   -- the position and those that it must not be pass

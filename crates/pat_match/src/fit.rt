@@ -11,6 +11,7 @@ ghost use Rattle.pat_match.specs.Fitting.{leaf_of, is_bare_sign, is_sign_token, 
 ghost use Rattle.pat_match.specs.Vars.{form_vars};
 ghost use Rattle.pat_match.specs.Rows.{comma_before, first_is_wild, row_at, row_vars, single_entry, IsStep, IsRow, fits_from};
 
+use crate::lengths::is_too_long;
 use crate::lists::{
     ListMember, fit_comma_before, is_bare_before, is_wild, is_wild_at, list_members,
 };
@@ -496,6 +497,29 @@ fn fit_members(
     }
 }
 
+/// The environments in which a pattern's list fits these children. One that has too many members isn't gone through.
+#[cycle(fit)]
+fn fit_children(
+    alloc: Global,
+    decls: &[VarDecl],
+    tokens: &[PatToken],
+    label: Label,
+    forms: &[Tree],
+    trees: &[Tree],
+) -> Result<EnvSet, NoMemory>
+    ensures meaning { IfOk result (λ r. (env : Environment) → set_denotes r env
+        ≡ list_fits decls.now tokens.now env label (map (piece decls.now tokens.now env) forms.now) trees.now) }
+    ensures vars { IfOk result (λ r. (t : Var → Bool)
+        → list_all (form_vars decls.now tokens.now t) forms.now ≡ true →
+        set_vars t r ≡ true) }
+{
+    if is_too_long(label, forms, trees) {
+        return Ok(EnvSet::none(alloc));
+    }
+    let members = list_members(alloc, trees)?;
+    fit_members(alloc, decls, tokens, label, forms, members.as_slice())
+}
+
 /// The environments in which a list of arguments or parameters fits.
 #[cycle(fit)]
 fn fit_list(
@@ -519,8 +543,7 @@ fn fit_list(
             if label.number() != other.number() {
                 return Ok(EnvSet::none(alloc));
             }
-            let members = list_members(alloc, trees.as_slice())?;
-            fit_members(alloc, decls, tokens, label, forms, members.as_slice())
+            fit_children(alloc, decls, tokens, label, forms, trees.as_slice())
         }
     }
 }

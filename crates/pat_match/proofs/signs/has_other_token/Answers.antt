@@ -1,4 +1,3 @@
-use Rattle.std.proofs.Common.{arith}
 use Rattle.pat_match.proofs.Pieces.{all_fit-other}
 use Rattle.pat_match.proofs.signs.has_other_token.Goals as goal
 

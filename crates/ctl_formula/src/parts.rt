@@ -27,7 +27,7 @@ struct Part {
     depth: u32,
 }
 
-/// Nodes, each after its parts. Equal nodes are kept once. Contracts see the list of nodes.
+/// Nodes, each after its parts. As a rule equal nodes are kept once. Contracts see the list of nodes.
 #[derive(Drop)]
 pub struct Parts {
     parts: Vec<Part>,

@@ -1,5 +1,5 @@
 -- A variable is guarded in each part of a table where each of its quantifiers is over a formula that binds it.
-use Rattle.std.proofs.Common.{◌≡◌, ℕ, ◌+◌, ◌<◌, ◌≤◌, Bool, true, false, not, ◌&&◌, ◌||◌, arith, refl, sym, ap, ◌∙◌, subst, List, [], ◌∷◌, ◌++◌, below_more}
+use Rattle.std.proofs.Common.{◌≡◌, ℕ, Bool, true, false, not, ◌&&◌, ◌||◌, refl, sym, ap, ◌∙◌, List}
 use Rattle.smpl_terms.specs.declared.var.Var.{Var}
 use Rattle.smpl_terms.specs.Vars.{same_var}
 use Rattle.smpl_terms.proofs.VarLaws.{same_var-equal}

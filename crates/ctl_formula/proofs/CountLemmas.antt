@@ -1,19 +1,18 @@
 -- The counts that a table keeps are those of its formulas.
-use Rattle.std.proofs.Common.{◌≡◌, ℕ, zero, suc, ◌+◌, ◌<◌, ◌≤◌, Bool, true, false, ◌&&◌, nat_lt, nat_le, min, take}
-use Rattle.std.proofs.Common.{arith, refl, sym, ap, ap₂, ◌∙◌, List, [], ◌∷◌, ◌++◌, map, length, get_or, append_assoc}
-use Rattle.std.proofs.Common.{append-nil, length-append, Option, Some, None}
+use Rattle.std.proofs.Common.{◌≡◌, ℕ, zero, suc, ◌+◌, ◌<◌, ◌≤◌, true, ◌&&◌, nat_le, min, take}
+use Rattle.std.proofs.Common.{arith, sym, ap, ap₂, ◌∙◌, List, [], ◌∷◌, ◌++◌, map, length, get_or}
+use Rattle.std.proofs.Common.{Some}
 use Rattle.std.specs.Prelude.{slice_get}
 use Rattle.std.proofs.lemmas.List.{get_or-map, length-map, map-append}
 use Rattle.std.proofs.lemmas.Bool.Decides.{nat_tests}
-use Rattle.std.proofs.lemmas.Grind.{common_steps}
 use Rattle.ctl_formula.specs.Plain.{Plain, size, depth, fits, most_parts, most_around}
 use Rattle.ctl_formula.specs.Plain as plain
 use Rattle.ctl_formula.specs.declared.node.Node.{Node}
 use Rattle.ctl_formula.specs.declared.parts.Part.{Part}
-use Rattle.ctl_formula.specs.Tables.{at, plain_of, plains, below, ordered_from, ordered, Stands, Makes}
+use Rattle.ctl_formula.specs.Tables.{at, plain_of, plains, below, ordered_from, ordered, Stands}
 use Rattle.ctl_formula.specs.Counted.{nodes_of, IsCounted, counted_size, counted_depth}
-use Rattle.ctl_formula.proofs.TableLemmas.{at-node, length-plains, plains-push, ordered-push, made-found, and-left}
-use Rattle.ctl_formula.proofs.TableLemmas.{and-right, lt-true}
+use Rattle.ctl_formula.proofs.TableLemmas.{at-node, length-plains, plains-push, ordered-push, and-left}
+use Rattle.ctl_formula.proofs.TableLemmas.{and-right}
 
 pub get-some : {A : Type 0} (xs : List A) (i : ℕ) (x : A) → i < length xs → x ≡ get_or xs i x → slice_get xs i ≡ Some x
 get-some [] i x h e = absurd (omega (arith, h))

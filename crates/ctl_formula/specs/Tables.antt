@@ -1,5 +1,5 @@
 -- A table of nodes: each is a formula whose parts are earlier nodes, so that equal parts are kept once.
-use Rattle.std.specs.Prelude.{◌≡◌, ℕ, suc, ◌+◌, ◌<◌, Bool, true, false, ◌&&◌, nat_le, nat_lt, List, [], ◌∷◌, ◌++◌}
+use Rattle.std.specs.Prelude.{◌≡◌, ℕ, suc, ◌<◌, Bool, true, ◌&&◌, nat_lt, List, [], ◌∷◌, ◌++◌}
 use Rattle.std.specs.Prelude.{length, slice_index_or, slice_get, Some}
 use Rattle.ctl_formula.specs.Plain.{Plain}
 use Rattle.ctl_formula.specs.Plain as plain

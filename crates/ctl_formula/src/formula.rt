@@ -14,8 +14,8 @@ use std::alloc::Global;
 use std::marker::Model;
 
 /// A formula with the declarations and the pattern tokens of its rule. Each variable is bound by the formula under each
-/// of its quantifiers. There are at most 100,000 subformulas, each inside at most 4,000 others; equal ones are kept
-/// once, and have one number.
+/// of its quantifiers. There are at most 100,000 subformulas, each inside at most 4,000 others; as a rule equal
+/// ones are kept once, and have one number.
 #[derive(Drop)]
 pub struct Formula {
     parts: Parts,

@@ -9,7 +9,7 @@
 //! seven subformulas.
 //!
 //! A formula has at most [`MOST_PARTS`] subformulas, each inside at most [`MOST_AROUND`] others. Both are counted
-//! without unfolding the table. A table has at most [`MOST_NODES`] nodes. Nothing here recurses over a formula.
+//! without unfolding the table. Nothing here recurses over a formula.
 //!
 //! Which formula a rule has is for ctl_translate, and where a formula holds for the crates that hold it against graphs.
 #![tactic(auto)]
@@ -22,4 +22,4 @@ mod parts;
 pub use binding::{Binds, bounds};
 pub use formula::{Formula, copy_decls, copy_tokens, parts_of};
 pub use node::{Node, is_equal_node};
-pub use parts::{MOST_AROUND, MOST_NODES, MOST_PARTS, Parts};
+pub use parts::{MOST_AROUND, MOST_PARTS, Parts};

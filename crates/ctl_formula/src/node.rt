@@ -69,9 +69,10 @@ impl Node {
     }
 }
 
-/// Whether the two are equal, ids included; what is called equal is so. Takes no memory.
+/// Whether the two are equal, ids included. Takes no memory.
 pub fn is_equal_node(a: &Node, b: &Node) -> bool
-    ensures { IsTrue result → a.now ≡ b.now }
+    ensures equal { IsTrue result → a.now ≡ b.now }
+    ensures found { a.now ≡ b.now → IsTrue result }
 {
     match (a, b) {
         (Node::True, Node::True) => true,
@@ -97,7 +98,8 @@ pub fn is_equal_node(a: &Node, b: &Node) -> bool
 }
 
 fn is_equal_var(x: &Var, y: &Var) -> bool
-    ensures { IsTrue result → x.now ≡ y.now }
+    ensures equal { IsTrue result → x.now ≡ y.now }
+    ensures found { x.now ≡ y.now → IsTrue result }
 {
     same_var(x, y)
 }
@@ -120,6 +122,15 @@ pub fn key(node: &Node) -> (u8, usize, usize) {
         Node::EU(f, g) => (12, *f, *g),
         Node::Past(f) => (13, *f, 0),
         Node::Down(i, f) => (14, *f, *i),
-        Node::Exists(x, f) => (15, *f, x.rule as usize),
+        Node::Exists(x, f) => (15, *f, key_of_var(x)),
     }
+}
+
+/// Variables of one part differ by their names, as a rule.
+fn key_of_var(x: &Var) -> usize {
+    let mut key = x.rule as usize;
+    for b in x.name.as_bytes() {
+        key = key.wrapping_mul(31).wrapping_add(*b as usize);
+    }
+    key
 }

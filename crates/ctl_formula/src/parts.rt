@@ -1,6 +1,6 @@
 // The table in which a formula is made.
 ghost use Rattle.std.specs.Prelude.{◌≡◌, ◌<◌, ◌≤◌, ◌+◌, min, true, [], ◌∷◌, ◌++◌, length, slice_get};
-ghost use Rattle.std.specs.Prelude.{IfOk, IfSome, OnOk};
+ghost use Rattle.std.specs.Prelude.{IfOk, IfSome, OnOk, OnErr};
 ghost use Rattle.ctl_formula.specs.Plain.{fits, most_parts, most_around};
 ghost use Rattle.ctl_formula.specs.Tables.{at, plain_of, plains, below, Makes, Stands};
 ghost use Rattle.ctl_formula.specs.Counted.{counted_size, counted_depth};
@@ -18,10 +18,6 @@ pub const MOST_PARTS: u32 = 100_000;
 /// The most others that a subformula is inside.
 pub const MOST_AROUND: u32 = 4_000;
 
-/// The most nodes of a table, ten times what a formula within the limits can need. To grow further is refused as if
-/// memory had run out, so that a formula that is far too large takes no more than this.
-pub const MOST_NODES: usize = 1_000_000;
-
 /// A node, and what is counted on its formula: a part that stands at two places counts twice. What is above a limit
 /// counts as one above it.
 #[derive(Drop)]
@@ -31,7 +27,7 @@ struct Part {
     depth: u32,
 }
 
-/// Nodes, each after its parts. Equal nodes are kept once. Contracts see the list of nodes.
+/// Nodes, each after its parts. As a rule equal nodes are kept once. Contracts see the list of nodes.
 #[derive(Drop)]
 pub struct Parts {
     parts: Vec<Part>,
@@ -176,11 +172,20 @@ impl Parts {
         None
     }
 
+    /// From now on equal nodes are looked for at this number.
+    fn remember(&mut self, node: &Node, i: usize) -> Result<(), NoMemory>
+        ensures same { self.new ≡ self.old }
+    {
+        self.known.insert(key(node), i)?;
+        Ok(())
+    }
+
     fn put(&mut self, node: Node, count: u32, around: u32) -> Result<(), NoMemory>
         requires below { below (length self.old) node ≡ true }
         requires count { count ≡ counted_size (plain_of (plains self.old) node) }
         requires around { around ≡ counted_depth (plain_of (plains self.old) node) }
         ensures ok { OnOk result (self.new ≡ self.old ++ node ∷ []) }
+        ensures err { OnErr result (self.new ≡ self.old) }
     {
         self.parts.push(Part {
             node,
@@ -190,10 +195,12 @@ impl Parts {
         Ok(())
     }
 
-    /// A node with the formula that this node is over the parts. An equal one is found, in constant time as a rule.
+    /// A node with the formula that this node is over the parts. An equal one is found, in constant time as a rule. There
+    /// may be as many nodes as memory has room for; where it is refused, the table is as it was.
     pub fn push(&mut self, node: Node) -> Result<usize, NoMemory>
         requires { below (length self.old) node ≡ true }
         ensures made { IfOk result (λ i. Makes self.old self.new i (plain_of (plains self.old) node)) }
+        ensures kept { OnErr result (self.new ≡ self.old) }
     {
         if let Some(i) = self.find(&node) {
             return Ok(i);
@@ -201,15 +208,12 @@ impl Parts {
         let size = self.size_of(&node);
         let depth = self.depth_of(&node);
         let i = self.parts.len();
-        if i >= MOST_NODES {
-            return Err(NoMemory);
-        }
-        self.known.insert(key(&node), i)?;
+        self.remember(&node, i)?;
         self.put(node, size, depth)?;
         Ok(i)
     }
 
-    /// The same nodes. Linear.
+    /// The same nodes, which are found again as here. Linear.
     pub fn copy(&self, alloc: Global) -> Result<Parts, NoMemory>
         ensures same { IfOk result (λ copied. copied ≡ self.now) }
     {
@@ -218,6 +222,7 @@ impl Parts {
             let node = self.node(i).copy(alloc)?;
             let size = copied.size_of(&node);
             let depth = copied.depth_of(&node);
+            copied.remember(&node, i)?;
             copied.put(node, size, depth)?;
         }
         Ok(copied)

@@ -119,3 +119,62 @@ position_at_brace = refl
 plus_counts : formula (reads (((v 0 (codes "x")) ∷ []) ∷ ((v 0 (codes "y")) ∷ []) ∷ []) (((v 0 (codes "x")) ∷ []) ∷ ((v 0 (codes "y")) ∷ (v 0 (codes "x")) ∷ []) ∷ []) []) true ((v 0 (codes "x")) ∷ (v 0 (codes "y")) ∷ []) (Then (bodies.Atom (p 0)) (Then (bodies.Atom (p 1)) End)) ≡ (Exists (v 0 (codes "x")) (And (Atom (p 0)) (Past (Exists (v 0 (codes "y")) (Atom (p 1))))))
 unfolding digits
 plus_counts = refl
+
+-- dots stop before the first atom of each branch after them
+choice_after_dots : formula (reads ([] ∷ [] ∷ [] ∷ []) ([] ∷ [] ∷ [] ∷ []) []) false [] (Then (bodies.Atom (p 0)) (Then (Gap NoMore false false) (Then (AnyOf (More (Then (bodies.Atom (p 1)) End) (More (Then (bodies.Atom (p 2)) End) NoMore))) End))) ≡ (And (Atom (p 0)) (EX (EU (And (Not (Atom (p 0))) (Not (Or (Atom (p 1)) (Atom (p 2))))) (Or (Atom (p 1)) (And (Atom (p 2)) (Not (Atom (p 1))))))))
+unfolding digits
+choice_after_dots = refl
+
+-- of branches that all hold, dots go by the first
+all_after_dots : formula (reads ([] ∷ [] ∷ [] ∷ []) ([] ∷ [] ∷ [] ∷ []) []) false [] (Then (bodies.Atom (p 0)) (Then (Gap NoMore false false) (Then (AllOf (More (Then (bodies.Atom (p 1)) End) (More (Then (bodies.Atom (p 2)) End) NoMore))) End))) ≡ (And (Atom (p 0)) (EX (EU (And (Not (Atom (p 0))) (Not (Atom (p 1)))) (And (Atom (p 1)) (Atom (p 2))))))
+unfolding digits
+all_after_dots = refl
+
+all_before_dots : formula (reads ([] ∷ [] ∷ [] ∷ []) ([] ∷ [] ∷ [] ∷ []) []) false [] (Then (AllOf (More (Then (bodies.Atom (p 0)) End) (More (Then (bodies.Atom (p 1)) End) NoMore))) (Then (Gap NoMore false false) (Then (bodies.Atom (p 2)) End))) ≡ (And (And (Atom (p 0)) (EX (EU (And (Not (Atom (p 0))) (Not (Atom (p 2)))) (Atom (p 2))))) (Atom (p 1)))
+unfolding digits
+all_before_dots = refl
+
+-- a nest under `forall` goes over all walks, which a bail ends
+nest_forall : formula (reads ([] ∷ [] ∷ [] ∷ []) ([] ∷ [] ∷ [] ∷ []) []) true [] (Then (bodies.Atom (p 0)) (Then (Nest false (Then (bodies.Atom (p 1)) End) NoMore false false) (Then (bodies.Atom (p 2)) End))) ≡ (And (Atom (p 0)) (AX (And (AU (And (And (Not (Atom (p 0))) (Not (Atom (p 2)))) (Or (Atom (p 1)) (Not (Atom (p 1))))) (Or (Atom (p 2)) Bail)) (EU (And (And (Not (Atom (p 0))) (Not (Atom (p 2)))) (Or (Atom (p 1)) (Not (Atom (p 1))))) (Atom (p 2))))))
+unfolding digits
+nest_forall = refl
+
+-- with `when strict` none does, and `<+...` asks for a way past its part besides
+nest_strict : formula (reads ([] ∷ [] ∷ [] ∷ []) ([] ∷ [] ∷ [] ∷ []) []) true [] (Then (bodies.Atom (p 0)) (Then (Nest true (Then (bodies.Atom (p 1)) End) NoMore true true) (Then (bodies.Atom (p 2)) End))) ≡ (And (Atom (p 0)) (AX (And (And (AU (And True (Or (Atom (p 1)) (Not (Atom (p 1))))) (Atom (p 2))) (EU (And True (Or (Atom (p 1)) (Not (Atom (p 1))))) (Atom (p 2)))) (EU True (And (And True (Atom (p 1))) (EU True (Atom (p 2))))))))
+unfolding digits
+nest_strict = refl
+
+-- what follows a block stands past its statement, and dots after it have no element to stop before on that side
+block_before_dots : formula (reads ([] ∷ [] ∷ [] ∷ [] ∷ []) ([] ∷ [] ∷ [] ∷ [] ∷ []) []) false [] (Then (Block (p 0) (Then (bodies.Atom (p 1)) End) (p 2)) (Then (Gap NoMore false false) (Then (bodies.Atom (p 3)) End))) ≡ (And (Exists (v 0 (123 ∷ codes "0")) (And (BraceOpen (p 0) (v 0 (123 ∷ codes "0"))) (Down 0 (And (Atom (p 1)) (Past (BraceClose (p 2) (v 0 (123 ∷ codes "0")))))))) (Past (EU (Not (Atom (p 3))) (Atom (p 3)))))
+unfolding digits
+block_before_dots = refl
+
+-- what follows a head with a body stands past the statement
+compound_before_atom : formula (reads ([] ∷ [] ∷ [] ∷ []) ([] ∷ [] ∷ [] ∷ []) []) false [] (Then (Compound (p 0) (More (Then (bodies.Atom (p 1)) End) NoMore) None) (Then (bodies.Atom (p 2)) End)) ≡ (And (And (Atom (p 0)) (Down 0 (Atom (p 1)))) (Past (Atom (p 2))))
+unfolding digits
+compound_before_atom = refl
+
+-- variables that are quantified at one part stand in declared order
+two_at_one_part : formula (reads (((v 0 (codes "x")) ∷ (v 0 (codes "y")) ∷ []) ∷ ((v 0 (codes "x")) ∷ (v 0 (codes "y")) ∷ []) ∷ []) (((v 0 (codes "x")) ∷ (v 0 (codes "y")) ∷ []) ∷ ((v 0 (codes "x")) ∷ (v 0 (codes "y")) ∷ []) ∷ []) []) false ((v 0 (codes "y")) ∷ (v 0 (codes "x")) ∷ []) (Then (bodies.Atom (p 0)) (Then (bodies.Atom (p 1)) End)) ≡ (Exists (v 0 (codes "y")) (Exists (v 0 (codes "x")) (And (Atom (p 0)) (Past (Atom (p 1))))))
+unfolding digits
+two_at_one_part = refl
+
+-- a variable of the element after dots that stands again later is quantified at the dots
+again_after_dots : formula (reads ([] ∷ ((v 0 (codes "x")) ∷ []) ∷ ((v 0 (codes "x")) ∷ []) ∷ []) ([] ∷ ((v 0 (codes "x")) ∷ []) ∷ ((v 0 (codes "x")) ∷ []) ∷ []) []) false ((v 0 (codes "x")) ∷ []) (Then (bodies.Atom (p 0)) (Then (Gap NoMore false false) (Then (bodies.Atom (p 1)) (Then (bodies.Atom (p 2)) End)))) ≡ (And (Atom (p 0)) (EX (Exists (v 0 (codes "x")) (EU (And (Not (Atom (p 0))) (Not (Atom (p 1)))) (And (Atom (p 1)) (Past (Atom (p 2))))))))
+unfolding digits
+again_after_dots = refl
+
+-- but not where that element is a disjunction
+again_in_choice : formula (reads ([] ∷ ((v 0 (codes "x")) ∷ []) ∷ ((v 0 (codes "x")) ∷ []) ∷ [] ∷ []) ([] ∷ ((v 0 (codes "x")) ∷ []) ∷ ((v 0 (codes "x")) ∷ []) ∷ [] ∷ []) []) false ((v 0 (codes "x")) ∷ []) (Then (bodies.Atom (p 0)) (Then (Gap NoMore false false) (Then (AnyOf (More (Then (bodies.Atom (p 1)) End) (More (Then (bodies.Atom (p 3)) End) NoMore))) (Then (bodies.Atom (p 2)) End)))) ≡ (And (Atom (p 0)) (EX (EU (And (Not (Atom (p 0))) (Not (Or (Exists (v 0 (codes "x")) (Atom (p 1))) (Atom (p 3))))) (Exists (v 0 (codes "x")) (Or (And (Atom (p 1)) (Past (Atom (p 2)))) (And (And (Atom (p 3)) (Past (Atom (p 2)))) (Not (Atom (p 1)))))))))
+unfolding digits
+again_in_choice = refl
+
+-- nor where it stands in that element's plus code alone
+again_in_plus : formula (reads ([] ∷ [] ∷ ((v 0 (codes "x")) ∷ []) ∷ []) ([] ∷ ((v 0 (codes "x")) ∷ []) ∷ ((v 0 (codes "x")) ∷ []) ∷ []) []) false ((v 0 (codes "x")) ∷ []) (Then (bodies.Atom (p 0)) (Then (Gap NoMore false false) (Then (bodies.Atom (p 1)) (Then (bodies.Atom (p 2)) End)))) ≡ (And (Atom (p 0)) (EX (EU (And (Not (Atom (p 0))) (Not (Atom (p 1)))) (Exists (v 0 (codes "x")) (And (Atom (p 1)) (Past (Atom (p 2))))))))
+unfolding digits
+again_in_plus = refl
+
+-- a variable that is no local one, as one that a later rule inherits, is quantified nowhere
+not_local : formula (reads (((v 0 (codes "x")) ∷ []) ∷ [] ∷ []) (((v 0 (codes "x")) ∷ []) ∷ [] ∷ []) []) false [] (Then (bodies.Atom (p 0)) (Then (Gap NoMore false false) (Then (bodies.Atom (p 1)) End))) ≡ (And (Atom (p 0)) (EX (EU (And (Not (Atom (p 0))) (Not (Atom (p 1)))) (Atom (p 1)))))
+unfolding digits
+not_local = refl

@@ -171,11 +171,16 @@ asked-is ask r decls tokens f u v t e h =
     ∙ ap (λ (z : List PatToken). ask (patterns.sure r.vars z) f) t
     ∙ ap (ask (patterns.sure r.vars r.tokens)) e
 
--- what the formula's part says of a variable tells whether some quantifier of it is open
-pub open-is : (r : Rule) (x : Var) (decls : List VarDecl) (tokens : List PatToken) (ns : List Node) (i : ℕ) (known : List Binds) (b : Binds) (u : Bool)
+-- what the formula's part says of a variable, as the code has it
+pub binds-is : (r : Rule) (x : Var) (decls : List VarDecl) (tokens : List PatToken) (ns : List Node) (i : ℕ) (known : List Binds) (b : Binds)
     → decls ≡ r.vars → tokens ≡ r.tokens → i < length ns → known ≡ map (binds_at (patterns.sure decls tokens) x) (plains ns) → b ≡ get_or known i b
-    → at (plains ns) i ≡ rules.formula_of r → u ≡ not b.guarded → u ≡ not (guarded_for (patterns.sure r.vars r.tokens) x (rules.formula_of r))
-open-is r x decls tokens ns i known b u v t l k e q h =
-    h ∙ ap (λ z. not z.guarded)
-    (asked-is (λ sure f. binds_at sure x f) r decls tokens (rules.formula_of r) b v t refl
-    (known-root (binds_at (patterns.sure decls tokens) x) b ns i known b (rules.formula_of r) l k e q))
+    → at (plains ns) i ≡ rules.formula_of r → b ≡ binds_at (patterns.sure r.vars r.tokens) x (rules.formula_of r)
+binds-is r x decls tokens ns i known b v t l k e q =
+    asked-is (λ sure f. binds_at sure x f) r decls tokens (rules.formula_of r) b v t refl
+    (known-root (binds_at (patterns.sure decls tokens) x) b ns i known b (rules.formula_of r) l k e q)
+
+-- a formula that is soon seen to bind a variable does so, as the code has it
+pub soon-is : (r : Rule) (x : Var) (decls : List VarDecl) (tokens : List PatToken) (f : Plain) (u : Bool)
+    → decls ≡ r.vars → tokens ≡ r.tokens → f ≡ rules.formula_of r → (u ≡ true → bound (patterns.sure decls tokens) f x ≡ true)
+    → u ≡ true → bound (patterns.sure r.vars r.tokens) (rules.formula_of r) x ≡ true
+soon-is r x decls tokens f u v t e h k = sym (asked-is (λ sure g. bound sure g x) r decls tokens f true v t e (sym (h k)))

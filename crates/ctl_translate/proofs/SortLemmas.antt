@@ -6,7 +6,6 @@ use Rattle.std.proofs.lemmas.List.{take_more}
 use Rattle.smpl_terms.specs.declared.var.Var.{Var}
 use Rattle.smpl_patch.specs.Bodies.{Element, Body}
 use Rattle.ctl_translate.specs.Placing.{Reading, occurs_element, at_suffix}
-use Rattle.ctl_translate.specs.Settings.{later_at}
 use Rattle.ctl_translate.specs.Sorting.{share_at, shared, shares_of}
 use Rattle.ctl_translate.specs.declared.place.Share.{Share}
 use Rattle.ctl_translate.specs.declared.place.Share.TheVariants as share

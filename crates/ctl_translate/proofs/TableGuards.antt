@@ -1,5 +1,5 @@
 -- A variable is guarded in each part of a table where each of its quantifiers is over a formula that binds it.
-use Rattle.std.proofs.Common.{◌≡◌, ℕ, ◌+◌, ◌<◌, ◌≤◌, Bool, true, false, not, ◌&&◌, ◌||◌, arith, refl, sym, ap, ◌∙◌, subst, List, [], ◌∷◌, ◌++◌, below_more}
+use Rattle.std.proofs.Common.{◌≡◌, ℕ, Bool, true, false, not, ◌&&◌, ◌||◌, refl, sym, ap, ◌∙◌, List}
 use Rattle.smpl_terms.specs.declared.var.Var.{Var}
 use Rattle.smpl_terms.specs.Vars.{same_var}
 use Rattle.smpl_terms.proofs.VarLaws.{same_var-equal}
@@ -62,10 +62,10 @@ open-bound sure fs x y j h = open-case sure fs x y j (same_var y x) refl h
 
 -- a quantifier over a formula that binds its variable leaves the others as they were
 pub kept-guarded : (sure : Surely) (fs : List Plain) (found : List Var) (i : ℕ) (n : Node) (y : Var) (j : ℕ) (b : Bool)
-    → n ≡ node.Exists y j → at fs i ≡ plain_of fs n → below i n ≡ true → b ≡ bound sure (at fs j) y → b ≡ true
+    → n ≡ node.Exists y j → at fs i ≡ plain_of fs n → below i n ≡ true → (b ≡ true → bound sure (at fs j) y ≡ true) → b ≡ true
     → (x : Var) → in_scope found x ≡ false → IsGuardedUnless sure fs found i x
 kept-guarded sure fs found i n y j b e a k q t x h = record {
   none = h;
   guarded = λ g. ap (guarded_for sure x) (a ∙ ap (plain_of fs) e)
-      ∙ guarded-node sure fs x (node.Exists y j) i (ap (below i) (sym e) ∙ k) (open-bound sure fs x y j (sym q ∙ t)) g;
+      ∙ guarded-node sure fs x (node.Exists y j) i (ap (below i) (sym e) ∙ k) (open-bound sure fs x y j (q t)) g;
 }

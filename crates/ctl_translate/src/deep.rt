@@ -62,7 +62,7 @@ fn levels_every(bs: &[Items<Elem>], after: u64) -> u64
 }
 
 /// Whether the elements alone tell that in the rule's formula too many subformulas stand around one. Linear in the
-/// elements. A body of more than 4,001 elements in a row is too long, whatever they are.
+/// elements. A body of more than 4,001 elements in a row is too long, those aside whose first branch is empty.
 pub fn is_far_too_long(rule: &Rule) -> bool
     ensures { result ≡ true → fits (rules.formula_of rule.now) ≡ false }
 {

@@ -1,7 +1,7 @@
-// Quantifiers whose parts don't bind their variables.
+// Variables that a formula is soon seen to bind.
 ghost use Rattle.std.specs.Prelude.{◌≡◌, ◌<◌, ℕ, true, false, length, IfOk, OnOk};
 ghost use Rattle.smpl_patch.specs.Patterns.{sure};
-ghost use Rattle.ctl_formula.specs.Bounds.{bound as is_bound_in, bound_not, guarded_for};
+ghost use Rattle.ctl_formula.specs.Bounds.{bound, guarded_for};
 ghost use Rattle.ctl_formula.specs.Tables.{at, plains};
 ghost use Rattle.ctl_translate.specs.Table.{in_scope};
 ghost use Rattle.ctl_translate.specs.Unbound.{AreGuarded, IsGuardedUnless};
@@ -13,12 +13,28 @@ use smpl_terms::{Var, same_var};
 use sqlite_items::Items;
 use std::alloc::Global;
 
-/// Whether the variable has a value of the graph wherever the part holds. Looks no further than it must.
+/// About how many parts are looked at before a variable is asked of the whole table.
+pub const MOST_LOOKS: u32 = 64;
+
+/// Whether it is soon seen that the variable has a value of the graph wherever the part holds. At most twice so many
+/// parts are looked at, at most so many of them one inside another. A negation is not looked into.
 #[cycle(bound)]
-pub fn is_bound(parts: &Parts, decls: &[VarDecl], tokens: &[PatToken], x: &Var, i: usize) -> bool
+pub fn is_soon_bound(
+    parts: &Parts,
+    decls: &[VarDecl],
+    tokens: &[PatToken],
+    x: &Var,
+    i: usize,
+    looks: u32,
+) -> bool
     requires { i < length parts.now }
-    ensures { result ≡ is_bound_in (sure decls.now tokens.now) (at (plains parts.now) i) x.now }
+    ensures { result ≡ true → bound (sure decls.now tokens.now) (at (plains parts.now) i) x.now ≡ true }
 {
+    if looks == 0 {
+        return false;
+    }
+    let fewer = looks - 1;
+    let half = looks / 2;
     match parts.node(i) {
         Node::True => false,
         Node::Atom(p) => is_sure(decls, tokens, p, x),
@@ -26,54 +42,28 @@ pub fn is_bound(parts: &Parts, decls: &[VarDecl], tokens: &[PatToken], x: &Var, 
         Node::Exit => false,
         Node::BraceOpen(p, b) => is_sure(decls, tokens, p, x) || same_var(b, x),
         Node::BraceClose(p, b) => is_sure(decls, tokens, p, x) || same_var(b, x),
-        Node::Not(f) => is_bound_not(parts, decls, tokens, x, *f),
+        Node::Not(_) => false,
         Node::And(f, g) => {
-            is_bound(parts, decls, tokens, x, *f) || is_bound(parts, decls, tokens, x, *g)
+            is_soon_bound(parts, decls, tokens, x, *f, half)
+                || is_soon_bound(parts, decls, tokens, x, *g, half)
         }
         Node::Or(f, g) => {
-            is_bound(parts, decls, tokens, x, *f) && is_bound(parts, decls, tokens, x, *g)
+            is_soon_bound(parts, decls, tokens, x, *f, half)
+                && is_soon_bound(parts, decls, tokens, x, *g, half)
         }
-        Node::AX(f) => is_bound(parts, decls, tokens, x, *f),
-        Node::EX(f) => is_bound(parts, decls, tokens, x, *f),
-        Node::AU(_, g) => is_bound(parts, decls, tokens, x, *g),
-        Node::EU(_, g) => is_bound(parts, decls, tokens, x, *g),
-        Node::Past(f) => is_bound(parts, decls, tokens, x, *f),
-        Node::Down(_, f) => is_bound(parts, decls, tokens, x, *f),
-        Node::Exists(y, f) => is_bound(parts, decls, tokens, x, *f) && !same_var(y, x),
+        Node::AX(f) => is_soon_bound(parts, decls, tokens, x, *f, fewer),
+        Node::EX(f) => is_soon_bound(parts, decls, tokens, x, *f, fewer),
+        Node::AU(_, g) => is_soon_bound(parts, decls, tokens, x, *g, fewer),
+        Node::EU(_, g) => is_soon_bound(parts, decls, tokens, x, *g, fewer),
+        Node::Past(f) => is_soon_bound(parts, decls, tokens, x, *f, fewer),
+        Node::Down(_, f) => is_soon_bound(parts, decls, tokens, x, *f, fewer),
+        Node::Exists(y, f) => {
+            !same_var(y, x) && is_soon_bound(parts, decls, tokens, x, *f, fewer)
+        }
     }
 }
 
-/// Whether it has one wherever the part doesn't hold.
-#[cycle(bound)]
-fn is_bound_not(parts: &Parts, decls: &[VarDecl], tokens: &[PatToken], x: &Var, i: usize) -> bool
-    requires { i < length parts.now }
-    ensures { result ≡ bound_not (sure decls.now tokens.now) (at (plains parts.now) i) x.now }
-{
-    match parts.node(i) {
-        Node::True => true,
-        Node::Atom(_) => false,
-        Node::Bail => false,
-        Node::Exit => false,
-        Node::BraceOpen(_, _) => false,
-        Node::BraceClose(_, _) => false,
-        Node::Not(f) => is_bound(parts, decls, tokens, x, *f),
-        Node::And(f, g) => {
-            is_bound_not(parts, decls, tokens, x, *f) && is_bound_not(parts, decls, tokens, x, *g)
-        }
-        Node::Or(f, g) => {
-            is_bound_not(parts, decls, tokens, x, *f) || is_bound_not(parts, decls, tokens, x, *g)
-        }
-        Node::AX(f) => is_bound_not(parts, decls, tokens, x, *f),
-        Node::EX(f) => is_bound_not(parts, decls, tokens, x, *f),
-        Node::AU(_, g) => is_bound_not(parts, decls, tokens, x, *g),
-        Node::EU(_, g) => is_bound_not(parts, decls, tokens, x, *g),
-        Node::Past(_) => false,
-        Node::Down(_, _) => false,
-        Node::Exists(y, f) => is_bound_not(parts, decls, tokens, x, *f) && !same_var(y, x),
-    }
-}
-
-/// One more variable, where the part is a quantifier of it over a formula that doesn't bind it.
+/// One more variable, where the part is a quantifier of it over a formula that isn't soon seen to bind it.
 fn push_unguarded(
     alloc: Global,
     parts: &Parts,
@@ -88,7 +78,7 @@ fn push_unguarded(
 {
     match parts.node(i) {
         Node::Exists(y, f) => {
-            if !is_bound(parts, decls, tokens, y, *f) {
+            if !is_soon_bound(parts, decls, tokens, y, *f, MOST_LOOKS) {
                 found.push(y.copy(alloc)?)?;
             }
             Ok(())
@@ -97,7 +87,7 @@ fn push_unguarded(
     }
 }
 
-/// The variables of which some quantifier in the table is over a formula that doesn't bind them.
+/// The variables of which some quantifier in the table is over a formula that isn't soon seen to bind them.
 pub fn unguarded(
     alloc: Global,
     parts: &Parts,

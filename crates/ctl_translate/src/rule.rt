@@ -10,20 +10,21 @@ ghost use Rattle.ctl_translate.specs.Placing.{any_body};
 ghost use Rattle.ctl_translate.specs.Rules as rules;
 ghost use Rattle.ctl_translate.specs.Settings.{reading_at};
 ghost use Rattle.ctl_translate.specs.Answers.{IsFormulaOf, IsFaultOf};
+ghost use Rattle.ctl_formula.specs.Binding.{binds_at};
 ghost use Rattle.ctl_formula.specs.Bounds.{bound, guarded_for};
 ghost use Rattle.ctl_translate.specs.Unbound.{AreGuardedBut};
 
 use crate::blocks::blocks;
 use crate::deep::is_far_too_long;
 use crate::follow::Made;
-use crate::guard::{is_bound, unguarded};
+use crate::guard::{MOST_LOOKS, is_soon_bound, unguarded};
 use crate::least::is_far_too_large;
 use crate::occur::stands_in_body;
 use crate::place::is_alone;
 use crate::rows::sequence;
 use crate::setting::Setting;
 use c_terms::NoMemory;
-use ctl_formula::{Formula, Parts, bounds, copy_decls, copy_tokens};
+use ctl_formula::{Binds, Formula, Parts, bounds, copy_decls, copy_tokens};
 use smpl_patch::{Elem, Mode, Rule, VarDecl, has_var};
 use smpl_terms::Var;
 use sqlite_items::Items;
@@ -162,6 +163,18 @@ fn root(alloc: Global, parts: &mut Parts, rule: &Rule) -> Result<usize, NoMemory
     sequence(alloc, parts, &m, b, None, &Made::Nothing, placed, &[])
 }
 
+/// What the rule's formula says of the variable. One pass over the table.
+fn binds(alloc: Global, parts: &Parts, root: usize, rule: &Rule, x: &Var) -> Result<Binds, NoMemory>
+    requires within { root < length parts.now }
+    requires root { at (plains parts.now) root ≡ rules.formula_of rule.now }
+    ensures { IfOk result (λ binds. binds
+        ≡ binds_at (patterns.sure rule.now.vars rule.now.tokens) x.now (rules.formula_of rule.now)) }
+{
+    let decls = rule.vars.as_slice();
+    let known = bounds(alloc, parts, decls, rule.tokens.as_slice(), x)?;
+    Ok(known[root])
+}
+
 /// Whether some quantifier of the variable in the rule's formula is over a formula that doesn't bind it.
 fn is_open(
     alloc: Global,
@@ -175,9 +188,8 @@ fn is_open(
     ensures { IfOk result (λ yes. yes ≡ not (guarded_for (patterns.sure rule.now.vars rule.now.tokens) x.now
         (rules.formula_of rule.now))) }
 {
-    let decls = rule.vars.as_slice();
-    let known = bounds(alloc, parts, decls, rule.tokens.as_slice(), x)?;
-    Ok(!known[root].guarded)
+    let binds = binds(alloc, parts, root, rule, x)?;
+    Ok(!binds.guarded)
 }
 
 /// The same of a variable of which all such quantifiers are known to be of these variables.
@@ -201,13 +213,34 @@ fn is_open_in(
     is_open(alloc, parts, root, rule, x)
 }
 
-/// Whether the variable has a value wherever the rule's formula holds.
-fn is_held(parts: &Parts, root: usize, rule: &Rule, x: &Var) -> bool
+/// Whether the variable is soon seen to have a value wherever the rule's formula holds.
+fn is_soon_held(parts: &Parts, root: usize, rule: &Rule, x: &Var) -> bool
     requires within { root < length parts.now }
     requires root { at (plains parts.now) root ≡ rules.formula_of rule.now }
-    ensures { result ≡ bound (patterns.sure rule.now.vars rule.now.tokens) (rules.formula_of rule.now) x.now }
+    ensures { result ≡ true → bound (patterns.sure rule.now.vars rule.now.tokens) (rules.formula_of rule.now) x.now ≡ true }
 {
-    is_bound(parts, rule.vars.as_slice(), rule.tokens.as_slice(), x, root)
+    let decls = rule.vars.as_slice();
+    is_soon_bound(parts, decls, rule.tokens.as_slice(), x, root, MOST_LOOKS)
+}
+
+/// Whether the variable has a value wherever the rule's formula holds.
+fn is_held(
+    alloc: Global,
+    parts: &Parts,
+    root: usize,
+    rule: &Rule,
+    x: &Var,
+) -> Result<bool, NoMemory>
+    requires within { root < length parts.now }
+    requires root { at (plains parts.now) root ≡ rules.formula_of rule.now }
+    ensures { IfOk result (λ held. held
+        ≡ bound (patterns.sure rule.now.vars rule.now.tokens) (rules.formula_of rule.now) x.now) }
+{
+    if is_soon_held(parts, root, rule, x) {
+        return Ok(true);
+    }
+    let binds = binds(alloc, parts, root, rule, x)?;
+    Ok(binds.holding)
 }
 
 fn is_unbound(
@@ -227,12 +260,13 @@ fn is_unbound(
         return Ok(false);
     }
     if has_var(rule.exports.as_slice(), &d.var) {
-        return Ok(!is_held(parts, root, rule, &d.var));
+        let held = is_held(alloc, parts, root, rule, &d.var)?;
+        return Ok(!held);
     }
     is_open_in(alloc, parts, root, rule, &d.var, suspects)
 }
 
-/// The variables of which some quantifier in the table is over a formula that doesn't bind them.
+/// The variables of which some quantifier in the table is over a formula that isn't soon seen to bind them.
 fn suspects(alloc: Global, parts: &Parts, root: usize, rule: &Rule) -> Result<Items<Var>, NoMemory>
     requires within { root < length parts.now }
     requires root { at (plains parts.now) root ≡ rules.formula_of rule.now }
@@ -241,8 +275,8 @@ fn suspects(alloc: Global, parts: &Parts, root: usize, rule: &Rule) -> Result<It
     unguarded(alloc, parts, rule.vars.as_slice(), rule.tokens.as_slice())
 }
 
-/// The first declared variable that may stay unbound. Of a variable none of whose quantifiers is over a formula that
-/// doesn't bind it, nothing more is asked.
+/// The first declared variable that may stay unbound. For those that aren't soon seen to be bound, one pass over the table
+/// each.
 fn first_unbound(
     alloc: Global,
     parts: &Parts,
@@ -276,8 +310,13 @@ fn formula(alloc: Global, parts: Parts, root: usize, rule: &Rule) -> Result<Form
     Ok(Formula::of(parts, root, decls, tokens))
 }
 
-/// The formula of a rule, with the rule's declarations and tokens. Where it is too large, that is said, whether or not
-/// it has variables that may stay unbound.
+/// The formula of a rule, with the rule's declarations and tokens.
+///
+/// [`FormulaFault::TooLarge`] comes where the formula is over a limit, whether or not it has variables that may stay unbound;
+/// [`FormulaFault::Unbound`] where it is within the limits and has such a variable; [`FormulaFault::NoMemory`] where memory
+/// was refused. Recurses once a level of nested statements, branches and `when` code. Makes what stands at several places
+/// once, but each branch of a disjunction that something follows twice; takes names times tokens besides. The table is after
+/// Brunel, Doligez, Hansen, Lawall and Muller, POPL 2009; what they leave open is this project's own.
 pub fn formula_of(alloc: Global, rule: &Rule) -> Result<Formula, FormulaFault>
     ensures formula { IfOk result (λ formula. IsFormulaOf rule.now formula) }
     ensures fault { IfErr result (λ fault. IsFaultOf rule.now fault) }

@@ -1,4 +1,4 @@
-use Rattle.std.proofs.Common.{◌≡◌, ◌<◌, ◌≤◌, ◌∙◌, arith, length, take}
+use Rattle.std.proofs.Common.{◌<◌, ◌∙◌, arith, length, take}
 use Rattle.smpl_patch.specs.Patterns.{sure}
 use Rattle.ctl_formula.specs.Tables.{plains}
 use Rattle.ctl_formula.specs.Binding.{binds_at}

@@ -1,4 +1,3 @@
-use Rattle.std.proofs.Common.{◌∙◌}
 use Rattle.smpl_patch.specs.Bodies.{body, element}
 use Rattle.ctl_translate.specs.Settings.{reading_at}
 use Rattle.ctl_translate.proofs.SortLemmas.{shares-more}

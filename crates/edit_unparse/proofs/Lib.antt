@@ -11,4 +11,5 @@ pub mod Beside
 pub mod Placing
 pub mod Loosened
 pub mod Again
+pub mod IdLemmas
 pub mod Examples

@@ -2,7 +2,7 @@
 //!
 //! - [`output`] gives it, with the ids of its tokens, as an [`Edited`].
 //! - [`OutFault`] says why there is none.
-//! - [`plain_texts_are_fair`] is a law about the texts of inserts, and does nothing.
+//! - [`plain_texts_are_fair`] and [`ids_stay_below`] are laws, about the texts of inserts and about ids, and do nothing.
 //!
 //! Of `x = a-b;`, with the `-` removed, the text is `x = a b;`. With no edits it is the text itself.
 //!
@@ -22,5 +22,5 @@ mod run;
 
 pub use draft::Edited;
 pub use fault::OutFault;
-pub use laws::plain_texts_are_fair;
+pub use laws::{ids_stay_below, plain_texts_are_fair};
 pub use place::output;

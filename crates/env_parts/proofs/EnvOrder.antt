@@ -1,25 +1,15 @@
--- The order of environments is a total one, Equal exactly at the same environments.
+-- Two environments are at one place of the order exactly where they are the same.
 use Rattle.std.proofs.Common.{◌≡◌, Bool, true, false, ◌&&◌, refl, sym, ap, ◌∙◌, [], ◌∷◌}
-use Rattle.std.proofs.lemmas.Cmp.{lists_total, on_total, then_total}
-use Rattle.std.specs.Cmp.{IsTotalOrder}
 use Rattle.std.specs.declared.cmp.Ordering.{Ordering}
 use Rattle.std.specs.declared.cmp.Ordering.TheVariants.{Less, Equal, Greater}
 use Rattle.std.specs.Ordering.{is_eq, ordering_then}
 use Rattle.smpl_terms.specs.declared.var.Var.{Var}
-use Rattle.smpl_terms.specs.declared.value.Value.{Value}
 use Rattle.smpl_terms.specs.Vars.{same_var, var_order}
 use Rattle.smpl_terms.specs.Values.{value_order}
 use Rattle.smpl_terms.proofs.VarLaws.{var_order_total, var_order-same, same_var-equal}
-use Rattle.smpl_terms.proofs.ValueLaws.{value_order_total, is_eq-value_order}
+use Rattle.smpl_terms.proofs.ValueLaws.{is_eq-value_order}
 use Rattle.std.proofs.lemmas.Cmp.{tied_itself}
 use Rattle.env_parts.specs.Parts.{Pairs, same_env, pair_order, env_order}
-
-pair_order_total : IsTotalOrder pair_order
-pair_order_total =
-    then_total (on_total (λ (p : Var × Value). p.0) var_order_total) (on_total (λ (p : Var × Value). p.1) value_order_total)
-
-pub env_order_total : IsTotalOrder env_order
-env_order_total = lists_total pair_order_total
 
 is_eq-equal : (o : Ordering) → is_eq o ≡ true → o ≡ Equal
 is_eq-equal Less h = absurd cc

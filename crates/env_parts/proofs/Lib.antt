@@ -1,4 +1,5 @@
 pub mod PartLemmas
 pub mod RisingLemmas
 pub mod EnvOrder
+pub mod PlaceLemmas
 mod Examples

@@ -1,33 +1,92 @@
-// Different environments, in the order in which they first appear.
-ghost use Rattle.std.specs.Prelude.{◌≡◌, IfOk};
-ghost use Rattle.std.specs.List.{list_any};
+// Different environments, in the order in which they first came.
+ghost use Rattle.std.specs.Prelude.{◌≡◌, [], true, IfOk, IsSomeAnd, slice_get};
 ghost use Rattle.env_parts.specs.Parts as of;
+ghost use Rattle.env_parts.specs.Places.{place_in};
 
-use crate::parts::same_env;
+use crate::key::Key;
 use c_terms::NoMemory;
 use smpl_terms::Env;
 use sqlite_items::Items;
+use std::alloc::Global;
+use std::collections::BTreeMap;
+use std::marker::Model;
 
-/// Whether one of the environments is the same. Linear, and takes no memory.
-pub fn is_seen(seen: &[Env], env: &Env) -> bool
-    ensures value { result ≡ list_any (of.same_env env.now) seen.now }
-{
-    for other in seen {
-        if same_env(env, other) {
-            return true;
-        }
-    }
-    false
+/// Environments, each once, in the order in which they first came. Contracts see the list.
+#[derive(Drop)]
+pub struct DistinctEnvs {
+    envs: Items<Env>,
+    places: BTreeMap<Key, usize>,
 }
 
-/// The environments, and this one after them unless it is there. Linear.
-pub fn with_new(seen: Items<Env>, env: Env) -> Result<Items<Env>, NoMemory>
-    ensures envs { IfOk result (λ now. now ≡ of.with_new seen env) }
-{
-    let mut seen = seen;
-    if is_seen(seen.as_slice(), &env) {
-        return Ok(seen);
+impl Model for DistinctEnvs {
+    ghost use Rattle.std.specs.Coded.{codes};
+    ghost use Rattle.c_terms.specs.contracts.tree.Tree as tree;
+    ghost use Rattle.std.specs.Prelude.{List};
+    ghost use Rattle.env_parts.specs.Parts.{Pairs};
+    ghost use Rattle.env_parts.specs.Places.{ArePlaces};
+
+    ghost Value = { List Pairs };
+
+    ghost coded = { Prim.hlevel (codes, tree.the_row.coded) };
+
+    ghost view = { λ a. a.envs };
+
+    ghost invariant = { λ a. ArePlaces a.places.entries a.envs };
+}
+
+/// Different environments, and the place of one of them.
+#[derive(Drop)]
+pub struct Placed {
+    pub envs: DistinctEnvs,
+    pub place: usize,
+}
+
+impl DistinctEnvs {
+    /// No environments. Takes no memory.
+    pub fn new(alloc: Global) -> DistinctEnvs
+        ensures envs { result ≡ [] }
+    {
+        DistinctEnvs {
+            envs: Items::new(alloc),
+            places: BTreeMap::new(alloc),
+        }
     }
-    seen.push(env)?;
-    Ok(seen)
+
+    fn place(&self, key: &Key) -> Option<usize>
+        ensures { result ≡ place_in key.now.env self.now }
+    {
+        self.places.get(key).copied()
+    }
+
+    /// The environments, and this one after them unless it is there; and its place among them. Costs a look-up in a search
+    /// tree, which compares with as many environments as the tree is deep.
+    pub fn with(self, alloc: Global, env: Env) -> Result<Placed, NoMemory>
+        ensures envs { IfOk result (λ r. r.envs ≡ of.with_new self env) }
+        ensures place { IfOk result (λ r. IsSomeAnd (slice_get r.envs r.place) (λ e. of.same_env env e ≡ true)) }
+    {
+        let key = Key {
+            env: env.copy(alloc)?,
+        };
+        if let Some(place) = self.place(&key) {
+            return Ok(Placed { envs: self, place });
+        }
+        let DistinctEnvs {
+            mut envs,
+            mut places,
+        } = self;
+        let place = envs.len();
+        places.insert(key, place)?;
+        envs.push(env)?;
+        Ok(Placed {
+            envs: DistinctEnvs { envs, places },
+            place,
+        })
+    }
+
+    /// The environments, in that order.
+    pub fn into_envs(self) -> Items<Env>
+        ensures envs { result ≡ self }
+    {
+        self.envs
+    }
 }

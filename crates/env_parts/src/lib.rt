@@ -2,9 +2,10 @@
 #![tactic(auto)]
 
 mod distinct;
+mod key;
 mod order;
 mod parts;
 
-pub use distinct::{is_seen, with_new};
+pub use distinct::{DistinctEnvs, Placed};
 pub use order::{env_order, environments_are_ordered};
 pub use parts::{is_among, joined, restricted, same_env};

@@ -4,7 +4,6 @@ use Rattle.std.proofs.lemmas.List.{drop_more, drop_all}
 use Rattle.std.specs.Prelude.{Bool}
 use Rattle.c_terms.specs.declared.token.Token.{Token}
 use Rattle.c_rows.specs.declared.class.Class.{Class}
-use Rattle.c_rows.specs.declared.class.Class.TheVariants as class
 use Rattle.c_rows.specs.declared.turn.Turn.{Turn}
 use Rattle.c_rows.specs.declared.turn.Turn.TheVariants as turns
 use Rattle.c_rows.specs.Words.{ends_member}

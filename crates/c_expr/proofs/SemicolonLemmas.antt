@@ -54,9 +54,3 @@ pub branches_start : (tokens : List Token) (items : List Bool) → items ≡ [] 
 branches_start tokens items e =
     subst (λ (xs : List Bool). TellsBranches (reverse xs) (drop (length tokens) tokens)) (sym e)
     (subst (λ (ts : List Token). TellsBranches [] ts) (sym (drop_all (length tokens) tokens (omega arith))) (λ d. sym (semicolon-none d)))
-
--- what the answer for no open group says of the rest
-pub branch_here : (bs : List Bool) (tokens rest : List Token) (i : ℕ) (b : Bool) → 0 < i → b ≡ flag_at bs 0 → rest ≡ drop (i - 1 + 1) tokens → TellsBranches bs (drop i tokens) → b ≡ has_semicolon 0 rest
-branch_here bs tokens rest i b pos f r h =
-    let up : i ≡ i - 1 + 1 = omega arith in
-    f ∙ h 0 ∙ ap (λ (k : ℕ). has_semicolon 0 (drop k tokens)) up ∙ ap (has_semicolon 0) (sym r)

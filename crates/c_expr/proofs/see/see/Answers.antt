@@ -2,7 +2,7 @@ use Rattle.std.proofs.Common.{◌≡◌, ◌-◌, drop, reverse, arith}
 use Rattle.std.proofs.lemmas.Grind.{common_steps}
 use Rattle.c_rows.specs.Look.{look}
 use Rattle.c_expr.proofs.EndsLemmas.{Tells, tells_start, tells_next, ends_here}
-use Rattle.c_expr.proofs.SemicolonLemmas.{branches_start, branches_next, branch_here}
+use Rattle.c_expr.proofs.SemicolonLemmas.{branches_start, branches_next}
 use Rattle.c_expr.proofs.SightLemmas.{sight_start, sight_turn, sight_next, look_end, same_length}
 use Rattle.c_expr.proofs.see.see.Goals as goal
 
@@ -29,12 +29,12 @@ loop-i-preserved c =
       fits = omega (arith, c.loop-i.invariant.fits);
       next = next;
       ends = ends;
-      branches = branches_next c.args.tokens.now c.loop-i.i c.index-tokens-i-in-loop-i.result c.group_at.result (reverse c.loop-i.semicolons.flags.items) (reverse c.pass-in-loop-i.new.self.flags.items) c.loop-i.invariant.fits c.loop-i-test.true
-          c.index-tokens-i-in-loop-i.is c.group_at.ensures.value c.in_ok-pass-in-loop-i.ensures c.loop-i.invariant.branches;
-      right = sight_turn c.args.names.now c.args.tokens.now _ c.loop-i.seen.items c.loop-i.i c.index-tokens-i.result c.index-tokens-i-in-loop-i.result c.index-tokens-i-in-loop-i-2.result c.look-next.result c.loop-i.next c.new.result
+      branches = branches_next c.args.tokens.now c.loop-i.i c.index-tokens-i-in-loop-i.result c.group_at.result (reverse c.loop-i.semicolons.flags.items) (reverse c.pass-in-loop-i.new.self.flags.items) c.loop-i-test.true c.loop-i.invariant.fits
+          c.index-tokens-i-in-loop-i.is c.group_at.ensures.value c.in_ok-pass-2.ensures c.loop-i.invariant.branches;
+      right = sight_turn c.args.names.now c.args.tokens.now _ c.loop-i.seen.items c.loop-i.i c.index-tokens-i.result c.index-tokens-i-in-loop-i-2.result c.index-tokens-i-in-loop-i-3.result c.look-next.result c.loop-i.next c.new.result
           c.new-in-loop-i.result c.in_ok-typed.typed c.leads_before-leads.result c.ends_member.result _
-          c.loop-i.invariant.even c.loop-i.invariant.fits c.loop-i-test.true c.index-tokens-i.is c.index-tokens-i-in-loop-i.is c.index-tokens-i-in-loop-i-2.is (grind (arith, common_steps)) c.look-next.ensures.value
+          c.loop-i.invariant.even c.loop-i.invariant.fits c.loop-i-test.true c.index-tokens-i.is c.index-tokens-i-in-loop-i-2.is c.index-tokens-i-in-loop-i-3.is (grind (arith, common_steps)) c.look-next.ensures.value
           c.loop-i.invariant.next c.new.ensures.value c.new-in-loop-i.ensures.value (grind (arith, common_steps))
-          (ends_here c.args.names.now (reverse c.pass.new.self.classes.items) (drop (c.loop-i.i - 1) c.args.tokens.now) c.ends_member.result c.nearest.result c.ends_member.ensures.value c.nearest.ensures ends)
+          (ends_here c.args.names.now (reverse c.pass.new.self.classes.items) (drop (c.loop-i.i - 1) c.args.tokens.now) c.ends_member.result c.nearest-in-loop-i.result c.ends_member.ensures.value c.nearest-in-loop-i.ensures ends)
           c.in_ok-typed.ensures.value c.leads_before-leads.ensures c.loop-i.invariant.right;
     }

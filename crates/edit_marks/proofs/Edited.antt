@@ -9,7 +9,7 @@ use Rattle.smpl_patch.specs.declared.pattern.PatToken.{PatToken}
 use Rattle.edit_marks.specs.declared.mark.Aligned.{Aligned}
 use Rattle.smpl_patch.specs.declared.pattern.PlusBlock.{PlusBlock}
 use Rattle.edit_marks.specs.declared.spot.PlusSpot.{PlusSpot}
-use Rattle.edit_marks.specs.declared.touch.FileToken.{FileToken}
+use Rattle.edit_marks.specs.declared.tokens.FileToken.{FileToken}
 use Rattle.edit_marks.specs.Blocks.{Environment, last_of_lines, block_ends}
 use Rattle.edit_marks.specs.Plain.{AreSpaces, AreSoundLines}
 use Rattle.edit_marks.specs.Edits.{block_of, anchor_of, insert_if, inserts_at, HaveSoundBlocks, HaveBlankIndents, ArePlainInserts, EditOf}

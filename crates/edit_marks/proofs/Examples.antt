@@ -2,6 +2,8 @@
 use Rattle.std.specs.Prelude.{◌≡◌, ℕ, Bool, true, false, List, [], ◌∷◌, ◌++◌, Option, None, Some, refl, codes}
 use Rattle.c_terms.specs.declared.token.Token.{Token}
 use Rattle.c_terms.specs.declared.token.TokenKind.TheVariants.{Name, Punct}
+use Rattle.c_lexer.specs.declared.piece.PieceKind.TheVariants.{Word, Blank}
+use Rattle.c_lexer.specs.Pieces.{TextPiece}
 use Rattle.c_show.specs.Joint.{runs_together}
 use Rattle.smpl_patch.specs.declared.pattern.PlusLine.{PlusLine}
 use Rattle.smpl_patch.specs.declared.pattern.PlusBlock.{PlusBlock}
@@ -9,6 +11,7 @@ use Rattle.edit_marks.specs.declared.insert.Anchor.TheVariants.{Removed, AfterLi
 use Rattle.edit_marks.specs.Blocks.{block_text, block_ends}
 use Rattle.edit_marks.specs.Inserts.{insert_of, indent_at}
 use Rattle.edit_marks.specs.Edits.{anchor_of}
+use Rattle.edit_marks.specs.Tokens.{file_tokens}
 
 abbrev word : List ℕ → Token
 word text = record { kind = Name; text = text; id = 0 }
@@ -60,3 +63,13 @@ indent = refl
 
 at_a_newline : indent_at (codes "  a" ++ 10 ∷ 9 ∷ codes "b") 3 ≡ codes "  "
 at_a_newline = refl
+
+-- `a`, a newline and a tab, `b ;`: the tokens of the second line share its tab
+two_lines : List TextPiece
+two_lines =
+    record { kind = Word Name 0; text = codes "a" } ∷ record { kind = Blank; text = 10 ∷ 9 ∷ [] } ∷ record { kind = Word Name 1; text = codes "b" }
+    ∷ record { kind = Blank; text = codes " " } ∷ record { kind = Word Punct 2; text = codes ";" } ∷ []
+
+by_lines : file_tokens two_lines ≡ record { text = codes "a"; indent = [] } ∷ record { text = codes "b"; indent = 9 ∷ [] } ∷ record { text = codes ";"; indent = 9 ∷ [] } ∷ []
+unfolding two_lines
+by_lines = refl

@@ -1,6 +1,9 @@
 pub mod BlankAfter
 pub mod Edited
+pub mod EvenLemmas
 pub mod Lines
+pub mod OneEdit
 pub mod Rows
 pub mod Sound
+pub mod TokenLemmas
 pub mod Examples

@@ -14,7 +14,7 @@ use Rattle.smpl_patch.specs.declared.pattern.PatToken.{PatToken}
 use Rattle.edit_marks.specs.declared.mark.Aligned.{Aligned}
 use Rattle.smpl_patch.specs.declared.pattern.PlusBlock.{PlusBlock}
 use Rattle.edit_marks.specs.declared.spot.PlusSpot.{PlusSpot}
-use Rattle.edit_marks.specs.declared.touch.FileToken.{FileToken}
+use Rattle.edit_marks.specs.declared.tokens.FileToken.{FileToken}
 use Rattle.edit_marks.specs.Blocks.{Environment, block_text, last_of_lines, block_ends, ends_line, AreEven}
 use Rattle.edit_marks.specs.Inserts.{insert_of}
 use Rattle.c_show.specs.PlainText.{IsPlainText}

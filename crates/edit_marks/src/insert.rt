@@ -1,5 +1,5 @@
 // The text that a block of plus code puts in at its anchor.
-ghost use Rattle.std.specs.Prelude.{◌≡◌, ◌≤◌, ◌++◌, length, IfOk, None};
+ghost use Rattle.std.specs.Prelude.{◌≡◌, ◌≤◌, ◌++◌, length, take, IfOk, None};
 ghost use Rattle.std.specs.List.{prefix_len};
 ghost use Rattle.c_show.specs.PlainText.{IsPlainText};
 ghost use Rattle.edit_marks.specs.Blocks.{block_text, last_of_lines, block_ends, ends_line, AreEven};
@@ -107,7 +107,13 @@ pub fn indent_at(bytes: &[u8], at: usize) -> &[u8]
     requires { at ≤ length bytes.now }
     ensures { result.now ≡ indent_at bytes.now at }
 {
-    let line = &bytes[line_start(bytes, at)..];
+    blanks(&bytes[line_start(bytes, at)..])
+}
+
+/// The spaces and tabs that begin a line.
+pub fn blanks(line: &[u8]) -> &[u8]
+    ensures { result.now ≡ take (prefix_len is_blank line.now) line.now }
+{
     &line[..blank_count(line)]
 }
 
@@ -119,7 +125,7 @@ fn blank_count(line: &[u8]) -> usize
 }
 
 /// Where the line of a place begins.
-fn line_start(bytes: &[u8], at: usize) -> usize
+pub fn line_start(bytes: &[u8], at: usize) -> usize
     requires { at ≤ length bytes.now }
     ensures value { result ≡ line_start bytes.now at }
     ensures within { result ≤ at }

@@ -4,7 +4,10 @@
 //!   ([`Aligned`]), under an environment that gives the metavariables their terms.
 //! - Its parts: [`removed_tokens`], the places of plus code ([`spots`], [`PlusSpot`]), and [`insert_text`], the text of
 //!   a block at its [`Anchor`].
+//! - [`FileTokens`] gives the file's tokens by their numbers, each with the blanks that begin its line ([`FileToken`]).
+//! - [`have_even_blocks`] tests what [`edit_of`] asks of plus code.
 //! - [`indent_at`] gives the blanks that begin a line, and [`ends_line`] says after which tokens a new line begins.
+//! - [`alignment_has_one_edit`] is a law, and does nothing.
 //!
 //! With `+ b();` anchored after a kept `a();` in a line that begins with a tab, the text is a newline, a tab and
 //! `b();`. In the place of a removed `a();` it is `b();` alone.
@@ -16,14 +19,20 @@
 #![tactic(auto)]
 
 mod block;
+mod even;
 mod insert;
+mod laws;
 mod line;
 mod mark;
 mod spot;
+mod tokens;
 mod touch;
 mod values;
 
+pub use even::have_even_blocks;
 pub use insert::{Anchor, ends_line, indent_at, insert_text};
+pub use laws::alignment_has_one_edit;
 pub use mark::{Aligned, removed_tokens};
 pub use spot::{PlusSpot, spots};
-pub use touch::{FileToken, edit_of};
+pub use tokens::{FileToken, FileTokens};
+pub use touch::edit_of;

@@ -6,6 +6,7 @@ ghost use Rattle.edit_marks.specs.Edits.{HaveEvenBlocks, HaveSoundBlocks, HaveBl
 use crate::insert::{Anchor, ends_line, insert_text};
 use crate::mark::{Aligned, removed_tokens};
 use crate::spot::{PlusSpot, spots};
+use crate::tokens::{FileToken, FileTokens};
 use c_terms::{NoMemory, Text};
 use edit_conflict::{Edit, Insert, Side};
 use smpl_patch::{PatToken, PlusBlock, VarDecl};
@@ -13,20 +14,13 @@ use smpl_terms::Env;
 use sqlite_items::Items;
 use std::alloc::Global;
 
-/// A token of the file: its text, and the blanks that begin its line.
-#[derive(Drop)]
-pub struct FileToken {
-    pub text: Text,
-    pub indent: Text,
-}
-
 /// The edit that an alignment gives.
 pub fn edit_of(
     alloc: Global,
     decls: &[VarDecl],
     tokens: &[PatToken],
     env: &Env,
-    files: &[FileToken],
+    files: &FileTokens<'_>,
     pairs: &[Aligned],
 ) -> Result<Edit, NoMemory>
     requires { HaveEvenBlocks tokens.now }
@@ -43,7 +37,7 @@ fn edit_at(
     decls: &[VarDecl],
     tokens: &[PatToken],
     env: &Env,
-    files: &[FileToken],
+    files: &FileTokens<'_>,
     pairs: &[Aligned],
 ) -> Result<Edit, NoMemory>
     requires { HaveEvenBlocks tokens.now }
@@ -63,7 +57,7 @@ fn inserts_at(
     decls: &[VarDecl],
     tokens: &[PatToken],
     env: &Env,
-    files: &[FileToken],
+    files: &FileTokens<'_>,
     removed: &[u32],
     spots: &[PlusSpot],
 ) -> Result<Vec<Insert>, NoMemory>
@@ -92,7 +86,7 @@ fn push_insert(
     decls: &[VarDecl],
     tokens: &[PatToken],
     env: &Env,
-    files: &[FileToken],
+    files: &FileTokens<'_>,
     removed: &[u32],
     spot: &PlusSpot,
     inserts: &mut Vec<Insert>,
@@ -112,7 +106,7 @@ fn push_block(
     alloc: Global,
     decls: &[VarDecl],
     env: &Env,
-    files: &[FileToken],
+    files: &FileTokens<'_>,
     removed: &[u32],
     spot: &PlusSpot,
     block: &PlusBlock,
@@ -123,8 +117,8 @@ fn push_block(
         ++ insert_if decls.now env.now removed.now spot.now (Some block.now)
         (slice_get files.now spot.now.token)) }
 {
-    match files.get(spot.token as usize) {
-        Some(file) => push_at_token(alloc, decls, env, removed, spot, block, file, inserts),
+    match files.get(alloc, spot.token)? {
+        Some(file) => push_at_token(alloc, decls, env, removed, spot, block, &file, inserts),
         None => Ok(()),
     }
 }

@@ -16,14 +16,15 @@ use Rattle.edit_conflict.specs.Same.{same_edit}
 use Rattle.edit_conflict.specs.Once.{once, with_edit}
 use Rattle.edit_marks.specs.declared.mark.Aligned.{Aligned}
 use Rattle.edit_marks.specs.declared.spot.PlusSpot.{PlusSpot}
-use Rattle.edit_marks.specs.declared.touch.FileToken.{FileToken}
+use Rattle.edit_marks.specs.declared.tokens.FileToken.{FileToken}
 use Rattle.edit_marks.specs.Blocks.{Environment}
 use Rattle.edit_marks.specs.Inserts.{indent_at}
 use Rattle.edit_marks.specs.Removals.{is_minus_at, minus_tokens}
 use Rattle.edit_marks.specs.Edits.{block_of, insert_if, inserts_at, EditOf}
 use Rattle.pat_pairs.specs.declared.pairs.AlignedToken.{AlignedToken}
 use Rattle.edit_walk.specs.Touches.{Touched}
-use Rattle.edit_walk.specs.Tokens.{token_of, tokens_from, file_tokens, number_of}
+use Rattle.edit_marks.specs.Tokens.{token_of, tokens_from, file_tokens}
+use Rattle.edit_walk.specs.Keys.{number_of}
 use Rattle.edit_walk.specs.Named.{numbered, pairs_of}
 use Rattle.edit_walk.specs.Fit.{FitsText, AreInOrder}
 use Rattle.edit_walk.proofs.NumberLemmas.{number_within}

@@ -9,4 +9,5 @@ pub mod SiteLemmas
 pub mod OrderLemmas
 pub mod FitLemmas
 pub mod PlainLemmas
+pub mod OneList
 mod Examples

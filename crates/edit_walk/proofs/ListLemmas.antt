@@ -1,16 +1,7 @@
--- Lists from a place on, and up to it.
+-- Lists up to a place, and loops that put what each member gives behind a list.
 use Rattle.std.proofs.Common.{◌≡◌, ◌<◌, ◌≤◌, ◌+◌, ℕ, zero, suc, sym, ap, ◌∙◌, add-one, List, [], ◌∷◌, ◌++◌, length, drop, take, get_or, append_assoc}
 use Rattle.std.proofs.lemmas.List.{drop_more, drop_all, append-nil}
 use Rattle.std.specs.Prelude.{Some, slice_get}
-
-from_place : {A : Type 0} (xs : List A) (i : ℕ) (x : A) → slice_get xs i ≡ Some x → drop i xs ≡ x ∷ drop (suc i) xs
-from_place [] i x at = absurd cc
-from_place (y ∷ ys) zero x at = let same : y ≡ x = cc in ap (λ z. z ∷ ys) same
-from_place (y ∷ ys) (suc i) x at = from_place ys i x at
-
--- the member at a place, and those behind it
-pub drop_here : {A : Type 0} (xs : List A) (i : ℕ) (x : A) → slice_get xs i ≡ Some x → drop i xs ≡ x ∷ drop (i + 1) xs
-drop_here xs i x at = from_place xs i x at ∙ ap (λ n. x ∷ drop n xs) (sym (add-one i))
 
 up_to : {A : Type 0} (xs : List A) (i : ℕ) (x : A) → slice_get xs i ≡ Some x → take (suc i) xs ≡ take i xs ++ x ∷ []
 up_to [] i x at = absurd cc

@@ -1,11 +1,12 @@
 -- Numbers of keys.
-use Rattle.std.proofs.Common.{◌≡◌, ◌+◌, ◌<◌, ℕ, Bool, true, false, cond, ap, subst, arith, List, [], ◌∷◌, length, drop, get_or}
+use Rattle.std.proofs.Common.{◌≡◌, ◌+◌, ◌<◌, ℕ, Bool, true, false, cond, sym, ap, subst, ◌∙◌, arith, List, [], ◌∷◌, length, drop, get_or}
 use Rattle.std.proofs.lemmas.List.{drop_more}
 use Rattle.std.specs.Prelude.{Option, Some, IfSome, eqb}
 use Rattle.std.specs.List.{position_from}
-use Rattle.edit_walk.specs.Tokens.{number_of}
+use Rattle.edit_walk.specs.Keys.{number_of}
+use Rattle.edit_walk.specs.Numbered.{with_number}
 
-pub from_here : (test : ℕ → Bool) (keys : List ℕ) (i : ℕ) → i < length keys
+from_here : (test : ℕ → Bool) (keys : List ℕ) (i : ℕ) → i < length keys
     → position_from test i (drop i keys) ≡ cond (test (get_or keys i 0)) (Some i) (position_from test (i + 1) (drop (i + 1) keys))
 from_here test keys i lt = ap (position_from test i) (drop_more keys i 0 lt)
 
@@ -26,3 +27,8 @@ number_within keys key =
     let e : 0 + length keys ≡ length keys = omega arith in
     let P : ℕ → Type 0 = λ m. IfSome (number_of keys key) (λ n. n < m) in
     subst P e (found_within (λ k. eqb k key) 0 keys)
+
+-- one key more, before the others
+pub one_earlier : (keys : List ℕ) (i key : ℕ) (old new : Option ℕ) → i < length keys → new ≡ with_number (get_or keys i 0) i key old
+    → old ≡ position_from (λ k. eqb k key) (i + 1) (drop (i + 1) keys) → new ≡ position_from (λ k. eqb k key) i (drop i keys)
+one_earlier keys i key old new lt is h = is ∙ ap (cond (eqb (get_or keys i 0) key) (Some i)) h ∙ sym (from_here (λ k. eqb k key) keys i lt)

@@ -4,10 +4,7 @@ use Rattle.std.specs.Prelude.{Option, None, Some, All, slice_get}
 use Rattle.std.specs.Ordering.{is_lt, ordering_then, nat_cmp}
 use Rattle.std.specs.declared.cmp.Ordering.{Ordering}
 use Rattle.std.specs.declared.cmp.Ordering.TheVariants.{Less, Equal, Greater}
-use Rattle.std.specs.Cmp.{IsTotalOrder, nat_cmp_total, on_total, then_total}
 use Rattle.std.specs.List.Sorted.{IsSortedBy}
-use Rattle.std.proofs.lemmas.List.Sorted.{sorted_far}
-use Rattle.std.proofs.lemmas.List.MinMax.{ranks_by}
 use Rattle.std.proofs.lemmas.List.Elements.{All-nil, All-cons, All-head, All-tail, All-append}
 use Rattle.smpl_patch.specs.declared.pattern.VarDecl.{VarDecl}
 use Rattle.smpl_patch.specs.declared.pattern.PatToken.{PatToken}
@@ -15,27 +12,12 @@ use Rattle.smpl_patch.specs.declared.pattern.PlusBlock.{PlusBlock}
 use Rattle.edit_conflict.specs.declared.edit.Insert.{Insert}
 use Rattle.edit_conflict.specs.Same.{side_number}
 use Rattle.edit_marks.specs.declared.spot.PlusSpot.{PlusSpot}
-use Rattle.edit_marks.specs.declared.touch.FileToken.{FileToken}
+use Rattle.edit_marks.specs.declared.tokens.FileToken.{FileToken}
 use Rattle.edit_marks.specs.Blocks.{Environment}
 use Rattle.edit_marks.specs.Spots.{side, spot_order}
 use Rattle.edit_marks.specs.Edits.{side_of, block_of, insert_of_block, insert_if, inserts_at}
+use Rattle.edit_marks.proofs.OneEdit.{AreRising, rising}
 use Rattle.edit_walk.specs.Fit.{insert_order, AreInOrder}
-
-spot_total : IsTotalOrder spot_order
-spot_total = then_total (then_total (on_total (λ s. s.token) nat_cmp_total) (on_total (λ s. side s.after) nat_cmp_total)) (on_total (λ s. s.pattern) nat_cmp_total)
-
--- each is before no earlier one
-abbrev AreRising : List PlusSpot → Type 0
-AreRising [] = Unit {0}
-AreRising (s ∷ spots) = All (λ t. is_lt (spot_order t s) ≡ false) spots × AreRising spots
-
-rising_by : (spots : List PlusSpot) → ((i j : ℕ) (d : PlusSpot) → i ≤ j → j < length spots → is_lt (spot_order (get_or spots j d) (get_or spots i d)) ≡ false) → AreRising spots
-rising_by [] far = tt
-rising_by (s ∷ spots) far =
-    ((λ k d less. far 0 (suc k) d (omega arith) (omega (arith, less))), rising_by spots (λ i j d le less. far (suc i) (suc j) d (omega (arith, le)) (omega (arith, less))))
-
-rising : (spots : List PlusSpot) → IsSortedBy (λ a b. is_lt (spot_order a b)) spots → AreRising spots
-rising spots up = rising_by spots (sorted_far (λ a b. is_lt (spot_order a b)) (ranks_by spot_total (λ s. s)) spots up)
 
 first_not_less : (o p : Ordering) → is_lt (ordering_then o p) ≡ false → is_lt o ≡ false
 first_not_less Less p e = e

@@ -7,11 +7,11 @@ use Rattle.c_lexer.specs.declared.piece.PieceKind.{PieceKind}
 use Rattle.c_lexer.specs.declared.piece.PieceKind.TheVariants.{Word, Blank, Comment, Line}
 use Rattle.c_lexer.specs.Pieces.{TextPiece, text_of}
 use Rattle.c_lexer.specs.Words.{is_space}
-use Rattle.edit_marks.specs.declared.touch.FileToken.{FileToken}
+use Rattle.edit_marks.specs.declared.tokens.FileToken.{FileToken}
 use Rattle.edit_marks.specs.Inserts.{is_blank, line_start, indent_at}
 use Rattle.edit_marks.specs.Plain.{AreSpaces}
 use Rattle.edit_marks.specs.Edits.{HaveBlankIndents}
-use Rattle.edit_walk.specs.Tokens.{token_of, tokens_from, file_tokens}
+use Rattle.edit_marks.specs.Tokens.{token_of, tokens_from, file_tokens}
 
 space_by : (b : ℕ) (x : Bool) → (x || (b == 9)) ≡ true → (x || (nat_le 9 b && nat_le b 13)) ≡ true
 space_by b true e = refl

@@ -15,9 +15,9 @@ use Rattle.smpl_patch.specs.Shapes.{patterns_body}
 use Rattle.edit_conflict.specs.declared.edit.Edit.{Edit}
 use Rattle.edit_conflict.specs.Once.{once}
 use Rattle.edit_marks.specs.Edits.{EditOf}
-use Rattle.edit_marks.specs.declared.touch.FileToken.{FileToken}
+use Rattle.edit_marks.specs.declared.tokens.FileToken.{FileToken}
 use Rattle.edit_walk.specs.Touches.{Touched, touches}
-use Rattle.edit_walk.specs.Tokens.{file_tokens}
+use Rattle.edit_marks.specs.Tokens.{file_tokens}
 use Rattle.edit_walk.specs.Named.{pairs_at}
 
 -- The edit of a touch: that of the alignment which the touch names, and without one the empty edit.

@@ -1,7 +1,7 @@
--- What contracts rest on, in reading order: the touches of witnesses, the tokens of a text, what a touch names, the
--- edits, and what the text asks of them.
+-- What contracts rest on, in reading order: the touches of witnesses, numbers of keys, what a touch names, the edits, and
+-- what the text asks of them.
 pub mod Touches
-pub mod Tokens
+pub mod Keys
 pub mod Named
 pub mod Edited
 pub mod Fit

@@ -14,7 +14,7 @@ use Rattle.pat_pairs.specs.declared.pairs.AlignedToken.{AlignedToken}
 use Rattle.pat_pairs.specs.Pairs.{aligned_tokens}
 use Rattle.edit_marks.specs.declared.mark.Aligned.{Aligned}
 use Rattle.edit_walk.specs.Touches.{Touched}
-use Rattle.edit_walk.specs.Tokens.{number_of}
+use Rattle.edit_walk.specs.Keys.{number_of}
 
 -- the pattern of a number, the first where several have it
 abbrev pub pattern_of : List Pattern → ℕ → Option Pattern

@@ -1,7 +1,7 @@
 // Alignments by the numbers of tokens.
 ghost use Rattle.std.specs.Prelude.{◌≡◌, ◌≤◌, ◌^◌, ◌++◌, IfOk, OnOk, length};
 ghost use Rattle.std.specs.List.{filter_map, flat_map};
-ghost use Rattle.edit_walk.specs.Tokens.{number_of};
+ghost use Rattle.edit_walk.specs.Keys.{number_of};
 ghost use Rattle.edit_walk.specs.Named.{numbered};
 
 use crate::numbers::Numbers;

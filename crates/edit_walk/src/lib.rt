@@ -2,6 +2,7 @@
 //!
 //! - [`edits`] gives the edits of witnesses, one a touch, in the order of the touches, of equal ones the first.
 //! - [`node_kinds`] gives what the nodes of a graph are, which is all that [`edits`] asks of the graphs of the items.
+//! - [`witnesses_have_one_list`] is a law, that their definition allows one list of edits, and does nothing.
 //!
 //! Of `f(E)` with its `f` marked by `-`, touched at node 2 under a bind of `E`, the edit removes the `f` there. A touch that
 //! is met again under the same values gives the same edit, which counts once.
@@ -18,6 +19,7 @@
 
 mod aligned;
 mod kinds;
+mod laws;
 mod numbers;
 mod patterns;
 mod site;
@@ -26,4 +28,5 @@ mod touch;
 mod walk;
 
 pub use kinds::node_kinds;
+pub use laws::witnesses_have_one_list;
 pub use walk::edits;

@@ -1,7 +1,7 @@
 // Keys by their numbers in a list.
-ghost use Rattle.std.specs.Prelude.{◌≡◌, ◌<◌, ◌≤◌, IfOk, IfSome, length};
-ghost use Rattle.edit_walk.specs.Tokens.{number_of};
-ghost use Rattle.edit_walk.specs.Numbered.{IsTable};
+ghost use Rattle.std.specs.Prelude.{◌≡◌, ◌<◌, ◌≤◌, ℕ, Some, IfOk, IfSome, OnOk, length};
+ghost use Rattle.edit_walk.specs.Keys.{number_of};
+ghost use Rattle.edit_walk.specs.Numbered.{IsTable, found, number_in, with_number};
 
 use c_terms::NoMemory;
 use std::alloc::Global;
@@ -12,7 +12,7 @@ use std::marker::Model;
 #[derive(Drop)]
 pub struct Numbers {
     keys: Vec<u64>,
-    places: HashMap<u64, usize>,
+    places: Places,
 }
 
 impl Model for Numbers {
@@ -27,7 +27,7 @@ impl Model for Numbers {
 }
 
 impl Numbers {
-    /// A table of these keys. Linear.
+    /// A table of these keys. Linear; those below twice their number are not hashed.
     pub fn of(alloc: Global, keys: Vec<u64>) -> Result<Numbers, NoMemory>
         ensures keys { IfOk result (λ numbers. numbers ≡ keys.items) }
     {
@@ -47,18 +47,66 @@ impl Numbers {
     fn look_up(&self, key: u64) -> Option<usize>
         ensures { result ≡ number_of self.now key }
     {
-        self.places.get(&key).copied()
+        self.places.get(key)
     }
 }
 
-fn places_of(alloc: Global, keys: &[u64]) -> Result<HashMap<u64, usize>, NoMemory>
-    ensures { IfOk result (λ places. IsTable keys.now places) }
+/// Numbers below `count`, by keys.
+#[derive(Drop)]
+pub struct Places {
+    count: usize,
+    /// By key, for small ones. `count` stands for none.
+    low: Vec<usize>,
+    /// For all other keys.
+    high: HashMap<u64, usize>,
+}
+
+impl Places {
+    fn get(&self, key: u64) -> Option<usize>
+        ensures { result ≡ found self.now key }
+    {
+        if key < self.low.len() as u64 {
+            number_in(self.count, self.low[key as usize])
+        } else {
+            self.high.get(&key).copied()
+        }
+    }
+
+    /// Gives a key a number.
+    fn put(&mut self, key: u64, number: usize) -> Result<(), NoMemory>
+        requires { number < self.old.count }
+        ensures count { OnOk result (self.new.count ≡ self.old.count) }
+        ensures found { OnOk result ((k : ℕ) →
+            found self.new k ≡ with_number key number k (found self.old k)) }
+    {
+        if key < self.low.len() as u64 {
+            self.low[key as usize] = number;
+        } else {
+            self.high.insert(key, number)?;
+        }
+        Ok(())
+    }
+}
+
+fn number_in(count: usize, number: usize) -> Option<usize>
+    ensures { result ≡ number_in count number }
 {
-    let mut places = HashMap::new(alloc);
-    let mut at = keys.len();
+    if number < count { Some(number) } else { None }
+}
+
+fn places_of(alloc: Global, keys: &[u64]) -> Result<Places, NoMemory>
+    ensures { IfOk result (IsTable keys.now) }
+{
+    let count = keys.len();
+    let mut places = Places {
+        count,
+        low: vec![in alloc; count; count.saturating_mul(2)]?,
+        high: HashMap::new(alloc),
+    };
+    let mut at = count;
     while at > 0 {
         at -= 1;
-        places.insert(keys[at], at)?;
+        places.put(keys[at], at)?;
     }
     Ok(places)
 }

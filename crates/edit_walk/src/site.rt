@@ -2,7 +2,7 @@
 use crate::numbers::Numbers;
 use cfg_graph::NodeKind;
 use cpp_lines::Item;
-use edit_marks::FileToken;
+use edit_marks::FileTokens;
 use smpl_patch::{PatToken, Pattern, VarDecl};
 use sqlite_items::Items;
 
@@ -19,7 +19,7 @@ pub struct Site<'a> {
     /// For each item the kinds of its nodes.
     pub kinds: &'a [Items<NodeKind>],
     /// The tokens of the file.
-    pub files: &'a [FileToken],
+    pub files: &'a FileTokens<'a>,
     /// Their ids.
     pub ids: &'a Numbers,
 }

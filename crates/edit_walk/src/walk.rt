@@ -12,13 +12,14 @@ ghost use Rattle.edit_walk.specs.Sites.{IsSite, IsEditHere};
 use crate::numbers::Numbers;
 use crate::patterns::patterns_of;
 use crate::site::Site;
-use crate::tokens::{file_tokens, token_ids};
+use crate::tokens::token_ids;
 use crate::touch::touch_edit;
 use c_lexer::Lexed;
 use c_terms::NoMemory;
 use cfg_graph::NodeKind;
 use cpp_lines::Item;
 use edit_conflict::{Edit, EditList};
+use edit_marks::FileTokens;
 use smpl_patch::{Pattern, Rule, RuleWitness, Witness};
 use smpl_terms::{Env, Value, Var};
 use sqlite_items::Items;
@@ -82,7 +83,7 @@ fn all_edits(
     }
     let patterns = patterns_of(alloc, rule.body.as_slice())?;
     let atoms = Numbers::of(alloc, atoms_of(alloc, &patterns)?)?;
-    let files = file_tokens(alloc, lexed)?;
+    let files = FileTokens::of(alloc, lexed)?;
     let ids = Numbers::of(alloc, token_ids(alloc, lexed)?)?;
     let site = Site {
         decls: rule.vars.as_slice(),

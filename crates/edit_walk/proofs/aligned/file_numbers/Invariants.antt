@@ -1,6 +1,6 @@
 use Rattle.std.proofs.Common.{◌≡◌, ◌++◌, drop}
 use Rattle.std.specs.List.{filter_map}
-use Rattle.edit_walk.specs.Tokens.{number_of}
+use Rattle.edit_walk.specs.Keys.{number_of}
 use Rattle.edit_walk.proofs.aligned.file_numbers.Given as goal
 
 abbrev pub invariant-loop-id : goal.invariant-loop-id

@@ -5,7 +5,7 @@ use Rattle.smpl_patch.specs.declared.pattern.Pattern.{Pattern}
 use Rattle.smpl_patch.specs.Bodies.{body}
 use Rattle.smpl_patch.specs.Shapes.{patterns_body}
 use Rattle.edit_walk.specs.Touches.{touches}
-use Rattle.edit_walk.specs.Tokens.{file_tokens}
+use Rattle.edit_marks.specs.Tokens.{file_tokens}
 use Rattle.edit_walk.proofs.GrowingLemmas.{adds_all}
 use Rattle.edit_walk.proofs.SiteLemmas.{same_site}
 use Rattle.edit_walk.proofs.walk.all_edits.Goals as goal
@@ -17,7 +17,7 @@ returns c =
     let all = touches c.args.witnesses.now in
     let es = c.put_witnesses.new.edits.items in
     same_site c.args.items.now c.args.kinds.now all es (map (λ (p : Bor Pattern). p.now) c.deref-2.result.now) (patterns_body (body rule.body))
-    c.as_slice-2.result.now rule.vars c.as_slice-3.result.now rule.tokens c.in_ok-ids.ids (ids_of pieces) c.deref-3.result.now (file_tokens pieces)
+    c.as_slice-2.result.now rule.vars c.as_slice-3.result.now rule.tokens c.in_ok-ids.ids (ids_of pieces) c.in_ok-files.files (file_tokens pieces)
     (ap (map (λ (p : Bor Pattern). p.now)) c.deref-2.ensures.value ∙ c.in_ok-patterns.ensures ∙ ap (λ (b : List Elem). patterns_body (body b)) c.as_slice.ensures)
-    c.as_slice-2.ensures c.as_slice-3.ensures (c.in_ok-ids.ensures.keys ∙ c.in_ok-token_ids.ensures.ids) (c.deref-3.ensures.value ∙ c.in_ok-files.ensures)
+    c.as_slice-2.ensures c.as_slice-3.ensures (c.in_ok-ids.ensures.keys ∙ c.in_ok-token_ids.ensures.ids) c.in_ok-files.ensures
     (adds_all _ c.new-all.result.items es all c.new-all.ensures.items c.in_ok-put_witnesses.ensures)

@@ -7,7 +7,7 @@ use Rattle.edit_conflict.specs.declared.edit.Edit.{Edit}
 use Rattle.edit_marks.specs.Edits.{HaveSoundBlocks, ArePlainInserts}
 use Rattle.edit_marks.proofs.Edited.{edit_plain}
 use Rattle.edit_walk.specs.Touches.{Touched, touches}
-use Rattle.edit_walk.specs.Tokens.{file_tokens}
+use Rattle.edit_marks.specs.Tokens.{file_tokens}
 use Rattle.edit_walk.specs.Named.{alignment, pairs_at}
 use Rattle.edit_walk.specs.Edited.{IsEditAt}
 use Rattle.edit_walk.specs.Fit.{FitsText}

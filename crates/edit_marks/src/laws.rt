@@ -1,0 +1,16 @@
+// What holds of the edits of alignments. The function does nothing.
+ghost use Rattle.std.specs.Prelude.{◌≡◌, List};
+ghost use Rattle.smpl_patch.specs.declared.pattern.VarDecl.{VarDecl};
+ghost use Rattle.smpl_patch.specs.declared.pattern.PatToken.{PatToken as PatternToken};
+ghost use Rattle.edit_conflict.specs.declared.edit.Edit.{Edit as Change};
+ghost use Rattle.edit_marks.specs.declared.mark.Aligned.{Aligned as Pairing};
+ghost use Rattle.edit_marks.specs.declared.tokens.FileToken.{FileToken as Token};
+ghost use Rattle.edit_marks.specs.Blocks.{Environment};
+ghost use Rattle.edit_marks.specs.Edits.{EditOf};
+
+/// An alignment has one edit.
+pub fn alignment_has_one_edit()
+    ensures { (decls : List VarDecl) (tokens : List PatternToken) (env : Environment)
+        (files : List Token) (pairs : List Pairing) (a b : Change) →
+        EditOf decls tokens env files pairs a → EditOf decls tokens env files pairs b → a ≡ b }
+{}

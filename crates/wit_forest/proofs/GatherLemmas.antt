@@ -8,17 +8,17 @@ use Rattle.smpl_terms.specs.Environments.{Environment, total}
 use Rattle.smpl_patch.specs.declared.witness.Witness.{Witness}
 use Rattle.ctl_formula.specs.Tables.{at, plains}
 use Rattle.ctl_formula.specs.Formulas.{FormulaOf, IsFormula}
-use Rattle.ctl_holds.proofs.TestLemmas.{any_has, or_right, or_left, same_bool}
+use Rattle.ctl_holds.proofs.TestLemmas.{any_has, or_cases, or_right, or_left, same_bool}
 use Rattle.wit_order.specs.Forests.{has, HaveSame, Rise}
 use Rattle.wit_order.specs.Sizes.{forest_size}
 use Rattle.wit_trees.specs.Graphs.{world_of}
 use Rattle.wit_trees.proofs.RiseLemmas.{forest_rises}
 use Rattle.wit_forest.specs.declared.states.State.{State}
-use Rattle.wit_forest.specs.Gathered.{Covered, IsAdded, InRange, IsExplored, Grows, Adds, HasLarge, is_there, forest_at}
+use Rattle.wit_forest.specs.Gathered.{Covered, IsAdded, InRange, IsExplored, Grows, Adds, HasTooMany, is_there, forest_at}
 use Rattle.wit_forest.proofs.AddLemmas.{of_state, added_there, covered_more}
 use Rattle.wit_forest.proofs.ExploredLemmas.{covered_found}
 use Rattle.wit_forest.proofs.GrowLemmas.{explored_more, range_more}
-use Rattle.wit_forest.proofs.LargeLemmas.{large_forest}
+use Rattle.wit_forest.proofs.LargeLemmas.{large_forest, large_more}
 use Rattle.wit_forest.proofs.LoopLemmas.{one_item, only_one, none_in}
 
 absorbed : (a b : Bool) → (b ≡ true → a ≡ true) → (a || b) ≡ a
@@ -72,8 +72,11 @@ module _ (g : Flow) (f : FormulaOf) (part node : ℕ) (env : Environment) where
     state_there : (z : Witness) → has (forest_at g f one.part one.node (total one.env)) z ≡ true → is_there g f states found z ≡ true
     state_there z h = or_right (has found z) _ (any_has (of_state g f z) one states member h)
 
-    pub large_state : HasLarge g f (forest_at g f one.part one.node (total one.env)) → 1000000 < forest_size root
-    large_state l = large_forest root l.0 (sym (p.there l.0) ∙ state_there l.0 l.1) l.2
+    pub large_state : HasTooMany f.decls (λ z. is_there g f states found z || has (forest_at g f one.part one.node (total one.env)) z)
+        → 1000000 < forest_size root
+    large_state l = large_forest f.decls root (large_more f.decls
+        (λ z. is_there g f states found z || has (forest_at g f one.part one.node (total one.env)) z) (has root)
+        (λ z k. sym (p.there z) ∙ ⊎_elim (λ here. here) (state_there z) (or_cases (is_there g f states found z) _ k)) l)
 
     pub gathered_more : (more : List State) (trees : List Witness)
         → Adds g f states more found trees (forest_at g f one.part one.node (total one.env))
@@ -103,6 +106,11 @@ module _ (g : Flow) (f : FormulaOf) (part node : ℕ) (env : Environment) where
       (λ h. sym (p.there z) ∙ or_left (has found z) _ h)
       (λ h. covered_found g f ok states found formula part p.range
       (λ one c. let l = c.1 in p.done c.0 (omega (arith, l, le)) one c.1 c.2) part node env p.start z h)
+
+  pub large_all : IsSound g → IsFormula f → (n : ℕ) (states : List State) (found : List Witness) → length states ≤ n → Gathered n states found
+      → HasTooMany f.decls (has found) → 1000000 < forest_size root
+  large_all ok formula n states found le p l = large_forest f.decls root
+      (large_more f.decls (has found) (has root) (λ z k. sym (gathered_all ok formula n states found le p z) ∙ k) l)
 
   pub root_rises : Rise f.decls root
   root_rises = forest_rises (world_of f.decls f.tokens g) (at (plains f.nodes) part) node env

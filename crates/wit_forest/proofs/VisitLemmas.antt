@@ -1,7 +1,6 @@
 -- One visit of a part at a node: what it adds, and that the part is explored then.
-use Rattle.std.proofs.Common.{◌≡◌, ℕ, ◌<◌, Bool, true, false, ◌||◌, refl, sym, ap, ◌∙◌, subst, List, [], ◌++◌, Contains}
+use Rattle.std.proofs.Common.{◌≡◌, ℕ, ◌<◌, ⊎_elim, Bool, true, false, ◌||◌, refl, sym, ap, ◌∙◌, subst, List, [], ◌++◌, Contains}
 use Rattle.std.proofs.lemmas.List.{append-nil}
-use Rattle.std.proofs.lemmas.List.Folds.{list_any-append}
 use Rattle.std.specs.List.{list_any}
 use Rattle.cfg_graph.specs.Flow.{Flow, IsSound, count_of}
 use Rattle.smpl_terms.specs.declared.var.Var.{Var}
@@ -12,8 +11,7 @@ use Rattle.ctl_formula.specs.Tables.{at, plains, plain_of}
 use Rattle.ctl_formula.specs.Formulas.{FormulaOf}
 use Rattle.ctl_formula.specs.declared.node.Node.{Node}
 use Rattle.ctl_formula.specs.declared.node.Node.TheVariants as node
-use Rattle.ctl_holds.proofs.TestLemmas.{or_left, or_right}
-use Rattle.wit_order.specs.Same.{same_witness}
+use Rattle.ctl_holds.proofs.TestLemmas.{or_cases, or_left, or_right}
 use Rattle.wit_order.specs.Forests.{has}
 use Rattle.wit_trees.specs.Forest.{is_hidden}
 use Rattle.wit_trees.specs.Graphs.{forest_of}
@@ -21,8 +19,9 @@ use Rattle.wit_steps.specs.Steps.{kids, is_quantifier}
 use Rattle.wit_steps.specs.Touches.{own_touches}
 use Rattle.wit_steps.proofs.KidLemmas.{kid_step}
 use Rattle.wit_forest.specs.declared.states.State.{State}
-use Rattle.wit_forest.specs.Gathered.{Covered, node_at, forest_at, holds_at, quantified, IsHiddenDone, IsShownDone, IsExplored, Adds, Grows, is_there}
+use Rattle.wit_forest.specs.Gathered.{Covered, node_at, forest_at, holds_at, quantified, IsHiddenDone, IsShownDone, IsExplored, Adds, Grows, HasTooMany, is_there}
 use Rattle.wit_forest.proofs.AddLemmas.{of_state}
+use Rattle.wit_forest.proofs.LargeLemmas.{large_more}
 use Rattle.wit_forest.proofs.LoopLemmas.{none_in}
 
 or_swap : (a b c d : Bool) → ((a || b) || (c || d)) ≡ ((a || c) || (b || d))
@@ -66,6 +65,12 @@ module _ (g : Flow) (f : FormulaOf) (i s : ℕ) (env : Environment) where
         subst (λ m. IsShownDone g f trees y m s env) of_part (subst (λ v. IsShownDone g f trees v j s env) of_var (show (ap is_hidden of_var ∙ b)));
   }
 
+  pub quantifier_large : (old : List State) (found : List Witness) (x : Var) (j : ℕ) → at (plains f.nodes) i ≡ Exists x (at (plains f.nodes) j)
+      → HasTooMany f.decls (λ z. is_there g f old found z || has (quantified g f x j s env) z)
+      → HasTooMany f.decls (λ z. is_there g f old found z || has (forest_at g f i s env) z)
+  quantifier_large old found x j e l =
+      subst (λ h. HasTooMany f.decls (λ z. is_there g f old found z || has (forest_of f.decls f.tokens g h s env) z)) (sym e) l
+
   -- trees that are added for a quantifier, and no state
   pub shown_adds : (old : List State) (found trees ws : List Witness) → ((z : Witness) → has trees z ≡ (has found z || has ws z)) → Adds g f old old found trees ws
   shown_adds old found trees ws h z =
@@ -80,12 +85,38 @@ module _ (g : Flow) (f : FormulaOf) (i s : ℕ) (env : Environment) where
     range = λ one c. absurd (none_in one c);
   }
 
+  -- a tree that is found is there
+  there : (old : List State) (found : List Witness) (z : Witness) → has found z ≡ true → is_there g f old found z ≡ true
+  there old found z h = or_left (has found z) (list_any (of_state g f z) old) h
+
+  pub shown_large : (old : List State) (found ws : List Witness) → HasTooMany f.decls (λ z. has found z || has ws z)
+      → HasTooMany f.decls (λ z. is_there g f old found z || has ws z)
+  shown_large old found ws l =
+      large_more f.decls (λ z. has found z || has ws z) (λ z. is_there g f old found z || has ws z)
+      (λ z k. ⊎_elim
+      (λ before. or_left (is_there g f old found z) (has ws z) (there old found z before))
+      (λ added. or_right (is_there g f old found z) (has ws z) added)
+      (or_cases (has found z) _ k))
+      l
+
+  -- what a part touches is too much
+  pub own_large : (x : Node) → at (plains f.nodes) i ≡ plain_of (plains f.nodes) x → is_quantifier x ≡ false → IsSound g → s < count_of g
+      → (old : List State) (found : List Witness) → HasTooMany f.decls (λ z. has found z || has (own_touches f.decls f.tokens g x s env) z)
+      → HasTooMany f.decls (λ z. is_there g f old found z || has (forest_at g f i s env) z)
+  own_large x shape q ok lt old found l =
+      large_more f.decls (λ z. has found z || has (own_touches f.decls f.tokens g x s env) z) (λ z. is_there g f old found z || has (forest_at g f i s env) z)
+      (λ z k. ⊎_elim
+      (λ before. or_left (is_there g f old found z) (has (forest_at g f i s env) z) (there old found z before))
+      (λ added. or_right (is_there g f old found z) (has (forest_at g f i s env) z)
+      (ap (λ y. has (forest_of f.decls f.tokens g y s env) z) shape ∙ kid_step f.decls f.tokens g ok (plains f.nodes) env z x q i s lt shape
+      ∙ or_left (has (own_touches f.decls f.tokens g x s env) z) _ added))
+      (or_cases (has found z) _ k))
+      l
+
   -- any other part
   module _ (x : Node) (is : node_at g f i ≡ x) (shape : at (plains f.nodes) i ≡ plain_of (plains f.nodes) x) (q : is_quantifier x ≡ false)
-      (old new : List State) (found trees : List Witness) (own : trees ≡ found ++ own_touches f.decls f.tokens g x s env) where
-    has_own : (z : Witness) → has trees z ≡ (has found z || has (own_touches f.decls f.tokens g x s env) z)
-    has_own z = ap (λ l. has l z) own ∙ list_any-append (λ w. same_witness w z) found (own_touches f.decls f.tokens g x s env)
-
+      (old new : List State) (found trees : List Witness)
+      (has_own : (z : Witness) → has trees z ≡ (has found z || has (own_touches f.decls f.tokens g x s env) z)) where
     abbrev of_kid : Witness → ℕ × ℕ → Bool
     of_kid z k = has (forest_at g f k.0 k.1 env) z
 

@@ -6,6 +6,7 @@ use Rattle.smpl_terms.specs.declared.var.Var.{Var}
 use Rattle.smpl_terms.specs.declared.value.Value.{Value}
 use Rattle.smpl_terms.specs.Environments.{Environment, change, total}
 use Rattle.smpl_patch.specs.Patterns.{sure}
+use Rattle.smpl_patch.specs.declared.pattern.VarDecl.{VarDecl}
 use Rattle.smpl_patch.specs.declared.witness.Witness.{Witness}
 use Rattle.smpl_patch.specs.declared.witness.Witness.TheVariants.{Bind}
 use Rattle.ctl_formula.specs.declared.node.Node.{Node}
@@ -20,14 +21,19 @@ use Rattle.ctl_holds.specs.BoundLaw.{SureStand}
 use Rattle.ctl_holds.specs.Rounds.{holds}
 use Rattle.ctl_holds.specs.Values.{values_of}
 use Rattle.ctl_fixpoint.specs.States.{AreStateSets}
-use Rattle.wit_order.specs.Forests.{has}
-use Rattle.wit_order.specs.Sizes.{size}
+use Rattle.wit_order.specs.Forests.{has, Rise}
+use Rattle.wit_order.specs.Sizes.{forest_size}
 use Rattle.wit_trees.specs.Alike.{Alike}
 use Rattle.wit_trees.specs.Forest.{is_hidden}
 use Rattle.wit_trees.specs.Graphs.{forest_of}
 use Rattle.wit_steps.specs.Steps.{kids}
 use Rattle.wit_steps.specs.Touches.{own_touches}
 use Rattle.wit_forest.specs.declared.states.State.{State}
+
+-- different trees that pass the test have more touches and binds than a forest may have
+abbrev pub HasTooMany : List VarDecl → (Witness → Bool) → Type 0
+HasTooMany decls test =
+    (zs : List Witness) × Rise decls zs × ((z : Witness) → has zs z ≡ true → test z ≡ true) × (1000000 < forest_size zs)
 
 -- the part at the node under an environment with the same values is among the states
 abbrev pub Covered : List State → ℕ → ℕ → Environment → Type 0
@@ -103,7 +109,3 @@ module _ (g : Flow) (f : FormulaOf) where
     pub longer : more ≡ states ++ rest
     pub kept : (z : Witness) → has found z ≡ true → has trees z ≡ true
     pub range : (one : State) → Contains rest one → InRange most one.part one.node
-
-  -- some tree of the forest alone is too large
-  abbrev pub HasLarge : List Witness → Type 0
-  HasLarge ws = (z : Witness) × (has ws z ≡ true) × (1000000 < size z)

@@ -1,10 +1,11 @@
 // The forest of a formula at a node.
 ghost use Rattle.std.specs.Prelude.{◌≡◌, ◌||◌, ℕ, ◌<◌, ◌≤◌, true, false, List, IfOk, OnOk, Err, length, Contains};
 ghost use Rattle.std.specs.List.{list_any};
+ghost use Rattle.std.specs.List.Sorted.{IsStrictlySortedBy};
 ghost use Rattle.cfg_graph.specs.Flow.{count_of};
 ghost use Rattle.smpl_terms.specs.Environments.{total, change};
 ghost use Rattle.smpl_terms.specs.declared.value.Value.{Value as Datum};
-ghost use Rattle.smpl_terms.specs.Values.{same};
+ghost use Rattle.smpl_terms.specs.Values.{same, value_order};
 ghost use Rattle.wit_steps.specs.Steps as steps;
 ghost use Rattle.ctl_formula.specs.Formulas.{plain};
 ghost use Rattle.ctl_holds.specs.Parts.{EachPattern};
@@ -12,47 +13,25 @@ ghost use Rattle.ctl_holds.specs.BoundLaw.{SureStand};
 ghost use Rattle.ctl_fixpoint.specs.States.{AreStateSets};
 ghost use Rattle.wit_order.specs.Same.{same_forest};
 ghost use Rattle.wit_order.specs.Sizes.{forest_size};
-ghost use Rattle.wit_order.specs.Forests.{has, HaveSame, Rise};
+ghost use Rattle.wit_order.specs.Forests.{has};
 ghost use Rattle.smpl_patch.specs.declared.witness.Witness.{Witness as Tree};
-ghost use Rattle.wit_forest.specs.Gathered.{node_at, forest_at as part_forest, holds_at, quantified, Covered, AreReady, InRange, IsBound, IsHiddenDone, IsShownDone, IsExplored, Adds, Grows, HasLarge};
+ghost use Rattle.wit_forest.specs.Gathered.{node_at, forest_at as part_forest, holds_at, quantified, is_there};
+ghost use Rattle.wit_forest.specs.Gathered.{Covered, AreReady, InRange, IsBound, IsHiddenDone, IsShownDone, IsExplored, Adds, Grows, HasTooMany};
 ghost use Rattle.wit_trees.specs.Forest as of;
 ghost use Rattle.wit_trees.specs.Graphs.{forest_of};
 
 use crate::fault::ForestFault;
+use crate::found::Found;
 use crate::states::States;
 use c_terms::NoMemory;
 use cfg_graph::Graph;
 use ctl_formula::{Formula, Node};
 use env_sets::StateSets;
-use smpl_patch::{VarDecl, Witness};
-use smpl_terms::{Env, Value, Var};
+use smpl_patch::Witness;
+use smpl_terms::{Env, Value, Var, same_value, value_order};
 use sqlite_items::Items;
 use std::alloc::Global;
-use wit_order::{distinct, within};
-use wit_steps::{changed, kids, put_own, values_in};
-
-/// The most nodes of a forest.
-const MOST: u32 = 1_000_000;
-
-/// The trees in order, each once, if they are not too large.
-fn settled(
-    alloc: Global,
-    decls: &[VarDecl],
-    found: Vec<Witness>,
-) -> Result<Vec<Witness>, ForestFault>
-    ensures trees { IfOk result (λ ws. (root : List Tree) → Rise decls.now root → HaveSame found.items root
-        → same_forest ws.items root ≡ true) }
-    ensures few { IfOk result (λ ws. (root : List Tree) → Rise decls.now root → HaveSame found.items root
-        → forest_size root ≤ 1000000) }
-    ensures too_many { result ≡ Err ForestFault.TooMany → (root : List Tree) → Rise decls.now root → HaveSame found.items root
-        → 1000000 < forest_size root }
-{
-    let trees = distinct(alloc, decls, found)?;
-    match within(&trees, MOST) {
-        Some(_) => Ok(trees),
-        None => Err(ForestFault::TooMany),
-    }
-}
+use wit_steps::{changed, kids, values_in};
 
 /// The variable of a block, whose name begins with `{`.
 fn is_hidden(x: &Var) -> bool
@@ -64,7 +43,18 @@ fn is_hidden(x: &Var) -> bool
     }
 }
 
-/// The values of the variable under which the part holds at the node.
+/// The values in order, each once.
+fn different(values: Vec<Value>) -> Vec<Value>
+    ensures values { (z : Datum) → list_any (λ u. same u z) result.items ≡ list_any (λ u. same u z) values.items }
+    ensures rise { IsStrictlySortedBy value_order result.items }
+{
+    let mut values = values;
+    values.sort_unstable_by(|a, b| value_order(a, b));
+    values.dedup_by(|a, b| same_value(a, b));
+    values
+}
+
+/// The values of the variable under which the part holds at the node, in order, each once.
 fn values_at(
     alloc: Global,
     g: &Graph,
@@ -78,13 +68,15 @@ fn values_at(
     requires range { InRange g.now f.now part part s }
     requires ready { AreReady g.now f.now sets.now }
     requires bound { IsBound f.now x.now part }
-    ensures { IfOk result (λ r. (v : Datum) → list_any (λ u. same u v) r.items
+    ensures values { IfOk result (λ r. (v : Datum) → list_any (λ u. same u v) r.items
         ≡ holds_at g.now f.now (change (total env.now) x.now v) part s) }
+    ensures rise { IfOk result (λ r. IsStrictlySortedBy value_order r.items) }
 {
     if part > u32::MAX as usize {
         return Err(NoMemory);
     }
-    values_in(alloc, sets.at(part as u32, s), env, x)
+    let values = values_in(alloc, sets.at(part as u32, s), env, x)?;
+    Ok(different(values))
 }
 
 /// The part under each value of a hidden variable.
@@ -151,7 +143,7 @@ fn visit_values(
     g: &Graph,
     f: &Formula,
     sets: &StateSets,
-    found: &mut Vec<Witness>,
+    found: &mut Found,
     x: &Var,
     part: usize,
     node: u32,
@@ -161,17 +153,18 @@ fn visit_values(
     requires ready { AreReady g.now f.now sets.now }
     requires bound { IsBound f.now x.now part }
     requires shown { of.is_hidden x.now ≡ false }
-    ensures there { IfOk result (λ _. (z : Tree) → has found.new.items z
-        ≡ (has found.old.items z || has (quantified g.now f.now x.now part node (total env.now)) z)) }
-    ensures done { IfOk result (λ _. IsShownDone g.now f.now found.new.items x.now part node (total env.now)) }
-    ensures too_many { result ≡ Err ForestFault.TooMany → HasLarge g.now f.now (quantified g.now f.now x.now part node (total env.now)) }
+    ensures there { IfOk result (λ _. (z : Tree) → has found.new z
+        ≡ (has found.old z || has (quantified g.now f.now x.now part node (total env.now)) z)) }
+    ensures done { IfOk result (λ _. IsShownDone g.now f.now found.new x.now part node (total env.now)) }
+    ensures too_many { result ≡ Err ForestFault.TooMany → HasTooMany f.now.decls
+        (λ z. has found.old z || has (quantified g.now f.now x.now part node (total env.now)) z) }
 {
     let values = values_at(alloc, g, f, sets, part, node, env, x)?;
     for v in &values {
         let inner = changed(alloc, env, x, v)?;
         let under = forest_at(alloc, g, f, sets, part, node, &inner)?;
         let tree = Witness::Bind(node, x.copy(alloc)?, v.copy(alloc)?, Items::from_vec(under));
-        found.push(tree)?;
+        found.put(alloc, f.decls(), tree)?;
     }
     Ok(())
 }
@@ -183,7 +176,7 @@ fn visit_quantifier(
     f: &Formula,
     sets: &StateSets,
     states: &mut States,
-    found: &mut Vec<Witness>,
+    found: &mut Found,
     x: &Var,
     part: usize,
     node: u32,
@@ -192,12 +185,13 @@ fn visit_quantifier(
     requires range { InRange g.now f.now part part node }
     requires ready { AreReady g.now f.now sets.now }
     requires bound { IsBound f.now x.now part }
-    ensures there { IfOk result (λ _. Adds g.now f.now states.old states.new found.old.items found.new.items
+    ensures there { IfOk result (λ _. Adds g.now f.now states.old states.new found.old found.new
         (quantified g.now f.now x.now part node (total env.now))) }
     ensures hidden { IfOk result (λ _. of.is_hidden x.now ≡ true → IsHiddenDone g.now f.now states.new x.now part node (total env.now)) }
-    ensures shown { IfOk result (λ _. of.is_hidden x.now ≡ false → IsShownDone g.now f.now found.new.items x.now part node (total env.now)) }
-    ensures grows { IfOk result (λ _. Grows g.now f.now part states.old states.new found.old.items found.new.items) }
-    ensures too_many { result ≡ Err ForestFault.TooMany → HasLarge g.now f.now (quantified g.now f.now x.now part node (total env.now)) }
+    ensures shown { IfOk result (λ _. of.is_hidden x.now ≡ false → IsShownDone g.now f.now found.new x.now part node (total env.now)) }
+    ensures grows { IfOk result (λ _. Grows g.now f.now part states.old states.new found.old found.new) }
+    ensures too_many { result ≡ Err ForestFault.TooMany → HasTooMany f.now.decls
+        (λ z. is_there g.now f.now states.old found.old z || has (quantified g.now f.now x.now part node (total env.now)) z) }
 {
     if is_hidden(x) {
         visit_hidden(alloc, g, f, sets, states, x, part, node, env)?;
@@ -214,23 +208,24 @@ fn visit(
     f: &Formula,
     sets: &StateSets,
     states: &mut States,
-    found: &mut Vec<Witness>,
+    found: &mut Found,
     part: usize,
     node: u32,
     env: &Env,
 ) -> Result<(), ForestFault>
     requires range { InRange g.now f.now part part node }
     requires ready { AreReady g.now f.now sets.now }
-    ensures there { IfOk result (λ _. Adds g.now f.now states.old states.new found.old.items found.new.items
+    ensures there { IfOk result (λ _. Adds g.now f.now states.old states.new found.old found.new
         (part_forest g.now f.now part node (total env.now))) }
-    ensures explored { IfOk result (λ _. IsExplored g.now f.now states.new found.new.items part node (total env.now)) }
-    ensures grows { IfOk result (λ _. Grows g.now f.now part states.old states.new found.old.items found.new.items) }
-    ensures too_many { result ≡ Err ForestFault.TooMany → HasLarge g.now f.now (part_forest g.now f.now part node (total env.now)) }
+    ensures explored { IfOk result (λ _. IsExplored g.now f.now states.new found.new part node (total env.now)) }
+    ensures grows { IfOk result (λ _. Grows g.now f.now part states.old states.new found.old found.new) }
+    ensures too_many { result ≡ Err ForestFault.TooMany → HasTooMany f.now.decls
+        (λ z. is_there g.now f.now states.old found.old z || has (part_forest g.now f.now part node (total env.now)) z) }
 {
     match f.node(part) {
         Node::Exists(x, i) => visit_quantifier(alloc, g, f, sets, states, found, x, *i, node, env),
         own => {
-            put_own(alloc, g, f, found, own, node, env)?;
+            found.put_touches(alloc, g, f, own, node, env)?;
             visit_kids(alloc, g, f, sets, states, part, node, env)?;
             Ok(())
         }
@@ -255,11 +250,11 @@ fn forest_at(
     ensures too_many { result ≡ Err ForestFault.TooMany → 1000000 < forest_size (part_forest g.now f.now part node (total env.now)) }
 {
     let mut states = States::new(alloc);
-    let mut found = Vec::new(alloc);
+    let mut found = Found::new(alloc);
     states.add(alloc, part, node, env)?;
     for at in 0..usize::MAX {
         if at >= states.len() {
-            return settled(alloc, f.decls(), found);
+            return found.into_forest(alloc, f.decls());
         }
         let one = states.get(at);
         let part = one.part;

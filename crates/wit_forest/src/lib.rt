@@ -2,6 +2,7 @@
 #![tactic(auto)]
 
 mod fault;
+mod found;
 mod gather;
 mod states;
 

@@ -17,7 +17,7 @@ abbrev pub decreases-forest_at : goal.decreases-forest_at
 decreases-forest_at l = 4 * l.part + 3
 
 abbrev pub invariant-visit_values-loop-v : goal.invariant-visit_values-loop-v
-invariant-visit_values-loop-v l = Shown l.g l.f l.x l.part l.node (total l.env) l.v-items l.v-index l.initial.found.items l.found.items
+invariant-visit_values-loop-v l = Shown l.g l.f l.x l.part l.node (total l.env) l.v-items l.v-index l.initial.found l.found
 
 abbrev pub invariant-forest_at-loop-at : goal.invariant-forest_at-loop-at
-invariant-forest_at-loop-at l = Gathered l.g l.f l.part l.node (total l.env) l.at l.states l.found.items
+invariant-forest_at-loop-at l = Gathered l.g l.f l.part l.node (total l.env) l.at l.states l.found

@@ -24,7 +24,7 @@ returns-clause-there c =
     let le : length c.deref-v-items.result.now ≤ c.loop-v.v-index = omega arith in
     hidden_there c.args.g.now c.args.f.now c.args.sets.now c.requires.ready c.args.x.now c.args.part c.args.node (total c.args.env.now) c.requires.range
     c.requires.bound c.requires.hidden c.deref-v-items.result.now
-    (λ v. ap (λ us. list_any (λ u. same u v) us) c.deref-v-items.ensures.value ∙ c.in_ok-values.ensures v)
+    (λ v. ap (λ us. list_any (λ u. same u v) us) c.deref-v-items.ensures.value ∙ c.in_ok-values.ensures.values v)
     c.loop-v.v-index c.args.states.now c.loop-v.states le c.loop-v.invariant
 
 pub returns-clause-done : goal.returns-clause-done
@@ -32,7 +32,7 @@ returns-clause-done c =
     let le : length c.deref-v-items.result.now ≤ c.loop-v.v-index = omega arith in
     hidden_all c.args.g.now c.args.f.now c.args.sets.now c.requires.ready c.args.x.now c.args.part c.args.node (total c.args.env.now) c.requires.range
     c.requires.bound c.requires.hidden c.deref-v-items.result.now
-    (λ v. ap (λ us. list_any (λ u. same u v) us) c.deref-v-items.ensures.value ∙ c.in_ok-values.ensures v)
+    (λ v. ap (λ us. list_any (λ u. same u v) us) c.deref-v-items.ensures.value ∙ c.in_ok-values.ensures.values v)
     c.loop-v.v-index c.args.states.now c.loop-v.states le c.loop-v.invariant
 
 pub returns-clause-grows : goal.returns-clause-grows
@@ -40,5 +40,5 @@ returns-clause-grows c =
     let le : length c.deref-v-items.result.now ≤ c.loop-v.v-index = omega arith in
     hidden_grows c.args.g.now c.args.f.now c.args.sets.now c.requires.ready c.args.x.now c.args.part c.args.node (total c.args.env.now) c.requires.range
     c.requires.bound c.requires.hidden c.deref-v-items.result.now
-    (λ v. ap (λ us. list_any (λ u. same u v) us) c.deref-v-items.ensures.value ∙ c.in_ok-values.ensures v)
+    (λ v. ap (λ us. list_any (λ u. same u v) us) c.deref-v-items.ensures.value ∙ c.in_ok-values.ensures.values v)
     c.loop-v.v-index c.args.states.now c.loop-v.states le c.loop-v.invariant

@@ -1,5 +1,5 @@
 -- One visit of a part at a node: what it adds, and that the part is explored then.
-use Rattle.std.proofs.Common.{◌≡◌, ℕ, ◌<◌, ⊎_elim, Bool, true, false, ◌||◌, refl, sym, ap, ◌∙◌, subst, List, [], ◌++◌, Contains}
+use Rattle.std.proofs.Common.{◌≡◌, ℕ, ◌<◌, ⊎_elim, Bool, true, false, ◌||◌, refl, sym, ap, ◌∙◌, subst, List, [], Contains}
 use Rattle.std.proofs.lemmas.List.{append-nil}
 use Rattle.std.specs.List.{list_any}
 use Rattle.cfg_graph.specs.Flow.{Flow, IsSound, count_of}

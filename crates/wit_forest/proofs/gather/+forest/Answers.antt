@@ -1,18 +1,15 @@
-use Rattle.std.proofs.Common.{◌≡◌, ◌<◌, ◌≤◌, ◌||◌, ap, ◌∙◌, subst, sym, arith, length, true, false, List}
+use Rattle.std.proofs.Common.{◌≡◌, ◌<◌, ◌≤◌, ◌||◌, ap, ◌∙◌, subst, sym, arith, length, true, false}
 use Rattle.std.proofs.lemmas.Option.{get_or_from_slice_get}
 use Rattle.std.proofs.lemmas.Result.{IfOk-weaker, err_from_is_err_and}
 use Rattle.std.specs.List.{list_any}
 use Rattle.smpl_terms.specs.Values.{same}
 use Rattle.smpl_terms.specs.Environments.{total}
 use Rattle.smpl_patch.specs.declared.witness.Witness.TheVariants.{Bind}
-use Rattle.ctl_formula.specs.Plain.{Exists}
-use Rattle.ctl_formula.specs.Tables.{at, plains, plain_of}
-use Rattle.ctl_formula.specs.declared.node.Node.TheVariants as node
+use Rattle.ctl_formula.specs.Tables.{plains, plain_of}
 use Rattle.wit_order.specs.Forests.{has, HaveSame, Rise}
 use Rattle.wit_order.specs.Same.{same_forest, same_witness}
 use Rattle.wit_order.specs.Sizes.{forest_size}
 use Rattle.wit_trees.specs.Forest.{is_hidden}
-use Rattle.wit_trees.specs.Graphs.{forest_of}
 use Rattle.wit_forest.specs.Gathered.{Adds, Grows, HasTooMany, IsExplored, IsHiddenDone, IsShownDone, forest_at, is_there, quantified}
 use Rattle.wit_forest.proofs.GatherLemmas.{gathered_more, gathered_all, root_rises, state_in_range, state_low, large_state, large_all}
 use Rattle.wit_forest.proofs.GrowLemmas.{grows_more}

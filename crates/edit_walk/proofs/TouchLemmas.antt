@@ -12,14 +12,14 @@ use Rattle.edit_walk.specs.Touches.{Values, Touched, bound, touch_step, touches_
 use Rattle.edit_walk.specs.Growing.{Adds}
 use Rattle.edit_walk.proofs.GrowingLemmas.{adds_one, adds_end}
 
-abbrev touched : ℕ → ℕ → ℕ → List ℕ → Values → Touched
+abbrev pub touched : ℕ → ℕ → ℕ → List ℕ → Values → Touched
 touched item node atom path env = record { item = item; node = node; atom = atom; path = path; env = env }
 
-touches-Touch : (item node atom : ℕ) (path : List ℕ) (env : Values) → touches_in item env (Touch node atom path) ≡ touched item node atom path env ∷ []
+pub touches-Touch : (item node atom : ℕ) (path : List ℕ) (env : Values) → touches_in item env (Touch node atom path) ≡ touched item node atom path env ∷ []
 touches-Touch item node atom path env =
     ap (touches_in item env) (sym (rolls-Touch node atom path)) ∙ ap (λ f. f env) (fold-roll-Witness (Values → List Touched) (touch_step item) _)
 
-touches-Bind : (item node : ℕ) (x : Var) (v : Value) (under : List Witness) (env : Values)
+pub touches-Bind : (item node : ℕ) (x : Var) (v : Value) (under : List Witness) (env : Values)
     → touches_in item env (Bind node x v under) ≡ flat_map (touches_in item (bound env x v)) under
 touches-Bind item node x v under env =
     ap (touches_in item env) (sym (rolls-Bind node x v under)) ∙ ap (λ f. f env) (fold-roll-Witness (Values → List Touched) (touch_step item) _)

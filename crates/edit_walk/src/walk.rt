@@ -28,8 +28,9 @@ use std::alloc::Global;
 /// The edits of witnesses of a rule, one a touch, in the order of the touches, of equal ones the first.
 ///
 /// `items` are those of the text, and `kinds` has for each the kinds of the nodes of its graph, none for an item without a
-/// tree. Linear in the text, in the body of the rule and in the forests, but for the alignment and the edit of each touch, and
-/// for each bind, which copies the environment above it.
+/// tree. [`have_even_blocks`](edit_marks::have_even_blocks) tells whether plus code is as is asked. Linear in the text, in the
+/// body of the rule and in the forests, but for the alignment and the edit of each touch, and for each bind, which copies the
+/// environment above it.
 pub fn edits(
     alloc: Global,
     witnesses: &[RuleWitness],

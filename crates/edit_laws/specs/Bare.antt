@@ -1,0 +1,18 @@
+-- Witnesses whose values have 0 in place of the ids of their tokens.
+use Rattle.std.specs.Prelude.{List, map}
+use Rattle.smpl_patch.specs.declared.witness.Witness.{Witness}
+use Rattle.smpl_patch.specs.declared.witness.Witness.TheOpen.{Witness-F}
+use Rattle.smpl_patch.specs.declared.witness.Witness.TheVariants.{Touch, Bind}
+use Rattle.smpl_patch.specs.declared.witness.Witness.TheFolds.{fold-Witness}
+use Rattle.smpl_patch.specs.declared.witness.RuleWitness.{RuleWitness}
+use Rattle.env_parts.specs.Parts.{bare_value, bare_env}
+
+abbrev pub bare_step : Witness-F Witness → Witness
+bare_step (Witness-F.Touch node atom path) = Touch node atom path
+bare_step (Witness-F.Bind node x v under) = Bind node x (bare_value v) under
+
+abbrev pub bare_tree : Witness → Witness
+bare_tree = fold-Witness Witness bare_step
+
+abbrev pub bare_witness : RuleWitness → RuleWitness
+bare_witness w = record w { env = bare_env w.env; forest = map bare_tree w.forest }

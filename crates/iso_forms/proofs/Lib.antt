@@ -1,0 +1,9 @@
+pub mod ListLemmas
+pub mod SpelledLemmas
+pub mod SeenLemmas
+pub mod MatchLemmas
+pub mod ListedLemmas
+pub mod ChoiceLemmas
+pub mod FormLemmas
+pub mod FirstLemmas
+mod Examples

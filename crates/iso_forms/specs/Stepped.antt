@@ -1,0 +1,40 @@
+-- For inside use: what is kept beside a list of forms, and what the parts of the expander answer.
+use Rattle.std.specs.Prelude.{ℕ, ◌≡◌, ◌≤◌, ◌<◌, Bool, true, false, List, [], ◌∷◌, ◌++◌, map, length, Option, Some, None}
+use Rattle.c_terms.specs.declared.tree.Tree.{Tree}
+use Rattle.c_terms.specs.Names.{has_name}
+use Rattle.iso_forms.specs.declared.matching.Bound.{Bound}
+use Rattle.iso_forms.specs.declared.listed.Listed.{Listed}
+use Rattle.iso_forms.specs.Forms.{is_among}
+use Rattle.iso_forms.specs.Spelled.{spelled}
+
+-- whether a side matched, and what its variables stand for then
+abbrev pub Answers : Bool → List Bound → Option (List Bound) → Type 0
+Answers true bound o = o ≡ Some bound
+Answers false bound o = o ≡ None
+
+-- the choice with each of the trees
+abbrev pub longer : List Tree → List Tree → List (List Tree)
+longer cs ts = map (λ t. cs ++ t ∷ []) ts
+
+-- each choice with each of the trees
+abbrev pub grown : List (List Tree) → List Tree → List (List Tree)
+grown [] ts = []
+grown (cs ∷ css) ts = longer cs ts ++ grown css ts
+
+abbrev pub grown_by : List (List Tree) → List (List Tree) → List (List Tree)
+grown_by css [] = css
+grown_by css (ts ∷ more) = grown_by (grown css ts) more
+
+-- a tree is in the list where its spelling is among these
+abbrev pub Knows : List (List ℕ) → List Tree → Type 0
+Knows seen list = (t : Tree) → has_name seen (spelled t) ≡ is_among list t
+
+-- the list is this one and within the limit, and what is seen is what it holds
+pub record Has (limit : ℕ) (forms : Listed) (list : List Tree) : Type 0 where
+  pub is : forms.list ≡ list
+  pub knows : Knows forms.seen forms.list
+  pub few : length forms.list ≤ limit
+
+-- the second list is the first and more
+abbrev pub Extends : List Tree → List Tree → Type 0
+Extends list all = (more : List Tree) × (all ≡ list ++ more)

@@ -1,0 +1,5 @@
+pub mod BareLemmas
+pub mod CarrierLemmas
+pub mod DependLemmas
+pub mod ShareLemmas
+mod Examples

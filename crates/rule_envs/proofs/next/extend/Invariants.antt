@@ -1,0 +1,8 @@
+use Rattle.std.proofs.Common.{◌≡◌, ◌++◌, drop, map}
+use Rattle.rule_envs.specs.Carriers as of
+use Rattle.rule_envs.proofs.next.extend.Given as goal
+
+abbrev pub invariant-loop-part : goal.invariant-loop-part
+invariant-loop-part l =
+    l.next ++ map (of.extended l.number l.carrier) (drop l.part-index l.parts)
+    ≡ l.initial.next ++ map (of.extended l.number l.carrier) l.parts

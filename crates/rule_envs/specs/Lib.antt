@@ -1,0 +1,6 @@
+-- What the contracts rest on, in reading order.
+pub mod Depends
+pub mod Inherited
+pub mod Shares
+pub mod Carriers
+pub mod Places

@@ -1,0 +1,50 @@
+// Whether what a rule depends on holds.
+ghost use Rattle.std.specs.Prelude.{◌≡◌, eqb};
+ghost use Rattle.std.specs.List.{list_any};
+ghost use Rattle.c_terms.specs.Same.{same_bytes};
+ghost use Rattle.rule_envs.specs.Depends as of;
+
+use c_terms::{Text, same_text};
+use smpl_patch::Dep;
+
+/// Whether what a rule depends on holds of an environment that carries these rules, where those rules have had a witness and
+/// those virtual names are defined. Recurses once a level, and takes no memory.
+pub fn judge(dep: &Dep, carried: &[u32], had: &[u32], defined: &[Text]) -> bool
+    ensures value { result ≡ of.judge carried.now had.now defined.now dep.now }
+{
+    match dep {
+        Dep::Always => true,
+        Dep::Had(rule) => has_rule(*rule, carried),
+        Dep::Ever(rule) => has_rule(*rule, had),
+        Dep::Defined(name) => is_defined(name, defined),
+        Dep::Not(d) => !judge(d.get(), carried, had, defined),
+        Dep::Both(d, e) => {
+            judge(d.get(), carried, had, defined) && judge(e.get(), carried, had, defined)
+        }
+        Dep::Either(d, e) => {
+            judge(d.get(), carried, had, defined) || judge(e.get(), carried, had, defined)
+        }
+    }
+}
+
+fn has_rule(rule: u32, rules: &[u32]) -> bool
+    ensures { result ≡ list_any (λ r. eqb r rule) rules.now }
+{
+    for r in rules {
+        if *r == rule {
+            return true;
+        }
+    }
+    false
+}
+
+fn is_defined(name: &Text, defined: &[Text]) -> bool
+    ensures { result ≡ list_any (λ d. same_bytes d name.now) defined.now }
+{
+    for d in defined {
+        if same_text(d.as_bytes(), name.as_bytes()) {
+            return true;
+        }
+    }
+    false
+}

@@ -1,0 +1,30 @@
+//! The environments of a file, as the rules of a patch go over it: which of them take part in a rule, what the rule is run
+//! under, and what becomes of them.
+//!
+//! - [`inherited_of`] lists the variables that a rule takes from earlier ones.
+//! - [`projections`] picks the environments that take part and gives their different values of those variables, each once.
+//! - [`exported`] gives the different values that some witnesses bring to later rules.
+//! - [`next_carriers`] replaces each environment that got witnesses by its extensions.
+//! - [`ids_do_not_count`] is a law, and does nothing: values are compared without the ids of their tokens.
+//!
+//! Values of two environments never come together: a projection is a part of one environment, and what is found under it
+//! extends just those that have it.
+#![tactic(auto)]
+
+mod carrier;
+mod depends;
+mod exports;
+mod fault;
+mod inherited;
+mod laws;
+mod next;
+mod shares;
+
+pub use carrier::{Carrier, envs_of, first_carriers};
+pub use depends::judge;
+pub use exports::exported;
+pub use fault::EnvsFault;
+pub use inherited::inherited_of;
+pub use laws::ids_do_not_count;
+pub use next::next_carriers;
+pub use shares::{Projected, projections};

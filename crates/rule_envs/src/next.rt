@@ -1,0 +1,107 @@
+// What becomes of the environments after a rule.
+ghost use Rattle.std.specs.Prelude.{◌≡◌, ◌<◌, ◌≤◌, ◌++◌, ℕ, List, [], Option, IfOk, IfErr, IsErrOf, map, length};
+ghost use Rattle.env_parts.specs.Parts.{Pairs, bare_env};
+ghost use Rattle.rule_envs.specs.declared.carrier.Carrier.{Carrier as One};
+ghost use Rattle.rule_envs.specs.Shares.{bare_carrier};
+ghost use Rattle.rule_envs.specs.Carriers as of;
+ghost use Rattle.rule_envs.specs.Places.{parts_at};
+
+use crate::carrier::{Carrier, copied};
+use crate::fault::EnvsFault;
+use c_terms::NoMemory;
+use env_parts::joined;
+use smpl_terms::Env;
+use sqlite_items::Items;
+use std::alloc::Global;
+
+const MOST_ENVIRONMENTS: usize = 10_000;
+
+fn extended(alloc: Global, number: u32, carrier: &Carrier, part: &Env) -> Result<Carrier, NoMemory>
+    ensures { IfOk result (λ c. c ≡ of.extended number carrier.now part.now) }
+{
+    let env = joined(alloc, &carrier.env, part)?;
+    let mut rules = Items::from_slice(alloc, carrier.rules.as_slice())?;
+    rules.push(number)?;
+    Ok(Carrier { env, rules })
+}
+
+fn extend(
+    alloc: Global,
+    number: u32,
+    carrier: &Carrier,
+    parts: &[Env],
+    next: Items<Carrier>,
+) -> Result<Items<Carrier>, NoMemory>
+    ensures { IfOk result (λ now. now ≡ next ++ map (of.extended number carrier.now) parts.now) }
+{
+    let mut next = next;
+    for part in parts {
+        let more = extended(alloc, number, carrier, part)?;
+        next.push(more)?;
+    }
+    Ok(next)
+}
+
+/// The environments, and after them what becomes of this one.
+fn replace(
+    alloc: Global,
+    number: u32,
+    carrier: &Carrier,
+    parts: &[Env],
+    next: Items<Carrier>,
+) -> Result<Items<Carrier>, NoMemory>
+    ensures { IfOk result (λ now. now ≡ next ++ of.replaced number carrier.now parts.now) }
+{
+    if parts.is_empty() {
+        let mut next = next;
+        next.push(copied(alloc, carrier)?)?;
+        return Ok(next);
+    }
+    extend(alloc, number, carrier, parts, next)
+}
+
+/// The parts at the place of a projection; none without a place.
+fn parts_of<'a>(parts: &'a [Items<Env>], place: Option<usize>) -> &'a [Env]
+    ensures { result.now ≡ parts_at parts.now place }
+{
+    match place {
+        None => &[],
+        Some(k) => match parts.get(k) {
+            None => &[],
+            Some(part) => part.as_slice(),
+        },
+    }
+}
+
+/// The environments after a rule: each that takes part and under whose share parts are brought is replaced by its extensions
+/// with them, in order, which carry the rule too; every other stays. `places` are those of [`crate::projections`], and `parts`
+/// the different exported values that each projection brings, as [`crate::exported`] lists them.
+///
+/// - `TooMany`: more than 10,000 environments come out. No more than one environment's extensions are made beyond that.
+/// - `NoMemory`: memory was refused.
+pub fn next_carriers(
+    alloc: Global,
+    number: u32,
+    carriers: &[Carrier],
+    places: &[Option<usize>],
+    parts: &[Items<Env>],
+) -> Result<Items<Carrier>, EnvsFault>
+    requires lengths { length places.now ≡ length carriers.now }
+    ensures carriers { IfOk result (λ next. (share : One → Option Pairs) (brings : Pairs → List Pairs)
+        → of.AreBrought share brings (map bare_carrier carriers.now) places.now (map (map bare_env) parts.now)
+        → map bare_carrier next ≡ of.next_carriers number share brings (map bare_carrier carriers.now)) }
+    ensures few { IfOk result (λ next. length next ≤ of.most_environments) }
+    ensures too_many { IsErrOf result EnvsFault.TooMany → (share : One → Option Pairs) (brings : Pairs → List Pairs)
+        → of.AreBrought share brings (map bare_carrier carriers.now) places.now (map (map bare_env) parts.now)
+        → of.most_environments < length (of.next_carriers number share brings (map bare_carrier carriers.now)) }
+{
+    let mut next = Items::new(alloc);
+    for i in 0..carriers.len() {
+        let brought = parts_of(parts, places[i]);
+        next = replace(alloc, number, &carriers[i], brought, next)?;
+        if next.len() > MOST_ENVIRONMENTS {
+            return Err(EnvsFault::TooMany);
+        }
+    }
+    Ok(next)
+}

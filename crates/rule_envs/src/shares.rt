@@ -1,0 +1,109 @@
+// What a rule is run under.
+ghost use Rattle.std.specs.Prelude.{◌≡◌, IfOk, IsSomeAnd, MatchOption, None, Some, ℕ, true, map, slice_get};
+ghost use Rattle.std.specs.List.{list_all, AllZip};
+ghost use Rattle.smpl_terms.specs.Environments.{has_value};
+ghost use Rattle.env_parts.specs.Parts as parts;
+ghost use Rattle.rule_envs.specs.Shares as of;
+
+use crate::carrier::Carrier;
+use crate::depends::judge;
+use c_terms::{NoMemory, Text};
+use env_parts::{DistinctEnvs, restricted};
+use smpl_patch::Dep;
+use smpl_terms::{Env, Var};
+use sqlite_items::Items;
+use std::alloc::Global;
+
+/// What a rule is run under, and where each environment finds its share of it.
+#[derive(Drop)]
+pub struct Projected {
+    pub projections: Items<Env>,
+    /// For each environment the place of its projection; none where it takes no part.
+    pub places: Items<Option<usize>>,
+}
+
+fn has_all(env: &Env, vars: &[Var]) -> bool
+    ensures { result ≡ list_all (has_value env.now) vars.now }
+{
+    for x in vars {
+        if !env.has(x) {
+            return false;
+        }
+    }
+    true
+}
+
+/// The values of the inherited variables, where the environment takes part in the rule.
+fn share(
+    alloc: Global,
+    defined: &[Text],
+    had: &[u32],
+    depends: &Dep,
+    inherited: &[Var],
+    carrier: &Carrier,
+) -> Result<Option<Env>, NoMemory>
+    ensures { IfOk result (λ o. o ≡ of.share defined.now had.now depends.now inherited.now carrier.now) }
+{
+    if !judge(depends, carrier.rules.as_slice(), had, defined) {
+        return Ok(None);
+    }
+    if !has_all(&carrier.env, inherited) {
+        return Ok(None);
+    }
+    let env = restricted(alloc, &carrier.env, inherited)?;
+    Ok(Some(env))
+}
+
+/// Different shares, and the place of one of them.
+#[derive(Drop)]
+struct Shared {
+    envs: DistinctEnvs,
+    place: Option<usize>,
+}
+
+fn with_share(alloc: Global, envs: DistinctEnvs, share: Option<Env>) -> Result<Shared, NoMemory>
+    ensures { IfOk result (λ r. MatchOption share ((r.envs ≡ envs) × (r.place ≡ None)) (λ env.
+        (r.envs ≡ parts.with_new envs env) × ((k : ℕ) × ((r.place ≡ Some k)
+        × IsSomeAnd (slice_get r.envs k) (λ e. parts.same_env env e ≡ true))))) }
+{
+    match share {
+        None => Ok(Shared { envs, place: None }),
+        Some(env) => {
+            let placed = envs.with(alloc, env)?;
+            Ok(Shared {
+                envs: placed.envs,
+                place: Some(placed.place),
+            })
+        }
+    }
+}
+
+/// What the rule is run under: the different shares of the environments that take part, in the order in which they first
+/// appear; and for each environment the place of its share. Costs a look-up in a search tree for each environment, beside its
+/// own look-ups.
+pub fn projections(
+    alloc: Global,
+    defined: &[Text],
+    had: &[u32],
+    depends: &Dep,
+    inherited: &[Var],
+    carriers: &[Carrier],
+) -> Result<Projected, NoMemory>
+    ensures projections { IfOk result (λ r. r.projections
+        ≡ of.projections defined.now had.now depends.now inherited.now carriers.now) }
+    ensures places { IfOk result (λ r. AllZip (of.StandsAt (map parts.bare_env r.projections))
+        (map (of.share defined.now had.now depends.now inherited.now) (map of.bare_carrier carriers.now)) r.places) }
+{
+    let mut envs = DistinctEnvs::new(alloc);
+    let mut places = Items::new(alloc);
+    for carrier in carriers {
+        let share = share(alloc, defined, had, depends, inherited, carrier)?;
+        let shared = with_share(alloc, envs, share)?;
+        envs = shared.envs;
+        places.push(shared.place)?;
+    }
+    Ok(Projected {
+        projections: envs.into_envs(),
+        places,
+    })
+}

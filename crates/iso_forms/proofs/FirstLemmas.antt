@@ -1,12 +1,11 @@
 -- The tree itself is the first of its forms.
 -- Proof: by induction on the tree. The first choice is that of the first form of each child, so the first branch is the tree, and
 -- isomorphisms add at the end.
-use Rattle.std.proofs.Common.{◌≡◌, ℕ, Bool, true, false, if◌then◌else◌, List, [], ◌∷◌, ◌++◌, map, Some, refl, ap, ◌∙◌}
+use Rattle.std.proofs.Common.{◌≡◌, Bool, true, false, if◌then◌else◌, List, [], ◌∷◌, ◌++◌, map, Some, refl, ap, ◌∙◌}
 use Rattle.std.specs.Prelude.{slice_get}
-use Rattle.c_terms.specs.declared.token.Token.{Token}
 use Rattle.c_terms.specs.declared.label.Label.{Label}
 use Rattle.c_terms.specs.declared.tree.Tree.{Tree}
-use Rattle.c_terms.specs.declared.tree.Tree.TheVariants.{Leaf, Branch}
+use Rattle.c_terms.specs.declared.tree.Tree.TheVariants.{Branch}
 use Rattle.c_terms.specs.Trees.{join}
 use Rattle.c_terms.proofs.Induct.{Each, tree_induction}
 use Rattle.smpl_patch.specs.declared.pattern.PatToken.{PatToken}
@@ -63,4 +62,4 @@ module _ (tokens : List PatToken) (isos : List Iso) where
   first_form = tree_induction IsFirst
       (λ a. ap (λ (ts : List Tree). slice_get ts 0) (forms-Leaf tokens isos a))
       (λ l cs each. ap (λ (ts : List Tree). slice_get ts 0) (forms-Branch tokens isos l cs)
-          ∙ of_first l (choices (map (forms tokens isos) cs)) cs (first_choice (map (forms tokens isos) cs) cs (all_first cs each)))
+      ∙ of_first l (choices (map (forms tokens isos) cs)) cs (first_choice (map (forms tokens isos) cs) cs (all_first cs each)))

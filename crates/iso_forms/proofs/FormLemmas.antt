@@ -16,7 +16,7 @@ use Rattle.iso_forms.specs.Forms.{choices, branches, with_isos, of_choices, form
 use Rattle.iso_forms.specs.Stepped.{grown, grown_by}
 use Rattle.iso_forms.proofs.ListLemmas.{drop_item}
 use Rattle.iso_forms.proofs.ListedLemmas.{isos-extend}
-use Rattle.iso_forms.proofs.ChoiceLemmas.{AllSome, grown-choices, grown-ways, grown-choices_length, grown_by-length}
+use Rattle.iso_forms.proofs.ChoiceLemmas.{AllSome, grown-choices, grown-ways, grown_by-length}
 
 module _ (tokens : List PatToken) (isos : List Iso) where
   pub forms-Leaf : (a : Token) → forms tokens isos (Leaf a) ≡ Leaf a ∷ []

@@ -1,14 +1,12 @@
 -- Spellings that are seen, beside the trees of a list.
-use Rattle.std.proofs.Common.{◌≡◌, ℕ, ◌+◌, ◌<◌, ◌≤◌, Bool, true, false, true≢false, ◌||◌, if◌then◌else◌, List, [], ◌∷◌, ◌++◌, length, get_or, drop, refl, sym, ap, subst, ◌∙◌, arith, length-append}
-use Rattle.std.specs.List.{list_any}
+use Rattle.std.proofs.Common.{◌≡◌, ℕ, ◌+◌, ◌<◌, Bool, true, false, ◌||◌, if◌then◌else◌, List, [], ◌∷◌, ◌++◌, length, get_or, drop, refl, sym, ap, subst, ◌∙◌, arith, length-append}
 use Rattle.std.proofs.lemmas.List.Folds.{list_any-append}
 use Rattle.c_terms.specs.declared.tree.Tree.{Tree}
 use Rattle.c_terms.specs.Same.{same_tree, same_bytes}
 use Rattle.c_terms.specs.Names.{has_name, with_name}
-use Rattle.c_terms.proofs.SameLaws.{tree-sym, bytes-refl}
+use Rattle.c_terms.proofs.SameLaws.{tree-sym}
 use Rattle.c_terms.proofs.BareLaws.{same_bytes-equal}
 use Rattle.iso_forms.specs.Spelled.{spelled}
-use Rattle.iso_forms.specs.declared.listed.Listed.{Listed}
 use Rattle.iso_forms.specs.Forms.{is_among, with_form}
 use Rattle.iso_forms.specs.Stepped.{Knows, Has}
 use Rattle.iso_forms.proofs.ListLemmas.{drop_item}

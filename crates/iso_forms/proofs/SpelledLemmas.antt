@@ -1,6 +1,6 @@
 -- Two trees are the same exactly where they are spelled alike.
 -- Proof: what is spelled has an end that its beginning tells, so a spelling with more behind it is read in one way.
-use Rattle.std.proofs.Common.{◌≡◌, ℕ, ◌+◌, Bool, true, false, true≢false, ◌&&◌, eqb, List, [], ◌∷◌, ◌++◌, map, refl, sym, ap, ◌∙◌, append_assoc, arith}
+use Rattle.std.proofs.Common.{◌≡◌, ℕ, Bool, true, false, true≢false, ◌&&◌, List, [], ◌∷◌, ◌++◌, map, refl, sym, ap, ◌∙◌, append_assoc, arith}
 use Rattle.std.proofs.lemmas.Bool.Decides.{nat_tests}
 use Rattle.std.proofs.lemmas.Grind.{common_steps}
 use Rattle.c_terms.specs.declared.token.Token.{Token}
@@ -14,7 +14,6 @@ use Rattle.c_terms.proofs.SameLaws.{bytes-refl}
 use Rattle.c_terms.proofs.BareLaws.{same_bytes-equal}
 use Rattle.c_terms.proofs.Induct.{Each, tree_induction, tree_cases}
 use Rattle.iso_forms.specs.Spelled.{spell_text, spell_all, spell_token, spell_step, spelled}
-use Rattle.iso_forms.proofs.ListLemmas.{append_empty}
 
 pub spelled-Leaf : (a : Token) → spelled (Leaf a) ≡ spell_token a
 spelled-Leaf a = ap spelled (sym (rolls-Leaf a)) ∙ fold-roll-Tree (List ℕ) spell_step _

@@ -1,5 +1,5 @@
 -- For inside use: what is kept beside a list of forms, and what the parts of the expander answer.
-use Rattle.std.specs.Prelude.{ℕ, ◌≡◌, ◌≤◌, ◌<◌, Bool, true, false, List, [], ◌∷◌, ◌++◌, map, length, Option, Some, None}
+use Rattle.std.specs.Prelude.{ℕ, ◌≡◌, ◌≤◌, Bool, true, false, List, [], ◌∷◌, ◌++◌, map, length, Option, Some, None}
 use Rattle.c_terms.specs.declared.tree.Tree.{Tree}
 use Rattle.c_terms.specs.Names.{has_name}
 use Rattle.iso_forms.specs.declared.matching.Bound.{Bound}

@@ -8,5 +8,4 @@ ghost use Rattle.iso_forms.specs.Forms.{forms};
 /// The tree itself is the first of its forms.
 pub fn the_tree_comes_first()
     ensures { (tokens : List PatToken) (isos : List Iso) (t : Tree) → slice_get (forms tokens isos t) 0 ≡ Some t }
-{
-}
+{}

@@ -1,7 +1,7 @@
-use Rattle.std.proofs.Common.{◌≡◌, ◌∙◌, ◌<◌, length, subst, sym, arith, true, false, Some, None}
+use Rattle.std.proofs.Common.{◌≡◌, ◌∙◌, ◌<◌, length, subst, arith, Some}
 use Rattle.iso_forms.specs.Matching.{matched}
 use Rattle.iso_forms.specs.Stepped.{Answers}
-use Rattle.iso_forms.proofs.MatchLemmas.{each-uneven, each_more, each_fails}
+use Rattle.iso_forms.proofs.MatchLemmas.{each-uneven, each_more}
 use Rattle.iso_forms.proofs.matching.+matching.Goals as goal
 
 pub all_match-returns-then-sides-trees : goal.all_match-returns-then-sides-trees

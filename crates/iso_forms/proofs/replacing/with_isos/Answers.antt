@@ -1,9 +1,9 @@
-use Rattle.std.proofs.Common.{◌≡◌, ◌+◌, List, drop, sym, ap, ◌∙◌}
+use Rattle.std.proofs.Common.{◌+◌, List, drop, sym, ap, ◌∙◌}
 use Rattle.std.proofs.lemmas.Result.{err_from_is_err_and}
 use Rattle.c_terms.specs.declared.tree.Tree.{Tree}
 use Rattle.iso_forms.specs.Forms.{with_iso, with_isos}
 use Rattle.iso_forms.proofs.ListLemmas.{drop_item}
-use Rattle.iso_forms.proofs.ListedLemmas.{isos-extend, extends-along, refused_more, kept}
+use Rattle.iso_forms.proofs.ListedLemmas.{isos-extend, extends-along, refused_more}
 use Rattle.iso_forms.proofs.replacing.with_isos.Goals as goal
 
 pub returns-in_err-add_iso-clause-refused : goal.returns-in_err-add_iso-clause-refused

@@ -1,5 +1,5 @@
-use Rattle.std.proofs.Common.{◌≡◌, ◌<◌, false, length, ap, sym, ◌∙◌, arith}
-use Rattle.c_terms.specs.Names.{has_name, with_name}
+use Rattle.std.proofs.Common.{◌≡◌, ◌<◌, false, length, arith}
+use Rattle.c_terms.specs.Names.{has_name}
 use Rattle.iso_forms.proofs.SeenLemmas.{gains}
 use Rattle.iso_forms.proofs.listed.Listed.add.Goals as goal
 

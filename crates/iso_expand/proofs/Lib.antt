@@ -1,0 +1,6 @@
+pub mod Weights
+pub mod BodyLemmas
+pub mod DotsLemmas
+pub mod RoomLemmas
+pub mod RuleLemmas
+pub mod ShapeLemmas

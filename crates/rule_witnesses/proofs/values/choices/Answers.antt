@@ -1,0 +1,45 @@
+use Rattle.std.proofs.Common.{◌≡◌, [], ◌∷◌, List, sym, ap, ◌∙◌, subst, map, length}
+use Rattle.std.specs.List.{filter}
+use Rattle.std.proofs.lemmas.Result.{IfOk-weaker}
+use Rattle.smpl_terms.specs.declared.value.Value.{Value}
+use Rattle.smpl_terms.specs.Environments.{total}
+use Rattle.env_parts.specs.Parts.{bare_env}
+use Rattle.env_sets.specs.Sets.{Entries, set_denotes}
+use Rattle.wit_trees.specs.Rules as rules
+use Rattle.rule_witnesses.specs.Choices.{Leaves}
+use Rattle.rule_witnesses.specs.Opened.{AreOpen}
+use Rattle.rule_witnesses.specs.Extended.{AreChoices}
+use Rattle.rule_witnesses.proofs.ExtendLemmas.{all_open, all_choices, no_choices, empty_set}
+use Rattle.rule_witnesses.proofs.values.choices.Goals as goal
+
+pub returns-then-is_none : goal.returns-then-is_none
+returns-then-is_none c = record {
+  envs = λ values leaves. ap (map bare_env) c.new.ensures.items
+      ∙ empty_set c.args.set.now (c.is_none.ensures.none c.if-is_none.true) (rules.choices (rules.in_order values) c.args.vars.now c.args.env.now);
+}
+
+pub returns-then-not-denotes : goal.returns-then-not-denotes
+returns-then-not-denotes c =
+    let last = all_open c.args.set.now c.args.vars.now c.in_ok-sets.sets.items c.index.result.now c.in_ok-sets.ensures c.index.ensures in
+    record {
+      envs = λ values leaves. ap (map bare_env) c.new-then-not-denotes.ensures.items
+          ∙ no_choices c.args.set.now c.args.vars.now c.args.env.now c.index.result.now last c.requires.new
+          (sym c.denotes.ensures.meaning ∙ c.if-not-denotes.true) values;
+    }
+
+pub returns : goal.returns
+returns c =
+    let set = c.args.set.now in
+    let vars = c.args.vars.now in
+    let env = c.args.env.now in
+    let last = all_open set vars c.in_ok-sets.sets.items c.index.result.now c.in_ok-sets.ensures c.index.ensures in
+    record {
+      envs = IfOk-weaker c.all_extended.result
+          (λ envs. (s : Entries) → AreOpen s vars c.as_slice.result.now → AreChoices s vars (env ∷ []) envs.items)
+          (λ envs. (values : List Value) → Leaves values vars set env
+          → map bare_env envs.items ≡ map bare_env (filter (λ e. set_denotes set (total e)) (rules.choices (rules.in_order values) vars env)))
+          (λ envs h values leaves. all_choices set vars env c.index.result.now last envs.items c.requires.new
+          (sym c.denotes.ensures.meaning ∙ c.if-not-denotes.false)
+          (h set (subst (AreOpen set vars) (sym c.as_slice.ensures.value) c.in_ok-sets.ensures)) values leaves)
+          c.all_extended.ensures;
+    }

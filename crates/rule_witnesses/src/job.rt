@@ -1,0 +1,170 @@
+// The witnesses of a rule in one item.
+ghost use Rattle.std.specs.Prelude.{◌≡◌, ◌<◌, ◌≤◌, ◌+◌, ◌∷◌, ◌++◌, [], true, IfOk, OnOk, Err, map, length};
+ghost use Rattle.cfg_graph.specs.Flow.{count_of};
+ghost use Rattle.smpl_terms.specs.Environments.{Environment, total};
+ghost use Rattle.env_sets.specs.Sets.{set_denotes};
+ghost use Rattle.ctl_formula.specs.Formulas.{plain};
+ghost use Rattle.ctl_holds.specs.Parts.{EachPattern};
+ghost use Rattle.ctl_holds.specs.BoundLaw.{SureStand};
+ghost use Rattle.ctl_holds.specs.Rounds.{holds};
+ghost use Rattle.ctl_holds.specs.Values.{values_of};
+ghost use Rattle.ctl_fixpoint.specs.States.{AreStateSets};
+ghost use Rattle.wit_order.specs.Same.{same_forest};
+ghost use Rattle.wit_order.specs.Sizes.{forest_size};
+ghost use Rattle.wit_trees.specs.Graphs.{forest_of};
+ghost use Rattle.rule_witnesses.specs.Bare.{bare_witness};
+ghost use Rattle.rule_witnesses.specs.Choices.{AreNew, Leaves};
+ghost use Rattle.rule_witnesses.specs.Jobs.{nodes_of, BindsExports, witness_at, witnesses_at, witnesses_of};
+ghost use Rattle.rule_witnesses.specs.declared.fault.JobFault.TheVariants as fault;
+
+use crate::fault::{JobFault, fault_of};
+use crate::found::Found;
+use crate::values::choices;
+use c_terms::NoMemory;
+use cfg_graph::Graph;
+use ctl_fixpoint::sat;
+use ctl_formula::Formula;
+use env_sets::{EnvSet, StateSets};
+use smpl_patch::{RuleWitness, Witness};
+use smpl_terms::{Env, Var};
+use sqlite_items::Items;
+use std::alloc::Global;
+use wit_forest::forest;
+
+/// The number of the node that the whole formula is. From 2^32 on it is refused as if memory had run out.
+fn root_of(f: &Formula) -> Result<u32, NoMemory>
+    ensures root { IfOk result (λ root. root ≡ f.now.root) }
+    ensures within { IfOk result (λ root. root < length f.now.nodes) }
+{
+    let root = f.root();
+    if root > u32::MAX as usize {
+        return Err(NoMemory);
+    }
+    Ok(root as u32)
+}
+
+fn forest_at(
+    alloc: Global,
+    g: &Graph,
+    f: &Formula,
+    sets: &StateSets,
+    s: u32,
+    env: &Env,
+) -> Result<Vec<Witness>, JobFault>
+    requires node { s < count_of g.now }
+    requires stand { EachPattern (SureStand f.now.decls f.now.tokens) (plain f.now) }
+    requires sets { AreStateSets g.now f.now sets.now }
+    ensures trees { IfOk result (λ ws. same_forest ws.items
+        (forest_of f.now.decls f.now.tokens g.now (plain f.now) s (total env.now)) ≡ true) }
+    ensures too_many { result ≡ Err fault.TooMany → 1000000 < forest_size
+        (forest_of f.now.decls f.now.tokens g.now (plain f.now) s (total env.now)) }
+{
+    match forest(alloc, g, f, sets, s, env) {
+        Ok(trees) => Ok(trees),
+        Err(of_forest) => Err(fault_of(of_forest)),
+    }
+}
+
+/// One more witness, with its forest.
+fn with_witness(
+    alloc: Global,
+    g: &Graph,
+    f: &Formula,
+    sets: &StateSets,
+    rule: u32,
+    item: u32,
+    s: u32,
+    env: &Env,
+    so_far: Found,
+) -> Result<Found, JobFault>
+    requires node { s < count_of g.now }
+    requires stand { EachPattern (SureStand f.now.decls f.now.tokens) (plain f.now) }
+    requires sets { AreStateSets g.now f.now sets.now }
+    ensures found { IfOk result (λ now. map bare_witness now.witnesses ≡ map bare_witness
+        (so_far.witnesses ++ witness_at f.now g.now [] rule item s env.now ∷ [])) }
+    ensures too_many { result ≡ Err fault.TooMany → 1000000 < nodes_of
+        (so_far.witnesses ++ witness_at f.now g.now [] rule item s env.now ∷ []) }
+{
+    let trees = forest_at(alloc, g, f, sets, s, env)?;
+    let env = env.copy(alloc)?;
+    let forest = Items::from_vec(trees);
+    so_far.with(RuleWitness {
+        rule,
+        item,
+        node: s,
+        env,
+        forest,
+    })
+}
+
+/// The witnesses at one more node.
+fn with_node(
+    alloc: Global,
+    g: &Graph,
+    f: &Formula,
+    sets: &StateSets,
+    set: &EnvSet,
+    exports: &[Var],
+    rule: u32,
+    item: u32,
+    s: u32,
+    env: &Env,
+    so_far: Found,
+) -> Result<Found, JobFault>
+    requires node { s < count_of g.now }
+    requires stand { EachPattern (SureStand f.now.decls f.now.tokens) (plain f.now) }
+    requires sets { AreStateSets g.now f.now sets.now }
+    requires told { (e : Environment) → set_denotes set.now e
+        ≡ holds f.now.decls f.now.tokens g.now (count_of g.now + 1) (plain f.now) s e }
+    requires leaves { Leaves (values_of g.now) exports.now set.now env.now }
+    requires new { AreNew exports.now env.now }
+    ensures found { IfOk result (λ now. map bare_witness now.witnesses ≡ map bare_witness
+        (so_far.witnesses ++ witnesses_at f.now g.now exports.now rule item s env.now)) }
+    ensures too_many { result ≡ Err fault.TooMany → 1000000 < nodes_of
+        (so_far.witnesses ++ witnesses_at f.now g.now exports.now rule item s env.now) }
+{
+    let envs = choices(alloc, set, exports, env)?;
+    let mut found = so_far;
+    for e in &envs {
+        found = with_witness(alloc, g, f, sets, rule, item, s, e, found)?;
+    }
+    Ok(found)
+}
+
+/// The witnesses of a rule in one item, under an environment that gives the inherited variables their values: by nodes, then
+/// by the values of the exported variables, each with its forest. Contracts compare them with the ids of terms left out.
+///
+/// `rule` and `item` are the numbers that the witnesses carry. The formula binds each exported variable, and its patterns'
+/// sure variables stand in them, as those of every rule of a patch that is read.
+///
+/// - `TooMany`: the forests have more than 1,000,000 touches and binds in all.
+/// - `NoMemory`: memory was refused, or the formula's table has 2^32 nodes.
+///
+/// Costs one call of [`sat`], one of [`choices`](crate::choices) a node, and one of [`forest`] a witness.
+pub fn item_witnesses(
+    alloc: Global,
+    g: &Graph,
+    f: &Formula,
+    exports: &[Var],
+    rule: u32,
+    item: u32,
+    env: &Env,
+) -> Result<Items<RuleWitness>, JobFault>
+    requires stand { EachPattern (SureStand f.now.decls f.now.tokens) (plain f.now) }
+    requires binds { BindsExports f.now exports.now }
+    requires new { AreNew exports.now env.now }
+    ensures found { IfOk result (λ found. map bare_witness found ≡ map bare_witness
+        (witnesses_of f.now g.now exports.now rule item env.now)) }
+    ensures few { OnOk result (nodes_of (witnesses_of f.now g.now exports.now rule item env.now) ≤ 1000000) }
+    ensures too_many { result ≡ Err fault.TooMany → 1000000 < nodes_of
+        (witnesses_of f.now g.now exports.now rule item env.now) }
+{
+    let root = root_of(f)?;
+    let sets = sat(alloc, g, f)?;
+    let mut found = Found::none(alloc);
+    for s in 0..g.count() {
+        let set = sets.at(root, s);
+        found = with_node(alloc, g, f, &sets, set, exports, rule, item, s, env, found)?;
+    }
+    Ok(found.into_items())
+}

@@ -1,7 +1,7 @@
 -- Under environments that give each variable the same value, the same forms fit and the same tokens are aligned.
-use Rattle.std.proofs.Common.{◌≡◌, ℕ, suc, Bool, true, false, cond, ◌&&◌, ◌||◌, not, refl, sym, ap, ◌∙◌, List, [], ◌∷◌, ◌++◌, map, length, take, drop, Option, Some, None}
+use Rattle.std.proofs.Common.{◌≡◌, ℕ, suc, Bool, cond, ◌&&◌, not, refl, sym, ◌∙◌, List, [], ◌∷◌, ◌++◌, map, length, take, drop, Option, Some, None}
 use Rattle.std.specs.Prelude.{slice_get, if◌then◌else◌}
-use Rattle.std.specs.List.{list_any, list_all}
+use Rattle.std.specs.List.{list_all}
 use Rattle.c_terms.specs.declared.token.Token.{Token}
 use Rattle.c_terms.specs.declared.token.TokenKind.{TokenKind}
 use Rattle.c_terms.specs.declared.token.TokenKind.TheVariants as kind
@@ -34,12 +34,11 @@ use Rattle.smpl_patch.specs.declared.pattern.Spot.TheVariants as spot
 use Rattle.smpl_patch.specs.Patterns.{declared_as, is_statement_token}
 use Rattle.pat_match.specs.Kinds.{is_of_kind, is_named}
 use Rattle.pat_match.specs.Tokens.{is_place, not_places, stands_at, value_is, meta_fits, run_is, token_fits, stands, leaf_fits, first_id, id_of}
-use Rattle.pat_match.specs.Runs.{Piece, Pair, comma_fits, comma_pairs, taken_pairs, run_fits, takes, runs_from, list_fits, list_pairs, single_fits, is_wild, as_comma, some_below, least, fewest, leftmost, runs_pairs}
+use Rattle.pat_match.specs.Runs.{Piece, Pair, comma_fits, comma_pairs, taken_pairs, run_fits, takes, runs_from, list_pairs, single_fits, is_wild, as_comma, some_below, least, fewest, leftmost, runs_pairs}
 use Rattle.pat_match.specs.Fitting.{piece, fits_by, pairs_by, kids_pairs, kids_fit}
 use Rattle.pat_match.specs.Spots.{own_fits, own_fit, own_pairs, token_whole, branch_whole, whole_at, fits_at, is_disjunction, option_fits, option_pairs, open_brace, close_brace, is_open_brace, is_close_brace, is_statement_node, is_simple_node, is_tail_node, own_alignment, token_alignment, branch_alignment, whole_alignment, alignment_at}
 use Rattle.pat_match.specs.Matching.{fits_seat, is_live_in}
 use Rattle.pat_match.proofs.Pieces.{piece-Leaf, piece-Branch}
-use Rattle.pat_pairs.specs.declared.pairs.AlignedToken.{AlignedToken}
 use Rattle.pat_pairs.specs.Pairs.{numbers, first_aligned, aligned_tokens}
 use Rattle.wit_trees.specs.Alike.{Alike}
 

@@ -1,10 +1,8 @@
 -- The edits of witnesses are those of the witnesses without the ids of their values.
-use Rattle.std.proofs.Common.{◌≡◌, ◌==◌, ℕ, Bool, true, false, refl, sym, ap, subst, ◌∙◌, List, [], ◌∷◌, ◌++◌, map}
+use Rattle.std.proofs.Common.{◌≡◌, ◌==◌, ℕ, refl, sym, ap, subst, ◌∙◌, List, [], ◌∷◌, ◌++◌, map}
 use Rattle.std.specs.Prelude.{Option, None, Some, option_and_then, slice_get}
 use Rattle.std.proofs.lemmas.List.{map-append}
-use Rattle.std.proofs.lemmas.List.Folds.{flat_map-map}
 use Rattle.std.specs.List.{flat_map, list_any, AllZip}
-use Rattle.c_terms.specs.declared.tree.Tree.{Tree}
 use Rattle.c_lexer.specs.Pieces.{TextPiece}
 use Rattle.c_lexer.specs.Ids.{ids_of}
 use Rattle.cpp_lines.specs.declared.reading.Item.{Item}
@@ -19,13 +17,12 @@ use Rattle.smpl_patch.specs.declared.pattern.PlusBlock.{PlusBlock}
 use Rattle.smpl_patch.specs.declared.rule.Rule.{Rule}
 use Rattle.smpl_patch.specs.declared.witness.Witness.{Witness}
 use Rattle.smpl_patch.specs.declared.witness.Witness.TheVariants.{Touch, Bind, rolls-Touch, rolls-Bind}
-use Rattle.smpl_patch.specs.declared.witness.Witness.TheFolds.{fold-Witness, fold-roll-Witness}
+use Rattle.smpl_patch.specs.declared.witness.Witness.TheFolds.{fold-roll-Witness}
 use Rattle.smpl_patch.specs.declared.witness.RuleWitness.{RuleWitness}
 use Rattle.smpl_patch.specs.Bodies.{body}
 use Rattle.smpl_patch.specs.Shapes.{patterns_body}
 use Rattle.wit_order.proofs.Induct.{Each, witness_induction}
-use Rattle.pat_pairs.specs.declared.pairs.AlignedToken.{AlignedToken}
-use Rattle.env_parts.specs.Parts.{Pairs, bare_value, bare_env}
+use Rattle.env_parts.specs.Parts.{bare_value, bare_env}
 use Rattle.edit_conflict.specs.declared.edit.Insert.{Insert}
 use Rattle.edit_conflict.specs.declared.edit.Edit.{Edit}
 use Rattle.edit_marks.specs.declared.mark.Aligned.{Aligned}
@@ -35,10 +32,10 @@ use Rattle.edit_marks.specs.Blocks.{block_ends}
 use Rattle.edit_marks.specs.Inserts.{insert_of}
 use Rattle.edit_marks.specs.Edits.{block_of, side_of, anchor_of, insert_if, inserts_at, EditOf}
 use Rattle.edit_marks.specs.Tokens.{file_tokens}
-use Rattle.edit_walk.specs.Touches.{Values, Touched, bound, touch_step, touches_in, touches_of, touches}
-use Rattle.edit_walk.specs.Named.{pattern_of, kind_at, tree_at, pairs_of, alignment, pairs_at}
+use Rattle.edit_walk.specs.Touches.{Values, Touched, bound, touches_in, touches_of, touches}
+use Rattle.edit_walk.specs.Named.{pattern_of, kind_at, tree_at, pairs_of, pairs_at}
 use Rattle.edit_walk.specs.Edited.{IsEditAt, AreEdits}
-use Rattle.edit_walk.proofs.TouchLemmas.{touched, touches-Touch, touches-Bind}
+use Rattle.edit_walk.proofs.TouchLemmas.{touches-Touch, touches-Bind}
 use Rattle.edit_laws.specs.Bare.{bare_step, bare_tree, bare_witness}
 use Rattle.edit_laws.proofs.AlignLemmas.{aligned_alike}
 use Rattle.edit_laws.proofs.ValueLemmas.{bare_alike, bare_bound, block_alike, end_alike}

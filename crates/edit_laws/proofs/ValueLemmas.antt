@@ -1,5 +1,5 @@
 -- Values without ids: what they are looked up as, how they are written out, and the texts of plus code that has them.
-use Rattle.std.proofs.Common.{◌≡◌, ◌+◌, ◌-◌, ℕ, zero, suc, Bool, true, false, cond, refl, sym, ap, ◌∙◌, List, [], ◌∷◌, ◌++◌, map, length, take, drop}
+use Rattle.std.proofs.Common.{◌≡◌, ◌+◌, ◌-◌, ℕ, suc, Bool, true, false, cond, refl, sym, ap, ◌∙◌, List, [], ◌∷◌, ◌++◌, map, length, take, drop}
 use Rattle.std.specs.Prelude.{Option, None, Some, unwrap_or, option_map, option_and_then, slice_get, if◌then◌else◌}
 use Rattle.std.proofs.lemmas.List.{map-append, length-map, take-map, drop-map}
 use Rattle.std.proofs.lemmas.Option.{slice_get-map}
@@ -8,7 +8,7 @@ use Rattle.std.specs.Ordering.{is_lt}
 use Rattle.c_terms.specs.declared.token.Token.{Token}
 use Rattle.c_terms.specs.declared.label.Label.{Label}
 use Rattle.c_terms.specs.declared.tree.Tree.{Tree}
-use Rattle.c_terms.specs.declared.tree.Tree.TheVariants.{Leaf, Branch}
+use Rattle.c_terms.specs.declared.tree.Tree.TheVariants.{Branch}
 use Rattle.c_terms.specs.Trees.{leaves, join}
 use Rattle.c_terms.specs.Bare.{bare}
 use Rattle.c_terms.proofs.Induct.{Each, tree_induction}
@@ -17,7 +17,7 @@ use Rattle.c_terms.proofs.BareLaws.{bare-Leaf, bare-Branch, bare-same}
 use Rattle.smpl_terms.specs.declared.var.Var.{Var}
 use Rattle.smpl_terms.specs.declared.value.Value.{Value}
 use Rattle.smpl_terms.specs.declared.value.Value.TheVariants.{Term, Place}
-use Rattle.smpl_terms.specs.Vars.{same_var, var_order, place_of, with_pair}
+use Rattle.smpl_terms.specs.Vars.{var_order, place_of, with_pair}
 use Rattle.smpl_terms.specs.Values.{same}
 use Rattle.smpl_terms.specs.Environments.{value_in, has_value, total}
 use Rattle.smpl_terms.proofs.ValueLaws.{same-refl}
@@ -27,7 +27,7 @@ use Rattle.smpl_patch.specs.declared.pattern.PlusBlock.{PlusBlock}
 use Rattle.smpl_patch.specs.Patterns.{declared_as}
 use Rattle.c_show.specs.declared.page.Role.{Role}
 use Rattle.c_show.specs.declared.page.Role.TheVariants.{Plain}
-use Rattle.c_show.specs.Show.{Shown, shown_token, shown_kids, shown, role_of, joined, show_of}
+use Rattle.c_show.specs.Show.{shown_kids, shown, role_of, joined}
 use Rattle.c_show.proofs.Pages.{shown-Leaf, shown-Branch}
 use Rattle.env_parts.specs.Parts.{Pairs, bare_value, bare_pair, bare_env}
 use Rattle.env_parts.proofs.PartLemmas.{value_in-bare, has_value-bare}

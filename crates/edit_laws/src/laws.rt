@@ -18,7 +18,7 @@ pub fn plain_inserts_are_fair()
         list_all has_plain_inserts edits ≡ true }
 {}
 
-/// Witnesses whose values have other ids, as here none, have the same edits.
+/// Witnesses have the same edits as with 0 in place of each id of their values' tokens.
 pub fn ids_of_values_do_not_count()
     ensures { (witnesses : List RuleWitness) (rule : Rule) (items : List Item)
         (kinds : List (List NodeKind)) (pieces : List TextPiece) (edits : List Edit) →

@@ -48,21 +48,14 @@ pub fn statements(alloc: Global, count: u32) -> Result<Items<Elem>, NoMemory> {
 
 /// One own variable of this name.
 pub fn declared(alloc: Global, name: &[u8]) -> Result<Items<VarDecl>, NoMemory> {
-    declared_often(alloc, name, 1)
-}
-
-/// So many declarations of an own variable of this name.
-pub fn declared_often(alloc: Global, name: &[u8], times: u32) -> Result<Items<VarDecl>, NoMemory> {
     let mut vars = Items::new(alloc);
-    for _ in 0..times {
-        vars.push(VarDecl {
-            var: own(alloc, name)?,
-            kind: VarKind::Meta(MetaKind::Expr),
-            inherited: false,
-            not_names: Items::new(alloc),
-            not_places: Items::new(alloc),
-        })?;
-    }
+    vars.push(VarDecl {
+        var: own(alloc, name)?,
+        kind: VarKind::Meta(MetaKind::Expr),
+        inherited: false,
+        not_names: Items::new(alloc),
+        not_places: Items::new(alloc),
+    })?;
     Ok(vars)
 }
 

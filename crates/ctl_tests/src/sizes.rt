@@ -1,9 +1,9 @@
 // How large formulas of rules are, and when they are refused.
-use crate::made::{declared_often, gap, rule, statement, statements, variable};
+use crate::made::{gap, rule, statement, statements};
 use c_terms::NoMemory;
 use ctl_formula::parts_of;
 use ctl_translate::{FormulaFault, formula_of};
-use smpl_patch::{Elem, Mode, Rule};
+use smpl_patch::{Elem, Mode};
 use sqlite_items::Items;
 use std::alloc::Global;
 use std::thread;
@@ -31,14 +31,6 @@ fn disjunctions(alloc: Global, count: u32) -> Result<Items<Elem>, NoMemory> {
     Ok(body)
 }
 
-fn size_of(alloc: Global, rule: &Rule) -> Result<Option<u32>, NoMemory> {
-    match formula_of(alloc, rule) {
-        Ok(formula) => Ok(Some(parts_of(&formula))),
-        Err(FormulaFault::TooLarge) => Ok(None),
-        Err(_) => Err(NoMemory),
-    }
-}
-
 /// How many subformulas the rule under `forall` with this body has, where that is within the limits.
 fn size(alloc: Global, body: Items<Elem>) -> Result<Option<u32>, NoMemory> {
     let rule = rule(
@@ -48,7 +40,11 @@ fn size(alloc: Global, body: Items<Elem>) -> Result<Option<u32>, NoMemory> {
         Items::new(alloc),
         body,
     )?;
-    size_of(alloc, &rule)
+    match formula_of(alloc, &rule) {
+        Ok(formula) => Ok(Some(parts_of(&formula))),
+        Err(FormulaFault::TooLarge) => Ok(None),
+        Err(_) => Err(NoMemory),
+    }
 }
 
 #[test]
@@ -81,22 +77,5 @@ fn far_too_long_bodies_are_refused_in_a_thread(rt: HostRuntime) -> Result<(), No
         move || long_is_refused(alloc),
     );
     assert!(rt; long? && again?);
-    Ok(())
-}
-
-/// Each declaration of x is a quantifier around the one statement.
-fn quantifiers(alloc: Global, count: u32) -> Result<Option<u32>, NoMemory> {
-    let mut body = Items::new(alloc);
-    body.push(variable(alloc, 0, b"x")?)?;
-    let vars = declared_often(alloc, b"x", count)?;
-    let rule = rule(alloc, Mode::Exists, vars, Items::new(alloc), body)?;
-    size_of(alloc, &rule)
-}
-
-#[test]
-fn a_million_quantifiers_are_too_large(rt: HostRuntime) -> Result<(), NoMemory> {
-    let alloc = rt.alloc();
-    assert_eq!(rt; quantifiers(alloc, 1)?, Some(2));
-    assert_eq!(rt; quantifiers(alloc, 1_000_001)?, None);
     Ok(())
 }

@@ -1,6 +1,5 @@
 -- Trees of witnesses without ids: the same trees are equal, and have one size.
-use Rattle.std.proofs.Common.{◌≡◌, ℕ, ◌+◌, eqb, refl, sym, ap, ◌∙◌, Bool, true, false, ◌&&◌, arith, List, [], ◌∷◌, map}
-use Rattle.std.specs.Prelude.{sum}
+use Rattle.std.proofs.Common.{◌≡◌, ℕ, ◌+◌, eqb, refl, sym, ap, ◌∙◌, Bool, true, false, arith, List, [], ◌∷◌, map}
 use Rattle.std.proofs.lemmas.List.Sums.{sum_by-cons}
 use Rattle.std.proofs.lemmas.Bool.Decides.{nat_tests}
 use Rattle.c_terms.specs.Same.{same_bytes}
@@ -21,7 +20,7 @@ use Rattle.smpl_patch.specs.declared.witness.Witness.TheFolds.{fold-roll-Witness
 use Rattle.wit_order.specs.Same.{same_witness, same_forest}
 use Rattle.wit_order.specs.Sizes.{size, forest_size}
 use Rattle.wit_order.proofs.Induct.{Each, witness_induction, witness_cases}
-use Rattle.wit_order.proofs.WitnessLemmas.{same-Touch-Touch, same-Touch-Bind, same-Bind-Touch, same-Bind-Bind, size-Touch, size-Bind}
+use Rattle.wit_order.proofs.WitnessLemmas.{same-Touch-Touch, same-Touch-Bind, same-Bind-Touch, same-Bind-Bind, size-Bind}
 use Rattle.wit_order.proofs.RiseLemmas.{both_parts}
 use Rattle.env_parts.specs.Parts.{Pairs, bare_value, bare_env}
 use Rattle.env_parts.proofs.PartLemmas.{same-bare_value}

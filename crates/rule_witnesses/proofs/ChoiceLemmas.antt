@@ -1,7 +1,6 @@
 -- The environments with a choice of values under which a set has them, variable by variable.
 use Rattle.std.proofs.Common.{◌≡◌, ℕ, suc, zero, Bool, true, false, ◌&&◌, ◌||◌, cond, Option, Some, None, refl, sym, ap, ◌∙◌, subst, List, [], ◌∷◌, ◌++◌, map, append_assoc}
 use Rattle.std.specs.Prelude.{unwrap_or, option_map}
-use Rattle.std.specs.Bool.{Decides}
 use Rattle.std.specs.List.{filter, flat_map, list_all, insert}
 use Rattle.std.specs.Ordering.{is_lt}
 use Rattle.std.proofs.lemmas.List.Elements.{filter-append}
@@ -17,7 +16,7 @@ use Rattle.smpl_terms.proofs.ValueLaws.{same-refl}
 use Rattle.smpl_terms.proofs.EnvLemmas.{value_in-insert}
 use Rattle.env_parts.specs.Parts.{Pairs, bare_value, bare_pair, bare_env}
 use Rattle.env_parts.specs.Parts as parts
-use Rattle.env_parts.proofs.PartLemmas.{value_in-bare, bare_value-same, same-bare_value}
+use Rattle.env_parts.proofs.PartLemmas.{value_in-bare, bare_value-same}
 use Rattle.env_sets.specs.Rising.{Rise}
 use Rattle.env_sets.specs.Sets.{Entries, set_denotes}
 use Rattle.env_sets.specs.Laws.{IsProjection}
@@ -319,6 +318,6 @@ module _ (set : Entries) where
                 case : (b : Bool) → D (total e) ≡ b → b ≡ false
                 case true k =
                     let yes : set_denotes o (change (total env) x v) ≡ true =
-                        (opens (change (total env) x v)).1 (total e, ((λ y out. sym (total_with env x v r.new.0 y) ∙ a y out), k)) in
+                    (opens (change (total env) x v)).1 (total e, ((λ y out. sym (total_with env x v r.new.0 y) ∙ a y out), k)) in
                     let clash : true ≡ false = sym yes ∙ h in absurd cc
                 case false k = refl

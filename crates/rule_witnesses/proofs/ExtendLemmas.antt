@@ -1,15 +1,15 @@
 -- Environments that are given values one variable after another have each choice under which the set has them.
-use Rattle.std.proofs.Common.{◌≡◌, ◌≢◌, ℕ, suc, zero, ◌+◌, ◌-◌, ◌<◌, ◌≤◌, ◌⊎◌, inl, inr, Bool, true, false, ◌||◌, cond, None, refl, sym, ap, ◌∙◌, subst, arith, List, [], ◌∷◌, ◌++◌, map, append_assoc, length, get_or, take, drop, add-one}
+use Rattle.std.proofs.Common.{◌≡◌, ℕ, suc, zero, ◌+◌, ◌-◌, ◌<◌, ◌≤◌, inl, inr, Bool, true, false, ◌||◌, cond, None, refl, sym, ap, ◌∙◌, subst, arith, List, [], ◌∷◌, ◌++◌, map, append_assoc, length, get_or, take, drop}
 use Rattle.std.specs.List.{All, filter, flat_map, list_all}
 use Rattle.std.proofs.lemmas.Bool.{cases_lt}
-use Rattle.std.proofs.lemmas.List.{append-nil, drop_more, drop_all, take_more, get_or_append_left, get_or_push, get_or_read, length_push}
+use Rattle.std.proofs.lemmas.List.{append-nil, drop_more, drop_all, take_more, get_or_append_left, get_or_push, get_or_read}
 use Rattle.std.proofs.lemmas.List.Concat.{flat_map-append}
 use Rattle.std.proofs.lemmas.List.Folds.{flat_map-map}
 use Rattle.smpl_terms.specs.declared.var.Var.{Var}
 use Rattle.smpl_terms.specs.declared.value.Value.{Value}
 use Rattle.smpl_terms.specs.Vars.{with_pair}
 use Rattle.smpl_terms.specs.Values.{same}
-use Rattle.smpl_terms.specs.Environments.{Environment, change, over, total, value_in}
+use Rattle.smpl_terms.specs.Environments.{change, over, total, value_in}
 use Rattle.smpl_terms.proofs.ValueLaws.{same-refl}
 use Rattle.env_parts.specs.Parts.{Pairs, bare_env}
 use Rattle.env_sets.specs.Rising.{Rise}
@@ -17,10 +17,9 @@ use Rattle.env_sets.specs.Sets.{Entries, set_denotes}
 use Rattle.env_sets.specs.Laws.{IsProjection}
 use Rattle.ctl_holds.specs.Values.{is_among}
 use Rattle.wit_trees.specs.Rules.{choices, in_order}
-use Rattle.wit_steps.specs.Choices.{chosen, AllRise}
 use Rattle.wit_steps.proofs.ChoiceLemmas.{all_chosen}
 use Rattle.rule_witnesses.specs.Choices.{AreNew, Leaves}
-use Rattle.rule_witnesses.specs.Opened.{AgreeBut, CanHold, IsOpen, AreOpen}
+use Rattle.rule_witnesses.specs.Opened.{AgreeBut, IsOpen, AreOpen}
 use Rattle.rule_witnesses.specs.Extended.{AreChosen, Adds, AreExtended, AreChoices}
 use Rattle.rule_witnesses.proofs.ValueLists.{Rise-in_order, among-in_order}
 use Rattle.rule_witnesses.proofs.ChoiceLemmas.{IsReady, ready_more, new_after, finite, left, one_env, none_left, opens_none, opens_more}
@@ -54,10 +53,13 @@ new_extended o x xs (e ∷ es) more n h =
 pub extended_more : (o : Entries) (x : Var) (es : List Pairs) (e : Pairs) (more : List Pairs) (vs : List Value) → AreExtended o x es more
     → AreChosen o x e vs → AreExtended o x (es ++ e ∷ []) (more ++ map (with_pair e x) vs)
 extended_more o x [] e more vs h c = (vs, [], c, ap (λ m. m ++ map (with_pair e x) vs) h ∙ sym (append-nil (map (with_pair e x) vs)), refl)
-extended_more o x (d ∷ ds) e more vs h c =
-    (h.0, h.1 ++ map (with_pair e x) vs, h.2,
-    ap (λ m. m ++ map (with_pair e x) vs) h.3 ∙ append_assoc (map (with_pair d x) h.0) h.1 (map (with_pair e x) vs),
-    extended_more o x ds e h.1 vs h.4 c)
+extended_more o x (d ∷ ds) e more vs h c = (
+  h.0,
+  h.1 ++ map (with_pair e x) vs,
+  h.2,
+  ap (λ m. m ++ map (with_pair e x) vs) h.3 ∙ append_assoc (map (with_pair d x) h.0) h.1 (map (with_pair e x) vs),
+  extended_more o x ds e h.1 vs h.4 c,
+)
 
 -- ---- all choices
 
@@ -82,9 +84,10 @@ module _ (set : Entries) (values : List Value) (rise : Rise values) where
     ready_given : (e : Pairs) → IsReady set values (x ∷ xs) e → (vs : List Value)
         → ((v : Value) → is_among vs v ≡ true → set_denotes o (change (total e) x v) ≡ true) → AllReady xs (map (with_pair e x) vs)
     ready_given e r [] h = tt
-    ready_given e r (v ∷ vs) h =
-        (ready_more set values xs x e v o opens r (h v (or_first (same v v) (is_among vs v) (same-refl v))),
-        ready_given e r vs (λ u k. h u (or_rest (same v u) (is_among vs u) k)))
+    ready_given e r (v ∷ vs) h = (
+      ready_more set values xs x e v o opens r (h v (or_first (same v v) (is_among vs v) (same-refl v))),
+      ready_given e r vs (λ u k. h u (or_rest (same v u) (is_among vs u) k)),
+    )
 
     told : (e : Pairs) → IsReady set values (x ∷ xs) e → (vs : List Value) → AreChosen o x e vs
         → (z : Value) → is_among vs z ≡ set_denotes o (change (total e) x z)
@@ -124,12 +127,14 @@ module _ (set : Entries) (vars : List Var) (env : Pairs) (o : Entries) (opens : 
       → (values : List Value) → Leaves values vars set env
       → map bare_env result ≡ map bare_env (filter (λ e. set_denotes set (total e)) (choices (in_order values) vars env))
   all_choices result n h c values leaves =
-      whole set (in_order values) (Rise-in_order values) vars (env ∷ []) result
-      (record {
-        new = n;
-        leaves = λ d k. (λ i. list_all (λ x. among-in_order values (over env d x) i) vars) ∙ leaves d k;
-        can = (opens (total env)).0 h;
-      }, tt) c
+      whole set (in_order values) (Rise-in_order values) vars (env ∷ []) result (
+        record {
+          new = n;
+          leaves = λ d k. (λ i. list_all (λ x. among-in_order values (over env d x) i) vars) ∙ leaves d k;
+          can = (opens (total env)).0 h;
+        },
+        tt,
+      ) c
       ∙ append-nil (left set (in_order values) vars env)
 
   -- it has the environment for none
@@ -218,8 +223,8 @@ choices_step set xs sets i x o envs more result lt is at opens h c =
     let low : length xs - 1 - i < length sets = omega (arith, lt, opens.len) in
     let here : o ≡ get_or sets (length xs - 1 - i) [] = get_or_read sets (length xs - 1 - i) o low at [] in
     let own : IsOpen set (drop (i + 1) xs) o =
-        subst (λ (n : ℕ). IsOpen set (drop n xs) o) place (subst (IsOpen set (drop (length xs - (length xs - 1 - i)) xs)) (sym here)
-        (opens.each (length xs - 1 - i) (omega arith))) in
+    subst (λ (n : ℕ). IsOpen set (drop n xs) o) place (subst (IsOpen set (drop (length xs - (length xs - 1 - i)) xs)) (sym here)
+    (opens.each (length xs - 1 - i) (omega arith))) in
     subst (λ ys. AreChoices set ys envs result) (sym parted) (o, more, own, h, c)
 
 -- the rest of the variables

@@ -1,6 +1,5 @@
 -- What is found in one item, witness by witness and node by node.
-use Rattle.std.proofs.Common.{◌≡◌, ℕ, suc, zero, ◌+◌, ◌<◌, ◌≤◌, inl, inr, Bool, true, false, ◌&&◌, refl, sym, ap, ◌∙◌, subst, arith, List, [], ◌∷◌, ◌++◌, map, take, drop, length, get_or, add-one}
-use Rattle.std.specs.Prelude.{sum}
+use Rattle.std.proofs.Common.{◌≡◌, ℕ, suc, zero, ◌+◌, ◌<◌, ◌≤◌, inl, inr, Bool, true, refl, sym, ap, ◌∙◌, subst, arith, List, [], ◌∷◌, ◌++◌, map, take, drop, length, get_or, add-one}
 use Rattle.std.specs.List.{filter, flat_map, list_all}
 use Rattle.std.proofs.lemmas.Bool.{cases_lt}
 use Rattle.std.proofs.lemmas.List.{append-nil, append_assoc, map-append, take_more, take_all, take-append-drop}
@@ -30,7 +29,6 @@ use Rattle.ctl_fixpoint.specs.States.{AreStateSets}
 use Rattle.wit_order.specs.Same.{same_forest}
 use Rattle.wit_order.specs.Sizes.{forest_size}
 use Rattle.wit_order.proofs.RiseLemmas.{both_parts, both_hold}
-use Rattle.wit_order.proofs.SizeLemmas.{forest_size-along}
 use Rattle.wit_trees.specs.Forest.{numbers}
 use Rattle.wit_trees.specs.Graphs.{forest_of}
 use Rattle.wit_trees.specs.Rules.{choices, in_order}
@@ -167,7 +165,7 @@ module _ (f : FormulaOf) (g : Flow) (rule item s : ℕ) where
       let part = nodes-same (now ++ W e ∷ []) (ws ++ map W (take (i + 1) es)) (node_more ws now (now ++ W e ∷ []) es i e lt is h refl) in
       let whole = nodes-same (ws ++ map W es) (ws ++ at_node) (bare-append_both ws ws (map W es) at_node refl k) in
       let parts : map W es ≡ map W (take (i + 1) es) ++ map W (drop (i + 1) es) =
-          ap (map W) (sym (take-append-drop (i + 1) es)) ∙ map-append W (take (i + 1) es) (drop (i + 1) es) in
+      ap (map W) (sym (take-append-drop (i + 1) es)) ∙ map-append W (take (i + 1) es) (drop (i + 1) es) in
       let a = nodes-append ws (map W (take (i + 1) es)) in
       let b = nodes-append ws (map W es) in
       let c = ap nodes_of parts ∙ nodes-append (map W (take (i + 1) es)) (map W (drop (i + 1) es)) in
@@ -206,7 +204,7 @@ module _ (at_node : ℕ → List RuleWitness) where
       → 1000000 < nodes_of (now ++ at_node s) → 1000000 < nodes_of (flat_map at_node (numbers n))
   nodes_past now n s lt h many =
       let same = nodes-same (now ++ at_node s) (flat_map at_node (numbers (s + 1))) (nodes_more now (now ++ at_node s) s h refl)
-          ∙ ap (λ (k : ℕ). nodes_of (flat_map at_node (numbers k))) (add-one s) in
+      ∙ ap (λ (k : ℕ). nodes_of (flat_map at_node (numbers k))) (add-one s) in
       let most = up_to n s lt in
       omega (arith, many, same, most)
 

@@ -3,3 +3,4 @@ pub mod BareLemmas
 pub mod ChoiceLemmas
 pub mod ExtendLemmas
 pub mod JobLemmas
+mod Examples

@@ -87,10 +87,10 @@ one_list [] (w ∷ ws) r s h = let e : false ≡ true = h w ∙ here w ws in abs
 one_list (v ∷ vs) [] r s h = let e : true ≡ false = sym (here v vs) ∙ h v in absurd cc
 one_list (v ∷ vs) (w ∷ ws) r s h =
     let first : same v w ≡ true =
-        both_ways v w (first_least v vs r.0 r.1 w (h w ∙ here w ws)) (first_least w ws s.0 s.1 v (sym (h v) ∙ here v vs)) in
+    both_ways v w (first_least v vs r.0 r.1 w (h w ∙ here w ws)) (first_least w ws s.0 s.1 v (sym (h v) ∙ here v vs)) in
     let rest = one_list vs ws r.1 s.1 (λ z.
-        drop_first (same v z) (is_among vs z) (same w z) (is_among ws z) (h z)
-        (same-sym v z ∙ same-along v w first z ∙ same-sym z w) (missed v vs r.0 r.1 z) (missed w ws s.0 s.1 z)) in
+    drop_first (same v z) (is_among vs z) (same w z) (is_among ws z) (h z)
+    (same-sym v z ∙ same-along v w first z ∙ same-sym z w) (missed v vs r.0 r.1 z) (missed w ws s.0 s.1 z)) in
     let head = same-bare_value v w first in
     λ i. head i ∷ rest i
 

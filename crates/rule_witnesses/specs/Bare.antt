@@ -1,5 +1,5 @@
 -- Witnesses as they count: terms without the ids of their tokens.
-use Rattle.std.specs.Prelude.{List, map}
+use Rattle.std.specs.Prelude.{map}
 use Rattle.smpl_patch.specs.declared.witness.Witness.{Witness}
 use Rattle.smpl_patch.specs.declared.witness.Witness.TheOpen.{Witness-F}
 use Rattle.smpl_patch.specs.declared.witness.Witness.TheVariants.{Touch, Bind}

@@ -1,5 +1,5 @@
 -- What is found in one item, how large it is, and what a formula says of exported variables.
-use Rattle.std.specs.Prelude.{ℕ, ◌≡◌, true, List, [], map, sum}
+use Rattle.std.specs.Prelude.{ℕ, ◌≡◌, true, List, map, sum}
 use Rattle.std.specs.List.{list_all}
 use Rattle.cfg_graph.specs.Flow.{Flow}
 use Rattle.smpl_terms.specs.declared.var.Var.{Var}

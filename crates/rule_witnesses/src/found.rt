@@ -46,7 +46,10 @@ impl Found {
         ensures added { IfOk result (λ now. now.witnesses ≡ self.witnesses ++ witness ∷ []) }
         ensures too_many { result ≡ Err JobFault.TooMany → 1000000 < nodes_of (self.witnesses ++ witness ∷ []) }
     {
-        let Found { mut witnesses, left } = self;
+        let Found {
+            mut witnesses,
+            left,
+        } = self;
         let left = left_after(witness.forest.as_slice(), left)?;
         witnesses.push(witness)?;
         Ok(Found { witnesses, left })

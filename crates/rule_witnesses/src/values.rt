@@ -74,7 +74,12 @@ fn extended(alloc: Global, set: &EnvSet, x: &Var, envs: &[Env]) -> Result<Vec<En
 }
 
 /// The environment with each choice of values of the variables, one variable after another.
-fn all_extended(alloc: Global, sets: &[EnvSet], vars: &[Var], env: &Env) -> Result<Vec<Env>, NoMemory>
+fn all_extended(
+    alloc: Global,
+    sets: &[EnvSet],
+    vars: &[Var],
+    env: &Env,
+) -> Result<Vec<Env>, NoMemory>
     requires new { of.AreNew vars.now env.now }
     requires enough { length vars.now < length sets.now }
     ensures { IfOk result (λ envs. (set : Entries) → AreOpen set vars.now sets.now

@@ -43,6 +43,6 @@ returns-clause-few c =
     let end : c.loop-s.s ≡ count_of g = omega (arith, c.count-s-end.ensures.value) in
     let all = λ (n : ℕ). flat_map (λ s. witnesses_at f g c.args.exports.now c.args.rule c.args.item s c.args.env.now) (numbers n) in
     let same : nodes_of c.into_items.result ≡ nodes_of (witnesses_of f g c.args.exports.now c.args.rule c.args.item c.args.env.now) =
-        nodes-same c.into_items.result (witnesses_of f g c.args.exports.now c.args.rule c.args.item c.args.env.now)
-        (ap (map bare_witness) c.into_items.ensures.items ∙ c.loop-s.invariant ∙ ap (λ (n : ℕ). map bare_witness (all n)) end) in
+    nodes-same c.into_items.result (witnesses_of f g c.args.exports.now c.args.rule c.args.item c.args.env.now)
+    (ap (map bare_witness) c.into_items.ensures.items ∙ c.loop-s.invariant ∙ ap (λ (n : ℕ). map bare_witness (all n)) end) in
     omega (arith, same, c.into_items.ensures.few)

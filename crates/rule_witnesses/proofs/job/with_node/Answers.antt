@@ -1,4 +1,4 @@
-use Rattle.std.proofs.Common.{◌≡◌, ◌<◌, ◌≤◌, [], ap, ◌∙◌, arith, length, map}
+use Rattle.std.proofs.Common.{◌<◌, ◌≤◌, ap, ◌∙◌, arith, length, map}
 use Rattle.std.proofs.lemmas.Result.{err_from_is_err_and}
 use Rattle.ctl_holds.specs.Values.{values_of}
 use Rattle.env_parts.specs.Parts.{bare_env}

@@ -10,5 +10,5 @@ abbrev pub invariant-loop-i : goal.invariant-loop-i
 invariant-loop-i l = record {
   new : AllNew (drop l.i l.vars) l.envs.items;
   back : (set : Entries) → AreOpen set l.vars l.sets → (result : List Pairs) → AreChoices set (drop l.i l.vars) l.envs.items result
-    → AreChoices set l.vars (l.env ∷ []) result;
+      → AreChoices set l.vars (l.env ∷ []) result;
 }

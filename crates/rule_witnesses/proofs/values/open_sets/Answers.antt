@@ -8,7 +8,7 @@ use Rattle.rule_witnesses.proofs.values.open_sets.Goals as goal
 pub loop-i-init : goal.loop-i-init
 loop-i-init c =
     let items : c.push.new.self.items ≡ c.args.set.now ∷ [] =
-        c.in_ok-push.ensures.items ∙ (λ i. c.new-sets.ensures.items i ++ c.in_ok-copy.ensures.same i ∷ []) in
+    c.in_ok-push.ensures.items ∙ (λ i. c.new-sets.ensures.items i ++ c.in_ok-copy.ensures.same i ∷ []) in
     record { len = ap length items; each = open_first c.args.set.now c.args.vars.now c.push.new.self.items items }
 
 pub loop-i-preserved : goal.loop-i-preserved

@@ -30,12 +30,12 @@ use Rattle.smpl_patch.specs.Sound.{none_alike}
 use Rattle.smpl_patch.proofs.BodyLemmas.{bodies, dots_of, element-Atom, element-Compound, element-Block, element-Gap, element-Nest, element-AnyOf, element-AllOf}
 use Rattle.smpl_elem.specs.declared.form.Form.{Form}
 use Rattle.smpl_elem.specs.declared.form.Form.TheVariants as form
-use Rattle.smpl_elem.specs.Forms.{form_of_token, form_of, form_in, form_at, kids, label_in, label_at, is_list_at, is_part, before, after, first_kid, last_kid, id_in, id_at, is_more, masked}
+use Rattle.smpl_elem.specs.Forms.{form_of_token, form_of, form_in, form_at, kids, label_at, is_list_at, is_part, before, after, first_kid, last_kid, id_in, id_at, is_more, masked}
 use Rattle.smpl_elem.specs.Elements.{Part, part, picked, total, seqs, pattern, made, atoms, elements}
 use Rattle.smpl_elem.proofs.PartLemmas.{kids-Leaf, kids-Branch}
 use Rattle.smpl_elem.proofs.CountLemmas.{atoms-row}
 use Rattle.smpl_formed.specs.Shapes.{is_leaf_in, is_leaf, apart, unlisted, has_form, Formed, token, branch, AllFormed, none, more}
-use Rattle.smpl_formed.proofs.SequenceLemmas.{left_true, right_true}
+use Rattle.smpl_formed.proofs.SequenceLemmas.{right_true}
 use Rattle.smpl_formed.proofs.KidLemmas.{tree_made, joined, all_picked, middle, butlast, inner_picked}
 
 -- ---- how often a number occurs
@@ -135,8 +135,14 @@ module _ (x : ℕ) where
             occurs (patterns_bodies (bodies (seqs dots k ps))) ≤ hits k (total ps) + loads (c ∷ cs)
         by true more' =
             let ps = picked f l n (i + 1) (map part cs) in
-            omega (arith, occurs_append (patterns_body (body (elements dots k c))) (patterns_bodies (bodies (seqs dots (k + atoms c) ps))), g.0 k,
-            more' (k + atoms c), hits_split k (atoms c) (total ps), loads_more c cs)
+            omega (
+              arith,
+              occurs_append (patterns_body (body (elements dots k c))) (patterns_bodies (bodies (seqs dots (k + atoms c) ps))),
+              g.0 k,
+              more' (k + atoms c),
+              hits_split k (atoms c) (total ps),
+              loads_more c cs,
+            )
         by false more' = omega (arith, more' k, loads_more c cs)
 
     -- ---- each form
@@ -176,23 +182,40 @@ module _ (x : ℕ) where
         let o = pattern k spot.Whole (first_kid (kids t)) in let c = pattern m spot.Whole (last_kid (kids t)) in
         let b = joined dots (k + 1) ps in
         let e : 1 + total ps + 1 ≡ 1 + (total ps + 1) = omega arith in
-        omega (arith, alone (elem.Block o b c) _ (element-Block o b c), occurs_append (patterns_body (body b)) (c ∷ []), joined_light form.Block l (length cs) 0 (k + 1) cs g,
-        first_hit k (total ps + 1), hits_split (k + 1) (total ps) 1, ap (hits k) e, n)
+        omega (
+          arith,
+          alone (elem.Block o b c) _ (element-Block o b c),
+          occurs_append (patterns_body (body b)) (c ∷ []),
+          joined_light form.Block l (length cs) 0 (k + 1) cs g,
+          first_hit k (total ps + 1),
+          hits_split (k + 1) (total ps) 1,
+          ap (hits k) e,
+          n,
+        )
     made_light form.Nest t l cs g n k =
         let ps = picked form.Nest l (length cs) 0 (map part cs) in
         let d = dots (id_at (last_kid (kids t))) in
         let b = joined dots (k + 0) ps in
         let e : 0 + total ps + 0 ≡ total ps = omega arith in let m : k + 0 ≡ k = omega arith in
-        omega (arith, alone (elem.Nest (is_more (first_kid (kids t))) b d) _ (element-Nest (is_more (first_kid (kids t))) b d), occurs_append (patterns_body (body b)) (patterns_bodies (dots_of d).whens),
-        nest_light l cs (k + 0) g, ap (hits k) e, ap (λ j. hits j (total ps)) m, n)
+        omega (
+          arith,
+          alone (elem.Nest (is_more (first_kid (kids t))) b d) _ (element-Nest (is_more (first_kid (kids t))) b d),
+          occurs_append (patterns_body (body b)) (patterns_bodies (dots_of d).whens),
+          nest_light l cs (k + 0) g,
+          ap (hits k) e,
+          ap (λ j. hits j (total ps)) m,
+          n,
+        )
       where
         light_butlast : (ds : List Tree) → AllLight ds → AllLight (butlast ds)
         light_butlast [] h = tt
         light_butlast (d ∷ []) h = tt
         light_butlast (d ∷ e ∷ ds) h = (h.0, light_butlast (e ∷ ds) h.1)
+
         light_middle : (ds : List Tree) → AllLight ds → AllLight (middle ds)
         light_middle [] h = tt
         light_middle (d ∷ ds) h = light_butlast ds h.1
+
         nest_light : (m : Label) (ds : List Tree) (j : ℕ) → AllLight ds → let ps = picked form.Nest m (length ds) 0 (map part ds) in
             occurs (patterns_body (body (joined dots j ps))) ≤ hits j (total ps) + loads (middle ds)
         nest_light m ds j h =
@@ -216,8 +239,15 @@ module _ (x : ℕ) where
         let h = pattern k spot.Whole (masked spot.Whole t) in
         let none' : Option Pattern = None in
         let e : 1 + total ps + 0 ≡ 1 + total ps = omega arith in
-        omega (arith, alone (elem.Compound h bs none') _ (element-Compound h bs none'), occurs_append (patterns_bodies (bodies bs)) (option_patterns none'), each_light form.Head l (length cs) 0 (k + 1) cs g,
-        first_hit k (total ps), ap (hits k) e, n)
+        omega (
+          arith,
+          alone (elem.Compound h bs none') _ (element-Compound h bs none'),
+          occurs_append (patterns_bodies (bodies bs)) (option_patterns none'),
+          each_light form.Head l (length cs) 0 (k + 1) cs g,
+          first_hit k (total ps),
+          ap (hits k) e,
+          n,
+        )
     made_light form.Do t l cs g n k =
         let ps = picked form.Do l (length cs) 0 (map part cs) in
         let m = k + 1 + total ps in
@@ -225,8 +255,16 @@ module _ (x : ℕ) where
         let h = pattern k spot.Whole (masked spot.Whole t) in
         let tail = pattern m spot.Tail (masked spot.Tail t) in
         let e : 1 + total ps + 1 ≡ 1 + (total ps + 1) = omega arith in
-        omega (arith, alone (elem.Compound h bs (Some tail)) _ (element-Compound h bs (Some tail)), occurs_append (patterns_bodies (bodies bs)) (option_patterns (Some tail)),
-        each_light form.Do l (length cs) 0 (k + 1) cs g, first_hit k (total ps + 1), hits_split (k + 1) (total ps) 1, ap (hits k) e, n)
+        omega (
+          arith,
+          alone (elem.Compound h bs (Some tail)) _ (element-Compound h bs (Some tail)),
+          occurs_append (patterns_bodies (bodies bs)) (option_patterns (Some tail)),
+          each_light form.Do l (length cs) 0 (k + 1) cs g,
+          first_hit k (total ps + 1),
+          hits_split (k + 1) (total ps) 1,
+          ap (hits k) e,
+          n,
+        )
 
     -- ---- trees
 
@@ -279,8 +317,12 @@ module _ (x : ℕ) where
 
     light_row : (t : Tree) → AllLight (kids t) → Needs (form_at t) t (kids t) → Light t
     light_row t g n k =
-        omega (arith, ap (λ (es : List Elem). occurs (patterns_body (body es))) (tree_made dots t (form_at t) (label_at t) (kids t) k refl refl refl), ap (hits k) (atoms-row t),
-        made_light (form_at t) t (label_at t) (kids t) g n k)
+        omega (
+          arith,
+          ap (λ (es : List Elem). occurs (patterns_body (body es))) (tree_made dots t (form_at t) (label_at t) (kids t) k refl refl refl),
+          ap (hits k) (atoms-row t),
+          made_light (form_at t) t (label_at t) (kids t) g n k,
+        )
 
     mutual
       pub tree_light : {most : ℕ} {t : Tree} → Formed most t → Light t

@@ -1,15 +1,13 @@
 -- What the tokens of a body have, those of its parts have: its own tokens, and those of each code.
 -- Proof: by recursion on the grammar of clauses.
-use Rattle.std.proofs.Common.{◌≡◌, ℕ, zero, suc, ◌+◌, ◌<◌, ◌≤◌, refl, sym, ap, ◌∙◌, subst, arith, List, [], ◌∷◌, ◌++◌, map, length, Option, Some, None, slice_get, ◌⊎◌, inl, inr}
+use Rattle.std.proofs.Common.{◌≡◌, ℕ, zero, suc, ◌+◌, ◌<◌, ◌≤◌, refl, sym, ap, ◌∙◌, subst, arith, List, [], ◌∷◌, ◌++◌, length, Some, None, slice_get, ◌⊎◌, inl, inr}
 use Rattle.std.proofs.lemmas.List.{length-append}
-use Rattle.std.proofs.lemmas.Bool.{false≢true}
-use Rattle.std.specs.Prelude.{Bool, true, false, ◌&&◌, ◌==◌, if◌then◌else◌}
+use Rattle.std.specs.Prelude.{Bool, true, false, ◌==◌, if◌then◌else◌}
 use Rattle.std.specs.List.{list_all}
 use Rattle.c_terms.specs.declared.token.Token.{Token}
 use Rattle.smpl_meta.specs.declared.patterns.Placed.{Placed}
-use Rattle.smpl_when.specs.declared.clauses.Said.{Said}
 use Rattle.smpl_when.specs.declared.cutting.Code.{Code}
-use Rattle.smpl_when.specs.Grammar.{Form, up_to_end_of, behind_end_of, Parts, Spot, IsParted, ends, plain, dots, apart, any, strict, differs, malformed, numbers_at, said_at, said_from}
+use Rattle.smpl_when.specs.Grammar.{up_to_end_of, behind_end_of, Parts, Spot, IsParted, ends, plain, dots, apart, any, strict, differs, malformed, numbers_at, said_at, said_from}
 use Rattle.smpl_body.specs.Bodies.{codes_of}
 use Rattle.smpl_formed.specs.Bodies.{tokens_of, CountFrom}
 use Rattle.smpl_formed.proofs.SequenceLemmas.{and_both, left_true, right_true}
@@ -167,6 +165,7 @@ count_once n m (p ∷ ps) c = by (p.token.id == n) refl (count_once n (suc m) ps
   where
     same : (a b : ℕ) → (a == b) ≡ true → a ≡ b
     same a b e = grind (arith, e)
+
     by : (b : Bool) → (p.token.id == n) ≡ b → times n (tokens_of ps) ≤ 1 → bit b + times n (tokens_of ps) ≤ 1
     by true e h = let is : p.token.id ≡ n = same p.token.id n e in let at = c.0 in omega (arith, past_times n (suc m) ps (omega (arith, is, at)) c.1)
     by false e h = omega (arith, h)

@@ -1,6 +1,6 @@
 -- The elements of children, one after another: a child that is no list of statements has one, which is dots or a nest where
 -- the child is.
-use Rattle.std.proofs.Common.{◌≡◌, ℕ, zero, suc, ◌+◌, ◌-◌, ◌<◌, ◌≤◌, refl, sym, ap, ◌∙◌, subst, arith, List, [], ◌∷◌, ◌++◌, map, length, take, drop, Option, Some, None, slice_get}
+use Rattle.std.proofs.Common.{◌≡◌, ℕ, suc, ◌+◌, ◌-◌, ◌≤◌, refl, sym, ap, ◌∙◌, subst, arith, List, [], ◌∷◌, ◌++◌, map, length, take, Some, None, slice_get}
 use Rattle.std.proofs.lemmas.Bool.{false≢true}
 use Rattle.std.proofs.lemmas.Bool.Decides.{nat_tests}
 use Rattle.std.specs.Prelude.{Bool, true, false, not, ◌&&◌, nat_lt, if◌then◌else◌}
@@ -15,23 +15,21 @@ use Rattle.c_terms.specs.declared.tree.Tree.TheOpen.{Tree-F}
 use Rattle.c_terms.specs.declared.tree.Tree.TheVariants.{Leaf, Branch}
 use Rattle.c_terms.specs.Trees.{join}
 use Rattle.c_terms.proofs.SameLemmas.{out-Leaf, out-Branch}
-use Rattle.c_terms.proofs.Induct.{tree_cases}
 use Rattle.smpl_patch.specs.declared.pattern.Spot.TheVariants as spot
 use Rattle.smpl_patch.specs.declared.elem.Dots.{Dots}
 use Rattle.smpl_patch.specs.declared.elem.Elem.{Elem}
-use Rattle.smpl_patch.specs.declared.elem.Elem.TheVariants as elem
 use Rattle.smpl_patch.specs.Bodies.{Element, element, body}
 use Rattle.smpl_patch.specs.Shapes.{is_dots as is_dots_element, begins_with_dots, ends_with_dots, are_parted}
 use Rattle.smpl_patch.proofs.BodyLemmas.{element-Atom, element-Compound, element-Block, element-Gap, element-Nest, element-AnyOf, element-AllOf}
 use Rattle.smpl_elem.specs.declared.form.Form.{Form}
 use Rattle.smpl_elem.specs.declared.form.Form.TheVariants as form
-use Rattle.smpl_elem.specs.Forms.{is_list_label, is_list, is_list_in, is_list_at, form_of_token, form_of, form_in, form_at, kids, kids_in, label_in, label_at, is_part, before, first_kid, last_kid, id_at, is_more, masked}
+use Rattle.smpl_elem.specs.Forms.{is_list_label, is_list, is_list_in, is_list_at, form_of_token, form_of, form_in, form_at, kids, label_at, is_part, before, first_kid, last_kid, id_at, is_more, masked}
 use Rattle.smpl_elem.specs.Elements.{Part, part, picked, total, seqs, pattern, made, atoms, elements}
-use Rattle.smpl_elem.proofs.PartLemmas.{part-tree, kids-Leaf, kids-Branch, parts}
+use Rattle.smpl_elem.proofs.PartLemmas.{part-tree, parts}
 use Rattle.smpl_elem.proofs.CountLemmas.{elements-row}
 use Rattle.smpl_body.specs.DotsOf.{is_dots, id_in, first_id, gap_in, gap, first_gap, last_gap, ends, statements_in, statements, inner}
-use Rattle.smpl_formed.specs.Shapes.{is_nest_label, is_dots_in, is_dots_tree, is_leaf_in, is_leaf, begins, finishes, apart, unlisted, undotted, lists, has_form, Formed, token, branch, AllFormed, none, more}
-use Rattle.smpl_formed.proofs.SequenceLemmas.{and_both, left_true, right_true, not_true, not_false}
+use Rattle.smpl_formed.specs.Shapes.{is_nest_label, is_dots_in, is_dots_tree, is_leaf_in, is_leaf, begins, finishes, apart, unlisted, lists, has_form, Formed, token, branch, AllFormed, none, more}
+use Rattle.smpl_formed.proofs.SequenceLemmas.{and_both, left_true, right_true, not_true}
 
 -- ---- what a tree is as a part
 

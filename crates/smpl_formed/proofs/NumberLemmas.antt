@@ -1,19 +1,19 @@
 -- The patterns of a body have different numbers.
 -- Proof: the body's own patterns are numbered from 0, and those of the codes behind them, one code after another. Each code
 -- stands behind one token, and that token once in the body.
-use Rattle.std.proofs.Common.{◌≡◌, ℕ, zero, suc, ◌+◌, ◌*◌, ◌<◌, ◌≤◌, refl, sym, ap, ◌∙◌, subst, arith, List, [], ◌∷◌, ◌++◌, map, length, Option, Some, None, slice_get, inl, inr, ◌⊎◌}
-use Rattle.std.proofs.lemmas.List.{append-nil, length-append}
+use Rattle.std.proofs.Common.{◌≡◌, ℕ, zero, suc, ◌+◌, ◌≤◌, refl, sym, ap, subst, arith, List, [], ◌∷◌, ◌++◌, length, slice_get, inl, inr, ◌⊎◌}
+use Rattle.std.proofs.lemmas.List.{append-nil}
 use Rattle.std.specs.Prelude.{Bool, true, false, ◌==◌, nat_eq, if◌then◌else◌}
 use Rattle.c_terms.specs.declared.token.Token.{Token}
 use Rattle.c_terms.specs.declared.tree.Tree.{Tree}
 use Rattle.c_terms.specs.Trees.{leaves}
 use Rattle.smpl_patch.specs.declared.pattern.Pattern.{Pattern}
-use Rattle.smpl_patch.specs.declared.elem.Dots.{Dots, roll-Dots}
+use Rattle.smpl_patch.specs.declared.elem.Dots.{Dots}
 use Rattle.smpl_patch.specs.declared.elem.Elem.{Elem}
 use Rattle.smpl_patch.specs.Bodies.{Bodies, body}
 use Rattle.smpl_patch.specs.Shapes.{patterns_body, patterns_bodies}
 use Rattle.smpl_patch.specs.Sound.{none_alike}
-use Rattle.smpl_patch.proofs.BodyLemmas.{bodies, dots_of}
+use Rattle.smpl_patch.proofs.BodyLemmas.{bodies}
 use Rattle.smpl_meta.specs.declared.patterns.Placed.{Placed}
 use Rattle.smpl_when.specs.declared.clauses.Said.{Said}
 use Rattle.smpl_when.specs.declared.cutting.Code.{Code}
@@ -23,7 +23,7 @@ use Rattle.smpl_elem.specs.Elements.{atoms, elements}
 use Rattle.smpl_body.specs.Spelled.{body_forms}
 use Rattle.smpl_body.specs.Bodies.{is_any, is_strict, codes_of, code_dots, code_at, whens_of, body_dots, starts_from, IsBody}
 use Rattle.smpl_formed.proofs.AtomLemmas.{one, occurs, occurs_append, hits, hits_split, hits_once, behind, load, tree_light, all_differ}
-use Rattle.smpl_formed.specs.Bodies.{tokens_of, CountFrom}
+use Rattle.smpl_formed.specs.Bodies.{CountFrom}
 use Rattle.smpl_formed.proofs.CutLemmas.{AllShort, parts_short, bit, times, own_times, count_once, codes_at}
 use Rattle.smpl_formed.proofs.ReadLemmas.{dots_rolled, IsTop, top_read, AllTop, all_top}
 
@@ -170,8 +170,11 @@ module _ (x : ℕ) where
         → behind x (body_dots said ts (starts_from n ts)) id ≤ tally (costs n ts) (codes_of (slice_get said id))
     behind_cost m cs ts n id h =
         let ks = codes_of (slice_get said id) in
-        omega (arith, ap (λ (b : Bodies). occurs x (patterns_bodies b)) (dots_rolled (whens_of said ts (starts_from n ts) ks) (is_any (slice_get said id)) (is_strict (slice_get said id))),
-        whens_cost m cs ts n ks h)
+        omega (
+          arith,
+          ap (λ (b : Bodies). occurs x (patterns_bodies b)) (dots_rolled (whens_of said ts (starts_from n ts) ks) (is_any (slice_get said id)) (is_strict (slice_get said id))),
+          whens_cost m cs ts n ks h,
+        )
 
   -- ---- bodies
 
@@ -192,8 +195,19 @@ module _ (x : ℕ) where
         let all : load x dots main ≤ spread vs 0 cs main = loaded dots vs cs token_cost main in
         let light : occurs x (patterns_body (body (elements dots 0 is.tree))) ≤ hits x 0 first + load x dots (leaves is.tree) = tree_light x dots top.formed 0 in
         let zero' : 0 + first ≡ first = omega arith in
-        omega (arith, ap (λ (xs : List Elem). occurs x (patterns_body (body xs))) is.are, light, ap (load x dots) top.are, all, spread_all vs 0 cs main once, run_all vs (length cs), costs_sum first ts,
-        hits_split x 0 first (all_atoms ts), ap (λ j. hits x j (all_atoms ts)) zero', hits_once x 0 (first + all_atoms ts))
+        omega (
+          arith,
+          ap (λ (xs : List Elem). occurs x (patterns_body (body xs))) is.are,
+          light,
+          ap (load x dots) top.are,
+          all,
+          spread_all vs 0 cs main once,
+          run_all vs (length cs),
+          costs_sum first ts,
+          hits_split x 0 first (all_atoms ts),
+          ap (λ j. hits x j (all_atoms ts)) zero',
+          hits_once x 0 (first + all_atoms ts),
+        )
 
 pub body_atoms : (ps : List Placed) (es : List Elem) → IsCut ps (cut ps) → CountFrom 0 ps → IsBody ps es → none_alike (λ (p q : Pattern). nat_eq p.atom q.atom) (patterns_body (body es)) ≡ true
 body_atoms ps es c number is = all_differ (patterns_body (body es)) (λ x. number_once x ps es c number is)

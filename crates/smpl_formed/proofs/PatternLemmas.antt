@@ -1,6 +1,6 @@
 -- What patterns have whose forms are sound.
-use Rattle.std.proofs.Common.{◌≡◌, ℕ, ◌+◌, ◌*◌, ◌<◌, ◌≤◌, max, refl, sym, ap, ◌∙◌, arith, List, [], ◌∷◌, ◌++◌, map, length}
-use Rattle.std.specs.Prelude.{Bool, true, false, ◌&&◌}
+use Rattle.std.proofs.Common.{◌≡◌, ℕ, ◌<◌, ◌≤◌, refl, ap, ◌∙◌, arith, List, [], ◌∷◌, map, length}
+use Rattle.std.specs.Prelude.{Bool, true, ◌&&◌}
 use Rattle.std.specs.List.{list_all}
 use Rattle.c_terms.specs.declared.token.Token.{Token}
 use Rattle.c_terms.specs.declared.tree.Tree.{Tree}
@@ -12,7 +12,7 @@ use Rattle.smpl_patch.specs.declared.pattern.Pattern.{Pattern}
 use Rattle.smpl_patch.specs.Sound.{has_form}
 use Rattle.smpl_formed.specs.Shapes.{Sound, sound_token, sound_branch, AllSound, no_more, one_more}
 use Rattle.smpl_formed.specs.Bodies.{AllStand}
-use Rattle.smpl_formed.proofs.SequenceLemmas.{and_both, all_append, is_small, small, Good, AllGood}
+use Rattle.smpl_formed.proofs.SequenceLemmas.{and_both, all_append, is_small, small, AllGood}
 use Rattle.smpl_formed.proofs.SureLemmas.{sure_stands}
 
 pub any_tokens : (ts : List Token) → list_all (λ (t : Token). true) ts ≡ true

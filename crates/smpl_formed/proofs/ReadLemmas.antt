@@ -2,7 +2,7 @@
 use Rattle.std.proofs.Common.{◌≡◌, ℕ, zero, suc, ◌+◌, ◌*◌, ◌<◌, ◌≤◌, refl, sym, ap, ◌∙◌, subst, arith, List, [], ◌∷◌, ◌++◌, map, length, Option, Some, None, slice_get, inl, inr}
 use Rattle.std.proofs.lemmas.List.{length-append}
 use Rattle.std.proofs.lemmas.Bool.{false≢true}
-use Rattle.std.specs.Prelude.{Bool, true, false, ◌&&◌}
+use Rattle.std.specs.Prelude.{Bool, true, false}
 use Rattle.std.specs.List.{list_all}
 use Rattle.c_terms.specs.declared.token.Token.{Token}
 use Rattle.c_terms.specs.declared.tree.Tree.{Tree}
@@ -31,7 +31,7 @@ use Rattle.smpl_body.specs.declared.reading.Form.{Form}
 use Rattle.smpl_body.specs.declared.reading.Form.TheVariants as form
 use Rattle.smpl_body.specs.Spelled.{kind_of, IsTree, IsFirst, IsRead, AreRead, body_forms, code_forms}
 use Rattle.smpl_body.specs.DotsOf.{ends, statements, edges}
-use Rattle.smpl_body.specs.Bodies.{at_of, nested_hosts, all_edges, edge_faults, minus_faults, first_some, tree_fault, is_any, is_strict, codes_of, code_dots, code_at, whens_of, body_dots, starts_from, body_elements, IsBody}
+use Rattle.smpl_body.specs.Bodies.{at_of, nested_hosts, all_edges, edge_faults, minus_faults, first_some, is_any, is_strict, codes_of, code_dots, code_at, whens_of, body_dots, starts_from, IsBody}
 use Rattle.smpl_body.proofs.EdgeLemmas.{edges_in}
 use Rattle.smpl_formed.specs.Shapes.{is_dots_tree, Formed}
 use Rattle.smpl_formed.proofs.RowShapes.{tree_formed, alone_undotted, list_listed}
@@ -158,9 +158,10 @@ module _ (ok : Token → Bool) (most : ℕ) where
     codes_whole n [] [] e s t v edge = tt
     codes_whole n [] (u ∷ ts) e s t v edge = absurd t
     codes_whole n (c ∷ cs) [] e s t v edge = absurd t
-    codes_whole n (c ∷ cs) (u ∷ ts) e s t v edge =
-        (top_whole n (code_dots said) c.tokens u e s code_good t.0 v.0 (front_empty (edges u) (join (map edges ts)) edge),
-         codes_whole n cs ts e s t.1 v.1 (back_empty (edges u) (join (map edges ts)) edge))
+    codes_whole n (c ∷ cs) (u ∷ ts) e s t v edge = (
+      top_whole n (code_dots said) c.tokens u e s code_good t.0 v.0 (front_empty (edges u) (join (map edges ts)) edge),
+      codes_whole n cs ts e s t.1 v.1 (back_empty (edges u) (join (map edges ts)) edge),
+    )
 
     body_good : (ts : List Tree) (starts : List ℕ) (id : ℕ) → AllCodeWhole ts → length (codes_of (slice_get said id)) < 4294967296 → GoodDots ok most (body_dots said ts starts id)
     body_good ts starts id w le =

@@ -1,17 +1,16 @@
 -- The trees that rows build have their form.
 -- Proof: by recursion on the derivation, with tests of the rows and of the ways of their forks.
-use Rattle.std.proofs.Common.{◌≡◌, ℕ, zero, suc, ◌+◌, ◌*◌, ◌≤◌, subst, refl, ap, sym, ◌∙◌, arith, List, [], ◌∷◌, length, slice_get}
+use Rattle.std.proofs.Common.{◌≡◌, ℕ, suc, ◌+◌, ◌*◌, ◌≤◌, subst, refl, ap, sym, ◌∙◌, arith, List, [], ◌∷◌, length}
 use Rattle.std.proofs.lemmas.Bool.{false≢true}
 use Rattle.std.proofs.lemmas.Bool.Decides.{nat_tests}
-use Rattle.std.specs.Prelude.{Bool, true, false, not, ◌&&◌, ◌||◌, nat_le, IsTrue, Some, if◌then◌else◌, codes}
+use Rattle.std.specs.Prelude.{Bool, true, false, not, ◌&&◌, ◌||◌, nat_le, IsTrue, if◌then◌else◌, codes}
 use Rattle.std.specs.Str.{bytes_eq}
 use Rattle.c_terms.specs.declared.token.Token.{Token}
 use Rattle.c_terms.specs.declared.token.TokenKind.{TokenKind}
 use Rattle.c_terms.specs.declared.token.TokenKind.TheVariants as token_kind
-use Rattle.c_terms.specs.declared.label.Label.{Label}
 use Rattle.c_terms.specs.declared.label.Label.TheVariants as label
 use Rattle.c_terms.specs.declared.tree.Tree.{Tree, out-Tree}
-use Rattle.c_terms.specs.declared.tree.Tree.TheVariants.{Leaf, Branch}
+use Rattle.c_terms.specs.declared.tree.Tree.TheVariants.{Leaf}
 use Rattle.c_terms.proofs.SameLemmas.{out-Leaf, out-Branch}
 use Rattle.c_rows.specs.declared.class.Class.{Class}
 use Rattle.c_rows.specs.declared.class.Class.TheVariants as class
@@ -26,7 +25,7 @@ use Rattle.c_rows.specs.declared.rule.Rule.TheVariants as rule
 use Rattle.c_rows.specs.declared.symbol.Symbol.TheVariants as symbol
 use Rattle.c_rows.specs.declared.symbol.Fork.{Fork}
 use Rattle.c_rows.specs.declared.symbol.Fork.TheVariants as forks
-use Rattle.c_rows.specs.Kinds.{family_of, within, has_leaf, is_operand}
+use Rattle.c_rows.specs.Kinds.{family_of, has_leaf, is_operand}
 use Rattle.c_rows.specs.Words.{fits}
 use Rattle.c_rows.specs.Branches.{kind_of, label_of, branches_label, at_label, if_label, case_label, for_label, external_label, macro_label, text_is, labelled, is_decl_label, is_block_label, is_blockless, begins_dots, begins_declaration, may_go}
 use Rattle.c_rows.specs.Rows.{Row, row, ways}
@@ -36,9 +35,9 @@ use Rattle.c_rows.specs.Derives.{Derives, leaf, branch as derived, DerivesRow, d
 use Rattle.c_rows.proofs.FirstChecks.{and_left, and_right, not_true, row_at}
 use Rattle.c_rows.proofs.FirstLemmas.{within_family}
 use Rattle.smpl_patch.specs.Patterns.{is_sign, is_sign_at as is_sign_in, is_sign_tree}
-use Rattle.smpl_elem.specs.Forms.{is_list_in, is_list, is_list_at, is_list_label, first_kid, last_kid, nothing}
+use Rattle.smpl_elem.specs.Forms.{is_list_in, is_list, first_kid, last_kid}
 use Rattle.smpl_body.specs.DotsOf.{is_dots}
-use Rattle.smpl_formed.specs.Shapes.{is_nest_label, is_dots_in, is_dots_tree, is_leaf_in, is_leaf, begins, apart, unlisted, undotted, lists, is_sign_at, has_branch, is_choice, has_form, Formed, token, branch, AllFormed, none, more}
+use Rattle.smpl_formed.specs.Shapes.{is_nest_label, is_dots_in, is_dots_tree, is_leaf_in, is_leaf, begins, apart, unlisted, undotted, lists, is_choice, has_form, Formed, token, branch, AllFormed, none, more}
 use Rattle.smpl_formed.proofs.RowTests.{is_list_kind, no_leaf, list_label, is_statement_family, is_safe, neither, rule_unlisted, is_nest_rule, other_rule, safe_rule, bare, bare_ways, is_plain_word, shy, calm, is_guarded, shy_way, calm_way, shy_ways, calm_ways, quiet, quiet_ways, ends_worded, worded_ways, begins_nest, nest_class, has_list, list_ways, rich, thrifty, thrifty_ways, rich_ways, thrifty_row, rich_row}
 
 -- ---- on Bool

@@ -1,5 +1,5 @@
 -- What holds of sequences of elements, element by element.
-use Rattle.std.proofs.Common.{◌≡◌, ℕ, zero, suc, ◌+◌, ◌<◌, ◌≤◌, refl, sym, ap, ◌∙◌, subst, arith, List, [], ◌∷◌, ◌++◌, map, length, Option, Some, None}
+use Rattle.std.proofs.Common.{◌≡◌, ℕ, suc, ◌+◌, ◌<◌, ◌≤◌, refl, sym, ap, ◌∙◌, subst, arith, List, [], ◌∷◌, ◌++◌, length, Option}
 use Rattle.std.proofs.lemmas.Bool.{false≢true}
 use Rattle.std.proofs.lemmas.Bool.Decides.{nat_tests}
 use Rattle.std.specs.Prelude.{Bool, true, false, not, ◌&&◌, nat_le, nat_lt}
@@ -10,8 +10,8 @@ use Rattle.smpl_patch.specs.declared.pattern.Pattern.{Pattern}
 use Rattle.smpl_patch.specs.declared.elem.Dots.{Dots}
 use Rattle.smpl_patch.specs.declared.elem.Elem.{Elem}
 use Rattle.smpl_patch.specs.declared.elem.Elem.TheVariants as elem
-use Rattle.smpl_patch.specs.Bodies.{Element, Atom, Compound, Block, Gap, Nest, AnyOf, AllOf, Body, End, Then, Bodies, NoMore, More, element, body}
-use Rattle.smpl_patch.specs.Shapes.{begins_with_dots, ends_with_dots, are_parted, has_no_dots_at_edge, count, is_formed, each_formed, are_formed, is_formed_body, option_patterns, patterns_element, patterns_body, patterns_bodies, members, lengths_element, lengths_body, lengths_bodies}
+use Rattle.smpl_patch.specs.Bodies.{Element, Atom, Compound, Block, Gap, Nest, AnyOf, AllOf, element, body}
+use Rattle.smpl_patch.specs.Shapes.{are_parted, has_no_dots_at_edge, count, is_formed, each_formed, are_formed, is_formed_body, option_patterns, patterns_element, patterns_body, patterns_bodies, members, lengths_element, lengths_body, lengths_bodies}
 use Rattle.smpl_patch.proofs.BodyLemmas.{bodies, dots_of, element-Atom, element-Compound, element-Block, element-Gap, element-Nest, element-AnyOf, element-AllOf}
 use Rattle.smpl_formed.specs.Shapes.{Sound}
 

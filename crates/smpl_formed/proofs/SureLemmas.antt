@@ -1,13 +1,13 @@
 -- Each sure variable of a pattern stands in it.
 -- Proof: by induction on the form. Of a disjunction the first branch is there, and has the variables that all have.
-use Rattle.std.proofs.Common.{◌≡◌, ℕ, zero, suc, refl, sym, ap, ◌∙◌, subst, List, [], ◌∷◌, ◌++◌, map, length, slice_get, Some, None}
+use Rattle.std.proofs.Common.{◌≡◌, ℕ, suc, refl, sym, ap, ◌∙◌, subst, List, [], ◌∷◌, ◌++◌, map, length}
 use Rattle.std.proofs.lemmas.Bool.{false≢true}
-use Rattle.std.specs.Prelude.{Bool, true, false, not, ◌&&◌, ◌||◌, if◌then◌else◌}
+use Rattle.std.specs.Prelude.{Bool, true, false, ◌||◌, if◌then◌else◌}
 use Rattle.std.specs.List.{list_any, list_all}
 use Rattle.c_terms.specs.declared.token.Token.{Token}
 use Rattle.c_terms.specs.declared.label.Label.{Label}
 use Rattle.c_terms.specs.declared.label.Label.TheVariants as label
-use Rattle.c_terms.specs.declared.tree.Tree.{Tree, out-Tree}
+use Rattle.c_terms.specs.declared.tree.Tree.{Tree}
 use Rattle.c_terms.specs.declared.tree.Tree.TheOpen.{Tree-F}
 use Rattle.c_terms.specs.declared.tree.Tree.TheVariants.{Leaf, Branch}
 use Rattle.c_terms.specs.Shapes.{shape_of}
@@ -22,8 +22,8 @@ use Rattle.smpl_patch.specs.declared.pattern.Spot.{Spot}
 use Rattle.smpl_patch.specs.Held.{is_parted, is_held, kept, held_at, held}
 use Rattle.smpl_patch.specs.Patterns.{is_own, stands_in, is_sign_tree, is_sure, in_first, sure, stands}
 use Rattle.smpl_patch.proofs.SureLemmas.{sure-Leaf, sure-Branch, sure_kids}
-use Rattle.smpl_formed.specs.Shapes.{has_branch, is_sign_at, is_firm, Sound, sound_token, sound_branch, AllSound, no_more, one_more}
-use Rattle.smpl_formed.proofs.SequenceLemmas.{and_both, left_true, right_true, not_true, Good}
+use Rattle.smpl_formed.specs.Shapes.{has_branch, is_firm, Sound, sound_token, sound_branch, AllSound, no_more, one_more}
+use Rattle.smpl_formed.proofs.SequenceLemmas.{left_true, right_true, not_true, Good}
 
 or_left : (a b : Bool) → a ≡ true → (a || b) ≡ true
 or_left true b h = refl

@@ -1,6 +1,6 @@
 -- The elements of a tree that has its form, with no dots and no nest at an edge, are fine.
 -- Proof: by induction on the tree.
-use Rattle.std.proofs.Common.{◌≡◌, ℕ, suc, ◌+◌, ◌<◌, ◌≤◌, refl, sym, ap, ◌∙◌, subst, arith, List, [], ◌∷◌, ◌++◌, map, length, Option, Some, None, slice_get}
+use Rattle.std.proofs.Common.{◌≡◌, ℕ, suc, ◌+◌, ◌<◌, ◌≤◌, refl, sym, ap, ◌∙◌, subst, arith, List, [], ◌∷◌, ◌++◌, map, length, Some, None, slice_get}
 use Rattle.std.proofs.lemmas.Bool.{false≢true}
 use Rattle.std.proofs.lemmas.Bool.Decides.{nat_tests}
 use Rattle.std.specs.Prelude.{Bool, true, false, not, ◌&&◌, nat_le, if◌then◌else◌}
@@ -21,21 +21,19 @@ use Rattle.c_terms.proofs.TreeLemmas.{leaves-Leaf, leaves-Branch}
 use Rattle.smpl_patch.specs.declared.pattern.Spot.{Spot}
 use Rattle.smpl_patch.specs.declared.pattern.Spot.TheVariants as spot
 use Rattle.smpl_patch.specs.Held.{is_held}
-use Rattle.smpl_patch.specs.Patterns.{is_sign_tree}
 use Rattle.smpl_patch.specs.declared.elem.Dots.{Dots}
 use Rattle.smpl_patch.specs.declared.elem.Elem.{Elem}
-use Rattle.smpl_patch.specs.declared.elem.Elem.TheVariants as elem
 use Rattle.smpl_patch.specs.Bodies.{body}
-use Rattle.smpl_patch.specs.Shapes.{begins_with_dots, ends_with_dots, are_parted, has_no_dots_at_edge}
+use Rattle.smpl_patch.specs.Shapes.{begins_with_dots, ends_with_dots}
 use Rattle.smpl_elem.specs.declared.form.Form.{Form}
 use Rattle.smpl_elem.specs.declared.form.Form.TheVariants as form
 use Rattle.smpl_elem.specs.Forms.{is_list_label, is_list, is_list_in, is_list_at, form_of_token, form_of, form_in, form_at, kids, label_in, label_at, is_part, before, nothing, first_kid, last_kid, id_at, is_more, child_or, masked_from, masked_in, masked}
 use Rattle.smpl_elem.specs.Elements.{Part, part, picked, total, seqs, pattern, made, atoms, elements}
 use Rattle.smpl_elem.proofs.PartLemmas.{kids-Leaf, kids-Branch}
-use Rattle.smpl_body.specs.DotsOf.{is_dots, gap, ends, statements_in, statements, branch_ends, body_ends, inner, own_ends}
+use Rattle.smpl_body.specs.DotsOf.{gap, ends, statements_in, statements, branch_ends, body_ends, inner, own_ends}
 use Rattle.smpl_body.proofs.EdgeLemmas.{edges_in, edges-Branch}
-use Rattle.smpl_formed.specs.Shapes.{is_dots_tree, is_dots_in, begins, finishes, apart, unlisted, undotted, lists, has_branch, is_choice, is_firm, has_form, Formed, token, branch, AllFormed, none, more, Sound, sound_token, sound_branch, AllSound, no_more, one_more}
-use Rattle.smpl_formed.proofs.SequenceLemmas.{and_both, left_true, right_true, not_true, not_false, all_front, all_back, small, Good, AllGood, Fine, AllFine, fine_append, Whole, AllWhole, GoodDots, fine_atom, fine_gap, fine_block, fine_nest, fine_any, fine_all, fine_head}
+use Rattle.smpl_formed.specs.Shapes.{is_dots_tree, begins, finishes, apart, unlisted, undotted, lists, has_branch, is_choice, is_firm, has_form, Formed, token, branch, AllFormed, none, more, Sound, sound_token, sound_branch, AllSound, no_more, one_more}
+use Rattle.smpl_formed.proofs.SequenceLemmas.{and_both, left_true, right_true, not_true, not_false, all_front, all_back, Good, AllFine, fine_append, Whole, AllWhole, GoodDots, fine_atom, fine_gap, fine_block, fine_nest, fine_any, fine_all, fine_head}
 use Rattle.smpl_formed.proofs.KidLemmas.{Single, Follow, tree_single, tree_made, joined, all_follow, all_picked, IsInner, middle, inner_picked, inner_middle, unlisted_middle, apart_middle, middle_short, picked_short, lists_picked, seqs_long, gap_undotted, front_empty, back_empty, ends_undotted, formed_middle, no_statements}
 
 -- ---- sound trees
@@ -240,15 +238,17 @@ module _ (ok : Token → Bool) (most : ℕ) where
 
     choice_whole : {cs : List Tree} → most < 4294967296 → AllFormed most cs → AllFineTree cs → undotted cs ≡ true → branch_ends cs ≡ [] → AllWholeTree cs
     choice_whole s none g u e = tt
-    choice_whole s (more c cs one rest) g u e =
-        (tree_whole s one g.0 (front_empty (ends (statements c)) (branch_ends cs) e) (λ n. not_true (is_dots_tree c) (left_true (not (is_dots_tree c)) (undotted cs) u)),
-         choice_whole s rest g.1 (right_true (not (is_dots_tree c)) (undotted cs) u) (back_empty (ends (statements c)) (branch_ends cs) e))
+    choice_whole s (more c cs one rest) g u e = (
+      tree_whole s one g.0 (front_empty (ends (statements c)) (branch_ends cs) e) (λ n. not_true (is_dots_tree c) (left_true (not (is_dots_tree c)) (undotted cs) u)),
+      choice_whole s rest g.1 (right_true (not (is_dots_tree c)) (undotted cs) u) (back_empty (ends (statements c)) (branch_ends cs) e),
+    )
 
     head_whole : {cs : List Tree} → most < 4294967296 → AllFormed most cs → AllFineTree cs → unlisted cs ≡ true → body_ends cs ≡ [] → AllWholeTree cs
     head_whole s none g u e = tt
-    head_whole s (more c cs one rest) g u e =
-        (tree_whole s one g.0 (ap ends (no_statements c (not_true (is_list c) (left_true (not (is_list c)) (unlisted cs) u)))) (λ n. gap_undotted one (front_empty (gap c) (body_ends cs) e)),
-         head_whole s rest g.1 (right_true (not (is_list c)) (unlisted cs) u) (back_empty (gap c) (body_ends cs) e))
+    head_whole s (more c cs one rest) g u e = (
+      tree_whole s one g.0 (ap ends (no_statements c (not_true (is_list c) (left_true (not (is_list c)) (unlisted cs) u)))) (λ n. gap_undotted one (front_empty (gap c) (body_ends cs) e)),
+      head_whole s rest g.1 (right_true (not (is_list c)) (unlisted cs) u) (back_empty (gap c) (body_ends cs) e),
+    )
 
     module _ (s : most < 4294967296) (good : (id : ℕ) → GoodDots ok most (dots id)) where
       good_form : (n : ℕ) (p : Spot) (t : Tree) → Sound ok most t → Good ok most (pattern n p t)
@@ -274,30 +274,42 @@ module _ (ok : Token → Bool) (most : ℕ) where
       made_fine form.List t l cs st sm sk le all g n k a m = joined_fine form.List l (length cs) 0 a cs g
       made_fine form.Block t l cs st sm sk le all g n k a m =
           let b = joined dots a (picked form.Block l (length cs) 0 (map part cs)) in
-          let w = middle_follow form.Block (λ m n i c. refl) l cs a n.0 in
-          (fine_block ok most (pattern k spot.Whole (first_kid (kids t))) (pattern m spot.Whole (last_kid (kids t))) b
-          (good_form k spot.Whole (first_kid (kids t)) (sound_first sk)) (good_form m spot.Whole (last_kid (kids t)) (sound_last sk))
-          (joined_fine form.Block l (length cs) 0 a cs g) (w.parted ∙ apart_middle cs n.1) (omega (arith, s, le, w.long, middle_short cs)), tt)
+          let w = middle_follow form.Block (λ m n i c. refl) l cs a n.0 in (
+            fine_block ok most (pattern k spot.Whole (first_kid (kids t))) (pattern m spot.Whole (last_kid (kids t))) b
+                (good_form k spot.Whole (first_kid (kids t)) (sound_first sk)) (good_form m spot.Whole (last_kid (kids t)) (sound_last sk))
+                (joined_fine form.Block l (length cs) 0 a cs g) (w.parted ∙ apart_middle cs n.1) (omega (arith, s, le, w.long, middle_short cs)),
+            tt,
+          )
       made_fine form.Nest t l cs st sm sk le all g n k a m =
           let b = joined dots a (picked form.Nest l (length cs) 0 (map part cs)) in
           let w = middle_follow form.Nest (λ m n i c. refl) l cs a n.0 in
-          let edge = ends_undotted (formed_middle all) (sym (ap ends (inner_middle cs)) ∙ n.1.1) in
-          (fine_nest ok most (is_more (first_kid (kids t))) b (dots (id_at (last_kid (kids t))))
-          (follow_whole b (middle cs) s (omega (arith, le, middle_short cs)) (joined_fine form.Nest l (length cs) 0 a cs g) w edge.0 edge.1 (apart_middle cs n.1.0))
-          (good (id_at (last_kid (kids t)))), tt)
-      made_fine form.AnyOf t l cs st sm sk le all g n k a m =
-          (fine_any ok most (seqs dots a (picked form.AnyOf l (length cs) 0 (map part cs))) (each_whole form.AnyOf l (length cs) 0 a cs (choice_whole s all g n.1.0 n.1.1))
-          (choice_two form.AnyOf (λ m n i c. refl) l cs a n.0) (parts_short form.AnyOf l cs a le), tt)
-      made_fine form.AllOf t l cs st sm sk le all g n k a m =
-          (fine_all ok most (seqs dots a (picked form.AllOf l (length cs) 0 (map part cs))) (each_whole form.AllOf l (length cs) 0 a cs (choice_whole s all g n.1.0 n.1.1))
-          (choice_two form.AllOf (λ m n i c. refl) l cs a n.0) (parts_short form.AllOf l cs a le), tt)
-      made_fine form.Head t l cs st sm sk le all g n k a m =
-          (fine_head ok most (pattern k spot.Whole (masked spot.Whole t)) (seqs dots a (picked form.Head l (length cs) 0 (map part cs))) None
-          (good_form k spot.Whole (masked spot.Whole t) (sm spot.Whole refl)) (each_whole form.Head l (length cs) 0 a cs (head_whole s all g n.0 n.1)) tt (parts_short form.Head l cs a le), tt)
-      made_fine form.Do t l cs st sm sk le all g n k a m =
-          (fine_head ok most (pattern k spot.Whole (masked spot.Whole t)) (seqs dots a (picked form.Do l (length cs) 0 (map part cs))) (Some (pattern m spot.Tail (masked spot.Tail t)))
-          (good_form k spot.Whole (masked spot.Whole t) (sm spot.Whole refl)) (each_whole form.Do l (length cs) 0 a cs (head_whole s all g n.0 n.1))
-          (good_form m spot.Tail (masked spot.Tail t) (sm spot.Tail refl), tt) (parts_short form.Do l cs a le), tt)
+          let edge = ends_undotted (formed_middle all) (sym (ap ends (inner_middle cs)) ∙ n.1.1) in (
+            fine_nest ok most (is_more (first_kid (kids t))) b (dots (id_at (last_kid (kids t))))
+                (follow_whole b (middle cs) s (omega (arith, le, middle_short cs)) (joined_fine form.Nest l (length cs) 0 a cs g) w edge.0 edge.1 (apart_middle cs n.1.0))
+                (good (id_at (last_kid (kids t)))),
+            tt,
+          )
+      made_fine form.AnyOf t l cs st sm sk le all g n k a m = (
+        fine_any ok most (seqs dots a (picked form.AnyOf l (length cs) 0 (map part cs))) (each_whole form.AnyOf l (length cs) 0 a cs (choice_whole s all g n.1.0 n.1.1))
+            (choice_two form.AnyOf (λ m n i c. refl) l cs a n.0) (parts_short form.AnyOf l cs a le),
+        tt,
+      )
+      made_fine form.AllOf t l cs st sm sk le all g n k a m = (
+        fine_all ok most (seqs dots a (picked form.AllOf l (length cs) 0 (map part cs))) (each_whole form.AllOf l (length cs) 0 a cs (choice_whole s all g n.1.0 n.1.1))
+            (choice_two form.AllOf (λ m n i c. refl) l cs a n.0) (parts_short form.AllOf l cs a le),
+        tt,
+      )
+      made_fine form.Head t l cs st sm sk le all g n k a m = (
+        fine_head ok most (pattern k spot.Whole (masked spot.Whole t)) (seqs dots a (picked form.Head l (length cs) 0 (map part cs))) None
+            (good_form k spot.Whole (masked spot.Whole t) (sm spot.Whole refl)) (each_whole form.Head l (length cs) 0 a cs (head_whole s all g n.0 n.1)) tt (parts_short form.Head l cs a le),
+        tt,
+      )
+      made_fine form.Do t l cs st sm sk le all g n k a m = (
+        fine_head ok most (pattern k spot.Whole (masked spot.Whole t)) (seqs dots a (picked form.Do l (length cs) 0 (map part cs))) (Some (pattern m spot.Tail (masked spot.Tail t)))
+            (good_form k spot.Whole (masked spot.Whole t) (sm spot.Whole refl)) (each_whole form.Do l (length cs) 0 a cs (head_whole s all g n.0 n.1))
+            (good_form m spot.Tail (masked spot.Tail t) (sm spot.Tail refl), tt) (parts_short form.Do l cs a le),
+        tt,
+      )
 
       -- ---- trees
 
@@ -336,6 +348,7 @@ module _ (ok : Token → Bool) (most : ℕ) where
 
         kids_fine : {cs : List Tree} → AllFormed most cs → list_all ok (join (map leaves cs)) ≡ true → join (map edges_in cs) ≡ [] → AllFineTree cs
         kids_fine none v e = tt
-        kids_fine (more c cs one rest) v e =
-            (tree_fine one (all_front ok (leaves c) (join (map leaves cs)) v) (front_empty (edges_in c) (join (map edges_in cs)) e),
-             kids_fine rest (all_back ok (leaves c) (join (map leaves cs)) v) (back_empty (edges_in c) (join (map edges_in cs)) e))
+        kids_fine (more c cs one rest) v e = (
+          tree_fine one (all_front ok (leaves c) (join (map leaves cs)) v) (front_empty (edges_in c) (join (map edges_in cs)) e),
+          kids_fine rest (all_back ok (leaves c) (join (map leaves cs)) v) (back_empty (edges_in c) (join (map edges_in cs)) e),
+        )

@@ -22,11 +22,11 @@ pub record Made {A B : Type 0} (o : Option A) (f : A → Option B) (b : B) : Typ
   pub is : o ≡ Some from
   pub gives : f from ≡ Some b
 
-then-made : {A B : Type 0} (f : A → Option B) (o : Option A) (b : B) → option_and_then f o ≡ Some b → Made o f b
+pub then-made : {A B : Type 0} (f : A → Option B) (o : Option A) (b : B) → option_and_then f o ≡ Some b → Made o f b
 then-made f None b e = absurd (cc)
 then-made f (Some a) b e = record { from = a; is = refl; gives = e }
 
-map-made : {A B : Type 0} (f : A → B) (o : Option A) (b : B) → option_map f o ≡ Some b → Made o (λ a. Some (f a)) b
+pub map-made : {A B : Type 0} (f : A → B) (o : Option A) (b : B) → option_map f o ≡ Some b → Made o (λ a. Some (f a)) b
 map-made f None b e = absurd (cc)
 map-made f (Some a) b e = record { from = a; is = refl; gives = e }
 

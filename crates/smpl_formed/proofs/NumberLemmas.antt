@@ -22,7 +22,7 @@ use Rattle.smpl_when.specs.Grammar.{IsCut, numbers_at, said_from}
 use Rattle.smpl_elem.specs.Elements.{atoms, elements}
 use Rattle.smpl_body.specs.Spelled.{body_forms}
 use Rattle.smpl_body.specs.Bodies.{is_any, is_strict, codes_of, code_dots, code_at, whens_of, body_dots, starts_from, IsBody}
-use Rattle.smpl_formed.proofs.AtomLemmas.{one, occurs, occurs_append, hits, hits_split, hits_once, behind, load, tree_light, all_differ}
+use Rattle.smpl_formed.proofs.AtomLemmas.{occurs, occurs_append, hits, hits_split, hits_once, behind, load, tree_light, all_differ}
 use Rattle.smpl_formed.specs.Bodies.{CountFrom}
 use Rattle.smpl_formed.proofs.CutLemmas.{AllShort, parts_short, bit, times, own_times, count_once, codes_at}
 use Rattle.smpl_formed.proofs.ReadLemmas.{dots_rolled, IsTop, top_read, AllTop, all_top}

@@ -1,0 +1,3 @@
+-- What the contracts rest on, in reading order.
+pub mod Pool
+pub mod Made

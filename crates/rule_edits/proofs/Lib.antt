@@ -1,0 +1,5 @@
+pub mod ClashLemmas
+pub mod IdLemmas
+pub mod KindLemmas
+pub mod LeaveLemmas
+pub mod TokenLemmas

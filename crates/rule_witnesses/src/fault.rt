@@ -37,7 +37,8 @@ impl From<AllocError> for JobFault {
 
 /// The fault of a forest as that of its job.
 pub fn fault_of(of_forest: ForestFault) -> JobFault
-    ensures { result ≡ JobFault.TooMany → of_forest ≡ forest.TooMany }
+    ensures only { result ≡ JobFault.TooMany → of_forest ≡ forest.TooMany }
+    ensures each { of_forest ≡ forest.TooMany → result ≡ JobFault.TooMany }
 {
     match of_forest {
         ForestFault::TooMany => JobFault::TooMany,

@@ -1,0 +1,4 @@
+pub mod StepLemmas
+pub mod CutLemmas
+pub mod LineLemmas
+pub mod PatchLemmas

@@ -1,0 +1,135 @@
+-- What is found, item by item and environment by environment.
+use Rattle.std.proofs.Common.{◌≡◌, ◌<◌, ◌≤◌, ◌+◌, ℕ, zero, suc, nat_lt, refl, sym, ap, ◌∙◌, arith, true, false, ◌||◌, Some, List, [], ◌∷◌, ◌++◌, length, get_or, drop, map}
+use Rattle.std.specs.Prelude.{slice_get}
+use Rattle.std.proofs.lemmas.List.{append_assoc, map-append, drop_more}
+use Rattle.std.proofs.lemmas.Bool.Decides.{nat_tests}
+use Rattle.cpp_lines.specs.declared.reading.Item.{Item}
+use Rattle.cfg_graph.specs.Flow.{Flow}
+use Rattle.c_file.specs.Fit.{item_graph}
+use Rattle.smpl_patch.specs.declared.rule.Rule.{Rule}
+use Rattle.smpl_patch.specs.declared.witness.RuleWitness.{RuleWitness}
+use Rattle.env_parts.specs.Parts.{Pairs, bare_env}
+use Rattle.ctl_formula.specs.Formulas.{FormulaOf}
+use Rattle.ctl_translate.specs.Answers.{IsFormulaOf}
+use Rattle.wit_trees.specs.Rules as rules
+use Rattle.rule_envs.specs.Carriers as envs
+use Rattle.rule_envs.proofs.BareLemmas.{exported-bare}
+use Rattle.rule_witnesses.specs.Bare.{bare_witness}
+use Rattle.rule_witnesses.specs.Jobs.{nodes_of, witnesses_of}
+use Rattle.rule_witnesses.proofs.JobLemmas.{witnesses_bare, nodes-same}
+use Rattle.rule_found.specs.Found.{witnesses_in, is_large, found_from, is_large_from, found_under, is_large_under, brings, rule_found, has_too_many}
+
+-- ---- one item
+
+within_most : (n : ℕ) → n ≤ 1000000 → nat_lt 1000000 n ≡ false
+within_most n h = grind (arith, nat_tests)
+
+beyond_most : (n : ℕ) → 1000000 < n → nat_lt 1000000 n ≡ true
+beyond_most n h = grind (arith, nat_tests)
+
+module _ (number : ℕ) (rule : Rule) (f : FormulaOf) (is : IsFormulaOf rule f) (g : Flow) (item : ℕ) (env : Pairs) where
+  pub one_item : map bare_witness (witnesses_of f g rule.exports number item env)
+      ≡ map bare_witness (witnesses_in number rule item (Some g) (bare_env env))
+  one_item =
+      witnesses_bare f g rule.exports number item env
+      ∙ (λ i. map bare_witness (rules.witnesses_of (is.decls i) (is.tokens i) g (is.formula i) rule.exports number item (bare_env env)))
+
+  size : nodes_of (witnesses_of f g rule.exports number item env) ≡ nodes_of (witnesses_in number rule item (Some g) (bare_env env))
+  size = nodes-same (witnesses_of f g rule.exports number item env) (witnesses_in number rule item (Some g) (bare_env env)) one_item
+
+  pub one_few : nodes_of (witnesses_of f g rule.exports number item env) ≤ 1000000 → is_large number rule item (Some g) (bare_env env) ≡ false
+  one_few h = ap (λ n. nat_lt 1000000 n) (sym size) ∙ within_most (nodes_of (witnesses_of f g rule.exports number item env)) h
+
+  pub one_large : 1000000 < nodes_of (witnesses_of f g rule.exports number item env) → is_large number rule item (Some g) (bare_env env) ≡ true
+  one_large h = ap (λ n. nat_lt 1000000 n) (sym size) ∙ beyond_most (nodes_of (witnesses_of f g rule.exports number item env)) h
+
+-- ---- one item after another
+
+module _ (number : ℕ) (rule : Rule) (env : Pairs) where
+  next_found : (items : List Item) (i at : ℕ) → i < length items
+      → found_from number rule at (drop i items) env
+      ≡ map bare_witness (witnesses_in number rule at (item_graph (slice_get items i)) env) ++ found_from number rule (suc at) (drop (suc i) items) env
+  next_found [] i at lt = absurd (omega arith)
+  next_found (x ∷ xs) zero at lt = refl
+  next_found (x ∷ xs) (suc i) at lt = next_found xs i at (omega arith)
+
+  next_large : (items : List Item) (i at : ℕ) → i < length items
+      → is_large_from number rule at (drop i items) env
+      ≡ (is_large number rule at (item_graph (slice_get items i)) env || is_large_from number rule (suc at) (drop (suc i) items) env)
+  next_large [] i at lt = absurd (omega arith)
+  next_large (x ∷ xs) zero at lt = refl
+  next_large (x ∷ xs) (suc i) at lt = next_large xs i at (omega arith)
+
+  pub found_more : (items : List Item) (i : ℕ) (done more now : List RuleWitness) → i < length items → now ≡ done ++ more
+      → map bare_witness more ≡ map bare_witness (witnesses_in number rule i (item_graph (slice_get items i)) env)
+      → map bare_witness done ++ found_from number rule i (drop i items) env ≡ found_under number rule items env
+      → map bare_witness now ++ found_from number rule (i + 1) (drop (i + 1) items) env ≡ found_under number rule items env
+  found_more items i done more now lt n m h =
+      let one : i + 1 ≡ suc i = omega arith in
+      ap (λ ws. ws ++ found_from number rule (i + 1) (drop (i + 1) items) env)
+      (ap (map bare_witness) n ∙ map-append bare_witness done more)
+      ∙ append_assoc (map bare_witness done) (map bare_witness more) (found_from number rule (i + 1) (drop (i + 1) items) env)
+      ∙ (λ j. map bare_witness done ++ (m j ++ found_from number rule (one j) (drop (one j) items) env))
+      ∙ ap (λ ws. map bare_witness done ++ ws) (sym (next_found items i i lt)) ∙ h
+
+  pub large_more : (items : List Item) (i : ℕ) → i < length items → is_large number rule i (item_graph (slice_get items i)) env ≡ false
+      → is_large_from number rule i (drop i items) env ≡ is_large_under number rule items env
+      → is_large_from number rule (i + 1) (drop (i + 1) items) env ≡ is_large_under number rule items env
+  large_more items i lt few h =
+      let one : i + 1 ≡ suc i = omega arith in
+      (λ j. is_large_from number rule (one j) (drop (one j) items) env)
+      ∙ ap (λ b. b || is_large_from number rule (suc i) (drop (suc i) items) env) (sym few)
+      ∙ sym (next_large items i i lt) ∙ h
+
+  pub large_here : (items : List Item) (i : ℕ) → i < length items → is_large number rule i (item_graph (slice_get items i)) env ≡ true
+      → is_large_from number rule i (drop i items) env ≡ is_large_under number rule items env
+      → is_large_under number rule items env ≡ true
+  large_here items i lt many h =
+      sym h ∙ next_large items i i lt ∙ ap (λ b. b || is_large_from number rule (suc i) (drop (suc i) items) env) many
+
+-- ---- one environment after another
+
+next_env : (envs : List Pairs) (k : ℕ) (e : Pairs) → k < length envs → e ≡ get_or envs k e → drop k envs ≡ e ∷ drop (k + 1) envs
+next_env envs k e lt is = drop_more envs k e lt ∙ ap (λ (x : Pairs). x ∷ drop (k + 1) envs) (sym is)
+
+module _ (number : ℕ) (rule : Rule) (items : List Item) (envs : List Pairs) (k : ℕ) where
+  pub envs_more : (e : Pairs) (done more now : List RuleWitness) → k < length envs → e ≡ get_or envs k e → now ≡ done ++ more
+      → map bare_witness more ≡ found_under number rule items (bare_env e)
+      → map bare_witness done ++ rule_found number rule items (map bare_env (drop k envs)) ≡ rule_found number rule items (map bare_env envs)
+      → map bare_witness now ++ rule_found number rule items (map bare_env (drop (k + 1) envs)) ≡ rule_found number rule items (map bare_env envs)
+  envs_more e done more now lt is n m h =
+      ap (λ ws. ws ++ rule_found number rule items (map bare_env (drop (k + 1) envs))) (ap (map bare_witness) n ∙ map-append bare_witness done more)
+      ∙ append_assoc (map bare_witness done) (map bare_witness more) (rule_found number rule items (map bare_env (drop (k + 1) envs)))
+      ∙ ap (λ ws. map bare_witness done ++ (ws ++ rule_found number rule items (map bare_env (drop (k + 1) envs)))) m
+      ∙ ap (λ (es : List Pairs). map bare_witness done ++ rule_found number rule items (map bare_env es)) (sym (next_env envs k e lt is)) ∙ h
+
+  pub parts_more : (e : Pairs) (done now : List (List Pairs)) (part : List Pairs) → k < length envs → e ≡ get_or envs k e → now ≡ done ++ part ∷ []
+      → map bare_env part ≡ brings number rule items (bare_env e)
+      → map (map bare_env) done ++ map (brings number rule items) (map bare_env (drop k envs)) ≡ map (brings number rule items) (map bare_env envs)
+      → map (map bare_env) now ++ map (brings number rule items) (map bare_env (drop (k + 1) envs)) ≡ map (brings number rule items) (map bare_env envs)
+  parts_more e done now part lt is n p h =
+      let rest = map (brings number rule items) (map bare_env (drop (k + 1) envs)) in
+      ap (λ ps. ps ++ rest) (ap (map (map bare_env)) n ∙ map-append (map bare_env) done (part ∷ []))
+      ∙ append_assoc (map (map bare_env) done) (map bare_env part ∷ []) rest
+      ∙ ap (λ (x : List Pairs). map (map bare_env) done ++ (x ∷ rest)) p
+      ∙ ap (λ (es : List Pairs). map (map bare_env) done ++ map (brings number rule items) (map bare_env es)) (sym (next_env envs k e lt is)) ∙ h
+
+  pub few_more : (e : Pairs) → k < length envs → e ≡ get_or envs k e → is_large_under number rule items (bare_env e) ≡ false
+      → has_too_many number rule items (map bare_env (drop k envs)) ≡ has_too_many number rule items (map bare_env envs)
+      → has_too_many number rule items (map bare_env (drop (k + 1) envs)) ≡ has_too_many number rule items (map bare_env envs)
+  few_more e lt is few h =
+      ap (λ b. b || has_too_many number rule items (map bare_env (drop (k + 1) envs))) (sym few)
+      ∙ ap (λ (es : List Pairs). has_too_many number rule items (map bare_env es)) (sym (next_env envs k e lt is)) ∙ h
+
+-- ---- what witnesses bring
+
+bare_envs : (ws : List RuleWitness) → map bare_env (map (λ (w : RuleWitness). w.env) ws) ≡ map (λ (w : RuleWitness). w.env) (map bare_witness ws)
+bare_envs [] = refl
+bare_envs (w ∷ ws) = ap (λ es. bare_env w.env ∷ es) (bare_envs ws)
+
+pub one_brings : (number : ℕ) (rule : Rule) (items : List Item) (e : Pairs) (found : List RuleWitness) (part : List Pairs)
+    → part ≡ envs.exported rule.exports (map (λ (w : RuleWitness). w.env) found) → map bare_witness found ≡ found_under number rule items (bare_env e)
+    → map bare_env part ≡ brings number rule items (bare_env e)
+one_brings number rule items e found part is h =
+    ap (map bare_env) is ∙ exported-bare rule.exports (map (λ (w : RuleWitness). w.env) found)
+    ∙ ap (envs.exported rule.exports) (bare_envs found ∙ ap (map (λ (w : RuleWitness). w.env)) h)

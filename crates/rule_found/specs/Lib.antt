@@ -1,0 +1,2 @@
+-- What the contract of `witnesses` rests on.
+pub mod Found

@@ -1,0 +1,89 @@
+// What a rule finds in one item.
+ghost use Rattle.std.specs.Prelude.{◌≡◌, ◌<◌, ℕ, Some, IfOk, OnOk, Err, map, length, slice_get, true, false};
+ghost use Rattle.c_file.specs.Fit.{item_graph};
+ghost use Rattle.ctl_formula.specs.Formulas.{plain};
+ghost use Rattle.ctl_holds.specs.Parts.{EachPattern};
+ghost use Rattle.ctl_holds.specs.BoundLaw.{SureStand};
+ghost use Rattle.ctl_translate.specs.Answers.{IsFormulaOf};
+ghost use Rattle.env_parts.specs.Parts.{bare_env};
+ghost use Rattle.item_graphs.specs.Made.{IsMade};
+ghost use Rattle.rule_witnesses.specs.Bare.{bare_witness};
+ghost use Rattle.rule_witnesses.specs.Choices.{AreNew};
+ghost use Rattle.rule_witnesses.specs.Jobs.{BindsExports};
+ghost use Rattle.rule_witnesses.specs.declared.fault.JobFault.TheVariants as fault;
+ghost use Rattle.rule_found.specs.Found as of;
+
+use c_terms::NoMemory;
+use cfg_graph::Graph;
+use ctl_formula::Formula;
+use item_graphs::Graphs;
+use rule_witnesses::{JobFault, item_witnesses};
+use smpl_patch::{Rule, RuleWitness};
+use smpl_terms::Env;
+use sqlite_items::Items;
+use std::alloc::Global;
+
+/// The number that witnesses carry. From 2^32 on it is refused as if memory had run out.
+fn item_number(i: usize) -> Result<u32, NoMemory>
+    ensures { IfOk result (λ item. item ≡ i) }
+{
+    if i > u32::MAX as usize {
+        return Err(NoMemory);
+    }
+    Ok(i as u32)
+}
+
+/// The witnesses in one item, by its graph.
+fn by_graph(
+    alloc: Global,
+    number: u32,
+    rule: &Rule,
+    f: &Formula,
+    g: &Graph<'_>,
+    item: u32,
+    env: &Env,
+) -> Result<Items<RuleWitness>, JobFault>
+    requires formula { IsFormulaOf rule.now f.now }
+    requires stand { EachPattern (SureStand f.now.decls f.now.tokens) (plain f.now) }
+    requires binds { BindsExports f.now rule.now.exports }
+    requires new { AreNew rule.now.exports env.now }
+    ensures found { IfOk result (λ found. map bare_witness found
+        ≡ map bare_witness (of.witnesses_in number rule.now item (Some g.now) (bare_env env.now))) }
+    ensures few { OnOk result (of.is_large number rule.now item (Some g.now) (bare_env env.now) ≡ false) }
+    ensures too_many { result ≡ Err fault.TooMany
+        → of.is_large number rule.now item (Some g.now) (bare_env env.now) ≡ true }
+{
+    item_witnesses(alloc, g, f, rule.exports.as_slice(), number, item, env)
+}
+
+/// The witnesses in one item; none where it was skipped. Makes its graph, if it isn't made.
+pub fn in_item(
+    alloc: Global,
+    number: u32,
+    rule: &Rule,
+    f: &Formula,
+    graphs: &mut Graphs<'_>,
+    i: usize,
+    env: &Env,
+) -> Result<Items<RuleWitness>, JobFault>
+    requires formula { IsFormulaOf rule.now f.now }
+    requires stand { EachPattern (SureStand f.now.decls f.now.tokens) (plain f.now) }
+    requires binds { BindsExports f.now rule.now.exports }
+    requires new { AreNew rule.now.exports env.now }
+    requires within { i < length graphs.old.items }
+    ensures found { IfOk result (λ found. map bare_witness found ≡ map bare_witness
+        (of.witnesses_in number rule.now i (item_graph (slice_get graphs.old.items i)) (bare_env env.now))) }
+    ensures few { OnOk result
+        (of.is_large number rule.now i (item_graph (slice_get graphs.old.items i)) (bare_env env.now) ≡ false) }
+    ensures too_many { result ≡ Err fault.TooMany
+        → of.is_large number rule.now i (item_graph (slice_get graphs.old.items i)) (bare_env env.now) ≡ true }
+    ensures items { graphs.new.items ≡ graphs.old.items }
+    ensures kept { (k : ℕ) → IsMade graphs.old k → IsMade graphs.new k }
+{
+    let item = item_number(i)?;
+    graphs.make(alloc, i)?;
+    match graphs.get(i) {
+        None => Ok(Items::new(alloc)),
+        Some(g) => by_graph(alloc, number, rule, f, g, item, env),
+    }
+}

@@ -1,0 +1,11 @@
+//! What a rule finds over the items of one reading of a file: its witnesses under each of its projections, item by item, and
+//! the values of exported variables that they bring.
+//!
+//! [`witnesses`] gives both. What is found in one item under one environment is a call of
+//! [`item_witnesses`](rule_witnesses::item_witnesses), which has no state.
+#![tactic(auto)]
+
+mod item;
+mod whole;
+
+pub use whole::{Found, witnesses};

@@ -256,6 +256,7 @@ module _ (law : BlankLaw) where
           let both : Some q.kind ≡ Some j = sym cut.0.of_kind ∙ (ap kind_of (sym text) ∙ there) in
           let same : q.kind ≡ j = cc in
           (same, no-pieces qs cut.1 nil)
+
       by : Outcome (b ∷ bs) k → count_by k 0 ≡ count (q ∷ qs)
       by (worse j is w) = absurd (true≢false (sym w ∙ (ap bad (sym (piece j is).0) ∙ good.0)))
       by (quiet j is s t) =
@@ -307,6 +308,6 @@ module _ (law : BlankLaw) where
                 let text : r.text ≡ q.text ++ (joined qs ++ 10 ∷ []) = front ∙ ap (λ (l : List ℕ). q.text ++ l) h in
                 let nil : joined rs ≡ [] = cancel r.text (joined rs) (E ∙ sym text) in
                 let is : kind_of ((q.text ++ joined qs) ++ 10 ∷ []) ≡ Some r.kind =
-                    ap kind_of (append_assoc q.text (joined qs) (10 ∷ [])) ∙ (ap kind_of (sym text) ∙ other.0.of_kind) in
+                ap kind_of (append_assoc q.text (joined qs) (10 ∷ [])) ∙ (ap kind_of (sym text) ∙ other.0.of_kind) in
                 ap (λ (l : List Piece). count_by r.kind (count l)) (no-pieces rs other.1 nil) ∙ all-one (q.text ++ joined qs) r.kind q qs cut good refl is
           ]

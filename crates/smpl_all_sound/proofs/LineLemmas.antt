@@ -80,7 +80,7 @@ piece-of at p ps (Plain k) e first b rest =
       cut = (subst (λ (l : List ℕ). IsFirstBy 0 (Plain k) p.text l) (sym rest.joins) first, rest.cut);
       good = (good, rest.good);
       count = ap (λ (x : LineKind). length (put_token (token_kind x) p.text at (tokens_from (at + length p.text) ps))) e
-      ∙ put-count k p.text at (count rest.pieces) (tokens_from (at + length p.text) ps) good rest.count;
+          ∙ put-count k p.text at (count rest.pieces) (tokens_from (at + length p.text) ps) good rest.count;
     }
 
 pieces-of : (at : ℕ) (ps : List LinePiece) → CutOf false ps → bad_from true at ps ≡ [] → Pieces at ps

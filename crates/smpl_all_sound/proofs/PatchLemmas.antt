@@ -101,11 +101,11 @@ tokens-sound vars (t ∷ ts) p w e g l =
     let g0 = front-true (gaps_token t) (list_all gaps_token ts) g in
     let l0 = front-true (leads_token t) (list_all leads_token ts) l in
     let before : is_sound_block vars t.before ≡ true = block-sound vars t.before
-        (front-true (whole_block vars t.before) (whole_block vars t.after) w0) (front-true (at_block even_block t.before) (at_block even_block t.after) e0)
-        (front-true (gaps_block t.before) (gaps_block t.after) g0) (front-true (leads_block t.before) (leads_block t.after) l0) in
+    (front-true (whole_block vars t.before) (whole_block vars t.after) w0) (front-true (at_block even_block t.before) (at_block even_block t.after) e0)
+    (front-true (gaps_block t.before) (gaps_block t.after) g0) (front-true (leads_block t.before) (leads_block t.after) l0) in
     let after : is_sound_block vars t.after ≡ true = block-sound vars t.after
-        (back-true (whole_block vars t.before) (whole_block vars t.after) w0) (back-true (at_block even_block t.before) (at_block even_block t.after) e0)
-        (back-true (gaps_block t.before) (gaps_block t.after) g0) (back-true (leads_block t.before) (leads_block t.after) l0) in
+    (back-true (whole_block vars t.before) (whole_block vars t.after) w0) (back-true (at_block even_block t.before) (at_block even_block t.after) e0)
+    (back-true (gaps_block t.before) (gaps_block t.after) g0) (back-true (leads_block t.before) (leads_block t.after) l0) in
     both-true (is_sound_token vars t) (list_all (is_sound_token vars) ts)
     (both-true (positions_in vars t) (is_sound_block vars t.before && is_sound_block vars t.after) (front-true (positions_in vars t) (list_all (positions_in vars) ts) p)
     (both-true (is_sound_block vars t.before) (is_sound_block vars t.after) before after))

@@ -123,6 +123,7 @@ one-newline a = by (a == 10) (is_among (codes "+-<>=&|") a) (a == 45) (a == 46) 
         first : (c : Bool) → (a == 10) ≡ c → (c && is_among (codes "+-<>=&|") a) ≡ false
         first false h = refl
         first true h = ap (is_among (codes "+-<>=&|")) (eqb-true a 10 h)
+
     by : (p q x y z : Bool) → (p && q) ≡ false
         → (if ((p && q) || false || (x && false)) || (y && false) then Some (Two a 10) else (if y && false then Some (Digits 10) else (if z && false then Some (Rest Plain) else (if z && false then Some (Open false) else None)))) ≡ None
     by true true x y z h = absurd (true≢false h)

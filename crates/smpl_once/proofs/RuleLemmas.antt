@@ -94,7 +94,7 @@ module _ (plus : PlusApart) (bodies : BodyApart) where
   none-earlier text heads f g v w less =
       let q = before (taken heads) 0 v.rule w.rule text.rules heads w.before w.are less v.within in
       rule-apart (taken heads) v.rule q.text q.head q.rule f (subst (λ (i : ℕ). IsRule (taken heads) i q.text q.head q.rule) (omega arith) q.is)
-          (fault-of text heads f v q.text q.head q.text_at q.head_at)
+      (fault-of text heads f v q.text q.head q.text_at q.head_at)
 
 same-rule : BodyFaultOnce → (text : PatchText) (heads : List RuleHead) (f g : PatchFault) → AreHeads text [] text.rules heads → (v : IsFirstRuleFault text heads f)
     (w : IsFirstRuleFault text heads g) → v.rule ≡ w.rule → f ≡ g

@@ -13,7 +13,7 @@ returns-clause-spelling c =
     let h = c.heads_are_read_once.ensures in
     let b = c.bodies_are_read_once.ensures in
     spelling-once (record { once = t.text; fault = t.fault; apart = t.apart; go = t.headers }) (record { once = h.once; first = h.first; alone = h.alone })
-        (rules-fault-once c.plus_code_is_read_once.ensures.apart b.fault b.apart)
+    (rules-fault-once c.plus_code_is_read_once.ensures.apart b.fault b.apart)
 
 pub returns-clause-whole : goal.returns-clause-whole
 returns-clause-whole c =
@@ -22,6 +22,6 @@ returns-clause-whole c =
     let b = c.bodies_are_read_once.ensures in
     let p = c.patches_are_read_once.ensures in
     whole-once
-        (spelling-once (record { once = t.text; fault = t.fault; apart = t.apart; go = t.headers }) (record { once = h.once; first = h.first; alone = h.alone })
-            (rules-fault-once c.plus_code_is_read_once.ensures.apart b.fault b.apart))
-        p.patch p.apart
+    (spelling-once (record { once = t.text; fault = t.fault; apart = t.apart; go = t.headers }) (record { once = h.once; first = h.first; alone = h.alone })
+    (rules-fault-once c.plus_code_is_read_once.ensures.apart b.fault b.apart))
+    p.patch p.apart

@@ -3,7 +3,7 @@
 //! - [`patches_are_sound`] is a law: its clauses hold, and it does nothing. Each clause is a part of soundness, for every
 //!   rule of a patch that bytes spell, beside the rules before it.
 //!
-//! Of soundness only that a line of plus code has as many gaps as tokens is not proved.
+//! That a line of plus code has as many gaps as tokens is proved in smpl_all_sound, which puts all together.
 #![tactic(auto)]
 
 ghost use Rattle.std.specs.Prelude.{◌≡◌, ℕ, List, [], true, nat_lt, nat_eq, length};

@@ -48,8 +48,9 @@ fn branch_forms(
 /// - `TooMany`: it has more than `limit` forms.
 /// - `NoMemory`: memory was refused.
 ///
-/// Each level copies the forms of the level below. A tree is held against every side of every isomorphism, and for a side that
-/// it matches every other side is looked at. Recurses once a level.
+/// Child by child each choice is copied with the trees in it, so a branch of n children takes n * n / 2 copies. A tree is held
+/// against every side of every isomorphism, and for a side that it matches every other side is looked at, with the arrows
+/// between the two. Recurses once a level.
 pub fn forms_of(
     alloc: Global,
     isos: &[Iso],

@@ -6,7 +6,7 @@
 //! Under `X == NULL <=> NULL == X => !X` the tree `f(p == NULL)` has three forms: itself, `f(NULL == p)` and `f(!p)`.
 //!
 //! An expression whose tokens carry two marks, or have a position or plus code at one of them, is left alone; what stands in
-//! it may be replaced. Forms are told apart by a hash of their spelling. Which trees a patch has is for iso_expand.
+//! it may be replaced. Forms are told apart by their spelling, looked up in a hash set. Which trees a patch has is for iso_expand.
 #![tactic(auto)]
 
 mod arrows;

@@ -3,7 +3,7 @@
 //! - [`edit`] takes the witnesses of a rule over one reading of a text. It gives the new text with the ids of its tokens, where
 //!   one of the edits isn't empty, and nothing where none changes anything. Tokens that stay keep their ids, and those of new
 //!   tokens count on from an id that was never used.
-//! - [`ids_stay_below_next`] is a law, and does nothing: no id of a file is given twice.
+//! - [`ids_stay_below_next`] is a law, and does nothing: ids stay below the next one, which never falls.
 #![tactic(auto)]
 
 mod fault;

@@ -64,7 +64,7 @@ fn under(
 /// different values of the exported variables in its witnesses. Contracts leave the ids of terms out.
 ///
 /// `number` is the rule's, `f` its formula, and `count` the number of the file's items. The formula binds each exported variable,
-/// and its patterns' sure variables stand in them, as those of every rule of a patch that is read.
+/// and its patterns' sure variables stand in them.
 ///
 /// - `TooMany`: the forests of the witnesses in one item under one projection have more than 1,000,000 touches and binds.
 /// - `NoMemory`: memory was refused, the formula's table has 2^32 nodes, or there are more than 2^32 items.

@@ -135,7 +135,7 @@ fn with_node(
 /// by the values of the exported variables, each with its forest. Contracts compare them with the ids of terms left out.
 ///
 /// `rule` and `item` are the numbers that the witnesses carry. The formula binds each exported variable, and its patterns'
-/// sure variables stand in them, as those of every rule of a patch that is read.
+/// sure variables stand in them.
 ///
 /// - `TooMany`: the forests have more than 1,000,000 touches and binds in all.
 /// - `NoMemory`: memory was refused, or the formula's table has 2^32 nodes.

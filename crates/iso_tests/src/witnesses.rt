@@ -105,3 +105,109 @@ fn witnesses_stand_at_their_nodes(rt: HostRuntime) {
         b"file k.c\nrule 0 -\nat 0 2\n bind 2 E = a\n  touch 2 0 2.1.0\nat 0 4\n bind 4 E = b\n  touch 4 0 2.3.0.2.2\n bind 4 E = c\n  touch 4 0 2.3.0.2.0\n";
     assert!(rt; found.as_deref() == Some(wanted.as_slice()));
 }
+
+/// A patch, the statements of a function, and the report of the first rule in it.
+type Row<'a> = (&'a str, &'a str, &'a str);
+
+const EVERY_A_TO_B: &str = "@r forall@\n@@\n* a();\n  ...\n* b();\n";
+
+const SOME_A_TO_B: &str = "@r exists@\n@@\n* a();\n  ...\n* b();\n";
+
+const ROWS: [Row<'static>; 12] = [
+    // a value for each place
+    (
+        "@@\nexpression E;\n@@\n* f(E)\n",
+        "x = f(a) + f(b);",
+        "file k.c\nrule 0 -\nat 0 2\n bind 2 E = a\n  touch 2 0 2.1.0.2.0\n bind 2 E = b\n  touch 2 0 2.1.0.2.2\n",
+    ),
+    // the first branch that fits counts
+    (
+        "@r@\nexpression x;\n@@\n(\n* f(x);\n|\n* f(1);\n)\n",
+        "f(1);",
+        "file k.c\nrule 0 r\nat 0 2\n bind 2 x = 1\n  touch 2 0 2.1\n",
+    ),
+    // a value of its own on each branch
+    (
+        "@r forall@\nexpression l, m;\n@@\n* lock(l);\n  ...\n* unlock(m);\n",
+        "lock(a); if (c) unlock(a); else unlock(b);",
+        "file k.c\nrule 0 r\nat 0 2\n bind 2 l = a\n  touch 2 0 2.1\n bind 4 m = a\n  touch 4 1 2.2.4\n bind 5 m = b\n  touch 5 1 2.2.6\n",
+    ),
+    // what dots exclude is excluded under the value of what follows
+    (
+        "@r forall@\nexpression x;\n@@\n* f();\n  ... when != g(x)\n* h(x);\n",
+        "f(); g(1); h(2);",
+        "file k.c\nrule 0 r\nat 0 2\n touch 2 0 2.1\n bind 3 x = 2\n  touch 4 1 2.3\n",
+    ),
+    (
+        "@r forall@\nexpression x;\n@@\n* f();\n  ... when != g(x)\n* h(x);\n",
+        "f(); g(1); h(1);",
+        "file k.c\nrule 0 r\n",
+    ),
+    // a loop may run for ever
+    (
+        EVERY_A_TO_B,
+        "a(); while (1) g(); b();",
+        "file k.c\nrule 0 r\n",
+    ),
+    (
+        SOME_A_TO_B,
+        "a(); while (1) g(); b();",
+        "file k.c\nrule 0 r\nat 0 2\n touch 2 0 2.1\n touch 5 1 2.3\n",
+    ),
+    // a touch on sixteen ways
+    (
+        EVERY_A_TO_B,
+        "a(); if (c) p(); if (c) p(); if (c) p(); if (c) p(); b();",
+        "file k.c\nrule 0 r\nat 0 2\n touch 2 0 2.1\n touch 11 1 2.6\n",
+    ),
+    (
+        SOME_A_TO_B,
+        "a(); if (c) p(); if (c) p(); if (c) p(); if (c) p(); b();",
+        "file k.c\nrule 0 r\nat 0 2\n touch 2 0 2.1\n touch 11 1 2.6\n",
+    ),
+    // a way that leaves early
+    (
+        EVERY_A_TO_B,
+        "a(); if (c) return; b();",
+        "file k.c\nrule 0 r\nat 0 2\n touch 2 0 2.1\n touch 5 1 2.3\n",
+    ),
+    (
+        "@r forall@\n@@\n* a();\n  ... when strict\n* b();\n",
+        "a(); if (c) return; b();",
+        "file k.c\nrule 0 r\n",
+    ),
+    // a value for each statement of a nest
+    (
+        "@r forall@\nexpression x;\n@@\n  a();\n  <...\n* f(x);\n  ...>\n  b();\n",
+        "a(); f(1); g(); f(2); b();",
+        "file k.c\nrule 0 r\nat 0 2\n bind 3 x = 1\n  touch 3 1 2.2\n bind 5 x = 2\n  touch 5 1 2.4\n",
+    ),
+];
+
+fn is_found(alloc: Global, patch: &str, statements: &str, wanted: &str) -> bool {
+    report_of(alloc, patch, statements).as_deref() == Some(wanted.as_bytes())
+}
+
+#[test]
+fn rules_have_their_witnesses(rt: HostRuntime) {
+    for (patch, statements, wanted) in ROWS {
+        assert!(rt; is_found(rt.alloc(), patch, statements, wanted));
+    }
+}
+
+/// Whether a rule has its two touches in a function with sixty branches.
+fn is_found_far_away(alloc: Global, patch: &str) -> Option<bool> {
+    let mut statements = String::from_str(alloc, "a();").ok()?;
+    for _ in 0..60 {
+        statements.push_str(" if (c) p();").ok()?;
+    }
+    statements.push_str(" b();").ok()?;
+    let wanted = "file k.c\nrule 0 r\nat 0 2\n touch 2 0 2.1\n touch 123 1 2.62\n";
+    Some(is_found(alloc, patch, statements.as_str(), wanted))
+}
+
+#[test]
+fn a_touch_on_many_walks_stands_once(rt: HostRuntime) {
+    assert!(rt; is_found_far_away(rt.alloc(), EVERY_A_TO_B) == Some(true));
+    assert!(rt; is_found_far_away(rt.alloc(), SOME_A_TO_B) == Some(true));
+}

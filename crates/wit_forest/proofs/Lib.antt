@@ -11,6 +11,7 @@ mod LargeLemmas
 mod ValueLemmas
 mod QuantifierLemmas
 mod AddLemmas
+mod StateLemmas
 mod GrowLemmas
 mod DoneLemmas
 mod LoopLemmas

@@ -1,14 +1,16 @@
 // What is still to be looked at, each once.
-ghost use Rattle.std.specs.Prelude.{◌≡◌, ◌<◌, true, length, slice_get, Some, IfOk, []};
+ghost use Rattle.std.specs.Prelude.{◌≡◌, ◌<◌, true, false, length, slice_get, Some, IfOk, [], ◌∷◌, ◌++◌, if◌then◌else◌, fold};
 ghost use Rattle.smpl_terms.specs.Environments.{total};
 ghost use Rattle.wit_forest.specs.Gathered.{Covered, IsAdded};
+ghost use Rattle.wit_forest.specs.States.{with_state, value_input, env_input};
 
 use c_terms::NoMemory;
-use smpl_terms::Env;
+use env_parts::same_env;
+use indexmap::IndexSet;
+use smpl_terms::{Env, Value};
 use std::alloc::Global;
-use std::collections::HashMap;
+use std::hash::{Hash, Hasher};
 use std::marker::Model;
-use wit_steps::{mark, same_env};
 
 /// A part of the formula, by its number, at a node under an environment.
 #[derive(Drop)]
@@ -18,24 +20,76 @@ pub struct State {
     pub env: Env,
 }
 
+impl PartialEq for State {
+    ghost use Rattle.std.specs.Cmp.{partial_equiv_from_equiv};
+    ghost use Rattle.wit_forest.specs.States.{same_state};
+    ghost use Rattle.wit_forest.specs.StateLaws.{state_equiv};
+
+    ghost eq = { same_state };
+
+    ghost laws = { partial_equiv_from_equiv state_equiv };
+
+    fn eq(&self, other: &State) -> bool {
+        self.part == other.part && self.node == other.node && same_env(&self.env, &other.env)
+    }
+}
+
+impl Eq for State {
+    ghost use Rattle.wit_forest.specs.StateLaws.{state_equiv};
+
+    ghost laws = { state_equiv };
+}
+
+impl Hash for State {
+    ghost use Rattle.wit_forest.specs.States.{state_input};
+    ghost use Rattle.wit_forest.specs.StateLaws.{states_feed_alike};
+
+    ghost hash_input = { state_input };
+
+    ghost respects_eq = { states_feed_alike.fed };
+
+    fn hash<H: Hasher>(&self, state: &mut H) {
+        self.part.hash(state);
+        self.node.hash(state);
+        feed_env(&self.env, state);
+    }
+}
+
+/// Feeds the places of an environment, and nothing of its terms.
+fn feed_value<H: Hasher>(v: &Value, state: &mut H)
+    ensures { state.new ≡ fold H.write state.old (value_input v.now) }
+{
+    if let Value::Place(id) = v {
+        id.hash(state);
+    }
+}
+
+fn feed_env<H: Hasher>(env: &Env, state: &mut H)
+    ensures { state.new ≡ fold H.write state.old (env_input env.now) }
+{
+    let pairs = env.pairs();
+    for i in 0..pairs.len() {
+        feed_value(&pairs[i].1, state);
+    }
+}
+
 /// States in the order in which they came, each once. Contracts see the list.
 #[derive(Drop)]
 pub struct States {
-    items: Vec<State>,
-    known: HashMap<(usize, u32, u64), Vec<usize>>,
+    items: IndexSet<State>,
 }
 
 impl Model for States {
     ghost use Rattle.std.specs.Coded.{codes};
-    ghost use Rattle.c_terms.specs.contracts.tree.Tree as tree;
     ghost use Rattle.std.specs.Prelude.{List};
+    ghost use Rattle.c_terms.specs.contracts.tree.Tree as tree;
     ghost use Rattle.wit_forest.specs.declared.states.State.{State as One};
 
     ghost Value = { List One };
 
     ghost coded = { Prim.hlevel (codes, tree.the_row.coded) };
 
-    ghost view = { λ a. a.items.items };
+    ghost view = { λ a. a.items.keys };
 }
 
 impl States {
@@ -43,8 +97,7 @@ impl States {
         ensures { result ≡ [] }
     {
         States {
-            items: Vec::new(alloc),
-            known: HashMap::new(alloc),
+            items: IndexSet::new(alloc),
         }
     }
 
@@ -58,52 +111,24 @@ impl States {
         requires { i < length self.now }
         ensures { slice_get self.now i ≡ Some result.now }
     {
-        &self.items[i]
+        &self.items.as_slice()[i]
     }
 
-    fn is_at(&self, i: usize, part: usize, node: u32, env: &Env) -> bool
-        ensures { result ≡ true → Covered self.now part node (total env.now) }
+    fn put(&mut self, one: State) -> Result<(), NoMemory>
+        ensures states { IfOk result (λ _. self.new ≡ with_state self.old one) }
     {
-        match self.items.get(i) {
-            None => false,
-            Some(one) => one.part == part && one.node == node && same_env(&one.env, env),
-        }
+        self.items.insert(one)?;
+        Ok(())
     }
 
-    fn has(&self, key: &(usize, u32, u64), part: usize, node: u32, env: &Env) -> bool
-        ensures { result ≡ true → Covered self.now part node (total env.now) }
-    {
-        match self.known.get(key) {
-            None => false,
-            Some(places) => {
-                for i in places {
-                    if self.is_at(*i, part, node, env) {
-                        return true;
-                    }
-                }
-                false
-            }
-        }
-    }
-
-    /// Adds a state, unless it is there.
+    /// Adds a state behind the others, unless it is there.
     pub fn add(&mut self, alloc: Global, part: usize, node: u32, env: &Env) -> Result<(), NoMemory>
+        ensures states { IfOk result (λ _. self.new ≡ with_state self.old (record { part = part; node = node; env = env.now })) }
         ensures covered { IfOk result (λ _. Covered self.new part node (total env.now)) }
         ensures added { IfOk result (λ _. IsAdded self.old self.new part node env.now) }
     {
-        let key = (part, node, mark(env));
-        if self.has(&key, part, node, env) {
-            return Ok(());
-        }
-        let i = self.items.len();
-        let one = State {
-            part,
-            node,
-            env: env.copy(alloc)?,
-        };
-        self.items.push(one)?;
-        let places = self.known.entry(key)?.or_insert(Vec::new(alloc));
-        places.push(i)?;
+        let env = env.copy(alloc)?;
+        self.put(State { part, node, env })?;
         Ok(())
     }
 }

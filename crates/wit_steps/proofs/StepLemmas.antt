@@ -24,33 +24,6 @@ value_in-push (q ∷ ps) p y = at (same_var q.0 y) (value_in-push ps p y)
     at true h = refl
     at false h = h
 
--- lists with the same variables and the same values, pair by pair
-abbrev pub Matched : List (Var × Value) → List (Var × Value) → Type 0
-Matched [] [] = Unit {0}
-Matched [] (q ∷ qs) = ⊥
-Matched (p ∷ ps) [] = ⊥
-Matched (p ∷ ps) (q ∷ qs) = ((same_var p.0 q.0 && same p.1 q.1) ≡ true) × Matched ps qs
-
-pub both_parts : (a b : Bool) → (a && b) ≡ true → (a ≡ true) × (b ≡ true)
-both_parts true b h = (refl, h)
-both_parts false b h = absurd cc
-
--- environments of such lists are alike
-pub matched_alike : (ps qs : List (Var × Value)) → Matched ps qs → Alike (total ps) (total qs)
-matched_alike [] [] m y = same-refl (Place 0)
-matched_alike [] (q ∷ qs) m y = absurd m
-matched_alike (p ∷ ps) [] m y = absurd m
-matched_alike (p ∷ ps) (q ∷ qs) m y =
-    let parts = both_parts (same_var p.0 q.0) (same p.1 q.1) m.0 in
-    at (same_var p.0 y) (same_var q.0 y) (ap (λ z. same_var z y) (same_var-equal p.0 q.0 parts.0)) parts.1 (matched_alike ps qs m.1 y)
-  where
-    at : (a b : Bool) → a ≡ b → same p.1 q.1 ≡ true → same (unwrap_or (value_in ps y) (Place 0)) (unwrap_or (value_in qs y) (Place 0)) ≡ true
-        → same (unwrap_or (cond a (Some p.1) (value_in ps y)) (Place 0)) (unwrap_or (cond b (Some q.1) (value_in qs y)) (Place 0)) ≡ true
-    at true true e h k = h
-    at true false e h k = absurd cc
-    at false true e h k = absurd cc
-    at false false e h k = k
-
 -- one more variable with a value, among those of an environment without it
 pub changed_value : (env rest r : List (Var × Value)) (x : Var) (v : Value)
     → ((y : Var) → value_in rest y ≡ cond (same_var y x) None (value_in env y))
@@ -129,25 +102,6 @@ pub without_has : (env rest : List (Var × Value)) (x : Var) → ((y : Var) → 
 without_has env rest x h = h x ∙ ap (λ b. cond b None (value_in env x)) (same_var-refl x)
 
 -- ---- pair by pair
-
-Matched-more : (ps qs : List (Var × Value)) (i : ℕ) (p q : Var × Value) → i < length ps → i < length qs → p ≡ get_or ps i p → q ≡ get_or qs i q
-    → (same_var p.0 q.0 && same p.1 q.1) ≡ true → Matched (take i ps) (take i qs) → Matched (take (suc i) ps) (take (suc i) qs)
-Matched-more [] qs i p q lt lu e f h m = absurd (omega (arith, lt))
-Matched-more (a ∷ ps) [] i p q lt lu e f h m = absurd (omega (arith, lu))
-Matched-more (a ∷ ps) (b ∷ qs) zero p q lt lu e f h m =
-    let both : (same_var p.0 q.0 && same p.1 q.1) ≡ (same_var a.0 b.0 && same a.1 b.1) = λ i. same_var (e i).0 (f i).0 && same (e i).1 (f i).1 in
-    (sym both ∙ h, tt)
-Matched-more (a ∷ ps) (b ∷ qs) (suc i) p q lt lu e f h m = (m.0, Matched-more ps qs i p q (omega (arith, lt)) (omega (arith, lu)) e f h m.1)
-
-pub matched_next : (ps qs : List (Var × Value)) (i : ℕ) (p q : Var × Value) → i < length ps → i < length qs → p ≡ get_or ps i p → q ≡ get_or qs i q
-    → (same_var p.0 q.0 && same p.1 q.1) ≡ true → Matched (take i ps) (take i qs) → Matched (take (i + 1) ps) (take (i + 1) qs)
-matched_next ps qs i p q lt lu e f h m =
-    subst (λ k. Matched (take k ps) (take k qs)) (sym (add-one i)) (Matched-more ps qs i p q lt lu e f h m)
-
-pub matched_all : (a b ps qs : List (Var × Value)) (n : ℕ) → ps ≡ a → qs ≡ b → length ps ≤ n → length qs ≤ n
-    → Matched (take n ps) (take n qs) → Alike (total a) (total b)
-matched_all a b ps qs n e f le lf m =
-    matched_alike a b (subst (λ xs. Matched xs b) (take_all n ps le ∙ e) (subst (λ ys. Matched (take n ps) ys) (take_all n qs lf ∙ f) m))
 
 pub none_of : (o : Option Value) → false ≡ is_some o → o ≡ None
 none_of None h = refl

@@ -1,13 +1,11 @@
 // Environments under a change of one variable.
-ghost use Rattle.std.specs.Prelude.{◌≡◌, ◌&&◌, ◌++◌, ◌∷◌, [], true, cond, None, IfOk};
+ghost use Rattle.std.specs.Prelude.{◌≡◌, ◌++◌, ◌∷◌, [], cond, None, IfOk};
 ghost use Rattle.smpl_terms.specs.declared.var.Var.{Var as Name};
 ghost use Rattle.smpl_terms.specs.Vars.{same_var};
 ghost use Rattle.smpl_terms.specs.Environments.{change, total, value_in};
-ghost use Rattle.smpl_terms.specs.Values.{same};
-ghost use Rattle.wit_trees.specs.Alike.{Alike};
 
 use c_terms::NoMemory;
-use smpl_terms::{Env, Value, Var, same_value, same_var};
+use smpl_terms::{Env, Value, Var, same_var};
 use std::alloc::Global;
 
 /// Adds a pair, unless its variable is x or has a value.
@@ -44,38 +42,4 @@ pub fn changed(alloc: Global, env: &Env, x: &Var, v: &Value) -> Result<Env, NoMe
 {
     let rest = without(alloc, env, x)?;
     rest.with(alloc, x, v)
-}
-
-fn same_pair(a: &(Var, Value), b: &(Var, Value)) -> bool
-    ensures { result ≡ (same_var a.now.0 b.now.0 && same a.now.1 b.now.1) }
-{
-    same_var(&a.0, &b.0) && same_value(&a.1, &b.1)
-}
-
-/// True only where both have the same variables with the same values.
-pub fn same_env(a: &Env, b: &Env) -> bool
-    ensures alike { result ≡ true → Alike (total a.now) (total b.now) }
-{
-    let left = a.pairs();
-    let right = b.pairs();
-    if left.len() != right.len() {
-        return false;
-    }
-    for i in 0..left.len() {
-        if !same_pair(&left[i], &right[i]) {
-            return false;
-        }
-    }
-    true
-}
-
-/// A number that environments with the same places share. Nothing rests on it but speed.
-pub fn mark(env: &Env) -> u64 {
-    let mut sum = 0u64;
-    for p in env.pairs() {
-        if let Value::Place(id) = &p.1 {
-            sum = sum.wrapping_mul(31).wrapping_add(*id);
-        }
-    }
-    sum
 }

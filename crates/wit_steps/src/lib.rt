@@ -15,7 +15,7 @@ mod steps;
 mod touches;
 mod values;
 
-pub use envs::{changed, mark, same_env};
+pub use envs::changed;
 pub use laws::{choices_are_all, forest_by_steps};
 pub use steps::kids;
 pub use touches::put_own;

@@ -1,0 +1,2 @@
+-- What the laws rest on: tokens of trees, and where they stand.
+pub mod Sound

@@ -1,0 +1,2 @@
+-- What the contract of `turn` rests on.
+pub mod Turns

@@ -1,0 +1,97 @@
+// What a rule finds, and the environments after it.
+ghost use Rattle.std.specs.Prelude.{◌≡◌, ◌<◌, ◌≤◌, ℕ, All, IfOk, OnOk, Err, map, length, true, false};
+ghost use Rattle.ctl_formula.specs.Formulas.{plain};
+ghost use Rattle.ctl_holds.specs.Parts.{EachPattern};
+ghost use Rattle.ctl_holds.specs.BoundLaw.{SureStand};
+ghost use Rattle.item_graphs.specs.Made.{IsMade};
+ghost use Rattle.rule_envs.specs.Shares.{bare_carrier};
+ghost use Rattle.rule_envs.specs.Carriers.{most_environments};
+ghost use Rattle.rule_formulas.specs.Prepared.{IsPrepared};
+ghost use Rattle.rule_witnesses.specs.Bare.{bare_witness};
+ghost use Rattle.rule_witnesses.specs.Jobs.{BindsExports};
+ghost use Rattle.rule_turn.specs.Turns as of;
+ghost use Rattle.rule_turn.specs.declared.fault.TurnFault.TheVariants as fault;
+
+use crate::fault::TurnFault;
+use c_terms::Text;
+use item_graphs::Graphs;
+use rule_envs::{Carrier, next_carriers, projections};
+use rule_formulas::PreparedRule;
+use rule_found::witnesses;
+use smpl_patch::{Rule, RuleWitness};
+use sqlite_items::Items;
+use std::alloc::Global;
+
+/// What a rule finds, and the environments after it.
+#[derive(Drop)]
+pub struct Turned {
+    pub witnesses: Items<RuleWitness>,
+    pub carriers: Items<Carrier>,
+}
+
+/// Runs a rule over one reading of a file: picks what it is run under, finds its witnesses, and replaces the environments.
+///
+/// - `TooManyWitnesses`: the witnesses in one item under one environment have more than 1,000,000 touches and binds.
+/// - `TooManyEnvironments`: not so, and more than 10,000 environments come out.
+/// - `NoMemory`: memory was refused.
+pub fn turn(
+    alloc: Global,
+    defined: &[Text],
+    had: &[u32],
+    number: u32,
+    rule: &Rule,
+    prepared: &PreparedRule,
+    graphs: &mut Graphs<'_>,
+    count: usize,
+    carriers: &[Carrier],
+) -> Result<Turned, TurnFault>
+    requires prepared { IsPrepared rule.now prepared.now }
+    requires stand { EachPattern (SureStand prepared.now.formula.decls prepared.now.formula.tokens) (plain prepared.now.formula) }
+    requires binds { BindsExports prepared.now.formula rule.now.exports }
+    requires apart { of.AreApart rule.now.exports prepared.now.inherited }
+    requires count { count ≡ length graphs.old.items }
+    ensures found { IfOk result (λ t. map bare_witness t.witnesses
+        ≡ of.turn_found defined.now had.now number rule.now graphs.old.items (map bare_carrier carriers.now)) }
+    ensures carriers { IfOk result (λ t. map bare_carrier t.carriers
+        ≡ of.turn_carriers defined.now had.now number rule.now graphs.old.items (map bare_carrier carriers.now)) }
+    ensures few { OnOk result
+        (of.has_too_many defined.now had.now number rule.now graphs.old.items (map bare_carrier carriers.now) ≡ false) }
+    ensures few_environments { IfOk result (λ t. length t.carriers ≤ most_environments) }
+    ensures too_many { result ≡ Err fault.TooManyWitnesses
+        → of.has_too_many defined.now had.now number rule.now graphs.old.items (map bare_carrier carriers.now) ≡ true }
+    ensures too_many_environments { result ≡ Err fault.TooManyEnvironments
+        → (of.has_too_many defined.now had.now number rule.now graphs.old.items (map bare_carrier carriers.now) ≡ false)
+        × (most_environments < length
+        (of.turn_carriers defined.now had.now number rule.now graphs.old.items (map bare_carrier carriers.now))) }
+    ensures items { graphs.new.items ≡ graphs.old.items }
+    ensures kept { (k : ℕ) → IsMade graphs.old k → IsMade graphs.new k }
+{
+    let projected = projections(
+        alloc,
+        defined,
+        had,
+        &rule.depends,
+        prepared.inherited.as_slice(),
+        carriers,
+    )?;
+    let found = witnesses(
+        alloc,
+        number,
+        rule,
+        &prepared.formula,
+        graphs,
+        count,
+        projected.projections.as_slice(),
+    )?;
+    let next = next_carriers(
+        alloc,
+        number,
+        carriers,
+        projected.places.as_slice(),
+        found.parts.as_slice(),
+    )?;
+    Ok(Turned {
+        witnesses: found.witnesses,
+        carriers: next,
+    })
+}

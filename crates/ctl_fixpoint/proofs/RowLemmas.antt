@@ -18,7 +18,7 @@ any_default (x ∷ xs) (suc i) lt d e = any_default xs i (omega (arith, lt)) d e
 pub member : (xs : List ℕ) (i : ℕ) → i < length xs → Contains xs (get_or xs i 0)
 member xs i lt = (i, lt, any_default xs i lt (get_or xs i 0) 0)
 
-take_all : (xs : List ℕ) (i : ℕ) → length xs ≤ i → take i xs ≡ xs
+pub take_all : (xs : List ℕ) (i : ℕ) → length xs ≤ i → take i xs ≡ xs
 take_all [] zero le = refl
 take_all [] (suc i) le = refl
 take_all (x ∷ xs) zero le = absurd (omega (arith, le))

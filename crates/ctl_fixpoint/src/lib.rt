@@ -13,9 +13,9 @@
 //! An until is the least fixpoint of rounds: where its end holds, or where its way holds and the until next. The sets
 //! start empty and only grow. They are gone over from the last node to the first, so that what holds further on is
 //! known where it is needed, and a node is computed anew only where a successor's set has changed since it was. When a
-//! sweep changes nothing, all is found: after one more sweep than loops are nested, as a rule. After Clarke, Emerson
-//! and
-//! Sistla (1986), over the sets of environments of Brunel, Doligez, Hansen, Lawall and Muller (POPL 2009).
+//! sweep changes nothing, all is found: after two sweeps, and one more for each loop around another and for each jump
+//! backwards on a walk, as a rule. After Clarke, Emerson and Sistla (1986), over the sets of environments of Brunel,
+//! Doligez, Hansen, Lawall and Muller (POPL 2009).
 //!
 //! Nothing here recurses over a formula or a graph.
 #![tactic(auto)]

@@ -39,14 +39,13 @@ fn part_row(
 }
 
 /// For each part of the formula and each node of the graph the set of exactly the environments under which the part
-/// holds there. Parts go by their numbers in the formula's table. The patterns' sure variables stand in them, as
-/// those of
-/// every pattern do that a patch spells.
+/// holds there. Parts go by their numbers in the formula's table. The patterns' sure variables stand in them, as those
+/// of every pattern do that a patch spells.
 ///
 /// A part is computed once, an atom once a node; of an until each node is computed anew only where the set of a
-/// successor
-/// has changed, in as many sweeps over the nodes as it takes until nothing changes. So where loops are nested d deep it
-/// is linear in the nodes times d + 2, apart from the sets.
+/// successor has changed, in as many sweeps over the nodes as it takes until nothing changes. Where edges lead back only
+/// to the heads of loops, nested d deep, that is linear in the nodes times d + 2 as a rule, apart from the sets; each
+/// further jump backwards on a walk may take one sweep more.
 pub fn sat(alloc: Global, g: &Graph, f: &Formula) -> Result<StateSets, NoMemory>
     requires { EachPattern (SureStand f.now.decls f.now.tokens) (plain f.now) }
     ensures { IfOk result (λ sets. AreStateSets g.now f.now sets) }

@@ -8,7 +8,8 @@ ghost use Rattle.ctl_holds.specs.Rounds.{passes, passes_there};
 ghost use Rattle.ctl_fixpoint.specs.Steps.{set_of, row_of, has, row_vars};
 
 use c_terms::NoMemory;
-use env_sets::{EnvSet, StateRow, join, meet};
+use env_sets::{EnvSet, StateRow, meet};
+use pat_match::parts::{put_set, union};
 use std::alloc::Global;
 
 /// The row of a part.
@@ -51,7 +52,7 @@ pub fn every_next(alloc: Global, next: &[u32], x: &[EnvSet]) -> Result<EnvSet, N
     Ok(out)
 }
 
-/// The environments that are in the set of some of these nodes.
+/// The environments that are in the set of some of these nodes. The entries of all are put in order together.
 pub fn some_next(alloc: Global, next: &[u32], x: &[EnvSet]) -> Result<EnvSet, NoMemory>
     requires { (k : ℕ) → Contains next.now k → k < length x.now }
     ensures gives { IfOk result (λ r. (env : Environment) → set_denotes r env
@@ -59,11 +60,11 @@ pub fn some_next(alloc: Global, next: &[u32], x: &[EnvSet]) -> Result<EnvSet, No
     ensures vars { IfOk result (λ r. (test : Var → Bool) → row_vars test x.now ≡ true
         → set_vars test r ≡ true) }
 {
-    let mut out = EnvSet::none(alloc);
+    let mut entries = Vec::new(alloc);
     for k in next {
-        out = join(alloc, &out, set_in(x, *k))?;
+        put_set(&mut entries, set_in(x, *k).copy(alloc)?)?;
     }
-    Ok(out)
+    union(alloc, entries)
 }
 
 /// The set of a node, or none where there is no node.

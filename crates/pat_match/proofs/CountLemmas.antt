@@ -2,6 +2,7 @@
 use Rattle.std.proofs.Common.{◌≡◌, ℕ, suc, zero, ◌+◌, ◌-◌, ◌<◌, ◌≤◌, Bool, true, false, ◌&&◌, ◌||◌, nat_eq, nat_lt, nat_le, refl, sym, ap, ◌∙◌, arith, List, [], ◌∷◌, map, length, take, drop, get_or, drop-cons, length-drop}
 use Rattle.std.proofs.lemmas.Bool.Decides.{nat_tests}
 use Rattle.std.proofs.lemmas.Grind.{common_steps}
+use Rattle.std.specs.List.{list_all}
 use Rattle.c_terms.specs.declared.tree.Tree.{Tree}
 use Rattle.c_terms.specs.Lists.{comma}
 use Rattle.pat_match.specs.Runs.{some_below}
@@ -50,6 +51,32 @@ drop_past [] zero le = refl
 drop_past [] (suc n) le = refl
 drop_past (x ∷ xs) zero le = absurd (omega arith)
 drop_past (x ∷ xs) (suc n) le = drop_past xs n (omega arith)
+
+pub both_false : (a b : Bool) → b ≡ false → (a && b) ≡ false
+both_false true b e = e
+both_false false b e = refl
+
+-- what holds of all holds of the first ones
+
+pub take_passes : {X : Type 0} (p : X → Bool) (xs : List X) (n : ℕ) → list_all p xs ≡ true → list_all p (take n xs) ≡ true
+take_passes p [] zero h = refl
+take_passes p [] (suc n) h = refl
+take_passes p (x ∷ xs) zero h = refl
+take_passes p (x ∷ xs) (suc n) h = by (p x) (take_passes p xs n) h
+  where
+    by : (b : Bool) → (list_all p xs ≡ true → list_all p (take n xs) ≡ true) → (b && list_all p xs) ≡ true → (b && list_all p (take n xs)) ≡ true
+    by true r h = r h
+    by false r h = h
+
+pub take_fails : {X : Type 0} (p : X → Bool) (xs : List X) (n : ℕ) → list_all p (take n xs) ≡ false → list_all p xs ≡ false
+take_fails p [] zero h = h
+take_fails p [] (suc n) h = h
+take_fails p (x ∷ xs) zero h = absurd (cc)
+take_fails p (x ∷ xs) (suc n) h = by (p x) (take_fails p xs n) h
+  where
+    by : (b : Bool) → (list_all p (take n xs) ≡ false → list_all p xs ≡ false) → (b && list_all p (take n xs)) ≡ false → (b && list_all p xs) ≡ false
+    by true r h = r h
+    by false r h = refl
 
 pub map_same : {X : Type 0} (xs : List X) → map (λ x. x) xs ≡ xs
 map_same [] = refl

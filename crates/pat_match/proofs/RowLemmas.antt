@@ -23,7 +23,7 @@ use Rattle.pat_match.specs.Rows.{comma_before, first_is_wild, row_at, last_at, s
 use Rattle.pat_match.proofs.Pieces.{piece-token}
 use Rattle.pat_match.proofs.CountLemmas.{comma_before_at, drop_at, drop_more, drop_past, some_below-agree, none_below, either_below, one_below, pick_one}
 
-any_agree : {X : Type 0} (f g : X → Bool) (xs : List X) → ((x : X) → f x ≡ g x) → list_any f xs ≡ list_any g xs
+pub any_agree : {X : Type 0} (f g : X → Bool) (xs : List X) → ((x : X) → f x ≡ g x) → list_any f xs ≡ list_any g xs
 any_agree f g [] h = refl
 any_agree f g (x ∷ xs) h = let a = h x in let r = any_agree f g xs h in cc
 

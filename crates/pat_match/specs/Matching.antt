@@ -50,7 +50,7 @@ module _ (decls : List VarDecl) (tokens : List PatToken) where
   abbrev pub keeps : Spot → Tree → Tree → Var → Bool
   keeps s first form x = not (held_sure decls tokens s x first) || held_sure decls tokens s x form
 
-  -- the form has every sure variable of the first
+  -- the form has every sure variable of the first that stands there
   abbrev pub is_live : Spot → Tree → Tree → Bool
   is_live s first form = list_all (token_passes (keeps s first form)) (leaves first)
 

@@ -1,6 +1,6 @@
 -- Rows: for each number of members that a list's first children may have taken, the environments in which the other
 -- children fit the members that follow.
-use Rattle.std.specs.Prelude.{◌≡◌, ℕ, suc, zero, ◌+◌, ◌-◌, ◌<◌, Bool, false, ◌&&◌, nat_eq, nat_le, Option, None, List, [], ◌∷◌, map, take, drop, length}
+use Rattle.std.specs.Prelude.{◌≡◌, ℕ, suc, zero, ◌+◌, ◌-◌, ◌<◌, Bool, false, ◌&&◌, nat_eq, nat_le, Option, None, Some, List, [], ◌∷◌, map, take, drop, length, slice_index_or}
 use Rattle.std.specs.List.{list_any, list_all}
 use Rattle.c_terms.specs.declared.token.Token.{Token}
 use Rattle.c_terms.specs.declared.label.Label.{Label}
@@ -9,10 +9,11 @@ use Rattle.c_terms.specs.declared.tree.Tree.{Tree, out-Tree}
 use Rattle.c_terms.specs.Lists.{comma}
 use Rattle.smpl_terms.specs.declared.var.Var.{Var}
 use Rattle.smpl_terms.specs.Environments.{Environment}
-use Rattle.env_sets.specs.Sets.{set_denotes, set_vars}
+use Rattle.env_sets.specs.Sets.{Entries, set_denotes, set_vars}
 use Rattle.smpl_patch.specs.declared.pattern.VarDecl.{VarDecl}
 use Rattle.smpl_patch.specs.declared.pattern.PatToken.{PatToken}
 use Rattle.pat_match.specs.declared.rows.RowEntry.{RowEntry}
+use Rattle.pat_match.specs.Tokens.{id_of, first_id}
 use Rattle.pat_match.specs.Runs.{is_wild, comma_fits, run_fits, single_fits, takes, some_below, runs_from}
 use Rattle.pat_match.specs.Fitting.{piece, fits_tree, leaf_of}
 
@@ -28,9 +29,34 @@ abbrev pub first_is_wild : Label → List Tree → Bool
 first_is_wild l [] = false
 first_is_wild l (f ∷ fs) = is_wild l (leaf_of (out-Tree f))
 
+abbrev pub or_else : Option ℕ → Option ℕ → Option ℕ
+or_else None b = b
+or_else (Some a) b = Some a
+
+-- the id of the first of a member's tokens, the comma before it included
+abbrev pub first_of_member : Member → Option ℕ
+first_of_member m = or_else (id_of m.comma) (first_id m.tree)
+
+abbrev pub first_of_members : List Member → Option ℕ
+first_of_members [] = None
+first_of_members (m ∷ ms) = or_else (first_of_member m) (first_of_members ms)
+
+-- the id of the first token of a run
+abbrev pub first_of_run : List Member → Option ℕ
+first_of_run [] = None
+first_of_run (m ∷ ms) = or_else (first_id m.tree) (first_of_members ms)
+
 -- the environment is among those for so many members
 abbrev pub row_at : List RowEntry → ℕ → Environment → Bool
 row_at row n env = list_any (λ e. nat_eq e.taken n && set_denotes e.set env) row
+
+-- and for some number of members from n to count
+abbrev pub tail_at : ℕ → List RowEntry → ℕ → Environment → Bool
+tail_at count row n env = list_any (λ e. nat_le n e.taken && (nat_le e.taken count && set_denotes e.set env)) row
+
+-- the environment is in the n-th of the sets
+abbrev pub set_at : List Entries → ℕ → Environment → Bool
+set_at sets n env = set_denotes (slice_index_or sets n []) env
 
 abbrev pub row_vars : (Var → Bool) → List RowEntry → Bool
 row_vars test row = list_all (λ e. set_vars test e.set) row

@@ -71,7 +71,7 @@ abbrev pub some_below : (ℕ → Bool) → ℕ → Bool
 some_below test zero = false
 some_below test (suc n) = some_below test n || test n
 
--- from the left, the first number that differs is less
+-- from the left, no number differs, or the first that does is less
 abbrev pub is_left : List ℕ → List ℕ → Bool
 is_left [] ks = true
 is_left (j ∷ js) [] = false

@@ -277,7 +277,8 @@ fn align_whole(
 /// The subtrees of the node that match under the environment, by place, each with its first form that does. A variable
 /// without a value counts as the place 0.
 ///
-/// At each subtree it costs what `solve` does there, and the path of each that matches. Recurses a few calls a level.
+/// At each subtree it costs what `solve` does there, and the path of each that matches. Recurses a few calls a level. A
+/// child number from 2^32 on is refused as if memory had run out.
 pub fn align(
     alloc: Global,
     p: &Pattern,

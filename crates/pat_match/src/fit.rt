@@ -97,7 +97,7 @@ fn fit_some(
     union(alloc, entries)
 }
 
-/// The environments in which every branch of a conjunction fits.
+/// The environments in which every branch of a conjunction fits. The first that fits in none ends it.
 #[cycle(fit)]
 fn fit_every(
     alloc: Global,
@@ -119,6 +119,9 @@ fn fit_every(
     }
     let mut out = EnvSet::all(alloc)?;
     for form in forms {
+        if is_none(&out) {
+            return Ok(out);
+        }
         if !is_sign_tree(form) {
             let here = fit(alloc, decls, tokens, form, tree)?;
             out = both(alloc, out, here)?;

@@ -2,6 +2,8 @@
 ghost use Rattle.std.specs.Prelude.{◌≡◌, ℕ, ◌<◌, ◌≤◌, ◌&&◌, ◌++◌, Bool, true, false, IfOk, OnOk, Option, Some, None, List, [], ◌∷◌, drop, length, slice_get};
 ghost use Rattle.std.specs.List.{list_all};
 ghost use Rattle.c_terms.specs.declared.token.TokenKind.TheVariants as token_kind;
+ghost use Rattle.c_terms.specs.declared.label.Label.{Label};
+ghost use Rattle.c_terms.specs.declared.list.Member.{Member};
 ghost use Rattle.c_terms.specs.declared.tree.Tree.{Tree};
 ghost use Rattle.smpl_patch.specs.declared.pattern.VarDecl.{VarDecl};
 ghost use Rattle.c_terms.specs.declared.tree.Tree.{out-Tree};
@@ -15,6 +17,7 @@ ghost use Rattle.pat_match.specs.Fitting.{leaf_of};
 ghost use Rattle.pat_match.specs.Matching.{var_passes, meta_passes};
 ghost use Rattle.pat_match.specs.Vars.{comma_vars, leaf_vars, form_vars};
 ghost use Rattle.pat_match.specs.Rows.{comma_before, first_is_wild};
+ghost use Rattle.pat_match.specs.Rows as row;
 ghost use Rattle.pat_match.specs.Runs as of;
 
 use crate::sets::both;
@@ -266,6 +269,43 @@ fn fit_wild_value(
     }
 }
 
+/// The id of the first of a member's tokens, of which the comma before it is one.
+fn first_of_member(member: &ListMember) -> Option<u64>
+    ensures { result ≡ row.first_of_member member.now }
+{
+    match member.comma_id() {
+        Some(id) => Some(id),
+        None => first_id(member.tree()),
+    }
+}
+
+/// The id of the first token of the members, the comma before each included.
+fn first_of_members(members: &[ListMember]) -> Option<u64>
+    ensures { result ≡ row.first_of_members members.now }
+{
+    for member in members {
+        match first_of_member(member) {
+            Some(id) => return Some(id),
+            None => {}
+        }
+    }
+    None
+}
+
+/// The id of the first token of a run of members, which the comma before it is no part of. Takes no memory, and a few
+/// steps where the first member has a token.
+fn first_of_run(run: &[ListMember]) -> Option<u64>
+    ensures { result ≡ row.first_of_run run.now }
+{
+    match run {
+        [] => None,
+        [first, more @ ..] => match first_id(first.tree()) {
+            Some(id) => Some(id),
+            None => first_of_members(more),
+        },
+    }
+}
+
 fn is_dots(kind: TokenKind) -> bool
     ensures { result ≡ true → kind ≡ token_kind.Dots }
 {
@@ -275,7 +315,7 @@ fn is_dots(kind: TokenKind) -> bool
     }
 }
 
-/// Whether the token takes every run in every environment: dots without positions and plus code.
+/// Whether the token takes every run in every environment: dots without positions and plus code. Takes no memory.
 fn takes_all(tokens: &[PatToken], token: &Token) -> bool
     ensures { result ≡ true → (decls : List VarDecl) (env : Environment) (whole : Tree)
         (first : Option ℕ) →
@@ -284,7 +324,38 @@ fn takes_all(tokens: &[PatToken], token: &Token) -> bool
     is_dots(token.kind) && is_bare_token(tokens, token.id)
 }
 
-/// The environments in which dots or a list variable take the run. Linear in the run, but for bare dots.
+/// Whether the member of a pattern's list takes every run in every environment. Takes no memory.
+fn takes_every(tokens: &[PatToken], form: &Tree) -> bool
+    ensures { result ≡ true → (decls : List VarDecl) (env : Environment) (label : Label)
+        (run : List Member) → of.run_fits decls tokens.now env label (leaf_of (out-Tree form.now)) run ≡ true }
+{
+    match form {
+        Tree::Leaf(token) => takes_all(tokens, token),
+        Tree::Branch(_, _) => false,
+    }
+}
+
+/// The environments in which dots take the run: those in which their positions stand at its first token.
+fn fit_dots(
+    alloc: Global,
+    decls: &[VarDecl],
+    tokens: &[PatToken],
+    token: &Token,
+    run: &[ListMember],
+) -> Result<EnvSet, NoMemory>
+    requires { token.now.kind ≡ token_kind.Dots }
+    ensures meaning { IfOk result (λ r. (label : Label) (env : Environment) → set_denotes r env
+        ≡ of.run_fits decls.now tokens.now env label (Some token.now) run.now) }
+    ensures vars { IfOk result (λ r. (t : Var → Bool) →
+        leaf_vars decls.now tokens.now t (Some token.now) ≡ true → set_vars t r ≡ true) }
+{
+    let all = EnvSet::all(alloc)?;
+    let first = first_of_run(run);
+    with_stand(alloc, all, decls, tokens, token, first)
+}
+
+/// The environments in which dots or a list variable take the run. Linear in the run for a list variable, which takes a
+/// copy of it, and a few steps for dots.
 fn fit_run(
     alloc: Global,
     decls: &[VarDecl],
@@ -304,12 +375,26 @@ fn fit_run(
             if takes_all(tokens, token) {
                 return EnvSet::all(alloc);
             }
+            if is_dots(token.kind) {
+                return fit_dots(alloc, decls, tokens, token, run);
+            }
             let whole = run_tree(alloc, label, run)?;
             let here = fit_wild_value(alloc, decls, token, &whole)?;
             let first = first_id(&whole);
             with_stand(alloc, here, decls, tokens, token, first)
         }
     }
+}
+
+/// Whether the i-th child of a pattern's list takes every run in every environment, and so does the comma before it. Takes
+/// no memory.
+pub fn is_free(tokens: &[PatToken], forms: &[Tree], i: usize, form: &Tree) -> bool
+    requires within { i ≤ length forms.now }
+    ensures comma { result ≡ true → of.is_bare_comma tokens.now (comma_before forms.now i) ≡ true }
+    ensures run { result ≡ true → (decls : List VarDecl) (env : Environment) (label : Label)
+        (run : List Member) → of.run_fits decls tokens.now env label (leaf_of (out-Tree form.now)) run ≡ true }
+{
+    takes_every(tokens, form) && is_bare_before(tokens, forms, i)
 }
 
 /// The environments in which dots or a list variable, the i-th child of a pattern's list, take the run, with the comma

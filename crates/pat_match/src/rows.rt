@@ -1,6 +1,6 @@
 // Rows: for each number of members that a list's first children may have taken, the environments in which the other
 // children fit the members that follow. Numbers with no environment have no entry.
-ghost use Rattle.std.specs.Prelude.{◌≡◌, ℕ, suc, ◌<◌, ◌≤◌, ◌&&◌, ◌||◌, nat_eq, Bool, true, false, IfOk, length};
+ghost use Rattle.std.specs.Prelude.{◌≡◌, ℕ, suc, ◌+◌, ◌^◌, ◌<◌, ◌≤◌, ◌&&◌, ◌||◌, nat_eq, Bool, true, false, IfOk, List, [], length, slice_index_or};
 ghost use Rattle.std.specs.List.{list_all};
 ghost use Rattle.c_terms.specs.declared.tree.Tree.{out-Tree};
 ghost use Rattle.smpl_terms.specs.declared.var.Var.{Var};
@@ -11,10 +11,10 @@ ghost use Rattle.pat_match.specs.Fitting.{leaf_of};
 ghost use Rattle.pat_match.specs.Vars.{form_vars};
 ghost use Rattle.pat_match.specs.Rows as of;
 
-use crate::lists::{ListMember, fit_wild};
+use crate::lists::{ListMember, fit_wild, is_free};
 use crate::sets::{both, is_none, put_set, union};
 use c_terms::{Label, NoMemory, Tree};
-use env_sets::{Entry, EnvSet};
+use env_sets::{Entry, EnvSet, join};
 use smpl_patch::{PatToken, VarDecl};
 use std::alloc::Global;
 
@@ -132,6 +132,120 @@ pub fn fit_some_run(
     union(alloc, entries)
 }
 
+/// The n-th of the sets.
+fn set_at(sets: &[EnvSet], n: usize) -> &EnvSet
+    requires { n < length sets.now }
+    ensures value { result.now ≡ slice_index_or sets.now n [] }
+    ensures vars { (t : Var → Bool) → list_all (set_vars t) sets.now ≡ true → set_vars t result.now ≡ true }
+{
+    &sets[n]
+}
+
+/// Adds an entry's set to the one for its number of members, if there is one.
+fn put_entry(alloc: Global, sets: &mut Vec<EnvSet>, entry: &RowEntry) -> Result<(), NoMemory>
+    ensures even { IfOk result (λ _. length sets.new.items ≡ length sets.old.items) }
+    ensures meaning { IfOk result (λ _. (n : ℕ) (env : Environment) → n < length sets.old.items
+        → of.set_at sets.new.items n env ≡ (of.set_at sets.old.items n env
+        || (nat_eq entry.now.taken n && set_denotes entry.now.set env))) }
+    ensures vars { IfOk result (λ _. (t : Var → Bool) → list_all (set_vars t) sets.old.items ≡ true
+        → set_vars t entry.now.set ≡ true → list_all (set_vars t) sets.new.items ≡ true) }
+{
+    let taken = entry.taken;
+    if taken >= sets.len() {
+        return Ok(());
+    }
+    let set = join(alloc, set_at(sets.as_slice(), taken), &entry.set)?;
+    sets[taken] = set;
+    Ok(())
+}
+
+/// So many sets and one more, each of no environment.
+fn no_sets(alloc: Global, count: usize) -> Result<Vec<EnvSet>, NoMemory>
+    requires { count + 1 < 2 ^ 64 }
+    ensures even { IfOk result (λ r. length r.items ≡ count + 1) }
+    ensures meaning { IfOk result (λ r. (n : ℕ) (env : Environment) → of.set_at r.items n env ≡ false) }
+    ensures vars { IfOk result (λ r. (t : Var → Bool) → list_all (set_vars t) r.items ≡ true) }
+{
+    let mut sets = Vec::with_capacity(alloc, count + 1)?;
+    for _n in 0..count + 1 {
+        sets.push(EnvSet::none(alloc))?;
+    }
+    Ok(sets)
+}
+
+/// For each number of members up to `count` the environments that the row has there.
+fn sets_by_count(alloc: Global, row: &[RowEntry], count: usize) -> Result<Vec<EnvSet>, NoMemory>
+    requires { count + 1 < 2 ^ 64 }
+    ensures even { IfOk result (λ r. length r.items ≡ count + 1) }
+    ensures meaning { IfOk result (λ r. (n : ℕ) (env : Environment) → n < count + 1
+        → of.set_at r.items n env ≡ of.row_at row.now n env) }
+    ensures vars { IfOk result (λ r. (t : Var → Bool) → of.row_vars t row.now ≡ true
+        → list_all (set_vars t) r.items ≡ true) }
+{
+    let mut sets = no_sets(alloc, count)?;
+    for entry in row {
+        put_entry(alloc, &mut sets, entry)?;
+    }
+    Ok(sets)
+}
+
+/// What either set stands for.
+fn either(alloc: Global, a: EnvSet, b: &EnvSet) -> Result<EnvSet, NoMemory>
+    ensures meaning { IfOk result (λ r. (env : Environment) →
+        set_denotes r env ≡ (set_denotes a env || set_denotes b.now env)) }
+    ensures vars { IfOk result (λ r. (t : Var → Bool) → set_vars t a ≡ true → set_vars t b.now ≡ true →
+        set_vars t r ≡ true) }
+{
+    if a.is_all() || is_none(b) {
+        return Ok(a);
+    }
+    join(alloc, &a, b)
+}
+
+/// The set of those from so many members on, which is put into the row.
+fn put_from(
+    alloc: Global,
+    out: &mut Vec<RowEntry>,
+    set: EnvSet,
+    sets: &[EnvSet],
+    from: usize,
+) -> Result<EnvSet, NoMemory>
+    requires { from < length sets.now }
+    ensures set { IfOk result (λ r. (env : Environment) →
+        set_denotes r env ≡ (set_denotes set env || of.set_at sets.now from env)) }
+    ensures row { IfOk result (λ r. (n : ℕ) (env : Environment) → of.row_at out.new.items n env
+        ≡ (of.row_at out.old.items n env || (nat_eq from n && set_denotes r env))) }
+    ensures vars { IfOk result (λ r. (t : Var → Bool) → set_vars t set ≡ true →
+        list_all (set_vars t) sets.now ≡ true → set_vars t r ≡ true) }
+    ensures row_vars { IfOk result (λ r. (t : Var → Bool) → of.row_vars t out.old.items ≡ true →
+        set_vars t r ≡ true → of.row_vars t out.new.items ≡ true) }
+{
+    let all = either(alloc, set, set_at(sets, from))?;
+    let here = all.copy(alloc)?;
+    push_entry(out, from, here)?;
+    Ok(all)
+}
+
+/// The row from a child on that takes every run in every environment, and after it so many members at most. From the last
+/// member to the first, each set has that of the member after it. Linear in the members, where the sets stay small.
+fn fit_every_row(alloc: Global, row: &[RowEntry], count: usize) -> Result<Vec<RowEntry>, NoMemory>
+    requires { count + 1 < 2 ^ 64 }
+    ensures meaning { IfOk result (λ r. (n : ℕ) (env : Environment) → n < count + 1
+        → of.row_at r.items n env ≡ of.tail_at count row.now n env) }
+    ensures vars { IfOk result (λ r. (t : Var → Bool) → of.row_vars t row.now ≡ true
+        → of.row_vars t r.items ≡ true) }
+{
+    let sets = sets_by_count(alloc, row, count)?;
+    let mut out = Vec::new(alloc);
+    let mut set = EnvSet::none(alloc);
+    let mut from = count + 1;
+    while from > 0 {
+        from -= 1;
+        set = put_from(alloc, &mut out, set, sets.as_slice(), from)?;
+    }
+    Ok(out)
+}
+
 /// The row from a child on that takes any run.
 pub fn fit_wild_row(
     alloc: Global,
@@ -153,6 +267,9 @@ pub fn fit_wild_row(
         form_vars decls.now tokens.now t form.now ≡ true → of.row_vars t row.now ≡ true →
         of.row_vars t r.items ≡ true) }
 {
+    if is_free(tokens, forms, i, form) {
+        return fit_every_row(alloc, row, members.len());
+    }
     let mut out = Vec::new(alloc);
     for from in 0..members.len() + 1 {
         let set = fit_some_run(

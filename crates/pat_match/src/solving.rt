@@ -74,9 +74,10 @@ fn solve_form(
 /// The environments under which the pattern matches at the node.
 ///
 /// A form is gone through in step with a subtree, up to a token that fits in no environment. So at a node whose first
-/// token is another this costs a few steps, and for a pattern of spot Inside a few for each of the node's own tokens. A
-/// list of m members that has dots or list variables takes a row of at most n + 1 sets a member for the file's n
-/// members, and for each dots or list variable in its middle n times n steps. Recurses a few calls a level.
+/// token is another this costs a few steps a form, and for a pattern of spot Inside a few for each form and expression
+/// part. A list of m members that has dots or list variables takes a row of at most n + 1 sets a member for the file's
+/// n members, and for each dots with a position or plus code in its middle n times n steps; a list variable there takes
+/// a copy of its run for each number of members that it may take. Recurses a few calls a level.
 pub fn solve(
     alloc: Global,
     p: &Pattern,

@@ -9,7 +9,8 @@
 //! Under one environment nothing is guessed: in a disjunction the first branch that fits counts, in a list each child
 //! takes from the left as few members as it can, where those after it still fit.
 //!
-//! Calls recurse a few times a level of a form. What an alignment removes and puts in is for the crates above.
+//! Calls recurse a few times a level of a form, and once a level of a subtree that a variable or a run takes. What an
+//! alignment removes and puts in is for the crates above.
 #![tactic(auto)]
 
 mod fewest;

@@ -8,6 +8,6 @@ use Rattle.ctl_fixpoint.proofs.rows.some_next.Given as goal
 
 abbrev pub invariant-loop-k : goal.invariant-loop-k
 invariant-loop-k l = record {
-  gives : (env : Environment) → set_denotes l.out env ≡ passes false (λ k. has l.x k env) (take l.k-index l.next);
-  vars : (test : Var → Bool) → row_vars test l.x ≡ true → set_vars test l.out ≡ true;
+  gives : (env : Environment) → set_denotes l.entries.items env ≡ passes false (λ k. has l.x k env) (take l.k-index l.next);
+  vars : (test : Var → Bool) → row_vars test l.x ≡ true → set_vars test l.entries.items ≡ true;
 }

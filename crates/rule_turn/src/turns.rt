@@ -31,9 +31,15 @@ pub struct Turned {
 
 /// Runs a rule over one reading of a file: picks what it is run under, finds its witnesses, and replaces the environments.
 ///
+/// `defined` are the virtual names that hold, `had` the rules that have had a witness on the file, `number` is the rule's,
+/// `prepared` what [`rule_formulas::prepare`] makes of it, and `count` the number of the file's items. Contracts leave the ids of
+/// terms out.
+///
 /// - `TooManyWitnesses`: the witnesses in one item under one environment have more than 1,000,000 touches and binds.
 /// - `TooManyEnvironments`: not so, and more than 10,000 environments come out.
 /// - `NoMemory`: memory was refused.
+///
+/// Costs one [`projections`], one [`witnesses`] and one [`next_carriers`].
 pub fn turn(
     alloc: Global,
     defined: &[Text],

@@ -1,0 +1,2 @@
+pub mod HadLemmas
+pub mod WorkLemmas

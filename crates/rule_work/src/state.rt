@@ -1,0 +1,22 @@
+// What the rules of a patch leave of a file, apart from its text.
+use cpp_lines::Why;
+use rule_envs::Carrier;
+use smpl_patch::RuleWitness;
+use sqlite_items::Items;
+
+/// An item that a reading of the file skipped.
+#[derive(Clone, Copy, Debug, PartialEq, Eq)]
+pub struct SkipNote {
+    pub reading: u32,
+    pub item: u32,
+    pub why: Why,
+}
+
+/// What becomes of the environments, and what was found.
+#[derive(Drop)]
+pub struct Findings {
+    pub carriers: Items<Carrier>,
+    /// The rules that have had a witness.
+    pub had: Items<u32>,
+    pub found: Items<RuleWitness>,
+}

@@ -1,0 +1,5 @@
+pub mod RunLemmas
+pub mod StopLemmas
+pub mod StepLemmas
+pub mod CutLemmas
+pub mod OnceLemmas

@@ -1,0 +1,164 @@
+-- A chain has one end.
+use Rattle.std.proofs.Common.{◌≡◌, ◌<◌, ◌≤◌, ◌⊎◌, ℕ, Bool, true, false, ◌&&◌, Some, refl, sym, ap, ◌∙◌, subst}
+use Rattle.std.proofs.Common.{inl, inr, suc, arith, List, [], ◌∷◌, ◌++◌}
+use Rattle.std.specs.Prelude.{slice_get}
+use Rattle.c_lexer.specs.Pieces.{TextPiece}
+use Rattle.c_lexer.specs.Lexes.{Cuts, Lexes}
+use Rattle.c_lexer.specs.Ids.{ids_of}
+use Rattle.c_lexer.specs.Pieces.{text_of}
+use Rattle.cpp_lines.specs.declared.reading.Item.{Item}
+use Rattle.c_file.specs.Reads.{Reads}
+use Rattle.cfg_graph.specs.declared.label.NodeKind.{NodeKind}
+use Rattle.smpl_patch.specs.declared.rule.Rule.{Rule}
+use Rattle.smpl_patch.specs.declared.witness.RuleWitness.{RuleWitness}
+use Rattle.edit_conflict.specs.declared.edit.Edit.{Edit}
+use Rattle.edit_conflict.specs.declared.clash.Clash.{Clash}
+use Rattle.edit_conflict.specs.Clashes.{IsFirstClash, NotAfter}
+use Rattle.edit_walk.specs.Edited.{AreEdits}
+use Rattle.rule_edits.specs.declared.fault.EditFault.{EditFault}
+use Rattle.rule_edits.specs.Kinds.{kinds_of}
+use Rattle.rule_edits.specs.Pages.{is_edited}
+use Rattle.rule_edits.specs.Faults.{AreFine, IsEditFault}
+use Rattle.rule_edits.specs.Faults.IsEditFault.{conflict, too_long}
+use Rattle.rule_work.specs.declared.fault.FileFault.{FileFault}
+use Rattle.rule_work.specs.States.{Chained, ReadsAgain, first_state, notes_from}
+use Rattle.rule_work.specs.OneRule.{edit_fault, MayRead, AreFew, RuleEdits, IsFault, Leads, worked, is_too_much, rule_found}
+use Rattle.rule_work.specs.OneRule.IsFault.{too_many_witnesses, too_many_environments, in_edits}
+use Rattle.rule_chain.specs.Chain.{Outcome, Refused, Runs, Chain, is_followed}
+
+-- ---- the first clash
+
+same_clash : (c d : Clash) → c.token ≡ d.token → c.first ≡ d.first → c.second ≡ d.second → c ≡ d
+same_clash c d t f s = λ i. record { token = t i; first = f i; second = s i }
+
+not_both : (c d : Clash) → NotAfter c d → NotAfter d c → c ≡ d
+not_both c d (inl a) (inl b) = absurd (omega arith)
+not_both c d (inl a) (inr b) = let e : d.token ≡ c.token = b.0 in absurd (omega arith)
+not_both c d (inr a) (inl b) = let e : c.token ≡ d.token = a.0 in absurd (omega arith)
+not_both c d (inr a) (inr b) = by a.1 b.1
+  where
+    by : (c.first < d.first) ⊎ ((c.first ≡ d.first) × (c.second ≤ d.second)) → (d.first < c.first) ⊎ ((d.first ≡ c.first) × (d.second ≤ c.second)) → c ≡ d
+    by (inl x) (inl y) = absurd (omega arith)
+    by (inl x) (inr y) = let e : d.first ≡ c.first = y.0 in absurd (omega arith)
+    by (inr x) (inl y) = let e : c.first ≡ d.first = x.0 in absurd (omega arith)
+    by (inr x) (inr y) =
+        let l : c.second ≤ d.second = x.1 in
+        let r : d.second ≤ c.second = y.1 in
+        same_clash c d a.0 x.0 (omega arith)
+
+first_once : (edits : List Edit) (c d : Clash) → IsFirstClash edits c → IsFirstClash edits d → c ≡ d
+first_once edits c d one two = not_both c d (one.first d two.clash) (two.first c one.clash)
+
+-- ---- the faults of edits
+
+edit_faults_once : (next : ℕ) (pieces : List TextPiece) (edits : List Edit) (f g : EditFault)
+    → IsEditFault next pieces edits f → IsEditFault next pieces edits g → f ≡ g
+edit_faults_once next pieces edits _ _ (conflict c id a b one at first second) (conflict d other x y two there third fourth) =
+    let e : c ≡ d = first_once edits c d one two in
+    let ids : Some id ≡ Some other = sym at ∙ ap (λ (k : Clash). slice_get (ids_of pieces) k.token) e ∙ there in
+    let left : Some a ≡ Some x = sym first ∙ ap (λ (k : Clash). slice_get edits k.first) e ∙ third in
+    let right : Some b ≡ Some y = sym second ∙ ap (λ (k : Clash). slice_get edits k.second) e ∙ fourth in
+    cc
+edit_faults_once next pieces edits _ _ (conflict c id a b one at first second) (too_long none long) = absurd (none c one.clash)
+edit_faults_once next pieces edits _ _ (too_long none long) (conflict c id a b one at first second) = absurd (none c one.clash)
+edit_faults_once next pieces edits _ _ (too_long none long) (too_long never more) = refl
+
+fine_or_fault : (next : ℕ) (pieces : List TextPiece) (edits : List Edit) (f : EditFault) → AreFine next pieces edits → IsEditFault next pieces edits f → ⊥
+fine_or_fault next pieces edits _ fine (conflict c id a b one at first second) = fine.apart c one.clash
+fine_or_fault next pieces edits _ fine (too_long none long) = let short = fine.short in omega arith
+
+-- ---- one rule, where witnesses have one list of edits
+
+abbrev pub HaveOneList : Type 0
+HaveOneList = (found : List RuleWitness) (rule : Rule) (items : List Item) (kinds : List (List NodeKind)) (pieces : List TextPiece) (a b : List Edit)
+    → AreEdits found rule items kinds pieces a → AreEdits found rule items kinds pieces b → a ≡ b
+
+abbrev pub HaveOneCut : Type 0
+HaveOneCut = (a b : List TextPiece) → Cuts a → Cuts b → text_of a ≡ text_of b → ids_of a ≡ ids_of b → a ≡ b
+
+abbrev pub HaveOneReading : Type 0
+HaveOneReading = (pieces : List TextPiece) (a b : List Item) → Reads pieces a → Reads pieces b → a ≡ b
+
+module _ (one_list : HaveOneList) (defined : List (List ℕ)) (number : ℕ) (rule : Rule) (s : Chained) where
+  edits_once : (a b : List Edit) → RuleEdits defined number rule s a → RuleEdits defined number rule s b → a ≡ b
+  edits_once a b = one_list (rule_found defined number rule s) rule s.items (kinds_of s.items) s.pieces a b
+
+  few_or_many : AreFew defined number rule s → is_too_much defined number rule s ≡ true → ⊥
+  few_or_many few many = let e : false ≡ true = sym few.witnesses ∙ many in absurd cc
+
+  pub fault_once : (f g : FileFault) → IsFault defined number rule s f → IsFault defined number rule s g → f ≡ g
+  fault_once _ _ (too_many_witnesses a) (too_many_witnesses b) = refl
+  fault_once _ _ (too_many_witnesses a) (too_many_environments b more) = let e : true ≡ false = sym a ∙ b in absurd cc
+  fault_once _ _ (too_many_witnesses a) (in_edits edits fault few are is) = absurd (few_or_many few a)
+  fault_once _ _ (too_many_environments b more) (too_many_witnesses a) = let e : true ≡ false = sym a ∙ b in absurd cc
+  fault_once _ _ (too_many_environments b more) (too_many_environments c most) = refl
+  fault_once _ _ (too_many_environments b more) (in_edits edits fault few are is) = let e = few.environments in absurd (omega arith)
+  fault_once _ _ (in_edits edits fault few are is) (too_many_witnesses a) = absurd (few_or_many few a)
+  fault_once _ _ (in_edits edits fault few are is) (too_many_environments b more) = let e = few.environments in absurd (omega arith)
+  fault_once _ _ (in_edits edits fault few are is) (in_edits others other less same was) =
+      let e : edits ≡ others = edits_once edits others are same in
+      let there : IsEditFault s.page.next s.pieces others fault = subst (λ (x : List Edit). IsEditFault s.page.next s.pieces x fault) e is in
+      ap (edit_fault number) (edit_faults_once s.page.next s.pieces others fault other there was)
+
+  pub leads_or_fault : (followed : Bool) (next : Chained) (f : FileFault) → Leads defined number rule followed s next → IsFault defined number rule s f → ⊥
+  leads_or_fault followed next _ leads (too_many_witnesses a) = few_or_many leads.few a
+  leads_or_fault followed next _ leads (too_many_environments b more) = let e = leads.few.environments in omega arith
+  leads_or_fault followed next _ leads (in_edits edits fault few are is) =
+      let e : edits ≡ leads.edits = edits_once edits leads.edits are leads.are in
+      fine_or_fault s.page.next s.pieces leads.edits fault leads.fine (subst (λ (x : List Edit). IsEditFault s.page.next s.pieces x fault) e is)
+
+-- ---- the text read once more
+
+module _ (one_cut : HaveOneCut) (one_reading : HaveOneReading) where
+  again_once : (s a b : Chained) → ReadsAgain s a → ReadsAgain s b → a ≡ b
+  again_once s a b one two =
+      let pieces : one.pieces ≡ two.pieces = one_cut one.pieces two.pieces one.cut.cuts two.cut.cuts
+      (one.cut.text ∙ sym two.cut.text) (one.cut.ids ∙ sym two.cut.ids) in
+      let items : one.items ≡ two.items =
+      one_reading two.pieces one.items two.items (subst (λ (p : List TextPiece). Reads p one.items) pieces one.reads) two.reads in
+      one.is
+      ∙ (λ i. record s {
+        reading = suc s.reading;
+        pieces = pieces i;
+        items = items i;
+        skipped = s.skipped ++ notes_from (suc s.reading) 0 (items i);
+      })
+      ∙ sym two.is
+
+  may_once : (b : Bool) (s x y : Chained) → MayRead b s x → MayRead b s y → x ≡ y
+  may_once true s x y one two = again_once s x y one two
+  may_once false s x y one two = one ∙ sym two
+
+-- ---- the whole chain
+
+module _ (one_list : HaveOneList) (one_cut : HaveOneCut) (one_reading : HaveOneReading) (defined : List (List ℕ)) where
+  leads_once : (number : ℕ) (rule : Rule) (followed : Bool) (s a b : Chained)
+      → Leads defined number rule followed s a → Leads defined number rule followed s b → a ≡ b
+  leads_once number rule followed s a b one two =
+      let e : one.edits ≡ two.edits = edits_once one_list defined number rule s one.edits two.edits one.are two.are in
+      let reads : MayRead (is_edited two.edits && followed) (worked defined number rule s two.edits) a =
+      subst (λ (x : List Edit). MayRead (is_edited x && followed) (worked defined number rule s x) a) e one.reads in
+      may_once one_cut one_reading (is_edited two.edits && followed) (worked defined number rule s two.edits) a b reads two.reads
+
+  runs_once : (number : ℕ) (rules : List Rule) (s : Chained) (a b : Outcome) → Runs defined number rules s a → Runs defined number rules s b → a ≡ b
+  runs_once number [] s a b one two = one ∙ sym two
+  runs_once number (rule ∷ rules) s a b (inl one) (inl two) =
+      one.1.1 ∙ ap Refused (fault_once one_list defined number rule s one.0 two.0 one.1.0 two.1.0) ∙ sym two.1.1
+  runs_once number (rule ∷ rules) s a b (inl one) (inr two) =
+      absurd (leads_or_fault one_list defined number rule s (is_followed rules) two.0 one.0 two.1.0 one.1.0)
+  runs_once number (rule ∷ rules) s a b (inr one) (inl two) =
+      absurd (leads_or_fault one_list defined number rule s (is_followed rules) one.0 two.0 one.1.0 two.1.0)
+  runs_once number (rule ∷ rules) s a b (inr one) (inr two) =
+      let next : one.0 ≡ two.0 = leads_once number rule (is_followed rules) s one.0 two.0 one.1.0 two.1.0 in
+      runs_once (suc number) rules two.0 a b (subst (λ (x : Chained). Runs defined (suc number) rules x a) next one.1.1) two.1.1
+
+  pub chain_once : ((bytes : List ℕ) (a b : List TextPiece) → Lexes bytes a → Lexes bytes b → a ≡ b)
+      → (rules : List Rule) (bytes : List ℕ) (end other : Outcome) → Chain rules defined bytes end → Chain rules defined bytes other → end ≡ other
+  chain_once lexes_once rules bytes end other one two =
+      let pieces : one.pieces ≡ two.pieces = lexes_once bytes one.pieces two.pieces one.cut two.cut in
+      let items : one.items ≡ two.items =
+      one_reading two.pieces one.items two.items (subst (λ (p : List TextPiece). Reads p one.items) pieces one.reads) two.reads in
+      let runs : Runs defined 0 rules (first_state two.pieces two.items) end =
+      subst (λ (x : List Item). Runs defined 0 rules (first_state two.pieces x) end) items
+      (subst (λ (p : List TextPiece). Runs defined 0 rules (first_state p one.items) end) pieces one.runs) in
+      runs_once 0 rules (first_state two.pieces two.items) end other runs two.runs

@@ -1,0 +1,84 @@
+-- What one rule leads to, and what the rules after it lead to.
+use Rattle.std.proofs.Common.{◌≡◌, ◌<◌, ◌+◌, ℕ, Bool, false, ◌&&◌, Option, None, Some, refl, sym, ap, ◌∙◌, subst}
+use Rattle.std.proofs.Common.{inl, inr, zero, suc, arith, add-one}
+use Rattle.std.proofs.Common.{List, [], ◌∷◌, length, get_or, drop}
+use Rattle.std.specs.Prelude.{is_some, cond}
+use Rattle.std.specs.List.{AllZip}
+use Rattle.std.proofs.Math.Seq.{drop-cons}
+use Rattle.c_lexer.specs.Pieces.{TextPiece}
+use Rattle.c_file.specs.File.{FileItems}
+use Rattle.edit_conflict.specs.declared.edit.Edit.{Edit}
+use Rattle.edit_unparse.specs.Output.{output_of}
+use Rattle.smpl_patch.specs.declared.rule.Rule.{Rule}
+use Rattle.rule_edits.specs.declared.texts.NewText.{NewText}
+use Rattle.rule_edits.specs.Pages.{Page, is_edited, old_page, page_of, page_after, IsNew}
+use Rattle.rule_work.specs.declared.fault.FileFault.{FileFault}
+use Rattle.rule_work.specs.declared.state.Findings.{Findings}
+use Rattle.rule_work.specs.States.{Chained}
+use Rattle.rule_work.specs.OneRule.{MayRead, IsFault, Leads, worked}
+use Rattle.rule_work.specs.Worked.{IsAtReading, Works}
+use Rattle.rule_chain.specs.Chain.{Refused, Runs, is_followed}
+use Rattle.rule_chain.specs.Stops.{page_left, LeadsOn}
+
+pub left_of : {A : Type 0} (xs : List A) (i : ℕ) (x : A) → i < length xs → x ≡ get_or xs i x → drop i xs ≡ x ∷ drop (i + 1) xs
+left_of xs i x lt is = rw add-one (drop-cons xs i x lt ∙ ap (λ z. z ∷ drop (suc i) xs) (sym is))
+
+-- the items of one place
+pub at_pair : {A B : Type 0} (R : A → B → Type 0) (xs : List A) (ys : List B) (i : ℕ) (x : A) (y : B) → AllZip R xs ys → i < length xs
+    → x ≡ get_or xs i x → y ≡ get_or ys i y → R x y
+at_pair R [] ys i x y all lt one two = absurd (omega arith)
+at_pair R (a ∷ xs) [] i x y all lt one two = absurd all
+at_pair R (a ∷ xs) (b ∷ ys) zero x y all lt one two = subst (λ u. R u y) (sym one) (subst (λ v. R a v) (sym two) all.0)
+at_pair R (a ∷ xs) (b ∷ ys) (suc i) x y all lt one two = at_pair R xs ys i x y all.1 (omega arith) one two
+
+-- ---- the page after a rule
+
+page_stays : (next : ℕ) (pieces : List TextPiece) (edits : List Edit) → is_edited edits ≡ false → page_after next pieces edits ≡ old_page next pieces
+page_stays next pieces edits e = ap (λ b. cond b (page_of next (output_of pieces edits next)) (old_page next pieces)) e
+
+-- the state's page is that of the reading
+own_page : (file : FileItems) (next : ℕ) (s : Chained) → IsAtReading file next s → old_page s.page.next s.pieces ≡ s.page
+own_page file next s at =
+    let n : s.page.next ≡ next = ap (λ (p : Page). p.next) at.page in
+    (λ i. old_page (n i) (at.pieces i)) ∙ sym at.page
+
+page_is : (file : FileItems) (next : ℕ) (s : Chained) (edits : List Edit) (text : Option NewText) → IsAtReading file next s
+    → IsNew s.page.next s.pieces edits text → page_after s.page.next s.pieces edits ≡ page_left s.page text
+page_is file next s edits None at new = page_stays s.page.next s.pieces edits new ∙ own_page file next s at
+page_is file next s edits (Some t) at new = sym new.1
+
+edited_is : (next : ℕ) (pieces : List TextPiece) (edits : List Edit) (text : Option NewText) → IsNew next pieces edits text → is_some text ≡ is_edited edits
+edited_is next pieces edits None new = sym new
+edited_is next pieces edits (Some t) new = sym new.0
+
+-- ---- one rule
+
+module _ (defined : List (List ℕ)) (rules : List Rule) (number : ℕ) (rule : Rule) (lt : number < length rules) (at : rule ≡ get_or rules number rule) where
+  pub leads : (file : FileItems) (next : ℕ) (s : Chained) (findings : Findings) (text : Option NewText) → IsAtReading file next s
+      → Works defined number rule s findings text → LeadsOn defined rules number s (number + 1) findings text
+  leads file next s findings text reading works = record {
+    state = worked defined number rule s works.edits;
+    findings_are = works.findings_are;
+    page = page_is file next s works.edits text reading works.text_is;
+    pieces = refl;
+    items = refl;
+    reading = refl;
+    skipped = refl;
+    back = λ after end may runs.
+        let rest = drop (number + 1) rules in
+        let e = edited_is s.page.next s.pieces works.edits text works.text_is in
+        let leads_to : Leads defined number rule (is_followed rest) s after = record {
+          edits = works.edits;
+          few = works.few;
+          are = works.are;
+          fine = works.fine;
+          reads = subst (λ (b : Bool). MayRead (b && is_followed rest) (worked defined number rule s works.edits) after) e may;
+        } in
+        let one : number + 1 ≡ suc number = omega arith in
+        subst (λ (x : List Rule). Runs defined number x s end) (sym (left_of rules number rule lt at))
+        (inr (after, (leads_to, subst (λ (n : ℕ). Runs defined n rest after end) one runs)));
+  }
+
+  pub refuses : (s : Chained) (fault : FileFault) → IsFault defined number rule s fault → Runs defined number (drop number rules) s (Refused fault)
+  refuses s fault is =
+      subst (λ (x : List Rule). Runs defined number x s (Refused fault)) (sym (left_of rules number rule lt at)) (inl (fault, (is, refl)))

@@ -1,0 +1,76 @@
+-- Rules after rules.
+use Rattle.std.proofs.Common.{◌≡◌, ◌⊎◌, inl, inr, ℕ, Option, None, refl, ◌∙◌, subst}
+use Rattle.std.proofs.Common.{List, drop}
+use Rattle.c_file.specs.File.{FileItems}
+use Rattle.smpl_patch.specs.declared.rule.Rule.{Rule}
+use Rattle.rule_edits.specs.declared.texts.NewText.{NewText}
+use Rattle.rule_work.specs.declared.fault.FileFault.{FileFault}
+use Rattle.rule_work.specs.declared.fault.FileFault.TheVariants.{NoMemory}
+use Rattle.rule_work.specs.declared.state.Findings.{Findings}
+use Rattle.rule_work.specs.States.{Chained}
+use Rattle.rule_work.specs.Worked.{AreFindingsOf, IsAtReading}
+use Rattle.rule_chain.specs.Chain.{Outcome, Refused, Runs}
+use Rattle.rule_chain.specs.Stops.{page_left, LeadsOn}
+
+module _ (defined : List (List ℕ)) (rules : List Rule) where
+  -- no rule leads on
+  pub stays : (from : ℕ) (s : Chained) (findings : Findings) → AreFindingsOf findings s → LeadsOn defined rules from s from findings None
+  stays from s findings are = record {
+    state = s;
+    findings_are = are;
+    page = refl;
+    pieces = refl;
+    items = refl;
+    reading = refl;
+    skipped = refl;
+    back = λ next end may runs. subst (λ (x : Chained). Runs defined from (drop from rules) x end) may runs;
+  }
+
+  -- the state is still just after the reading
+  pub still : (from mid : ℕ) (s : Chained) (findings : Findings) (file : FileItems) (next : ℕ) → IsAtReading file next s
+      → (on : LeadsOn defined rules from s mid findings None) → IsAtReading file next on.state
+  still from mid s findings file next at on = record {
+    page = on.page ∙ at.page;
+    pieces = on.pieces ∙ at.pieces;
+    items = on.items ∙ at.items;
+  }
+
+  -- what comes after comes after the first, too
+  pub back_to : (from mid : ℕ) (s : Chained) (findings : Findings) (on : LeadsOn defined rules from s mid findings None) (end : Outcome)
+      → Runs defined mid (drop mid rules) on.state end → Runs defined from (drop from rules) s end
+  back_to from mid s findings on end runs = on.back on.state end refl runs
+
+  pub then : (from mid done : ℕ) (s : Chained) (findings later : Findings) (text : Option NewText) (on : LeadsOn defined rules from s mid findings None)
+      → LeadsOn defined rules mid on.state done later text → LeadsOn defined rules from s done later text
+  then from mid done s findings later text on more = record {
+    state = more.state;
+    findings_are = more.findings_are;
+    page = subst (λ p. more.state.page ≡ page_left p text) on.page more.page;
+    pieces = more.pieces ∙ on.pieces;
+    items = more.items ∙ on.items;
+    reading = more.reading ∙ on.reading;
+    skipped = more.skipped ∙ on.skipped;
+    back = λ next end may runs. back_to from mid s findings on end (more.back next end may runs);
+  }
+
+  -- from each state that is seen so, to such a state
+  abbrev pub Leading : ℕ → ℕ → FileItems → ℕ → Findings → Findings → Option NewText → Type 0
+  Leading from done file next findings later text = (s : Chained) → AreFindingsOf findings s → IsAtReading file next s
+      → LeadsOn defined rules from s done later text
+
+  abbrev pub Refusing : ℕ → FileItems → ℕ → Findings → FileFault → Type 0
+  Refusing from file next findings fault = (fault ≡ NoMemory) ⊎ ((s : Chained) → AreFindingsOf findings s → IsAtReading file next s
+      → Runs defined from (drop from rules) s (Refused fault))
+
+  pub goes_on : (from mid done : ℕ) (file : FileItems) (next : ℕ) (first findings later : Findings) (text : Option NewText)
+      → Leading from mid file next first findings None → Leading mid done file next findings later text → Leading from done file next first later text
+  goes_on from mid done file next first findings later text on more s are at =
+      let was : LeadsOn defined rules from s mid findings None = on s are at in
+      then from mid done s findings later text was (more was.state was.findings_are (still from mid s findings file next at was))
+
+  pub stops_at : (from mid : ℕ) (file : FileItems) (next : ℕ) (first findings : Findings) (fault : FileFault)
+      → Leading from mid file next first findings None → Refusing mid file next findings fault → Refusing from file next first fault
+  stops_at from mid file next first findings fault on (inl none) = inl none
+  stops_at from mid file next first findings fault on (inr is) = inr (λ s are at.
+      let was : LeadsOn defined rules from s mid findings None = on s are at in
+      back_to from mid s findings was (Refused fault) (is was.state was.findings_are (still from mid s findings file next at was)))

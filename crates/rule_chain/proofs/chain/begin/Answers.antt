@@ -1,0 +1,44 @@
+use Rattle.std.proofs.Common.{◌++◌, ◌∙◌, refl, ap, sym, subst, length, map, List}
+use Rattle.c_lexer.specs.Pieces.{TextPiece, text_of}
+use Rattle.c_lexer.specs.Ids.{ids_of}
+use Rattle.c_lexer.specs.Lexes.{Lexes}
+use Rattle.c_file.specs.Reads.{Reads}
+use Rattle.rule_envs.specs.Shares.{bare_carrier}
+use Rattle.rule_witnesses.specs.Bare.{bare_witness}
+use Rattle.rule_work.specs.declared.state.SkipNote.{SkipNote}
+use Rattle.rule_work.specs.States.{notes_from}
+use Rattle.rule_chain.proofs.chain.begin.Goals as goal
+
+pub returns-clause-cut : goal.returns-clause-cut
+returns-clause-cut c =
+    subst (λ (p : List TextPiece). Lexes c.args.bytes.items p) (sym c.in_ok-file.ensures.pieces)
+    (subst (λ (b : List _). Lexes b c.in_ok-lexed.lexed) c.as_slice.ensures.value c.in_ok-lexed.ensures)
+
+pub returns-clause-reads : goal.returns-clause-reads
+returns-clause-reads c =
+    subst (λ (p : List TextPiece). Reads p c.in_ok-file.file.items) (sym c.in_ok-file.ensures.pieces) c.in_ok-file.ensures.items
+
+pub returns-clause-at : goal.returns-clause-at
+returns-clause-at c =
+    let pieces = c.in_ok-file.ensures.pieces in
+    let lexes : Lexes c.args.bytes.items c.in_ok-lexed.lexed =
+    subst (λ (b : List _). Lexes b c.in_ok-lexed.lexed) c.as_slice.ensures.value c.in_ok-lexed.ensures in
+    record {
+      findings = record {
+        seen = record {
+          had_is = sym c.new-2.ensures;
+          carriers_is = sym (ap (map bare_carrier) c.in_ok-first_carriers.ensures.carriers);
+        };
+        found_is = ap (map bare_witness) (sym c.new-3.ensures);
+      };
+      at = record {
+        page = ap (λ n. record { bytes = text_of c.in_ok-file.file.pieces; ids = ids_of c.in_ok-file.file.pieces; next = n })
+            (ap (λ (p : List TextPiece). length (ids_of p)) pieces ∙ sym c.token_count-next.ensures.count);
+        pieces = refl;
+        items = refl;
+      };
+      bytes = sym lexes.0 ∙ ap text_of (sym pieces);
+      reading = refl;
+      skipped = sym (c.in_ok-skipped.ensures ∙ ap (λ (x : List SkipNote). x ++ notes_from 0 0 c.items.result.now) c.new.ensures
+          ∙ ap (notes_from 0 0) c.items.ensures.items);
+    }

@@ -1,0 +1,15 @@
+use Rattle.std.proofs.Common.{◌≤◌, length, drop}
+use Rattle.rule_work.specs.States.{Chained}
+use Rattle.rule_chain.specs.Chain.{Outcome, Runs}
+use Rattle.rule_chain.specs.Stops.{IsAt}
+use Rattle.rule_chain.proofs.chain.over_readings.Given as goal
+
+-- whatever end the rules that are left lead to from here, all rules lead to it from the start
+abbrev pub invariant-loop-number : goal.invariant-loop-number
+invariant-loop-number l = record {
+  on : (s : Chained) → IsAt l.initial.reached s → (now : Chained) × (IsAt l.reached now
+      × ((end : Outcome) → Runs l.defined l.reached.done (drop l.reached.done l.rules) now end → Runs l.defined 0 (drop 0 l.rules) s end));
+  far : l.number ≤ l.reached.done;
+  within : l.reached.done ≤ length l.rules;
+  reading : l.reached.reading ≤ l.reached.done;
+}

@@ -1,0 +1,19 @@
+use Rattle.std.proofs.Common.{◌∙◌, subst, sym, List}
+use Rattle.c_lexer.specs.Pieces.{TextPiece}
+use Rattle.c_file.specs.Reads.{Reads}
+use Rattle.rule_edits.specs.Pages.{page_in}
+use Rattle.rule_work.specs.States.{IsCut}
+use Rattle.rule_chain.proofs.readings.read_again.Goals as goal
+
+pub returns-clause-cut : goal.returns-clause-cut
+returns-clause-cut c =
+    let own : IsCut (page_in c.args.text.now) c.in_ok-lexed.lexed = record {
+      text = c.in_ok-lexed.ensures.text ∙ c.as_slice.ensures.value;
+      cuts = c.in_ok-lexed.ensures.cuts;
+      ids = c.in_ok-lexed.ensures.ids ∙ c.as_slice-2.ensures.value;
+    } in
+    subst (λ (p : List TextPiece). IsCut (page_in c.args.text.now) p) (sym c.in_ok-file.ensures.pieces) own
+
+pub returns-clause-reads : goal.returns-clause-reads
+returns-clause-reads c =
+    subst (λ (p : List TextPiece). Reads p c.in_ok-file.file.items) (sym c.in_ok-file.ensures.pieces) c.in_ok-file.ensures.items

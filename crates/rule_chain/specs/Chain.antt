@@ -1,0 +1,36 @@
+-- The rules of a patch over a file, one after another.
+use Rattle.std.specs.Prelude.{ℕ, ◌≡◌, ◌⊎◌, suc, Bool, true, false, List, [], ◌∷◌}
+use Rattle.smpl_patch.specs.declared.rule.Rule.{Rule}
+use Rattle.c_lexer.specs.Pieces.{TextPiece}
+use Rattle.c_lexer.specs.Lexes.{Lexes}
+use Rattle.cpp_lines.specs.declared.reading.Item.{Item}
+use Rattle.c_file.specs.Reads.{Reads}
+use Rattle.rule_work.specs.declared.fault.FileFault.{FileFault}
+use Rattle.rule_work.specs.States.{Chained, first_state}
+use Rattle.rule_work.specs.OneRule.{IsFault, Leads}
+
+-- how the chain ends: with its last state, or at the first fault
+pub data Outcome : Type 0 where
+  Done : (s : Chained) → Outcome
+  Refused : (fault : FileFault) → Outcome
+
+-- some rule is left
+abbrev pub is_followed : List Rule → Bool
+is_followed [] = false
+is_followed (rule ∷ rules) = true
+
+-- the rules, whose numbers begin here, lead from a state to this end
+abbrev pub Runs : List (List ℕ) → ℕ → List Rule → Chained → Outcome → Type 0
+Runs defined number [] s end = end ≡ Done s
+Runs defined number (rule ∷ rules) s end =
+    ((fault : FileFault) × (IsFault defined number rule s fault × (end ≡ Refused fault)))
+    ⊎ ((next : Chained) × (Leads defined number rule (is_followed rules) s next
+    × Runs defined (suc number) rules next end))
+
+-- the chain of these rules over a text ends so
+pub record Chain (rules : List Rule) (defined : List (List ℕ)) (bytes : List ℕ) (end : Outcome) : Type 0 where
+  pub pieces : List TextPiece
+  pub cut : Lexes bytes pieces
+  pub items : List Item
+  pub reads : Reads pieces items
+  pub runs : Runs defined 0 rules (first_state pieces items) end

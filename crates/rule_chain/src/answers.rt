@@ -1,0 +1,36 @@
+// What is answered of the last state.
+ghost use Rattle.std.specs.Prelude.{◌≡◌, IfOk};
+ghost use Rattle.rule_work.specs.States.{Chained};
+ghost use Rattle.rule_work.specs.Worked.{AreFindingsOf};
+ghost use Rattle.rule_chain.specs.Results.{AnswersState};
+
+use crate::state::Applied;
+use c_terms::NoMemory;
+use rule_envs::envs_of;
+use rule_work::{Findings, SkipNote};
+use sqlite_items::Items;
+use std::alloc::Global;
+
+/// The answer for a file whose text is this after the last rule.
+pub fn answer(
+    alloc: Global,
+    bytes: Vec<u8>,
+    skipped: Items<SkipNote>,
+    findings: Findings,
+) -> Result<Applied, NoMemory>
+    ensures { IfOk result (λ applied. (s : Chained) → AreFindingsOf findings s → bytes.items ≡ s.page.bytes
+        → s.skipped ≡ skipped → AnswersState applied s) }
+{
+    let Findings {
+        carriers,
+        had: _,
+        found,
+    } = findings;
+    let envs = envs_of(alloc, carriers.as_slice())?;
+    Ok(Applied {
+        bytes,
+        witnesses: found,
+        skipped,
+        envs,
+    })
+}

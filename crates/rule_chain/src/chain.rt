@@ -1,0 +1,202 @@
+// The rules of a patch over a file.
+ghost use Rattle.std.specs.Prelude.{◌≡◌, ◌≤◌, ◌<◌, ◌+◌, ◌^◌, ◌⊎◌, ℕ, IfOk, IfErr, length, drop};
+ghost use Rattle.std.specs.List.{AllZip};
+ghost use Rattle.c_lexer.specs.Lexes.{Lexes};
+ghost use Rattle.c_file.specs.Reads.{Reads};
+ghost use Rattle.rule_formulas.specs.Prepared.{ArePrepared};
+ghost use Rattle.rule_work.specs.States.{Chained, first_state};
+ghost use Rattle.rule_work.specs.declared.fault.FileFault.TheVariants as fault;
+ghost use Rattle.rule_chain.specs.Asked.{MayRun};
+ghost use Rattle.rule_chain.specs.Chain.{Runs, Done, Refused};
+ghost use Rattle.rule_chain.specs.Results.{IsResult, AnswersState};
+ghost use Rattle.rule_chain.specs.Stops.{IsAt, ComesOf, Steps, IsFurther};
+
+use crate::answers::answer;
+use crate::readings::{cut, read_again, with_notes};
+use crate::rules::{Stopped, over_reading};
+use crate::state::{Applied, Reached, Step};
+use c_file::read_file;
+use c_terms::{NoMemory, Text};
+use rule_edits::NewText;
+use rule_envs::first_carriers;
+use rule_formulas::{Prepared, PreparedRule};
+use rule_work::{FileFault, Findings, SkipNote};
+use smpl_patch::{Patch, Rule};
+use sqlite_items::Items;
+use std::alloc::Global;
+
+/// Ids are at most this.
+const MOST_IDS: u64 = 4_611_686_018_427_387_904;
+
+/// The chain before the first rule.
+fn begin(alloc: Global, bytes: Vec<u8>) -> Result<Reached, NoMemory>
+    ensures cut { IfOk result (λ r. Lexes bytes.items r.file.pieces) }
+    ensures reads { IfOk result (λ r. Reads r.file.pieces r.file.items) }
+    ensures at { IfOk result (λ r. IsAt r (first_state r.file.pieces r.file.items)) }
+    ensures done { IfOk result (λ r. r.done ≡ 0) }
+    ensures reading { IfOk result (λ r. r.reading ≡ 0) }
+{
+    let lexed = cut(alloc, bytes.as_slice())?;
+    let next = lexed.token_count() as u64;
+    let file = read_file(alloc, lexed)?;
+    let skipped = with_notes(Items::new(alloc), 0, file.items())?;
+    let findings = Findings {
+        carriers: first_carriers(alloc)?,
+        had: Items::new(alloc),
+        found: Items::new(alloc),
+    };
+    Ok(Reached {
+        bytes,
+        file,
+        next,
+        reading: 0,
+        findings,
+        skipped,
+        done: 0,
+    })
+}
+
+/// What comes after a rule that edits: the text is read once more, if another rule follows.
+fn go_on(
+    alloc: Global,
+    count: usize,
+    done: usize,
+    reading: u32,
+    skipped: Items<SkipNote>,
+    findings: Findings,
+    text: NewText,
+) -> Result<Step, NoMemory>
+    requires reading { reading + 1 < 2 ^ 32 }
+    ensures comes { IfOk result (ComesOf count findings text reading skipped done) }
+    ensures further { IfOk result (λ st. (from : ℕ) → from < done → IsFurther from count reading st) }
+{
+    if done >= count {
+        return Ok(Step::Ended(answer(alloc, text.bytes, skipped, findings)?));
+    }
+    let file = read_again(alloc, &text)?;
+    let NewText {
+        bytes,
+        ids: _,
+        next,
+    } = text;
+    let skipped = with_notes(skipped, reading + 1, file.items())?;
+    Ok(Step::On(Reached {
+        bytes,
+        file,
+        next,
+        reading: reading + 1,
+        findings,
+        skipped,
+        done,
+    }))
+}
+
+/// The rules that are left over the reading that is reached, and the next reading.
+fn next_reading(
+    alloc: Global,
+    defined: &[Text],
+    rules: &[Rule],
+    prepared: &[PreparedRule],
+    reached: Reached,
+) -> Result<Step, FileFault>
+    requires prepared { ArePrepared rules.now prepared.now }
+    requires may { AllZip MayRun rules.now prepared.now }
+    requires few { length rules.now < 2 ^ 32 }
+    requires within { reached.done ≤ length rules.now }
+    requires reading { reached.reading ≤ reached.done }
+    ensures step { IfOk result (λ st. (s : Chained) → IsAt reached s → Steps defined.now rules.now reached.done s st) }
+    ensures further { IfOk result (IsFurther reached.done (length rules.now) reached.reading) }
+    ensures fault { IfErr result (λ f. (f ≡ fault.NoMemory) ⊎ ((s : Chained) → IsAt reached s
+        → Runs defined.now reached.done (drop reached.done rules.now) s (Refused f))) }
+{
+    if reached.next > MOST_IDS {
+        return Err(FileFault::NoMemory);
+    }
+    let Reached {
+        bytes,
+        file,
+        next,
+        reading,
+        findings,
+        skipped,
+        done,
+    } = reached;
+    let stopped = over_reading(alloc, defined, rules, prepared, done, &file, next, findings)?;
+    let Stopped {
+        findings,
+        done,
+        text,
+    } = stopped;
+    match text {
+        None => Ok(Step::Ended(answer(alloc, bytes, skipped, findings)?)),
+        Some(text) => Ok(go_on(alloc, rules.len(), done, reading, skipped, findings, text)?),
+    }
+}
+
+/// The rules, reading by reading.
+fn over_readings(
+    alloc: Global,
+    defined: &[Text],
+    rules: &[Rule],
+    prepared: &[PreparedRule],
+    reached: Reached,
+) -> Result<Applied, FileFault>
+    requires prepared { ArePrepared rules.now prepared.now }
+    requires may { AllZip MayRun rules.now prepared.now }
+    requires few { length rules.now < 2 ^ 32 }
+    requires done { reached.done ≡ 0 }
+    requires reading { reached.reading ≡ 0 }
+    ensures done { IfOk result (λ applied. (s : Chained) → IsAt reached s
+        → (last : Chained) × (Runs defined.now 0 rules.now s (Done last) × AnswersState applied last)) }
+    ensures fault { IfErr result (λ f. (f ≡ fault.NoMemory) ⊎ ((s : Chained) → IsAt reached s
+        → Runs defined.now 0 rules.now s (Refused f))) }
+{
+    let mut reached = reached;
+    for number in 0..rules.len() {
+        let came = next_reading(alloc, defined, rules, prepared, reached)?;
+        match came {
+            Step::Ended(applied) => return Ok(applied),
+            Step::On(next) => reached = next,
+        }
+    }
+    Ok(answer(alloc, reached.bytes, reached.skipped, reached.findings)?)
+}
+
+/// Applies a patch to the text of a file: its rules in order, each on the text that the one before left.
+///
+/// `prepared` is what [`rule_formulas::prepare`] made of the patch, and `defined` are the virtual names that hold. A rule runs once
+/// under each different choice of values of its inherited variables that an environment has; its witnesses extend that
+/// environment, its edits are applied all at once, and the text is read once more where it edited and another rule follows.
+/// Tokens that are kept keep their ids.
+///
+/// For one rule faults are looked for in this order; the first of the first rule that has one is answered, and nothing of the
+/// file is.
+///
+/// - `TooManyWitnesses`: in some item, under some choice, the witnesses have more than 1,000,000 touches and binds.
+/// - `TooManyEnvironments`: more than 10,000 environments come out.
+/// - `Conflict`: two edits clash, first at the token of this id.
+/// - `FileTooLong`: the new text has more than 16,777,216 bytes.
+/// - `NoMemory`: memory was refused.
+pub fn apply(
+    alloc: Global,
+    patch: &Patch,
+    prepared: &Prepared,
+    defined: &[Text],
+    bytes: Vec<u8>,
+) -> Result<Applied, FileFault>
+    requires short { length bytes.items ≤ 16777216 }
+    requires few { length patch.now.rules < 2 ^ 32 }
+    requires prepared { ArePrepared patch.now.rules prepared.now.rules }
+    requires may { AllZip MayRun patch.now.rules prepared.now.rules }
+    ensures result { IsResult patch.now.rules defined.now bytes.items result }
+{
+    let reached = begin(alloc, bytes)?;
+    let applied = over_readings(
+        alloc,
+        defined,
+        patch.rules.as_slice(),
+        prepared.rules.as_slice(),
+        reached,
+    )?;
+    Ok(applied)
+}

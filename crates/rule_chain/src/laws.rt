@@ -1,0 +1,18 @@
+// What holds of every chain.
+ghost use Rattle.std.specs.Prelude.{◌≡◌, ℕ, List};
+ghost use Rattle.smpl_patch.specs.declared.rule.Rule.{Rule};
+ghost use Rattle.rule_chain.specs.Chain.{Chain, Outcome};
+
+use c_file::read_once;
+use c_lexer::cut_once;
+use edit_walk::witnesses_have_one_list;
+
+/// The rules over a text have one end: nothing else decides it. Does nothing.
+pub fn chain_has_one_end()
+    ensures { (rules : List Rule) (defined : List (List ℕ)) (bytes : List ℕ) (end other : Outcome) →
+        Chain rules defined bytes end → Chain rules defined bytes other → end ≡ other }
+{
+    cut_once();
+    read_once();
+    witnesses_have_one_list();
+}

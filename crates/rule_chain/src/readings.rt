@@ -1,0 +1,89 @@
+// Readings of the text.
+ghost use Rattle.std.specs.Prelude.{◌≡◌, ◌++◌, ◌∷◌, [], IfOk};
+ghost use Rattle.c_lexer.specs.Pieces.{text_of};
+ghost use Rattle.c_lexer.specs.Lexes.{Lexes, Cuts};
+ghost use Rattle.c_lexer.specs.Ids.{ids_of};
+ghost use Rattle.c_file.specs.Reads.{Reads};
+ghost use Rattle.rule_edits.specs.Pages.{page_in};
+ghost use Rattle.rule_work.specs.States.{IsCut, notes_from};
+
+use c_file::{CFile, read_file};
+use c_lexer::{LexFault, Lexed, lex};
+use c_terms::NoMemory;
+use cpp_lines::Item;
+use rule_edits::NewText;
+use rule_work::SkipNote;
+use sqlite_items::Items;
+use std::alloc::Global;
+
+/// The pieces of a text that is short enough.
+pub fn cut(alloc: Global, bytes: &[u8]) -> Result<Lexed, NoMemory>
+    ensures { IfOk result (λ lexed. Lexes bytes.now lexed) }
+{
+    match lex(alloc, bytes) {
+        Ok(lexed) => Ok(lexed),
+        Err(LexFault::TooLong) => Err(NoMemory),
+        Err(LexFault::NoMemory) => Err(NoMemory),
+    }
+}
+
+/// The pieces of a text whose tokens have these ids.
+fn with_ids(alloc: Global, bytes: &[u8], ids: &[u64]) -> Result<Lexed, NoMemory>
+    ensures text { IfOk result (λ lexed. text_of lexed ≡ bytes.now) }
+    ensures cuts { IfOk result (λ lexed. Cuts lexed) }
+    ensures ids { IfOk result (λ lexed. ids_of lexed ≡ ids.now) }
+{
+    let lexed = cut(alloc, bytes)?;
+    if lexed.token_count() != ids.len() {
+        return Err(NoMemory);
+    }
+    Ok(lexed.renumber(ids))
+}
+
+/// The text that edits have left, read once more; its tokens keep their ids.
+pub fn read_again(alloc: Global, text: &NewText) -> Result<CFile, NoMemory>
+    ensures cut { IfOk result (λ file. IsCut (page_in text.now) file.pieces) }
+    ensures reads { IfOk result (λ file. Reads file.pieces file.items) }
+{
+    let lexed = with_ids(alloc, text.bytes.as_slice(), text.ids.as_slice())?;
+    let file = read_file(alloc, lexed)?;
+    Ok(file)
+}
+
+/// The note that an item of this number is skipped, if it is.
+fn with_note(
+    skipped: Items<SkipNote>,
+    reading: u32,
+    at: u32,
+    item: &Item,
+) -> Result<Items<SkipNote>, NoMemory>
+    ensures { IfOk result (λ now. now ≡ skipped ++ notes_from reading at (item.now ∷ [])) }
+{
+    let mut skipped = skipped;
+    if let Item::Skipped(_, why) = item {
+        skipped.push(SkipNote {
+            reading,
+            item: at,
+            why: *why,
+        })?;
+    }
+    Ok(skipped)
+}
+
+/// The notes, and after them those on the items of a reading.
+pub fn with_notes(
+    skipped: Items<SkipNote>,
+    reading: u32,
+    items: &[Item],
+) -> Result<Items<SkipNote>, NoMemory>
+    ensures { IfOk result (λ now. now ≡ skipped ++ notes_from reading 0 items.now) }
+{
+    if items.len() > u32::MAX as usize {
+        return Err(NoMemory);
+    }
+    let mut skipped = skipped;
+    for at in 0..items.len() {
+        skipped = with_note(skipped, reading, at as u32, &items[at])?;
+    }
+    Ok(skipped)
+}

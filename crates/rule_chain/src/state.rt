@@ -1,0 +1,43 @@
+// How far the chain has come, and what it answers.
+use c_file::CFile;
+use rule_work::{Findings, SkipNote};
+use smpl_patch::RuleWitness;
+use smpl_terms::Env;
+use sqlite_items::Items;
+
+/// What becomes of a file.
+#[derive(Drop)]
+pub struct Applied {
+    /// The text after the last rule.
+    pub bytes: Vec<u8>,
+    /// The witnesses of the rules, rule by rule.
+    pub witnesses: Items<RuleWitness>,
+    /// The items that were skipped, reading by reading.
+    pub skipped: Items<SkipNote>,
+    /// The environments after the last rule.
+    pub envs: Items<Env>,
+}
+
+/// The chain just after a reading of the text.
+#[derive(Drop)]
+pub struct Reached {
+    pub bytes: Vec<u8>,
+    pub file: CFile,
+    /// An id from which on none has been used in the file.
+    pub next: u64,
+    /// The number of the reading.
+    pub reading: u32,
+    pub findings: Findings,
+    pub skipped: Items<SkipNote>,
+    /// How many rules are done.
+    pub done: usize,
+}
+
+/// What comes of the rules over one reading.
+#[derive(Drop)]
+pub enum Step {
+    /// No rule is left.
+    Ended(Applied),
+    /// The text was read once more.
+    On(Reached),
+}

@@ -1,0 +1,9 @@
+-- The patterns of formulas.
+pub mod FormulaLemmas
+pub mod RuleLemmas
+-- What holds of each rule of a patch: exports, plus code, and formulas.
+pub mod TestLemmas
+pub mod ApartLemmas
+pub mod EvenLemmas
+pub mod RightLemmas
+pub mod PreparedLemmas

@@ -1,5 +1,5 @@
 -- Of a sound patch each line of plus code has as many gaps as tokens.
-use Rattle.std.proofs.Common.{◌≡◌, ◌==◌, ◌&&◌, ℕ, Bool, true, refl, arith, nat_eq, Option, None, Some, List, [], ◌∷◌, length}
+use Rattle.std.proofs.Common.{◌≡◌, ◌==◌, ◌&&◌, ℕ, true, refl, arith, nat_eq, Option, None, Some, List, [], ◌∷◌, length}
 use Rattle.std.specs.List.{list_all, AllByRecursion}
 use Rattle.std.proofs.lemmas.Bool.Decides.{nat_tests, Decides-eqb}
 use Rattle.c_terms.specs.declared.token.Token.{Token}

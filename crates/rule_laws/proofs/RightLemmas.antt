@@ -1,7 +1,6 @@
 -- Of a patch with whose meaning nothing is wrong each rule's formula is within the limits, and no variable may stay unbound there.
-use Rattle.std.proofs.Common.{◌≡◌, ℕ, suc, Bool, true, false, refl, sym, ap, ◌∙◌, if◌then◌else◌, Option, None, Some, List, [], ◌∷◌}
+use Rattle.std.proofs.Common.{◌≡◌, ℕ, suc, Bool, true, false, refl, ap, ◌∙◌, if◌then◌else◌, Option, None, Some, List, [], ◌∷◌}
 use Rattle.std.specs.List.{AllByRecursion}
-use Rattle.smpl_terms.specs.declared.var.Var.{Var}
 use Rattle.smpl_patch.specs.declared.pattern.VarDecl.{VarDecl}
 use Rattle.smpl_patch.specs.declared.fault.PatchFault.{PatchFault}
 use Rattle.smpl_patch.specs.declared.fault.PatchFault.TheVariants as fault

@@ -1,5 +1,4 @@
 -- What holds of the patterns of a rule's formula.
-use Rattle.std.proofs.Common.{List}
 use Rattle.std.specs.Prelude.{All, Contains}
 use Rattle.std.specs.List.{AllByRecursion}
 use Rattle.std.proofs.lemmas.List.Elements.{All-contains_itself, recursion_from_All}

@@ -1,0 +1,22 @@
+-- What the calls that run a rule ask of it.
+use Rattle.std.specs.Prelude.{◌≡◌, true}
+use Rattle.std.specs.List.{list_all}
+use Rattle.smpl_patch.specs.declared.rule.Rule.{Rule}
+use Rattle.smpl_patch.specs.Patterns.{sure}
+use Rattle.ctl_formula.specs.Bounds.{bound}
+use Rattle.ctl_translate.specs.Rules.{formula_of}
+use Rattle.ctl_holds.specs.Parts.{EachPattern}
+use Rattle.ctl_holds.specs.BoundLaw.{SureStand}
+use Rattle.edit_marks.specs.Edits.{HaveEvenBlocks}
+use Rattle.rule_envs.specs.Inherited.{inherited_of}
+use Rattle.rule_laws.specs.Apart.{AreApart}
+
+pub record MayRun (rule : Rule) : Type 0 where
+  -- in each pattern of its formula the sure variables stand
+  pub stand : EachPattern (SureStand rule.vars rule.tokens) (formula_of rule)
+  -- the formula binds each exported variable
+  pub binds : list_all (bound (sure rule.vars rule.tokens) (formula_of rule)) rule.exports ≡ true
+  -- exported variables stand once, and none is inherited
+  pub apart : AreApart rule.exports (inherited_of rule)
+  -- each line of plus code has as many gaps as tokens
+  pub even : HaveEvenBlocks rule.tokens

@@ -1,0 +1,2 @@
+-- What holds of each rule is what the chain asks of it.
+pub mod AskedLemmas

@@ -73,6 +73,15 @@ fn the_first_fault_goes_by_phase_and_rule(rt: HostRuntime) {
         ("@@\n@@\n f(;\n@@\nexpression if;\n@@\ng();\n", (4, 25)),
         ("@@\n@@\n f(;\n@@\n@@\n$\n", (2, 17)),
         ("@@\nexpression x, y;\n@@\n- f(y);\n+ g(x, y);\n", (14, 0)),
+        ("@@\nexpression x;\n@@\n- f();\n+ g(x);\n", (14, 0)),
+        (
+            "@r@\nexpression x;\n@@\n(\nf(x);\n|\ng();\n)\n@s@\nexpression r.x;\n@@\nh(x);\n",
+            (13, 0),
+        ),
+        (
+            "@r forall@\nexpression y;\n@@\n* f();\n  ... when != g(y)\n* h();\n",
+            (0, 0),
+        ),
     ] {
         assert_eq!(rt;
             numbers_of(read_patch(rt.alloc(), patch.as_bytes())),
@@ -80,6 +89,27 @@ fn the_first_fault_goes_by_phase_and_rule(rt: HostRuntime) {
             "{patch}"
         );
     }
+}
+
+/// A rule of so many disjunctions of two statements, in a row.
+fn disjunctions(alloc: Global, count: u32) -> Option<Vec<u8>> {
+    let mut text = Vec::from_slice(alloc, b"@@\n@@\n").ok()?;
+    for _ in 0..count {
+        text.extend_from_slice(b"(\na();\n|\nb();\n)\n").ok()?;
+    }
+    Some(text)
+}
+
+#[test]
+fn twenty_disjunctions_are_too_large(rt: HostRuntime) -> Result<(), &'static str> {
+    let two = disjunctions(rt.alloc(), 2).ok_or("no text")?;
+    assert!(rt; read_patch(rt.alloc(), two.as_slice()).is_ok());
+    let twenty = disjunctions(rt.alloc(), 20).ok_or("no text")?;
+    match read_patch(rt.alloc(), twenty.as_slice()) {
+        Err(PatchFault::TooLarge(rule)) => assert_eq!(rt; rule, 0),
+        _ => panic!(rt; "no such fault"),
+    }
+    Ok(())
 }
 
 /// What the last phase says of a patch.

@@ -2,7 +2,7 @@
 ghost use Rattle.ctl_fixpoint.specs.States.{AreStateSets};
 
 use crate::rules::{rule_with, statements};
-use crate::words::{env_of, file_of, rule_of};
+use crate::words::{env_of, file_of, guarded, rule_of};
 use c_file::CFile;
 use cfg_graph::Graph;
 use ctl_fixpoint::sat;
@@ -153,6 +153,52 @@ fn formulas_hold_where_they_must(rt: HostRuntime) -> Result<(), Fail> {
             part.as_str() == first && all.as_str() == whole,
             "{function}: {part} {all}"
         );
+    }
+    Ok(())
+}
+
+/// A rule whose dots have one `when !=`, this code, a function's statements, and the nodes where the formula holds.
+const GUARDED: [(&str, &str, &str, &str); 4] = [
+    (
+        "@r forall@\nexpression x;\n@@\nf();\n...\nh(x);\n",
+        "@r forall@\nexpression x;\n@@\ng(x)\n",
+        "f(); g(1); h(2);",
+        "--x----",
+    ),
+    (
+        "@r forall@\nexpression x;\n@@\nf();\n...\nh(x);\n",
+        "@r forall@\nexpression x;\n@@\ng(x)\n",
+        "f(); g(1); h(1);",
+        "-------",
+    ),
+    (
+        "@r forall@\nexpression y;\n@@\nf();\n...\nh();\n",
+        "@r forall@\nexpression y;\n@@\ng(y)\n",
+        "f(); k(); h();",
+        "--x----",
+    ),
+    (
+        "@r forall@\nexpression y;\n@@\nf();\n...\nh();\n",
+        "@r forall@\nexpression y;\n@@\ng(y)\n",
+        "f(); g(1); h();",
+        "-------",
+    ),
+];
+
+/// Where the formula of such a rule holds.
+fn found_guarded(alloc: Global, patch: &str, code: &str, function: &str) -> Option<String> {
+    let rule = rule_of(alloc, patch, false)?;
+    let code = rule_of(alloc, code, false)?;
+    let rule = guarded(alloc, rule, code)?;
+    let (_, whole) = found(alloc, &rule, function)?;
+    Some(whole)
+}
+
+#[test]
+fn dots_with_code_hold_where_they_must(rt: HostRuntime) -> Result<(), Fail> {
+    for (patch, code, function, wanted) in GUARDED {
+        let whole = found_guarded(rt.alloc(), patch, code, function).ok_or("no sets")?;
+        assert!(rt; whole.as_str() == wanted, "{function}: {whole}");
     }
     Ok(())
 }

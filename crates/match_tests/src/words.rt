@@ -7,8 +7,8 @@ use c_terms::{Names, NoMemory, Text, Token, Tree};
 use ctl_formula::copy_decls;
 use smpl_elem::{DotsSource, elements};
 use smpl_lexer::{PatchText, lex_patch};
-use smpl_meta::{RuleHead, pattern_tokens, read_headers};
-use smpl_patch::{Dep, Dots, Elem, Mode, Rule, VarDecl};
+use smpl_meta::{Placed, RuleHead, pattern_tokens, read_headers};
+use smpl_patch::{Dep, Dots, Elem, Mark, Mode, PatToken, Pattern, Rule, VarDecl};
 use smpl_terms::{Env, Value, Var};
 use sqlite_items::Items;
 use std::alloc::Global;
@@ -40,17 +40,38 @@ impl DotsSource for AllDots {
     }
 }
 
-fn body_of(alloc: Global, text: &PatchText, vars: &[VarDecl]) -> Option<Vec<Token>> {
-    let rule = text.rules.get(0)?;
+/// What stands at a token: its positions.
+fn stand_of(alloc: Global, p: &Placed) -> Result<PatToken, NoMemory> {
+    let mut positions = Items::new(alloc);
+    for x in p.positions.as_slice() {
+        positions.push(x.copy(alloc)?)?;
+    }
+    Ok(PatToken {
+        mark: Mark::Context,
+        positions,
+        before: None,
+        after: None,
+    })
+}
+
+/// The tokens of the last rule's body, and what stands at each.
+fn body_of(
+    alloc: Global,
+    text: &PatchText,
+    vars: &[VarDecl],
+) -> Option<(Vec<Token>, Items<PatToken>)> {
+    let rule = text.rules.as_slice().last()?;
     if rule.body.len() > 1000 {
         return None;
     }
     let placed = pattern_tokens(alloc, vars, rule.body.as_slice()).ok()?;
     let mut tokens = Vec::new(alloc);
+    let mut stands = Items::new(alloc);
     for p in placed.as_slice() {
         tokens.push(p.token.copy(alloc).ok()?).ok()?;
+        stands.push(stand_of(alloc, p).ok()?).ok()?;
     }
-    Some(tokens)
+    Some((tokens, stands))
 }
 
 /// The tokens as statements, or else as an expression.
@@ -62,15 +83,9 @@ fn parsed(alloc: Global, tokens: &[Token]) -> Option<Tree> {
     }
 }
 
-/// The elements of a body, all of whose dots are strict, or none.
-fn elements_of(
-    alloc: Global,
-    text: &PatchText,
-    vars: &[VarDecl],
-    strict: bool,
-) -> Option<Items<Elem>> {
-    let tokens = body_of(alloc, text, vars)?;
-    let tree = parsed(alloc, &tokens)?;
+/// The elements of tokens, all of whose dots are strict, or none.
+fn elements_of(alloc: Global, tokens: &[Token], strict: bool) -> Option<Items<Elem>> {
+    let tree = parsed(alloc, tokens)?;
     let read = elements(alloc, &AllDots { strict }, &tree, 0).ok()?;
     Some(read.elems)
 }
@@ -80,6 +95,7 @@ fn rule_by(
     mode: Mode,
     vars: Items<VarDecl>,
     body: Items<Elem>,
+    tokens: Items<PatToken>,
 ) -> Result<Rule, NoMemory> {
     let name = Text::from_bytes(alloc, b"")?;
     Ok(Rule {
@@ -89,31 +105,82 @@ fn rule_by(
         vars,
         exports: Items::new(alloc),
         body,
-        tokens: Items::new(alloc),
+        tokens,
     })
 }
 
-fn first_rule(alloc: Global, text: &PatchText, head: &RuleHead, strict: bool) -> Option<Rule> {
+fn last_rule(alloc: Global, text: &PatchText, head: &RuleHead, strict: bool) -> Option<Rule> {
     let vars = head.vars.as_slice();
-    let body = elements_of(alloc, text, vars, strict)?;
-    rule_by(alloc, head.mode, copy_decls(alloc, vars).ok()?, body).ok()
+    let (tokens, stands) = body_of(alloc, text, vars)?;
+    let body = elements_of(alloc, &tokens, strict)?;
+    rule_by(
+        alloc,
+        head.mode,
+        copy_decls(alloc, vars).ok()?,
+        body,
+        stands,
+    )
+    .ok()
 }
 
-/// The first rule of a patch of lines without signs. All its dots are strict, or none.
+/// The last rule of a patch of lines without signs. All its dots are strict, or none.
 pub fn rule_of(alloc: Global, patch: &str, strict: bool) -> Option<Rule> {
     let text = lex_patch(alloc, patch.as_bytes()).ok()?;
     if text.rules.len() > 1000 {
         return None;
     }
     let heads = read_headers(alloc, &text).ok()?;
-    first_rule(alloc, &text, heads.head(0)?, strict)
+    last_rule(
+        alloc,
+        &text,
+        heads.head(text.rules.len().checked_sub(1)?)?,
+        strict,
+    )
+}
+
+/// The code of a `when !=`: the element of a rule, whose pattern gets a number after those of the rule that it guards.
+fn when_of(alloc: Global, code: Rule) -> Option<Items<Items<Elem>>> {
+    let Rule { mut body, .. } = code;
+    let Some(Elem::Atom(p)) = body.pop() else {
+        return None;
+    };
+    let Pattern { spot, forms, .. } = p;
+    let mut inside = Items::new(alloc);
+    inside
+        .push(Elem::Atom(Pattern {
+            atom: 1000,
+            spot,
+            forms,
+        }))
+        .ok()?;
+    let mut whens = Items::new(alloc);
+    whens.push(inside).ok()?;
+    Some(whens)
+}
+
+/// The rule, the second of whose elements are dots, with one `when !=` there.
+pub fn guarded(alloc: Global, rule: Rule, code: Rule) -> Option<Rule> {
+    let whens = when_of(alloc, code)?;
+    let mut rule = rule;
+    if rule.body.len() < 2 {
+        return None;
+    }
+    rule.body.set(
+        1,
+        Elem::Gap(Dots {
+            whens,
+            any: false,
+            strict: false,
+        }),
+    );
+    Some(rule)
 }
 
 /// The expression as a value.
 fn value_of(alloc: Global, expression: &str) -> Option<Value> {
     let text = format!(in alloc; "@@\n@@\n{expression}\n").ok()?;
     let text = lex_patch(alloc, text.as_bytes()).ok()?;
-    let tokens = body_of(alloc, &text, &[])?;
+    let (tokens, _) = body_of(alloc, &text, &[])?;
     Value::term(alloc, parsed(alloc, &tokens)?).ok()
 }
 

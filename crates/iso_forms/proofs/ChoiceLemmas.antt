@@ -88,3 +88,19 @@ pub grown_by-length : (css : List Choice) (fss : List (List Tree)) → AllSome f
 grown_by-length css [] h = omega arith
 grown_by-length css (ts ∷ more) h =
     omega (arith, grown-choices_length css ts h.0, grown_by-length (grown css ts) more h.1)
+
+-- ---- one tree behind each choice
+
+pub grown-append : (css bss : List Choice) (ts : List Tree) → grown (css ++ bss) ts ≡ grown css ts ++ grown bss ts
+grown-append [] bss ts = refl
+grown-append (cs ∷ css) bss ts =
+    ap (λ (x : List Choice). longer cs ts ++ x) (grown-append css bss ts) ∙ sym (append_assoc (longer cs ts) (grown css ts) (grown bss ts))
+
+-- one more choice with the tree
+pub grown-more : (css : List Choice) (cs : Choice) (t : Tree) → grown (css ++ cs ∷ []) (t ∷ []) ≡ grown css (t ∷ []) ++ (cs ++ t ∷ []) ∷ []
+grown-more css cs t = grown-append css (cs ∷ []) (t ∷ [])
+
+-- one tree makes no more choices
+pub grown-one_length : (css : List Choice) (t : Tree) → length (grown css (t ∷ [])) ≡ length css
+grown-one_length [] t = refl
+grown-one_length (cs ∷ css) t = let e = grown-one_length css t in omega (arith, e)

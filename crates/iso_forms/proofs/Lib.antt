@@ -3,6 +3,7 @@ pub mod SpelledLemmas
 pub mod SeenLemmas
 pub mod MatchLemmas
 pub mod ListedLemmas
+pub mod ArrowLemmas
 pub mod ChoiceLemmas
 pub mod FormLemmas
 pub mod FirstLemmas

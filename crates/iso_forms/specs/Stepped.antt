@@ -1,5 +1,6 @@
 -- For inside use: what is kept beside a list of forms, and what the parts of the expander answer.
-use Rattle.std.specs.Prelude.{ℕ, ◌≡◌, ◌≤◌, Bool, true, false, List, [], ◌∷◌, ◌++◌, map, length, Option, Some, None}
+use Rattle.std.specs.Prelude.{ℕ, ◌≡◌, ◌<◌, ◌≤◌, ◌-◌, Bool, true, false, not, nat_lt, take, drop, List, [], ◌∷◌, ◌++◌, map, length, Option, Some, None}
+use Rattle.std.specs.List.{list_all}
 use Rattle.c_terms.specs.declared.tree.Tree.{Tree}
 use Rattle.c_terms.specs.Names.{has_name}
 use Rattle.iso_forms.specs.declared.matching.Bound.{Bound}
@@ -11,6 +12,11 @@ use Rattle.iso_forms.specs.Spelled.{spelled}
 abbrev pub Answers : Bool → List Bound → Option (List Bound) → Type 0
 Answers true bound o = o ≡ Some bound
 Answers false bound o = o ≡ None
+
+-- of the sides before side i those from this one on lead to it by arrows that all go both ways
+pub record IsLowest (both : List Bool) (i low : ℕ) : Type 0 where
+  pub within : low ≤ i
+  pub leads : (j : ℕ) → j < i → list_all (λ b. b) (take (i - j) (drop j both)) ≡ not (nat_lt j low)
 
 -- the choice with each of the trees
 abbrev pub longer : List Tree → List Tree → List (List Tree)

@@ -1,23 +1,24 @@
 // Which side may become which.
-ghost use Rattle.std.specs.Prelude.{◌≡◌, ◌-◌, ◌<◌, take, drop};
-ghost use Rattle.std.specs.List.{list_all};
+ghost use Rattle.std.specs.Prelude.{◌≡◌, Bool, List};
 ghost use Rattle.iso_forms.specs.Replacing as of;
+ghost use Rattle.iso_forms.specs.Stepped.{IsLowest};
 
-fn go_both_ways(both: &[bool], from: usize, to: usize) -> bool
-    requires { from < to }
-    ensures { result ≡ list_all (λ b. b) (take (to - from) (drop from both.now)) }
+/// The lowest side that side `i` may become, or `i` where it may become none below. Linear in the arrows before it.
+pub fn lowest(both: &[bool], i: usize) -> usize
+    ensures { IsLowest both.now i result }
 {
-    for i in from..to.min(both.len()) {
-        if !both[i] {
-            return false;
+    let mut low = 0;
+    for k in 0..i.min(both.len()) {
+        if !both[k] {
+            low = k + 1;
         }
     }
-    true
+    low
 }
 
-/// Whether side `i` may become side `j`. Linear in the arrows between them.
-pub fn may_become(both: &[bool], i: usize, j: usize) -> bool
-    ensures { result ≡ of.may_become both.now i j }
+/// Whether side `i`, of which this is the lowest, may become side `j`.
+pub fn may_become(low: usize, i: usize, j: usize) -> bool
+    ensures { (both : List Bool) → IsLowest both i low → result ≡ of.may_become both i j }
 {
-    i < j || (j < i && go_both_ways(both, j, i))
+    low <= j && j != i
 }

@@ -59,8 +59,8 @@ fn push_longer(
     Ok(())
 }
 
-/// Each choice with each of the trees.
-pub fn grow(
+/// Each choice with each of the trees, all of them copied.
+fn multiplied(
     alloc: Global,
     choices: &[Items<Tree>],
     trees: &[Tree],
@@ -75,6 +75,63 @@ pub fn grow(
         push_longer(alloc, choice.as_slice(), trees, &mut out, limit)?;
     }
     Ok(out)
+}
+
+/// Each choice with a copy of the tree.
+fn with_copies(
+    alloc: Global,
+    choices: Vec<Items<Tree>>,
+    tree: &Tree,
+) -> Result<Vec<Items<Tree>>, NoMemory>
+    ensures { IfOk result (λ css. css.items ≡ grown choices.items (tree.now ∷ [])) }
+{
+    let mut out = Vec::new(alloc);
+    for mut choice in choices {
+        choice.push(tree.copy(alloc)?)?;
+        out.push(choice)?;
+    }
+    Ok(out)
+}
+
+/// Each choice with the tree, which the last of them takes itself.
+fn lengthen(
+    alloc: Global,
+    mut choices: Vec<Items<Tree>>,
+    tree: Tree,
+) -> Result<Vec<Items<Tree>>, NoMemory>
+    ensures { IfOk result (λ css. css.items ≡ grown choices.items (tree ∷ [])) }
+{
+    match choices.pop() {
+        None => Ok(choices),
+        Some(mut last) => {
+            let mut out = with_copies(alloc, choices, &tree)?;
+            last.push(tree)?;
+            out.push(last)?;
+            Ok(out)
+        }
+    }
+}
+
+/// Each choice with each of the trees. One tree alone makes each choice longer; where there are more, all choices are copied.
+pub fn grow(
+    alloc: Global,
+    choices: Vec<Items<Tree>>,
+    trees: Items<Tree>,
+    limit: usize,
+) -> Result<Vec<Items<Tree>>, FormsFault>
+    requires { length choices.items ≤ limit }
+    ensures all { IfOk result (λ css. css.items ≡ grown choices.items trees) }
+    ensures few { IfOk result (λ css. length css.items ≤ limit) }
+    ensures refused { IfErr result (Refused limit (grown choices.items trees)) }
+{
+    if trees.len() != 1 {
+        return multiplied(alloc, choices.as_slice(), trees.as_slice(), limit);
+    }
+    let mut trees = trees;
+    match trees.pop() {
+        None => Ok(choices),
+        Some(only) => Ok(lengthen(alloc, choices, only)?),
+    }
 }
 
 /// Branches of the label, by their children.

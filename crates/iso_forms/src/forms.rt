@@ -48,9 +48,9 @@ fn branch_forms(
 /// - `TooMany`: it has more than `limit` forms.
 /// - `NoMemory`: memory was refused.
 ///
-/// Child by child each choice is copied with the trees in it, so a branch of n children takes n * n / 2 copies. A tree is held
-/// against every side of every isomorphism, and for a side that it matches every other side is looked at, with the arrows
-/// between the two. Recurses once a level.
+/// Linear in the children of a branch in which no child has a second form; where one has, each choice is copied for each of its
+/// forms. A tree is held against every side of every isomorphism, and for a side that it matches every other side is looked at.
+/// Recurses once a level.
 pub fn forms_of(
     alloc: Global,
     isos: &[Iso],
@@ -69,7 +69,7 @@ pub fn forms_of(
             let mut choices = no_choice(alloc)?;
             for child in children.as_slice() {
                 let ways = forms_of(alloc, isos, tokens, child, limit)?;
-                choices = grow(alloc, choices.as_slice(), ways.as_slice(), limit)?;
+                choices = grow(alloc, choices, ways, limit)?;
             }
             branch_forms(alloc, isos, tokens, *label, choices, limit)
         }

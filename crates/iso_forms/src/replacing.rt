@@ -7,7 +7,7 @@ ghost use Rattle.iso_forms.specs.Forms.{Refused};
 ghost use Rattle.iso_forms.specs.Stepped.{Has};
 
 use crate::FormsFault;
-use crate::arrows::may_become;
+use crate::arrows::{lowest, may_become};
 use crate::listed::Listed;
 use crate::making::{first_id, made};
 use crate::matching::{Bound, matches};
@@ -49,8 +49,9 @@ fn add_targets(
     ensures forms { OnOk result (Has limit forms.new (of.with_forms forms.old.list (by.targets_from iso.now.both bound.now id i 0 iso.now.sides))) }
     ensures refused { IfErr result (Refused limit (of.with_forms forms.old.list (by.targets_from iso.now.both bound.now id i 0 iso.now.sides))) }
 {
+    let low = lowest(iso.both.as_slice(), i);
     for (j, side) in iso.sides.as_slice().iter().enumerate() {
-        if may_become(iso.both.as_slice(), i, j) {
+        if may_become(low, i, j) {
             let tree = made(alloc, bound, id, side)?;
             forms.add(alloc, tree, limit)?;
         }

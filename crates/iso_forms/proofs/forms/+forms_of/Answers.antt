@@ -1,16 +1,12 @@
-use Rattle.std.proofs.Common.{◌≡◌, ℕ, List, [], drop, sym, ap, subst, ◌∙◌, arith, IfOk, IfErr}
+use Rattle.std.proofs.Common.{◌≡◌, List, [], drop, sym, ap, subst, ◌∙◌, arith, IfOk, IfErr}
 use Rattle.std.proofs.lemmas.List.{drop_all}
 use Rattle.std.proofs.lemmas.Result.{err_from_is_err_and}
 use Rattle.c_terms.specs.declared.tree.Tree.{Tree}
 use Rattle.c_terms.specs.declared.tree.Tree.TheVariants.{Branch}
-use Rattle.iso_forms.specs.declared.fault.FormsFault.{FormsFault}
 use Rattle.iso_forms.specs.Forms.{forms, of_choices, Refused}
 use Rattle.iso_forms.specs.Stepped.{grown}
 use Rattle.iso_forms.proofs.FormLemmas.{child_more, grow_refused, child_refused, more_choices, whole_branch, refused_tree}
 use Rattle.iso_forms.proofs.forms.+forms_of.Goals as goal
-
-refused_same : (limit : ℕ) (xs ys : List (List Tree)) (f : FormsFault) → xs ≡ ys → Refused limit xs f → Refused limit ys f
-refused_same limit xs ys f e r = subst (λ (x : List (List Tree)). Refused limit x f) e r
 
 pub returns-in_err-ways-in-Branch-clause-refused : goal.returns-in_err-ways-in-Branch-clause-refused
 returns-in_err-ways-in-Branch-clause-refused t c =
@@ -34,9 +30,7 @@ returns-in_err-choices-in-Branch-2-clause-refused t c =
     let ways = c.in_ok-ways-in-Branch.ways in
     let tree : c.args.tree.now ≡ Branch l cs = c.in-Branch.is ∙ ap (Branch l) (sym c.as_slice-child-items.ensures) in
     let f = c.in_err-choices-in-Branch-2.field-0.0 in
-    let same : grown c.as_slice.result.now c.as_slice-in-loop-child.result.now ≡ grown css ways =
-    ap (λ (xs : List (List Tree)). grown xs c.as_slice-in-loop-child.result.now) c.as_slice.ensures.value ∙ ap (grown css) c.as_slice-in-loop-child.ensures in
-    let r : Refused c.args.limit (grown css ways) f = refused_same c.args.limit (grown c.as_slice.result.now c.as_slice-in-loop-child.result.now) (grown css ways) f same c.in_err-choices-in-Branch-2.ensures.refused in
+    let r : Refused c.args.limit (grown css ways) f = c.in_err-choices-in-Branch-2.ensures.refused in
     let p = err_from_is_err_and c.from_residual-in_err-choices-in-Branch-2.result c.from_residual-in_err-choices-in-Branch-2.ensures.1 in
     rw (p.1, p.2) (refused_tree tokens isos c.args.limit c.args.tree.now (Branch l cs) f tree
     (grow_refused tokens isos c.args.limit l cs c.loop-child.child-index c.child-item.result css ways f
@@ -51,7 +45,7 @@ loop-child-preserved t c =
     let next = c.in_ok-choices-in-Branch-2.choices.items in
     let ways = c.in_ok-ways-in-Branch.ways in
     let w : ways ≡ forms tokens isos c.child-item.result = c.in_ok-ways-in-Branch.ensures.forms in
-    let n : next ≡ grown css ways = c.in_ok-choices-in-Branch-2.ensures.all ∙ (ap (λ (xs : List (List Tree)). grown xs c.as_slice-in-loop-child.result.now) c.as_slice.ensures.value ∙ ap (grown css) c.as_slice-in-loop-child.ensures) in
+    let n : next ≡ grown css ways = c.in_ok-choices-in-Branch-2.ensures.all in
     record {
       rest = sym (child_more tokens isos cs c.loop-child.child-index c.child-item.result css next ways c.loop-child-test.true c.child-item.is w n) ∙ c.loop-child.invariant.rest;
       few = c.in_ok-choices-in-Branch-2.ensures.few;

@@ -1,6 +1,6 @@
 use Rattle.std.proofs.Common.{◌≡◌, ◌≤◌, ◌++◌, drop, length}
 use Rattle.iso_forms.specs.Stepped.{grown}
-use Rattle.iso_forms.proofs.choices.grow.Given as goal
+use Rattle.iso_forms.proofs.choices.multiplied.Given as goal
 
 abbrev pub invariant-loop-choice : goal.invariant-loop-choice
 invariant-loop-choice l = record {

@@ -1,5 +1,5 @@
 -- What holds of each rule is what the chain asks of it.
-use Rattle.std.proofs.Common.{◌≡◌, sym, subst, List, [], ◌∷◌}
+use Rattle.std.proofs.Common.{sym, subst, List, [], ◌∷◌}
 use Rattle.std.specs.Prelude.{All}
 use Rattle.std.specs.List.{AllZip}
 use Rattle.std.proofs.lemmas.List.Elements.{All-head, All-tail}
@@ -16,7 +16,7 @@ use Rattle.rule_chain.specs.Asked.{MayRun}
 
 same-apart : (xs inherited : List Var) → apart.AreApart xs inherited → AreApart xs inherited
 same-apart [] inherited h = tt
-same-apart (x ∷ xs) inherited h = (h.0, (h.1.0, same-apart xs inherited h.1.1))
+same-apart (x ∷ xs) inherited h = (h.0, h.1, same-apart xs inherited h.2)
 
 one-may : (r : Rule) (p : PreparedRule) → ready.MayRun r → IsPrepared r p → MayRun r p
 one-may r p may is = record {

@@ -1,0 +1,3 @@
+-- What the laws rest on: ids that differ, values of tokens of C.
+pub mod Differ
+pub mod Values

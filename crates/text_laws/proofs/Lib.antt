@@ -1,0 +1,11 @@
+-- Lemmas: ids of pages, tokens that forms are aligned with, numbers of tokens that stand apart, edits that leave Strays, plus
+-- code at touches, fair edits, the new text cut again.
+pub mod PageIds
+pub mod Aligned
+pub mod Places
+pub mod Strays
+pub mod Touched
+pub mod FairEdits
+pub mod BareCount
+pub mod Again
+pub mod SoundTouches

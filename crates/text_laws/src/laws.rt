@@ -1,0 +1,63 @@
+// Laws of the texts that edits make. The functions do nothing.
+ghost use Rattle.std.specs.Prelude.{◌≡◌, ◌<◌, ◌≤◌, ◌+◌, ℕ, List, All, length};
+ghost use Rattle.c_lexer.specs.Pieces.{TextPiece};
+ghost use Rattle.c_lexer.specs.Lexes.{Cuts, Lexes};
+ghost use Rattle.c_lexer.specs.Ids.{ids_of};
+ghost use Rattle.cpp_lines.specs.declared.reading.Item.{Item};
+ghost use Rattle.cfg_graph.specs.declared.label.NodeKind.{NodeKind};
+ghost use Rattle.smpl_patch.specs.declared.rule.Rule.{Rule};
+ghost use Rattle.smpl_patch.specs.declared.witness.RuleWitness.{RuleWitness};
+ghost use Rattle.edit_conflict.specs.declared.edit.Edit.{Edit};
+ghost use Rattle.edit_unparse.specs.Fair.{Fair};
+ghost use Rattle.edit_walk.specs.Touches.{touches};
+ghost use Rattle.edit_walk.specs.Edited.{AreEdits};
+ghost use Rattle.edit_walk.specs.Fit.{HaveSoundTouches};
+ghost use Rattle.rule_edits.specs.Pages.{page_after};
+ghost use Rattle.c_file.specs.Reads.{Reads};
+ghost use Rattle.output_laws.specs.Differ.{AllDiffer};
+ghost use Rattle.text_laws.specs.Sound.{HavePlusCode, HasCTerms};
+
+use reading_laws::trees_are_sound;
+
+/// Where the tokens of a text have different ids, all below the next one, so have those of the page that edits leave. Does
+/// nothing.
+pub fn ids_stay_apart()
+    ensures { (next : ℕ) (pieces : List TextPiece) (edits : List Edit) → AllDiffer (ids_of pieces)
+        → All (λ id. id < next) (ids_of pieces) → AllDiffer (page_after next pieces edits).ids }
+{}
+
+/// The page that edits leave has no more ids than bytes, and the next id rises by no more than there are ids. Does nothing.
+pub fn ids_stay_few()
+    ensures ids { (next : ℕ) (pieces : List TextPiece) (edits : List Edit) → Cuts pieces
+        → length (page_after next pieces edits).ids ≤ length (page_after next pieces edits).bytes }
+    ensures next { (next : ℕ) (pieces : List TextPiece) (edits : List Edit) →
+        (page_after next pieces edits).next ≤ next + length (page_after next pieces edits).ids }
+{}
+
+/// The edits of witnesses of a reading of the text are fair: their texts are blanks and tokens of C that are no Strays, and
+/// what stands behind a Stray stays. Asks that plus code and values are of such tokens at the touches. Does nothing.
+pub fn edits_are_fair()
+    ensures { (found : List RuleWitness) (rule : Rule) (items : List Item) (kinds : List (List NodeKind))
+        (pieces : List TextPiece) (edits : List Edit) → Cuts pieces → Reads pieces items
+        → AllDiffer (ids_of pieces) → HaveSoundTouches rule (touches found)
+        → AreEdits found rule items kinds pieces edits → Fair pieces edits }
+{
+    trees_are_sound();
+}
+
+/// Where plus code and the values of witnesses are of tokens of C, they are so at each touch. Does nothing.
+pub fn touches_are_sound()
+    ensures { (rule : Rule) (found : List RuleWitness) → HavePlusCode rule.tokens → All HasCTerms found
+        → HaveSoundTouches rule (touches found) }
+{}
+
+/// After the edits of witnesses, the text is cut into as many tokens as it has ids. Does nothing.
+pub fn text_keeps_its_tokens()
+    ensures { (found : List RuleWitness) (rule : Rule) (items : List Item) (kinds : List (List NodeKind))
+        (pieces : List TextPiece) (edits : List Edit) (next : ℕ) (again : List TextPiece) → Cuts pieces
+        → Reads pieces items → AllDiffer (ids_of pieces) → HaveSoundTouches rule (touches found)
+        → AreEdits found rule items kinds pieces edits → Lexes (page_after next pieces edits).bytes again
+        → length (ids_of again) ≡ length (page_after next pieces edits).ids }
+{
+    trees_are_sound();
+}

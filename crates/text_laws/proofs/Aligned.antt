@@ -12,7 +12,8 @@ use Rattle.c_terms.specs.declared.tree.Tree.TheOpen.{Tree-F}
 use Rattle.c_terms.specs.Shapes.{shape_of}
 use Rattle.c_terms.specs.Lists.{members}
 use Rattle.c_terms.proofs.Induct.{Each, tree_induction}
-use Rattle.output_laws.proofs.TreeTokens.{Have, TreeHas, Layer, layer, SomeTreeHas, kid_at, child_has, SomeHas, MembersHave, members_have, take_have, drop_have, run_has}
+use Rattle.output_laws.proofs.TreeTokens.{Have, TreeHas, Layer, layer, SomeTreeHas, kid_at, child_has, SomeHas, MembersHave, members_have}
+use Rattle.output_laws.proofs.TreeTokens.{take_have, drop_have, run_has}
 use Rattle.cfg_graph.specs.declared.label.NodeKind.{NodeKind}
 use Rattle.cfg_graph.specs.declared.label.NodeKind.TheVariants as node_kind
 use Rattle.cfg_graph.specs.Own.{is_own}

@@ -1,0 +1,2 @@
+-- Isomorphisms under which sound patches stay sound.
+pub mod Fine

@@ -1,7 +1,0 @@
-//! Tests from patches and files to new texts. There is nothing else in this crate, and nothing of it is for use.
-//!
-//! They stand here and not in the crates, since a crate with tests is proved twice.
-#![tactic(auto)]
-
-#[cfg(test)]
-mod rows;

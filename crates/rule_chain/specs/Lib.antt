@@ -2,4 +2,5 @@
 pub mod Chain
 pub mod Results
 pub mod Asked
+-- For inside use: the rules over one reading.
 pub mod Stops

@@ -176,7 +176,11 @@ fn over_readings(
 /// - `TooManyEnvironments`: more than 10,000 environments come out.
 /// - `Conflict`: two edits clash, first at the token of this id.
 /// - `FileTooLong`: the new text has more than 16,777,216 bytes.
-/// - `NoMemory`: memory was refused.
+/// - `NoMemory`: memory was refused; or ids go beyond 2^62, a reading has more than 2^32 items, or the new text isn't cut into as
+///   many tokens as it has ids.
+///
+/// All but the last carry the rule's number, from 0. Costs one [`rule_work::work`] a rule, and one reading of the text at first and
+/// after each rule that edits and is followed by another.
 pub fn apply(
     alloc: Global,
     patch: &Patch,

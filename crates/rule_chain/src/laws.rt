@@ -7,7 +7,7 @@ use c_file::read_once;
 use c_lexer::cut_once;
 use edit_walk::witnesses_have_one_list;
 
-/// The rules over a text have one end: nothing else decides it. Does nothing.
+/// The rules over a text have no two ends. Does nothing.
 pub fn chain_has_one_end()
     ensures { (rules : List Rule) (defined : List (List ℕ)) (bytes : List ℕ) (end other : Outcome) →
         Chain rules defined bytes end → Chain rules defined bytes other → end ≡ other }

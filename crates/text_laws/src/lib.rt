@@ -1,5 +1,5 @@
-//! Laws of the texts that the edits of a rule make: what ids their tokens have, and that a text is cut again into the tokens
-//! that it was put together from.
+//! Laws of the texts that the edits of a rule make: what ids their tokens have, and that a text is cut again into as many tokens
+//! as it has ids.
 //!
 //! - [`ids_stay_apart`], [`ids_stay_few`]: no two tokens of a page have one id, and there are no more ids than bytes.
 //! - [`edits_are_fair`], [`touches_are_sound`]: the edits of witnesses leave what stands behind Strays, and their texts are of

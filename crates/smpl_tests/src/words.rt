@@ -1,6 +1,6 @@
-// What tests are made of: texts, tokens, variables, and faults as numbers.
+// What tests are made of: texts, tokens and variables.
 use c_terms::{MetaKind, NoMemory, Text, Token, TokenKind, Tree};
-use smpl_patch::{PatchFault, VarDecl, VarKind, fault_number, fault_place};
+use smpl_patch::{VarDecl, VarKind};
 use smpl_terms::Var;
 use sqlite_items::Items;
 use std::alloc::Global;
@@ -36,12 +36,4 @@ pub fn expression(alloc: Global, name: &str) -> Result<VarDecl, NoMemory> {
         not_names: Items::new(alloc),
         not_places: Items::new(alloc),
     })
-}
-
-/// The number and the place of the fault, zeros where there is none.
-pub fn numbers_of<T: Drop>(answer: Result<T, PatchFault>) -> (u8, u32) {
-    match answer {
-        Ok(_) => (0, 0),
-        Err(fault) => (fault_number(&fault), fault_place(&fault)),
-    }
 }

@@ -1,0 +1,1 @@
+void k(void) { a(); if (c) p(); if (c) p(); if (c) p(); if (c) p(); b(); }

@@ -1,0 +1,1 @@
+void k(void) { a(); while (1) g(); b(); }

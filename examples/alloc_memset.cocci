@@ -1,7 +1,10 @@
 @@
 expression p, size, flags;
+identifier field;
 @@
-- p = kmalloc(size, flags);
-+ p = kzalloc(size, flags);
-  ... when != p
+  p =
+- kmalloc
++ kzalloc
+  (size, flags);
+  ... when != p->field
 - memset(p, 0, size);

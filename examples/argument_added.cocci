@@ -1,5 +1,6 @@
 @@
 expression clk, rate;
 @@
-- clk_set(clk, rate)
-+ clk_set(clk, rate, CLK_DEFAULT)
+  clk_set(clk, rate
+- )
++ , CLK_DEFAULT)

@@ -1,5 +1,6 @@
 @@
 expression dev, size;
 @@
-- devm_alloc(dev, size)
-+ devm_zeroed(dev, size)
+- devm_alloc
++ devm_zeroed
+  (dev, size)

@@ -1,8 +1,10 @@
 @exists@
 expression l;
 @@
-- mutex_lock(l);
-+ queue_lock(l);
+- mutex_lock
++ queue_lock
+  (l);
   ... when != mutex_lock(l)
-- mutex_unlock(l);
-+ queue_unlock(l);
+- mutex_unlock
++ queue_unlock
+  (l);

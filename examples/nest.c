@@ -7,3 +7,9 @@ int load(int n)
 	}
 	return n;
 }
+
+static void store(void)
+{
+	if (is_full())
+		trace_enter();
+}

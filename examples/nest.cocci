@@ -1,11 +1,13 @@
-@@
+@exists@
 type T;
 identifier f;
 @@
   T f(...)
   {
   <...
-- trace_enter();
-+ trace(f);
+  trace_enter(
+- )
++ f)
+  ;
   ...>
   }

@@ -1,6 +1,24 @@
-void use(struct node *n)
+void one(struct port *p)
 {
-	get_ref(n);
-	mark(n, OLD);
-	get_ref(n, OLD);
+	lock(p);
+	irq_off();
+	release(p);
+	irq_on();
+	unlock(p);
+}
+
+void two(struct port *p)
+{
+	irq_off();
+	lock(p);
+	release(p);
+	unlock(p);
+	irq_on();
+}
+
+void three(struct port *p)
+{
+	irq_off();
+	release(p);
+	irq_on();
 }

@@ -1,17 +1,17 @@
-@known@
+@held exists@
+expression l, x;
 position p;
 @@
-  get_ref(...)@p
+  lock(l);
+  ... when != unlock(l)
+  release(x)@p;
 
-@r@
-position q != known.p;
-identifier f;
-@@
-  f(...)@q
-
-@depends on known@
-identifier r.f;
+@exists@
 expression x;
+position held.p;
 @@
-- f(x, OLD)
-+ f(x, NEW)
+  irq_off();
+  ... when != irq_on()
+- release
++ release_fast
+  (x)@p;

@@ -1,0 +1,6 @@
+@leak@
+expression buf, size, E;
+@@
+* buf = get_buffer(size);
+  ... when != put_buffer(buf)
+* return E;

@@ -1,0 +1,8 @@
+@@
+expression p;
+@@
+  if (p == NULL)
+  return
+- 0
++ -ENODEV
+  ;

@@ -48,7 +48,7 @@ passes_at ds i n low so past = sym (so ∙ (at_place ds i n low ∙ too_large n 
 pub goes_on : (ds : List ℕ) (i n : ℕ) → i < length ds → number_in ds ≡ number_from n (drop i ds) → is_digit (get_or ds i 0) ≡ true → (m : ℕ)
     → m ≡ n * 10 + (get_or ds i 0 - 48)
     → number_in ds ≡ number_from m (drop (i + 1) ds)
-goes_on ds i n low so digit m is = so ∙ (at_place ds i n low ∙ (one_digit n (get_or ds i 0) (drop (i + 1) ds) yes
+goes_on ds i n low so digit m is = so ∙ (at_place ds i n low ∙ (one_digit n (get_or ds i 0) (drop (i + 1) ds) digit
     ∙ ap (λ k. number_from k (drop (i + 1) ds)) (sym is)))
 
 pub ends_at : (ds : List ℕ) (i n : ℕ) → length ds ≤ i → n < 2 ^ 64 → number_in ds ≡ number_from n (drop i ds) → Some n ≡ number_in ds

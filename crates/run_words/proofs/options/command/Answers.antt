@@ -1,7 +1,7 @@
 use Rattle.std.proofs.Common.{◌≡◌, ◌∙◌, ap, ap₂, true, codes}
 use Rattle.std.proofs.lemmas.Result.{IfOk-weaker}
 use Rattle.clap.specs.Simple.{Shape, app_of, app_of_fields, new_app, on_top, with_rule}
-use Rattle.run_words.specs.Commands.{bare_app, files_new, flag_new, spatch_app, valued_new}
+use Rattle.run_words.specs.Commands.{bare_app, spatch_app, valued_new}
 use Rattle.run_words.proofs.options.command.Goals as goal
 
 pub returns : goal.returns

@@ -1,5 +1,5 @@
-use Rattle.std.proofs.Common.{◌≡◌, ◌∙◌, ap, sym, subst, map, [], inl, inr, List, ℕ}
-use Rattle.clap.specs.Words.{App, app_of, found_of, is_simple, matches_of, fault_of, is_simple_and_free, kind_of, HasKind, IsAmong, Kinds}
+use Rattle.std.proofs.Common.{◌≡◌, ◌∙◌, ap, sym, subst, map, [], inl, inr}
+use Rattle.clap.specs.Words.{app_of, found_of, is_simple, matches_of, fault_of, is_simple_and_free, kind_of, HasKind, IsAmong, Kinds}
 use Rattle.clap.specs.declared.error.kind.ErrorKind.TheVariants.{OutOfMemory}
 use Rattle.clap.specs.declared.error.Error.{Error}
 use Rattle.run_words.specs.Commands.{spatch_app}

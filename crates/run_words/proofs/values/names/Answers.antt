@@ -1,6 +1,6 @@
 use Rattle.std.proofs.Common.{◌≡◌, ◌∙◌, ◌≤◌, ◌<◌, ◌∷◌, ◌++◌, [], true, false, Some, sym, ap, take, drop, length, arith}
 use Rattle.std.specs.List.{prefix_len}
-use Rattle.std.proofs.lemmas.List.{length-drop, take_rest}
+use Rattle.std.proofs.lemmas.List.{take_rest}
 use Rattle.run_words.specs.Values.{is_c_name}
 use Rattle.run_words.proofs.Names.{is_no_comma, so_far_begin, so_far_last, so_far_more, so_far_none}
 use Rattle.run_words.proofs.values.names.Goals as goal

@@ -1,4 +1,4 @@
-use Rattle.std.proofs.Common.{◌≡◌, ◌∙◌, ap, sym, subst, map, IsUtf8}
+use Rattle.std.proofs.Common.{◌∙◌, ap, sym, subst, map, IsUtf8}
 use Rattle.run_words.proofs.Texts.{more_same, more_text, no_text}
 use Rattle.run_words.proofs.words.texts_of.Goals as goal
 

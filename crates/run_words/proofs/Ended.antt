@@ -1,5 +1,5 @@
 -- What a parse of the command gives, and what the grammar says of the words: one thing.
-use Rattle.std.proofs.Common.{◌≡◌, ◌∙◌, refl, sym, ap, subst, ℕ, Bool, true, false, cond, ◌&&◌, List, [], ◌∷◌, ◌++◌, Option, Some, None, codes, fold, is_some, slice_get, option_map, option_and_then, IfSome, inl, inr, true≢false}
+use Rattle.std.proofs.Common.{◌≡◌, ◌∙◌, refl, sym, ap, Bool, true, false, cond, List, [], ◌∷◌, ◌++◌, Option, Some, None, codes, fold, is_some, slice_get, option_map, option_and_then, IfSome, inl, inr, true≢false}
 use Rattle.std.specs.List.{list_all}
 use Rattle.std.specs.Str.{bytes_eq, is_utf8}
 use Rattle.std.specs.Option.{option_map_or}
@@ -9,7 +9,7 @@ use Rattle.std.proofs.lemmas.Slice.Eq.{bytes_eq-Decides}
 use Rattle.c_lexer.specs.Words.{is_in}
 use Rattle.clap.specs.Kinds.{Kinds, or_else}
 use Rattle.clap.specs.Walk.{Row, Rule, Text, all_of, first_of, has_row, more_values, nothing_held, one_of, reading_by, row_text, rows_of, settled_rows, walk_from, walked, with_default}
-use Rattle.clap.specs.Faults.{default_fault, defaults_fault, entered_fault, fault_of, given_default_fault, level_fault, settle_fault, walk_fault}
+use Rattle.clap.specs.Faults.{defaults_fault, entered_fault, fault_of, given_default_fault, level_fault, settle_fault, walk_fault}
 use Rattle.clap.specs.Simple.{built, entered, matches_of}
 use Rattle.clap.specs.Words.{first_value, matched_of, one_text, raw_values}
 use Rattle.clap.specs.Values.{bool_text}
@@ -23,7 +23,7 @@ use Rattle.run_words.specs.Shown.{IsFound}
 use Rattle.run_words.proofs.Rules.{file_rule, flag_rule, of_one, spatch, spatch_rules, spatch_serves, valued_rule}
 use Rattle.run_words.proofs.Walks.{guard, guard_or, or_none, put_all, says_walk, walk_says}
 use Rattle.run_words.proofs.Known.{AreKnown, parts_known}
-use Rattle.run_words.proofs.Rows.{at_new, files_all, files_at, first_some, flag_found, flag_row, found_in, has_look, look, look_all, look_append, none_first, some_all, value_found}
+use Rattle.run_words.proofs.Rows.{at_new, files_all, first_some, flag_found, flag_row, has_look, look, look_all, look_append, none_first, some_all, value_found}
 
 -- ---- the rows at the end
 

@@ -1,5 +1,5 @@
 -- Names of C, and names between commas.
-use Rattle.std.proofs.Common.{◌≡◌, ◌∙◌, refl, sym, ap, subst, eq-eqb, ne_eqb, nat_eq, ℕ, suc, one-add, add-one, ◌+◌, ◌-◌, ◌<◌, ◌≤◌, ◌==◌, Bool, true, false, cond, not, ◌&&◌, List, [], ◌∷◌, ◌++◌, length, take, drop, take_all, take-append-drop, length-drop, append_assoc, Option, Some, None, option_map, IsTrue, Contains, inl, inr, arith, true≢false}
+use Rattle.std.proofs.Common.{◌≡◌, ◌∙◌, refl, sym, ap, subst, eq-eqb, ne_eqb, nat_eq, ℕ, suc, one-add, add-one, ◌+◌, ◌-◌, ◌<◌, ◌≤◌, ◌==◌, Bool, true, false, cond, not, List, [], ◌∷◌, ◌++◌, length, take, drop, take_all, take-append-drop, length-drop, append_assoc, Option, Some, None, option_map, inl, inr, arith, true≢false}
 use Rattle.std.specs.List.{list_all, prefix_len}
 use Rattle.std.proofs.lemmas.Bool.{and_parts, and_from, cases_Bool, cases_lt, not-true, not_from_false, false_from_ne_true}
 use Rattle.std.proofs.lemmas.List.{drop-drop}
@@ -9,7 +9,7 @@ use Rattle.c_lexer.specs.declared.state.Kind.TheVariants as kind
 use Rattle.c_lexer.specs.First.{IsFirst}
 use Rattle.c_lexer.specs.Kinds.{kind_of}
 use Rattle.c_lexer.specs.Names.{AreWordBytes, IsName}
-use Rattle.c_lexer.specs.Words.{is_keyword, is_letter, is_word_byte, keywords}
+use Rattle.c_lexer.specs.Words.{is_keyword, is_word_byte, keywords}
 use Rattle.c_lexer.proofs.Agree.{name_agrees}
 use Rattle.c_lexer.proofs.Each.{contained, is_contained}
 use Rattle.run_words.specs.Values.{between_commas, in_first, is_c_name, names_in}

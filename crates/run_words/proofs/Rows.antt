@@ -1,18 +1,17 @@
 -- What the rows tell that clap made of parts.
-use Rattle.std.proofs.Common.{◌≡◌, ◌∙◌, refl, sym, ap, subst, ℕ, Bool, true, false, cond, not, ◌&&◌, ◌||◌, List, [], ◌∷◌, ◌++◌, append_assoc, append-nil, Option, Some, None, codes, find, is_some, slice_get, option_map, option_and_then, inl, inr}
+use Rattle.std.proofs.Common.{◌≡◌, ◌∙◌, refl, sym, ap, Bool, true, false, cond, not, ◌&&◌, ◌||◌, List, [], ◌∷◌, ◌++◌, append_assoc, append-nil, Option, Some, None, codes, find, is_some, slice_get, option_map, option_and_then, inl, inr}
 use Rattle.std.specs.Str.{bytes_eq}
 use Rattle.std.specs.Option.{option_map_or}
-use Rattle.std.proofs.lemmas.Bool.{cases_Bool, cond-true, cond-false, or_parts}
+use Rattle.std.proofs.lemmas.Bool.{cases_Bool, cond-false, or_parts}
 use Rattle.std.proofs.lemmas.Option.{none-some, same_Some}
 use Rattle.std.proofs.lemmas.Slice.Eq.{bytes_eq-Decides}
 use Rattle.c_lexer.specs.Words.{is_in}
-use Rattle.clap.specs.Walk.{Row, Rule, Text, at_row, has_row, reading_by, used, with_values, without, more_values}
-use Rattle.clap.specs.Faults.{use_fault}
+use Rattle.clap.specs.Walk.{Row, Text, at_row, has_row, reading_by, with_values, more_values}
 use Rattle.clap.specs.declared.parser.matches.ValueSource.TheVariants.{CommandLine}
 use Rattle.run_words.specs.Parts.{Part, Valued, Flag, File, flag_options, valued_options}
 use Rattle.run_words.specs.Options.{are_new, files_in, has_flag, value_of}
 use Rattle.run_words.proofs.Rules.{bytes_eq_sym, flag_rule, file_rule, of_one, valued_rule}
-use Rattle.run_words.proofs.Known.{AreKnown, IsKnown}
+use Rattle.run_words.proofs.Known.{AreKnown}
 use Rattle.run_words.proofs.Walks.{id_of, put, put_all}
 
 -- the row of an id

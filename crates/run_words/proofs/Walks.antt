@@ -1,19 +1,18 @@
 -- The walk of clap over the words makes of them what the grammar says.
-use Rattle.std.proofs.Common.{◌≡◌, ◌∙◌, refl, sym, ap, subst, ℕ, zero, suc, Bool, true, false, cond, ◌&&◌, ◌==◌, List, [], ◌∷◌, map, length, Option, Some, None, codes, encode_utf8_all, slice_get, option_map, option_and_then, inl, inr, true≢false, fold}
-use Rattle.std.specs.List.{list_all, list_any, before_first, after_first}
+use Rattle.std.proofs.Common.{◌≡◌, ◌∙◌, refl, sym, ap, subst, ℕ, Bool, true, false, ◌&&◌, ◌==◌, List, [], ◌∷◌, map, Option, Some, None, codes, encode_utf8_all, slice_get, option_map, option_and_then, inl, inr, true≢false, fold}
+use Rattle.std.specs.List.{list_all}
 use Rattle.std.specs.Char.{encode_utf8}
 use Rattle.std.specs.Str.{bytes_eq, chars, is_utf8, all_scalars}
-use Rattle.std.specs.Option.{option_map_or}
-use Rattle.std.proofs.lemmas.Bool.{and_parts, cases_Bool, cases_eq, ne_eqb, cond-true, cond-false}
+use Rattle.std.proofs.lemmas.Bool.{and_parts, cases_Bool, cases_eq, ne_eqb}
 use Rattle.std.proofs.lemmas.Slice.Eq.{bytes_eq-Decides}
 use Rattle.c_lexer.specs.Words.{is_in}
 use Rattle.clap.specs.declared.error.kind.ErrorKind.TheVariants as kind
 use Rattle.clap.specs.Lexer.{long_of, short_of}
 use Rattle.clap.specs.Kinds.{Kinds, or_else}
-use Rattle.clap.specs.Walk.{Held, Row, Rule, Step, Text, Waiting, Walk, arg_by_id, arg_by_index, arg_by_long, arg_by_short, after_step, bundle_met, idle, long_word, option, plain_word, positional, settled_rows, subcommand_met, to_positional, used, value, walked}
+use Rattle.clap.specs.Walk.{Held, Row, Rule, Step, Text, Waiting, Walk, arg_by_id, arg_by_index, arg_by_long, after_step, idle, long_word, option, plain_word, positional, settled_rows, subcommand_met, to_positional, used, value, walked}
 use Rattle.clap.specs.Faults.{bundle_fault, flags_fault, long_fault, settle_fault, step_fault, turn_fault, use_fault, walk_fault}
 use Rattle.clap.specs.Simple.{Shape}
-use Rattle.run_words.specs.Parts.{Part, Valued, Flag, File, Word, End, Awaits, Has, Bare, Plain, Unknown, after_word, behind_sign, flag_options, is_option, name_part, named, parts_from, value_part, valued_options, word_of}
+use Rattle.run_words.specs.Parts.{Part, Valued, Flag, File, Word, Unknown, after_word, behind_sign, flag_options, is_option, name_part, named, parts_from, value_part, valued_options}
 use Rattle.run_words.proofs.Rules.{Serves, file_rule, flag_rule, valued_rule}
 
 -- ---- a step that may fail

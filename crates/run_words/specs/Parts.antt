@@ -1,5 +1,5 @@
 -- The parts of a command line: options with their values, and words that name files.
-use Rattle.std.specs.Prelude.{ℕ, ◌==◌, Bool, true, false, cond, List, [], ◌∷◌, map, Option, None, Some, option_map, codes}
+use Rattle.std.specs.Prelude.{ℕ, ◌==◌, Bool, false, cond, List, [], ◌∷◌, map, Option, None, Some, option_map, codes}
 use Rattle.std.specs.List.{list_any, before_first, after_first}
 use Rattle.c_lexer.specs.Words.{is_in}
 

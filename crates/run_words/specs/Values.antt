@@ -1,5 +1,5 @@
 -- The values of options.
-use Rattle.std.specs.Prelude.{ℕ, ◌==◌, ◌&&◌, ◌+◌, ◌*◌, ◌-◌, ◌^◌, Bool, true, false, not, cond, nat_le, nat_lt, List, [], ◌∷◌, length, Option, None, Some}
+use Rattle.std.specs.Prelude.{ℕ, ◌==◌, ◌&&◌, ◌+◌, ◌*◌, ◌-◌, ◌^◌, Bool, false, not, cond, nat_le, nat_lt, List, [], ◌∷◌, length, Option, None, Some}
 use Rattle.std.specs.List.{list_all}
 use Rattle.c_lexer.specs.Words.{is_letter, is_digit, is_word_byte, is_keyword}
 

@@ -1,4 +1,4 @@
-use Rattle.std.proofs.Common.{◌≡◌, ◌∙◌, ap, sym, map, option_map, Some, None}
+use Rattle.std.proofs.Common.{◌∙◌, ap, sym, map, option_map, Some, None}
 use Rattle.std.proofs.lemmas.Result.{IfOk-weaker}
 use Rattle.run_words.specs.Shown.{shown_options}
 use Rattle.run_words.proofs.Ordered.{order_told}

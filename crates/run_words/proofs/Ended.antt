@@ -1,5 +1,6 @@
 -- What a parse of the command gives, and what the grammar says of the words: one thing.
-use Rattle.std.proofs.Common.{◌≡◌, ◌∙◌, refl, sym, ap, Bool, true, false, cond, List, [], ◌∷◌, ◌++◌, Option, Some, None, codes, fold, is_some, slice_get, option_map, option_and_then, IfSome, inl, inr, true≢false}
+use Rattle.std.proofs.Common.{◌≡◌, ◌∙◌, refl, sym, ap, Bool, true, false, cond, List, [], ◌∷◌, ◌++◌, Option, Some, None, codes, fold, is_some, slice_get}
+use Rattle.std.proofs.Common.{option_map, option_and_then, IfSome, inl, inr, true≢false}
 use Rattle.std.specs.List.{list_all}
 use Rattle.std.specs.Str.{bytes_eq, is_utf8}
 use Rattle.std.specs.Option.{option_map_or}
@@ -8,7 +9,8 @@ use Rattle.std.proofs.lemmas.Option.{none-some, same_Some}
 use Rattle.std.proofs.lemmas.Slice.Eq.{bytes_eq-Decides}
 use Rattle.c_lexer.specs.Words.{is_in}
 use Rattle.clap.specs.Kinds.{Kinds, or_else}
-use Rattle.clap.specs.Walk.{Row, Rule, Text, all_of, first_of, has_row, more_values, nothing_held, one_of, reading_by, row_text, rows_of, settled_rows, walk_from, walked, with_default}
+use Rattle.clap.specs.Walk.{Row, Rule, Text, all_of, first_of, has_row, more_values, nothing_held, one_of, reading_by, row_text, rows_of, settled_rows}
+use Rattle.clap.specs.Walk.{walk_from, walked, with_default}
 use Rattle.clap.specs.Faults.{defaults_fault, entered_fault, fault_of, given_default_fault, level_fault, settle_fault, walk_fault}
 use Rattle.clap.specs.Simple.{built, entered, matches_of}
 use Rattle.clap.specs.Words.{first_value, matched_of, one_text, raw_values}

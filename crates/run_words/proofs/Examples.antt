@@ -1,5 +1,9 @@
 -- The definitions at words that are written out, above all where another reading would differ.
-use Rattle.std.specs.Prelude.{◌≡◌, [], ◌∷◌, Some, None, refl, codes}
+use Rattle.std.specs.Prelude.{◌≡◌, [], ◌∷◌, true, false, Some, None, refl, codes}
+use Rattle.std.specs.Char.{encode_utf8}
+use Rattle.std.specs.Str.{chars, is_utf8}
+use Rattle.run_words.specs.Options.{options_of}
+use Rattle.run_words.specs.Orders.{Apply, Generate, OnFiles, OnText, order_of, ordered}
 use Rattle.run_words.specs.Parts.{Valued, Flag, File, parts_from, parts_of}
 use Rattle.run_words.specs.Values.{count_in, names_in, seed_in}
 
@@ -59,3 +63,46 @@ comma_last = refl
 
 keyword : names_in (codes "a,if") ≡ None
 keyword = refl
+
+-- ---- options together
+
+twice : options_of (codes "--jobs=1" ∷ codes "k.c" ∷ codes "--jobs" ∷ codes "1" ∷ []) ≡ None
+unfolding options_of parts_from
+twice = refl
+
+a_file : order_of (codes "k.c" ∷ codes "--sp-file=p" ∷ codes "--witnesses" ∷ [])
+    ≡ Some (Apply (codes "p") None [] (OnFiles (record { witnesses = true; in_place = false }) (codes "k.c" ∷ [])))
+unfolding order_of ordered options_of parts_from is_utf8 chars encode_utf8
+a_file = refl
+
+no_file : order_of (codes "--sp-file=p" ∷ []) ≡ None
+unfolding order_of ordered options_of parts_from is_utf8 chars encode_utf8
+no_file = refl
+
+-- an empty value is refused, an empty word names a file
+empty_value : order_of (codes "--sp-file=" ∷ codes "k.c" ∷ []) ≡ None
+unfolding order_of ordered options_of parts_from is_utf8 chars encode_utf8
+empty_value = refl
+
+empty_word : order_of (codes "--sp-file=p" ∷ [] ∷ []) ≡ Some (Apply (codes "p") None [] (OnFiles (record { witnesses = false; in_place = false }) ([] ∷ [])))
+unfolding order_of ordered options_of parts_from is_utf8 chars encode_utf8
+empty_word = refl
+
+-- jobs go with a patch alone
+a_text : order_of (codes "--generate=1" ∷ codes "--functions=2" ∷ []) ≡ Some (Generate 1 2)
+unfolding order_of ordered options_of parts_from is_utf8 chars encode_utf8
+a_text = refl
+
+jobs_of_a_text : order_of (codes "--generate=1" ∷ codes "--functions=2" ∷ codes "--jobs=3" ∷ []) ≡ None
+unfolding order_of ordered options_of parts_from is_utf8 chars encode_utf8
+jobs_of_a_text = refl
+
+a_patch_on_a_text : order_of (codes "--generate=1" ∷ codes "--functions=2" ∷ codes "--jobs=3" ∷ codes "--sp-file=p" ∷ []) ≡ Some (Apply
+    (codes "p") None [] (OnText 1 2))
+unfolding order_of ordered options_of parts_from is_utf8 chars encode_utf8
+a_patch_on_a_text = refl
+
+-- a word that isn't UTF-8
+no_text : order_of (codes "--sp-file=p" ∷ (255 ∷ []) ∷ []) ≡ None
+unfolding order_of is_utf8 chars encode_utf8
+no_text = refl

@@ -2,7 +2,8 @@
 use Rattle.std.proofs.Common.{◌≡◌, ℕ, true, cond, eqb, List, [], ◌∷◌, map, Option, Some, None, IfSome, option_map}
 use Rattle.std.proofs.lemmas.Bool.{cond_both}
 use Rattle.c_lexer.specs.Words.{is_in}
-use Rattle.run_words.specs.Parts.{Part, Valued, Flag, File, Word, End, Awaits, Has, Bare, Plain, Unknown, after_word, behind_sign, flag_options, is_option, name_part, named, option_word, parts_from, value_part, valued_options, word_of}
+use Rattle.run_words.specs.Parts.{Part, Valued, Flag, File, Word, End, Awaits, Has, Bare, Plain, Unknown, after_word, behind_sign, flag_options, is_option}
+use Rattle.run_words.specs.Parts.{name_part, named, option_word, parts_from, value_part, valued_options, word_of}
 
 abbrev pub IsKnown : Part → Type 0
 IsKnown (Valued name value) = is_in valued_options name ≡ true

@@ -1,5 +1,7 @@
 -- Names of C, and names between commas.
-use Rattle.std.proofs.Common.{◌≡◌, ◌∙◌, refl, sym, ap, subst, eq-eqb, ne_eqb, nat_eq, ℕ, suc, one-add, add-one, ◌+◌, ◌-◌, ◌<◌, ◌≤◌, ◌==◌, Bool, true, false, cond, not, List, [], ◌∷◌, ◌++◌, length, take, drop, take_all, take-append-drop, length-drop, append_assoc, Option, Some, None, option_map, inl, inr, arith, true≢false}
+use Rattle.std.proofs.Common.{◌≡◌, ◌∙◌, refl, sym, ap, subst, eq-eqb, ne_eqb, nat_eq, ℕ, suc, one-add, add-one, ◌+◌, ◌-◌, ◌<◌, ◌≤◌, ◌==◌, Bool, true, false}
+use Rattle.std.proofs.Common.{cond, not, List, [], ◌∷◌, ◌++◌, length, take, drop, take_all, take-append-drop, length-drop, append_assoc, Option, Some, None}
+use Rattle.std.proofs.Common.{option_map, inl, inr, arith, true≢false}
 use Rattle.std.specs.List.{list_all, prefix_len}
 use Rattle.std.proofs.lemmas.Bool.{and_parts, and_from, cases_Bool, cases_lt, not-true, not_from_false, false_from_ne_true}
 use Rattle.std.proofs.lemmas.List.{drop-drop}

@@ -1,5 +1,6 @@
 -- The walk of clap over the words makes of them what the grammar says.
-use Rattle.std.proofs.Common.{◌≡◌, ◌∙◌, refl, sym, ap, subst, ℕ, Bool, true, false, ◌&&◌, ◌==◌, List, [], ◌∷◌, map, Option, Some, None, codes, encode_utf8_all, slice_get, option_map, option_and_then, inl, inr, true≢false, fold}
+use Rattle.std.proofs.Common.{◌≡◌, ◌∙◌, refl, sym, ap, subst, ℕ, Bool, true, false, ◌&&◌, ◌==◌, List, [], ◌∷◌, map, Option, Some, None, codes}
+use Rattle.std.proofs.Common.{encode_utf8_all, slice_get, option_map, option_and_then, inl, inr, true≢false, fold}
 use Rattle.std.specs.List.{list_all}
 use Rattle.std.specs.Char.{encode_utf8}
 use Rattle.std.specs.Str.{bytes_eq, chars, is_utf8, all_scalars}
@@ -9,10 +10,12 @@ use Rattle.c_lexer.specs.Words.{is_in}
 use Rattle.clap.specs.declared.error.kind.ErrorKind.TheVariants as kind
 use Rattle.clap.specs.Lexer.{long_of, short_of}
 use Rattle.clap.specs.Kinds.{Kinds, or_else}
-use Rattle.clap.specs.Walk.{Held, Row, Rule, Step, Text, Waiting, Walk, arg_by_id, arg_by_index, arg_by_long, after_step, idle, long_word, option, plain_word, positional, settled_rows, subcommand_met, to_positional, used, value, walked}
+use Rattle.clap.specs.Walk.{Held, Row, Rule, Step, Text, Waiting, Walk, arg_by_id, arg_by_index, arg_by_long, after_step, idle, long_word, option}
+use Rattle.clap.specs.Walk.{plain_word, positional, settled_rows, subcommand_met, to_positional, used, value, walked}
 use Rattle.clap.specs.Faults.{bundle_fault, flags_fault, long_fault, settle_fault, step_fault, turn_fault, use_fault, walk_fault}
 use Rattle.clap.specs.Simple.{Shape}
-use Rattle.run_words.specs.Parts.{Part, Valued, Flag, File, Word, Unknown, after_word, behind_sign, flag_options, is_option, name_part, named, parts_from, value_part, valued_options}
+use Rattle.run_words.specs.Parts.{Part, Valued, Flag, File, Word, Unknown, after_word, behind_sign, flag_options, is_option, name_part, named, parts_from}
+use Rattle.run_words.specs.Parts.{value_part, valued_options}
 use Rattle.run_words.proofs.Rules.{Serves, file_rule, flag_rule, valued_rule}
 
 -- ---- a step that may fail
@@ -386,7 +389,8 @@ module _ (s : Shape) (serves : Serves s) where
   free_short words b bytes other text rows p w h rests =
       let command = rests.no_command (45 ∷ b ∷ bytes) in
       let none : option_and_then (λ r. option_and_then (put_all r) (parts_from ((45 ∷ b ∷ bytes) ∷ words) None)) (put_held rows p) ≡ None =
-      ap (λ parts. option_and_then (λ r. option_and_then (put_all r) parts) (put_held rows p)) (short_parts b bytes words other) ∙ none_then (put_held rows p) in
+      ap (λ parts. option_and_then (λ r. option_and_then (put_all r) parts) (put_held rows p)) (short_parts b bytes words other)
+      ∙ none_then (put_held rows p) in
       rw (command, other) (rw (other, bundle_is b bytes rows (pended p) text) (sym none))
 
   free_dashes : (words : List Text) → FreeAt words (45 ∷ 45 ∷ [])

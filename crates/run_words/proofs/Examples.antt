@@ -1,0 +1,108 @@
+-- The definitions at words that are written out, above all where another reading would differ.
+use Rattle.std.specs.Prelude.{◌≡◌, [], ◌∷◌, true, false, Some, None, refl, codes}
+use Rattle.std.specs.Char.{encode_utf8}
+use Rattle.std.specs.Str.{chars, is_utf8}
+use Rattle.run_words.specs.Options.{options_of}
+use Rattle.run_words.specs.Orders.{Apply, Generate, OnFiles, OnText, order_of, ordered}
+use Rattle.run_words.specs.Parts.{Valued, Flag, File, parts_from, parts_of}
+use Rattle.run_words.specs.Values.{count_in, names_in, seed_in}
+
+-- a value stands behind `=` or is the next word; words that are no options are files
+both_forms : parts_of (codes "k.c" ∷ codes "--sp-file" ∷ codes "p" ∷ codes "--jobs=2" ∷ codes "--in-place" ∷ [])
+    ≡ Some (File (codes "k.c") ∷ Valued (codes "sp-file") (codes "p") ∷ Valued (codes "jobs") (codes "2") ∷ Flag (codes "in-place") ∷ [])
+unfolding parts_from
+both_forms = refl
+
+-- behind `--` stand files alone, and `-` is a file or a value
+files_behind : parts_of (codes "-" ∷ codes "--" ∷ codes "--jobs" ∷ codes "--" ∷ []) ≡ Some (File (codes "-") ∷ File (codes "--jobs") ∷ File (codes "--") ∷ [])
+unfolding parts_from
+files_behind = refl
+
+-- the next word is no value where it is an option, whichever; behind `=` it may look like one
+no_value : parts_of (codes "--sp-file" ∷ codes "--" ∷ codes "p" ∷ []) ≡ None
+unfolding parts_from
+no_value = refl
+
+signed_value : parts_of (codes "--sp-file=-x=y" ∷ []) ≡ Some (Valued (codes "sp-file") (codes "-x=y") ∷ [])
+unfolding parts_from
+signed_value = refl
+
+-- no option is abbreviated, and none has one letter
+abbreviated : parts_of (codes "--sp" ∷ codes "p" ∷ []) ≡ None
+unfolding parts_from
+abbreviated = refl
+
+one_letter : parts_of (codes "-j" ∷ []) ≡ None
+unfolding parts_from
+one_letter = refl
+
+-- a flag has no value
+flag_value : parts_of (codes "--witnesses=" ∷ []) ≡ None
+unfolding parts_from
+flag_value = refl
+
+-- a seed may have leading zeros, a count may not
+leading_zeros : seed_in (codes "007") ≡ Some 7
+leading_zeros = refl
+
+least_past : seed_in (codes "18446744073709551616") ≡ None
+least_past = refl
+
+zero_first : count_in 64 (codes "07") ≡ None
+zero_first = refl
+
+past_most : count_in 64 (codes "65") ≡ None
+past_most = refl
+
+-- single commas part names of C
+two_names : names_in (codes "a,_b2") ≡ Some (codes "a" ∷ codes "_b2" ∷ [])
+two_names = refl
+
+comma_last : names_in (codes "a,") ≡ None
+comma_last = refl
+
+keyword : names_in (codes "a,if") ≡ None
+keyword = refl
+
+-- ---- options together
+
+twice : options_of (codes "--jobs=1" ∷ codes "k.c" ∷ codes "--jobs" ∷ codes "1" ∷ []) ≡ None
+unfolding options_of parts_from
+twice = refl
+
+a_file : order_of (codes "k.c" ∷ codes "--sp-file=p" ∷ codes "--witnesses" ∷ [])
+    ≡ Some (Apply (codes "p") None [] (OnFiles (record { witnesses = true; in_place = false }) (codes "k.c" ∷ [])))
+unfolding order_of ordered options_of parts_from is_utf8 chars encode_utf8
+a_file = refl
+
+no_file : order_of (codes "--sp-file=p" ∷ []) ≡ None
+unfolding order_of ordered options_of parts_from is_utf8 chars encode_utf8
+no_file = refl
+
+-- an empty value is refused, an empty word names a file
+empty_value : order_of (codes "--sp-file=" ∷ codes "k.c" ∷ []) ≡ None
+unfolding order_of ordered options_of parts_from is_utf8 chars encode_utf8
+empty_value = refl
+
+empty_word : order_of (codes "--sp-file=p" ∷ [] ∷ []) ≡ Some (Apply (codes "p") None [] (OnFiles (record { witnesses = false; in_place = false }) ([] ∷ [])))
+unfolding order_of ordered options_of parts_from is_utf8 chars encode_utf8
+empty_word = refl
+
+-- jobs go with a patch alone
+a_text : order_of (codes "--generate=1" ∷ codes "--functions=2" ∷ []) ≡ Some (Generate 1 2)
+unfolding order_of ordered options_of parts_from is_utf8 chars encode_utf8
+a_text = refl
+
+jobs_of_a_text : order_of (codes "--generate=1" ∷ codes "--functions=2" ∷ codes "--jobs=3" ∷ []) ≡ None
+unfolding order_of ordered options_of parts_from is_utf8 chars encode_utf8
+jobs_of_a_text = refl
+
+a_patch_on_a_text : order_of (codes "--generate=1" ∷ codes "--functions=2" ∷ codes "--jobs=3" ∷ codes "--sp-file=p" ∷ []) ≡ Some (Apply
+    (codes "p") None [] (OnText 1 2))
+unfolding order_of ordered options_of parts_from is_utf8 chars encode_utf8
+a_patch_on_a_text = refl
+
+-- a word that isn't UTF-8
+no_text : order_of (codes "--sp-file=p" ∷ (255 ∷ []) ∷ []) ≡ None
+unfolding order_of is_utf8 chars encode_utf8
+no_text = refl

@@ -1,0 +1,10 @@
+pub mod Rules
+pub mod Walks
+pub mod Known
+pub mod Rows
+pub mod Ended
+pub mod Texts
+pub mod Numbers
+pub mod Names
+pub mod Ordered
+pub mod Examples

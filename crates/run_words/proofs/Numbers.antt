@@ -1,0 +1,56 @@
+-- Numbers of decimal digits.
+use Rattle.std.proofs.Common.{◌≡◌, ◌∙◌, refl, sym, ap, ℕ, ◌+◌, ◌-◌, ◌*◌, ◌^◌, ◌<◌, ◌≤◌, Bool, true, false, cond, ◌&&◌, nat_lt, List, [], ◌∷◌, length}
+use Rattle.std.proofs.Common.{Option, Some, None, le_trans, le_refl, arith, lt-ltb, le-ltb, get_or, drop, drop-cons, add-one}
+use Rattle.std.proofs.lemmas.List.{drop_all}
+use Rattle.std.specs.List.{list_all}
+use Rattle.c_lexer.specs.Words.{is_digit}
+use Rattle.run_words.specs.Values.{decimal_from, number_in}
+
+-- the number of digits behind those of n
+abbrev pub number_from : ℕ → List ℕ → Option ℕ
+number_from n text = cond (list_all is_digit text && nat_lt (decimal_from n text) (2 ^ 64)) (Some (decimal_from n text)) None
+
+grows : (text : List ℕ) (n : ℕ) → n ≤ decimal_from n text
+grows [] n = le_refl n
+grows (b ∷ text) n = let rest = grows text (n * 10 + (b - 48)) in omega (arith, rest)
+
+both_false : (a : Bool) → (a && false) ≡ false
+both_false true = refl
+both_false false = refl
+
+-- a text with another byte has none
+pub no_digit : (n b : ℕ) (text : List ℕ) → is_digit b ≡ false → number_from n (b ∷ text) ≡ None
+no_digit n b text h = rw h refl
+
+-- nor has one whose number is past the limit
+pub too_large : (n b : ℕ) (text : List ℕ) → 2 ^ 64 ≤ n * 10 + (b - 48) → number_from n (b ∷ text) ≡ None
+too_large n b text h =
+    let past : 2 ^ 64 ≤ decimal_from (n * 10 + (b - 48)) text = le_trans h (grows text (n * 10 + (b - 48))) in
+    rw (le-ltb _ _ past, both_false) refl
+
+pub one_digit : (n b : ℕ) (text : List ℕ) → is_digit b ≡ true → number_from n (b ∷ text) ≡ number_from (n * 10 + (b - 48)) text
+one_digit n b text h = rw h refl
+
+pub no_more : (n : ℕ) → n < 2 ^ 64 → number_from n [] ≡ Some n
+no_more n h = rw (lt-ltb _ _ h) refl
+
+-- ---- at a place among digits
+
+at_place : (ds : List ℕ) (i n : ℕ) → i < length ds → number_from n (drop i ds) ≡ number_from n (get_or ds i 0 ∷ drop (i + 1) ds)
+at_place ds i n low = ap (number_from n) (drop-cons ds i 0 low ∙ ap (λ k. get_or ds i 0 ∷ drop k ds) (sym (add-one i)))
+
+pub stops_at : (ds : List ℕ) (i n : ℕ) → i < length ds → number_in ds ≡ number_from n (drop i ds) → is_digit (get_or ds i 0) ≡ false → None ≡ number_in ds
+stops_at ds i n low so other = sym (so ∙ (at_place ds i n low ∙ no_digit n (get_or ds i 0) (drop (i + 1) ds) other))
+
+pub passes_at : (ds : List ℕ) (i n : ℕ) → i < length ds → number_in ds ≡ number_from n (drop i ds) → 2 ^ 64 ≤ n * 10 + (get_or ds i 0 - 48)
+    → None ≡ number_in ds
+passes_at ds i n low so past = sym (so ∙ (at_place ds i n low ∙ too_large n (get_or ds i 0) (drop (i + 1) ds) past))
+
+pub goes_on : (ds : List ℕ) (i n : ℕ) → i < length ds → number_in ds ≡ number_from n (drop i ds) → is_digit (get_or ds i 0) ≡ true → (m : ℕ)
+    → m ≡ n * 10 + (get_or ds i 0 - 48)
+    → number_in ds ≡ number_from m (drop (i + 1) ds)
+goes_on ds i n low so digit m is = so ∙ (at_place ds i n low ∙ (one_digit n (get_or ds i 0) (drop (i + 1) ds) digit
+    ∙ ap (λ k. number_from k (drop (i + 1) ds)) (sym is)))
+
+pub ends_at : (ds : List ℕ) (i n : ℕ) → length ds ≤ i → n < 2 ^ 64 → number_in ds ≡ number_from n (drop i ds) → Some n ≡ number_in ds
+ends_at ds i n past small so = sym (so ∙ (ap (number_from n) (drop_all i ds past) ∙ no_more n small))

@@ -1,0 +1,23 @@
+-- The order, by the tests in turn.
+use Rattle.std.proofs.Common.{◌≡◌, ◌∙◌, sym, ap, ℕ, true, false, ◌&&◌, List, Option, None, option_and_then}
+use Rattle.std.specs.List.{list_all}
+use Rattle.std.specs.Option.{option_map_or}
+use Rattle.std.specs.Str.{is_utf8}
+use Rattle.std.proofs.lemmas.Bool.{cond-true, cond-false}
+use Rattle.run_words.specs.Options.{Options, options_of}
+use Rattle.run_words.specs.Orders.{are_filled, editing, generating, has_jobs, order_of, ordered}
+
+pub refused : (o : Options) → false ≡ (are_filled o && has_jobs o) → None ≡ ordered o
+unfolding ordered
+refused o h = sym (cond-false (are_filled o && has_jobs o) (option_map_or (generating o) o.generate (editing o)) None (sym h))
+
+pub ordered_told : (o : Options) → true ≡ (are_filled o && has_jobs o) → (value : Option (List ℕ)) → o.generate ≡ value
+    → option_map_or (generating o) value (editing o) ≡ ordered o
+unfolding ordered
+ordered_told o h value is = sym (cond-true (are_filled o && has_jobs o) (option_map_or (generating o) o.generate (editing o)) None (sym h)
+    ∙ ap (λ g. option_map_or (generating o) g (editing o)) is)
+
+pub order_told : (words : List (List ℕ)) → list_all is_utf8 words ≡ true → (o : Option Options) → o ≡ options_of words
+    → option_and_then ordered o ≡ order_of words
+unfolding order_of
+order_told words text o is = ap (option_and_then ordered) is ∙ sym (cond-true (list_all is_utf8 words) (option_and_then ordered (options_of words)) None text)

@@ -1,0 +1,117 @@
+-- The rules of the built command: which argument a name, a place or a short name has.
+use Rattle.std.proofs.Common.{◌≡◌, ◌∙◌, refl, sym, subst, ℕ, Bool, true, false, cond, ◌||◌, List, [], ◌∷◌, Some, None, codes, inl, inr}
+use Rattle.std.specs.Str.{bytes_eq}
+use Rattle.std.proofs.lemmas.Bool.{or_cases, or_parts, false_from_ne_true}
+use Rattle.std.proofs.lemmas.Slice.Eq.{bytes_eq-Decides}
+use Rattle.c_lexer.specs.Words.{is_in}
+use Rattle.clap.specs.Walk.{Rule, arg_by_id, arg_by_long, arg_by_index, arg_by_short}
+use Rattle.clap.specs.Simple.{Shape, built, filled, is_simple, with_index}
+use Rattle.clap.specs.Faults.{is_simple_and_free}
+use Rattle.run_words.specs.Parts.{valued_options, flag_options}
+use Rattle.run_words.specs.Commands.{valued_new, flag_new, files_new, spatch_app}
+
+abbrev pub valued_rule : List ℕ → Rule
+valued_rule name = filled (valued_new name)
+
+abbrev pub flag_rule : List ℕ → Rule
+flag_rule name = filled (flag_new name)
+
+abbrev pub file_rule : Rule
+file_rule = with_index 1 (filled files_new)
+
+-- what the walk asks of a command
+pub record Serves (s : Shape) : Type 0 where
+  pub once : s.args_override_self ≡ false
+  pub valued_long : (name : List ℕ) → is_in valued_options name ≡ true → arg_by_long s.rules name ≡ Some (valued_rule name)
+  pub flag_long : (name : List ℕ) → is_in flag_options name ≡ true → arg_by_long s.rules name ≡ Some (flag_rule name)
+  pub other_long : (name : List ℕ) → is_in valued_options name ≡ false → is_in flag_options name ≡ false → arg_by_long s.rules name ≡ None
+  pub valued_id : (name : List ℕ) → is_in valued_options name ≡ true → arg_by_id s.rules name ≡ Some (valued_rule name)
+  pub file_id : arg_by_id s.rules (codes "FILE") ≡ Some file_rule
+  pub place : arg_by_index s.rules 1 ≡ Some file_rule
+  pub no_short : (x : ℕ) → arg_by_short s.rules x ≡ None
+
+pub bytes_eq_sym : (s t : List ℕ) → bytes_eq s t ≡ bytes_eq t s
+bytes_eq_sym s t = elim (bytes_eq s t) as (λ b. bytes_eq s t ≡ b → b ≡ bytes_eq t s) [
+  | true ↦ λ e. sym ((bytes_eq-Decides t s).1 (sym ((bytes_eq-Decides s t).0 e)))
+  | false ↦ λ e. sym (false_from_ne_true (bytes_eq t s) (λ h. let both : true ≡ false = sym ((bytes_eq-Decides s t).1 (sym
+      ((bytes_eq-Decides t s).0 h))) ∙ e in cc))
+] refl
+
+-- what holds of each name of a list holds of one that is in it
+abbrev pub OfEach : (List ℕ → Type 0) → List (List ℕ) → Type 0
+OfEach P [] = Unit {0}
+OfEach P (name ∷ names) = P name × OfEach P names
+
+pub of_one : (P : List ℕ → Type 0) (names : List (List ℕ)) (name : List ℕ) → OfEach P names → is_in names name ≡ true → P name
+of_one P [] name each h = let bad : false ≡ true = h in cc
+of_one P (x ∷ xs) name each h = elim (or_cases (bytes_eq name x) (is_in xs name) h) [
+  | inl e ↦ subst P (sym ((bytes_eq-Decides name x).0 e)) each.0
+  | inr rest ↦ of_one P xs name each.1 rest
+]
+
+abbrev pub spatch : Shape
+spatch = (built spatch_app).top
+
+abbrev pub spatch_rules : List Rule
+spatch_rules = valued_rule (codes "sp-file") ∷ valued_rule (codes "iso-file") ∷ valued_rule (codes "define") ∷ valued_rule (codes "jobs")
+    ∷ valued_rule (codes "generate") ∷ valued_rule (codes "functions") ∷ flag_rule (codes "witnesses") ∷ flag_rule (codes "in-place") ∷ file_rule ∷ []
+
+differs : (word name : List ℕ) → bytes_eq name word ≡ false → bytes_eq word name ≡ false
+differs word name h = bytes_eq_sym word name ∙ h
+
+valued_long : (name : List ℕ) → is_in valued_options name ≡ true → arg_by_long spatch.rules name ≡ Some (valued_rule name)
+unfolding spatch_app
+valued_long name = of_one (λ n. arg_by_long spatch.rules n ≡ Some (valued_rule n)) valued_options name
+    (refl, (refl, (refl, (refl, (refl, (refl, tt))))))
+
+flag_long : (name : List ℕ) → is_in flag_options name ≡ true → arg_by_long spatch.rules name ≡ Some (flag_rule name)
+unfolding spatch_app
+flag_long name = of_one (λ n. arg_by_long spatch.rules n ≡ Some (flag_rule n)) flag_options name (refl, (refl, tt))
+
+valued_id : (name : List ℕ) → is_in valued_options name ≡ true → arg_by_id spatch.rules name ≡ Some (valued_rule name)
+unfolding spatch_app
+valued_id name = of_one (λ n. arg_by_id spatch.rules n ≡ Some (valued_rule n)) valued_options name
+    (refl, (refl, (refl, (refl, (refl, (refl, tt))))))
+
+-- none of eight tests passes, and the last argument is positional
+none_of : (a b c d e f g h : Bool) (x1 x2 x3 x4 x5 x6 x7 x8 : Rule) → a ≡ false → b ≡ false → c ≡ false → d ≡ false → e ≡ false → f ≡ false → g ≡ false
+    → h ≡ false
+    → cond (a || false) (Some x1) (cond (b || false) (Some x2) (cond (c || false) (Some x3) (cond (d || false) (Some x4)
+    (cond (e || false) (Some x5) (cond (f || false) (Some x6) (cond (g || false) (Some x7) (cond (h || false) (Some x8) None))))))) ≡ None
+none_of a b c d e f g h x1 x2 x3 x4 x5 x6 x7 x8 ea eb ec ed ee ef eg eh = rw (ea, eb, ec, ed, ee, ef, eg, eh) refl
+
+other_long : (name : List ℕ) → is_in valued_options name ≡ false → is_in flag_options name ≡ false → arg_by_long spatch.rules name ≡ None
+unfolding spatch_app
+other_long name v f =
+    let v1 = or_parts _ _ v in
+    let v2 = or_parts _ _ v1.1 in
+    let v3 = or_parts _ _ v2.1 in
+    let v4 = or_parts _ _ v3.1 in
+    let v5 = or_parts _ _ v4.1 in
+    let v6 = or_parts _ _ v5.1 in
+    let f1 = or_parts _ _ f in
+    let f2 = or_parts _ _ f1.1 in
+    none_of _ _ _ _ _ _ _ _ _ _ _ _ _ _ _ _ (differs (codes "sp-file") name v1.0) (differs (codes "iso-file") name v2.0) (differs (codes "define") name v3.0)
+    (differs (codes "jobs") name v4.0) (differs (codes "generate") name v5.0) (differs (codes "functions") name v6.0)
+    (differs (codes "witnesses") name f1.0) (differs (codes "in-place") name f2.0)
+
+pub spatch_serves : Serves spatch
+unfolding spatch_app
+spatch_serves = record {
+  once = refl;
+  valued_long = valued_long;
+  flag_long = flag_long;
+  other_long = other_long;
+  valued_id = valued_id;
+  file_id = refl;
+  place = refl;
+  no_short = λ x. refl;
+}
+
+pub spatch_is_simple : is_simple spatch_app ≡ true
+unfolding spatch_app
+spatch_is_simple = refl
+
+pub spatch_is_free : is_simple_and_free spatch_app ≡ true
+unfolding spatch_app
+spatch_is_free = refl

@@ -1,0 +1,78 @@
+-- What the words of a command line ask for.
+use Rattle.std.specs.Prelude.{ℕ, ◌&&◌, ◌||◌, Bool, true, not, cond, nat_le, List, [], length, Option, None, Some, is_some, option_and_then, option_map}
+use Rattle.std.specs.List.{list_all}
+use Rattle.std.specs.Str.{is_utf8}
+use Rattle.std.specs.Option.{option_map_or}
+use Rattle.run_words.specs.declared.order.Mode.{Mode}
+use Rattle.run_words.specs.Options.{Options, options_of}
+use Rattle.run_words.specs.Values.{seed_in, count_in, names_in}
+
+-- what a patch is applied to
+pub data Target : Type 0 where
+  -- files, in this order
+  OnFiles : (mode : Mode) (names : List (List ℕ)) → Target
+  -- the text of this seed, of so many functions
+  OnText : (seed functions : ℕ) → Target
+
+pub data Order : Type 0 where
+  -- the patch of this name, under the isomorphisms of this name, with these virtual names, is applied
+  Apply : (patch : List ℕ) (isos : Option (List ℕ)) (defined : List (List ℕ)) (target : Target) → Order
+  -- the text of this seed, of so many functions, is printed
+  Generate : (seed functions : ℕ) → Order
+
+-- ---- values
+
+abbrev pub most_jobs : ℕ
+most_jobs = 64
+
+abbrev pub most_functions : ℕ
+most_functions = 100000
+
+-- a value that is given isn't empty
+abbrev pub is_filled : Option (List ℕ) → Bool
+is_filled value = option_map_or (λ text. nat_le 1 (length text)) value true
+
+abbrev pub are_filled : Options → Bool
+are_filled o = is_filled o.sp_file && is_filled o.iso_file && is_filled o.define && is_filled o.jobs && is_filled o.generate && is_filled o.functions
+
+-- `--jobs` has a number of jobs, where it is given
+abbrev pub has_jobs : Options → Bool
+has_jobs o = option_map_or (λ value. is_some (count_in most_jobs value)) o.jobs true
+
+-- the names that are defined; none where the option isn't given
+abbrev pub defined_in : Options → Option (List (List ℕ))
+defined_in o = option_map_or names_in o.define (Some [])
+
+-- ---- what goes together
+
+abbrev pub has_files : Options → Bool
+has_files o = nat_le 1 (length o.files)
+
+abbrev pub mode_in : Options → Mode
+mode_in o = record { witnesses = o.witnesses; in_place = o.in_place }
+
+-- something is given that goes with files alone
+abbrev pub is_about_files : Options → Bool
+is_about_files o = is_some o.iso_file || is_some o.define || o.witnesses || o.in_place || has_files o
+
+-- without `--generate`: a patch and a file are needed
+abbrev pub editing : Options → Option Order
+editing o = cond (has_files o && not (is_some o.functions))
+    (option_and_then (λ patch. option_map (λ defined. Apply patch o.iso_file defined (OnFiles (mode_in o) o.files)) (defined_in o)) o.sp_file) None
+
+-- with it: the text is printed, or a patch is applied to it
+abbrev pub on_text : Options → ℕ → ℕ → Option Order
+on_text o seed functions = option_map_or (λ patch. Some (Apply patch None [] (OnText seed functions))) o.sp_file
+    (cond (is_some o.jobs) None (Some (Generate seed functions)))
+
+abbrev pub generating : Options → List ℕ → Option Order
+generating o value = cond (is_about_files o) None
+    (option_and_then (λ seed. option_and_then (λ text. option_and_then (λ functions. on_text o seed functions) (count_in most_functions text)) o.functions)
+    (seed_in value))
+
+unfoldable pub ordered : Options → Option Order
+ordered o = cond (are_filled o && has_jobs o) (option_map_or (generating o) o.generate (editing o)) None
+
+-- what the words ask for; nothing where they are no command, as where one of them isn't UTF-8
+unfoldable pub order_of : List (List ℕ) → Option Order
+order_of words = cond (list_all is_utf8 words) (option_and_then ordered (options_of words)) None

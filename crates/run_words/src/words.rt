@@ -1,0 +1,171 @@
+// From words to what they ask for.
+ghost use Rattle.std.specs.Prelude.{◌≡◌, ◌&&◌, true, false, [], Some, map, option_map, IfOk, MatchOption};
+ghost use Rattle.std.specs.Option.{option_map_or};
+ghost use Rattle.run_words.specs.Values.{names_in};
+ghost use Rattle.std.specs.List.{list_all};
+ghost use Rattle.std.specs.Str.{is_utf8};
+ghost use Rattle.run_words.specs.Orders as told;
+ghost use Rattle.run_words.specs.Shown.{shown_options, shown_order, shown_value};
+
+use crate::options::{Given, parse};
+use crate::order::{Mode, Order, PatchOrder, Target};
+use crate::values::{count, names, seed};
+use c_terms::{NoMemory, Text};
+use std::alloc::Global;
+
+const MOST_JOBS: u64 = 64;
+
+const MOST_FUNCTIONS: u64 = 100_000;
+
+/// The words as text, if each is UTF-8. Linear in the words.
+pub fn texts_of<'a>(alloc: Global, words: &'a [Text]) -> Result<Option<Vec<&'a str>>, NoMemory>
+    ensures { IfOk result (λ texts. MatchOption texts (list_all is_utf8 words.entry.now ≡ false)
+        (λ list. (map (λ t. t.now) list.items ≡ words.entry.now) × (list_all is_utf8 words.entry.now ≡ true))) }
+{
+    let mut texts = Vec::new(alloc);
+    for word in words {
+        match str::from_utf8(word.as_bytes()) {
+            Ok(text) => texts.push(text)?,
+            Err(_) => return Ok(None),
+        }
+    }
+    Ok(Some(texts))
+}
+
+/// What the words ask for, if they are a command. Takes memory in proportion to the words.
+pub fn order_of<'a>(alloc: Global, words: &'a [&'a str]) -> Result<Option<Order<'a>>, NoMemory>
+    requires { list_all is_utf8 (map (λ w. w.now) words.now) ≡ true }
+    ensures { IfOk result (λ order. option_map shown_order order ≡ told.order_of (map (λ w. w.now) words.entry.now)) }
+{
+    match parse(alloc, words)? {
+        Some(given) => order_given(alloc, given),
+        None => Ok(None),
+    }
+}
+
+fn is_filled(value: Option<&str>) -> bool
+    ensures { result ≡ told.is_filled (shown_value value.entry) }
+{
+    match value {
+        Some(text) => !text.is_empty(),
+        None => true,
+    }
+}
+
+fn are_filled(given: &Given<'_>) -> bool
+    ensures { result ≡ told.are_filled (shown_options given.now) }
+{
+    is_filled(given.sp_file)
+        && is_filled(given.iso_file)
+        && is_filled(given.define)
+        && is_filled(given.jobs)
+        && is_filled(given.generate)
+        && is_filled(given.functions)
+}
+
+/// Whether the number of jobs is one, where it is given.
+fn has_jobs(given: &Given<'_>) -> bool
+    ensures { result ≡ told.has_jobs (shown_options given.now) }
+{
+    match given.jobs {
+        Some(value) => count(value, MOST_JOBS).is_some(),
+        None => true,
+    }
+}
+
+/// Whether the values of options are there, and the number of jobs is one.
+fn has_values(given: &Given<'_>) -> bool
+    ensures { result ≡ (told.are_filled (shown_options given.now) && told.has_jobs (shown_options given.now)) }
+{
+    are_filled(given) && has_jobs(given)
+}
+
+fn order_given<'a>(alloc: Global, given: Given<'a>) -> Result<Option<Order<'a>>, NoMemory>
+    ensures { IfOk result (λ order. option_map shown_order order ≡ told.ordered (shown_options given.entry)) }
+{
+    if !has_values(&given) {
+        return Ok(None);
+    }
+    match given.generate {
+        Some(value) => Ok(generating(alloc, &given, value)),
+        None => editing(alloc, given),
+    }
+}
+
+/// Whether something is given that goes with files alone.
+fn is_about_files(given: &Given<'_>) -> bool
+    ensures { result ≡ told.is_about_files (shown_options given.now) }
+{
+    given.iso_file.is_some()
+        || given.define.is_some()
+        || given.witnesses
+        || given.in_place
+        || !given.files.is_empty()
+}
+
+/// What is asked for with a seed.
+fn generating<'a>(alloc: Global, given: &Given<'a>, value: &str) -> Option<Order<'a>>
+    ensures { option_map shown_order result ≡ told.generating (shown_options given.now) value.now }
+{
+    if is_about_files(given) {
+        return None;
+    }
+    let seed = seed(value)?;
+    let functions = count(given.functions?, MOST_FUNCTIONS)?;
+    on_text(alloc, given, seed, functions as u32)
+}
+
+fn on_text<'a>(alloc: Global, given: &Given<'a>, seed: u64, functions: u32) -> Option<Order<'a>>
+    ensures { option_map shown_order result ≡ told.on_text (shown_options given.now) seed functions }
+{
+    match given.sp_file {
+        Some(patch) => Some(Order::Apply(PatchOrder {
+            patch,
+            isos: None,
+            defined: Vec::new(alloc),
+            target: Target::Text(seed, functions),
+        })),
+        None => {
+            if given.jobs.is_some() {
+                return None;
+            }
+            Some(Order::Generate(seed, functions))
+        }
+    }
+}
+
+/// What is asked for without a seed.
+fn editing<'a>(alloc: Global, given: Given<'a>) -> Result<Option<Order<'a>>, NoMemory>
+    ensures { IfOk result (λ order. option_map shown_order order ≡ told.editing (shown_options given.entry)) }
+{
+    if given.files.is_empty() || given.functions.is_some() {
+        return Ok(None);
+    }
+    let Some(patch) = given.sp_file else {
+        return Ok(None);
+    };
+    let Some(defined) = defined(alloc, given.define)? else {
+        return Ok(None);
+    };
+    let mode = Mode {
+        witnesses: given.witnesses,
+        in_place: given.in_place,
+    };
+    Ok(Some(Order::Apply(PatchOrder {
+        patch,
+        isos: given.iso_file,
+        defined,
+        target: Target::Files(mode, given.files),
+    })))
+}
+
+/// The names that are defined, if they are names.
+fn defined(alloc: Global, value: Option<&str>) -> Result<Option<Vec<Text>>, NoMemory>
+    ensures { IfOk result (λ names. option_map (λ list. list.items) names
+        ≡ option_map_or names_in (shown_value value.entry) (Some [])) }
+{
+    match value {
+        Some(value) => names(alloc, value.as_bytes()),
+        None => Ok(Some(Vec::new(alloc))),
+    }
+}

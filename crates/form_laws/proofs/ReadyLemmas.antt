@@ -56,17 +56,17 @@ module _ (isos : List Iso)
     (formula : (is : List Iso) (r s : Rule) → IsExpandedRule is r s → formula_of s ≡ expanded_formula is r.tokens (formula_of r))
     (stay : Stays stands) (surely : Stays sure)
     (binds : (is : List Iso) (r s : Rule) (x : Var) → IsExpandedRule is r s
-        → bound (sure s.vars s.tokens) (formula_of s) x ≡ bound (sure r.vars r.tokens) (formula_of r) x) where
+    → bound (sure s.vars s.tokens) (formula_of s) x ≡ bound (sure r.vars r.tokens) (formula_of r) x) where
   rule-ready : (r s : Rule) → IsExpandedRule isos r s → MayRun r → MayRun s
   rule-ready r s is may =
       let own : EachPattern (SureStand r.vars r.tokens) (formula_of s) =
-              subst (EachPattern (SureStand r.vars r.tokens)) (sym (formula isos r s is))
-              (each-expanded isos r.tokens (SureStand r.vars r.tokens)
-              (λ p h x e. stay isos r.tokens r.tokens r.vars p x ∙ h x (sym (surely isos r.tokens r.tokens r.vars p x) ∙ e)) (formula_of r) may.stand) in
+      subst (EachPattern (SureStand r.vars r.tokens)) (sym (formula isos r s is))
+      (each-expanded isos r.tokens (SureStand r.vars r.tokens)
+      (λ p h x e. stay isos r.tokens r.tokens r.vars p x ∙ h x (sym (surely isos r.tokens r.tokens r.vars p x) ∙ e)) (formula_of r) may.stand) in
       let words : EachPattern (SureStand r.vars s.tokens) (formula_of s) =
-              subst (λ (ts : List PatToken). EachPattern (SureStand r.vars ts) (formula_of s)) (sym is.tokens) own in
+      subst (λ (ts : List PatToken). EachPattern (SureStand r.vars ts) (formula_of s)) (sym is.tokens) own in
       let exports : AreApart s.exports (flat_map inherited_by r.vars) =
-              subst (λ (xs : List Var). AreApart xs (flat_map inherited_by r.vars)) (sym is.exports) may.apart in
+      subst (λ (xs : List Var). AreApart xs (flat_map inherited_by r.vars)) (sym is.exports) may.apart in
       record {
         stand = subst (λ (ds : List VarDecl). EachPattern (SureStand ds s.tokens) (formula_of s)) (sym is.vars) words;
         binds =

@@ -57,8 +57,8 @@ module _ (vars : List VarDecl) where
       by rest true true n q s =
           let same : u.token.text ≡ x = (bytes_eq-Decides u.token.text x).0 q in
           let known : declared_meta vars u ≡ Some m =
-                  ap (λ (b : Bool). if b then meta_of (var_named u.token.text vars) else None) n
-                  ∙ ap (λ (y : List ℕ). meta_of (var_named y vars)) same ∙ e in
+          ap (λ (b : Bool). if b then meta_of (var_named u.token.text vars) else None) n
+          ∙ ap (λ (y : List ℕ). meta_of (var_named y vars)) same ∙ e in
           or_left (is_variable (made vars 0 u).kind && same_bytes u.token.text x) (holds (map (made vars 0) us) x)
           (both_true (is_variable (made vars 0 u).kind) (same_bytes u.token.text x)
           (ap (λ (o : Option MetaKind). is_variable (kind_by o u.token.kind)) known)

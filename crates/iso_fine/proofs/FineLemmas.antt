@@ -69,7 +69,7 @@ becomes both i j le h =
           let all : ways ≡ true = and_right (nat_lt j i) ways behind in
           let within : j + (i - j) ≤ length both = omega (arith, under, le) in
           inr (under, λ k from lt. later-both j (i - j) both within all k from (omega (arith, under, lt)))
-        )
+          )
     ]
 
 -- ---- sides
@@ -112,8 +112,8 @@ module _ (vars : List VarDecl) (sides : List (List PatchToken)) (both : List Boo
       (tree_leaves kinds.Expr listed_names (map (made vars 0) to.tokens) t to.is.tree_is)
       (omega (arith, to_light, light))
       (none-of (lost_between vars from.tokens to.tokens) (λ at e.
-        keeps i j at
-        (record { may = can; from = from.tokens; from_is = from.tokens_are; to = to.tokens; to_is = to.tokens_are; lost = e })))
+      keeps i j at
+      (record { may = can; from = from.tokens; from_is = from.tokens_are; to = to.tokens; to_is = to.tokens_are; lost = e })))
 
   -- a side covers each of these, of which the first has the number j
   from-covers : (i j : ℕ) (s : Tree) (ts : List Tree)
@@ -122,7 +122,7 @@ module _ (vars : List VarDecl) (sides : List (List PatchToken)) (both : List Boo
   from-covers i j s (t ∷ ts) h =
       both_true (not (may_become both i j) || covers s t) (covers_from both i (j + 1) s ts) (by (may_become both i j) refl)
       (from-covers i (j + 1) s ts (λ k u at may.
-        h (suc k) u at (let next : (j + 1) + k ≡ j + suc k = omega arith in ap (may_become both i) (sym next) ∙ may)))
+      h (suc k) u at (let next : (j + 1) + k ≡ j + suc k = omega arith in ap (may_become both i) (sym next) ∙ may)))
     where
       by : (b : Bool) → may_become both i j ≡ b → (not b || covers s t) ≡ true
       by true e = h zero t refl (let here : j + zero ≡ j = omega arith in ap (may_become both i) here ∙ e)
@@ -135,11 +135,11 @@ module _ (vars : List VarDecl) (sides : List (List PatchToken)) (both : List Boo
       both_true (covers_from iso.both i 0 s iso.sides) (all_cover iso (i + 1) ss)
       (ap (λ (bs : List Bool). covers_from bs i 0 s iso.sides) ways ∙ ap (covers_from both i 0 s) are_trees
       ∙ from-covers i 0 s trees (λ k t at may.
-        let here : i + zero ≡ i = omega arith in
-        let there : 0 + k ≡ k = omega arith in
-        pair-covers i k s t (ap (slice_get trees) (sym here) ∙ h zero s refl) at (ap (may_become both i) (sym there) ∙ may)))
+      let here : i + zero ≡ i = omega arith in
+      let there : 0 + k ≡ k = omega arith in
+      pair-covers i k s t (ap (slice_get trees) (sym here) ∙ h zero s refl) at (ap (may_become both i) (sym there) ∙ may)))
       (each-covers iso ways are_trees (i + 1) ss (λ k t at.
-        let next : (i + 1) + k ≡ i + suc k = omega arith in ap (slice_get trees) next ∙ h (suc k) t at))
+      let next : (i + 1) + k ≡ i + suc k = omega arith in ap (slice_get trees) next ∙ h (suc k) t at))
 
 all-narrow : (vars : List VarDecl) (sides : List (List PatchToken)) (trees : List Tree) → AreSides vars sides trees → weigh_lines sides ≤ 1048576
     → list_all (λ s. nat_lt (width s) 4294967296) trees ≡ true
@@ -160,8 +160,8 @@ iso-fine block iso is light =
     let bound = sides-of-lines (behind.second + 1) form.lines in
     let small : weigh_lines is.sides ≤ 1048576 = omega (arith, weighs, sides_weigh, bound, light) in
     let many : length is.sides ≡ length iso.both + 1 =
-            ap (λ (l : List (List PatchToken)). length l) behind.sides_are ∙ one_more tokens
-            ∙ ap (λ (l : List Bool). length l + 1) (sym behind.arrows_are) in
+    ap (λ (l : List (List PatchToken)). length l) behind.sides_are ∙ one_more tokens
+    ∙ ap (λ (l : List Bool). length l + 1) (sym behind.arrows_are) in
     record {
       covered = each-covers iso.vars is.sides iso.both iso.sides behind.trees_are is.keeps many small iso refl refl 0 iso.sides
           (λ k s at. let here : 0 + k ≡ k = omega arith in ap (slice_get iso.sides) here ∙ at);
@@ -178,7 +178,7 @@ pub file-fine : (bytes : List ℕ) (isos : List Iso) → AreIsosOf bytes isos �
 file-fine bytes isos of =
     let lines = of.lines_are in
     let whole : weigh_lines of.lines ≡ weigh_lines (filled (groups 0 lines.pieces)) =
-            ap weigh_lines lines.lines_are in
+    ap weigh_lines lines.lines_are in
     let text : length (joined lines.pieces) ≡ length bytes = ap (λ (l : List ℕ). length l) lines.text in
     let least = lines-light lines.pieces lines.cut in
     let short = of.short in

@@ -179,16 +179,16 @@ module _ (isos : List Iso) (tokens : List PatToken) where
           let new_follow : Follow =
           record { start = start_of (XB rest) l.start; at = λ u. seq n (Some (XE e)) (XB rest) l later (s ++ here) u } in
           ap (λ (hs : List Var).
-            exists_all hs
-            (elem n (XO before) (first_of (XB rest)) (XE e)
-            (record { start = start_of (XB rest) l.start; at = λ u. seq n (Some (XE e)) (XB rest) l new_later (s ++ hs) u })
-            new_part (s ++ hs) (t ++ hs)))
+          exists_all hs
+          (elem n (XO before) (first_of (XB rest)) (XE e)
+          (record { start = start_of (XB rest) l.start; at = λ u. seq n (Some (XE e)) (XB rest) l new_later (s ++ hs) u })
+          new_part (s ++ hs) (t ++ hs)))
           (here-same e rest w)
           ∙ ap (λ (ls : List Var).
-            exists_all here
-            (elem n (XO before) (first_of (XB rest)) (XE e)
-            (record { start = start_of (XB rest) l.start; at = λ u. seq n (Some (XE e)) (XB rest) l ls (s ++ here) u })
-            new_part (s ++ here) (t ++ here)))
+          exists_all here
+          (elem n (XO before) (first_of (XB rest)) (XE e)
+          (record { start = start_of (XB rest) l.start; at = λ u. seq n (Some (XE e)) (XB rest) l ls (s ++ here) u })
+          new_part (s ++ here) (t ++ here)))
           (later-same e new_inside inside (rest-same e rest w))
           ∙ ap₂ (λ (a : Option Element) (ps : List Var). exists_all here (elem n (XO before) a (XE e) new_follow ps (s ++ here) (t ++ here)))
           (first-same rest) (part-same e new_inside inside (rest-same e rest w))
@@ -282,12 +282,12 @@ module _ (isos : List Iso) (tokens : List PatToken) where
       let vars = filter (λ x. not (is_alone r b x)) locals in
       let new_vars = filter (λ x. not (is_alone s (XB b) x)) locals in
       ap (λ (vs : List Var).
-        seq (record { reading = s; forall_walks = forall_walks; locals = locals; alone = vs; blocks = blocks (XB b) }) None (XB b) nothing
-        new_vars [] [])
+      seq (record { reading = s; forall_walks = forall_walks; locals = locals; alone = vs; blocks = blocks (XB b) }) None (XB b) nothing
+      new_vars [] [])
       (filter-same (is_alone s (XB b)) (is_alone r b) (λ x. placing.alone-same isos tokens r s agree b x) locals)
       ∙ ap₂ (λ (ns : List ℕ) (vs : List Var).
-        seq (record { reading = s; forall_walks = forall_walks; locals = locals; alone = filter (is_alone r b) locals; blocks = ns }) None
-        (XB b) nothing vs [] [])
+      seq (record { reading = s; forall_walks = forall_walks; locals = locals; alone = filter (is_alone r b) locals; blocks = ns }) None
+      (XB b) nothing vs [] [])
       (blocks-same isos tokens b)
       (filter-same (λ x. not (is_alone s (XB b) x)) (λ x. not (is_alone r b x))
       (λ x. ap not (placing.alone-same isos tokens r s agree b x)) locals)

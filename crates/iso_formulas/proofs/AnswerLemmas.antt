@@ -1,5 +1,5 @@
 -- What is read off a pattern with all forms is what is read off the pattern: its first form stays.
-use Rattle.std.proofs.Common.{◌≡◌, Bool, refl, ap, Option, Some, List, [], ◌∷◌}
+use Rattle.std.proofs.Common.{◌≡◌, Bool, refl, ap, Some, List, [], ◌∷◌}
 use Rattle.std.specs.Prelude.{slice_get}
 use Rattle.std.specs.List.{list_any}
 use Rattle.c_terms.specs.declared.tree.Tree.{Tree, out-Tree}

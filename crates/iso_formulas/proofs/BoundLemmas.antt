@@ -1,5 +1,5 @@
 -- A formula with all forms is as large as the formula, and binds the same variables.
-use Rattle.std.proofs.Common.{◌≡◌, ℕ, suc, ◌+◌, max, Bool, true, false, not, ◌&&◌, ◌||◌, refl, ap, ap₂, ◌∙◌, List}
+use Rattle.std.proofs.Common.{◌≡◌, ℕ, ◌+◌, max, Bool, not, ◌&&◌, ◌||◌, refl, ap, ap₂, List}
 use Rattle.std.specs.Prelude.{nat_le}
 use Rattle.smpl_terms.specs.declared.var.Var.{Var}
 use Rattle.smpl_terms.specs.Vars.{same_var}
@@ -8,7 +8,7 @@ use Rattle.smpl_patch.specs.declared.pattern.Pattern.{Pattern}
 use Rattle.smpl_patch.specs.declared.rule.Iso.{Iso}
 use Rattle.ctl_formula.specs.Plain.{Plain, True, Atom, Bail, Exit, BraceOpen, BraceClose, Not, And, Or, AX, EX, AU, EU, Past, Down, Exists}
 use Rattle.ctl_formula.specs.Plain.{size, depth, most_parts, most_around, fits}
-use Rattle.ctl_formula.specs.Bounds.{Surely, bound, bound_not, each_quantifier, guarded_for}
+use Rattle.ctl_formula.specs.Bounds.{Surely, bound, bound_not, guarded_for}
 use Rattle.iso_expand.specs.Bodies.{expanded_pattern}
 use Rattle.iso_formulas.specs.Formulas.{expanded_formula}
 

@@ -1,5 +1,5 @@
 -- The formula of a rule with all forms, and what is wrong with such a rule's meaning.
-use Rattle.std.proofs.Common.{◌≡◌, ℕ, suc, Bool, true, false, not, ◌&&◌, refl, ap, ap₂, ◌∙◌, Option, None, Some, List, [], ◌∷◌, map, if◌then◌else◌}
+use Rattle.std.proofs.Common.{◌≡◌, ℕ, suc, Bool, false, not, ◌&&◌, refl, ap, ap₂, ◌∙◌, Option, None, Some, List, [], ◌∷◌, map, if◌then◌else◌}
 use Rattle.std.specs.List.{filter, list_any}
 use Rattle.smpl_terms.specs.declared.var.Var.{Var}
 use Rattle.smpl_terms.specs.Vars.{same_var}
@@ -17,9 +17,9 @@ use Rattle.ctl_formula.specs.Plain.{Plain, fits}
 use Rattle.ctl_formula.specs.Bounds.{bound, guarded_for}
 use Rattle.ctl_translate.specs.Placing.{Reading, any_body}
 use Rattle.ctl_translate.specs.Table.{formula}
-use Rattle.ctl_translate.specs.Rules.{reading, ranges_over_all, is_exported, locals, formula_of, is_unbound}
+use Rattle.ctl_translate.specs.Rules.{ranges_over_all, formula_of, is_unbound}
 use Rattle.smpl_check.specs.Checks.{in_plus_code, in_pattern, is_unbound_in_plus, fault_of_var, or_later, fault_of_vars, fault_of_rule, fault_from}
-use Rattle.iso_expand.specs.Bodies.{expanded_pattern, expanded_body}
+use Rattle.iso_expand.specs.Bodies.{expanded_pattern}
 use Rattle.iso_expand.specs.Patches.{IsExpandedRule, AreExpanded}
 use Rattle.iso_formulas.specs.Formulas.{expanded_formula}
 use Rattle.iso_formulas.proofs.AnswerLemmas.{FirstStays, stands-same, used-same, sure-same, statement-same}

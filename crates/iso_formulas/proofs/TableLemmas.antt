@@ -8,10 +8,10 @@ use Rattle.smpl_patch.specs.declared.pattern.Pattern.{Pattern}
 use Rattle.smpl_patch.specs.declared.rule.Iso.{Iso}
 use Rattle.smpl_patch.specs.Bodies.{Element, Compound, Block, Gap, Nest, AnyOf, AllOf, Body, End, Then, Bodies, NoMore, More}
 use Rattle.smpl_patch.specs.Bodies as bodies
-use Rattle.ctl_formula.specs.Plain.{Plain, True, Atom, BraceOpen, BraceClose, Not, And, Past, Down, Exists}
-use Rattle.ctl_translate.specs.Placing.{Reading, is_dots, any_body, occurs_element, occurs_body, at_suffix, is_alone}
+use Rattle.ctl_formula.specs.Plain.{Plain, Atom, BraceOpen, BraceClose, Not, And, Past, Down, Exists}
+use Rattle.ctl_translate.specs.Placing.{Reading, any_body, occurs_element, occurs_body, at_suffix, is_alone}
 use Rattle.ctl_translate.specs.Blocks.{blocks}
-use Rattle.ctl_translate.specs.Table.{Setting, Follow, Start, Brace, Dots, Other, nothing, start_of, first_of, in_scope}
+use Rattle.ctl_translate.specs.Table.{Setting, Follow, Start, Dots, Other, nothing, start_of, first_of, in_scope}
 use Rattle.ctl_translate.specs.Table.{exists_all, and_all, any_of, or_some, option_list, own, copy, hidden, near}
 use Rattle.ctl_translate.specs.Table.{near_body, near_each, near_first, near_option, is_end, joined, target, until, nested}
 use Rattle.ctl_translate.specs.Table.{condition, lone, closing, with_tail, downs, choices, seq, elem, each, first_and, when_parts}

@@ -16,7 +16,7 @@ use Rattle.ctl_holds.specs.Parts.{EachPattern}
 use Rattle.ctl_holds.specs.BoundLaw.{SureStand}
 use Rattle.ctl_translate.specs.Rules.{formula_of}
 use Rattle.edit_marks.specs.Edits.{HaveEvenBlocks}
-use Rattle.rule_envs.specs.Inherited.{inherited_by, inherited_of}
+use Rattle.rule_envs.specs.Inherited.{inherited_by}
 use Rattle.iso_expand.specs.Bodies.{expanded_pattern}
 use Rattle.iso_expand.specs.Patches.{IsExpandedRule, AreExpanded}
 use Rattle.iso_formulas.specs.Formulas.{expanded_formula}

@@ -12,12 +12,11 @@ use Rattle.smpl_patch.specs.declared.pattern.VarDecl.{VarDecl}
 use Rattle.smpl_patch.specs.declared.rule.Iso.{Iso}
 use Rattle.smpl_lexer.specs.declared.token.PatchToken.{PatchToken}
 use Rattle.smpl_meta.specs.Patterns.{made}
-use Rattle.iso_file.specs.Lines.{joined, groups, filled}
+use Rattle.iso_file.specs.Lines.{joined, groups, filled, put}
 use Rattle.iso_file.specs.Blocks.{blocks}
-use Rattle.iso_file.specs.Sides.{concatenated, sides_in, arrows_in}
+use Rattle.iso_file.specs.Sides.{concatenated, sides_in, arrows_in, arrow_of}
 use Rattle.iso_file.specs.Lost.{lost_between, BothWays, MayBecome, Loses, KeepsAll}
 use Rattle.iso_file.specs.Isos.{IsSide, AreSides, IsIso, AreIsos, AreIsosOf}
-use Rattle.iso_file.proofs.Arrows.{one_more}
 use Rattle.iso_forms.specs.Replacing.{may_become}
 use Rattle.iso_laws.specs.Fine.{covers, covers_from, all_cover, IsFine, AreFine}
 use Rattle.iso_fine.proofs.WeightLemmas.{weigh, weigh_lines, weigh_blocks, counted, lines-light, blocks-light, sides-of-lines}
@@ -39,6 +38,23 @@ and_right false b h = absurd (true≢false (sym h))
 either : (a b : Bool) → (a || b) ≡ true → (a ≡ true) ⊎ (b ≡ true)
 either true b h = inl refl
 either false b h = inr h
+
+-- ---- one side more than arrows
+
+put-length : (t : PatchToken) (gs : List (List PatchToken)) → 1 ≤ length gs → length (put t gs) ≡ length gs
+put-length t [] h = absurd (omega (arith, h))
+put-length t (g ∷ gs) h = refl
+
+one_more : (ts : List PatchToken) → length (sides_in ts) ≡ length (arrows_in ts) + 1
+one_more [] = refl
+one_more (t ∷ []) = refl
+one_more (t ∷ n ∷ ts) = by (arrow_of t n) (one_more ts) (one_more (n ∷ ts))
+  where
+    by : (o : Option Bool) → length (sides_in ts) ≡ length (arrows_in ts) + 1 → length (sides_in (n ∷ ts)) ≡ length (arrows_in (n ∷ ts)) + 1
+        → length (elim o as (λ x. List (List PatchToken)) [ Some both ↦ [] ∷ sides_in ts | None ↦ put t (sides_in (n ∷ ts)) ])
+        ≡ length (elim o as (λ x. List Bool) [ Some both ↦ both ∷ arrows_in ts | None ↦ arrows_in (n ∷ ts) ]) + 1
+    by (Some b) h k = omega (arith, h)
+    by None h k = put-length t (sides_in (n ∷ ts)) (omega (arith, k)) ∙ k
 
 -- ---- arrows
 

@@ -1,10 +1,9 @@
 -- A side covers another where none of the other's variables is lost.
-use Rattle.std.proofs.Common.{◌≡◌, ℕ, ◌≤◌, Bool, true, false, true≢false, not, ◌&&◌, ◌||◌, if◌then◌else◌, refl, sym, ap, ap₂, ◌∙◌, arith, eqb, eq-eqb, is_some, Option, None, Some, List, [], ◌∷◌, map}
-use Rattle.std.specs.List.{list_any, list_all}
+use Rattle.std.proofs.Common.{◌≡◌, ℕ, ◌≤◌, Bool, true, false, true≢false, not, ◌&&◌, ◌||◌, if◌then◌else◌, refl, sym, ap, ap₂, ◌∙◌, arith, eq-eqb, is_some, Option, None, Some, List, [], ◌∷◌, map}
+use Rattle.std.specs.List.{list_all}
 use Rattle.std.specs.Str.{bytes_eq}
 use Rattle.std.proofs.lemmas.Slice.Eq.{bytes_eq-Decides}
 use Rattle.c_terms.specs.declared.token.Token.{Token}
-use Rattle.c_terms.specs.declared.token.TokenKind.{TokenKind}
 use Rattle.c_terms.specs.declared.token.MetaKind.{MetaKind}
 use Rattle.c_terms.specs.declared.tree.Tree.{Tree}
 use Rattle.c_terms.specs.Same.{same_bytes}

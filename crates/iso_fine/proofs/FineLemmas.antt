@@ -4,7 +4,7 @@ use Rattle.std.specs.List.{list_all}
 use Rattle.std.proofs.lemmas.Bool.Decides.{nat_tests}
 use Rattle.std.proofs.lemmas.Option.{slice_get_within}
 use Rattle.c_terms.specs.declared.tree.Tree.{Tree}
-use Rattle.c_terms.specs.Trees.{leaves, width}
+use Rattle.c_terms.specs.Trees.{width}
 use Rattle.c_terms.specs.Names.{listed_names}
 use Rattle.c_rows.specs.declared.kind.Kind.TheVariants as kinds
 use Rattle.c_rows.proofs.RangeLemmas.{tree_leaves}
@@ -15,7 +15,7 @@ use Rattle.smpl_meta.specs.Patterns.{made}
 use Rattle.iso_file.specs.Lines.{joined, groups, filled, put}
 use Rattle.iso_file.specs.Blocks.{blocks}
 use Rattle.iso_file.specs.Sides.{concatenated, sides_in, arrows_in, arrow_of}
-use Rattle.iso_file.specs.Lost.{lost_between, BothWays, MayBecome, Loses, KeepsAll}
+use Rattle.iso_file.specs.Lost.{lost_between, MayBecome, KeepsAll}
 use Rattle.iso_file.specs.Isos.{IsSide, AreSides, IsIso, AreIsos, AreIsosOf}
 use Rattle.iso_forms.specs.Replacing.{may_become}
 use Rattle.iso_laws.specs.Fine.{covers, covers_from, all_cover, IsFine, AreFine}

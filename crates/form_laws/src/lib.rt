@@ -1,0 +1,11 @@
+//! Laws of the chain for patches whose patterns have all their forms under isomorphisms.
+//!
+//! - [`rules_with_forms_may_run`]: what `apply` asks of the rules of a patch, those of a patch that is read have also when their
+//!   patterns have all forms.
+//!
+//! The function does nothing.
+#![tactic(auto)]
+
+mod laws;
+
+pub use laws::rules_with_forms_may_run;

@@ -1,0 +1,2 @@
+-- Formulas whose patterns have all forms.
+pub mod Formulas

@@ -1,0 +1,6 @@
+pub mod PieceLemmas
+pub mod BlockLemmas
+pub mod LostLemmas
+pub mod FileLemmas
+pub mod BodyOnce
+pub mod ExpandLemmas

@@ -10,6 +10,7 @@ abbrev pub number_of : Status → ℕ
 number_of status.Done = 0
 number_of status.WordsRefused = 1
 number_of status.PatchRefused = 2
+number_of status.IsosRefused = 3
 number_of status.FileRefused = 4
 number_of status.CannotRead = 5
 number_of status.CannotWrite = 6

@@ -14,7 +14,9 @@ pub enum Status {
     WordsRefused = 1,
     /// The patch is refused.
     PatchRefused = 2,
-    /// The file is refused.
+    /// The isomorphisms are refused.
+    IsosRefused = 3,
+    /// Some file is refused.
     FileRefused = 4,
     /// Nothing stands under a name, or its load failed; the line about it was put.
     CannotRead = 5,

@@ -37,6 +37,7 @@ fn the_statuses_have_these_numbers(rt: HostRuntime) {
         (Status::Done, 0),
         (Status::WordsRefused, 1),
         (Status::PatchRefused, 2),
+        (Status::IsosRefused, 3),
         (Status::FileRefused, 4),
         (Status::CannotRead, 5),
         (Status::CannotWrite, 6),

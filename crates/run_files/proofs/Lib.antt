@@ -1,0 +1,4 @@
+pub mod ActLemmas
+pub mod ReportLemmas
+pub mod TreatLemmas
+pub mod RefusalLemmas

@@ -1,0 +1,31 @@
+-- No text is refused for want of memory.
+use Rattle.std.proofs.Common.{◌≡◌, ℕ, suc, List, [], ◌∷◌, inl, inr}
+use Rattle.c_lexer.specs.Pieces.{TextPiece}
+use Rattle.edit_conflict.specs.declared.edit.Edit.{Edit}
+use Rattle.smpl_patch.specs.declared.rule.Rule.{Rule}
+use Rattle.rule_edits.specs.declared.fault.EditFault.{EditFault}
+use Rattle.rule_edits.specs.Faults.{IsEditFault}
+use Rattle.rule_edits.specs.Faults.IsEditFault.{conflict, too_long}
+use Rattle.rule_work.specs.declared.fault.FileFault.{FileFault}
+use Rattle.rule_work.specs.declared.fault.FileFault.TheVariants.{NoMemory}
+use Rattle.rule_work.specs.States.{Chained}
+use Rattle.rule_work.specs.OneRule.{IsFault, edit_fault}
+use Rattle.rule_work.specs.OneRule.IsFault.{too_many_witnesses, too_many_environments, in_edits}
+use Rattle.rule_chain.specs.Chain.{Refused, Runs}
+
+edits_say_why : (number next : ℕ) (pieces : List TextPiece) (edits : List Edit) (fault : EditFault) → IsEditFault next pieces edits fault
+    → edit_fault number fault ≡ NoMemory → ⊥
+edits_say_why number next pieces edits _ (conflict c id first second is at one two) e = absurd cc
+edits_say_why number next pieces edits _ (too_long apart long) e = absurd cc
+
+faults_say_why : (defined : List (List ℕ)) (number : ℕ) (rule : Rule) (s : Chained) (fault : FileFault) → IsFault defined number rule s fault
+    → fault ≡ NoMemory → ⊥
+faults_say_why defined number rule s _ (too_many_witnesses is) e = absurd cc
+faults_say_why defined number rule s _ (too_many_environments few many) e = absurd cc
+faults_say_why defined number rule s _ (in_edits edits fault few are is) e = edits_say_why number s.page.next s.pieces edits fault is e
+
+pub runs_say_why : (defined : List (List ℕ)) (number : ℕ) (rules : List Rule) (s : Chained) → Runs defined number rules s (Refused NoMemory) → ⊥
+runs_say_why defined number [] s e = absurd cc
+runs_say_why defined number (rule ∷ rules) s (inl stop) =
+    let same : stop.0 ≡ NoMemory = let e = stop.1.1 in cc in faults_say_why defined number rule s stop.0 stop.1.0 same
+runs_say_why defined number (rule ∷ rules) s (inr on) = runs_say_why defined (suc number) rules on.0 on.1.1

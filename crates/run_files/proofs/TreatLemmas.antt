@@ -1,0 +1,197 @@
+-- How a text is treated, by how far the acts that it brings were done.
+use Rattle.std.proofs.Common.{◌≡◌, ◌≤◌, ◌∙◌, true, false, Bool, cond, ℕ, List, length, [], ◌∷◌, ◌++◌}
+use Rattle.std.proofs.Common.{None, Some, Err, refl, sym, inl, inr, map, ap, subst, codes}
+use Rattle.std.specs.Prelude.{Option}
+use Rattle.std.specs.Fmt.{decimal}
+use Rattle.run_acts.specs.Acts.{Act, Report, Print, Told}
+use Rattle.run_acts.specs.Breaks.{Counts, NoneFell}
+use Rattle.smpl_patch.specs.declared.rule.Rule.{Rule}
+use Rattle.smpl_patch.specs.declared.rule.Patch.{Patch}
+use Rattle.smpl_patch.specs.declared.witness.RuleWitness.{RuleWitness}
+use Rattle.wit_print.specs.Report.{report_of}
+use Rattle.rule_work.specs.declared.state.SkipNote.{SkipNote}
+use Rattle.rule_work.specs.declared.fault.FileFault.{FileFault}
+use Rattle.rule_work.specs.declared.fault.FileFault.TheVariants.{NoMemory}
+use Rattle.rule_work.specs.States.{Chained}
+use Rattle.rule_chain.specs.declared.state.Applied.{Applied}
+use Rattle.rule_chain.specs.Chain.{Chain, Done, Refused}
+use Rattle.rule_chain.specs.Results.{AnswersState, IsResult}
+use Rattle.run_words.specs.declared.order.Mode.{Mode}
+use Rattle.run_lines.specs.Files.{refused_line, skipped_line}
+use Rattle.run_lines.specs.Summary.{summary, rule_lines}
+use Rattle.run_files.specs.Treatment.{refuses, printing, storing, shown, kept, skipped_lines, treated_by, summed_by, Treats, Sums}
+use Rattle.run_files.specs.Does.{Does, Stops}
+use Rattle.run_files.specs.Cuts.{TreatsAll, TreatsPart}
+use Rattle.run_files.specs.Cuts.TreatsPart.{earlier, later}
+use Rattle.run_files.specs.Applies.{AppliesTo, Refuses}
+use Rattle.run_files.proofs.ActLemmas.{Does-then, Does-as, Stops-first, Stops-then, Stops-as, printing_after}
+use Rattle.run_files.proofs.ReportLemmas.{report-bare, summary-bare}
+
+-- ---- lines of skipped items
+
+abbrev pub note_act : List ℕ → SkipNote → Act
+note_act name note = Report (skipped_line name note)
+
+-- the notes that were answered are those of the state
+pub notes_done : (name : List ℕ) (notes : List SkipNote) (s : Chained) (old mid new : Told) → notes ≡ s.skipped → mid ≡ old
+    → Does (map (note_act name) notes) mid new → Does (skipped_lines name s) old new
+notes_done name notes s old mid new is same does =
+    Does-as (map (note_act name) notes) (skipped_lines name s) old new (ap (map (note_act name)) is)
+    (Does-then [] (map (note_act name) notes) old mid new (record { told = same }) does)
+
+notes_stop : (name : List ℕ) (notes : List SkipNote) (s : Chained) (first before now : Counts) (old mid new : Told) (status : ℕ)
+    → notes ≡ s.skipped → NoneFell first before → mid ≡ old → Stops (map (note_act name) notes) before now mid new status
+    → Stops (skipped_lines name s) first now old new status
+notes_stop name notes s first before now old mid new status is fell same stops =
+    Stops-as (map (note_act name) notes) (skipped_lines name s) first now old new status (ap (map (note_act name)) is)
+    (Stops-then [] (map (note_act name) notes) first before now old mid new status fell (record { told = same }) stops)
+
+-- ---- what is shown and kept
+
+module _ (mode : Mode) (patch : Patch) (name : List ℕ) (s : Chained) where
+  pub shown_report : mode.witnesses ≡ true → printing (report_of patch name s.found) ≡ shown mode patch name s
+  shown_report is = sym (ap (λ (b : Bool). cond b (printing (report_of patch name s.found)) (cond mode.in_place [] (printing s.page.bytes))) is)
+
+  shown_else : mode.witnesses ≡ false → cond mode.in_place [] (printing s.page.bytes) ≡ shown mode patch name s
+  shown_else is = sym (ap (λ (b : Bool). cond b (printing (report_of patch name s.found)) (cond mode.in_place [] (printing s.page.bytes))) is)
+
+  pub shown_none : mode.witnesses ≡ false → mode.in_place ≡ true → [] ≡ shown mode patch name s
+  shown_none is stored = sym (ap (λ (b : Bool). cond b [] (printing s.page.bytes)) stored) ∙ shown_else is
+
+  pub shown_text : mode.witnesses ≡ false → mode.in_place ≡ false → printing s.page.bytes ≡ shown mode patch name s
+  shown_text is stored = sym (ap (λ (b : Bool). cond b [] (printing s.page.bytes)) stored) ∙ shown_else is
+
+pub kept_none : (mode : Mode) (name bytes : List ℕ) (s : Chained) → mode.in_place ≡ false → [] ≡ kept mode name bytes s
+kept_none mode name bytes s is = sym (ap (λ (b : Bool). cond b (storing name bytes s.page.bytes) []) is)
+
+pub kept_text : (mode : Mode) (name bytes : List ℕ) (s : Chained) → mode.in_place ≡ true → storing name bytes s.page.bytes ≡ kept mode name bytes s
+kept_text mode name bytes s is = sym (ap (λ (b : Bool). cond b (storing name bytes s.page.bytes) []) is)
+
+-- neither a report nor a summary is empty
+pub report_prints : (patch : Patch) (name : List ℕ) (ws : List RuleWitness) → Print (report_of patch name ws) ∷ [] ≡ printing (report_of patch name ws)
+report_prints patch name ws = refl
+
+pub summary_prints : (rules : List Rule) (ws : List RuleWitness) (bytes : ℕ) → Print (summary rules ws bytes) ∷ [] ≡ printing (summary rules ws bytes)
+summary_prints rules ws bytes = sym (printing_after (rule_lines 0 rules ws ++ codes "bytes " ++ decimal bytes) (codes "\n") refl)
+
+-- the answered witnesses are reported as those of the state
+pub report_shown : (patch : Patch) (name : List ℕ) (applied : Applied) (s : Chained) → AnswersState applied s
+    → report_of patch name applied.witnesses ≡ report_of patch name s.found
+report_shown patch name applied s a = sym (report-bare patch name applied.witnesses) ∙ ap (report_of patch name) a.witnesses
+
+pub summary_shown : (rules : List Rule) (applied : Applied) (s : Chained) → AnswersState applied s
+    → summary rules applied.witnesses (length applied.bytes.items) ≡ summary rules s.found (length s.page.bytes)
+summary_shown rules applied s a =
+    sym (summary-bare rules applied.witnesses (length applied.bytes.items))
+    ∙ (λ i. summary rules (a.witnesses i) (length (a.bytes i)))
+
+-- what is made of the bytes, by whether they are refused
+pub applied_some : (patch : Patch) (defined : List (List ℕ)) (name bytes : List ℕ) (o : Option Applied) (applied : Applied) (old new : Told)
+    → o ≡ Some applied → AppliesTo patch defined name bytes o old new → AppliesTo patch defined name bytes (Some applied) old new
+applied_some patch defined name bytes o applied old new is made = subst (λ (a : Option Applied). AppliesTo patch defined name bytes a old new) is made
+
+pub applied_none : (patch : Patch) (defined : List (List ℕ)) (name bytes : List ℕ) (o : Option Applied) (old new : Told)
+    → ((applied : Applied) → o ≡ Some applied → ⊥) → AppliesTo patch defined name bytes o old new → AppliesTo patch defined name bytes None old new
+applied_none patch defined name bytes None old new not made = made
+applied_none patch defined name bytes (Some applied) old new not made = absurd (not applied refl)
+
+-- a fault that is not for want of memory is that of the chain
+pub chain_of : (rules : List Rule) (defined : List (List ℕ)) (bytes : List ℕ) (fault : FileFault) → (fault ≡ NoMemory → ⊥)
+    → IsResult rules defined bytes (Err fault) → Chain rules defined bytes (Refused fault)
+chain_of rules defined bytes fault other (inl none) = absurd (other none)
+chain_of rules defined bytes fault other (inr chain) = chain
+
+-- ---- a file
+
+module _ (mode : Mode) (patch : Patch) (defined : List (List ℕ)) (name bytes : List ℕ) (short : length bytes ≤ 16777216) where
+  pub refused_all : (old new : Told) → AppliesTo patch defined name bytes None old new → TreatsAll (Treats mode patch defined name bytes) true old new
+  refused_all old new is = record {
+    treated = refuses (refused_line name is.0);
+    treats = inr (short, (Refused is.0, (is.1.0, refl)));
+    refused_is = refl;
+    does = is.1.1;
+  }
+
+  pub refused_part : (before now : Counts) (old new : Told) (status : ℕ) → TreatsPart (Refuses patch defined name bytes) before now old new status
+      → TreatsPart (Treats mode patch defined name bytes) before now old new status
+  refused_part before now old new status (earlier memory same) = earlier memory same
+  refused_part before now old new status (later treated is stops) =
+      later treated (inr (short, (Refused is.0, (is.1.0, is.1.1)))) stops
+
+  module _ (s : Chained) (chain : Chain patch.rules defined bytes (Done s)) (notes : List SkipNote) (notes_are : notes ≡ s.skipped) where
+    pub treated_all : (old mid one two new : Told) → mid ≡ old → Does (map (note_act name) notes) mid one → Does (shown mode patch name s) one two
+        → Does (kept mode name bytes s) two new → TreatsAll (Treats mode patch defined name bytes) false old new
+    treated_all old mid one two new same first second third = record {
+      treated = treated_by mode patch name bytes (Done s);
+      treats = inr (short, (Done s, (chain, refl)));
+      refused_is = refl;
+      does = Does-then (skipped_lines name s ++ shown mode patch name s) (kept mode name bytes s) old two new
+          (Does-then (skipped_lines name s) (shown mode patch name s) old one two (notes_done name notes s old mid one notes_are same first) second) third;
+    }
+
+    pub stopped_in_lines : (first before now : Counts) (old mid new : Told) (status : ℕ) → NoneFell first before → mid ≡ old
+        → Stops (map (note_act name) notes) before now mid new status → TreatsPart (Treats mode patch defined name bytes) first now old new status
+    stopped_in_lines first before now old mid new status fell same stops =
+        later (treated_by mode patch name bytes (Done s)) (inr (short, (Done s, (chain, refl))))
+        (Stops-first (skipped_lines name s ++ shown mode patch name s) (kept mode name bytes s) first now old new status
+        (Stops-first (skipped_lines name s) (shown mode patch name s) first now old new status
+        (notes_stop name notes s first before now old mid new status notes_are fell same stops)))
+
+    pub stopped_in_shown : (first before now : Counts) (old mid one new : Told) (status : ℕ) → NoneFell first before → mid ≡ old
+        → Does (map (note_act name) notes) mid one → Stops (shown mode patch name s) before now one new status
+        → TreatsPart (Treats mode patch defined name bytes) first now old new status
+    stopped_in_shown first before now old mid one new status fell same lines stops =
+        later (treated_by mode patch name bytes (Done s)) (inr (short, (Done s, (chain, refl))))
+        (Stops-first (skipped_lines name s ++ shown mode patch name s) (kept mode name bytes s) first now old new status
+        (Stops-then (skipped_lines name s) (shown mode patch name s) first before now old one new status fell
+        (notes_done name notes s old mid one notes_are same lines) stops))
+
+    pub stopped_in_kept : (first before now : Counts) (old mid one two new : Told) (status : ℕ) → NoneFell first before → mid ≡ old
+        → Does (map (note_act name) notes) mid one → Does (shown mode patch name s) one two → Stops (kept mode name bytes s) before now two new status
+        → TreatsPart (Treats mode patch defined name bytes) first now old new status
+    stopped_in_kept first before now old mid one two new status fell same lines text stops =
+        later (treated_by mode patch name bytes (Done s)) (inr (short, (Done s, (chain, refl))))
+        (Stops-then (skipped_lines name s ++ shown mode patch name s) (kept mode name bytes s) first before now old two new status fell
+        (Does-then (skipped_lines name s) (shown mode patch name s) old one two (notes_done name notes s old mid one notes_are same lines) text) stops)
+
+-- ---- a generated text
+
+module _ (patch : Patch) (defined : List (List ℕ)) (name bytes : List ℕ) where
+  pub sum_refused_all : (old new : Told) → AppliesTo patch defined name bytes None old new → TreatsAll (Sums patch defined name bytes) true old new
+  sum_refused_all old new is = record {
+    treated = refuses (refused_line name is.0);
+    treats = (Refused is.0, (is.1.0, refl));
+    refused_is = refl;
+    does = is.1.1;
+  }
+
+  pub sum_refused_part : (before now : Counts) (old new : Told) (status : ℕ) → TreatsPart (Refuses patch defined name bytes) before now old new status
+      → TreatsPart (Sums patch defined name bytes) before now old new status
+  sum_refused_part before now old new status (earlier memory same) = earlier memory same
+  sum_refused_part before now old new status (later treated is stops) = later treated (Refused is.0, (is.1.0, is.1.1)) stops
+
+  module _ (s : Chained) (chain : Chain patch.rules defined bytes (Done s)) (notes : List SkipNote) (notes_are : notes ≡ s.skipped) where
+    pub summed_all : (old mid one new : Told) → mid ≡ old → Does (map (note_act name) notes) mid one
+        → Does (printing (summary patch.rules s.found (length s.page.bytes))) one new → TreatsAll (Sums patch defined name bytes) false old new
+    summed_all old mid one new same first second = record {
+      treated = summed_by patch name (Done s);
+      treats = (Done s, (chain, refl));
+      refused_is = refl;
+      does = Does-then (skipped_lines name s) (printing (summary patch.rules s.found (length s.page.bytes))) old one new
+          (notes_done name notes s old mid one notes_are same first) second;
+    }
+
+    pub sum_stopped_in_lines : (first before now : Counts) (old mid new : Told) (status : ℕ) → NoneFell first before → mid ≡ old
+        → Stops (map (note_act name) notes) before now mid new status → TreatsPart (Sums patch defined name bytes) first now old new status
+    sum_stopped_in_lines first before now old mid new status fell same stops =
+        later (summed_by patch name (Done s)) (Done s, (chain, refl))
+        (Stops-first (skipped_lines name s) (printing (summary patch.rules s.found (length s.page.bytes))) first now old new status
+        (notes_stop name notes s first before now old mid new status notes_are fell same stops))
+
+    pub stopped_in_summary : (first before now : Counts) (old mid one new : Told) (status : ℕ) → NoneFell first before → mid ≡ old
+        → Does (map (note_act name) notes) mid one → Stops (printing (summary patch.rules s.found (length s.page.bytes))) before now one new status
+        → TreatsPart (Sums patch defined name bytes) first now old new status
+    stopped_in_summary first before now old mid one new status fell same lines stops =
+        later (summed_by patch name (Done s)) (Done s, (chain, refl))
+        (Stops-then (skipped_lines name s) (printing (summary patch.rules s.found (length s.page.bytes))) first before now old one new status fell
+        (notes_done name notes s old mid one notes_are same lines) stops)

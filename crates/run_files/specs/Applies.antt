@@ -1,0 +1,34 @@
+-- What a patch makes of the bytes of a file, where its refusal is reported.
+use Rattle.std.specs.Prelude.{ℕ, ◌≡◌, ◌<◌, ◌^◌, List, [], ◌∷◌, Option, Some, None, length}
+use Rattle.std.specs.List.{AllZip}
+use Rattle.run_acts.specs.Acts.{Report, Told}
+use Rattle.smpl_patch.specs.declared.rule.Patch.{Patch}
+use Rattle.rule_formulas.specs.declared.prepared.Prepared.{Prepared}
+use Rattle.rule_formulas.specs.Prepared.{ArePrepared}
+use Rattle.rule_work.specs.declared.fault.FileFault.{FileFault}
+use Rattle.rule_work.specs.States.{Chained}
+use Rattle.rule_chain.specs.declared.state.Applied.{Applied}
+use Rattle.rule_chain.specs.Asked.{MayRun}
+use Rattle.rule_chain.specs.Chain.{Chain, Done, Refused}
+use Rattle.rule_chain.specs.Results.{AnswersState}
+use Rattle.run_lines.specs.Files.{refused_line}
+use Rattle.run_files.specs.Treatment.{Treated, refuses}
+use Rattle.run_files.specs.Does.{Does}
+
+-- the rules of the patch may be run by what is prepared of them
+pub record IsReady (patch : Patch) (prepared : Prepared) : Type 0 where
+  pub few : length patch.rules < 2 ^ 32
+  pub prepared_are : ArePrepared patch.rules prepared.rules
+  pub may : AllZip MayRun patch.rules prepared.rules
+
+-- the bytes are refused under the patch, and treated so
+abbrev pub Refuses : Patch → List (List ℕ) → List ℕ → List ℕ → Treated → Type 0
+Refuses patch defined name bytes treated =
+    (fault : FileFault) × (Chain patch.rules defined bytes (Refused fault) × (treated ≡ refuses (refused_line name fault)))
+
+-- the last state is answered, and nothing is told anew; or the text is refused, and its line is reported
+abbrev pub AppliesTo : Patch → List (List ℕ) → List ℕ → List ℕ → Option Applied → Told → Told → Type 0
+AppliesTo patch defined name bytes (Some applied) old new =
+    (s : Chained) × (Chain patch.rules defined bytes (Done s) × (AnswersState applied s × (new ≡ old)))
+AppliesTo patch defined name bytes None old new =
+    (fault : FileFault) × (Chain patch.rules defined bytes (Refused fault) × Does (Report (refused_line name fault) ∷ []) old new)

@@ -1,0 +1,16 @@
+-- Acts that are done one after another, or up to one that breaks. No stage is in it.
+use Rattle.std.specs.Prelude.{ℕ, ◌≡◌, List, ◌∷◌, ◌++◌}
+use Rattle.run_acts.specs.Acts.{Act, Told, after}
+use Rattle.run_acts.specs.Breaks.{Counts, Breaks}
+
+-- all of them were done, and this is told after them
+pub record Does (acts : List Act) (old new : Told) : Type 0 where
+  pub told : new ≡ after acts old
+
+-- they were done up to one that broke
+pub record Stops (acts : List Act) (before now : Counts) (old new : Told) (status : ℕ) : Type 0 where
+  pub part : List Act
+  pub act : Act
+  pub rest : List Act
+  pub is : acts ≡ part ++ act ∷ rest
+  pub breaks : Breaks before now act (after part old) new status

@@ -1,0 +1,64 @@
+// A patch over the bytes of a text.
+ghost use Rattle.std.specs.Prelude.{◌≤◌, ◌↔◌, ◌≡◌, List, ℕ, Option, IsTrue, length, IfOk, IfErr};
+ghost use Rattle.outer_io.specs.Files.{Files};
+ghost use Rattle.run_acts.specs.Acts.{told};
+ghost use Rattle.run_acts.specs.Breaks.{counts};
+ghost use Rattle.run_acts.specs.Statuses.{status_of};
+ghost use Rattle.rule_work.specs.declared.fault.FileFault.TheVariants as cause;
+ghost use Rattle.run_files.specs.Cuts.{TreatsPart};
+ghost use Rattle.run_files.specs.Applies.{IsReady, AppliesTo, Refuses};
+
+use crate::brings::refuse;
+use c_terms::Text;
+use outer_io::Sink;
+use rule_chain::{Applied, apply};
+use rule_formulas::Prepared;
+use rule_work::FileFault;
+use run_acts::Stopped;
+use smpl_patch::Patch;
+use std::alloc::Global;
+
+/// A patch that is read, what its rules are run by, and the virtual names that hold.
+#[derive(Clone, Copy)]
+pub struct Ready<'a> {
+    pub patch: &'a Patch,
+    pub prepared: &'a Prepared,
+    pub defined: &'a [Text],
+}
+
+fn is_no_memory(fault: &FileFault) -> bool
+    ensures { IsTrue result ↔ (fault.now ≡ cause.NoMemory) }
+{
+    matches!(fault, FileFault::NoMemory)
+}
+
+/// The patch over the bytes; nothing where they are refused, whose line is reported.
+pub fn apply_or_refuse<E: Sink>(
+    alloc: Global,
+    ready: &Ready<'_>,
+    name: &str,
+    bytes: Vec<u8>,
+    err: &mut E,
+) -> Result<Option<Applied>, Stopped>
+    requires ready { IsReady ready.now.patch.now ready.now.prepared.now }
+    requires short { length bytes.items ≤ 16777216 }
+    ensures done { IfOk result (λ applied. (files : Option Files) (stores : ℕ) (out : Option (List ℕ)) →
+        AppliesTo ready.now.patch.now ready.now.defined.now name.now bytes.items applied
+        (told files stores out (E.written err.old)) (told files stores out (E.written err.new))) }
+    ensures later { E.faults err.old ≤ E.faults err.new }
+    ensures stopped { IfErr result (λ stopped. (files : Option Files) (out : Option (List ℕ)) (stores s o s' o' : ℕ) →
+        TreatsPart (Refuses ready.now.patch.now ready.now.defined.now name.now bytes.items)
+        (counts s o (E.faults err.old)) (counts s' o' (E.faults err.new))
+        (told files stores out (E.written err.old)) (told files stores out (E.written err.new)) (status_of stopped)) }
+{
+    match apply(alloc, ready.patch, ready.prepared, ready.defined, bytes) {
+        Ok(applied) => Ok(Some(applied)),
+        Err(fault) => {
+            if is_no_memory(&fault) {
+                return Err(Stopped::NoMemory);
+            }
+            refuse(alloc, err, name, &fault)?;
+            Ok(None)
+        }
+    }
+}

@@ -1,0 +1,10 @@
+// What holds of every refusal.
+ghost use Rattle.std.specs.Prelude.{List, ℕ};
+ghost use Rattle.smpl_patch.specs.declared.rule.Rule.{Rule};
+ghost use Rattle.rule_work.specs.declared.fault.FileFault.TheVariants as cause;
+ghost use Rattle.rule_chain.specs.Chain.{Chain, Refused};
+
+/// No text is refused for want of memory, so the line of a refusal says why. Does nothing.
+pub fn refusals_say_why()
+    ensures { (rules : List Rule) (defined : List (List ℕ)) (bytes : List ℕ) → Chain rules defined bytes (Refused cause.NoMemory) → ⊥ }
+{}

@@ -1,0 +1,194 @@
+// The treatment of one text.
+ghost use Rattle.std.specs.Prelude.{◌≡◌, ◌≤◌, List, ℕ, Option, length, IfOk, OnOk, IfErr};
+ghost use Rattle.outer_io.specs.Files.{Files};
+ghost use Rattle.run_acts.specs.Acts.{told};
+ghost use Rattle.run_acts.specs.Breaks.{counts};
+ghost use Rattle.run_acts.specs.Statuses.{status_of};
+ghost use Rattle.rule_work.specs.States.{Chained};
+ghost use Rattle.rule_chain.specs.Results.{AnswersState};
+ghost use Rattle.run_lines.specs.Summary as lines;
+ghost use Rattle.run_files.specs.Treatment.{Treats, Sums, printing, shown, kept};
+ghost use Rattle.run_files.specs.Does.{Does, Stops};
+ghost use Rattle.run_files.specs.Cuts.{TreatsAll, TreatsPart};
+ghost use Rattle.run_files.specs.Applies.{IsReady};
+
+use crate::applies::{Ready, apply_or_refuse};
+use crate::brings::{keep, report_skipped, show};
+use c_terms::NoMemory;
+use outer_io::{Shelf, Sink};
+use rule_chain::Applied;
+use run_acts::Stopped;
+use run_lines::summary;
+use run_words::Mode;
+use smpl_patch::Patch;
+use std::alloc::Global;
+use wit_print::print as report_of;
+
+/// What is compared with the text that is stored: the bytes as they were. Nothing is copied where none is stored.
+fn copied(alloc: Global, mode: Mode, bytes: &[u8]) -> Result<Vec<u8>, NoMemory>
+    ensures { IfOk result (λ old. (name : List ℕ) (s : Chained) → kept mode name old.items s ≡ kept mode name bytes.now s) }
+{
+    if mode.in_place {
+        return Ok(Vec::from_slice(alloc, bytes)?);
+    }
+    Ok(Vec::new(alloc))
+}
+
+/// Applies the patch to the bytes of a file, and brings what comes of it: the lines of the items that were skipped, reading by
+/// reading; its report or its text on the output; its text on the shelf, where it changed. A file that is refused brings its line
+/// and nothing else. Whether it is refused.
+///
+/// Costs one [`apply`](rule_chain::apply), its report or its text, and under `in_place` a copy of the bytes. Stops at the first act
+/// that fails, and where memory is wanting.
+pub fn treat<S: Shelf, O: Sink, E: Sink>(
+    alloc: Global,
+    ready: &Ready<'_>,
+    mode: Mode,
+    name: &str,
+    bytes: Vec<u8>,
+    shelf: &mut S,
+    out: &mut O,
+    err: &mut E,
+) -> Result<bool, Stopped>
+    requires ready { IsReady ready.now.patch.now ready.now.prepared.now }
+    requires short { length bytes.items ≤ 16777216 }
+    ensures treated { IfOk result (λ refused. TreatsAll (Treats mode ready.now.patch.now ready.now.defined.now name.now bytes.items) refused
+        (told (S.holds shelf.old) (S.stores shelf.old) (O.written out.old) (E.written err.old))
+        (told (S.holds shelf.new) (S.stores shelf.new) (O.written out.new) (E.written err.new))) }
+    ensures later { S.faults shelf.old ≤ S.faults shelf.new }
+    ensures later_out { O.faults out.old ≤ O.faults out.new }
+    ensures later_err { E.faults err.old ≤ E.faults err.new }
+    ensures stopped { IfErr result (λ stopped. TreatsPart (Treats mode ready.now.patch.now ready.now.defined.now name.now bytes.items)
+        (counts (S.faults shelf.old) (O.faults out.old) (E.faults err.old))
+        (counts (S.faults shelf.new) (O.faults out.new) (E.faults err.new))
+        (told (S.holds shelf.old) (S.stores shelf.old) (O.written out.old) (E.written err.old))
+        (told (S.holds shelf.new) (S.stores shelf.new) (O.written out.new) (E.written err.new)) (status_of stopped)) }
+{
+    let old = copied(alloc, mode, &bytes)?;
+    let Some(applied) = apply_or_refuse(alloc, ready, name, bytes, err)? else {
+        return Ok(true);
+    };
+    report_skipped(alloc, err, name, applied.skipped.as_slice())?;
+    show_file(alloc, ready.patch, mode, name, &applied, out, err)?;
+    keep_file(alloc, mode, name, &old, &applied.bytes, shelf, err)?;
+    Ok(false)
+}
+
+/// Prints the report of the witnesses, or the text where it isn't stored.
+fn show_file<O: Sink, E: Sink>(
+    alloc: Global,
+    patch: &Patch,
+    mode: Mode,
+    name: &str,
+    applied: &Applied,
+    out: &mut O,
+    err: &mut E,
+) -> Result<(), Stopped>
+    ensures done { OnOk result ((s : Chained) (files : Option Files) (stores : ℕ) → AnswersState applied.now s →
+        Does (shown mode patch.now name.now s)
+        (told files stores (O.written out.old) (E.written err.old)) (told files stores (O.written out.new) (E.written err.new))) }
+    ensures later { O.faults out.old ≤ O.faults out.new }
+    ensures later_err { E.faults err.old ≤ E.faults err.new }
+    ensures stopped { IfErr result (λ stopped. (s : Chained) (files : Option Files) (stores n n' : ℕ) → AnswersState applied.now s →
+        Stops (shown mode patch.now name.now s)
+        (counts n (O.faults out.old) (E.faults err.old)) (counts n' (O.faults out.new) (E.faults err.new))
+        (told files stores (O.written out.old) (E.written err.old)) (told files stores (O.written out.new) (E.written err.new))
+        (status_of stopped)) }
+{
+    if mode.witnesses {
+        let text = report_of(alloc, patch, name.as_bytes(), applied.witnesses.as_slice())?;
+        return show(out, err, &text);
+    }
+    if mode.in_place {
+        return Ok(());
+    }
+    show(out, err, &applied.bytes)
+}
+
+/// Stores the text, where it is to be stored and differs from what was loaded.
+fn keep_file<S: Shelf, E: Sink>(
+    alloc: Global,
+    mode: Mode,
+    name: &str,
+    old: &[u8],
+    text: &[u8],
+    shelf: &mut S,
+    err: &mut E,
+) -> Result<(), Stopped>
+    ensures done { OnOk result ((s : Chained) (out : Option (List ℕ)) → s.page.bytes ≡ text.now → Does (kept mode name.now old.now s)
+        (told (S.holds shelf.old) (S.stores shelf.old) out (E.written err.old))
+        (told (S.holds shelf.new) (S.stores shelf.new) out (E.written err.new))) }
+    ensures later { S.faults shelf.old ≤ S.faults shelf.new }
+    ensures later_err { E.faults err.old ≤ E.faults err.new }
+    ensures stopped { IfErr result (λ stopped. (s : Chained) (out : Option (List ℕ)) (o o' : ℕ) → s.page.bytes ≡ text.now →
+        Stops (kept mode name.now old.now s)
+        (counts (S.faults shelf.old) o (E.faults err.old)) (counts (S.faults shelf.new) o' (E.faults err.new))
+        (told (S.holds shelf.old) (S.stores shelf.old) out (E.written err.old))
+        (told (S.holds shelf.new) (S.stores shelf.new) out (E.written err.new)) (status_of stopped)) }
+{
+    if !mode.in_place {
+        return Ok(());
+    }
+    keep(alloc, shelf, err, name, old, text)
+}
+
+/// Applies the patch to a generated text of this name, and brings what comes of it: the lines of the items that were skipped, and
+/// its summary on the output; or the line of its refusal and nothing else. Whether it is refused.
+///
+/// Costs one [`apply`](rule_chain::apply) and one [`summary`]. Stops at the first act that fails, and where memory is wanting.
+pub fn sum<O: Sink, E: Sink>(
+    alloc: Global,
+    ready: &Ready<'_>,
+    name: &str,
+    bytes: Vec<u8>,
+    out: &mut O,
+    err: &mut E,
+) -> Result<bool, Stopped>
+    requires ready { IsReady ready.now.patch.now ready.now.prepared.now }
+    requires short { length bytes.items ≤ 16777216 }
+    ensures treated { IfOk result (λ refused. (files : Option Files) (stores : ℕ) →
+        TreatsAll (Sums ready.now.patch.now ready.now.defined.now name.now bytes.items) refused
+        (told files stores (O.written out.old) (E.written err.old)) (told files stores (O.written out.new) (E.written err.new))) }
+    ensures later { O.faults out.old ≤ O.faults out.new }
+    ensures later_err { E.faults err.old ≤ E.faults err.new }
+    ensures stopped { IfErr result (λ stopped. (files : Option Files) (stores n n' : ℕ) →
+        TreatsPart (Sums ready.now.patch.now ready.now.defined.now name.now bytes.items)
+        (counts n (O.faults out.old) (E.faults err.old)) (counts n' (O.faults out.new) (E.faults err.new))
+        (told files stores (O.written out.old) (E.written err.old)) (told files stores (O.written out.new) (E.written err.new))
+        (status_of stopped)) }
+{
+    let Some(applied) = apply_or_refuse(alloc, ready, name, bytes, err)? else {
+        return Ok(true);
+    };
+    report_skipped(alloc, err, name, applied.skipped.as_slice())?;
+    show_summary(alloc, ready.patch, &applied, out, err)?;
+    Ok(false)
+}
+
+/// Prints the summary.
+fn show_summary<O: Sink, E: Sink>(
+    alloc: Global,
+    patch: &Patch,
+    applied: &Applied,
+    out: &mut O,
+    err: &mut E,
+) -> Result<(), Stopped>
+    ensures done { OnOk result ((s : Chained) (files : Option Files) (stores : ℕ) → AnswersState applied.now s →
+        Does (printing (lines.summary patch.now.rules s.found (length s.page.bytes)))
+        (told files stores (O.written out.old) (E.written err.old)) (told files stores (O.written out.new) (E.written err.new))) }
+    ensures later { O.faults out.old ≤ O.faults out.new }
+    ensures later_err { E.faults err.old ≤ E.faults err.new }
+    ensures stopped { IfErr result (λ stopped. (s : Chained) (files : Option Files) (stores n n' : ℕ) → AnswersState applied.now s →
+        Stops (printing (lines.summary patch.now.rules s.found (length s.page.bytes)))
+        (counts n (O.faults out.old) (E.faults err.old)) (counts n' (O.faults out.new) (E.faults err.new))
+        (told files stores (O.written out.old) (E.written err.old)) (told files stores (O.written out.new) (E.written err.new))
+        (status_of stopped)) }
+{
+    let text = summary(
+        alloc,
+        patch.rules.as_slice(),
+        applied.witnesses.as_slice(),
+        applied.bytes.len(),
+    )?;
+    show(out, err, &text)
+}

@@ -25,7 +25,7 @@ use Rattle.wit_trees.specs.Rules.{witness_at, choices, in_order}
 use Rattle.env_parts.specs.Parts.{Pairs}
 use Rattle.item_graphs.specs.Trees.{item_tree}
 use Rattle.rule_witnesses.specs.Jobs.{nodes_of}
-use Rattle.need_words.specs.Words.{needs, is_among, has_word, has_words}
+use Rattle.need_words.specs.Words.{needs, has_word, has_words}
 use Rattle.need_words.proofs.HoldWords.{holds_no}
 use Rattle.rule_found.specs.Found.{witnesses_in, is_large}
 use Rattle.rule_found.specs.Lacking.{AreNeeded, misses}

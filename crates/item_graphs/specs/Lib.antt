@@ -1,3 +1,4 @@
 -- What the contracts rest on, in reading order.
 pub mod Pool
 pub mod Made
+pub mod Trees

@@ -1,12 +1,15 @@
 // The graphs of a reading.
-ghost use Rattle.std.specs.Prelude.{◌≡◌, ◌<◌, ℕ, None, true, IfOk, OnOk, All, length, slice_get, option_copied};
+ghost use Rattle.std.specs.Prelude.{◌≡◌, ◌<◌, ◌^◌, ℕ, None, true, IfOk, IfSome, OnOk, All, length, slice_get, option_copied};
+ghost use Rattle.cfg_build.specs.Graphs.{node_count};
 ghost use Rattle.c_file.specs.Fit.{item_graph};
 ghost use Rattle.item_graphs.specs.Made.{IsMade};
+ghost use Rattle.item_graphs.specs.Trees.{item_tree};
 
 use c_file::CFile;
-use c_terms::NoMemory;
+use c_terms::{NoMemory, Tree};
 use cfg_graph::Graph;
-use sqlite_items::Items;
+use cpp_lines::Item;
+use sqlite_items::{Items, at};
 use std::alloc::Global;
 use std::marker::Model;
 
@@ -52,6 +55,19 @@ impl<'a> Graphs<'a> {
     {
         let made = places(alloc, file.items().len())?;
         Ok(Graphs { file, made })
+    }
+
+    /// The tree of an item, if the item has one: its graph has fewer than 2^32 nodes. Takes no memory, and makes no graph.
+    #[tactic(auto, using(crate::proofs::TreeLemmas::trees_few))]
+    pub fn tree(&self, i: usize) -> Option<&Tree>
+        ensures tree { option_copied result ≡ item_tree (slice_get self.now.items i) }
+        ensures few { IfSome (item_tree (slice_get self.now.items i)) (λ t. node_count t < 2 ^ 32) }
+    {
+        match at(self.file.items(), i) {
+            Some(Item::Parsed(tree)) => Some(tree),
+            Some(Item::Skipped(_, _)) => None,
+            None => None,
+        }
     }
 
     fn is_made(&self, i: usize) -> bool

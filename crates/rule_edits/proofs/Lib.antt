@@ -3,3 +3,4 @@ pub mod IdLemmas
 pub mod KindLemmas
 pub mod LeaveLemmas
 pub mod TokenLemmas
+pub mod TreeLemmas

@@ -1,6 +1,6 @@
 // What the edits of a rule make of the text.
 ghost use Rattle.std.specs.Prelude.{◌≡◌, ◌<◌, ◌≤◌, ◌^◌, ◌⊎◌, ℕ, List, None, Some, All, IfOk, IfErr, length, slice_get, not, nat_lt};
-ghost use Rattle.std.specs.List.{filter};
+ghost use Rattle.std.specs.List.{filter, list_any};
 ghost use Rattle.c_lexer.specs.Pieces.{text_of};
 ghost use Rattle.c_lexer.specs.Ids.{ids_of};
 ghost use Rattle.edit_conflict.specs.declared.edit.Edit.{Edit as Change};
@@ -45,6 +45,18 @@ fn is_edited(edits: &[Edit]) -> bool
 {
     for edit in edits {
         if changes(edit) {
+            return true;
+        }
+    }
+    false
+}
+
+/// Whether the forest of some witness has a tree.
+fn has_tree(found: &[RuleWitness]) -> bool
+    ensures { result ≡ list_any (λ w. not (of.is_empty w.forest)) found.now }
+{
+    for witness in found {
+        if !witness.forest.is_empty() {
             return true;
         }
     }
@@ -153,7 +165,8 @@ fn left(
 /// - `TooLong`: none clash, and the text would have more than 16,777,216 bytes.
 /// - `NoMemory`: memory was refused.
 ///
-/// Where there are witnesses, the graphs of all items are made. Linear in the text, beside the edits.
+/// Where the forest of some witness has a tree, the graphs of all items are made, and it is linear in the text, beside the edits. No
+/// forest has one where no token of the rule is marked: then nothing is edited, and it is linear in the witnesses.
 pub fn edit(
     alloc: Global,
     rule: &Rule,
@@ -174,7 +187,7 @@ pub fn edit(
     ensures graphs { graphs.new.items ≡ graphs.old.items }
     ensures kept { (k : ℕ) → IsMade graphs.old k → IsMade graphs.new k }
 {
-    if found.is_empty() {
+    if !has_tree(found) {
         return Ok(nothing_new(file.lexed()));
     }
     let kinds = kinds(alloc, graphs, file.items().len())?;

@@ -1,2 +1,4 @@
 -- What the contract of `witnesses` rests on.
 pub mod Found
+-- For inside use: items in which a rule finds nothing, since they lack a word.
+pub mod Lacking

@@ -1,5 +1,6 @@
 // What a rule finds in one item.
-ghost use Rattle.std.specs.Prelude.{◌≡◌, ◌<◌, ℕ, Some, IfOk, OnOk, Err, map, length, slice_get, true, false};
+ghost use Rattle.std.specs.Prelude.{◌≡◌, ◌<◌, ◌^◌, ℕ, Some, IfOk, IfSome, OnOk, Err, map, length, slice_get, true, false};
+ghost use Rattle.cfg_build.specs.Graphs.{node_count};
 ghost use Rattle.c_file.specs.Fit.{item_graph};
 ghost use Rattle.ctl_formula.specs.Formulas.{plain};
 ghost use Rattle.ctl_holds.specs.Parts.{EachPattern};
@@ -7,16 +8,19 @@ ghost use Rattle.ctl_holds.specs.BoundLaw.{SureStand};
 ghost use Rattle.ctl_translate.specs.Answers.{IsFormulaOf};
 ghost use Rattle.env_parts.specs.Parts.{bare_env};
 ghost use Rattle.item_graphs.specs.Made.{IsMade};
+ghost use Rattle.item_graphs.specs.Trees.{item_tree};
 ghost use Rattle.rule_witnesses.specs.Bare.{bare_witness};
 ghost use Rattle.rule_witnesses.specs.Choices.{AreNew};
 ghost use Rattle.rule_witnesses.specs.Jobs.{BindsExports};
 ghost use Rattle.rule_witnesses.specs.declared.fault.JobFault.TheVariants as fault;
 ghost use Rattle.rule_found.specs.Found as of;
+ghost use Rattle.rule_found.specs.Lacking.{AreNeeded, misses};
 
-use c_terms::NoMemory;
+use c_terms::{NoMemory, Text};
 use cfg_graph::Graph;
 use ctl_formula::Formula;
 use item_graphs::Graphs;
+use need_words::may_hold;
 use rule_witnesses::{JobFault, item_witnesses};
 use smpl_patch::{Rule, RuleWitness};
 use smpl_terms::Env;
@@ -56,12 +60,25 @@ fn by_graph(
     item_witnesses(alloc, g, f, rule.exports.as_slice(), number, item, env)
 }
 
-/// The witnesses in one item; none where it was skipped. Makes its graph, if it isn't made.
+/// Whether the item has a tree in which one of the words doesn't stand. Makes no graph.
+fn lacks_word(words: &[Text], graphs: &Graphs<'_>, i: usize) -> bool
+    ensures lacks { result ≡ misses words.now (item_tree (slice_get graphs.now.items i)) }
+    ensures few { IfSome (item_tree (slice_get graphs.now.items i)) (λ t. node_count t < 2 ^ 32) }
+{
+    match graphs.tree(i) {
+        None => false,
+        Some(tree) => !may_hold(words, tree),
+    }
+}
+
+/// The witnesses in one item; none where it was skipped, or lacks one of these words that the formula needs. Else makes its
+/// graph, if it isn't made.
 pub fn in_item(
     alloc: Global,
     number: u32,
     rule: &Rule,
     f: &Formula,
+    words: &[Text],
     graphs: &mut Graphs<'_>,
     i: usize,
     env: &Env,
@@ -70,6 +87,7 @@ pub fn in_item(
     requires stand { EachPattern (SureStand f.now.decls f.now.tokens) (plain f.now) }
     requires binds { BindsExports f.now rule.now.exports }
     requires new { AreNew rule.now.exports env.now }
+    requires needed { AreNeeded words.now f.now }
     requires within { i < length graphs.old.items }
     ensures found { IfOk result (λ found. map bare_witness found ≡ map bare_witness
         (of.witnesses_in number rule.now i (item_graph (slice_get graphs.old.items i)) (bare_env env.now))) }
@@ -81,6 +99,9 @@ pub fn in_item(
     ensures kept { (k : ℕ) → IsMade graphs.old k → IsMade graphs.new k }
 {
     let item = item_number(i)?;
+    if lacks_word(words, graphs, i) {
+        return Ok(Items::new(alloc));
+    }
     graphs.make(alloc, i)?;
     match graphs.get(i) {
         None => Ok(Items::new(alloc)),

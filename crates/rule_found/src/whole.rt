@@ -11,10 +11,13 @@ ghost use Rattle.rule_witnesses.specs.Choices.{AreNew};
 ghost use Rattle.rule_witnesses.specs.Jobs.{BindsExports};
 ghost use Rattle.rule_witnesses.specs.declared.fault.JobFault.TheVariants as fault;
 ghost use Rattle.rule_found.specs.Found as of;
+ghost use Rattle.rule_found.specs.Lacking.{AreNeeded};
 
 use crate::item::in_item;
+use c_terms::{NoMemory, Text};
 use ctl_formula::Formula;
 use item_graphs::Graphs;
+use need_words::needed_words;
 use rule_envs::exported;
 use rule_witnesses::JobFault;
 use smpl_patch::{Rule, RuleWitness};
@@ -29,12 +32,26 @@ pub struct Found {
     pub parts: Items<Items<Env>>,
 }
 
+/// The most tokens of a rule whose words are looked for: that costs words times its formula.
+const MOST_TOKENS: usize = 1_000;
+
+/// Words that the formula needs: all of them, or none where the rule has too many tokens.
+fn words_of(alloc: Global, f: &Formula) -> Result<Items<Text>, NoMemory>
+    ensures { IfOk result (λ words. AreNeeded words f.now) }
+{
+    if f.tokens().len() > MOST_TOKENS {
+        return Ok(Items::new(alloc));
+    }
+    needed_words(alloc, f)
+}
+
 /// The witnesses under one environment, item by item.
 fn under(
     alloc: Global,
     number: u32,
     rule: &Rule,
     f: &Formula,
+    words: &[Text],
     graphs: &mut Graphs<'_>,
     count: usize,
     env: &Env,
@@ -43,6 +60,7 @@ fn under(
     requires stand { EachPattern (SureStand f.now.decls f.now.tokens) (plain f.now) }
     requires binds { BindsExports f.now rule.now.exports }
     requires new { AreNew rule.now.exports env.now }
+    requires needed { AreNeeded words.now f.now }
     requires count { count ≡ length graphs.old.items }
     ensures found { IfOk result (λ found. map bare_witness found
         ≡ of.found_under number rule.now graphs.old.items (bare_env env.now)) }
@@ -54,7 +72,7 @@ fn under(
 {
     let mut found = Items::new(alloc);
     for i in 0..count {
-        let more = in_item(alloc, number, rule, f, graphs, i, env)?;
+        let more = in_item(alloc, number, rule, f, words, graphs, i, env)?;
         found.append(more)?;
     }
     Ok(found)
@@ -69,8 +87,10 @@ fn under(
 /// - `TooMany`: the forests of the witnesses in one item under one projection have more than 1,000,000 touches and binds.
 /// - `NoMemory`: memory was refused, the formula's table has 2^32 nodes, or there are more than 2^32 items.
 ///
-/// Costs one [`item_witnesses`](rule_witnesses::item_witnesses) for each item that has a tree and each projection, and one
-/// [`exported`] a projection. The graph of an item is made the first time.
+/// Costs one [`item_witnesses`](rule_witnesses::item_witnesses) for each item that has a tree with all words that the formula
+/// needs and each projection, and one [`exported`] a projection; the words are looked for once, and for each projection among the
+/// tokens of each item. The graph of an item is made when it is first needed. Of a rule of more than 1,000 tokens no words are looked
+/// for.
 pub fn witnesses(
     alloc: Global,
     number: u32,
@@ -95,10 +115,12 @@ pub fn witnesses(
     ensures items { graphs.new.items ≡ graphs.old.items }
     ensures kept { (k : ℕ) → IsMade graphs.old k → IsMade graphs.new k }
 {
+    let words = words_of(alloc, f)?;
+    let needed = words.as_slice();
     let mut witnesses = Items::new(alloc);
     let mut parts = Items::new(alloc);
     for env in projections {
-        let more = under(alloc, number, rule, f, graphs, count, env)?;
+        let more = under(alloc, number, rule, f, needed, graphs, count, env)?;
         let part = exported(alloc, rule.exports.as_slice(), more.as_slice())?;
         parts.push(part)?;
         witnesses.append(more)?;

@@ -1,12 +1,28 @@
-use Rattle.std.proofs.Common.{◌≡◌, ◌⊎◌, ap, subst, ◌∙◌, inl, inr, List}
+use Rattle.std.proofs.Common.{◌≡◌, ◌≤◌, ◌⊎◌, false, sym, ap, subst, ◌∙◌, inl, inr, List, Option, length, arith}
+use Rattle.std.proofs.lemmas.Grind.{common_steps}
+use Rattle.c_lexer.specs.Pieces.{TextPiece, text_of}
 use Rattle.std.proofs.lemmas.Result.{IfOk-weaker, IfErr-weaker}
 use Rattle.edit_conflict.specs.declared.edit.Edit.{Edit}
 use Rattle.edit_walk.specs.Edited.{AreEdits}
+use Rattle.rule_edits.specs.declared.texts.NewText.{NewText}
 use Rattle.rule_edits.specs.Kinds.{kinds_of}
 use Rattle.rule_edits.specs.Faults.{Leaves, IsEditFault}
 use Rattle.rule_edits.specs.declared.fault.EditFault.TheVariants as fault
 use Rattle.rule_edits.proofs.LeaveLemmas.{are_edits}
+use Rattle.rule_edits.proofs.TreeLemmas.{nothing_leaves}
 use Rattle.rule_edits.proofs.texts.edit.Goals as goal
+
+pub returns-then-not-has_tree-clause-text : goal.returns-then-not-has_tree-clause-text
+returns-then-not-has_tree-clause-text c =
+    let found = c.args.found.now in
+    let rule = c.args.rule.now in
+    let items = c.args.file.now.items in
+    let pieces = c.args.file.now.pieces in
+    let e : c.has_tree.result ≡ false = grind (arith, common_steps) in
+    let short : length (text_of pieces) ≤ 16777216 = subst (λ (ps : List TextPiece). length (text_of ps) ≤ 16777216) c.lexed.ensures.lexed c.nothing_new.ensures.short in
+    subst (λ (left : Option NewText). (edits : List Edit) × (AreEdits found rule items (kinds_of items) pieces edits × Leaves c.args.next pieces edits left))
+    (sym c.nothing_new.ensures.none)
+    (nothing_leaves found rule items (kinds_of items) c.args.next pieces (sym c.has_tree.ensures ∙ e) short)
 
 pub returns-clause-text : goal.returns-clause-text
 returns-clause-text c =

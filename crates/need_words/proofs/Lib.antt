@@ -1,0 +1,10 @@
+pub mod WordLemmas
+pub mod FitWords
+pub mod ListWords
+pub mod HeldWords
+pub mod MatchWords
+pub mod GraphWords
+pub mod HoldWords
+pub mod StandLemmas
+pub mod NeedLemmas
+mod Examples

@@ -1,0 +1,4 @@
+-- What public contracts rest on.
+pub mod Words
+-- For inside use: in which patterns of a table words stand.
+pub mod Standing

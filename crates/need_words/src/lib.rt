@@ -1,0 +1,25 @@
+//! The words that a formula needs: where no token of an item is one of them, the formula holds nowhere in the item.
+//!
+//! - [`needed_words`] finds them, once for a formula.
+//! - [`may_hold`] says whether each stands among an item's tokens. Where one doesn't, the item needs no graph.
+//! - [`formulas_need_words`] is the law.
+//!
+//! An atom needs the names, keywords, numbers and literals that all forms of its pattern spell; of a disjunction's branches those
+//! that each spells. Both parts of an `and` are needed, of an `or` what both parts need, of an until its last part. Under `not`
+//! nothing is needed.
+//!
+//! ```text
+//!     lock(x); ... \( unlock(x); \| unlock_all(); \)        needs lock
+//! ```
+//!
+//! What isn't needed by its words is left to ctl_fixpoint.
+#![tactic(auto)]
+
+mod laws;
+mod needs;
+mod spell;
+mod word;
+mod words;
+
+pub use laws::formulas_need_words;
+pub use words::{may_hold, needed_words};

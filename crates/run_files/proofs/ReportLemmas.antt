@@ -1,5 +1,5 @@
 -- Ids of tokens are not shown: the report and the summary of witnesses without ids are those of the witnesses.
-use Rattle.std.proofs.Common.{◌≡◌, ℕ, zero, suc, ◌+◌, Bool, true, false, cond, eqb, refl, sym, ap, ◌∙◌, List, [], ◌∷◌, ◌++◌, length, map, codes}
+use Rattle.std.proofs.Common.{◌≡◌, ℕ, ◌+◌, true, false, cond, eqb, refl, sym, ap, ◌∙◌, List, [], ◌∷◌, ◌++◌, length, map, codes}
 use Rattle.std.specs.Prelude.{Option, Some, None, option_map}
 use Rattle.std.specs.Fmt.{decimal}
 use Rattle.std.specs.List.{filter, flat_map}
@@ -7,11 +7,10 @@ use Rattle.std.proofs.lemmas.List.{length-map}
 use Rattle.std.proofs.Math.Path.{fun_ext}
 use Rattle.c_terms.specs.Bare.{bare}
 use Rattle.c_terms.specs.declared.tree.Tree.{Tree}
-use Rattle.c_terms.specs.declared.tree.Tree.TheVariants.{Leaf, Branch}
 use Rattle.c_terms.proofs.BareLaws.{bare-Leaf, bare-Branch}
 use Rattle.c_terms.proofs.Induct as terms
 use Rattle.c_show.specs.declared.page.Role.TheVariants.{Plain}
-use Rattle.c_show.specs.Show.{shown, shown_kids, joined, show_of}
+use Rattle.c_show.specs.Show.{shown, shown_kids, joined}
 use Rattle.c_show.proofs.Pages.{shown-Leaf, shown-Branch}
 use Rattle.smpl_terms.specs.declared.var.Var.{Var}
 use Rattle.smpl_terms.specs.declared.value.Value.{Value}
@@ -28,9 +27,9 @@ use Rattle.wit_order.proofs.Induct.{Each, witness_induction}
 use Rattle.env_parts.specs.Parts.{Pairs, bare_value, bare_env}
 use Rattle.env_parts.proofs.PartLemmas.{value_in-bare}
 use Rattle.rule_witnesses.specs.Bare.{bare_tree, bare_step, bare_witness}
-use Rattle.wit_print.specs.Report.{line, value_text, bind_line, tree_lines, is_reported, reported_name, let_text, let_lines, witness_lines}
+use Rattle.wit_print.specs.Report.{line, value_text, tree_lines, is_reported, reported_name, let_text, let_lines, witness_lines}
 use Rattle.wit_print.specs.Report.{shown_name, rule_lines, rules_lines, report_of}
-use Rattle.wit_print.proofs.Lines.{touch_lines, bind_lines}
+use Rattle.wit_print.proofs.Lines.{bind_lines}
 use Rattle.run_lines.specs.Summary as sums
 
 -- ---- terms

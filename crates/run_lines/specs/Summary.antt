@@ -1,5 +1,5 @@
 -- What a patch finds in a generated text: the number of witnesses of each rule, and the length of the text that they leave.
-use Rattle.std.specs.Prelude.{ℕ, suc, ◌+◌, eqb, List, [], ◌∷◌, ◌++◌, length, codes}
+use Rattle.std.specs.Prelude.{ℕ, ◌+◌, eqb, List, [], ◌∷◌, ◌++◌, length, codes}
 use Rattle.std.specs.Fmt.{decimal}
 use Rattle.std.specs.List.{filter}
 use Rattle.smpl_patch.specs.declared.rule.Rule.{Rule}

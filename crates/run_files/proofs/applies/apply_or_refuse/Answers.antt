@@ -2,7 +2,6 @@ use Rattle.std.proofs.Common.{◌≡◌, ◌∙◌, refl, sym}
 use Rattle.std.proofs.lemmas.Result.{err_from_is_err_and}
 use Rattle.std.proofs.lemmas.Bool.{false≢true}
 use Rattle.rule_work.specs.declared.fault.FileFault.TheVariants.{NoMemory}
-use Rattle.rule_chain.specs.Chain.{Chain, Refused}
 use Rattle.run_lines.specs.Files.{refused_line}
 use Rattle.run_files.specs.Treatment.{refuses}
 use Rattle.run_files.specs.Cuts.TreatsPart.{later}

@@ -1,8 +1,5 @@
 use Rattle.std.proofs.Common.{◌≡◌, ◌∙◌, ap, [], ◌∷◌}
 use Rattle.std.proofs.lemmas.Result.{err_from_is_err_and, IfErr-weaker, on_ok_weaker}
-use Rattle.smpl_patch.specs.declared.witness.RuleWitness.{RuleWitness}
-use Rattle.rule_work.specs.States.{Chained}
-use Rattle.rule_chain.specs.Results.{AnswersState}
 use Rattle.wit_print.specs.Report.{report_of}
 use Rattle.run_acts.specs.Acts.{Print}
 use Rattle.run_files.specs.Treatment.{printing, shown}

@@ -1,7 +1,5 @@
 use Rattle.std.proofs.Common.{◌≡◌, ◌∙◌, ap, [], ◌∷◌, length}
 use Rattle.std.proofs.lemmas.Result.{err_from_is_err_and, IfErr-weaker, on_ok_weaker}
-use Rattle.rule_work.specs.States.{Chained}
-use Rattle.rule_chain.specs.Results.{AnswersState}
 use Rattle.run_acts.specs.Acts.{Print}
 use Rattle.run_lines.specs.Summary.{summary}
 use Rattle.run_files.specs.Treatment.{printing}

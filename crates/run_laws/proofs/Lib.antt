@@ -1,0 +1,4 @@
+pub mod Unique
+pub mod Why
+pub mod Ways
+pub mod Caused

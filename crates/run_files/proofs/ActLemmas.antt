@@ -13,9 +13,6 @@ after-append (act ∷ acts) more old = after-append acts more (done act old)
 
 -- ---- acts that are done
 
-pub Does-none : (old : Told) → Does [] old old
-Does-none old = record { told = refl }
-
 pub Does-one : (act : Act) (old new : Told) → new ≡ done act old → Does (act ∷ []) old new
 Does-one act old new is = record { told = is }
 
@@ -115,10 +112,6 @@ own_default xs i d lt = any_default xs i d (get_or xs i d) lt
 pub printing_some : (text : List ℕ) → 0 < length text → printing text ≡ Print text ∷ []
 printing_some [] some = absurd (omega arith)
 printing_some (byte ∷ text) some = refl
-
-pub printing_none : (text : List ℕ) → length text ≡ 0 → printing text ≡ []
-printing_none [] none = refl
-printing_none (byte ∷ text) none = absurd (omega arith)
 
 -- a text that ends with some byte isn't empty
 pub printing_after : (front text : List ℕ) → printing text ≡ Print text ∷ [] → printing (front ++ text) ≡ Print (front ++ text) ∷ []

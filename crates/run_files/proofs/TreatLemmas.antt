@@ -19,7 +19,7 @@ use Rattle.rule_chain.specs.Results.{AnswersState, IsResult}
 use Rattle.run_words.specs.declared.order.Mode.{Mode}
 use Rattle.run_lines.specs.Files.{refused_line, skipped_line}
 use Rattle.run_lines.specs.Summary.{summary, rule_lines}
-use Rattle.run_files.specs.Treatment.{refuses, printing, storing, shown, kept, skipped_lines, treated_by, summed_by, Treats, Sums}
+use Rattle.run_files.specs.Treatment.{refuses, printing, shown, kept, skipped_lines, treated_by, summed_by, Treats, Sums}
 use Rattle.run_files.specs.Does.{Does, Stops}
 use Rattle.run_files.specs.Cuts.{TreatsAll, TreatsPart}
 use Rattle.run_files.specs.Cuts.TreatsPart.{earlier, later}
@@ -46,26 +46,12 @@ notes_stop name notes s first before now old mid new status is fell same stops =
     Stops-as (map (note_act name) notes) (skipped_lines name s) first now old new status (ap (map (note_act name)) is)
     (Stops-then [] (map (note_act name) notes) first before now old mid new status fell (record { told = same }) stops)
 
--- ---- what is shown and kept
+-- ---- what is shown
 
-module _ (mode : Mode) (patch : Patch) (name : List ℕ) (s : Chained) where
-  pub shown_report : mode.witnesses ≡ true → printing (report_of patch name s.found) ≡ shown mode patch name s
-  shown_report is = sym (ap (λ (b : Bool). cond b (printing (report_of patch name s.found)) (cond mode.in_place [] (printing s.page.bytes))) is)
-
-  shown_else : mode.witnesses ≡ false → cond mode.in_place [] (printing s.page.bytes) ≡ shown mode patch name s
-  shown_else is = sym (ap (λ (b : Bool). cond b (printing (report_of patch name s.found)) (cond mode.in_place [] (printing s.page.bytes))) is)
-
-  pub shown_none : mode.witnesses ≡ false → mode.in_place ≡ true → [] ≡ shown mode patch name s
-  shown_none is stored = sym (ap (λ (b : Bool). cond b [] (printing s.page.bytes)) stored) ∙ shown_else is
-
-  pub shown_text : mode.witnesses ≡ false → mode.in_place ≡ false → printing s.page.bytes ≡ shown mode patch name s
-  shown_text is stored = sym (ap (λ (b : Bool). cond b [] (printing s.page.bytes)) stored) ∙ shown_else is
-
-pub kept_none : (mode : Mode) (name bytes : List ℕ) (s : Chained) → mode.in_place ≡ false → [] ≡ kept mode name bytes s
-kept_none mode name bytes s is = sym (ap (λ (b : Bool). cond b (storing name bytes s.page.bytes) []) is)
-
-pub kept_text : (mode : Mode) (name bytes : List ℕ) (s : Chained) → mode.in_place ≡ true → storing name bytes s.page.bytes ≡ kept mode name bytes s
-kept_text mode name bytes s is = sym (ap (λ (b : Bool). cond b (storing name bytes s.page.bytes) []) is)
+pub shown_report : (mode : Mode) (patch : Patch) (name : List ℕ) (s : Chained) → mode.witnesses ≡ true
+    → printing (report_of patch name s.found) ≡ shown mode patch name s
+shown_report mode patch name s is =
+    sym (ap (λ (b : Bool). cond b (printing (report_of patch name s.found)) (cond mode.in_place [] (printing s.page.bytes))) is)
 
 -- neither a report nor a summary is empty
 pub report_prints : (patch : Patch) (name : List ℕ) (ws : List RuleWitness) → Print (report_of patch name ws) ∷ [] ≡ printing (report_of patch name ws)

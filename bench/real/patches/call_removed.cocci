@@ -1,0 +1,4 @@
+// A statement removed, whatever its arguments.
+@@
+@@
+- dev_dbg(...);

@@ -1,8 +1,7 @@
 // The status that the program ends with.
 ghost use Rattle.std.specs.Prelude.{◌≡◌, IfOk, OnErr};
 ghost use Rattle.std.specs.Process.{exit_status};
-ghost use Rattle.spatch_run.specs.Promise.{IsExact, EndsRightly};
-ghost use Rattle.spatch_run.specs.Callers.{told, counts};
+ghost use Rattle.spatch_run.specs.Callers.{told, counts, IsExact, EndsRightly};
 
 use c_terms::{NoMemory, Text};
 use outer_io::{Shelf, Sink};

@@ -1,4 +1,4 @@
-//! `spatch`: applies a semantic patch to a C file, and prints what the file becomes.
+//! `spatch`: applies semantic patches to C files, and prints or stores what the files become.
 //!
 //! This makes the real objects, the files of the system and the standard streams, and hands them to the run with the words
 //! after the program's name. The run's status is the program's. The words are taken as bytes: one that is not UTF-8 makes

@@ -3,42 +3,32 @@ use Rattle.std.proofs.Common.{◌≡◌, ℕ, ◌⊎◌, List, inl, inr, ◌∙�
 use Rattle.run_acts.specs.Acts.{Told}
 use Rattle.run_acts.specs.Breaks.{Counts, NoneRose}
 use Rattle.run_acts.proofs.BreaksLemmas.{not_failed}
-use Rattle.spatch_run.specs.Paths.{DoesAll}
-use Rattle.spatch_run.specs.Ends.{Follows}
-use Rattle.spatch_run.specs.Promise.{IsExact, EndsRightly}
+use Rattle.run_stages.specs.Paths.{DoesAll}
+use Rattle.run_stages.specs.Ends.{Follows}
+use Rattle.run_stages.specs.Promise.{IsExact, EndsRightly}
 
 module _ {words : List (List ℕ)} {before now : Counts} {old new : Told} {status : ℕ} where
   pub ends_rightly : Follows words before now old new status → EndsRightly words before now old new status
-  ends_rightly follows =
-      let rest = follows.1.1 in
-      elim rest.end [
-        | inl whole ↦ inl (record {
-          acts = rest.goes.acts;
-          are = record { first = follows.0; last = rest.stage; begins = follows.1.0; path = rest.goes.path; over = whole.0 };
-          told = whole.1 ∙ rest.goes.told;
-        })
-        | inr cut ↦ inr (
-          rest.mid,
-          (
-            cut.0,
-            (
-              record {
-                first = follows.0;
-                acts = rest.goes.acts;
-                stage = rest.stage;
-                begins = follows.1.0;
-                path = rest.goes.path;
-                told = rest.goes.told;
-                is_next = cut.1.0;
-              },
-              cut.1.1,
-            ),
-          ),
-        )
-      ]
+  ends_rightly rest = elim rest.end [
+    | inl whole ↦ inl (record {
+      acts = rest.goes.acts;
+      are = record { last = rest.stage; path = rest.goes.path; over = whole.0 };
+      told = whole.1 ∙ rest.goes.told;
+    })
+    | inr cut ↦ inr (
+      rest.mid,
+      (
+        cut.0,
+        (
+          record { acts = rest.goes.acts; stage = rest.stage; path = rest.goes.path; told = rest.goes.told; is_next = cut.1.0 },
+          cut.1.1,
+        ),
+      ),
+    )
+  ]
 
   -- where no count rises, all acts are done, or memory ran out
-  pub all_or_seven : EndsRightly words before now old new status → NoneRose before now → DoesAll words old new status ⊎ (status ≡ 7)
+  all_or_seven : EndsRightly words before now old new status → NoneRose before now → DoesAll words old new status ⊎ (status ≡ 7)
   all_or_seven ends calm = elim ends [
     | inl all ↦ inl all
     | inr cut ↦ elim cut.1.1.1 [

@@ -1,59 +1,93 @@
 -- What a load leads to, by what it gave, and how the run ends from there.
-use Rattle.std.proofs.Common.{◌≡◌, ℕ, ◌<◌, ◌≤◌, List, [], ◌∷◌, Option, Some, None, length, refl, inl, inr, arith}
-use Rattle.std.specs.Prelude.{IsSomeAnd}
+use Rattle.std.proofs.Common.{◌≡◌, ◌⊎◌, Bool, false, ℕ, ◌<◌, List, [], Option, Some, None, length, refl, sym, inl, inr, ◌∙◌}
+use Rattle.std.proofs.lemmas.Bool.{false≢true}
+use Rattle.std.specs.Prelude.{◌↔◌, IsTrue, IsSomeAnd}
 use Rattle.outer_io.specs.Files.{Files}
-use Rattle.run_acts.specs.Acts.{Load, Print, Told, told}
+use Rattle.run_acts.specs.Acts.{Told, told, done}
 use Rattle.run_acts.specs.Breaks.{Counts, NoneFell}
 use Rattle.run_acts.specs.Lines.{cannot_read}
-use Rattle.spatch_run.specs.Lines.{patch_too_long, file_too_long, not_yet}
-use Rattle.run_acts.specs.Loaded.{Found}
-use Rattle.small_rule.specs.SmallPatch.{IsSmallPatch}
-use Rattle.small_rule.specs.SmallFile.{Becomes}
-use Rattle.spatch_run.specs.Readings.{patch_limit, file_limit}
-use Rattle.spatch_run.specs.Stages.{Stage, Doing, Ending, ReadPatch, EditFile, refusing, printing, PatchLeads, FileLeads}
-use Rattle.spatch_run.specs.Ends.{Ends}
-use Rattle.spatch_run.proofs.Chain.{Goes-act, Goes-ends}
+use Rattle.run_acts.proofs.BreaksLemmas.{NoneFell-then}
+use Rattle.smpl_patch.specs.declared.rule.Iso.{Iso}
+use Rattle.smpl_patch.specs.declared.rule.Patch.{Patch}
+use Rattle.smpl_patch.specs.declared.fault.PatchFault.{PatchFault}
+use Rattle.smpl_patch.specs.declared.fault.PatchFault.TheVariants as patch_fault
+use Rattle.smpl_lexer.specs.Texts.IsTextFault.{too_long as text_too_long}
+use Rattle.smpl_file.specs.Patches.{IsPatchOf, IsFirstFault}
+use Rattle.smpl_file.specs.Patches.IsFirstFault.{spelling}
+use Rattle.smpl_file.specs.Patches.IsSpellingFault.{in_text}
+use Rattle.iso_file.specs.declared.fault.IsoFault.{IsoFault}
+use Rattle.iso_file.specs.declared.fault.IsoFault.TheVariants as iso_fault
+use Rattle.iso_file.specs.Isos.{AreIsosOf, IsFileFault}
+use Rattle.iso_file.specs.Isos.IsFileFault.{too_long}
+use Rattle.run_words.specs.Orders.{Target}
+use Rattle.run_lines.specs.Patches.{patch_fault_line, iso_fault_line}
+use Rattle.run_stages.specs.Stages.{Stage, Work, ReadPatch, ReadIsos, EditFiles, Doing, refusing, first_load, WorkLeads, PatchLeads, IsosFileLeads, ReadLeads, IsosLead}
+use Rattle.run_stages.specs.Ends.{Ends, LeadsBy}
+use Rattle.run_stages.specs.Ends.LeadsBy.{unfed, from}
+use Rattle.spatch_run.proofs.Chain.{Goes-act, Goes-ends, broken}
 
--- the patch was loaded, and the run ended from there
-pub patch_loaded : (patch file : List ℕ) (under : Option (List ℕ)) (to : Stage) {first before now : Counts} {holds holds' : Option Files} {stores stores' : ℕ} {out err err' : Option (List ℕ)} {new : Told} {status : ℕ} → Found holds patch under → PatchLeads under patch file to → holds' ≡ holds → stores' ≡ stores → err' ≡ err → NoneFell first before → Ends to before now (told holds' stores' out err') new status → Ends (Doing [] (ReadPatch patch file)) first now (told holds stores out err) new status
-patch_loaded patch file under to {holds = holds} {holds' = holds'} {stores = stores} {stores' = stores'} {out = out} {err = err} {err' = err'} found leads same same_stores same_err fell rest =
-    Goes-ends (Goes-act (Doing [] (ReadPatch patch file)) (Load patch patch_limit) to (told holds stores out err) (told holds' stores' out err') refl (under, (found, leads)) (rw (same, same_stores, same_err) refl)) fell rest
+-- what was told before a load is told after it
+pub no_trace : {holds holds' : Option Files} {stores stores' : ℕ} {out err err' : Option (List ℕ)} → holds' ≡ holds → stores' ≡ stores → err' ≡ err → told holds' stores' out err' ≡ told holds stores out err
+no_trace same same_stores same_err = rw (same, same_stores, same_err) refl
 
--- the file was loaded, and the run ended from there
-pub file_loaded : (call : List (List ℕ)) (file : List ℕ) (under : Option (List ℕ)) (to : Stage) {first before now : Counts} {holds holds' : Option Files} {stores stores' : ℕ} {out err err' : Option (List ℕ)} {new : Told} {status : ℕ} → Found holds file under → FileLeads under call file to → holds' ≡ holds → stores' ≡ stores → err' ≡ err → NoneFell first before → Ends to before now (told holds' stores' out err') new status → Ends (Doing [] (EditFile call file)) first now (told holds stores out err) new status
-file_loaded call file under to {holds = holds} {holds' = holds'} {stores = stores} {stores' = stores'} {out = out} {err = err} {err' = err'} found leads same same_stores same_err fell rest =
-    Goes-ends (Goes-act (Doing [] (EditFile call file)) (Load file file_limit) to (told holds stores out err) (told holds' stores' out err') refl (under, (found, leads)) (rw (same, same_stores, same_err) refl)) fell rest
+load_done : (work : Work) (old : Told) → done (first_load work) old ≡ old
+load_done (ReadPatch name isos defined target) old = refl
+load_done (ReadIsos patch name defined target) old = refl
+load_done (EditFiles patch defined mode name names refused) old = refl
 
-pub patch_absent : (under : Option (List ℕ)) (patch file : List ℕ) → under ≡ None → PatchLeads under patch file (refusing (cannot_read patch) 5)
-patch_absent under patch file none = rw none refl
+-- a load was done, and the run ended from there
+pub loaded : (work : Work) (to : Stage) {first before now : Counts} {old here new : Told} {status : ℕ} → WorkLeads old.files work to → here ≡ old → NoneFell first before → Ends to before now here new status → Ends (Doing [] work) first now old new status
+loaded work to {old = old} {here = here} leads same fell rest =
+    Goes-ends (Goes-act (Doing [] work) (first_load work) to old here refl leads (same ∙ sym (load_done work old))) fell rest
 
-pub patch_long : (under : Option (List ℕ)) (patch file : List ℕ) → IsSomeAnd under (λ bytes. 1048576 < length bytes) → PatchLeads under patch file (refusing (patch_too_long patch) 2)
-patch_long None patch file long = absurd long
-patch_long (Some bytes) patch file long = inl (_, (inl (long, refl), refl))
+-- a load was done, and memory ran out
+pub loaded_unfed : (work : Work) {first before now : Counts} {old here new : Told} {status : ℕ} → here ≡ old → NoneFell first before → NoneFell before now → status ≡ 7 → new ≡ here → Ends (Doing [] work) first now old new status
+loaded_unfed work {first = first} {before = before} {now = now} same fell more seven none =
+    broken (Doing [] work) (first_load work) refl (NoneFell-then first before now fell more) (inl (seven, none ∙ same))
 
-pub patch_not_small : (under : Option (List ℕ)) (bytes patch file : List ℕ) → under ≡ Some bytes → length bytes ≤ 1048576 → ((call : List (List ℕ)) → ¬ IsSmallPatch bytes call) → PatchLeads under patch file (refusing (not_yet patch) 2)
-patch_not_small under bytes patch file is short none = rw is (inl (_, (inr (short, none, refl), refl)))
+-- a load was done, and the run ended from some stage that this leads to
+pub loaded_by : (work : Work) (To : Stage → Type 0) {first before now : Counts} {old here new : Told} {status : ℕ} → ((to : Stage) → To to → WorkLeads old.files work to) → here ≡ old → NoneFell first before → LeadsBy To before now here new status → Ends (Doing [] work) first now old new status
+loaded_by work To leads same fell (unfed more seven none) = loaded_unfed work same fell more seven none
+loaded_by work To leads same fell (from stage to ends) = loaded work stage (leads stage to) same fell ends
 
-pub patch_small : (under : Option (List ℕ)) (bytes patch file : List ℕ) (call : List (List ℕ)) → under ≡ Some bytes → length bytes ≤ 1048576 → IsSmallPatch bytes call → PatchLeads under patch file (Doing [] (EditFile call file))
-patch_small under bytes patch file call is short small = rw is (inr (call, ((short, small), refl)))
+-- what leads on may be said in other words
+pub by_other : (To Other : Stage → Type 0) {before now : Counts} {old new : Told} {status : ℕ} → ((to : Stage) → To to → Other to) → LeadsBy To before now old new status → LeadsBy Other before now old new status
+by_other To Other other (unfed fell seven none) = unfed fell seven none
+by_other To Other other (from stage to ends) = from stage (other stage to) ends
 
-pub file_absent : (under : Option (List ℕ)) (call : List (List ℕ)) (file : List ℕ) → under ≡ None → FileLeads under call file (refusing (cannot_read file) 5)
-file_absent under call file none = rw none refl
+-- memory wasn't wanting, so something else is so
+pub not_memory : {A B : Type 0} (b : Bool) → b ≡ false → (IsTrue b ↔ A) → A ⊎ B → B
+not_memory b isnt wanting (inl a) = absurd (false≢true (sym isnt ∙ wanting.1 a))
+not_memory b isnt wanting (inr other) = other
 
-pub file_long : (under : Option (List ℕ)) (call : List (List ℕ)) (file : List ℕ) → IsSomeAnd under (λ bytes. 16777216 < length bytes) → FileLeads under call file (refusing (file_too_long file) 4)
-file_long None call file long = absurd long
-file_long (Some bytes) call file long = inl (_, (inl (long, refl), refl))
+-- ---- the patch
 
-pub file_not_small : (under : Option (List ℕ)) (bytes : List ℕ) (call : List (List ℕ)) (file : List ℕ) → under ≡ Some bytes → length bytes ≤ 16777216 → ((text : List ℕ) → ¬ Becomes call bytes text) → FileLeads under call file (refusing (not_yet file) 4)
-file_not_small under bytes call file is short none = rw is (inl (_, (inr (short, none, refl), refl)))
+module _ (name : List ℕ) (isos : Option (List ℕ)) (defined : List (List ℕ)) (target : Target) where
+  pub patch_absent : (under : Option (List ℕ)) → under ≡ None → PatchLeads under name isos defined target (refusing (cannot_read name) 5)
+  patch_absent under none = rw none refl
 
-pub file_small : (under : Option (List ℕ)) (bytes : List ℕ) (call : List (List ℕ)) (file text : List ℕ) → under ≡ Some bytes → length bytes ≤ 16777216 → Becomes call bytes text → FileLeads under call file (Ending (printing text) 0)
-file_small under bytes call file text is short becomes = rw is (inr (text, ((short, becomes), refl)))
+  pub patch_long : (under : Option (List ℕ)) → IsSomeAnd under (λ bytes. 1048576 < length bytes) → PatchLeads under name isos defined target (refusing (patch_fault_line name patch_fault.PatchTooLong) 2)
+  patch_long None long = absurd long
+  patch_long (Some bytes) long = inl (patch_fault.PatchTooLong, (spelling (in_text (text_too_long long)), refl))
 
-pub printing_some : (text : List ℕ) → 0 < length text → printing text ≡ Print text ∷ []
-printing_some [] some = absurd (omega arith)
-printing_some (byte ∷ text) some = refl
+  pub patch_bad : (under : Option (List ℕ)) (bytes : List ℕ) (fault : PatchFault) → under ≡ Some bytes → IsFirstFault bytes fault → PatchLeads under name isos defined target (refusing (patch_fault_line name fault) 2)
+  patch_bad under bytes fault is bad = rw is (inl (fault, (bad, refl)))
 
-pub printing_none : (text : List ℕ) → length text ≡ 0 → printing text ≡ []
-printing_none [] none = refl
-printing_none (byte ∷ text) none = absurd (omega arith)
+  pub patch_read : (under : Option (List ℕ)) (bytes : List ℕ) (patch : Patch) → under ≡ Some bytes → IsPatchOf bytes patch → (to : Stage) → ReadLeads patch isos defined target to → PatchLeads under name isos defined target to
+  patch_read under bytes patch is read to leads = rw is (inr (patch, (read, leads)))
+
+-- ---- the isomorphisms
+
+module _ (patch : Patch) (name : List ℕ) (defined : List (List ℕ)) (target : Target) where
+  pub isos_absent : (under : Option (List ℕ)) → under ≡ None → IsosFileLeads under patch name defined target (refusing (cannot_read name) 5)
+  isos_absent under none = rw none refl
+
+  pub isos_long : (under : Option (List ℕ)) → IsSomeAnd under (λ bytes. 1048576 < length bytes) → IsosFileLeads under patch name defined target (refusing (iso_fault_line name iso_fault.TooLong) 3)
+  isos_long None long = absurd long
+  isos_long (Some bytes) long = inl (iso_fault.TooLong, (too_long long, refl))
+
+  pub isos_bad : (under : Option (List ℕ)) (bytes : List ℕ) (fault : IsoFault) → under ≡ Some bytes → IsFileFault bytes fault → IsosFileLeads under patch name defined target (refusing (iso_fault_line name fault) 3)
+  isos_bad under bytes fault is bad = rw is (inl (fault, (bad, refl)))
+
+  pub isos_read : (under : Option (List ℕ)) (bytes : List ℕ) (isos : List Iso) → under ≡ Some bytes → AreIsosOf bytes isos → (to : Stage) → IsosLead isos patch name defined target to → IsosFileLeads under patch name defined target to
+  isos_read under bytes isos is read to leads = rw is (inr (isos, (read, leads)))

@@ -1,7 +1,6 @@
 pub mod Chain
+pub mod Treating
 pub mod Leading
+pub mod Few
+pub mod Beginning
 pub mod Exact
-pub mod Unique
-pub mod Caused
-pub mod Silent
-pub mod Examples

@@ -2,32 +2,27 @@
 //!
 //! - [`run`] does what the words ask for, on a shelf of files and two sinks, and answers the status.
 //! - [`Status`] has a name for each status; [`run`] answers its number.
-//! - [`acts_are_one_list`] says that its contract leaves no choice.
 //!
-//! The words `--sp-file p k.c` load the patch `p` and the file `k.c`, and print the file without the calls that the patch
-//! removes. Every other list of words puts the line on how the tool is called, with status 1.
+//! The words `--sp-file p --in-place k.c` load the patch `p` and the file `k.c`, and store what the patch makes of it.
 //!
-//! A patch has at most 1,048,576 bytes, and a file 16,777,216. Nothing here recurses.
-//! What a small patch is, and what a file becomes, is for small_rule; the single acts are for run_acts.
+//! A patch and a file of isomorphisms have at most 1,048,576 bytes, a file 16,777,216.
 #![tactic(auto)]
 
-ghost use Rattle.std.specs.Prelude.{◌≡◌};
 ghost use Rattle.run_acts.specs.Acts.{told};
 ghost use Rattle.run_acts.specs.Breaks.{NoneFell, counts};
-ghost use Rattle.spatch_run.specs.Promise.{IsExact, EndsRightly};
-ghost use Rattle.spatch_run.specs.Causes.{Causes};
+ghost use Rattle.run_stages.specs.Promise.{IsExact, EndsRightly};
+ghost use Rattle.run_stages.specs.Causes.{Causes};
 
-mod law;
+mod files;
+mod laws;
 mod refusals;
 mod stages;
-#[cfg(test)]
-mod tests;
-mod words;
+mod texts;
 
 use c_terms::Text;
-pub use law::acts_are_one_list;
 use outer_io::{Shelf, Sink};
 pub use run_acts::Status;
+use run_laws::statuses_have_a_cause;
 use stages::{follow_words, status_of};
 
 /// Does what the words ask for, and answers the status.
@@ -67,5 +62,6 @@ pub fn run<R: AllocGlobal, S: Shelf, O: Sink, E: Sink>(
         (told (S.holds shelf.new) (S.stores shelf.new) (O.written out.new) (E.written err.new))
         result }
 {
+    statuses_have_a_cause();
     status_of(follow_words(rt.alloc(), words, shelf, out, err)).number()
 }

@@ -1,61 +1,104 @@
-// Why a run refuses what it is asked for.
-ghost use Rattle.std.specs.Prelude.{◌≡◌, IfOk, string_bytes};
+// The ends of a run that goes no further: a line is put, and a status answered.
+ghost use Rattle.std.specs.Prelude.{List, ℕ, Option};
+ghost use Rattle.outer_io.specs.Files.{Files};
+ghost use Rattle.run_acts.specs.Acts.{told};
+ghost use Rattle.run_acts.specs.Breaks.{counts};
+ghost use Rattle.run_acts.specs.Lines.{cannot_read};
 ghost use Rattle.run_acts.specs.Statuses.{number_of};
-ghost use Rattle.spatch_run.specs.Lines.{usage};
-ghost use Rattle.spatch_run.specs.Refusals.{line_about, refusal_status};
+ghost use Rattle.run_lines.specs.Patches as lines;
+ghost use Rattle.run_stages.specs.Stages.{refusing};
+ghost use Rattle.run_stages.specs.Ends.{Ends};
+ghost use Rattle.spatch_run.specs.Answer.{answer};
 
-use c_terms::NoMemory;
-use run_acts::{Status, cannot_read, line_of};
+use iso_file::IsoFault;
+use outer_io::Sink;
+use run_acts::{Status, Stopped, cannot_read, report};
+use run_lines::{forms_line, iso_fault_line, patch_fault_line, usage};
+use smpl_patch::PatchFault;
 use std::alloc::Global;
 
-const USAGE: &str = "spatch: usage: spatch --sp-file P FILE\n";
-
-/// The line on how the program is called.
-pub fn usage() -> &'static str
-    ensures bytes { result.now ≡ usage }
+/// Puts a line, and answers a status.
+fn end_by<E: Sink>(err: &mut E, line: &[u8], status: Status) -> Result<Status, Stopped>
+    ensures ends { (files : Option Files) (out : Option (List ℕ)) (stores s o : ℕ) →
+        Ends (refusing line.now (number_of status))
+        (counts s o (E.faults err.old)) (counts s o (E.faults err.new))
+        (told files stores out (E.written err.old)) (told files stores out (E.written err.new))
+        (answer result) }
 {
-    USAGE
+    report(err, line)?;
+    Ok(status)
 }
 
-/// Why a run refuses a patch or a file. It has its line and its status.
-#[derive(Clone, Copy, Debug, PartialEq, Eq)]
-pub enum Refusal {
-    /// Nothing stands under the name.
-    Absent,
-    /// The patch is over its limit.
-    PatchTooLong,
-    /// The patch is another than this program takes yet.
-    PatchNotYet,
-    /// The file is over its limit.
-    FileTooLong,
-    /// The file is another than this program takes yet.
-    FileNotYet,
+/// Puts the line on how the program is called.
+pub fn refuse_words<E: Sink>(err: &mut E) -> Result<Status, Stopped>
+    ensures ends { (files : Option Files) (out : Option (List ℕ)) (stores s o : ℕ) →
+        Ends (refusing lines.usage 1)
+        (counts s o (E.faults err.old)) (counts s o (E.faults err.new))
+        (told files stores out (E.written err.old)) (told files stores out (E.written err.new))
+        (answer result) }
+{
+    end_by(err, usage().as_bytes(), Status::WordsRefused)
 }
 
-impl Refusal {
-    /// The line about the patch or the file of this name. Linear in the name.
-    pub fn line(self, alloc: Global, name: &str) -> Result<String, NoMemory>
-        ensures bytes { IfOk result (λ line. string_bytes line ≡ line_about self name.now) }
-    {
-        match self {
-            Refusal::Absent => cannot_read(alloc, name),
-            Refusal::PatchTooLong => line_of(alloc, name, "patch fault 1"),
-            Refusal::PatchNotYet => line_of(alloc, name, "not yet"),
-            Refusal::FileTooLong => line_of(alloc, name, "refused: file too long"),
-            Refusal::FileNotYet => line_of(alloc, name, "not yet"),
-        }
-    }
+/// Puts the line about a name under which nothing stands.
+pub fn refuse_absent<E: Sink>(alloc: Global, err: &mut E, name: &str) -> Result<Status, Stopped>
+    ensures ends { (files : Option Files) (out : Option (List ℕ)) (stores s o : ℕ) →
+        Ends (refusing (cannot_read name.now) 5)
+        (counts s o (E.faults err.old)) (counts s o (E.faults err.new))
+        (told files stores out (E.written err.old)) (told files stores out (E.written err.new))
+        (answer result) }
+{
+    let line = cannot_read(alloc, name)?;
+    end_by(err, line.as_str().as_bytes(), Status::CannotRead)
+}
 
-    /// The status of the run that it ends.
-    pub fn status(self) -> Status
-        ensures number { number_of result ≡ refusal_status self }
-    {
-        match self {
-            Refusal::Absent => Status::CannotRead,
-            Refusal::PatchTooLong => Status::PatchRefused,
-            Refusal::PatchNotYet => Status::PatchRefused,
-            Refusal::FileTooLong => Status::FileRefused,
-            Refusal::FileNotYet => Status::FileRefused,
-        }
-    }
+/// Puts the line about the patch of this name that has this fault.
+pub fn refuse_patch<E: Sink>(
+    alloc: Global,
+    err: &mut E,
+    name: &str,
+    fault: &PatchFault,
+) -> Result<Status, Stopped>
+    ensures ends { (files : Option Files) (out : Option (List ℕ)) (stores s o : ℕ) →
+        Ends (refusing (lines.patch_fault_line name.now fault.now) 2)
+        (counts s o (E.faults err.old)) (counts s o (E.faults err.new))
+        (told files stores out (E.written err.old)) (told files stores out (E.written err.new))
+        (answer result) }
+{
+    let line = patch_fault_line(alloc, name, fault)?;
+    end_by(err, &line, Status::PatchRefused)
+}
+
+/// Puts the line about the isomorphisms of this name that have this fault.
+pub fn refuse_isos<E: Sink>(
+    alloc: Global,
+    err: &mut E,
+    name: &str,
+    fault: IsoFault,
+) -> Result<Status, Stopped>
+    ensures ends { (files : Option Files) (out : Option (List ℕ)) (stores s o : ℕ) →
+        Ends (refusing (lines.iso_fault_line name.now fault) 3)
+        (counts s o (E.faults err.old)) (counts s o (E.faults err.new))
+        (told files stores out (E.written err.old)) (told files stores out (E.written err.new))
+        (answer result) }
+{
+    let line = iso_fault_line(alloc, name, fault)?;
+    end_by(err, &line, Status::IsosRefused)
+}
+
+/// Puts the line about the isomorphisms of this name under which a rule has too many forms.
+pub fn refuse_forms<E: Sink>(
+    alloc: Global,
+    err: &mut E,
+    name: &str,
+    rule: u32,
+) -> Result<Status, Stopped>
+    ensures ends { (files : Option Files) (out : Option (List ℕ)) (stores s o : ℕ) →
+        Ends (refusing (lines.forms_line name.now rule) 3)
+        (counts s o (E.faults err.old)) (counts s o (E.faults err.new))
+        (told files stores out (E.written err.old)) (told files stores out (E.written err.new))
+        (answer result) }
+{
+    let line = forms_line(alloc, name, rule)?;
+    end_by(err, &line, Status::IsosRefused)
 }

@@ -1,26 +1,41 @@
-// The stages of a run, a function each.
-ghost use Rattle.std.specs.Prelude.{◌≡◌, ◌≤◌, [], List, ℕ, Option};
-ghost use Rattle.outer_io.specs.Files.{Files};
+// The stages of a run up to the files, a function each.
+ghost use Rattle.std.specs.Prelude.{◌≡◌, ◌↔◌, [], List, ℕ, true, map, IfOk, IsTrue};
+ghost use Rattle.std.specs.List.{list_all};
+ghost use Rattle.std.specs.Str.{is_utf8};
 ghost use Rattle.run_acts.specs.Acts.{told};
 ghost use Rattle.run_acts.specs.Breaks.{counts};
 ghost use Rattle.run_acts.specs.Statuses.{number_of};
-ghost use Rattle.spatch_run.specs.Lines.{usage};
-ghost use Rattle.spatch_run.specs.Stages.{Doing, Ending, ReadPatch, EditFile, refusing, printing};
-ghost use Rattle.spatch_run.specs.Ends.{Ends, Follows};
+ghost use Rattle.ctl_translate.specs.declared.rule.FormulaFault.{FormulaFault as Fault};
+ghost use Rattle.ctl_translate.specs.declared.rule.FormulaFault.TheVariants as formula_fault;
+ghost use Rattle.smpl_patch.specs.declared.fault.PatchFault.TheVariants as patch_fault;
+ghost use Rattle.smpl_file.specs.Patches.{IsPatchOf};
+ghost use Rattle.iso_file.specs.declared.fault.IsoFault.TheVariants as iso_fault;
+ghost use Rattle.rule_formulas.specs.Prepared.{ArePrepared, IsPrepareFault};
+ghost use Rattle.run_words.specs.Shown.{shown_isos, shown_target, few_functions};
+ghost use Rattle.run_stages.specs.Stages.{Doing, ReadPatch, ReadIsos, TargetLeads, ReadLeads, IsosLead};
+ghost use Rattle.run_stages.specs.Ends.{Ends, Follows, LeadsBy};
 ghost use Rattle.spatch_run.specs.Answer.{answer};
-ghost use Rattle.spatch_run.specs.Refusals.{line_about, refusal_status};
+ghost use Rattle.spatch_run.specs.Usable.{IsUsable};
 
-use crate::refusals::{Refusal, usage};
-use crate::words::command;
-use c_terms::Text;
-use outer_io::{Loads, Sink};
-use run_acts::{Loaded, Status, Stopped, load, print, report};
-use small_rule::{Call, read_patch, remove_calls};
+use crate::files::edit_files;
+use crate::laws::patches_may_be_used;
+use crate::refusals::{refuse_absent, refuse_forms, refuse_isos, refuse_patch, refuse_words};
+use crate::texts::{print_text, sum_text};
+use c_terms::{NoMemory, Text};
+use ctl_translate::FormulaFault;
+use iso_expand::{ExpandFault, expand};
+use iso_file::{IsoFault, read_isos};
+use outer_io::{Shelf, Sink};
+use rule_formulas::{Prepared, prepare};
+use run_acts::{Loaded, Status, Stopped, load};
+use run_files::Ready;
+use run_words::{Order, PatchOrder, Target, order_of, texts_of};
+use smpl_file::read_patch;
+use smpl_patch::{Iso, Patch, PatchFault};
 use std::alloc::Global;
 
+/// The most bytes of a patch, and of a file of isomorphisms.
 const PATCH_LIMIT: u64 = 1_048_576;
-
-const FILE_LIMIT: u64 = 16_777_216;
 
 /// The status of a run that ended or stopped.
 pub fn status_of(end: Result<Status, Stopped>) -> Status
@@ -33,7 +48,7 @@ pub fn status_of(end: Result<Status, Stopped>) -> Status
 }
 
 /// Reads the words, and does what they ask for.
-pub fn follow_words<S: Loads, O: Sink, E: Sink>(
+pub fn follow_words<S: Shelf, O: Sink, E: Sink>(
     alloc: Global,
     words: &[Text],
     shelf: &mut S,
@@ -47,107 +62,219 @@ pub fn follow_words<S: Loads, O: Sink, E: Sink>(
         (told (S.holds shelf.new) (S.stores shelf.new) (O.written out.new) (E.written err.new))
         (answer result) }
 {
-    let Some((patch, file)) = command(words) else {
-        return refuse_words(err);
-    };
-    apply_patch(alloc, patch, file, shelf, out, err)
+    match texts_of(alloc, words) {
+        Err(NoMemory) => Err(Stopped::NoMemory),
+        Ok(None) => refuse_words(err),
+        Ok(Some(texts)) => follow_texts(alloc, &texts, shelf, out, err),
+    }
 }
 
-/// Loads and reads the patch, and edits the file by it.
-fn apply_patch<S: Loads, O: Sink, E: Sink>(
+/// Reads the words that are text, and does what they ask for.
+fn follow_texts<S: Shelf, O: Sink, E: Sink>(
     alloc: Global,
-    patch: &str,
-    file: &str,
+    texts: &[&str],
     shelf: &mut S,
     out: &mut O,
     err: &mut E,
 ) -> Result<Status, Stopped>
-    ensures ends { Ends (Doing [] (ReadPatch patch.now file.now))
+    requires texts { list_all is_utf8 (map (λ t. t.now) texts.now) ≡ true }
+    ensures ends { Follows (map (λ t. t.now) texts.now)
         (counts (S.faults shelf.old) (O.faults out.old) (E.faults err.old))
         (counts (S.faults shelf.new) (O.faults out.new) (E.faults err.new))
         (told (S.holds shelf.old) (S.stores shelf.old) (O.written out.old) (E.written err.old))
         (told (S.holds shelf.new) (S.stores shelf.new) (O.written out.new) (E.written err.new))
         (answer result) }
 {
-    let bytes = match load(alloc, shelf, err, patch, PATCH_LIMIT)? {
-        Loaded::Bytes(bytes) => bytes,
-        Loaded::TooLong => return refuse(alloc, err, patch, Refusal::PatchTooLong),
-        Loaded::Absent => return refuse(alloc, err, patch, Refusal::Absent),
-    };
-    match read_patch(alloc, &bytes)? {
-        Some(call) => edit_file(alloc, &call, file, shelf, out, err),
-        None => refuse(alloc, err, patch, Refusal::PatchNotYet),
+    match order_of(alloc, texts) {
+        Err(NoMemory) => Err(Stopped::NoMemory),
+        Ok(None) => refuse_words(err),
+        Ok(Some(Order::Generate(seed, functions))) => print_text(alloc, seed, functions, out, err),
+        Ok(Some(Order::Apply(order))) => follow_order(alloc, &order, shelf, out, err),
     }
 }
 
-/// Loads the file, removes the calls from it, and prints what is left.
-fn edit_file<S: Loads, O: Sink, E: Sink>(
+/// Whether memory was wanting, and it isn't known that something is wrong with the patch.
+fn is_no_memory(fault: &PatchFault) -> bool
+    ensures { IsTrue result ↔ (fault.now ≡ patch_fault.NoMemory) }
+{
+    matches!(fault, PatchFault::NoMemory)
+}
+
+/// Loads and reads the patch, and goes on with it.
+fn follow_order<S: Shelf, O: Sink, E: Sink>(
     alloc: Global,
-    call: &Call,
-    file: &str,
+    order: &PatchOrder<'_>,
     shelf: &mut S,
     out: &mut O,
     err: &mut E,
 ) -> Result<Status, Stopped>
-    ensures ends { Ends (Doing [] (EditFile call.now file.now))
+    requires few { few_functions order.now.target }
+    ensures ends { Ends (Doing [] (ReadPatch order.now.patch.now (shown_isos order.now.isos) order.now.defined.items (shown_target order.now.target)))
         (counts (S.faults shelf.old) (O.faults out.old) (E.faults err.old))
         (counts (S.faults shelf.new) (O.faults out.new) (E.faults err.new))
         (told (S.holds shelf.old) (S.stores shelf.old) (O.written out.old) (E.written err.old))
         (told (S.holds shelf.new) (S.stores shelf.new) (O.written out.new) (E.written err.new))
         (answer result) }
 {
-    let bytes = match load(alloc, shelf, err, file, FILE_LIMIT)? {
+    let bytes = match load(alloc, shelf, err, order.patch, PATCH_LIMIT)? {
         Loaded::Bytes(bytes) => bytes,
-        Loaded::TooLong => return refuse(alloc, err, file, Refusal::FileTooLong),
-        Loaded::Absent => return refuse(alloc, err, file, Refusal::Absent),
+        Loaded::TooLong => return refuse_patch(alloc, err, order.patch, &PatchFault::PatchTooLong),
+        Loaded::Absent => return refuse_absent(alloc, err, order.patch),
     };
-    match remove_calls(alloc, call, &bytes)? {
-        Some(text) => show(out, err, &text),
-        None => refuse(alloc, err, file, Refusal::FileNotYet),
+    match read_patch(alloc, &bytes) {
+        Ok(patch) => give_forms(alloc, order, patch, shelf, out, err),
+        Err(fault) => {
+            if is_no_memory(&fault) {
+                return Err(Stopped::NoMemory);
+            }
+            refuse_patch(alloc, err, order.patch, &fault)
+        }
     }
 }
 
-/// Prints the text, if there is any.
-fn show<O: Sink, E: Sink>(out: &mut O, err: &mut E, text: &[u8]) -> Result<Status, Stopped>
-    ensures ends { (files : Option Files) (stores s : ℕ) → Ends (Ending (printing text.now) 0)
-        (counts s (O.faults out.old) (E.faults err.old))
-        (counts s (O.faults out.new) (E.faults err.new))
-        (told files stores (O.written out.old) (E.written err.old))
-        (told files stores (O.written out.new) (E.written err.new)) (answer result) }
-{
-    if text.is_empty() {
-        return Ok(Status::Done);
-    }
-    print(out, err, text)?;
-    Ok(Status::Done)
-}
-
-/// Puts the line on how the tool is called.
-fn refuse_words<E: Sink>(err: &mut E) -> Result<Status, Stopped>
-    ensures ends { (files : Option Files) (out : Option (List ℕ)) (stores s o : ℕ) →
-        Ends (refusing usage 1)
-        (counts s o (E.faults err.old)) (counts s o (E.faults err.new))
-        (told files stores out (E.written err.old))
-        (told files stores out (E.written err.new)) (answer result) }
-{
-    report(err, usage().as_bytes())?;
-    Ok(Status::WordsRefused)
-}
-
-/// Puts the line of a refusal, and answers its status.
-fn refuse<E: Sink>(
+/// Gives the patch its forms, where isomorphisms are named, and goes on with it.
+fn give_forms<S: Shelf, O: Sink, E: Sink>(
     alloc: Global,
+    order: &PatchOrder<'_>,
+    patch: Patch,
+    shelf: &mut S,
+    out: &mut O,
     err: &mut E,
+) -> Result<Status, Stopped>
+    requires few { few_functions order.now.target }
+    requires read { (bytes : List ℕ) × IsPatchOf bytes patch }
+    ensures ends { LeadsBy (ReadLeads patch (shown_isos order.now.isos) order.now.defined.items (shown_target order.now.target))
+        (counts (S.faults shelf.old) (O.faults out.old) (E.faults err.old))
+        (counts (S.faults shelf.new) (O.faults out.new) (E.faults err.new))
+        (told (S.holds shelf.old) (S.stores shelf.old) (O.written out.old) (E.written err.old))
+        (told (S.holds shelf.new) (S.stores shelf.new) (O.written out.new) (E.written err.new))
+        (answer result) }
+{
+    patches_may_be_used();
+    match order.isos {
+        None => use_patch(alloc, order, &patch, shelf, out, err),
+        Some(name) => load_isos(alloc, order, patch, name, shelf, out, err),
+    }
+}
+
+/// Whether memory was wanting, and it isn't known that something is wrong with the isomorphisms.
+fn is_no_memory_for_isos(fault: IsoFault) -> bool
+    ensures { IsTrue result ↔ (fault ≡ iso_fault.NoMemory) }
+{
+    matches!(fault, IsoFault::NoMemory)
+}
+
+/// Loads and reads the isomorphisms, and goes on with the patch under them.
+fn load_isos<S: Shelf, O: Sink, E: Sink>(
+    alloc: Global,
+    order: &PatchOrder<'_>,
+    patch: Patch,
     name: &str,
-    refusal: Refusal,
+    shelf: &mut S,
+    out: &mut O,
+    err: &mut E,
 ) -> Result<Status, Stopped>
-    ensures ends { (files : Option Files) (out : Option (List ℕ)) (stores s o : ℕ) →
-        Ends (refusing (line_about refusal name.now) (refusal_status refusal))
-        (counts s o (E.faults err.old)) (counts s o (E.faults err.new))
-        (told files stores out (E.written err.old))
-        (told files stores out (E.written err.new)) (answer result) }
+    requires few { few_functions order.now.target }
+    requires read { (bytes : List ℕ) × IsPatchOf bytes patch }
+    ensures ends { Ends (Doing [] (ReadIsos patch name.now order.now.defined.items (shown_target order.now.target)))
+        (counts (S.faults shelf.old) (O.faults out.old) (E.faults err.old))
+        (counts (S.faults shelf.new) (O.faults out.new) (E.faults err.new))
+        (told (S.holds shelf.old) (S.stores shelf.old) (O.written out.old) (E.written err.old))
+        (told (S.holds shelf.new) (S.stores shelf.new) (O.written out.new) (E.written err.new))
+        (answer result) }
 {
-    let line = refusal.line(alloc, name)?;
-    report(err, line.as_str().as_bytes())?;
-    Ok(refusal.status())
+    let bytes = match load(alloc, shelf, err, name, PATCH_LIMIT)? {
+        Loaded::Bytes(bytes) => bytes,
+        Loaded::TooLong => return refuse_isos(alloc, err, name, IsoFault::TooLong),
+        Loaded::Absent => return refuse_absent(alloc, err, name),
+    };
+    match read_isos(alloc, &bytes) {
+        Ok(isos) => expand_patch(alloc, order, patch, name, isos.as_slice(), shelf, out, err),
+        Err(fault) => {
+            if is_no_memory_for_isos(fault) {
+                return Err(Stopped::NoMemory);
+            }
+            refuse_isos(alloc, err, name, fault)
+        }
+    }
+}
+
+/// Gives the patch its forms under the isomorphisms of this name, and goes on with it.
+fn expand_patch<S: Shelf, O: Sink, E: Sink>(
+    alloc: Global,
+    order: &PatchOrder<'_>,
+    patch: Patch,
+    name: &str,
+    isos: &[Iso],
+    shelf: &mut S,
+    out: &mut O,
+    err: &mut E,
+) -> Result<Status, Stopped>
+    requires few { few_functions order.now.target }
+    requires read { (bytes : List ℕ) × IsPatchOf bytes patch }
+    ensures ends { LeadsBy (IsosLead isos.now patch name.now order.now.defined.items (shown_target order.now.target))
+        (counts (S.faults shelf.old) (O.faults out.old) (E.faults err.old))
+        (counts (S.faults shelf.new) (O.faults out.new) (E.faults err.new))
+        (told (S.holds shelf.old) (S.stores shelf.old) (O.written out.old) (E.written err.old))
+        (told (S.holds shelf.new) (S.stores shelf.new) (O.written out.new) (E.written err.new))
+        (answer result) }
+{
+    patches_may_be_used();
+    match expand(alloc, patch, isos) {
+        Ok(whole) => use_patch(alloc, order, &whole, shelf, out, err),
+        Err(ExpandFault::NoMemory) => Err(Stopped::NoMemory),
+        Err(ExpandFault::TooManyForms(rule)) => refuse_forms(alloc, err, name, rule),
+    }
+}
+
+/// Whether memory was wanting to make formulas.
+fn is_no_memory_for_formulas(fault: &FormulaFault) -> bool
+    ensures { IsTrue result ↔ (fault.now ≡ formula_fault.NoMemory) }
+{
+    matches!(fault, FormulaFault::NoMemory)
+}
+
+/// What the rules of a patch are run by. Each rule has a formula that may be used, so that memory alone may be wanting.
+fn prepared(alloc: Global, patch: &Patch) -> Result<Prepared, NoMemory>
+    requires formulas { (f : Fault) → IsPrepareFault patch.now.rules f → f ≡ formula_fault.NoMemory }
+    ensures { IfOk result (λ prepared. ArePrepared patch.now.rules prepared.rules) }
+{
+    match prepare(alloc, patch) {
+        Ok(prepared) => Ok(prepared),
+        Err(fault) => {
+            let is_memory = is_no_memory_for_formulas(&fault);
+            prove!(is_memory);
+            Err(NoMemory)
+        }
+    }
+}
+
+/// Applies the patch to what the order names.
+fn use_patch<S: Shelf, O: Sink, E: Sink>(
+    alloc: Global,
+    order: &PatchOrder<'_>,
+    patch: &Patch,
+    shelf: &mut S,
+    out: &mut O,
+    err: &mut E,
+) -> Result<Status, Stopped>
+    requires few { few_functions order.now.target }
+    requires usable { IsUsable patch.now }
+    ensures ends { LeadsBy (TargetLeads patch.now order.now.defined.items (shown_target order.now.target))
+        (counts (S.faults shelf.old) (O.faults out.old) (E.faults err.old))
+        (counts (S.faults shelf.new) (O.faults out.new) (E.faults err.new))
+        (told (S.holds shelf.old) (S.stores shelf.old) (O.written out.old) (E.written err.old))
+        (told (S.holds shelf.new) (S.stores shelf.new) (O.written out.new) (E.written err.new))
+        (answer result) }
+{
+    let prepared = prepared(alloc, patch)?;
+    let ready = Ready {
+        patch,
+        prepared: &prepared,
+        defined: &order.defined,
+    };
+    match &order.target {
+        Target::Files(mode, names) => edit_files(alloc, &ready, *mode, names, shelf, out, err),
+        Target::Text(seed, functions) => sum_text(alloc, &ready, *seed, *functions, out, err),
+    }
 }

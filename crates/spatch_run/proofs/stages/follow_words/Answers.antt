@@ -1,14 +1,26 @@
-use Rattle.std.proofs.Common.{[], inl, inr, refl}
-use Rattle.spatch_run.specs.Lines.{usage}
-use Rattle.spatch_run.specs.Stages.{refusing, Doing, ReadPatch}
+use Rattle.std.proofs.Common.{◌≡◌, List, ℕ, map, None, ap, ◌∙◌}
+use Rattle.std.specs.List.{list_all}
+use Rattle.std.specs.Str.{is_utf8}
+use Rattle.spatch_run.proofs.Beginning.{unfed_first, follows}
+use Rattle.spatch_run.proofs.Few.{none_asked}
 use Rattle.spatch_run.proofs.stages.follow_words.Goals as goal
 
-pub returns-in_default : goal.returns-in_default
-returns-in_default g c = record {
-  ends = (refusing usage 1, (inr (c.in_default.ensures, refl), c.refuse_words.ensures.ends _ _ _ _ _));
+pub follow_texts-requires : goal.follow_texts-requires
+follow_texts-requires g c =
+    let p = rw c.in-Ok-Some.field-0-is at c.in-Ok-Some.ensures in
+    record { texts = rw (c.deref.ensures.value, p.0) p.1 }
+
+pub returns-in-Err : goal.returns-in-Err
+returns-in-Err g c = record { ends = unfed_first _ _ _ }
+
+pub returns-in-Ok-None : goal.returns-in-Ok-None
+returns-in-Ok-None g c = record {
+  ends = follows c.args.words.now None (none_asked c.args.words.now (rw c.in-Ok-None.field-0-is at c.in-Ok-None.ensures)) (c.refuse_words.ensures.ends _ _ _ _ _);
 }
 
-pub returns : goal.returns
-returns g c = record {
-  ends = (Doing [] (ReadPatch _ _), (inl (_, (_, (c.in-Some.ensures, refl))), c.apply_patch.ensures.ends));
+pub returns-in-Ok-Some : goal.returns-in-Ok-Some
+returns-in-Ok-Some g c = record {
+  ends =
+      let p = rw c.in-Ok-Some.field-0-is at c.in-Ok-Some.ensures in
+      rw (c.deref.ensures.value, p.0) at c.follow_texts.ensures.ends;
 }

@@ -1,0 +1,84 @@
+use Rattle.std.proofs.Common.{◌≡◌, ◌≤◌, [], length, refl, arith}
+use Rattle.std.proofs.lemmas.Result.{err_from_is_err_and}
+use Rattle.run_acts.specs.Acts.{Load}
+use Rattle.run_acts.specs.Breaks.{NoneFell, counts}
+use Rattle.run_acts.proofs.BreaksLemmas.{NoneFell-then}
+use Rattle.run_stages.specs.Stages.{Doing, EditFiles}
+use Rattle.spatch_run.proofs.Chain.{broken}
+use Rattle.spatch_run.proofs.Leading.{no_trace}
+use Rattle.spatch_run.proofs.Treating.{file_cut, long_cut, turns_long, turns_treated, turns_absent}
+use Rattle.spatch_run.proofs.files.take_turn.Goals as goal
+
+pub treat-requires : goal.treat-requires
+treat-requires g c =
+    let found = rw c.in-Bytes.is at c.in_ok-bytes.ensures.loaded in
+    record { ready = c.requires.ready; short = found.1.1.1 }
+
+pub returns-in_err-bytes-clause-fell : goal.returns-in_err-bytes-clause-fell
+returns-in_err-bytes-clause-fell g c = record { shelf = c.in_err-bytes.ensures.later; out = omega arith; err = c.in_err-bytes.ensures.later_err }
+
+pub returns-in_err-bytes-clause-stopped : goal.returns-in_err-bytes-clause-stopped
+returns-in_err-bytes-clause-stopped g c =
+    let p = err_from_is_err_and c.from_residual.result c.from_residual.ensures.1 in
+    let o = g.O.Sink.faults c.args.out.now in
+    rw (p.1, p.2) (λ names refused. broken (Doing [] (EditFiles c.args.ready.now.patch.now c.args.ready.now.defined.now c.args.mode c.args.name.now names refused)) (Load c.args.name.now 16777216) refl (record { shelf = c.in_err-bytes.ensures.later; out = omega arith; err = c.in_err-bytes.ensures.later_err }) (c.in_err-bytes.ensures.stopped (g.O.Sink.written c.args.out.now) o o))
+
+pub returns-in-Absent-clause-turned : goal.returns-in-Absent-clause-turned
+returns-in-Absent-clause-turned g c =
+    let found = rw c.in-Absent.is at c.in_ok-bytes.ensures.loaded in
+    turns_absent c.args.ready.now.patch.now c.args.ready.now.defined.now c.args.mode c.args.name.now found.0 found.1.0 found.1.1 (no_trace c.in_ok-bytes.ensures.same c.in_ok-bytes.ensures.no_store c.in_ok-bytes.ensures.ok_err)
+
+pub returns-in-Absent-clause-fell : goal.returns-in-Absent-clause-fell
+returns-in-Absent-clause-fell g c = record { shelf = c.in_ok-bytes.ensures.later; out = omega arith; err = c.in_ok-bytes.ensures.later_err }
+
+pub returns-in_err-refuse_long-in-TooLong-clause-fell : goal.returns-in_err-refuse_long-in-TooLong-clause-fell
+returns-in_err-refuse_long-in-TooLong-clause-fell g c = record { shelf = c.in_ok-bytes.ensures.later; out = omega arith; err = omega (arith, c.in_ok-bytes.ensures.later_err, c.in_err-refuse_long-in-TooLong.ensures.later) }
+
+pub returns-in_err-refuse_long-in-TooLong-clause-stopped : goal.returns-in_err-refuse_long-in-TooLong-clause-stopped
+returns-in_err-refuse_long-in-TooLong-clause-stopped g c =
+    let found = rw c.in-TooLong.is at c.in_ok-bytes.ensures.loaded in
+    let p = err_from_is_err_and c.from_residual-in_err-refuse_long-in-TooLong.result c.from_residual-in_err-refuse_long-in-TooLong.ensures.1 in
+    let s = g.S.Loads.faults c.load.new.shelf in
+    let o = g.O.Sink.faults c.args.out.now in
+    let fell : NoneFell (counts (g.S.Loads.faults c.args.shelf.now) o (g.E.Sink.faults c.args.err.now)) (counts s o (g.E.Sink.faults c.load.new.err)) =
+    record { shelf = c.in_ok-bytes.ensures.later; out = omega arith; err = c.in_ok-bytes.ensures.later_err } in
+    let more : NoneFell (counts s o (g.E.Sink.faults c.load.new.err)) (counts s o (g.E.Sink.faults c.refuse_long.new.err)) =
+    record { shelf = omega arith; out = omega arith; err = c.in_err-refuse_long-in-TooLong.ensures.later } in
+    rw (p.1, p.2) (λ names refused. long_cut c.args.ready.now.patch.now c.args.ready.now.defined.now c.args.mode c.args.name.now names refused found.0 found.1.0 found.1.1 (no_trace c.in_ok-bytes.ensures.same c.in_ok-bytes.ensures.no_store c.in_ok-bytes.ensures.ok_err) fell more (c.in_err-refuse_long-in-TooLong.ensures.stopped _ _ _ s o s o))
+
+pub returns-in-TooLong-clause-turned : goal.returns-in-TooLong-clause-turned
+returns-in-TooLong-clause-turned g c =
+    let found = rw c.in-TooLong.is at c.in_ok-bytes.ensures.loaded in
+    turns_long c.args.ready.now.patch.now c.args.ready.now.defined.now c.args.mode c.args.name.now found.0 found.1.0 found.1.1 (no_trace c.in_ok-bytes.ensures.same c.in_ok-bytes.ensures.no_store c.in_ok-bytes.ensures.ok_err) (c.in_ok-refuse_long-in-TooLong.ensures.done _ _ _)
+
+pub returns-in-TooLong-clause-fell : goal.returns-in-TooLong-clause-fell
+returns-in-TooLong-clause-fell g c = record { shelf = c.in_ok-bytes.ensures.later; out = omega arith; err = omega (arith, c.in_ok-bytes.ensures.later_err, c.in_ok-refuse_long-in-TooLong.ensures.later) }
+
+pub returns-in_err-refused-clause-fell : goal.returns-in_err-refused-clause-fell
+returns-in_err-refused-clause-fell g c = record {
+  shelf = omega (arith, c.in_ok-bytes.ensures.later, c.in_err-refused.ensures.later);
+  out = c.in_err-refused.ensures.later_out;
+  err = omega (arith, c.in_ok-bytes.ensures.later_err, c.in_err-refused.ensures.later_err);
+}
+
+pub returns-in_err-refused-clause-stopped : goal.returns-in_err-refused-clause-stopped
+returns-in_err-refused-clause-stopped g c =
+    let found = rw c.in-Bytes.is at c.in_ok-bytes.ensures.loaded in
+    let p = err_from_is_err_and c.from_residual-in_err-refused.result c.from_residual-in_err-refused.ensures.1 in
+    let fell : NoneFell (counts (g.S.Loads.faults c.args.shelf.now) (g.O.Sink.faults c.args.out.now) (g.E.Sink.faults c.args.err.now)) (counts (g.S.Loads.faults c.load.new.shelf) (g.O.Sink.faults c.args.out.now) (g.E.Sink.faults c.load.new.err)) =
+    record { shelf = c.in_ok-bytes.ensures.later; out = omega arith; err = c.in_ok-bytes.ensures.later_err } in
+    let more : NoneFell (counts (g.S.Loads.faults c.load.new.shelf) (g.O.Sink.faults c.args.out.now) (g.E.Sink.faults c.load.new.err)) (counts (g.S.Loads.faults c.treat.new.shelf) (g.O.Sink.faults c.treat.new.out) (g.E.Sink.faults c.treat.new.err)) =
+    record { shelf = c.in_err-refused.ensures.later; out = c.in_err-refused.ensures.later_out; err = c.in_err-refused.ensures.later_err } in
+    rw (p.1, p.2) (λ names refused. file_cut c.args.ready.now.patch.now c.args.ready.now.defined.now c.args.mode c.args.name.now names refused c.in-Bytes.bytes.items (rw found.1.1.0 at found.1.0) (no_trace c.in_ok-bytes.ensures.same c.in_ok-bytes.ensures.no_store c.in_ok-bytes.ensures.ok_err) fell more c.in_err-refused.ensures.stopped)
+
+pub returns-clause-turned : goal.returns-clause-turned
+returns-clause-turned g c =
+    let found = rw c.in-Bytes.is at c.in_ok-bytes.ensures.loaded in
+    turns_treated c.args.ready.now.patch.now c.args.ready.now.defined.now c.args.mode c.args.name.now c.in-Bytes.bytes.items found.0 c.in_ok-refused.refused found.1.0 found.1.1.0 (no_trace c.in_ok-bytes.ensures.same c.in_ok-bytes.ensures.no_store c.in_ok-bytes.ensures.ok_err) c.in_ok-refused.ensures.treated
+
+pub returns-clause-fell : goal.returns-clause-fell
+returns-clause-fell g c = record {
+  shelf = omega (arith, c.in_ok-bytes.ensures.later, c.in_ok-refused.ensures.later);
+  out = c.in_ok-refused.ensures.later_out;
+  err = omega (arith, c.in_ok-bytes.ensures.later_err, c.in_ok-refused.ensures.later_err);
+}

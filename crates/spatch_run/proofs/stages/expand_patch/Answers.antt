@@ -1,0 +1,35 @@
+use Rattle.std.proofs.Common.{inl, inr, refl}
+use Rattle.run_acts.proofs.BreaksLemmas.{NoneFell-refl}
+use Rattle.run_words.specs.Shown.{shown_target}
+use Rattle.run_lines.specs.Patches.{forms_line}
+use Rattle.run_stages.specs.Stages.{refusing, TargetLeads, IsosLead}
+use Rattle.run_stages.specs.Ends.LeadsBy.{unfed, from}
+use Rattle.spatch_run.proofs.Leading.{by_other}
+use Rattle.spatch_run.proofs.stages.expand_patch.Goals as goal
+
+pub expand-requires : goal.expand-requires
+expand-requires g c = (c.patches_may_be_used.ensures.read c.requires.read.0 c.args.patch c.requires.read.1).few
+
+pub use_patch-requires : goal.use_patch-requires
+use_patch-requires g c = record {
+  few = c.requires.few;
+  usable = c.patches_may_be_used.ensures.expanded c.requires.read.0 c.args.isos.now c.args.patch c.in-Ok.whole c.requires.read.1 c.in-Ok.ensures.patch;
+}
+
+pub returns-in-Ok : goal.returns-in-Ok
+returns-in-Ok g c = record {
+  ends =
+      let defined = c.args.order.now.defined.items in
+      let target = shown_target c.args.order.now.target in
+      by_other (TargetLeads c.in-Ok.whole defined target) (IsosLead c.args.isos.now c.args.patch c.args.name.now defined target) (λ to leads. inr (c.in-Ok.whole, (c.in-Ok.ensures.patch, leads))) c.use_patch.ensures.ends;
+}
+
+pub returns-in-Err-NoMemory : goal.returns-in-Err-NoMemory
+returns-in-Err-NoMemory g c = record { ends = unfed (NoneFell-refl _) refl refl }
+
+pub returns-in-Err-TooManyForms : goal.returns-in-Err-TooManyForms
+returns-in-Err-TooManyForms g c = record {
+  ends =
+      let many = rw c.in-Err-TooManyForms.field-0-is at c.in-Err-TooManyForms.ensures.fault in
+      from (refusing (forms_line c.args.name.now c.in-Err-TooManyForms.rule) 3) (inl (c.in-Err-TooManyForms.rule, (many, refl))) (c.refuse_forms.ensures.ends _ _ _ _ _);
+}

@@ -1,0 +1,16 @@
+use Rattle.std.proofs.Common.{◌≡◌, [], refl}
+use Rattle.run_words.specs.Shown.{shown_target}
+use Rattle.run_stages.specs.Stages.{Doing, ReadIsos}
+use Rattle.run_stages.specs.Ends.LeadsBy.{from}
+use Rattle.spatch_run.proofs.stages.give_forms.Goals as goal
+
+pub use_patch-requires : goal.use_patch-requires
+use_patch-requires g c = record { few = c.requires.few; usable = c.patches_may_be_used.ensures.read c.requires.read.0 c.args.patch c.requires.read.1 }
+
+pub returns-in-None : goal.returns-in-None
+returns-in-None g c = record { ends = rw c.in-None.is c.use_patch.ensures.ends }
+
+pub returns-in-Some : goal.returns-in-Some
+returns-in-Some g c = record {
+  ends = rw c.in-Some.is (from (Doing [] (ReadIsos c.args.patch c.in-Some.name.now c.args.order.now.defined.items (shown_target c.args.order.now.target))) refl c.load_isos.ensures.ends);
+}

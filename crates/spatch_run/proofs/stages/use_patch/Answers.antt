@@ -1,0 +1,29 @@
+use Rattle.std.proofs.Common.{[], false, map, refl}
+use Rattle.std.proofs.lemmas.Result.{err_from_is_err_and}
+use Rattle.run_acts.proofs.BreaksLemmas.{NoneFell-refl}
+use Rattle.run_stages.specs.Stages.{going}
+use Rattle.run_stages.specs.Ends.LeadsBy.{unfed, from}
+use Rattle.spatch_run.proofs.stages.use_patch.Goals as goal
+
+pub prepared-requires : goal.prepared-requires
+prepared-requires g c = record { formulas = c.requires.usable.formulas }
+
+pub edit_files-requires : goal.edit_files-requires
+edit_files-requires g c = record { ready = record { few = c.requires.usable.few; prepared_are = c.in_ok-prepared.ensures; may = c.requires.usable.may c.in_ok-prepared.prepared.rules c.in_ok-prepared.ensures } }
+
+pub returns-in_err-prepared : goal.returns-in_err-prepared
+returns-in_err-prepared g c = record {
+  ends =
+      let p = err_from_is_err_and c.from_residual.result c.from_residual.ensures.1 in
+      rw (p.1, p.2) (unfed (NoneFell-refl _) refl refl);
+}
+
+pub returns-in-Files : goal.returns-in-Files
+returns-in-Files g c = record {
+  ends =
+      let ends = rw (c.deref.ensures.value, c.deref-in-Files.ensures.value) at c.edit_files.ensures.ends in
+      rw c.in-Files.is (from (going [] c.args.patch.now c.args.order.now.defined.items c.in-Files.mode (map (λ name. name.now) c.in-Files.names.items) false) refl ends);
+}
+
+pub returns : goal.returns
+returns g c = record { ends = rw c.in-Text.is (rw c.deref.ensures.value at (c.sum_text.ensures.ends (g.S.Loads.holds c.args.shelf.now) (g.S.Loads.stores c.args.shelf.now) (g.S.Loads.faults c.args.shelf.now))) }

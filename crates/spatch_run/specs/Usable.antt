@@ -1,0 +1,15 @@
+-- What is asked of a patch that is used.
+use Rattle.std.specs.Prelude.{ℕ, ◌≡◌, ◌<◌, ◌^◌, List, length}
+use Rattle.std.specs.List.{AllZip}
+use Rattle.smpl_patch.specs.declared.rule.Patch.{Patch}
+use Rattle.ctl_translate.specs.declared.rule.FormulaFault.{FormulaFault}
+use Rattle.ctl_translate.specs.declared.rule.FormulaFault.TheVariants as fault
+use Rattle.rule_formulas.specs.declared.prepared.PreparedRule.{PreparedRule}
+use Rattle.rule_formulas.specs.Prepared.{ArePrepared, IsPrepareFault}
+use Rattle.rule_chain.specs.Asked.{MayRun}
+
+-- Each rule has a formula that may be used, so that memory alone may be wanting to make it; and by what is made, each may run.
+pub record IsUsable (patch : Patch) : Type 0 where
+  pub few : length patch.rules < 2 ^ 32
+  pub formulas : (f : FormulaFault) → IsPrepareFault patch.rules f → f ≡ fault.NoMemory
+  pub may : (made : List PreparedRule) → ArePrepared patch.rules made → AllZip MayRun patch.rules made

@@ -1,0 +1,24 @@
+// What is asked of a patch that is used, read patches have. The function does nothing.
+ghost use Rattle.std.specs.Prelude.{ℕ, List};
+ghost use Rattle.smpl_patch.specs.declared.rule.Iso.{Iso as Isomorphism};
+ghost use Rattle.smpl_patch.specs.declared.rule.Patch.{Patch as Whole};
+ghost use Rattle.smpl_file.specs.Patches.{IsPatchOf};
+ghost use Rattle.iso_expand.specs.Patches.{IsExpanded};
+ghost use Rattle.spatch_run.specs.Usable.{IsUsable};
+
+use chain_laws::rules_that_are_read_may_run;
+use form_laws::rules_with_forms_may_run;
+use rule_laws::rules_have_formulas;
+use smpl_sound::patches_are_sound;
+
+/// A patch that is read may be used, and so may one that has all its forms under isomorphisms. Does nothing.
+pub fn patches_may_be_used()
+    ensures read { (bytes : List ℕ) (patch : Whole) → IsPatchOf bytes patch → IsUsable patch }
+    ensures expanded { (bytes : List ℕ) (isos : List Isomorphism) (patch whole : Whole) → IsPatchOf bytes patch →
+        IsExpanded isos patch whole → IsUsable whole }
+{
+    patches_are_sound();
+    rules_have_formulas();
+    rules_that_are_read_may_run();
+    rules_with_forms_may_run();
+}

@@ -1,0 +1,61 @@
+// Texts that are generated.
+ghost use Rattle.std.specs.Prelude.{◌≤◌, ◌∷◌, [], List, ℕ, Option};
+ghost use Rattle.outer_io.specs.Files.{Files};
+ghost use Rattle.run_acts.specs.Acts.{Print, told};
+ghost use Rattle.run_acts.specs.Breaks.{counts};
+ghost use Rattle.sp_gen.specs.Generated.{generated};
+ghost use Rattle.run_words.specs.Orders.{OnText};
+ghost use Rattle.run_files.specs.Applies.{IsReady};
+ghost use Rattle.run_stages.specs.Stages.{Ending, TargetLeads};
+ghost use Rattle.run_stages.specs.Ends.{Ends, LeadsBy};
+ghost use Rattle.spatch_run.specs.Answer.{answer};
+
+use crate::files::end_status;
+use outer_io::Sink;
+use run_acts::{Status, Stopped, print};
+use run_files::{Ready, sum};
+use sp_gen::generate;
+use std::alloc::Global;
+
+/// The name of a generated text.
+const GENERATED: &str = "generated";
+
+/// Prints the text of a seed, of so many functions.
+pub fn print_text<O: Sink, E: Sink>(
+    alloc: Global,
+    seed: u64,
+    functions: u32,
+    out: &mut O,
+    err: &mut E,
+) -> Result<Status, Stopped>
+    ensures ends { (files : Option Files) (stores s : ℕ) → Ends (Ending (Print (generated seed functions) ∷ []) 0)
+        (counts s (O.faults out.old) (E.faults err.old)) (counts s (O.faults out.new) (E.faults err.new))
+        (told files stores (O.written out.old) (E.written err.old)) (told files stores (O.written out.new) (E.written err.new))
+        (answer result) }
+{
+    let text = generate(alloc, seed, functions)?;
+    print(out, err, &text)?;
+    Ok(Status::Done)
+}
+
+/// The text of a seed, of so many functions, under a patch.
+pub fn sum_text<O: Sink, E: Sink>(
+    alloc: Global,
+    ready: &Ready<'_>,
+    seed: u64,
+    functions: u32,
+    out: &mut O,
+    err: &mut E,
+) -> Result<Status, Stopped>
+    requires ready { IsReady ready.now.patch.now ready.now.prepared.now }
+    requires few { functions ≤ 100000 }
+    ensures ends { (files : Option Files) (stores s : ℕ) →
+        LeadsBy (TargetLeads ready.now.patch.now ready.now.defined.now (OnText seed functions))
+        (counts s (O.faults out.old) (E.faults err.old)) (counts s (O.faults out.new) (E.faults err.new))
+        (told files stores (O.written out.old) (E.written err.old)) (told files stores (O.written out.new) (E.written err.new))
+        (answer result) }
+{
+    let text = generate(alloc, seed, functions)?;
+    let refused = sum(alloc, ready, GENERATED, text, out, err)?;
+    Ok(end_status(refused))
+}

@@ -1,5 +1,5 @@
 -- Acts at hand, and the treatment of a text, in stages.
-use Rattle.std.proofs.Common.{◌≡◌, ◌≤◌, ◌<◌, Bool, true, ◌||◌, ℕ, List, [], ◌∷◌, ◌++◌, Option, Some, None, length, refl, sym, ap, ◌∙◌, inl, inr, subst}
+use Rattle.std.proofs.Common.{◌≡◌, ◌<◌, Bool, true, ◌||◌, ℕ, List, [], ◌∷◌, ◌++◌, Option, Some, None, length, refl, sym, ap, ◌∙◌, inl, inr, subst}
 use Rattle.std.specs.Prelude.{IsSomeAnd}
 use Rattle.outer_io.specs.Files.{Files}
 use Rattle.run_acts.specs.Acts.{Act, Load, Report, Told, done, after}

@@ -1,5 +1,5 @@
 -- What is asked of a patch that is used.
-use Rattle.std.specs.Prelude.{ℕ, ◌≡◌, ◌<◌, ◌^◌, List, length}
+use Rattle.std.specs.Prelude.{◌≡◌, ◌<◌, ◌^◌, List, length}
 use Rattle.std.specs.List.{AllZip}
 use Rattle.smpl_patch.specs.declared.rule.Patch.{Patch}
 use Rattle.ctl_translate.specs.declared.rule.FormulaFault.{FormulaFault}

@@ -1,4 +1,4 @@
-use Rattle.std.proofs.Common.{[], List, ℕ, map, drop}
+use Rattle.std.proofs.Common.{[], map, drop}
 use Rattle.std.specs.Prelude.{false}
 use Rattle.run_acts.specs.Acts.{told}
 use Rattle.run_acts.specs.Breaks.{counts, NoneFell}

@@ -1,8 +1,7 @@
-use Rattle.std.proofs.Common.{◌≡◌, ◌≤◌, [], length, refl, arith}
+use Rattle.std.proofs.Common.{[], refl, arith}
 use Rattle.std.proofs.lemmas.Result.{err_from_is_err_and}
 use Rattle.run_acts.specs.Acts.{Load}
 use Rattle.run_acts.specs.Breaks.{NoneFell, counts}
-use Rattle.run_acts.proofs.BreaksLemmas.{NoneFell-then}
 use Rattle.run_stages.specs.Stages.{Doing, EditFiles}
 use Rattle.spatch_run.proofs.Chain.{broken}
 use Rattle.spatch_run.proofs.Leading.{no_trace}

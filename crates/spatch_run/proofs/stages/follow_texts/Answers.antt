@@ -1,5 +1,5 @@
-use Rattle.std.proofs.Common.{◌≡◌, List, ℕ, map, Some, None, sym}
-use Rattle.run_words.specs.Orders.{Generate, Apply, order_of}
+use Rattle.std.proofs.Common.{map, Some, None, sym}
+use Rattle.run_words.specs.Orders.{Generate, Apply}
 use Rattle.run_words.specs.Shown.{shown_isos, shown_target}
 use Rattle.spatch_run.proofs.Beginning.{unfed_first, follows}
 use Rattle.spatch_run.proofs.Few.{few_ordered}

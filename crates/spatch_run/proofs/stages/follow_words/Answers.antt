@@ -1,6 +1,4 @@
-use Rattle.std.proofs.Common.{◌≡◌, List, ℕ, map, None, ap, ◌∙◌}
-use Rattle.std.specs.List.{list_all}
-use Rattle.std.specs.Str.{is_utf8}
+use Rattle.std.proofs.Common.{None}
 use Rattle.spatch_run.proofs.Beginning.{unfed_first, follows}
 use Rattle.spatch_run.proofs.Few.{none_asked}
 use Rattle.spatch_run.proofs.stages.follow_words.Goals as goal

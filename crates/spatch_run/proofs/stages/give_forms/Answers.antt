@@ -1,4 +1,4 @@
-use Rattle.std.proofs.Common.{◌≡◌, [], refl}
+use Rattle.std.proofs.Common.{[], refl}
 use Rattle.run_words.specs.Shown.{shown_target}
 use Rattle.run_stages.specs.Stages.{Doing, ReadIsos}
 use Rattle.run_stages.specs.Ends.LeadsBy.{from}

@@ -1,6 +1,5 @@
-use Rattle.std.proofs.Common.{◌≡◌, ◌≤◌, ◌∙◌, length, refl, arith}
+use Rattle.std.proofs.Common.{refl, arith}
 use Rattle.std.proofs.lemmas.Result.{err_from_is_err_and}
-use Rattle.run_acts.specs.Acts.{told}
 use Rattle.run_acts.specs.Breaks.{NoneFell, counts}
 use Rattle.run_acts.proofs.BreaksLemmas.{NoneFell-refl}
 use Rattle.run_stages.specs.Ends.LeadsBy.{unfed}

@@ -148,10 +148,10 @@ plus_code vars [] w g = All-nil HasPlusCode
 plus_code vars (t ∷ ts) w g =
     let w0 = front-true (whole_token vars t) (list_all (whole_token vars) ts) w in
     let g0 = front-true (at_token spaced_block t) (list_all (at_token spaced_block) ts) g in
-    All-cons HasPlusCode t ts
-    (plus_block vars t.before (front-true (whole_block vars t.before) (whole_block vars t.after) w0)
-    (front-true (at_block spaced_block t.before) (at_block spaced_block t.after) g0),
-    plus_block vars t.after (back-true (whole_block vars t.before) (whole_block vars t.after) w0)
-    (back-true (at_block spaced_block t.before) (at_block spaced_block t.after) g0))
+    let before : IsPlusBlock t.before = plus_block vars t.before (front-true (whole_block vars t.before) (whole_block vars t.after) w0)
+    (front-true (at_block spaced_block t.before) (at_block spaced_block t.after) g0) in
+    let after : IsPlusBlock t.after = plus_block vars t.after (back-true (whole_block vars t.before) (whole_block vars t.after) w0)
+    (back-true (at_block spaced_block t.before) (at_block spaced_block t.after) g0) in
+    All-cons HasPlusCode t ts (before, after)
     (plus_code vars ts (back-true (whole_token vars t) (list_all (whole_token vars) ts) w)
     (back-true (at_token spaced_block t) (list_all (at_token spaced_block) ts) g))

@@ -1,0 +1,10 @@
+//! The plus code of patches that are read is of tokens of C and metavariables, with white space between them.
+//!
+//! - [`read_plus_code_is_sound`]: so it is in each rule, and in each rule whose patterns have all their forms.
+//!
+//! The function does nothing.
+#![tactic(auto)]
+
+mod laws;
+
+pub use laws::read_plus_code_is_sound;

@@ -1,0 +1,3 @@
+-- Lemmas: pieces with other ids, states.
+pub mod PieceLemmas
+pub mod StateLemmas

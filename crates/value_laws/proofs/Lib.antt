@@ -1,0 +1,5 @@
+-- Lemmas: environments, trees of witnesses, trees without ids, one rule.
+pub mod EnvLemmas
+pub mod ForestLemmas
+pub mod BareLemmas
+pub mod TurnLemmas

@@ -1,0 +1,2 @@
+-- What the law rests on: environments whose values are of tokens of C.
+pub mod Carried

@@ -93,7 +93,6 @@ left_c : (test : Value → Bool) (vs : List Value) → AreCValues vs → AreCVal
 left_c test [] h = tt
 left_c test (v ∷ vs) h = left_by (test v) v (filter test vs) h.0 (left_c test vs h.1)
 
-
 -- ---- forests
 
 module _ (w : World) (values : AreCValues w.values) where

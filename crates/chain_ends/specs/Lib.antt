@@ -1,0 +1,2 @@
+-- What the laws rest on: what can't be absent.
+pub mod Weakly

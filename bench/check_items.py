@@ -1,7 +1,7 @@
 #!/usr/bin/env python3
 """Says how many items of C files have a tree, and shows a sample of those that have none.
 
-    KEEP=/tmp/items bench/run items </dev/null        builds the program
+    KEEP=PROGRAM bench/run items </dev/null        builds the program
     bench/check_items.py /tmp/items FOLDER..           reads every .c and .h file in the folders
 
 Files of Debian are to be had by `apt-get install libc6-dev linux-libc-dev` and `apt-get download linux-source-6.1`.

@@ -1,7 +1,7 @@
 #!/usr/bin/env python3
-"""Times the proved program on a file of 16 MB of functions made of call statements.
+"""Times the whole program on a file of 16 MB of functions made of call statements, of which one call is removed.
 
-Usage: bench/first_path.py [PROGRAM]
+Usage: bench/whole_run.py [PROGRAM]
 
 PROGRAM is the program as LLVM builds it; without it the one in crates/spatch/out is taken, which `./spatch` builds.
 The file, the patch and what is printed are made in a temporary folder. Beside the program, `sed` (which deletes the

@@ -2,7 +2,7 @@
 """Says how many items of C files have a tree, and shows a sample of those that have none.
 
     KEEP=PROGRAM bench/run items </dev/null        builds the program
-    bench/check_items.py /tmp/items FOLDER..           reads every .c and .h file in the folders
+    bench/check_items.py PROGRAM FOLDER..              reads every .c and .h file in the folders
 
 Files of Debian are to be had by `apt-get install libc6-dev linux-libc-dev` and `apt-get download linux-source-6.1`.
 Nothing of them is part of this repository. The last lines say how fast 16 MB of the .c files are read, one text, and how

@@ -1,13 +1,10 @@
-// Worked rows of expressions, types, declarators, initialisers and patterns, and trees at the greatest depth.
-use crate::words::{names_with_t, nested, shown, tokens_of};
-use c_expr::{
-    ParseFault, parse_declarator, parse_expr, parse_init, parse_kind, parse_specs, parse_type_name,
-};
+// Worked rows of expressions, types, declarators, initialisers and patterns.
+use crate::words::{names_with_t, shown, tokens_of};
+use c_expr::{ParseFault, parse_declarator, parse_expr, parse_init, parse_specs, parse_type_name};
 use c_rows::Kind;
-use c_terms::{Names, NoMemory, Token, Tree, same_term};
+use c_terms::{Names, NoMemory, Token, Tree};
 use std::alloc::Global;
 use std::test::Fail;
-use std::thread;
 
 /// Tokens, parted by blanks, and the tree that an expression of them is. `t` is in the names, and `u` is not.
 /// `dots:...` and `expr:e` are tokens of a pattern.
@@ -183,94 +180,5 @@ fn worked_rows_have_their_trees(rt: HostRuntime) -> Result<(), Fail> {
         let got = read(rt.alloc(), kind, words)?;
         assert!(rt; got.as_str() == want, "{words}: {got}");
     }
-    Ok(())
-}
-
-/// Whether these of the tokens of `a = b + 1 ;` are a sum, or else an expression.
-fn is_part(alloc: Global, is_sum: bool, from: usize, to: usize) -> Result<bool, NoMemory> {
-    let tokens = tokens_of(alloc, "a = b + 1 ;")?;
-    let names = names_with_t(alloc)?;
-    if from > to || to > tokens.len() {
-        return Ok(false);
-    }
-    if is_sum {
-        Ok(parse_kind(alloc, Kind::Sum, &tokens, &names, from, to).is_ok())
-    } else {
-        Ok(parse_expr(alloc, &tokens, &names, from, to).is_ok())
-    }
-}
-
-#[test]
-fn a_part_of_the_tokens_is_read(rt: HostRuntime) -> Result<(), Fail> {
-    for (is_sum, from, to, is_read) in [
-        (true, 2, 5, true),
-        (true, 0, 5, false),
-        (false, 0, 5, true),
-        (false, 0, 6, false),
-    ] {
-        assert!(rt;
-            is_part(rt.alloc(), is_sum, from, to)? == is_read,
-            "{from} to {to}"
-        );
-    }
-    Ok(())
-}
-
-/// The words around a number, so many times, as an expression.
-fn read_nested(
-    alloc: Global,
-    count: usize,
-    open: &[&str],
-    close: &[&str],
-) -> Result<Tree, ParseFault> {
-    let tokens = nested(alloc, count, open, close)?;
-    let names = Names::listed(alloc)?;
-    parse_expr(alloc, &tokens, &names, 0, tokens.len())
-}
-
-#[test]
-fn two_hundred_brackets_are_read_and_one_more_is_too_deep(rt: HostRuntime) -> Result<(), Fail> {
-    let alloc = rt.alloc();
-    assert!(rt; read_nested(alloc, 200, &["("], &[")"]).is_ok());
-    let deeper = read_nested(alloc, 201, &["("], &[")"]);
-    assert!(rt; matches!(deeper, Err(ParseFault::TooDeep)));
-    Ok(())
-}
-
-/// Whether the tree is equal to its copy.
-fn is_copied(alloc: Global, tree: &Tree) -> Result<bool, NoMemory> {
-    let copy = tree.copy(alloc)?;
-    Ok(same_term(tree, &copy))
-}
-
-/// Whether a tree of a thousand levels is read, and copied.
-fn are_copied(alloc: Global, open: &[&str], close: &[&str]) -> Result<bool, NoMemory> {
-    match read_nested(alloc, 1000, open, close) {
-        Ok(tree) => is_copied(alloc, &tree),
-        Err(_) => Ok(false),
-    }
-}
-
-/// Whether a tree of a level more is refused.
-fn is_refused(alloc: Global, open: &[&str], close: &[&str]) -> bool {
-    match read_nested(alloc, 1001, open, close) {
-        Err(ParseFault::NoTree) => true,
-        _ => false,
-    }
-}
-
-fn reads_a_thousand_levels(alloc: Global, open: &[&str], close: &[&str]) -> Result<bool, NoMemory> {
-    Ok(is_refused(alloc, open, close) && are_copied(alloc, open, close)?)
-}
-
-#[test]
-fn a_thousand_levels_are_read_inside_a_thread(rt: HostRuntime) -> Result<(), Fail> {
-    let alloc = rt.alloc();
-    let (inward, leftward) = thread::join(
-        &rt,
-        move || reads_a_thousand_levels(alloc, &["-"], &[]),
-        move || reads_a_thousand_levels(alloc, &[], &["+", "1"]),
-    );
-    assert!(rt; inward? && leftward?);
     Ok(())
 }

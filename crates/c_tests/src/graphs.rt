@@ -1,90 +1,141 @@
-// The graph of a function whose nodes are known, and graphs that threads share.
-use c_file::read_file;
+// The graph of a function that has each form of statement.
+use c_file::{CFile, read_file};
 use c_lexer::lex;
-use c_terms::{Label, NoMemory, Tree, width};
-use cfg_build::{build, count_nodes};
+use c_terms::first_leaf;
 use cfg_graph::{Graph, NodeKind};
-use cpp_lines::Item;
-use std::alloc::Global;
+use std::alloc::{AllocError, Global};
 use std::test::Fail;
-use std::thread;
 
-/// The graph of an item that is small enough.
-fn graph_of<'a>(alloc: Global, item: &'a Tree) -> Result<Option<Graph<'a>>, NoMemory> {
-    if count_nodes(item) > 20_000 || width(item) > 100_000 {
-        return Ok(None);
-    }
-    let made = build(alloc, item)?;
-    Ok(Some(made))
+fn read(alloc: Global, text: &[u8]) -> Option<CFile> {
+    let lexed = lex(alloc, text).ok()?;
+    read_file(alloc, lexed).ok()
 }
 
-/// Whether the tree of this node is a branch with this label.
-fn names(g: &Graph, n: u32, label: Label) -> bool {
-    if n >= g.count() {
-        return false;
-    }
-    match g.label(n).tree.as_tree() {
-        Tree::Leaf(_) => false,
-        Tree::Branch(found, _) => *found == label,
-    }
-}
+const EACH_FORM: &[u8] = b"void k(void) { if (a) { f(); goto out; } while (b) break; \
+    do { if (c) continue; return; } while (d); \
+    switch (e) { case 1: break; case 2 ... 3: ; { default: ; } switch (g) { case 4: ; } } \
+    for (int i = 0; i; i++) continue; list_for_each(p) f(p); out: out: ; }";
 
-/// Where each of the nodes leads, and the node past it.
-const LINKS: [(&[u32], Option<u32>); 8] = [
-    (&[1], Some(7)),
-    (&[2], Some(7)),
-    (&[3], Some(3)),
-    (&[4, 5], Some(6)),
-    (&[6], Some(6)),
-    (&[6], Some(6)),
-    (&[7], Some(7)),
-    (&[7], None),
+/// The nodes of that function: kind, `!` at a bail, successors, what is past, and the entries of branches.
+const NODES: [&str; 41] = [
+    "f 1/40/1", // void k(void)
+    "{ 2/40/2", // {
+    "h 3,7/7/3", // if (a)
+    "{! 4/7/4", // {
+    "s 5/5/-", // f();
+    "s 36/6/-", // goto out;
+    "} 7/7/-", // }
+    "h 8,9/9/8", // while (b)
+    "s 9/7/-", // break;
+    "h 10/16/10,15", // do
+    "{ 11/15/11", // {
+    "h 12,13/13/12", // if (c)
+    "s 15/13/-", // continue;
+    "s 40/14/-", // return;
+    "} 15/15/-", // }
+    "t 9,16/16/-", // while (d);
+    "h 18,20,23/32/17", // switch (e)
+    "{ 18/32/18", // {
+    "s 19/19/-", // case 1:
+    "s 32/20/-", // break;
+    "s 21/21/-", // case 2 ... 3:
+    "s 22/22/-", // ;
+    "{ 23/26/23", // {
+    "s 24/24/-", // default:
+    "s 25/25/-", // ;
+    "} 26/26/-", // }
+    "h 28,31/31/27", // switch (g)
+    "{ 28/31/28", // {
+    "s 29/29/-", // case 4:
+    "s 30/30/-", // ;
+    "} 31/31/-", // }
+    "} 32/32/-", // }
+    "h 33,34/34/33", // for (int i = 0; i; i++)
+    "s 32/32/-", // continue;
+    "h 35,36/36/35", // list_for_each(p)
+    "s 34/34/-", // f(p);
+    "s 37/37/-", // out:
+    "s 38/38/-", // out:
+    "s 39/39/-", // ;
+    "} 40/40/-", // }
+    "e 40/-/-", // the exit
 ];
 
-fn has_links(g: &Graph) -> bool {
-    let mut good = g.count() == 8;
-    for (n, (succ, past)) in (0u32..).zip(LINKS) {
-        good = good && n < g.count() && g.succ(n) == succ && g.past(n) == past;
+fn kind_of(kind: NodeKind) -> &'static str {
+    match kind {
+        NodeKind::FunHead => "f",
+        NodeKind::OpenBrace => "{",
+        NodeKind::CloseBrace => "}",
+        NodeKind::Simple => "s",
+        NodeKind::Head => "h",
+        NodeKind::DoTail => "t",
+        NodeKind::ExitNode => "e",
     }
-    good
 }
 
-fn has_branches(g: &Graph) -> bool {
-    g.count() == 8
-        && (g.down(0, 0), g.down(1, 0)) == (Some(1), Some(2))
-        && (g.down(3, 0), g.down(3, 1), g.down(3, 2)) == (Some(4), Some(5), None)
+/// The numbers with commas, or `-`.
+fn joined(alloc: Global, numbers: &[u32]) -> Result<String, AllocError> {
+    let mut text = format!(in alloc; "-")?;
+    for (i, number) in numbers.iter().enumerate() {
+        text = if i == 0 {
+            format!(in alloc; "{number}")?
+        } else {
+            format!(in alloc; "{text},{number}")?
+        };
+    }
+    Ok(text)
 }
 
-fn has_labels(g: &Graph) -> bool {
-    if g.count() != 8 {
+fn node_row(alloc: Global, graph: &Graph, n: u32) -> Result<String, AllocError> {
+    if n >= graph.count() {
+        return Ok(String::new(alloc));
+    }
+    let label = graph.label(n);
+    let bail = if label.bail { "!" } else { "" };
+    let succ = joined(alloc, graph.succ(n))?;
+    let mut past = Vec::new(alloc);
+    if let Some(node) = graph.past(n) {
+        past.push(node)?;
+    }
+    let past = joined(alloc, past.as_slice())?;
+    let mut down = Vec::new(alloc);
+    for branch in 0..3u32 {
+        if let Some(node) = graph.down(n, branch) {
+            down.push(node)?;
+        }
+    }
+    let down = joined(alloc, down.as_slice())?;
+    let kind = kind_of(label.kind);
+    format!(in alloc; "{kind}{bail} {succ}/{past}/{down}")
+}
+
+/// Whether a brace has the id of the `{` of its block, and any other node none.
+fn has_its_brace(graph: &Graph, n: u32) -> bool {
+    if n >= graph.count() {
         return false;
     }
-    let (open, other) = (g.label(1), g.label(5));
-    open.kind == NodeKind::OpenBrace
-        && open.brace == 5
-        && other.path.steps() == [2, 2, 6].as_slice()
-        && !other.bail
-        && names(g, 0, Label::FunDef)
-        && names(g, 7, Label::StmtList)
+    let label = graph.label(n);
+    let id = match label.kind {
+        NodeKind::OpenBrace | NodeKind::CloseBrace => match first_leaf(label.tree.as_tree()) {
+            Some(token) => token.id,
+            None => 0,
+        },
+        _ => 0,
+    };
+    label.brace == id
 }
 
 #[test]
-fn both_branches_meet_again(rt: HostRuntime) -> Result<(), Fail> {
+fn each_form_leads_where_the_table_says(rt: HostRuntime) -> Result<(), Fail> {
     let alloc = rt.alloc();
-    let text = b"void k(void) { lock(a); if (c) unlock(a); else unlock(b); }";
-    let lexed = lex(alloc, text).ok().ok_or("memory")?;
-    let file = read_file(alloc, lexed).ok().ok_or("memory")?;
-    let Some(Item::Parsed(item)) = file.items().get(0) else {
-        panic!(rt; "it is not read");
-    };
-    assert_eq!(rt; count_nodes(item), 8);
-    let graph = graph_of(alloc, item).ok().ok_or("memory")?;
-    let graph = graph.ok_or("too large")?;
-    let (links, rest) = thread::join(
-        &rt,
-        || has_links(&graph),
-        || has_branches(&graph) && has_labels(&graph),
-    );
-    assert!(rt; links && rest);
+    let file = read(alloc, EACH_FORM).ok_or("memory")?;
+    let graph = file.graph(alloc, 0).ok().ok_or("memory")?;
+    let graph = graph.ok_or("it is not read")?;
+    assert_eq!(rt; graph.count(), 41);
+    for (n, wanted) in NODES.iter().enumerate() {
+        let found = node_row(alloc, &graph, n as u32)?;
+        assert_eq!(rt; found.as_str(), *wanted);
+        assert!(rt; has_its_brace(&graph, n as u32));
+    }
     Ok(())
 }

@@ -6,16 +6,8 @@
 #[cfg(test)]
 mod expressions;
 #[cfg(test)]
-mod files;
-#[cfg(test)]
 mod graphs;
 #[cfg(test)]
-mod made;
-#[cfg(test)]
-mod pieces;
-#[cfg(test)]
 mod statements;
-#[cfg(test)]
-mod terms;
 #[cfg(test)]
 mod words;

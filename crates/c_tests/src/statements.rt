@@ -1,13 +1,11 @@
-// Worked rows of declarations, statements and items, and statements at the greatest depth, which are written too.
-use crate::words::{names_with_t, put, shown, tokens_of};
+// Worked rows of declarations, statements and items.
+use crate::words::{names_with_t, shown, tokens_of};
 use c_decl::parse_decl;
-use c_expr::{ParseFault, parse_expr};
-use c_show::{runs_together, show};
+use c_expr::ParseFault;
 use c_stmt::{parse_item, parse_stmts};
 use c_terms::{Names, NoMemory, Token, Tree};
 use std::alloc::Global;
 use std::test::Fail;
-use std::thread;
 
 /// How tokens are read.
 #[derive(Clone, Copy, Drop)]
@@ -186,60 +184,5 @@ fn worked_rows_have_their_trees(rt: HostRuntime) -> Result<(), Fail> {
     assert_eq!(rt; first_wrong(alloc, Form::Declaration, &DECLARATIONS)?, None);
     assert_eq!(rt; first_wrong(alloc, Form::Statements, &STATEMENTS)?, None);
     assert_eq!(rt; first_wrong(alloc, Form::Item, &ITEMS)?, None);
-    Ok(())
-}
-
-fn is_written(alloc: Global, tree: &Tree, wanted: &[u8]) -> Result<bool, NoMemory> {
-    Ok(show(alloc, tree)?.as_bytes() == wanted)
-}
-
-/// Whether the expression of these words is written as this text.
-fn becomes(alloc: Global, words: &str, wanted: &[u8]) -> Result<bool, NoMemory> {
-    let tokens = tokens_of(alloc, words)?;
-    let names = names_with_t(alloc)?;
-    match parse_expr(alloc, &tokens, &names, 0, tokens.len()) {
-        Ok(tree) => is_written(alloc, &tree, wanted),
-        Err(_) => Ok(false),
-    }
-}
-
-#[test]
-fn trees_are_written(rt: HostRuntime) -> Result<(), NoMemory> {
-    assert!(rt; becomes(rt.alloc(), "a = - - b [ 1 ] , c", b"a = - -b[1], c")?);
-    assert!(rt; becomes(rt.alloc(), "x = f ( a , b )", b"x = f(a, b)")?);
-    assert!(rt; runs_together(b"a", b"1") && !runs_together(b"a", b"+"));
-    Ok(())
-}
-
-/// The length of the text of so many times `if (a)` within one another, read, copied and written; none where there is no
-/// tree.
-fn length_of_nested(alloc: Global, count: usize) -> Result<Option<usize>, NoMemory> {
-    let mut tokens = Vec::new(alloc);
-    for _ in 0..count {
-        for word in ["if", "(", "a", ")"] {
-            put(alloc, &mut tokens, word)?;
-        }
-    }
-    put(alloc, &mut tokens, ";")?;
-    let names = Names::listed(alloc)?;
-    let Ok(tree) = parse_stmts(alloc, &tokens, &names, 0, tokens.len()) else {
-        return Ok(None);
-    };
-    let copy = tree.copy(alloc)?;
-    Ok(Some(show(alloc, &copy)?.as_bytes().len()))
-}
-
-#[test]
-fn a_thousand_levels_are_read_copied_and_written_inside_a_thread(
-    rt: HostRuntime,
-) -> Result<(), Fail> {
-    let alloc = rt.alloc();
-    let (most, more) = thread::join(
-        &rt,
-        move || length_of_nested(alloc, 998),
-        move || length_of_nested(alloc, 999),
-    );
-    assert_eq!(rt; most?, Some(4991));
-    assert_eq!(rt; more?, None);
     Ok(())
 }

@@ -3,13 +3,9 @@ use c_expr::ParseFault;
 use c_terms::{MetaKind, Names, NoMemory, Text, Token, TokenKind, Tree};
 use std::alloc::Global;
 
-pub fn token(alloc: Global, kind: TokenKind, text: &[u8], id: u64) -> Result<Token, NoMemory> {
+fn token(alloc: Global, kind: TokenKind, text: &[u8], id: u64) -> Result<Token, NoMemory> {
     let text = Text::from_bytes(alloc, text)?;
     Ok(Token { kind, text, id })
-}
-
-pub fn leaf(alloc: Global, kind: TokenKind, text: &[u8], id: u64) -> Result<Tree, NoMemory> {
-    Ok(Tree::Leaf(token(alloc, kind, text, id)?))
 }
 
 /// The kind of token that a word before `:` names.
@@ -52,7 +48,7 @@ fn kind_of(word: &str) -> TokenKind {
 }
 
 /// Puts the word's token behind the others. Its id is its number, from 0.
-pub fn put(alloc: Global, tokens: &mut Vec<Token>, word: &str) -> Result<(), NoMemory> {
+fn put(alloc: Global, tokens: &mut Vec<Token>, word: &str) -> Result<(), NoMemory> {
     let mut text = word;
     let mut kind = kind_of(word);
     if let Some((before, after)) = word.split_once(":") {
@@ -71,28 +67,6 @@ pub fn tokens_of(alloc: Global, words: &str) -> Result<Vec<Token>, NoMemory> {
     let mut tokens = Vec::new(alloc);
     for word in words.split(' ') {
         put(alloc, &mut tokens, word)?;
-    }
-    Ok(tokens)
-}
-
-/// The words so many times, a number, and other words as many times.
-pub fn nested(
-    alloc: Global,
-    count: usize,
-    open: &[&str],
-    close: &[&str],
-) -> Result<Vec<Token>, NoMemory> {
-    let mut tokens = Vec::new(alloc);
-    for _ in 0..count {
-        for word in open {
-            put(alloc, &mut tokens, word)?;
-        }
-    }
-    put(alloc, &mut tokens, "1")?;
-    for _ in 0..count {
-        for word in close {
-            put(alloc, &mut tokens, word)?;
-        }
     }
     Ok(tokens)
 }

@@ -25,8 +25,6 @@ mod replace;
 mod shelf;
 mod sink;
 mod streams;
-#[cfg(test)]
-mod tests;
 
 pub use calm::{CalmShelf, CalmSink};
 pub use files::FileShelf;

@@ -1,0 +1,186 @@
+// Stores of which a call fails, each in turn, and stores on a disk that is full.
+use crate::failing_files::{FailingFiles, Trouble};
+use crate::place::{LONG, OLD, Place, SHORT, is, place_of_one, place_of_two};
+use outer_io::{FileShelf, Shelf, ShelfFault};
+use std::fs;
+use std::fs::Permissions;
+use std::io::ErrorKind;
+use std::os::unix::fs::{MetadataExt, PermissionsExt};
+use std::test::Fail;
+
+/// Each byte is the old one or the new one of its place.
+fn is_between(bytes: &[u8], old: &[u8], new: &[u8]) -> bool {
+    for (place, byte) in bytes.iter().enumerate() {
+        if old.get(place) != Some(byte) && new.get(place) != Some(byte) {
+            return false;
+        }
+    }
+    bytes.len() >= old.len().min(new.len())
+}
+
+/// How a store ended, and what stands there then.
+#[derive(Drop)]
+struct Stored {
+    is_done: bool,
+    bytes: Option<Vec<u8>>,
+}
+
+/// Stores in trouble. What is done must be synced.
+fn store_in(
+    rt: &HostRuntime,
+    place: &Place,
+    new: &[u8],
+    trouble: &Trouble,
+) -> Result<Stored, Fail> {
+    place.make(rt)?;
+    let files = (FailingFiles { rt, trouble }, rt.alloc());
+    let end = FileShelf::new(&files).store(place.name(), new);
+    let bytes = place.take(rt)?;
+    match end {
+        Ok(()) if !trouble.is_synced() => Err(Fail::from("what was done is not synced")),
+        Ok(()) => Ok(Stored {
+            is_done: true,
+            bytes,
+        }),
+        Err(ShelfFault::Failed) => Ok(Stored {
+            is_done: false,
+            bytes,
+        }),
+        Err(_) => Err(Fail::from("another fault")),
+    }
+}
+
+/// Stores of which one call fails, each in turn. Either the new bytes stand there after a store that is done, or what
+/// stood there before. Answers after how many failing calls the store was done all the same.
+fn done_all_the_same(
+    rt: &HostRuntime,
+    place: &Place,
+    new: &[u8],
+    kind: ErrorKind,
+) -> Result<u32, Fail> {
+    let old = if place.is_there { Some(OLD) } else { None };
+    let mut done = 0u32;
+    for number in 0..100 {
+        let trouble = Trouble::at_call(number, kind);
+        let stored = store_in(rt, place, new, &trouble)?;
+        let wanted = if stored.is_done { Some(new) } else { old };
+        if !is(&stored.bytes, wanted) {
+            return Err(Fail::from("other bytes stand there"));
+        }
+        if !trouble.is_past() {
+            return if stored.is_done {
+                Ok(done)
+            } else {
+                Err(Fail::from("no call failed"))
+            };
+        }
+        done = done.saturating_add(u32::from(stored.is_done));
+    }
+    Err(Fail::from("more calls than a store makes"))
+}
+
+#[test]
+fn a_store_of_which_a_call_fails_loses_nothing(rt: HostRuntime) -> Result<(), Fail> {
+    let one = place_of_one("outer_io_one", "outer_io_one/k.c");
+    let linked = Place {
+        link: Some("outer_io_one/link.c"),
+        ..one
+    };
+    // Only the owner may be another.
+    for place in [one, linked] {
+        for new in [LONG, SHORT] {
+            let done = done_all_the_same(&rt, &place, new, ErrorKind::Other)?;
+            assert_eq!(rt; done, 1);
+            // Where no new file, or not the mode or the name for it, is allowed, the old file is written over.
+            let done = done_all_the_same(&rt, &place, new, ErrorKind::PermissionDenied)?;
+            assert_eq!(rt; done, 4);
+        }
+    }
+    let made = Place {
+        is_there: false,
+        ..one
+    };
+    for kind in [ErrorKind::Other, ErrorKind::PermissionDenied] {
+        assert_eq!(rt; done_all_the_same(&rt, &made, LONG, kind)?, 0);
+    }
+    // Each of seven writes is made again where it is interrupted.
+    assert_eq!(rt;
+        done_all_the_same(&rt, &one, LONG, ErrorKind::Interrupted)?,
+        1 + 7
+    );
+    Ok(())
+}
+
+#[test]
+fn without_its_owner_a_new_file_runs_as_who_runs_it(rt: HostRuntime) -> Result<(), Fail> {
+    let place = place_of_one("outer_io_runs", "outer_io_runs/k.c");
+    for number in 0..100 {
+        place.make(&rt)?;
+        fs::set_permissions(&rt, place.file, Permissions::from_mode(0o6751))?;
+        let trouble = Trouble::at_call(number, ErrorKind::Other);
+        let files = (
+            FailingFiles {
+                rt: &rt,
+                trouble: &trouble,
+            },
+            rt.alloc(),
+        );
+        let is_done = FileShelf::new(&files).store(place.file, SHORT).is_ok();
+        let mode = fs::metadata(&rt, place.file)?.mode() & 0o7777;
+        place.take(&rt)?;
+        let has_owner = !is_done || !trouble.is_past();
+        assert_eq!(rt;
+            mode,
+            if has_owner { 0o6751 } else { 0o0751 },
+            "call {number}"
+        );
+        if !trouble.is_past() {
+            break;
+        }
+    }
+    Ok(())
+}
+
+#[test]
+fn a_file_of_two_names_is_written_over(rt: HostRuntime) -> Result<(), Fail> {
+    let place = place_of_two("outer_io_both", "outer_io_both/k.c", "outer_io_both/l.c");
+    for new in [LONG, SHORT] {
+        for number in 0..100 {
+            let trouble = Trouble::at_call(number, ErrorKind::Other);
+            let stored = store_in(&rt, &place, new, &trouble)?;
+            assert_eq!(rt; stored.is_done, !trouble.is_past(), "call {number}");
+            if stored.is_done {
+                assert!(rt; is(&stored.bytes, Some(new)));
+                break;
+            }
+            let bytes = stored.bytes.as_ref().ok_or("the file is gone")?;
+            assert!(rt; is_between(bytes, OLD, new), "call {number}");
+        }
+    }
+    Ok(())
+}
+
+#[test]
+fn a_store_on_a_full_disk_loses_nothing(rt: HostRuntime) -> Result<(), Fail> {
+    let one = place_of_one("outer_io_full", "outer_io_full/k.c");
+    for room in 0..LONG.len() {
+        let stored = store_in(&rt, &one, LONG, &Trouble::little_room(room))?;
+        assert!(rt;
+            !stored.is_done && is(&stored.bytes, Some(OLD)),
+            "room for {room}"
+        );
+    }
+    let two = place_of_two(
+        "outer_io_filled",
+        "outer_io_filled/k.c",
+        "outer_io_filled/l.c",
+    );
+    for room in 0..LONG.len() - OLD.len() {
+        let stored = store_in(&rt, &two, LONG, &Trouble::little_room(room))?;
+        assert!(rt;
+            !stored.is_done && is(&stored.bytes, Some(OLD)),
+            "room for {room}"
+        );
+    }
+    Ok(())
+}

@@ -1,0 +1,118 @@
+// How many entries results have, and how many values these name.
+use crate::sets::{both, made, size};
+use env_sets::{Bound, EnvSet};
+use std::alloc::Global;
+use std::test::Fail;
+
+/// How many values the entries name.
+fn named(a: &EnvSet) -> usize {
+    let mut count: usize = 0;
+    for e in a.entries() {
+        for p in e.pairs() {
+            count = count.saturating_add(named_by(&p.1));
+        }
+    }
+    count
+}
+
+fn named_by(bound: &Bound) -> usize {
+    match bound {
+        Bound::Is(_) => 1,
+        Bound::Not(values) => values.count(),
+    }
+}
+
+/// Whether the recipe makes a set of so many entries, which name so many values.
+fn measures(alloc: Global, recipe: &str, entries: usize, values: usize) -> Result<bool, Fail> {
+    let set = made(alloc, recipe)?;
+    Ok(size(&set) == entries && named(&set) == values)
+}
+
+#[test]
+fn results_stay_small(rt: HostRuntime) -> Result<(), Fail> {
+    for (recipe, entries, values) in [
+        ("x=1 y=2 & x=1 |", 1, 1),
+        ("x=1 y=2 & x=2 |", 2, 3),
+        ("x!3,1 x!2,3 |", 1, 1),
+        ("x!3,1 x!2,3 | x=3 |", 1, 0),
+        ("x!1,2 y!1 & x!1 y!1 & |", 1, 2),
+        ("x=3 y!1 & x!1 y!1 & |", 1, 2),
+        ("x=1 y=2 & x=3 y=1 & | x=1 y=1 | &", 2, 4),
+        ("y=1 x!5 & y=1 x!26 & | y=1 x!5 & y=1 x!26 & | |", 2, 4),
+    ] {
+        assert!(rt; measures(rt.alloc(), recipe, entries, values)?, "{recipe}");
+    }
+    Ok(())
+}
+
+/// So many entries, each of which fixes x and y.
+fn pairs(alloc: Global, count: u32) -> Result<String, Fail> {
+    let mut recipe = format!(in alloc; "none")?;
+    for k in 0..count {
+        write!(recipe, " x={k} y={k} & |")?;
+    }
+    Ok(recipe)
+}
+
+/// So many entries over x and y, and as many over y and z.
+fn around_y(alloc: Global, count: u32) -> Result<String, Fail> {
+    let mut recipe = pairs(alloc, count)?;
+    for k in 0..count {
+        write!(recipe, " y={k} z={k} & |")?;
+    }
+    Ok(recipe)
+}
+
+/// The join of so many entries, each of which excludes another value of x.
+fn exclusions(alloc: Global, count: u32) -> Result<String, Fail> {
+    let mut recipe = format!(in alloc; "none")?;
+    for k in 0..count {
+        write!(recipe, " x!{k} |")?;
+    }
+    Ok(recipe)
+}
+
+/// So many entries that fix x and y, with entries that these cover.
+fn covered_pairs(alloc: Global, count: u32) -> Result<String, Fail> {
+    let mut recipe = pairs(alloc, count)?;
+    for k in 0..count {
+        write!(recipe, " x={k} y={k} & z={k} & |")?;
+    }
+    Ok(recipe)
+}
+
+/// One entry that fixes so many variables.
+fn wide(alloc: Global, count: u32) -> Result<String, Fail> {
+    let mut recipe = format!(in alloc; "all")?;
+    for k in 0..count {
+        write!(recipe, " x{k}=1 &")?;
+    }
+    Ok(recipe)
+}
+
+/// The recipe, and one word more.
+fn then(recipe: String, word: &str) -> Result<String, Fail> {
+    let mut recipe = recipe;
+    write!(recipe, " {word}")?;
+    Ok(recipe)
+}
+
+#[test]
+fn results_of_many_entries_stay_small(rt: HostRuntime) -> Result<(), Fail> {
+    let alloc = rt.alloc();
+    assert!(rt; measures(alloc, &then(pairs(alloc, 40)?, "~")?, 41, 120)?);
+    assert!(rt; measures(alloc, &then(around_y(alloc, 10)?, "~")?, 11, 40)?);
+    assert!(rt; measures(alloc, &exclusions(alloc, 50)?, 1, 0)?);
+    assert!(rt; measures(alloc, &then(wide(alloc, 100)?, "~")?, 100, 5050)?);
+    assert!(rt; measures(alloc, &covered_pairs(alloc, 20)?, 20, 40)?);
+    Ok(())
+}
+
+#[test]
+fn a_meet_with_itself_does_not_grow(rt: HostRuntime) -> Result<(), Fail> {
+    let alloc = rt.alloc();
+    let rest = made(alloc, "x!9 y=5 & x=1 y=3 & | ~")?;
+    let twice = both(alloc, &rest, &rest)?;
+    assert!(rt; size(&twice) == size(&rest) && named(&twice) == named(&rest));
+    Ok(())
+}

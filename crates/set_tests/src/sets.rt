@@ -1,0 +1,190 @@
+// Sets of environments that recipes make: which are told to be the same, and what threads share.
+use c_terms::{Text, Token, TokenKind, Tree};
+use env_sets::{Bound, EnvSet, Values, complement, join, meet, same_set};
+use smpl_terms::{Value, Var};
+use std::alloc::Global;
+use std::test::Fail;
+use std::thread;
+use std::thread::Threads;
+
+fn var(alloc: Global, name: &str) -> Result<Var, Fail> {
+    Ok(Var {
+        rule: 0,
+        name: Text::from_bytes(alloc, name.as_bytes())?,
+    })
+}
+
+/// The number as a term, whose token has this id.
+fn term(alloc: Global, number: &str, id: u64) -> Result<Value, Fail> {
+    let token = Token {
+        kind: TokenKind::Number,
+        text: Text::from_bytes(alloc, number.as_bytes())?,
+        id,
+    };
+    Ok(Value::term(alloc, Tree::Leaf(token))?)
+}
+
+/// One number or two, with a comma between them, as terms.
+fn terms(alloc: Global, numbers: &str) -> Result<Values, Fail> {
+    let mut values = Vec::new(alloc);
+    match numbers.split_once(',') {
+        Some((first, second)) => {
+            values.push(term(alloc, first, 4)?)?;
+            values.push(term(alloc, second, 5)?)?;
+        }
+        None => values.push(term(alloc, numbers, 6)?)?,
+    }
+    Ok(Values::of(alloc, values)?)
+}
+
+// The calls without their clauses, so that goals stay small.
+
+fn is(alloc: Global, name: &str, number: &str) -> Result<EnvSet, Fail> {
+    let bound = Bound::Is(term(alloc, number, 1)?);
+    Ok(EnvSet::one(alloc, &var(alloc, name)?, bound)?)
+}
+
+fn is_none_of(alloc: Global, name: &str, numbers: &str) -> Result<EnvSet, Fail> {
+    let bound = Bound::Not(terms(alloc, numbers)?);
+    Ok(EnvSet::one(alloc, &var(alloc, name)?, bound)?)
+}
+
+pub fn both(alloc: Global, a: &EnvSet, b: &EnvSet) -> Result<EnvSet, Fail> {
+    Ok(meet(alloc, a, b)?)
+}
+
+fn either(alloc: Global, a: &EnvSet, b: &EnvSet) -> Result<EnvSet, Fail> {
+    Ok(join(alloc, a, b)?)
+}
+
+fn other(alloc: Global, a: &EnvSet) -> Result<EnvSet, Fail> {
+    Ok(complement(alloc, a)?)
+}
+
+fn copied(alloc: Global, a: &EnvSet) -> Result<EnvSet, Fail> {
+    Ok(a.copy(alloc)?)
+}
+
+fn everything(alloc: Global) -> Result<EnvSet, Fail> {
+    Ok(EnvSet::all(alloc)?)
+}
+
+pub fn size(a: &EnvSet) -> usize {
+    a.entries().len()
+}
+
+/// The last set, which is taken.
+fn last(sets: &mut Vec<EnvSet>) -> Result<EnvSet, Fail> {
+    match sets.pop() {
+        Some(set) => Ok(set),
+        None => Err("no set is left")?,
+    }
+}
+
+/// The set that a recipe makes, in postfix. Its words are `none`, `all`, `x=1`, `x!1` and `x!1,2`; `~`, `&` and `|` of the
+/// last sets.
+pub fn made(alloc: Global, recipe: &str) -> Result<EnvSet, Fail> {
+    let mut sets = Vec::new(alloc);
+    for word in recipe.split_whitespace() {
+        let set = next_set(alloc, &mut sets, word)?;
+        sets.push(set)?;
+    }
+    last(&mut sets)
+}
+
+fn next_set(alloc: Global, sets: &mut Vec<EnvSet>, word: &str) -> Result<EnvSet, Fail> {
+    match word {
+        "none" => Ok(EnvSet::none(alloc)),
+        "all" => everything(alloc),
+        "~" => other(alloc, &last(sets)?),
+        "&" => both(alloc, &last(sets)?, &last(sets)?),
+        "|" => either(alloc, &last(sets)?, &last(sets)?),
+        _ => set_of_word(alloc, word),
+    }
+}
+
+fn set_of_word(alloc: Global, word: &str) -> Result<EnvSet, Fail> {
+    if let Some((name, number)) = word.split_once('=') {
+        return is(alloc, name, number);
+    }
+    match word.split_once('!') {
+        Some((name, numbers)) => is_none_of(alloc, name, numbers),
+        None => Err("no word of a recipe")?,
+    }
+}
+
+/// Whether two recipes make sets that are told to be the same.
+fn are_same(alloc: Global, first: &str, second: &str) -> Result<bool, Fail> {
+    Ok(same_set(&made(alloc, first)?, &made(alloc, second)?))
+}
+
+#[test]
+fn sets_are_told_apart(rt: HostRuntime) -> Result<(), Fail> {
+    for (first, second, same) in [
+        ("x=1 y!1,2 &", "y!1,2 x=1 &", true),
+        ("y=1 x!5 & y=1 x!26 & |", "y=1 x!26 & y=1 x!5 & |", true),
+        ("x=1 y!1,2 &", "x=2 y!1,2 &", false),
+        ("x=1 y!1,2 &", "x=1 y!1,3 &", false),
+        ("x=1 y!1,2 &", "x=1", false),
+        ("x=1", "none", false),
+    ] {
+        assert!(rt; are_same(rt.alloc(), first, second)? == same, "{first}");
+    }
+    Ok(())
+}
+
+/// Whether it is known that the set is empty, and that it has each environment.
+fn extremes(alloc: Global, recipe: &str) -> Result<(bool, bool), Fail> {
+    let set = copied(alloc, &made(alloc, recipe)?)?;
+    Ok((set.is_none(), set.is_all()))
+}
+
+#[test]
+fn nothing_and_everything_are_told(rt: HostRuntime) -> Result<(), Fail> {
+    for (recipe, none, all) in [
+        ("none", true, false),
+        ("all", false, true),
+        ("x=1", false, false),
+    ] {
+        assert!(rt; extremes(rt.alloc(), recipe)? == (none, all), "{recipe}");
+    }
+    Ok(())
+}
+
+fn all_of(alloc: Global, a: &Values, b: &Values) -> Result<Values, Fail> {
+    Ok(a.copy(alloc)?.joined(alloc, b)?)
+}
+
+fn excludes(alloc: Global, values: Values) -> Result<Bound, Fail> {
+    Ok(Bound::Not(values).copy(alloc)?)
+}
+
+#[test]
+fn lists_of_values_know_their_order(rt: HostRuntime) -> Result<(), Fail> {
+    let alloc = rt.alloc();
+    let two = terms(alloc, "1,2")?;
+    assert!(rt; two.rises() && two.copy(alloc)?.rises() && !terms(alloc, "2,1")?.rises());
+    let all = all_of(alloc, &two, &terms(alloc, "3,2")?)?;
+    assert!(rt; all.rises() && all.into_vec(alloc)?.len() == 3);
+    assert!(rt; excludes(alloc, two)?.is_not());
+    Ok(())
+}
+
+/// Lets the set go, and tells its size.
+fn last_size(a: EnvSet) -> usize {
+    size(&a)
+}
+
+/// The sizes of two sets, each of which is let go in a thread.
+fn sizes_apart(rt: &impl Threads, a: EnvSet, b: EnvSet) -> (usize, usize) {
+    thread::join(rt, move || last_size(a), move || last_size(b))
+}
+
+#[test]
+fn sharing_crosses_threads(rt: HostRuntime) -> Result<(), Fail> {
+    let alloc = rt.alloc();
+    let one = made(alloc, "x!1,2")?;
+    let (first, second) = sizes_apart(&rt, copied(alloc, &one)?, copied(alloc, &one)?);
+    assert!(rt; first == 1 && second == 1 && last_size(one) == 1);
+    Ok(())
+}

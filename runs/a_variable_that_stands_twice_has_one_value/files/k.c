@@ -1,0 +1,1 @@
+void k(void) { f(a, a); f(a, b); }

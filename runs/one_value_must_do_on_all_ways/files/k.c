@@ -1,0 +1,1 @@
+void k(void) { lock(a); if (c) unlock(a); else unlock(b); }

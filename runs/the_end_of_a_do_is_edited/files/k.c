@@ -1,0 +1,1 @@
+void k(void) { do b(); while (a); }

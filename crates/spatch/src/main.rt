@@ -6,8 +6,6 @@
 #![tactic(auto)]
 
 mod exit;
-#[cfg(test)]
-mod tests;
 mod words;
 
 use exit::exit_of;

@@ -72,7 +72,15 @@ fn sign_of_byte(b: u8) -> Sign
 fn is_marker(text: &[u8]) -> bool
     ensures { result ≡ is_in markers text.now }
 {
-    is_section_marker(text) || is_check_marker(text) || is_inline_marker(text)
+    if text.is_empty() {
+        return false;
+    }
+    match text[0] {
+        b'_' => is_section_marker(text) || is_check_marker(text) || is_inline_marker(text),
+        b'a' => text == b"asmlinkage".as_slice(),
+        b'n' => text == b"noinline".as_slice(),
+        _ => false,
+    }
 }
 
 fn is_section_marker(text: &[u8]) -> bool
@@ -106,11 +114,9 @@ fn is_check_marker(text: &[u8]) -> bool
 
 fn is_inline_marker(text: &[u8]) -> bool
     ensures { result ≡ is_in
-        (codes "noinline" ∷ codes "asmlinkage" ∷ codes "__inline" ∷ codes "__inline__" ∷ codes "__extension__" ∷ codes "__restrict" ∷ codes "__restrict__" ∷ []) text.now }
+        (codes "__inline" ∷ codes "__inline__" ∷ codes "__extension__" ∷ codes "__restrict" ∷ codes "__restrict__" ∷ []) text.now }
 {
-    text == b"noinline".as_slice()
-        || text == b"asmlinkage".as_slice()
-        || text == b"__inline".as_slice()
+    text == b"__inline".as_slice()
         || text == b"__inline__".as_slice()
         || text == b"__extension__".as_slice()
         || text == b"__restrict".as_slice()

@@ -6,10 +6,12 @@ ghost use Rattle.smpl_terms.specs.declared.var.Var.{Var};
 ghost use Rattle.smpl_terms.specs.Environments.{Environment};
 ghost use Rattle.env_sets.specs.Sets.{set_denotes, set_vars};
 ghost use Rattle.pat_match.specs.Vars.{pattern_vars};
+ghost use Rattle.need_words.specs.Looks.{AreLooks};
 ghost use Rattle.ctl_formula.specs.Tables.{below};
 ghost use Rattle.ctl_holds.specs.Holding.{at_node, atom_at, brace_at};
 ghost use Rattle.ctl_holds.specs.Holding as of;
 ghost use Rattle.ctl_holds.specs.Rounds.{passes, passes_there};
+ghost use Rattle.ctl_fixpoint.specs.Looked.{AreLooksOf};
 ghost use Rattle.ctl_fixpoint.specs.Steps.{row_of, has, row_vars, is_pointwise, step, step_vars, Gives};
 
 use crate::rows::{every_next, row_at, set_at, set_there, some_next};
@@ -17,7 +19,7 @@ use c_terms::NoMemory;
 use cfg_graph::{Graph, NodeKind};
 use ctl_formula::{Formula, Node};
 use env_sets::{Bound, EnvSet, StateRow, complement, join, meet};
-use pat_match::solve;
+use need_words::{Look, looks_of, solve_by};
 use smpl_patch::{PatToken, Pattern, VarDecl};
 use smpl_terms::{Value, Var};
 use std::alloc::Global;
@@ -79,16 +81,18 @@ fn atom_set(
     decls: &[VarDecl],
     tokens: &[PatToken],
     p: &Pattern,
+    looks: &[Look],
     s: u32,
 ) -> Result<EnvSet, NoMemory>
-    requires { s < count_of g.now }
+    requires node { s < count_of g.now }
+    requires looks { AreLooks p.now looks.now }
     ensures gives { IfOk result (λ r. (env : Environment) →
         set_denotes r env ≡ atom_at decls.now tokens.now g.now p.now s env) }
     ensures vars { IfOk result (λ r. (test : Var → Bool)
         → pattern_vars decls.now tokens.now test p.now ≡ true
         → set_vars test r ≡ true) }
 {
-    solve(alloc, p, decls, tokens, g.label(s))
+    solve_by(alloc, looks, p, decls, tokens, g.label(s))
 }
 
 /// Where the pattern matches at the node, and the variable is the place of its label's `{`.
@@ -98,10 +102,12 @@ fn placed_set(
     decls: &[VarDecl],
     tokens: &[PatToken],
     p: &Pattern,
+    looks: &[Look],
     b: &Var,
     s: u32,
 ) -> Result<EnvSet, NoMemory>
-    requires { s < count_of g.now }
+    requires node { s < count_of g.now }
+    requires looks { AreLooks p.now looks.now }
     ensures gives { IfOk result (λ r. (env : Environment) → set_denotes r env
         ≡ brace_at decls.now tokens.now g.now (λ k. true) p.now b.now s env) }
     ensures vars { IfOk result (λ r. (test : Var → Bool)
@@ -110,7 +116,7 @@ fn placed_set(
 {
     let label = g.label(s);
     let place = EnvSet::one(alloc, b, Bound::Is(Value::Place(label.brace)))?;
-    let matched = solve(alloc, p, decls, tokens, label)?;
+    let matched = solve_by(alloc, looks, p, decls, tokens, label)?;
     meet(alloc, &place, &matched)
 }
 
@@ -120,10 +126,12 @@ fn open_set(
     decls: &[VarDecl],
     tokens: &[PatToken],
     p: &Pattern,
+    looks: &[Look],
     b: &Var,
     s: u32,
 ) -> Result<EnvSet, NoMemory>
-    requires { s < count_of g.now }
+    requires node { s < count_of g.now }
+    requires looks { AreLooks p.now looks.now }
     ensures gives { IfOk result (λ r. (env : Environment) → set_denotes r env
         ≡ brace_at decls.now tokens.now g.now of.is_open p.now b.now s env) }
     ensures vars { IfOk result (λ r. (test : Var → Bool)
@@ -131,7 +139,7 @@ fn open_set(
         → set_vars test r ≡ true) }
 {
     if is_open(g.label(s).kind) {
-        placed_set(alloc, g, decls, tokens, p, b, s)
+        placed_set(alloc, g, decls, tokens, p, looks, b, s)
     } else {
         Ok(EnvSet::none(alloc))
     }
@@ -143,10 +151,12 @@ fn close_set(
     decls: &[VarDecl],
     tokens: &[PatToken],
     p: &Pattern,
+    looks: &[Look],
     b: &Var,
     s: u32,
 ) -> Result<EnvSet, NoMemory>
-    requires { s < count_of g.now }
+    requires node { s < count_of g.now }
+    requires looks { AreLooks p.now looks.now }
     ensures gives { IfOk result (λ r. (env : Environment) → set_denotes r env
         ≡ brace_at decls.now tokens.now g.now of.is_close p.now b.now s env) }
     ensures vars { IfOk result (λ r. (test : Var → Bool)
@@ -154,7 +164,7 @@ fn close_set(
         → set_vars test r ≡ true) }
 {
     if is_close(g.label(s).kind) {
-        placed_set(alloc, g, decls, tokens, p, b, s)
+        placed_set(alloc, g, decls, tokens, p, looks, b, s)
     } else {
         Ok(EnvSet::none(alloc))
     }
@@ -218,6 +228,7 @@ fn point_set(
     g: &Graph,
     f: &Formula,
     node: &Node,
+    looks: &[Look],
     rows: &[StateRow],
     s: u32,
 ) -> Result<EnvSet, NoMemory>
@@ -226,6 +237,7 @@ fn point_set(
     requires kids { below (length rows.now) node.now ≡ true }
     requires wide { (i : ℕ) → i < length rows.now → length (row_of rows.now i) ≡ count_of g.now }
     requires pointwise { is_pointwise node.now ≡ true }
+    requires looks { AreLooksOf node.now looks.now }
     ensures gives { IfOk result (λ r. (env : Environment) → set_denotes r env
         ≡ step f.now.decls f.now.tokens g.now (λ i k. has (row_of rows.now i) k env) node.now s env) }
     ensures vars { IfOk result (λ r. (test : Var → Bool)
@@ -234,11 +246,11 @@ fn point_set(
 {
     match node {
         Node::True => EnvSet::all(alloc),
-        Node::Atom(p) => atom_set(alloc, g, f.decls(), f.tokens(), p, s),
+        Node::Atom(p) => atom_set(alloc, g, f.decls(), f.tokens(), p, looks, s),
         Node::Bail => bail_set(alloc, g, s),
         Node::Exit => exit_set(alloc, g, s),
-        Node::BraceOpen(p, b) => open_set(alloc, g, f.decls(), f.tokens(), p, b, s),
-        Node::BraceClose(p, b) => close_set(alloc, g, f.decls(), f.tokens(), p, b, s),
+        Node::BraceOpen(p, b) => open_set(alloc, g, f.decls(), f.tokens(), p, looks, b, s),
+        Node::BraceClose(p, b) => close_set(alloc, g, f.decls(), f.tokens(), p, looks, b, s),
         Node::Not(i) => complement(alloc, set_at(rows, *i, s)),
         Node::And(i, j) => meet(alloc, set_at(rows, *i, s), set_at(rows, *j, s)),
         Node::Or(i, j) => join(alloc, set_at(rows, *i, s), set_at(rows, *j, s)),
@@ -252,7 +264,19 @@ fn point_set(
     }
 }
 
-/// The row of a part that is told node by node.
+/// The looks of the part's pattern, if it has one.
+fn node_looks(alloc: Global, node: &Node) -> Result<Vec<Look>, NoMemory>
+    ensures { IfOk result (λ looks. AreLooksOf node.now looks.items) }
+{
+    match node {
+        Node::Atom(p) => looks_of(alloc, p),
+        Node::BraceOpen(p, _) => looks_of(alloc, p),
+        Node::BraceClose(p, _) => looks_of(alloc, p),
+        _ => Ok(Vec::new(alloc)),
+    }
+}
+
+/// The row of a part that is told node by node. Where its pattern has many forms, its looks are made once for all nodes.
 pub fn point_row(
     alloc: Global,
     g: &Graph,
@@ -270,9 +294,10 @@ pub fn point_row(
         → step_vars f.now.decls f.now.tokens (λ t i. row_vars t (row_of rows.now i)) test node.now ≡ true
         → row_vars test r.items ≡ true) }
 {
+    let looks = node_looks(alloc, node)?;
     let mut sets = Vec::with_capacity(alloc, g.count() as usize)?;
     for s in 0..g.count() {
-        sets.push(point_set(alloc, g, f, node, rows, s)?)?;
+        sets.push(point_set(alloc, g, f, node, looks.as_slice(), rows, s)?)?;
     }
     Ok(sets)
 }

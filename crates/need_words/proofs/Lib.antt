@@ -7,4 +7,5 @@ pub mod GraphWords
 pub mod HoldWords
 pub mod StandLemmas
 pub mod NeedLemmas
+pub mod LookLemmas
 mod Examples

@@ -29,7 +29,7 @@ use Rattle.need_words.proofs.HeldWords.{held_has_word}
 -- a word of a subtree against which a form is held is one of the tree
 
 module _ (w : List ℕ) where
-  abbrev here : Place → Bool
+  abbrev pub here : Place → Bool
   here s = has_word w s.tree
 
   abbrev InParts : Tree → Type 0
@@ -76,7 +76,7 @@ module _ (w : List ℕ) where
       (λ l cs h. word-kid w l cs
       (own-word (is_own k l (length cs)) l 0 cs (sym (ap (λ y. list_any here (own_parts k y)) (out-Branch l cs)) ∙ h)))
 
-  seat-word : (s : Spot) (k : NodeKind) (t : Tree) → list_any here (seats s k t) ≡ true → has_word w t ≡ true
+  pub seat-word : (s : Spot) (k : NodeKind) (t : Tree) → list_any here (seats s k t) ≡ true → has_word w t ≡ true
   seat-word spot.Inside k t h = inside-word k t h
   seat-word spot.Whole k t h = ⊎_elim (λ a. a) (λ b. not_both false b refl) (or_cases (has_word w t) false h)
   seat-word spot.Tail k t h = ⊎_elim (λ a. a) (λ b. not_both false b refl) (or_cases (has_word w t) false h)

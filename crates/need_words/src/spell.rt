@@ -103,7 +103,8 @@ fn kept_spell(word: &[u8], spot: Spot, label: Label, trees: &[Tree]) -> bool
     false
 }
 
-fn held_spells(word: &[u8], spot: Spot, form: &Tree) -> bool
+/// Whether what is compared of the form at the spot spells the word in whichever way it fits. Takes no memory.
+pub fn held_spells(word: &[u8], spot: Spot, form: &Tree) -> bool
     ensures { result ≡ of.held_spells word.now spot form.now }
 {
     match form {

@@ -1,6 +1,6 @@
 //! What [`solve`](crate::solve) and [`align`](crate::align) are made of, for the crate that gives the pairs of an
-//! alignment: a form against a subtree, the lists of forms and files, the braces of nodes. And unions of sets, for the crate
-//! that joins those of many nodes.
+//! alignment: a form against a subtree, the lists of forms and files, the braces of nodes. And one form at a node, and unions
+//! of sets, for the crates that choose among forms, and join the sets of many nodes.
 
 pub use crate::aligning::fits_seat;
 pub use crate::braces::{close_brace, is_close_brace, is_open_brace, open_brace};
@@ -8,3 +8,4 @@ pub use crate::fit::{fit, fit_rows};
 pub use crate::lists::{ListMember, fit_wild, is_wild, list_members, run_tree};
 pub use crate::rows::RowEntry;
 pub use crate::sets::{put_set, union};
+pub use crate::solving::solve_form;

@@ -42,7 +42,7 @@ fn fit_seats(
 }
 
 /// The environments in which the i-th form has the first form's sure variables and fits some subtree of the node.
-fn solve_form(
+pub fn solve_form(
     alloc: Global,
     p: &Pattern,
     decls: &[VarDecl],

@@ -1,5 +1,5 @@
 -- Runs of forms that need a word: where the tree lacks it, none of them fits.
-use Rattle.std.proofs.Common.{◌≡◌, ℕ, suc, zero, ◌+◌, ◌-◌, ◌<◌, ◌≤◌, Bool, true, false, ◌&&◌, ◌||◌, not, refl, sym, ap, ◌∙◌, subst, arith}
+use Rattle.std.proofs.Common.{◌≡◌, ℕ, suc, zero, ◌+◌, ◌-◌, ◌<◌, ◌≤◌, Bool, true, false, ◌||◌, not, refl, sym, ap, ◌∙◌, subst, arith}
 use Rattle.std.proofs.Common.{List, [], ◌∷◌, ◌++◌, length, drop, get_or, Option, Some, None, slice_get, ⊎_elim}
 use Rattle.std.specs.List.{list_any, list_all}
 use Rattle.std.proofs.lemmas.Bool.{cases_lt}
@@ -64,7 +64,8 @@ or-both false b c = refl
 pub tried-more : {X : Type 0} (q : X → Bool) (xs : List X) (i : ℕ) (x : X) (a b new whole : Bool) → slice_get xs i ≡ Some x
     → new ≡ (a || b) → b ≡ q x → (a || list_any q (drop i xs)) ≡ whole → (new || list_any q (drop (i + 1) xs)) ≡ whole
 tried-more q xs i x a b new whole g e f h =
-    let next : list_any q (drop (i + 1) xs) ≡ list_any q (drop (suc i) xs) = ap (λ m. list_any q (drop m xs)) (omega arith) in
+    let same : i + 1 ≡ suc i = omega arith in
+    let next : list_any q (drop (i + 1) xs) ≡ list_any q (drop (suc i) xs) = ap (λ m. list_any q (drop m xs)) same in
     ap (λ z. z || list_any q (drop (i + 1) xs)) (e ∙ ap (λ z. a || z) f)
     ∙ ap (λ z. (a || q x) || z) next
     ∙ or-both a (q x) (list_any q (drop (suc i) xs))

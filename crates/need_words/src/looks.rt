@@ -1,10 +1,10 @@
 // The forms of a pattern in runs that need the same word.
-ghost use Rattle.std.specs.Prelude.{◌≡◌, ◌≤◌, ◌<◌, ℕ, true, false, Some, length, slice_get, IfOk};
+ghost use Rattle.std.specs.Prelude.{◌≡◌, ◌≤◌, ◌<◌, true, Some, length, slice_get, IfOk};
 ghost use Rattle.c_terms.specs.declared.tree.Tree.{Tree};
 ghost use Rattle.need_words.specs.Looks as of;
 
 use crate::spell::held_spells;
-use crate::word::{is_word, is_word_kind};
+use crate::word::is_word_kind;
 use c_terms::{NoMemory, Shape, Text, Token, Tree};
 use smpl_patch::{Pattern, Spot};
 use std::alloc::Global;

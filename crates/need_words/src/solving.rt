@@ -1,10 +1,10 @@
 // The environments under which a pattern of many forms matches at a node, by looks.
 ghost use Rattle.std.specs.Prelude.{◌≡◌, ◌≤◌, ◌||◌, ℕ, Bool, true, false, Some, drop, length, IfOk};
-ghost use Rattle.std.specs.List.{list_any, list_all};
+ghost use Rattle.std.specs.List.{list_any};
 ghost use Rattle.smpl_terms.specs.declared.var.Var.{Var};
 ghost use Rattle.smpl_terms.specs.Environments.{Environment};
 ghost use Rattle.env_sets.specs.Sets.{set_denotes, set_vars};
-ghost use Rattle.pat_match.specs.Vars.{form_vars, pattern_vars};
+ghost use Rattle.pat_match.specs.Vars.{pattern_vars};
 ghost use Rattle.pat_match.specs.Matching.{matches};
 ghost use Rattle.need_words.specs.Words.{has_word};
 ghost use Rattle.need_words.specs.Looks as of;

@@ -1,7 +1,7 @@
--- What is found, item by item and environment by environment.
-use Rattle.std.proofs.Common.{◌≡◌, ◌<◌, ◌≤◌, ◌+◌, ℕ, zero, suc, nat_lt, refl, sym, ap, ◌∙◌, arith, true, false, ◌||◌, Some, List, [], ◌∷◌, ◌++◌, length, get_or, drop, map}
+-- What is found, item by item.
+use Rattle.std.proofs.Common.{◌≡◌, ◌<◌, ◌≤◌, ◌+◌, ℕ, zero, suc, nat_lt, refl, sym, ap, ◌∙◌, arith, true, false, ◌||◌, Some, List, [], ◌∷◌, ◌++◌, length, drop, map}
 use Rattle.std.specs.Prelude.{slice_get}
-use Rattle.std.proofs.lemmas.List.{append_assoc, map-append, drop_more}
+use Rattle.std.proofs.lemmas.List.{append_assoc}
 use Rattle.std.proofs.lemmas.Bool.Decides.{nat_tests}
 use Rattle.cpp_lines.specs.declared.reading.Item.{Item}
 use Rattle.cfg_graph.specs.Flow.{Flow}
@@ -17,7 +17,7 @@ use Rattle.rule_envs.proofs.BareLemmas.{exported-bare}
 use Rattle.rule_witnesses.specs.Bare.{bare_witness}
 use Rattle.rule_witnesses.specs.Jobs.{nodes_of, witnesses_of}
 use Rattle.rule_witnesses.proofs.JobLemmas.{witnesses_bare, nodes-same}
-use Rattle.rule_found.specs.Found.{witnesses_in, is_large, found_from, is_large_from, found_under, is_large_under, brings, rule_found, has_too_many}
+use Rattle.rule_found.specs.Found.{witnesses_in, is_large, found_from, is_large_from, found_under, is_large_under, brings}
 
 -- ---- one item
 
@@ -60,17 +60,16 @@ module _ (number : ℕ) (rule : Rule) (env : Pairs) where
   next_large (x ∷ xs) zero at lt = refl
   next_large (x ∷ xs) (suc i) at lt = next_large xs i at (omega arith)
 
-  pub found_more : (items : List Item) (i : ℕ) (done more now : List RuleWitness) → i < length items → now ≡ done ++ more
-      → map bare_witness more ≡ map bare_witness (witnesses_in number rule i (item_graph (slice_get items i)) env)
-      → map bare_witness done ++ found_from number rule i (drop i items) env ≡ found_under number rule items env
-      → map bare_witness now ++ found_from number rule (i + 1) (drop (i + 1) items) env ≡ found_under number rule items env
-  found_more items i done more now lt n m h =
+  pub found_more : (items : List Item) (i : ℕ) (done now : List RuleWitness) → i < length items
+      → now ≡ done ++ map bare_witness (witnesses_in number rule i (item_graph (slice_get items i)) env)
+      → done ++ found_from number rule i (drop i items) env ≡ found_under number rule items env
+      → now ++ found_from number rule (i + 1) (drop (i + 1) items) env ≡ found_under number rule items env
+  found_more items i done now lt n h =
+      let more = map bare_witness (witnesses_in number rule i (item_graph (slice_get items i)) env) in
       let one : i + 1 ≡ suc i = omega arith in
-      ap (λ ws. ws ++ found_from number rule (i + 1) (drop (i + 1) items) env)
-      (ap (map bare_witness) n ∙ map-append bare_witness done more)
-      ∙ append_assoc (map bare_witness done) (map bare_witness more) (found_from number rule (i + 1) (drop (i + 1) items) env)
-      ∙ (λ j. map bare_witness done ++ (m j ++ found_from number rule (one j) (drop (one j) items) env))
-      ∙ ap (λ ws. map bare_witness done ++ ws) (sym (next_found items i i lt)) ∙ h
+      (λ j. n j ++ found_from number rule (one j) (drop (one j) items) env)
+      ∙ append_assoc done more (found_from number rule (suc i) (drop (suc i) items) env)
+      ∙ ap (λ ws. done ++ ws) (sym (next_found items i i lt)) ∙ h
 
   pub large_more : (items : List Item) (i : ℕ) → i < length items → is_large number rule i (item_graph (slice_get items i)) env ≡ false
       → is_large_from number rule i (drop i items) env ≡ is_large_under number rule items env
@@ -86,40 +85,6 @@ module _ (number : ℕ) (rule : Rule) (env : Pairs) where
       → is_large_under number rule items env ≡ true
   large_here items i lt many h =
       sym h ∙ next_large items i i lt ∙ ap (λ b. b || is_large_from number rule (suc i) (drop (suc i) items) env) many
-
--- ---- one environment after another
-
-next_env : (envs : List Pairs) (k : ℕ) (e : Pairs) → k < length envs → e ≡ get_or envs k e → drop k envs ≡ e ∷ drop (k + 1) envs
-next_env envs k e lt is = drop_more envs k e lt ∙ ap (λ (x : Pairs). x ∷ drop (k + 1) envs) (sym is)
-
-module _ (number : ℕ) (rule : Rule) (items : List Item) (envs : List Pairs) (k : ℕ) where
-  pub envs_more : (e : Pairs) (done more now : List RuleWitness) → k < length envs → e ≡ get_or envs k e → now ≡ done ++ more
-      → map bare_witness more ≡ found_under number rule items (bare_env e)
-      → map bare_witness done ++ rule_found number rule items (map bare_env (drop k envs)) ≡ rule_found number rule items (map bare_env envs)
-      → map bare_witness now ++ rule_found number rule items (map bare_env (drop (k + 1) envs)) ≡ rule_found number rule items (map bare_env envs)
-  envs_more e done more now lt is n m h =
-      ap (λ ws. ws ++ rule_found number rule items (map bare_env (drop (k + 1) envs))) (ap (map bare_witness) n ∙ map-append bare_witness done more)
-      ∙ append_assoc (map bare_witness done) (map bare_witness more) (rule_found number rule items (map bare_env (drop (k + 1) envs)))
-      ∙ ap (λ ws. map bare_witness done ++ (ws ++ rule_found number rule items (map bare_env (drop (k + 1) envs)))) m
-      ∙ ap (λ (es : List Pairs). map bare_witness done ++ rule_found number rule items (map bare_env es)) (sym (next_env envs k e lt is)) ∙ h
-
-  pub parts_more : (e : Pairs) (done now : List (List Pairs)) (part : List Pairs) → k < length envs → e ≡ get_or envs k e → now ≡ done ++ part ∷ []
-      → map bare_env part ≡ brings number rule items (bare_env e)
-      → map (map bare_env) done ++ map (brings number rule items) (map bare_env (drop k envs)) ≡ map (brings number rule items) (map bare_env envs)
-      → map (map bare_env) now ++ map (brings number rule items) (map bare_env (drop (k + 1) envs)) ≡ map (brings number rule items) (map bare_env envs)
-  parts_more e done now part lt is n p h =
-      let rest = map (brings number rule items) (map bare_env (drop (k + 1) envs)) in
-      ap (λ ps. ps ++ rest) (ap (map (map bare_env)) n ∙ map-append (map bare_env) done (part ∷ []))
-      ∙ append_assoc (map (map bare_env) done) (map bare_env part ∷ []) rest
-      ∙ ap (λ (x : List Pairs). map (map bare_env) done ++ (x ∷ rest)) p
-      ∙ ap (λ (es : List Pairs). map (map bare_env) done ++ map (brings number rule items) (map bare_env es)) (sym (next_env envs k e lt is)) ∙ h
-
-  pub few_more : (e : Pairs) → k < length envs → e ≡ get_or envs k e → is_large_under number rule items (bare_env e) ≡ false
-      → has_too_many number rule items (map bare_env (drop k envs)) ≡ has_too_many number rule items (map bare_env envs)
-      → has_too_many number rule items (map bare_env (drop (k + 1) envs)) ≡ has_too_many number rule items (map bare_env envs)
-  few_more e lt is few h =
-      ap (λ b. b || has_too_many number rule items (map bare_env (drop (k + 1) envs))) (sym few)
-      ∙ ap (λ (es : List Pairs). has_too_many number rule items (map bare_env es)) (sym (next_env envs k e lt is)) ∙ h
 
 -- ---- what witnesses bring
 

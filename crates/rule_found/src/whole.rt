@@ -1,5 +1,6 @@
 // What a rule finds over all items.
-ghost use Rattle.std.specs.Prelude.{◌≡◌, ℕ, All, IfOk, OnOk, Err, map, length, true, false};
+ghost use Rattle.std.specs.Prelude.{◌≡◌, ℕ, [], All, IfOk, OnOk, Err, map, length, true, false};
+ghost use Rattle.std.specs.List.{flat_map};
 ghost use Rattle.ctl_formula.specs.Formulas.{plain};
 ghost use Rattle.ctl_holds.specs.Parts.{EachPattern};
 ghost use Rattle.ctl_holds.specs.BoundLaw.{SureStand};
@@ -12,6 +13,7 @@ ghost use Rattle.rule_witnesses.specs.Jobs.{BindsExports};
 ghost use Rattle.rule_witnesses.specs.declared.fault.JobFault.TheVariants as fault;
 ghost use Rattle.rule_found.specs.Found as of;
 ghost use Rattle.rule_found.specs.Lacking.{AreNeeded};
+ghost use Rattle.rule_found.specs.Lists.{AreFound, AreSmall, IsLargeSomewhere, brought};
 
 use crate::item::in_item;
 use c_terms::{NoMemory, Text};
@@ -21,7 +23,7 @@ use need_words::needed_words;
 use rule_envs::exported;
 use rule_witnesses::JobFault;
 use smpl_patch::{Rule, RuleWitness};
-use smpl_terms::Env;
+use smpl_terms::{Env, Var};
 use sqlite_items::Items;
 use std::alloc::Global;
 
@@ -45,37 +47,65 @@ fn words_of(alloc: Global, f: &Formula) -> Result<Items<Text>, NoMemory>
     needed_words(alloc, f)
 }
 
-/// The witnesses under one environment, item by item.
-fn under(
+/// An empty list for each environment.
+fn empty_lists(alloc: Global, count: usize) -> Result<Vec<Items<RuleWitness>>, NoMemory>
+    ensures count { IfOk result (λ lists. length lists.items ≡ count) }
+    ensures none { IfOk result (λ lists. All (λ list. list ≡ []) lists.items) }
+{
+    let mut lists = Vec::with_capacity(alloc, count)?;
+    for _ in 0..count {
+        lists.push(Items::new(alloc))?;
+    }
+    Ok(lists)
+}
+
+/// For each environment the witnesses under it, item by item. Without environments no item is looked at.
+fn over_items(
     alloc: Global,
     number: u32,
     rule: &Rule,
     f: &Formula,
-    words: &[Text],
     graphs: &mut Graphs<'_>,
     count: usize,
-    env: &Env,
-) -> Result<Items<RuleWitness>, JobFault>
+    envs: &[Env],
+) -> Result<Vec<Items<RuleWitness>>, JobFault>
     requires formula { IsFormulaOf rule.now f.now }
     requires stand { EachPattern (SureStand f.now.decls f.now.tokens) (plain f.now) }
     requires binds { BindsExports f.now rule.now.exports }
-    requires new { AreNew rule.now.exports env.now }
-    requires needed { AreNeeded words.now f.now }
+    requires new { All (AreNew rule.now.exports) envs.now }
     requires count { count ≡ length graphs.old.items }
-    ensures found { IfOk result (λ found. map bare_witness found
-        ≡ of.found_under number rule.now graphs.old.items (bare_env env.now)) }
-    ensures few { OnOk result (of.is_large_under number rule.now graphs.old.items (bare_env env.now) ≡ false) }
+    ensures found { IfOk result (λ lists. AreFound number rule.now graphs.old.items envs.now lists.items) }
+    ensures few { OnOk result (AreSmall (of.is_large_under number rule.now graphs.old.items) envs.now) }
     ensures too_many { result ≡ Err fault.TooMany
-        → of.is_large_under number rule.now graphs.old.items (bare_env env.now) ≡ true }
+        → IsLargeSomewhere (of.is_large_under number rule.now graphs.old.items) envs.now }
     ensures items { graphs.new.items ≡ graphs.old.items }
     ensures kept { (k : ℕ) → IsMade graphs.old k → IsMade graphs.new k }
 {
-    let mut found = Items::new(alloc);
-    for i in 0..count {
-        let more = in_item(alloc, number, rule, f, words, graphs, i, env)?;
-        found.append(more)?;
+    if envs.is_empty() {
+        return Ok(Vec::new(alloc));
     }
-    Ok(found)
+    let words = words_of(alloc, f)?;
+    let mut lists = empty_lists(alloc, envs.len())?;
+    for i in 0..count {
+        let needed = words.as_slice();
+        in_item(alloc, number, rule, f, needed, graphs, i, envs, &mut lists)?;
+    }
+    Ok(lists)
+}
+
+/// The lists joined, and for each of them the different values of the exported variables.
+fn joined(alloc: Global, exports: &[Var], lists: Vec<Items<RuleWitness>>) -> Result<Found, NoMemory>
+    ensures witnesses { IfOk result (λ found. found.witnesses ≡ flat_map (λ list. list) lists.items) }
+    ensures parts { IfOk result (λ found. found.parts ≡ map (brought exports.now) lists.items) }
+{
+    let mut witnesses = Items::new(alloc);
+    let mut parts = Items::new(alloc);
+    for list in lists {
+        let part = exported(alloc, exports, list.as_slice())?;
+        parts.push(part)?;
+        witnesses.append(list)?;
+    }
+    Ok(Found { witnesses, parts })
 }
 
 /// The witnesses of a rule over the items of a file, under each of its projections in turn, and for each projection the
@@ -87,10 +117,10 @@ fn under(
 /// - `TooMany`: the forests of the witnesses in one item under one projection have more than 1,000,000 touches and binds.
 /// - `NoMemory`: memory was refused, the formula's table has 2^32 nodes, or there are more than 2^32 items.
 ///
-/// Costs one [`item_witnesses`](rule_witnesses::item_witnesses) for each item that has a tree with all words that the formula
-/// needs and each projection, and one [`exported`] a projection; the words are looked for once, and for each projection among the
-/// tokens of each item. The graph of an item is made when it is first needed. Of a rule of more than 1,000 tokens no words are looked
-/// for.
+/// Costs one [`match_item`](rule_witnesses::match_item) for each item that has a tree with all words that the formula needs, one
+/// [`item_witnesses`](rule_witnesses::item_witnesses) for each such item and each projection, and one [`exported`] a projection; the
+/// words are looked for once in the formula, and once among the tokens of each item. The graph of an item is made when it is first
+/// needed. Of a rule of more than 1,000 tokens no words are looked for. Without projections nothing is done.
 pub fn witnesses(
     alloc: Global,
     number: u32,
@@ -115,15 +145,7 @@ pub fn witnesses(
     ensures items { graphs.new.items ≡ graphs.old.items }
     ensures kept { (k : ℕ) → IsMade graphs.old k → IsMade graphs.new k }
 {
-    let words = words_of(alloc, f)?;
-    let needed = words.as_slice();
-    let mut witnesses = Items::new(alloc);
-    let mut parts = Items::new(alloc);
-    for env in projections {
-        let more = under(alloc, number, rule, f, needed, graphs, count, env)?;
-        let part = exported(alloc, rule.exports.as_slice(), more.as_slice())?;
-        parts.push(part)?;
-        witnesses.append(more)?;
-    }
-    Ok(Found { witnesses, parts })
+    let lists = over_items(alloc, number, rule, f, graphs, count, projections)?;
+    let found = joined(alloc, rule.exports.as_slice(), lists)?;
+    Ok(found)
 }

@@ -1,7 +1,6 @@
 -- What is found in one item, witness by witness and node by node.
-use Rattle.std.proofs.Common.{◌≡◌, ℕ, suc, zero, ◌+◌, ◌<◌, ◌≤◌, inl, inr, Bool, true, refl, sym, ap, ◌∙◌, subst, arith, List, [], ◌∷◌, ◌++◌, map, take, drop, length, get_or, add-one}
+use Rattle.std.proofs.Common.{◌≡◌, ℕ, ◌+◌, ◌<◌, ◌≤◌, inl, Bool, true, refl, sym, ap, ◌∙◌, subst, arith, List, [], ◌∷◌, ◌++◌, map, take, drop, length, get_or}
 use Rattle.std.specs.List.{filter, flat_map, list_all}
-use Rattle.std.proofs.lemmas.Bool.{cases_lt}
 use Rattle.std.proofs.lemmas.List.{append-nil, append_assoc, map-append, take_more, take_all, take-append-drop}
 use Rattle.std.proofs.lemmas.List.Concat.{flat_map-append}
 use Rattle.std.proofs.lemmas.List.Elements.{filter_agree}
@@ -175,38 +174,30 @@ module _ (f : FormulaOf) (g : Flow) (rule item s : ℕ) where
       at_least : (n m a b c : ℕ) → n ≡ a + b → m ≡ a + (b + c) → 1000000 < n → 1000000 < m
       at_least n m a b c h k l = omega arith
 
--- ---- all nodes
+-- ---- one node after another
 
-module _ (at_node : ℕ → List RuleWitness) where
-  pub nodes_more : (now next : List RuleWitness) (s : ℕ) → map bare_witness now ≡ map bare_witness (flat_map at_node (numbers s))
-      → map bare_witness next ≡ map bare_witness (now ++ at_node s)
-      → map bare_witness next ≡ map bare_witness (flat_map at_node (numbers (s + 1)))
-  nodes_more now next s h k =
-      k ∙ bare-append now (flat_map at_node (numbers s)) (at_node s) h
-      ∙ ap (map bare_witness) (ap (λ l. flat_map at_node (numbers s) ++ l) (sym (append-nil (at_node s)))
-      ∙ sym (flat_map-append at_node (numbers s) (s ∷ [])) ∙ ap (λ (n : ℕ). flat_map at_node (numbers n)) (sym (add-one s)))
-
-  up_to : (n s : ℕ) → s < n → nodes_of (flat_map at_node (numbers (suc s))) ≤ nodes_of (flat_map at_node (numbers n))
-  up_to zero s lt = absurd (omega (arith, lt))
-  up_to (suc n) s lt = elim (cases_lt s n) as (λ _. nodes_of (flat_map at_node (numbers (suc s))) ≤ nodes_of (flat_map at_node (numbers (suc n)))) [
-    | inl low ↦
-        (let rest = up_to n s low in
-        let parts = ap nodes_of (flat_map-append at_node (numbers n) (n ∷ [])) ∙ nodes-append (flat_map at_node (numbers n)) (flat_map at_node (n ∷ [])) in
-        omega (arith, rest, parts))
-    | inr high ↦
-        (let e : s ≡ n = omega (arith, lt, high) in
-        let same = ap (λ (k : ℕ). nodes_of (flat_map at_node (numbers (suc k)))) e in
-        omega (arith, same))
-  ]
+module _ (at_node : ℕ → List RuleWitness) (nodes : List ℕ) where
+  pub nodes_more : (now next : List RuleWitness) (k s : ℕ) → k < length nodes → s ≡ get_or nodes k s
+      → map bare_witness now ≡ map bare_witness (flat_map at_node (take k nodes)) → map bare_witness next ≡ map bare_witness (now ++ at_node s)
+      → map bare_witness next ≡ map bare_witness (flat_map at_node (take (k + 1) nodes))
+  nodes_more now next k s lt is h same =
+      let more : take (k + 1) nodes ≡ take k nodes ++ s ∷ [] = take_more nodes k s lt ∙ ap (λ (n : ℕ). take k nodes ++ n ∷ []) (sym is) in
+      same ∙ bare-append now (flat_map at_node (take k nodes)) (at_node s) h
+      ∙ ap (map bare_witness) (ap (λ l. flat_map at_node (take k nodes) ++ l) (sym (append-nil (at_node s)))
+      ∙ sym (flat_map-append at_node (take k nodes) (s ∷ [])) ∙ ap (flat_map at_node) (sym more))
 
   -- those up to a node are too many
-  pub nodes_past : (now : List RuleWitness) (n s : ℕ) → s < n → map bare_witness now ≡ map bare_witness (flat_map at_node (numbers s))
-      → 1000000 < nodes_of (now ++ at_node s) → 1000000 < nodes_of (flat_map at_node (numbers n))
-  nodes_past now n s lt h many =
-      let same = nodes-same (now ++ at_node s) (flat_map at_node (numbers (s + 1))) (nodes_more now (now ++ at_node s) s h refl)
-      ∙ ap (λ (k : ℕ). nodes_of (flat_map at_node (numbers k))) (add-one s) in
-      let most = up_to n s lt in
-      omega (arith, many, same, most)
+  pub nodes_past : (now : List RuleWitness) (k s : ℕ) → k < length nodes → s ≡ get_or nodes k s
+      → map bare_witness now ≡ map bare_witness (flat_map at_node (take k nodes))
+      → 1000000 < nodes_of (now ++ at_node s) → 1000000 < nodes_of (flat_map at_node nodes)
+  nodes_past now k s lt is h many =
+      let same = nodes-same (now ++ at_node s) (flat_map at_node (take (k + 1) nodes)) (nodes_more now (now ++ at_node s) k s lt is h refl) in
+      let parts : nodes_of (flat_map at_node nodes)
+      ≡ nodes_of (flat_map at_node (take (k + 1) nodes)) + nodes_of (flat_map at_node (drop (k + 1) nodes)) =
+      ap (λ ns. nodes_of (flat_map at_node ns)) (sym (take-append-drop (k + 1) nodes))
+      ∙ ap nodes_of (flat_map-append at_node (take (k + 1) nodes) (drop (k + 1) nodes))
+      ∙ nodes-append (flat_map at_node (take (k + 1) nodes)) (flat_map at_node (drop (k + 1) nodes)) in
+      omega (arith, many, same, parts)
 
 -- ---- the sets of the whole formula
 

@@ -3,4 +3,5 @@ pub mod BareLemmas
 pub mod ChoiceLemmas
 pub mod ExtendLemmas
 pub mod JobLemmas
+pub mod MatchLemmas
 mod Examples

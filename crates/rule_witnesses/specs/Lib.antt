@@ -5,6 +5,8 @@ pub mod Bare
 pub mod Choices
 -- the size of what is found in one item, and what a formula says of exported variables
 pub mod Jobs
+-- the sets of a formula in a graph, and the nodes at which it can hold
+pub mod Matched
 -- For inside use.
 -- sets in which some variables are left open
 pub mod Opened

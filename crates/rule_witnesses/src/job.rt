@@ -14,15 +14,15 @@ ghost use Rattle.wit_order.specs.Sizes.{forest_size};
 ghost use Rattle.wit_trees.specs.Graphs.{forest_of};
 ghost use Rattle.rule_witnesses.specs.Bare.{bare_witness};
 ghost use Rattle.rule_witnesses.specs.Choices.{AreNew, Leaves};
+ghost use Rattle.rule_witnesses.specs.Matched.{AreMatched};
 ghost use Rattle.rule_witnesses.specs.Jobs.{nodes_of, BindsExports, witness_at, witnesses_at, witnesses_of};
 ghost use Rattle.rule_witnesses.specs.declared.fault.JobFault.TheVariants as fault;
 
 use crate::fault::{JobFault, fault_of};
 use crate::found::Found;
+use crate::matched::{Matched, root_of};
 use crate::values::choices;
-use c_terms::NoMemory;
 use cfg_graph::Graph;
-use ctl_fixpoint::sat;
 use ctl_formula::Formula;
 use env_sets::{EnvSet, StateSets};
 use smpl_patch::{RuleWitness, Witness};
@@ -30,18 +30,6 @@ use smpl_terms::{Env, Var};
 use sqlite_items::Items;
 use std::alloc::Global;
 use wit_forest::forest;
-
-/// The number of the node that the whole formula is. From 2^32 on it is refused as if memory had run out.
-fn root_of(f: &Formula) -> Result<u32, NoMemory>
-    ensures root { IfOk result (λ root. root ≡ f.now.root) }
-    ensures within { IfOk result (λ root. root < length f.now.nodes) }
-{
-    let root = f.root();
-    if root > u32::MAX as usize {
-        return Err(NoMemory);
-    }
-    Ok(root as u32)
-}
 
 fn forest_at(
     alloc: Global,
@@ -134,23 +122,26 @@ fn with_node(
 /// The witnesses of a rule in one item, under an environment that gives the inherited variables their values: by nodes, then
 /// by the values of the exported variables, each with its forest. Contracts compare them with the ids of terms left out.
 ///
-/// `rule` and `item` are the numbers that the witnesses carry. The formula binds each exported variable, and its patterns'
-/// sure variables stand in them.
+/// `matched` is what [`match_item`](crate::match_item) says of the formula and the graph: one serves all environments. `rule` and
+/// `item` are the numbers that the witnesses carry. The formula binds each exported variable, and its patterns' sure variables
+/// stand in them.
 ///
 /// - `TooMany`: the forests have more than 1,000,000 touches and binds in all.
 /// - `NoMemory`: memory was refused, or the formula's table has 2^32 nodes.
 ///
-/// Costs one call of [`sat`], one of [`choices`](crate::choices) a node, and one of [`forest`] a witness.
+/// Costs one call of [`choices`](crate::choices) for each node of `matched`, and one of [`forest`] a witness.
 pub fn item_witnesses(
     alloc: Global,
     g: &Graph,
     f: &Formula,
+    matched: &Matched,
     exports: &[Var],
     rule: u32,
     item: u32,
     env: &Env,
 ) -> Result<Items<RuleWitness>, JobFault>
     requires stand { EachPattern (SureStand f.now.decls f.now.tokens) (plain f.now) }
+    requires matched { AreMatched g.now f.now matched.now.sets matched.now.nodes }
     requires binds { BindsExports f.now exports.now }
     requires new { AreNew exports.now env.now }
     ensures found { IfOk result (λ found. map bare_witness found ≡ map bare_witness
@@ -159,12 +150,13 @@ pub fn item_witnesses(
     ensures too_many { result ≡ Err fault.TooMany → 1000000 < nodes_of
         (witnesses_of f.now g.now exports.now rule item env.now) }
 {
+    let _count = g.count();
     let root = root_of(f)?;
-    let sets = sat(alloc, g, f)?;
+    let sets = &matched.sets;
     let mut found = Found::none(alloc);
-    for s in 0..g.count() {
-        let set = sets.at(root, s);
-        found = with_node(alloc, g, f, &sets, set, exports, rule, item, s, env, found)?;
+    for s in matched.nodes.as_slice() {
+        let set = sets.at(root, *s);
+        found = with_node(alloc, g, f, sets, set, exports, rule, item, *s, env, found)?;
     }
     Ok(found.into_items())
 }

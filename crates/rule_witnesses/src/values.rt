@@ -1,5 +1,5 @@
 // The values of some variables under which a set has an environment.
-ghost use Rattle.std.specs.Prelude.{◌≡◌, ◌<◌, ◌∷◌, [], None, List, IfOk, map, length};
+ghost use Rattle.std.specs.Prelude.{◌≡◌, ◌<◌, ◌∷◌, [], true, false, None, List, IfOk, map, length};
 ghost use Rattle.std.specs.List.{All, filter, list_any};
 ghost use Rattle.smpl_terms.specs.Environments.{total, value_in};
 ghost use Rattle.smpl_terms.specs.Values.{same};
@@ -93,10 +93,18 @@ fn all_extended(
     Ok(envs)
 }
 
+/// Whether no variable is to be given a value, and the set doesn't have the environment. Takes no memory.
+fn excludes(set: &EnvSet, vars: &[Var], env: &Env) -> bool
+    ensures none { result ≡ true → vars.now ≡ [] }
+    ensures absent { result ≡ true → set_denotes set.now (total env.now) ≡ false }
+{
+    vars.is_empty() && !denotes(set, env)
+}
+
 /// The environment with each choice of values of the variables under which the set has it: in the order of values, the
 /// first variable slowest. The set leaves each variable finitely many values.
 ///
-/// A set without entries has none. For n variables the set is projected n times, and then gone over once for each
+/// A set without entries has none. Without variables the entries are asked for the environment. For n variables the set is projected n times, and then gone over once for each
 /// environment that has a value more.
 pub fn choices(alloc: Global, set: &EnvSet, vars: &[Var], env: &Env) -> Result<Vec<Env>, NoMemory>
     requires new { of.AreNew vars.now env.now }
@@ -105,6 +113,9 @@ pub fn choices(alloc: Global, set: &EnvSet, vars: &[Var], env: &Env) -> Result<V
         (filter (λ e. set_denotes set.now (total e)) (rules.choices (rules.in_order values) vars.now env.now))) }
 {
     if set.is_none() {
+        return Ok(Vec::new(alloc));
+    }
+    if excludes(set, vars, env) {
         return Ok(Vec::new(alloc));
     }
     let sets = open_sets(alloc, set, vars)?;

@@ -1,4 +1,4 @@
-use Rattle.std.proofs.Common.{◌≡◌, [], ◌∷◌, List, sym, ap, ◌∙◌, subst, map}
+use Rattle.std.proofs.Common.{◌≡◌, [], ◌∷◌, List, sym, ap, ◌∙◌, cond, subst, map}
 use Rattle.std.specs.List.{filter}
 use Rattle.std.proofs.lemmas.Result.{IfOk-weaker}
 use Rattle.smpl_terms.specs.declared.value.Value.{Value}
@@ -16,6 +16,14 @@ pub returns-then-is_none : goal.returns-then-is_none
 returns-then-is_none c = record {
   envs = λ values leaves. ap (map bare_env) c.new.ensures.items
       ∙ empty_set c.args.set.now (c.is_none.ensures.none c.if-is_none.true) (rules.choices (rules.in_order values) c.args.vars.now c.args.env.now);
+}
+
+pub returns-then-excludes : goal.returns-then-excludes
+returns-then-excludes c = record {
+  envs = λ values leaves. ap (map bare_env) c.new-then-excludes.ensures.items
+      ∙ sym (ap (λ vars. map bare_env (filter (λ e. set_denotes c.args.set.now (total e)) (rules.choices (rules.in_order values) vars c.args.env.now)))
+      (c.excludes.ensures.none c.if-excludes.true)
+      ∙ ap (λ b. map bare_env (cond b (c.args.env.now ∷ []) [])) (c.excludes.ensures.absent c.if-excludes.true));
 }
 
 pub returns-then-not-denotes : goal.returns-then-not-denotes

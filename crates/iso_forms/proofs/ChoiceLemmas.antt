@@ -1,5 +1,6 @@
 -- Choices of one form of each child.
-use Rattle.std.proofs.Common.{◌≡◌, ◌<◌, ◌≤◌, List, [], ◌∷◌, ◌++◌, length, map, refl, sym, ap, ◌∙◌, append_assoc, arith, length-append}
+use Rattle.std.proofs.Common.{◌≡◌, ◌<◌, ◌≤◌, List, [], ◌∷◌, ◌++◌, length, map, refl, sym, ap, ◌∙◌, append_assoc, arith, length-append, ℕ, ◌+◌, ◌*◌}
+use Rattle.std.proofs.Math.Nat.{zero-mul, suc-mul, add_comm}
 use Rattle.std.proofs.lemmas.List.{length-map}
 use Rattle.c_terms.specs.declared.tree.Tree.{Tree}
 use Rattle.c_terms.specs.Trees.{join}
@@ -89,18 +90,32 @@ grown_by-length css [] h = omega arith
 grown_by-length css (ts ∷ more) h =
     omega (arith, grown-choices_length css ts h.0, grown_by-length (grown css ts) more h.1)
 
--- ---- one tree behind each choice
+-- as many as there are pairs
+pub grown-length : (css : List Choice) (ts : List Tree) → length (grown css ts) ≡ length css * length ts
+grown-length [] ts = sym (zero-mul (length ts))
+grown-length (cs ∷ css) ts =
+    length-append (longer cs ts) (grown css ts) ∙ ap (λ (n : ℕ). n + length (grown css ts)) (longer-length cs ts)
+    ∙ ap (λ (n : ℕ). length ts + n) (grown-length css ts) ∙ add_comm (length ts) (length css * length ts) ∙ sym (suc-mul (length css) (length ts))
 
-pub grown-append : (css bss : List Choice) (ts : List Tree) → grown (css ++ bss) ts ≡ grown css ts ++ grown bss ts
+-- ---- one choice more, and one tree more
+
+pub longer-append : (cs : Choice) (ts us : List Tree) → longer cs (ts ++ us) ≡ longer cs ts ++ longer cs us
+longer-append cs [] us = refl
+longer-append cs (t ∷ ts) us = ap (λ (x : List Choice). (cs ++ t ∷ []) ∷ x) (longer-append cs ts us)
+
+grown-append : (css bss : List Choice) (ts : List Tree) → grown (css ++ bss) ts ≡ grown css ts ++ grown bss ts
 grown-append [] bss ts = refl
 grown-append (cs ∷ css) bss ts =
     ap (λ (x : List Choice). longer cs ts ++ x) (grown-append css bss ts) ∙ sym (append_assoc (longer cs ts) (grown css ts) (grown bss ts))
 
--- one more choice with the tree
-pub grown-more : (css : List Choice) (cs : Choice) (t : Tree) → grown (css ++ cs ∷ []) (t ∷ []) ≡ grown css (t ∷ []) ++ (cs ++ t ∷ []) ∷ []
-grown-more css cs t = grown-append css (cs ∷ []) (t ∷ [])
+-- one more choice, with the trees and then with the last
+pub grown-more : (css : List Choice) (cs : Choice) (ts : List Tree) (t : Tree)
+    → (grown css (ts ++ t ∷ []) ++ longer cs ts) ++ (cs ++ t ∷ []) ∷ [] ≡ grown (css ++ cs ∷ []) (ts ++ t ∷ [])
+grown-more css cs ts t =
+    append_assoc (grown css (ts ++ t ∷ [])) (longer cs ts) ((cs ++ t ∷ []) ∷ [])
+    ∙ ap (λ (x : List Choice). grown css (ts ++ t ∷ []) ++ x) (sym (longer-append cs ts (t ∷ [])) ∙ sym (append_empty (longer cs (ts ++ t ∷ []))))
+    ∙ sym (grown-append css (cs ∷ []) (ts ++ t ∷ []))
 
--- one tree makes no more choices
-pub grown-one_length : (css : List Choice) (t : Tree) → length (grown css (t ∷ [])) ≡ length css
-grown-one_length [] t = refl
-grown-one_length (cs ∷ css) t = let e = grown-one_length css t in omega (arith, e)
+pub grown-by_none : (css : List Choice) → grown css [] ≡ []
+grown-by_none [] = refl
+grown-by_none (cs ∷ css) = grown-by_none css

@@ -7,4 +7,5 @@ pub mod ArrowLemmas
 pub mod ChoiceLemmas
 pub mod FormLemmas
 pub mod FirstLemmas
+pub mod LabelLemmas
 mod Examples

@@ -1,8 +1,11 @@
 -- For inside use: what is kept beside a list of forms, and what the parts of the expander answer.
 use Rattle.std.specs.Prelude.{ℕ, ◌≡◌, ◌<◌, ◌≤◌, ◌-◌, Bool, true, false, not, nat_lt, take, drop, List, [], ◌∷◌, ◌++◌, map, length, Option, Some, None}
-use Rattle.std.specs.List.{list_all}
-use Rattle.c_terms.specs.declared.tree.Tree.{Tree}
+use Rattle.std.specs.List.{list_all, list_any}
+use Rattle.c_terms.specs.declared.tree.Tree.{Tree, out-Tree}
+use Rattle.c_terms.specs.declared.tree.Tree.TheOpen.{Tree-F}
+use Rattle.c_terms.specs.Same.{same_label}
 use Rattle.c_terms.specs.Names.{has_name}
+use Rattle.smpl_patch.specs.declared.rule.Iso.{Iso}
 use Rattle.iso_forms.specs.declared.matching.Bound.{Bound}
 use Rattle.iso_forms.specs.declared.listed.Listed.{Listed}
 use Rattle.iso_forms.specs.Forms.{is_among}
@@ -44,3 +47,16 @@ pub record Has (limit : ℕ) (forms : Listed) (list : List Tree) : Type 0 where
 -- the second list is the first and more
 abbrev pub Extends : List Tree → List Tree → Type 0
 Extends list all = (more : List Tree) × (all ≡ list ++ more)
+
+-- the side is a branch of the tree's label, or a leaf: others match no tree
+abbrev pub may_match : Tree-F Tree → Tree-F Tree → Bool
+may_match (Tree-F.Leaf a) u = true
+may_match (Tree-F.Branch l ss) (Tree-F.Leaf b) = false
+may_match (Tree-F.Branch l ss) (Tree-F.Branch k us) = same_label l k
+
+abbrev pub has_side_for : List Tree → Tree → Bool
+has_side_for sides t = list_any (λ s. may_match (out-Tree s) (out-Tree t)) sides
+
+-- some side may match some tree
+abbrev pub may_grow : List Iso → List Tree → Bool
+may_grow isos list = list_any (λ iso. list_any (has_side_for iso.sides) list) isos

@@ -37,82 +37,104 @@ fn with_tree(alloc: Global, choice: &[Tree], tree: &Tree) -> Result<Items<Tree>,
     Ok(copies)
 }
 
-/// Adds the choice with each of the trees.
+/// Adds the choice with each of the trees, all of them copied.
 fn push_longer(
     alloc: Global,
     choice: &[Tree],
     trees: &[Tree],
     out: &mut Vec<Items<Tree>>,
-    limit: usize,
-) -> Result<(), FormsFault>
-    requires { length out.old.items ≤ limit }
-    ensures all { IfOk result (λ _. out.new.items ≡ out.old.items ++ longer choice.now trees.now) }
-    ensures few { IfOk result (λ _. length out.new.items ≤ limit) }
-    ensures refused { IfErr result (Refused limit (out.old.items ++ longer choice.now trees.now)) }
+) -> Result<(), NoMemory>
+    ensures { IfOk result (λ _. out.new.items ≡ out.old.items ++ longer choice.now trees.now) }
 {
     for tree in trees {
-        if out.len() >= limit {
-            return Err(FormsFault::TooMany);
-        }
         out.push(with_tree(alloc, choice, tree)?)?;
     }
     Ok(())
 }
 
-/// Each choice with each of the trees, all of them copied.
+/// Each choice with each of the trees and with the last one, all of them copied but the choice that takes the last.
 fn multiplied(
     alloc: Global,
-    choices: &[Items<Tree>],
-    trees: &[Tree],
-    limit: usize,
-) -> Result<Vec<Items<Tree>>, FormsFault>
-    ensures all { IfOk result (λ css. css.items ≡ grown choices.now trees.now) }
-    ensures few { IfOk result (λ css. length css.items ≤ limit) }
-    ensures refused { IfErr result (Refused limit (grown choices.now trees.now)) }
-{
-    let mut out = Vec::new(alloc);
-    for choice in choices {
-        push_longer(alloc, choice.as_slice(), trees, &mut out, limit)?;
-    }
-    Ok(out)
-}
-
-/// Each choice with a copy of the tree.
-fn with_copies(
-    alloc: Global,
     choices: Vec<Items<Tree>>,
-    tree: &Tree,
+    trees: &[Tree],
+    last: &Tree,
 ) -> Result<Vec<Items<Tree>>, NoMemory>
-    ensures { IfOk result (λ css. css.items ≡ grown choices.items (tree.now ∷ [])) }
+    ensures { IfOk result (λ css. css.items ≡ grown choices.items (trees.now ++ last.now ∷ [])) }
 {
     let mut out = Vec::new(alloc);
     for mut choice in choices {
-        choice.push(tree.copy(alloc)?)?;
+        push_longer(alloc, choice.as_slice(), trees, &mut out)?;
+        choice.push(last.copy(alloc)?)?;
         out.push(choice)?;
     }
     Ok(out)
 }
 
-/// Each choice with the tree, which the last of them takes itself.
-fn lengthen(
+/// The same trees, which are not copied. Linear.
+fn moved(alloc: Global, mut trees: Items<Tree>) -> Result<Vec<Tree>, NoMemory>
+    ensures { IfOk result (λ all. all.items ≡ trees) }
+{
+    let mut all = Vec::with_capacity(alloc, trees.len())?;
+    while let Some(tree) = trees.pop() {
+        all.push(tree)?;
+    }
+    all.reverse();
+    Ok(all)
+}
+
+/// Adds the choice, copied, with each of the trees themselves.
+fn push_each(
+    alloc: Global,
+    choice: &[Tree],
+    trees: Vec<Tree>,
+    out: &mut Vec<Items<Tree>>,
+) -> Result<(), NoMemory>
+    ensures { IfOk result (λ _. out.new.items ≡ out.old.items ++ longer choice.now trees.items) }
+{
+    for tree in trees {
+        let mut copies = copied(alloc, choice)?;
+        copies.push(tree)?;
+        out.push(copies)?;
+    }
+    Ok(())
+}
+
+/// Each choice with each of the trees and with the last one. The last choice takes the trees themselves.
+fn with_each(
     alloc: Global,
     mut choices: Vec<Items<Tree>>,
-    tree: Tree,
+    trees: Items<Tree>,
+    last: Tree,
 ) -> Result<Vec<Items<Tree>>, NoMemory>
-    ensures { IfOk result (λ css. css.items ≡ grown choices.items (tree ∷ [])) }
+    ensures { IfOk result (λ css. css.items ≡ grown choices.items (trees ++ last ∷ [])) }
 {
     match choices.pop() {
         None => Ok(choices),
-        Some(mut last) => {
-            let mut out = with_copies(alloc, choices, &tree)?;
-            last.push(tree)?;
-            out.push(last)?;
+        Some(mut choice) => {
+            let mut out = multiplied(alloc, choices, trees.as_slice(), &last)?;
+            push_each(alloc, choice.as_slice(), moved(alloc, trees)?, &mut out)?;
+            choice.push(last)?;
+            out.push(choice)?;
             Ok(out)
         }
     }
 }
 
-/// Each choice with each of the trees. One tree alone makes each choice longer; where there are more, all choices are copied.
+fn all_grown(
+    alloc: Global,
+    choices: Vec<Items<Tree>>,
+    mut trees: Items<Tree>,
+) -> Result<Vec<Items<Tree>>, NoMemory>
+    ensures { IfOk result (λ css. css.items ≡ grown choices.items trees) }
+{
+    match trees.pop() {
+        None => Ok(Vec::new(alloc)),
+        Some(last) => with_each(alloc, choices, trees, last),
+    }
+}
+
+/// Each choice with each of the trees. Each choice is copied for each tree but the last, and each tree for each choice but the
+/// last; nothing is copied where there are more than the limit.
 pub fn grow(
     alloc: Global,
     choices: Vec<Items<Tree>>,
@@ -124,14 +146,10 @@ pub fn grow(
     ensures few { IfOk result (λ css. length css.items ≤ limit) }
     ensures refused { IfErr result (Refused limit (grown choices.items trees)) }
 {
-    if trees.len() != 1 {
-        return multiplied(alloc, choices.as_slice(), trees.as_slice(), limit);
+    if choices.len().saturating_mul(trees.len()) > limit {
+        return Err(FormsFault::TooMany);
     }
-    let mut trees = trees;
-    match trees.pop() {
-        None => Ok(choices),
-        Some(only) => Ok(lengthen(alloc, choices, only)?),
-    }
+    Ok(all_grown(alloc, choices, trees)?)
 }
 
 /// Branches of the label, by their children.

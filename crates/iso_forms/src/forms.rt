@@ -49,8 +49,8 @@ fn branch_forms(
 /// - `NoMemory`: memory was refused.
 ///
 /// Linear in the children of a branch in which no child has a second form; where one has, each choice is copied for each of its
-/// forms. A tree is held against every side of every isomorphism, and for a side that it matches every other side is looked at.
-/// Recurses once a level.
+/// forms but the last. A tree is held against every side of every isomorphism, and for a side that it matches every other side
+/// is looked at. Recurses once a level.
 pub fn forms_of(
     alloc: Global,
     isos: &[Iso],

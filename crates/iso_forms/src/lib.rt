@@ -14,6 +14,7 @@ mod choices;
 mod fault;
 mod forms;
 mod kinds;
+mod labels;
 mod laws;
 mod listed;
 mod making;

@@ -8,6 +8,7 @@ ghost use Rattle.iso_forms.specs.Stepped.{Has};
 
 use crate::FormsFault;
 use crate::arrows::{lowest, may_become};
+use crate::labels::may_grow;
 use crate::listed::Listed;
 use crate::making::{first_id, made};
 use crate::matching::{Bound, matches};
@@ -101,7 +102,7 @@ fn add_iso(
     Ok(())
 }
 
-/// The list, and what its trees become by each isomorphism in turn.
+/// The list, and what its trees become by each isomorphism in turn. Trees are spelled only where a label fits.
 pub fn with_isos(
     alloc: Global,
     tokens: &[PatToken],
@@ -114,6 +115,9 @@ pub fn with_isos(
     ensures few { IfOk result (λ all. length all ≤ limit) }
     ensures refused { IfErr result (Refused limit (of.with_isos tokens.now list isos.now)) }
 {
+    if !may_grow(isos, list.as_slice()) {
+        return Ok(list);
+    }
     let mut forms = Listed::of(alloc, list, limit)?;
     for iso in isos {
         add_iso(alloc, tokens, iso, &mut forms, limit)?;

@@ -4,6 +4,8 @@ use Rattle.c_terms.specs.declared.tree.Tree.{Tree}
 use Rattle.iso_forms.specs.Forms.{with_iso, with_isos}
 use Rattle.iso_forms.proofs.ListLemmas.{drop_item}
 use Rattle.iso_forms.proofs.ListedLemmas.{isos-extend, extends-along, refused_more}
+use Rattle.iso_forms.specs.Stepped.{may_grow}
+use Rattle.iso_forms.proofs.LabelLemmas.{unchanged}
 use Rattle.iso_forms.proofs.replacing.with_isos.Goals as goal
 
 pub returns-in_err-add_iso-clause-refused : goal.returns-in_err-add_iso-clause-refused
@@ -21,3 +23,8 @@ returns-in_err-add_iso-clause-refused c =
     (ap (with_isos tokens list) (sym (drop_item isos i c.iso-item.result c.loop-iso-test.true c.iso-item.is)) ∙ c.loop-iso.invariant.rest
     ∙ ap (λ (ts : List Tree). with_isos tokens ts isos) c.in_ok-forms.ensures.is))
     c.in_err-add_iso.ensures.refused)
+
+pub returns-then-not-may_grow-clause-all : goal.returns-then-not-may_grow-clause-all
+returns-then-not-may_grow-clause-all c =
+    sym (unchanged c.args.tokens.now c.args.isos.now c.args.list
+    (ap (may_grow c.args.isos.now) (sym c.as_slice.ensures) ∙ sym c.if-not-may_grow.ensures))

@@ -3,15 +3,15 @@ ghost use Rattle.std.specs.Prelude.{◌≡◌, IfOk, map};
 ghost use Rattle.rule_envs.specs.Carriers as of;
 
 use c_terms::NoMemory;
-use smpl_terms::Env;
+use smpl_terms::{Env, SharedList};
 use sqlite_items::Items;
 use std::alloc::Global;
 
-/// An environment, and the rules that had a witness on the way to it, by number.
+/// An environment, and the rules that had a witness on the way to it, by number. Copies share the list of rules.
 #[derive(Drop)]
 pub struct Carrier {
     pub env: Env,
-    pub rules: Items<u32>,
+    pub rules: SharedList<u32>,
 }
 
 /// What the rules begin with: one empty environment, which carries no rule.
@@ -21,17 +21,17 @@ pub fn first_carriers(alloc: Global) -> Result<Items<Carrier>, NoMemory>
     let mut carriers = Items::new(alloc);
     carriers.push(Carrier {
         env: Env::empty(alloc),
-        rules: Items::new(alloc),
+        rules: SharedList::empty(),
     })?;
     Ok(carriers)
 }
 
-/// An equal one. It shares the environment.
+/// An equal one. It shares the environment and the list of rules: that takes the same time for any.
 pub fn copied(alloc: Global, carrier: &Carrier) -> Result<Carrier, NoMemory>
     ensures { IfOk result (λ c. c ≡ carrier.now) }
 {
     let env = carrier.env.copy(alloc)?;
-    let rules = Items::from_slice(alloc, carrier.rules.as_slice())?;
+    let rules = carrier.rules.share()?;
     Ok(Carrier { env, rules })
 }
 

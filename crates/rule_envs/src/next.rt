@@ -10,7 +10,7 @@ use crate::carrier::{Carrier, copied};
 use crate::fault::EnvsFault;
 use c_terms::NoMemory;
 use env_parts::joined;
-use smpl_terms::Env;
+use smpl_terms::{Env, SharedList};
 use sqlite_items::Items;
 use std::alloc::Global;
 
@@ -20,8 +20,9 @@ fn extended(alloc: Global, number: u32, carrier: &Carrier, part: &Env) -> Result
     ensures { IfOk result (λ c. c ≡ of.extended number carrier.now part.now) }
 {
     let env = joined(alloc, &carrier.env, part)?;
-    let mut rules = Items::from_slice(alloc, carrier.rules.as_slice())?;
+    let mut rules = Vec::from_slice(alloc, carrier.rules.as_slice())?;
     rules.push(number)?;
+    let rules = SharedList::of(alloc, rules)?;
     Ok(Carrier { env, rules })
 }
 

@@ -1,19 +1,27 @@
 -- What is found under several environments, a list for each.
-use Rattle.std.proofs.Common.{◌≡◌, ◌≢◌, ◌<◌, ◌≤◌, ◌+◌, ◌⊎◌, inl, inr, ℕ, zero, suc, Bool, true, false, ◌||◌, refl, sym, ap, ap₂, ◌∙◌, arith, List, [], ◌∷◌, ◌++◌, length, get_or, set, drop, map}
+use Rattle.std.proofs.Common.{◌≡◌, ◌≢◌, ◌<◌, ◌≤◌, ◌+◌, ◌⊎◌, inl, inr, ℕ, zero, suc, Bool, true, false, ◌||◌, refl, sym, ap, ap₂, ◌∙◌, arith, List, [], ◌∷◌, ◌++◌, length, get_or, set, drop, map, eqb}
 use Rattle.std.specs.Prelude.{All, slice_get}
 use Rattle.std.specs.List.{flat_map, list_any}
 use Rattle.std.proofs.lemmas.List.{append-nil, map-append, drop_all, length-set, get_or-set_same, get_or-set_other}
+use Rattle.std.proofs.lemmas.List.Concat.{flat_map-append}
 use Rattle.std.proofs.lemmas.List.Elements.{All-head, All-tail}
 use Rattle.std.proofs.lemmas.Bool.Decides.{eqb_tells}
 use Rattle.cpp_lines.specs.declared.reading.Item.{Item}
 use Rattle.c_file.specs.Fit.{item_graph}
 use Rattle.smpl_patch.specs.declared.rule.Rule.{Rule}
+use Rattle.smpl_terms.specs.declared.var.Var.{Var}
 use Rattle.smpl_patch.specs.declared.witness.RuleWitness.{RuleWitness}
 use Rattle.env_parts.specs.Parts.{Pairs, bare_env}
 use Rattle.rule_witnesses.specs.Bare.{bare_witness}
 use Rattle.rule_found.specs.Found.{witnesses_in, is_large, found_from, is_large_from, found_under, is_large_under, brings, rule_found}
 use Rattle.rule_found.specs.Lists.{env_at, found_at, AreAdded, AreSmall, IsLargeSomewhere, AreFound, brought}
 use Rattle.rule_found.proofs.FoundLemmas.{found_more, large_more, large_here, one_brings}
+
+-- an environment by its number
+pub env_is : (envs : List Pairs) (k : ℕ) (e : Pairs) → k < length envs → e ≡ get_or envs k e → bare_env e ≡ env_at envs k
+env_is [] k e lt is = absurd (omega (arith, lt))
+env_is (x ∷ xs) zero e lt is = ap bare_env is
+env_is (x ∷ xs) (suc k) e lt is = env_is xs k e (omega (arith, lt)) is
 
 -- ---- one item, one environment after another
 
@@ -23,7 +31,7 @@ pub record AreAddedBelow (more : Pairs → List RuleWitness) (envs : List Pairs)
   pub done : (j : ℕ) → j < k → found_at new j ≡ found_at old j ++ map bare_witness (more (env_at envs j))
   pub rest : (j : ℕ) → k ≤ j → get_or new j [] ≡ get_or old j []
 
-pub AreSmallBelow : (Pairs → Bool) → List Pairs → ℕ → Type 0
+abbrev pub AreSmallBelow : (Pairs → Bool) → List Pairs → ℕ → Type 0
 AreSmallBelow is_large envs k = (j : ℕ) → j < k → is_large (env_at envs j) ≡ false
 
 module _ (more : Pairs → List RuleWitness) (envs : List Pairs) (old : List (List RuleWitness)) where
@@ -171,3 +179,15 @@ one_many is_large (e ∷ es) (suc k, (lt, many)) = either (is_large (bare_env e)
     either : (b : Bool) → list_any is_large (map bare_env es) ≡ true → (b || list_any is_large (map bare_env es)) ≡ true
     either true h = refl
     either false h = h
+
+-- ---- one list more
+
+pub join_next : (ws now list : List RuleWitness) (lists : List (List RuleWitness)) → ws ≡ flat_map (λ l. l) lists → now ≡ ws ++ list
+    → now ≡ flat_map (λ l. l) (lists ++ list ∷ [])
+join_next ws now list lists h is =
+    is ∙ ap (λ us. us ++ list) h ∙ ap (λ us. flat_map (λ l. l) lists ++ us) (sym (append-nil list)) ∙ sym (flat_map-append (λ l. l) lists (list ∷ []))
+
+pub part_next : (exports : List Var) (ps now : List (List Pairs)) (part : List Pairs) (list : List RuleWitness) (lists : List (List RuleWitness))
+    → ps ≡ map (brought exports) lists → now ≡ ps ++ part ∷ [] → part ≡ brought exports list → now ≡ map (brought exports) (lists ++ list ∷ [])
+part_next exports ps now part list lists h is own =
+    is ∙ ap₂ (λ a b. a ++ b ∷ []) h own ∙ sym (map-append (brought exports) lists (list ∷ []))

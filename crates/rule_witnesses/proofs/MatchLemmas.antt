@@ -2,22 +2,22 @@
 use Rattle.std.proofs.Common.{◌≡◌, ℕ, zero, suc, ◌+◌, ◌<◌, ◌≤◌, Bool, true, false, cond, refl, sym, ap, ap₂, ◌∙◌, subst, arith, List, [], ◌∷◌, ◌++◌, map, length, get_or, add-one}
 use Rattle.std.specs.Prelude.{All}
 use Rattle.std.specs.List.{filter, flat_map}
-use Rattle.std.proofs.lemmas.List.{append-nil}
 use Rattle.std.proofs.lemmas.List.Concat.{flat_map-append}
 use Rattle.std.proofs.lemmas.List.Elements.{All-nil, All-cons, All-append, All-filter, All-get_or, All-weaker, filter-append}
-use Rattle.smpl_patch.specs.declared.witness.RuleWitness.{RuleWitness}
 use Rattle.smpl_terms.specs.declared.var.Var.{Var}
 use Rattle.smpl_terms.specs.Environments.{Environment, total}
-use Rattle.cfg_graph.specs.Flow.{Flow, count_of}
+use Rattle.cfg_graph.specs.Flow.{Flow, IsSound, count_of}
 use Rattle.ctl_formula.specs.Formulas.{FormulaOf, plain}
 use Rattle.ctl_holds.specs.Rounds.{holds}
 use Rattle.ctl_holds.specs.Values.{values_of}
 use Rattle.env_parts.specs.Parts.{Pairs}
 use Rattle.env_sets.specs.Sets.{Entries, set_denotes}
+use Rattle.env_sets.specs.States.{set_at}
 use Rattle.wit_trees.specs.Forest.{numbers}
 use Rattle.wit_trees.specs.Rules.{choices, in_order}
-use Rattle.rule_witnesses.specs.Jobs.{witness_at, witnesses_at}
-use Rattle.rule_witnesses.specs.Matched.{has_entries}
+use Rattle.rule_witnesses.specs.Jobs.{witness_at, witnesses_at, witnesses_of}
+use Rattle.rule_witnesses.specs.Matched.{AreMatched, has_entries}
+use Rattle.rule_witnesses.proofs.JobLemmas.{root_told}
 
 -- ---- which nodes there are
 
@@ -25,14 +25,10 @@ module _ (p : ℕ → Bool) where
   one_more : (s : ℕ) → filter p (numbers (s + 1)) ≡ filter p (numbers s) ++ cond (p s) (s ∷ []) []
   one_more s = ap (λ (n : ℕ). filter p (numbers n)) (add-one s) ∙ filter-append p (numbers s) (s ∷ [])
 
-  pub node_kept : (nodes next : List ℕ) (s : ℕ) → nodes ≡ filter p (numbers s) → p s ≡ true → next ≡ nodes ++ s ∷ []
+  pub node_next : (nodes next : List ℕ) (s : ℕ) (b : Bool) → nodes ≡ filter p (numbers s) → next ≡ nodes ++ cond b (s ∷ []) [] → b ≡ p s
       → next ≡ filter p (numbers (s + 1))
-  node_kept nodes next s h t is =
-      is ∙ ap (λ ns. ns ++ s ∷ []) h ∙ ap (λ b. filter p (numbers s) ++ cond b (s ∷ []) []) (sym t) ∙ sym (one_more s)
-
-  pub node_left : (nodes : List ℕ) (s : ℕ) → nodes ≡ filter p (numbers s) → p s ≡ false → nodes ≡ filter p (numbers (s + 1))
-  node_left nodes s h t =
-      h ∙ sym (append-nil (filter p (numbers s))) ∙ ap (λ b. filter p (numbers s) ++ cond b (s ∷ []) []) (sym t) ∙ sym (one_more s)
+  node_next nodes next s b h is same =
+      is ∙ ap₂ (λ ns t. ns ++ cond t (s ∷ []) []) h same ∙ sym (one_more s)
 
   numbers_below : (n : ℕ) → All (λ (s : ℕ). s < n) (numbers n)
   numbers_below zero = All-nil (λ (s : ℕ). s < 0)
@@ -84,3 +80,27 @@ no_witness f g exports rule item s env set told none =
     ap (map (witness_at f g exports rule item s))
     (filter_none (λ (e : Pairs). holds f.decls f.tokens g (count_of g + 1) (plain f) s (total e)) (choices (in_order (values_of g)) exports env)
     (λ e. sym (told (total e)) ∙ ap (λ es. set_denotes es (total e)) (entries_none set none)))
+
+-- an item of a list that is the other
+pub item_at : (items nodes : List ℕ) (k : ℕ) → items ≡ nodes → k < length items
+    → (k < length nodes) × (get_or items k 0 ≡ get_or nodes k (get_or items k 0))
+item_at items nodes k e lt =
+    (subst (λ ns. k < length ns) e lt, there items k lt ∙ ap (λ ns. get_or ns k (get_or items k 0)) e)
+  where
+    there : (ms : List ℕ) (j : ℕ) → j < length ms → get_or ms j 0 ≡ get_or ms j (get_or items k 0)
+    there [] j low = absurd (omega (arith, low))
+    there (m ∷ ms) zero low = refl
+    there (m ∷ ms) (suc j) low = there ms j (omega (arith, low))
+
+-- ---- what is found at the matched nodes
+
+module _ (g : Flow) (f : FormulaOf) (sets : List (List Entries)) (nodes : List ℕ) (are : AreMatched g f sets nodes) where
+  pub matched_within : (k s : ℕ) → k < length nodes → s ≡ get_or nodes k s → s < count_of g
+  matched_within k s lt is = node_within (λ n. has_entries (set_at sets f.root n)) nodes (count_of g) k s are.nodes lt is
+
+  pub matched_all : IsSound g → f.root < length f.nodes → (exports : List Var) (rule item : ℕ) (env : Pairs)
+      → flat_map (λ s. witnesses_at f g exports rule item s env) nodes ≡ witnesses_of f g exports rule item env
+  matched_all ok within exports rule item env =
+      ap (flat_map (λ s. witnesses_at f g exports rule item s env)) are.nodes
+      ∙ others_nothing (λ n. has_entries (set_at sets f.root n)) (λ s. witnesses_at f g exports rule item s env) (count_of g)
+      (λ s lt none. no_witness f g exports rule item s env (set_at sets f.root s) (root_told g f sets ok are.sets within s lt) none)

@@ -12,7 +12,7 @@ abbrev pub has_entries : Entries → Bool
 has_entries [] = false
 has_entries (e ∷ es) = true
 
--- the sets are those of the formula, and the nodes those, rising, at which the set of the whole formula has an entry
-pub record AreMatched (g : Flow) (f : FormulaOf) (sets : List (List Entries)) (nodes : List ℕ) : Type 0 where
-  pub sets : AreStateSets g f sets
-  pub nodes : nodes ≡ filter (λ s. has_entries (set_at sets f.root s)) (numbers (count_of g))
+-- the rows are the sets of the formula, and these are the nodes, rising, at which the set of the whole formula has an entry
+pub record AreMatched (g : Flow) (f : FormulaOf) (rows : List (List Entries)) (found : List ℕ) : Type 0 where
+  pub sets : AreStateSets g f rows
+  pub nodes : found ≡ filter (λ s. has_entries (set_at rows f.root s)) (numbers (count_of g))

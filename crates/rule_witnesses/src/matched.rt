@@ -1,15 +1,19 @@
 // Where a formula holds in one item, under whatever environment.
-ghost use Rattle.std.specs.Prelude.{◌≡◌, ◌<◌, IfOk, length};
+ghost use Rattle.std.specs.Prelude.{◌≡◌, ◌<◌, ◌∷◌, ◌++◌, [], IfOk, cond, length, slice_index_or};
+ghost use Rattle.std.specs.List.{filter};
+ghost use Rattle.cfg_graph.specs.Flow.{count_of};
+ghost use Rattle.env_sets.specs.States.{set_at};
 ghost use Rattle.ctl_formula.specs.Formulas.{plain};
 ghost use Rattle.ctl_holds.specs.Parts.{EachPattern};
 ghost use Rattle.ctl_holds.specs.BoundLaw.{SureStand};
-ghost use Rattle.rule_witnesses.specs.Matched.{AreMatched};
+ghost use Rattle.wit_trees.specs.Forest.{numbers};
+ghost use Rattle.rule_witnesses.specs.Matched.{AreMatched, has_entries};
 
 use c_terms::NoMemory;
 use cfg_graph::Graph;
 use ctl_fixpoint::sat;
 use ctl_formula::Formula;
-use env_sets::StateSets;
+use env_sets::{EnvSet, StateSets};
 use sqlite_items::Items;
 use std::alloc::Global;
 
@@ -32,6 +36,37 @@ pub fn root_of(f: &Formula) -> Result<u32, NoMemory>
     Ok(root as u32)
 }
 
+/// The nodes, and then this one, if its set has an entry.
+fn with_match(nodes: Items<u32>, set: &EnvSet, s: u32) -> Result<Items<u32>, NoMemory>
+    ensures nodes { IfOk result (λ now. now ≡ nodes ++ cond (has_entries set.now) (s ∷ []) []) }
+{
+    if set.is_none() {
+        return Ok(nodes);
+    }
+    let mut nodes = nodes;
+    nodes.push(s)?;
+    Ok(nodes)
+}
+
+/// The nodes, rising, at which the sets of a part have an entry.
+fn nodes_with_entries(
+    alloc: Global,
+    g: &Graph,
+    sets: &StateSets,
+    part: u32,
+) -> Result<Items<u32>, NoMemory>
+    requires part { part < length sets.now }
+    requires nodes { length (slice_index_or sets.now part []) ≡ count_of g.now }
+    ensures nodes { IfOk result (λ nodes. nodes
+        ≡ filter (λ s. has_entries (set_at sets.now part s)) (numbers (count_of g.now))) }
+{
+    let mut nodes = Items::new(alloc);
+    for s in 0..g.count() {
+        nodes = with_match(nodes, sets.at(part, s), s)?;
+    }
+    Ok(nodes)
+}
+
 /// The sets of a formula in the graph of one item, and the nodes at which it holds under some environment. Its patterns' sure
 /// variables stand in them.
 ///
@@ -44,11 +79,6 @@ pub fn match_item(alloc: Global, g: &Graph, f: &Formula) -> Result<Matched, NoMe
 {
     let root = root_of(f)?;
     let sets = sat(alloc, g, f)?;
-    let mut nodes = Items::new(alloc);
-    for s in 0..g.count() {
-        if !sets.at(root, s).is_none() {
-            nodes.push(s)?;
-        }
-    }
+    let nodes = nodes_with_entries(alloc, g, &sets, root)?;
     Ok(Matched { sets, nodes })
 }

@@ -1,10 +1,10 @@
-use Rattle.std.proofs.Common.{◌≡◌, ◌++◌, drop, map}
+use Rattle.std.proofs.Common.{◌≡◌, map}
 use Rattle.std.specs.List.{flat_map}
 use Rattle.rule_found.specs.Lists.{brought}
 use Rattle.rule_found.proofs.whole.joined.Given as goal
 
 abbrev pub invariant-loop-list : goal.invariant-loop-list
 invariant-loop-list l = record {
-  witnesses : l.witnesses ++ flat_map (λ list. list) (drop l.list-index l.list-items) ≡ flat_map (λ list. list) l.list-items;
-  parts : l.parts ++ map (brought l.exports) (drop l.list-index l.list-items) ≡ map (brought l.exports) l.list-items;
+  witnesses : l.witnesses ≡ flat_map (λ list. list) l.yielded;
+  parts : l.parts ≡ map (brought l.exports) l.yielded;
 }

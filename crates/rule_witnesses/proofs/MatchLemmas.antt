@@ -61,10 +61,6 @@ module _ (p : ℕ → Bool) where
 
 -- ---- sets without entries
 
-pub entries_some : (set : Entries) → 0 < length set → has_entries set ≡ true
-entries_some [] lt = absurd (omega arith)
-entries_some (e ∷ es) lt = refl
-
 entries_none : (set : Entries) → has_entries set ≡ false → set ≡ []
 entries_none [] h = refl
 entries_none (e ∷ es) h = absurd (cc)

@@ -10,7 +10,7 @@ use Rattle.rule_witnesses.proofs.matched.nodes_with_entries.Goals as goal
 pub loop-s-preserved : goal.loop-s-preserved
 loop-s-preserved c =
     node_next (λ s. has_entries (set_at c.args.sets.now c.args.part s)) c.loop-s.nodes c.in_ok-nodes.nodes c.loop-s.s (has_entries c.at.result.now)
-    c.loop-s.invariant c.in_ok-nodes.ensures (ap has_entries c.at.ensures.set)
+    c.loop-s.invariant c.in_ok-nodes.ensures.nodes (ap has_entries c.at.ensures.set)
 
 pub returns : goal.returns
 returns c =

@@ -1,3 +1,4 @@
+pub mod TakenLemmas
 pub mod ExportLemmas
 pub mod RuleLemmas
 pub mod FaultLemmas

@@ -2,10 +2,11 @@
 ghost use Rattle.std.specs.Prelude.{◌≡◌, ◌++◌, IfOk};
 ghost use Rattle.smpl_file.specs.Exports as told;
 
+use crate::taken::Taken;
 use c_terms::NoMemory;
 use smpl_meta::Earlier;
 use smpl_patch::VarDecl;
-use smpl_terms::{Var, same_var};
+use smpl_terms::Var;
 use sqlite_items::Items;
 use std::alloc::Global;
 
@@ -56,8 +57,7 @@ fn with_rule(
     }
 }
 
-/// All variables that rules take from other rules. Linear in the declarations.
-pub fn taken(alloc: Global, heads: &Earlier) -> Result<Items<Var>, NoMemory>
+fn taken_vars(alloc: Global, heads: &Earlier) -> Result<Items<Var>, NoMemory>
     ensures { IfOk result (λ vs. vs ≡ told.taken heads.now.heads) }
 {
     let mut known = Items::new(alloc);
@@ -67,30 +67,29 @@ pub fn taken(alloc: Global, heads: &Earlier) -> Result<Items<Var>, NoMemory>
     Ok(known)
 }
 
-fn has_var(known: &[Var], x: &Var) -> bool
-    ensures { result ≡ told.has_var known.now x.now }
+/// All variables that rules take from other rules. Linear in the declarations, where no hashes collide.
+pub fn taken(alloc: Global, heads: &Earlier) -> Result<Taken, NoMemory>
+    ensures { IfOk result (λ vs. vs ≡ told.taken heads.now.heads) }
 {
-    for v in known {
-        if same_var(v, x) {
-            return true;
-        }
+    Taken::of(alloc, taken_vars(alloc, heads)?)
+}
+
+fn is_exported(alloc: Global, known: &Taken, d: &VarDecl) -> Result<bool, NoMemory>
+    ensures { IfOk result (λ b. b ≡ told.is_exported known.now d.now) }
+{
+    if d.inherited {
+        return Ok(false);
     }
-    false
+    known.has(alloc, &d.var)
 }
 
-fn is_exported(known: &[Var], d: &VarDecl) -> bool
-    ensures { result ≡ told.is_exported known.now d.now }
-{
-    !d.inherited && has_var(known, &d.var)
-}
-
-/// The own variables of a rule that are among these, in declared order. For each of them all of these may be looked at.
-pub fn exports_of(alloc: Global, known: &[Var], vars: &[VarDecl]) -> Result<Items<Var>, NoMemory>
+/// The own variables of a rule that are among these, in declared order. One look-up for each of them.
+pub fn exports_of(alloc: Global, known: &Taken, vars: &[VarDecl]) -> Result<Items<Var>, NoMemory>
     ensures { IfOk result (λ xs. xs ≡ told.exports_of known.now vars.now) }
 {
     let mut exports = Items::new(alloc);
     for d in vars {
-        if is_exported(known, d) {
+        if is_exported(alloc, known, d)? {
             exports.push(d.var.copy(alloc)?)?;
         }
     }

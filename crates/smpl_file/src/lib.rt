@@ -21,6 +21,7 @@ mod depends;
 mod exports;
 mod laws;
 mod rules;
+mod taken;
 
 use crate::rules::rules_of;
 pub use laws::patches_are_read_once;

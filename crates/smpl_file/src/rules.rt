@@ -10,13 +10,13 @@ ghost use Rattle.smpl_file.specs.Patches as told;
 
 use crate::depends::copy_dep;
 use crate::exports::{exports_of, taken};
+use crate::taken::Taken;
 use c_terms::NoMemory;
 use smpl_body::read_body;
 use smpl_lexer::PatchText;
 use smpl_meta::{Earlier, RuleHead};
 use smpl_patch::{Elem, PatToken, Patch, PatchFault, Rule, VarDecl};
 use smpl_plus::anchor;
-use smpl_terms::Var;
 use sqlite_items::Items;
 use std::alloc::Global;
 
@@ -34,7 +34,7 @@ fn copy_vars(alloc: Global, vars: &[VarDecl]) -> Result<Items<VarDecl>, NoMemory
 fn made_rule(
     alloc: Global,
     head: &RuleHead,
-    known: &[Var],
+    known: &Taken,
     tokens: Items<PatToken>,
     body: Items<Elem>,
 ) -> Result<Rule, NoMemory>
@@ -62,7 +62,7 @@ fn rule_of(
     text: &PatchText,
     rule: u32,
     head: &RuleHead,
-    known: &[Var],
+    known: &Taken,
 ) -> Result<Rule, PatchFault>
     requires within { rule < length text.now.rules }
     requires small { IsSmall text.now }
@@ -82,7 +82,7 @@ fn rule_at(
     text: &PatchText,
     rule: u32,
     heads: &Earlier,
-    known: &[Var],
+    known: &Taken,
 ) -> Result<Rule, PatchFault>
     requires within { rule < length text.now.rules }
     requires small { IsSmall text.now }
@@ -102,7 +102,7 @@ fn rules_under(
     alloc: Global,
     text: &PatchText,
     heads: &Earlier,
-    known: &[Var],
+    known: &Taken,
 ) -> Result<Items<Rule>, PatchFault>
     requires small { IsSmall text.now }
     requires heads { AreHeads text.now [] text.now.rules heads.now.heads }
@@ -129,7 +129,7 @@ pub fn rules_of(alloc: Global, text: PatchText, heads: &Earlier) -> Result<Patch
         (λ fault. OrNoMemory (told.IsFirstRuleFault text heads.now.heads) fault) }
 {
     let known = taken(alloc, heads)?;
-    let rules = rules_under(alloc, &text, heads, known.as_slice())?;
+    let rules = rules_under(alloc, &text, heads, &known)?;
     let PatchText { virtuals, rules: _ } = text;
     Ok(Patch { virtuals, rules })
 }

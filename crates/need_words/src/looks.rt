@@ -92,6 +92,7 @@ fn runs_of(alloc: Global, spot: Spot, forms: &[Tree]) -> Result<Vec<Look>, NoMem
 {
     let mut looks = Vec::new(alloc);
     let mut next = 0;
+    // Each round takes one form at least.
     for _n in 0..forms.len() {
         if next == forms.len() {
             return Ok(looks);
@@ -107,8 +108,8 @@ fn runs_of(alloc: Global, spot: Spot, forms: &[Tree]) -> Result<Vec<Look>, NoMem
 /// The looks of the pattern, for [`solve_by`](crate::solve_by): its forms in runs that need the same word, one after another.
 /// A pattern of fewer than eight forms has none.
 ///
-/// Each form is gone through up to its first word, and where that is another than the run's, as a whole once more. The one
-/// error is want of memory.
+/// Each form is gone through up to the run's word; one that lacks it as a whole, and then up to its own first word and
+/// that word again. The one error is want of memory.
 pub fn looks_of(alloc: Global, p: &Pattern) -> Result<Vec<Look>, NoMemory>
     ensures { IfOk result (λ looks. of.AreLooks p.now looks.items) }
 {

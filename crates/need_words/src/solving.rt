@@ -55,7 +55,7 @@ fn lacking(word: &[u8], tree: &Tree, left: usize) -> Option<usize>
     }
 }
 
-/// Whether there is a word, and the tree lacks it. A tree of more parts than that isn't gone through.
+/// Whether there is a word, and the tree is seen to lack it: true only where it does. No more than so many parts are gone over.
 fn is_absent(word: &Option<Text>, most: usize, tree: &Tree) -> bool
     ensures { result ≡ true → of.is_absent word.now tree.now ≡ true }
 {
@@ -165,9 +165,9 @@ fn solve_runs(
 /// The environments under which the pattern matches at the node, as `solve` of pat_match gives them, where the looks are
 /// the pattern's. Where there are none, all forms are tried.
 ///
-/// A run's word is looked for in the node's tree, and its forms are tried only where the tree has it. So where no word of
-/// the pattern is there, this costs each run at most a step for each part of the tree, and no step a form. A tree of more
-/// than 32 parts for each form of a run isn't gone through: then these forms are tried, as `solve` tries all.
+/// A run's word is looked for in the node's tree, over at most 32 parts for each form of the run, and its forms are left
+/// out where the tree is seen to lack it. So where no word of the pattern is there, a small tree costs each run a step a
+/// part and no step a form; in a larger one the forms are tried, as `solve` tries all.
 pub fn solve_by(
     alloc: Global,
     looks: &[Look],

@@ -22,11 +22,11 @@ pub record AreAdded (more : Pairs → List RuleWitness) (envs : List Pairs) (old
   pub count : length new ≡ length old
   pub each : (k : ℕ) → k < length envs → found_at new k ≡ found_at old k ++ map bare_witness (more (env_at envs k))
 
--- under none of the environments is it so
+-- under none of the environments is it too much
 abbrev pub AreSmall : (Pairs → Bool) → List Pairs → Type 0
 AreSmall is_large envs = (k : ℕ) → k < length envs → is_large (env_at envs k) ≡ false
 
--- under one of the environments it is so
+-- under one of them it is
 abbrev pub IsLargeSomewhere : (Pairs → Bool) → List Pairs → Type 0
 IsLargeSomewhere is_large envs = (k : ℕ) × ((k < length envs) × (is_large (env_at envs k) ≡ true))
 

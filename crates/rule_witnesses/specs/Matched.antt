@@ -8,6 +8,7 @@ use Rattle.ctl_formula.specs.Formulas.{FormulaOf}
 use Rattle.ctl_fixpoint.specs.States.{AreStateSets}
 use Rattle.wit_trees.specs.Forest.{numbers}
 
+-- the set has an entry; one that has none stands for no environment
 abbrev pub has_entries : Entries → Bool
 has_entries [] = false
 has_entries (e ∷ es) = true

@@ -150,6 +150,7 @@ pub fn item_witnesses(
     ensures too_many { result ≡ Err fault.TooMany → 1000000 < nodes_of
         (witnesses_of f.now g.now exports.now rule item env.now) }
 {
+    // Its clause says that the graph is sound, which the proof asks for.
     let _count = g.count();
     let root = root_of(f)?;
     let sets = &matched.sets;

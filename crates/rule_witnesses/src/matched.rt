@@ -67,8 +67,8 @@ fn nodes_with_entries(
     Ok(nodes)
 }
 
-/// The sets of a formula in the graph of one item, and the nodes at which it holds under some environment. Its patterns' sure
-/// variables stand in them.
+/// The sets of a formula in the graph of one item, and the nodes, rising, at which the set of the whole formula has an
+/// entry: it holds at no other. Its patterns' sure variables stand in them.
 ///
 /// `NoMemory`: memory was refused, or the formula's table has 2^32 nodes.
 ///

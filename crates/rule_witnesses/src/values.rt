@@ -104,8 +104,9 @@ fn excludes(set: &EnvSet, vars: &[Var], env: &Env) -> bool
 /// The environment with each choice of values of the variables under which the set has it: in the order of values, the
 /// first variable slowest. The set leaves each variable finitely many values.
 ///
-/// A set without entries has none. Without variables the entries are asked for the environment alone. For n variables the set is
-/// projected n times, and then gone over once for each environment that has a value more.
+/// A set without entries has none. Without variables the set is first asked for the environment, and one that lacks it is
+/// not copied. For n variables the set is projected n times, and then gone over once for each environment that has a value
+/// more.
 pub fn choices(alloc: Global, set: &EnvSet, vars: &[Var], env: &Env) -> Result<Vec<Env>, NoMemory>
     requires new { of.AreNew vars.now env.now }
     ensures envs { IfOk result (λ envs. (values : List Datum) → of.Leaves values vars.now set.now env.now →

@@ -3,32 +3,25 @@ use Rattle.std.proofs.Common.{sym, subst, List, [], ◌∷◌}
 use Rattle.std.specs.Prelude.{All}
 use Rattle.std.specs.List.{AllZip}
 use Rattle.std.proofs.lemmas.List.Elements.{All-head, All-tail}
-use Rattle.smpl_terms.specs.declared.var.Var.{Var}
 use Rattle.smpl_patch.specs.declared.rule.Rule.{Rule}
 use Rattle.rule_formulas.specs.declared.prepared.PreparedRule.{PreparedRule}
 use Rattle.rule_formulas.specs.Prepared.{IsPrepared}
-use Rattle.rule_envs.specs.Inherited.{inherited_of}
-use Rattle.rule_laws.specs.Apart as apart
-use Rattle.rule_laws.specs.Ready as ready
+use Rattle.rule_laws.specs.Ready.{IsReady}
 use Rattle.rule_laws.proofs.ReadyLemmas.{made-stands, made-binds}
 use Rattle.rule_turn.specs.Turns.{AreApart}
 use Rattle.rule_chain.specs.Asked.{MayRun}
 
-same-apart : (xs inherited : List Var) → apart.AreApart xs inherited → AreApart xs inherited
-same-apart [] inherited h = tt
-same-apart (x ∷ xs) inherited h = (h.0, h.1, same-apart xs inherited h.2)
-
-one-may : (r : Rule) (p : PreparedRule) → ready.MayRun r → IsPrepared r p → MayRun r p
+one-may : (r : Rule) (p : PreparedRule) → IsReady r → IsPrepared r p → MayRun r p
 one-may r p may is = record {
   stand = made-stands r p.formula may is.formula;
   binds = made-binds r p.formula may is.formula;
-  apart = subst (AreApart r.exports) (sym is.inherited) (same-apart r.exports (inherited_of r) may.apart);
+  apart = subst (AreApart r.exports) (sym is.inherited) may.apart;
   even = may.even;
 }
 
-pub all-may : (rs : List Rule) (ps : List PreparedRule) → All ready.MayRun rs → AllZip IsPrepared rs ps → AllZip MayRun rs ps
+pub all-may : (rs : List Rule) (ps : List PreparedRule) → All IsReady rs → AllZip IsPrepared rs ps → AllZip MayRun rs ps
 all-may [] [] may are = tt
 all-may [] (p ∷ ps) may are = absurd are
 all-may (r ∷ rs) [] may are = absurd are
 all-may (r ∷ rs) (p ∷ ps) may are =
-    (one-may r p (All-head ready.MayRun r rs may) are.0, all-may rs ps (All-tail ready.MayRun r rs may) are.1)
+    (one-may r p (All-head IsReady r rs may) are.0, all-may rs ps (All-tail IsReady r rs may) are.1)

@@ -36,7 +36,7 @@ use Rattle.edit_walk.specs.Touches.{Values, Touched, bound, touches_in, touches_
 use Rattle.edit_walk.specs.Named.{pattern_of, kind_at, tree_at, pairs_of, pairs_at}
 use Rattle.edit_walk.specs.Edited.{IsEditAt, AreEdits}
 use Rattle.edit_walk.proofs.TouchLemmas.{touches-Touch, touches-Bind}
-use Rattle.edit_laws.specs.Bare.{bare_step, bare_tree, bare_witness}
+use Rattle.rule_witnesses.specs.Bare.{bare_step, bare_tree, bare_witness}
 use Rattle.edit_laws.proofs.AlignLemmas.{aligned_alike}
 use Rattle.edit_laws.proofs.ValueLemmas.{bare_alike, bare_bound, block_alike, end_alike}
 

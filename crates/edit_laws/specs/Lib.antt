@@ -1,2 +1,1 @@
--- What the laws rest on: witnesses without the ids of their values.
-pub mod Bare
+-- No words of its own: those of rule_witnesses and edit_walk.

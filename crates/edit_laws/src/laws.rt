@@ -10,7 +10,7 @@ ghost use Rattle.edit_conflict.specs.declared.edit.Edit.{Edit};
 ghost use Rattle.edit_marks.specs.Edits.{ArePlainInserts};
 ghost use Rattle.edit_unparse.specs.Fair.{has_plain_inserts};
 ghost use Rattle.edit_walk.specs.Edited.{AreEdits};
-ghost use Rattle.edit_laws.specs.Bare.{bare_witness};
+ghost use Rattle.rule_witnesses.specs.Bare.{bare_witness};
 
 /// Inserts whose texts are cut into blanks and tokens that are no Strays are fair.
 pub fn plain_inserts_are_fair()

@@ -20,8 +20,8 @@ use Rattle.rule_envs.specs.Inherited.{inherited_by}
 use Rattle.iso_expand.specs.Bodies.{expanded_pattern}
 use Rattle.iso_expand.specs.Patches.{IsExpandedRule, AreExpanded}
 use Rattle.iso_formulas.specs.Formulas.{expanded_formula}
-use Rattle.rule_laws.specs.Apart.{AreApart}
-use Rattle.rule_laws.specs.Ready.{MayRun}
+use Rattle.rule_turn.specs.Turns.{AreApart}
+use Rattle.rule_laws.specs.Ready.{IsReady}
 
 -- what holds of each pattern of a formula, and then of the pattern with all forms, holds of each of the formula with all forms
 each-expanded : (isos : List Iso) (tokens : List PatToken) (P : Pattern → Type 0) → ((p : Pattern) → P p → P (expanded_pattern isos tokens p))
@@ -57,7 +57,7 @@ module _ (isos : List Iso)
     (stay : Stays stands) (surely : Stays sure)
     (binds : (is : List Iso) (r s : Rule) (x : Var) → IsExpandedRule is r s
     → bound (sure s.vars s.tokens) (formula_of s) x ≡ bound (sure r.vars r.tokens) (formula_of r) x) where
-  rule-ready : (r s : Rule) → IsExpandedRule isos r s → MayRun r → MayRun s
+  rule-ready : (r s : Rule) → IsExpandedRule isos r s → IsReady r → IsReady s
   rule-ready r s is may =
       let own : EachPattern (SureStand r.vars r.tokens) (formula_of s) =
       subst (EachPattern (SureStand r.vars r.tokens)) (sym (formula isos r s is))
@@ -77,7 +77,7 @@ module _ (isos : List Iso)
         even = subst HaveEvenBlocks (sym is.tokens) may.even;
       }
 
-  pub rules-ready : (rs ss : List Rule) → AreExpanded isos rs ss → AllByRecursion MayRun rs → AllByRecursion MayRun ss
+  pub rules-ready : (rs ss : List Rule) → AreExpanded isos rs ss → AllByRecursion IsReady rs → AllByRecursion IsReady ss
   rules-ready [] [] are may = tt
   rules-ready [] (s ∷ ss) are may = absurd are
   rules-ready (r ∷ rs) [] are may = absurd are

@@ -1,9 +1,10 @@
 -- What edits make of a page.
-use Rattle.std.specs.Prelude.{ℕ, ◌≡◌, ◌+◌, Bool, true, false, not, ◌||◌, cond, nat_lt, Option, None, Some, List, [], ◌∷◌, length}
-use Rattle.std.specs.List.{list_any, filter}
+use Rattle.std.specs.Prelude.{ℕ, ◌≡◌, Bool, true, false, not, ◌||◌, cond, Option, None, Some, List, [], ◌∷◌}
+use Rattle.std.specs.List.{list_any}
 use Rattle.c_lexer.specs.Pieces.{TextPiece, text_of}
 use Rattle.c_lexer.specs.Ids.{ids_of}
 use Rattle.edit_conflict.specs.declared.edit.Edit.{Edit}
+use Rattle.edit_unparse.specs.NextId.{free_id}
 use Rattle.edit_unparse.specs.Output.{output_of}
 use Rattle.rule_edits.specs.declared.texts.NewText.{NewText}
 
@@ -24,17 +25,13 @@ changes e = not (is_empty e.removed) || not (is_empty e.inserts)
 abbrev pub is_edited : List Edit → Bool
 is_edited edits = list_any changes edits
 
--- ids that were used before are below next, and those of new tokens count on from it: the next one after them
-abbrev pub next_after : ℕ → List ℕ → ℕ
-next_after next ids = next + length (filter (λ id. not (nat_lt id next)) ids)
-
 -- the page of pieces that have just been read
 abbrev pub old_page : ℕ → List TextPiece → Page
 old_page next pieces = record { bytes = text_of pieces; ids = ids_of pieces; next = next }
 
 -- the page of pieces that edits have made
 abbrev pub page_of : ℕ → List TextPiece → Page
-page_of next pieces = record { bytes = text_of pieces; ids = ids_of pieces; next = next_after next (ids_of pieces) }
+page_of next pieces = record { bytes = text_of pieces; ids = ids_of pieces; next = free_id next (ids_of pieces) }
 
 -- the page after the edits: the old one, where none of them changes anything
 abbrev pub page_after : ℕ → List TextPiece → List Edit → Page

@@ -17,7 +17,7 @@ use Rattle.ctl_translate.specs.Rules.{formula_of}
 use Rattle.ctl_translate.specs.Answers.{IsFormulaOf}
 use Rattle.smpl_formed.specs.Bodies.{AllStand}
 use Rattle.smpl_sound.specs.Parts.{EachHas}
-use Rattle.rule_laws.specs.Ready.{MayRun}
+use Rattle.rule_laws.specs.Ready.{IsReady}
 use Rattle.rule_laws.proofs.RuleLemmas.{rule-has}
 use Rattle.rule_laws.proofs.ApartLemmas.{Apart}
 use Rattle.rule_laws.proofs.EvenLemmas.{Even}
@@ -41,20 +41,20 @@ rules-stand (r ∷ rs) h =
 -- ---- all together
 
 pub rules-run : (rs : List Rule) → AllByRecursion Stand rs → AllByRecursion Binds rs → AllByRecursion Apart rs → AllByRecursion Even rs
-    → AllByRecursion MayRun rs
+    → AllByRecursion IsReady rs
 rules-run [] s b a e = tt
 rules-run (r ∷ rs) s b a e =
     (record { stand = s.0; binds = b.0; apart = a.0; even = e.0 }, rules-run rs s.1 b.1 a.1 e.1)
 
 -- ---- the formula that was made
 
-pub made-stands : (r : Rule) (f : FormulaOf) → MayRun r → IsFormulaOf r f → EachPattern (SureStand f.decls f.tokens) (plain f)
+pub made-stands : (r : Rule) (f : FormulaOf) → IsReady r → IsFormulaOf r f → EachPattern (SureStand f.decls f.tokens) (plain f)
 made-stands r f ready is =
     subst (λ (ds : List VarDecl). EachPattern (SureStand ds f.tokens) (plain f)) (sym is.decls)
     (subst (λ (ts : List PatToken). EachPattern (SureStand r.vars ts) (plain f)) (sym is.tokens)
     (subst (EachPattern (SureStand r.vars r.tokens)) (sym is.formula) ready.stand))
 
-pub made-binds : (r : Rule) (f : FormulaOf) → MayRun r → IsFormulaOf r f → list_all (bound (sure f.decls f.tokens) (plain f)) r.exports ≡ true
+pub made-binds : (r : Rule) (f : FormulaOf) → IsReady r → IsFormulaOf r f → list_all (bound (sure f.decls f.tokens) (plain f)) r.exports ≡ true
 made-binds r f ready is =
     ap (λ (ds : List VarDecl). list_all (bound (sure ds f.tokens) (plain f)) r.exports) is.decls
     ∙ ap (λ (ts : List PatToken). list_all (bound (sure r.vars ts) (plain f)) r.exports) is.tokens

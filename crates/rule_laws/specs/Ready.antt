@@ -9,9 +9,9 @@ use Rattle.ctl_holds.specs.Parts.{EachPattern}
 use Rattle.ctl_holds.specs.BoundLaw.{SureStand}
 use Rattle.edit_marks.specs.Edits.{HaveEvenBlocks}
 use Rattle.rule_envs.specs.Inherited.{inherited_of}
-use Rattle.rule_laws.specs.Apart.{AreApart}
+use Rattle.rule_turn.specs.Turns.{AreApart}
 
-pub record MayRun (rule : Rule) : Type 0 where
+pub record IsReady (rule : Rule) : Type 0 where
   -- in each pattern of its formula the sure variables stand
   pub stand : EachPattern (SureStand rule.vars rule.tokens) (formula_of rule)
   -- the formula binds each exported variable

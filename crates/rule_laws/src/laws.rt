@@ -21,8 +21,8 @@ ghost use Rattle.ctl_translate.specs.declared.rule.FormulaFault.TheVariants as f
 ghost use Rattle.edit_marks.specs.Edits.{HaveEvenBlocks};
 ghost use Rattle.rule_envs.specs.Inherited.{inherited_of};
 ghost use Rattle.rule_formulas.specs.Prepared.{IsPrepareFault};
-ghost use Rattle.rule_laws.specs.Apart.{AreApart};
-ghost use Rattle.rule_laws.specs.Ready.{MayRun};
+ghost use Rattle.rule_turn.specs.Turns.{AreApart};
+ghost use Rattle.rule_laws.specs.Ready.{IsReady};
 
 use rule_formulas::exported_variables_are_bound;
 use smpl_all_sound::spelled_patches_are_sound;
@@ -82,10 +82,10 @@ pub fn rules_have_formulas()
 ///
 /// Does nothing.
 pub fn rules_may_run()
-    ensures rules { (bytes : List ℕ) (patch : Whole) → IsPatchOf bytes patch → All MayRun patch.rules }
-    ensures stand { (rule : PatchRule) (f : FormulaOf) → MayRun rule → IsFormulaOf rule f →
+    ensures rules { (bytes : List ℕ) (patch : Whole) → IsPatchOf bytes patch → All IsReady patch.rules }
+    ensures stand { (rule : PatchRule) (f : FormulaOf) → IsReady rule → IsFormulaOf rule f →
         EachPattern (SureStand f.decls f.tokens) (plain f) }
-    ensures binds { (rule : PatchRule) (f : FormulaOf) → MayRun rule → IsFormulaOf rule f →
+    ensures binds { (rule : PatchRule) (f : FormulaOf) → IsReady rule → IsFormulaOf rule f →
         list_all (bound (sure f.decls f.tokens) (plain f)) rule.exports ≡ true }
 {
     patches_are_sound();

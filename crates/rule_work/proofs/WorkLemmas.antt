@@ -3,18 +3,13 @@ use Rattle.std.proofs.Common.{◌≡◌, ◌<◌, ◌≤◌, ◌⊎◌, inl, inr
 use Rattle.std.proofs.Math.Path.{subst₂, subst₃}
 use Rattle.std.proofs.lemmas.List.{map-append, length-map}
 use Rattle.smpl_patch.specs.declared.rule.Rule.{Rule}
-use Rattle.smpl_patch.specs.declared.witness.Witness.{Witness}
-use Rattle.smpl_patch.specs.declared.witness.Witness.TheOpen.{Witness-F}
-use Rattle.smpl_patch.specs.declared.witness.Witness.TheFolds.{fold-Witness}
 use Rattle.smpl_patch.specs.declared.witness.RuleWitness.{RuleWitness}
 use Rattle.cpp_lines.specs.declared.reading.Item.{Item}
 use Rattle.c_file.specs.File.{FileItems}
-use Rattle.env_parts.specs.Parts.{bare_env}
 use Rattle.edit_conflict.specs.declared.edit.Edit.{Edit}
 use Rattle.edit_walk.specs.Edited.{AreEdits}
-use Rattle.edit_laws.specs.Bare as laws
 use Rattle.edit_laws.proofs.BareEdits.{edits_with}
-use Rattle.rule_witnesses.specs.Bare.{bare_step, bare_witness}
+use Rattle.rule_witnesses.specs.Bare.{bare_witness}
 use Rattle.rule_envs.specs.declared.carrier.Carrier.{Carrier}
 use Rattle.rule_envs.specs.Shares.{bare_carrier}
 use Rattle.rule_envs.specs.Carriers.{most_environments}
@@ -36,14 +31,7 @@ use Rattle.rule_work.specs.OneRule.{IsFault}
 use Rattle.rule_work.specs.OneRule.IsFault.{too_many_witnesses, too_many_environments, in_edits}
 use Rattle.rule_work.specs.Worked.{AreFindingsOf, IsAtReading, Works}
 
--- ---- witnesses without ids, in the words of two crates
-
-same_step : (w : Witness-F Witness) → laws.bare_step w ≡ bare_step w
-same_step (Witness-F.Touch n a p) = refl
-same_step (Witness-F.Bind n x v ws) = refl
-
-same_bare : (ws : List RuleWitness) → map laws.bare_witness ws ≡ map bare_witness ws
-same_bare ws = λ i. map (λ (w : RuleWitness). record w { env = bare_env w.env; forest = map (fold-Witness Witness (λ x. same_step x i)) w.forest }) ws
+-- ---- witnesses without ids
 
 had-bare : (had : List ℕ) (number : ℕ) (ws : List RuleWitness) → had_after had number (map bare_witness ws) ≡ had_after had number ws
 had-bare had number [] = refl
@@ -95,7 +83,7 @@ module _ (defined : List (List ℕ)) (number : ℕ) (rule : Rule) (file : FileIt
         → AreEdits passed rule file.items (kinds_of file.items) file.pieces edits → RuleEdits defined number rule s edits
     rule_edits ws passed edits same is are =
         subst₃ (λ w its ps. AreEdits w rule its (kinds_of its) ps edits)
-        (same_bare passed ∙ ap (map bare_witness) same ∙ is ∙ sym found_as) (sym reading.items) (sym reading.pieces)
+        (ap (map bare_witness) same ∙ is ∙ sym found_as) (sym reading.items) (sym reading.pieces)
         (edits_with rule file.items (kinds_of file.items) file.pieces passed edits are)
 
   -- what is left

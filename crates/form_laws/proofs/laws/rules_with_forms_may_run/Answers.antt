@@ -1,6 +1,6 @@
 use Rattle.std.proofs.Common.{◌∙◌}
 use Rattle.std.proofs.lemmas.List.Elements.{All-from_recursion, recursion_from_All}
-use Rattle.rule_laws.specs.Ready.{MayRun}
+use Rattle.rule_laws.specs.Ready.{IsReady}
 use Rattle.chain_laws.proofs.AskedLemmas.{all-may}
 use Rattle.form_laws.proofs.ReadyLemmas.{rules-ready, few-rules}
 use Rattle.form_laws.proofs.laws.rules_with_forms_may_run.Goals as goal
@@ -11,9 +11,9 @@ returns c =
     record {
       may = λ bytes isos patch whole prepared of is are.
           all-may whole.rules prepared
-          (All-from_recursion MayRun whole.rules
+          (All-from_recursion IsReady whole.rules
           (rules-ready isos shape.formula shape.stands shape.sure shape.bound patch.rules whole.rules is.rules
-          (recursion_from_All MayRun patch.rules (c.rules_may_run.ensures.rules bytes patch of))))
+          (recursion_from_All IsReady patch.rules (c.rules_may_run.ensures.rules bytes patch of))))
           are;
       fault = λ bytes isos patch whole f of is found.
           c.rules_have_formulas.ensures.fault whole f (c.accepted_patches_stay_accepted.ensures.fault isos patch whole is ∙ of.checked) found;

@@ -1,5 +1,5 @@
 // The values of some variables under which a set has an environment.
-ghost use Rattle.std.specs.Prelude.{◌≡◌, ◌<◌, ◌∷◌, [], true, false, None, List, IfOk, map, length};
+ghost use Rattle.std.specs.Prelude.{◌≡◌, ◌<◌, ◌∷◌, [], true, None, List, IfOk, cond, map, length};
 ghost use Rattle.std.specs.List.{All, filter, list_any};
 ghost use Rattle.smpl_terms.specs.Environments.{total, value_in};
 ghost use Rattle.smpl_terms.specs.Values.{same};
@@ -93,20 +93,22 @@ fn all_extended(
     Ok(envs)
 }
 
-/// Whether no variable is to be given a value, and the set doesn't have the environment. Takes no memory.
-fn excludes(set: &EnvSet, vars: &[Var], env: &Env) -> bool
-    ensures none { result ≡ true → vars.now ≡ [] }
-    ensures absent { result ≡ true → set_denotes set.now (total env.now) ≡ false }
+/// The environment itself, where the set has it.
+fn itself(alloc: Global, set: &EnvSet, env: &Env) -> Result<Vec<Env>, NoMemory>
+    ensures { IfOk result (λ envs. envs.items ≡ cond (set_denotes set.now (total env.now)) (env.now ∷ []) []) }
 {
-    vars.is_empty() && !denotes(set, env)
+    let mut envs = Vec::new(alloc);
+    if denotes(set, env) {
+        envs.push(env.copy(alloc)?)?;
+    }
+    Ok(envs)
 }
 
 /// The environment with each choice of values of the variables under which the set has it: in the order of values, the
 /// first variable slowest. The set leaves each variable finitely many values.
 ///
-/// A set without entries has none. Without variables the set is first asked for the environment, and one that lacks it is
-/// not copied. For n variables the set is projected n times, and then gone over once for each environment that has a value
-/// more.
+/// A set without entries has none. Without variables the set is asked for the environment alone. For n variables it is
+/// projected n times, and then gone over once for each environment that has a value more.
 pub fn choices(alloc: Global, set: &EnvSet, vars: &[Var], env: &Env) -> Result<Vec<Env>, NoMemory>
     requires new { of.AreNew vars.now env.now }
     ensures envs { IfOk result (λ envs. (values : List Datum) → of.Leaves values vars.now set.now env.now →
@@ -116,8 +118,8 @@ pub fn choices(alloc: Global, set: &EnvSet, vars: &[Var], env: &Env) -> Result<V
     if set.is_none() {
         return Ok(Vec::new(alloc));
     }
-    if excludes(set, vars, env) {
-        return Ok(Vec::new(alloc));
+    if vars.is_empty() {
+        return itself(alloc, set, env);
     }
     let sets = open_sets(alloc, set, vars)?;
     if !denotes(&sets[vars.len()], env) {

@@ -1,5 +1,7 @@
-use Rattle.std.proofs.Common.{◌≡◌, [], ◌∷◌, List, sym, ap, ◌∙◌, cond, subst, map}
+use Rattle.std.proofs.Common.{◌≡◌, [], ◌∷◌, List, sym, ap, ◌∙◌, cond, subst, length, map}
 use Rattle.std.specs.List.{filter}
+use Rattle.std.proofs.lemmas.Bool.{eqb-true}
+use Rattle.std.proofs.lemmas.List.{nil_from_length}
 use Rattle.std.proofs.lemmas.Result.{IfOk-weaker}
 use Rattle.smpl_terms.specs.declared.value.Value.{Value}
 use Rattle.smpl_terms.specs.Environments.{total}
@@ -18,13 +20,23 @@ returns-then-is_none c = record {
       ∙ empty_set c.args.set.now (c.is_none.ensures.none c.if-is_none.true) (rules.choices (rules.in_order values) c.args.vars.now c.args.env.now);
 }
 
-pub returns-then-excludes : goal.returns-then-excludes
-returns-then-excludes c = record {
-  envs = λ values leaves. ap (map bare_env) c.new-then-excludes.ensures.items
-      ∙ sym (ap (λ vars. map bare_env (filter (λ e. set_denotes c.args.set.now (total e)) (rules.choices (rules.in_order values) vars c.args.env.now)))
-      (c.excludes.ensures.none c.if-excludes.true)
-      ∙ ap (λ b. map bare_env (cond b (c.args.env.now ∷ []) [])) (c.excludes.ensures.absent c.if-excludes.true));
-}
+pub returns-then-is_empty : goal.returns-then-is_empty
+returns-then-is_empty c =
+    let set = c.args.set.now in
+    let env = c.args.env.now in
+    let none : c.args.vars.now ≡ [] =
+    nil_from_length c.args.vars.now (eqb-true (length c.args.vars.now) 0 (sym c.is_empty.ensures ∙ c.if-is_empty.true)) in
+    record {
+      envs = IfOk-weaker c.itself.result
+          (λ envs. envs.items ≡ cond (set_denotes set (total env)) (env ∷ []) [])
+          (λ envs. (values : List Value) → Leaves values c.args.vars.now set env
+          → map bare_env envs.items
+          ≡ map bare_env (filter (λ e. set_denotes set (total e)) (rules.choices (rules.in_order values) c.args.vars.now env)))
+          (λ envs h values leaves. ap (map bare_env) h
+          ∙ sym (ap (λ vars. map bare_env (filter (λ e. set_denotes set (total e)) (rules.choices (rules.in_order values) vars env)))
+          none))
+          c.itself.ensures;
+    }
 
 pub returns-then-not-denotes : goal.returns-then-not-denotes
 returns-then-not-denotes c =

@@ -6,6 +6,7 @@ pub mod GivenLemmas
 pub mod AlikeLemmas
 pub mod SplitLemmas
 pub mod RisingLemmas
+pub mod AscendingLemmas
 pub mod MeetLemmas
 pub mod LoneLemmas
 pub mod Examples

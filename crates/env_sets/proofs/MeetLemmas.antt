@@ -34,3 +34,10 @@ known false F B O h k = refl
 pub unknown : (s F B O : Bool) → (s ≡ true → F ≡ false) → B ≡ (F || O) → (s && O) ≡ (s && B)
 unknown true F B O h k = let f = h refl in grind (arith, common_steps)
 unknown false F B O h k = refl
+
+-- one of two, and a third
+pub either_meets : (t e b : Bool) → ((t && b) || (e && b)) ≡ ((t || e) && b)
+either_meets true e true = refl
+either_meets true true false = refl
+either_meets true false false = refl
+either_meets false e b = refl

@@ -7,3 +7,5 @@ pub mod States
 pub mod Laws
 -- For inside use: how a set splits on the values of a variable.
 pub mod Splits
+-- For inside use: entries in the order of the values that they fix.
+pub mod Ascending

@@ -11,6 +11,7 @@ ghost use Rattle.env_sets.specs.Laws.{IsMeet, IsJoin, IsProjection, IsGiven};
 ghost use Rattle.env_sets.specs.Rising.{Rise};
 ghost use Rattle.env_sets.specs.Splits.{fits_if, AreGroupsOf, HaveVars};
 
+use crate::ascending::ascending_hold;
 use crate::bounds::Bound;
 use crate::entries::{Entry, entry_holds, meet_entries};
 use crate::groups::{Groups, groups_by};
@@ -330,11 +331,21 @@ fn entry_agrees(entry: &Entry, env: &Env) -> bool
 /// Whether a stands for env, which gives each variable of a its value. A variable of a without a value counts as the
 /// place 0.
 ///
-/// It looks each variable of each entry up in env, until an entry stands for it. Takes no memory.
+/// It looks each variable of an entry up in env. Where the last entries, 16 and more in all, fix the same variables in
+/// order, as those of results do, it finds by halves those of them that fix env's values, up to a variable whose values
+/// they exclude; the others it looks at one by one, until an entry stands for env. Takes no memory.
 pub fn denotes(a: &EnvSet, env: &Env) -> bool
     ensures meaning { result ≡ set_denotes a.now (total env.now) }
 {
-    for e in a.entries() {
+    let (before, ascending) = a.by_order();
+    some_hold(before, env) || ascending_hold(ascending, env)
+}
+
+/// Whether one of the entries stands for env. Takes no memory.
+fn some_hold(entries: &[Entry], env: &Env) -> bool
+    ensures { result ≡ set_denotes entries.now (total env.now) }
+{
+    for e in entries {
         if entry_holds(e, env) {
             return true;
         }

@@ -16,6 +16,7 @@
 #![tactic(auto)]
 
 mod algebra;
+mod ascending;
 mod bounds;
 mod complements;
 mod entries;

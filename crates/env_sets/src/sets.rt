@@ -2,9 +2,11 @@
 ghost use Rattle.std.specs.Prelude.{◌≡◌, ◌&&◌, ◌||◌, ◌++◌, ◌<◌, Bool, true, false, List, [], ◌∷◌, length, IfOk, option_to_list};
 ghost use Rattle.smpl_terms.specs.declared.var.Var.{Var};
 ghost use Rattle.smpl_terms.specs.Environments.{Environment};
+ghost use Rattle.env_sets.specs.Ascending.{Ascend};
 ghost use Rattle.env_sets.specs.Bounds.{fits};
 ghost use Rattle.env_sets.specs.Sets.{entry_denotes, entry_vars, set_denotes, set_vars};
 
+use crate::ascending::ascending_from;
 use crate::bounds::Bound;
 use crate::entries::{Entry, entry_covers, entry_order};
 use crate::kept::kept_of;
@@ -18,6 +20,8 @@ use std::marker::Model;
 #[derive(Drop)]
 pub struct EnvSet {
     entries: Vec<Entry>,
+    /// From this number on they are in the order of the values that they fix.
+    ascending: usize,
 }
 
 impl Model for EnvSet {
@@ -31,7 +35,12 @@ impl Model for EnvSet {
 
     ghost coded = { Prim.hlevel (codes, tree.the_row.coded) };
 
+    ghost use Rattle.std.specs.Prelude.{◌≤◌, length, drop};
+    ghost use Rattle.env_sets.specs.Ascending.{Ascend};
+
     ghost view = { λ a. a.entries.items };
+
+    ghost invariant = { λ a. (a.ascending ≤ length a.entries.items) × Ascend (drop a.ascending a.entries.items) };
 }
 
 impl EnvSet {
@@ -40,9 +49,7 @@ impl EnvSet {
         ensures entries { result ≡ [] }
         ensures meaning { (env : Environment) → set_denotes result env ≡ false }
     {
-        EnvSet {
-            entries: Vec::new(alloc),
-        }
+        EnvSet::of(Vec::new(alloc))
     }
 
     /// One entry without bounds: every environment.
@@ -52,7 +59,7 @@ impl EnvSet {
     {
         let mut entries = Vec::new(alloc);
         entries.push(Entry::all(alloc))?;
-        Ok(EnvSet { entries })
+        Ok(EnvSet::of(entries))
     }
 
     /// One entry with one bound.
@@ -63,21 +70,26 @@ impl EnvSet {
     {
         let mut entries = Vec::new(alloc);
         entries.push(Entry::one(alloc, v, bound)?)?;
-        Ok(EnvSet { entries })
+        Ok(EnvSet::of(entries))
     }
 
-    /// The set of these entries, as they stand. Takes no memory.
+    /// The set of these entries, as they stand. Of 16 entries and more it compares neighbours, from the last on, as long as
+    /// they are in order. Takes no memory.
     pub fn of(entries: Vec<Entry>) -> EnvSet
         ensures entries { result ≡ entries.items }
     {
-        EnvSet { entries }
+        let ascending = ascending_from(&entries);
+        EnvSet { entries, ascending }
     }
 
     /// The entries as a `Vec`. Takes no memory.
     pub fn into_vec(self) -> Vec<Entry>
         ensures entries { result.items ≡ self }
     {
-        let EnvSet { entries } = self;
+        let EnvSet {
+            entries,
+            ascending: _,
+        } = self;
         entries
     }
 
@@ -93,7 +105,16 @@ impl EnvSet {
         ensures { IfOk result (λ _. self.new ≡ self.old ++ e ∷ []) }
     {
         self.entries.push(e)?;
+        self.ascending = self.entries.len();
         Ok(())
+    }
+
+    /// The entries of no known order, and those that ascend.
+    pub(crate) fn by_order(&self) -> (&[Entry], &[Entry])
+        ensures entries { result.0.now ++ result.1.now ≡ self.now }
+        ensures ascend { Ascend result.1.now }
+    {
+        self.entries.split_at(self.ascending)
     }
 
     /// Whether there is no entry: no environment. Takes no memory.
@@ -120,7 +141,10 @@ impl EnvSet {
         for e in &self.entries {
             entries.push(e.copy(alloc)?)?;
         }
-        Ok(EnvSet { entries })
+        Ok(EnvSet {
+            entries,
+            ascending: self.ascending,
+        })
     }
 }
 

@@ -1,0 +1,7 @@
+use Rattle.std.proofs.Common.{◌≡◌, ◌≤◌, false, length, take}
+use Rattle.smpl_terms.specs.Environments.{total}
+use Rattle.env_sets.specs.Sets.{set_denotes}
+use Rattle.env_sets.proofs.ascending.ascending_hold.Given as goal
+
+abbrev pub invariant-loop-i : goal.invariant-loop-i
+invariant-loop-i l = set_denotes (take l.i l.entries) (total l.env) ≡ false

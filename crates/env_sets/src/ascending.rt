@@ -1,0 +1,145 @@
+// Entries in the order of the values that they fix, and a search by halves among them.
+ghost use Rattle.std.specs.Prelude.{◌≡◌, ◌≤◌, ◌<◌, ◌-◌, true, false, length, take, drop};
+ghost use Rattle.std.specs.declared.cmp.Ordering.{Ordering};
+ghost use Rattle.std.specs.declared.cmp.Ordering.TheVariants.{Less, Equal};
+ghost use Rattle.smpl_terms.specs.Values.{value_order};
+ghost use Rattle.smpl_terms.specs.Environments.{Environment, total};
+ghost use Rattle.env_sets.specs.Sets.{set_denotes};
+ghost use Rattle.env_sets.specs.Ascending.{bound_side, side, Turned, MayFollow, Ascend};
+
+use crate::bounds::Bound;
+use crate::entries::{Entry, entry_holds};
+use smpl_terms::{Env, Value, Var, same_var, value_order};
+use std::cmp::Ordering;
+
+/// Fewer entries are looked at one by one.
+const MANY: usize = 16;
+
+/// The number of an entry from which on they ascend: each fixes the same variables as the next, up to one whose values
+/// it excludes, at values that are not after those of the next. Of fewer than 16 entries it takes none. It looks at no
+/// more than do ascend, and takes no memory.
+pub fn ascending_from(entries: &[Entry]) -> usize
+    ensures within { result ≤ length entries.now }
+    ensures ascend { Ascend (drop result entries.now) }
+{
+    let count = entries.len();
+    if count < MANY {
+        return count;
+    }
+    let mut from = count;
+    while from > 0 && goes_on(entries, from) {
+        from -= 1;
+    }
+    from
+}
+
+/// Whether the entry before this number may be followed by those from it on.
+fn goes_on(entries: &[Entry], from: usize) -> bool
+    requires some { 0 < from }
+    requires within { from ≤ length entries.now }
+    ensures { result ≡ true → Ascend (drop from entries.now) → Ascend (drop (from - 1) entries.now) }
+{
+    if from == entries.len() {
+        return true;
+    }
+    may_follow(entries[from - 1].pairs(), entries[from].pairs())
+}
+
+/// Whether the second entry is not before the first; false where that is not plain.
+fn may_follow(a: &[(Var, Bound)], b: &[(Var, Bound)]) -> bool
+    ensures { result ≡ true → MayFollow a.now b.now }
+{
+    if a.len() != b.len() {
+        return false;
+    }
+    for i in 0..a.len() {
+        match pair_step(&a[i], &b[i]) {
+            Ordering::Less => return true,
+            Ordering::Equal => {}
+            Ordering::Greater => return false,
+        }
+    }
+    true
+}
+
+/// Less where the second pair may follow the first, whatever comes after them; Equal where it is left to what comes after
+/// them.
+fn pair_step(p: &(Var, Bound), q: &(Var, Bound)) -> Ordering
+    ensures less { result ≡ Less → (env : Environment) → (r s : Ordering) →
+        Turned (bound_side p.now.1 (env p.now.0) r) (bound_side q.now.1 (env q.now.0) s) }
+    ensures equal { result ≡ Equal → (env : Environment) → (r s : Ordering) → Turned r s →
+        Turned (bound_side p.now.1 (env p.now.0) r) (bound_side q.now.1 (env q.now.0) s) }
+{
+    match (&p.1, &q.1) {
+        (Bound::Is(v), Bound::Is(w)) => {
+            if same_var(&p.0, &q.0) {
+                value_order(v, w)
+            } else {
+                Ordering::Greater
+            }
+        }
+        (Bound::Not(_), Bound::Not(_)) => Ordering::Less,
+        _ => Ordering::Greater,
+    }
+}
+
+/// Whether one of the entries stands for env. The first that is not before env is found by halves, and those beside env are
+/// looked at one by one. Takes no memory.
+pub fn ascending_hold(entries: &[Entry], env: &Env) -> bool
+    requires { Ascend entries.now }
+    ensures { result ≡ set_denotes entries.now (total env.now) }
+{
+    for i in first_not_before(entries, env)..entries.len() {
+        if entry_side(entries[i].pairs(), env).is_gt() {
+            return false;
+        }
+        if entry_holds(&entries[i], env) {
+            return true;
+        }
+    }
+    false
+}
+
+/// The number of the first entry that is not before env, or how many there are.
+fn first_not_before(entries: &[Entry], env: &Env) -> usize
+    requires { Ascend entries.now }
+    ensures within { result ≤ length entries.now }
+    ensures front { set_denotes (take result entries.now) (total env.now) ≡ false }
+{
+    let (mut low, mut high) = (0, entries.len());
+    while low < high {
+        let middle = low + (high - low) / 2;
+        if entry_side(entries[middle].pairs(), env).is_lt() {
+            low = middle + 1;
+        } else {
+            high = middle;
+        }
+    }
+    low
+}
+
+/// Whether the entry is before env, after it or beside it. Of variables without a value the place 0 counts.
+fn entry_side(pairs: &[(Var, Bound)], env: &Env) -> Ordering
+    ensures { result ≡ side pairs.now (total env.now) }
+{
+    for i in 0..pairs.len() {
+        match &pairs[i].1 {
+            Bound::Not(_) => return Ordering::Equal,
+            Bound::Is(v) => match value_side(v, &pairs[i].0, env) {
+                Ordering::Equal => {}
+                unequal => return unequal,
+            },
+        }
+    }
+    Ordering::Equal
+}
+
+/// Whether v is before the variable's value or after it.
+fn value_side(v: &Value, x: &Var, env: &Env) -> Ordering
+    ensures { result ≡ value_order v.now (total env.now x.now) }
+{
+    match env.get(x) {
+        Some(value) => value_order(v, value),
+        None => value_order(v, &Value::Place(0)),
+    }
+}

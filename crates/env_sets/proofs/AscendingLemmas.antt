@@ -1,14 +1,13 @@
 -- A search by halves in entries that ascend.
-use Rattle.std.proofs.Common.{◌≡◌, ℕ, suc, zero, ◌+◌, ◌-◌, ◌<◌, ◌≤◌, Bool, true, false, ◌&&◌, ◌||◌, refl, sym, ap, ◌∙◌, subst, arith, List, [], ◌∷◌, ◌++◌, length, get_or, take, drop, take-append-drop}
-use Rattle.std.specs.List.{list_any, list_all}
+use Rattle.std.proofs.Common.{◌≡◌, ℕ, suc, zero, ◌-◌, ◌<◌, Bool, true, false, ◌&&◌, ◌||◌, refl, sym, ap, ◌∙◌, subst, arith, List, [], ◌∷◌, length, get_or, take, drop, take-append-drop}
 use Rattle.std.specs.declared.cmp.Ordering.{Ordering}
 use Rattle.std.specs.declared.cmp.Ordering.TheVariants.{Less, Equal, Greater}
-use Rattle.std.specs.Ordering.{ordering_reverse, ordering_then, is_lt, is_eq, is_gt}
+use Rattle.std.specs.Ordering.{ordering_then, is_lt, is_eq, is_gt}
 use Rattle.std.proofs.Math.Seq.{drop-cons}
 use Rattle.std.proofs.lemmas.List.Folds.{list_any-append}
 use Rattle.smpl_terms.specs.declared.var.Var.{Var}
 use Rattle.smpl_terms.specs.declared.value.Value.{Value}
-use Rattle.smpl_terms.specs.Values.{same, value_order}
+use Rattle.smpl_terms.specs.Values.{value_order}
 use Rattle.smpl_terms.specs.Environments.{Environment}
 use Rattle.smpl_terms.specs.Vars.{same_var}
 use Rattle.smpl_terms.proofs.VarLaws.{same_var-equal}
@@ -18,7 +17,7 @@ use Rattle.env_sets.specs.declared.bounds.Bound.TheVariants.{Is, Not}
 use Rattle.env_sets.specs.Bounds.{fits}
 use Rattle.env_sets.specs.Sets.{Entries, entry_denotes, set_denotes}
 use Rattle.env_sets.specs.Ascending.{bound_side, side, Turned, MayFollow, FirstMayFollow, Ascend}
-use Rattle.env_sets.proofs.RisingLemmas.{less_apart, turned}
+use Rattle.env_sets.proofs.RisingLemmas.{turned}
 
 -- orders of values beside one value
 turned_less : (o p r s : Ordering) → (p ≡ Less → o ≡ Less) → (p ≡ Equal → o ≡ Less) → Turned (ordering_then o r) (ordering_then p s)

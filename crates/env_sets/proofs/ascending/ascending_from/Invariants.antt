@@ -1,4 +1,4 @@
-use Rattle.std.proofs.Common.{◌≡◌, ◌≤◌, length, drop}
+use Rattle.std.proofs.Common.{◌≤◌, length, drop}
 use Rattle.env_sets.specs.Ascending.{Ascend}
 use Rattle.env_sets.proofs.ascending.ascending_from.Given as goal
 

@@ -1,4 +1,4 @@
-use Rattle.std.proofs.Common.{◌≡◌, ◌≤◌, false, length, take}
+use Rattle.std.proofs.Common.{◌≡◌, false, take}
 use Rattle.smpl_terms.specs.Environments.{total}
 use Rattle.env_sets.specs.Sets.{set_denotes}
 use Rattle.env_sets.proofs.ascending.ascending_hold.Given as goal

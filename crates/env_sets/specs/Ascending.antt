@@ -1,5 +1,5 @@
 -- Entries in the order of the values that they fix, so that those near an environment's values are found by halves.
-use Rattle.std.specs.Prelude.{◌≡◌, List, [], ◌∷◌}
+use Rattle.std.specs.Prelude.{ℕ, ◌≡◌, ◌≤◌, List, [], ◌∷◌, length, drop}
 use Rattle.std.specs.declared.cmp.Ordering.{Ordering}
 use Rattle.std.specs.declared.cmp.Ordering.TheVariants.{Less, Equal, Greater}
 use Rattle.std.specs.Ordering.{ordering_then}
@@ -20,14 +20,15 @@ abbrev pub side : List (Var × Bound) → Environment → Ordering
 side [] env = Equal
 side (p ∷ ps) env = bound_side p.1 (env p.0) (side ps env)
 
--- what is behind a second that is before is before too, and what follows a first that is after is after too
-abbrev pub Turned : Ordering → Ordering → Type 0
-Turned o p = (p ≡ Less → o ≡ Less) × (o ≡ Greater → p ≡ Greater)
+-- in Less < Equal < Greater the first is not behind the second
+abbrev pub NoLater : Ordering → Ordering → Type 0
+NoLater o p = (p ≡ Less → o ≡ Less) × (o ≡ Greater → p ≡ Greater)
 
 -- b may follow a, whatever the environment
 abbrev pub MayFollow : List (Var × Bound) → List (Var × Bound) → Type 0
-MayFollow a b = (env : Environment) → Turned (side a env) (side b env)
+MayFollow a b = (env : Environment) → NoLater (side a env) (side b env)
 
+-- the first of these entries, if there is one, may follow a
 abbrev pub FirstMayFollow : List (Var × Bound) → List (List (Var × Bound)) → Type 0
 FirstMayFollow a [] = Unit {0}
 FirstMayFollow a (b ∷ es) = MayFollow a b
@@ -36,3 +37,7 @@ FirstMayFollow a (b ∷ es) = MayFollow a b
 abbrev pub Ascend : List (List (Var × Bound)) → Type 0
 Ascend [] = Unit {0}
 Ascend (e ∷ es) = FirstMayFollow e es × Ascend es
+
+-- the entries ascend from this number on, which is at most how many there are
+unfoldable pub IsInOrder : ℕ → List (List (Var × Bound)) → Type 0
+IsInOrder from entries = (from ≤ length entries) × Ascend (drop from entries)

@@ -5,7 +5,7 @@ ghost use Rattle.std.specs.declared.cmp.Ordering.TheVariants.{Less, Equal};
 ghost use Rattle.smpl_terms.specs.Values.{value_order};
 ghost use Rattle.smpl_terms.specs.Environments.{Environment, total};
 ghost use Rattle.env_sets.specs.Sets.{set_denotes};
-ghost use Rattle.env_sets.specs.Ascending.{bound_side, side, Turned, MayFollow, Ascend};
+ghost use Rattle.env_sets.specs.Ascending.{bound_side, side, NoLater, MayFollow, Ascend, IsInOrder};
 
 use crate::bounds::Bound;
 use crate::entries::{Entry, entry_holds};
@@ -19,8 +19,7 @@ const MANY: usize = 16;
 /// it excludes, at values that are not after those of the next. Of fewer than 16 entries it takes none. It looks at no
 /// more than do ascend, and takes no memory.
 pub fn ascending_from(entries: &[Entry]) -> usize
-    ensures within { result ≤ length entries.now }
-    ensures ascend { Ascend (drop result entries.now) }
+    ensures { IsInOrder result entries.now }
 {
     let count = entries.len();
     if count < MANY {
@@ -62,13 +61,13 @@ fn may_follow(a: &[(Var, Bound)], b: &[(Var, Bound)]) -> bool
     true
 }
 
-/// Less where the second pair may follow the first, whatever comes after them; Equal where it is left to what comes after
-/// them.
+/// Less where the second pair may follow the first, whatever comes after them; Equal where it is left to what comes
+/// after them.
 fn pair_step(p: &(Var, Bound), q: &(Var, Bound)) -> Ordering
     ensures less { result ≡ Less → (env : Environment) → (r s : Ordering) →
-        Turned (bound_side p.now.1 (env p.now.0) r) (bound_side q.now.1 (env q.now.0) s) }
-    ensures equal { result ≡ Equal → (env : Environment) → (r s : Ordering) → Turned r s →
-        Turned (bound_side p.now.1 (env p.now.0) r) (bound_side q.now.1 (env q.now.0) s) }
+        NoLater (bound_side p.now.1 (env p.now.0) r) (bound_side q.now.1 (env q.now.0) s) }
+    ensures equal { result ≡ Equal → (env : Environment) → (r s : Ordering) → NoLater r s →
+        NoLater (bound_side p.now.1 (env p.now.0) r) (bound_side q.now.1 (env q.now.0) s) }
 {
     match (&p.1, &q.1) {
         (Bound::Is(v), Bound::Is(w)) => {
@@ -83,8 +82,8 @@ fn pair_step(p: &(Var, Bound), q: &(Var, Bound)) -> Ordering
     }
 }
 
-/// Whether one of the entries stands for env. The first that is not before env is found by halves, and those beside env are
-/// looked at one by one. Takes no memory.
+/// Whether one of the entries stands for env. The first that is not before env is found by halves, and those beside env
+/// are looked at one by one. Takes no memory.
 pub fn ascending_hold(entries: &[Entry], env: &Env) -> bool
     requires { Ascend entries.now }
     ensures { result ≡ set_denotes entries.now (total env.now) }

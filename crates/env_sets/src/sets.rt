@@ -35,12 +35,11 @@ impl Model for EnvSet {
 
     ghost coded = { Prim.hlevel (codes, tree.the_row.coded) };
 
-    ghost use Rattle.std.specs.Prelude.{◌≤◌, length, drop};
-    ghost use Rattle.env_sets.specs.Ascending.{Ascend};
+    ghost use Rattle.env_sets.specs.Ascending.{IsInOrder};
 
     ghost view = { λ a. a.entries.items };
 
-    ghost invariant = { λ a. (a.ascending ≤ length a.entries.items) × Ascend (drop a.ascending a.entries.items) };
+    ghost invariant = { λ a. IsInOrder a.ascending a.entries.items };
 }
 
 impl EnvSet {
@@ -73,8 +72,8 @@ impl EnvSet {
         Ok(EnvSet::of(entries))
     }
 
-    /// The set of these entries, as they stand. Of 16 entries and more it compares neighbours, from the last on, as long as
-    /// they are in order. Takes no memory.
+    /// The set of these entries, as they stand. Of 16 entries and more it compares neighbours, from the last on, as long
+    /// as they are in order. Takes no memory.
     pub fn of(entries: Vec<Entry>) -> EnvSet
         ensures entries { result ≡ entries.items }
     {

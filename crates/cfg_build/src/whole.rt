@@ -5,15 +5,14 @@ ghost use Rattle.cfg_build.specs.Graphs.{node_count, graph_of, exit_node, plus};
 
 use crate::around::Around;
 use crate::plan::Plan;
-use crate::rows::Rows;
 use crate::statement::put_statement;
-use c_terms::{NoMemory, Tree, TreePath};
-use cfg_graph::{Graph, Links, NodeKind, NodeLabel, NodeTree};
+use c_terms::{NoMemory, Tree};
+use cfg_graph::{Graph, GraphBuilder, NodeEntry, NodeKind, Seat};
 use std::alloc::Global;
 
 /// The graph of an item: of a tree with fewer than 2^32 nodes, none of whose branches has 2^32 children, as the items of
-/// a file are. The one error is want of memory. The labels lend their trees from the item. Linear in the item and in the
-/// paths of its statements, but for names of labels that are picked to collide. Recurses once a level of statements.
+/// a file are. The one error is want of memory. The labels lend their trees from the item. Linear in the item, but for names
+/// of labels that are picked to collide. Recurses once a level of statements.
 pub fn build<'a>(alloc: Global, item: &'a Tree) -> Result<Graph<'a>, NoMemory>
     requires few { node_count item.now < 2 ^ 32 }
     requires narrow { width item.now < 2 ^ 32 }
@@ -21,8 +20,7 @@ pub fn build<'a>(alloc: Global, item: &'a Tree) -> Result<Graph<'a>, NoMemory>
 {
     let plan = Plan::of(alloc, item)?;
     let exit = plan.exit;
-    let mut rows = Rows::new(alloc, exit as usize + 1)?;
-    let mut path = Vec::new(alloc);
+    let mut rows = GraphBuilder::new(alloc, exit as usize + 1)?;
     let around = Around {
         at: 0,
         bail: false,
@@ -30,20 +28,21 @@ pub fn build<'a>(alloc: Global, item: &'a Tree) -> Result<Graph<'a>, NoMemory>
         leave: exit,
         again: exit,
     };
-    put_statement(alloc, &plan, item, around, &mut path, &mut rows)?;
-    put_exit(alloc, exit, &mut rows)?;
+    put_statement(alloc, &plan, item, around, Seat::Item, &mut rows)?;
+    put_exit(item, exit, &mut rows)?;
     Ok(rows.into_graph())
 }
 
-fn put_exit<'a>(alloc: Global, exit: u32, rows: &mut Rows<'a>) -> Result<(), NoMemory>
+/// Puts the exit. It names no statement of the item.
+fn put_exit<'a>(item: &'a Tree, exit: u32, rows: &mut GraphBuilder<'a>) -> Result<(), NoMemory>
     ensures { OnOk result (rows.new ≡ plus rows.old (exit_node exit ∷ [])) }
 {
-    let label = NodeLabel {
-        kind: NodeKind::ExitNode,
-        tree: NodeTree::exit(alloc)?,
-        path: TreePath::of(Vec::new(alloc)),
-        bail: false,
+    let node = NodeEntry {
+        tree: item,
         brace: 0,
+        seat: Seat::Item,
+        kind: NodeKind::ExitNode,
+        bail: false,
     };
-    rows.push(label, Links::one(exit), None, Links::none())
+    rows.push(node, &[exit], None, &[])
 }

@@ -1,10 +1,8 @@
 // What a node is, and which statement it names.
-ghost use Rattle.std.specs.Prelude.{◌≡◌, IfOk};
-ghost use Rattle.cfg_graph.specs.Empty.{no_statements};
+ghost use Rattle.std.specs.Prelude.{◌≡◌};
 
-use c_terms::{Label, NoMemory, Tree, TreePath};
-use sqlite_items::{Boxed, Items};
-use std::alloc::Global;
+use crate::path::NodePath;
+use c_terms::Tree;
 use std::marker::Model;
 
 /// What a node is.
@@ -26,74 +24,51 @@ pub enum NodeKind {
     ExitNode,
 }
 
+/// The tree that a node names. It lies in the item, or is the exit's: an empty list of statements. It is lent, and contracts
+/// see the tree.
 #[derive(Drop)]
-enum Named<'a> {
-    /// A statement of the item
-    Lent(&'a Tree),
-    /// The empty list of statements that an exit names
-    Exit(Boxed<Tree>),
+pub struct NodeTree<'b> {
+    lent: &'b Tree,
 }
 
-/// The tree that a node names. It lies in the item, or is the exit's: an empty list of statements.
-/// Contracts see the tree.
-#[derive(Drop)]
-pub struct NodeTree<'a> {
-    named: Named<'a>,
-}
-
-impl<'a> Model for NodeTree<'a> {
+impl<'b> Model for NodeTree<'b> {
     ghost use Rattle.c_terms.specs.declared.tree.Tree.{Tree as Datum};
     ghost use Rattle.std.specs.Coded.{codes};
     ghost use Rattle.c_terms.specs.contracts.tree.Tree as tree;
-    ghost use Rattle.cfg_graph.specs.Named.{named_tree};
 
     ghost Value = { Datum };
 
     ghost coded = { Prim.hlevel (codes, tree.the_row.coded) };
 
-    ghost view = { λ n. named_tree n.named };
+    ghost view = { λ n. n.lent.now };
 }
 
-impl<'a> NodeTree<'a> {
+impl<'b> NodeTree<'b> {
     /// This tree, which is lent. Takes no memory.
-    pub fn of(tree: &'a Tree) -> NodeTree<'a>
+    pub(crate) fn of(tree: &'b Tree) -> NodeTree<'b>
         ensures value { result ≡ tree.now }
     {
-        NodeTree {
-            named: Named::Lent(tree),
-        }
-    }
-
-    /// The tree of an exit, an empty list of statements.
-    pub fn exit(alloc: Global) -> Result<NodeTree<'a>, NoMemory>
-        ensures value { IfOk result (λ tree. tree ≡ no_statements) }
-    {
-        let tree = Boxed::new(alloc, Tree::Branch(Label::StmtList, Items::new(alloc)))?;
-        Ok(NodeTree {
-            named: Named::Exit(tree),
-        })
+        NodeTree { lent: tree }
     }
 
     /// The tree. Takes no memory.
-    pub fn as_tree(&self) -> &Tree
+    pub fn as_tree(&self) -> &'b Tree
         ensures value { result.now ≡ self.now }
     {
-        match &self.named {
-            Named::Lent(tree) => tree,
-            Named::Exit(tree) => tree.get(),
-        }
+        self.lent
     }
 }
 
-/// What a node is, which statement it names, and where that stands in the item.
+/// What a node is, which statement it names, and where that stands in the item. It is made of what the graph keeps, and
+/// takes no memory.
 #[derive(Drop)]
-pub struct NodeLabel<'a> {
+pub struct NodeLabel<'b> {
     pub kind: NodeKind,
     /// The statement or item that begins here. Of a head of a function it is the item, of a brace
     /// its block, of a tail its `do`.
-    pub tree: NodeTree<'a>,
+    pub tree: NodeTree<'b>,
     /// The path of that tree from the item.
-    pub path: TreePath,
+    pub path: NodePath<'b>,
     /// Whether a body that only leaves begins here: `return` or `goto` as the body of an `if`, or a
     /// block that ends in one.
     pub bail: bool,

@@ -1,8 +1,8 @@
 //! Control-flow graphs: nodes with a label each, and the ways between them.
 //!
-//! - [`Graph`] has for each node its successors, what comes past its statement, and the entries of
-//!   its branches. [`Graph::new`] makes one of lists, the other calls read it.
-//! - [`NodeLabel`] says what a node is and which statement it names, by a [`NodeTree`].
+//! - [`Graph`] has for each node its label, its successors, what comes past its statement, and the entries of its branches.
+//!   A [`GraphBuilder`] makes one, a [`NodeEntry`] for each node.
+//! - [`NodeLabel`] says what a node is, which statement it names, by a [`NodeTree`], and where that stands, by a [`NodePath`].
 //! - [`is_own`] says which children of that statement's tree are the node's own.
 //! - [`Links`] are a few numbers of nodes.
 //! - [`labels_are_values`] and [`parts_are_values`] are laws: their clauses hold, and their bodies are empty.
@@ -21,11 +21,16 @@
 mod graph;
 mod label;
 mod laws;
+mod link_rows;
 mod links;
+mod node;
 mod own;
+mod path;
 
-pub use graph::Graph;
+pub use graph::{Graph, GraphBuilder};
 pub use label::{NodeKind, NodeLabel, NodeTree};
 pub use laws::{labels_are_values, parts_are_values};
 pub use links::Links;
+pub use node::{NodeEntry, Seat};
 pub use own::is_own;
+pub use path::NodePath;

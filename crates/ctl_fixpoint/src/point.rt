@@ -92,7 +92,7 @@ fn atom_set(
         → pattern_vars decls.now tokens.now test p.now ≡ true
         → set_vars test r ≡ true) }
 {
-    solve_by(alloc, looks, p, decls, tokens, g.label(s))
+    solve_by(alloc, looks, p, decls, tokens, &g.label(s))
 }
 
 /// Where the pattern matches at the node, and the variable is the place of its label's `{`.
@@ -116,7 +116,7 @@ fn placed_set(
 {
     let label = g.label(s);
     let place = EnvSet::one(alloc, b, Bound::Is(Value::Place(label.brace)))?;
-    let matched = solve_by(alloc, looks, p, decls, tokens, label)?;
+    let matched = solve_by(alloc, looks, p, decls, tokens, &label)?;
     meet(alloc, &place, &matched)
 }
 

@@ -277,8 +277,8 @@ fn align_whole(
 /// The subtrees of the node that match under the environment, by place, each with its first form that does. A variable
 /// without a value counts as the place 0.
 ///
-/// At each subtree it costs what `solve` does there, and the path of each that matches. Recurses a few calls a level. A
-/// child number from 2^32 on is refused as if memory had run out.
+/// At each subtree it costs what `solve` does there, and the path of each that matches; once it takes the path of the node.
+/// Recurses a few calls a level. A child number from 2^32 on is refused as if memory had run out.
 pub fn align(
     alloc: Global,
     p: &Pattern,
@@ -292,7 +292,8 @@ pub fn align(
         ≡ of.aligns decls.now tokens.now (total env.now) p.now node.now) }
 {
     let tree = node.tree.as_tree();
-    let path = node.path.steps();
+    let steps = node.path.steps(alloc)?;
+    let path = steps.as_slice();
     match p.spot {
         Spot::Inside => align_inside(alloc, p, decls, tokens, node.kind, env, path, tree),
         Spot::Whole => align_whole(alloc, p, decls, tokens, node.kind, env, path, tree),

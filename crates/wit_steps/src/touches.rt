@@ -49,7 +49,7 @@ fn put_touches(
     if p.forms.len() > u32::MAX as usize {
         return Err(NoMemory);
     }
-    let places = align(alloc, p, f.decls(), f.tokens(), g.label(s), env)?;
+    let places = align(alloc, p, f.decls(), f.tokens(), &g.label(s), env)?;
     put_places(found, places, p.atom, s)
 }
 

@@ -8,7 +8,7 @@ use Rattle.edit_walk.proofs.kinds.node_kinds.Goals as goal
 pub loop-n-preserved : goal.loop-n-preserved
 loop-n-preserved c =
     let labels = c.args.graph.now.labels in
-    let own = c.label.result.now in
+    let own = c.label.result in
     c.in_ok-push.ensures.items ∙ ap (λ (l : List NodeKind). l ++ own.kind ∷ []) c.loop-n.invariant
     ∙ sym (map-append (λ (n : NodeLabel). n.kind) (take c.loop-n.n labels) (own ∷ []))
     ∙ ap (map (λ (n : NodeLabel). n.kind)) (sym (take_here labels c.loop-n.n own c.label.ensures.value))

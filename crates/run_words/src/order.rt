@@ -1,4 +1,6 @@
 // What a command line asks for.
+ghost use Rattle.std.specs.Prelude.{◌≤◌};
+
 use c_terms::Text;
 
 /// What is printed and kept of an edited file: its witnesses on the output; its text under its name, or else on the output.
@@ -27,6 +29,10 @@ pub struct PatchOrder<'a> {
     /// The virtual names that hold.
     pub defined: Vec<Text>,
     pub target: Target<'a>,
+    /// How many jobs may be done at a time.
+    pub jobs: u32,
+    pub ghost some_jobs: { 1 ≤ jobs },
+    pub ghost few_jobs: { jobs ≤ 64 },
 }
 
 /// What a command line asks for.

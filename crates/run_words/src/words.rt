@@ -1,5 +1,5 @@
 // From words to what they ask for.
-ghost use Rattle.std.specs.Prelude.{◌≡◌, ◌&&◌, true, false, [], Some, map, option_map, IfOk, MatchOption};
+ghost use Rattle.std.specs.Prelude.{◌≡◌, ◌≤◌, ◌&&◌, true, false, [], Some, map, option_map, IfOk, MatchOption};
 ghost use Rattle.std.specs.Option.{option_map_or};
 ghost use Rattle.run_words.specs.Values.{names_in};
 ghost use Rattle.std.specs.List.{list_all};
@@ -73,6 +73,27 @@ fn has_jobs(given: &Given<'_>) -> bool
     }
 }
 
+/// How many jobs may be done at a time: one where no number is given.
+fn jobs_of(given: &Given<'_>) -> u32
+    ensures some { 1 ≤ result }
+    ensures few { result ≤ 64 }
+{
+    match given.jobs {
+        Some(value) => jobs_in(value),
+        None => 1,
+    }
+}
+
+fn jobs_in(value: &str) -> u32
+    ensures some { 1 ≤ result }
+    ensures few { result ≤ 64 }
+{
+    match count(value, MOST_JOBS) {
+        Some(jobs) => jobs.max(1).min(MOST_JOBS) as u32,
+        None => 1,
+    }
+}
+
 /// Whether the values of options are there, and the number of jobs is one.
 fn has_values(given: &Given<'_>) -> bool
     ensures { result ≡ (told.are_filled (shown_options given.now) && told.has_jobs (shown_options given.now)) }
@@ -124,6 +145,7 @@ fn on_text<'a>(alloc: Global, given: &Given<'a>, seed: u64, functions: u32) -> O
             isos: None,
             defined: Vec::new(alloc),
             target: Target::Text(seed, functions),
+            jobs: jobs_of(given),
         })),
         None => {
             if given.jobs.is_some() {
@@ -147,6 +169,7 @@ fn editing<'a>(alloc: Global, given: Given<'a>) -> Result<Option<Order<'a>>, NoM
     let Some(defined) = defined(alloc, given.define)? else {
         return Ok(None);
     };
+    let jobs = jobs_of(&given);
     let mode = Mode {
         witnesses: given.witnesses,
         in_place: given.in_place,
@@ -156,6 +179,7 @@ fn editing<'a>(alloc: Global, given: Given<'a>) -> Result<Option<Order<'a>>, NoM
         isos: given.iso_file,
         defined,
         target: Target::Files(mode, given.files),
+        jobs,
     })))
 }
 

@@ -71,20 +71,13 @@ module _ (number : ℕ) (rule : Rule) (env : Pairs) where
       ∙ append_assoc done more (found_from number rule (suc i) (drop (suc i) items) env)
       ∙ ap (λ ws. done ++ ws) (sym (next_found items i i lt)) ∙ h
 
-  pub large_more : (items : List Item) (i : ℕ) → i < length items → is_large number rule i (item_graph (slice_get items i)) env ≡ false
-      → is_large_from number rule i (drop i items) env ≡ is_large_under number rule items env
-      → is_large_from number rule (i + 1) (drop (i + 1) items) env ≡ is_large_under number rule items env
-  large_more items i lt few h =
-      let one : i + 1 ≡ suc i = omega arith in
-      (λ j. is_large_from number rule (one j) (drop (one j) items) env)
-      ∙ ap (λ b. b || is_large_from number rule (suc i) (drop (suc i) items) env) (sym few)
-      ∙ sym (next_large items i i lt) ∙ h
-
-  pub large_here : (items : List Item) (i : ℕ) → i < length items → is_large number rule i (item_graph (slice_get items i)) env ≡ true
-      → is_large_from number rule i (drop i items) env ≡ is_large_under number rule items env
-      → is_large_under number rule items env ≡ true
-  large_here items i lt many h =
-      sym h ∙ next_large items i i lt ∙ ap (λ b. b || is_large_from number rule (suc i) (drop (suc i) items) env) many
+  pub large_step : (items : List Item) (i : ℕ) → i < length items
+      → is_large_from number rule i (drop i items) env
+      ≡ (is_large number rule i (item_graph (slice_get items i)) env || is_large_from number rule (i + 1) (drop (i + 1) items) env)
+  large_step items i lt =
+      let one : suc i ≡ i + 1 = omega arith in
+      next_large items i i lt
+      ∙ (λ j. is_large number rule i (item_graph (slice_get items i)) env || is_large_from number rule (one j) (drop (one j) items) env)
 
 -- ---- what witnesses bring
 

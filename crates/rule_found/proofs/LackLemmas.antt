@@ -67,7 +67,3 @@ module _ (number : ℕ) (rule : Rule) (f : FormulaOf) (is : IsFormulaOf rule f) 
   nothing_found None few h = absurd (cc)
   nothing_found (Some (Parsed t)) few h = no_witness t few (not_false (has_words words t) h)
   nothing_found (Some (Skipped span why)) few h = absurd (cc)
-
-  pub nothing_large : (o : Option Item) → IfSome (item_tree o) (λ t. node_count t < 2 ^ 32) → misses words (item_tree o) ≡ true
-      → is_large number rule item (item_graph o) env ≡ false
-  nothing_large o few h = ap (λ ws. nat_lt 1000000 (nodes_of ws)) (nothing_found o few h)

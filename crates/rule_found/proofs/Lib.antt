@@ -1,3 +1,7 @@
 pub mod FoundLemmas
 pub mod LackLemmas
 pub mod AddLemmas
+pub mod PartLemmas
+pub mod ChosenLemmas
+pub mod GatherLemmas
+pub mod Crossing

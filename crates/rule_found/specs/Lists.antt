@@ -1,5 +1,5 @@
 -- What is found under several environments, a list for each.
-use Rattle.std.specs.Prelude.{ℕ, ◌≡◌, ◌<◌, Bool, true, false, List, [], ◌++◌, map, length, slice_index_or}
+use Rattle.std.specs.Prelude.{ℕ, ◌≡◌, ◌<◌, Bool, true, false, List, [], map, length, slice_index_or}
 use Rattle.smpl_patch.specs.declared.witness.RuleWitness.{RuleWitness}
 use Rattle.env_parts.specs.Parts.{Pairs, bare_env}
 use Rattle.cpp_lines.specs.declared.reading.Item.{Item}
@@ -16,11 +16,6 @@ env_at envs k = bare_env (slice_index_or envs k [])
 -- what the list of this number has, without ids
 abbrev pub found_at : List (List RuleWitness) → ℕ → List RuleWitness
 found_at lists k = map bare_witness (slice_index_or lists k [])
-
--- each list goes on with what is found under its environment
-pub record AreAdded (more : Pairs → List RuleWitness) (envs : List Pairs) (old new : List (List RuleWitness)) : Type 0 where
-  pub count : length new ≡ length old
-  pub each : (k : ℕ) → k < length envs → found_at new k ≡ found_at old k ++ map bare_witness (more (env_at envs k))
 
 -- under none of the environments is it too much
 abbrev pub AreSmall : (Pairs → Bool) → List Pairs → Type 0

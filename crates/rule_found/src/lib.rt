@@ -1,11 +1,15 @@
 //! What a rule finds over the items of one reading of a file: its witnesses under each of its projections, item by item, and
 //! the values of exported variables that they bring.
 //!
-//! [`witnesses`] gives both. What is found in one item under one environment is a call of
-//! [`item_witnesses`](rule_witnesses::item_witnesses), which has no state.
+//! [`witnesses`] gives both. Items are matched by many jobs at a time, and the answer is that of one thread: what is found in one item
+//! under one environment is a call of [`item_witnesses`](rule_witnesses::item_witnesses), which has no state.
 #![tactic(auto)]
 
-mod item;
+mod choice;
+mod gather;
+mod job;
+mod part;
 mod whole;
+mod worker;
 
 pub use whole::{Found, witnesses};

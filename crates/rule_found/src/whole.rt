@@ -1,6 +1,7 @@
 // What a rule finds over all items.
-ghost use Rattle.std.specs.Prelude.{◌≡◌, ℕ, [], All, IfOk, OnOk, Err, map, length, true, false};
+ghost use Rattle.std.specs.Prelude.{◌≡◌, ◌≤◌, ℕ, All, IfOk, OnOk, Err, map, length, true, false, slice_get, option_copied};
 ghost use Rattle.std.specs.List.{flat_map};
+ghost use Rattle.c_file.specs.Fit.{item_graph};
 ghost use Rattle.ctl_formula.specs.Formulas.{plain};
 ghost use Rattle.ctl_holds.specs.Parts.{EachPattern};
 ghost use Rattle.ctl_holds.specs.BoundLaw.{SureStand};
@@ -12,20 +13,25 @@ ghost use Rattle.rule_witnesses.specs.Choices.{AreNew};
 ghost use Rattle.rule_witnesses.specs.Jobs.{BindsExports};
 ghost use Rattle.rule_witnesses.specs.declared.fault.JobFault.TheVariants as fault;
 ghost use Rattle.rule_found.specs.Found as of;
-ghost use Rattle.rule_found.specs.Lacking.{AreNeeded};
+ghost use Rattle.par_match.specs.declared.fault.JobFault.TheVariants.{Worker as WorkerStopped};
+ghost use Rattle.rule_found.specs.Chosen.{AreChosen};
 ghost use Rattle.rule_found.specs.Lists.{AreFound, AreSmall, IsLargeSomewhere, brought};
 
-use crate::item::in_item;
-use c_terms::{NoMemory, Text};
+use crate::choice::choose;
+use crate::gather::gathered;
+use crate::worker::Finder;
+use c_terms::NoMemory;
+use cfg_graph::Graph;
 use ctl_formula::Formula;
 use item_graphs::Graphs;
-use need_words::needed_words;
+use par_match::{Gate, JobFault as Stopped, map_jobs};
 use rule_envs::exported;
 use rule_witnesses::JobFault;
 use smpl_patch::{Rule, RuleWitness};
 use smpl_terms::{Env, Var};
 use sqlite_items::Items;
 use std::alloc::Global;
+use std::thread::Threads;
 
 /// The witnesses of a rule, and for each projection the different values of the exported variables in its witnesses.
 #[derive(Drop)]
@@ -34,33 +40,78 @@ pub struct Found {
     pub parts: Items<Items<Env>>,
 }
 
-/// The most tokens of a rule whose words are looked for: that costs words times its formula.
-const MOST_TOKENS: usize = 1_000;
-
-/// Words that the formula needs: all of them, or none where the rule has too many tokens.
-fn words_of(alloc: Global, f: &Formula) -> Result<Items<Text>, NoMemory>
-    ensures { IfOk result (λ words. AreNeeded words f.now) }
+/// The graphs of the items of these numbers; none for an item that was skipped.
+fn lent<'g, 'a>(
+    alloc: Global,
+    graphs: &'g Graphs<'a>,
+    chosen: &[u32],
+) -> Result<Vec<Option<&'g Graph<'a>>>, NoMemory>
+    requires made { All (λ i. IsMade graphs.now i) chosen.now }
+    ensures graphs { IfOk result (λ lent. map option_copied lent.items
+        ≡ map (λ i. item_graph (slice_get graphs.now.items i)) chosen.now) }
 {
-    if f.tokens().len() > MOST_TOKENS {
-        return Ok(Items::new(alloc));
+    let mut lent = Vec::with_capacity(alloc, chosen.len())?;
+    for i in chosen {
+        lent.push(graphs.get(*i as usize))?;
     }
-    needed_words(alloc, f)
+    Ok(lent)
 }
 
-/// An empty list for each environment.
-fn empty_lists(alloc: Global, count: usize) -> Result<Vec<Items<RuleWitness>>, NoMemory>
-    ensures count { IfOk result (λ lists. length lists.items ≡ count) }
-    ensures none { IfOk result (λ lists. All (λ list. list ≡ []) lists.items) }
+/// What stopped the jobs: the fault of the first of those that met one, or want of memory.
+fn stopped(stop: Stopped<JobFault>) -> JobFault
+    ensures { result ≡ fault.TooMany → (job : ℕ) × (stop ≡ WorkerStopped job fault.TooMany) }
 {
-    let mut lists = Vec::with_capacity(alloc, count)?;
-    for _ in 0..count {
-        lists.push(Items::new(alloc))?;
+    match stop {
+        Stopped::Worker(_, fault) => fault,
+        Stopped::NoMemory => JobFault::NoMemory,
     }
-    Ok(lists)
+}
+
+/// For each environment the witnesses under it in the items of these numbers, a job an item.
+fn over_chosen<R: Threads + Sync, G: Gate>(
+    rt: &R,
+    alloc: Global,
+    number: u32,
+    rule: &Rule,
+    f: &Formula,
+    graphs: &Graphs<'_>,
+    chosen: &[u32],
+    envs: &[Env],
+    jobs: u32,
+    gate: &G,
+) -> Result<Vec<Items<RuleWitness>>, JobFault>
+    requires some_jobs { 1 ≤ jobs }
+    requires few_jobs { jobs ≤ 64 }
+    requires formula { IsFormulaOf rule.now f.now }
+    requires stand { EachPattern (SureStand f.now.decls f.now.tokens) (plain f.now) }
+    requires binds { BindsExports f.now rule.now.exports }
+    requires new { All (AreNew rule.now.exports) envs.now }
+    requires made { All (λ i. IsMade graphs.now i) chosen.now }
+    requires chosen { AreChosen rule.now graphs.now.items chosen.now }
+    ensures found { IfOk result (λ lists. AreFound number rule.now graphs.now.items envs.now lists.items) }
+    ensures few { OnOk result (AreSmall (of.is_large_under number rule.now graphs.now.items) envs.now) }
+    ensures too_many { result ≡ Err fault.TooMany
+        → IsLargeSomewhere (of.is_large_under number rule.now graphs.now.items) envs.now }
+{
+    let lent = lent(alloc, graphs, chosen)?;
+    let finder = Finder {
+        alloc,
+        number,
+        f,
+        exports: rule.exports.as_slice(),
+        envs,
+        items: chosen,
+        graphs: lent.as_slice(),
+    };
+    match map_jobs(rt, alloc, jobs, chosen.len(), &finder, gate) {
+        Ok(found) => Ok(gathered(alloc, envs.len(), found)?),
+        Err(stop) => Err(stopped(stop)),
+    }
 }
 
 /// For each environment the witnesses under it, item by item. Without environments no item is looked at.
-fn over_items(
+fn over_items<R: Threads + Sync, G: Gate>(
+    rt: &R,
     alloc: Global,
     number: u32,
     rule: &Rule,
@@ -68,7 +119,11 @@ fn over_items(
     graphs: &mut Graphs<'_>,
     count: usize,
     envs: &[Env],
+    jobs: u32,
+    gate: &G,
 ) -> Result<Vec<Items<RuleWitness>>, JobFault>
+    requires some_jobs { 1 ≤ jobs }
+    requires few_jobs { jobs ≤ 64 }
     requires formula { IsFormulaOf rule.now f.now }
     requires stand { EachPattern (SureStand f.now.decls f.now.tokens) (plain f.now) }
     requires binds { BindsExports f.now rule.now.exports }
@@ -84,13 +139,19 @@ fn over_items(
     if envs.is_empty() {
         return Ok(Vec::new(alloc));
     }
-    let words = words_of(alloc, f)?;
-    let mut lists = empty_lists(alloc, envs.len())?;
-    for i in 0..count {
-        let needed = words.as_slice();
-        in_item(alloc, number, rule, f, needed, graphs, i, envs, &mut lists)?;
-    }
-    Ok(lists)
+    let chosen = choose(alloc, rule, f, graphs, count)?;
+    over_chosen(
+        rt,
+        alloc,
+        number,
+        rule,
+        f,
+        graphs,
+        chosen.as_slice(),
+        envs,
+        jobs,
+        gate,
+    )
 }
 
 /// The lists joined, and for each of them the different values of the exported variables.
@@ -112,16 +173,19 @@ fn joined(alloc: Global, exports: &[Var], lists: Vec<Items<RuleWitness>>) -> Res
 /// different values of the exported variables in its witnesses. Contracts leave the ids of terms out.
 ///
 /// `number` is the rule's, `f` its formula, and `count` the number of the file's items. The formula binds each exported variable,
-/// and its patterns' sure variables stand in them.
+/// and its patterns' sure variables stand in them. Up to `jobs` items are matched at a time, and the gate is told of each before
+/// its job begins.
 ///
 /// - `TooMany`: the forests of the witnesses in one item under one projection have more than 1,000,000 touches and binds.
 /// - `NoMemory`: memory was refused, the formula's table has 2^32 nodes, or there are more than 2^32 items.
 ///
 /// Costs one [`match_item`](rule_witnesses::match_item) for each item that has a tree with all words that the formula needs, one
-/// [`item_witnesses`](rule_witnesses::item_witnesses) for each such item and each projection, and one [`exported`] a projection; the
-/// words are looked for once in the formula, and once among the tokens of each item. The graph of an item is made when it is first
-/// needed. Of a rule of more than 1,000 tokens no words are looked for. Without projections nothing is done.
-pub fn witnesses(
+/// [`item_witnesses`](rule_witnesses::item_witnesses) for each item in which it holds somewhere and each projection, which the jobs
+/// share, and one [`exported`] a projection; the words are looked for once in the formula, and once among the tokens of each item.
+/// The graph of an item is made when it is first needed. Of a rule of more than 1,000 tokens no words are looked for. Without
+/// projections nothing is done.
+pub fn witnesses<R: Threads + Sync, G: Gate>(
+    rt: &R,
     alloc: Global,
     number: u32,
     rule: &Rule,
@@ -129,7 +193,11 @@ pub fn witnesses(
     graphs: &mut Graphs<'_>,
     count: usize,
     projections: &[Env],
+    jobs: u32,
+    gate: &G,
 ) -> Result<Found, JobFault>
+    requires some_jobs { 1 ≤ jobs }
+    requires few_jobs { jobs ≤ 64 }
     requires formula { IsFormulaOf rule.now f.now }
     requires stand { EachPattern (SureStand f.now.decls f.now.tokens) (plain f.now) }
     requires binds { BindsExports f.now rule.now.exports }
@@ -145,7 +213,18 @@ pub fn witnesses(
     ensures items { graphs.new.items ≡ graphs.old.items }
     ensures kept { (k : ℕ) → IsMade graphs.old k → IsMade graphs.new k }
 {
-    let lists = over_items(alloc, number, rule, f, graphs, count, projections)?;
+    let lists = over_items(
+        rt,
+        alloc,
+        number,
+        rule,
+        f,
+        graphs,
+        count,
+        projections,
+        jobs,
+        gate,
+    )?;
     let found = joined(alloc, rule.exports.as_slice(), lists)?;
     Ok(found)
 }

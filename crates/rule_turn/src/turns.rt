@@ -15,12 +15,14 @@ ghost use Rattle.rule_turn.specs.declared.fault.TurnFault.TheVariants as fault;
 use crate::fault::TurnFault;
 use c_terms::Text;
 use item_graphs::Graphs;
+use par_match::Gate;
 use rule_envs::{Carrier, next_carriers, projections};
 use rule_formulas::PreparedRule;
 use rule_found::witnesses;
 use smpl_patch::{Rule, RuleWitness};
 use sqlite_items::Items;
 use std::alloc::Global;
+use std::thread::Threads;
 
 /// What a rule finds, and the environments after it.
 #[derive(Drop)]
@@ -40,7 +42,8 @@ pub struct Turned {
 /// - `NoMemory`: memory was refused.
 ///
 /// Costs one [`projections`], one [`witnesses`] and one [`next_carriers`].
-pub fn turn(
+pub fn turn<R: Threads + Sync, G: Gate>(
+    rt: &R,
     alloc: Global,
     defined: &[Text],
     had: &[u32],
@@ -50,7 +53,11 @@ pub fn turn(
     graphs: &mut Graphs<'_>,
     count: usize,
     carriers: &[Carrier],
+    jobs: u32,
+    gate: &G,
 ) -> Result<Turned, TurnFault>
+    requires some_jobs { 1 ≤ jobs }
+    requires few_jobs { jobs ≤ 64 }
     requires prepared { IsPrepared rule.now prepared.now }
     requires stand { EachPattern (SureStand prepared.now.formula.decls prepared.now.formula.tokens) (plain prepared.now.formula) }
     requires binds { BindsExports prepared.now.formula rule.now.exports }
@@ -81,6 +88,7 @@ pub fn turn(
         carriers,
     )?;
     let found = witnesses(
+        rt,
         alloc,
         number,
         rule,
@@ -88,6 +96,8 @@ pub fn turn(
         graphs,
         count,
         projected.projections.as_slice(),
+        jobs,
+        gate,
     )?;
     let next = next_carriers(
         alloc,

@@ -9,14 +9,14 @@ use Rattle.rule_turn.proofs.TurnLemmas.{witnesses_told, not_by_witnesses, enviro
 use Rattle.rule_turn.proofs.turns.turn.Goals as goal
 
 pub witnesses-requires-clause-new : goal.witnesses-requires-clause-new
-witnesses-requires-clause-new c =
+witnesses-requires-clause-new g c κs within =
     under_new c.args.defined.now c.args.had.now c.args.number c.args.rule.now c.args.graphs.now.items c.args.carriers.now c.as_slice.result.now
     (c.as_slice.ensures ∙ c.requires.prepared.inherited) c.in_ok-projected.projected.projections c.as_slice-2.result.now c.as_slice-2.ensures
     c.in_ok-projected.ensures.projections
     (subst (AreApart c.args.rule.now.exports) (sym c.as_slice.ensures) c.requires.apart)
 
 pub next_carriers-requires : goal.next_carriers-requires
-next_carriers-requires c = record {
+next_carriers-requires g c = record {
   lengths = places_of_all c.args.defined.now c.args.had.now c.args.number c.args.rule.now c.args.graphs.now.items c.args.carriers.now
       c.as_slice.result.now (c.as_slice.ensures ∙ c.requires.prepared.inherited) c.in_ok-projected.projected.projections
       c.as_slice-2.result.now c.as_slice-2.ensures c.in_ok-projected.ensures.projections
@@ -24,7 +24,7 @@ next_carriers-requires c = record {
 }
 
 pub returns-clause-found : goal.returns-clause-found
-returns-clause-found c =
+returns-clause-found g c =
     let items = c.args.graphs.now.items in
     c.in_ok-found.ensures.found
     ∙ ap (found.rule_found c.args.number c.args.rule.now items)
@@ -33,7 +33,7 @@ returns-clause-found c =
     c.in_ok-projected.ensures.projections)
 
 pub returns-clause-carriers : goal.returns-clause-carriers
-returns-clause-carriers c =
+returns-clause-carriers g c =
     let items = c.args.graphs.now.items in
     let number = c.args.number in
     let rule = c.args.rule.now in
@@ -46,7 +46,7 @@ returns-clause-carriers c =
     c.as_slice-4.result.now c.in_ok-found.found.parts c.as_slice-4.ensures c.in_ok-found.ensures.parts)
 
 pub returns-clause-few : goal.returns-clause-few
-returns-clause-few c =
+returns-clause-few g c =
     let items = c.args.graphs.now.items in
     ap (found.has_too_many c.args.number c.args.rule.now items)
     (sym (run_under c.args.defined.now c.args.had.now c.args.number c.args.rule.now items c.args.carriers.now c.as_slice.result.now
@@ -55,7 +55,7 @@ returns-clause-few c =
     ∙ c.in_ok-found.ensures.few
 
 pub returns-in_err-found-clause-too_many : goal.returns-in_err-found-clause-too_many
-returns-in_err-found-clause-too_many c = λ h.
+returns-in_err-found-clause-too_many g c = λ h.
     let p = err_from_is_err_and c.from_residual-in_err-found.result c.from_residual-in_err-found.ensures.1 in
     let e : p.0 ≡ TooManyWitnesses = cc (h, p.1) in
     let items = c.args.graphs.now.items in
@@ -66,19 +66,19 @@ returns-in_err-found-clause-too_many c = λ h.
     ∙ c.in_err-found.ensures.too_many (cc (witnesses_told _ (sym p.2 ∙ e)))
 
 pub returns-in_err-found-clause-too_many_environments : goal.returns-in_err-found-clause-too_many_environments
-returns-in_err-found-clause-too_many_environments c = λ h.
+returns-in_err-found-clause-too_many_environments g c = λ h.
     let p = err_from_is_err_and c.from_residual-in_err-found.result c.from_residual-in_err-found.ensures.1 in
     let e : p.0 ≡ TooManyEnvironments = cc (h, p.1) in
     absurd (not_by_witnesses _ (sym p.2 ∙ e))
 
 pub returns-in_err-next-clause-too_many : goal.returns-in_err-next-clause-too_many
-returns-in_err-next-clause-too_many c = λ h.
+returns-in_err-next-clause-too_many g c = λ h.
     let p = err_from_is_err_and c.from_residual-in_err-next.result c.from_residual-in_err-next.ensures.1 in
     let e : p.0 ≡ TooManyWitnesses = cc (h, p.1) in
     absurd (not_by_environments _ (sym p.2 ∙ e))
 
 pub returns-in_err-next-clause-too_many_environments : goal.returns-in_err-next-clause-too_many_environments
-returns-in_err-next-clause-too_many_environments c = λ h.
+returns-in_err-next-clause-too_many_environments g c = λ h.
     let p = err_from_is_err_and c.from_residual-in_err-next.result c.from_residual-in_err-next.ensures.1 in
     let e : p.0 ≡ TooManyEnvironments = cc (h, p.1) in
     let items = c.args.graphs.now.items in

@@ -18,12 +18,14 @@ use crate::state::Findings;
 use c_file::CFile;
 use c_terms::{NoMemory, Text};
 use item_graphs::Graphs;
+use par_match::Gate;
 use rule_edits::{NewText, edit};
 use rule_formulas::PreparedRule;
 use rule_turn::{Turned, turn};
 use smpl_patch::{Rule, RuleWitness};
 use sqlite_items::Items;
 use std::alloc::Global;
+use std::thread::Threads;
 
 /// The rules that have had a witness, after this one.
 #[tactic(auto, using(crate::proofs::HadLemmas::had_none, crate::proofs::HadLemmas::had_some))]
@@ -86,7 +88,8 @@ pub struct Worked {
 /// - `NoMemory`: memory was refused.
 ///
 /// Costs one [`turn`] and one [`edit`].
-pub fn work(
+pub fn work<R: Threads + Sync, G: Gate>(
+    rt: &R,
     alloc: Global,
     defined: &[Text],
     number: u32,
@@ -96,7 +99,11 @@ pub fn work(
     graphs: &mut Graphs<'_>,
     next: u64,
     findings: Findings,
+    jobs: u32,
+    gate: &G,
 ) -> Result<Worked, FileFault>
+    requires some_jobs { 1 ≤ jobs }
+    requires few_jobs { jobs ≤ 64 }
     requires prepared { IsPrepared rule.now prepared.now }
     requires stand { EachPattern (SureStand prepared.now.formula.decls prepared.now.formula.tokens) (plain prepared.now.formula) }
     requires binds { BindsExports prepared.now.formula rule.now.exports }
@@ -117,6 +124,7 @@ pub fn work(
         found,
     } = findings;
     let turned = match turn(
+        rt,
         alloc,
         defined,
         had.as_slice(),
@@ -126,6 +134,8 @@ pub fn work(
         graphs,
         file.items().len(),
         carriers.as_slice(),
+        jobs,
+        gate,
     ) {
         Ok(turned) => turned,
         Err(fault) => return Err(of_turn(number, fault)),

@@ -17,6 +17,7 @@ use crate::rules::{Stopped, over_reading};
 use crate::state::{Applied, Reached, Step};
 use c_file::read_file;
 use c_terms::{NoMemory, Text};
+use par_match::Gate;
 use rule_edits::NewText;
 use rule_envs::first_carriers;
 use rule_formulas::{Prepared, PreparedRule};
@@ -24,6 +25,7 @@ use rule_work::{FileFault, Findings, SkipNote};
 use smpl_patch::{Patch, Rule};
 use sqlite_items::Items;
 use std::alloc::Global;
+use std::thread::Threads;
 
 /// Ids are at most this.
 const MOST_IDS: u64 = 4_611_686_018_427_387_904;
@@ -92,13 +94,18 @@ fn go_on(
 }
 
 /// The rules that are left over the reading that is reached, and the next reading.
-fn next_reading(
+fn next_reading<R: Threads + Sync, G: Gate>(
+    rt: &R,
     alloc: Global,
     defined: &[Text],
     rules: &[Rule],
     prepared: &[PreparedRule],
     reached: Reached,
+    jobs: u32,
+    gate: &G,
 ) -> Result<Step, FileFault>
+    requires some_jobs { 1 ≤ jobs }
+    requires few_jobs { jobs ≤ 64 }
     requires prepared { ArePrepared rules.now prepared.now }
     requires may { AllZip MayRun rules.now prepared.now }
     requires few { length rules.now < 2 ^ 32 }
@@ -121,7 +128,9 @@ fn next_reading(
         skipped,
         done,
     } = reached;
-    let stopped = over_reading(alloc, defined, rules, prepared, done, &file, next, findings)?;
+    let stopped = over_reading(
+        rt, alloc, defined, rules, prepared, done, &file, next, findings, jobs, gate,
+    )?;
     let Stopped {
         findings,
         done,
@@ -134,13 +143,18 @@ fn next_reading(
 }
 
 /// The rules, reading by reading.
-fn over_readings(
+fn over_readings<R: Threads + Sync, G: Gate>(
+    rt: &R,
     alloc: Global,
     defined: &[Text],
     rules: &[Rule],
     prepared: &[PreparedRule],
     reached: Reached,
+    jobs: u32,
+    gate: &G,
 ) -> Result<Applied, FileFault>
+    requires some_jobs { 1 ≤ jobs }
+    requires few_jobs { jobs ≤ 64 }
     requires prepared { ArePrepared rules.now prepared.now }
     requires may { AllZip MayRun rules.now prepared.now }
     requires few { length rules.now < 2 ^ 32 }
@@ -153,7 +167,7 @@ fn over_readings(
 {
     let mut reached = reached;
     for number in 0..rules.len() {
-        let came = next_reading(alloc, defined, rules, prepared, reached)?;
+        let came = next_reading(rt, alloc, defined, rules, prepared, reached, jobs, gate)?;
         match came {
             Step::Ended(applied) => return Ok(applied),
             Step::On(next) => reached = next,
@@ -181,13 +195,18 @@ fn over_readings(
 ///
 /// All but the last carry the rule's number, from 0. Costs one [`rule_work::work`] a rule, and one reading of the text at first and
 /// after each rule that edits and is followed by another.
-pub fn apply(
+pub fn apply<R: Threads + Sync, G: Gate>(
+    rt: &R,
     alloc: Global,
     patch: &Patch,
     prepared: &Prepared,
     defined: &[Text],
     bytes: Vec<u8>,
+    jobs: u32,
+    gate: &G,
 ) -> Result<Applied, FileFault>
+    requires some_jobs { 1 ≤ jobs }
+    requires few_jobs { jobs ≤ 64 }
     requires short { length bytes.items ≤ 16777216 }
     requires few { length patch.now.rules < 2 ^ 32 }
     requires prepared { ArePrepared patch.now.rules prepared.now.rules }
@@ -196,11 +215,14 @@ pub fn apply(
 {
     let reached = begin(alloc, bytes)?;
     let applied = over_readings(
+        rt,
         alloc,
         defined,
         patch.rules.as_slice(),
         prepared.rules.as_slice(),
         reached,
+        jobs,
+        gate,
     )?;
     Ok(applied)
 }

@@ -12,11 +12,13 @@ ghost use Rattle.rule_chain.specs.Stops.{LeadsOn};
 use c_file::CFile;
 use c_terms::Text;
 use item_graphs::Graphs;
+use par_match::Gate;
 use rule_edits::NewText;
 use rule_formulas::PreparedRule;
 use rule_work::{FileFault, Findings, Worked, work};
 use smpl_patch::Rule;
 use std::alloc::Global;
+use std::thread::Threads;
 
 /// Where the rules over one reading stop: after a rule that edits, or after the last.
 #[derive(Drop)]
@@ -28,7 +30,8 @@ pub struct Stopped {
 }
 
 /// The rule of this number over a reading.
-fn work_at(
+fn work_at<R: Threads + Sync, G: Gate>(
+    rt: &R,
     alloc: Global,
     defined: &[Text],
     rules: &[Rule],
@@ -38,7 +41,11 @@ fn work_at(
     graphs: &mut Graphs<'_>,
     next: u64,
     findings: Findings,
+    jobs: u32,
+    gate: &G,
 ) -> Result<Worked, FileFault>
+    requires some_jobs { 1 ≤ jobs }
+    requires few_jobs { jobs ≤ 64 }
     requires prepared { ArePrepared rules.now prepared.now }
     requires may { AllZip MayRun rules.now prepared.now }
     requires few { length rules.now < 2 ^ 32 }
@@ -54,6 +61,7 @@ fn work_at(
     let rule = &rules[number];
     let made = &prepared[number];
     work(
+        rt,
         alloc,
         defined,
         number as u32,
@@ -63,11 +71,14 @@ fn work_at(
         graphs,
         next,
         findings,
+        jobs,
+        gate,
     )
 }
 
 /// The rules from a number on over one reading, up to one that edits.
-pub fn over_reading(
+pub fn over_reading<R: Threads + Sync, G: Gate>(
+    rt: &R,
     alloc: Global,
     defined: &[Text],
     rules: &[Rule],
@@ -76,7 +87,11 @@ pub fn over_reading(
     file: &CFile,
     next: u64,
     findings: Findings,
+    jobs: u32,
+    gate: &G,
 ) -> Result<Stopped, FileFault>
+    requires some_jobs { 1 ≤ jobs }
+    requires few_jobs { jobs ≤ 64 }
     requires prepared { ArePrepared rules.now prepared.now }
     requires may { AllZip MayRun rules.now prepared.now }
     requires few { length rules.now < 2 ^ 32 }
@@ -94,6 +109,7 @@ pub fn over_reading(
     let mut findings = findings;
     for number in from..rules.len() {
         let worked = work_at(
+            rt,
             alloc,
             defined,
             rules,
@@ -103,6 +119,8 @@ pub fn over_reading(
             &mut graphs,
             next,
             findings,
+            jobs,
+            gate,
         )?;
         let Worked {
             findings: left,

@@ -10,7 +10,7 @@ use Rattle.rule_chain.proofs.StepLemmas.{chain_done, chain_refused}
 use Rattle.rule_chain.proofs.chain.apply.Goals as goal
 
 pub returns : goal.returns
-returns c = record {
+returns g c = record {
   result = chain_done c.args.patch.now.rules c.args.defined.now c.args.bytes.items c.in_ok-reached.reached c.in_ok-reached.ensures.cut
       c.in_ok-reached.ensures.reads c.in_ok-reached.ensures.at c.in_ok-applied.applied
       (subst (λ (rules : List Rule). (s : Chained) → IsAt c.in_ok-reached.reached s
@@ -19,7 +19,7 @@ returns c = record {
 }
 
 pub returns-in_err-applied : goal.returns-in_err-applied
-returns-in_err-applied c =
+returns-in_err-applied g c =
     let p = err_from_is_err_and c.from_residual-in_err-applied.result c.from_residual-in_err-applied.ensures.1 in
     record {
       result = rw (p.1, p.2) (chain_refused c.args.patch.now.rules c.args.defined.now c.args.bytes.items c.in_ok-reached.reached c.in_ok-reached.ensures.cut

@@ -8,7 +8,7 @@ use Rattle.rule_chain.proofs.StepLemmas.{step_ended, went_on, left_is, seen_faul
 use Rattle.rule_chain.proofs.chain.next_reading.Goals as goal
 
 pub returns-in_ok-answer-in-None-clause-step : goal.returns-in_ok-answer-in-None-clause-step
-returns-in_ok-answer-in-None-clause-step c = λ s at.
+returns-in_ok-answer-in-None-clause-step g c = λ s at.
     let r = c.args.reached in
     let st = c.in_ok-stopped.stopped in
     let on : Leading c.args.defined.now c.args.rules.now r.done st.done r.file r.next r.findings st.findings None =
@@ -19,7 +19,7 @@ returns-in_ok-answer-in-None-clause-step c = λ s at.
     c.in_ok-answer-in-None.field-0 c.in_ok-answer-in-None.ensures
 
 pub returns-in_ok-go_on-in-Some-clause-step : goal.returns-in_ok-go_on-in-Some-clause-step
-returns-in_ok-go_on-in-Some-clause-step c = λ s at.
+returns-in_ok-go_on-in-Some-clause-step g c = λ s at.
     let r = c.args.reached in
     let st = c.in_ok-stopped.stopped in
     let text = c.in-Some.text in
@@ -31,11 +31,11 @@ returns-in_ok-go_on-in-Some-clause-step c = λ s at.
     (left_is c.args.defined.now c.args.rules.now r.done st.done s st.findings r text at on))
 
 pub returns-in_err-stopped-clause-fault : goal.returns-in_err-stopped-clause-fault
-returns-in_err-stopped-clause-fault c =
+returns-in_err-stopped-clause-fault g c =
     let p = err_from_is_err_and c.from_residual.result c.from_residual.ensures.1 in
     rw (p.1, p.2) (seen_fault c.args.defined.now c.args.rules.now c.args.reached c.in_err-stopped.field-0.0 c.in_err-stopped.ensures.fault)
 
 pub returns-in_ok-go_on-in-Some-clause-further : goal.returns-in_ok-go_on-in-Some-clause-further
-returns-in_ok-go_on-in-Some-clause-further c =
+returns-in_ok-go_on-in-Some-clause-further g c =
     let some : is_some c.in_ok-stopped.stopped.text ≡ true = ap is_some c.in-Some.is in
     c.in_ok-go_on-in-Some.ensures.further c.args.reached.done (c.in_ok-stopped.ensures.on some)

@@ -13,45 +13,45 @@ use Rattle.rule_chain.proofs.RunLemmas.{at_pair, leads, refuses}
 use Rattle.rule_chain.proofs.rules.work_at.Goals as goal
 
 pub bounds-prepared-number : goal.bounds-prepared-number
-bounds-prepared-number c =
+bounds-prepared-number g c =
     let same = AllZip-long MayRun c.args.rules.now c.args.prepared.now c.requires.may in
     omega (arith, same, c.requires.within)
 
 pub work-requires-clause-prepared : goal.work-requires-clause-prepared
-work-requires-clause-prepared c =
+work-requires-clause-prepared g c κs within =
     at_pair IsPrepared c.args.rules.now c.args.prepared.now c.args.number c.index-rules-number.result c.index-prepared-number.result
     c.requires.prepared c.requires.within c.index-rules-number.is c.index-prepared-number.is
 
 pub work-requires-clause-stand : goal.work-requires-clause-stand
-work-requires-clause-stand c =
+work-requires-clause-stand g c κs within =
     let may : MayRun c.index-rules-number.result c.index-prepared-number.result =
     at_pair MayRun c.args.rules.now c.args.prepared.now c.args.number c.index-rules-number.result c.index-prepared-number.result
     c.requires.may c.requires.within c.index-rules-number.is c.index-prepared-number.is in
     may.stand
 
 pub work-requires-clause-binds : goal.work-requires-clause-binds
-work-requires-clause-binds c =
+work-requires-clause-binds g c κs within =
     let may : MayRun c.index-rules-number.result c.index-prepared-number.result =
     at_pair MayRun c.args.rules.now c.args.prepared.now c.args.number c.index-rules-number.result c.index-prepared-number.result
     c.requires.may c.requires.within c.index-rules-number.is c.index-prepared-number.is in
     may.binds
 
 pub work-requires-clause-apart : goal.work-requires-clause-apart
-work-requires-clause-apart c =
+work-requires-clause-apart g c κs within =
     let may : MayRun c.index-rules-number.result c.index-prepared-number.result =
     at_pair MayRun c.args.rules.now c.args.prepared.now c.args.number c.index-rules-number.result c.index-prepared-number.result
     c.requires.may c.requires.within c.index-rules-number.is c.index-prepared-number.is in
     may.apart
 
 pub work-requires-clause-even : goal.work-requires-clause-even
-work-requires-clause-even c =
+work-requires-clause-even g c κs within =
     let may : MayRun c.index-rules-number.result c.index-prepared-number.result =
     at_pair MayRun c.args.rules.now c.args.prepared.now c.args.number c.index-rules-number.result c.index-prepared-number.result
     c.requires.may c.requires.within c.index-rules-number.is c.index-prepared-number.is in
     may.even
 
 pub returns-clause-worked : goal.returns-clause-worked
-returns-clause-worked c =
+returns-clause-worked g c =
     let defined = c.args.defined.now in
     let rules = c.args.rules.now in
     let number = c.args.number in
@@ -67,7 +67,7 @@ returns-clause-worked c =
     c.work.ensures.worked
 
 pub returns-clause-fault : goal.returns-clause-fault
-returns-clause-fault c =
+returns-clause-fault g c =
     let defined = c.args.defined.now in
     let rules = c.args.rules.now in
     let number = c.args.number in

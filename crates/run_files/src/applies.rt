@@ -11,19 +11,25 @@ ghost use Rattle.run_files.specs.Applies.{IsReady, AppliesTo, Refuses};
 use crate::brings::refuse;
 use c_terms::Text;
 use outer_io::Sink;
+use par_match::Gate;
 use rule_chain::{Applied, apply};
 use rule_formulas::Prepared;
 use rule_work::FileFault;
 use run_acts::Stopped;
 use smpl_patch::Patch;
 use std::alloc::Global;
+use std::thread::Threads;
 
-/// A patch that is read, what its rules are run by, and the virtual names that hold.
+/// A patch that is read, what its rules are run by, the virtual names that hold, and how many jobs may be done at a time.
 #[derive(Clone, Copy)]
 pub struct Ready<'a> {
     pub patch: &'a Patch,
     pub prepared: &'a Prepared,
     pub defined: &'a [Text],
+    /// How many jobs may be done at a time.
+    pub jobs: u32,
+    pub ghost some_jobs: { 1 ≤ jobs },
+    pub ghost few_jobs: { jobs ≤ 64 },
 }
 
 fn is_no_memory(fault: &FileFault) -> bool
@@ -33,12 +39,14 @@ fn is_no_memory(fault: &FileFault) -> bool
 }
 
 /// The patch over the bytes; nothing where they are refused, whose line is reported.
-pub fn apply_or_refuse<E: Sink>(
+pub fn apply_or_refuse<R: Threads + Sync, E: Sink, G: Gate>(
+    rt: &R,
     alloc: Global,
     ready: &Ready<'_>,
     name: &str,
     bytes: Vec<u8>,
     err: &mut E,
+    gate: &G,
 ) -> Result<Option<Applied>, Stopped>
     requires ready { IsReady ready.now.patch.now ready.now.prepared.now }
     requires short { length bytes.items ≤ 16777216 }
@@ -51,7 +59,16 @@ pub fn apply_or_refuse<E: Sink>(
         (counts s o (E.faults err.old)) (counts s' o' (E.faults err.new))
         (told files stores out (E.written err.old)) (told files stores out (E.written err.new)) (status_of stopped)) }
 {
-    match apply(alloc, ready.patch, ready.prepared, ready.defined, bytes) {
+    match apply(
+        rt,
+        alloc,
+        ready.patch,
+        ready.prepared,
+        ready.defined,
+        bytes,
+        ready.jobs,
+        gate,
+    ) {
         Ok(applied) => Ok(Some(applied)),
         Err(fault) => {
             if is_no_memory(&fault) {

@@ -16,12 +16,14 @@ use crate::applies::{Ready, apply_or_refuse};
 use crate::brings::{keep, report_skipped, show};
 use c_terms::NoMemory;
 use outer_io::{Shelf, Sink};
+use par_match::Gate;
 use rule_chain::Applied;
 use run_acts::Stopped;
 use run_lines::summary;
 use run_words::Mode;
 use smpl_patch::Patch;
 use std::alloc::Global;
+use std::thread::Threads;
 use wit_print::print as report_of;
 
 /// What is compared with the text that is stored: the bytes as they were. Nothing is copied where none is stored.
@@ -40,7 +42,8 @@ fn copied(alloc: Global, mode: Mode, bytes: &[u8]) -> Result<Vec<u8>, NoMemory>
 ///
 /// Costs one [`apply`](rule_chain::apply), its report or its text, and under `in_place` a copy of the bytes. Stops at the first act
 /// that fails, and where memory is wanting.
-pub fn treat<S: Shelf, O: Sink, E: Sink>(
+pub fn treat<R: Threads + Sync, S: Shelf, O: Sink, E: Sink, G: Gate>(
+    rt: &R,
     alloc: Global,
     ready: &Ready<'_>,
     mode: Mode,
@@ -49,6 +52,7 @@ pub fn treat<S: Shelf, O: Sink, E: Sink>(
     shelf: &mut S,
     out: &mut O,
     err: &mut E,
+    gate: &G,
 ) -> Result<bool, Stopped>
     requires ready { IsReady ready.now.patch.now ready.now.prepared.now }
     requires short { length bytes.items ≤ 16777216 }
@@ -65,7 +69,7 @@ pub fn treat<S: Shelf, O: Sink, E: Sink>(
         (told (S.holds shelf.new) (S.stores shelf.new) (O.written out.new) (E.written err.new)) (status_of stopped)) }
 {
     let old = copied(alloc, mode, &bytes)?;
-    let Some(applied) = apply_or_refuse(alloc, ready, name, bytes, err)? else {
+    let Some(applied) = apply_or_refuse(rt, alloc, ready, name, bytes, err, gate)? else {
         return Ok(true);
     };
     report_skipped(alloc, err, name, applied.skipped.as_slice())?;
@@ -136,13 +140,15 @@ fn keep_file<S: Shelf, E: Sink>(
 /// its summary on the output; or the line of its refusal and nothing else. Whether it is refused.
 ///
 /// Costs one [`apply`](rule_chain::apply) and one [`summary`]. Stops at the first act that fails, and where memory is wanting.
-pub fn sum<O: Sink, E: Sink>(
+pub fn sum<R: Threads + Sync, O: Sink, E: Sink, G: Gate>(
+    rt: &R,
     alloc: Global,
     ready: &Ready<'_>,
     name: &str,
     bytes: Vec<u8>,
     out: &mut O,
     err: &mut E,
+    gate: &G,
 ) -> Result<bool, Stopped>
     requires ready { IsReady ready.now.patch.now ready.now.prepared.now }
     requires short { length bytes.items ≤ 16777216 }
@@ -157,7 +163,7 @@ pub fn sum<O: Sink, E: Sink>(
         (told files stores (O.written out.old) (E.written err.old)) (told files stores (O.written out.new) (E.written err.new))
         (status_of stopped)) }
 {
-    let Some(applied) = apply_or_refuse(alloc, ready, name, bytes, err)? else {
+    let Some(applied) = apply_or_refuse(rt, alloc, ready, name, bytes, err, gate)? else {
         return Ok(true);
     };
     report_skipped(alloc, err, name, applied.skipped.as_slice())?;

@@ -11,10 +11,12 @@ ghost use Rattle.spatch_run.specs.Answer.{answer};
 
 use crate::refusals::refuse_absent;
 use outer_io::{Shelf, Sink};
+use par_match::Gate;
 use run_acts::{Loaded, Status, Stopped, load};
 use run_files::{Ready, refuse_long, treat};
 use run_words::Mode;
 use std::alloc::Global;
+use std::thread::Threads;
 
 const FILE_LIMIT: u64 = 16_777_216;
 
@@ -44,7 +46,8 @@ pub enum Turn {
 }
 
 /// Loads a file and treats it.
-fn take_turn<S: Shelf, O: Sink, E: Sink>(
+fn take_turn<R: Threads + Sync, S: Shelf, O: Sink, E: Sink, G: Gate>(
+    rt: &R,
     alloc: Global,
     ready: &Ready<'_>,
     mode: Mode,
@@ -52,6 +55,7 @@ fn take_turn<S: Shelf, O: Sink, E: Sink>(
     shelf: &mut S,
     out: &mut O,
     err: &mut E,
+    gate: &G,
 ) -> Result<Turn, Stopped>
     requires ready { IsReady ready.now.patch.now ready.now.prepared.now }
     ensures turned { IfOk result (λ turned. TurnsTo turned ready.now.patch.now ready.now.defined.now mode name.now
@@ -76,12 +80,13 @@ fn take_turn<S: Shelf, O: Sink, E: Sink>(
         }
         Loaded::Absent => return Ok(Turn::Absent),
     };
-    let refused = treat(alloc, ready, mode, name, bytes, shelf, out, err)?;
+    let refused = treat(rt, alloc, ready, mode, name, bytes, shelf, out, err, gate)?;
     Ok(Turn::Treated(refused))
 }
 
 /// The files in turn, up to the last, or to a name under which nothing stands.
-pub fn edit_files<S: Shelf, O: Sink, E: Sink>(
+pub fn edit_files<R: Threads + Sync, S: Shelf, O: Sink, E: Sink, G: Gate>(
+    rt: &R,
     alloc: Global,
     ready: &Ready<'_>,
     mode: Mode,
@@ -89,6 +94,7 @@ pub fn edit_files<S: Shelf, O: Sink, E: Sink>(
     shelf: &mut S,
     out: &mut O,
     err: &mut E,
+    gate: &G,
 ) -> Result<Status, Stopped>
     requires ready { IsReady ready.now.patch.now ready.now.prepared.now }
     ensures ends { Ends (going [] ready.now.patch.now ready.now.defined.now mode (map (λ name. name.now) names.now) false)
@@ -100,7 +106,7 @@ pub fn edit_files<S: Shelf, O: Sink, E: Sink>(
 {
     let mut refused = false;
     for name in names {
-        match take_turn(alloc, ready, mode, name, shelf, out, err)? {
+        match take_turn(rt, alloc, ready, mode, name, shelf, out, err, gate)? {
             Turn::Absent => return refuse_absent(alloc, err, name),
             Turn::Treated(here) => refused = either(refused, here),
         }

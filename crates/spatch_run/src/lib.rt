@@ -21,17 +21,21 @@ mod texts;
 
 use c_terms::Text;
 use outer_io::{Shelf, Sink};
+use par_match::Gate;
 pub use run_acts::Status;
 use run_laws::statuses_have_a_cause;
 use stages::{follow_words, status_of};
+use std::thread::Threads;
 
-/// Does what the words ask for, and answers the status.
-pub fn run<R: AllocGlobal, S: Shelf, O: Sink, E: Sink>(
+/// Does what the words ask for, and answers the status. Items are matched by as many jobs at a time as the words ask for; the gate
+/// is told of each job before it begins.
+pub fn run<R: AllocGlobal + Threads + Sync, S: Shelf, O: Sink, E: Sink, G: Gate>(
     rt: &R,
     words: &[Text],
     shelf: &mut S,
     out: &mut O,
     err: &mut E,
+    gate: &G,
 ) -> u8
     // Where nothing fails, the acts done are those of these words and this shelf, and the answer is their status.
     ensures exact { IsExact words.now
@@ -63,5 +67,5 @@ pub fn run<R: AllocGlobal, S: Shelf, O: Sink, E: Sink>(
         result }
 {
     statuses_have_a_cause();
-    status_of(follow_words(rt.alloc(), words, shelf, out, err)).number()
+    status_of(follow_words(rt, rt.alloc(), words, shelf, out, err, gate)).number()
 }

@@ -26,6 +26,7 @@ use ctl_translate::FormulaFault;
 use iso_expand::{ExpandFault, expand};
 use iso_file::{IsoFault, read_isos};
 use outer_io::{Shelf, Sink};
+use par_match::Gate;
 use rule_formulas::{Prepared, prepare};
 use run_acts::{Loaded, Status, Stopped, load};
 use run_files::Ready;
@@ -33,6 +34,7 @@ use run_words::{Order, PatchOrder, Target, order_of, texts_of};
 use smpl_file::read_patch;
 use smpl_patch::{Iso, Patch, PatchFault};
 use std::alloc::Global;
+use std::thread::Threads;
 
 /// The most bytes of a patch, and of a file of isomorphisms.
 const PATCH_LIMIT: u64 = 1_048_576;
@@ -48,12 +50,14 @@ pub fn status_of(end: Result<Status, Stopped>) -> Status
 }
 
 /// Reads the words, and does what they ask for.
-pub fn follow_words<S: Shelf, O: Sink, E: Sink>(
+pub fn follow_words<R: Threads + Sync, S: Shelf, O: Sink, E: Sink, G: Gate>(
+    rt: &R,
     alloc: Global,
     words: &[Text],
     shelf: &mut S,
     out: &mut O,
     err: &mut E,
+    gate: &G,
 ) -> Result<Status, Stopped>
     ensures ends { Follows words.now
         (counts (S.faults shelf.old) (O.faults out.old) (E.faults err.old))
@@ -65,17 +69,19 @@ pub fn follow_words<S: Shelf, O: Sink, E: Sink>(
     match texts_of(alloc, words) {
         Err(NoMemory) => Err(Stopped::NoMemory),
         Ok(None) => refuse_words(err),
-        Ok(Some(texts)) => follow_texts(alloc, &texts, shelf, out, err),
+        Ok(Some(texts)) => follow_texts(rt, alloc, &texts, shelf, out, err, gate),
     }
 }
 
 /// Reads the words that are text, and does what they ask for.
-fn follow_texts<S: Shelf, O: Sink, E: Sink>(
+fn follow_texts<R: Threads + Sync, S: Shelf, O: Sink, E: Sink, G: Gate>(
+    rt: &R,
     alloc: Global,
     texts: &[&str],
     shelf: &mut S,
     out: &mut O,
     err: &mut E,
+    gate: &G,
 ) -> Result<Status, Stopped>
     requires texts { list_all is_utf8 (map (λ t. t.now) texts.now) ≡ true }
     ensures ends { Follows (map (λ t. t.now) texts.now)
@@ -89,7 +95,7 @@ fn follow_texts<S: Shelf, O: Sink, E: Sink>(
         Err(NoMemory) => Err(Stopped::NoMemory),
         Ok(None) => refuse_words(err),
         Ok(Some(Order::Generate(seed, functions))) => print_text(alloc, seed, functions, out, err),
-        Ok(Some(Order::Apply(order))) => follow_order(alloc, &order, shelf, out, err),
+        Ok(Some(Order::Apply(order))) => follow_order(rt, alloc, &order, shelf, out, err, gate),
     }
 }
 
@@ -101,12 +107,14 @@ fn is_no_memory(fault: &PatchFault) -> bool
 }
 
 /// Loads and reads the patch, and goes on with it.
-fn follow_order<S: Shelf, O: Sink, E: Sink>(
+fn follow_order<R: Threads + Sync, S: Shelf, O: Sink, E: Sink, G: Gate>(
+    rt: &R,
     alloc: Global,
     order: &PatchOrder<'_>,
     shelf: &mut S,
     out: &mut O,
     err: &mut E,
+    gate: &G,
 ) -> Result<Status, Stopped>
     requires few { few_functions order.now.target }
     ensures ends { Ends (Doing [] (ReadPatch order.now.patch.now (shown_isos order.now.isos) order.now.defined.items (shown_target order.now.target)))
@@ -122,7 +130,7 @@ fn follow_order<S: Shelf, O: Sink, E: Sink>(
         Loaded::Absent => return refuse_absent(alloc, err, order.patch),
     };
     match read_patch(alloc, &bytes) {
-        Ok(patch) => give_forms(alloc, order, patch, shelf, out, err),
+        Ok(patch) => give_forms(rt, alloc, order, patch, shelf, out, err, gate),
         Err(fault) => {
             if is_no_memory(&fault) {
                 return Err(Stopped::NoMemory);
@@ -133,13 +141,15 @@ fn follow_order<S: Shelf, O: Sink, E: Sink>(
 }
 
 /// Gives the patch its forms, where isomorphisms are named, and goes on with it.
-fn give_forms<S: Shelf, O: Sink, E: Sink>(
+fn give_forms<R: Threads + Sync, S: Shelf, O: Sink, E: Sink, G: Gate>(
+    rt: &R,
     alloc: Global,
     order: &PatchOrder<'_>,
     patch: Patch,
     shelf: &mut S,
     out: &mut O,
     err: &mut E,
+    gate: &G,
 ) -> Result<Status, Stopped>
     requires few { few_functions order.now.target }
     requires read { (bytes : List ℕ) × IsPatchOf bytes patch }
@@ -152,8 +162,8 @@ fn give_forms<S: Shelf, O: Sink, E: Sink>(
 {
     patches_may_be_used();
     match order.isos {
-        None => use_patch(alloc, order, &patch, shelf, out, err),
-        Some(name) => load_isos(alloc, order, patch, name, shelf, out, err),
+        None => use_patch(rt, alloc, order, &patch, shelf, out, err, gate),
+        Some(name) => load_isos(rt, alloc, order, patch, name, shelf, out, err, gate),
     }
 }
 
@@ -165,7 +175,8 @@ fn is_no_memory_for_isos(fault: IsoFault) -> bool
 }
 
 /// Loads and reads the isomorphisms, and goes on with the patch under them.
-fn load_isos<S: Shelf, O: Sink, E: Sink>(
+fn load_isos<R: Threads + Sync, S: Shelf, O: Sink, E: Sink, G: Gate>(
+    rt: &R,
     alloc: Global,
     order: &PatchOrder<'_>,
     patch: Patch,
@@ -173,6 +184,7 @@ fn load_isos<S: Shelf, O: Sink, E: Sink>(
     shelf: &mut S,
     out: &mut O,
     err: &mut E,
+    gate: &G,
 ) -> Result<Status, Stopped>
     requires few { few_functions order.now.target }
     requires read { (bytes : List ℕ) × IsPatchOf bytes patch }
@@ -189,7 +201,18 @@ fn load_isos<S: Shelf, O: Sink, E: Sink>(
         Loaded::Absent => return refuse_absent(alloc, err, name),
     };
     match read_isos(alloc, &bytes) {
-        Ok(isos) => expand_patch(alloc, order, patch, name, isos.as_slice(), shelf, out, err),
+        Ok(isos) => expand_patch(
+            rt,
+            alloc,
+            order,
+            patch,
+            name,
+            isos.as_slice(),
+            shelf,
+            out,
+            err,
+            gate,
+        ),
         Err(fault) => {
             if is_no_memory_for_isos(fault) {
                 return Err(Stopped::NoMemory);
@@ -200,7 +223,8 @@ fn load_isos<S: Shelf, O: Sink, E: Sink>(
 }
 
 /// Gives the patch its forms under the isomorphisms of this name, and goes on with it.
-fn expand_patch<S: Shelf, O: Sink, E: Sink>(
+fn expand_patch<R: Threads + Sync, S: Shelf, O: Sink, E: Sink, G: Gate>(
+    rt: &R,
     alloc: Global,
     order: &PatchOrder<'_>,
     patch: Patch,
@@ -209,6 +233,7 @@ fn expand_patch<S: Shelf, O: Sink, E: Sink>(
     shelf: &mut S,
     out: &mut O,
     err: &mut E,
+    gate: &G,
 ) -> Result<Status, Stopped>
     requires few { few_functions order.now.target }
     requires read { (bytes : List ℕ) × IsPatchOf bytes patch }
@@ -221,7 +246,7 @@ fn expand_patch<S: Shelf, O: Sink, E: Sink>(
 {
     patches_may_be_used();
     match expand(alloc, patch, isos) {
-        Ok(whole) => use_patch(alloc, order, &whole, shelf, out, err),
+        Ok(whole) => use_patch(rt, alloc, order, &whole, shelf, out, err, gate),
         Err(ExpandFault::NoMemory) => Err(Stopped::NoMemory),
         Err(ExpandFault::TooManyForms(rule)) => refuse_forms(alloc, err, name, rule),
     }
@@ -250,13 +275,15 @@ fn prepared(alloc: Global, patch: &Patch) -> Result<Prepared, NoMemory>
 }
 
 /// Applies the patch to what the order names.
-fn use_patch<S: Shelf, O: Sink, E: Sink>(
+fn use_patch<R: Threads + Sync, S: Shelf, O: Sink, E: Sink, G: Gate>(
+    rt: &R,
     alloc: Global,
     order: &PatchOrder<'_>,
     patch: &Patch,
     shelf: &mut S,
     out: &mut O,
     err: &mut E,
+    gate: &G,
 ) -> Result<Status, Stopped>
     requires few { few_functions order.now.target }
     requires usable { IsUsable patch.now }
@@ -272,9 +299,14 @@ fn use_patch<S: Shelf, O: Sink, E: Sink>(
         patch,
         prepared: &prepared,
         defined: &order.defined,
+        jobs: order.jobs,
     };
     match &order.target {
-        Target::Files(mode, names) => edit_files(alloc, &ready, *mode, names, shelf, out, err),
-        Target::Text(seed, functions) => sum_text(alloc, &ready, *seed, *functions, out, err),
+        Target::Files(mode, names) => edit_files(
+            rt, alloc, &ready, *mode, names, shelf, out, err, gate,
+        ),
+        Target::Text(seed, functions) => sum_text(
+            rt, alloc, &ready, *seed, *functions, out, err, gate,
+        ),
     }
 }

@@ -12,10 +12,12 @@ ghost use Rattle.spatch_run.specs.Answer.{answer};
 
 use crate::files::end_status;
 use outer_io::Sink;
+use par_match::Gate;
 use run_acts::{Status, Stopped, print};
 use run_files::{Ready, sum};
 use sp_gen::generate;
 use std::alloc::Global;
+use std::thread::Threads;
 
 /// The name of a generated text.
 const GENERATED: &str = "generated";
@@ -39,13 +41,15 @@ pub fn print_text<O: Sink, E: Sink>(
 }
 
 /// The text of a seed, of so many functions, under a patch.
-pub fn sum_text<O: Sink, E: Sink>(
+pub fn sum_text<R: Threads + Sync, O: Sink, E: Sink, G: Gate>(
+    rt: &R,
     alloc: Global,
     ready: &Ready<'_>,
     seed: u64,
     functions: u32,
     out: &mut O,
     err: &mut E,
+    gate: &G,
 ) -> Result<Status, Stopped>
     requires ready { IsReady ready.now.patch.now ready.now.prepared.now }
     requires few { functions ≤ 100000 }
@@ -56,6 +60,6 @@ pub fn sum_text<O: Sink, E: Sink>(
         (answer result) }
 {
     let text = generate(alloc, seed, functions)?;
-    let refused = sum(alloc, ready, GENERATED, text, out, err)?;
+    let refused = sum(rt, alloc, ready, GENERATED, text, out, err, gate)?;
     Ok(end_status(refused))
 }

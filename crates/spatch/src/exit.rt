@@ -5,16 +5,19 @@ ghost use Rattle.spatch_run.specs.Callers.{told, counts, IsExact, EndsRightly};
 
 use c_terms::{NoMemory, Text};
 use outer_io::{Shelf, Sink};
+use par_match::Gate;
 use spatch_run::{Status, run};
 use std::process::ExitCode;
+use std::thread::Threads;
 
 /// Runs the words, and ends with the status of the run, or for want of memory where they found none.
-pub fn exit_of<R: AllocGlobal, S: Shelf, O: Sink, E: Sink>(
+pub fn exit_of<R: AllocGlobal + Threads + Sync, S: Shelf, O: Sink, E: Sink, G: Gate>(
     rt: &R,
     words: Result<Vec<Text>, NoMemory>,
     shelf: &mut S,
     out: &mut O,
     err: &mut E,
+    gate: &G,
 ) -> ExitCode
     ensures no_words { OnErr words (exit_status result ≡ 7) }
 
@@ -33,7 +36,7 @@ pub fn exit_of<R: AllocGlobal, S: Shelf, O: Sink, E: Sink>(
         (exit_status result)) }
 {
     match words {
-        Ok(words) => ExitCode::from(run(rt, &words, shelf, out, err)),
+        Ok(words) => ExitCode::from(run(rt, &words, shelf, out, err, gate)),
         Err(NoMemory) => ExitCode::from(Status::NoMemory.number()),
     }
 }

@@ -10,6 +10,7 @@ mod words;
 
 use exit::exit_of;
 use outer_io::{ErrSink, FileShelf, OutSink};
+use par_match::FreeGate;
 use std::process::ExitCode;
 use words::words_after_name;
 
@@ -18,5 +19,5 @@ fn main(rt: HostRuntime) -> ExitCode {
     let mut shelf = FileShelf::new(&rt);
     let mut out = OutSink::new(rt.stdout());
     let mut err = ErrSink::new(rt.stderr());
-    exit_of(&rt, words, &mut shelf, &mut out, &mut err)
+    exit_of(&rt, words, &mut shelf, &mut out, &mut err, &FreeGate)
 }

@@ -6,7 +6,7 @@ use Rattle.rule_chain.proofs.chain.over_readings.Given as goal
 
 -- whatever end the rules that are left lead to from here, all rules lead to it from the start
 abbrev pub invariant-loop-number : goal.invariant-loop-number
-invariant-loop-number l = record {
+invariant-loop-number g l = record {
   on : (s : Chained) → IsAt l.initial.reached s → (now : Chained) × (IsAt l.reached now
       × ((end : Outcome) → Runs l.defined l.reached.done (drop l.reached.done l.rules) now end → Runs l.defined 0 (drop 0 l.rules) s end));
   far : l.number ≤ l.reached.done;

@@ -37,8 +37,8 @@ module _ (patch : Patch) (defined : List (List ℕ)) (mode : Mode) (xs : List (B
 pub loop-name-init : goal.loop-name-init
 loop-name-init g c = record { fell = NoneFell-refl _; goes = Goes-refl _ _ }
 
-pub take_turn-requires : goal.take_turn-requires
-take_turn-requires g c = c.requires
+pub take_turn-requires-clause-ready : goal.take_turn-requires-clause-ready
+take_turn-requires-clause-ready g c κs within = c.requires.ready
 
 pub returns-in_err-take_turn : goal.returns-in_err-take_turn
 returns-in_err-take_turn g c = record {

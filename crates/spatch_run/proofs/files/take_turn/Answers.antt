@@ -8,10 +8,13 @@ use Rattle.spatch_run.proofs.Leading.{no_trace}
 use Rattle.spatch_run.proofs.Treating.{file_cut, long_cut, turns_long, turns_treated, turns_absent}
 use Rattle.spatch_run.proofs.files.take_turn.Goals as goal
 
-pub treat-requires : goal.treat-requires
-treat-requires g c =
+pub treat-requires-clause-ready : goal.treat-requires-clause-ready
+treat-requires-clause-ready g c κs within = c.requires.ready
+
+pub treat-requires-clause-short : goal.treat-requires-clause-short
+treat-requires-clause-short g c κs within =
     let found = rw c.in-Bytes.is at c.in_ok-bytes.ensures.loaded in
-    record { ready = c.requires.ready; short = found.1.1.1 }
+    found.1.1.1
 
 pub returns-in_err-bytes-clause-fell : goal.returns-in_err-bytes-clause-fell
 returns-in_err-bytes-clause-fell g c = record { shelf = c.in_err-bytes.ensures.later; out = omega arith; err = c.in_err-bytes.ensures.later_err }

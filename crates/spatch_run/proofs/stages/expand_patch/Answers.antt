@@ -10,11 +10,12 @@ use Rattle.spatch_run.proofs.stages.expand_patch.Goals as goal
 pub expand-requires : goal.expand-requires
 expand-requires g c = (c.patches_may_be_used.ensures.read c.requires.read.0 c.args.patch c.requires.read.1).few
 
-pub use_patch-requires : goal.use_patch-requires
-use_patch-requires g c = record {
-  few = c.requires.few;
-  usable = c.patches_may_be_used.ensures.expanded c.requires.read.0 c.args.isos.now c.args.patch c.in-Ok.whole c.requires.read.1 c.in-Ok.ensures.patch;
-}
+pub use_patch-requires-clause-few : goal.use_patch-requires-clause-few
+use_patch-requires-clause-few g c κs within = c.requires.few
+
+pub use_patch-requires-clause-usable : goal.use_patch-requires-clause-usable
+use_patch-requires-clause-usable g c κs within =
+    c.patches_may_be_used.ensures.expanded c.requires.read.0 c.args.isos.now c.args.patch c.in-Ok.whole c.requires.read.1 c.in-Ok.ensures.patch
 
 pub returns-in-Ok : goal.returns-in-Ok
 returns-in-Ok g c = record {

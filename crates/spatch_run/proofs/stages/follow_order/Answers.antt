@@ -12,8 +12,11 @@ use Rattle.spatch_run.proofs.Chain.{broken}
 use Rattle.spatch_run.proofs.Leading.{no_trace, loaded, loaded_unfed, loaded_by, not_memory, patch_absent, patch_long, patch_bad, patch_read}
 use Rattle.spatch_run.proofs.stages.follow_order.Goals as goal
 
-pub give_forms-requires : goal.give_forms-requires
-give_forms-requires g c = record { few = c.requires.few; read = (c.deref.result.now, c.in-Ok.ensures.patch) }
+pub give_forms-requires-clause-few : goal.give_forms-requires-clause-few
+give_forms-requires-clause-few g c κs within = c.requires.few
+
+pub give_forms-requires-clause-read : goal.give_forms-requires-clause-read
+give_forms-requires-clause-read g c κs within = (c.deref.result.now, c.in-Ok.ensures.patch)
 
 pub returns-in_err-bytes : goal.returns-in_err-bytes
 returns-in_err-bytes g c = record {

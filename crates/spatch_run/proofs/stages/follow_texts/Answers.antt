@@ -25,10 +25,10 @@ returns-in-Ok-Some-Generate g c = record {
       follows (map (λ t. t.now) c.args.texts.now) (Some (Generate c.in-Ok-Some-Generate.seed c.in-Ok-Some-Generate.functions)) (sym asked) (c.print_text.ensures.ends _ _ _);
 }
 
-pub follow_order-requires : goal.follow_order-requires
-follow_order-requires g c =
+pub follow_order-requires-clause-few : goal.follow_order-requires-clause-few
+follow_order-requires-clause-few g c κs within =
     let asked = rw c.in-Ok-Some-Apply.field-0-0-is at (rw c.in-Ok-Some-Apply.field-0-is at c.in-Ok-Some-Apply.ensures) in
-    record { few = few_ordered (map (λ t. t.now) c.args.texts.now) c.in-Ok-Some-Apply.order.patch.now (shown_isos c.in-Ok-Some-Apply.order.isos) c.in-Ok-Some-Apply.order.defined.items c.in-Ok-Some-Apply.order.target (sym asked) }
+    few_ordered (map (λ t. t.now) c.args.texts.now) c.in-Ok-Some-Apply.order.patch.now (shown_isos c.in-Ok-Some-Apply.order.isos) c.in-Ok-Some-Apply.order.defined.items c.in-Ok-Some-Apply.order.target (sym asked)
 
 pub returns-in-Ok-Some-Apply : goal.returns-in-Ok-Some-Apply
 returns-in-Ok-Some-Apply g c = record {

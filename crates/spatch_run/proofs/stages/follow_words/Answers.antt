@@ -3,10 +3,10 @@ use Rattle.spatch_run.proofs.Beginning.{unfed_first, follows}
 use Rattle.spatch_run.proofs.Few.{none_asked}
 use Rattle.spatch_run.proofs.stages.follow_words.Goals as goal
 
-pub follow_texts-requires : goal.follow_texts-requires
-follow_texts-requires g c =
+pub follow_texts-requires-clause-texts : goal.follow_texts-requires-clause-texts
+follow_texts-requires-clause-texts g c κs within =
     let p = rw c.in-Ok-Some.field-0-is at c.in-Ok-Some.ensures in
-    record { texts = rw (c.deref.ensures.value, p.0) p.1 }
+    rw (c.deref.ensures.value, p.0) p.1
 
 pub returns-in-Err : goal.returns-in-Err
 returns-in-Err g c = record { ends = unfed_first _ _ _ }

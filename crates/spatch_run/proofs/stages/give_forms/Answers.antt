@@ -4,8 +4,11 @@ use Rattle.run_stages.specs.Stages.{Doing, ReadIsos}
 use Rattle.run_stages.specs.Ends.LeadsBy.{from}
 use Rattle.spatch_run.proofs.stages.give_forms.Goals as goal
 
-pub use_patch-requires : goal.use_patch-requires
-use_patch-requires g c = record { few = c.requires.few; usable = c.patches_may_be_used.ensures.read c.requires.read.0 c.args.patch c.requires.read.1 }
+pub use_patch-requires-clause-few : goal.use_patch-requires-clause-few
+use_patch-requires-clause-few g c κs within = c.requires.few
+
+pub use_patch-requires-clause-usable : goal.use_patch-requires-clause-usable
+use_patch-requires-clause-usable g c κs within = c.patches_may_be_used.ensures.read c.requires.read.0 c.args.patch c.requires.read.1
 
 pub returns-in-None : goal.returns-in-None
 returns-in-None g c = record { ends = rw c.in-None.is c.use_patch.ensures.ends }

@@ -12,8 +12,11 @@ use Rattle.spatch_run.proofs.Chain.{broken}
 use Rattle.spatch_run.proofs.Leading.{no_trace, loaded, loaded_unfed, loaded_by, not_memory, isos_absent, isos_long, isos_bad, isos_read}
 use Rattle.spatch_run.proofs.stages.load_isos.Goals as goal
 
-pub expand_patch-requires : goal.expand_patch-requires
-expand_patch-requires g c = record { few = c.requires.few; read = c.requires.read }
+pub expand_patch-requires-clause-few : goal.expand_patch-requires-clause-few
+expand_patch-requires-clause-few g c κs within = c.requires.few
+
+pub expand_patch-requires-clause-read : goal.expand_patch-requires-clause-read
+expand_patch-requires-clause-read g c κs within = c.requires.read
 
 pub returns-in_err-bytes : goal.returns-in_err-bytes
 returns-in_err-bytes g c = record {

@@ -8,8 +8,12 @@ use Rattle.spatch_run.proofs.stages.use_patch.Goals as goal
 pub prepared-requires : goal.prepared-requires
 prepared-requires g c = record { formulas = c.requires.usable.formulas }
 
-pub edit_files-requires : goal.edit_files-requires
-edit_files-requires g c = record { ready = record { few = c.requires.usable.few; prepared_are = c.in_ok-prepared.ensures; may = c.requires.usable.may c.in_ok-prepared.prepared.rules c.in_ok-prepared.ensures } }
+pub edit_files-requires-clause-ready : goal.edit_files-requires-clause-ready
+edit_files-requires-clause-ready g c κs within = record {
+  few = c.requires.usable.few;
+  prepared_are = c.in_ok-prepared.ensures;
+  may = c.requires.usable.may c.in_ok-prepared.prepared.rules c.in_ok-prepared.ensures;
+}
 
 pub returns-in_err-prepared : goal.returns-in_err-prepared
 returns-in_err-prepared g c = record {

@@ -6,11 +6,11 @@ use Rattle.run_stages.specs.Ends.LeadsBy.{unfed}
 use Rattle.spatch_run.proofs.Treating.{sum_done, sum_cut}
 use Rattle.spatch_run.proofs.texts.sum_text.Goals as goal
 
-pub sum-requires : goal.sum-requires
-sum-requires g c = record {
-  ready = c.requires.ready;
-  short = c.in_ok-text.ensures.fits_a_file c.requires.few;
-}
+pub sum-requires-clause-ready : goal.sum-requires-clause-ready
+sum-requires-clause-ready g c κs within = c.requires.ready
+
+pub sum-requires-clause-short : goal.sum-requires-clause-short
+sum-requires-clause-short g c κs within = c.in_ok-text.ensures.fits_a_file c.requires.few
 
 pub returns-in_err-text : goal.returns-in_err-text
 returns-in_err-text g c = record {

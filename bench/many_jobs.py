@@ -1,69 +1,85 @@
 #!/usr/bin/env python3
-"""Prints how long whole runs take with 1, 2 and 4 jobs, by the clock, the best of three.
+"""Prints how long whole runs take with 1, 2 and 4 jobs, by the clock: the median, the best, and how often the median goes into that of
+one job. The numbers of jobs take turns, round by round, so that other work on the machine meets all of them.
 
-Usage: bench/many_jobs.py PROGRAM
+Usage: bench/many_jobs.py PROGRAM [ROUNDS]
 
-The program runs over 64 functions of 2,000 calls each, under a rule of two calls between dots, which edits nothing, so that nearly
-all of the time is matching; over 200 such functions under a rule that replaces each call, where reading, edits and printing in one
-thread take about half; and over one small function. Each answer must be that of one job.
+ROUNDS is 9 where it is left out. The program runs on four files, each answer being that of one job:
+
+locks   96 functions, in each of which 100 locks are taken, used and let go one after another, 335 KB, under a rule that looks for a lock
+        that is taken twice, which it finds nowhere. Nearly all of the time is matching: this is the file that tells how well jobs share it
+pairs   64 functions of 2,000 calls each, 1.3 MB, under a rule of two calls between dots, which edits nothing. In one thread are reading,
+        and the walk over the 256,000 values that the jobs found, which is looked through for edits, together a fifth of the work
+edits   200 such functions, 4.2 MB, under a rule that replaces each call, where reading, edits and printing in one thread take about half
+small   one function of two calls
 """
 import os
+import statistics
 import subprocess
 import sys
 import tempfile
 import time
 
-PAIRS = """@r exists@
-expression E, F;
-@@
- start();
- ... when any
- g(E);
- ... when any
- g(F);
- ... when any
- stop();
-"""
+JOBS = (1, 2, 4)
 
-EDITS = """@r@
-expression E;
-@@
- start();
- ... when any
--g(E);
-+h(E);
- ... when any
- stop();
-"""
+LOCKS = "@r exists@\nexpression E;\n@@\n* lock(E);\n  ... when != unlock(E)\n* lock(E);\n"
+
+PAIRS = "@r exists@\nexpression E, F;\n@@\n start();\n ... when any\n g(E);\n ... when any\n g(F);\n ... when any\n stop();\n"
+
+EDITS = "@r@\nexpression E;\n@@\n start();\n ... when any\n-g(E);\n+h(E);\n ... when any\n stop();\n"
 
 
-def functions(count, calls):
-    body = "".join(f"\tg(x{k});\n" for k in range(calls))
-    return "".join(f"void f{i}(void)\n{{\n\tstart();\n{body}\tstop();\n}}\n" for i in range(count))
+def functions(count, body):
+    return "".join(f"void f{i}(void)\n{{\n{body}}}\n" for i in range(count))
 
 
-def timed(words):
+def locking(locks):
+    return "".join(f"\tlock(x{k});\n\tg(x{k});\n\tunlock(x{k});\n" for k in range(locks))
+
+
+def calling(calls):
+    return "\tstart();\n" + "".join(f"\tg(x{k});\n" for k in range(calls)) + "\tstop();\n"
+
+
+FILES = (("locks", LOCKS, functions(96, locking(100))), ("pairs", PAIRS, functions(64, calling(2000))),
+         ("edits", EDITS, functions(200, calling(2000))), ("small", EDITS, functions(1, calling(2))))
+
+
+def timed(program, jobs):
     start = time.monotonic()
-    ran = subprocess.run(words, capture_output=True, check=True)
+    ran = subprocess.run([program, "--jobs", str(jobs), "--sp-file", "p", "k.c"], capture_output=True, check=True)
     return time.monotonic() - start, ran.stdout
+
+
+def measured(program, name, rounds):
+    """For each number of jobs the seconds of its runs."""
+    _, first = timed(program, 1)
+    took = {jobs: [] for jobs in JOBS}
+    for _ in range(rounds):
+        for jobs in JOBS:
+            seconds, out = timed(program, jobs)
+            if out != first:
+                sys.exit(f"{name}: {jobs} jobs print something else than one")
+            took[jobs].append(seconds)
+    return took
 
 
 def main():
     program = os.path.abspath(sys.argv[1])
+    rounds = int(sys.argv[2]) if len(sys.argv) > 2 else 9
+    print(f"{rounds} rounds on {os.cpu_count()} cores, which had the work of {os.getloadavg()[0]:.1f} before")
     with tempfile.TemporaryDirectory() as place:
         os.chdir(place)
-        for name, patch, count, calls in (("pairs", PAIRS, 64, 2000), ("edits", EDITS, 200, 2000), ("small", EDITS, 1, 2)):
+        for name, patch, text in FILES:
             with open("p", "w") as to:
                 to.write(patch)
             with open("k.c", "w") as to:
-                to.write(functions(count, calls))
-            first = None
-            for jobs in (1, 2, 4):
-                runs = [timed([program, "--jobs", str(jobs), "--sp-file", "p", "k.c"]) for _ in range(3)]
-                first = first or runs[0][1]
-                if any(out != first for _, out in runs):
-                    sys.exit(f"{name}: {jobs} jobs print something else than one")
-                print(f"{name}, {jobs} jobs: {min(took for took, _ in runs):.3f} s")
+                to.write(text)
+            took = measured(program, name, rounds)
+            one = statistics.median(took[1])
+            for jobs in JOBS:
+                median = statistics.median(took[jobs])
+                print(f"{name}, {jobs} jobs: median {median:.3f} s, best {min(took[jobs]):.3f} s, {one / median:.2f} times as fast as one")
 
 
 main()

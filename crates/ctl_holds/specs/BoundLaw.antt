@@ -1,5 +1,6 @@
 -- The law on bound variables: each has a value of the graph.
 use Rattle.std.specs.Prelude.{◌≡◌, ℕ, true, List}
+use Rattle.std.specs.Coded.{Π_prop, →_prop, Coded-set, coded_bool}
 use Rattle.cfg_graph.specs.Flow.{Flow}
 use Rattle.smpl_terms.specs.declared.var.Var.{Var}
 use Rattle.smpl_terms.specs.Environments.{Environment}
@@ -16,6 +17,11 @@ use Rattle.ctl_holds.specs.Holding.{Holds}
 -- every variable is a sure one; no patch spells such a disjunction.
 abbrev pub SureStand : List VarDecl → List PatToken → Pattern → Type 0
 SureStand decls tokens p = (x : Var) → sure decls tokens p x ≡ true → stands decls tokens p x ≡ true
+
+-- which has one proof
+pub sure_stand-prop : (decls : List VarDecl) (tokens : List PatToken) (p : Pattern) → IsProp (SureStand decls tokens p)
+sure_stand-prop decls tokens p =
+    Π_prop (λ x. →_prop (Coded-set coded_bool (stands decls tokens p x) true))
 
 -- what a formula binds has a value of the graph where it holds, and what it binds where it fails has one where it doesn't
 pub record HasValues (decls : List VarDecl) (tokens : List PatToken) (g : Flow) (m : ℕ) (f : Plain) (s : ℕ)

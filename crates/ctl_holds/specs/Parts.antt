@@ -1,5 +1,6 @@
 -- The parts of a formula, their numbers in its table, and its patterns.
 use Rattle.std.specs.Prelude.{◌≡◌, ℕ, ◌<◌, ◌⊎◌, List, length}
+use Rattle.std.specs.Coded.{×_prop, Unit-prop}
 use Rattle.smpl_patch.specs.declared.pattern.Pattern.{Pattern}
 use Rattle.ctl_formula.specs.Plain.{Plain, True, Atom, Bail, Exit, BraceOpen, BraceClose, Not, And, Or, AX, EX, AU}
 use Rattle.ctl_formula.specs.Plain.{EU, Past, Down, Exists}
@@ -44,6 +45,25 @@ EachPattern P (EU f h) = EachPattern P f × EachPattern P h
 EachPattern P (Past f) = EachPattern P f
 EachPattern P (Down i f) = EachPattern P f
 EachPattern P (Exists x f) = EachPattern P f
+
+-- which has one proof, where it has one of each pattern
+pub each_pattern-prop : (P : Pattern → Type 0) → ((p : Pattern) → IsProp (P p)) → (f : Plain) → IsProp (EachPattern P f)
+each_pattern-prop P h True = Unit-prop
+each_pattern-prop P h (Atom p) = h p
+each_pattern-prop P h Bail = Unit-prop
+each_pattern-prop P h Exit = Unit-prop
+each_pattern-prop P h (BraceOpen p b) = h p
+each_pattern-prop P h (BraceClose p b) = h p
+each_pattern-prop P h (Not f) = each_pattern-prop P h f
+each_pattern-prop P h (And f k) = ×_prop (each_pattern-prop P h f) (each_pattern-prop P h k)
+each_pattern-prop P h (Or f k) = ×_prop (each_pattern-prop P h f) (each_pattern-prop P h k)
+each_pattern-prop P h (AX f) = each_pattern-prop P h f
+each_pattern-prop P h (EX f) = each_pattern-prop P h f
+each_pattern-prop P h (AU f k) = ×_prop (each_pattern-prop P h f) (each_pattern-prop P h k)
+each_pattern-prop P h (EU f k) = ×_prop (each_pattern-prop P h f) (each_pattern-prop P h k)
+each_pattern-prop P h (Past f) = each_pattern-prop P h f
+each_pattern-prop P h (Down i f) = each_pattern-prop P h f
+each_pattern-prop P h (Exists x f) = each_pattern-prop P h f
 
 -- the pattern of a node of a table is so, if it has one
 abbrev pub OwnPattern : (Pattern → Type 0) → Node → Type 0

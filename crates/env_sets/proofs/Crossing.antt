@@ -2,36 +2,19 @@
 use denote.Param.Send.{IsSend, IsSync, sendable, recorded_send, recorded_sync, enum_send, enum_sync}
 use denote.Enum.Declared.{shape}
 use Rattle.std.proofs.Crossing.{crosses}
-use Rattle.c_terms.specs.contracts.tree.Tree as Tree
-use Rattle.c_terms.proofs.token.Token.TheSendSync as Token
-use Rattle.c_terms.proofs.label.Label.TheSendSync as Label
-use Rattle.c_terms.proofs.tree.Tree.TheLaws.TheKnot.{send-Tree, sync-Tree}
-use Rattle.smpl_terms.specs.contracts.value.Value as Value
+use Rattle.smpl_terms.proofs.Crossing.{value_in_send, value_in_sync}
 use Rattle.env_sets.specs.contracts.runs.Runs as Runs
 use Rattle.env_sets.specs.contracts.excluded.Values as Values
 use Rattle.env_sets.specs.contracts.bounds.Bound as Bound
 use Rattle.env_sets.specs.contracts.entries.Entry as Entry
 use Rattle.env_sets.specs.contracts.sets.EnvSet as EnvSet
 
-tree_send : IsSend Tree.the_row
-tree_send = search (send-Tree, Token.the_field_send, Label.the_field_send, crosses, sendable) depth 60
-
-tree_sync : IsSync Tree.the_row
-tree_sync = search (sync-Tree, Token.the_field_sync, Label.the_field_sync, crosses, sendable) depth 60
-
--- a value as it stands in an enum
-value_send : IsSend (Value.the_field).row
-value_send = search (tree_send, tree_sync, crosses, sendable) depth 60
-
-value_sync : IsSync (Value.the_field).row
-value_sync = search (tree_send, tree_sync, crosses, sendable) depth 60
-
 -- the lists of excluded values, as they stand in a struct
 runs_send : IsSend (Runs.the_field).row
-runs_send = search (value_send, value_sync, crosses, sendable) depth 60
+runs_send = search (value_in_send, value_in_sync, crosses, sendable) depth 60
 
 runs_sync : IsSync (Runs.the_field).row
-runs_sync = search (value_send, value_sync, crosses, sendable) depth 60
+runs_sync = search (value_in_send, value_in_sync, crosses, sendable) depth 60
 
 values_send : IsSend Values.the_row
 values_send = search (runs_send, crosses, sendable) depth 60
@@ -40,10 +23,10 @@ values_sync : IsSync Values.the_row
 values_sync = search (runs_sync, crosses, sendable) depth 60
 
 bound_send : IsSend Bound.the_row
-bound_send = recorded_send _ _ _ (Bound.the_type).to_one (enum_send (shape Bound.the_type) ((value_send, tt), ((search (values_send, crosses, sendable) depth 60, tt), tt)))
+bound_send = recorded_send _ _ _ (Bound.the_type).to_one (enum_send (shape Bound.the_type) ((value_in_send, tt), ((search (values_send, crosses, sendable) depth 60, tt), tt)))
 
 bound_sync : IsSync Bound.the_row
-bound_sync = recorded_sync _ _ _ (Bound.the_type).to_one (enum_sync (shape Bound.the_type) ((value_sync, tt), ((search (values_sync, crosses, sendable) depth 60, tt), tt)))
+bound_sync = recorded_sync _ _ _ (Bound.the_type).to_one (enum_sync (shape Bound.the_type) ((value_in_sync, tt), ((search (values_sync, crosses, sendable) depth 60, tt), tt)))
 
 entry_send : IsSend Entry.the_row
 entry_send = search (bound_send, bound_sync, crosses, sendable) depth 60

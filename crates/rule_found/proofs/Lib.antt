@@ -4,4 +4,3 @@ pub mod AddLemmas
 pub mod PartLemmas
 pub mod ChosenLemmas
 pub mod GatherLemmas
-pub mod Crossing

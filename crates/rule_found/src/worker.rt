@@ -1,12 +1,12 @@
 // What does the jobs: each finds what a formula finds in one item.
 ghost use Rattle.std.specs.Prelude.{◌≡◌, ◌<◌, true, [], Option, length, slice_index_or, IfOk, Err};
 ghost use Rattle.ctl_formula.specs.Formulas.{plain};
-ghost use Rattle.ctl_holds.specs.Parts.{EachPattern};
-ghost use Rattle.ctl_holds.specs.BoundLaw.{SureStand};
+ghost use Rattle.ctl_holds.specs.Parts.{EachPattern, each_pattern-prop};
+ghost use Rattle.ctl_holds.specs.BoundLaw.{SureStand, sure_stand-prop};
 ghost use Rattle.rule_witnesses.specs.Jobs.{BindsExports};
 ghost use Rattle.rule_witnesses.specs.declared.fault.JobFault.TheVariants as fault;
 ghost use Rattle.std.specs.Coded.{Coded-set, coded_bool};
-ghost use Rattle.rule_found.specs.Asked.{all_new, each_pattern-prop, sure_stand-prop};
+ghost use Rattle.rule_found.specs.Asked.{all_new};
 ghost use Rattle.rule_found.specs.Lent.{lent_graph};
 ghost use Rattle.rule_found.specs.Parts.{AreParts, IsOver, found_by};
 

@@ -4,3 +4,4 @@ pub mod EqualLemmas
 pub mod FaultLemmas
 mod Examples
 pub mod NameLemmas
+pub mod Crossing

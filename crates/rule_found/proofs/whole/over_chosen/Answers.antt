@@ -2,10 +2,13 @@ use Rattle.std.proofs.Common.{◌≡◌, ap, ◌∙◌, sym, subst, arith, lengt
 use denote.Param.Send.{sendable}
 use Rattle.std.specs.Prelude.{slice_get}
 use Rattle.std.proofs.Crossing.{crosses}
+use Rattle.smpl_terms.proofs.Crossing.{env_sync, var_sync}
+use Rattle.smpl_patch.proofs.Crossing.{rule_witness_send}
+use Rattle.cfg_graph.proofs.Crossing.{graph_sync}
+use Rattle.ctl_formula.proofs.Crossing.{formula_sync}
 use Rattle.c_file.specs.Fit.{item_graph}
 use Rattle.rule_witnesses.specs.Jobs.{BindsExports}
 use Rattle.rule_found.specs.Asked.{all_new}
-use Rattle.rule_found.proofs.Crossing.{rule_witness_send, formula_sync, graph_sync, env_sync, var_sync}
 use Rattle.rule_found.proofs.PartLemmas.{new_tell}
 use Rattle.rule_found.proofs.GatherLemmas.{lent_count, answers_are, all_within, all_found, all_small, one_stopped}
 use Rattle.rule_found.proofs.whole.over_chosen.Goals as goal

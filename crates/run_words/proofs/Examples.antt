@@ -3,7 +3,7 @@ use Rattle.std.specs.Prelude.{◌≡◌, [], ◌∷◌, true, false, Some, None,
 use Rattle.std.specs.Char.{encode_utf8}
 use Rattle.std.specs.Str.{chars, is_utf8}
 use Rattle.run_words.specs.Options.{options_of}
-use Rattle.run_words.specs.Orders.{Apply, Generate, OnFiles, OnText, order_of, ordered}
+use Rattle.run_words.specs.Orders.{Apply, Generate, OnFiles, OnText, jobs_of, order_of, ordered}
 use Rattle.run_words.specs.Parts.{Valued, Flag, File, parts_from, parts_of}
 use Rattle.run_words.specs.Values.{count_in, names_in, seed_in}
 
@@ -101,6 +101,15 @@ a_patch_on_a_text : order_of (codes "--generate=1" ∷ codes "--functions=2" ∷
     (codes "p") None [] (OnText 1 2))
 unfolding order_of ordered options_of parts_from is_utf8 chars encode_utf8
 a_patch_on_a_text = refl
+
+-- as many jobs as the words say, and one where they say nothing
+jobs_said : jobs_of (codes "--jobs" ∷ codes "64" ∷ codes "--sp-file=p" ∷ codes "k.c" ∷ []) ≡ 64
+unfolding jobs_of options_of parts_from
+jobs_said = refl
+
+jobs_unsaid : jobs_of (codes "--sp-file=p" ∷ codes "k.c" ∷ []) ≡ 1
+unfolding jobs_of options_of parts_from
+jobs_unsaid = refl
 
 -- a word that isn't UTF-8
 no_text : order_of (codes "--sp-file=p" ∷ (255 ∷ []) ∷ []) ≡ None

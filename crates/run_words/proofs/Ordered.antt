@@ -1,11 +1,11 @@
 -- The order, by the tests in turn.
-use Rattle.std.proofs.Common.{◌≡◌, ◌∙◌, sym, ap, ℕ, true, false, ◌&&◌, List, Option, None, option_and_then}
+use Rattle.std.proofs.Common.{◌≡◌, ◌∙◌, sym, ap, ℕ, true, false, ◌&&◌, List, Option, None, Some, option_and_then}
 use Rattle.std.specs.List.{list_all}
 use Rattle.std.specs.Option.{option_map_or}
 use Rattle.std.specs.Str.{is_utf8}
 use Rattle.std.proofs.lemmas.Bool.{cond-true, cond-false}
 use Rattle.run_words.specs.Options.{Options, options_of}
-use Rattle.run_words.specs.Orders.{are_filled, editing, generating, has_jobs, order_of, ordered}
+use Rattle.run_words.specs.Orders.{are_filled, editing, generating, has_jobs, jobs_in, jobs_of, order_of, ordered}
 
 pub refused : (o : Options) → false ≡ (are_filled o && has_jobs o) → None ≡ ordered o
 unfolding ordered
@@ -21,3 +21,7 @@ pub order_told : (words : List (List ℕ)) → list_all is_utf8 words ≡ true �
     → option_and_then ordered o ≡ order_of words
 unfolding order_of
 order_told words text o is = ap (option_and_then ordered) is ∙ sym (cond-true (list_all is_utf8 words) (option_and_then ordered (options_of words)) None text)
+
+pub jobs_told : (words : List (List ℕ)) (o : Options) → Some o ≡ options_of words → jobs_in o ≡ jobs_of words
+unfolding jobs_of
+jobs_told words o is = ap (λ found. option_map_or jobs_in found 1) is

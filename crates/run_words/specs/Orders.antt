@@ -5,7 +5,7 @@ use Rattle.std.specs.Str.{is_utf8}
 use Rattle.std.specs.Option.{option_map_or}
 use Rattle.run_words.specs.declared.order.Mode.{Mode}
 use Rattle.run_words.specs.Options.{Options, options_of}
-use Rattle.run_words.specs.Values.{seed_in, count_in, names_in}
+use Rattle.run_words.specs.Values.{seed_in, count_in, decimal_value, names_in}
 
 -- what a patch is applied to
 pub data Target : Type 0 where
@@ -38,6 +38,10 @@ are_filled o = is_filled o.sp_file && is_filled o.iso_file && is_filled o.define
 -- `--jobs` has a number of jobs, where it is given
 abbrev pub has_jobs : Options → Bool
 has_jobs o = option_map_or (λ value. is_some (count_in most_jobs value)) o.jobs true
+
+-- how many jobs may be done at a time: the number that `--jobs` has, and one where it isn't given
+abbrev pub jobs_in : Options → ℕ
+jobs_in o = option_map_or decimal_value o.jobs 1
 
 -- the names that are defined; none where the option isn't given
 abbrev pub defined_in : Options → Option (List (List ℕ))
@@ -76,3 +80,7 @@ ordered o = cond (are_filled o && has_jobs o) (option_map_or (generating o) o.ge
 -- what the words ask for; nothing where they are no command, as where one of them isn't UTF-8
 unfoldable pub order_of : List (List ℕ) → Option Order
 order_of words = cond (list_all is_utf8 words) (option_and_then ordered (options_of words)) None
+
+-- how many jobs may be done at a time, where the words ask for a patch to be applied
+unfoldable pub jobs_of : List (List ℕ) → ℕ
+jobs_of words = option_map_or jobs_in (options_of words) 1

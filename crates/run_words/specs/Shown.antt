@@ -24,6 +24,11 @@ abbrev pub shown_order : CodeOrder → Order
 shown_order (order.Apply p) = Apply p.patch.now (shown_isos p.isos) p.defined.items (shown_target p.target)
 shown_order (order.Generate seed functions) = Generate seed functions
 
+-- the patch is applied with so many jobs
+abbrev pub HasJobs : ℕ → CodeOrder → Type 0
+HasJobs jobs (order.Apply p) = p.jobs ≡ jobs
+HasJobs jobs (order.Generate seed functions) = Unit {0}
+
 -- a generated text has at most 100,000 functions
 abbrev pub few_functions : CodeTarget → Type 0
 few_functions (target.Files mode names) = Unit {0}

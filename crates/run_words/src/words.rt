@@ -1,11 +1,11 @@
 // From words to what they ask for.
-ghost use Rattle.std.specs.Prelude.{◌≡◌, ◌≤◌, ◌&&◌, true, false, [], Some, map, option_map, IfOk, MatchOption};
+ghost use Rattle.std.specs.Prelude.{◌≡◌, ◌≤◌, ◌&&◌, true, false, [], Some, map, option_map, is_some, IfOk, IfSome, MatchOption};
 ghost use Rattle.std.specs.Option.{option_map_or};
-ghost use Rattle.run_words.specs.Values.{names_in};
+ghost use Rattle.run_words.specs.Values.{count_in, decimal_value, names_in};
 ghost use Rattle.std.specs.List.{list_all};
 ghost use Rattle.std.specs.Str.{is_utf8};
 ghost use Rattle.run_words.specs.Orders as told;
-ghost use Rattle.run_words.specs.Shown.{shown_options, shown_order, shown_value};
+ghost use Rattle.run_words.specs.Shown.{HasJobs, shown_options, shown_order, shown_value};
 
 use crate::options::{Given, parse};
 use crate::order::{Mode, Order, PatchOrder, Target};
@@ -35,7 +35,10 @@ pub fn texts_of<'a>(alloc: Global, words: &'a [Text]) -> Result<Option<Vec<&'a s
 /// What the words ask for, if they are a command. Takes memory in proportion to the words.
 pub fn order_of<'a>(alloc: Global, words: &'a [&'a str]) -> Result<Option<Order<'a>>, NoMemory>
     requires { list_all is_utf8 (map (λ w. w.now) words.now) ≡ true }
-    ensures { IfOk result (λ order. option_map shown_order order ≡ told.order_of (map (λ w. w.now) words.entry.now)) }
+    ensures order { IfOk result (λ order. option_map shown_order order ≡ told.order_of (map (λ w. w.now) words.entry.now)) }
+
+    // A patch is applied with as many jobs as the words say.
+    ensures jobs { IfOk result (λ order. IfSome order (HasJobs (told.jobs_of (map (λ w. w.now) words.entry.now)))) }
 {
     match parse(alloc, words)? {
         Some(given) => order_given(alloc, given),
@@ -75,6 +78,8 @@ fn has_jobs(given: &Given<'_>) -> bool
 
 /// How many jobs may be done at a time: one where no number is given.
 fn jobs_of(given: &Given<'_>) -> u32
+    requires { told.has_jobs (shown_options given.now) ≡ true }
+    ensures value { result ≡ told.jobs_in (shown_options given.now) }
     ensures some { 1 ≤ result }
     ensures few { result ≤ 64 }
 {
@@ -85,11 +90,13 @@ fn jobs_of(given: &Given<'_>) -> u32
 }
 
 fn jobs_in(value: &str) -> u32
+    requires { is_some (count_in 64 value.now) ≡ true }
+    ensures value { result ≡ decimal_value value.now }
     ensures some { 1 ≤ result }
     ensures few { result ≤ 64 }
 {
     match count(value, MOST_JOBS) {
-        Some(jobs) => jobs.max(1).min(MOST_JOBS) as u32,
+        Some(jobs) => jobs as u32,
         None => 1,
     }
 }
@@ -102,7 +109,8 @@ fn has_values(given: &Given<'_>) -> bool
 }
 
 fn order_given<'a>(alloc: Global, given: Given<'a>) -> Result<Option<Order<'a>>, NoMemory>
-    ensures { IfOk result (λ order. option_map shown_order order ≡ told.ordered (shown_options given.entry)) }
+    ensures order { IfOk result (λ order. option_map shown_order order ≡ told.ordered (shown_options given.entry)) }
+    ensures jobs { IfOk result (λ order. IfSome order (HasJobs (told.jobs_in (shown_options given.entry)))) }
 {
     if !has_values(&given) {
         return Ok(None);
@@ -126,7 +134,9 @@ fn is_about_files(given: &Given<'_>) -> bool
 
 /// What is asked for with a seed.
 fn generating<'a>(alloc: Global, given: &Given<'a>, value: &str) -> Option<Order<'a>>
-    ensures { option_map shown_order result ≡ told.generating (shown_options given.now) value.now }
+    requires { told.has_jobs (shown_options given.now) ≡ true }
+    ensures order { option_map shown_order result ≡ told.generating (shown_options given.now) value.now }
+    ensures jobs { IfSome result (HasJobs (told.jobs_in (shown_options given.now))) }
 {
     if is_about_files(given) {
         return None;
@@ -137,7 +147,9 @@ fn generating<'a>(alloc: Global, given: &Given<'a>, value: &str) -> Option<Order
 }
 
 fn on_text<'a>(alloc: Global, given: &Given<'a>, seed: u64, functions: u32) -> Option<Order<'a>>
-    ensures { option_map shown_order result ≡ told.on_text (shown_options given.now) seed functions }
+    requires { told.has_jobs (shown_options given.now) ≡ true }
+    ensures order { option_map shown_order result ≡ told.on_text (shown_options given.now) seed functions }
+    ensures jobs { IfSome result (HasJobs (told.jobs_in (shown_options given.now))) }
 {
     match given.sp_file {
         Some(patch) => Some(Order::Apply(PatchOrder {
@@ -158,7 +170,9 @@ fn on_text<'a>(alloc: Global, given: &Given<'a>, seed: u64, functions: u32) -> O
 
 /// What is asked for without a seed.
 fn editing<'a>(alloc: Global, given: Given<'a>) -> Result<Option<Order<'a>>, NoMemory>
-    ensures { IfOk result (λ order. option_map shown_order order ≡ told.editing (shown_options given.entry)) }
+    requires { told.has_jobs (shown_options given) ≡ true }
+    ensures order { IfOk result (λ order. option_map shown_order order ≡ told.editing (shown_options given.entry)) }
+    ensures jobs { IfOk result (λ order. IfSome order (HasJobs (told.jobs_in (shown_options given.entry)))) }
 {
     if given.files.is_empty() || given.functions.is_some() {
         return Ok(None);

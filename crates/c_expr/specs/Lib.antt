@@ -7,3 +7,4 @@ pub mod Steps
 pub mod Ends
 pub mod Semicolons
 pub mod Sight
+pub mod Outlines

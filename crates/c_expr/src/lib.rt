@@ -12,7 +12,7 @@
 //!
 //! Recursion goes five calls deep for each level. A faulty range costs no more than a right one: the parser never goes
 //! back, but that behind `(` and `,` what may be a type by its first three tokens and by its end is tried as an expression
-//! before the range is read.
+//! before the range is read, without trees; what is in brackets is kept, and is not tried again.
 //!
 //! The calls for declarations, statements and items are in the crates above. Cutting text into tokens is for c_lexer.
 #![tactic(auto)]
@@ -20,7 +20,9 @@
 mod depth;
 mod ends;
 mod fault;
+mod kept;
 mod laws;
+mod outline;
 mod parse;
 mod range;
 mod see;

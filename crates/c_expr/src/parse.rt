@@ -33,14 +33,14 @@ fn rule_of_kind(kind: Kind, rule: Option<Rule>) -> Option<Rule>
 }
 
 /// The rule of a tree of the kind that begins with a token of its own.
-fn headed(kind: Kind, class: Class) -> Option<Rule>
+pub fn headed(kind: Kind, class: Class) -> Option<Rule>
     ensures { result ≡ headed_by kind class }
 {
     rule_of_kind(kind, head(family_of(kind), class))
 }
 
 /// The rule by which a tree goes on to one of the kind, where `root` is its own.
-fn goes_on(kind: Kind, root: Option<Rule>, class: Class) -> Option<Rule>
+pub fn goes_on(kind: Kind, root: Option<Rule>, class: Class) -> Option<Rule>
     ensures { result ≡ goes_on kind root class }
 {
     let family = family_of(kind);

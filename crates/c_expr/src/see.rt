@@ -1,11 +1,13 @@
 // A range as it is seen: each token with its class, and with a mark where a type is a member of a call's list.
-ghost use Rattle.std.specs.Prelude.{◌≡◌, ◌<◌, IfOk, IfErr, false, length};
+ghost use Rattle.std.specs.Prelude.{◌≡◌, ◌+◌, ◌<◌, IfOk, IfErr, false, length, drop};
 ghost use Rattle.c_rows.specs.Range.{NoMember, AreSeenAs};
+ghost use Rattle.c_expr.specs.Outlines.{AreRight};
 ghost use Rattle.c_expr.specs.Sight.{decided, leads_before, Marked};
 
 use crate::ParseFault;
 use crate::ends::Ends;
-use crate::parse::parse;
+use crate::kept::Kept;
+use crate::outline::{outline, rest_at};
 use crate::semicolons::Semicolons;
 use c_rows::{Class, Kind, Seen, ends_member, front, group_at, leads_member, look, may_be_type};
 use c_terms::{Names, Token};
@@ -15,12 +17,28 @@ use std::alloc::Global;
 pub const MOST_LEVELS: u16 = 1000;
 
 /// No expression without commas begins here and ends where a member of a call's list may end.
-fn has_no_member<'a, 't>(alloc: Global, rest: &'a [Seen<'t>]) -> Result<bool, ParseFault>
-    ensures value { IfOk result (λ none. decided none (NoMember rest.now)) }
+fn has_no_member(
+    alloc: Global,
+    kept: &mut Kept,
+    seen: &[Seen],
+    at: usize,
+) -> Result<bool, ParseFault>
+    requires inside { at < length seen.now }
+    requires right { AreRight (at + 1) seen.now kept.old.entries.items }
+    ensures right { AreRight (at + 1) seen.now kept.new.entries.items }
+    ensures value { IfOk result (λ none. decided none (NoMember (drop at seen.now))) }
     ensures fault { IfErr result (λ fault. fault ≡ ParseFault.NoMemory) }
 {
-    match parse(alloc, MOST_LEVELS, Kind::AssignLevel, rest) {
-        Ok(found) => Ok(!ends_member(front(found.rest))),
+    match outline(
+        alloc,
+        kept,
+        seen,
+        at + 1,
+        MOST_LEVELS,
+        Kind::AssignLevel,
+        at,
+    ) {
+        Ok(found) => Ok(!ends_member(front(rest_at(seen, found.end)))),
         Err(ParseFault::NoTree) => Ok(true),
         Err(ParseFault::TooDeep) => Ok(true),
         Err(ParseFault::NoMemory) => Err(ParseFault::NoMemory),
@@ -42,19 +60,25 @@ fn leads_before(tokens: &[Token], i: usize) -> bool
 
 /// The first token is marked: a member of a call's list may begin there, by the first three tokens and by its end it may
 /// be a type, and no expression can be that member.
-fn is_marked<'a, 't>(
+fn is_marked(
     alloc: Global,
+    kept: &mut Kept,
     leads: bool,
     ends: bool,
-    rest: &'a [Seen<'t>],
+    seen: &[Seen],
+    at: usize,
 ) -> Result<bool, ParseFault>
-    ensures value { IfOk result (λ typed. Marked typed leads ends rest.now) }
+    requires inside { at < length seen.now }
+    requires right { AreRight (at + 1) seen.now kept.old.entries.items }
+    ensures right { AreRight (at + 1) seen.now kept.new.entries.items }
+    ensures value { IfOk result (λ typed. Marked typed leads ends (drop at seen.now)) }
     ensures fault { IfErr result (λ fault. fault ≡ ParseFault.NoMemory) }
 {
-    if !leads || !ends || !may_be_type(rest) {
+    if !leads || !ends || !may_be_type(rest_at(seen, at)) {
         return Ok(false);
     }
-    has_no_member(alloc, rest)
+    kept.reach(seen.len())?;
+    has_no_member(alloc, kept, seen, at)
 }
 
 /// As many tokens, none of which is seen yet.
@@ -69,9 +93,9 @@ fn unseen<'t>(alloc: Global, tokens: &'t [Token]) -> Result<Vec<Seen<'t>>, Parse
     Ok(seen)
 }
 
-/// The tokens as they are seen, from the last one on. Linear, but that behind each `(` and `,`, whether a call's list is
-/// there or not, what may be a type by its first three tokens and by its end is read as an expression. Such members lie
-/// beside each other, so a token is read at most once for each bracket around it.
+/// The tokens as they are seen, from the last one on. Linear: behind each `(` and `,`, whether a call's list is there or
+/// not, what may be a type by its first three tokens and by its end is gone over as an expression, but what is in brackets
+/// is kept, so it is gone over once for each kind that is asked of it.
 pub fn see<'t>(
     alloc: Global,
     names: &Names,
@@ -83,6 +107,7 @@ pub fn see<'t>(
     let mut seen = unseen(alloc, tokens)?;
     let mut ends = Ends::at_end(alloc);
     let mut semicolons = Semicolons::at_end(alloc);
+    let mut kept = Kept::nothing(alloc);
     let mut next = Class::End;
     let mut i = tokens.len();
     while i > 0 {
@@ -98,7 +123,8 @@ pub fn see<'t>(
         semicolons.pass(group_at(&tokens[i]))?;
         seen[i] = Seen::new(&tokens[i], next, false);
         let leads = leads_before(tokens, i);
-        let typed = is_marked(alloc, leads, ends_member(ends.nearest()), &seen[i..])?;
+        let ended = ends_member(ends.nearest());
+        let typed = is_marked(alloc, &mut kept, leads, ended, seen.as_slice(), i)?;
         seen[i] = Seen::new(&tokens[i], next, typed);
     }
     Ok(seen)

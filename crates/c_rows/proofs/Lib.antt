@@ -1,4 +1,5 @@
 pub mod PlainLemmas
+pub mod FactLemmas
 pub mod Numbers
 pub mod FirstChecks
 pub mod Checks

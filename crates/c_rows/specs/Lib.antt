@@ -13,6 +13,9 @@ pub mod Depth
 -- What the law on types rests on besides.
 
 pub mod Letter
+-- What of trees a reader keeps that makes none.
+
+pub mod Facts
 -- How the rows are read.
 
 pub mod Seen

@@ -1,5 +1,5 @@
 // What holds of the grammar, and no single call shows.
-ghost use Rattle.std.specs.Prelude.{◌≡◌, ◌≤◌, IsTrue, List, length};
+ghost use Rattle.std.specs.Prelude.{◌≡◌, ◌≤◌, IsTrue, List, length, map};
 ghost use Rattle.c_terms.specs.declared.token.Token.{Token};
 ghost use Rattle.c_terms.specs.declared.tree.Tree.{Tree};
 ghost use Rattle.c_terms.specs.Trees.{leaves};
@@ -10,6 +10,9 @@ ghost use Rattle.c_rows.specs.Words.{ends_member};
 ghost use Rattle.c_rows.specs.Derives.{Derives, Anywhere};
 ghost use Rattle.c_rows.specs.Trees.{IsTreeOf, stands_alone};
 ghost use Rattle.c_rows.specs.Letter.{AllLow, IsLetterTreeOf};
+ghost use Rattle.c_rows.specs.declared.rule.Rule.{Rule};
+ghost use Rattle.c_rows.specs.Branches.{allows, build};
+ghost use Rattle.c_rows.specs.Facts.{facts_of, allows_facts, branch_facts};
 
 /// The tokens of a tree of a range, from left to right, are the range's tokens.
 pub fn leaves_are_the_tokens()
@@ -38,4 +41,10 @@ pub fn rivals_need_no_rule()
     ensures short { (kind : Kind) (names : Names) (tokens : List Token) (t : Tree)
         → IsTrue (stands_alone kind) → length tokens ≤ 250
         → IsTreeOf kind names tokens t → IsLetterTreeOf kind names tokens t }
+{}
+
+/// What a row asks of its parts, and the facts of its branch, are told by the facts of the parts.
+pub fn facts_are_enough()
+    ensures allows { (rule : Rule) (cs : List Tree) → allows_facts rule (map facts_of cs) ≡ allows rule cs }
+    ensures branch { (rule : Rule) (cs : List Tree) → branch_facts rule (map facts_of cs) ≡ facts_of (build rule cs) }
 {}

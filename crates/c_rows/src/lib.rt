@@ -33,6 +33,7 @@ mod brackets;
 mod branches;
 mod choice;
 mod class;
+mod facts;
 mod forks;
 mod guards;
 mod kind;
@@ -41,6 +42,7 @@ mod laws;
 mod lookahead;
 mod member;
 mod names;
+mod parts;
 mod plain;
 mod rows;
 mod rule;
@@ -57,15 +59,19 @@ use beginnings::{
 pub use branches::{Group, group_at};
 pub use choice::{choose, head, left, own, tail};
 pub use class::Class;
+pub use facts::Facts;
 pub use forks::ways;
 pub use guards::allows;
 use guards::{begins, begins_declaration, begins_dots, begins_macro, may_go};
 pub use kind::{Family, Kind, bottom, family_of, has_leaf, within};
 use labels::is_block;
 pub use labels::label_of;
-pub use laws::{leaves_are_the_tokens, members_have_one_end, rivals_need_no_rule};
+pub use laws::{
+    facts_are_enough, leaves_are_the_tokens, members_have_one_end, rivals_need_no_rule,
+};
 pub use lookahead::look;
 pub use member::may_be_type;
+pub use parts::{allows_facts, branch_facts, leaf_facts};
 use plain::{declares_function, is_plain_type};
 pub use rows::row;
 pub use rule::{Rule, kind_of};

@@ -1,0 +1,381 @@
+// The reader that makes no trees: whether a tree begins at a place, and where it ends. It goes by the rows as the parser
+// does, and keeps what stands in each bracket, so that what is in brackets is not read again with what is around them.
+ghost use Rattle.std.specs.Prelude.{◌≡◌, ◌∷◌, [], drop, IsTrue, IfOk, IfErr, Some, None};
+ghost use Rattle.c_rows.specs.Choice.{row_fine};
+ghost use Rattle.c_rows.specs.Kinds.{family_of, has_leaf};
+ghost use Rattle.c_rows.specs.Seen.{front};
+ghost use Rattle.c_expr.specs.Steps.{OnFault, Refuses, place, NoTreeAt, NoOperand};
+ghost use Rattle.c_expr.specs.Outlines.{Outlined, Opened, Steps, RunsOn, NotRun, Ends, NoEnd, GrowsOn, NotGrown, AreRight};
+
+use crate::ParseFault;
+use crate::kept::{Kept, Outline};
+use crate::parse::{goes_on, headed};
+use c_rows::{
+    Class, Facts, Fork, Kind, Rule, Seen, Symbol, Word, allows_facts, branch_facts, choose,
+    family_of, fits, front, front_typed, has_leaf, leaf_facts, member_kind, own,
+};
+use std::alloc::Global;
+
+/// The tokens from a place on.
+pub fn rest_at<'a, 't>(seen: &'a [Seen<'t>], at: usize) -> &'a [Seen<'t>]
+    ensures { result.now ≡ drop at seen.now }
+{
+    if at < seen.len() { &seen[at..] } else { &[] }
+}
+
+/// What is in brackets, or an alternative of a pattern, begins behind a token of this class.
+fn opens_group(class: Class) -> bool {
+    matches!(
+        class,
+        Class::ParenNest
+            | Class::ParenList
+            | Class::CastNest
+            | Class::CastList
+            | Class::LiteralNest
+            | Class::LiteralList
+            | Class::LeftBracket
+            | Class::PatOpen
+            | Class::PatOpenOfStatements
+            | Class::PatBar
+            | Class::PatAmp
+    )
+}
+
+/// A list in braces, or type words with one, begin with a token of this class.
+fn begins_braces(class: Class) -> bool {
+    matches!(
+        class,
+        Class::LeftBrace | Class::StructBody | Class::EnumBody
+    )
+}
+
+/// What is in brackets begins at this place.
+fn begins_group(seen: &[Seen], at: usize) -> bool {
+    if begins_braces(front(rest_at(seen, at))) {
+        return true;
+    }
+    at > 0 && opens_group(front(rest_at(seen, at - 1)))
+}
+
+/// A place in a row: what is left of the row, the place of the next token, and the children before, which are not made.
+#[derive(Drop)]
+pub struct Spot {
+    pub row: &'static [Symbol],
+    pub at: usize,
+    pub parts: Vec<Facts>,
+    /// How many levels the children have.
+    pub deepest: u16,
+}
+
+/// Goes over a token of the word. Behind it the row goes on as `spot` says.
+fn pass_word(most: u16, seen: &[Seen], word: Word, mut spot: Spot) -> Result<Spot, ParseFault>
+    requires { IsTrue (row_fine (Symbol.Word word ∷ spot.row.now)) }
+    ensures steps { IfOk result (Steps most seen.now (Symbol.Word word) spot) }
+    ensures refused { IfErr result (λ e. OnFault e
+        (Refuses most (place (Symbol.Word word ∷ spot.row.now) (drop spot.at seen.now) []))) }
+{
+    match rest_at(seen, spot.at) {
+        [] => Err(ParseFault::NoTree),
+        [first, ..] => {
+            if !fits(word, first.class()) {
+                return Err(ParseFault::NoTree);
+            }
+            spot.parts.push(leaf_facts(first.token()))?;
+            spot.at += 1;
+            Ok(spot)
+        }
+    }
+}
+
+/// Goes on in the one way of the fork that the front of the tokens allows. Passes nothing.
+fn pass_way(most: u16, seen: &[Seen], fork: Fork, mut spot: Spot) -> Result<Spot, ParseFault>
+    requires { IsTrue (row_fine (Symbol.Fork fork ∷ spot.row.now)) }
+    ensures steps { IfOk result (Steps most seen.now (Symbol.Fork fork) spot) }
+    ensures refused { IfErr result (λ e. OnFault e
+        (Refuses most (place (Symbol.Fork fork ∷ spot.row.now) (drop spot.at seen.now) []))) }
+{
+    match choose(fork, front(rest_at(seen, spot.at))) {
+        None => Err(ParseFault::NoTree),
+        Some(way) => {
+            spot.row = way;
+            Ok(spot)
+        }
+    }
+}
+
+/// Goes over a tree of the kind. Behind it the row goes on as `spot` says.
+#[cycle(outline)]
+fn pass_child(
+    alloc: Global,
+    kept: &mut Kept,
+    seen: &[Seen],
+    from: usize,
+    most: u16,
+    kind: Kind,
+    mut spot: Spot,
+) -> Result<Spot, ParseFault>
+    requires fine { IsTrue (row_fine (Symbol.Child kind ∷ spot.row.now)) }
+    requires right { AreRight from seen.now kept.old.entries.items }
+    ensures right { AreRight from seen.now kept.new.entries.items }
+    ensures steps { IfOk result (Steps most seen.now (Symbol.Child kind) spot) }
+    ensures refused { IfErr result (λ e. OnFault e
+        (Refuses most (place (Symbol.Child kind ∷ spot.row.now) (drop spot.at seen.now) []))) }
+{
+    let found = outline(alloc, kept, seen, from, most, kind, spot.at)?;
+    spot.parts.push(found.facts)?;
+    spot.at = found.end;
+    spot.deepest = spot.deepest.max(found.levels);
+    Ok(spot)
+}
+
+/// Goes over a member of a call's list. Behind it the row goes on as `spot` says.
+#[cycle(outline)]
+fn pass_argument(
+    alloc: Global,
+    kept: &mut Kept,
+    seen: &[Seen],
+    from: usize,
+    most: u16,
+    mut spot: Spot,
+) -> Result<Spot, ParseFault>
+    requires fine { IsTrue (row_fine (Symbol.Argument ∷ spot.row.now)) }
+    requires right { AreRight from seen.now kept.old.entries.items }
+    ensures right { AreRight from seen.now kept.new.entries.items }
+    ensures steps { IfOk result (Steps most seen.now Symbol.Argument spot) }
+    ensures refused { IfErr result (λ e. OnFault e
+        (Refuses most (place (Symbol.Argument ∷ spot.row.now) (drop spot.at seen.now) []))) }
+{
+    let kind = member_kind(front_typed(rest_at(seen, spot.at)));
+    let found = outline(alloc, kept, seen, from, most, kind, spot.at)?;
+    spot.parts.push(found.facts)?;
+    spot.at = found.end;
+    spot.deepest = spot.deepest.max(found.levels);
+    Ok(spot)
+}
+
+/// Goes over the part that the symbol asks for. Behind it the row goes on as `spot` says.
+#[cycle(outline)]
+fn pass(
+    alloc: Global,
+    kept: &mut Kept,
+    seen: &[Seen],
+    from: usize,
+    most: u16,
+    symbol: Symbol,
+    spot: Spot,
+) -> Result<Spot, ParseFault>
+    requires fine { IsTrue (row_fine (symbol ∷ spot.row.now)) }
+    requires right { AreRight from seen.now kept.old.entries.items }
+    ensures right { AreRight from seen.now kept.new.entries.items }
+    ensures steps { IfOk result (Steps most seen.now symbol spot) }
+    ensures refused { IfErr result (λ e. OnFault e
+        (Refuses most (place (symbol ∷ spot.row.now) (drop spot.at seen.now) []))) }
+{
+    match symbol {
+        Symbol::Word(word) => pass_word(most, seen, word, spot),
+        Symbol::Child(kind) => pass_child(alloc, kept, seen, from, most, kind, spot),
+        Symbol::Argument => pass_argument(alloc, kept, seen, from, most, spot),
+        Symbol::Fork(fork) => pass_way(most, seen, fork, spot),
+    }
+}
+
+/// Goes over what is left of a row.
+#[cycle(outline)]
+fn pass_row(
+    alloc: Global,
+    kept: &mut Kept,
+    seen: &[Seen],
+    from: usize,
+    most: u16,
+    mut spot: Spot,
+) -> Result<Spot, ParseFault>
+    requires fine { IsTrue (row_fine spot.row.now) }
+    requires right { AreRight from seen.now kept.old.entries.items }
+    ensures right { AreRight from seen.now kept.new.entries.items }
+    ensures found { IfOk result (RunsOn most seen.now spot) }
+    ensures refused { IfErr result (NotRun most seen.now spot) }
+{
+    while let [symbol, ..] = spot.row {
+        spot.row = &spot.row[1..];
+        spot = pass(alloc, kept, seen, from, most, *symbol, spot)?;
+    }
+    Ok(spot)
+}
+
+/// A tree that is not made, with its rule if it is no leaf.
+#[derive(Clone, Copy)]
+pub struct Sketch {
+    pub root: Option<Rule>,
+    pub outline: Outline,
+}
+
+/// The branch of the rule over all that was passed, where it is allowed and has at most so many levels.
+fn finish(most: u16, rule: Rule, spot: &Spot) -> Result<Sketch, ParseFault>
+    ensures found { IfOk result (Ends most rule spot.now) }
+    ensures refused { IfErr result (λ e. NoEnd most rule spot.now e) }
+{
+    let parts = spot.parts.as_slice();
+    if spot.deepest >= most {
+        return Err(ParseFault::NoTree);
+    }
+    if !allows_facts(rule, parts) {
+        return Err(ParseFault::NoTree);
+    }
+    Ok(Sketch {
+        root: Some(rule),
+        outline: Outline {
+            facts: branch_facts(rule, parts),
+            levels: spot.deepest + 1,
+            end: spot.at,
+        },
+    })
+}
+
+/// The first tree from which one of the kind grows: a leaf, or a branch that begins with a token of its own.
+#[cycle(outline)]
+fn begin(
+    alloc: Global,
+    kept: &mut Kept,
+    seen: &[Seen],
+    from: usize,
+    most: u16,
+    kind: Kind,
+    at: usize,
+) -> Result<Sketch, ParseFault>
+    requires right { AreRight from seen.now kept.old.entries.items }
+    ensures right { AreRight from seen.now kept.new.entries.items }
+    ensures found { IfOk result (Opened most kind seen.now at) }
+    ensures refused { IfErr result (λ e. OnFault e (NoOperand most kind (drop at seen.now))) }
+{
+    let rest = rest_at(seen, at);
+    let class = front(rest);
+    if has_leaf(family_of(kind), class) {
+        return sketch_leaf(most, kind, seen, at);
+    }
+    let Some(rule) = headed(kind, class) else {
+        return Err(ParseFault::NoTree);
+    };
+    if most == 0 {
+        return Err(ParseFault::NoTree);
+    }
+    let start = Spot {
+        row: own(rule),
+        at,
+        parts: Vec::new(alloc),
+        deepest: 0,
+    };
+    let spot = pass_row(alloc, kept, seen, from, most - 1, start)?;
+    finish(most, rule, &spot)
+}
+
+/// The leaf at a place, which is by itself a tree of the kind.
+fn sketch_leaf(most: u16, kind: Kind, seen: &[Seen], at: usize) -> Result<Sketch, ParseFault>
+    requires { IsTrue (has_leaf (family_of kind) (front (drop at seen.now))) }
+    ensures found { IfOk result (Opened most kind seen.now at) }
+    ensures refused { IfErr result (λ e. OnFault e (NoOperand most kind (drop at seen.now))) }
+{
+    match rest_at(seen, at) {
+        [] => Err(ParseFault::NoTree),
+        [first, ..] => Ok(Sketch {
+            root: None,
+            outline: Outline {
+                facts: leaf_facts(first.token()),
+                levels: 0,
+                end: at + 1,
+            },
+        }),
+    }
+}
+
+/// The tree with what follows it by the rule.
+#[cycle(outline)]
+fn grow(
+    alloc: Global,
+    kept: &mut Kept,
+    seen: &[Seen],
+    from: usize,
+    most: u16,
+    rule: Rule,
+    first: Outline,
+) -> Result<Sketch, ParseFault>
+    requires right { AreRight from seen.now kept.old.entries.items }
+    ensures right { AreRight from seen.now kept.new.entries.items }
+    ensures found { IfOk result (GrowsOn most rule seen.now first) }
+    ensures refused { IfErr result (NotGrown most rule seen.now first) }
+{
+    if first.levels >= most {
+        return Err(ParseFault::NoTree);
+    }
+    let mut parts = Vec::new(alloc);
+    parts.push(first.facts)?;
+    let start = Spot {
+        row: own(rule),
+        at: first.end,
+        parts,
+        deepest: first.levels,
+    };
+    let spot = pass_row(alloc, kept, seen, from, most - 1, start)?;
+    finish(most, rule, &spot)
+}
+
+/// The tree of the kind that begins at a place.
+#[cycle(outline)]
+fn read(
+    alloc: Global,
+    kept: &mut Kept,
+    seen: &[Seen],
+    from: usize,
+    most: u16,
+    kind: Kind,
+    at: usize,
+) -> Result<Outline, ParseFault>
+    requires right { AreRight from seen.now kept.old.entries.items }
+    ensures right { AreRight from seen.now kept.new.entries.items }
+    ensures found { IfOk result (Outlined most kind seen.now at) }
+    ensures refused { IfErr result (λ e. OnFault e (NoTreeAt most kind (drop at seen.now))) }
+{
+    let mut sketch = begin(alloc, kept, seen, from, most, kind, at)?;
+    while let Some(rule) = goes_on(kind, sketch.root, front(rest_at(seen, sketch.outline.end))) {
+        sketch = grow(alloc, kept, seen, from, most, rule, sketch.outline)?;
+    }
+    Ok(sketch.outline)
+}
+
+/// The tree of the kind that begins at a place. What is in brackets is kept, if its place is `from` or behind, and is not
+/// read again.
+#[cycle(outline)]
+pub fn outline(
+    alloc: Global,
+    kept: &mut Kept,
+    seen: &[Seen],
+    from: usize,
+    most: u16,
+    kind: Kind,
+    at: usize,
+) -> Result<Outline, ParseFault>
+    requires right { AreRight from seen.now kept.old.entries.items }
+    ensures right { AreRight from seen.now kept.new.entries.items }
+    ensures found { IfOk result (Outlined most kind seen.now at) }
+    ensures refused { IfErr result (λ e. OnFault e (NoTreeAt most kind (drop at seen.now))) }
+{
+    if at < from || !begins_group(seen, at) {
+        return read(alloc, kept, seen, from, most, kind, at);
+    }
+    if let Some(known) = kept.recall(most, kind, at) {
+        return match known {
+            None => Err(ParseFault::NoTree),
+            Some(outline) => Ok(outline),
+        };
+    }
+    match read(alloc, kept, seen, from, most, kind, at) {
+        Ok(outline) => {
+            kept.keep(most, kind, at, Some(outline))?;
+            Ok(outline)
+        }
+        Err(ParseFault::NoTree) => {
+            kept.keep(most, kind, at, None)?;
+            Err(ParseFault::NoTree)
+        }
+        Err(fault) => Err(fault),
+    }
+}

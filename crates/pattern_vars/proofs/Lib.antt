@@ -1,0 +1,4 @@
+pub mod SetLemmas
+mod IndexLemmas
+pub mod MapLemmas
+pub mod SureLemmas

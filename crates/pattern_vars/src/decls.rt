@@ -1,0 +1,100 @@
+// Declarations, found by one look-up.
+ghost use Rattle.std.specs.Prelude.{◌≡◌, ◌&&◌, not, cond, ℕ, List, map, Some, slice_get, IfOk, OnOk};
+ghost use Rattle.std.specs.Option.{option_copied};
+ghost use Rattle.c_terms.specs.Same.{same_bytes};
+ghost use Rattle.smpl_patch.specs.Patterns.{declared_as, is_position_kind};
+ghost use Rattle.pattern_vars.specs.Index.{number_in, Finds};
+
+use c_terms::NoMemory;
+use indexmap::IndexMap;
+use smpl_patch::{VarDecl, VarKind};
+use sqlite_items::Items;
+use std::alloc::Global;
+use std::marker::Model;
+
+/// A rule's declarations, with the number of the one that each metavariable's name goes by. Contracts see the list.
+#[derive(Drop)]
+pub struct Decls {
+    decls: Items<VarDecl>,
+    numbers: IndexMap<Vec<u8>, usize>,
+}
+
+impl Model for Decls {
+    ghost use Rattle.std.specs.Prelude.{List, map};
+    ghost use Rattle.smpl_patch.specs.declared.pattern.VarDecl.{VarDecl as Declaration};
+    ghost use Rattle.pattern_vars.specs.Index.{Finds};
+
+    ghost Value = { List Declaration };
+
+    ghost view = { λ d. d.decls };
+
+    ghost invariant = { λ d. Finds (map (λ e. (e.0.items, e.1)) d.numbers.entries) d.decls d.decls };
+}
+
+/// Gives the name of a metavariable's declaration this number.
+fn put_number(
+    alloc: Global,
+    d: &VarDecl,
+    i: usize,
+    numbers: &mut IndexMap<Vec<u8>, usize>,
+) -> Result<(), NoMemory>
+    ensures { OnOk result ((name : List ℕ) → number_in (map (λ e. (e.0.items, e.1)) numbers.new.entries) name
+        ≡ cond (not (is_position_kind d.now.kind) && same_bytes d.now.var.name name) (Some i)
+        (number_in (map (λ e. (e.0.items, e.1)) numbers.old.entries) name)) }
+{
+    match d.kind {
+        VarKind::Position => Ok(()),
+        VarKind::Meta(_) => {
+            let key = Vec::from_slice(alloc, d.var.name.as_bytes())?;
+            numbers.insert(key, i)?;
+            Ok(())
+        }
+    }
+}
+
+/// The number of the first declaration of each metavariable's name.
+fn numbers_of(alloc: Global, decls: &[VarDecl]) -> Result<IndexMap<Vec<u8>, usize>, NoMemory>
+    ensures { IfOk result (λ numbers. Finds (map (λ e. (e.0.items, e.1)) numbers.entries) decls.now decls.now) }
+{
+    let mut numbers = IndexMap::new(alloc);
+    let mut i = decls.len();
+    while i > 0 {
+        i -= 1;
+        put_number(alloc, &decls[i], i, &mut numbers)?;
+    }
+    Ok(numbers)
+}
+
+/// The declaration of this number.
+fn numbered(decls: &[VarDecl], i: usize) -> Option<&VarDecl>
+    ensures { option_copied result ≡ slice_get decls.now i }
+{
+    decls.get(i)
+}
+
+impl Decls {
+    /// The declarations. Linear in their names, where no hashes collide.
+    pub fn of(alloc: Global, decls: Items<VarDecl>) -> Result<Decls, NoMemory>
+        ensures { IfOk result (λ known. known ≡ decls) }
+    {
+        let numbers = numbers_of(alloc, decls.as_slice())?;
+        Ok(Decls { decls, numbers })
+    }
+
+    /// The declarations, in their order. Takes no memory.
+    pub fn as_slice(&self) -> &[VarDecl]
+        ensures { result.now ≡ self.now }
+    {
+        self.decls.as_slice()
+    }
+
+    /// What a metavariable of this name is declared as. One look-up; takes no memory.
+    pub fn declared(&self, name: &[u8]) -> Option<&VarDecl>
+        ensures { option_copied result ≡ declared_as self.now name.now }
+    {
+        match self.numbers.get(name) {
+            Some(i) => numbered(self.decls.as_slice(), *i),
+            None => None,
+        }
+    }
+}

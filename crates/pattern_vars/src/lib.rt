@@ -1,0 +1,22 @@
+//! The variables that stand in patterns, as sets.
+//!
+//! - [`VarSet`] is a set of variables: one look-up tells whether a variable is there.
+//! - [`Decls`] is a rule's declarations, of which one look-up finds what a metavariable's name is declared as.
+//! - [`put_pattern`] puts the variables of a pattern into a set, [`put_block`] those of plus code.
+//! - [`put_sure`] puts variables in that have a value wherever the pattern fits.
+//!
+//! Of `f(x)@p;` with `expression x` and `position p` the set is x and p.
+//!
+//! A set has exactly the variables of which smpl_patch says that they stand in the pattern, or are used there. To ask
+//! that of each of many variables costs a reading of the pattern each; to make the set costs one.
+#![tactic(auto)]
+
+mod decls;
+mod reads;
+mod set;
+mod sure;
+
+pub use decls::Decls;
+pub use reads::{put_block, put_pattern, put_vars};
+pub use set::{Key, VarSet};
+pub use sure::put_sure;

@@ -12,7 +12,12 @@ pub mod ElementLemmas
 pub mod GuardedLemmas
 pub mod RuleLemmas
 pub mod TableGuards
-pub mod SortLemmas
+mod HeldLemmas
+mod HomeLemmas
+mod ShareLemmas
+mod KeyLemmas
+mod CountLemmas
+mod ScopeLemmas
 pub mod BranchLemmas
 pub mod DotsLemmas
 pub mod MadeLemmas

@@ -60,12 +60,24 @@ open-case sure fs x y j true e h =
 pub open-bound : (sure : Surely) (fs : List Plain) (x y : Var) (j : ℕ) → bound sure (at fs j) y ≡ true → is_open sure fs x (node.Exists y j) ≡ false
 open-bound sure fs x y j h = open-case sure fs x y j (same_var y x) refl h
 
--- a quantifier over a formula that binds its variable leaves the others as they were
-pub kept-guarded : (sure : Surely) (fs : List Plain) (found : List Var) (i : ℕ) (n : Node) (y : Var) (j : ℕ) (b : Bool)
-    → n ≡ node.Exists y j → at fs i ≡ plain_of fs n → below i n ≡ true → (b ≡ true → bound sure (at fs j) y ≡ true) → b ≡ true
-    → (x : Var) → in_scope found x ≡ false → IsGuardedUnless sure fs found i x
-kept-guarded sure fs found i n y j b e a k q t x h = record {
-  none = h;
-  guarded = λ g. ap (guarded_for sure x) (a ∙ ap (plain_of fs) e)
-      ∙ guarded-node sure fs x (node.Exists y j) i (ap (below i) (sym e) ∙ k) (open-bound sure fs x y j (q t)) g;
-}
+none-of : (a b c : Bool) → c ≡ (a || b) → c ≡ false → (a ≡ false) × (b ≡ false)
+none-of true b c h k = absurd cc
+none-of false b c h k = (refl, sym h ∙ k)
+
+not-put : (sure : Surely) (fs : List Plain) (x y : Var) (j : ℕ) (b : Bool) → (b ≡ true → bound sure (at fs j) y ≡ true) → (not b && same_var y x) ≡ false
+    → is_open sure fs x (node.Exists y j) ≡ false
+not-put sure fs x y j true t h = open-bound sure fs x y j (t refl)
+not-put sure fs x y j false t h = ap (λ z. z && not (bound sure (at fs j) x)) h
+
+-- the variable of a quantifier is put in, unless the flag says that its part binds it
+pub pushed-guarded : (sure : Surely) (fs : List Plain) (old new : List Var) (i : ℕ) (n : Node) (y : Var) (j : ℕ) (b : Bool)
+    → n ≡ node.Exists y j → at fs i ≡ plain_of fs n → below i n ≡ true → (b ≡ true → bound sure (at fs j) y ≡ true)
+    → ((x : Var) → in_scope new x ≡ (in_scope old x || (not b && same_var y x)))
+    → (x : Var) → in_scope new x ≡ false → IsGuardedUnless sure fs old i x
+pushed-guarded sure fs old new i n y j b e a k t u x h =
+    let w = none-of (in_scope old x) (not b && same_var y x) (in_scope new x) (u x) h in
+    record {
+      none = w.0;
+      guarded = λ g. ap (guarded_for sure x) (a ∙ ap (plain_of fs) e)
+          ∙ guarded-node sure fs x (node.Exists y j) i (ap (below i) (sym e) ∙ k) (not-put sure fs x y j b t w.1) g;
+    }

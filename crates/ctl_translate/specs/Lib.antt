@@ -15,9 +15,11 @@ pub mod Settings
 pub mod Suffixes
 -- of which variables each quantifier is over a formula that binds them, part by part of a table
 pub mod Unbound
+-- which variables are bound wherever a formula holds
+pub mod Held
 -- how large a formula is at least, by the body alone
 pub mod Least
 -- how many levels it has at least, by the body alone
 pub mod Deep
--- variables by where they are quantified
-pub mod Sorting
+-- where each variable of a sequence is quantified
+pub mod Homes

@@ -1,19 +1,22 @@
 // Which variables are quantified where.
-ghost use Rattle.std.specs.Prelude.{◌≡◌, ◌<◌, ◌+◌, ◌++◌, ◌&&◌, not, IfOk, OnOk, length, slice_index, drop};
+ghost use Rattle.std.specs.Prelude.{◌≡◌, ◌<◌, ◌≤◌, ◌^◌, ◌++◌, ◌&&◌, not, take, length, Some, IfOk, OnOk};
 ghost use Rattle.std.specs.List.{filter};
-ghost use Rattle.smpl_patch.specs.Bodies.{body, element};
+ghost use Rattle.smpl_patch.specs.Bodies.{body};
+ghost use Rattle.pattern_vars.specs.Reads.{has};
+ghost use Rattle.pattern_vars.specs.Keys.{value_of};
 ghost use Rattle.ctl_translate.specs.Placing as placing;
 ghost use Rattle.ctl_translate.specs.Table as table;
-ghost use Rattle.ctl_translate.specs.Settings.{reading_at, setting_at, places, place_at, later_at};
-ghost use Rattle.ctl_translate.specs.Sorting.{share_at, shared, shares_of};
+ghost use Rattle.ctl_translate.specs.Settings.{reading_at, setting_at, places};
+ghost use Rattle.ctl_translate.specs.Homes as of_sequence;
 
-use crate::occur::{
-    after_dots, is_inside, occurs_in_body, occurs_in_element, stands_in_body, used_in_body,
-};
+use crate::homes::{Home, home_of, homes_of};
+use crate::scope::Scope;
+use crate::sets::{occurring_in_body, standing_in_atom, standing_in_body, used_in_atom};
 use crate::setting::Setting;
 use c_terms::NoMemory;
-use smpl_patch::{Elem, Pattern, has_var, stands, used};
-use smpl_terms::Var;
+use pattern_vars::VarSet;
+use smpl_patch::{Elem, Pattern, has_var};
+use smpl_terms::{SharedList, Var};
 use sqlite_items::Items;
 use std::alloc::Global;
 
@@ -25,7 +28,7 @@ pub struct Place {
     /// What is quantified inside the element.
     pub inside: Items<Var>,
     /// What is quantified around the element.
-    pub scope: Items<Var>,
+    pub scope: Scope,
 }
 
 /// Equal variables.
@@ -39,71 +42,88 @@ pub fn copied_vars(alloc: Global, vars: &[Var]) -> Result<Items<Var>, NoMemory>
     Ok(copies)
 }
 
-/// Where a variable is quantified, of which a suffix of a sequence holds all occurrences.
-#[derive(Clone, Copy, Debug, PartialEq, Eq)]
-pub enum Share {
-    /// At the suffix.
-    Here,
-    /// Inside its first element.
-    Inside,
-    /// In what comes after that.
-    Later,
-}
-
-/// Variables by where they are quantified.
+/// What is quantified at the suffix that begins with an element, and what inside the element.
 #[derive(Drop)]
 pub struct Shares {
     pub here: Items<Var>,
     pub inside: Items<Var>,
-    pub later: Items<Var>,
 }
 
-/// Where the variable is quantified.
-fn share_of(m: &Setting, e: &Elem, rest: &[Elem], x: &Var) -> Share
-    ensures { result ≡ share_at (reading_at m.now) (element e.now) (body rest.now) x.now }
-{
-    if occurs_in_element(m, e, x) {
-        if !is_inside(m, e, x) || occurs_in_body(m, rest, x) {
-            return Share::Here;
-        }
-        return Share::Inside;
-    }
-    if after_dots(m, e, rest, x) {
-        return Share::Here;
-    }
-    Share::Later
-}
-
-fn put_share(alloc: Global, share: Share, x: &Var, found: &mut Shares) -> Result<(), NoMemory>
-    ensures { OnOk result (found.new ≡ shared share x.now found.old) }
+fn put_share(alloc: Global, here: bool, x: &Var, share: &mut Shares) -> Result<(), NoMemory>
+    ensures { OnOk result (share.new ≡ of_sequence.shared_by here (not here) x.now share.old) }
 {
     let x = x.copy(alloc)?;
-    match share {
-        Share::Here => found.here.push(x)?,
-        Share::Inside => found.inside.push(x)?,
-        Share::Later => found.later.push(x)?,
+    if here {
+        share.here.push(x)?;
+    } else {
+        share.inside.push(x)?;
     }
     Ok(())
 }
 
-/// The variables by where they are quantified. Each is looked for once.
-fn sort_vars(
-    alloc: Global,
-    m: &Setting,
-    e: &Elem,
-    rest: &[Elem],
-    vars: &[Var],
-) -> Result<Shares, NoMemory>
-    ensures { IfOk result (λ found. found ≡ shares_of (reading_at m.now) (element e.now)
-        (body rest.now) vars.now) }
+fn put_at(alloc: Global, h: Home, x: &Var, shares: &mut Vec<Shares>) -> Result<(), NoMemory>
+    ensures { OnOk result (shares.new.items ≡ of_sequence.put_in 0 (Some h) x.now shares.old.items) }
 {
-    let mut found = Shares {
-        here: Items::new(alloc),
-        inside: Items::new(alloc),
-        later: Items::new(alloc),
-    };
+    if h.place >= shares.len() {
+        return Ok(());
+    }
+    let share = &mut shares[h.place];
+    put_share(alloc, h.here, x, share)?;
+    Ok(())
+}
+
+/// Puts the variable where it is quantified.
+fn put_var(
+    alloc: Global,
+    home: Option<Home>,
+    x: &Var,
+    shares: &mut Vec<Shares>,
+) -> Result<(), NoMemory>
+    ensures { OnOk result (shares.new.items ≡ of_sequence.put_in 0 home x.now shares.old.items) }
+{
+    match home {
+        None => Ok(()),
+        Some(h) => put_at(alloc, h, x, shares),
+    }
+}
+
+/// So many times no variables.
+fn empty_shares(alloc: Global, count: usize) -> Result<Vec<Shares>, NoMemory>
+    ensures { IfOk result (λ found. found.items ≡ of_sequence.empty_shares count) }
+{
+    let mut found = Vec::new(alloc);
+    for _i in 0..count {
+        found.push(Shares {
+            here: Items::new(alloc),
+            inside: Items::new(alloc),
+        })?;
+    }
+    Ok(found)
+}
+
+/// The variables by where they are quantified. Each is looked up once.
+fn sorted(alloc: Global, m: &Setting, b: &[Elem], vars: &[Var]) -> Result<Vec<Shares>, NoMemory>
+    ensures { IfOk result (λ found. found.items ≡ of_sequence.shares_from
+        (of_sequence.home_in (reading_at m.now) 0 (body b.now)) 0 (body b.now) vars.now) }
+{
+    let homes = homes_of(alloc, m, b)?;
+    let mut found = empty_shares(alloc, b.len())?;
     for x in vars {
-        put_share(alloc, share_of(m, e, rest, x), x, &mut found)?;
+        let home = home_of(alloc, &homes, x)?;
+        put_var(alloc, home, x, &mut found)?;
+    }
+    Ok(found)
+}
+
+/// Those of the variables that are in the set, in their order.
+pub fn among(alloc: Global, set: &VarSet, vars: &[Var]) -> Result<Items<Var>, NoMemory>
+    ensures { IfOk result (λ found. found ≡ filter (has set.now) vars.now) }
+{
+    let mut found = Items::new(alloc);
+    for x in vars {
+        if set.has(alloc, x)? {
+            found.push(x.copy(alloc)?)?;
+        }
     }
     Ok(found)
 }
@@ -113,13 +133,8 @@ pub fn in_body(alloc: Global, m: &Setting, b: &[Elem], vars: &[Var]) -> Result<I
     ensures { IfOk result (λ found. found ≡ filter (placing.occurs_body (reading_at m.now)
         (body b.now)) vars.now) }
 {
-    let mut found = Items::new(alloc);
-    for x in vars {
-        if occurs_in_body(m, b, x) {
-            found.push(x.copy(alloc)?)?;
-        }
-    }
-    Ok(found)
+    let set = occurring_in_body(alloc, m, b)?;
+    among(alloc, &set, vars)
 }
 
 /// Those that are used in the atom.
@@ -132,13 +147,8 @@ pub fn at_atom(
     ensures { IfOk result (λ found. found
         ≡ filter (λ x. (reading_at m.now).used p.now x) vars.now) }
 {
-    let mut found = Items::new(alloc);
-    for x in vars {
-        if used(m.decls, m.tokens, p, x) {
-            found.push(x.copy(alloc)?)?;
-        }
-    }
-    Ok(found)
+    let set = used_in_atom(alloc, m, p)?;
+    among(alloc, &set, vars)
 }
 
 /// The variables of an atom in the condition of dots that aren't quantified around it.
@@ -151,55 +161,116 @@ pub fn at_copy(
     ensures { IfOk result (λ found. found ≡ filter (λ x. (reading_at m.now).stands p.now x && not
         (table.in_scope scope.now x)) m.now.locals.now) }
 {
+    let set = standing_in_atom(alloc, m, p)?;
     let mut found = Items::new(alloc);
     for x in m.locals {
-        if is_loose(m, p, scope, x) {
+        if is_loose(alloc, &set, scope, x)? {
             found.push(x.copy(alloc)?)?;
         }
     }
     Ok(found)
 }
 
-fn is_loose(m: &Setting, p: &Pattern, scope: &[Var], x: &Var) -> bool
-    ensures { result ≡ ((reading_at m.now).stands p.now x.now && not
-        (table.in_scope scope.now x.now)) }
+fn is_loose(alloc: Global, set: &VarSet, scope: &[Var], x: &Var) -> Result<bool, NoMemory>
+    ensures { IfOk result (λ loose. loose ≡ (has set.now x.now && not (table.in_scope scope.now x.now))) }
 {
-    stands(m.decls, m.tokens, p, x) && !has_var(scope, x)
-}
-
-/// Whether the variable occurs in `when` code alone, if it occurs in the body at all.
-pub fn is_alone(m: &Setting, b: &[Elem], x: &Var) -> bool
-    ensures { result ≡ placing.is_alone (reading_at m.now) (body b.now) x.now }
-{
-    !used_in_body(m, b, x)
+    let stands = set.has(alloc, x)?;
+    Ok(stands && !has_var(scope, x))
 }
 
 /// The variables that occur in `when` code alone, and in this piece.
 pub fn lone(alloc: Global, m: &Setting, piece: &[Elem]) -> Result<Items<Var>, NoMemory>
     ensures { IfOk result (λ found. found ≡ table.lone (setting_at m.now) (body piece.now)) }
 {
-    let mut found = Items::new(alloc);
-    for x in m.alone {
-        if stands_in_body(m, true, piece, x) {
-            found.push(x.copy(alloc)?)?;
-        }
+    let set = standing_in_body(alloc, m, true, piece)?;
+    among(alloc, &set, m.alone)
+}
+
+/// Appends variables.
+fn append(alloc: Global, more: &[Var], all: &mut Vec<Var>) -> Result<(), NoMemory>
+    ensures { OnOk result (all.new.items ≡ all.old.items ++ more.now) }
+{
+    for x in more {
+        all.push(x.copy(alloc)?)?;
     }
-    Ok(found)
+    Ok(())
 }
 
 /// The scope with further variables.
 pub fn extended(alloc: Global, scope: &[Var], here: &[Var]) -> Result<Items<Var>, NoMemory>
     ensures { IfOk result (λ found. found ≡ scope.now ++ here.now) }
 {
-    let mut all = copied_vars(alloc, scope)?;
-    for x in here {
-        all.push(x.copy(alloc)?)?;
+    let mut all = Vec::new(alloc);
+    append(alloc, scope, &mut all)?;
+    append(alloc, here, &mut all)?;
+    Ok(Items::from_vec(all))
+}
+
+/// The scope, and what is quantified at the suffixes of a sequence.
+fn all_around(alloc: Global, shares: &[Shares], scope: &[Var]) -> Result<Vec<Var>, NoMemory>
+    ensures { IfOk result (λ all. all.items ≡ scope.now ++ of_sequence.all_here shares.now) }
+{
+    let mut all = Vec::new(alloc);
+    append(alloc, scope, &mut all)?;
+    for share in shares {
+        append(alloc, share.here.as_slice(), &mut all)?;
     }
     Ok(all)
 }
 
-/// The places of a sequence's elements, by the variables that are quantified inside it and around it. Each variable is
-/// looked for in the elements up to the one where it is quantified, and once in what stands after that.
+/// An element's place, where so many of the variables are quantified around it.
+fn place_of(
+    alloc: Global,
+    share: &Shares,
+    all: &SharedList<Var>,
+    count: usize,
+) -> Result<Place, NoMemory>
+    requires { count ≤ length all.now }
+    ensures { IfOk result (λ place. place
+        ≡ record { here = share.now.here; inside = share.now.inside; scope = take count all.now }) }
+{
+    let here = copied_vars(alloc, share.here.as_slice())?;
+    let inside = copied_vars(alloc, share.inside.as_slice())?;
+    let scope = Scope::of(all, count)?;
+    Ok(Place {
+        here,
+        inside,
+        scope,
+    })
+}
+
+/// The places of a sequence's elements, around which the first of these variables are quantified.
+fn along(
+    alloc: Global,
+    shares: &[Shares],
+    scope: &[Var],
+    all: &SharedList<Var>,
+) -> Result<Vec<Place>, NoMemory>
+    requires all { all.now ≡ scope.now ++ of_sequence.all_here shares.now }
+    requires fits { length all.now < 2 ^ 64 }
+    ensures { IfOk result (λ found. found.items ≡ of_sequence.scoped shares.now scope.now) }
+{
+    let mut found = Vec::new(alloc);
+    let mut count = scope.len();
+    for share in shares {
+        count += share.here.len();
+        let place = place_of(alloc, share, all, count)?;
+        found.push(place)?;
+    }
+    Ok(found)
+}
+
+/// The places of a sequence's elements. They share one list of what is quantified around them.
+fn scoped(alloc: Global, shares: &[Shares], scope: &[Var]) -> Result<Vec<Place>, NoMemory>
+    ensures { IfOk result (λ found. found.items ≡ of_sequence.scoped shares.now scope.now) }
+{
+    let around = all_around(alloc, shares, scope)?;
+    let all = SharedList::of(alloc, around)?;
+    along(alloc, shares, scope, &all)
+}
+
+/// The places of a sequence's elements, by the variables that are quantified inside it and around it. The sequence is read a
+/// few times, and each variable is looked up once.
 pub fn places_of(
     alloc: Global,
     m: &Setting,
@@ -210,44 +281,6 @@ pub fn places_of(
     ensures { IfOk result (λ found. found.items ≡ places (reading_at m.now)
         (body b.now) vars.now scope.now) }
 {
-    let mut found = Vec::new(alloc);
-    let mut waiting = copied_vars(alloc, vars)?;
-    let mut around = copied_vars(alloc, scope)?;
-    for i in 0..b.len() {
-        let e = &b[i];
-        let rest = &b[i + 1..];
-        let (place, later) = place_of(alloc, m, e, rest, waiting.as_slice(), around.as_slice())?;
-        waiting = later;
-        around = copied_vars(alloc, place.scope.as_slice())?;
-        found.push(place)?;
-    }
-    Ok(found)
-}
-
-/// An element's place, and what is quantified in the rest of the sequence.
-fn place_of(
-    alloc: Global,
-    m: &Setting,
-    e: &Elem,
-    rest: &[Elem],
-    vars: &[Var],
-    scope: &[Var],
-) -> Result<(Place, Items<Var>), NoMemory>
-    ensures place { IfOk result (λ found. found.0 ≡ place_at (reading_at m.now) (element e.now)
-        (body rest.now) vars.now scope.now) }
-    ensures later { IfOk result (λ found. found.1 ≡ later_at (reading_at m.now) (element e.now)
-        (body rest.now) vars.now) }
-{
-    let Shares {
-        here,
-        inside,
-        later,
-    } = sort_vars(alloc, m, e, rest, vars)?;
-    let scope = extended(alloc, scope, here.as_slice())?;
-    let place = Place {
-        here,
-        inside,
-        scope,
-    };
-    Ok((place, later))
+    let shares = sorted(alloc, m, b, vars)?;
+    scoped(alloc, shares.as_slice(), scope)
 }

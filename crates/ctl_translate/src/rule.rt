@@ -3,6 +3,8 @@ ghost use Rattle.std.specs.Prelude.{◌≡◌, ◌<◌, ◌&&◌, not, true, fal
 ghost use Rattle.std.specs.List.{filter};
 ghost use Rattle.smpl_patch.specs.Bodies.{body};
 ghost use Rattle.smpl_patch.specs.Patterns as patterns;
+ghost use Rattle.smpl_terms.specs.declared.var.Var.{Var as Variable};
+ghost use Rattle.pattern_vars.specs.Reads.{has};
 ghost use Rattle.ctl_formula.specs.Plain.{fits};
 ghost use Rattle.ctl_formula.specs.Tables.{at, plains, Makes};
 ghost use Rattle.ctl_translate.specs.Placing as placing;
@@ -13,19 +15,23 @@ ghost use Rattle.ctl_translate.specs.Answers.{IsFormulaOf, IsFaultOf};
 ghost use Rattle.ctl_formula.specs.Binding.{binds_at};
 ghost use Rattle.ctl_formula.specs.Bounds.{bound, guarded_for};
 ghost use Rattle.ctl_translate.specs.Unbound.{AreGuardedBut};
+ghost use Rattle.ctl_translate.specs.Held.{AreHeldBy};
 
 use crate::blocks::blocks;
 use crate::deep::is_far_too_long;
 use crate::follow::Made;
 use crate::guard::{MOST_LOOKS, is_soon_bound, unguarded};
+use crate::held::{HeldVars, held_vars, is_found};
 use crate::least::is_far_too_large;
 use crate::occur::stands_in_body;
-use crate::place::is_alone;
+use crate::place::among;
 use crate::rows::sequence;
+use crate::sets::{standing_in_rule, used_in_body};
 use crate::setting::Setting;
 use c_terms::NoMemory;
 use ctl_formula::{Binds, Formula, Parts, bounds, copy_decls, copy_tokens};
-use smpl_patch::{Elem, Mode, Rule, VarDecl, has_var};
+use pattern_vars::{Decls, VarSet, put_vars};
+use smpl_patch::{Mode, Rule, VarDecl};
 use smpl_terms::Var;
 use sqlite_items::Items;
 use std::alloc::{AllocError, Global};
@@ -70,47 +76,50 @@ fn ranges_over_all(mode: Mode) -> bool
     }
 }
 
-fn is_local(rule: &Rule, d: &VarDecl) -> bool
-    ensures { result ≡ (not d.now.inherited && not (rules.is_exported rule.now d.now.var)) }
+fn is_local(alloc: Global, exports: &VarSet, d: &VarDecl) -> Result<bool, NoMemory>
+    ensures { IfOk result (λ yes. yes ≡ (not d.now.inherited && not (has exports.now d.now.var))) }
 {
-    !d.inherited && !has_var(rule.exports.as_slice(), &d.var)
+    let exported = exports.has(alloc, &d.var)?;
+    Ok(!d.inherited && !exported)
+}
+
+/// The exported variables.
+fn exported(alloc: Global, rule: &Rule) -> Result<VarSet, NoMemory>
+    ensures { IfOk result (λ set. (x : Variable) → has set x ≡ rules.is_exported rule.now x) }
+{
+    let mut set = VarSet::new(alloc);
+    put_vars(alloc, rule.exports.as_slice(), &mut set)?;
+    Ok(set)
 }
 
 /// The variables that are neither exported nor inherited.
 fn locals(alloc: Global, rule: &Rule) -> Result<Items<Var>, NoMemory>
     ensures { IfOk result (λ found. found ≡ rules.locals rule.now) }
 {
+    let exports = exported(alloc, rule)?;
     let mut found = Items::new(alloc);
     for d in rule.vars.as_slice() {
-        if is_local(rule, d) {
+        if is_local(alloc, &exports, d)? {
             found.push(d.var.copy(alloc)?)?;
         }
     }
     Ok(found)
 }
 
-/// Those of the variables that occur in `when` code alone.
-fn alone(alloc: Global, m: &Setting, b: &[Elem]) -> Result<Items<Var>, NoMemory>
-    ensures { IfOk result (λ found. found
-        ≡ filter (placing.is_alone (reading_at m.now) (body b.now)) m.now.locals.now) }
+fn is_unused(alloc: Global, used: &VarSet, x: &Var) -> Result<bool, NoMemory>
+    ensures { IfOk result (λ unused. unused ≡ not (has used.now x.now)) }
 {
-    let mut found = Items::new(alloc);
-    for x in m.locals {
-        if is_alone(m, b, x) {
-            found.push(x.copy(alloc)?)?;
-        }
-    }
-    Ok(found)
+    let there = used.has(alloc, x)?;
+    Ok(!there)
 }
 
-/// Those that are quantified at parts of the body.
-fn placed(alloc: Global, m: &Setting, b: &[Elem]) -> Result<Items<Var>, NoMemory>
-    ensures { IfOk result (λ found. found
-        ≡ filter (λ x. not (placing.is_alone (reading_at m.now) (body b.now) x)) m.now.locals.now) }
+/// Those of the variables that aren't in the set.
+fn others(alloc: Global, used: &VarSet, vars: &[Var]) -> Result<Items<Var>, NoMemory>
+    ensures { IfOk result (λ found. found ≡ filter (λ x. not (has used.now x)) vars.now) }
 {
     let mut found = Items::new(alloc);
-    for x in m.locals {
-        if !is_alone(m, b, x) {
+    for x in vars {
+        if is_unused(alloc, used, x)? {
             found.push(x.copy(alloc)?)?;
         }
     }
@@ -124,15 +133,30 @@ pub fn stands_outside_whens(rule: &Rule, x: &Var) -> bool
     ensures value { result ≡ any_body false
         (λ p. patterns.stands rule.now.vars rule.now.tokens p x.now) (body rule.now.body) }
 {
-    let m = Setting {
-        decls: rule.vars.as_slice(),
-        tokens: rule.tokens.as_slice(),
-        forall_walks: false,
-        locals: &[],
-        alone: &[],
-        blocks: &[],
-    };
-    stands_in_body(&m, false, rule.body.as_slice(), x)
+    let decls = rule.vars.as_slice();
+    let tokens = rule.tokens.as_slice();
+    stands_in_body(decls, tokens, false, rule.body.as_slice(), x)
+}
+
+/// The rule's declarations, found by their names.
+fn declared(alloc: Global, rule: &Rule) -> Result<Decls, NoMemory>
+    ensures { IfOk result (λ known. known ≡ rule.now.vars) }
+{
+    let decls = copy_decls(alloc, rule.vars.as_slice())?;
+    Decls::of(alloc, decls)
+}
+
+/// The variables that stand in the rule's pattern, `when` code and plus code aside. Of a head and of the tail of `do` only
+/// their own tokens count. Recurses once a level of nested statements and of branches, and is linear in the rule, where no
+/// hashes collide.
+pub fn standing_outside_whens(alloc: Global, rule: &Rule) -> Result<VarSet, NoMemory>
+    ensures value { IfOk result (λ set. (x : Variable) → has set x ≡ any_body false
+        (λ p. patterns.stands rule.now.vars rule.now.tokens p x) (body rule.now.body)) }
+{
+    let decls = declared(alloc, rule)?;
+    let tokens = rule.tokens.as_slice();
+    let b = rule.body.as_slice();
+    standing_in_rule(alloc, &decls, tokens, b)
 }
 
 /// The part that the rule's formula is.
@@ -140,7 +164,8 @@ fn root(alloc: Global, parts: &mut Parts, rule: &Rule) -> Result<usize, NoMemory
     ensures made { IfOk result (λ i. Makes parts.old parts.new i (rules.formula_of rule.now)) }
 {
     let b = rule.body.as_slice();
-    let decls = rule.vars.as_slice();
+    let decls = declared(alloc, rule)?;
+    let decls = &decls;
     let tokens = rule.tokens.as_slice();
     let locals = locals(alloc, rule)?;
     let locals = locals.as_slice();
@@ -155,9 +180,10 @@ fn root(alloc: Global, parts: &mut Parts, rule: &Rule) -> Result<usize, NoMemory
         alone: &[],
         blocks,
     };
-    let alone = alone(alloc, &m, b)?;
+    let used = used_in_body(alloc, &m, b)?;
+    let alone = others(alloc, &used, locals)?;
     let alone = alone.as_slice();
-    let placed = placed(alloc, &m, b)?;
+    let placed = among(alloc, &used, locals)?;
     let placed = placed.as_slice();
     let m = Setting { alone, ..m };
     sequence(alloc, parts, &m, b, None, &Made::Nothing, placed, &[])
@@ -199,7 +225,7 @@ fn is_open_in(
     root: usize,
     rule: &Rule,
     x: &Var,
-    suspects: &[Var],
+    suspects: &VarSet,
 ) -> Result<bool, NoMemory>
     requires within { root < length parts.now }
     requires root { at (plains parts.now) root ≡ rules.formula_of rule.now }
@@ -207,7 +233,8 @@ fn is_open_in(
     ensures { IfOk result (λ yes. yes ≡ not (guarded_for (patterns.sure rule.now.vars rule.now.tokens) x.now
         (rules.formula_of rule.now))) }
 {
-    if !has_var(suspects, x) {
+    let there = suspects.has(alloc, x)?;
+    if !there {
         return Ok(false);
     }
     is_open(alloc, parts, root, rule, x)
@@ -223,20 +250,23 @@ fn is_soon_held(parts: &Parts, root: usize, rule: &Rule, x: &Var) -> bool
     is_soon_bound(parts, decls, rule.tokens.as_slice(), x, root, MOST_LOOKS)
 }
 
-/// Whether the variable has a value wherever the rule's formula holds.
+/// Whether the variable has a value wherever the rule's formula holds, by what is known of many at once.
 fn is_held(
     alloc: Global,
     parts: &Parts,
     root: usize,
     rule: &Rule,
     x: &Var,
+    held: &HeldVars,
 ) -> Result<bool, NoMemory>
     requires within { root < length parts.now }
     requires root { at (plains parts.now) root ≡ rules.formula_of rule.now }
+    requires held { AreHeldBy rule.now held.now }
     ensures { IfOk result (λ held. held
         ≡ bound (patterns.sure rule.now.vars rule.now.tokens) (rules.formula_of rule.now) x.now) }
 {
-    if is_soon_held(parts, root, rule, x) {
+    let found = is_found(alloc, held, x)?;
+    if found || is_soon_held(parts, root, rule, x) {
         return Ok(true);
     }
     let binds = binds(alloc, parts, root, rule, x)?;
@@ -249,30 +279,58 @@ fn is_unbound(
     root: usize,
     rule: &Rule,
     d: &VarDecl,
-    suspects: &[Var],
+    exports: &VarSet,
+    held: &HeldVars,
+    suspects: &VarSet,
 ) -> Result<bool, NoMemory>
     requires within { root < length parts.now }
     requires root { at (plains parts.now) root ≡ rules.formula_of rule.now }
+    requires exports { (x : Variable) → has exports.now x ≡ rules.is_exported rule.now x }
+    requires held { AreHeldBy rule.now held.now }
     requires suspects { AreGuardedBut rule.now suspects.now }
     ensures { IfOk result (λ unbound. unbound ≡ rules.is_unbound rule.now d.now) }
 {
     if d.inherited {
         return Ok(false);
     }
-    if has_var(rule.exports.as_slice(), &d.var) {
-        let held = is_held(alloc, parts, root, rule, &d.var)?;
+    let exported = exports.has(alloc, &d.var)?;
+    if exported {
+        let held = is_held(alloc, parts, root, rule, &d.var, held)?;
         return Ok(!held);
     }
     is_open_in(alloc, parts, root, rule, &d.var, suspects)
 }
 
 /// The variables of which some quantifier in the table is over a formula that isn't soon seen to bind them.
-fn suspects(alloc: Global, parts: &Parts, root: usize, rule: &Rule) -> Result<Items<Var>, NoMemory>
+fn suspects(
+    alloc: Global,
+    parts: &Parts,
+    root: usize,
+    rule: &Rule,
+    decls: &Decls,
+) -> Result<VarSet, NoMemory>
     requires within { root < length parts.now }
     requires root { at (plains parts.now) root ≡ rules.formula_of rule.now }
+    requires decls { decls.now ≡ rule.now.vars }
     ensures { IfOk result (λ suspects. AreGuardedBut rule.now suspects) }
 {
-    unguarded(alloc, parts, rule.vars.as_slice(), rule.tokens.as_slice())
+    unguarded(alloc, parts, decls, rule.tokens.as_slice())
+}
+
+/// Variables that have a value wherever the rule's formula holds.
+fn held(
+    alloc: Global,
+    parts: &Parts,
+    root: usize,
+    rule: &Rule,
+    decls: &Decls,
+) -> Result<HeldVars, NoMemory>
+    requires within { root < length parts.now }
+    requires root { at (plains parts.now) root ≡ rules.formula_of rule.now }
+    requires decls { decls.now ≡ rule.now.vars }
+    ensures { IfOk result (λ held. AreHeldBy rule.now held) }
+{
+    held_vars(alloc, parts, decls, rule.tokens.as_slice(), root)
 }
 
 /// The first declared variable that may stay unbound. For those that aren't soon seen to be bound, one pass over the table
@@ -287,10 +345,12 @@ fn first_unbound(
     requires root { at (plains parts.now) root ≡ rules.formula_of rule.now }
     ensures { IfOk result (λ found. found ≡ rules.first_unbound rule.now) }
 {
-    let suspects = suspects(alloc, parts, root, rule)?;
-    let suspects = suspects.as_slice();
+    let exports = exported(alloc, rule)?;
+    let decls = declared(alloc, rule)?;
+    let held = held(alloc, parts, root, rule, &decls)?;
+    let suspects = suspects(alloc, parts, root, rule, &decls)?;
     for d in rule.vars.as_slice() {
-        if is_unbound(alloc, parts, root, rule, d, suspects)? {
+        if is_unbound(alloc, parts, root, rule, d, &exports, &held, &suspects)? {
             return Ok(Some(d.var.copy(alloc)?));
         }
     }
@@ -315,8 +375,9 @@ fn formula(alloc: Global, parts: Parts, root: usize, rule: &Rule) -> Result<Form
 /// [`FormulaFault::TooLarge`] comes where the formula is over a limit, whether or not it has variables that may stay unbound;
 /// [`FormulaFault::Unbound`] where it is within the limits and has such a variable; [`FormulaFault::NoMemory`] where memory
 /// was refused. Recurses once a level of nested statements, branches and `when` code. Makes what stands at several places
-/// once, but each branch of a disjunction that something follows twice; takes names times tokens besides. The table is after
-/// Brunel, Doligez, Hansen, Lawall and Muller, POPL 2009; what they leave open is this project's own.
+/// once, but each branch of a disjunction that something follows twice; a token is read a few times for each statement,
+/// branch or piece of `when` code around it. The table is after Brunel, Doligez, Hansen, Lawall and Muller, POPL 2009; what
+/// they leave open is this project's own.
 pub fn formula_of(alloc: Global, rule: &Rule) -> Result<Formula, FormulaFault>
     ensures formula { IfOk result (λ formula. IsFormulaOf rule.now formula) }
     ensures fault { IfErr result (λ fault. IsFaultOf rule.now fault) }

@@ -1,11 +1,12 @@
 // What the table goes by, besides the element at hand.
-use smpl_patch::{PatToken, VarDecl};
+use pattern_vars::Decls;
+use smpl_patch::PatToken;
 use smpl_terms::Var;
 
 /// What the table goes by.
 #[derive(Clone, Copy)]
 pub struct Setting<'a> {
-    pub decls: &'a [VarDecl],
+    pub decls: &'a Decls,
     pub tokens: &'a [PatToken],
     /// Dots go over all walks, and else over some walk.
     pub forall_walks: bool,

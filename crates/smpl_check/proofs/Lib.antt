@@ -1,4 +1,3 @@
 pub mod KnownLemmas
 pub mod FirstLemmas
-pub mod NameLemmas
 mod Examples

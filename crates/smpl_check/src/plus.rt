@@ -1,63 +1,72 @@
 // Variables of plus code that the pattern doesn't hold.
-ghost use Rattle.std.specs.Prelude.{◌≡◌};
+ghost use Rattle.std.specs.Prelude.{◌≡◌, ◌||◌, Some, IfOk, OnOk};
+ghost use Rattle.std.specs.List.{list_any};
+ghost use Rattle.smpl_terms.specs.declared.var.Var.{Var as Variable};
 ghost use Rattle.smpl_patch.specs.Patterns as patterns;
+ghost use Rattle.pattern_vars.specs.Reads.{has};
 ghost use Rattle.smpl_check.specs.Checks as checks;
 
-use c_terms::Token;
-use ctl_translate::stands_outside_whens;
-use smpl_patch::{PlusBlock, PlusLine, Rule, VarDecl, is_own};
-use smpl_terms::Var;
+use c_terms::NoMemory;
+use ctl_formula::copy_decls;
+use pattern_vars::{Decls, VarSet, put_block};
+use smpl_patch::{PatToken, Rule, VarDecl};
+use std::alloc::Global;
 
-/// Whether the token of plus code is the variable: at plus code no positions stand.
-fn is_meta_of(decls: &[VarDecl], x: &Var, token: &Token) -> bool
-    ensures { result ≡ patterns.is_meta_of decls.now token.now token.now.kind x.now }
+/// Puts the variables in that stand in plus code at the token.
+fn put_token(
+    alloc: Global,
+    decls: &Decls,
+    token: &PatToken,
+    set: &mut VarSet,
+) -> Result<(), NoMemory>
+    ensures { OnOk result ((y : Variable) → has set.new y
+        ≡ (has set.old y || patterns.in_plus decls.now (Some token.now) y)) }
 {
-    is_own(decls, &[], x, token)
+    put_block(alloc, decls, &token.before, set)?;
+    put_block(alloc, decls, &token.after, set)?;
+    Ok(())
 }
 
-fn in_line(decls: &[VarDecl], x: &Var, line: &PlusLine) -> bool
-    ensures { result ≡ patterns.in_line decls.now x.now line.now }
+fn put_tokens(
+    alloc: Global,
+    decls: &Decls,
+    tokens: &[PatToken],
+    set: &mut VarSet,
+) -> Result<(), NoMemory>
+    ensures { OnOk result ((y : Variable) → has set.new y
+        ≡ (has set.old y || list_any (λ t. patterns.in_plus decls.now (Some t) y) tokens.now)) }
 {
-    for token in line.tokens.as_slice() {
-        if is_meta_of(decls, x, token) {
-            return true;
-        }
+    for token in tokens {
+        put_token(alloc, decls, token, set)?;
     }
-    false
+    Ok(())
 }
 
-fn in_block(decls: &[VarDecl], x: &Var, block: &Option<PlusBlock>) -> bool
-    ensures { result ≡ patterns.in_block decls.now x.now block.now }
+/// The variables that stand in plus code of the rule.
+pub fn in_plus_code(alloc: Global, rule: &Rule) -> Result<VarSet, NoMemory>
+    ensures { IfOk result (λ set. (x : Variable) → has set x ≡ checks.in_plus_code rule.now x) }
 {
-    match block {
-        None => false,
-        Some(b) => {
-            for line in b.lines.as_slice() {
-                if in_line(decls, x, line) {
-                    return true;
-                }
-            }
-            false
-        }
-    }
+    let decls = copy_decls(alloc, rule.vars.as_slice())?;
+    let known = Decls::of(alloc, decls)?;
+    let tokens = rule.tokens.as_slice();
+    let mut set = VarSet::new(alloc);
+    put_tokens(alloc, &known, tokens, &mut set)?;
+    Ok(set)
 }
 
-/// Whether the variable stands in plus code of the rule.
-fn in_plus_code(rule: &Rule, x: &Var) -> bool
-    ensures { result ≡ checks.in_plus_code rule.now x.now }
+/// Whether plus code shows a variable that nothing gives a value, by the variables of plus code and of the pattern.
+pub fn is_unbound_in_plus(
+    alloc: Global,
+    rule: &Rule,
+    plus: &VarSet,
+    pattern: &VarSet,
+    d: &VarDecl,
+) -> Result<bool, NoMemory>
+    requires plus { (x : Variable) → has plus.now x ≡ checks.in_plus_code rule.now x }
+    requires pattern { (x : Variable) → has pattern.now x ≡ checks.in_pattern rule.now x }
+    ensures { IfOk result (λ unbound. unbound ≡ checks.is_unbound_in_plus rule.now d.now) }
 {
-    let decls = rule.vars.as_slice();
-    for token in rule.tokens.as_slice() {
-        if in_block(decls, x, &token.before) || in_block(decls, x, &token.after) {
-            return true;
-        }
-    }
-    false
-}
-
-/// Whether plus code shows a variable that nothing gives a value.
-pub fn is_unbound_in_plus(rule: &Rule, d: &VarDecl) -> bool
-    ensures { result ≡ checks.is_unbound_in_plus rule.now d.now }
-{
-    !d.inherited && in_plus_code(rule, &d.var) && !stands_outside_whens(rule, &d.var)
+    let shown = plus.has(alloc, &d.var)?;
+    let held = pattern.has(alloc, &d.var)?;
+    Ok(!d.inherited && shown && !held)
 }

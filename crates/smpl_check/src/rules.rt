@@ -4,8 +4,8 @@ ghost use Rattle.std.specs.Option.{option_copied};
 ghost use Rattle.smpl_check.specs.Checks.{first_fault, fault_of_rule, IsFirst, IsFaultOf};
 ghost use Rattle.smpl_check.specs.Known as known;
 
-use crate::plus::is_unbound_in_plus;
-use ctl_translate::{FormulaFault, formula_of};
+use crate::plus::{in_plus_code, is_unbound_in_plus};
+use ctl_translate::{FormulaFault, formula_of, standing_outside_whens};
 use smpl_patch::{Patch, PatchFault, Rule, VarDecl};
 use smpl_terms::{Var, same_var};
 use std::alloc::Global;
@@ -27,8 +27,10 @@ fn check_vars(alloc: Global, rule: &Rule, unbound: Option<&Var>) -> Result<(), P
     ensures fault { IfErr result (λ fault. IsFirst
         (known.fault_by rule.now (option_copied unbound.entry) rule.now.vars) fault) }
 {
+    let plus = in_plus_code(alloc, rule)?;
+    let pattern = standing_outside_whens(alloc, rule)?;
     for d in rule.vars.as_slice() {
-        if is_unbound_in_plus(rule, d) {
+        if is_unbound_in_plus(alloc, rule, &plus, &pattern, d)? {
             return Err(PatchFault::UnboundInPlus(d.var.copy(alloc)?));
         }
         if is_own_of(unbound, d) {
@@ -60,8 +62,8 @@ fn check_rule(alloc: Global, n: u32, rule: &Rule) -> Result<(), PatchFault>
 /// formula under one of its quantifiers can hold, or, where a later rule inherits it, in which the whole formula can.
 /// [`PatchFault::NoMemory`] comes where memory was refused. No other fault comes. Patterns are read in their first form.
 ///
-/// Makes each rule's formula once; besides, each own variable of plus code costs a reading of the rule. Takes the stack
-/// of [`formula_of`]. The faults and their order are this project's own.
+/// Makes each rule's formula once; besides, it is linear in the rule, where no hashes collide. Takes the stack of
+/// [`formula_of`]. The faults and their order are this project's own.
 pub fn check(alloc: Global, patch: &Patch) -> Result<(), PatchFault>
     requires { length patch.now.rules < 2 ^ 32 }
     ensures accepted { OnOk result (first_fault patch.now ≡ None) }

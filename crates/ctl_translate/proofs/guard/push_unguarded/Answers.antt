@@ -1,9 +1,16 @@
+use Rattle.std.proofs.Common.{ℕ, sym, ap, ◌∙◌}
 use Rattle.smpl_patch.specs.Patterns.{sure}
-use Rattle.ctl_formula.specs.Tables.{plains}
-use Rattle.ctl_translate.proofs.TableGuards.{kept-guarded}
+use Rattle.ctl_formula.specs.Bounds.{bound}
+use Rattle.ctl_formula.specs.Tables.{at, plains}
+use Rattle.ctl_translate.proofs.TableGuards.{pushed-guarded}
 use Rattle.ctl_translate.proofs.guard.push_unguarded.Goals as goal
 
-pub returns-else-not-is_soon_bound : goal.returns-else-not-is_soon_bound
-returns-else-not-is_soon_bound c =
-    kept-guarded (sure c.args.decls.now c.args.tokens.now) (plains c.args.parts.now) c.args.found.now c.args.i c.node.result.now c.in-Exists.y c.in-Exists.f c.is_soon_bound.result
-    c.in-Exists.is c.node.ensures.is c.node.ensures.kids c.is_soon_bound.ensures c.if-not-is_soon_bound.false
+pub returns-in_ok-leave-in-Exists-clause-guarded : goal.returns-in_ok-leave-in-Exists-clause-guarded
+returns-in_ok-leave-in-Exists-clause-guarded c =
+    let s = sure c.args.decls.now c.args.tokens.now in
+    let fs = plains c.args.parts.now in
+    let y = c.in-Exists.y in
+    pushed-guarded s fs c.args.found.now c.put_open.new.found c.args.i c.node.result.now y c.in-Exists.f c.in_ok-bound-in-Exists.bound
+    c.in-Exists.is c.node.ensures.is c.node.ensures.kids
+    (λ e. ap (λ (z : ℕ). bound s (at fs z) y) (sym c.in_ok-enter-in-Exists.ensures.part) ∙ c.in_ok-bound-in-Exists.ensures e)
+    c.in_ok-put_open-in-Exists.ensures

@@ -17,10 +17,10 @@ decreases-stands_in_bodies l = weight_bodies (bodies l.bs.now)
 
 abbrev pub invariant-stands_in_body-loop-e : goal.invariant-stands_in_body-loop-e
 invariant-stands_in_body-loop-e l =
-    placing.any_body l.whens (λ p. patterns.stands l.m.decls.now l.m.tokens.now p l.x) (body (drop l.e-index l.b))
-    ≡ placing.any_body l.whens (λ p. patterns.stands l.m.decls.now l.m.tokens.now p l.x) (body l.b)
+    placing.any_body l.whens (λ p. patterns.stands l.decls l.tokens p l.x) (body (drop l.e-index l.b))
+    ≡ placing.any_body l.whens (λ p. patterns.stands l.decls l.tokens p l.x) (body l.b)
 
 abbrev pub invariant-stands_in_bodies-loop-b : goal.invariant-stands_in_bodies-loop-b
 invariant-stands_in_bodies-loop-b l =
-    placing.any_bodies l.whens (λ p. patterns.stands l.m.decls.now l.m.tokens.now p l.x) (bodies (drop l.b-index l.bs))
-    ≡ placing.any_bodies l.whens (λ p. patterns.stands l.m.decls.now l.m.tokens.now p l.x) (bodies l.bs)
+    placing.any_bodies l.whens (λ p. patterns.stands l.decls l.tokens p l.x) (bodies (drop l.b-index l.bs))
+    ≡ placing.any_bodies l.whens (λ p. patterns.stands l.decls l.tokens p l.x) (bodies l.bs)

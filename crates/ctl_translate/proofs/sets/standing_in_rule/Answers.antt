@@ -1,0 +1,12 @@
+use Rattle.std.proofs.Common.{ap, ◌∙◌, ◌||◌, Bool, false, List}
+use Rattle.smpl_terms.specs.declared.var.Var.{Var}
+use Rattle.smpl_patch.specs.declared.pattern.Pattern.{Pattern}
+use Rattle.smpl_patch.specs.Bodies.{body}
+use Rattle.pattern_vars.specs.Reads.{has, reads}
+use Rattle.ctl_translate.specs.Placing as placing
+use Rattle.ctl_translate.proofs.sets.standing_in_rule.Goals as goal
+
+pub returns : goal.returns
+returns c y =
+    let test : Pattern → Bool = λ p. reads c.args.decls.now c.args.tokens.now false p y in
+    c.in_ok-put_body.ensures y ∙ ap (λ (vs : List Var). has vs y || placing.any_body false test (body c.args.b.now)) c.new-set.ensures

@@ -52,8 +52,22 @@ pub fn every_next(alloc: Global, next: &[u32], x: &[EnvSet]) -> Result<EnvSet, N
     Ok(out)
 }
 
-/// The environments that are in the set of some of these nodes. The entries of all are put in order together.
+/// The environments that are in the set of some of these nodes. The set of a node alone is shared.
 pub fn some_next(alloc: Global, next: &[u32], x: &[EnvSet]) -> Result<EnvSet, NoMemory>
+    requires { (k : ℕ) → Contains next.now k → k < length x.now }
+    ensures gives { IfOk result (λ r. (env : Environment) → set_denotes r env
+        ≡ passes false (λ k. has x.now k env) next.now) }
+    ensures vars { IfOk result (λ r. (test : Var → Bool) → row_vars test x.now ≡ true
+        → set_vars test r ≡ true) }
+{
+    match next {
+        [k] => set_in(x, *k).copy(alloc),
+        _ => some_of(alloc, next, x),
+    }
+}
+
+/// The same. The entries of all are put in order together.
+fn some_of(alloc: Global, next: &[u32], x: &[EnvSet]) -> Result<EnvSet, NoMemory>
     requires { (k : ℕ) → Contains next.now k → k < length x.now }
     ensures gives { IfOk result (λ r. (env : Environment) → set_denotes r env
         ≡ passes false (λ k. has x.now k env) next.now) }

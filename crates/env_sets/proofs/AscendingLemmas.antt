@@ -33,7 +33,7 @@ no_later_same Equal r s t = t
 no_later_same Greater r s t = (λ a. a, λ b. refl)
 
 -- a value before another, beside a value that is the same as the other
-beside_same : (v w x : Value) → value_order v w ≡ Less → value_order w x ≡ Equal → value_order v x ≡ Less
+pub beside_same : (v w x : Value) → value_order v w ≡ Less → value_order w x ≡ Equal → value_order v x ≡ Less
 beside_same v w x h k =
     turned x v Greater (sym (value_order_total.congr w x v k) ∙ turned v w Less h)
 
@@ -77,13 +77,13 @@ pub aside : (ps : List (Var × Bound)) (env : Environment) → is_eq (side ps en
 aside [] env h = absurd cc
 aside (p ∷ ps) env h = bound_apart p.1 (env p.0) (side ps env) (entry_denotes ps env) h (aside ps env)
 
-before_misses : (e : List (Var × Bound)) (env : Environment) → side e env ≡ Less → entry_denotes e env ≡ false
+pub before_misses : (e : List (Var × Bound)) (env : Environment) → side e env ≡ Less → entry_denotes e env ≡ false
 before_misses e env h = aside e env (ap is_eq h)
 
-after_misses : (e : List (Var × Bound)) (env : Environment) → side e env ≡ Greater → entry_denotes e env ≡ false
+pub after_misses : (e : List (Var × Bound)) (env : Environment) → side e env ≡ Greater → entry_denotes e env ≡ false
 after_misses e env h = aside e env (ap is_eq h)
 
-neither : (b c : Bool) → b ≡ false → c ≡ false → (b || c) ≡ false
+pub neither : (b c : Bool) → b ≡ false → c ≡ false → (b || c) ≡ false
 neither b c h k = ap (λ x. x || c) h ∙ k
 
 -- before an entry that is before env stand only such
@@ -108,7 +108,7 @@ pub front_misses_at : (es : Entries) (n m : ℕ) (x : List (Var × Bound)) (env 
 front_misses_at es n m x env a lt at h k = ap (λ j. set_denotes (take j es) env) k ∙ front_misses es n x env a lt at h
 
 -- behind an entry that is after env stand only such
-all_after : (es : Entries) (e : List (Var × Bound)) (env : Environment) → FirstMayFollow e es → Ascend es
+pub all_after : (es : Entries) (e : List (Var × Bound)) (env : Environment) → FirstMayFollow e es → Ascend es
     → side e env ≡ Greater → set_denotes es env ≡ false
 all_after [] e env f a h = refl
 all_after (y ∷ es) e env f a h =

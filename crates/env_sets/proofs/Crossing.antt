@@ -35,7 +35,7 @@ entry_sync : IsSync Entry.the_row
 entry_sync = search (bound_send, bound_sync, crosses, sendable) depth 60
 
 pub set_send : IsSend EnvSet.the_row
-set_send = search (entry_send, crosses, sendable) depth 60
+set_send = search (entry_send, entry_sync, crosses, sendable) depth 60
 
 pub set_sync : IsSync EnvSet.the_row
-set_sync = search (entry_sync, crosses, sendable) depth 60
+set_sync = search (entry_send, entry_sync, crosses, sendable) depth 60

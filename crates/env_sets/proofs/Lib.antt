@@ -7,6 +7,8 @@ pub mod AlikeLemmas
 pub mod SplitLemmas
 pub mod RisingLemmas
 pub mod AscendingLemmas
+pub mod BlockLemmas
+pub mod SharingLemmas
 pub mod MeetLemmas
 pub mod LoneLemmas
 pub mod Examples

@@ -1,8 +1,9 @@
--- What public contracts rest on, in reading order: bounds, values in order, entries and sets, sets by node, laws.
+-- What public contracts rest on, in reading order: bounds, values in order, entries and sets, blocks of entries, sets by node, laws.
 pub mod Bounds
 pub mod Rising
 pub mod Runs
 pub mod Sets
+pub mod Blocks
 pub mod States
 pub mod Laws
 -- For inside use: how a set splits on the values of a variable.

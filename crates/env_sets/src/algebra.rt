@@ -11,12 +11,14 @@ ghost use Rattle.env_sets.specs.Laws.{IsMeet, IsJoin, IsProjection, IsGiven};
 ghost use Rattle.env_sets.specs.Rising.{Rise};
 ghost use Rattle.env_sets.specs.Splits.{fits_if, AreGroupsOf, HaveVars};
 
-use crate::ascending::ascending_hold;
+use crate::blocks::blocks_hold;
 use crate::bounds::Bound;
 use crate::entries::{Entry, entry_holds, meet_entries};
 use crate::groups::{Groups, groups_by};
+use crate::listed::EntryList;
 use crate::parts::fixed_value;
 use crate::sets::{EnvSet, first_cover, put_some, settled};
+use crate::sharing::{join_sharing, meet_sharing};
 use crate::values::{ValueList, distinct, place_in_order};
 use c_terms::NoMemory;
 use smpl_terms::{Env, Value, Var, same_var};
@@ -30,19 +32,13 @@ pub fn join(alloc: Global, a: &EnvSet, b: &EnvSet) -> Result<EnvSet, NoMemory>
     ensures vars { IfOk result (λ r. (t : Var → Bool) → set_vars t a.now ≡ true →
         set_vars t b.now ≡ true → set_vars t r ≡ true) }
 {
-    let mut entries = Vec::new(alloc);
-    put_copies(alloc, &mut entries, a)?;
-    put_copies(alloc, &mut entries, b)?;
-    settled(alloc, entries)
-}
-
-fn put_copies(alloc: Global, out: &mut Vec<Entry>, a: &EnvSet) -> Result<(), NoMemory>
-    ensures { IfOk result (λ _. out.new.items ≡ out.old.items ++ a.now) }
-{
-    for e in a.entries() {
-        out.push(e.copy(alloc)?)?;
+    if let Some(set) = join_sharing(alloc, a, b)? {
+        return Ok(set);
     }
-    Ok(())
+    let mut entries = Vec::new(alloc);
+    a.put_in(&mut entries)?;
+    b.put_in(&mut entries)?;
+    settled(alloc, entries)
 }
 
 /// Both: what a and b stand for.
@@ -56,7 +52,23 @@ pub fn meet(alloc: Global, a: &EnvSet, b: &EnvSet) -> Result<EnvSet, NoMemory>
     ensures vars { IfOk result (λ r. (t : Var → Bool) → set_vars t a.now ≡ true →
         set_vars t b.now ≡ true → set_vars t r ≡ true) }
 {
-    if a.entries().len() < 2 || b.entries().len() < 2 {
+    if let (Some(es), Some(fs)) = (a.as_list(), b.as_list()) {
+        return meet_lists(alloc, es, fs);
+    }
+    if let Some(set) = meet_sharing(alloc, a, b)? {
+        return Ok(set);
+    }
+    let (es, fs) = (a.list(alloc)?, b.list(alloc)?);
+    meet_lists(alloc, es.entries(), fs.entries())
+}
+
+/// What both lists stand for.
+fn meet_lists(alloc: Global, a: &[Entry], b: &[Entry]) -> Result<EnvSet, NoMemory>
+    ensures meaning { IfOk result (λ r. IsMeet a.now b.now r) }
+    ensures vars { IfOk result (λ r. (t : Var → Bool) → set_vars t a.now ≡ true →
+        set_vars t b.now ≡ true → set_vars t r ≡ true) }
+{
+    if a.len() < 2 || b.len() < 2 {
         return meet_pairs(alloc, a, b);
     }
     match first_var(b) {
@@ -65,8 +77,8 @@ pub fn meet(alloc: Global, a: &EnvSet, b: &EnvSet) -> Result<EnvSet, NoMemory>
     }
 }
 
-fn first_var(b: &EnvSet) -> Option<&Var> {
-    match b.entries() {
+fn first_var(b: &[Entry]) -> Option<&Var> {
+    match b {
         [] => None,
         [first, ..] => match first.pairs() {
             [] => None,
@@ -76,28 +88,28 @@ fn first_var(b: &EnvSet) -> Option<&Var> {
 }
 
 /// Meets each entry of a with each of b.
-fn meet_pairs(alloc: Global, a: &EnvSet, b: &EnvSet) -> Result<EnvSet, NoMemory>
+fn meet_pairs(alloc: Global, a: &[Entry], b: &[Entry]) -> Result<EnvSet, NoMemory>
     ensures meaning { IfOk result (λ r. IsMeet a.now b.now r) }
     ensures vars { IfOk result (λ r. (t : Var → Bool) → set_vars t a.now ≡ true →
         set_vars t b.now ≡ true → set_vars t r ≡ true) }
 {
     let mut entries = Vec::new(alloc);
-    for e in a.entries() {
-        meet_each(alloc, &mut entries, e, b.entries())?;
+    for e in a {
+        meet_each(alloc, &mut entries, e, b)?;
     }
     settled(alloc, entries)
 }
 
 /// The same, by the values at which entries of b fix x. Those that fix x alone are kept as values.
-fn meet_by(alloc: Global, a: &EnvSet, b: &EnvSet, x: &Var) -> Result<EnvSet, NoMemory>
+fn meet_by(alloc: Global, a: &[Entry], b: &[Entry], x: &Var) -> Result<EnvSet, NoMemory>
     ensures meaning { IfOk result (λ r. IsMeet a.now b.now r) }
     ensures vars { IfOk result (λ r. (t : Var → Bool) → set_vars t a.now ≡ true →
         set_vars t b.now ≡ true → set_vars t r ≡ true) }
 {
-    let parts = split_lone(alloc, b.entries(), x)?;
+    let parts = split_lone(alloc, b, x)?;
     let groups = groups_by(alloc, parts.others.entries(), x)?;
     let mut entries = Vec::new(alloc);
-    for e in a.entries() {
+    for e in a {
         meet_at_variable(alloc, &mut entries, e, b, x, &parts, &groups)?;
     }
     settled(alloc, entries)
@@ -107,7 +119,7 @@ fn meet_by(alloc: Global, a: &EnvSet, b: &EnvSet, x: &Var) -> Result<EnvSet, NoM
 #[derive(Drop)]
 pub struct LoneSplit {
     pub fixed: ValueList,
-    pub others: EnvSet,
+    pub others: EntryList,
 }
 
 /// The parts of a set at x. Copies each entry once, and sorts the values.
@@ -124,7 +136,7 @@ pub fn split_lone(alloc: Global, b: &[Entry], x: &Var) -> Result<LoneSplit, NoMe
     }
     Ok(LoneSplit {
         fixed: distinct(alloc, fixed)?,
-        others: EnvSet::of(others),
+        others: EntryList::of(others),
     })
 }
 
@@ -173,7 +185,7 @@ fn meet_at_variable(
     alloc: Global,
     out: &mut Vec<Entry>,
     e: &Entry,
-    b: &EnvSet,
+    b: &[Entry],
     x: &Var,
     parts: &LoneSplit,
     groups: &Groups,
@@ -193,13 +205,13 @@ fn meet_at_variable(
         (λ _. (t : Var → Bool) → set_vars t out.old.items ≡ true → entry_vars t e.now ≡ true → set_vars t b.now ≡ true → set_vars t out.new.items ≡ true) }
 {
     match fixed_value(e, x) {
-        None => meet_each(alloc, out, e, b.entries()),
+        None => meet_each(alloc, out, e, b),
         Some(v) => {
             if parts.fixed.have(v) {
                 out.push(e.copy(alloc)?)?;
                 return Ok(());
             }
-            meet_by_group(alloc, out, e, &parts.others, x, groups)
+            meet_by_group(alloc, out, e, parts.others.entries(), x, groups)
         }
     }
 }
@@ -209,7 +221,7 @@ fn meet_by_group(
     alloc: Global,
     out: &mut Vec<Entry>,
     e: &Entry,
-    b: &EnvSet,
+    b: &[Entry],
     x: &Var,
     groups: &Groups,
 ) -> Result<(), NoMemory>
@@ -224,7 +236,7 @@ fn meet_by_group(
         (λ _. (t : Var → Bool) → set_vars t out.old.items ≡ true → entry_vars t e.now ≡ true → set_vars t b.now ≡ true → set_vars t out.new.items ≡ true) }
 {
     match fixed_value(e, x) {
-        None => meet_each(alloc, out, e, b.entries()),
+        None => meet_each(alloc, out, e, b),
         Some(v) => match place_in_order(groups.values.as_slice(), v) {
             None => meet_each(alloc, out, e, groups.others.entries()),
             Some(k) => meet_group_and_others(
@@ -280,8 +292,23 @@ pub fn project(alloc: Global, a: &EnvSet, v: &Var) -> Result<EnvSet, NoMemory>
     ensures vars { IfOk result (λ r. (t : Var → Bool) → set_vars (λ y. t y
         || same_var y v.now) a.now ≡ true → set_vars t r ≡ true) }
 {
+    match a.as_list() {
+        Some(entries) => projected(alloc, entries, v),
+        None => {
+            let list = a.list(alloc)?;
+            projected(alloc, list.entries(), v)
+        }
+    }
+}
+
+/// The same for a list.
+fn projected(alloc: Global, a: &[Entry], v: &Var) -> Result<EnvSet, NoMemory>
+    ensures meaning { IfOk result (λ r. IsProjection v.now a.now r) }
+    ensures vars { IfOk result (λ r. (t : Var → Bool) → set_vars (λ y. t y
+        || same_var y v.now) a.now ≡ true → set_vars t r ≡ true) }
+{
     let mut entries = Vec::new(alloc);
-    for e in a.entries() {
+    for e in a {
         entries.push(e.without(alloc, v)?)?;
     }
     settled(alloc, entries)
@@ -295,8 +322,23 @@ pub fn given(alloc: Global, a: &EnvSet, env: &Env) -> Result<EnvSet, NoMemory>
     ensures vars { IfOk result (λ r. (t : Var → Bool) → set_vars (λ x. t x
         || has_value env.now x) a.now ≡ true → set_vars t r ≡ true) }
 {
+    match a.as_list() {
+        Some(entries) => entries_given(alloc, entries, env),
+        None => {
+            let list = a.list(alloc)?;
+            entries_given(alloc, list.entries(), env)
+        }
+    }
+}
+
+/// The same for a list.
+fn entries_given(alloc: Global, a: &[Entry], env: &Env) -> Result<EnvSet, NoMemory>
+    ensures meaning { IfOk result (λ r. IsGiven env.now a.now r) }
+    ensures vars { IfOk result (λ r. (t : Var → Bool) → set_vars (λ x. t x
+        || has_value env.now x) a.now ≡ true → set_vars t r ≡ true) }
+{
     let mut entries = Vec::new(alloc);
-    for e in a.entries() {
+    for e in a {
         put_some(&mut entries, entry_given(alloc, e, env)?)?;
     }
     settled(alloc, entries)
@@ -337,8 +379,8 @@ fn entry_agrees(entry: &Entry, env: &Env) -> bool
 pub fn denotes(a: &EnvSet, env: &Env) -> bool
     ensures meaning { result ≡ set_denotes a.now (total env.now) }
 {
-    let (before, ascending) = a.by_order();
-    some_hold(before, env) || ascending_hold(ascending, env)
+    let (first, rest) = a.by_order();
+    some_hold(first, env) || blocks_hold(rest.as_slice(), env)
 }
 
 /// Whether one of the entries stands for env. Takes no memory.

@@ -16,8 +16,8 @@ use std::cmp::Ordering;
 const MANY: usize = 16;
 
 /// The number of an entry from which on they ascend: each fixes the same variables as the next, up to one whose values
-/// it excludes, at values that are not after those of the next. Of fewer than 16 entries it takes none. It looks at no
-/// more than do ascend, and takes no memory.
+/// it excludes, at values that are not after those of the next. Fewer than 16 that do are none. It looks at no more than
+/// do ascend, and takes no memory.
 pub fn ascending_from(entries: &[Entry]) -> usize
     ensures { IsInOrder result entries.now }
 {
@@ -28,6 +28,9 @@ pub fn ascending_from(entries: &[Entry]) -> usize
     let mut from = count;
     while from > 0 && goes_on(entries, from) {
         from -= 1;
+    }
+    if count - from < MANY {
+        return count;
     }
     from
 }
@@ -45,7 +48,7 @@ fn goes_on(entries: &[Entry], from: usize) -> bool
 }
 
 /// Whether the second entry is not before the first; false where that is not plain.
-fn may_follow(a: &[(Var, Bound)], b: &[(Var, Bound)]) -> bool
+pub fn may_follow(a: &[(Var, Bound)], b: &[(Var, Bound)]) -> bool
     ensures { result ≡ true → MayFollow a.now b.now }
 {
     if a.len() != b.len() {
@@ -118,7 +121,7 @@ fn first_not_before(entries: &[Entry], env: &Env) -> usize
 }
 
 /// Whether the entry is before env, after it or beside it. Of variables without a value the place 0 counts.
-fn entry_side(pairs: &[(Var, Bound)], env: &Env) -> Ordering
+pub fn entry_side(pairs: &[(Var, Bound)], env: &Env) -> Ordering
     ensures { result ≡ side pairs.now (total env.now) }
 {
     for i in 0..pairs.len() {

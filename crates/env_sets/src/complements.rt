@@ -39,8 +39,23 @@ pub fn complement(alloc: Global, a: &EnvSet) -> Result<EnvSet, NoMemory>
     ensures vars { IfOk result (λ r. (t : Var → Bool) → set_vars t a.now ≡ true →
         set_vars t r ≡ true) }
 {
-    let entries = outside(alloc, a.entries())?;
-    if are_in_order(a.entries()) {
+    match a.as_list() {
+        Some(entries) => complement_of(alloc, entries),
+        None => {
+            let list = a.list(alloc)?;
+            complement_of(alloc, list.entries())
+        }
+    }
+}
+
+/// The environments that none of the entries stands for.
+fn complement_of(alloc: Global, a: &[Entry]) -> Result<EnvSet, NoMemory>
+    ensures meaning { IfOk result (λ r. IsComplement a.now r) }
+    ensures vars { IfOk result (λ r. (t : Var → Bool) → set_vars t a.now ≡ true →
+        set_vars t r ≡ true) }
+{
+    let entries = outside(alloc, a)?;
+    if are_in_order(a) {
         return settled_apart(alloc, entries);
     }
     settled(alloc, entries)
@@ -213,7 +228,7 @@ fn is_lone(e: &Entry, x: &Var) -> bool
 }
 
 /// The excluded values of x, where the entry bounds x and nothing else.
-fn only_excluded<'e>(e: &'e Entry, x: &Var) -> Option<&'e Values>
+pub fn only_excluded<'e>(e: &'e Entry, x: &Var) -> Option<&'e Values>
     ensures { IfSome result (λ vs. (env : Environment) →
         entry_denotes e.now env ≡ not (list_any (λ v. same v (env x.now)) vs.now)) }
 {

@@ -111,6 +111,13 @@ impl Entry {
     pub fn copy(&self, _alloc: Global) -> Result<Entry, NoMemory>
         ensures same { IfOk result (λ e. e ≡ self.now) }
     {
+        self.share()
+    }
+
+    /// The same.
+    pub(crate) fn share(&self) -> Result<Entry, NoMemory>
+        ensures same { IfOk result (λ e. e ≡ self.now) }
+    {
         let map = self.map.share()?;
         Ok(Entry { map })
     }

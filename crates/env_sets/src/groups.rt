@@ -9,8 +9,8 @@ ghost use Rattle.env_sets.specs.Sets.{Entries, entry_denotes, entry_vars, set_va
 ghost use Rattle.env_sets.specs.Splits.{AreGroupsOf, HaveVars};
 
 use crate::entries::Entry;
-use crate::parts::{empty_sets, fixed_value};
-use crate::sets::EnvSet;
+use crate::listed::EntryList;
+use crate::parts::{empty_lists, fixed_value};
 use crate::values::{ValueList, distinct, place_in_order};
 use c_terms::NoMemory;
 use smpl_terms::{Value, Var};
@@ -21,8 +21,8 @@ use std::alloc::Global;
 #[derive(Drop)]
 pub struct Groups {
     pub values: ValueList,
-    pub groups: Vec<EnvSet>,
-    pub others: EnvSet,
+    pub groups: Vec<EntryList>,
+    pub others: EntryList,
 }
 
 /// The groups of a set at x. Copies each entry once, and sorts the values.
@@ -33,7 +33,7 @@ pub fn groups_by(alloc: Global, b: &[Entry], x: &Var) -> Result<Groups, NoMemory
         HaveVars t g.groups.items g.others) }
 {
     let values = values_at(alloc, b, x)?;
-    let mut groups = empty_sets(alloc, values.as_slice().len())?;
+    let mut groups = empty_lists(alloc, values.as_slice().len())?;
     let mut others = Vec::new(alloc);
     for e in b {
         put_in_group(alloc, &mut groups, &mut others, e, x, values.as_slice())?;
@@ -41,7 +41,7 @@ pub fn groups_by(alloc: Global, b: &[Entry], x: &Var) -> Result<Groups, NoMemory
     Ok(Groups {
         values,
         groups,
-        others: EnvSet::of(others),
+        others: EntryList::of(others),
     })
 }
 
@@ -61,7 +61,7 @@ fn values_at(alloc: Global, b: &[Entry], x: &Var) -> Result<ValueList, NoMemory>
 /// Adds the entry to the group of the value at which it fixes x, or else to the others.
 fn put_in_group(
     alloc: Global,
-    groups: &mut [EnvSet],
+    groups: &mut [EntryList],
     others: &mut Vec<Entry>,
     e: &Entry,
     x: &Var,

@@ -23,7 +23,7 @@ pub fn kept_of(alloc: Global, entries: Vec<Entry>) -> Result<EnvSet, NoMemory>
     for e in entries {
         kept.put(alloc, e)?;
     }
-    Ok(kept.into_set())
+    EnvSet::in_blocks(alloc, kept.into_vec())
 }
 
 /// Entries in order, so that one which covers others comes before them.
@@ -62,11 +62,11 @@ impl Kept {
         }
     }
 
-    fn into_set(self) -> EnvSet
-        ensures { result ≡ self }
+    fn into_vec(self) -> Vec<Entry>
+        ensures { result.items ≡ self }
     {
         let Kept { entries, .. } = self;
-        EnvSet::of(entries)
+        entries
     }
 
     /// One more entry, unless another covers it.

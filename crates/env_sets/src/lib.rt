@@ -17,6 +17,7 @@
 
 mod algebra;
 mod ascending;
+mod blocks;
 mod bounds;
 mod complements;
 mod entries;
@@ -24,6 +25,7 @@ mod excluded;
 mod groups;
 mod kept;
 mod laws;
+mod listed;
 mod lists;
 mod lone;
 mod lookup;
@@ -32,6 +34,7 @@ mod parts;
 mod runs;
 mod same;
 mod sets;
+mod sharing;
 mod states;
 mod tally;
 mod values;

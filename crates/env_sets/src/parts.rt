@@ -10,7 +10,7 @@ ghost use Rattle.env_sets.specs.Splits.{passes, without, restricted, agree, none
 
 use crate::bounds::Bound;
 use crate::entries::Entry;
-use crate::sets::EnvSet;
+use crate::listed::EntryList;
 use crate::values::{ValueList, distinct, place_in_order};
 use c_terms::NoMemory;
 use smpl_terms::{Value, Var, same_var};
@@ -24,25 +24,25 @@ pub fn restrictions(
     a: &[Entry],
     x: &Var,
     values: &[Value],
-) -> Result<Vec<EnvSet>, NoMemory>
+) -> Result<Vec<EntryList>, NoMemory>
     requires rise { Rise values.now }
     ensures { IfOk result (λ parts. AreRestrictions x.now values.now a.now parts.items) }
 {
-    let mut parts = empty_sets(alloc, values.len())?;
+    let mut parts = empty_lists(alloc, values.len())?;
     for e in a {
         put_where_allowed(alloc, &mut parts, e, x, values)?;
     }
     Ok(parts)
 }
 
-/// So many sets without entries.
-pub fn empty_sets(alloc: Global, count: usize) -> Result<Vec<EnvSet>, NoMemory>
+/// So many lists without entries.
+pub fn empty_lists(alloc: Global, count: usize) -> Result<Vec<EntryList>, NoMemory>
     ensures count { IfOk result (λ parts. length parts.items ≡ count) }
     ensures empty { IfOk result (λ parts. (k : ℕ) → slice_index_or parts.items k [] ≡ []) }
 {
     let mut parts = Vec::with_capacity(alloc, count)?;
     while parts.len() < count {
-        parts.push(EnvSet::none(alloc))?;
+        parts.push(EntryList::none(alloc))?;
     }
     Ok(parts)
 }
@@ -50,7 +50,7 @@ pub fn empty_sets(alloc: Global, count: usize) -> Result<Vec<EnvSet>, NoMemory>
 /// Adds the entry without x to each part whose value it allows.
 fn put_where_allowed(
     alloc: Global,
-    parts: &mut [EnvSet],
+    parts: &mut [EntryList],
     e: &Entry,
     x: &Var,
     values: &[Value],
@@ -81,7 +81,7 @@ fn put_where_allowed(
 /// Adds the rest, which is the entry without x, to the part at k, if the entry allows the value. It shares the rest.
 fn put_if_allowed(
     alloc: Global,
-    parts: &mut [EnvSet],
+    parts: &mut [EntryList],
     k: usize,
     e: &Entry,
     rest: &Entry,

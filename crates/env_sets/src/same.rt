@@ -1,18 +1,20 @@
 // When two sets are plainly the same.
-ghost use Rattle.std.specs.Prelude.{◌≡◌, true, ◌<◌, length};
+ghost use Rattle.std.specs.Prelude.{◌≡◌, ◌||◌, ◌++◌, true, ◌<◌, length, IfSome};
 ghost use Rattle.std.specs.List.{list_any};
 ghost use Rattle.smpl_terms.specs.declared.value.Value.{Value as Datum};
 ghost use Rattle.smpl_terms.specs.Values.{same};
 ghost use Rattle.smpl_terms.specs.Environments.{Environment};
 ghost use Rattle.env_sets.specs.Bounds.{fits};
 ghost use Rattle.env_sets.specs.Sets.{entry_denotes, set_denotes};
+ghost use Rattle.env_sets.specs.Blocks.{all_entries};
 ghost use Rattle.env_sets.specs.Laws.{StandForSame};
 
+use crate::blocks::are_empty;
 use crate::bounds::Bound;
 use crate::entries::Entry;
 use crate::excluded::Values;
 use crate::sets::EnvSet;
-use smpl_terms::{Value, Var, same_value, same_var};
+use smpl_terms::{SharedList, Value, Var, same_value, same_var};
 
 /// Whether both sets have the same entries in the same order, values compared but for ids: then both stand for the same
 /// environments. The results of two calls that stand for the same may differ, and then it says false.
@@ -21,7 +23,77 @@ use smpl_terms::{Value, Var, same_value, same_var};
 pub fn same_set(a: &EnvSet, b: &EnvSet) -> bool
     ensures meaning { result ≡ true → StandForSame a.now b.now }
 {
-    same_entries(a.entries(), b.entries())
+    match (a.as_list(), b.as_list()) {
+        (Some(es), Some(fs)) => same_entries(es, fs),
+        _ => same_in_blocks(a, b),
+    }
+}
+
+/// The same, however the entries are kept.
+fn same_in_blocks(a: &EnvSet, b: &EnvSet) -> bool
+    ensures { result ≡ true → StandForSame a.now b.now }
+{
+    let (first, blocks) = a.blocks();
+    let (es, rest) = b.blocks();
+    match after(first, es, rest) {
+        Some((es, rest)) => same_blocks(blocks, es, rest),
+        None => false,
+    }
+}
+
+/// Whether the blocks have the entries of a list and of other blocks, one by one.
+fn same_blocks(blocks: &[SharedList<Entry>], es: &[Entry], others: &[SharedList<Entry>]) -> bool
+    ensures { result ≡ true → (env : Environment) →
+        set_denotes (all_entries blocks.now) env ≡ set_denotes (es.now ++ all_entries others.now) env }
+{
+    let (mut left, mut rest) = (es, others);
+    for block in blocks {
+        match after(block.as_slice(), left, rest) {
+            Some(behind) => {
+                left = behind.0;
+                rest = behind.1;
+            }
+            None => return false,
+        }
+    }
+    left.is_empty() && are_empty(rest)
+}
+
+/// What is left of a list and blocks behind the same entries as these, one by one.
+fn after<'b>(
+    entries: &[Entry],
+    es: &'b [Entry],
+    blocks: &'b [SharedList<Entry>],
+) -> Option<(&'b [Entry], &'b [SharedList<Entry>])>
+    ensures { IfSome result (λ behind. (env : Environment) → set_denotes (es.now ++ all_entries blocks.now) env
+        ≡ (set_denotes entries.now env || set_denotes (behind.0.now ++ all_entries behind.1.now) env)) }
+{
+    let (mut own, mut left, mut rest) = (entries, es, blocks);
+    while own.len() > 0 {
+        if left.is_empty() {
+            match rest {
+                [] => return None,
+                [block, others @ ..] => {
+                    left = block.as_slice();
+                    rest = others;
+                }
+            }
+        } else {
+            let count = if own.len() < left.len() {
+                own.len()
+            } else {
+                left.len()
+            };
+            let (front, back) = own.split_at(count);
+            let (same, behind) = left.split_at(count);
+            if !same_entries(front, same) {
+                return None;
+            }
+            own = back;
+            left = behind;
+        }
+    }
+    Some((left, rest))
 }
 
 fn same_entries(a: &[Entry], b: &[Entry]) -> bool

@@ -1,27 +1,30 @@
 // Sets of entries.
-ghost use Rattle.std.specs.Prelude.{◌≡◌, ◌&&◌, ◌||◌, ◌++◌, ◌<◌, Bool, true, false, List, [], ◌∷◌, length, IfOk, option_to_list};
+ghost use Rattle.std.specs.Prelude.{◌≡◌, ◌&&◌, ◌||◌, ◌++◌, ◌<◌, Bool, true, false, List, [], ◌∷◌, length, IfOk, IfSome, option_to_list};
 ghost use Rattle.smpl_terms.specs.declared.var.Var.{Var};
 ghost use Rattle.smpl_terms.specs.Environments.{Environment};
-ghost use Rattle.env_sets.specs.Ascending.{Ascend};
+ghost use Rattle.env_sets.specs.Blocks.{all_entries, AreInOrder};
 ghost use Rattle.env_sets.specs.Bounds.{fits};
 ghost use Rattle.env_sets.specs.Sets.{entry_denotes, entry_vars, set_denotes, set_vars};
 
 use crate::ascending::ascending_from;
+use crate::blocks::{are_empty, blocks_of, put_blocks, put_entries};
 use crate::bounds::Bound;
 use crate::entries::{Entry, entry_covers, entry_order};
 use crate::kept::kept_of;
+use crate::listed::EntryList;
 use crate::lone::wider_entries;
 use c_terms::NoMemory;
-use smpl_terms::Var;
+use smpl_terms::{SharedList, Var};
 use std::alloc::Global;
 use std::marker::Model;
 
 /// A set of environments: those that some entry stands for. Contracts see the list of entries.
 #[derive(Drop)]
 pub struct EnvSet {
-    entries: Vec<Entry>,
-    /// From this number on they are in the order of the values that they fix.
-    ascending: usize,
+    /// Entries of no known order.
+    first: Vec<Entry>,
+    /// The others, in the order of the values that they fix. Copies share the blocks.
+    rest: SharedList<SharedList<Entry>>,
 }
 
 impl Model for EnvSet {
@@ -35,11 +38,12 @@ impl Model for EnvSet {
 
     ghost coded = { Prim.hlevel (codes, tree.the_row.coded) };
 
-    ghost use Rattle.env_sets.specs.Ascending.{IsInOrder};
+    ghost use Rattle.std.specs.Prelude.{◌++◌};
+    ghost use Rattle.env_sets.specs.Blocks.{all_entries, AreInOrder};
 
-    ghost view = { λ a. a.entries.items };
+    ghost view = { λ a. a.first.items ++ all_entries a.rest };
 
-    ghost invariant = { λ a. IsInOrder a.ascending a.entries.items };
+    ghost invariant = { λ a. AreInOrder a.rest };
 }
 
 impl EnvSet {
@@ -72,48 +76,90 @@ impl EnvSet {
         Ok(EnvSet::of(entries))
     }
 
-    /// The set of these entries, as they stand. Of 16 entries and more it compares neighbours, from the last on, as long
-    /// as they are in order. Takes no memory.
+    /// The set of these entries, as they stand. Takes no memory.
     pub fn of(entries: Vec<Entry>) -> EnvSet
         ensures entries { result ≡ entries.items }
     {
-        let ascending = ascending_from(&entries);
-        EnvSet { entries, ascending }
+        EnvSet {
+            first: entries,
+            rest: SharedList::empty(),
+        }
     }
 
-    /// The entries as a `Vec`. Takes no memory.
-    pub fn into_vec(self) -> Vec<Entry>
-        ensures entries { result.items ≡ self }
+    /// The same. The last ones, 16 and more, that are in the order of the values that they fix are put in blocks. It
+    /// compares neighbours, from the last on, as long as they are in that order.
+    pub(crate) fn in_blocks(alloc: Global, entries: Vec<Entry>) -> Result<EnvSet, NoMemory>
+        ensures entries { IfOk result (λ r. r ≡ entries.items) }
     {
-        let EnvSet {
-            entries,
-            ascending: _,
-        } = self;
-        entries
+        let from = ascending_from(&entries);
+        if from >= entries.len() {
+            return Ok(EnvSet::of(entries));
+        }
+        let mut first = entries;
+        let ascending = first.split_off(from)?;
+        let rest = blocks_of(alloc, ascending)?;
+        Ok(EnvSet { first, rest })
     }
 
-    /// The entries. Takes no memory.
-    pub fn entries(&self) -> &[Entry]
-        ensures entries { result.now ≡ self.now }
+    /// These entries, and blocks of others.
+    pub(crate) fn with_blocks(first: Vec<Entry>, rest: SharedList<SharedList<Entry>>) -> EnvSet
+        requires { AreInOrder rest }
+        ensures entries { result ≡ first.items ++ all_entries rest }
     {
-        self.entries.as_slice()
+        EnvSet { first, rest }
     }
 
-    /// Adds an entry, last.
-    pub(crate) fn put(&mut self, e: Entry) -> Result<(), NoMemory>
-        ensures { IfOk result (λ _. self.new ≡ self.old ++ e ∷ []) }
+    /// The entries as a `Vec`. Those in blocks are shared, and the others moved.
+    pub fn into_vec(self) -> Result<Vec<Entry>, NoMemory>
+        ensures entries { IfOk result (λ r. r.items ≡ self) }
     {
-        self.entries.push(e)?;
-        self.ascending = self.entries.len();
-        Ok(())
+        let EnvSet { first, rest } = self;
+        let mut entries = first;
+        put_blocks(&mut entries, rest.as_slice())?;
+        Ok(entries)
     }
 
-    /// The entries of no known order, and those that ascend.
-    pub(crate) fn by_order(&self) -> (&[Entry], &[Entry])
-        ensures entries { result.0.now ++ result.1.now ≡ self.now }
-        ensures ascend { Ascend result.1.now }
+    /// The entries: a list, and blocks of others that follow it. Takes no memory.
+    pub fn blocks(&self) -> (&[Entry], &[SharedList<Entry>])
+        ensures entries { result.0.now ++ all_entries result.1.now ≡ self.now }
     {
-        self.entries.split_at(self.ascending)
+        (self.first.as_slice(), self.rest.as_slice())
+    }
+
+    /// The same. The blocks are in order.
+    pub(crate) fn by_order(&self) -> (&[Entry], &SharedList<SharedList<Entry>>)
+        ensures entries { result.0.now ++ all_entries result.1.now ≡ self.now }
+        ensures order { AreInOrder result.1.now }
+    {
+        (self.first.as_slice(), &self.rest)
+    }
+
+    /// The entries, where there are no blocks. Takes no memory.
+    pub(crate) fn as_list(&self) -> Option<&[Entry]>
+        ensures { IfSome result (λ es. es.now ≡ self.now) }
+    {
+        if self.rest.as_slice().is_empty() {
+            Some(self.first.as_slice())
+        } else {
+            None
+        }
+    }
+
+    /// The entries, which are shared.
+    pub(crate) fn list(&self, alloc: Global) -> Result<EntryList, NoMemory>
+        ensures { IfOk result (λ r. r ≡ self.now) }
+    {
+        let mut entries = Vec::new(alloc);
+        self.put_in(&mut entries)?;
+        Ok(EntryList::of(entries))
+    }
+
+    /// Adds the entries, which are shared.
+    pub(crate) fn put_in(&self, out: &mut Vec<Entry>) -> Result<(), NoMemory>
+        ensures { IfOk result (λ _. out.new.items ≡ out.old.items ++ self.now) }
+    {
+        put_entries(out, &self.first)?;
+        put_blocks(out, self.rest.as_slice())
     }
 
     /// Whether there is no entry: no environment. Takes no memory.
@@ -121,7 +167,7 @@ impl EnvSet {
         ensures none { result ≡ true → self.now ≡ [] }
         ensures some { result ≡ false → 0 < length self.now }
     {
-        self.entries.is_empty()
+        self.first.is_empty() && are_empty(self.rest.as_slice())
     }
 
     /// Whether some entry has no bounds: every environment. Takes no memory. It may be false where several entries stand
@@ -129,21 +175,17 @@ impl EnvSet {
     pub fn is_all(&self) -> bool
         ensures meaning { result ≡ true → (env : Environment) → set_denotes self.now env ≡ true }
     {
-        have_all(&self.entries)
+        have_all(&self.first)
     }
 
-    /// An equal set, ids included. It shares each entry.
+    /// An equal set, ids included. It shares each entry, and the blocks.
     pub fn copy(&self, alloc: Global) -> Result<EnvSet, NoMemory>
         ensures same { IfOk result (λ r. r ≡ self.now) }
     {
-        let mut entries = Vec::with_capacity(alloc, self.entries.len())?;
-        for e in &self.entries {
-            entries.push(e.copy(alloc)?)?;
-        }
-        Ok(EnvSet {
-            entries,
-            ascending: self.ascending,
-        })
+        let mut first = Vec::with_capacity(alloc, self.first.len())?;
+        put_entries(&mut first, &self.first)?;
+        let rest = self.rest.share()?;
+        Ok(EnvSet { first, rest })
     }
 }
 
@@ -194,7 +236,7 @@ pub fn settled_apart(alloc: Global, entries: Vec<Entry>) -> Result<EnvSet, NoMem
     let entries = in_order(entries);
     let wider = wider_entries(alloc, &entries)?;
     if wider.is_empty() {
-        return Ok(EnvSet::of(entries));
+        return EnvSet::in_blocks(alloc, entries);
     }
     kept_of(alloc, in_order(with_all(entries, wider)?))
 }

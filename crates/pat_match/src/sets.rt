@@ -43,7 +43,7 @@ pub fn both(alloc: Global, a: EnvSet, b: EnvSet) -> Result<EnvSet, NoMemory>
     meet(alloc, &a, &b)
 }
 
-/// Adds the entries of a set. None is copied.
+/// Adds the entries of a set, which shares those in blocks.
 pub fn put_set(entries: &mut Vec<Entry>, set: EnvSet) -> Result<(), NoMemory>
     ensures meaning { IfOk result (λ _. (env : Environment) →
         set_denotes entries.new.items env ≡ (set_denotes entries.old.items env || set_denotes set env)) }
@@ -51,7 +51,7 @@ pub fn put_set(entries: &mut Vec<Entry>, set: EnvSet) -> Result<(), NoMemory>
         → set_vars t set ≡ true →
         set_vars t entries.new.items ≡ true) }
 {
-    for entry in set.into_vec() {
+    for entry in set.into_vec()? {
         entries.push(entry)?;
     }
     Ok(())

@@ -1,13 +1,22 @@
 // How many entries results have, and how many values these name.
-use crate::sets::{both, made, size};
-use env_sets::{Bound, EnvSet};
+use crate::sets::{are_same, both, made, size};
+use env_sets::{Bound, Entry, EnvSet};
 use std::alloc::Global;
 use std::test::Fail;
 
-/// How many values the entries name.
+/// How many values the entries of a set name.
 fn named(a: &EnvSet) -> usize {
+    let (first, blocks) = a.blocks();
+    let mut count = named_in(first);
+    for block in blocks {
+        count = count.saturating_add(named_in(block.as_slice()));
+    }
+    count
+}
+
+fn named_in(entries: &[Entry]) -> usize {
     let mut count: usize = 0;
-    for e in a.entries() {
+    for e in entries {
         for p in e.pairs() {
             count = count.saturating_add(named_by(&p.1));
         }
@@ -90,6 +99,20 @@ fn wide(alloc: Global, count: u32) -> Result<String, Fail> {
     Ok(recipe)
 }
 
+/// The join of so many values of x, the last number first, or the first.
+fn values(alloc: Global, count: u32, falling: bool) -> Result<String, Fail> {
+    let mut recipe = format!(in alloc; "none")?;
+    for k in 0..count {
+        let number = if falling {
+            count.wrapping_sub(k)
+        } else {
+            k.wrapping_add(1)
+        };
+        write!(recipe, " x={number} |")?;
+    }
+    Ok(recipe)
+}
+
 /// The recipe, and one word more.
 fn then(recipe: String, word: &str) -> Result<String, Fail> {
     let mut recipe = recipe;
@@ -114,5 +137,48 @@ fn a_meet_with_itself_does_not_grow(rt: HostRuntime) -> Result<(), Fail> {
     let rest = made(alloc, "x!9 y=5 & x=1 y=3 & | ~")?;
     let twice = both(alloc, &rest, &rest)?;
     assert!(rt; size(&twice) == size(&rest) && named(&twice) == named(&rest));
+    Ok(())
+}
+
+#[test]
+fn sets_in_blocks_keep_their_entries(rt: HostRuntime) -> Result<(), Fail> {
+    let alloc = rt.alloc();
+    for (word, entries) in [
+        ("none |", 300),
+        ("x=17 |", 300),
+        ("x=301 |", 301),
+        ("x!17 &", 299),
+        ("x!301 &", 300),
+        ("x!17,8 &", 298),
+        ("all &", 300),
+        ("none &", 0),
+        ("x!17 |", 1),
+        ("y=1 &", 300),
+        ("~ ~", 300),
+    ] {
+        assert!(rt;
+            measures_size(alloc, &then(values(alloc, 300, true)?, word)?, entries)?,
+            "{word}"
+        );
+    }
+    assert!(rt; measures(alloc, &then(pairs(alloc, 300)?, "x!17 &")?, 299, 598)?);
+    assert!(rt; measures(alloc, &then(pairs(alloc, 300)?, "x=17 y=9 & |")?, 301, 602)?);
+    Ok(())
+}
+
+/// Whether the recipe makes a set of so many entries.
+fn measures_size(alloc: Global, recipe: &str, entries: usize) -> Result<bool, Fail> {
+    Ok(size(&made(alloc, recipe)?) == entries)
+}
+
+#[test]
+fn sets_are_the_same_in_whatever_blocks(rt: HostRuntime) -> Result<(), Fail> {
+    let alloc = rt.alloc();
+    let falling = values(alloc, 300, true)?;
+    let rising = values(alloc, 300, false)?;
+    assert!(rt; are_same(alloc, &falling, &rising)?);
+    assert!(rt; are_same(alloc, &falling, &then(rising, "x!17 & x=17 |")?)?);
+    assert!(rt; !are_same(alloc, &falling, &values(alloc, 299, false)?)?);
+    assert!(rt; !are_same(alloc, &values(alloc, 299, false)?, &falling)?);
     Ok(())
 }

@@ -70,7 +70,12 @@ fn everything(alloc: Global) -> Result<EnvSet, Fail> {
 }
 
 pub fn size(a: &EnvSet) -> usize {
-    a.entries().len()
+    let (first, blocks) = a.blocks();
+    let mut count = first.len();
+    for block in blocks {
+        count = count.saturating_add(block.as_slice().len());
+    }
+    count
 }
 
 /// The last set, which is taken.
@@ -114,7 +119,7 @@ fn set_of_word(alloc: Global, word: &str) -> Result<EnvSet, Fail> {
 }
 
 /// Whether two recipes make sets that are told to be the same.
-fn are_same(alloc: Global, first: &str, second: &str) -> Result<bool, Fail> {
+pub fn are_same(alloc: Global, first: &str, second: &str) -> Result<bool, Fail> {
     Ok(same_set(&made(alloc, first)?, &made(alloc, second)?))
 }
 

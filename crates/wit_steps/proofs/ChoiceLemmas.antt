@@ -1,9 +1,9 @@
 -- The values that entries leave a variable are all under which the set has the environment, where those are among finitely
 -- many: an entry that leaves the variable open, or excludes some values, would allow a place that is none of them.
-use Rattle.std.proofs.Common.{◌≡◌, ℕ, suc, ◌+◌, ◌≤◌, Bool, true, false, ◌&&◌, ◌||◌, not, eqb, cond, refl, sym, ap, ◌∙◌, subst, arith, List, [], ◌∷◌, length, get_or, take, add-one, ◌<◌, zero, Option, Some, None}
+use Rattle.std.proofs.Common.{◌≡◌, ℕ, suc, ◌+◌, ◌≤◌, Bool, true, false, ◌&&◌, ◌||◌, not, eqb, cond, refl, sym, ap, ◌∙◌, subst, arith, List, [], ◌∷◌, ◌++◌, length, get_or, take, add-one, ◌<◌, zero, Option, Some, None}
 use Rattle.std.specs.List.{list_any}
 use Rattle.std.proofs.lemmas.List.{take_all}
-use Rattle.std.proofs.lemmas.List.Folds.{list_any_more}
+use Rattle.std.proofs.lemmas.List.Folds.{list_any_more, list_any-append}
 use Rattle.std.proofs.lemmas.Bool.Decides.{nat_tests}
 use Rattle.smpl_terms.specs.declared.value.Value.{Value}
 use Rattle.smpl_terms.specs.declared.value.Value.TheVariants.{Term, Place}
@@ -146,3 +146,26 @@ pub chosen_more : (x : Var) (env : Environment) (es : Entries) (i : ℕ) (e ps :
 chosen_more x env es i e ps v before after lt is p b a =
     let test : List (Var × Bound) → Bool = λ d. others_allow x env d && is_same_as v (own_value x d) in
     a ∙ (λ n. b n || test ((p ∙ is) n)) ∙ sym (list_any_more test es i e lt)
+
+-- two lists of entries
+pub rise_both : (es fs : Entries) → AllRise es → AllRise fs → AllRise (es ++ fs)
+rise_both [] fs a b = b
+rise_both (e ∷ es) fs a b = (a.0, rise_both es fs a.1 b)
+
+pub chosen_both : (x : Var) (env : Environment) (es fs : Entries) (z : Value)
+    → chosen x env (es ++ fs) z ≡ (chosen x env es z || chosen x env fs z)
+chosen_both x env es fs z = list_any-append (λ e. others_allow x env e && is_same_as z (own_value x e)) es fs
+
+or_third : (a b c : Bool) → ((a || b) || c) ≡ (a || (b || c))
+or_third true b c = refl
+or_third false b c = refl
+
+-- the values of one more entry, behind others
+pub chosen_next : (x : Var) (env : Environment) (es : Entries) (i : ℕ) (e ps : List (Var × Bound)) (v : Value) (old before after : Bool)
+    → i < length es → e ≡ get_or es i e → ps ≡ e → before ≡ (old || chosen x env (take i es) v)
+    → after ≡ (before || (others_allow x env ps && is_same_as v (own_value x ps)))
+    → after ≡ (old || chosen x env (take (i + 1) es) v)
+chosen_next x env es i e ps v old before after lt is p b a =
+    let here : Bool = others_allow x env ps && is_same_as v (own_value x ps) in
+    a ∙ ap (λ d. d || here) b ∙ or_third old (chosen x env (take i es) v) here
+    ∙ ap (λ d. old || d) (chosen_more x env es i e ps v (chosen x env (take i es) v) (chosen x env (take i es) v || here) lt is p refl refl)

@@ -6,11 +6,12 @@ ghost use Rattle.smpl_terms.specs.declared.value.Value.{Value as Datum};
 ghost use Rattle.smpl_terms.specs.Values.{same};
 ghost use Rattle.smpl_terms.specs.Vars.{same_var};
 ghost use Rattle.smpl_terms.specs.Environments.{total};
+ghost use Rattle.env_sets.specs.Blocks.{all_entries};
 ghost use Rattle.wit_steps.specs.Choices as of;
 
 use c_terms::NoMemory;
-use env_sets::{Bound, EnvSet};
-use smpl_terms::{Env, Value, Var, same_value, same_var};
+use env_sets::{Bound, Entry, EnvSet};
+use smpl_terms::{Env, SharedList, Value, Var, same_value, same_var};
 use std::alloc::Global;
 
 /// Whether the bound allows the variable's value; one without a value counts as the place 0.
@@ -114,8 +115,44 @@ pub fn values_in(alloc: Global, set: &EnvSet, env: &Env, x: &Var) -> Result<Vec<
     ensures rise { IfOk result (λ _. of.AllRise set.now) }
 {
     let mut values = Vec::new(alloc);
-    for e in set.entries() {
-        put_choice(alloc, &mut values, e.pairs(), env, x)?;
-    }
+    let (first, blocks) = set.blocks();
+    put_choices(alloc, &mut values, first, env, x)?;
+    put_block_choices(alloc, &mut values, blocks, env, x)?;
     Ok(values)
+}
+
+/// Adds the values that the entries of these blocks leave the variable.
+fn put_block_choices(
+    alloc: Global,
+    values: &mut Vec<Value>,
+    blocks: &[SharedList<Entry>],
+    env: &Env,
+    x: &Var,
+) -> Result<(), NoMemory>
+    ensures values { IfOk result (λ _. (z : Datum) → list_any (λ u. same u z) values.new.items
+        ≡ (list_any (λ u. same u z) values.old.items || of.chosen x.now (total env.now) (all_entries blocks.now) z)) }
+    ensures rise { IfOk result (λ _. of.AllRise (all_entries blocks.now)) }
+{
+    for block in blocks {
+        put_choices(alloc, values, block.as_slice(), env, x)?;
+    }
+    Ok(())
+}
+
+/// Adds the values that these entries leave the variable.
+fn put_choices(
+    alloc: Global,
+    values: &mut Vec<Value>,
+    entries: &[Entry],
+    env: &Env,
+    x: &Var,
+) -> Result<(), NoMemory>
+    ensures values { IfOk result (λ _. (z : Datum) → list_any (λ u. same u z) values.new.items
+        ≡ (list_any (λ u. same u z) values.old.items || of.chosen x.now (total env.now) entries.now z)) }
+    ensures rise { IfOk result (λ _. of.AllRise entries.now) }
+{
+    for e in entries {
+        put_choice(alloc, values, e.pairs(), env, x)?;
+    }
+    Ok(())
 }

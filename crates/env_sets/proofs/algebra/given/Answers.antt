@@ -1,20 +1,19 @@
-use Rattle.std.proofs.Common.{◌||◌, ap, sym, ◌∙◌, arith}
-use Rattle.smpl_terms.specs.Environments.{over, has_value}
-use Rattle.env_sets.specs.Sets.{entry_denotes, entry_vars, set_denotes, set_vars}
-use Rattle.env_sets.proofs.LoopLemmas.{any_step, all_step, denotes_some, vars_some, both_parts}
-use Rattle.env_sets.proofs.PairLemmas.{both_true}
+use Rattle.std.proofs.Common.{◌≡◌, Bool, true, ◌||◌, ◌∙◌, subst}
+use Rattle.std.specs.Prelude.{IfOk}
+use Rattle.smpl_terms.specs.declared.var.Var.{Var}
+use Rattle.smpl_terms.specs.Environments.{has_value}
+use Rattle.env_sets.specs.Sets.{set_vars}
+use Rattle.env_sets.specs.Laws.{IsGiven}
 use Rattle.env_sets.proofs.algebra.given.Goals as goal
 
-pub loop-e-preserved : goal.loop-e-preserved
-loop-e-preserved c = record {
-  meaning = λ rest.
-      ap (λ es. set_denotes es rest) c.in_ok-put_some.ensures
-      ∙ denotes_some c.loop-e.entries.items c.in_ok-entry_given.field-0 rest
-      ∙ (λ i. c.loop-e.invariant.meaning rest i || c.in_ok-entry_given.ensures.meaning rest i)
-      ∙ sym (any_step (λ e. entry_denotes e (over c.args.env.now rest)) c.entries-e-items.result.now c.loop-e.e-index c.e-item.result (omega arith) c.e-item.is);
-  vars = λ t h.
-      let parts = both_parts _ _ (sym (all_step (λ e. entry_vars (λ x. t x || has_value c.args.env.now x) e) c.entries-e-items.result.now c.loop-e.e-index c.e-item.result (omega arith) c.e-item.is) ∙ h) in
-      ap (set_vars t) c.in_ok-put_some.ensures
-      ∙ vars_some c.loop-e.entries.items c.in_ok-entry_given.field-0 t
-      ∙ both_true _ _ (c.loop-e.invariant.vars t parts.0) (c.in_ok-entry_given.ensures.vars t parts.1);
-}
+pub returns-in-Some-clause-meaning : goal.returns-in-Some-clause-meaning
+returns-in-Some-clause-meaning c = subst (λ es. IfOk c.entries_given.result (λ r. IsGiven c.args.env.now es r)) c.in-Some.ensures c.entries_given.ensures.meaning
+
+pub returns-in-Some-clause-vars : goal.returns-in-Some-clause-vars
+returns-in-Some-clause-vars c = subst (λ es. IfOk c.entries_given.result (λ r. (t : Var → Bool) → set_vars (λ x. t x || has_value c.args.env.now x) es ≡ true → set_vars t r ≡ true)) c.in-Some.ensures c.entries_given.ensures.vars
+
+pub returns-in_ok-list-in-None-clause-meaning : goal.returns-in_ok-list-in-None-clause-meaning
+returns-in_ok-list-in-None-clause-meaning c = subst (λ es. IfOk c.entries_given-in-None.result (λ r. IsGiven c.args.env.now es r)) (c.entries.ensures.entries ∙ c.in_ok-list-in-None.ensures) c.entries_given-in-None.ensures.meaning
+
+pub returns-in_ok-list-in-None-clause-vars : goal.returns-in_ok-list-in-None-clause-vars
+returns-in_ok-list-in-None-clause-vars c = subst (λ es. IfOk c.entries_given-in-None.result (λ r. (t : Var → Bool) → set_vars (λ x. t x || has_value c.args.env.now x) es ≡ true → set_vars t r ≡ true)) (c.entries.ensures.entries ∙ c.in_ok-list-in-None.ensures) c.entries_given-in-None.ensures.vars

@@ -10,7 +10,7 @@ use Rattle.env_sets.proofs.algebra.meet_by_group.Goals as goal
 pub returns-in-None-place_in_order-clause-meaning : goal.returns-in-None-place_in_order-clause-meaning
 returns-in-None-place_in_order-clause-meaning c = IfOk-weaker c.meet_each-in-None-place_in_order.result _ _ (λ r h env.
     h env
-    ∙ ap (λ es. set_denotes c.args.out.now.items env || (entry_denotes c.args.e.now env && set_denotes es env)) c.entries-in-None-place_in_order.ensures.entries
+    ∙ ap (λ es. set_denotes c.args.out.now.items env || (entry_denotes c.args.e.now env && set_denotes es env)) c.entries.ensures.entries
     ∙ ap (λ b. set_denotes c.args.out.now.items env || b)
     (met_elsewhere c.args.x.now c.args.groups.now.values c.args.b.now c.args.groups.now.groups.items c.args.groups.now.others c.args.e.now c.in-Some.v.now
     c.requires.groups c.in-Some.ensures (ap (list_any (λ w. same w c.in-Some.v.now)) (sym c.as_slice.ensures.items) ∙ c.in-None-place_in_order.ensures) env))

@@ -1,18 +1,19 @@
-use Rattle.std.proofs.Common.{◌||◌, ap, sym, ◌∙◌, arith}
+use Rattle.std.proofs.Common.{◌≡◌, Bool, true, ◌||◌, ◌∙◌, subst}
+use Rattle.std.specs.Prelude.{IfOk}
+use Rattle.smpl_terms.specs.declared.var.Var.{Var}
 use Rattle.smpl_terms.specs.Vars.{same_var}
-use Rattle.env_sets.specs.Sets.{entry_vars, set_denotes, set_vars}
-use Rattle.env_sets.proofs.LoopLemmas.{project_step, all_step, denotes_one, vars_one, both_parts}
-use Rattle.env_sets.proofs.PairLemmas.{both_true}
+use Rattle.env_sets.specs.Sets.{set_vars}
+use Rattle.env_sets.specs.Laws.{IsProjection}
 use Rattle.env_sets.proofs.algebra.project.Goals as goal
 
-pub loop-e-preserved : goal.loop-e-preserved
-loop-e-preserved c = record {
-  meaning = λ env. project_step c.entries-e-items.result.now c.loop-e.e-index c.e-item.result c.args.v.now env _ _ _ (omega arith) c.e-item.is
-      (ap (λ es. set_denotes es env) c.in_ok-push.ensures.items ∙ denotes_one c.loop-e.entries.items c.in_ok-without.field-0 env)
-      (c.loop-e.invariant.meaning env) (c.in_ok-without.ensures.meaning env);
-  vars = λ t h.
-      let parts = both_parts _ _ (sym (all_step (λ e. entry_vars (λ y. t y || same_var y c.args.v.now) e) c.entries-e-items.result.now c.loop-e.e-index c.e-item.result (omega arith) c.e-item.is) ∙ h) in
-      ap (set_vars t) c.in_ok-push.ensures.items
-      ∙ vars_one c.loop-e.entries.items c.in_ok-without.field-0 t
-      ∙ both_true _ _ (c.loop-e.invariant.vars t parts.0) (c.in_ok-without.ensures.vars t parts.1);
-}
+pub returns-in-Some-clause-meaning : goal.returns-in-Some-clause-meaning
+returns-in-Some-clause-meaning c = subst (λ es. IfOk c.projected.result (λ r. IsProjection c.args.v.now es r)) c.in-Some.ensures c.projected.ensures.meaning
+
+pub returns-in-Some-clause-vars : goal.returns-in-Some-clause-vars
+returns-in-Some-clause-vars c = subst (λ es. IfOk c.projected.result (λ r. (t : Var → Bool) → set_vars (λ y. t y || same_var y c.args.v.now) es ≡ true → set_vars t r ≡ true)) c.in-Some.ensures c.projected.ensures.vars
+
+pub returns-in_ok-list-in-None-clause-meaning : goal.returns-in_ok-list-in-None-clause-meaning
+returns-in_ok-list-in-None-clause-meaning c = subst (λ es. IfOk c.projected-in-None.result (λ r. IsProjection c.args.v.now es r)) (c.entries.ensures.entries ∙ c.in_ok-list-in-None.ensures) c.projected-in-None.ensures.meaning
+
+pub returns-in_ok-list-in-None-clause-vars : goal.returns-in_ok-list-in-None-clause-vars
+returns-in_ok-list-in-None-clause-vars c = subst (λ es. IfOk c.projected-in-None.result (λ r. (t : Var → Bool) → set_vars (λ y. t y || same_var y c.args.v.now) es ≡ true → set_vars t r ≡ true)) (c.entries.ensures.entries ∙ c.in_ok-list-in-None.ensures) c.projected-in-None.ensures.vars

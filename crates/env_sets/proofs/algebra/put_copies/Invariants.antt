@@ -1,5 +1,0 @@
-use Rattle.std.proofs.Common.{◌≡◌, ◌++◌, take}
-use Rattle.env_sets.proofs.algebra.put_copies.Given as goal
-
-abbrev pub invariant-loop-e : goal.invariant-loop-e
-invariant-loop-e l = l.out.items ≡ l.initial.out.items ++ take l.e-index l.e-items

@@ -4,10 +4,13 @@ one job. The numbers of jobs take turns, round by round, so that other work on t
 
 Usage: bench/many_jobs.py PROGRAM [ROUNDS]
 
-ROUNDS is 9 where it is left out. The program runs on four files, each answer being that of one job:
+ROUNDS is 9 where it is left out. The program runs on five files, each answer being that of one job:
 
-locks   96 functions, in each of which 100 locks are taken, used and let go one after another, 335 KB, under a rule that looks for a lock
-        that is taken twice, which it finds nowhere. Nearly all of the time is matching: this is the file that tells how well jobs share it
+locks   128 functions, in each of which 20 pairs of locks are taken, used and let go, one within the other, 163 KB, under a rule that looks
+        for a lock that is taken again while another one is held, which it finds nowhere. Nearly all of the time is matching, of pairs of
+        values: this is the file that tells how well jobs share it
+rules   96 functions, in each of which 100 locks are taken, used and let go one after another, 335 KB, under twelve rules that each look for
+        two calls with the same lock in an order in which they don't come. Choosing items for each rule is done in one thread
 pairs   64 functions of 2,000 calls each, 1.3 MB, under a rule of two calls between dots, which edits nothing. In one thread are reading,
         and the walk over the 256,000 values that the jobs found, which is looked through for edits, together a fifth of the work
 edits   200 such functions, 4.2 MB, under a rule that replaces each call, where reading, edits and printing in one thread take about half
@@ -22,7 +25,12 @@ import time
 
 JOBS = (1, 2, 4)
 
-LOCKS = "@r exists@\nexpression E;\n@@\n* lock(E);\n  ... when != unlock(E)\n* lock(E);\n"
+LOCKS = ("@r exists@\nexpression E, F;\n@@\n* lock(E);\n  ... when != unlock(E)\n* lock(F);\n  ... when != unlock(F)\n* lock(E);\n")
+
+ORDERS = (("lock", "lock"), ("g", "g"), ("unlock", "unlock"), ("g", "lock"), ("unlock", "lock"), ("unlock", "g"))
+
+RULES = "".join(f"@r_{a}_{b}_{c} exists@\nexpression E;\n@@\n* {a}(E);\n  ... when != {c}(E)\n* {b}(E);\n\n"
+                for a, b in ORDERS for c in ("lock", "g", "unlock") if c != b)
 
 PAIRS = "@r exists@\nexpression E, F;\n@@\n start();\n ... when any\n g(E);\n ... when any\n g(F);\n ... when any\n stop();\n"
 
@@ -37,11 +45,16 @@ def locking(locks):
     return "".join(f"\tlock(x{k});\n\tg(x{k});\n\tunlock(x{k});\n" for k in range(locks))
 
 
+def locking_pairs(pairs):
+    return "".join(f"\tlock(x{k});\n\tlock(y{k});\n\tg(x{k}, y{k});\n\tunlock(y{k});\n\tunlock(x{k});\n" for k in range(pairs))
+
+
 def calling(calls):
     return "\tstart();\n" + "".join(f"\tg(x{k});\n" for k in range(calls)) + "\tstop();\n"
 
 
-FILES = (("locks", LOCKS, functions(96, locking(100))), ("pairs", PAIRS, functions(64, calling(2000))),
+FILES = (("locks", LOCKS, functions(128, locking_pairs(20))), ("rules", RULES, functions(96, locking(100))),
+         ("pairs", PAIRS, functions(64, calling(2000))),
          ("edits", EDITS, functions(200, calling(2000))), ("small", EDITS, functions(1, calling(2))))
 
 

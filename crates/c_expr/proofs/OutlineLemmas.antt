@@ -33,10 +33,10 @@ use Rattle.c_expr.specs.declared.outline.Sketch.{Sketch}
 use Rattle.c_expr.specs.Steps.{place, Leads, Refuses, OnFault, NoTreeAt, OnlyOperand, NoRun, RunsTo, IsBranch, NoBranch, NoGrowth, NoOperand, headed_by, goes_on}
 use Rattle.c_expr.specs.Outlines.{IsOf, AreOf, Outlined, Moves, Steps, RunsOn, Ends, NoEnd, Opened, GrowsOn, NotGrown}
 use Rattle.c_expr.proofs.Built.{levels-build}
-use Rattle.c_expr.proofs.StepLemmas.{leads_refl, leads_trans, leads_word, refuses_word, refuses_end, refuses_from, run_done}
+use Rattle.c_expr.proofs.StepLemmas.{leads_refl, leads_trans, leads_word, refuses_from, run_done}
 use Rattle.c_expr.proofs.CallLemmas.{tail_slice, way_taken, way_refused, child_taken, child_refused, child_smaller, member_taken, member_refused, member_smaller}
 use Rattle.c_expr.proofs.Growing.{Growing, growing_start, turn, shorter, stuck, found, finished}
-use Rattle.c_expr.proofs.OperandLemmas.{leaf_only, at_refused, branch_found, branch_only, no_branch_found, branch_grown, no_branch_grown, no_growth, by_refused, fault_weaker, too_deep, not_allowed}
+use Rattle.c_expr.proofs.OperandLemmas.{leaf_only, at_refused, branch_found, branch_only, no_branch_found, branch_grown, no_branch_grown, no_growth, by_refused, fault_weaker, too_deep}
 
 pub err_each : {A E : Type 0} {P Q : E → Type 0} (x : Result A E) → ((e : E) → P e → Q e) → IfErr x P → IfErr x Q
 err_each (Ok a) f h = tt
@@ -52,9 +52,6 @@ pub leaf_here : (m : Kind) (xs ys : List Seen) (class : Class) (f : Family) (b :
 leaf_here m xs ys class f b e c k l h = cc
 
 -- ---- the trees that are passed
-
-pub none_of : AreOf [] 0 []
-none_of = record { facts = refl; deep = refl }
 
 pub more_of : (fs : List Facts) (n k : ℕ) (before : List Tree) (f : Facts) (t : Tree) → AreOf fs n before → f ≡ facts_of t → k ≡ levels t → AreOf (fs ++ f ∷ []) (max n k) (before ++ t ∷ [])
 more_of fs n k before f t a e l = record {
@@ -85,15 +82,6 @@ module _ (most : ℕ) (seen : List Seen) where
   pub word_shorter : (w : Word) (ps : Row) (i : ℕ) (ys : List Seen) → ys ≡ drop i seen → 1 ≤ length ys → 3 * length (drop (i + 1) seen) + weight ps < 3 * length (drop i seen) + weight (symbol.Word w ∷ ps)
   word_shorter w ps i ys e h =
       omega (arith, weight-small ps, length-drop i seen, length-drop (i + 1) seen, ap (λ (zs : List Seen). length zs) e)
-
-  pub word_refused : (w : Word) (ps : Row) (i : ℕ) (ys : List Seen) (s : Seen) → ys ≡ drop i seen → 1 ≤ length ys → s ≡ get_or ys 0 s → fits w s.class ≡ false → Refuses most (place (symbol.Word w ∷ ps) (drop i seen) [])
-  word_refused w ps i ys s e h g f =
-      let xs : drop i seen ≡ s ∷ drop (i + 1) seen = first_drop seen ys i s e h g in
-      refuses_word most w ps (drop i seen) [] (ap (λ (zs : List Seen). fits w (front zs)) xs ∙ f)
-
-  pub end_refused : (w : Word) (ps : Row) (i : ℕ) (ys : List Seen) → ys ≡ drop i seen → length ys < 1 → Refuses most (place (symbol.Word w ∷ ps) (drop i seen) [])
-  end_refused w ps i [] e h = subst (λ (zs : List Seen). Refuses most (place (symbol.Word w ∷ ps) zs [])) e (refuses_end most w ps [])
-  end_refused w ps i (y ∷ ys) e h = absurd (omega arith)
 
   pub way_steps : (f : Fork) (ps r : Row) (i n : ℕ) (fs : List Facts) (ys : List Seen) (class : Class) → IsTrue (row_fine (symbol.Fork f ∷ ps)) → ys ≡ drop i seen → class ≡ front ys → choose f class ≡ Some r
       → (before : List Tree) → AreOf fs n before → (now : List Tree) × AreOf fs n now × Leads most (place (symbol.Fork f ∷ ps) (drop i seen) before) (place r (drop i seen) now)
@@ -199,9 +187,6 @@ module _ (most : ℕ) (seen : List Seen) where
 
   pub finish_over : (r : Rule) (p : Spot) → most ≤ p.deepest → (cs : List Tree) → AreOf p.parts.items p.deepest cs → NoBranch most r cs
   finish_over r p over cs a = too_deep most p.deepest r cs a.deep over
-
-  pub finish_not : (r : Rule) (p : Spot) (b : Bool) → b ≡ allows_facts r p.parts.items → b ≡ false → (cs : List Tree) → AreOf p.parts.items p.deepest cs → NoBranch most r cs
-  finish_not r p b e bad cs a = not_allowed most r cs (sym (allowed_of r p.parts.items p.deepest cs b a e) ∙ bad)
 
   branch_of : (r : Rule) (p : Spot) (g : Sketch) (cs : List Tree) → Ends most r p g → AreOf p.parts.items p.deepest cs → IsBranch r cs (drop p.at seen) g.root (build r cs) (drop g.outline.end seen)
   branch_of r p g cs h a = record { root = h.root; tree = refl; rest = ap (λ (j : ℕ). drop j seen) h.here; allowed = (h.is cs a).0 }

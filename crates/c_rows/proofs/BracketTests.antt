@@ -3,7 +3,6 @@ use Rattle.std.proofs.Common.{◌≡◌, ℕ, zero, suc, List, [], ◌∷◌, re
 use Rattle.std.specs.Prelude.{Bool, true, false, ◌&&◌, ◌||◌, ◌==◌, IsTrue, Some, slice_get}
 use Rattle.std.specs.List.{list_all}
 use Rattle.c_rows.specs.declared.class.Class.{Class}
-use Rattle.c_rows.specs.declared.class.Class.TheVariants as class
 use Rattle.c_rows.specs.declared.word.Word.{Word}
 use Rattle.c_rows.specs.declared.word.Word.TheVariants as words
 use Rattle.c_rows.specs.declared.kind.Kind.{Kind}
@@ -23,7 +22,7 @@ use Rattle.c_rows.specs.Kinds.{within, has_leaf}
 use Rattle.c_rows.specs.Branches.{kind_of}
 use Rattle.c_rows.specs.Rows.{Row, row, ways}
 use Rattle.c_rows.specs.Choice.{implies}
-use Rattle.c_rows.proofs.Checks.{modus, row_at, Passes, passes_at}
+use Rattle.c_rows.proofs.Checks.{modus, row_at, Passes, passes_at, set_test, word_at}
 use Rattle.c_rows.proofs.FirstLemmas.{within_trans}
 
 abbrev same_turn : Turn → Turn → Bool
@@ -43,33 +42,28 @@ turn_is turns.Plain turns.Plain h = refl
 turn_is _ _ h = let never : ⊥ = cc in absurd never
 
 abbrev pub word_turn : Word → Turn
+word_turn (words.One c) = turn c
 word_turn words.ParenOpen = turns.Opening
 word_turn words.CastOpen = turns.Opening
 word_turn words.LiteralOpen = turns.Opening
 word_turn words.NestOpen = turns.Opening
 word_turn words.ListOpen = turns.Opening
 word_turn words.AnyOpen = turns.Opening
-word_turn words.LeftBracket = turns.Opening
-word_turn words.LeftBrace = turns.Opening
-word_turn words.PatOpen = turns.Opening
-word_turn words.PatOpenOfStatements = turns.Opening
-word_turn words.Close = turns.Closing
-word_turn words.RightBracket = turns.Closing
-word_turn words.RightBrace = turns.Closing
-word_turn words.PatClose = turns.Closing
-word_turn words.Question = turns.Asking
-word_turn words.Comma = turns.Parting
 word_turn _ = turns.Plain
 
-abbrev word_turn_at : Word → Class → Bool
-word_turn_at w c = implies (fits w c) (same_turn (turn c) (word_turn w))
+abbrev word_turns : Word → Class → Bool
+word_turns w c = same_turn (turn c) (word_turn w)
 
-word_turn_test : (w : Word) → Passes (word_turn_at w)
+self_turn : (a : Turn) → IsTrue (same_turn a a)
+self_turn turns.Opening = refl
+self_turn _ = refl
+
+word_turn_test : (w : Word) → Passes (set_test word_turns w)
 word_turn_test words.ParenOpen = refl
 word_turn_test _ = refl
 
 pub turn_of : (w : Word) (c : Class) → IsTrue (fits w c) → turn c ≡ word_turn w
-turn_of w c f = turn_is (turn c) (word_turn w) (modus (fits w c) (same_turn (turn c) (word_turn w)) (passes_at (word_turn_at w) (word_turn_test w) c) f)
+turn_of w c f = turn_is (turn c) (word_turn w) (word_at word_turns (λ d. self_turn (turn d)) word_turn_test w c f)
 
 abbrev leaf_turn_at : Family → Class → Bool
 leaf_turn_at f c = implies (has_leaf f c) (same_turn (turn c) turns.Plain)

@@ -9,11 +9,12 @@ use Rattle.c_rows.specs.declared.rule.Rule.TheVariants as rule
 use Rattle.c_rows.specs.declared.symbol.Symbol.TheVariants.{Word, Child, Fork}
 use Rattle.c_rows.specs.declared.symbol.Fork.TheVariants as fork
 use Rattle.c_rows.specs.Kinds.{within}
+use Rattle.c_rows.specs.Rows.{One}
 use Rattle.c_rows.specs.Choice.{choose, head}
 
 -- ---- an `else` goes to the nearest `if`
 
-nearest_else : choose fork.ElseOrNot class.Else ≡ Some (Word word.Else ∷ Child kind.Body ∷ [])
+nearest_else : choose fork.ElseOrNot class.Else ≡ Some (One class.Else ∷ Child kind.Body ∷ [])
 nearest_else = refl
 
 no_else : choose fork.ElseOrNot class.End ≡ Some []
@@ -54,7 +55,7 @@ declaration_of_enumeration_with_members = refl
 statement_of_name : choose fork.ListStatements class.Name ≡ Some (Child kind.Statement ∷ Fork fork.ListStatements ∷ [])
 statement_of_name = refl
 
-dots_once : choose fork.ListStatements class.Dots ≡ Some (Word word.Dots ∷ Fork fork.ListBehindDots ∷ [])
+dots_once : choose fork.ListStatements class.Dots ≡ Some (One class.Dots ∷ Fork fork.ListBehindDots ∷ [])
 dots_once = refl
 
 dots_twice : choose fork.ListBehindDots class.Dots ≡ None
@@ -69,7 +70,7 @@ nest_in_nest_behind_dots = refl
 for_declaration : choose fork.ForInit class.NameOfDecl ≡ Some (Child kind.Decl ∷ Fork fork.ForTest ∷ [])
 for_declaration = refl
 
-for_expression : choose fork.ForInit class.Name ≡ Some (Child kind.Expr ∷ Word word.Semicolon ∷ Fork fork.ForTest ∷ [])
+for_expression : choose fork.ForInit class.Name ≡ Some (Child kind.Expr ∷ One class.Semicolon ∷ Fork fork.ForTest ∷ [])
 for_expression = refl
 
 -- ---- at the start of a statement, a body or an item
@@ -126,10 +127,10 @@ initialiser_is_no_field = refl
 
 -- ---- lists
 
-comma_alone : choose fork.FirstInit class.Comma ≡ Some (Word word.Comma ∷ Word word.RightBrace ∷ [])
+comma_alone : choose fork.FirstInit class.Comma ≡ Some (One class.Comma ∷ One class.RightBrace ∷ [])
 comma_alone = refl
 
-one_enumerator : choose fork.EnumName class.LeftBrace ≡ Some (Word word.LeftBrace ∷ Child kind.Enumerator ∷ Fork fork.MoreEnumerators ∷ [])
+one_enumerator : choose fork.EnumName class.LeftBrace ≡ Some (One class.LeftBrace ∷ Child kind.Enumerator ∷ Fork fork.MoreEnumerators ∷ [])
 one_enumerator = refl
 
 block_behind_the_first_declarator : choose fork.AfterExternal class.LeftBrace ≡ Some (Child kind.Block ∷ [])
@@ -141,11 +142,11 @@ no_block_behind_the_second = refl
 no_empty_enumeration : choose fork.EnumName class.RightBrace ≡ None
 no_empty_enumeration = refl
 
-last_comma_of_enumerators : choose fork.NextEnumerator class.RightBrace ≡ Some (Word word.RightBrace ∷ [])
+last_comma_of_enumerators : choose fork.NextEnumerator class.RightBrace ≡ Some (One class.RightBrace ∷ [])
 last_comma_of_enumerators = refl
 
 dots_beside_dots_in_a_call : choose fork.NextArg class.Dots ≡ Some (Word word.ArgRun ∷ Fork fork.MoreArgs ∷ [])
 dots_beside_dots_in_a_call = refl
 
-nothing_behind_the_ellipsis : choose fork.NextParam class.Ellipsis ≡ Some (Word word.Ellipsis ∷ [])
+nothing_behind_the_ellipsis : choose fork.NextParam class.Ellipsis ≡ Some (One class.Ellipsis ∷ [])
 nothing_behind_the_ellipsis = refl

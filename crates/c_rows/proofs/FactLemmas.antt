@@ -1,20 +1,19 @@
 -- The facts of trees are those of their parts.
-use Rattle.std.proofs.Common.{◌≡◌, ℕ, List, [], ◌∷◌, map, refl, ap, sym, ◌∙◌, subst}
+use Rattle.std.proofs.Common.{◌≡◌, List, [], ◌∷◌, map, refl, ap, sym, ◌∙◌}
 use Rattle.std.specs.Prelude.{Bool, true, false, not, ◌&&◌, if◌then◌else◌}
 use Rattle.std.specs.List.{list_all}
 use Rattle.c_terms.specs.declared.token.Token.{Token}
 use Rattle.c_terms.specs.declared.label.Label.{Label}
 use Rattle.c_terms.specs.declared.label.Label.TheVariants as label
 use Rattle.c_terms.specs.declared.tree.Tree.{Tree, out-Tree}
-use Rattle.c_terms.specs.declared.tree.Tree.TheVariants.{Leaf, Branch, rolls-Leaf}
-use Rattle.c_terms.specs.declared.tree.Tree.TheOpen.{Tree-F}
+use Rattle.c_terms.specs.declared.tree.Tree.TheVariants.{Leaf, rolls-Leaf}
 use Rattle.c_terms.specs.declared.tree.Tree.TheFolds.{fold-roll-Tree}
 use Rattle.c_terms.proofs.SameLemmas.{out-Leaf, out-Branch}
 use Rattle.c_rows.specs.declared.facts.Facts.{Facts}
 use Rattle.c_rows.specs.declared.rule.Rule.{Rule}
 use Rattle.c_rows.specs.declared.rule.Rule.TheVariants as rule
-use Rattle.c_rows.specs.Branches.{label_of, build, allows, branches_label, labelled, defines, is_loose_label, is_block_label, is_blockless, plain_part, plain_at, is_plain, declares_at, declares_name, function_at, function_step, declares_function}
-use Rattle.c_rows.specs.Facts.{facts_of, leaf_facts, label_facts, branch_facts, allows_facts}
+use Rattle.c_rows.specs.Branches.{label_of, build, allows, branches_label, labelled, defines, is_loose_label, is_block_label, is_blockless, plain_part, plain_at, declares_at, declares_name, function_at, function_step, declares_function}
+use Rattle.c_rows.specs.Facts.{facts_of, leaf_facts, branch_facts, allows_facts}
 use Rattle.c_rows.proofs.PlainLemmas.{declares-Leaf, declares-Branch, function-Branch}
 
 -- ---- the label

@@ -1,13 +1,11 @@
 -- The filter on types inside an expression makes no difference to which tokens it spells.
 use Rattle.std.proofs.Common.{◌≡◌, ◌≤◌, length, ℕ, zero, suc, List, [], ◌∷◌, map, refl, subst, ap, sym, ◌∙◌, arith}
-use Rattle.std.specs.Prelude.{Bool, true, false, not, ◌&&◌, ◌||◌, if◌then◌else◌, IsTrue, Some, slice_get, codes}
+use Rattle.std.specs.Prelude.{Bool, true, false, not, ◌&&◌, IsTrue, Some, slice_get}
 use Rattle.std.specs.List.{list_all}
 use Rattle.c_terms.specs.declared.token.Token.{Token}
 use Rattle.c_terms.specs.declared.label.Label.{Label}
-use Rattle.c_terms.specs.declared.label.Label.TheVariants as label
-use Rattle.c_terms.specs.declared.tree.Tree.{Tree, out-Tree}
+use Rattle.c_terms.specs.declared.tree.Tree.{Tree}
 use Rattle.c_terms.specs.declared.tree.Tree.TheVariants as tree
-use Rattle.c_terms.proofs.SameLemmas.{out-Branch}
 use Rattle.c_rows.specs.declared.kind.Kind.{Kind}
 use Rattle.c_rows.specs.declared.kind.Family.{Family}
 use Rattle.c_rows.specs.declared.kind.Family.TheVariants as family
@@ -17,111 +15,61 @@ use Rattle.c_rows.specs.declared.symbol.Symbol.TheVariants as symbol
 use Rattle.c_rows.specs.declared.symbol.Fork.{Fork}
 use Rattle.c_rows.specs.declared.symbol.Fork.TheVariants as forks
 use Rattle.c_rows.specs.Kinds.{family_of}
-use Rattle.c_rows.specs.Branches.{kind_of, label_of, build, allows, text_is, labelled, branches_label, at_label, if_label, case_label, for_label, external_label, is_blockless, is_decl_label, is_block_label, is_loose_label, is_case, is_external, declares_function, function_at, plain_part, plain_at, is_plain, is_plain_type, defines, declares_name, declares_at}
+use Rattle.c_rows.specs.Branches.{kind_of, label_of, build, allows, is_block_label, is_loose_label, is_case, is_external, defines, is_plain, is_plain_type, declares_at, function_at}
 use Rattle.c_rows.specs.Rows.{Row, row, ways}
 use Rattle.c_rows.specs.Look.{Names, look}
 use Rattle.c_rows.specs.Words.{ends_member}
 use Rattle.c_rows.specs.Spells.{member_kind}
 use Rattle.c_rows.specs.Choice.{implies, after, first}
 use Rattle.c_rows.specs.Derives.{Derives, leaf, branch, DerivesRow, done, word, child, argument, type_argument, fork, Anywhere}
+use Rattle.c_rows.specs.declared.facts.Facts.{Facts}
+use Rattle.c_rows.specs.Facts.{facts_of, label_facts, allows_type, allows_case, allows_external}
 use Rattle.c_rows.specs.Letter.{NoExpression}
-use Rattle.c_rows.proofs.Checks.{and_left, and_right, both, modus, row_at, closes, joins, joins_rule, joins_way, closes_rule, closes_way, member_after}
+use Rattle.c_rows.proofs.Checks.{and_left, and_right, modus, row_at, closes, joins, joins_rule, joins_way, closes_rule, closes_way, member_after}
 use Rattle.c_rows.proofs.FirstLemmas.{within_family, after_mono}
-use Rattle.c_rows.proofs.PlainLemmas.{declares-Branch, function-Branch}
+use Rattle.c_rows.proofs.FactLemmas.{branch_same}
 use Rattle.c_rows.proofs.MemberLemmas.{is_args, needs, needs_test, lead_word, led, led_rule, led_way, needs_way, never_needs}
 use Rattle.c_rows.proofs.DerivesLemmas.{tree_first, member_end, child_end, joins_rest, joins_member, closes_rest, closes_member}
 
 -- ---- trees that the rows do not tell apart
 
-pub record Alike (a b : Tree) : Type 0 where
-  pub text : (s : List ℕ) → text_is s (out-Tree a) ≡ text_is s (out-Tree b)
-  pub label : (p : Label → Bool) → labelled p (out-Tree a) ≡ labelled p (out-Tree b)
-  pub part : plain_part (out-Tree a) ≡ plain_part (out-Tree b)
-  pub named : declares_name a ≡ declares_name b
-  pub function : declares_function a ≡ declares_function b
+-- the facts of a tree but for what is asked of its parts
+abbrev core : Facts → Facts
+core f = record { plain = f.plain; plain_parts = true; names = f.names; functions = f.functions; loose = f.loose; block = f.block }
 
-alike_self : (a : Tree) → Alike a a
-alike_self a = record { text = λ s. refl; label = λ p. refl; part = refl; named = refl; function = refl }
+abbrev cores : List Tree → List Facts
+cores cs = map (λ c. core (facts_of c)) cs
 
-data AlikeAll : List Tree → List Tree → Type 0 where
-  none : AlikeAll [] []
-  more : {a b : Tree} {cs ds : List Tree} → Alike a b → AlikeAll cs ds → AlikeAll (a ∷ cs) (b ∷ ds)
+cores_of : (cs : List Tree) → map core (map facts_of cs) ≡ cores cs
+cores_of [] = refl
+cores_of (c ∷ cs) = ap (λ (fs : List Facts). core (facts_of c) ∷ fs) (cores_of cs)
 
-branches_same : {cs ds : List Tree} → AlikeAll cs ds → branches_label cs ≡ branches_label ds
-branches_same none = refl
-branches_same (more a none) = refl
-branches_same (more a (more b none)) = refl
-branches_same (more a (more b (more c rest))) = ap (λ (x : Bool). if x then label.PatOr else label.PatAnd) (c.text (codes "\\|"))
+names_core : (fs : List Facts) → map (λ (f : Facts). f.names) fs ≡ map (λ (f : Facts). f.names) (map core fs)
+names_core [] = refl
+names_core (f ∷ fs) = ap (λ (bs : List Bool). f.names ∷ bs) (names_core fs)
 
-at_same : {cs ds : List Tree} → AlikeAll cs ds → at_label cs ≡ at_label ds
-at_same none = refl
-at_same (more a none) = refl
-at_same (more a (more b none)) = refl
-at_same (more a (more b (more c none))) = refl
-at_same (more a (more b (more c (more d rest)))) = refl
+functions_core : (fs : List Facts) → map (λ (f : Facts). f.functions) fs ≡ map (λ (f : Facts). f.functions) (map core fs)
+functions_core [] = refl
+functions_core (f ∷ fs) = ap (λ (bs : List Bool). f.functions ∷ bs) (functions_core fs)
 
-if_same : {cs ds : List Tree} → AlikeAll cs ds → if_label cs ≡ if_label ds
-if_same none = refl
-if_same (more a none) = refl
-if_same (more a (more b none)) = refl
-if_same (more a (more b (more c none))) = refl
-if_same (more a (more b (more c (more d none)))) = refl
-if_same (more a (more b (more c (more d (more e none))))) = refl
-if_same (more a (more b (more c (more d (more e (more f rest)))))) = refl
+plain_core : (fs : List Facts) → list_all (λ (f : Facts). f.plain) fs ≡ list_all (λ (f : Facts). f.plain) (map core fs)
+plain_core [] = refl
+plain_core (f ∷ fs) = ap (λ (b : Bool). f.plain && b) (plain_core fs)
 
-case_same : {cs ds : List Tree} → AlikeAll cs ds → case_label cs ≡ case_label ds
-case_same none = refl
-case_same (more a none) = refl
-case_same (more a (more b none)) = refl
-case_same (more a (more b (more c none))) = refl
-case_same (more a (more b (more c (more d rest)))) = refl
+abbrev core_with : Label → List Bool → List Bool → Facts
+core_with l names functions = record {
+  plain = not (defines l);
+  plain_parts = true;
+  names = declares_at l names;
+  functions = function_at l functions;
+  loose = is_loose_label l;
+  block = is_block_label l;
+}
 
-for_same : {cs ds : List Tree} → AlikeAll cs ds → for_label cs ≡ for_label ds
-for_same none = refl
-for_same (more a none) = refl
-for_same (more a (more b none)) = refl
-for_same (more a (more b (more c rest))) = ap (λ (x : Bool). if x then label.ForDecl else label.For) (c.label is_decl_label)
-
-external_same : {cs ds : List Tree} → AlikeAll cs ds → external_label cs ≡ external_label ds
-external_same none = refl
-external_same (more a none) = refl
-external_same (more a (more b none)) = refl
-external_same (more a (more b (more c none))) = ap (λ (x : Bool). if x then label.FunDef else label.Decl) (c.label is_block_label)
-external_same (more a (more b (more c (more d rest)))) = refl
-
-blocks_same : {cs ds : List Tree} → AlikeAll cs ds → is_blockless cs ≡ is_blockless ds
-blocks_same none = refl
-blocks_same (more {a = a} {b = b} {cs = cs} {ds = ds} e rest) = ap (λ (x : Bool). not x && is_blockless cs) (e.label is_block_label) ∙ ap (λ (x : Bool). not (labelled is_block_label (out-Tree b)) && x) (blocks_same rest)
-
-case_alike : {cs ds : List Tree} → AlikeAll cs ds → is_case cs ≡ is_case ds
-case_alike none = refl
-case_alike (more a none) = refl
-case_alike (more a (more b none)) = ap not (b.label is_loose_label)
-case_alike (more a (more b (more c none))) = refl
-case_alike (more a (more b (more c (more d rest)))) = ap not (b.label is_loose_label)
-
-external_alike : {cs ds : List Tree} → AlikeAll cs ds → is_external cs ≡ is_external ds
-external_alike none = refl
-external_alike (more a none) = refl
-external_alike (more a (more b none)) = refl
-external_alike (more a (more {a = x} {b = y} b (more {a = u} {b = v} c none))) =
-    ap (λ (q : Bool). not q || declares_function x) (c.label is_block_label) ∙ ap (λ (q : Bool). not (labelled is_block_label (out-Tree v)) || q) b.function
-external_alike (more a (more b (more c (more d rest)))) = refl
-
-functions_same : {cs ds : List Tree} → AlikeAll cs ds → map declares_function cs ≡ map declares_function ds
-functions_same none = refl
-functions_same (more {a = a} {b = b} {cs = cs} {ds = ds} e rest) =
-    ap (λ (x : Bool). x ∷ map declares_function cs) e.function ∙ ap (λ (x : List Bool). declares_function b ∷ x) (functions_same rest)
-
-names_same : {cs ds : List Tree} → AlikeAll cs ds → map declares_name cs ≡ map declares_name ds
-names_same none = refl
-names_same (more {a = a} {b = b} {cs = cs} {ds = ds} e rest) =
-    ap (λ (x : Bool). x ∷ map declares_name cs) e.named ∙ ap (λ (x : List Bool). declares_name b ∷ x) (names_same rest)
-
-parts_same : {cs ds : List Tree} → AlikeAll cs ds → list_all (λ part. plain_part (out-Tree part)) cs ≡ list_all (λ part. plain_part (out-Tree part)) ds
-parts_same none = refl
-parts_same (more {a = a} {b = b} {cs = cs} {ds = ds} e rest) =
-    ap (λ (x : Bool). x && list_all (λ part. plain_part (out-Tree part)) cs) e.part ∙ ap (λ (x : Bool). plain_part (out-Tree b) && x) (parts_same rest)
+label_core : (l : Label) (fs : List Facts) → core (label_facts l fs) ≡ core (label_facts l (map core fs))
+label_core l fs =
+    ap (λ (bs : List Bool). core_with l bs (map (λ (f : Facts). f.functions) fs)) (names_core fs)
+    ∙ ap (λ (bs : List Bool). core_with l (map (λ (f : Facts). f.names) (map core fs)) bs) (functions_core fs)
 
 -- ---- rows without members of a call's list
 
@@ -191,56 +139,57 @@ specs_ways _ = refl
 
 -- ---- a branch of a rule with other children
 
-label_same : (r : Rule) (cs ds : List Tree) → (IsTrue (not (is_args_rule r)) → AlikeAll cs ds) → label_of r cs ≡ label_of r ds
-label_same rule.PatBranches cs ds h = branches_same (h refl)
-label_same rule.At cs ds h = at_same (h refl)
-label_same rule.If cs ds h = if_same (h refl)
-label_same rule.For cs ds h = for_same (h refl)
-label_same rule.Case cs ds h = case_same (h refl)
-label_same rule.External cs ds h = external_same (h refl)
-label_same rule.ExternalMacro cs ds h = ap (λ (x : Bool). if x then label.MacroItem else label.MacroFun) (blocks_same (h refl))
-label_same rule.PatLists cs ds h = branches_same (h refl)
-label_same _ cs ds h = refl
+-- the facts of a branch, by the cores of its children
+branch_core : (r : Rule) (cs : List Tree) → core (facts_of (build r cs)) ≡ core (label_facts (label_of r []) (cores cs))
+branch_core r cs =
+    ap core (sym (branch_same r cs)) ∙ label_core (label_of r []) (map facts_of cs) ∙ ap (λ (fs : List Facts). core (label_facts (label_of r []) fs)) (cores_of cs)
 
-declares_same : (r : Rule) (cs ds : List Tree) → (IsTrue (not (is_args_rule r)) → AlikeAll cs ds) → label_of r cs ≡ label_of r ds
-    → declares_at (label_of r cs) (map declares_name cs) ≡ declares_at (label_of r ds) (map declares_name ds)
-declares_same rule.Args cs ds h e = refl
-declares_same r cs ds h e = ap (λ (l : Label). declares_at l (map declares_name cs)) e ∙ ap (λ (x : List Bool). declares_at (label_of r ds) x) (names_same (h refl))
+branch_alike : (r : Rule) (cs ds : List Tree) → (IsTrue (not (is_args_rule r)) → cores cs ≡ cores ds) → core (facts_of (build r cs)) ≡ core (facts_of (build r ds))
+branch_alike rule.Args cs ds h = branch_core rule.Args cs ∙ sym (branch_core rule.Args ds)
+branch_alike r cs ds h = branch_core r cs ∙ ap (λ (fs : List Facts). core (label_facts (label_of r []) fs)) (h refl) ∙ sym (branch_core r ds)
 
-function_same : (r : Rule) (cs ds : List Tree) → (IsTrue (not (is_args_rule r)) → AlikeAll cs ds) → label_of r cs ≡ label_of r ds
-    → function_at (label_of r cs) (map declares_function cs) ≡ function_at (label_of r ds) (map declares_function ds)
-function_same rule.Args cs ds h e = refl
-function_same r cs ds h e =
-    ap (λ (l : Label). function_at l (map declares_function cs)) e ∙ ap (λ (x : List Bool). function_at (label_of r ds) x) (functions_same (h refl))
+plain_by_cores : (r : Rule) (cs : List Tree) → is_plain (build r cs) ≡ list_all (λ (f : Facts). f.plain) (cores cs)
+plain_by_cores r cs =
+    ap (λ (f : Facts). f.plain_parts) (sym (branch_same r cs)) ∙ plain_core (map facts_of cs) ∙ ap (λ (fs : List Facts). list_all (λ (f : Facts). f.plain) fs) (cores_of cs)
 
-branch_alike : (r : Rule) (cs ds : List Tree) → (IsTrue (not (is_args_rule r)) → AlikeAll cs ds) → Alike (build r cs) (build r ds)
-branch_alike r cs ds h =
-    let e : label_of r cs ≡ label_of r ds = label_same r cs ds h in
-    record {
-      text = λ s. ap (text_is s) (out-Branch (label_of r cs) cs) ∙ sym (ap (text_is s) (out-Branch (label_of r ds) ds));
-      label = λ p. ap (labelled p) (out-Branch (label_of r cs) cs) ∙ ap p e ∙ sym (ap (labelled p) (out-Branch (label_of r ds) ds));
-      part = ap plain_part (out-Branch (label_of r cs) cs) ∙ ap (λ (l : Label). not (defines l)) e ∙ sym (ap plain_part (out-Branch (label_of r ds) ds));
-      named = declares-Branch (label_of r cs) cs ∙ declares_same r cs ds h e ∙ sym (declares-Branch (label_of r ds) ds);
-      function = function-Branch (label_of r cs) cs ∙ function_same r cs ds h e ∙ sym (function-Branch (label_of r ds) ds);
-    }
+branch_plain : (r : Rule) (cs ds : List Tree) → cores cs ≡ cores ds → is_plain (build r cs) ≡ is_plain (build r ds)
+branch_plain r cs ds h = plain_by_cores r cs ∙ ap (λ (fs : List Facts). list_all (λ (f : Facts). f.plain) fs) h ∙ sym (plain_by_cores r ds)
 
-branch_plain : (r : Rule) (cs ds : List Tree) → AlikeAll cs ds → is_plain (build r cs) ≡ is_plain (build r ds)
-branch_plain r cs ds h = ap plain_at (out-Branch (label_of r cs) cs) ∙ parts_same h ∙ sym (ap plain_at (out-Branch (label_of r ds) ds))
+and_true : (b : Bool) → b ≡ (b && true)
+and_true true = refl
+and_true false = refl
 
-type_same : {cs ds : List Tree} → AlikeAll cs ds → first_plain cs ≡ first_plain ds → IsTrue (is_plain_type cs) → IsTrue (is_plain_type ds)
-type_same none e h = h
-type_same (more a none) e h = sym e ∙ h
-type_same (more {a = a} {b = c} x (more {a = b} {b = d} y none)) e h =
-    both (is_plain c) (not (declares_name d)) (sym e ∙ and_left (is_plain a) (not (declares_name b)) h)
-    (sym (ap not y.named) ∙ and_right (is_plain a) (not (declares_name b)) h)
-type_same (more a (more b (more c rest))) e h = h
+and_false : (b : Bool) → false ≡ (b && false)
+and_false true = refl
+and_false false = refl
 
-allows_same : (r : Rule) (cs ds : List Tree) → (IsTrue (not (is_args_rule r)) → AlikeAll cs ds) → (IsTrue (specs_first (row r)) → first_plain cs ≡ first_plain ds)
+type_core : (cs : List Tree) → is_plain_type cs ≡ (first_plain cs && allows_type (cores cs))
+type_core [] = refl
+type_core (s ∷ []) = and_true (is_plain s)
+type_core (s ∷ d ∷ []) = refl
+type_core (s ∷ d ∷ e ∷ cs) = and_false (is_plain s)
+
+case_core : (cs : List Tree) → is_case cs ≡ allows_case (cores cs)
+case_core [] = refl
+case_core (a ∷ []) = refl
+case_core (a ∷ b ∷ []) = refl
+case_core (a ∷ b ∷ c ∷ []) = refl
+case_core (a ∷ b ∷ c ∷ d ∷ cs) = refl
+
+external_core : (cs : List Tree) → is_external cs ≡ allows_external (cores cs)
+external_core [] = refl
+external_core (a ∷ []) = refl
+external_core (a ∷ b ∷ []) = refl
+external_core (a ∷ b ∷ c ∷ []) = refl
+external_core (a ∷ b ∷ c ∷ d ∷ cs) = refl
+
+allows_alike : (r : Rule) (cs ds : List Tree) → (IsTrue (not (is_args_rule r)) → cores cs ≡ cores ds) → (IsTrue (specs_first (row r)) → first_plain cs ≡ first_plain ds)
     → IsTrue (allows r cs) → IsTrue (allows r ds)
-allows_same rule.TypeName cs ds h e a = type_same (h refl) (e refl) a
-allows_same rule.Case cs ds h e a = sym (case_alike (h refl)) ∙ a
-allows_same rule.External cs ds h e a = sym (external_alike (h refl)) ∙ a
-allows_same _ cs ds h e a = refl
+allows_alike rule.TypeName cs ds h e a =
+    type_core ds ∙ ap (λ (b : Bool). b && allows_type (cores ds)) (sym (e refl)) ∙ ap (λ (fs : List Facts). first_plain cs && allows_type fs) (sym (h refl)) ∙ sym (type_core cs) ∙ a
+allows_alike rule.Case cs ds h e a = case_core ds ∙ ap allows_case (sym (h refl)) ∙ sym (case_core cs) ∙ a
+allows_alike rule.External cs ds h e a = external_core ds ∙ ap allows_external (sym (h refl)) ∙ sym (external_core cs) ∙ a
+allows_alike _ cs ds h e a = refl
 
 -- ---- lengths
 
@@ -286,13 +235,13 @@ module _ (names : Names) where
   pub record Filtered (k : Kind) (xs : List Token) (t : Tree) (ys : List Token) : Type 0 where
     pub tree : Tree
     pub derived : Derives names (NoExpression names) k xs tree ys
-    pub alike : Alike t tree
+    pub alike : core (facts_of t) ≡ core (facts_of tree)
     pub plain : IsTrue (is_specs (family_of k)) → is_plain t ≡ is_plain tree
 
   record FilteredRow (ps : Row) (xs : List Token) (cs : List Tree) (ys : List Token) : Type 0 where
     trees : List Tree
     derived : DerivesRow names (NoExpression names) ps xs trees ys
-    alike : IsTrue (memberless ps) → AlikeAll cs trees
+    alike : IsTrue (memberless ps) → cores cs ≡ cores trees
     plain : IsTrue (specs_first ps) → first_plain cs ≡ first_plain trees
 
   -- members of at most n tokens up to the end
@@ -302,14 +251,14 @@ module _ (names : Names) where
   mutual
     filter_tree : (n : ℕ) → FiltersTo n → {k : Kind} {xs ys : List Token} {t : Tree} → Derives names Anywhere k xs t ys → length xs ≤ suc n → (IsTrue (is_args (family_of k)) → length xs ≤ n)
         → IsTrue (after k (look names ys)) → (Filtered k xs t ys → ⊥) → ⊥
-    filter_tree n go (leaf {t = t} h) s m a f = f (record { tree = tree.Leaf t; derived = leaf h; alike = alike_self (tree.Leaf t); plain = λ i. refl })
+    filter_tree n go (leaf {t = t} h) s m a f = f (record { tree = tree.Leaf t; derived = leaf h; alike = refl; plain = λ i. refl })
     filter_tree n go {k} {xs} {ys} (branch {cs = cs} r w b al parts) s m a f =
         let args : IsTrue (needs (row r)) → length xs ≤ n = λ h. m (subst (λ (o : Family). IsTrue (is_args o)) (within_family (kind_of r) k w) (modus (needs (row r)) (is_args (family_of (kind_of r))) (needs_test r) h)) in
         filter_row n go parts s args (led_rule r) (joins_rule r) (closes_rule r (look names ys) (after_mono (kind_of r) k (look names ys) w a)) (λ y.
-        let same : IsTrue (not (is_args_rule r)) → AlikeAll cs y.trees = λ h. y.alike (memberless_rule r h) in
+        let same : IsTrue (not (is_args_rule r)) → cores cs ≡ cores y.trees = λ h. y.alike (memberless_rule r h) in
         f (record {
           tree = build r y.trees;
-          derived = branch r w b (allows_same r cs y.trees same y.plain al) y.derived;
+          derived = branch r w b (allows_alike r cs y.trees same y.plain al) y.derived;
           alike = branch_alike r cs y.trees same;
           plain = λ h. branch_plain r cs y.trees (same (modus (is_specs (family_of (kind_of r))) (not (is_args_rule r)) (specs_test r)
               (subst (λ (o : Family). IsTrue (is_specs o)) (sym (within_family (kind_of r) k w)) h)));
@@ -317,13 +266,13 @@ module _ (names : Names) where
 
     filter_row : (n : ℕ) → FiltersTo n → {ps : Row} {xs ys : List Token} {cs : List Tree} → DerivesRow names Anywhere ps xs cs ys → length xs ≤ suc n → (IsTrue (needs ps) → length xs ≤ n) → IsTrue (led ps)
         → IsTrue (joins ps) → IsTrue (closes ps (look names ys)) → (FilteredRow ps xs cs ys → ⊥) → ⊥
-    filter_row n go done s m e j c f = f (record { trees = []; derived = done; alike = λ h. none; plain = λ h. refl })
+    filter_row n go done s m e j c f = f (record { trees = []; derived = done; alike = λ h. refl; plain = λ h. refl })
     filter_row n go (word {w = w} {ps = ps} {t = t} {xs = xs} {cs = cs} h rest) s m e j c f =
         let short : length xs ≤ n = rest_short t xs n s in
         filter_row n go rest (omega arith) (λ i. short) (and_right (implies (needs ps) (lead_word w)) (led ps) e) j c (λ y. f (record {
           trees = tree.Leaf t ∷ y.trees;
           derived = word h y.derived;
-          alike = λ a. more (alike_self (tree.Leaf t)) (y.alike a);
+          alike = λ a. ap (λ (fs : List Facts). core (facts_of (tree.Leaf t)) ∷ fs) (y.alike a);
           plain = λ a. refl;
         }))
     filter_row n go (child {k = k} {ps = ps} {xs = xs} {ys = mid} {zs = ys} {t = t} {cs = cs} d rest) s m e j c f =
@@ -332,7 +281,7 @@ module _ (names : Names) where
         (joins_rest k ps j) (closes_rest k ps (look names ys) c) (λ y. f (record {
           trees = x.tree ∷ y.trees;
           derived = child x.derived y.derived;
-          alike = λ a. more x.alike (y.alike a);
+          alike = λ a. ap (λ (f : Facts). f ∷ cores cs) x.alike ∙ ap (λ (fs : List Facts). core (facts_of x.tree) ∷ fs) (y.alike a);
           plain = x.plain;
         })))
     filter_row n go (argument {ps = ps} {xs = xs} {ys = mid} {zs = ys} {t = t} {cs = cs} d rest) s m e j c f =

@@ -1,8 +1,10 @@
 -- What may stand first: tests of the rows, each computed over every class.
-use Rattle.std.proofs.Common.{◌≡◌, ℕ, zero, suc, List, [], ◌∷◌, refl, subst}
+use Rattle.std.proofs.Common.{◌≡◌, ℕ, zero, suc, List, [], ◌∷◌, refl, subst, ap, sym, ◌∙◌, eqb-true}
 use Rattle.std.specs.Prelude.{Bool, true, false, not, ◌&&◌, ◌||◌, IsTrue, Some, slice_get}
 use Rattle.std.specs.List.{list_all}
 use Rattle.c_rows.specs.declared.class.Class.{Class}
+use Rattle.c_rows.specs.declared.word.Word.{Word}
+use Rattle.c_rows.specs.declared.word.Word.TheVariants as words
 use Rattle.c_rows.specs.declared.rule.Rule.{Rule}
 use Rattle.c_rows.specs.declared.rule.Rule.TheVariants as rule
 use Rattle.c_rows.specs.declared.kind.Kind.{Kind}
@@ -11,13 +13,13 @@ use Rattle.c_rows.specs.declared.kind.Family.TheVariants as family
 use Rattle.c_rows.specs.declared.symbol.Symbol.TheVariants as symbol
 use Rattle.c_rows.specs.declared.symbol.Fork.{Fork}
 use Rattle.c_rows.specs.declared.symbol.Fork.TheVariants as forks
-use Rattle.c_rows.specs.Words.{begins_specs, ends_member}
+use Rattle.c_rows.specs.Words.{number, same_class, fits, begins_specs, ends_member}
 use Rattle.c_rows.specs.Kinds.{family_of, has_leaf}
 use Rattle.c_rows.specs.Branches.{kind_of, begins}
 use Rattle.c_rows.specs.Rows.{Row, row, ways}
 use Rattle.c_rows.specs.Spells.{member_kind}
 use Rattle.c_rows.specs.Choice.{after, stops, stops_fork, first, opens, classes, every, implies, begins_expression}
-use Rattle.c_rows.proofs.Numbers.{number, listed}
+use Rattle.c_rows.proofs.Numbers.{listed}
 
 -- ---- on Bool
 
@@ -65,6 +67,10 @@ at p (x ∷ xs) (suc i) c h e = at p xs i c (and_right (p x) (list_all p xs) h) 
 pub every_at : (p : Class → Bool) → IsTrue (every p) → (c : Class) → IsTrue (p c)
 every_at p h c = at p classes (number c) c h (listed c)
 
+-- two classes of one number are one
+pub one_is : (c d : Class) → IsTrue (same_class c d) → c ≡ d
+one_is c d h = some_is (sym (listed c) ∙ ap (λ (n : ℕ). slice_get classes n) (eqb-true (number c) (number d) h) ∙ listed d)
+
 -- The classes at which a test fails. A test of the rows says that there are none, so its error names them.
 abbrev pub keep : Bool → Class → List Class → List Class
 keep true c cs = cs
@@ -87,6 +93,18 @@ none_fails p (x ∷ xs) e = here (p x) e (λ f. none_fails p xs f)
 
 pub passes_at : (p : Class → Bool) → Passes p → (c : Class) → IsTrue (p c)
 passes_at p h c = every_at p (none_fails p classes h) c
+
+-- ---- over the classes of a word
+
+-- A set of classes is tested over all of them, and a class by itself needs no test.
+abbrev pub set_test : (Word → Class → Bool) → Word → Class → Bool
+set_test p (words.One c) d = true
+set_test p w d = implies (fits w d) (p w d)
+
+pub word_at : (p : Word → Class → Bool) → ((c : Class) → IsTrue (p (words.One c) c))
+    → ((w : Word) → Passes (set_test p w)) → (w : Word) (c : Class) → IsTrue (fits w c) → IsTrue (p w c)
+word_at p one sets (words.One c) d f = subst (λ (e : Class). IsTrue (p (words.One c) e)) (one_is c d f) (one c)
+word_at p one sets w d f = modus (fits w d) (p w d) (passes_at (set_test p w) (sets w) d) f
 
 -- ---- over every way of a fork
 

@@ -9,6 +9,7 @@ pub mod LengthLemmas
 pub mod RangeLemmas
 pub mod BracketTests
 pub mod BracketLemmas
+pub mod OriginLemmas
 pub mod LeadLemmas
 pub mod MemberLemmas
 pub mod DerivesLemmas
@@ -19,6 +20,7 @@ pub mod SeenLemmas
 pub mod SightLemmas
 pub mod TreeLemmas
 pub mod LetterLemmas
+pub mod TextExamples
 pub mod TypeExamples
 pub mod ExampleTokens
 pub mod BracketExamples

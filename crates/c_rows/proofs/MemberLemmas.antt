@@ -18,7 +18,7 @@ use Rattle.c_rows.specs.Branches.{kind_of}
 use Rattle.c_rows.specs.Rows.{Row, row, ways}
 use Rattle.c_rows.proofs.LeadLemmas.{leads_class}
 use Rattle.c_rows.specs.Choice.{implies}
-use Rattle.c_rows.proofs.Checks.{modus, row_at, Passes, passes_at}
+use Rattle.c_rows.proofs.Checks.{modus, row_at, Passes, set_test, word_at}
 
 abbrev pub is_args : Family → Bool
 is_args family.Args = true
@@ -38,19 +38,23 @@ needs (symbol.Argument ∷ ps) = true
 needs (symbol.Fork f ∷ ps) = args_fork f
 
 abbrev pub lead_word : Word → Bool
-lead_word words.Comma = true
+lead_word (words.One c) = leads_class c
 lead_word words.AnyOpen = true
 lead_word _ = false
 
-abbrev lead_at : Word → Class → Bool
-lead_at w c = implies (lead_word w) (implies (fits w c) (leads_class c))
+abbrev leads_at : Word → Class → Bool
+leads_at w c = implies (lead_word w) (leads_class c)
 
-lead_test : (w : Word) → Passes (lead_at w)
-lead_test words.Comma = refl
+implies_self : (b : Bool) → IsTrue (implies b b)
+implies_self true = refl
+implies_self false = refl
+
+lead_test : (w : Word) → Passes (set_test leads_at w)
+lead_test words.AnyOpen = refl
 lead_test _ = refl
 
 pub word_leads : (w : Word) (c : Class) → IsTrue (lead_word w) → IsTrue (fits w c) → IsTrue (leads_class c)
-word_leads w c l f = modus (fits w c) (leads_class c) (modus (lead_word w) (implies (fits w c) (leads_class c)) (passes_at (lead_at w) (lead_test w) c) l) f
+word_leads w c l f = modus (lead_word w) (leads_class c) (word_at leads_at (λ d. implies_self (leads_class d)) lead_test w c f) l
 
 -- Behind the first part, a member stands only behind a comma or an opening bracket.
 abbrev pub led : Row → Bool

@@ -7,6 +7,7 @@ use Rattle.c_terms.specs.declared.label.Label.TheVariants as label
 use Rattle.c_terms.specs.declared.tree.Tree.{Tree}
 use Rattle.c_terms.specs.declared.tree.Tree.TheVariants as tree
 use Rattle.c_rows.specs.declared.class.Class.{Class}
+use Rattle.c_rows.specs.declared.class.Class.TheVariants as class
 use Rattle.c_rows.specs.declared.word.Word.TheVariants as words
 use Rattle.c_rows.specs.declared.kind.Kind.{Kind}
 use Rattle.c_rows.specs.declared.kind.Kind.TheVariants as kind
@@ -16,7 +17,7 @@ use Rattle.c_rows.specs.declared.rule.Rule.{Rule}
 use Rattle.c_rows.specs.declared.rule.Rule.TheVariants as rule
 use Rattle.c_rows.specs.declared.symbol.Symbol.TheVariants as symbol
 use Rattle.c_rows.specs.declared.symbol.Fork.TheVariants as forks
-use Rattle.c_rows.specs.Words.{fits, begins_specs, begins_tag, ends_member}
+use Rattle.c_rows.specs.Words.{same_class, fits, begins_specs, begins_tag, ends_member}
 use Rattle.c_rows.specs.Kinds.{within, has_leaf}
 use Rattle.c_rows.specs.Branches.{kind_of, build, allows, is_plain, is_plain_type, declares_name, any_of}
 use Rattle.c_rows.specs.Rows.{Row, row, ways}
@@ -95,7 +96,7 @@ never_both true n h = let never : ⊥ = cc in absurd never
 never_both false n h = let never : ⊥ = cc in absurd never
 
 abbrev begins_any : Class → Bool
-begins_any c = fits words.Star c || fits words.LeftBracket c || fits words.ListOpen c || fits words.NestOpen c
+begins_any c = same_class class.Star c || same_class class.LeftBracket c || fits words.ListOpen c || fits words.NestOpen c
 
 loosen : (a b p q x y : Bool) → IsTrue (a || b || p && x || q && y) → IsTrue (a || b || p || q)
 loosen true b p q x y h = refl
@@ -114,7 +115,7 @@ declares_test = refl
 nameless_begins : (c d : Class) → IsTrue (begins_nameless c d) → IsTrue (begins_declarator c && not (fits words.Name c))
 nameless_begins c d h =
     modus (begins_any c) (begins_declarator c && not (fits words.Name c)) (passes_at declares_at declares_test c)
-    (loosen (fits words.Star c) (fits words.LeftBracket c) (fits words.ListOpen c) (fits words.NestOpen c) (first family.Params d) (begins_declarator d && not (fits words.Name d)) h)
+    (loosen (same_class class.Star c) (same_class class.LeftBracket c) (fits words.ListOpen c) (fits words.NestOpen c) (first family.Params d) (begins_declarator d && not (fits words.Name d)) h)
 
 abbrev pub behind : List Token → List Token
 behind [] = []
@@ -130,7 +131,7 @@ one_type _ = false
 abbrev type_way : Row → Bool
 type_way (symbol.Word words.Name ∷ ps) = one_type ps
 type_way (symbol.Word words.Modifier ∷ ps) = true
-type_way (symbol.Word words.Basic ∷ ps) = true
+type_way (symbol.Word (words.One class.Basic) ∷ ps) = true
 type_way (symbol.Child kind.Tag ∷ ps) = true
 type_way _ = false
 
@@ -155,18 +156,18 @@ module _ (names : Names) (may : List Token → List Token → Type 0) where
   declarator_front (branch rule.Pointer u b al (word {t = t} {xs = xs} {cs = cs} f rest)) w =
       or_right (declares_name (build rule.Pointer (tree.Leaf t ∷ cs))) (begins_nameless (look names (t ∷ xs)) (look names xs)) (first_of _ _ _ _ f)
   declarator_front (branch rule.NamelessArray u b al (word {t = t} {xs = xs} {cs = cs} f rest)) w =
-      or_right (declares_name (build rule.NamelessArray (tree.Leaf t ∷ cs))) (begins_nameless (look names (t ∷ xs)) (look names xs)) (second_of (fits words.Star (look names (t ∷ xs))) _ _ _ f)
+      or_right (declares_name (build rule.NamelessArray (tree.Leaf t ∷ cs))) (begins_nameless (look names (t ∷ xs)) (look names xs)) (second_of (same_class class.Star (look names (t ∷ xs))) _ _ _ f)
   declarator_front (branch rule.NamelessFun u b al (word {t = t} {xs = xs} {cs = cs} f rest)) w =
       let o : IsTrue (first family.Params (look names xs)) = row_first names may rest (joins_rule rule.NamelessFun) refl in
       or_right (declares_name (build rule.NamelessFun (tree.Leaf t ∷ cs))) (begins_nameless (look names (t ∷ xs)) (look names xs))
-      (third_of (fits words.Star (look names (t ∷ xs))) (fits words.LeftBracket (look names (t ∷ xs))) _ _ (both (fits words.ListOpen (look names (t ∷ xs))) (first family.Params (look names xs)) f o))
+      (third_of (same_class class.Star (look names (t ∷ xs))) (same_class class.LeftBracket (look names (t ∷ xs))) _ _ (both (fits words.ListOpen (look names (t ∷ xs))) (first family.Params (look names xs)) f o))
   declarator_front (branch rule.DParen u b al (word {t = t} {xs = xs} f (child {t = inner} {cs = cs} d rest))) w =
       elim (either (declares_name inner) (begins_nameless (look names xs) (look names (behind xs))) (declarator_front d refl))
       as (λ _. IsTrue (declares_name (build rule.DParen (tree.Leaf t ∷ inner ∷ cs)) || begins_nameless (look names (t ∷ xs)) (look names xs))) [
         | inl h ↦ or_left (declares_name (build rule.DParen (tree.Leaf t ∷ inner ∷ cs))) (begins_nameless (look names (t ∷ xs)) (look names xs))
             (same_truth _ _ (declares-Branch label.DParen (tree.Leaf t ∷ inner ∷ cs)) (or_right (declares_name (tree.Leaf t)) (declares_name inner || any_of (map declares_name cs)) (or_left (declares_name inner) (any_of (map declares_name cs)) h)))
         | inr h ↦ or_right (declares_name (build rule.DParen (tree.Leaf t ∷ inner ∷ cs))) (begins_nameless (look names (t ∷ xs)) (look names xs))
-            (fourth_of (fits words.Star (look names (t ∷ xs))) (fits words.LeftBracket (look names (t ∷ xs))) (fits words.ListOpen (look names (t ∷ xs)) && first family.Params (look names xs)) _
+            (fourth_of (same_class class.Star (look names (t ∷ xs))) (same_class class.LeftBracket (look names (t ∷ xs))) (fits words.ListOpen (look names (t ∷ xs)) && first family.Params (look names xs)) _
             (both (fits words.NestOpen (look names (t ∷ xs))) (begins_declarator (look names xs) && not (fits words.Name (look names xs))) f (nameless_begins (look names xs) (look names (behind xs)) h)))
       ]
   declarator_front {xs = xs} (branch rule.DArray u b al (child {t = a} {cs = cs} d rest)) w =
@@ -201,7 +202,7 @@ module _ (names : Names) (may : List Token → List Token → Type 0) where
   way_end done m n = absurd (false≢true m)
   way_end (word {w = words.Name} f rest) m n = one_type_end rest m
   way_end (word {w = words.Modifier} {t = t} {xs = xs} f rest) m n = never_both (fits words.Name (look names (t ∷ xs))) (unnamed (fits words.Modifier) refl (look names (t ∷ xs)) f) n
-  way_end (word {w = words.Basic} {t = t} {xs = xs} f rest) m n = never_both (fits words.Name (look names (t ∷ xs))) (unnamed (fits words.Basic) refl (look names (t ∷ xs)) f) n
+  way_end (word {w = words.One class.Basic} {t = t} {xs = xs} f rest) m n = never_both (fits words.Name (look names (t ∷ xs))) (unnamed (same_class class.Basic) refl (look names (t ∷ xs)) f) n
   way_end (word f rest) m n = absurd (false≢true m)
   way_end {xs = xs} (child {k = kind.Tag} d rest) m n = never_both (fits words.Name (look names xs)) (unnamed begins_tag refl (look names xs) (tree_first names may d refl)) n
   way_end (child d rest) m n = absurd (false≢true m)

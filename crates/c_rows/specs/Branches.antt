@@ -12,7 +12,7 @@ use Rattle.c_rows.specs.Tokens.{is_named, is_storage}
 use Rattle.c_rows.specs.declared.word.Word.TheVariants as word
 use Rattle.c_rows.specs.declared.symbol.Fork.{Fork}
 use Rattle.c_rows.specs.declared.symbol.Fork.TheVariants as fork
-use Rattle.c_rows.specs.Words.{fits, begins_tag}
+use Rattle.c_rows.specs.Words.{same_class, fits, begins_tag}
 use Rattle.c_rows.specs.declared.symbol.Symbol.TheVariants.{Child}
 use Rattle.c_rows.specs.Rows.{Row}
 use Rattle.c_rows.specs.declared.class.Class.{Class}
@@ -357,7 +357,7 @@ begins_declaration c = fits word.BasicOrModifier c || begins_tag c
 
 -- At the start of a statement, a label and an iterator begin exactly here.
 abbrev pub begins_label : Class → Bool
-begins_label c = fits word.LabelName c || fits word.IteratorName c
+begins_label c = same_class class.NameOfLabel c || fits word.IteratorName c
 
 abbrev pub begins_expr_stat : Class → Bool
 begins_expr_stat c = not (begins_declaration c) && not (begins_label c)
@@ -384,7 +384,7 @@ begins _ c = true
 
 -- Where the tokens behind let a row end at a fork: an If without an `else` does not stand directly before one.
 abbrev pub may_end : Fork → Class → Bool
-may_end fork.ElseOrNot c = not (fits word.Else c)
+may_end fork.ElseOrNot c = not (same_class class.Else c)
 may_end _ c = true
 
 -- Where the tokens behind let a row go on with a part of this kind: a declaration stands exactly where one begins, and a
@@ -392,8 +392,8 @@ may_end _ c = true
 abbrev pub may_stand : Fork → Kind → Class → Bool
 may_stand fork.ForInit kind.Expr c = not (begins_declaration c)
 may_stand f kind.Decl c = begins_declaration c
-may_stand f kind.PatNest c = begins_dots c && not (fits word.Dots c)
-may_stand f kind.Block c = fits word.LeftBrace c
+may_stand f kind.PatNest c = begins_dots c && not (same_class class.Dots c)
+may_stand f kind.Block c = same_class class.LeftBrace c
 may_stand f kind.Statement c = not (begins_declaration c) && not (begins_dots c)
 may_stand f _ c = true
 

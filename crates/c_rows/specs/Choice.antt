@@ -13,7 +13,7 @@ use Rattle.c_rows.specs.declared.rule.Rule.TheVariants as rule
 use Rattle.c_rows.specs.declared.symbol.Symbol.TheVariants.{Word, Child, Argument, Fork}
 use Rattle.c_rows.specs.declared.symbol.Fork as forks
 use Rattle.c_rows.specs.declared.symbol.Fork.TheVariants as fork
-use Rattle.c_rows.specs.Words.{fits, begins_tag, begins_specs, ends_member}
+use Rattle.c_rows.specs.Words.{begins_by_keyword, same_class, fits, begins_tag, begins_specs, ends_member}
 use Rattle.c_rows.specs.Kinds.{family_of, same_family, within}
 use Rattle.c_rows.specs.Branches.{kind_of, begins, begins_macro, begins_declaration, begins_dots, may_go}
 use Rattle.c_rows.specs.Rows.{Row, row, ways}
@@ -34,7 +34,7 @@ begins_expression class.StrOfString = true
 begins_expression class.SizeofExpr = true
 begins_expression class.SizeofType = true
 begins_expression class.PatOpen = true
-begins_expression c = fits word.AnyOpen c || fits word.Step c || fits word.Prefix c
+begins_expression c = fits word.AnyOpen c || same_class class.Step c || fits word.Prefix c
 
 abbrev pub begins_declarator : Class → Bool
 begins_declarator class.Star = true
@@ -44,20 +44,9 @@ begins_declarator c = fits word.Name c || fits word.AnyOpen c
 abbrev pub begins_statement : Class → Bool
 begins_statement class.Semicolon = true
 begins_statement class.LeftBrace = true
-begins_statement class.If = true
-begins_statement class.While = true
-begins_statement class.Do = true
-begins_statement class.For = true
-begins_statement class.Switch = true
-begins_statement class.Case = true
-begins_statement class.Default = true
-begins_statement class.Return = true
-begins_statement class.Goto = true
-begins_statement class.Break = true
-begins_statement class.Continue = true
 begins_statement class.Stmt = true
 begins_statement class.PatOpenOfStatements = true
-begins_statement c = begins_dots c || begins_expression c
+begins_statement c = begins_by_keyword c || begins_dots c || begins_expression c
 
 -- a list of statements ends before this class
 abbrev pub ends_list : Class → Bool
@@ -75,7 +64,7 @@ begins_designator _ = false
 -- A tree of the family may begin with this class. Where it may have no token, these are also the classes behind it.
 abbrev pub first : Family → Class → Bool
 first family.Expression c = begins_expression c
-first family.Args c = begins_expression c || begins_specs c || fits word.ArgRun c || fits word.Close c
+first family.Args c = begins_expression c || begins_specs c || fits word.ArgRun c || same_class class.Close c
 first family.TypeArg c = begins_specs c
 first family.TypeName c = begins_specs c
 first family.Specs c = begins_specs c
@@ -83,17 +72,17 @@ first family.Param c = begins_specs c
 first family.Tag c = begins_tag c
 first family.Field c = begins_specs c && not (begins_macro c)
 first family.MacroItem c = begins_macro c
-first family.NamelessBits c = fits word.Colon c
+first family.NamelessBits c = same_class class.Colon c
 first family.Declarator c = begins_declarator c
-first family.Params c = begins_specs c || fits word.ParamRun c || fits word.Ellipsis c || fits word.Close c
-first family.InitList c = fits word.LeftBrace c
+first family.Params c = begins_specs c || fits word.ParamRun c || same_class class.Ellipsis c || same_class class.Close c
+first family.InitList c = same_class class.LeftBrace c
 first family.InitItem c = begins_designator c
 first family.Designator c = begins_designator c
 first family.Enumerator c = fits word.Name c
 first family.Decl c = begins_specs c
 first family.Statement c = begins_statement c
 first family.StmtList c = begins_statement c || begins_declaration c || ends_list c
-first family.External c = begins_specs c || begins_macro c || fits word.Semicolon c
+first family.External c = begins_specs c || begins_macro c || same_class class.Semicolon c
 
 -- ---- forks
 
@@ -125,20 +114,20 @@ stops_fork fork.FirstString c = not (fits word.Str c) && not (fits word.Name c)
 stops_fork fork.SecondString c = not (fits word.Str c) && not (fits word.Name c)
 stops_fork fork.AfterString c = not (fits word.Str c) && not (fits word.Name c)
 stops_fork fork.AfterName c = not (fits word.Str c) && not (fits word.Name c)
-stops_fork fork.FirstArg c = fits word.Close c
-stops_fork fork.MoreArgs c = fits word.Close c
-stops_fork fork.NextArg c = fits word.Close c
+stops_fork fork.FirstArg c = same_class class.Close c
+stops_fork fork.MoreArgs c = same_class class.Close c
+stops_fork fork.NextArg c = same_class class.Close c
 stops_fork fork.Nameless c = ends_type c
 stops_fork fork.NoType c = not (fits word.BasicOrModifier c)
 stops_fork fork.BasicType c = not (fits word.BasicOrModifier c)
 stops_fork fork.OneType c = not (fits word.BasicOrModifier c)
-stops_fork fork.Pointee c = ends_declarator c || fits word.Equal c
+stops_fork fork.Pointee c = ends_declarator c || same_class class.Equal c
 stops_fork fork.InitValue c = ends_declarator c
 stops_fork fork.ListStatements c = ends_list c
 stops_fork fork.ListBehindDots c = ends_list c
-stops_fork fork.FirstParam c = fits word.Close c
-stops_fork fork.MoreParams c = fits word.Close c
-stops_fork fork.NextParam c = fits word.Close c
+stops_fork fork.FirstParam c = same_class class.Close c
+stops_fork fork.MoreParams c = same_class class.Close c
+stops_fork fork.NextParam c = same_class class.Close c
 stops_fork fork.ParamName c = ends_member c
 stops_fork fork.MoreDesignators c = ends_item c
 stops_fork fork.ItemValue c = ends_item c
@@ -280,13 +269,13 @@ full _ = true
 -- the classes that may follow a tree of the widest kind
 abbrev pub top : Family → Class → Bool
 top family.Expression c = not (fits word.Str c) && not (fits word.Name c)
-top family.Args c = fits word.Close c
+top family.Args c = same_class class.Close c
 top family.TypeArg c = ends_member c
 top family.TypeName c = ends_type c
 top family.Specs c = not (fits word.BasicOrModifier c)
 top family.NamelessBits c = ends_field c
 top family.Declarator c = ends_declarator c
-top family.Params c = fits word.Close c
+top family.Params c = same_class class.Close c
 top family.Param c = ends_member c
 top family.InitItem c = ends_item c
 top family.Enumerator c = ends_item c

@@ -1,9 +1,10 @@
 -- What public contracts rest on, in reading order.
 
 pub mod Limits
+pub mod Texts
 pub mod Tokens
-pub mod Look
 pub mod Words
+pub mod Look
 pub mod Kinds
 pub mod Rows
 pub mod Branches

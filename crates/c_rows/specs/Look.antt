@@ -1,6 +1,5 @@
 -- The class of the front of a list of tokens: which names are types, and what a bracket begins.
 use Rattle.std.specs.Prelude.{ℕ, zero, suc, ◌+◌, ◌-◌, ◌==◌, Bool, true, false, not, ◌&&◌, ◌||◌, if◌then◌else◌, List, [], ◌∷◌, codes}
-use Rattle.std.specs.Str.{bytes_eq}
 use Rattle.c_terms.specs.Names.{has_name}
 use Rattle.c_terms.specs.declared.token.Token.{Token}
 use Rattle.c_terms.specs.declared.token.TokenKind.{TokenKind}
@@ -11,7 +10,9 @@ use Rattle.c_rows.specs.declared.class.Class.{Class}
 use Rattle.c_rows.specs.declared.class.Class.TheVariants as class
 use Rattle.c_rows.specs.declared.branches.Group.{Group}
 use Rattle.c_rows.specs.declared.branches.Group.TheVariants as groups
-use Rattle.c_rows.specs.Tokens.{is_named, is_string, is_word, holds_for_each, is_sign, is_pat, is_basic, is_qualifier, is_function, is_storage_text, is_struct, is_enum, is_type_word, follows_cast}
+use Rattle.c_rows.specs.Texts.{keywords, signs, pattern_signs, class_in}
+use Rattle.c_rows.specs.Words.{begins_by_keyword}
+use Rattle.c_rows.specs.Tokens.{is_named, is_string, is_word, holds_for_each, is_sign, is_pat, is_type_word, follows_cast}
 
 -- names that stand for types
 abbrev pub Names : Type 0
@@ -115,27 +116,6 @@ abbrev pub alignof : Names → List Token → Class
 alignof names [] = class.Other
 alignof names (t ∷ ts) = if is_sign t (codes "(") && begins_type names ts then class.SizeofType else class.Other
 
--- the keywords that are of one class whatever follows
-abbrev pub keywords : List (List ℕ × Class)
-keywords =
-    (codes "if", class.If)
-    ∷ (codes "else", class.Else)
-    ∷ (codes "while", class.While)
-    ∷ (codes "do", class.Do)
-    ∷ (codes "for", class.For)
-    ∷ (codes "switch", class.Switch)
-    ∷ (codes "case", class.Case)
-    ∷ (codes "default", class.Default)
-    ∷ (codes "return", class.Return)
-    ∷ (codes "goto", class.Goto)
-    ∷ (codes "break", class.Break)
-    ∷ (codes "continue", class.Continue) ∷ []
-
--- the class that the list gives the text
-abbrev pub class_in : List (List ℕ × Class) → List ℕ → Class
-class_in [] s = class.Other
-class_in (w ∷ ws) s = if bytes_eq s w.0 then w.1 else class_in ws s
-
 -- `{`, or a name and `{`
 abbrev pub has_members : List Token → Bool
 has_members [] = false
@@ -148,17 +128,17 @@ storage class.NameOfCall = class.StorageOfMacro
 storage class.NameOfIterator = class.StorageOfMacro
 storage _ = class.Storage
 
+-- what the tokens behind tell of a keyword
+abbrev pub keyword_before : Names → List Token → Class → Class → Class
+keyword_before names ts next class.Storage = storage next
+keyword_before names ts next class.Struct = if has_members ts then class.StructBody else class.Struct
+keyword_before names ts next class.Enum = if has_members ts then class.EnumBody else class.Enum
+keyword_before names ts next class.SizeofExpr = sizeof names ts
+keyword_before names ts next class.SizeofType = alignof names ts
+keyword_before names ts next c = c
+
 abbrev pub keyword : Names → List ℕ → List Token → Class → Class
-keyword names s ts next =
-    if is_basic s then class.Basic
-    else (if is_qualifier s then class.Qualifier
-    else (if is_storage_text s then storage next
-    else (if is_function s then class.Function
-    else (if is_struct s then (if has_members ts then class.StructBody else class.Struct)
-    else (if is_enum s then (if has_members ts then class.EnumBody else class.Enum)
-    else (if bytes_eq s (codes "sizeof") then sizeof names ts
-    else (if bytes_eq s (codes "_Alignof") then alignof names ts
-    else class_in keywords s)))))))
+keyword names s ts next = keyword_before names ts next (class_in keywords s)
 
 -- ---- a name
 
@@ -213,43 +193,14 @@ typ ts = if at_sign ts (codes "*") || at_sign ts (codes "(") || at_sign ts (code
 abbrev pub question : List Token → Class
 question ts = if at_sign ts (codes ":") then class.ShortQuestion else class.Question
 
-abbrev pub operator : List ℕ → Class
-operator s =
-    if bytes_eq s (codes "++") || bytes_eq s (codes "--") then class.Step
-    else (if bytes_eq s (codes "==") || bytes_eq s (codes "!=") then class.Equality
-    else (if bytes_eq s (codes "<") || bytes_eq s (codes ">") || bytes_eq s (codes "<=") || bytes_eq s (codes ">=") then class.Order
-    else (if bytes_eq s (codes "&&") then class.AndAnd
-    else (if bytes_eq s (codes "||") then class.OrOr
-    else (if bytes_eq s (codes "|") then class.Or
-    else (if bytes_eq s (codes "^") then class.Xor
-    else (if bytes_eq s (codes "/") || bytes_eq s (codes "%") then class.Slash
-    else (if bytes_eq s (codes "<<") || bytes_eq s (codes ">>") then class.Shift
-    else (if bytes_eq s (codes "*=") || bytes_eq s (codes "/=") || bytes_eq s (codes "%=") || bytes_eq s (codes "+=")
-    || bytes_eq s (codes "-=") || bytes_eq s (codes "<<=") || bytes_eq s (codes ">>=") || bytes_eq s (codes "&=")
-    || bytes_eq s (codes "^=") || bytes_eq s (codes "|=") then class.Assign
-    else class.Other)))))))))
+-- what the tokens behind tell of a punctuator
+abbrev pub sign_before : Names → List Token → Class → Class
+sign_before names ts class.ParenNest = bracket names ts
+sign_before names ts class.Question = question ts
+sign_before names ts c = c
 
 abbrev pub sign : Names → List ℕ → List Token → Class
-sign names s ts =
-    if bytes_eq s (codes "(") then bracket names ts
-    else (if bytes_eq s (codes ")") then class.Close
-    else (if bytes_eq s (codes ",") then class.Comma
-    else (if bytes_eq s (codes ";") then class.Semicolon
-    else (if bytes_eq s (codes "->") then class.Arrow
-    else (if bytes_eq s (codes ".") then class.Dot
-    else (if bytes_eq s (codes "=") then class.Equal
-    else (if bytes_eq s (codes "[") then class.LeftBracket
-    else (if bytes_eq s (codes "]") then class.RightBracket
-    else (if bytes_eq s (codes "{") then class.LeftBrace
-    else (if bytes_eq s (codes "}") then class.RightBrace
-    else (if bytes_eq s (codes "*") then class.Star
-    else (if bytes_eq s (codes "&") then class.And
-    else (if bytes_eq s (codes "+") || bytes_eq s (codes "-") then class.Plus
-    else (if bytes_eq s (codes "!") || bytes_eq s (codes "~") then class.Not
-    else (if bytes_eq s (codes "?") then question ts
-    else (if bytes_eq s (codes ":") then class.Colon
-    else (if bytes_eq s (codes "...") then class.Ellipsis
-    else operator s)))))))))))))))))
+sign names s ts = sign_before names ts (class_in signs s)
 
 abbrev pub metavariable : Names → MetaKind → List ℕ → List Token → Class
 metavariable names meta.Expr s ts = class.Operand
@@ -301,17 +252,6 @@ begins_statements class.LeftBrace = true
 begins_statements class.NameOfLabel = true
 begins_statements class.NameOfIterator = true
 begins_statements class.NameOfStarIterator = true
-begins_statements class.If = true
-begins_statements class.While = true
-begins_statements class.Do = true
-begins_statements class.For = true
-begins_statements class.Switch = true
-begins_statements class.Case = true
-begins_statements class.Default = true
-begins_statements class.Return = true
-begins_statements class.Goto = true
-begins_statements class.Break = true
-begins_statements class.Continue = true
 begins_statements class.Dots = true
 begins_statements class.Stmt = true
 begins_statements class.PatOpenOfStatements = true
@@ -321,23 +261,21 @@ begins_statements class.PatBar = true
 begins_statements class.PatAmp = true
 begins_statements class.PatClose = true
 begins_statements class.PatNestClose = true
-begins_statements _ = false
+begins_statements c = begins_by_keyword c
 
 -- The first branch of a PatOr or PatAnd, or what a PatNest has, is a list of statements: it is empty, or begins as no
 -- expression does, or has a `;`.
 abbrev pub is_of_statements : Bool → Class → Bool
 is_of_statements semicolon next = begins_statements next || semicolon
 
+-- what stands behind a sign of patterns: statements or an expression
+abbrev pub pattern_before : Bool → Class → Class
+pattern_before statements class.PatOpen = if statements then class.PatOpenOfStatements else class.PatOpen
+pattern_before statements class.PatNestOfExpression = if statements then class.PatNestOfStatements else class.PatNestOfExpression
+pattern_before statements c = c
+
 abbrev pub pattern : List ℕ → Bool → Class → Class
-pattern s semicolon next =
-    if bytes_eq s (codes "\\(") then (if is_of_statements semicolon next then class.PatOpenOfStatements else class.PatOpen)
-    else (if bytes_eq s (codes "\\|") then class.PatBar
-    else (if bytes_eq s (codes "\\&") then class.PatAmp
-    else (if bytes_eq s (codes "\\)") then class.PatClose
-    else (if bytes_eq s (codes "<...") || bytes_eq s (codes "<+...")
-    then (if is_of_statements semicolon next then class.PatNestOfStatements else class.PatNestOfExpression)
-    else (if bytes_eq s (codes "...>") || bytes_eq s (codes "...+>") then class.PatNestClose
-    else class.Other)))))
+pattern s semicolon next = pattern_before (is_of_statements semicolon next) (class_in pattern_signs s)
 
 abbrev pub class_of : Names → TokenKind → List ℕ → List Token → Class → Class
 class_of names token.Name s ts next = name names s ts

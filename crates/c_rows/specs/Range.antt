@@ -10,7 +10,7 @@ use Rattle.c_rows.specs.declared.word.Word.TheVariants as word
 use Rattle.c_rows.specs.declared.kind.Kind.TheVariants as kind
 use Rattle.c_rows.specs.declared.kind.Family.TheVariants as family
 use Rattle.c_rows.specs.Tokens.{is_sign}
-use Rattle.c_rows.specs.Words.{fits, begins_specs, ends_member}
+use Rattle.c_rows.specs.Words.{same_class, fits, begins_specs, ends_member}
 use Rattle.c_rows.specs.Look.{Names, look}
 use Rattle.c_rows.specs.Seen.{Seen, front}
 use Rattle.c_rows.specs.Spells.{Spells}
@@ -27,7 +27,7 @@ leads_member t = is_sign t (codes "(") || is_sign t (codes ",")
 -- declarator that is no name.
 abbrev pub begins_nameless : Class → Class → Bool
 begins_nameless c d =
-    fits word.Star c || fits word.LeftBracket c || fits word.ListOpen c && first family.Params d
+    same_class class.Star c || same_class class.LeftBracket c || fits word.ListOpen c && first family.Params d
     || fits word.NestOpen c && (begins_declarator d && not (fits word.Name d))
 
 -- behind a name that is a type: a modifier, the end of a member, or a declarator without a name

@@ -6,6 +6,9 @@ use Rattle.c_terms.specs.declared.token.Token.{Token}
 use Rattle.c_terms.specs.declared.token.TokenKind.{TokenKind}
 use Rattle.c_terms.specs.declared.token.TokenKind.TheVariants as token
 use Rattle.c_terms.specs.declared.token.MetaKind.TheVariants as meta
+use Rattle.c_rows.specs.declared.class.Class.{Class}
+use Rattle.c_rows.specs.declared.class.Class.TheVariants as class
+use Rattle.c_rows.specs.Texts.{keywords, class_in}
 
 -- a name, or a metavariable for one
 abbrev pub named_kind : TokenKind → Bool
@@ -31,43 +34,28 @@ is_punct_kind _ = false
 abbrev pub is_sign : Token → List ℕ → Bool
 is_sign t text = is_punct_kind t.kind && bytes_eq t.text text
 
--- the words of a basic type (C11 6.7.2)
-abbrev pub is_basic : List ℕ → Bool
-is_basic s =
-    bytes_eq s (codes "int") || bytes_eq s (codes "void") || bytes_eq s (codes "char") || bytes_eq s (codes "unsigned")
-    || bytes_eq s (codes "long") || bytes_eq s (codes "short") || bytes_eq s (codes "signed") || bytes_eq s (codes "float")
-    || bytes_eq s (codes "double") || bytes_eq s (codes "_Bool") || bytes_eq s (codes "_Complex")
-
--- the qualifiers of a type (C11 6.7.3), without `_Atomic`
-abbrev pub is_qualifier : List ℕ → Bool
-is_qualifier s = bytes_eq s (codes "const") || bytes_eq s (codes "volatile") || bytes_eq s (codes "restrict")
-
--- the function specifiers (C11 6.7.4)
-abbrev pub is_function : List ℕ → Bool
-is_function s = bytes_eq s (codes "inline") || bytes_eq s (codes "_Noreturn")
-
--- the storage words (C11 6.7.1)
-abbrev pub is_storage_text : List ℕ → Bool
-is_storage_text s =
-    bytes_eq s (codes "static") || bytes_eq s (codes "extern") || bytes_eq s (codes "typedef")
-    || bytes_eq s (codes "register") || bytes_eq s (codes "auto") || bytes_eq s (codes "_Thread_local")
+-- the words of storage (C11 6.7.1)
+abbrev pub is_storage_class : Class → Bool
+is_storage_class class.Storage = true
+is_storage_class _ = false
 
 abbrev pub storage_kind : TokenKind → List ℕ → Bool
-storage_kind token.Keyword s = is_storage_text s
+storage_kind token.Keyword s = is_storage_class (class_in keywords s)
 storage_kind _ s = false
 
 abbrev pub is_storage : Token → Bool
 is_storage t = storage_kind t.kind t.text
 
--- the words of a tag
-abbrev pub is_struct : List ℕ → Bool
-is_struct s = bytes_eq s (codes "struct") || bytes_eq s (codes "union")
-
-abbrev pub is_enum : List ℕ → Bool
-is_enum s = bytes_eq s (codes "enum")
+-- a word of a basic type, a qualifier or a tag's word
+abbrev pub is_type_class : Class → Bool
+is_type_class class.Basic = true
+is_type_class class.Qualifier = true
+is_type_class class.Struct = true
+is_type_class class.Enum = true
+is_type_class _ = false
 
 abbrev pub type_word_kind : TokenKind → List ℕ → Bool
-type_word_kind token.Keyword s = is_basic s || is_qualifier s || is_struct s || is_enum s
+type_word_kind token.Keyword s = is_type_class (class_in keywords s)
 type_word_kind (token.Meta meta.Typ) s = true
 type_word_kind _ s = false
 

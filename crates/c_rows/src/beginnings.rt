@@ -3,7 +3,7 @@ ghost use Rattle.std.specs.Prelude.{◌≡◌};
 ghost use Rattle.c_rows.specs.Choice as choice;
 ghost use Rattle.c_rows.specs.Words as words;
 
-use crate::{Class, Family, Word, begins_declaration, begins_dots, begins_macro, fits};
+use crate::{Class, Family, Word, begins_declaration, begins_dots, begins_macro, fits, same_class};
 
 /// An expression may begin with this class.
 pub fn begins_expression(class: Class) -> bool
@@ -21,7 +21,9 @@ pub fn begins_expression(class: Class) -> bool
         | Class::Str
         | Class::StrOfString => true,
         Class::SizeofExpr | Class::SizeofType | Class::PatOpen => true,
-        _ => fits(Word::AnyOpen, class) || fits(Word::Step, class) || fits(Word::Prefix, class),
+        _ => fits(Word::AnyOpen, class)
+            || same_class(Class::Step, class)
+            || fits(Word::Prefix, class),
     }
 }
 
@@ -45,24 +47,25 @@ pub fn begins_specs(class: Class) -> bool
     }
 }
 
+/// A keyword with which a statement begins.
+pub fn begins_by_keyword(class: Class) -> bool
+    ensures value { result ≡ words.begins_by_keyword class }
+{
+    match class {
+        Class::If | Class::While | Class::Do | Class::For | Class::Switch => true,
+        Class::Case | Class::Default | Class::Return | Class::Goto => true,
+        Class::Break | Class::Continue => true,
+        _ => false,
+    }
+}
+
 /// A statement other than a declaration may begin with this class.
 fn begins_statement(class: Class) -> bool
     ensures { result ≡ choice.begins_statement class }
 {
     match class {
-        Class::Semicolon
-        | Class::LeftBrace
-        | Class::If
-        | Class::While
-        | Class::Do
-        | Class::For
-        | Class::Switch
-        | Class::Case
-        | Class::Default
-        | Class::Return
-        | Class::Goto => true,
-        Class::Break | Class::Continue | Class::Stmt | Class::PatOpenOfStatements => true,
-        _ => begins_dots(class) || begins_expression(class),
+        Class::Semicolon | Class::LeftBrace | Class::Stmt | Class::PatOpenOfStatements => true,
+        _ => begins_by_keyword(class) || begins_dots(class) || begins_expression(class),
     }
 }
 
@@ -86,21 +89,21 @@ pub fn first(family: Family, class: Class) -> bool
             begins_expression(class)
                 || begins_specs(class)
                 || fits(Word::ArgRun, class)
-                || fits(Word::Close, class)
+                || same_class(Class::Close, class)
         }
         Family::TypeArg | Family::TypeName | Family::Specs | Family::Param => begins_specs(class),
         Family::Tag => begins_tag(class),
         Family::Field => begins_specs(class) && !begins_macro(class),
         Family::MacroItem => begins_macro(class),
-        Family::NamelessBits => fits(Word::Colon, class),
+        Family::NamelessBits => same_class(Class::Colon, class),
         Family::Declarator => begins_declarator(class),
         Family::Params => {
             begins_specs(class)
                 || fits(Word::ParamRun, class)
-                || fits(Word::Ellipsis, class)
-                || fits(Word::Close, class)
+                || same_class(Class::Ellipsis, class)
+                || same_class(Class::Close, class)
         }
-        Family::InitList => fits(Word::LeftBrace, class),
+        Family::InitList => same_class(Class::LeftBrace, class),
         Family::InitItem | Family::Designator => matches!(class, Class::Dot | Class::LeftBracket),
         Family::Enumerator => fits(Word::Name, class),
         Family::Decl => begins_specs(class),
@@ -109,7 +112,7 @@ pub fn first(family: Family, class: Class) -> bool
             begins_statement(class) || begins_declaration(class) || ends_list(class)
         }
         Family::External => {
-            begins_specs(class) || begins_macro(class) || fits(Word::Semicolon, class)
+            begins_specs(class) || begins_macro(class) || same_class(Class::Semicolon, class)
         }
     }
 }

@@ -2,9 +2,10 @@
 ghost use Rattle.std.specs.Prelude.{◌≡◌};
 ghost use Rattle.c_rows.specs.Look as ahead;
 
-use crate::Class;
 use crate::brackets::{is_closing, is_opening};
-use crate::words::{is, is_pat, is_sign};
+use crate::texts::pattern_class;
+use crate::words::{is_pat, is_sign};
+use crate::{Class, begins_by_keyword};
 use c_terms::Token;
 
 /// An opening bracket, `\(`, `<...` or `<+...`.
@@ -67,14 +68,12 @@ fn begins_statements(class: Class) -> bool
     match class {
         Class::LeftBrace | Class::NameOfLabel | Class::NameOfIterator | Class::NameOfStarIterator =>
             true,
-        Class::If | Class::While | Class::Do | Class::For | Class::Switch => true,
-        Class::Case | Class::Default | Class::Return | Class::Goto => true,
-        Class::Break | Class::Continue | Class::Dots | Class::Stmt => true,
+        Class::Dots | Class::Stmt => true,
         Class::PatOpenOfStatements | Class::PatNestOfExpression | Class::PatNestOfStatements => {
             true
         }
         Class::PatBar | Class::PatAmp | Class::PatClose | Class::PatNestClose => true,
-        _ => false,
+        _ => begins_by_keyword(class),
     }
 }
 
@@ -89,27 +88,10 @@ fn is_of_statements(semicolon: bool, next: Class) -> bool
 pub fn pattern(text: &[u8], semicolon: bool, next: Class) -> Class
     ensures { result ≡ ahead.pattern text.now semicolon next }
 {
-    if is(text, b"\\(") {
-        if is_of_statements(semicolon, next) {
-            Class::PatOpenOfStatements
-        } else {
-            Class::PatOpen
-        }
-    } else if is(text, b"\\|") {
-        Class::PatBar
-    } else if is(text, b"\\&") {
-        Class::PatAmp
-    } else if is(text, b"\\)") {
-        Class::PatClose
-    } else if is(text, b"<...") || is(text, b"<+...") {
-        if is_of_statements(semicolon, next) {
-            Class::PatNestOfStatements
-        } else {
-            Class::PatNestOfExpression
-        }
-    } else if is(text, b"...>") || is(text, b"...+>") {
-        Class::PatNestClose
-    } else {
-        Class::Other
+    match pattern_class(text) {
+        Class::PatOpen if is_of_statements(semicolon, next) => Class::PatOpenOfStatements,
+        Class::PatNestOfExpression if is_of_statements(semicolon, next) =>
+            Class::PatNestOfStatements,
+        class => class,
     }
 }

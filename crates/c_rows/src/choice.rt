@@ -5,7 +5,7 @@ ghost use Rattle.c_rows.specs.declared.kind.Family.TheVariants as families;
 
 use crate::{
     Class, Family, Fork, Kind, Rule, Symbol, Word, begins, begins_expression, begins_specs,
-    ends_list, ends_member, family_of, first, fits, may_go, row, ways,
+    ends_list, ends_member, family_of, first, fits, may_go, row, same_class, ways,
 };
 
 /// A declarator ends before this class.
@@ -31,13 +31,13 @@ fn stops(fork: Fork, class: Class) -> bool
         Fork::FirstString | Fork::SecondString | Fork::AfterString | Fork::AfterName => {
             !fits(Word::Str, class) && !fits(Word::Name, class)
         }
-        Fork::FirstArg | Fork::MoreArgs | Fork::NextArg => fits(Word::Close, class),
+        Fork::FirstArg | Fork::MoreArgs | Fork::NextArg => same_class(Class::Close, class),
         Fork::Nameless => matches!(class, Class::Close | Class::Comma | Class::End),
         Fork::NoType | Fork::BasicType | Fork::OneType => !fits(Word::BasicOrModifier, class),
-        Fork::Pointee => ends_declarator(class) || fits(Word::Equal, class),
+        Fork::Pointee => ends_declarator(class) || same_class(Class::Equal, class),
         Fork::InitValue => ends_declarator(class),
         Fork::ListStatements | Fork::ListBehindDots => ends_list(class),
-        Fork::FirstParam | Fork::MoreParams | Fork::NextParam => fits(Word::Close, class),
+        Fork::FirstParam | Fork::MoreParams | Fork::NextParam => same_class(Class::Close, class),
         Fork::ParamName => ends_member(class),
         Fork::MoreDesignators | Fork::ItemValue => matches!(
             class,

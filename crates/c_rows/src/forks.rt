@@ -2,7 +2,7 @@
 ghost use Rattle.std.specs.Prelude.{◌≡◌, map};
 ghost use Rattle.c_rows.specs.Rows as rows;
 
-use crate::{Fork, Kind, Symbol, Word};
+use crate::{Class, Fork, Kind, Symbol, Word};
 
 /// The ways in which a row may go on at the fork.
 pub fn ways(fork: Fork) -> &'static [&'static [Symbol]]
@@ -31,7 +31,7 @@ pub fn ways(fork: Fork) -> &'static [&'static [Symbol]]
             row![word ArgRun, fork MoreArgs],
             row![],
         ],
-        Fork::MoreArgs => &[row![word Comma, fork NextArg], row![]],
+        Fork::MoreArgs => &[row![one Comma, fork NextArg], row![]],
         Fork::NextArg => &[
             row![any Argument, fork MoreArgs],
             row![word ArgRun, fork MoreArgs],
@@ -39,16 +39,16 @@ pub fn ways(fork: Fork) -> &'static [&'static [Symbol]]
 
         // two or more branches, all parted by `\|` or all by `\&`
         Fork::FirstBranch => &[
-            row![word PatBar, child Expr, fork MoreOr],
-            row![word PatAmp, child Expr, fork MoreAnd],
+            row![one PatBar, child Expr, fork MoreOr],
+            row![one PatAmp, child Expr, fork MoreAnd],
         ],
         Fork::MoreOr => &[
-            row![word PatBar, child Expr, fork MoreOr],
-            row![word PatClose],
+            row![one PatBar, child Expr, fork MoreOr],
+            row![one PatClose],
         ],
         Fork::MoreAnd => &[
-            row![word PatAmp, child Expr, fork MoreAnd],
-            row![word PatClose],
+            row![one PatAmp, child Expr, fork MoreAnd],
+            row![one PatClose],
         ],
 
         // a declarator or none
@@ -57,7 +57,7 @@ pub fn ways(fork: Fork) -> &'static [&'static [Symbol]]
         // modifiers in any order, with exactly one type part: basic words, a tag or a name
         Fork::NoType => &[
             row![word Modifier, fork NoType],
-            row![word Basic, fork BasicType],
+            row![one Basic, fork BasicType],
             row![child Tag, fork OneType],
             row![word Name, fork OneType],
         ],
@@ -66,22 +66,22 @@ pub fn ways(fork: Fork) -> &'static [&'static [Symbol]]
 
         // a name or none, and the members
         Fork::StructName => &[
-            row![word Name, word LeftBrace, fork Members],
-            row![word LeftBrace, fork Members],
+            row![word Name, one LeftBrace, fork Members],
+            row![one LeftBrace, fork Members],
         ],
         Fork::Members => &[
             row![child Field, fork Members],
             row![child MacroItem, fork Members],
-            row![word RightBrace],
+            row![one RightBrace],
         ],
 
         // declarators and bits parted by commas, or none
         Fork::FirstField => &[
             row![child FieldDeclarator, fork MoreFields],
             row![child NamelessBits, fork MoreFields],
-            row![word Semicolon],
+            row![one Semicolon],
         ],
-        Fork::MoreFields => &[row![word Comma, fork NextField], row![word Semicolon]],
+        Fork::MoreFields => &[row![one Comma, fork NextField], row![one Semicolon]],
         Fork::NextField => &[
             row![child FieldDeclarator, fork MoreFields],
             row![child NamelessBits, fork MoreFields],
@@ -89,40 +89,40 @@ pub fn ways(fork: Fork) -> &'static [&'static [Symbol]]
 
         // a name or none, and enumerators parted by commas, with or without a last comma
         Fork::EnumName => &[
-            row![word Name, word LeftBrace, child Enumerator, fork MoreEnumerators],
-            row![word LeftBrace, child Enumerator, fork MoreEnumerators],
+            row![word Name, one LeftBrace, child Enumerator, fork MoreEnumerators],
+            row![one LeftBrace, child Enumerator, fork MoreEnumerators],
         ],
-        Fork::MoreEnumerators => &[row![word Comma, fork NextEnumerator], row![word RightBrace]],
+        Fork::MoreEnumerators => &[row![one Comma, fork NextEnumerator], row![one RightBrace]],
         Fork::NextEnumerator => &[
             row![child Enumerator, fork MoreEnumerators],
-            row![word RightBrace],
+            row![one RightBrace],
         ],
 
         // qualifiers, and a declarator or none
         Fork::Pointee => &[
-            row![word Qualifier, fork Pointee],
+            row![one Qualifier, fork Pointee],
             row![child Declarator],
             row![],
         ],
 
         // a size or none
         Fork::Size => &[
-            row![child CondLevel, word RightBracket],
-            row![word RightBracket],
+            row![child CondLevel, one RightBracket],
+            row![one RightBracket],
         ],
 
         // parameters parted by commas, or none; the last may be `...`
         Fork::FirstParam => &[
             row![child Param, fork MoreParams],
             row![word ParamRun, fork MoreParams],
-            row![word Ellipsis],
+            row![one Ellipsis],
             row![],
         ],
-        Fork::MoreParams => &[row![word Comma, fork NextParam], row![]],
+        Fork::MoreParams => &[row![one Comma, fork NextParam], row![]],
         Fork::NextParam => &[
             row![child Param, fork MoreParams],
             row![word ParamRun, fork MoreParams],
-            row![word Ellipsis],
+            row![one Ellipsis],
         ],
 
         // a declarator or none
@@ -133,44 +133,44 @@ pub fn ways(fork: Fork) -> &'static [&'static [Symbol]]
             row![child AssignLevel, fork MoreInits],
             row![child InitList, fork MoreInits],
             row![child InitItem, fork MoreInits],
-            row![word Comma, word RightBrace],
-            row![word RightBrace],
+            row![one Comma, one RightBrace],
+            row![one RightBrace],
         ],
-        Fork::MoreInits => &[row![word Comma, fork NextInit], row![word RightBrace]],
+        Fork::MoreInits => &[row![one Comma, fork NextInit], row![one RightBrace]],
         Fork::NextInit => &[
             row![child AssignLevel, fork MoreInits],
             row![child InitList, fork MoreInits],
             row![child InitItem, fork MoreInits],
-            row![word RightBrace],
+            row![one RightBrace],
         ],
 
         // further designators, `=`, and an expression or a list
         Fork::MoreDesignators => &[
             row![child Designator, fork MoreDesignators],
-            row![word Equal, fork ItemValue],
+            row![one Equal, fork ItemValue],
         ],
         Fork::ItemValue => &[row![child AssignLevel], row![child InitList]],
 
         // `]`, or `... e ]`
         Fork::AtEnd => &[
-            row![word RightBracket],
-            row![word Ellipsis, child CondLevel, word RightBracket],
+            row![one RightBracket],
+            row![one Ellipsis, child CondLevel, one RightBracket],
         ],
 
         // storage words, a name, its arguments
         Fork::MacroWords => &[
             row![word Storage, fork MacroWords],
-            row![word Name, word AnyOpen, child Args, word Close, word Semicolon],
+            row![word Name, word AnyOpen, child Args, one Close, one Semicolon],
         ],
 
         // declarators and initialisers parted by commas, or none
         Fork::FirstDeclarator => &[
             row![child InitDeclarator, fork MoreDeclarators],
-            row![word Semicolon],
+            row![one Semicolon],
         ],
         Fork::MoreDeclarators => &[
-            row![word Comma, child InitDeclarator, fork MoreDeclarators],
-            row![word Semicolon],
+            row![one Comma, child InitDeclarator, fork MoreDeclarators],
+            row![one Semicolon],
         ],
 
         // an expression or a list
@@ -180,48 +180,48 @@ pub fn ways(fork: Fork) -> &'static [&'static [Symbol]]
         Fork::BlockStatements => &[
             row![child Decl, fork BlockStatements],
             row![child Statement, fork BlockStatements],
-            row![word Dots, fork BlockBehindDots],
+            row![one Dots, fork BlockBehindDots],
             row![child PatNest, fork BlockBehindDots],
-            row![word RightBrace],
+            row![one RightBrace],
         ],
         Fork::BlockBehindDots => &[
             row![child Decl, fork BlockStatements],
             row![child Statement, fork BlockStatements],
-            row![word RightBrace],
+            row![one RightBrace],
         ],
 
         // `else` and a body, or not
-        Fork::ElseOrNot => &[row![word Else, child Body], row![]],
+        Fork::ElseOrNot => &[row![one Else, child Body], row![]],
 
         // what stands in the brackets, and a body
         Fork::ForInit => &[
             row![child Decl, fork ForTest],
-            row![child Expr, word Semicolon, fork ForTest],
-            row![word Semicolon, fork ForTest],
+            row![child Expr, one Semicolon, fork ForTest],
+            row![one Semicolon, fork ForTest],
         ],
         Fork::ForTest => &[
-            row![child Expr, word Semicolon, fork ForStep],
-            row![word Semicolon, fork ForStep],
+            row![child Expr, one Semicolon, fork ForStep],
+            row![one Semicolon, fork ForStep],
         ],
         Fork::ForStep => &[
-            row![child Expr, word Close, child Body],
-            row![word Close, child Body],
+            row![child Expr, one Close, child Body],
+            row![one Close, child Body],
         ],
 
         // `:`, or `... e :`
         Fork::CaseEnd => &[
-            row![word Colon],
-            row![word Ellipsis, child CondLevel, word Colon],
+            row![one Colon],
+            row![one Ellipsis, child CondLevel, one Colon],
         ],
 
         // an expression or none
-        Fork::ReturnValue => &[row![child Expr, word Semicolon], row![word Semicolon]],
+        Fork::ReturnValue => &[row![child Expr, one Semicolon], row![one Semicolon]],
 
         // declarations and statements, no two of `...` and PatNest side by side
         Fork::ListStatements => &[
             row![child Decl, fork ListStatements],
             row![child Statement, fork ListStatements],
-            row![word Dots, fork ListBehindDots],
+            row![one Dots, fork ListBehindDots],
             row![child PatNest, fork ListBehindDots],
             row![],
         ],
@@ -234,51 +234,51 @@ pub fn ways(fork: Fork) -> &'static [&'static [Symbol]]
         // declarators and initialisers parted by commas, or none; or behind the first a Block
         Fork::FirstExternal => &[
             row![child InitDeclarator, fork AfterExternal],
-            row![word Semicolon],
+            row![one Semicolon],
         ],
         Fork::AfterExternal => &[
-            row![word Comma, child InitDeclarator, fork MoreDeclarators],
-            row![word Semicolon],
+            row![one Comma, child InitDeclarator, fork MoreDeclarators],
+            row![one Semicolon],
             row![child Block],
         ],
 
         // storage words, a name, its arguments, and `;` or a Block
         Fork::MacroNames => &[
             row![word Storage, fork MacroNames],
-            row![word Name, word AnyOpen, child Args, word Close, fork MacroEnd],
+            row![word Name, word AnyOpen, child Args, one Close, fork MacroEnd],
         ],
-        Fork::MacroEnd => &[row![word Semicolon], row![child Block]],
+        Fork::MacroEnd => &[row![one Semicolon], row![child Block]],
 
         // two or more lists of statements, all parted by `\|` or all by `\&`
         Fork::FirstList => &[
-            row![word PatBar, child StmtList, fork MoreListsOr],
-            row![word PatAmp, child StmtList, fork MoreListsAnd],
+            row![one PatBar, child StmtList, fork MoreListsOr],
+            row![one PatAmp, child StmtList, fork MoreListsAnd],
         ],
         Fork::MoreListsOr => &[
-            row![word PatBar, child StmtList, fork MoreListsOr],
-            row![word PatClose],
+            row![one PatBar, child StmtList, fork MoreListsOr],
+            row![one PatClose],
         ],
         Fork::MoreListsAnd => &[
-            row![word PatAmp, child StmtList, fork MoreListsAnd],
-            row![word PatClose],
+            row![one PatAmp, child StmtList, fork MoreListsAnd],
+            row![one PatClose],
         ],
 
         // an expression, or declarations and statements as in a Block, and the sign that ends it
         Fork::NestStart => &[
-            row![word PatNestOfExpression, child Expr, word PatNestClose],
-            row![word PatNestOfStatements, fork NestStatements],
+            row![one PatNestOfExpression, child Expr, one PatNestClose],
+            row![one PatNestOfStatements, fork NestStatements],
         ],
         Fork::NestStatements => &[
             row![child Decl, fork NestStatements],
             row![child Statement, fork NestStatements],
-            row![word Dots, fork NestBehindDots],
+            row![one Dots, fork NestBehindDots],
             row![child PatNest, fork NestBehindDots],
-            row![word PatNestClose],
+            row![one PatNestClose],
         ],
         Fork::NestBehindDots => &[
             row![child Decl, fork NestStatements],
             row![child Statement, fork NestStatements],
-            row![word PatNestClose],
+            row![one PatNestClose],
         ],
     }
 }

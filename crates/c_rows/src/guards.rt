@@ -6,7 +6,7 @@ ghost use Rattle.c_rows.specs.declared.kind.Kind.TheVariants as kinds;
 
 use crate::{
     Class, Fork, Kind, Rule, Symbol, Word, begins_tag, declares_function, fits, is_block,
-    is_plain_type,
+    is_plain_type, same_class,
 };
 use c_terms::{Label, Tree};
 
@@ -115,7 +115,7 @@ fn may_end(fork: Fork, class: Class) -> bool
     ensures { result ≡ branches.may_end fork class }
 {
     match fork {
-        Fork::ElseOrNot => !fits(Word::Else, class),
+        Fork::ElseOrNot => !same_class(Class::Else, class),
         _ => true,
     }
 }
@@ -137,8 +137,8 @@ fn may_stand(fork: Fork, kind: Kind, class: Class) -> bool
     match kind {
         Kind::Expr => may_be_expression(fork, class),
         Kind::Decl => begins_declaration(class),
-        Kind::PatNest => begins_dots(class) && !fits(Word::Dots, class),
-        Kind::Block => fits(Word::LeftBrace, class),
+        Kind::PatNest => begins_dots(class) && !same_class(Class::Dots, class),
+        Kind::Block => same_class(Class::LeftBrace, class),
         Kind::Statement => !begins_declaration(class) && !begins_dots(class),
         _ => true,
     }

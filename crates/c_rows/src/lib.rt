@@ -19,8 +19,9 @@
 //! No call takes memory; none recurses but [`allows`], which walks down a declarator.
 #![tactic(auto)]
 
-/// `row![word Open, child Expr, word Close]` is a list of symbols.
+/// `row![word AnyOpen, child Expr, one Close]` is a list of symbols: a word that is a set of classes, a kind, a class.
 macro_rules! row {
+    (@one one $name:ident) => { Symbol::Word(Word::One(Class::$name)) };
     (@one word $name:ident) => { Symbol::Word(Word::$name) };
     (@one child $name:ident) => { Symbol::Child(Kind::$name) };
     (@one fork $name:ident) => { Symbol::Fork(Fork::$name) };
@@ -48,13 +49,15 @@ mod rows;
 mod rule;
 mod seen;
 mod symbol;
+mod texts;
 mod turn;
 mod word;
 mod words;
 
 pub use beginnings::ends_member;
 use beginnings::{
-    begins_declarator, begins_expression, begins_specs, begins_tag, ends_list, first,
+    begins_by_keyword, begins_declarator, begins_expression, begins_specs, begins_tag, ends_list,
+    first,
 };
 pub use branches::{Group, group_at};
 pub use choice::{choose, head, left, own, tail};
@@ -78,5 +81,6 @@ pub use rule::{Rule, kind_of};
 pub use seen::{Seen, front, front_typed, leads_member, member_kind};
 pub use symbol::{Fork, Symbol};
 pub use turn::{Turn, turn_at};
+use word::same_class;
 pub use word::{Word, fits};
 use words::{is_named, is_storage};

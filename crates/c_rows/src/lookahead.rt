@@ -6,9 +6,8 @@ use crate::Class;
 use crate::brackets::{alignof, at_name, at_sign, at_string, bracket, sizeof};
 use crate::branches::pattern;
 use crate::names::name;
-use crate::words::{
-    is, is_basic, is_enum, is_function, is_named, is_qualifier, is_sign, is_storage_text, is_struct,
-};
+use crate::texts::{keyword_class, sign_class};
+use crate::words::{is_named, is_sign};
 use c_terms::{MetaKind, Names, Token, TokenKind};
 
 /// Members follow the word of a tag.
@@ -31,69 +30,17 @@ fn storage(next: Class) -> Class
     }
 }
 
-/// The keywords that are of one class whatever follows.
-fn plain_keyword(text: &[u8]) -> Class
-    ensures { result ≡ ahead.class_in ahead.keywords text.now }
-{
-    if is(text, b"if") {
-        Class::If
-    } else if is(text, b"else") {
-        Class::Else
-    } else if is(text, b"while") {
-        Class::While
-    } else if is(text, b"do") {
-        Class::Do
-    } else if is(text, b"for") {
-        Class::For
-    } else if is(text, b"switch") {
-        Class::Switch
-    } else if is(text, b"case") {
-        Class::Case
-    } else if is(text, b"default") {
-        Class::Default
-    } else if is(text, b"return") {
-        Class::Return
-    } else if is(text, b"goto") {
-        Class::Goto
-    } else if is(text, b"break") {
-        Class::Break
-    } else if is(text, b"continue") {
-        Class::Continue
-    } else {
-        Class::Other
-    }
-}
-
 /// A keyword.
 fn keyword(names: &Names, text: &[u8], rest: &[Token], next: Class) -> Class
     ensures { result ≡ ahead.keyword names.now text.now rest.now next }
 {
-    if is_basic(text) {
-        Class::Basic
-    } else if is_qualifier(text) {
-        Class::Qualifier
-    } else if is_storage_text(text) {
-        storage(next)
-    } else if is_function(text) {
-        Class::Function
-    } else if is_struct(text) {
-        if has_members(rest) {
-            Class::StructBody
-        } else {
-            Class::Struct
-        }
-    } else if is_enum(text) {
-        if has_members(rest) {
-            Class::EnumBody
-        } else {
-            Class::Enum
-        }
-    } else if is(text, b"sizeof") {
-        sizeof(names, rest)
-    } else if is(text, b"_Alignof") {
-        alignof(names, rest)
-    } else {
-        plain_keyword(text)
+    match keyword_class(text) {
+        Class::Storage => storage(next),
+        Class::Struct if has_members(rest) => Class::StructBody,
+        Class::Enum if has_members(rest) => Class::EnumBody,
+        Class::SizeofExpr => sizeof(names, rest),
+        Class::SizeofType => alignof(names, rest),
+        class => class,
     }
 }
 
@@ -130,87 +77,14 @@ fn question(rest: &[Token]) -> Class
     }
 }
 
-/// The operators that are of one class whatever follows.
-fn operator(text: &[u8]) -> Class
-    ensures { result ≡ ahead.operator text.now }
-{
-    if is(text, b"++") || is(text, b"--") {
-        Class::Step
-    } else if is(text, b"==") || is(text, b"!=") {
-        Class::Equality
-    } else if is(text, b"<") || is(text, b">") || is(text, b"<=") || is(text, b">=") {
-        Class::Order
-    } else if is(text, b"&&") {
-        Class::AndAnd
-    } else if is(text, b"||") {
-        Class::OrOr
-    } else if is(text, b"|") {
-        Class::Or
-    } else if is(text, b"^") {
-        Class::Xor
-    } else if is(text, b"/") || is(text, b"%") {
-        Class::Slash
-    } else if is(text, b"<<") || is(text, b">>") {
-        Class::Shift
-    } else if is(text, b"*=")
-        || is(text, b"/=")
-        || is(text, b"%=")
-        || is(text, b"+=")
-        || is(text, b"-=")
-        || is(text, b"<<=")
-        || is(text, b">>=")
-        || is(text, b"&=")
-        || is(text, b"^=")
-        || is(text, b"|=")
-    {
-        Class::Assign
-    } else {
-        Class::Other
-    }
-}
-
 /// A punctuator.
 fn sign(names: &Names, text: &[u8], rest: &[Token]) -> Class
     ensures { result ≡ ahead.sign names.now text.now rest.now }
 {
-    if is(text, b"(") {
-        bracket(names, rest)
-    } else if is(text, b")") {
-        Class::Close
-    } else if is(text, b",") {
-        Class::Comma
-    } else if is(text, b";") {
-        Class::Semicolon
-    } else if is(text, b"->") {
-        Class::Arrow
-    } else if is(text, b".") {
-        Class::Dot
-    } else if is(text, b"=") {
-        Class::Equal
-    } else if is(text, b"[") {
-        Class::LeftBracket
-    } else if is(text, b"]") {
-        Class::RightBracket
-    } else if is(text, b"{") {
-        Class::LeftBrace
-    } else if is(text, b"}") {
-        Class::RightBrace
-    } else if is(text, b"*") {
-        Class::Star
-    } else if is(text, b"&") {
-        Class::And
-    } else if is(text, b"+") || is(text, b"-") {
-        Class::Plus
-    } else if is(text, b"!") || is(text, b"~") {
-        Class::Not
-    } else if is(text, b"?") {
-        question(rest)
-    } else if is(text, b":") {
-        Class::Colon
-    } else if is(text, b"...") {
-        Class::Ellipsis
-    } else {
-        operator(text)
+    match sign_class(text) {
+        Class::ParenNest => bracket(names, rest),
+        Class::Question => question(rest),
+        class => class,
     }
 }
 

@@ -5,6 +5,7 @@ ghost use Rattle.c_rows.specs.Range as range;
 
 use crate::{
     Class, Family, Seen, Word, begins_declarator, begins_specs, ends_member, first, fits, front,
+    same_class,
 };
 
 /// A declarator without a name may begin with these two classes: with `*` or `[`, with `(` of parameters, or with `(`
@@ -12,8 +13,8 @@ use crate::{
 fn begins_nameless(class: Class, next: Class) -> bool
     ensures { result ≡ range.begins_nameless class next }
 {
-    fits(Word::Star, class)
-        || fits(Word::LeftBracket, class)
+    same_class(Class::Star, class)
+        || same_class(Class::LeftBracket, class)
         || fits(Word::ListOpen, class) && first(Family::Params, next)
         || fits(Word::NestOpen, class) && (begins_declarator(next) && !fits(Word::Name, next))
 }

@@ -3,6 +3,8 @@ ghost use Rattle.std.specs.Prelude.{◌≡◌, codes};
 ghost use Rattle.std.specs.Str.{bytes_eq};
 ghost use Rattle.c_rows.specs.Tokens as tokens;
 
+use crate::Class;
+use crate::texts::keyword_class;
 use c_terms::{MetaKind, Token, TokenKind};
 
 /// Equal bytes.
@@ -43,71 +45,14 @@ pub fn is_sign(token: &Token, text: &[u8]) -> bool
     }
 }
 
-/// A word of a basic type (C11 6.7.2).
-pub fn is_basic(text: &[u8]) -> bool
-    ensures { result ≡ tokens.is_basic text.now }
-{
-    is(text, b"int")
-        || is(text, b"void")
-        || is(text, b"char")
-        || is(text, b"unsigned")
-        || is(text, b"long")
-        || is(text, b"short")
-        || is(text, b"signed")
-        || is(text, b"float")
-        || is(text, b"double")
-        || is(text, b"_Bool")
-        || is(text, b"_Complex")
-}
-
-/// A qualifier of a type (C11 6.7.3), without `_Atomic`.
-pub fn is_qualifier(text: &[u8]) -> bool
-    ensures { result ≡ tokens.is_qualifier text.now }
-{
-    is(text, b"const") || is(text, b"volatile") || is(text, b"restrict")
-}
-
-/// A function specifier (C11 6.7.4).
-pub fn is_function(text: &[u8]) -> bool
-    ensures { result ≡ tokens.is_function text.now }
-{
-    is(text, b"inline") || is(text, b"_Noreturn")
-}
-
-/// The text of a storage word (C11 6.7.1).
-pub fn is_storage_text(text: &[u8]) -> bool
-    ensures { result ≡ tokens.is_storage_text text.now }
-{
-    is(text, b"static")
-        || is(text, b"extern")
-        || is(text, b"typedef")
-        || is(text, b"register")
-        || is(text, b"auto")
-        || is(text, b"_Thread_local")
-}
-
 /// A storage word.
 pub fn is_storage(token: &Token) -> bool
     ensures value { result ≡ tokens.is_storage token.now }
 {
     match token.kind {
-        TokenKind::Keyword => is_storage_text(token.text.as_bytes()),
+        TokenKind::Keyword => matches!(keyword_class(token.text.as_bytes()), Class::Storage),
         _ => false,
     }
-}
-
-/// The words of a structure or a union.
-pub fn is_struct(text: &[u8]) -> bool
-    ensures { result ≡ tokens.is_struct text.now }
-{
-    is(text, b"struct") || is(text, b"union")
-}
-
-/// The word of an enumeration.
-pub fn is_enum(text: &[u8]) -> bool
-    ensures { result ≡ tokens.is_enum text.now }
-{
-    is(text, b"enum")
 }
 
 /// A token with which a type begins that is no name: a word of a basic type, a qualifier, a tag's word,
@@ -116,10 +61,10 @@ pub fn is_type_word(token: &Token) -> bool
     ensures { result ≡ tokens.is_type_word token.now }
 {
     match token.kind {
-        TokenKind::Keyword => {
-            let text = token.text.as_bytes();
-            is_basic(text) || is_qualifier(text) || is_struct(text) || is_enum(text)
-        }
+        TokenKind::Keyword => matches!(
+            keyword_class(token.text.as_bytes()),
+            Class::Basic | Class::Qualifier | Class::Struct | Class::Enum
+        ),
         TokenKind::Meta(MetaKind::Typ) => true,
         _ => false,
     }

@@ -1,6 +1,7 @@
 -- The rows take no Stray: no token of a tree is one.
 use Rattle.std.proofs.Common.{◌≡◌, ℕ, refl, List, [], ◌∷◌}
-use Rattle.std.specs.Prelude.{Bool, true, false, IsTrue}
+use Rattle.std.specs.Prelude.{Bool, true, false, not, ◌&&◌, IsTrue}
+use Rattle.std.specs.List.{list_all}
 use Rattle.c_terms.specs.declared.token.Token.{Token}
 use Rattle.c_terms.specs.declared.token.TokenKind.{TokenKind}
 use Rattle.c_terms.specs.declared.token.TokenKind.TheVariants as token
@@ -10,14 +11,18 @@ use Rattle.c_rows.specs.declared.class.Class.TheVariants as class
 use Rattle.c_rows.specs.declared.kind.Kind.{Kind}
 use Rattle.c_rows.specs.declared.kind.Family.{Family}
 use Rattle.c_rows.specs.declared.kind.Family.TheVariants as family
-use Rattle.c_rows.specs.declared.word.Word.{Word}
-use Rattle.c_rows.specs.declared.word.Word.TheVariants as words
+use Rattle.c_rows.specs.declared.rule.Rule.{Rule}
+use Rattle.c_rows.specs.declared.rule.Rule.TheVariants as rule
+use Rattle.c_rows.specs.declared.symbol.Symbol.TheVariants as symbol
+use Rattle.c_rows.specs.declared.symbol.Fork.{Fork}
+use Rattle.c_rows.specs.declared.symbol.Fork.TheVariants as forks
 use Rattle.c_rows.specs.Kinds.{family_of, has_leaf}
 use Rattle.c_rows.specs.Words.{fits}
-use Rattle.c_rows.specs.Rows.{Row}
+use Rattle.c_rows.specs.Rows.{Row, row, ways}
 use Rattle.c_rows.specs.Look.{Names, class_of, look}
 use Rattle.c_rows.specs.Derives.{Derives, leaf, branch, DerivesRow, done, word, child, argument, type_argument, fork}
 use Rattle.c_rows.specs.Trees.{IsTreeOf}
+use Rattle.c_rows.proofs.FirstChecks.{and_left, and_right, not_true, row_at}
 use Rattle.edit_unparse.specs.Fair.{is_stray}
 
 -- from the first list to the second no token is a Stray
@@ -47,9 +52,21 @@ leaf_other family.Enumerator = refl
 leaf_other family.Statement = refl
 leaf_other _ = refl
 
-word_other : (w : Word) → fits w class.Other ≡ false
-word_other words.Name = refl
-word_other _ = refl
+-- no part of the row is a token of class Other
+abbrev sure : Row → Bool
+sure [] = true
+sure (symbol.Word w ∷ ps) = not (fits w class.Other) && sure ps
+sure (symbol.Child k ∷ ps) = sure ps
+sure (symbol.Argument ∷ ps) = sure ps
+sure (symbol.Fork f ∷ ps) = sure ps
+
+sure_rule : (r : Rule) → IsTrue (sure (row r))
+sure_rule rule.Strings = refl
+sure_rule _ = refl
+
+sure_ways : (f : Fork) → IsTrue (list_all sure (ways f))
+sure_ways forks.FirstString = refl
+sure_ways _ = refl
 
 -- a Stray's class is Other
 known : (names : Names) (k : TokenKind) (s : List ℕ) (ts : List Token) (next : Class) (P : Class → Bool) → P class.Other ≡ false
@@ -66,15 +83,17 @@ module _ (names : Names) (may : List Token → List Token → Type 0) where
   mutual
     tree_known : {k : Kind} {xs ys : List Token} {t : Tree} → Derives names may k xs t ys → Known xs ys
     tree_known {k} (leaf {t = t} {ys = ys} h) = more (known_token names t ys (has_leaf (family_of k)) (leaf_other (family_of k)) h) none
-    tree_known (branch r w b al parts) = row_known parts
+    tree_known (branch r w b al parts) = row_known parts (sure_rule r)
 
-    row_known : {ps : Row} {xs ys : List Token} {cs : List Tree} → DerivesRow names may ps xs cs ys → Known xs ys
-    row_known done = none
-    row_known (word {w = w} {t = t} {xs = xs} h rest) = more (known_token names t xs (fits w) (word_other w) h) (row_known rest)
-    row_known (child d rest) = both (tree_known d) (row_known rest)
-    row_known (argument d rest) = both (tree_known d) (row_known rest)
-    row_known (type_argument a d rest) = both (tree_known d) (row_known rest)
-    row_known (fork i w v way) = row_known way
+    row_known : {ps : Row} {xs ys : List Token} {cs : List Tree} → DerivesRow names may ps xs cs ys → IsTrue (sure ps) → Known xs ys
+    row_known done h = none
+    row_known (word {w = w} {ps = ps} {t = t} {xs = xs} f rest) h =
+        let other : IsTrue (not (fits w class.Other)) = and_left (not (fits w class.Other)) (sure ps) h in
+        more (known_token names t xs (fits w) (not_true (fits w class.Other) other) f) (row_known rest (and_right (not (fits w class.Other)) (sure ps) h))
+    row_known (child d rest) h = both (tree_known d) (row_known rest h)
+    row_known (argument d rest) h = both (tree_known d) (row_known rest h)
+    row_known (type_argument a d rest) h = both (tree_known d) (row_known rest h)
+    row_known (fork {f = f} {ps = ps} i w v way) h = row_known way (row_at sure (ways f) i ps (sure_ways f) w)
 
 pub tree_no_strays : (k : Kind) (names : Names) (tokens : List Token) (t : Tree) → IsTreeOf k names tokens t → NoStrays tokens
 tree_no_strays k names tokens t h = no_strays_by (tree_known names _ h.derived) refl

@@ -3,11 +3,11 @@
 use Rattle.std.proofs.Common.{◌≡◌, ℕ, suc, ◌+◌, ◌*◌, ◌≤◌, subst, refl, ap, sym, ◌∙◌, arith, List, [], ◌∷◌, length}
 use Rattle.std.proofs.lemmas.Bool.{false≢true}
 use Rattle.std.proofs.lemmas.Bool.Decides.{nat_tests}
-use Rattle.std.specs.Prelude.{Bool, true, false, not, ◌&&◌, ◌||◌, nat_le, IsTrue, if◌then◌else◌, codes}
-use Rattle.std.specs.Str.{bytes_eq}
+use Rattle.std.specs.Prelude.{Bool, true, false, not, ◌&&◌, ◌||◌, nat_le, IsTrue, if◌then◌else◌}
 use Rattle.c_terms.specs.declared.token.Token.{Token}
 use Rattle.c_terms.specs.declared.token.TokenKind.{TokenKind}
 use Rattle.c_terms.specs.declared.token.TokenKind.TheVariants as token_kind
+use Rattle.c_terms.specs.declared.token.MetaKind.TheVariants as meta_kind
 use Rattle.c_terms.specs.declared.label.Label.TheVariants as label
 use Rattle.c_terms.specs.declared.tree.Tree.{Tree, out-Tree}
 use Rattle.c_terms.specs.declared.tree.Tree.TheVariants.{Leaf}
@@ -29,10 +29,11 @@ use Rattle.c_rows.specs.Kinds.{family_of, has_leaf, is_operand}
 use Rattle.c_rows.specs.Words.{fits}
 use Rattle.c_rows.specs.Branches.{kind_of, label_of, branches_label, at_label, if_label, case_label, for_label, external_label, macro_label, text_is, labelled, is_decl_label, is_block_label, is_blockless, begins_dots, begins_declaration, may_go}
 use Rattle.c_rows.specs.Rows.{Row, row, ways}
-use Rattle.c_rows.specs.Choice.{full}
-use Rattle.c_rows.specs.Look.{Names, look, class_of, pattern, has_semicolon, is_of_statements}
+use Rattle.c_rows.specs.Choice.{full, implies}
+use Rattle.c_rows.specs.Look.{Names, look, class_of}
 use Rattle.c_rows.specs.Derives.{Derives, leaf, branch as derived, DerivesRow, done, word, child, argument, type_argument, fork}
-use Rattle.c_rows.proofs.FirstChecks.{and_left, and_right, not_true, row_at}
+use Rattle.c_rows.proofs.FirstChecks.{and_left, and_right, modus, not_true, row_at, Passes}
+use Rattle.c_rows.proofs.OriginLemmas.{kind_test, token_tells}
 use Rattle.c_rows.proofs.FirstLemmas.{within_family}
 use Rattle.smpl_patch.specs.Patterns.{is_sign, is_sign_at as is_sign_in, is_sign_tree}
 use Rattle.smpl_elem.specs.Forms.{is_list_in, is_list, first_kid, last_kid}
@@ -74,30 +75,20 @@ undotted_token : (names : Names) (p : Class → Bool) → p class.Dots ≡ false
 unfolding look
 undotted_token names p off t ts h = ap is_dots_in (out-Leaf t) ∙ undotted_kind names p off t.kind t.text ts (look names ts) h
 
-pattern_off : (a b c d e f o : Bool) → is_operand (if a then (if o then class.PatOpenOfStatements else class.PatOpen) else (if b then class.PatBar else (if c then class.PatAmp else (if d then class.PatClose else (if e then (if o then class.PatNestOfStatements else class.PatNestOfExpression) else (if f then class.PatNestClose else class.Other)))))) ≡ false
-pattern_off true b c d e f true = refl
-pattern_off true b c d e f false = refl
-pattern_off false true c d e f o = refl
-pattern_off false false true d e f o = refl
-pattern_off false false false true e f o = refl
-pattern_off false false false false true f true = refl
-pattern_off false false false false true f false = refl
-pattern_off false false false false false true o = refl
-pattern_off false false false false false false o = refl
+abbrev unsigned_at : TokenKind → Class → Bool
+unsigned_at k c = implies (is_operand c) (not (is_sign k))
 
-pattern_no : (s : List ℕ) (semicolon : Bool) (next : Class) → is_operand (pattern s semicolon next) ≡ false
-pattern_no s semicolon next =
-    pattern_off (bytes_eq s (codes "\\(")) (bytes_eq s (codes "\\|")) (bytes_eq s (codes "\\&")) (bytes_eq s (codes "\\)")) (bytes_eq s (codes "<...") || bytes_eq s (codes "<+..."))
-    (bytes_eq s (codes "...>") || bytes_eq s (codes "...+>")) (is_of_statements semicolon next)
+unsigned_test : (k : TokenKind) → Passes (kind_test unsigned_at k)
+unsigned_test (token_kind.Meta meta_kind.Expr) = refl
+unsigned_test (token_kind.Meta _) = refl
+unsigned_test _ = refl
 
-unsigned_kind : (names : Names) (k : TokenKind) (s : List ℕ) (ts : List Token) (next : Class) → IsTrue (is_operand (class_of names k s ts next)) → is_sign k ≡ false
-unsigned_kind names token_kind.Pat s ts next h = absurd (false≢true (sym (pattern_no s (has_semicolon 0 ts) next) ∙ h))
-unsigned_kind names _ s ts next h = refl
+unsigned_kind : (names : Names) (t : Token) (ts : List Token) → IsTrue (is_operand (look names (t ∷ ts))) → is_sign t.kind ≡ false
+unsigned_kind names t ts h = not_true (is_sign t.kind) (modus (is_operand (look names (t ∷ ts))) (not (is_sign t.kind)) (token_tells unsigned_at unsigned_test names t ts) h)
 
 -- an operand is no sign
 unsigned_token : (names : Names) (t : Token) (ts : List Token) → IsTrue (is_operand (look names (t ∷ ts))) → is_sign_tree (Leaf t) ≡ false
-unfolding look
-unsigned_token names t ts h = ap is_sign_in (out-Leaf t) ∙ unsigned_kind names t.kind t.text ts (look names ts) h
+unsigned_token names t ts h = ap is_sign_in (out-Leaf t) ∙ unsigned_kind names t ts h
 
 -- ---- forms by labels
 
@@ -376,7 +367,7 @@ module _ (names : Names) (may : List Token → List Token → Type 0) where
   lists_choice : {xs ys : List Token} {cs : List Tree} → DerivesRow names may (row rule.PatLists) xs cs ys → is_choice cs ≡ true
   lists_choice (word {t = t} {cs = ds} f (child {t = u} {cs = cs} d rest)) =
       of_lists (Leaf t) u cs (list_tree {k = kind.StmtList} refl d).0 (list_tree {k = kind.StmtList} refl d).1 (some_list rest refl)
-      (row_quiet (word {w = words.PatOpenOfStatements} f (child {k = kind.StmtList} d rest)) refl)
+      (row_quiet (word {w = words.One class.PatOpenOfStatements} f (child {k = kind.StmtList} d rest)) refl)
 
   -- ---- rules
 

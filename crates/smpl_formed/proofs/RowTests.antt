@@ -1,5 +1,5 @@
 -- What parts a row has: tests of the rules, and of the ways of forks.
-use Rattle.std.proofs.Common.{◌≡◌, refl, List, [], ◌∷◌}
+use Rattle.std.proofs.Common.{◌≡◌, refl, List, [], ◌∷◌, subst}
 use Rattle.std.proofs.lemmas.Bool.{false≢true}
 use Rattle.std.specs.Prelude.{Bool, true, false, not, ◌&&◌, ◌||◌, IsTrue, if◌then◌else◌}
 use Rattle.std.specs.List.{list_all}
@@ -23,6 +23,7 @@ use Rattle.c_rows.specs.Words.{fits}
 use Rattle.c_rows.specs.Branches.{kind_of, label_of, branches_label, at_label, if_label, case_label, for_label, external_label, macro_label, text_is, labelled, is_decl_label, is_block_label, is_blockless, begins_dots}
 use Rattle.c_rows.specs.Rows.{Row, row, ways}
 use Rattle.c_rows.specs.Choice.{full}
+use Rattle.c_rows.proofs.FirstChecks.{one_is}
 use Rattle.smpl_elem.specs.Forms.{is_list_label}
 use Rattle.smpl_formed.specs.Shapes.{is_nest_label}
 
@@ -297,17 +298,23 @@ worded_ways forks.NestBehindDots h = refl
 worded_ways _ h = absurd (false≢true h)
 
 -- the signs with which a nest begins
+abbrev is_nest_sign : Class → Bool
+is_nest_sign class.PatNestOfExpression = true
+is_nest_sign class.PatNestOfStatements = true
+is_nest_sign _ = false
+
 abbrev is_nest_word : Word → Bool
-is_nest_word words.PatNestOfExpression = true
-is_nest_word words.PatNestOfStatements = true
+is_nest_word (words.One c) = is_nest_sign c
 is_nest_word _ = false
 
+nest_begins : (c : Class) → IsTrue (is_nest_sign c) → begins_dots c ≡ true
+nest_begins class.PatNestOfExpression h = refl
+nest_begins class.PatNestOfStatements h = refl
+nest_begins _ h = absurd (false≢true h)
+
 pub nest_class : (w : Word) → IsTrue (is_nest_word w) → (c : Class) → IsTrue (fits w c) → begins_dots c ≡ true
-nest_class words.PatNestOfExpression h class.PatNestOfExpression f = refl
-nest_class words.PatNestOfExpression h _ f = absurd (false≢true f)
-nest_class words.PatNestOfStatements h class.PatNestOfStatements f = refl
-nest_class words.PatNestOfStatements h _ f = absurd (false≢true f)
-nest_class _ h c f = absurd (false≢true h)
+nest_class (words.One c) h d f = subst (λ (e : Class). begins_dots e ≡ true) (one_is c d f) (nest_begins c h)
+nest_class _ h d f = absurd (false≢true h)
 
 abbrev pub begins_nest : Row → Bool
 begins_nest [] = false

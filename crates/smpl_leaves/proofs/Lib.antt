@@ -3,7 +3,6 @@ pub mod ChildLemmas
 pub mod DoLemmas
 pub mod BranchLemmas
 pub mod TreeLemmas
-pub mod ClassLemmas
 pub mod SignLemmas
 pub mod RowTests
 pub mod LabelShapes

@@ -9,6 +9,7 @@ use Rattle.c_terms.specs.declared.label.Label.TheVariants as label
 use Rattle.c_terms.specs.declared.tree.Tree.{Tree}
 use Rattle.c_terms.specs.declared.tree.Tree.TheVariants.{Leaf}
 use Rattle.c_terms.proofs.SameLemmas.{out-Leaf, out-Branch}
+use Rattle.c_rows.specs.declared.class.Class.TheVariants as class
 use Rattle.c_rows.specs.declared.word.Word.{Word}
 use Rattle.c_rows.specs.declared.word.Word.TheVariants as words
 use Rattle.c_rows.specs.declared.kind.Kind.{Kind}
@@ -87,10 +88,10 @@ module _ (names : Names) (may : List Token → List Token → Type 0) where
   nest_ways : (i : ℕ) (ps : Row) {xs ys : List Token} {cs : List Tree} → slice_get (ways forks.NestStart) i ≡ Some ps → DerivesRow names may ps xs cs ys
       → has_shape label.PatNest cs ≡ true
   nest_ways zero ps {xs} {ys} {cs} w way =
-      let same : symbol.Word words.PatNestOfExpression ∷ symbol.Child kind.Expr ∷ symbol.Word words.PatNestClose ∷ [] ≡ ps = cc in
+      let same : symbol.Word (words.One class.PatNestOfExpression) ∷ symbol.Child kind.Expr ∷ symbol.Word (words.One class.PatNestClose) ∷ [] ≡ ps = cc in
       nest_way refl refl (subst (λ (qs : Row). DerivesRow names may qs xs cs ys) (sym same) way)
   nest_ways (suc zero) ps {xs} {ys} {cs} w way =
-      let same : symbol.Word words.PatNestOfStatements ∷ symbol.Fork forks.NestStatements ∷ [] ≡ ps = cc in
+      let same : symbol.Word (words.One class.PatNestOfStatements) ∷ symbol.Fork forks.NestStatements ∷ [] ≡ ps = cc in
       nest_way refl refl (subst (λ (qs : Row). DerivesRow names may qs xs cs ys) (sym same) way)
   nest_ways (suc (suc i)) ps w way = let no : ⊥ = cc in absurd no
 

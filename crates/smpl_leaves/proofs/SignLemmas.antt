@@ -1,69 +1,58 @@
 -- A token that fits a word for a sign of patterns is a sign.
--- Proof: by the class of what stands there. The tables of all other kinds of tokens give no class of a sign.
-use Rattle.std.proofs.Common.{◌≡◌, ℕ, refl, ap, sym, ◌∙◌, List, ◌∷◌}
+-- Proof: by the class of what stands there. A token of another kind can have no class of a sign.
+use Rattle.std.proofs.Common.{◌≡◌, refl, ap, ◌∙◌, subst, List, ◌∷◌}
 use Rattle.std.proofs.lemmas.Bool.{false≢true}
-use Rattle.std.specs.Prelude.{Bool, true, false, ◌&&◌, IsTrue}
+use Rattle.std.specs.Prelude.{Bool, true, false, IsTrue}
 use Rattle.c_terms.specs.declared.token.Token.{Token}
 use Rattle.c_terms.specs.declared.token.TokenKind.{TokenKind}
 use Rattle.c_terms.specs.declared.token.TokenKind.TheVariants as token
+use Rattle.c_terms.specs.declared.token.MetaKind.TheVariants as meta
 use Rattle.c_terms.specs.declared.tree.Tree.TheVariants.{Leaf}
 use Rattle.c_terms.proofs.SameLemmas.{out-Leaf}
 use Rattle.c_rows.specs.declared.class.Class.{Class}
+use Rattle.c_rows.specs.declared.class.Class.TheVariants as class
 use Rattle.c_rows.specs.declared.word.Word.{Word}
 use Rattle.c_rows.specs.declared.word.Word.TheVariants as word
 use Rattle.c_rows.specs.Words.{fits}
-use Rattle.c_rows.specs.Look.{Names, look, class_of, keyword, sign, name, string, metavariable}
-use Rattle.c_rows.proofs.FirstChecks.{modus, Passes, passes_at}
+use Rattle.c_rows.specs.Look.{Names, look}
 use Rattle.c_rows.specs.Choice.{implies}
+use Rattle.c_rows.proofs.FirstChecks.{one_is, modus, Passes}
+use Rattle.c_rows.proofs.OriginLemmas.{kind_test, token_tells}
 use Rattle.smpl_leaves.specs.Shapes.{is_sign_kind, is_sign_in, is_sign}
-use Rattle.smpl_leaves.proofs.ClassLemmas.{is_sign_class, string_quiet, keyword_quiet, sign_quiet, name_quiet, meta_quiet}
+
+-- the classes of signs of patterns
+abbrev pub is_sign_class : Class → Bool
+is_sign_class class.PatOpen = true
+is_sign_class class.PatOpenOfStatements = true
+is_sign_class class.PatBar = true
+is_sign_class class.PatAmp = true
+is_sign_class class.PatClose = true
+is_sign_class class.PatNestOfExpression = true
+is_sign_class class.PatNestOfStatements = true
+is_sign_class class.PatNestClose = true
+is_sign_class _ = false
 
 -- the words for signs of patterns
 abbrev pub is_sign_word : Word → Bool
-is_sign_word word.PatOpen = true
-is_sign_word word.PatOpenOfStatements = true
-is_sign_word word.PatBar = true
-is_sign_word word.PatAmp = true
-is_sign_word word.PatClose = true
-is_sign_word word.PatNestOfExpression = true
-is_sign_word word.PatNestOfStatements = true
-is_sign_word word.PatNestClose = true
+is_sign_word (word.One c) = is_sign_class c
 is_sign_word _ = false
 
-abbrev fits_at : Word → Class → Bool
-fits_at w c = implies (is_sign_word w && fits w c) (is_sign_class c)
-
-fits_test : (w : Word) → Passes (fits_at w)
-fits_test word.PatOpen = refl
-fits_test _ = refl
-
-both : (a b : Bool) → IsTrue a → IsTrue b → IsTrue (a && b)
-both true b h g = g
-both false b h g = absurd (false≢true h)
-
 sign_class : (w : Word) (c : Class) → IsTrue (is_sign_word w) → IsTrue (fits w c) → IsTrue (is_sign_class c)
-sign_class w c h f = modus (is_sign_word w && fits w c) (is_sign_class c) (passes_at (fits_at w) (fits_test w) c) (both (is_sign_word w) (fits w c) h f)
+sign_class (word.One c) d h f = subst (λ (e : Class). IsTrue (is_sign_class e)) (one_is c d f) h
+sign_class _ d h f = absurd (false≢true h)
 
 -- ---- tokens
 
-no_sign : {A : Type 0} (c : Class) → is_sign_class c ≡ false → IsTrue (is_sign_class c) → A
-no_sign c h g = absurd (false≢true (sym h ∙ g))
+abbrev signed_at : TokenKind → Class → Bool
+signed_at k c = implies (is_sign_class c) (is_sign_kind k)
 
-kind_signed : (names : Names) (k : TokenKind) (s : List ℕ) (ts : List Token) (next : Class) → IsTrue (is_sign_class (class_of names k s ts next)) → is_sign_kind k ≡ true
-kind_signed names token.Pat s ts next h = refl
-kind_signed names token.Name s ts next h = no_sign (name names s ts) (name_quiet names s ts) h
-kind_signed names token.Keyword s ts next h = no_sign (keyword names s ts next) (keyword_quiet names s ts next) h
-kind_signed names token.Number s ts next h = absurd (false≢true h)
-kind_signed names token.Char s ts next h = absurd (false≢true h)
-kind_signed names token.Str s ts next h = no_sign (string ts) (string_quiet ts) h
-kind_signed names token.Punct s ts next h = no_sign (sign names s ts) (sign_quiet names s ts) h
-kind_signed names token.Stray s ts next h = absurd (false≢true h)
-kind_signed names (token.Meta k) s ts next h = no_sign (metavariable names k s ts) (meta_quiet names k s ts) h
-kind_signed names token.Dots s ts next h = absurd (false≢true h)
+signed_test : (k : TokenKind) → Passes (kind_test signed_at k)
+signed_test (token.Meta meta.Expr) = refl
+signed_test (token.Meta _) = refl
+signed_test _ = refl
 
 token_signed : (names : Names) (t : Token) (ts : List Token) → IsTrue (is_sign_class (look names (t ∷ ts))) → is_sign_kind t.kind ≡ true
-unfolding look
-token_signed names t ts h = kind_signed names t.kind t.text ts (look names ts) h
+token_signed names t ts h = modus (is_sign_class (look names (t ∷ ts))) (is_sign_kind t.kind) (token_tells signed_at signed_test names t ts) h
 
 pub word_signed : (names : Names) (w : Word) (t : Token) (ts : List Token) → IsTrue (is_sign_word w) → IsTrue (fits w (look names (t ∷ ts))) → is_sign (Leaf t) ≡ true
 word_signed names w t ts h f = ap is_sign_in (out-Leaf t) ∙ token_signed names t ts (sign_class w (look names (t ∷ ts)) h f)

@@ -10,9 +10,10 @@
 //! The parser is one reader of the rows of c_rows. It is proved once for all rows: the answer is a tree of the range, no
 //! other tree of its kind is, and NoTree comes only where none is. A tree has at most 1,000 levels of branches.
 //!
-//! Recursion goes five calls deep for each level. A faulty range costs no more than a right one: the parser never goes
-//! back, but that behind `(` and `,` what may be a type by its first three tokens and by its end is tried as an expression
-//! before the range is read, without trees; what is in brackets is kept, and is not tried again.
+//! Recursion goes five calls deep for each level, six in a try. A faulty range costs no more than a right one: the parser
+//! never goes back, but that behind `(` and `,` what may be a type by its first three tokens and by its end is tried as an
+//! expression before the range is read, without trees; what is in brackets is kept, and is tried again only for another kind
+//! or for more levels.
 //!
 //! The calls for declarations, statements and items are in the crates above. Cutting text into tokens is for c_lexer.
 #![tactic(auto)]

@@ -52,9 +52,11 @@ fn parse_shallow(
 }
 
 /// The one tree of the kind that spells the tokens `from..to`: any kind but those that are read within a list, which are
-/// Args, TypeArg, Params, Param, InitItem, NamelessBits, EnumName and Enumerator. Linear, but that behind each `(` and
-/// `,` what may be a type by its first three tokens and by its end is read beforehand, so a token at most twice, and once
-/// more for each bracket around it. Recurses five calls deep for each of at most 1,000 levels.
+/// Args, TypeArg, Params, Param, InitItem, NamelessBits, EnumName and Enumerator. Linear but for the looks of c_rows at a
+/// bracket that begins a type or follows a name, each of which walks to the bracket that closes it. Behind each `(` and `,`
+/// what may be a type by its first three tokens and by its end is read beforehand, without a tree; what is in brackets is
+/// kept, and is read again only for another kind or for more levels. Recurses five calls deep for each of at most 1,000
+/// levels, beforehand six.
 pub fn parse_kind(
     alloc: Global,
     kind: Kind,

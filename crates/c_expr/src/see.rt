@@ -93,9 +93,10 @@ fn unseen<'t>(alloc: Global, tokens: &'t [Token]) -> Result<Vec<Seen<'t>>, Parse
     Ok(seen)
 }
 
-/// The tokens as they are seen, from the last one on. Linear: behind each `(` and `,`, whether a call's list is there or
-/// not, what may be a type by its first three tokens and by its end is gone over as an expression, but what is in brackets
-/// is kept, so it is gone over once for each kind that is asked of it.
+/// The tokens as they are seen, from the last one on. Linear but for the looks at brackets (c_rows): behind each `(` and
+/// `,`, whether a call's list is there or not, what may be a type by its first three tokens and by its end is gone over as
+/// an expression, but what is in brackets is kept, so it is gone over once for each kind that is asked of it, and again
+/// only for more levels.
 pub fn see<'t>(
     alloc: Global,
     names: &Names,

@@ -8,7 +8,7 @@ use Rattle.std.proofs.lemmas.List.{length-map, length-take, length-drop}
 use Rattle.std.proofs.lemmas.List.Elements.{All-nil, All-cons}
 use Rattle.c_terms.specs.declared.label.Label.{Label}
 use Rattle.c_terms.specs.declared.token.Token.{Token}
-use Rattle.c_terms.specs.declared.tree.Tree.{Tree, out-Tree}
+use Rattle.c_terms.specs.declared.tree.Tree.{Tree}
 use Rattle.c_terms.specs.declared.tree.Tree.TheVariants.{Leaf, Branch, rolls-Leaf, rolls-Branch}
 use Rattle.c_terms.specs.declared.tree.Tree.TheFolds.{fold-roll-Tree}
 use Rattle.c_terms.specs.Trees.{greatest, width}
@@ -24,11 +24,12 @@ use Rattle.c_rows.specs.declared.symbol.Fork.TheVariants as forks
 use Rattle.c_rows.specs.Kinds.{family_of}
 use Rattle.c_rows.specs.Look.{Names}
 use Rattle.c_rows.specs.Rows.{Row, row, ways}
-use Rattle.c_rows.specs.Branches.{kind_of, label_of, branches_label, at_label, if_label, case_label, for_label, external_label, macro_label, labelled, text_is, is_decl_label, is_block_label, is_blockless}
+use Rattle.c_rows.specs.Rows.{kind_of, label_of}
 use Rattle.c_rows.specs.Choice.{full, weight, steady}
 use Rattle.c_rows.specs.Derives.{Derives, leaf, branch, DerivesRow, done, word, child, argument, type_argument, fork}
 use Rattle.c_rows.proofs.Checks.{and_left, and_right, row_at, weight_way, way_fine}
 use Rattle.c_rows.proofs.FirstLemmas.{within_family}
+use Rattle.c_rows.proofs.NamingLemmas.{both_pass, label_passes}
 use Rattle.c_rows.proofs.LengthLemmas.{least, need, fork_need, weight-small, fine_steady}
 use Rattle.cfg_build.specs.Forms.{form_of}
 use Rattle.cfg_build.specs.Braces.{has_both, braces_step, has_braces}
@@ -127,54 +128,22 @@ module _ (names : Names) (may : List Token → List Token → Type 0) where
 
 -- ---- only rows of blocks are blocks
 
-abbrev Open : Label → Type 0
-Open l = (n : ℕ) → has_both (form_of l) n ≡ true
-
-either : (b : Bool) (l m : Label) → Open l → Open m → Open (if b then l else m)
-either true l m h g = h
-either false l m h g = g
-
-branches-open : (cs : List Tree) → Open (branches_label cs)
-branches-open (a ∷ b ∷ c ∷ cs) = either (text_is _ (out-Tree c)) _ _ (λ n. refl) (λ n. refl)
-branches-open _ = λ n. refl
-
-at-open : (cs : List Tree) → Open (at_label cs)
-at-open (a ∷ b ∷ c ∷ []) = λ n. refl
-at-open _ = λ n. refl
-
-if-open : (cs : List Tree) → Open (if_label cs)
-if-open (a ∷ b ∷ c ∷ d ∷ e ∷ []) = λ n. refl
-if-open _ = λ n. refl
-
-case-open : (cs : List Tree) → Open (case_label cs)
-case-open (a ∷ b ∷ c ∷ []) = λ n. refl
-case-open _ = λ n. refl
-
-for-open : (cs : List Tree) → Open (for_label cs)
-for-open (a ∷ b ∷ c ∷ cs) = either (labelled is_decl_label (out-Tree c)) _ _ (λ n. refl) (λ n. refl)
-for-open _ = λ n. refl
-
-external-open : (cs : List Tree) → Open (external_label cs)
-external-open (a ∷ b ∷ c ∷ []) = either (labelled is_block_label (out-Tree c)) _ _ (λ n. refl) (λ n. refl)
-external-open _ = λ n. refl
-
-macro-open : (cs : List Tree) → Open (macro_label cs)
-macro-open cs = either (is_blockless cs) _ _ (λ n. refl) (λ n. refl)
-
 block_both : (n : ℕ) → 2 ≤ n → nat_lt 1 n ≡ true
 block_both n h = grind (arith, nat_tests)
 
+abbrev has_both_of : ℕ → Label → Bool
+has_both_of n l = has_both (form_of l) n
+
+both_test : (r : Rule) (n : ℕ) → parts_at_least (row r) ≤ n → IsTrue (both_pass (has_both_of n) r)
+both_test rule.Block n h = and_true (nat_lt 1 n) (block_both n h)
+  where
+    and_true : (b : Bool) → b ≡ true → IsTrue (b && b)
+    and_true true e = refl
+    and_true false e = e
+both_test _ n h = refl
+
 both_of : (r : Rule) (cs : List Tree) → parts_at_least (row r) ≤ length cs → has_both (form_of (label_of r cs)) (length cs) ≡ true
-both_of rule.Block cs h = block_both (length cs) h
-both_of rule.PatBranches cs h = branches-open cs (length cs)
-both_of rule.PatLists cs h = branches-open cs (length cs)
-both_of rule.At cs h = at-open cs (length cs)
-both_of rule.If cs h = if-open cs (length cs)
-both_of rule.Case cs h = case-open cs (length cs)
-both_of rule.For cs h = for-open cs (length cs)
-both_of rule.External cs h = external-open cs (length cs)
-both_of rule.ExternalMacro cs h = macro-open cs (length cs)
-both_of _ cs h = refl
+both_of r cs h = label_passes (has_both_of (length cs)) r cs (both_test r (length cs) h)
 
 -- ---- trees
 

@@ -19,8 +19,7 @@ use Rattle.c_rows.specs.declared.turn.Turn.TheVariants as turns
 use Rattle.c_rows.specs.Words.{fits}
 use Rattle.c_rows.specs.Scan.{turn}
 use Rattle.c_rows.specs.Kinds.{within, has_leaf}
-use Rattle.c_rows.specs.Branches.{kind_of}
-use Rattle.c_rows.specs.Rows.{Row, row, ways}
+use Rattle.c_rows.specs.Rows.{Row, ways, row, kind_of}
 use Rattle.c_rows.specs.Choice.{implies}
 use Rattle.c_rows.proofs.Checks.{modus, row_at, Passes, passes_at, set_test, word_at}
 use Rattle.c_rows.proofs.FirstLemmas.{within_trans}

@@ -13,8 +13,8 @@ use Rattle.c_rows.specs.declared.symbol.Symbol.TheVariants as symbol
 use Rattle.c_rows.specs.declared.symbol.Fork.{Fork}
 use Rattle.c_rows.specs.declared.symbol.Fork.TheVariants as forks
 use Rattle.c_rows.specs.Kinds.{family_of, within, has_leaf}
-use Rattle.c_rows.specs.Branches.{kind_of, begins, may_go}
-use Rattle.c_rows.specs.Rows.{Row, row, ways}
+use Rattle.c_rows.specs.Rows.{Row, ways, row, kind_of}
+use Rattle.c_rows.specs.Branches.{begins, may_go}
 use Rattle.c_rows.specs.Choice.{head, tail, choose, pick_way, stops, stops_fork, ends, opens, leads, begins_way, every, implies, row_ok, steady, row_fine, weight, left, own, bottom}
 use Rattle.c_rows.proofs.Numbers.{rules, rule_number, rule_listed}
 pub use Rattle.c_rows.proofs.FirstChecks.{and_left, and_right, modus, both, implies_both, not_true, every_from, at, every_at, row_at, closes, joins_at, member_at, joins, joins_rule, joins_way, closes_rule, closes_way, opens_rule, leaf_first, member_after, member_stops, member_first, Passes, passes_at, one_is, set_test, word_at}

@@ -9,8 +9,8 @@ use Rattle.c_rows.specs.declared.kind.Family.{Family}
 use Rattle.c_rows.specs.declared.symbol.Fork.{Fork}
 use Rattle.c_rows.specs.declared.symbol.Symbol.TheVariants as symbol
 use Rattle.c_rows.specs.Kinds.{family_of}
-use Rattle.c_rows.specs.Rows.{Row}
-use Rattle.c_rows.specs.Branches.{kind_of, may_go}
+use Rattle.c_rows.specs.Rows.{Row, kind_of}
+use Rattle.c_rows.specs.Branches.{may_go}
 use Rattle.c_rows.specs.Look.{Names, look}
 use Rattle.c_rows.specs.Words.{ends_member}
 use Rattle.c_rows.specs.Choice.{after, stops_fork, first, opens, choose, begins_way, every}

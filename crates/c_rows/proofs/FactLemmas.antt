@@ -10,9 +10,13 @@ use Rattle.c_terms.specs.declared.tree.Tree.TheVariants.{Leaf, rolls-Leaf}
 use Rattle.c_terms.specs.declared.tree.Tree.TheFolds.{fold-roll-Tree}
 use Rattle.c_terms.proofs.SameLemmas.{out-Leaf, out-Branch}
 use Rattle.c_rows.specs.declared.facts.Facts.{Facts}
+use Rattle.c_rows.specs.declared.labels.Naming.{Naming}
+use Rattle.c_rows.specs.declared.labels.Naming.TheVariants as naming
 use Rattle.c_rows.specs.declared.rule.Rule.{Rule}
 use Rattle.c_rows.specs.declared.rule.Rule.TheVariants as rule
-use Rattle.c_rows.specs.Branches.{label_of, build, allows, branches_label, labelled, defines, is_loose_label, is_block_label, is_blockless, plain_part, plain_at, declares_at, declares_name, function_at, function_step, declares_function}
+use Rattle.c_rows.specs.Labels.{branches_label, labelled, is_block_label, is_blockless, named}
+use Rattle.c_rows.specs.Rows.{naming_of, label_of, build}
+use Rattle.c_rows.specs.Branches.{allows, defines, is_loose_label, plain_part, plain_at, declares_at, declares_name, function_at, function_step, declares_function}
 use Rattle.c_rows.specs.Facts.{facts_of, leaf_facts, branch_facts, allows_facts}
 use Rattle.c_rows.proofs.PlainLemmas.{declares-Leaf, declares-Branch, function-Branch}
 
@@ -60,38 +64,40 @@ branches (a ∷ []) = same label.PatAnd
 branches (a ∷ b ∷ []) = same label.PatAnd
 branches (a ∷ b ∷ c ∷ cs) = dull _ label.PatOr label.PatAnd label.PatAnd pat (same label.PatAnd)
 
--- where the parts tell the label of a rule's branch, they change nothing that is asked of it
+-- where the parts tell the label of a branch, they change nothing that is asked of it
+alike_named : (n : Naming) (cs : List Tree) → Alike (named n cs) (named n [])
+alike_named naming.PatBySign cs = branches cs
+alike_named naming.AtByRange [] = same label.AtRange
+alike_named naming.AtByRange (a ∷ []) = same label.AtRange
+alike_named naming.AtByRange (a ∷ b ∷ []) = same label.AtRange
+alike_named naming.AtByRange (a ∷ b ∷ c ∷ []) = at_one
+alike_named naming.AtByRange (a ∷ b ∷ c ∷ d ∷ cs) = same label.AtRange
+alike_named naming.IfByElse [] = same label.IfElse
+alike_named naming.IfByElse (a ∷ []) = same label.IfElse
+alike_named naming.IfByElse (a ∷ b ∷ []) = same label.IfElse
+alike_named naming.IfByElse (a ∷ b ∷ c ∷ []) = same label.IfElse
+alike_named naming.IfByElse (a ∷ b ∷ c ∷ d ∷ []) = same label.IfElse
+alike_named naming.IfByElse (a ∷ b ∷ c ∷ d ∷ e ∷ []) = if_one
+alike_named naming.IfByElse (a ∷ b ∷ c ∷ d ∷ e ∷ f ∷ cs) = same label.IfElse
+alike_named naming.CaseByRange [] = same label.CaseRange
+alike_named naming.CaseByRange (a ∷ []) = same label.CaseRange
+alike_named naming.CaseByRange (a ∷ b ∷ []) = same label.CaseRange
+alike_named naming.CaseByRange (a ∷ b ∷ c ∷ []) = case_one
+alike_named naming.CaseByRange (a ∷ b ∷ c ∷ d ∷ cs) = same label.CaseRange
+alike_named naming.ForByDecl [] = same label.For
+alike_named naming.ForByDecl (a ∷ []) = same label.For
+alike_named naming.ForByDecl (a ∷ b ∷ []) = same label.For
+alike_named naming.ForByDecl (a ∷ b ∷ c ∷ cs) = dull _ label.ForDecl label.For label.For for_one (same label.For)
+alike_named naming.DeclByBlock [] = same label.Decl
+alike_named naming.DeclByBlock (a ∷ []) = same label.Decl
+alike_named naming.DeclByBlock (a ∷ b ∷ []) = same label.Decl
+alike_named naming.DeclByBlock (a ∷ b ∷ c ∷ []) = dull _ label.FunDef label.Decl label.Decl fun_one (same label.Decl)
+alike_named naming.DeclByBlock (a ∷ b ∷ c ∷ d ∷ cs) = same label.Decl
+alike_named naming.MacroByBlock cs = dull (is_blockless cs) label.MacroItem label.MacroFun label.MacroItem (same label.MacroItem) macro_one
+alike_named (naming.Always l) cs = same l
+
 alike : (r : Rule) (cs : List Tree) → Alike (label_of r cs) (label_of r [])
-alike rule.PatBranches cs = branches cs
-alike rule.PatLists cs = branches cs
-alike rule.At [] = same label.AtRange
-alike rule.At (a ∷ []) = same label.AtRange
-alike rule.At (a ∷ b ∷ []) = same label.AtRange
-alike rule.At (a ∷ b ∷ c ∷ []) = at_one
-alike rule.At (a ∷ b ∷ c ∷ d ∷ cs) = same label.AtRange
-alike rule.If [] = same label.IfElse
-alike rule.If (a ∷ []) = same label.IfElse
-alike rule.If (a ∷ b ∷ []) = same label.IfElse
-alike rule.If (a ∷ b ∷ c ∷ []) = same label.IfElse
-alike rule.If (a ∷ b ∷ c ∷ d ∷ []) = same label.IfElse
-alike rule.If (a ∷ b ∷ c ∷ d ∷ e ∷ []) = if_one
-alike rule.If (a ∷ b ∷ c ∷ d ∷ e ∷ f ∷ cs) = same label.IfElse
-alike rule.Case [] = same label.CaseRange
-alike rule.Case (a ∷ []) = same label.CaseRange
-alike rule.Case (a ∷ b ∷ []) = same label.CaseRange
-alike rule.Case (a ∷ b ∷ c ∷ []) = case_one
-alike rule.Case (a ∷ b ∷ c ∷ d ∷ cs) = same label.CaseRange
-alike rule.For [] = same label.For
-alike rule.For (a ∷ []) = same label.For
-alike rule.For (a ∷ b ∷ []) = same label.For
-alike rule.For (a ∷ b ∷ c ∷ cs) = dull _ label.ForDecl label.For label.For for_one (same label.For)
-alike rule.External [] = same label.Decl
-alike rule.External (a ∷ []) = same label.Decl
-alike rule.External (a ∷ b ∷ []) = same label.Decl
-alike rule.External (a ∷ b ∷ c ∷ []) = dull _ label.FunDef label.Decl label.Decl fun_one (same label.Decl)
-alike rule.External (a ∷ b ∷ c ∷ d ∷ cs) = same label.Decl
-alike rule.ExternalMacro cs = dull (is_blockless cs) label.MacroItem label.MacroFun label.MacroItem (same label.MacroItem) macro_one
-alike _ cs = same _
+alike r cs = alike_named (naming_of r) cs
 
 -- ---- the facts of trees
 

@@ -15,8 +15,9 @@ use Rattle.c_rows.specs.declared.symbol.Symbol.TheVariants as symbol
 use Rattle.c_rows.specs.declared.symbol.Fork.{Fork}
 use Rattle.c_rows.specs.declared.symbol.Fork.TheVariants as forks
 use Rattle.c_rows.specs.Kinds.{family_of}
-use Rattle.c_rows.specs.Branches.{kind_of, label_of, build, allows, is_block_label, is_loose_label, is_case, is_external, defines, is_plain, is_plain_type, declares_at, function_at}
-use Rattle.c_rows.specs.Rows.{Row, row, ways}
+use Rattle.c_rows.specs.Labels.{is_block_label}
+use Rattle.c_rows.specs.Rows.{Row, ways, row, kind_of, label_of, build}
+use Rattle.c_rows.specs.Branches.{allows, is_loose_label, is_case, is_external, defines, is_plain, is_plain_type, declares_at, function_at}
 use Rattle.c_rows.specs.Look.{Names, look}
 use Rattle.c_rows.specs.Words.{ends_member}
 use Rattle.c_rows.specs.Spells.{member_kind}

@@ -15,8 +15,8 @@ use Rattle.c_rows.specs.declared.symbol.Fork.{Fork}
 use Rattle.c_rows.specs.declared.symbol.Fork.TheVariants as forks
 use Rattle.c_rows.specs.Words.{number, same_class, fits, begins_specs, ends_member}
 use Rattle.c_rows.specs.Kinds.{family_of, has_leaf}
-use Rattle.c_rows.specs.Branches.{kind_of, begins}
-use Rattle.c_rows.specs.Rows.{Row, row, ways}
+use Rattle.c_rows.specs.Rows.{Row, ways, row, kind_of}
+use Rattle.c_rows.specs.Branches.{begins}
 use Rattle.c_rows.specs.Spells.{member_kind}
 use Rattle.c_rows.specs.Choice.{after, stops, stops_fork, first, opens, classes, every, implies, begins_expression}
 use Rattle.c_rows.proofs.Numbers.{listed}

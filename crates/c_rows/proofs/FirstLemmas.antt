@@ -12,8 +12,8 @@ use Rattle.c_rows.specs.declared.symbol.Fork.{Fork}
 use Rattle.c_rows.specs.declared.symbol.Symbol.TheVariants as symbol
 use Rattle.c_rows.specs.Words.{ends_member}
 use Rattle.c_rows.specs.Kinds.{family_of, same_family, within, rank, side}
-use Rattle.c_rows.specs.Rows.{Row, ways}
-use Rattle.c_rows.specs.Branches.{kind_of, may_go}
+use Rattle.c_rows.specs.Rows.{Row, ways, kind_of}
+use Rattle.c_rows.specs.Branches.{may_go}
 use Rattle.c_rows.specs.Choice.{after, top, reach, takes_left, tail, left, stops_fork, first, opens, choose, begins_way, every}
 use Rattle.c_rows.specs.Seen.{Seen, front, front_typed}
 use Rattle.c_rows.specs.Spells.{Spells, leaf, branch, Runs, done, word, child, argument, fork}

@@ -8,8 +8,8 @@ use Rattle.c_rows.specs.declared.rule.Rule.{Rule}
 use Rattle.c_rows.specs.declared.kind.Family.{Family}
 use Rattle.c_rows.specs.declared.symbol.Symbol.TheVariants as symbol
 use Rattle.c_rows.specs.Kinds.{family_of, same_family, within, has_leaf}
-use Rattle.c_rows.specs.Rows.{Row, row}
-use Rattle.c_rows.specs.Branches.{kind_of, build, begins, allows}
+use Rattle.c_rows.specs.Rows.{Row, row, kind_of, build}
+use Rattle.c_rows.specs.Branches.{begins, allows}
 use Rattle.c_rows.specs.Choice.{left, left_in, own, tail_of}
 use Rattle.c_rows.specs.Seen.{Seen, front}
 use Rattle.c_rows.specs.Spells.{Spells, leaf, branch, Runs, done, word, child, argument, fork}

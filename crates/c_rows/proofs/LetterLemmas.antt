@@ -7,8 +7,7 @@ use Rattle.c_terms.specs.Trees.{levels}
 use Rattle.c_rows.specs.declared.kind.Kind.{Kind}
 use Rattle.c_rows.specs.declared.kind.Kind.TheVariants as kind
 use Rattle.c_rows.specs.Words.{ends_member}
-use Rattle.c_rows.specs.Branches.{kind_of}
-use Rattle.c_rows.specs.Rows.{Row}
+use Rattle.c_rows.specs.Rows.{Row, kind_of}
 use Rattle.c_rows.specs.Look.{Names, look}
 use Rattle.c_rows.specs.Choice.{after}
 use Rattle.c_rows.specs.Derives.{Derives, leaf, branch, DerivesRow, done, word, child, argument, type_argument, fork, Anywhere}

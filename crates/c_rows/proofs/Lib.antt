@@ -1,4 +1,5 @@
 pub mod PlainLemmas
+pub mod NamingLemmas
 pub mod FactLemmas
 pub mod Numbers
 pub mod FirstChecks

@@ -14,8 +14,7 @@ use Rattle.c_rows.specs.declared.symbol.Fork.{Fork}
 use Rattle.c_rows.specs.declared.symbol.Fork.TheVariants as forks
 use Rattle.c_rows.specs.Words.{fits}
 use Rattle.c_rows.specs.Kinds.{family_of}
-use Rattle.c_rows.specs.Branches.{kind_of}
-use Rattle.c_rows.specs.Rows.{Row, row, ways}
+use Rattle.c_rows.specs.Rows.{Row, ways, row, kind_of}
 use Rattle.c_rows.proofs.LeadLemmas.{leads_class}
 use Rattle.c_rows.specs.Choice.{implies}
 use Rattle.c_rows.proofs.Checks.{modus, row_at, Passes, set_test, word_at}

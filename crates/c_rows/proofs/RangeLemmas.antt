@@ -6,8 +6,7 @@ use Rattle.c_terms.specs.Trees.{leaves, join}
 use Rattle.c_terms.proofs.TreeLemmas.{leaves-Leaf, leaves-Branch}
 use Rattle.c_rows.specs.declared.kind.Kind.{Kind}
 use Rattle.c_rows.specs.Look.{Names}
-use Rattle.c_rows.specs.Rows.{Row}
-use Rattle.c_rows.specs.Branches.{label_of}
+use Rattle.c_rows.specs.Rows.{Row, label_of}
 use Rattle.c_rows.specs.Derives.{Derives, leaf, branch, DerivesRow, done, word, child, argument, type_argument, fork}
 use Rattle.c_rows.specs.Trees.{IsTreeOf}
 

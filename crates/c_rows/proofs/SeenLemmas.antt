@@ -12,8 +12,8 @@ use Rattle.c_rows.specs.declared.symbol.Symbol.TheVariants as symbol
 use Rattle.c_rows.specs.declared.symbol.Fork.{Fork}
 use Rattle.c_rows.specs.declared.symbol.Fork.TheVariants as forks
 use Rattle.c_rows.specs.Kinds.{family_of}
-use Rattle.c_rows.specs.Branches.{kind_of, begins, may_go}
-use Rattle.c_rows.specs.Rows.{Row, row, ways}
+use Rattle.c_rows.specs.Rows.{Row, ways, row, kind_of}
+use Rattle.c_rows.specs.Branches.{begins, may_go}
 use Rattle.c_rows.specs.Seen.{Seen, front}
 use Rattle.c_rows.specs.Spells.{Spells, leaf, branch, Runs, done, word, child, argument, fork}
 use Rattle.c_rows.specs.Range.{NoMember, unmarked}

@@ -15,8 +15,8 @@ use Rattle.c_rows.specs.declared.rule.Rule.{Rule}
 use Rattle.c_rows.specs.declared.symbol.Symbol.TheVariants as symbol
 use Rattle.c_rows.specs.Words.{fits, ends_member}
 use Rattle.c_rows.specs.Kinds.{family_of, has_leaf}
-use Rattle.c_rows.specs.Branches.{kind_of, label_of, begins, may_go}
-use Rattle.c_rows.specs.Rows.{Row, row}
+use Rattle.c_rows.specs.Rows.{Row, row, kind_of, label_of}
+use Rattle.c_rows.specs.Branches.{begins, may_go}
 use Rattle.c_rows.specs.Look.{Names, look}
 use Rattle.c_rows.specs.Seen.{Seen, front, front_typed}
 use Rattle.c_rows.specs.Spells.{member_kind, Spells, Runs}

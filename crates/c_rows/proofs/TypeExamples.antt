@@ -11,7 +11,8 @@ use Rattle.c_terms.proofs.TreeLemmas.{levels-Leaf}
 use Rattle.c_terms.proofs.SameLemmas.{out-Leaf, out-Branch}
 use Rattle.c_rows.specs.declared.kind.Kind.TheVariants as kind
 use Rattle.c_rows.specs.declared.rule.Rule.TheVariants as rule
-use Rattle.c_rows.specs.Branches.{build, is_plain, plain_at, plain_part}
+use Rattle.c_rows.specs.Rows.{build}
+use Rattle.c_rows.specs.Branches.{is_plain, plain_at, plain_part}
 use Rattle.c_rows.specs.Look.{look}
 use Rattle.c_rows.specs.Derives.{Derives, leaf, branch, word, child, fork, done}
 use Rattle.c_rows.specs.Trees.{NoRival}

@@ -19,8 +19,8 @@ use Rattle.c_rows.specs.declared.symbol.Symbol.TheVariants as symbol
 use Rattle.c_rows.specs.declared.symbol.Fork.TheVariants as forks
 use Rattle.c_rows.specs.Words.{same_class, fits, begins_specs, begins_tag, ends_member}
 use Rattle.c_rows.specs.Kinds.{within, has_leaf}
-use Rattle.c_rows.specs.Branches.{kind_of, build, allows, is_plain, is_plain_type, declares_name, any_of}
-use Rattle.c_rows.specs.Rows.{Row, row, ways}
+use Rattle.c_rows.specs.Rows.{Row, ways, row, kind_of, build}
+use Rattle.c_rows.specs.Branches.{allows, is_plain, is_plain_type, declares_name, any_of}
 use Rattle.c_rows.specs.Look.{Names, look}
 use Rattle.c_rows.specs.Choice.{every, implies, first, begins_declarator}
 use Rattle.c_rows.specs.Range.{begins_nameless, follows_type, begins_member}

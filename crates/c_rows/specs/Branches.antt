@@ -1,244 +1,27 @@
--- What a branch of each rule is: its tightest kind, its label, and what its parts have in common.
-use Rattle.std.specs.Prelude.{ℕ, Bool, true, false, not, ◌&&◌, ◌||◌, if◌then◌else◌, List, [], ◌∷◌, codes}
+-- Guards: what the parts of a branch have in common, and where the tokens behind let a branch and a way begin.
+use Rattle.std.specs.Prelude.{Bool, true, false, not, ◌&&◌, ◌||◌, List, [], ◌∷◌}
 use Rattle.std.specs.List.{list_all}
-use Rattle.std.specs.Str.{bytes_eq}
 use Rattle.c_terms.specs.declared.label.Label.{Label}
 use Rattle.c_terms.specs.declared.label.Label.TheVariants as label
 use Rattle.c_terms.specs.declared.tree.Tree.{Tree, out-Tree}
-use Rattle.c_terms.specs.declared.tree.Tree.TheVariants as tree
 use Rattle.c_terms.specs.declared.tree.Tree.TheOpen.{Tree-F}
 use Rattle.c_terms.specs.declared.tree.Tree.TheFolds.{fold-Tree}
-use Rattle.c_rows.specs.Tokens.{is_named, is_storage}
 use Rattle.c_rows.specs.declared.word.Word.TheVariants as word
+use Rattle.c_rows.specs.declared.symbol.Symbol.TheVariants.{Child}
 use Rattle.c_rows.specs.declared.symbol.Fork.{Fork}
 use Rattle.c_rows.specs.declared.symbol.Fork.TheVariants as fork
-use Rattle.c_rows.specs.Words.{same_class, fits, begins_tag}
-use Rattle.c_rows.specs.declared.symbol.Symbol.TheVariants.{Child}
-use Rattle.c_rows.specs.Rows.{Row}
 use Rattle.c_rows.specs.declared.class.Class.{Class}
 use Rattle.c_rows.specs.declared.class.Class.TheVariants as class
 use Rattle.c_rows.specs.declared.kind.Kind.{Kind}
 use Rattle.c_rows.specs.declared.kind.Kind.TheVariants as kind
 use Rattle.c_rows.specs.declared.rule.Rule.{Rule}
 use Rattle.c_rows.specs.declared.rule.Rule.TheVariants as rule
-
-abbrev pub kind_of : Rule → Kind
-kind_of rule.Strings = kind.Post
-kind_of rule.Paren = kind.Post
-kind_of rule.Index = kind.Post
-kind_of rule.Call = kind.Post
-kind_of rule.Member = kind.Post
-kind_of rule.Arrow = kind.Post
-kind_of rule.PostOp = kind.Post
-kind_of rule.Literal = kind.Post
-kind_of rule.PatBranches = kind.Post
-kind_of rule.PreOp = kind.Un
-kind_of rule.Unary = kind.Un
-kind_of rule.SizeofExpr = kind.Un
-kind_of rule.SizeofType = kind.Un
-kind_of rule.Cast = kind.CastLevel
-kind_of rule.Product = kind.Product
-kind_of rule.Sum = kind.Sum
-kind_of rule.Shift = kind.Shift
-kind_of rule.Order = kind.Order
-kind_of rule.Equality = kind.Equality
-kind_of rule.And = kind.And
-kind_of rule.Xor = kind.Xor
-kind_of rule.Or = kind.Or
-kind_of rule.AndAnd = kind.AndAnd
-kind_of rule.OrOr = kind.OrOr
-kind_of rule.Cond = kind.CondLevel
-kind_of rule.CondShort = kind.CondLevel
-kind_of rule.Assign = kind.AssignLevel
-kind_of rule.Comma = kind.Expr
-kind_of rule.Args = kind.Args
-kind_of rule.TypeArg = kind.TypeArg
-kind_of rule.TypeName = kind.TypeName
-kind_of rule.Specs = kind.Specs
-kind_of rule.StructUse = kind.Tag
-kind_of rule.StructDef = kind.Tag
-kind_of rule.EnumUse = kind.Tag
-kind_of rule.EnumDef = kind.Tag
-kind_of rule.Field = kind.Field
-kind_of rule.MacroItem = kind.MacroItem
-kind_of rule.NamelessBits = kind.NamelessBits
-kind_of rule.DParen = kind.Direct
-kind_of rule.DArray = kind.Direct
-kind_of rule.NamelessArray = kind.Direct
-kind_of rule.DFun = kind.Direct
-kind_of rule.NamelessFun = kind.Direct
-kind_of rule.Pointer = kind.Declarator
-kind_of rule.Bits = kind.FieldDeclarator
-kind_of rule.Params = kind.Params
-kind_of rule.Param = kind.Param
-kind_of rule.InitList = kind.InitList
-kind_of rule.InitItem = kind.InitItem
-kind_of rule.DotName = kind.Designator
-kind_of rule.At = kind.Designator
-kind_of rule.EnumValue = kind.Enumerator
-kind_of rule.Decl = kind.Decl
-kind_of rule.InitDecl = kind.InitDeclarator
-kind_of rule.ExprStat = kind.Body
-kind_of rule.Empty = kind.Body
-kind_of rule.If = kind.Body
-kind_of rule.While = kind.Body
-kind_of rule.Do = kind.Body
-kind_of rule.For = kind.Body
-kind_of rule.Switch = kind.Body
-kind_of rule.Iterator = kind.Body
-kind_of rule.Return = kind.Body
-kind_of rule.Goto = kind.Body
-kind_of rule.Break = kind.Body
-kind_of rule.Continue = kind.Body
-kind_of rule.PatLists = kind.Body
-kind_of rule.Block = kind.Block
-kind_of rule.Case = kind.Statement
-kind_of rule.Default = kind.Statement
-kind_of rule.Label = kind.Statement
-kind_of rule.PatNest = kind.PatNest
-kind_of rule.StmtList = kind.StmtList
-kind_of rule.External = kind.External
-kind_of rule.ExternalMacro = kind.External
-kind_of rule.ExternalEmpty = kind.External
-
--- ---- labels
-
-abbrev pub text_is : List ℕ → Tree-F Tree → Bool
-text_is s (Tree-F.Leaf t) = bytes_eq t.text s
-text_is s (Tree-F.Branch l cs) = false
-
--- Branches of a pattern parted by `\|` are a PatOr, those parted by `\&` a PatAnd.
-abbrev pub branches_label : List Tree → Label
-branches_label (a ∷ b ∷ c ∷ cs) = if text_is (codes "\\|") (out-Tree c) then label.PatOr else label.PatAnd
-branches_label _ = label.PatAnd
-
--- `[a]` is an At, `[a ... b]` an AtRange.
-abbrev pub at_label : List Tree → Label
-at_label (a ∷ b ∷ c ∷ []) = label.At
-at_label _ = label.AtRange
-
--- With an `else`, an If is an IfElse.
-abbrev pub if_label : List Tree → Label
-if_label (a ∷ b ∷ c ∷ d ∷ e ∷ []) = label.If
-if_label _ = label.IfElse
-
--- `case a :` is a Case, `case a ... b :` a CaseRange.
-abbrev pub case_label : List Tree → Label
-case_label (a ∷ b ∷ c ∷ []) = label.Case
-case_label _ = label.CaseRange
-
--- a branch with such a label
-abbrev pub labelled : (Label → Bool) → Tree-F Tree → Bool
-labelled p (Tree-F.Leaf t) = false
-labelled p (Tree-F.Branch l cs) = p l
-
-abbrev pub is_decl_label : Label → Bool
-is_decl_label label.Decl = true
-is_decl_label _ = false
-
--- With a declaration in its brackets, a For is a ForDecl.
-abbrev pub for_label : List Tree → Label
-for_label (a ∷ b ∷ c ∷ cs) = if labelled is_decl_label (out-Tree c) then label.ForDecl else label.For
-for_label _ = label.For
-
-abbrev pub is_block_label : Label → Bool
-is_block_label label.Block = true
-is_block_label _ = false
-
--- Type words, a declarator and a Block are a FunDef, anything else behind type words a Decl.
-abbrev pub external_label : List Tree → Label
-external_label (a ∷ b ∷ c ∷ []) = if labelled is_block_label (out-Tree c) then label.FunDef else label.Decl
-external_label _ = label.Decl
-
-abbrev pub is_blockless : List Tree → Bool
-is_blockless = list_all (λ c. not (labelled is_block_label (out-Tree c)))
-
--- With a Block, a macro's item is a MacroFun.
-abbrev pub macro_label : List Tree → Label
-macro_label cs = if is_blockless cs then label.MacroItem else label.MacroFun
-
--- the label of a branch with these children
-abbrev pub label_of : Rule → List Tree → Label
-label_of rule.Strings cs = label.Strings
-label_of rule.Paren cs = label.Paren
-label_of rule.Index cs = label.Index
-label_of rule.Call cs = label.Call
-label_of rule.Args cs = label.Args
-label_of rule.TypeArg cs = label.TypeArg
-label_of rule.Member cs = label.Member
-label_of rule.Arrow cs = label.Arrow
-label_of rule.PostOp cs = label.PostOp
-label_of rule.Literal cs = label.Literal
-label_of rule.PreOp cs = label.PreOp
-label_of rule.Unary cs = label.Unary
-label_of rule.SizeofExpr cs = label.SizeofExpr
-label_of rule.SizeofType cs = label.SizeofType
-label_of rule.Cast cs = label.Cast
-label_of rule.Product cs = label.Binary
-label_of rule.Sum cs = label.Binary
-label_of rule.Shift cs = label.Binary
-label_of rule.Order cs = label.Binary
-label_of rule.Equality cs = label.Binary
-label_of rule.And cs = label.Binary
-label_of rule.Xor cs = label.Binary
-label_of rule.Or cs = label.Binary
-label_of rule.AndAnd cs = label.Binary
-label_of rule.OrOr cs = label.Binary
-label_of rule.Cond cs = label.Cond
-label_of rule.CondShort cs = label.CondShort
-label_of rule.Assign cs = label.Assign
-label_of rule.Comma cs = label.Comma
-label_of rule.PatBranches cs = branches_label cs
-label_of rule.TypeName cs = label.TypeName
-label_of rule.Specs cs = label.Specs
-label_of rule.StructUse cs = label.StructUse
-label_of rule.StructDef cs = label.StructDef
-label_of rule.Field cs = label.Field
-label_of rule.Bits cs = label.Bits
-label_of rule.NamelessBits cs = label.Bits
-label_of rule.EnumUse cs = label.EnumUse
-label_of rule.EnumDef cs = label.EnumDef
-label_of rule.EnumValue cs = label.EnumValue
-label_of rule.Pointer cs = label.Pointer
-label_of rule.DParen cs = label.DParen
-label_of rule.DArray cs = label.DArray
-label_of rule.NamelessArray cs = label.DArray
-label_of rule.DFun cs = label.DFun
-label_of rule.NamelessFun cs = label.DFun
-label_of rule.Params cs = label.Params
-label_of rule.Param cs = label.Param
-label_of rule.InitList cs = label.InitList
-label_of rule.InitItem cs = label.InitItem
-label_of rule.DotName cs = label.DotName
-label_of rule.At cs = at_label cs
-label_of rule.MacroItem cs = label.MacroItem
-label_of rule.Decl cs = label.Decl
-label_of rule.InitDecl cs = label.InitDecl
-label_of rule.ExprStat cs = label.ExprStat
-label_of rule.Empty cs = label.Empty
-label_of rule.Block cs = label.Block
-label_of rule.If cs = if_label cs
-label_of rule.While cs = label.While
-label_of rule.Do cs = label.Do
-label_of rule.For cs = for_label cs
-label_of rule.Switch cs = label.Switch
-label_of rule.Iterator cs = label.Iterator
-label_of rule.Case cs = case_label cs
-label_of rule.Default cs = label.Default
-label_of rule.Label cs = label.Label
-label_of rule.Return cs = label.Return
-label_of rule.Goto cs = label.Goto
-label_of rule.Break cs = label.Break
-label_of rule.Continue cs = label.Continue
-label_of rule.StmtList cs = label.StmtList
-label_of rule.External cs = external_label cs
-label_of rule.ExternalMacro cs = macro_label cs
-label_of rule.ExternalEmpty cs = label.Empty
-label_of rule.PatLists cs = branches_label cs
-label_of rule.PatNest cs = label.PatNest
-
-abbrev pub build : Rule → List Tree → Tree
-build r cs = tree.Branch (label_of r cs) cs
+use Rattle.c_rows.specs.Tokens.{is_named, is_storage}
+use Rattle.c_rows.specs.Words.{same_class, fits, begins_tag}
+use Rattle.c_rows.specs.Forks.{Row}
+pub use Rattle.c_rows.specs.Labels.{text_is, labelled, is_decl_label, is_block_label, is_blockless}
+pub use Rattle.c_rows.specs.Labels.{branches_label, at_label, if_label, case_label, for_label, external_label, macro_label}
+pub use Rattle.c_rows.specs.Rows.{kind_of, label_of, build}
 
 -- ---- type names
 

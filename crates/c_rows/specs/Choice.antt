@@ -9,14 +9,14 @@ use Rattle.c_rows.specs.declared.kind.Kind.TheVariants as kind
 use Rattle.c_rows.specs.declared.kind.Family.{Family}
 use Rattle.c_rows.specs.declared.kind.Family.TheVariants as family
 use Rattle.c_rows.specs.declared.rule.Rule.{Rule}
-use Rattle.c_rows.specs.declared.rule.Rule.TheVariants as rule
 use Rattle.c_rows.specs.declared.symbol.Symbol.TheVariants.{Word, Child, Argument, Fork}
 use Rattle.c_rows.specs.declared.symbol.Fork as forks
 use Rattle.c_rows.specs.declared.symbol.Fork.TheVariants as fork
 use Rattle.c_rows.specs.Words.{begins_by_keyword, same_class, fits, begins_tag, begins_specs, ends_member}
 use Rattle.c_rows.specs.Kinds.{family_of, same_family, within}
-use Rattle.c_rows.specs.Branches.{kind_of, begins, begins_macro, begins_declaration, begins_dots, may_go}
-use Rattle.c_rows.specs.Rows.{Row, row, ways}
+use Rattle.c_rows.specs.Forks.{Row, ways}
+use Rattle.c_rows.specs.Rows.{kind_of, row, heads, tails}
+use Rattle.c_rows.specs.Branches.{begins, begins_macro, begins_declaration, begins_dots, may_go}
 
 -- ---- what may stand first
 
@@ -181,42 +181,6 @@ tail_of (p ∷ ps) = ps
 -- what is read after the choice of the rule
 abbrev pub own : Rule → Row
 own r = if is_some (left r) then tail_of (row r) else row r
-
--- the rules whose rows begin with a part of another family
-abbrev pub heads : Family → List Rule
-heads family.Expression =
-    rule.Strings ∷ rule.Paren ∷ rule.Literal ∷ rule.Cast ∷ rule.PreOp ∷ rule.Unary ∷ rule.SizeofExpr ∷ rule.SizeofType ∷ rule.PatBranches ∷ []
-heads family.Args = rule.Args ∷ []
-heads family.TypeArg = rule.TypeArg ∷ []
-heads family.TypeName = rule.TypeName ∷ []
-heads family.Specs = rule.Specs ∷ []
-heads family.Tag = rule.StructUse ∷ rule.StructDef ∷ rule.EnumUse ∷ rule.EnumDef ∷ []
-heads family.Field = rule.Field ∷ []
-heads family.MacroItem = rule.MacroItem ∷ []
-heads family.NamelessBits = rule.NamelessBits ∷ []
-heads family.Declarator = rule.Pointer ∷ rule.DParen ∷ rule.NamelessArray ∷ rule.NamelessFun ∷ []
-heads family.Params = rule.Params ∷ []
-heads family.Param = rule.Param ∷ []
-heads family.InitList = rule.InitList ∷ []
-heads family.InitItem = rule.InitItem ∷ []
-heads family.Designator = rule.DotName ∷ rule.At ∷ []
-heads family.Enumerator = []
-heads family.Decl = rule.Decl ∷ []
-heads family.Statement =
-    rule.ExprStat ∷ rule.If ∷ rule.Return ∷ rule.Block ∷ rule.Goto ∷ rule.Label ∷ rule.Case ∷ rule.Break ∷
-    rule.For ∷ rule.While ∷ rule.Switch ∷ rule.Iterator ∷ rule.Default ∷ rule.Continue ∷ rule.Do ∷ rule.Empty ∷
-    rule.PatLists ∷ rule.PatNest ∷ []
-heads family.StmtList = rule.StmtList ∷ []
-heads family.External = rule.External ∷ rule.ExternalMacro ∷ rule.ExternalEmpty ∷ []
-
--- the rules whose rows begin with a part of the family itself
-abbrev pub tails : Family → List Rule
-tails family.Expression =
-    rule.Index ∷ rule.Call ∷ rule.Member ∷ rule.Arrow ∷ rule.PostOp ∷ rule.OrOr ∷ rule.AndAnd ∷ rule.Or ∷ rule.Xor ∷ rule.And
-    ∷ rule.Equality ∷ rule.Order ∷ rule.Shift ∷ rule.Sum ∷ rule.Product ∷ rule.Cond ∷ rule.CondShort ∷ rule.Assign ∷ rule.Comma ∷ []
-tails family.Declarator = rule.DArray ∷ rule.DFun ∷ rule.Bits ∷ rule.InitDecl ∷ []
-tails family.Enumerator = rule.EnumValue ∷ []
-tails _ = []
 
 abbrev pub pick_head : List Rule → Class → Option Rule
 pick_head [] c = None

@@ -12,8 +12,8 @@ use Rattle.c_rows.specs.declared.symbol.Fork as forks
 use Rattle.c_rows.specs.Look.{Names, look}
 use Rattle.c_rows.specs.Words.{fits}
 use Rattle.c_rows.specs.Kinds.{family_of, within, has_leaf}
-use Rattle.c_rows.specs.Rows.{Row, row, ways}
-use Rattle.c_rows.specs.Branches.{kind_of, build, begins, allows, may_go}
+use Rattle.c_rows.specs.Rows.{Row, ways, row, kind_of, build}
+use Rattle.c_rows.specs.Branches.{begins, allows, may_go}
 
 -- `may` says of two lists, the second of which is the end of the first, whether a type that spells the tokens
 -- between them may be a member of a call's list.

@@ -8,7 +8,9 @@ use Rattle.c_rows.specs.declared.facts.Facts.{Facts}
 use Rattle.c_rows.specs.declared.rule.Rule.{Rule}
 use Rattle.c_rows.specs.declared.rule.Rule.TheVariants as rule
 use Rattle.c_rows.specs.Tokens.{is_named, is_storage}
-use Rattle.c_rows.specs.Branches.{label_of, labelled, defines, is_loose_label, is_block_label, plain_part, is_plain, declares_at, declares_name, function_at, declares_function}
+use Rattle.c_rows.specs.Labels.{labelled, is_block_label}
+use Rattle.c_rows.specs.Rows.{label_of}
+use Rattle.c_rows.specs.Branches.{defines, is_loose_label, plain_part, is_plain, declares_at, declares_name, function_at, declares_function}
 
 abbrev pub facts_of : Tree → Facts
 facts_of t = record {

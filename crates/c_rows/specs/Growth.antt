@@ -7,7 +7,8 @@ use Rattle.c_rows.specs.declared.kind.Kind.{Kind}
 use Rattle.c_rows.specs.declared.kind.Family.{Family}
 use Rattle.c_rows.specs.declared.rule.Rule.{Rule}
 use Rattle.c_rows.specs.Kinds.{family_of, has_leaf, within}
-use Rattle.c_rows.specs.Branches.{kind_of, build, begins, allows}
+use Rattle.c_rows.specs.Rows.{kind_of, build}
+use Rattle.c_rows.specs.Branches.{begins, allows}
 use Rattle.c_rows.specs.Choice.{bottom, ends, left, own}
 use Rattle.c_rows.specs.Seen.{Seen, front}
 use Rattle.c_rows.specs.Spells.{Runs}

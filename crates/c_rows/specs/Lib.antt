@@ -6,6 +6,8 @@ pub mod Tokens
 pub mod Words
 pub mod Look
 pub mod Kinds
+pub mod Forks
+pub mod Labels
 pub mod Rows
 pub mod Branches
 pub mod Derives

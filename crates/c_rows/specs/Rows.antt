@@ -1,371 +1,274 @@
--- The rows of the grammar: the parts of each rule, in order.
+-- The rows of the grammar: of each rule, of which kind and label its branches are, and their parts in order.
 use Rattle.std.specs.Prelude.{List, [], ◌∷◌}
-use Rattle.c_rows.specs.declared.class.Class.{Class}
+use Rattle.c_terms.specs.declared.label.Label.{Label}
+use Rattle.c_terms.specs.declared.label.Label.TheVariants as label
+use Rattle.c_terms.specs.declared.tree.Tree.{Tree}
+use Rattle.c_terms.specs.declared.tree.Tree.TheVariants as tree
 use Rattle.c_rows.specs.declared.class.Class.TheVariants as class
 use Rattle.c_rows.specs.declared.word.Word.TheVariants as word
+use Rattle.c_rows.specs.declared.kind.Kind.{Kind}
 use Rattle.c_rows.specs.declared.kind.Kind.TheVariants as kind
+use Rattle.c_rows.specs.declared.kind.Family.{Family}
+use Rattle.c_rows.specs.declared.kind.Family.TheVariants as family
+use Rattle.c_rows.specs.declared.labels.Naming.{Naming}
+use Rattle.c_rows.specs.declared.labels.Naming.TheVariants.{Always, PatBySign, AtByRange, IfByElse, CaseByRange, ForByDecl}
+use Rattle.c_rows.specs.declared.labels.Naming.TheVariants.{DeclByBlock, MacroByBlock}
 use Rattle.c_rows.specs.declared.rule.Rule.{Rule}
 use Rattle.c_rows.specs.declared.rule.Rule.TheVariants as rule
-use Rattle.c_rows.specs.declared.symbol.Symbol.{Symbol}
-use Rattle.c_rows.specs.declared.symbol.Symbol.TheVariants.{Word, Child, Argument, Fork}
-use Rattle.c_rows.specs.declared.symbol.Fork as forks
+use Rattle.c_rows.specs.declared.symbol.Symbol.TheVariants.{Word, Child, Fork}
 use Rattle.c_rows.specs.declared.symbol.Fork.TheVariants as fork
+use Rattle.c_rows.specs.Labels.{named}
+pub use Rattle.c_rows.specs.Forks.{Row, One, ways}
 
-abbrev pub Row : Type 0
-Row = List Symbol
+-- the tightest kind of which a branch is, how it is labelled, and its parts in order
+pub record Production : Type 0 where
+  pub kind : Kind
+  pub naming : Naming
+  pub parts : Row
 
--- a token of this class
-abbrev pub One : Class → Symbol
-One c = Word (word.One c)
+abbrev pub Of : Kind → Naming → Row → Production
+Of k n ps = record { kind = k; naming = n; parts = ps }
+
+abbrev pub production : Rule → Production
+-- ---- expressions
+
+-- two or more strings and names: `"a" "b"`, `PRIu64 "x"`
+production rule.Strings = Of kind.Post (Always label.Strings) (Fork fork.FirstString ∷ [])
+-- `(` expression `)`: `(e)`
+production rule.Paren = Of kind.Post (Always label.Paren) (Word word.ParenOpen ∷ Child kind.Expr ∷ One class.Close ∷ [])
+-- `(` type-name `)` list of initialisers: `(T){ 1, 2 }`
+production rule.Literal = Of kind.Post (Always label.Literal)
+    (Word word.LiteralOpen ∷ Child kind.TypeName ∷ One class.Close ∷ Child kind.InitList ∷ [])
+-- `(` type-name `)` cast-expression: `(T)e`
+production rule.Cast = Of kind.CastLevel (Always label.Cast)
+    (Word word.CastOpen ∷ Child kind.TypeName ∷ One class.Close ∷ Child kind.CastLevel ∷ [])
+-- `++` or `--`, unary-expression: `++e`
+production rule.PreOp = Of kind.Un (Always label.PreOp) (One class.Step ∷ Child kind.Un ∷ [])
+-- `&`, `*`, `+`, `-`, `~` or `!`, cast-expression: `-e`
+production rule.Unary = Of kind.Un (Always label.Unary) (Word word.Prefix ∷ Child kind.CastLevel ∷ [])
+-- `sizeof` unary-expression: `sizeof e`
+production rule.SizeofExpr = Of kind.Un (Always label.SizeofExpr) (One class.SizeofExpr ∷ Child kind.Un ∷ [])
+-- `sizeof` or `_Alignof`, `(` type-name `)`: `sizeof(T)`
+production rule.SizeofType = Of kind.Un (Always label.SizeofType)
+    (One class.SizeofType ∷ Word word.AnyOpen ∷ Child kind.TypeName ∷ One class.Close ∷ [])
+-- expressions between `\(` and `\)`, parted by `\|` or by `\&`: `\( a \| b \)`, `\( a \& b \)`
+production rule.PatBranches = Of kind.Post PatBySign (One class.PatOpen ∷ Child kind.Expr ∷ Fork fork.FirstBranch ∷ [])
+-- postfix-expression `[` expression `]`: `e[e]`
+production rule.Index = Of kind.Post (Always label.Index)
+    (Child kind.Post ∷ One class.LeftBracket ∷ Child kind.Expr ∷ One class.RightBracket ∷ [])
+-- postfix-expression `(` arguments `)`: `f(a, b)`
+production rule.Call = Of kind.Post (Always label.Call) (Child kind.Post ∷ Word word.AnyOpen ∷ Child kind.Args ∷ One class.Close ∷ [])
+-- postfix-expression `.` name: `e.x`
+production rule.Member = Of kind.Post (Always label.Member) (Child kind.Post ∷ One class.Dot ∷ Word word.Name ∷ [])
+-- postfix-expression `->` name: `e->x`
+production rule.Arrow = Of kind.Post (Always label.Arrow) (Child kind.Post ∷ One class.Arrow ∷ Word word.Name ∷ [])
+-- postfix-expression, `++` or `--`: `e++`
+production rule.PostOp = Of kind.Post (Always label.PostOp) (Child kind.Post ∷ One class.Step ∷ [])
+-- logical-OR-expression `||` logical-AND-expression: `a || b`
+production rule.OrOr = Of kind.OrOr (Always label.Binary) (Child kind.OrOr ∷ One class.OrOr ∷ Child kind.AndAnd ∷ [])
+-- logical-AND-expression `&&` inclusive-OR-expression: `a && b`
+production rule.AndAnd = Of kind.AndAnd (Always label.Binary) (Child kind.AndAnd ∷ One class.AndAnd ∷ Child kind.Or ∷ [])
+-- inclusive-OR-expression `|` exclusive-OR-expression: `a | b`
+production rule.Or = Of kind.Or (Always label.Binary) (Child kind.Or ∷ One class.Or ∷ Child kind.Xor ∷ [])
+-- exclusive-OR-expression `^` AND-expression: `a ^ b`
+production rule.Xor = Of kind.Xor (Always label.Binary) (Child kind.Xor ∷ One class.Xor ∷ Child kind.And ∷ [])
+-- AND-expression `&` equality-expression: `a & b`
+production rule.And = Of kind.And (Always label.Binary) (Child kind.And ∷ One class.And ∷ Child kind.Equality ∷ [])
+-- equality-expression, `==` or `!=`, relational-expression: `a == b`
+production rule.Equality = Of kind.Equality (Always label.Binary) (Child kind.Equality ∷ One class.Equality ∷ Child kind.Order ∷ [])
+-- relational-expression, `<`, `>`, `<=` or `>=`, shift-expression: `a < b`
+production rule.Order = Of kind.Order (Always label.Binary) (Child kind.Order ∷ One class.Order ∷ Child kind.Shift ∷ [])
+-- shift-expression, `<<` or `>>`, additive-expression: `a << b`
+production rule.Shift = Of kind.Shift (Always label.Binary) (Child kind.Shift ∷ One class.Shift ∷ Child kind.Sum ∷ [])
+-- additive-expression, `+` or `-`, multiplicative-expression: `a + b`
+production rule.Sum = Of kind.Sum (Always label.Binary) (Child kind.Sum ∷ One class.Plus ∷ Child kind.Product ∷ [])
+-- multiplicative-expression, `*`, `/` or `%`, cast-expression: `a * b`
+production rule.Product = Of kind.Product (Always label.Binary) (Child kind.Product ∷ Word word.Times ∷ Child kind.CastLevel ∷ [])
+-- logical-OR-expression `?` expression `:` conditional-expression: `c ? a : b`
+production rule.Cond = Of kind.CondLevel (Always label.Cond)
+    (Child kind.OrOr ∷ One class.Question ∷ Child kind.Expr ∷ One class.Colon ∷ Child kind.CondLevel ∷ [])
+-- logical-OR-expression `?` `:` conditional-expression: `c ?: b`
+production rule.CondShort = Of kind.CondLevel (Always label.CondShort)
+    (Child kind.OrOr ∷ One class.ShortQuestion ∷ One class.Colon ∷ Child kind.CondLevel ∷ [])
+-- unary-expression, assignment operator, assignment-expression: `a = b`
+production rule.Assign = Of kind.AssignLevel (Always label.Assign) (Child kind.Un ∷ Word word.Assign ∷ Child kind.AssignLevel ∷ [])
+-- expression `,` assignment-expression: `a, b`
+production rule.Comma = Of kind.Expr (Always label.Comma) (Child kind.Expr ∷ One class.Comma ∷ Child kind.AssignLevel ∷ [])
+-- ---- lists of calls
+
+-- arguments parted by commas, or none: `a, b`
+production rule.Args = Of kind.Args (Always label.Args) (Fork fork.FirstArg ∷ [])
+-- a type as an argument: `int`
+production rule.TypeArg = Of kind.TypeArg (Always label.TypeArg) (Child kind.TypeName ∷ [])
+-- ---- types
+
+-- type words, and a declarator without a name, or none: `int *`
+production rule.TypeName = Of kind.TypeName (Always label.TypeName) (Child kind.Specs ∷ Fork fork.Nameless ∷ [])
+-- modifiers and one type part: `static const int`
+production rule.Specs = Of kind.Specs (Always label.Specs) (Fork fork.NoType ∷ [])
+-- `struct` or `union`, name: `struct s`
+production rule.StructUse = Of kind.Tag (Always label.StructUse) (One class.Struct ∷ Word word.Name ∷ [])
+-- `struct` or `union`, a name or none, members in braces: `struct s { int x; }`
+production rule.StructDef = Of kind.Tag (Always label.StructDef) (One class.StructBody ∷ Fork fork.StructName ∷ [])
+-- `enum` name: `enum e`
+production rule.EnumUse = Of kind.Tag (Always label.EnumUse) (One class.Enum ∷ Word word.Name ∷ [])
+-- `enum`, a name or none, enumerators in braces: `enum e { A, B = 2 }`
+production rule.EnumDef = Of kind.Tag (Always label.EnumDef) (One class.EnumBody ∷ Fork fork.EnumName ∷ [])
+-- type words, declarators and bits parted by commas, or none, `;`: `int x, y : 3;`
+production rule.Field = Of kind.Field (Always label.Field) (Child kind.Specs ∷ Fork fork.FirstField ∷ [])
+-- storage words, name, `(` arguments `)` `;`: `static MACRO(x);`
+production rule.MacroItem = Of kind.MacroItem (Always label.MacroItem) (Fork fork.MacroWords ∷ [])
+-- `:` conditional-expression: `: 3`
+production rule.NamelessBits = Of kind.NamelessBits (Always label.Bits) (One class.Colon ∷ Child kind.CondLevel ∷ [])
+-- ---- declarators
+
+-- `*`, qualifiers, a declarator or none: `*const d`
+production rule.Pointer = Of kind.Declarator (Always label.Pointer) (One class.Star ∷ Fork fork.Pointee ∷ [])
+-- `(` declarator `)`: `(d)`
+production rule.DParen = Of kind.Direct (Always label.DParen) (Word word.NestOpen ∷ Child kind.Declarator ∷ One class.Close ∷ [])
+-- `[` a size or none `]`, where no name is declared: `[3]`
+production rule.NamelessArray = Of kind.Direct (Always label.DArray) (One class.LeftBracket ∷ Fork fork.Size ∷ [])
+-- `(` parameters `)`, where no name is declared: `(int x)`
+production rule.NamelessFun = Of kind.Direct (Always label.DFun) (Word word.ListOpen ∷ Child kind.Params ∷ One class.Close ∷ [])
+-- direct-declarator `[` a size or none `]`: `d[3]`
+production rule.DArray = Of kind.Direct (Always label.DArray) (Child kind.Direct ∷ One class.LeftBracket ∷ Fork fork.Size ∷ [])
+-- direct-declarator `(` parameters `)`: `d(int x)`
+production rule.DFun = Of kind.Direct (Always label.DFun) (Child kind.Direct ∷ Word word.AnyOpen ∷ Child kind.Params ∷ One class.Close ∷ [])
+-- declarator `:` conditional-expression: `y : 3`
+production rule.Bits = Of kind.FieldDeclarator (Always label.Bits) (Child kind.Declarator ∷ One class.Colon ∷ Child kind.CondLevel ∷ [])
+-- declarator `=` an expression or a list of initialisers: `x = 1`
+production rule.InitDecl = Of kind.InitDeclarator (Always label.InitDecl)
+    (Child kind.Declarator ∷ One class.Equal ∷ Fork fork.InitValue ∷ [])
+-- parameters parted by commas, or none: `int x, ...`
+production rule.Params = Of kind.Params (Always label.Params) (Fork fork.FirstParam ∷ [])
+-- type words, and a declarator or none: `int x`
+production rule.Param = Of kind.Param (Always label.Param) (Child kind.Specs ∷ Fork fork.ParamName ∷ [])
+-- ---- initialisers
+
+-- initialisers in braces, parted by commas: `{ 1, .x = 2, }`
+production rule.InitList = Of kind.InitList (Always label.InitList) (One class.LeftBrace ∷ Fork fork.FirstInit ∷ [])
+-- designators `=` an expression or a list: `.x[2] = 3`
+production rule.InitItem = Of kind.InitItem (Always label.InitItem) (Child kind.Designator ∷ Fork fork.MoreDesignators ∷ [])
+-- `.` name: `.x`
+production rule.DotName = Of kind.Designator (Always label.DotName) (One class.Dot ∷ Word word.Name ∷ [])
+-- `[` conditional-expression `]`, or with a range: `[2]`, `[2 ... 5]`
+production rule.At = Of kind.Designator AtByRange (One class.LeftBracket ∷ Child kind.CondLevel ∷ Fork fork.AtEnd ∷ [])
+-- ---- enumerators
+
+-- name `=` conditional-expression: `B = 2`
+production rule.EnumValue = Of kind.Enumerator (Always label.EnumValue) (Child kind.EnumName ∷ One class.Equal ∷ Child kind.CondLevel ∷ [])
+-- ---- declarations
+
+-- type words, declarators and initialisers parted by commas, or none, `;`: `int x = 1, y;`
+production rule.Decl = Of kind.Decl (Always label.Decl) (Child kind.Specs ∷ Fork fork.FirstDeclarator ∷ [])
+-- ---- statements
+
+-- expression `;`: `f();`
+production rule.ExprStat = Of kind.Body (Always label.ExprStat) (Child kind.Expr ∷ One class.Semicolon ∷ [])
+-- `if` `(` expression `)` body, and with or without `else` body: `if (c) f(); else g();`
+production rule.If = Of kind.Body IfByElse
+    (One class.If ∷ Word word.AnyOpen ∷ Child kind.Expr ∷ One class.Close ∷ Child kind.Body ∷ Fork fork.ElseOrNot ∷ [])
+-- `return` an expression or none `;`: `return e;`
+production rule.Return = Of kind.Body (Always label.Return) (One class.Return ∷ Fork fork.ReturnValue ∷ [])
+-- `{` statements `}`: `{ f(); }`
+production rule.Block = Of kind.Block (Always label.Block) (One class.LeftBrace ∷ Fork fork.BlockStatements ∷ [])
+-- `goto` name `;`: `goto out;`
+production rule.Goto = Of kind.Body (Always label.Goto) (One class.Goto ∷ Word word.Name ∷ One class.Semicolon ∷ [])
+-- name `:`: `out:`
+production rule.Label = Of kind.Statement (Always label.Label) (One class.NameOfLabel ∷ One class.Colon ∷ [])
+-- `case` expression `:`, or with a range: `case 1:`, `case 1 ... 2:`
+production rule.Case = Of kind.Statement CaseByRange (One class.Case ∷ Child kind.Expr ∷ Fork fork.CaseEnd ∷ [])
+-- `break` `;`
+production rule.Break = Of kind.Body (Always label.Break) (One class.Break ∷ One class.Semicolon ∷ [])
+-- `for` `(` a declaration, or an expression or none and `;`, two more, `)` body: `for (;;) f();`
+production rule.For = Of kind.Body ForByDecl (One class.For ∷ Word word.AnyOpen ∷ Fork fork.ForInit ∷ [])
+-- `while` `(` expression `)` body: `while (c) f();`
+production rule.While = Of kind.Body (Always label.While)
+    (One class.While ∷ Word word.AnyOpen ∷ Child kind.Expr ∷ One class.Close ∷ Child kind.Body ∷ [])
+-- `switch` `(` expression `)` body: `switch (e) { }`
+production rule.Switch = Of kind.Body (Always label.Switch)
+    (One class.Switch ∷ Word word.AnyOpen ∷ Child kind.Expr ∷ One class.Close ∷ Child kind.Body ∷ [])
+-- name `(` arguments `)` body: `list_for_each(p, head) f(p);`
+production rule.Iterator = Of kind.Body (Always label.Iterator)
+    (Word word.IteratorName ∷ Word word.AnyOpen ∷ Child kind.Args ∷ One class.Close ∷ Child kind.Body ∷ [])
+-- `default` `:`
+production rule.Default = Of kind.Statement (Always label.Default) (One class.Default ∷ One class.Colon ∷ [])
+-- `continue` `;`
+production rule.Continue = Of kind.Body (Always label.Continue) (One class.Continue ∷ One class.Semicolon ∷ [])
+-- `do` body `while` `(` expression `)` `;`: `do f(); while (c);`
+production rule.Do = Of kind.Body (Always label.Do)
+    (One class.Do ∷ Child kind.Body ∷ One class.While ∷ Word word.AnyOpen ∷ Child kind.Expr ∷ One class.Close ∷ One class.Semicolon ∷ [])
+-- `;`
+production rule.Empty = Of kind.Body (Always label.Empty) (One class.Semicolon ∷ [])
+-- lists of statements between `\(` and `\)`, parted by `\|` or by `\&`: `\( f(); \| g(); \)`
+production rule.PatLists = Of kind.Body PatBySign (One class.PatOpenOfStatements ∷ Child kind.StmtList ∷ Fork fork.FirstList ∷ [])
+-- `<...` or `<+...`, an expression or statements, `...>` or `...+>`: `<... f(x) ...>`
+production rule.PatNest = Of kind.PatNest (Always label.PatNest) (Fork fork.NestStart ∷ [])
+-- statements: `f(); g();`
+production rule.StmtList = Of kind.StmtList (Always label.StmtList) (Fork fork.ListStatements ∷ [])
+-- ---- items
+
+-- type words, a declarator and a Block, or what a Decl has: `int f(void) { }`, `int x = 1, y;`
+production rule.External = Of kind.External DeclByBlock (Child kind.Specs ∷ Fork fork.FirstExternal ∷ [])
+-- storage words, name, `(` arguments `)`, and `;` or a Block: `MACRO(x);`, `MACRO(x) { }`
+production rule.ExternalMacro = Of kind.External MacroByBlock (Fork fork.MacroNames ∷ [])
+-- `;`
+production rule.ExternalEmpty = Of kind.External (Always label.Empty) (One class.Semicolon ∷ [])
+
+-- ---- what it says of a rule
+
+abbrev pub kind_of : Rule → Kind
+kind_of r = (production r).kind
 
 abbrev pub row : Rule → Row
--- two or more strings and names: `"a" "b"`, `PRIu64 "x"`
-row rule.Strings = Fork fork.FirstString ∷ []
--- `(` expression `)`: `(e)`
-row rule.Paren = Word word.ParenOpen ∷ Child kind.Expr ∷ One class.Close ∷ []
--- postfix-expression `[` expression `]`: `e[e]`
-row rule.Index = Child kind.Post ∷ One class.LeftBracket ∷ Child kind.Expr ∷ One class.RightBracket ∷ []
--- postfix-expression `(` arguments `)`: `f(a, b)`
-row rule.Call = Child kind.Post ∷ Word word.AnyOpen ∷ Child kind.Args ∷ One class.Close ∷ []
--- arguments parted by commas, or none: `a, b`
-row rule.Args = Fork fork.FirstArg ∷ []
--- a type as an argument: `int`
-row rule.TypeArg = Child kind.TypeName ∷ []
--- postfix-expression `.` name: `e.x`
-row rule.Member = Child kind.Post ∷ One class.Dot ∷ Word word.Name ∷ []
--- postfix-expression `->` name: `e->x`
-row rule.Arrow = Child kind.Post ∷ One class.Arrow ∷ Word word.Name ∷ []
--- postfix-expression, `++` or `--`: `e++`
-row rule.PostOp = Child kind.Post ∷ One class.Step ∷ []
--- `(` type-name `)` list of initialisers: `(T){ 1, 2 }`
-row rule.Literal = Word word.LiteralOpen ∷ Child kind.TypeName ∷ One class.Close ∷ Child kind.InitList ∷ []
--- `++` or `--`, unary-expression: `++e`
-row rule.PreOp = One class.Step ∷ Child kind.Un ∷ []
--- `&`, `*`, `+`, `-`, `~` or `!`, cast-expression: `-e`
-row rule.Unary = Word word.Prefix ∷ Child kind.CastLevel ∷ []
--- `sizeof` unary-expression: `sizeof e`
-row rule.SizeofExpr = One class.SizeofExpr ∷ Child kind.Un ∷ []
--- `sizeof` or `_Alignof`, `(` type-name `)`: `sizeof(T)`
-row rule.SizeofType = One class.SizeofType ∷ Word word.AnyOpen ∷ Child kind.TypeName ∷ One class.Close ∷ []
--- `(` type-name `)` cast-expression: `(T)e`
-row rule.Cast = Word word.CastOpen ∷ Child kind.TypeName ∷ One class.Close ∷ Child kind.CastLevel ∷ []
--- logical-OR-expression `||` logical-AND-expression: `a || b`
-row rule.OrOr = Child kind.OrOr ∷ One class.OrOr ∷ Child kind.AndAnd ∷ []
--- logical-AND-expression `&&` inclusive-OR-expression: `a && b`
-row rule.AndAnd = Child kind.AndAnd ∷ One class.AndAnd ∷ Child kind.Or ∷ []
--- inclusive-OR-expression `|` exclusive-OR-expression: `a | b`
-row rule.Or = Child kind.Or ∷ One class.Or ∷ Child kind.Xor ∷ []
--- exclusive-OR-expression `^` AND-expression: `a ^ b`
-row rule.Xor = Child kind.Xor ∷ One class.Xor ∷ Child kind.And ∷ []
--- AND-expression `&` equality-expression: `a & b`
-row rule.And = Child kind.And ∷ One class.And ∷ Child kind.Equality ∷ []
--- equality-expression, `==` or `!=`, relational-expression: `a == b`
-row rule.Equality = Child kind.Equality ∷ One class.Equality ∷ Child kind.Order ∷ []
--- relational-expression, `<`, `>`, `<=` or `>=`, shift-expression: `a < b`
-row rule.Order = Child kind.Order ∷ One class.Order ∷ Child kind.Shift ∷ []
--- shift-expression, `<<` or `>>`, additive-expression: `a << b`
-row rule.Shift = Child kind.Shift ∷ One class.Shift ∷ Child kind.Sum ∷ []
--- additive-expression, `+` or `-`, multiplicative-expression: `a + b`
-row rule.Sum = Child kind.Sum ∷ One class.Plus ∷ Child kind.Product ∷ []
--- multiplicative-expression, `*`, `/` or `%`, cast-expression: `a * b`
-row rule.Product = Child kind.Product ∷ Word word.Times ∷ Child kind.CastLevel ∷ []
--- logical-OR-expression `?` expression `:` conditional-expression: `c ? a : b`
-row rule.Cond = Child kind.OrOr ∷ One class.Question ∷ Child kind.Expr ∷ One class.Colon ∷ Child kind.CondLevel ∷ []
--- logical-OR-expression `?` `:` conditional-expression: `c ?: b`
-row rule.CondShort = Child kind.OrOr ∷ One class.ShortQuestion ∷ One class.Colon ∷ Child kind.CondLevel ∷ []
--- unary-expression, assignment operator, assignment-expression: `a = b`
-row rule.Assign = Child kind.Un ∷ Word word.Assign ∷ Child kind.AssignLevel ∷ []
--- expression `,` assignment-expression: `a, b`
-row rule.Comma = Child kind.Expr ∷ One class.Comma ∷ Child kind.AssignLevel ∷ []
--- type words, and a declarator without a name, or none: `int *`
-row rule.TypeName = Child kind.Specs ∷ Fork fork.Nameless ∷ []
--- modifiers and one type part: `static const int`
-row rule.Specs = Fork fork.NoType ∷ []
--- `struct` or `union`, name: `struct s`
-row rule.StructUse = One class.Struct ∷ Word word.Name ∷ []
--- `struct` or `union`, a name or none, members in braces: `struct s { int x; }`
-row rule.StructDef = One class.StructBody ∷ Fork fork.StructName ∷ []
--- type words, declarators and bits parted by commas, or none, `;`: `int x, y : 3;`
-row rule.Field = Child kind.Specs ∷ Fork fork.FirstField ∷ []
--- declarator `:` conditional-expression: `y : 3`
-row rule.Bits = Child kind.Declarator ∷ One class.Colon ∷ Child kind.CondLevel ∷ []
--- `:` conditional-expression: `: 3`
-row rule.NamelessBits = One class.Colon ∷ Child kind.CondLevel ∷ []
--- `enum` name: `enum e`
-row rule.EnumUse = One class.Enum ∷ Word word.Name ∷ []
--- `enum`, a name or none, enumerators in braces: `enum e { A, B = 2 }`
-row rule.EnumDef = One class.EnumBody ∷ Fork fork.EnumName ∷ []
--- name `=` conditional-expression: `B = 2`
-row rule.EnumValue = Child kind.EnumName ∷ One class.Equal ∷ Child kind.CondLevel ∷ []
--- `*`, qualifiers, a declarator or none: `*const d`
-row rule.Pointer = One class.Star ∷ Fork fork.Pointee ∷ []
--- `(` declarator `)`: `(d)`
-row rule.DParen = Word word.NestOpen ∷ Child kind.Declarator ∷ One class.Close ∷ []
--- direct-declarator `[` a size or none `]`: `d[3]`
-row rule.DArray = Child kind.Direct ∷ One class.LeftBracket ∷ Fork fork.Size ∷ []
--- `[` a size or none `]`, where no name is declared: `[3]`
-row rule.NamelessArray = One class.LeftBracket ∷ Fork fork.Size ∷ []
--- direct-declarator `(` parameters `)`: `d(int x)`
-row rule.DFun = Child kind.Direct ∷ Word word.AnyOpen ∷ Child kind.Params ∷ One class.Close ∷ []
--- `(` parameters `)`, where no name is declared: `(int x)`
-row rule.NamelessFun = Word word.ListOpen ∷ Child kind.Params ∷ One class.Close ∷ []
--- parameters parted by commas, or none: `int x, ...`
-row rule.Params = Fork fork.FirstParam ∷ []
--- type words, and a declarator or none: `int x`
-row rule.Param = Child kind.Specs ∷ Fork fork.ParamName ∷ []
--- initialisers in braces, parted by commas: `{ 1, .x = 2, }`
-row rule.InitList = One class.LeftBrace ∷ Fork fork.FirstInit ∷ []
--- designators `=` an expression or a list: `.x[2] = 3`
-row rule.InitItem = Child kind.Designator ∷ Fork fork.MoreDesignators ∷ []
--- `.` name: `.x`
-row rule.DotName = One class.Dot ∷ Word word.Name ∷ []
--- `[` conditional-expression `]`, or with a range: `[2]`, `[2 ... 5]`
-row rule.At = One class.LeftBracket ∷ Child kind.CondLevel ∷ Fork fork.AtEnd ∷ []
--- storage words, name, `(` arguments `)` `;`: `static MACRO(x);`
-row rule.MacroItem = Fork fork.MacroWords ∷ []
--- type words, declarators and initialisers parted by commas, or none, `;`: `int x = 1, y;`
-row rule.Decl = Child kind.Specs ∷ Fork fork.FirstDeclarator ∷ []
--- declarator `=` an expression or a list of initialisers: `x = 1`
-row rule.InitDecl = Child kind.Declarator ∷ One class.Equal ∷ Fork fork.InitValue ∷ []
--- expression `;`: `f();`
-row rule.ExprStat = Child kind.Expr ∷ One class.Semicolon ∷ []
--- `;`
-row rule.Empty = One class.Semicolon ∷ []
--- `{` statements `}`: `{ f(); }`
-row rule.Block = One class.LeftBrace ∷ Fork fork.BlockStatements ∷ []
--- `if` `(` expression `)` body, and with or without `else` body: `if (c) f(); else g();`
-row rule.If = One class.If ∷ Word word.AnyOpen ∷ Child kind.Expr ∷ One class.Close ∷ Child kind.Body ∷ Fork fork.ElseOrNot ∷ []
--- `while` `(` expression `)` body: `while (c) f();`
-row rule.While = One class.While ∷ Word word.AnyOpen ∷ Child kind.Expr ∷ One class.Close ∷ Child kind.Body ∷ []
--- `do` body `while` `(` expression `)` `;`: `do f(); while (c);`
-row rule.Do = One class.Do ∷ Child kind.Body ∷ One class.While ∷ Word word.AnyOpen ∷ Child kind.Expr ∷ One class.Close ∷ One class.Semicolon ∷ []
--- `for` `(` a declaration, or an expression or none and `;`, two more, `)` body: `for (;;) f();`
-row rule.For = One class.For ∷ Word word.AnyOpen ∷ Fork fork.ForInit ∷ []
--- `switch` `(` expression `)` body: `switch (e) { }`
-row rule.Switch = One class.Switch ∷ Word word.AnyOpen ∷ Child kind.Expr ∷ One class.Close ∷ Child kind.Body ∷ []
--- name `(` arguments `)` body: `list_for_each(p, head) f(p);`
-row rule.Iterator = Word word.IteratorName ∷ Word word.AnyOpen ∷ Child kind.Args ∷ One class.Close ∷ Child kind.Body ∷ []
--- `case` expression `:`, or with a range: `case 1:`, `case 1 ... 2:`
-row rule.Case = One class.Case ∷ Child kind.Expr ∷ Fork fork.CaseEnd ∷ []
--- `default` `:`
-row rule.Default = One class.Default ∷ One class.Colon ∷ []
--- name `:`: `out:`
-row rule.Label = One class.NameOfLabel ∷ One class.Colon ∷ []
--- `return` an expression or none `;`: `return e;`
-row rule.Return = One class.Return ∷ Fork fork.ReturnValue ∷ []
--- `goto` name `;`: `goto out;`
-row rule.Goto = One class.Goto ∷ Word word.Name ∷ One class.Semicolon ∷ []
--- `break` `;`
-row rule.Break = One class.Break ∷ One class.Semicolon ∷ []
--- `continue` `;`
-row rule.Continue = One class.Continue ∷ One class.Semicolon ∷ []
--- statements: `f(); g();`
-row rule.StmtList = Fork fork.ListStatements ∷ []
--- type words, a declarator and a Block, or what a Decl has: `int f(void) { }`, `int x = 1, y;`
-row rule.External = Child kind.Specs ∷ Fork fork.FirstExternal ∷ []
--- storage words, name, `(` arguments `)`, and `;` or a Block: `MACRO(x);`, `MACRO(x) { }`
-row rule.ExternalMacro = Fork fork.MacroNames ∷ []
--- `;`
-row rule.ExternalEmpty = One class.Semicolon ∷ []
--- expressions between `\(` and `\)`, parted by `\|` or by `\&`: `\( a \| b \)`, `\( a \& b \)`
-row rule.PatBranches = One class.PatOpen ∷ Child kind.Expr ∷ Fork fork.FirstBranch ∷ []
--- lists of statements between `\(` and `\)`, parted by `\|` or by `\&`: `\( f(); \| g(); \)`
-row rule.PatLists = One class.PatOpenOfStatements ∷ Child kind.StmtList ∷ Fork fork.FirstList ∷ []
--- `<...` or `<+...`, an expression or statements, `...>` or `...+>`: `<... f(x) ...>`
-row rule.PatNest = Fork fork.NestStart ∷ []
+row r = (production r).parts
 
--- the ways in which a row may go on at a fork
-abbrev pub ways : forks.Fork → List Row
--- two or more strings and names, no two names side by side, and at least one string
-ways fork.FirstString =
-    (Word word.Str ∷ Fork fork.SecondString ∷ [])
-    ∷ (Word word.Name ∷ Word word.Str ∷ Fork fork.AfterString ∷ []) ∷ []
-ways fork.SecondString =
-    (Word word.Str ∷ Fork fork.AfterString ∷ [])
-    ∷ (Word word.Name ∷ Fork fork.AfterName ∷ []) ∷ []
-ways fork.AfterString =
-    (Word word.Str ∷ Fork fork.AfterString ∷ [])
-    ∷ (Word word.Name ∷ Fork fork.AfterName ∷ [])
-    ∷ [] ∷ []
-ways fork.AfterName = (Word word.Str ∷ Fork fork.AfterString ∷ []) ∷ [] ∷ []
--- members parted by commas, or none
-ways fork.FirstArg = (Argument ∷ Fork fork.MoreArgs ∷ []) ∷ (Word word.ArgRun ∷ Fork fork.MoreArgs ∷ []) ∷ [] ∷ []
-ways fork.MoreArgs = (One class.Comma ∷ Fork fork.NextArg ∷ []) ∷ [] ∷ []
-ways fork.NextArg = (Argument ∷ Fork fork.MoreArgs ∷ []) ∷ (Word word.ArgRun ∷ Fork fork.MoreArgs ∷ []) ∷ []
--- two or more branches, all parted by `\|` or all by `\&`
-ways fork.FirstBranch =
-    (One class.PatBar ∷ Child kind.Expr ∷ Fork fork.MoreOr ∷ [])
-    ∷ (One class.PatAmp ∷ Child kind.Expr ∷ Fork fork.MoreAnd ∷ []) ∷ []
-ways fork.MoreOr = (One class.PatBar ∷ Child kind.Expr ∷ Fork fork.MoreOr ∷ []) ∷ (One class.PatClose ∷ []) ∷ []
-ways fork.MoreAnd = (One class.PatAmp ∷ Child kind.Expr ∷ Fork fork.MoreAnd ∷ []) ∷ (One class.PatClose ∷ []) ∷ []
--- a declarator or none
-ways fork.Nameless = (Child kind.Declarator ∷ []) ∷ [] ∷ []
--- modifiers in any order, with exactly one type part: basic words, a tag or a name
-ways fork.NoType =
-    (Word word.Modifier ∷ Fork fork.NoType ∷ [])
-    ∷ (One class.Basic ∷ Fork fork.BasicType ∷ [])
-    ∷ (Child kind.Tag ∷ Fork fork.OneType ∷ [])
-    ∷ (Word word.Name ∷ Fork fork.OneType ∷ []) ∷ []
-ways fork.BasicType = (Word word.BasicOrModifier ∷ Fork fork.BasicType ∷ []) ∷ [] ∷ []
-ways fork.OneType = (Word word.Modifier ∷ Fork fork.OneType ∷ []) ∷ [] ∷ []
--- a name or none, and the members
-ways fork.StructName =
-    (Word word.Name ∷ One class.LeftBrace ∷ Fork fork.Members ∷ [])
-    ∷ (One class.LeftBrace ∷ Fork fork.Members ∷ []) ∷ []
-ways fork.Members =
-    (Child kind.Field ∷ Fork fork.Members ∷ [])
-    ∷ (Child kind.MacroItem ∷ Fork fork.Members ∷ [])
-    ∷ (One class.RightBrace ∷ []) ∷ []
--- declarators and bits parted by commas, or none
-ways fork.FirstField =
-    (Child kind.FieldDeclarator ∷ Fork fork.MoreFields ∷ [])
-    ∷ (Child kind.NamelessBits ∷ Fork fork.MoreFields ∷ [])
-    ∷ (One class.Semicolon ∷ []) ∷ []
-ways fork.MoreFields = (One class.Comma ∷ Fork fork.NextField ∷ []) ∷ (One class.Semicolon ∷ []) ∷ []
-ways fork.NextField =
-    (Child kind.FieldDeclarator ∷ Fork fork.MoreFields ∷ [])
-    ∷ (Child kind.NamelessBits ∷ Fork fork.MoreFields ∷ []) ∷ []
--- a name or none, and enumerators parted by commas, with or without a last comma
-ways fork.EnumName =
-    (Word word.Name ∷ One class.LeftBrace ∷ Child kind.Enumerator ∷ Fork fork.MoreEnumerators ∷ [])
-    ∷ (One class.LeftBrace ∷ Child kind.Enumerator ∷ Fork fork.MoreEnumerators ∷ []) ∷ []
-ways fork.MoreEnumerators = (One class.Comma ∷ Fork fork.NextEnumerator ∷ []) ∷ (One class.RightBrace ∷ []) ∷ []
-ways fork.NextEnumerator = (Child kind.Enumerator ∷ Fork fork.MoreEnumerators ∷ []) ∷ (One class.RightBrace ∷ []) ∷ []
--- qualifiers, and a declarator or none
-ways fork.Pointee = (One class.Qualifier ∷ Fork fork.Pointee ∷ []) ∷ (Child kind.Declarator ∷ []) ∷ [] ∷ []
--- a size or none
-ways fork.Size = (Child kind.CondLevel ∷ One class.RightBracket ∷ []) ∷ (One class.RightBracket ∷ []) ∷ []
--- parameters parted by commas, or none; the last may be `...`
-ways fork.FirstParam =
-    (Child kind.Param ∷ Fork fork.MoreParams ∷ [])
-    ∷ (Word word.ParamRun ∷ Fork fork.MoreParams ∷ [])
-    ∷ (One class.Ellipsis ∷ [])
-    ∷ [] ∷ []
-ways fork.MoreParams = (One class.Comma ∷ Fork fork.NextParam ∷ []) ∷ [] ∷ []
-ways fork.NextParam =
-    (Child kind.Param ∷ Fork fork.MoreParams ∷ [])
-    ∷ (Word word.ParamRun ∷ Fork fork.MoreParams ∷ [])
-    ∷ (One class.Ellipsis ∷ []) ∷ []
--- a declarator or none
-ways fork.ParamName = (Child kind.Declarator ∷ []) ∷ [] ∷ []
--- members parted by commas, or none, with or without a last comma
-ways fork.FirstInit =
-    (Child kind.AssignLevel ∷ Fork fork.MoreInits ∷ [])
-    ∷ (Child kind.InitList ∷ Fork fork.MoreInits ∷ [])
-    ∷ (Child kind.InitItem ∷ Fork fork.MoreInits ∷ [])
-    ∷ (One class.Comma ∷ One class.RightBrace ∷ [])
-    ∷ (One class.RightBrace ∷ []) ∷ []
-ways fork.MoreInits = (One class.Comma ∷ Fork fork.NextInit ∷ []) ∷ (One class.RightBrace ∷ []) ∷ []
-ways fork.NextInit =
-    (Child kind.AssignLevel ∷ Fork fork.MoreInits ∷ [])
-    ∷ (Child kind.InitList ∷ Fork fork.MoreInits ∷ [])
-    ∷ (Child kind.InitItem ∷ Fork fork.MoreInits ∷ [])
-    ∷ (One class.RightBrace ∷ []) ∷ []
--- further designators, `=`, and an expression or a list
-ways fork.MoreDesignators =
-    (Child kind.Designator ∷ Fork fork.MoreDesignators ∷ [])
-    ∷ (One class.Equal ∷ Fork fork.ItemValue ∷ []) ∷ []
-ways fork.ItemValue = (Child kind.AssignLevel ∷ []) ∷ (Child kind.InitList ∷ []) ∷ []
--- `]`, or `... e ]`
-ways fork.AtEnd =
-    (One class.RightBracket ∷ [])
-    ∷ (One class.Ellipsis ∷ Child kind.CondLevel ∷ One class.RightBracket ∷ []) ∷ []
--- storage words, a name, its arguments
-ways fork.MacroWords =
-    (Word word.Storage ∷ Fork fork.MacroWords ∷ [])
-    ∷ (Word word.Name ∷ Word word.AnyOpen ∷ Child kind.Args ∷ One class.Close ∷ One class.Semicolon ∷ []) ∷ []
--- declarators and initialisers parted by commas, or none
-ways fork.FirstDeclarator =
-    (Child kind.InitDeclarator ∷ Fork fork.MoreDeclarators ∷ [])
-    ∷ (One class.Semicolon ∷ []) ∷ []
-ways fork.MoreDeclarators =
-    (One class.Comma ∷ Child kind.InitDeclarator ∷ Fork fork.MoreDeclarators ∷ [])
-    ∷ (One class.Semicolon ∷ []) ∷ []
--- an expression or a list
-ways fork.InitValue =
-    (Child kind.AssignLevel ∷ [])
-    ∷ (Child kind.InitList ∷ []) ∷ []
--- declarations and statements, no two of `...` and PatNest side by side, and `}`
-ways fork.BlockStatements =
-    (Child kind.Decl ∷ Fork fork.BlockStatements ∷ [])
-    ∷ (Child kind.Statement ∷ Fork fork.BlockStatements ∷ [])
-    ∷ (One class.Dots ∷ Fork fork.BlockBehindDots ∷ [])
-    ∷ (Child kind.PatNest ∷ Fork fork.BlockBehindDots ∷ [])
-    ∷ (One class.RightBrace ∷ []) ∷ []
-ways fork.BlockBehindDots =
-    (Child kind.Decl ∷ Fork fork.BlockStatements ∷ [])
-    ∷ (Child kind.Statement ∷ Fork fork.BlockStatements ∷ [])
-    ∷ (One class.RightBrace ∷ []) ∷ []
--- `else` and a body, or not
-ways fork.ElseOrNot =
-    (One class.Else ∷ Child kind.Body ∷ [])
-    ∷ [] ∷ []
--- what stands in the brackets, and a body
-ways fork.ForInit =
-    (Child kind.Decl ∷ Fork fork.ForTest ∷ [])
-    ∷ (Child kind.Expr ∷ One class.Semicolon ∷ Fork fork.ForTest ∷ [])
-    ∷ (One class.Semicolon ∷ Fork fork.ForTest ∷ []) ∷ []
-ways fork.ForTest =
-    (Child kind.Expr ∷ One class.Semicolon ∷ Fork fork.ForStep ∷ [])
-    ∷ (One class.Semicolon ∷ Fork fork.ForStep ∷ []) ∷ []
-ways fork.ForStep =
-    (Child kind.Expr ∷ One class.Close ∷ Child kind.Body ∷ [])
-    ∷ (One class.Close ∷ Child kind.Body ∷ []) ∷ []
--- `:`, or `... e :`
-ways fork.CaseEnd =
-    (One class.Colon ∷ [])
-    ∷ (One class.Ellipsis ∷ Child kind.CondLevel ∷ One class.Colon ∷ []) ∷ []
--- an expression or none
-ways fork.ReturnValue =
-    (Child kind.Expr ∷ One class.Semicolon ∷ [])
-    ∷ (One class.Semicolon ∷ []) ∷ []
--- declarations and statements, no two of `...` and PatNest side by side
-ways fork.ListStatements =
-    (Child kind.Decl ∷ Fork fork.ListStatements ∷ [])
-    ∷ (Child kind.Statement ∷ Fork fork.ListStatements ∷ [])
-    ∷ (One class.Dots ∷ Fork fork.ListBehindDots ∷ [])
-    ∷ (Child kind.PatNest ∷ Fork fork.ListBehindDots ∷ [])
-    ∷ [] ∷ []
-ways fork.ListBehindDots =
-    (Child kind.Decl ∷ Fork fork.ListStatements ∷ [])
-    ∷ (Child kind.Statement ∷ Fork fork.ListStatements ∷ [])
-    ∷ [] ∷ []
--- declarators and initialisers parted by commas, or none; or behind the first a Block
-ways fork.FirstExternal =
-    (Child kind.InitDeclarator ∷ Fork fork.AfterExternal ∷ [])
-    ∷ (One class.Semicolon ∷ []) ∷ []
-ways fork.AfterExternal =
-    (One class.Comma ∷ Child kind.InitDeclarator ∷ Fork fork.MoreDeclarators ∷ [])
-    ∷ (One class.Semicolon ∷ [])
-    ∷ (Child kind.Block ∷ []) ∷ []
--- storage words, a name, its arguments, and `;` or a Block
-ways fork.MacroNames =
-    (Word word.Storage ∷ Fork fork.MacroNames ∷ [])
-    ∷ (Word word.Name ∷ Word word.AnyOpen ∷ Child kind.Args ∷ One class.Close ∷ Fork fork.MacroEnd ∷ []) ∷ []
-ways fork.MacroEnd =
-    (One class.Semicolon ∷ [])
-    ∷ (Child kind.Block ∷ []) ∷ []
--- two or more lists of statements, all parted by `\|` or all by `\&`
-ways fork.FirstList =
-    (One class.PatBar ∷ Child kind.StmtList ∷ Fork fork.MoreListsOr ∷ [])
-    ∷ (One class.PatAmp ∷ Child kind.StmtList ∷ Fork fork.MoreListsAnd ∷ []) ∷ []
-ways fork.MoreListsOr =
-    (One class.PatBar ∷ Child kind.StmtList ∷ Fork fork.MoreListsOr ∷ [])
-    ∷ (One class.PatClose ∷ []) ∷ []
-ways fork.MoreListsAnd =
-    (One class.PatAmp ∷ Child kind.StmtList ∷ Fork fork.MoreListsAnd ∷ [])
-    ∷ (One class.PatClose ∷ []) ∷ []
--- an expression, or declarations and statements as in a Block, and the sign that ends it
-ways fork.NestStart =
-    (One class.PatNestOfExpression ∷ Child kind.Expr ∷ One class.PatNestClose ∷ [])
-    ∷ (One class.PatNestOfStatements ∷ Fork fork.NestStatements ∷ []) ∷ []
-ways fork.NestStatements =
-    (Child kind.Decl ∷ Fork fork.NestStatements ∷ [])
-    ∷ (Child kind.Statement ∷ Fork fork.NestStatements ∷ [])
-    ∷ (One class.Dots ∷ Fork fork.NestBehindDots ∷ [])
-    ∷ (Child kind.PatNest ∷ Fork fork.NestBehindDots ∷ [])
-    ∷ (One class.PatNestClose ∷ []) ∷ []
-ways fork.NestBehindDots =
-    (Child kind.Decl ∷ Fork fork.NestStatements ∷ [])
-    ∷ (Child kind.Statement ∷ Fork fork.NestStatements ∷ [])
-    ∷ (One class.PatNestClose ∷ []) ∷ []
+abbrev pub naming_of : Rule → Naming
+naming_of r = (production r).naming
+
+-- the label of a branch with these children
+abbrev pub label_of : Rule → List Tree → Label
+label_of r cs = named (naming_of r) cs
+
+abbrev pub build : Rule → List Tree → Tree
+build r cs = tree.Branch (label_of r cs) cs
+
+-- ---- the rules of each family
+
+-- those whose rows don't begin with a part of the family itself
+abbrev pub heads : Family → List Rule
+heads family.Expression =
+    rule.Strings ∷ rule.Paren ∷ rule.Literal ∷ rule.Cast ∷ rule.PreOp ∷ rule.Unary ∷ rule.SizeofExpr ∷ rule.SizeofType ∷
+    rule.PatBranches ∷ []
+heads family.Args = rule.Args ∷ []
+heads family.TypeArg = rule.TypeArg ∷ []
+heads family.TypeName = rule.TypeName ∷ []
+heads family.Specs = rule.Specs ∷ []
+heads family.Tag = rule.StructUse ∷ rule.StructDef ∷ rule.EnumUse ∷ rule.EnumDef ∷ []
+heads family.Field = rule.Field ∷ []
+heads family.MacroItem = rule.MacroItem ∷ []
+heads family.NamelessBits = rule.NamelessBits ∷ []
+heads family.Declarator = rule.Pointer ∷ rule.DParen ∷ rule.NamelessArray ∷ rule.NamelessFun ∷ []
+heads family.Params = rule.Params ∷ []
+heads family.Param = rule.Param ∷ []
+heads family.InitList = rule.InitList ∷ []
+heads family.InitItem = rule.InitItem ∷ []
+heads family.Designator = rule.DotName ∷ rule.At ∷ []
+heads family.Enumerator = []
+heads family.Decl = rule.Decl ∷ []
+heads family.Statement =
+    rule.ExprStat ∷ rule.If ∷ rule.Return ∷ rule.Block ∷ rule.Goto ∷ rule.Label ∷ rule.Case ∷ rule.Break ∷ rule.For ∷
+    rule.While ∷ rule.Switch ∷ rule.Iterator ∷ rule.Default ∷ rule.Continue ∷ rule.Do ∷ rule.Empty ∷ rule.PatLists ∷
+    rule.PatNest ∷ []
+heads family.StmtList = rule.StmtList ∷ []
+heads family.External = rule.External ∷ rule.ExternalMacro ∷ rule.ExternalEmpty ∷ []
+
+-- those whose rows begin with a part of the family itself
+abbrev pub tails : Family → List Rule
+tails family.Expression =
+    rule.Index ∷ rule.Call ∷ rule.Member ∷ rule.Arrow ∷ rule.PostOp ∷ rule.OrOr ∷ rule.AndAnd ∷ rule.Or ∷ rule.Xor ∷
+    rule.And ∷ rule.Equality ∷ rule.Order ∷ rule.Shift ∷ rule.Sum ∷ rule.Product ∷ rule.Cond ∷ rule.CondShort ∷
+    rule.Assign ∷ rule.Comma ∷ []
+tails family.Declarator = rule.DArray ∷ rule.DFun ∷ rule.Bits ∷ rule.InitDecl ∷ []
+tails family.Enumerator = rule.EnumValue ∷ []
+tails _ = []

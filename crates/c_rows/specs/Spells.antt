@@ -10,8 +10,8 @@ use Rattle.c_rows.specs.declared.symbol.Symbol.TheVariants.{Word, Child, Argumen
 use Rattle.c_rows.specs.declared.symbol.Fork as forks
 use Rattle.c_rows.specs.Words.{fits}
 use Rattle.c_rows.specs.Kinds.{family_of, within, has_leaf}
-use Rattle.c_rows.specs.Branches.{kind_of, build, begins, allows, may_go}
-use Rattle.c_rows.specs.Rows.{Row, row, ways}
+use Rattle.c_rows.specs.Rows.{Row, ways, row, kind_of, build}
+use Rattle.c_rows.specs.Branches.{begins, allows, may_go}
 use Rattle.c_rows.specs.Seen.{Seen, front, front_typed}
 
 -- A member of a call's list is a type where no expression can stand, and else an expression without commas.

@@ -1,11 +1,13 @@
 // How a reader of rows chooses by the class of the next token.
 ghost use Rattle.std.specs.Prelude.{◌≡◌, MatchOption, Some, None};
 ghost use Rattle.c_rows.specs.Choice as choice;
+ghost use Rattle.c_rows.specs.Rows as rows;
 ghost use Rattle.c_rows.specs.declared.kind.Family.TheVariants as families;
 
 use crate::{
     Class, Family, Fork, Kind, Rule, Symbol, Word, begins, begins_expression, begins_specs,
-    ends_list, ends_member, family_of, first, fits, may_go, row, same_class, ways,
+    ends_list, ends_member, family_of, first, fits, may_go, production_of, row, same_class,
+    same_family, ways,
 };
 
 /// A declarator ends before this class.
@@ -93,9 +95,9 @@ pub fn choose(fork: Fork, class: Class) -> Option<&'static [Symbol]>
     None
 }
 
-/// The rules of a family whose rows begin with a part of another family.
+/// The rules of a family whose rows don't begin with a part of the family itself.
 fn heads(family: Family) -> &'static [Rule]
-    ensures { result.now ≡ choice.heads family }
+    ensures { result.now ≡ rows.heads family }
 {
     match family {
         Family::Expression => &[
@@ -217,24 +219,15 @@ fn enumerator_tail(class: Class) -> Option<Rule>
 pub fn left(rule: Rule) -> Option<Kind>
     ensures value { result ≡ choice.left rule }
 {
-    match rule {
-        Rule::Index | Rule::Call | Rule::Member | Rule::Arrow | Rule::PostOp => Some(Kind::Post),
-        Rule::OrOr => Some(Kind::OrOr),
-        Rule::AndAnd => Some(Kind::AndAnd),
-        Rule::Or => Some(Kind::Or),
-        Rule::Xor => Some(Kind::Xor),
-        Rule::And => Some(Kind::And),
-        Rule::Equality => Some(Kind::Equality),
-        Rule::Order => Some(Kind::Order),
-        Rule::Shift => Some(Kind::Shift),
-        Rule::Sum => Some(Kind::Sum),
-        Rule::Product => Some(Kind::Product),
-        Rule::Cond | Rule::CondShort => Some(Kind::OrOr),
-        Rule::Assign => Some(Kind::Un),
-        Rule::Comma => Some(Kind::Expr),
-        Rule::Bits | Rule::InitDecl => Some(Kind::Declarator),
-        Rule::DArray | Rule::DFun => Some(Kind::Direct),
-        Rule::EnumValue => Some(Kind::EnumName),
+    let production = production_of(rule);
+    match production.parts {
+        [Symbol::Child(first), ..] => {
+            if same_family(family_of(*first), family_of(production.kind)) {
+                Some(*first)
+            } else {
+                None
+            }
+        }
         _ => None,
     }
 }

@@ -1,6 +1,7 @@
 // Guards: what is asked of a branch's parts together, and where the tokens behind let a branch and a way begin.
 ghost use Rattle.std.specs.Prelude.{◌≡◌};
 ghost use Rattle.c_terms.specs.declared.tree.Tree.{out-Tree};
+ghost use Rattle.c_rows.specs.Labels.{labelled};
 ghost use Rattle.c_rows.specs.Branches as branches;
 ghost use Rattle.c_rows.specs.declared.kind.Kind.TheVariants as kinds;
 
@@ -12,7 +13,7 @@ use c_terms::{Label, Tree};
 
 /// An expression with a comma or an assignment outside brackets.
 fn is_loose(tree: &Tree) -> bool
-    ensures { result ≡ branches.labelled branches.is_loose_label (out-Tree tree.now) }
+    ensures { result ≡ labelled branches.is_loose_label (out-Tree tree.now) }
 {
     match tree {
         Tree::Leaf(_) => false,

@@ -2,13 +2,35 @@
 ghost use Rattle.std.specs.Prelude.{◌≡◌, codes};
 ghost use Rattle.std.specs.Str.{bytes_eq};
 ghost use Rattle.c_terms.specs.declared.tree.Tree.{out-Tree};
-ghost use Rattle.c_rows.specs.Branches as branches;
+ghost use Rattle.c_rows.specs.Labels as labels;
+ghost use Rattle.c_rows.specs.Rows as rows;
 
-use crate::Rule;
+use crate::{Rule, production_of};
 use c_terms::{Label, Tree};
 
+/// How a branch is labelled: always in one way, or as its parts tell.
+#[derive(Clone, Copy)]
+pub enum Naming {
+    /// With this label
+    Always(Label),
+    /// PatOr or PatAnd, by the sign between its branches
+    PatBySign,
+    /// At or AtRange
+    AtByRange,
+    /// If or IfElse
+    IfByElse,
+    /// Case or CaseRange
+    CaseByRange,
+    /// For or ForDecl, by what stands in its brackets
+    ForByDecl,
+    /// Decl or FunDef
+    DeclByBlock,
+    /// MacroItem or MacroFun
+    MacroByBlock,
+}
+
 fn is_leaf_of(tree: &Tree, text: &[u8]) -> bool
-    ensures { result ≡ branches.text_is text.now (out-Tree tree.now) }
+    ensures { result ≡ labels.text_is text.now (out-Tree tree.now) }
 {
     match tree {
         Tree::Leaf(token) => token.text.as_bytes() == text,
@@ -18,7 +40,7 @@ fn is_leaf_of(tree: &Tree, text: &[u8]) -> bool
 
 /// Branches of a pattern parted by `\|` are a PatOr, those parted by `\&` a PatAnd.
 fn branches_label(children: &[Tree]) -> Label
-    ensures { result ≡ branches.branches_label children.now }
+    ensures { result ≡ labels.branches_label children.now }
 {
     match children {
         [_, _, sign, ..] => {
@@ -34,7 +56,7 @@ fn branches_label(children: &[Tree]) -> Label
 
 /// `[a]` is an At, `[a ... b]` an AtRange.
 fn at_label(children: &[Tree]) -> Label
-    ensures { result ≡ branches.at_label children.now }
+    ensures { result ≡ labels.at_label children.now }
 {
     match children {
         [_, _, _] => Label::At,
@@ -44,7 +66,7 @@ fn at_label(children: &[Tree]) -> Label
 
 /// With an `else`, an If is an IfElse.
 fn if_label(children: &[Tree]) -> Label
-    ensures { result ≡ branches.if_label children.now }
+    ensures { result ≡ labels.if_label children.now }
 {
     match children {
         [_, _, _, _, _] => Label::If,
@@ -54,7 +76,7 @@ fn if_label(children: &[Tree]) -> Label
 
 /// `case a :` is a Case, `case a ... b :` a CaseRange.
 fn case_label(children: &[Tree]) -> Label
-    ensures { result ≡ branches.case_label children.now }
+    ensures { result ≡ labels.case_label children.now }
 {
     match children {
         [_, _, _] => Label::Case,
@@ -64,7 +86,7 @@ fn case_label(children: &[Tree]) -> Label
 
 /// A declaration.
 fn is_decl(tree: &Tree) -> bool
-    ensures { result ≡ branches.labelled branches.is_decl_label (out-Tree tree.now) }
+    ensures { result ≡ labels.labelled labels.is_decl_label (out-Tree tree.now) }
 {
     match tree {
         Tree::Leaf(_) => false,
@@ -74,7 +96,7 @@ fn is_decl(tree: &Tree) -> bool
 
 /// With a declaration in its brackets, a For is a ForDecl.
 fn for_label(children: &[Tree]) -> Label
-    ensures { result ≡ branches.for_label children.now }
+    ensures { result ≡ labels.for_label children.now }
 {
     match children {
         [_, _, first, ..] => {
@@ -90,7 +112,7 @@ fn for_label(children: &[Tree]) -> Label
 
 /// A statement in braces.
 pub fn is_block(tree: &Tree) -> bool
-    ensures value { result ≡ branches.labelled branches.is_block_label (out-Tree tree.now) }
+    ensures value { result ≡ labels.labelled labels.is_block_label (out-Tree tree.now) }
 {
     match tree {
         Tree::Leaf(_) => false,
@@ -100,7 +122,7 @@ pub fn is_block(tree: &Tree) -> bool
 
 /// Type words, a declarator and a Block are a FunDef, anything else behind type words a Decl.
 fn external_label(children: &[Tree]) -> Label
-    ensures { result ≡ branches.external_label children.now }
+    ensures { result ≡ labels.external_label children.now }
 {
     match children {
         [_, _, last] => {
@@ -116,7 +138,7 @@ fn external_label(children: &[Tree]) -> Label
 
 /// No child is a Block.
 fn is_blockless(children: &[Tree]) -> bool
-    ensures { result ≡ branches.is_blockless children.now }
+    ensures { result ≡ labels.is_blockless children.now }
 {
     for child in children {
         if is_block(child) {
@@ -128,7 +150,7 @@ fn is_blockless(children: &[Tree]) -> bool
 
 /// With a Block, a macro's item is a MacroFun.
 fn macro_label(children: &[Tree]) -> Label
-    ensures { result ≡ branches.macro_label children.now }
+    ensures { result ≡ labels.macro_label children.now }
 {
     if is_blockless(children) {
         Label::MacroItem
@@ -137,83 +159,25 @@ fn macro_label(children: &[Tree]) -> Label
     }
 }
 
+/// The label of a branch with these children that is so named.
+fn named(naming: Naming, children: &[Tree]) -> Label
+    ensures { result ≡ labels.named naming children.now }
+{
+    match naming {
+        Naming::Always(label) => label,
+        Naming::PatBySign => branches_label(children),
+        Naming::AtByRange => at_label(children),
+        Naming::IfByElse => if_label(children),
+        Naming::CaseByRange => case_label(children),
+        Naming::ForByDecl => for_label(children),
+        Naming::DeclByBlock => external_label(children),
+        Naming::MacroByBlock => macro_label(children),
+    }
+}
+
 /// The label of a branch with these children.
 pub fn label_of(rule: Rule, children: &[Tree]) -> Label
-    ensures value { result ≡ branches.label_of rule children.now }
+    ensures value { result ≡ rows.label_of rule children.now }
 {
-    match rule {
-        Rule::Strings => Label::Strings,
-        Rule::Paren => Label::Paren,
-        Rule::Index => Label::Index,
-        Rule::Call => Label::Call,
-        Rule::Args => Label::Args,
-        Rule::TypeArg => Label::TypeArg,
-        Rule::Member => Label::Member,
-        Rule::Arrow => Label::Arrow,
-        Rule::PostOp => Label::PostOp,
-        Rule::Literal => Label::Literal,
-        Rule::PreOp => Label::PreOp,
-        Rule::Unary => Label::Unary,
-        Rule::SizeofExpr => Label::SizeofExpr,
-        Rule::SizeofType => Label::SizeofType,
-        Rule::Cast => Label::Cast,
-        Rule::Product
-        | Rule::Sum
-        | Rule::Shift
-        | Rule::Order
-        | Rule::Equality
-        | Rule::And
-        | Rule::Xor
-        | Rule::Or
-        | Rule::AndAnd
-        | Rule::OrOr => Label::Binary,
-        Rule::Cond => Label::Cond,
-        Rule::CondShort => Label::CondShort,
-        Rule::Assign => Label::Assign,
-        Rule::Comma => Label::Comma,
-        Rule::PatBranches => branches_label(children),
-        Rule::TypeName => Label::TypeName,
-        Rule::Specs => Label::Specs,
-        Rule::StructUse => Label::StructUse,
-        Rule::StructDef => Label::StructDef,
-        Rule::Field => Label::Field,
-        Rule::Bits | Rule::NamelessBits => Label::Bits,
-        Rule::EnumUse => Label::EnumUse,
-        Rule::EnumDef => Label::EnumDef,
-        Rule::EnumValue => Label::EnumValue,
-        Rule::Pointer => Label::Pointer,
-        Rule::DParen => Label::DParen,
-        Rule::DArray | Rule::NamelessArray => Label::DArray,
-        Rule::DFun | Rule::NamelessFun => Label::DFun,
-        Rule::Params => Label::Params,
-        Rule::Param => Label::Param,
-        Rule::InitList => Label::InitList,
-        Rule::InitItem => Label::InitItem,
-        Rule::DotName => Label::DotName,
-        Rule::At => at_label(children),
-        Rule::MacroItem => Label::MacroItem,
-        Rule::Decl => Label::Decl,
-        Rule::InitDecl => Label::InitDecl,
-        Rule::ExprStat => Label::ExprStat,
-        Rule::Empty | Rule::ExternalEmpty => Label::Empty,
-        Rule::Block => Label::Block,
-        Rule::If => if_label(children),
-        Rule::While => Label::While,
-        Rule::Do => Label::Do,
-        Rule::For => for_label(children),
-        Rule::Switch => Label::Switch,
-        Rule::Iterator => Label::Iterator,
-        Rule::Case => case_label(children),
-        Rule::Default => Label::Default,
-        Rule::Label => Label::Label,
-        Rule::Return => Label::Return,
-        Rule::Goto => Label::Goto,
-        Rule::Break => Label::Break,
-        Rule::Continue => Label::Continue,
-        Rule::StmtList => Label::StmtList,
-        Rule::External => external_label(children),
-        Rule::ExternalMacro => macro_label(children),
-        Rule::PatLists => branches_label(children),
-        Rule::PatNest => Label::PatNest,
-    }
+    named(production_of(rule).naming, children)
 }

@@ -2,6 +2,7 @@
 ghost use Rattle.std.specs.Prelude.{◌≡◌, ◌≤◌, IsTrue, List, length, map};
 ghost use Rattle.c_terms.specs.declared.token.Token.{Token};
 ghost use Rattle.c_terms.specs.declared.tree.Tree.{Tree};
+ghost use Rattle.c_terms.specs.declared.tree.Tree.TheVariants.{Leaf};
 ghost use Rattle.c_terms.specs.Trees.{leaves};
 ghost use Rattle.c_rows.specs.declared.kind.Kind.{Kind};
 ghost use Rattle.c_rows.specs.declared.kind.Kind.TheVariants as kind;
@@ -11,8 +12,9 @@ ghost use Rattle.c_rows.specs.Derives.{Derives, Anywhere};
 ghost use Rattle.c_rows.specs.Trees.{IsTreeOf, stands_alone};
 ghost use Rattle.c_rows.specs.Letter.{AllLow, IsLetterTreeOf};
 ghost use Rattle.c_rows.specs.declared.rule.Rule.{Rule};
-ghost use Rattle.c_rows.specs.Branches.{allows, build};
-ghost use Rattle.c_rows.specs.Facts.{facts_of, allows_facts, branch_facts};
+ghost use Rattle.c_rows.specs.Rows.{build};
+ghost use Rattle.c_rows.specs.Branches.{allows};
+ghost use Rattle.c_rows.specs.Facts.{facts_of, leaf_facts, allows_facts, branch_facts};
 
 /// The tokens of a tree of a range, from left to right, are the range's tokens.
 pub fn leaves_are_the_tokens()
@@ -43,8 +45,10 @@ pub fn rivals_need_no_rule()
         → IsTreeOf kind names tokens t → IsLetterTreeOf kind names tokens t }
 {}
 
-/// What a row asks of its parts, and the facts of its branch, are told by the facts of the parts.
+/// What a row asks of its parts, and the facts of its branch, are told by the facts of the parts; those of a token by
+/// itself by the token.
 pub fn facts_are_enough()
+    ensures leaf { (t : Token) → leaf_facts t ≡ facts_of (Leaf t) }
     ensures allows { (rule : Rule) (cs : List Tree) → allows_facts rule (map facts_of cs) ≡ allows rule cs }
     ensures branch { (rule : Rule) (cs : List Tree) → branch_facts rule (map facts_of cs) ≡ facts_of (build rule cs) }
 {}

@@ -3,8 +3,8 @@ use Rattle.std.proofs.Common.{◌≡◌, refl, List, [], ◌∷◌, subst}
 use Rattle.std.proofs.lemmas.Bool.{false≢true}
 use Rattle.std.specs.Prelude.{Bool, true, false, not, ◌&&◌, ◌||◌, IsTrue, if◌then◌else◌}
 use Rattle.std.specs.List.{list_all}
-use Rattle.c_terms.specs.declared.tree.Tree.{Tree, out-Tree}
-use Rattle.c_terms.specs.declared.label.Label.TheVariants as label
+use Rattle.c_terms.specs.declared.label.Label.{Label}
+use Rattle.c_terms.specs.declared.tree.Tree.{Tree}
 use Rattle.c_rows.specs.declared.class.Class.{Class}
 use Rattle.c_rows.specs.declared.class.Class.TheVariants as class
 use Rattle.c_rows.specs.declared.kind.Kind.{Kind}
@@ -20,10 +20,11 @@ use Rattle.c_rows.specs.declared.symbol.Fork.{Fork}
 use Rattle.c_rows.specs.declared.symbol.Fork.TheVariants as forks
 use Rattle.c_rows.specs.Kinds.{family_of, within, has_leaf}
 use Rattle.c_rows.specs.Words.{fits}
-use Rattle.c_rows.specs.Branches.{kind_of, label_of, branches_label, at_label, if_label, case_label, for_label, external_label, macro_label, text_is, labelled, is_decl_label, is_block_label, is_blockless, begins_dots}
-use Rattle.c_rows.specs.Rows.{Row, row, ways}
+use Rattle.c_rows.specs.Branches.{begins_dots}
+use Rattle.c_rows.specs.Rows.{Row, row, ways, kind_of, label_of}
 use Rattle.c_rows.specs.Choice.{full}
-use Rattle.c_rows.proofs.FirstChecks.{one_is}
+use Rattle.c_rows.proofs.FirstChecks.{one_is, not_true}
+use Rattle.c_rows.proofs.NamingLemmas.{both_pass, label_passes}
 use Rattle.smpl_elem.specs.Forms.{is_list_label}
 use Rattle.smpl_formed.specs.Shapes.{is_nest_label}
 
@@ -67,107 +68,36 @@ nest_within kind.Body n w = false≢true n
 nest_within kind.Statement n w = false≢true n
 nest_within _ n w = false≢true w
 
--- labels that depend on children are neither
-either_branches : (cs : List Tree) → (is_list_label (branches_label cs) ≡ false) × (is_nest_label (branches_label cs) ≡ false)
-either_branches [] = (refl, refl)
-either_branches (a ∷ []) = (refl, refl)
-either_branches (a ∷ b ∷ []) = (refl, refl)
-either_branches (a ∷ b ∷ c ∷ cs) = either (text_is _ (out-Tree c))
-  where
-    either : (e : Bool) → (is_list_label (if e then label.PatOr else label.PatAnd) ≡ false) × (is_nest_label (if e then label.PatOr else label.PatAnd) ≡ false)
-    either true = (refl, refl)
-    either false = (refl, refl)
+abbrev is_unlisted : Label → Bool
+is_unlisted l = not (is_list_label l)
 
-either_at : (cs : List Tree) → (is_list_label (at_label cs) ≡ false) × (is_nest_label (at_label cs) ≡ false)
-either_at [] = (refl, refl)
-either_at (a ∷ []) = (refl, refl)
-either_at (a ∷ b ∷ []) = (refl, refl)
-either_at (a ∷ b ∷ c ∷ []) = (refl, refl)
-either_at (a ∷ b ∷ c ∷ d ∷ cs) = (refl, refl)
+abbrev is_nestless : Label → Bool
+is_nestless l = not (is_nest_label l)
 
-either_if : (cs : List Tree) → (is_list_label (if_label cs) ≡ false) × (is_nest_label (if_label cs) ≡ false)
-either_if [] = (refl, refl)
-either_if (a ∷ []) = (refl, refl)
-either_if (a ∷ b ∷ []) = (refl, refl)
-either_if (a ∷ b ∷ c ∷ []) = (refl, refl)
-either_if (a ∷ b ∷ c ∷ d ∷ []) = (refl, refl)
-either_if (a ∷ b ∷ c ∷ d ∷ e ∷ []) = (refl, refl)
-either_if (a ∷ b ∷ c ∷ d ∷ e ∷ f ∷ cs) = (refl, refl)
-
-either_case : (cs : List Tree) → (is_list_label (case_label cs) ≡ false) × (is_nest_label (case_label cs) ≡ false)
-either_case [] = (refl, refl)
-either_case (a ∷ []) = (refl, refl)
-either_case (a ∷ b ∷ []) = (refl, refl)
-either_case (a ∷ b ∷ c ∷ []) = (refl, refl)
-either_case (a ∷ b ∷ c ∷ d ∷ cs) = (refl, refl)
-
-either_for : (cs : List Tree) → (is_list_label (for_label cs) ≡ false) × (is_nest_label (for_label cs) ≡ false)
-either_for [] = (refl, refl)
-either_for (a ∷ []) = (refl, refl)
-either_for (a ∷ b ∷ []) = (refl, refl)
-either_for (a ∷ b ∷ c ∷ cs) = either (labelled is_decl_label (out-Tree c))
-  where
-    either : (e : Bool) → (is_list_label (if e then label.ForDecl else label.For) ≡ false) × (is_nest_label (if e then label.ForDecl else label.For) ≡ false)
-    either true = (refl, refl)
-    either false = (refl, refl)
-
-either_external : (cs : List Tree) → (is_list_label (external_label cs) ≡ false) × (is_nest_label (external_label cs) ≡ false)
-either_external [] = (refl, refl)
-either_external (a ∷ []) = (refl, refl)
-either_external (a ∷ b ∷ []) = (refl, refl)
-either_external (a ∷ b ∷ c ∷ []) = either (labelled is_block_label (out-Tree c))
-  where
-    either : (e : Bool) → (is_list_label (if e then label.FunDef else label.Decl) ≡ false) × (is_nest_label (if e then label.FunDef else label.Decl) ≡ false)
-    either true = (refl, refl)
-    either false = (refl, refl)
-either_external (a ∷ b ∷ c ∷ d ∷ cs) = (refl, refl)
-
-either_macro : (cs : List Tree) → (is_list_label (macro_label cs) ≡ false) × (is_nest_label (macro_label cs) ≡ false)
-either_macro cs = either (is_blockless cs)
-  where
-    either : (e : Bool) → (is_list_label (if e then label.MacroItem else label.MacroFun) ≡ false) × (is_nest_label (if e then label.MacroItem else label.MacroFun) ≡ false)
-    either true = (refl, refl)
-    either false = (refl, refl)
+unlisted_test : (r : Rule) (k : Kind) → IsTrue (neither k) → IsTrue (within (kind_of r) k) → IsTrue (both_pass is_unlisted r)
+unlisted_test rule.StmtList k n w = absurd (list_within k n w)
+unlisted_test _ k n w = refl
 
 pub rule_unlisted : (r : Rule) (cs : List Tree) (k : Kind) → IsTrue (neither k) → IsTrue (within (kind_of r) k) → is_list_label (label_of r cs) ≡ false
-rule_unlisted rule.StmtList cs k n w = absurd (list_within k n w)
-rule_unlisted rule.PatBranches cs k n w = (either_branches cs).0
-rule_unlisted rule.PatLists cs k n w = (either_branches cs).0
-rule_unlisted rule.At cs k n w = (either_at cs).0
-rule_unlisted rule.If cs k n w = (either_if cs).0
-rule_unlisted rule.For cs k n w = (either_for cs).0
-rule_unlisted rule.Case cs k n w = (either_case cs).0
-rule_unlisted rule.External cs k n w = (either_external cs).0
-rule_unlisted rule.ExternalMacro cs k n w = (either_macro cs).0
-rule_unlisted _ cs k n w = refl
+rule_unlisted r cs k n w = not_true (is_list_label (label_of r cs)) (label_passes is_unlisted r cs (unlisted_test r k n w))
 
 abbrev pub is_nest_rule : Rule → Bool
 is_nest_rule rule.PatNest = true
 is_nest_rule _ = false
 
+nestless_test : (r : Rule) → IsTrue (not (is_nest_rule r)) → IsTrue (both_pass is_nestless r)
+nestless_test rule.PatNest n = absurd (false≢true n)
+nestless_test _ n = refl
+
 pub other_rule : (r : Rule) (cs : List Tree) → IsTrue (not (is_nest_rule r)) → is_nest_label (label_of r cs) ≡ false
-other_rule rule.PatNest cs n = absurd (false≢true n)
-other_rule rule.PatBranches cs n = (either_branches cs).1
-other_rule rule.PatLists cs n = (either_branches cs).1
-other_rule rule.At cs n = (either_at cs).1
-other_rule rule.If cs n = (either_if cs).1
-other_rule rule.For cs n = (either_for cs).1
-other_rule rule.Case cs n = (either_case cs).1
-other_rule rule.External cs n = (either_external cs).1
-other_rule rule.ExternalMacro cs n = (either_macro cs).1
-other_rule _ cs n = refl
+other_rule r cs n = not_true (is_nest_label (label_of r cs)) (label_passes is_nestless r cs (nestless_test r n))
+
+safe_is_other : (r : Rule) (k : Kind) → IsTrue (is_safe k) → IsTrue (within (kind_of r) k) → IsTrue (not (is_nest_rule r))
+safe_is_other rule.PatNest k n w = absurd (nest_within k n w)
+safe_is_other _ k n w = refl
 
 pub safe_rule : (r : Rule) (cs : List Tree) (k : Kind) → IsTrue (is_safe k) → IsTrue (within (kind_of r) k) → is_nest_label (label_of r cs) ≡ false
-safe_rule rule.PatNest cs k n w = absurd (nest_within k n w)
-safe_rule rule.PatBranches cs k n w = (either_branches cs).1
-safe_rule rule.PatLists cs k n w = (either_branches cs).1
-safe_rule rule.At cs k n w = (either_at cs).1
-safe_rule rule.If cs k n w = (either_if cs).1
-safe_rule rule.For cs k n w = (either_for cs).1
-safe_rule rule.Case cs k n w = (either_case cs).1
-safe_rule rule.External cs k n w = (either_external cs).1
-safe_rule rule.ExternalMacro cs k n w = (either_macro cs).1
-safe_rule _ cs k n w = refl
+safe_rule r cs k n w = other_rule r cs (safe_is_other r k n w)
 
 -- ---- rows without lists of statements
 

@@ -1,10 +1,10 @@
 -- What parts a row has: tests of the rules, and of the ways of forks.
 use Rattle.std.proofs.Common.{◌≡◌, refl, List, [], ◌∷◌}
 use Rattle.std.proofs.lemmas.Bool.{false≢true}
-use Rattle.std.specs.Prelude.{Bool, true, false, ◌&&◌, IsTrue, if◌then◌else◌}
+use Rattle.std.specs.Prelude.{Bool, true, false, not, ◌&&◌, IsTrue}
 use Rattle.std.specs.List.{list_all}
-use Rattle.c_terms.specs.declared.label.Label.TheVariants as label
-use Rattle.c_terms.specs.declared.tree.Tree.{Tree, out-Tree}
+use Rattle.c_terms.specs.declared.label.Label.{Label}
+use Rattle.c_terms.specs.declared.tree.Tree.{Tree}
 use Rattle.c_rows.specs.declared.class.Class.{Class}
 use Rattle.c_rows.specs.declared.kind.Kind.{Kind}
 use Rattle.c_rows.specs.declared.kind.Kind.TheVariants as kind
@@ -15,8 +15,9 @@ use Rattle.c_rows.specs.declared.symbol.Symbol.TheVariants as symbol
 use Rattle.c_rows.specs.declared.symbol.Fork.{Fork}
 use Rattle.c_rows.specs.declared.symbol.Fork.TheVariants as forks
 use Rattle.c_rows.specs.Kinds.{family_of, within, has_leaf}
-use Rattle.c_rows.specs.Branches.{kind_of, label_of, branches_label, text_is}
-use Rattle.c_rows.specs.Rows.{Row, ways}
+use Rattle.c_rows.specs.Rows.{Row, ways, kind_of, label_of}
+use Rattle.c_rows.proofs.FirstChecks.{not_true}
+use Rattle.c_rows.proofs.NamingLemmas.{both_pass, label_passes}
 use Rattle.smpl_elem.specs.Forms.{is_list_label}
 use Rattle.smpl_leaves.proofs.SignLemmas.{is_sign_word}
 
@@ -40,27 +41,15 @@ list_label _ r cs h w = absurd (false≢true h)
 
 -- ---- expressions are no lists
 
-pub branches_listless : (cs : List Tree) → is_list_label (branches_label cs) ≡ false
-branches_listless [] = refl
-branches_listless (a ∷ []) = refl
-branches_listless (a ∷ b ∷ []) = refl
-branches_listless (a ∷ b ∷ c ∷ cs) = either (text_is _ (out-Tree c))
-  where
-    either : (b : Bool) → is_list_label (if b then label.PatOr else label.PatAnd) ≡ false
-    either true = refl
-    either false = refl
+abbrev is_listless : Label → Bool
+is_listless l = not (is_list_label l)
+
+listless_test : (r : Rule) → IsTrue (within (kind_of r) kind.Expr) → IsTrue (both_pass is_listless r)
+listless_test rule.StmtList w = absurd (false≢true w)
+listless_test _ w = refl
 
 pub listless_rule : (r : Rule) (cs : List Tree) → IsTrue (within (kind_of r) kind.Expr) → is_list_label (label_of r cs) ≡ false
-listless_rule rule.PatBranches cs w = branches_listless cs
-listless_rule rule.At cs w = absurd (false≢true w)
-listless_rule rule.If cs w = absurd (false≢true w)
-listless_rule rule.For cs w = absurd (false≢true w)
-listless_rule rule.Case cs w = absurd (false≢true w)
-listless_rule rule.External cs w = absurd (false≢true w)
-listless_rule rule.ExternalMacro cs w = absurd (false≢true w)
-listless_rule rule.PatLists cs w = absurd (false≢true w)
-listless_rule rule.StmtList cs w = absurd (false≢true w)
-listless_rule _ cs w = refl
+listless_rule r cs w = not_true (is_list_label (label_of r cs)) (label_passes is_listless r cs (listless_test r w))
 
 -- ---- tests of rows
 

@@ -1,5 +1,5 @@
 use Rattle.std.proofs.Common.{◌≡◌, drop}
-use Rattle.c_rows.specs.Branches.{is_blockless}
+use Rattle.c_rows.specs.Labels.{is_blockless}
 use Rattle.c_rows.proofs.labels.is_blockless.Given as goal
 
 abbrev pub invariant-loop-child : goal.invariant-loop-child

@@ -1,30 +1,17 @@
 -- Entries that are kept in blocks.
-use Rattle.std.proofs.Common.{◌≡◌, ℕ, suc, zero, ◌-◌, ◌<◌, ◌≤◌, Bool, true, false, ◌&&◌, ◌||◌, not, eqb, refl, sym, ap, ◌∙◌, subst, arith, List, [], ◌∷◌, ◌++◌, length, get_or, take, drop, append_assoc, append-nil}
-use Rattle.std.specs.declared.cmp.Ordering.{Ordering}
-use Rattle.std.specs.declared.cmp.Ordering.TheVariants.{Less, Equal, Greater}
-use Rattle.std.specs.Ordering.{ordering_then, is_eq}
+use Rattle.std.proofs.Common.{◌≡◌, ℕ, suc, zero, ◌-◌, ◌<◌, ◌≤◌, Bool, true, false, ◌&&◌, ◌||◌, eqb, refl, sym, ap, ◌∙◌, subst, arith, List, [], ◌∷◌, ◌++◌, length, get_or, take, drop, append_assoc, append-nil}
+use Rattle.std.specs.declared.cmp.Ordering.TheVariants.{Less, Greater}
 use Rattle.std.proofs.lemmas.Grind.{flat_map-append}
 use Rattle.std.proofs.lemmas.Bool.Decides.{nat_tests}
 use Rattle.std.proofs.lemmas.List.{take_all}
 use Rattle.std.proofs.lemmas.List.Folds.{list_any-append, list_all-append}
 use Rattle.smpl_terms.specs.declared.var.Var.{Var}
-use Rattle.smpl_terms.specs.declared.value.Value.{Value}
-use Rattle.smpl_terms.specs.Values.{same, value_order}
-use Rattle.smpl_terms.specs.Vars.{same_var}
 use Rattle.smpl_terms.specs.Environments.{Environment}
-use Rattle.smpl_terms.proofs.VarLaws.{same_var-equal}
-use Rattle.smpl_terms.proofs.ValueLaws.{value_order_total, is_eq-value_order}
 use Rattle.env_sets.specs.declared.bounds.Bound.{Bound}
-use Rattle.env_sets.specs.declared.bounds.Bound.TheVariants.{Is}
-use Rattle.env_sets.specs.Bounds.{fits}
 use Rattle.env_sets.specs.Sets.{Entries, entry_denotes, entry_vars, set_denotes, set_vars}
-use Rattle.env_sets.specs.Ascending.{bound_side, side, MayFollow, FirstMayFollow, Ascend}
+use Rattle.env_sets.specs.Ascending.{side, MayFollow, FirstMayFollow, Ascend}
 use Rattle.env_sets.specs.Blocks.{all_entries, AreInOrder, LastMayPrecede, LastIsBefore, FirstIsAfter}
-use Rattle.env_sets.proofs.AscendingLemmas.{beside_same, before_misses, after_misses, all_after, neither}
-use Rattle.env_sets.proofs.RisingLemmas.{turned}
-use Rattle.env_sets.proofs.SameLemmas.{same_alike}
-use Rattle.env_sets.proofs.LoopLemmas.{both_parts}
-use Rattle.env_sets.proofs.PairLemmas.{both_true}
+use Rattle.env_sets.proofs.AscendingLemmas.{before_misses, after_misses, all_after, neither}
 
 -- lists of blocks
 pub all_append : (bs cs : List Entries) → all_entries (bs ++ cs) ≡ all_entries bs ++ all_entries cs
@@ -143,141 +130,6 @@ pub first_may_follow : (es fs : Entries) (e y : List (Var × Bound)) → 0 < len
 first_may_follow [] fs e y some at h = absurd (omega arith)
 first_may_follow (d ∷ es) fs e y some at h = subst (λ z. MayFollow e z) at h
 
--- one entry more
-or_one : (d : Bool) → (d || true) ≡ true
-or_one true = refl
-or_one false = refl
-
-or_insert : (a b c d : Bool) → c ≡ (a || b) → (a || (d || b)) ≡ (c || d)
-or_insert true b c d h = sym (ap (λ x. x || d) h)
-or_insert false true c d h = or_one d ∙ sym (ap (λ x. x || d) h)
-or_insert false false c true h = sym (or_one c)
-or_insert false false c false h = sym (ap (λ x. x || false) h)
-
-pub with_meaning : (all xs ys : Entries) (e : List (Var × Bound)) (env : Environment) → all ≡ xs ++ ys
-    → set_denotes (xs ++ e ∷ ys) env ≡ (set_denotes all env || entry_denotes e env)
-with_meaning all xs ys e env is =
-    denotes-append xs (e ∷ ys) env
-    ∙ or_insert (set_denotes xs env) (set_denotes ys env) (set_denotes all env) (entry_denotes e env)
-    (ap (λ es. set_denotes es env) is ∙ denotes-append xs ys env)
-
-pub with_vars : (all xs ys : Entries) (e : List (Var × Bound)) (t : Var → Bool) → all ≡ xs ++ ys
-    → set_vars t all ≡ true → entry_vars t e ≡ true → set_vars t (xs ++ e ∷ ys) ≡ true
-with_vars all xs ys e t is h k =
-    let parts = both_parts (set_vars t xs) (set_vars t ys) (sym (vars-append xs ys t) ∙ ap (set_vars t) (sym is) ∙ h) in
-    vars-append xs (e ∷ ys) t
-    ∙ both_true (set_vars t xs) (set_vars t (e ∷ ys)) parts.0 (both_true (entry_vars t e) (set_vars t ys) k parts.1)
-
--- an entry that is covered
-pub covered : (b c : Bool) → (c ≡ true → b ≡ true) → b ≡ (b || c)
-covered true c h = refl
-covered false true h = h refl
-covered false false h = refl
-
--- some entries fewer
-both_kept : (p m s : Bool) → m ≡ false → (p || s) ≡ ((p || (m || s)) && true)
-both_kept true m s h = refl
-both_kept false true s h = absurd cc
-both_kept false false true h = refl
-both_kept false false false h = refl
-
-none_kept : (p s w : Bool) → p ≡ false → s ≡ false → (p || s) ≡ (w && false)
-none_kept true s w h k = absurd cc
-none_kept false true w h k = absurd cc
-none_kept false false true h k = refl
-none_kept false false false h k = refl
-
-cut_by : (xs ms ys : Entries) (env : Environment) (s : Bool) → Ascend (xs ++ (ms ++ ys))
-    → (s ≡ false → set_denotes ms env ≡ false) → (s ≡ true → LastIsBefore env xs) → (s ≡ true → FirstIsAfter env ys)
-    → (set_denotes xs env || set_denotes ys env) ≡ ((set_denotes xs env || (set_denotes ms env || set_denotes ys env)) && not s)
-cut_by xs ms ys env true a m l f =
-    none_kept (set_denotes xs env) (set_denotes ys env) (set_denotes xs env || (set_denotes ms env || set_denotes ys env))
-    (front_misses_env xs env (ascend_front xs (ms ++ ys) a) (l refl))
-    (back_misses_env ys env (ascend_back ms ys (ascend_back xs (ms ++ ys) a)) (f refl))
-cut_by xs ms ys env false a m l f = both_kept (set_denotes xs env) (set_denotes ms env) (set_denotes ys env) (m refl)
-
-pub without_meaning : (all xs ms ys : Entries) (env : Environment) (s : Bool) → all ≡ xs ++ (ms ++ ys) → Ascend all
-    → (s ≡ false → set_denotes ms env ≡ false) → (s ≡ true → LastIsBefore env xs) → (s ≡ true → FirstIsAfter env ys)
-    → set_denotes (xs ++ ys) env ≡ (set_denotes all env && not s)
-without_meaning all xs ms ys env s is a m l f =
-    denotes-append xs ys env
-    ∙ cut_by xs ms ys env s (subst Ascend is a) m l f
-    ∙ ap (λ b. (set_denotes xs env || b) && not s) (sym (denotes-append ms ys env))
-    ∙ ap (λ b. b && not s) (sym (denotes-append xs (ms ++ ys) env))
-    ∙ ap (λ es. set_denotes es env && not s) (sym is)
-
-pub without_vars : (all xs ms ys : Entries) (t : Var → Bool) → all ≡ xs ++ (ms ++ ys) → set_vars t all ≡ true
-    → set_vars t (xs ++ ys) ≡ true
-without_vars all xs ms ys t is h =
-    let parts = both_parts (set_vars t xs) (set_vars t (ms ++ ys)) (sym (vars-append xs (ms ++ ys) t) ∙ ap (set_vars t) (sym is) ∙ h) in
-    let more = both_parts (set_vars t ms) (set_vars t ys) (sym (vars-append ms ys t) ∙ parts.1) in
-    vars-append xs ys t ∙ both_true (set_vars t xs) (set_vars t ys) parts.0 more.1
-
--- nothing is left out where nothing is taken
-pub nothing_taken : (all xs ms ys : Entries) (env : Environment) (s : Bool) → all ≡ xs ++ (ms ++ ys)
-    → eqb (length ms) 0 ≡ true → set_denotes (xs ++ ys) env ≡ (set_denotes all env && not s)
-    → set_denotes all env ≡ (set_denotes all env && not s)
-nothing_taken all xs [] ys env s is none h = ap (λ es. set_denotes es env) is ∙ h
-nothing_taken all xs (m ∷ ms) ys env s is none h = absurd (grind (arith, nat_tests, none))
-
--- an entry that fixes x first
-side_of : (e pairs : List (Var × Bound)) (p : Var × Bound) (x : Var) (w : Value) (env : Environment) → pairs ≡ e
-    → 0 < length pairs → p ≡ get_or pairs 0 p → p.1 ≡ Is w → same_var p.0 x ≡ true
-    → (r : Ordering) × (side e env ≡ ordering_then (value_order w (env x)) r)
-side_of e [] p x w env f some at is here = absurd (omega arith)
-side_of e (q ∷ qs) p x w env f some at is here = (
-  side qs env,
-  ap (λ ps. side ps env) (sym f)
-      ∙ ap (λ (r : Var × Bound). bound_side r.1 (env r.0) (side qs env)) (sym at)
-      ∙ ap (λ b. bound_side b (env p.0) (side qs env)) is
-      ∙ ap (λ y. ordering_then (value_order w (env y)) (side qs env)) (same_var-equal p.0 x here),
-)
-
-equal_order : (o : Ordering) → is_eq o ≡ true → o ≡ Equal
-equal_order Less h = absurd cc
-equal_order Equal h = refl
-equal_order Greater h = absurd cc
-
-same_order : (v z : Value) → same v z ≡ true → value_order v z ≡ Equal
-same_order v z h = equal_order (value_order v z) (is_eq-value_order v z ∙ h)
-
-pub side_less : (e pairs : List (Var × Bound)) (p : Var × Bound) (x : Var) (v w : Value) (o : Ordering) → pairs ≡ e
-    → 0 < length pairs → p ≡ get_or pairs 0 p → p.1 ≡ Is w → same_var p.0 x ≡ true → o ≡ value_order w v → o ≡ Less
-    → (env : Environment) → same v (env x) ≡ true → side e env ≡ Less
-side_less e pairs p x v w o f some at is here g h env k =
-    let s = side_of e pairs p x w env f some at is here in
-    s.1 ∙ ap (λ q. ordering_then q s.0) (beside_same w v (env x) (sym g ∙ h) (same_order v (env x) k))
-
-above_same : (w v z : Value) → value_order w v ≡ Greater → value_order v z ≡ Equal → value_order w z ≡ Greater
-above_same w v z h k = turned z w Less (sym (value_order_total.congr v z w k) ∙ turned w v Greater h)
-
-pub side_greater : (e pairs : List (Var × Bound)) (p : Var × Bound) (x : Var) (v w : Value) (o : Ordering) → pairs ≡ e
-    → 0 < length pairs → p ≡ get_or pairs 0 p → p.1 ≡ Is w → same_var p.0 x ≡ true → o ≡ value_order w v → o ≡ Greater
-    → (env : Environment) → same v (env x) ≡ true → side e env ≡ Greater
-side_greater e pairs p x v w o f some at is here g h env k =
-    let s = side_of e pairs p x w env f some at is here in
-    s.1 ∙ ap (λ q. ordering_then q s.0) (above_same w v (env x) (sym g ∙ h) (same_order v (env x) k))
-
-denotes_of : (e pairs : List (Var × Bound)) (p : Var × Bound) (x : Var) (w : Value) (env : Environment) → pairs ≡ e
-    → 0 < length pairs → p ≡ get_or pairs 0 p → p.1 ≡ Is w → same_var p.0 x ≡ true
-    → (r : Bool) × (entry_denotes e env ≡ (same w (env x) && r))
-denotes_of e [] p x w env f some at is here = absurd (omega arith)
-denotes_of e (q ∷ qs) p x w env f some at is here = (
-  entry_denotes qs env,
-  ap (λ ps. entry_denotes ps env) (sym f)
-      ∙ ap (λ (r : Var × Bound). fits (env r.0) r.1 && entry_denotes qs env) (sym at)
-      ∙ ap (λ b. fits (env p.0) b && entry_denotes qs env) is
-      ∙ ap (λ y. same w (env y) && entry_denotes qs env) (same_var-equal p.0 x here),
-)
-
-pub side_equal : (e pairs : List (Var × Bound)) (p : Var × Bound) (x : Var) (v w : Value) (o : Ordering) → pairs ≡ e
-    → 0 < length pairs → p ≡ get_or pairs 0 p → p.1 ≡ Is w → same_var p.0 x ≡ true → o ≡ value_order w v → o ≡ Equal
-    → (env : Environment) → same v (env x) ≡ false → entry_denotes e env ≡ false
-side_equal e pairs p x v w o f some at is here g h env k =
-    let s = denotes_of e pairs p x w env f some at is here in
-    s.1 ∙ ap (λ b. b && s.0)
-    (same_alike w v (env x) (sym (is_eq-value_order w v) ∙ ap is_eq (sym g ∙ h)) ∙ k)
-
 -- blocks in order
 pub blocks_ascend : (bs : List Entries) → AreInOrder bs → Ascend (all_entries bs)
 unfolding AreInOrder
@@ -366,6 +218,23 @@ all_parts_of_three list before after block front rest middle back e g h =
     all_parts list before after block front rest e g
     ∙ ap (λ es. (all_entries before ++ front) ++ es)
     (ap (λ b. b ++ all_entries after) h ∙ append_assoc middle back (all_entries after))
+
+-- a block made of two parts, between others
+pub all_around : (none front most whole made before after : List Entries) (block : Entries) → none ≡ [] → front ≡ none ++ before
+    → all_entries most ≡ all_entries front ++ block → whole ≡ most ++ after → made ≡ whole
+    → all_entries made ≡ all_entries before ++ (block ++ all_entries after)
+all_around none front most whole made before after block n f m w e =
+    ap all_entries (e ∙ w)
+    ∙ all_append most after
+    ∙ ap (λ es. es ++ all_entries after) (m ∙ ap (λ bs. all_entries bs ++ block) (f ∙ ap (λ bs. bs ++ before) n))
+    ∙ append_assoc (all_entries before) block (all_entries after)
+
+pub around_parts : (before front back after block : Entries) → block ≡ front ++ back
+    → before ++ (block ++ after) ≡ (before ++ front) ++ (back ++ after)
+around_parts before front back after block is =
+    ap (λ es. before ++ (es ++ after)) is
+    ∙ ap (λ es. before ++ es) (append_assoc front back after)
+    ∙ sym (append_assoc before front (back ++ after))
 
 -- blocks beside a split, where one part is empty
 pub next_block : (P : Entries → Type 0) (back : Entries) (after : List Entries) (b : Entries) → length back ≡ 0

@@ -1,4 +1,4 @@
--- Sets, and what they are made of, may go to other threads and be shared by them.
+-- Sets, what they are made of and sets by node may go to other threads and be shared by them.
 use denote.Param.Send.{IsSend, IsSync, sendable, recorded_send, recorded_sync, enum_send, enum_sync}
 use denote.Enum.Declared.{shape}
 use Rattle.std.proofs.Crossing.{crosses}
@@ -8,6 +8,8 @@ use Rattle.env_sets.specs.contracts.excluded.Values as Values
 use Rattle.env_sets.specs.contracts.bounds.Bound as Bound
 use Rattle.env_sets.specs.contracts.entries.Entry as Entry
 use Rattle.env_sets.specs.contracts.sets.EnvSet as EnvSet
+use Rattle.env_sets.specs.contracts.states.StateRow as StateRow
+use Rattle.env_sets.specs.contracts.states.StateSets as StateSets
 
 -- the lists of excluded values, as they stand in a struct
 runs_send : IsSend (Runs.the_field).row
@@ -28,10 +30,10 @@ bound_send = recorded_send _ _ _ (Bound.the_type).to_one (enum_send (shape Bound
 bound_sync : IsSync Bound.the_row
 bound_sync = recorded_sync _ _ _ (Bound.the_type).to_one (enum_sync (shape Bound.the_type) ((value_in_sync, tt), ((search (values_sync, crosses, sendable) depth 60, tt), tt)))
 
-entry_send : IsSend Entry.the_row
+pub entry_send : IsSend Entry.the_row
 entry_send = search (bound_send, bound_sync, crosses, sendable) depth 60
 
-entry_sync : IsSync Entry.the_row
+pub entry_sync : IsSync Entry.the_row
 entry_sync = search (bound_send, bound_sync, crosses, sendable) depth 60
 
 pub set_send : IsSend EnvSet.the_row
@@ -39,3 +41,15 @@ set_send = search (entry_send, entry_sync, crosses, sendable) depth 60
 
 pub set_sync : IsSync EnvSet.the_row
 set_sync = search (entry_send, entry_sync, crosses, sendable) depth 60
+
+pub row_send : IsSend StateRow.the_row
+row_send = search (set_send, set_sync, crosses, sendable) depth 60
+
+pub row_sync : IsSync StateRow.the_row
+row_sync = search (set_send, set_sync, crosses, sendable) depth 60
+
+pub states_send : IsSend StateSets.the_row
+states_send = search (row_send, row_sync, crosses, sendable) depth 60
+
+pub states_sync : IsSync StateSets.the_row
+states_sync = search (row_send, row_sync, crosses, sendable) depth 60

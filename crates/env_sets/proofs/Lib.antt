@@ -8,6 +8,8 @@ pub mod SplitLemmas
 pub mod RisingLemmas
 pub mod AscendingLemmas
 pub mod BlockLemmas
+pub mod AddedLemmas
+pub mod RemovedLemmas
 pub mod SharingLemmas
 pub mod MeetLemmas
 pub mod LoneLemmas

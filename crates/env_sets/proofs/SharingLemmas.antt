@@ -44,6 +44,16 @@ first_holds set first rest env is h =
     ap (λ es. set_denotes es env) (sym is) ∙ denotes-append first (all_entries rest) env
     ∙ either_true (set_denotes first env) (set_denotes (all_entries rest) env) h
 
+or_last : (a b : Bool) → b ≡ true → (a || b) ≡ true
+or_last true b h = refl
+or_last false b h = h
+
+pub rest_holds : (set first : Entries) (rest : List Entries) (env : Environment) → first ++ all_entries rest ≡ set
+    → set_denotes (all_entries rest) env ≡ true → set_denotes set env ≡ true
+rest_holds set first rest env is h =
+    ap (λ es. set_denotes es env) (sym is) ∙ denotes-append first (all_entries rest) env
+    ∙ or_last (set_denotes first env) (set_denotes (all_entries rest) env) h
+
 -- blocks alone
 pub rest_alone : (set first new none : Entries) (rest left : List Entries) (s : Bool) (env : Environment)
     → first ++ all_entries rest ≡ set → eqb (length first) 0 ≡ true → none ≡ [] → new ≡ none ++ all_entries left

@@ -2,22 +2,16 @@
 // most of them.
 //
 //     [1, .., 60]  [64, .., 99]   with 62   =   [1, .., 60, 62]  [64, .., 99]
-ghost use Rattle.std.specs.Prelude.{◌≡◌, ◌&&◌, ◌||◌, ◌++◌, ◌<◌, ◌≤◌, Bool, true, false, not, [], ◌∷◌, length, take, Some, IfOk, IfSome};
-ghost use Rattle.std.specs.declared.cmp.Ordering.TheVariants.{Less, Equal, Greater};
-ghost use Rattle.smpl_terms.specs.declared.var.Var.{Var};
-ghost use Rattle.smpl_terms.specs.Values.{same};
-ghost use Rattle.smpl_terms.specs.Environments.{Environment, total};
-ghost use Rattle.env_sets.specs.Sets.{Entries, entry_denotes, entry_vars, set_denotes, set_vars};
-ghost use Rattle.env_sets.specs.Ascending.{side, FirstMayFollow};
-ghost use Rattle.env_sets.specs.Blocks.{all_entries, AreInOrder, LastMayPrecede, LastIsBefore, FirstIsAfter};
+ghost use Rattle.std.specs.Prelude.{◌≡◌, ◌++◌, ◌<◌, ◌≤◌, true, false, [], length, take, IfOk};
+ghost use Rattle.smpl_terms.specs.Environments.{total};
+ghost use Rattle.env_sets.specs.Sets.{Entries, set_denotes};
+ghost use Rattle.env_sets.specs.Blocks.{all_entries, AreInOrder, LastIsBefore, FirstIsAfter};
 
-use crate::ascending::{ascending_hold, entry_side, may_follow};
-use crate::bounds::Bound;
-use crate::entries::{Entry, entry_covers, entry_order};
+use crate::ascending::{ascending_hold, entry_side};
+use crate::entries::Entry;
 use c_terms::NoMemory;
-use smpl_terms::{Env, SharedList, Value, Var, same_var, value_order};
+use smpl_terms::{Env, SharedList};
 use std::alloc::Global;
-use std::cmp::Ordering;
 
 /// A block of more entries is made two.
 const MOST: usize = 128;
@@ -134,158 +128,16 @@ fn is_behind(block: &[Entry], env: &Env) -> bool
     }
 }
 
-/// The blocks with one entry more, in its place; None where its place is not plain. Where an entry at its place covers it,
-/// the blocks as they are. It copies the block and a pointer for each other one.
-pub fn blocks_with(
-    alloc: Global,
-    blocks: &SharedList<SharedList<Entry>>,
-    e: &Entry,
-) -> Result<Option<SharedList<SharedList<Entry>>>, NoMemory>
-    requires { AreInOrder blocks.now }
-    ensures meaning { IfOk result (λ o. IfSome o (λ r. (env : Environment) →
-        set_denotes (all_entries r) env ≡ (set_denotes (all_entries blocks.now) env || entry_denotes e.now env))) }
-    ensures vars { IfOk result (λ o. IfSome o (λ r. (t : Var → Bool) → set_vars t (all_entries blocks.now) ≡ true
-        → entry_vars t e.now ≡ true → set_vars t (all_entries r) ≡ true)) }
-    ensures order { IfOk result (λ o. IfSome o (λ r. AreInOrder r)) }
-{
-    let list = blocks.as_slice();
-    let (before, from) = list.split_at(block_for(list, e));
-    match from {
-        [] => Ok(None),
-        [block, after @ ..] => with_in_block(alloc, blocks, before, block, after, e),
-    }
-}
-
-/// The same, where the place is in this block, if anywhere.
-fn with_in_block(
-    alloc: Global,
-    blocks: &SharedList<SharedList<Entry>>,
-    before: &[SharedList<Entry>],
-    block: &SharedList<Entry>,
-    after: &[SharedList<Entry>],
-    e: &Entry,
-) -> Result<Option<SharedList<SharedList<Entry>>>, NoMemory>
-    requires order { AreInOrder blocks.now }
-    requires parts { blocks.now ≡ before.now ++ block.now ∷ after.now }
-    ensures meaning { IfOk result (λ o. IfSome o (λ r. (env : Environment) →
-        set_denotes (all_entries r) env ≡ (set_denotes (all_entries blocks.now) env || entry_denotes e.now env))) }
-    ensures vars { IfOk result (λ o. IfSome o (λ r. (t : Var → Bool) → set_vars t (all_entries blocks.now) ≡ true
-        → entry_vars t e.now ≡ true → set_vars t (all_entries r) ≡ true)) }
-    ensures order { IfOk result (λ o. IfSome o (λ r. AreInOrder r)) }
-{
-    let entries = block.as_slice();
-    let (front, back) = entries.split_at(place_for(entries, e));
-    if last_covers(front, e) {
-        return Ok(Some(blocks.share()?));
-    }
-    if may_end(before, front, e) && may_begin(e, back, after) {
-        return Ok(Some(with_between(alloc, before, front, e, back, after)?));
-    }
-    Ok(None)
-}
-
-/// The number of the last block that begins with no later entry, or else of the first block.
-fn block_for(blocks: &[SharedList<Entry>], e: &Entry) -> usize
-    ensures { result ≤ length blocks.now }
-{
-    let (mut low, mut high) = (0, blocks.len());
-    while low < high {
-        let middle = low + (high - low) / 2;
-        if begins_later(blocks[middle].as_slice(), e) {
-            high = middle;
-        } else {
-            low = middle + 1;
-        }
-    }
-    if low == 0 { 0 } else { low - 1 }
-}
-
-fn begins_later(block: &[Entry], e: &Entry) -> bool {
-    match block {
-        [first, ..] => entry_order(first, e).is_gt(),
-        [] => false,
-    }
-}
-
-/// How many entries at the front of a block are not later.
-fn place_for(block: &[Entry], e: &Entry) -> usize
-    ensures { result ≤ length block.now }
-{
-    let (mut low, mut high) = (0, block.len());
-    while low < high {
-        let middle = low + (high - low) / 2;
-        if entry_order(&block[middle], e).is_gt() {
-            high = middle;
-        } else {
-            low = middle + 1;
-        }
-    }
-    low
-}
-
-/// Whether the last entry covers this one.
-fn last_covers(entries: &[Entry], e: &Entry) -> bool
-    ensures { result ≡ true → (env : Environment) → entry_denotes e.now env ≡ true →
-        set_denotes entries.now env ≡ true }
-{
-    if entries.is_empty() {
-        return false;
-    }
-    entry_covers(&entries[entries.len() - 1], e)
-}
-
-/// Whether e may follow the last of these entries.
-fn may_end(before: &[SharedList<Entry>], front: &[Entry], e: &Entry) -> bool
-    ensures { result ≡ true → LastMayPrecede (all_entries before.now ++ front.now) e.now }
-{
-    if front.is_empty() {
-        return before.is_empty();
-    }
-    may_follow(front[front.len() - 1].pairs(), e.pairs())
-}
-
-/// Whether the first of these entries may follow e.
-fn may_begin(e: &Entry, back: &[Entry], after: &[SharedList<Entry>]) -> bool
-    ensures { result ≡ true → FirstMayFollow e.now (back.now ++ all_entries after.now) }
-{
-    match back {
-        [first, ..] => may_follow(e.pairs(), first.pairs()),
-        [] => match after {
-            [] => true,
-            [block, ..] => may_begin_block(e, block.as_slice()),
-        },
-    }
-}
-
-/// Whether the block has a first entry, and it may follow e.
-fn may_begin_block(e: &Entry, block: &[Entry]) -> bool
-    ensures { result ≡ true → (es : Entries) → FirstMayFollow e.now (block.now ++ es) }
-{
-    match block {
-        [first, ..] => may_follow(e.pairs(), first.pairs()),
-        [] => false,
-    }
-}
-
-/// All of these, with e between.
-fn with_between(
+/// These blocks with one between: two where it has too many entries, and none where it has none. Those before and behind
+/// are shared.
+pub fn blocks_around(
     alloc: Global,
     before: &[SharedList<Entry>],
-    front: &[Entry],
-    e: &Entry,
-    back: &[Entry],
+    block: Vec<Entry>,
     after: &[SharedList<Entry>],
 ) -> Result<SharedList<SharedList<Entry>>, NoMemory>
-    ensures { IfOk result (λ r. all_entries r ≡
-        (all_entries before.now ++ front.now) ++ e.now ∷ (back.now ++ all_entries after.now)) }
+    ensures { IfOk result (λ r. all_entries r ≡ all_entries before.now ++ (block.items ++ all_entries after.now)) }
 {
-    let mut block = Vec::with_capacity(
-        alloc,
-        front.len().saturating_add(back.len()).saturating_add(1),
-    )?;
-    put_entries(&mut block, front)?;
-    block.push(e.share()?)?;
-    put_entries(&mut block, back)?;
     let mut blocks = Vec::with_capacity(
         alloc,
         before.len().saturating_add(after.len()).saturating_add(2),
@@ -296,6 +148,7 @@ fn with_between(
     Ok(SharedList::of(alloc, blocks)?)
 }
 
+/// Adds these blocks, which are shared.
 fn put_shares(
     out: &mut Vec<SharedList<Entry>>,
     blocks: &[SharedList<Entry>],
@@ -308,7 +161,7 @@ fn put_shares(
     Ok(())
 }
 
-/// Adds a block, or two where it has too many entries.
+/// Adds a block: two where it has too many entries, and none where it has none.
 fn put_block(
     alloc: Global,
     out: &mut Vec<SharedList<Entry>>,
@@ -316,6 +169,9 @@ fn put_block(
 ) -> Result<(), NoMemory>
     ensures { IfOk result (λ _. all_entries out.new.items ≡ all_entries out.old.items ++ block.items) }
 {
+    if block.is_empty() {
+        return Ok(());
+    }
     let mut front = block;
     if front.len() > MOST {
         let back = front.split_off(HALF)?;
@@ -325,223 +181,4 @@ fn put_block(
     }
     out.push(SharedList::of(alloc, front)?)?;
     Ok(())
-}
-
-/// The blocks without the entries that fix x to be v; None where these are not plain: where entries beside them don't begin
-/// with x, or they stand in several blocks. It copies the block and a pointer for each other one, and nothing where no entry goes.
-pub fn blocks_without(
-    alloc: Global,
-    blocks: &SharedList<SharedList<Entry>>,
-    x: &Var,
-    v: &Value,
-) -> Result<Option<SharedList<SharedList<Entry>>>, NoMemory>
-    requires { AreInOrder blocks.now }
-    ensures meaning { IfOk result (λ o. IfSome o (λ r. (env : Environment) →
-        set_denotes (all_entries r) env ≡ (set_denotes (all_entries blocks.now) env && not (same v.now (env x.now))))) }
-    ensures vars { IfOk result (λ o. IfSome o (λ r. (t : Var → Bool) → set_vars t (all_entries blocks.now) ≡ true
-        → set_vars t (all_entries r) ≡ true)) }
-    ensures order { IfOk result (λ o. IfSome o (λ r. AreInOrder r)) }
-{
-    let list = blocks.as_slice();
-    let (before, from) = list.split_at(block_at(list, x, v));
-    match from {
-        [] => Ok(None),
-        [block, after @ ..] => without_in_block(alloc, blocks, before, block, after, x, v),
-    }
-}
-
-/// The same, where the entries are in this block, if anywhere.
-fn without_in_block(
-    alloc: Global,
-    blocks: &SharedList<SharedList<Entry>>,
-    before: &[SharedList<Entry>],
-    block: &SharedList<Entry>,
-    after: &[SharedList<Entry>],
-    x: &Var,
-    v: &Value,
-) -> Result<Option<SharedList<SharedList<Entry>>>, NoMemory>
-    requires order { AreInOrder blocks.now }
-    requires parts { blocks.now ≡ before.now ++ block.now ∷ after.now }
-    ensures meaning { IfOk result (λ o. IfSome o (λ r. (env : Environment) →
-        set_denotes (all_entries r) env ≡ (set_denotes (all_entries blocks.now) env && not (same v.now (env x.now))))) }
-    ensures vars { IfOk result (λ o. IfSome o (λ r. (t : Var → Bool) → set_vars t (all_entries blocks.now) ≡ true
-        → set_vars t (all_entries r) ≡ true)) }
-    ensures order { IfOk result (λ o. IfSome o (λ r. AreInOrder r)) }
-{
-    let entries = block.as_slice();
-    let (front, rest) = entries.split_at(count_before(entries, x, v));
-    let (fixed, back) = rest.split_at(count_at(rest, x, v));
-    if !ends_below(before, front, x, v) {
-        return Ok(None);
-    }
-    if !begins_above(back, after, x, v) {
-        return Ok(None);
-    }
-    if fixed.is_empty() {
-        return Ok(Some(blocks.share()?));
-    }
-    Ok(Some(without_between(alloc, before, front, back, after)?))
-}
-
-/// The side of an entry that fixes x first: whether its value is before v, the same or after it. None for other entries.
-fn side_at(e: &Entry, x: &Var, v: &Value) -> Option<Ordering>
-    ensures less { result ≡ Some Less → (env : Environment) → same v.now (env x.now) ≡ true → side e.now env ≡ Less }
-    ensures greater { result ≡ Some Greater → (env : Environment) → same v.now (env x.now) ≡ true → side e.now env ≡ Greater }
-    ensures equal { result ≡ Some Equal → (env : Environment) → same v.now (env x.now) ≡ false → entry_denotes e.now env ≡ false }
-{
-    match e.pairs() {
-        [] => None,
-        [p, ..] => match &p.1 {
-            Bound::Not(_) => None,
-            Bound::Is(w) => {
-                if same_var(&p.0, x) {
-                    Some(value_order(w, v))
-                } else {
-                    None
-                }
-            }
-        },
-    }
-}
-
-fn is_below(e: &Entry, x: &Var, v: &Value) -> bool
-    ensures { result ≡ true → (env : Environment) → same v.now (env x.now) ≡ true → side e.now env ≡ Less }
-{
-    match side_at(e, x, v) {
-        Some(Ordering::Less) => true,
-        _ => false,
-    }
-}
-
-fn is_above(e: &Entry, x: &Var, v: &Value) -> bool
-    ensures { result ≡ true → (env : Environment) → same v.now (env x.now) ≡ true → side e.now env ≡ Greater }
-{
-    match side_at(e, x, v) {
-        Some(Ordering::Greater) => true,
-        _ => false,
-    }
-}
-
-fn is_at(e: &Entry, x: &Var, v: &Value) -> bool
-    ensures { result ≡ true → (env : Environment) → same v.now (env x.now) ≡ false → entry_denotes e.now env ≡ false }
-{
-    match side_at(e, x, v) {
-        Some(Ordering::Equal) => true,
-        _ => false,
-    }
-}
-
-/// The number of the last block whose first entry fixes x below v, or else of the first block.
-fn block_at(blocks: &[SharedList<Entry>], x: &Var, v: &Value) -> usize
-    ensures { result ≤ length blocks.now }
-{
-    let (mut low, mut high) = (0, blocks.len());
-    while low < high {
-        let middle = low + (high - low) / 2;
-        if begins_below(blocks[middle].as_slice(), x, v) {
-            low = middle + 1;
-        } else {
-            high = middle;
-        }
-    }
-    if low == 0 { 0 } else { low - 1 }
-}
-
-fn begins_below(block: &[Entry], x: &Var, v: &Value) -> bool {
-    match block {
-        [first, ..] => is_below(first, x, v),
-        [] => false,
-    }
-}
-
-/// How many entries at the front of a block fix x below v.
-fn count_before(block: &[Entry], x: &Var, v: &Value) -> usize
-    ensures { result ≤ length block.now }
-{
-    let (mut low, mut high) = (0, block.len());
-    while low < high {
-        let middle = low + (high - low) / 2;
-        if is_below(&block[middle], x, v) {
-            low = middle + 1;
-        } else {
-            high = middle;
-        }
-    }
-    low
-}
-
-/// How many entries at the front of a list fix x at v.
-fn count_at(entries: &[Entry], x: &Var, v: &Value) -> usize
-    ensures within { result ≤ length entries.now }
-    ensures fixed { (env : Environment) → same v.now (env x.now) ≡ false →
-        set_denotes (take result entries.now) env ≡ false }
-{
-    for i in 0..entries.len() {
-        if !is_at(&entries[i], x, v) {
-            return i;
-        }
-    }
-    entries.len()
-}
-
-/// Whether the last of these entries fixes x below v.
-fn ends_below(before: &[SharedList<Entry>], front: &[Entry], x: &Var, v: &Value) -> bool
-    ensures { result ≡ true → (env : Environment) → same v.now (env x.now) ≡ true →
-        LastIsBefore env (all_entries before.now ++ front.now) }
-{
-    if front.is_empty() {
-        return before.is_empty();
-    }
-    is_below(&front[front.len() - 1], x, v)
-}
-
-/// Whether the first of these entries fixes x above v.
-fn begins_above(back: &[Entry], after: &[SharedList<Entry>], x: &Var, v: &Value) -> bool
-    ensures { result ≡ true → (env : Environment) → same v.now (env x.now) ≡ true →
-        FirstIsAfter env (back.now ++ all_entries after.now) }
-{
-    match back {
-        [first, ..] => is_above(first, x, v),
-        [] => match after {
-            [] => true,
-            [block, ..] => block_begins_above(block.as_slice(), x, v),
-        },
-    }
-}
-
-/// Whether the block has a first entry, and it fixes x above v.
-fn block_begins_above(block: &[Entry], x: &Var, v: &Value) -> bool
-    ensures { result ≡ true → (env : Environment) → same v.now (env x.now) ≡ true → (es : Entries) →
-        FirstIsAfter env (block.now ++ es) }
-{
-    match block {
-        [first, ..] => is_above(first, x, v),
-        [] => false,
-    }
-}
-
-/// All of these.
-fn without_between(
-    alloc: Global,
-    before: &[SharedList<Entry>],
-    front: &[Entry],
-    back: &[Entry],
-    after: &[SharedList<Entry>],
-) -> Result<SharedList<SharedList<Entry>>, NoMemory>
-    ensures { IfOk result (λ r. all_entries r ≡
-        (all_entries before.now ++ front.now) ++ (back.now ++ all_entries after.now)) }
-{
-    let mut block = Vec::with_capacity(alloc, front.len().saturating_add(back.len()))?;
-    put_entries(&mut block, front)?;
-    put_entries(&mut block, back)?;
-    let mut blocks = Vec::with_capacity(
-        alloc,
-        before.len().saturating_add(after.len()).saturating_add(1),
-    )?;
-    put_shares(&mut blocks, before)?;
-    if !block.is_empty() {
-        blocks.push(SharedList::of(alloc, block)?)?;
-    }
-    put_shares(&mut blocks, after)?;
-    Ok(SharedList::of(alloc, blocks)?)
 }

@@ -138,18 +138,11 @@ fn split(alloc: Global, a: &[Entry], x: &Var) -> Result<Vec<Entry>, NoMemory>
     let mut entries = Vec::new(alloc);
     for i in 0..all.len() {
         let rest = outside(alloc, parts[i].entries())?;
-        put_narrowed(
-            alloc,
-            &mut entries,
-            rest,
-            x,
-            &Bound::Is(all[i].copy(alloc)?),
-        )?;
+        put_fixed(alloc, &mut entries, rest, x, &all[i])?;
     }
     let other = where_other(alloc, a, x)?;
     let rest = outside(alloc, &other)?;
-    let excluded = Values::of(alloc, values.into_vec())?;
-    put_narrowed(alloc, &mut entries, rest, x, &Bound::Not(excluded))?;
+    put_other(alloc, &mut entries, rest, x, values.into_vec())?;
     Ok(entries)
 }
 
@@ -265,6 +258,40 @@ fn some_allow(a: &[Entry], x: &Var, v: &Value) -> bool
         }
     }
     false
+}
+
+/// Adds the entries where x is v.
+fn put_fixed(
+    alloc: Global,
+    out: &mut Vec<Entry>,
+    rest: Vec<Entry>,
+    x: &Var,
+    v: &Value,
+) -> Result<(), NoMemory>
+    ensures meaning { IfOk result
+        (λ _. (env : Environment) → set_denotes out.new.items env ≡ (set_denotes out.old.items env || (set_denotes rest.items env && same v.now (env x.now)))) }
+    ensures vars { IfOk result
+        (λ _. (t : Var → Bool) → set_vars t out.old.items ≡ true → set_vars t rest.items ≡ true → t x.now ≡ true → set_vars t out.new.items ≡ true) }
+{
+    let bound = Bound::Is(v.copy(alloc)?);
+    put_narrowed(alloc, out, rest, x, &bound)
+}
+
+/// Adds the entries where x is none of the values.
+fn put_other(
+    alloc: Global,
+    out: &mut Vec<Entry>,
+    rest: Vec<Entry>,
+    x: &Var,
+    values: Vec<Value>,
+) -> Result<(), NoMemory>
+    ensures meaning { IfOk result
+        (λ _. (env : Environment) → set_denotes out.new.items env ≡ (set_denotes out.old.items env || (set_denotes rest.items env && not (list_any (λ v. same v (env x.now)) values.items)))) }
+    ensures vars { IfOk result
+        (λ _. (t : Var → Bool) → set_vars t out.old.items ≡ true → set_vars t rest.items ≡ true → t x.now ≡ true → set_vars t out.new.items ≡ true) }
+{
+    let bound = Bound::Not(Values::of(alloc, values)?);
+    put_narrowed(alloc, out, rest, x, &bound)
 }
 
 /// Adds the entries with one more bound.

@@ -4,6 +4,8 @@
 //!   and stands for every environment that meets them. [`EnvSet`] stands for what some entry of it stands for.
 //! - [`meet`], [`join`] and [`complement`] are intersection, union and complement; [`project`] lets one variable change;
 //!   [`given`] gives some variables their values; [`denotes`] says whether an environment is in a set.
+//! - [`EnvSet::entries`] lists the entries of a set, and [`EnvSet::blocks`] hands them out as they stand: a slice, and blocks
+//!   that follow it, which sets share.
 //! - [`StateSets`] keeps a set for each subformula and node.
 //! - [`complement_twice`] and its neighbours are laws, which no single call shows.
 //!
@@ -15,6 +17,7 @@
 //! [`complement`] recurses once a variable, and comparing values and listing them once a level of a tree.
 #![tactic(auto)]
 
+mod added;
 mod algebra;
 mod ascending;
 mod blocks;
@@ -31,6 +34,7 @@ mod lone;
 mod lookup;
 mod marks;
 mod parts;
+mod removed;
 mod runs;
 mod same;
 mod sets;

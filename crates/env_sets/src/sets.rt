@@ -126,7 +126,17 @@ impl EnvSet {
         (self.first.as_slice(), self.rest.as_slice())
     }
 
-    /// The same. The blocks are in order.
+    /// Each entry, in order. A copy shares what it holds; one slice would have to copy the blocks that sets share, so it is a
+    /// list of its own. Linear in the entries; [`EnvSet::blocks`] takes no memory.
+    pub fn entries(&self, alloc: Global) -> Result<Vec<Entry>, NoMemory>
+        ensures entries { IfOk result (λ r. r.items ≡ self.now) }
+    {
+        let mut entries = Vec::new(alloc);
+        self.put_in(&mut entries)?;
+        Ok(entries)
+    }
+
+    /// The same as [`EnvSet::blocks`]. The blocks are in order.
     pub(crate) fn by_order(&self) -> (&[Entry], &SharedList<SharedList<Entry>>)
         ensures entries { result.0.now ++ all_entries result.1.now ≡ self.now }
         ensures order { AreInOrder result.1.now }
@@ -149,9 +159,7 @@ impl EnvSet {
     pub(crate) fn list(&self, alloc: Global) -> Result<EntryList, NoMemory>
         ensures { IfOk result (λ r. r ≡ self.now) }
     {
-        let mut entries = Vec::new(alloc);
-        self.put_in(&mut entries)?;
-        Ok(EntryList::of(entries))
+        Ok(EntryList::of(self.entries(alloc)?))
     }
 
     /// Adds the entries, which are shared.

@@ -11,10 +11,12 @@ ghost use Rattle.env_sets.specs.Sets.{entry_denotes, entry_vars, set_denotes, se
 ghost use Rattle.env_sets.specs.Laws.{IsMeet, IsJoin};
 ghost use Rattle.env_sets.specs.Blocks.{all_entries, AreInOrder};
 
-use crate::blocks::{blocks_with, blocks_without, put_entries};
+use crate::added::{blocks_cover, blocks_with};
+use crate::blocks::put_entries;
 use crate::complements::only_excluded;
 use crate::entries::Entry;
 use crate::excluded::Values;
+use crate::removed::blocks_without;
 use crate::sets::{EnvSet, first_cover};
 use c_terms::NoMemory;
 use smpl_terms::{SharedList, Var};
@@ -23,7 +25,8 @@ use std::alloc::Global;
 /// Values are looked for one by one where there are no more.
 const FEW: usize = 16;
 
-/// The join, where one of the sets has blocks and the other has few entries that can be put among them; else None.
+/// The join, where one of the sets has blocks and the other has few entries that it lacks, which can be put among them;
+/// else None.
 pub fn join_sharing(alloc: Global, a: &EnvSet, b: &EnvSet) -> Result<Option<EnvSet>, NoMemory>
     ensures meaning { IfOk result (λ o. IfSome o (λ r. IsJoin a.now b.now r)) }
     ensures vars { IfOk result (λ o. IfSome o (λ r. (t : Var → Bool) → set_vars t a.now ≡ true →
@@ -32,8 +35,78 @@ pub fn join_sharing(alloc: Global, a: &EnvSet, b: &EnvSet) -> Result<Option<EnvS
     match (a.as_list(), b.as_list()) {
         (Some(few), None) => with_few(alloc, b, few),
         (None, Some(few)) => with_few(alloc, a, few),
+        (None, None) => join_blocks(alloc, a, b),
         _ => Ok(None),
     }
+}
+
+/// The same of two sets with blocks. The one with more blocks takes what it lacks of the other.
+fn join_blocks(alloc: Global, a: &EnvSet, b: &EnvSet) -> Result<Option<EnvSet>, NoMemory>
+    ensures meaning { IfOk result (λ o. IfSome o (λ r. IsJoin a.now b.now r)) }
+    ensures vars { IfOk result (λ o. IfSome o (λ r. (t : Var → Bool) → set_vars t a.now ≡ true →
+        set_vars t b.now ≡ true → set_vars t r ≡ true)) }
+{
+    if a.blocks().1.len() < b.blocks().1.len() {
+        return with_lacking(alloc, b, a);
+    }
+    with_lacking(alloc, a, b)
+}
+
+/// The set with those entries of the other that it lacks.
+fn with_lacking(alloc: Global, set: &EnvSet, other: &EnvSet) -> Result<Option<EnvSet>, NoMemory>
+    ensures meaning { IfOk result (λ o. IfSome o (λ r. (env : Environment) →
+        set_denotes r env ≡ (set_denotes set.now env || set_denotes other.now env))) }
+    ensures vars { IfOk result (λ o. IfSome o (λ r. (t : Var → Bool) → set_vars t set.now ≡ true →
+        set_vars t other.now ≡ true → set_vars t r ≡ true)) }
+{
+    let list = other.list(alloc)?;
+    match lacking(alloc, set, list.entries())? {
+        None => Ok(None),
+        Some(few) => with_few(alloc, set, few.as_slice()),
+    }
+}
+
+/// The entries that none of the set covers at its place; None where they are more than the blocks.
+fn lacking(alloc: Global, set: &EnvSet, entries: &[Entry]) -> Result<Option<Vec<Entry>>, NoMemory>
+    ensures meaning { IfOk result (λ o. IfSome o (λ few. (env : Environment) →
+        (set_denotes set.now env || set_denotes few.items env) ≡ (set_denotes set.now env || set_denotes entries.now env))) }
+    ensures vars { IfOk result (λ o. IfSome o (λ few. (t : Var → Bool) → set_vars t entries.now ≡ true →
+        set_vars t few.items ≡ true)) }
+{
+    let most = set.blocks().1.len();
+    let mut few = Vec::new(alloc);
+    for e in entries {
+        if few.len() > most {
+            return Ok(None);
+        }
+        put_if_lacking(&mut few, set, e)?;
+    }
+    Ok(Some(few))
+}
+
+/// Adds the entry, unless one of the set covers it.
+fn put_if_lacking(out: &mut Vec<Entry>, set: &EnvSet, e: &Entry) -> Result<(), NoMemory>
+    ensures meaning { IfOk result (λ _. (env : Environment) → (set_denotes set.now env || set_denotes out.new.items env)
+        ≡ ((set_denotes set.now env || set_denotes out.old.items env) || entry_denotes e.now env)) }
+    ensures vars { IfOk result (λ _. (t : Var → Bool) → set_vars t out.old.items ≡ true →
+        entry_vars t e.now ≡ true → set_vars t out.new.items ≡ true) }
+{
+    if is_covered(set, e) {
+        return Ok(());
+    }
+    out.push(e.share()?)?;
+    Ok(())
+}
+
+/// Whether one of the first entries covers this one, or the one at its place in the blocks.
+fn is_covered(set: &EnvSet, e: &Entry) -> bool
+    ensures { result ≡ true → (env : Environment) → entry_denotes e.now env ≡ true → set_denotes set.now env ≡ true }
+{
+    let (first, rest) = set.by_order();
+    if first_cover(first, FEW, e) {
+        return true;
+    }
+    blocks_cover(rest.as_slice(), e)
 }
 
 /// The set with these entries, where they are no more than the blocks, and the place of each is plain.

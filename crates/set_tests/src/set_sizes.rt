@@ -166,6 +166,46 @@ fn sets_in_blocks_keep_their_entries(rt: HostRuntime) -> Result<(), Fail> {
     Ok(())
 }
 
+/// The join of what two recipes make.
+fn joined(alloc: Global, first: &str, second: &str) -> Result<String, Fail> {
+    Ok(format!(in alloc; "{first} {second} |")?)
+}
+
+/// Whether two recipes make sets of which either join has so many entries.
+fn join_to(alloc: Global, first: String, second: String, entries: usize) -> Result<bool, Fail> {
+    Ok(
+        measures_size(alloc, &joined(alloc, &first, &second)?, entries)?
+            && measures_size(alloc, &joined(alloc, &second, &first)?, entries)?,
+    )
+}
+
+#[test]
+fn joins_of_sets_in_blocks_have_each_entry_once(rt: HostRuntime) -> Result<(), Fail> {
+    let alloc = rt.alloc();
+    for (first, second, entries) in [
+        ("x=400 |", "x=401 |", 302),
+        ("x!17 &", "x!18,99 &", 300),
+        ("x!1 &", "all &", 300),
+    ] {
+        let (first, second) = (
+            then(values(alloc, 300, true)?, first)?,
+            then(values(alloc, 300, true)?, second)?,
+        );
+        assert!(rt; join_to(alloc, first, second, entries)?, "{entries}");
+    }
+    assert!(rt;
+        join_to(
+            alloc,
+            values(alloc, 300, true)?,
+            values(alloc, 100, true)?,
+            300
+        )?
+    );
+    assert!(rt; join_to(alloc, values(alloc, 300, true)?, pairs(alloc, 300)?, 301)?);
+    assert!(rt; join_to(alloc, pairs(alloc, 300)?, pairs(alloc, 302)?, 302)?);
+    Ok(())
+}
+
 /// Whether the recipe makes a set of so many entries.
 fn measures_size(alloc: Global, recipe: &str, entries: usize) -> Result<bool, Fail> {
     Ok(size(&made(alloc, recipe)?) == entries)

@@ -1,6 +1,6 @@
 // Sets of environments that recipes make: which are told to be the same, and what threads share.
 use c_terms::{Text, Token, TokenKind, Tree};
-use env_sets::{Bound, EnvSet, Values, complement, join, meet, same_set};
+use env_sets::{Bound, Entry, EnvSet, Values, complement, join, meet, same_set};
 use smpl_terms::{Value, Var};
 use std::alloc::Global;
 use std::test::Fail;
@@ -116,6 +116,54 @@ fn set_of_word(alloc: Global, word: &str) -> Result<EnvSet, Fail> {
         Some((name, numbers)) => is_none_of(alloc, name, numbers),
         None => Err("no word of a recipe")?,
     }
+}
+
+fn listed(alloc: Global, a: &EnvSet) -> Result<Vec<Entry>, Fail> {
+    Ok(a.entries(alloc)?)
+}
+
+/// Adds the bound as a word of a recipe, where it is one number.
+fn put_word(out: &mut Vec<u8>, x: &Var, bound: &Bound) -> Result<(), Fail> {
+    let Bound::Is(Value::Term(tree)) = bound else {
+        return Err("the bound is no term")?;
+    };
+    let Tree::Leaf(token) = tree.get() else {
+        return Err("the term is no token")?;
+    };
+    out.extend_from_slice(x.name.as_bytes())?;
+    out.push(b'=')?;
+    out.extend_from_slice(token.text.as_bytes())?;
+    out.push(b' ')?;
+    Ok(())
+}
+
+/// The bounds of the entries, one after another, as words of a recipe.
+fn words_of(alloc: Global, entries: &[Entry]) -> Result<Vec<u8>, Fail> {
+    let mut out = Vec::new(alloc);
+    for e in entries {
+        for p in e.pairs() {
+            put_word(&mut out, &p.0, &p.1)?;
+        }
+    }
+    Ok(out)
+}
+
+#[test]
+fn a_set_hands_out_the_entries_that_were_put_in(rt: HostRuntime) -> Result<(), Fail> {
+    let alloc = rt.alloc();
+    let set = made(
+        alloc,
+        "x=24 x=11 | x=28 | x=19 | x=13 | x=22 | x=15 | x=10 | x=26 | x=17 | x=21 | x=12 | x=29 | x=14 | x=25 | x=16 | \
+         x=27 | x=18 | x=23 | x=20 |",
+    )?;
+    assert!(rt; !set.blocks().1.is_empty());
+    let words = String::from_utf8(words_of(alloc, &listed(alloc, &set)?)?)?;
+    assert!(rt;
+        words.as_str()
+            == "x=10 x=11 x=12 x=13 x=14 x=15 x=16 x=17 x=18 x=19 \
+                x=20 x=21 x=22 x=23 x=24 x=25 x=26 x=27 x=28 x=29 "
+    );
+    Ok(())
 }
 
 /// Whether two recipes make sets that are told to be the same.

@@ -97,15 +97,15 @@ split-loop-i-preserved t c =
     (c.entries.ensures.entries ∙ c.index.ensures ∙ get_or_default c.in_ok-parts.parts.items c.loop-i.i c.index.result.now [] (omega (arith, c.in_ok-parts.ensures.0, c.loop-i-test.true))) c.index-all-i.is in
     record {
       meaning = λ env.
-          c.in_ok-put_narrowed.ensures.meaning env
-          ∙ (λ i. c.loop-i.invariant.meaning env i || (c.in_ok-rest.ensures.meaning env i && same (c.in_ok-copy.ensures.same i) (env x)))
+          c.in_ok-put_fixed.ensures.meaning env
+          ∙ (λ i. c.loop-i.invariant.meaning env i || (c.in_ok-rest.ensures.meaning env i && same v (env x)))
           ∙ complement_step (list_any (λ w. same w (env x)) (take c.loop-i.i c.as_slice-all.result.now)) (same v (env x))
           (set_denotes c.entries.result.now env) (set_denotes c.args.a.now env)
           (λ yes. ap (λ es. set_denotes es env) is_part ∙ is-split x v env c.args.a.now yes)
           ∙ ap (λ b. b && not (set_denotes c.args.a.now env))
           (sym (any_step (λ w. same w (env x)) c.as_slice-all.result.now c.loop-i.i v (omega arith) c.index-all-i.is));
       vars = λ test all.
-          c.in_ok-put_narrowed.ensures.vars test (c.loop-i.invariant.vars test all)
+          c.in_ok-put_fixed.ensures.vars test (c.loop-i.invariant.vars test all)
           (c.in_ok-rest.ensures.vars test (ap (set_vars test) is_part ∙ restricted_vars x (fits v) test c.args.a.now all))
           (occurs_vars x test c.args.a.now c.requires.occurs all);
     }
@@ -115,14 +115,14 @@ split-returns-clause-meaning t c = λ env.
     let x = c.args.x.now in
     let all_values : take c.loop-i.i c.as_slice-all.result.now ≡ c.in_ok-values.values =
     take_all c.loop-i.i c.as_slice-all.result.now (omega arith) ∙ c.as_slice-all.ensures.items in
-    c.in_ok-put_narrowed-2.ensures.meaning env
+    c.in_ok-put_other.ensures.meaning env
     ∙ (λ i. (c.loop-i.invariant.meaning env ∙ ap (λ vs. list_any (λ v. same v (env x)) vs && not (set_denotes c.args.a.now env)) all_values) i
-    || (c.in_ok-rest-2.ensures.meaning env i && not (list_any (λ v. same v (env x)) ((c.in_ok-excluded.ensures.items ∙ c.into_vec.ensures.items) i))))
+    || (c.in_ok-rest-2.ensures.meaning env i && not (list_any (λ v. same v (env x)) (c.into_vec.ensures.items i))))
     ∙ complement_end (list_any (λ v. same v (env x)) c.in_ok-values.values) (set_denotes c.deref.result.now env) (set_denotes c.args.a.now env)
     (λ none. ap (λ es. set_denotes es env) (c.deref.ensures.value ∙ c.in_ok-other.ensures) ∙ other-split x env c.args.a.now (c.in_ok-values.ensures.meaning (env x) none))
 
 pub split-returns-clause-vars : goal.split-returns-clause-vars
 split-returns-clause-vars t c = λ test all.
-    c.in_ok-put_narrowed-2.ensures.vars test (c.loop-i.invariant.vars test all)
+    c.in_ok-put_other.ensures.vars test (c.loop-i.invariant.vars test all)
     (c.in_ok-rest-2.ensures.vars test (ap (set_vars test) (c.deref.ensures.value ∙ c.in_ok-other.ensures) ∙ restricted_vars c.args.x.now is_not test c.args.a.now all))
     (occurs_vars c.args.x.now test c.args.a.now c.requires.occurs all)

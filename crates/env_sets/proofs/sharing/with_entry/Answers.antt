@@ -1,6 +1,6 @@
 use Rattle.std.proofs.Common.{◌++◌, ap, ◌∙◌}
 use Rattle.env_sets.specs.Sets.{set_denotes}
-use Rattle.env_sets.proofs.BlockLemmas.{covered}
+use Rattle.env_sets.proofs.AddedLemmas.{covered}
 use Rattle.env_sets.proofs.SharingLemmas.{with_rest, with_rest_vars, first_holds}
 use Rattle.env_sets.proofs.sharing.with_entry.Goals as goal
 

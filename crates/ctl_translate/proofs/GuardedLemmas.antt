@@ -5,7 +5,7 @@ use Rattle.smpl_terms.specs.Vars.{same_var}
 use Rattle.ctl_formula.specs.Plain.{Plain, True, Atom, Bail, Exit, BraceOpen, BraceClose, Not, And, Or, AX, EX, AU, EU, Past, Down, Exists}
 use Rattle.ctl_formula.specs.Bounds.{Surely, bound, guarded, guarded_for}
 use Rattle.ctl_formula.proofs.TableLemmas.{and-left, and-right}
-use Rattle.ctl_translate.specs.Table.{in_scope}
+use Rattle.ctl_table.specs.Table.{in_scope}
 use Rattle.ctl_translate.proofs.GuardLemmas.{known}
 
 both : (a b : Bool) → a ≡ true → b ≡ true → (a && b) ≡ true

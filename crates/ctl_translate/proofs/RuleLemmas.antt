@@ -20,10 +20,10 @@ use Rattle.ctl_formula.specs.declared.binding.Binds.{Binds}
 use Rattle.ctl_formula.specs.declared.node.Node.{Node}
 use Rattle.ctl_formula.specs.Tables.{at, plains}
 use Rattle.ctl_formula.proofs.TableLemmas.{length-plains, and-left, and-right}
-use Rattle.ctl_translate.specs.Placing.{Reading, is_alone}
-use Rattle.ctl_translate.specs.Blocks.{blocks}
-use Rattle.ctl_translate.specs.Table as table
-use Rattle.ctl_translate.specs.Table.{in_scope}
+use Rattle.var_places.specs.Placing.{Reading, is_alone}
+use Rattle.ctl_table.specs.Blocks.{blocks}
+use Rattle.ctl_table.specs.Table as table
+use Rattle.ctl_table.specs.Table.{in_scope}
 use Rattle.ctl_translate.specs.Rules as rules
 use Rattle.ctl_translate.specs.Answers.{IsFormulaOf}
 use Rattle.ctl_translate.proofs.GuardLemmas.{known, known-seq, all-filter}
@@ -102,25 +102,27 @@ abbrev pub read : List VarDecl → List PatToken → Reading
 read decls tokens = record { stands = patterns.stands decls tokens; used = patterns.used decls tokens; is_statement = patterns.is_statement }
 
 -- the formula of a rule's parts
-abbrev pub whole : List VarDecl → List PatToken → Bool → List Var → List Var → List ℕ → List Elem → List Var → Plain
-whole decls tokens forall_walks locals alone bs es w =
+abbrev pub whole : List VarDecl → List PatToken → Bool → List Var → List Var → List ℕ → List Elem → List Var → List Var → Plain
+whole decls tokens forall_walks locals alone bs es w s =
     let m : table.Setting = record { reading = read decls tokens; forall_walks = forall_walks; locals = locals; alone = alone; blocks = bs } in
-    table.seq m None (body es) table.nothing w [] []
+    table.seq m None (body es) table.nothing w s s
 
-pub rule-formula : (r : Rule) (decls : List VarDecl) (tokens : List PatToken) (forall_walks : Bool) (locals alone : List Var) (bs : List ℕ) (es : List Elem) (w : List Var)
+pub rule-formula : (r : Rule) (decls : List VarDecl) (tokens : List PatToken) (forall_walks : Bool) (locals alone : List Var) (bs : List ℕ) (es : List Elem) (w s : List Var)
     → decls ≡ r.vars → tokens ≡ r.tokens → forall_walks ≡ rules.ranges_over_all r.mode → locals ≡ rules.locals r
     → alone ≡ filter (is_alone (rules.reading r) (body r.body)) (rules.locals r) → bs ≡ blocks (body r.body) → es ≡ r.body
     → w ≡ filter (λ x. not (is_alone (rules.reading r) (body r.body) x)) (rules.locals r)
-    → whole decls tokens forall_walks locals alone bs es w ≡ rules.formula_of r
-rule-formula r decls tokens forall_walks locals alone bs es w d t f l a b e v =
-    ap (λ (z : List VarDecl). whole z tokens forall_walks locals alone bs es w) d
-    ∙ ap (λ (z : List PatToken). whole r.vars z forall_walks locals alone bs es w) t
-    ∙ ap (λ (z : Bool). whole r.vars r.tokens z locals alone bs es w) f
-    ∙ ap (λ (z : List Var). whole r.vars r.tokens (rules.ranges_over_all r.mode) z alone bs es w) l
-    ∙ ap (λ (z : List Var). whole r.vars r.tokens (rules.ranges_over_all r.mode) (rules.locals r) z bs es w) a
-    ∙ ap (λ (z : List ℕ). whole r.vars r.tokens (rules.ranges_over_all r.mode) (rules.locals r) (filter (is_alone (rules.reading r) (body r.body)) (rules.locals r)) z es w) b
-    ∙ ap (λ (z : List Elem). whole r.vars r.tokens (rules.ranges_over_all r.mode) (rules.locals r) (filter (is_alone (rules.reading r) (body r.body)) (rules.locals r)) (blocks (body r.body)) z w) e
-    ∙ ap (λ (z : List Var). whole r.vars r.tokens (rules.ranges_over_all r.mode) (rules.locals r) (filter (is_alone (rules.reading r) (body r.body)) (rules.locals r)) (blocks (body r.body)) r.body z) v
+    → s ≡ [] → whole decls tokens forall_walks locals alone bs es w s ≡ rules.formula_of r
+rule-formula r decls tokens forall_walks locals alone bs es w s d t f l a b e v n =
+    ap (λ (z : List VarDecl). whole z tokens forall_walks locals alone bs es w s) d
+    ∙ ap (λ (z : List PatToken). whole r.vars z forall_walks locals alone bs es w s) t
+    ∙ ap (λ (z : Bool). whole r.vars r.tokens z locals alone bs es w s) f
+    ∙ ap (λ (z : List Var). whole r.vars r.tokens (rules.ranges_over_all r.mode) z alone bs es w s) l
+    ∙ ap (λ (z : List Var). whole r.vars r.tokens (rules.ranges_over_all r.mode) (rules.locals r) z bs es w s) a
+    ∙ ap (λ (z : List ℕ). whole r.vars r.tokens (rules.ranges_over_all r.mode) (rules.locals r) (filter (is_alone (rules.reading r) (body r.body)) (rules.locals r)) z es w s) b
+    ∙ ap (λ (z : List Elem). whole r.vars r.tokens (rules.ranges_over_all r.mode) (rules.locals r) (filter (is_alone (rules.reading r) (body r.body)) (rules.locals r)) (blocks (body r.body)) z w s) e
+    ∙ ap (λ (z : List Var). whole r.vars r.tokens (rules.ranges_over_all r.mode) (rules.locals r) (filter (is_alone (rules.reading r) (body r.body)) (rules.locals r)) (blocks (body r.body)) r.body z s) v
+    ∙ ap (λ (z : List Var). whole r.vars r.tokens (rules.ranges_over_all r.mode) (rules.locals r) (filter (is_alone (rules.reading r) (body r.body)) (rules.locals r)) (blocks (body r.body)) r.body
+    (filter (λ x. not (is_alone (rules.reading r) (body r.body) x)) (rules.locals r)) z) n
 
 -- what is known of the part that is the rule's formula
 pub known-root : (f : Plain → Binds) (d : Binds) (ns : List Node) (i : ℕ) (known : List Binds) (b : Binds) (g : Plain) → i < length ns → known ≡ map f (plains ns) → b ≡ get_or known i d → at (plains ns) i ≡ g

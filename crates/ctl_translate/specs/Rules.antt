@@ -11,8 +11,8 @@ use Rattle.smpl_patch.specs.Patterns as patterns
 use Rattle.smpl_patch.specs.Bodies.{body}
 use Rattle.ctl_formula.specs.Plain.{Plain}
 use Rattle.ctl_formula.specs.Bounds.{bound, guarded_for}
-use Rattle.ctl_translate.specs.Placing.{Reading}
-use Rattle.ctl_translate.specs.Table.{formula}
+use Rattle.var_places.specs.Placing.{Reading}
+use Rattle.ctl_table.specs.Table.{formula}
 
 abbrev pub reading : Rule → Reading
 reading r = record {

@@ -1,5 +1,5 @@
 // The formula of a rule.
-ghost use Rattle.std.specs.Prelude.{◌≡◌, ◌<◌, ◌&&◌, not, true, false, length, map, None, IfOk, IfErr};
+ghost use Rattle.std.specs.Prelude.{◌≡◌, ◌<◌, ◌&&◌, not, true, false, length, None, IfOk, IfErr};
 ghost use Rattle.std.specs.List.{filter};
 ghost use Rattle.smpl_patch.specs.Bodies.{body};
 ghost use Rattle.smpl_patch.specs.Patterns as patterns;
@@ -7,34 +7,23 @@ ghost use Rattle.smpl_terms.specs.declared.var.Var.{Var as Variable};
 ghost use Rattle.pattern_vars.specs.Reads.{has};
 ghost use Rattle.ctl_formula.specs.Plain.{fits};
 ghost use Rattle.ctl_formula.specs.Tables.{at, plains, Makes};
-ghost use Rattle.ctl_translate.specs.Placing as placing;
-ghost use Rattle.ctl_translate.specs.Placing.{any_body};
+ghost use Rattle.var_places.specs.Placing.{any_body, is_alone};
 ghost use Rattle.ctl_translate.specs.Rules as rules;
-ghost use Rattle.ctl_translate.specs.Settings.{reading_at};
+ghost use Rattle.var_places.specs.Places.{reading_at};
 ghost use Rattle.ctl_translate.specs.Answers.{IsFormulaOf, IsFaultOf};
-ghost use Rattle.ctl_formula.specs.Binding.{binds_at};
-ghost use Rattle.ctl_formula.specs.Bounds.{bound, guarded_for};
-ghost use Rattle.ctl_translate.specs.Unbound.{AreGuardedBut};
-ghost use Rattle.ctl_translate.specs.Held.{AreHeldBy};
 
-use crate::blocks::blocks;
 use crate::deep::is_far_too_long;
-use crate::follow::Made;
-use crate::guard::{MOST_LOOKS, is_soon_bound, unguarded};
-use crate::held::{HeldVars, held_vars, is_found};
 use crate::least::is_far_too_large;
-use crate::occur::stands_in_body;
-use crate::place::among;
-use crate::rows::sequence;
-use crate::sets::{standing_in_rule, used_in_body};
-use crate::setting::Setting;
+use crate::unbound::first_unbound;
 use c_terms::NoMemory;
-use ctl_formula::{Binds, Formula, Parts, bounds, copy_decls, copy_tokens};
+use ctl_formula::{Formula, Parts, copy_decls, copy_tokens};
+use ctl_table::{Made, Setting, blocks, sequence};
 use pattern_vars::{Decls, VarSet, put_vars};
-use smpl_patch::{Mode, Rule, VarDecl};
+use smpl_patch::{Elem, Mode, Rule, VarDecl};
 use smpl_terms::Var;
 use sqlite_items::Items;
 use std::alloc::{AllocError, Global};
+use var_places::{Reader, Scope, among, standing_in_body, used_in_body};
 
 /// Why a rule has no formula that may be used.
 #[derive(Drop)]
@@ -84,7 +73,7 @@ fn is_local(alloc: Global, exports: &VarSet, d: &VarDecl) -> Result<bool, NoMemo
 }
 
 /// The exported variables.
-fn exported(alloc: Global, rule: &Rule) -> Result<VarSet, NoMemory>
+pub fn exported(alloc: Global, rule: &Rule) -> Result<VarSet, NoMemory>
     ensures { IfOk result (λ set. (x : Variable) → has set x ≡ rules.is_exported rule.now x) }
 {
     let mut set = VarSet::new(alloc);
@@ -126,20 +115,8 @@ fn others(alloc: Global, used: &VarSet, vars: &[Var]) -> Result<Items<Var>, NoMe
     Ok(found)
 }
 
-/// Whether the variable stands in the rule's pattern, `when` code and plus code aside. Of a head and of the tail of `do`
-/// only their own tokens count. Takes no memory. Recurses once a level of nested statements and of branches, and is
-/// linear in the rule's tokens times its declarations.
-pub fn stands_outside_whens(rule: &Rule, x: &Var) -> bool
-    ensures value { result ≡ any_body false
-        (λ p. patterns.stands rule.now.vars rule.now.tokens p x.now) (body rule.now.body) }
-{
-    let decls = rule.vars.as_slice();
-    let tokens = rule.tokens.as_slice();
-    stands_in_body(decls, tokens, false, rule.body.as_slice(), x)
-}
-
 /// The rule's declarations, found by their names.
-fn declared(alloc: Global, rule: &Rule) -> Result<Decls, NoMemory>
+pub fn declared(alloc: Global, rule: &Rule) -> Result<Decls, NoMemory>
     ensures { IfOk result (λ known. known ≡ rule.now.vars) }
 {
     let decls = copy_decls(alloc, rule.vars.as_slice())?;
@@ -154,207 +131,95 @@ pub fn standing_outside_whens(alloc: Global, rule: &Rule) -> Result<VarSet, NoMe
         (λ p. patterns.stands rule.now.vars rule.now.tokens p x) (body rule.now.body)) }
 {
     let decls = declared(alloc, rule)?;
+    let decls = &decls;
     let tokens = rule.tokens.as_slice();
     let b = rule.body.as_slice();
-    standing_in_rule(alloc, &decls, tokens, b)
+    standing_in_body(alloc, &Reader { decls, tokens }, false, b)
+}
+
+/// The variables that are neither exported nor inherited: those that occur in `when` code alone, and the others.
+#[derive(Drop)]
+pub struct LocalVars {
+    pub alone: Items<Var>,
+    pub placed: Items<Var>,
+}
+
+/// Sorts the variables by where they occur. The body is read once, and each variable is looked up twice.
+fn sorted_locals(
+    alloc: Global,
+    reader: &Reader,
+    b: &[Elem],
+    locals: &[Var],
+) -> Result<LocalVars, NoMemory>
+    ensures alone { IfOk result (λ found. found.alone ≡ filter (is_alone (reading_at reader.now) (body b.now)) locals.now) }
+    ensures placed { IfOk result (λ found. found.placed
+        ≡ filter (λ x. not (is_alone (reading_at reader.now) (body b.now) x)) locals.now) }
+{
+    let used = used_in_body(alloc, reader, b)?;
+    let alone = others(alloc, &used, locals)?;
+    let placed = among(alloc, &used, locals)?;
+    Ok(LocalVars { alone, placed })
+}
+
+/// The part that the rule's formula is, by these variables.
+fn root_of(
+    alloc: Global,
+    parts: &mut Parts,
+    rule: &Rule,
+    reader: &Reader,
+    locals: &[Var],
+    found: &LocalVars,
+) -> Result<usize, NoMemory>
+    requires decls { reader.now.decls.now ≡ rule.now.vars }
+    requires tokens { reader.now.tokens.now ≡ rule.now.tokens }
+    requires locals { locals.now ≡ rules.locals rule.now }
+    requires alone { found.now.alone ≡ filter (is_alone (reading_at reader.now) (body rule.now.body)) locals.now }
+    requires placed { found.now.placed
+        ≡ filter (λ x. not (is_alone (reading_at reader.now) (body rule.now.body) x)) locals.now }
+    ensures made { IfOk result (λ i. Makes parts.old parts.new i (rules.formula_of rule.now)) }
+{
+    let b = rule.body.as_slice();
+    let blocks = blocks(alloc, b)?;
+    let blocks = blocks.as_slice();
+    let alone = found.alone.as_slice();
+    let placed = found.placed.as_slice();
+    let forall_walks = ranges_over_all(rule.mode);
+    let m = Setting {
+        reader: *reader,
+        forall_walks,
+        locals,
+        alone,
+        blocks,
+    };
+    let around = Scope::none();
+    sequence(alloc, parts, &m, b, None, &Made::Nothing, placed, &around)
+}
+
+/// The part that the rule's formula is, by what patterns are read by.
+fn root_by(
+    alloc: Global,
+    parts: &mut Parts,
+    rule: &Rule,
+    reader: &Reader,
+) -> Result<usize, NoMemory>
+    requires decls { reader.now.decls.now ≡ rule.now.vars }
+    requires tokens { reader.now.tokens.now ≡ rule.now.tokens }
+    ensures made { IfOk result (λ i. Makes parts.old parts.new i (rules.formula_of rule.now)) }
+{
+    let locals = locals(alloc, rule)?;
+    let locals = locals.as_slice();
+    let found = sorted_locals(alloc, reader, rule.body.as_slice(), locals)?;
+    root_of(alloc, parts, rule, reader, locals, &found)
 }
 
 /// The part that the rule's formula is.
 fn root(alloc: Global, parts: &mut Parts, rule: &Rule) -> Result<usize, NoMemory>
     ensures made { IfOk result (λ i. Makes parts.old parts.new i (rules.formula_of rule.now)) }
 {
-    let b = rule.body.as_slice();
     let decls = declared(alloc, rule)?;
     let decls = &decls;
     let tokens = rule.tokens.as_slice();
-    let locals = locals(alloc, rule)?;
-    let locals = locals.as_slice();
-    let blocks = blocks(alloc, b)?;
-    let blocks = blocks.as_slice();
-    let forall_walks = ranges_over_all(rule.mode);
-    let m = Setting {
-        decls,
-        tokens,
-        forall_walks,
-        locals,
-        alone: &[],
-        blocks,
-    };
-    let used = used_in_body(alloc, &m, b)?;
-    let alone = others(alloc, &used, locals)?;
-    let alone = alone.as_slice();
-    let placed = among(alloc, &used, locals)?;
-    let placed = placed.as_slice();
-    let m = Setting { alone, ..m };
-    sequence(alloc, parts, &m, b, None, &Made::Nothing, placed, &[])
-}
-
-/// What the rule's formula says of the variable. One pass over the table.
-fn binds(alloc: Global, parts: &Parts, root: usize, rule: &Rule, x: &Var) -> Result<Binds, NoMemory>
-    requires within { root < length parts.now }
-    requires root { at (plains parts.now) root ≡ rules.formula_of rule.now }
-    ensures { IfOk result (λ binds. binds
-        ≡ binds_at (patterns.sure rule.now.vars rule.now.tokens) x.now (rules.formula_of rule.now)) }
-{
-    let decls = rule.vars.as_slice();
-    let known = bounds(alloc, parts, decls, rule.tokens.as_slice(), x)?;
-    Ok(known[root])
-}
-
-/// Whether some quantifier of the variable in the rule's formula is over a formula that doesn't bind it.
-fn is_open(
-    alloc: Global,
-    parts: &Parts,
-    root: usize,
-    rule: &Rule,
-    x: &Var,
-) -> Result<bool, NoMemory>
-    requires within { root < length parts.now }
-    requires root { at (plains parts.now) root ≡ rules.formula_of rule.now }
-    ensures { IfOk result (λ yes. yes ≡ not (guarded_for (patterns.sure rule.now.vars rule.now.tokens) x.now
-        (rules.formula_of rule.now))) }
-{
-    let binds = binds(alloc, parts, root, rule, x)?;
-    Ok(!binds.guarded)
-}
-
-/// The same of a variable of which all such quantifiers are known to be of these variables.
-fn is_open_in(
-    alloc: Global,
-    parts: &Parts,
-    root: usize,
-    rule: &Rule,
-    x: &Var,
-    suspects: &VarSet,
-) -> Result<bool, NoMemory>
-    requires within { root < length parts.now }
-    requires root { at (plains parts.now) root ≡ rules.formula_of rule.now }
-    requires suspects { AreGuardedBut rule.now suspects.now }
-    ensures { IfOk result (λ yes. yes ≡ not (guarded_for (patterns.sure rule.now.vars rule.now.tokens) x.now
-        (rules.formula_of rule.now))) }
-{
-    let there = suspects.has(alloc, x)?;
-    if !there {
-        return Ok(false);
-    }
-    is_open(alloc, parts, root, rule, x)
-}
-
-/// Whether the variable is soon seen to have a value wherever the rule's formula holds.
-fn is_soon_held(parts: &Parts, root: usize, rule: &Rule, x: &Var) -> bool
-    requires within { root < length parts.now }
-    requires root { at (plains parts.now) root ≡ rules.formula_of rule.now }
-    ensures { result ≡ true → bound (patterns.sure rule.now.vars rule.now.tokens) (rules.formula_of rule.now) x.now ≡ true }
-{
-    let decls = rule.vars.as_slice();
-    is_soon_bound(parts, decls, rule.tokens.as_slice(), x, root, MOST_LOOKS)
-}
-
-/// Whether the variable has a value wherever the rule's formula holds, by what is known of many at once.
-fn is_held(
-    alloc: Global,
-    parts: &Parts,
-    root: usize,
-    rule: &Rule,
-    x: &Var,
-    held: &HeldVars,
-) -> Result<bool, NoMemory>
-    requires within { root < length parts.now }
-    requires root { at (plains parts.now) root ≡ rules.formula_of rule.now }
-    requires held { AreHeldBy rule.now held.now }
-    ensures { IfOk result (λ held. held
-        ≡ bound (patterns.sure rule.now.vars rule.now.tokens) (rules.formula_of rule.now) x.now) }
-{
-    let found = is_found(alloc, held, x)?;
-    if found || is_soon_held(parts, root, rule, x) {
-        return Ok(true);
-    }
-    let binds = binds(alloc, parts, root, rule, x)?;
-    Ok(binds.holding)
-}
-
-fn is_unbound(
-    alloc: Global,
-    parts: &Parts,
-    root: usize,
-    rule: &Rule,
-    d: &VarDecl,
-    exports: &VarSet,
-    held: &HeldVars,
-    suspects: &VarSet,
-) -> Result<bool, NoMemory>
-    requires within { root < length parts.now }
-    requires root { at (plains parts.now) root ≡ rules.formula_of rule.now }
-    requires exports { (x : Variable) → has exports.now x ≡ rules.is_exported rule.now x }
-    requires held { AreHeldBy rule.now held.now }
-    requires suspects { AreGuardedBut rule.now suspects.now }
-    ensures { IfOk result (λ unbound. unbound ≡ rules.is_unbound rule.now d.now) }
-{
-    if d.inherited {
-        return Ok(false);
-    }
-    let exported = exports.has(alloc, &d.var)?;
-    if exported {
-        let held = is_held(alloc, parts, root, rule, &d.var, held)?;
-        return Ok(!held);
-    }
-    is_open_in(alloc, parts, root, rule, &d.var, suspects)
-}
-
-/// The variables of which some quantifier in the table is over a formula that isn't soon seen to bind them.
-fn suspects(
-    alloc: Global,
-    parts: &Parts,
-    root: usize,
-    rule: &Rule,
-    decls: &Decls,
-) -> Result<VarSet, NoMemory>
-    requires within { root < length parts.now }
-    requires root { at (plains parts.now) root ≡ rules.formula_of rule.now }
-    requires decls { decls.now ≡ rule.now.vars }
-    ensures { IfOk result (λ suspects. AreGuardedBut rule.now suspects) }
-{
-    unguarded(alloc, parts, decls, rule.tokens.as_slice())
-}
-
-/// Variables that have a value wherever the rule's formula holds.
-fn held(
-    alloc: Global,
-    parts: &Parts,
-    root: usize,
-    rule: &Rule,
-    decls: &Decls,
-) -> Result<HeldVars, NoMemory>
-    requires within { root < length parts.now }
-    requires root { at (plains parts.now) root ≡ rules.formula_of rule.now }
-    requires decls { decls.now ≡ rule.now.vars }
-    ensures { IfOk result (λ held. AreHeldBy rule.now held) }
-{
-    held_vars(alloc, parts, decls, rule.tokens.as_slice(), root)
-}
-
-/// The first declared variable that may stay unbound. For those that aren't soon seen to be bound, one pass over the table
-/// each.
-fn first_unbound(
-    alloc: Global,
-    parts: &Parts,
-    root: usize,
-    rule: &Rule,
-) -> Result<Option<Var>, NoMemory>
-    requires within { root < length parts.now }
-    requires root { at (plains parts.now) root ≡ rules.formula_of rule.now }
-    ensures { IfOk result (λ found. found ≡ rules.first_unbound rule.now) }
-{
-    let exports = exported(alloc, rule)?;
-    let decls = declared(alloc, rule)?;
-    let held = held(alloc, parts, root, rule, &decls)?;
-    let suspects = suspects(alloc, parts, root, rule, &decls)?;
-    for d in rule.vars.as_slice() {
-        if is_unbound(alloc, parts, root, rule, d, &exports, &held, &suspects)? {
-            return Ok(Some(d.var.copy(alloc)?));
-        }
-    }
-    Ok(None)
+    root_by(alloc, parts, rule, &Reader { decls, tokens })
 }
 
 /// The formula that a part is, with the rule's declarations and tokens.

@@ -4,8 +4,8 @@ use Rattle.smpl_terms.specs.declared.var.Var.{Var}
 use Rattle.smpl_patch.specs.declared.pattern.PatToken.{PatToken}
 use Rattle.smpl_patch.specs.declared.rule.Iso.{Iso}
 use Rattle.ctl_formula.specs.Plain.{Plain, Not, And, Or, EU, Down, Exists}
-use Rattle.ctl_translate.specs.Table.{Start, Nothing, Brace, Dots, Other, exists_all, and_all, or_all, all_of, any_of, or_some}
-use Rattle.ctl_translate.specs.Table.{option_list, nots, joined, target, until, nested, condition, downs, choices}
+use Rattle.ctl_table.specs.Table.{Start, Nothing, Brace, Dots, Other, exists_all, and_all, or_all, all_of, any_of, or_some}
+use Rattle.ctl_table.specs.Table.{option_list, nots, joined, target, until, nested, condition, downs, choices}
 use Rattle.iso_formulas.specs.Formulas.{expanded_formula}
 
 pub map-append : {A B : Type 0} (f : A → B) (xs ys : List A) → map f (xs ++ ys) ≡ map f xs ++ map f ys

@@ -7,9 +7,9 @@ use Rattle.smpl_patch.specs.declared.pattern.PatToken.{PatToken}
 use Rattle.smpl_patch.specs.declared.pattern.Pattern.{Pattern}
 use Rattle.smpl_patch.specs.declared.rule.Iso.{Iso}
 use Rattle.smpl_patch.specs.Bodies.{Element, Atom, Compound, Block, Gap, Nest, AnyOf, AllOf, Body, End, Then, Bodies, NoMore, More}
-use Rattle.ctl_translate.specs.Placing.{Reading, is_dots, is_choice, any_option, any_element, any_body, any_bodies, one}
-use Rattle.ctl_translate.specs.Placing.{in_whens, occurs_element, occurs_body, bodies_with, is_inside, after_dots, at_suffix, is_alone}
-use Rattle.ctl_translate.specs.Blocks.{opens_element, opens_body, opens_bodies, later_element, later_body, later_bodies, pieces, blocks}
+use Rattle.var_places.specs.Placing.{Reading, is_dots, is_choice, any_option, any_element, any_body, any_bodies, one}
+use Rattle.var_places.specs.Placing.{in_whens, occurs_element, occurs_body, bodies_with, is_inside, after_dots, at_suffix, is_alone}
+use Rattle.ctl_table.specs.Blocks.{opens_element, opens_body, opens_bodies, later_element, later_body, later_bodies, pieces, blocks}
 use Rattle.iso_expand.specs.Bodies.{expanded_pattern, expanded_option, expanded_element, expanded_body, expanded_bodies}
 
 pub filter-same : {A : Type 0} (f g : A → Bool) → ((x : A) → f x ≡ g x) → (xs : List A) → filter f xs ≡ filter g xs

@@ -15,8 +15,8 @@ use Rattle.smpl_patch.specs.Patterns as patterns
 use Rattle.smpl_patch.specs.Bodies.{Body, body}
 use Rattle.ctl_formula.specs.Plain.{Plain, fits}
 use Rattle.ctl_formula.specs.Bounds.{bound, guarded_for}
-use Rattle.ctl_translate.specs.Placing.{Reading, any_body}
-use Rattle.ctl_translate.specs.Table.{formula}
+use Rattle.var_places.specs.Placing.{Reading, any_body}
+use Rattle.ctl_table.specs.Table.{formula}
 use Rattle.ctl_translate.specs.Rules.{ranges_over_all, formula_of, is_unbound}
 use Rattle.smpl_check.specs.Checks.{in_plus_code, in_pattern, is_unbound_in_plus, fault_of_var, or_later, fault_of_vars, fault_of_rule, fault_from}
 use Rattle.iso_expand.specs.Bodies.{expanded_pattern}

@@ -9,13 +9,13 @@ use Rattle.smpl_patch.specs.declared.rule.Iso.{Iso}
 use Rattle.smpl_patch.specs.Bodies.{Element, Compound, Block, Gap, Nest, AnyOf, AllOf, Body, End, Then, Bodies, NoMore, More}
 use Rattle.smpl_patch.specs.Bodies as bodies
 use Rattle.ctl_formula.specs.Plain.{Plain, Atom, BraceOpen, BraceClose, Not, And, Past, Down, Exists}
-use Rattle.ctl_translate.specs.Placing.{Reading, any_body, occurs_element, occurs_body, at_suffix, is_alone}
-use Rattle.ctl_translate.specs.Blocks.{blocks}
-use Rattle.ctl_translate.specs.Table.{Setting, Follow, Start, Dots, Other, nothing, start_of, first_of, in_scope}
-use Rattle.ctl_translate.specs.Table.{exists_all, and_all, any_of, or_some, option_list, own, copy, hidden, near}
-use Rattle.ctl_translate.specs.Table.{near_body, near_each, near_first, near_option, is_end, joined, target, until, nested}
-use Rattle.ctl_translate.specs.Table.{condition, lone, closing, with_tail, downs, choices, seq, elem, each, first_and, when_parts}
-use Rattle.ctl_translate.specs.Table.{setting, formula}
+use Rattle.var_places.specs.Placing.{Reading, any_body, occurs_element, occurs_body, at_suffix, is_alone}
+use Rattle.ctl_table.specs.Blocks.{blocks}
+use Rattle.ctl_table.specs.Table.{Setting, Follow, Start, Dots, Other, nothing, start_of, first_of, in_scope}
+use Rattle.ctl_table.specs.Table.{exists_all, and_all, any_of, or_some, option_list, own, copy, hidden, near}
+use Rattle.ctl_table.specs.Table.{near_body, near_each, near_first, near_option, is_end, joined, target, until, nested}
+use Rattle.ctl_table.specs.Table.{condition, lone, closing, with_tail, downs, choices, seq, elem, each, first_and, when_parts}
+use Rattle.ctl_table.specs.Table.{setting, formula}
 use Rattle.iso_expand.specs.Bodies.{expanded_pattern, expanded_option, expanded_element, expanded_body, expanded_bodies}
 use Rattle.iso_formulas.specs.Formulas.{expanded_formula}
 use Rattle.iso_formulas.proofs.PlacingLemmas.{filter-same, dots-same, blocks-same, Agree}

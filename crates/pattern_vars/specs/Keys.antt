@@ -1,4 +1,4 @@
--- For inside use: variables as keys of a set or a map.
+-- Variables as keys of a set or a map.
 use Rattle.std.specs.Prelude.{Bool, nat_eq, cond, ◌++◌, List, [], ◌∷◌, Option, None, Some}
 use Rattle.std.specs.List.{list_any}
 use Rattle.std.specs.Ordering.{on, eq_of_both}

@@ -1,7 +1,8 @@
 -- What public contracts rest on: which variables a pattern is read to have.
 pub mod Reads
--- and which variables a set may get
+-- and which variables stand outside of disjunctions
 pub mod Sure
--- For inside use: variables as keys of sets and maps, and numbers of declarations.
+-- and what a map has for a variable
 pub mod Keys
+-- For inside use: numbers of declarations.
 pub mod Index

@@ -88,7 +88,8 @@ impl Decls {
         self.decls.as_slice()
     }
 
-    /// What a metavariable of this name is declared as. One look-up; takes no memory.
+    /// What a metavariable of this name is declared as. One look-up, linear in the name; takes no
+    /// memory.
     pub fn declared(&self, name: &[u8]) -> Option<&VarDecl>
         ensures { option_copied result ≡ declared_as self.now name.now }
     {

@@ -35,7 +35,7 @@ fn put_meta(alloc: Global, decls: &Decls, token: &Token, set: &mut VarSet) -> Re
     }
 }
 
-/// Puts these variables in.
+/// Puts these variables in. One look-up each.
 pub fn put_vars(alloc: Global, vars: &[Var], set: &mut VarSet) -> Result<(), NoMemory>
     ensures { OnOk result ((y : Variable) → has set.new y ≡ (has set.old y || has vars.now y)) }
 {

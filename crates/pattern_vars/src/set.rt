@@ -53,7 +53,7 @@ impl Hash for Key {
     }
 }
 
-/// Variables, each once. Contracts see the list.
+/// Variables. Contracts see the list.
 #[derive(Drop)]
 pub struct VarSet {
     set: IndexSet<Key>,
@@ -78,7 +78,7 @@ impl VarSet {
         }
     }
 
-    /// Puts the variable in, if it isn't there yet. One look-up.
+    /// Puts the variable in, if it isn't there yet. One look-up, linear in the name.
     pub fn put(&mut self, alloc: Global, x: &Var) -> Result<(), NoMemory>
         ensures { OnOk result ((y : Variable) → has self.new y ≡ (has self.old y || same_var x.now y)) }
     {
@@ -88,7 +88,7 @@ impl VarSet {
         Ok(())
     }
 
-    /// Whether the variable is there. One look-up, and a copy of the variable.
+    /// Whether the variable is there. One look-up and a copy of the variable, linear in the name.
     pub fn has(&self, alloc: Global, x: &Var) -> Result<bool, NoMemory>
         ensures { IfOk result (λ there. there ≡ has self.now x.now) }
     {
@@ -98,7 +98,7 @@ impl VarSet {
         Ok(self.set.contains(&key))
     }
 
-    /// How many variables there are. Takes no memory.
+    /// How long the list is. Takes no memory.
     pub fn len(&self) -> usize
         ensures { result ≡ length self.now }
     {

@@ -1,12 +1,13 @@
 // Variables that patterns surely have.
-ghost use Rattle.std.specs.Prelude.{◌≡◌, ◌&&◌, length, OnOk};
+ghost use Rattle.std.specs.Prelude.{◌≡◌, ◌||◌, ◌&&◌, true, length, OnOk};
 ghost use Rattle.std.specs.List.{list_any};
 ghost use Rattle.c_terms.specs.Shapes.{shape_of};
+ghost use Rattle.smpl_terms.specs.declared.var.Var.{Var as Variable};
 ghost use Rattle.smpl_patch.specs.Held as parts;
 ghost use Rattle.smpl_patch.specs.Held.{kept, held};
 ghost use Rattle.smpl_patch.specs.Patterns as of;
+ghost use Rattle.pattern_vars.specs.Reads.{has};
 ghost use Rattle.pattern_vars.specs.Sure as sure;
-ghost use Rattle.pattern_vars.specs.Sure.{AddsOnly};
 
 use crate::reads::{is_parted, put_own};
 use crate::{Decls, VarSet};
@@ -26,7 +27,7 @@ fn is_choice(label: Label) -> bool
     }
 }
 
-/// Puts variables in that the form surely has.
+/// Puts the variables of the tokens in that no disjunction of the tree holds.
 fn put_sure_in(
     alloc: Global,
     decls: &Decls,
@@ -34,7 +35,8 @@ fn put_sure_in(
     tree: &Tree,
     set: &mut VarSet,
 ) -> Result<(), NoMemory>
-    ensures { OnOk result (AddsOnly set.old set.new (λ y. of.is_sure decls.now tokens.now y tree.now)) }
+    ensures { OnOk result ((y : Variable) → has set.new y
+        ≡ (has set.old y || sure.is_outside decls.now tokens.now y tree.now)) }
 {
     match tree {
         Tree::Leaf(token) => put_own(alloc, decls, tokens, token, set),
@@ -58,8 +60,8 @@ fn put_sure_where(
     tree: &Tree,
     set: &mut VarSet,
 ) -> Result<(), NoMemory>
-    ensures { OnOk result (AddsOnly set.old set.new
-        (λ y. here && of.is_sure decls.now tokens.now y tree.now)) }
+    ensures { OnOk result ((y : Variable) → has set.new y
+        ≡ (has set.old y || (here && sure.is_outside decls.now tokens.now y tree.now))) }
 {
     if here {
         put_sure_in(alloc, decls, tokens, tree, set)?;
@@ -76,7 +78,8 @@ fn put_sure_kept(
     trees: &[Tree],
     set: &mut VarSet,
 ) -> Result<(), NoMemory>
-    ensures { OnOk result (AddsOnly set.old set.new (λ y. list_any (of.is_sure decls.now tokens.now y)
+    ensures { OnOk result ((y : Variable) → has set.new y
+        ≡ (has set.old y || list_any (sure.is_outside decls.now tokens.now y)
         (kept (parts.is_held spot label (length trees.now)) 0 trees.now))) }
 {
     for i in 0..trees.len() {
@@ -95,8 +98,8 @@ fn put_sure_held(
     form: &Tree,
     set: &mut VarSet,
 ) -> Result<(), NoMemory>
-    ensures { OnOk result (AddsOnly set.old set.new
-        (λ y. list_any (of.is_sure decls.now tokens.now y) (held spot form.now))) }
+    ensures { OnOk result ((y : Variable) → has set.new y
+        ≡ (has set.old y || list_any (sure.is_outside decls.now tokens.now y) (held spot form.now))) }
 {
     match form {
         Tree::Leaf(_) => put_sure_in(alloc, decls, tokens, form, set),
@@ -110,8 +113,8 @@ fn put_sure_held(
     }
 }
 
-/// Puts variables in that the pattern surely has, in what is compared of its first form: those of all tokens that stand in
-/// no disjunction. Linear in the pattern, where no hashes collide. Recurses once a level.
+/// Puts the variables of all tokens in that stand in what is compared of the pattern's first form, and in no disjunction
+/// there. The pattern surely has them. Linear in the pattern, where no hashes collide. Recurses once a level.
 pub fn put_sure(
     alloc: Global,
     decls: &Decls,
@@ -119,7 +122,10 @@ pub fn put_sure(
     p: &Pattern,
     set: &mut VarSet,
 ) -> Result<(), NoMemory>
-    ensures only { OnOk result (AddsOnly set.old set.new (λ y. of.sure decls.now tokens.now p.now y)) }
+    ensures value { OnOk result ((y : Variable) → has set.new y
+        ≡ (has set.old y || sure.outside decls.now tokens.now p.now y)) }
+    ensures sure { (y : Variable) → sure.outside decls.now tokens.now p.now y ≡ true
+        → of.sure decls.now tokens.now p.now y ≡ true }
 {
     match p.forms.as_slice() {
         [form, ..] => put_sure_held(alloc, decls, tokens, p.spot, form, set),

@@ -9,13 +9,13 @@ use Rattle.smpl_patch.specs.Bodies as bodies
 use Rattle.smpl_patch.specs.Shapes.{option_patterns, patterns_element, patterns_body, patterns_bodies}
 use Rattle.ctl_formula.specs.Plain.{Plain, Atom, BraceOpen, BraceClose, Not, And, Or}
 use Rattle.ctl_holds.specs.Parts.{EachPattern}
-use Rattle.ctl_translate.specs.Placing.{Reading, occurs_element, occurs_body, at_suffix, is_alone}
-use Rattle.ctl_translate.specs.Table.{Setting, Follow, Start, Nothing, Brace, Dots, Other, nothing, start_of, first_of, in_scope}
-use Rattle.ctl_translate.specs.Table.{exists_all}
-use Rattle.ctl_translate.specs.Table.{and_all, or_all, all_of, any_of, or_some, option_list, nots, hidden, own, copy, near}
-use Rattle.ctl_translate.specs.Table.{near_body, near_each, near_first, near_option, is_end, joined, target, until, nested}
-use Rattle.ctl_translate.specs.Table.{condition, lone, closing, with_tail, downs, choices, seq, elem, each, first_and, when_parts}
-use Rattle.ctl_translate.specs.Table.{setting, formula}
+use Rattle.var_places.specs.Placing.{Reading, occurs_element, occurs_body, at_suffix, is_alone}
+use Rattle.ctl_table.specs.Table.{Setting, Follow, Start, Nothing, Brace, Dots, Other, nothing, start_of, first_of, in_scope}
+use Rattle.ctl_table.specs.Table.{exists_all}
+use Rattle.ctl_table.specs.Table.{and_all, or_all, all_of, any_of, or_some, option_list, nots, hidden, own, copy, near}
+use Rattle.ctl_table.specs.Table.{near_body, near_each, near_first, near_option, is_end, joined, target, until, nested}
+use Rattle.ctl_table.specs.Table.{condition, lone, closing, with_tail, downs, choices, seq, elem, each, first_and, when_parts}
+use Rattle.ctl_table.specs.Table.{setting, formula}
 
 all-append : {A : Type 0} (Q : A → Type 0) (xs ys : List A) → AllByRecursion Q xs → AllByRecursion Q ys → AllByRecursion Q (xs ++ ys)
 all-append Q [] ys h k = k

@@ -10,7 +10,7 @@ use Rattle.smpl_patch.specs.declared.fault.PatchFault.TheVariants as fault
 use Rattle.smpl_patch.specs.Patterns as patterns
 use Rattle.smpl_patch.specs.Bodies.{body}
 use Rattle.ctl_formula.specs.Plain.{fits}
-use Rattle.ctl_translate.specs.Placing.{any_body}
+use Rattle.var_places.specs.Placing.{any_body}
 use Rattle.ctl_translate.specs.Rules.{formula_of, is_unbound}
 
 -- the variable stands in plus code, wherever that is anchored

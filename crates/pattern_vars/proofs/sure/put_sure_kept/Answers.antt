@@ -1,17 +1,19 @@
-use Rattle.std.proofs.Common.{Bool, ◌&&◌, ◌∙◌, ap, sym, length, arith}
-use Rattle.std.specs.List.{list_any}
-use Rattle.smpl_patch.specs.Held.{is_held, kept}
-use Rattle.smpl_patch.specs.Patterns.{is_sure}
+use Rattle.std.proofs.Common.{Bool, ◌||◌, ◌&&◌, ap, ◌∙◌, length, arith}
+use Rattle.smpl_patch.specs.Held.{is_held}
 use Rattle.pattern_vars.specs.Reads.{has}
-use Rattle.pattern_vars.proofs.SureLemmas.{adds-step, kept-at}
+use Rattle.pattern_vars.specs.Sure.{is_outside}
+use Rattle.pattern_vars.proofs.SetLemmas.{kept-step, kept-end}
 use Rattle.pattern_vars.proofs.sure.put_sure_kept.Goals as goal
 
 pub loop-i-preserved : goal.loop-i-preserved
 loop-i-preserved c y =
-    let f = is_sure c.args.decls.now c.args.tokens.now y in
-    let ts = c.args.trees.now in
-    let test = is_held c.args.spot c.args.label (length ts) in
-    let t = c.index-trees-i.result in
-    adds-step (has c.args.set.now y) (has c.loop-i.set y) (has c.put_sure_where.new.set y) (c.is_held-here.result && f t)
-    (list_any f (kept test 0 ts)) (c.in_ok-put_sure_where.ensures y) (c.loop-i.invariant y)
-    (λ h. kept-at f test ts c.loop-i.i t (omega arith) c.index-trees-i.is (ap (λ (b : Bool). b && f t) (sym c.is_held-here.ensures.value) ∙ h))
+    let test = is_outside c.args.decls.now c.args.tokens.now y in
+    kept-step test (is_held c.args.spot c.args.label (length c.args.trees.now)) c.args.trees.now
+    c.loop-i.i c.index-trees-i.result (has c.loop-i.set y) (has c.put_sure_where.new.set y) _ (omega arith) c.index-trees-i.is
+    (c.in_ok-put_sure_where.ensures y ∙ ap (λ (b : Bool). has c.loop-i.set y || (b && test c.index-trees-i.result)) c.is_held-here.ensures.value)
+    (c.loop-i.invariant y)
+
+pub returns : goal.returns
+returns c y =
+    kept-end (is_outside c.args.decls.now c.args.tokens.now y) (is_held c.args.spot c.args.label (length c.args.trees.now)) c.args.trees.now
+    c.loop-i.i (has c.loop-i.set y) _ (omega arith) (c.loop-i.invariant y)

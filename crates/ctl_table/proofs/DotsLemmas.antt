@@ -1,0 +1,84 @@
+-- Dots as come to from a scope, their parts made one after another.
+use Rattle.std.proofs.Common.{◌≡◌, ℕ, Bool, true, false, if◌then◌else◌, refl, sym, ap, ◌∙◌, List, [], ◌∷◌, ◌++◌, length}
+use Rattle.std.proofs.Common.{append_assoc, append-nil, Option, Some, Result}
+use Rattle.std.specs.Result.{IfOk}
+use Rattle.smpl_terms.specs.declared.var.Var.{Var}
+use Rattle.smpl_patch.specs.Bodies.{Element}
+use Rattle.ctl_formula.specs.Plain.{Plain, Not}
+use Rattle.ctl_formula.specs.declared.node.Node.{Node}
+use Rattle.ctl_formula.specs.Tables.{at, plains, Makes}
+use Rattle.ctl_formula.proofs.TableLemmas.{grows-refl, grows-trans}
+use Rattle.ctl_table.specs.Table as table
+use Rattle.ctl_table.specs.declared.follow.MadeDots.{MadeDots}
+use Rattle.ctl_table.specs.Settings.{some_below}
+use Rattle.ctl_table.specs.Settings.{all_below, parts_at, some_at, dots_below, passed, dots_at, MakesAll, MakesSome}
+use Rattle.ctl_table.proofs.MakingLemmas.{made-up, stays, all-stay}
+use Rattle.ctl_table.proofs.FollowLemmas.{some-stays, passed-stays, dots-nest, dots-target}
+use Rattle.ctl_table.proofs.RowLemmas.{all-as, all-next, one-more}
+
+-- as they are
+pub all-there : (a : List Node) (is : List ℕ) → all_below (length a) is ≡ true → MakesAll a a is (parts_at a is)
+all-there a is h = record { within = h; are = refl; grows = grows-refl a }
+
+-- one more, `not` a part
+pub not-made : (a b : List Node) (is next : List ℕ) (o : Option ℕ) (i j : ℕ) → o ≡ Some i → all_below (length a) is ≡ true
+    → Makes a b j (Not (at (plains a) i)) → next ≡ is ++ j ∷ []
+    → MakesAll a b next (parts_at a is ++ table.nots (some_at (plains a) o))
+not-made a b is next o i j e h m n =
+    all-next a b is next j (parts_at a is ++ table.nots (some_at (plains a) o)) n
+    (all-as a b (is ++ j ∷ []) (parts_at a is ++ Not (at (plains a) i) ∷ []) (parts_at a is ++ table.nots (some_at (plains a) o))
+    (ap (λ (z : Option ℕ). parts_at a is ++ table.nots (some_at (plains a) z)) (sym e))
+    (one-more a a b is j (parts_at a is) (Not (at (plains a) i)) (all-there a is h) m))
+
+-- `when any`: nothing more
+pub neighbours-none : (a : List Node) (is : List ℕ) (any : Bool) (more : List Plain) → any ≡ true → all_below (length a) is ≡ true
+    → MakesAll a a is (parts_at a is ++ (if any then [] else more))
+neighbours-none a is any more e h =
+    all-as a a is (parts_at a is) (parts_at a is ++ (if any then [] else more))
+    (sym (append-nil (parts_at a is)) ∙ ap (λ (z : Bool). parts_at a is ++ (if z then [] else more)) (sym e)) (all-there a is h)
+
+pub neighbours-made : (a b c d : List Node) (is js ks : List ℕ) (before after : Option ℕ) (near : Option Plain) (any : Bool) → any ≡ false
+    → all_below (length a) is ≡ true → some_below (length a) after ≡ true
+    → MakesSome a b before near
+    → MakesAll b c js (parts_at b is ++ table.nots (some_at (plains b) before))
+    → MakesAll c d ks (parts_at c js ++ table.nots (some_at (plains c) after))
+    → MakesAll a d ks (parts_at a is ++ (if any then [] else (table.nots near ++ table.nots (some_at (plains a) after))))
+neighbours-made a b c d is js ks before after near any f h k x y z =
+    let ac = grows-trans a b c x.grows y.grows in
+    let first : parts_at c js ≡ parts_at a is ++ table.nots near =
+    y.are ∙ ap (λ (v : List Plain). v ++ table.nots (some_at (plains b) before)) (all-stay a b is x.grows h)
+    ∙ ap (λ (v : Option Plain). parts_at a is ++ table.nots v) x.is in
+    record {
+      within = z.within;
+      are = z.are ∙ ap (λ (v : List Plain). v ++ table.nots (some_at (plains c) after)) first
+          ∙ ap (λ (v : Option Plain). (parts_at a is ++ table.nots near) ++ table.nots v) (some-stays a c after ac k)
+          ∙ append_assoc (parts_at a is) (table.nots near) (table.nots (some_at (plains a) after))
+          ∙ ap (λ (v : Bool). parts_at a is ++ (if v then [] else (table.nots near ++ table.nots (some_at (plains a) after)))) (sym f);
+      grows = grows-trans a c d ac z.grows;
+    }
+
+pub condition-made : {E : Type 0} (a b c : List Node) (is js ks vs : List ℕ) (any : Bool) (near after : Option Plain) (r : Result ℕ E) → vs ≡ is → ks ≡ js
+    → MakesAll a b js (parts_at a vs ++ (if any then [] else (table.nots near ++ table.nots after)))
+    → IfOk r (λ i. Makes b c i (table.all_of (parts_at b ks)))
+    → IfOk r (λ i. Makes a c i (table.condition any (parts_at a is) near after))
+condition-made a b c is js ks vs any near after r v k x y =
+    made-up a b c r (table.all_of (parts_at b ks)) (table.condition any (parts_at a is) near after) x.grows
+    (ap table.all_of (ap (parts_at b) k ∙ x.are ∙ ap (λ (z : List ℕ). parts_at a z ++ (if any then [] else (table.nots near ++ table.nots after))) v)) y
+
+pub dots_at-made : {E : Type 0} (m : table.Setting) (a b c d : List Node) (before : Option Element) (e : MadeDots) (t here around : List Var) (through f : ℕ) (r : Result ℕ E)
+    → dots_below (length a) e ≡ true → here ≡ e.here → around ≡ t ++ here
+    → Makes a b through (table.condition e.any (parts_at a e.whens.items) (table.near_option m true before around) (some_at (plains a) e.after))
+    → Makes b c f (passed (plains b) m.forall_walks e.nest e.strict (at (plains b) through) (at (plains b) e.target))
+    → IfOk r (λ i. Makes c d i (table.exists_all here (at (plains c) f)))
+    → IfOk r (λ i. Makes a d i (dots_at (plains a) m before e t))
+dots_at-made m a b c d before e t here around through f r n h o x y z =
+    let pass = λ (u v : Plain). passed (plains a) m.forall_walks e.nest e.strict u v in
+    let test = λ (v : List Var). table.condition e.any (parts_at a e.whens.items) (table.near_option m true before v) (some_at (plains a) e.after) in
+    let f_is : at (plains c) f ≡ pass (test around) (at (plains a) e.target) =
+    y.is
+    ∙ passed-stays a b m.forall_walks e.nest e.strict (at (plains b) through) (at (plains b) e.target) x.grows (dots-nest (length a) e n)
+    ∙ ap (λ (u : Plain). pass u (at (plains b) e.target)) x.is
+    ∙ ap (pass (test around)) (stays a b e.target x.grows (dots-target (length a) e n)) in
+    made-up a c d r (table.exists_all here (at (plains c) f)) (dots_at (plains a) m before e t) (grows-trans a b c x.grows y.grows)
+    (ap (table.exists_all here) (f_is ∙ ap (λ (v : List Var). pass (test v) (at (plains a) e.target)) o)
+    ∙ ap (λ (v : List Var). table.exists_all v (pass (test (t ++ v)) (at (plains a) e.target))) h) z

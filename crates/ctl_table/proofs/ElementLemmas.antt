@@ -1,0 +1,104 @@
+-- Elements as what follows, and dots whose parts are made.
+use Rattle.std.proofs.Common.{◌≡◌, ℕ, Bool, true, false, cond, if◌then◌else◌, refl, sym, ap, ◌∙◌, List, ◌++◌}
+use Rattle.std.proofs.Common.{length, Option, None, Result}
+use Rattle.std.specs.Result.{IfOk}
+use Rattle.std.proofs.lemmas.Result.{IfOk-weaker}
+use Rattle.smpl_terms.specs.declared.var.Var.{Var}
+use Rattle.smpl_patch.specs.Bodies.{Element}
+use Rattle.ctl_formula.specs.Plain.{Plain}
+use Rattle.ctl_formula.specs.declared.node.Node.{Node}
+use Rattle.ctl_formula.specs.Tables.{at, plains, Grows, Makes}
+use Rattle.ctl_formula.proofs.TableLemmas.{grows-trans}
+use Rattle.var_places.specs.Placing.{is_dots}
+use Rattle.ctl_table.specs.Table as table
+use Rattle.var_places.specs.declared.place.Place.{Place}
+use Rattle.ctl_table.specs.declared.follow.NestPart.{NestPart}
+use Rattle.ctl_table.specs.declared.follow.MadeDots.{MadeDots}
+use Rattle.ctl_table.specs.declared.follow.Made.{Made}
+use Rattle.ctl_table.specs.declared.follow.Made.TheVariants as made
+use Rattle.ctl_table.specs.declared.follow.Start.TheVariants as start
+use Rattle.ctl_table.specs.Settings.{all_below, parts_at, some_at, nest_below, passed, suffix_at, start_with, dots_row, MakesSome, MakesFollow}
+use Rattle.ctl_table.proofs.MakingLemmas.{all-stay, all-stand, lt-test, both-true}
+use Rattle.ctl_table.proofs.FollowLemmas.{some-stands, some-stays, nest-stands, passed-stays}
+
+pub part-made : (m : table.Setting) (a b : List Node) (f i : ℕ) (here : List Var) → Makes a b i (table.exists_all here (at (plains a) f))
+    → MakesFollow m a b (made.Part start.Other i) table.Other (λ before t. table.exists_all here (at (plains a) f))
+part-made m a b f i here x = record { within = lt-test i (length b) x.within; starts = refl; is = λ before t. x.is; grows = x.grows }
+
+condition-skip : (any : Bool) (ws : List Plain) (b n : Option Plain) → table.condition any ws b (if any then None else n) ≡ table.condition any ws b n
+condition-skip true ws b n = refl
+condition-skip false ws b n = refl
+
+-- dots whose parts are made one after another
+pub dots-made : (m : table.Setting) (a b c e : List Node) (after : Option Element) (k : table.Follow) (p : Place) (d : MadeDots) (g : ℕ)
+    → all_below (length a) d.whens.items ≡ true → nest_below (length a) d.nest ≡ true
+    → MakesSome a b d.after (if d.any then None else table.near_option m false after p.scope)
+    → Makes b c g (k.at p.scope)
+    → Makes c e d.target (table.target k.start (at (plains c) g))
+    → d.here ≡ p.here
+    → MakesFollow m a e (made.Dots d) table.Dots (λ before t. dots_row m a before after (parts_at a d.whens.items) d.any d.strict d.nest k p t)
+dots-made m a b c e after k p d g w n x y z h =
+    let be = grows-trans b c e y.grows z.grows in
+    let ae = grows-trans a b e x.grows be in
+    let beside = table.near_option m false after p.scope in
+    let whens_is : parts_at e d.whens.items ≡ parts_at a d.whens.items = all-stay a e d.whens.items ae w in
+    let after_is : some_at (plains e) d.after ≡ (if d.any then None else beside) = some-stays b e d.after be x.within ∙ x.is in
+    let target_is : at (plains e) d.target ≡ table.target k.start (k.at p.scope) = z.is ∙ ap (table.target k.start) y.is in
+    record {
+      within = both-true _ _ (both-true _ _ (both-true _ _ (all-stand a e d.whens.items ae w) (some-stands b e d.after be x.within)) (nest-stands a e d.nest ae n))
+          (lt-test d.target (length e) z.within);
+      starts = refl;
+      is = λ before t.
+          let near = table.near_option m true before (t ++ p.here) in
+          ap (λ (v : List Var). table.exists_all v (passed (plains e) m.forall_walks d.nest d.strict (table.condition d.any (parts_at e d.whens.items) (table.near_option m true before (t ++ v)) (some_at (plains e) d.after)) (at (plains e) d.target))) h
+          ∙ ap (λ (v : List Plain). table.exists_all p.here (passed (plains e) m.forall_walks d.nest d.strict (table.condition d.any v near (some_at (plains e) d.after)) (at (plains e) d.target))) whens_is
+          ∙ ap (λ (v : Option Plain). table.exists_all p.here (passed (plains e) m.forall_walks d.nest d.strict (table.condition d.any (parts_at a d.whens.items) near v) (at (plains e) d.target))) after_is
+          ∙ ap (λ (v : Plain). table.exists_all p.here (passed (plains e) m.forall_walks d.nest d.strict v (at (plains e) d.target))) (condition-skip d.any (parts_at a d.whens.items) near beside)
+          ∙ ap (λ (v : Plain). table.exists_all p.here (passed (plains e) m.forall_walks d.nest d.strict (table.condition d.any (parts_at a d.whens.items) near beside) v)) target_is
+          ∙ ap (table.exists_all p.here) (passed-stays a e m.forall_walks d.nest d.strict (table.condition d.any (parts_at a d.whens.items) near beside) (table.target k.start (k.at p.scope)) ae n);
+      grows = ae;
+    }
+
+-- an element that is no dots, as the suffix that begins with it
+part-row : (m : table.Setting) (a b c : List Node) (after : Option Element) (x y : Element) (k : table.Follow) (p : Place) (f : ℕ) (g : Made) (h : Plain) → x ≡ y → is_dots y ≡ false
+    → Makes a b f h → ((before : Option Element) (t : List Var) → h ≡ table.elem m before after y k p.inside p.scope t)
+    → MakesFollow m b c g table.Other (λ before t. table.exists_all p.here (at (plains b) f))
+    → MakesFollow m a c g (start_with x) (suffix_at m after x k p)
+part-row m a b c after x y k p f g h q n u e z = record {
+  within = z.within;
+  starts = z.starts ∙ sym (ap start_with q ∙ ap (λ (v : Bool). cond v table.Dots table.Other) n);
+  is = λ before t. z.is before t ∙ ap (table.exists_all p.here) (u.is ∙ e before (t ++ p.here)) ∙ sym (ap (λ (v : Element). suffix_at m after v k p before t) q);
+  grows = grows-trans a b c u.grows z.grows;
+}
+
+pub part-rows : {E : Type 0} (m : table.Setting) (a b c : List Node) (after : Option Element) (x y : Element) (k : table.Follow) (p : Place) (f : ℕ) (r : Result Made E) (h : Plain) → x ≡ y → is_dots y ≡ false
+    → Makes a b f h → ((before : Option Element) (t : List Var) → h ≡ table.elem m before after y k p.inside p.scope t)
+    → IfOk r (λ g. MakesFollow m b c g table.Other (λ before t. table.exists_all p.here (at (plains b) f)))
+    → IfOk r (λ g. MakesFollow m a c g (start_with x) (suffix_at m after x k p))
+part-rows m a b c after x y k p f r h q n u e z =
+    IfOk-weaker r (λ g. MakesFollow m b c g table.Other (λ before t. table.exists_all p.here (at (plains b) f)))
+    (λ g. MakesFollow m a c g (start_with x) (suffix_at m after x k p)) (λ g v. part-row m a b c after x y k p f g h q n u e v) z
+
+-- dots, as the suffix that begins with them
+dots-row : (m : table.Setting) (a b c : List Node) (after : Option Element) (x y : Element) (k l : table.Follow) (p : Place) (g : Made) (vs ws : List Plain) (any strict : Bool) (nest : Option NestPart) → x ≡ y → is_dots y ≡ true
+    → Grows a b → vs ≡ ws → l ≡ k
+    → ((before : Option Element) (t : List Var) → dots_row m b before after ws any strict nest k p t ≡ suffix_at m after y k p before t)
+    → MakesFollow m b c g table.Dots (λ before t. dots_row m b before after vs any strict nest l p t)
+    → MakesFollow m a c g (start_with x) (suffix_at m after x k p)
+dots-row m a b c after x y k l p g vs ws any strict nest q n s v f e z = record {
+  within = z.within;
+  starts = z.starts ∙ sym (ap start_with q ∙ ap (λ (w : Bool). cond w table.Dots table.Other) n);
+  is = λ before t. z.is before t ∙ ap (λ (w : List Plain). dots_row m b before after w any strict nest l p t) v
+      ∙ ap (λ (w : table.Follow). dots_row m b before after ws any strict nest w p t) f
+      ∙ e before t ∙ sym (ap (λ (w : Element). suffix_at m after w k p before t) q);
+  grows = grows-trans a b c s z.grows;
+}
+
+pub dots-rows : {E : Type 0} (m : table.Setting) (a b c : List Node) (after : Option Element) (x y : Element) (k l : table.Follow) (p : Place) (r : Result Made E) (vs ws : List Plain) (any strict : Bool) (nest : Option NestPart) → x ≡ y → is_dots y ≡ true
+    → Grows a b → vs ≡ ws → l ≡ k
+    → ((before : Option Element) (t : List Var) → dots_row m b before after ws any strict nest k p t ≡ suffix_at m after y k p before t)
+    → IfOk r (λ g. MakesFollow m b c g table.Dots (λ before t. dots_row m b before after vs any strict nest l p t))
+    → IfOk r (λ g. MakesFollow m a c g (start_with x) (suffix_at m after x k p))
+dots-rows m a b c after x y k l p r vs ws any strict nest q n s v f e z =
+    IfOk-weaker r (λ g. MakesFollow m b c g table.Dots (λ before t. dots_row m b before after vs any strict nest l p t))
+    (λ g. MakesFollow m a c g (start_with x) (suffix_at m after x k p)) (λ g u. dots-row m a b c after x y k l p g vs ws any strict nest q n s v f e u) z

@@ -1,0 +1,7 @@
+use Rattle.std.proofs.Common.{drop}
+use Rattle.ctl_table.specs.Table as table
+use Rattle.ctl_table.proofs.LoopLemmas.{IsJoined}
+use Rattle.ctl_table.proofs.wrap.and_all.Given as goal
+
+abbrev pub invariant-loop-g : goal.invariant-loop-g
+invariant-loop-g l = IsJoined table.and_all l.initial.parts l.parts l.f l.found (drop l.g-index l.more) l.more

@@ -1,0 +1,179 @@
+// What follows, as come to from a scope.
+ghost use Rattle.std.specs.Prelude.{◌≡◌, ◌<◌, ◌++◌, IfOk, OnOk, true, false, length};
+ghost use Rattle.std.specs.Prelude.{None, [], if◌then◌else◌};
+ghost use Rattle.std.specs.Option.{option_copied};
+ghost use Rattle.ctl_formula.specs.Tables.{at, plains, Makes};
+ghost use Rattle.ctl_table.specs.Table as table;
+ghost use Rattle.ctl_table.specs.Settings.{setting_at, element_or_none, all_below, parts_at};
+ghost use Rattle.ctl_table.specs.Settings.{some_below};
+ghost use Rattle.ctl_table.specs.Settings.{some_at, made_below, made_at, dots_below};
+ghost use Rattle.ctl_table.specs.Settings.{dots_at as dots_from, passed as passed_by, MakesAll};
+ghost use Rattle.ctl_table.specs.Settings.{MakesSome};
+
+use crate::follow::{Made, MadeDots};
+use crate::near::near_option;
+use crate::setting::Setting;
+use crate::wrap::{all_of, exists_all, nested, until};
+use c_terms::NoMemory;
+use ctl_formula::{Node, Parts};
+use smpl_patch::Elem;
+use std::alloc::Global;
+use var_places::{Scope, extended};
+
+/// What follows an element, as come to from this scope.
+pub fn follow_at(
+    alloc: Global,
+    parts: &mut Parts,
+    m: &Setting,
+    before: Option<&Elem>,
+    next: &Made,
+    scope: &Scope,
+) -> Result<usize, NoMemory>
+    requires { made_below (length parts.old) next.now ≡ true }
+    ensures made { IfOk result (λ i. Makes parts.old parts.new i (made_at (plains parts.old)
+        (setting_at m.now) (element_or_none (option_copied before.entry)) next.now scope.now)) }
+{
+    match next {
+        Made::Nothing => parts.push(Node::True),
+        Made::Part(_, f) => Ok(*f),
+        Made::Dots(d) => dots_at(alloc, parts, m, before, d, scope),
+    }
+}
+
+/// Dots after an element, as come to from this scope.
+fn dots_at(
+    alloc: Global,
+    parts: &mut Parts,
+    m: &Setting,
+    before: Option<&Elem>,
+    d: &MadeDots,
+    scope: &Scope,
+) -> Result<usize, NoMemory>
+    requires { dots_below (length parts.old) d.now ≡ true }
+    ensures made { IfOk result (λ i. Makes parts.old parts.new i (dots_from (plains parts.old)
+        (setting_at m.now) (element_or_none (option_copied before.entry)) d.now scope.now)) }
+{
+    let here = d.here.as_slice();
+    let around = extended(alloc, scope, here)?;
+    let through = condition(alloc, parts, m, before, d, &around)?;
+    let f = passed(parts, m.forall_walks, d, through)?;
+    exists_all(alloc, parts, here, f)
+}
+
+/// What holds at each node that dots pass.
+fn condition(
+    alloc: Global,
+    parts: &mut Parts,
+    m: &Setting,
+    before: Option<&Elem>,
+    d: &MadeDots,
+    scope: &Scope,
+) -> Result<usize, NoMemory>
+    requires { dots_below (length parts.old) d.now ≡ true }
+    ensures made { IfOk result (λ i. Makes parts.old parts.new i
+        (table.condition d.now.any (parts_at parts.old d.now.whens.items)
+        (table.near_option (setting_at m.now) true
+        (element_or_none (option_copied before.entry)) scope.now)
+        (some_at (plains parts.old) d.now.after))) }
+{
+    let whens = d.whens.as_slice();
+    let mut found = copied_numbers(alloc, whens)?;
+    push_neighbours(alloc, parts, m, before, d, scope, &mut found)?;
+    all_of(parts, found.as_slice())
+}
+
+/// Further parts: `not` the element before the dots and `not` the one after them, unless `when any` stands there.
+fn push_neighbours(
+    alloc: Global,
+    parts: &mut Parts,
+    m: &Setting,
+    before: Option<&Elem>,
+    d: &MadeDots,
+    scope: &Scope,
+    found: &mut Vec<usize>,
+) -> Result<(), NoMemory>
+    requires d { dots_below (length parts.old) d.now ≡ true }
+    requires found { all_below (length parts.old) found.old.items ≡ true }
+    ensures made { OnOk result (MakesAll parts.old parts.new found.new.items
+        (parts_at parts.old found.old.items
+        ++ (if d.now.any then [] else (table.nots (table.near_option (setting_at m.now) true
+        (element_or_none (option_copied before.entry)) scope.now)
+        ++ table.nots (some_at (plains parts.old) d.now.after))))) }
+{
+    if d.any {
+        return Ok(());
+    }
+    let near = near_option(alloc, parts, m, true, before, scope)?;
+    push_not(parts, near, found)?;
+    push_not(parts, d.after, found)
+}
+
+fn copied_numbers(alloc: Global, numbers: &[usize]) -> Result<Vec<usize>, NoMemory>
+    ensures { IfOk result (λ copies. copies.items ≡ numbers.now) }
+{
+    let mut copies = Vec::new(alloc);
+    for n in numbers {
+        copies.push(*n)?;
+    }
+    Ok(copies)
+}
+
+/// One more part, `not` this one, where there is one.
+fn push_not(parts: &mut Parts, f: Option<usize>, found: &mut Vec<usize>) -> Result<(), NoMemory>
+    requires f { some_below (length parts.old) f ≡ true }
+    requires found { all_below (length parts.old) found.old.items ≡ true }
+    ensures made { OnOk result (MakesAll parts.old parts.new found.new.items
+        (parts_at parts.old found.old.items ++ table.nots (some_at (plains parts.old) f))) }
+{
+    if let Some(f) = f {
+        let not = parts.push(Node::Not(f))?;
+        found.push(not)?;
+    }
+    Ok(())
+}
+
+/// Dots or a nest with this condition.
+fn passed(
+    parts: &mut Parts,
+    forall_walks: bool,
+    d: &MadeDots,
+    through: usize,
+) -> Result<usize, NoMemory>
+    requires d { dots_below (length parts.old) d.now ≡ true }
+    requires through { through < length parts.old }
+    ensures made { IfOk result (λ i. Makes parts.old parts.new i
+        (passed_by (plains parts.old) forall_walks d.now.nest d.now.strict (at (plains parts.old) through)
+        (at (plains parts.old) d.now.target))) }
+{
+    match d.nest {
+        None => until(parts, forall_walks, d.strict, through, d.target),
+        Some(n) => nested(
+            parts,
+            forall_walks,
+            n.plus,
+            d.strict,
+            through,
+            n.part,
+            d.target,
+        ),
+    }
+}
+
+/// The first atoms of the element after dots, which `when any` leaves out.
+pub fn after_dots(
+    alloc: Global,
+    parts: &mut Parts,
+    m: &Setting,
+    any: bool,
+    after: Option<&Elem>,
+    scope: &Scope,
+) -> Result<Option<usize>, NoMemory>
+    ensures made { IfOk result (λ found. MakesSome parts.old parts.new found
+        (if any then None else table.near_option (setting_at m.now) false (element_or_none
+        (option_copied after.entry)) scope.now)) }
+{
+    if any {
+        return Ok(None);
+    }
+    near_option(alloc, parts, m, false, after, scope)
+}

@@ -1,0 +1,212 @@
+// Elements whose parts are made.
+ghost use Rattle.std.specs.Prelude.{◌≡◌, ◌<◌, length, true, IfOk, None};
+ghost use Rattle.std.specs.Option.{option_copied};
+ghost use Rattle.smpl_patch.specs.Patterns.{is_statement};
+ghost use Rattle.smpl_patch.proofs.BodyLemmas.{dots_of};
+ghost use Rattle.ctl_formula.specs.Plain as plain;
+ghost use Rattle.ctl_formula.specs.Tables.{at, plains, Makes};
+ghost use Rattle.ctl_table.specs.Table as table;
+ghost use Rattle.ctl_table.specs.Settings.{setting_at, element_or_none, all_below, parts_at};
+ghost use Rattle.ctl_table.specs.Settings.{nest_below, made_below, follow, dots_row};
+ghost use Rattle.ctl_table.specs.Settings.{MakesFollow};
+
+use crate::dots::{after_dots, follow_at};
+use crate::follow::{Made, MadeDots, NestPart, Start, start_of};
+use crate::own::{own_atom, own_open};
+use crate::setting::Setting;
+use crate::wrap::{and_all, and_past, downs, exists_all, joined, target};
+use c_terms::NoMemory;
+use ctl_formula::{Node, Parts};
+use smpl_patch::{Dots, Elem, Pattern, is_statement};
+use smpl_terms::Var;
+use std::alloc::Global;
+use var_places::{Place, Scope, copied_vars};
+
+/// An element's formula as what follows, under what is quantified at its suffix.
+pub fn part(
+    alloc: Global,
+    parts: &mut Parts,
+    m: &Setting,
+    place: &Place,
+    f: usize,
+) -> Result<Made, NoMemory>
+    requires { f < length parts.old }
+    ensures made { IfOk result (λ made. MakesFollow (setting_at m.now) parts.old parts.new made
+        table.Other (λ b t. table.exists_all place.now.here (at (plains parts.old) f))) }
+{
+    let f = exists_all(alloc, parts, place.here.as_slice(), f)?;
+    Ok(Made::Part(Start::Other, f))
+}
+
+pub fn atom(
+    alloc: Global,
+    parts: &mut Parts,
+    m: &Setting,
+    p: &Pattern,
+    before: Option<&Elem>,
+    next: &Made,
+    vars: &[Var],
+    scope: &Scope,
+) -> Result<usize, NoMemory>
+    requires { made_below (length parts.old) next.now ≡ true }
+    ensures made { let k = follow parts.old m.now (option_copied before.entry) next.now in
+        IfOk result (λ i. Makes parts.old parts.new i
+        (table.joined m.now.forall_walks (is_statement p.now)
+        (table.own (setting_at m.now) vars.now p.now (plain.Atom p.now))
+        k.start (k.at scope.now))) }
+{
+    let f = own_atom(alloc, parts, m, vars, p)?;
+    match next {
+        Made::Nothing => Ok(f),
+        _ => {
+            let g = follow_at(alloc, parts, m, before, next, scope)?;
+            joined(parts, m.forall_walks, is_statement(p), f, start_of(next), g)
+        }
+    }
+}
+
+/// A head with its bodies and its tail, and what follows them.
+pub fn compound(
+    alloc: Global,
+    parts: &mut Parts,
+    m: &Setting,
+    h: &Pattern,
+    inside: &[usize],
+    tail: &Option<Pattern>,
+    before: Option<&Elem>,
+    next: &Made,
+    vars: &[Var],
+    scope: &Scope,
+) -> Result<usize, NoMemory>
+    requires next { made_below (length parts.old) next.now ≡ true }
+    requires inside { all_below (length parts.old) inside.now ≡ true }
+    ensures made { let k = follow parts.old m.now (option_copied before.entry) next.now in
+        IfOk result (λ i. Makes parts.old parts.new i
+        (plain.And (table.with_tail (setting_at m.now) vars.now tail.now
+        (table.and_all (table.own (setting_at m.now) vars.now h.now (plain.Atom h.now))
+        (table.downs 0 (parts_at parts.old inside.now))))
+        (plain.Past (k.at scope.now)))) }
+{
+    let f = headed(alloc, parts, m, h, inside, tail, vars)?;
+    let g = follow_at(alloc, parts, m, before, next, scope)?;
+    and_past(parts, f, g)
+}
+
+/// A head with its bodies and its tail.
+fn headed(
+    alloc: Global,
+    parts: &mut Parts,
+    m: &Setting,
+    h: &Pattern,
+    inside: &[usize],
+    tail: &Option<Pattern>,
+    vars: &[Var],
+) -> Result<usize, NoMemory>
+    requires { all_below (length parts.old) inside.now ≡ true }
+    ensures made { IfOk result (λ i. Makes parts.old parts.new i
+        (table.with_tail (setting_at m.now) vars.now tail.now
+        (table.and_all (table.own (setting_at m.now) vars.now h.now (plain.Atom h.now))
+        (table.downs 0 (parts_at parts.old inside.now))))) }
+{
+    let downs = downs(alloc, parts, inside)?;
+    let head = own_atom(alloc, parts, m, vars, h)?;
+    let f = and_all(parts, head, downs.as_slice())?;
+    with_tail(alloc, parts, m, vars, tail, f)
+}
+
+fn with_tail(
+    alloc: Global,
+    parts: &mut Parts,
+    m: &Setting,
+    vars: &[Var],
+    tail: &Option<Pattern>,
+    f: usize,
+) -> Result<usize, NoMemory>
+    requires { f < length parts.old }
+    ensures made { IfOk result (λ i. Makes parts.old parts.new i
+        (table.with_tail (setting_at m.now) vars.now tail.now (at (plains parts.old) f))) }
+{
+    match tail {
+        None => Ok(f),
+        Some(p) => {
+            let own = own_atom(alloc, parts, m, vars, p)?;
+            let down = parts.push(Node::Down(1, own))?;
+            parts.push(Node::And(f, down))
+        }
+    }
+}
+
+/// An opening brace, and what it holds.
+pub fn braced(
+    alloc: Global,
+    parts: &mut Parts,
+    m: &Setting,
+    vars: &[Var],
+    o: &Pattern,
+    v: Var,
+    inside: usize,
+) -> Result<usize, NoMemory>
+    requires { inside < length parts.old }
+    ensures made { IfOk result (λ i. Makes parts.old parts.new i
+        (plain.Exists v
+        (plain.And (table.own (setting_at m.now) vars.now o.now (plain.BraceOpen o.now v))
+        (plain.Down 0 (at (plains parts.old) inside))))) }
+{
+    let open = own_open(alloc, parts, m, vars, o, &v)?;
+    let down = parts.push(Node::Down(0, inside))?;
+    let both = parts.push(Node::And(open, down))?;
+    parts.push(Node::Exists(v, both))
+}
+
+/// Dots, or the end of a nest, whose `when` code is made.
+pub fn dots(
+    alloc: Global,
+    parts: &mut Parts,
+    m: &Setting,
+    after: Option<&Elem>,
+    d: &Dots,
+    whens: Vec<usize>,
+    nest: Option<NestPart>,
+    before: Option<&Elem>,
+    next: &Made,
+    place: &Place,
+) -> Result<Made, NoMemory>
+    requires whens { all_below (length parts.old) whens.items ≡ true }
+    requires nest { nest_below (length parts.old) nest ≡ true }
+    requires next { made_below (length parts.old) next.now ≡ true }
+    ensures made { IfOk result (λ made. MakesFollow (setting_at m.now) parts.old parts.new made
+        table.Dots (λ b t. dots_row (setting_at m.now) parts.old
+        b (element_or_none (option_copied after.entry)) (parts_at parts.old whens.items)
+        (dots_of d.now).any (dots_of d.now).strict nest
+        (follow parts.old m.now (option_copied before.entry) next.now) place.now t)) }
+{
+    let scope = &place.scope;
+    let after = after_dots(alloc, parts, m, d.any, after, scope)?;
+    let g = follow_at(alloc, parts, m, before, next, scope)?;
+    let target = target(parts, start_of(next), g)?;
+    let here = copied_vars(alloc, place.here.as_slice())?;
+    Ok(Made::Dots(MadeDots {
+        whens,
+        any: d.any,
+        strict: d.strict,
+        after,
+        nest,
+        target,
+        here,
+    }))
+}
+
+/// `not` a piece of `when` code, under what is quantified around it.
+pub fn not_piece(
+    alloc: Global,
+    parts: &mut Parts,
+    alone: &[Var],
+    f: usize,
+) -> Result<usize, NoMemory>
+    requires { f < length parts.old }
+    ensures made { IfOk result (λ i. Makes parts.old parts.new i
+        (plain.Not (table.exists_all alone.now (at (plains parts.old) f)))) }
+{
+    let f = exists_all(alloc, parts, alone, f)?;
+    parts.push(Node::Not(f))
+}

@@ -1,0 +1,172 @@
+// What stands beside dots.
+ghost use Rattle.std.specs.Prelude.{◌≡◌, ◌++◌, ◌-◌, ◌<◌, ◌≤◌, if◌then◌else◌, Some, IfOk, OnOk, true};
+ghost use Rattle.std.specs.Option.{option_copied};
+ghost use Rattle.smpl_patch.specs.Bodies.{body, element};
+ghost use Rattle.smpl_patch.specs.Bodies as bodies;
+ghost use Rattle.smpl_patch.proofs.BodyLemmas.{bodies as bodies_of};
+ghost use Rattle.ctl_table.specs.Table as table;
+ghost use Rattle.ctl_table.specs.Settings.{setting_at, element_or_none, option_numbers};
+ghost use Rattle.ctl_table.specs.Settings.{MakesSome};
+
+use crate::own::copied;
+use crate::setting::Setting;
+use crate::wrap::or_some;
+use c_terms::NoMemory;
+use ctl_formula::Parts;
+use smpl_patch::{Elem, Pattern, is_statement};
+use sqlite_items::Items;
+use std::alloc::Global;
+use var_places::Scope;
+
+/// The last or the first atoms of an element.
+#[cycle(near)]
+fn near(
+    alloc: Global,
+    parts: &mut Parts,
+    m: &Setting,
+    last: bool,
+    e: &Elem,
+    scope: &Scope,
+) -> Result<Option<usize>, NoMemory>
+    ensures made { IfOk result (λ found. MakesSome parts.old parts.new found
+        (table.near (setting_at m.now) last (element e.now) scope.now)) }
+{
+    match e {
+        Elem::Atom(p) => near_atom(alloc, parts, m, p, scope),
+        Elem::Compound(h, _, _) => near_head(alloc, parts, m, h, scope),
+        Elem::Block(_, _, _) => Ok(None),
+        Elem::Gap(_) => Ok(None),
+        Elem::Nest(_, _, _) => Ok(None),
+        Elem::AnyOf(bodies) => near_any(alloc, parts, m, last, bodies.as_slice(), scope),
+        Elem::AllOf(bodies) => near_all(alloc, parts, m, last, bodies.as_slice(), scope),
+    }
+}
+
+fn near_atom(
+    alloc: Global,
+    parts: &mut Parts,
+    m: &Setting,
+    p: &Pattern,
+    scope: &Scope,
+) -> Result<Option<usize>, NoMemory>
+    ensures made { IfOk result (λ found. MakesSome parts.old parts.new found
+        (table.near (setting_at m.now) true (bodies.Atom p.now) scope.now)) }
+{
+    if is_statement(p) {
+        return Ok(None);
+    }
+    near_head(alloc, parts, m, p, scope)
+}
+
+fn near_head(
+    alloc: Global,
+    parts: &mut Parts,
+    m: &Setting,
+    p: &Pattern,
+    scope: &Scope,
+) -> Result<Option<usize>, NoMemory>
+    ensures made { IfOk result (λ found. MakesSome parts.old parts.new found
+        (Some (table.copy (setting_at m.now) p.now scope.now))) }
+{
+    let f = copied(alloc, parts, m, p, scope)?;
+    Ok(Some(f))
+}
+
+#[cycle(near)]
+fn near_body(
+    alloc: Global,
+    parts: &mut Parts,
+    m: &Setting,
+    last: bool,
+    b: &[Elem],
+    scope: &Scope,
+) -> Result<Option<usize>, NoMemory>
+    ensures made { IfOk result (λ found. MakesSome parts.old parts.new found
+        (table.near_body (setting_at m.now) last (body b.now) scope.now)) }
+{
+    if b.len() == 0 {
+        return Ok(None);
+    }
+    let i = end_of(b.len(), last);
+    near(alloc, parts, m, last, &b[i], scope)
+}
+
+/// The number of the last or the first of so many.
+fn end_of(len: usize, last: bool) -> usize
+    requires { 1 ≤ len }
+    ensures value { result ≡ (if last then len - 1 else 0) }
+    ensures within { result < len }
+{
+    if last { len - 1 } else { 0 }
+}
+
+/// Those of some branches: one of them.
+#[cycle(near)]
+fn near_any(
+    alloc: Global,
+    parts: &mut Parts,
+    m: &Setting,
+    last: bool,
+    bs: &[Items<Elem>],
+    scope: &Scope,
+) -> Result<Option<usize>, NoMemory>
+    ensures made { IfOk result (λ found. MakesSome parts.old parts.new found
+        (table.or_some
+        (table.near_each (setting_at m.now) last (bodies_of bs.now) scope.now))) }
+{
+    let mut found = Vec::new(alloc);
+    for b in bs {
+        let body = b.as_slice();
+        let f = near_body(alloc, parts, m, last, body, scope)?;
+        push_some(f, &mut found)?;
+    }
+    let each = found.as_slice();
+    or_some(parts, each)
+}
+
+/// Those of the first branch.
+#[cycle(near)]
+fn near_all(
+    alloc: Global,
+    parts: &mut Parts,
+    m: &Setting,
+    last: bool,
+    bs: &[Items<Elem>],
+    scope: &Scope,
+) -> Result<Option<usize>, NoMemory>
+    ensures made { IfOk result (λ found. MakesSome parts.old parts.new found
+        (table.near_first (setting_at m.now) last (bodies_of bs.now) scope.now)) }
+{
+    match bs {
+        [] => Ok(None),
+        [b, ..] => near_body(alloc, parts, m, last, b.as_slice(), scope),
+    }
+}
+
+fn push_some(f: Option<usize>, found: &mut Vec<usize>) -> Result<(), NoMemory>
+    ensures { OnOk result (found.new.items ≡ found.old.items ++ option_numbers f) }
+{
+    if let Some(f) = f {
+        found.push(f)?;
+    }
+    Ok(())
+}
+
+/// The last or the first atoms of an element beside dots, where there is one.
+pub fn near_option(
+    alloc: Global,
+    parts: &mut Parts,
+    m: &Setting,
+    last: bool,
+    e: Option<&Elem>,
+    scope: &Scope,
+) -> Result<Option<usize>, NoMemory>
+    ensures made { IfOk result (λ found. MakesSome parts.old parts.new found
+        (table.near_option (setting_at m.now) last
+        (element_or_none (option_copied e.entry)) scope.now)) }
+{
+    match e {
+        None => Ok(None),
+        Some(e) => near(alloc, parts, m, last, e, scope),
+    }
+}

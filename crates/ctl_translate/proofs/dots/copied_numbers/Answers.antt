@@ -1,6 +1,0 @@
-use Rattle.std.proofs.Common.{◌∙◌, arith}
-use Rattle.ctl_translate.proofs.RowLemmas.{taken}
-use Rattle.ctl_translate.proofs.dots.copied_numbers.Goals as goal
-
-pub returns : goal.returns
-returns c = c.loop-n.invariant ∙ taken c.loop-n.n-index c.args.numbers.now (omega arith)

@@ -1,5 +1,0 @@
-use Rattle.ctl_translate.proofs.ScopeLemmas.{AreScoped}
-use Rattle.ctl_translate.proofs.place.along.Given as goal
-
-abbrev pub invariant-loop-share : goal.invariant-loop-share
-invariant-loop-share l = AreScoped l.shares l.scope l.all l.share-index l.count l.found.items

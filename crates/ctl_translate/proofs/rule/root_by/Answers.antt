@@ -1,0 +1,16 @@
+use Rattle.std.proofs.Common.{not, ◌∙◌, ap}
+use Rattle.std.specs.List.{filter}
+use Rattle.smpl_patch.specs.Bodies.{body}
+use Rattle.var_places.specs.Placing.{is_alone}
+use Rattle.var_places.specs.Places.{reading_at}
+use Rattle.ctl_translate.proofs.rule.root_by.Goals as goal
+
+pub root_of-requires-clause-alone : goal.root_of-requires-clause-alone
+root_of-requires-clause-alone c =
+    c.in_ok-found.ensures.alone
+    ∙ ap (λ z. filter (is_alone (reading_at c.args.reader.now) (body z)) c.as_slice-locals.result.now) c.as_slice.ensures
+
+pub root_of-requires-clause-placed : goal.root_of-requires-clause-placed
+root_of-requires-clause-placed c =
+    c.in_ok-found.ensures.placed
+    ∙ ap (λ z. filter (λ x. not (is_alone (reading_at c.args.reader.now) (body z) x)) c.as_slice-locals.result.now) c.as_slice.ensures

@@ -1,7 +1,0 @@
-use Rattle.std.proofs.Common.{drop}
-use Rattle.ctl_translate.specs.Table as table
-use Rattle.ctl_translate.proofs.LoopLemmas.{IsJoined}
-use Rattle.ctl_translate.proofs.wrap.and_all.Given as goal
-
-abbrev pub invariant-loop-g : goal.invariant-loop-g
-invariant-loop-g l = IsJoined table.and_all l.initial.parts l.parts l.f l.found (drop l.g-index l.more) l.more

@@ -1,0 +1,7 @@
+pub mod Weights
+pub mod KeptLemmas
+mod HomeLemmas
+mod ShareLemmas
+mod KeyLemmas
+mod CountLemmas
+mod ScopeLemmas

@@ -1,0 +1,12 @@
+use Rattle.std.proofs.Common.{◌+◌, Bool, ap}
+use Rattle.smpl_patch.specs.Bodies.{body}
+use Rattle.pattern_vars.specs.Reads.{has}
+use Rattle.var_places.specs.Placing.{one, occurs_body}
+use Rattle.var_places.specs.Places.{reading_at}
+use Rattle.var_places.proofs.CountLemmas.{counted-as}
+use Rattle.var_places.proofs.counted.count_body.Goals as goal
+
+pub returns : goal.returns
+returns c y n h =
+    counted-as _ y (n + one (has c.in_ok-part.part y)) (n + one (occurs_body (reading_at c.args.reader.now) (body c.args.b.now) y))
+    (ap (λ (z : Bool). n + one z) (c.in_ok-part.ensures y)) (c.in_ok-count.ensures y n h)

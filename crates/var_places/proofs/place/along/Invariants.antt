@@ -1,0 +1,5 @@
+use Rattle.var_places.proofs.ScopeLemmas.{AreScoped}
+use Rattle.var_places.proofs.place.along.Given as goal
+
+abbrev pub invariant-loop-share : goal.invariant-loop-share
+invariant-loop-share l = AreScoped l.shares l.scope l.all l.share-index l.count l.found.items

@@ -1,0 +1,18 @@
+use Rattle.std.proofs.Common.{◌≡◌, ◌∙◌, ◌++◌, sym, ap, subst, arith, length, append-nil, List}
+use Rattle.std.specs.Result.{IfOk}
+use Rattle.std.proofs.lemmas.List.{nil_from_length}
+use Rattle.smpl_terms.specs.declared.var.Var.{Var}
+use Rattle.var_places.proofs.place.extended.Goals as goal
+
+pub returns-then-here-eq0 : goal.returns-then-here-eq0
+returns-then-here-eq0 c =
+    let none : length c.args.here.now ≡ 0 = omega arith in
+    subst (λ (z : List Var). IfOk c.share.result (λ found. found ≡ z))
+    (sym (append-nil c.args.scope.now) ∙ ap (λ (z : List Var). c.args.scope.now ++ z) (sym (nil_from_length c.args.here.now none))) c.share.ensures.value
+
+pub returns : goal.returns
+returns c =
+    subst (λ (z : List Var). IfOk c.of.result (λ found. found ≡ z))
+    (c.in_ok-append-2.ensures
+    ∙ ap (λ (z : List Var). z ++ c.args.here.now) (c.in_ok-append.ensures ∙ ap (λ (z : List Var). z ++ c.as_slice.result.now) c.new-all.ensures.items ∙ c.as_slice.ensures))
+    c.of.ensures.value

@@ -1,0 +1,23 @@
+//! Where the variables of a rule are quantified: at the smallest part of its body that holds all occurrences of each.
+//!
+//! - [`places_of`] gives the places of a sequence's elements: what is quantified at, inside and around each.
+//! - [`in_body`], [`at_atom`] and [`among`] give those of some variables that a part or a set has, in their order.
+//! - [`used_in_body`], [`standing_in_body`] and [`standing_in_atom`] give the variables of a part, as a set.
+//!
+//! Of `f(x); ... g(x, y);` with the variables x and y, x is quantified at the whole sequence, and y inside the last call.
+//!
+//! A part is read once for each statement around it, and each variable is looked up once there: names are never compared
+//! one by one. What formulas are made of it is for ctl_table.
+#![tactic(auto)]
+
+mod counted;
+mod homes;
+mod place;
+mod reader;
+mod scope;
+mod sets;
+
+pub use place::{Place, among, at_atom, copied_vars, extended, in_body, places_of};
+pub use reader::Reader;
+pub use scope::Scope;
+pub use sets::{standing_in_atom, standing_in_body, used_in_body};

@@ -1,0 +1,285 @@
+// Which variables are quantified where.
+ghost use Rattle.std.specs.Prelude.{◌≡◌, ◌<◌, ◌≤◌, ◌^◌, ◌++◌, [], true, ◌&&◌, not, take, length, Some, IfOk, OnOk};
+ghost use Rattle.std.specs.List.{filter};
+ghost use Rattle.smpl_patch.specs.Bodies.{body};
+ghost use Rattle.pattern_vars.specs.Reads.{has};
+ghost use Rattle.pattern_vars.specs.Keys.{value_of};
+ghost use Rattle.var_places.specs.Placing as placing;
+ghost use Rattle.var_places.specs.Places.{reading_at, places};
+ghost use Rattle.var_places.specs.Homes as of_sequence;
+
+use crate::homes::{Home, home_of, homes_of};
+use crate::reader::Reader;
+use crate::scope::Scope;
+use crate::sets::{occurring_in_body, used_in_atom};
+use c_terms::NoMemory;
+use pattern_vars::VarSet;
+use smpl_patch::{Elem, Pattern};
+use smpl_terms::Var;
+use sqlite_items::Items;
+use std::alloc::Global;
+
+/// An element's place in a sequence.
+#[derive(Drop)]
+pub struct Place {
+    /// What is quantified at the suffix that begins with the element.
+    pub here: Items<Var>,
+    /// What is quantified inside the element.
+    pub inside: Items<Var>,
+    /// What is quantified around the element.
+    pub scope: Scope,
+}
+
+/// Equal variables.
+pub fn copied_vars(alloc: Global, vars: &[Var]) -> Result<Items<Var>, NoMemory>
+    ensures { IfOk result (λ copies. copies ≡ vars.now) }
+{
+    let mut copies = Items::new(alloc);
+    for x in vars {
+        copies.push(x.copy(alloc)?)?;
+    }
+    Ok(copies)
+}
+
+/// What is quantified at the suffix that begins with an element, and what inside the element.
+#[derive(Drop)]
+pub struct Shares {
+    pub here: Items<Var>,
+    pub inside: Items<Var>,
+}
+
+fn put_share(alloc: Global, here: bool, x: &Var, share: &mut Shares) -> Result<(), NoMemory>
+    ensures { OnOk result (share.new ≡ of_sequence.shared_by here (not here) x.now share.old) }
+{
+    let x = x.copy(alloc)?;
+    if here {
+        share.here.push(x)?;
+    } else {
+        share.inside.push(x)?;
+    }
+    Ok(())
+}
+
+fn put_at(alloc: Global, h: Home, x: &Var, shares: &mut Vec<Shares>) -> Result<(), NoMemory>
+    ensures { OnOk result (shares.new.items ≡ of_sequence.put_in 0 (Some h) x.now shares.old.items) }
+{
+    if h.place >= shares.len() {
+        return Ok(());
+    }
+    let share = &mut shares[h.place];
+    put_share(alloc, h.here, x, share)?;
+    Ok(())
+}
+
+/// Puts the variable where it is quantified.
+fn put_var(
+    alloc: Global,
+    home: Option<Home>,
+    x: &Var,
+    shares: &mut Vec<Shares>,
+) -> Result<(), NoMemory>
+    ensures { OnOk result (shares.new.items ≡ of_sequence.put_in 0 home x.now shares.old.items) }
+{
+    match home {
+        None => Ok(()),
+        Some(h) => put_at(alloc, h, x, shares),
+    }
+}
+
+/// So many times no variables.
+fn empty_shares(alloc: Global, count: usize) -> Result<Vec<Shares>, NoMemory>
+    ensures { IfOk result (λ found. found.items ≡ of_sequence.empty_shares count) }
+{
+    let mut found = Vec::new(alloc);
+    for _i in 0..count {
+        found.push(Shares {
+            here: Items::new(alloc),
+            inside: Items::new(alloc),
+        })?;
+    }
+    Ok(found)
+}
+
+/// The variables by where they are quantified. Each is looked up once; where there are none, nothing is read.
+fn sorted(alloc: Global, reader: &Reader, b: &[Elem], vars: &[Var]) -> Result<Vec<Shares>, NoMemory>
+    ensures { IfOk result (λ found. found.items ≡ of_sequence.shares_from
+        (of_sequence.home_in (reading_at reader.now) 0 (body b.now)) 0 (body b.now) vars.now) }
+{
+    let mut found = empty_shares(alloc, b.len())?;
+    if vars.len() == 0 {
+        return Ok(found);
+    }
+    let homes = homes_of(alloc, reader, b)?;
+    for x in vars {
+        let home = home_of(alloc, &homes, x)?;
+        put_var(alloc, home, x, &mut found)?;
+    }
+    Ok(found)
+}
+
+/// Those of the variables that are in the set, in their order.
+pub fn among(alloc: Global, set: &VarSet, vars: &[Var]) -> Result<Items<Var>, NoMemory>
+    ensures { IfOk result (λ found. found ≡ filter (has set.now) vars.now) }
+{
+    let mut found = Items::new(alloc);
+    for x in vars {
+        if set.has(alloc, x)? {
+            found.push(x.copy(alloc)?)?;
+        }
+    }
+    Ok(found)
+}
+
+/// Those that occur in the sequence. Where there are none, nothing is read.
+pub fn in_body(
+    alloc: Global,
+    reader: &Reader,
+    b: &[Elem],
+    vars: &[Var],
+) -> Result<Items<Var>, NoMemory>
+    ensures { IfOk result (λ found. found ≡ filter (placing.occurs_body (reading_at reader.now)
+        (body b.now)) vars.now) }
+{
+    if vars.len() == 0 {
+        return Ok(Items::new(alloc));
+    }
+    let set = occurring_in_body(alloc, reader, b)?;
+    among(alloc, &set, vars)
+}
+
+/// Those that are used in the atom. Where there are none, nothing is read.
+pub fn at_atom(
+    alloc: Global,
+    reader: &Reader,
+    p: &Pattern,
+    vars: &[Var],
+) -> Result<Items<Var>, NoMemory>
+    ensures { IfOk result (λ found. found
+        ≡ filter (λ x. (reading_at reader.now).used p.now x) vars.now) }
+{
+    if vars.len() == 0 {
+        return Ok(Items::new(alloc));
+    }
+    let set = used_in_atom(alloc, reader, p)?;
+    among(alloc, &set, vars)
+}
+
+/// Appends variables.
+fn append(alloc: Global, more: &[Var], all: &mut Vec<Var>) -> Result<(), NoMemory>
+    ensures { OnOk result (all.new.items ≡ all.old.items ++ more.now) }
+{
+    for x in more {
+        all.push(x.copy(alloc)?)?;
+    }
+    Ok(())
+}
+
+/// The scope with further variables. Where there are none, it is shared.
+pub fn extended(alloc: Global, scope: &Scope, here: &[Var]) -> Result<Scope, NoMemory>
+    ensures { IfOk result (λ found. found ≡ scope.now ++ here.now) }
+{
+    if here.len() == 0 {
+        return scope.share();
+    }
+    let mut all = Vec::new(alloc);
+    append(alloc, scope.as_slice(), &mut all)?;
+    append(alloc, here, &mut all)?;
+    Scope::of(alloc, all)
+}
+
+/// The scope, and what is quantified at the suffixes of a sequence.
+fn all_around(alloc: Global, shares: &[Shares], scope: &[Var]) -> Result<Vec<Var>, NoMemory>
+    ensures { IfOk result (λ all. all.items ≡ scope.now ++ of_sequence.all_here shares.now) }
+{
+    let mut all = Vec::new(alloc);
+    append(alloc, scope, &mut all)?;
+    for share in shares {
+        append(alloc, share.here.as_slice(), &mut all)?;
+    }
+    Ok(all)
+}
+
+/// Whether nothing is quantified at the suffixes.
+fn is_none_here(shares: &[Shares]) -> bool
+    ensures { result ≡ true → of_sequence.all_here shares.now ≡ [] }
+{
+    for share in shares {
+        if share.here.len() > 0 {
+            return false;
+        }
+    }
+    true
+}
+
+/// The scope, and what is quantified at the suffixes of a sequence. Where nothing is, the scope is shared.
+fn around(alloc: Global, shares: &[Shares], scope: &Scope) -> Result<Scope, NoMemory>
+    ensures value { IfOk result (λ all. all ≡ scope.now ++ of_sequence.all_here shares.now) }
+    ensures fits { IfOk result (λ all. length all < 2 ^ 64) }
+{
+    if is_none_here(shares) {
+        return scope.share();
+    }
+    let all = all_around(alloc, shares, scope.as_slice())?;
+    Scope::of(alloc, all)
+}
+
+/// An element's place, where so many of the variables are quantified around it.
+fn place_of(alloc: Global, share: &Shares, all: &Scope, count: usize) -> Result<Place, NoMemory>
+    requires { count ≤ length all.now }
+    ensures { IfOk result (λ place. place
+        ≡ record { here = share.now.here; inside = share.now.inside; scope = take count all.now }) }
+{
+    let here = copied_vars(alloc, share.here.as_slice())?;
+    let inside = copied_vars(alloc, share.inside.as_slice())?;
+    let scope = all.front(count)?;
+    Ok(Place {
+        here,
+        inside,
+        scope,
+    })
+}
+
+/// The places of a sequence's elements, around which the first of these variables are quantified.
+fn along(
+    alloc: Global,
+    shares: &[Shares],
+    scope: &[Var],
+    all: &Scope,
+) -> Result<Vec<Place>, NoMemory>
+    requires all { all.now ≡ scope.now ++ of_sequence.all_here shares.now }
+    requires fits { length all.now < 2 ^ 64 }
+    ensures { IfOk result (λ found. found.items ≡ of_sequence.scoped shares.now scope.now) }
+{
+    let mut found = Vec::new(alloc);
+    let mut count = scope.len();
+    for share in shares {
+        count += share.here.len();
+        let place = place_of(alloc, share, all, count)?;
+        found.push(place)?;
+    }
+    Ok(found)
+}
+
+/// The places of a sequence's elements. They share one list of what is quantified around them.
+fn scoped(alloc: Global, shares: &[Shares], scope: &Scope) -> Result<Vec<Place>, NoMemory>
+    ensures { IfOk result (λ found. found.items ≡ of_sequence.scoped shares.now scope.now) }
+{
+    let all = around(alloc, shares, scope)?;
+    along(alloc, shares, scope.as_slice(), &all)
+}
+
+/// The places of a sequence's elements, by the variables that are quantified inside it and around it. The sequence is read a
+/// few times, and each variable is looked up once. Where no variable is quantified at a suffix, the scope is shared.
+pub fn places_of(
+    alloc: Global,
+    reader: &Reader,
+    b: &[Elem],
+    vars: &[Var],
+    scope: &Scope,
+) -> Result<Vec<Place>, NoMemory>
+    ensures { IfOk result (λ found. found.items ≡ places (reading_at reader.now)
+        (body b.now) vars.now scope.now) }
+{
+    let shares = sorted(alloc, reader, b, vars)?;
+    scoped(alloc, shares.as_slice(), scope)
+}

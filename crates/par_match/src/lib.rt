@@ -7,7 +7,8 @@
 //! A worker that answers the square of its job gives `[0, 1, 4]` for three jobs, whatever the number of threads.
 //!
 //! Threads take ranges of jobs, the next one each time that they are done with one, so jobs that cost nothing are cheap
-//! and one that costs much holds up no other. Nothing here recurses, and each thread has the system's default stack.
+//! and one that costs much holds up no other, or, of more than 4,096 jobs, only those of its range. Nothing here recurses,
+//! and each thread has the system's default stack.
 //!
 //! Stands on no crate of the project, so that any worker can use it.
 #![tactic(auto)]

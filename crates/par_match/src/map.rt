@@ -11,14 +11,15 @@ use std::sync::atomic::AtomicUsize;
 use std::thread;
 use std::thread::Threads;
 
-/// So many ranges a thread, so that a thread which is done early finds more to do.
-const RANGES_A_THREAD: usize = 16;
+/// The most ranges of one call. So few that each costs next to nothing beside what it stands for, and so many that jobs which
+/// cost much, and stand side by side, are seldom in one range.
+const MOST_RANGES: usize = 4_096;
 
 /// Does the jobs 0 to `n - 1` of a worker in up to `jobs` threads, and answers what they answered, in order. Of jobs that
 /// fail it names the one of the least number. The gate is told of each job before it begins.
 ///
-/// Starts no thread for one job or where `jobs` is 1. Takes memory for the answers and a few words for each of at most
-/// `16 * jobs` ranges, or more where a range is one job.
+/// Starts no thread for one job or where `jobs` is 1. Takes memory for the answers and a few words for each range: up to 4,096 jobs
+/// are a range each, and more are shared out among at most 4,096 ranges.
 pub fn map_jobs<R: Threads + Sync, W: Worker, G: Gate>(
     rt: &R,
     alloc: Global,
@@ -36,7 +37,7 @@ pub fn map_jobs<R: Threads + Sync, W: Worker, G: Gate>(
     if jobs == 1 || n < 2 {
         return do_range(alloc, 0, n, worker, gate);
     }
-    let size = range_size(jobs as usize, n);
+    let size = range_size(n);
     let ranges = n.div_ceil(size);
     let threads = ranges.min(jobs as usize);
     let next = AtomicUsize::new(0);
@@ -53,10 +54,8 @@ pub fn map_jobs<R: Threads + Sync, W: Worker, G: Gate>(
 }
 
 /// How many jobs a range has.
-fn range_size(jobs: usize, n: usize) -> usize
-    requires some { 0 < jobs }
-    requires few { jobs ≤ 64 }
+fn range_size(n: usize) -> usize
     ensures some { 0 < result }
 {
-    (n / (jobs * RANGES_A_THREAD)).max(1)
+    n.div_ceil(MOST_RANGES).max(1)
 }

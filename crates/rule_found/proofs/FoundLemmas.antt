@@ -1,11 +1,8 @@
--- What is found, item by item.
-use Rattle.std.proofs.Common.{◌≡◌, ◌<◌, ◌≤◌, ◌+◌, ℕ, zero, suc, nat_lt, refl, sym, ap, ◌∙◌, arith, true, false, ◌||◌, Some, List, [], ◌∷◌, ◌++◌, length, drop, map}
-use Rattle.std.specs.Prelude.{slice_get}
-use Rattle.std.proofs.lemmas.List.{append_assoc}
+-- What is found in one item, and what witnesses bring.
+use Rattle.std.proofs.Common.{◌≡◌, ◌<◌, ◌≤◌, ℕ, nat_lt, refl, sym, ap, ◌∙◌, arith, true, false, Some, List, [], ◌∷◌, map}
 use Rattle.std.proofs.lemmas.Bool.Decides.{nat_tests}
 use Rattle.cpp_lines.specs.declared.reading.Item.{Item}
 use Rattle.cfg_graph.specs.Flow.{Flow}
-use Rattle.c_file.specs.Fit.{item_graph}
 use Rattle.smpl_patch.specs.declared.rule.Rule.{Rule}
 use Rattle.smpl_patch.specs.declared.witness.RuleWitness.{RuleWitness}
 use Rattle.env_parts.specs.Parts.{Pairs, bare_env}
@@ -17,7 +14,7 @@ use Rattle.rule_envs.proofs.BareLemmas.{exported-bare}
 use Rattle.rule_witnesses.specs.Bare.{bare_witness}
 use Rattle.rule_witnesses.specs.Jobs.{nodes_of, witnesses_of}
 use Rattle.rule_witnesses.proofs.JobLemmas.{witnesses_bare, nodes-same}
-use Rattle.rule_found.specs.Found.{witnesses_in, is_large, found_from, is_large_from, found_under, is_large_under, brings}
+use Rattle.rule_found.specs.Found.{witnesses_in, is_large, found_under, brings}
 
 -- ---- one item
 
@@ -42,42 +39,6 @@ module _ (number : ℕ) (rule : Rule) (f : FormulaOf) (is : IsFormulaOf rule f) 
 
   pub one_large : 1000000 < nodes_of (witnesses_of f g rule.exports number item env) → is_large number rule item (Some g) (bare_env env) ≡ true
   one_large h = ap (λ n. nat_lt 1000000 n) (sym size) ∙ beyond_most (nodes_of (witnesses_of f g rule.exports number item env)) h
-
--- ---- one item after another
-
-module _ (number : ℕ) (rule : Rule) (env : Pairs) where
-  next_found : (items : List Item) (i at : ℕ) → i < length items
-      → found_from number rule at (drop i items) env
-      ≡ map bare_witness (witnesses_in number rule at (item_graph (slice_get items i)) env) ++ found_from number rule (suc at) (drop (suc i) items) env
-  next_found [] i at lt = absurd (omega arith)
-  next_found (x ∷ xs) zero at lt = refl
-  next_found (x ∷ xs) (suc i) at lt = next_found xs i at (omega arith)
-
-  next_large : (items : List Item) (i at : ℕ) → i < length items
-      → is_large_from number rule at (drop i items) env
-      ≡ (is_large number rule at (item_graph (slice_get items i)) env || is_large_from number rule (suc at) (drop (suc i) items) env)
-  next_large [] i at lt = absurd (omega arith)
-  next_large (x ∷ xs) zero at lt = refl
-  next_large (x ∷ xs) (suc i) at lt = next_large xs i at (omega arith)
-
-  pub found_more : (items : List Item) (i : ℕ) (done now : List RuleWitness) → i < length items
-      → now ≡ done ++ map bare_witness (witnesses_in number rule i (item_graph (slice_get items i)) env)
-      → done ++ found_from number rule i (drop i items) env ≡ found_under number rule items env
-      → now ++ found_from number rule (i + 1) (drop (i + 1) items) env ≡ found_under number rule items env
-  found_more items i done now lt n h =
-      let more = map bare_witness (witnesses_in number rule i (item_graph (slice_get items i)) env) in
-      let one : i + 1 ≡ suc i = omega arith in
-      (λ j. n j ++ found_from number rule (one j) (drop (one j) items) env)
-      ∙ append_assoc done more (found_from number rule (suc i) (drop (suc i) items) env)
-      ∙ ap (λ ws. done ++ ws) (sym (next_found items i i lt)) ∙ h
-
-  pub large_step : (items : List Item) (i : ℕ) → i < length items
-      → is_large_from number rule i (drop i items) env
-      ≡ (is_large number rule i (item_graph (slice_get items i)) env || is_large_from number rule (i + 1) (drop (i + 1) items) env)
-  large_step items i lt =
-      let one : suc i ≡ i + 1 = omega arith in
-      next_large items i i lt
-      ∙ (λ j. is_large number rule i (item_graph (slice_get items i)) env || is_large_from number rule (one j) (drop (one j) items) env)
 
 -- ---- what witnesses bring
 

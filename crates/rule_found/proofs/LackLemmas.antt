@@ -1,5 +1,5 @@
 -- In an item that lacks a word which the rule's formula needs nothing is found.
-use Rattle.std.proofs.Common.{◌≡◌, ◌<◌, ◌+◌, ◌^◌, ℕ, zero, suc, Bool, true, false, not, refl, sym, ap, ap₂, ◌∙◌, arith, Option, None, Some, IfSome, List, [], ◌∷◌, ◌++◌, map, nat_lt}
+use Rattle.std.proofs.Common.{◌≡◌, ◌<◌, ◌+◌, ◌^◌, ℕ, zero, suc, Bool, true, false, not, refl, sym, ap, ap₂, ◌∙◌, arith, Option, None, Some, IfSome, List, [], ◌∷◌, ◌++◌, map}
 use Rattle.std.specs.List.{filter, flat_map}
 use Rattle.std.proofs.lemmas.List.Concat.{flat_map-append}
 use Rattle.c_terms.specs.declared.tree.Tree.{Tree}
@@ -24,10 +24,9 @@ use Rattle.wit_trees.specs.Forest.{numbers}
 use Rattle.wit_trees.specs.Rules.{witness_at, choices, in_order}
 use Rattle.env_parts.specs.Parts.{Pairs}
 use Rattle.item_graphs.specs.Trees.{item_tree}
-use Rattle.rule_witnesses.specs.Jobs.{nodes_of}
 use Rattle.need_words.specs.Words.{needs, has_word, has_words}
 use Rattle.need_words.proofs.HoldWords.{holds_no}
-use Rattle.rule_found.specs.Found.{witnesses_in, is_large}
+use Rattle.rule_found.specs.Found.{witnesses_in}
 use Rattle.rule_found.specs.Lacking.{AreNeeded, misses}
 
 filter_none : {X : Type 0} (q : X → Bool) (xs : List X) → ((x : X) → q x ≡ false) → filter q xs ≡ []

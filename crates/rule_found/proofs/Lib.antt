@@ -1,6 +1,9 @@
 pub mod FoundLemmas
 pub mod LackLemmas
 pub mod AddLemmas
-pub mod PartLemmas
+pub mod AskedLemmas
 pub mod ChosenLemmas
-pub mod GatherLemmas
+pub mod EachLemmas
+pub mod ItemLemmas
+pub mod KeptLemmas
+pub mod Crossing

@@ -1,6 +1,5 @@
 -- Exported variables that have no value yet.
 use Rattle.std.specs.Prelude.{Bool, true, ◌&&◌, not, is_some, List, [], ◌∷◌}
-use Rattle.std.specs.List.{list_all}
 use Rattle.smpl_terms.specs.declared.var.Var.{Var}
 use Rattle.smpl_terms.specs.Environments.{value_in}
 use Rattle.env_parts.specs.Parts.{Pairs, is_among}
@@ -9,7 +8,3 @@ use Rattle.env_parts.specs.Parts.{Pairs, is_among}
 abbrev pub are_new : List Var → Pairs → Bool
 are_new [] env = true
 are_new (x ∷ xs) env = not (is_some (value_in env x)) && (not (is_among xs x) && are_new xs env)
-
--- in none of the environments
-abbrev pub all_new : List Var → List Pairs → Bool
-all_new exports envs = list_all (are_new exports) envs

@@ -4,10 +4,11 @@ pub mod Found
 pub mod Lacking
 -- For inside use: what is found under several environments, a list for each.
 pub mod Lists
--- For inside use: what is found in one item, and what is lent to its job.
-pub mod Parts
-pub mod Lent
-pub mod Asked
--- For inside use: the items that are looked at, and what is found in several.
+-- For inside use: the items in which a rule may find something, and the graphs that are lent to their jobs.
 pub mod Chosen
-pub mod Gathered
+pub mod Lent
+-- For inside use: what one job is asked, and what it finds.
+pub mod Asked
+pub mod Jobs
+-- For inside use: what is kept of the items for the environments after the first.
+pub mod Kept

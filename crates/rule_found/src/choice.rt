@@ -1,10 +1,10 @@
 // The items in which a rule may find something.
-ghost use Rattle.std.specs.Prelude.{◌≡◌, ◌<◌, ◌^◌, ℕ, All, IfOk, IfSome, OnOk, true, false, length, slice_get};
+ghost use Rattle.std.specs.Prelude.{◌≡◌, ◌<◌, ◌≤◌, ◌^◌, ℕ, IfOk, IfSome, OnOk, Some, true, false, length, slice_get};
 ghost use Rattle.cfg_build.specs.Graphs.{node_count};
 ghost use Rattle.ctl_translate.specs.Answers.{IsFormulaOf};
 ghost use Rattle.item_graphs.specs.Made.{IsMade};
 ghost use Rattle.item_graphs.specs.Trees.{item_tree};
-ghost use Rattle.rule_found.specs.Chosen.{FindsNothing, AreChosen};
+ghost use Rattle.rule_found.specs.Chosen.{FindsNothing, AreChosen, AreReady};
 ghost use Rattle.rule_found.specs.Lacking.{AreNeeded, misses};
 
 use c_terms::{NoMemory, Text};
@@ -18,6 +18,9 @@ use std::alloc::Global;
 /// The most tokens of a rule whose words are looked for: that costs words times its formula.
 const MOST_TOKENS: usize = 1_000;
 
+/// The most items: a witness carries the number of its item in 32 bits.
+const MOST_ITEMS: usize = 4_294_967_296;
+
 /// Words that the formula needs: all of them, or none where the rule has too many tokens.
 fn words_of(alloc: Global, f: &Formula) -> Result<Items<Text>, NoMemory>
     ensures { IfOk result (λ words. AreNeeded words f.now) }
@@ -26,16 +29,6 @@ fn words_of(alloc: Global, f: &Formula) -> Result<Items<Text>, NoMemory>
         return Ok(Items::new(alloc));
     }
     needed_words(alloc, f)
-}
-
-/// The number that witnesses carry. From 2^32 on it is refused as if memory had run out.
-fn item_number(i: usize) -> Result<u32, NoMemory>
-    ensures { IfOk result (λ item. item ≡ i) }
-{
-    if i > u32::MAX as usize {
-        return Err(NoMemory);
-    }
-    Ok(i as u32)
 }
 
 /// Whether the item has a tree in which one of the words doesn't stand. Makes no graph.
@@ -77,28 +70,32 @@ fn may_find(
     }
 }
 
-/// The items in which the rule may find something, by their numbers, rising. Makes their graphs, where they aren't made.
+/// For each item whether the rule may find something in it. Makes the graphs of those in which it may, where they aren't made.
+///
+/// More than 2^32 items are refused as if memory had run out.
 pub fn choose(
     alloc: Global,
     rule: &Rule,
     f: &Formula,
     graphs: &mut Graphs<'_>,
     count: usize,
-) -> Result<Vec<u32>, NoMemory>
+) -> Result<Vec<bool>, NoMemory>
     requires formula { IsFormulaOf rule.now f.now }
     requires count { count ≡ length graphs.old.items }
-    ensures made { IfOk result (λ chosen. All (λ i. IsMade graphs.new i) chosen.items) }
+    ensures ready { IfOk result (λ chosen. AreReady graphs.new chosen.items) }
     ensures chosen { IfOk result (λ chosen. AreChosen rule.now graphs.old.items chosen.items) }
+    ensures few { OnOk result (count ≤ 2 ^ 32) }
     ensures items { graphs.new.items ≡ graphs.old.items }
     ensures kept { (k : ℕ) → IsMade graphs.old k → IsMade graphs.new k }
 {
+    if count > MOST_ITEMS {
+        return Err(NoMemory);
+    }
     let words = words_of(alloc, f)?;
     let mut chosen = Vec::new(alloc);
     for i in 0..count {
-        let item = item_number(i)?;
-        if may_find(alloc, rule, f, words.as_slice(), graphs, i)? {
-            chosen.push(item)?;
-        }
+        let may = may_find(alloc, rule, f, words.as_slice(), graphs, i)?;
+        chosen.push(may)?;
     }
     Ok(chosen)
 }

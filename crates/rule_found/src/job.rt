@@ -1,47 +1,138 @@
-// One job: what a formula finds in one item.
-ghost use Rattle.std.specs.Prelude.{◌≡◌, ◌<◌, ◌≤◌, [], All, IfOk, Err};
+// One job: what a formula finds in one item under one environment.
+ghost use Rattle.std.specs.Prelude.{◌≡◌, ◌<◌, [], Some, IfOk, IfErr, Err, cond};
 ghost use Rattle.ctl_formula.specs.Formulas.{plain};
 ghost use Rattle.ctl_holds.specs.Parts.{EachPattern};
 ghost use Rattle.ctl_holds.specs.BoundLaw.{SureStand};
 ghost use Rattle.rule_witnesses.specs.Choices.{AreNew};
-ghost use Rattle.rule_witnesses.specs.Jobs.{BindsExports, witnesses_of};
+ghost use Rattle.rule_witnesses.specs.Jobs.{BindsExports, nodes_of, witnesses_of};
 ghost use Rattle.rule_witnesses.specs.declared.fault.JobFault.TheVariants as fault;
-ghost use Rattle.rule_found.specs.Parts.{AreParts, IsOver};
+ghost use Rattle.rule_found.specs.Jobs.{AreFoundBy};
+ghost use Rattle.rule_found.specs.Kept.{IsKept};
+ghost use Rattle.rule_found.specs.declared.job.Kept.TheVariants as held;
 
-use crate::part::{Part, with_part};
 use cfg_graph::Graph;
 use ctl_formula::Formula;
-use rule_witnesses::{JobFault, item_witnesses, match_item};
+use rule_witnesses::{JobFault, Matched, item_witnesses, match_item};
+use smpl_patch::RuleWitness;
 use smpl_terms::{Env, Var};
+use sqlite_items::Items;
 use std::alloc::Global;
 
-/// What a formula finds in one item under each environment. Where it holds at no node no environment is looked at.
-pub fn in_item(
+/// What is kept of an item for the environments after the first.
+#[derive(Drop)]
+pub enum Kept {
+    /// Nothing: the item is matched anew under each.
+    Anew,
+    /// The formula holds at no node.
+    Nowhere,
+    /// Where the formula holds.
+    Sets(Matched),
+}
+
+/// What is found in one item under the first environment, and what is kept of it for later ones.
+#[derive(Drop)]
+pub struct First {
+    pub found: Items<RuleWitness>,
+    pub kept: Kept,
+}
+
+impl First {
+    /// Nothing is found, under any environment.
+    pub fn nothing(alloc: Global) -> First
+        ensures found { result.found ≡ [] }
+        ensures kept { result.kept ≡ held.Nowhere }
+    {
+        First {
+            found: Items::new(alloc),
+            kept: Kept::Nowhere,
+        }
+    }
+}
+
+fn kept_if(keep: bool, matched: Matched) -> Kept
+    ensures { result ≡ cond keep (held.Sets matched) held.Anew }
+{
+    if !keep {
+        return Kept::Anew;
+    }
+    Kept::Sets(matched)
+}
+
+/// What is found in an item under an environment, and where the formula holds, if that is to be kept.
+pub fn first_found(
     alloc: Global,
     number: u32,
     f: &Formula,
     exports: &[Var],
     g: &Graph<'_>,
     item: u32,
-    envs: &[Env],
-) -> Result<Vec<Part>, JobFault>
+    env: &Env,
+    keep: bool,
+) -> Result<First, JobFault>
     requires stand { EachPattern (SureStand f.now.decls f.now.tokens) (plain f.now) }
     requires binds { BindsExports f.now exports.now }
-    requires new { All (AreNew exports.now) envs.now }
-    ensures parts { IfOk result (λ parts. AreParts (witnesses_of f.now g.now exports.now number item) envs.now parts.items) }
-    ensures too_many { result ≡ Err fault.TooMany → IsOver (witnesses_of f.now g.now exports.now number item) envs.now }
+    requires new { AreNew exports.now env.now }
+    ensures found { IfOk result (λ first. AreFoundBy (witnesses_of f.now g.now exports.now number item env.now) first.found) }
+    ensures kept { IfOk result (λ first. IsKept f.now (Some g.now) first.kept) }
+    ensures too_many { result ≡ Err fault.TooMany → 1000000 < nodes_of (witnesses_of f.now g.now exports.now number item env.now) }
 {
     // Their clauses say that the graph is sound and the root is in the table, which the proof asks for.
     let _count = g.count();
     let _root = f.root();
     let matched = match_item(alloc, g, f)?;
-    let mut parts = Vec::new(alloc);
     if matched.nodes.is_empty() {
-        return Ok(parts);
+        return Ok(First::nothing(alloc));
     }
-    for k in 0..envs.len() {
-        let found = item_witnesses(alloc, g, f, &matched, exports, number, item, &envs[k])?;
-        with_part(&mut parts, k, found)?;
+    let found = item_witnesses(alloc, g, f, &matched, exports, number, item, env)?;
+    Ok(First {
+        found,
+        kept: kept_if(keep, matched),
+    })
+}
+
+/// What is found in an item under an environment. Matches the item, and keeps nothing.
+fn found_anew(
+    alloc: Global,
+    number: u32,
+    f: &Formula,
+    exports: &[Var],
+    g: &Graph<'_>,
+    item: u32,
+    env: &Env,
+) -> Result<Items<RuleWitness>, JobFault>
+    requires stand { EachPattern (SureStand f.now.decls f.now.tokens) (plain f.now) }
+    requires binds { BindsExports f.now exports.now }
+    requires new { AreNew exports.now env.now }
+    ensures found { IfOk result (λ found. AreFoundBy (witnesses_of f.now g.now exports.now number item env.now) found) }
+    ensures too_many { result ≡ Err fault.TooMany → 1000000 < nodes_of (witnesses_of f.now g.now exports.now number item env.now) }
+{
+    let First { found, kept: _ } = first_found(alloc, number, f, exports, g, item, env, false)?;
+    Ok(found)
+}
+
+/// What is found in an item under one more environment, by what is kept of it.
+pub fn next_found(
+    alloc: Global,
+    number: u32,
+    f: &Formula,
+    exports: &[Var],
+    g: &Graph<'_>,
+    kept: &Kept,
+    item: u32,
+    env: &Env,
+) -> Result<Items<RuleWitness>, JobFault>
+    requires stand { EachPattern (SureStand f.now.decls f.now.tokens) (plain f.now) }
+    requires binds { BindsExports f.now exports.now }
+    requires new { AreNew exports.now env.now }
+    requires kept { IsKept f.now (Some g.now) kept.now }
+    ensures found { IfOk result (λ found. AreFoundBy (witnesses_of f.now g.now exports.now number item env.now) found) }
+    ensures too_many { result ≡ Err fault.TooMany → 1000000 < nodes_of (witnesses_of f.now g.now exports.now number item env.now) }
+{
+    // Its clause says that the graph is sound, which the proof asks for.
+    let _count = g.count();
+    match kept {
+        Kept::Anew => found_anew(alloc, number, f, exports, g, item, env),
+        Kept::Nowhere => Ok(Items::new(alloc)),
+        Kept::Sets(matched) => item_witnesses(alloc, g, f, matched, exports, number, item, env),
     }
-    Ok(parts)
 }

@@ -6,9 +6,9 @@
 #![tactic(auto)]
 
 mod choice;
-mod gather;
 mod job;
-mod part;
+mod lend;
+mod under;
 mod whole;
 mod worker;
 

@@ -1,7 +1,7 @@
 // What a rule finds over all items.
-ghost use Rattle.std.specs.Prelude.{◌≡◌, ◌≤◌, ℕ, All, IfOk, OnOk, Err, map, length, true, false, slice_get, option_copied};
+ghost use Rattle.std.specs.Prelude.{◌≡◌, ◌<◌, ◌≤◌, ◌^◌, ◌++◌, ◌∷◌, [], ℕ, All, IfOk, OnOk, Err, List, map, length, true, false};
 ghost use Rattle.std.specs.List.{flat_map};
-ghost use Rattle.c_file.specs.Fit.{item_graph};
+ghost use Rattle.cpp_lines.specs.declared.reading.Item.{Item};
 ghost use Rattle.ctl_formula.specs.Formulas.{plain};
 ghost use Rattle.ctl_holds.specs.Parts.{EachPattern};
 ghost use Rattle.ctl_holds.specs.BoundLaw.{SureStand};
@@ -13,18 +13,17 @@ ghost use Rattle.rule_witnesses.specs.Choices.{AreNew};
 ghost use Rattle.rule_witnesses.specs.Jobs.{BindsExports};
 ghost use Rattle.rule_witnesses.specs.declared.fault.JobFault.TheVariants as fault;
 ghost use Rattle.rule_found.specs.Found as of;
-ghost use Rattle.par_match.specs.declared.fault.JobFault.TheVariants.{Worker as WorkerStopped};
-ghost use Rattle.rule_found.specs.Chosen.{AreChosen};
+ghost use Rattle.rule_found.specs.Lent.{AreLent};
 ghost use Rattle.rule_found.specs.Lists.{AreFound, AreSmall, IsLargeSomewhere, brought};
 
 use crate::choice::choose;
-use crate::gather::gathered;
-use crate::worker::Finder;
+use crate::lend::lend;
+use crate::under::{AllFirst, jobs_next, under_first, under_next};
 use c_terms::NoMemory;
 use cfg_graph::Graph;
 use ctl_formula::Formula;
 use item_graphs::Graphs;
-use par_match::{Gate, JobFault as Stopped, map_jobs};
+use par_match::Gate;
 use rule_envs::exported;
 use rule_witnesses::JobFault;
 use smpl_patch::{Rule, RuleWitness};
@@ -40,42 +39,23 @@ pub struct Found {
     pub parts: Items<Items<Env>>,
 }
 
-/// The graphs of the items of these numbers; none for an item that was skipped.
-fn lent<'g, 'a>(
-    alloc: Global,
-    graphs: &'g Graphs<'a>,
-    chosen: &[u32],
-) -> Result<Vec<Option<&'g Graph<'a>>>, NoMemory>
-    requires made { All (λ i. IsMade graphs.now i) chosen.now }
-    ensures graphs { IfOk result (λ lent. map option_copied lent.items
-        ≡ map (λ i. item_graph (slice_get graphs.now.items i)) chosen.now) }
+/// One list more.
+fn put_list(lists: &mut Vec<Items<RuleWitness>>, list: Items<RuleWitness>) -> Result<(), NoMemory>
+    ensures added { OnOk result (lists.new.items ≡ lists.old.items ++ list ∷ []) }
 {
-    let mut lent = Vec::with_capacity(alloc, chosen.len())?;
-    for i in chosen {
-        lent.push(graphs.get(*i as usize))?;
-    }
-    Ok(lent)
+    lists.push(list)?;
+    Ok(())
 }
 
-/// What stopped the jobs: the fault of the first of those that met one, or want of memory.
-fn stopped(stop: Stopped<JobFault>) -> JobFault
-    ensures { result ≡ fault.TooMany → (job : ℕ) × (stop ≡ WorkerStopped job fault.TooMany) }
-{
-    match stop {
-        Stopped::Worker(_, fault) => fault,
-        Stopped::NoMemory => JobFault::NoMemory,
-    }
-}
-
-/// For each environment the witnesses under it in the items of these numbers, a job an item.
-fn over_chosen<R: Threads + Sync, G: Gate>(
+/// For each environment the witnesses under it, item by item. Each environment is a call of `map_jobs`; where the formula holds in
+/// the items is found out by the first, and kept, within a bound, if there are others.
+fn over_lent<R: Threads + Sync, G: Gate>(
     rt: &R,
     alloc: Global,
     number: u32,
     rule: &Rule,
     f: &Formula,
-    graphs: &Graphs<'_>,
-    chosen: &[u32],
+    graphs: &[Option<&Graph<'_>>],
     envs: &[Env],
     jobs: u32,
     gate: &G,
@@ -86,27 +66,39 @@ fn over_chosen<R: Threads + Sync, G: Gate>(
     requires stand { EachPattern (SureStand f.now.decls f.now.tokens) (plain f.now) }
     requires binds { BindsExports f.now rule.now.exports }
     requires new { All (AreNew rule.now.exports) envs.now }
-    requires made { All (λ i. IsMade graphs.now i) chosen.now }
-    requires chosen { AreChosen rule.now graphs.now.items chosen.now }
-    ensures found { IfOk result (λ lists. AreFound number rule.now graphs.now.items envs.now lists.items) }
-    ensures few { OnOk result (AreSmall (of.is_large_under number rule.now graphs.now.items) envs.now) }
-    ensures too_many { result ≡ Err fault.TooMany
-        → IsLargeSomewhere (of.is_large_under number rule.now graphs.now.items) envs.now }
+    requires few_items { length graphs.now ≤ 2 ^ 32 }
+    requires some_envs { 0 < length envs.now }
+    ensures found { IfOk result (λ lists. (items : List Item) → AreLent rule.now items graphs.now
+        → AreFound number rule.now items envs.now lists.items) }
+    ensures few { OnOk result ((items : List Item) → AreLent rule.now items graphs.now
+        → AreSmall (of.is_large_under number rule.now items) envs.now) }
+    ensures too_many { result ≡ Err fault.TooMany → (items : List Item) → AreLent rule.now items graphs.now
+        → IsLargeSomewhere (of.is_large_under number rule.now items) envs.now }
 {
-    let lent = lent(alloc, graphs, chosen)?;
-    let finder = Finder {
-        alloc,
-        number,
-        f,
-        exports: rule.exports.as_slice(),
-        envs,
-        items: chosen,
-        graphs: lent.as_slice(),
-    };
-    match map_jobs(rt, alloc, jobs, chosen.len(), &finder, gate) {
-        Ok(found) => Ok(gathered(alloc, envs.len(), found)?),
-        Err(stop) => Err(stopped(stop)),
+    let later = envs.len() > 1;
+    let first = under_first(
+        rt, alloc, number, rule, f, graphs, &envs[0], later, jobs, gate,
+    )?;
+    let AllFirst { found, kept } = first;
+    let jobs_next = jobs_next(jobs, kept.as_slice(), found.len());
+    let mut lists = Vec::new(alloc);
+    put_list(&mut lists, found)?;
+    for k in 1..envs.len() {
+        let found = under_next(
+            rt,
+            alloc,
+            number,
+            rule,
+            f,
+            graphs,
+            kept.as_slice(),
+            &envs[k],
+            jobs_next,
+            gate,
+        )?;
+        put_list(&mut lists, found)?;
     }
+    Ok(lists)
 }
 
 /// For each environment the witnesses under it, item by item. Without environments no item is looked at.
@@ -140,14 +132,14 @@ fn over_items<R: Threads + Sync, G: Gate>(
         return Ok(Vec::new(alloc));
     }
     let chosen = choose(alloc, rule, f, graphs, count)?;
-    over_chosen(
+    let lent = lend(alloc, graphs, chosen.as_slice())?;
+    over_lent(
         rt,
         alloc,
         number,
         rule,
         f,
-        graphs,
-        chosen.as_slice(),
+        lent.as_slice(),
         envs,
         jobs,
         gate,
@@ -173,17 +165,22 @@ fn joined(alloc: Global, exports: &[Var], lists: Vec<Items<RuleWitness>>) -> Res
 /// different values of the exported variables in its witnesses. Contracts leave the ids of terms out.
 ///
 /// `number` is the rule's, `f` its formula, and `count` the number of the file's items. The formula binds each exported variable,
-/// and its patterns' sure variables stand in them. Up to `jobs` items are matched at a time, and the gate is told of each before
-/// its job begins.
+/// and its patterns' sure variables stand in them. For each projection `map_jobs` is called once, with a job for each item, of the
+/// item's number; one that was skipped, or lacks a word that the formula needs, is a job that finds nothing. Up to `jobs` items are
+/// matched at a time, and the gate is told of each before its job begins.
 ///
 /// - `TooMany`: the forests of the witnesses in one item under one projection have more than 1,000,000 touches and binds.
 /// - `NoMemory`: memory was refused, the formula's table has 2^32 nodes, or there are more than 2^32 items.
 ///
 /// Costs one [`match_item`](rule_witnesses::match_item) for each item that has a tree with all words that the formula needs, one
 /// [`item_witnesses`](rule_witnesses::item_witnesses) for each item in which it holds somewhere and each projection, which the jobs
-/// share, and one [`exported`] a projection; the words are looked for once in the formula, and once among the tokens of each item.
-/// The graph of an item is made when it is first needed. Of a rule of more than 1,000 tokens no words are looked for. Without
-/// projections nothing is done.
+/// share, and one [`exported`] a projection; a job that answers an empty list costs each other item and projection; the words are
+/// looked for once in the formula, and once among the tokens of each item. The graph of an item is made when it is first needed.
+///
+/// Where there is more than one projection, the sets of the items in which the formula holds somewhere are kept to the end: those of
+/// the first items, as many as have at most 16,777,216 sets in all, one for each part of the formula and each node, of some 30 bytes
+/// and more by their entries. The items behind these in which it holds are matched anew under each projection. Of a rule of more than
+/// 1,000 tokens no words are looked for. Without projections nothing is done.
 pub fn witnesses<R: Threads + Sync, G: Gate>(
     rt: &R,
     alloc: Global,

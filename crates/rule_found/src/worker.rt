@@ -1,64 +1,116 @@
-// What does the jobs: each finds what a formula finds in one item.
-ghost use Rattle.std.specs.Prelude.{◌≡◌, ◌<◌, true, [], Option, length, slice_index_or, IfOk, Err};
+// What does the jobs: each finds what a formula finds in one item under one environment.
+ghost use Rattle.std.specs.Prelude.{◌≡◌, ◌<◌, ◌≤◌, ◌^◌, ℕ, true, length, IfOk, Err};
 ghost use Rattle.ctl_formula.specs.Formulas.{plain};
 ghost use Rattle.ctl_holds.specs.Parts.{EachPattern, each_pattern-prop};
 ghost use Rattle.ctl_holds.specs.BoundLaw.{SureStand, sure_stand-prop};
-ghost use Rattle.rule_witnesses.specs.Jobs.{BindsExports};
+ghost use Rattle.rule_witnesses.specs.Jobs.{BindsExports, nodes_of};
 ghost use Rattle.rule_witnesses.specs.declared.fault.JobFault.TheVariants as fault;
-ghost use Rattle.std.specs.Coded.{Coded-set, coded_bool};
-ghost use Rattle.rule_found.specs.Asked.{all_new};
+ghost use Rattle.rule_found.specs.Asked.{are_new};
+ghost use Rattle.rule_found.specs.Jobs.{AreFoundBy, found_by};
+ghost use Rattle.rule_found.specs.Kept.{IsKept, AreKept, are_kept-prop};
 ghost use Rattle.rule_found.specs.Lent.{lent_graph};
-ghost use Rattle.rule_found.specs.Parts.{AreParts, IsOver, found_by};
 
-use crate::job::in_item;
-use crate::part::Part;
+use crate::job::{First, Kept, first_found, next_found};
 use cfg_graph::Graph;
 use ctl_formula::Formula;
 use par_match::Worker;
 use rule_witnesses::JobFault;
+use smpl_patch::RuleWitness;
 use smpl_terms::{Env, Var};
+use sqlite_items::Items;
 use std::alloc::Global;
 
-/// What is found by a formula in some items, by their graphs, under some environments: a job an item.
+/// Finds what a formula finds in each item under the first environment: a job an item, of the item's number.
 #[derive(Drop)]
-pub struct Finder<'a> {
+pub struct FirstFinder<'a> {
     pub alloc: Global,
     pub number: u32,
     pub f: &'a Formula,
     pub exports: &'a [Var],
-    pub envs: &'a [Env],
-    pub items: &'a [u32],
     pub graphs: &'a [Option<&'a Graph<'a>>],
+    pub env: &'a Env,
+    /// Of so many items, from the first, is kept where the formula holds.
+    pub keep: usize,
     ghost stand: { EachPattern (SureStand f.now.decls f.now.tokens) (plain f.now) } by { each_pattern-prop (SureStand f.now.decls f.now.tokens) (sure_stand-prop f.now.decls f.now.tokens) (plain f.now) },
     ghost binds: { BindsExports f.now exports.now },
-    ghost new: { all_new exports.now envs.now ≡ true },
-    ghost graphs_of_items: { length graphs.now ≡ length items.now },
+    ghost new: { are_new exports.now env.now ≡ true },
+    ghost few: { length graphs.now ≤ 2 ^ 32 },
 }
 
-impl<'a> Worker for Finder<'a> {
-    type Answer = Vec<Part>;
+impl<'a> Worker for FirstFinder<'a> {
+    type Answer = First;
 
     type Fault = JobFault;
 
-    ghost jobs = { λ w. length w.items.now };
+    ghost jobs = { λ w. length w.graphs.now };
 
-    ghost may_answer = { λ w job parts. AreParts
-        (found_by w.f.now w.exports.now w.number (slice_index_or w.items.now job 0) (lent_graph w.graphs.now job)) w.envs.now parts.items };
+    ghost may_answer = { λ w job first.
+        AreFoundBy (found_by w.f.now w.exports.now w.number job (lent_graph w.graphs.now job) w.env.now) first.found
+        × IsKept w.f.now (lent_graph w.graphs.now job) first.kept };
 
-    ghost may_fail = { λ w job why. why ≡ fault.TooMany → IsOver
-        (found_by w.f.now w.exports.now w.number (slice_index_or w.items.now job 0) (lent_graph w.graphs.now job)) w.envs.now };
+    ghost may_fail = { λ w job why. why ≡ fault.TooMany
+        → 1000000 < nodes_of (found_by w.f.now w.exports.now w.number job (lent_graph w.graphs.now job) w.env.now) };
 
-    fn answer(&self, job: usize) -> Result<Vec<Part>, JobFault> {
+    fn answer(&self, job: usize) -> Result<First, JobFault> {
         match self.graphs[job] {
-            None => Ok(Vec::new(self.alloc)),
-            Some(g) => in_item(
+            None => Ok(First::nothing(self.alloc)),
+            Some(g) => first_found(
                 self.alloc,
                 self.number,
                 self.f,
                 self.exports,
                 g,
-                self.items[job],
-                self.envs,
+                job as u32,
+                self.env,
+                job < self.keep,
+            ),
+        }
+    }
+}
+
+/// Finds what a formula finds in each item under one more environment, by what is kept: a job an item, of the item's number.
+#[derive(Drop)]
+pub struct NextFinder<'a> {
+    pub alloc: Global,
+    pub number: u32,
+    pub f: &'a Formula,
+    pub exports: &'a [Var],
+    pub graphs: &'a [Option<&'a Graph<'a>>],
+    pub kept: &'a [Kept],
+    pub env: &'a Env,
+    ghost stand: { EachPattern (SureStand f.now.decls f.now.tokens) (plain f.now) } by { each_pattern-prop (SureStand f.now.decls f.now.tokens) (sure_stand-prop f.now.decls f.now.tokens) (plain f.now) },
+    ghost binds: { BindsExports f.now exports.now },
+    ghost new: { are_new exports.now env.now ≡ true },
+    ghost few: { length graphs.now ≤ 2 ^ 32 },
+    ghost kept_count: { length kept.now ≡ length graphs.now },
+    ghost each_kept: { AreKept f.now graphs.now kept.now } by { are_kept-prop f.now graphs.now kept.now },
+}
+
+impl<'a> Worker for NextFinder<'a> {
+    type Answer = Items<RuleWitness>;
+
+    type Fault = JobFault;
+
+    ghost jobs = { λ w. length w.graphs.now };
+
+    ghost may_answer = { λ w job found.
+        AreFoundBy (found_by w.f.now w.exports.now w.number job (lent_graph w.graphs.now job) w.env.now) found };
+
+    ghost may_fail = { λ w job why. why ≡ fault.TooMany
+        → 1000000 < nodes_of (found_by w.f.now w.exports.now w.number job (lent_graph w.graphs.now job) w.env.now) };
+
+    fn answer(&self, job: usize) -> Result<Items<RuleWitness>, JobFault> {
+        match self.graphs[job] {
+            None => Ok(Items::new(self.alloc)),
+            Some(g) => next_found(
+                self.alloc,
+                self.number,
+                self.f,
+                self.exports,
+                g,
+                &self.kept[job],
+                job as u32,
+                self.env,
             ),
         }
     }

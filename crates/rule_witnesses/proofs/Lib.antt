@@ -5,3 +5,4 @@ pub mod ExtendLemmas
 pub mod JobLemmas
 pub mod MatchLemmas
 mod Examples
+pub mod Crossing

@@ -1,5 +1,5 @@
 -- Numbers of declarations by the names of their variables.
-use Rattle.std.proofs.Common.{◌≡◌, ℕ, ◌+◌, ◌<◌, Bool, true, false, true≢false, ◌&&◌, not, cond, nat_eq, List, [], ◌∷◌, map, length, get_or, drop, refl, sym, ap, ◌∙◌, Option, None, Some, slice_get}
+use Rattle.std.proofs.Common.{◌≡◌, ℕ, ◌+◌, ◌<◌, Bool, true, false, true≢false, ◌&&◌, not, cond, nat_eq, List, [], ◌∷◌, map, length, get_or, drop, refl, sym, ap, ◌∙◌, Option, Some, slice_get}
 use Rattle.std.specs.Map.{lookup}
 use Rattle.std.specs.Cmp.Lexicographic.{pointwise}
 use Rattle.std.proofs.lemmas.List.{drop_more}

@@ -1,14 +1,14 @@
 -- Sets of variables, and loops that put more in.
-use Rattle.std.proofs.Common.{◌≡◌, ℕ, suc, add-one, if◌then◌else◌, ◌+◌, ◌<◌, Bool, true, false, ◌&&◌, ◌||◌, cond, eqb, List, [], ◌∷◌, ◌++◌, map, length, get_or, drop, refl, sym, ap, ◌∙◌}
-use Rattle.std.proofs.lemmas.List.{drop_more}
+use Rattle.std.proofs.Common.{◌≡◌, ℕ, nat_lt, not, None, Some, suc, add-one, if◌then◌else◌, ◌+◌, ◌<◌, Bool, true, false, ◌&&◌, ◌||◌, cond, eqb, List, [], ◌∷◌, ◌++◌, map, length, get_or, drop, refl, sym, ap, ◌∙◌}
+use Rattle.std.proofs.lemmas.List.{drop_more, length-map}
 use Rattle.std.proofs.lemmas.List.Folds.{list_any-append}
-use Rattle.std.specs.List.{list_any}
+use Rattle.std.specs.List.{list_any, position, position_or_len}
 use Rattle.c_terms.proofs.NamesLemmas.{pointwise-same}
 use Rattle.smpl_terms.specs.declared.var.Var.{Var}
 use Rattle.smpl_terms.specs.Vars.{same_var}
 use Rattle.smpl_terms.proofs.VarLaws.{same_var-equal, same_var-sym}
 use Rattle.pattern_vars.specs.declared.set.Key.{Key}
-use Rattle.pattern_vars.specs.Reads.{has}
+use Rattle.pattern_vars.specs.Reads.{has, number_of}
 use Rattle.c_terms.specs.declared.tree.Tree.{Tree}
 use Rattle.smpl_patch.specs.Held.{kept}
 use Rattle.pattern_vars.specs.Keys.{same_key}
@@ -35,6 +35,19 @@ key-same a b = ap (λ (q : Bool). eqb a.var.rule b.var.rule && q) (pointwise-sam
 pub looked_up : (keys : List Key) (k : Key) → list_any (same_key k) keys ≡ has (vars_of keys) k.var
 looked_up [] k = refl
 looked_up (q ∷ keys) k = ap (λ (b : Bool). b || list_any (same_key k) keys) (key-same k q) ∙ ap (λ (b : Bool). same_var q.var k.var || b) (looked_up keys k)
+
+not_found : (keys : List Key) (k : Key) → position_or_len (same_key k) keys ≡ position_or_len (λ v. same_var v k.var) (vars_of keys)
+not_found [] k = refl
+not_found (q ∷ keys) k =
+    ap (λ (b : Bool). cond (not b) (1 + position_or_len (same_key k) keys) 0) (key-same k q)
+    ∙ ap (λ (n : ℕ). cond (not (same_var q.var k.var)) (1 + n) 0) (not_found keys k)
+
+-- the number of a key is that of its variable
+pub numbered : (keys : List Key) (k : Key) → position (same_key k) keys ≡ number_of (vars_of keys) k.var
+numbered keys k =
+    let n = position_or_len (λ v. same_var v k.var) (vars_of keys) in
+    ap (λ (m : ℕ). cond (nat_lt m (length keys)) (Some m) None) (not_found keys k)
+    ∙ ap (λ (m : ℕ). cond (nat_lt n m) (Some n) None) (sym (length-map keys (λ q. q.var)))
 
 vars-append : (keys : List Key) (k : Key) → vars_of (keys ++ k ∷ []) ≡ vars_of keys ++ k.var ∷ []
 vars-append [] k = refl

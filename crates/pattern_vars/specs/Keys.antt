@@ -1,6 +1,5 @@
 -- Variables as keys of a set or a map.
 use Rattle.std.specs.Prelude.{Bool, nat_eq, cond, ◌++◌, List, [], ◌∷◌, Option, None, Some}
-use Rattle.std.specs.List.{list_any}
 use Rattle.std.specs.Ordering.{on, eq_of_both}
 use Rattle.std.specs.Cmp.Lexicographic.{pointwise}
 use Rattle.std.specs.Hash as fed

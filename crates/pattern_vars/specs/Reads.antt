@@ -1,6 +1,6 @@
 -- The variables that stand in a pattern, and those of plus code that is anchored at it.
-use Rattle.std.specs.Prelude.{Bool, ◌||◌, cond, List, slice_get}
-use Rattle.std.specs.List.{list_any}
+use Rattle.std.specs.Prelude.{ℕ, Bool, ◌||◌, cond, List, map, Option, slice_get}
+use Rattle.std.specs.List.{list_any, position}
 use Rattle.c_terms.specs.declared.token.Token.{Token}
 use Rattle.c_terms.specs.declared.tree.Tree.{Tree}
 use Rattle.c_terms.specs.Trees.{leaves}
@@ -15,6 +15,14 @@ use Rattle.smpl_patch.specs.Patterns.{is_own, in_plus, in_first}
 -- the variable is among these
 abbrev pub has : List Var → Var → Bool
 has vars x = list_any (λ y. same_var y x) vars
+
+-- the first place at which the variable stands
+abbrev pub number_of : List Var → Var → Option ℕ
+number_of vars x = position (λ y. same_var y x) vars
+
+-- there is a declaration of the variable
+abbrev pub is_declared : List VarDecl → Var → Bool
+is_declared decls x = has (map (λ d. d.var) decls) x
 
 module _ (decls : List VarDecl) (tokens : List PatToken) where
   -- x is the variable of the token or a position at it, or stands in plus code there, where that counts

@@ -3,7 +3,8 @@
 //! - [`VarSet`] is a set of variables: one look-up tells whether a variable is there.
 //! - [`Decls`] is a rule's declarations, of which one look-up finds what a metavariable's name is declared as.
 //! - [`put_pattern`] puts the variables of a pattern into a set, [`put_block`] those of plus code.
-//! - [`put_sure`] puts those in that stand outside of disjunctions: they have a value wherever the pattern fits.
+//! - [`put_sure`] puts those in that have a value wherever the pattern fits. Of a disjunction these are the ones that all its
+//!   branches have.
 //!
 //! Of `f(x)@p;` with `expression x` and `position p` the set is x and p.
 //!

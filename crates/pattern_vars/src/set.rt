@@ -2,7 +2,7 @@
 ghost use Rattle.std.specs.Prelude.{◌≡◌, ◌||◌, ◌<◌, length, IfOk, OnOk, [], slice_get, Some};
 ghost use Rattle.smpl_terms.specs.declared.var.Var.{Var as Variable};
 ghost use Rattle.smpl_terms.specs.Vars.{same_var};
-ghost use Rattle.pattern_vars.specs.Reads.{has};
+ghost use Rattle.pattern_vars.specs.Reads.{has, number_of};
 
 use c_terms::NoMemory;
 use indexmap::IndexSet;
@@ -96,6 +96,16 @@ impl VarSet {
             var: x.copy(alloc)?,
         };
         Ok(self.set.contains(&key))
+    }
+
+    /// The number of the variable, by which `at` gives it. One look-up and a copy of the variable, linear in the name.
+    pub fn number(&self, alloc: Global, x: &Var) -> Result<Option<usize>, NoMemory>
+        ensures { IfOk result (λ found. found ≡ number_of self.now x.now) }
+    {
+        let key = Key {
+            var: x.copy(alloc)?,
+        };
+        Ok(self.set.get_index_of(&key))
     }
 
     /// How long the list is. Takes no memory.

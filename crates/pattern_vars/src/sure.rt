@@ -1,33 +1,168 @@
 // Variables that patterns surely have.
-ghost use Rattle.std.specs.Prelude.{◌≡◌, ◌||◌, ◌&&◌, true, length, OnOk};
-ghost use Rattle.std.specs.List.{list_any};
-ghost use Rattle.c_terms.specs.Shapes.{shape_of};
+ghost use Rattle.std.specs.Prelude.{◌≡◌, ◌||◌, ◌&&◌, true, length, IfOk, OnOk};
+ghost use Rattle.std.specs.List.{list_any, list_all};
 ghost use Rattle.smpl_terms.specs.declared.var.Var.{Var as Variable};
+ghost use Rattle.smpl_terms.specs.Vars.{same_var};
 ghost use Rattle.smpl_patch.specs.Held as parts;
-ghost use Rattle.smpl_patch.specs.Held.{kept, held};
+ghost use Rattle.smpl_patch.specs.Held.{kept};
 ghost use Rattle.smpl_patch.specs.Patterns as of;
-ghost use Rattle.pattern_vars.specs.Reads.{has};
-ghost use Rattle.pattern_vars.specs.Sure as sure;
+ghost use Rattle.pattern_vars.specs.Reads.{has, is_declared};
+ghost use Rattle.pattern_vars.specs.Sure.{has_unless_all};
 
 use crate::reads::{is_parted, put_own};
 use crate::{Decls, VarSet};
-use c_terms::{Label, NoMemory, Shape, Tree};
-use smpl_patch::{PatToken, Pattern, Spot, is_held};
+use c_terms::{Label, NoMemory, Shape, TokenKind, Tree};
+use smpl_patch::{PatToken, Pattern, Spot, VarDecl, is_held};
+use smpl_terms::Var;
 use std::alloc::Global;
 
-/// Whether a pattern of this label is a disjunction.
-fn is_choice(label: Label) -> bool
-    ensures { result ≡ sure.is_choice (shape_of label) }
+fn is_sign(kind: TokenKind) -> bool
+    ensures { result ≡ of.is_sign kind }
 {
-    match label.shape() {
-        Shape::Or => true,
-        Shape::And => false,
-        Shape::List => false,
-        Shape::Plain => false,
+    match kind {
+        TokenKind::Pat => true,
+        _ => false,
     }
 }
 
-/// Puts the variables of the tokens in that no disjunction of the tree holds.
+fn is_sign_tree(tree: &Tree) -> bool
+    ensures { result ≡ of.is_sign_tree tree.now }
+{
+    match tree {
+        Tree::Leaf(token) => is_sign(token.kind),
+        Tree::Branch(_, _) => false,
+    }
+}
+
+/// The variables of all declarations.
+fn declared_of(alloc: Global, decls: &[VarDecl]) -> Result<VarSet, NoMemory>
+    ensures { IfOk result (λ all. (y : Variable) → has all y ≡ is_declared decls.now y) }
+{
+    let mut all = VarSet::new(alloc);
+    for d in decls {
+        all.put(alloc, &d.var)?;
+    }
+    Ok(all)
+}
+
+/// Puts in the variables of another set.
+fn put_set(alloc: Global, other: &VarSet, set: &mut VarSet) -> Result<(), NoMemory>
+    ensures { OnOk result ((y : Variable) → has set.new y ≡ (has set.old y || has other.now y)) }
+{
+    for i in 0..other.len() {
+        set.put(alloc, other.at(i))?;
+    }
+    Ok(())
+}
+
+/// Puts the variable in, if the other set has it.
+fn put_if_in(alloc: Global, x: &Var, other: &VarSet, set: &mut VarSet) -> Result<(), NoMemory>
+    ensures { OnOk result ((y : Variable) → has set.new y ≡ (has set.old y || (same_var x.now y && has other.now y))) }
+{
+    if other.has(alloc, x)? {
+        set.put(alloc, x)?;
+    }
+    Ok(())
+}
+
+/// The variables that both sets have. A look-up for each of the first set's.
+fn met(alloc: Global, one: &VarSet, other: &VarSet) -> Result<VarSet, NoMemory>
+    ensures { IfOk result (λ both. (y : Variable) → has both y ≡ (has one.now y && has other.now y)) }
+{
+    let mut both = VarSet::new(alloc);
+    for i in 0..one.len() {
+        put_if_in(alloc, one.at(i), other, &mut both)?;
+    }
+    Ok(both)
+}
+
+/// What the branches so far have in common, met with the variables of one more. `None` stands for all variables.
+fn met_with(alloc: Global, common: Option<VarSet>, own: VarSet) -> Result<VarSet, NoMemory>
+    ensures { IfOk result (λ both. (y : Variable) → has both y ≡ (has_unless_all common y && has own y)) }
+{
+    match common {
+        None => Ok(own),
+        Some(set) => met(alloc, &set, &own),
+    }
+}
+
+/// The same for a branch of a disjunction, which may be a sign.
+#[cycle(sure)]
+fn common_with(
+    alloc: Global,
+    decls: &Decls,
+    tokens: &[PatToken],
+    branch: &Tree,
+    common: Option<VarSet>,
+) -> Result<Option<VarSet>, NoMemory>
+    ensures { IfOk result (λ both. (y : Variable) → is_declared decls.now y ≡ true → has_unless_all both y
+        ≡ (has_unless_all common y && (of.is_sign_tree branch.now || of.is_sure decls.now tokens.now y branch.now))) }
+{
+    if is_sign_tree(branch) {
+        return Ok(common);
+    }
+    let mut own = VarSet::new(alloc);
+    put_sure_in(alloc, decls, tokens, branch, &mut own)?;
+    Ok(Some(met_with(alloc, common, own)?))
+}
+
+/// The declared variables that all branches have but for signs.
+#[cycle(sure)]
+fn common_of(
+    alloc: Global,
+    decls: &Decls,
+    tokens: &[PatToken],
+    branches: &[Tree],
+) -> Result<VarSet, NoMemory>
+    ensures { IfOk result (λ common. (y : Variable) → is_declared decls.now y ≡ true → has common y
+        ≡ list_all (λ t. of.is_sign_tree t || of.is_sure decls.now tokens.now y t) branches.now) }
+{
+    let mut common = None;
+    for branch in branches {
+        common = common_with(alloc, decls, tokens, branch, common)?;
+    }
+    match common {
+        None => declared_of(alloc, decls.as_slice()),
+        Some(set) => Ok(set),
+    }
+}
+
+/// Puts in the variables that all branches have.
+#[cycle(sure)]
+fn put_common(
+    alloc: Global,
+    decls: &Decls,
+    tokens: &[PatToken],
+    branches: &[Tree],
+    set: &mut VarSet,
+) -> Result<(), NoMemory>
+    ensures { OnOk result ((y : Variable) → is_declared decls.now y ≡ true → has set.new y
+        ≡ (has set.old y || list_all (λ t. of.is_sign_tree t || of.is_sure decls.now tokens.now y t) branches.now)) }
+{
+    let common = common_of(alloc, decls, tokens, branches)?;
+    put_set(alloc, &common, set)
+}
+
+/// Puts in the variables that any of the trees has.
+#[cycle(sure)]
+fn put_each(
+    alloc: Global,
+    decls: &Decls,
+    tokens: &[PatToken],
+    trees: &[Tree],
+    set: &mut VarSet,
+) -> Result<(), NoMemory>
+    ensures { OnOk result ((y : Variable) → is_declared decls.now y ≡ true → has set.new y
+        ≡ (has set.old y || list_any (λ t. of.is_sure decls.now tokens.now y t) trees.now)) }
+{
+    for tree in trees {
+        put_sure_in(alloc, decls, tokens, tree, set)?;
+    }
+    Ok(())
+}
+
+/// Puts in the variables that the tree surely has.
+#[cycle(sure)]
 fn put_sure_in(
     alloc: Global,
     decls: &Decls,
@@ -35,20 +170,17 @@ fn put_sure_in(
     tree: &Tree,
     set: &mut VarSet,
 ) -> Result<(), NoMemory>
-    ensures { OnOk result ((y : Variable) → has set.new y
-        ≡ (has set.old y || sure.is_outside decls.now tokens.now y tree.now)) }
+    ensures { OnOk result ((y : Variable) → is_declared decls.now y ≡ true → has set.new y
+        ≡ (has set.old y || of.is_sure decls.now tokens.now y tree.now)) }
 {
     match tree {
         Tree::Leaf(token) => put_own(alloc, decls, tokens, token, set),
-        Tree::Branch(label, children) => {
-            if is_choice(*label) {
-                return Ok(());
-            }
-            for child in children.as_slice() {
-                put_sure_in(alloc, decls, tokens, child, set)?;
-            }
-            Ok(())
-        }
+        Tree::Branch(label, children) => match label.shape() {
+            Shape::Or => put_common(alloc, decls, tokens, children.as_slice(), set),
+            Shape::And => put_each(alloc, decls, tokens, children.as_slice(), set),
+            Shape::List => put_each(alloc, decls, tokens, children.as_slice(), set),
+            Shape::Plain => put_each(alloc, decls, tokens, children.as_slice(), set),
+        },
     }
 }
 
@@ -60,8 +192,8 @@ fn put_sure_where(
     tree: &Tree,
     set: &mut VarSet,
 ) -> Result<(), NoMemory>
-    ensures { OnOk result ((y : Variable) → has set.new y
-        ≡ (has set.old y || (here && sure.is_outside decls.now tokens.now y tree.now))) }
+    ensures { OnOk result ((y : Variable) → is_declared decls.now y ≡ true → has set.new y
+        ≡ (has set.old y || (here && of.is_sure decls.now tokens.now y tree.now))) }
 {
     if here {
         put_sure_in(alloc, decls, tokens, tree, set)?;
@@ -78,8 +210,8 @@ fn put_sure_kept(
     trees: &[Tree],
     set: &mut VarSet,
 ) -> Result<(), NoMemory>
-    ensures { OnOk result ((y : Variable) → has set.new y
-        ≡ (has set.old y || list_any (sure.is_outside decls.now tokens.now y)
+    ensures { OnOk result ((y : Variable) → is_declared decls.now y ≡ true → has set.new y
+        ≡ (has set.old y || list_any (of.is_sure decls.now tokens.now y)
         (kept (parts.is_held spot label (length trees.now)) 0 trees.now))) }
 {
     for i in 0..trees.len() {
@@ -98,8 +230,8 @@ fn put_sure_held(
     form: &Tree,
     set: &mut VarSet,
 ) -> Result<(), NoMemory>
-    ensures { OnOk result ((y : Variable) → has set.new y
-        ≡ (has set.old y || list_any (sure.is_outside decls.now tokens.now y) (held spot form.now))) }
+    ensures { OnOk result ((y : Variable) → is_declared decls.now y ≡ true → has set.new y
+        ≡ (has set.old y || of.held_sure decls.now tokens.now spot y form.now)) }
 {
     match form {
         Tree::Leaf(_) => put_sure_in(alloc, decls, tokens, form, set),
@@ -113,8 +245,9 @@ fn put_sure_held(
     }
 }
 
-/// Puts the variables of all tokens in that stand in what is compared of the pattern's first form, and in no disjunction
-/// there. The pattern surely has them. Linear in the pattern, where no hashes collide. Recurses once a level.
+/// Puts in the variables that the pattern surely has: those of its tokens, and of a disjunction those that all its
+/// branches have. Of a disjunction without branches these are all declared variables. Recurses once a level. Linear in the
+/// pattern times how deep its disjunctions stand in one another, where no hashes collide.
 pub fn put_sure(
     alloc: Global,
     decls: &Decls,
@@ -122,10 +255,8 @@ pub fn put_sure(
     p: &Pattern,
     set: &mut VarSet,
 ) -> Result<(), NoMemory>
-    ensures value { OnOk result ((y : Variable) → has set.new y
-        ≡ (has set.old y || sure.outside decls.now tokens.now p.now y)) }
-    ensures sure { (y : Variable) → sure.outside decls.now tokens.now p.now y ≡ true
-        → of.sure decls.now tokens.now p.now y ≡ true }
+    ensures { OnOk result ((y : Variable) → is_declared decls.now y ≡ true → has set.new y
+        ≡ (has set.old y || of.sure decls.now tokens.now p.now y)) }
 {
     match p.forms.as_slice() {
         [form, ..] => put_sure_held(alloc, decls, tokens, p.spot, form, set),

@@ -1,4 +1,4 @@
-use Rattle.std.proofs.Common.{◌≡◌, ◌+◌, ◌-◌, ◌<◌, ap, sym, ◌∙◌, drop, length, arith}
+use Rattle.std.proofs.Common.{◌≡◌, ◌+◌, ◌-◌, ap, sym, ◌∙◌, drop, arith}
 use Rattle.smpl_patch.specs.Patterns.{declared_as}
 use Rattle.pattern_vars.specs.Index.{number_in, at}
 use Rattle.pattern_vars.proofs.IndexLemmas.{finds-more, pairs}

@@ -1,4 +1,4 @@
-use Rattle.std.proofs.Common.{◌≡◌, ap, sym, ◌∙◌, ◌&&◌, not, Bool, cond, Some, List, ℕ}
+use Rattle.std.proofs.Common.{ap, sym, ◌∙◌, ◌&&◌, not, Bool, cond, Some, List, ℕ}
 use Rattle.c_terms.specs.Same.{same_bytes}
 use Rattle.smpl_patch.specs.Patterns.{is_position_kind}
 use Rattle.pattern_vars.specs.Index.{number_in}

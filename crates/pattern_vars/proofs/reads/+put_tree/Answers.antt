@@ -1,4 +1,4 @@
-use Rattle.std.proofs.Common.{ap, sym, ◌∙◌, refl, arith, List, ℕ, map, length}
+use Rattle.std.proofs.Common.{refl, arith, List, map}
 use Rattle.std.specs.List.{list_any}
 use Rattle.c_terms.specs.declared.tree.Tree.{Tree}
 use Rattle.c_terms.specs.Trees.{join, leaves}

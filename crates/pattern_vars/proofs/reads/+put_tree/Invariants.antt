@@ -1,4 +1,4 @@
-use Rattle.std.proofs.Common.{◌≡◌, ◌||◌, drop, map, length}
+use Rattle.std.proofs.Common.{◌≡◌, ◌||◌, drop, map}
 use Rattle.std.specs.List.{list_any}
 use Rattle.smpl_terms.specs.declared.var.Var.{Var as Variable}
 use Rattle.c_terms.specs.Trees.{join, leaves}

@@ -1,4 +1,4 @@
-use Rattle.std.proofs.Common.{ap, sym, ◌∙◌, refl, arith, List, ℕ, map, length}
+use Rattle.std.proofs.Common.{refl, arith, List}
 use Rattle.std.specs.List.{list_any}
 use Rattle.smpl_patch.specs.declared.pattern.PlusLine.{PlusLine}
 use Rattle.smpl_patch.specs.Patterns.{in_line}

@@ -1,6 +1,4 @@
-use Rattle.std.proofs.Common.{Bool, ◌||◌, ◌&&◌, ap, sym, ◌∙◌, refl, arith, List, ℕ, map, length}
-use Rattle.std.specs.List.{list_any}
-use Rattle.c_terms.specs.declared.tree.Tree.{Tree}
+use Rattle.std.proofs.Common.{Bool, ◌||◌, ◌&&◌, ap, ◌∙◌, arith, length}
 use Rattle.smpl_patch.specs.Held.{is_held}
 use Rattle.pattern_vars.specs.Reads.{has, reads_tree}
 use Rattle.pattern_vars.proofs.SetLemmas.{kept-step, kept-end}

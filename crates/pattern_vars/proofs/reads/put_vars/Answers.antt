@@ -1,5 +1,4 @@
-use Rattle.std.proofs.Common.{ap, sym, ◌∙◌, refl, arith, List, ℕ, map, length}
-use Rattle.std.specs.List.{list_any}
+use Rattle.std.proofs.Common.{refl, arith, List}
 use Rattle.smpl_terms.specs.declared.var.Var.{Var}
 use Rattle.smpl_terms.specs.Vars.{same_var}
 use Rattle.pattern_vars.specs.Reads.{has}

@@ -1,5 +1,4 @@
-use Rattle.std.proofs.Common.{◌≡◌, ◌||◌, drop, map, length}
-use Rattle.std.specs.List.{list_any}
+use Rattle.std.proofs.Common.{◌≡◌, ◌||◌, drop}
 use Rattle.smpl_terms.specs.declared.var.Var.{Var as Variable}
 use Rattle.pattern_vars.specs.Reads.{has}
 use Rattle.pattern_vars.proofs.reads.put_vars.Given as goal

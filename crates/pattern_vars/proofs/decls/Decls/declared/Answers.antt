@@ -1,4 +1,4 @@
-use Rattle.std.proofs.Common.{◌≡◌, ap, ◌∙◌, Some, None, slice_get}
+use Rattle.std.proofs.Common.{◌≡◌, ap, ◌∙◌, Some, slice_get}
 use Rattle.smpl_patch.specs.Patterns.{declared_as}
 use Rattle.pattern_vars.specs.Index.{number_in, at}
 use Rattle.pattern_vars.proofs.IndexLemmas.{found, pairs}

@@ -1,11 +1,8 @@
 -- Where the variables of a sequence are quantified: by where each of them is, and element by element.
 use Rattle.std.proofs.Common.{◌≡◌, ℕ, suc, ◌+◌, ◌<◌, Bool, true, false, true≢false, not, ◌&&◌, ◌||◌, cond, nat_eq, refl, sym, ap, ◌∙◌, arith}
-use Rattle.std.proofs.Common.{List, [], ◌∷◌, ◌++◌, length, get_or, take, drop, ◌-◌, subst, length-drop, append-nil, Option, None, Some}
+use Rattle.std.proofs.Common.{List, [], ◌∷◌, ◌++◌, length, get_or, take, drop, ◌-◌, subst, length-drop, Option, None, Some}
 use Rattle.std.specs.List.{filter}
-use Rattle.std.proofs.Math.Path.{fun_ext}
 use Rattle.std.proofs.Math.Seq.{take-length}
-use Rattle.std.proofs.lemmas.List.{nil_from_length}
-use Rattle.std.proofs.lemmas.List.Elements.{filter_more}
 use Rattle.std.proofs.lemmas.Bool.Decides.{nat_tests}
 use Rattle.smpl_terms.specs.declared.var.Var.{Var}
 use Rattle.smpl_patch.specs.declared.pattern.Pattern.{Pattern}
@@ -19,7 +16,7 @@ use Rattle.var_places.specs.declared.homes.Home.{Home}
 use Rattle.var_places.specs.declared.place.Place.{Place}
 use Rattle.var_places.specs.declared.place.Shares.{Shares}
 use Rattle.var_places.specs.Places.{places, later_at}
-use Rattle.var_places.proofs.KeptLemmas.{drop-here, filter-same}
+use Rattle.var_places.proofs.KeptLemmas.{drop-here, filter-same, filter-filter}
 use Rattle.var_places.specs.Homes.{home_in, AreHomes, passes, is_here, is_within, shares_from, scoped}
 
 -- tests
@@ -96,15 +93,6 @@ module _ (test : Pattern → Bool) where
         or-both (any_body false test b) (any_bodies false test bs) (any_body true test b) (any_bodies true test bs) (stands-body b) (stands-bodies bs) h
 
 -- lists that pass tests
-
-filter-filter : (p q : Var → Bool) (w : List Var) → filter q (filter p w) ≡ filter (λ x. p x && q x) w
-filter-filter p q [] = refl
-filter-filter p q (x ∷ w) = by (p x) (filter-filter p q w)
-  where
-    by : (b : Bool) → filter q (filter p w) ≡ filter (λ y. p y && q y) w
-        → filter q (cond b (x ∷ filter p w) (filter p w)) ≡ cond (b && q x) (x ∷ filter (λ y. p y && q y) w) (filter (λ y. p y && q y) w)
-    by true h = ap (λ (z : List Var). cond (q x) (x ∷ z) z) h
-    by false h = h
 
 pub shares-same : (h i h' i' : List Var) (t t' : List Shares) → h ≡ h' → i ≡ i' → t ≡ t'
     → (let s : Shares = record { here = h; inside = i } in s ∷ t) ≡ (let s : Shares = record { here = h'; inside = i' } in s ∷ t')

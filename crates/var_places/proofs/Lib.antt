@@ -5,3 +5,5 @@ mod ShareLemmas
 mod KeyLemmas
 mod CountLemmas
 mod ScopeLemmas
+mod OrderedLemmas
+mod FirstLemmas

@@ -1,7 +1,7 @@
 -- The places of a sequence's elements share one list of what is quantified around them.
 use Rattle.std.proofs.Common.{◌≡◌, ℕ, ◌+◌, ◌<◌, ◌≤◌, sym, ap, ◌∙◌, subst, arith, List, [], ◌∷◌, ◌++◌, length, get_or, take, drop, append_assoc, append-nil}
 use Rattle.std.proofs.Math.Seq.{drop-append_seam, take-append_seam, take-add}
-use Rattle.std.proofs.lemmas.List.{drop_more, drop-drop, length-append, length-drop, nil_from_length}
+use Rattle.std.proofs.lemmas.List.{drop_more, drop-drop, length-append, length-drop}
 use Rattle.pattern_vars.proofs.SetLemmas.{drop-end}
 use Rattle.smpl_terms.specs.declared.var.Var.{Var}
 use Rattle.var_places.specs.declared.place.Place.{Place}
@@ -25,71 +25,61 @@ around-step shares i s here old new whole l q h n o =
 pub around-end : (shares : List Shares) (i : ℕ) (old whole : List Var) → i ≡ length shares → old ++ all_here (drop i shares) ≡ whole → old ≡ whole
 around-end shares i old whole l o = sym (append-nil old) ∙ ap (λ (z : List Shares). old ++ all_here z) (sym (none-left shares i l)) ∙ o
 
--- nothing is quantified at one suffix more
-pub none-step : (shares : List Shares) (i : ℕ) (s : Shares) → i < length shares → s ≡ get_or shares i s → length s.here ≡ 0
-    → all_here (drop i shares) ≡ all_here shares → all_here (drop (i + 1) shares) ≡ all_here shares
-none-step shares i s l q n o =
-    ap (λ (z : List Var). z ++ all_here (drop (i + 1) shares)) (sym (nil_from_length s.here n))
-    ∙ ap all_here (sym (at-here shares i s l q)) ∙ o
+-- of what is quantified at the suffixes, so much is around the elements before the next one, whose places were found
+pub record AreScoped (shares : List Shares) (scope vars : List Var) (i count : ℕ) (found : List Place) : Type 0 where
+  pub within : count ≤ length vars
+  pub left : drop count vars ≡ all_here (drop i shares)
+  pub are : found ++ scoped (drop i shares) (scope ++ take count vars) ≡ scoped shares scope
 
-pub none-end : (shares : List Shares) (i : ℕ) → i ≡ length shares → all_here (drop i shares) ≡ all_here shares → all_here shares ≡ []
-none-end shares i l o = sym o ∙ ap all_here (none-left shares i l)
-
--- of all that is quantified around the elements, so much is around those before the next one, whose places were found
-pub record AreScoped (shares : List Shares) (scope all : List Var) (i count : ℕ) (found : List Place) : Type 0 where
-  pub within : count ≤ length all
-  pub left : drop count all ≡ all_here (drop i shares)
-  pub are : found ++ scoped (drop i shares) (take count all) ≡ scoped shares scope
-
-pub scoped-none : (shares : List Shares) (scope all : List Var) (found : List Place) → all ≡ scope ++ all_here shares → found ≡ []
-    → AreScoped shares scope all 0 (length scope) found
-scoped-none shares scope all found a f = record {
-  within = omega (arith, ap (λ (z : List Var). length z) a, length-append scope (all_here shares));
-  left = ap (drop (length scope)) a ∙ drop-append_seam scope (all_here shares);
-  are = ap (λ (z : List Place). z ++ scoped shares (take (length scope) all)) f
-      ∙ ap (scoped shares) (ap (take (length scope)) a ∙ take-append_seam scope (all_here shares));
+pub scoped-none : (shares : List Shares) (scope vars : List Var) (found : List Place) → vars ≡ all_here shares → found ≡ []
+    → AreScoped shares scope vars 0 0 found
+scoped-none shares scope vars found v f = record {
+  within = omega arith;
+  left = v;
+  are = ap (λ (z : List Place). z ++ scoped shares (scope ++ [])) f ∙ ap (scoped shares) (append-nil scope);
 }
 
-left-is : (shares : List Shares) (i : ℕ) (s : Shares) (n : ℕ) (all : List Var) → i < length shares → s ≡ get_or shares i s → drop n all ≡ all_here (drop i shares)
-    → drop n all ≡ s.here ++ all_here (drop (i + 1) shares)
-left-is shares i s n all l q h = h ∙ ap all_here (at-here shares i s l q)
+left-is : (shares : List Shares) (i : ℕ) (s : Shares) (n : ℕ) (vars : List Var) → i < length shares → s ≡ get_or shares i s → drop n vars ≡ all_here (drop i shares)
+    → drop n vars ≡ s.here ++ all_here (drop (i + 1) shares)
+left-is shares i s n vars l q h = h ∙ ap all_here (at-here shares i s l q)
 
 -- the variables of the next suffix are there
-pub scoped-within : (shares : List Shares) (scope all : List Var) (i count : ℕ) (found : List Place) (s : Shares) → i < length shares → s ≡ get_or shares i s
-    → AreScoped shares scope all i count found → count + length s.here ≤ length all
-scoped-within shares scope all i count found s l q h =
+pub scoped-within : (shares : List Shares) (scope vars : List Var) (i count : ℕ) (found : List Place) (s : Shares) → i < length shares → s ≡ get_or shares i s
+    → AreScoped shares scope vars i count found → count + length s.here ≤ length vars
+scoped-within shares scope vars i count found s l q h =
     let rest = all_here (drop (i + 1) shares) in
-    omega (arith, h.within, length-drop count all, ap (λ (z : List Var). length z) (left-is shares i s count all l q h.left), length-append s.here rest)
+    omega (arith, h.within, length-drop count vars, ap (λ (z : List Var). length z) (left-is shares i s count vars l q h.left), length-append s.here rest)
 
-scoped-step : (shares : List Shares) (scope all : List Var) (i count : ℕ) (old new : List Place) (s : Shares) (p : Place) → i < length shares → s ≡ get_or shares i s
-    → p ≡ record { here = s.here; inside = s.inside; scope = take (count + length s.here) all } → new ≡ old ++ p ∷ []
-    → AreScoped shares scope all i count old → AreScoped shares scope all (i + 1) (count + length s.here) new
-scoped-step shares scope all i count old new s p l q e n h =
+scoped-step : (shares : List Shares) (scope vars : List Var) (i count : ℕ) (old new : List Place) (s : Shares) (p : Place) → i < length shares → s ≡ get_or shares i s
+    → p ≡ record { here = s.here; inside = s.inside; scope = scope ++ take (count + length s.here) vars } → new ≡ old ++ p ∷ []
+    → AreScoped shares scope vars i count old → AreScoped shares scope vars (i + 1) (count + length s.here) new
+scoped-step shares scope vars i count old new s p l q e n h =
     let k = length s.here in
     let rest = all_here (drop (i + 1) shares) in
     let more = drop (i + 1) shares in
-    let here = left-is shares i s count all l q h.left in
-    let around : take (count + k) all ≡ take count all ++ s.here =
-    take-add count k all ∙ ap (λ (z : List Var). take count all ++ z) (ap (take k) here ∙ take-append_seam s.here rest) in
+    let here = left-is shares i s count vars l q h.left in
+    let around : scope ++ take (count + k) vars ≡ (scope ++ take count vars) ++ s.here =
+    ap (λ (z : List Var). scope ++ z) (take-add count k vars ∙ ap (λ (z : List Var). take count vars ++ z) (ap (take k) here ∙ take-append_seam s.here rest))
+    ∙ sym (append_assoc scope (take count vars) s.here) in
     record {
-      within = scoped-within shares scope all i count old s l q h;
-      left = sym (drop-drop k count all) ∙ ap (drop k) here ∙ drop-append_seam s.here rest;
-      are = ap (λ (z : List Place). z ++ scoped more (take (count + k) all)) (n ∙ ap (λ (z : Place). old ++ z ∷ []) e)
-          ∙ append_assoc old _ (scoped more (take (count + k) all))
+      within = scoped-within shares scope vars i count old s l q h;
+      left = sym (drop-drop k count vars) ∙ ap (drop k) here ∙ drop-append_seam s.here rest;
+      are = ap (λ (z : List Place). z ++ scoped more (scope ++ take (count + k) vars)) (n ∙ ap (λ (z : Place). old ++ z ∷ []) e)
+          ∙ append_assoc old _ (scoped more (scope ++ take (count + k) vars))
           ∙ ap (λ (z : List Var). old ++ (let place : Place = record { here = s.here; inside = s.inside; scope = z } in place ∷ scoped more z)) around
-          ∙ ap (λ (z : List Shares). old ++ scoped z (take count all)) (sym (at-here shares i s l q)) ∙ h.are;
+          ∙ ap (λ (z : List Shares). old ++ scoped z (scope ++ take count vars)) (sym (at-here shares i s l q)) ∙ h.are;
     }
 
 -- one place more
-pub scoped-more : (shares : List Shares) (scope all : List Var) (i count k : ℕ) (old new : List Place) (s : Shares) (p : Place) → i < length shares → s ≡ get_or shares i s
-    → k ≡ length s.here → p ≡ record { here = s.here; inside = s.inside; scope = take (count + k) all } → new ≡ old ++ p ∷ []
-    → AreScoped shares scope all i count old → AreScoped shares scope all (i + 1) (count + k) new
-scoped-more shares scope all i count k old new s p l q t e n h =
-    subst (λ (z : ℕ). AreScoped shares scope all (i + 1) (count + z) new) (sym t)
-    (scoped-step shares scope all i count old new s p l q
-    (e ∙ ap (λ (z : ℕ). let place : Place = record { here = s.here; inside = s.inside; scope = take (count + z) all } in place) t) n h)
+pub scoped-more : (shares : List Shares) (scope vars : List Var) (i count k : ℕ) (old new : List Place) (s : Shares) (p : Place) → i < length shares → s ≡ get_or shares i s
+    → k ≡ length s.here → p ≡ record { here = s.here; inside = s.inside; scope = scope ++ take (count + k) vars } → new ≡ old ++ p ∷ []
+    → AreScoped shares scope vars i count old → AreScoped shares scope vars (i + 1) (count + k) new
+scoped-more shares scope vars i count k old new s p l q t e n h =
+    subst (λ (z : ℕ). AreScoped shares scope vars (i + 1) (count + z) new) (sym t)
+    (scoped-step shares scope vars i count old new s p l q
+    (e ∙ ap (λ (z : ℕ). let place : Place = record { here = s.here; inside = s.inside; scope = scope ++ take (count + z) vars } in place) t) n h)
 
-pub scoped-end : (shares : List Shares) (scope all : List Var) (i count : ℕ) (found : List Place) → i ≡ length shares
-    → AreScoped shares scope all i count found → found ≡ scoped shares scope
-scoped-end shares scope all i count found l h =
-    sym (append-nil found) ∙ ap (λ (z : List Shares). found ++ scoped z (take count all)) (sym (none-left shares i l)) ∙ h.are
+pub scoped-end : (shares : List Shares) (scope vars : List Var) (i count : ℕ) (found : List Place) → i ≡ length shares
+    → AreScoped shares scope vars i count found → found ≡ scoped shares scope
+scoped-end shares scope vars i count found l h =
+    sym (append-nil found) ∙ ap (λ (z : List Shares). found ++ scoped z (scope ++ take count vars)) (sym (none-left shares i l)) ∙ h.are

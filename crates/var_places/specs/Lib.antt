@@ -3,5 +3,9 @@
 pub mod Placing
 -- the places of a sequence's elements
 pub mod Places
--- For inside use: where each variable of a sequence is quantified.
+-- For inside use: where each variable of a sequence is quantified,
 pub mod Homes
+-- what scopes share,
+pub mod Scopes
+-- and the places at which a list has variables.
+pub mod Ordered

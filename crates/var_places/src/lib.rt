@@ -1,7 +1,9 @@
 //! Where the variables of a rule are quantified: at the smallest part of its body that holds all occurrences of each.
 //!
 //! - [`places_of`] gives the places of a sequence's elements: what is quantified at, inside and around each.
+//! - [`Scope`] is what is quantified around an element: it is shared, and extended without a copy of what is around.
 //! - [`in_body`], [`at_atom`] and [`among`] give those of some variables that a part or a set has, in their order.
+//! - [`Ordered`] is a list of variables of which those that a set has are found without a look at the others.
 //! - [`used_in_body`], [`standing_in_body`] and [`standing_in_atom`] give the variables of a part, as a set.
 //!
 //! Of `f(x); ... g(x, y);` with the variables x and y, x is quantified at the whole sequence, and y inside the last call.
@@ -12,11 +14,14 @@
 
 mod counted;
 mod homes;
+mod numbered;
+mod ordered;
 mod place;
 mod reader;
 mod scope;
 mod sets;
 
+pub use ordered::Ordered;
 pub use place::{Place, among, at_atom, copied_vars, extended, in_body, places_of};
 pub use reader::Reader;
 pub use scope::Scope;

@@ -7,10 +7,11 @@ ghost use Rattle.pattern_vars.specs.Keys.{value_of};
 ghost use Rattle.var_places.specs.Placing as placing;
 ghost use Rattle.var_places.specs.Places.{reading_at, places};
 ghost use Rattle.var_places.specs.Homes as of_sequence;
+ghost use Rattle.var_places.specs.Scopes.{joined};
 
 use crate::homes::{Home, home_of, homes_of};
 use crate::reader::Reader;
-use crate::scope::Scope;
+use crate::scope::{Scope, SequenceScope};
 use crate::sets::{occurring_in_body, used_in_atom};
 use c_terms::NoMemory;
 use pattern_vars::VarSet;
@@ -174,102 +175,81 @@ fn append(alloc: Global, more: &[Var], all: &mut Vec<Var>) -> Result<(), NoMemor
     Ok(())
 }
 
-/// The scope with further variables. Where there are none, it is shared.
+/// The scope with further variables. Where there are none, it is shared. What is around is not copied.
 pub fn extended(alloc: Global, scope: &Scope, here: &[Var]) -> Result<Scope, NoMemory>
     ensures { IfOk result (λ found. found ≡ scope.now ++ here.now) }
 {
     if here.len() == 0 {
         return scope.share();
     }
-    let mut all = Vec::new(alloc);
-    append(alloc, scope.as_slice(), &mut all)?;
-    append(alloc, here, &mut all)?;
-    Scope::of(alloc, all)
+    let mut vars = Vec::new(alloc);
+    append(alloc, here, &mut vars)?;
+    let inside = SequenceScope::of(alloc, scope, vars)?;
+    inside.front(here.len())
 }
 
-/// The scope, and what is quantified at the suffixes of a sequence.
-fn all_around(alloc: Global, shares: &[Shares], scope: &[Var]) -> Result<Vec<Var>, NoMemory>
-    ensures { IfOk result (λ all. all.items ≡ scope.now ++ of_sequence.all_here shares.now) }
+/// What is quantified at the suffixes of a sequence.
+fn all_here(alloc: Global, shares: &[Shares]) -> Result<Vec<Var>, NoMemory>
+    ensures { IfOk result (λ all. all.items ≡ of_sequence.all_here shares.now) }
 {
     let mut all = Vec::new(alloc);
-    append(alloc, scope, &mut all)?;
     for share in shares {
         append(alloc, share.here.as_slice(), &mut all)?;
     }
     Ok(all)
 }
 
-/// Whether nothing is quantified at the suffixes.
-fn is_none_here(shares: &[Shares]) -> bool
-    ensures { result ≡ true → of_sequence.all_here shares.now ≡ [] }
-{
-    for share in shares {
-        if share.here.len() > 0 {
-            return false;
-        }
-    }
-    true
-}
-
-/// The scope, and what is quantified at the suffixes of a sequence. Where nothing is, the scope is shared.
-fn around(alloc: Global, shares: &[Shares], scope: &Scope) -> Result<Scope, NoMemory>
-    ensures value { IfOk result (λ all. all ≡ scope.now ++ of_sequence.all_here shares.now) }
-    ensures fits { IfOk result (λ all. length all < 2 ^ 64) }
-{
-    if is_none_here(shares) {
-        return scope.share();
-    }
-    let all = all_around(alloc, shares, scope.as_slice())?;
-    Scope::of(alloc, all)
-}
-
-/// An element's place, where so many of the variables are quantified around it.
-fn place_of(alloc: Global, share: &Shares, all: &Scope, count: usize) -> Result<Place, NoMemory>
-    requires { count ≤ length all.now }
-    ensures { IfOk result (λ place. place
-        ≡ record { here = share.now.here; inside = share.now.inside; scope = take count all.now }) }
+/// An element's place in the sequence, of whose variables so many are quantified around it.
+fn place_of(
+    alloc: Global,
+    share: &Shares,
+    inside: &SequenceScope,
+    count: usize,
+) -> Result<Place, NoMemory>
+    ensures { IfOk result (λ place. place ≡ record {
+      here = share.now.here;
+      inside = share.now.inside;
+      scope = joined inside.now.outer ++ take count inside.now.vars;
+    }) }
 {
     let here = copied_vars(alloc, share.here.as_slice())?;
-    let inside = copied_vars(alloc, share.inside.as_slice())?;
-    let scope = all.front(count)?;
+    let own = copied_vars(alloc, share.inside.as_slice())?;
+    let scope = inside.front(count)?;
     Ok(Place {
         here,
-        inside,
+        inside: own,
         scope,
     })
 }
 
-/// The places of a sequence's elements, around which the first of these variables are quantified.
-fn along(
-    alloc: Global,
-    shares: &[Shares],
-    scope: &[Var],
-    all: &Scope,
-) -> Result<Vec<Place>, NoMemory>
-    requires all { all.now ≡ scope.now ++ of_sequence.all_here shares.now }
-    requires fits { length all.now < 2 ^ 64 }
-    ensures { IfOk result (λ found. found.items ≡ of_sequence.scoped shares.now scope.now) }
+/// The places of a sequence's elements.
+fn along(alloc: Global, shares: &[Shares], inside: &SequenceScope) -> Result<Vec<Place>, NoMemory>
+    requires vars { inside.now.vars ≡ of_sequence.all_here shares.now }
+    requires fits { length inside.now.vars < 2 ^ 64 }
+    ensures { IfOk result (λ found. found.items
+        ≡ of_sequence.scoped shares.now (joined inside.now.outer)) }
 {
     let mut found = Vec::new(alloc);
-    let mut count = scope.len();
+    let mut count = 0;
     for share in shares {
         count += share.here.len();
-        let place = place_of(alloc, share, all, count)?;
+        let place = place_of(alloc, share, inside, count)?;
         found.push(place)?;
     }
     Ok(found)
 }
 
-/// The places of a sequence's elements. They share one list of what is quantified around them.
+/// The places of a sequence's elements. They share one list of what is quantified at its suffixes.
 fn scoped(alloc: Global, shares: &[Shares], scope: &Scope) -> Result<Vec<Place>, NoMemory>
     ensures { IfOk result (λ found. found.items ≡ of_sequence.scoped shares.now scope.now) }
 {
-    let all = around(alloc, shares, scope)?;
-    along(alloc, shares, scope.as_slice(), &all)
+    let vars = all_here(alloc, shares)?;
+    let inside = SequenceScope::of(alloc, scope, vars)?;
+    along(alloc, shares, &inside)
 }
 
 /// The places of a sequence's elements, by the variables that are quantified inside it and around it. The sequence is read a
-/// few times, and each variable is looked up once. Where no variable is quantified at a suffix, the scope is shared.
+/// few times, and each variable is looked up once.
 pub fn places_of(
     alloc: Global,
     reader: &Reader,

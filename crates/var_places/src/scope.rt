@@ -1,76 +1,167 @@
 // What is quantified around the elements of a sequence.
-ghost use Rattle.std.specs.Prelude.{◌≡◌, ◌≤◌, ◌<◌, ◌^◌, [], length, take, IfOk};
+ghost use Rattle.std.specs.Prelude.{◌≡◌, ◌<◌, ◌^◌, ◌++◌, [], length, take, IfOk};
+ghost use Rattle.std.specs.List.{list_any};
+ghost use Rattle.pattern_vars.specs.Reads.{has};
+ghost use Rattle.var_places.specs.Scopes.{joined};
 
+use crate::numbered::Numbered;
 use c_terms::NoMemory;
-use smpl_terms::{SharedList, Var};
+use pattern_vars::Key;
+use smpl_terms::{Copied, Shared, SharedList, Var, copied_items};
 use std::alloc::Global;
 use std::marker::Model;
 
-/// Variables that are quantified around an element: the first ones of a list that scopes share. Contracts see them.
+/// The first ones of variables that scopes share. Contracts see them.
 #[derive(Drop)]
-pub struct Scope {
-    all: SharedList<Var>,
+pub struct Link {
+    vars: Shared<Numbered>,
     count: usize,
 }
 
-impl Model for Scope {
-    ghost use Rattle.std.specs.Prelude.{List, take, length, ◌≤◌};
+impl Model for Link {
+    ghost use Rattle.std.specs.Prelude.{List, take};
     ghost use Rattle.smpl_terms.specs.declared.var.Var.{Var as Variable};
 
     ghost Value = { List Variable };
 
-    ghost view = { λ s. take s.count s.all };
+    ghost view = { λ l. take l.count l.vars };
+}
 
-    ghost invariant = { λ s. s.count ≤ length s.all };
+impl Link {
+    /// Whether the variable is there. One look-up, linear in the name; takes no memory.
+    fn has(&self, x: &Key) -> bool
+        ensures { result ≡ has self.now x.now.var }
+    {
+        match self.vars.get().place_of(x) {
+            Some(place) => place < self.count,
+            None => false,
+        }
+    }
+}
+
+impl Copied for Link {
+    fn copied(&self, _alloc: Global) -> Result<Link, NoMemory> {
+        let vars = self.vars.share()?;
+        Ok(Link {
+            vars,
+            count: self.count,
+        })
+    }
+}
+
+/// Whether the variable is in one of the links.
+fn is_in_some(links: &[Link], x: &Key) -> bool
+    ensures { result ≡ list_any (λ link. has link x.now.var) links.now }
+{
+    links.iter().any(|link| link.has(x))
+}
+
+/// Variables that are quantified around an element: those of the sequences around it, from the outermost on. Contracts see
+/// them.
+#[derive(Drop)]
+pub struct Scope {
+    /// What is quantified around the innermost of the sequences.
+    outer: SharedList<Link>,
+    /// What is quantified in that one.
+    last: Link,
+}
+
+impl Model for Scope {
+    ghost use Rattle.std.specs.Prelude.{List, ◌++◌};
+    ghost use Rattle.smpl_terms.specs.declared.var.Var.{Var as Variable};
+    ghost use Rattle.var_places.specs.Scopes.{joined};
+
+    ghost Value = { List Variable };
+
+    ghost view = { λ s. joined s.outer ++ s.last };
 }
 
 impl Scope {
-    /// No variables. Takes no memory.
-    pub fn none() -> Scope
-        ensures { result ≡ [] }
+    /// No variables.
+    pub fn none(alloc: Global) -> Result<Scope, NoMemory>
+        ensures { IfOk result (λ scope. scope ≡ []) }
     {
-        Scope {
-            all: SharedList::empty(),
-            count: 0,
-        }
-    }
-
-    /// These variables, moved to where scopes share them.
-    pub fn of(alloc: Global, vars: Vec<Var>) -> Result<Scope, NoMemory>
-        ensures value { IfOk result (λ scope. scope ≡ vars.items) }
-        ensures fits { IfOk result (λ scope. length scope < 2 ^ 64) }
-    {
-        let count = vars.len();
-        let all = SharedList::of(alloc, vars)?;
-        Ok(Scope { all, count })
+        let vars = Numbered::of(alloc, Vec::new(alloc))?;
+        let vars = Shared::of(alloc, vars)?;
+        Ok(Scope {
+            outer: SharedList::empty(),
+            last: Link { vars, count: 0 },
+        })
     }
 
     /// The same variables, shared. Takes no memory.
     pub fn share(&self) -> Result<Scope, NoMemory>
-        ensures value { IfOk result (λ scope. scope ≡ self.now) }
-        ensures fits { IfOk result (λ scope. length scope < 2 ^ 64) }
+        ensures { IfOk result (λ scope. scope ≡ self.now) }
     {
-        let all = self.all.share()?;
+        let outer = self.outer.share()?;
+        let vars = self.last.vars.share()?;
         Ok(Scope {
-            all,
-            count: self.count,
+            outer,
+            last: Link {
+                vars,
+                count: self.last.count,
+            },
         })
     }
 
-    /// So many of the variables, from the first on, shared. Takes no memory.
-    pub fn front(&self, count: usize) -> Result<Scope, NoMemory>
-        requires { count ≤ length self.now }
-        ensures { IfOk result (λ scope. scope ≡ take count self.now) }
+    /// Whether the variable is there. One copy of it, and a look-up for each sequence around in which something is
+    /// quantified.
+    pub fn has(&self, alloc: Global, x: &Var) -> Result<bool, NoMemory>
+        ensures { IfOk result (λ there. there ≡ has self.now x.now) }
     {
-        let all = self.all.share()?;
-        Ok(Scope { all, count })
+        let key = Key {
+            var: x.copy(alloc)?,
+        };
+        if is_in_some(self.outer.as_slice(), &key) {
+            return Ok(true);
+        }
+        Ok(self.last.has(&key))
     }
 
-    /// The variables. Takes no memory.
-    pub fn as_slice(&self) -> &[Var]
-        ensures { result.now ≡ self.now }
+    /// The links, to which a further one is the next. Where the last is empty, the outer ones are shared.
+    fn links(&self, alloc: Global) -> Result<SharedList<Link>, NoMemory>
+        ensures { IfOk result (λ links. joined links ≡ self.now) }
     {
-        let all = self.all.as_slice();
-        &all[..self.count]
+        if self.last.count == 0 {
+            return self.outer.share();
+        }
+        let mut links = copied_items(alloc, self.outer.as_slice())?;
+        links.push(self.last.copied(alloc)?)?;
+        SharedList::of(alloc, links)
+    }
+}
+
+/// What is quantified around a sequence, and in it.
+#[derive(Drop)]
+pub struct SequenceScope {
+    outer: SharedList<Link>,
+    vars: Shared<Numbered>,
+}
+
+impl SequenceScope {
+    /// These variables are quantified in a sequence, and those of the scope around it. Linear in the variables' names, where
+    /// no hashes collide, and in the number of sequences around in which something is quantified.
+    pub fn of(alloc: Global, scope: &Scope, vars: Vec<Var>) -> Result<SequenceScope, NoMemory>
+        ensures outer { IfOk result (λ inside. joined inside.outer ≡ scope.now) }
+        ensures vars { IfOk result (λ inside. inside.vars ≡ vars.items) }
+        ensures fits { IfOk result (λ inside. length inside.vars < 2 ^ 64) }
+    {
+        let vars = Numbered::of(alloc, vars)?;
+        let vars = Shared::of(alloc, vars)?;
+        let outer = scope.links(alloc)?;
+        Ok(SequenceScope { outer, vars })
+    }
+
+    /// What is around the sequence, and so many of its own variables, from the first on. Takes no memory.
+    pub fn front(&self, count: usize) -> Result<Scope, NoMemory>
+        ensures { IfOk result (λ scope. scope
+            ≡ joined self.now.outer ++ take count self.now.vars) }
+    {
+        let outer = self.outer.share()?;
+        let vars = self.vars.share()?;
+        Ok(Scope {
+            outer,
+            last: Link { vars, count },
+        })
     }
 }

@@ -1,15 +1,13 @@
 -- A sequence is worked off from its end: the formula of each suffix is that of its first element before the next one's.
-use Rattle.std.proofs.Common.{◌≡◌, ℕ, suc, ◌+◌, ◌<◌, ◌++◌, arith, refl, sym, ap, ◌∙◌, subst, List, [], ◌∷◌, length, get_or, drop, Option, None, Some, Result, add-one}
+use Rattle.std.proofs.Common.{◌≡◌, ℕ, suc, ◌+◌, ◌<◌, ◌++◌, arith, refl, sym, ap, ◌∙◌, subst, List, [], ◌∷◌, length, get_or, drop, Option, None, Some}
 use Rattle.std.specs.List.{filter}
-use Rattle.std.specs.Result.{IfOk}
 use Rattle.std.proofs.Math.Path.{fun_ext}
-use Rattle.std.proofs.Math.Seq.{drop-cons}
 use Rattle.smpl_terms.specs.declared.var.Var.{Var}
 use Rattle.smpl_patch.specs.declared.elem.Elem.{Elem}
 use Rattle.smpl_patch.specs.Bodies.{Element, element, body}
 use Rattle.ctl_formula.specs.Plain.{Plain}
 use Rattle.ctl_formula.specs.declared.node.Node.{Node}
-use Rattle.ctl_formula.specs.Tables.{plains, Makes}
+use Rattle.ctl_formula.specs.Tables.{plains}
 use Rattle.ctl_formula.proofs.TableLemmas.{grows-trans}
 use Rattle.var_places.specs.Placing.{Reading, at_suffix}
 use Rattle.var_places.specs.Places.{places, place_at, later_at}
@@ -17,7 +15,6 @@ use Rattle.var_places.proofs.KeptLemmas.{drop-here}
 use Rattle.ctl_table.specs.Table as table
 use Rattle.var_places.specs.declared.place.Place.{Place}
 use Rattle.ctl_table.specs.declared.follow.Made.{Made}
-use Rattle.ctl_table.proofs.MakingLemmas.{made-up}
 use Rattle.ctl_table.specs.Suffixes.{first, begins, along}
 use Rattle.ctl_table.specs.Settings.{made_at, follow_of, suffix_at, start_with, MakesFollow}
 
@@ -44,11 +41,6 @@ along-is m k (e ∷ es) w s before t =
     ∙ ap (λ (z : table.Start). suffix_at m (first es) (element e) (record { start = z; at = λ u. table.seq m (Some (element e)) (body es) k l p.scope u }) p before t) (begins-is es k.start)
     ∙ ap (λ (z : List Var → Plain). suffix_at m (first es) (element e) (record { start = begins es k.start; at = z }) p before t)
     (fun_ext (λ u. along-is m k es l p.scope (Some (element e)) u))
-
--- at the last element nothing stands between it and what follows the sequence
-pub along-last : (m : table.Setting) (k : table.Follow) (e : Elem) (p : Place) (before : Option Element) (t : List Var)
-    → suffix_at m None (element e) k p before t ≡ along m k (e ∷ []) (p ∷ []) before t
-along-last m k e p before t = refl
 
 -- one element earlier
 pub along-step : (m : table.Setting) (k : table.Follow) (a b c : List Node) (f g : Made) (es : List Elem) (ps : List Place) (e : Elem) (p : Place)
@@ -98,25 +90,3 @@ suffixes-step m k a b c f g es ps i d e p n o t q r x y =
     subst (λ (v : List Elem). Reaches m k a c g v (drop i ps)) (sym es_are)
     (subst (λ (v : List Place). Reaches m k a c g (e ∷ drop (i + 1) es) v) (sym ps_are)
     (along-step m k a b c f g (drop (i + 1) es) (drop (i + 1) ps) e p x z))
-
--- all suffixes
-pub suffixes-all : (m : table.Setting) (k : table.Follow) (a b : List Node) (f : Made) (es : List Elem) (ps : List Place) (i : ℕ) → i ≡ 0
-    → MakesFollow m a b f (begins (drop i es) k.start) (along m k (drop i es) (drop i ps))
-    → MakesFollow m a b f (begins es k.start) (along m k es ps)
-suffixes-all m k a b f es ps i n x = subst (λ (z : ℕ). Reaches m k a b f (drop z es) (drop z ps)) n x
-
--- a whole sequence
-pub sequence-made : {E : Type 0} (m : table.Setting) (k : table.Follow) (a b c : List Node) (f : Made) (es : List Elem) (w s : List Var) (ps : List Place) (r : Result ℕ E)
-    → ps ≡ places m.reading (body es) w s
-    → MakesFollow m a b f (begins es k.start) (along m k es ps)
-    → IfOk r (λ i. Makes b c i (made_at (plains b) m None f s))
-    → IfOk r (λ i. Makes a c i (table.seq m None (body es) k w s s))
-sequence-made m k a b c f es w s ps r q x y =
-    made-up a b c r (made_at (plains b) m None f s) (table.seq m None (body es) k w s s) x.grows
-    (x.is None s ∙ ap (λ (z : List Place). along m k es z None s) q ∙ sym (along-is m k es w s None s)) y
-
--- nothing but what follows
-pub sequence-none : {E : Type 0} (m : table.Setting) (k : table.Follow) (a b : List Node) (es : List Elem) (w s : List Var) (r : Result ℕ E) → length es ≡ 0
-    → IfOk r (λ i. Makes a b i (k.at s)) → IfOk r (λ i. Makes a b i (table.seq m None (body es) k w s s))
-sequence-none m k a b [] w s r e x = x
-sequence-none m k a b (d ∷ es) w s r e x = absurd (omega (arith, e))

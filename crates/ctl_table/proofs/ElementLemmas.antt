@@ -1,8 +1,6 @@
 -- Elements as what follows, and dots whose parts are made.
 use Rattle.std.proofs.Common.{◌≡◌, ℕ, Bool, true, false, cond, if◌then◌else◌, refl, sym, ap, ◌∙◌, List, ◌++◌}
-use Rattle.std.proofs.Common.{length, Option, None, Result}
-use Rattle.std.specs.Result.{IfOk}
-use Rattle.std.proofs.lemmas.Result.{IfOk-weaker}
+use Rattle.std.proofs.Common.{length, Option, None}
 use Rattle.smpl_terms.specs.declared.var.Var.{Var}
 use Rattle.smpl_patch.specs.Bodies.{Element}
 use Rattle.ctl_formula.specs.Plain.{Plain}
@@ -60,7 +58,7 @@ dots-made m a b c e after k p d g w n x y z h =
     }
 
 -- an element that is no dots, as the suffix that begins with it
-part-row : (m : table.Setting) (a b c : List Node) (after : Option Element) (x y : Element) (k : table.Follow) (p : Place) (f : ℕ) (g : Made) (h : Plain) → x ≡ y → is_dots y ≡ false
+pub part-row : (m : table.Setting) (a b c : List Node) (after : Option Element) (x y : Element) (k : table.Follow) (p : Place) (f : ℕ) (g : Made) (h : Plain) → x ≡ y → is_dots y ≡ false
     → Makes a b f h → ((before : Option Element) (t : List Var) → h ≡ table.elem m before after y k p.inside p.scope t)
     → MakesFollow m b c g table.Other (λ before t. table.exists_all p.here (at (plains b) f))
     → MakesFollow m a c g (start_with x) (suffix_at m after x k p)
@@ -71,16 +69,8 @@ part-row m a b c after x y k p f g h q n u e z = record {
   grows = grows-trans a b c u.grows z.grows;
 }
 
-pub part-rows : {E : Type 0} (m : table.Setting) (a b c : List Node) (after : Option Element) (x y : Element) (k : table.Follow) (p : Place) (f : ℕ) (r : Result Made E) (h : Plain) → x ≡ y → is_dots y ≡ false
-    → Makes a b f h → ((before : Option Element) (t : List Var) → h ≡ table.elem m before after y k p.inside p.scope t)
-    → IfOk r (λ g. MakesFollow m b c g table.Other (λ before t. table.exists_all p.here (at (plains b) f)))
-    → IfOk r (λ g. MakesFollow m a c g (start_with x) (suffix_at m after x k p))
-part-rows m a b c after x y k p f r h q n u e z =
-    IfOk-weaker r (λ g. MakesFollow m b c g table.Other (λ before t. table.exists_all p.here (at (plains b) f)))
-    (λ g. MakesFollow m a c g (start_with x) (suffix_at m after x k p)) (λ g v. part-row m a b c after x y k p f g h q n u e v) z
-
 -- dots, as the suffix that begins with them
-dots-row : (m : table.Setting) (a b c : List Node) (after : Option Element) (x y : Element) (k l : table.Follow) (p : Place) (g : Made) (vs ws : List Plain) (any strict : Bool) (nest : Option NestPart) → x ≡ y → is_dots y ≡ true
+pub dots-row : (m : table.Setting) (a b c : List Node) (after : Option Element) (x y : Element) (k l : table.Follow) (p : Place) (g : Made) (vs ws : List Plain) (any strict : Bool) (nest : Option NestPart) → x ≡ y → is_dots y ≡ true
     → Grows a b → vs ≡ ws → l ≡ k
     → ((before : Option Element) (t : List Var) → dots_row m b before after ws any strict nest k p t ≡ suffix_at m after y k p before t)
     → MakesFollow m b c g table.Dots (λ before t. dots_row m b before after vs any strict nest l p t)
@@ -93,12 +83,3 @@ dots-row m a b c after x y k l p g vs ws any strict nest q n s v f e z = record 
       ∙ e before t ∙ sym (ap (λ (w : Element). suffix_at m after w k p before t) q);
   grows = grows-trans a b c s z.grows;
 }
-
-pub dots-rows : {E : Type 0} (m : table.Setting) (a b c : List Node) (after : Option Element) (x y : Element) (k l : table.Follow) (p : Place) (r : Result Made E) (vs ws : List Plain) (any strict : Bool) (nest : Option NestPart) → x ≡ y → is_dots y ≡ true
-    → Grows a b → vs ≡ ws → l ≡ k
-    → ((before : Option Element) (t : List Var) → dots_row m b before after ws any strict nest k p t ≡ suffix_at m after y k p before t)
-    → IfOk r (λ g. MakesFollow m b c g table.Dots (λ before t. dots_row m b before after vs any strict nest l p t))
-    → IfOk r (λ g. MakesFollow m a c g (start_with x) (suffix_at m after x k p))
-dots-rows m a b c after x y k l p r vs ws any strict nest q n s v f e z =
-    IfOk-weaker r (λ g. MakesFollow m b c g table.Dots (λ before t. dots_row m b before after vs any strict nest l p t))
-    (λ g. MakesFollow m a c g (start_with x) (suffix_at m after x k p)) (λ g u. dots-row m a b c after x y k l p g vs ws any strict nest q n s v f e u) z

@@ -12,3 +12,6 @@ pub mod DotsLemmas
 pub mod MadeLemmas
 pub mod PutLemmas
 pub mod LoopLemmas
+pub mod EachLemmas
+pub mod SuffixLemmas
+pub mod ColumnLemmas

@@ -1,5 +1,5 @@
 -- Elements made of a few parts, one after another.
-use Rattle.std.proofs.Common.{◌≡◌, ℕ, ◌<◌, Bool, true, sym, ap, ◌∙◌, List, length, Option, Some, Result}
+use Rattle.std.proofs.Common.{◌≡◌, ℕ, ◌<◌, Bool, sym, ap, ◌∙◌, List, length, Option, Some, Result}
 use Rattle.std.specs.Result.{IfOk}
 use Rattle.smpl_terms.specs.declared.var.Var.{Var}
 use Rattle.smpl_patch.specs.declared.elem.Dots.{Dots, out-Dots}
@@ -13,9 +13,9 @@ use Rattle.ctl_formula.specs.Tables.{at, plains, Makes}
 use Rattle.ctl_formula.proofs.TableLemmas.{grows-trans}
 use Rattle.ctl_table.specs.Table as table
 use Rattle.ctl_table.specs.declared.follow.Made.{Made}
-use Rattle.ctl_table.specs.Settings.{parts_at, made_below, made_start, made_at, follow_of, MakesAll}
+use Rattle.ctl_table.specs.Settings.{parts_at, made_start, made_at, follow_of, MakesAll}
 use Rattle.ctl_table.proofs.MakingLemmas.{made-up, stays, and-of}
-use Rattle.ctl_table.proofs.FollowLemmas.{made-stays, all-kept}
+use Rattle.ctl_table.proofs.FollowLemmas.{all-kept}
 
 pub dots-any : (d : Dots) → (dots_of d).any ≡ (out-Dots d).any
 dots-any d = ap (λ (z : DotsOf). z.any) (fold_out-Dots Element DotsOf element_step dots_step d)
@@ -54,20 +54,17 @@ headed-made m a b c d e w tail h is js fs head f r j x y z o =
     (z.is ∙ ap (λ (v : Plain). table.and_all v (parts_at c js)) y.is ∙ ap (table.and_all h) (ap (parts_at c) j ∙ all-kept a b c is fs x y.grows))) o
 
 -- an atom or a statement variable, and what follows it
-pub atom-made : {E : Type 0} (m : table.Setting) (a b c d : List Node) (before : Option Element) (next : Made) (s : List Var) (is_statement statement : Bool) (start : table.Start) (f g : ℕ) (h : Plain) (r : Result ℕ E)
-    → made_below (length a) next ≡ true → statement ≡ is_statement → start ≡ made_start next
-    → Makes a b f h → Makes b c g (made_at (plains b) m before next s)
-    → IfOk r (λ i. Makes c d i (table.joined m.forall_walks statement (at (plains c) f) start (at (plains c) g)))
-    → IfOk r (λ i. Makes a d i (table.joined m.forall_walks is_statement h (follow_of (plains a) m before next).start ((follow_of (plains a) m before next).at s)))
-atom-made m a b c d before next s is_statement statement start f g h r n t q x y z =
-    let g_is : at (plains c) g ≡ made_at (plains a) m before next s = y.is ∙ made-stays a b m before next s x.grows n in
-    let f_is : at (plains c) f ≡ h = stays b c f y.grows x.within ∙ x.is in
-    made-up a c d r (table.joined m.forall_walks statement (at (plains c) f) start (at (plains c) g))
-    (table.joined m.forall_walks is_statement h (made_start next) (made_at (plains a) m before next s)) (grows-trans a b c x.grows y.grows)
-    (ap (λ (v : Bool). table.joined m.forall_walks v (at (plains c) f) start (at (plains c) g)) t
-    ∙ ap (λ (v : Plain). table.joined m.forall_walks is_statement v start (at (plains c) g)) f_is
-    ∙ ap (λ (v : table.Start). table.joined m.forall_walks is_statement h v (at (plains c) g)) q
-    ∙ ap (table.joined m.forall_walks is_statement h (made_start next)) g_is) z
+pub joined-made : {E : Type 0} (m : table.Setting) (a b c : List Node) (before : Option Element) (next : Made) (s : List Var) (statement : Bool) (start : table.Start) (f g : ℕ) (r : Result ℕ E)
+    → f < length a → start ≡ made_start next
+    → Makes a b g (made_at (plains a) m before next s)
+    → IfOk r (λ i. Makes b c i (table.joined m.forall_walks statement (at (plains b) f) start (at (plains b) g)))
+    → IfOk r (λ i. Makes a c i (table.joined m.forall_walks statement (at (plains a) f) (follow_of (plains a) m before next).start ((follow_of (plains a) m before next).at s)))
+joined-made m a b c before next s statement start f g r l q y z =
+    made-up a b c r (table.joined m.forall_walks statement (at (plains b) f) start (at (plains b) g))
+    (table.joined m.forall_walks statement (at (plains a) f) (made_start next) (made_at (plains a) m before next s)) y.grows
+    (ap (λ (v : Plain). table.joined m.forall_walks statement v start (at (plains b) g)) (stays a b f y.grows l)
+    ∙ ap (λ (v : table.Start). table.joined m.forall_walks statement (at (plains a) f) v (at (plains b) g)) q
+    ∙ ap (table.joined m.forall_walks statement (at (plains a) f) (made_start next)) y.is) z
 
 -- an opening brace, and what it holds
 pub braced-made : {E : Type 0} (a b c d e : List Node) (v : Var) (h : Plain) (inside opening down both : ℕ) (r : Result ℕ E) → inside < length a

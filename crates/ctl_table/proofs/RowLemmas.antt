@@ -61,16 +61,6 @@ choices-but_last e (f ∷ f2 ∷ fs) (g ∷ gs) =
     ap (λ n. table.choices e (f ∷ f2 ∷ fs) (take n (g ∷ gs))) z
     ∙ ap (λ hs. table.and_all f e ∷ hs) (choices-but_last (e ++ Not g ∷ []) (f2 ∷ fs) gs)
 
-pub each-take : (m : table.Setting) (k : table.Follow) (w s : List Var) (n : ℕ) (bs : List (List Elem))
-    → table.each m (bodies (take n bs)) k w s ≡ take n (table.each m (bodies bs) k w s)
-each-take m k w s zero bs = refl
-each-take m k w s (suc n) [] = refl
-each-take m k w s (suc n) (b ∷ bs) = ap (λ z. table.seq m None (body b) k (filter (occurs_body m.reading (body b)) w) s s ∷ z) (each-take m k w s n bs)
-
-pub length-each : (m : table.Setting) (k : table.Follow) (w s : List Var) (bs : List (List Elem)) → length (table.each m (bodies bs) k w s) ≡ length bs
-length-each m k w s [] = refl
-length-each m k w s (b ∷ bs) = ap suc (length-each m k w s bs)
-
 -- a part and what follows, made one after the other, and their row in the last table
 pub past-made : {E : Type 0} (a c d : List Node) (r : Result ℕ E) (f g : ℕ) (F G : Plain) → Grows a c → at (plains c) f ≡ F → at (plains c) g ≡ G
     → IfOk r (λ i. Makes c d i (And (at (plains c) f) (Past (at (plains c) g)))) → IfOk r (λ i. Makes a d i (And F (Past G)))

@@ -7,3 +7,5 @@ pub mod Table
 pub mod Settings
 -- For inside use: a sequence, suffix by suffix.
 pub mod Suffixes
+-- For inside use: what may follow branches, and rows of parts, one for each such thing.
+pub mod Columns

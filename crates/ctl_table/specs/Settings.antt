@@ -1,13 +1,14 @@
 -- What the code goes by, as the definitions have it.
-use Rattle.std.specs.Prelude.{◌≡◌, ℕ, Bool, true, false, not, ◌&&◌, nat_lt, List, [], ◌∷◌, ◌++◌, map, length, cond, Option, None, Some}
+use Rattle.std.specs.Prelude.{◌≡◌, ℕ, Bool, true, false, ◌&&◌, nat_lt, List, [], ◌∷◌, ◌++◌, map, length, cond, Option, None, Some}
 use Rattle.std.specs.List.{list_all, filter}
 use Rattle.smpl_terms.specs.declared.var.Var.{Var}
 use Rattle.smpl_patch.specs.declared.elem.Elem.{Elem}
-use Rattle.smpl_patch.specs.Bodies.{element, Element, Body, End, Then}
-use Rattle.ctl_formula.specs.Plain.{Plain, True, Not}
+use Rattle.smpl_patch.specs.declared.pattern.Pattern.{Pattern}
+use Rattle.smpl_patch.specs.Bodies.{element, Element, Body, Bodies}
+use Rattle.ctl_formula.specs.Plain.{Plain, True, Atom, BraceOpen, Not, And, Down, Exists}
 use Rattle.ctl_formula.specs.declared.node.Node.{Node}
 use Rattle.ctl_formula.specs.Tables.{at, plains, Grows}
-use Rattle.var_places.specs.Placing.{is_dots}
+use Rattle.var_places.specs.Placing.{is_dots, occurs_body}
 use Rattle.var_places.specs.Places.{reading_at}
 use Rattle.var_places.specs.declared.place.Place.{Place}
 use Rattle.ctl_table.specs.Table as table
@@ -123,6 +124,24 @@ pub record MakesFollow (m : table.Setting) (old new : List Node) (f : Made) (beg
   pub is : (before : Option Element) (t : List Var) → made_at (plains new) m before f t ≡ is_at before t
   pub grows : Grows old new
 
+-- each thing that may follow has parts with numbers below n
+abbrev pub all_made_below : ℕ → List Made → Bool
+all_made_below n fs = list_all (made_below n) fs
+
+-- of two lists that are as long as one another, any two items at one place are so related
+abbrev pub Pairwise : {A B : Type 0} → (A → B → Type 0) → List A → List B → Type 0
+Pairwise R [] [] = Unit {0}
+Pairwise R (x ∷ xs) (y ∷ ys) = R x y × Pairwise R xs ys
+Pairwise R [] (y ∷ ys) = ⊥
+Pairwise R (x ∷ xs) [] = ⊥
+
+-- For each of some things, what was made is what follows that begins so and has this formula. The old parts stand as they
+-- were.
+pub record MakesFollows {A : Type 0} (m : table.Setting) (old new : List Node) (xs : List A) (fs : List Made)
+    (begins : A → table.Start) (is_at : A → Option Element → List Var → Plain) : Type 0 where
+  pub each : Pairwise (λ x f. MakesFollow m old new f (begins x) (is_at x)) xs fs
+  pub grows : Grows old new
+
 -- a suffix that begins with the element, after another and from a scope
 abbrev pub suffix_at : table.Setting → Option Element → Element → table.Follow → Place → Option Element → List Var → Plain
 suffix_at m after e k p before t =
@@ -130,6 +149,18 @@ suffix_at m after e k p before t =
 
 abbrev pub start_with : Element → table.Start
 start_with e = cond (is_dots e) table.Dots table.Other
+
+-- a head with its bodies and its tail
+abbrev pub compound_at : table.Setting → Pattern → Bodies → Option Pattern → List Var → List Var → Plain
+compound_at m h bs tail w s =
+    table.with_tail m w tail (table.and_all (table.own m w h (Atom h)) (table.downs 0 (table.each m bs table.nothing w s)))
+
+-- a block's braces, and what they hold
+abbrev pub block_at : table.Setting → Pattern → Body → Pattern → List Var → List Var → Plain
+block_at m o b c w s =
+    let v = table.hidden m o in
+    Exists v (And (table.own m w o (BraceOpen o v))
+    (Down 0 (table.seq m None b (table.closing m w c v) (filter (occurs_body m.reading b) w) s s)))
 
 -- a piece of `when` code
 abbrev pub when_at : table.Setting → Body → List Var → Plain

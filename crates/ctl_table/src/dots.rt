@@ -36,7 +36,7 @@ pub fn follow_at(
     match next {
         Made::Nothing => parts.push(Node::True),
         Made::Part(_, f) => Ok(*f),
-        Made::Dots(d) => dots_at(alloc, parts, m, before, d, scope),
+        Made::Dots(d) => dots_at(alloc, parts, m, before, d.get(), scope),
     }
 }
 
@@ -108,7 +108,7 @@ fn push_neighbours(
     push_not(parts, d.after, found)
 }
 
-fn copied_numbers(alloc: Global, numbers: &[usize]) -> Result<Vec<usize>, NoMemory>
+pub fn copied_numbers(alloc: Global, numbers: &[usize]) -> Result<Vec<usize>, NoMemory>
     ensures { IfOk result (λ copies. copies.items ≡ numbers.now) }
 {
     let mut copies = Vec::new(alloc);

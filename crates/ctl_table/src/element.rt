@@ -1,7 +1,6 @@
 // Elements whose parts are made.
 ghost use Rattle.std.specs.Prelude.{◌≡◌, ◌<◌, length, true, IfOk, None};
 ghost use Rattle.std.specs.Option.{option_copied};
-ghost use Rattle.smpl_patch.specs.Patterns.{is_statement};
 ghost use Rattle.smpl_patch.proofs.BodyLemmas.{dots_of};
 ghost use Rattle.ctl_formula.specs.Plain as plain;
 ghost use Rattle.ctl_formula.specs.Tables.{at, plains, Makes};
@@ -17,8 +16,8 @@ use crate::setting::Setting;
 use crate::wrap::{and_all, and_past, downs, exists_all, joined, target};
 use c_terms::NoMemory;
 use ctl_formula::{Node, Parts};
-use smpl_patch::{Dots, Elem, Pattern, is_statement};
-use smpl_terms::Var;
+use smpl_patch::{Dots, Elem, Pattern};
+use smpl_terms::{Shared, Var};
 use std::alloc::Global;
 use var_places::{Place, Scope, copied_vars};
 
@@ -38,62 +37,55 @@ pub fn part(
     Ok(Made::Part(Start::Other, f))
 }
 
-pub fn atom(
+/// An atom's part, and what follows it.
+pub fn joined_next(
     alloc: Global,
     parts: &mut Parts,
     m: &Setting,
-    p: &Pattern,
+    statement: bool,
+    f: usize,
     before: Option<&Elem>,
     next: &Made,
-    vars: &[Var],
     scope: &Scope,
 ) -> Result<usize, NoMemory>
-    requires { made_below (length parts.old) next.now ≡ true }
+    requires f { f < length parts.old }
+    requires next { made_below (length parts.old) next.now ≡ true }
     ensures made { let k = follow parts.old m.now (option_copied before.entry) next.now in
         IfOk result (λ i. Makes parts.old parts.new i
-        (table.joined m.now.forall_walks (is_statement p.now)
-        (table.own (setting_at m.now) vars.now p.now (plain.Atom p.now))
+        (table.joined m.now.forall_walks statement (at (plains parts.old) f)
         k.start (k.at scope.now))) }
 {
-    let f = own_atom(alloc, parts, m, vars, p)?;
     match next {
         Made::Nothing => Ok(f),
         _ => {
             let g = follow_at(alloc, parts, m, before, next, scope)?;
-            joined(parts, m.forall_walks, is_statement(p), f, start_of(next), g)
+            joined(parts, m.forall_walks, statement, f, start_of(next), g)
         }
     }
 }
 
-/// A head with its bodies and its tail, and what follows them.
-pub fn compound(
+/// A statement's part, and what follows the statement.
+pub fn past_next(
     alloc: Global,
     parts: &mut Parts,
     m: &Setting,
-    h: &Pattern,
-    inside: &[usize],
-    tail: &Option<Pattern>,
+    f: usize,
     before: Option<&Elem>,
     next: &Made,
-    vars: &[Var],
     scope: &Scope,
 ) -> Result<usize, NoMemory>
+    requires f { f < length parts.old }
     requires next { made_below (length parts.old) next.now ≡ true }
-    requires inside { all_below (length parts.old) inside.now ≡ true }
     ensures made { let k = follow parts.old m.now (option_copied before.entry) next.now in
         IfOk result (λ i. Makes parts.old parts.new i
-        (plain.And (table.with_tail (setting_at m.now) vars.now tail.now
-        (table.and_all (table.own (setting_at m.now) vars.now h.now (plain.Atom h.now))
-        (table.downs 0 (parts_at parts.old inside.now))))
-        (plain.Past (k.at scope.now)))) }
+        (plain.And (at (plains parts.old) f) (plain.Past (k.at scope.now)))) }
 {
-    let f = headed(alloc, parts, m, h, inside, tail, vars)?;
     let g = follow_at(alloc, parts, m, before, next, scope)?;
     and_past(parts, f, g)
 }
 
 /// A head with its bodies and its tail.
-fn headed(
+pub fn headed(
     alloc: Global,
     parts: &mut Parts,
     m: &Setting,
@@ -185,7 +177,7 @@ pub fn dots(
     let g = follow_at(alloc, parts, m, before, next, scope)?;
     let target = target(parts, start_of(next), g)?;
     let here = copied_vars(alloc, place.here.as_slice())?;
-    Ok(Made::Dots(MadeDots {
+    let made = MadeDots {
         whens,
         any: d.any,
         strict: d.strict,
@@ -193,7 +185,8 @@ pub fn dots(
         nest,
         target,
         here,
-    }))
+    };
+    Ok(Made::Dots(Shared::of(alloc, made)?))
 }
 
 /// `not` a piece of `when` code, under what is quantified around it.

@@ -1,9 +1,12 @@
 // What follows a sequence, once it is made.
-ghost use Rattle.std.specs.Prelude.{◌≡◌};
+ghost use Rattle.std.specs.Prelude.{◌≡◌, ◌-◌, length, slice_get, true, IfOk};
 ghost use Rattle.ctl_table.specs.Settings.{start_at, made_start};
+ghost use Rattle.ctl_table.specs.Columns.{EndsWithNothing};
 
-use smpl_terms::Var;
+use c_terms::NoMemory;
+use smpl_terms::{Shared, Var};
 use sqlite_items::Items;
+use std::alloc::Global;
 
 /// How what follows begins.
 #[derive(Clone, Copy, Debug, PartialEq, Eq)]
@@ -38,12 +41,25 @@ pub struct MadeDots {
     pub here: Items<Var>,
 }
 
-/// What follows.
+/// What follows. Dots are allocated once, and shared by its copies.
 #[derive(Drop)]
 pub enum Made {
     Nothing,
     Part(Start, usize),
-    Dots(MadeDots),
+    Dots(Shared<MadeDots>),
+}
+
+impl Made {
+    /// The same. Takes no memory.
+    pub fn share(&self) -> Result<Made, NoMemory>
+        ensures same { IfOk result (λ r. r ≡ self.now) }
+    {
+        match self {
+            Made::Nothing => Ok(Made::Nothing),
+            Made::Part(start, f) => Ok(Made::Part(*start, *f)),
+            Made::Dots(d) => Ok(Made::Dots(d.share()?)),
+        }
+    }
 }
 
 pub fn start_of(made: &Made) -> Start
@@ -53,5 +69,37 @@ pub fn start_of(made: &Made) -> Start
         Made::Nothing => Start::Nothing,
         Made::Part(start, _) => *start,
         Made::Dots(_) => Start::Dots,
+    }
+}
+
+/// What may follow, with nothing as the last: where it wasn't, it is one more.
+pub fn with_nothing(alloc: Global, nexts: &[Made]) -> Result<Vec<Made>, NoMemory>
+    ensures { IfOk result (λ all. EndsWithNothing nexts.now all.items) }
+{
+    let mut all = shared(alloc, nexts)?;
+    if ends_with_nothing(nexts) {
+        return Ok(all);
+    }
+    all.push(Made::Nothing)?;
+    Ok(all)
+}
+
+fn shared(alloc: Global, nexts: &[Made]) -> Result<Vec<Made>, NoMemory>
+    ensures { IfOk result (λ all. all.items ≡ nexts.now) }
+{
+    let mut all = Vec::new(alloc);
+    for next in nexts {
+        let next = next.share()?;
+        all.push(next)?;
+    }
+    Ok(all)
+}
+
+fn ends_with_nothing(nexts: &[Made]) -> bool
+    ensures { result ≡ true → slice_get nexts.now (length nexts.now - 1) ≡ Some Made.Nothing }
+{
+    match nexts {
+        [.., Made::Nothing] => true,
+        _ => false,
     }
 }

@@ -6,7 +6,8 @@
 //!
 //! A part that stands at several places of the formula is kept once. What formula a body has, row by row, stands in
 //! `specs/Table`: the module `rows` is that table, row for row. A sequence is worked off from its end, so what follows an
-//! element is made before it, and once.
+//! element is made before it. What stands inside a disjunction is worked off once for all that may follow it: what follows
+//! the disjunction, what follows each one around it, and nothing.
 //!
 //! `a(); ... b();` under `exists` is `Atom 0 and EX E[not Atom 0 and not Atom 1 U Atom 1]`.
 //!
@@ -15,6 +16,7 @@
 
 mod braces;
 mod dots;
+mod each;
 mod element;
 mod follow;
 mod loose;

@@ -1,5 +1,5 @@
 // The table from the elements of a body to formulas.
-ghost use Rattle.std.specs.Prelude.{◌≡◌, ◌≤◌, length, true, IfOk, None};
+ghost use Rattle.std.specs.Prelude.{◌≡◌, ◌≤◌, length, map, true, IfOk, None};
 ghost use Rattle.std.specs.List.{filter};
 ghost use Rattle.std.specs.Option.{option_copied};
 ghost use Rattle.smpl_patch.specs.Bodies.{body, element};
@@ -10,26 +10,31 @@ ghost use Rattle.var_places.specs.Placing.{occurs_body};
 ghost use Rattle.ctl_table.specs.Table as table;
 ghost use Rattle.var_places.specs.Places.{reading_at};
 ghost use Rattle.ctl_table.specs.Settings.{setting_at, element_or_none};
-ghost use Rattle.ctl_table.specs.Settings.{made_below, follow, suffix_at, start_with, when_at};
-ghost use Rattle.ctl_table.specs.Settings.{MakesAll, MakesFollow};
+ghost use Rattle.ctl_table.specs.Settings.{made_below, all_made_below, follow, suffix_at};
+ghost use Rattle.ctl_table.specs.Settings.{start_with, compound_at, block_at, when_at};
+ghost use Rattle.ctl_table.specs.Settings.{MakesAll, MakesFollows};
+ghost use Rattle.ctl_table.specs.Columns.{MakesColumns};
 ghost use Rattle.ctl_table.specs.Suffixes.{begins, along};
 
-use crate::dots::follow_at;
-use crate::element::{atom, braced, compound, dots, not_piece, part};
-use crate::follow::{Made, NestPart, Start};
-use crate::loose::lone;
+use crate::each::{
+    and_each, atoms, dots_each, first_branches, follows_at, no_branches, part_each, past_each,
+};
+use crate::element::{braced, headed, not_piece};
+use crate::follow::{Made, NestPart, Start, with_nothing};
+use crate::loose::{in_order, lone};
 use crate::own::{hidden, own_close};
 use crate::setting::Setting;
-use crate::wrap::{and_all, and_past, first_branch};
 use c_terms::NoMemory;
 use ctl_formula::Parts;
 use smpl_patch::{Elem, Pattern};
 use smpl_terms::Var;
 use sqlite_items::Items;
 use std::alloc::Global;
+use std::slice::from_ref;
 use var_places::{Place, Scope, extended, in_body, places_of};
 
-/// A sequence under what is quantified inside it and around it, and what follows it.
+/// A sequence under what is quantified inside it and around it, and what follows it. An element is worked off once, for all
+/// that may follow it: d + 1 things at most where d disjunctions stand around it.
 #[cycle(rows)]
 pub fn sequence(
     alloc: Global,
@@ -47,12 +52,35 @@ pub fn sequence(
         (follow parts.old m.now (option_copied before.entry) next.now)
         vars.now scope.now scope.now)) }
 {
+    let nexts = from_ref(next);
+    let made = sequences(alloc, parts, m, b, before, nexts, vars, scope)?;
+    Ok(made[0])
+}
+
+/// A sequence before each of the things that may follow it.
+#[cycle(rows)]
+fn sequences(
+    alloc: Global,
+    parts: &mut Parts,
+    m: &Setting,
+    b: &[Elem],
+    before: Option<&Elem>,
+    nexts: &[Made],
+    vars: &[Var],
+    scope: &Scope,
+) -> Result<Vec<usize>, NoMemory>
+    requires { all_made_below (length parts.old) nexts.now ≡ true }
+    ensures made { IfOk result (λ is. MakesAll parts.old parts.new is.items
+        (map (λ next. table.seq (setting_at m.now) None (body b.now)
+        (follow parts.old m.now (option_copied before.entry) next)
+        vars.now scope.now scope.now) nexts.now)) }
+{
     if b.len() == 0 {
-        return follow_at(alloc, parts, m, before, next, scope);
+        return follows_at(alloc, parts, m, before, nexts, scope);
     }
     let places = places_of(alloc, &m.reader, b, vars, scope)?;
-    let made = suffixes(alloc, parts, m, b, before, next, places.as_slice())?;
-    follow_at(alloc, parts, m, None, &made, scope)
+    let made = suffixes(alloc, parts, m, b, before, nexts, places.as_slice())?;
+    follows_at(alloc, parts, m, None, made.as_slice(), scope)
 }
 
 /// The whole of a sequence, for what stands before it: its suffixes are made from the last.
@@ -63,18 +91,20 @@ fn suffixes(
     m: &Setting,
     b: &[Elem],
     before: Option<&Elem>,
-    next: &Made,
+    nexts: &[Made],
     places: &[Place],
-) -> Result<Made, NoMemory>
-    requires next { made_below (length parts.old) next.now ≡ true }
+) -> Result<Vec<Made>, NoMemory>
+    requires nexts { all_made_below (length parts.old) nexts.now ≡ true }
     requires some { 1 ≤ length b.now }
     requires places { length places.now ≡ length b.now }
-    ensures made { let k = follow parts.old m.now (option_copied before.entry) next.now in
-        IfOk result (λ made. MakesFollow (setting_at m.now) parts.old parts.new made
-        (begins b.now k.start) (along (setting_at m.now) k b.now places.now)) }
+    ensures made { IfOk result (λ made.
+        MakesFollows (setting_at m.now) parts.old parts.new nexts.now made.items
+        (λ next. begins b.now (follow parts.old m.now (option_copied before.entry) next).start)
+        (λ next. along (setting_at m.now) (follow parts.old m.now (option_copied before.entry) next)
+        b.now places.now)) }
 {
     let mut i = b.len() - 1;
-    let mut made = suffix(alloc, parts, m, None, &b[i], before, next, &places[i])?;
+    let mut made = suffix(alloc, parts, m, None, &b[i], before, nexts, &places[i])?;
     while i > 0 {
         i -= 1;
         let e = &b[i];
@@ -85,14 +115,15 @@ fn suffixes(
             Some(&b[i + 1]),
             e,
             Some(e),
-            &made,
+            made.as_slice(),
             &places[i],
         )?;
     }
     Ok(made)
 }
 
-/// The suffix that begins with an element, for what stands before it.
+/// The suffix that begins with an element, for what stands before it. What stands inside the element is made once, but for
+/// branches, which what follows goes into.
 #[cycle(rows)]
 fn suffix(
     alloc: Global,
@@ -101,53 +132,45 @@ fn suffix(
     after: Option<&Elem>,
     e: &Elem,
     before: Option<&Elem>,
-    next: &Made,
+    nexts: &[Made],
     place: &Place,
-) -> Result<Made, NoMemory>
-    requires { made_below (length parts.old) next.now ≡ true }
-    ensures made { IfOk result (λ made. MakesFollow (setting_at m.now) parts.old parts.new made
-        (start_with (element e.now))
-        (suffix_at (setting_at m.now) (element_or_none (option_copied after.entry)) (element e.now)
-        (follow parts.old m.now (option_copied before.entry) next.now) place.now)) }
+) -> Result<Vec<Made>, NoMemory>
+    requires { all_made_below (length parts.old) nexts.now ≡ true }
+    ensures made { IfOk result (λ made.
+        MakesFollows (setting_at m.now) parts.old parts.new nexts.now made.items
+        (λ next. start_with (element e.now))
+        (λ next. suffix_at (setting_at m.now) (element_or_none (option_copied after.entry)) (element e.now)
+        (follow parts.old m.now (option_copied before.entry) next) place.now)) }
 {
     let vars = place.inside.as_slice();
     let scope = &place.scope;
     match e {
         Elem::Atom(p) => {
-            let f = atom(alloc, parts, m, p, before, next, vars, scope)?;
-            part(alloc, parts, m, place, f)
+            let fs = atoms(alloc, parts, m, p, before, nexts, vars, scope)?;
+            part_each(alloc, parts, m, place, fs.as_slice())
         }
         Elem::Compound(h, bodies, tail) => {
             let bodies = bodies.as_slice();
-            let inside = each(alloc, parts, m, bodies, None, &Made::Nothing, vars, scope)?;
-            let inside = inside.as_slice();
-            let f = compound(alloc, parts, m, h, inside, tail, before, next, vars, scope)?;
-            part(alloc, parts, m, place, f)
+            let f = compound(alloc, parts, m, h, bodies, tail, vars, scope)?;
+            let fs = past_each(alloc, parts, m, f, before, nexts, scope)?;
+            part_each(alloc, parts, m, place, fs.as_slice())
         }
         Elem::Block(o, b, c) => {
-            let f = block(
-                alloc,
-                parts,
-                m,
-                o,
-                b.as_slice(),
-                c,
-                before,
-                next,
-                vars,
-                scope,
-            )?;
-            part(alloc, parts, m, place, f)
+            let f = block(alloc, parts, m, o, b.as_slice(), c, vars, scope)?;
+            let fs = past_each(alloc, parts, m, f, before, nexts, scope)?;
+            part_each(alloc, parts, m, place, fs.as_slice())
         }
         Elem::Gap(d) => {
             let whens = when_parts(alloc, parts, m, d.whens.as_slice(), scope)?;
-            dots(alloc, parts, m, after, d, whens, None, before, next, place)
+            let whens = whens.as_slice();
+            dots_each(alloc, parts, m, after, d, whens, None, before, nexts, place)
         }
         Elem::Nest(plus, b, d) => {
             let part = nest(alloc, parts, m, b.as_slice(), vars, scope)?;
             let whens = when_parts(alloc, parts, m, d.whens.as_slice(), scope)?;
+            let whens = whens.as_slice();
             let nest = NestPart { plus: *plus, part };
-            dots(
+            dots_each(
                 alloc,
                 parts,
                 m,
@@ -156,39 +179,43 @@ fn suffix(
                 whens,
                 Some(nest),
                 before,
-                next,
+                nexts,
                 place,
             )
         }
         Elem::AnyOf(bodies) => {
-            let f = choice(
-                alloc,
-                parts,
-                m,
-                bodies.as_slice(),
-                before,
-                next,
-                vars,
-                scope,
-            )?;
-            part(alloc, parts, m, place, f)
+            let bodies = bodies.as_slice();
+            let fs = choice(alloc, parts, m, bodies, before, nexts, vars, scope)?;
+            part_each(alloc, parts, m, place, fs.as_slice())
         }
         Elem::AllOf(bodies) => {
-            let f = every(
-                alloc,
-                parts,
-                m,
-                bodies.as_slice(),
-                before,
-                next,
-                vars,
-                scope,
-            )?;
-            part(alloc, parts, m, place, f)
+            let bodies = bodies.as_slice();
+            let fs = every(alloc, parts, m, bodies, before, nexts, vars, scope)?;
+            part_each(alloc, parts, m, place, fs.as_slice())
         }
     }
 }
 
+/// A head with its bodies and its tail.
+#[cycle(rows)]
+fn compound(
+    alloc: Global,
+    parts: &mut Parts,
+    m: &Setting,
+    h: &Pattern,
+    bs: &[Items<Elem>],
+    tail: &Option<Pattern>,
+    vars: &[Var],
+    scope: &Scope,
+) -> Result<usize, NoMemory>
+    ensures made { IfOk result (λ i. Makes parts.old parts.new i
+        (compound_at (setting_at m.now) h.now (bodies_of bs.now) tail.now vars.now scope.now)) }
+{
+    let inside = each(alloc, parts, m, bs, vars, scope)?;
+    headed(alloc, parts, m, h, inside.as_slice(), tail, vars)
+}
+
+/// A block's braces, and what they hold.
 #[cycle(rows)]
 fn block(
     alloc: Global,
@@ -197,25 +224,18 @@ fn block(
     o: &Pattern,
     b: &[Elem],
     c: &Pattern,
-    before: Option<&Elem>,
-    next: &Made,
     vars: &[Var],
     scope: &Scope,
 ) -> Result<usize, NoMemory>
-    requires { made_below (length parts.old) next.now ≡ true }
     ensures made { IfOk result (λ i. Makes parts.old parts.new i
-        (table.elem (setting_at m.now) None None (bodies.Block o.now (body b.now) c.now)
-        (follow parts.old m.now (option_copied before.entry) next.now)
-        vars.now scope.now scope.now)) }
+        (block_at (setting_at m.now) o.now (body b.now) c.now vars.now scope.now)) }
 {
     let v = hidden(alloc, m, o)?;
     let close = own_close(alloc, parts, m, vars, c, &v)?;
     let brace = Made::Part(Start::Brace, close);
     let own = in_body(alloc, &m.reader, b, vars)?;
     let inside = sequence(alloc, parts, m, b, None, &brace, own.as_slice(), scope)?;
-    let f = braced(alloc, parts, m, vars, o, v, inside)?;
-    let g = follow_at(alloc, parts, m, before, next, scope)?;
-    and_past(parts, f, g)
+    braced(alloc, parts, m, vars, o, v, inside)
 }
 
 /// The part of a nest.
@@ -283,8 +303,8 @@ fn when_part(
     not_piece(alloc, parts, alone, f)
 }
 
-/// The first branch that holds, with what follows. The last branch is excluded nowhere; where nothing follows, a branch
-/// with what follows is the branch alone.
+/// The first branch that holds, before each of the things that may follow. Each branch is worked off once: the last for these
+/// things, and each of the others for nothing too, since it is excluded at later branches.
 #[cycle(rows)]
 fn choice(
     alloc: Global,
@@ -292,30 +312,84 @@ fn choice(
     m: &Setting,
     bs: &[Items<Elem>],
     before: Option<&Elem>,
-    next: &Made,
+    nexts: &[Made],
     vars: &[Var],
     scope: &Scope,
-) -> Result<usize, NoMemory>
-    requires { made_below (length parts.old) next.now ≡ true }
-    ensures made { IfOk result (λ i. Makes parts.old parts.new i
-        (table.elem (setting_at m.now) None None (bodies.AnyOf (bodies_of bs.now))
-        (follow parts.old m.now (option_copied before.entry) next.now)
-        vars.now scope.now scope.now)) }
+) -> Result<Vec<usize>, NoMemory>
+    requires { all_made_below (length parts.old) nexts.now ≡ true }
+    ensures made { IfOk result (λ is. MakesAll parts.old parts.new is.items
+        (map (λ next. table.elem (setting_at m.now) None None (bodies.AnyOf (bodies_of bs.now))
+        (follow parts.old m.now (option_copied before.entry) next)
+        vars.now scope.now scope.now) nexts.now)) }
 {
-    let made = each(alloc, parts, m, bs, before, next, vars, scope)?;
-    let with = made.as_slice();
-    match next {
-        Made::Nothing => first_branch(alloc, parts, with, with),
-        _ => {
-            let but_last = &bs[..bs.len().saturating_sub(1)];
-            let lone = each(alloc, parts, m, but_last, None, &Made::Nothing, vars, scope)?;
-            let alone = lone.as_slice();
-            first_branch(alloc, parts, with, alone)
+    match bs {
+        [] => no_branches(alloc, parts, nexts),
+        [front @ .., last] => {
+            let all = with_nothing(alloc, nexts)?;
+            let all = all.as_slice();
+            let rows = branches(alloc, parts, m, front, before, all, vars, scope)?;
+            let last = last.as_slice();
+            let ends = one_branch(alloc, parts, m, last, before, nexts, vars, scope)?;
+            let ends = ends.as_slice();
+            first_branches(alloc, parts, rows.as_slice(), ends, all.len() - 1)
         }
     }
 }
 
-/// All branches, the first with what follows.
+/// The parts of a branch, one for each of the things that may follow.
+#[cycle(rows)]
+fn one_branch(
+    alloc: Global,
+    parts: &mut Parts,
+    m: &Setting,
+    b: &[Elem],
+    before: Option<&Elem>,
+    nexts: &[Made],
+    vars: &[Var],
+    scope: &Scope,
+) -> Result<Vec<usize>, NoMemory>
+    requires { all_made_below (length parts.old) nexts.now ≡ true }
+    ensures made { IfOk result (λ is. MakesAll parts.old parts.new is.items
+        (map (λ next. table.seq (setting_at m.now) None (body b.now)
+        (follow parts.old m.now (option_copied before.entry) next)
+        (filter (occurs_body (reading_at m.now.reader) (body b.now)) vars.now)
+        scope.now scope.now) nexts.now)) }
+{
+    let own = in_body(alloc, &m.reader, b, vars)?;
+    let own = own.as_slice();
+    sequences(alloc, parts, m, b, before, nexts, own, scope)
+}
+
+/// The parts of each branch, one for each of the things that may follow.
+#[cycle(rows)]
+fn branches(
+    alloc: Global,
+    parts: &mut Parts,
+    m: &Setting,
+    bs: &[Items<Elem>],
+    before: Option<&Elem>,
+    nexts: &[Made],
+    vars: &[Var],
+    scope: &Scope,
+) -> Result<Vec<Items<usize>>, NoMemory>
+    requires { all_made_below (length parts.old) nexts.now ≡ true }
+    ensures made { IfOk result (λ rows. MakesColumns parts.old parts.new nexts.now rows.items
+        (λ next. table.each (setting_at m.now) (bodies_of bs.now)
+        (follow parts.old m.now (option_copied before.entry) next) vars.now scope.now)) }
+{
+    let ordered = in_order(alloc, vars)?;
+    let mut rows = Vec::new(alloc);
+    for b in bs {
+        let body = b.as_slice();
+        let own = ordered.in_body(alloc, &m.reader, body)?;
+        let own = own.as_slice();
+        let row = sequences(alloc, parts, m, body, before, nexts, own, scope)?;
+        rows.push(Items::from_vec(row))?;
+    }
+    Ok(rows)
+}
+
+/// All branches, the first before each of the things that may follow.
 #[cycle(rows)]
 fn every(
     alloc: Global,
@@ -323,52 +397,47 @@ fn every(
     m: &Setting,
     bs: &[Items<Elem>],
     before: Option<&Elem>,
-    next: &Made,
+    nexts: &[Made],
     vars: &[Var],
     scope: &Scope,
-) -> Result<usize, NoMemory>
-    requires { made_below (length parts.old) next.now ≡ true }
-    ensures made { IfOk result (λ i. Makes parts.old parts.new i
-        (table.elem (setting_at m.now) None None (bodies.AllOf (bodies_of bs.now))
-        (follow parts.old m.now (option_copied before.entry) next.now)
-        vars.now scope.now scope.now)) }
+) -> Result<Vec<usize>, NoMemory>
+    requires { all_made_below (length parts.old) nexts.now ≡ true }
+    ensures made { IfOk result (λ is. MakesAll parts.old parts.new is.items
+        (map (λ next. table.elem (setting_at m.now) None None (bodies.AllOf (bodies_of bs.now))
+        (follow parts.old m.now (option_copied before.entry) next)
+        vars.now scope.now scope.now) nexts.now)) }
 {
     match bs {
-        [] => follow_at(alloc, parts, m, before, next, scope),
+        [] => follows_at(alloc, parts, m, before, nexts, scope),
         [b, more @ ..] => {
             let first = b.as_slice();
-            let own = in_body(alloc, &m.reader, first, vars)?;
-            let own = own.as_slice();
-            let f = sequence(alloc, parts, m, first, before, next, own, scope)?;
-            let others = each(alloc, parts, m, more, None, &Made::Nothing, vars, scope)?;
-            and_all(parts, f, others.as_slice())
+            let fs = one_branch(alloc, parts, m, first, before, nexts, vars, scope)?;
+            let others = each(alloc, parts, m, more, vars, scope)?;
+            and_each(alloc, parts, fs.as_slice(), others.as_slice())
         }
     }
 }
 
-/// Bodies or branches with what follows each.
+/// Bodies or branches, nothing following any of them.
 #[cycle(rows)]
 fn each(
     alloc: Global,
     parts: &mut Parts,
     m: &Setting,
     bs: &[Items<Elem>],
-    before: Option<&Elem>,
-    next: &Made,
     vars: &[Var],
     scope: &Scope,
 ) -> Result<Vec<usize>, NoMemory>
-    requires { made_below (length parts.old) next.now ≡ true }
     ensures made { IfOk result (λ is. MakesAll parts.old parts.new is.items
-        (table.each (setting_at m.now) (bodies_of bs.now)
-        (follow parts.old m.now (option_copied before.entry) next.now) vars.now scope.now)) }
+        (table.each (setting_at m.now) (bodies_of bs.now) table.nothing vars.now scope.now)) }
 {
+    let ordered = in_order(alloc, vars)?;
     let mut made = Vec::new(alloc);
     for b in bs {
         let body = b.as_slice();
-        let own = in_body(alloc, &m.reader, body, vars)?;
+        let own = ordered.in_body(alloc, &m.reader, body)?;
         let own = own.as_slice();
-        let row = sequence(alloc, parts, m, body, before, next, own, scope)?;
+        let row = sequence(alloc, parts, m, body, None, &Made::Nothing, own, scope)?;
         made.push(row)?;
     }
     Ok(made)

@@ -1,6 +1,5 @@
 // What the table goes by, besides the element at hand.
-use smpl_terms::Var;
-use var_places::Reader;
+use var_places::{Ordered, Reader};
 
 /// What the table goes by.
 #[derive(Clone, Copy)]
@@ -9,9 +8,9 @@ pub struct Setting<'a> {
     /// Dots go over all walks, and else over some walk.
     pub forall_walks: bool,
     /// The variables that are neither exported nor inherited.
-    pub locals: &'a [Var],
+    pub locals: &'a Ordered,
     /// Those of them that occur in `when` code alone.
-    pub alone: &'a [Var],
+    pub alone: &'a Ordered,
     /// The opening braces' atoms, in the order of their hidden variables.
     pub blocks: &'a [u32],
 }

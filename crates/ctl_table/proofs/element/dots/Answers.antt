@@ -1,13 +1,12 @@
-use Rattle.std.proofs.Common.{Bool, false, sym, ap, subst, ◌∙◌, if◌then◌else◌, None, List}
+use Rattle.std.proofs.Common.{Bool, sym, ap, subst, ◌∙◌}
 use Rattle.std.specs.Option.{option_copied}
-use Rattle.smpl_terms.specs.declared.var.Var.{Var}
 use Rattle.smpl_patch.specs.declared.elem.Dots.{out-Dots}
 use Rattle.smpl_patch.proofs.BodyLemmas.{dots_of}
 use Rattle.ctl_formula.specs.Tables.{at, plains}
 use Rattle.ctl_table.specs.Table as table
 use Rattle.ctl_table.specs.declared.follow.MadeDots.{MadeDots}
 use Rattle.ctl_table.specs.declared.follow.Made.TheVariants as made
-use Rattle.ctl_table.specs.Settings.{setting_at, element_or_none, parts_at, made_at, follow, dots_row, MakesSome, MakesFollow}
+use Rattle.ctl_table.specs.Settings.{setting_at, element_or_none, parts_at, made_at, follow, dots_row, MakesFollow}
 use Rattle.ctl_table.proofs.MakingLemmas.{made-as}
 use Rattle.ctl_table.proofs.FollowLemmas.{made-stands, made-stays}
 use Rattle.ctl_table.proofs.ElementLemmas.{dots-made}
@@ -48,6 +47,10 @@ returns c =
     (made-as e c.target.new.parts c.in_ok-target.target _ (table.target k.start (at (plains e) c.in_ok-g.g))
     (ap (λ (z : table.Start). table.target z (at (plains e) c.in_ok-g.g)) c.start_of.ensures) c.in_ok-target.ensures.made)
     (c.in_ok-here.ensures ∙ c.as_slice.ensures) in
+    let whole : row (dots_of c.args.d.now).any (dots_of c.args.d.now).strict =
+    subst (λ (u : Bool). row u (dots_of c.args.d.now).strict) (sym (dots-any c.args.d.now)) (subst (λ (v : Bool). row any v) (sym (dots-strict c.args.d.now)) found) in
     record {
-      made = subst (λ (u : Bool). row u (dots_of c.args.d.now).strict) (sym (dots-any c.args.d.now)) (subst (λ (v : Bool). row any v) (sym (dots-strict c.args.d.now)) found);
+      made = subst (λ (z : MadeDots). MakesFollow m a c.target.new.parts (made.Dots z) table.Dots
+          (λ s t. dots_row m a s after (parts_at a c.args.whens.items) (dots_of c.args.d.now).any (dots_of c.args.d.now).strict c.args.nest k place t))
+          (sym c.in_ok-of.ensures.value) whole;
     }

@@ -1,30 +1,35 @@
-use Rattle.std.proofs.Common.{true, false, ℕ, ◌≡◌, ◌+◌, ◌-◌, ◌<◌, ◌∙◌, ◌++◌, ap, sym, subst, refl, arith, length, take, drop, List, None, Some}
+use Rattle.std.proofs.Common.{true, false, ℕ, ◌≡◌, ◌+◌, ◌-◌, ◌<◌, ◌∙◌, ◌++◌, ap, sym, subst, refl, arith, length, map, take, drop, get_or, List, [], ◌∷◌, None, Some}
 use Rattle.std.specs.Option.{option_copied}
 use Rattle.std.specs.List.{filter}
 use Rattle.std.specs.Result.{IfOk}
+use Rattle.std.proofs.lemmas.Result.{IfOk-weaker}
 use Rattle.smpl_patch.specs.declared.elem.Elem.{Elem}
 use Rattle.smpl_patch.specs.Bodies.{body, element}
 use Rattle.smpl_patch.specs.Bodies as bodies
 use Rattle.smpl_patch.proofs.BodyLemmas.{bodies as bodies_of, dots_of, element-Atom, element-Compound, element-Block, element-Gap, element-Nest, element-AnyOf, element-AllOf}
 use Rattle.smpl_terms.specs.declared.var.Var.{Var}
 use Rattle.ctl_formula.specs.Plain.{Plain}
-use Rattle.ctl_formula.specs.Tables.{Makes}
-use Rattle.ctl_formula.proofs.TableLemmas.{grows-trans}
+use Rattle.ctl_formula.specs.Tables.{plains, Makes}
+use Rattle.ctl_formula.proofs.TableLemmas.{grows-refl, grows-trans}
 use Rattle.var_places.specs.Placing.{occurs_body}
 use Rattle.ctl_table.specs.Table as table
 use Rattle.var_places.specs.Places.{reading_at}
-use Rattle.ctl_table.specs.Settings.{setting_at, element_or_none, all_below, parts_at, follow, MakesAll, MakesFollow}
+use Rattle.ctl_table.specs.declared.follow.Made.{Made}
+use Rattle.ctl_table.specs.Settings.{setting_at, element_or_none, all_below, all_made_below, made_below, made_at, parts_at, follow_of, suffix_at, start_with, block_at, compound_at, MakesAll, MakesFollows}
+use Rattle.ctl_table.specs.Columns.{rows_within, MakesColumns}
 use Rattle.ctl_table.specs.Suffixes.{begins, along}
-use Rattle.var_places.proofs.Weights.{weight_body, body-at, bodies-at, weight-first, weight-rest, weight-take}
-use Rattle.ctl_table.proofs.MakingLemmas.{all-stand}
-use Rattle.ctl_table.proofs.FollowLemmas.{made-stands, follow-stays}
+use Rattle.var_places.proofs.Weights.{weight_body, body-at, bodies-at, weight-take, weight-first, weight-rest}
+use Rattle.ctl_table.proofs.MakingLemmas.{all-stand, both-true}
+use Rattle.ctl_table.proofs.FollowLemmas.{follow-stays}
 use Rattle.ctl_table.proofs.RowLemmas.{taken, init-all, all-next, each-step, when-step}
-use Rattle.ctl_table.proofs.AlongLemmas.{length-places, suffixes-last, suffixes-step, suffixes-all, sequence-made, sequence-none}
-use Rattle.ctl_table.proofs.ElementLemmas.{part-rows, dots-rows}
-use Rattle.ctl_table.proofs.BranchLemmas.{then-past, block-made, when-made, every-none, every-made, choice-alone, choice-made, elem-at, compound-made, whens-are, nest-is}
+use Rattle.ctl_table.proofs.AlongLemmas.{length-places}
+use Rattle.ctl_table.proofs.BranchLemmas.{block-made, compound-made, when-made, elem-at, whens-are, nest-is}
+use Rattle.ctl_table.proofs.EachLemmas.{nexts-stand, follows-within, only-made, only-one}
+use Rattle.ctl_table.proofs.SuffixLemmas.{last-each, step-each, whole-each, sequences-made, sequences-none, row-each, dots-each, past-each}
+use Rattle.ctl_table.proofs.ColumnLemmas.{no-rows, columns-step, rows-stand, choice-each, choice-none, last-branch, every-none, every-each, last-long, front-long, all-within, all-long}
 use Rattle.ctl_table.proofs.rows.+rows.Goals as goal
 
--- bodies or branches with what follows each
+-- bodies or branches, nothing following
 
 pub each-loop-b-init : goal.each-loop-b-init
 each-loop-b-init t c = init-all c.args.parts.now _ (cc)
@@ -33,25 +38,50 @@ pub each-sequence-requires : goal.each-sequence-requires
 each-sequence-requires t c =
     let w = bodies-at c.args.bs.now c.loop-b.b-index c.b-item.result c.loop-b-test.true c.b-item.is in
     let e = ap (λ z. weight_body (body z)) c.as_slice-body.ensures in
-    (omega (arith, w, e), made-stands c.args.parts.now c.loop-b.parts c.args.next.now c.loop-b.invariant.grows c.requires)
+    (omega (arith, w, e), refl)
 
 pub each-loop-b-preserved : goal.each-loop-b-preserved
 each-loop-b-preserved t c =
     let m = setting_at c.args.m.now in
     all-next _ _ _ _ _ _ c.in_ok-push.ensures.items
-    (each-step m c.args.parts.now c.loop-b.parts c.sequence.new.parts
-    (follow c.args.parts.now c.args.m.now (option_copied c.args.before) c.args.next.now)
-    (follow c.loop-b.parts c.args.m.now (option_copied c.args.before) c.args.next.now)
+    (each-step m c.args.parts.now c.loop-b.parts c.sequence.new.parts table.nothing table.nothing
     c.args.vars.now c.args.scope.now c.as_slice-own.result.now c.args.bs.now c.b-item.result c.as_slice-body.result.now
     c.loop-b.made.items c.loop-b.b-index c.in_ok-row.row
-    c.loop-b-test.true c.b-item.is c.as_slice-body.ensures (c.as_slice-own.ensures ∙ c.in_ok-own.ensures)
-    (follow-stays c.args.parts.now c.loop-b.parts m (element_or_none (option_copied c.args.before)) c.args.next.now c.loop-b.invariant.grows c.requires)
+    c.loop-b-test.true c.b-item.is c.as_slice-body.ensures (c.as_slice-own.ensures ∙ c.in_ok-own.ensures
+    ∙ ap (λ (vs : List Var). filter (occurs_body (reading_at c.args.m.now.reader) (body c.as_slice-body.result.now)) vs) c.in_ok-ordered.ensures) refl
     c.loop-b.invariant c.in_ok-row.ensures.made)
 
 pub each-returns : goal.each-returns
 each-returns t c = record {
   made = subst (λ (z : List (List Elem)). MakesAll c.args.parts.now c.loop-b.parts c.loop-b.made.items
-      (table.each (setting_at c.args.m.now) (bodies_of z) (follow c.args.parts.now c.args.m.now (option_copied c.args.before) c.args.next.now) c.args.vars.now c.args.scope.now))
+      (table.each (setting_at c.args.m.now) (bodies_of z) table.nothing c.args.vars.now c.args.scope.now))
+      (taken c.loop-b.b-index c.args.bs.now (omega arith)) c.loop-b.invariant;
+}
+
+-- branches, with each thing that may follow
+
+pub branches-loop-b-init : goal.branches-loop-b-init
+branches-loop-b-init t c = no-rows c.args.parts.now c.args.nexts.now _ _ (λ n. refl) (grows-refl c.args.parts.now) (cc)
+
+pub branches-sequences-requires : goal.branches-sequences-requires
+branches-sequences-requires t c =
+    let w = bodies-at c.args.bs.now c.loop-b.b-index c.b-item.result c.loop-b-test.true c.b-item.is in
+    let e = ap (λ z. weight_body (body z)) c.as_slice-body.ensures in
+    (omega (arith, w, e), nexts-stand c.args.parts.now c.loop-b.parts c.args.nexts.now c.loop-b.invariant.grows c.requires)
+
+pub branches-loop-b-preserved : goal.branches-loop-b-preserved
+branches-loop-b-preserved t c =
+    columns-step (setting_at c.args.m.now) c.args.parts.now c.loop-b.parts c.sequences.new.parts (element_or_none (option_copied c.args.before)) c.args.nexts.now
+    c.args.vars.now c.args.scope.now c.as_slice-own.result.now c.args.bs.now c.b-item.result c.as_slice-body.result.now
+    c.loop-b.rows.items _ c.in_ok-row.row.items c.loop-b.b-index
+    c.loop-b-test.true c.b-item.is c.as_slice-body.ensures (c.as_slice-own.ensures ∙ c.in_ok-own.ensures
+    ∙ ap (λ (vs : List Var). filter (occurs_body (reading_at c.args.m.now.reader) (body c.as_slice-body.result.now)) vs) c.in_ok-ordered.ensures)
+    (c.in_ok-push.ensures.items ∙ ap (λ z. c.loop-b.rows.items ++ z ∷ []) c.from_vec.ensures) c.requires c.loop-b.invariant c.in_ok-row.ensures.made
+
+pub branches-returns : goal.branches-returns
+branches-returns t c = record {
+  made = subst (λ (z : List (List Elem)). MakesColumns c.args.parts.now c.loop-b.parts c.args.nexts.now c.loop-b.rows.items
+      (λ n. table.each (setting_at c.args.m.now) (bodies_of z) (follow_of (plains c.args.parts.now) (setting_at c.args.m.now) (element_or_none (option_copied c.args.before)) n) c.args.vars.now c.args.scope.now))
       (taken c.loop-b.b-index c.args.bs.now (omega arith)) c.loop-b.invariant;
 }
 
@@ -97,59 +127,113 @@ nest-returns t c = record {
       (c.as_slice.ensures ∙ c.in_ok-own.ensures) c.sequence.ensures.made;
 }
 
--- blocks
+-- heads with bodies, and blocks
+
+pub compound-returns : goal.compound-returns
+compound-returns t c = record {
+  made = compound-made (setting_at c.args.m.now) c.args.parts.now c.each.new.parts c.headed.new.parts c.args.h.now c.args.tail.now (bodies_of c.args.bs.now)
+      c.args.vars.now c.args.scope.now c.in_ok-inside.inside.items c.as_slice.result.now c.headed.result
+      c.as_slice.ensures.value c.in_ok-inside.ensures.made c.headed.ensures.made;
+}
 
 pub block-returns : goal.block-returns
-block-returns t c =
-    let m = setting_at c.args.m.now in
-    let made = block-made m c.args.parts.now c.own_close.new.parts c.sequence.new.parts c.braced.new.parts c.args.o.now c.args.c.now (body c.args.b.now)
-    c.args.vars.now c.as_slice.result.now c.args.scope.now c.in_ok-v.v c.in_ok-close.close c.in_ok-inside.inside c.in_ok-f.f
-    c.in_ok-v.ensures c.in_ok-close.ensures.made (c.as_slice.ensures ∙ c.in_ok-own.ensures) c.in_ok-inside.ensures.made c.in_ok-f.ensures.made in
-    record {
-      made = then-past m c.args.parts.now c.braced.new.parts c.follow_at.new.parts c.and_past.new.parts c.in_ok-f.f c.in_ok-g.g _
-          (element_or_none (option_copied c.args.before)) c.args.next.now c.args.scope.now c.and_past.result
-          c.requires made c.in_ok-g.ensures.made c.and_past.ensures.made;
-    }
+block-returns t c = record {
+  made = block-made (setting_at c.args.m.now) c.args.parts.now c.own_close.new.parts c.sequence.new.parts c.braced.new.parts c.args.o.now c.args.c.now (body c.args.b.now)
+      c.args.vars.now c.as_slice.result.now c.args.scope.now c.in_ok-v.v c.in_ok-close.close c.in_ok-inside.inside c.braced.result
+      c.in_ok-v.ensures c.in_ok-close.ensures.made (c.as_slice.ensures ∙ c.in_ok-own.ensures) c.in_ok-inside.ensures.made c.braced.ensures.made;
+}
 
 -- disjunctions
 
-pub choice-returns-in-Nothing : goal.choice-returns-in-Nothing
-choice-returns-in-Nothing t c = record {
-  made = choice-alone (setting_at c.args.m.now) c.args.parts.now c.each.new.parts c.first_branch.new.parts (element_or_none (option_copied c.args.before)) c.args.next.now
-      c.args.bs.now c.args.vars.now c.args.scope.now c.in_ok-made.made.items c.as_slice-with.result.now c.first_branch.result
-      c.in-Nothing.is c.as_slice-with.ensures.value c.in_ok-made.ensures.made c.first_branch.ensures.made;
+pub choice-branches-requires : goal.choice-branches-requires
+choice-branches-requires t c = (
+  (let w = weight-take (length c.args.bs.now - 1) c.args.bs.now in omega (arith, w)),
+  ap (all_made_below (length c.args.parts.now)) c.as_slice-all.ensures.value
+      ∙ all-within (length c.args.parts.now) c.args.nexts.now c.in_ok-all-in-len1-up.all.items c.in_ok-all-in-len1-up.ensures c.requires,
+)
+
+pub choice-one_branch-requires : goal.choice-one_branch-requires
+choice-one_branch-requires t c =
+    let l = c.in-len1-up.len_at_least in
+    let w = bodies-at c.args.bs.now (length c.args.bs.now - 1) c.last-item.result (omega (arith, l)) c.last-item.is in
+    let e = ap (λ z. weight_body (body z)) c.as_slice-last.ensures in
+    (omega (arith, w, e), nexts-stand c.args.parts.now c.branches.new.parts c.args.nexts.now c.in_ok-rows-in-len1-up.ensures.made.grows c.requires)
+
+pub choice-first_branches-requires : goal.choice-first_branches-requires
+choice-first_branches-requires t c =
+    let ends_with = c.in_ok-all-in-len1-up.ensures in
+    let made = c.in_ok-rows-in-len1-up.ensures.made in
+    let ends = c.in_ok-ends-in-len1-up.ensures.made in
+    let long = ap length c.as_slice-all.ensures.value in
+    let width : length c.as_slice-all.result.now ≡ length c.as_slice-all.result.now - 1 + 1 =
+    omega (arith, long, last-long c.args.nexts.now c.in_ok-all-in-len1-up.all.items ends_with) in
+    let as_many = ap length c.as_slice-ends.ensures.value ∙ all-long c.branches.new.parts c.one_branch.new.parts c.in_ok-ends-in-len1-up.ends.items _ c.args.nexts.now ends in
+    record {
+      most = omega (arith, long, as_many, front-long c.args.nexts.now c.in_ok-all-in-len1-up.all.items ends_with);
+      within = ap (rows_within (length c.one_branch.new.parts) (length c.as_slice-all.result.now - 1 + 1)) c.as_slice.ensures.value
+          ∙ ap (λ (z : ℕ). rows_within (length c.one_branch.new.parts) z c.in_ok-rows-in-len1-up.rows.items) (sym width)
+          ∙ rows-stand c.branches.new.parts c.one_branch.new.parts (length c.as_slice-all.result.now) c.in_ok-rows-in-len1-up.rows.items ends.grows made.within;
+      ends = ap (all_below (length c.one_branch.new.parts)) c.as_slice-ends.ensures.value ∙ ends.within;
+    }
+
+pub choice-returns-in-empty : goal.choice-returns-in-empty
+choice-returns-in-empty t c = record {
+  made = IfOk-weaker c.no_branches.result _ _
+      (λ is h. choice-none (setting_at c.args.m.now) c.args.parts.now c.no_branches.new.parts
+      (λ n. follow_of (plains c.args.parts.now) (setting_at c.args.m.now) (element_or_none (option_copied c.args.before)) n) c.args.nexts.now is.items
+      c.args.bs.now c.args.vars.now c.args.scope.now (omega arith) h) c.no_branches.ensures.made;
 }
 
-pub choice-returns : goal.choice-returns
-choice-returns t c = record {
-  made = choice-made (setting_at c.args.m.now) c.args.parts.now c.each.new.parts c.each-in_default.new.parts c.first_branch-in_default.new.parts (follow c.args.parts.now c.args.m.now (option_copied c.args.before) c.args.next.now)
-      c.args.bs.now (take c.saturating_sub.result c.args.bs.now) c.args.vars.now c.args.scope.now c.in_ok-made.made.items c.as_slice-with.result.now c.in_ok-lone-in_default.lone.items
-      c.as_slice-alone.result.now c.first_branch-in_default.result (ap (λ (z : ℕ). take z c.args.bs.now) c.saturating_sub.ensures)
-      c.as_slice-with.ensures.value c.as_slice-alone.ensures.value c.in_ok-made.ensures.made c.in_ok-lone-in_default.ensures.made c.first_branch-in_default.ensures.made;
-}
+pub choice-returns-in_ok-ends-in-len1-up : goal.choice-returns-in_ok-ends-in-len1-up
+choice-returns-in_ok-ends-in-len1-up t c =
+    let m = setting_at c.args.m.now in
+    let a = c.args.parts.now in
+    let b = c.branches.new.parts in
+    let before = element_or_none (option_copied c.args.before) in
+    let all = c.in_ok-all-in-len1-up.all.items in
+    let bs = c.args.bs.now in
+    let front = take (length bs - 1) bs in
+    let each = λ (n : Made). table.each m (bodies_of front) (follow_of (plains a) m before n) c.args.vars.now c.args.scope.now in
+    record {
+      made = IfOk-weaker c.first_branches.result _ _
+          (λ is h. choice-each m a b c.one_branch.new.parts c.first_branches.new.parts before c.args.nexts.now all
+          c.args.vars.now c.args.scope.now bs front c.last-item.result c.as_slice-last.result.now
+          c.as_slice.result.now c.in_ok-ends-in-len1-up.ends.items c.as_slice-ends.result.now is.items (length c.as_slice-all.result.now - 1)
+          c.in_ok-all-in-len1-up.ensures (ap (λ (z : List Made). length z - 1) c.as_slice-all.ensures.value)
+          (last-branch bs c.last-item.result c.in-len1-up.len_at_least c.last-item.is) c.as_slice-last.ensures c.as_slice-ends.ensures.value c.requires
+          (subst (λ (z : List (List ℕ)). MakesColumns a b all z each) (sym c.as_slice.ensures.value)
+          (subst (λ (z : List Made). MakesColumns a b z c.in_ok-rows-in-len1-up.rows.items each) c.as_slice-all.ensures.value c.in_ok-rows-in-len1-up.ensures.made))
+          c.in_ok-ends-in-len1-up.ensures.made h)
+          c.first_branches.ensures.made;
+    }
 
-pub choice-each-requires-in_default : goal.choice-each-requires-in_default
-choice-each-requires-in_default t c =
-    let w = weight-take c.saturating_sub.result c.args.bs.now in
-    (omega (arith, w), refl)
+-- a branch
 
-pub choice-first_branch-requires-in_default : goal.choice-first_branch-requires-in_default
-choice-first_branch-requires-in_default t c = record {
-  with = ap (all_below (length c.each-in_default.new.parts)) c.as_slice-with.ensures.value
-      ∙ all-stand c.each.new.parts c.each-in_default.new.parts c.in_ok-made.made.items c.in_ok-lone-in_default.ensures.made.grows c.in_ok-made.ensures.made.within;
-  alone = ap (all_below (length c.each-in_default.new.parts)) c.as_slice-alone.ensures.value ∙ c.in_ok-lone-in_default.ensures.made.within;
-}
+pub one_branch-sequences-requires : goal.one_branch-sequences-requires
+one_branch-sequences-requires t c = (omega arith, c.requires)
+
+pub one_branch-returns : goal.one_branch-returns
+one_branch-returns t c =
+    let m = setting_at c.args.m.now in
+    let k = λ (n : Made). follow_of (plains c.args.parts.now) m (element_or_none (option_copied c.args.before)) n in
+    record {
+      made = subst (λ (z : List Var). IfOk c.sequences.result (λ is. MakesAll c.args.parts.now c.sequences.new.parts is.items
+          (map (λ n. table.seq m None (body c.args.b.now) (k n) z c.args.scope.now c.args.scope.now) c.args.nexts.now)))
+          (c.as_slice-own.ensures ∙ c.in_ok-own.ensures) c.sequences.ensures.made;
+    }
 
 -- conjunctions
 
 pub every-returns-in-empty : goal.every-returns-in-empty
 every-returns-in-empty t c = record {
-  made = every-none (setting_at c.args.m.now) c.args.parts.now c.follow_at.new.parts (follow c.args.parts.now c.args.m.now (option_copied c.args.before) c.args.next.now)
-      c.args.bs.now c.args.vars.now c.args.scope.now c.follow_at.result (omega arith) c.follow_at.ensures.made;
+  made = IfOk-weaker c.follows_at.result _ _
+      (λ is h. every-none (setting_at c.args.m.now) c.args.parts.now c.follows_at.new.parts
+      (λ n. follow_of (plains c.args.parts.now) (setting_at c.args.m.now) (element_or_none (option_copied c.args.before)) n) c.args.nexts.now is.items
+      c.args.bs.now c.args.vars.now c.args.scope.now (omega arith) h) c.follows_at.ensures.made;
 }
 
-pub every-sequence-requires : goal.every-sequence-requires
-every-sequence-requires t c =
+pub every-one_branch-requires : goal.every-one_branch-requires
+every-one_branch-requires t c =
     let w = weight-first c.args.bs.now c.b-item.result c.in-len1-up.len_at_least c.b-item.is in
     let e = ap (λ z. weight_body (body z)) c.as_slice-first.ensures in
     (omega (arith, w, e), c.requires)
@@ -157,33 +241,88 @@ every-sequence-requires t c =
 pub every-each-requires : goal.every-each-requires
 every-each-requires t c =
     let w = weight-rest c.args.bs.now c.in-len1-up.len_at_least in
-    (omega (arith, w), refl)
+    (omega (arith, w), tt)
+
+pub every-and_each-requires : goal.every-and_each-requires
+every-and_each-requires t c = record {
+  fs = ap (all_below (length c.each.new.parts)) c.as_slice.ensures.value
+      ∙ all-stand c.one_branch.new.parts c.each.new.parts c.in_ok-fs-in-len1-up.fs.items c.in_ok-others-in-len1-up.ensures.made.grows c.in_ok-fs-in-len1-up.ensures.made.within;
+  more = ap (all_below (length c.each.new.parts)) c.as_slice-in-len1-up.ensures.value ∙ c.in_ok-others-in-len1-up.ensures.made.within;
+}
 
 pub every-returns-in_ok-others-in-len1-up : goal.every-returns-in_ok-others-in-len1-up
 every-returns-in_ok-others-in-len1-up t c = record {
-  made = every-made (setting_at c.args.m.now) c.args.parts.now c.sequence.new.parts c.each.new.parts c.and_all.new.parts (follow c.args.parts.now c.args.m.now (option_copied c.args.before) c.args.next.now)
-      c.args.bs.now c.b-item.result c.as_slice-first.result.now c.args.vars.now c.as_slice-own.result.now c.args.scope.now c.in_ok-f-in-len1-up.f
-      c.in_ok-others-in-len1-up.others.items c.as_slice.result.now c.and_all.result c.in-len1-up.len_at_least c.b-item.is c.as_slice-first.ensures
-      (c.as_slice-own.ensures ∙ c.in_ok-own-in-len1-up.ensures) c.as_slice.ensures.value c.in_ok-f-in-len1-up.ensures.made c.in_ok-others-in-len1-up.ensures.made c.and_all.ensures.made;
+  made = IfOk-weaker c.and_each.result _ _
+      (λ is h. every-each (setting_at c.args.m.now) c.args.parts.now c.one_branch.new.parts c.each.new.parts c.and_each.new.parts
+      (λ n. follow_of (plains c.args.parts.now) (setting_at c.args.m.now) (element_or_none (option_copied c.args.before)) n) c.args.nexts.now
+      c.args.bs.now c.b-item.result c.as_slice-first.result.now c.args.vars.now _ c.args.scope.now
+      c.in_ok-fs-in-len1-up.fs.items c.as_slice.result.now c.in_ok-others-in-len1-up.others.items c.as_slice-in-len1-up.result.now is.items
+      c.in-len1-up.len_at_least c.b-item.is c.as_slice-first.ensures refl
+      c.as_slice.ensures.value c.as_slice-in-len1-up.ensures.value c.in_ok-fs-in-len1-up.ensures.made c.in_ok-others-in-len1-up.ensures.made h)
+      c.and_each.ensures.made;
 }
 
 -- sequences
 
-pub sequence-returns-then-b-eq0 : goal.sequence-returns-then-b-eq0
-sequence-returns-then-b-eq0 t c = record {
-  made = sequence-none (setting_at c.args.m.now) (follow c.args.parts.now c.args.m.now (option_copied c.args.before) c.args.next.now)
-      c.args.parts.now c.follow_at.new.parts c.args.b.now c.args.vars.now c.args.scope.now c.follow_at.result c.if-b-eq0.true c.follow_at.ensures.made;
+pub suffixes-suffix-requires : goal.suffixes-suffix-requires
+suffixes-suffix-requires t c =
+    let l : length c.args.b.now - 1 < length c.args.b.now = omega arith in
+    let w = body-at c.args.b.now (length c.args.b.now - 1) c.index-b-i.result l c.index-b-i.is in
+    (omega (arith, w), c.requires.nexts)
+
+pub suffixes-loop-i-init : goal.suffixes-loop-i-init
+suffixes-loop-i-init t c = (
+  omega arith,
+  last-each (setting_at c.args.m.now) (λ n. follow_of (plains c.args.parts.now) (setting_at c.args.m.now) (element_or_none (option_copied c.args.before)) n)
+      c.args.parts.now c.suffix.new.parts c.args.nexts.now c.in_ok-made.made.items c.args.b.now c.args.places.now (length c.args.b.now - 1)
+      c.index-b-i.result c.index-places-i.result (omega arith) c.requires.places c.index-b-i.is c.index-places-i.is c.in_ok-made.ensures.made,
+)
+
+pub suffixes-suffix-requires-in-loop-i : goal.suffixes-suffix-requires-in-loop-i
+suffixes-suffix-requires-in-loop-i t c =
+    let m = setting_at c.args.m.now in
+    let k = λ (n : Made). follow_of (plains c.args.parts.now) m (element_or_none (option_copied c.args.before)) n in
+    let es = drop c.loop-i.i c.args.b.now in
+    let l : c.loop-i.i - 1 < length c.args.b.now = omega (arith, c.loop-i.invariant.0) in
+    let w = body-at c.args.b.now (c.loop-i.i - 1) c.index-b-i-in-loop-i.result l c.index-b-i-in-loop-i.is in (
+      omega (arith, w),
+      ap (all_made_below (length c.loop-i.parts)) c.as_slice.ensures.value
+          ∙ follows-within m c.args.parts.now c.loop-i.parts c.args.nexts.now c.loop-i.made.items
+          (λ n. begins es (k n).start) (λ n. along m (k n) es (drop c.loop-i.i c.args.places.now)) c.loop-i.invariant.1,
+    )
+
+pub suffixes-loop-i-preserved : goal.suffixes-loop-i-preserved
+suffixes-loop-i-preserved t c =
+    let n : c.loop-i.i - 1 + 1 ≡ c.loop-i.i = omega (arith, c.loop-i-test.true) in
+    let m = setting_at c.args.m.now in
+    let k = λ (x : Made). follow_of (plains c.args.parts.now) m (element_or_none (option_copied c.args.before)) x in
+    let e = c.index-b-i-in-loop-i.result in (
+      omega (arith, c.loop-i.invariant.0),
+      step-each m k c.args.parts.now c.loop-i.parts c.suffix-in-loop-i.new.parts c.args.nexts.now c.loop-i.made.items c.in_ok-made-2.made.items c.args.b.now c.args.places.now (c.loop-i.i - 1)
+          c.index-b-i-in-loop-i-2.result e c.index-places-i-in-loop-i.result (omega (arith, c.loop-i.invariant.0, n)) c.requires.places
+          c.index-b-i-in-loop-i-2.is c.index-b-i-in-loop-i.is c.index-places-i-in-loop-i.is
+          (subst (λ (z : ℕ). MakesFollows m c.args.parts.now c.loop-i.parts c.args.nexts.now c.loop-i.made.items
+          (λ x. begins (drop z c.args.b.now) (k x).start) (λ x. along m (k x) (drop z c.args.b.now) (drop z c.args.places.now))) (sym n) c.loop-i.invariant.1)
+          (subst (λ (z : List Made). MakesFollows m c.loop-i.parts c.suffix-in-loop-i.new.parts z c.in_ok-made-2.made.items (λ f. start_with (element e))
+          (λ f. suffix_at m (Some (element c.index-b-i-in-loop-i-2.result)) (element e) (follow_of (plains c.loop-i.parts) m (Some (element e)) f) c.index-places-i-in-loop-i.result))
+          c.as_slice.ensures.value c.in_ok-made-2.ensures.made),
+    )
+
+pub suffixes-returns : goal.suffixes-returns
+suffixes-returns t c = record {
+  made = whole-each (setting_at c.args.m.now) (λ n. follow_of (plains c.args.parts.now) (setting_at c.args.m.now) (element_or_none (option_copied c.args.before)) n)
+      c.args.parts.now c.loop-i.parts c.args.nexts.now c.loop-i.made.items c.args.b.now c.args.places.now c.loop-i.i (omega arith) c.loop-i.invariant.1;
 }
 
-pub sequence-returns : goal.sequence-returns
-sequence-returns t c = record {
-  made = sequence-made (setting_at c.args.m.now) (follow c.args.parts.now c.args.m.now (option_copied c.args.before) c.args.next.now) c.args.parts.now c.suffixes.new.parts c.follow_at-2.new.parts c.in_ok-made.made
-      c.args.b.now c.args.vars.now c.args.scope.now c.as_slice.result.now c.follow_at-2.result (c.as_slice.ensures.value ∙ c.in_ok-places.ensures)
-      c.in_ok-made.ensures.made c.follow_at-2.ensures.made;
+pub sequences-returns-then-b-eq0 : goal.sequences-returns-then-b-eq0
+sequences-returns-then-b-eq0 t c = record {
+  made = IfOk-weaker c.follows_at.result _ _
+      (λ is h. sequences-none (setting_at c.args.m.now) (λ n. follow_of (plains c.args.parts.now) (setting_at c.args.m.now) (element_or_none (option_copied c.args.before)) n)
+      c.args.parts.now c.follows_at.new.parts c.args.nexts.now is.items c.args.b.now c.args.vars.now c.args.scope.now c.if-b-eq0.true h) c.follows_at.ensures.made;
 }
 
-pub sequence-suffixes-requires : goal.sequence-suffixes-requires
-sequence-suffixes-requires t c = (
+pub sequences-suffixes-requires : goal.sequences-suffixes-requires
+sequences-suffixes-requires t c = (
   omega arith,
   (
     c.requires,
@@ -194,163 +333,223 @@ sequence-suffixes-requires t c = (
   ),
 )
 
-pub suffixes-suffix-requires : goal.suffixes-suffix-requires
-suffixes-suffix-requires t c =
-    let l : length c.args.b.now - 1 < length c.args.b.now = omega arith in
-    let w = body-at c.args.b.now (length c.args.b.now - 1) c.index-b-i.result l c.index-b-i.is in
-    (omega (arith, w), c.requires.next)
+pub sequences-follows_at-requires-2 : goal.sequences-follows_at-requires-2
+sequences-follows_at-requires-2 t c =
+    ap (all_made_below (length c.suffixes.new.parts)) c.as_slice-2.ensures.value
+    ∙ follows-within (setting_at c.args.m.now) c.args.parts.now c.suffixes.new.parts c.args.nexts.now c.in_ok-made.made.items _ _ c.in_ok-made.ensures.made
 
-pub suffixes-loop-i-init : goal.suffixes-loop-i-init
-suffixes-loop-i-init t c = (
-  omega arith,
-  suffixes-last (setting_at c.args.m.now) (follow c.args.parts.now c.args.m.now (option_copied c.args.before) c.args.next.now) c.args.parts.now c.suffix.new.parts c.in_ok-made.made c.args.b.now c.args.places.now (length c.args.b.now - 1)
-      c.index-b-i.result c.index-places-i.result (omega arith) c.requires.places c.index-b-i.is c.index-places-i.is c.in_ok-made.ensures.made,
-)
-
-pub suffixes-suffix-requires-in-loop-i : goal.suffixes-suffix-requires-in-loop-i
-suffixes-suffix-requires-in-loop-i t c =
-    let l : c.loop-i.i - 1 < length c.args.b.now = omega (arith, c.loop-i.invariant.0) in
-    let w = body-at c.args.b.now (c.loop-i.i - 1) c.index-b-i-in-loop-i.result l c.index-b-i-in-loop-i.is in
-    (omega (arith, w), c.loop-i.invariant.1.within)
-
-pub suffixes-loop-i-preserved : goal.suffixes-loop-i-preserved
-suffixes-loop-i-preserved t c =
-    let n : c.loop-i.i - 1 + 1 ≡ c.loop-i.i = omega (arith, c.loop-i-test.true) in
-    let k = follow c.args.parts.now c.args.m.now (option_copied c.args.before) c.args.next.now in
-    let m = setting_at c.args.m.now in (
-      omega (arith, c.loop-i.invariant.0),
-      suffixes-step m k c.args.parts.now c.loop-i.parts c.suffix-in-loop-i.new.parts c.loop-i.made c.in_ok-made-2.made c.args.b.now c.args.places.now (c.loop-i.i - 1)
-          c.index-b-i-in-loop-i-2.result c.index-b-i-in-loop-i.result c.index-places-i-in-loop-i.result (omega (arith, c.loop-i.invariant.0, n)) c.requires.places
-          c.index-b-i-in-loop-i-2.is c.index-b-i-in-loop-i.is c.index-places-i-in-loop-i.is
-          (subst (λ (z : ℕ). MakesFollow m c.args.parts.now c.loop-i.parts c.loop-i.made (begins (drop z c.args.b.now) k.start) (along m k (drop z c.args.b.now) (drop z c.args.places.now))) (sym n) c.loop-i.invariant.1)
-          c.in_ok-made-2.ensures.made,
-    )
-
-pub suffixes-returns : goal.suffixes-returns
-suffixes-returns t c = record {
-  made = suffixes-all (setting_at c.args.m.now) (follow c.args.parts.now c.args.m.now (option_copied c.args.before) c.args.next.now) c.args.parts.now c.loop-i.parts c.loop-i.made c.args.b.now c.args.places.now c.loop-i.i (omega arith) c.loop-i.invariant.1;
+pub sequences-returns : goal.sequences-returns
+sequences-returns t c = record {
+  made = IfOk-weaker c.follows_at-2.result _ _
+      (λ is h. sequences-made (setting_at c.args.m.now) (λ n. follow_of (plains c.args.parts.now) (setting_at c.args.m.now) (element_or_none (option_copied c.args.before)) n)
+      c.args.parts.now c.suffixes.new.parts c.follows_at-2.new.parts c.args.nexts.now c.in_ok-made.made.items is.items
+      c.args.b.now c.args.vars.now c.args.scope.now c.as_slice.result.now (c.as_slice.ensures.value ∙ c.in_ok-places.ensures)
+      c.in_ok-made.ensures.made
+      (subst (λ (z : List Made). MakesAll c.suffixes.new.parts c.follows_at-2.new.parts is.items (map (λ f. made_at (plains c.suffixes.new.parts) (setting_at c.args.m.now) None f c.args.scope.now) z))
+      c.as_slice-2.ensures.value h)) c.follows_at-2.ensures.made;
 }
 
-pub suffix-returns-in_ok-f-in-Atom : goal.suffix-returns-in_ok-f-in-Atom
-suffix-returns-in_ok-f-in-Atom t c =
+pub sequence-sequences-requires : goal.sequence-sequences-requires
+sequence-sequences-requires t c = (
+  omega arith,
+  ap (all_made_below (length c.args.parts.now)) c.from_ref-nexts.ensures.value ∙ both-true (made_below (length c.args.parts.now) c.args.next.now) true c.requires refl,
+)
+
+first-any : (is : List ℕ) (d e : ℕ) → 0 < length is → get_or is 0 d ≡ get_or is 0 e
+first-any [] d e l = absurd (omega (arith, l))
+first-any (i ∷ is) d e l = refl
+
+pub sequence-returns : goal.sequence-returns
+sequence-returns t c =
     let m = setting_at c.args.m.now in
-    let after = element_or_none (option_copied c.args.after) in
-    let k = follow c.args.parts.now c.args.m.now (option_copied c.args.before) c.args.next.now in
+    let k = λ (n : Made). follow_of (plains c.args.parts.now) m (element_or_none (option_copied c.args.before)) n in
+    let only =
+    subst (λ (z : List Made). MakesAll c.args.parts.now c.sequences.new.parts c.in_ok-made.made.items
+    (map (λ n. table.seq m None (body c.args.b.now) (k n) c.args.vars.now c.args.scope.now c.args.scope.now) z)) c.from_ref-nexts.ensures.value c.in_ok-made.ensures.made in
     record {
-      made = part-rows m c.args.parts.now c.atom.new.parts c.part.new.parts after (element c.args.e.now) _ k c.args.place.now c.in_ok-f-in-Atom.f c.part.result _
-          (ap element c.in-Atom.is ∙ element-Atom _) refl c.in_ok-f-in-Atom.ensures.made
-          (elem-at m after (bodies.Atom c.in-Atom.p) k c.as_slice-vars.result.now c.args.place.now.scope c.args.place.now c.as_slice-vars.ensures refl) c.part.ensures.made;
+      made = only-made c.args.parts.now c.sequences.new.parts c.in_ok-made.made.items c.index.result.now _
+          (c.index.ensures ∙ first-any c.in_ok-made.made.items c.index.result.now 0 (only-one c.args.parts.now c.sequences.new.parts c.in_ok-made.made.items _ only)) only;
     }
 
-pub suffix-returns-in_ok-f-in-Compound : goal.suffix-returns-in_ok-f-in-Compound
-suffix-returns-in_ok-f-in-Compound t c =
+-- suffixes
+
+pub suffix-returns-in_ok-fs-in-Atom : goal.suffix-returns-in_ok-fs-in-Atom
+suffix-returns-in_ok-fs-in-Atom t c =
     let m = setting_at c.args.m.now in
+    let a = c.args.parts.now in
     let after = element_or_none (option_copied c.args.after) in
-    let k = follow c.args.parts.now c.args.m.now (option_copied c.args.before) c.args.next.now in
+    let before = element_or_none (option_copied c.args.before) in
+    let k = λ (n : Made). follow_of (plains a) m before n in
+    let place = c.args.place.now in
+    let vars = c.as_slice-vars.result.now in
+    let b = c.atoms.new.parts in
+    let y = bodies.Atom c.in-Atom.p in
     record {
-      made = part-rows m c.args.parts.now c.compound.new.parts c.part-in-Compound.new.parts after (element c.args.e.now) _ k c.args.place.now c.in_ok-f-in-Compound.f c.part-in-Compound.result _
-          (ap element c.in-Compound.is ∙ element-Compound _ _ _ ∙ ap (λ (z : List (List Elem)). bodies.Compound c.in-Compound.h (bodies_of z) c.in-Compound.tail) (sym c.as_slice-bodies.ensures)) refl (compound-made m c.args.parts.now c.each.new.parts c.compound.new.parts (element_or_none (option_copied c.args.before)) c.args.next.now c.in-Compound.h c.in-Compound.tail c.as_slice-bodies.result.now
-          c.as_slice-vars.result.now c.args.place.now.scope c.in_ok-inside-in-Compound.inside.items c.as_slice-inside.result.now c.in_ok-f-in-Compound.f
-          c.requires c.as_slice-inside.ensures.value c.in_ok-inside-in-Compound.ensures.made c.in_ok-f-in-Compound.ensures.made)
-          (elem-at m after (bodies.Compound c.in-Compound.h (bodies_of c.as_slice-bodies.result.now) c.in-Compound.tail) k c.as_slice-vars.result.now c.args.place.now.scope c.args.place.now c.as_slice-vars.ensures refl) c.part-in-Compound.ensures.made;
+      made = IfOk-weaker c.part_each.result _ _
+          (λ fs h. row-each m a b c.part_each.new.parts after (element c.args.e.now) y k place c.args.nexts.now
+          c.in_ok-fs-in-Atom.fs.items c.as_slice.result.now fs.items (λ n. table.elem m None None y (k n) vars place.scope place.scope)
+          (ap element c.in-Atom.is ∙ element-Atom _) refl c.as_slice.ensures.value
+          c.in_ok-fs-in-Atom.ensures.made
+          (λ n s u. elem-at m after y (k n) vars place.scope place c.as_slice-vars.ensures refl s u) h) c.part_each.ensures.made;
     }
 
-pub suffix-returns-in_ok-f-in-Block : goal.suffix-returns-in_ok-f-in-Block
-suffix-returns-in_ok-f-in-Block t c =
+pub suffix-returns-in_ok-fs-in-Compound : goal.suffix-returns-in_ok-fs-in-Compound
+suffix-returns-in_ok-fs-in-Compound t c =
     let m = setting_at c.args.m.now in
+    let a = c.args.parts.now in
     let after = element_or_none (option_copied c.args.after) in
-    let k = follow c.args.parts.now c.args.m.now (option_copied c.args.before) c.args.next.now in
+    let before = element_or_none (option_copied c.args.before) in
+    let k = λ (n : Made). follow_of (plains a) m before n in
+    let place = c.args.place.now in
+    let vars = c.as_slice-vars.result.now in
+    let b = c.past_each.new.parts in
+    let y = bodies.Compound c.in-Compound.h (bodies_of c.as_slice-bodies.result.now) c.in-Compound.tail in
     record {
-      made = part-rows m c.args.parts.now c.block.new.parts c.part-in-Block.new.parts after (element c.args.e.now) _ k c.args.place.now c.in_ok-f-in-Block.f c.part-in-Block.result _
-          (ap element c.in-Block.is ∙ element-Block _ _ _ ∙ ap (λ (z : List Elem). bodies.Block c.in-Block.o (body z) c.in-Block.c) (sym c.as_slice.ensures)) refl c.in_ok-f-in-Block.ensures.made
-          (elem-at m after (bodies.Block c.in-Block.o (body c.as_slice.result.now) c.in-Block.c) k c.as_slice-vars.result.now c.args.place.now.scope c.args.place.now c.as_slice-vars.ensures refl) c.part-in-Block.ensures.made;
+      made = IfOk-weaker c.part_each-in-Compound.result _ _
+          (λ fs h. row-each m a b c.part_each-in-Compound.new.parts after (element c.args.e.now) y k place c.args.nexts.now
+          c.in_ok-fs-in-Compound.fs.items c.as_slice-in-Compound.result.now fs.items (λ n. table.elem m None None y (k n) vars place.scope place.scope)
+          (ap element c.in-Compound.is ∙ element-Compound _ _ _ ∙ ap (λ (z : List (List Elem)). bodies.Compound c.in-Compound.h (bodies_of z) c.in-Compound.tail) (sym c.as_slice-bodies.ensures)) refl c.as_slice-in-Compound.ensures.value
+          (past-each m a c.compound.new.parts b before c.in_ok-f-in-Compound.f (compound_at m c.in-Compound.h (bodies_of c.as_slice-bodies.result.now) c.in-Compound.tail vars place.scope)
+          c.args.nexts.now c.in_ok-fs-in-Compound.fs.items place.scope c.requires c.in_ok-f-in-Compound.ensures.made c.in_ok-fs-in-Compound.ensures.made)
+          (λ n s u. elem-at m after y (k n) vars place.scope place c.as_slice-vars.ensures refl s u) h) c.part_each-in-Compound.ensures.made;
+    }
+
+pub suffix-returns-in_ok-fs-in-Block : goal.suffix-returns-in_ok-fs-in-Block
+suffix-returns-in_ok-fs-in-Block t c =
+    let m = setting_at c.args.m.now in
+    let a = c.args.parts.now in
+    let after = element_or_none (option_copied c.args.after) in
+    let before = element_or_none (option_copied c.args.before) in
+    let k = λ (n : Made). follow_of (plains a) m before n in
+    let place = c.args.place.now in
+    let vars = c.as_slice-vars.result.now in
+    let b = c.past_each-in-Block.new.parts in
+    let y = bodies.Block c.in-Block.o (body c.as_slice-in-Block.result.now) c.in-Block.c in
+    record {
+      made = IfOk-weaker c.part_each-in-Block.result _ _
+          (λ fs h. row-each m a b c.part_each-in-Block.new.parts after (element c.args.e.now) y k place c.args.nexts.now
+          c.in_ok-fs-in-Block.fs.items c.as_slice-in-Block-2.result.now fs.items (λ n. table.elem m None None y (k n) vars place.scope place.scope)
+          (ap element c.in-Block.is ∙ element-Block _ _ _ ∙ ap (λ (z : List Elem). bodies.Block c.in-Block.o (body z) c.in-Block.c) (sym c.as_slice-in-Block.ensures)) refl c.as_slice-in-Block-2.ensures.value
+          (past-each m a c.block.new.parts b before c.in_ok-f-in-Block.f (block_at m c.in-Block.o (body c.as_slice-in-Block.result.now) c.in-Block.c vars place.scope)
+          c.args.nexts.now c.in_ok-fs-in-Block.fs.items place.scope c.requires c.in_ok-f-in-Block.ensures.made c.in_ok-fs-in-Block.ensures.made)
+          (λ n s u. elem-at m after y (k n) vars place.scope place c.as_slice-vars.ensures refl s u) h) c.part_each-in-Block.ensures.made;
+    }
+
+pub suffix-returns-in_ok-fs-in-AnyOf : goal.suffix-returns-in_ok-fs-in-AnyOf
+suffix-returns-in_ok-fs-in-AnyOf t c =
+    let m = setting_at c.args.m.now in
+    let a = c.args.parts.now in
+    let after = element_or_none (option_copied c.args.after) in
+    let before = element_or_none (option_copied c.args.before) in
+    let k = λ (n : Made). follow_of (plains a) m before n in
+    let place = c.args.place.now in
+    let vars = c.as_slice-vars.result.now in
+    let b = c.choice.new.parts in
+    let y = bodies.AnyOf (bodies_of c.as_slice-bodies-in-AnyOf.result.now) in
+    record {
+      made = IfOk-weaker c.part_each-in-AnyOf.result _ _
+          (λ fs h. row-each m a b c.part_each-in-AnyOf.new.parts after (element c.args.e.now) y k place c.args.nexts.now
+          c.in_ok-fs-in-AnyOf.fs.items c.as_slice-in-AnyOf.result.now fs.items (λ n. table.elem m None None y (k n) vars place.scope place.scope)
+          (ap element c.in-AnyOf.is ∙ element-AnyOf _ ∙ ap (λ (z : List (List Elem)). bodies.AnyOf (bodies_of z)) (sym c.as_slice-bodies-in-AnyOf.ensures)) refl c.as_slice-in-AnyOf.ensures.value
+          c.in_ok-fs-in-AnyOf.ensures.made
+          (λ n s u. elem-at m after y (k n) vars place.scope place c.as_slice-vars.ensures refl s u) h) c.part_each-in-AnyOf.ensures.made;
+    }
+
+pub suffix-returns-in_ok-fs-in-AllOf : goal.suffix-returns-in_ok-fs-in-AllOf
+suffix-returns-in_ok-fs-in-AllOf t c =
+    let m = setting_at c.args.m.now in
+    let a = c.args.parts.now in
+    let after = element_or_none (option_copied c.args.after) in
+    let before = element_or_none (option_copied c.args.before) in
+    let k = λ (n : Made). follow_of (plains a) m before n in
+    let place = c.args.place.now in
+    let vars = c.as_slice-vars.result.now in
+    let b = c.every.new.parts in
+    let y = bodies.AllOf (bodies_of c.as_slice-bodies-in-AllOf.result.now) in
+    record {
+      made = IfOk-weaker c.part_each-in-AllOf.result _ _
+          (λ fs h. row-each m a b c.part_each-in-AllOf.new.parts after (element c.args.e.now) y k place c.args.nexts.now
+          c.in_ok-fs-in-AllOf.fs.items c.as_slice-in-AllOf.result.now fs.items (λ n. table.elem m None None y (k n) vars place.scope place.scope)
+          (ap element c.in-AllOf.is ∙ element-AllOf _ ∙ ap (λ (z : List (List Elem)). bodies.AllOf (bodies_of z)) (sym c.as_slice-bodies-in-AllOf.ensures)) refl c.as_slice-in-AllOf.ensures.value
+          c.in_ok-fs-in-AllOf.ensures.made
+          (λ n s u. elem-at m after y (k n) vars place.scope place c.as_slice-vars.ensures refl s u) h) c.part_each-in-AllOf.ensures.made;
     }
 
 pub suffix-returns-in_ok-whens-in-Gap : goal.suffix-returns-in_ok-whens-in-Gap
 suffix-returns-in_ok-whens-in-Gap t c =
     let m = setting_at c.args.m.now in
+    let a = c.args.parts.now in
     let after = element_or_none (option_copied c.args.after) in
+    let before = element_or_none (option_copied c.args.before) in
+    let k = λ (n : Made). follow_of (plains a) m before n in
+    let place = c.args.place.now in
+    let vars = c.as_slice-vars.result.now in
+    let b = c.when_parts.new.parts in
     let d = c.in-Gap.d in
     let whens = c.in_ok-whens-in-Gap.ensures.made in
     record {
-      made = dots-rows m c.args.parts.now c.when_parts.new.parts c.dots.new.parts after (element c.args.e.now) (bodies.Gap (dots_of d).whens (dots_of d).any (dots_of d).strict)
-          (follow c.args.parts.now c.args.m.now (option_copied c.args.before) c.args.next.now)
-          (follow c.when_parts.new.parts c.args.m.now (option_copied c.args.before) c.args.next.now) c.args.place.now c.dots.result
-          (parts_at c.when_parts.new.parts c.in_ok-whens-in-Gap.whens.items) (table.when_parts m (dots_of d).whens c.args.place.now.scope) (dots_of d).any (dots_of d).strict None
+      made = IfOk-weaker c.dots_each.result _ _
+          (λ fs h. dots-each m a b c.dots_each.new.parts after (element c.args.e.now) (bodies.Gap (dots_of d).whens (dots_of d).any (dots_of d).strict)
+          k (λ n. follow_of (plains b) m before n) place c.args.nexts.now fs.items
+          (parts_at b c.as_slice-whens.result.now) (table.when_parts m (dots_of d).whens place.scope) (dots_of d).any (dots_of d).strict None
           (ap element c.in-Gap.is ∙ element-Gap d) refl whens.grows
-          (whens-are m c.args.parts.now c.when_parts.new.parts c.in_ok-whens-in-Gap.whens.items d c.as_slice-in-Gap.result.now c.args.place.now.scope c.args.place.now
-          c.as_slice-in-Gap.ensures refl whens)
-          (follow-stays c.args.parts.now c.when_parts.new.parts m (element_or_none (option_copied c.args.before)) c.args.next.now whens.grows c.requires)
-          (λ before t. refl) c.dots.ensures.made;
+          (ap (parts_at b) c.as_slice-whens.ensures.value
+          ∙ whens-are m a b c.in_ok-whens-in-Gap.whens.items d c.as_slice-in-Gap.result.now place.scope place c.as_slice-in-Gap.ensures refl whens)
+          c.requires (λ n w. follow-stays a b m before n whens.grows w)
+          (λ n s u. refl) h) c.dots_each.ensures.made;
     }
 
 pub suffix-returns-in_ok-whens-in-Nest : goal.suffix-returns-in_ok-whens-in-Nest
 suffix-returns-in_ok-whens-in-Nest t c =
     let m = setting_at c.args.m.now in
+    let a = c.args.parts.now in
     let after = element_or_none (option_copied c.args.after) in
-    let d = c.in-Nest.d in
+    let before = element_or_none (option_copied c.args.before) in
+    let k = λ (n : Made). follow_of (plains a) m before n in
     let place = c.args.place.now in
-    let k = follow c.args.parts.now c.args.m.now (option_copied c.args.before) c.args.next.now in
+    let vars = c.as_slice-vars.result.now in
+    let b = c.when_parts-in-Nest.new.parts in
+    let d = c.in-Nest.d in
+    let nest = c.in_ok-part-in-Nest.ensures.made in
     let whens = c.in_ok-whens-in-Nest.ensures.made in
-    let grown = grows-trans c.args.parts.now c.nest.new.parts c.when_parts-in-Nest.new.parts c.in_ok-part-in-Nest.ensures.made.grows whens.grows in
-    let parts = table.when_parts m (dots_of d).whens place.scope in
+    let grown = grows-trans a c.nest.new.parts b nest.grows whens.grows in
+    let held = table.when_parts m (dots_of d).whens place.scope in
     let part =
-    nest-is m c.args.parts.now c.nest.new.parts c.when_parts-in-Nest.new.parts c.in_ok-part-in-Nest.part (body c.as_slice-in-Nest.result.now) c.as_slice-vars.result.now
-    c.args.place.now.scope place c.as_slice-vars.ensures refl c.in_ok-part-in-Nest.ensures.made whens.grows
+    nest-is m a c.nest.new.parts b c.in_ok-part-in-Nest.part (body c.as_slice-in-Nest.result.now) vars
+    place.scope place c.as_slice-vars.ensures refl nest whens.grows
     ∙ ap (λ (z : List Elem). table.seq m None (body z) table.nothing (filter (occurs_body m.reading (body z)) place.inside) place.scope place.scope) c.as_slice-in-Nest.ensures in
     record {
-      made = dots-rows m c.args.parts.now c.when_parts-in-Nest.new.parts c.dots-in-Nest.new.parts after (element c.args.e.now)
-          (bodies.Nest c.in-Nest.plus (body c.in-Nest.b) (dots_of d).whens (dots_of d).any (dots_of d).strict) k
-          (follow c.when_parts-in-Nest.new.parts c.args.m.now (option_copied c.args.before) c.args.next.now) place c.dots-in-Nest.result
-          (parts_at c.when_parts-in-Nest.new.parts c.in_ok-whens-in-Nest.whens.items) parts (dots_of d).any (dots_of d).strict
+      made = IfOk-weaker c.dots_each-in-Nest.result _ _
+          (λ fs h. dots-each m a b c.dots_each-in-Nest.new.parts after (element c.args.e.now)
+          (bodies.Nest c.in-Nest.plus (body c.in-Nest.b) (dots_of d).whens (dots_of d).any (dots_of d).strict)
+          k (λ n. follow_of (plains b) m before n) place c.args.nexts.now fs.items
+          (parts_at b c.as_slice-whens-in-Nest.result.now) held (dots_of d).any (dots_of d).strict
           (Some (record { plus = c.in-Nest.plus; part = c.in_ok-part-in-Nest.part }))
           (ap element c.in-Nest.is ∙ element-Nest c.in-Nest.plus c.in-Nest.b d) refl grown
-          (whens-are m c.nest.new.parts c.when_parts-in-Nest.new.parts c.in_ok-whens-in-Nest.whens.items d c.as_slice-in-Nest-2.result.now c.args.place.now.scope place
-          c.as_slice-in-Nest-2.ensures refl whens)
-          (follow-stays c.args.parts.now c.when_parts-in-Nest.new.parts m (element_or_none (option_copied c.args.before)) c.args.next.now grown c.requires)
-          (λ before t. ap (λ (z : Plain). table.exists_all place.here (table.nested m.forall_walks c.in-Nest.plus (dots_of d).strict
-          (table.condition (dots_of d).any parts (table.near_option m true before (t ++ place.here)) (table.near_option m false after place.scope)) z
-          (table.target k.start (k.at place.scope)))) part)
-          c.dots-in-Nest.ensures.made;
+          (ap (parts_at b) c.as_slice-whens-in-Nest.ensures.value
+          ∙ whens-are m c.nest.new.parts b c.in_ok-whens-in-Nest.whens.items d c.as_slice-in-Nest-2.result.now place.scope place c.as_slice-in-Nest-2.ensures refl whens)
+          c.requires (λ n w. follow-stays a b m before n grown w)
+          (λ n s u. ap (λ (z : Plain). table.exists_all place.here (table.nested m.forall_walks c.in-Nest.plus (dots_of d).strict
+          (table.condition (dots_of d).any held (table.near_option m true s (u ++ place.here)) (table.near_option m false after place.scope)) z
+          (table.target (k n).start ((k n).at place.scope)))) part) h)
+          c.dots_each-in-Nest.ensures.made;
     }
 
-pub suffix-returns-in_ok-f-in-AnyOf : goal.suffix-returns-in_ok-f-in-AnyOf
-suffix-returns-in_ok-f-in-AnyOf t c =
-    let m = setting_at c.args.m.now in
-    let after = element_or_none (option_copied c.args.after) in
-    let k = follow c.args.parts.now c.args.m.now (option_copied c.args.before) c.args.next.now in
-    record {
-      made = part-rows m c.args.parts.now c.choice.new.parts c.part-in-AnyOf.new.parts after (element c.args.e.now) _ k c.args.place.now c.in_ok-f-in-AnyOf.f c.part-in-AnyOf.result _
-          (ap element c.in-AnyOf.is ∙ element-AnyOf _ ∙ ap (λ (z : List (List Elem)). bodies.AnyOf (bodies_of z)) (sym c.as_slice-in-AnyOf.ensures)) refl c.in_ok-f-in-AnyOf.ensures.made
-          (elem-at m after (bodies.AnyOf (bodies_of c.as_slice-in-AnyOf.result.now)) k c.as_slice-vars.result.now c.args.place.now.scope c.args.place.now c.as_slice-vars.ensures refl) c.part-in-AnyOf.ensures.made;
-    }
+-- what may follow, in the tables that grew
 
-pub suffix-returns-in_ok-f-in-AllOf : goal.suffix-returns-in_ok-f-in-AllOf
-suffix-returns-in_ok-f-in-AllOf t c =
-    let m = setting_at c.args.m.now in
-    let after = element_or_none (option_copied c.args.after) in
-    let k = follow c.args.parts.now c.args.m.now (option_copied c.args.before) c.args.next.now in
-    record {
-      made = part-rows m c.args.parts.now c.every.new.parts c.part-in-AllOf.new.parts after (element c.args.e.now) _ k c.args.place.now c.in_ok-f-in-AllOf.f c.part-in-AllOf.result _
-          (ap element c.in-AllOf.is ∙ element-AllOf _ ∙ ap (λ (z : List (List Elem)). bodies.AllOf (bodies_of z)) (sym c.as_slice-in-AllOf.ensures)) refl c.in_ok-f-in-AllOf.ensures.made
-          (elem-at m after (bodies.AllOf (bodies_of c.as_slice-in-AllOf.result.now)) k c.as_slice-vars.result.now c.args.place.now.scope c.args.place.now c.as_slice-vars.ensures refl) c.part-in-AllOf.ensures.made;
-    }
+pub suffix-past_each-requires-clause-nexts : goal.suffix-past_each-requires-clause-nexts
+suffix-past_each-requires-clause-nexts t c =
+    nexts-stand c.args.parts.now c.compound.new.parts c.args.nexts.now c.in_ok-f-in-Compound.ensures.made.grows c.requires
 
--- the condition on what follows, in the tables that grew
+pub suffix-past_each-requires-in-Block-clause-nexts : goal.suffix-past_each-requires-in-Block-clause-nexts
+suffix-past_each-requires-in-Block-clause-nexts t c =
+    nexts-stand c.args.parts.now c.block.new.parts c.args.nexts.now c.in_ok-f-in-Block.ensures.made.grows c.requires
 
-pub block-follow_at-requires : goal.block-follow_at-requires
-block-follow_at-requires t c =
-    made-stands c.args.parts.now c.braced.new.parts c.args.next.now
-    (grows-trans c.args.parts.now c.sequence.new.parts c.braced.new.parts
-    (grows-trans c.args.parts.now c.own_close.new.parts c.sequence.new.parts c.in_ok-close.ensures.made.grows c.in_ok-inside.ensures.made.grows) c.in_ok-f.ensures.made.grows) c.requires
+pub suffix-dots_each-requires-clause-nexts : goal.suffix-dots_each-requires-clause-nexts
+suffix-dots_each-requires-clause-nexts t c =
+    nexts-stand c.args.parts.now c.when_parts.new.parts c.args.nexts.now c.in_ok-whens-in-Gap.ensures.made.grows c.requires
 
-pub suffix-compound-requires-clause-next : goal.suffix-compound-requires-clause-next
-suffix-compound-requires-clause-next t c = made-stands c.args.parts.now c.each.new.parts c.args.next.now c.in_ok-inside-in-Compound.ensures.made.grows c.requires
-
-pub suffix-dots-requires-clause-next : goal.suffix-dots-requires-clause-next
-suffix-dots-requires-clause-next t c = made-stands c.args.parts.now c.when_parts.new.parts c.args.next.now c.in_ok-whens-in-Gap.ensures.made.grows c.requires
-
-pub suffix-dots-requires-in-Nest-clause-next : goal.suffix-dots-requires-in-Nest-clause-next
-suffix-dots-requires-in-Nest-clause-next t c =
-    made-stands c.args.parts.now c.when_parts-in-Nest.new.parts c.args.next.now
+pub suffix-dots_each-requires-in-Nest-clause-nexts : goal.suffix-dots_each-requires-in-Nest-clause-nexts
+suffix-dots_each-requires-in-Nest-clause-nexts t c =
+    nexts-stand c.args.parts.now c.when_parts-in-Nest.new.parts c.args.nexts.now
     (grows-trans c.args.parts.now c.nest.new.parts c.when_parts-in-Nest.new.parts c.in_ok-part-in-Nest.ensures.made.grows c.in_ok-whens-in-Nest.ensures.made.grows) c.requires

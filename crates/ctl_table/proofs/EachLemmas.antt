@@ -1,0 +1,183 @@
+-- What is made for each of some things, one after another.
+use Rattle.std.proofs.Common.{◌≡◌, ℕ, zero, suc, ◌+◌, ◌<◌, Bool, true, arith, refl, sym, ap, subst, ◌∙◌, List, [], ◌∷◌, ◌++◌}
+use Rattle.std.proofs.Common.{map, length, take, drop, get_or, nat_lt, Option}
+use Rattle.std.specs.List.{list_all}
+use Rattle.std.proofs.lemmas.List.{map-append, take_more}
+use Rattle.smpl_terms.specs.declared.var.Var.{Var}
+use Rattle.smpl_patch.specs.Bodies.{Element}
+use Rattle.ctl_formula.specs.Plain.{Plain, True}
+use Rattle.ctl_formula.specs.declared.node.Node.{Node}
+use Rattle.ctl_formula.specs.Tables.{at, plains, Grows, Makes}
+use Rattle.ctl_formula.proofs.TableLemmas.{grows-refl, grows-trans, and-left, and-right, lt-true}
+use Rattle.ctl_table.specs.Table as table
+use Rattle.ctl_table.specs.declared.follow.Made.{Made}
+use Rattle.ctl_table.specs.Settings.{all_below, parts_at, made_below, all_made_below, Pairwise, MakesAll, MakesFollow, MakesFollows}
+use Rattle.ctl_table.proofs.MakingLemmas.{both-true}
+use Rattle.ctl_table.proofs.FollowLemmas.{made-stands, made-stays}
+use Rattle.ctl_table.proofs.RowLemmas.{all-next, all-as, one-more, taken}
+
+-- what all items of a list are, one of them is
+pub item-is : {A : Type 0} (p : A → Bool) (xs : List A) (i : ℕ) (x d : A) → i < length xs → x ≡ get_or xs i d → list_all p xs ≡ true → p x ≡ true
+item-is p [] i x d l q h = absurd (omega (arith, l))
+item-is p (y ∷ xs) zero x d l q h = ap p q ∙ and-left (p y) (list_all p xs) h
+item-is p (y ∷ xs) (suc i) x d l q h = item-is p xs i x d (omega (arith, l)) q (and-right (p y) (list_all p xs) h)
+
+pub nexts-stand : (a b : List Node) (fs : List Made) → Grows a b → all_made_below (length a) fs ≡ true → all_made_below (length b) fs ≡ true
+nexts-stand a b [] g h = refl
+nexts-stand a b (f ∷ fs) g h =
+    both-true (made_below (length b) f) (all_made_below (length b) fs)
+    (made-stands a b f g (and-left (made_below (length a) f) (all_made_below (length a) fs) h))
+    (nexts-stand a b fs g (and-right (made_below (length a) f) (all_made_below (length a) fs) h))
+
+-- equal at each item that the test holds of
+pub map-same : {A B : Type 0} (p : A → Bool) (f g : A → B) → ((x : A) → p x ≡ true → f x ≡ g x) → (xs : List A) → list_all p xs ≡ true → map f xs ≡ map g xs
+map-same p f g e [] h = refl
+map-same p f g e (x ∷ xs) h =
+    ap (λ z. z ∷ map f xs) (e x (and-left (p x) (list_all p xs) h))
+    ∙ ap (λ zs. g x ∷ zs) (map-same p f g e xs (and-right (p x) (list_all p xs) h))
+
+pub map-map : {A B C : Type 0} (g : B → C) (f : A → B) (xs : List A) → map g (map f xs) ≡ map (λ x. g (f x)) xs
+map-map g f [] = refl
+map-map g f (x ∷ xs) = ap (λ zs. g (f x) ∷ zs) (map-map g f xs)
+
+-- one more part, in a loop over things
+pub map-step : {A : Type 0} (a b c : List Node) (f : A → Plain) (xs : List A) (x d : A) (is next : List ℕ) (i j : ℕ) (g : Plain)
+    → i < length xs → x ≡ get_or xs i d → g ≡ f x → next ≡ is ++ j ∷ []
+    → MakesAll a b is (map f (take i xs)) → Makes b c j g → MakesAll a c next (map f (take (i + 1) xs))
+map-step a b c f xs x d is next i j g l q e o y z =
+    let whole : map f (take i xs) ++ g ∷ [] ≡ map f (take (i + 1) xs) =
+    ap (λ (v : Plain). map f (take i xs) ++ v ∷ []) (e ∙ ap f q)
+    ∙ sym (map-append f (take i xs) (get_or xs i d ∷ []))
+    ∙ ap (map f) (sym (take_more xs i d l)) in
+    all-next a c is next j (map f (take (i + 1) xs)) o
+    (all-as a c (is ++ j ∷ []) (map f (take i xs) ++ g ∷ []) (map f (take (i + 1) xs)) whole (one-more a b c is j (map f (take i xs)) g y z))
+
+-- all things are done
+pub map-taken : {A : Type 0} (a b : List Node) (f : A → Plain) (xs : List A) (is : List ℕ) (i : ℕ) → i ≡ length xs
+    → MakesAll a b is (map f (take i xs)) → MakesAll a b is (map f xs)
+map-taken a b f xs is i e x = subst (λ v. MakesAll a b is (map f v)) (taken i xs e) x
+
+-- what was made, in a table that grew
+pub follow-kept : (m : table.Setting) (a b c : List Node) (f : Made) (s : table.Start) (e : Option Element → List Var → Plain)
+    → MakesFollow m a b f s e → Grows b c → MakesFollow m a c f s e
+follow-kept m a b c f s e x g = record {
+  within = made-stands b c f g x.within;
+  starts = x.starts;
+  is = λ before t. made-stays b c m before f t g x.within ∙ x.is before t;
+  grows = grows-trans a b c x.grows g;
+}
+
+-- the formulas may be written in another way, and the first table be an earlier one
+pub follow-as : (m : table.Setting) (a b c : List Node) (f : Made) (s : table.Start) (e d : Option Element → List Var → Plain)
+    → Grows a b → ((before : Option Element) (t : List Var) → e before t ≡ d before t) → MakesFollow m b c f s e → MakesFollow m a c f s d
+follow-as m a b c f s e d g q x = record {
+  within = x.within;
+  starts = x.starts;
+  is = λ before t. x.is before t ∙ q before t;
+  grows = grows-trans a b c g x.grows;
+}
+
+-- pairs
+
+pub pair-as : {A B : Type 0} (p : A → Bool) (r s : A → B → Type 0) → ((x : A) (y : B) → p x ≡ true → r x y → s x y)
+    → (xs : List A) (ys : List B) → list_all p xs ≡ true → Pairwise r xs ys → Pairwise s xs ys
+pair-as p r s f [] [] h z = tt
+pair-as p r s f (x ∷ xs) (y ∷ ys) h z =
+    (f x y (and-left (p x) (list_all p xs) h) z.0, pair-as p r s f xs ys (and-right (p x) (list_all p xs) h) z.1)
+pair-as p r s f [] (y ∷ ys) h z = absurd z
+pair-as p r s f (x ∷ xs) [] h z = absurd z
+
+all-are : {A : Type 0} (xs : List A) → list_all (λ x. true) xs ≡ true
+all-are [] = refl
+all-are (x ∷ xs) = all-are xs
+
+pub pair-weaker : {A B : Type 0} (r s : A → B → Type 0) → ((x : A) (y : B) → r x y → s x y)
+    → (xs : List A) (ys : List B) → Pairwise r xs ys → Pairwise s xs ys
+pair-weaker r s f xs ys z = pair-as (λ x. true) r s (λ x y h w. f x y w) xs ys (all-are xs) z
+
+pub pair-more : {A B : Type 0} (r : A → B → Type 0) (xs : List A) (ys : List B) (x : A) (y : B)
+    → Pairwise r xs ys → r x y → Pairwise r (xs ++ x ∷ []) (ys ++ y ∷ [])
+pair-more r [] [] x y z w = (w, tt)
+pair-more r (u ∷ us) (v ∷ vs) x y z w = (z.0, pair-more r us vs x y z.1 w)
+pair-more r [] (v ∷ vs) x y z w = absurd z
+pair-more r (u ∷ us) [] x y z w = absurd z
+
+pub pair-trans : {A B C : Type 0} (r : A → B → Type 0) (s : B → C → Type 0) (q : A → C → Type 0) → ((x : A) (y : B) (z : C) → r x y → s y z → q x z)
+    → (xs : List A) (ys : List B) (zs : List C) → Pairwise r xs ys → Pairwise s ys zs → Pairwise q xs zs
+pair-trans r s q f [] [] [] u v = tt
+pair-trans r s q f (x ∷ xs) (y ∷ ys) (z ∷ zs) u v = (f x y z u.0 v.0, pair-trans r s q f xs ys zs u.1 v.1)
+pair-trans r s q f [] (y ∷ ys) zs u v = absurd u
+pair-trans r s q f (x ∷ xs) [] zs u v = absurd u
+pair-trans r s q f [] [] (z ∷ zs) u v = absurd v
+pair-trans r s q f (x ∷ xs) (y ∷ ys) [] u v = absurd v
+
+pub pair-map : {A B C : Type 0} (r : A → B → Type 0) (f : A → C) (g : B → C) → ((x : A) (y : B) → r x y → g y ≡ f x)
+    → (xs : List A) (ys : List B) → Pairwise r xs ys → map g ys ≡ map f xs
+pair-map r f g e [] [] z = refl
+pair-map r f g e (x ∷ xs) (y ∷ ys) z = ap (λ w. w ∷ map g ys) (e x y z.0) ∙ ap (λ ws. f x ∷ ws) (pair-map r f g e xs ys z.1)
+pair-map r f g e [] (y ∷ ys) z = absurd z
+pair-map r f g e (x ∷ xs) [] z = absurd z
+
+pub pair-all : {A B : Type 0} (r : A → B → Type 0) (p : B → Bool) → ((x : A) (y : B) → r x y → p y ≡ true)
+    → (xs : List A) (ys : List B) → Pairwise r xs ys → list_all p ys ≡ true
+pair-all r p e [] [] z = refl
+pair-all r p e (x ∷ xs) (y ∷ ys) z = both-true (p y) (list_all p ys) (e x y z.0) (pair-all r p e xs ys z.1)
+pair-all r p e [] (y ∷ ys) z = absurd z
+pair-all r p e (x ∷ xs) [] z = absurd z
+
+-- the parts of a list, one for each of some things
+pub pair-parts : {A : Type 0} (a b : List Node) (f : A → Plain) (xs : List A) (is : List ℕ)
+    → Grows a b → all_below (length b) is ≡ true → parts_at b is ≡ map f xs → Pairwise (λ x i. Makes a b i (f x)) xs is
+pair-parts a b f [] [] g w e = tt
+pair-parts a b f (x ∷ xs) (i ∷ is) g w e = (
+  record {
+    within = lt-true i (length b) (and-left (nat_lt i (length b)) (all_below (length b) is) w);
+    is = ap (λ (z : List Plain). get_or z 0 True) e;
+    grows = g;
+  },
+  pair-parts a b f xs is g (and-right (nat_lt i (length b)) (all_below (length b) is) w) (ap (λ (z : List Plain). drop 1 z) e),
+)
+pair-parts a b f [] (i ∷ is) g w e = absurd cc
+pair-parts a b f (x ∷ xs) [] g w e = absurd cc
+
+-- nothing is made yet
+pub no-follows : {A : Type 0} (m : table.Setting) (a : List Node) (s : A → table.Start) (e : A → Option Element → List Var → Plain) (fs : List Made)
+    → fs ≡ [] → MakesFollows m a a [] fs s e
+no-follows m a s e fs q = subst (λ (z : List Made). MakesFollows m a a [] z s e) (sym q) (record { each = tt; grows = grows-refl a })
+
+-- one more thing, in a loop over things
+pub follows-step : {A : Type 0} (m : table.Setting) (a b c : List Node) (s : A → table.Start) (e : A → Option Element → List Var → Plain) (xs : List A) (x d : A)
+    (fs next : List Made) (i : ℕ) (g : Made) → i < length xs → x ≡ get_or xs i d → next ≡ fs ++ g ∷ []
+    → MakesFollows m a b (take i xs) fs s e → Grows b c → MakesFollow m a c g (s x) (e x) → MakesFollows m a c (take (i + 1) xs) next s e
+follows-step m a b c s e xs x d fs next i g l q o y w z =
+    let front = pair-weaker (λ x f. MakesFollow m a b f (s x) (e x)) (λ x f. MakesFollow m a c f (s x) (e x))
+    (λ x f u. follow-kept m a b c f (s x) (e x) u w) (take i xs) fs y.each in
+    let items : take i xs ++ x ∷ [] ≡ take (i + 1) xs = ap (λ v. take i xs ++ v ∷ []) q ∙ sym (take_more xs i d l) in
+    subst (λ (v : List Made). MakesFollows m a c (take (i + 1) xs) v s e) (sym o)
+    (subst (λ v. MakesFollows m a c v (fs ++ g ∷ []) s e) items (record {
+      each = pair-more (λ x f. MakesFollow m a c f (s x) (e x)) (take i xs) fs x g front z;
+      grows = grows-trans a b c y.grows w;
+    }))
+
+pub follows-taken : {A : Type 0} (m : table.Setting) (a b : List Node) (s : A → table.Start) (e : A → Option Element → List Var → Plain) (xs : List A) (fs : List Made) (i : ℕ)
+    → i ≡ length xs → MakesFollows m a b (take i xs) fs s e → MakesFollows m a b xs fs s e
+follows-taken m a b s e xs fs i q x = subst (λ v. MakesFollows m a b v fs s e) (taken i xs q) x
+
+-- all that follows was made in the new table
+pub follows-within : {A : Type 0} (m : table.Setting) (a b : List Node) (xs : List A) (fs : List Made) (s : A → table.Start) (e : A → Option Element → List Var → Plain)
+    → MakesFollows m a b xs fs s e → all_made_below (length b) fs ≡ true
+follows-within m a b xs fs s e y =
+    pair-all (λ x f. MakesFollow m a b f (s x) (e x)) (made_below (length b)) (λ x f u. u.within) xs fs y.each
+
+-- a list of one part
+pub only-made : (a b : List Node) (is : List ℕ) (i : ℕ) (f : Plain) → i ≡ get_or is 0 0 → MakesAll a b is (f ∷ []) → Makes a b i f
+only-made a b [] i f q x = absurd (let e = x.are in cc)
+only-made a b (j ∷ is) i f q x = record {
+  within = let w = lt-true j (length b) (and-left (nat_lt j (length b)) (all_below (length b) is) x.within) in omega (arith, q, w);
+  is = ap (at (plains b)) q ∙ ap (λ (z : List Plain). get_or z 0 True) x.are;
+  grows = x.grows;
+}
+
+pub only-one : (a b : List Node) (is : List ℕ) (f : Plain) → MakesAll a b is (f ∷ []) → 0 < length is
+only-one a b [] f x = absurd (let e = x.are in cc)
+only-one a b (j ∷ is) f x = omega arith

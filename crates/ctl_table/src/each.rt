@@ -1,0 +1,270 @@
+// What is made for each of the things that may follow, one after another.
+ghost use Rattle.std.specs.Prelude.{◌≡◌, ◌+◌, ◌<◌, ◌≤◌, ◌∷◌, ◌++◌, nat_lt, length, map, true, [], IfOk};
+ghost use Rattle.std.specs.List.{list_all, range_with_len};
+ghost use Rattle.std.specs.Option.{option_copied};
+ghost use Rattle.smpl_patch.specs.Patterns.{is_statement as is_statement_in};
+ghost use Rattle.smpl_patch.proofs.BodyLemmas.{dots_of};
+ghost use Rattle.ctl_formula.specs.Plain as plain;
+ghost use Rattle.ctl_formula.specs.Tables.{at, plains, Makes};
+ghost use Rattle.ctl_table.specs.Table as table;
+ghost use Rattle.ctl_table.specs.Settings.{setting_at, element_or_none, all_below, parts_at};
+ghost use Rattle.ctl_table.specs.Settings.{nest_below, all_made_below, made_at, follow, dots_row};
+ghost use Rattle.ctl_table.specs.Settings.{MakesAll, MakesFollows};
+ghost use Rattle.ctl_table.specs.Columns.{column as column_of, rows_within, first_of_column};
+
+use crate::dots::{copied_numbers, follow_at};
+use crate::element::{dots, joined_next, part, past_next};
+use crate::follow::{Made, NestPart};
+use crate::own::own_atom;
+use crate::setting::Setting;
+use crate::wrap::{and_all, first_branch};
+use c_terms::NoMemory;
+use ctl_formula::Parts;
+use smpl_patch::{Dots, Elem, Pattern, is_statement};
+use smpl_terms::Var;
+use sqlite_items::Items;
+use std::alloc::Global;
+use var_places::{Place, Scope};
+
+/// What may follow an element, as come to from this scope.
+pub fn follows_at(
+    alloc: Global,
+    parts: &mut Parts,
+    m: &Setting,
+    before: Option<&Elem>,
+    nexts: &[Made],
+    scope: &Scope,
+) -> Result<Vec<usize>, NoMemory>
+    requires { all_made_below (length parts.old) nexts.now ≡ true }
+    ensures made { IfOk result (λ is. MakesAll parts.old parts.new is.items
+        (map (λ next. made_at (plains parts.old) (setting_at m.now)
+        (element_or_none (option_copied before.entry)) next scope.now) nexts.now)) }
+{
+    let mut made = Vec::new(alloc);
+    for next in nexts {
+        let g = follow_at(alloc, parts, m, before, next, scope)?;
+        made.push(g)?;
+    }
+    Ok(made)
+}
+
+/// An atom before each thing that may follow. The atom's part is made once.
+pub fn atoms(
+    alloc: Global,
+    parts: &mut Parts,
+    m: &Setting,
+    p: &Pattern,
+    before: Option<&Elem>,
+    nexts: &[Made],
+    vars: &[Var],
+    scope: &Scope,
+) -> Result<Vec<usize>, NoMemory>
+    requires { all_made_below (length parts.old) nexts.now ≡ true }
+    ensures made { IfOk result (λ is. MakesAll parts.old parts.new is.items
+        (map (λ next. table.joined m.now.forall_walks (is_statement_in p.now)
+        (table.own (setting_at m.now) vars.now p.now (plain.Atom p.now))
+        (follow parts.old m.now (option_copied before.entry) next).start
+        ((follow parts.old m.now (option_copied before.entry) next).at scope.now)) nexts.now)) }
+{
+    let f = own_atom(alloc, parts, m, vars, p)?;
+    let statement = is_statement(p);
+    joined_each(alloc, parts, m, statement, f, before, nexts, scope)
+}
+
+fn joined_each(
+    alloc: Global,
+    parts: &mut Parts,
+    m: &Setting,
+    statement: bool,
+    f: usize,
+    before: Option<&Elem>,
+    nexts: &[Made],
+    scope: &Scope,
+) -> Result<Vec<usize>, NoMemory>
+    requires f { f < length parts.old }
+    requires nexts { all_made_below (length parts.old) nexts.now ≡ true }
+    ensures made { IfOk result (λ is. MakesAll parts.old parts.new is.items
+        (map (λ next. table.joined m.now.forall_walks statement (at (plains parts.old) f)
+        (follow parts.old m.now (option_copied before.entry) next).start
+        ((follow parts.old m.now (option_copied before.entry) next).at scope.now)) nexts.now)) }
+{
+    let mut made = Vec::new(alloc);
+    for next in nexts {
+        let g = joined_next(alloc, parts, m, statement, f, before, next, scope)?;
+        made.push(g)?;
+    }
+    Ok(made)
+}
+
+/// A statement whose part is made, before each thing that may follow it.
+pub fn past_each(
+    alloc: Global,
+    parts: &mut Parts,
+    m: &Setting,
+    f: usize,
+    before: Option<&Elem>,
+    nexts: &[Made],
+    scope: &Scope,
+) -> Result<Vec<usize>, NoMemory>
+    requires f { f < length parts.old }
+    requires nexts { all_made_below (length parts.old) nexts.now ≡ true }
+    ensures made { IfOk result (λ is. MakesAll parts.old parts.new is.items
+        (map (λ next. plain.And (at (plains parts.old) f)
+        (plain.Past ((follow parts.old m.now (option_copied before.entry) next).at scope.now)))
+        nexts.now)) }
+{
+    let mut made = Vec::new(alloc);
+    for next in nexts {
+        let g = past_next(alloc, parts, m, f, before, next, scope)?;
+        made.push(g)?;
+    }
+    Ok(made)
+}
+
+/// Each of these parts, and all of the others.
+pub fn and_each(
+    alloc: Global,
+    parts: &mut Parts,
+    fs: &[usize],
+    more: &[usize],
+) -> Result<Vec<usize>, NoMemory>
+    requires fs { all_below (length parts.old) fs.now ≡ true }
+    requires more { all_below (length parts.old) more.now ≡ true }
+    ensures made { IfOk result (λ is. MakesAll parts.old parts.new is.items
+        (map (λ f. table.and_all (at (plains parts.old) f) (parts_at parts.old more.now)) fs.now)) }
+{
+    let mut made = Vec::new(alloc);
+    for f in fs {
+        let g = and_all(parts, *f, more)?;
+        made.push(g)?;
+    }
+    Ok(made)
+}
+
+/// Each of these parts as what follows, under what is quantified at its suffix.
+pub fn part_each(
+    alloc: Global,
+    parts: &mut Parts,
+    m: &Setting,
+    place: &Place,
+    fs: &[usize],
+) -> Result<Vec<Made>, NoMemory>
+    requires { all_below (length parts.old) fs.now ≡ true }
+    ensures made { IfOk result (λ made. MakesFollows (setting_at m.now) parts.old parts.new fs.now made.items
+        (λ f. table.Other)
+        (λ f b t. table.exists_all place.now.here (at (plains parts.old) f))) }
+{
+    let mut made = Vec::new(alloc);
+    for f in fs {
+        let g = part(alloc, parts, m, place, *f)?;
+        made.push(g)?;
+    }
+    Ok(made)
+}
+
+/// Dots, or the end of a nest, whose `when` code is made, before each thing that may follow them.
+pub fn dots_each(
+    alloc: Global,
+    parts: &mut Parts,
+    m: &Setting,
+    after: Option<&Elem>,
+    d: &Dots,
+    whens: &[usize],
+    nest: Option<NestPart>,
+    before: Option<&Elem>,
+    nexts: &[Made],
+    place: &Place,
+) -> Result<Vec<Made>, NoMemory>
+    requires whens { all_below (length parts.old) whens.now ≡ true }
+    requires nest { nest_below (length parts.old) nest ≡ true }
+    requires nexts { all_made_below (length parts.old) nexts.now ≡ true }
+    ensures made { IfOk result (λ made. MakesFollows (setting_at m.now) parts.old parts.new nexts.now made.items
+        (λ next. table.Dots)
+        (λ next b t. dots_row (setting_at m.now) parts.old
+        b (element_or_none (option_copied after.entry)) (parts_at parts.old whens.now)
+        (dots_of d.now).any (dots_of d.now).strict nest
+        (follow parts.old m.now (option_copied before.entry) next) place.now t)) }
+{
+    let mut made = Vec::new(alloc);
+    for next in nexts {
+        let whens = copied_numbers(alloc, whens)?;
+        let g = dots(alloc, parts, m, after, d, whens, nest, before, next, place)?;
+        made.push(g)?;
+    }
+    Ok(made)
+}
+
+/// A disjunction that has no branches, before each thing that may follow it.
+pub fn no_branches(alloc: Global, parts: &mut Parts, nexts: &[Made]) -> Result<Vec<usize>, NoMemory>
+    ensures made { IfOk result (λ is. MakesAll parts.old parts.new is.items
+        (map (λ next. table.any_of []) nexts.now)) }
+{
+    let mut made = Vec::new(alloc);
+    for _next in nexts {
+        let f = first_branch(alloc, parts, &[], &[])?;
+        made.push(f)?;
+    }
+    Ok(made)
+}
+
+/// The first branch that holds, with each thing that may follow. A row has the parts of one branch: the first are for what
+/// follows, and the last is the branch alone. The last branch has no row: it is excluded nowhere, so its parts, the ends, are
+/// for what follows alone.
+pub fn first_branches(
+    alloc: Global,
+    parts: &mut Parts,
+    rows: &[Items<usize>],
+    ends: &[usize],
+    last: usize,
+) -> Result<Vec<usize>, NoMemory>
+    requires most { length ends.now ≤ last + 1 }
+    requires within { rows_within (length parts.old) (last + 1) rows.now ≡ true }
+    requires ends { all_below (length parts.old) ends.now ≡ true }
+    ensures made { IfOk result (λ is. MakesAll parts.old parts.new is.items
+        (map (first_of_column (plains parts.old) rows.now ends.now last) (range_with_len 0 (length ends.now)))) }
+{
+    let lone = column(alloc, rows, last)?;
+    let alone = lone.as_slice();
+    let mut made = Vec::new(alloc);
+    for (j, end) in ends.iter().enumerate() {
+        let f = first_of(alloc, parts, rows, j, *end, alone)?;
+        made.push(f)?;
+    }
+    Ok(made)
+}
+
+/// The first branch that holds, by the column of the branches with what follows, and the last branch's part behind them.
+fn first_of(
+    alloc: Global,
+    parts: &mut Parts,
+    rows: &[Items<usize>],
+    j: usize,
+    end: usize,
+    alone: &[usize],
+) -> Result<usize, NoMemory>
+    requires longer { list_all (λ row. nat_lt j (length row)) rows.now ≡ true }
+    requires with { all_below (length parts.old) (column_of j rows.now) ≡ true }
+    requires end { end < length parts.old }
+    requires alone { all_below (length parts.old) alone.now ≡ true }
+    ensures made { IfOk result (λ i. Makes parts.old parts.new i
+        (table.any_of (table.choices []
+        (parts_at parts.old (column_of j rows.now) ++ at (plains parts.old) end ∷ [])
+        (parts_at parts.old alone.now)))) }
+{
+    let mut with = column(alloc, rows, j)?;
+    with.push(end)?;
+    first_branch(alloc, parts, with.as_slice(), alone)
+}
+
+/// The part of this number in each row.
+fn column(alloc: Global, rows: &[Items<usize>], j: usize) -> Result<Vec<usize>, NoMemory>
+    requires { list_all (λ row. nat_lt j (length row)) rows.now ≡ true }
+    ensures { IfOk result (λ found. found.items ≡ column_of j rows.now) }
+{
+    let mut found = Vec::new(alloc);
+    for row in rows {
+        let parts = row.as_slice();
+        found.push(parts[j])?;
+    }
+    Ok(found)
+}

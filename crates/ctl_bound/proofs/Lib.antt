@@ -1,2 +1,6 @@
-mod HeldLemmas
-mod TableGuards
+pub mod BitLemmas
+pub mod StepLemmas
+pub mod MaskLemmas
+pub mod NamingLemmas
+pub mod GroupLemmas
+pub mod Examples

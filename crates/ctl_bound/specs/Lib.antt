@@ -1,5 +1,11 @@
 -- What public contracts rest on, in reading order.
--- of which variables each quantifier is over a formula that binds it
-pub mod Guarded
--- For inside use: which variables are bound wherever a formula holds, as its parts tell it.
-pub mod Held
+-- what a formula says of a variable
+pub mod Binding
+-- the same of 64 variables, a bit each
+pub mod Bits
+-- and of many: 64 of them each, by their numbers
+pub mod Saying
+-- For inside use: which variables a node names, as marks and as bits.
+pub mod Naming
+-- And what it says by its parts.
+pub mod Steps

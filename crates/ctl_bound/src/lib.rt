@@ -1,18 +1,23 @@
-//! Variables that a formula is soon seen to bind: that have a value of the graph wherever it holds.
+//! What a formula says of the declared variables.
 //!
-//! - [`held_vars`] gives those that stand outside of disjunctions and negations, by one pass over the table; [`is_found`]
-//!   tells whether a variable is one of them.
-//! - [`is_soon_bound`] looks at few parts for one variable.
-//! - [`unguarded`] gives the variables of which some quantifier is over a formula that isn't soon seen to bind them.
+//! - [`bindings_of`] gives what a part of a table says of each of them, and [`Bindings::of`] tells one.
+//! - [`Binds`] is what it says of one: whether the variable has a value of the graph wherever the formula holds, and wherever
+//!   it doesn't, and whether each of its quantifiers is over a formula that binds it.
 //!
-//! Of `f(x) and EX (g(y) or h(x))` the variable x is seen, and y isn't.
+//! Where `f(x) and EX (g(y) or h(x))` holds, x has a value, and y may have none. So the quantifier of
+//! `exists y. EX (g(y) or h(x))` isn't guarded.
 //!
-//! A yes is right; where the answer is no, the variable may be bound all the same: ctl_formula's `bounds` tells it exactly,
-//! with a pass over the whole table for each variable.
+//! The variables are numbered, and 64 of them are worked off at once, a bit each. Each pattern of the table is read once, for
+//! which variables it surely has. After that n variables cost n / 64 passes over the table and over which part names which
+//! variable, where no hashes collide. Nothing here recurses over a formula.
+//!
+//! Which variables a pattern surely has is for pattern_vars, and what a formula binds is defined in ctl_formula.
 #![tactic(auto)]
 
-mod guard;
-mod held;
+mod groups;
+mod masks;
+mod naming;
+mod steps;
 
-pub use guard::{MOST_LOOKS, is_soon_bound, unguarded};
-pub use held::{HeldVars, held_vars, is_found};
+pub use groups::{Bindings, bindings_of};
+pub use masks::Binds;

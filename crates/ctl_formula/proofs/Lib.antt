@@ -1,4 +1,4 @@
 pub mod TableLemmas
 pub mod CountLemmas
-pub mod BindingLemmas
+pub mod FrontLemmas
 pub mod Crossing

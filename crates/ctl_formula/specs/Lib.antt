@@ -7,7 +7,5 @@ pub mod Bounds
 pub mod Tables
 -- formulas of rules: guarded, and within the limits
 pub mod Formulas
--- what a part says of one variable
-pub mod Binding
 -- sizes and depths as a table counts them
 pub mod Counted

@@ -3,7 +3,6 @@
 //! - [`Parts`] is a table: each [`Node`] is a formula whose parts are earlier nodes, named by their numbers.
 //! - [`Formula`] is a rule's formula with what its patterns are read by: within the limits, and guarded.
 //! - [`parts_of`] counts its subformulas, as if it were a tree.
-//! - [`bounds`] says of each part which variables have a value of the graph wherever it holds, and wherever it doesn't.
 //!
 //! `A[f U g] and E[f U g]` over the atoms f and g is five nodes: f, g, the two untils, and the `and`. As a tree it has
 //! seven subformulas.
@@ -14,12 +13,10 @@
 //! Which formula a rule has is for ctl_translate, and where a formula holds for the crates that hold it against graphs.
 #![tactic(auto)]
 
-mod binding;
 mod formula;
 mod node;
 mod parts;
 
-pub use binding::{Binds, bounds};
 pub use formula::{Formula, copy_decls, copy_tokens, parts_of};
 pub use node::{Node, is_equal_node};
 pub use parts::{MOST_AROUND, MOST_PARTS, Parts};

@@ -1,8 +1,9 @@
 -- A rule's formula is guarded where none of its variables may stay unbound.
 use Rattle.std.proofs.Common.{◌≡◌, ℕ, Bool, true, false, not, ◌&&◌, ◌||◌, cond, if◌then◌else◌, refl, sym, ap, ◌∙◌, ◌⊎◌, inl, inr}
-use Rattle.std.proofs.Common.{List, [], ◌∷◌, map, length, get_or, ◌<◌, Option, None, Some, arith}
+use Rattle.std.proofs.Common.{List, [], ◌∷◌, map, length, get_or, drop, ◌+◌, ◌<◌, Option, None, Some, arith}
 use Rattle.std.specs.List.{filter, list_all}
-use Rattle.std.proofs.lemmas.List.{get_or-map, length-map}
+use Rattle.std.proofs.lemmas.List.{drop_more, get_or-map, length-map}
+use Rattle.std.proofs.lemmas.List.Folds.{list_any_at}
 use Rattle.smpl_terms.specs.declared.var.Var.{Var}
 use Rattle.smpl_terms.specs.Vars.{same_var}
 use Rattle.smpl_terms.proofs.VarLaws.{same_var-equal, same_var-refl}
@@ -12,14 +13,17 @@ use Rattle.smpl_patch.specs.declared.elem.Elem.{Elem}
 use Rattle.smpl_patch.specs.declared.rule.Rule.{Rule}
 use Rattle.smpl_patch.specs.Patterns as patterns
 use Rattle.smpl_patch.specs.Bodies.{Body, body}
-use Rattle.ctl_formula.specs.Plain.{Plain, True, fits}
+use Rattle.ctl_formula.specs.Plain.{Plain, fits}
 use Rattle.ctl_formula.specs.Formulas.{FormulaOf}
-use Rattle.ctl_formula.specs.Bounds.{Surely, bound, guarded, guarded_for}
-use Rattle.ctl_formula.specs.Binding.{binds_at}
-use Rattle.ctl_formula.specs.declared.binding.Binds.{Binds}
+use Rattle.ctl_formula.specs.Bounds.{bound, guarded, guarded_for}
+use Rattle.ctl_bound.specs.declared.masks.Binds.{Binds}
+use Rattle.ctl_bound.specs.declared.groups.Bindings.{Bindings}
+use Rattle.ctl_bound.specs.Binding.{binds_at}
+use Rattle.ctl_bound.specs.Saying.{binds_in}
+use Rattle.pattern_vars.specs.Reads.{has, is_declared}
 use Rattle.ctl_formula.specs.declared.node.Node.{Node}
 use Rattle.ctl_formula.specs.Tables.{at, plains}
-use Rattle.ctl_formula.proofs.TableLemmas.{length-plains, and-left, and-right}
+use Rattle.ctl_formula.proofs.TableLemmas.{and-left, and-right}
 use Rattle.var_places.specs.Placing.{Reading, is_alone}
 use Rattle.ctl_table.specs.Blocks.{blocks}
 use Rattle.ctl_table.specs.Table as table
@@ -124,12 +128,6 @@ rule-formula r decls tokens forall_walks locals alone bs es w s d t f l a b e v 
     ∙ ap (λ (z : List Var). whole r.vars r.tokens (rules.ranges_over_all r.mode) (rules.locals r) (filter (is_alone (rules.reading r) (body r.body)) (rules.locals r)) (blocks (body r.body)) r.body
     (filter (λ x. not (is_alone (rules.reading r) (body r.body) x)) (rules.locals r)) z) n
 
--- what is known of the part that is the rule's formula
-pub known-root : (f : Plain → Binds) (d : Binds) (ns : List Node) (i : ℕ) (known : List Binds) (b : Binds) (g : Plain) → i < length ns → known ≡ map f (plains ns) → b ≡ get_or known i d → at (plains ns) i ≡ g
-    → b ≡ f g
-known-root f d ns i known b g l k e q =
-    e ∙ ap (λ (z : List Binds). get_or z i d) k ∙ get_or-map f (plains ns) i True d (omega (arith, l, length-plains ns)) ∙ ap f q
-
 -- the formula is guarded, as the code has it
 pub root-guarded : (r : Rule) (decls : List VarDecl) (tokens : List PatToken) (f : Plain) → decls ≡ r.vars → tokens ≡ r.tokens → f ≡ rules.formula_of r
     → rules.first_unbound r ≡ None → guarded (patterns.sure decls tokens) f ≡ true
@@ -161,28 +159,40 @@ kept-is test r decls tokens es xs d t e l =
     ∙ ap (λ (z : List Elem). kept_by test r.vars r.tokens z xs) e
     ∙ ap (λ (z : List Var). kept_by test r.vars r.tokens r.body z) l
 
-pub known-there : (f : Plain → Binds) (ns : List Node) (i : ℕ) (known : List Binds) → i < length ns → known ≡ map f (plains ns) → i < length known
-known-there f ns i known l k = omega (arith, l, ap length k ∙ length-map (plains ns) f ∙ length-plains ns)
+-- what a rule's formula says of each of its variables, as the code has it
+abbrev pub AllSaid : Rule → Bindings → Type 0
+AllSaid r found = (x : Var) → is_declared r.vars x ≡ true
+    → binds_in found x ≡ Some (binds_at (patterns.sure r.vars r.tokens) x (rules.formula_of r))
 
--- what is asked of a rule's formula, as the code has it
-pub asked-is : {A : Type 0} (ask : Surely → Plain → A) (r : Rule) (decls : List VarDecl) (tokens : List PatToken) (f : Plain) (u : A)
-    → decls ≡ r.vars → tokens ≡ r.tokens → f ≡ rules.formula_of r → u ≡ ask (patterns.sure decls tokens) f
-    → u ≡ ask (patterns.sure r.vars r.tokens) (rules.formula_of r)
-asked-is ask r decls tokens f u v t e h =
-    h ∙ ap (λ (z : List VarDecl). ask (patterns.sure z tokens) f) v
-    ∙ ap (λ (z : List PatToken). ask (patterns.sure r.vars z) f) t
-    ∙ ap (ask (patterns.sure r.vars r.tokens)) e
+declared-at : (ds : List VarDecl) (i : ℕ) (d : VarDecl) → i < length ds → d ≡ get_or ds i d → is_declared ds d.var ≡ true
+declared-at ds i d h e =
+    let within : i < length (map (λ c. c.var) ds) = omega (arith, h, length-map ds (λ c. c.var)) in
+    list_any_at (λ (y : Var). same_var y d.var) (map (λ c. c.var) ds) i d.var within
+    (ap (λ (y : Var). same_var y d.var) (get_or-map (λ c. c.var) ds i d d.var h ∙ ap (λ c. c.var) (sym e)) ∙ same_var-refl d.var)
 
--- what the formula's part says of a variable, as the code has it
-pub binds-is : (r : Rule) (x : Var) (decls : List VarDecl) (tokens : List PatToken) (ns : List Node) (i : ℕ) (known : List Binds) (b : Binds)
-    → decls ≡ r.vars → tokens ≡ r.tokens → i < length ns → known ≡ map (binds_at (patterns.sure decls tokens) x) (plains ns) → b ≡ get_or known i b
-    → at (plains ns) i ≡ rules.formula_of r → b ≡ binds_at (patterns.sure r.vars r.tokens) x (rules.formula_of r)
-binds-is r x decls tokens ns i known b v t l k e q =
-    asked-is (λ sure f. binds_at sure x f) r decls tokens (rules.formula_of r) b v t refl
-    (known-root (binds_at (patterns.sure decls tokens) x) b ns i known b (rules.formula_of r) l k e q)
+-- what the code asks of the formula about the declaration of this number
+module _ (r : Rule) (exports : List Var) (found : Bindings) (ds : List VarDecl) (i : ℕ) (d : VarDecl) (u : Bool) (w : Option Var)
+    (e : (x : Var) → has exports x ≡ rules.is_exported r x) (s : AllSaid r found) (v : ds ≡ r.vars)
+    (h : i < length ds) (g : d ≡ get_or ds i d)
+    (a : (b : Binds) → binds_in found d.var ≡ Some b
+    → u ≡ (not d.inherited && (if has exports d.var then not b.holding else not b.guarded)))
+    (k : rules.first_unbound_from r (drop i ds) ≡ w) where
+  unbound-is : u ≡ rules.is_unbound r d
+  unbound-is =
+      let f = rules.formula_of r in let sure = patterns.sure r.vars r.tokens in
+      let declared = ap (λ (z : List VarDecl). is_declared z d.var) (sym v) ∙ declared-at ds i d h g in
+      a (binds_at sure d.var f) (s d.var declared)
+      ∙ ap (λ (z : Bool). not d.inherited && (if z then not (bound sure f d.var) else not (guarded_for sure d.var f))) (e d.var)
 
--- a formula that is soon seen to bind a variable does so, as the code has it
-pub soon-is : (r : Rule) (x : Var) (decls : List VarDecl) (tokens : List PatToken) (f : Plain) (u : Bool)
-    → decls ≡ r.vars → tokens ≡ r.tokens → f ≡ rules.formula_of r → (u ≡ true → bound (patterns.sure decls tokens) f x ≡ true)
-    → u ≡ true → bound (patterns.sure r.vars r.tokens) (rules.formula_of r) x ≡ true
-soon-is r x decls tokens f u v t e h k = sym (asked-is (λ sure g. bound sure g x) r decls tokens f true v t e (sym (h k)))
+  here : rules.first_unbound_from r (drop i ds) ≡ (if u then Some d.var else rules.first_unbound_from r (drop (i + 1) ds))
+  here =
+      ap (rules.first_unbound_from r) (drop_more ds i d h ∙ ap (λ (z : VarDecl). z ∷ drop (i + 1) ds) (sym g))
+      ∙ ap (λ (z : Bool). if z then Some d.var else rules.first_unbound_from r (drop (i + 1) ds)) (sym unbound-is)
+
+  -- the variable is bound, and the next one is asked
+  pub passed : u ≡ false → rules.first_unbound_from r (drop (i + 1) ds) ≡ w
+  passed q = ap (λ (z : Bool). if z then Some d.var else rules.first_unbound_from r (drop (i + 1) ds)) (sym q) ∙ sym here ∙ k
+
+  -- the variable may stay unbound
+  pub found-first : u ≡ true → Some d.var ≡ w
+  found-first q = ap (λ (z : Bool). if z then Some d.var else rules.first_unbound_from r (drop (i + 1) ds)) (sym q) ∙ sym here ∙ k

@@ -133,8 +133,8 @@ fn least_first(bs: &[Items<Elem>]) -> Least
     }
 }
 
-/// Whether the elements alone tell that the rule's formula has too many subformulas. Linear in the elements. What this
-/// says of branches within one another, each with something behind it, keeps the table from being worked off for ever.
+/// Whether the elements alone tell that the rule's formula has too many subformulas. Linear in the elements. So no table is
+/// made of branches within one another, each with something behind it, whose formula doubles at each level.
 pub fn is_far_too_large(rule: &Rule) -> bool
     ensures { result ≡ true → fits (rules.formula_of rule.now) ≡ false }
 {

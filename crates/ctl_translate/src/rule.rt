@@ -23,7 +23,7 @@ use smpl_patch::{Elem, Mode, Rule, VarDecl};
 use smpl_terms::Var;
 use sqlite_items::Items;
 use std::alloc::{AllocError, Global};
-use var_places::{Reader, Scope, among, standing_in_body, used_in_body};
+use var_places::{Ordered, Reader, Scope, among, standing_in_body, used_in_body};
 
 /// Why a rule has no formula that may be used.
 #[derive(Drop)]
@@ -140,11 +140,11 @@ pub fn standing_outside_whens(alloc: Global, rule: &Rule) -> Result<VarSet, NoMe
 /// The variables that are neither exported nor inherited: those that occur in `when` code alone, and the others.
 #[derive(Drop)]
 pub struct LocalVars {
-    pub alone: Items<Var>,
+    pub alone: Ordered,
     pub placed: Items<Var>,
 }
 
-/// Sorts the variables by where they occur. The body is read once, and each variable is looked up twice.
+/// Sorts the variables by where they occur. The body is read once, and each variable is looked up a few times.
 fn sorted_locals(
     alloc: Global,
     reader: &Reader,
@@ -156,8 +156,9 @@ fn sorted_locals(
         ≡ filter (λ x. not (is_alone (reading_at reader.now) (body b.now) x)) locals.now) }
 {
     let used = used_in_body(alloc, reader, b)?;
-    let alone = others(alloc, &used, locals)?;
     let placed = among(alloc, &used, locals)?;
+    let alone = others(alloc, &used, locals)?;
+    let alone = Ordered::of(alloc, alone)?;
     Ok(LocalVars { alone, placed })
 }
 
@@ -167,7 +168,7 @@ fn root_of(
     parts: &mut Parts,
     rule: &Rule,
     reader: &Reader,
-    locals: &[Var],
+    locals: &Ordered,
     found: &LocalVars,
 ) -> Result<usize, NoMemory>
     requires decls { reader.now.decls.now ≡ rule.now.vars }
@@ -181,17 +182,16 @@ fn root_of(
     let b = rule.body.as_slice();
     let blocks = blocks(alloc, b)?;
     let blocks = blocks.as_slice();
-    let alone = found.alone.as_slice();
     let placed = found.placed.as_slice();
     let forall_walks = ranges_over_all(rule.mode);
     let m = Setting {
         reader: *reader,
         forall_walks,
         locals,
-        alone,
+        alone: &found.alone,
         blocks,
     };
-    let around = Scope::none();
+    let around = Scope::none(alloc)?;
     sequence(alloc, parts, &m, b, None, &Made::Nothing, placed, &around)
 }
 
@@ -207,9 +207,10 @@ fn root_by(
     ensures made { IfOk result (λ i. Makes parts.old parts.new i (rules.formula_of rule.now)) }
 {
     let locals = locals(alloc, rule)?;
-    let locals = locals.as_slice();
-    let found = sorted_locals(alloc, reader, rule.body.as_slice(), locals)?;
-    root_of(alloc, parts, rule, reader, locals, &found)
+    let locals = Ordered::of(alloc, locals)?;
+    let b = rule.body.as_slice();
+    let found = sorted_locals(alloc, reader, b, locals.as_slice())?;
+    root_of(alloc, parts, rule, reader, &locals, &found)
 }
 
 /// The part that the rule's formula is.
@@ -240,9 +241,9 @@ fn formula(alloc: Global, parts: Parts, root: usize, rule: &Rule) -> Result<Form
 /// [`FormulaFault::TooLarge`] comes where the formula is over a limit, whether or not it has variables that may stay unbound;
 /// [`FormulaFault::Unbound`] where it is within the limits and has such a variable; [`FormulaFault::NoMemory`] where memory
 /// was refused. Recurses once a level of nested statements, branches and `when` code. Makes what stands at several places
-/// once, but each branch of a disjunction that something follows twice; a token is read a few times for each statement,
-/// branch or piece of `when` code around it. The table is after Brunel, Doligez, Hansen, Lawall and Muller, POPL 2009; what
-/// they leave open is this project's own.
+/// once, and works each element off once; a token is read a few times for each statement, branch or piece of `when` code
+/// around it. The table is after Brunel, Doligez, Hansen, Lawall and Muller, POPL 2009; what they leave open is this
+/// project's own.
 pub fn formula_of(alloc: Global, rule: &Rule) -> Result<Formula, FormulaFault>
     ensures formula { IfOk result (λ formula. IsFormulaOf rule.now formula) }
     ensures fault { IfErr result (λ fault. IsFaultOf rule.now fault) }

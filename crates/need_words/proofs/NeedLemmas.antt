@@ -11,7 +11,7 @@ use Rattle.ctl_formula.specs.Plain.{Plain}
 use Rattle.ctl_formula.specs.Plain as plain
 use Rattle.ctl_formula.specs.declared.node.Node.{Node}
 use Rattle.ctl_formula.specs.Tables.{at, plain_of, plains, below}
-use Rattle.ctl_formula.proofs.BindingLemmas.{node-front}
+use Rattle.ctl_formula.proofs.FrontLemmas.{node-front}
 use Rattle.ctl_formula.proofs.TableLemmas.{length-plains}
 use Rattle.c_terms.specs.declared.label.Label.{Label}
 use Rattle.c_terms.specs.declared.tree.Tree.{Tree}

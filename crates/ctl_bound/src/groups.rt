@@ -1,0 +1,110 @@
+// What a part of a table says of each declared variable.
+ghost use Rattle.std.specs.Prelude.{◌≡◌, ◌<◌, ◌/◌, ℕ, true, List, map, length, Some, IfOk};
+ghost use Rattle.smpl_terms.specs.declared.var.Var.{Var as Variable};
+ghost use Rattle.smpl_patch.specs.Patterns.{sure};
+ghost use Rattle.pattern_vars.specs.Reads.{is_declared};
+ghost use Rattle.ctl_formula.specs.declared.node.Node.{Node as Part};
+ghost use Rattle.ctl_formula.specs.Bounds.{Surely};
+ghost use Rattle.ctl_formula.specs.Tables.{at, plains};
+ghost use Rattle.ctl_bound.specs.Binding.{binds_at};
+ghost use Rattle.ctl_bound.specs.Saying.{binds_in, said_of};
+ghost use Rattle.ctl_bound.specs.Naming.{AreMarked, SaysOf};
+ghost use Rattle.ctl_bound.specs.Steps.{step_of, AreOrdered};
+
+use crate::masks::{Binds, Masks, binds_by, root_masks};
+use crate::naming::{Mark, declared_vars, marks_of, named_in};
+use crate::steps::{Step, steps_of};
+use c_terms::NoMemory;
+use ctl_formula::Parts;
+use pattern_vars::{Decls, VarSet};
+use smpl_patch::PatToken;
+use smpl_terms::Var;
+use std::alloc::Global;
+
+/// What a formula says of each declared variable.
+#[derive(Drop)]
+pub struct Bindings {
+    vars: VarSet,
+    /// What it says of 64 variables each, in the order of their numbers.
+    masks: Vec<Masks>,
+}
+
+impl Bindings {
+    /// What the formula says of the variable, if that is declared. One look-up and a copy of the variable, linear in the
+    /// name.
+    pub fn of(&self, alloc: Global, x: &Var) -> Result<Option<Binds>, NoMemory>
+        ensures { IfOk result (λ said. said ≡ binds_in self.now x.now) }
+    {
+        let number = self.vars.number(alloc, x)?;
+        Ok(said_of(self.masks.as_slice(), number))
+    }
+}
+
+/// What the masks say of the variable of this number.
+fn said_of(masks: &[Masks], number: Option<usize>) -> Option<Binds>
+    ensures { result ≡ said_of masks.now number }
+{
+    match number {
+        Some(k) => masks.get(k / 64).map(|m| binds_by(m, k % 64)),
+        None => None,
+    }
+}
+
+/// What a part of a table says of the 64 variables of the group of this number, by the table's steps. Linear in the table
+/// and the marks.
+fn group_masks(
+    alloc: Global,
+    steps: &[Step],
+    marks: &[Mark],
+    root: usize,
+    group: usize,
+) -> Result<Masks, NoMemory>
+    requires ordered { AreOrdered steps.now }
+    requires within { root < length steps.now }
+    ensures { IfOk result (λ masks. (ns : List Part) → steps.now ≡ map step_of ns
+        → SaysOf ns marks.now root group masks) }
+{
+    let named = named_in(alloc, marks, group, steps.len())?;
+    root_masks(alloc, steps, &named, root)
+}
+
+/// What the part says of the variables of so many groups.
+fn all_masks(
+    alloc: Global,
+    steps: &[Step],
+    marks: &[Mark],
+    root: usize,
+    groups: usize,
+) -> Result<Vec<Masks>, NoMemory>
+    requires ordered { AreOrdered steps.now }
+    requires within { root < length steps.now }
+    ensures { IfOk result (λ masks. (ns : List Part) (sure : Surely) (x : Variable) (k : ℕ) → k / 64 < groups
+        → steps.now ≡ map step_of ns → AreMarked sure x k ns marks.now
+        → said_of masks.items (Some k) ≡ Some (binds_at sure x (at (plains ns) root))) }
+{
+    let mut masks = Vec::with_capacity(alloc, groups)?;
+    for group in 0..groups {
+        masks.push(group_masks(alloc, steps, marks, root, group)?)?;
+    }
+    Ok(masks)
+}
+
+/// What the part of this number says of each declared variable. Each pattern is read once; then each 64 variables take
+/// one pass over a copy of the table that has no patterns, and over which part names which variable.
+pub fn bindings_of(
+    alloc: Global,
+    parts: &Parts,
+    decls: &Decls,
+    tokens: &[PatToken],
+    root: usize,
+) -> Result<Bindings, NoMemory>
+    requires { root < length parts.now }
+    ensures { IfOk result (λ found. (x : Variable) → is_declared decls.now x ≡ true
+        → binds_in found x ≡ Some (binds_at (sure decls.now tokens.now) x (at (plains parts.now) root))) }
+{
+    let vars = declared_vars(alloc, decls)?;
+    let marks = marks_of(alloc, parts, decls, tokens, &vars)?;
+    let steps = steps_of(alloc, parts)?;
+    let masks = all_masks(alloc, &steps, &marks, root, vars.len().div_ceil(64))?;
+    Ok(Bindings { vars, masks })
+}

@@ -5,7 +5,7 @@ Usage: bench/hostile_patches.py PROGRAM [LIMIT]
 
 Each patch is read and applied to a file of one function. Printed: a line for each patch, with its size, the seconds of processor time that
 the run took, the best of three, its memory, and how it ended. A run that takes more than LIMIT seconds, 60 where it is left out, is
-stopped, and tried once alone.
+stopped, and that patch isn't run again.
 """
 import os
 import resource

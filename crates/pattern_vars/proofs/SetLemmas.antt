@@ -36,7 +36,8 @@ pub looked_up : (keys : List Key) (k : Key) → list_any (same_key k) keys ≡ h
 looked_up [] k = refl
 looked_up (q ∷ keys) k = ap (λ (b : Bool). b || list_any (same_key k) keys) (key-same k q) ∙ ap (λ (b : Bool). same_var q.var k.var || b) (looked_up keys k)
 
-not_found : (keys : List Key) (k : Key) → position_or_len (same_key k) keys ≡ position_or_len (λ v. same_var v k.var) (vars_of keys)
+not_found : (keys : List Key) (k : Key)
+    → position_or_len (same_key k) keys ≡ position_or_len (λ v. same_var v k.var) (vars_of keys)
 not_found [] k = refl
 not_found (q ∷ keys) k =
     ap (λ (b : Bool). cond (not b) (1 + position_or_len (same_key k) keys) 0) (key-same k q)

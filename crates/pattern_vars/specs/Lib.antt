@@ -2,6 +2,7 @@
 pub mod Reads
 -- and what a map has for a variable
 pub mod Keys
--- For inside use: numbers of declarations, and what branches have in common.
+-- For inside use: numbers of declarations,
 pub mod Index
+-- and what branches have in common.
 pub mod Sure

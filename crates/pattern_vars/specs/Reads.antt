@@ -1,5 +1,5 @@
 -- The variables that stand in a pattern, and those of plus code that is anchored at it.
-use Rattle.std.specs.Prelude.{ℕ, Bool, ◌||◌, cond, List, map, Option, slice_get}
+use Rattle.std.specs.Prelude.{ℕ, Bool, false, ◌||◌, cond, nat_eq, List, map, Option, None, Some, slice_get}
 use Rattle.std.specs.List.{list_any, position}
 use Rattle.c_terms.specs.declared.token.Token.{Token}
 use Rattle.c_terms.specs.declared.tree.Tree.{Tree}
@@ -19,6 +19,11 @@ has vars x = list_any (λ y. same_var y x) vars
 -- the first place at which the variable stands
 abbrev pub number_of : List Var → Var → Option ℕ
 number_of vars x = position (λ y. same_var y x) vars
+
+-- there is a number, and it is this one
+abbrev pub is_number : Option ℕ → ℕ → Bool
+is_number None k = false
+is_number (Some n) k = nat_eq n k
 
 -- there is a declaration of the variable
 abbrev pub is_declared : List VarDecl → Var → Bool

@@ -2,9 +2,12 @@
 ghost use Rattle.std.specs.Prelude.{◌≡◌, ◌&&◌, not, cond, ℕ, List, map, Some, slice_get, IfOk, OnOk};
 ghost use Rattle.std.specs.Option.{option_copied};
 ghost use Rattle.c_terms.specs.Same.{same_bytes};
+ghost use Rattle.smpl_terms.specs.declared.var.Var.{Var as Variable};
 ghost use Rattle.smpl_patch.specs.Patterns.{declared_as, is_position_kind};
+ghost use Rattle.pattern_vars.specs.Reads.{has, is_declared};
 ghost use Rattle.pattern_vars.specs.Index.{number_in, Finds};
 
+use crate::VarSet;
 use c_terms::NoMemory;
 use indexmap::IndexMap;
 use smpl_patch::{VarDecl, VarKind};
@@ -98,4 +101,15 @@ impl Decls {
             None => None,
         }
     }
+}
+
+/// The variables of the declarations, each once. One look-up for each declaration, linear in its name.
+pub fn declared_vars(alloc: Global, decls: &Decls) -> Result<VarSet, NoMemory>
+    ensures { IfOk result (λ vars. (x : Variable) → has vars x ≡ is_declared decls.now x) }
+{
+    let mut vars = VarSet::new(alloc);
+    for d in decls.as_slice() {
+        vars.put(alloc, &d.var)?;
+    }
+    Ok(vars)
 }

@@ -1,5 +1,5 @@
 // The variables of tokens, trees and patterns.
-ghost use Rattle.std.specs.Prelude.{◌≡◌, ◌||◌, ◌&&◌, ℕ, length, slice_get, OnOk};
+ghost use Rattle.std.specs.Prelude.{◌≡◌, ◌||◌, ◌&&◌, length, slice_get, OnOk};
 ghost use Rattle.std.specs.List.{list_any};
 ghost use Rattle.c_terms.specs.Trees.{leaves};
 ghost use Rattle.smpl_terms.specs.declared.var.Var.{Var as Variable};

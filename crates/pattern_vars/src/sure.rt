@@ -2,18 +2,18 @@
 ghost use Rattle.std.specs.Prelude.{◌≡◌, ◌||◌, ◌&&◌, true, length, IfOk, OnOk};
 ghost use Rattle.std.specs.List.{list_any, list_all};
 ghost use Rattle.smpl_terms.specs.declared.var.Var.{Var as Variable};
-ghost use Rattle.smpl_terms.specs.Vars.{same_var};
 ghost use Rattle.smpl_patch.specs.Held as parts;
 ghost use Rattle.smpl_patch.specs.Held.{kept};
 ghost use Rattle.smpl_patch.specs.Patterns as of;
 ghost use Rattle.pattern_vars.specs.Reads.{has, is_declared};
 ghost use Rattle.pattern_vars.specs.Sure.{has_unless_all};
 
+use crate::common::{met, put_set};
+use crate::decls::declared_vars;
 use crate::reads::{is_parted, put_own};
 use crate::{Decls, VarSet};
 use c_terms::{Label, NoMemory, Shape, TokenKind, Tree};
-use smpl_patch::{PatToken, Pattern, Spot, VarDecl, is_held};
-use smpl_terms::Var;
+use smpl_patch::{PatToken, Pattern, Spot, is_held};
 use std::alloc::Global;
 
 fn is_sign(kind: TokenKind) -> bool
@@ -32,48 +32,6 @@ fn is_sign_tree(tree: &Tree) -> bool
         Tree::Leaf(token) => is_sign(token.kind),
         Tree::Branch(_, _) => false,
     }
-}
-
-/// The variables of all declarations.
-fn declared_of(alloc: Global, decls: &[VarDecl]) -> Result<VarSet, NoMemory>
-    ensures { IfOk result (λ all. (y : Variable) → has all y ≡ is_declared decls.now y) }
-{
-    let mut all = VarSet::new(alloc);
-    for d in decls {
-        all.put(alloc, &d.var)?;
-    }
-    Ok(all)
-}
-
-/// Puts in the variables of another set.
-fn put_set(alloc: Global, other: &VarSet, set: &mut VarSet) -> Result<(), NoMemory>
-    ensures { OnOk result ((y : Variable) → has set.new y ≡ (has set.old y || has other.now y)) }
-{
-    for i in 0..other.len() {
-        set.put(alloc, other.at(i))?;
-    }
-    Ok(())
-}
-
-/// Puts the variable in, if the other set has it.
-fn put_if_in(alloc: Global, x: &Var, other: &VarSet, set: &mut VarSet) -> Result<(), NoMemory>
-    ensures { OnOk result ((y : Variable) → has set.new y ≡ (has set.old y || (same_var x.now y && has other.now y))) }
-{
-    if other.has(alloc, x)? {
-        set.put(alloc, x)?;
-    }
-    Ok(())
-}
-
-/// The variables that both sets have. A look-up for each of the first set's.
-fn met(alloc: Global, one: &VarSet, other: &VarSet) -> Result<VarSet, NoMemory>
-    ensures { IfOk result (λ both. (y : Variable) → has both y ≡ (has one.now y && has other.now y)) }
-{
-    let mut both = VarSet::new(alloc);
-    for i in 0..one.len() {
-        put_if_in(alloc, one.at(i), other, &mut both)?;
-    }
-    Ok(both)
 }
 
 /// What the branches so far have in common, met with the variables of one more. `None` stands for all variables.
@@ -122,7 +80,7 @@ fn common_of(
         common = common_with(alloc, decls, tokens, branch, common)?;
     }
     match common {
-        None => declared_of(alloc, decls.as_slice()),
+        None => declared_vars(alloc, decls),
         Some(set) => Ok(set),
     }
 }

@@ -2,12 +2,11 @@
 use Rattle.std.specs.Prelude.{◌≡◌, ℕ, Bool, true, false, nat_eq, Option, None, Some, List, length, slice_get}
 use Rattle.std.specs.List.{list_any}
 use Rattle.smpl_terms.specs.declared.var.Var.{Var}
-use Rattle.pattern_vars.specs.Reads.{number_of}
+use Rattle.pattern_vars.specs.Reads.{number_of, is_number}
 
--- there is a number, and it is this one
-abbrev pub is_number : Option ℕ → ℕ → Bool
-is_number None i = false
-is_number (Some n) i = nat_eq i n
+-- the variable has this number
+abbrev pub has_number : List Var → ℕ → Var → Bool
+has_number numbers i x = is_number (number_of numbers x) i
 
 -- there is a variable, and it passes the test
 abbrev pub passes : (Var → Bool) → Option Var → Bool
@@ -17,7 +16,7 @@ passes test (Some x) = test x
 -- the numbers of variables are their places in the list, each of whose variables stands there once
 pub record IsNumbered (numbers vars : List Var) : Type 0 where
   pub count : length numbers ≡ length vars
-  pub each : (i : ℕ) (x : Var) → slice_get vars i ≡ Some x → is_number (number_of numbers x) i ≡ true
+  pub each : (i : ℕ) (x : Var) → slice_get vars i ≡ Some x → has_number numbers i x ≡ true
 
 -- these are the places at which the list has a variable that passes the test
 abbrev pub ArePlaces : (Var → Bool) → List Var → List ℕ → Type 0

@@ -1,7 +1,6 @@
 // Which variables several parts of an element have.
-ghost use Rattle.std.specs.Prelude.{◌≡◌, ◌||◌, ◌&&◌, ◌+◌, ℕ, not, true, nat_le, IfOk, OnOk};
+ghost use Rattle.std.specs.Prelude.{◌≡◌, ◌+◌, ℕ, not, true, nat_le, IfOk, OnOk};
 ghost use Rattle.smpl_terms.specs.declared.var.Var.{Var as Variable};
-ghost use Rattle.smpl_terms.specs.Vars.{same_var};
 ghost use Rattle.smpl_patch.specs.Bodies.{body, element};
 ghost use Rattle.smpl_patch.proofs.BodyLemmas.{bodies as bodies_of};
 ghost use Rattle.pattern_vars.specs.Reads.{has};
@@ -12,9 +11,8 @@ ghost use Rattle.var_places.specs.Homes.{IsCount};
 use crate::reader::Reader;
 use crate::sets::{occurring_in_body, standing_in_whens, used_in_atom, used_in_option};
 use c_terms::NoMemory;
-use pattern_vars::VarSet;
+use pattern_vars::{VarSet, put_met, put_set};
 use smpl_patch::{Elem, Pattern};
-use smpl_terms::Var;
 use sqlite_items::Items;
 use std::alloc::Global;
 
@@ -25,50 +23,13 @@ pub struct Counted {
     pub several: VarSet,
 }
 
-/// Puts the variable in, if the other set has it.
-fn put_if(alloc: Global, x: &Var, other: &VarSet, set: &mut VarSet) -> Result<(), NoMemory>
-    ensures { OnOk result ((y : Variable) → has set.new y
-        ≡ (has set.old y || (has other.now x.now && same_var x.now y))) }
-{
-    let here = other.has(alloc, x)?;
-    if here {
-        set.put(alloc, x)?;
-    }
-    Ok(())
-}
-
-/// Puts those variables of a part in that the other set has.
-fn put_common(
-    alloc: Global,
-    part: &VarSet,
-    other: &VarSet,
-    set: &mut VarSet,
-) -> Result<(), NoMemory>
-    ensures { OnOk result ((y : Variable) → has set.new y
-        ≡ (has set.old y || (has part.now y && has other.now y))) }
-{
-    for i in 0..part.len() {
-        put_if(alloc, part.at(i), other, set)?;
-    }
-    Ok(())
-}
-
-fn put_all(alloc: Global, part: &VarSet, set: &mut VarSet) -> Result<(), NoMemory>
-    ensures { OnOk result ((y : Variable) → has set.new y ≡ (has set.old y || has part.now y)) }
-{
-    for i in 0..part.len() {
-        set.put(alloc, part.at(i))?;
-    }
-    Ok(())
-}
-
 /// One more part.
 fn count(alloc: Global, part: &VarSet, counted: &mut Counted) -> Result<(), NoMemory>
     ensures { OnOk result ((y : Variable) (n : ℕ) → IsCount counted.old y n
         → IsCount counted.new y (n + placing.one (has part.now y))) }
 {
-    put_common(alloc, part, &counted.some, &mut counted.several)?;
-    put_all(alloc, part, &mut counted.some)?;
+    put_met(alloc, part, &counted.some, &mut counted.several)?;
+    put_set(alloc, part, &mut counted.some)?;
     Ok(())
 }
 

@@ -8,8 +8,8 @@
 //!
 //! Of `f(x); ... g(x, y);` with the variables x and y, x is quantified at the whole sequence, and y inside the last call.
 //!
-//! A part is read once for each statement around it, and each variable is looked up once there: names are never compared
-//! one by one. What formulas are made of it is for ctl_table.
+//! A part is read a few times for each statement around it, and each variable is looked up a few times there: names are
+//! never compared one by one. What formulas are made of it is for ctl_table.
 #![tactic(auto)]
 
 mod counted;

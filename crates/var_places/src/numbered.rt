@@ -16,7 +16,9 @@ use std::marker::Model;
 /// Variables in an order, with the first place of each. Contracts see the list.
 #[derive(Drop)]
 pub struct Numbered {
+    /// The variables, in their order.
     vars: Vec<Var>,
+    /// The first place of each.
     firsts: IndexMap<Key, usize>,
 }
 
@@ -70,6 +72,13 @@ impl Numbered {
     {
         let firsts = firsts_of(alloc, vars.as_slice())?;
         Ok(Numbered { vars, firsts })
+    }
+
+    /// The variables, in their order. Takes no memory.
+    pub fn as_slice(&self) -> &[Var]
+        ensures { result.now ≡ self.now }
+    {
+        self.vars.as_slice()
     }
 
     /// The first place of the variable. One look-up, linear in the name; takes no memory.

@@ -4,10 +4,10 @@ ghost use Rattle.std.specs.List.{filter, list_any};
 ghost use Rattle.std.specs.List.Sorted.{IsNonDecreasing};
 ghost use Rattle.smpl_terms.specs.declared.var.Var.{Var as Variable};
 ghost use Rattle.smpl_patch.specs.Bodies.{body};
-ghost use Rattle.pattern_vars.specs.Reads.{has, number_of};
+ghost use Rattle.pattern_vars.specs.Reads.{has};
 ghost use Rattle.var_places.specs.Placing as placing;
 ghost use Rattle.var_places.specs.Places.{reading_at};
-ghost use Rattle.var_places.specs.Ordered.{is_number, IsNumbered, ArePlaces};
+ghost use Rattle.var_places.specs.Ordered.{has_number, IsNumbered, ArePlaces};
 
 use crate::place::among;
 use crate::reader::Reader;
@@ -23,6 +23,7 @@ use std::marker::Model;
 /// Variables in their order, of which those that a set has are found without a look at the others. Contracts see the list.
 #[derive(Drop)]
 pub struct Ordered {
+    /// The variables, in their order.
     vars: Items<Var>,
     /// Gives each variable its place as its number. There is none if a variable stands twice.
     numbers: Option<VarSet>,
@@ -42,10 +43,10 @@ impl Model for Ordered {
 
 /// Whether the variable has this number.
 fn has_number(alloc: Global, numbers: &VarSet, x: &Var, i: usize) -> Result<bool, NoMemory>
-    ensures { IfOk result (λ yes. yes ≡ is_number (number_of numbers.now x.now) i) }
+    ensures { IfOk result (λ yes. yes ≡ has_number numbers.now i x.now) }
 {
     match numbers.number(alloc, x)? {
-        Some(n) => Ok(i == n),
+        Some(n) => Ok(n == i),
         None => Ok(false),
     }
 }
@@ -86,7 +87,7 @@ fn put_number(
     places: &mut Vec<usize>,
 ) -> Result<(), NoMemory>
     ensures { OnOk result ((i : ℕ) → list_any (nat_eq i) places.new.items
-        ≡ (list_any (nat_eq i) places.old.items || is_number (number_of numbers.now x.now) i)) }
+        ≡ (list_any (nat_eq i) places.old.items || has_number numbers.now i x.now)) }
 {
     match numbers.number(alloc, x)? {
         Some(n) => {
@@ -100,7 +101,7 @@ fn put_number(
 /// The numbers that variables of the set have.
 fn numbers_in(alloc: Global, numbers: &VarSet, set: &VarSet) -> Result<Vec<usize>, NoMemory>
     ensures { IfOk result (λ places. (i : ℕ) → list_any (nat_eq i) places.items
-        ≡ list_any (λ x. is_number (number_of numbers.now x) i) set.now) }
+        ≡ list_any (has_number numbers.now i) set.now) }
 {
     let mut places = Vec::new(alloc);
     for k in 0..set.len() {

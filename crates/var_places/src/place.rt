@@ -1,9 +1,8 @@
 // Which variables are quantified where.
-ghost use Rattle.std.specs.Prelude.{◌≡◌, ◌<◌, ◌≤◌, ◌^◌, ◌++◌, [], true, ◌&&◌, not, take, length, Some, IfOk, OnOk};
+ghost use Rattle.std.specs.Prelude.{◌≡◌, ◌<◌, ◌^◌, ◌++◌, not, take, length, Some, IfOk, OnOk};
 ghost use Rattle.std.specs.List.{filter};
 ghost use Rattle.smpl_patch.specs.Bodies.{body};
 ghost use Rattle.pattern_vars.specs.Reads.{has};
-ghost use Rattle.pattern_vars.specs.Keys.{value_of};
 ghost use Rattle.var_places.specs.Placing as placing;
 ghost use Rattle.var_places.specs.Places.{reading_at, places};
 ghost use Rattle.var_places.specs.Homes as of_sequence;

@@ -1,5 +1,5 @@
 // What is quantified around the elements of a sequence.
-ghost use Rattle.std.specs.Prelude.{◌≡◌, ◌<◌, ◌^◌, ◌++◌, [], length, take, IfOk};
+ghost use Rattle.std.specs.Prelude.{◌≡◌, ◌<◌, ◌^◌, ◌+◌, ◌++◌, [], length, take, drop, IfOk, OnOk};
 ghost use Rattle.std.specs.List.{list_any};
 ghost use Rattle.pattern_vars.specs.Reads.{has};
 ghost use Rattle.var_places.specs.Scopes.{joined};
@@ -8,13 +8,16 @@ use crate::numbered::Numbered;
 use c_terms::NoMemory;
 use pattern_vars::Key;
 use smpl_terms::{Copied, Shared, SharedList, Var, copied_items};
+use sqlite_items::Items;
 use std::alloc::Global;
 use std::marker::Model;
 
 /// The first ones of variables that scopes share. Contracts see them.
 #[derive(Drop)]
 pub struct Link {
+    /// The variables that are shared.
     vars: Shared<Numbered>,
+    /// How many of them are seen, from the first on.
     count: usize,
 }
 
@@ -28,6 +31,14 @@ impl Model for Link {
 }
 
 impl Link {
+    /// The variables, in their order. Takes no memory.
+    fn as_slice(&self) -> &[Var]
+        ensures { result.now ≡ self.now }
+    {
+        let vars = self.vars.get().as_slice();
+        &vars[..self.count.min(vars.len())]
+    }
+
     /// Whether the variable is there. One look-up, linear in the name; takes no memory.
     fn has(&self, x: &Key) -> bool
         ensures { result ≡ has self.now x.now.var }
@@ -54,6 +65,42 @@ fn is_in_some(links: &[Link], x: &Key) -> bool
     ensures { result ≡ list_any (λ link. has link x.now.var) links.now }
 {
     links.iter().any(|link| link.has(x))
+}
+
+/// The sum, or `NoMemory` where it is 2^64 or more: no scope has so many variables.
+fn plus(a: usize, b: usize) -> Result<usize, NoMemory>
+    ensures { IfOk result (λ sum. sum ≡ a + b) }
+{
+    match a.checked_add(b) {
+        Some(sum) => Ok(sum),
+        None => Err(NoMemory),
+    }
+}
+
+/// How many variables the links have. Takes no memory.
+fn count_of(links: &[Link]) -> Result<usize, NoMemory>
+    ensures { IfOk result (λ count. count ≡ length (joined links.now)) }
+{
+    let mut count = 0;
+    for link in links {
+        count = plus(count, link.as_slice().len())?;
+    }
+    Ok(count)
+}
+
+/// Appends the variables from this number on. Those before it are not looked at.
+fn put_since(
+    alloc: Global,
+    vars: &[Var],
+    count: usize,
+    found: &mut Items<Var>,
+) -> Result<(), NoMemory>
+    ensures { OnOk result (found.new ≡ found.old ++ drop count vars.now) }
+{
+    for x in &vars[count.min(vars.len())..] {
+        found.push(x.copy(alloc)?)?;
+    }
+    Ok(())
 }
 
 /// Variables that are quantified around an element: those of the sequences around it, from the outermost on. Contracts see
@@ -118,6 +165,31 @@ impl Scope {
         Ok(self.last.has(&key))
     }
 
+    /// How many variables there are, or `NoMemory` where there are 2^64 or more. Linear in the number of sequences around in
+    /// which something is quantified; takes no memory.
+    pub fn len(&self) -> Result<usize, NoMemory>
+        ensures { IfOk result (λ count. count ≡ length self.now) }
+    {
+        let count = count_of(self.outer.as_slice())?;
+        plus(count, self.last.as_slice().len())
+    }
+
+    /// The variables from this number on: what is quantified further inside than so many. Linear in their number, and in the
+    /// number of sequences around in which something is quantified.
+    pub fn since(&self, alloc: Global, count: usize) -> Result<Items<Var>, NoMemory>
+        ensures { IfOk result (λ found. found ≡ drop count self.now) }
+    {
+        let mut found = Items::new(alloc);
+        let mut left = count;
+        for link in self.outer.as_slice() {
+            let vars = link.as_slice();
+            put_since(alloc, vars, left, &mut found)?;
+            left = left.saturating_sub(vars.len());
+        }
+        put_since(alloc, self.last.as_slice(), left, &mut found)?;
+        Ok(found)
+    }
+
     /// The links, to which a further one is the next. Where the last is empty, the outer ones are shared.
     fn links(&self, alloc: Global) -> Result<SharedList<Link>, NoMemory>
         ensures { IfOk result (λ links. joined links ≡ self.now) }
@@ -134,7 +206,9 @@ impl Scope {
 /// What is quantified around a sequence, and in it.
 #[derive(Drop)]
 pub struct SequenceScope {
+    /// What is quantified around the sequence.
     outer: SharedList<Link>,
+    /// What is quantified in it.
     vars: Shared<Numbered>,
 }
 

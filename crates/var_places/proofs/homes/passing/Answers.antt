@@ -5,8 +5,9 @@ use Rattle.smpl_terms.specs.Vars.{same_var}
 use Rattle.pattern_vars.specs.Reads.{has}
 use Rattle.pattern_vars.specs.Keys.{value_of}
 use Rattle.pattern_vars.proofs.SetLemmas.{any-step, any-end}
+use Rattle.pattern_vars.proofs.SureLemmas.{element_at}
 use Rattle.var_places.specs.Homes.{passes}
-use Rattle.var_places.proofs.KeyLemmas.{at-is, common}
+use Rattle.var_places.proofs.KeyLemmas.{common}
 use Rattle.var_places.proofs.homes.passing.Goals as goal
 
 pub loop-i-preserved : goal.loop-i-preserved
@@ -14,8 +15,8 @@ loop-i-preserved c y =
     let vars = c.args.vars.now in
     let l : c.loop-i.i < length vars = omega arith in
     let one : Var → Bool = λ v. passes c.args.again (value_of c.args.homes.now.entries v) && same_var v y in
-    any-step one (λ (vs : List Var). list_any one vs) (λ v vs. refl) vars c.loop-i.i c.at.result.now (has c.loop-i.found y) (has c.put_passing.new.set y) _
-    l (at-is vars c.loop-i.i c.at.result.now l c.at.ensures) (c.in_ok-put_passing.ensures y) (c.loop-i.invariant y)
+    any-step one (λ (vs : List Var). list_any one vs) (λ v vs. refl) vars c.loop-i.i c.at.result.now
+    (has c.loop-i.found y) (has c.put_passing.new.set y) _ l (element_at vars c.loop-i.i c.at.result.now l c.at.ensures) (c.in_ok-put_passing.ensures y) (c.loop-i.invariant y)
 
 pub returns : goal.returns
 returns c y =

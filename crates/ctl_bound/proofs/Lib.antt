@@ -2,5 +2,6 @@ pub mod BitLemmas
 pub mod StepLemmas
 pub mod MaskLemmas
 pub mod NamingLemmas
+pub mod MarkLemmas
 pub mod GroupLemmas
 pub mod Examples

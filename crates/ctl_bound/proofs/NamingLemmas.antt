@@ -13,12 +13,12 @@ use Rattle.std.proofs.lemmas.Option.{slice_get_within, get_or_from_slice_get}
 use Rattle.smpl_terms.specs.declared.var.Var.{Var}
 use Rattle.smpl_terms.specs.Vars.{same_var}
 use Rattle.smpl_terms.proofs.VarLaws.{same_var-equal, same_var-refl}
-use Rattle.pattern_vars.specs.Reads.{has, number_of}
+use Rattle.pattern_vars.specs.Reads.{has, number_of, is_number}
 use Rattle.pattern_vars.proofs.SetLemmas.{put-none}
 use Rattle.ctl_formula.specs.declared.node.Node.{Node}
 use Rattle.ctl_bound.specs.declared.naming.Mark.{Mark}
 use Rattle.ctl_bound.specs.Bits.{is_bit}
-use Rattle.ctl_bound.specs.Naming.{is_marked, is_number}
+use Rattle.ctl_bound.specs.Naming.{is_marked}
 use Rattle.ctl_bound.proofs.BitLemmas.{is_bit-set_same, is_bit-set_other}
 
 -- a mark's bit is put in

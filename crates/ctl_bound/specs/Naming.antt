@@ -1,5 +1,5 @@
 -- Which variables a node names: those that its pattern surely has, the place of its brace, and the one that it quantifies.
-use Rattle.std.specs.Prelude.{◌≡◌, ℕ, ◌+◌, ◌*◌, ◌<◌, Bool, false, ◌&&◌, ◌||◌, nat_eq, List, Option, None, Some, slice_get, slice_index}
+use Rattle.std.specs.Prelude.{◌≡◌, ℕ, ◌+◌, ◌*◌, ◌/◌, ◌<◌, Bool, false, ◌&&◌, ◌||◌, nat_eq, List, [], map, get_or, Vec, Some, slice_get, slice_index}
 use Rattle.std.specs.List.{list_any}
 use Rattle.smpl_terms.specs.declared.var.Var.{Var}
 use Rattle.smpl_terms.specs.Vars.{same_var}
@@ -28,13 +28,17 @@ AreNamed sure x k ns named =
 abbrev pub is_marked : List Mark → ℕ → ℕ → Bool
 is_marked marks i k = list_any (λ m. nat_eq m.part i && nat_eq m.variable k) marks
 
-abbrev pub is_number : Option ℕ → ℕ → Bool
-is_number None k = false
-is_number (Some j) k = nat_eq j k
-
 -- the parts that are marked with variable k are those that name the variable x
 abbrev pub AreMarked : Surely → Var → ℕ → List Node → List Mark → Type 0
 AreMarked sure x k ns marks = (i : ℕ) (n : Node) → slice_get ns i ≡ Some n → is_marked marks i k ≡ names sure n x
+
+-- marks by the groups of their variables: a list for each 64 variables
+abbrev pub lists_of : {Z : Type 0} → List (Vec Mark Z) → List (List Mark)
+lists_of groups = map (λ group. group.items) groups
+
+-- the marks of the group of variable k
+abbrev pub group_of : List (List Mark) → ℕ → List Mark
+group_of lists k = get_or lists (k / 64) []
 
 -- of each variable of a group, the masks say what part i of the table says
 abbrev pub SaysOf : List Node → List Mark → ℕ → ℕ → Masks → Type 0

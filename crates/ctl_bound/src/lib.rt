@@ -8,8 +8,8 @@
 //! `exists y. EX (g(y) or h(x))` isn't guarded.
 //!
 //! The variables are numbered, and 64 of them are worked off at once, a bit each. Each pattern of the table is read once, for
-//! which variables it surely has. After that n variables cost n / 64 passes over the table and over which part names which
-//! variable, where no hashes collide. Nothing here recurses over a formula.
+//! which variables it surely has, by look-ups. After that n variables cost n / 64 passes, each over the table and over which
+//! part names which of its 64 variables. Nothing here recurses over a formula.
 //!
 //! Which variables a pattern surely has is for pattern_vars, and what a formula binds is defined in ctl_formula.
 #![tactic(auto)]

@@ -11,7 +11,6 @@ ghost use Rattle.ctl_bound.specs.Steps.{step_of, is_below, AreOrdered, says};
 
 use crate::steps::Step;
 use c_terms::NoMemory;
-use std::alloc::Global;
 
 /// What a formula says of a variable.
 #[derive(Clone, Copy)]
@@ -27,8 +26,11 @@ pub struct Binds {
 /// What a formula says of 64 variables, a bit each.
 #[derive(Clone, Copy)]
 pub struct Masks {
+    /// Those that have a value of the graph wherever the formula holds.
     pub holding: u64,
+    /// Those that have one wherever the formula doesn't hold.
     pub failing: u64,
+    /// Those of which each quantifier in the formula is over a formula that binds them.
     pub guarded: u64,
 }
 
@@ -179,12 +181,13 @@ fn masks_of(step: Step, own: u64, known: &[Masks]) -> Masks
 }
 
 /// What the part of this number says, by the steps of a table and the mask of the variables that each part names. One pass
-/// over the two.
+/// over the two. What earlier parts say is kept in `known`, in place of what was there; memory is taken only where its room
+/// doesn't suffice.
 pub fn root_masks(
-    alloc: Global,
     steps: &[Step],
     named: &[u64],
     root: usize,
+    known: &mut Vec<Masks>,
 ) -> Result<Masks, NoMemory>
     requires ordered { AreOrdered steps.now }
     requires within { root < length steps.now }
@@ -193,7 +196,7 @@ pub fn root_masks(
         → steps.now ≡ map step_of ns → AreNamed sure x k ns named.now
         → bit_binds masks k ≡ binds_at sure x (at (plains ns) root)) }
 {
-    let mut known = Vec::with_capacity(alloc, steps.len())?;
+    known.clear();
     for i in 0..steps.len() {
         known.push(masks_of(steps[i], named[i], known.as_slice()))?;
     }

@@ -1,12 +1,12 @@
 // Which variables the nodes of a table name, by their numbers.
-ghost use Rattle.std.specs.Prelude.{◌≡◌, ◌<◌, ◌+◌, ◌*◌, ◌&&◌, ◌||◌, ℕ, true, length, nat_eq, Some, slice_get, slice_index, IfOk, OnOk};
+ghost use Rattle.std.specs.Prelude.{◌≡◌, ◌<◌, ◌+◌, ◌*◌, ◌/◌, ◌&&◌, ◌||◌, ℕ, true, length, nat_eq, Some, slice_get, slice_index, IfOk, OnOk};
 ghost use Rattle.smpl_terms.specs.declared.var.Var.{Var as Variable};
 ghost use Rattle.smpl_terms.specs.Vars.{same_var};
 ghost use Rattle.smpl_patch.specs.Patterns.{sure};
-ghost use Rattle.pattern_vars.specs.Reads.{has, number_of, is_declared};
+ghost use Rattle.pattern_vars.specs.Reads.{has, number_of, is_number, is_declared};
 ghost use Rattle.ctl_formula.specs.declared.node.Node.{Node as Part};
 ghost use Rattle.ctl_bound.specs.Bits.{is_bit};
-ghost use Rattle.ctl_bound.specs.Naming.{names, is_marked, is_number, AreMarked};
+ghost use Rattle.ctl_bound.specs.Naming.{names, is_marked, AreMarked, lists_of, group_of};
 
 use c_terms::NoMemory;
 use ctl_formula::{Node, Parts};
@@ -15,10 +15,12 @@ use smpl_patch::{PatToken, Pattern};
 use smpl_terms::Var;
 use std::alloc::Global;
 
-/// The number of a part of a table, and that of a variable which the part names.
+/// A part of a table names a variable.
 #[derive(Clone, Copy)]
 pub struct Mark {
+    /// The number of the part.
     pub part: usize,
+    /// The number of the variable.
     pub variable: usize,
 }
 
@@ -148,15 +150,36 @@ pub fn marks_of(
     Ok(marks)
 }
 
-/// The variables of the declarations, each once.
-pub fn declared_vars(alloc: Global, decls: &Decls) -> Result<VarSet, NoMemory>
-    ensures { IfOk result (λ vars. (x : Variable) → has vars x ≡ is_declared decls.now x) }
+/// Puts the mark to those of the group of its variable, if there is such a group.
+fn put_in_group(mark: &Mark, groups: &mut Vec<Vec<Mark>>) -> Result<(), NoMemory>
+    ensures len { OnOk result (length groups.new.items ≡ length groups.old.items) }
+    ensures marks { OnOk result ((i k : ℕ) → k / 64 < length groups.old.items
+        → is_marked (group_of (lists_of groups.new.items) k) i k
+        ≡ (is_marked (group_of (lists_of groups.old.items) k) i k
+        || (nat_eq mark.now.part i && nat_eq mark.now.variable k))) }
 {
-    let mut vars = VarSet::new(alloc);
-    for d in decls.as_slice() {
-        vars.put(alloc, &d.var)?;
+    let group = mark.variable / 64;
+    if group < groups.len() {
+        groups[group].push(*mark)?;
     }
-    Ok(vars)
+    Ok(())
+}
+
+/// The marks by the groups of their variables: so many lists, one for each 64 variables; a mark of a later variable is left
+/// out. Linear in both.
+pub fn grouped(alloc: Global, marks: &[Mark], count: usize) -> Result<Vec<Vec<Mark>>, NoMemory>
+    ensures len { IfOk result (λ groups. length groups.items ≡ count) }
+    ensures marks { IfOk result (λ groups. (i k : ℕ) → k / 64 < count
+        → is_marked (group_of (lists_of groups.items) k) i k ≡ is_marked marks.now i k) }
+{
+    let mut groups = Vec::with_capacity(alloc, count)?;
+    for _ in 0..count {
+        groups.push(Vec::new(alloc))?;
+    }
+    for mark in marks {
+        put_in_group(mark, &mut groups)?;
+    }
+    Ok(groups)
 }
 
 /// Puts the mark's bit into the mask of its part, if the mark's variable is one of the group of this number.
@@ -169,20 +192,14 @@ fn put_bit(mark: &Mark, group: usize, named: &mut [u64])
     }
 }
 
-/// For each of so many parts, which of the 64 variables of the group of this number it names, a bit each.
-pub fn named_in(
-    alloc: Global,
-    marks: &[Mark],
-    group: usize,
-    len: usize,
-) -> Result<Vec<u64>, NoMemory>
-    ensures len { IfOk result (λ named. length named.items ≡ len) }
-    ensures bits { IfOk result (λ named. (i k : ℕ) → i < len → k < 64 → is_bit (slice_index named.items i) k
-        ≡ is_marked marks.now i (64 * group + k)) }
+/// Writes for each part which of the 64 variables of the group of this number it names, a bit each, in place of what was
+/// written there. One pass over the parts and the marks; takes no memory.
+pub fn put_named(marks: &[Mark], group: usize, named: &mut [u64])
+    ensures { (i k : ℕ) → i < length named.old → k < 64 → is_bit (slice_index named.new i) k
+        ≡ is_marked marks.now i (64 * group + k) }
 {
-    let mut named = vec![in alloc; 0u64; len]?;
+    named.fill(0);
     for mark in marks {
-        put_bit(mark, group, &mut named);
+        put_bit(mark, group, named);
     }
-    Ok(named)
 }

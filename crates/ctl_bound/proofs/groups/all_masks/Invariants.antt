@@ -4,13 +4,13 @@ use Rattle.ctl_formula.specs.declared.node.Node.{Node}
 use Rattle.ctl_formula.specs.Bounds.{Surely}
 use Rattle.ctl_formula.specs.Tables.{at, plains}
 use Rattle.ctl_bound.specs.Binding.{binds_at}
-use Rattle.ctl_bound.specs.Naming.{AreMarked}
+use Rattle.ctl_bound.specs.Naming.{AreMarked, lists_of, group_of}
 use Rattle.ctl_bound.specs.Saying.{said_of}
 use Rattle.ctl_bound.specs.Steps.{step_of}
 use Rattle.ctl_bound.proofs.groups.all_masks.Given as goal
 
 abbrev pub invariant-loop-group : goal.invariant-loop-group
-invariant-loop-group l = (length l.masks.items ≡ l.group)
+invariant-loop-group l = (length l.masks.items ≡ l.group) × (length l.named.items ≡ length l.steps)
     × ((ns : List Node) (sure : Surely) (x : Var) (k : ℕ) → k / 64 < l.group → l.steps ≡ map step_of ns
-    → AreMarked sure x k ns l.marks
+    → AreMarked sure x k ns (group_of (lists_of l.groups) k)
     → said_of l.masks.items (Some k) ≡ Some (binds_at sure x (at (plains ns) l.root)))

@@ -1,4 +1,4 @@
-use Rattle.std.proofs.Common.{◌≡◌, sym, ap, ◌∙◌, ◌&&◌, ◌||◌, not, true, false, length}
+use Rattle.std.proofs.Common.{sym, ap, ◌∙◌, ◌&&◌, ◌||◌, not, false, length}
 use Rattle.ctl_formula.proofs.TableLemmas.{and-left, and-right}
 use Rattle.ctl_bound.specs.Bits.{is_bit, bit_binds}
 use Rattle.ctl_bound.specs.Steps.{is_below}

@@ -50,6 +50,7 @@ pub along-step : (m : table.Setting) (k : table.Follow) (a b c : List Node) (f g
 along-step m k a b c f g es ps e p x y = record {
   within = y.within;
   starts = y.starts;
+  first = y.first;
   is = λ before t. y.is before t
       ∙ ap (λ (z : table.Start). suffix_at m (first es) (element e) (record { start = z; at = λ u. made_at (plains b) m (Some (element e)) f u }) p before t) x.starts
       ∙ ap (λ (z : List Var → Plain). suffix_at m (first es) (element e) (record { start = begins es k.start; at = z }) p before t)

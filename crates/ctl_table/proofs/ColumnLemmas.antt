@@ -1,6 +1,6 @@
 -- Branches before each of the things that may follow, column by column.
 use Rattle.std.proofs.Common.{◌≡◌, ℕ, zero, suc, ◌+◌, ◌-◌, ◌<◌, ◌≤◌, true, ◌&&◌, nat_lt, nat_eq, arith, refl, sym, ap, subst, ◌∙◌, List, [], ◌∷◌, ◌++◌}
-use Rattle.std.proofs.Common.{map, length, take, drop, get_or, length-append, inl, inr, Option, None, Some}
+use Rattle.std.proofs.Common.{map, length, take, drop, get_or, length-append, inl, inr, None, Some}
 use Rattle.std.specs.Prelude.{slice_get}
 use Rattle.std.specs.List.{list_all, filter, range_with_len}
 use Rattle.std.proofs.lemmas.Bool.Decides.{nat_tests}
@@ -11,7 +11,7 @@ use Rattle.std.proofs.lemmas.List.Folds.{list_all-append}
 use Rattle.std.proofs.lemmas.List.FromFn.{fill_by_all, map-range_with_len_more}
 use Rattle.smpl_terms.specs.declared.var.Var.{Var}
 use Rattle.smpl_patch.specs.declared.elem.Elem.{Elem}
-use Rattle.smpl_patch.specs.Bodies.{Element, AnyOf, AllOf, body}
+use Rattle.smpl_patch.specs.Bodies.{AnyOf, AllOf, body}
 use Rattle.smpl_patch.proofs.BodyLemmas.{bodies}
 use Rattle.ctl_formula.specs.Plain.{Plain, True, Not}
 use Rattle.ctl_formula.specs.declared.node.Node.{Node}
@@ -21,7 +21,7 @@ use Rattle.var_places.specs.Placing.{occurs_body}
 use Rattle.ctl_table.specs.Table as table
 use Rattle.ctl_table.specs.declared.follow.Made.{Made}
 use Rattle.ctl_table.specs.declared.follow.Made.TheVariants as made
-use Rattle.ctl_table.specs.Settings.{all_below, parts_at, made_below, all_made_below, follow_of, MakesAll}
+use Rattle.ctl_table.specs.Settings.{all_below, parts_at, made_below, all_made_below, next_of, MakesAll}
 use Rattle.ctl_table.specs.Columns.{EndsWithNothing, column, rows_within, first_of_column, MakesColumns}
 use Rattle.ctl_table.proofs.MakingLemmas.{stays, all-stand, all-stay, both-true, lt-test}
 use Rattle.ctl_table.proofs.FollowLemmas.{follow-stays, all-kept}
@@ -90,19 +90,19 @@ part-at c f (x ∷ xs) (i ∷ row) zero d l e = ap (λ (z : List Plain). get_or 
 part-at c f (x ∷ xs) (i ∷ row) (suc j) d l e = part-at c f xs row j d (omega (arith, l)) (ap (λ (z : List Plain). drop 1 z) e)
 
 -- one branch more
-pub columns-step : (m : table.Setting) (a b c : List Node) (before : Option Element) (nexts : List Made) (w s v : List Var) (bs : List (List Elem)) (x y : List Elem)
+pub columns-step : (m : table.Setting) (a b c : List Node) (nexts : List Made) (w s v : List Var) (bs : List (List Elem)) (x y : List Elem)
     (rows next : List (List ℕ)) (row : List ℕ) (i : ℕ)
     → i < length bs → x ≡ get_or bs i x → y ≡ x → v ≡ filter (occurs_body m.reading (body y)) w → next ≡ rows ++ row ∷ []
     → all_made_below (length a) nexts ≡ true
-    → MakesColumns a b nexts rows (λ n. table.each m (bodies (take i bs)) (follow_of (plains a) m before n) w s)
-    → MakesAll b c row (map (λ n. table.seq m None (body y) (follow_of (plains b) m before n) v s s) nexts)
-    → MakesColumns a c nexts next (λ n. table.each m (bodies (take (i + 1) bs)) (follow_of (plains a) m before n) w s)
-columns-step m a b c before nexts w s v bs x y rows next row i l q p u o below made one =
-    let k = λ (n : Made). follow_of (plains a) m before n in
-    let f = λ (n : Made). table.seq m None (body y) (follow_of (plains b) m before n) v s s in
+    → MakesColumns a b nexts rows (λ n. table.each m (bodies (take i bs)) (next_of (plains a) m n) w s)
+    → MakesAll b c row (map (λ n. table.seq m None (body y) (next_of (plains b) m n) v s s) nexts)
+    → MakesColumns a c nexts next (λ n. table.each m (bodies (take (i + 1) bs)) (next_of (plains a) m n) w s)
+columns-step m a b c nexts w s v bs x y rows next row i l q p u o below made one =
+    let k = λ (n : Made). next_of (plains a) m n in
+    let f = λ (n : Made). table.seq m None (body y) (next_of (plains b) m n) v s s in
     let g = λ (n : Made). table.seq m None (body x) (k n) (filter (occurs_body m.reading (body x)) w) s s in
     let same : (n : Made) → made_below (length a) n ≡ true → f n ≡ g n =
-    λ n h. ap (λ (z : table.Follow). table.seq m None (body y) z v s s) (follow-stays a b m before n made.grows h)
+    λ n h. ap (λ (z : table.Follow). table.seq m None (body y) z v s s) (follow-stays a b m n made.grows h)
     ∙ ap (λ (z : List Var). table.seq m None (body y) (k n) z s s) u
     ∙ ap (λ (z : List Elem). table.seq m None (body z) (k n) (filter (occurs_body m.reading (body z)) w) s s) p in
     let long : length row ≡ length nexts =
@@ -188,19 +188,19 @@ first-whole m k w s bs b =
     ∙ ap (table.choices [] (table.each m (bodies (bs ++ b ∷ [])) k w s)) (sym (each-more m table.nothing w s bs b))
 
 -- the first branch that holds, before each of the things that may follow
-pub choice-each : (m : table.Setting) (a b c d : List Node) (before : Option Element) (nexts all : List Made) (w s : List Var) (bs front : List (List Elem)) (x y : List Elem)
+pub choice-each : (m : table.Setting) (a b c d : List Node) (nexts all : List Made) (w s : List Var) (bs front : List (List Elem)) (x y : List Elem)
     (rows : List (List ℕ)) (ends es is : List ℕ) (last : ℕ)
     → EndsWithNothing nexts all → last ≡ length all - 1 → bs ≡ front ++ x ∷ [] → y ≡ x → es ≡ ends → all_made_below (length a) nexts ≡ true
-    → MakesColumns a b all rows (λ n. table.each m (bodies front) (follow_of (plains a) m before n) w s)
-    → MakesAll b c ends (map (λ n. table.seq m None (body y) (follow_of (plains b) m before n) (filter (occurs_body m.reading (body y)) w) s s) nexts)
+    → MakesColumns a b all rows (λ n. table.each m (bodies front) (next_of (plains a) m n) w s)
+    → MakesAll b c ends (map (λ n. table.seq m None (body y) (next_of (plains b) m n) (filter (occurs_body m.reading (body y)) w) s s) nexts)
     → MakesAll c d is (map (first_of_column (plains c) rows es last) (range_with_len 0 (length es)))
-    → MakesAll a d is (map (λ n. table.elem m None None (AnyOf (bodies bs)) (follow_of (plains a) m before n) w s s) nexts)
-choice-each m a b c d before nexts all w s bs front x y rows ends es is last ends_with q o p r below columns one firsts =
-    let k = λ (n : Made). follow_of (plains a) m before n in
-    let f = λ (n : Made). table.seq m None (body y) (follow_of (plains b) m before n) (filter (occurs_body m.reading (body y)) w) s s in
+    → MakesAll a d is (map (λ n. table.elem m None None (AnyOf (bodies bs)) (next_of (plains a) m n) w s s) nexts)
+choice-each m a b c d nexts all w s bs front x y rows ends es is last ends_with q o p r below columns one firsts =
+    let k = λ (n : Made). next_of (plains a) m n in
+    let f = λ (n : Made). table.seq m None (body y) (next_of (plains b) m n) (filter (occurs_body m.reading (body y)) w) s s in
     let g = λ (n : Made). table.seq m None (body x) (k n) (filter (occurs_body m.reading (body x)) w) s s in
     let same : (n : Made) → made_below (length a) n ≡ true → f n ≡ g n =
-    λ n h. ap (λ (z : table.Follow). table.seq m None (body y) z (filter (occurs_body m.reading (body y)) w) s s) (follow-stays a b m before n columns.grows h)
+    λ n h. ap (λ (z : table.Follow). table.seq m None (body y) z (filter (occurs_body m.reading (body y)) w) s s) (follow-stays a b m n columns.grows h)
     ∙ ap (λ (z : List Elem). table.seq m None (body z) (k n) (filter (occurs_body m.reading (body z)) w) s s) p in
     let row = λ (n : Made). table.elem m None None (AnyOf (bodies bs)) (k n) w s s in
     let first = first_of_column (plains c) rows es last in

@@ -1,9 +1,8 @@
 -- Dots as come to from a scope, their parts made one after another.
-use Rattle.std.proofs.Common.{◌≡◌, ℕ, Bool, true, false, if◌then◌else◌, refl, sym, ap, ◌∙◌, List, [], ◌∷◌, ◌++◌, length}
+use Rattle.std.proofs.Common.{◌≡◌, ℕ, ◌<◌, Bool, true, false, if◌then◌else◌, refl, sym, ap, ◌∙◌, List, [], ◌∷◌, ◌++◌, length}
 use Rattle.std.proofs.Common.{append_assoc, append-nil, Option, Some, Result}
 use Rattle.std.specs.Result.{IfOk}
 use Rattle.smpl_terms.specs.declared.var.Var.{Var}
-use Rattle.smpl_patch.specs.Bodies.{Element}
 use Rattle.ctl_formula.specs.Plain.{Plain, Not}
 use Rattle.ctl_formula.specs.declared.node.Node.{Node}
 use Rattle.ctl_formula.specs.Tables.{at, plains, Makes}
@@ -13,7 +12,7 @@ use Rattle.ctl_table.specs.declared.follow.MadeDots.{MadeDots}
 use Rattle.ctl_table.specs.Settings.{some_below}
 use Rattle.ctl_table.specs.Settings.{all_below, parts_at, some_at, dots_below, passed, dots_at, MakesAll, MakesSome}
 use Rattle.ctl_table.proofs.MakingLemmas.{made-up, stays, all-stay}
-use Rattle.ctl_table.proofs.FollowLemmas.{some-stays, passed-stays, dots-nest, dots-target}
+use Rattle.ctl_table.proofs.FollowLemmas.{some-stays, passed-stays, dots-nest}
 use Rattle.ctl_table.proofs.RowLemmas.{all-as, all-next, one-more}
 
 -- as they are
@@ -65,20 +64,20 @@ condition-made a b c is js ks vs any near after r v k x y =
     made-up a b c r (table.all_of (parts_at b ks)) (table.condition any (parts_at a is) near after) x.grows
     (ap table.all_of (ap (parts_at b) k ∙ x.are ∙ ap (λ (z : List ℕ). parts_at a z ++ (if any then [] else (table.nots near ++ table.nots after))) v)) y
 
-pub dots_at-made : {E : Type 0} (m : table.Setting) (a b c d : List Node) (before : Option Element) (e : MadeDots) (t here around : List Var) (through f : ℕ) (r : Result ℕ E)
-    → dots_below (length a) e ≡ true → here ≡ e.here → around ≡ t ++ here
-    → Makes a b through (table.condition e.any (parts_at a e.whens.items) (table.near_option m true before around) (some_at (plains a) e.after))
-    → Makes b c f (passed (plains b) m.forall_walks e.nest e.strict (at (plains b) through) (at (plains b) e.target))
+pub dots_at-made : {E : Type 0} (forall_walks : Bool) (a b c d : List Node) (before : List Var → Option Plain) (e : MadeDots) (target : ℕ) (t here around : List Var) (through f : ℕ) (r : Result ℕ E)
+    → dots_below (length a) e ≡ true → target < length a → here ≡ e.here → around ≡ t ++ here
+    → Makes a b through (table.condition e.any (parts_at a e.whens.items) (before around) (some_at (plains a) e.after))
+    → Makes b c f (passed (plains b) forall_walks e.nest e.strict (at (plains b) through) (at (plains b) target))
     → IfOk r (λ i. Makes c d i (table.exists_all here (at (plains c) f)))
-    → IfOk r (λ i. Makes a d i (dots_at (plains a) m before e t))
-dots_at-made m a b c d before e t here around through f r n h o x y z =
-    let pass = λ (u v : Plain). passed (plains a) m.forall_walks e.nest e.strict u v in
-    let test = λ (v : List Var). table.condition e.any (parts_at a e.whens.items) (table.near_option m true before v) (some_at (plains a) e.after) in
-    let f_is : at (plains c) f ≡ pass (test around) (at (plains a) e.target) =
+    → IfOk r (λ i. Makes a d i (dots_at (plains a) forall_walks before e target t))
+dots_at-made forall_walks a b c d before e target t here around through f r n l h o x y z =
+    let pass = λ (u v : Plain). passed (plains a) forall_walks e.nest e.strict u v in
+    let test = λ (v : List Var). table.condition e.any (parts_at a e.whens.items) (before v) (some_at (plains a) e.after) in
+    let f_is : at (plains c) f ≡ pass (test around) (at (plains a) target) =
     y.is
-    ∙ passed-stays a b m.forall_walks e.nest e.strict (at (plains b) through) (at (plains b) e.target) x.grows (dots-nest (length a) e n)
-    ∙ ap (λ (u : Plain). pass u (at (plains b) e.target)) x.is
-    ∙ ap (pass (test around)) (stays a b e.target x.grows (dots-target (length a) e n)) in
-    made-up a c d r (table.exists_all here (at (plains c) f)) (dots_at (plains a) m before e t) (grows-trans a b c x.grows y.grows)
-    (ap (table.exists_all here) (f_is ∙ ap (λ (v : List Var). pass (test v) (at (plains a) e.target)) o)
-    ∙ ap (λ (v : List Var). table.exists_all v (pass (test (t ++ v)) (at (plains a) e.target))) h) z
+    ∙ passed-stays a b forall_walks e.nest e.strict (at (plains b) through) (at (plains b) target) x.grows (dots-nest (length a) e n)
+    ∙ ap (λ (u : Plain). pass u (at (plains b) target)) x.is
+    ∙ ap (pass (test around)) (stays a b target x.grows l) in
+    made-up a c d r (table.exists_all here (at (plains c) f)) (dots_at (plains a) forall_walks before e target t) (grows-trans a b c x.grows y.grows)
+    (ap (table.exists_all here) (f_is ∙ ap (λ (v : List Var). pass (test v) (at (plains a) target)) o)
+    ∙ ap (λ (v : List Var). table.exists_all v (pass (test (t ++ v)) (at (plains a) target))) h) z

@@ -1,9 +1,12 @@
 -- What is made for each of some things, one after another.
-use Rattle.std.proofs.Common.{◌≡◌, ℕ, zero, suc, ◌+◌, ◌<◌, Bool, true, arith, refl, sym, ap, subst, ◌∙◌, List, [], ◌∷◌, ◌++◌}
-use Rattle.std.proofs.Common.{map, length, take, drop, get_or, nat_lt, Option}
-use Rattle.std.specs.List.{list_all}
+use Rattle.std.proofs.Common.{◌≡◌, ℕ, zero, suc, ◌+◌, ◌<◌, Bool, true, false, ◌||◌, arith, refl, sym, ap, subst, ◌∙◌, List, [], ◌∷◌, ◌++◌}
+use Rattle.std.proofs.Common.{map, length, take, drop, get_or, nat_lt, Option, None, Some, Result}
+use Rattle.std.specs.Result.{IfOk}
+use Rattle.std.specs.List.{filter, list_all, list_any}
+use Rattle.std.proofs.Math.Seq.{drop-append_seam}
 use Rattle.std.proofs.lemmas.List.{map-append, take_more}
 use Rattle.smpl_terms.specs.declared.var.Var.{Var}
+use Rattle.pattern_vars.specs.Reads.{has}
 use Rattle.smpl_patch.specs.Bodies.{Element}
 use Rattle.ctl_formula.specs.Plain.{Plain, True}
 use Rattle.ctl_formula.specs.declared.node.Node.{Node}
@@ -11,9 +14,13 @@ use Rattle.ctl_formula.specs.Tables.{at, plains, Grows, Makes}
 use Rattle.ctl_formula.proofs.TableLemmas.{grows-refl, grows-trans, and-left, and-right, lt-true}
 use Rattle.ctl_table.specs.Table as table
 use Rattle.ctl_table.specs.declared.follow.Made.{Made}
-use Rattle.ctl_table.specs.Settings.{all_below, parts_at, made_below, all_made_below, Pairwise, MakesAll, MakesFollow, MakesFollows}
+use Rattle.ctl_table.specs.declared.beside.Beside.{Beside}
+use Rattle.ctl_table.specs.declared.beside.Neighbours.{Neighbours}
+use Rattle.ctl_table.specs.Beside.{beside_at, beside_below, names_in, MakesBeside}
+use Rattle.ctl_table.specs.Settings.{all_below, parts_at, made_below, all_made_below, some_below, some_at, from_inner, neighbours_at, neighbours_below, before_at, before_below, follow_of, next_of, looks_back, behind, Agree, Pairwise, MakesAll, MakesFollow, MakesSome, MakesFollows, MakesLast, MakesBehind, MakesNeighbours}
 use Rattle.ctl_table.proofs.MakingLemmas.{both-true}
-use Rattle.ctl_table.proofs.FollowLemmas.{made-stands, made-stays}
+use Rattle.ctl_table.proofs.FollowLemmas.{made-stands, made-stays, behind-below, behind-agrees}
+use Rattle.ctl_table.proofs.BesideLemmas.{or-left, or-right, beside-stands, beside-stays, beside-cong, inner-same}
 use Rattle.ctl_table.proofs.RowLemmas.{all-next, all-as, one-more, taken}
 
 -- what all items of a list are, one of them is
@@ -63,6 +70,7 @@ pub follow-kept : (m : table.Setting) (a b c : List Node) (f : Made) (s : table.
 follow-kept m a b c f s e x g = record {
   within = made-stands b c f g x.within;
   starts = x.starts;
+  first = x.first;
   is = λ before t. made-stays b c m before f t g x.within ∙ x.is before t;
   grows = grows-trans a b c x.grows g;
 }
@@ -73,6 +81,7 @@ pub follow-as : (m : table.Setting) (a b c : List Node) (f : Made) (s : table.St
 follow-as m a b c f s e d g q x = record {
   within = x.within;
   starts = x.starts;
+  first = x.first;
   is = λ before t. x.is before t ∙ q before t;
   grows = grows-trans a b c g x.grows;
 }
@@ -181,3 +190,96 @@ only-made a b (j ∷ is) i f q x = record {
 pub only-one : (a b : List Node) (is : List ℕ) (f : Plain) → MakesAll a b is (f ∷ []) → 0 < length is
 only-one a b [] f x = absurd (let e = x.are in cc)
 only-one a b (j ∷ is) f x = omega arith
+
+-- what may follow, behind an element whose last atoms are made
+
+behind-below-all : (a b : List Node) (o : Option Neighbours) (fs : List Made) → Grows a b → all_made_below (length a) fs ≡ true → before_below (length b) o ≡ true
+    → all_made_below (length b) (map (behind o) fs) ≡ true
+behind-below-all a b o [] g h w = refl
+behind-below-all a b o (f ∷ fs) g h w =
+    both-true (made_below (length b) (behind o f)) (all_made_below (length b) (map (behind o) fs))
+    (behind-below a b o f g (and-left (made_below (length a) f) (all_made_below (length a) fs) h) w)
+    (behind-below-all a b o fs g (and-right (made_below (length a) f) (all_made_below (length a) fs) h) w)
+
+behind-agrees-all : (a b : List Node) (m : table.Setting) (e : Element) (s : List Var) (o : Option Neighbours) (fs : List Made) → Grows a b → all_made_below (length a) fs ≡ true
+    → (list_any looks_back fs ≡ true → (vars : List Var) → before_at (plains b) o (s ++ vars) ≡ table.near_option m true (Some e) (s ++ vars))
+    → Pairwise (λ f g. Agree s (next_of (plains b) m g) (follow_of (plains a) m (Some e) f)) fs (map (behind o) fs)
+behind-agrees-all a b m e s o [] g h q = tt
+behind-agrees-all a b m e s o (f ∷ fs) g h q = (
+  behind-agrees a b m e s o f g (and-left (made_below (length a) f) (all_made_below (length a) fs) h) (λ d. q (or-left (looks_back f) (list_any looks_back fs) d)),
+  behind-agrees-all a b m e s o fs g (and-right (made_below (length a) f) (all_made_below (length a) fs) h) (λ d. q (or-right (looks_back f) (list_any looks_back fs) d)),
+)
+
+pub all-behind : (a b : List Node) (m : table.Setting) (e : Element) (s : List Var) (o : Option Neighbours) (fs gs : List Made) → all_made_below (length a) fs ≡ true
+    → MakesLast m e s a b fs o → gs ≡ map (behind o) fs → MakesBehind m e s a b fs gs
+all-behind a b m e s o fs gs h x q = record {
+  within = ap (all_made_below (length b)) q ∙ behind-below-all a b o fs x.grows h x.within;
+  each = subst (λ (z : List Made). Pairwise (λ f g. Agree s (next_of (plains b) m g) (follow_of (plains a) m (Some e) f)) fs z) (sym q) (behind-agrees-all a b m e s o fs x.grows h x.is);
+  grows = x.grows;
+}
+
+-- no dots may follow the element
+pub last-none : (a : List Node) (m : table.Setting) (e : Element) (s : List Var) (fs : List Made) → list_any looks_back fs ≡ false → MakesLast m e s a a fs None
+last-none a m e s fs h = record { within = refl; is = λ d more. absurd cc; grows = grows-refl a }
+
+-- the element has no such atoms
+pub last-empty : (a b : List Node) (m : table.Setting) (e : Element) (s : List Var) (fs : List Made)
+    → MakesBeside a b None (λ more. table.near_option m true (Some e) (s ++ more)) → MakesLast m e s a b fs None
+last-empty a b m e s fs x = record { within = refl; is = λ d more. x.is more; grows = x.grows }
+
+from-same : (fs : List Plain) (n : Neighbours) (atoms : Beside) (inner : List Var) → n.atoms ≡ atoms → some_at fs n.alone ≡ beside_at fs atoms [] → from_inner fs n inner ≡ beside_at fs atoms inner
+from-same fs n atoms [] e h = h
+from-same fs n atoms (x ∷ xs) e h = ap (λ z. beside_at fs z (x ∷ xs)) e
+
+-- they are made
+pub last-some : (a b c : List Node) (m : table.Setting) (e : Element) (s : List Var) (fs : List Made) (atoms : Beside) (n : Neighbours)
+    → MakesBeside a b (Some atoms) (λ more. table.near_option m true (Some e) (s ++ more)) → MakesNeighbours b c s atoms n → MakesLast m e s a c fs (Some n)
+last-some a b c m e s fs atoms n x y = record {
+  within = y.within;
+  is = λ d more.
+      let inner = filter (has n.names) more in
+      let rest : drop n.around (s ++ more) ≡ more = ap (λ k. drop k (s ++ more)) y.around_is ∙ drop-append_seam s more in
+      ap (λ (z : List Var). from_inner (plains c) n (filter (has n.names) z)) rest
+      ∙ from-same (plains c) n atoms inner y.atoms_are y.alone_is
+      ∙ beside-cong (plains c) inner more atoms (λ v h. inner-same n.names more v (y.names_are v ∙ h))
+      ∙ beside-stays b c more y.grows atoms x.within
+      ∙ x.is more;
+  grows = grows-trans a b c x.grows y.grows;
+}
+
+from-some : (fs : List Plain) (n : Neighbours) (inner : List Var) → (length inner ≡ 0 → ⊥) → from_inner fs n inner ≡ beside_at fs n.atoms inner
+from-some fs n [] h = absurd (h refl)
+from-some fs n (x ∷ xs) h = refl
+
+-- the atoms, where these of their variables are quantified inside the element, known as a set
+pub where-made : {E : Type 0} (a b : List Node) (n : Neighbours) (inner set : List Var) (r : Result (Option ℕ) E) → (length inner ≡ 0 → ⊥)
+    → ((y : Var) → has set y ≡ has inner y) → IfOk r (λ o. MakesSome a b o (beside_at (plains a) n.atoms set)) → IfOk r (λ o. MakesSome a b o (from_inner (plains a) n inner))
+where-made a b n inner set r l e x =
+    subst (λ z. IfOk r (λ o. MakesSome a b o z))
+    (beside-cong (plains a) set inner n.atoms (λ y h. e y) ∙ sym (from-some (plains a) n inner l)) x
+
+-- what is kept of an element's atoms
+pub neighbours-made : (a b : List Node) (s empty first : List Var) (n : Neighbours) → beside_below (length a) n.atoms ≡ true → empty ≡ [] → first ≡ []
+    → ((y : Var) → has n.names y ≡ (has first y || names_in n.atoms y)) → MakesSome a b n.alone (beside_at (plains a) n.atoms empty) → n.around ≡ length s
+    → MakesNeighbours a b s n.atoms n
+neighbours-made a b s empty first n w e f h x l = record {
+  within = both-true (some_below (length b) n.alone) (beside_below (length b) n.atoms) x.within (beside-stands a b x.grows n.atoms w);
+  atoms_are = refl;
+  names_are = λ y. h y ∙ ap (λ (z : List Var). has z y || names_in n.atoms y) f;
+  alone_is = x.is ∙ ap (beside_at (plains a) n.atoms) e ∙ sym (beside-stays a b [] x.grows n.atoms w);
+  around_is = l;
+  grows = x.grows;
+}
+
+no-names : (names more : List Var) → length names ≡ 0 → filter (has names) more ≡ []
+no-names [] [] l = refl
+no-names [] (x ∷ xs) l = no-names [] xs l
+no-names (n ∷ ns) more l = absurd (omega (arith, l))
+
+-- atoms without such variables
+pub from-nothing : (a : List Node) (n : Neighbours) (t : List Var) → neighbours_below (length a) n ≡ true → length n.names ≡ 0 → MakesSome a a n.alone (neighbours_at (plains a) n t)
+from-nothing a n t h l = record {
+  within = and-left (some_below (length a) n.alone) (beside_below (length a) n.atoms) h;
+  is = sym (ap (from_inner (plains a) n) (no-names n.names (drop n.around t) l));
+  grows = grows-refl a;
+}

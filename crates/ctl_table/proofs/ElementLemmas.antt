@@ -1,5 +1,5 @@
 -- Elements as what follows, and dots whose parts are made.
-use Rattle.std.proofs.Common.{◌≡◌, ℕ, Bool, true, false, cond, if◌then◌else◌, refl, sym, ap, ◌∙◌, List, ◌++◌}
+use Rattle.std.proofs.Common.{◌≡◌, ℕ, Bool, true, false, ◌&&◌, nat_lt, cond, if◌then◌else◌, refl, sym, ap, ◌∙◌, List, ◌++◌}
 use Rattle.std.proofs.Common.{length, Option, None}
 use Rattle.smpl_terms.specs.declared.var.Var.{Var}
 use Rattle.smpl_patch.specs.Bodies.{Element}
@@ -15,45 +15,38 @@ use Rattle.ctl_table.specs.declared.follow.MadeDots.{MadeDots}
 use Rattle.ctl_table.specs.declared.follow.Made.{Made}
 use Rattle.ctl_table.specs.declared.follow.Made.TheVariants as made
 use Rattle.ctl_table.specs.declared.follow.Start.TheVariants as start
-use Rattle.ctl_table.specs.Settings.{all_below, parts_at, some_at, nest_below, passed, suffix_at, start_with, dots_row, MakesSome, MakesFollow}
-use Rattle.ctl_table.proofs.MakingLemmas.{all-stay, all-stand, lt-test, both-true}
-use Rattle.ctl_table.proofs.FollowLemmas.{some-stands, some-stays, nest-stands, passed-stays}
+use Rattle.ctl_table.specs.Settings.{parts_at, some_at, dots_below, passed, suffix_at, start_with, dots_row, dots_before, MakesFollow}
+use Rattle.ctl_table.proofs.MakingLemmas.{all-stay, lt-test, both-true}
+use Rattle.ctl_table.proofs.FollowLemmas.{some-stays, passed-stays, dots-whens, dots-after, dots-nest, dots-stand}
 
 pub part-made : (m : table.Setting) (a b : List Node) (f i : ℕ) (here : List Var) → Makes a b i (table.exists_all here (at (plains a) f))
     → MakesFollow m a b (made.Part start.Other i) table.Other (λ before t. table.exists_all here (at (plains a) f))
-part-made m a b f i here x = record { within = lt-test i (length b) x.within; starts = refl; is = λ before t. x.is; grows = x.grows }
+part-made m a b f i here x = record { within = lt-test i (length b) x.within; starts = refl; first = refl; is = λ before t. x.is; grows = x.grows }
 
-condition-skip : (any : Bool) (ws : List Plain) (b n : Option Plain) → table.condition any ws b (if any then None else n) ≡ table.condition any ws b n
+pub condition-skip : (any : Bool) (ws : List Plain) (b n : Option Plain) → table.condition any ws b (if any then None else n) ≡ table.condition any ws b n
 condition-skip true ws b n = refl
 condition-skip false ws b n = refl
 
--- dots whose parts are made one after another
-pub dots-made : (m : table.Setting) (a b c e : List Node) (after : Option Element) (k : table.Follow) (p : Place) (d : MadeDots) (g : ℕ)
-    → all_below (length a) d.whens.items ≡ true → nest_below (length a) d.nest ≡ true
-    → MakesSome a b d.after (if d.any then None else table.near_option m false after p.scope)
-    → Makes b c g (k.at p.scope)
-    → Makes c e d.target (table.target k.start (at (plains c) g))
-    → d.here ≡ p.here
-    → MakesFollow m a e (made.Dots d) table.Dots (λ before t. dots_row m a before after (parts_at a d.whens.items) d.any d.strict d.nest k p t)
-dots-made m a b c e after k p d g w n x y z h =
-    let be = grows-trans b c e y.grows z.grows in
-    let ae = grows-trans a b e x.grows be in
-    let beside = table.near_option m false after p.scope in
-    let whens_is : parts_at e d.whens.items ≡ parts_at a d.whens.items = all-stay a e d.whens.items ae w in
-    let after_is : some_at (plains e) d.after ≡ (if d.any then None else beside) = some-stays b e d.after be x.within ∙ x.is in
-    let target_is : at (plains e) d.target ≡ table.target k.start (k.at p.scope) = z.is ∙ ap (table.target k.start) y.is in
+-- dots whose parts are made, before what follows them
+pub dots-made : (m : table.Setting) (a b e : List Node) (d : MadeDots) (k : table.Follow) (s : List Var) (g i : ℕ)
+    → dots_below (length a) d ≡ true → Makes a b g (k.at s) → Makes b e i (table.target k.start (at (plains b) g))
+    → MakesFollow m a e (made.Dots d i None) table.Dots (dots_before (plains a) m d k s)
+dots-made m a b e d k s g i w y z =
+    let ae = grows-trans a b e y.grows z.grows in
+    let stand = dots-stand a e d ae w in
+    let whens_are : parts_at e d.whens.items ≡ parts_at a d.whens.items = all-stay a e d.whens.items ae (dots-whens (length a) d w) in
+    let after_is : some_at (plains e) d.after ≡ some_at (plains a) d.after = some-stays a e d.after ae (dots-after (length a) d w) in
+    let target_is : at (plains e) i ≡ table.target k.start (k.at s) = z.is ∙ ap (table.target k.start) y.is in
     record {
-      within = both-true _ _ (both-true _ _ (both-true _ _ (all-stand a e d.whens.items ae w) (some-stands b e d.after be x.within)) (nest-stands a e d.nest ae n))
-          (lt-test d.target (length e) z.within);
+      within = both-true (dots_below (length e) d && nat_lt i (length e)) true (both-true (dots_below (length e) d) (nat_lt i (length e)) stand (lt-test i (length e) z.within)) refl;
       starts = refl;
+      first = refl;
       is = λ before t.
-          let near = table.near_option m true before (t ++ p.here) in
-          ap (λ (v : List Var). table.exists_all v (passed (plains e) m.forall_walks d.nest d.strict (table.condition d.any (parts_at e d.whens.items) (table.near_option m true before (t ++ v)) (some_at (plains e) d.after)) (at (plains e) d.target))) h
-          ∙ ap (λ (v : List Plain). table.exists_all p.here (passed (plains e) m.forall_walks d.nest d.strict (table.condition d.any v near (some_at (plains e) d.after)) (at (plains e) d.target))) whens_is
-          ∙ ap (λ (v : Option Plain). table.exists_all p.here (passed (plains e) m.forall_walks d.nest d.strict (table.condition d.any (parts_at a d.whens.items) near v) (at (plains e) d.target))) after_is
-          ∙ ap (λ (v : Plain). table.exists_all p.here (passed (plains e) m.forall_walks d.nest d.strict v (at (plains e) d.target))) (condition-skip d.any (parts_at a d.whens.items) near beside)
-          ∙ ap (λ (v : Plain). table.exists_all p.here (passed (plains e) m.forall_walks d.nest d.strict (table.condition d.any (parts_at a d.whens.items) near beside) v)) target_is
-          ∙ ap (table.exists_all p.here) (passed-stays a e m.forall_walks d.nest d.strict (table.condition d.any (parts_at a d.whens.items) near beside) (table.target k.start (k.at p.scope)) ae n);
+          let near = table.near_option m true before (t ++ d.here) in
+          ap (λ (v : List Plain). table.exists_all d.here (passed (plains e) m.forall_walks d.nest d.strict (table.condition d.any v near (some_at (plains e) d.after)) (at (plains e) i))) whens_are
+          ∙ ap (λ (v : Option Plain). table.exists_all d.here (passed (plains e) m.forall_walks d.nest d.strict (table.condition d.any (parts_at a d.whens.items) near v) (at (plains e) i))) after_is
+          ∙ ap (λ (v : Plain). table.exists_all d.here (passed (plains e) m.forall_walks d.nest d.strict (table.condition d.any (parts_at a d.whens.items) near (some_at (plains a) d.after)) v)) target_is
+          ∙ ap (table.exists_all d.here) (passed-stays a e m.forall_walks d.nest d.strict (table.condition d.any (parts_at a d.whens.items) near (some_at (plains a) d.after)) (table.target k.start (k.at s)) ae (dots-nest (length a) d w));
       grows = ae;
     }
 
@@ -64,6 +57,7 @@ pub part-row : (m : table.Setting) (a b c : List Node) (after : Option Element) 
     → MakesFollow m a c g (start_with x) (suffix_at m after x k p)
 part-row m a b c after x y k p f g h q n u e z = record {
   within = z.within;
+  first = z.first;
   starts = z.starts ∙ sym (ap start_with q ∙ ap (λ (v : Bool). cond v table.Dots table.Other) n);
   is = λ before t. z.is before t ∙ ap (table.exists_all p.here) (u.is ∙ e before (t ++ p.here)) ∙ sym (ap (λ (v : Element). suffix_at m after v k p before t) q);
   grows = grows-trans a b c u.grows z.grows;
@@ -77,6 +71,7 @@ pub dots-row : (m : table.Setting) (a b c : List Node) (after : Option Element) 
     → MakesFollow m a c g (start_with x) (suffix_at m after x k p)
 dots-row m a b c after x y k l p g vs ws any strict nest q n s v f e z = record {
   within = z.within;
+  first = z.first;
   starts = z.starts ∙ sym (ap start_with q ∙ ap (λ (w : Bool). cond w table.Dots table.Other) n);
   is = λ before t. z.is before t ∙ ap (λ (w : List Plain). dots_row m b before after w any strict nest l p t) v
       ∙ ap (λ (w : table.Follow). dots_row m b before after ws any strict nest w p t) f

@@ -1,5 +1,6 @@
 pub mod MakingLemmas
 pub mod WrapLemmas
+pub mod BesideLemmas
 pub mod FollowLemmas
 pub mod AlongLemmas
 mod Examples
@@ -13,5 +14,6 @@ pub mod MadeLemmas
 pub mod PutLemmas
 pub mod LoopLemmas
 pub mod EachLemmas
+pub mod AgreeLemmas
 pub mod SuffixLemmas
 pub mod ColumnLemmas

@@ -13,7 +13,7 @@ use Rattle.ctl_formula.specs.Tables.{at, plains, Makes}
 use Rattle.ctl_formula.proofs.TableLemmas.{grows-trans}
 use Rattle.ctl_table.specs.Table as table
 use Rattle.ctl_table.specs.declared.follow.Made.{Made}
-use Rattle.ctl_table.specs.Settings.{parts_at, made_start, made_at, follow_of, MakesAll}
+use Rattle.ctl_table.specs.Settings.{parts_at, made_start, next_at, next_of, MakesAll}
 use Rattle.ctl_table.proofs.MakingLemmas.{made-up, stays, and-of}
 use Rattle.ctl_table.proofs.FollowLemmas.{all-kept}
 
@@ -54,14 +54,14 @@ headed-made m a b c d e w tail h is js fs head f r j x y z o =
     (z.is ∙ ap (λ (v : Plain). table.and_all v (parts_at c js)) y.is ∙ ap (table.and_all h) (ap (parts_at c) j ∙ all-kept a b c is fs x y.grows))) o
 
 -- an atom or a statement variable, and what follows it
-pub joined-made : {E : Type 0} (m : table.Setting) (a b c : List Node) (before : Option Element) (next : Made) (s : List Var) (statement : Bool) (start : table.Start) (f g : ℕ) (r : Result ℕ E)
+pub joined-made : {E : Type 0} (m : table.Setting) (a b c : List Node) (next : Made) (s : List Var) (statement : Bool) (start : table.Start) (f g : ℕ) (r : Result ℕ E)
     → f < length a → start ≡ made_start next
-    → Makes a b g (made_at (plains a) m before next s)
+    → Makes a b g (next_at (plains a) m next s)
     → IfOk r (λ i. Makes b c i (table.joined m.forall_walks statement (at (plains b) f) start (at (plains b) g)))
-    → IfOk r (λ i. Makes a c i (table.joined m.forall_walks statement (at (plains a) f) (follow_of (plains a) m before next).start ((follow_of (plains a) m before next).at s)))
-joined-made m a b c before next s statement start f g r l q y z =
+    → IfOk r (λ i. Makes a c i (table.joined m.forall_walks statement (at (plains a) f) (next_of (plains a) m next).start ((next_of (plains a) m next).at s)))
+joined-made m a b c next s statement start f g r l q y z =
     made-up a b c r (table.joined m.forall_walks statement (at (plains b) f) start (at (plains b) g))
-    (table.joined m.forall_walks statement (at (plains a) f) (made_start next) (made_at (plains a) m before next s)) y.grows
+    (table.joined m.forall_walks statement (at (plains a) f) (made_start next) (next_at (plains a) m next s)) y.grows
     (ap (λ (v : Plain). table.joined m.forall_walks statement v start (at (plains b) g)) (stays a b f y.grows l)
     ∙ ap (λ (v : table.Start). table.joined m.forall_walks statement (at (plains a) f) v (at (plains b) g)) q
     ∙ ap (table.joined m.forall_walks statement (at (plains a) f) (made_start next)) y.is) z

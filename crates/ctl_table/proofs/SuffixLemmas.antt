@@ -1,5 +1,5 @@
 -- Sequences and their elements, before each of the things that may follow.
-use Rattle.std.proofs.Common.{◌≡◌, ℕ, ◌+◌, ◌<◌, Bool, true, false, arith, sym, ap, subst, ◌∙◌, List, [], ◌∷◌, ◌++◌}
+use Rattle.std.proofs.Common.{◌≡◌, ℕ, ◌+◌, ◌<◌, Bool, true, false, if◌then◌else◌, arith, refl, sym, ap, subst, ◌∙◌, List, [], ◌∷◌, ◌++◌}
 use Rattle.std.proofs.Common.{map, length, get_or, drop, Option, None, Some}
 use Rattle.smpl_terms.specs.declared.var.Var.{Var}
 use Rattle.smpl_patch.specs.declared.elem.Elem.{Elem}
@@ -7,7 +7,7 @@ use Rattle.smpl_patch.specs.Bodies.{Element, element, body}
 use Rattle.ctl_formula.specs.Plain.{Plain, And, Past}
 use Rattle.ctl_formula.specs.declared.node.Node.{Node}
 use Rattle.ctl_formula.specs.Tables.{at, plains, Grows, Makes}
-use Rattle.ctl_formula.proofs.TableLemmas.{grows-trans}
+use Rattle.ctl_formula.proofs.TableLemmas.{grows-refl, grows-trans}
 use Rattle.var_places.specs.Placing.{is_dots}
 use Rattle.var_places.specs.Places.{places}
 use Rattle.var_places.specs.declared.place.Place.{Place}
@@ -15,12 +15,14 @@ use Rattle.ctl_table.specs.Table as table
 use Rattle.ctl_table.specs.declared.follow.NestPart.{NestPart}
 use Rattle.ctl_table.specs.declared.follow.Made.{Made}
 use Rattle.ctl_table.specs.Suffixes.{begins, along}
-use Rattle.ctl_table.specs.Settings.{all_below, parts_at, nest_below, made_below, all_made_below, made_start, made_at, follow_of, suffix_at, start_with, dots_row, Pairwise, MakesAll, MakesFollow, MakesFollows}
+use Rattle.ctl_table.specs.declared.follow.MadeDots.{MadeDots}
+use Rattle.ctl_table.specs.Settings.{all_below, parts_at, some_at, passed, nest_below, dots_below, made_below, all_made_below, made_start, next_at, follow_of, next_of, suffix_at, start_with, dots_row, dots_before, Agree, Pairwise, MakesAll, MakesSome, MakesBehind, MakesFollow, MakesFollows}
 use Rattle.ctl_table.proofs.MakingLemmas.{all-stay, and-of}
-use Rattle.ctl_table.proofs.FollowLemmas.{made-stays, follow-stays, passed-stays}
+use Rattle.ctl_table.proofs.FollowLemmas.{next-stays, follow-stays, first-next, some-stays, passed-stays, dots-whens, dots-after, dots-nest}
+use Rattle.ctl_table.proofs.AgreeLemmas.{elem-agrees}
 use Rattle.ctl_table.proofs.AlongLemmas.{along-is, suffixes-last, suffixes-step}
-use Rattle.ctl_table.proofs.ElementLemmas.{part-row, dots-row}
-use Rattle.ctl_table.proofs.EachLemmas.{map-same, pair-as, pair-weaker, pair-trans, pair-map, pair-parts}
+use Rattle.ctl_table.proofs.ElementLemmas.{part-row, dots-row, condition-skip}
+use Rattle.ctl_table.proofs.EachLemmas.{map-same, follow-as, pair-as, pair-weaker, pair-trans, pair-map, pair-parts}
 
 -- all parts, made in a grown table and their formulas written in another way
 pub all-up : (a b c : List Node) (is : List ℕ) (fs gs : List Plain) → Grows a b → fs ≡ gs → MakesAll b c is fs → MakesAll a c is gs
@@ -38,19 +40,34 @@ last-each m k a b nexts fs es ps i e p l o q r y = record {
   grows = y.grows;
 }
 
+-- a suffix before what agrees with what follows it
+pub agreed-row : (m : table.Setting) (b c : List Node) (after : Option Element) (e : Element) (k h : table.Follow) (p : Place) (g : Made) → Agree p.scope k h
+    → MakesFollow m b c g (start_with e) (suffix_at m after e k p) → MakesFollow m b c g (start_with e) (suffix_at m after e h p)
+agreed-row m b c after e k h p g q x =
+    follow-as m b b c g (start_with e) (suffix_at m after e k p) (suffix_at m after e h p) (grows-refl b)
+    (λ before t. ap (table.exists_all p.here) (elem-agrees m before after e k h p.inside p.scope (t ++ p.here) q)) x
+
 -- the suffix before
-pub step-each : (m : table.Setting) (k : Made → table.Follow) (a b c : List Node) (nexts fs gs : List Made) (es : List Elem) (ps : List Place) (i : ℕ) (d e : Elem) (p : Place)
+pub step-each : (m : table.Setting) (k : Made → table.Follow) (a b b2 c : List Node) (nexts fs hs gs : List Made) (es : List Elem) (ps : List Place) (i : ℕ) (d e : Elem) (p : Place)
     → i + 1 < length es → length ps ≡ length es → d ≡ get_or es (i + 1) d → e ≡ get_or es i e → p ≡ get_or ps i p
     → MakesFollows m a b nexts fs (λ n. begins (drop (i + 1) es) (k n).start) (λ n. along m (k n) (drop (i + 1) es) (drop (i + 1) ps))
-    → MakesFollows m b c fs gs (λ f. start_with (element e)) (λ f. suffix_at m (Some (element d)) (element e) (follow_of (plains b) m (Some (element e)) f) p)
+    → MakesBehind m (element e) p.scope b b2 fs hs
+    → MakesFollows m b2 c hs gs (λ f. start_with (element e)) (λ f. suffix_at m (Some (element d)) (element e) (next_of (plains b2) m f) p)
     → MakesFollows m a c nexts gs (λ n. begins (drop i es) (k n).start) (λ n. along m (k n) (drop i es) (drop i ps))
-step-each m k a b c nexts fs gs es ps i d e p l o t q r y z = record {
-  each = pair-trans (λ n f. MakesFollow m a b f (begins (drop (i + 1) es) (k n).start) (along m (k n) (drop (i + 1) es) (drop (i + 1) ps)))
-      (λ f g. MakesFollow m b c g (start_with (element e)) (suffix_at m (Some (element d)) (element e) (follow_of (plains b) m (Some (element e)) f) p))
-      (λ n g. MakesFollow m a c g (begins (drop i es) (k n).start) (along m (k n) (drop i es) (drop i ps)))
-      (λ n f g u v. suffixes-step m (k n) a b c f g es ps i d e p l o t q r u v) nexts fs gs y.each z.each;
-  grows = grows-trans a b c y.grows z.grows;
-}
+step-each m k a b b2 c nexts fs hs gs es ps i d e p l o t q r y w z =
+    let row = λ (n : table.Follow) (g : Made). MakesFollow m b2 c g (start_with (element e)) (suffix_at m (Some (element d)) (element e) n p) in
+    let old = λ (f : Made). follow_of (plains b) m (Some (element e)) f in
+    let rows = pair-trans (λ f h. Agree p.scope (next_of (plains b2) m h) (old f)) (λ h g. row (next_of (plains b2) m h) g) (λ f g. row (old f) g)
+    (λ f h g u v. agreed-row m b2 c (Some (element d)) (element e) (next_of (plains b2) m h) (old f) p g u v) fs hs gs w.each z.each in
+    record {
+      each = pair-trans (λ n f. MakesFollow m a b f (begins (drop (i + 1) es) (k n).start) (along m (k n) (drop (i + 1) es) (drop (i + 1) ps)))
+          (λ f g. row (old f) g)
+          (λ n g. MakesFollow m a c g (begins (drop i es) (k n).start) (along m (k n) (drop i es) (drop i ps)))
+          (λ n f g u v. suffixes-step m (k n) a b c f g es ps i d e p l o t q r u
+          (follow-as m b b2 c g (start_with (element e)) (suffix_at m (Some (element d)) (element e) (old f) p)
+          (suffix_at m (Some (element d)) (element e) (old f) p) w.grows (λ s x. refl) v)) nexts fs gs y.each rows;
+      grows = grows-trans a b c y.grows (grows-trans b b2 c w.grows z.grows);
+    }
 
 -- all suffixes
 pub whole-each : (m : table.Setting) (k : Made → table.Follow) (a b : List Node) (nexts fs : List Made) (es : List Elem) (ps : List Place) (i : ℕ) → i ≡ 0
@@ -63,13 +80,13 @@ whole-each m k a b nexts fs es ps i q y =
 pub sequences-made : (m : table.Setting) (k : Made → table.Follow) (a b c : List Node) (nexts fs : List Made) (is : List ℕ) (es : List Elem) (w s : List Var) (ps : List Place)
     → ps ≡ places m.reading (body es) w s
     → MakesFollows m a b nexts fs (λ n. begins es (k n).start) (λ n. along m (k n) es ps)
-    → MakesAll b c is (map (λ f. made_at (plains b) m None f s) fs)
+    → MakesAll b c is (map (λ f. next_at (plains b) m f s) fs)
     → MakesAll a c is (map (λ n. table.seq m None (body es) (k n) w s s) nexts)
 sequences-made m k a b c nexts fs is es w s ps q y z =
-    all-up a b c is (map (λ f. made_at (plains b) m None f s) fs) (map (λ n. table.seq m None (body es) (k n) w s s) nexts) y.grows
+    all-up a b c is (map (λ f. next_at (plains b) m f s) fs) (map (λ n. table.seq m None (body es) (k n) w s s) nexts) y.grows
     (pair-map (λ n f. MakesFollow m a b f (begins es (k n).start) (along m (k n) es ps)) (λ n. table.seq m None (body es) (k n) w s s)
-    (λ f. made_at (plains b) m None f s)
-    (λ n f u. u.is None s ∙ ap (λ (v : List Place). along m (k n) es v None s) q ∙ sym (along-is m (k n) es w s None s)) nexts fs y.each) z
+    (λ f. next_at (plains b) m f s)
+    (λ n f u. first-next (plains b) m f s u.first ∙ u.is None s ∙ ap (λ (v : List Place). along m (k n) es v None s) q ∙ sym (along-is m (k n) es w s None s)) nexts fs y.each) z
 
 -- nothing but what follows
 pub sequences-none : (m : table.Setting) (k : Made → table.Follow) (a b : List Node) (nexts : List Made) (is : List ℕ) (es : List Elem) (w s : List Var) → length es ≡ 0
@@ -106,38 +123,75 @@ dots-each m a b c after x y k l p nexts fs vs ws any strict nest q o s v h f e z
 }
 
 -- a statement's part, and what follows past the statement
-pub past-each : (m : table.Setting) (a b c : List Node) (before : Option Element) (f : ℕ) (h : Plain) (nexts : List Made) (is : List ℕ) (s : List Var)
+pub past-each : (m : table.Setting) (a b c : List Node) (f : ℕ) (h : Plain) (nexts : List Made) (is : List ℕ) (s : List Var)
     → all_made_below (length a) nexts ≡ true → Makes a b f h
-    → MakesAll b c is (map (λ n. And (at (plains b) f) (Past ((follow_of (plains b) m before n).at s))) nexts)
-    → MakesAll a c is (map (λ n. And h (Past ((follow_of (plains a) m before n).at s))) nexts)
-past-each m a b c before f h nexts is s w x y =
-    all-up a b c is (map (λ n. And (at (plains b) f) (Past ((follow_of (plains b) m before n).at s))) nexts) (map (λ n. And h (Past ((follow_of (plains a) m before n).at s))) nexts) x.grows
-    (map-same (made_below (length a)) (λ n. And (at (plains b) f) (Past (made_at (plains b) m before n s))) (λ n. And h (Past (made_at (plains a) m before n s)))
-    (λ n v. and-of (at (plains b) f) (Past (made_at (plains b) m before n s)) h (Past (made_at (plains a) m before n s)) x.is (ap Past (made-stays a b m before n s x.grows v))) nexts w) y
+    → MakesAll b c is (map (λ n. And (at (plains b) f) (Past ((next_of (plains b) m n).at s))) nexts)
+    → MakesAll a c is (map (λ n. And h (Past ((next_of (plains a) m n).at s))) nexts)
+past-each m a b c f h nexts is s w x y =
+    all-up a b c is (map (λ n. And (at (plains b) f) (Past ((next_of (plains b) m n).at s))) nexts) (map (λ n. And h (Past ((next_of (plains a) m n).at s))) nexts) x.grows
+    (map-same (made_below (length a)) (λ n. And (at (plains b) f) (Past (next_at (plains b) m n s))) (λ n. And h (Past (next_at (plains a) m n s)))
+    (λ n v. and-of (at (plains b) f) (Past (next_at (plains b) m n s)) h (Past (next_at (plains a) m n s)) x.is (ap Past (next-stays a b m n s x.grows v))) nexts w) y
 
 -- an atom's part, and what follows
-pub joined-each : (m : table.Setting) (a b c : List Node) (before : Option Element) (statement is_statement : Bool) (f : ℕ) (h : Plain) (nexts : List Made) (is : List ℕ) (s : List Var)
+pub joined-each : (m : table.Setting) (a b c : List Node) (statement is_statement : Bool) (f : ℕ) (h : Plain) (nexts : List Made) (is : List ℕ) (s : List Var)
     → all_made_below (length a) nexts ≡ true → statement ≡ is_statement → Makes a b f h
-    → MakesAll b c is (map (λ n. table.joined m.forall_walks statement (at (plains b) f) (follow_of (plains b) m before n).start ((follow_of (plains b) m before n).at s)) nexts)
-    → MakesAll a c is (map (λ n. table.joined m.forall_walks is_statement h (follow_of (plains a) m before n).start ((follow_of (plains a) m before n).at s)) nexts)
-joined-each m a b c before statement is_statement f h nexts is s w q x y =
-    let old = λ (n : Made). table.joined m.forall_walks statement (at (plains b) f) (made_start n) (made_at (plains b) m before n s) in
-    let new = λ (n : Made). table.joined m.forall_walks is_statement h (made_start n) (made_at (plains a) m before n s) in
+    → MakesAll b c is (map (λ n. table.joined m.forall_walks statement (at (plains b) f) (next_of (plains b) m n).start ((next_of (plains b) m n).at s)) nexts)
+    → MakesAll a c is (map (λ n. table.joined m.forall_walks is_statement h (next_of (plains a) m n).start ((next_of (plains a) m n).at s)) nexts)
+joined-each m a b c statement is_statement f h nexts is s w q x y =
+    let old = λ (n : Made). table.joined m.forall_walks statement (at (plains b) f) (made_start n) (next_at (plains b) m n s) in
+    let new = λ (n : Made). table.joined m.forall_walks is_statement h (made_start n) (next_at (plains a) m n s) in
     all-up a b c is (map old nexts) (map new nexts) x.grows
     (map-same (made_below (length a)) old new
-    (λ n v. ap (λ (z : Bool). table.joined m.forall_walks z (at (plains b) f) (made_start n) (made_at (plains b) m before n s)) q
-    ∙ ap (λ (z : Plain). table.joined m.forall_walks is_statement z (made_start n) (made_at (plains b) m before n s)) x.is
-    ∙ ap (table.joined m.forall_walks is_statement h (made_start n)) (made-stays a b m before n s x.grows v)) nexts w) y
+    (λ n v. ap (λ (z : Bool). table.joined m.forall_walks z (at (plains b) f) (made_start n) (next_at (plains b) m n s)) q
+    ∙ ap (λ (z : Plain). table.joined m.forall_walks is_statement z (made_start n) (next_at (plains b) m n s)) x.is
+    ∙ ap (table.joined m.forall_walks is_statement h (made_start n)) (next-stays a b m n s x.grows v)) nexts w) y
 
--- dots before what follows, in a table that grew
-pub dots_row-stays : (m : table.Setting) (a b : List Node) (s after before : Option Element) (whens copies : List ℕ) (any strict : Bool) (nest : Option NestPart) (n : Made) (p : Place) (t : List Var)
-    → Grows a b → copies ≡ whens → all_below (length a) whens ≡ true → nest_below (length a) nest ≡ true → made_below (length a) n ≡ true
-    → dots_row m b s after (parts_at b copies) any strict nest (follow_of (plains b) m before n) p t
-    ≡ dots_row m a s after (parts_at a whens) any strict nest (follow_of (plains a) m before n) p t
-dots_row-stays m a b s after before whens copies any strict nest n p t g q h u w =
-    let k = λ (ns : List Node). follow_of (plains ns) m before n in
-    let held = λ (ps : List Plain). table.condition any ps (table.near_option m true s (t ++ p.here)) (table.near_option m false after p.scope) in
-    ap (λ (ps : List Plain). dots_row m b s after ps any strict nest (k b) p t) (ap (parts_at b) q ∙ all-stay a b whens g h)
-    ∙ ap (λ (z : table.Follow). dots_row m b s after (parts_at a whens) any strict nest z p t) (follow-stays a b m before n g w)
-    ∙ ap (table.exists_all p.here)
-    (passed-stays a b m.forall_walks nest strict (held (parts_at a whens)) (table.target (k a).start ((k a).at p.scope)) g u)
+-- dots whose parts are made, before what follows them, in a table that grew
+pub dots_row-whole : (m : table.Setting) (a b : List Node) (d : MadeDots) (after before : Option Element) (n : Made) (p : Place) (t : List Var)
+    → Grows a b → d.here ≡ p.here → all_below (length a) d.whens.items ≡ true → nest_below (length a) d.nest ≡ true → made_below (length a) n ≡ true
+    → some_at (plains b) d.after ≡ (if d.any then None else table.near_option m false after p.scope)
+    → dots_before (plains b) m d (next_of (plains b) m n) p.scope before t
+    ≡ dots_row m a before after (parts_at a d.whens.items) d.any d.strict d.nest (next_of (plains a) m n) p t
+dots_row-whole m a b d after before n p t g q h u w o =
+    let near = λ (v : List Var). table.near_option m true before (t ++ v) in
+    let beside = table.near_option m false after p.scope in
+    let k = λ (ns : List Node). next_of (plains ns) m n in
+    let goes = λ (ns : List Node). table.target (k ns).start ((k ns).at p.scope) in
+    ap (λ (v : List Var). table.exists_all v (passed (plains b) m.forall_walks d.nest d.strict (table.condition d.any (parts_at b d.whens.items) (near v) (some_at (plains b) d.after)) (goes b))) q
+    ∙ ap (λ (v : List Plain). table.exists_all p.here (passed (plains b) m.forall_walks d.nest d.strict (table.condition d.any v (near p.here) (some_at (plains b) d.after)) (goes b))) (all-stay a b d.whens.items g h)
+    ∙ ap (λ (v : Option Plain). table.exists_all p.here (passed (plains b) m.forall_walks d.nest d.strict (table.condition d.any (parts_at a d.whens.items) (near p.here) v) (goes b))) o
+    ∙ ap (λ (v : Plain). table.exists_all p.here (passed (plains b) m.forall_walks d.nest d.strict v (goes b))) (condition-skip d.any (parts_at a d.whens.items) (near p.here) beside)
+    ∙ ap (λ (v : table.Follow). table.exists_all p.here (passed (plains b) m.forall_walks d.nest d.strict (table.condition d.any (parts_at a d.whens.items) (near p.here) beside) (table.target v.start (v.at p.scope)))) (follow-stays a b m n g w)
+    ∙ ap (table.exists_all p.here) (passed-stays a b m.forall_walks d.nest d.strict (table.condition d.any (parts_at a d.whens.items) (near p.here) beside) (goes a) g u)
+
+-- dots before each of the things that may follow them
+pub dots-whole : (m : table.Setting) (a b c : List Node) (d : MadeDots) (after : Option Element) (p : Place) (any strict : Bool) (nexts fs : List Made)
+    → all_below (length a) d.whens.items ≡ true → nest_below (length a) d.nest ≡ true → all_made_below (length a) nexts ≡ true → d.here ≡ p.here
+    → d.any ≡ any → d.strict ≡ strict
+    → MakesSome a b d.after (if d.any then None else table.near_option m false after p.scope)
+    → MakesFollows m b c nexts fs (λ n. table.Dots) (λ n. dots_before (plains b) m d (next_of (plains b) m n) p.scope)
+    → MakesFollows m a c nexts fs (λ n. table.Dots) (λ n s t. dots_row m a s after (parts_at a d.whens.items) any strict d.nest (next_of (plains a) m n) p t)
+dots-whole m a b c d after p any strict nexts fs w u h q o r x z =
+    let row = λ (n : Made) (s : Option Element) (t : List Var). dots_row m a s after (parts_at a d.whens.items) any strict d.nest (next_of (plains a) m n) p t in
+    record {
+      each = pair-as (made_below (length a)) (λ n g. MakesFollow m b c g table.Dots (dots_before (plains b) m d (next_of (plains b) m n) p.scope))
+          (λ n g. MakesFollow m a c g table.Dots (row n))
+          (λ n g l v. follow-as m a b c g table.Dots (dots_before (plains b) m d (next_of (plains b) m n) p.scope) (row n) x.grows
+          (λ s t. dots_row-whole m a b d after s n p t x.grows q w u l x.is
+          ∙ ap (λ (y : Bool). dots_row m a s after (parts_at a d.whens.items) y d.strict d.nest (next_of (plains a) m n) p t) o
+          ∙ ap (λ (y : Bool). dots_row m a s after (parts_at a d.whens.items) any y d.nest (next_of (plains a) m n) p t) r) v) nexts fs h z.each;
+      grows = grows-trans a b c x.grows z.grows;
+    }
+
+-- made dots before what follows them, in a table that grew
+pub dots_before-stays : (m : table.Setting) (a b : List Node) (d : MadeDots) (n : Made) (s : List Var) (before : Option Element) (t : List Var)
+    → Grows a b → dots_below (length a) d ≡ true → made_below (length a) n ≡ true
+    → dots_before (plains b) m d (next_of (plains b) m n) s before t ≡ dots_before (plains a) m d (next_of (plains a) m n) s before t
+dots_before-stays m a b d n s before t g h w =
+    let near = table.near_option m true before (t ++ d.here) in
+    let k = λ (ns : List Node). next_of (plains ns) m n in
+    let goes = λ (ns : List Node). table.target (k ns).start ((k ns).at s) in
+    ap (λ (v : List Plain). table.exists_all d.here (passed (plains b) m.forall_walks d.nest d.strict (table.condition d.any v near (some_at (plains b) d.after)) (goes b))) (all-stay a b d.whens.items g (dots-whens (length a) d h))
+    ∙ ap (λ (v : Option Plain). table.exists_all d.here (passed (plains b) m.forall_walks d.nest d.strict (table.condition d.any (parts_at a d.whens.items) near v) (goes b))) (some-stays a b d.after g (dots-after (length a) d h))
+    ∙ ap (λ (v : table.Follow). table.exists_all d.here (passed (plains b) m.forall_walks d.nest d.strict (table.condition d.any (parts_at a d.whens.items) near (some_at (plains a) d.after)) (table.target v.start (v.at s)))) (follow-stays a b m n g w)
+    ∙ ap (table.exists_all d.here) (passed-stays a b m.forall_walks d.nest d.strict (table.condition d.any (parts_at a d.whens.items) near (some_at (plains a) d.after)) (goes a) g (dots-nest (length a) d h))

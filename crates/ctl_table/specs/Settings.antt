@@ -1,7 +1,8 @@
 -- What the code goes by, as the definitions have it.
-use Rattle.std.specs.Prelude.{◌≡◌, ℕ, Bool, true, false, ◌&&◌, nat_lt, List, [], ◌∷◌, ◌++◌, map, length, cond, Option, None, Some}
-use Rattle.std.specs.List.{list_all, filter}
+use Rattle.std.specs.Prelude.{◌≡◌, ℕ, Bool, true, false, not, ◌&&◌, nat_lt, List, [], ◌∷◌, ◌++◌, map, drop, length, cond, Option, None, Some}
+use Rattle.std.specs.List.{list_all, list_any, filter}
 use Rattle.smpl_terms.specs.declared.var.Var.{Var}
+use Rattle.pattern_vars.specs.Reads.{has}
 use Rattle.smpl_patch.specs.declared.elem.Elem.{Elem}
 use Rattle.smpl_patch.specs.declared.pattern.Pattern.{Pattern}
 use Rattle.smpl_patch.specs.Bodies.{element, Element, Body, Bodies}
@@ -19,6 +20,9 @@ use Rattle.ctl_table.specs.declared.follow.NestPart.{NestPart}
 use Rattle.ctl_table.specs.declared.follow.MadeDots.{MadeDots}
 use Rattle.ctl_table.specs.declared.follow.Made.{Made}
 use Rattle.ctl_table.specs.declared.follow.Made.TheVariants as made
+use Rattle.ctl_table.specs.declared.beside.Beside.{Beside}
+use Rattle.ctl_table.specs.declared.beside.Neighbours.{Neighbours}
+use Rattle.ctl_table.specs.Beside.{beside_at, beside_below, names_in}
 
 abbrev pub setting_at : Setting → table.Setting
 setting_at m = record {
@@ -76,57 +80,112 @@ abbrev pub nest_below : ℕ → Option NestPart → Bool
 nest_below n None = true
 nest_below n (Some p) = nat_lt p.part n
 
+abbrev pub neighbours_below : ℕ → Neighbours → Bool
+neighbours_below n b = some_below n b.alone && beside_below n b.atoms
+
+abbrev pub before_below : ℕ → Option Neighbours → Bool
+before_below n None = true
+before_below n (Some b) = neighbours_below n b
+
+-- the last atoms of an element, where these of their variables are quantified inside it
+abbrev pub from_inner : List Plain → Neighbours → List Var → Option Plain
+from_inner fs b [] = some_at fs b.alone
+from_inner fs b (x ∷ xs) = beside_at fs b.atoms (x ∷ xs)
+
+-- the same from a scope: what it has besides those around the element counts as quantified inside it
+abbrev pub neighbours_at : List Plain → Neighbours → List Var → Option Plain
+neighbours_at fs b t = from_inner fs b (filter (has b.names) (drop b.around t))
+
+abbrev pub before_at : List Plain → Option Neighbours → List Var → Option Plain
+before_at fs None t = None
+before_at fs (Some b) t = neighbours_at fs b t
+
 -- the parts of made dots have numbers below n
 abbrev pub dots_below : ℕ → MadeDots → Bool
-dots_below n d =
-    all_below n d.whens.items && some_below n d.after && nest_below n d.nest && nat_lt d.target n
+dots_below n d = all_below n d.whens.items && some_below n d.after && nest_below n d.nest
 
 abbrev pub made_below : ℕ → Made → Bool
 made_below n made.Nothing = true
 made_below n (made.Part s i) = nat_lt i n
-made_below n (made.Dots d) = dots_below n d
+made_below n (made.Dots d i b) = dots_below n d && nat_lt i n && before_below n b
 
 -- dots or a nest, by the condition and the target
 abbrev pub passed : List Plain → Bool → Option NestPart → Bool → Plain → Plain → Plain
 passed fs forall_walks None strict d t = table.until forall_walks strict d t
 passed fs forall_walks (Some p) strict d t = table.nested forall_walks p.plus strict d (at fs p.part) t
 
--- made dots, as come to after an element from a scope
-abbrev pub dots_at : List Plain → table.Setting → Option Element → MadeDots → List Var → Plain
-dots_at fs m before d t =
+-- made dots that lead to a part, as come to from a scope; which atoms stand before them goes by the scope too
+abbrev pub dots_at : List Plain → Bool → (List Var → Option Plain) → MadeDots → ℕ → List Var → Plain
+dots_at fs forall_walks before d i t =
     table.exists_all d.here
-    (passed fs m.forall_walks d.nest d.strict
-    (table.condition d.any (map (at fs) d.whens.items) (table.near_option m true before (t ++ d.here)) (some_at fs d.after))
-    (at fs d.target))
+    (passed fs forall_walks d.nest d.strict
+    (table.condition d.any (map (at fs) d.whens.items) (before (t ++ d.here)) (some_at fs d.after))
+    (at fs i))
 
 abbrev pub made_start : Made → table.Start
 made_start made.Nothing = table.Nothing
 made_start (made.Part s i) = start_at s
-made_start (made.Dots d) = table.Dots
+made_start (made.Dots d i b) = table.Dots
 
+-- what was made, as come to from a scope behind this element or none, whatever atoms the dots know
 abbrev pub made_at : List Plain → table.Setting → Option Element → Made → List Var → Plain
 made_at fs m before made.Nothing t = True
 made_at fs m before (made.Part s i) t = at fs i
-made_at fs m before (made.Dots d) t = dots_at fs m before d t
+made_at fs m before (made.Dots d i b) t = dots_at fs m.forall_walks (table.near_option m true before) d i t
+
+-- the same, behind the element whose atoms the dots know
+abbrev pub next_at : List Plain → table.Setting → Made → List Var → Plain
+next_at fs m made.Nothing t = True
+next_at fs m (made.Part s i) t = at fs i
+next_at fs m (made.Dots d i b) t = dots_at fs m.forall_walks (before_at fs b) d i t
 
 -- what was made, as what follows an element
 abbrev pub follow_of : List Plain → table.Setting → Option Element → Made → table.Follow
 follow_of fs m before f = record { start = made_start f; at = λ t. made_at fs m before f t }
 
+-- the same, behind the element whose atoms the dots know
+abbrev pub next_of : List Plain → table.Setting → Made → table.Follow
+next_of fs m f = record { start = made_start f; at = λ t. next_at fs m f t }
+
 -- the same, as the code has it
-abbrev pub follow : List Node → Setting → Option Elem → Made → table.Follow
-follow ns m before f = follow_of (plains ns) (setting_at m) (element_or_none before) f
+abbrev pub follow : List Node → Setting → Made → table.Follow
+follow ns m f = next_of (plains ns) (setting_at m) f
+
+-- dots know of no element before them
+abbrev pub is_first : Made → Bool
+is_first made.Nothing = true
+is_first (made.Part s i) = true
+is_first (made.Dots d i None) = true
+is_first (made.Dots d i (Some b)) = false
+
+-- dots at which no neighbour may stand
+abbrev pub looks_back : Made → Bool
+looks_back made.Nothing = false
+looks_back (made.Part s i) = false
+looks_back (made.Dots d i b) = not d.any
+
+-- the same, behind an element with these last atoms
+abbrev pub behind : Option Neighbours → Made → Made
+behind b made.Nothing = made.Nothing
+behind b (made.Part s i) = made.Part s i
+behind b (made.Dots d i o) = made.Dots d i b
 
 -- what was made is what follows that begins so and has this formula after an element, from a scope
 pub record MakesFollow (m : table.Setting) (old new : List Node) (f : Made) (begins : table.Start) (is_at : Option Element → List Var → Plain) : Type 0 where
   pub within : made_below (length new) f ≡ true
   pub starts : made_start f ≡ begins
+  pub first : is_first f ≡ true
   pub is : (before : Option Element) (t : List Var) → made_at (plains new) m before f t ≡ is_at before t
   pub grows : Grows old new
 
 -- each thing that may follow has parts with numbers below n
 abbrev pub all_made_below : ℕ → List Made → Bool
 all_made_below n fs = list_all (made_below n) fs
+
+-- two things that may follow are the same from each scope that begins with these variables
+pub record Agree (s : List Var) (k h : table.Follow) : Type 0 where
+  pub starts : k.start ≡ h.start
+  pub same : (more : List Var) → k.at (s ++ more) ≡ h.at (s ++ more)
 
 -- of two lists that are as long as one another, any two items at one place are so related
 abbrev pub Pairwise : {A B : Type 0} → (A → B → Type 0) → List A → List B → Type 0
@@ -140,6 +199,28 @@ Pairwise R (x ∷ xs) [] = ⊥
 pub record MakesFollows {A : Type 0} (m : table.Setting) (old new : List Node) (xs : List A) (fs : List Made)
     (begins : A → table.Start) (is_at : A → Option Element → List Var → Plain) : Type 0 where
   pub each : Pairwise (λ x f. MakesFollow m old new f (begins x) (is_at x)) xs fs
+  pub grows : Grows old new
+
+-- what is kept of an element's atoms, which go by a scope: their variables, their part where nothing is quantified inside the
+-- element, and how many variables the scope has
+pub record MakesNeighbours (old new : List Node) (s : List Var) (atoms : Beside) (b : Neighbours) : Type 0 where
+  pub within : neighbours_below (length new) b ≡ true
+  pub atoms_are : b.atoms ≡ atoms
+  pub names_are : (x : Var) → has b.names x ≡ names_in atoms x
+  pub alone_is : some_at (plains new) b.alone ≡ beside_at (plains new) atoms []
+  pub around_is : b.around ≡ length s
+  pub grows : Grows old new
+
+-- the last atoms of an element in a scope are made, if dots may follow it
+pub record MakesLast (m : table.Setting) (e : Element) (s : List Var) (old new : List Node) (fs : List Made) (b : Option Neighbours) : Type 0 where
+  pub within : before_below (length new) b ≡ true
+  pub is : list_any looks_back fs ≡ true → (more : List Var) → before_at (plains new) b (s ++ more) ≡ table.near_option m true (Some e) (s ++ more)
+  pub grows : Grows old new
+
+-- what was made is what follows the element in a scope, and the old parts stand as they were
+pub record MakesBehind (m : table.Setting) (e : Element) (s : List Var) (old new : List Node) (fs gs : List Made) : Type 0 where
+  pub within : all_made_below (length new) gs ≡ true
+  pub each : Pairwise (λ f g. Agree s (next_of (plains new) m g) (follow_of (plains old) m (Some e) f)) fs gs
   pub grows : Grows old new
 
 -- a suffix that begins with the element, after another and from a scope
@@ -175,6 +256,14 @@ dots_row m ns before after whens any strict nest k p t =
     (passed (plains ns) m.forall_walks nest strict
     (table.condition any whens (table.near_option m true before (t ++ p.here)) (table.near_option m false after p.scope))
     (table.target k.start (k.at p.scope)))
+
+-- made dots before what follows them, which they come to from a scope
+abbrev pub dots_before : List Plain → table.Setting → MadeDots → table.Follow → List Var → Option Element → List Var → Plain
+dots_before fs m d k s before t =
+    table.exists_all d.here
+    (passed fs m.forall_walks d.nest d.strict
+    (table.condition d.any (map (at fs) d.whens.items) (table.near_option m true before (t ++ d.here)) (some_at fs d.after))
+    (table.target k.start (k.at s)))
 
 -- `not` the first of some formulas, if there is one
 abbrev pub not_first : List Plain → List Plain

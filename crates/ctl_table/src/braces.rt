@@ -4,18 +4,20 @@ ghost use Rattle.smpl_patch.specs.Bodies.{body, element};
 ghost use Rattle.smpl_patch.proofs.BodyLemmas.{bodies as bodies_of};
 ghost use Rattle.ctl_table.specs.Blocks as blocks;
 
+use crate::numbers::Blocks;
 use smpl_patch::Elem;
 use sqlite_items::Items;
 use std::alloc::{AllocError, Global};
 
-/// The blocks of a body, by their opening braces' atoms, in the order of their hidden variables.
-pub fn blocks(alloc: Global, b: &[Elem]) -> Result<Vec<u32>, AllocError>
-    ensures { IfOk result (λ found. found.items ≡ blocks.blocks (body b.now)) }
+/// The blocks of a body, by their opening braces' atoms, in the order of their hidden variables. Comes to each element twice,
+/// and is linear in the body, where no hashes collide. Recurses once a level of nested statements, branches and `when` code.
+pub fn blocks(alloc: Global, b: &[Elem]) -> Result<Blocks, AllocError>
+    ensures { IfOk result (λ found. found ≡ blocks.blocks (body b.now)) }
 {
     let mut found = Vec::new(alloc);
     put_opens(b, &mut found)?;
     put_later(b, &mut found)?;
-    Ok(found)
+    Blocks::of(alloc, found)
 }
 
 #[cycle(opens)]

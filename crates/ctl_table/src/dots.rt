@@ -6,17 +6,21 @@ ghost use Rattle.ctl_formula.specs.Tables.{at, plains, Makes};
 ghost use Rattle.ctl_table.specs.Table as table;
 ghost use Rattle.ctl_table.specs.Settings.{setting_at, element_or_none, all_below, parts_at};
 ghost use Rattle.ctl_table.specs.Settings.{some_below};
-ghost use Rattle.ctl_table.specs.Settings.{some_at, made_below, made_at, dots_below};
+ghost use Rattle.ctl_table.specs.Settings.{some_at, made_below, next_at, dots_below};
+ghost use Rattle.ctl_table.specs.Settings.{before_at, before_below};
 ghost use Rattle.ctl_table.specs.Settings.{dots_at as dots_from, passed as passed_by, MakesAll};
 ghost use Rattle.ctl_table.specs.Settings.{MakesSome};
 
+use crate::beside::{Neighbours, at_inner, before_dots};
 use crate::follow::{Made, MadeDots};
 use crate::near::near_option;
 use crate::setting::Setting;
 use crate::wrap::{all_of, exists_all, nested, until};
 use c_terms::NoMemory;
 use ctl_formula::{Node, Parts};
+use pattern_vars::VarSet;
 use smpl_patch::Elem;
+use smpl_terms::Shared;
 use std::alloc::Global;
 use var_places::{Scope, extended};
 
@@ -25,38 +29,50 @@ pub fn follow_at(
     alloc: Global,
     parts: &mut Parts,
     m: &Setting,
-    before: Option<&Elem>,
     next: &Made,
     scope: &Scope,
 ) -> Result<usize, NoMemory>
     requires { made_below (length parts.old) next.now ≡ true }
-    ensures made { IfOk result (λ i. Makes parts.old parts.new i (made_at (plains parts.old)
-        (setting_at m.now) (element_or_none (option_copied before.entry)) next.now scope.now)) }
+    ensures made { IfOk result (λ i. Makes parts.old parts.new i
+        (next_at (plains parts.old) (setting_at m.now) next.now scope.now)) }
 {
     match next {
         Made::Nothing => parts.push(Node::True),
         Made::Part(_, f) => Ok(*f),
-        Made::Dots(d) => dots_at(alloc, parts, m, before, d.get(), scope),
+        Made::Dots(d, target, before) => {
+            dots_at(
+                alloc,
+                parts,
+                m.forall_walks,
+                before,
+                d.get(),
+                *target,
+                scope,
+            )
+        }
     }
 }
 
-/// Dots after an element, as come to from this scope.
+/// Dots that lead to a part, behind an element with these last atoms, as come to from this scope.
 fn dots_at(
     alloc: Global,
     parts: &mut Parts,
-    m: &Setting,
-    before: Option<&Elem>,
+    forall_walks: bool,
+    before: &Option<Shared<Neighbours>>,
     d: &MadeDots,
+    target: usize,
     scope: &Scope,
 ) -> Result<usize, NoMemory>
-    requires { dots_below (length parts.old) d.now ≡ true }
+    requires before { before_below (length parts.old) before.now ≡ true }
+    requires d { dots_below (length parts.old) d.now ≡ true }
+    requires target { target < length parts.old }
     ensures made { IfOk result (λ i. Makes parts.old parts.new i (dots_from (plains parts.old)
-        (setting_at m.now) (element_or_none (option_copied before.entry)) d.now scope.now)) }
+        forall_walks (before_at (plains parts.old) before.now) d.now target scope.now)) }
 {
     let here = d.here.as_slice();
     let around = extended(alloc, scope, here)?;
-    let through = condition(alloc, parts, m, before, d, &around)?;
-    let f = passed(parts, m.forall_walks, d, through)?;
+    let through = condition(alloc, parts, before, d, &around)?;
+    let f = passed(parts, forall_walks, d, through, target)?;
     exists_all(alloc, parts, here, f)
 }
 
@@ -64,21 +80,20 @@ fn dots_at(
 fn condition(
     alloc: Global,
     parts: &mut Parts,
-    m: &Setting,
-    before: Option<&Elem>,
+    before: &Option<Shared<Neighbours>>,
     d: &MadeDots,
     scope: &Scope,
 ) -> Result<usize, NoMemory>
-    requires { dots_below (length parts.old) d.now ≡ true }
+    requires before { before_below (length parts.old) before.now ≡ true }
+    requires d { dots_below (length parts.old) d.now ≡ true }
     ensures made { IfOk result (λ i. Makes parts.old parts.new i
         (table.condition d.now.any (parts_at parts.old d.now.whens.items)
-        (table.near_option (setting_at m.now) true
-        (element_or_none (option_copied before.entry)) scope.now)
+        (before_at (plains parts.old) before.now scope.now)
         (some_at (plains parts.old) d.now.after))) }
 {
     let whens = d.whens.as_slice();
     let mut found = copied_numbers(alloc, whens)?;
-    push_neighbours(alloc, parts, m, before, d, scope, &mut found)?;
+    push_neighbours(alloc, parts, before, d, scope, &mut found)?;
     all_of(parts, found.as_slice())
 }
 
@@ -86,29 +101,29 @@ fn condition(
 fn push_neighbours(
     alloc: Global,
     parts: &mut Parts,
-    m: &Setting,
-    before: Option<&Elem>,
+    before: &Option<Shared<Neighbours>>,
     d: &MadeDots,
     scope: &Scope,
     found: &mut Vec<usize>,
 ) -> Result<(), NoMemory>
+    requires before { before_below (length parts.old) before.now ≡ true }
     requires d { dots_below (length parts.old) d.now ≡ true }
     requires found { all_below (length parts.old) found.old.items ≡ true }
     ensures made { OnOk result (MakesAll parts.old parts.new found.new.items
         (parts_at parts.old found.old.items
-        ++ (if d.now.any then [] else (table.nots (table.near_option (setting_at m.now) true
-        (element_or_none (option_copied before.entry)) scope.now)
+        ++ (if d.now.any then [] else (table.nots (before_at (plains parts.old)
+        before.now scope.now)
         ++ table.nots (some_at (plains parts.old) d.now.after))))) }
 {
     if d.any {
         return Ok(());
     }
-    let near = near_option(alloc, parts, m, true, before, scope)?;
+    let near = before_dots(alloc, parts, before, scope)?;
     push_not(parts, near, found)?;
     push_not(parts, d.after, found)
 }
 
-pub fn copied_numbers(alloc: Global, numbers: &[usize]) -> Result<Vec<usize>, NoMemory>
+fn copied_numbers(alloc: Global, numbers: &[usize]) -> Result<Vec<usize>, NoMemory>
     ensures { IfOk result (λ copies. copies.items ≡ numbers.now) }
 {
     let mut copies = Vec::new(alloc);
@@ -138,15 +153,17 @@ fn passed(
     forall_walks: bool,
     d: &MadeDots,
     through: usize,
+    target: usize,
 ) -> Result<usize, NoMemory>
     requires d { dots_below (length parts.old) d.now ≡ true }
     requires through { through < length parts.old }
+    requires target { target < length parts.old }
     ensures made { IfOk result (λ i. Makes parts.old parts.new i
         (passed_by (plains parts.old) forall_walks d.now.nest d.now.strict (at (plains parts.old) through)
-        (at (plains parts.old) d.now.target))) }
+        (at (plains parts.old) target))) }
 {
     match d.nest {
-        None => until(parts, forall_walks, d.strict, through, d.target),
+        None => until(parts, forall_walks, d.strict, through, target),
         Some(n) => nested(
             parts,
             forall_walks,
@@ -154,7 +171,7 @@ fn passed(
             d.strict,
             through,
             n.part,
-            d.target,
+            target,
         ),
     }
 }
@@ -175,5 +192,8 @@ pub fn after_dots(
     if any {
         return Ok(None);
     }
-    near_option(alloc, parts, m, false, after, scope)
+    match near_option(alloc, parts, m, false, after, scope)? {
+        None => Ok(None),
+        Some(beside) => at_inner(alloc, parts, &beside, &VarSet::new(alloc)),
+    }
 }

@@ -3,46 +3,47 @@ ghost use Rattle.std.specs.Prelude.{◌≡◌, ◌+◌, ◌<◌, ◌≤◌, ◌�
 ghost use Rattle.std.specs.List.{list_all, range_with_len};
 ghost use Rattle.std.specs.Option.{option_copied};
 ghost use Rattle.smpl_patch.specs.Patterns.{is_statement as is_statement_in};
+ghost use Rattle.smpl_patch.specs.Bodies.{element};
 ghost use Rattle.smpl_patch.proofs.BodyLemmas.{dots_of};
 ghost use Rattle.ctl_formula.specs.Plain as plain;
 ghost use Rattle.ctl_formula.specs.Tables.{at, plains, Makes};
 ghost use Rattle.ctl_table.specs.Table as table;
 ghost use Rattle.ctl_table.specs.Settings.{setting_at, element_or_none, all_below, parts_at};
-ghost use Rattle.ctl_table.specs.Settings.{nest_below, all_made_below, made_at, follow, dots_row};
-ghost use Rattle.ctl_table.specs.Settings.{MakesAll, MakesFollows};
+ghost use Rattle.ctl_table.specs.Settings.{nest_below, dots_below, all_made_below, next_at, follow, dots_row};
+ghost use Rattle.ctl_table.specs.Settings.{dots_before, MakesAll, MakesBehind, MakesFollows, MakesLast};
 ghost use Rattle.ctl_table.specs.Columns.{column as column_of, rows_within, first_of_column};
 
-use crate::dots::{copied_numbers, follow_at};
+use crate::beside::{Neighbours, neighbours_of};
+use crate::dots::{after_dots, follow_at};
 use crate::element::{dots, joined_next, part, past_next};
-use crate::follow::{Made, NestPart};
+use crate::follow::{Made, MadeDots, NestPart, all_behind, some_look_back};
+use crate::near::near_option;
 use crate::own::own_atom;
 use crate::setting::Setting;
 use crate::wrap::{and_all, first_branch};
 use c_terms::NoMemory;
 use ctl_formula::Parts;
 use smpl_patch::{Dots, Elem, Pattern, is_statement};
-use smpl_terms::Var;
+use smpl_terms::{Shared, Var};
 use sqlite_items::Items;
 use std::alloc::Global;
-use var_places::{Place, Scope};
+use var_places::{Place, Scope, copied_vars};
 
 /// What may follow an element, as come to from this scope.
 pub fn follows_at(
     alloc: Global,
     parts: &mut Parts,
     m: &Setting,
-    before: Option<&Elem>,
     nexts: &[Made],
     scope: &Scope,
 ) -> Result<Vec<usize>, NoMemory>
     requires { all_made_below (length parts.old) nexts.now ≡ true }
     ensures made { IfOk result (λ is. MakesAll parts.old parts.new is.items
-        (map (λ next. made_at (plains parts.old) (setting_at m.now)
-        (element_or_none (option_copied before.entry)) next scope.now) nexts.now)) }
+        (map (λ next. next_at (plains parts.old) (setting_at m.now) next scope.now) nexts.now)) }
 {
     let mut made = Vec::new(alloc);
     for next in nexts {
-        let g = follow_at(alloc, parts, m, before, next, scope)?;
+        let g = follow_at(alloc, parts, m, next, scope)?;
         made.push(g)?;
     }
     Ok(made)
@@ -54,7 +55,6 @@ pub fn atoms(
     parts: &mut Parts,
     m: &Setting,
     p: &Pattern,
-    before: Option<&Elem>,
     nexts: &[Made],
     vars: &[Var],
     scope: &Scope,
@@ -63,12 +63,12 @@ pub fn atoms(
     ensures made { IfOk result (λ is. MakesAll parts.old parts.new is.items
         (map (λ next. table.joined m.now.forall_walks (is_statement_in p.now)
         (table.own (setting_at m.now) vars.now p.now (plain.Atom p.now))
-        (follow parts.old m.now (option_copied before.entry) next).start
-        ((follow parts.old m.now (option_copied before.entry) next).at scope.now)) nexts.now)) }
+        (follow parts.old m.now next).start
+        ((follow parts.old m.now next).at scope.now)) nexts.now)) }
 {
     let f = own_atom(alloc, parts, m, vars, p)?;
     let statement = is_statement(p);
-    joined_each(alloc, parts, m, statement, f, before, nexts, scope)
+    joined_each(alloc, parts, m, statement, f, nexts, scope)
 }
 
 fn joined_each(
@@ -77,7 +77,6 @@ fn joined_each(
     m: &Setting,
     statement: bool,
     f: usize,
-    before: Option<&Elem>,
     nexts: &[Made],
     scope: &Scope,
 ) -> Result<Vec<usize>, NoMemory>
@@ -85,12 +84,12 @@ fn joined_each(
     requires nexts { all_made_below (length parts.old) nexts.now ≡ true }
     ensures made { IfOk result (λ is. MakesAll parts.old parts.new is.items
         (map (λ next. table.joined m.now.forall_walks statement (at (plains parts.old) f)
-        (follow parts.old m.now (option_copied before.entry) next).start
-        ((follow parts.old m.now (option_copied before.entry) next).at scope.now)) nexts.now)) }
+        (follow parts.old m.now next).start
+        ((follow parts.old m.now next).at scope.now)) nexts.now)) }
 {
     let mut made = Vec::new(alloc);
     for next in nexts {
-        let g = joined_next(alloc, parts, m, statement, f, before, next, scope)?;
+        let g = joined_next(alloc, parts, m, statement, f, next, scope)?;
         made.push(g)?;
     }
     Ok(made)
@@ -102,7 +101,6 @@ pub fn past_each(
     parts: &mut Parts,
     m: &Setting,
     f: usize,
-    before: Option<&Elem>,
     nexts: &[Made],
     scope: &Scope,
 ) -> Result<Vec<usize>, NoMemory>
@@ -110,12 +108,12 @@ pub fn past_each(
     requires nexts { all_made_below (length parts.old) nexts.now ≡ true }
     ensures made { IfOk result (λ is. MakesAll parts.old parts.new is.items
         (map (λ next. plain.And (at (plains parts.old) f)
-        (plain.Past ((follow parts.old m.now (option_copied before.entry) next).at scope.now)))
+        (plain.Past ((follow parts.old m.now next).at scope.now)))
         nexts.now)) }
 {
     let mut made = Vec::new(alloc);
     for next in nexts {
-        let g = past_next(alloc, parts, m, f, before, next, scope)?;
+        let g = past_next(alloc, parts, m, f, next, scope)?;
         made.push(g)?;
     }
     Ok(made)
@@ -162,36 +160,106 @@ pub fn part_each(
     Ok(made)
 }
 
-/// Dots, or the end of a nest, whose `when` code is made, before each thing that may follow them.
+/// Dots, or the end of a nest, whose `when` code is made, before each thing that may follow them. What is the same for all
+/// these is made once.
 pub fn dots_each(
     alloc: Global,
     parts: &mut Parts,
     m: &Setting,
     after: Option<&Elem>,
     d: &Dots,
-    whens: &[usize],
+    whens: Vec<usize>,
     nest: Option<NestPart>,
-    before: Option<&Elem>,
     nexts: &[Made],
     place: &Place,
 ) -> Result<Vec<Made>, NoMemory>
-    requires whens { all_below (length parts.old) whens.now ≡ true }
+    requires whens { all_below (length parts.old) whens.items ≡ true }
     requires nest { nest_below (length parts.old) nest ≡ true }
     requires nexts { all_made_below (length parts.old) nexts.now ≡ true }
     ensures made { IfOk result (λ made. MakesFollows (setting_at m.now) parts.old parts.new nexts.now made.items
         (λ next. table.Dots)
         (λ next b t. dots_row (setting_at m.now) parts.old
-        b (element_or_none (option_copied after.entry)) (parts_at parts.old whens.now)
+        b (element_or_none (option_copied after.entry)) (parts_at parts.old whens.items)
         (dots_of d.now).any (dots_of d.now).strict nest
-        (follow parts.old m.now (option_copied before.entry) next) place.now t)) }
+        (follow parts.old m.now next) place.now t)) }
+{
+    let scope = &place.scope;
+    let after = after_dots(alloc, parts, m, d.any, after, scope)?;
+    let here = copied_vars(alloc, place.here.as_slice())?;
+    let made = MadeDots {
+        whens,
+        any: d.any,
+        strict: d.strict,
+        after,
+        nest,
+        here,
+    };
+    let made = Shared::of(alloc, made)?;
+    each_dots(alloc, parts, m, &made, nexts, scope)
+}
+
+/// Dots before each thing that may follow them, as come to from this scope.
+fn each_dots(
+    alloc: Global,
+    parts: &mut Parts,
+    m: &Setting,
+    d: &Shared<MadeDots>,
+    nexts: &[Made],
+    scope: &Scope,
+) -> Result<Vec<Made>, NoMemory>
+    requires d { dots_below (length parts.old) d.now ≡ true }
+    requires nexts { all_made_below (length parts.old) nexts.now ≡ true }
+    ensures made { IfOk result (λ made. MakesFollows (setting_at m.now) parts.old parts.new nexts.now made.items
+        (λ next. table.Dots)
+        (λ next. dots_before (plains parts.old) (setting_at m.now) d.now (follow parts.old m.now next) scope.now)) }
 {
     let mut made = Vec::new(alloc);
     for next in nexts {
-        let whens = copied_numbers(alloc, whens)?;
-        let g = dots(alloc, parts, m, after, d, whens, nest, before, next, place)?;
+        let g = dots(alloc, parts, m, d, next, scope)?;
         made.push(g)?;
     }
     Ok(made)
+}
+
+/// The last atoms of an element in this scope, if dots may follow it at which they don't stand.
+fn last_atoms(
+    alloc: Global,
+    parts: &mut Parts,
+    m: &Setting,
+    e: &Elem,
+    nexts: &[Made],
+    scope: &Scope,
+) -> Result<Option<Shared<Neighbours>>, NoMemory>
+    ensures made { IfOk result (λ found. MakesLast (setting_at m.now) (element e.now) scope.now
+        parts.old parts.new nexts.now found) }
+{
+    if !some_look_back(nexts) {
+        return Ok(None);
+    }
+    match near_option(alloc, parts, m, true, Some(e), scope)? {
+        None => Ok(None),
+        Some(atoms) => {
+            let found = neighbours_of(alloc, parts, atoms, scope)?;
+            Ok(Some(Shared::of(alloc, found)?))
+        }
+    }
+}
+
+/// What may follow an element in this scope: dots among it know the element's last atoms, which are read once for all of them.
+pub fn behind_each(
+    alloc: Global,
+    parts: &mut Parts,
+    m: &Setting,
+    e: &Elem,
+    nexts: &[Made],
+    scope: &Scope,
+) -> Result<Vec<Made>, NoMemory>
+    requires { all_made_below (length parts.old) nexts.now ≡ true }
+    ensures made { IfOk result (λ found. MakesBehind (setting_at m.now) (element e.now) scope.now
+        parts.old parts.new nexts.now found.items) }
+{
+    let before = last_atoms(alloc, parts, m, e, nexts, scope)?;
+    all_behind(alloc, &before, nexts)
 }
 
 /// A disjunction that has no branches, before each thing that may follow it.

@@ -1,25 +1,22 @@
 // Elements whose parts are made.
-ghost use Rattle.std.specs.Prelude.{◌≡◌, ◌<◌, length, true, IfOk, None};
-ghost use Rattle.std.specs.Option.{option_copied};
-ghost use Rattle.smpl_patch.proofs.BodyLemmas.{dots_of};
+ghost use Rattle.std.specs.Prelude.{◌≡◌, ◌<◌, length, true, IfOk};
 ghost use Rattle.ctl_formula.specs.Plain as plain;
 ghost use Rattle.ctl_formula.specs.Tables.{at, plains, Makes};
 ghost use Rattle.ctl_table.specs.Table as table;
-ghost use Rattle.ctl_table.specs.Settings.{setting_at, element_or_none, all_below, parts_at};
-ghost use Rattle.ctl_table.specs.Settings.{nest_below, made_below, follow, dots_row};
-ghost use Rattle.ctl_table.specs.Settings.{MakesFollow};
+ghost use Rattle.ctl_table.specs.Settings.{setting_at, all_below, parts_at, dots_below, made_below, follow};
+ghost use Rattle.ctl_table.specs.Settings.{dots_before, MakesFollow};
 
-use crate::dots::{after_dots, follow_at};
-use crate::follow::{Made, MadeDots, NestPart, Start, start_of};
+use crate::dots::follow_at;
+use crate::follow::{Made, MadeDots, Start, start_of};
 use crate::own::{own_atom, own_open};
 use crate::setting::Setting;
 use crate::wrap::{and_all, and_past, downs, exists_all, joined, target};
 use c_terms::NoMemory;
 use ctl_formula::{Node, Parts};
-use smpl_patch::{Dots, Elem, Pattern};
+use smpl_patch::Pattern;
 use smpl_terms::{Shared, Var};
 use std::alloc::Global;
-use var_places::{Place, Scope, copied_vars};
+use var_places::{Place, Scope};
 
 /// An element's formula as what follows, under what is quantified at its suffix.
 pub fn part(
@@ -44,13 +41,12 @@ pub fn joined_next(
     m: &Setting,
     statement: bool,
     f: usize,
-    before: Option<&Elem>,
     next: &Made,
     scope: &Scope,
 ) -> Result<usize, NoMemory>
     requires f { f < length parts.old }
     requires next { made_below (length parts.old) next.now ≡ true }
-    ensures made { let k = follow parts.old m.now (option_copied before.entry) next.now in
+    ensures made { let k = follow parts.old m.now next.now in
         IfOk result (λ i. Makes parts.old parts.new i
         (table.joined m.now.forall_walks statement (at (plains parts.old) f)
         k.start (k.at scope.now))) }
@@ -58,7 +54,7 @@ pub fn joined_next(
     match next {
         Made::Nothing => Ok(f),
         _ => {
-            let g = follow_at(alloc, parts, m, before, next, scope)?;
+            let g = follow_at(alloc, parts, m, next, scope)?;
             joined(parts, m.forall_walks, statement, f, start_of(next), g)
         }
     }
@@ -70,17 +66,16 @@ pub fn past_next(
     parts: &mut Parts,
     m: &Setting,
     f: usize,
-    before: Option<&Elem>,
     next: &Made,
     scope: &Scope,
 ) -> Result<usize, NoMemory>
     requires f { f < length parts.old }
     requires next { made_below (length parts.old) next.now ≡ true }
-    ensures made { let k = follow parts.old m.now (option_copied before.entry) next.now in
+    ensures made { let k = follow parts.old m.now next.now in
         IfOk result (λ i. Makes parts.old parts.new i
         (plain.And (at (plains parts.old) f) (plain.Past (k.at scope.now)))) }
 {
-    let g = follow_at(alloc, parts, m, before, next, scope)?;
+    let g = follow_at(alloc, parts, m, next, scope)?;
     and_past(parts, f, g)
 }
 
@@ -150,43 +145,24 @@ pub fn braced(
     parts.push(Node::Exists(v, both))
 }
 
-/// Dots, or the end of a nest, whose `when` code is made.
+/// Dots before what may follow them, as come to from this scope.
 pub fn dots(
     alloc: Global,
     parts: &mut Parts,
     m: &Setting,
-    after: Option<&Elem>,
-    d: &Dots,
-    whens: Vec<usize>,
-    nest: Option<NestPart>,
-    before: Option<&Elem>,
+    d: &Shared<MadeDots>,
     next: &Made,
-    place: &Place,
+    scope: &Scope,
 ) -> Result<Made, NoMemory>
-    requires whens { all_below (length parts.old) whens.items ≡ true }
-    requires nest { nest_below (length parts.old) nest ≡ true }
+    requires d { dots_below (length parts.old) d.now ≡ true }
     requires next { made_below (length parts.old) next.now ≡ true }
     ensures made { IfOk result (λ made. MakesFollow (setting_at m.now) parts.old parts.new made
-        table.Dots (λ b t. dots_row (setting_at m.now) parts.old
-        b (element_or_none (option_copied after.entry)) (parts_at parts.old whens.items)
-        (dots_of d.now).any (dots_of d.now).strict nest
-        (follow parts.old m.now (option_copied before.entry) next.now) place.now t)) }
+        table.Dots (dots_before (plains parts.old) (setting_at m.now) d.now
+        (follow parts.old m.now next.now) scope.now)) }
 {
-    let scope = &place.scope;
-    let after = after_dots(alloc, parts, m, d.any, after, scope)?;
-    let g = follow_at(alloc, parts, m, before, next, scope)?;
+    let g = follow_at(alloc, parts, m, next, scope)?;
     let target = target(parts, start_of(next), g)?;
-    let here = copied_vars(alloc, place.here.as_slice())?;
-    let made = MadeDots {
-        whens,
-        any: d.any,
-        strict: d.strict,
-        after,
-        nest,
-        target,
-        here,
-    };
-    Ok(Made::Dots(Shared::of(alloc, made)?))
+    Ok(Made::Dots(d.share()?, target, None))
 }
 
 /// `not` a piece of `when` code, under what is quantified around it.

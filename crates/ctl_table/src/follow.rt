@@ -1,8 +1,10 @@
 // What follows a sequence, once it is made.
-ghost use Rattle.std.specs.Prelude.{◌≡◌, ◌-◌, length, slice_get, true, IfOk};
-ghost use Rattle.ctl_table.specs.Settings.{start_at, made_start};
+ghost use Rattle.std.specs.Prelude.{◌≡◌, ◌-◌, length, map, slice_get, true, IfOk};
+ghost use Rattle.std.specs.List.{list_any};
+ghost use Rattle.ctl_table.specs.Settings.{start_at, made_start, behind, looks_back};
 ghost use Rattle.ctl_table.specs.Columns.{EndsWithNothing};
 
+use crate::beside::Neighbours;
 use c_terms::NoMemory;
 use smpl_terms::{Shared, Var};
 use sqlite_items::Items;
@@ -24,8 +26,7 @@ pub struct NestPart {
     pub part: usize,
 }
 
-/// Dots whose parts are made, but for the condition's part on the element before them: it goes by the scope from which
-/// the dots are come to.
+/// Dots whose parts are made, but for where they lead to and the condition's part on the element before them.
 #[derive(Drop)]
 pub struct MadeDots {
     /// `not` each piece of `when` code.
@@ -35,18 +36,28 @@ pub struct MadeDots {
     /// The first atoms of the element after the dots.
     pub after: Option<usize>,
     pub nest: Option<NestPart>,
-    /// Where the dots lead to.
-    pub target: usize,
     /// What is quantified at the suffix that begins with the dots.
     pub here: Items<Var>,
 }
 
-/// What follows. Dots are allocated once, and shared by its copies.
+/// What follows. Made dots are allocated once and shared by copies.
 #[derive(Drop)]
 pub enum Made {
     Nothing,
     Part(Start, usize),
-    Dots(Shared<MadeDots>),
+    /// Dots that lead to a part, behind an element with these last atoms. None are known where no element stands before them,
+    /// or one without such atoms, or where these don't count.
+    Dots(Shared<MadeDots>, usize, Option<Shared<Neighbours>>),
+}
+
+/// The same atoms, shared.
+fn share_before(before: &Option<Shared<Neighbours>>) -> Result<Option<Shared<Neighbours>>, NoMemory>
+    ensures { IfOk result (λ r. r ≡ before.now) }
+{
+    match before {
+        None => Ok(None),
+        Some(atoms) => Ok(Some(atoms.share()?)),
+    }
 }
 
 impl Made {
@@ -57,7 +68,22 @@ impl Made {
         match self {
             Made::Nothing => Ok(Made::Nothing),
             Made::Part(start, f) => Ok(Made::Part(*start, *f)),
-            Made::Dots(d) => Ok(Made::Dots(d.share()?)),
+            Made::Dots(d, target, before) => {
+                Ok(Made::Dots(d.share()?, *target, share_before(before)?))
+            }
+        }
+    }
+
+    /// The same, behind an element with these last atoms. Takes no memory.
+    fn behind(&self, before: &Option<Shared<Neighbours>>) -> Result<Made, NoMemory>
+        ensures { IfOk result (λ r. r ≡ behind before.now self.now) }
+    {
+        match self {
+            Made::Nothing => Ok(Made::Nothing),
+            Made::Part(start, f) => Ok(Made::Part(*start, *f)),
+            Made::Dots(d, target, _) => {
+                Ok(Made::Dots(d.share()?, *target, share_before(before)?))
+            }
         }
     }
 }
@@ -68,7 +94,7 @@ pub fn start_of(made: &Made) -> Start
     match made {
         Made::Nothing => Start::Nothing,
         Made::Part(start, _) => *start,
-        Made::Dots(_) => Start::Dots,
+        Made::Dots(_, _, _) => Start::Dots,
     }
 }
 
@@ -102,4 +128,38 @@ fn ends_with_nothing(nexts: &[Made]) -> bool
         [.., Made::Nothing] => true,
         _ => false,
     }
+}
+
+/// All of these, behind an element with these last atoms. Takes no memory but for the list.
+pub fn all_behind(
+    alloc: Global,
+    before: &Option<Shared<Neighbours>>,
+    nexts: &[Made],
+) -> Result<Vec<Made>, NoMemory>
+    ensures { IfOk result (λ all. all.items ≡ map (behind before.now) nexts.now) }
+{
+    let mut all = Vec::new(alloc);
+    for next in nexts {
+        let next = next.behind(before)?;
+        all.push(next)?;
+    }
+    Ok(all)
+}
+
+/// Whether these are dots at which the element before them may not stand.
+fn looks_back(made: &Made) -> bool
+    ensures { result ≡ looks_back made.now }
+{
+    match made {
+        Made::Nothing => false,
+        Made::Part(_, _) => false,
+        Made::Dots(d, _, _) => !d.get().any,
+    }
+}
+
+/// Whether some of these are dots at which the element before them may not stand.
+pub fn some_look_back(nexts: &[Made]) -> bool
+    ensures { result ≡ list_any looks_back nexts.now }
+{
+    nexts.iter().any(|next| looks_back(next))
 }

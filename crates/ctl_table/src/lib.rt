@@ -1,8 +1,8 @@
 //! The table from the elements of a body to formulas.
 //!
 //! - [`sequence`] gives the part that the formula of a sequence is, under what is quantified inside it and around it.
-//! - [`Setting`] is what the table goes by besides, [`Made`] what follows a sequence, and [`blocks`] gives the blocks of a
-//!   body, by which their hidden variables are named.
+//! - [`Setting`] is what the table goes by besides, and [`Made`] what follows a sequence.
+//! - [`blocks`] gives the [`Blocks`] of a body, by which their hidden variables are named.
 //!
 //! A part that stands at several places of the formula is kept once. What formula a body has, row by row, stands in
 //! `specs/Table`: the module `rows` is that table, row for row. A sequence is worked off from its end, so what follows an
@@ -14,6 +14,7 @@
 //! Limits, and variables that may stay unbound, are for ctl_translate.
 #![tactic(auto)]
 
+mod beside;
 mod braces;
 mod dots;
 mod each;
@@ -21,12 +22,15 @@ mod element;
 mod follow;
 mod loose;
 mod near;
+mod numbers;
 mod own;
 mod rows;
 mod setting;
 mod wrap;
 
+pub use beside::{Beside, Neighbours};
 pub use braces::blocks;
 pub use follow::{Made, MadeDots, NestPart, Start};
+pub use numbers::Blocks;
 pub use rows::sequence;
 pub use setting::Setting;

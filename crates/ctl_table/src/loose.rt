@@ -1,5 +1,5 @@
 // Variables that are quantified around atoms beside dots, and around `when` code.
-ghost use Rattle.std.specs.Prelude.{◌≡◌, ◌&&◌, not, IfOk};
+ghost use Rattle.std.specs.Prelude.{◌≡◌, not, IfOk};
 ghost use Rattle.std.specs.List.{filter};
 ghost use Rattle.smpl_patch.specs.Bodies.{body};
 ghost use Rattle.var_places.specs.Places.{reading_at};
@@ -21,27 +21,20 @@ pub fn in_order(alloc: Global, vars: &[Var]) -> Result<Ordered, NoMemory>
     Ordered::of(alloc, copied_vars(alloc, vars)?)
 }
 
-/// The variables of an atom in the condition of dots that aren't quantified around it. Each of the atom's variables is looked
-/// up a few times; where no variable is local, nothing is read.
-pub fn at_copy(
-    alloc: Global,
-    m: &Setting,
-    p: &Pattern,
-    scope: &Scope,
-) -> Result<Items<Var>, NoMemory>
-    ensures { IfOk result (λ found. found ≡ filter (λ x. (reading_at m.now.reader).stands p.now x && not
-        (table.in_scope scope.now x)) m.now.locals.now) }
+/// The local variables that stand in an atom. Each of the atom's variables is looked up a few times; where no variable is
+/// local, nothing is read.
+pub fn standing(alloc: Global, m: &Setting, p: &Pattern) -> Result<Items<Var>, NoMemory>
+    ensures { IfOk result (λ found. found ≡ filter (λ x. (reading_at m.now.reader).stands p.now x) m.now.locals.now) }
 {
     if m.locals.len() == 0 {
         return Ok(Items::new(alloc));
     }
     let set = standing_in_atom(alloc, &m.reader, p)?;
-    let standing = m.locals.among(alloc, &set)?;
-    loose(alloc, scope, standing.as_slice())
+    m.locals.among(alloc, &set)
 }
 
 /// Those of the variables that the scope lacks, in their order.
-fn loose(alloc: Global, scope: &Scope, vars: &[Var]) -> Result<Items<Var>, NoMemory>
+pub fn loose(alloc: Global, scope: &Scope, vars: &[Var]) -> Result<Items<Var>, NoMemory>
     ensures { IfOk result (λ found. found ≡ filter (λ x. not (table.in_scope scope.now x)) vars.now) }
 {
     let mut found = Items::new(alloc);

@@ -1,24 +1,24 @@
-// What stands beside dots.
+// The atoms of an element that stand beside dots.
 ghost use Rattle.std.specs.Prelude.{◌≡◌, ◌++◌, ◌-◌, ◌<◌, ◌≤◌, if◌then◌else◌, Some, IfOk, OnOk, true};
 ghost use Rattle.std.specs.Option.{option_copied};
 ghost use Rattle.smpl_patch.specs.Bodies.{body, element};
 ghost use Rattle.smpl_patch.specs.Bodies as bodies;
 ghost use Rattle.smpl_patch.proofs.BodyLemmas.{bodies as bodies_of};
 ghost use Rattle.ctl_table.specs.Table as table;
-ghost use Rattle.ctl_table.specs.Settings.{setting_at, element_or_none, option_numbers};
-ghost use Rattle.ctl_table.specs.Settings.{MakesSome};
+ghost use Rattle.ctl_table.specs.Settings.{setting_at, element_or_none};
+ghost use Rattle.ctl_table.specs.Beside.{beside_list, MakesBeside};
 
-use crate::own::copied;
+use crate::beside::Beside;
+use crate::loose::{loose, standing};
 use crate::setting::Setting;
-use crate::wrap::or_some;
 use c_terms::NoMemory;
-use ctl_formula::Parts;
+use ctl_formula::{Node, Parts};
 use smpl_patch::{Elem, Pattern, is_statement};
 use sqlite_items::Items;
 use std::alloc::Global;
 use var_places::Scope;
 
-/// The last or the first atoms of an element.
+/// The last or the first atoms of an element, in this scope. Each is read once.
 #[cycle(near)]
 fn near(
     alloc: Global,
@@ -27,9 +27,9 @@ fn near(
     last: bool,
     e: &Elem,
     scope: &Scope,
-) -> Result<Option<usize>, NoMemory>
-    ensures made { IfOk result (λ found. MakesSome parts.old parts.new found
-        (table.near (setting_at m.now) last (element e.now) scope.now)) }
+) -> Result<Option<Beside>, NoMemory>
+    ensures made { IfOk result (λ found. MakesBeside parts.old parts.new found
+        (λ more. table.near (setting_at m.now) last (element e.now) (scope.now ++ more))) }
 {
     match e {
         Elem::Atom(p) => near_atom(alloc, parts, m, p, scope),
@@ -48,9 +48,9 @@ fn near_atom(
     m: &Setting,
     p: &Pattern,
     scope: &Scope,
-) -> Result<Option<usize>, NoMemory>
-    ensures made { IfOk result (λ found. MakesSome parts.old parts.new found
-        (table.near (setting_at m.now) true (bodies.Atom p.now) scope.now)) }
+) -> Result<Option<Beside>, NoMemory>
+    ensures made { IfOk result (λ found. MakesBeside parts.old parts.new found
+        (λ more. table.near (setting_at m.now) true (bodies.Atom p.now) (scope.now ++ more))) }
 {
     if is_statement(p) {
         return Ok(None);
@@ -64,12 +64,14 @@ fn near_head(
     m: &Setting,
     p: &Pattern,
     scope: &Scope,
-) -> Result<Option<usize>, NoMemory>
-    ensures made { IfOk result (λ found. MakesSome parts.old parts.new found
-        (Some (table.copy (setting_at m.now) p.now scope.now))) }
+) -> Result<Option<Beside>, NoMemory>
+    ensures made { IfOk result (λ found. MakesBeside parts.old parts.new found
+        (λ more. Some (table.copy (setting_at m.now) p.now (scope.now ++ more)))) }
 {
-    let f = copied(alloc, parts, m, p, scope)?;
-    Ok(Some(f))
+    let vars = standing(alloc, m, p)?;
+    let vars = loose(alloc, scope, vars.as_slice())?;
+    let f = parts.push(Node::Atom(p.copy(alloc)?))?;
+    Ok(Some(Beside::Atom(f, vars)))
 }
 
 #[cycle(near)]
@@ -80,9 +82,9 @@ fn near_body(
     last: bool,
     b: &[Elem],
     scope: &Scope,
-) -> Result<Option<usize>, NoMemory>
-    ensures made { IfOk result (λ found. MakesSome parts.old parts.new found
-        (table.near_body (setting_at m.now) last (body b.now) scope.now)) }
+) -> Result<Option<Beside>, NoMemory>
+    ensures made { IfOk result (λ found. MakesBeside parts.old parts.new found
+        (λ more. table.near_body (setting_at m.now) last (body b.now) (scope.now ++ more))) }
 {
     if b.len() == 0 {
         return Ok(None);
@@ -109,19 +111,18 @@ fn near_any(
     last: bool,
     bs: &[Items<Elem>],
     scope: &Scope,
-) -> Result<Option<usize>, NoMemory>
-    ensures made { IfOk result (λ found. MakesSome parts.old parts.new found
-        (table.or_some
-        (table.near_each (setting_at m.now) last (bodies_of bs.now) scope.now))) }
+) -> Result<Option<Beside>, NoMemory>
+    ensures made { IfOk result (λ found. MakesBeside parts.old parts.new found
+        (λ more. table.or_some
+        (table.near_each (setting_at m.now) last (bodies_of bs.now) (scope.now ++ more)))) }
 {
     let mut found = Vec::new(alloc);
     for b in bs {
         let body = b.as_slice();
-        let f = near_body(alloc, parts, m, last, body, scope)?;
-        push_some(f, &mut found)?;
+        let beside = near_body(alloc, parts, m, last, body, scope)?;
+        push_beside(beside, &mut found)?;
     }
-    let each = found.as_slice();
-    or_some(parts, each)
+    Ok(Some(Beside::Any(Items::from_vec(found))))
 }
 
 /// Those of the first branch.
@@ -133,9 +134,9 @@ fn near_all(
     last: bool,
     bs: &[Items<Elem>],
     scope: &Scope,
-) -> Result<Option<usize>, NoMemory>
-    ensures made { IfOk result (λ found. MakesSome parts.old parts.new found
-        (table.near_first (setting_at m.now) last (bodies_of bs.now) scope.now)) }
+) -> Result<Option<Beside>, NoMemory>
+    ensures made { IfOk result (λ found. MakesBeside parts.old parts.new found
+        (λ more. table.near_first (setting_at m.now) last (bodies_of bs.now) (scope.now ++ more))) }
 {
     match bs {
         [] => Ok(None),
@@ -143,11 +144,11 @@ fn near_all(
     }
 }
 
-fn push_some(f: Option<usize>, found: &mut Vec<usize>) -> Result<(), NoMemory>
-    ensures { OnOk result (found.new.items ≡ found.old.items ++ option_numbers f) }
+fn push_beside(beside: Option<Beside>, found: &mut Vec<Beside>) -> Result<(), NoMemory>
+    ensures { OnOk result (found.new.items ≡ found.old.items ++ beside_list beside) }
 {
-    if let Some(f) = f {
-        found.push(f)?;
+    if let Some(beside) = beside {
+        found.push(beside)?;
     }
     Ok(())
 }
@@ -160,10 +161,10 @@ pub fn near_option(
     last: bool,
     e: Option<&Elem>,
     scope: &Scope,
-) -> Result<Option<usize>, NoMemory>
-    ensures made { IfOk result (λ found. MakesSome parts.old parts.new found
-        (table.near_option (setting_at m.now) last
-        (element_or_none (option_copied e.entry)) scope.now)) }
+) -> Result<Option<Beside>, NoMemory>
+    ensures made { IfOk result (λ found. MakesBeside parts.old parts.new found
+        (λ more. table.near_option (setting_at m.now) last
+        (element_or_none (option_copied e.entry)) (scope.now ++ more))) }
 {
     match e {
         None => Ok(None),

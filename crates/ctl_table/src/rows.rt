@@ -17,7 +17,8 @@ ghost use Rattle.ctl_table.specs.Columns.{MakesColumns};
 ghost use Rattle.ctl_table.specs.Suffixes.{begins, along};
 
 use crate::each::{
-    and_each, atoms, dots_each, first_branches, follows_at, no_branches, part_each, past_each,
+    and_each, atoms, behind_each, dots_each, first_branches, follows_at, no_branches, part_each,
+    past_each,
 };
 use crate::element::{braced, headed, not_piece};
 use crate::follow::{Made, NestPart, Start, with_nothing};
@@ -41,7 +42,6 @@ pub fn sequence(
     parts: &mut Parts,
     m: &Setting,
     b: &[Elem],
-    before: Option<&Elem>,
     next: &Made,
     vars: &[Var],
     scope: &Scope,
@@ -49,11 +49,11 @@ pub fn sequence(
     requires { made_below (length parts.old) next.now ≡ true }
     ensures made { IfOk result (λ i. Makes parts.old parts.new i
         (table.seq (setting_at m.now) None (body b.now)
-        (follow parts.old m.now (option_copied before.entry) next.now)
+        (follow parts.old m.now next.now)
         vars.now scope.now scope.now)) }
 {
     let nexts = from_ref(next);
-    let made = sequences(alloc, parts, m, b, before, nexts, vars, scope)?;
+    let made = sequences(alloc, parts, m, b, nexts, vars, scope)?;
     Ok(made[0])
 }
 
@@ -64,7 +64,6 @@ fn sequences(
     parts: &mut Parts,
     m: &Setting,
     b: &[Elem],
-    before: Option<&Elem>,
     nexts: &[Made],
     vars: &[Var],
     scope: &Scope,
@@ -72,15 +71,15 @@ fn sequences(
     requires { all_made_below (length parts.old) nexts.now ≡ true }
     ensures made { IfOk result (λ is. MakesAll parts.old parts.new is.items
         (map (λ next. table.seq (setting_at m.now) None (body b.now)
-        (follow parts.old m.now (option_copied before.entry) next)
+        (follow parts.old m.now next)
         vars.now scope.now scope.now) nexts.now)) }
 {
     if b.len() == 0 {
-        return follows_at(alloc, parts, m, before, nexts, scope);
+        return follows_at(alloc, parts, m, nexts, scope);
     }
     let places = places_of(alloc, &m.reader, b, vars, scope)?;
-    let made = suffixes(alloc, parts, m, b, before, nexts, places.as_slice())?;
-    follows_at(alloc, parts, m, None, made.as_slice(), scope)
+    let made = suffixes(alloc, parts, m, b, nexts, places.as_slice())?;
+    follows_at(alloc, parts, m, made.as_slice(), scope)
 }
 
 /// The whole of a sequence, for what stands before it: its suffixes are made from the last.
@@ -90,7 +89,6 @@ fn suffixes(
     parts: &mut Parts,
     m: &Setting,
     b: &[Elem],
-    before: Option<&Elem>,
     nexts: &[Made],
     places: &[Place],
 ) -> Result<Vec<Made>, NoMemory>
@@ -99,25 +97,19 @@ fn suffixes(
     requires places { length places.now ≡ length b.now }
     ensures made { IfOk result (λ made.
         MakesFollows (setting_at m.now) parts.old parts.new nexts.now made.items
-        (λ next. begins b.now (follow parts.old m.now (option_copied before.entry) next).start)
-        (λ next. along (setting_at m.now) (follow parts.old m.now (option_copied before.entry) next)
+        (λ next. begins b.now (follow parts.old m.now next).start)
+        (λ next. along (setting_at m.now) (follow parts.old m.now next)
         b.now places.now)) }
 {
     let mut i = b.len() - 1;
-    let mut made = suffix(alloc, parts, m, None, &b[i], before, nexts, &places[i])?;
+    let mut made = suffix(alloc, parts, m, None, &b[i], nexts, &places[i])?;
     while i > 0 {
         i -= 1;
         let e = &b[i];
-        made = suffix(
-            alloc,
-            parts,
-            m,
-            Some(&b[i + 1]),
-            e,
-            Some(e),
-            made.as_slice(),
-            &places[i],
-        )?;
+        let place = &places[i];
+        let behind = behind_each(alloc, parts, m, e, made.as_slice(), &place.scope)?;
+        let behind = behind.as_slice();
+        made = suffix(alloc, parts, m, Some(&b[i + 1]), e, behind, place)?;
     }
     Ok(made)
 }
@@ -131,7 +123,6 @@ fn suffix(
     m: &Setting,
     after: Option<&Elem>,
     e: &Elem,
-    before: Option<&Elem>,
     nexts: &[Made],
     place: &Place,
 ) -> Result<Vec<Made>, NoMemory>
@@ -140,57 +131,44 @@ fn suffix(
         MakesFollows (setting_at m.now) parts.old parts.new nexts.now made.items
         (λ next. start_with (element e.now))
         (λ next. suffix_at (setting_at m.now) (element_or_none (option_copied after.entry)) (element e.now)
-        (follow parts.old m.now (option_copied before.entry) next) place.now)) }
+        (follow parts.old m.now next) place.now)) }
 {
     let vars = place.inside.as_slice();
     let scope = &place.scope;
     match e {
         Elem::Atom(p) => {
-            let fs = atoms(alloc, parts, m, p, before, nexts, vars, scope)?;
+            let fs = atoms(alloc, parts, m, p, nexts, vars, scope)?;
             part_each(alloc, parts, m, place, fs.as_slice())
         }
         Elem::Compound(h, bodies, tail) => {
             let bodies = bodies.as_slice();
             let f = compound(alloc, parts, m, h, bodies, tail, vars, scope)?;
-            let fs = past_each(alloc, parts, m, f, before, nexts, scope)?;
+            let fs = past_each(alloc, parts, m, f, nexts, scope)?;
             part_each(alloc, parts, m, place, fs.as_slice())
         }
         Elem::Block(o, b, c) => {
             let f = block(alloc, parts, m, o, b.as_slice(), c, vars, scope)?;
-            let fs = past_each(alloc, parts, m, f, before, nexts, scope)?;
+            let fs = past_each(alloc, parts, m, f, nexts, scope)?;
             part_each(alloc, parts, m, place, fs.as_slice())
         }
         Elem::Gap(d) => {
             let whens = when_parts(alloc, parts, m, d.whens.as_slice(), scope)?;
-            let whens = whens.as_slice();
-            dots_each(alloc, parts, m, after, d, whens, None, before, nexts, place)
+            dots_each(alloc, parts, m, after, d, whens, None, nexts, place)
         }
         Elem::Nest(plus, b, d) => {
             let part = nest(alloc, parts, m, b.as_slice(), vars, scope)?;
             let whens = when_parts(alloc, parts, m, d.whens.as_slice(), scope)?;
-            let whens = whens.as_slice();
-            let nest = NestPart { plus: *plus, part };
-            dots_each(
-                alloc,
-                parts,
-                m,
-                after,
-                d,
-                whens,
-                Some(nest),
-                before,
-                nexts,
-                place,
-            )
+            let nest = Some(NestPart { plus: *plus, part });
+            dots_each(alloc, parts, m, after, d, whens, nest, nexts, place)
         }
         Elem::AnyOf(bodies) => {
             let bodies = bodies.as_slice();
-            let fs = choice(alloc, parts, m, bodies, before, nexts, vars, scope)?;
+            let fs = choice(alloc, parts, m, bodies, nexts, vars, scope)?;
             part_each(alloc, parts, m, place, fs.as_slice())
         }
         Elem::AllOf(bodies) => {
             let bodies = bodies.as_slice();
-            let fs = every(alloc, parts, m, bodies, before, nexts, vars, scope)?;
+            let fs = every(alloc, parts, m, bodies, nexts, vars, scope)?;
             part_each(alloc, parts, m, place, fs.as_slice())
         }
     }
@@ -234,7 +212,7 @@ fn block(
     let close = own_close(alloc, parts, m, vars, c, &v)?;
     let brace = Made::Part(Start::Brace, close);
     let own = in_body(alloc, &m.reader, b, vars)?;
-    let inside = sequence(alloc, parts, m, b, None, &brace, own.as_slice(), scope)?;
+    let inside = sequence(alloc, parts, m, b, &brace, own.as_slice(), scope)?;
     braced(alloc, parts, m, vars, o, v, inside)
 }
 
@@ -253,16 +231,8 @@ fn nest(
         (filter (occurs_body (reading_at m.now.reader) (body b.now)) vars.now) scope.now scope.now)) }
 {
     let own = in_body(alloc, &m.reader, b, vars)?;
-    sequence(
-        alloc,
-        parts,
-        m,
-        b,
-        None,
-        &Made::Nothing,
-        own.as_slice(),
-        scope,
-    )
+    let own = own.as_slice();
+    sequence(alloc, parts, m, b, &Made::Nothing, own, scope)
 }
 
 /// `not` each piece of `when` code.
@@ -299,7 +269,7 @@ fn when_part(
     let alone = lone(alloc, m, w)?;
     let alone = alone.as_slice();
     let around = extended(alloc, scope, alone)?;
-    let f = sequence(alloc, parts, m, w, None, &Made::Nothing, &[], &around)?;
+    let f = sequence(alloc, parts, m, w, &Made::Nothing, &[], &around)?;
     not_piece(alloc, parts, alone, f)
 }
 
@@ -311,7 +281,6 @@ fn choice(
     parts: &mut Parts,
     m: &Setting,
     bs: &[Items<Elem>],
-    before: Option<&Elem>,
     nexts: &[Made],
     vars: &[Var],
     scope: &Scope,
@@ -319,7 +288,7 @@ fn choice(
     requires { all_made_below (length parts.old) nexts.now ≡ true }
     ensures made { IfOk result (λ is. MakesAll parts.old parts.new is.items
         (map (λ next. table.elem (setting_at m.now) None None (bodies.AnyOf (bodies_of bs.now))
-        (follow parts.old m.now (option_copied before.entry) next)
+        (follow parts.old m.now next)
         vars.now scope.now scope.now) nexts.now)) }
 {
     match bs {
@@ -327,9 +296,9 @@ fn choice(
         [front @ .., last] => {
             let all = with_nothing(alloc, nexts)?;
             let all = all.as_slice();
-            let rows = branches(alloc, parts, m, front, before, all, vars, scope)?;
+            let rows = branches(alloc, parts, m, front, all, vars, scope)?;
             let last = last.as_slice();
-            let ends = one_branch(alloc, parts, m, last, before, nexts, vars, scope)?;
+            let ends = one_branch(alloc, parts, m, last, nexts, vars, scope)?;
             let ends = ends.as_slice();
             first_branches(alloc, parts, rows.as_slice(), ends, all.len() - 1)
         }
@@ -343,7 +312,6 @@ fn one_branch(
     parts: &mut Parts,
     m: &Setting,
     b: &[Elem],
-    before: Option<&Elem>,
     nexts: &[Made],
     vars: &[Var],
     scope: &Scope,
@@ -351,13 +319,13 @@ fn one_branch(
     requires { all_made_below (length parts.old) nexts.now ≡ true }
     ensures made { IfOk result (λ is. MakesAll parts.old parts.new is.items
         (map (λ next. table.seq (setting_at m.now) None (body b.now)
-        (follow parts.old m.now (option_copied before.entry) next)
+        (follow parts.old m.now next)
         (filter (occurs_body (reading_at m.now.reader) (body b.now)) vars.now)
         scope.now scope.now) nexts.now)) }
 {
     let own = in_body(alloc, &m.reader, b, vars)?;
     let own = own.as_slice();
-    sequences(alloc, parts, m, b, before, nexts, own, scope)
+    sequences(alloc, parts, m, b, nexts, own, scope)
 }
 
 /// The parts of each branch, one for each of the things that may follow.
@@ -367,7 +335,6 @@ fn branches(
     parts: &mut Parts,
     m: &Setting,
     bs: &[Items<Elem>],
-    before: Option<&Elem>,
     nexts: &[Made],
     vars: &[Var],
     scope: &Scope,
@@ -375,7 +342,7 @@ fn branches(
     requires { all_made_below (length parts.old) nexts.now ≡ true }
     ensures made { IfOk result (λ rows. MakesColumns parts.old parts.new nexts.now rows.items
         (λ next. table.each (setting_at m.now) (bodies_of bs.now)
-        (follow parts.old m.now (option_copied before.entry) next) vars.now scope.now)) }
+        (follow parts.old m.now next) vars.now scope.now)) }
 {
     let ordered = in_order(alloc, vars)?;
     let mut rows = Vec::new(alloc);
@@ -383,7 +350,7 @@ fn branches(
         let body = b.as_slice();
         let own = ordered.in_body(alloc, &m.reader, body)?;
         let own = own.as_slice();
-        let row = sequences(alloc, parts, m, body, before, nexts, own, scope)?;
+        let row = sequences(alloc, parts, m, body, nexts, own, scope)?;
         rows.push(Items::from_vec(row))?;
     }
     Ok(rows)
@@ -396,7 +363,6 @@ fn every(
     parts: &mut Parts,
     m: &Setting,
     bs: &[Items<Elem>],
-    before: Option<&Elem>,
     nexts: &[Made],
     vars: &[Var],
     scope: &Scope,
@@ -404,14 +370,14 @@ fn every(
     requires { all_made_below (length parts.old) nexts.now ≡ true }
     ensures made { IfOk result (λ is. MakesAll parts.old parts.new is.items
         (map (λ next. table.elem (setting_at m.now) None None (bodies.AllOf (bodies_of bs.now))
-        (follow parts.old m.now (option_copied before.entry) next)
+        (follow parts.old m.now next)
         vars.now scope.now scope.now) nexts.now)) }
 {
     match bs {
-        [] => follows_at(alloc, parts, m, before, nexts, scope),
+        [] => follows_at(alloc, parts, m, nexts, scope),
         [b, more @ ..] => {
             let first = b.as_slice();
-            let fs = one_branch(alloc, parts, m, first, before, nexts, vars, scope)?;
+            let fs = one_branch(alloc, parts, m, first, nexts, vars, scope)?;
             let others = each(alloc, parts, m, more, vars, scope)?;
             and_each(alloc, parts, fs.as_slice(), others.as_slice())
         }
@@ -437,7 +403,7 @@ fn each(
         let body = b.as_slice();
         let own = ordered.in_body(alloc, &m.reader, body)?;
         let own = own.as_slice();
-        let row = sequence(alloc, parts, m, body, None, &Made::Nothing, own, scope)?;
+        let row = sequence(alloc, parts, m, body, &Made::Nothing, own, scope)?;
         made.push(row)?;
     }
     Ok(made)

@@ -1,4 +1,5 @@
 // What the table goes by, besides the element at hand.
+use crate::numbers::Blocks;
 use var_places::{Ordered, Reader};
 
 /// What the table goes by.
@@ -12,5 +13,5 @@ pub struct Setting<'a> {
     /// Those of them that occur in `when` code alone.
     pub alone: &'a Ordered,
     /// The opening braces' atoms, in the order of their hidden variables.
-    pub blocks: &'a [u32],
+    pub blocks: &'a Blocks,
 }

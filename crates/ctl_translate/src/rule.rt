@@ -181,7 +181,6 @@ fn root_of(
 {
     let b = rule.body.as_slice();
     let blocks = blocks(alloc, b)?;
-    let blocks = blocks.as_slice();
     let placed = found.placed.as_slice();
     let forall_walks = ranges_over_all(rule.mode);
     let m = Setting {
@@ -189,10 +188,10 @@ fn root_of(
         forall_walks,
         locals,
         alone: &found.alone,
-        blocks,
+        blocks: &blocks,
     };
     let around = Scope::none(alloc)?;
-    sequence(alloc, parts, &m, b, None, &Made::Nothing, placed, &around)
+    sequence(alloc, parts, &m, b, &Made::Nothing, placed, &around)
 }
 
 /// The part that the rule's formula is, by what patterns are read by.

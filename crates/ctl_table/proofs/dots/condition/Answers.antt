@@ -6,7 +6,7 @@ use Rattle.ctl_table.proofs.dots.condition.Goals as goal
 
 pub push_neighbours-requires-clause-found : goal.push_neighbours-requires-clause-found
 push_neighbours-requires-clause-found c =
-    ap (all_below (length c.args.parts.now)) (c.in_ok-found.ensures ∙ c.as_slice-whens.ensures.value) ∙ dots-whens (length c.args.parts.now) c.args.d.now c.requires
+    ap (all_below (length c.args.parts.now)) (c.in_ok-found.ensures ∙ c.as_slice-whens.ensures.value) ∙ dots-whens (length c.args.parts.now) c.args.d.now c.requires.d
 
 pub returns : goal.returns
 returns c = record {

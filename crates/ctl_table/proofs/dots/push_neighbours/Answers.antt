@@ -8,12 +8,12 @@ use Rattle.ctl_table.proofs.dots.push_neighbours.Goals as goal
 
 pub push_not-requires-clause-found : goal.push_not-requires-clause-found
 push_not-requires-clause-found c =
-    all-stand c.args.parts.now c.near_option.new.parts c.args.found.now.items c.in_ok-near.ensures.made.grows c.requires.found
+    all-stand c.args.parts.now c.before_dots.new.parts c.args.found.now.items c.in_ok-near.ensures.made.grows c.requires.found
 
 pub push_not-requires-2-clause-f : goal.push_not-requires-2-clause-f
 push_not-requires-2-clause-f c =
     some-stands c.args.parts.now c.push_not.new.parts c.args.d.now.after
-    (grows-trans c.args.parts.now c.near_option.new.parts c.push_not.new.parts c.in_ok-near.ensures.made.grows c.in_ok-push_not.ensures.made.grows)
+    (grows-trans c.args.parts.now c.before_dots.new.parts c.push_not.new.parts c.in_ok-near.ensures.made.grows c.in_ok-push_not.ensures.made.grows)
     (dots-after (length c.args.parts.now) c.args.d.now c.requires.d)
 
 pub returns-then-d : goal.returns-then-d
@@ -22,7 +22,7 @@ returns-then-d c = record { made = neighbours-none c.args.parts.now c.args.found
 pub returns : goal.returns
 returns c = record {
   made = on_ok_weaker c.push_not-2.result
-      (λ m. neighbours-made c.args.parts.now c.near_option.new.parts c.push_not.new.parts c.push_not-2.new.parts c.args.found.now.items
+      (λ m. neighbours-made c.args.parts.now c.before_dots.new.parts c.push_not.new.parts c.push_not-2.new.parts c.args.found.now.items
       c.push_not.new.found.items c.push_not-2.new.found.items c.in_ok-near.near c.args.d.now.after _ c.args.d.now.any
       c.if-d.false c.requires.found (dots-after (length c.args.parts.now) c.args.d.now c.requires.d)
       c.in_ok-near.ensures.made c.in_ok-push_not.ensures.made m)

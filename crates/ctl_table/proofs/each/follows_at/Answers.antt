@@ -1,8 +1,7 @@
 use Rattle.std.proofs.Common.{length, arith}
-use Rattle.std.specs.Option.{option_copied}
 use Rattle.ctl_formula.specs.Tables.{plains}
-use Rattle.ctl_table.specs.Settings.{setting_at, element_or_none, made_below, made_at}
-use Rattle.ctl_table.proofs.FollowLemmas.{made-stands, made-stays}
+use Rattle.ctl_table.specs.Settings.{setting_at, made_below, next_at}
+use Rattle.ctl_table.proofs.FollowLemmas.{made-stands, next-stays}
 use Rattle.ctl_table.proofs.RowLemmas.{init-all}
 use Rattle.ctl_table.proofs.EachLemmas.{item-is, map-step, map-taken}
 use Rattle.ctl_table.proofs.each.follows_at.Goals as goal
@@ -21,16 +20,15 @@ loop-next-preserved c =
     let b = c.loop-next.parts in
     let x = c.next-item.result in
     let m = setting_at c.args.m.now in
-    let before = element_or_none (option_copied c.args.before) in
-    map-step a b c.follow_at.new.parts (λ n. made_at (plains a) m before n c.args.scope.now) c.args.nexts.now x x
-    c.loop-next.made.items _ c.loop-next.next-index c.in_ok-g.g (made_at (plains b) m before x c.args.scope.now)
+    map-step a b c.follow_at.new.parts (λ n. next_at (plains a) m n c.args.scope.now) c.args.nexts.now x x
+    c.loop-next.made.items _ c.loop-next.next-index c.in_ok-g.g (next_at (plains b) m x c.args.scope.now)
     c.loop-next-test.true c.next-item.is
-    (made-stays a b m before x c.args.scope.now c.loop-next.invariant.grows
+    (next-stays a b m x c.args.scope.now c.loop-next.invariant.grows
     (item-is (made_below (length a)) c.args.nexts.now c.loop-next.next-index x x c.loop-next-test.true c.next-item.is c.requires))
     c.in_ok-push.ensures.items c.loop-next.invariant c.in_ok-g.ensures.made
 
 pub returns : goal.returns
 returns c = record {
-  made = map-taken c.args.parts.now c.loop-next.parts (λ n. made_at (plains c.args.parts.now) (setting_at c.args.m.now) (element_or_none (option_copied c.args.before)) n c.args.scope.now)
+  made = map-taken c.args.parts.now c.loop-next.parts (λ n. next_at (plains c.args.parts.now) (setting_at c.args.m.now) n c.args.scope.now)
       c.args.nexts.now c.loop-next.made.items c.loop-next.next-index (omega arith) c.loop-next.invariant;
 }

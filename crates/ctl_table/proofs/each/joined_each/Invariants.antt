@@ -1,5 +1,4 @@
 use Rattle.std.proofs.Common.{map, take}
-use Rattle.std.specs.Option.{option_copied}
 use Rattle.ctl_formula.specs.Tables.{at, plains}
 use Rattle.ctl_table.specs.Table as table
 use Rattle.ctl_table.specs.Settings.{follow, MakesAll}
@@ -9,4 +8,4 @@ abbrev pub invariant-loop-next : goal.invariant-loop-next
 invariant-loop-next l =
     MakesAll l.initial.parts l.parts l.made.items
     (map (λ n. table.joined l.m.forall_walks l.statement (at (plains l.initial.parts) l.f)
-    (follow l.initial.parts l.m (option_copied l.before) n).start ((follow l.initial.parts l.m (option_copied l.before) n).at l.scope)) (take l.next-index l.nexts))
+    (follow l.initial.parts l.m n).start ((follow l.initial.parts l.m n).at l.scope)) (take l.next-index l.nexts))

@@ -1,4 +1,4 @@
-use Rattle.std.proofs.Common.{[], get_or, refl, arith}
+use Rattle.std.proofs.Common.{[], refl, arith}
 use Rattle.ctl_table.specs.Table as table
 use Rattle.ctl_table.proofs.RowLemmas.{init-all}
 use Rattle.ctl_table.proofs.EachLemmas.{map-step, map-taken}

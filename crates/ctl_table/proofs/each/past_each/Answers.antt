@@ -1,9 +1,8 @@
 use Rattle.std.proofs.Common.{length, ap, ◌∙◌, arith}
-use Rattle.std.specs.Option.{option_copied}
 use Rattle.ctl_formula.specs.Plain.{Plain, And, Past}
 use Rattle.ctl_formula.specs.Tables.{at, plains}
 use Rattle.ctl_table.specs.Table as table
-use Rattle.ctl_table.specs.Settings.{setting_at, element_or_none, made_below, follow_of}
+use Rattle.ctl_table.specs.Settings.{setting_at, made_below, next_of}
 use Rattle.ctl_table.proofs.MakingLemmas.{stays, stands-still}
 use Rattle.ctl_table.proofs.FollowLemmas.{made-stands, follow-stays}
 use Rattle.ctl_table.proofs.RowLemmas.{init-all}
@@ -26,13 +25,12 @@ loop-next-preserved c =
     let b = c.loop-next.parts in
     let x = c.next-item.result in
     let m = setting_at c.args.m.now in
-    let before = element_or_none (option_copied c.args.before) in
     let row = λ (p : Plain) (k : table.Follow). And p (Past (k.at c.args.scope.now)) in
-    map-step a b c.past_next.new.parts (λ n. row (at (plains a) c.args.f) (follow_of (plains a) m before n)) c.args.nexts.now x x
-    c.loop-next.made.items _ c.loop-next.next-index c.in_ok-g.g (row (at (plains b) c.args.f) (follow_of (plains b) m before x))
+    map-step a b c.past_next.new.parts (λ n. row (at (plains a) c.args.f) (next_of (plains a) m n)) c.args.nexts.now x x
+    c.loop-next.made.items _ c.loop-next.next-index c.in_ok-g.g (row (at (plains b) c.args.f) (next_of (plains b) m x))
     c.loop-next-test.true c.next-item.is
-    (ap (λ (p : Plain). row p (follow_of (plains b) m before x)) (stays a b c.args.f c.loop-next.invariant.grows c.requires.f)
-    ∙ ap (row (at (plains a) c.args.f)) (follow-stays a b m before x c.loop-next.invariant.grows
+    (ap (λ (p : Plain). row p (next_of (plains b) m x)) (stays a b c.args.f c.loop-next.invariant.grows c.requires.f)
+    ∙ ap (row (at (plains a) c.args.f)) (follow-stays a b m x c.loop-next.invariant.grows
     (item-is (made_below (length a)) c.args.nexts.now c.loop-next.next-index x x c.loop-next-test.true c.next-item.is c.requires.nexts)))
     c.in_ok-push.ensures.items c.loop-next.invariant c.in_ok-g.ensures.made
 

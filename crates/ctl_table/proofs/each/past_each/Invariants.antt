@@ -1,5 +1,4 @@
 use Rattle.std.proofs.Common.{map, take}
-use Rattle.std.specs.Option.{option_copied}
 use Rattle.ctl_formula.specs.Plain.{And, Past}
 use Rattle.ctl_formula.specs.Tables.{at, plains}
 use Rattle.ctl_table.specs.Settings.{follow, MakesAll}
@@ -8,4 +7,4 @@ use Rattle.ctl_table.proofs.each.past_each.Given as goal
 abbrev pub invariant-loop-next : goal.invariant-loop-next
 invariant-loop-next l =
     MakesAll l.initial.parts l.parts l.made.items
-    (map (λ n. And (at (plains l.initial.parts) l.f) (Past ((follow l.initial.parts l.m (option_copied l.before) n).at l.scope))) (take l.next-index l.nexts))
+    (map (λ n. And (at (plains l.initial.parts) l.f) (Past ((follow l.initial.parts l.m n).at l.scope))) (take l.next-index l.nexts))

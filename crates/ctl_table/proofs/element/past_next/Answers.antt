@@ -1,4 +1,3 @@
-use Rattle.std.specs.Option.{option_copied}
 use Rattle.ctl_table.specs.Settings.{follow}
 use Rattle.ctl_table.proofs.MakingLemmas.{stays}
 use Rattle.ctl_table.proofs.RowLemmas.{past-made}
@@ -8,6 +7,6 @@ use Rattle.ctl_table.proofs.element.past_next.Goals as goal
 pub returns : goal.returns
 returns c = record {
   made = past-made c.args.parts.now c.follow_at.new.parts c.and_past.new.parts c.and_past.result c.args.f c.in_ok-g.g (at (plains c.args.parts.now) c.args.f)
-      ((follow c.args.parts.now c.args.m.now (option_copied c.args.before) c.args.next.now).at c.args.scope.now) c.in_ok-g.ensures.made.grows
+      ((follow c.args.parts.now c.args.m.now c.args.next.now).at c.args.scope.now) c.in_ok-g.ensures.made.grows
       (stays c.args.parts.now c.follow_at.new.parts c.args.f c.in_ok-g.ensures.made.grows c.requires.f) c.in_ok-g.ensures.made.is c.and_past.ensures.made;
 }

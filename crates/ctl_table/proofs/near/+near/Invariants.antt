@@ -1,8 +1,9 @@
-use Rattle.std.proofs.Common.{take}
+use Rattle.std.proofs.Common.{◌++◌, take}
 use Rattle.smpl_patch.specs.Bodies.{body, element}
 use Rattle.smpl_patch.proofs.BodyLemmas.{bodies}
 use Rattle.ctl_table.specs.Table as table
-use Rattle.ctl_table.specs.Settings.{setting_at, MakesAll}
+use Rattle.ctl_table.specs.Settings.{setting_at}
+use Rattle.ctl_table.specs.Beside.{MakesBesides}
 use Rattle.var_places.proofs.Weights.{weight_element, weight_body, weight_bodies}
 use Rattle.ctl_table.proofs.near.+near.Given as goal
 
@@ -20,4 +21,5 @@ decreases-near_all l = weight_bodies (bodies l.bs.now)
 
 abbrev pub invariant-near_any-loop-b : goal.invariant-near_any-loop-b
 invariant-near_any-loop-b l =
-    MakesAll l.initial.parts l.parts l.found.items (table.near_each (setting_at l.m) l.last (bodies (take l.b-index l.bs)) l.scope)
+    MakesBesides l.initial.parts l.parts l.found.items
+    (λ more. table.near_each (setting_at l.m) l.last (bodies (take l.b-index l.bs)) (l.scope ++ more))

@@ -15,7 +15,7 @@ use Rattle.var_places.specs.Placing.{occurs_body}
 use Rattle.ctl_table.specs.Table as table
 use Rattle.var_places.specs.Places.{reading_at}
 use Rattle.ctl_table.specs.declared.follow.Made.{Made}
-use Rattle.ctl_table.specs.Settings.{setting_at, element_or_none, all_below, all_made_below, made_below, made_at, parts_at, follow_of, suffix_at, start_with, block_at, compound_at, MakesAll, MakesFollows}
+use Rattle.ctl_table.specs.Settings.{setting_at, element_or_none, all_below, all_made_below, made_below, next_at, parts_at, next_of, suffix_at, start_with, block_at, compound_at, MakesAll, MakesBehind, MakesFollows}
 use Rattle.ctl_table.specs.Columns.{rows_within, MakesColumns}
 use Rattle.ctl_table.specs.Suffixes.{begins, along}
 use Rattle.var_places.proofs.Weights.{weight_body, body-at, bodies-at, weight-take, weight-first, weight-rest}
@@ -71,7 +71,7 @@ branches-sequences-requires t c =
 
 pub branches-loop-b-preserved : goal.branches-loop-b-preserved
 branches-loop-b-preserved t c =
-    columns-step (setting_at c.args.m.now) c.args.parts.now c.loop-b.parts c.sequences.new.parts (element_or_none (option_copied c.args.before)) c.args.nexts.now
+    columns-step (setting_at c.args.m.now) c.args.parts.now c.loop-b.parts c.sequences.new.parts c.args.nexts.now
     c.args.vars.now c.args.scope.now c.as_slice-own.result.now c.args.bs.now c.b-item.result c.as_slice-body.result.now
     c.loop-b.rows.items _ c.in_ok-row.row.items c.loop-b.b-index
     c.loop-b-test.true c.b-item.is c.as_slice-body.ensures (c.as_slice-own.ensures ∙ c.in_ok-own.ensures
@@ -81,7 +81,7 @@ branches-loop-b-preserved t c =
 pub branches-returns : goal.branches-returns
 branches-returns t c = record {
   made = subst (λ (z : List (List Elem)). MakesColumns c.args.parts.now c.loop-b.parts c.args.nexts.now c.loop-b.rows.items
-      (λ n. table.each (setting_at c.args.m.now) (bodies_of z) (follow_of (plains c.args.parts.now) (setting_at c.args.m.now) (element_or_none (option_copied c.args.before)) n) c.args.vars.now c.args.scope.now))
+      (λ n. table.each (setting_at c.args.m.now) (bodies_of z) (next_of (plains c.args.parts.now) (setting_at c.args.m.now) n) c.args.vars.now c.args.scope.now))
       (taken c.loop-b.b-index c.args.bs.now (omega arith)) c.loop-b.invariant;
 }
 
@@ -124,7 +124,7 @@ pub nest-returns : goal.nest-returns
 nest-returns t c = record {
   made = subst (λ (z : List Var). IfOk c.sequence.result (λ i. Makes c.args.parts.now c.sequence.new.parts i
       (table.seq (setting_at c.args.m.now) None (body c.args.b.now) table.nothing z c.args.scope.now c.args.scope.now)))
-      (c.as_slice.ensures ∙ c.in_ok-own.ensures) c.sequence.ensures.made;
+      (c.as_slice-own.ensures ∙ c.in_ok-own.ensures) c.sequence.ensures.made;
 }
 
 -- heads with bodies, and blocks
@@ -180,7 +180,7 @@ pub choice-returns-in-empty : goal.choice-returns-in-empty
 choice-returns-in-empty t c = record {
   made = IfOk-weaker c.no_branches.result _ _
       (λ is h. choice-none (setting_at c.args.m.now) c.args.parts.now c.no_branches.new.parts
-      (λ n. follow_of (plains c.args.parts.now) (setting_at c.args.m.now) (element_or_none (option_copied c.args.before)) n) c.args.nexts.now is.items
+      (λ n. next_of (plains c.args.parts.now) (setting_at c.args.m.now) n) c.args.nexts.now is.items
       c.args.bs.now c.args.vars.now c.args.scope.now (omega arith) h) c.no_branches.ensures.made;
 }
 
@@ -189,14 +189,13 @@ choice-returns-in_ok-ends-in-len1-up t c =
     let m = setting_at c.args.m.now in
     let a = c.args.parts.now in
     let b = c.branches.new.parts in
-    let before = element_or_none (option_copied c.args.before) in
     let all = c.in_ok-all-in-len1-up.all.items in
     let bs = c.args.bs.now in
     let front = take (length bs - 1) bs in
-    let each = λ (n : Made). table.each m (bodies_of front) (follow_of (plains a) m before n) c.args.vars.now c.args.scope.now in
+    let each = λ (n : Made). table.each m (bodies_of front) (next_of (plains a) m n) c.args.vars.now c.args.scope.now in
     record {
       made = IfOk-weaker c.first_branches.result _ _
-          (λ is h. choice-each m a b c.one_branch.new.parts c.first_branches.new.parts before c.args.nexts.now all
+          (λ is h. choice-each m a b c.one_branch.new.parts c.first_branches.new.parts c.args.nexts.now all
           c.args.vars.now c.args.scope.now bs front c.last-item.result c.as_slice-last.result.now
           c.as_slice.result.now c.in_ok-ends-in-len1-up.ends.items c.as_slice-ends.result.now is.items (length c.as_slice-all.result.now - 1)
           c.in_ok-all-in-len1-up.ensures (ap (λ (z : List Made). length z - 1) c.as_slice-all.ensures.value)
@@ -215,7 +214,7 @@ one_branch-sequences-requires t c = (omega arith, c.requires)
 pub one_branch-returns : goal.one_branch-returns
 one_branch-returns t c =
     let m = setting_at c.args.m.now in
-    let k = λ (n : Made). follow_of (plains c.args.parts.now) m (element_or_none (option_copied c.args.before)) n in
+    let k = λ (n : Made). next_of (plains c.args.parts.now) m n in
     record {
       made = subst (λ (z : List Var). IfOk c.sequences.result (λ is. MakesAll c.args.parts.now c.sequences.new.parts is.items
           (map (λ n. table.seq m None (body c.args.b.now) (k n) z c.args.scope.now c.args.scope.now) c.args.nexts.now)))
@@ -228,7 +227,7 @@ pub every-returns-in-empty : goal.every-returns-in-empty
 every-returns-in-empty t c = record {
   made = IfOk-weaker c.follows_at.result _ _
       (λ is h. every-none (setting_at c.args.m.now) c.args.parts.now c.follows_at.new.parts
-      (λ n. follow_of (plains c.args.parts.now) (setting_at c.args.m.now) (element_or_none (option_copied c.args.before)) n) c.args.nexts.now is.items
+      (λ n. next_of (plains c.args.parts.now) (setting_at c.args.m.now) n) c.args.nexts.now is.items
       c.args.bs.now c.args.vars.now c.args.scope.now (omega arith) h) c.follows_at.ensures.made;
 }
 
@@ -254,7 +253,7 @@ pub every-returns-in_ok-others-in-len1-up : goal.every-returns-in_ok-others-in-l
 every-returns-in_ok-others-in-len1-up t c = record {
   made = IfOk-weaker c.and_each.result _ _
       (λ is h. every-each (setting_at c.args.m.now) c.args.parts.now c.one_branch.new.parts c.each.new.parts c.and_each.new.parts
-      (λ n. follow_of (plains c.args.parts.now) (setting_at c.args.m.now) (element_or_none (option_copied c.args.before)) n) c.args.nexts.now
+      (λ n. next_of (plains c.args.parts.now) (setting_at c.args.m.now) n) c.args.nexts.now
       c.args.bs.now c.b-item.result c.as_slice-first.result.now c.args.vars.now _ c.args.scope.now
       c.in_ok-fs-in-len1-up.fs.items c.as_slice.result.now c.in_ok-others-in-len1-up.others.items c.as_slice-in-len1-up.result.now is.items
       c.in-len1-up.len_at_least c.b-item.is c.as_slice-first.ensures refl
@@ -273,51 +272,56 @@ suffixes-suffix-requires t c =
 pub suffixes-loop-i-init : goal.suffixes-loop-i-init
 suffixes-loop-i-init t c = (
   omega arith,
-  last-each (setting_at c.args.m.now) (λ n. follow_of (plains c.args.parts.now) (setting_at c.args.m.now) (element_or_none (option_copied c.args.before)) n)
+  last-each (setting_at c.args.m.now) (λ n. next_of (plains c.args.parts.now) (setting_at c.args.m.now) n)
       c.args.parts.now c.suffix.new.parts c.args.nexts.now c.in_ok-made.made.items c.args.b.now c.args.places.now (length c.args.b.now - 1)
       c.index-b-i.result c.index-places-i.result (omega arith) c.requires.places c.index-b-i.is c.index-places-i.is c.in_ok-made.ensures.made,
 )
 
+pub suffixes-behind_each-requires : goal.suffixes-behind_each-requires
+suffixes-behind_each-requires t c =
+    let m = setting_at c.args.m.now in
+    let k = λ (n : Made). next_of (plains c.args.parts.now) m n in
+    let es = drop c.loop-i.i c.args.b.now in
+    ap (all_made_below (length c.loop-i.parts)) c.as_slice.ensures.value
+    ∙ follows-within m c.args.parts.now c.loop-i.parts c.args.nexts.now c.loop-i.made.items
+    (λ n. begins es (k n).start) (λ n. along m (k n) es (drop c.loop-i.i c.args.places.now)) c.loop-i.invariant.1
+
 pub suffixes-suffix-requires-in-loop-i : goal.suffixes-suffix-requires-in-loop-i
 suffixes-suffix-requires-in-loop-i t c =
-    let m = setting_at c.args.m.now in
-    let k = λ (n : Made). follow_of (plains c.args.parts.now) m (element_or_none (option_copied c.args.before)) n in
-    let es = drop c.loop-i.i c.args.b.now in
     let l : c.loop-i.i - 1 < length c.args.b.now = omega (arith, c.loop-i.invariant.0) in
     let w = body-at c.args.b.now (c.loop-i.i - 1) c.index-b-i-in-loop-i.result l c.index-b-i-in-loop-i.is in (
       omega (arith, w),
-      ap (all_made_below (length c.loop-i.parts)) c.as_slice.ensures.value
-          ∙ follows-within m c.args.parts.now c.loop-i.parts c.args.nexts.now c.loop-i.made.items
-          (λ n. begins es (k n).start) (λ n. along m (k n) es (drop c.loop-i.i c.args.places.now)) c.loop-i.invariant.1,
+      ap (all_made_below (length c.behind_each.new.parts)) c.as_slice-behind.ensures.value ∙ c.in_ok-behind.ensures.made.within,
     )
 
 pub suffixes-loop-i-preserved : goal.suffixes-loop-i-preserved
 suffixes-loop-i-preserved t c =
     let n : c.loop-i.i - 1 + 1 ≡ c.loop-i.i = omega (arith, c.loop-i-test.true) in
     let m = setting_at c.args.m.now in
-    let k = λ (x : Made). follow_of (plains c.args.parts.now) m (element_or_none (option_copied c.args.before)) x in
+    let k = λ (x : Made). next_of (plains c.args.parts.now) m x in
     let e = c.index-b-i-in-loop-i.result in (
       omega (arith, c.loop-i.invariant.0),
-      step-each m k c.args.parts.now c.loop-i.parts c.suffix-in-loop-i.new.parts c.args.nexts.now c.loop-i.made.items c.in_ok-made-2.made.items c.args.b.now c.args.places.now (c.loop-i.i - 1)
+      step-each m k c.args.parts.now c.loop-i.parts c.behind_each.new.parts c.suffix-in-loop-i.new.parts c.args.nexts.now c.loop-i.made.items c.in_ok-behind.behind.items c.in_ok-made-2.made.items c.args.b.now c.args.places.now (c.loop-i.i - 1)
           c.index-b-i-in-loop-i-2.result e c.index-places-i-in-loop-i.result (omega (arith, c.loop-i.invariant.0, n)) c.requires.places
           c.index-b-i-in-loop-i-2.is c.index-b-i-in-loop-i.is c.index-places-i-in-loop-i.is
           (subst (λ (z : ℕ). MakesFollows m c.args.parts.now c.loop-i.parts c.args.nexts.now c.loop-i.made.items
           (λ x. begins (drop z c.args.b.now) (k x).start) (λ x. along m (k x) (drop z c.args.b.now) (drop z c.args.places.now))) (sym n) c.loop-i.invariant.1)
-          (subst (λ (z : List Made). MakesFollows m c.loop-i.parts c.suffix-in-loop-i.new.parts z c.in_ok-made-2.made.items (λ f. start_with (element e))
-          (λ f. suffix_at m (Some (element c.index-b-i-in-loop-i-2.result)) (element e) (follow_of (plains c.loop-i.parts) m (Some (element e)) f) c.index-places-i-in-loop-i.result))
-          c.as_slice.ensures.value c.in_ok-made-2.ensures.made),
+          (subst (λ (z : List Made). MakesBehind m (element e) c.index-places-i-in-loop-i.result.scope c.loop-i.parts c.behind_each.new.parts z c.in_ok-behind.behind.items) c.as_slice.ensures.value c.in_ok-behind.ensures.made)
+          (subst (λ (z : List Made). MakesFollows m c.behind_each.new.parts c.suffix-in-loop-i.new.parts z c.in_ok-made-2.made.items (λ f. start_with (element e))
+          (λ f. suffix_at m (Some (element c.index-b-i-in-loop-i-2.result)) (element e) (next_of (plains c.behind_each.new.parts) m f) c.index-places-i-in-loop-i.result))
+          c.as_slice-behind.ensures.value c.in_ok-made-2.ensures.made),
     )
 
 pub suffixes-returns : goal.suffixes-returns
 suffixes-returns t c = record {
-  made = whole-each (setting_at c.args.m.now) (λ n. follow_of (plains c.args.parts.now) (setting_at c.args.m.now) (element_or_none (option_copied c.args.before)) n)
+  made = whole-each (setting_at c.args.m.now) (λ n. next_of (plains c.args.parts.now) (setting_at c.args.m.now) n)
       c.args.parts.now c.loop-i.parts c.args.nexts.now c.loop-i.made.items c.args.b.now c.args.places.now c.loop-i.i (omega arith) c.loop-i.invariant.1;
 }
 
 pub sequences-returns-then-b-eq0 : goal.sequences-returns-then-b-eq0
 sequences-returns-then-b-eq0 t c = record {
   made = IfOk-weaker c.follows_at.result _ _
-      (λ is h. sequences-none (setting_at c.args.m.now) (λ n. follow_of (plains c.args.parts.now) (setting_at c.args.m.now) (element_or_none (option_copied c.args.before)) n)
+      (λ is h. sequences-none (setting_at c.args.m.now) (λ n. next_of (plains c.args.parts.now) (setting_at c.args.m.now) n)
       c.args.parts.now c.follows_at.new.parts c.args.nexts.now is.items c.args.b.now c.args.vars.now c.args.scope.now c.if-b-eq0.true h) c.follows_at.ensures.made;
 }
 
@@ -341,11 +345,11 @@ sequences-follows_at-requires-2 t c =
 pub sequences-returns : goal.sequences-returns
 sequences-returns t c = record {
   made = IfOk-weaker c.follows_at-2.result _ _
-      (λ is h. sequences-made (setting_at c.args.m.now) (λ n. follow_of (plains c.args.parts.now) (setting_at c.args.m.now) (element_or_none (option_copied c.args.before)) n)
+      (λ is h. sequences-made (setting_at c.args.m.now) (λ n. next_of (plains c.args.parts.now) (setting_at c.args.m.now) n)
       c.args.parts.now c.suffixes.new.parts c.follows_at-2.new.parts c.args.nexts.now c.in_ok-made.made.items is.items
       c.args.b.now c.args.vars.now c.args.scope.now c.as_slice.result.now (c.as_slice.ensures.value ∙ c.in_ok-places.ensures)
       c.in_ok-made.ensures.made
-      (subst (λ (z : List Made). MakesAll c.suffixes.new.parts c.follows_at-2.new.parts is.items (map (λ f. made_at (plains c.suffixes.new.parts) (setting_at c.args.m.now) None f c.args.scope.now) z))
+      (subst (λ (z : List Made). MakesAll c.suffixes.new.parts c.follows_at-2.new.parts is.items (map (λ f. next_at (plains c.suffixes.new.parts) (setting_at c.args.m.now) f c.args.scope.now) z))
       c.as_slice-2.ensures.value h)) c.follows_at-2.ensures.made;
 }
 
@@ -362,7 +366,7 @@ first-any (i ∷ is) d e l = refl
 pub sequence-returns : goal.sequence-returns
 sequence-returns t c =
     let m = setting_at c.args.m.now in
-    let k = λ (n : Made). follow_of (plains c.args.parts.now) m (element_or_none (option_copied c.args.before)) n in
+    let k = λ (n : Made). next_of (plains c.args.parts.now) m n in
     let only =
     subst (λ (z : List Made). MakesAll c.args.parts.now c.sequences.new.parts c.in_ok-made.made.items
     (map (λ n. table.seq m None (body c.args.b.now) (k n) c.args.vars.now c.args.scope.now c.args.scope.now) z)) c.from_ref-nexts.ensures.value c.in_ok-made.ensures.made in
@@ -378,8 +382,7 @@ suffix-returns-in_ok-fs-in-Atom t c =
     let m = setting_at c.args.m.now in
     let a = c.args.parts.now in
     let after = element_or_none (option_copied c.args.after) in
-    let before = element_or_none (option_copied c.args.before) in
-    let k = λ (n : Made). follow_of (plains a) m before n in
+    let k = λ (n : Made). next_of (plains a) m n in
     let place = c.args.place.now in
     let vars = c.as_slice-vars.result.now in
     let b = c.atoms.new.parts in
@@ -398,8 +401,7 @@ suffix-returns-in_ok-fs-in-Compound t c =
     let m = setting_at c.args.m.now in
     let a = c.args.parts.now in
     let after = element_or_none (option_copied c.args.after) in
-    let before = element_or_none (option_copied c.args.before) in
-    let k = λ (n : Made). follow_of (plains a) m before n in
+    let k = λ (n : Made). next_of (plains a) m n in
     let place = c.args.place.now in
     let vars = c.as_slice-vars.result.now in
     let b = c.past_each.new.parts in
@@ -409,7 +411,7 @@ suffix-returns-in_ok-fs-in-Compound t c =
           (λ fs h. row-each m a b c.part_each-in-Compound.new.parts after (element c.args.e.now) y k place c.args.nexts.now
           c.in_ok-fs-in-Compound.fs.items c.as_slice-in-Compound.result.now fs.items (λ n. table.elem m None None y (k n) vars place.scope place.scope)
           (ap element c.in-Compound.is ∙ element-Compound _ _ _ ∙ ap (λ (z : List (List Elem)). bodies.Compound c.in-Compound.h (bodies_of z) c.in-Compound.tail) (sym c.as_slice-bodies.ensures)) refl c.as_slice-in-Compound.ensures.value
-          (past-each m a c.compound.new.parts b before c.in_ok-f-in-Compound.f (compound_at m c.in-Compound.h (bodies_of c.as_slice-bodies.result.now) c.in-Compound.tail vars place.scope)
+          (past-each m a c.compound.new.parts b c.in_ok-f-in-Compound.f (compound_at m c.in-Compound.h (bodies_of c.as_slice-bodies.result.now) c.in-Compound.tail vars place.scope)
           c.args.nexts.now c.in_ok-fs-in-Compound.fs.items place.scope c.requires c.in_ok-f-in-Compound.ensures.made c.in_ok-fs-in-Compound.ensures.made)
           (λ n s u. elem-at m after y (k n) vars place.scope place c.as_slice-vars.ensures refl s u) h) c.part_each-in-Compound.ensures.made;
     }
@@ -419,8 +421,7 @@ suffix-returns-in_ok-fs-in-Block t c =
     let m = setting_at c.args.m.now in
     let a = c.args.parts.now in
     let after = element_or_none (option_copied c.args.after) in
-    let before = element_or_none (option_copied c.args.before) in
-    let k = λ (n : Made). follow_of (plains a) m before n in
+    let k = λ (n : Made). next_of (plains a) m n in
     let place = c.args.place.now in
     let vars = c.as_slice-vars.result.now in
     let b = c.past_each-in-Block.new.parts in
@@ -430,7 +431,7 @@ suffix-returns-in_ok-fs-in-Block t c =
           (λ fs h. row-each m a b c.part_each-in-Block.new.parts after (element c.args.e.now) y k place c.args.nexts.now
           c.in_ok-fs-in-Block.fs.items c.as_slice-in-Block-2.result.now fs.items (λ n. table.elem m None None y (k n) vars place.scope place.scope)
           (ap element c.in-Block.is ∙ element-Block _ _ _ ∙ ap (λ (z : List Elem). bodies.Block c.in-Block.o (body z) c.in-Block.c) (sym c.as_slice-in-Block.ensures)) refl c.as_slice-in-Block-2.ensures.value
-          (past-each m a c.block.new.parts b before c.in_ok-f-in-Block.f (block_at m c.in-Block.o (body c.as_slice-in-Block.result.now) c.in-Block.c vars place.scope)
+          (past-each m a c.block.new.parts b c.in_ok-f-in-Block.f (block_at m c.in-Block.o (body c.as_slice-in-Block.result.now) c.in-Block.c vars place.scope)
           c.args.nexts.now c.in_ok-fs-in-Block.fs.items place.scope c.requires c.in_ok-f-in-Block.ensures.made c.in_ok-fs-in-Block.ensures.made)
           (λ n s u. elem-at m after y (k n) vars place.scope place c.as_slice-vars.ensures refl s u) h) c.part_each-in-Block.ensures.made;
     }
@@ -440,8 +441,7 @@ suffix-returns-in_ok-fs-in-AnyOf t c =
     let m = setting_at c.args.m.now in
     let a = c.args.parts.now in
     let after = element_or_none (option_copied c.args.after) in
-    let before = element_or_none (option_copied c.args.before) in
-    let k = λ (n : Made). follow_of (plains a) m before n in
+    let k = λ (n : Made). next_of (plains a) m n in
     let place = c.args.place.now in
     let vars = c.as_slice-vars.result.now in
     let b = c.choice.new.parts in
@@ -460,8 +460,7 @@ suffix-returns-in_ok-fs-in-AllOf t c =
     let m = setting_at c.args.m.now in
     let a = c.args.parts.now in
     let after = element_or_none (option_copied c.args.after) in
-    let before = element_or_none (option_copied c.args.before) in
-    let k = λ (n : Made). follow_of (plains a) m before n in
+    let k = λ (n : Made). next_of (plains a) m n in
     let place = c.args.place.now in
     let vars = c.as_slice-vars.result.now in
     let b = c.every.new.parts in
@@ -480,8 +479,7 @@ suffix-returns-in_ok-whens-in-Gap t c =
     let m = setting_at c.args.m.now in
     let a = c.args.parts.now in
     let after = element_or_none (option_copied c.args.after) in
-    let before = element_or_none (option_copied c.args.before) in
-    let k = λ (n : Made). follow_of (plains a) m before n in
+    let k = λ (n : Made). next_of (plains a) m n in
     let place = c.args.place.now in
     let vars = c.as_slice-vars.result.now in
     let b = c.when_parts.new.parts in
@@ -490,12 +488,11 @@ suffix-returns-in_ok-whens-in-Gap t c =
     record {
       made = IfOk-weaker c.dots_each.result _ _
           (λ fs h. dots-each m a b c.dots_each.new.parts after (element c.args.e.now) (bodies.Gap (dots_of d).whens (dots_of d).any (dots_of d).strict)
-          k (λ n. follow_of (plains b) m before n) place c.args.nexts.now fs.items
-          (parts_at b c.as_slice-whens.result.now) (table.when_parts m (dots_of d).whens place.scope) (dots_of d).any (dots_of d).strict None
+          k (λ n. next_of (plains b) m n) place c.args.nexts.now fs.items
+          (parts_at b c.in_ok-whens-in-Gap.whens.items) (table.when_parts m (dots_of d).whens place.scope) (dots_of d).any (dots_of d).strict None
           (ap element c.in-Gap.is ∙ element-Gap d) refl whens.grows
-          (ap (parts_at b) c.as_slice-whens.ensures.value
-          ∙ whens-are m a b c.in_ok-whens-in-Gap.whens.items d c.as_slice-in-Gap.result.now place.scope place c.as_slice-in-Gap.ensures refl whens)
-          c.requires (λ n w. follow-stays a b m before n whens.grows w)
+          (whens-are m a b c.in_ok-whens-in-Gap.whens.items d c.as_slice-in-Gap.result.now place.scope place c.as_slice-in-Gap.ensures refl whens)
+          c.requires (λ n w. follow-stays a b m n whens.grows w)
           (λ n s u. refl) h) c.dots_each.ensures.made;
     }
 
@@ -504,8 +501,7 @@ suffix-returns-in_ok-whens-in-Nest t c =
     let m = setting_at c.args.m.now in
     let a = c.args.parts.now in
     let after = element_or_none (option_copied c.args.after) in
-    let before = element_or_none (option_copied c.args.before) in
-    let k = λ (n : Made). follow_of (plains a) m before n in
+    let k = λ (n : Made). next_of (plains a) m n in
     let place = c.args.place.now in
     let vars = c.as_slice-vars.result.now in
     let b = c.when_parts-in-Nest.new.parts in
@@ -522,13 +518,12 @@ suffix-returns-in_ok-whens-in-Nest t c =
       made = IfOk-weaker c.dots_each-in-Nest.result _ _
           (λ fs h. dots-each m a b c.dots_each-in-Nest.new.parts after (element c.args.e.now)
           (bodies.Nest c.in-Nest.plus (body c.in-Nest.b) (dots_of d).whens (dots_of d).any (dots_of d).strict)
-          k (λ n. follow_of (plains b) m before n) place c.args.nexts.now fs.items
-          (parts_at b c.as_slice-whens-in-Nest.result.now) held (dots_of d).any (dots_of d).strict
+          k (λ n. next_of (plains b) m n) place c.args.nexts.now fs.items
+          (parts_at b c.in_ok-whens-in-Nest.whens.items) held (dots_of d).any (dots_of d).strict
           (Some (record { plus = c.in-Nest.plus; part = c.in_ok-part-in-Nest.part }))
           (ap element c.in-Nest.is ∙ element-Nest c.in-Nest.plus c.in-Nest.b d) refl grown
-          (ap (parts_at b) c.as_slice-whens-in-Nest.ensures.value
-          ∙ whens-are m c.nest.new.parts b c.in_ok-whens-in-Nest.whens.items d c.as_slice-in-Nest-2.result.now place.scope place c.as_slice-in-Nest-2.ensures refl whens)
-          c.requires (λ n w. follow-stays a b m before n grown w)
+          (whens-are m c.nest.new.parts b c.in_ok-whens-in-Nest.whens.items d c.as_slice-in-Nest-2.result.now place.scope place c.as_slice-in-Nest-2.ensures refl whens)
+          c.requires (λ n w. follow-stays a b m n grown w)
           (λ n s u. ap (λ (z : Plain). table.exists_all place.here (table.nested m.forall_walks c.in-Nest.plus (dots_of d).strict
           (table.condition (dots_of d).any held (table.near_option m true s (u ++ place.here)) (table.near_option m false after place.scope)) z
           (table.target (k n).start ((k n).at place.scope)))) part) h)

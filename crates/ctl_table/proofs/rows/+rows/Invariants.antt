@@ -1,5 +1,4 @@
 use Rattle.std.proofs.Common.{◌+◌, ◌<◌, drop, take, length}
-use Rattle.std.specs.Option.{option_copied}
 use Rattle.smpl_patch.specs.Bodies.{body, element}
 use Rattle.smpl_patch.proofs.BodyLemmas.{bodies}
 use Rattle.ctl_table.specs.Table as table
@@ -60,7 +59,7 @@ abbrev pub invariant-branches-loop-b : goal.invariant-branches-loop-b
 invariant-branches-loop-b l =
     MakesColumns l.initial.parts l.parts l.nexts l.rows.items
     (λ n. table.each (setting_at l.m) (bodies (take l.b-index l.bs))
-    (follow l.initial.parts l.m (option_copied l.before) n) l.vars l.scope)
+    (follow l.initial.parts l.m n) l.vars l.scope)
 
 abbrev pub invariant-when_parts-loop-w : goal.invariant-when_parts-loop-w
 invariant-when_parts-loop-w l =
@@ -74,5 +73,5 @@ abbrev pub invariant-suffixes-loop-i : goal.invariant-suffixes-loop-i
 invariant-suffixes-loop-i l =
     (l.i < length l.b)
     × MakesFollows (setting_at l.m) l.fn.parts l.parts l.nexts l.made.items
-    (λ n. begins (drop l.i l.b) (follow l.fn.parts l.m (option_copied l.before) n).start)
-    (λ n. along (setting_at l.m) (follow l.fn.parts l.m (option_copied l.before) n) (drop l.i l.b) (drop l.i l.places))
+    (λ n. begins (drop l.i l.b) (follow l.fn.parts l.m n).start)
+    (λ n. along (setting_at l.m) (follow l.fn.parts l.m n) (drop l.i l.b) (drop l.i l.places))

@@ -18,11 +18,11 @@ returns c =
     let other : Reading → Body → Var → Bool = λ d b x. not (is_alone d b x) in
     record {
       made = subst (λ (z : Plain). IfOk c.sequence.result (λ i. Makes c.args.parts.now c.sequence.new.parts i z))
-          (rule-formula r decls tokens c.ranges_over_all-forall_walks.result xs c.args.found.now.alone c.as_slice-blocks.result.now c.as_slice-b.result.now
+          (rule-formula r decls tokens c.ranges_over_all-forall_walks.result xs c.args.found.now.alone c.in_ok-blocks.blocks c.as_slice-b.result.now
           c.as_slice-placed.result.now c.in_ok-around.around
           c.requires.decls c.requires.tokens c.ranges_over_all-forall_walks.ensures c.requires.locals
           (c.requires.alone ∙ kept-is is_alone r decls tokens r.body xs c.requires.decls c.requires.tokens refl c.requires.locals)
-          (c.as_slice-blocks.ensures.value ∙ c.in_ok-blocks.ensures ∙ ap (λ z. blocks (body z)) c.as_slice-b.ensures) c.as_slice-b.ensures
+          (c.in_ok-blocks.ensures ∙ ap (λ z. blocks (body z)) c.as_slice-b.ensures) c.as_slice-b.ensures
           (c.as_slice-placed.ensures ∙ c.requires.placed ∙ kept-is other r decls tokens r.body xs c.requires.decls c.requires.tokens refl c.requires.locals)
           c.in_ok-around.ensures)
           c.sequence.ensures.made;

@@ -1,0 +1,217 @@
+-- The atoms beside dots: the equations of their definitions, and that they stay what they are while the table grows.
+use Rattle.std.proofs.Common.{◌≡◌, ℕ, zero, suc, ◌<◌, ◌≤◌, Bool, true, false, cond, not, ◌||◌, nat_lt, arith, refl, sym, ap, subst, ◌∙◌, List, [], ◌∷◌, ◌++◌, map, length, take, get_or, ◌+◌, Option, Some}
+use Rattle.std.specs.List.{filter, list_any}
+use Rattle.std.proofs.Math.Seq.{take-length}
+use Rattle.std.proofs.lemmas.List.{map-append, take_more}
+use Rattle.c_terms.specs.Trees.{greatest}
+use Rattle.smpl_terms.specs.declared.var.Var.{Var}
+use Rattle.smpl_terms.specs.Vars.{same_var}
+use Rattle.smpl_terms.proofs.VarLaws.{same_var-equal, same_var-refl}
+use Rattle.pattern_vars.specs.Reads.{has}
+use Rattle.ctl_formula.specs.Plain.{Plain}
+use Rattle.ctl_formula.specs.declared.node.Node.{Node}
+use Rattle.ctl_formula.specs.Tables.{at, plains, Grows}
+use Rattle.ctl_formula.proofs.TableLemmas.{and-left, and-right, lt-true}
+use Rattle.ctl_table.specs.Table.{Scope, in_scope, exists_all, option_list, or_some}
+use Rattle.ctl_table.specs.declared.beside.Beside.{Beside}
+use Rattle.ctl_table.specs.declared.beside.Beside.TheOpen.{Beside-F}
+use Rattle.ctl_table.specs.declared.beside.Beside.TheViews.{roll-Beside}
+use Rattle.ctl_table.specs.declared.beside.Beside.TheVariants.{Atom, Any, rolls-Atom, rolls-Any}
+use Rattle.ctl_table.specs.declared.beside.Beside.TheFolds.{fold-Beside, fold-roll-Beside, ind-Beside, claims, map-Beside}
+use Rattle.ctl_table.specs.declared.beside.Beside.TheBlock.{the_family, member-Beside}
+use denote.Hole.Holds.{Such}
+use Rattle.ctl_table.specs.Beside.{beside_step, beside_at, besides_at, names_step, names_in, below_step, beside_below, besides_below}
+use Rattle.ctl_table.proofs.MakingLemmas.{stays, stands-still, lt-test, both-true}
+
+-- induction
+
+abbrev Each : (Beside → Type 0) → List Beside → Type 0
+Each P [] = Unit {0}
+Each P (b ∷ bs) = P b × Each P bs
+
+abbrev Known : (Beside → Type 0) → Type 0
+Known P = Such the_family (claims P) member-Beside
+
+known : (P : Beside → Type 0) (es : List (Known P)) → Each P (map (λ e. e.0) es)
+known P [] = tt
+known P (e ∷ es) = (e.1, known P es)
+
+layer : (P : Beside → Type 0) → ((i : ℕ) (vars : List Var) → P (Atom i vars)) → ((bs : List Beside) → Each P bs → P (Any bs))
+    → (y : Beside-F (Known P)) → P (roll-Beside (map-Beside (Known P) Beside (λ e. e.0) y))
+layer P atom any (Beside-F.Atom i vars) = subst P (sym (rolls-Atom i vars)) (atom i vars)
+layer P atom any (Beside-F.Any es) = subst P (sym (rolls-Any (map (λ e. e.0) es))) (any (map (λ e. e.0) es) (known P es))
+
+induction : (P : Beside → Type 0) → ((i : ℕ) (vars : List Var) → P (Atom i vars)) → ((bs : List Beside) → Each P bs → P (Any bs)) → (b : Beside) → P b
+induction P atom any = ind-Beside P (λ x y e. subst (λ z. P (roll-Beside z)) e (layer P atom any y))
+
+-- equations
+
+pub at-Atom : (fs : List Plain) (i : ℕ) (vars : List Var) (s : Scope) → beside_at fs (Atom i vars) s ≡ Some (exists_all (filter (λ x. not (in_scope s x)) vars) (at fs i))
+at-Atom fs i vars s = ap (λ z. beside_at fs z s) (sym (rolls-Atom i vars)) ∙ ap (λ (f : Scope → Option Plain). f s) (fold-roll-Beside (Scope → Option Plain) (beside_step fs) _)
+
+pub at-Any : (fs : List Plain) (bs : List Beside) (s : Scope) → beside_at fs (Any bs) s ≡ or_some (besides_at fs bs s)
+at-Any fs bs s = ap (λ z. beside_at fs z s) (sym (rolls-Any bs)) ∙ ap (λ (f : Scope → Option Plain). f s) (fold-roll-Beside (Scope → Option Plain) (beside_step fs) _)
+
+pub below-Atom : (n i : ℕ) (vars : List Var) → beside_below n (Atom i vars) ≡ nat_lt i n
+below-Atom n i vars = ap (beside_below n) (sym (rolls-Atom i vars)) ∙ fold-roll-Beside Bool (below_step n) _
+
+pub below-Any : (n : ℕ) (bs : List Beside) → beside_below n (Any bs) ≡ besides_below n bs
+below-Any n bs = ap (beside_below n) (sym (rolls-Any bs)) ∙ fold-roll-Beside Bool (below_step n) _
+
+-- while the table grows
+
+each-stand : (a b : List Node) (bs : List Beside) → Each (λ d. beside_below (length a) d ≡ true → beside_below (length b) d ≡ true) bs
+    → besides_below (length a) bs ≡ true → besides_below (length b) bs ≡ true
+each-stand a b [] e h = refl
+each-stand a b (d ∷ bs) e h =
+    both-true (beside_below (length b) d) (besides_below (length b) bs)
+    (e.0 (and-left (beside_below (length a) d) (besides_below (length a) bs) h))
+    (each-stand a b bs e.1 (and-right (beside_below (length a) d) (besides_below (length a) bs) h))
+
+pub beside-stands : (a b : List Node) → Grows a b → (d : Beside) → beside_below (length a) d ≡ true → beside_below (length b) d ≡ true
+beside-stands a b g = induction (λ d. beside_below (length a) d ≡ true → beside_below (length b) d ≡ true)
+    (λ i vars h. below-Atom (length b) i vars ∙ lt-test i (length b) (stands-still a b i g (lt-true i (length a) (sym (below-Atom (length a) i vars) ∙ h))))
+    (λ bs e h. below-Any (length b) bs ∙ each-stand a b bs e (sym (below-Any (length a) bs) ∙ h))
+
+each-stay : (a b : List Node) (s : Scope) (bs : List Beside) → Each (λ d. beside_below (length a) d ≡ true → beside_at (plains b) d s ≡ beside_at (plains a) d s) bs
+    → besides_below (length a) bs ≡ true → besides_at (plains b) bs s ≡ besides_at (plains a) bs s
+each-stay a b s [] e h = refl
+each-stay a b s (d ∷ bs) e h =
+    ap (λ (z : Option Plain). option_list z ++ besides_at (plains b) bs s) (e.0 (and-left (beside_below (length a) d) (besides_below (length a) bs) h))
+    ∙ ap (λ (z : List Plain). option_list (beside_at (plains a) d s) ++ z)
+    (each-stay a b s bs e.1 (and-right (beside_below (length a) d) (besides_below (length a) bs) h))
+
+pub beside-stays : (a b : List Node) (s : Scope) → Grows a b → (d : Beside) → beside_below (length a) d ≡ true → beside_at (plains b) d s ≡ beside_at (plains a) d s
+beside-stays a b s g = induction (λ d. beside_below (length a) d ≡ true → beside_at (plains b) d s ≡ beside_at (plains a) d s)
+    (λ i vars h.
+    at-Atom (plains b) i vars s
+    ∙ ap (λ (z : Plain). Some (exists_all (filter (λ x. not (in_scope s x)) vars) z)) (stays a b i g (lt-true i (length a) (sym (below-Atom (length a) i vars) ∙ h)))
+    ∙ sym (at-Atom (plains a) i vars s))
+    (λ bs e h. at-Any (plains b) bs s ∙ ap or_some (each-stay a b s bs e (sym (below-Any (length a) bs) ∙ h)) ∙ sym (at-Any (plains a) bs s))
+
+pub besides-stand : (a b : List Node) → Grows a b → (bs : List Beside) → besides_below (length a) bs ≡ true → besides_below (length b) bs ≡ true
+besides-stand a b g [] h = refl
+besides-stand a b g (d ∷ bs) h =
+    both-true (beside_below (length b) d) (besides_below (length b) bs)
+    (beside-stands a b g d (and-left (beside_below (length a) d) (besides_below (length a) bs) h))
+    (besides-stand a b g bs (and-right (beside_below (length a) d) (besides_below (length a) bs) h))
+
+pub besides-stay : (a b : List Node) (s : Scope) → Grows a b → (bs : List Beside) → besides_below (length a) bs ≡ true → besides_at (plains b) bs s ≡ besides_at (plains a) bs s
+besides-stay a b s g [] h = refl
+besides-stay a b s g (d ∷ bs) h =
+    ap (λ (z : Option Plain). option_list z ++ besides_at (plains b) bs s) (beside-stays a b s g d (and-left (beside_below (length a) d) (besides_below (length a) bs) h))
+    ∙ ap (λ (z : List Plain). option_list (beside_at (plains a) d s) ++ z)
+    (besides-stay a b s g bs (and-right (beside_below (length a) d) (besides_below (length a) bs) h))
+
+-- which variables the atoms have
+
+pub names-Atom : (i : ℕ) (vars : List Var) (x : Var) → names_in (Atom i vars) x ≡ has vars x
+names-Atom i vars x = ap (λ z. names_in z x) (sym (rolls-Atom i vars)) ∙ ap (λ (f : Var → Bool). f x) (fold-roll-Beside (Var → Bool) names_step _)
+
+pub names-Any : (bs : List Beside) (x : Var) → names_in (Any bs) x ≡ list_any (λ f. f x) (map names_in bs)
+names-Any bs x = ap (λ z. names_in z x) (sym (rolls-Any bs)) ∙ ap (λ (f : Var → Bool). f x) (fold-roll-Beside (Var → Bool) names_step _)
+
+pub or-right : (a b : Bool) → b ≡ true → (a || b) ≡ true
+or-right true b h = refl
+or-right false b h = h
+
+pub or-left : (a b : Bool) → a ≡ true → (a || b) ≡ true
+or-left a b h = ap (λ z. z || b) h
+
+filter-on : (p q : Var → Bool) (vars : List Var) → ((x : Var) → has vars x ≡ true → p x ≡ q x) → filter p vars ≡ filter q vars
+filter-on p q [] e = refl
+filter-on p q (v ∷ vs) e =
+    ap (λ (z : Bool). cond z (v ∷ filter p vs) (filter p vs)) (e v (or-left (same_var v v) (has vs v) (same_var-refl v)))
+    ∙ ap (λ (z : List Var). cond (q v) (v ∷ z) z) (filter-on p q vs (λ x h. e x (or-right (same_var v x) (has vs x) h)))
+
+each-cong : (fs : List Plain) (s t : Scope) (bs : List Beside)
+    → Each (λ b. ((x : Var) → names_in b x ≡ true → in_scope s x ≡ in_scope t x) → beside_at fs b s ≡ beside_at fs b t) bs
+    → ((x : Var) → list_any (λ f. f x) (map names_in bs) ≡ true → in_scope s x ≡ in_scope t x) → besides_at fs bs s ≡ besides_at fs bs t
+each-cong fs s t [] e h = refl
+each-cong fs s t (b ∷ bs) e h =
+    ap (λ (z : Option Plain). option_list z ++ besides_at fs bs s) (e.0 (λ x n. h x (or-left (names_in b x) (list_any (λ f. f x) (map names_in bs)) n)))
+    ∙ ap (λ (z : List Plain). option_list (beside_at fs b t) ++ z)
+    (each-cong fs s t bs e.1 (λ x n. h x (or-right (names_in b x) (list_any (λ f. f x) (map names_in bs)) n)))
+
+-- two scopes that have the same of the atoms' variables
+pub beside-cong : (fs : List Plain) (s t : Scope) (b : Beside) → ((x : Var) → names_in b x ≡ true → in_scope s x ≡ in_scope t x) → beside_at fs b s ≡ beside_at fs b t
+beside-cong fs s t = induction (λ b. ((x : Var) → names_in b x ≡ true → in_scope s x ≡ in_scope t x) → beside_at fs b s ≡ beside_at fs b t)
+    (λ i vars h.
+    at-Atom fs i vars s
+    ∙ ap (λ (z : List Var). Some (exists_all z (at fs i)))
+    (filter-on (λ x. not (in_scope s x)) (λ x. not (in_scope t x)) vars (λ x n. ap not (h x (names-Atom i vars x ∙ n))))
+    ∙ sym (at-Atom fs i vars t))
+    (λ bs e h.
+    at-Any fs bs s ∙ ap or_some (each-cong fs s t bs e (λ x n. h x (names-Any bs x ∙ n))) ∙ sym (at-Any fs bs t))
+
+-- of what is quantified, those that the atoms have
+pub inner-same : (names more : List Var) (x : Var) → has names x ≡ true → in_scope (filter (has names) more) x ≡ in_scope more x
+inner-same names [] x h = refl
+inner-same names (y ∷ ys) x h = by (has names y) refl (inner-same names ys x h)
+  where
+    apart : (b : Bool) → same_var y x ≡ b → has names y ≡ false → b ≡ false
+    apart false e n = refl
+    apart true e n = absurd (let q : has names y ≡ true = ap (has names) (same_var-equal y x e) ∙ h in cc)
+
+    by : (b : Bool) → has names y ≡ b → in_scope (filter (has names) ys) x ≡ in_scope ys x
+        → in_scope (cond b (y ∷ filter (has names) ys) (filter (has names) ys)) x ≡ (same_var y x || in_scope ys x)
+    by true e r = ap (λ z. same_var y x || z) r
+    by false e r = r ∙ sym (ap (λ z. z || in_scope ys x) (apart (same_var y x) refl e))
+
+-- how deep these are within one another: what a recursion over them goes down by
+
+abbrev levels_step : Beside-F ℕ → ℕ
+levels_step (Beside-F.Atom i vars) = 0
+levels_step (Beside-F.Any ns) = suc (greatest ns)
+
+abbrev pub levels : Beside → ℕ
+levels = fold-Beside ℕ levels_step
+
+levels-item : (xs : List Beside) (i : ℕ) (x d : Beside) → i < length xs → x ≡ get_or xs i d → levels x ≤ greatest (map levels xs)
+levels-item [] i x d l q = absurd (omega (arith, l))
+levels-item (y ∷ xs) zero x d l q = let e = ap levels q in omega (arith, e)
+levels-item (y ∷ xs) (suc i) x d l q = let e = levels-item xs i x d (omega (arith, l)) q in omega (arith, e)
+
+pub levels-falls : (b : Beside) (ds xs : List Beside) (i : ℕ) (x d : Beside) → b ≡ Any ds → xs ≡ ds → i < length xs → x ≡ get_or xs i d → levels x < levels b
+levels-falls b ds xs i x d e q l o =
+    let w = levels-item xs i x d l o in
+    let v : levels b ≡ suc (greatest (map levels xs)) =
+    ap levels e ∙ ap levels (sym (rolls-Any ds)) ∙ fold-roll-Beside ℕ levels_step _ ∙ ap (λ (z : List Beside). suc (greatest (map levels z))) (sym q) in
+    omega (arith, w, v)
+
+-- the variables of several, one after another
+
+list_any-more : (fs gs : List (Var → Bool)) (y : Var) → list_any (λ f. f y) (fs ++ gs) ≡ (list_any (λ f. f y) fs || list_any (λ f. f y) gs)
+list_any-more [] gs y = refl
+list_any-more (f ∷ fs) gs y = ap (λ (z : Bool). f y || z) (list_any-more fs gs y) ∙ or-assoc (f y) (list_any (λ f. f y) fs) (list_any (λ f. f y) gs)
+  where
+    or-assoc : (a b c : Bool) → (a || (b || c)) ≡ ((a || b) || c)
+    or-assoc true b c = refl
+    or-assoc false b c = refl
+
+or-last : (a b c : Bool) → ((a || b) || c) ≡ (a || (b || (c || false)))
+or-last true b c = refl
+or-last false true c = refl
+or-last false false true = refl
+or-last false false false = refl
+
+pub names-step : (xs : List Beside) (i : ℕ) (x d : Beside) (y : Var) (old before now : Bool) → i < length xs → x ≡ get_or xs i d
+    → before ≡ (old || list_any (λ f. f y) (map names_in (take i xs))) → now ≡ (before || names_in x y)
+    → now ≡ (old || list_any (λ f. f y) (map names_in (take (i + 1) xs)))
+names-step xs i x d y old before now l q h w =
+    let front = list_any (λ f. f y) (map names_in (take i xs)) in
+    let whole : (front || (names_in x y || false)) ≡ list_any (λ f. f y) (map names_in (take (i + 1) xs)) =
+    sym (list_any-more (map names_in (take i xs)) (names_in x ∷ []) y)
+    ∙ ap (λ (z : List (Var → Bool)). list_any (λ f. f y) z) (sym (map-append names_in (take i xs) (x ∷ []))
+    ∙ ap (map names_in) (ap (λ (z : Beside). take i xs ++ z ∷ []) q ∙ sym (take_more xs i d l))) in
+    w ∙ ap (λ (z : Bool). z || names_in x y) h ∙ or-last old front (names_in x y) ∙ ap (λ (z : Bool). old || z) whole
+
+pub names-whole : (b : Beside) (ds xs : List Beside) (i : ℕ) (y : Var) → b ≡ Any ds → xs ≡ ds → i ≡ length xs
+    → list_any (λ f. f y) (map names_in (take i xs)) ≡ names_in b y
+names-whole b ds xs i y e q l =
+    ap (λ (z : List Beside). list_any (λ f. f y) (map names_in z)) (ap (λ (k : ℕ). take k xs) l ∙ take-length xs ∙ q)
+    ∙ sym (names-Any ds y) ∙ sym (ap (λ (z : Beside). names_in z y) e)
+
+pub or-nothing : (a : Bool) → a ≡ (a || false)
+or-nothing true = refl
+or-nothing false = refl

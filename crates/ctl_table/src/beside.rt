@@ -1,0 +1,207 @@
+// The atoms of an element that stand beside dots, as they are come to from a scope.
+ghost use Rattle.std.specs.Prelude.{◌≡◌, ◌<◌, ◌++◌, ◌||◌, Bool, true, not, length, IfOk, OnOk};
+ghost use Rattle.std.specs.List.{filter};
+ghost use Rattle.smpl_terms.specs.declared.var.Var.{Var as Variable};
+ghost use Rattle.pattern_vars.specs.Reads.{has};
+ghost use Rattle.ctl_formula.specs.Tables.{at, plains, Makes};
+ghost use Rattle.ctl_table.specs.Table as table;
+ghost use Rattle.ctl_table.specs.Beside.{beside_at, beside_below, names_in};
+ghost use Rattle.ctl_table.specs.Settings.{option_numbers, from_inner, before_at, before_below};
+ghost use Rattle.ctl_table.specs.Settings.{neighbours_at, neighbours_below, MakesNeighbours, MakesSome};
+
+use crate::wrap::{exists_all, or_some};
+use c_terms::NoMemory;
+use ctl_formula::Parts;
+use pattern_vars::{VarSet, put_vars};
+use smpl_terms::{Shared, Var};
+use sqlite_items::Items;
+use std::alloc::Global;
+use var_places::{Scope, among};
+
+/// The last or the first atoms of an element. Their parts are made but for their quantifiers, which go by what is quantified
+/// where the dots beside the element are come to.
+#[derive(Drop)]
+pub enum Beside {
+    /// An atom's part, and those of its local variables that aren't quantified around the element.
+    Atom(usize, Items<Var>),
+    /// One of these.
+    Any(Items<Beside>),
+}
+
+/// The last atoms of an element, for dots behind it.
+#[derive(Drop)]
+pub struct Neighbours {
+    pub atoms: Beside,
+    /// Those of their local variables that aren't quantified around the element.
+    pub names: VarSet,
+    /// Their part where none of these variables is quantified inside the element; none where there are no atoms.
+    pub alone: Option<usize>,
+    /// How many variables are quantified around the element.
+    pub around: usize,
+}
+
+/// Those of the variables that the set lacks.
+fn outside(alloc: Global, inner: &VarSet, vars: &[Var]) -> Result<Items<Var>, NoMemory>
+    ensures { IfOk result (λ found. found ≡ filter (λ x. not (table.in_scope inner.now x)) vars.now) }
+{
+    let mut found = Items::new(alloc);
+    for x in vars {
+        let there = inner.has(alloc, x)?;
+        if !there {
+            found.push(x.copy(alloc)?)?;
+        }
+    }
+    Ok(found)
+}
+
+/// An atom's part with the quantifiers of those of its variables that aren't among these.
+fn atom_at(
+    alloc: Global,
+    parts: &mut Parts,
+    f: usize,
+    vars: &[Var],
+    inner: &VarSet,
+) -> Result<usize, NoMemory>
+    requires { f < length parts.old }
+    ensures made { IfOk result (λ i. Makes parts.old parts.new i
+        (table.exists_all (filter (λ x. not (table.in_scope inner.now x)) vars.now) (at (plains parts.old) f))) }
+{
+    let here = outside(alloc, inner, vars)?;
+    exists_all(alloc, parts, here.as_slice(), f)
+}
+
+/// The atoms as they stand in the condition of dots, where these variables are quantified inside the element. Each of the
+/// atoms' variables is looked up among them.
+pub fn at_inner(
+    alloc: Global,
+    parts: &mut Parts,
+    beside: &Beside,
+    inner: &VarSet,
+) -> Result<Option<usize>, NoMemory>
+    requires { beside_below (length parts.old) beside.now ≡ true }
+    ensures made { IfOk result (λ found. MakesSome parts.old parts.new found
+        (beside_at (plains parts.old) beside.now inner.now)) }
+{
+    match beside {
+        Beside::Atom(f, vars) => Ok(Some(atom_at(alloc, parts, *f, vars.as_slice(), inner)?)),
+        Beside::Any(several) => {
+            let mut found = Vec::new(alloc);
+            for one in several.as_slice() {
+                let f = at_inner(alloc, parts, one, inner)?;
+                push_some(f, &mut found)?;
+            }
+            or_some(parts, found.as_slice())
+        }
+    }
+}
+
+fn push_some(f: Option<usize>, found: &mut Vec<usize>) -> Result<(), NoMemory>
+    ensures { OnOk result (found.new.items ≡ found.old.items ++ option_numbers f) }
+{
+    if let Some(f) = f {
+        found.push(f)?;
+    }
+    Ok(())
+}
+
+/// Puts in the variables that are kept with the atoms.
+fn put_names(alloc: Global, beside: &Beside, names: &mut VarSet) -> Result<(), NoMemory>
+    ensures { OnOk result ((y : Variable) → has names.new y ≡ (has names.old y || names_in beside.now y)) }
+{
+    match beside {
+        Beside::Atom(_, vars) => put_vars(alloc, vars.as_slice(), names),
+        Beside::Any(several) => {
+            for one in several.as_slice() {
+                put_names(alloc, one, names)?;
+            }
+            Ok(())
+        }
+    }
+}
+
+/// The atoms, for dots behind their element.
+pub fn neighbours_of(
+    alloc: Global,
+    parts: &mut Parts,
+    atoms: Beside,
+    scope: &Scope,
+) -> Result<Neighbours, NoMemory>
+    requires { beside_below (length parts.old) atoms ≡ true }
+    ensures made { IfOk result (λ found. MakesNeighbours parts.old parts.new scope.now atoms found) }
+{
+    let around = scope.len()?;
+    let alone = at_inner(alloc, parts, &atoms, &VarSet::new(alloc))?;
+    let mut names = VarSet::new(alloc);
+    put_names(alloc, &atoms, &mut names)?;
+    Ok(Neighbours {
+        atoms,
+        names,
+        alone,
+        around,
+    })
+}
+
+/// These variables as a set.
+fn set_of(alloc: Global, vars: &[Var]) -> Result<VarSet, NoMemory>
+    ensures { IfOk result (λ set. (y : Variable) → has set y ≡ has vars.now y) }
+{
+    let mut set = VarSet::new(alloc);
+    put_vars(alloc, vars, &mut set)?;
+    Ok(set)
+}
+
+/// The atoms, where these of their variables are quantified inside the element. Where there are none, nothing is looked up.
+fn where_inner(
+    alloc: Global,
+    parts: &mut Parts,
+    n: &Neighbours,
+    inner: &[Var],
+) -> Result<Option<usize>, NoMemory>
+    requires { neighbours_below (length parts.old) n.now ≡ true }
+    ensures made { IfOk result (λ found. MakesSome parts.old parts.new found
+        (from_inner (plains parts.old) n.now inner.now)) }
+{
+    if inner.len() == 0 {
+        return Ok(n.alone);
+    }
+    let inner = set_of(alloc, inner)?;
+    at_inner(alloc, parts, &n.atoms, &inner)
+}
+
+/// The atoms as they stand in the condition of dots behind their element, from this scope. Where they have local variables,
+/// each that the scope has besides those around the element is looked up; the atoms are gone over where one of them is theirs.
+fn from_scope(
+    alloc: Global,
+    parts: &mut Parts,
+    n: &Neighbours,
+    scope: &Scope,
+) -> Result<Option<usize>, NoMemory>
+    requires { neighbours_below (length parts.old) n.now ≡ true }
+    ensures made { IfOk result (λ found. MakesSome parts.old parts.new found
+        (neighbours_at (plains parts.old) n.now scope.now)) }
+{
+    if n.names.len() == 0 {
+        return Ok(n.alone);
+    }
+    let more = scope.since(alloc, n.around)?;
+    let inner = among(alloc, &n.names, more.as_slice())?;
+    where_inner(alloc, parts, n, inner.as_slice())
+}
+
+/// The last atoms of the element before dots, as they stand in the dots' condition from this scope; none where the dots know
+/// of no such atoms. Costs what `from_scope` says.
+pub fn before_dots(
+    alloc: Global,
+    parts: &mut Parts,
+    before: &Option<Shared<Neighbours>>,
+    scope: &Scope,
+) -> Result<Option<usize>, NoMemory>
+    requires { before_below (length parts.old) before.now ≡ true }
+    ensures made { IfOk result (λ found. MakesSome parts.old parts.new found
+        (before_at (plains parts.old) before.now scope.now)) }
+{
+    match before {
+        None => Ok(None),
+        Some(n) => from_scope(alloc, parts, n.get(), scope),
+    }
+}

@@ -89,6 +89,31 @@ def in_last_branches(levels, statements):
     return rule(["x"], "- z();\n" + body)
 
 
+def dots_behind_branches(branches, xs):
+    """Each branch is a call, and dots follow the disjunction, so each branch's end has the last calls of all beside them."""
+    calls = "|\n".join("  " + call(f"f{i}", arguments) for i, arguments in enumerate(branches))
+    return rule(xs, f"- z();\n(\n{calls})\n...\n  g();\n")
+
+
+def dots_behind_long_branches(count, arguments):
+    return dots_behind_branches([["x"] * arguments] * count, ["x"])
+
+
+def dots_behind_the_same_names(count, own):
+    xs = names(own)
+    return dots_behind_branches([xs] * count, xs)
+
+
+def dots_behind_own_names(count, own):
+    xs = names(count * own)
+    return dots_behind_branches([xs[i * own:(i + 1) * own] for i in range(count)], xs)
+
+
+def blocks(conditions, each):
+    body = "".join("  if (a) {\n" + "    {}\n" * each + "  }\n" for _ in range(conditions))
+    return rule(["x"], "- z(x);\n" + body)
+
+
 PATCHES = (
     ("3,000 pieces of `when` code, a name each", pieces(3000)),
     ("12,000 of them", pieces(12000)),
@@ -102,6 +127,10 @@ PATCHES = (
     ("10 disjunctions within one another, a statement behind each, innermost a call of 20,000 arguments", within_one_another(10, 20000)),
     ("11 of them, 100,000 arguments", within_one_another(11, 100000)),
     ("190 disjunctions, each in the last branch of another, innermost 1,000 statements", in_last_branches(190, 1000)),
+    ("100 branches of 3,000 arguments each, and dots behind them", dots_behind_long_branches(100, 3000)),
+    ("100 branches with the same 1,200 names, and dots behind them", dots_behind_the_same_names(100, 1200)),
+    ("250 branches with 200 names of their own each, and dots behind them", dots_behind_own_names(250, 200)),
+    ("25 conditions of 3,900 blocks each", blocks(25, 3900)),
 )
 
 

@@ -215,3 +215,12 @@ names-whole b ds xs i y e q l =
 pub or-nothing : (a : Bool) → a ≡ (a || false)
 or-nothing true = refl
 or-nothing false = refl
+
+-- what is quantified, and more
+pub in_more : (s more : List Var) (x : Var) → in_scope (s ++ more) x ≡ (in_scope s x || in_scope more x)
+in_more [] more x = refl
+in_more (y ∷ ys) more x = ap (λ (z : Bool). same_var y x || z) (in_more ys more x) ∙ or-assoc (same_var y x) (in_scope ys x) (in_scope more x)
+  where
+    or-assoc : (a b c : Bool) → (a || (b || c)) ≡ ((a || b) || c)
+    or-assoc true b c = refl
+    or-assoc false b c = refl

@@ -1,9 +1,9 @@
 -- What is made for each of some things, one after another.
 use Rattle.std.proofs.Common.{◌≡◌, ℕ, zero, suc, ◌+◌, ◌<◌, Bool, true, false, ◌||◌, arith, refl, sym, ap, subst, ◌∙◌, List, [], ◌∷◌, ◌++◌}
-use Rattle.std.proofs.Common.{map, length, take, drop, get_or, nat_lt, Option, None, Some, Result}
+use Rattle.std.proofs.Common.{map, length, length-append, take, drop, get_or, nat_lt, cond, ◌&&◌, ◌≤◌, append_assoc, append-nil, Option, None, Some, Result}
 use Rattle.std.specs.Result.{IfOk}
 use Rattle.std.specs.List.{filter, list_all, list_any}
-use Rattle.std.proofs.Math.Seq.{drop-append_seam}
+use Rattle.std.proofs.Math.Seq.{drop-append_seam, drop-append-le}
 use Rattle.std.proofs.lemmas.List.{map-append, take_more}
 use Rattle.smpl_terms.specs.declared.var.Var.{Var}
 use Rattle.pattern_vars.specs.Reads.{has}
@@ -13,14 +13,16 @@ use Rattle.ctl_formula.specs.declared.node.Node.{Node}
 use Rattle.ctl_formula.specs.Tables.{at, plains, Grows, Makes}
 use Rattle.ctl_formula.proofs.TableLemmas.{grows-refl, grows-trans, and-left, and-right, lt-true}
 use Rattle.ctl_table.specs.Table as table
+use Rattle.ctl_table.specs.declared.follow.MadeDots.{MadeDots}
 use Rattle.ctl_table.specs.declared.follow.Made.{Made}
+use Rattle.ctl_table.specs.declared.follow.Made.TheVariants as made
 use Rattle.ctl_table.specs.declared.beside.Beside.{Beside}
 use Rattle.ctl_table.specs.declared.beside.Neighbours.{Neighbours}
 use Rattle.ctl_table.specs.Beside.{beside_at, beside_below, names_in, MakesBeside}
-use Rattle.ctl_table.specs.Settings.{all_below, parts_at, made_below, all_made_below, some_below, some_at, from_inner, neighbours_at, neighbours_below, before_at, before_below, follow_of, next_of, looks_back, behind, Agree, Pairwise, MakesAll, MakesFollow, MakesSome, MakesFollows, MakesLast, MakesBehind, MakesNeighbours}
-use Rattle.ctl_table.proofs.MakingLemmas.{both-true}
-use Rattle.ctl_table.proofs.FollowLemmas.{made-stands, made-stays, behind-below, behind-agrees}
-use Rattle.ctl_table.proofs.BesideLemmas.{or-left, or-right, beside-stands, beside-stays, beside-cong, inner-same}
+use Rattle.ctl_table.specs.Settings.{all_below, parts_at, made_below, all_made_below, some_below, some_at, from_inner, neighbours_at, neighbours_below, before_at, before_below, follow_of, next_of, looks_back, behind, Agree, Pairwise, MakesAll, MakesFollow, MakesSome, MakesFollows, MakesLast, MakesBehind, MakesNeighbours, MakesDeeper, IsSame, MakesSame, dots_below, made_start, next_at}
+use Rattle.ctl_table.proofs.MakingLemmas.{both-true, stands-still, lt-test}
+use Rattle.ctl_table.proofs.FollowLemmas.{made-stands, made-stays, behind-below, behind-agrees, follow-stays, dots-stand, dots-stay, dots-beside, made-dots, made-target}
+use Rattle.ctl_table.proofs.BesideLemmas.{or-left, or-right, beside-stands, beside-stays, beside-cong, inner-same, in_more}
 use Rattle.ctl_table.proofs.RowLemmas.{all-next, all-as, one-more, taken}
 
 -- what all items of a list are, one of them is
@@ -227,9 +229,9 @@ pub last-empty : (a b : List Node) (m : table.Setting) (e : Element) (s : List V
     → MakesBeside a b None (λ more. table.near_option m true (Some e) (s ++ more)) → MakesLast m e s a b fs None
 last-empty a b m e s fs x = record { within = refl; is = λ d more. x.is more; grows = x.grows }
 
-from-same : (fs : List Plain) (n : Neighbours) (atoms : Beside) (inner : List Var) → n.atoms ≡ atoms → some_at fs n.alone ≡ beside_at fs atoms [] → from_inner fs n inner ≡ beside_at fs atoms inner
-from-same fs n atoms [] e h = h
-from-same fs n atoms (x ∷ xs) e h = ap (λ z. beside_at fs z (x ∷ xs)) e
+from-same : (fs : List Plain) (n : Neighbours) (atoms : Beside) (inner : List Var) → n.atoms ≡ atoms → n.inner ≡ [] → some_at fs n.alone ≡ beside_at fs atoms [] → from_inner fs n inner ≡ beside_at fs atoms inner
+from-same fs n atoms [] e q h = h
+from-same fs n atoms (x ∷ xs) e q h = ap (λ z. beside_at fs z (n.inner ++ x ∷ xs)) e ∙ ap (λ (z : List Var). beside_at fs atoms (z ++ x ∷ xs)) q
 
 -- they are made
 pub last-some : (a b c : List Node) (m : table.Setting) (e : Element) (s : List Var) (fs : List Made) (atoms : Beside) (n : Neighbours)
@@ -240,33 +242,34 @@ last-some a b c m e s fs atoms n x y = record {
       let inner = filter (has n.names) more in
       let rest : drop n.around (s ++ more) ≡ more = ap (λ k. drop k (s ++ more)) y.around_is ∙ drop-append_seam s more in
       ap (λ (z : List Var). from_inner (plains c) n (filter (has n.names) z)) rest
-      ∙ from-same (plains c) n atoms inner y.atoms_are y.alone_is
+      ∙ from-same (plains c) n atoms inner y.atoms_are y.inner_is y.alone_is
       ∙ beside-cong (plains c) inner more atoms (λ v h. inner-same n.names more v (y.names_are v ∙ h))
       ∙ beside-stays b c more y.grows atoms x.within
       ∙ x.is more;
   grows = grows-trans a b c x.grows y.grows;
 }
 
-from-some : (fs : List Plain) (n : Neighbours) (inner : List Var) → (length inner ≡ 0 → ⊥) → from_inner fs n inner ≡ beside_at fs n.atoms inner
+pub from-some : (fs : List Plain) (n : Neighbours) (inner : List Var) → (length inner ≡ 0 → ⊥) → from_inner fs n inner ≡ beside_at fs n.atoms (n.inner ++ inner)
 from-some fs n [] h = absurd (h refl)
 from-some fs n (x ∷ xs) h = refl
 
 -- the atoms, where these of their variables are quantified inside the element, known as a set
 pub where-made : {E : Type 0} (a b : List Node) (n : Neighbours) (inner set : List Var) (r : Result (Option ℕ) E) → (length inner ≡ 0 → ⊥)
-    → ((y : Var) → has set y ≡ has inner y) → IfOk r (λ o. MakesSome a b o (beside_at (plains a) n.atoms set)) → IfOk r (λ o. MakesSome a b o (from_inner (plains a) n inner))
+    → ((y : Var) → has set y ≡ (has n.inner y || has inner y)) → IfOk r (λ o. MakesSome a b o (beside_at (plains a) n.atoms set)) → IfOk r (λ o. MakesSome a b o (from_inner (plains a) n inner))
 where-made a b n inner set r l e x =
     subst (λ z. IfOk r (λ o. MakesSome a b o z))
-    (beside-cong (plains a) set inner n.atoms (λ y h. e y) ∙ sym (from-some (plains a) n inner l)) x
+    (beside-cong (plains a) set (n.inner ++ inner) n.atoms (λ y h. e y ∙ sym (in_more n.inner inner y)) ∙ sym (from-some (plains a) n inner l)) x
 
 -- what is kept of an element's atoms
-pub neighbours-made : (a b : List Node) (s empty first : List Var) (n : Neighbours) → beside_below (length a) n.atoms ≡ true → empty ≡ [] → first ≡ []
-    → ((y : Var) → has n.names y ≡ (has first y || names_in n.atoms y)) → MakesSome a b n.alone (beside_at (plains a) n.atoms empty) → n.around ≡ length s
-    → MakesNeighbours a b s n.atoms n
-neighbours-made a b s empty first n w e f h x l = record {
-  within = both-true (some_below (length b) n.alone) (beside_below (length b) n.atoms) x.within (beside-stands a b x.grows n.atoms w);
-  atoms_are = refl;
-  names_are = λ y. h y ∙ ap (λ (z : List Var). has z y || names_in n.atoms y) f;
-  alone_is = x.is ∙ ap (beside_at (plains a) n.atoms) e ∙ sym (beside-stays a b [] x.grows n.atoms w);
+pub neighbours-made : (a b : List Node) (s empty first : List Var) (atoms : Beside) (n : Neighbours) → beside_below (length a) atoms ≡ true → n.atoms ≡ atoms → n.inner ≡ [] → empty ≡ [] → first ≡ []
+    → ((y : Var) → has n.names y ≡ (has first y || names_in atoms y)) → MakesSome a b n.alone (beside_at (plains a) atoms empty) → n.around ≡ length s
+    → MakesNeighbours a b s atoms n
+neighbours-made a b s empty first atoms n w q i e f h x l = record {
+  within = both-true (some_below (length b) n.alone) (beside_below (length b) n.atoms) x.within (ap (beside_below (length b)) q ∙ beside-stands a b x.grows atoms w);
+  atoms_are = q;
+  inner_is = i;
+  names_are = λ y. h y ∙ ap (λ (z : List Var). has z y || names_in atoms y) f;
+  alone_is = x.is ∙ ap (beside_at (plains a) atoms) e ∙ sym (beside-stays a b [] x.grows atoms w);
   around_is = l;
   grows = x.grows;
 }
@@ -283,3 +286,114 @@ from-nothing a n t h l = record {
   is = sym (ap (from_inner (plains a) n) (no-names n.names (drop n.around t) l));
   grows = grows-refl a;
 }
+
+-- the atoms as they are known from further inside
+
+filter-more : (p : Var → Bool) (xs ys : List Var) → filter p (xs ++ ys) ≡ filter p xs ++ filter p ys
+filter-more p [] ys = refl
+filter-more p (x ∷ xs) ys = by (p x) (filter-more p xs ys)
+  where
+    by : (b : Bool) → filter p (xs ++ ys) ≡ filter p xs ++ filter p ys
+        → cond b (x ∷ filter p (xs ++ ys)) (filter p (xs ++ ys)) ≡ cond b (x ∷ filter p xs) (filter p xs) ++ filter p ys
+    by true r = ap (λ zs. x ∷ zs) r
+    by false r = r
+
+deeper-inner : (a b : List Node) (n c : Neighbours) (found more : List Var) → neighbours_below (length a) n ≡ true → c.atoms ≡ n.atoms → c.inner ≡ n.inner ++ found
+    → MakesSome a b c.alone (from_inner (plains a) n found) → from_inner (plains b) c more ≡ from_inner (plains a) n (found ++ more)
+deeper-inner a b n c found [] w q i x = x.is ∙ ap (from_inner (plains a) n) (sym (append-nil found))
+deeper-inner a b n c found (y ∷ ys) w q i x =
+    let l : length (found ++ y ∷ ys) ≡ 0 → ⊥ = λ e. let k = length-append found (y ∷ ys) in omega (arith, e, k) in
+    ap (λ (z : List Var). beside_at (plains b) c.atoms (z ++ y ∷ ys)) i
+    ∙ ap (λ (z : Beside). beside_at (plains b) z ((n.inner ++ found) ++ y ∷ ys)) q
+    ∙ beside-stays a b ((n.inner ++ found) ++ y ∷ ys) x.grows n.atoms (and-right (some_below (length a) n.alone) (beside_below (length a) n.atoms) w)
+    ∙ ap (beside_at (plains a) n.atoms) (append_assoc n.inner found (y ∷ ys))
+    ∙ sym (from-some (plains a) n (found ++ y ∷ ys) l)
+
+pub deeper-made : (a b : List Node) (s : List Var) (n c : Neighbours) (around : ℕ) (found : List Var) → neighbours_below (length a) n ≡ true → around ≡ length s → n.around ≤ around
+    → found ≡ filter (has n.names) (drop n.around s) → c.atoms ≡ n.atoms → c.names ≡ n.names → c.inner ≡ n.inner ++ found → c.around ≡ around
+    → MakesSome a b c.alone (from_inner (plains a) n found) → MakesDeeper a b s n c
+deeper-made a b s n c around found w l k f q o i r x = record {
+  within = both-true (some_below (length b) c.alone) (beside_below (length b) c.atoms) x.within
+      (ap (beside_below (length b)) q ∙ beside-stands a b x.grows n.atoms (and-right (some_below (length a) n.alone) (beside_below (length a) n.atoms) w));
+  is = λ more.
+      let inner = filter (has n.names) more in
+      ap (λ ns. from_inner (plains b) c (filter (has ns) (drop c.around (s ++ more)))) o
+      ∙ ap (λ (z : List Var). from_inner (plains b) c (filter (has n.names) z)) (ap (λ j. drop j (s ++ more)) (r ∙ l) ∙ drop-append_seam s more)
+      ∙ deeper-inner a b n c found inner w q i x
+      ∙ ap (λ (z : List Var). from_inner (plains a) n (z ++ inner)) f
+      ∙ ap (from_inner (plains a) n) (sym (ap (filter (has n.names)) (drop-append-le n.around s more (omega (arith, l, k))) ∙ filter-more (has n.names) (drop n.around s) more));
+  grows = x.grows;
+}
+
+pub deeper-same : (a : List Node) (s : List Var) (n c : Neighbours) → neighbours_below (length a) n ≡ true → c ≡ n → MakesDeeper a a s n c
+deeper-same a s n c w e = record {
+  within = ap (neighbours_below (length a)) e ∙ w;
+  is = λ more. ap (λ (z : Neighbours). neighbours_at (plains a) z (s ++ more)) e;
+  grows = grows-refl a;
+}
+
+-- what may follow, from further inside
+
+pub same-made : (m : table.Setting) (s : List Var) (a : List Node) (f g : Made) → made_below (length a) f ≡ true → g ≡ f → IsSame m s a a f g
+same-made m s a f g w e = record {
+  within = ap (made_below (length a)) e ∙ w;
+  agrees = record { starts = ap (λ (z : Made). (next_of (plains a) m z).start) e; same = λ more. ap (λ (z : Made). (next_of (plains a) m z).at (s ++ more)) e };
+  grows = grows-refl a;
+}
+
+pub same-dots : (m : table.Setting) (s : List Var) (a b : List Node) (d e : MadeDots) (i : ℕ) (n c : Neighbours) (f : Made) → f ≡ made.Dots d i (Some n) → e ≡ d → made_below (length a) f ≡ true
+    → MakesDeeper a b s n c → IsSame m s a b f (made.Dots e i (Some c))
+same-dots m s a b d e i n c f q u w x =
+    let v : made_below (length a) (made.Dots d i (Some n)) ≡ true = ap (made_below (length a)) (sym q) ∙ w in
+    let same : (more : List Var) → next_at (plains b) m (made.Dots d i (Some c)) (s ++ more) ≡ next_at (plains a) m (made.Dots d i (Some n)) (s ++ more) =
+    λ more.
+    dots-stay a b m.forall_walks (before_at (plains b) (Some c)) d i (s ++ more) x.grows (made-dots (length a) d i (Some n) v) (made-target (length a) d i (Some n) v)
+    ∙ dots-beside (plains a) m.forall_walks (before_at (plains b) (Some c)) (before_at (plains a) (Some n)) d i (s ++ more)
+    (ap (before_at (plains b) (Some c)) (append_assoc s more d.here) ∙ x.is (more ++ d.here) ∙ sym (ap (before_at (plains a) (Some n)) (append_assoc s more d.here))) in
+    record {
+      within = ap (λ (z : MadeDots). made_below (length b) (made.Dots z i (Some c))) u
+          ∙ both-true (dots_below (length b) d && nat_lt i (length b)) (neighbours_below (length b) c)
+          (both-true (dots_below (length b) d) (nat_lt i (length b)) (dots-stand a b d x.grows (made-dots (length a) d i (Some n) v))
+          (lt-test i (length b) (stands-still a b i x.grows (made-target (length a) d i (Some n) v)))) x.within;
+      agrees = record {
+        starts = sym (ap made_start q);
+        same = λ more. ap (λ (z : MadeDots). next_at (plains b) m (made.Dots z i (Some c)) (s ++ more)) u ∙ same more ∙ sym (ap (λ (z : Made). next_at (plains a) m z (s ++ more)) q);
+      };
+      grows = x.grows;
+    }
+
+made-more : (n : ℕ) (fs : List Made) (g : Made) → all_made_below n fs ≡ true → made_below n g ≡ true → all_made_below n (fs ++ g ∷ []) ≡ true
+made-more n [] g h w = both-true (made_below n g) true w refl
+made-more n (f ∷ fs) g h w =
+    both-true (made_below n f) (all_made_below n (fs ++ g ∷ [])) (and-left (made_below n f) (all_made_below n fs) h) (made-more n fs g (and-right (made_below n f) (all_made_below n fs) h) w)
+
+same-grow : (m : table.Setting) (s : List Var) (a b c : List Node) → Grows b c → (xs fs : List Made) → all_made_below (length b) fs ≡ true
+    → Pairwise (λ f g. Agree s (next_of (plains b) m g) (next_of (plains a) m f)) xs fs → Pairwise (λ f g. Agree s (next_of (plains c) m g) (next_of (plains a) m f)) xs fs
+same-grow m s a b c g [] [] h z = tt
+same-grow m s a b c g [] (f ∷ fs) h z = absurd z
+same-grow m s a b c g (x ∷ xs) [] h z = absurd z
+same-grow m s a b c g (x ∷ xs) (f ∷ fs) h z = (
+  subst (λ (k : table.Follow). Agree s k (next_of (plains a) m x)) (sym (follow-stays b c m f g (and-left (made_below (length b) f) (all_made_below (length b) fs) h))) z.0,
+  same-grow m s a b c g xs fs (and-right (made_below (length b) f) (all_made_below (length b) fs) h) z.1,
+)
+
+pub no-same : (m : table.Setting) (s : List Var) (a : List Node) (fs : List Made) → fs ≡ [] → MakesSame m s a a [] fs
+no-same m s a fs q = subst (λ (z : List Made). MakesSame m s a a [] z) (sym q) (record { within = refl; each = tt; grows = grows-refl a })
+
+-- one more thing that may follow
+pub same-step : (m : table.Setting) (s : List Var) (a b c : List Node) (xs : List Made) (x d : Made) (fs next : List Made) (i : ℕ) (g : Made)
+    → i < length xs → x ≡ get_or xs i d → next ≡ fs ++ g ∷ [] → all_made_below (length a) xs ≡ true
+    → MakesSame m s a b (take i xs) fs → IsSame m s b c x g → MakesSame m s a c (take (i + 1) xs) next
+same-step m s a b c xs x d fs next i g l q o h y z =
+    let one : Agree s (next_of (plains c) m g) (next_of (plains a) m x) =
+    subst (λ (k : table.Follow). Agree s (next_of (plains c) m g) k) (follow-stays a b m x y.grows (item-is (made_below (length a)) xs i x d l q h)) z.agrees in
+    let items : take i xs ++ x ∷ [] ≡ take (i + 1) xs = ap (λ v. take i xs ++ v ∷ []) q ∙ sym (take_more xs i d l) in
+    subst (λ (v : List Made). MakesSame m s a c (take (i + 1) xs) v) (sym o)
+    (subst (λ v. MakesSame m s a c v (fs ++ g ∷ [])) items (record {
+      within = made-more (length c) fs g (nexts-stand b c fs z.grows y.within) z.within;
+      each = pair-more (λ f g. Agree s (next_of (plains c) m g) (next_of (plains a) m f)) (take i xs) fs x g (same-grow m s a b c z.grows (take i xs) fs y.within y.each) one;
+      grows = grows-trans a b c y.grows z.grows;
+    }))
+
+pub same-taken : (m : table.Setting) (s : List Var) (a b : List Node) (xs fs : List Made) (i : ℕ) → i ≡ length xs → MakesSame m s a b (take i xs) fs → MakesSame m s a b xs fs
+same-taken m s a b xs fs i q y = subst (λ v. MakesSame m s a b v fs) (taken i xs q) y

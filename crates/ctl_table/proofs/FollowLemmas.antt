@@ -55,7 +55,7 @@ before-stands a b (Some n) g h =
 
 inner-stays : (a b : List Node) (n : Neighbours) (vars : List Var) → Grows a b → neighbours_below (length a) n ≡ true → from_inner (plains b) n vars ≡ from_inner (plains a) n vars
 inner-stays a b n [] g h = some-stays a b n.alone g (and-left (some_below (length a) n.alone) (beside_below (length a) n.atoms) h)
-inner-stays a b n (x ∷ xs) g h = beside-stays a b (x ∷ xs) g n.atoms (and-right (some_below (length a) n.alone) (beside_below (length a) n.atoms) h)
+inner-stays a b n (x ∷ xs) g h = beside-stays a b (n.inner ++ x ∷ xs) g n.atoms (and-right (some_below (length a) n.alone) (beside_below (length a) n.atoms) h)
 
 pub before-stays : (a b : List Node) (o : Option Neighbours) (t : List Var) → Grows a b → before_below (length a) o ≡ true
     → before_at (plains b) o t ≡ before_at (plains a) o t

@@ -6,7 +6,6 @@ use Rattle.std.specs.Result.{IfOk}
 use Rattle.std.proofs.lemmas.List.{map-append, take_more}
 use Rattle.std.proofs.lemmas.Result.{IfOk-weaker}
 use Rattle.smpl_terms.specs.declared.var.Var.{Var}
-use Rattle.smpl_terms.specs.Vars.{same_var}
 use Rattle.smpl_patch.specs.declared.pattern.Pattern.{Pattern}
 use Rattle.smpl_patch.specs.declared.elem.Elem.{Elem}
 use Rattle.smpl_patch.specs.Bodies.{Element, element, body}
@@ -23,7 +22,7 @@ use Rattle.ctl_table.specs.declared.beside.Beside.TheVariants.{Atom, Any}
 use Rattle.ctl_table.specs.Settings.{all_below, parts_at, option_numbers, MakesAll, MakesSome}
 use Rattle.ctl_table.specs.Beside.{beside_at, besides_at, or_none_at, beside_below, besides_below, or_none_below, beside_list, MakesBeside, MakesBesides}
 use Rattle.ctl_table.proofs.MakingLemmas.{all-stay, all-stand, lt-test, both-true}
-use Rattle.ctl_table.proofs.BesideLemmas.{at-Atom, at-Any, below-Atom, below-Any, beside-stays, besides-stand, besides-stay}
+use Rattle.ctl_table.proofs.BesideLemmas.{in_more, at-Atom, at-Any, below-Atom, below-Any, beside-stays, besides-stand, besides-stay}
 use Rattle.ctl_table.proofs.RowLemmas.{all-more, all-as, taken}
 
 -- the atoms may be written in another way
@@ -32,14 +31,6 @@ beside-as a b o f g e x = record { within = x.within; is = λ s. x.is s ∙ e s;
 
 pub none-beside : (a : List Node) (f : table.Scope → Option Plain) → ((s : table.Scope) → f s ≡ None) → MakesBeside a a None f
 none-beside a f e = record { within = refl; is = λ s. sym (e s); grows = grows-refl a }
-
-in_more : (s more : List Var) (x : Var) → table.in_scope (s ++ more) x ≡ (table.in_scope s x || table.in_scope more x)
-in_more [] more x = refl
-in_more (y ∷ ys) more x = ap (λ (z : Bool). same_var y x || z) (in_more ys more x) ∙ or-assoc (same_var y x) (table.in_scope ys x) (table.in_scope more x)
-  where
-    or-assoc : (a b c : Bool) → (a || (b || c)) ≡ ((a || b) || c)
-    or-assoc true b c = refl
-    or-assoc false b c = refl
 
 outside-both : (a b c : Bool) → ((a && not b) && not c) ≡ (a && not (b || c))
 outside-both true true c = refl

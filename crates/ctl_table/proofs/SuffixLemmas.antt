@@ -16,7 +16,7 @@ use Rattle.ctl_table.specs.declared.follow.NestPart.{NestPart}
 use Rattle.ctl_table.specs.declared.follow.Made.{Made}
 use Rattle.ctl_table.specs.Suffixes.{begins, along}
 use Rattle.ctl_table.specs.declared.follow.MadeDots.{MadeDots}
-use Rattle.ctl_table.specs.Settings.{all_below, parts_at, some_at, passed, nest_below, dots_below, made_below, all_made_below, made_start, next_at, follow_of, next_of, suffix_at, start_with, dots_row, dots_before, Agree, Pairwise, MakesAll, MakesSome, MakesBehind, MakesFollow, MakesFollows}
+use Rattle.ctl_table.specs.Settings.{all_below, parts_at, some_at, passed, nest_below, dots_below, made_below, all_made_below, made_start, next_at, follow_of, next_of, suffix_at, start_with, dots_row, dots_before, Agree, Pairwise, MakesAll, MakesSome, MakesBehind, MakesSame, MakesFollow, MakesFollows}
 use Rattle.ctl_table.proofs.MakingLemmas.{all-stay, and-of}
 use Rattle.ctl_table.proofs.FollowLemmas.{next-stays, follow-stays, first-next, some-stays, passed-stays, dots-whens, dots-after, dots-nest}
 use Rattle.ctl_table.proofs.AgreeLemmas.{elem-agrees}
@@ -195,3 +195,13 @@ dots_before-stays m a b d n s before t g h w =
     ∙ ap (λ (v : Option Plain). table.exists_all d.here (passed (plains b) m.forall_walks d.nest d.strict (table.condition d.any (parts_at a d.whens.items) near v) (goes b))) (some-stays a b d.after g (dots-after (length a) d h))
     ∙ ap (λ (v : table.Follow). table.exists_all d.here (passed (plains b) m.forall_walks d.nest d.strict (table.condition d.any (parts_at a d.whens.items) near (some_at (plains a) d.after)) (table.target v.start (v.at s)))) (follow-stays a b m n g w)
     ∙ ap (table.exists_all d.here) (passed-stays a b m.forall_walks d.nest d.strict (table.condition d.any (parts_at a d.whens.items) near (some_at (plains a) d.after)) (goes a) g (dots-nest (length a) d h))
+
+-- rows before what is the same from further inside
+pub same-rows : (m : table.Setting) (s : List Var) (a b c : List Node) (y : Element) (vars : List Var) (nexts gs : List Made) (is : List ℕ) → MakesSame m s a b nexts gs
+    → MakesAll b c is (map (λ n. table.elem m None None y (next_of (plains b) m n) vars s s) gs) → MakesAll a c is (map (λ n. table.elem m None None y (next_of (plains a) m n) vars s s) nexts)
+same-rows m s a b c y vars nexts gs is x z =
+    let new = λ (n : Made). table.elem m None None y (next_of (plains b) m n) vars s s in
+    let old = λ (n : Made). table.elem m None None y (next_of (plains a) m n) vars s s in
+    all-up a b c is (map new gs) (map old nexts) x.grows
+    (pair-map (λ f g. Agree s (next_of (plains b) m g) (next_of (plains a) m f)) old new
+    (λ f g r. elem-agrees m None None y (next_of (plains b) m g) (next_of (plains a) m f) vars s s r) nexts gs x.each) z

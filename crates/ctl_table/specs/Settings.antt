@@ -87,12 +87,12 @@ abbrev pub before_below : ℕ → Option Neighbours → Bool
 before_below n None = true
 before_below n (Some b) = neighbours_below n b
 
--- the last atoms of an element, where these of their variables are quantified inside it
+-- the last atoms of an element, where these of their variables too are quantified inside it
 abbrev pub from_inner : List Plain → Neighbours → List Var → Option Plain
 from_inner fs b [] = some_at fs b.alone
-from_inner fs b (x ∷ xs) = beside_at fs b.atoms (x ∷ xs)
+from_inner fs b (x ∷ xs) = beside_at fs b.atoms (b.inner ++ x ∷ xs)
 
--- the same from a scope: what it has besides those around the element counts as quantified inside it
+-- the same from a scope: what it has besides those around the place at hand counts as quantified inside the element
 abbrev pub neighbours_at : List Plain → Neighbours → List Var → Option Plain
 neighbours_at fs b t = from_inner fs b (filter (has b.names) (drop b.around t))
 
@@ -206,9 +206,28 @@ pub record MakesFollows {A : Type 0} (m : table.Setting) (old new : List Node) (
 pub record MakesNeighbours (old new : List Node) (s : List Var) (atoms : Beside) (b : Neighbours) : Type 0 where
   pub within : neighbours_below (length new) b ≡ true
   pub atoms_are : b.atoms ≡ atoms
+  pub inner_is : b.inner ≡ []
   pub names_are : (x : Var) → has b.names x ≡ names_in atoms x
   pub alone_is : some_at (plains new) b.alone ≡ beside_at (plains new) atoms []
   pub around_is : b.around ≡ length s
+  pub grows : Grows old new
+
+-- the same atoms, from each scope that begins with these variables
+pub record MakesDeeper (old new : List Node) (s : List Var) (b c : Neighbours) : Type 0 where
+  pub within : neighbours_below (length new) c ≡ true
+  pub is : (more : List Var) → neighbours_at (plains new) c (s ++ more) ≡ neighbours_at (plains old) b (s ++ more)
+  pub grows : Grows old new
+
+-- the same of one thing
+pub record IsSame (m : table.Setting) (s : List Var) (old new : List Node) (f g : Made) : Type 0 where
+  pub within : made_below (length new) g ≡ true
+  pub agrees : Agree s (next_of (plains new) m g) (next_of (plains old) m f)
+  pub grows : Grows old new
+
+-- what was made in place of what may follow is the same from each scope that begins with these variables
+pub record MakesSame (m : table.Setting) (s : List Var) (old new : List Node) (fs gs : List Made) : Type 0 where
+  pub within : all_made_below (length new) gs ≡ true
+  pub each : Pairwise (λ f g. Agree s (next_of (plains new) m g) (next_of (plains old) m f)) fs gs
   pub grows : Grows old new
 
 -- the last atoms of an element in a scope are made, if dots may follow it

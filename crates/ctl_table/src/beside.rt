@@ -1,5 +1,5 @@
 // The atoms of an element that stand beside dots, as they are come to from a scope.
-ghost use Rattle.std.specs.Prelude.{◌≡◌, ◌<◌, ◌++◌, ◌||◌, Bool, true, not, length, IfOk, OnOk};
+ghost use Rattle.std.specs.Prelude.{◌≡◌, ◌<◌, ◌≤◌, ◌++◌, ◌||◌, Bool, true, not, drop, length, IfOk, OnOk};
 ghost use Rattle.std.specs.List.{filter};
 ghost use Rattle.smpl_terms.specs.declared.var.Var.{Var as Variable};
 ghost use Rattle.pattern_vars.specs.Reads.{has};
@@ -7,7 +7,7 @@ ghost use Rattle.ctl_formula.specs.Tables.{at, plains, Makes};
 ghost use Rattle.ctl_table.specs.Table as table;
 ghost use Rattle.ctl_table.specs.Beside.{beside_at, beside_below, names_in};
 ghost use Rattle.ctl_table.specs.Settings.{option_numbers, from_inner, before_at, before_below};
-ghost use Rattle.ctl_table.specs.Settings.{neighbours_at, neighbours_below, MakesNeighbours, MakesSome};
+ghost use Rattle.ctl_table.specs.Settings.{neighbours_at, neighbours_below, MakesNeighbours, MakesDeeper, MakesSome};
 
 use crate::wrap::{exists_all, or_some};
 use c_terms::NoMemory;
@@ -16,7 +16,7 @@ use pattern_vars::{VarSet, put_vars};
 use smpl_terms::{Shared, Var};
 use sqlite_items::Items;
 use std::alloc::Global;
-use var_places::{Scope, among};
+use var_places::{Scope, among, copied_vars};
 
 /// The last or the first atoms of an element. Their parts are made but for their quantifiers, which go by what is quantified
 /// where the dots beside the element are come to.
@@ -31,12 +31,14 @@ pub enum Beside {
 /// The last atoms of an element, for dots behind it.
 #[derive(Drop)]
 pub struct Neighbours {
-    pub atoms: Beside,
+    pub atoms: Shared<Beside>,
     /// Those of their local variables that aren't quantified around the element.
-    pub names: VarSet,
-    /// Their part where none of these variables is quantified inside the element; none where there are no atoms.
+    pub names: Shared<VarSet>,
+    /// Those of these that are quantified inside the element around the place at hand.
+    pub inner: Items<Var>,
+    /// The atoms' part where no others are quantified inside the element; none where there are no atoms.
     pub alone: Option<usize>,
-    /// How many variables are quantified around the element.
+    /// How many variables are quantified around the place at hand.
     pub around: usize,
 }
 
@@ -134,23 +136,26 @@ pub fn neighbours_of(
     let mut names = VarSet::new(alloc);
     put_names(alloc, &atoms, &mut names)?;
     Ok(Neighbours {
-        atoms,
-        names,
+        atoms: Shared::of(alloc, atoms)?,
+        names: Shared::of(alloc, names)?,
+        inner: Items::new(alloc),
         alone,
         around,
     })
 }
 
-/// These variables as a set.
-fn set_of(alloc: Global, vars: &[Var]) -> Result<VarSet, NoMemory>
-    ensures { IfOk result (λ set. (y : Variable) → has set y ≡ has vars.now y) }
+/// These variables and those as a set.
+fn set_of(alloc: Global, vars: &[Var], more: &[Var]) -> Result<VarSet, NoMemory>
+    ensures { IfOk result (λ set. (y : Variable) → has set y ≡ (has vars.now y || has more.now y)) }
 {
     let mut set = VarSet::new(alloc);
     put_vars(alloc, vars, &mut set)?;
+    put_vars(alloc, more, &mut set)?;
     Ok(set)
 }
 
-/// The atoms, where these of their variables are quantified inside the element. Where there are none, nothing is looked up.
+/// The atoms, where these of their variables too are quantified inside the element. Where there are none, nothing is looked
+/// up.
 fn where_inner(
     alloc: Global,
     parts: &mut Parts,
@@ -164,12 +169,13 @@ fn where_inner(
     if inner.len() == 0 {
         return Ok(n.alone);
     }
-    let inner = set_of(alloc, inner)?;
-    at_inner(alloc, parts, &n.atoms, &inner)
+    let inner = set_of(alloc, n.inner.as_slice(), inner)?;
+    at_inner(alloc, parts, n.atoms.get(), &inner)
 }
 
 /// The atoms as they stand in the condition of dots behind their element, from this scope. Where they have local variables,
-/// each that the scope has besides those around the element is looked up; the atoms are gone over where one of them is theirs.
+/// each that the scope has besides those around the place at hand is looked up; the atoms are gone over where one of them is
+/// theirs.
 fn from_scope(
     alloc: Global,
     parts: &mut Parts,
@@ -180,12 +186,76 @@ fn from_scope(
     ensures made { IfOk result (λ found. MakesSome parts.old parts.new found
         (neighbours_at (plains parts.old) n.now scope.now)) }
 {
-    if n.names.len() == 0 {
+    if n.names.get().len() == 0 {
         return Ok(n.alone);
     }
-    let more = scope.since(alloc, n.around)?;
-    let inner = among(alloc, &n.names, more.as_slice())?;
+    let inner = inner_names(alloc, n, scope)?;
     where_inner(alloc, parts, n, inner.as_slice())
+}
+
+/// Those of the atoms' variables that the scope has besides those around the place at hand.
+fn inner_names(alloc: Global, n: &Neighbours, scope: &Scope) -> Result<Items<Var>, NoMemory>
+    ensures { IfOk result (λ inner. inner ≡ filter (has n.now.names) (drop n.now.around scope.now)) }
+{
+    let more = scope.since(alloc, n.around)?;
+    among(alloc, n.names.get(), more.as_slice())
+}
+
+/// The variables, and then the others.
+fn joined(alloc: Global, vars: &[Var], more: &[Var]) -> Result<Items<Var>, NoMemory>
+    ensures { IfOk result (λ all. all ≡ vars.now ++ more.now) }
+{
+    let mut all = copied_vars(alloc, vars)?;
+    for x in more {
+        all.push(x.copy(alloc)?)?;
+    }
+    Ok(all)
+}
+
+/// The atoms as they are known from this scope on: what it has besides those around the place at hand is looked up now, and
+/// by no one further inside.
+fn from_here(
+    alloc: Global,
+    parts: &mut Parts,
+    n: &Neighbours,
+    scope: &Scope,
+    around: usize,
+) -> Result<Neighbours, NoMemory>
+    requires below { neighbours_below (length parts.old) n.now ≡ true }
+    requires around { around ≡ length scope.now }
+    requires inside { n.now.around ≤ around }
+    ensures made { IfOk result (λ found. MakesDeeper parts.old parts.new scope.now n.now found) }
+{
+    let found = inner_names(alloc, n, scope)?;
+    let alone = where_inner(alloc, parts, n, found.as_slice())?;
+    let inner = joined(alloc, n.inner.as_slice(), found.as_slice())?;
+    Ok(Neighbours {
+        atoms: n.atoms.share()?,
+        names: n.names.share()?,
+        inner,
+        alone,
+        around,
+    })
+}
+
+/// The same atoms for dots that are come to from scopes that begin with this one. Where they have local variables, each that
+/// the scope has besides those around the place at hand is looked up.
+pub fn deeper_atoms(
+    alloc: Global,
+    parts: &mut Parts,
+    n: &Shared<Neighbours>,
+    scope: &Scope,
+) -> Result<Shared<Neighbours>, NoMemory>
+    requires { neighbours_below (length parts.old) n.now ≡ true }
+    ensures made { IfOk result (λ found. MakesDeeper parts.old parts.new scope.now n.now found) }
+{
+    let around = scope.len()?;
+    let known = n.get();
+    if known.names.get().len() == 0 || around <= known.around {
+        return n.share();
+    }
+    let found = from_here(alloc, parts, known, scope, around)?;
+    Shared::of(alloc, found)
 }
 
 /// The last atoms of the element before dots, as they stand in the dots' condition from this scope; none where the dots know

@@ -9,9 +9,9 @@ ghost use Rattle.ctl_table.specs.Settings.{some_below};
 ghost use Rattle.ctl_table.specs.Settings.{some_at, made_below, next_at, dots_below};
 ghost use Rattle.ctl_table.specs.Settings.{before_at, before_below};
 ghost use Rattle.ctl_table.specs.Settings.{dots_at as dots_from, passed as passed_by, MakesAll};
-ghost use Rattle.ctl_table.specs.Settings.{MakesSome};
+ghost use Rattle.ctl_table.specs.Settings.{IsSame, MakesSome};
 
-use crate::beside::{Neighbours, at_inner, before_dots};
+use crate::beside::{Neighbours, at_inner, before_dots, deeper_atoms};
 use crate::follow::{Made, MadeDots};
 use crate::near::near_option;
 use crate::setting::Setting;
@@ -195,5 +195,29 @@ pub fn after_dots(
     match near_option(alloc, parts, m, false, after, scope)? {
         None => Ok(None),
         Some(beside) => at_inner(alloc, parts, &beside, &VarSet::new(alloc)),
+    }
+}
+
+/// What follows, for what stands inside this scope.
+pub fn deeper(
+    alloc: Global,
+    parts: &mut Parts,
+    m: &Setting,
+    next: &Made,
+    scope: &Scope,
+) -> Result<Made, NoMemory>
+    requires { made_below (length parts.old) next.now ≡ true }
+    ensures made { IfOk result (λ found. IsSame (setting_at m.now) scope.now parts.old parts.new next.now found) }
+{
+    match next {
+        Made::Nothing => Ok(Made::Nothing),
+        Made::Part(start, f) => Ok(Made::Part(*start, *f)),
+        Made::Dots(d, target, before) => match before {
+            None => next.share(),
+            Some(known) => {
+                let known = deeper_atoms(alloc, parts, known, scope)?;
+                Ok(Made::Dots(d.share()?, *target, Some(known)))
+            }
+        },
     }
 }

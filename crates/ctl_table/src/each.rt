@@ -10,11 +10,11 @@ ghost use Rattle.ctl_formula.specs.Tables.{at, plains, Makes};
 ghost use Rattle.ctl_table.specs.Table as table;
 ghost use Rattle.ctl_table.specs.Settings.{setting_at, element_or_none, all_below, parts_at};
 ghost use Rattle.ctl_table.specs.Settings.{nest_below, dots_below, all_made_below, next_at, follow, dots_row};
-ghost use Rattle.ctl_table.specs.Settings.{dots_before, MakesAll, MakesBehind, MakesFollows, MakesLast};
+ghost use Rattle.ctl_table.specs.Settings.{dots_before, MakesAll, MakesBehind, MakesFollows, MakesLast, MakesSame};
 ghost use Rattle.ctl_table.specs.Columns.{column as column_of, rows_within, first_of_column};
 
 use crate::beside::{Neighbours, neighbours_of};
-use crate::dots::{after_dots, follow_at};
+use crate::dots::{after_dots, deeper, follow_at};
 use crate::element::{dots, joined_next, part, past_next};
 use crate::follow::{Made, MadeDots, NestPart, all_behind, some_look_back};
 use crate::near::near_option;
@@ -260,6 +260,25 @@ pub fn behind_each(
 {
     let before = last_atoms(alloc, parts, m, e, nexts, scope)?;
     all_behind(alloc, &before, nexts)
+}
+
+/// What may follow, for what stands inside this scope: which atoms stand before dots is worked out as far as the scope tells.
+pub fn deeper_each(
+    alloc: Global,
+    parts: &mut Parts,
+    m: &Setting,
+    nexts: &[Made],
+    scope: &Scope,
+) -> Result<Vec<Made>, NoMemory>
+    requires { all_made_below (length parts.old) nexts.now ≡ true }
+    ensures made { IfOk result (λ found. MakesSame (setting_at m.now) scope.now parts.old parts.new nexts.now found.items) }
+{
+    let mut found = Vec::new(alloc);
+    for next in nexts {
+        let g = deeper(alloc, parts, m, next, scope)?;
+        found.push(g)?;
+    }
+    Ok(found)
 }
 
 /// A disjunction that has no branches, before each thing that may follow it.

@@ -17,8 +17,8 @@ ghost use Rattle.ctl_table.specs.Columns.{MakesColumns};
 ghost use Rattle.ctl_table.specs.Suffixes.{begins, along};
 
 use crate::each::{
-    and_each, atoms, behind_each, dots_each, first_branches, follows_at, no_branches, part_each,
-    past_each,
+    and_each, atoms, behind_each, deeper_each, dots_each, first_branches, follows_at, no_branches,
+    part_each, past_each,
 };
 use crate::element::{braced, headed, not_piece};
 use crate::follow::{Made, NestPart, Start, with_nothing};
@@ -163,6 +163,8 @@ fn suffix(
         }
         Elem::AnyOf(bodies) => {
             let bodies = bodies.as_slice();
+            let nexts = deeper_each(alloc, parts, m, nexts, scope)?;
+            let nexts = nexts.as_slice();
             let fs = choice(alloc, parts, m, bodies, nexts, vars, scope)?;
             part_each(alloc, parts, m, place, fs.as_slice())
         }

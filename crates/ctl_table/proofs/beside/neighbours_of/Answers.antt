@@ -1,11 +1,21 @@
+use Rattle.std.proofs.Common.{◌∙◌, ap, List}
+use Rattle.smpl_terms.specs.declared.var.Var.{Var}
+use Rattle.pattern_vars.specs.Reads.{has}
 use Rattle.ctl_table.specs.declared.beside.Neighbours.{Neighbours}
 use Rattle.ctl_table.proofs.EachLemmas.{neighbours-made}
 use Rattle.ctl_table.proofs.beside.neighbours_of.Goals as goal
 
 pub returns : goal.returns
 returns c =
-    let n : Neighbours = record { atoms = c.args.atoms; names = c.put_names.new.names; alone = c.in_ok-alone.alone; around = c.in_ok-around.around } in
+    let n : Neighbours = record {
+      atoms = c.in_ok-of.field-0;
+      names = c.in_ok-of-2.field-0;
+      inner = c.new-2.result;
+      alone = c.in_ok-alone.alone;
+      around = c.in_ok-around.around;
+    } in
     record {
-      made = neighbours-made c.args.parts.now c.at_inner-2.new.parts c.args.scope.now c.new.result c.new-names.result n c.requires c.new.ensures c.new-names.ensures
-          c.in_ok-put_names.ensures c.in_ok-alone.ensures.made c.in_ok-around.ensures;
+      made = neighbours-made c.args.parts.now c.at_inner-2.new.parts c.args.scope.now c.new.result c.new-names.result c.args.atoms n c.requires
+          c.in_ok-of.ensures.value c.new-2.ensures c.new.ensures c.new-names.ensures
+          (λ y. ap (λ (z : List Var). has z y) c.in_ok-of-2.ensures.value ∙ c.in_ok-put_names.ensures y) c.in_ok-alone.ensures.made c.in_ok-around.ensures;
     }

@@ -18,14 +18,14 @@ use Rattle.ctl_table.specs.declared.follow.Made.{Made}
 use Rattle.ctl_table.specs.Settings.{setting_at, element_or_none, all_below, all_made_below, made_below, next_at, parts_at, next_of, suffix_at, start_with, block_at, compound_at, MakesAll, MakesBehind, MakesFollows}
 use Rattle.ctl_table.specs.Columns.{rows_within, MakesColumns}
 use Rattle.ctl_table.specs.Suffixes.{begins, along}
-use Rattle.var_places.proofs.Weights.{weight_body, body-at, bodies-at, weight-take, weight-first, weight-rest}
+use Rattle.var_places.proofs.Weights.{weight_element, weight_body, body-at, bodies-at, weight-take, weight-first, weight-rest}
 use Rattle.ctl_table.proofs.MakingLemmas.{all-stand, both-true}
 use Rattle.ctl_table.proofs.FollowLemmas.{follow-stays}
 use Rattle.ctl_table.proofs.RowLemmas.{taken, init-all, all-next, each-step, when-step}
 use Rattle.ctl_table.proofs.AlongLemmas.{length-places}
 use Rattle.ctl_table.proofs.BranchLemmas.{block-made, compound-made, when-made, elem-at, whens-are, nest-is}
 use Rattle.ctl_table.proofs.EachLemmas.{nexts-stand, follows-within, only-made, only-one}
-use Rattle.ctl_table.proofs.SuffixLemmas.{last-each, step-each, whole-each, sequences-made, sequences-none, row-each, dots-each, past-each}
+use Rattle.ctl_table.proofs.SuffixLemmas.{last-each, step-each, whole-each, sequences-made, sequences-none, row-each, same-rows, dots-each, past-each}
 use Rattle.ctl_table.proofs.ColumnLemmas.{no-rows, columns-step, rows-stand, choice-each, choice-none, last-branch, every-none, every-each, last-long, front-long, all-within, all-long}
 use Rattle.ctl_table.proofs.rows.+rows.Goals as goal
 
@@ -436,6 +436,11 @@ suffix-returns-in_ok-fs-in-Block t c =
           (λ n s u. elem-at m after y (k n) vars place.scope place c.as_slice-vars.ensures refl s u) h) c.part_each-in-Block.ensures.made;
     }
 
+pub suffix-choice-requires : goal.suffix-choice-requires
+suffix-choice-requires t c =
+    let w = ap weight_element (ap element c.in-AnyOf.is ∙ element-AnyOf _ ∙ ap (λ (z : List (List Elem)). bodies.AnyOf (bodies_of z)) (sym c.as_slice-bodies-in-AnyOf.ensures)) in
+    (omega (arith, w), ap (all_made_below (length c.deeper_each.new.parts)) c.as_slice-nexts.ensures.value ∙ c.in_ok-nexts-in-AnyOf.ensures.made.within)
+
 pub suffix-returns-in_ok-fs-in-AnyOf : goal.suffix-returns-in_ok-fs-in-AnyOf
 suffix-returns-in_ok-fs-in-AnyOf t c =
     let m = setting_at c.args.m.now in
@@ -444,6 +449,7 @@ suffix-returns-in_ok-fs-in-AnyOf t c =
     let k = λ (n : Made). next_of (plains a) m n in
     let place = c.args.place.now in
     let vars = c.as_slice-vars.result.now in
+    let d = c.deeper_each.new.parts in
     let b = c.choice.new.parts in
     let y = bodies.AnyOf (bodies_of c.as_slice-bodies-in-AnyOf.result.now) in
     record {
@@ -451,7 +457,9 @@ suffix-returns-in_ok-fs-in-AnyOf t c =
           (λ fs h. row-each m a b c.part_each-in-AnyOf.new.parts after (element c.args.e.now) y k place c.args.nexts.now
           c.in_ok-fs-in-AnyOf.fs.items c.as_slice-in-AnyOf.result.now fs.items (λ n. table.elem m None None y (k n) vars place.scope place.scope)
           (ap element c.in-AnyOf.is ∙ element-AnyOf _ ∙ ap (λ (z : List (List Elem)). bodies.AnyOf (bodies_of z)) (sym c.as_slice-bodies-in-AnyOf.ensures)) refl c.as_slice-in-AnyOf.ensures.value
-          c.in_ok-fs-in-AnyOf.ensures.made
+          (same-rows m place.scope a d b y vars c.args.nexts.now c.in_ok-nexts-in-AnyOf.nexts.items c.in_ok-fs-in-AnyOf.fs.items c.in_ok-nexts-in-AnyOf.ensures.made
+          (subst (λ (z : List Made). MakesAll d b c.in_ok-fs-in-AnyOf.fs.items (map (λ n. table.elem m None None y (next_of (plains d) m n) vars place.scope place.scope) z))
+          c.as_slice-nexts.ensures.value c.in_ok-fs-in-AnyOf.ensures.made))
           (λ n s u. elem-at m after y (k n) vars place.scope place c.as_slice-vars.ensures refl s u) h) c.part_each-in-AnyOf.ensures.made;
     }
 

@@ -109,6 +109,21 @@ def dots_behind_own_names(count, own):
     return dots_behind_branches([xs[i * own:(i + 1) * own] for i in range(count)], xs)
 
 
+def comb(count, name, last):
+    for i in range(count):
+        last = f"(\n  {name}_{i}();\n|\n{last})\n"
+    return last
+
+
+def dots_behind_combs(combs, each):
+    """Branches within branches, all of them in one branch that quantifies a variable of one of the last ones."""
+    body = "  q();\n"
+    for i in range(combs):
+        own = "x" if i == 0 else ""
+        body = "(\n" + comb(each, f"c{i}", f"  f{i}({own});\n") + f"|\n{body})\n"
+    return rule(["x", "y"], f"- z(y);\n(\n  f(x);\n  g(x);\n{body}|\n  w();\n)\n...\n  h();\n")
+
+
 def blocks(conditions, each):
     body = "".join("  if (a) {\n" + "    {}\n" * each + "  }\n" for _ in range(conditions))
     return rule(["x"], "- z(x);\n" + body)
@@ -130,6 +145,7 @@ PATCHES = (
     ("100 branches of 3,000 arguments each, and dots behind them", dots_behind_long_branches(100, 3000)),
     ("100 branches with the same 1,200 names, and dots behind them", dots_behind_the_same_names(100, 1200)),
     ("250 branches with 200 names of their own each, and dots behind them", dots_behind_own_names(250, 200)),
+    ("40 combs of 90 branches each, in one branch that quantifies a variable of one of them, and dots behind it", dots_behind_combs(40, 90)),
     ("25 conditions of 3,900 blocks each", blocks(25, 3900)),
 )
 

@@ -3,7 +3,7 @@
 
 Usage: bench/whole_run.py [PROGRAM]
 
-PROGRAM is the program as LLVM builds it; without it the one in crates/spatch/out is taken, which `./spatch` builds.
+PROGRAM is the program as LLVM builds it; without it the one in dist/ is taken.
 The file, the patch and what is printed are made in a temporary folder. Beside the program, `sed` (which deletes the
 call) and `cat` run on the same file. For each the best of five runs counts.
 
@@ -72,9 +72,9 @@ def run(command, folder):
 
 def main():
     top = os.path.dirname(os.path.dirname(os.path.abspath(__file__)))
-    program = sys.argv[1] if len(sys.argv) > 1 else os.path.join(top, "crates", "spatch", "out", "spatch")
+    program = sys.argv[1] if len(sys.argv) > 1 else os.path.join(top, "dist", "spatch-x86_64-linux")
     if not os.path.exists(program):
-        sys.exit(f"{program} is not built yet: run ./spatch once")
+        sys.exit(f"there is no {program}")
     text = functions(SIZE)
     pieces = len(re.findall(r"\s+|\w+|.", text))
     with tempfile.TemporaryDirectory() as folder:

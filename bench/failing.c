@@ -10,14 +10,16 @@
 #include <unistd.h>
 #include <fcntl.h>
 #include <sys/stat.h>
+#include <sys/syscall.h>
 static long kal = -2, kio = -2, nal, nio;
 static void init(void) {
     if (kal != -2) return;
     const char *a = getenv("FAIL_ALLOC"), *i = getenv("FAIL_IO");
     kal = a ? atol(a) : -1; kio = i ? atol(i) : -1;
 }
-static int al(void) { init(); return nal++ == kal; }
-static int io(void) { init(); return nio++ == kio; }
+// Threads count in turn.
+static int al(void) { init(); return __atomic_fetch_add(&nal, 1, __ATOMIC_SEQ_CST) == kal; }
+static int io(void) { init(); return __atomic_fetch_add(&nio, 1, __ATOMIC_SEQ_CST) == kio; }
 extern void *__libc_malloc(size_t); extern void *__libc_realloc(void*, size_t); extern void *__libc_calloc(size_t,size_t); extern void *__libc_memalign(size_t,size_t);
 void *malloc(size_t n) { if (al()) { errno = ENOMEM; return 0; } return __libc_malloc(n); }
 void *realloc(void *p, size_t n) { if (al()) { errno = ENOMEM; return 0; } return __libc_realloc(p, n); }
@@ -36,11 +38,14 @@ int ftruncate(int d, off_t n) { REAL(ftruncate); if (io()) { errno = EIO; return
 int fchmod(int d, mode_t m) { REAL(fchmod); if (io()) { errno = EIO; return -1; } return real(d, m); }
 int chmod(const char *d, mode_t m) { REAL(chmod); if (io()) { errno = EIO; return -1; } return real(d, m); }
 int close(int d) { REAL(close); if (io()) { int r = real(d); (void) r; errno = EIO; return -1; } return real(d); }
-__attribute__((destructor)) static void told(void) {
+static void tell(void) {
     const char *t = getenv("FAIL_TOLD"); if (!t) return; long a = nal, i = nio; kal = kio = -1;
     char line[64]; int n = snprintf(line, sizeof line, "%ld %ld\n", a, i);
     REAL(open); int d = real(t, O_WRONLY|O_CREAT|O_TRUNC, 0600); if (d >= 0) { if (write(d, line, n)) {} }
 }
+__attribute__((destructor)) static void end(void) { tell(); }
+// A program with threads ends by this call, after which no destructor runs.
+void _exit(int status) { tell(); syscall(SYS_exit_group, status); __builtin_unreachable(); }
 int fdatasync(int d) { REAL(fdatasync); if (io()) { errno = EIO; return -1; } return real(d); }
 int lchown(const char *p, uid_t u, gid_t g) { REAL(lchown); if (io()) { errno = EIO; return -1; } return real(p, u, g); }
 ssize_t readlink(const char *p, char *b, size_t n) { REAL(readlink); if (io()) { errno = EIO; return -1; } return real(p, b, n); }

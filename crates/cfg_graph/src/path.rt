@@ -1,5 +1,5 @@
 // Where a node's statement stands in the item.
-ghost use Rattle.std.specs.Prelude.{◌≡◌, ◌<◌, IfOk, length, reverse};
+ghost use Rattle.std.specs.Prelude.{◌≡◌, ◌<◌, IfOk, length, nat_eq, reverse};
 ghost use Rattle.cfg_graph.specs.Seats.{seat_at, path_of, AreSeated};
 
 use crate::node::{NodeEntry, Seat};
@@ -44,6 +44,14 @@ impl<'b> NodePath<'b> {
         steps.reverse();
         Ok(steps)
     }
+
+    /// Whether the path has one number, as that of a child of the item has. It takes a step for each, up to the second.
+    /// Takes no memory.
+    pub fn has_one_step(&self) -> bool
+        ensures value { result ≡ nat_eq (length self.now) 1 }
+    {
+        is_one_up(self.nodes, self.node)
+    }
 }
 
 /// The seat of a node.
@@ -70,6 +78,29 @@ fn steps_up(alloc: Global, nodes: &[NodeEntry], node: usize) -> Result<Vec<u32>,
             Seat::With(holder) => at = holder as usize,
             Seat::Child(holder, i) => {
                 steps.push(i)?;
+                at = holder as usize;
+            }
+        }
+    }
+}
+
+/// Whether the path of a node has one number.
+fn is_one_up(nodes: &[NodeEntry], node: usize) -> bool
+    requires inside { node < length nodes.now }
+    requires seated { AreSeated nodes.now }
+    ensures { result ≡ nat_eq (length (path_of nodes.now node)) 1 }
+{
+    let mut found = false;
+    let mut at = node;
+    loop {
+        match seat_at(nodes, at) {
+            Seat::Item => return found,
+            Seat::With(holder) => at = holder as usize,
+            Seat::Child(holder, _) => {
+                if found {
+                    return false;
+                }
+                found = true;
                 at = holder as usize;
             }
         }

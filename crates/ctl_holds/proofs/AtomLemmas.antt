@@ -41,6 +41,8 @@ use Rattle.smpl_patch.specs.Patterns.{declared_as, is_var_of, is_meta_of, is_pos
 use Rattle.smpl_patch.specs.Patterns.{stands}
 use Rattle.pat_match.specs.Spots.{seats, parts_of_child, own_parts_from, own_parts, fits_at}
 use Rattle.pat_match.specs.Matching.{var_passes, positions_pass, meta_passes, token_passes, keeps, is_live, is_live_in}
+use Rattle.pat_match.specs.declared.role.NodeRole.{NodeRole}
+use Rattle.pat_match.specs.Roles.{role_of}
 use Rattle.pat_match.specs.Matching.{fits_seat, matches}
 use Rattle.pat_match.specs.Valued.{has_value}
 use Rattle.pat_match.proofs.ValueLemmas.{has-kid}
@@ -228,20 +230,20 @@ module _ (decls : List VarDecl) (tokens : List PatToken) (env : Environment) (x 
   first_form s form [] e h l = absurd (cc)
   first_form s form (first ∷ fs) e h l = live_form s first form e h l
 
-  seat_law : (p : Pattern) (k : NodeKind) (form t : Tree) → sure decls tokens p x ≡ true → SureStand decls tokens p
-      → fits_seat decls tokens env p k form t ≡ true → has_value t (env x) ≡ true
-  seat_law p k form t e stand h =
-      held_has_value decls tokens env x p.spot k form t (and_right _ _ h)
-      (first_form p.spot form p.forms e (stand x e) (and_left _ _ h))
+  seat_law : (p : Pattern) (r : NodeRole) (form t : Tree) → sure decls tokens p x ≡ true → SureStand decls tokens p
+      → fits_seat decls tokens env p r form t ≡ true → has_value t (env x) ≡ true
+  seat_law p r form t e stand h =
+      held_has_value decls tokens env x p.spot r.kind form t (and_right _ _ h)
+      (first_form p.spot form p.forms e (stand x e) (and_left _ _ (and_left _ _ h)))
 
   match_law : (p : Pattern) (l : NodeLabel) → sure decls tokens p x ≡ true → SureStand decls tokens p
       → matches decls tokens env p l ≡ true → has_value l.tree (env x) ≡ true
   match_law p l e stand h =
       let f = any_found
-      (λ f. list_any (λ (s : Spot_in). fits_seat decls tokens env p l.kind f s.tree) (seats p.spot l.kind l.tree)) p.forms h in
+      (λ f. list_any (λ (s : Spot_in). fits_seat decls tokens env p (role_of l) f s.tree) (seats p.spot l.kind l.tree)) p.forms h in
       seat-value (env x) p.spot l.kind l.tree
-      (any_weaker (λ (s : Spot_in). fits_seat decls tokens env p l.kind f.0 s.tree) (here (env x)) (seats p.spot l.kind l.tree)
-      (λ s c w. seat_law p l.kind f.0 s.tree e stand w) f.2)
+      (any_weaker (λ (s : Spot_in). fits_seat decls tokens env p (role_of l) f.0 s.tree) (here (env x)) (seats p.spot l.kind l.tree)
+      (λ s c w. seat_law p (role_of l) f.0 s.tree e stand w) f.2)
 
 -- a test that passes at a node passes at its label
 pub label_of : (g : Flow) (s : ℕ) (test : NodeLabel → Bool) (o : Option NodeLabel) → slice_get g.labels s ≡ o

@@ -37,6 +37,8 @@ use Rattle.pat_match.specs.Tokens.{is_place, not_places, stands_at, value_is, me
 use Rattle.pat_match.specs.Runs.{Piece, Pair, comma_fits, comma_pairs, taken_pairs, run_fits, takes, runs_from, list_pairs, single_fits, is_wild, as_comma, some_below, least, fewest, leftmost, runs_pairs}
 use Rattle.pat_match.specs.Fitting.{piece, fits_by, pairs_by, kids_pairs, kids_fit}
 use Rattle.pat_match.specs.Spots.{own_fits, own_fit, own_pairs, token_whole, branch_whole, whole_at, fits_at, is_disjunction, option_fits, option_pairs, open_brace, close_brace, is_open_brace, is_close_brace, is_statement_node, is_simple_node, is_tail_node, own_alignment, token_alignment, branch_alignment, whole_alignment, alignment_at}
+use Rattle.pat_match.specs.declared.role.NodeRole.{NodeRole}
+use Rattle.pat_match.specs.Roles.{may_stand}
 use Rattle.pat_match.specs.Matching.{fits_seat, is_live_in}
 use Rattle.pat_match.proofs.Pieces.{piece-Leaf, piece-Branch}
 use Rattle.pat_pairs.specs.Pairs.{numbers, first_aligned, aligned_tokens}
@@ -196,8 +198,8 @@ module _ (decls : List VarDecl) (tokens : List PatToken) (d e : Environment) (a 
   at_spot spot.Tail k form t = λ i. is_tail_node k && own node_kind.DoTail (out-Tree form) t i
   at_spot spot.Inside k form t = λ i. (pieces form i).fits t
 
-  seat : (p : Pattern) (k : NodeKind) (form t : Tree) → fits_seat decls tokens d p k form t ≡ fits_seat decls tokens e p k form t
-  seat p k form t = λ i. is_live_in decls tokens p form && at_spot p.spot k form t i
+  seat : (p : Pattern) (r : NodeRole) (form t : Tree) → fits_seat decls tokens d p r form t ≡ fits_seat decls tokens e p r form t
+  seat p r form t = λ i. (is_live_in decls tokens p form && may_stand r form) && at_spot p.spot r.kind form t i
 
   own_aligned : (k : NodeKind) (form : Tree-F Tree) (t : Tree) → own_alignment decls tokens d k form t ≡ own_alignment decls tokens e k form t
   own_aligned k (Tree-F.Leaf b) t = refl
@@ -222,9 +224,9 @@ module _ (decls : List VarDecl) (tokens : List PatToken) (d e : Environment) (a 
   spot_aligned spot.Tail k form t = own_aligned node_kind.DoTail (out-Tree form) t
   spot_aligned spot.Inside k form t = λ i. (pieces form i).pairs t
 
-  first : (p : Pattern) (k : NodeKind) (t : Tree) (forms : List Tree) → first_aligned decls tokens d p k t forms ≡ first_aligned decls tokens e p k t forms
+  first : (p : Pattern) (k : NodeRole) (t : Tree) (forms : List Tree) → first_aligned decls tokens d p k t forms ≡ first_aligned decls tokens e p k t forms
   first p k t [] = refl
-  first p k t (form ∷ forms) = λ i. cond (seat p k form t i) (Some (numbers (spot_aligned p.spot k form t i))) (first p k t forms i)
+  first p k t (form ∷ forms) = λ i. cond (seat p k form t i) (Some (numbers (spot_aligned p.spot k.kind form t i))) (first p k t forms i)
 
-  pub aligned_alike : (p : Pattern) (k : NodeKind) (t : Tree) → aligned_tokens decls tokens d p k t ≡ aligned_tokens decls tokens e p k t
+  pub aligned_alike : (p : Pattern) (k : NodeRole) (t : Tree) → aligned_tokens decls tokens d p k t ≡ aligned_tokens decls tokens e p k t
   aligned_alike p k t = first p k t p.forms

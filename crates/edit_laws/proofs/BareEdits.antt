@@ -37,6 +37,7 @@ use Rattle.edit_walk.specs.Named.{pattern_of, kind_at, tree_at, pairs_of, pairs_
 use Rattle.edit_walk.specs.Edited.{IsEditAt, AreEdits}
 use Rattle.edit_walk.proofs.TouchLemmas.{touches-Touch, touches-Bind}
 use Rattle.rule_witnesses.specs.Bare.{bare_step, bare_tree, bare_witness}
+use Rattle.pat_match.specs.Roles.{role_at}
 use Rattle.edit_laws.proofs.AlignLemmas.{aligned_alike}
 use Rattle.edit_laws.proofs.ValueLemmas.{bare_alike, bare_bound, block_alike, end_alike}
 
@@ -128,7 +129,7 @@ module _ (rule : Rule) (items : List Item) (kinds : List (List NodeKind)) (piece
 
   same_pairs : (t : Touched) → pairs_here (bare_touch t) ≡ pairs_here t
   same_pairs t = λ i. pairs_of (ids_of pieces)
-      (option_and_then (λ p. option_and_then (λ k. option_and_then (λ tree. aligned_alike rule.vars rule.tokens (total (bare_env t.env)) (total t.env) (bare_alike t.env) p k tree i)
+      (option_and_then (λ p. option_and_then (λ k. option_and_then (λ tree. aligned_alike rule.vars rule.tokens (total (bare_env t.env)) (total t.env) (bare_alike t.env) p (role_at k t.path) tree i)
       (tree_at items t.item t.path)) (kind_at kinds t.item t.node)) (pattern_of patterns t.atom))
 
   without_ids : (t : Touched) (e : Edit) → IsEditAt rule items kinds pieces (bare_touch t) e → IsEditAt rule items kinds pieces t e

@@ -10,6 +10,7 @@ use Rattle.smpl_terms.specs.Environments.{total}
 use Rattle.smpl_patch.specs.declared.pattern.VarDecl.{VarDecl}
 use Rattle.smpl_patch.specs.declared.pattern.PatToken.{PatToken}
 use Rattle.smpl_patch.specs.declared.pattern.Pattern.{Pattern}
+use Rattle.pat_match.specs.Roles.{role_at}
 use Rattle.pat_pairs.specs.declared.pairs.AlignedToken.{AlignedToken}
 use Rattle.pat_pairs.specs.Pairs.{aligned_tokens}
 use Rattle.edit_marks.specs.declared.mark.Aligned.{Aligned}
@@ -44,7 +45,7 @@ module _ (patterns : List Pattern) (decls : List VarDecl) (tokens : List PatToke
   -- the alignment at a touch; None where it names nothing, or where no form fits
   abbrev pub alignment : Touched → Option (List AlignedToken)
   alignment t =
-      option_and_then (λ p. option_and_then (λ k. option_and_then (λ tree. aligned_tokens decls tokens (total t.env) p k tree)
+      option_and_then (λ p. option_and_then (λ k. option_and_then (λ tree. aligned_tokens decls tokens (total t.env) p (role_at k t.path) tree)
       (tree_at items t.item t.path)) (kind_at kinds t.item t.node)) (pattern_of patterns t.atom)
 
   -- the pairs of numbers; none where there is no alignment

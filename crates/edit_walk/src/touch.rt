@@ -13,6 +13,7 @@ use cfg_graph::NodeKind;
 use cpp_lines::Item;
 use edit_conflict::Edit;
 use edit_marks::{Aligned, edit_of};
+use pat_match::parts::role_at;
 use pat_pairs::{AlignedToken, aligned_tokens};
 use smpl_patch::Pattern;
 use smpl_terms::Env;
@@ -68,7 +69,8 @@ fn alignment(
     let Some(tree) = tree_at(site.items, item, path) else {
         return Ok(None);
     };
-    aligned_tokens(alloc, pattern, site.decls, site.tokens, kind, tree, env)
+    let role = role_at(kind, path.steps());
+    aligned_tokens(alloc, pattern, site.decls, site.tokens, role, tree, env)
 }
 
 fn pairs_of(

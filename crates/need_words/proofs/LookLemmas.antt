@@ -7,12 +7,12 @@ use Rattle.std.proofs.lemmas.List.{drop_all}
 use Rattle.std.proofs.lemmas.Option.{slice_get_read}
 use Rattle.c_terms.specs.declared.tree.Tree.{Tree}
 use Rattle.c_terms.specs.Places.{Place}
-use Rattle.cfg_graph.specs.declared.label.NodeKind.{NodeKind}
 use Rattle.smpl_terms.specs.Environments.{Environment}
 use Rattle.smpl_patch.specs.declared.pattern.VarDecl.{VarDecl}
 use Rattle.smpl_patch.specs.declared.pattern.PatToken.{PatToken}
 use Rattle.smpl_patch.specs.declared.pattern.Pattern.{Pattern}
 use Rattle.smpl_patch.specs.declared.pattern.Spot.{Spot}
+use Rattle.pat_match.specs.declared.role.NodeRole.{NodeRole}
 use Rattle.pat_match.specs.Spots.{seats}
 use Rattle.pat_match.specs.Matching.{fits_seat}
 use Rattle.ctl_holds.proofs.TestLemmas.{any_weaker}
@@ -88,20 +88,20 @@ not-true false h = refl
 
 module _ (decls : List VarDecl) (tokens : List PatToken) (env : Environment) where
   -- a form that needs a word fits nothing where the tree lacks it
-  lacks-fit : (w : List ℕ) (p : Pattern) (k : NodeKind) (form t : Tree) → held_spells w p.spot form ≡ true → has_word w t ≡ false
-      → fits_some decls tokens env p k t form ≡ false
-  lacks-fit w p k form t h a = no (fits_some decls tokens env p k t form) (λ e.
+  lacks-fit : (w : List ℕ) (p : Pattern) (r : NodeRole) (form t : Tree) → held_spells w p.spot form ≡ true → has_word w t ≡ false
+      → fits_some decls tokens env p r t form ≡ false
+  lacks-fit w p r form t h a = no (fits_some decls tokens env p r t form) (λ e.
       not_both (has_word w t)
-      (seat-word w p.spot k t (any_weaker (λ (s : Place). fits_seat decls tokens env p k form s.tree) (here w) (seats p.spot k t)
-      (λ s c q. held_has_word decls tokens env w p.spot k form s.tree (and_right _ _ q) h) e)) a)
+      (seat-word w p.spot r.kind t (any_weaker (λ (s : Place). fits_seat decls tokens env p r form s.tree) (here w) (seats p.spot r.kind t)
+      (λ s c q. held_has_word decls tokens env w p.spot r.kind form s.tree (and_right _ _ q) h) e)) a)
 
-  absent-fit : (w : Option (List ℕ)) (p : Pattern) (k : NodeKind) (form t : Tree) → finds w p.spot form ≡ true → is_absent w t ≡ true
+  absent-fit : (w : Option (List ℕ)) (p : Pattern) (k : NodeRole) (form t : Tree) → finds w p.spot form ≡ true → is_absent w t ≡ true
       → fits_some decls tokens env p k t form ≡ false
   absent-fit None p k form t h a = absurd (cc)
   absent-fit (Some w) p k form t h a = lacks-fit w p k form t h (not-true (has_word w t) a)
 
   -- none of the run fits
-  pub run-skipped : (p : Pattern) (k : NodeKind) (t : Tree) (w : Option (List ℕ)) (n e : ℕ) → n ≤ e → IsRun p.spot p.forms w n e
+  pub run-skipped : (p : Pattern) (k : NodeRole) (t : Tree) (w : Option (List ℕ)) (n e : ℕ) → n ≤ e → IsRun p.spot p.forms w n e
       → is_absent w t ≡ true
       → list_any (fits_some decls tokens env p k t) (drop e p.forms) ≡ list_any (fits_some decls tokens env p k t) (drop n p.forms)
   run-skipped p k t w n e le run a =

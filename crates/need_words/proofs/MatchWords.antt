@@ -19,6 +19,7 @@ use Rattle.smpl_patch.specs.declared.pattern.Pattern.{Pattern}
 use Rattle.smpl_patch.specs.declared.pattern.Spot.{Spot}
 use Rattle.smpl_patch.specs.declared.pattern.Spot.TheVariants as spot
 use Rattle.pat_match.specs.Spots.{seats, parts_of_child, own_parts_from, own_parts}
+use Rattle.pat_match.specs.Roles.{role_of}
 use Rattle.pat_match.specs.Matching.{fits_seat, matches}
 use Rattle.pat_match.proofs.InsideLemmas.{kids_parts, any-child}
 use Rattle.ctl_holds.proofs.TestLemmas.{any_found, all_has, any_weaker}
@@ -85,8 +86,8 @@ module _ (decls : List VarDecl) (tokens : List PatToken) (env : Environment) (w 
   pub match_word : (p : Pattern) (l : NodeLabel) → spelled w p ≡ true → matches decls tokens env p l ≡ true → has_word w l.tree ≡ true
   match_word p l e h =
       let f = any_found
-      (λ f. list_any (λ (s : Place). fits_seat decls tokens env p l.kind f s.tree) (seats p.spot l.kind l.tree)) p.forms h in
+      (λ f. list_any (λ (s : Place). fits_seat decls tokens env p (role_of l) f s.tree) (seats p.spot l.kind l.tree)) p.forms h in
       let g : held_spells w p.spot f.0 ≡ true = all_has (held_spells w p.spot) f.0 p.forms f.1 (and_right _ _ e) in
       seat-word w p.spot l.kind l.tree
-      (any_weaker (λ (s : Place). fits_seat decls tokens env p l.kind f.0 s.tree) (here w) (seats p.spot l.kind l.tree)
+      (any_weaker (λ (s : Place). fits_seat decls tokens env p (role_of l) f.0 s.tree) (here w) (seats p.spot l.kind l.tree)
       (λ s c q. held_has_word decls tokens env w p.spot l.kind f.0 s.tree (and_right _ _ q) g) f.2)

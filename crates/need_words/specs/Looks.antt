@@ -2,12 +2,12 @@
 use Rattle.std.specs.Prelude.{◌≡◌, ◌≤◌, ◌<◌, ℕ, Bool, true, false, not, Option, Some, None, List, [], ◌∷◌, length, slice_get, ⊤}
 use Rattle.std.specs.List.{list_any}
 use Rattle.c_terms.specs.declared.tree.Tree.{Tree}
-use Rattle.cfg_graph.specs.declared.label.NodeKind.{NodeKind}
 use Rattle.smpl_terms.specs.Environments.{Environment}
 use Rattle.smpl_patch.specs.declared.pattern.VarDecl.{VarDecl}
 use Rattle.smpl_patch.specs.declared.pattern.PatToken.{PatToken}
 use Rattle.smpl_patch.specs.declared.pattern.Pattern.{Pattern}
 use Rattle.smpl_patch.specs.declared.pattern.Spot.{Spot}
+use Rattle.pat_match.specs.declared.role.NodeRole.{NodeRole}
 use Rattle.pat_match.specs.Spots.{seats}
 use Rattle.pat_match.specs.Matching.{fits_seat}
 use Rattle.need_words.specs.declared.looks.Look.{Look}
@@ -40,5 +40,5 @@ AreLooks p (l ∷ ls) = Covers p.spot p.forms 0 (l ∷ ls) (length p.forms)
 
 module _ (decls : List VarDecl) (tokens : List PatToken) (env : Environment) where
   -- the form fits some subtree of the node
-  abbrev pub fits_some : Pattern → NodeKind → Tree → Tree → Bool
-  fits_some p k t form = list_any (λ s. fits_seat decls tokens env p k form s.tree) (seats p.spot k t)
+  abbrev pub fits_some : Pattern → NodeRole → Tree → Tree → Bool
+  fits_some p r t form = list_any (λ s. fits_seat decls tokens env p r form s.tree) (seats p.spot r.kind t)

@@ -12,9 +12,9 @@ ghost use Rattle.need_words.specs.Looks as of;
 use crate::looks::Look;
 use crate::word::is_word;
 use c_terms::{NoMemory, Text, Tree};
-use cfg_graph::{NodeKind, NodeLabel};
+use cfg_graph::NodeLabel;
 use env_sets::{Entry, EnvSet};
-use pat_match::parts::{put_set, solve_form, union};
+use pat_match::parts::{NodeRole, put_set, role_of, solve_form, union};
 use pat_match::solve;
 use smpl_patch::{PatToken, Pattern, VarDecl};
 use std::alloc::Global;
@@ -72,7 +72,7 @@ fn put_forms(
     p: &Pattern,
     decls: &[VarDecl],
     tokens: &[PatToken],
-    kind: NodeKind,
+    role: NodeRole,
     first: usize,
     end: usize,
     tree: &Tree,
@@ -81,15 +81,15 @@ fn put_forms(
     requires within { end ≤ length p.now.forms }
     ensures meaning { IfOk result (λ _. (env : Environment) →
         (set_denotes entries.new.items env
-        || list_any (of.fits_some decls.now tokens.now env p.now kind tree.now) (drop end p.now.forms))
+        || list_any (of.fits_some decls.now tokens.now env p.now role tree.now) (drop end p.now.forms))
         ≡ (set_denotes entries.old.items env
-        || list_any (of.fits_some decls.now tokens.now env p.now kind tree.now) (drop first p.now.forms))) }
+        || list_any (of.fits_some decls.now tokens.now env p.now role tree.now) (drop first p.now.forms))) }
     ensures vars { IfOk result (λ _. (t : Var → Bool) → pattern_vars decls.now tokens.now t p.now ≡ true
         → set_vars t entries.old.items ≡ true → set_vars t entries.new.items ≡ true) }
 {
     let forms = p.forms.as_slice();
     for i in first..end {
-        let here = solve_form(alloc, p, decls, tokens, kind, i, &forms[i], tree)?;
+        let here = solve_form(alloc, p, decls, tokens, role, i, &forms[i], tree)?;
         put_set(entries, here)?;
     }
     Ok(())
@@ -102,7 +102,7 @@ fn put_run(
     p: &Pattern,
     decls: &[VarDecl],
     tokens: &[PatToken],
-    kind: NodeKind,
+    role: NodeRole,
     first: usize,
     look: &Look,
     tree: &Tree,
@@ -112,9 +112,9 @@ fn put_run(
     requires run { of.IsRun p.now.spot p.now.forms look.now.word first look.now.end }
     ensures meaning { IfOk result (λ _. (env : Environment) →
         (set_denotes entries.new.items env
-        || list_any (of.fits_some decls.now tokens.now env p.now kind tree.now) (drop look.now.end p.now.forms))
+        || list_any (of.fits_some decls.now tokens.now env p.now role tree.now) (drop look.now.end p.now.forms))
         ≡ (set_denotes entries.old.items env
-        || list_any (of.fits_some decls.now tokens.now env p.now kind tree.now) (drop first p.now.forms))) }
+        || list_any (of.fits_some decls.now tokens.now env p.now role tree.now) (drop first p.now.forms))) }
     ensures vars { IfOk result (λ _. (t : Var → Bool) → pattern_vars decls.now tokens.now t p.now ≡ true
         → set_vars t entries.old.items ≡ true → set_vars t entries.new.items ≡ true) }
 {
@@ -123,23 +123,23 @@ fn put_run(
         return Ok(());
     }
     put_forms(
-        alloc, entries, p, decls, tokens, kind, first, look.end, tree,
+        alloc, entries, p, decls, tokens, role, first, look.end, tree,
     )
 }
 
-/// The same at a node of this kind and tree, run by run.
+/// The same at a node of this role and tree, run by run.
 fn solve_runs(
     alloc: Global,
     looks: &[Look],
     p: &Pattern,
     decls: &[VarDecl],
     tokens: &[PatToken],
-    kind: NodeKind,
+    role: NodeRole,
     tree: &Tree,
 ) -> Result<EnvSet, NoMemory>
     requires { of.Covers p.now.spot p.now.forms 0 looks.now (length p.now.forms) }
     ensures meaning { IfOk result (λ r. (env : Environment) → set_denotes r env
-        ≡ list_any (of.fits_some decls.now tokens.now env p.now kind tree.now) p.now.forms) }
+        ≡ list_any (of.fits_some decls.now tokens.now env p.now role tree.now) p.now.forms) }
     ensures vars { IfOk result (λ r. (t : Var → Bool) → pattern_vars decls.now tokens.now t p.now ≡ true
         → set_vars t r ≡ true) }
 {
@@ -152,7 +152,7 @@ fn solve_runs(
             p,
             decls,
             tokens,
-            kind,
+            role,
             next,
             &looks[n],
             tree,
@@ -192,7 +192,7 @@ pub fn solve_by(
         p,
         decls,
         tokens,
-        node.kind,
+        role_of(node),
         node.tree.as_tree(),
     )
 }

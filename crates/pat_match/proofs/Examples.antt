@@ -1,5 +1,5 @@
 -- The definitions at a few values, above all where two readings would differ.
-use Rattle.std.proofs.Common.{◌≡◌, ℕ, Bool, true, false, refl, List, [], ◌∷◌, Some, None}
+use Rattle.std.proofs.Common.{◌≡◌, ℕ, Bool, true, false, ◌&&◌, not, ap, refl, List, [], ◌∷◌, Some, None}
 use Rattle.std.specs.Prelude.{codes}
 use Rattle.c_terms.specs.declared.token.Token.{Token}
 use Rattle.c_terms.specs.declared.token.TokenKind.{TokenKind}
@@ -23,7 +23,13 @@ use Rattle.pat_match.specs.Kinds.{is_constant_name, token_is_of, label_is_of, is
 use Rattle.pat_match.specs.Tokens.{stands_at, token_fits}
 use Rattle.pat_match.specs.Runs.{Piece, Pair, runs_from, fewest, is_wild_kind}
 use Rattle.pat_match.specs.Fitting.{fits_by, pairs_by}
+use Rattle.c_terms.specs.declared.tree.Tree.TheVariants.{Leaf}
+use Rattle.c_terms.proofs.SameLemmas.{out-Leaf}
+use Rattle.smpl_patch.specs.declared.pattern.Pattern.{Pattern}
+use Rattle.pat_match.specs.declared.role.NodeRole.{NodeRole}
 use Rattle.pat_match.specs.Spots.{is_statement_node, token_whole, branch_whole, own_fit}
+use Rattle.pat_match.specs.Roles.{is_statement_variable, role_at, may_stand}
+use Rattle.pat_match.specs.Matching.{is_live_in, fits_seat}
 
 abbrev token : TokenKind → List ℕ → ℕ → Token
 token k text id = record { kind = k; text = text; id = id }
@@ -236,3 +242,49 @@ statement_at_head = refl
 
 statement_at_block : is_statement_node node.OpenBrace ≡ true
 statement_at_block = refl
+
+-- Roles: of `int f(void) { { a(); } }` the function's own block is child 2 of the item, and the other child 1 of that one.
+
+abbrev own_block : NodeRole
+own_block = role_at node.OpenBrace (2 ∷ [])
+
+abbrev inner_block : NodeRole
+inner_block = role_at node.OpenBrace (2 ∷ 1 ∷ [])
+
+abbrev variable : Tree
+variable = Leaf (token (kind.Meta meta.Stmt) (codes "S") 0)
+
+abbrev brace : Tree
+brace = Leaf (token kind.Punct (codes "{") 0)
+
+own_is_outermost : own_block.outermost ≡ true
+own_is_outermost = refl
+
+inner_is_not : inner_block.outermost ≡ false
+inner_is_not = refl
+
+-- a function's head, at the path of the item, and a statement are no blocks
+head_is_not : (role_at node.FunHead []).outermost ≡ false
+head_is_not = refl
+
+statement_is_not : (role_at node.Simple (2 ∷ [])).outermost ≡ false
+statement_is_not = refl
+
+variable_not_at_own : may_stand own_block variable ≡ false
+variable_not_at_own = ap (λ y. not (is_statement_variable y)) (out-Leaf (token (kind.Meta meta.Stmt) (codes "S") 0))
+
+variable_at_inner : may_stand inner_block variable ≡ true
+variable_at_inner = refl
+
+brace_at_own : may_stand own_block brace ≡ true
+brace_at_own = ap (λ y. not (is_statement_variable y)) (out-Leaf (token kind.Punct (codes "{") 0))
+
+neither : (a b c : Bool) → b ≡ false → ((a && b) && c) ≡ false
+neither true false c h = refl
+neither false b c h = refl
+neither true true c h = absurd (cc)
+
+-- so a statement variable fits no function's own block, whatever it holds
+no_body : (decls : List VarDecl) (tokens : List PatToken) (env : Environment) (pattern : Pattern) (t : Tree)
+    → fits_seat decls tokens env pattern own_block variable t ≡ false
+no_body decls tokens env pattern t = neither (is_live_in decls tokens pattern variable) _ _ variable_not_at_own

@@ -10,11 +10,11 @@ use Rattle.c_terms.specs.Places.{Place, below, part_at, parts, parts_from}
 use Rattle.c_terms.specs.Shapes.{is_expression_part}
 use Rattle.c_terms.proofs.PlaceLaws.{child_known, parts-Leaf, parts-Branch}
 use Rattle.smpl_terms.specs.Environments.{Environment}
-use Rattle.cfg_graph.specs.declared.label.NodeKind.{NodeKind}
 use Rattle.smpl_patch.specs.declared.pattern.VarDecl.{VarDecl}
 use Rattle.smpl_patch.specs.declared.pattern.PatToken.{PatToken}
 use Rattle.smpl_patch.specs.declared.pattern.Pattern.{Pattern}
 use Rattle.pat_match.specs.declared.aligning.Alignment.{Alignment}
+use Rattle.pat_match.specs.declared.role.NodeRole.{NodeRole}
 use Rattle.pat_match.specs.Spots.{parts_of_child, own_parts_from}
 use Rattle.pat_match.specs.Matching.{put_form, form_at, aligned_at}
 use Rattle.pat_match.proofs.CountLemmas.{drop_past}
@@ -122,7 +122,7 @@ not_live false q ps h = any_no ps
 
 -- those that are aligned
 
-module _ (decls : List VarDecl) (tokens : List PatToken) (env : Environment) (p : Pattern) (k : NodeKind) where
+module _ (decls : List VarDecl) (tokens : List PatToken) (env : Environment) (p : Pattern) (k : NodeRole) where
   abbrev aligned : List ℕ → List Place → List Alignment
   aligned = aligned_at decls tokens env p k
 

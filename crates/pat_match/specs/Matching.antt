@@ -7,7 +7,6 @@ use Rattle.c_terms.specs.declared.token.TokenKind.TheVariants as token_kind
 use Rattle.c_terms.specs.declared.tree.Tree.{Tree}
 use Rattle.c_terms.specs.Trees.{leaves}
 use Rattle.c_terms.specs.Places.{Place}
-use Rattle.cfg_graph.specs.declared.label.NodeKind.{NodeKind}
 use Rattle.cfg_graph.specs.declared.label.NodeLabel.{NodeLabel}
 use Rattle.smpl_terms.specs.declared.var.Var.{Var}
 use Rattle.smpl_patch.specs.declared.pattern.VarDecl.{VarDecl}
@@ -17,7 +16,9 @@ use Rattle.smpl_patch.specs.declared.pattern.Pattern.{Pattern}
 use Rattle.smpl_patch.specs.Patterns.{declared_as, held_sure, in_first}
 use Rattle.smpl_terms.specs.Environments.{Environment}
 use Rattle.pat_match.specs.declared.aligning.Alignment.{Alignment}
+use Rattle.pat_match.specs.declared.role.NodeRole.{NodeRole}
 use Rattle.pat_match.specs.Spots.{seats, fits_at}
+use Rattle.pat_match.specs.Roles.{role_of, may_stand}
 
 abbrev pub var_passes : (Var → Bool) → Option VarDecl → Bool
 var_passes test None = true
@@ -58,22 +59,23 @@ module _ (decls : List VarDecl) (tokens : List PatToken) where
   is_live_in p form = in_first (λ first. is_live p.spot first form) p.forms
 
 module _ (decls : List VarDecl) (tokens : List PatToken) (env : Environment) where
-  -- the form has the first form's sure variables, and fits the subtree
-  abbrev pub fits_seat : Pattern → NodeKind → Tree → Tree → Bool
-  fits_seat p k form t = is_live_in decls tokens p form && fits_at decls tokens env p.spot k form t
+  -- the form has the first form's sure variables, may stand at a node of this role, and fits the subtree
+  abbrev pub fits_seat : Pattern → NodeRole → Tree → Tree → Bool
+  fits_seat p r form t =
+      (is_live_in decls tokens p form && may_stand r form) && fits_at decls tokens env p.spot r.kind form t
 
   -- The pattern matches at the node: some form fits some subtree.
   abbrev pub matches : Pattern → NodeLabel → Bool
-  matches p n = list_any (λ f. list_any (λ s. fits_seat p n.kind f s.tree) (seats p.spot n.kind n.tree)) p.forms
+  matches p n = list_any (λ f. list_any (λ s. fits_seat p (role_of n) f s.tree) (seats p.spot n.kind n.tree)) p.forms
 
-  abbrev pub form_at : Pattern → NodeKind → Tree → Option ℕ
-  form_at p k t = first_from 0 (λ f. fits_seat p k f t) p.forms
+  abbrev pub form_at : Pattern → NodeRole → Tree → Option ℕ
+  form_at p r t = first_from 0 (λ f. fits_seat p r f t) p.forms
 
   -- the subtrees that match, by their paths from the item
-  abbrev pub aligned_at : Pattern → NodeKind → List ℕ → List Place → List Alignment
-  aligned_at p k above [] = []
-  aligned_at p k above (s ∷ ss) = put_form (above ++ s.path) (form_at p k s.tree) ++ aligned_at p k above ss
+  abbrev pub aligned_at : Pattern → NodeRole → List ℕ → List Place → List Alignment
+  aligned_at p r above [] = []
+  aligned_at p r above (s ∷ ss) = put_form (above ++ s.path) (form_at p r s.tree) ++ aligned_at p r above ss
 
   -- each subtree that matches, by place, with its first form that does
   abbrev pub aligns : Pattern → NodeLabel → List Alignment
-  aligns p n = aligned_at p n.kind n.path (seats p.spot n.kind n.tree)
+  aligns p n = aligned_at p (role_of n) n.path (seats p.spot n.kind n.tree)

@@ -6,10 +6,10 @@ ghost use Rattle.cfg_graph.specs.Own as own;
 ghost use Rattle.pat_match.specs.Spots as at;
 ghost use Rattle.pat_match.specs.Matching as of;
 
-use crate::live::is_live_at;
+use crate::role::{NodeRole, may_fit, role_of};
 use crate::spots::fit_at;
 use c_terms::{Label, NoMemory, Tree, TreePath, is_expression_part};
-use cfg_graph::{NodeKind, NodeLabel, is_own};
+use cfg_graph::{NodeLabel, is_own};
 use env_sets::denotes;
 use smpl_patch::{PatToken, Pattern, Spot, VarDecl};
 use smpl_terms::Env;
@@ -22,13 +22,13 @@ pub struct Alignment {
     pub form: u32,
 }
 
-/// Whether the i-th form has the first form's sure variables and fits the subtree.
+/// Whether the i-th form has the first form's sure variables, may stand at a node of this role, and fits the subtree.
 pub fn fits_seat(
     alloc: Global,
     p: &Pattern,
     decls: &[VarDecl],
     tokens: &[PatToken],
-    kind: NodeKind,
+    role: NodeRole,
     i: usize,
     form: &Tree,
     tree: &Tree,
@@ -37,11 +37,11 @@ pub fn fits_seat(
     requires within { i < length p.now.forms }
     requires form { form.now ≡ slice_index_or p.now.forms i form.now }
     ensures { IfOk result (λ r. r
-        ≡ of.fits_seat decls.now tokens.now (total env.now) p.now kind form.now tree.now) }
+        ≡ of.fits_seat decls.now tokens.now (total env.now) p.now role form.now tree.now) }
 {
-    let set = fit_at(alloc, decls, tokens, p.spot, kind, form, tree)?;
+    let set = fit_at(alloc, decls, tokens, p.spot, role.kind, form, tree)?;
     let fits = denotes(&set, env);
-    Ok(fits && is_live_at(decls, tokens, p, i, form))
+    Ok(fits && may_fit(decls, tokens, p, i, role, form))
 }
 
 /// The number of the first form that fits the subtree.
@@ -50,17 +50,17 @@ fn form_at(
     p: &Pattern,
     decls: &[VarDecl],
     tokens: &[PatToken],
-    kind: NodeKind,
+    role: NodeRole,
     tree: &Tree,
     env: &Env,
 ) -> Result<Option<u32>, NoMemory>
     requires few { length p.now.forms < 2 ^ 32 }
     ensures { IfOk result (λ o. o
-        ≡ of.form_at decls.now tokens.now (total env.now) p.now kind tree.now) }
+        ≡ of.form_at decls.now tokens.now (total env.now) p.now role tree.now) }
 {
     let forms = p.forms.as_slice();
     for i in 0..forms.len() {
-        if fits_seat(alloc, p, decls, tokens, kind, i, &forms[i], tree, env)? {
+        if fits_seat(alloc, p, decls, tokens, role, i, &forms[i], tree, env)? {
             return Ok(Some(i as u32));
         }
     }
@@ -92,7 +92,7 @@ fn put_part(
     p: &Pattern,
     decls: &[VarDecl],
     tokens: &[PatToken],
-    kind: NodeKind,
+    role: NodeRole,
     env: &Env,
     asked: bool,
     path: &[u32],
@@ -100,13 +100,13 @@ fn put_part(
 ) -> Result<(), NoMemory>
     requires few { length p.now.forms < 2 ^ 32 }
     ensures { IfOk result (λ _. found.new.items ≡ found.old.items
-        ++ (if asked then of.put_form path.now (of.form_at decls.now tokens.now (total env.now) p.now kind tree.now)
+        ++ (if asked then of.put_form path.now (of.form_at decls.now tokens.now (total env.now) p.now role tree.now)
         else [])) }
 {
     if !asked {
         return Ok(());
     }
-    let form = form_at(alloc, p, decls, tokens, kind, tree, env)?;
+    let form = form_at(alloc, p, decls, tokens, role, tree, env)?;
     put_form(alloc, found, path, form)
 }
 
@@ -119,7 +119,7 @@ fn put_child(
     p: &Pattern,
     decls: &[VarDecl],
     tokens: &[PatToken],
-    kind: NodeKind,
+    role: NodeRole,
     env: &Env,
     label: Label,
     i: usize,
@@ -128,7 +128,7 @@ fn put_child(
     requires few { length p.now.forms < 2 ^ 32 }
     ensures found { OnOk result (found.new.items ≡ found.old.items
         ++ of.aligned_at decls.now tokens.now (total env.now)
-        p.now kind above.old.items (at.parts_of_child label i child.now)) }
+        p.now role above.old.items (at.parts_of_child label i child.now)) }
     ensures above { OnOk result (above.new.items ≡ above.old.items) }
 {
     if i >= 4294967296 {
@@ -142,7 +142,7 @@ fn put_child(
         p,
         decls,
         tokens,
-        kind,
+        role,
         env,
         asked,
         above.as_slice(),
@@ -153,7 +153,7 @@ fn put_child(
         Tree::Branch(inner, children) => {
             for (j, below) in children.as_slice().iter().enumerate() {
                 put_child(
-                    alloc, found, above, p, decls, tokens, kind, env, *inner, j, below,
+                    alloc, found, above, p, decls, tokens, role, env, *inner, j, below,
                 )?;
             }
         }
@@ -170,7 +170,7 @@ fn put_own(
     p: &Pattern,
     decls: &[VarDecl],
     tokens: &[PatToken],
-    kind: NodeKind,
+    role: NodeRole,
     env: &Env,
     own: bool,
     label: Label,
@@ -180,12 +180,12 @@ fn put_own(
     requires few { length p.now.forms < 2 ^ 32 }
     ensures found { OnOk result (found.new.items ≡ found.old.items
         ++ of.aligned_at decls.now tokens.now (total env.now)
-        p.now kind above.old.items (if own then at.parts_of_child label i child.now else [])) }
+        p.now role above.old.items (if own then at.parts_of_child label i child.now else [])) }
     ensures above { OnOk result (above.new.items ≡ above.old.items) }
 {
     if own {
         put_child(
-            alloc, found, above, p, decls, tokens, kind, env, label, i, child,
+            alloc, found, above, p, decls, tokens, role, env, label, i, child,
         )
     } else {
         Ok(())
@@ -197,7 +197,7 @@ fn align_own_parts(
     p: &Pattern,
     decls: &[VarDecl],
     tokens: &[PatToken],
-    kind: NodeKind,
+    role: NodeRole,
     env: &Env,
     path: &[u32],
     label: Label,
@@ -205,13 +205,13 @@ fn align_own_parts(
 ) -> Result<Vec<Alignment>, NoMemory>
     requires few { length p.now.forms < 2 ^ 32 }
     ensures { IfOk result (λ r. r.items
-        ≡ of.aligned_at decls.now tokens.now (total env.now) p.now kind path.now
-        (at.own_parts_from (own.is_own kind label (length children.now)) label 0 children.now)) }
+        ≡ of.aligned_at decls.now tokens.now (total env.now) p.now role path.now
+        (at.own_parts_from (own.is_own role.kind label (length children.now)) label 0 children.now)) }
 {
     let mut found = Vec::new(alloc);
     let mut above = Vec::from_slice(alloc, path)?;
     for i in 0..children.len() {
-        let own = is_own(kind, label, children.len(), i);
+        let own = is_own(role.kind, label, children.len(), i);
         put_own(
             alloc,
             &mut found,
@@ -219,7 +219,7 @@ fn align_own_parts(
             p,
             decls,
             tokens,
-            kind,
+            role,
             env,
             own,
             label,
@@ -235,21 +235,21 @@ fn align_inside(
     p: &Pattern,
     decls: &[VarDecl],
     tokens: &[PatToken],
-    kind: NodeKind,
+    role: NodeRole,
     env: &Env,
     path: &[u32],
     tree: &Tree,
 ) -> Result<Vec<Alignment>, NoMemory>
     requires few { length p.now.forms < 2 ^ 32 }
     ensures { IfOk result (λ r. r.items
-        ≡ of.aligned_at decls.now tokens.now (total env.now) p.now kind path.now
-        (at.own_parts kind (out-Tree tree.now))) }
+        ≡ of.aligned_at decls.now tokens.now (total env.now) p.now role path.now
+        (at.own_parts role.kind (out-Tree tree.now))) }
 {
     match tree {
         Tree::Leaf(_) => Ok(Vec::new(alloc)),
         Tree::Branch(label, children) => {
             let children = children.as_slice();
-            align_own_parts(alloc, p, decls, tokens, kind, env, path, *label, children)
+            align_own_parts(alloc, p, decls, tokens, role, env, path, *label, children)
         }
     }
 }
@@ -259,17 +259,17 @@ fn align_whole(
     p: &Pattern,
     decls: &[VarDecl],
     tokens: &[PatToken],
-    kind: NodeKind,
+    role: NodeRole,
     env: &Env,
     path: &[u32],
     tree: &Tree,
 ) -> Result<Vec<Alignment>, NoMemory>
     requires few { length p.now.forms < 2 ^ 32 }
     ensures { IfOk result (λ r. r.items
-        ≡ of.put_form path.now (of.form_at decls.now tokens.now (total env.now) p.now kind tree.now)) }
+        ≡ of.put_form path.now (of.form_at decls.now tokens.now (total env.now) p.now role tree.now)) }
 {
     let mut found = Vec::new(alloc);
-    let form = form_at(alloc, p, decls, tokens, kind, tree, env)?;
+    let form = form_at(alloc, p, decls, tokens, role, tree, env)?;
     put_form(alloc, &mut found, path, form)?;
     Ok(found)
 }
@@ -294,9 +294,10 @@ pub fn align(
     let tree = node.tree.as_tree();
     let steps = node.path.steps(alloc)?;
     let path = steps.as_slice();
+    let role = role_of(node);
     match p.spot {
-        Spot::Inside => align_inside(alloc, p, decls, tokens, node.kind, env, path, tree),
-        Spot::Whole => align_whole(alloc, p, decls, tokens, node.kind, env, path, tree),
-        Spot::Tail => align_whole(alloc, p, decls, tokens, node.kind, env, path, tree),
+        Spot::Inside => align_inside(alloc, p, decls, tokens, role, env, path, tree),
+        Spot::Whole => align_whole(alloc, p, decls, tokens, role, env, path, tree),
+        Spot::Tail => align_whole(alloc, p, decls, tokens, role, env, path, tree),
     }
 }

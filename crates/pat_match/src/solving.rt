@@ -9,7 +9,7 @@ ghost use Rattle.pat_match.specs.Spots as at;
 ghost use Rattle.pat_match.specs.Matching as of;
 
 use crate::inside::fit_inside;
-use crate::live::is_live_at;
+use crate::role::{NodeRole, may_fit, role_of};
 use crate::sets::{is_none, put_set, union};
 use crate::spots::fit_at;
 use c_terms::{NoMemory, Tree};
@@ -41,13 +41,14 @@ fn fit_seats(
     }
 }
 
-/// The environments in which the i-th form has the first form's sure variables and fits some subtree of the node.
+/// The environments in which the i-th form has the first form's sure variables, may stand at a node of this role, and fits some
+/// subtree of the node.
 pub fn solve_form(
     alloc: Global,
     p: &Pattern,
     decls: &[VarDecl],
     tokens: &[PatToken],
-    kind: NodeKind,
+    role: NodeRole,
     i: usize,
     form: &Tree,
     tree: &Tree,
@@ -55,16 +56,16 @@ pub fn solve_form(
     requires within { i < length p.now.forms }
     requires form { form.now ≡ slice_index_or p.now.forms i form.now }
     ensures meaning { IfOk result (λ r. (env : Environment) → set_denotes r env ≡ list_any
-        (λ s. of.fits_seat decls.now tokens.now env p.now kind form.now s.tree) (at.seats p.now.spot kind tree.now)) }
+        (λ s. of.fits_seat decls.now tokens.now env p.now role form.now s.tree) (at.seats p.now.spot role.kind tree.now)) }
     ensures vars { IfOk result (λ r. (t : Var → Bool) → form_vars decls.now tokens.now t form.now
         ≡ true →
         set_vars t r ≡ true) }
 {
-    let set = fit_seats(alloc, decls, tokens, p.spot, kind, form, tree)?;
+    let set = fit_seats(alloc, decls, tokens, p.spot, role.kind, form, tree)?;
     if is_none(&set) {
         return Ok(set);
     }
-    if is_live_at(decls, tokens, p, i, form) {
+    if may_fit(decls, tokens, p, i, role, form) {
         Ok(set)
     } else {
         Ok(EnvSet::none(alloc))
@@ -92,10 +93,11 @@ pub fn solve(
         set_vars t r ≡ true) }
 {
     let tree = node.tree.as_tree();
+    let role = role_of(node);
     let mut entries = Vec::new(alloc);
     let forms = p.forms.as_slice();
     for i in 0..forms.len() {
-        let here = solve_form(alloc, p, decls, tokens, node.kind, i, &forms[i], tree)?;
+        let here = solve_form(alloc, p, decls, tokens, role, i, &forms[i], tree)?;
         put_set(&mut entries, here)?;
     }
     union(alloc, entries)

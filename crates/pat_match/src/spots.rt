@@ -22,7 +22,7 @@ use env_sets::EnvSet;
 use smpl_patch::{PatToken, Spot, VarDecl};
 use std::alloc::Global;
 
-fn is_statement_kind(kind: TokenKind) -> bool
+pub fn is_statement_kind(kind: TokenKind) -> bool
     ensures { result ≡ is_statement_token kind }
 {
     match kind {

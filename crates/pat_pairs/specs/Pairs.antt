@@ -4,12 +4,12 @@ use Rattle.c_terms.specs.declared.token.Token.{Token}
 use Rattle.c_terms.specs.declared.label.Label.{Label}
 use Rattle.c_terms.specs.declared.list.Member.{Member}
 use Rattle.c_terms.specs.declared.tree.Tree.{Tree}
-use Rattle.cfg_graph.specs.declared.label.NodeKind.{NodeKind}
 use Rattle.smpl_patch.specs.declared.pattern.VarDecl.{VarDecl}
 use Rattle.smpl_patch.specs.declared.pattern.PatToken.{PatToken}
 use Rattle.smpl_patch.specs.declared.pattern.Pattern.{Pattern}
 use Rattle.smpl_terms.specs.Environments.{Environment}
 use Rattle.pat_pairs.specs.declared.pairs.AlignedToken.{AlignedToken}
+use Rattle.pat_match.specs.declared.role.NodeRole.{NodeRole}
 use Rattle.pat_match.specs.Runs.{Pair, takes, leftmost, runs_pairs}
 use Rattle.pat_match.specs.Fitting.{piece}
 use Rattle.pat_match.specs.Spots.{alignment_at}
@@ -28,15 +28,16 @@ numbers = map aligned_token
 
 module _ (decls : List VarDecl) (tokens : List PatToken) (env : Environment) where
   -- what is aligned by the first of these forms that fits the subtree
-  abbrev pub first_aligned : Pattern → NodeKind → Tree → List Tree → Option (List AlignedToken)
-  first_aligned p k t [] = None
-  first_aligned p k t (f ∷ fs) =
-      cond (fits_seat decls tokens env p k f t) (Some (numbers (alignment_at decls tokens env p.spot k f t))) (first_aligned p k t fs)
+  abbrev pub first_aligned : Pattern → NodeRole → Tree → List Tree → Option (List AlignedToken)
+  first_aligned p r t [] = None
+  first_aligned p r t (f ∷ fs) =
+      cond (fits_seat decls tokens env p r f t) (Some (numbers (alignment_at decls tokens env p.spot r.kind f t)))
+      (first_aligned p r t fs)
 
-  -- The tokens that are aligned where the pattern matches the subtree at a node of this kind: those of its first form
+  -- The tokens that are aligned where the pattern matches the subtree at a node of this role: those of its first form
   -- that does.
-  abbrev pub aligned_tokens : Pattern → NodeKind → Tree → Option (List AlignedToken)
-  aligned_tokens p k t = first_aligned p k t p.forms
+  abbrev pub aligned_tokens : Pattern → NodeRole → Tree → Option (List AlignedToken)
+  aligned_tokens p r t = first_aligned p r t p.forms
 
   -- for inside use
 

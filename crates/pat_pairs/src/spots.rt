@@ -13,7 +13,9 @@ use crate::pairing::put_pairs;
 use crate::pairs::AlignedToken;
 use c_terms::{NoMemory, Token, Tree};
 use cfg_graph::NodeKind;
-use pat_match::parts::{close_brace, fits_seat, is_close_brace, is_open_brace, open_brace};
+use pat_match::parts::{
+    NodeRole, close_brace, fits_seat, is_close_brace, is_open_brace, open_brace,
+};
 use smpl_patch::{PatToken, Pattern, Spot, VarDecl};
 use smpl_terms::Env;
 use std::alloc::Global;
@@ -184,7 +186,7 @@ fn pairs_at(
     Ok(found)
 }
 
-/// The tokens that are aligned where the pattern matches the subtree at a node of this kind, in the order of the form:
+/// The tokens that are aligned where the pattern matches the subtree at a node of this role, in the order of the form:
 /// those of the first form that fits. None where no form fits. For a pattern of spot Whole or Tail the subtree is that of the
 /// node, else a part of it that `align` names.
 ///
@@ -195,18 +197,18 @@ pub fn aligned_tokens(
     p: &Pattern,
     decls: &[VarDecl],
     tokens: &[PatToken],
-    kind: NodeKind,
+    role: NodeRole,
     tree: &Tree,
     env: &Env,
 ) -> Result<Option<Vec<AlignedToken>>, NoMemory>
     ensures exact { IfOk result (λ r. option_map (λ found. found.items) r
-        ≡ of.aligned_tokens decls.now tokens.now (total env.now) p.now kind tree.now) }
+        ≡ of.aligned_tokens decls.now tokens.now (total env.now) p.now role tree.now) }
 {
     let forms = p.forms.as_slice();
     for i in 0..forms.len() {
         let form = &forms[i];
-        if fits_seat(alloc, p, decls, tokens, kind, i, form, tree, env)? {
-            let found = pairs_at(alloc, decls, tokens, env, p.spot, kind, form, tree)?;
+        if fits_seat(alloc, p, decls, tokens, role, i, form, tree, env)? {
+            let found = pairs_at(alloc, decls, tokens, env, p.spot, role.kind, form, tree)?;
             return Ok(Some(found));
         }
     }

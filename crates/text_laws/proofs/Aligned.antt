@@ -28,6 +28,7 @@ use Rattle.pat_match.specs.Runs.{leftmost, runs_pairs, list_pairs}
 use Rattle.pat_match.specs.Fitting.{piece, pairs_by, first_pairs, every_pairs, zip_pairs, kids_pairs, alignment}
 use Rattle.pat_match.specs.Spots.{is_open_brace, is_close_brace, last_at, open_brace, close_brace, own_pairs, option_pairs, own_alignment}
 use Rattle.pat_match.specs.Spots.{token_alignment, branch_alignment, whole_alignment, alignment_at}
+use Rattle.pat_match.specs.declared.role.NodeRole.{NodeRole}
 use Rattle.pat_match.specs.Matching.{fits_seat}
 use Rattle.pat_match.proofs.Pieces.{piece-Leaf, piece-Branch}
 use Rattle.pat_pairs.specs.declared.pairs.AlignedToken.{AlignedToken}
@@ -250,14 +251,14 @@ module _ (P : Token → Type 0) where
     cond_found true x y h k = h
     cond_found false x y h k = k
 
-    forms_found : (decls : List VarDecl) (tokens : List PatToken) (env : Environment) (p : Pattern) (k : NodeKind) (t : Tree) (forms : List Tree) → InTree t
+    forms_found : (decls : List VarDecl) (tokens : List PatToken) (env : Environment) (p : Pattern) (k : NodeRole) (t : Tree) (forms : List Tree) → InTree t
         → FoundHave Q (first_aligned decls tokens env p k t forms)
     forms_found decls tokens env p k t [] h = tt
     forms_found decls tokens env p k t (f ∷ fs) h =
-        cond_found (fits_seat decls tokens env p k f t) (Some (numbers (alignment_at decls tokens env p.spot k f t)))
+        cond_found (fits_seat decls tokens env p k f t) (Some (numbers (alignment_at decls tokens env p.spot k.kind f t)))
         (first_aligned decls tokens env p k t fs)
-        (numbers_have (alignment_at decls tokens env p.spot k f t) (spot_aligned decls tokens env p.spot k f t h)) (forms_found decls tokens env p k t fs h)
+        (numbers_have (alignment_at decls tokens env p.spot k.kind f t) (spot_aligned decls tokens env p.spot k.kind f t h)) (forms_found decls tokens env p k t fs h)
 
-    pub tokens_found : (decls : List VarDecl) (tokens : List PatToken) (env : Environment) (p : Pattern) (k : NodeKind) (t : Tree) → InTree t
+    pub tokens_found : (decls : List VarDecl) (tokens : List PatToken) (env : Environment) (p : Pattern) (k : NodeRole) (t : Tree) → InTree t
         → FoundHave Q (aligned_tokens decls tokens env p k t)
     tokens_found decls tokens env p k t h = forms_found decls tokens env p k t p.forms h

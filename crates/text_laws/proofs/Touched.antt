@@ -33,6 +33,7 @@ use Rattle.edit_marks.specs.Spots.{token_spots, spots_of, all_spots}
 use Rattle.edit_marks.specs.Edits.{block_of, insert_if, inserts_at, EditOf}
 use Rattle.edit_unparse.specs.Fair.{is_stray}
 use Rattle.pat_pairs.specs.declared.pairs.AlignedToken.{AlignedToken}
+use Rattle.pat_match.specs.Roles.{role_at}
 use Rattle.pat_pairs.specs.Pairs.{aligned_tokens}
 use Rattle.edit_walk.specs.Touches.{Touched}
 use Rattle.edit_walk.specs.Keys.{number_of}
@@ -93,11 +94,11 @@ module _ (pieces : List TextPiece) where
       (t : Touched)
       → All (IsSoundItem pieces) items → Found (alignment patterns decls tokens items kinds ids t)
   found_at patterns decls tokens items kinds ids t h =
-      then_any (λ p. option_and_then (λ k. option_and_then (λ tree. aligned_tokens decls tokens (total t.env) p k tree) (tree_at items t.item t.path))
+      then_any (λ p. option_and_then (λ k. option_and_then (λ tree. aligned_tokens decls tokens (total t.env) p (role_at k t.path) tree) (tree_at items t.item t.path))
       (kind_at kinds t.item t.node))
-      (λ p. then_any (λ k. option_and_then (λ tree. aligned_tokens decls tokens (total t.env) p k tree) (tree_at items t.item t.path))
-      (λ k. then_tree (λ tree. aligned_tokens decls tokens (total t.env) p k tree)
-      (λ tree own. tokens_found (IsApart pieces) (IsId pieces) (from_token pieces) decls tokens (total t.env) p k tree own)
+      (λ p. then_any (λ k. option_and_then (λ tree. aligned_tokens decls tokens (total t.env) p (role_at k t.path) tree) (tree_at items t.item t.path))
+      (λ k. then_tree (λ tree. aligned_tokens decls tokens (total t.env) p (role_at k t.path) tree)
+      (λ tree own. tokens_found (IsApart pieces) (IsId pieces) (from_token pieces) decls tokens (total t.env) p (role_at k t.path) tree own)
       (tree_at items t.item t.path) (item_apart pieces items t.item t.path h))
       (kind_at kinds t.item t.node))
       (pattern_of patterns t.atom)

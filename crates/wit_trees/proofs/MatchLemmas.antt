@@ -38,6 +38,8 @@ use Rattle.pat_match.specs.Tokens.{is_place, not_places, stands_at, value_is, me
 use Rattle.pat_match.specs.Runs.{Piece, comma_fits, run_fits, takes, runs_from, list_fits, single_fits, is_wild, as_comma, some_below}
 use Rattle.pat_match.specs.Fitting.{piece, fits_tree, fits_by, all_fit, kids_fit, is_sign_token, leaf_of}
 use Rattle.pat_match.specs.Spots.{own_fits, own_fit, token_whole, branch_whole, whole_at, fits_at, is_disjunction, option_fits, open_brace, close_brace, is_open_brace, is_close_brace, is_statement_node, is_simple_node, is_tail_node, seats}
+use Rattle.pat_match.specs.declared.role.NodeRole.{NodeRole}
+use Rattle.pat_match.specs.Roles.{role_of, may_stand}
 use Rattle.pat_match.specs.Matching.{fits_seat, matches, aligned_at, aligns, is_live_in, put_form, first_from}
 use Rattle.pat_match.proofs.Pieces.{fits-Leaf, fits-Branch, piece-token, bare-pieces, some-pieces, every-pieces}
 use Rattle.wit_trees.specs.Alike.{Alike}
@@ -196,17 +198,17 @@ module _ (decls : List VarDecl) (tokens : List PatToken) (d e : Environment) (a 
   at_spot spot.Tail k form t = λ i. is_tail_node k && own node_kind.DoTail (out-Tree form) t i
   at_spot spot.Inside k form t = fits_alike form t
 
-  seat : (p : Pattern) (k : NodeKind) (form t : Tree) → fits_seat decls tokens d p k form t ≡ fits_seat decls tokens e p k form t
-  seat p k form t = λ i. is_live_in decls tokens p form && at_spot p.spot k form t i
+  seat : (p : Pattern) (r : NodeRole) (form t : Tree) → fits_seat decls tokens d p r form t ≡ fits_seat decls tokens e p r form t
+  seat p r form t = λ i. (is_live_in decls tokens p form && may_stand r form) && at_spot p.spot r.kind form t i
 
   pub matches_alike : (p : Pattern) (n : NodeLabel) → matches decls tokens d p n ≡ matches decls tokens e p n
-  matches_alike p n = λ i. list_any (λ form. list_any (λ (s : Seat). seat p n.kind form s.tree i) (seats p.spot n.kind n.tree)) p.forms
+  matches_alike p n = λ i. list_any (λ form. list_any (λ (s : Seat). seat p (role_of n) form s.tree i) (seats p.spot n.kind n.tree)) p.forms
 
-  aligned : (p : Pattern) (k : NodeKind) (above : List ℕ) (ss : List Seat)
+  aligned : (p : Pattern) (k : NodeRole) (above : List ℕ) (ss : List Seat)
       → aligned_at decls tokens d p k above ss ≡ aligned_at decls tokens e p k above ss
   aligned p k above [] = refl
   aligned p k above (s ∷ ss) = λ i.
       put_form (above ++ s.path) (first_from 0 (λ form. seat p k form s.tree i) p.forms) ++ aligned p k above ss i
 
   pub aligns_alike : (p : Pattern) (n : NodeLabel) → aligns decls tokens d p n ≡ aligns decls tokens e p n
-  aligns_alike p n = aligned p n.kind n.path (seats p.spot n.kind n.tree)
+  aligns_alike p n = aligned p (role_of n) n.path (seats p.spot n.kind n.tree)

@@ -11,7 +11,7 @@ loop-i-preserved c =
     let g : slice_get forms c.loop-i.i ≡ Some c.index-forms-i.result =
     read-at forms c.as_slice-forms.result.now c.loop-i.i c.index-forms-i.result c.as_slice-forms.ensures lt c.index-forms-i.is in
     record {
-      meaning = λ env. tried-more (fits_some c.args.decls.now c.args.tokens.now env c.args.p.now c.args.kind c.args.tree.now)
+      meaning = λ env. tried-more (fits_some c.args.decls.now c.args.tokens.now env c.args.p.now c.args.role c.args.tree.now)
           forms c.loop-i.i c.index-forms-i.result _ _ _ _ g
           (c.in_ok-put_set.ensures.meaning env) (c.in_ok-here.ensures.meaning env) (c.loop-i.invariant.meaning env);
       vars = λ t all old. c.in_ok-put_set.ensures.vars t (c.loop-i.invariant.vars t all old)

@@ -10,7 +10,7 @@ use Rattle.need_words.proofs.solving.put_forms.Given as goal
 abbrev pub invariant-loop-i : goal.invariant-loop-i
 invariant-loop-i l = record {
   meaning : (env : Environment) →
-      (set_denotes l.entries.items env || list_any (fits_some l.decls l.tokens env l.p l.kind l.tree) (drop l.i l.p.forms))
-      ≡ (set_denotes l.initial.entries.items env || list_any (fits_some l.decls l.tokens env l.p l.kind l.tree) (drop l.first l.p.forms));
+      (set_denotes l.entries.items env || list_any (fits_some l.decls l.tokens env l.p l.role l.tree) (drop l.i l.p.forms))
+      ≡ (set_denotes l.initial.entries.items env || list_any (fits_some l.decls l.tokens env l.p l.role l.tree) (drop l.first l.p.forms));
   vars : (t : Var → Bool) → pattern_vars l.decls l.tokens t l.p ≡ true → set_vars t l.initial.entries.items ≡ true → set_vars t l.entries.items ≡ true;
 }

@@ -1,4 +1,4 @@
-use Rattle.std.proofs.Common.{ap, ◌∙◌}
+use Rattle.std.proofs.Common.{ap₂, ◌∙◌}
 use Rattle.std.specs.List.{list_any}
 use Rattle.std.proofs.lemmas.Result.{IfOk-weaker}
 use Rattle.need_words.specs.Looks.{fits_some}
@@ -6,6 +6,7 @@ use Rattle.need_words.proofs.solving.solve_by.Goals as goal
 
 pub returns-clause-meaning : goal.returns-clause-meaning
 returns-clause-meaning c = IfOk-weaker c.solve_runs.result _ _
-    (λ r h env. h env ∙ ap (λ t. list_any (fits_some c.args.decls.now c.args.tokens.now env c.args.p.now c.args.node.now.kind t) c.args.p.now.forms)
-    c.as_tree.ensures.value)
+    (λ r h env. h env
+    ∙ ap₂ (λ role t. list_any (fits_some c.args.decls.now c.args.tokens.now env c.args.p.now role t) c.args.p.now.forms)
+    c.role_of.ensures c.as_tree.ensures.value)
     c.solve_runs.ensures.meaning

@@ -14,7 +14,7 @@ pub returns-clause-meaning : goal.returns-clause-meaning
 returns-clause-meaning c =
     let le : length c.args.looks.now ≤ c.loop-n.n = omega (arith, c.loop-n-test.false) in
     IfOk-weaker c.union.result _ _
-    (λ r h env. h env ∙ tried-all (fits_some c.args.decls.now c.args.tokens.now env c.args.p.now c.args.kind c.args.tree.now) c.args.p.now.forms c.loop-n.next _ _
+    (λ r h env. h env ∙ tried-all (fits_some c.args.decls.now c.args.tokens.now env c.args.p.now c.args.role c.args.tree.now) c.args.p.now.forms c.loop-n.next _ _
     (covers-all c.args.p.now.spot c.args.p.now.forms c.args.looks.now c.loop-n.n c.loop-n.next (length c.args.p.now.forms) le c.loop-n.invariant.covers)
     (c.loop-n.invariant.meaning env))
     c.union.ensures.meaning

@@ -11,7 +11,7 @@ abbrev pub invariant-loop-n : goal.invariant-loop-n
 invariant-loop-n l = record {
   covers : Covers l.p.spot l.p.forms l.next (drop l.n l.looks) (length l.p.forms);
   meaning : (env : Environment) →
-      (set_denotes l.entries.items env || list_any (fits_some l.decls l.tokens env l.p l.kind l.tree) (drop l.next l.p.forms))
-      ≡ list_any (fits_some l.decls l.tokens env l.p l.kind l.tree) l.p.forms;
+      (set_denotes l.entries.items env || list_any (fits_some l.decls l.tokens env l.p l.role l.tree) (drop l.next l.p.forms))
+      ≡ list_any (fits_some l.decls l.tokens env l.p l.role l.tree) l.p.forms;
   vars : (t : Var → Bool) → pattern_vars l.decls l.tokens t l.p ≡ true → set_vars t l.entries.items ≡ true;
 }

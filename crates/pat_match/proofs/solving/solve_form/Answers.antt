@@ -1,6 +1,7 @@
-use Rattle.std.proofs.Common.{sym, ◌∙◌}
+use Rattle.std.proofs.Common.{◌&&◌, sym, ◌∙◌}
 use Rattle.c_terms.specs.Places.{Place}
 use Rattle.pat_match.specs.Spots.{seats, fits_at}
+use Rattle.pat_match.specs.Roles.{may_stand}
 use Rattle.pat_match.specs.Matching.{is_live_in}
 use Rattle.pat_match.proofs.InsideLemmas.{no_seat, not_live}
 use Rattle.pat_match.proofs.solving.solve_form.Goals as goal
@@ -8,12 +9,12 @@ use Rattle.pat_match.proofs.solving.solve_form.Goals as goal
 pub returns-then-is_none-clause-meaning : goal.returns-then-is_none-clause-meaning
 returns-then-is_none-clause-meaning c = λ env.
     let nothing = c.is_none.ensures c.if-is_none.true env in
-    nothing ∙ sym (no_seat (is_live_in c.args.decls.now c.args.tokens.now c.args.p.now c.args.form.now)
-    (λ (s : Place). fits_at c.args.decls.now c.args.tokens.now env c.args.p.now.spot c.args.kind c.args.form.now s.tree)
-    (seats c.args.p.now.spot c.args.kind c.args.tree.now) (sym (c.in_ok-set.ensures.meaning env) ∙ nothing))
+    nothing ∙ sym (no_seat (is_live_in c.args.decls.now c.args.tokens.now c.args.p.now c.args.form.now && may_stand c.args.role c.args.form.now)
+    (λ (s : Place). fits_at c.args.decls.now c.args.tokens.now env c.args.p.now.spot c.args.role.kind c.args.form.now s.tree)
+    (seats c.args.p.now.spot c.args.role.kind c.args.tree.now) (sym (c.in_ok-set.ensures.meaning env) ∙ nothing))
 
-pub returns-else-is_live_at-clause-meaning : goal.returns-else-is_live_at-clause-meaning
-returns-else-is_live_at-clause-meaning c = λ env. c.none.ensures.meaning env
-    ∙ sym (not_live (is_live_in c.args.decls.now c.args.tokens.now c.args.p.now c.args.form.now)
-    (λ (s : Place). fits_at c.args.decls.now c.args.tokens.now env c.args.p.now.spot c.args.kind c.args.form.now s.tree)
-    (seats c.args.p.now.spot c.args.kind c.args.tree.now) (sym c.is_live_at.ensures ∙ c.if-is_live_at.false))
+pub returns-else-may_fit-clause-meaning : goal.returns-else-may_fit-clause-meaning
+returns-else-may_fit-clause-meaning c = λ env. c.none.ensures.meaning env
+    ∙ sym (not_live (is_live_in c.args.decls.now c.args.tokens.now c.args.p.now c.args.form.now && may_stand c.args.role c.args.form.now)
+    (λ (s : Place). fits_at c.args.decls.now c.args.tokens.now env c.args.p.now.spot c.args.role.kind c.args.form.now s.tree)
+    (seats c.args.p.now.spot c.args.role.kind c.args.tree.now) (sym c.may_fit.ensures ∙ c.if-may_fit.false))

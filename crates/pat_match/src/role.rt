@@ -1,0 +1,76 @@
+// What a node is for the forms that are held against it.
+ghost use Rattle.std.specs.Prelude.{◌≡◌, ◌<◌, ◌&&◌, length, slice_index_or};
+ghost use Rattle.c_terms.specs.declared.tree.Tree.{out-Tree};
+ghost use Rattle.pat_match.specs.Matching.{is_live_in};
+ghost use Rattle.pat_match.specs.Roles as of;
+
+use crate::live::is_live_at;
+use crate::spots::is_statement_kind;
+use c_terms::Tree;
+use cfg_graph::{NodeKind, NodeLabel};
+use smpl_patch::{PatToken, Pattern, VarDecl};
+
+/// What a node is for the forms that are held against it.
+#[derive(Clone, Copy, Debug, PartialEq, Eq)]
+pub struct NodeRole {
+    pub kind: NodeKind,
+    /// Whether the node is the `{` of a function's own block, for which no statement variable stands.
+    pub outermost: bool,
+}
+
+/// The role of a node of this kind, whose statement or block stands at this path from the item. Takes no memory.
+pub fn role_at(kind: NodeKind, path: &[u32]) -> NodeRole
+    ensures { result ≡ of.role_at kind path.now }
+{
+    let outermost = match kind {
+        NodeKind::OpenBrace => path.len() == 1,
+        _ => false,
+    };
+    NodeRole { kind, outermost }
+}
+
+/// The role of a node. Of a `{` it goes over the path, up to its second number. Takes no memory.
+pub fn role_of(node: &NodeLabel) -> NodeRole
+    ensures { result ≡ of.role_of node.now }
+{
+    let outermost = match node.kind {
+        NodeKind::OpenBrace => node.path.has_one_step(),
+        _ => false,
+    };
+    NodeRole {
+        kind: node.kind,
+        outermost,
+    }
+}
+
+fn is_statement_variable(form: &Tree) -> bool
+    ensures { result ≡ of.is_statement_variable (out-Tree form.now) }
+{
+    match form {
+        Tree::Leaf(token) => is_statement_kind(token.kind),
+        Tree::Branch(_, _) => false,
+    }
+}
+
+/// Whether the form may stand at a node of this role: a statement variable stands for no function's own block.
+fn may_stand(role: NodeRole, form: &Tree) -> bool
+    ensures { result ≡ of.may_stand role form.now }
+{
+    !(role.outermost && is_statement_variable(form))
+}
+
+/// Whether the i-th form has the first form's sure variables and may stand at a node of this role. Takes no memory.
+pub fn may_fit(
+    decls: &[VarDecl],
+    tokens: &[PatToken],
+    p: &Pattern,
+    i: usize,
+    role: NodeRole,
+    form: &Tree,
+) -> bool
+    requires within { i < length p.now.forms }
+    requires form { form.now ≡ slice_index_or p.now.forms i form.now }
+    ensures { result ≡ (is_live_in decls.now tokens.now p.now form.now && of.may_stand role form.now) }
+{
+    is_live_at(decls, tokens, p, i, form) && may_stand(role, form)
+}

@@ -1,0 +1,6 @@
+void k(void)
+{
+	a();
+	if (x)
+		c();
+}

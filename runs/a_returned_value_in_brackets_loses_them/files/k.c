@@ -1,0 +1,10 @@
+int k(int x)
+{
+	if (x)
+		return (x);
+	return (x + 1);
+}
+int l(int x)
+{
+	return x + 1;
+}

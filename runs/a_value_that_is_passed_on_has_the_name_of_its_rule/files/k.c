@@ -1,0 +1,1 @@
+void k(void) { f(a); g(a); h(a); h(b); }

@@ -1,0 +1,8 @@
+void k(void)
+{
+	a();
+}
+void l(void)
+{
+	b();
+}

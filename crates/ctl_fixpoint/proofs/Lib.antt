@@ -1,3 +1,4 @@
+pub mod BlockLemmas
 pub mod RowLemmas
 pub mod StepLemmas
 pub mod SweepLemmas

@@ -80,9 +80,10 @@ module _ (decls : List VarDecl) (tokens : List PatToken) where
   part_good h plain.True u p = subst Good (sym p) u
   part_good h (plain.Atom q) u p = subst Good (sym p) u
   part_good h plain.Bail u p = subst Good (sym p) u
-  part_good h plain.Exit u p = subst Good (sym p) u
   part_good h (plain.BraceOpen q b) u p = subst Good (sym p) u
   part_good h (plain.BraceClose q b) u p = subst Good (sym p) u
+  part_good h (plain.Inside b) u p = subst Good (sym p) u
+  part_good h (plain.Outside b) u p = subst Good (sym p) u
   part_good h (plain.Not f) u p = ⊎_elim (λ e. subst Good (sym e) u) (λ i. part_good h f (good f u.guarded_by_parts u.stand) i) p
   part_good h (plain.And f k) u p = ⊎_elim (λ e. subst Good (sym e) u)
       (λ i. two_parts h f k (part_good h f) (part_good h k)
@@ -111,9 +112,10 @@ module _ (decls : List VarDecl) (tokens : List PatToken) where
   step_free node.True fs len b v h test e = refl
   step_free (node.Atom p) fs len b v h test e = e
   step_free node.Bail fs len b v h test e = refl
-  step_free node.Exit fs len b v h test e = refl
   step_free (node.BraceOpen p y) fs len b v h test e = e
   step_free (node.BraceClose p y) fs len b v h test e = e
+  step_free (node.Inside y) fs len b v h test e = e
+  step_free (node.Outside y) fs len b v h test e = e
   step_free (node.Not i) fs len b v h test e = h i (lt-true i len b) test e
   step_free (node.And i j) fs len b v h test e =
       and_both _ _ (h i (fst i j len b) test (and_left _ _ e)) (h j (snd i j len b) test (and_right _ _ e))
@@ -139,9 +141,10 @@ module _ (decls : List VarDecl) (tokens : List PatToken) where
     step_means node.True fs len b z x m le env h u s lt = refl
     step_means (node.Atom p) fs len b z x m le env h u s lt = refl
     step_means node.Bail fs len b z x m le env h u s lt = refl
-    step_means node.Exit fs len b z x m le env h u s lt = refl
     step_means (node.BraceOpen p y) fs len b z x m le env h u s lt = refl
     step_means (node.BraceClose p y) fs len b z x m le env h u s lt = refl
+    step_means (node.Inside y) fs len b z x m le env h u s lt = refl
+    step_means (node.Outside y) fs len b z x m le env h u s lt = refl
     step_means (node.Not i) fs len b z x m le env h u s lt =
         ap not (h i (lt-true i len b) (good (at fs i) u.guarded_by_parts u.stand) s lt)
     step_means (node.And i j) fs len b z x m le env h u s lt =

@@ -16,7 +16,7 @@ use Rattle.ctl_formula.specs.Bounds.{guarded}
 use Rattle.ctl_formula.specs.Tables.{at, plains}
 use Rattle.ctl_formula.specs.declared.node.Node.{Node}
 use Rattle.ctl_formula.specs.declared.node.Node.TheVariants as node
-use Rattle.ctl_holds.specs.Holding.{at_node, is_exit, is_open, is_close, atom_at, brace_at}
+use Rattle.ctl_holds.specs.Holding.{at_node, is_open, is_close, in_block, off_block, atom_at, brace_at}
 use Rattle.ctl_holds.specs.Rounds.{passes, passes_there, rounds, holds}
 use Rattle.ctl_holds.specs.Free.{free_vars}
 use Rattle.ctl_holds.specs.Parts.{EachPattern}
@@ -48,8 +48,10 @@ pub record Projects (n : ℕ) (x : Var) (a row : List Entries) : Type 0 where
   pub means : (s : ℕ) → s < n → (env : Environment)
       → Decides (has row s env) (ForSomeValue (λ v. has a s (change env x v)))
 
--- untils and quantifiers take whole rows; all else is told node by node
+-- Untils and quantifiers take whole rows, and blocks are gone along once; all else is told node by node.
 abbrev pub is_pointwise : Node → Bool
+is_pointwise (node.Inside b) = false
+is_pointwise (node.Outside b) = false
 is_pointwise (node.AU i j) = false
 is_pointwise (node.EU i j) = false
 is_pointwise (node.Exists x i) = false
@@ -65,9 +67,10 @@ module _ (decls : List VarDecl) (tokens : List PatToken) (g : Flow) where
   step x node.True s env = true
   step x (node.Atom p) s env = atom_at decls tokens g p s env
   step x node.Bail s env = at_node g s (λ l. l.bail)
-  step x node.Exit s env = at_node g s (λ l. is_exit l.kind)
   step x (node.BraceOpen p b) s env = brace_at decls tokens g is_open p b s env
   step x (node.BraceClose p b) s env = brace_at decls tokens g is_close p b s env
+  step x (node.Inside b) s env = in_block g (env b) s
+  step x (node.Outside b) s env = off_block g (env b) s
   step x (node.Not i) s env = not (x i s)
   step x (node.And i j) s env = x i s && x j s
   step x (node.Or i j) s env = x i s || x j s
@@ -85,9 +88,10 @@ module _ (decls : List VarDecl) (tokens : List PatToken) where
   step_vars v test node.True = true
   step_vars v test (node.Atom p) = pattern_vars decls tokens test p
   step_vars v test node.Bail = true
-  step_vars v test node.Exit = true
   step_vars v test (node.BraceOpen p b) = pattern_vars decls tokens test p && test b
   step_vars v test (node.BraceClose p b) = pattern_vars decls tokens test p && test b
+  step_vars v test (node.Inside b) = test b
+  step_vars v test (node.Outside b) = test b
   step_vars v test (node.Not i) = v test i
   step_vars v test (node.And i j) = v test i && v test j
   step_vars v test (node.Or i j) = v test i && v test j

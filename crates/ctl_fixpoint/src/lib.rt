@@ -20,6 +20,7 @@
 //! Nothing here recurses over a formula or a graph.
 #![tactic(auto)]
 
+mod blocks;
 mod part;
 mod point;
 mod rows;

@@ -8,6 +8,7 @@ ghost use Rattle.ctl_holds.specs.BoundLaw.{SureStand};
 ghost use Rattle.ctl_fixpoint.specs.States.{AreStateSets};
 ghost use Rattle.ctl_fixpoint.specs.Steps.{row_of, IsRowBy};
 
+use crate::blocks::{inside_row, outside_row};
 use crate::point::point_row;
 use crate::rows::row_at;
 use crate::until::{exists_row, until_row};
@@ -31,6 +32,8 @@ fn part_row(
     ensures { IfOk result (λ r. IsRowBy f.now.decls f.now.tokens g.now rows.now node.now r.items) }
 {
     match node {
+        Node::Inside(b) => inside_row(alloc, g, b),
+        Node::Outside(b) => outside_row(alloc, g, b),
         Node::AU(way, end) => until_row(alloc, g, true, row_at(rows, *way), row_at(rows, *end)),
         Node::EU(way, end) => until_row(alloc, g, false, row_at(rows, *way), row_at(rows, *end)),
         Node::Exists(x, i) => exists_row(alloc, x, row_at(rows, *i)),

@@ -36,19 +36,13 @@ fn all_if(alloc: Global, holds: bool) -> Result<EnvSet, NoMemory>
     }
 }
 
-fn is_exit(kind: NodeKind) -> bool
-    ensures { result ≡ of.is_exit kind }
-{
-    matches!(kind, NodeKind::ExitNode)
-}
-
-fn is_open(kind: NodeKind) -> bool
+pub fn is_open(kind: NodeKind) -> bool
     ensures { result ≡ of.is_open kind }
 {
     matches!(kind, NodeKind::OpenBrace)
 }
 
-fn is_close(kind: NodeKind) -> bool
+pub fn is_close(kind: NodeKind) -> bool
     ensures { result ≡ of.is_close kind }
 {
     matches!(kind, NodeKind::CloseBrace)
@@ -62,16 +56,6 @@ fn bail_set(alloc: Global, g: &Graph, s: u32) -> Result<EnvSet, NoMemory>
     ensures vars { IfOk result (λ r. (test : Var → Bool) → set_vars test r ≡ true) }
 {
     all_if(alloc, g.label(s).bail)
-}
-
-/// At the exit.
-fn exit_set(alloc: Global, g: &Graph, s: u32) -> Result<EnvSet, NoMemory>
-    requires { s < count_of g.now }
-    ensures gives { IfOk result (λ r. (env : Environment) →
-        set_denotes r env ≡ at_node g.now s (λ l. of.is_exit l.kind)) }
-    ensures vars { IfOk result (λ r. (test : Var → Bool) → set_vars test r ≡ true) }
-{
-    all_if(alloc, is_exit(g.label(s).kind))
 }
 
 /// Where the pattern matches at the node.
@@ -222,7 +206,8 @@ fn down_set(alloc: Global, g: &Graph, body: usize, x: &[EnvSet], s: u32) -> Resu
     set_there(alloc, g.down(s, body as u32), x)
 }
 
-/// The set of a part at a node, by the rows of its parts. It is told node by node, so it is no until and no quantifier.
+/// The set of a part at a node, by the rows of its parts. It is told node by node, so it is no until, no quantifier and
+/// neither inside nor outside a block.
 fn point_set(
     alloc: Global,
     g: &Graph,
@@ -248,7 +233,6 @@ fn point_set(
         Node::True => EnvSet::all(alloc),
         Node::Atom(p) => atom_set(alloc, g, f.decls(), f.tokens(), p, looks, s),
         Node::Bail => bail_set(alloc, g, s),
-        Node::Exit => exit_set(alloc, g, s),
         Node::BraceOpen(p, b) => open_set(alloc, g, f.decls(), f.tokens(), p, looks, b, s),
         Node::BraceClose(p, b) => close_set(alloc, g, f.decls(), f.tokens(), p, looks, b, s),
         Node::Not(i) => complement(alloc, set_at(rows, *i, s)),
@@ -258,6 +242,8 @@ fn point_set(
         Node::EX(i) => next_set(alloc, g, false, row_at(rows, *i), s),
         Node::Past(i) => past_set(alloc, g, row_at(rows, *i), s),
         Node::Down(body, i) => down_set(alloc, g, *body, row_at(rows, *i), s),
+        Node::Inside(_) => unreachable!(),
+        Node::Outside(_) => unreachable!(),
         Node::AU(_, _) => unreachable!(),
         Node::EU(_, _) => unreachable!(),
         Node::Exists(_, _) => unreachable!(),

@@ -81,9 +81,10 @@ pub plain_of-front : (n : Node) (fs more : List Plain) â†’ below (length fs) n â
 plain_of-front node.True fs more h = refl
 plain_of-front (node.Atom p) fs more h = refl
 plain_of-front node.Bail fs more h = refl
-plain_of-front node.Exit fs more h = refl
 plain_of-front (node.BraceOpen p b) fs more h = refl
 plain_of-front (node.BraceClose p b) fs more h = refl
+plain_of-front (node.Inside b) fs more h = refl
+plain_of-front (node.Outside b) fs more h = refl
 plain_of-front (node.Not i) fs more h = ap plain.Not (at-front fs more i (lt-true _ _ h))
 plain_of-front (node.And i j) fs more h = let a = at-front fs more i (lt-true _ _ (and-left _ _ h)) in let b =
     at-front fs more j (lt-true _ _ (and-right _ _ h)) in cc

@@ -3,17 +3,18 @@ use Rattle.std.specs.Prelude.{Bool, true, false, not, ◌&&◌, ◌||◌}
 use Rattle.smpl_terms.specs.declared.var.Var.{Var}
 use Rattle.smpl_patch.specs.declared.pattern.Pattern.{Pattern}
 use Rattle.smpl_terms.specs.Vars.{same_var}
-use Rattle.ctl_formula.specs.Plain.{Plain, True, Atom, Bail, Exit, BraceOpen, BraceClose, Not, And, Or, AX, EX, AU}
-use Rattle.ctl_formula.specs.Plain.{EU, Past, Down, Exists}
+use Rattle.ctl_formula.specs.Plain.{Plain, True, Atom, Bail, BraceOpen, BraceClose, Inside, Outside, Not, And, Or, AX, EX}
+use Rattle.ctl_formula.specs.Plain.{AU, EU, Past, Down, Exists}
 
 -- each quantifier's part passes the test
 abbrev pub each_quantifier : (Var → Plain → Bool) → Plain → Bool
 each_quantifier test True = true
 each_quantifier test (Atom p) = true
 each_quantifier test Bail = true
-each_quantifier test Exit = true
 each_quantifier test (BraceOpen p b) = true
 each_quantifier test (BraceClose p b) = true
+each_quantifier test (Inside b) = true
+each_quantifier test (Outside b) = true
 each_quantifier test (Not f) = each_quantifier test f
 each_quantifier test (And f g) = each_quantifier test f && each_quantifier test g
 each_quantifier test (Or f g) = each_quantifier test f && each_quantifier test g
@@ -35,9 +36,10 @@ module _ (sure : Surely) where
     bound True x = false
     bound (Atom p) x = sure p x
     bound Bail x = false
-    bound Exit x = false
     bound (BraceOpen p b) x = sure p x || same_var b x
     bound (BraceClose p b) x = sure p x || same_var b x
+    bound (Inside b) x = same_var b x
+    bound (Outside b) x = false
     bound (Not f) x = bound_not f x
     bound (And f g) x = bound f x || bound g x
     bound (Or f g) x = bound f x && bound g x
@@ -53,9 +55,10 @@ module _ (sure : Surely) where
     bound_not True x = true
     bound_not (Atom p) x = false
     bound_not Bail x = false
-    bound_not Exit x = false
     bound_not (BraceOpen p b) x = false
     bound_not (BraceClose p b) x = false
+    bound_not (Inside b) x = false
+    bound_not (Outside b) x = false
     bound_not (Not f) x = bound f x
     bound_not (And f g) x = bound_not f x && bound_not g x
     bound_not (Or f g) x = bound_not f x || bound_not g x

@@ -8,10 +8,12 @@ pub data Plain : Type 0 where
   Atom : Pattern → Plain
   -- the node begins a body that leaves the function
   Bail : Plain
-  Exit : Plain
   -- a brace, and the variable whose value is the place of the `{`
   BraceOpen : Pattern → Var → Plain
   BraceClose : Pattern → Var → Plain
+  -- the node stands in the block whose `{` is the variable's value, and neither in that block nor at its `}`
+  Inside : Var → Plain
+  Outside : Var → Plain
   Not : Plain → Plain
   And : Plain → Plain → Plain
   Or : Plain → Plain → Plain
@@ -29,9 +31,10 @@ abbrev pub size : Plain → ℕ
 size True = 1
 size (Atom p) = 1
 size Bail = 1
-size Exit = 1
 size (BraceOpen p b) = 1
 size (BraceClose p b) = 1
+size (Inside b) = 1
+size (Outside b) = 1
 size (Not f) = 1 + size f
 size (And f g) = 1 + size f + size g
 size (Or f g) = 1 + size f + size g
@@ -48,9 +51,10 @@ abbrev pub depth : Plain → ℕ
 depth True = 0
 depth (Atom p) = 0
 depth Bail = 0
-depth Exit = 0
 depth (BraceOpen p b) = 0
 depth (BraceClose p b) = 0
+depth (Inside b) = 0
+depth (Outside b) = 0
 depth (Not f) = 1 + depth f
 depth (And f g) = 1 + max (depth f) (depth g)
 depth (Or f g) = 1 + max (depth f) (depth g)

@@ -15,9 +15,10 @@ abbrev pub plain_of : List Plain → Node → Plain
 plain_of fs node.True = plain.True
 plain_of fs (node.Atom p) = plain.Atom p
 plain_of fs node.Bail = plain.Bail
-plain_of fs node.Exit = plain.Exit
 plain_of fs (node.BraceOpen p b) = plain.BraceOpen p b
 plain_of fs (node.BraceClose p b) = plain.BraceClose p b
+plain_of fs (node.Inside b) = plain.Inside b
+plain_of fs (node.Outside b) = plain.Outside b
 plain_of fs (node.Not i) = plain.Not (at fs i)
 plain_of fs (node.And i j) = plain.And (at fs i) (at fs j)
 plain_of fs (node.Or i j) = plain.Or (at fs i) (at fs j)
@@ -42,9 +43,10 @@ abbrev pub below : ℕ → Node → Bool
 below n node.True = true
 below n (node.Atom p) = true
 below n node.Bail = true
-below n node.Exit = true
 below n (node.BraceOpen p b) = true
 below n (node.BraceClose p b) = true
+below n (node.Inside b) = true
+below n (node.Outside b) = true
 below n (node.Not i) = nat_lt i n
 below n (node.And i j) = nat_lt i n && nat_lt j n
 below n (node.Or i j) = nat_lt i n && nat_lt j n

@@ -15,12 +15,14 @@ pub enum Node {
     Atom(Pattern),
     /// The node begins a body that leaves the function.
     Bail,
-    /// The node is the exit.
-    Exit,
     /// The pattern matches at an opening brace, and the variable is its place.
     BraceOpen(Pattern, Var),
     /// The pattern matches at a closing brace, and the variable is the place of its `{`.
     BraceClose(Pattern, Var),
+    /// The node stands in the block whose `{` is at the variable's place: at that `{` or after it, and before the `}`.
+    Inside(Var),
+    /// The node stands outside that block, and isn't its `}`.
+    Outside(Var),
     /// `not f`
     Not(usize),
     /// `f and g`
@@ -52,9 +54,10 @@ impl Node {
             Node::True => Ok(Node::True),
             Node::Atom(p) => Ok(Node::Atom(p.copy(alloc)?)),
             Node::Bail => Ok(Node::Bail),
-            Node::Exit => Ok(Node::Exit),
             Node::BraceOpen(p, b) => Ok(Node::BraceOpen(p.copy(alloc)?, b.copy(alloc)?)),
             Node::BraceClose(p, b) => Ok(Node::BraceClose(p.copy(alloc)?, b.copy(alloc)?)),
+            Node::Inside(b) => Ok(Node::Inside(b.copy(alloc)?)),
+            Node::Outside(b) => Ok(Node::Outside(b.copy(alloc)?)),
             Node::Not(f) => Ok(Node::Not(*f)),
             Node::And(f, g) => Ok(Node::And(*f, *g)),
             Node::Or(f, g) => Ok(Node::Or(*f, *g)),
@@ -77,12 +80,13 @@ pub fn is_equal_node(a: &Node, b: &Node) -> bool
     match (a, b) {
         (Node::True, Node::True) => true,
         (Node::Bail, Node::Bail) => true,
-        (Node::Exit, Node::Exit) => true,
         (Node::Atom(p), Node::Atom(q)) => is_equal_pattern(p, q),
         (Node::BraceOpen(p, x), Node::BraceOpen(q, y)) => is_equal_var(x, y)
             && is_equal_pattern(p, q),
         (Node::BraceClose(p, x), Node::BraceClose(q, y)) => is_equal_var(x, y)
             && is_equal_pattern(p, q),
+        (Node::Inside(x), Node::Inside(y)) => is_equal_var(x, y),
+        (Node::Outside(x), Node::Outside(y)) => is_equal_var(x, y),
         (Node::Not(f), Node::Not(g)) => f == g,
         (Node::And(f, h), Node::And(g, k)) => f == g && h == k,
         (Node::Or(f, h), Node::Or(g, k)) => f == g && h == k,
@@ -110,19 +114,20 @@ pub fn key(node: &Node) -> (u8, usize, usize) {
         Node::True => (0, 0, 0),
         Node::Atom(p) => (1, p.atom as usize, 0),
         Node::Bail => (2, 0, 0),
-        Node::Exit => (3, 0, 0),
-        Node::BraceOpen(p, _) => (4, p.atom as usize, 0),
-        Node::BraceClose(p, _) => (5, p.atom as usize, 0),
-        Node::Not(f) => (6, *f, 0),
-        Node::And(f, g) => (7, *f, *g),
-        Node::Or(f, g) => (8, *f, *g),
-        Node::AX(f) => (9, *f, 0),
-        Node::EX(f) => (10, *f, 0),
-        Node::AU(f, g) => (11, *f, *g),
-        Node::EU(f, g) => (12, *f, *g),
-        Node::Past(f) => (13, *f, 0),
-        Node::Down(i, f) => (14, *f, *i),
-        Node::Exists(x, f) => (15, *f, key_of_var(x)),
+        Node::BraceOpen(p, _) => (3, p.atom as usize, 0),
+        Node::BraceClose(p, _) => (4, p.atom as usize, 0),
+        Node::Inside(b) => (5, key_of_var(b), 0),
+        Node::Outside(b) => (6, key_of_var(b), 0),
+        Node::Not(f) => (7, *f, 0),
+        Node::And(f, g) => (8, *f, *g),
+        Node::Or(f, g) => (9, *f, *g),
+        Node::AX(f) => (10, *f, 0),
+        Node::EX(f) => (11, *f, 0),
+        Node::AU(f, g) => (12, *f, *g),
+        Node::EU(f, g) => (13, *f, *g),
+        Node::Past(f) => (14, *f, 0),
+        Node::Down(i, f) => (15, *f, *i),
+        Node::Exists(x, f) => (16, *f, key_of_var(x)),
     }
 }
 

@@ -49,7 +49,7 @@ use Rattle.pat_match.proofs.ValueLemmas.{has-kid}
 use Rattle.pat_match.proofs.HeldLaw.{held_has_value}
 use Rattle.pat_match.proofs.InsideLemmas.{kids_parts, any-child}
 use Rattle.ctl_holds.specs.Values.{values_of, is_among}
-use Rattle.ctl_holds.specs.Holding.{passes_label, at_node, atom_at, brace_at}
+use Rattle.ctl_holds.specs.Holding.{passes_label, at_node, is_open, is_close, is_brace, open_after, in_block, atom_at, brace_at}
 use Rattle.ctl_holds.specs.BoundLaw.{SureStand}
 use Rattle.ctl_holds.proofs.TestLemmas.{or_cases, or_left, or_right, and_left, and_right, not_both, Contains-map, any_found}
 use Rattle.ctl_holds.proofs.TestLemmas.{any_has, all_has, any_weaker}
@@ -269,3 +269,20 @@ module _ (decls : List VarDecl) (tokens : List PatToken) (g : Flow) (p : Pattern
       (λ a. subst (λ (z : Var). is_among (values_of g) (env z) ≡ true) (same_var-equal b x a)
       (among-place g l.0.brace (env b) (label-place g s l.0 l.1) (and_right _ _ (and_left _ _ l.2))))
       (or_cases (sure decls tokens p x) (same_var b x) e)
+
+-- the place of an open block is one of the graph's
+module _ (g : Flow) (v : Value) where
+  open-among : (n : ℕ) → open_after g v n ≡ true → is_among (values_of g) v ≡ true
+  open-among zero h = not_both false h refl
+  open-among (suc n) h =
+      let l = label_of g n (λ l. is_brace is_open v l || (not (is_brace is_close v l) && open_after g v n))
+      (slice_get g.labels n) refl h in
+      ⊎_elim
+      (λ a. among-place g l.0.brace v (label-place g n l.0 l.1) (and_right _ _ a))
+      (λ b. open-among n (and_right (not (is_brace is_close v l.0)) (open_after g v n) b))
+      (or_cases (is_brace is_open v l.0) _ l.2)
+
+pub block-among : (g : Flow) (s : ℕ) (env : Environment) (x b : Var) → same_var b x ≡ true
+    → in_block g (env b) s ≡ true → is_among (values_of g) (env x) ≡ true
+block-among g s env x b e h =
+    subst (λ (z : Var). is_among (values_of g) (env z) ≡ true) (same_var-equal b x e) (open-among g (env b) (suc s) h)

@@ -16,7 +16,7 @@ use Rattle.smpl_terms.proofs.VarLaws.{same_var-sym}
 use Rattle.smpl_patch.specs.declared.pattern.VarDecl.{VarDecl}
 use Rattle.smpl_patch.specs.declared.pattern.PatToken.{PatToken}
 use Rattle.smpl_patch.specs.Patterns.{sure}
-use Rattle.ctl_formula.specs.Plain.{Plain, True, Atom, Bail, Exit, BraceOpen, BraceClose, Not, And, Or, AX, EX, AU}
+use Rattle.ctl_formula.specs.Plain.{Plain, True, Atom, Bail, BraceOpen, BraceClose, Inside, Outside, Not, And, Or, AX, EX, AU}
 use Rattle.ctl_formula.specs.Plain.{EU, Past, Down, Exists}
 use Rattle.ctl_formula.specs.Bounds.{bound, bound_not}
 use Rattle.ctl_holds.specs.Values.{values_of, is_among}
@@ -27,7 +27,7 @@ use Rattle.ctl_holds.specs.BoundLaw.{SureStand, HasValues}
 use Rattle.ctl_holds.proofs.TestLemmas.{or_cases, and_left, and_right, or_false, and_false, true_or_false, not_both, not_true}
 use Rattle.ctl_holds.proofs.TestLemmas.{not_false, Contains-map, any_found, any_has, all_has, all_lacks, any_lacks}
 use Rattle.ctl_holds.proofs.GraphLemmas.{node_after, first_after, past_node, down_node}
-use Rattle.ctl_holds.proofs.AtomLemmas.{atom-among, brace-among}
+use Rattle.ctl_holds.proofs.AtomLemmas.{atom-among, block-among, brace-among}
 use Rattle.ctl_holds.proofs.HoldLemmas.{holds_decides}
 
 there_found : (x : ℕ → Bool) (o : Option ℕ) → passes_there x o ≡ true → (k : ℕ) × (o ≡ Some k) × (x k ≡ true)
@@ -88,11 +88,12 @@ module _ (decls : List VarDecl) (tokens : List PatToken) (g : Flow) (ok : IsSoun
   bound_law True e s lt env x = (λ b h. not_both false b refl, λ b h. not_both true refl h)
   bound_law (Atom p) e s lt env x = (λ b h. atom-among decls tokens g p e s env x b h, λ b h. not_both false b refl)
   bound_law Bail e s lt env x = (λ b h. not_both false b refl, λ b h. not_both false b refl)
-  bound_law Exit e s lt env x = (λ b h. not_both false b refl, λ b h. not_both false b refl)
   bound_law (BraceOpen p y) e s lt env x =
       (λ b h. brace-among decls tokens g p e s env x is_open y b h, λ b h. not_both false b refl)
   bound_law (BraceClose p y) e s lt env x =
       (λ b h. brace-among decls tokens g p e s env x is_close y b h, λ b h. not_both false b refl)
+  bound_law (Inside y) e s lt env x = (λ b h. block-among g s env x y b h, λ b h. not_both false b refl)
+  bound_law (Outside y) e s lt env x = (λ b h. not_both false b refl, λ b h. not_both false b refl)
   bound_law (Not f) e s lt env x =
       let r = bound_law f e s lt env x in
       (λ b h. r.1 b (not_true _ h), λ b h. r.0 b (not_false _ h))

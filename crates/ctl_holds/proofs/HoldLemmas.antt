@@ -7,7 +7,7 @@ use Rattle.cfg_graph.specs.Flow.{Flow, IsSound, count_of, succ_of, past_of, down
 use Rattle.smpl_terms.specs.Environments.{Environment, change}
 use Rattle.smpl_patch.specs.declared.pattern.VarDecl.{VarDecl}
 use Rattle.smpl_patch.specs.declared.pattern.PatToken.{PatToken}
-use Rattle.ctl_formula.specs.Plain.{Plain, True, Atom, Bail, Exit, BraceOpen, BraceClose, Not, And, Or, AX, EX, AU}
+use Rattle.ctl_formula.specs.Plain.{Plain, True, Atom, Bail, BraceOpen, BraceClose, Inside, Outside, Not, And, Or, AX, EX, AU}
 use Rattle.ctl_formula.specs.Plain.{EU, Past, Down, Exists}
 use Rattle.ctl_holds.specs.Values.{values_of}
 use Rattle.ctl_holds.specs.Holding.{Holds}
@@ -65,9 +65,10 @@ module _ (decls : List VarDecl) (tokens : List PatToken) (g : Flow) (ok : IsSoun
   holds_decides True s lt env = (λ h. tt, λ w. refl)
   holds_decides (Atom p) s lt env = (λ h. h, λ w. w)
   holds_decides Bail s lt env = (λ h. h, λ w. w)
-  holds_decides Exit s lt env = (λ h. h, λ w. w)
   holds_decides (BraceOpen p b) s lt env = (λ h. h, λ w. w)
   holds_decides (BraceClose p b) s lt env = (λ h. h, λ w. w)
+  holds_decides (Inside b) s lt env = (λ h. h, λ w. w)
+  holds_decides (Outside b) s lt env = (λ h. h, λ w. w)
   holds_decides (Not f) s lt env = not_decides _ (holds_decides f s lt env)
   holds_decides (And f h) s lt env = and_decides _ _ (holds_decides f s lt env) (holds_decides h s lt env)
   holds_decides (Or f h) s lt env = or_decides _ _ (holds_decides f s lt env) (holds_decides h s lt env)

@@ -36,9 +36,10 @@ module _ (h : Plain) (Found : Type 0) (fs : List Plain) (i : ℕ) (inside : (j :
   by_node node.True b own p = own p
   by_node (node.Atom q) b own p = own p
   by_node node.Bail b own p = own p
-  by_node node.Exit b own p = own p
   by_node (node.BraceOpen q y) b own p = own p
   by_node (node.BraceClose q y) b own p = own p
+  by_node (node.Inside y) b own p = own p
+  by_node (node.Outside y) b own p = own p
   by_node (node.Not j) b own p = ⊎_elim own (inside j (lt-true j i b)) p
   by_node (node.And j k) b own p = ⊎_elim own (two j k b) p
   by_node (node.Or j k) b own p = ⊎_elim own (two j k b) p

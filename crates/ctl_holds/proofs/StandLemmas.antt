@@ -117,9 +117,10 @@ pub each_step : (P : Pattern → Type 0) (n : Node) (fs : List Plain) (len : ℕ
 each_step P node.True fs len b o h = tt
 each_step P (node.Atom p) fs len b o h = o
 each_step P node.Bail fs len b o h = tt
-each_step P node.Exit fs len b o h = tt
 each_step P (node.BraceOpen p y) fs len b o h = o
 each_step P (node.BraceClose p y) fs len b o h = o
+each_step P (node.Inside y) fs len b o h = tt
+each_step P (node.Outside y) fs len b o h = tt
 each_step P (node.Not i) fs len b o h = h i (lt-true i len b)
 each_step P (node.And i j) fs len b o h = (h i (fst i j len b), h j (snd i j len b))
 each_step P (node.Or i j) fs len b o h = (h i (fst i j len b), h j (snd i j len b))

@@ -5,7 +5,7 @@ use Rattle.smpl_terms.specs.Vars.{same_var}
 use Rattle.smpl_patch.specs.declared.pattern.VarDecl.{VarDecl}
 use Rattle.smpl_patch.specs.declared.pattern.PatToken.{PatToken}
 use Rattle.pat_match.specs.Vars.{pattern_vars}
-use Rattle.ctl_formula.specs.Plain.{Plain, True, Atom, Bail, Exit, BraceOpen, BraceClose, Not, And, Or, AX, EX, AU}
+use Rattle.ctl_formula.specs.Plain.{Plain, True, Atom, Bail, BraceOpen, BraceClose, Inside, Outside, Not, And, Or, AX, EX, AU}
 use Rattle.ctl_formula.specs.Plain.{EU, Past, Down, Exists}
 
 module _ (decls : List VarDecl) (tokens : List PatToken) where
@@ -14,9 +14,10 @@ module _ (decls : List VarDecl) (tokens : List PatToken) where
   free_vars test True = true
   free_vars test (Atom p) = pattern_vars decls tokens test p
   free_vars test Bail = true
-  free_vars test Exit = true
   free_vars test (BraceOpen p b) = pattern_vars decls tokens test p && test b
   free_vars test (BraceClose p b) = pattern_vars decls tokens test p && test b
+  free_vars test (Inside b) = test b
+  free_vars test (Outside b) = test b
   free_vars test (Not f) = free_vars test f
   free_vars test (And f h) = free_vars test f && free_vars test h
   free_vars test (Or f h) = free_vars test f && free_vars test h

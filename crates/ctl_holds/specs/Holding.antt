@@ -1,5 +1,6 @@
 -- Path satisfaction: at which nodes of a graph, and under which environments, a formula holds.
-use Rattle.std.specs.Prelude.{◌≡◌, ℕ, Bool, true, false, ◌&&◌, ◌⊎◌, Option, None, Some, List, slice_get, Contains}
+use Rattle.std.specs.Prelude.{◌≡◌, ℕ, zero, suc, Bool, true, false, not, ◌&&◌, ◌||◌, ◌⊎◌, Option, None, Some, List}
+use Rattle.std.specs.Prelude.{slice_get, Contains}
 use Rattle.cfg_graph.specs.declared.label.NodeKind.{NodeKind}
 use Rattle.cfg_graph.specs.declared.label.NodeKind.TheVariants as kind
 use Rattle.cfg_graph.specs.declared.label.NodeLabel.{NodeLabel}
@@ -13,7 +14,7 @@ use Rattle.smpl_patch.specs.declared.pattern.VarDecl.{VarDecl}
 use Rattle.smpl_patch.specs.declared.pattern.PatToken.{PatToken}
 use Rattle.smpl_patch.specs.declared.pattern.Pattern.{Pattern}
 use Rattle.pat_match.specs.Matching.{matches}
-use Rattle.ctl_formula.specs.Plain.{Plain, True, Atom, Bail, Exit, BraceOpen, BraceClose, Not, And, Or, AX, EX, AU}
+use Rattle.ctl_formula.specs.Plain.{Plain, True, Atom, Bail, BraceOpen, BraceClose, Inside, Outside, Not, And, Or, AX, EX, AU}
 use Rattle.ctl_formula.specs.Plain.{EU, Past, Down, Exists}
 use Rattle.ctl_holds.specs.Values.{values_of}
 use Rattle.ctl_holds.specs.Untils.{SomeWalk, EveryWalk}
@@ -26,10 +27,6 @@ passes_label test (Some l) = test l
 abbrev pub at_node : Flow → ℕ → (NodeLabel → Bool) → Bool
 at_node g s test = passes_label test (slice_get g.labels s)
 
-abbrev pub is_exit : NodeKind → Bool
-is_exit kind.ExitNode = true
-is_exit _ = false
-
 abbrev pub is_open : NodeKind → Bool
 is_open kind.OpenBrace = true
 is_open _ = false
@@ -37,6 +34,24 @@ is_open _ = false
 abbrev pub is_close : NodeKind → Bool
 is_close kind.CloseBrace = true
 is_close _ = false
+
+-- the node is a brace of the kind, and v is the place of its `{`
+abbrev pub is_brace : (NodeKind → Bool) → Value → NodeLabel → Bool
+is_brace is v l = is l.kind && same (Place l.brace) v
+
+-- After the first n nodes the block whose `{` is at v is open: the last of them is that `{`, or the block was open before
+-- it and it isn't the block's `}`.
+abbrev pub open_after : Flow → Value → ℕ → Bool
+open_after g v zero = false
+open_after g v (suc n) = at_node g n (λ l. is_brace is_open v l || (not (is_brace is_close v l) && open_after g v n))
+
+-- node s stands in that block: it is the `{`, or comes after it and before the `}`
+abbrev pub in_block : Flow → Value → ℕ → Bool
+in_block g v s = open_after g v (suc s)
+
+-- it neither stands in the block nor is the `}`
+abbrev pub off_block : Flow → Value → ℕ → Bool
+off_block g v s = at_node g s (λ l. not (is_brace is_close v l) && not (in_block g v s))
 
 -- what the patterns of a formula are read by, and what they are held against
 module _ (decls : List VarDecl) (tokens : List PatToken) (g : Flow) where
@@ -55,9 +70,10 @@ module _ (decls : List VarDecl) (tokens : List PatToken) (g : Flow) where
     Holds True s env = Unit {0}
     Holds (Atom p) s env = atom_at p s env ≡ true
     Holds Bail s env = at_node g s (λ l. l.bail) ≡ true
-    Holds Exit s env = at_node g s (λ l. is_exit l.kind) ≡ true
     Holds (BraceOpen p b) s env = brace_at is_open p b s env ≡ true
     Holds (BraceClose p b) s env = brace_at is_close p b s env ≡ true
+    Holds (Inside b) s env = in_block g (env b) s ≡ true
+    Holds (Outside b) s env = off_block g (env b) s ≡ true
     Holds (Not f) s env = Holds f s env → ⊥
     Holds (And f h) s env = Holds f s env × Holds h s env
     Holds (Or f h) s env = Holds f s env ⊎ Holds h s env

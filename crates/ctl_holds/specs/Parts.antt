@@ -2,7 +2,7 @@
 use Rattle.std.specs.Prelude.{◌≡◌, ℕ, ◌<◌, ◌⊎◌, List, length}
 use Rattle.std.specs.Coded.{×_prop, Unit-prop}
 use Rattle.smpl_patch.specs.declared.pattern.Pattern.{Pattern}
-use Rattle.ctl_formula.specs.Plain.{Plain, True, Atom, Bail, Exit, BraceOpen, BraceClose, Not, And, Or, AX, EX, AU}
+use Rattle.ctl_formula.specs.Plain.{Plain, True, Atom, Bail, BraceOpen, BraceClose, Inside, Outside, Not, And, Or, AX, EX, AU}
 use Rattle.ctl_formula.specs.Plain.{EU, Past, Down, Exists}
 use Rattle.ctl_formula.specs.declared.node.Node.{Node}
 use Rattle.ctl_formula.specs.declared.node.Node.TheVariants as node
@@ -13,9 +13,10 @@ abbrev pub IsPart : Plain → Plain → Type 0
 IsPart h True = h ≡ True
 IsPart h (Atom p) = h ≡ Atom p
 IsPart h Bail = h ≡ Bail
-IsPart h Exit = h ≡ Exit
 IsPart h (BraceOpen p b) = h ≡ BraceOpen p b
 IsPart h (BraceClose p b) = h ≡ BraceClose p b
+IsPart h (Inside b) = h ≡ Inside b
+IsPart h (Outside b) = h ≡ Outside b
 IsPart h (Not f) = (h ≡ Not f) ⊎ IsPart h f
 IsPart h (And f k) = (h ≡ And f k) ⊎ (IsPart h f ⊎ IsPart h k)
 IsPart h (Or f k) = (h ≡ Or f k) ⊎ (IsPart h f ⊎ IsPart h k)
@@ -32,9 +33,10 @@ abbrev pub EachPattern : (Pattern → Type 0) → Plain → Type 0
 EachPattern P True = Unit {0}
 EachPattern P (Atom p) = P p
 EachPattern P Bail = Unit {0}
-EachPattern P Exit = Unit {0}
 EachPattern P (BraceOpen p b) = P p
 EachPattern P (BraceClose p b) = P p
+EachPattern P (Inside b) = Unit {0}
+EachPattern P (Outside b) = Unit {0}
 EachPattern P (Not f) = EachPattern P f
 EachPattern P (And f h) = EachPattern P f × EachPattern P h
 EachPattern P (Or f h) = EachPattern P f × EachPattern P h
@@ -51,9 +53,10 @@ pub each_pattern-prop : (P : Pattern → Type 0) → ((p : Pattern) → IsProp (
 each_pattern-prop P h True = Unit-prop
 each_pattern-prop P h (Atom p) = h p
 each_pattern-prop P h Bail = Unit-prop
-each_pattern-prop P h Exit = Unit-prop
 each_pattern-prop P h (BraceOpen p b) = h p
 each_pattern-prop P h (BraceClose p b) = h p
+each_pattern-prop P h (Inside b) = Unit-prop
+each_pattern-prop P h (Outside b) = Unit-prop
 each_pattern-prop P h (Not f) = each_pattern-prop P h f
 each_pattern-prop P h (And f k) = ×_prop (each_pattern-prop P h f) (each_pattern-prop P h k)
 each_pattern-prop P h (Or f k) = ×_prop (each_pattern-prop P h f) (each_pattern-prop P h k)

@@ -5,10 +5,10 @@ use Rattle.cfg_graph.specs.Flow.{Flow, succ_of, past_of, down_of}
 use Rattle.smpl_terms.specs.Environments.{Environment, change}
 use Rattle.smpl_patch.specs.declared.pattern.VarDecl.{VarDecl}
 use Rattle.smpl_patch.specs.declared.pattern.PatToken.{PatToken}
-use Rattle.ctl_formula.specs.Plain.{Plain, True, Atom, Bail, Exit, BraceOpen, BraceClose, Not, And, Or, AX, EX, AU}
+use Rattle.ctl_formula.specs.Plain.{Plain, True, Atom, Bail, BraceOpen, BraceClose, Inside, Outside, Not, And, Or, AX, EX, AU}
 use Rattle.ctl_formula.specs.Plain.{EU, Past, Down, Exists}
 use Rattle.ctl_holds.specs.Values.{values_of}
-use Rattle.ctl_holds.specs.Holding.{at_node, is_exit, is_open, is_close, atom_at, brace_at}
+use Rattle.ctl_holds.specs.Holding.{at_node, is_open, is_close, in_block, off_block, atom_at, brace_at}
 
 -- each of the nodes passes, or some of them does
 abbrev pub passes : Bool → (ℕ → Bool) → List ℕ → Bool
@@ -35,9 +35,10 @@ module _ (decls : List VarDecl) (tokens : List PatToken) (g : Flow) (m : ℕ) wh
   holds True s env = true
   holds (Atom p) s env = atom_at decls tokens g p s env
   holds Bail s env = at_node g s (λ l. l.bail)
-  holds Exit s env = at_node g s (λ l. is_exit l.kind)
   holds (BraceOpen p b) s env = brace_at decls tokens g is_open p b s env
   holds (BraceClose p b) s env = brace_at decls tokens g is_close p b s env
+  holds (Inside b) s env = in_block g (env b) s
+  holds (Outside b) s env = off_block g (env b) s
   holds (Not f) s env = not (holds f s env)
   holds (And f h) s env = holds f s env && holds h s env
   holds (Or f h) s env = holds f s env || holds h s env

@@ -9,7 +9,7 @@ use Rattle.c_terms.specs.declared.label.Label.TheVariants as label
 use Rattle.c_terms.specs.declared.tree.Tree.TheVariants.{Leaf, Branch}
 use Rattle.smpl_terms.specs.declared.var.Var.{Var}
 use Rattle.smpl_patch.specs.declared.pattern.Pattern.{Pattern}
-use Rattle.ctl_formula.specs.Plain.{True, Atom, Bail, Exit, BraceOpen, Not, And, Or, AX, EX, AU, EU, Past, Down, Exists}
+use Rattle.ctl_formula.specs.Plain.{True, Atom, Bail, BraceOpen, Inside, Outside, Not, And, Or, AX, EX, AU, EU, Past, Down, Exists}
 use Rattle.need_words.specs.Words.{is_word, spells, spelled, needs}
 use Rattle.need_words.proofs.WordLemmas.{spells-Leaf, spells-Branch}
 
@@ -105,5 +105,5 @@ module _ (w : List ℕ) (p q : Pattern) (b x : Var) (here : spelled w p ≡ true
   elsewhere : needs w (And (Atom q) (Past (Down 0 (EX (Exists x (Atom p)))))) ≡ true
   elsewhere = ap₂ (λ y z. y || z) absent here
 
-  nothing : needs w (And True Exit) ≡ false
+  nothing : needs w (And True (And (Inside b) (Outside b))) ≡ false
   nothing = refl

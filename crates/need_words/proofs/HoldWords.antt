@@ -16,7 +16,7 @@ use Rattle.smpl_patch.specs.declared.pattern.VarDecl.{VarDecl}
 use Rattle.smpl_patch.specs.declared.pattern.PatToken.{PatToken}
 use Rattle.smpl_patch.specs.declared.pattern.Pattern.{Pattern}
 use Rattle.pat_match.specs.Matching.{matches}
-use Rattle.ctl_formula.specs.Plain.{Plain, True, Atom, Bail, Exit, BraceOpen, BraceClose, Not, And, Or, AX, EX, AU}
+use Rattle.ctl_formula.specs.Plain.{Plain, True, Atom, Bail, BraceOpen, BraceClose, Inside, Outside, Not, And, Or, AX, EX, AU}
 use Rattle.ctl_formula.specs.Plain.{EU, Past, Down, Exists}
 use Rattle.ctl_holds.specs.Values.{values_of}
 use Rattle.ctl_holds.specs.Holding.{is_open, is_close, atom_at, brace_at, Holds}
@@ -93,9 +93,10 @@ module _ (g : Flow) (ok : IsSound g) where
     none True n s lt env = absurd (cc)
     none (Atom p) n s lt env = atom_no p n s env
     none Bail n s lt env = absurd (cc)
-    none Exit n s lt env = absurd (cc)
     none (BraceOpen p b) n s lt env = brace_no is_open p b n s env
     none (BraceClose p b) n s lt env = brace_no is_close p b n s env
+    none (Inside b) n s lt env = absurd (cc)
+    none (Outside b) n s lt env = absurd (cc)
     none (Not f) n s lt env = absurd (cc)
     none (And f h) n s lt env = ⊎_elim
         (λ a. and_no_left (holds decls tokens g m f s env) (holds decls tokens g m h s env) (none f a s lt env))

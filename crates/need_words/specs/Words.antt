@@ -16,7 +16,7 @@ use Rattle.smpl_patch.specs.declared.pattern.Spot.{Spot}
 use Rattle.smpl_patch.specs.declared.pattern.Pattern.{Pattern}
 use Rattle.smpl_patch.specs.Patterns.{Sure, is_sign}
 use Rattle.smpl_patch.specs.Held.{held}
-use Rattle.ctl_formula.specs.Plain.{Plain, True, Atom, Bail, Exit, BraceOpen, BraceClose, Not, And, Or, AX, EX, AU}
+use Rattle.ctl_formula.specs.Plain.{Plain, True, Atom, Bail, BraceOpen, BraceClose, Inside, Outside, Not, And, Or, AX, EX, AU}
 use Rattle.ctl_formula.specs.Plain.{EU, Past, Down, Exists}
 
 -- a name, a keyword, a number or a literal
@@ -70,9 +70,10 @@ module _ (w : List ℕ) where
   needs True = false
   needs (Atom p) = spelled p
   needs Bail = false
-  needs Exit = false
   needs (BraceOpen p b) = spelled p
   needs (BraceClose p b) = spelled p
+  needs (Inside b) = false
+  needs (Outside b) = false
   needs (Not f) = false
   needs (And f h) = needs f || needs h
   needs (Or f h) = needs f && needs h

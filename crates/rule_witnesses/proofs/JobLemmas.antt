@@ -23,7 +23,7 @@ use Rattle.ctl_holds.specs.Values.{values_of, is_among}
 use Rattle.ctl_holds.proofs.BoundLemmas.{bound_values}
 use Rattle.ctl_holds.proofs.HoldLemmas.{holds_decides}
 use Rattle.ctl_holds.proofs.TestLemmas.{same_bool}
-use Rattle.ctl_formula.specs.Plain.{Plain, True, Atom, Bail, Exit, BraceOpen, BraceClose, Not, And, Or, AX, EX, AU, EU, Past, Down, Exists}
+use Rattle.ctl_formula.specs.Plain.{Plain, True, Atom, Bail, BraceOpen, BraceClose, Inside, Outside, Not, And, Or, AX, EX, AU, EU, Past, Down, Exists}
 use Rattle.ctl_fixpoint.specs.States.{AreStateSets}
 use Rattle.wit_order.specs.Same.{same_forest}
 use Rattle.wit_order.specs.Sizes.{forest_size}
@@ -205,9 +205,10 @@ part_itself : (f : Plain) → IsPart f f
 part_itself True = refl
 part_itself (Atom p) = refl
 part_itself Bail = refl
-part_itself Exit = refl
 part_itself (BraceOpen p b) = refl
 part_itself (BraceClose p b) = refl
+part_itself (Inside b) = refl
+part_itself (Outside b) = refl
 part_itself (Not f) = inl refl
 part_itself (And f h) = inl refl
 part_itself (Or f h) = inl refl

@@ -14,7 +14,7 @@ use Rattle.smpl_patch.specs.declared.pattern.VarDecl.{VarDecl}
 use Rattle.smpl_patch.specs.declared.witness.Witness.{Witness}
 use Rattle.smpl_patch.specs.declared.witness.Witness.TheVariants.{Touch, Bind, rolls-Touch, rolls-Bind}
 use Rattle.smpl_patch.specs.declared.witness.Witness.TheFolds.{fold-roll-Witness}
-use Rattle.ctl_formula.specs.Plain.{Plain, True, Atom, Bail, Exit, BraceOpen, BraceClose, Not, And, Or, AX, EX, AU, EU, Past, Down, Exists}
+use Rattle.ctl_formula.specs.Plain.{Plain, True, Atom, Bail, BraceOpen, BraceClose, Inside, Outside, Not, And, Or, AX, EX, AU, EU, Past, Down, Exists}
 use Rattle.wit_order.specs.Order.{witness_order}
 use Rattle.wit_trees.specs.Unions.{placed, put, union, union_of}
 use Rattle.wit_trees.specs.Forest.{World, is_hidden, reached, at_option, bound_to, forest}
@@ -111,9 +111,10 @@ module _ (w : World) (values : AreCValues w.values) where
   forest_b True s env = tt
   forest_b (Atom p) s env = touched_b p s env
   forest_b Bail s env = tt
-  forest_b Exit s env = tt
   forest_b (BraceOpen p b) s env = touched_b p s env
   forest_b (BraceClose p b) s env = touched_b p s env
+  forest_b (Inside b) s env = tt
+  forest_b (Outside b) s env = tt
   forest_b (Not f) s env = tt
   forest_b (And f h) s env = union_b w.decls (forest w f s env) (forest w h s env) (forest_b f s env) (forest_b h s env)
   forest_b (Or f h) s env =

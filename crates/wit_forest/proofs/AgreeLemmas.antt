@@ -38,9 +38,10 @@ module _ (g : Flow) (ok : IsSound g) (a b : ℕ → ℕ → Bool) where
   kids_agree node.True part s l e u = refl
   kids_agree (node.Atom p) part s l e u = refl
   kids_agree node.Bail part s l e u = refl
-  kids_agree node.Exit part s l e u = refl
   kids_agree (node.BraceOpen p v) part s l e u = refl
   kids_agree (node.BraceClose p v) part s l e u = refl
+  kids_agree (node.Inside b) part s l e u = refl
+  kids_agree (node.Outside b) part s l e u = refl
   kids_agree (node.Not i) part s l e u = refl
   kids_agree (node.And i j) part s l e u = refl
   kids_agree (node.Or i j) part s l e u = λ n. cond (e.0 s l n) ((i, s) ∷ []) [] ++ cond (e.1 s l n) ((j, s) ∷ []) []

@@ -197,9 +197,10 @@ module _ (decls : List VarDecl) (tokens : List PatToken) (g : Flow) (fs : List P
     by_node node.True i ih e b s env c h = by_kids node.True i ih e refl refl s env c h
     by_node (node.Atom p) i ih e b s env c h = by_kids (node.Atom p) i ih e refl refl s env c h
     by_node node.Bail i ih e b s env c h = by_kids node.Bail i ih e refl refl s env c h
-    by_node node.Exit i ih e b s env c h = by_kids node.Exit i ih e refl refl s env c h
     by_node (node.BraceOpen p v) i ih e b s env c h = by_kids (node.BraceOpen p v) i ih e refl refl s env c h
     by_node (node.BraceClose p v) i ih e b s env c h = by_kids (node.BraceClose p v) i ih e refl refl s env c h
+    by_node (node.Inside y) i ih e b s env c h = by_kids (node.Inside y) i ih e refl refl s env c h
+    by_node (node.Outside y) i ih e b s env c h = by_kids (node.Outside y) i ih e refl refl s env c h
     by_node (node.Not a) i ih e b s env c h = by_kids (node.Not a) i ih e refl refl s env c h
     by_node (node.And a d) i ih e b s env c h = by_kids (node.And a d) i ih e refl refl s env c h
     by_node (node.Or a d) i ih e b s env c h = by_kids (node.Or a d) i ih e refl refl s env c h

@@ -46,9 +46,10 @@ module _ (g : Flow) (f : FormulaOf) (ok : IsSound g) (s : ℕ) (lt : s < count_o
   own_alike node.True = refl
   own_alike (node.Atom p) = atom_alike p
   own_alike node.Bail = refl
-  own_alike node.Exit = refl
   own_alike (node.BraceOpen p v) = atom_alike p
   own_alike (node.BraceClose p v) = atom_alike p
+  own_alike (node.Inside b) = refl
+  own_alike (node.Outside b) = refl
   own_alike (node.Not i) = refl
   own_alike (node.And i j) = refl
   own_alike (node.Or i j) = refl

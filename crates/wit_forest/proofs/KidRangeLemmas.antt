@@ -34,9 +34,10 @@ pub each_below : (n : ℕ) (x : Node) → below n x ≡ true → EachKid (λ i. 
 each_below n node.True b = tt
 each_below n (node.Atom p) b = tt
 each_below n node.Bail b = tt
-each_below n node.Exit b = tt
 each_below n (node.BraceOpen p v) b = tt
 each_below n (node.BraceClose p v) b = tt
+each_below n (node.Inside y) b = tt
+each_below n (node.Outside y) b = tt
 each_below n (node.Not i) b = lt-true i n b
 each_below n (node.And i j) b = (lt-true i n (and_left _ _ b), lt-true j n (and_right (nat_lt i n) _ b))
 each_below n (node.Or i j) b = (lt-true i n (and_left _ _ b), lt-true j n (and_right (nat_lt i n) _ b))
@@ -103,9 +104,10 @@ module _ (g : Flow) (ok : IsSound g) (H : ℕ → ℕ → Bool) (P : ℕ → Typ
   all_fine node.True part s l e u = tt
   all_fine (node.Atom p) part s l e u = tt
   all_fine node.Bail part s l e u = tt
-  all_fine node.Exit part s l e u = tt
   all_fine (node.BraceOpen p v) part s l e u = tt
   all_fine (node.BraceClose p v) part s l e u = tt
+  all_fine (node.Inside b) part s l e u = tt
+  all_fine (node.Outside b) part s l e u = tt
   all_fine (node.Not i) part s l e u = tt
   all_fine (node.And i j) part s l e u = ((e.0, l), ((e.1, l), tt))
   all_fine (node.Or i j) part s l e u = joined (held g H i s) (held g H j s) (one_of (H i s) i s e.0 l) (one_of (H j s) j s e.1 l)

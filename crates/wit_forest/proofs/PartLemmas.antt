@@ -1,6 +1,6 @@
 -- A node's parts are parts of the formula, if the node is one.
 use Rattle.std.proofs.Common.{ℕ, inl, inr, refl, List}
-use Rattle.ctl_formula.specs.Plain.{Plain, True, Atom, Bail, Exit, BraceOpen, BraceClose, Not, And, Or, AX, EX, AU, EU, Past, Down, Exists}
+use Rattle.ctl_formula.specs.Plain.{Plain, True, Atom, Bail, BraceOpen, BraceClose, Inside, Outside, Not, And, Or, AX, EX, AU, EU, Past, Down, Exists}
 use Rattle.ctl_formula.specs.Tables.{at, plain_of}
 use Rattle.ctl_formula.specs.declared.node.Node.{Node}
 use Rattle.ctl_formula.specs.declared.node.Node.TheVariants as node
@@ -12,9 +12,10 @@ pub part_itself : (f : Plain) → IsPart f f
 part_itself True = refl
 part_itself (Atom p) = refl
 part_itself Bail = refl
-part_itself Exit = refl
 part_itself (BraceOpen p v) = refl
 part_itself (BraceClose p v) = refl
+part_itself (Inside b) = refl
+part_itself (Outside b) = refl
 part_itself (Not f) = inl refl
 part_itself (And f h) = inl refl
 part_itself (Or f h) = inl refl
@@ -34,9 +35,10 @@ module _ (fs : List Plain) (whole : Plain) where
   each_part node.True p = tt
   each_part (node.Atom q) p = tt
   each_part node.Bail p = tt
-  each_part node.Exit p = tt
   each_part (node.BraceOpen q v) p = tt
   each_part (node.BraceClose q v) p = tt
+  each_part (node.Inside b) p = tt
+  each_part (node.Outside b) p = tt
   each_part (node.Not i) p = part_trans (at fs i) (Not (at fs i)) whole (inr (part_itself (at fs i))) p
   each_part (node.And i j) p = (
     part_trans (at fs i) (And (at fs i) (at fs j)) whole (inr (inl (part_itself (at fs i)))) p,

@@ -36,9 +36,10 @@ pub below_all : (k : ℕ) (x : Node) → EachKid (λ i. i < k) x → below k x �
 below_all k node.True e = refl
 below_all k (node.Atom p) e = refl
 below_all k node.Bail e = refl
-below_all k node.Exit e = refl
 below_all k (node.BraceOpen p v) e = refl
 below_all k (node.BraceClose p v) e = refl
+below_all k (node.Inside b) e = refl
+below_all k (node.Outside b) e = refl
 below_all k (node.Not i) e = is_lt i k e
 below_all k (node.And i j) e = and_both _ _ (is_lt i k e.0) (is_lt j k e.1)
 below_all k (node.Or i j) e = and_both _ _ (is_lt i k e.0) (is_lt j k e.1)
@@ -54,9 +55,10 @@ each_kid : (P Q R : ℕ → Type 0) → ((i : ℕ) → P i → Q i → R i) → 
 each_kid P Q R h node.True a b = tt
 each_kid P Q R h (node.Atom p) a b = tt
 each_kid P Q R h node.Bail a b = tt
-each_kid P Q R h node.Exit a b = tt
 each_kid P Q R h (node.BraceOpen p v) a b = tt
 each_kid P Q R h (node.BraceClose p v) a b = tt
+each_kid P Q R h (node.Inside y) a b = tt
+each_kid P Q R h (node.Outside y) a b = tt
 each_kid P Q R h (node.Not i) a b = h i a b
 each_kid P Q R h (node.And i j) a b = (h i a.0 b.0, h j a.1 b.1)
 each_kid P Q R h (node.Or i j) a b = (h i a.0 b.0, h j a.1 b.1)

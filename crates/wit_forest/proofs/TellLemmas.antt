@@ -4,7 +4,7 @@ use Rattle.cfg_graph.specs.Flow.{Flow, IsSound, count_of}
 use Rattle.smpl_terms.specs.Environments.{Environment}
 use Rattle.env_sets.specs.Sets.{Entries, set_denotes}
 use Rattle.env_sets.specs.States.{set_at}
-use Rattle.ctl_formula.specs.Plain.{Plain, True, Atom, Bail, Exit, BraceOpen, BraceClose, Not, And, Or, AX, EX, AU, EU, Past, Down, Exists}
+use Rattle.ctl_formula.specs.Plain.{Plain, True, Atom, Bail, BraceOpen, BraceClose, Inside, Outside, Not, And, Or, AX, EX, AU, EU, Past, Down, Exists}
 use Rattle.ctl_formula.specs.Tables.{at, plains}
 use Rattle.ctl_formula.specs.Formulas.{FormulaOf, plain}
 use Rattle.ctl_holds.specs.Rounds.{holds}
@@ -25,9 +25,10 @@ pub part_trans : (a b c : Plain) → IsPart a b → IsPart b c → IsPart a c
 part_trans a b True p q = subst (IsPart a) q p
 part_trans a b (Atom t) p q = subst (IsPart a) q p
 part_trans a b Bail p q = subst (IsPart a) q p
-part_trans a b Exit p q = subst (IsPart a) q p
 part_trans a b (BraceOpen t x) p q = subst (IsPart a) q p
 part_trans a b (BraceClose t x) p q = subst (IsPart a) q p
+part_trans a b (Inside y) p q = subst (IsPart a) q p
+part_trans a b (Outside y) p q = subst (IsPart a) q p
 part_trans a b (Not f) p q = ⊎_elim (λ e. subst (IsPart a) e p) (λ r. inr (part_trans a b f p r)) q
 part_trans a b (And f h) p q = ⊎_elim (λ e. subst (IsPart a) e p) (λ r. inr (⊎_elim (λ s. inl (part_trans a b f p s)) (λ s. inr (part_trans a b h p s)) r)) q
 part_trans a b (Or f h) p q = ⊎_elim (λ e. subst (IsPart a) e p) (λ r. inr (⊎_elim (λ s. inl (part_trans a b f p s)) (λ s. inr (part_trans a b h p s)) r)) q

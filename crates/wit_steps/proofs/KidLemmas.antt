@@ -237,9 +237,10 @@ module _ (decls : List VarDecl) (tokens : List PatToken) (g : Flow) (ok : IsSoun
   kid_step node.True q part s lt e = refl
   kid_step (node.Atom p) q part s lt e = touches p s
   kid_step node.Bail q part s lt e = refl
-  kid_step node.Exit q part s lt e = refl
   kid_step (node.BraceOpen p b) q part s lt e = touches p s
   kid_step (node.BraceClose p b) q part s lt e = touches p s
+  kid_step (node.Inside b) q part s lt e = refl
+  kid_step (node.Outside b) q part s lt e = refl
   kid_step (node.Not i) q part s lt e = refl
   kid_step (node.And i j) q part s lt e =
       has-union decls (forest W (at fs i) s env) (forest W (at fs j) s env) z

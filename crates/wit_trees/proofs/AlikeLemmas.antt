@@ -1,7 +1,8 @@
 -- Under environments that give each variable the same value a formula holds at the same nodes, and its forests are equal.
-use Rattle.std.proofs.Common.{◌≡◌, ℕ, ◌+◌, Bool, true, false, cond, ◌&&◌, ◌||◌, not, refl, List, [], ◌∷◌, map, Option, Some, None}
+use Rattle.std.proofs.Common.{◌≡◌, ℕ, zero, suc, ◌+◌, Bool, true, false, cond, ◌&&◌, ◌||◌, not, refl, List, [], ◌∷◌, map, Option, Some, None}
 use Rattle.std.specs.Prelude.{slice_get, if◌then◌else◌}
 use Rattle.std.specs.List.{list_any, filter}
+use Rattle.cfg_graph.specs.declared.label.NodeKind.{NodeKind}
 use Rattle.cfg_graph.specs.declared.label.NodeLabel.{NodeLabel}
 use Rattle.cfg_graph.specs.Flow.{Flow, count_of, succ_of, past_of, down_of}
 use Rattle.smpl_terms.specs.declared.var.Var.{Var}
@@ -15,9 +16,9 @@ use Rattle.smpl_patch.specs.declared.pattern.VarDecl.{VarDecl}
 use Rattle.smpl_patch.specs.declared.pattern.PatToken.{PatToken}
 use Rattle.smpl_patch.specs.declared.pattern.Pattern.{Pattern}
 use Rattle.smpl_patch.specs.declared.witness.Witness.TheVariants.{Touch}
-use Rattle.ctl_formula.specs.Plain.{Plain, True, Atom, Bail, Exit, BraceOpen, BraceClose, Not, And, Or, AX, EX, AU, EU, Past, Down, Exists}
+use Rattle.ctl_formula.specs.Plain.{Plain, True, Atom, Bail, BraceOpen, BraceClose, Inside, Outside, Not, And, Or, AX, EX, AU, EU, Past, Down, Exists}
 use Rattle.ctl_holds.specs.Values.{values_of}
-use Rattle.ctl_holds.specs.Holding.{at_node, is_open, is_close}
+use Rattle.ctl_holds.specs.Holding.{at_node, is_open, is_close, is_brace, open_after, in_block, off_block}
 use Rattle.ctl_holds.specs.Rounds.{holds, passes, passes_there, rounds}
 use Rattle.wit_trees.specs.Alike.{Alike}
 use Rattle.wit_trees.specs.Marks.{is_touched}
@@ -42,6 +43,22 @@ at_value false v u d h = same-refl d
 pub value_alike : (d : Environment) (x : Var) (v u : Value) → same v u ≡ true → Alike (change d x v) (change d x u)
 value_alike d x v u h y = at_value (same_var y x) v u (d y) h
 
+-- values that are the same are the place of the same block
+module _ (g : Flow) (v u : Value) (h : same v u ≡ true) where
+  brace-alike : (is : NodeKind → Bool) (l : NodeLabel) → is_brace is v l ≡ is_brace is u l
+  brace-alike is l = λ i. is l.kind && same-along v u h (Place l.brace) i
+
+  open-alike : (n : ℕ) → open_after g v n ≡ open_after g u n
+  open-alike zero = refl
+  open-alike (suc n) = λ i. at_node g n (λ l.
+      brace-alike is_open l i || (not (brace-alike is_close l i) && open-alike n i))
+
+  in_block-alike : (s : ℕ) → in_block g v s ≡ in_block g u s
+  in_block-alike s = open-alike (suc s)
+
+  off_block-alike : (s : ℕ) → off_block g v s ≡ off_block g u s
+  off_block-alike s = λ i. at_node g s (λ l. not (brace-alike is_close l i) && not (in_block-alike s i))
+
 module _ (decls : List VarDecl) (tokens : List PatToken) (g : Flow) where
   module _ (m : ℕ) where
     abbrev H : Plain → ℕ → Environment → Bool
@@ -51,11 +68,12 @@ module _ (decls : List VarDecl) (tokens : List PatToken) (g : Flow) where
     holding True s d e a = refl
     holding (Atom p) s d e a = λ i. at_node g s (λ l. matches_alike decls tokens d e a p l i)
     holding Bail s d e a = refl
-    holding Exit s d e a = refl
     holding (BraceOpen p b) s d e a = λ i. at_node g s (λ l.
         is_open l.kind && same-along (d b) (e b) (a b) (Place l.brace) i && matches_alike decls tokens d e a p l i)
     holding (BraceClose p b) s d e a = λ i. at_node g s (λ l.
         is_close l.kind && same-along (d b) (e b) (a b) (Place l.brace) i && matches_alike decls tokens d e a p l i)
+    holding (Inside b) s d e a = in_block-alike g (d b) (e b) (a b) s
+    holding (Outside b) s d e a = off_block-alike g (d b) (e b) (a b) s
     holding (Not f) s d e a = λ i. not (holding f s d e a i)
     holding (And f h) s d e a = λ i. holding f s d e a i && holding h s d e a i
     holding (Or f h) s d e a = λ i. holding f s d e a i || holding h s d e a i
@@ -88,9 +106,10 @@ module _ (decls : List VarDecl) (tokens : List PatToken) (g : Flow) where
   forests True s d e a = refl
   forests (Atom p) s d e a = touched_alike p s d e a
   forests Bail s d e a = refl
-  forests Exit s d e a = refl
   forests (BraceOpen p b) s d e a = touched_alike p s d e a
   forests (BraceClose p b) s d e a = touched_alike p s d e a
+  forests (Inside b) s d e a = refl
+  forests (Outside b) s d e a = refl
   forests (Not f) s d e a = refl
   forests (And f h) s d e a = λ i. union decls (forests f s d e a i) (forests h s d e a i)
   forests (Or f h) s d e a = λ i. union decls (if held f s d e a i then forests f s d e a i else [])

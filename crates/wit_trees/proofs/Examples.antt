@@ -3,6 +3,7 @@
 use Rattle.std.proofs.Common.{◌≡◌, ℕ, zero, suc, ◌+◌, Bool, true, false, not, ◌&&◌, ◌||◌, refl, List, [], ◌∷◌, Option, Some, None, slice_index_or, cond, map}
 use Rattle.std.specs.Prelude.{codes, eqb, slice_get}
 use Rattle.std.specs.List.{list_any, list_all}
+use Rattle.cfg_graph.specs.declared.label.NodeKind.{NodeKind}
 use Rattle.cfg_graph.specs.declared.label.NodeKind.TheVariants as kind
 use Rattle.cfg_graph.specs.declared.label.NodeLabel.{NodeLabel}
 use Rattle.cfg_graph.specs.Empty.{no_statements}
@@ -17,7 +18,8 @@ use Rattle.smpl_patch.specs.declared.pattern.Spot.TheVariants as spot
 use Rattle.smpl_patch.specs.declared.pattern.VarKind.TheVariants as var_kind
 use Rattle.smpl_patch.specs.declared.pattern.VarDecl.{VarDecl}
 use Rattle.smpl_patch.specs.declared.witness.Witness.TheVariants.{Touch, Bind}
-use Rattle.ctl_formula.specs.Plain.{Plain, True, Atom, Bail, Exit, BraceOpen, BraceClose, Not, And, Or, AX, EX, AU, EU, Past, Down, Exists}
+use Rattle.ctl_formula.specs.Plain.{Plain, True, Atom, Bail, BraceOpen, BraceClose, Inside, Outside, Not, And, Or, AX, EX, AU, EU, Past, Down, Exists}
+use Rattle.ctl_holds.specs.Holding.{in_block, off_block}
 use Rattle.ctl_holds.specs.Rounds.{passes, passes_there, rounds}
 use Rattle.wit_order.proofs.WitnessLemmas.{order-Touch-Touch, order-Touch-Bind, order-Bind-Bind}
 use Rattle.wit_trees.specs.Forest.{World, forest}
@@ -31,8 +33,8 @@ p n = record { atom = n; spot = spot.Whole; forms = [] }
 abbrev decl : Var → VarDecl
 decl x = record { var = x; kind = var_kind.Position; inherited = false; not_names = []; not_places = [] }
 
-abbrev label : NodeLabel
-label = record { kind = kind.Simple; tree = no_statements; path = []; bail = false; brace = 0 }
+abbrev label : NodeKind → ℕ → NodeLabel
+label k brace = record { kind = k; tree = no_statements; path = []; bail = false; brace = brace }
 
 -- a node, an atom, the values under which it matches there, and the places that it touches
 abbrev Row : Type 0
@@ -49,16 +51,19 @@ abbrev places : ℕ → ℕ → List Value
 places n zero = []
 places n (suc k) = Place n ∷ places (suc n) k
 
-abbrev labels : {X : Type 0} → List X → List NodeLabel
-labels [] = []
-labels (x ∷ xs) = label ∷ labels xs
+-- by the places of the blocks that nodes open and close
+abbrev labels : List (Option ℕ) → List (Option ℕ) → List NodeLabel
+labels (Some id ∷ opens) (_ ∷ closes) = label kind.OpenBrace id ∷ labels opens closes
+labels (None ∷ opens) (Some id ∷ closes) = label kind.CloseBrace id ∷ labels opens closes
+labels (None ∷ opens) (None ∷ closes) = label kind.Simple 0 ∷ labels opens closes
+labels _ _ = []
 
 abbrev is_brace : Option ℕ → Value → Bool
 is_brace None x = false
 is_brace (Some id) x = same (Place id) x
 
 -- what a table says, and where formulas hold by it
-module _ (g : Flow) (values : List Value) (rows : List Row) (bails : List ℕ) (exit : ℕ) (opens closes : List (Option ℕ)) where
+module _ (g : Flow) (values : List Value) (rows : List Row) (bails : List ℕ) (opens closes : List (Option ℕ)) where
   abbrev matches : Pattern → ℕ → Environment → Bool
   matches q s env = list_any (λ r. fits r s q.atom env) rows
 
@@ -66,9 +71,10 @@ module _ (g : Flow) (values : List Value) (rows : List Row) (bails : List ℕ) (
   holds True s env = true
   holds (Atom q) s env = matches q s env
   holds Bail s env = list_any (λ n. eqb n s) bails
-  holds Exit s env = eqb s exit
   holds (BraceOpen q b) s env = is_brace (slice_index_or opens s None) (env b) && matches q s env
   holds (BraceClose q b) s env = is_brace (slice_index_or closes s None) (env b) && matches q s env
+  holds (Inside b) s env = in_block g (env b) s
+  holds (Outside b) s env = off_block g (env b) s
   holds (Not f) s env = not (holds f s env)
   holds (And f h) s env = holds f s env && holds h s env
   holds (Or f h) s env = holds f s env || holds h s env
@@ -80,12 +86,12 @@ module _ (g : Flow) (values : List Value) (rows : List Row) (bails : List ℕ) (
   holds (Down i f) s env = passes_there (λ k. holds f k env) (slice_get (down_of g s) i)
   holds (Exists x f) s env = list_any (λ y. holds f s (change env x y)) values
 
-abbrev world : List (List ℕ) → List (Option ℕ) → List (List ℕ) → ℕ → List Row → List ℕ → ℕ → List (Option ℕ) → List (Option ℕ) → List Var → World
-world succ past down values rows bails exit opens closes vars =
-    let g : Flow = record { labels = labels succ; succ = succ; past = past; down = down } in record {
+abbrev world : List (List ℕ) → List (Option ℕ) → List (List ℕ) → ℕ → List Row → List ℕ → List (Option ℕ) → List (Option ℕ) → List Var → World
+world succ past down values rows bails opens closes vars =
+    let g : Flow = record { labels = labels opens closes; succ = succ; past = past; down = down } in record {
       graph = g;
       values = places 0 values;
-      holds = holds g (places 0 values) rows bails exit opens closes;
+      holds = holds g (places 0 values) rows bails opens closes;
       touches = λ q s env. first rows s q.atom env;
       decls = map decl vars;
     }
@@ -95,7 +101,7 @@ start x = Place 1000
 
 -- each call of an expression, by its argument
 abbrev w1 : World
-w1 = (world ((1 ∷ []) ∷ (2 ∷ []) ∷ (3 ∷ []) ∷ (4 ∷ []) ∷ (4 ∷ []) ∷ []) ((Some 4) ∷ (Some 4) ∷ (Some 3) ∷ (Some 4) ∷ None ∷ []) ((1 ∷ []) ∷ (2 ∷ []) ∷ [] ∷ [] ∷ [] ∷ []) 48 ((2, 0, (((v 0 (codes "E")), 0) ∷ []), ((2 ∷ 1 ∷ 0 ∷ 2 ∷ 0 ∷ []) ∷ [])) ∷ (2, 0, (((v 0 (codes "E")), 1) ∷ []), ((2 ∷ 1 ∷ 0 ∷ 2 ∷ 2 ∷ []) ∷ [])) ∷ []) [] 4 (None ∷ (Some 34) ∷ None ∷ None ∷ None ∷ []) (None ∷ None ∷ None ∷ (Some 34) ∷ None ∷ []) ((v 0 (codes "E")) ∷ []))
+w1 = (world ((1 ∷ []) ∷ (2 ∷ []) ∷ (3 ∷ []) ∷ (4 ∷ []) ∷ (4 ∷ []) ∷ []) ((Some 4) ∷ (Some 4) ∷ (Some 3) ∷ (Some 4) ∷ None ∷ []) ((1 ∷ []) ∷ (2 ∷ []) ∷ [] ∷ [] ∷ [] ∷ []) 48 ((2, 0, (((v 0 (codes "E")), 0) ∷ []), ((2 ∷ 1 ∷ 0 ∷ 2 ∷ 0 ∷ []) ∷ [])) ∷ (2, 0, (((v 0 (codes "E")), 1) ∷ []), ((2 ∷ 1 ∷ 0 ∷ 2 ∷ 2 ∷ []) ∷ [])) ∷ []) [] (None ∷ (Some 34) ∷ None ∷ None ∷ None ∷ []) (None ∷ None ∷ None ∷ (Some 34) ∷ None ∷ []) ((v 0 (codes "E")) ∷ []))
 
 abbrev f1 : Plain
 f1 = (Exists (v 0 (codes "E")) (Atom (p 0)))
@@ -105,7 +111,7 @@ forest1_2 = simp order-Bind-Bind refl
 
 -- of a disjunction the first branch that matches is touched, and nothing of the others
 abbrev w2 : World
-w2 = (world ((1 ∷ []) ∷ (2 ∷ []) ∷ (3 ∷ []) ∷ (4 ∷ []) ∷ (4 ∷ []) ∷ []) ((Some 4) ∷ (Some 4) ∷ (Some 3) ∷ (Some 4) ∷ None ∷ []) ((1 ∷ []) ∷ (2 ∷ []) ∷ [] ∷ [] ∷ [] ∷ []) 33 ((2, 0, (((v 0 (codes "x")), 3) ∷ []), ((2 ∷ 1 ∷ []) ∷ [])) ∷ (2, 1, [], ((2 ∷ 1 ∷ []) ∷ [])) ∷ []) [] 4 (None ∷ (Some 26) ∷ None ∷ None ∷ None ∷ []) (None ∷ None ∷ None ∷ (Some 26) ∷ None ∷ []) ((v 0 (codes "x")) ∷ []))
+w2 = (world ((1 ∷ []) ∷ (2 ∷ []) ∷ (3 ∷ []) ∷ (4 ∷ []) ∷ (4 ∷ []) ∷ []) ((Some 4) ∷ (Some 4) ∷ (Some 3) ∷ (Some 4) ∷ None ∷ []) ((1 ∷ []) ∷ (2 ∷ []) ∷ [] ∷ [] ∷ [] ∷ []) 33 ((2, 0, (((v 0 (codes "x")), 3) ∷ []), ((2 ∷ 1 ∷ []) ∷ [])) ∷ (2, 1, [], ((2 ∷ 1 ∷ []) ∷ [])) ∷ []) [] (None ∷ (Some 26) ∷ None ∷ None ∷ None ∷ []) (None ∷ None ∷ None ∷ (Some 26) ∷ None ∷ []) ((v 0 (codes "x")) ∷ []))
 
 abbrev f2 : Plain
 f2 = (Or (Exists (v 0 (codes "x")) (Atom (p 0))) (And (Atom (p 1)) (Not (Exists (v 0 (codes "x")) (Atom (p 0))))))
@@ -115,7 +121,7 @@ forest2_2 = refl
 
 -- one value for each branch
 abbrev w3 : World
-w3 = (world ((1 ∷ []) ∷ (2 ∷ []) ∷ (3 ∷ []) ∷ (4 ∷ 5 ∷ []) ∷ (6 ∷ []) ∷ (6 ∷ []) ∷ (7 ∷ []) ∷ (7 ∷ []) ∷ []) ((Some 7) ∷ (Some 7) ∷ (Some 3) ∷ (Some 6) ∷ (Some 6) ∷ (Some 6) ∷ (Some 7) ∷ None ∷ []) ((1 ∷ []) ∷ (2 ∷ []) ∷ [] ∷ (4 ∷ 5 ∷ []) ∷ [] ∷ [] ∷ [] ∷ [] ∷ []) 59 ((2, 0, (((v 0 (codes "l")), 0) ∷ []), ((2 ∷ 1 ∷ []) ∷ [])) ∷ (4, 1, (((v 0 (codes "m")), 0) ∷ []), ((2 ∷ 2 ∷ 4 ∷ []) ∷ [])) ∷ (5, 1, (((v 0 (codes "m")), 1) ∷ []), ((2 ∷ 2 ∷ 6 ∷ []) ∷ [])) ∷ []) [] 7 (None ∷ (Some 37) ∷ None ∷ None ∷ None ∷ None ∷ None ∷ None ∷ []) (None ∷ None ∷ None ∷ None ∷ None ∷ None ∷ (Some 37) ∷ None ∷ []) ((v 0 (codes "l")) ∷ (v 0 (codes "m")) ∷ []))
+w3 = (world ((1 ∷ []) ∷ (2 ∷ []) ∷ (3 ∷ []) ∷ (4 ∷ 5 ∷ []) ∷ (6 ∷ []) ∷ (6 ∷ []) ∷ (7 ∷ []) ∷ (7 ∷ []) ∷ []) ((Some 7) ∷ (Some 7) ∷ (Some 3) ∷ (Some 6) ∷ (Some 6) ∷ (Some 6) ∷ (Some 7) ∷ None ∷ []) ((1 ∷ []) ∷ (2 ∷ []) ∷ [] ∷ (4 ∷ 5 ∷ []) ∷ [] ∷ [] ∷ [] ∷ [] ∷ []) 59 ((2, 0, (((v 0 (codes "l")), 0) ∷ []), ((2 ∷ 1 ∷ []) ∷ [])) ∷ (4, 1, (((v 0 (codes "m")), 0) ∷ []), ((2 ∷ 2 ∷ 4 ∷ []) ∷ [])) ∷ (5, 1, (((v 0 (codes "m")), 1) ∷ []), ((2 ∷ 2 ∷ 6 ∷ []) ∷ [])) ∷ []) [] (None ∷ (Some 37) ∷ None ∷ None ∷ None ∷ None ∷ None ∷ None ∷ []) (None ∷ None ∷ None ∷ None ∷ None ∷ None ∷ (Some 37) ∷ None ∷ []) ((v 0 (codes "l")) ∷ (v 0 (codes "m")) ∷ []))
 
 abbrev f3 : Plain
 f3 = (And (Exists (v 0 (codes "l")) (Atom (p 0))) (AX (And (AU (And (Not (Exists (v 0 (codes "l")) (Atom (p 0)))) (Not (Exists (v 0 (codes "m")) (Atom (p 1))))) (Or (Exists (v 0 (codes "m")) (Atom (p 1))) Bail)) (EU (And (Not (Exists (v 0 (codes "l")) (Atom (p 0)))) (Not (Exists (v 0 (codes "m")) (Atom (p 1))))) (Exists (v 0 (codes "m")) (Atom (p 1)))))))
@@ -125,7 +131,7 @@ forest3_2 = simp (order-Touch-Touch, order-Bind-Bind) refl
 
 -- a value is told where it is bound
 abbrev w4 : World
-w4 = (world ((1 ∷ []) ∷ (2 ∷ []) ∷ (3 ∷ []) ∷ (4 ∷ []) ∷ (5 ∷ []) ∷ (6 ∷ []) ∷ (6 ∷ []) ∷ []) ((Some 6) ∷ (Some 6) ∷ (Some 3) ∷ (Some 4) ∷ (Some 5) ∷ (Some 6) ∷ None ∷ []) ((1 ∷ []) ∷ (2 ∷ []) ∷ [] ∷ [] ∷ [] ∷ [] ∷ [] ∷ []) 50 ((2, 0, [], ((2 ∷ 1 ∷ []) ∷ [])) ∷ (4, 1, (((v 0 (codes "x")), 6) ∷ []), ((2 ∷ 3 ∷ []) ∷ [])) ∷ (3, 2, (((v 0 (codes "x")), 5) ∷ []), []) ∷ []) [] 6 (None ∷ (Some 34) ∷ None ∷ None ∷ None ∷ None ∷ None ∷ []) (None ∷ None ∷ None ∷ None ∷ None ∷ (Some 34) ∷ None ∷ []) ((v 0 (codes "x")) ∷ []))
+w4 = (world ((1 ∷ []) ∷ (2 ∷ []) ∷ (3 ∷ []) ∷ (4 ∷ []) ∷ (5 ∷ []) ∷ (6 ∷ []) ∷ (6 ∷ []) ∷ []) ((Some 6) ∷ (Some 6) ∷ (Some 3) ∷ (Some 4) ∷ (Some 5) ∷ (Some 6) ∷ None ∷ []) ((1 ∷ []) ∷ (2 ∷ []) ∷ [] ∷ [] ∷ [] ∷ [] ∷ [] ∷ []) 50 ((2, 0, [], ((2 ∷ 1 ∷ []) ∷ [])) ∷ (4, 1, (((v 0 (codes "x")), 6) ∷ []), ((2 ∷ 3 ∷ []) ∷ [])) ∷ (3, 2, (((v 0 (codes "x")), 5) ∷ []), []) ∷ []) [] (None ∷ (Some 34) ∷ None ∷ None ∷ None ∷ None ∷ None ∷ []) (None ∷ None ∷ None ∷ None ∷ None ∷ (Some 34) ∷ None ∷ []) ((v 0 (codes "x")) ∷ []))
 
 abbrev f4 : Plain
 f4 = (And (Atom (p 0)) (AX (Exists (v 0 (codes "x")) (And (AU (And (And (Not (Atom (p 2))) (Not (Atom (p 0)))) (Not (Atom (p 1)))) (Or (Atom (p 1)) Bail)) (EU (And (And (Not (Atom (p 2))) (Not (Atom (p 0)))) (Not (Atom (p 1)))) (Atom (p 1)))))))
@@ -135,7 +141,7 @@ forest4_2 = simp (order-Touch-Touch, order-Touch-Bind) refl
 
 -- a loop is gone through once
 abbrev w7 : World
-w7 = (world ((1 ∷ []) ∷ (2 ∷ []) ∷ (3 ∷ []) ∷ (4 ∷ 5 ∷ []) ∷ (3 ∷ []) ∷ (6 ∷ []) ∷ (7 ∷ []) ∷ (7 ∷ []) ∷ []) ((Some 7) ∷ (Some 7) ∷ (Some 3) ∷ (Some 5) ∷ (Some 3) ∷ (Some 6) ∷ (Some 7) ∷ None ∷ []) ((1 ∷ []) ∷ (2 ∷ []) ∷ [] ∷ (4 ∷ []) ∷ [] ∷ [] ∷ [] ∷ [] ∷ []) 51 ((2, 0, [], ((2 ∷ 1 ∷ []) ∷ [])) ∷ (5, 1, [], ((2 ∷ 3 ∷ []) ∷ [])) ∷ []) [] 7 (None ∷ (Some 33) ∷ None ∷ None ∷ None ∷ None ∷ None ∷ None ∷ []) (None ∷ None ∷ None ∷ None ∷ None ∷ None ∷ (Some 33) ∷ None ∷ []) [])
+w7 = (world ((1 ∷ []) ∷ (2 ∷ []) ∷ (3 ∷ []) ∷ (4 ∷ 5 ∷ []) ∷ (3 ∷ []) ∷ (6 ∷ []) ∷ (7 ∷ []) ∷ (7 ∷ []) ∷ []) ((Some 7) ∷ (Some 7) ∷ (Some 3) ∷ (Some 5) ∷ (Some 3) ∷ (Some 6) ∷ (Some 7) ∷ None ∷ []) ((1 ∷ []) ∷ (2 ∷ []) ∷ [] ∷ (4 ∷ []) ∷ [] ∷ [] ∷ [] ∷ [] ∷ []) 51 ((2, 0, [], ((2 ∷ 1 ∷ []) ∷ [])) ∷ (5, 1, [], ((2 ∷ 3 ∷ []) ∷ [])) ∷ []) [] (None ∷ (Some 33) ∷ None ∷ None ∷ None ∷ None ∷ None ∷ None ∷ []) (None ∷ None ∷ None ∷ None ∷ None ∷ None ∷ (Some 33) ∷ None ∷ []) [])
 
 abbrev f7 : Plain
 f7 = (And (Atom (p 0)) (EX (EU (And (Not (Atom (p 0))) (Not (Atom (p 1)))) (Atom (p 1)))))
@@ -145,7 +151,7 @@ forest7_2 = simp order-Touch-Touch refl
 
 -- a tree stands once, however many walks come to it
 abbrev w8 : World
-w8 = (world ((1 ∷ []) ∷ (2 ∷ []) ∷ (3 ∷ []) ∷ (4 ∷ 5 ∷ []) ∷ (5 ∷ []) ∷ (6 ∷ 7 ∷ []) ∷ (7 ∷ []) ∷ (8 ∷ []) ∷ (9 ∷ []) ∷ (9 ∷ []) ∷ []) ((Some 9) ∷ (Some 9) ∷ (Some 3) ∷ (Some 5) ∷ (Some 5) ∷ (Some 7) ∷ (Some 7) ∷ (Some 8) ∷ (Some 9) ∷ None ∷ []) ((1 ∷ []) ∷ (2 ∷ []) ∷ [] ∷ (4 ∷ []) ∷ [] ∷ (6 ∷ []) ∷ [] ∷ [] ∷ [] ∷ [] ∷ []) 59 ((2, 0, [], ((2 ∷ 1 ∷ []) ∷ [])) ∷ (7, 1, [], ((2 ∷ 4 ∷ []) ∷ [])) ∷ []) [] 9 (None ∷ (Some 33) ∷ None ∷ None ∷ None ∷ None ∷ None ∷ None ∷ None ∷ None ∷ []) (None ∷ None ∷ None ∷ None ∷ None ∷ None ∷ None ∷ None ∷ (Some 33) ∷ None ∷ []) [])
+w8 = (world ((1 ∷ []) ∷ (2 ∷ []) ∷ (3 ∷ []) ∷ (4 ∷ 5 ∷ []) ∷ (5 ∷ []) ∷ (6 ∷ 7 ∷ []) ∷ (7 ∷ []) ∷ (8 ∷ []) ∷ (9 ∷ []) ∷ (9 ∷ []) ∷ []) ((Some 9) ∷ (Some 9) ∷ (Some 3) ∷ (Some 5) ∷ (Some 5) ∷ (Some 7) ∷ (Some 7) ∷ (Some 8) ∷ (Some 9) ∷ None ∷ []) ((1 ∷ []) ∷ (2 ∷ []) ∷ [] ∷ (4 ∷ []) ∷ [] ∷ (6 ∷ []) ∷ [] ∷ [] ∷ [] ∷ [] ∷ []) 59 ((2, 0, [], ((2 ∷ 1 ∷ []) ∷ [])) ∷ (7, 1, [], ((2 ∷ 4 ∷ []) ∷ [])) ∷ []) [] (None ∷ (Some 33) ∷ None ∷ None ∷ None ∷ None ∷ None ∷ None ∷ None ∷ None ∷ []) (None ∷ None ∷ None ∷ None ∷ None ∷ None ∷ None ∷ None ∷ (Some 33) ∷ None ∷ []) [])
 
 abbrev f8 : Plain
 f8 = (And (Atom (p 0)) (EX (EU (And (Not (Atom (p 0))) (Not (Atom (p 1)))) (Atom (p 1)))))
@@ -155,7 +161,7 @@ forest8_2 = simp order-Touch-Touch refl
 
 -- a walk that leaves early ends there
 abbrev w9 : World
-w9 = (world ((1 ∷ []) ∷ (2 ∷ []) ∷ (3 ∷ []) ∷ (4 ∷ 5 ∷ []) ∷ (7 ∷ []) ∷ (6 ∷ []) ∷ (7 ∷ []) ∷ (7 ∷ []) ∷ []) ((Some 7) ∷ (Some 7) ∷ (Some 3) ∷ (Some 5) ∷ (Some 5) ∷ (Some 6) ∷ (Some 7) ∷ None ∷ []) ((1 ∷ []) ∷ (2 ∷ []) ∷ [] ∷ (4 ∷ []) ∷ [] ∷ [] ∷ [] ∷ [] ∷ []) 48 ((2, 0, [], ((2 ∷ 1 ∷ []) ∷ [])) ∷ (5, 1, [], ((2 ∷ 3 ∷ []) ∷ [])) ∷ []) (4 ∷ []) 7 (None ∷ (Some 32) ∷ None ∷ None ∷ None ∷ None ∷ None ∷ None ∷ []) (None ∷ None ∷ None ∷ None ∷ None ∷ None ∷ (Some 32) ∷ None ∷ []) [])
+w9 = (world ((1 ∷ []) ∷ (2 ∷ []) ∷ (3 ∷ []) ∷ (4 ∷ 5 ∷ []) ∷ (7 ∷ []) ∷ (6 ∷ []) ∷ (7 ∷ []) ∷ (7 ∷ []) ∷ []) ((Some 7) ∷ (Some 7) ∷ (Some 3) ∷ (Some 5) ∷ (Some 5) ∷ (Some 6) ∷ (Some 7) ∷ None ∷ []) ((1 ∷ []) ∷ (2 ∷ []) ∷ [] ∷ (4 ∷ []) ∷ [] ∷ [] ∷ [] ∷ [] ∷ []) 48 ((2, 0, [], ((2 ∷ 1 ∷ []) ∷ [])) ∷ (5, 1, [], ((2 ∷ 3 ∷ []) ∷ [])) ∷ []) (4 ∷ []) (None ∷ (Some 32) ∷ None ∷ None ∷ None ∷ None ∷ None ∷ None ∷ []) (None ∷ None ∷ None ∷ None ∷ None ∷ None ∷ (Some 32) ∷ None ∷ []) [])
 
 abbrev f9 : Plain
 f9 = (And (Atom (p 0)) (AX (And (AU (And (Not (Atom (p 0))) (Not (Atom (p 1)))) (Or (Atom (p 1)) Bail)) (EU (And (Not (Atom (p 0))) (Not (Atom (p 1)))) (Atom (p 1))))))
@@ -165,7 +171,7 @@ forest9_2 = simp order-Touch-Touch refl
 
 -- one tree for each value, over the forest under it
 abbrev w11 : World
-w11 = (world ((1 ∷ []) ∷ (2 ∷ []) ∷ (3 ∷ []) ∷ (4 ∷ []) ∷ (5 ∷ []) ∷ (6 ∷ []) ∷ (7 ∷ []) ∷ (8 ∷ []) ∷ (8 ∷ []) ∷ []) ((Some 8) ∷ (Some 8) ∷ (Some 3) ∷ (Some 4) ∷ (Some 5) ∷ (Some 6) ∷ (Some 7) ∷ (Some 8) ∷ None ∷ []) ((1 ∷ []) ∷ (2 ∷ []) ∷ [] ∷ [] ∷ [] ∷ [] ∷ [] ∷ [] ∷ [] ∷ []) 64 ((2, 0, (((v 0 (codes "x")), 0) ∷ []), ((2 ∷ 1 ∷ []) ∷ [])) ∷ (4, 0, (((v 0 (codes "x")), 1) ∷ []), ((2 ∷ 3 ∷ []) ∷ [])) ∷ (3, 1, (((v 0 (codes "x")), 0) ∷ []), []) ∷ (5, 1, (((v 0 (codes "x")), 1) ∷ []), []) ∷ (6, 2, [], ((2 ∷ 5 ∷ []) ∷ [])) ∷ []) [] 8 (None ∷ (Some 38) ∷ None ∷ None ∷ None ∷ None ∷ None ∷ None ∷ None ∷ []) (None ∷ None ∷ None ∷ None ∷ None ∷ None ∷ None ∷ (Some 38) ∷ None ∷ []) ((v 0 (codes "x")) ∷ []))
+w11 = (world ((1 ∷ []) ∷ (2 ∷ []) ∷ (3 ∷ []) ∷ (4 ∷ []) ∷ (5 ∷ []) ∷ (6 ∷ []) ∷ (7 ∷ []) ∷ (8 ∷ []) ∷ (8 ∷ []) ∷ []) ((Some 8) ∷ (Some 8) ∷ (Some 3) ∷ (Some 4) ∷ (Some 5) ∷ (Some 6) ∷ (Some 7) ∷ (Some 8) ∷ None ∷ []) ((1 ∷ []) ∷ (2 ∷ []) ∷ [] ∷ [] ∷ [] ∷ [] ∷ [] ∷ [] ∷ [] ∷ []) 64 ((2, 0, (((v 0 (codes "x")), 0) ∷ []), ((2 ∷ 1 ∷ []) ∷ [])) ∷ (4, 0, (((v 0 (codes "x")), 1) ∷ []), ((2 ∷ 3 ∷ []) ∷ [])) ∷ (3, 1, (((v 0 (codes "x")), 0) ∷ []), []) ∷ (5, 1, (((v 0 (codes "x")), 1) ∷ []), []) ∷ (6, 2, [], ((2 ∷ 5 ∷ []) ∷ [])) ∷ []) [] (None ∷ (Some 38) ∷ None ∷ None ∷ None ∷ None ∷ None ∷ None ∷ None ∷ []) (None ∷ None ∷ None ∷ None ∷ None ∷ None ∷ None ∷ (Some 38) ∷ None ∷ []) ((v 0 (codes "x")) ∷ []))
 
 abbrev f11 : Plain
 f11 = (Exists (v 0 (codes "x")) (And (Atom (p 0)) (EX (EU (And (And (Not (Atom (p 0))) (Not (Atom (p 2)))) (Or (Atom (p 1)) (Not (Atom (p 1))))) (Atom (p 2))))))
@@ -178,17 +184,17 @@ forest11_4 = simp order-Touch-Touch refl
 
 -- the variable of a block has no tree
 abbrev w13 : World
-w13 = (world ((1 ∷ []) ∷ (2 ∷ []) ∷ (3 ∷ 8 ∷ []) ∷ (4 ∷ []) ∷ (5 ∷ []) ∷ (6 ∷ []) ∷ (7 ∷ []) ∷ (2 ∷ []) ∷ (9 ∷ []) ∷ (9 ∷ []) ∷ []) ((Some 9) ∷ (Some 9) ∷ (Some 8) ∷ (Some 2) ∷ (Some 5) ∷ (Some 6) ∷ (Some 7) ∷ (Some 2) ∷ (Some 9) ∷ None ∷ []) ((1 ∷ []) ∷ (2 ∷ []) ∷ (3 ∷ []) ∷ (4 ∷ []) ∷ [] ∷ [] ∷ [] ∷ [] ∷ [] ∷ [] ∷ []) 56 ((2, 0, (((v 0 (codes "x")), 0) ∷ []), []) ∷ (1, 1, [], []) ∷ (3, 1, [], []) ∷ (5, 2, (((v 0 (codes "x")), 0) ∷ []), ((2 ∷ 1 ∷ 4 ∷ 2 ∷ []) ∷ [])) ∷ (7, 3, [], []) ∷ (8, 3, [], []) ∷ []) [] 9 (None ∷ (Some 35) ∷ None ∷ (Some 40) ∷ None ∷ None ∷ None ∷ None ∷ None ∷ None ∷ []) (None ∷ None ∷ None ∷ None ∷ None ∷ None ∷ None ∷ (Some 40) ∷ (Some 35) ∷ None ∷ []) ((v 0 (codes "x")) ∷ []))
+w13 = (world ((1 ∷ []) ∷ (2 ∷ []) ∷ (3 ∷ 8 ∷ []) ∷ (4 ∷ []) ∷ (5 ∷ []) ∷ (6 ∷ []) ∷ (7 ∷ []) ∷ (2 ∷ []) ∷ (9 ∷ []) ∷ (9 ∷ []) ∷ []) ((Some 9) ∷ (Some 9) ∷ (Some 8) ∷ (Some 2) ∷ (Some 5) ∷ (Some 6) ∷ (Some 7) ∷ (Some 2) ∷ (Some 9) ∷ None ∷ []) ((1 ∷ []) ∷ (2 ∷ []) ∷ (3 ∷ []) ∷ (4 ∷ []) ∷ [] ∷ [] ∷ [] ∷ [] ∷ [] ∷ [] ∷ []) 56 ((2, 0, (((v 0 (codes "x")), 0) ∷ []), []) ∷ (1, 1, [], []) ∷ (3, 1, [], []) ∷ (5, 2, (((v 0 (codes "x")), 0) ∷ []), ((2 ∷ 1 ∷ 4 ∷ 2 ∷ []) ∷ [])) ∷ (7, 3, [], []) ∷ (8, 3, [], []) ∷ []) [] (None ∷ (Some 35) ∷ None ∷ (Some 40) ∷ None ∷ None ∷ None ∷ None ∷ None ∷ None ∷ []) (None ∷ None ∷ None ∷ None ∷ None ∷ None ∷ None ∷ (Some 40) ∷ (Some 35) ∷ None ∷ []) ((v 0 (codes "x")) ∷ []))
 
 abbrev f13 : Plain
-f13 = (Exists (v 0 (codes "x")) (And (And (Atom (p 0)) (Down 0 (And (Exists (v 0 (123 ∷ codes "0")) (And (BraceOpen (p 1) (v 0 (123 ∷ codes "0"))) (Down 0 (EU (Not (Atom (p 2))) (And (Atom (p 2)) (EX (EU (Not (Atom (p 2))) (Or (BraceClose (p 3) (v 0 (123 ∷ codes "0"))) Exit)))))))) (Past True)))) (Past True)))
+f13 = (Exists (v 0 (codes "x")) (And (And (Atom (p 0)) (Down 0 (And (Exists (v 0 (123 ∷ codes "0")) (And (BraceOpen (p 1) (v 0 (123 ∷ codes "0"))) (Down 0 (EU (And (Inside (v 0 (123 ∷ codes "0"))) (Not (Atom (p 2)))) (And (Inside (v 0 (123 ∷ codes "0"))) (And (Atom (p 2)) (EX (EU (And (Inside (v 0 (123 ∷ codes "0"))) (Not (Atom (p 2)))) (Or (BraceClose (p 3) (v 0 (123 ∷ codes "0"))) (Outside (v 0 (123 ∷ codes "0")))))))))))) (Past True)))) (Past True)))
 
 forest13_2 : forest w13 f13 2 start ≡ ((Bind 2 (v 0 (codes "x")) (Place 0) ((Touch 5 2 (2 ∷ 1 ∷ 4 ∷ 2 ∷ [])) ∷ [])) ∷ [])
 forest13_2 = refl
 
 -- a nest
 abbrev w14 : World
-w14 = (world ((1 ∷ []) ∷ (2 ∷ []) ∷ (3 ∷ []) ∷ (4 ∷ []) ∷ (5 ∷ []) ∷ (6 ∷ []) ∷ (6 ∷ []) ∷ []) ((Some 6) ∷ (Some 6) ∷ (Some 3) ∷ (Some 4) ∷ (Some 5) ∷ (Some 6) ∷ None ∷ []) ((1 ∷ []) ∷ (2 ∷ []) ∷ [] ∷ [] ∷ [] ∷ [] ∷ [] ∷ []) 48 ((2, 0, (((v 0 (codes "x")), 0) ∷ []), ((2 ∷ 1 ∷ []) ∷ [])) ∷ (3, 1, (((v 0 (codes "x")), 0) ∷ []), []) ∷ (4, 2, [], ((2 ∷ 3 ∷ []) ∷ [])) ∷ []) [] 6 (None ∷ (Some 32) ∷ None ∷ None ∷ None ∷ None ∷ None ∷ []) (None ∷ None ∷ None ∷ None ∷ None ∷ (Some 32) ∷ None ∷ []) ((v 0 (codes "x")) ∷ []))
+w14 = (world ((1 ∷ []) ∷ (2 ∷ []) ∷ (3 ∷ []) ∷ (4 ∷ []) ∷ (5 ∷ []) ∷ (6 ∷ []) ∷ (6 ∷ []) ∷ []) ((Some 6) ∷ (Some 6) ∷ (Some 3) ∷ (Some 4) ∷ (Some 5) ∷ (Some 6) ∷ None ∷ []) ((1 ∷ []) ∷ (2 ∷ []) ∷ [] ∷ [] ∷ [] ∷ [] ∷ [] ∷ []) 48 ((2, 0, (((v 0 (codes "x")), 0) ∷ []), ((2 ∷ 1 ∷ []) ∷ [])) ∷ (3, 1, (((v 0 (codes "x")), 0) ∷ []), []) ∷ (4, 2, [], ((2 ∷ 3 ∷ []) ∷ [])) ∷ []) [] (None ∷ (Some 32) ∷ None ∷ None ∷ None ∷ None ∷ None ∷ []) (None ∷ None ∷ None ∷ None ∷ None ∷ (Some 32) ∷ None ∷ []) ((v 0 (codes "x")) ∷ []))
 
 abbrev f14 : Plain
 f14 = (Exists (v 0 (codes "x")) (And (Atom (p 0)) (EX (And (EU (And (And (Not (Atom (p 0))) (Not (Atom (p 2)))) (Or (Atom (p 1)) (Not (Atom (p 1))))) (Atom (p 2))) (EU (And (Not (Atom (p 0))) (Not (Atom (p 2)))) (And (And (And (Not (Atom (p 0))) (Not (Atom (p 2)))) (Atom (p 1))) (EU (And (Not (Atom (p 0))) (Not (Atom (p 2)))) (Atom (p 2)))))))))
@@ -198,7 +204,7 @@ forest14_2 = simp order-Touch-Touch refl
 
 -- a nest: what is repeated is touched at each node that it matches, with a value of its own
 abbrev w20 : World
-w20 = (world ((1 ∷ []) ∷ (2 ∷ []) ∷ (3 ∷ []) ∷ (4 ∷ []) ∷ (5 ∷ []) ∷ (6 ∷ []) ∷ (7 ∷ []) ∷ (8 ∷ []) ∷ (8 ∷ []) ∷ []) ((Some 8) ∷ (Some 8) ∷ (Some 3) ∷ (Some 4) ∷ (Some 5) ∷ (Some 6) ∷ (Some 7) ∷ (Some 8) ∷ None ∷ []) ((1 ∷ []) ∷ (2 ∷ []) ∷ [] ∷ [] ∷ [] ∷ [] ∷ [] ∷ [] ∷ [] ∷ []) 3 ((2, 0, [], []) ∷ (3, 1, (((v 0 (codes "x")), 0) ∷ []), ((2 ∷ 2 ∷ []) ∷ [])) ∷ (5, 1, (((v 0 (codes "x")), 1) ∷ []), ((2 ∷ 4 ∷ []) ∷ [])) ∷ (6, 2, [], []) ∷ []) [] 8 (None ∷ (Some 38) ∷ None ∷ None ∷ None ∷ None ∷ None ∷ None ∷ None ∷ []) (None ∷ None ∷ None ∷ None ∷ None ∷ None ∷ None ∷ (Some 38) ∷ None ∷ []) ((v 0 (codes "x")) ∷ []))
+w20 = (world ((1 ∷ []) ∷ (2 ∷ []) ∷ (3 ∷ []) ∷ (4 ∷ []) ∷ (5 ∷ []) ∷ (6 ∷ []) ∷ (7 ∷ []) ∷ (8 ∷ []) ∷ (8 ∷ []) ∷ []) ((Some 8) ∷ (Some 8) ∷ (Some 3) ∷ (Some 4) ∷ (Some 5) ∷ (Some 6) ∷ (Some 7) ∷ (Some 8) ∷ None ∷ []) ((1 ∷ []) ∷ (2 ∷ []) ∷ [] ∷ [] ∷ [] ∷ [] ∷ [] ∷ [] ∷ [] ∷ []) 3 ((2, 0, [], []) ∷ (3, 1, (((v 0 (codes "x")), 0) ∷ []), ((2 ∷ 2 ∷ []) ∷ [])) ∷ (5, 1, (((v 0 (codes "x")), 1) ∷ []), ((2 ∷ 4 ∷ []) ∷ [])) ∷ (6, 2, [], []) ∷ []) [] (None ∷ (Some 38) ∷ None ∷ None ∷ None ∷ None ∷ None ∷ None ∷ None ∷ []) (None ∷ None ∷ None ∷ None ∷ None ∷ None ∷ None ∷ (Some 38) ∷ None ∷ []) ((v 0 (codes "x")) ∷ []))
 
 abbrev f20 : Plain
 f20 =

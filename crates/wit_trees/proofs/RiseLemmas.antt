@@ -6,7 +6,7 @@ use Rattle.cfg_graph.specs.Flow.{succ_of, past_of, down_of}
 use Rattle.smpl_terms.specs.Environments.{Environment, change}
 use Rattle.smpl_patch.specs.declared.witness.Witness.{Witness}
 use Rattle.smpl_patch.specs.declared.witness.Witness.TheVariants.{Touch}
-use Rattle.ctl_formula.specs.Plain.{Plain, True, Atom, Bail, Exit, BraceOpen, BraceClose, Not, And, Or, AX, EX, AU, EU, Past, Down, Exists}
+use Rattle.ctl_formula.specs.Plain.{Plain, True, Atom, Bail, BraceOpen, BraceClose, Inside, Outside, Not, And, Or, AX, EX, AU, EU, Past, Down, Exists}
 use Rattle.wit_order.specs.Forests.{Rise}
 use Rattle.wit_trees.specs.Forest.{World, forest, at_option, bound_to, is_hidden, reached}
 use Rattle.wit_trees.specs.Unions.{union}
@@ -25,9 +25,10 @@ module _ (w : World) where
   forest_rises True s env = tt
   forest_rises (Atom p) s env = Rise-union_of w.decls (map (λ path. Touch s p.atom path ∷ []) (w.touches p s env))
   forest_rises Bail s env = tt
-  forest_rises Exit s env = tt
   forest_rises (BraceOpen p b) s env = Rise-union_of w.decls (map (λ path. Touch s p.atom path ∷ []) (w.touches p s env))
   forest_rises (BraceClose p b) s env = Rise-union_of w.decls (map (λ path. Touch s p.atom path ∷ []) (w.touches p s env))
+  forest_rises (Inside b) s env = tt
+  forest_rises (Outside b) s env = tt
   forest_rises (Not f) s env = tt
   forest_rises (And f h) s env = Rise-union w.decls (forest w f s env) (forest w h s env) (forest_rises h s env)
   forest_rises (Or f h) s env =

@@ -9,7 +9,7 @@ use Rattle.smpl_patch.specs.declared.pattern.Pattern.{Pattern}
 use Rattle.smpl_patch.specs.declared.pattern.VarDecl.{VarDecl}
 use Rattle.smpl_patch.specs.declared.witness.Witness.{Witness}
 use Rattle.smpl_patch.specs.declared.witness.Witness.TheVariants.{Touch, Bind}
-use Rattle.ctl_formula.specs.Plain.{Plain, True, Atom, Bail, Exit, BraceOpen, BraceClose, Not, And, Or, AX, EX, AU}
+use Rattle.ctl_formula.specs.Plain.{Plain, True, Atom, Bail, BraceOpen, BraceClose, Inside, Outside, Not, And, Or, AX, EX, AU}
 use Rattle.ctl_formula.specs.Plain.{EU, Past, Down, Exists}
 use Rattle.ctl_holds.specs.Rounds.{rounds}
 use Rattle.wit_trees.specs.Unions.{union, union_of}
@@ -63,9 +63,10 @@ module _ (w : World) where
   forest True s env = []
   forest (Atom p) s env = touched p s env
   forest Bail s env = []
-  forest Exit s env = []
   forest (BraceOpen p b) s env = touched p s env
   forest (BraceClose p b) s env = touched p s env
+  forest (Inside b) s env = []
+  forest (Outside b) s env = []
   forest (Not f) s env = []
   forest (And f h) s env = union w.decls (forest f s env) (forest h s env)
   forest (Or f h) s env = union w.decls (if w.holds f s env then forest f s env else [])

@@ -1,5 +1,10 @@
 // What the table goes by, besides the element at hand.
+ghost use Rattle.std.specs.Prelude.{◌≡◌};
+ghost use Rattle.ctl_table.specs.Table as table;
+ghost use Rattle.ctl_table.specs.Settings.{setting_at};
+
 use crate::numbers::Blocks;
+use smpl_terms::Var;
 use var_places::{Ordered, Reader};
 
 /// What the table goes by.
@@ -14,4 +19,24 @@ pub struct Setting<'a> {
     pub alone: &'a Ordered,
     /// The opening braces' atoms, in the order of their hidden variables.
     pub blocks: &'a Blocks,
+    /// The hidden variable of the innermost block around, where there is one: dots stay in that block.
+    pub around: Option<&'a Var>,
+}
+
+impl<'a> Setting<'a> {
+    /// The same for what stands in this block.
+    pub fn within<'b>(&self, b: &'b Var) -> Setting<'b>
+    where
+        'a: 'b,
+        ensures { setting_at result ≡ table.within (setting_at self.now) b.now }
+    {
+        Setting {
+            reader: self.reader,
+            forall_walks: self.forall_walks,
+            locals: self.locals,
+            alone: self.alone,
+            blocks: self.blocks,
+            around: Some(b),
+        }
+    }
 }

@@ -9,7 +9,7 @@ use var_places::{Ordered, Reader};
 
 /// What the table goes by.
 #[derive(Clone, Copy)]
-pub struct Setting<'a> {
+pub struct Setting<'a, 'b> {
     pub reader: Reader<'a>,
     /// Dots go over all walks, and else over some walk.
     pub forall_walks: bool,
@@ -20,14 +20,12 @@ pub struct Setting<'a> {
     /// The opening braces' atoms, in the order of their hidden variables.
     pub blocks: &'a Blocks,
     /// The hidden variable of the innermost block around, where there is one: dots stay in that block.
-    pub around: Option<&'a Var>,
+    pub around: Option<&'b Var>,
 }
 
-impl<'a> Setting<'a> {
+impl<'a, 'b> Setting<'a, 'b> {
     /// The same for what stands in this block.
-    pub fn within<'b>(&self, b: &'b Var) -> Setting<'b>
-    where
-        'a: 'b,
+    pub fn within<'c>(&self, b: &'c Var) -> Setting<'a, 'c>
         ensures { setting_at result ≡ table.within (setting_at self.now) b.now }
     {
         Setting {

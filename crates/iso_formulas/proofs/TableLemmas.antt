@@ -74,8 +74,8 @@ module _ (isos : List Iso) (tokens : List PatToken) where
       ap₂ (λ (x y : Plain). nested forall_walks plus strict x y t) e1 e2 ∙ ap (λ (x : Plain). nested forall_walks plus strict e q x) e3
 
   -- the same setting, in which patterns are read so
-  abbrev by : Reading → Setting → Setting
-  by read m = record {
+  abbrev reread : Reading → Setting → Setting
+  reread read m = record {
     reading = read;
     forall_walks = m.forall_walks;
     locals = m.locals;
@@ -86,7 +86,7 @@ module _ (isos : List Iso) (tokens : List PatToken) where
 
   module _ (m : Setting) (read : Reading) (agree : Agree isos tokens m.reading read) where
     abbrev n : Setting
-    n = by read m
+    n = reread read m
 
     own-image : (w : List Var) (p : Pattern) (f : Plain) → own n w (X p) (F f) ≡ F (own m w p f)
     own-image w p f =
@@ -176,7 +176,7 @@ module _ (isos : List Iso) (tokens : List PatToken) where
   mutual
     seq-image : (m : Setting) (read : Reading) (agree : Agree isos tokens m.reading read)
         (before : Option Element) (b : Body) (k l : Follow) (w s t : List Var) → l.start ≡ k.start
-        → ((u : List Var) → l.at u ≡ F (k.at u)) → seq (by read m) (XO before) (XB b) l w s t ≡ F (seq m before b k w s t)
+        → ((u : List Var) → l.at u ≡ F (k.at u)) → seq (reread read m) (XO before) (XB b) l w s t ≡ F (seq m before b k w s t)
     seq-image m read agree before End k l w s t e g = g t
     seq-image m read agree before (Then e rest) k l w s t h g =
         let here = filter (at_suffix m.reading e rest) w in
@@ -189,20 +189,20 @@ module _ (isos : List Iso) (tokens : List PatToken) where
         let new_part = filter (occurs_element read (XE e)) new_inside in
         let follow : Follow = record { start = start_of rest k.start; at = λ u. seq m (Some e) rest k later (s ++ here) u } in
         let new_follow : Follow =
-        record { start = start_of (XB rest) l.start; at = λ u. seq (by read m) (Some (XE e)) (XB rest) l later (s ++ here) u } in
+        record { start = start_of (XB rest) l.start; at = λ u. seq (reread read m) (Some (XE e)) (XB rest) l later (s ++ here) u } in
         ap (λ (hs : List Var).
         exists_all hs
-        (elem (by read m) (XO before) (first_of (XB rest)) (XE e)
-        (record { start = start_of (XB rest) l.start; at = λ u. seq (by read m) (Some (XE e)) (XB rest) l new_later (s ++ hs) u })
+        (elem (reread read m) (XO before) (first_of (XB rest)) (XE e)
+        (record { start = start_of (XB rest) l.start; at = λ u. seq (reread read m) (Some (XE e)) (XB rest) l new_later (s ++ hs) u })
         new_part (s ++ hs) (t ++ hs)))
         (here-same m read agree e rest w)
         ∙ ap (λ (ls : List Var).
         exists_all here
-        (elem (by read m) (XO before) (first_of (XB rest)) (XE e)
-        (record { start = start_of (XB rest) l.start; at = λ u. seq (by read m) (Some (XE e)) (XB rest) l ls (s ++ here) u })
+        (elem (reread read m) (XO before) (first_of (XB rest)) (XE e)
+        (record { start = start_of (XB rest) l.start; at = λ u. seq (reread read m) (Some (XE e)) (XB rest) l ls (s ++ here) u })
         new_part (s ++ here) (t ++ here)))
         (later-same m read agree e new_inside inside (rest-same m read agree e rest w))
-        ∙ ap₂ (λ (a : Option Element) (ps : List Var). exists_all here (elem (by read m) (XO before) a (XE e) new_follow ps (s ++ here) (t ++ here)))
+        ∙ ap₂ (λ (a : Option Element) (ps : List Var). exists_all here (elem (reread read m) (XO before) a (XE e) new_follow ps (s ++ here) (t ++ here)))
         (first-same rest) (part-same m read agree e new_inside inside (rest-same m read agree e rest w))
         ∙ ap (exists_all here)
         (elem-image m read agree before (first_of rest) e follow new_follow part (s ++ here) (t ++ here) (start-same rest k.start l.start h)
@@ -211,7 +211,7 @@ module _ (isos : List Iso) (tokens : List PatToken) where
 
     elem-image : (m : Setting) (read : Reading) (agree : Agree isos tokens m.reading read)
         (before after : Option Element) (e : Element) (k l : Follow) (w s t : List Var) → l.start ≡ k.start
-        → ((u : List Var) → l.at u ≡ F (k.at u)) → elem (by read m) (XO before) (XO after) (XE e) l w s t ≡ F (elem m before after e k w s t)
+        → ((u : List Var) → l.at u ≡ F (k.at u)) → elem (reread read m) (XO before) (XO after) (XE e) l w s t ≡ F (elem m before after e k w s t)
     elem-image m read agree before after (bodies.Atom p) k l w s t h g =
         joined-same m.forall_walks (agree.statement p) (own-image m read agree w p (Atom p)) h (g s)
         ∙ joined-image isos tokens m.forall_walks (m.reading.is_statement p) (own m w p (Atom p)) k.start (k.at s)
@@ -219,7 +219,7 @@ module _ (isos : List Iso) (tokens : List PatToken) where
         let head = own m w p (Atom p) in
         let parts = each m bs nothing w s in
         ap₂ (λ (f q : Plain). And f (Past q))
-        (ap (with_tail (by read m) w (expanded_option isos tokens tail))
+        (ap (with_tail (reread read m) w (expanded_option isos tokens tail))
         (ap₂ (λ (f : Plain) (fs : List Plain). and_all f (downs 0 fs)) (own-image m read agree w p (Atom p))
         (each-image m read agree bs nothing nothing w s refl (λ u. refl))
         ∙ ap (and_all (F head)) (downs-image isos tokens 0 parts)
@@ -231,13 +231,13 @@ module _ (isos : List Iso) (tokens : List PatToken) where
         let part = filter (occurs_body m.reading b) w in
         ap₂ (λ (f q : Plain). And f (Past q))
         (ap₂ (λ (f q : Plain). Exists v (And f (Down 0 q))) (own-image m read agree w p (BraceOpen p v))
-        (ap (λ (vs : List Var). seq (by read (within m v)) None (XB b) (closing (by read m) w (X c) v) vs s s) (inner-same m read agree b w)
-        ∙ seq-image (within m v) read agree None b (closing m w c v) (closing (by read m) w (X c) v) part s s refl (λ u. own-image m read agree w c (BraceClose c v))))
+        (ap (λ (vs : List Var). seq (reread read (within m v)) None (XB b) (closing (reread read m) w (X c) v) vs s s) (inner-same m read agree b w)
+        ∙ seq-image (within m v) read agree None b (closing m w c v) (closing (reread read m) w (X c) v) part s s refl (λ u. own-image m read agree w c (BraceClose c v))))
         (g s)
     elem-image m read agree before after (Gap ws any strict) k l w s t h g =
         let passed = condition any (stays m.around ++ when_parts m ws s) (near_option m true before t) (near_option m false after s) in
         ap₂ (until m.forall_walks strict)
-        (condition-same any (firsts-image isos tokens m.around (when_parts (by read m) (XS ws) s) (when_parts m ws s) (when-image m read agree ws s))
+        (condition-same any (firsts-image isos tokens m.around (when_parts (reread read m) (XS ws) s) (when_parts m ws s) (when-image m read agree ws s))
         (near-option m read agree true before t) (near-option m read agree false after s)
         ∙ condition-image isos tokens any (stays m.around ++ when_parts m ws s) (near_option m true before t) (near_option m false after s))
         (ap₂ (target m.around) h (g s) ∙ target-image isos tokens m.around k.start (k.at s))
@@ -246,10 +246,10 @@ module _ (isos : List Iso) (tokens : List PatToken) where
         let passed = condition any (stays m.around ++ when_parts m ws s) (near_option m true before t) (near_option m false after s) in
         let part = filter (occurs_body m.reading b) w in
         nested-same m.forall_walks plus strict
-        (condition-same any (firsts-image isos tokens m.around (when_parts (by read m) (XS ws) s) (when_parts m ws s) (when-image m read agree ws s))
+        (condition-same any (firsts-image isos tokens m.around (when_parts (reread read m) (XS ws) s) (when_parts m ws s) (when-image m read agree ws s))
         (near-option m read agree true before t) (near-option m read agree false after s)
         ∙ condition-image isos tokens any (stays m.around ++ when_parts m ws s) (near_option m true before t) (near_option m false after s))
-        (ap (λ (vs : List Var). seq (by read m) None (XB b) nothing vs s s) (inner-same m read agree b w)
+        (ap (λ (vs : List Var). seq (reread read m) None (XB b) nothing vs s s) (inner-same m read agree b w)
         ∙ seq-image m read agree None b nothing nothing part s s refl (λ u. refl))
         (ap₂ (target m.around) h (g s) ∙ target-image isos tokens m.around k.start (k.at s))
         ∙ nested-image isos tokens m.forall_walks plus strict passed (seq m None b nothing part s s) (target m.around k.start (k.at s))
@@ -262,32 +262,32 @@ module _ (isos : List Iso) (tokens : List PatToken) where
 
     each-image : (m : Setting) (read : Reading) (agree : Agree isos tokens m.reading read)
         (bs : Bodies) (k l : Follow) (w s : List Var) → l.start ≡ k.start → ((u : List Var) → l.at u ≡ F (k.at u))
-        → each (by read m) (XS bs) l w s ≡ map F (each m bs k w s)
+        → each (reread read m) (XS bs) l w s ≡ map F (each m bs k w s)
     each-image m read agree NoMore k l w s h g = refl
     each-image m read agree (More b bs) k l w s h g =
         ap₂ (λ (f : Plain) (fs : List Plain). f ∷ fs)
-        (ap (λ (vs : List Var). seq (by read m) None (XB b) l vs s s) (inner-same m read agree b w)
+        (ap (λ (vs : List Var). seq (reread read m) None (XB b) l vs s s) (inner-same m read agree b w)
         ∙ seq-image m read agree None b k l (filter (occurs_body m.reading b) w) s s h g)
         (each-image m read agree bs k l w s h g)
 
     first-image : (m : Setting) (read : Reading) (agree : Agree isos tokens m.reading read)
         (bs : Bodies) (k l : Follow) (w s : List Var) → l.start ≡ k.start → ((u : List Var) → l.at u ≡ F (k.at u))
-        → first_and (by read m) (XS bs) l w s ≡ F (first_and m bs k w s)
+        → first_and (reread read m) (XS bs) l w s ≡ F (first_and m bs k w s)
     first-image m read agree NoMore k l w s h g = g s
     first-image m read agree (More b bs) k l w s h g =
         let part = filter (occurs_body m.reading b) w in
         ap₂ and_all
-        (ap (λ (vs : List Var). seq (by read m) None (XB b) l vs s s) (inner-same m read agree b w) ∙ seq-image m read agree None b k l part s s h g)
+        (ap (λ (vs : List Var). seq (reread read m) None (XB b) l vs s s) (inner-same m read agree b w) ∙ seq-image m read agree None b k l part s s h g)
         (each-image m read agree bs nothing nothing w s refl (λ u. refl))
         ∙ and-image isos tokens (seq m None b k part s s) (each m bs nothing w s)
 
     when-image : (m : Setting) (read : Reading) (agree : Agree isos tokens m.reading read)
-        (ws : Bodies) (s : List Var) → when_parts (by read m) (XS ws) s ≡ map F (when_parts m ws s)
+        (ws : Bodies) (s : List Var) → when_parts (reread read m) (XS ws) s ≡ map F (when_parts m ws s)
     when-image m read agree NoMore s = refl
     when-image m read agree (More w ws) s =
         let alone = lone m w in
         ap₂ (λ (f : Plain) (fs : List Plain). Not f ∷ fs)
-        (ap (λ (vs : List Var). exists_all vs (seq (by read m) None (XB w) nothing [] (s ++ vs) (s ++ vs))) (lone-same m read agree w)
+        (ap (λ (vs : List Var). exists_all vs (seq (reread read m) None (XB w) nothing [] (s ++ vs) (s ++ vs))) (lone-same m read agree w)
         ∙ ap (exists_all alone) (seq-image m read agree None w nothing nothing [] (s ++ alone) (s ++ alone) refl (λ u. refl))
         ∙ exists-image isos tokens alone (seq m None w nothing [] (s ++ alone) (s ++ alone)))
         (when-image m read agree ws s)

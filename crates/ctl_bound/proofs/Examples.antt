@@ -5,7 +5,7 @@ use Rattle.smpl_terms.specs.declared.var.Var.{Var}
 use Rattle.smpl_terms.specs.Vars.{same_var}
 use Rattle.smpl_patch.specs.declared.pattern.Spot.TheVariants as spot
 use Rattle.smpl_patch.specs.declared.pattern.Pattern.{Pattern}
-use Rattle.ctl_formula.specs.Plain.{Plain, Atom, And, Or, EX, Exists}
+use Rattle.ctl_formula.specs.Plain.{Plain, Atom, Inside, Outside, Not, And, Or, EX, Exists}
 use Rattle.ctl_formula.specs.Bounds.{Surely}
 use Rattle.ctl_bound.specs.declared.masks.Masks.{Masks}
 use Rattle.ctl_bound.specs.Binding.{binds_at}
@@ -42,6 +42,16 @@ a_quantifier_over_one_branch = refl
 a_quantifier_of_another_variable : binds_at sure x (Exists y some_next)
     ≡ record { holding = true; failing = false; guarded = true }
 a_quantifier_of_another_variable = refl
+
+-- a place inside a block says which block that is; one outside, and the lack of one inside, says nothing
+inside_names_its_block : binds_at sure x (Inside x) ≡ record { holding = true; failing = false; guarded = true }
+inside_names_its_block = refl
+
+outside_names_nothing : binds_at sure x (Outside x) ≡ record { holding = false; failing = false; guarded = true }
+outside_names_nothing = refl
+
+not_outside_names_nothing : binds_at sure x (Not (Outside x)) ≡ record { holding = false; failing = false; guarded = true }
+not_outside_names_nothing = refl
 
 -- ---- masks: of three variables the first and the last have a value where the formula holds, and the second where it fails
 

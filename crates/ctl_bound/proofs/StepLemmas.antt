@@ -20,9 +20,10 @@ is_below-node : (i : ℕ) (n : Node) → is_below i (step_of n) ≡ below i n
 is_below-node i node.True = refl
 is_below-node i (node.Atom p) = refl
 is_below-node i node.Bail = refl
-is_below-node i node.Exit = refl
 is_below-node i (node.BraceOpen p b) = refl
 is_below-node i (node.BraceClose p b) = refl
+is_below-node i (node.Inside b) = refl
+is_below-node i (node.Outside b) = refl
 is_below-node i (node.Not f) = refl
 is_below-node i (node.And f g) = refl
 is_below-node i (node.Or f g) = refl
@@ -45,9 +46,10 @@ pub says-node : (sure : Surely) (x : Var) (fs : List Plain) (n : Node)
 says-node sure x fs node.True = refl
 says-node sure x fs (node.Atom p) = refl
 says-node sure x fs node.Bail = refl
-says-node sure x fs node.Exit = refl
 says-node sure x fs (node.BraceOpen p b) = refl
 says-node sure x fs (node.BraceClose p b) = refl
+says-node sure x fs (node.Inside b) = refl
+says-node sure x fs (node.Outside b) = refl
 says-node sure x fs (node.Not f) =
     ap (λ p. says (p ∷ []) (names sure (node.Not f) x) (step_of (node.Not 0))) (said-part sure x fs f)
 says-node sure x fs (node.And f g) =

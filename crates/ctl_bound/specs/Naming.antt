@@ -1,4 +1,5 @@
--- Which variables a node names: those that its pattern surely has, the place of its brace, and the one that it quantifies.
+-- Which variables a node names: those that its pattern surely has, the place of its brace, that of the block in which it
+-- stands, and the one that it quantifies.
 use Rattle.std.specs.Prelude.{◌≡◌, ℕ, ◌+◌, ◌*◌, ◌/◌, ◌<◌, Bool, false, ◌&&◌, ◌||◌, nat_eq, List, [], map, get_or, Vec, Some, slice_get, slice_index}
 use Rattle.std.specs.List.{list_any}
 use Rattle.smpl_terms.specs.declared.var.Var.{Var}
@@ -16,6 +17,7 @@ abbrev pub names : Surely → Node → Var → Bool
 names sure (node.Atom p) x = sure p x
 names sure (node.BraceOpen p b) x = sure p x || same_var b x
 names sure (node.BraceClose p b) x = sure p x || same_var b x
+names sure (node.Inside b) x = same_var b x
 names sure (node.Exists y f) x = same_var y x
 names sure _ x = false
 

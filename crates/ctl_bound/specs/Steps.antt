@@ -10,9 +10,10 @@ abbrev pub step_of : Node → Step
 step_of node.True = step.True
 step_of (node.Atom p) = step.Atom
 step_of node.Bail = step.Atom
-step_of node.Exit = step.Atom
 step_of (node.BraceOpen p b) = step.Atom
 step_of (node.BraceClose p b) = step.Atom
+step_of (node.Inside b) = step.Atom
+step_of (node.Outside b) = step.Atom
 step_of (node.Not f) = step.Not f
 step_of (node.And f g) = step.And f g
 step_of (node.Or f g) = step.Or f g

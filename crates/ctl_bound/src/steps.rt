@@ -11,7 +11,7 @@ use std::alloc::Global;
 pub enum Step {
     /// It holds everywhere.
     True,
-    /// An atom, a brace, the exit or the beginning of a body that leaves the function.
+    /// An atom, a brace, a place inside or outside a block, or the beginning of a body that leaves the function.
     Atom,
     /// `not f`
     Not(usize),
@@ -37,9 +37,10 @@ fn step_of(node: &Node) -> Step
         Node::True => Step::True,
         Node::Atom(_) => Step::Atom,
         Node::Bail => Step::Atom,
-        Node::Exit => Step::Atom,
         Node::BraceOpen(_, _) => Step::Atom,
         Node::BraceClose(_, _) => Step::Atom,
+        Node::Inside(_) => Step::Atom,
+        Node::Outside(_) => Step::Atom,
         Node::Not(f) => Step::Not(*f),
         Node::And(f, g) => Step::And(*f, *g),
         Node::Or(f, g) => Step::Or(*f, *g),

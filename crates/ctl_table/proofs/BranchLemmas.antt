@@ -23,19 +23,20 @@ use Rattle.ctl_table.specs.Settings.{parts_at, follow_of, compound_at, block_at,
 use Rattle.ctl_table.proofs.MakingLemmas.{made-up, stays}
 
 -- a block's braces and what they hold
-pub block-made : {E : Type 0} (m : table.Setting) (a b c d : List Node) (o e : Pattern) (es : Body) (w v s : List Var) (x : Var) (close inside : ℕ) (r : Result ℕ E)
-    → x ≡ table.hidden m o → Makes a b close (table.own m w e (BraceClose e x)) → v ≡ filter (occurs_body m.reading es) w
-    → Makes b c inside (table.seq m None es (follow_of (plains b) m None (made.Part start.Brace close)) v s s)
+pub block-made : {E : Type 0} (m n : table.Setting) (a b c d : List Node) (o e : Pattern) (es : Body) (w v s : List Var) (x : Var) (close inside : ℕ) (r : Result ℕ E)
+    → x ≡ table.hidden m o → n ≡ table.within m x → Makes a b close (table.own m w e (BraceClose e x)) → v ≡ filter (occurs_body m.reading es) w
+    → Makes b c inside (table.seq n None es (follow_of (plains b) n None (made.Part start.Brace close)) v s s)
     → IfOk r (λ f. Makes c d f (Exists x (And (table.own m w o (BraceOpen o x)) (Down 0 (at (plains c) inside)))))
     → IfOk r (λ f. Makes a d f (block_at m o es e w s))
-block-made m a b c d o e es w v s x close inside r q k u i z =
-    let held = λ (p : Plain). table.seq m None es (record { start = table.Brace; at = λ t. p }) (filter (occurs_body m.reading es) w) s s in
+block-made m n a b c d o e es w v s x close inside r q l k u i z =
+    let held = λ (y : table.Setting) (p : Plain). table.seq y None es (record { start = table.Brace; at = λ t. p }) (filter (occurs_body m.reading es) w) s s in
     let whole = λ (y : Var) (p : Plain). Exists y (And (table.own m w o (BraceOpen o y)) (Down 0 p)) in
-    let inside_is : at (plains c) inside ≡ held (table.own m w e (BraceClose e x)) =
-    i.is ∙ ap (λ (z : List Var). table.seq m None es (follow_of (plains b) m None (made.Part start.Brace close)) z s s) u ∙ ap held k.is in
+    let inside_is : at (plains c) inside ≡ held (table.within m x) (table.own m w e (BraceClose e x)) =
+    i.is ∙ ap (λ (z : List Var). table.seq n None es (follow_of (plains b) n None (made.Part start.Brace close)) z s s) u ∙ ap (held n) k.is
+    ∙ ap (λ (y : table.Setting). held y (table.own m w e (BraceClose e x))) l in
     made-up a c d r (whole x (at (plains c) inside)) (block_at m o es e w s)
     (grows-trans a b c k.grows i.grows)
-    (ap (whole x) inside_is ∙ ap (λ (y : Var). whole y (held (table.own m w e (BraceClose e y)))) q) z
+    (ap (whole x) inside_is ∙ ap (λ (y : Var). whole y (held (table.within m y) (table.own m w e (BraceClose e y)))) q) z
 
 -- a head with its bodies and its tail
 pub compound-made : {E : Type 0} (m : table.Setting) (a b c : List Node) (h : Pattern) (tail : Option Pattern) (bs : Bodies) (w s : List Var) (is js : List ℕ) (r : Result ℕ E)

@@ -1,9 +1,9 @@
 -- Dots as come to from a scope, their parts made one after another.
 use Rattle.std.proofs.Common.{◌≡◌, ℕ, ◌<◌, Bool, true, false, if◌then◌else◌, refl, sym, ap, ◌∙◌, List, [], ◌∷◌, ◌++◌, length}
-use Rattle.std.proofs.Common.{append_assoc, append-nil, Option, Some, Result}
+use Rattle.std.proofs.Common.{append_assoc, append-nil, nat_lt, Option, None, Some, Result}
 use Rattle.std.specs.Result.{IfOk}
 use Rattle.smpl_terms.specs.declared.var.Var.{Var}
-use Rattle.ctl_formula.specs.Plain.{Plain, Not}
+use Rattle.ctl_formula.specs.Plain.{Plain, Inside, Not}
 use Rattle.ctl_formula.specs.declared.node.Node.{Node}
 use Rattle.ctl_formula.specs.Tables.{at, plains, Makes}
 use Rattle.ctl_formula.proofs.TableLemmas.{grows-refl, grows-trans}
@@ -11,7 +11,7 @@ use Rattle.ctl_table.specs.Table as table
 use Rattle.ctl_table.specs.declared.follow.MadeDots.{MadeDots}
 use Rattle.ctl_table.specs.Settings.{some_below}
 use Rattle.ctl_table.specs.Settings.{all_below, parts_at, some_at, dots_below, passed, dots_at, MakesAll, MakesSome}
-use Rattle.ctl_table.proofs.MakingLemmas.{made-up, stays, all-stay}
+use Rattle.ctl_table.proofs.MakingLemmas.{made-up, stays, all-stay, all-stand, lt-test, both-true}
 use Rattle.ctl_table.proofs.FollowLemmas.{some-stays, passed-stays, dots-nest}
 use Rattle.ctl_table.proofs.RowLemmas.{all-as, all-next, one-more}
 
@@ -56,6 +56,30 @@ neighbours-made a b c d is js ks before after near any f h k x y z =
       grows = grows-trans a c d ac z.grows;
     }
 
+-- dots that stand in no block
+pub staying-none : (a : List Node) (o : Option Var) (is whens : List ℕ) → o ≡ None → all_below (length a) whens ≡ true → is ≡ whens
+    → MakesAll a a is (table.stays o ++ parts_at a whens)
+staying-none a o is whens n h e = record {
+  within = ap (all_below (length a)) e ∙ h;
+  are = ap (parts_at a) e ∙ ap (λ (z : Option Var). table.stays z ++ parts_at a whens) (sym n);
+  grows = grows-refl a;
+}
+
+-- dots in a block: first that they stay in it
+pub staying-made : (a b : List Node) (o : Option Var) (v : Var) (i : ℕ) (one is whens : List ℕ) → o ≡ Some v
+    → all_below (length a) whens ≡ true → Makes a b i (Inside v) → one ≡ i ∷ [] → is ≡ one ++ whens
+    → MakesAll a b is (table.stays o ++ parts_at a whens)
+staying-made a b o v i one is whens e h m p q =
+    let whole : is ≡ i ∷ whens = q ∙ ap (λ (z : List ℕ). z ++ whens) p in
+    record {
+      within = ap (all_below (length b)) whole
+          ∙ both-true (nat_lt i (length b)) (all_below (length b) whens) (lt-test i (length b) m.within) (all-stand a b whens m.grows h);
+      are = ap (parts_at b) whole ∙ ap (λ (z : Plain). z ∷ parts_at b whens) m.is
+          ∙ ap (λ (z : List Plain). Inside v ∷ z) (all-stay a b whens m.grows h)
+          ∙ ap (λ (z : Option Var). table.stays z ++ parts_at a whens) (sym e);
+      grows = m.grows;
+    }
+
 pub condition-made : {E : Type 0} (a b c : List Node) (is js ks vs : List ℕ) (any : Bool) (near after : Option Plain) (r : Result ℕ E) → vs ≡ is → ks ≡ js
     → MakesAll a b js (parts_at a vs ++ (if any then [] else (table.nots near ++ table.nots after)))
     → IfOk r (λ i. Makes b c i (table.all_of (parts_at b ks)))
@@ -66,13 +90,13 @@ condition-made a b c is js ks vs any near after r v k x y =
 
 pub dots_at-made : {E : Type 0} (forall_walks : Bool) (a b c d : List Node) (before : List Var → Option Plain) (e : MadeDots) (target : ℕ) (t here around : List Var) (through f : ℕ) (r : Result ℕ E)
     → dots_below (length a) e ≡ true → target < length a → here ≡ e.here → around ≡ t ++ here
-    → Makes a b through (table.condition e.any (parts_at a e.whens.items) (before around) (some_at (plains a) e.after))
+    → Makes a b through (table.condition e.any (parts_at a e.firsts.items) (before around) (some_at (plains a) e.after))
     → Makes b c f (passed (plains b) forall_walks e.nest e.strict (at (plains b) through) (at (plains b) target))
     → IfOk r (λ i. Makes c d i (table.exists_all here (at (plains c) f)))
     → IfOk r (λ i. Makes a d i (dots_at (plains a) forall_walks before e target t))
 dots_at-made forall_walks a b c d before e target t here around through f r n l h o x y z =
     let pass = λ (u v : Plain). passed (plains a) forall_walks e.nest e.strict u v in
-    let test = λ (v : List Var). table.condition e.any (parts_at a e.whens.items) (before v) (some_at (plains a) e.after) in
+    let test = λ (v : List Var). table.condition e.any (parts_at a e.firsts.items) (before v) (some_at (plains a) e.after) in
     let f_is : at (plains c) f ≡ pass (test around) (at (plains a) target) =
     y.is
     ∙ passed-stays a b forall_walks e.nest e.strict (at (plains b) through) (at (plains b) target) x.grows (dots-nest (length a) e n)

@@ -17,7 +17,7 @@ use Rattle.ctl_table.specs.declared.follow.Made.TheVariants as made
 use Rattle.ctl_table.specs.declared.follow.Start.TheVariants as start
 use Rattle.ctl_table.specs.Settings.{parts_at, some_at, dots_below, passed, suffix_at, start_with, dots_row, dots_before, MakesFollow}
 use Rattle.ctl_table.proofs.MakingLemmas.{all-stay, lt-test, both-true}
-use Rattle.ctl_table.proofs.FollowLemmas.{some-stays, passed-stays, dots-whens, dots-after, dots-nest, dots-stand}
+use Rattle.ctl_table.proofs.FollowLemmas.{some-stays, passed-stays, dots-firsts, dots-after, dots-nest, dots-stand}
 
 pub part-made : (m : table.Setting) (a b : List Node) (f i : ℕ) (here : List Var) → Makes a b i (table.exists_all here (at (plains a) f))
     → MakesFollow m a b (made.Part start.Other i) table.Other (λ before t. table.exists_all here (at (plains a) f))
@@ -29,24 +29,24 @@ condition-skip false ws b n = refl
 
 -- dots whose parts are made, before what follows them
 pub dots-made : (m : table.Setting) (a b e : List Node) (d : MadeDots) (k : table.Follow) (s : List Var) (g i : ℕ)
-    → dots_below (length a) d ≡ true → Makes a b g (k.at s) → Makes b e i (table.target k.start (at (plains b) g))
+    → dots_below (length a) d ≡ true → Makes a b g (k.at s) → Makes b e i (table.target m.around k.start (at (plains b) g))
     → MakesFollow m a e (made.Dots d i None) table.Dots (dots_before (plains a) m d k s)
 dots-made m a b e d k s g i w y z =
     let ae = grows-trans a b e y.grows z.grows in
     let stand = dots-stand a e d ae w in
-    let whens_are : parts_at e d.whens.items ≡ parts_at a d.whens.items = all-stay a e d.whens.items ae (dots-whens (length a) d w) in
+    let firsts_are : parts_at e d.firsts.items ≡ parts_at a d.firsts.items = all-stay a e d.firsts.items ae (dots-firsts (length a) d w) in
     let after_is : some_at (plains e) d.after ≡ some_at (plains a) d.after = some-stays a e d.after ae (dots-after (length a) d w) in
-    let target_is : at (plains e) i ≡ table.target k.start (k.at s) = z.is ∙ ap (table.target k.start) y.is in
+    let target_is : at (plains e) i ≡ table.target m.around k.start (k.at s) = z.is ∙ ap (table.target m.around k.start) y.is in
     record {
       within = both-true (dots_below (length e) d && nat_lt i (length e)) true (both-true (dots_below (length e) d) (nat_lt i (length e)) stand (lt-test i (length e) z.within)) refl;
       starts = refl;
       first = refl;
       is = λ before t.
           let near = table.near_option m true before (t ++ d.here) in
-          ap (λ (v : List Plain). table.exists_all d.here (passed (plains e) m.forall_walks d.nest d.strict (table.condition d.any v near (some_at (plains e) d.after)) (at (plains e) i))) whens_are
-          ∙ ap (λ (v : Option Plain). table.exists_all d.here (passed (plains e) m.forall_walks d.nest d.strict (table.condition d.any (parts_at a d.whens.items) near v) (at (plains e) i))) after_is
-          ∙ ap (λ (v : Plain). table.exists_all d.here (passed (plains e) m.forall_walks d.nest d.strict (table.condition d.any (parts_at a d.whens.items) near (some_at (plains a) d.after)) v)) target_is
-          ∙ ap (table.exists_all d.here) (passed-stays a e m.forall_walks d.nest d.strict (table.condition d.any (parts_at a d.whens.items) near (some_at (plains a) d.after)) (table.target k.start (k.at s)) ae (dots-nest (length a) d w));
+          ap (λ (v : List Plain). table.exists_all d.here (passed (plains e) m.forall_walks d.nest d.strict (table.condition d.any v near (some_at (plains e) d.after)) (at (plains e) i))) firsts_are
+          ∙ ap (λ (v : Option Plain). table.exists_all d.here (passed (plains e) m.forall_walks d.nest d.strict (table.condition d.any (parts_at a d.firsts.items) near v) (at (plains e) i))) after_is
+          ∙ ap (λ (v : Plain). table.exists_all d.here (passed (plains e) m.forall_walks d.nest d.strict (table.condition d.any (parts_at a d.firsts.items) near (some_at (plains a) d.after)) v)) target_is
+          ∙ ap (table.exists_all d.here) (passed-stays a e m.forall_walks d.nest d.strict (table.condition d.any (parts_at a d.firsts.items) near (some_at (plains a) d.after)) (table.target m.around k.start (k.at s)) ae (dots-nest (length a) d w));
       grows = ae;
     }
 

@@ -9,21 +9,21 @@ use Rattle.smpl_patch.specs.declared.pattern.Spot.TheVariants as spot
 use Rattle.smpl_terms.specs.Vars.{same_var}
 use Rattle.smpl_patch.specs.Bodies.{Compound, Block, Gap, Nest, AnyOf, AllOf, End, Then, NoMore, More}
 use Rattle.smpl_patch.specs.Bodies as bodies
-use Rattle.ctl_formula.specs.Plain.{True, Atom, Bail, Exit, BraceOpen, BraceClose, Not, And, Or, AX, EX, AU, EU, Past, Down, Exists}
+use Rattle.ctl_formula.specs.Plain.{True, Atom, Bail, BraceOpen, BraceClose, Not, And, Or, AX, EX, AU, EU, Past, Down, Exists}
 use Rattle.var_places.specs.Placing.{Reading}
 use Rattle.ctl_table.specs.Table.{formula}
 
-abbrev v : ℕ → List ℕ → Var
+abbrev pub v : ℕ → List ℕ → Var
 v rule name = record { rule = rule; name = name }
 
 -- a pattern is named by its number alone, and tables say what is read off it
-abbrev p : ℕ → Pattern
+abbrev pub p : ℕ → Pattern
 p n = record { atom = n; spot = spot.Whole; forms = [] }
 
 abbrev lists : List (List Var) → Pattern → Var → Bool
 lists table p x = list_any (λ y. same_var y x) (slice_index_or table p.atom [])
 
-abbrev reads : List (List Var) → List (List Var) → List ℕ → Reading
+abbrev pub reads : List (List Var) → List (List Var) → List ℕ → Reading
 reads stands used statements = record {
   stands = lists stands;
   used = lists used;
@@ -99,11 +99,6 @@ loop_with_tail = refl
 blocks_in_order : formula (reads (((v 0 (codes "x")) ∷ []) ∷ [] ∷ [] ∷ [] ∷ ((v 0 (codes "x")) ∷ []) ∷ [] ∷ [] ∷ [] ∷ [] ∷ [] ∷ [] ∷ []) (((v 0 (codes "x")) ∷ []) ∷ [] ∷ [] ∷ [] ∷ ((v 0 (codes "x")) ∷ []) ∷ [] ∷ [] ∷ [] ∷ [] ∷ [] ∷ [] ∷ []) []) false ((v 0 (codes "x")) ∷ []) (Then (Compound (p 0) (More (Then (Block (p 1) (Then (bodies.Atom (p 2)) End) (p 3)) End) NoMore) None) (Then (Gap (More (Then (Block (p 8) (Then (bodies.Atom (p 9)) End) (p 10)) End) NoMore) false false) (Then (Compound (p 4) (More (Then (Block (p 5) (Then (bodies.Atom (p 6)) End) (p 7)) End) NoMore) None) End))) ≡ (Exists (v 0 (codes "x")) (And (And (Atom (p 0)) (Down 0 (And (Exists (v 0 (123 ∷ codes "0")) (And (BraceOpen (p 1) (v 0 (123 ∷ codes "0"))) (Down 0 (And (Atom (p 2)) (Past (BraceClose (p 3) (v 0 (123 ∷ codes "0")))))))) (Past True)))) (Past (EU (And (And (Not (And (Exists (v 0 (123 ∷ codes "2")) (And (BraceOpen (p 8) (v 0 (123 ∷ codes "2"))) (Down 0 (And (Atom (p 9)) (Past (BraceClose (p 10) (v 0 (123 ∷ codes "2")))))))) (Past True))) (Not (Atom (p 0)))) (Not (Atom (p 4)))) (And (And (Atom (p 4)) (Down 0 (And (Exists (v 0 (123 ∷ codes "1")) (And (BraceOpen (p 5) (v 0 (123 ∷ codes "1"))) (Down 0 (And (Atom (p 6)) (Past (BraceClose (p 7) (v 0 (123 ∷ codes "1")))))))) (Past True)))) (Past True))))))
 unfolding digits
 blocks_in_order = refl
-
--- dots to the end of a block may leave the function; those that are first stand alone
-dots_in_block : formula (reads ([] ∷ [] ∷ [] ∷ [] ∷ []) ([] ∷ [] ∷ [] ∷ [] ∷ []) []) false [] (Then (Compound (p 0) (More (Then (Block (p 1) (Then (Gap NoMore false false) (Then (bodies.Atom (p 2)) (Then (Gap NoMore false false) End))) (p 3)) End) NoMore) None) End) ≡ (And (And (Atom (p 0)) (Down 0 (And (Exists (v 0 (123 ∷ codes "0")) (And (BraceOpen (p 1) (v 0 (123 ∷ codes "0"))) (Down 0 (EU (Not (Atom (p 2))) (And (Atom (p 2)) (EX (EU (Not (Atom (p 2))) (Or (BraceClose (p 3) (v 0 (123 ∷ codes "0"))) Exit)))))))) (Past True)))) (Past True))
-unfolding digits
-dots_in_block = refl
 
 -- a statement variable goes by the end of its statement, and stands in no condition
 statement_variable : formula (reads (((v 0 (codes "S")) ∷ []) ∷ [] ∷ []) (((v 0 (codes "S")) ∷ []) ∷ [] ∷ []) (0 ∷ [])) false ((v 0 (codes "S")) ∷ []) (Then (bodies.Atom (p 0)) (Then (Gap NoMore false false) (Then (bodies.Atom (p 1)) End))) ≡ (And (Exists (v 0 (codes "S")) (Atom (p 0))) (Past (EU (Not (Atom (p 1))) (Atom (p 1)))))

@@ -69,14 +69,14 @@ passed-stays a b forall_walks (Some p) strict d t g h =
     ap (λ (z : Plain). table.nested forall_walks p.plus strict d z t) (stays a b p.part g (lt-true p.part (length a) h))
 
 -- what dots_below says, part by part
-pub dots-whens : (n : ℕ) (d : MadeDots) → dots_below n d ≡ true → all_below n d.whens.items ≡ true
-dots-whens n d h = and-left (all_below n d.whens.items) (some_below n d.after) (and-left (all_below n d.whens.items && some_below n d.after) (nest_below n d.nest) h)
+pub dots-firsts : (n : ℕ) (d : MadeDots) → dots_below n d ≡ true → all_below n d.firsts.items ≡ true
+dots-firsts n d h = and-left (all_below n d.firsts.items) (some_below n d.after) (and-left (all_below n d.firsts.items && some_below n d.after) (nest_below n d.nest) h)
 
 pub dots-after : (n : ℕ) (d : MadeDots) → dots_below n d ≡ true → some_below n d.after ≡ true
-dots-after n d h = and-right (all_below n d.whens.items) (some_below n d.after) (and-left (all_below n d.whens.items && some_below n d.after) (nest_below n d.nest) h)
+dots-after n d h = and-right (all_below n d.firsts.items) (some_below n d.after) (and-left (all_below n d.firsts.items && some_below n d.after) (nest_below n d.nest) h)
 
 pub dots-nest : (n : ℕ) (d : MadeDots) → dots_below n d ≡ true → nest_below n d.nest ≡ true
-dots-nest n d h = and-right (all_below n d.whens.items && some_below n d.after) (nest_below n d.nest) h
+dots-nest n d h = and-right (all_below n d.firsts.items && some_below n d.after) (nest_below n d.nest) h
 
 -- what made_below says of dots, part by part
 pub made-dots : (n : ℕ) (d : MadeDots) (i : ℕ) (o : Option Neighbours) → made_below n (made.Dots d i o) ≡ true → dots_below n d ≡ true
@@ -90,33 +90,33 @@ made-beside n d i o h = and-right (dots_below n d && nat_lt i n) (before_below n
 
 pub dots-stand : (a b : List Node) (d : MadeDots) → Grows a b → dots_below (length a) d ≡ true → dots_below (length b) d ≡ true
 dots-stand a b d g h =
-    both-true _ _ (both-true _ _ (all-stand a b d.whens.items g (dots-whens (length a) d h)) (some-stands a b d.after g (dots-after (length a) d h)))
+    both-true _ _ (both-true _ _ (all-stand a b d.firsts.items g (dots-firsts (length a) d h)) (some-stands a b d.after g (dots-after (length a) d h)))
     (nest-stands a b d.nest g (dots-nest (length a) d h))
 
 pub dots-stay : (a b : List Node) (forall_walks : Bool) (before : List Var → Option Plain) (d : MadeDots) (i : ℕ) (t : List Var) → Grows a b → dots_below (length a) d ≡ true → i < length a
     → dots_at (plains b) forall_walks before d i t ≡ dots_at (plains a) forall_walks before d i t
 dots-stay a b forall_walks before d i t g h l =
     let near = before (t ++ d.here) in
-    let w : map (at (plains b)) d.whens.items ≡ map (at (plains a)) d.whens.items = all-stay a b d.whens.items g (dots-whens (length a) d h) in
+    let w : map (at (plains b)) d.firsts.items ≡ map (at (plains a)) d.firsts.items = all-stay a b d.firsts.items g (dots-firsts (length a) d h) in
     let f = some-stays a b d.after g (dots-after (length a) d h) in
     let e = stays a b i g l in
     ap (λ (z : List Plain). table.exists_all d.here (passed (plains b) forall_walks d.nest d.strict (table.condition d.any z near (some_at (plains b) d.after)) (at (plains b) i))) w
-    ∙ ap (λ (z : Option Plain). table.exists_all d.here (passed (plains b) forall_walks d.nest d.strict (table.condition d.any (map (at (plains a)) d.whens.items) near z) (at (plains b) i))) f
-    ∙ ap (λ (z : Plain). table.exists_all d.here (passed (plains b) forall_walks d.nest d.strict (table.condition d.any (map (at (plains a)) d.whens.items) near (some_at (plains a) d.after)) z)) e
+    ∙ ap (λ (z : Option Plain). table.exists_all d.here (passed (plains b) forall_walks d.nest d.strict (table.condition d.any (map (at (plains a)) d.firsts.items) near z) (at (plains b) i))) f
+    ∙ ap (λ (z : Plain). table.exists_all d.here (passed (plains b) forall_walks d.nest d.strict (table.condition d.any (map (at (plains a)) d.firsts.items) near (some_at (plains a) d.after)) z)) e
     ∙ ap (table.exists_all d.here) (passed-stays a b forall_walks d.nest d.strict _ _ g (dots-nest (length a) d h))
 
 -- the same dots behind the same atoms
 pub dots-beside : (fs : List Plain) (forall_walks : Bool) (before after : List Var → Option Plain) (d : MadeDots) (i : ℕ) (t : List Var) → before (t ++ d.here) ≡ after (t ++ d.here)
     → dots_at fs forall_walks before d i t ≡ dots_at fs forall_walks after d i t
 dots-beside fs forall_walks before after d i t e =
-    ap (λ (z : Option Plain). table.exists_all d.here (passed fs forall_walks d.nest d.strict (table.condition d.any (map (at fs) d.whens.items) z (some_at fs d.after)) (at fs i))) e
+    ap (λ (z : Option Plain). table.exists_all d.here (passed fs forall_walks d.nest d.strict (table.condition d.any (map (at fs) d.firsts.items) z (some_at fs d.after)) (at fs i))) e
 
 -- where any element may stand, those beside the dots don't count
 dots-any : (fs : List Plain) (forall_walks : Bool) (before other : List Var → Option Plain) (d : MadeDots) (i : ℕ) (t : List Var) → d.any ≡ true
     → dots_at fs forall_walks before d i t ≡ dots_at fs forall_walks other d i t
 dots-any fs forall_walks before other d i t e =
     let row = λ (b : List Var → Option Plain) (any : Bool).
-    table.exists_all d.here (passed fs forall_walks d.nest d.strict (table.condition any (map (at fs) d.whens.items) (b (t ++ d.here)) (some_at fs d.after)) (at fs i)) in
+    table.exists_all d.here (passed fs forall_walks d.nest d.strict (table.condition any (map (at fs) d.firsts.items) (b (t ++ d.here)) (some_at fs d.after)) (at fs i)) in
     ap (row before) e ∙ sym (ap (row other) e)
 
 pub made-stands : (a b : List Node) (f : Made) → Grows a b → made_below (length a) f ≡ true → made_below (length b) f ≡ true

@@ -3,7 +3,8 @@ pub mod WrapLemmas
 pub mod BesideLemmas
 pub mod FollowLemmas
 pub mod AlongLemmas
-mod Examples
+pub mod Examples
+mod BlockExamples
 pub mod RowLemmas
 pub mod NearLemmas
 pub mod ChoiceLemmas

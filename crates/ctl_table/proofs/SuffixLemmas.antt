@@ -18,7 +18,7 @@ use Rattle.ctl_table.specs.Suffixes.{begins, along}
 use Rattle.ctl_table.specs.declared.follow.MadeDots.{MadeDots}
 use Rattle.ctl_table.specs.Settings.{all_below, parts_at, some_at, passed, nest_below, dots_below, made_below, all_made_below, made_start, next_at, follow_of, next_of, suffix_at, start_with, dots_row, dots_before, Agree, Pairwise, MakesAll, MakesSome, MakesBehind, MakesSame, MakesFollow, MakesFollows}
 use Rattle.ctl_table.proofs.MakingLemmas.{all-stay, and-of}
-use Rattle.ctl_table.proofs.FollowLemmas.{next-stays, follow-stays, first-next, some-stays, passed-stays, dots-whens, dots-after, dots-nest}
+use Rattle.ctl_table.proofs.FollowLemmas.{next-stays, follow-stays, first-next, some-stays, passed-stays, dots-firsts, dots-after, dots-nest}
 use Rattle.ctl_table.proofs.AgreeLemmas.{elem-agrees}
 use Rattle.ctl_table.proofs.AlongLemmas.{along-is, suffixes-last, suffixes-step}
 use Rattle.ctl_table.proofs.ElementLemmas.{part-row, dots-row, condition-skip}
@@ -147,40 +147,41 @@ joined-each m a b c statement is_statement f h nexts is s w q x y =
     ∙ ap (table.joined m.forall_walks is_statement h (made_start n)) (next-stays a b m n s x.grows v)) nexts w) y
 
 -- dots whose parts are made, before what follows them, in a table that grew
-pub dots_row-whole : (m : table.Setting) (a b : List Node) (d : MadeDots) (after before : Option Element) (n : Made) (p : Place) (t : List Var)
-    → Grows a b → d.here ≡ p.here → all_below (length a) d.whens.items ≡ true → nest_below (length a) d.nest ≡ true → made_below (length a) n ≡ true
+pub dots_row-whole : (m : table.Setting) (a b : List Node) (d : MadeDots) (firsts : List Plain) (after before : Option Element) (n : Made) (p : Place) (t : List Var)
+    → Grows a b → d.here ≡ p.here → parts_at b d.firsts.items ≡ firsts → nest_below (length a) d.nest ≡ true → made_below (length a) n ≡ true
     → some_at (plains b) d.after ≡ (if d.any then None else table.near_option m false after p.scope)
     → dots_before (plains b) m d (next_of (plains b) m n) p.scope before t
-    ≡ dots_row m a before after (parts_at a d.whens.items) d.any d.strict d.nest (next_of (plains a) m n) p t
-dots_row-whole m a b d after before n p t g q h u w o =
+    ≡ dots_row m a before after firsts d.any d.strict d.nest (next_of (plains a) m n) p t
+dots_row-whole m a b d firsts after before n p t g q h u w o =
     let near = λ (v : List Var). table.near_option m true before (t ++ v) in
     let beside = table.near_option m false after p.scope in
     let k = λ (ns : List Node). next_of (plains ns) m n in
-    let goes = λ (ns : List Node). table.target (k ns).start ((k ns).at p.scope) in
-    ap (λ (v : List Var). table.exists_all v (passed (plains b) m.forall_walks d.nest d.strict (table.condition d.any (parts_at b d.whens.items) (near v) (some_at (plains b) d.after)) (goes b))) q
-    ∙ ap (λ (v : List Plain). table.exists_all p.here (passed (plains b) m.forall_walks d.nest d.strict (table.condition d.any v (near p.here) (some_at (plains b) d.after)) (goes b))) (all-stay a b d.whens.items g h)
-    ∙ ap (λ (v : Option Plain). table.exists_all p.here (passed (plains b) m.forall_walks d.nest d.strict (table.condition d.any (parts_at a d.whens.items) (near p.here) v) (goes b))) o
-    ∙ ap (λ (v : Plain). table.exists_all p.here (passed (plains b) m.forall_walks d.nest d.strict v (goes b))) (condition-skip d.any (parts_at a d.whens.items) (near p.here) beside)
-    ∙ ap (λ (v : table.Follow). table.exists_all p.here (passed (plains b) m.forall_walks d.nest d.strict (table.condition d.any (parts_at a d.whens.items) (near p.here) beside) (table.target v.start (v.at p.scope)))) (follow-stays a b m n g w)
-    ∙ ap (table.exists_all p.here) (passed-stays a b m.forall_walks d.nest d.strict (table.condition d.any (parts_at a d.whens.items) (near p.here) beside) (goes a) g u)
+    let goes = λ (ns : List Node). table.target m.around (k ns).start ((k ns).at p.scope) in
+    let held = table.condition d.any firsts (near p.here) beside in
+    ap (λ (v : List Var). table.exists_all v (passed (plains b) m.forall_walks d.nest d.strict (table.condition d.any (parts_at b d.firsts.items) (near v) (some_at (plains b) d.after)) (goes b))) q
+    ∙ ap (λ (v : List Plain). table.exists_all p.here (passed (plains b) m.forall_walks d.nest d.strict (table.condition d.any v (near p.here) (some_at (plains b) d.after)) (goes b))) h
+    ∙ ap (λ (v : Option Plain). table.exists_all p.here (passed (plains b) m.forall_walks d.nest d.strict (table.condition d.any firsts (near p.here) v) (goes b))) o
+    ∙ ap (λ (v : Plain). table.exists_all p.here (passed (plains b) m.forall_walks d.nest d.strict v (goes b))) (condition-skip d.any firsts (near p.here) beside)
+    ∙ ap (λ (v : table.Follow). table.exists_all p.here (passed (plains b) m.forall_walks d.nest d.strict held (table.target m.around v.start (v.at p.scope)))) (follow-stays a b m n g w)
+    ∙ ap (table.exists_all p.here) (passed-stays a b m.forall_walks d.nest d.strict held (goes a) g u)
 
 -- dots before each of the things that may follow them
-pub dots-whole : (m : table.Setting) (a b c : List Node) (d : MadeDots) (after : Option Element) (p : Place) (any strict : Bool) (nexts fs : List Made)
-    → all_below (length a) d.whens.items ≡ true → nest_below (length a) d.nest ≡ true → all_made_below (length a) nexts ≡ true → d.here ≡ p.here
+pub dots-whole : (m : table.Setting) (a b c : List Node) (d : MadeDots) (firsts : List Plain) (after : Option Element) (p : Place) (any strict : Bool) (nexts fs : List Made)
+    → Grows a b → parts_at b d.firsts.items ≡ firsts → nest_below (length a) d.nest ≡ true → all_made_below (length a) nexts ≡ true → d.here ≡ p.here
     → d.any ≡ any → d.strict ≡ strict
-    → MakesSome a b d.after (if d.any then None else table.near_option m false after p.scope)
+    → some_at (plains b) d.after ≡ (if d.any then None else table.near_option m false after p.scope)
     → MakesFollows m b c nexts fs (λ n. table.Dots) (λ n. dots_before (plains b) m d (next_of (plains b) m n) p.scope)
-    → MakesFollows m a c nexts fs (λ n. table.Dots) (λ n s t. dots_row m a s after (parts_at a d.whens.items) any strict d.nest (next_of (plains a) m n) p t)
-dots-whole m a b c d after p any strict nexts fs w u h q o r x z =
-    let row = λ (n : Made) (s : Option Element) (t : List Var). dots_row m a s after (parts_at a d.whens.items) any strict d.nest (next_of (plains a) m n) p t in
+    → MakesFollows m a c nexts fs (λ n. table.Dots) (λ n s t. dots_row m a s after firsts any strict d.nest (next_of (plains a) m n) p t)
+dots-whole m a b c d firsts after p any strict nexts fs g w u h q o r x z =
+    let row = λ (n : Made) (s : Option Element) (t : List Var). dots_row m a s after firsts any strict d.nest (next_of (plains a) m n) p t in
     record {
-      each = pair-as (made_below (length a)) (λ n g. MakesFollow m b c g table.Dots (dots_before (plains b) m d (next_of (plains b) m n) p.scope))
-          (λ n g. MakesFollow m a c g table.Dots (row n))
-          (λ n g l v. follow-as m a b c g table.Dots (dots_before (plains b) m d (next_of (plains b) m n) p.scope) (row n) x.grows
-          (λ s t. dots_row-whole m a b d after s n p t x.grows q w u l x.is
-          ∙ ap (λ (y : Bool). dots_row m a s after (parts_at a d.whens.items) y d.strict d.nest (next_of (plains a) m n) p t) o
-          ∙ ap (λ (y : Bool). dots_row m a s after (parts_at a d.whens.items) any y d.nest (next_of (plains a) m n) p t) r) v) nexts fs h z.each;
-      grows = grows-trans a b c x.grows z.grows;
+      each = pair-as (made_below (length a)) (λ n f. MakesFollow m b c f table.Dots (dots_before (plains b) m d (next_of (plains b) m n) p.scope))
+          (λ n f. MakesFollow m a c f table.Dots (row n))
+          (λ n f l v. follow-as m a b c f table.Dots (dots_before (plains b) m d (next_of (plains b) m n) p.scope) (row n) g
+          (λ s t. dots_row-whole m a b d firsts after s n p t g q w u l x
+          ∙ ap (λ (y : Bool). dots_row m a s after firsts y d.strict d.nest (next_of (plains a) m n) p t) o
+          ∙ ap (λ (y : Bool). dots_row m a s after firsts any y d.nest (next_of (plains a) m n) p t) r) v) nexts fs h z.each;
+      grows = grows-trans a b c g z.grows;
     }
 
 -- made dots before what follows them, in a table that grew
@@ -190,11 +191,11 @@ pub dots_before-stays : (m : table.Setting) (a b : List Node) (d : MadeDots) (n 
 dots_before-stays m a b d n s before t g h w =
     let near = table.near_option m true before (t ++ d.here) in
     let k = λ (ns : List Node). next_of (plains ns) m n in
-    let goes = λ (ns : List Node). table.target (k ns).start ((k ns).at s) in
-    ap (λ (v : List Plain). table.exists_all d.here (passed (plains b) m.forall_walks d.nest d.strict (table.condition d.any v near (some_at (plains b) d.after)) (goes b))) (all-stay a b d.whens.items g (dots-whens (length a) d h))
-    ∙ ap (λ (v : Option Plain). table.exists_all d.here (passed (plains b) m.forall_walks d.nest d.strict (table.condition d.any (parts_at a d.whens.items) near v) (goes b))) (some-stays a b d.after g (dots-after (length a) d h))
-    ∙ ap (λ (v : table.Follow). table.exists_all d.here (passed (plains b) m.forall_walks d.nest d.strict (table.condition d.any (parts_at a d.whens.items) near (some_at (plains a) d.after)) (table.target v.start (v.at s)))) (follow-stays a b m n g w)
-    ∙ ap (table.exists_all d.here) (passed-stays a b m.forall_walks d.nest d.strict (table.condition d.any (parts_at a d.whens.items) near (some_at (plains a) d.after)) (goes a) g (dots-nest (length a) d h))
+    let goes = λ (ns : List Node). table.target m.around (k ns).start ((k ns).at s) in
+    ap (λ (v : List Plain). table.exists_all d.here (passed (plains b) m.forall_walks d.nest d.strict (table.condition d.any v near (some_at (plains b) d.after)) (goes b))) (all-stay a b d.firsts.items g (dots-firsts (length a) d h))
+    ∙ ap (λ (v : Option Plain). table.exists_all d.here (passed (plains b) m.forall_walks d.nest d.strict (table.condition d.any (parts_at a d.firsts.items) near v) (goes b))) (some-stays a b d.after g (dots-after (length a) d h))
+    ∙ ap (λ (v : table.Follow). table.exists_all d.here (passed (plains b) m.forall_walks d.nest d.strict (table.condition d.any (parts_at a d.firsts.items) near (some_at (plains a) d.after)) (table.target m.around v.start (v.at s)))) (follow-stays a b m n g w)
+    ∙ ap (table.exists_all d.here) (passed-stays a b m.forall_walks d.nest d.strict (table.condition d.any (parts_at a d.firsts.items) near (some_at (plains a) d.after)) (goes a) g (dots-nest (length a) d h))
 
 -- rows before what is the same from further inside
 pub same-rows : (m : table.Setting) (s : List Var) (a b c : List Node) (y : Element) (vars : List Var) (nexts gs : List Made) (is : List ℕ) → MakesSame m s a b nexts gs

@@ -1,6 +1,7 @@
 -- What the code goes by, as the definitions have it.
 use Rattle.std.specs.Prelude.{◌≡◌, ℕ, Bool, true, false, not, ◌&&◌, nat_lt, List, [], ◌∷◌, ◌++◌, map, drop, length, cond, Option, None, Some}
 use Rattle.std.specs.List.{list_all, list_any, filter}
+use Rattle.std.specs.Option.{option_copied}
 use Rattle.smpl_terms.specs.declared.var.Var.{Var}
 use Rattle.pattern_vars.specs.Reads.{has}
 use Rattle.smpl_patch.specs.declared.elem.Elem.{Elem}
@@ -31,6 +32,7 @@ setting_at m = record {
   locals = m.locals.now;
   alone = m.alone.now;
   blocks = m.blocks.now;
+  around = option_copied m.around;
 }
 
 -- an element, or none
@@ -102,7 +104,7 @@ before_at fs (Some b) t = neighbours_at fs b t
 
 -- the parts of made dots have numbers below n
 abbrev pub dots_below : ℕ → MadeDots → Bool
-dots_below n d = all_below n d.whens.items && some_below n d.after && nest_below n d.nest
+dots_below n d = all_below n d.firsts.items && some_below n d.after && nest_below n d.nest
 
 abbrev pub made_below : ℕ → Made → Bool
 made_below n made.Nothing = true
@@ -119,7 +121,7 @@ abbrev pub dots_at : List Plain → Bool → (List Var → Option Plain) → Mad
 dots_at fs forall_walks before d i t =
     table.exists_all d.here
     (passed fs forall_walks d.nest d.strict
-    (table.condition d.any (map (at fs) d.whens.items) (before (t ++ d.here)) (some_at fs d.after))
+    (table.condition d.any (map (at fs) d.firsts.items) (before (t ++ d.here)) (some_at fs d.after))
     (at fs i))
 
 abbrev pub made_start : Made → table.Start
@@ -260,7 +262,7 @@ abbrev pub block_at : table.Setting → Pattern → Body → Pattern → List Va
 block_at m o b c w s =
     let v = table.hidden m o in
     Exists v (And (table.own m w o (BraceOpen o v))
-    (Down 0 (table.seq m None b (table.closing m w c v) (filter (occurs_body m.reading b) w) s s)))
+    (Down 0 (table.seq (table.within m v) None b (table.closing m w c v) (filter (occurs_body m.reading b) w) s s)))
 
 -- a piece of `when` code
 abbrev pub when_at : table.Setting → Body → List Var → Plain
@@ -268,21 +270,21 @@ when_at m w s =
     let alone = table.lone m w in
     Not (table.exists_all alone (table.seq m None w table.nothing [] (s ++ alone) (s ++ alone)))
 
--- dots or the end of a nest at their place, whose `when` code is made
+-- dots or the end of a nest at their place, by what stands in their condition before their neighbours
 abbrev pub dots_row : table.Setting → List Node → Option Element → Option Element → List Plain → Bool → Bool → Option NestPart → table.Follow → Place → List Var → Plain
-dots_row m ns before after whens any strict nest k p t =
+dots_row m ns before after firsts any strict nest k p t =
     table.exists_all p.here
     (passed (plains ns) m.forall_walks nest strict
-    (table.condition any whens (table.near_option m true before (t ++ p.here)) (table.near_option m false after p.scope))
-    (table.target k.start (k.at p.scope)))
+    (table.condition any firsts (table.near_option m true before (t ++ p.here)) (table.near_option m false after p.scope))
+    (table.target m.around k.start (k.at p.scope)))
 
 -- made dots before what follows them, which they come to from a scope
 abbrev pub dots_before : List Plain → table.Setting → MadeDots → table.Follow → List Var → Option Element → List Var → Plain
 dots_before fs m d k s before t =
     table.exists_all d.here
     (passed fs m.forall_walks d.nest d.strict
-    (table.condition d.any (map (at fs) d.whens.items) (table.near_option m true before (t ++ d.here)) (some_at fs d.after))
-    (table.target k.start (k.at s)))
+    (table.condition d.any (map (at fs) d.firsts.items) (table.near_option m true before (t ++ d.here)) (some_at fs d.after))
+    (table.target m.around k.start (k.at s)))
 
 -- `not` the first of some formulas, if there is one
 abbrev pub not_first : List Plain → List Plain

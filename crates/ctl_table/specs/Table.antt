@@ -7,7 +7,7 @@ use Rattle.smpl_terms.specs.Vars.{same_var}
 use Rattle.smpl_patch.specs.declared.pattern.Pattern.{Pattern}
 use Rattle.smpl_patch.specs.Bodies.{Element, Compound, Block, Gap, Nest, AnyOf, AllOf, Body, End, Then, Bodies, NoMore, More}
 use Rattle.smpl_patch.specs.Bodies as bodies
-use Rattle.ctl_formula.specs.Plain.{Plain, True, Atom, Bail, Exit, BraceOpen, BraceClose, Not, And, Or, AX, EX, AU, EU, Past, Down, Exists}
+use Rattle.ctl_formula.specs.Plain.{Plain, True, Atom, Bail, BraceOpen, BraceClose, Inside, Outside, Not, And, Or, AX, EX, AU, EU, Past, Down, Exists}
 use Rattle.var_places.specs.Placing.{Reading, is_dots, any_body, occurs_element, occurs_body, at_suffix, is_alone}
 use Rattle.ctl_table.specs.Blocks.{blocks, index_of}
 
@@ -22,6 +22,19 @@ pub record Setting : Type 0 where
   pub alone : List Var
   -- the opening braces' atoms, in the order of their hidden variables
   pub blocks : List ℕ
+  -- the hidden variable of the innermost block around, where there is one
+  pub around : Option Var
+
+-- the same for what stands in a block
+abbrev pub within : Setting → Var → Setting
+within m b = record {
+  reading = m.reading;
+  forall_walks = m.forall_walks;
+  locals = m.locals;
+  alone = m.alone;
+  blocks = m.blocks;
+  around = Some b;
+}
 
 -- which variables are quantified around a place of the formula
 abbrev pub Scope : Type 0
@@ -144,12 +157,19 @@ joined forall_walks statement f Dots g = And f (if statement then Past g else ne
 joined forall_walks statement f Brace g = And f (Past g)
 joined forall_walks statement f Other g = And f (Past g)
 
--- where dots lead to: they may leave the function in place of coming to a block's end
-abbrev pub target : Start → Plain → Plain
-target Brace f = Or f Exit
-target Nothing f = f
-target Dots f = f
-target Other f = f
+-- Where dots lead to. Dots in a block come to what follows them inside that block alone; their way may end where it leaves
+-- the block, but only where nothing but the block's end follows them.
+abbrev pub target : Option Var → Start → Plain → Plain
+target None start f = f
+target (Some b) Brace f = Or f (Outside b)
+target (Some b) Nothing f = And (Inside b) f
+target (Some b) Dots f = And (Inside b) f
+target (Some b) Other f = And (Inside b) f
+
+-- dots in a block stay in that block
+abbrev pub stays : Option Var → List Plain
+stays None = []
+stays (Some b) = Inside b ∷ []
 
 abbrev pub or_bail : Bool → Plain → Plain
 or_bail strict t = if strict then t else Or t Bail
@@ -164,9 +184,10 @@ nested forall_walks plus strict d p t =
     let f = until forall_walks strict (And d (Or p (Not p))) t in
     if plus then And f (EU d (And (And d p) (EU d t))) else f
 
--- what holds at each node that dots pass: the parts for `when` code, and no neighbour unless `when any` stands there
+-- what holds at each node that dots pass: first that they stay in their block and the parts for `when` code, and then no
+-- neighbour, unless `when any` stands there
 abbrev pub condition : Bool → List Plain → Option Plain → Option Plain → Plain
-condition any whens before after = all_of (whens ++ (if any then [] else nots before ++ nots after))
+condition any firsts before after = all_of (firsts ++ (if any then [] else nots before ++ nots after))
 
 -- the variables that occur in `when` code alone, and in this piece
 abbrev pub lone : Setting → Body → List Var
@@ -213,17 +234,17 @@ abbrev mutual
       And (with_tail m w tail (and_all (own m w h (Atom h)) (downs 0 (each m bs nothing w s)))) (Past (k.at s))
   elem m before after (Block o b c) k w s t =
       let v = hidden m o in
-      let inside = seq m None b (closing m w c v) (filter (occurs_body m.reading b) w) s s in
+      let inside = seq (within m v) None b (closing m w c v) (filter (occurs_body m.reading b) w) s s in
       And (Exists v (And (own m w o (BraceOpen o v)) (Down 0 inside))) (Past (k.at s))
   elem m before after (Gap ws any strict) k w s t =
       until m.forall_walks strict
-      (condition any (when_parts m ws s) (near_option m true before t) (near_option m false after s))
-      (target k.start (k.at s))
+      (condition any (stays m.around ++ when_parts m ws s) (near_option m true before t) (near_option m false after s))
+      (target m.around k.start (k.at s))
   elem m before after (Nest plus b ws any strict) k w s t =
       nested m.forall_walks plus strict
-      (condition any (when_parts m ws s) (near_option m true before t) (near_option m false after s))
+      (condition any (stays m.around ++ when_parts m ws s) (near_option m true before t) (near_option m false after s))
       (seq m None b nothing (filter (occurs_body m.reading b) w) s s)
-      (target k.start (k.at s))
+      (target m.around k.start (k.at s))
   elem m before after (AnyOf bs) k w s t = any_of (choices [] (each m bs k w s) (each m bs nothing w s))
   elem m before after (AllOf bs) k w s t = first_and m bs k w s
 
@@ -253,6 +274,7 @@ setting r forall_walks locals b = record {
   locals = locals;
   alone = filter (is_alone r b) locals;
   blocks = blocks b;
+  around = None;
 }
 
 abbrev pub formula : Reading → Bool → List Var → Body → Plain

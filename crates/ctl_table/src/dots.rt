@@ -20,7 +20,7 @@ use c_terms::NoMemory;
 use ctl_formula::{Node, Parts};
 use pattern_vars::VarSet;
 use smpl_patch::Elem;
-use smpl_terms::Shared;
+use smpl_terms::{Shared, Var};
 use std::alloc::Global;
 use var_places::{Scope, extended};
 
@@ -87,12 +87,11 @@ fn condition(
     requires before { before_below (length parts.old) before.now ≡ true }
     requires d { dots_below (length parts.old) d.now ≡ true }
     ensures made { IfOk result (λ i. Makes parts.old parts.new i
-        (table.condition d.now.any (parts_at parts.old d.now.whens.items)
+        (table.condition d.now.any (parts_at parts.old d.now.firsts.items)
         (before_at (plains parts.old) before.now scope.now)
         (some_at (plains parts.old) d.now.after))) }
 {
-    let whens = d.whens.as_slice();
-    let mut found = copied_numbers(alloc, whens)?;
+    let mut found = copied_numbers(alloc, d.firsts.as_slice())?;
     push_neighbours(alloc, parts, before, d, scope, &mut found)?;
     all_of(parts, found.as_slice())
 }
@@ -143,6 +142,39 @@ fn push_not(parts: &mut Parts, f: Option<usize>, found: &mut Vec<usize>) -> Resu
     if let Some(f) = f {
         let not = parts.push(Node::Not(f))?;
         found.push(not)?;
+    }
+    Ok(())
+}
+
+/// That dots stay in the block around them, where there is one, and then these parts.
+pub fn staying(
+    alloc: Global,
+    parts: &mut Parts,
+    around: Option<&Var>,
+    whens: &[usize],
+) -> Result<Vec<usize>, NoMemory>
+    requires { all_below (length parts.old) whens.now ≡ true }
+    ensures made { IfOk result (λ firsts. MakesAll parts.old parts.new firsts.items
+        (table.stays (option_copied around.entry) ++ parts_at parts.old whens.now)) }
+{
+    match around {
+        None => copied_numbers(alloc, whens),
+        Some(b) => {
+            let b = b.copy(alloc)?;
+            let inside = parts.push(Node::Inside(b))?;
+            let mut firsts = Vec::new(alloc);
+            firsts.push(inside)?;
+            push_numbers(whens, &mut firsts)?;
+            Ok(firsts)
+        }
+    }
+}
+
+fn push_numbers(more: &[usize], numbers: &mut Vec<usize>) -> Result<(), NoMemory>
+    ensures { OnOk result (numbers.new.items ≡ numbers.old.items ++ more.now) }
+{
+    for n in more {
+        numbers.push(*n)?;
     }
     Ok(())
 }

@@ -14,7 +14,7 @@ ghost use Rattle.ctl_table.specs.Settings.{dots_before, MakesAll, MakesBehind, M
 ghost use Rattle.ctl_table.specs.Columns.{column as column_of, rows_within, first_of_column};
 
 use crate::beside::{Neighbours, neighbours_of};
-use crate::dots::{after_dots, deeper, follow_at};
+use crate::dots::{after_dots, deeper, follow_at, staying};
 use crate::element::{dots, joined_next, part, past_next};
 use crate::follow::{Made, MadeDots, NestPart, all_behind, some_look_back};
 use crate::near::near_option;
@@ -179,15 +179,17 @@ pub fn dots_each(
     ensures made { IfOk result (λ made. MakesFollows (setting_at m.now) parts.old parts.new nexts.now made.items
         (λ next. table.Dots)
         (λ next b t. dots_row (setting_at m.now) parts.old
-        b (element_or_none (option_copied after.entry)) (parts_at parts.old whens.items)
+        b (element_or_none (option_copied after.entry))
+        (table.stays (setting_at m.now).around ++ parts_at parts.old whens.items)
         (dots_of d.now).any (dots_of d.now).strict nest
         (follow parts.old m.now next) place.now t)) }
 {
     let scope = &place.scope;
+    let firsts = staying(alloc, parts, m.around, whens.as_slice())?;
     let after = after_dots(alloc, parts, m, d.any, after, scope)?;
     let here = copied_vars(alloc, place.here.as_slice())?;
     let made = MadeDots {
-        whens,
+        firsts,
         any: d.any,
         strict: d.strict,
         after,

@@ -161,7 +161,7 @@ pub fn dots(
         (follow parts.old m.now next.now) scope.now)) }
 {
     let g = follow_at(alloc, parts, m, next, scope)?;
-    let target = target(parts, start_of(next), g)?;
+    let target = target(alloc, parts, m.around, start_of(next), g)?;
     Ok(Made::Dots(d.share()?, target, None))
 }
 

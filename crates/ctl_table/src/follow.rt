@@ -29,8 +29,8 @@ pub struct NestPart {
 /// Dots whose parts are made, but for where they lead to and the condition's part on the element before them.
 #[derive(Drop)]
 pub struct MadeDots {
-    /// `not` each piece of `when` code.
-    pub whens: Vec<usize>,
+    /// That the dots stay in the block around them, where there is one, and then `not` each piece of `when` code.
+    pub firsts: Vec<usize>,
     pub any: bool,
     pub strict: bool,
     /// The first atoms of the element after the dots.

@@ -1,7 +1,8 @@
 //! The table from the elements of a body to formulas.
 //!
 //! - [`sequence`] gives the part that the formula of a sequence is, under what is quantified inside it and around it.
-//! - [`Setting`] is what the table goes by besides, and [`Made`] what follows a sequence.
+//! - [`Setting`] is what the table goes by besides, of which `within` gives that of a block, and [`Made`] what follows a
+//!   sequence.
 //! - [`blocks`] gives the [`Blocks`] of a body, by which their hidden variables are named.
 //!
 //! A part that stands at several places of the formula is kept once. What formula a body has, row by row, stands in

@@ -214,7 +214,8 @@ fn block(
     let close = own_close(alloc, parts, m, vars, c, &v)?;
     let brace = Made::Part(Start::Brace, close);
     let own = in_body(alloc, &m.reader, b, vars)?;
-    let inside = sequence(alloc, parts, m, b, &brace, own.as_slice(), scope)?;
+    let inner = m.within(&v);
+    let inside = sequence(alloc, parts, &inner, b, &brace, own.as_slice(), scope)?;
     braced(alloc, parts, m, vars, o, v, inside)
 }
 

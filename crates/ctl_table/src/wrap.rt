@@ -1,5 +1,6 @@
 // Parts made of parts.
-ghost use Rattle.std.specs.Prelude.{◌≡◌, ◌<◌, ◌++◌, true, length, drop, IfOk, OnOk, []};
+ghost use Rattle.std.specs.Prelude.{◌≡◌, ◌<◌, ◌++◌, true, length, drop, IfOk, OnOk, Some, []};
+ghost use Rattle.std.specs.Option.{option_copied};
 ghost use Rattle.ctl_formula.specs.Plain as plain;
 ghost use Rattle.ctl_table.specs.Table as table;
 ghost use Rattle.ctl_formula.specs.Tables.{at, plains, Makes};
@@ -162,19 +163,64 @@ pub fn nested(
     parts.push(Node::And(f, some))
 }
 
-/// Where dots lead to.
-pub fn target(parts: &mut Parts, start: Start, f: usize) -> Result<usize, NoMemory>
+/// Where dots lead to, by the block around them.
+pub fn target(
+    alloc: Global,
+    parts: &mut Parts,
+    around: Option<&Var>,
+    start: Start,
+    f: usize,
+) -> Result<usize, NoMemory>
     requires { f < length parts.old }
     ensures made { IfOk result (λ i. Makes parts.old parts.new i
-        (table.target (start_at start) (at (plains parts.old) f))) }
+        (table.target (option_copied around.entry) (start_at start) (at (plains parts.old) f))) }
+{
+    match around {
+        None => Ok(f),
+        Some(b) => target_of_block(alloc, parts, b, start, f),
+    }
+}
+
+/// Where dots in a block lead to.
+fn target_of_block(
+    alloc: Global,
+    parts: &mut Parts,
+    b: &Var,
+    start: Start,
+    f: usize,
+) -> Result<usize, NoMemory>
+    requires { f < length parts.old }
+    ensures made { IfOk result (λ i. Makes parts.old parts.new i
+        (table.target (Some b.now) (start_at start) (at (plains parts.old) f))) }
 {
     match start {
-        Start::Brace => {
-            let exit = parts.push(Node::Exit)?;
-            parts.push(Node::Or(f, exit))
-        }
-        _ => Ok(f),
+        Start::Brace => or_outside(alloc, parts, b, f),
+        Start::Nothing => and_inside(alloc, parts, b, f),
+        Start::Dots => and_inside(alloc, parts, b, f),
+        Start::Other => and_inside(alloc, parts, b, f),
     }
+}
+
+/// A part, or a place outside the block.
+fn or_outside(alloc: Global, parts: &mut Parts, b: &Var, f: usize) -> Result<usize, NoMemory>
+    requires { f < length parts.old }
+    ensures made { IfOk result (λ i. Makes parts.old parts.new i
+        (plain.Or (at (plains parts.old) f) (plain.Outside b.now))) }
+{
+    let b = b.copy(alloc)?;
+    let outside = parts.push(Node::Outside(b))?;
+    parts.push(Node::Or(f, outside))
+}
+
+/// A part, inside the block.
+fn and_inside(alloc: Global, parts: &mut Parts, b: &Var, f: usize) -> Result<usize, NoMemory>
+    requires { f < length parts.old }
+    ensures made { IfOk result (λ i. Makes parts.old parts.new i
+        (plain.And (plain.Inside b.now) (at (plains parts.old) f))) }
+{
+    let b = b.copy(alloc)?;
+    let inside = parts.push(Node::Inside(b))?;
+    parts.push(Node::And(inside, f))
 }
 
 /// A part, and another at the node past its statement.

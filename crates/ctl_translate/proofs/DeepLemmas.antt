@@ -9,7 +9,7 @@ use Rattle.smpl_patch.specs.Bodies.{Element, Compound, Block, Gap, Nest, AnyOf, 
 use Rattle.smpl_patch.specs.Bodies as bodies
 use Rattle.ctl_formula.specs.Plain.{Plain, Atom, BraceOpen, Not, And, Or, Exists, Down, size, depth, fits, most_parts}
 use Rattle.var_places.specs.Placing.{is_dots, is_alone, occurs_element, occurs_body, at_suffix}
-use Rattle.ctl_table.specs.Table.{Setting, Follow, Start, Nothing, Brace, Dots, Other, nothing, start_of, first_of, exists_all, and_all, or_all, any_of, near_option, own, hidden, joined, target, until, nested, condition, closing, with_tail, downs, choices, seq, elem, each, first_and, when_parts, setting}
+use Rattle.ctl_table.specs.Table.{Setting, Follow, Start, Nothing, Brace, Dots, Other, nothing, start_of, first_of, exists_all, and_all, or_all, any_of, near_option, own, hidden, joined, target, stays, within, until, nested, condition, closing, with_tail, downs, choices, seq, elem, each, first_and, when_parts, setting}
 use Rattle.ctl_translate.specs.Rules as rules
 use Rattle.ctl_translate.specs.Deep.{levels_element, levels_body, levels_choice, levels_every}
 use Rattle.var_places.proofs.KeptLemmas.{drop-here}
@@ -39,11 +39,12 @@ or-deep : (f : Plain) (gs : List Plain) → depth f ≤ depth (or_all f gs)
 or-deep f [] = omega arith
 or-deep f (g ∷ gs) = let r = or-deep (Or f g) gs in omega (arith, r)
 
-target-deep : (s : Start) (f : Plain) → depth f ≤ depth (target s f)
-target-deep Brace f = omega arith
-target-deep Nothing f = omega arith
-target-deep Dots f = omega arith
-target-deep Other f = omega arith
+target-deep : (o : Option Var) (s : Start) (f : Plain) → depth f ≤ depth (target o s f)
+target-deep None s f = omega arith
+target-deep (Some b) Brace f = omega arith
+target-deep (Some b) Nothing f = omega arith
+target-deep (Some b) Dots f = omega arith
+target-deep (Some b) Other f = omega arith
 
 until-deep : (forall_walks strict : Bool) (d t : Plain) → suc (depth t) ≤ depth (until forall_walks strict d t)
 until-deep false strict d t = omega arith
@@ -87,61 +88,60 @@ until-step n g t u h k l = omega (arith, h, k, l)
 first-step : (n a b c : ℕ) → n ≤ suc a → a ≤ b → b ≤ c → n ≤ suc c
 first-step n a b c h k l = omega (arith, h, k, l)
 
-module _ (m : Setting) where
-  mutual
-    pub seq-deep : (before : Option Element) (b : Body) (k : Follow) (w s t : List Var) (n : ℕ) → ((u : List Var) → n ≤ suc (depth (k.at u))) → Counts k.start n
-        → levels_body b n ≤ suc (depth (seq m before b k w s t))
-    seq-deep before End k w s t n g z = g t
-    seq-deep before (Then e rest) k w s t n g z =
-        let here = filter (at_suffix m.reading e rest) w in
-        let inside = filter (λ x. not (at_suffix m.reading e rest x)) w in
-        let later = filter (λ x. not (occurs_element m.reading e x)) inside in
-        let next : Follow = record { start = start_of rest k.start; at = λ u. seq m (Some e) rest k later (s ++ here) u } in
-        let f = elem m before (first_of rest) e next (filter (occurs_element m.reading e) inside) (s ++ here) (t ++ here) in
-        exists-deep here f (levels_element e (levels_body rest n))
-        (elem-deep before (first_of rest) e next (filter (occurs_element m.reading e) inside) (s ++ here) (t ++ here) (levels_body rest n)
-        (λ u. seq-deep (Some e) rest k later (s ++ here) u n g z) (counts-rest rest k.start n z))
+mutual
+  pub seq-deep : (m : Setting) (before : Option Element) (b : Body) (k : Follow) (w s t : List Var) (n : ℕ) → ((u : List Var) → n ≤ suc (depth (k.at u))) → Counts k.start n
+      → levels_body b n ≤ suc (depth (seq m before b k w s t))
+  seq-deep m before End k w s t n g z = g t
+  seq-deep m before (Then e rest) k w s t n g z =
+      let here = filter (at_suffix m.reading e rest) w in
+      let inside = filter (λ x. not (at_suffix m.reading e rest x)) w in
+      let later = filter (λ x. not (occurs_element m.reading e x)) inside in
+      let next : Follow = record { start = start_of rest k.start; at = λ u. seq m (Some e) rest k later (s ++ here) u } in
+      let f = elem m before (first_of rest) e next (filter (occurs_element m.reading e) inside) (s ++ here) (t ++ here) in
+      exists-deep here f (levels_element e (levels_body rest n))
+      (elem-deep m before (first_of rest) e next (filter (occurs_element m.reading e) inside) (s ++ here) (t ++ here) (levels_body rest n)
+      (λ u. seq-deep m (Some e) rest k later (s ++ here) u n g z) (counts-rest rest k.start n z))
 
-    elem-deep : (before after : Option Element) (e : Element) (k : Follow) (w s t : List Var) (n : ℕ) → ((u : List Var) → n ≤ suc (depth (k.at u))) → Counts k.start n
-        → levels_element e n ≤ suc (depth (elem m before after e k w s t))
-    elem-deep before after (bodies.Atom p) k w s t n g z =
-        joined-deep m.forall_walks (m.reading.is_statement p) (own m w p (Atom p)) k.start (k.at s) n (g s) z
-    elem-deep before after (Compound h bs tail) k w s t n g z =
-        past-step (depth (with_tail m w tail (and_all (own m w h (Atom h)) (downs 0 (each m bs nothing w s))))) (depth (k.at s)) n (g s)
-    elem-deep before after (Block o b c) k w s t n g z =
-        let v = hidden m o in
-        let inside = seq m None b (closing m w c v) (filter (occurs_body m.reading b) w) s s in
-        past-step (depth (Exists v (And (own m w o (BraceOpen o v)) (Down 0 inside)))) (depth (k.at s)) n (g s)
-    elem-deep before after (Gap ws any strict) k w s t n g z =
-        let d = condition any (when_parts m ws s) (near_option m true before t) (near_option m false after s) in
-        let to = target k.start (k.at s) in
-        until-step n (depth (k.at s)) (depth to) (depth (until m.forall_walks strict d to)) (g s) (target-deep k.start (k.at s)) (until-deep m.forall_walks strict d to)
-    elem-deep before after (Nest plus b ws any strict) k w s t n g z =
-        let d = condition any (when_parts m ws s) (near_option m true before t) (near_option m false after s) in
-        let part = seq m None b nothing (filter (occurs_body m.reading b) w) s s in
-        let to = target k.start (k.at s) in
-        until-step n (depth (k.at s)) (depth to) (depth (nested m.forall_walks plus strict d part to)) (g s) (target-deep k.start (k.at s))
-        (nested-deep m.forall_walks plus strict d part to)
-    elem-deep before after (AnyOf bs) k w s t n g z = choice-deep bs k w s n g z
-    elem-deep before after (AllOf bs) k w s t n g z = every-deep bs k w s n g z
+  elem-deep : (m : Setting) (before after : Option Element) (e : Element) (k : Follow) (w s t : List Var) (n : ℕ) → ((u : List Var) → n ≤ suc (depth (k.at u))) → Counts k.start n
+      → levels_element e n ≤ suc (depth (elem m before after e k w s t))
+  elem-deep m before after (bodies.Atom p) k w s t n g z =
+      joined-deep m.forall_walks (m.reading.is_statement p) (own m w p (Atom p)) k.start (k.at s) n (g s) z
+  elem-deep m before after (Compound h bs tail) k w s t n g z =
+      past-step (depth (with_tail m w tail (and_all (own m w h (Atom h)) (downs 0 (each m bs nothing w s))))) (depth (k.at s)) n (g s)
+  elem-deep m before after (Block o b c) k w s t n g z =
+      let v = hidden m o in
+      let inside = seq (within m v) None b (closing m w c v) (filter (occurs_body m.reading b) w) s s in
+      past-step (depth (Exists v (And (own m w o (BraceOpen o v)) (Down 0 inside)))) (depth (k.at s)) n (g s)
+  elem-deep m before after (Gap ws any strict) k w s t n g z =
+      let d = condition any (stays m.around ++ when_parts m ws s) (near_option m true before t) (near_option m false after s) in
+      let to = target m.around k.start (k.at s) in
+      until-step n (depth (k.at s)) (depth to) (depth (until m.forall_walks strict d to)) (g s) (target-deep m.around k.start (k.at s)) (until-deep m.forall_walks strict d to)
+  elem-deep m before after (Nest plus b ws any strict) k w s t n g z =
+      let d = condition any (stays m.around ++ when_parts m ws s) (near_option m true before t) (near_option m false after s) in
+      let part = seq m None b nothing (filter (occurs_body m.reading b) w) s s in
+      let to = target m.around k.start (k.at s) in
+      until-step n (depth (k.at s)) (depth to) (depth (nested m.forall_walks plus strict d part to)) (g s) (target-deep m.around k.start (k.at s))
+      (nested-deep m.forall_walks plus strict d part to)
+  elem-deep m before after (AnyOf bs) k w s t n g z = choice-deep m bs k w s n g z
+  elem-deep m before after (AllOf bs) k w s t n g z = every-deep m bs k w s n g z
 
-    choice-deep : (bs : Bodies) (k : Follow) (w s : List Var) (n : ℕ) → ((u : List Var) → n ≤ suc (depth (k.at u))) → Counts k.start n
-        → levels_choice bs n ≤ suc (depth (any_of (choices [] (each m bs k w s) (each m bs nothing w s))))
-    choice-deep NoMore k w s n g z = one-level _
-    choice-deep (More b bs) k w s n g z =
-        let f = seq m None b k (filter (occurs_body m.reading b) w) s s in
-        let not_first = Not (seq m None b nothing (filter (occurs_body m.reading b) w) s s) in
-        let more = choices (not_first ∷ []) (each m bs k w s) (each m bs nothing w s) in
-        first-step (levels_body b n) (depth f) (depth f) (depth (or_all f more))
-        (seq-deep None b k (filter (occurs_body m.reading b) w) s s n g z) (none-more (depth f)) (or-deep f more)
+  choice-deep : (m : Setting) (bs : Bodies) (k : Follow) (w s : List Var) (n : ℕ) → ((u : List Var) → n ≤ suc (depth (k.at u))) → Counts k.start n
+      → levels_choice bs n ≤ suc (depth (any_of (choices [] (each m bs k w s) (each m bs nothing w s))))
+  choice-deep m NoMore k w s n g z = one-level _
+  choice-deep m (More b bs) k w s n g z =
+      let f = seq m None b k (filter (occurs_body m.reading b) w) s s in
+      let not_first = Not (seq m None b nothing (filter (occurs_body m.reading b) w) s s) in
+      let more = choices (not_first ∷ []) (each m bs k w s) (each m bs nothing w s) in
+      first-step (levels_body b n) (depth f) (depth f) (depth (or_all f more))
+      (seq-deep m None b k (filter (occurs_body m.reading b) w) s s n g z) (none-more (depth f)) (or-deep f more)
 
-    every-deep : (bs : Bodies) (k : Follow) (w s : List Var) (n : ℕ) → ((u : List Var) → n ≤ suc (depth (k.at u))) → Counts k.start n
-        → levels_every bs n ≤ suc (depth (first_and m bs k w s))
-    every-deep NoMore k w s n g z = g s
-    every-deep (More b bs) k w s n g z =
-        let f = seq m None b k (filter (occurs_body m.reading b) w) s s in
-        first-step (levels_body b n) (depth f) (depth f) (depth (and_all f (each m bs nothing w s)))
-        (seq-deep None b k (filter (occurs_body m.reading b) w) s s n g z) (none-more (depth f)) (and-deep f (each m bs nothing w s))
+  every-deep : (m : Setting) (bs : Bodies) (k : Follow) (w s : List Var) (n : ℕ) → ((u : List Var) → n ≤ suc (depth (k.at u))) → Counts k.start n
+      → levels_every bs n ≤ suc (depth (first_and m bs k w s))
+  every-deep m NoMore k w s n g z = g s
+  every-deep m (More b bs) k w s n g z =
+      let f = seq m None b k (filter (occurs_body m.reading b) w) s s in
+      first-step (levels_body b n) (depth f) (depth f) (depth (and_all f (each m bs nothing w s)))
+      (seq-deep m None b k (filter (occurs_body m.reading b) w) s s n g z) (none-more (depth f)) (and-deep f (each m bs nothing w s))
 
 over-around : (f : Plain) → 4000 < depth f → fits f ≡ false
 over-around f h = ap (λ z. nat_le (size f) most_parts && z) (lt-leb (depth f) 4000 h) ∙ and-false (nat_le (size f) most_parts)

@@ -11,7 +11,7 @@ use Rattle.ctl_formula.specs.Plain.{Plain, Atom, BraceOpen, BraceClose, Not, And
 use Rattle.ctl_formula.specs.Bounds.{Surely, each_quantifier, bound}
 use Rattle.ctl_formula.proofs.TableLemmas.{and-left, and-right}
 use Rattle.var_places.specs.Placing.{occurs_element, occurs_body, at_suffix}
-use Rattle.ctl_table.specs.Table.{Setting, Follow, Start, Nothing, Brace, Dots, Other, nothing, start_of, first_of, in_scope, exists_all, and_all, or_all, all_of, any_of, or_some, option_list, nots, hidden, own, copy, near, near_body, near_each, near_first, near_option, is_end, joined, target, until, nested, condition, lone, closing, with_tail, downs, choices, seq, elem, each, first_and, when_parts}
+use Rattle.ctl_table.specs.Table.{Setting, Follow, Start, Nothing, Brace, Dots, Other, nothing, start_of, first_of, in_scope, exists_all, and_all, or_all, all_of, any_of, or_some, option_list, nots, hidden, own, copy, near, near_body, near_each, near_first, near_option, is_end, joined, target, stays, within, until, nested, condition, lone, closing, with_tail, downs, choices, seq, elem, each, first_and, when_parts}
 
 both : (a b : Bool) → a ≡ true → b ≡ true → (a && b) ≡ true
 both a b h k = ap (λ z. z && b) h ∙ k
@@ -115,11 +115,16 @@ module _ (sure : Surely) (locals : List Var) where
   known-joined forall_walks statement f Brace g h k = both (known f) (known g) h k
   known-joined forall_walks statement f Other g h k = both (known f) (known g) h k
 
-  known-target : (s : Start) (f : Plain) → known f ≡ true → known (target s f) ≡ true
-  known-target Brace f h = both (known f) true h refl
-  known-target Nothing f h = h
-  known-target Dots f h = h
-  known-target Other f h = h
+  known-target : (o : Option Var) (s : Start) (f : Plain) → known f ≡ true → known (target o s f) ≡ true
+  known-target None s f h = h
+  known-target (Some b) Brace f h = both (known f) true h refl
+  known-target (Some b) Nothing f h = h
+  known-target (Some b) Dots f h = h
+  known-target (Some b) Other f h = h
+
+  known-firsts : (o : Option Var) (fs : List Plain) → list_all known fs ≡ true → list_all known (stays o ++ fs) ≡ true
+  known-firsts None fs h = h
+  known-firsts (Some b) fs h = h
 
   known-condition : (any : Bool) (whens : List Plain) (before after : Option Plain) → list_all known whens ≡ true → list_all known (option_list before) ≡ true
       → list_all known (option_list after) ≡ true → known (condition any whens before after) ≡ true
@@ -210,69 +215,85 @@ module _ (sure : Surely) (locals : List Var) where
         (hidden-known o v (filter (λ x. m.reading.used o x) w) (hidden-same o) (all-filter (in_scope locals) (λ x. m.reading.used o x) w h)))
         (both (known own_open) (known inside) (known-own w o (BraceOpen o v) h refl) k)
 
-    mutual
-      pub known-seq : (before : Option Element) (b : Body) (k : Follow) (w s t : List Var) → are_local w ≡ true → ((u : List Var) → known (k.at u) ≡ true)
-          → known (seq m before b k w s t) ≡ true
-      known-seq before End k w s t h g = g t
-      known-seq before (Then e rest) k w s t h g =
-          let here = filter (at_suffix m.reading e rest) w in
-          let inside = filter (λ x. not (at_suffix m.reading e rest x)) w in
-          let later = filter (λ x. not (occurs_element m.reading e x)) inside in
-          let hi = all-filter (in_scope locals) (λ x. not (at_suffix m.reading e rest x)) w h in
-          known-exists_all here _ (all-filter (in_scope locals) (at_suffix m.reading e rest) w h)
-          (known-elem before (first_of rest) e (record { start = start_of rest k.start; at = λ u. seq m (Some e) rest k later (s ++ here) u })
-          (filter (occurs_element m.reading e) inside) (s ++ here) (t ++ here) (all-filter (in_scope locals) (occurs_element m.reading e) inside hi)
-          (λ u. known-seq (Some e) rest k later (s ++ here) u (all-filter (in_scope locals) (λ x. not (occurs_element m.reading e x)) inside hi) g))
+  mutual
+    pub known-seq : (m : Setting) (l : are_local m.locals ≡ true) (a : are_local m.alone ≡ true)
+        (r : (o : Pattern) → same_var (hidden m o) (hidden m o) ≡ true)
+        (before : Option Element) (b : Body) (k : Follow) (w s t : List Var) → are_local w ≡ true → ((u : List Var) → known (k.at u) ≡ true)
+        → known (seq m before b k w s t) ≡ true
+    known-seq m l a r before End k w s t h g = g t
+    known-seq m l a r before (Then e rest) k w s t h g =
+        let here = filter (at_suffix m.reading e rest) w in
+        let inside = filter (λ x. not (at_suffix m.reading e rest x)) w in
+        let later = filter (λ x. not (occurs_element m.reading e x)) inside in
+        let hi = all-filter (in_scope locals) (λ x. not (at_suffix m.reading e rest x)) w h in
+        known-exists_all here _ (all-filter (in_scope locals) (at_suffix m.reading e rest) w h)
+        (known-elem m l a r before (first_of rest) e (record { start = start_of rest k.start; at = λ u. seq m (Some e) rest k later (s ++ here) u })
+        (filter (occurs_element m.reading e) inside) (s ++ here) (t ++ here) (all-filter (in_scope locals) (occurs_element m.reading e) inside hi)
+        (λ u. known-seq m l a r (Some e) rest k later (s ++ here) u (all-filter (in_scope locals) (λ x. not (occurs_element m.reading e x)) inside hi) g))
 
-      known-elem : (before after : Option Element) (e : Element) (k : Follow) (w s t : List Var) → are_local w ≡ true → ((u : List Var) → known (k.at u) ≡ true)
-          → known (elem m before after e k w s t) ≡ true
-      known-elem before after (bodies.Atom p) k w s t h g =
-          known-joined m.forall_walks (m.reading.is_statement p) (own m w p (Atom p)) k.start (k.at s) (known-own w p (Atom p) h refl) (g s)
-      known-elem before after (Compound p bs tail) k w s t h g =
-          both (known (with_tail m w tail (and_all (own m w p (Atom p)) (downs 0 (each m bs nothing w s))))) (known (k.at s))
-          (known-with_tail w tail (and_all (own m w p (Atom p)) (downs 0 (each m bs nothing w s))) h
-          (known-and_all (own m w p (Atom p)) (downs 0 (each m bs nothing w s)) (known-own w p (Atom p) h refl)
-          (known-downs 0 (each m bs nothing w s) (known-each bs nothing w s h (λ u. refl)))))
-          (g s)
-      known-elem before after (Block o b c) k w s t h g =
-          let inside = seq m None b (closing m w c (hidden m o)) (filter (occurs_body m.reading b) w) s s in
-          both (known (Exists (hidden m o) (And (own m w o (BraceOpen o (hidden m o))) (Down 0 inside)))) (known (k.at s))
-          (known-block o w inside h (known-seq None b (closing m w c (hidden m o)) (filter (occurs_body m.reading b) w) s s
-          (all-filter (in_scope locals) (occurs_body m.reading b) w h) (λ u. known-own w c (BraceClose c (hidden m o)) h refl)))
-          (g s)
-      known-elem before after (Gap ws any strict) k w s t h g =
-          known-until m.forall_walks strict (condition any (when_parts m ws s) (near_option m true before t) (near_option m false after s)) (target k.start (k.at s))
-          (known-condition any (when_parts m ws s) (near_option m true before t) (near_option m false after s) (known-whens ws s) (known-near_option true before t) (known-near_option false after s))
-          (known-target k.start (k.at s) (g s))
-      known-elem before after (Nest plus b ws any strict) k w s t h g =
-          known-nested m.forall_walks plus strict (condition any (when_parts m ws s) (near_option m true before t) (near_option m false after s))
-          (seq m None b nothing (filter (occurs_body m.reading b) w) s s) (target k.start (k.at s))
-          (known-condition any (when_parts m ws s) (near_option m true before t) (near_option m false after s) (known-whens ws s) (known-near_option true before t) (known-near_option false after s))
-          (known-seq None b nothing (filter (occurs_body m.reading b) w) s s (all-filter (in_scope locals) (occurs_body m.reading b) w h) (λ u. refl))
-          (known-target k.start (k.at s) (g s))
-      known-elem before after (AnyOf bs) k w s t h g =
-          known-any_of (choices [] (each m bs k w s) (each m bs nothing w s))
-          (known-choices [] (each m bs k w s) (each m bs nothing w s) refl (known-each bs k w s h g) (known-each bs nothing w s h (λ u. refl)))
-      known-elem before after (AllOf bs) k w s t h g = known-first_and bs k w s h g
+    known-elem : (m : Setting) (l : are_local m.locals ≡ true) (a : are_local m.alone ≡ true)
+        (r : (o : Pattern) → same_var (hidden m o) (hidden m o) ≡ true)
+        (before after : Option Element) (e : Element) (k : Follow) (w s t : List Var) → are_local w ≡ true → ((u : List Var) → known (k.at u) ≡ true)
+        → known (elem m before after e k w s t) ≡ true
+    known-elem m l a r before after (bodies.Atom p) k w s t h g =
+        known-joined m.forall_walks (m.reading.is_statement p) (own m w p (Atom p)) k.start (k.at s) (known-own m l a r w p (Atom p) h refl) (g s)
+    known-elem m l a r before after (Compound p bs tail) k w s t h g =
+        both (known (with_tail m w tail (and_all (own m w p (Atom p)) (downs 0 (each m bs nothing w s))))) (known (k.at s))
+        (known-with_tail m l a r w tail (and_all (own m w p (Atom p)) (downs 0 (each m bs nothing w s))) h
+        (known-and_all (own m w p (Atom p)) (downs 0 (each m bs nothing w s)) (known-own m l a r w p (Atom p) h refl)
+        (known-downs 0 (each m bs nothing w s) (known-each m l a r bs nothing w s h (λ u. refl)))))
+        (g s)
+    known-elem m l a r before after (Block o b c) k w s t h g =
+        let inside = seq (within m (hidden m o)) None b (closing m w c (hidden m o)) (filter (occurs_body m.reading b) w) s s in
+        both (known (Exists (hidden m o) (And (own m w o (BraceOpen o (hidden m o))) (Down 0 inside)))) (known (k.at s))
+        (known-block m l a r o w inside h (known-seq (within m (hidden m o)) l a r None b (closing m w c (hidden m o)) (filter (occurs_body m.reading b) w) s s
+        (all-filter (in_scope locals) (occurs_body m.reading b) w h) (λ u. known-own m l a r w c (BraceClose c (hidden m o)) h refl)))
+        (g s)
+    known-elem m l a r before after (Gap ws any strict) k w s t h g =
+        known-until m.forall_walks strict
+        (condition any (stays m.around ++ when_parts m ws s) (near_option m true before t) (near_option m false after s))
+        (target m.around k.start (k.at s))
+        (known-condition any (stays m.around ++ when_parts m ws s) (near_option m true before t) (near_option m false after s)
+        (known-firsts m.around (when_parts m ws s) (known-whens m l a r ws s)) (known-near_option m l a r true before t)
+        (known-near_option m l a r false after s))
+        (known-target m.around k.start (k.at s) (g s))
+    known-elem m l a r before after (Nest plus b ws any strict) k w s t h g =
+        known-nested m.forall_walks plus strict (condition any (stays m.around ++ when_parts m ws s) (near_option m true before t) (near_option m false after s))
+        (seq m None b nothing (filter (occurs_body m.reading b) w) s s) (target m.around k.start (k.at s))
+        (known-condition any (stays m.around ++ when_parts m ws s) (near_option m true before t) (near_option m false after s)
+        (known-firsts m.around (when_parts m ws s) (known-whens m l a r ws s)) (known-near_option m l a r true before t)
+        (known-near_option m l a r false after s))
+        (known-seq m l a r None b nothing (filter (occurs_body m.reading b) w) s s (all-filter (in_scope locals) (occurs_body m.reading b) w h) (λ u. refl))
+        (known-target m.around k.start (k.at s) (g s))
+    known-elem m l a r before after (AnyOf bs) k w s t h g =
+        known-any_of (choices [] (each m bs k w s) (each m bs nothing w s))
+        (known-choices [] (each m bs k w s) (each m bs nothing w s) refl (known-each m l a r bs k w s h g) (known-each m l a r bs nothing w s h (λ u. refl)))
+    known-elem m l a r before after (AllOf bs) k w s t h g = known-first_and m l a r bs k w s h g
 
-      known-each : (bs : Bodies) (k : Follow) (w s : List Var) → are_local w ≡ true → ((u : List Var) → known (k.at u) ≡ true) → list_all known (each m bs k w s) ≡ true
-      known-each NoMore k w s h g = refl
-      known-each (More b bs) k w s h g =
-          both (known (seq m None b k (filter (occurs_body m.reading b) w) s s)) (list_all known (each m bs k w s))
-          (known-seq None b k (filter (occurs_body m.reading b) w) s s (all-filter (in_scope locals) (occurs_body m.reading b) w h) g) (known-each bs k w s h g)
+    known-each : (m : Setting) (l : are_local m.locals ≡ true) (a : are_local m.alone ≡ true)
+        (r : (o : Pattern) → same_var (hidden m o) (hidden m o) ≡ true)
+        (bs : Bodies) (k : Follow) (w s : List Var) → are_local w ≡ true → ((u : List Var) → known (k.at u) ≡ true) → list_all known (each m bs k w s) ≡ true
+    known-each m l a r NoMore k w s h g = refl
+    known-each m l a r (More b bs) k w s h g =
+        both (known (seq m None b k (filter (occurs_body m.reading b) w) s s)) (list_all known (each m bs k w s))
+        (known-seq m l a r None b k (filter (occurs_body m.reading b) w) s s (all-filter (in_scope locals) (occurs_body m.reading b) w h) g) (known-each m l a r bs k w s h g)
 
-      known-first_and : (bs : Bodies) (k : Follow) (w s : List Var) → are_local w ≡ true → ((u : List Var) → known (k.at u) ≡ true) → known (first_and m bs k w s) ≡ true
-      known-first_and NoMore k w s h g = g s
-      known-first_and (More b bs) k w s h g =
-          known-and_all (seq m None b k (filter (occurs_body m.reading b) w) s s) (each m bs nothing w s)
-          (known-seq None b k (filter (occurs_body m.reading b) w) s s (all-filter (in_scope locals) (occurs_body m.reading b) w h) g)
-          (known-each bs nothing w s h (λ u. refl))
+    known-first_and : (m : Setting) (l : are_local m.locals ≡ true) (a : are_local m.alone ≡ true)
+        (r : (o : Pattern) → same_var (hidden m o) (hidden m o) ≡ true)
+        (bs : Bodies) (k : Follow) (w s : List Var) → are_local w ≡ true → ((u : List Var) → known (k.at u) ≡ true) → known (first_and m bs k w s) ≡ true
+    known-first_and m l a r NoMore k w s h g = g s
+    known-first_and m l a r (More b bs) k w s h g =
+        known-and_all (seq m None b k (filter (occurs_body m.reading b) w) s s) (each m bs nothing w s)
+        (known-seq m l a r None b k (filter (occurs_body m.reading b) w) s s (all-filter (in_scope locals) (occurs_body m.reading b) w h) g)
+        (known-each m l a r bs nothing w s h (λ u. refl))
 
-      known-whens : (ws : Bodies) (s : List Var) → list_all known (when_parts m ws s) ≡ true
-      known-whens NoMore s = refl
-      known-whens (More w ws) s =
-          let alone = lone m w in
-          both (known (exists_all alone (seq m None w nothing [] (s ++ alone) (s ++ alone)))) (list_all known (when_parts m ws s))
-          (known-exists_all alone (seq m None w nothing [] (s ++ alone) (s ++ alone)) (all-filter (in_scope locals) _ m.alone a)
-          (known-seq None w nothing [] (s ++ alone) (s ++ alone) refl (λ u. refl)))
-          (known-whens ws s)
+    known-whens : (m : Setting) (l : are_local m.locals ≡ true) (a : are_local m.alone ≡ true)
+        (r : (o : Pattern) → same_var (hidden m o) (hidden m o) ≡ true)
+        (ws : Bodies) (s : List Var) → list_all known (when_parts m ws s) ≡ true
+    known-whens m l a r NoMore s = refl
+    known-whens m l a r (More w ws) s =
+        let alone = lone m w in
+        both (known (exists_all alone (seq m None w nothing [] (s ++ alone) (s ++ alone)))) (list_all known (when_parts m ws s))
+        (known-exists_all alone (seq m None w nothing [] (s ++ alone) (s ++ alone)) (all-filter (in_scope locals) _ m.alone a)
+        (known-seq m l a r None w nothing [] (s ++ alone) (s ++ alone) refl (λ u. refl)))
+        (known-whens m l a r ws s)

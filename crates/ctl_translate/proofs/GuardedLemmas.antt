@@ -2,7 +2,7 @@
 use Rattle.std.proofs.Common.{◌≡◌, Bool, true, false, not, ◌&&◌, ◌||◌, refl, sym, ap, ◌∙◌, List}
 use Rattle.smpl_terms.specs.declared.var.Var.{Var}
 use Rattle.smpl_terms.specs.Vars.{same_var}
-use Rattle.ctl_formula.specs.Plain.{Plain, True, Atom, Bail, Exit, BraceOpen, BraceClose, Not, And, Or, AX, EX, AU, EU, Past, Down, Exists}
+use Rattle.ctl_formula.specs.Plain.{Plain, True, Atom, Bail, BraceOpen, BraceClose, Inside, Outside, Not, And, Or, AX, EX, AU, EU, Past, Down, Exists}
 use Rattle.ctl_formula.specs.Bounds.{Surely, bound, guarded, guarded_for}
 use Rattle.ctl_formula.proofs.TableLemmas.{and-left, and-right}
 use Rattle.ctl_table.specs.Table.{in_scope}
@@ -20,9 +20,10 @@ module _ (sure : Surely) (locals : List Var) (same : (x : Var) → same_var x x 
   guarded-all True h q = refl
   guarded-all (Atom p) h q = refl
   guarded-all Bail h q = refl
-  guarded-all Exit h q = refl
   guarded-all (BraceOpen p b) h q = refl
   guarded-all (BraceClose p b) h q = refl
+  guarded-all (Inside b) h q = refl
+  guarded-all (Outside b) h q = refl
   guarded-all (Not f) h q = guarded-all f h q
   guarded-all (And f g) h q =
       both (guarded sure f) (guarded sure g)

@@ -12,7 +12,7 @@ use Rattle.smpl_patch.specs.Bodies as bodies
 use Rattle.smpl_patch.specs.Shapes.{count}
 use Rattle.ctl_formula.specs.Plain.{Plain, Atom, BraceOpen, Not, And, Or, size, depth, fits, most_around}
 use Rattle.var_places.specs.Placing.{is_dots, is_alone, occurs_element, occurs_body, at_suffix}
-use Rattle.ctl_table.specs.Table.{Setting, Follow, Start, Nothing, Brace, Dots, Other, nothing, start_of, first_of, exists_all, and_all, or_all, all_of, any_of, nots, hidden, own, near_option, joined, target, until, nested, condition, lone, closing, with_tail, downs, choices, seq, elem, each, first_and, when_parts, setting}
+use Rattle.ctl_table.specs.Table.{Setting, Follow, Start, Nothing, Brace, Dots, Other, nothing, start_of, first_of, exists_all, and_all, or_all, all_of, any_of, nots, hidden, own, near_option, joined, target, stays, within, until, nested, condition, lone, closing, with_tail, downs, choices, seq, elem, each, first_and, when_parts, setting}
 use Rattle.ctl_translate.specs.Rules as rules
 use Rattle.ctl_translate.specs.Least.{Least, then_least, least_element, least_body, least_alone, least_choices, least_first}
 
@@ -62,11 +62,17 @@ downs-sizes : (i : ℕ) (fs : List Plain) → sizes fs ≤ sizes (downs i fs)
 downs-sizes i [] = omega arith
 downs-sizes i (f ∷ fs) = let r = downs-sizes (suc i) fs in omega (arith, r)
 
-target-size : (s : Start) (f : Plain) → size f ≤ size (target s f)
-target-size Brace f = omega arith
-target-size Nothing f = omega arith
-target-size Dots f = omega arith
-target-size Other f = omega arith
+target-size : (o : Option Var) (s : Start) (f : Plain) → size f ≤ size (target o s f)
+target-size None s f = omega arith
+target-size (Some b) Brace f = omega arith
+target-size (Some b) Nothing f = omega arith
+target-size (Some b) Dots f = omega arith
+target-size (Some b) Other f = omega arith
+
+-- the part that dots stay in their block takes nothing from the others
+firsts-sizes : (o : Option Var) (fs : List Plain) (n : ℕ) → n ≤ sizes fs → n ≤ sizes (stays o ++ fs)
+firsts-sizes None fs n h = h
+firsts-sizes (Some b) fs n h = omega (arith, h)
 
 until-size : (forall_walks strict : Bool) (d t : Plain) → 1 + size d + size t ≤ size (until forall_walks strict d t)
 until-size false strict d t = omega arith
@@ -194,103 +200,107 @@ module _ (m : Setting) where
   tail-size w None f = omega arith
   tail-size w (Some p) f = omega arith
 
-  mutual
-    pub seq-least : (before : Option Element) (b : Body) (k : Follow) (w s t : List Var) (n : ℕ) → ((u : List Var) → n ≤ size (k.at u)) → Counts k.start n
-        → (least_body b).fixed + (least_body b).times * n ≤ size (seq m before b k w s t)
-    seq-least before End k w s t n g z = none-step n (size (k.at t)) (g t)
-    seq-least before (Then e rest) k w s t n g z =
-        let here = filter (at_suffix m.reading e rest) w in
-        let inside = filter (λ x. not (at_suffix m.reading e rest x)) w in
-        let later = filter (λ x. not (occurs_element m.reading e x)) inside in
-        let next : Follow = record { start = start_of rest k.start; at = λ u. seq m (Some e) rest k later (s ++ here) u } in
-        let f = elem m before (first_of rest) e next (filter (occurs_element m.reading e) inside) (s ++ here) (t ++ here) in
-        exists-least here f ((least_body (Then e rest)).fixed + (least_body (Then e rest)).times * n)
-        (regroup (least_element e).fixed (least_element e).times (least_body rest).fixed (least_body rest).times n (size f)
-        (elem-least before (first_of rest) e next (filter (occurs_element m.reading e) inside) (s ++ here) (t ++ here)
-        ((least_body rest).fixed + (least_body rest).times * n)
-        (λ u. seq-least (Some e) rest k later (s ++ here) u n g z) (counts-rest rest k.start n z)))
+mutual
+  pub seq-least : (m : Setting) (before : Option Element) (b : Body) (k : Follow) (w s t : List Var) (n : ℕ) → ((u : List Var) → n ≤ size (k.at u)) → Counts k.start n
+      → (least_body b).fixed + (least_body b).times * n ≤ size (seq m before b k w s t)
+  seq-least m before End k w s t n g z = none-step n (size (k.at t)) (g t)
+  seq-least m before (Then e rest) k w s t n g z =
+      let here = filter (at_suffix m.reading e rest) w in
+      let inside = filter (λ x. not (at_suffix m.reading e rest x)) w in
+      let later = filter (λ x. not (occurs_element m.reading e x)) inside in
+      let next : Follow = record { start = start_of rest k.start; at = λ u. seq m (Some e) rest k later (s ++ here) u } in
+      let f = elem m before (first_of rest) e next (filter (occurs_element m.reading e) inside) (s ++ here) (t ++ here) in
+      exists-least here f ((least_body (Then e rest)).fixed + (least_body (Then e rest)).times * n)
+      (regroup (least_element e).fixed (least_element e).times (least_body rest).fixed (least_body rest).times n (size f)
+      (elem-least m before (first_of rest) e next (filter (occurs_element m.reading e) inside) (s ++ here) (t ++ here)
+      ((least_body rest).fixed + (least_body rest).times * n)
+      (λ u. seq-least m (Some e) rest k later (s ++ here) u n g z) (counts-rest rest k.start n z)))
 
-    elem-least : (before after : Option Element) (e : Element) (k : Follow) (w s t : List Var) (n : ℕ) → ((u : List Var) → n ≤ size (k.at u)) → Counts k.start n
-        → (least_element e).fixed + (least_element e).times * n ≤ size (elem m before after e k w s t)
-    elem-least before after (bodies.Atom p) k w s t n g z =
-        atom-step (size (own m w p (Atom p))) n (size (elem m before after (bodies.Atom p) k w s t))
-        (exists-least (filter (λ x. m.reading.used p x) w) (Atom p) 1 (omega arith))
-        (joined-size m.forall_walks (m.reading.is_statement p) (own m w p (Atom p)) k.start (k.at s) n (g s) z)
-    elem-least before after (Compound h bs tail) k w s t n g z =
-        let head = own m w h (Atom h) in
-        let inside = each m bs nothing w s in
-        let f = and_all head (downs 0 inside) in
-        compound-step (least_alone bs) (sizes inside) (sizes (downs 0 inside)) (joined_sizes (downs 0 inside)) (size head) (size f) (size (with_tail m w tail f)) n (size (k.at s))
-        (alone-least bs w s) (downs-sizes 0 inside) (joined-more (downs 0 inside)) (and-sizes head (downs 0 inside)) (tail-size w tail f) (g s)
-    elem-least before after (Block o b c) k w s t n g z =
-        let v = hidden m o in
-        let inside = seq m None b (closing m w c v) (filter (occurs_body m.reading b) w) s s in
-        block-step (least_body b).fixed (least_body b).times (size inside) (size (own m w o (BraceOpen o v))) n (size (k.at s))
-        (seq-least None b (closing m w c v) (filter (occurs_body m.reading b) w) s s 0 (λ u. zero-least _) tt) (g s)
-    elem-least before after (Gap ws any strict) k w s t n g z =
-        let whens = when_parts m ws s in
-        let near_before = near_option m true before t in
-        let near_after = near_option m false after s in
-        let d = condition any whens near_before near_after in
-        let to = target k.start (k.at s) in
-        gap-step (least_alone ws) (sizes whens) (size d) (size to) (size (until m.forall_walks strict d to)) n (size (k.at s))
-        (whens-least ws s) (condition-size any whens near_before near_after) (until-size m.forall_walks strict d to) (target-size k.start (k.at s)) (g s)
-    elem-least before after (Nest plus b ws any strict) k w s t n g z =
-        let whens = when_parts m ws s in
-        let near_before = near_option m true before t in
-        let near_after = near_option m false after s in
-        let d = condition any whens near_before near_after in
-        let part = seq m None b nothing (filter (occurs_body m.reading b) w) s s in
-        let to = target k.start (k.at s) in
-        nest-step (least_body b).fixed (least_body b).times (size part) (least_alone ws) (sizes whens) (size d) (size to) (size (nested m.forall_walks plus strict d part to)) n (size (k.at s))
-        (seq-least None b nothing (filter (occurs_body m.reading b) w) s s 0 (λ u. zero-least _) (zero-least 0))
-        (whens-least ws s) (condition-size any whens near_before near_after) (nested-size m.forall_walks plus strict d part to) (target-size k.start (k.at s)) (g s)
-    elem-least before after (AnyOf bs) k w s t n g z =
-        let found = choices [] (each m bs k w s) (each m bs nothing w s) in
-        any-step (count bs) ((least_choices bs).fixed + (least_choices bs).times * n) (sizes found) (size (any_of found))
-        (choices-least bs [] k w s n g z) (any-sizes found)
-    elem-least before after (AllOf bs) k w s t n g z = first-least bs k w s n g z
+  elem-least : (m : Setting) (before after : Option Element) (e : Element) (k : Follow) (w s t : List Var) (n : ℕ) → ((u : List Var) → n ≤ size (k.at u)) → Counts k.start n
+      → (least_element e).fixed + (least_element e).times * n ≤ size (elem m before after e k w s t)
+  elem-least m before after (bodies.Atom p) k w s t n g z =
+      atom-step (size (own m w p (Atom p))) n (size (elem m before after (bodies.Atom p) k w s t))
+      (exists-least (filter (λ x. m.reading.used p x) w) (Atom p) 1 (omega arith))
+      (joined-size m.forall_walks (m.reading.is_statement p) (own m w p (Atom p)) k.start (k.at s) n (g s) z)
+  elem-least m before after (Compound h bs tail) k w s t n g z =
+      let head = own m w h (Atom h) in
+      let inside = each m bs nothing w s in
+      let f = and_all head (downs 0 inside) in
+      compound-step (least_alone bs) (sizes inside) (sizes (downs 0 inside)) (joined_sizes (downs 0 inside)) (size head) (size f) (size (with_tail m w tail f)) n (size (k.at s))
+      (alone-least m bs w s) (downs-sizes 0 inside) (joined-more (downs 0 inside)) (and-sizes head (downs 0 inside)) (tail-size m w tail f) (g s)
+  elem-least m before after (Block o b c) k w s t n g z =
+      let v = hidden m o in
+      let inside = seq (within m v) None b (closing m w c v) (filter (occurs_body m.reading b) w) s s in
+      block-step (least_body b).fixed (least_body b).times (size inside) (size (own m w o (BraceOpen o v))) n (size (k.at s))
+      (seq-least (within m v) None b (closing m w c v) (filter (occurs_body m.reading b) w) s s 0 (λ u. zero-least _) tt) (g s)
+  elem-least m before after (Gap ws any strict) k w s t n g z =
+      let whens = when_parts m ws s in
+      let near_before = near_option m true before t in
+      let near_after = near_option m false after s in
+      let firsts = stays m.around ++ whens in
+      let d = condition any firsts near_before near_after in
+      let to = target m.around k.start (k.at s) in
+      gap-step (least_alone ws) (sizes firsts) (size d) (size to) (size (until m.forall_walks strict d to)) n (size (k.at s))
+      (firsts-sizes m.around whens (least_alone ws) (whens-least m ws s)) (condition-size any firsts near_before near_after)
+      (until-size m.forall_walks strict d to) (target-size m.around k.start (k.at s)) (g s)
+  elem-least m before after (Nest plus b ws any strict) k w s t n g z =
+      let whens = when_parts m ws s in
+      let near_before = near_option m true before t in
+      let near_after = near_option m false after s in
+      let firsts = stays m.around ++ whens in
+      let d = condition any firsts near_before near_after in
+      let part = seq m None b nothing (filter (occurs_body m.reading b) w) s s in
+      let to = target m.around k.start (k.at s) in
+      nest-step (least_body b).fixed (least_body b).times (size part) (least_alone ws) (sizes firsts) (size d) (size to) (size (nested m.forall_walks plus strict d part to)) n (size (k.at s))
+      (seq-least m None b nothing (filter (occurs_body m.reading b) w) s s 0 (λ u. zero-least _) (zero-least 0))
+      (firsts-sizes m.around whens (least_alone ws) (whens-least m ws s)) (condition-size any firsts near_before near_after)
+      (nested-size m.forall_walks plus strict d part to) (target-size m.around k.start (k.at s)) (g s)
+  elem-least m before after (AnyOf bs) k w s t n g z =
+      let found = choices [] (each m bs k w s) (each m bs nothing w s) in
+      any-step (count bs) ((least_choices bs).fixed + (least_choices bs).times * n) (sizes found) (size (any_of found))
+      (choices-least m bs [] k w s n g z) (any-sizes found)
+  elem-least m before after (AllOf bs) k w s t n g z = first-least m bs k w s n g z
 
-    alone-least : (bs : Bodies) (w s : List Var) → least_alone bs ≤ sizes (each m bs nothing w s)
-    alone-least NoMore w s = zero-least 0
-    alone-least (More b bs) w s =
-        alone-step (least_body b).fixed (least_body b).times (size (seq m None b nothing (filter (occurs_body m.reading b) w) s s)) (least_alone bs) (sizes (each m bs nothing w s))
-        (seq-least None b nothing (filter (occurs_body m.reading b) w) s s 0 (λ u. zero-least _) (zero-least 0)) (alone-least bs w s)
+  alone-least : (m : Setting) (bs : Bodies) (w s : List Var) → least_alone bs ≤ sizes (each m bs nothing w s)
+  alone-least m NoMore w s = zero-least 0
+  alone-least m (More b bs) w s =
+      alone-step (least_body b).fixed (least_body b).times (size (seq m None b nothing (filter (occurs_body m.reading b) w) s s)) (least_alone bs) (sizes (each m bs nothing w s))
+      (seq-least m None b nothing (filter (occurs_body m.reading b) w) s s 0 (λ u. zero-least _) (zero-least 0)) (alone-least m bs w s)
 
-    choices-least : (bs : Bodies) (earlier : List Plain) (k : Follow) (w s : List Var) (n : ℕ) → ((u : List Var) → n ≤ size (k.at u)) → Counts k.start n
-        → count bs * joined_sizes earlier + ((least_choices bs).fixed + (least_choices bs).times * n) ≤ sizes (choices earlier (each m bs k w s) (each m bs nothing w s))
-    choices-least NoMore earlier k w s n g z = omega arith
-    choices-least (More b bs) earlier k w s n g z =
-        let own_vars = filter (occurs_body m.reading b) w in
-        let followed = seq m None b k own_vars s s in
-        let alone = seq m None b nothing own_vars s s in
-        branch-step (count bs) (joined_sizes earlier) (joined_sizes (earlier ++ Not alone ∷ [])) (least_body b).fixed (least_body b).times n
-        (least_choices bs).fixed (least_choices bs).times (size followed) (size alone) (size (and_all followed earlier))
-        (sizes (choices (earlier ++ Not alone ∷ []) (each m bs k w s) (each m bs nothing w s)))
-        (seq-least None b k own_vars s s n g z)
-        (seq-least None b nothing own_vars s s 0 (λ u. zero-least _) (zero-least 0))
-        (and-sizes followed earlier)
-        (one-more earlier alone)
-        (choices-least bs (earlier ++ Not alone ∷ []) k w s n g z)
+  choices-least : (m : Setting) (bs : Bodies) (earlier : List Plain) (k : Follow) (w s : List Var) (n : ℕ) → ((u : List Var) → n ≤ size (k.at u)) → Counts k.start n
+      → count bs * joined_sizes earlier + ((least_choices bs).fixed + (least_choices bs).times * n) ≤ sizes (choices earlier (each m bs k w s) (each m bs nothing w s))
+  choices-least m NoMore earlier k w s n g z = omega arith
+  choices-least m (More b bs) earlier k w s n g z =
+      let own_vars = filter (occurs_body m.reading b) w in
+      let followed = seq m None b k own_vars s s in
+      let alone = seq m None b nothing own_vars s s in
+      branch-step (count bs) (joined_sizes earlier) (joined_sizes (earlier ++ Not alone ∷ [])) (least_body b).fixed (least_body b).times n
+      (least_choices bs).fixed (least_choices bs).times (size followed) (size alone) (size (and_all followed earlier))
+      (sizes (choices (earlier ++ Not alone ∷ []) (each m bs k w s) (each m bs nothing w s)))
+      (seq-least m None b k own_vars s s n g z)
+      (seq-least m None b nothing own_vars s s 0 (λ u. zero-least _) (zero-least 0))
+      (and-sizes followed earlier)
+      (one-more earlier alone)
+      (choices-least m bs (earlier ++ Not alone ∷ []) k w s n g z)
 
-    first-least : (bs : Bodies) (k : Follow) (w s : List Var) (n : ℕ) → ((u : List Var) → n ≤ size (k.at u)) → Counts k.start n
-        → (least_first bs).fixed + (least_first bs).times * n ≤ size (first_and m bs k w s)
-    first-least NoMore k w s n g z = none-step n (size (k.at s)) (g s)
-    first-least (More b bs) k w s n g z =
-        let own_vars = filter (occurs_body m.reading b) w in
-        let f = seq m None b k own_vars s s in
-        let others = each m bs nothing w s in
-        first-step (least_body b).fixed (least_body b).times n (size f) (least_alone bs) (sizes others) (joined_sizes others) (size (and_all f others))
-        (seq-least None b k own_vars s s n g z) (alone-least bs w s) (joined-more others) (and-sizes f others)
+  first-least : (m : Setting) (bs : Bodies) (k : Follow) (w s : List Var) (n : ℕ) → ((u : List Var) → n ≤ size (k.at u)) → Counts k.start n
+      → (least_first bs).fixed + (least_first bs).times * n ≤ size (first_and m bs k w s)
+  first-least m NoMore k w s n g z = none-step n (size (k.at s)) (g s)
+  first-least m (More b bs) k w s n g z =
+      let own_vars = filter (occurs_body m.reading b) w in
+      let f = seq m None b k own_vars s s in
+      let others = each m bs nothing w s in
+      first-step (least_body b).fixed (least_body b).times n (size f) (least_alone bs) (sizes others) (joined_sizes others) (size (and_all f others))
+      (seq-least m None b k own_vars s s n g z) (alone-least m bs w s) (joined-more others) (and-sizes f others)
 
-    whens-least : (ws : Bodies) (s : List Var) → least_alone ws ≤ sizes (when_parts m ws s)
-    whens-least NoMore s = zero-least 0
-    whens-least (More b ws) s =
-        let alone = lone m b in
-        let f = seq m None b nothing [] (s ++ alone) (s ++ alone) in
-        whens-step (least_body b).fixed (least_body b).times (size f) (size (exists_all alone f)) (least_alone ws) (sizes (when_parts m ws s))
-        (seq-least None b nothing [] (s ++ alone) (s ++ alone) 0 (λ u. zero-least _) (zero-least 0))
-        (exists-least alone f (size f) (same-least (size f))) (whens-least ws s)
+  whens-least : (m : Setting) (ws : Bodies) (s : List Var) → least_alone ws ≤ sizes (when_parts m ws s)
+  whens-least m NoMore s = zero-least 0
+  whens-least m (More b ws) s =
+      let alone = lone m b in
+      let f = seq m None b nothing [] (s ++ alone) (s ++ alone) in
+      whens-step (least_body b).fixed (least_body b).times (size f) (size (exists_all alone f)) (least_alone ws) (sizes (when_parts m ws s))
+      (seq-least m None b nothing [] (s ++ alone) (s ++ alone) 0 (λ u. zero-least _) (zero-least 0))
+      (exists-least alone f (size f) (same-least (size f))) (whens-least m ws s)
 
 over-limit : (f : Plain) → 100000 < size f → fits f ≡ false
 over-limit f h = ap (λ z. z && nat_le (depth f) most_around) (lt-leb (size f) 100000 h)

@@ -108,7 +108,8 @@ read decls tokens = record { stands = patterns.stands decls tokens; used = patte
 -- the formula of a rule's parts
 abbrev pub whole : List VarDecl → List PatToken → Bool → List Var → List Var → List ℕ → List Elem → List Var → List Var → Plain
 whole decls tokens forall_walks locals alone bs es w s =
-    let m : table.Setting = record { reading = read decls tokens; forall_walks = forall_walks; locals = locals; alone = alone; blocks = bs } in
+    let m : table.Setting =
+    record { reading = read decls tokens; forall_walks = forall_walks; locals = locals; alone = alone; blocks = bs; around = None } in
     table.seq m None (body es) table.nothing w s s
 
 pub rule-formula : (r : Rule) (decls : List VarDecl) (tokens : List PatToken) (forall_walks : Bool) (locals alone : List Var) (bs : List ℕ) (es : List Elem) (w s : List Var)

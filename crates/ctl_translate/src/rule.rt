@@ -189,6 +189,7 @@ fn root_of(
         locals,
         alone: &found.alone,
         blocks: &blocks,
+        around: None,
     };
     let around = Scope::none(alloc)?;
     sequence(alloc, parts, &m, b, &Made::Nothing, placed, &around)

@@ -10,7 +10,8 @@ use Rattle.smpl_patch.specs.declared.pattern.Pattern.{Pattern}
 use Rattle.smpl_patch.specs.declared.rule.Iso.{Iso}
 use Rattle.smpl_patch.specs.declared.rule.Rule.{Rule}
 use Rattle.smpl_patch.specs.Patterns.{sure, stands}
-use Rattle.ctl_formula.specs.Plain.{Plain, True, Atom, Bail, Exit, BraceOpen, BraceClose, Not, And, Or, AX, EX, AU, EU, Past, Down, Exists}
+use Rattle.ctl_formula.specs.Plain.{Plain, True, Atom, Bail, BraceOpen, BraceClose, Inside, Outside, Not, And, Or, AX, EX}
+use Rattle.ctl_formula.specs.Plain.{AU, EU, Past, Down, Exists}
 use Rattle.ctl_formula.specs.Bounds.{bound}
 use Rattle.ctl_holds.specs.Parts.{EachPattern}
 use Rattle.ctl_holds.specs.BoundLaw.{SureStand}
@@ -29,9 +30,10 @@ each-expanded : (isos : List Iso) (tokens : List PatToken) (P : Pattern → Type
 each-expanded isos tokens P g True h = tt
 each-expanded isos tokens P g (Atom p) h = g p h
 each-expanded isos tokens P g Bail h = tt
-each-expanded isos tokens P g Exit h = tt
 each-expanded isos tokens P g (BraceOpen p b) h = g p h
 each-expanded isos tokens P g (BraceClose p b) h = g p h
+each-expanded isos tokens P g (Inside b) h = tt
+each-expanded isos tokens P g (Outside b) h = tt
 each-expanded isos tokens P g (Not f) h = each-expanded isos tokens P g f h
 each-expanded isos tokens P g (And f k) h = (each-expanded isos tokens P g f h.0, each-expanded isos tokens P g k h.1)
 each-expanded isos tokens P g (Or f k) h = (each-expanded isos tokens P g f h.0, each-expanded isos tokens P g k h.1)

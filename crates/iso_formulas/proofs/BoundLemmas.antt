@@ -6,7 +6,8 @@ use Rattle.smpl_terms.specs.Vars.{same_var}
 use Rattle.smpl_patch.specs.declared.pattern.PatToken.{PatToken}
 use Rattle.smpl_patch.specs.declared.pattern.Pattern.{Pattern}
 use Rattle.smpl_patch.specs.declared.rule.Iso.{Iso}
-use Rattle.ctl_formula.specs.Plain.{Plain, True, Atom, Bail, Exit, BraceOpen, BraceClose, Not, And, Or, AX, EX, AU, EU, Past, Down, Exists}
+use Rattle.ctl_formula.specs.Plain.{Plain, True, Atom, Bail, BraceOpen, BraceClose, Inside, Outside, Not, And, Or, AX}
+use Rattle.ctl_formula.specs.Plain.{EX, AU, EU, Past, Down, Exists}
 use Rattle.ctl_formula.specs.Plain.{size, depth, most_parts, most_around, fits}
 use Rattle.ctl_formula.specs.Bounds.{Surely, bound, bound_not, guarded_for}
 use Rattle.iso_expand.specs.Bodies.{expanded_pattern}
@@ -26,9 +27,10 @@ module _ (isos : List Iso) (tokens : List PatToken) where
   size-same True = refl
   size-same (Atom p) = refl
   size-same Bail = refl
-  size-same Exit = refl
   size-same (BraceOpen p b) = refl
   size-same (BraceClose p b) = refl
+  size-same (Inside b) = refl
+  size-same (Outside b) = refl
   size-same (Not f) = ap (λ (n : ℕ). 1 + n) (size-same f)
   size-same (And f g) = ap₂ one-more (size-same f) (size-same g)
   size-same (Or f g) = ap₂ one-more (size-same f) (size-same g)
@@ -44,9 +46,10 @@ module _ (isos : List Iso) (tokens : List PatToken) where
   depth-same True = refl
   depth-same (Atom p) = refl
   depth-same Bail = refl
-  depth-same Exit = refl
   depth-same (BraceOpen p b) = refl
   depth-same (BraceClose p b) = refl
+  depth-same (Inside b) = refl
+  depth-same (Outside b) = refl
   depth-same (Not f) = ap (λ (n : ℕ). 1 + n) (depth-same f)
   depth-same (And f g) = ap₂ deeper (depth-same f) (depth-same g)
   depth-same (Or f g) = ap₂ deeper (depth-same f) (depth-same g)
@@ -67,9 +70,10 @@ module _ (isos : List Iso) (tokens : List PatToken) where
       bound-same True x = refl
       bound-same (Atom p) x = same p x
       bound-same Bail x = refl
-      bound-same Exit x = refl
       bound-same (BraceOpen p b) x = ap (λ (z : Bool). z || same_var b x) (same p x)
       bound-same (BraceClose p b) x = ap (λ (z : Bool). z || same_var b x) (same p x)
+      bound-same (Inside b) x = refl
+      bound-same (Outside b) x = refl
       bound-same (Not f) x = unbound-same f x
       bound-same (And f g) x = ap₂ (λ (y z : Bool). y || z) (bound-same f x) (bound-same g x)
       bound-same (Or f g) x = ap₂ (λ (y z : Bool). y && z) (bound-same f x) (bound-same g x)
@@ -85,9 +89,10 @@ module _ (isos : List Iso) (tokens : List PatToken) where
       unbound-same True x = refl
       unbound-same (Atom p) x = refl
       unbound-same Bail x = refl
-      unbound-same Exit x = refl
       unbound-same (BraceOpen p b) x = refl
       unbound-same (BraceClose p b) x = refl
+      unbound-same (Inside b) x = refl
+      unbound-same (Outside b) x = refl
       unbound-same (Not f) x = bound-same f x
       unbound-same (And f g) x = ap₂ (λ (y z : Bool). y && z) (unbound-same f x) (unbound-same g x)
       unbound-same (Or f g) x = ap₂ (λ (y z : Bool). y || z) (unbound-same f x) (unbound-same g x)
@@ -103,9 +108,10 @@ module _ (isos : List Iso) (tokens : List PatToken) where
     guarded-same x True = refl
     guarded-same x (Atom p) = refl
     guarded-same x Bail = refl
-    guarded-same x Exit = refl
     guarded-same x (BraceOpen p b) = refl
     guarded-same x (BraceClose p b) = refl
+    guarded-same x (Inside b) = refl
+    guarded-same x (Outside b) = refl
     guarded-same x (Not f) = guarded-same x f
     guarded-same x (And f g) = ap₂ (λ (y z : Bool). y && z) (guarded-same x f) (guarded-same x g)
     guarded-same x (Or f g) = ap₂ (λ (y z : Bool). y && z) (guarded-same x f) (guarded-same x g)

@@ -3,9 +3,9 @@ use Rattle.std.proofs.Common.{◌≡◌, ℕ, suc, Bool, true, false, cond, refl
 use Rattle.smpl_terms.specs.declared.var.Var.{Var}
 use Rattle.smpl_patch.specs.declared.pattern.PatToken.{PatToken}
 use Rattle.smpl_patch.specs.declared.rule.Iso.{Iso}
-use Rattle.ctl_formula.specs.Plain.{Plain, Not, And, Or, EU, Down, Exists}
+use Rattle.ctl_formula.specs.Plain.{Plain, Inside, Not, And, Or, EU, Down, Exists}
 use Rattle.ctl_table.specs.Table.{Start, Nothing, Brace, Dots, Other, exists_all, and_all, or_all, all_of, any_of, or_some}
-use Rattle.ctl_table.specs.Table.{option_list, nots, joined, target, until, nested, condition, downs, choices}
+use Rattle.ctl_table.specs.Table.{option_list, nots, joined, target, stays, until, nested, condition, downs, choices}
 use Rattle.iso_formulas.specs.Formulas.{expanded_formula}
 
 pub map-append : {A B : Type 0} (f : A → B) (xs ys : List A) → map f (xs ++ ys) ≡ map f xs ++ map f ys
@@ -65,11 +65,16 @@ module _ (isos : List Iso) (tokens : List PatToken) where
   joined-image forall_walks statement f Brace g = refl
   joined-image forall_walks statement f Other g = refl
 
-  pub target-image : (s : Start) (f : Plain) → target s (F f) ≡ F (target s f)
-  target-image Brace f = refl
-  target-image Nothing f = refl
-  target-image Dots f = refl
-  target-image Other f = refl
+  pub target-image : (o : Option Var) (s : Start) (f : Plain) → target o s (F f) ≡ F (target o s f)
+  target-image None s f = refl
+  target-image (Some b) Brace f = refl
+  target-image (Some b) Nothing f = refl
+  target-image (Some b) Dots f = refl
+  target-image (Some b) Other f = refl
+
+  pub firsts-image : (o : Option Var) (fs gs : List Plain) → fs ≡ map F gs → stays o ++ fs ≡ map F (stays o ++ gs)
+  firsts-image None fs gs e = e
+  firsts-image (Some b) fs gs e = ap (λ (z : List Plain). Inside b ∷ z) e
 
   pub until-image : (forall_walks strict : Bool) (d t : Plain) → until forall_walks strict (F d) (F t) ≡ F (until forall_walks strict d t)
   until-image false strict d t = refl

@@ -13,7 +13,7 @@ use Rattle.var_places.specs.Placing.{Reading, any_body, occurs_element, occurs_b
 use Rattle.ctl_table.specs.Blocks.{blocks}
 use Rattle.ctl_table.specs.Table.{Setting, Follow, Start, Dots, Other, nothing, start_of, first_of, in_scope}
 use Rattle.ctl_table.specs.Table.{exists_all, and_all, any_of, or_some, option_list, own, copy, hidden, near}
-use Rattle.ctl_table.specs.Table.{near_body, near_each, near_first, near_option, is_end, joined, target, until, nested}
+use Rattle.ctl_table.specs.Table.{near_body, near_each, near_first, near_option, is_end, joined, target, stays, within, until, nested}
 use Rattle.ctl_table.specs.Table.{condition, lone, closing, with_tail, downs, choices, seq, elem, each, first_and, when_parts}
 use Rattle.ctl_table.specs.Table.{setting, formula}
 use Rattle.iso_expand.specs.Bodies.{expanded_pattern, expanded_option, expanded_element, expanded_body, expanded_bodies}
@@ -21,7 +21,7 @@ use Rattle.iso_formulas.specs.Formulas.{expanded_formula}
 use Rattle.iso_formulas.proofs.PlacingLemmas.{filter-same, dots-same, blocks-same, Agree}
 use Rattle.iso_formulas.proofs.PlacingLemmas as placing
 use Rattle.iso_formulas.proofs.ImageLemmas.{map-append, expanded_some, exists-image, and-image, any-image, some-image, list-image, choice-image}
-use Rattle.iso_formulas.proofs.ImageLemmas.{joined-image, target-image, until-image, nested-image, condition-image, downs-image, choices-image}
+use Rattle.iso_formulas.proofs.ImageLemmas.{joined-image, target-image, firsts-image, until-image, nested-image, condition-image, downs-image, choices-image}
 
 module _ (isos : List Iso) (tokens : List PatToken) where
   abbrev X : Pattern → Pattern
@@ -73,9 +73,20 @@ module _ (isos : List Iso) (tokens : List PatToken) where
   nested-same forall_walks plus strict {d} {e} {p} {q} {t} {u} e1 e2 e3 =
       ap₂ (λ (x y : Plain). nested forall_walks plus strict x y t) e1 e2 ∙ ap (λ (x : Plain). nested forall_walks plus strict e q x) e3
 
+  -- the same setting, in which patterns are read so
+  abbrev reread : Reading → Setting → Setting
+  reread read m = record {
+    reading = read;
+    forall_walks = m.forall_walks;
+    locals = m.locals;
+    alone = m.alone;
+    blocks = m.blocks;
+    around = m.around;
+  }
+
   module _ (m : Setting) (read : Reading) (agree : Agree isos tokens m.reading read) where
     abbrev n : Setting
-    n = record { reading = read; forall_walks = m.forall_walks; locals = m.locals; alone = m.alone; blocks = m.blocks }
+    n = reread read m
 
     own-image : (w : List Var) (p : Pattern) (f : Plain) → own n w (X p) (F f) ≡ F (own m w p f)
     own-image w p f =
@@ -162,117 +173,124 @@ module _ (isos : List Iso) (tokens : List PatToken) where
         ∙ filter-same (λ x. not (occurs_element read (XE e) x)) (λ x. not (occurs_element m.reading e x))
         (λ x. ap not (placing.occurs-element isos tokens m.reading read agree e x)) v
 
-    mutual
-      seq-image : (before : Option Element) (b : Body) (k l : Follow) (w s t : List Var) → l.start ≡ k.start
-          → ((u : List Var) → l.at u ≡ F (k.at u)) → seq n (XO before) (XB b) l w s t ≡ F (seq m before b k w s t)
-      seq-image before End k l w s t e g = g t
-      seq-image before (Then e rest) k l w s t h g =
-          let here = filter (at_suffix m.reading e rest) w in
-          let inside = filter (λ x. not (at_suffix m.reading e rest x)) w in
-          let later = filter (λ x. not (occurs_element m.reading e x)) inside in
-          let part = filter (occurs_element m.reading e) inside in
-          let new_here = filter (at_suffix read (XE e) (XB rest)) w in
-          let new_inside = filter (λ x. not (at_suffix read (XE e) (XB rest) x)) w in
-          let new_later = filter (λ x. not (occurs_element read (XE e) x)) new_inside in
-          let new_part = filter (occurs_element read (XE e)) new_inside in
-          let follow : Follow = record { start = start_of rest k.start; at = λ u. seq m (Some e) rest k later (s ++ here) u } in
-          let new_follow : Follow =
-          record { start = start_of (XB rest) l.start; at = λ u. seq n (Some (XE e)) (XB rest) l later (s ++ here) u } in
-          ap (λ (hs : List Var).
-          exists_all hs
-          (elem n (XO before) (first_of (XB rest)) (XE e)
-          (record { start = start_of (XB rest) l.start; at = λ u. seq n (Some (XE e)) (XB rest) l new_later (s ++ hs) u })
-          new_part (s ++ hs) (t ++ hs)))
-          (here-same e rest w)
-          ∙ ap (λ (ls : List Var).
-          exists_all here
-          (elem n (XO before) (first_of (XB rest)) (XE e)
-          (record { start = start_of (XB rest) l.start; at = λ u. seq n (Some (XE e)) (XB rest) l ls (s ++ here) u })
-          new_part (s ++ here) (t ++ here)))
-          (later-same e new_inside inside (rest-same e rest w))
-          ∙ ap₂ (λ (a : Option Element) (ps : List Var). exists_all here (elem n (XO before) a (XE e) new_follow ps (s ++ here) (t ++ here)))
-          (first-same rest) (part-same e new_inside inside (rest-same e rest w))
-          ∙ ap (exists_all here)
-          (elem-image before (first_of rest) e follow new_follow part (s ++ here) (t ++ here) (start-same rest k.start l.start h)
-          (λ u. seq-image (Some e) rest k l later (s ++ here) u h g))
-          ∙ exists-image isos tokens here (elem m before (first_of rest) e follow part (s ++ here) (t ++ here))
+  mutual
+    seq-image : (m : Setting) (read : Reading) (agree : Agree isos tokens m.reading read)
+        (before : Option Element) (b : Body) (k l : Follow) (w s t : List Var) → l.start ≡ k.start
+        → ((u : List Var) → l.at u ≡ F (k.at u)) → seq (reread read m) (XO before) (XB b) l w s t ≡ F (seq m before b k w s t)
+    seq-image m read agree before End k l w s t e g = g t
+    seq-image m read agree before (Then e rest) k l w s t h g =
+        let here = filter (at_suffix m.reading e rest) w in
+        let inside = filter (λ x. not (at_suffix m.reading e rest x)) w in
+        let later = filter (λ x. not (occurs_element m.reading e x)) inside in
+        let part = filter (occurs_element m.reading e) inside in
+        let new_here = filter (at_suffix read (XE e) (XB rest)) w in
+        let new_inside = filter (λ x. not (at_suffix read (XE e) (XB rest) x)) w in
+        let new_later = filter (λ x. not (occurs_element read (XE e) x)) new_inside in
+        let new_part = filter (occurs_element read (XE e)) new_inside in
+        let follow : Follow = record { start = start_of rest k.start; at = λ u. seq m (Some e) rest k later (s ++ here) u } in
+        let new_follow : Follow =
+        record { start = start_of (XB rest) l.start; at = λ u. seq (reread read m) (Some (XE e)) (XB rest) l later (s ++ here) u } in
+        ap (λ (hs : List Var).
+        exists_all hs
+        (elem (reread read m) (XO before) (first_of (XB rest)) (XE e)
+        (record { start = start_of (XB rest) l.start; at = λ u. seq (reread read m) (Some (XE e)) (XB rest) l new_later (s ++ hs) u })
+        new_part (s ++ hs) (t ++ hs)))
+        (here-same m read agree e rest w)
+        ∙ ap (λ (ls : List Var).
+        exists_all here
+        (elem (reread read m) (XO before) (first_of (XB rest)) (XE e)
+        (record { start = start_of (XB rest) l.start; at = λ u. seq (reread read m) (Some (XE e)) (XB rest) l ls (s ++ here) u })
+        new_part (s ++ here) (t ++ here)))
+        (later-same m read agree e new_inside inside (rest-same m read agree e rest w))
+        ∙ ap₂ (λ (a : Option Element) (ps : List Var). exists_all here (elem (reread read m) (XO before) a (XE e) new_follow ps (s ++ here) (t ++ here)))
+        (first-same rest) (part-same m read agree e new_inside inside (rest-same m read agree e rest w))
+        ∙ ap (exists_all here)
+        (elem-image m read agree before (first_of rest) e follow new_follow part (s ++ here) (t ++ here) (start-same rest k.start l.start h)
+        (λ u. seq-image m read agree (Some e) rest k l later (s ++ here) u h g))
+        ∙ exists-image isos tokens here (elem m before (first_of rest) e follow part (s ++ here) (t ++ here))
 
-      elem-image : (before after : Option Element) (e : Element) (k l : Follow) (w s t : List Var) → l.start ≡ k.start
-          → ((u : List Var) → l.at u ≡ F (k.at u)) → elem n (XO before) (XO after) (XE e) l w s t ≡ F (elem m before after e k w s t)
-      elem-image before after (bodies.Atom p) k l w s t h g =
-          joined-same m.forall_walks (agree.statement p) (own-image w p (Atom p)) h (g s)
-          ∙ joined-image isos tokens m.forall_walks (m.reading.is_statement p) (own m w p (Atom p)) k.start (k.at s)
-      elem-image before after (Compound p bs tail) k l w s t h g =
-          let head = own m w p (Atom p) in
-          let parts = each m bs nothing w s in
-          ap₂ (λ (f q : Plain). And f (Past q))
-          (ap (with_tail n w (expanded_option isos tokens tail))
-          (ap₂ (λ (f : Plain) (fs : List Plain). and_all f (downs 0 fs)) (own-image w p (Atom p))
-          (each-image bs nothing nothing w s refl (λ u. refl))
-          ∙ ap (and_all (F head)) (downs-image isos tokens 0 parts)
-          ∙ and-image isos tokens head (downs 0 parts))
-          ∙ tail-image w tail (and_all head (downs 0 parts)))
-          (g s)
-      elem-image before after (Block p b c) k l w s t h g =
-          let v = hidden m p in
-          let part = filter (occurs_body m.reading b) w in
-          ap₂ (λ (f q : Plain). And f (Past q))
-          (ap₂ (λ (f q : Plain). Exists v (And f (Down 0 q))) (own-image w p (BraceOpen p v))
-          (ap (λ (vs : List Var). seq n None (XB b) (closing n w (X c) v) vs s s) (inner-same b w)
-          ∙ seq-image None b (closing m w c v) (closing n w (X c) v) part s s refl (λ u. own-image w c (BraceClose c v))))
-          (g s)
-      elem-image before after (Gap ws any strict) k l w s t h g =
-          let passed = condition any (when_parts m ws s) (near_option m true before t) (near_option m false after s) in
-          ap₂ (until m.forall_walks strict)
-          (condition-same any (when-image ws s) (near-option true before t) (near-option false after s)
-          ∙ condition-image isos tokens any (when_parts m ws s) (near_option m true before t) (near_option m false after s))
-          (ap₂ target h (g s) ∙ target-image isos tokens k.start (k.at s))
-          ∙ until-image isos tokens m.forall_walks strict passed (target k.start (k.at s))
-      elem-image before after (Nest plus b ws any strict) k l w s t h g =
-          let passed = condition any (when_parts m ws s) (near_option m true before t) (near_option m false after s) in
-          let part = filter (occurs_body m.reading b) w in
-          nested-same m.forall_walks plus strict
-          (condition-same any (when-image ws s) (near-option true before t) (near-option false after s)
-          ∙ condition-image isos tokens any (when_parts m ws s) (near_option m true before t) (near_option m false after s))
-          (ap (λ (vs : List Var). seq n None (XB b) nothing vs s s) (inner-same b w)
-          ∙ seq-image None b nothing nothing part s s refl (λ u. refl))
-          (ap₂ target h (g s) ∙ target-image isos tokens k.start (k.at s))
-          ∙ nested-image isos tokens m.forall_walks plus strict passed (seq m None b nothing part s s) (target k.start (k.at s))
-      elem-image before after (AnyOf bs) k l w s t h g =
-          ap₂ (λ (fs gs : List Plain). any_of (choices [] fs gs)) (each-image bs k l w s h g)
-          (each-image bs nothing nothing w s refl (λ u. refl))
-          ∙ ap any_of (choices-image isos tokens [] (each m bs k w s) (each m bs nothing w s))
-          ∙ any-image isos tokens (choices [] (each m bs k w s) (each m bs nothing w s))
-      elem-image before after (AllOf bs) k l w s t h g = first-image bs k l w s h g
+    elem-image : (m : Setting) (read : Reading) (agree : Agree isos tokens m.reading read)
+        (before after : Option Element) (e : Element) (k l : Follow) (w s t : List Var) → l.start ≡ k.start
+        → ((u : List Var) → l.at u ≡ F (k.at u)) → elem (reread read m) (XO before) (XO after) (XE e) l w s t ≡ F (elem m before after e k w s t)
+    elem-image m read agree before after (bodies.Atom p) k l w s t h g =
+        joined-same m.forall_walks (agree.statement p) (own-image m read agree w p (Atom p)) h (g s)
+        ∙ joined-image isos tokens m.forall_walks (m.reading.is_statement p) (own m w p (Atom p)) k.start (k.at s)
+    elem-image m read agree before after (Compound p bs tail) k l w s t h g =
+        let head = own m w p (Atom p) in
+        let parts = each m bs nothing w s in
+        ap₂ (λ (f q : Plain). And f (Past q))
+        (ap (with_tail (reread read m) w (expanded_option isos tokens tail))
+        (ap₂ (λ (f : Plain) (fs : List Plain). and_all f (downs 0 fs)) (own-image m read agree w p (Atom p))
+        (each-image m read agree bs nothing nothing w s refl (λ u. refl))
+        ∙ ap (and_all (F head)) (downs-image isos tokens 0 parts)
+        ∙ and-image isos tokens head (downs 0 parts))
+        ∙ tail-image m read agree w tail (and_all head (downs 0 parts)))
+        (g s)
+    elem-image m read agree before after (Block p b c) k l w s t h g =
+        let v = hidden m p in
+        let part = filter (occurs_body m.reading b) w in
+        ap₂ (λ (f q : Plain). And f (Past q))
+        (ap₂ (λ (f q : Plain). Exists v (And f (Down 0 q))) (own-image m read agree w p (BraceOpen p v))
+        (ap (λ (vs : List Var). seq (reread read (within m v)) None (XB b) (closing (reread read m) w (X c) v) vs s s) (inner-same m read agree b w)
+        ∙ seq-image (within m v) read agree None b (closing m w c v) (closing (reread read m) w (X c) v) part s s refl (λ u. own-image m read agree w c (BraceClose c v))))
+        (g s)
+    elem-image m read agree before after (Gap ws any strict) k l w s t h g =
+        let passed = condition any (stays m.around ++ when_parts m ws s) (near_option m true before t) (near_option m false after s) in
+        ap₂ (until m.forall_walks strict)
+        (condition-same any (firsts-image isos tokens m.around (when_parts (reread read m) (XS ws) s) (when_parts m ws s) (when-image m read agree ws s))
+        (near-option m read agree true before t) (near-option m read agree false after s)
+        ∙ condition-image isos tokens any (stays m.around ++ when_parts m ws s) (near_option m true before t) (near_option m false after s))
+        (ap₂ (target m.around) h (g s) ∙ target-image isos tokens m.around k.start (k.at s))
+        ∙ until-image isos tokens m.forall_walks strict passed (target m.around k.start (k.at s))
+    elem-image m read agree before after (Nest plus b ws any strict) k l w s t h g =
+        let passed = condition any (stays m.around ++ when_parts m ws s) (near_option m true before t) (near_option m false after s) in
+        let part = filter (occurs_body m.reading b) w in
+        nested-same m.forall_walks plus strict
+        (condition-same any (firsts-image isos tokens m.around (when_parts (reread read m) (XS ws) s) (when_parts m ws s) (when-image m read agree ws s))
+        (near-option m read agree true before t) (near-option m read agree false after s)
+        ∙ condition-image isos tokens any (stays m.around ++ when_parts m ws s) (near_option m true before t) (near_option m false after s))
+        (ap (λ (vs : List Var). seq (reread read m) None (XB b) nothing vs s s) (inner-same m read agree b w)
+        ∙ seq-image m read agree None b nothing nothing part s s refl (λ u. refl))
+        (ap₂ (target m.around) h (g s) ∙ target-image isos tokens m.around k.start (k.at s))
+        ∙ nested-image isos tokens m.forall_walks plus strict passed (seq m None b nothing part s s) (target m.around k.start (k.at s))
+    elem-image m read agree before after (AnyOf bs) k l w s t h g =
+        ap₂ (λ (fs gs : List Plain). any_of (choices [] fs gs)) (each-image m read agree bs k l w s h g)
+        (each-image m read agree bs nothing nothing w s refl (λ u. refl))
+        ∙ ap any_of (choices-image isos tokens [] (each m bs k w s) (each m bs nothing w s))
+        ∙ any-image isos tokens (choices [] (each m bs k w s) (each m bs nothing w s))
+    elem-image m read agree before after (AllOf bs) k l w s t h g = first-image m read agree bs k l w s h g
 
-      each-image : (bs : Bodies) (k l : Follow) (w s : List Var) → l.start ≡ k.start → ((u : List Var) → l.at u ≡ F (k.at u))
-          → each n (XS bs) l w s ≡ map F (each m bs k w s)
-      each-image NoMore k l w s h g = refl
-      each-image (More b bs) k l w s h g =
-          ap₂ (λ (f : Plain) (fs : List Plain). f ∷ fs)
-          (ap (λ (vs : List Var). seq n None (XB b) l vs s s) (inner-same b w)
-          ∙ seq-image None b k l (filter (occurs_body m.reading b) w) s s h g)
-          (each-image bs k l w s h g)
+    each-image : (m : Setting) (read : Reading) (agree : Agree isos tokens m.reading read)
+        (bs : Bodies) (k l : Follow) (w s : List Var) → l.start ≡ k.start → ((u : List Var) → l.at u ≡ F (k.at u))
+        → each (reread read m) (XS bs) l w s ≡ map F (each m bs k w s)
+    each-image m read agree NoMore k l w s h g = refl
+    each-image m read agree (More b bs) k l w s h g =
+        ap₂ (λ (f : Plain) (fs : List Plain). f ∷ fs)
+        (ap (λ (vs : List Var). seq (reread read m) None (XB b) l vs s s) (inner-same m read agree b w)
+        ∙ seq-image m read agree None b k l (filter (occurs_body m.reading b) w) s s h g)
+        (each-image m read agree bs k l w s h g)
 
-      first-image : (bs : Bodies) (k l : Follow) (w s : List Var) → l.start ≡ k.start → ((u : List Var) → l.at u ≡ F (k.at u))
-          → first_and n (XS bs) l w s ≡ F (first_and m bs k w s)
-      first-image NoMore k l w s h g = g s
-      first-image (More b bs) k l w s h g =
-          let part = filter (occurs_body m.reading b) w in
-          ap₂ and_all
-          (ap (λ (vs : List Var). seq n None (XB b) l vs s s) (inner-same b w) ∙ seq-image None b k l part s s h g)
-          (each-image bs nothing nothing w s refl (λ u. refl))
-          ∙ and-image isos tokens (seq m None b k part s s) (each m bs nothing w s)
+    first-image : (m : Setting) (read : Reading) (agree : Agree isos tokens m.reading read)
+        (bs : Bodies) (k l : Follow) (w s : List Var) → l.start ≡ k.start → ((u : List Var) → l.at u ≡ F (k.at u))
+        → first_and (reread read m) (XS bs) l w s ≡ F (first_and m bs k w s)
+    first-image m read agree NoMore k l w s h g = g s
+    first-image m read agree (More b bs) k l w s h g =
+        let part = filter (occurs_body m.reading b) w in
+        ap₂ and_all
+        (ap (λ (vs : List Var). seq (reread read m) None (XB b) l vs s s) (inner-same m read agree b w) ∙ seq-image m read agree None b k l part s s h g)
+        (each-image m read agree bs nothing nothing w s refl (λ u. refl))
+        ∙ and-image isos tokens (seq m None b k part s s) (each m bs nothing w s)
 
-      when-image : (ws : Bodies) (s : List Var) → when_parts n (XS ws) s ≡ map F (when_parts m ws s)
-      when-image NoMore s = refl
-      when-image (More w ws) s =
-          let alone = lone m w in
-          ap₂ (λ (f : Plain) (fs : List Plain). Not f ∷ fs)
-          (ap (λ (vs : List Var). exists_all vs (seq n None (XB w) nothing [] (s ++ vs) (s ++ vs))) (lone-same w)
-          ∙ ap (exists_all alone) (seq-image None w nothing nothing [] (s ++ alone) (s ++ alone) refl (λ u. refl))
-          ∙ exists-image isos tokens alone (seq m None w nothing [] (s ++ alone) (s ++ alone)))
-          (when-image ws s)
+    when-image : (m : Setting) (read : Reading) (agree : Agree isos tokens m.reading read)
+        (ws : Bodies) (s : List Var) → when_parts (reread read m) (XS ws) s ≡ map F (when_parts m ws s)
+    when-image m read agree NoMore s = refl
+    when-image m read agree (More w ws) s =
+        let alone = lone m w in
+        ap₂ (λ (f : Plain) (fs : List Plain). Not f ∷ fs)
+        (ap (λ (vs : List Var). exists_all vs (seq (reread read m) None (XB w) nothing [] (s ++ vs) (s ++ vs))) (lone-same m read agree w)
+        ∙ ap (exists_all alone) (seq-image m read agree None w nothing nothing [] (s ++ alone) (s ++ alone) refl (λ u. refl))
+        ∙ exists-image isos tokens alone (seq m None w nothing [] (s ++ alone) (s ++ alone)))
+        (when-image m read agree ws s)
 
   -- the formula of a body
   pub formula-image : (r s : Reading) → Agree isos tokens r s → (forall_walks : Bool) (locals : List Var) (b : Body)
@@ -282,11 +300,11 @@ module _ (isos : List Iso) (tokens : List PatToken) where
       let vars = filter (λ x. not (is_alone r b x)) locals in
       let new_vars = filter (λ x. not (is_alone s (XB b) x)) locals in
       ap (λ (vs : List Var).
-      seq (record { reading = s; forall_walks = forall_walks; locals = locals; alone = vs; blocks = blocks (XB b) }) None (XB b) nothing
+      seq (record { reading = s; forall_walks = forall_walks; locals = locals; alone = vs; blocks = blocks (XB b); around = None }) None (XB b) nothing
       new_vars [] [])
       (filter-same (is_alone s (XB b)) (is_alone r b) (λ x. placing.alone-same isos tokens r s agree b x) locals)
       ∙ ap₂ (λ (ns : List ℕ) (vs : List Var).
-      seq (record { reading = s; forall_walks = forall_walks; locals = locals; alone = filter (is_alone r b) locals; blocks = ns }) None
+      seq (record { reading = s; forall_walks = forall_walks; locals = locals; alone = filter (is_alone r b) locals; blocks = ns; around = None }) None
       (XB b) nothing vs [] [])
       (blocks-same isos tokens b)
       (filter-same (λ x. not (is_alone s (XB b) x)) (λ x. not (is_alone r b x))

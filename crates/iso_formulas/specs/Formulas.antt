@@ -2,7 +2,8 @@
 use Rattle.std.specs.Prelude.{List}
 use Rattle.smpl_patch.specs.declared.pattern.PatToken.{PatToken}
 use Rattle.smpl_patch.specs.declared.rule.Iso.{Iso}
-use Rattle.ctl_formula.specs.Plain.{Plain, True, Atom, Bail, Exit, BraceOpen, BraceClose, Not, And, Or, AX, EX, AU, EU, Past, Down, Exists}
+use Rattle.ctl_formula.specs.Plain.{Plain, True, Atom, Bail, BraceOpen, BraceClose, Inside, Outside, Not, And, Or, AX}
+use Rattle.ctl_formula.specs.Plain.{EX, AU, EU, Past, Down, Exists}
 use Rattle.iso_expand.specs.Bodies.{expanded_pattern}
 
 module _ (isos : List Iso) (tokens : List PatToken) where
@@ -10,9 +11,10 @@ module _ (isos : List Iso) (tokens : List PatToken) where
   expanded_formula True = True
   expanded_formula (Atom p) = Atom (expanded_pattern isos tokens p)
   expanded_formula Bail = Bail
-  expanded_formula Exit = Exit
   expanded_formula (BraceOpen p b) = BraceOpen (expanded_pattern isos tokens p) b
   expanded_formula (BraceClose p b) = BraceClose (expanded_pattern isos tokens p) b
+  expanded_formula (Inside b) = Inside b
+  expanded_formula (Outside b) = Outside b
   expanded_formula (Not f) = Not (expanded_formula f)
   expanded_formula (And f g) = And (expanded_formula f) (expanded_formula g)
   expanded_formula (Or f g) = Or (expanded_formula f) (expanded_formula g)

@@ -13,7 +13,7 @@ use Rattle.var_places.specs.Placing.{Reading, occurs_element, occurs_body, at_su
 use Rattle.ctl_table.specs.Table.{Setting, Follow, Start, Nothing, Brace, Dots, Other, nothing, start_of, first_of, in_scope}
 use Rattle.ctl_table.specs.Table.{exists_all}
 use Rattle.ctl_table.specs.Table.{and_all, or_all, all_of, any_of, or_some, option_list, nots, hidden, own, copy, near}
-use Rattle.ctl_table.specs.Table.{near_body, near_each, near_first, near_option, is_end, joined, target, until, nested}
+use Rattle.ctl_table.specs.Table.{near_body, near_each, near_first, near_option, is_end, joined, target, stays, within, until, nested}
 use Rattle.ctl_table.specs.Table.{condition, lone, closing, with_tail, downs, choices, seq, elem, each, first_and, when_parts}
 use Rattle.ctl_table.specs.Table.{setting, formula}
 
@@ -96,11 +96,16 @@ module _ (P : Pattern → Type 0) where
   has-joined forall_walks statement f Brace g h k = (h, k)
   has-joined forall_walks statement f Other g h k = (h, k)
 
-  has-target : (s : Start) (f : Plain) → Has f → Has (target s f)
-  has-target Brace f h = (h, tt)
-  has-target Nothing f h = h
-  has-target Dots f h = h
-  has-target Other f h = h
+  has-target : (o : Option Var) (s : Start) (f : Plain) → Has f → Has (target o s f)
+  has-target None s f h = h
+  has-target (Some b) Brace f h = (h, tt)
+  has-target (Some b) Nothing f h = (tt, h)
+  has-target (Some b) Dots f h = (tt, h)
+  has-target (Some b) Other f h = (tt, h)
+
+  has-firsts : (o : Option Var) (fs : List Plain) → HaveAll fs → HaveAll (stays o ++ fs)
+  has-firsts None fs h = h
+  has-firsts (Some b) fs h = (tt, h)
 
   has-condition : (any : Bool) (whens : List Plain) (before after : Option Plain) → HaveAll whens → HaveAll (option_list before)
       → HaveAll (option_list after) → Has (condition any whens before after)
@@ -167,85 +172,85 @@ module _ (P : Pattern → Type 0) where
     has-with_tail w None f h k = k
     has-with_tail w (Some p) f h k = (k, has-own w p (Atom p) h.0)
 
-    mutual
-      pub has-seq : (before : Option Element) (b : Body) (k : Follow) (w s t : List Var) → EachOf before → Each (patterns_body b)
-          → ((u : List Var) → Has (k.at u)) → Has (seq m before b k w s t)
-      has-seq before End k w s t o h g = g t
-      has-seq before (Then e rest) k w s t o h g =
-          let here = filter (at_suffix m.reading e rest) w in
-          let inside = filter (λ x. not (at_suffix m.reading e rest x)) w in
-          let later = filter (λ x. not (occurs_element m.reading e x)) inside in
-          let front = all-front P (patterns_element e) (patterns_body rest) h in
-          let back = all-back P (patterns_element e) (patterns_body rest) h in
-          let follow : Follow = record { start = start_of rest k.start; at = λ u. seq m (Some e) rest k later (s ++ here) u } in
-          has-exists_all here
-          (elem m before (first_of rest) e follow (filter (occurs_element m.reading e) inside) (s ++ here) (t ++ here))
-          (has-elem before (first_of rest) e follow (filter (occurs_element m.reading e) inside) (s ++ here) (t ++ here) o
-          (each-first rest back) front (λ u. has-seq (Some e) rest k later (s ++ here) u front back g))
+  mutual
+    pub has-seq : (m : Setting) (before : Option Element) (b : Body) (k : Follow) (w s t : List Var) → EachOf before → Each (patterns_body b)
+        → ((u : List Var) → Has (k.at u)) → Has (seq m before b k w s t)
+    has-seq m before End k w s t o h g = g t
+    has-seq m before (Then e rest) k w s t o h g =
+        let here = filter (at_suffix m.reading e rest) w in
+        let inside = filter (λ x. not (at_suffix m.reading e rest x)) w in
+        let later = filter (λ x. not (occurs_element m.reading e x)) inside in
+        let front = all-front P (patterns_element e) (patterns_body rest) h in
+        let back = all-back P (patterns_element e) (patterns_body rest) h in
+        let follow : Follow = record { start = start_of rest k.start; at = λ u. seq m (Some e) rest k later (s ++ here) u } in
+        has-exists_all here
+        (elem m before (first_of rest) e follow (filter (occurs_element m.reading e) inside) (s ++ here) (t ++ here))
+        (has-elem m before (first_of rest) e follow (filter (occurs_element m.reading e) inside) (s ++ here) (t ++ here) o
+        (each-first rest back) front (λ u. has-seq m (Some e) rest k later (s ++ here) u front back g))
 
-      has-elem : (before after : Option Element) (e : Element) (k : Follow) (w s t : List Var) → EachOf before → EachOf after
-          → Each (patterns_element e) → ((u : List Var) → Has (k.at u)) → Has (elem m before after e k w s t)
-      has-elem before after (bodies.Atom p) k w s t o a h g =
-          has-joined m.forall_walks (m.reading.is_statement p) (own m w p (Atom p)) k.start (k.at s) (has-own w p (Atom p) h.0) (g s)
-      has-elem before after (Compound p bs tail) k w s t o a h g = (
-        has-with_tail w tail (and_all (own m w p (Atom p)) (downs 0 (each m bs nothing w s)))
-            (all-back P (patterns_bodies bs) (option_patterns tail) h.1)
-            (has-and_all (own m w p (Atom p)) (downs 0 (each m bs nothing w s)) (has-own w p (Atom p) h.0)
-            (has-downs 0 (each m bs nothing w s)
-            (has-each bs nothing w s (all-front P (patterns_bodies bs) (option_patterns tail) h.1) (λ u. tt)))),
-        g s,
-      )
-      has-elem before after (Block p b c) k w s t o a h g =
-          let v = hidden m p in
-          let close = all-back P (patterns_body b) (c ∷ []) h.1 in
-          let inside = has-seq None b (closing m w c v) (filter (occurs_body m.reading b) w) s s tt
-          (all-front P (patterns_body b) (c ∷ []) h.1) (λ u. has-own w c (BraceClose c v) close.0) in
-          ((has-own w p (BraceOpen p v) h.0, inside), g s)
-      has-elem before after (Gap ws any strict) k w s t o a h g =
-          has-until m.forall_walks strict
-          (condition any (when_parts m ws s) (near_option m true before t) (near_option m false after s)) (target k.start (k.at s))
-          (has-condition any (when_parts m ws s) (near_option m true before t) (near_option m false after s) (has-whens ws s h)
-          (has-near_option true before t o) (has-near_option false after s a))
-          (has-target k.start (k.at s) (g s))
-      has-elem before after (Nest plus b ws any strict) k w s t o a h g =
-          has-nested m.forall_walks plus strict
-          (condition any (when_parts m ws s) (near_option m true before t) (near_option m false after s))
-          (seq m None b nothing (filter (occurs_body m.reading b) w) s s) (target k.start (k.at s))
-          (has-condition any (when_parts m ws s) (near_option m true before t) (near_option m false after s)
-          (has-whens ws s (all-back P (patterns_body b) (patterns_bodies ws) h))
-          (has-near_option true before t o) (has-near_option false after s a))
-          (has-seq None b nothing (filter (occurs_body m.reading b) w) s s tt
-          (all-front P (patterns_body b) (patterns_bodies ws) h) (λ u. tt))
-          (has-target k.start (k.at s) (g s))
-      has-elem before after (AnyOf bs) k w s t o a h g =
-          has-any_of (choices [] (each m bs k w s) (each m bs nothing w s))
-          (has-choices [] (each m bs k w s) (each m bs nothing w s) tt (has-each bs k w s h g) (has-each bs nothing w s h (λ u. tt)))
-      has-elem before after (AllOf bs) k w s t o a h g = has-first_and bs k w s h g
+    has-elem : (m : Setting) (before after : Option Element) (e : Element) (k : Follow) (w s t : List Var) → EachOf before → EachOf after
+        → Each (patterns_element e) → ((u : List Var) → Has (k.at u)) → Has (elem m before after e k w s t)
+    has-elem m before after (bodies.Atom p) k w s t o a h g =
+        has-joined m.forall_walks (m.reading.is_statement p) (own m w p (Atom p)) k.start (k.at s) (has-own m w p (Atom p) h.0) (g s)
+    has-elem m before after (Compound p bs tail) k w s t o a h g = (
+      has-with_tail m w tail (and_all (own m w p (Atom p)) (downs 0 (each m bs nothing w s)))
+          (all-back P (patterns_bodies bs) (option_patterns tail) h.1)
+          (has-and_all (own m w p (Atom p)) (downs 0 (each m bs nothing w s)) (has-own m w p (Atom p) h.0)
+          (has-downs 0 (each m bs nothing w s)
+          (has-each m bs nothing w s (all-front P (patterns_bodies bs) (option_patterns tail) h.1) (λ u. tt)))),
+      g s,
+    )
+    has-elem m before after (Block p b c) k w s t o a h g =
+        let v = hidden m p in
+        let close = all-back P (patterns_body b) (c ∷ []) h.1 in
+        let inside = has-seq (within m v) None b (closing m w c v) (filter (occurs_body m.reading b) w) s s tt
+        (all-front P (patterns_body b) (c ∷ []) h.1) (λ u. has-own m w c (BraceClose c v) close.0) in
+        ((has-own m w p (BraceOpen p v) h.0, inside), g s)
+    has-elem m before after (Gap ws any strict) k w s t o a h g =
+        has-until m.forall_walks strict
+        (condition any (stays m.around ++ when_parts m ws s) (near_option m true before t) (near_option m false after s)) (target m.around k.start (k.at s))
+        (has-condition any (stays m.around ++ when_parts m ws s) (near_option m true before t) (near_option m false after s) (has-firsts m.around (when_parts m ws s) (has-whens m ws s h))
+        (has-near_option m true before t o) (has-near_option m false after s a))
+        (has-target m.around k.start (k.at s) (g s))
+    has-elem m before after (Nest plus b ws any strict) k w s t o a h g =
+        has-nested m.forall_walks plus strict
+        (condition any (stays m.around ++ when_parts m ws s) (near_option m true before t) (near_option m false after s))
+        (seq m None b nothing (filter (occurs_body m.reading b) w) s s) (target m.around k.start (k.at s))
+        (has-condition any (stays m.around ++ when_parts m ws s) (near_option m true before t) (near_option m false after s)
+        (has-firsts m.around (when_parts m ws s) (has-whens m ws s (all-back P (patterns_body b) (patterns_bodies ws) h)))
+        (has-near_option m true before t o) (has-near_option m false after s a))
+        (has-seq m None b nothing (filter (occurs_body m.reading b) w) s s tt
+        (all-front P (patterns_body b) (patterns_bodies ws) h) (λ u. tt))
+        (has-target m.around k.start (k.at s) (g s))
+    has-elem m before after (AnyOf bs) k w s t o a h g =
+        has-any_of (choices [] (each m bs k w s) (each m bs nothing w s))
+        (has-choices [] (each m bs k w s) (each m bs nothing w s) tt (has-each m bs k w s h g) (has-each m bs nothing w s h (λ u. tt)))
+    has-elem m before after (AllOf bs) k w s t o a h g = has-first_and m bs k w s h g
 
-      has-each : (bs : Bodies) (k : Follow) (w s : List Var) → Each (patterns_bodies bs) → ((u : List Var) → Has (k.at u))
-          → HaveAll (each m bs k w s)
-      has-each NoMore k w s h g = tt
-      has-each (More b bs) k w s h g = (
-        has-seq None b k (filter (occurs_body m.reading b) w) s s tt (all-front P (patterns_body b) (patterns_bodies bs) h) g,
-        has-each bs k w s (all-back P (patterns_body b) (patterns_bodies bs) h) g,
-      )
+    has-each : (m : Setting) (bs : Bodies) (k : Follow) (w s : List Var) → Each (patterns_bodies bs) → ((u : List Var) → Has (k.at u))
+        → HaveAll (each m bs k w s)
+    has-each m NoMore k w s h g = tt
+    has-each m (More b bs) k w s h g = (
+      has-seq m None b k (filter (occurs_body m.reading b) w) s s tt (all-front P (patterns_body b) (patterns_bodies bs) h) g,
+      has-each m bs k w s (all-back P (patterns_body b) (patterns_bodies bs) h) g,
+    )
 
-      has-first_and : (bs : Bodies) (k : Follow) (w s : List Var) → Each (patterns_bodies bs) → ((u : List Var) → Has (k.at u))
-          → Has (first_and m bs k w s)
-      has-first_and NoMore k w s h g = g s
-      has-first_and (More b bs) k w s h g =
-          has-and_all (seq m None b k (filter (occurs_body m.reading b) w) s s) (each m bs nothing w s)
-          (has-seq None b k (filter (occurs_body m.reading b) w) s s tt (all-front P (patterns_body b) (patterns_bodies bs) h) g)
-          (has-each bs nothing w s (all-back P (patterns_body b) (patterns_bodies bs) h) (λ u. tt))
+    has-first_and : (m : Setting) (bs : Bodies) (k : Follow) (w s : List Var) → Each (patterns_bodies bs) → ((u : List Var) → Has (k.at u))
+        → Has (first_and m bs k w s)
+    has-first_and m NoMore k w s h g = g s
+    has-first_and m (More b bs) k w s h g =
+        has-and_all (seq m None b k (filter (occurs_body m.reading b) w) s s) (each m bs nothing w s)
+        (has-seq m None b k (filter (occurs_body m.reading b) w) s s tt (all-front P (patterns_body b) (patterns_bodies bs) h) g)
+        (has-each m bs nothing w s (all-back P (patterns_body b) (patterns_bodies bs) h) (λ u. tt))
 
-      has-whens : (ws : Bodies) (s : List Var) → Each (patterns_bodies ws) → HaveAll (when_parts m ws s)
-      has-whens NoMore s h = tt
-      has-whens (More w ws) s h =
-          let alone = lone m w in (
-            has-exists_all alone (seq m None w nothing [] (s ++ alone) (s ++ alone))
-                (has-seq None w nothing [] (s ++ alone) (s ++ alone) tt (all-front P (patterns_body w) (patterns_bodies ws) h) (λ u. tt)),
-            has-whens ws s (all-back P (patterns_body w) (patterns_bodies ws) h),
-          )
+    has-whens : (m : Setting) (ws : Bodies) (s : List Var) → Each (patterns_bodies ws) → HaveAll (when_parts m ws s)
+    has-whens m NoMore s h = tt
+    has-whens m (More w ws) s h =
+        let alone = lone m w in (
+          has-exists_all alone (seq m None w nothing [] (s ++ alone) (s ++ alone))
+              (has-seq m None w nothing [] (s ++ alone) (s ++ alone) tt (all-front P (patterns_body w) (patterns_bodies ws) h) (λ u. tt)),
+          has-whens m ws s (all-back P (patterns_body w) (patterns_bodies ws) h),
+        )
 
   -- what is so of each pattern of a body is so of each pattern of its formula
   pub has-formula : (r : Reading) (forall_walks : Bool) (locals : List Var) (b : Body) → Each (patterns_body b)

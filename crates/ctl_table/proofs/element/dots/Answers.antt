@@ -17,6 +17,6 @@ returns c =
           (dots_before (plains c.args.parts.now) (setting_at c.args.m.now) c.args.d.now k c.args.scope.now)) (sym c.in_ok-share.ensures.same)
           (dots-made (setting_at c.args.m.now) c.args.parts.now b c.target.new.parts c.args.d.now k c.args.scope.now c.in_ok-g.g c.in_ok-target.target
           c.requires.d c.in_ok-g.ensures.made
-          (made-as b c.target.new.parts c.in_ok-target.target _ (table.target k.start (at (plains b) c.in_ok-g.g))
-          (ap (λ (z : table.Start). table.target z (at (plains b) c.in_ok-g.g)) c.start_of.ensures) c.in_ok-target.ensures.made));
+          (made-as b c.target.new.parts c.in_ok-target.target _ (table.target (setting_at c.args.m.now).around k.start (at (plains b) c.in_ok-g.g))
+          (ap (λ (z : table.Start). table.target (setting_at c.args.m.now).around z (at (plains b) c.in_ok-g.g)) c.start_of.ensures) c.in_ok-target.ensures.made));
     }

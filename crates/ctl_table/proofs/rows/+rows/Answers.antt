@@ -138,9 +138,9 @@ compound-returns t c = record {
 
 pub block-returns : goal.block-returns
 block-returns t c = record {
-  made = block-made (setting_at c.args.m.now) c.args.parts.now c.own_close.new.parts c.sequence.new.parts c.braced.new.parts c.args.o.now c.args.c.now (body c.args.b.now)
+  made = block-made (setting_at c.args.m.now) (setting_at c.within-inner.result) c.args.parts.now c.own_close.new.parts c.sequence.new.parts c.braced.new.parts c.args.o.now c.args.c.now (body c.args.b.now)
       c.args.vars.now c.as_slice.result.now c.args.scope.now c.in_ok-v.v c.in_ok-close.close c.in_ok-inside.inside c.braced.result
-      c.in_ok-v.ensures c.in_ok-close.ensures.made (c.as_slice.ensures ∙ c.in_ok-own.ensures) c.in_ok-inside.ensures.made c.braced.ensures.made;
+      c.in_ok-v.ensures c.within-inner.ensures c.in_ok-close.ensures.made (c.as_slice.ensures ∙ c.in_ok-own.ensures) c.in_ok-inside.ensures.made c.braced.ensures.made;
 }
 
 -- disjunctions
@@ -497,9 +497,10 @@ suffix-returns-in_ok-whens-in-Gap t c =
       made = IfOk-weaker c.dots_each.result _ _
           (λ fs h. dots-each m a b c.dots_each.new.parts after (element c.args.e.now) (bodies.Gap (dots_of d).whens (dots_of d).any (dots_of d).strict)
           k (λ n. next_of (plains b) m n) place c.args.nexts.now fs.items
-          (parts_at b c.in_ok-whens-in-Gap.whens.items) (table.when_parts m (dots_of d).whens place.scope) (dots_of d).any (dots_of d).strict None
+          (table.stays m.around ++ parts_at b c.in_ok-whens-in-Gap.whens.items) (table.stays m.around ++ table.when_parts m (dots_of d).whens place.scope) (dots_of d).any (dots_of d).strict None
           (ap element c.in-Gap.is ∙ element-Gap d) refl whens.grows
-          (whens-are m a b c.in_ok-whens-in-Gap.whens.items d c.as_slice-in-Gap.result.now place.scope place c.as_slice-in-Gap.ensures refl whens)
+          (ap (λ (z : List Plain). table.stays m.around ++ z)
+          (whens-are m a b c.in_ok-whens-in-Gap.whens.items d c.as_slice-in-Gap.result.now place.scope place c.as_slice-in-Gap.ensures refl whens))
           c.requires (λ n w. follow-stays a b m n whens.grows w)
           (λ n s u. refl) h) c.dots_each.ensures.made;
     }
@@ -517,7 +518,7 @@ suffix-returns-in_ok-whens-in-Nest t c =
     let nest = c.in_ok-part-in-Nest.ensures.made in
     let whens = c.in_ok-whens-in-Nest.ensures.made in
     let grown = grows-trans a c.nest.new.parts b nest.grows whens.grows in
-    let held = table.when_parts m (dots_of d).whens place.scope in
+    let held = table.stays m.around ++ table.when_parts m (dots_of d).whens place.scope in
     let part =
     nest-is m a c.nest.new.parts b c.in_ok-part-in-Nest.part (body c.as_slice-in-Nest.result.now) vars
     place.scope place c.as_slice-vars.ensures refl nest whens.grows
@@ -527,14 +528,15 @@ suffix-returns-in_ok-whens-in-Nest t c =
           (λ fs h. dots-each m a b c.dots_each-in-Nest.new.parts after (element c.args.e.now)
           (bodies.Nest c.in-Nest.plus (body c.in-Nest.b) (dots_of d).whens (dots_of d).any (dots_of d).strict)
           k (λ n. next_of (plains b) m n) place c.args.nexts.now fs.items
-          (parts_at b c.in_ok-whens-in-Nest.whens.items) held (dots_of d).any (dots_of d).strict
+          (table.stays m.around ++ parts_at b c.in_ok-whens-in-Nest.whens.items) held (dots_of d).any (dots_of d).strict
           (Some (record { plus = c.in-Nest.plus; part = c.in_ok-part-in-Nest.part }))
           (ap element c.in-Nest.is ∙ element-Nest c.in-Nest.plus c.in-Nest.b d) refl grown
-          (whens-are m c.nest.new.parts b c.in_ok-whens-in-Nest.whens.items d c.as_slice-in-Nest-2.result.now place.scope place c.as_slice-in-Nest-2.ensures refl whens)
+          (ap (λ (z : List Plain). table.stays m.around ++ z)
+          (whens-are m c.nest.new.parts b c.in_ok-whens-in-Nest.whens.items d c.as_slice-in-Nest-2.result.now place.scope place c.as_slice-in-Nest-2.ensures refl whens))
           c.requires (λ n w. follow-stays a b m n grown w)
           (λ n s u. ap (λ (z : Plain). table.exists_all place.here (table.nested m.forall_walks c.in-Nest.plus (dots_of d).strict
           (table.condition (dots_of d).any held (table.near_option m true s (u ++ place.here)) (table.near_option m false after place.scope)) z
-          (table.target (k n).start ((k n).at place.scope)))) part) h)
+          (table.target m.around (k n).start ((k n).at place.scope)))) part) h)
           c.dots_each-in-Nest.ensures.made;
     }
 

@@ -49,10 +49,10 @@ fn open_after(alloc: Global, g: &Graph, b: &Var, before: EnvSet, s: u32) -> Resu
 {
     let label = g.label(s);
     if is_open(label.kind) {
-        return join(alloc, &before, &at_place(alloc, b, label.brace)?);
+        return Ok(join(alloc, &before, &at_place(alloc, b, label.brace)?)?);
     }
     if is_close(label.kind) {
-        return meet(alloc, &before, &off_place(alloc, b, label.brace)?);
+        return Ok(meet(alloc, &before, &off_place(alloc, b, label.brace)?)?);
     }
     Ok(before)
 }
@@ -83,10 +83,10 @@ fn shut_after(alloc: Global, g: &Graph, b: &Var, shut: EnvSet, s: u32) -> Result
 {
     let label = g.label(s);
     if is_open(label.kind) {
-        return meet(alloc, &shut, &off_place(alloc, b, label.brace)?);
+        return Ok(meet(alloc, &shut, &off_place(alloc, b, label.brace)?)?);
     }
     if is_close(label.kind) {
-        return join(alloc, &shut, &at_place(alloc, b, label.brace)?);
+        return Ok(join(alloc, &shut, &at_place(alloc, b, label.brace)?)?);
     }
     Ok(shut)
 }
@@ -101,7 +101,7 @@ fn without_end(alloc: Global, g: &Graph, b: &Var, shut: &EnvSet, s: u32) -> Resu
 {
     let label = g.label(s);
     if is_close(label.kind) {
-        return meet(alloc, shut, &off_place(alloc, b, label.brace)?);
+        return Ok(meet(alloc, shut, &off_place(alloc, b, label.brace)?)?);
     }
     shut.copy(alloc)
 }

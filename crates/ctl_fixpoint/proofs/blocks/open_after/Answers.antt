@@ -1,24 +1,19 @@
 use Rattle.std.proofs.Common.{◌≡◌, ◌&&◌, ◌||◌, sym, ◌∙◌}
-use Rattle.std.proofs.lemmas.Result.{IfOk-weaker}
 use Rattle.env_sets.specs.Sets.{set_denotes}
 use Rattle.ctl_fixpoint.proofs.BlockLemmas.{open-brace, close-brace, no-brace}
 use Rattle.ctl_fixpoint.proofs.blocks.open_after.Goals as goal
 
 pub returns-then-is_open-clause-gives : goal.returns-then-is_open-clause-gives
-returns-then-is_open-clause-gives c = IfOk-weaker c.join.result _ _
-    (λ r h env.
-    h env ∙ (λ i. set_denotes c.args.before env || c.in_ok-at_place.ensures.gives env i)
+returns-then-is_open-clause-gives c = λ env.
+    c.in_ok-join.ensures.meaning env ∙ (λ i. set_denotes c.args.before env || c.in_ok-at_place.ensures.gives env i)
     ∙ open-brace c.args.g.now c.args.s c.label-label.result c.label-label.ensures.value (env c.args.b.now)
-    (set_denotes c.args.before env) (sym c.is_open.ensures ∙ c.if-is_open.true))
-    c.join.ensures.meaning
+    (set_denotes c.args.before env) (sym c.is_open.ensures ∙ c.if-is_open.true)
 
 pub returns-then-is_close-clause-gives : goal.returns-then-is_close-clause-gives
-returns-then-is_close-clause-gives c = IfOk-weaker c.meet.result _ _
-    (λ r h env.
-    h env ∙ (λ i. set_denotes c.args.before env && c.in_ok-off_place.ensures.gives env i)
+returns-then-is_close-clause-gives c = λ env.
+    c.in_ok-meet.ensures.meaning env ∙ (λ i. set_denotes c.args.before env && c.in_ok-off_place.ensures.gives env i)
     ∙ close-brace c.args.g.now c.args.s c.label-label.result c.label-label.ensures.value (env c.args.b.now)
-    (set_denotes c.args.before env) (sym c.is_open.ensures ∙ c.if-is_open.false) (sym c.is_close.ensures ∙ c.if-is_close.true))
-    c.meet.ensures.meaning
+    (set_denotes c.args.before env) (sym c.is_open.ensures ∙ c.if-is_open.false) (sym c.is_close.ensures ∙ c.if-is_close.true)
 
 pub returns-clause-gives : goal.returns-clause-gives
 returns-clause-gives c = λ env.

@@ -45,7 +45,7 @@ enum BesideFault {
 /// Puts the bytes into the file of this name, in place of those that were there. Links are followed.
 ///
 /// Where a version is known, the file must still be that one: else it is `Failed`, and what stands there stays as it is.
-/// The file is looked at when it is opened and its lock taken, and once more just before its bytes or its name go. What
+/// The file is looked at before it is opened, when its lock is taken, and once more just before its bytes or its name go. What
 /// another program writes between that last look and the next call is lost.
 ///
 /// A new file beside the old one gets the bytes, and the old one's mode and, where that is allowed, its owner; it is
@@ -64,7 +64,7 @@ pub fn store_file<R: Disk + AllocGlobal>(
     ensures not_absent { IsErrOf result ShelfFault.Absent → ⊥ }
     ensures not_too_long { IsErrOf result ShelfFault.TooLong → ⊥ }
 {
-    let (path, is_there) = match place_of(rt, name) {
+    let (path, found) = match place_of(rt, name) {
         Ok(place) => place,
         Err(error) if error.kind() == ErrorKind::OutOfMemory => return Err(ShelfFault::NoMemory),
         Err(_) => return Err(ShelfFault::Failed),
@@ -72,8 +72,8 @@ pub fn store_file<R: Disk + AllocGlobal>(
     if bytes.len() as u64 > rt.most_bytes() {
         return Err(ShelfFault::Failed);
     }
-    if is_there {
-        return store_there(rt, &path, bytes, known);
+    if let Some(found) = found {
+        return store_there(rt, &path, &found, bytes, known);
     }
     if known.is_some() {
         return Err(ShelfFault::Failed);
@@ -85,16 +85,24 @@ pub fn store_file<R: Disk + AllocGlobal>(
     }
 }
 
-/// The same for a path at which a plain file stood.
+/// The same for a path at which a plain file was found.
+///
+/// Once it is opened to be written, a file in layers may be another one with the same bytes. So it is compared with what
+/// is known before that, and from then on with what was opened.
 fn store_there<R: Disk + AllocGlobal>(
     rt: &R,
     path: &PathBuf,
+    found: &Metadata,
     bytes: &[u8],
     known: Option<FileVersion>,
 ) -> Result<Stored, ShelfFault>
     ensures not_absent { IsErrOf result ShelfFault.Absent → ⊥ }
     ensures not_too_long { IsErrOf result ShelfFault.TooLong → ⊥ }
 {
+    let was = FileVersion::of(found);
+    if known.map_or(false, |known| known != was) {
+        return Err(ShelfFault::Failed);
+    }
     // A file that may not be written is not replaced either. It is opened to be read too, so that a pipe that has taken
     // its place doesn't hold this up.
     let mut how = OpenOptions::new();
@@ -106,8 +114,7 @@ fn store_there<R: Disk + AllocGlobal>(
     let Ok(about) = old.metadata() else {
         return Err(ShelfFault::Failed);
     };
-    let was = FileVersion::of(&about);
-    if !is_free || !about.is_file() || known.map_or(false, |known| known != was) {
+    if !is_free || !about.is_file() || !was.has_bytes_of(FileVersion::of(&about)) {
         return Err(ShelfFault::Failed);
     }
     if about.nlink() <= 1 && may_be_replaced(rt, path) {
@@ -136,19 +143,19 @@ fn store_there<R: Disk + AllocGlobal>(
     })
 }
 
-/// The path to which links lead from a name, and whether a plain file stands there. Anything else there is an error.
-fn place_of<R: Disk + AllocGlobal>(rt: &R, name: &str) -> io::Result<(PathBuf, bool)> {
+/// The path to which links lead from a name, and the plain file that stands there, if any. Anything else is an error.
+fn place_of<R: Disk + AllocGlobal>(rt: &R, name: &str) -> io::Result<(PathBuf, Option<Metadata>)> {
     let mut path = PathBuf::from_str(rt.alloc(), name)?;
     for _ in 0..=MOST_LINKS {
         match fs::symlink_metadata(rt, path.as_path()) {
-            Ok(about) if about.is_file() => return Ok((path, true)),
+            Ok(about) if about.is_file() => return Ok((path, Some(about))),
             Ok(about) if about.is_symlink() => {
                 let target = fs::read_link(rt, path.as_path())?;
                 path.pop();
                 path.push(target.as_path())?;
             }
             Ok(_) => return Err(io::Error::from(ErrorKind::InvalidInput)),
-            Err(error) if error.kind() == ErrorKind::NotFound => return Ok((path, false)),
+            Err(error) if error.kind() == ErrorKind::NotFound => return Ok((path, None)),
             Err(error) => return Err(error),
         }
     }
@@ -214,6 +221,9 @@ fn take_name<R: Disk>(
     path: &PathBuf,
     old: Option<&Metadata>,
 ) -> Result<Option<FileVersion>, BesideFault> {
+    // Another program may be about to put a file there. A rename of a name to itself does nothing but wait for its turn in
+    // the folder, so that the look that follows sees that file.
+    let _ = fs::rename(rt, new_path.as_path(), new_path.as_path());
     if !stands_at(rt, file, new_path) || !is_at(rt, path, old) {
         return Err(BesideFault::Failed);
     }

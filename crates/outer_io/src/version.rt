@@ -42,6 +42,11 @@ impl FileVersion {
             },
         }
     }
+
+    /// Whether the bytes of two are the same, as far as the length and the time of the last write tell.
+    pub fn has_bytes_of(self, other: FileVersion) -> bool {
+        self.length == other.length && self.written == other.written
+    }
 }
 
 /// Whether two are the same file, at whatever moments.

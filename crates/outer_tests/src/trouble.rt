@@ -76,15 +76,15 @@ fn a_store_of_which_a_call_fails_loses_nothing(rt: HostRuntime) -> Result<(), Fa
         link: Some("outer_io_one/link.c"),
         ..one
     };
-    // The owner may be another; where it isn't known that the name may go, the file is written over; and it needn't be
-    // known what stands there then.
+    // The owner may be another; where it isn't known that the name may go, the file is written over; a turn in the folder
+    // needn't be waited for, nor be known what stands there then.
     for place in [one, linked] {
         for new in [LONG, SHORT] {
             let done = done_all_the_same(&rt, &place, new, ErrorKind::Other)?;
-            assert_eq!(rt; done, 3);
+            assert_eq!(rt; done, 4);
             // Where no new file, or not the mode or the name for it, is allowed, the old file is written over.
             let done = done_all_the_same(&rt, &place, new, ErrorKind::PermissionDenied)?;
-            assert_eq!(rt; done, 6);
+            assert_eq!(rt; done, 7);
         }
     }
     let made = Place {
@@ -92,12 +92,12 @@ fn a_store_of_which_a_call_fails_loses_nothing(rt: HostRuntime) -> Result<(), Fa
         ..one
     };
     for kind in [ErrorKind::Other, ErrorKind::PermissionDenied] {
-        assert_eq!(rt; done_all_the_same(&rt, &made, LONG, kind)?, 1);
+        assert_eq!(rt; done_all_the_same(&rt, &made, LONG, kind)?, 2);
     }
     // Each of seven writes is made again where it is interrupted.
     assert_eq!(rt;
         done_all_the_same(&rt, &one, LONG, ErrorKind::Interrupted)?,
-        3 + 7
+        4 + 7
     );
     Ok(())
 }

@@ -6,13 +6,14 @@ ghost use Rattle.std.specs.IoError.{error_kind};
 ghost use Rattle.outer_io.specs.Faults.{counted, HasCause};
 
 use crate::calls::one_more;
+use crate::disk::Disk;
 use crate::replace::store_file;
+use crate::version::{FileVersion, Versions};
 use crate::{Loads, Shelf, ShelfFault};
 use std::alloc::Global;
 use std::fs::OpenFile;
 use std::io::{ErrorKind, Read};
 use std::marker::Model;
-use std::rt::Files;
 use std::{fs, io};
 
 /// Bytes that are read at a time.
@@ -21,6 +22,9 @@ const BLOCK: usize = 65536;
 /// The files of the system, by their paths. It tells no content, so what a file gives and takes is trusted.
 /// Contracts see the counts of stores and of faults.
 ///
+/// It remembers which file was loaded or stored under each name, and how it was then, so that a store overwrites nothing
+/// that another program wrote since.
+///
 /// `Failed` are a file that is missing or cannot be opened, a read or a write that fails, and a write that takes
 /// nothing. A read or a write that a signal interrupts is made again. The count of faults rises at each `Err`, also
 /// where a file is too long or memory runs out, and at no `Ok`. A load is linear in what it reads, which is at most one
@@ -28,6 +32,7 @@ const BLOCK: usize = 65536;
 #[derive(Drop)]
 pub struct FileShelf<'a, R> {
     rt: &'a R,
+    versions: Versions,
     stores: u64,
     faults: u64,
 }
@@ -40,7 +45,7 @@ impl<'a, R> Model for FileShelf<'a, R> {
     ghost view = { λ s. record { stores = s.stores; faults = s.faults } };
 }
 
-impl<'a, R: Files + AllocGlobal> FileShelf<'a, R> {
+impl<'a, R: Disk + AllocGlobal> FileShelf<'a, R> {
     /// The files that this runtime reaches, with no store and no fault so far.
     pub fn new(rt: &'a R) -> FileShelf<'a, R>
         ensures stores { result.stores ≡ 0 }
@@ -48,13 +53,14 @@ impl<'a, R: Files + AllocGlobal> FileShelf<'a, R> {
     {
         FileShelf {
             rt,
+            versions: Versions::none(rt.alloc()),
             stores: 0,
             faults: 0,
         }
     }
 }
 
-impl<'a, R: Files + AllocGlobal> Loads for FileShelf<'a, R> {
+impl<'a, R: Disk + AllocGlobal> Loads for FileShelf<'a, R> {
     ghost holds = { λ _. None };
 
     ghost stores = { λ s. s.stores };
@@ -70,7 +76,7 @@ impl<'a, R: Files + AllocGlobal> Loads for FileShelf<'a, R> {
         ensures counts { OnErr result (self.new.faults ≡ counted self.old.faults) }
         ensures calm { OnOk result (self.new.faults ≡ self.old.faults) }
     {
-        let read = read_file(self.rt, name, limit);
+        let read = read_file(self.rt, name, limit, &mut self.versions);
         if read.is_err() {
             self.faults = one_more(self.faults);
         }
@@ -78,16 +84,19 @@ impl<'a, R: Files + AllocGlobal> Loads for FileShelf<'a, R> {
     }
 }
 
-impl<'a, R: Files + AllocGlobal> Shelf for FileShelf<'a, R> {
+impl<'a, R: Disk + AllocGlobal> Shelf for FileShelf<'a, R> {
     /// Puts the bytes into the file, to which links are followed.
+    ///
+    /// A file that was loaded under this name, or stored, must still be the same, and unchanged since: else it is
+    /// `Failed`, and what stands there stays.
     ///
     /// A new file beside the old one gets the bytes, the old one's mode and, where that is allowed, its owner. It is
     /// synced, and takes the old one's name in one step. Where no file may be made beside the old one, or that has a
-    /// second name, it is written over. What is no plain file, or may not be written, is `Failed`.
+    /// second name, it is written over. What is no plain file, or may not be written, is `Failed`, and so are a stream
+    /// that the process was started with, a file whose lock another has, and more bytes than the process may write.
     ///
-    /// After an `Err` the old bytes stand there, but for a file that was written over: it may then begin with a first
-    /// part of the new bytes, and where it can't be cut back either, end with some of what it was to grow by. The new file
-    /// is removed after a fault. `NoMemory` comes before any file is touched.
+    /// After an `Err` the old bytes stand there, but for a file that was written over and could not be put back. The new
+    /// file is removed after a fault. `NoMemory` comes before any file is touched.
     fn store(&mut self, name: &str, bytes: &[u8]) -> Result<(), ShelfFault>
         ensures counts_ok { OnOk result (self.new.stores ≡ counted self.old.stores) }
         ensures counts_failed { IsErrOf result ShelfFault.Failed →
@@ -100,7 +109,7 @@ impl<'a, R: Files + AllocGlobal> Shelf for FileShelf<'a, R> {
         ensures counts { OnErr result (self.new.faults ≡ counted self.old.faults) }
         ensures calm { OnOk result (self.new.faults ≡ self.old.faults) }
     {
-        let end = store_file(self.rt, name, bytes);
+        let end = store_known(self.rt, name, bytes, &mut self.versions);
         if end.is_err() {
             self.faults = one_more(self.faults);
         }
@@ -111,16 +120,51 @@ impl<'a, R: Files + AllocGlobal> Shelf for FileShelf<'a, R> {
     }
 }
 
-/// The bytes of a file, if there are no more than the limit.
-fn read_file<R: Files + AllocGlobal>(rt: &R, name: &str, limit: u64) -> Result<Vec<u8>, ShelfFault>
+/// Whether a name leads to what the process was started with open. It is read as a stream.
+fn is_stream(name: &str) -> bool {
+    name == "/dev/stdin" || name.starts_with("/dev/fd/")
+}
+
+/// The bytes of a file, if there are no more than the limit. What stands there is kept as the version that is known.
+fn read_file<R: Disk + AllocGlobal>(
+    rt: &R,
+    name: &str,
+    limit: u64,
+    versions: &mut Versions,
+) -> Result<Vec<u8>, ShelfFault>
     ensures within { IfOk result (λ bytes. length bytes.items ≤ limit) }
     ensures not_absent { IsErrOf result ShelfFault.Absent → ⊥ }
 {
     let Ok(mut file) = fs::open(rt, name) else {
         return Err(ShelfFault::Failed);
     };
-    let size = file.metadata().map_or(0, |about| about.len());
-    read_whole(rt.alloc(), &mut file, size, limit)
+    let Ok(about) = file.metadata() else {
+        return Err(ShelfFault::Failed);
+    };
+    if versions.keep(name, FileVersion::of(&about)).is_err() {
+        return Err(ShelfFault::NoMemory);
+    }
+    read_whole(rt.alloc(), &mut file, about.len(), limit)
+}
+
+/// Puts the bytes into the file of a name, if it is the version that is known. Nothing is stored on a stream.
+fn store_known<R: Disk + AllocGlobal>(
+    rt: &R,
+    name: &str,
+    bytes: &[u8],
+    versions: &mut Versions,
+) -> Result<(), ShelfFault>
+    ensures not_absent { IsErrOf result ShelfFault.Absent → ⊥ }
+    ensures not_too_long { IsErrOf result ShelfFault.TooLong → ⊥ }
+{
+    if is_stream(name) {
+        return Err(ShelfFault::Failed);
+    }
+    let stored = store_file(rt, name, bytes, versions.at(name))?;
+    if let Some(now) = stored.now {
+        versions.renew(name, stored.was, now);
+    }
+    Ok(())
 }
 
 /// The bytes that a reader has left, if there are no more than the limit. About `size` are awaited.

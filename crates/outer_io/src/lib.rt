@@ -18,15 +18,19 @@
 
 mod calls;
 mod calm;
+mod disk;
 mod file_map;
 mod files;
 mod mem;
+mod over;
 mod replace;
 mod shelf;
 mod sink;
 mod streams;
+mod version;
 
 pub use calm::{CalmShelf, CalmSink};
+pub use disk::Disk;
 pub use files::FileShelf;
 pub use mem::{MemShelf, MemSink};
 pub use shelf::{Loads, Shelf, ShelfFault};

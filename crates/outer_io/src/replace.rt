@@ -2,12 +2,14 @@
 ghost use Rattle.std.specs.Prelude.{IsErrOf};
 
 use crate::ShelfFault;
+use crate::disk::Disk;
+use crate::over::{read_old, write_over};
 use crate::streams::write_whole;
+use crate::version::{FileVersion, is_same_file};
 use std::fs::{Metadata, OpenFile, OpenOptions, Permissions};
-use std::io::{ErrorKind, Seek, SeekFrom, Write};
-use std::os::unix::fs::{MetadataExt, OpenOptionsExt, PermissionsExt, lchown};
+use std::io::ErrorKind;
+use std::os::unix::fs::{MetadataExt, OpenOptionsExt, PermissionsExt};
 use std::path::PathBuf;
-use std::rt::Files;
 use std::{fs, io};
 
 /// The links that are followed from one name; with one more they count as a circle. Linux follows as many.
@@ -22,6 +24,13 @@ const OWN_MODE: u32 = 0o600;
 /// The bits of a mode that give whoever runs a file its owner's or group's rights.
 const OWNER_RIGHTS: u32 = 0o6000;
 
+/// What a store found under a name, and what it left there, as far as the system tells it.
+#[derive(Clone, Copy)]
+pub struct Stored {
+    pub was: Option<FileVersion>,
+    pub now: Option<FileVersion>,
+}
+
 /// Why a new file did not take the old one's name. The old one is as it was.
 #[derive(Clone, Copy)]
 enum BesideFault {
@@ -29,100 +38,201 @@ enum BesideFault {
     NotAllowed,
     /// Memory ran out before a file was made.
     NoMemory,
-    /// A call failed.
+    /// A call failed, or another file stands under a name by now.
     Failed,
 }
 
 /// Puts the bytes into the file of this name, in place of those that were there. Links are followed.
 ///
+/// Where a version is known, the file must still be that one: else it is `Failed`, and what stands there stays as it is.
+/// The file is looked at before it is opened, when its lock is taken, and once more just before its bytes or its name go. What
+/// another program writes between that last look and the next call is lost.
+///
 /// A new file beside the old one gets the bytes, and the old one's mode and, where that is allowed, its owner; it is
 /// synced and takes the old one's name in one step. Where no file may be made beside it, or it has a second name, the
-/// old one is written over. What is no plain file, or may not be written, is `Failed`, and so is a circle of links.
+/// old one is written over. What is no plain file, or may not be read and written, is `Failed`, and so is a circle of
+/// links, and more bytes than this process may write to a file.
 ///
-/// After an `Err` the old bytes stand there, but where the old one was written over: then a first part of the new bytes
-/// may stand before what is left of the old, and where the file can't be cut back either, some of what it was to grow by
-/// behind them. `NoMemory` comes before any file is touched.
-pub fn store_file<R: Files + AllocGlobal>(
+/// After an `Err` the old bytes stand there, but where the old one was written over and they can't be put back.
+/// `NoMemory` comes before any file is touched.
+pub fn store_file<R: Disk + AllocGlobal>(
     rt: &R,
     name: &str,
     bytes: &[u8],
-) -> Result<(), ShelfFault>
+    known: Option<FileVersion>,
+) -> Result<Stored, ShelfFault>
     ensures not_absent { IsErrOf result ShelfFault.Absent → ⊥ }
     ensures not_too_long { IsErrOf result ShelfFault.TooLong → ⊥ }
 {
-    let (path, is_there) = match place_of(rt, name) {
+    let (path, found) = match place_of(rt, name) {
         Ok(place) => place,
         Err(error) if error.kind() == ErrorKind::OutOfMemory => return Err(ShelfFault::NoMemory),
         Err(_) => return Err(ShelfFault::Failed),
     };
-    if !is_there {
-        return match write_beside(rt, &path, None, bytes) {
-            Ok(()) => Ok(()),
-            Err(BesideFault::NoMemory) => Err(ShelfFault::NoMemory),
-            Err(_) => Err(ShelfFault::Failed),
-        };
+    if bytes.len() as u64 > rt.most_bytes() {
+        return Err(ShelfFault::Failed);
     }
-    // A file that may not be written is not replaced either.
-    let Ok(mut old) = OpenOptions::new().write(true).open(rt, path.as_path()) else {
+    if let Some(found) = found {
+        return store_there(rt, &path, &found, bytes, known);
+    }
+    if known.is_some() {
+        return Err(ShelfFault::Failed);
+    }
+    match write_beside(rt, &path, None, bytes) {
+        Ok(now) => Ok(Stored { was: None, now }),
+        Err(BesideFault::NoMemory) => Err(ShelfFault::NoMemory),
+        Err(_) => Err(ShelfFault::Failed),
+    }
+}
+
+/// The same for a path at which a plain file was found.
+///
+/// Once it is opened to be written, a file in layers may be another one with the same bytes. So it is compared with what
+/// is known before that, and from then on with what was opened.
+fn store_there<R: Disk + AllocGlobal>(
+    rt: &R,
+    path: &PathBuf,
+    found: &Metadata,
+    bytes: &[u8],
+    known: Option<FileVersion>,
+) -> Result<Stored, ShelfFault>
+    ensures not_absent { IsErrOf result ShelfFault.Absent → ⊥ }
+    ensures not_too_long { IsErrOf result ShelfFault.TooLong → ⊥ }
+{
+    let was = FileVersion::of(found);
+    if known.map_or(false, |known| known != was) {
+        return Err(ShelfFault::Failed);
+    }
+    // A file that may not be written is not replaced either. It is opened to be read too, so that a pipe that has taken
+    // its place doesn't hold this up.
+    let mut how = OpenOptions::new();
+    how.read(true).write(true);
+    let Ok(mut old) = how.open(rt, path.as_path()) else {
         return Err(ShelfFault::Failed);
     };
+    let is_free = rt.lock(&old);
     let Ok(about) = old.metadata() else {
         return Err(ShelfFault::Failed);
     };
-    if about.nlink() <= 1 {
-        match write_beside(rt, &path, Some(&about), bytes) {
-            Ok(()) => return Ok(()),
+    if !is_free || !about.is_file() || !was.has_bytes_of(FileVersion::of(&about)) {
+        return Err(ShelfFault::Failed);
+    }
+    if about.nlink() <= 1 && may_be_replaced(rt, path) {
+        match write_beside(rt, path, Some(&about), bytes) {
+            Ok(now) => {
+                return Ok(Stored {
+                    was: Some(was),
+                    now,
+                });
+            }
             Err(BesideFault::NoMemory) => return Err(ShelfFault::NoMemory),
             Err(BesideFault::Failed) => return Err(ShelfFault::Failed),
             Err(BesideFault::NotAllowed) => {}
         }
     }
-    if write_over(&mut old, about.len(), bytes) {
-        Ok(())
-    } else {
-        Err(ShelfFault::Failed)
+    if about.len() > rt.most_bytes() {
+        return Err(ShelfFault::Failed);
     }
+    let old_bytes = read_old(rt.alloc(), &mut old, about.len())?;
+    if !is_at(rt, path, Some(&about)) || !write_over(&mut old, &old_bytes, bytes) {
+        return Err(ShelfFault::Failed);
+    }
+    Ok(Stored {
+        was: Some(was),
+        now: version_of(&old),
+    })
 }
 
-/// The path to which links lead from a name, and whether a plain file stands there. Anything else there is an error.
-fn place_of<R: Files + AllocGlobal>(rt: &R, name: &str) -> io::Result<(PathBuf, bool)> {
+/// The path to which links lead from a name, and the plain file that stands there, if any. Anything else is an error.
+fn place_of<R: Disk + AllocGlobal>(rt: &R, name: &str) -> io::Result<(PathBuf, Option<Metadata>)> {
     let mut path = PathBuf::from_str(rt.alloc(), name)?;
     for _ in 0..=MOST_LINKS {
         match fs::symlink_metadata(rt, path.as_path()) {
-            Ok(about) if about.is_file() => return Ok((path, true)),
+            Ok(about) if about.is_file() => return Ok((path, Some(about))),
             Ok(about) if about.is_symlink() => {
                 let target = fs::read_link(rt, path.as_path())?;
                 path.pop();
                 path.push(target.as_path())?;
             }
             Ok(_) => return Err(io::Error::from(ErrorKind::InvalidInput)),
-            Err(error) if error.kind() == ErrorKind::NotFound => return Ok((path, false)),
+            Err(error) if error.kind() == ErrorKind::NotFound => return Ok((path, None)),
             Err(error) => return Err(error),
         }
     }
     Err(io::Error::from(ErrorKind::FilesystemLoop))
 }
 
+/// Whether the name of a file may be taken away from its folder. The system is asked to remove a folder of this name,
+/// which it refuses for a file, and for another reason where no name may go.
+fn may_be_replaced<R: Disk>(rt: &R, path: &PathBuf) -> bool {
+    match fs::remove_dir(rt, path.as_path()) {
+        Err(error) => error.kind() == ErrorKind::NotADirectory,
+        Ok(()) => false,
+    }
+}
+
+/// Whether the file that was met still stands at the path, and nobody changed it since; or that nothing stands there yet.
+fn is_at<R: Disk>(rt: &R, path: &PathBuf, old: Option<&Metadata>) -> bool {
+    match (fs::symlink_metadata(rt, path.as_path()), old) {
+        (Ok(about), Some(old)) => FileVersion::of(&about) == FileVersion::of(old),
+        (Err(error), None) => error.kind() == ErrorKind::NotFound,
+        _ => false,
+    }
+}
+
+/// Whether the open file stands at the path.
+fn stands_at<R: Disk>(rt: &R, file: &R::File, path: &PathBuf) -> bool {
+    match (file.metadata(), fs::symlink_metadata(rt, path.as_path())) {
+        (Ok(about), Ok(there)) => is_same_file(&about, &there),
+        _ => false,
+    }
+}
+
+fn version_of<F: OpenFile>(file: &F) -> Option<FileVersion> {
+    match file.metadata() {
+        Ok(about) => Some(FileVersion::of(&about)),
+        Err(_) => None,
+    }
+}
+
 /// Writes the bytes into a new file beside the path, which then takes its name.
-fn write_beside<R: Files + AllocGlobal>(
+fn write_beside<R: Disk + AllocGlobal>(
     rt: &R,
     path: &PathBuf,
     old: Option<&Metadata>,
     bytes: &[u8],
-) -> Result<(), BesideFault> {
-    let (file, new_path) = new_file_beside(rt, path, old.is_some())?;
-    let end = match fill(rt, file, &new_path, old, bytes) {
-        Ok(()) => fs::rename(rt, new_path.as_path(), path.as_path()).map_err(fault_of),
+) -> Result<Option<FileVersion>, BesideFault> {
+    let (mut file, new_path) = new_file_beside(rt, path, old.is_some())?;
+    let end = match fill(rt, &mut file, old, bytes) {
+        Ok(()) => take_name(rt, &file, &new_path, path, old),
         Err(fault) => Err(fault),
     };
-    if end.is_err() {
+    if end.is_err() && stands_at(rt, &file, &new_path) {
         let _ = fs::remove_file(rt, new_path.as_path());
     }
     end
 }
 
+/// Lets a new file take the name of the old one, where both still stand where they did.
+fn take_name<R: Disk>(
+    rt: &R,
+    file: &R::File,
+    new_path: &PathBuf,
+    path: &PathBuf,
+    old: Option<&Metadata>,
+) -> Result<Option<FileVersion>, BesideFault> {
+    // Another program may be about to put a file there. A rename of a name to itself does nothing but wait for its turn in
+    // the folder, so that the look that follows sees that file.
+    let _ = fs::rename(rt, new_path.as_path(), new_path.as_path());
+    if !stands_at(rt, file, new_path) || !is_at(rt, path, old) {
+        return Err(BesideFault::Failed);
+    }
+    fs::rename(rt, new_path.as_path(), path.as_path()).map_err(fault_of)?;
+    Ok(version_of(file))
+}
+
 /// A new file in the folder of this path, open to be written.
-fn new_file_beside<R: Files + AllocGlobal>(
+fn new_file_beside<R: Disk + AllocGlobal>(
     rt: &R,
     path: &PathBuf,
     is_own: bool,
@@ -155,19 +265,18 @@ fn path_beside<R: AllocGlobal>(
     path.as_path().with_file_name(rt.alloc(), name.as_str())
 }
 
-/// Gives a new file the bytes, and the owner and the mode of the old one, and closes it.
-fn fill<R: Files>(
+/// Gives a new file the bytes, and the owner and the mode of the old one.
+fn fill<R: Disk>(
     rt: &R,
-    mut file: R::File,
-    path: &PathBuf,
+    file: &mut R::File,
     old: Option<&Metadata>,
     bytes: &[u8],
 ) -> Result<(), BesideFault> {
-    if !write_whole(&mut file, bytes) {
+    if !write_whole(file, bytes) {
         return Err(BesideFault::Failed);
     }
     if let Some(about) = old {
-        let mode = if keeps_owner(rt, path, about) {
+        let mode = if keeps_owner(rt, file, about) {
             about.mode()
         } else {
             about.mode() & !OWNER_RIGHTS
@@ -180,55 +289,25 @@ fn fill<R: Files>(
 
 /// Gives a new file the owner and the group of the old one, else the group alone where that is allowed. Says whether it
 /// has both.
-fn keeps_owner<R: Files>(rt: &R, path: &PathBuf, about: &Metadata) -> bool {
+fn keeps_owner<R: Disk>(rt: &R, file: &R::File, about: &Metadata) -> bool {
     let (owner, group) = (about.uid(), about.gid());
-    if lchown(rt, path.as_path(), Some(owner), Some(group)).is_ok() {
+    if rt.give(file, Some(owner), Some(group)).is_ok() {
         return true;
     }
-    let _ = lchown(rt, path.as_path(), None, Some(group));
+    let _ = rt.give(file, None, Some(group));
     false
 }
 
 /// Whether the system allows no new file, or not the old one's mode or name for it, as at a mount point, also where the
-/// folder is on a disk that is read only and the file is not.
+/// folder is on a disk that is read only and the file is not, and where the new file's path is too long.
 fn fault_of(error: io::Error) -> BesideFault {
     match error.kind() {
         ErrorKind::PermissionDenied
         | ErrorKind::ResourceBusy
         | ErrorKind::CrossesDevices
         | ErrorKind::ReadOnlyFilesystem
+        | ErrorKind::InvalidFilename
         | ErrorKind::Unsupported => BesideFault::NotAllowed,
         _ => BesideFault::Failed,
     }
-}
-
-/// Writes the bytes over those of an open file of this length, and says whether it did.
-///
-/// What the file grows by is written first, so that where there is no room for it the old bytes stay. Where a call
-/// fails before all other bytes are written, the file is cut back to its length.
-fn write_over<F: Write + Seek + OpenFile>(file: &mut F, length: u64, bytes: &[u8]) -> bool {
-    let new_length = bytes.len() as u64;
-    let is_written = if new_length > length {
-        let (front, more) = bytes.split_at(length as usize);
-        grow(file, length, more) && write_front(file, front)
-    } else {
-        write_front(file, bytes)
-    };
-    if !is_written {
-        if new_length > length {
-            let _ = file.set_len(length);
-        }
-        return false;
-    }
-    file.set_len(new_length).is_ok() && file.sync_all().is_ok()
-}
-
-/// Writes the bytes over those that a file begins with, and says whether it did.
-fn write_front<F: Write + Seek>(file: &mut F, bytes: &[u8]) -> bool {
-    file.seek(SeekFrom::Start(0)).is_ok() && write_whole(file, bytes)
-}
-
-/// Writes what comes after the end of a file, and says whether it did.
-fn grow<F: Write + Seek + OpenFile>(file: &mut F, length: u64, more: &[u8]) -> bool {
-    file.seek(SeekFrom::Start(length)).is_ok() && write_whole(file, more) && file.sync_all().is_ok()
 }

@@ -1,4 +1,5 @@
 // A stand-in for the file system: the files of the system, of whose calls one fails, or which are nearly full.
+use outer_io::Disk;
 use std::cell::Cell;
 use std::fs::{File, FileTimes, Files, Metadata, OpenFile, OpenOptions, Permissions};
 use std::io::{Empty, Error, ErrorKind, Read, Seek, SeekFrom, Write};
@@ -8,7 +9,7 @@ use std::{alloc, io};
 /// The bytes that one write takes.
 const MOST_WRITTEN: usize = 4;
 
-/// Which call fails, by its number from 0 on, and how; how many calls were made; the bytes for which there is room; and
+/// Which call fails, by its number from 0 on, and how; how many calls were made; by how many bytes files may grow; and
 /// whether something was changed that is not synced yet.
 #[derive(Drop)]
 pub struct Trouble {
@@ -121,8 +122,9 @@ impl<'a> Files for FailingFiles<'a> {
         Err(Error::from(ErrorKind::Unsupported))
     }
 
-    fn remove_dir(&self, _path: &str) -> io::Result<()> {
-        Err(Error::from(ErrorKind::Unsupported))
+    fn remove_dir(&self, path: &str) -> io::Result<()> {
+        self.trouble.call()?;
+        self.rt.remove_dir(path)
     }
 
     fn remove_dir_all<B: alloc::Allocator>(&self, _alloc: B, _path: &str) -> io::Result<()> {
@@ -133,10 +135,26 @@ impl<'a> Files for FailingFiles<'a> {
         self.trouble.call()?;
         self.rt.read_link(alloc, path)
     }
+}
 
-    fn lchown(&self, path: &str, uid: Option<u32>, gid: Option<u32>) -> io::Result<()> {
+/// A lock that fails is one that somebody else has.
+impl<'a> Disk for FailingFiles<'a> {
+    fn give(
+        &self,
+        file: &FailingFile<'a>,
+        owner: Option<u32>,
+        group: Option<u32>,
+    ) -> io::Result<()> {
         self.trouble.call()?;
-        self.rt.lchown(path, uid, gid)
+        self.rt.give(&file.file, owner, group)
+    }
+
+    fn lock(&self, file: &FailingFile<'a>) -> bool {
+        self.trouble.call().is_ok() && self.rt.lock(&file.file)
+    }
+
+    fn most_bytes(&self) -> u64 {
+        self.rt.most_bytes()
     }
 }
 
@@ -151,12 +169,18 @@ impl Write for FailingFile<'_> {
     fn write(&mut self, bytes: &[u8]) -> io::Result<usize> {
         self.trouble.call()?;
         let room = self.trouble.room.get();
-        let count = bytes.len().min(room).min(MOST_WRITTEN);
+        let there = self.file.metadata()?.len();
+        let inside = there.saturating_sub(self.file.seek(SeekFrom::Current(0))?) as usize;
+        let count = bytes
+            .len()
+            .min(room.saturating_add(inside))
+            .min(MOST_WRITTEN);
         if count == 0 && !bytes.is_empty() {
             return Err(Error::from(ErrorKind::StorageFull));
         }
         let written = self.file.write(&bytes[..count])?;
-        self.trouble.room.set(room.saturating_sub(written));
+        let grown = written.saturating_sub(inside);
+        self.trouble.room.set(room.saturating_sub(grown));
         self.trouble.unsynced.set(true);
         Ok(written)
     }

@@ -8,6 +8,8 @@ mod failing_files;
 #[cfg(test)]
 mod files;
 #[cfg(test)]
+mod others;
+#[cfg(test)]
 mod place;
 #[cfg(test)]
 mod trouble;

@@ -1,13 +1,20 @@
 // What a store asks of open files and of the process, beside what std's trait of file systems has.
 use std::alloc::Allocator;
 use std::fs::{File, Files, TryLockError};
-use std::io;
+use std::io::Read;
 use std::os::fd::AsFd;
 use std::os::unix::fs::fchown;
 use std::rt::LibcRuntime;
+use std::{fs, io};
 
-/// What `getrlimit` is asked for the most bytes of a file that this process writes.
-const RLIMIT_FSIZE: i32 = 1;
+/// Where Linux tells the limits of this process, a line each: its name, the limit, how far it may be raised, and a unit.
+const LIMITS: &str = "/proc/self/limits";
+
+/// How much of it is read, more than twice what it has.
+const LIMITS_LENGTH: usize = 4_096;
+
+/// The name of the limit on the bytes of a file.
+const FILE_SIZE: &str = "Max file size";
 
 /// A file system whose open files have owners and locks.
 pub trait Disk: Files {
@@ -18,7 +25,8 @@ pub trait Disk: Files {
     /// are no locks nobody has one.
     fn lock(&self, file: &Self::File) -> bool;
 
-    /// The most bytes that a file may have which this process writes. A write past it would end the process.
+    /// The most bytes that a file may have which this process writes. A write past it would end the process. Where the
+    /// system doesn't tell, any number.
     fn most_bytes(&self) -> u64;
 }
 
@@ -32,12 +40,35 @@ impl Disk for LibcRuntime {
     }
 
     fn most_bytes(&self) -> u64 {
-        let mut limit = libc::types::rlimit {
-            rlim_cur: u64::MAX,
-            rlim_max: u64::MAX,
+        let mut text = [0u8; LIMITS_LENGTH];
+        let Ok(mut limits) = fs::open(self, LIMITS) else {
+            return u64::MAX;
         };
-        libc::getrlimit(RLIMIT_FSIZE, &mut limit);
-        limit.rlim_cur
+        match limits.read(&mut text) {
+            Ok(count) => most_bytes_in(&text[..count]),
+            Err(_) => u64::MAX,
+        }
+    }
+}
+
+/// The most bytes of a file, by the text of the limits. Where it names no number there is no limit.
+fn most_bytes_in(limits: &[u8]) -> u64 {
+    let Ok(limits) = str::from_utf8(limits) else {
+        return u64::MAX;
+    };
+    for line in limits.lines() {
+        if let Some(rest) = line.strip_prefix(FILE_SIZE) {
+            return number_of(rest);
+        }
+    }
+    u64::MAX
+}
+
+/// The number that is the first word.
+fn number_of(words: &str) -> u64 {
+    match words.split_whitespace().next() {
+        Some(word) => word.parse::<u64>().unwrap_or(u64::MAX),
+        None => u64::MAX,
     }
 }
 

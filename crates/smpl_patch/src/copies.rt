@@ -104,6 +104,7 @@ impl PlusBlock {
             lines.push(line.copy(alloc)?)?;
         }
         Ok(PlusBlock {
+            many: self.many,
             lines: Items::from_vec(lines),
         })
     }

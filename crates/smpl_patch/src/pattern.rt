@@ -48,6 +48,8 @@ pub struct PlusLine {
 /// A longest run of plus lines between which no line of a pattern stands.
 #[derive(Drop)]
 pub struct PlusBlock {
+    /// Its lines begin with `++`: what they put at one place does not clash.
+    pub many: bool,
     pub lines: Items<PlusLine>,
 }
 

@@ -7,8 +7,9 @@
 //! Of two edits of the text `a b c`, one that removes `b` and one that inserts after `b` clash at token 1. One that
 //! inserts before `b` and one that inserts after it do not.
 //!
-//! Two edits clash at a token where both remove it, both insert on one side of it, or one inserts at it and the other
-//! removes it. Equal edits count once. Only memory may be wanting. Nothing recurses.
+//! Two edits clash at a token where both remove it, where both insert on one side of it and one of these inserts is not
+//! from `++` lines, or where one inserts at it and the other removes it. Equal edits count once. Only memory may be
+//! wanting. Nothing recurses.
 //!
 //! Which edits a rule makes is for edit_marks, and what the text becomes for edit_unparse.
 #![tactic(auto)]

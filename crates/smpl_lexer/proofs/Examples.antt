@@ -7,12 +7,13 @@ use Rattle.smpl_patch.specs.Faults.{first_of}
 use Rattle.smpl_lexer.specs.declared.section.Role.TheVariants as role
 use Rattle.smpl_lexer.specs.declared.piece.LineKind.TheVariants.{Plain}
 use Rattle.smpl_lexer.specs.declared.token.PatchToken.{PatchToken}
+use Rattle.smpl_lexer.specs.declared.text.BodyLine.{BodyLine}
 use Rattle.smpl_lexer.specs.Lines.{lines_from, content}
 use Rattle.smpl_lexer.specs.Pieces.{sign_length, is_bad}
 use Rattle.smpl_lexer.specs.Tokens.{made, as_branch}
 use Rattle.smpl_lexer.specs.Headers.{header_stop, virtual_stop, header_faults, virtual_names}
 use Rattle.smpl_lexer.specs.CutLines.{CutLine}
-use Rattle.smpl_lexer.specs.Texts.{text_of, text_faults}
+use Rattle.smpl_lexer.specs.Texts.{body_line, text_of, text_faults}
 
 -- the last line may have no newline, and an empty line is one
 three_lines : lines_from 0 (codes "a" ++ (10 ∷ 10 ∷ codes "b")) ≡ record { start = 0; bytes = 97 ∷ 10 ∷ [] } ∷ record { start = 2; bytes = 10 ∷ [] } ∷ record { start = 3; bytes = 98 ∷ [] } ∷ []
@@ -113,7 +114,31 @@ one_rule : text_of 9 cut ≡ record {
     end = 9;
     header = at_sign 0 ∷ at_sign 1 ∷ [];
     decls = [];
-    body = record { sign = 45; start = 6; text = codes " a"; tokens = word (codes "a") 8 ∷ [] } ∷ [];
+    body = record { sign = 45; many = false; start = 6; text = codes " a"; tokens = word (codes "a") 8 ∷ [] } ∷ [];
   } ∷ [];
 }
 one_rule = refl
+
+-- a line of a body, its tokens aside
+abbrev line_of : List ℕ → BodyLine
+line_of bytes = body_line 0 bytes []
+
+-- `++` is one sign; in `+++ b;` it has a token `+` behind it
+two_signs : line_of (codes "++ b();") ≡ record { sign = 43; many = true; start = 0; text = codes " b();"; tokens = [] }
+two_signs = refl
+
+two_signs_and_a_token : line_of (codes "+++ b;") ≡ record { sign = 43; many = true; start = 0; text = codes "+ b;"; tokens = [] }
+two_signs_and_a_token = refl
+
+two_signs_alone : line_of (codes "++" ++ 10 ∷ []) ≡ record { sign = 43; many = true; start = 0; text = []; tokens = [] }
+two_signs_alone = refl
+
+-- the second sign of `+ +b;`, of `-++a;` and of ` ++a;` is a token
+one_sign_and_a_token : line_of (codes "+ +b;") ≡ record { sign = 43; many = false; start = 0; text = codes " +b;"; tokens = [] }
+one_sign_and_a_token = refl
+
+minus_and_tokens : line_of (codes "-++a;") ≡ record { sign = 45; many = false; start = 0; text = codes "++a;"; tokens = [] }
+minus_and_tokens = refl
+
+context_and_tokens : line_of (codes " ++a;") ≡ record { sign = 32; many = false; start = 0; text = codes " ++a;"; tokens = [] }
+context_and_tokens = refl

@@ -1,5 +1,5 @@
 -- What each line is: before the first rule stand `virtual` lines; a rule is a header, declarations, `@@`, and a body.
-use Rattle.std.specs.Prelude.{ℕ, ◌==◌, ◌||◌, not, Bool, true, false, if◌then◌else◌, List, [], ◌∷◌}
+use Rattle.std.specs.Prelude.{ℕ, ◌==◌, ◌||◌, ◌&&◌, not, Bool, true, false, if◌then◌else◌, List, [], ◌∷◌}
 use Rattle.smpl_lexer.specs.declared.section.Section.{Section}
 use Rattle.smpl_lexer.specs.declared.section.Section.TheVariants as section
 use Rattle.smpl_lexer.specs.declared.section.Role.{Role}
@@ -41,9 +41,15 @@ abbrev pub sign_of : List ℕ → ℕ
 sign_of [] = space
 sign_of (b ∷ bs) = if is_sign_byte b then b else space
 
+-- the line begins with `++`
+abbrev pub is_many : List ℕ → Bool
+is_many [] = false
+is_many (a ∷ []) = false
+is_many (a ∷ b ∷ bs) = a == plus && b == plus
+
 -- how many bytes of a line are its sign
 abbrev pub skipped : Role → List ℕ → ℕ
-skipped role.Body bytes = if sign_of bytes == space then 0 else 1
+skipped role.Body bytes = if sign_of bytes == space then 0 else (if is_many bytes then 2 else 1)
 skipped _ bytes = 0
 
 -- a line of plus code

@@ -13,7 +13,7 @@ use Rattle.smpl_lexer.specs.declared.text.RuleText.{RuleText}
 use Rattle.smpl_lexer.specs.declared.text.PatchText.{PatchText}
 use Rattle.smpl_lexer.specs.declared.gather.Gathered.{Gathered}
 use Rattle.smpl_lexer.specs.Lines.{lines_from, content}
-use Rattle.smpl_lexer.specs.Sections.{section_after, sign_of, skipped}
+use Rattle.smpl_lexer.specs.Sections.{section_after, sign_of, is_many, skipped}
 use Rattle.smpl_lexer.specs.Tokens.{as_branch}
 use Rattle.smpl_lexer.specs.Headers.{virtual_names, header_stop}
 use Rattle.smpl_lexer.specs.CutLines.{CutLine, AreCutLines, plain_tokens, faults_of}
@@ -40,6 +40,7 @@ new_rule start tokens = record { start = start; end = start; header = tokens; de
 abbrev pub body_line : ℕ → List ℕ → List PatchToken → BodyLine
 body_line start bytes tokens = record {
   sign = sign_of bytes;
+  many = is_many bytes;
   start = start;
   text = content (drop (skipped role.Body bytes) bytes);
   tokens = as_branch start tokens;

@@ -90,16 +90,16 @@ abbrev p_decl : List VarDecl
 p_decl = record { var = record { rule = 0; name = codes "p" }; kind = Position; inherited = false; not_names = []; not_places = [] } ∷ []
 
 abbrev placed : List Placed
-placed = pattern_tokens p_decl (record { sign = 32; start = 0; text = codes "x@p"; tokens = word (codes "x") 0 ∷ made Stray (codes "@") 1 ∷ word (codes "p") 2 ∷ [] } ∷ [])
+placed = pattern_tokens p_decl (record { sign = 32; many = false; start = 0; text = codes "x@p"; tokens = word (codes "x") 0 ∷ made Stray (codes "@") 1 ∷ word (codes "p") 2 ∷ [] } ∷ [])
 
 one_token : placed ≡ record { token = record { kind = Name; text = codes "x"; id = 0 }; at = 0; sign = 32; line = 0; positions = record { rule = 0; name = codes "p" } ∷ [] } ∷ []
 one_token = refl
 
 -- `... when != a` and in the next line `b`: the code ends with its line
 abbrev dotted : List Placed
-dotted = pattern_tokens [] (record { sign = 32; start = 0; text = []; tokens = made Dots (codes "...") 0 ∷ word (codes "when") 4 ∷ mark (codes "!=") 9 ∷ word (codes "a") 12 ∷ [] }
-    ∷ record { sign = 43; start = 14; text = []; tokens = word (codes "c") 15 ∷ [] }
-    ∷ record { sign = 32; start = 17; text = []; tokens = word (codes "b") 17 ∷ [] } ∷ [])
+dotted = pattern_tokens [] (record { sign = 32; many = false; start = 0; text = []; tokens = made Dots (codes "...") 0 ∷ word (codes "when") 4 ∷ mark (codes "!=") 9 ∷ word (codes "a") 12 ∷ [] }
+    ∷ record { sign = 43; many = false; start = 14; text = []; tokens = word (codes "c") 15 ∷ [] }
+    ∷ record { sign = 32; many = false; start = 17; text = []; tokens = word (codes "b") 17 ∷ [] } ∷ [])
 
 two_outside : length (split dotted).main ≡ 2
 two_outside = refl

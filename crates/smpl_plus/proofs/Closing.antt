@@ -1,5 +1,5 @@
 -- Blocks that are opened and closed.
-use Rattle.std.proofs.Common.{◌≡◌, ℕ, zero, suc, ◌<◌, ◌≤◌, ◌==◌, Bool, true, false, if◌then◌else◌, List, [], ◌∷◌, ◌++◌, map, length, Option, Some, None, refl, sym, ap, ◌∙◌, subst, append_assoc, arith, set, get_or}
+use Rattle.std.proofs.Common.{◌≡◌, ℕ, zero, suc, ◌<◌, ◌≤◌, ◌==◌, Bool, true, false, if◌then◌else◌, List, [], ◌∷◌, ◌++◌, map, length, Option, Some, None, is_some, refl, sym, ap, ◌∙◌, subst, append_assoc, arith, set, get_or}
 use Rattle.std.proofs.lemmas.List.{append-nil, length-append}
 use Rattle.std.proofs.lemmas.Bool.{eq-eqb}
 use Rattle.std.proofs.lemmas.Bool.Decides.{nat_tests}
@@ -16,9 +16,9 @@ use Rattle.smpl_plus.specs.declared.anchors.Anchor.{Anchor}
 use Rattle.smpl_plus.specs.declared.anchors.OpenBlock.{OpenBlock}
 use Rattle.smpl_plus.specs.declared.anchors.Anchoring.{Anchoring}
 use Rattle.smpl_plus.specs.Outside.{may_anchor}
-use Rattle.smpl_plus.specs.Blocks.{Block, Blocks, ended, all_blocks, has_tokens, put_line, with_plus, IsPlusLine, ArePlusLines, ArePlusBlocks}
-use Rattle.smpl_plus.specs.Anchors.{tokens_before, place_of_block, anchor_at, anchor_of, no_anchor, anchor_faults, bare, changed, with_block, with_blocks}
-use Rattle.smpl_plus.specs.SoFar.{IsOpen, SoFar}
+use Rattle.smpl_plus.specs.Blocks.{Block, Blocks, ended, all_blocks, has_tokens, put_line, with_plus, is_many, IsPlusLine, ArePlusLines, IsPlusBlock, ArePlusBlocks}
+use Rattle.smpl_plus.specs.Anchors.{tokens_before, place_of_block, anchor_at, anchor_of, no_anchor, differ, other_in, mixed_at, block_faults, anchor_faults, bare, changed, with_block, with_blocks}
+use Rattle.smpl_plus.specs.SoFar.{IsKept, IsOpen, SoFar}
 
 -- another item at a place
 pub changed-set : (f : PatToken → PatToken) (n : ℕ) (ts : List PatToken) (d : PatToken) → n < length ts → changed f n ts ≡ set ts n (f (get_or ts n d))
@@ -34,7 +34,7 @@ changed_past f (suc n) (t ∷ ts) h = ap (λ (l : List PatToken). t ∷ l) (chan
 -- ---- one more block
 
 blocks-append : (vars : List VarDecl) (bs : List Block) (cs : List PlusBlock) (b : Block) (c : PlusBlock)
-    → ArePlusBlocks vars bs cs → ArePlusLines vars b.lines c.lines → ArePlusBlocks vars (bs ++ b ∷ []) (cs ++ c ∷ [])
+    → ArePlusBlocks vars bs cs → IsPlusBlock vars b c → ArePlusBlocks vars (bs ++ b ∷ []) (cs ++ c ∷ [])
 blocks-append vars [] [] b c are lines = (lines, tt)
 blocks-append vars [] (d ∷ cs) b c are lines = absurd are
 blocks-append vars (a ∷ bs) [] b c are lines = absurd are
@@ -47,13 +47,25 @@ with_blocks-append vars ps ts [] (d ∷ cs) b c are = absurd are
 with_blocks-append vars ps ts (a ∷ bs) [] b c are = absurd are
 with_blocks-append vars ps ts (a ∷ bs) (d ∷ cs) b c are = with_blocks-append vars ps (with_block ts (anchor_of ps a) d) bs cs b c are.1
 
-faults-append : (ps : List Placed) (bs : List Block) (b : Block) → anchor_faults ps (bs ++ b ∷ []) ≡ anchor_faults ps bs ++ no_anchor (anchor_of ps b) (place_of_block b.lines)
-faults-append ps [] b = append-nil (no_anchor (anchor_of ps b) (place_of_block b.lines))
+faults-append : (ps : List Placed) (bs : List Block) (b : Block) → anchor_faults ps (bs ++ b ∷ []) ≡ anchor_faults ps bs ++ block_faults ps b
+faults-append ps [] b = append-nil (block_faults ps b)
 faults-append ps (a ∷ bs) b =
-    ap (λ (l : List PatchFault). no_anchor (anchor_of ps a) (place_of_block a.lines) ++ l) (faults-append ps bs b)
-    ∙ sym (append_assoc (no_anchor (anchor_of ps a) (place_of_block a.lines)) (anchor_faults ps bs) (no_anchor (anchor_of ps b) (place_of_block b.lines)))
+    ap (λ (l : List PatchFault). block_faults ps a ++ l) (faults-append ps bs b)
+    ∙ sym (append_assoc (block_faults ps a) (anchor_faults ps bs) (block_faults ps b))
+
+-- the faults of one more block
+first-block : (ps : List Placed) (first : Option PatchFault) (x : Block) (anchor : Option Anchor) (at : ℕ) (other : Option ℕ)
+    → anchor ≡ anchor_of ps x → at ≡ place_of_block x.lines → other ≡ other_in (is_many x.lines) x.lines
+    → first_from (first_from first (no_anchor anchor at)) (mixed_at other) ≡ first_from first (block_faults ps x)
+first-block ps first x anchor at other a p o =
+    (λ i. first_from (first_from first (no_anchor (a i) (p i))) (mixed_at (o i)))
+    ∙ sym (first_append first (no_anchor (anchor_of ps x) (place_of_block x.lines)) (mixed_at (other_in (is_many x.lines) x.lines)))
 
 -- ---- closing
+
+-- the lines that are kept, and their kind
+abbrev pub block_of : OpenBlock → PlusBlock
+block_of o = record { many = o.many; lines = o.lines }
 
 abbrev pub closed_blocks : Blocks → Blocks
 closed_blocks b = record { whole = all_blocks b; last = None }
@@ -76,35 +88,36 @@ pub close-none : (vars : List VarDecl) (ps : List Placed) (b : Blocks) (a r : An
 close-none vars ps b a r none tokens first closed s = none_by vars ps b a r b.last refl (subst (IsOpen vars ps b.last) none s.last) tokens first closed s
 
 some_by : (vars : List VarDecl) (ps : List Placed) (may : List Bool) (b : Blocks) (a r : Anchoring) (o : OpenBlock) (anchor : Option Anchor) (c : PlusBlock) (last : Option Block) → b.last ≡ last
-    → may ≡ may_anchor ps → IsOpen vars ps last (Some o) → anchor ≡ anchor_at may o.before → c.lines ≡ o.lines
-    → r.tokens.items ≡ with_block a.tokens.items anchor c → r.first ≡ first_from a.first (no_anchor anchor o.at) → r.pending ≡ None
+    → may ≡ may_anchor ps → IsOpen vars ps last (Some o) → anchor ≡ anchor_at may o.before → c ≡ block_of o
+    → r.tokens.items ≡ with_block a.tokens.items anchor c
+    → r.first ≡ first_from (first_from a.first (no_anchor anchor o.at)) (mixed_at o.other) → r.pending ≡ None
     → (s : SoFar vars ps b a) → SoFar vars ps (closed_blocks b) r
 some_by vars ps may b a r o anchor c None e m kept an cl tokens first closed s = absurd kept
 some_by vars ps may b a r o anchor c (Some x) e m kept an cl tokens first closed s =
     let same : b.whole ++ x ∷ [] ≡ all_blocks b = ap (λ (o : Option Block). b.whole ++ ended o) (sym e) in
-    let its : anchor ≡ anchor_of ps x = an ∙ ap (λ (l : List Bool). anchor_at l o.before) m ∙ ap (anchor_at (may_anchor ps)) kept.2 in
+    let its : anchor ≡ anchor_of ps x = an ∙ ap (λ (l : List Bool). anchor_at l o.before) m ∙ ap (anchor_at (may_anchor ps)) kept.before in
     let all-tokens : r.tokens.items ≡ with_blocks ps (map bare ps) (b.whole ++ x ∷ []) (s.blocks ++ c ∷ []) =
     tokens ∙ ap (λ (ts : List PatToken). with_block ts anchor c) s.tokens
     ∙ ap (λ (n : Option Anchor). with_block (with_blocks ps (map bare ps) b.whole s.blocks) n c) its
     ∙ sym (with_blocks-append vars ps (map bare ps) b.whole s.blocks x c s.lines) in
     let all-first : r.first ≡ first_from None (anchor_faults ps (b.whole ++ x ∷ [])) =
-    first ∙ ap (λ (f : Option PatchFault). first_from f (no_anchor anchor o.at)) s.first
-    ∙ ap (λ (n : Option Anchor). first_from (first_from None (anchor_faults ps b.whole)) (no_anchor n o.at)) its
-    ∙ ap (λ (n : ℕ). first_from (first_from None (anchor_faults ps b.whole)) (no_anchor (anchor_of ps x) n)) kept.3
-    ∙ sym (first_append None (anchor_faults ps b.whole) (no_anchor (anchor_of ps x) (place_of_block x.lines)))
+    first ∙ first-block ps a.first x anchor o.at o.other its kept.at kept.other
+    ∙ ap (λ (f : Option PatchFault). first_from f (block_faults ps x)) s.first
+    ∙ sym (first_append None (anchor_faults ps b.whole) (block_faults ps x))
     ∙ ap (first_from None) (sym (faults-append ps b.whole x)) in
     record {
       blocks = s.blocks ++ c ∷ [];
       lines = subst (λ (l : List Block). ArePlusBlocks vars l (s.blocks ++ c ∷ [])) same
-          (blocks-append vars b.whole s.blocks x c s.lines (subst (ArePlusLines vars x.lines) (sym cl) kept.1));
+          (blocks-append vars b.whole s.blocks x c s.lines (subst (IsPlusBlock vars x) (sym cl) (record { lines = kept.lines; many = kept.many })));
       tokens = all-tokens ∙ ap (λ (l : List Block). with_blocks ps (map bare ps) l (s.blocks ++ c ∷ [])) same;
       first = all-first ∙ ap (λ (l : List Block). first_from None (anchor_faults ps l)) same;
       last = subst (IsOpen vars ps None) (sym closed) tt;
     }
 
 pub close-some : (vars : List VarDecl) (ps : List Placed) (may : List Bool) (b : Blocks) (a r : Anchoring) (o : OpenBlock) (anchor : Option Anchor) (c : PlusBlock)
-    → a.pending ≡ Some o → may ≡ may_anchor ps → anchor ≡ anchor_at may o.before → c.lines ≡ o.lines
-    → r.tokens.items ≡ with_block a.tokens.items anchor c → r.first ≡ first_from a.first (no_anchor anchor o.at) → r.pending ≡ None
+    → a.pending ≡ Some o → may ≡ may_anchor ps → anchor ≡ anchor_at may o.before → c ≡ block_of o
+    → r.tokens.items ≡ with_block a.tokens.items anchor c
+    → r.first ≡ first_from (first_from a.first (no_anchor anchor o.at)) (mixed_at o.other) → r.pending ≡ None
     → SoFar vars ps b a → SoFar vars ps (closed_blocks b) r
 close-some vars ps may b a r o anchor c some m an cl tokens first closed s =
     some_by vars ps may b a r o anchor c b.last refl m (subst (IsOpen vars ps b.last) some s.last) an cl tokens first closed s
@@ -122,20 +135,53 @@ place-append : (ls : List BodyLine) (l : BodyLine) → 0 < length ls → place_o
 place-append [] l h = absurd (omega arith)
 place-append (k ∷ ls) l h = refl
 
+many-append : (ls : List BodyLine) (l : BodyLine) → 0 < length ls → is_many (ls ++ l ∷ []) ≡ is_many ls
+many-append [] l h = absurd (omega arith)
+many-append (k ∷ ls) l h = refl
+
+-- the first of the other kind, after one more line
+abbrev pub other-with : Option ℕ → Bool → BodyLine → Option ℕ
+other-with other many l = if is_some other then other else other_in many (l ∷ [])
+
+other-append : (many : Bool) (ls : List BodyLine) (l : BodyLine) → other_in many (ls ++ l ∷ []) ≡ other-with (other_in many ls) many l
+other-append many [] l = refl
+other-append many (k ∷ ls) l = by (differ many k.many)
+  where
+    by : (t : Bool) → (if t then Some k.start else other_in many (ls ++ l ∷ [])) ≡ other-with (if t then Some k.start else other_in many ls) many l
+    by true = refl
+    by false = other-append many ls l
+
+same-kind : (many : Bool) → differ many many ≡ false
+same-kind true = refl
+same-kind false = refl
+
+none-other : (l : BodyLine) → other_in l.many (l ∷ []) ≡ None
+none-other l = ap (λ (t : Bool). if t then Some l.start else None) (same-kind l.many)
+
 pub open-new : (vars : List VarDecl) (ps : List Placed) (b : Option Block) (n : ℕ) (l : BodyLine) (q : PlusLine) (o : OpenBlock)
-    → IsOpen vars ps b None → o.before ≡ tokens_before n ps → o.at ≡ l.start → o.lines ≡ q ∷ [] → IsPlusLine vars l q → IsOpen vars ps (Some (with_plus b n l)) (Some o)
-open-new vars ps (Some x) n l q o kept before at lines is = absurd kept
-open-new vars ps None n l q o kept before at lines is = (omega arith, subst (ArePlusLines vars (l ∷ [])) (sym lines) (is, tt), before, at)
+    → IsOpen vars ps b None → o.before ≡ tokens_before n ps → o.at ≡ l.start → o.many ≡ l.many → o.other ≡ None → o.lines ≡ q ∷ [] → IsPlusLine vars l q → IsOpen vars ps (Some (with_plus b n l)) (Some o)
+open-new vars ps (Some x) n l q o kept before at many other lines is = absurd kept
+open-new vars ps None n l q o kept before at many other lines is = record {
+  some = omega arith;
+  lines = subst (ArePlusLines vars (l ∷ [])) (sym lines) (is, tt);
+  before = before;
+  at = at;
+  many = many;
+  other = other ∙ sym (none-other l);
+}
 
 pub open-more : (vars : List VarDecl) (ps : List Placed) (b : Option Block) (n : ℕ) (l : BodyLine) (q : PlusLine) (old o : OpenBlock)
-    → IsOpen vars ps b (Some old) → o.before ≡ old.before → o.at ≡ old.at → o.lines ≡ old.lines ++ q ∷ [] → IsPlusLine vars l q → IsOpen vars ps (Some (with_plus b n l)) (Some o)
-open-more vars ps None n l q old o kept before at lines is = absurd kept
-open-more vars ps (Some x) n l q old o kept before at lines is = (
-  omega (arith, length-append x.lines (l ∷ [])),
-  subst (ArePlusLines vars (x.lines ++ l ∷ [])) (sym lines) (lines-append vars x.lines old.lines l q kept.1 is),
-  before ∙ kept.2,
-  at ∙ kept.3 ∙ sym (place-append x.lines l kept.0),
-)
+    → IsOpen vars ps b (Some old) → o.before ≡ old.before → o.at ≡ old.at → o.many ≡ old.many → o.other ≡ other-with old.other old.many l → o.lines ≡ old.lines ++ q ∷ [] → IsPlusLine vars l q → IsOpen vars ps (Some (with_plus b n l)) (Some o)
+open-more vars ps None n l q old o kept before at many other lines is = absurd kept
+open-more vars ps (Some x) n l q old o kept before at many other lines is = record {
+  some = omega (arith, length-append x.lines (l ∷ []));
+  lines = subst (ArePlusLines vars (x.lines ++ l ∷ [])) (sym lines) (lines-append vars x.lines old.lines l q kept.lines is);
+  before = before ∙ kept.before;
+  at = at ∙ kept.at ∙ sym (place-append x.lines l kept.some);
+  many = many ∙ kept.many ∙ sym (many-append x.lines l kept.some);
+  other = other ∙ (λ i. other-with (kept.other i) (kept.many i) l) ∙ sym (other-append (is_many x.lines) x.lines l)
+      ∙ ap (λ (t : Bool). other_in t (x.lines ++ l ∷ [])) (sym (many-append x.lines l kept.some));
+}
 
 -- ---- one more line
 

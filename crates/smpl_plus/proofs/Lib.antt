@@ -5,3 +5,4 @@ pub mod Ending
 pub mod Splitting
 pub mod PlusOnce
 pub mod Short
+pub mod Examples

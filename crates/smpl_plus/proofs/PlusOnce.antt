@@ -65,8 +65,9 @@ module _ (vars : List VarDecl) where
   blocks_once (b ∷ bs) [] ds one other = absurd one
   blocks_once (b ∷ bs) (c ∷ cs) [] one other = absurd other
   blocks_once (b ∷ bs) (c ∷ cs) (d ∷ ds) one other =
-      let lines = lines_once b.lines c.lines d.lines one.0 other.0 in
-      let block : c ≡ d = ap (λ (ls : List PlusLine). record { lines = ls }) lines in
+      let lines = lines_once b.lines c.lines d.lines one.0.lines other.0.lines in
+      let many = one.0.many ∙ sym other.0.many in
+      let block : c ≡ d = λ i. record { many = many i; lines = lines i } in
       ap (λ (x : PlusBlock). x ∷ cs) block ∙ ap (λ (x : List PlusBlock). d ∷ x) (blocks_once bs cs ds one.1 other.1)
 
 -- ---- tokens

@@ -1,5 +1,5 @@
 -- Where plus code is anchored, and what stands at each token of a pattern.
-use Rattle.std.specs.Prelude.{ℕ, zero, suc, ◌-◌, ◌≡◌, ◌==◌, ◌&&◌, nat_lt, Bool, true, false, if◌then◌else◌, List, [], ◌∷◌, ◌++◌, map, length, Option, Some, None, slice_index_or, All, ◌<◌, ◌^◌}
+use Rattle.std.specs.Prelude.{ℕ, zero, suc, ◌-◌, ◌≡◌, ◌==◌, ◌&&◌, not, nat_lt, Bool, true, false, if◌then◌else◌, List, [], ◌∷◌, ◌++◌, map, length, Option, Some, None, slice_index_or, All, ◌<◌, ◌^◌}
 use Rattle.smpl_patch.specs.declared.pattern.VarDecl.{VarDecl}
 use Rattle.smpl_patch.specs.declared.pattern.Mark.{Mark}
 use Rattle.smpl_patch.specs.declared.pattern.Mark.TheVariants as mark
@@ -13,7 +13,7 @@ use Rattle.smpl_meta.specs.Heads.{has_edit}
 use Rattle.smpl_meta.specs.declared.patterns.Placed.{Placed}
 use Rattle.smpl_meta.specs.Patterns.{pattern_tokens}
 use Rattle.smpl_plus.specs.Outside.{may_anchor}
-use Rattle.smpl_plus.specs.Blocks.{Block, blocks_of, ArePlusBlocks}
+use Rattle.smpl_plus.specs.Blocks.{Block, blocks_of, is_many, ArePlusBlocks}
 use Rattle.smpl_plus.specs.declared.anchors.Anchor.{Anchor}
 use Rattle.smpl_plus.specs.declared.anchors.Anchor.TheVariants.{Before, After}
 
@@ -54,9 +54,27 @@ abbrev pub no_anchor : Option Anchor → ℕ → List PatchFault
 no_anchor None at = PlusWithoutAnchor at ∷ []
 no_anchor (Some a) at = []
 
+-- one of two lines begins with `+` alone, and the other with `++`
+abbrev pub differ : Bool → Bool → Bool
+differ true b = not b
+differ false b = b
+
+-- where the first of the lines begins that is not of this kind
+abbrev pub other_in : Bool → List BodyLine → Option ℕ
+other_in many [] = None
+other_in many (l ∷ ls) = if differ many l.many then Some l.start else other_in many ls
+
+abbrev pub mixed_at : Option ℕ → List PatchFault
+mixed_at None = []
+mixed_at (Some at) = PlusWithoutAnchor at ∷ []
+
+-- A block has an anchor, and lines of the kind of its first one.
+abbrev pub block_faults : List Placed → Block → List PatchFault
+block_faults ps b = no_anchor (anchor_of ps b) (place_of_block b.lines) ++ mixed_at (other_in (is_many b.lines) b.lines)
+
 abbrev pub anchor_faults : List Placed → List Block → List PatchFault
 anchor_faults ps [] = []
-anchor_faults ps (b ∷ bs) = no_anchor (anchor_of ps b) (place_of_block b.lines) ++ anchor_faults ps bs
+anchor_faults ps (b ∷ bs) = block_faults ps b ++ anchor_faults ps bs
 
 -- the first of a phase's faults, and where there is none the first of the phases behind it
 abbrev pub first_phase : List (List PatchFault) → Option PatchFault

@@ -1,5 +1,5 @@
 -- Plus code: longest runs of plus lines between which no line of a pattern stands.
-use Rattle.std.specs.Prelude.{ℕ, suc, ◌≡◌, ◌==◌, Bool, if◌then◌else◌, ⊤, List, [], ◌∷◌, ◌++◌, map, length, Option, Some, None}
+use Rattle.std.specs.Prelude.{ℕ, suc, ◌≡◌, ◌==◌, Bool, false, if◌then◌else◌, ⊤, List, [], ◌∷◌, ◌++◌, map, length, Option, Some, None}
 use Rattle.std.specs.List.{list_any}
 use Rattle.c_lexer.specs.declared.state.Kind.{Kind}
 use Rattle.c_lexer.specs.declared.state.Kind.TheVariants as kind
@@ -102,8 +102,18 @@ ArePlusLines vars [] (p ∷ ps) = ⊥
 ArePlusLines vars (l ∷ ls) [] = ⊥
 ArePlusLines vars (l ∷ ls) (p ∷ ps) = IsPlusLine vars l p × ArePlusLines vars ls ps
 
+-- the first of the lines begins with `++`
+abbrev pub is_many : List BodyLine → Bool
+is_many [] = false
+is_many (l ∷ ls) = l.many
+
+-- The block is of these lines, and of the kind of the first of them.
+pub record IsPlusBlock (vars : List VarDecl) (b : Block) (c : PlusBlock) : Type 0 where
+  pub lines : ArePlusLines vars b.lines c.lines
+  pub many : c.many ≡ is_many b.lines
+
 abbrev pub ArePlusBlocks : List VarDecl → List Block → List PlusBlock → Type 0
 ArePlusBlocks vars [] [] = ⊤
 ArePlusBlocks vars [] (c ∷ cs) = ⊥
 ArePlusBlocks vars (b ∷ bs) [] = ⊥
-ArePlusBlocks vars (b ∷ bs) (c ∷ cs) = ArePlusLines vars b.lines c.lines × ArePlusBlocks vars bs cs
+ArePlusBlocks vars (b ∷ bs) (c ∷ cs) = IsPlusBlock vars b c × ArePlusBlocks vars bs cs

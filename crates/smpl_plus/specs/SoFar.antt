@@ -6,8 +6,8 @@ use Rattle.smpl_patch.specs.Faults.{first_from}
 use Rattle.smpl_meta.specs.declared.patterns.Placed.{Placed}
 use Rattle.smpl_plus.specs.declared.anchors.OpenBlock.{OpenBlock}
 use Rattle.smpl_plus.specs.declared.anchors.Anchoring.{Anchoring}
-use Rattle.smpl_plus.specs.Blocks.{Block, Blocks, ArePlusLines, ArePlusBlocks}
-use Rattle.smpl_plus.specs.Anchors.{tokens_before, place_of_block, anchor_faults, bare, with_blocks}
+use Rattle.smpl_plus.specs.Blocks.{Block, Blocks, is_many, ArePlusLines, ArePlusBlocks}
+use Rattle.smpl_plus.specs.Anchors.{tokens_before, place_of_block, other_in, anchor_faults, bare, with_blocks}
 
 -- ---- lines of tokens
 
@@ -33,13 +33,21 @@ pub record AtLine (line k : ℕ) (ps : List Placed) : Type 0 where
 
 -- ---- blocks
 
+-- a block to which more lines may come, as it is kept
+pub record IsKept (vars : List VarDecl) (ps : List Placed) (b : Block) (o : OpenBlock) : Type 0 where
+  pub some : 0 < length b.lines
+  pub lines : ArePlusLines vars b.lines o.lines
+  pub before : o.before ≡ tokens_before b.first ps
+  pub at : o.at ≡ place_of_block b.lines
+  pub many : o.many ≡ is_many b.lines
+  pub other : o.other ≡ other_in (is_many b.lines) b.lines
+
 -- the block that is open, as it is kept
 abbrev pub IsOpen : List VarDecl → List Placed → Option Block → Option OpenBlock → Type 0
 IsOpen vars ps None None = ⊤
 IsOpen vars ps None (Some o) = ⊥
 IsOpen vars ps (Some b) None = ⊥
-IsOpen vars ps (Some b) (Some o) =
-    (0 < length b.lines) × ArePlusLines vars b.lines o.lines × (o.before ≡ tokens_before b.first ps) × (o.at ≡ place_of_block b.lines)
+IsOpen vars ps (Some b) (Some o) = IsKept vars ps b o
 
 pub record SoFar (vars : List VarDecl) (ps : List Placed) (b : Blocks) (a : Anchoring) : Type 0 where
   pub blocks : List PlusBlock

@@ -1,5 +1,5 @@
 // Plus code, and the tokens at which it is anchored.
-ghost use Rattle.std.specs.Prelude.{◌≡◌, ◌≤◌, ◌<◌, ◌+◌, ◌^◌, ℕ, List, Option, All, map, length, drop, Some, None as NoOption, IfOk, OnOk};
+ghost use Rattle.std.specs.Prelude.{◌≡◌, ◌≤◌, ◌<◌, ◌+◌, ◌^◌, ◌∷◌, [], ℕ, List, Option, All, map, length, drop, Some, None as NoOption, IfOk, OnOk, is_some, if◌then◌else◌};
 ghost use Rattle.smpl_patch.specs.Faults.{first_from};
 ghost use Rattle.smpl_patch.specs.declared.pattern.VarDecl.{VarDecl as Variable};
 ghost use Rattle.smpl_lexer.specs.declared.text.BodyLine.{BodyLine as Line};
@@ -26,11 +26,17 @@ pub enum Anchor {
     After(usize),
 }
 
-/// Plus lines to which more may come: how many pattern tokens stand before them, and the offset of the first.
+/// Plus lines to which more may come.
 #[derive(Drop)]
 pub struct OpenBlock {
+    /// How many pattern tokens stand before them.
     pub before: usize,
+    /// The offset of the first.
     pub at: u32,
+    /// The first begins with `++`.
+    pub many: bool,
+    /// The offset of the first that is of the other kind.
+    pub other: Option<u32>,
     pub lines: Items<PlusLine>,
 }
 
@@ -153,6 +159,15 @@ fn with_fault(first: Option<PatchFault>, anchor: Option<Anchor>, at: u32) -> Opt
     }
 }
 
+fn with_other(first: Option<PatchFault>, other: Option<u32>) -> Option<PatchFault>
+    ensures { result ≡ first_from first (told.mixed_at other) }
+{
+    match other {
+        None => first,
+        Some(at) => Some(earlier(first, PatchFault::PlusWithoutAnchor(at))),
+    }
+}
+
 /// Anchors the open block, if there is one.
 pub fn closed(may: &[bool], s: Anchoring) -> Anchoring
     ensures { (vars : List Variable) (ps : List Word) (b : Blocks) → may.now ≡ may_of ps →
@@ -171,14 +186,40 @@ pub fn closed(may: &[bool], s: Anchoring) -> Anchoring
             first,
         },
         Some(block) => {
-            let OpenBlock { before, at, lines } = block;
+            let OpenBlock {
+                before,
+                at,
+                many,
+                other,
+                lines,
+            } = block;
             let anchor = anchor_at(may, before);
             Anchoring {
-                tokens: with_block(tokens, anchor, PlusBlock { lines }),
+                tokens: with_block(tokens, anchor, PlusBlock { many, lines }),
                 pending: None,
-                first: with_fault(first, anchor, at),
+                first: with_other(with_fault(first, anchor, at), other),
             }
         }
+    }
+}
+
+/// Whether one of two lines begins with `+` alone, and the other with `++`.
+fn differ(many: bool, other: bool) -> bool
+    ensures { result ≡ told.differ many other }
+{
+    if many { !other } else { other }
+}
+
+/// Where the first line of the other kind begins, after one more line.
+fn first_other(other: Option<u32>, many: bool, l: &BodyLine) -> Option<u32>
+    ensures { result ≡ (if is_some other then other else told.other_in many (l.now ∷ [])) }
+{
+    if other.is_some() {
+        other
+    } else if differ(many, l.many) {
+        Some(l.start)
+    } else {
+        None
     }
 }
 
@@ -187,27 +228,42 @@ fn with_plus(
     alloc: Global,
     pending: Option<OpenBlock>,
     before: usize,
-    at: u32,
+    l: &BodyLine,
     line: PlusLine,
 ) -> Result<OpenBlock, NoMemory>
-    ensures { IfOk result (λ o. (vars : List Variable) (ps : List Word) (b : Option Block) (n : ℕ)
-        (l : Line) → IsOpen vars ps b pending → before ≡ told.tokens_before n ps → at ≡ l.start →
-        IsPlusLine vars l line → IsOpen vars ps (Some (blocks.with_plus b n l)) (Some o)) }
+    ensures { IfOk result (λ o. (vars : List Variable) (ps : List Word) (b : Option Block) (n : ℕ) →
+        IsOpen vars ps b pending → before ≡ told.tokens_before n ps →
+        IsPlusLine vars l.now line → IsOpen vars ps (Some (blocks.with_plus b n l.now)) (Some o)) }
 {
     match pending {
         None => {
             let mut lines = Items::new(alloc);
             lines.push(line)?;
-            Ok(OpenBlock { before, at, lines })
+            Ok(OpenBlock {
+                before,
+                at: l.start,
+                many: l.many,
+                other: None,
+                lines,
+            })
         }
         Some(block) => {
             let OpenBlock {
                 before,
                 at,
+                many,
+                other,
                 mut lines,
             } = block;
+            let other = first_other(other, many, l);
             lines.push(line)?;
-            Ok(OpenBlock { before, at, lines })
+            Ok(OpenBlock {
+                before,
+                at,
+                many,
+                other,
+                lines,
+            })
         }
     }
 }
@@ -252,7 +308,7 @@ fn with_line(
             pending,
             first,
         } = s;
-        let pending = Some(with_plus(alloc, pending, before, l.start, line)?);
+        let pending = Some(with_plus(alloc, pending, before, l, line)?);
         return Ok(Anchoring {
             tokens,
             pending,

@@ -1,7 +1,8 @@
 //! Anchors plus code: what stands at each token of a rule's patterns.
 //!
 //! - [`anchor`] answers the marks, positions and plus code of a rule's pattern tokens, in order, or the first fault: a
-//!   `*` line beside a `-` or `+` line, and where there is none the first plus code that has no anchor.
+//!   `*` line beside a `-` or `+` line, and where there is none the first plus code that has no anchor or has lines of
+//!   both kinds, `+` and `++`.
 //! - [`plus_code_is_read_once`], [`tokens_keep_their_lines`] and [`outside_tokens_are_main`] are laws.
 //!
 //! A longest run of plus lines between which no line of a pattern stands is a block. It is anchored behind the last token
@@ -103,7 +104,8 @@ fn anchor_body(
 /// more rules, lines and bytes than a patch may have, as every text that was read. Linear in the rule.
 ///
 /// - `StarWithEdit`: the rule has a `*` line and a `-` or `+` line. Nothing else is looked for then.
-/// - `PlusWithoutAnchor`: the first `+` of the first plus code that has no anchor.
+/// - `PlusWithoutAnchor`: the first `+` of the first plus code that has no anchor, or the first line that begins with `+`
+///   alone in a block that begins with `++`, or with `++` in one that doesn't.
 /// - `NoMemory`: memory was refused, and nothing is kept.
 pub fn anchor(
     alloc: Global,

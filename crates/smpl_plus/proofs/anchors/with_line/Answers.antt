@@ -10,7 +10,7 @@ returns-then-l-eq43 c = λ b s.
     let n = c.args.number in
     let l = c.args.l.now in
     plus-line vars ps b c.args.s _ n l c.in_ok-with_plus.field-0 c.if-l-eq43.true refl refl refl
-    (c.in_ok-with_plus.ensures vars ps b.last n l s.last (at-count n c.args.before ps c.requires.at) refl c.in_ok-line.ensures) s
+    (c.in_ok-with_plus.ensures vars ps b.last n s.last (at-count n c.args.before ps c.requires.at) c.in_ok-line.ensures) s
 
 pub returns-then-run-gt0 : goal.returns-then-run-gt0
 returns-then-run-gt0 c = λ b s.

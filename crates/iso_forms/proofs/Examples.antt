@@ -93,5 +93,5 @@ two_marks = refl
 a_position : are_plain (at mark.Context [] None ∷ at mark.Context (record { rule = 0; name = codes "p" } ∷ []) None ∷ []) two ≡ false
 a_position = refl
 
-plus_code : are_plain (at mark.Context [] (Some (record { lines = [] })) ∷ at mark.Context [] None ∷ []) two ≡ false
+plus_code : are_plain (at mark.Context [] (Some (record { many = false; lines = [] })) ∷ at mark.Context [] None ∷ []) two ≡ false
 plus_code = refl

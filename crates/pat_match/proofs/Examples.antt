@@ -53,7 +53,7 @@ abbrev bare_entry : PatToken
 bare_entry = record { mark = mark.Minus; positions = []; before = None; after = None }
 
 abbrev with_plus : PatToken
-with_plus = record { mark = mark.Context; positions = []; before = Some (record { lines = [] }); after = None }
+with_plus = record { mark = mark.Context; positions = []; before = Some (record { many = false; lines = [] }); after = None }
 
 -- the position p, which must not be where q is
 abbrev p_not_q : VarDecl

@@ -1,6 +1,7 @@
 -- A plus line of a text with which nothing is wrong has as many gaps as tokens.
 -- Proof: its pieces are those of the line as it stands, with its newline or, at the text's end, without one.
-use Rattle.std.proofs.Common.{◌≡◌, ℕ, suc, ◌+◌, ◌==◌, ◌⊎◌, inl, inr, Bool, true, false, refl, sym, ap, ◌∙◌, subst, arith, true≢false, List, [], ◌∷◌, ◌++◌, drop, length, Option, Some, None, if◌then◌else◌}
+use Rattle.std.proofs.Common.{◌≡◌, ℕ, suc, ◌+◌, ◌==◌, ◌⊎◌, inl, inr, Bool, true, false, ◌&&◌, refl, sym, ap, ◌∙◌, subst, arith, true≢false, List, [], ◌∷◌, ◌++◌, drop, length, Option, Some, None, if◌then◌else◌}
+use Rattle.std.specs.Cmp.{second_so}
 use Rattle.std.proofs.lemmas.Bool.{eqb-true}
 use Rattle.c_lexer.specs.declared.state.Kind.{Kind}
 use Rattle.c_lexer.specs.declared.state.Kind.TheVariants as kind
@@ -117,17 +118,38 @@ lines-end : (start : ℕ) (bytes : List ℕ) → AllEnd (lines_from start bytes)
 lines-end start [] = tt
 lines-end start (b ∷ bs) = byte-ends start b (lines_from (start + 1) bs) (b == 10) refl (lines-end (start + 1) bs)
 
+-- behind a byte that is no newline
+one-behind : (b : ℕ) (bs : List ℕ) → (b == 10) ≡ false → Ends (b ∷ bs) → Ends bs
+one-behind b bs h e = rest (b == 10) h e
+  where
+    rest : (c : Bool) → c ≡ false → (((if c then [] else b ∷ content bs) ++ 10 ∷ [] ≡ b ∷ bs) ⊎ ((if c then [] else b ∷ content bs) ≡ b ∷ bs)) → Ends bs
+    rest true h x = absurd cc
+    rest false h (inl x) = let k : content bs ++ 10 ∷ [] ≡ bs = cc in inl k
+    rest false h (inr x) = let k : content bs ≡ bs = cc in inr k
+
+plus-is-no-newline : (b : ℕ) (bs : List ℕ) → sign_of (b ∷ bs) ≡ 43 → (b == 10) ≡ false
+plus-is-no-newline b bs s = by (b == 10) refl
+  where
+    by : (c : Bool) → (b == 10) ≡ c → c ≡ false
+    by false h = refl
+    by true h =
+        let there : 32 ≡ 43 = ap (λ (y : ℕ). if is_sign_byte y then y else 32) (sym (eqb-true b 10 h)) ∙ s in
+        absurd (omega (arith, there))
+
 -- behind the sign
 behind-sign : (bytes : List ℕ) → sign_of bytes ≡ 43 → Ends bytes → Ends (drop (skipped role.Body bytes) bytes)
 behind-sign [] s e = e
-behind-sign (b ∷ bs) s e = subst (λ (n : ℕ). Ends (drop n (b ∷ bs))) (λ i. if sym s i == 32 then 0 else 1) (rest (b == 10) refl e)
+behind-sign (b ∷ []) s e =
+    subst (λ (n : ℕ). Ends (drop n (b ∷ []))) (λ i. if sym s i == 32 then 0 else 1) (one-behind b [] (plus-is-no-newline b [] s) e)
+behind-sign (b ∷ c ∷ cs) s e =
+    subst (λ (n : ℕ). Ends (drop n (b ∷ c ∷ cs))) (λ i. if sym s i == 32 then 0 else (if b == 43 && c == 43 then 2 else 1)) (by (b == 43 && c == 43) refl)
   where
-    rest : (c : Bool) → (b == 10) ≡ c → (((if c then [] else b ∷ content bs) ++ 10 ∷ [] ≡ b ∷ bs) ⊎ ((if c then [] else b ∷ content bs) ≡ b ∷ bs)) → Ends bs
-    rest true h x =
-        let there : 32 ≡ 43 = ap (λ (y : ℕ). if is_sign_byte y then y else 32) (sym (eqb-true b 10 h)) ∙ s in
-        absurd (omega (arith, there))
-    rest false h (inl x) = let k : content bs ++ 10 ∷ [] ≡ bs = cc in inl k
-    rest false h (inr x) = let k : content bs ≡ bs = cc in inr k
+    one : Ends (c ∷ cs)
+    one = one-behind b (c ∷ cs) (plus-is-no-newline b (c ∷ cs) s) e
+
+    by : (t : Bool) → (b == 43 && c == 43) ≡ t → Ends (drop (if t then 2 else 1) (b ∷ c ∷ cs))
+    by false h = one
+    by true h = one-behind c cs (ap (λ (y : ℕ). y == 10) (eqb-true c 43 (second_so (b == 43) (c == 43) h))) one
 
 -- ---- lines
 

@@ -31,6 +31,7 @@ shows_x = record {
   positions = [];
   before = None;
   after = Some (record {
+    many = false;
     lines = record { lead = 0; tokens = record { kind = token.Meta meta.Expr; text = codes "x"; id = 0 } ∷ []; gaps = [] ∷ [] } ∷ [];
   });
 }

@@ -22,7 +22,7 @@ use Rattle.smpl_lexer.specs.declared.section.Role.TheVariants as role
 use Rattle.smpl_lexer.specs.declared.token.PatchToken.{PatchToken}
 use Rattle.smpl_lexer.specs.declared.text.BodyLine.{BodyLine}
 use Rattle.smpl_lexer.specs.Lines.{end_of}
-use Rattle.smpl_lexer.specs.Sections.{sign_of, skipped, is_plus, has_signs}
+use Rattle.smpl_lexer.specs.Sections.{sign_of, is_many, skipped, is_plus, has_signs}
 use Rattle.smpl_lexer.specs.Pieces.{LinePiece, joined, Cut, is_bad, IsFirstBy}
 use Rattle.smpl_lexer.specs.Tokens.{token_kind, tokens_from, put_token, put_bad, bad_from, is_name, is_branch_sign, is_branch, branch_tokens, as_branch}
 use Rattle.smpl_lexer.specs.CutLines.{CutLine, IsCutLine, place_in, plain_tokens, role_faults, faults_of}
@@ -97,9 +97,16 @@ no_branch start (t ∷ u ∷ ts) h = refl
 abbrev pub Whole : BodyLine → Type 0
 Whole l = of_kinds l.tokens ≡ true
 
-body_signs : (r : Role) (bytes : List ℕ) → r ≡ role.Body → sign_of bytes ≡ 43 → (has_signs r bytes ≡ false) × ((is_plus r bytes ≡ true) × (skipped r bytes ≡ 1))
+some_skipped : (sign : ℕ) (many : Bool) → sign ≡ 43 → 1 ≤ (if sign == 32 then 0 else (if many then 2 else 1))
+some_skipped sign many s = subst (λ (n : ℕ). 1 ≤ (if n == 32 then 0 else (if many then 2 else 1))) (sym s) (by many)
+  where
+    by : (t : Bool) → 1 ≤ (if t then 2 else 1)
+    by true = omega arith
+    by false = omega arith
+
+body_signs : (r : Role) (bytes : List ℕ) → r ≡ role.Body → sign_of bytes ≡ 43 → (has_signs r bytes ≡ false) × ((is_plus r bytes ≡ true) × (1 ≤ skipped r bytes))
 body_signs role.Body bytes e s =
-    ((λ i. not (s i == 43)), ((λ i. s i == 43), (λ i. if s i == 32 then 0 else 1)))
+    ((λ i. not (s i == 43)), ((λ i. s i == 43), some_skipped (sign_of bytes) (is_many bytes) s))
 body_signs role.Virtual bytes e s = let no : ⊥ = cc in absurd no
 body_signs role.Header bytes e s = let no : ⊥ = cc in absurd no
 body_signs role.Declaration bytes e s = let no : ⊥ = cc in absurd no

@@ -73,7 +73,7 @@ blocks-lead : (vars : List VarDecl) (ps : List Placed) (ts : List PatToken) (bs 
 blocks-lead vars ps ts [] cs a l = l
 blocks-lead vars ps ts (b ∷ bs) [] a l = l
 blocks-lead vars ps ts (b ∷ bs) (c ∷ cs) a l =
-    blocks-lead vars ps (with_block ts (anchor_of ps b) c) bs cs a.1 (block-lead ts (anchor_of ps b) c (lines-lead vars b.lines c.lines a.0) l)
+    blocks-lead vars ps (with_block ts (anchor_of ps b) c) bs cs a.1 (block-lead ts (anchor_of ps b) c (lines-lead vars b.lines c.lines a.0.lines) l)
 
 all-lead : (ts us : List PatToken) → ts ≡ us → AllLead us → list_all leads_token ts ≡ true
 all-lead ts us e a = ap (list_all leads_token) e ∙ every us a

@@ -118,7 +118,7 @@ module _ (P : BodyLine → Type 0) where
     blocks_pass ps ts [] cs a h l = l
     blocks_pass ps ts (b ∷ bs) [] a h l = l
     blocks_pass ps ts (b ∷ bs) (c ∷ cs) a h l =
-        blocks_pass ps (with_block ts (anchor_of ps b) c) bs cs a.1 h.1 (block_pass ts (anchor_of ps b) c (gives b c a.0 h.0.lines h.0.short) l)
+        blocks_pass ps (with_block ts (anchor_of ps b) c) bs cs a.1 h.1 (block_pass ts (anchor_of ps b) c (gives b c a.0.lines h.0.lines h.0.short) l)
 
     every_pass : (ts : List PatToken) → AllPass ts → list_all (at_token ok) ts ≡ true
     every_pass [] a = refl

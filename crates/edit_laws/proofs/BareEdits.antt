@@ -90,6 +90,7 @@ module _ (decls : List VarDecl) (tokens : List PatToken) (env : Values) (files :
       (let insert : Insert = record {
         token = s.token;
         side = side_of s.after;
+        many = block.many;
         text = insert_of (anchor_of (list_any (λ n. n == s.token) removed) s.after file.text) (10 ∷ file.indent) (block_alike decls env (10 ∷ file.indent) block i)
             (block_ends (end_alike decls env None block.lines i));
       } in insert) ∷ []

@@ -27,7 +27,7 @@ abbrev empty_line : PlusLine
 empty_line = record { lead = 0; tokens = []; gaps = [] }
 
 abbrev block : List PlusLine → PlusBlock
-block lines = record { lines = lines }
+block lines = record { many = false; lines = lines }
 
 abbrev joint : List ℕ
 joint = 10 ∷ 9 ∷ []

@@ -46,6 +46,7 @@ abbrev pub insert_of_block : List VarDecl → Environment → List ℕ → PlusS
 insert_of_block decls env removed s block file = record {
   token = s.token;
   side = side_of s.after;
+  many = block.many;
   text = insert_text_of decls env block (anchor_of (list_any (λ n. n == s.token) removed) s.after file.text) (10 ∷ file.indent);
 }
 

@@ -163,6 +163,7 @@ fn insert_of_block(
     Ok(Insert {
         token: spot.token,
         side: side_of(spot.after),
+        many: block.many,
         text,
     })
 }

@@ -10,7 +10,7 @@ use Rattle.edit_conflict.specs.declared.edit.Insert.{Insert}
 use Rattle.edit_conflict.specs.declared.edit.Side.{Side}
 use Rattle.edit_conflict.specs.declared.edit.Side.TheVariants.{Before, After}
 use Rattle.edit_conflict.specs.Same.{side_number}
-use Rattle.edit_conflict.specs.Clashes.{removes, inserts, meet_at, IsClash}
+use Rattle.edit_conflict.specs.Clashes.{removes, inserts, inserts_alone, meet_at, IsClash}
 use Rattle.edit_conflict.specs.declared.clash.Clash.{Clash}
 use Rattle.edit_walk.specs.Fit.{FitsText}
 
@@ -42,16 +42,18 @@ inserts_within token count side (i ∷ is) all h =
       | inr e ↦ inserts_within token count side is (All-tail (λ (j : Insert). j.token < count) i is all) e
     ]
 
-acts : (ra rb ba bb aa ab : Bool) → (ra && rb || (ba && bb || aa && ab) || ((ba || aa) && rb || ra && (bb || ab))) ≡ true
+acts : (ra rb ba bb aa ab before after : Bool)
+    → (ra && rb || (ba && bb && before || aa && ab && after) || ((ba || aa) && rb || ra && (bb || ab))) ≡ true
     → (ra ≡ true) ⊎ ((ba ≡ true) ⊎ (aa ≡ true))
-acts true rb ba bb aa ab h = inl refl
-acts false rb true bb aa ab h = inr (inl refl)
-acts false rb false bb true ab h = inr (inr refl)
-acts false rb false bb false ab h = absurd cc
+acts true rb ba bb aa ab before after h = inl refl
+acts false rb true bb aa ab before after h = inr (inl refl)
+acts false rb false bb true ab before after h = inr (inr refl)
+acts false rb false bb false ab before after h = absurd cc
 
 meets_within : (token count : ℕ) (a b : Edit) → FitsText count a → meet_at token a b ≡ true → token < count
 meets_within token count a b fits h =
-    elim (acts (removes token a) (removes token b) (inserts Before token a) (inserts Before token b) (inserts After token a) (inserts After token b) h) [
+    elim (acts (removes token a) (removes token b) (inserts Before token a) (inserts Before token b) (inserts After token a) (inserts After token b)
+    (inserts_alone Before token a || inserts_alone Before token b) (inserts_alone After token a || inserts_alone After token b) h) [
       | inl r ↦ removes_within token count a.removed fits.removed r
       | inr (inl i) ↦ inserts_within token count Before a.inserts fits.inserts i
       | inr (inr i) ↦ inserts_within token count After a.inserts fits.inserts i

@@ -145,11 +145,12 @@ other-with other many l = if is_some other then other else other_in many (l ∷ 
 
 other-append : (many : Bool) (ls : List BodyLine) (l : BodyLine) → other_in many (ls ++ l ∷ []) ≡ other-with (other_in many ls) many l
 other-append many [] l = refl
-other-append many (k ∷ ls) l = by (differ many k.many)
+other-append many (k ∷ ls) l = by (differ many k.many) (other-append many ls l)
   where
-    by : (t : Bool) → (if t then Some k.start else other_in many (ls ++ l ∷ [])) ≡ other-with (if t then Some k.start else other_in many ls) many l
-    by true = refl
-    by false = other-append many ls l
+    by : (t : Bool) → other_in many (ls ++ l ∷ []) ≡ other-with (other_in many ls) many l
+        → (if t then Some k.start else other_in many (ls ++ l ∷ [])) ≡ other-with (if t then Some k.start else other_in many ls) many l
+    by true rest = refl
+    by false rest = rest
 
 same-kind : (many : Bool) → differ many many ≡ false
 same-kind true = refl

@@ -27,3 +27,7 @@ stores_count = refl
 -- and so does one that fails
 failed_store_counts : tried (told None 0 None None) ≡ told None 1 None None
 failed_store_counts = refl
+
+-- no name makes a line
+escaped_line : cannot_read (codes "a\nb") ≡ codes "spatch: a\\nb: cannot read\n"
+escaped_line = refl

@@ -1,9 +1,10 @@
 -- The lines on the error output.
 use Rattle.std.specs.Prelude.{ℕ, List, ◌++◌, codes}
+use Rattle.escaped_names.specs.Escapes.{escaped_name}
 
--- a line about a file or a patch, by its name
+-- a line about a file or a patch, by its name, in which no byte of the name ends the line
 abbrev pub line_of : List ℕ → List ℕ → List ℕ
-line_of name text = codes "spatch: " ++ name ++ codes ": " ++ text ++ codes "\n"
+line_of name text = codes "spatch: " ++ escaped_name name ++ codes ": " ++ text ++ codes "\n"
 
 abbrev pub cannot_read : List ℕ → List ℕ
 cannot_read name = line_of name (codes "cannot read")

@@ -1,29 +1,36 @@
 // The lines on the error output.
-ghost use Rattle.std.specs.Prelude.{◌≡◌, IfOk, string_bytes};
+ghost use Rattle.std.specs.Prelude.{◌≡◌, IfOk};
 ghost use Rattle.run_acts.specs.Lines.{line_of, cannot_read, cannot_write, cannot_print};
 
 use c_terms::NoMemory;
+use escaped_names::escaped_name;
 use std::alloc::Global;
 
 const CANNOT_PRINT: &str = "spatch: cannot print\n";
 
-/// `spatch: NAME: TEXT` with its newline, the line about a file or a patch. Linear in both.
-pub fn line_of(alloc: Global, name: &str, text: &str) -> Result<String, NoMemory>
-    ensures bytes { IfOk result (λ line. string_bytes line ≡ line_of name.now text.now) }
+/// `spatch: NAME: TEXT` with its newline, the line about a file or a patch, in which the name is escaped. Linear in both.
+pub fn line_of(alloc: Global, name: &str, text: &str) -> Result<Vec<u8>, NoMemory>
+    ensures bytes { IfOk result (λ line. line.items ≡ line_of name.now text.now) }
 {
-    Ok(format!(in alloc; "spatch: {name}: {text}\n")?)
+    let mut line = Vec::new(alloc);
+    line.extend_from_slice(b"spatch: ")?;
+    line.extend_from_slice(&escaped_name(alloc, name.as_bytes())?)?;
+    line.extend_from_slice(b": ")?;
+    line.extend_from_slice(text.as_bytes())?;
+    line.extend_from_slice(b"\n")?;
+    Ok(line)
 }
 
 /// The line about what cannot be read.
-pub fn cannot_read(alloc: Global, name: &str) -> Result<String, NoMemory>
-    ensures bytes { IfOk result (λ line. string_bytes line ≡ cannot_read name.now) }
+pub fn cannot_read(alloc: Global, name: &str) -> Result<Vec<u8>, NoMemory>
+    ensures bytes { IfOk result (λ line. line.items ≡ cannot_read name.now) }
 {
     line_of(alloc, name, "cannot read")
 }
 
 /// The line about what cannot be written.
-pub fn cannot_write(alloc: Global, name: &str) -> Result<String, NoMemory>
-    ensures bytes { IfOk result (λ line. string_bytes line ≡ cannot_write name.now) }
+pub fn cannot_write(alloc: Global, name: &str) -> Result<Vec<u8>, NoMemory>
+    ensures bytes { IfOk result (λ line. line.items ≡ cannot_write name.now) }
 {
     line_of(alloc, name, "cannot write")
 }

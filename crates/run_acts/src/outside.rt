@@ -54,7 +54,7 @@ pub fn load<S: Loads, E: Sink>(
         Err(ShelfFault::NoMemory) => Err(Stopped::NoMemory),
         Err(ShelfFault::Failed) => {
             let line = cannot_read(alloc, name)?;
-            match err.put(line.as_str().as_bytes()) {
+            match err.put(&line) {
                 Ok(()) => Err(Stopped::CannotRead),
                 Err(PutFault::NoMemory) => Err(Stopped::NoMemory),
                 Err(PutFault::Failed) => Err(Stopped::CannotWrite),
@@ -89,7 +89,7 @@ pub fn store<S: Shelf, E: Sink>(
         Err(ShelfFault::Failed | ShelfFault::TooLong | ShelfFault::Absent) => {
             // The line is left out where memory is refused.
             if let Ok(line) = cannot_write(alloc, name) {
-                let _ = err.put(line.as_str().as_bytes());
+                let _ = err.put(&line);
             }
             Err(Stopped::CannotWrite)
         }

@@ -1,6 +1,7 @@
 -- The lines about words, patches and isomorphisms.
 use Rattle.std.specs.Prelude.{ℕ, List, [], ◌++◌, codes}
 use Rattle.std.specs.Fmt.{decimal}
+use Rattle.escaped_names.specs.Escapes.{escaped_name}
 use Rattle.smpl_patch.specs.declared.fault.PatchFault.{PatchFault}
 use Rattle.smpl_patch.specs.declared.fault.PatchFault.TheVariants.{PatchTooLong, StarWithEdit, TooLarge, MayStayUnbound, UnboundInPlus}
 use Rattle.smpl_patch.specs.Faults.{number_of, place_of}
@@ -10,9 +11,9 @@ use Rattle.iso_file.specs.declared.fault.IsoFault.TheVariants as iso
 abbrev pub usage : List ℕ
 usage = codes "spatch: usage: spatch --sp-file P [--iso-file I] [--define a,b] [--jobs n] [--witnesses] [--in-place] FILE...\n"
 
--- a line about what has this name
+-- a line about what has this name, in which no byte of the name ends the line
 abbrev pub begun : List ℕ → List ℕ
-begun name = codes "spatch: " ++ name ++ codes ": "
+begun name = codes "spatch: " ++ escaped_name name ++ codes ": "
 
 abbrev pub line_about : List ℕ → List ℕ → List ℕ
 line_about name text = begun name ++ text ++ codes "\n"

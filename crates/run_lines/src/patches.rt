@@ -4,6 +4,7 @@ ghost use Rattle.run_lines.specs.Patches as told;
 
 use crate::line::Line;
 use c_terms::NoMemory;
+use escaped_names::escaped_name;
 use iso_file::IsoFault;
 use smpl_patch::{PatchFault, fault_number, fault_place};
 use std::alloc::Global;
@@ -24,7 +25,7 @@ pub fn line_about(alloc: Global, name: &str) -> Result<Line, NoMemory>
 {
     let mut line = Line::new(alloc);
     line.put(b"spatch: ")?;
-    line.put(name.as_bytes())?;
+    line.put(&escaped_name(alloc, name.as_bytes())?)?;
     line.put(b": ")?;
     Ok(line)
 }

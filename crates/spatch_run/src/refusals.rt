@@ -49,7 +49,7 @@ pub fn refuse_absent<E: Sink>(alloc: Global, err: &mut E, name: &str) -> Result<
         (answer result) }
 {
     let line = cannot_read(alloc, name)?;
-    end_by(err, line.as_str().as_bytes(), Status::CannotRead)
+    end_by(err, &line, Status::CannotRead)
 }
 
 /// Puts the line about the patch of this name that has this fault.

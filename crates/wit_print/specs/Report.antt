@@ -3,6 +3,7 @@ use Rattle.std.specs.Prelude.{ℕ, zero, suc, ◌+◌, Bool, ◌||◌, eqb, List
 use Rattle.std.specs.Fmt.{decimal}
 use Rattle.std.specs.List.{filter, flat_map, list_any}
 use Rattle.c_terms.specs.Same.{same_bytes}
+use Rattle.escaped_names.specs.Escapes.{escaped_name}
 use Rattle.c_show.specs.Show.{show_of}
 use Rattle.smpl_terms.specs.declared.var.Var.{Var}
 use Rattle.smpl_terms.specs.declared.value.Value.{Value}
@@ -98,4 +99,4 @@ rules_lines all witnesses n [] = []
 rules_lines all witnesses n (r ∷ rs) = rule_lines all n r (filter (λ w. eqb w.rule n) witnesses) ++ rules_lines all witnesses (n + 1) rs
 
 abbrev pub report_of : Patch → List ℕ → List RuleWitness → List ℕ
-report_of patch name witnesses = line (codes "file " ++ name) ++ rules_lines patch.rules witnesses 0 patch.rules
+report_of patch name witnesses = line (codes "file " ++ escaped_name name) ++ rules_lines patch.rules witnesses 0 patch.rules

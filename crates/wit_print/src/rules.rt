@@ -10,12 +10,13 @@ ghost use Rattle.wit_print.specs.Report.{is_reported, rule_name, let_text, let_l
 use crate::forest::put_tree;
 use crate::report::Report;
 use c_terms::NoMemory;
+use escaped_names::escaped_name;
 use indexmap::IndexSet;
 use smpl_patch::{Patch, Rule, RuleWitness, VarDecl, Witness};
 use smpl_terms::{Env, Value, Var};
 use std::alloc::Global;
 
-/// The report of a file of this name: a line `file NAME`; for each rule of the patch, by number, `rule N NAME`, or `-` for
+/// The report of a file of this name: a line `file NAME`, in which the name is escaped; for each rule of the patch, by number, `rule N NAME`, or `-` for
 /// a rule without a name, and under it its witnesses in their order, each with `at ITEM NODE`, its variables and its
 /// forest. A variable that the rule inherits, and one that later rules inherit, has a line ` let x = v`, in the order of
 /// the declarations, unless the witness has no value for it; an inherited one is written `r.x`. In a forest a line begins
@@ -34,7 +35,7 @@ pub fn print(
 {
     let mut report = Report::new(alloc);
     report.put(b"file ")?;
-    report.put(name)?;
+    report.put(&escaped_name(alloc, name)?)?;
     report.put(b"\n")?;
     let rules = patch.rules.as_slice();
     let groups = by_rule(alloc, rules.len(), witnesses)?;

@@ -17,6 +17,6 @@ returns-in_err-line g c = record {
 pub returns : goal.returns
 returns g c = record {
   ends = λ files out stores s o.
-      let put : c.as_bytes.result.now ≡ cannot_read c.args.name.now = c.as_bytes.ensures.value ∙ c.as_str.ensures.value ∙ c.in_ok-line.ensures.bytes in
+      let put : c.deref.result.now ≡ cannot_read c.args.name.now = c.deref.ensures.value ∙ c.in_ok-line.ensures.bytes in
       rw put at (c.end_by.ensures.ends files out stores s o);
 }

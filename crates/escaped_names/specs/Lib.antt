@@ -1,0 +1,2 @@
+-- What contracts rest on: how a line shows a name.
+pub mod Escapes

@@ -270,6 +270,29 @@ def no_files(top, rng, tries):
     return {"another answer": wrong}, wrong
 
 
+def shown(name):
+    """A name as a line must show it."""
+    marks = {"\n": "\\n", "\t": "\\t", "\\": "\\\\"}
+    return "".join(marks.get(one) or (f"\\x{ord(one):02x}" if ord(one) < 32 or ord(one) == 127 else one) for one in name)
+
+
+def forging(top, rng, tries):
+    """Names with newlines, escape sequences and other control bytes: of a file that isn't read, one that is absent, and in a report."""
+    wrong = 0
+    parts = [chr(code) for code in (*range(1, 32), 127)] + ["\nspatch: ", ": cannot read", "\x1b[2K", "\\", "\\n", "\u00fc", "k"] * 5
+    for _ in range(tries):
+        place = Place(top, 1)
+        present, absent = ("d/" + kind + "".join(rng.choices(parts, k=rng.randrange(1, 12))) for kind in "pa")
+        write(place.path(present), "int x\n")
+        run = place.start([present, absent])
+        _, err = run.communicate()
+        lines = f"spatch: {shown(present)}: reading 0: item 0 not read: no tree\nspatch: {shown(absent)}: cannot read\n"
+        report = subprocess.run([PROGRAM, "--sp-file", "alpha", "--witnesses", present], cwd=place.top, capture_output=True)
+        wrong += run.returncode != 5 or err != lines.encode() or report.stdout != f"file {shown(present)}\nrule 0 -\n".encode()
+        place.gone()
+    return {"another answer": wrong}, wrong
+
+
 def long_paths(top, rng, tries):
     """Paths about as long as they may be."""
     wrong = 0
@@ -349,6 +372,7 @@ def rows():
         yield f"a file is {how}", lambda *a, how=how: led_elsewhere(*a, how)
     yield "root's file under the new name", given_away
     yield "no files", no_files
+    yield "names that make lines", forging
     yield "long paths", long_paths
     yield "append-only folder", append_only
     yield "access lists", access_lists

@@ -22,11 +22,11 @@ fn entries(alloc: Global) -> Result<Vec<(Text, Vec<u8>)>, NoMemory> {
 fn the_lines_are_these(rt: HostRuntime) -> Result<(), Fail> {
     let alloc = rt.alloc();
     let line = line_of(alloc, "k.c", "not yet")?;
-    assert_eq!(rt; line.as_slice(), b"spatch: k.c: not yet\n");
+    assert_eq!(rt; line.as_slice(), b"spatch: k.c: not yet\n".as_slice());
     let line = cannot_read(alloc, "k.c")?;
-    assert_eq!(rt; line.as_slice(), b"spatch: k.c: cannot read\n");
+    assert_eq!(rt; line.as_slice(), b"spatch: k.c: cannot read\n".as_slice());
     let line = cannot_write(alloc, "k.c")?;
-    assert_eq!(rt; line.as_slice(), b"spatch: k.c: cannot write\n");
+    assert_eq!(rt; line.as_slice(), b"spatch: k.c: cannot write\n".as_slice());
     assert_eq!(rt; cannot_print(), "spatch: cannot print\n");
     Ok(())
 }

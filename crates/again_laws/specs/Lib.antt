@@ -1,0 +1,3 @@
+-- What the laws rest on: the tokens of pieces, and the rule to which the rules of a patch come.
+pub mod Tokens
+pub mod Reached

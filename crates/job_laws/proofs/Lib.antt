@@ -1,0 +1,2 @@
+-- Lemmas: what words with other jobs ask for.
+pub mod JobLemmas

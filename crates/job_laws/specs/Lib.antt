@@ -1,0 +1,2 @@
+-- What the law rests on: words that are the same but for their jobs.
+pub mod Jobs

@@ -1,0 +1,2 @@
+-- Lemmas: members of lists, and walks of whatever length.
+pub mod ReachLemmas

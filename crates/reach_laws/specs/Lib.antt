@@ -1,0 +1,2 @@
+-- What the law rests on: walks that come to a node.
+pub mod Reaching

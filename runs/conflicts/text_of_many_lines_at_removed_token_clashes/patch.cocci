@@ -1,0 +1,6 @@
+@@
+expression E, F;
+@@
+  a(E);
+++ p();
+- a(F);

@@ -1,0 +1,7 @@
+@@
+expression E, F;
+@@
+  a(E);
++ p();
+  a(F);
+++ q();

@@ -1,0 +1,7 @@
+@r exists@
+expression y;
+@@
+  a();
+++ b();
+  ...
+  c(y);

@@ -1,0 +1,6 @@
+void k(int x)
+{
+	a();
+	if (x)
+		c();
+}

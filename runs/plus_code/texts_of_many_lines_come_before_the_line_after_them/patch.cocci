@@ -1,0 +1,7 @@
+@r exists@
+expression y;
+@@
+++ b(y);
+  a();
+  ...
+  c(y);

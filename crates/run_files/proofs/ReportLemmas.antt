@@ -9,6 +9,7 @@ use Rattle.c_terms.specs.Bare.{bare}
 use Rattle.c_terms.specs.declared.tree.Tree.{Tree}
 use Rattle.c_terms.proofs.BareLaws.{bare-Leaf, bare-Branch}
 use Rattle.c_terms.proofs.Induct as terms
+use Rattle.escaped_names.specs.Escapes.{escaped_name}
 use Rattle.c_show.specs.declared.page.Role.TheVariants.{Plain}
 use Rattle.c_show.specs.Show.{shown, shown_kids, joined}
 use Rattle.c_show.proofs.Pages.{shown-Leaf, shown-Branch}
@@ -134,7 +135,7 @@ rules_alike all ws n (r ∷ rs) =
     λ i. first i ++ rest i
 
 pub report-bare : (patch : Patch) (name : List ℕ) (ws : List RuleWitness) → report_of patch name (map bare_witness ws) ≡ report_of patch name ws
-report-bare patch name ws = ap (λ lines. line (codes "file " ++ name) ++ lines) (rules_alike patch.rules ws 0 patch.rules)
+report-bare patch name ws = ap (λ lines. line (codes "file " ++ escaped_name name) ++ lines) (rules_alike patch.rules ws 0 patch.rules)
 
 count-bare : (n : ℕ) (ws : List RuleWitness) → sums.count_of n (map bare_witness ws) ≡ sums.count_of n ws
 count-bare n ws = ap length (own_bare n ws) ∙ length-map (filter (λ w. eqb w.rule n) ws) bare_witness

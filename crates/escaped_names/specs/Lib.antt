@@ -1,2 +1,3 @@
 -- What contracts rest on: how a line shows a name.
 pub mod Escapes
+pub mod Reads

@@ -1,6 +1,7 @@
 //! Names of files as lines and reports show them.
 //!
-//! [`escaped_name`] writes bytes that would end or blur a line as escapes. A name without such bytes is shown as it is.
+//! - [`escaped_name`] writes bytes that would end or blur a line as escapes. A name without such bytes is shown as it is.
+//! - [`names_end_no_line`] and [`names_read_back`] are laws.
 //!
 //! `a` newline `b.c` is shown as `a\nb.c`, and `a\b.c` as `a\\b.c`.
 //!
@@ -10,7 +11,10 @@
 ghost use Rattle.std.specs.Prelude.{◌≡◌, ◌++◌, ◌<◌, IfOk, OnOk};
 ghost use Rattle.escaped_names.specs.Escapes as told;
 
+mod laws;
+
 use c_terms::NoMemory;
+pub use laws::{names_end_no_line, names_read_back};
 use std::alloc::Global;
 
 /// The name as lines show it: a newline is `\n`, a tab `\t`, a backslash `\\`, and any other byte below 32, and 127, is

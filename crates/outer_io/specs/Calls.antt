@@ -1,6 +1,7 @@
 -- Shelves and sinks in memory, of whose calls some fail by their numbers, which begin at 0.
-use Rattle.std.specs.Prelude.{ℕ, List, Bool, ◌==◌, if◌then◌else◌}
-use Rattle.std.specs.List.{list_any}
+use Rattle.std.specs.Prelude.{ℕ, List, Bool, not, leb, ◌==◌, ◌&&◌, if◌then◌else◌}
+use Rattle.std.specs.List.{list_any, filter}
+use Rattle.c_terms.specs.Same.{same_bytes}
 use Rattle.outer_io.specs.Files.{Files}
 use Rattle.outer_io.specs.Faults.{counted}
 
@@ -26,11 +27,26 @@ after_call calls failed = record {
 abbrev pub no_calls : List ℕ → Calls
 no_calls fail = record { done = 0; fail = fail; faults = 0 }
 
--- a shelf in memory: its files, how many stores were done or failed, and its calls
+-- By the call of this number, another program wrote what stands under the name anew: the rewrite has the number of the
+-- call before which it is, and its name.
+abbrev pub is_rewrite_of : List ℕ → ℕ → ℕ × List ℕ → Bool
+is_rewrite_of name call rewrite = leb rewrite.0 call && same_bytes rewrite.1 name
+
+-- a shelf in memory: its files, how many stores were done or failed, its calls, and the rewrites by another program of
+-- which no load has told it
 pub record ShelfState : Type 0 where
   pub files : Files
   pub stores : ℕ
   pub calls : Calls
+  pub rewrites : List (ℕ × List ℕ)
+
+-- what stands under the name was written anew before the call that comes next, and not loaded since
+abbrev pub is_rewritten : ShelfState → List ℕ → Bool
+is_rewritten shelf name = list_any (is_rewrite_of name shelf.calls.done) shelf.rewrites
+
+-- the rewrites that are left when the next call has loaded what stands under the name
+abbrev pub other_rewrites : ShelfState → List ℕ → List (ℕ × List ℕ)
+other_rewrites shelf name = filter (λ rewrite. not (is_rewrite_of name shelf.calls.done rewrite)) shelf.rewrites
 
 -- a sink in memory: its bytes and its calls
 pub record SinkState : Type 0 where

@@ -1,5 +1,5 @@
 // A shelf and a sink in memory that never fail.
-ghost use Rattle.std.specs.Prelude.{◌≡◌, ◌<◌, ◌≤◌, ◌++◌, Some, [], length, IfOk, OnOk, OnErr, IsOk, IsErrOf, IsSomeAnd, option_copied};
+ghost use Rattle.std.specs.Prelude.{◌≡◌, ◌<◌, ◌≤◌, ◌++◌, Some, [], length, IfOk, OnOk, OnErr, IsOk, IsErrOf, IsSomeAnd, option_copied, false};
 ghost use Rattle.std.specs.FinMap.{get, insert};
 ghost use Rattle.outer_io.specs.Files.{files_of};
 ghost use Rattle.outer_io.specs.Faults.{counted};
@@ -80,6 +80,12 @@ impl Loads for CalmShelf {
 
     ghost faults = { λ _. 0 };
 
+    fn is_special(&self, _name: &str) -> bool
+        ensures none { result ≡ false }
+    {
+        false
+    }
+
     fn load(&mut self, name: &str, limit: u64) -> Result<Vec<u8>, ShelfFault>
         ensures same { self.new.files ≡ self.old.files }
         ensures no_store { self.new.stores ≡ self.old.stores }
@@ -97,6 +103,8 @@ impl Loads for CalmShelf {
 }
 
 impl Shelf for CalmShelf {
+    ghost is_changed = { λ _ _. false };
+
     fn store(&mut self, name: &str, bytes: &[u8]) -> Result<(), ShelfFault>
         ensures ok { OnOk result (self.new.files ≡ insert self.old.files name.now bytes.now) }
         ensures err { OnErr result (self.new.files ≡ self.old.files) }

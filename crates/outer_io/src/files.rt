@@ -1,5 +1,5 @@
 // The files of the system as a shelf. It tells no content.
-ghost use Rattle.std.specs.Prelude.{◌≡◌, ◌≢◌, ◌<◌, ◌≤◌, None, [], length, take, IfOk, OnOk, IfErr, OnErr, IfSome, IsErrOf};
+ghost use Rattle.std.specs.Prelude.{◌≡◌, ◌≢◌, ◌<◌, ◌≤◌, None, [], length, take, IfOk, OnOk, IfErr, OnErr, IfSome, IsErrOf, false};
 ghost use Rattle.std.specs.Io.{ReadsAtMost};
 ghost use Rattle.std.specs.Io.KnownBytes.{Consumes, IsAtEnd, Keeps};
 ghost use Rattle.std.specs.IoError.{error_kind};
@@ -67,6 +67,15 @@ impl<'a, R: Disk + AllocGlobal> Loads for FileShelf<'a, R> {
 
     ghost faults = { λ s. s.faults };
 
+    /// Links are followed, and nothing is opened. What the process was started with open is read as it is.
+    fn is_special(&self, name: &str) -> bool {
+        !is_stream(name)
+            && match fs::metadata(self.rt, name) {
+                Ok(about) => !about.is_file() && !about.is_dir(),
+                Err(_) => false,
+            }
+    }
+
     /// The bytes of the file. A file that is missing is `Failed`, and so is a folder.
     fn load(&mut self, name: &str, limit: u64) -> Result<Vec<u8>, ShelfFault>
         ensures no_store { self.new.stores ≡ self.old.stores }
@@ -85,6 +94,8 @@ impl<'a, R: Disk + AllocGlobal> Loads for FileShelf<'a, R> {
 }
 
 impl<'a, R: Disk + AllocGlobal> Shelf for FileShelf<'a, R> {
+    ghost is_changed = { λ _ _. false };
+
     /// Puts the bytes into the file, to which links are followed.
     ///
     /// A file that was loaded under this name, or stored, must still be the same, and unchanged since: else it is
@@ -120,9 +131,14 @@ impl<'a, R: Disk + AllocGlobal> Shelf for FileShelf<'a, R> {
     }
 }
 
-/// Whether a name leads to what the process was started with open. It is read as a stream.
+/// Whether a name leads to what the process was started with open: `/dev/stdin`, or `/dev/fd/` and a number. It is read as a
+/// stream.
 fn is_stream(name: &str) -> bool {
-    name == "/dev/stdin" || name.starts_with("/dev/fd/")
+    name == "/dev/stdin"
+        || match name.strip_prefix("/dev/fd/") {
+            Some(number) => !number.is_empty() && number.bytes().all(|byte| byte.is_ascii_digit()),
+            None => false,
+        }
 }
 
 /// The bytes of a file, if there are no more than the limit. What stands there is kept as the version that is known.

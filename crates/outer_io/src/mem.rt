@@ -1,27 +1,29 @@
 // A shelf and a sink in memory, some of whose calls fail.
-ghost use Rattle.std.specs.Prelude.{◌≡◌, ◌≢◌, ◌<◌, ◌≤◌, ◌/◌, ◌++◌, ◌↔◌, ℕ, Some, None, [], take, length, is_err, IsErr, IsErrOf, IfOk, IfSome, IsOk, IsSomeAnd, IsTrue, OnOk, OnErr, option_copied, false, true};
+ghost use Rattle.std.specs.Prelude.{◌≡◌, ◌≢◌, ◌<◌, ◌≤◌, ◌/◌, ◌++◌, ◌↔◌, ℕ, Some, None, [], take, length, is_err, IsErr, IsErrOf, IfOk, IfSome, IsOk, IsSomeAnd, IsTrue, OnOk, OnErr, option_copied, false, true, not, ◌||◌};
+ghost use Rattle.std.specs.List.{filter};
 ghost use Rattle.std.specs.FinMap.{get, insert};
 ghost use Rattle.outer_io.specs.Files.{files_of};
 ghost use Rattle.outer_io.specs.Faults.{HasCause, counted};
-ghost use Rattle.outer_io.specs.Calls.{next_fails, after_call, no_calls};
+ghost use Rattle.outer_io.specs.Calls.{next_fails, after_call, no_calls, is_rewrite_of, is_rewritten, other_rewrites};
 
 use crate::calls::{CallCount, one_more};
 use crate::file_map::FileMap;
 use crate::{Loads, PutFault, Shelf, ShelfFault, Sink};
-use c_terms::{NoMemory, Text};
+use c_terms::{NoMemory, Text, same_text};
 use std::alloc::Global;
 use std::marker::Model;
 
-/// Files in memory, with the numbers of the calls that fail. Contracts see the files, the count of stores and the
-/// calls.
+/// Files in memory, with the numbers of the calls that fail, and those before which another program writes a file anew.
+/// Contracts see the files, the count of stores, the calls and the rewrites.
 ///
 /// Loads and stores are counted together, from 0, also those that find no memory. Costs are those of `CalmShelf`,
-/// and a walk of the list of numbers.
+/// and a walk of the two lists of numbers.
 #[derive(Drop)]
 pub struct MemShelf {
     files: FileMap,
     stores: u64,
     calls: CallCount,
+    rewrites: Vec<(u64, Text)>,
 }
 
 impl Model for MemShelf {
@@ -32,7 +34,7 @@ impl Model for MemShelf {
 
     ghost coded = { shelf_code };
 
-    ghost view = { λ s. record { files = s.files; stores = s.stores; calls = s.calls } };
+    ghost view = { λ s. record { files = s.files; stores = s.stores; calls = s.calls; rewrites = s.rewrites.items } };
 }
 
 impl MemShelf {
@@ -42,13 +44,29 @@ impl MemShelf {
         ensures files { IfOk result (λ shelf. shelf.files ≡ files_of entries.items) }
         ensures stores { IfOk result (λ shelf. shelf.stores ≡ 0) }
         ensures calls { IfOk result (λ shelf. shelf.calls ≡ no_calls fail.items) }
+        ensures rewrites { IfOk result (λ shelf. shelf.rewrites ≡ []) }
     {
+        let alloc = *entries.allocator();
         let files = FileMap::of(entries)?;
         Ok(MemShelf {
             files,
             stores: 0,
             calls: CallCount::new(fail),
+            rewrites: Vec::new(alloc),
         })
+    }
+
+    /// From now on another program writes what stands under a name anew, with the bytes that it has, before the call of each
+    /// of these numbers. What stands under a name that was written so is stored on only after it is loaded once more.
+    pub fn set_rewrites(&mut self, rewrites: Vec<(u64, Text)>)
+        ensures value { self.new ≡ record {
+          files = self.old.files;
+          stores = self.old.stores;
+          calls = self.old.calls;
+          rewrites = rewrites.items;
+        } }
+    {
+        self.rewrites = rewrites;
     }
 
     /// The bytes under a name, without a copy. This is no call that is counted.
@@ -74,6 +92,23 @@ impl MemShelf {
     {
         self.calls.done()
     }
+
+    /// Whether the call that comes next fails, if it is a store under this name.
+    fn next_store_fails(&self, name: &str) -> bool
+        ensures { result ≡ (next_fails self.now.calls || is_rewritten self.now name.now) }
+    {
+        self.calls.next_fails() || self.is_rewritten(name)
+    }
+
+    /// Whether another program wrote what stands under the name anew before the call that comes next.
+    fn is_rewritten(&self, name: &str) -> bool
+        ensures { result ≡ is_rewritten self.now name.now }
+    {
+        let call = self.calls.done();
+        self.rewrites
+            .iter()
+            .any(|rewrite| is_rewrite_of(name, call, rewrite))
+    }
 }
 
 impl Loads for MemShelf {
@@ -82,6 +117,12 @@ impl Loads for MemShelf {
     ghost stores = { λ s. s.stores };
 
     ghost faults = { λ s. s.calls.faults };
+
+    fn is_special(&self, _name: &str) -> bool
+        ensures none { result ≡ false }
+    {
+        false
+    }
 
     /// Fails exactly where the number of the call is one that fails.
     fn load(&mut self, name: &str, limit: u64) -> Result<Vec<u8>, ShelfFault>
@@ -96,18 +137,40 @@ impl Loads for MemShelf {
             self.old.calls.faults self.new.calls.faults result }
         ensures fails { IsErrOf result ShelfFault.Failed ↔ IsTrue (next_fails self.old.calls) }
         ensures calls { self.new.calls ≡ after_call self.old.calls (next_fails self.old.calls) }
+        ensures told { OnOk result (self.new.rewrites ≡ other_rewrites self.old name.now) }
+        ensures untold { OnErr result (self.new.rewrites ≡ self.old.rewrites) }
     {
+        let call = self.calls.done();
         let failing = self.calls.next_fails();
         self.calls.count(failing);
         if failing {
             return Err(ShelfFault::Failed);
         }
-        self.files.load(name, limit)
+        let bytes = self.files.load(name, limit)?;
+        forget_rewrites(&mut self.rewrites, name, call);
+        Ok(bytes)
     }
 }
 
+/// Leaves the rewrites that are not of this name, or come after this call.
+fn forget_rewrites(rewrites: &mut Vec<(u64, Text)>, name: &str, call: u64)
+    ensures { rewrites.new.items ≡
+        filter (λ rewrite. not (is_rewrite_of name.now call rewrite)) rewrites.old.items }
+{
+    rewrites.retain(|rewrite| !is_rewrite_of(name, call, rewrite));
+}
+
+/// Whether another program wrote what stands under the name anew before this call.
+fn is_rewrite_of(name: &str, call: u64, rewrite: &(u64, Text)) -> bool
+    ensures { result ≡ is_rewrite_of name.now call rewrite.now }
+{
+    rewrite.0 <= call && same_text(rewrite.1.as_bytes(), name.as_bytes())
+}
+
 impl Shelf for MemShelf {
-    /// Fails exactly where the number of the call is one that fails.
+    ghost is_changed = { is_rewritten };
+
+    /// Fails exactly where the number of the call is one that fails, or another program wrote the file anew.
     fn store(&mut self, name: &str, bytes: &[u8]) -> Result<(), ShelfFault>
         ensures ok { OnOk result (self.new.files ≡ insert self.old.files name.now bytes.now) }
         ensures err { OnErr result (self.new.files ≡ self.old.files) }
@@ -120,10 +183,14 @@ impl Shelf for MemShelf {
         ensures not_too_long { IsErrOf result ShelfFault.TooLong → ⊥ }
         ensures cause { HasCause ShelfFault.Failed
             self.old.calls.faults self.new.calls.faults result }
-        ensures fails { IsErrOf result ShelfFault.Failed ↔ IsTrue (next_fails self.old.calls) }
-        ensures calls { self.new.calls ≡ after_call self.old.calls (next_fails self.old.calls) }
+        ensures changed { IsTrue (is_rewritten self.old name.now) → IsErr result }
+        ensures fails { IsErrOf result ShelfFault.Failed ↔
+            IsTrue (next_fails self.old.calls || is_rewritten self.old name.now) }
+        ensures calls { self.new.calls ≡
+            after_call self.old.calls (next_fails self.old.calls || is_rewritten self.old name.now) }
+        ensures rewrites { self.new.rewrites ≡ self.old.rewrites }
     {
-        let failing = self.calls.next_fails();
+        let failing = self.next_store_fails(name);
         self.calls.count(failing);
         if failing {
             self.stores = one_more(self.stores);

@@ -1,5 +1,5 @@
 // A shelf keeps bytes under names.
-ghost use Rattle.std.specs.Prelude.{◌≡◌, ◌<◌, ◌≤◌, ℕ, List, Option, Some, None, length, IfOk, IfSome, IsSomeAnd, OnOk, OnErr, IsErrOf};
+ghost use Rattle.std.specs.Prelude.{◌≡◌, ◌<◌, ◌≤◌, ℕ, List, Option, Some, None, length, IfOk, IfSome, IsSomeAnd, IsTrue, IsErr, OnOk, OnErr, IsErrOf, Bool};
 ghost use Rattle.std.specs.FinMap.{get};
 ghost use Rattle.outer_io.specs.Files.{Files, stored};
 ghost use Rattle.outer_io.specs.Faults.{HasCause, counted};
@@ -32,6 +32,11 @@ pub trait Loads {
     /// How often the shelf has failed. The count never falls.
     ghost faults: { Self → ℕ };
 
+    /// Whether a pipe, a device or a socket stands under a name: a load of it may wait for others, or have no end. A
+    /// shelf that tells what it holds has none.
+    fn is_special(&self, name: &str) -> bool
+        ensures untold { IsTrue result → holds self.now ≡ None };
+
     /// The bytes under a name, where they are at most `limit` many.
     ///
     /// Where the shelf tells what it holds, the clauses leave one answer beside `Failed` and `NoMemory`: the bytes,
@@ -51,9 +56,14 @@ pub trait Loads {
 
 /// Bytes under names that are loaded and stored.
 pub trait Shelf: Loads {
+    /// Whether another program changed what stands under a name after it was loaded or stored here, where the shelf tells
+    /// that.
+    ghost is_changed: { Self → List ℕ → Bool };
+
     /// Puts the bytes under a name, in place of those that were there. All other names keep theirs.
     ///
-    /// After an `Err` the shelf holds what it held, where it tells that. A store is counted, done or failed; where no
+    /// What another program changed is not stored on. After an `Err` the shelf holds what it held, where it tells that. A
+    /// store is counted, done or failed; where no
     /// memory was found, nothing was done and nothing is counted.
     fn store(&mut self, name: &str, bytes: &[u8]) -> Result<(), ShelfFault>
         ensures ok { OnOk result
@@ -64,6 +74,7 @@ pub trait Shelf: Loads {
             Self.stores self.new ≡ counted (Self.stores self.old) }
         ensures no_memory { IsErrOf result ShelfFault.NoMemory →
             Self.stores self.new ≡ Self.stores self.old }
+        ensures changed { IsTrue (Self.is_changed self.old name.now) → IsErr result }
         ensures not_absent { IsErrOf result ShelfFault.Absent → ⊥ }
         ensures not_too_long { IsErrOf result ShelfFault.TooLong → ⊥ }
         ensures cause { HasCause ShelfFault.Failed

@@ -1,5 +1,5 @@
 -- A shelf that tells nothing meets what is said of the contents that are stored.
-use Rattle.std.proofs.Common.{Result, Ok, Err, OnOk, OnErr, refl}
+use Rattle.std.proofs.Common.{◌≡◌, Result, Ok, Err, OnOk, OnErr, refl, false, true}
 use Rattle.outer_io.proofs.files.FileShelfShelf.TheImpl.Goals as goal
 
 at_ok : {T E : Type 0} (result : Result T E) (P : Type 0) → P → OnOk result P
@@ -17,6 +17,7 @@ store-tells g c = record {
   counts_ok = c.ensures.counts_ok;
   counts_failed = c.ensures.counts_failed;
   no_memory = c.ensures.no_memory;
+  changed = λ told. let never : false ≡ true = told in absurd (cc);
   not_absent = c.ensures.not_absent;
   not_too_long = c.ensures.not_too_long;
   cause = c.ensures.cause;

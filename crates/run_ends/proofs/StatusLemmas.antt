@@ -47,9 +47,9 @@ module _ (read_law : ReadLaw) (expanded_law : ExpandedLaw) (words : List (List �
   pub is_fine : NoneRefused patch defined mode old names → (status ≡ 0) ⊎ (status ≡ 7)
   is_fine none = one_of status 0 7 (λ absent.
       files_do patch defined mode (ready_ends read_law expanded_law words old patch defined (OnFiles mode names) acts ready) old names false (λ rest.
-      absent (by_end rest.0 rest.1.0 (AllDone false) rest.1.1 (fine patch defined mode old names false rest.0 rest.1.0 rest.1.1 there none))))
+      absent (by_end rest.0 rest.1.0 (AllDone false) rest.1.1 (fine patch defined mode old names false rest.0 rest.1.0 some rest.1.1 there none))))
 
   pub is_refused : SomeRefused patch defined mode old names → (status ≡ 4) ⊎ (status ≡ 7)
   is_refused refused = one_of status 4 7 (λ absent.
-      refused_do patch defined mode (ready_ends read_law expanded_law words old patch defined (OnFiles mode names) acts ready) old names false there refused (λ rest.
+      refused_do patch defined mode (ready_ends read_law expanded_law words old patch defined (OnFiles mode names) acts ready) old names false some there refused (λ rest.
       absent (by_end rest.0 rest.1.0 (AllDone true) rest.1.1.0 rest.1.1.1)))

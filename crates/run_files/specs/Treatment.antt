@@ -1,9 +1,10 @@
 -- The acts that a text brings under a patch, and whether it is refused.
-use Rattle.std.specs.Prelude.{ℕ, ◌≡◌, ◌⊎◌, ◌<◌, ◌≤◌, Bool, true, false, List, [], ◌∷◌, ◌++◌, length, map, cond}
+use Rattle.std.specs.Prelude.{ℕ, ◌≡◌, ◌⊎◌, ◌<◌, ◌≤◌, Bool, true, false, List, [], ◌∷◌, ◌++◌, length, map, cond, Option, None}
 use Rattle.c_terms.specs.Same.{same_bytes}
+use Rattle.outer_io.specs.Files.{Files}
 use Rattle.run_acts.specs.Acts.{Act, Store, Print, Report}
 use Rattle.run_words.specs.declared.order.Mode.{Mode}
-use Rattle.run_lines.specs.Files.{too_long_line, refused_line, skipped_line}
+use Rattle.run_lines.specs.Files.{too_long_line, special_line, refused_line, skipped_line}
 use Rattle.run_lines.specs.Summary.{summary}
 use Rattle.smpl_patch.specs.declared.rule.Patch.{Patch}
 use Rattle.wit_print.specs.Report.{report_of}
@@ -68,6 +69,13 @@ Treats mode patch defined name bytes treated =
     ((file_limit < length bytes) × (treated ≡ refuses (too_long_line name)))
     ⊎ ((length bytes ≤ file_limit) × ((end : Outcome) × (Chain patch.rules defined bytes end
     × (treated ≡ treated_by mode patch name bytes end))))
+
+-- What stands under this name is treated so, its bytes being these. Where the shelf doesn't tell what it holds, it may also be a
+-- pipe, a device or a socket, which is refused.
+abbrev pub TreatsFile : Option Files → Mode → Patch → List (List ℕ) → List ℕ → List ℕ → Treated → Type 0
+TreatsFile holds mode patch defined name bytes treated =
+    Treats mode patch defined name bytes treated
+    ⊎ ((holds ≡ None) × (treated ≡ refuses (special_line name)))
 
 -- a generated text is treated so
 abbrev pub Sums : Patch → List (List ℕ) → List ℕ → List ℕ → Treated → Type 0

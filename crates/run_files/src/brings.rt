@@ -12,7 +12,7 @@ use c_terms::same_text;
 use outer_io::{Shelf, Sink};
 use rule_work::{FileFault, SkipNote};
 use run_acts::{Stopped, print, report, store};
-use run_lines::{refused_line, skipped_line, too_long_line};
+use run_lines::{refused_line, skipped_line, special_line, too_long_line};
 use std::alloc::Global;
 
 /// Reports each skipped item.
@@ -113,5 +113,20 @@ pub fn refuse_long<E: Sink>(alloc: Global, err: &mut E, name: &str) -> Result<()
         (told files stores out (E.written err.old)) (told files stores out (E.written err.new)) (status_of stopped)) }
 {
     let line = too_long_line(alloc, name)?;
+    report(err, &line)
+}
+
+/// Puts the line about a pipe, a device or a socket of this name.
+pub fn refuse_special<E: Sink>(alloc: Global, err: &mut E, name: &str) -> Result<(), Stopped>
+    ensures done { OnOk result ((files : Option Files) (stores : ℕ) (out : Option (List ℕ)) →
+        Does (Report (lines.special_line name.now) ∷ [])
+        (told files stores out (E.written err.old)) (told files stores out (E.written err.new))) }
+    ensures later { E.faults err.old ≤ E.faults err.new }
+    ensures stopped { IfErr result (λ stopped. (files : Option Files) (out : Option (List ℕ)) (stores s o s' o' : ℕ) →
+        Stops (Report (lines.special_line name.now) ∷ [])
+        (counts s o (E.faults err.old)) (counts s' o' (E.faults err.new))
+        (told files stores out (E.written err.old)) (told files stores out (E.written err.new)) (status_of stopped)) }
+{
+    let line = special_line(alloc, name)?;
     report(err, &line)
 }

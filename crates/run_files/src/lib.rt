@@ -3,7 +3,7 @@
 //! - [`treat`] applies a patch to the bytes of a file and brings what comes of it: lines about skipped items, then its report or
 //!   its text on the output, then its text on the shelf; or the line of its refusal.
 //! - [`sum`] does the same for a generated text, whose summary is printed.
-//! - [`refuse_long`] is for a file that is over its limit.
+//! - [`refuse_long`] is for a file that is over its limit, and [`refuse_special`] for a pipe, a device or a socket.
 //!
 //! A [`Ready`] is a patch with what its rules are run by. Under the patch of a rule whose `- f(x);` matches, the file
 //! `void k(void) { f(1); }` named `k.c` brings one act: its new text on the output, or, with `in_place`, on the shelf.
@@ -17,6 +17,6 @@ mod laws;
 mod treats;
 
 pub use applies::Ready;
-pub use brings::refuse_long;
+pub use brings::{refuse_long, refuse_special};
 pub use laws::refusals_say_why;
 pub use treats::{sum, treat};

@@ -17,7 +17,7 @@ use Rattle.sp_gen.specs.Generated.{generated}
 use Rattle.run_words.specs.declared.order.Mode.{Mode}
 use Rattle.run_words.specs.Orders.{Target, OnFiles, OnText, order_of}
 use Rattle.run_lines.specs.Patches.{patch_fault_line, iso_fault_line, forms_line}
-use Rattle.run_files.specs.Treatment.{Treated, file_limit, Treats, Sums, treated_by, summed_by}
+use Rattle.run_files.specs.Treatment.{Treated, file_limit, Treats, TreatsFile, Sums, treated_by, summed_by}
 use Rattle.run_stages.specs.Stages.{Stage, Doing, Ending, ReadPatch, ReadIsos, EditFiles, generated_name, refusing, going, end_status, begun, TargetLeads, ReadLeads, PatchLeads, IsosLead, IsosFileLeads, FileLeads, next_act, status_at, Leads}
 use Rattle.run_stages.specs.Paths.{Path, AreActs, ComesTo}
 
@@ -48,6 +48,10 @@ Found-one (Some files) name a b some one two = one ∙ sym two
 not-both : (n : ℕ) → file_limit < n → n ≤ file_limit → ⊥
 not-both n long short = omega (arith, long, short)
 
+not-untold : (holds : Option Files) → IsSome holds → holds ≡ None → ⊥
+not-untold None some none = let e : false ≡ true = some in absurd (cc)
+not-untold (Some files) some none = absurd (cc)
+
 module _ (laws : ReadOnce) where
   Treats-one : (mode : Mode) (patch : Patch) (defined : List (List ℕ)) (name bytes : List ℕ) (a b : Treated) → Treats mode patch defined name bytes a
       → Treats mode patch defined name bytes b → a ≡ b
@@ -56,6 +60,12 @@ module _ (laws : ReadOnce) where
   Treats-one mode patch defined name bytes a b (inr one) (inl two) = absurd (not-both (length bytes) two.0 one.0)
   Treats-one mode patch defined name bytes a b (inr one) (inr two) =
       one.1.1.1 ∙ ap (treated_by mode patch name bytes) (laws.chain patch.rules defined bytes one.1.0 two.1.0 one.1.1.0 two.1.1.0) ∙ sym two.1.1.1
+
+  TreatsFile-one : (holds : Option Files) → IsSome holds → (mode : Mode) (patch : Patch) (defined : List (List ℕ)) (name bytes : List ℕ) (a b : Treated)
+      → TreatsFile holds mode patch defined name bytes a → TreatsFile holds mode patch defined name bytes b → a ≡ b
+  TreatsFile-one holds some mode patch defined name bytes a b (inl one) (inl two) = Treats-one mode patch defined name bytes a b one two
+  TreatsFile-one holds some mode patch defined name bytes a b (inl one) (inr two) = absurd (not-untold holds some two.0)
+  TreatsFile-one holds some mode patch defined name bytes a b (inr one) two = absurd (not-untold holds some one.0)
 
   Sums-one : (patch : Patch) (defined : List (List ℕ)) (name bytes : List ℕ) (a b : Treated) → Sums patch defined name bytes a
       → Sums patch defined name bytes b → a ≡ b
@@ -106,12 +116,13 @@ module _ (laws : ReadOnce) where
       let same = laws.isos bytes one.0 two.0 one.1.0 two.1.0 in
       IsosLead-one two.0 patch name defined target a b (subst (λ (is : List Iso). IsosLead is patch name defined target a) same one.1.1) two.1.1
 
-  FileLeads-one : (under : Option (List ℕ)) (patch : Patch) (defined : List (List ℕ)) (mode : Mode) (name : List ℕ) (names : List (List ℕ)) (refused : Bool)
-      (a b : Stage) → FileLeads under patch defined mode name names refused a → FileLeads under patch defined mode name names refused b → a ≡ b
-  FileLeads-one None patch defined mode name names refused a b one two = one ∙ sym two
-  FileLeads-one (Some bytes) patch defined mode name names refused a b one two =
+  FileLeads-one : (holds : Option Files) → IsSome holds → (under : Option (List ℕ)) (patch : Patch) (defined : List (List ℕ)) (mode : Mode) (name : List ℕ)
+      (names : List (List ℕ)) (refused : Bool) (a b : Stage) → FileLeads holds under patch defined mode name names refused a
+      → FileLeads holds under patch defined mode name names refused b → a ≡ b
+  FileLeads-one holds some None patch defined mode name names refused a b one two = one ∙ sym two
+  FileLeads-one holds some (Some bytes) patch defined mode name names refused a b one two =
       one.1.1 ∙ ap (λ (t : Treated). going t.acts patch defined mode names (refused || t.refused))
-      (Treats-one mode patch defined name bytes one.0 two.0 one.1.0 two.1.0) ∙ sym two.1.1
+      (TreatsFile-one holds some mode patch defined name bytes one.0 two.0 one.1.0 two.1.0) ∙ sym two.1.1
 
   Leads-one : (holds : Option Files) → IsSome holds → (from a b : Stage) → Leads holds from a → Leads holds from b → a ≡ b
   Leads-one holds some (Doing (act ∷ acts) work) a b one two = one ∙ sym two
@@ -123,8 +134,8 @@ module _ (laws : ReadOnce) where
       IsosFileLeads-one two.0 patch name defined target a b (subst (λ (o : Option (List ℕ)). IsosFileLeads o patch name defined target a) under one.1.1) two.1.1
   Leads-one holds some (Doing [] (EditFiles patch defined mode name names refused)) a b one two =
       let under = Found-one holds name one.0 two.0 some one.1.0 two.1.0 in
-      FileLeads-one two.0 patch defined mode name names refused a b
-      (subst (λ (o : Option (List ℕ)). FileLeads o patch defined mode name names refused a) under one.1.1) two.1.1
+      FileLeads-one holds some two.0 patch defined mode name names refused a b
+      (subst (λ (o : Option (List ℕ)). FileLeads holds o patch defined mode name names refused a) under one.1.1) two.1.1
   Leads-one holds some (Ending (act ∷ acts) status) a b one two = one ∙ sym two
   Leads-one holds some (Ending [] status) a b one two = absurd one
 

@@ -76,7 +76,7 @@ module _ (patch : Patch) (defined : List (List ℕ)) (mode : Mode) where
       → Went old patch defined mode names refused pending acts status
 
   one_file : (old : Told) (name : List ℕ) (names : List (List ℕ)) (refused : Bool) (under : Option (List ℕ)) (mid : Stage) (acts : List Act) (last : Stage)
-      (status : ℕ) → GoesOn names last status → Found old.files name under → FileLeads under patch defined mode name names refused mid → Path old mid acts last
+      (status : ℕ) → GoesOn names last status → Found old.files name under → FileLeads old.files under patch defined mode name names refused mid → Path old mid acts last
       → status_at last ≡ Some status → Went old patch defined mode (name ∷ names) refused [] (Load name file_limit ∷ acts) status
   one_file old name names refused None mid acts last status rec found leads path over =
       let end_of = ending-at old mid (Report (cannot_read name) ∷ []) 5 acts last status leads path over in

@@ -23,6 +23,10 @@ refused_line name fault = line_about name (codes "refused: " ++ fault_text fault
 abbrev pub too_long_line : List ℕ → List ℕ
 too_long_line name = line_about name (codes "refused: file too long")
 
+-- what is no regular file: a pipe, a device or a socket
+abbrev pub special_line : List ℕ → List ℕ
+special_line name = line_about name (codes "refused: no regular file")
+
 abbrev pub why_text : Why → List ℕ
 why_text NoTree = codes "no tree"
 why_text TooDeep = codes "too deep"

@@ -54,6 +54,16 @@ pub fn too_long_line(alloc: Global, name: &str) -> Result<Vec<u8>, NoMemory>
     Ok(line.finish())
 }
 
+/// `spatch: NAME: refused: no regular file`, the line about a pipe, a device or a socket of this name. Linear in the name. Only memory may be wanting. The form is the project's own.
+pub fn special_line(alloc: Global, name: &str) -> Result<Vec<u8>, NoMemory>
+    ensures bytes { IfOk result (λ line. line.items ≡ told.special_line name.now) }
+{
+    let mut line = line_about(alloc, name)?;
+    line.put(b"refused: no regular file")?;
+    line.put(b"\n")?;
+    Ok(line.finish())
+}
+
 fn why_text(why: Why) -> &'static [u8]
     ensures { result.now ≡ told.why_text why }
 {

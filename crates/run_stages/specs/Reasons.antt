@@ -14,7 +14,7 @@ use Rattle.sp_gen.specs.Generated.{generated}
 use Rattle.run_words.specs.declared.order.Mode.{Mode}
 use Rattle.run_words.specs.Orders.{Target, OnFiles, OnText, Apply, Generate, order_of}
 use Rattle.run_lines.specs.Patches.{usage, patch_fault_line, iso_fault_line, forms_line}
-use Rattle.run_files.specs.Treatment.{Treated, file_limit, Treats, Sums}
+use Rattle.run_files.specs.Treatment.{Treated, file_limit, TreatsFile, Sums}
 use Rattle.run_stages.specs.Stages.{patch_limit, generated_name, end_status}
 
 -- ---- the patch
@@ -66,7 +66,7 @@ FilesDo old patch defined mode [] refused acts end = (acts ≡ []) × (end ≡ A
 FilesDo old patch defined mode (name ∷ names) refused acts end =
     (Found old.files name None × ((acts ≡ Load name file_limit ∷ Report (cannot_read name) ∷ []) × (end ≡ Missing name)))
     ⊎ ((bytes : List ℕ) × (Found old.files name (Some bytes) × ((treated : Treated)
-    × (Treats mode patch defined name bytes treated × ((rest : List Act)
+    × (TreatsFile old.files mode patch defined name bytes treated × ((rest : List Act)
     × ((acts ≡ Load name file_limit ∷ treated.acts ++ rest)
     × FilesDo (after treated.acts old) patch defined mode names (refused || treated.refused) rest end))))))
 

@@ -15,7 +15,7 @@ use Rattle.sp_gen.specs.Generated.{generated}
 use Rattle.run_words.specs.declared.order.Mode.{Mode}
 use Rattle.run_words.specs.Orders.{Target, OnFiles, OnText, Order, Apply, Generate}
 use Rattle.run_lines.specs.Patches.{usage, patch_fault_line, iso_fault_line, forms_line}
-use Rattle.run_files.specs.Treatment.{Treated, file_limit, Treats, Sums}
+use Rattle.run_files.specs.Treatment.{Treated, file_limit, TreatsFile, Sums}
 
 -- a patch is read up to this many bytes, and so are isomorphisms
 abbrev pub patch_limit : ℕ
@@ -96,10 +96,10 @@ IsosFileLeads (Some bytes) patch name defined target to =
     ⊎ ((isos : List Iso) × (AreIsosOf bytes isos × IsosLead isos patch name defined target to))
 
 -- what a file leads to: the acts that it brings, and then the files that are left
-abbrev pub FileLeads : Option (List ℕ) → Patch → List (List ℕ) → Mode → List ℕ → List (List ℕ) → Bool → Stage → Type 0
-FileLeads None patch defined mode name names refused to = to ≡ refusing (cannot_read name) 5
-FileLeads (Some bytes) patch defined mode name names refused to =
-    (treated : Treated) × (Treats mode patch defined name bytes treated
+abbrev pub FileLeads : Option Files → Option (List ℕ) → Patch → List (List ℕ) → Mode → List ℕ → List (List ℕ) → Bool → Stage → Type 0
+FileLeads holds None patch defined mode name names refused to = to ≡ refusing (cannot_read name) 5
+FileLeads holds (Some bytes) patch defined mode name names refused to =
+    (treated : Treated) × (TreatsFile holds mode patch defined name bytes treated
     × (to ≡ going treated.acts patch defined mode names (refused || treated.refused)))
 
 -- ---- acts
@@ -130,7 +130,7 @@ WorkLeads holds (ReadPatch name isos defined target) to =
 WorkLeads holds (ReadIsos patch name defined target) to =
     (under : Option (List ℕ)) × (Found holds name under × IsosFileLeads under patch name defined target to)
 WorkLeads holds (EditFiles patch defined mode name names refused) to =
-    (under : Option (List ℕ)) × (Found holds name under × FileLeads under patch defined mode name names refused to)
+    (under : Option (List ℕ)) × (Found holds name under × FileLeads holds under patch defined mode name names refused to)
 
 -- the stage after the next act
 abbrev pub Leads : Option Files → Stage → Stage → Type 0

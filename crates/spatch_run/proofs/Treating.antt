@@ -6,11 +6,11 @@ use Rattle.run_acts.specs.Acts.{Act, Load, Report, Told, done, after}
 use Rattle.run_acts.specs.Breaks.{Counts, NoneFell}
 use Rattle.run_acts.specs.Lines.{cannot_read}
 use Rattle.run_acts.specs.Loaded.{Found}
-use Rattle.run_acts.proofs.BreaksLemmas.{NoneFell-then}
+use Rattle.run_acts.proofs.BreaksLemmas.{NoneFell-refl, NoneFell-then}
 use Rattle.smpl_patch.specs.declared.rule.Patch.{Patch}
 use Rattle.run_words.specs.declared.order.Mode.{Mode}
-use Rattle.run_lines.specs.Files.{too_long_line}
-use Rattle.run_files.specs.Treatment.{Treated, file_limit, refuses, Treats, Sums}
+use Rattle.run_lines.specs.Files.{too_long_line, special_line}
+use Rattle.run_files.specs.Treatment.{Treated, file_limit, refuses, Treats, TreatsFile, Sums}
 use Rattle.run_files.specs.Does.{Does, Stops}
 use Rattle.run_files.specs.Cuts.{TreatsAll, TreatsPart}
 use Rattle.run_files.specs.Cuts.TreatsPart.{earlier, later}
@@ -54,6 +54,11 @@ module _ (holding : List Act → Stage) (next : (act : Act) (acts : List Act) �
 
 -- ---- a file
 
+-- where a shelf tells nothing, any bytes may stand under a name
+found_any : (holds : Option Files) (name : List ℕ) → holds ≡ None → Found holds name (Some [])
+found_any None name none = refl
+found_any (Some files) name none = absurd (cc)
+
 module _ (patch : Patch) (defined : List (List ℕ)) (mode : Mode) where
   going_next : (names : List (List ℕ)) (refused : Bool) (act : Act) (acts : List Act) → next_act (going (act ∷ acts) patch defined mode names refused) ≡ Some act
   going_next [] refused act acts = refl
@@ -64,12 +69,12 @@ module _ (patch : Patch) (defined : List (List ℕ)) (mode : Mode) where
   going_leads (name ∷ names) refused holds act acts = refl
 
   -- a file was loaded, which leaves no trace
-  file_loaded : (name : List ℕ) (names : List (List ℕ)) (refused : Bool) (bytes : List ℕ) (treated : Treated) {old here : Told} → Found old.files name (Some bytes) → here ≡ old → Treats mode patch defined name bytes treated → Goes (Doing [] (EditFiles patch defined mode name names refused)) old (going treated.acts patch defined mode names (refused || treated.refused)) here
+  file_loaded : (name : List ℕ) (names : List (List ℕ)) (refused : Bool) (bytes : List ℕ) (treated : Treated) {old here : Told} → Found old.files name (Some bytes) → here ≡ old → TreatsFile old.files mode patch defined name bytes treated → Goes (Doing [] (EditFiles patch defined mode name names refused)) old (going treated.acts patch defined mode names (refused || treated.refused)) here
   file_loaded name names refused bytes treated {old = old} {here = here} found same treats =
       Goes-act (Doing [] (EditFiles patch defined mode name names refused)) (Load name file_limit) (going treated.acts patch defined mode names (refused || treated.refused)) old here refl (Some bytes, (found, (treated, (treats, refl)))) same
 
   -- a file was loaded and treated
-  file_goes : (name : List ℕ) (names : List (List ℕ)) (refused here_refused : Bool) (bytes : List ℕ) {old here new : Told} → Found old.files name (Some bytes) → here ≡ old → TreatsAll (Treats mode patch defined name bytes) here_refused here new → Goes (Doing [] (EditFiles patch defined mode name names refused)) old (going [] patch defined mode names (refused || here_refused)) new
+  file_goes : (name : List ℕ) (names : List (List ℕ)) (refused here_refused : Bool) (bytes : List ℕ) {old here new : Told} → Found old.files name (Some bytes) → here ≡ old → TreatsAll (TreatsFile old.files mode patch defined name bytes) here_refused here new → Goes (Doing [] (EditFiles patch defined mode name names refused)) old (going [] patch defined mode names (refused || here_refused)) new
   file_goes name names refused here_refused bytes {old = old} {here = here} {new = new} found same all =
       let treated = all.treated in
       let r = refused || treated.refused in
@@ -82,7 +87,7 @@ module _ (patch : Patch) (defined : List (List ℕ)) (mode : Mode) where
       broken (Doing [] (EditFiles patch defined mode name names refused)) (Load name file_limit) refl (NoneFell-then first before now fell more) (inl (seven, none ∙ same))
   file_cut name names refused bytes found same fell more (later treated treats stops) =
       let r = refused || treated.refused in
-      Goes-ends (file_loaded name names refused bytes treated found same treats) fell (stops_ends (λ (acts : List Act). going acts patch defined mode names r) (going_next names r) (going_leads names r) treated.acts more stops)
+      Goes-ends (file_loaded name names refused bytes treated found same (inl treats)) fell (stops_ends (λ (acts : List Act). going acts patch defined mode names r) (going_next names r) (going_leads names r) treated.acts more stops)
 
   -- a file that is over its limit
   pub long_cut : (name : List ℕ) (names : List (List ℕ)) (refused : Bool) (under : Option (List ℕ)) {first before now : Counts} {old here new : Told} {status : ℕ} → Found old.files name under → IsSomeAnd under (λ bytes. 16777216 < length bytes) → here ≡ old → NoneFell first before → NoneFell before now → Stops (Report (too_long_line name) ∷ []) before now here new status → Ends (Doing [] (EditFiles patch defined mode name names refused)) first now old new status
@@ -93,11 +98,22 @@ module _ (patch : Patch) (defined : List (List ℕ)) (mode : Mode) where
   pub turns_long : (name : List ℕ) (under : Option (List ℕ)) {old here new : Told} → Found old.files name under → IsSomeAnd under (λ bytes. 16777216 < length bytes) → here ≡ old → Does (Report (too_long_line name) ∷ []) here new → TurnsTo (turn.Treated true) patch defined mode name old new
   turns_long name None found long same does = absurd long
   turns_long name (Some bytes) {new = new} found long same does =
-      (bytes, (found, record { treated = refuses (too_long_line name); treats = inl (long, refl); refused_is = refl; does = subst (λ (t : Told). Does (Report (too_long_line name) ∷ []) t new) same does }))
+      (bytes, (found, record { treated = refuses (too_long_line name); treats = inl (inl (long, refl)); refused_is = refl; does = subst (λ (t : Told). Does (Report (too_long_line name) ∷ []) t new) same does }))
 
   pub turns_treated : (name bytes : List ℕ) (under : Option (List ℕ)) (refused : Bool) {old here new : Told} → Found old.files name under → under ≡ Some bytes → here ≡ old → TreatsAll (Treats mode patch defined name bytes) refused here new → TurnsTo (turn.Treated refused) patch defined mode name old new
   turns_treated name bytes under refused {old = old} {new = new} found is same all =
-      (bytes, (subst (λ (u : Option (List ℕ)). Found old.files name u) is found, subst (λ (t : Told). TreatsAll (Treats mode patch defined name bytes) refused t new) same all))
+      (bytes, (subst (λ (u : Option (List ℕ)). Found old.files name u) is found, record { treated = all.treated; treats = inl all.treats; refused_is = all.refused_is; does = subst (λ (t : Told). Does all.treated.acts t new) same all.does }))
+
+  -- a pipe, a device or a socket
+  pub special_cut : (name : List ℕ) (names : List (List ℕ)) (refused : Bool) {before now : Counts} {old new : Told} {status : ℕ} → old.files ≡ None → NoneFell before now → Stops (Report (special_line name) ∷ []) before now old new status → Ends (Doing [] (EditFiles patch defined mode name names refused)) before now old new status
+  special_cut name names refused {before = before} {old = old} none fell stops =
+      let treated = refuses (special_line name) in
+      let r = refused || true in
+      Goes-ends (file_loaded name names refused [] treated (found_any old.files name none) refl (inr (none, refl))) (NoneFell-refl before) (stops_ends (λ (acts : List Act). going acts patch defined mode names r) (going_next names r) (going_leads names r) treated.acts fell stops)
+
+  pub turns_special : (name : List ℕ) {old new : Told} → old.files ≡ None → Does (Report (special_line name) ∷ []) old new → TurnsTo (turn.Treated true) patch defined mode name old new
+  turns_special name {old = old} none does =
+      ([], (found_any old.files name none, record { treated = refuses (special_line name); treats = inr (none, refl); refused_is = refl; does = does }))
 
   pub turns_absent : (name : List ℕ) (under : Option (List ℕ)) {old new : Told} → Found old.files name under → under ≡ None → new ≡ old → TurnsTo turn.Absent patch defined mode name old new
   turns_absent name under {old = old} found is same = (subst (λ (u : Option (List ℕ)). Found old.files name u) is found, same)

@@ -4,7 +4,7 @@ use Rattle.run_acts.specs.Acts.{Told}
 use Rattle.run_acts.specs.Loaded.{Found}
 use Rattle.smpl_patch.specs.declared.rule.Patch.{Patch}
 use Rattle.run_words.specs.declared.order.Mode.{Mode}
-use Rattle.run_files.specs.Treatment.{Treats}
+use Rattle.run_files.specs.Treatment.{TreatsFile}
 use Rattle.run_files.specs.Cuts.{TreatsAll}
 use Rattle.spatch_run.specs.declared.files.Turn.{Turn}
 use Rattle.spatch_run.specs.declared.files.Turn.TheVariants as turn
@@ -13,4 +13,4 @@ use Rattle.spatch_run.specs.declared.files.Turn.TheVariants as turn
 abbrev pub TurnsTo : Turn → Patch → List (List ℕ) → Mode → List ℕ → Told → Told → Type 0
 TurnsTo turn.Absent patch defined mode name old new = Found old.files name None × (new ≡ old)
 TurnsTo (turn.Treated refused) patch defined mode name old new =
-    (bytes : List ℕ) × (Found old.files name (Some bytes) × TreatsAll (Treats mode patch defined name bytes) refused old new)
+    (bytes : List ℕ) × (Found old.files name (Some bytes) × TreatsAll (TreatsFile old.files mode patch defined name bytes) refused old new)

@@ -13,7 +13,7 @@ use crate::refusals::refuse_absent;
 use outer_io::{Shelf, Sink};
 use par_match::Gate;
 use run_acts::{Loaded, Status, Stopped, load};
-use run_files::{Ready, refuse_long, treat};
+use run_files::{Ready, refuse_long, refuse_special, treat};
 use run_words::Mode;
 use std::alloc::Global;
 use std::thread::Threads;
@@ -45,7 +45,7 @@ pub enum Turn {
     Absent,
 }
 
-/// Loads a file and treats it.
+/// Loads a file and treats it. A pipe, a device or a socket is refused and not loaded.
 fn take_turn<R: Threads + Sync, S: Shelf, O: Sink, E: Sink, G: Gate>(
     rt: &R,
     alloc: Global,
@@ -72,6 +72,10 @@ fn take_turn<R: Threads + Sync, S: Shelf, O: Sink, E: Sink, G: Gate>(
         (told (S.holds shelf.new) (S.stores shelf.new) (O.written out.new) (E.written err.new))
         (status_of stopped)) }
 {
+    if shelf.is_special(name) {
+        refuse_special(alloc, err, name)?;
+        return Ok(Turn::Treated(true));
+    }
     let bytes = match load(alloc, shelf, err, name, FILE_LIMIT)? {
         Loaded::Bytes(bytes) => bytes,
         Loaded::TooLong => {

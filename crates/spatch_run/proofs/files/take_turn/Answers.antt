@@ -5,8 +5,27 @@ use Rattle.run_acts.specs.Breaks.{NoneFell, counts}
 use Rattle.run_stages.specs.Stages.{Doing, EditFiles}
 use Rattle.spatch_run.proofs.Chain.{broken}
 use Rattle.spatch_run.proofs.Leading.{no_trace}
-use Rattle.spatch_run.proofs.Treating.{file_cut, long_cut, turns_long, turns_treated, turns_absent}
+use Rattle.spatch_run.proofs.Treating.{file_cut, long_cut, special_cut, turns_long, turns_special, turns_treated, turns_absent}
 use Rattle.spatch_run.proofs.files.take_turn.Goals as goal
+
+pub returns-in_err-refuse_special-clause-fell : goal.returns-in_err-refuse_special-clause-fell
+returns-in_err-refuse_special-clause-fell g c = record { shelf = omega arith; out = omega arith; err = c.in_err-refuse_special.ensures.later }
+
+pub returns-in_err-refuse_special-clause-stopped : goal.returns-in_err-refuse_special-clause-stopped
+returns-in_err-refuse_special-clause-stopped g c =
+    let p = err_from_is_err_and c.from_residual.result c.from_residual.ensures.1 in
+    let s = g.S.Loads.faults c.args.shelf.now in
+    let o = g.O.Sink.faults c.args.out.now in
+    let fell : NoneFell (counts s o (g.E.Sink.faults c.args.err.now)) (counts s o (g.E.Sink.faults c.refuse_special.new.err)) =
+    record { shelf = omega arith; out = omega arith; err = c.in_err-refuse_special.ensures.later } in
+    rw (p.1, p.2) (λ names refused. special_cut c.args.ready.now.patch.now c.args.ready.now.defined.now c.args.mode c.args.name.now names refused (c.is_special.ensures.untold c.if-is_special.true) fell (c.in_err-refuse_special.ensures.stopped _ _ _ s o s o))
+
+pub returns-then-is_special-clause-turned : goal.returns-then-is_special-clause-turned
+returns-then-is_special-clause-turned g c =
+    turns_special c.args.ready.now.patch.now c.args.ready.now.defined.now c.args.mode c.args.name.now (c.is_special.ensures.untold c.if-is_special.true) (c.in_ok-refuse_special.ensures.done _ _ _)
+
+pub returns-then-is_special-clause-fell : goal.returns-then-is_special-clause-fell
+returns-then-is_special-clause-fell g c = record { shelf = omega arith; out = omega arith; err = c.in_ok-refuse_special.ensures.later }
 
 pub treat-requires-clause-ready : goal.treat-requires-clause-ready
 treat-requires-clause-ready g c κs within = c.requires.ready
@@ -21,7 +40,7 @@ returns-in_err-bytes-clause-fell g c = record { shelf = c.in_err-bytes.ensures.l
 
 pub returns-in_err-bytes-clause-stopped : goal.returns-in_err-bytes-clause-stopped
 returns-in_err-bytes-clause-stopped g c =
-    let p = err_from_is_err_and c.from_residual.result c.from_residual.ensures.1 in
+    let p = err_from_is_err_and c.from_residual-in_err-bytes.result c.from_residual-in_err-bytes.ensures.1 in
     let o = g.O.Sink.faults c.args.out.now in
     rw (p.1, p.2) (λ names refused. broken (Doing [] (EditFiles c.args.ready.now.patch.now c.args.ready.now.defined.now c.args.mode c.args.name.now names refused)) (Load c.args.name.now 16777216) refl (record { shelf = c.in_err-bytes.ensures.later; out = omega arith; err = c.in_err-bytes.ensures.later_err }) (c.in_err-bytes.ensures.stopped (g.O.Sink.written c.args.out.now) o o))
 

@@ -13,6 +13,7 @@ import random
 import resource
 import shutil
 import signal
+import stat
 import struct
 import subprocess
 import sys
@@ -246,22 +247,26 @@ def given_away(top, rng, tries):
 
 
 def no_files(top, rng, tries):
-    """FIFOs, devices, sockets and folders as FILE."""
+    """FIFOs, devices, sockets and folders as FILE, between two files. A folder ends the run; no other is opened."""
     wrong = 0
     for i in range(tries):
         place = Place(top, 2)
         name = "d/%d" % rng.randrange(10**6)
-        kind = i % 3
+        kind = i % 4
         if kind == 0:
             os.mkfifo(place.path(name))
         elif kind == 1:
             os.mkdir(place.path(name))
+        elif kind == 2:
+            os.mknod(place.path(name), 0o644 | stat.S_IFSOCK)
         else:
-            name = "/dev/null"
+            name = rng.choice(("/dev/null", "/dev/zero", "/dev/tty", "/dev/ptmx"))
+        why, status, goes_on = ("cannot read", 5, False) if kind == 1 else ("refused: no regular file", 4, True)
         run = place.start([place.names[0], name, place.names[1]])
         try:
             _, err = run.communicate(timeout=5)
-            wrong += run.returncode != 4 or err.decode() != f"spatch: {name}: refused: no regular file\n" or bool(place.neither())
+            stored = [read(place.path(one)) == edited(place.old[one], "alpha") for one in place.names]
+            wrong += run.returncode != status or err.decode() != f"spatch: {name}: {why}\n" or stored != [True, goes_on]
         except subprocess.TimeoutExpired:
             run.kill()
             run.communicate()

@@ -1,0 +1,3 @@
+-- Lemmas: the variables of blocks, and those of atoms.
+pub mod BlockLemmas
+pub mod CoverLemmas

@@ -1,0 +1,2 @@
+-- What the laws rest on: formulas that quantify the variables of their atoms.
+pub mod Scopes

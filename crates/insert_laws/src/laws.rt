@@ -1,0 +1,61 @@
+// What stands for the metavariables of plus code. The function does nothing.
+ghost use Rattle.std.specs.Prelude.{ℕ, List, ◌∷◌, All};
+ghost use Rattle.smpl_patch.specs.declared.rule.Iso.{Iso as Isomorphism};
+ghost use Rattle.smpl_patch.specs.declared.rule.Rule.{Rule as PatchRule};
+ghost use Rattle.smpl_patch.specs.declared.rule.Patch.{Patch as Whole};
+ghost use Rattle.smpl_file.specs.Patches.{IsPatchOf};
+ghost use Rattle.iso_expand.specs.Patches.{IsExpanded};
+ghost use Rattle.rule_work.specs.States.{Chained};
+ghost use Rattle.rule_work.specs.OneRule.{rule_found};
+ghost use Rattle.edit_walk.specs.Touches.{touches};
+ghost use Rattle.again_laws.specs.Reached.{IsBefore};
+ghost use Rattle.insert_laws.specs.Instantiated.{IsInstantiated};
+
+use aligned_laws::{
+    aligned_tokens_are_compared, forms_keep_plus_code, simple_nodes_have_no_bodies,
+};
+use cfg_build::paths_lead_to_trees;
+use iso_expand::rules_keep_their_shape;
+use iso_forms::the_tree_comes_first;
+use iso_formulas::{accepted_patches_stay_accepted, formulas_keep_their_shape};
+use name_laws::declared_names_are_words;
+use rule_laws::{rules_have_formulas, rules_may_run};
+use smpl_all_sound::spelled_patches_are_sound;
+use smpl_lexer::patch_is_read_once;
+use smpl_when::bodies_are_parted_once;
+use touch_laws::touches_show_terms;
+
+/// Of each patch that is read, over each text, at each rule to which its rules come, at each touch of its witnesses: each metavariable
+/// of each block of plus code that the edit of the touch puts in has a value there, and this value is a term. So it comes in as the
+/// text of a term, and never as nothing for want of one. The term of a list variable may be a run of no members, whose text is empty.
+///
+/// - `read`: of a patch that bytes spell.
+/// - `forms`: of such a patch with all forms, under whatever isomorphisms.
+///
+/// Does nothing.
+pub fn plus_code_is_instantiated()
+    ensures read { (bytes : List ℕ) (patch : Whole) (defined : List (List ℕ)) (text : List ℕ) (number : ℕ)
+        (rule : PatchRule) (rest : List PatchRule) (s : Chained) → IsPatchOf bytes patch →
+        IsBefore defined patch.rules text number (rule ∷ rest) s →
+        All (IsInstantiated rule s.items s.pieces) (touches (rule_found defined number rule s)) }
+    ensures forms { (bytes : List ℕ) (isos : List Isomorphism) (patch whole : Whole) (defined : List (List ℕ))
+        (text : List ℕ) (number : ℕ) (rule : PatchRule) (rest : List PatchRule) (s : Chained) → IsPatchOf bytes patch →
+        IsExpanded isos patch whole → IsBefore defined whole.rules text number (rule ∷ rest) s →
+        All (IsInstantiated rule s.items s.pieces) (touches (rule_found defined number rule s)) }
+{
+    spelled_patches_are_sound();
+    patch_is_read_once();
+    bodies_are_parted_once();
+    declared_names_are_words();
+    rules_may_run();
+    rules_have_formulas();
+    rules_keep_their_shape();
+    the_tree_comes_first();
+    formulas_keep_their_shape();
+    accepted_patches_stay_accepted();
+    paths_lead_to_trees();
+    simple_nodes_have_no_bodies();
+    aligned_tokens_are_compared();
+    forms_keep_plus_code();
+    touches_show_terms();
+}

@@ -171,11 +171,11 @@ impl<'a> Graph<'a> {
 
     /// The first node of branch `branch` of this node's statement, if it has that branch: 0 is the body, or the first
     /// statement of a block; 1 is what follows `else`, or the tail of `do`. Takes no memory.
-    pub fn down(&self, n: u32, branch: u32) -> Option<u32>
+    pub fn down(&self, n: u32, branch: usize) -> Option<u32>
         requires in_range { n < count_of self.now }
         ensures value { result ≡ slice_get (down_of self.now n) branch }
     {
-        self.rows.down.get(n as usize).get(branch as usize).copied()
+        self.rows.down.get(n as usize).get(branch).copied()
     }
 
     /// What the node is. Takes no memory.

@@ -190,7 +190,7 @@ fn past_set(alloc: Global, g: &Graph, x: &[EnvSet], s: u32) -> Result<EnvSet, No
     set_there(alloc, g.past(s), x)
 }
 
-/// The row's set at the first node of a body. A number of a body that is no `u32` is refused as if memory had run out.
+/// The row's set at the first node of a body.
 fn down_set(alloc: Global, g: &Graph, body: usize, x: &[EnvSet], s: u32) -> Result<EnvSet, NoMemory>
     requires sound { IsSound g.now }
     requires node { s < count_of g.now }
@@ -200,10 +200,7 @@ fn down_set(alloc: Global, g: &Graph, body: usize, x: &[EnvSet], s: u32) -> Resu
     ensures vars { IfOk result (λ r. (test : Var → Bool) → row_vars test x.now ≡ true
         → set_vars test r ≡ true) }
 {
-    if body > u32::MAX as usize {
-        return Err(NoMemory);
-    }
-    set_there(alloc, g.down(s, body as u32), x)
+    set_there(alloc, g.down(s, body), x)
 }
 
 /// The set of a part at a node, by the rows of its parts. It is told node by node, so it is no until, no quantifier and

@@ -131,7 +131,7 @@ pub fn neighbours_of(
     requires { beside_below (length parts.old) atoms ≡ true }
     ensures made { IfOk result (λ found. MakesNeighbours parts.old parts.new scope.now atoms found) }
 {
-    let around = scope.len()?;
+    let around = scope.len().ok_or(NoMemory)?;
     let alone = at_inner(alloc, parts, &atoms, &VarSet::new(alloc))?;
     let mut names = VarSet::new(alloc);
     put_names(alloc, &atoms, &mut names)?;
@@ -249,7 +249,7 @@ pub fn deeper_atoms(
     requires { neighbours_below (length parts.old) n.now ≡ true }
     ensures made { IfOk result (λ found. MakesDeeper parts.old parts.new scope.now n.now found) }
 {
-    let around = scope.len()?;
+    let around = scope.len().ok_or(NoMemory)?;
     let known = n.get();
     if known.names.get().len() == 0 || around <= known.around {
         return n.share();

@@ -87,12 +87,12 @@ impl StateSets {
     }
 
     /// The set of a subformula at a node. Takes no memory.
-    pub fn at(&self, part: u32, node: u32) -> &EnvSet
+    pub fn at(&self, part: usize, node: u32) -> &EnvSet
         requires part { part < length self.now }
         requires node { node < length (slice_index_or self.now part []) }
         ensures set { result.now ≡ set_at self.now part node }
     {
-        let row = &self.rows[part as usize];
+        let row = &self.rows[part];
         &row.as_slice()[node as usize]
     }
 }

@@ -170,7 +170,7 @@ fn joined(alloc: Global, exports: &[Var], lists: Vec<Items<RuleWitness>>) -> Res
 /// matched at a time, and the gate is told of each before its job begins.
 ///
 /// - `TooMany`: the forests of the witnesses in one item under one projection have more than 1,000,000 touches and binds.
-/// - `NoMemory`: memory was refused, the formula's table has 2^32 nodes, or there are more than 2^32 items.
+/// - `NoMemory`: memory was refused, or there are more than 2^32 items.
 ///
 /// Costs one [`match_item`](rule_witnesses::match_item) for each item that has a tree with all words that the formula needs, one
 /// [`item_witnesses`](rule_witnesses::item_witnesses) for each item in which it holds somewhere and each projection, which the jobs

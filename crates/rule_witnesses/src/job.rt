@@ -20,7 +20,7 @@ ghost use Rattle.rule_witnesses.specs.declared.fault.JobFault.TheVariants as fau
 
 use crate::fault::{JobFault, fault_of};
 use crate::found::Found;
-use crate::matched::{Matched, root_of};
+use crate::matched::Matched;
 use crate::values::choices;
 use cfg_graph::Graph;
 use ctl_formula::Formula;
@@ -127,7 +127,7 @@ fn with_node(
 /// stand in them.
 ///
 /// - `TooMany`: the forests have more than 1,000,000 touches and binds in all.
-/// - `NoMemory`: memory was refused, or the formula's table has 2^32 nodes.
+/// - `NoMemory`: memory was refused.
 ///
 /// Costs one call of [`choices`](crate::choices) for each node of `matched`, and one of [`forest`] a witness.
 pub fn item_witnesses(
@@ -152,7 +152,7 @@ pub fn item_witnesses(
 {
     // Its clause says that the graph is sound, which the proof asks for.
     let _count = g.count();
-    let root = root_of(f)?;
+    let root = f.root();
     let sets = &matched.sets;
     let mut found = Found::none(alloc);
     for s in matched.nodes.as_slice() {

@@ -24,18 +24,6 @@ pub struct Matched {
     pub nodes: Items<u32>,
 }
 
-/// The number of the node that the whole formula is. From 2^32 on it is refused as if memory had run out.
-pub fn root_of(f: &Formula) -> Result<u32, NoMemory>
-    ensures root { IfOk result (λ root. root ≡ f.now.root) }
-    ensures within { IfOk result (λ root. root < length f.now.nodes) }
-{
-    let root = f.root();
-    if root > u32::MAX as usize {
-        return Err(NoMemory);
-    }
-    Ok(root as u32)
-}
-
 /// The nodes, and then this one, if its set has an entry.
 fn with_match(nodes: Items<u32>, set: &EnvSet, s: u32) -> Result<Items<u32>, NoMemory>
     ensures nodes { IfOk result (λ now. now ≡ nodes ++ cond (has_entries set.now) (s ∷ []) []) }
@@ -53,7 +41,7 @@ fn nodes_with_entries(
     alloc: Global,
     g: &Graph,
     sets: &StateSets,
-    part: u32,
+    part: usize,
 ) -> Result<Items<u32>, NoMemory>
     requires part { part < length sets.now }
     requires nodes { length (slice_index_or sets.now part []) ≡ count_of g.now }
@@ -70,15 +58,12 @@ fn nodes_with_entries(
 /// The sets of a formula in the graph of one item, and the nodes, rising, at which the set of the whole formula has an
 /// entry: it holds at no other. Its patterns' sure variables stand in them.
 ///
-/// `NoMemory`: memory was refused, or the formula's table has 2^32 nodes.
-///
 /// Costs one call of [`sat`], and a look at each node.
 pub fn match_item(alloc: Global, g: &Graph, f: &Formula) -> Result<Matched, NoMemory>
     requires stand { EachPattern (SureStand f.now.decls f.now.tokens) (plain f.now) }
     ensures matched { IfOk result (λ m. AreMatched g.now f.now m.sets m.nodes) }
 {
-    let root = root_of(f)?;
     let sets = sat(alloc, g, f)?;
-    let nodes = nodes_with_entries(alloc, g, &sets, root)?;
+    let nodes = nodes_with_entries(alloc, g, &sets, f.root())?;
     Ok(Matched { sets, nodes })
 }

@@ -34,7 +34,8 @@ fn body_elements(alloc: Global, said: &Clauses, trees: &[Tree]) -> Result<Items<
     match trees {
         [] => Ok(Items::new(alloc)),
         [tree, codes @ ..] => {
-            let starts = starts_from(alloc, count_atoms(tree)?, codes)?;
+            let first = count_atoms(tree).ok_or(NoMemory)?;
+            let starts = starts_from(alloc, first, codes)?;
             let source = BodyDots {
                 said,
                 codes,

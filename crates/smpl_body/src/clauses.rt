@@ -1,5 +1,5 @@
 // What the clauses of dots say, with their code as elements.
-ghost use Rattle.std.specs.Prelude.{◌≡◌, ◌++◌, ◌+◌, slice_get, IfOk};
+ghost use Rattle.std.specs.Prelude.{◌≡◌, ◌++◌, ◌+◌, slice_get, IfOk, IfSome};
 ghost use Rattle.std.specs.Option.{option_copied};
 ghost use Rattle.smpl_elem.specs.Elements.{atoms};
 ghost use Rattle.smpl_body.specs.Bodies as told;
@@ -124,14 +124,11 @@ impl<'a> DotsSource for BodyDots<'a> {
     }
 }
 
-/// The number of the first pattern behind those of a tree.
-fn behind(first: u32, tree: &Tree) -> Result<u32, NoMemory>
-    ensures { IfOk result (λ next. next ≡ first + atoms tree.now) }
+/// The number of the first pattern after those of a tree, where a `u32` counts so far.
+fn after_atoms(first: u32, tree: &Tree) -> Option<u32>
+    ensures { IfSome result (λ next. next ≡ first + atoms tree.now) }
 {
-    match first.checked_add(count_atoms(tree)?) {
-        Some(next) => Ok(next),
-        None => Err(NoMemory),
-    }
+    first.checked_add(count_atoms(tree)?)
 }
 
 /// The numbers of the first patterns of codes, the first of which begins with this number.
@@ -142,7 +139,7 @@ pub(crate) fn starts_from(alloc: Global, first: u32, trees: &[Tree]) -> Result<I
     let mut next = first;
     for tree in trees {
         starts.push(next)?;
-        next = behind(next, tree)?;
+        next = after_atoms(next, tree).ok_or(NoMemory)?;
     }
     Ok(starts)
 }

@@ -1,5 +1,5 @@
 -- Patterns and sequences of the parts of a tree, as the code goes over its children.
-use Rattle.std.proofs.Common.{◌≡◌, ℕ, suc, ◌+◌, ◌-◌, ◌≤◌, get_or, refl, sym, ap, ◌∙◌, arith, List, [], ◌∷◌, ◌++◌, length, append_assoc, Bool, true, false}
+use Rattle.std.proofs.Common.{◌≡◌, ℕ, suc, ◌+◌, ◌-◌, ◌≤◌, get_or, refl, sym, ap, ◌∙◌, arith, List, [], ◌∷◌, ◌++◌, length, append_assoc, true, false}
 use Rattle.std.proofs.lemmas.List.{append-nil}
 use Rattle.c_terms.specs.declared.label.Label.{Label}
 use Rattle.c_terms.specs.declared.tree.Tree.{Tree}
@@ -8,7 +8,7 @@ use Rattle.smpl_patch.specs.declared.elem.Dots.{Dots}
 use Rattle.smpl_patch.specs.declared.elem.Elem.{Elem}
 use Rattle.smpl_elem.specs.declared.form.Form.{Form}
 use Rattle.smpl_elem.specs.Forms.{form_at, kids, label_at, is_part, before, after, last_kid}
-use Rattle.smpl_elem.specs.Elements.{Part, part, row, atoms, elements, total, seqs, made}
+use Rattle.smpl_elem.specs.Elements.{Part, atoms, elements, total, seqs, made}
 use Rattle.smpl_elem.proofs.PartLemmas.{parts_from, parts, IsKid, parts-part, parts-other, parts-end, part-row}
 
 pub join-last : (parts : List (List Elem)) (p : List Elem) → join (parts ++ p ∷ []) ≡ join parts ++ p
@@ -30,6 +30,13 @@ module _ (f : Form) (l : Label) (t : Tree) where
       → Counts count i all → Counts count (i + 1) all
   counts-other c count i all k h inv =
       let s : total (parts_from f l t i) ≡ total (parts_from f l t (i + 1)) = ap total (parts-other f l t c i k h) in
+      omega (arith, s, inv)
+
+  -- of a part that is counted there are no more patterns than of all
+  pub counts-within : (c : Tree) (count i all : ℕ) → IsKid t i c → is_part f l (length (kids t)) i c ≡ true → Counts count i all
+      → count + atoms c ≤ all
+  counts-within c count i all k h inv =
+      let s : total (parts_from f l t i) ≡ atoms c + total (parts_from f l t (i + 1)) = ap total (parts-part f l t c i k h) in
       omega (arith, s, inv)
 
   pub counts-end : (cs : List Tree) (count i all : ℕ) → cs ≡ kids t → length cs ≤ i → Counts count i all → count ≡ all
@@ -74,6 +81,10 @@ all-atoms t f l ef el = (λ i. before (ef i) + total (parts_from (ef i) (el i) t
 pub atoms-done : (t : Tree) (f : Form) (l : Label) (count behind : ℕ) → f ≡ form_at t → l ≡ label_at t
     → count ≡ before f + total (parts_from f l t 0) → behind ≡ after f → count + behind ≡ atoms t
 atoms-done t f l count behind ef el ec eb = let a = all-atoms t f l ef el in omega (arith, a, ec, eb)
+
+-- those before its own last one are no more than all
+pub atoms-within : (t : Tree) (f : Form) (l : Label) → f ≡ form_at t → l ≡ label_at t → before f + total (parts_from f l t 0) ≤ atoms t
+atoms-within t f l ef el = let a = all-atoms t f l ef el in omega (arith, a)
 
 pub next-done : (t : Tree) (f : Form) (l : Label) (first next : ℕ) → f ≡ form_at t → l ≡ label_at t
     → next ≡ first + before f + total (parts_from f l t 0) → next + after f ≡ first + atoms t

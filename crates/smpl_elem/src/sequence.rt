@@ -6,7 +6,6 @@ ghost use Rattle.smpl_patch.specs.declared.pattern.Spot.TheVariants as spots;
 ghost use Rattle.smpl_elem.specs.Forms as forms_of;
 ghost use Rattle.smpl_elem.specs.Elements as told;
 
-use crate::count::plus;
 use crate::form::{
     Form, after, before, first_kid, form_at, id_at, is_more, is_part, kids, label_at, last_id,
     last_kid,
@@ -186,7 +185,7 @@ fn finished<C: DotsSource>(
     ensures next { IfOk result (λ r. r.next ≡ next + forms_of.after form) }
 {
     let elems = made(alloc, form, clauses, tree, first, parts, next)?;
-    let next = plus(next, after(form))?;
+    let next = next.checked_add(after(form)).ok_or(NoMemory)?;
     Ok(Numbered { elems, next })
 }
 
@@ -204,7 +203,7 @@ pub fn elements<C: DotsSource>(
     let form = form_at(tree);
     let label = label_at(tree);
     let children = kids(tree);
-    let mut next = plus(first, before(form))?;
+    let mut next: u32 = first.checked_add(before(form)).ok_or(NoMemory)?;
     let mut parts = Vec::new(alloc);
     for (i, child) in children.iter().enumerate() {
         if !is_part(form, label, children.len(), i, child) {

@@ -1,5 +1,5 @@
 // What is quantified around the elements of a sequence.
-ghost use Rattle.std.specs.Prelude.{◌≡◌, ◌<◌, ◌^◌, ◌+◌, ◌++◌, [], length, take, drop, IfOk, OnOk};
+ghost use Rattle.std.specs.Prelude.{◌≡◌, ◌<◌, ◌^◌, ◌+◌, ◌++◌, [], length, take, drop, IfOk, IfSome, OnOk};
 ghost use Rattle.std.specs.List.{list_any};
 ghost use Rattle.pattern_vars.specs.Reads.{has};
 ghost use Rattle.var_places.specs.Scopes.{joined};
@@ -67,25 +67,15 @@ fn is_in_some(links: &[Link], x: &Key) -> bool
     links.iter().any(|link| link.has(x))
 }
 
-/// The sum, or `NoMemory` where it is 2^64 or more: no scope has so many variables.
-fn plus(a: usize, b: usize) -> Result<usize, NoMemory>
-    ensures { IfOk result (λ sum. sum ≡ a + b) }
+/// How many variables the links have, where a `usize` counts them. Takes no memory.
+fn count_of(links: &[Link]) -> Option<usize>
+    ensures { IfSome result (λ count. count ≡ length (joined links.now)) }
 {
-    match a.checked_add(b) {
-        Some(sum) => Ok(sum),
-        None => Err(NoMemory),
-    }
-}
-
-/// How many variables the links have. Takes no memory.
-fn count_of(links: &[Link]) -> Result<usize, NoMemory>
-    ensures { IfOk result (λ count. count ≡ length (joined links.now)) }
-{
-    let mut count = 0;
+    let mut count: usize = 0;
     for link in links {
-        count = plus(count, link.as_slice().len())?;
+        count = count.checked_add(link.as_slice().len())?;
     }
-    Ok(count)
+    Some(count)
 }
 
 /// Appends the variables from this number on. Those before it are not looked at.
@@ -165,13 +155,13 @@ impl Scope {
         Ok(self.last.has(&key))
     }
 
-    /// How many variables there are, or `NoMemory` where there are 2^64 or more. Linear in the number of sequences around in
-    /// which something is quantified; takes no memory.
-    pub fn len(&self) -> Result<usize, NoMemory>
-        ensures { IfOk result (λ count. count ≡ length self.now) }
+    /// How many variables there are, where a `usize` counts them. Linear in the number of sequences around in which something
+    /// is quantified; takes no memory.
+    pub fn len(&self) -> Option<usize>
+        ensures { IfSome result (λ count. count ≡ length self.now) }
     {
         let count = count_of(self.outer.as_slice())?;
-        plus(count, self.last.as_slice().len())
+        count.checked_add(self.last.as_slice().len())
     }
 
     /// The variables from this number on: what is quantified further inside than so many. Linear in their number, and in the

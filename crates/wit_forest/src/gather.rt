@@ -72,10 +72,7 @@ fn values_at(
         ≡ holds_at g.now f.now (change (total env.now) x.now v) part s) }
     ensures rise { IfOk result (λ r. IsStrictlySortedBy value_order r.items) }
 {
-    if part > u32::MAX as usize {
-        return Err(NoMemory);
-    }
-    let values = values_in(alloc, sets.at(part as u32, s), env, x)?;
+    let values = values_in(alloc, sets.at(part, s), env, x)?;
     Ok(different(values))
 }
 

@@ -13,17 +13,13 @@ use env_sets::{StateSets, denotes};
 use smpl_terms::Env;
 use std::alloc::Global;
 
-/// Whether the set of the part at the node has the environment. A part's number from 2^32 on is refused as if memory had
-/// run out.
-fn told(sets: &StateSets, part: usize, node: u32, env: &Env) -> Result<bool, NoMemory>
+/// Whether the set of the part at the node has the environment.
+fn told(sets: &StateSets, part: usize, node: u32, env: &Env) -> bool
     requires part { part < length sets.now }
     requires node { node < length (slice_index_or sets.now part []) }
-    ensures { IfOk result (λ r. r ≡ of.told sets.now (total env.now) part node) }
+    ensures { result ≡ of.told sets.now (total env.now) part node }
 {
-    if part > u32::MAX as usize {
-        return Err(NoMemory);
-    }
-    Ok(denotes(sets.at(part as u32, node), env))
+    denotes(sets.at(part, node), env)
 }
 
 fn one(alloc: Global, part: usize, node: u32) -> Result<Vec<(usize, u32)>, NoMemory>
@@ -64,7 +60,7 @@ fn put_held(
     ensures { IfOk result (λ _. kids.new.items
         ≡ kids.old.items ++ of.held g.now (of.told sets.now (total env.now)) part node) }
 {
-    let here = told(sets, part, node, env)?;
+    let here = told(sets, part, node, env);
     put_if(kids, here, part, node)
 }
 
@@ -169,10 +165,10 @@ fn every_until(
         ≡ (if of.told sets.now (total env.now) end s then (end, s) ∷ []
         else (way, s) ∷ (if of.told sets.now (total env.now) way s then map (λ k. (until, k)) (succ_of g.now s) else []))) }
 {
-    if told(sets, end, s, env)? {
+    if told(sets, end, s, env) {
         return one(alloc, end, s);
     }
-    let here = told(sets, way, s, env)?;
+    let here = told(sets, way, s, env);
     way_on_every(alloc, g.succ(s), here, until, way, s)
 }
 
@@ -212,7 +208,7 @@ fn ways_on(
 {
     let mut kids = Vec::new(alloc);
     for k in next {
-        let here = told(sets, until, *k, env)?;
+        let here = told(sets, until, *k, env);
         put_way(&mut kids, here, until, way, s, *k)?;
     }
     Ok(kids)
@@ -235,7 +231,7 @@ fn some_way(
     ensures { IfOk result (λ r. r.items ≡ (if of.told sets.now (total env.now) way s
         then flat_map (of.way_on g.now (of.told sets.now (total env.now)) until way s) (succ_of g.now s) else [])) }
 {
-    if told(sets, way, s, env)? {
+    if told(sets, way, s, env) {
         return ways_on(alloc, g, sets, g.succ(s), until, way, s, env);
     }
     Ok(Vec::new(alloc))
@@ -278,7 +274,7 @@ fn there(alloc: Global, i: usize, node: Option<u32>) -> Result<Vec<(usize, u32)>
     }
 }
 
-/// A number of a body that is no `u32` is refused as if memory had run out.
+/// The part at the first node of a body.
 fn body(
     alloc: Global,
     g: &Graph,
@@ -289,15 +285,11 @@ fn body(
     requires s { s < count_of g.now }
     ensures { IfOk result (λ r. r.items ≡ of.there i (slice_get (down_of g.now s) number)) }
 {
-    if number > u32::MAX as usize {
-        return Err(NoMemory);
-    }
-    there(alloc, i, g.down(s, number as u32))
+    there(alloc, i, g.down(s, number))
 }
 
 /// The parts at nodes whose forests make up that of a part, by the node of its number in the formula's table; none for
-/// atoms and quantifiers. Each set that is asked takes what [`denotes`] does. A number of a part or a body from 2^32 on is
-/// refused as if memory had run out.
+/// atoms and quantifiers. Each set that is asked takes what [`denotes`] does.
 pub fn kids(
     alloc: Global,
     g: &Graph,

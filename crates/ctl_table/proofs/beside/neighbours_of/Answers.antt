@@ -1,4 +1,4 @@
-use Rattle.std.proofs.Common.{◌∙◌, ap, List}
+use Rattle.std.proofs.Common.{◌≡◌, ◌∙◌, ap, rules, List, length}
 use Rattle.smpl_terms.specs.declared.var.Var.{Var}
 use Rattle.pattern_vars.specs.Reads.{has}
 use Rattle.ctl_table.specs.declared.beside.Neighbours.{Neighbours}
@@ -14,8 +14,9 @@ returns c =
       alone = c.in_ok-alone.alone;
       around = c.in_ok-around.around;
     } in
+    let wide : c.in_ok-around.around ≡ length c.args.scope.now = search rules in
     record {
       made = neighbours-made c.args.parts.now c.at_inner-2.new.parts c.args.scope.now c.new.result c.new-names.result c.args.atoms n c.requires
           c.in_ok-of.ensures.value c.new-2.ensures c.new.ensures c.new-names.ensures
-          (λ y. ap (λ (z : List Var). has z y) c.in_ok-of-2.ensures.value ∙ c.in_ok-put_names.ensures y) c.in_ok-alone.ensures.made c.in_ok-around.ensures;
+          (λ y. ap (λ (z : List Var). has z y) c.in_ok-of-2.ensures.value ∙ c.in_ok-put_names.ensures y) c.in_ok-alone.ensures.made wide;
     }

@@ -16,7 +16,7 @@ pub at-set-requires-clause-node : goal.at-set-requires-clause-node
 at-set-requires-clause-node c =
     let p = item_at c.as_slice-s-items.result.now c.args.matched.now.nodes c.loop-s.s-index c.as_slice-s-items.ensures c.loop-s-test.true in
     let within = matched_within c.args.g.now c.args.f.now c.args.matched.now.sets c.args.matched.now.nodes c.requires.matched c.loop-s.s-index (get_or c.as_slice-s-items.result.now c.loop-s.s-index 0) p.0 p.1 in
-    let row = c.requires.matched.sets.nodes c.in_ok-root.root c.in_ok-root.ensures.within in
+    let row = c.requires.matched.sets.nodes c.root-root.result c.root-root.ensures.within in
     omega (arith, within, row)
 
 pub with_node-requires-clause-node : goal.with_node-requires-clause-node
@@ -28,15 +28,15 @@ pub with_node-requires-clause-told : goal.with_node-requires-clause-told
 with_node-requires-clause-told c =
     let p = item_at c.as_slice-s-items.result.now c.args.matched.now.nodes c.loop-s.s-index c.as_slice-s-items.ensures c.loop-s-test.true in
     let lt = matched_within c.args.g.now c.args.f.now c.args.matched.now.sets c.args.matched.now.nodes c.requires.matched c.loop-s.s-index (get_or c.as_slice-s-items.result.now c.loop-s.s-index 0) p.0 p.1 in
-    set_told c.args.g.now c.args.f.now c.args.matched.now.sets c.count-count.ensures.sound c.requires.matched.sets c.in_ok-root.root c.in_ok-root.ensures.root
-    c.in_ok-root.ensures.within (get_or c.as_slice-s-items.result.now c.loop-s.s-index 0) lt c.at-set.result.now c.at-set.ensures.set
+    set_told c.args.g.now c.args.f.now c.args.matched.now.sets c.count-count.ensures.sound c.requires.matched.sets c.root-root.result c.root-root.ensures.root
+    c.root-root.ensures.within (get_or c.as_slice-s-items.result.now c.loop-s.s-index 0) lt c.at-set.result.now c.at-set.ensures.set
 
 pub with_node-requires-clause-leaves : goal.with_node-requires-clause-leaves
 with_node-requires-clause-leaves c =
     let p = item_at c.as_slice-s-items.result.now c.args.matched.now.nodes c.loop-s.s-index c.as_slice-s-items.ensures c.loop-s-test.true in
     let lt = matched_within c.args.g.now c.args.f.now c.args.matched.now.sets c.args.matched.now.nodes c.requires.matched c.loop-s.s-index (get_or c.as_slice-s-items.result.now c.loop-s.s-index 0) p.0 p.1 in
-    set_leaves c.args.g.now c.args.f.now c.args.matched.now.sets c.count-count.ensures.sound c.requires.matched.sets c.in_ok-root.root c.in_ok-root.ensures.root
-    c.in_ok-root.ensures.within (get_or c.as_slice-s-items.result.now c.loop-s.s-index 0) lt c.at-set.result.now c.at-set.ensures.set c.requires.stand c.args.exports.now c.requires.binds
+    set_leaves c.args.g.now c.args.f.now c.args.matched.now.sets c.count-count.ensures.sound c.requires.matched.sets c.root-root.result c.root-root.ensures.root
+    c.root-root.ensures.within (get_or c.as_slice-s-items.result.now c.loop-s.s-index 0) lt c.at-set.result.now c.at-set.ensures.set c.requires.stand c.args.exports.now c.requires.binds
     c.args.env.now
 
 pub loop-s-preserved : goal.loop-s-preserved
@@ -52,7 +52,7 @@ returns-in_err-found-clause-too_many c = λ h.
     let g = c.args.g.now in
     let nodes = c.args.matched.now.nodes in
     let p = item_at c.as_slice-s-items.result.now nodes c.loop-s.s-index c.as_slice-s-items.ensures c.loop-s-test.true in
-    let low = subst (λ (n : ℕ). n < length f.nodes) c.in_ok-root.ensures.root c.in_ok-root.ensures.within in
+    let low = subst (λ (n : ℕ). n < length f.nodes) c.root-root.ensures.root c.root-root.ensures.within in
     subst (λ ws. 1000000 < nodes_of ws)
     (matched_all g f c.args.matched.now.sets nodes c.requires.matched c.count-count.ensures.sound low c.args.exports.now c.args.rule c.args.item c.args.env.now)
     (nodes_past (λ s. witnesses_at f g c.args.exports.now c.args.rule c.args.item s c.args.env.now) nodes
@@ -63,7 +63,7 @@ returns-clause-found c =
     let f = c.args.f.now in
     let g = c.args.g.now in
     let nodes = c.args.matched.now.nodes in
-    let low = subst (λ (n : ℕ). n < length f.nodes) c.in_ok-root.ensures.root c.in_ok-root.ensures.within in
+    let low = subst (λ (n : ℕ). n < length f.nodes) c.root-root.ensures.root c.root-root.ensures.within in
     let all = λ (ns : List ℕ). map bare_witness (flat_map (λ s. witnesses_at f g c.args.exports.now c.args.rule c.args.item s c.args.env.now) ns) in
     let end : length nodes ≤ c.loop-s.s-index = omega (arith, ap length c.as_slice-s-items.ensures, c.loop-s-test.false) in
     ap (map bare_witness) c.into_items.ensures.items ∙ c.loop-s.invariant ∙ ap all (take_all c.loop-s.s-index nodes end)
@@ -75,7 +75,7 @@ returns-clause-few c =
     let f = c.args.f.now in
     let g = c.args.g.now in
     let nodes = c.args.matched.now.nodes in
-    let low = subst (λ (n : ℕ). n < length f.nodes) c.in_ok-root.ensures.root c.in_ok-root.ensures.within in
+    let low = subst (λ (n : ℕ). n < length f.nodes) c.root-root.ensures.root c.root-root.ensures.within in
     let all = λ (ns : List ℕ). map bare_witness (flat_map (λ s. witnesses_at f g c.args.exports.now c.args.rule c.args.item s c.args.env.now) ns) in
     let end : length nodes ≤ c.loop-s.s-index = omega (arith, ap length c.as_slice-s-items.ensures, c.loop-s-test.false) in
     let same : nodes_of c.into_items.result ≡ nodes_of (witnesses_of f g c.args.exports.now c.args.rule c.args.item c.args.env.now) =

@@ -11,6 +11,6 @@ returns c = record {
   matched = record {
     sets = c.in_ok-sets.ensures;
     nodes = c.in_ok-nodes.ensures.nodes
-        ∙ ap (λ (r : ℕ). filter (λ s. has_entries (set_at c.in_ok-sets.sets r s)) (numbers (count_of c.args.g.now))) c.in_ok-root.ensures.root;
+        ∙ ap (λ (r : ℕ). filter (λ s. has_entries (set_at c.in_ok-sets.sets r s)) (numbers (count_of c.args.g.now))) c.root.ensures.root;
   };
 }

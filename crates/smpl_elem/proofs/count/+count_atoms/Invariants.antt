@@ -1,4 +1,4 @@
-use Rattle.std.proofs.Common.{◌≡◌, ◌+◌}
+use Rattle.std.proofs.Common.{◌+◌}
 use Rattle.c_terms.specs.Trees.{levels}
 use Rattle.smpl_elem.specs.Forms.{before}
 use Rattle.smpl_elem.specs.Elements.{total}

@@ -16,8 +16,15 @@
 //! or for more levels.
 //!
 //! The calls for declarations, statements and items are in the crates above. Cutting text into tokens is for c_lexer.
+//!
+//! Its folders:
+//!
+//! - `c_decl`: Reads declarations of C, and the patterns among them.
+//! - `c_stmt`: Reads lists of statements and items of C, and the patterns among them.
 #![tactic(auto)]
 
+mod c_decl;
+mod c_stmt;
 mod depth;
 mod ends;
 mod fault;
@@ -29,6 +36,8 @@ mod range;
 mod see;
 mod semicolons;
 
+pub use c_decl::parse_decl;
+pub use c_stmt::{parse_item, parse_stmts};
 pub use fault::ParseFault;
 pub use laws::ranges_have_one_tree;
 pub use range::{

@@ -5,7 +5,7 @@ use Rattle.cpp_lines.specs.declared.reading.Item.{Item}
 use Rattle.cpp_lines.specs.declared.reading.Item.TheVariants.{Parsed, Skipped}
 use Rattle.cfg_build.specs.Braces.{has_braces}
 use Rattle.cfg_build.specs.Graphs.{node_count, graph_of}
-use Rattle.cfg_graph.specs.Flow.{Flow}
+use Rattle.cfg_build.specs.CfgGraph.Flow.{Flow}
 use Rattle.c_file.specs.Limits.{most_nodes}
 
 -- the graph of a tree that is read has not too many nodes, no branch has 2^32 children, and blocks have both their braces

@@ -7,3 +7,5 @@ pub mod Typedefs
 pub mod Reads
 pub mod Fit
 pub mod File
+-- What item_graphs defines.
+pub mod ItemGraphs

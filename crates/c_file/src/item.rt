@@ -3,8 +3,7 @@ ghost use Rattle.std.specs.Prelude.{◌≡◌, IfOk, OnOk};
 ghost use Rattle.c_file.specs.Reads.{IsReading, names_after};
 
 use crate::typedefs::add_declared;
-use c_expr::ParseFault;
-use c_stmt::parse_item;
+use c_expr::{ParseFault, parse_item};
 use c_terms::{Names, NoMemory, Token, Tree};
 use cfg_build::count_nodes;
 use cpp_lines::{Item, ItemSpan, Why};

@@ -11,13 +11,19 @@
 //! is skipped with its reason, and the items after it are read. Nothing is refused but for want of memory.
 //!
 //! Cutting is for c_lexer, shown tokens and spans for cpp_lines, trees for c_stmt, and graphs for cfg_build.
+//!
+//! Its folders:
+//!
+//! - `item_graphs`: The control-flow graphs of a file's items, each made when it is first asked for, and once.
 #![tactic(auto)]
 
 mod file;
 mod item;
+mod item_graphs;
 mod laws;
 mod token;
 mod typedefs;
 
 pub use file::{CFile, read_file};
+pub use item_graphs::Graphs;
 pub use laws::read_once;

@@ -2,7 +2,7 @@
 use c_file::{CFile, read_file};
 use c_lexer::lex;
 use c_terms::first_leaf;
-use cfg_graph::{Graph, NodeKind};
+use cfg_build::{Graph, NodeKind};
 use std::alloc::{AllocError, Global};
 use std::test::Fail;
 

@@ -1,8 +1,6 @@
 // Worked rows of declarations, statements and items.
 use crate::words::{names_with_t, shown, tokens_of};
-use c_decl::parse_decl;
-use c_expr::ParseFault;
-use c_stmt::{parse_item, parse_stmts};
+use c_expr::{ParseFault, parse_decl, parse_item, parse_stmts};
 use c_terms::{Names, NoMemory, Token, Tree};
 use std::alloc::Global;
 use std::test::Fail;

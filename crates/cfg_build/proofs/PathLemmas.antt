@@ -2,9 +2,9 @@
 use Rattle.std.proofs.Common.{◌≡◌, ℕ, ◌+◌, ◌<◌, ap, ◌∙◌, arith, List, [], ◌∷◌, map, length, get_or, length-append}
 use Rattle.std.proofs.lemmas.List.{length-map, map-append, get_or_append_left, get_or_push}
 use Rattle.c_terms.specs.declared.tree.Tree.{Tree}
-use Rattle.cfg_graph.specs.declared.label.NodeLabel.{NodeLabel}
-use Rattle.cfg_graph.specs.Flow.{Flow, count_of}
-use Rattle.cfg_graph.specs.Labels.{paths_in, path_at}
+use Rattle.cfg_build.specs.declared.cfg_graph.label.NodeLabel.{NodeLabel}
+use Rattle.cfg_build.specs.CfgGraph.Flow.{Flow, count_of}
+use Rattle.cfg_build.specs.CfgGraph.Labels.{paths_in, path_at}
 use Rattle.cfg_build.specs.Rows.{Node, Told, part, size}
 use Rattle.cfg_build.specs.Graphs.{plus}
 use Rattle.cfg_build.proofs.SoundLemmas.{part-fine}

@@ -4,10 +4,10 @@ ghost use Rattle.c_terms.specs.Trees.{width};
 ghost use Rattle.cfg_build.specs.Graphs.{node_count, graph_of, exit_node, plus};
 
 use crate::around::Around;
+use crate::cfg_graph::{Graph, GraphBuilder, NodeEntry, NodeKind, Seat};
 use crate::plan::Plan;
 use crate::statement::put_statement;
 use c_terms::{NoMemory, Tree};
-use cfg_graph::{Graph, GraphBuilder, NodeEntry, NodeKind, Seat};
 use std::alloc::Global;
 
 /// The graph of an item: of a tree with fewer than 2^32 nodes, none of whose branches has 2^32 children, as the items of

@@ -1,11 +1,11 @@
 -- What a brace changes of the blocks that are open.
 use Rattle.std.proofs.Common.{◌≡◌, ℕ, Bool, true, false, not, ◌&&◌, ◌||◌, refl, sym, ap, ◌∙◌, Option, Some, slice_get}
-use Rattle.cfg_graph.specs.declared.label.NodeLabel.{NodeLabel}
-use Rattle.cfg_graph.specs.Flow.{Flow}
+use Rattle.cfg_build.specs.declared.cfg_graph.label.NodeLabel.{NodeLabel}
+use Rattle.cfg_build.specs.CfgGraph.Flow.{Flow}
 use Rattle.smpl_terms.specs.declared.value.Value.{Value}
 use Rattle.smpl_terms.specs.declared.value.Value.TheVariants.{Place}
 use Rattle.smpl_terms.specs.Values.{same}
-use Rattle.ctl_holds.specs.Holding.{passes_label, at_node, is_open, is_close, is_brace}
+use Rattle.ctl_fixpoint.specs.CtlHolds.Holding.{passes_label, at_node, is_open, is_close, is_brace}
 
 pub twice : (a : Bool) → not (not a) ≡ a
 twice true = refl

@@ -2,3 +2,5 @@ pub mod BlockLemmas
 pub mod RowLemmas
 pub mod StepLemmas
 pub mod SweepLemmas
+pub mod CtlHolds
+pub mod NeedWords

@@ -7,7 +7,7 @@ use Rattle.std.proofs.lemmas.Bool.{cases_lt}
 use Rattle.smpl_terms.specs.declared.var.Var.{Var}
 use Rattle.smpl_terms.specs.Environments.{Environment, change}
 use Rattle.env_sets.specs.Sets.{Entries, set_denotes, set_vars, ForSomeValue}
-use Rattle.ctl_holds.proofs.TestLemmas.{and_left, and_right, and_both}
+use Rattle.ctl_fixpoint.proofs.CtlHolds.TestLemmas.{and_left, and_right, and_both}
 use Rattle.ctl_fixpoint.specs.Steps.{set_of, has, row_vars, Gives, Projects}
 
 any_default : (xs : List ℕ) (i : ℕ) → i < length xs → (d e : ℕ) → get_or xs i d ≡ get_or xs i e

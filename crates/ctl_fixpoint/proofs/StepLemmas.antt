@@ -5,7 +5,7 @@ use Rattle.std.proofs.Common.{length-append, Contains}
 use Rattle.std.specs.Bool.{Decides}
 use Rattle.std.specs.List.{list_any, list_all}
 use Rattle.std.proofs.lemmas.Bool.{cases_lt}
-use Rattle.cfg_graph.specs.Flow.{Flow, IsSound, count_of, succ_of, past_of, down_of}
+use Rattle.cfg_build.specs.CfgGraph.Flow.{Flow, IsSound, count_of, succ_of, past_of, down_of}
 use Rattle.smpl_terms.specs.declared.var.Var.{Var}
 use Rattle.smpl_terms.specs.declared.value.Value.{Value}
 use Rattle.smpl_terms.specs.Values.{same}
@@ -27,17 +27,17 @@ use Rattle.ctl_formula.specs.Tables.{at, plain_of, plains, below}
 use Rattle.ctl_formula.specs.Formulas.{FormulaOf}
 use Rattle.ctl_formula.specs.Formulas as formulas
 use Rattle.ctl_formula.proofs.TableLemmas.{lt-true}
-use Rattle.ctl_holds.specs.Values.{values_of}
-use Rattle.ctl_holds.specs.Holding.{Holds}
-use Rattle.ctl_holds.specs.Rounds.{passes, passes_there, rounds, holds}
-use Rattle.ctl_holds.specs.Free.{free_vars}
-use Rattle.ctl_holds.specs.Parts.{IsPart, EachPattern}
-use Rattle.ctl_holds.specs.BoundLaw.{SureStand}
-use Rattle.ctl_holds.proofs.TestLemmas.{and_left, and_right, and_both, same_bool, not_both, any_found, any_has}
-use Rattle.ctl_holds.proofs.GraphLemmas.{past_node, down_node}
-use Rattle.ctl_holds.proofs.RoundLemmas.{Agree, passes-agree, rounds-agree, settled}
-use Rattle.ctl_holds.proofs.HoldLemmas.{holds_decides}
-use Rattle.ctl_holds.proofs.BoundLemmas.{bound_law}
+use Rattle.ctl_fixpoint.specs.CtlHolds.Values.{values_of}
+use Rattle.ctl_fixpoint.specs.CtlHolds.Holding.{Holds}
+use Rattle.ctl_fixpoint.specs.CtlHolds.Rounds.{passes, passes_there, rounds, holds}
+use Rattle.ctl_fixpoint.specs.CtlHolds.Free.{free_vars}
+use Rattle.ctl_fixpoint.specs.CtlHolds.Parts.{IsPart, EachPattern}
+use Rattle.ctl_fixpoint.specs.CtlHolds.BoundLaw.{SureStand}
+use Rattle.ctl_fixpoint.proofs.CtlHolds.TestLemmas.{and_left, and_right, and_both, same_bool, not_both, any_found, any_has}
+use Rattle.ctl_fixpoint.proofs.CtlHolds.GraphLemmas.{past_node, down_node}
+use Rattle.ctl_fixpoint.proofs.CtlHolds.RoundLemmas.{Agree, passes-agree, rounds-agree, settled}
+use Rattle.ctl_fixpoint.proofs.CtlHolds.HoldLemmas.{holds_decides}
+use Rattle.ctl_fixpoint.proofs.CtlHolds.BoundLemmas.{bound_law}
 use Rattle.ctl_fixpoint.specs.States.{StandsFor, AreStateSets}
 use Rattle.ctl_fixpoint.specs.Steps.{set_of, has, row_of, row_vars, Gives, Projects, is_pointwise, is_quantifier, step}
 use Rattle.ctl_fixpoint.specs.Steps.{step_vars, IsRowBy, IsGood, IsRowOf, AreRowsTo}

@@ -8,14 +8,14 @@ use Rattle.std.proofs.Common.{length-set, get_or-set_same, get_or-set_other, Con
 use Rattle.std.specs.List.{All}
 use Rattle.std.proofs.lemmas.Bool.{cases_lt}
 use Rattle.std.proofs.lemmas.Nat.{mul-add-lt}
-use Rattle.cfg_graph.specs.Flow.{Flow, IsSound, count_of, succ_of}
+use Rattle.cfg_build.specs.CfgGraph.Flow.{Flow, IsSound, count_of, succ_of}
 use Rattle.smpl_terms.specs.declared.var.Var.{Var}
 use Rattle.smpl_terms.specs.Environments.{Environment}
 use Rattle.env_sets.specs.Sets.{Entries, set_denotes, set_vars}
-use Rattle.ctl_holds.specs.Rounds.{passes, round, rounds}
-use Rattle.ctl_holds.proofs.TestLemmas.{same_bool, not_both, or_false}
-use Rattle.ctl_holds.proofs.GraphLemmas.{first_after, node_after}
-use Rattle.ctl_holds.proofs.RoundLemmas.{passes-members, round-mono, stable-count}
+use Rattle.ctl_fixpoint.specs.CtlHolds.Rounds.{passes, round, rounds}
+use Rattle.ctl_fixpoint.proofs.CtlHolds.TestLemmas.{same_bool, not_both, or_false}
+use Rattle.ctl_fixpoint.proofs.CtlHolds.GraphLemmas.{first_after, node_after}
+use Rattle.ctl_fixpoint.proofs.CtlHolds.RoundLemmas.{passes-members, round-mono, stable-count}
 use Rattle.ctl_fixpoint.specs.Steps.{set_of, has, row_vars, Gives}
 use Rattle.ctl_fixpoint.specs.Sweeps.{Sweeping, time_at, round_of, until_of, IsSweep, Grows, Visits, SweepsLast, SweptTimes}
 use Rattle.ctl_fixpoint.proofs.RowLemmas.{row_vars-none, row_vars-set}

@@ -8,3 +8,7 @@ pub mod Looked
 pub mod Steps
 -- untils by sweeps
 pub mod Sweeps
+-- What ctl_holds defines.
+pub mod CtlHolds
+-- What need_words defines.
+pub mod NeedWords

@@ -2,8 +2,8 @@
 use Rattle.std.specs.Prelude.{List, ⊤}
 use Rattle.ctl_formula.specs.declared.node.Node.{Node}
 use Rattle.ctl_formula.specs.declared.node.Node.TheVariants as node
-use Rattle.need_words.specs.declared.looks.Look.{Look}
-use Rattle.need_words.specs.Looks.{AreLooks}
+use Rattle.ctl_fixpoint.specs.declared.need_words.looks.Look.{Look}
+use Rattle.ctl_fixpoint.specs.NeedWords.Looks.{AreLooks}
 
 -- the looks are those of the part's pattern, if it has one
 abbrev pub AreLooksOf : Node → List Look → Type 0

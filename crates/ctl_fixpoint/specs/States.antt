@@ -1,7 +1,7 @@
 -- Sets by part and node that stand for where the parts of a formula hold.
 use Rattle.std.specs.Prelude.{◌≡◌, ℕ, ◌+◌, ◌<◌, ◌≤◌, Bool, true, List, [], length, slice_index_or}
 use Rattle.std.specs.Bool.{Decides}
-use Rattle.cfg_graph.specs.Flow.{Flow, count_of}
+use Rattle.cfg_build.specs.CfgGraph.Flow.{Flow, count_of}
 use Rattle.smpl_terms.specs.declared.var.Var.{Var}
 use Rattle.smpl_terms.specs.Environments.{Environment}
 use Rattle.smpl_patch.specs.declared.pattern.VarDecl.{VarDecl}
@@ -11,9 +11,9 @@ use Rattle.env_sets.specs.States.{set_at}
 use Rattle.ctl_formula.specs.Plain.{Plain}
 use Rattle.ctl_formula.specs.Tables.{at, plains}
 use Rattle.ctl_formula.specs.Formulas.{FormulaOf, plain}
-use Rattle.ctl_holds.specs.Holding.{Holds}
-use Rattle.ctl_holds.specs.Free.{free_vars}
-use Rattle.ctl_holds.specs.Parts.{IsPart}
+use Rattle.ctl_fixpoint.specs.CtlHolds.Holding.{Holds}
+use Rattle.ctl_fixpoint.specs.CtlHolds.Free.{free_vars}
+use Rattle.ctl_fixpoint.specs.CtlHolds.Parts.{IsPart}
 
 -- The set stands for exactly the environments under which h holds at node s, whatever the bound on walks, if it is more
 -- than the number of nodes; and its variables are free ones of h.

@@ -2,7 +2,7 @@
 use Rattle.std.specs.Prelude.{◌≡◌, ℕ, ◌+◌, ◌<◌, ◌≤◌, Bool, true, false, not, ◌&&◌, ◌||◌, List, [], length, slice_index_or, slice_get}
 use Rattle.std.specs.Bool.{Decides}
 use Rattle.std.specs.List.{list_all}
-use Rattle.cfg_graph.specs.Flow.{Flow, count_of, succ_of, past_of, down_of}
+use Rattle.cfg_build.specs.CfgGraph.Flow.{Flow, count_of, succ_of, past_of, down_of}
 use Rattle.smpl_terms.specs.declared.var.Var.{Var}
 use Rattle.smpl_terms.specs.Vars.{same_var}
 use Rattle.smpl_terms.specs.Environments.{Environment, change}
@@ -16,11 +16,11 @@ use Rattle.ctl_formula.specs.Bounds.{guarded}
 use Rattle.ctl_formula.specs.Tables.{at, plains}
 use Rattle.ctl_formula.specs.declared.node.Node.{Node}
 use Rattle.ctl_formula.specs.declared.node.Node.TheVariants as node
-use Rattle.ctl_holds.specs.Holding.{at_node, is_open, is_close, in_block, off_block, atom_at, brace_at}
-use Rattle.ctl_holds.specs.Rounds.{passes, passes_there, rounds, holds}
-use Rattle.ctl_holds.specs.Free.{free_vars}
-use Rattle.ctl_holds.specs.Parts.{EachPattern}
-use Rattle.ctl_holds.specs.BoundLaw.{SureStand}
+use Rattle.ctl_fixpoint.specs.CtlHolds.Holding.{at_node, is_open, is_close, in_block, off_block, atom_at, brace_at}
+use Rattle.ctl_fixpoint.specs.CtlHolds.Rounds.{passes, passes_there, rounds, holds}
+use Rattle.ctl_fixpoint.specs.CtlHolds.Free.{free_vars}
+use Rattle.ctl_fixpoint.specs.CtlHolds.Parts.{EachPattern}
+use Rattle.ctl_fixpoint.specs.CtlHolds.BoundLaw.{SureStand}
 
 -- the set at a node
 abbrev pub set_of : List Entries → ℕ → Entries

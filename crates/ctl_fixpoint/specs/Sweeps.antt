@@ -1,10 +1,10 @@
 -- Untils by sweeps: node by node from the last to the first, a node anew only where a successor has changed since.
 use Rattle.std.specs.Prelude.{◌≡◌, ℕ, ◌+◌, ◌*◌, ◌<◌, ◌≤◌, Bool, true, false, List, length, slice_index_or, Contains}
-use Rattle.cfg_graph.specs.Flow.{Flow, count_of, succ_of}
+use Rattle.cfg_build.specs.CfgGraph.Flow.{Flow, count_of, succ_of}
 use Rattle.smpl_terms.specs.declared.var.Var.{Var}
 use Rattle.smpl_terms.specs.Environments.{Environment}
 use Rattle.env_sets.specs.Sets.{Entries}
-use Rattle.ctl_holds.specs.Rounds.{round, rounds}
+use Rattle.ctl_fixpoint.specs.CtlHolds.Rounds.{round, rounds}
 use Rattle.ctl_fixpoint.specs.Steps.{has, row_vars}
 
 abbrev pub time_at : List ℕ → ℕ → ℕ

@@ -4,19 +4,19 @@
 //     inside       7         7        7, 9      7, 9     7         7
 //     outside   all, but 7 from node 1 to node 7, and 9 from node 3 to node 5
 ghost use Rattle.std.specs.Prelude.{◌≡◌, ℕ, ◌<◌, Bool, true, not, ◌&&◌, ◌||◌, IfOk};
-ghost use Rattle.cfg_graph.specs.Flow.{count_of};
+ghost use Rattle.cfg_build.specs.CfgGraph.Flow.{count_of};
 ghost use Rattle.smpl_terms.specs.declared.var.Var.{Var};
 ghost use Rattle.smpl_terms.specs.declared.value.Value.TheVariants.{Place};
 ghost use Rattle.smpl_terms.specs.Values.{same};
 ghost use Rattle.smpl_terms.specs.Environments.{Environment};
 ghost use Rattle.env_sets.specs.Sets.{set_denotes, set_vars};
-ghost use Rattle.ctl_holds.specs.Holding.{at_node, is_brace, in_block, off_block};
-ghost use Rattle.ctl_holds.specs.Holding as of;
+ghost use Rattle.ctl_fixpoint.specs.CtlHolds.Holding.{at_node, is_brace, in_block, off_block};
+ghost use Rattle.ctl_fixpoint.specs.CtlHolds.Holding as of;
 ghost use Rattle.ctl_fixpoint.specs.Steps.{row_vars, Gives};
 
 use crate::point::{is_close, is_open};
 use c_terms::NoMemory;
-use cfg_graph::Graph;
+use cfg_build::Graph;
 use env_sets::{Bound, EnvSet, Values, join, meet};
 use smpl_terms::{Value, Var};
 use std::alloc::Global;

@@ -18,13 +18,25 @@
 //! Doligez, Hansen, Lawall and Muller (POPL 2009).
 //!
 //! Nothing here recurses over a formula or a graph.
+//!
+//! Its folders:
+//!
+//! - `ctl_holds`: Path satisfaction: at which nodes of a control-flow graph, and under which environments, a formula holds.
+//! - `need_words`: The words that a formula needs: where no token of an item is one of them, the formula holds nowhere in
+//!   the item.
 #![tactic(auto)]
 
 mod blocks;
+mod ctl_holds;
+mod need_words;
 mod part;
 mod point;
 mod rows;
 mod sweeps;
 mod until;
 
+pub use ctl_holds::{
+    bound_variables_have_values, every_part_has_a_number, sure_variables_stand, walks_by_rounds,
+};
+pub use need_words::{Look, formulas_need_words, looks_of, may_hold, needed_words, solve_by};
 pub use part::sat;

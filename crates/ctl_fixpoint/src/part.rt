@@ -1,10 +1,10 @@
 // The rows of a formula's parts, one after another.
 ghost use Rattle.std.specs.Prelude.{◌≡◌, ℕ, ◌<◌, true, false, List, [], length, IfOk};
-ghost use Rattle.cfg_graph.specs.Flow.{IsSound, count_of};
+ghost use Rattle.cfg_build.specs.CfgGraph.Flow.{IsSound, count_of};
 ghost use Rattle.ctl_formula.specs.Formulas.{plain};
 ghost use Rattle.ctl_formula.specs.Tables.{below};
-ghost use Rattle.ctl_holds.specs.Parts.{EachPattern};
-ghost use Rattle.ctl_holds.specs.BoundLaw.{SureStand};
+ghost use Rattle.ctl_fixpoint.specs.CtlHolds.Parts.{EachPattern};
+ghost use Rattle.ctl_fixpoint.specs.CtlHolds.BoundLaw.{SureStand};
 ghost use Rattle.ctl_fixpoint.specs.States.{AreStateSets};
 ghost use Rattle.ctl_fixpoint.specs.Steps.{row_of, IsRowBy};
 
@@ -13,7 +13,7 @@ use crate::point::point_row;
 use crate::rows::row_at;
 use crate::until::{exists_row, until_row};
 use c_terms::NoMemory;
-use cfg_graph::Graph;
+use cfg_build::Graph;
 use ctl_formula::{Formula, Node};
 use env_sets::{EnvSet, StateRow, StateSets};
 use std::alloc::Global;

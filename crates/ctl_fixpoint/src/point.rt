@@ -1,25 +1,25 @@
 // Parts that are told node by node.
 ghost use Rattle.std.specs.Prelude.{◌≡◌, ℕ, ◌<◌, Bool, true, false, not, ◌&&◌, ◌||◌, List, [], length};
 ghost use Rattle.std.specs.Prelude.{slice_index_or, slice_get, Some, IfOk, Contains};
-ghost use Rattle.cfg_graph.specs.Flow.{IsSound, count_of, succ_of, past_of, down_of};
+ghost use Rattle.cfg_build.specs.CfgGraph.Flow.{IsSound, count_of, succ_of, past_of, down_of};
 ghost use Rattle.smpl_terms.specs.declared.var.Var.{Var};
 ghost use Rattle.smpl_terms.specs.Environments.{Environment};
 ghost use Rattle.env_sets.specs.Sets.{set_denotes, set_vars};
 ghost use Rattle.pat_match.specs.Vars.{pattern_vars};
-ghost use Rattle.need_words.specs.Looks.{AreLooks};
+ghost use Rattle.ctl_fixpoint.specs.NeedWords.Looks.{AreLooks};
 ghost use Rattle.ctl_formula.specs.Tables.{below};
-ghost use Rattle.ctl_holds.specs.Holding.{at_node, atom_at, brace_at};
-ghost use Rattle.ctl_holds.specs.Holding as of;
-ghost use Rattle.ctl_holds.specs.Rounds.{passes, passes_there};
+ghost use Rattle.ctl_fixpoint.specs.CtlHolds.Holding.{at_node, atom_at, brace_at};
+ghost use Rattle.ctl_fixpoint.specs.CtlHolds.Holding as of;
+ghost use Rattle.ctl_fixpoint.specs.CtlHolds.Rounds.{passes, passes_there};
 ghost use Rattle.ctl_fixpoint.specs.Looked.{AreLooksOf};
 ghost use Rattle.ctl_fixpoint.specs.Steps.{row_of, has, row_vars, is_pointwise, step, step_vars, Gives};
 
+use crate::need_words::{Look, looks_of, solve_by};
 use crate::rows::{every_next, row_at, set_at, set_there, some_next};
 use c_terms::NoMemory;
-use cfg_graph::{Graph, NodeKind};
+use cfg_build::{Graph, NodeKind};
 use ctl_formula::{Formula, Node};
 use env_sets::{Bound, EnvSet, StateRow, complement, join, meet};
-use need_words::{Look, looks_of, solve_by};
 use smpl_patch::{PatToken, Pattern, VarDecl};
 use smpl_terms::{Value, Var};
 use std::alloc::Global;

@@ -4,7 +4,7 @@ ghost use Rattle.std.specs.Prelude.{Contains};
 ghost use Rattle.smpl_terms.specs.declared.var.Var.{Var};
 ghost use Rattle.smpl_terms.specs.Environments.{Environment};
 ghost use Rattle.env_sets.specs.Sets.{set_denotes, set_vars};
-ghost use Rattle.ctl_holds.specs.Rounds.{passes, passes_there};
+ghost use Rattle.ctl_fixpoint.specs.CtlHolds.Rounds.{passes, passes_there};
 ghost use Rattle.ctl_fixpoint.specs.Steps.{set_of, row_of, has, row_vars};
 
 use c_terms::NoMemory;

@@ -1,7 +1,7 @@
 // One sweep of an until: from the last node to the first, each where it may have changed.
 ghost use Rattle.std.specs.Prelude.{◌≡◌, ℕ, ◌+◌, ◌-◌, ◌<◌, ◌≤◌, ◌^◌, Bool, true, false, not, ◌&&◌, ◌||◌, List, []};
 ghost use Rattle.std.specs.Prelude.{length, slice_index_or, IfOk, Contains};
-ghost use Rattle.cfg_graph.specs.Flow.{IsSound, count_of, succ_of};
+ghost use Rattle.cfg_build.specs.CfgGraph.Flow.{IsSound, count_of, succ_of};
 ghost use Rattle.smpl_terms.specs.declared.var.Var.{Var};
 ghost use Rattle.smpl_terms.specs.Environments.{Environment};
 ghost use Rattle.env_sets.specs.Sets.{set_denotes, set_vars};
@@ -11,7 +11,7 @@ ghost use Rattle.ctl_fixpoint.specs.Sweeps.{time_at, round_of, IsSweep, Visits, 
 use crate::point::next_set;
 use crate::rows::set_in;
 use c_terms::NoMemory;
-use cfg_graph::Graph;
+use cfg_build::Graph;
 use env_sets::{EnvSet, join, meet, same_set};
 use std::alloc::Global;
 use std::marker::Model;

@@ -1,6 +1,6 @@
 // Rows of untils and of quantifiers.
 ghost use Rattle.std.specs.Prelude.{◌≡◌, ℕ, ◌<◌, Bool, true, false, ◌||◌, List, [], length, IfOk};
-ghost use Rattle.cfg_graph.specs.Flow.{IsSound, count_of};
+ghost use Rattle.cfg_build.specs.CfgGraph.Flow.{IsSound, count_of};
 ghost use Rattle.smpl_terms.specs.declared.var.Var.{Var};
 ghost use Rattle.smpl_terms.specs.Vars.{same_var};
 ghost use Rattle.smpl_terms.specs.Environments.{Environment};
@@ -9,7 +9,7 @@ ghost use Rattle.ctl_fixpoint.specs.Sweeps.{until_of};
 
 use crate::sweeps::Sweep;
 use c_terms::NoMemory;
-use cfg_graph::Graph;
+use cfg_build::Graph;
 use env_sets::{EnvSet, project};
 use smpl_terms::Var;
 use std::alloc::Global;

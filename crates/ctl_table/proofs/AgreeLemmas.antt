@@ -5,7 +5,7 @@ use Rattle.smpl_terms.specs.declared.var.Var.{Var}
 use Rattle.smpl_patch.specs.Bodies.{Element, Compound, Block, Gap, Nest, AnyOf, AllOf, Body, End, Then, Bodies, NoMore, More}
 use Rattle.smpl_patch.specs.Bodies as bodies
 use Rattle.ctl_formula.specs.Plain.{Plain, Atom}
-use Rattle.var_places.specs.Placing.{occurs_element, occurs_body, at_suffix}
+use Rattle.pattern_vars.specs.VarPlaces.Placing.{occurs_element, occurs_body, at_suffix}
 use Rattle.ctl_table.specs.Table as table
 use Rattle.ctl_table.specs.Settings.{Agree}
 

@@ -9,11 +9,11 @@ use Rattle.ctl_formula.specs.Plain.{Plain}
 use Rattle.ctl_formula.specs.declared.node.Node.{Node}
 use Rattle.ctl_formula.specs.Tables.{plains}
 use Rattle.ctl_formula.proofs.TableLemmas.{grows-trans}
-use Rattle.var_places.specs.Placing.{Reading, at_suffix}
-use Rattle.var_places.specs.Places.{places, place_at, later_at}
-use Rattle.var_places.proofs.KeptLemmas.{drop-here}
+use Rattle.pattern_vars.specs.VarPlaces.Placing.{Reading, at_suffix}
+use Rattle.pattern_vars.specs.VarPlaces.Places.{places, place_at, later_at}
+use Rattle.pattern_vars.proofs.VarPlaces.KeptLemmas.{drop-here}
 use Rattle.ctl_table.specs.Table as table
-use Rattle.var_places.specs.declared.place.Place.{Place}
+use Rattle.pattern_vars.specs.declared.var_places.place.Place.{Place}
 use Rattle.ctl_table.specs.declared.follow.Made.{Made}
 use Rattle.ctl_table.specs.Suffixes.{first, begins, along}
 use Rattle.ctl_table.specs.Settings.{made_at, follow_of, suffix_at, start_with, MakesFollow}

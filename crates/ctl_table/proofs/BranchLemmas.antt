@@ -14,9 +14,9 @@ use Rattle.ctl_formula.specs.Plain.{Plain, Atom, BraceOpen, BraceClose, Not, And
 use Rattle.ctl_formula.specs.declared.node.Node.{Node}
 use Rattle.ctl_formula.specs.Tables.{at, plains, Grows, Makes}
 use Rattle.ctl_formula.proofs.TableLemmas.{grows-trans}
-use Rattle.var_places.specs.Placing.{occurs_body}
+use Rattle.pattern_vars.specs.VarPlaces.Placing.{occurs_body}
 use Rattle.ctl_table.specs.Table as table
-use Rattle.var_places.specs.declared.place.Place.{Place}
+use Rattle.pattern_vars.specs.declared.var_places.place.Place.{Place}
 use Rattle.ctl_table.specs.declared.follow.Made.TheVariants as made
 use Rattle.ctl_table.specs.declared.follow.Start.TheVariants as start
 use Rattle.ctl_table.specs.Settings.{parts_at, follow_of, compound_at, block_at, when_at, MakesAll}

@@ -17,7 +17,7 @@ use Rattle.ctl_formula.specs.Plain.{Plain, True, Not}
 use Rattle.ctl_formula.specs.declared.node.Node.{Node}
 use Rattle.ctl_formula.specs.Tables.{at, plains, Grows, Makes}
 use Rattle.ctl_formula.proofs.TableLemmas.{grows-trans, and-left, and-right}
-use Rattle.var_places.specs.Placing.{occurs_body}
+use Rattle.pattern_vars.specs.VarPlaces.Placing.{occurs_body}
 use Rattle.ctl_table.specs.Table as table
 use Rattle.ctl_table.specs.declared.follow.Made.{Made}
 use Rattle.ctl_table.specs.declared.follow.Made.TheVariants as made

@@ -7,9 +7,9 @@ use Rattle.ctl_formula.specs.Plain.{Plain}
 use Rattle.ctl_formula.specs.declared.node.Node.{Node}
 use Rattle.ctl_formula.specs.Tables.{at, plains, Grows, Makes}
 use Rattle.ctl_formula.proofs.TableLemmas.{grows-trans}
-use Rattle.var_places.specs.Placing.{is_dots}
+use Rattle.pattern_vars.specs.VarPlaces.Placing.{is_dots}
 use Rattle.ctl_table.specs.Table as table
-use Rattle.var_places.specs.declared.place.Place.{Place}
+use Rattle.pattern_vars.specs.declared.var_places.place.Place.{Place}
 use Rattle.ctl_table.specs.declared.follow.NestPart.{NestPart}
 use Rattle.ctl_table.specs.declared.follow.MadeDots.{MadeDots}
 use Rattle.ctl_table.specs.declared.follow.Made.{Made}

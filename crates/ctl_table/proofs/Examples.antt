@@ -10,7 +10,7 @@ use Rattle.smpl_terms.specs.Vars.{same_var}
 use Rattle.smpl_patch.specs.Bodies.{Compound, Block, Gap, Nest, AnyOf, AllOf, End, Then, NoMore, More}
 use Rattle.smpl_patch.specs.Bodies as bodies
 use Rattle.ctl_formula.specs.Plain.{True, Atom, Bail, BraceOpen, BraceClose, Not, And, Or, AX, EX, AU, EU, Past, Down, Exists}
-use Rattle.var_places.specs.Placing.{Reading}
+use Rattle.pattern_vars.specs.VarPlaces.Placing.{Reading}
 use Rattle.ctl_table.specs.Table.{formula}
 
 abbrev pub v : ℕ → List ℕ → Var

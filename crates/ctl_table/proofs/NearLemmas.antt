@@ -15,7 +15,7 @@ use Rattle.ctl_formula.specs.Plain as plain
 use Rattle.ctl_formula.specs.declared.node.Node.{Node}
 use Rattle.ctl_formula.specs.Tables.{at, plains, Grows, Makes}
 use Rattle.ctl_formula.proofs.TableLemmas.{grows-refl, grows-trans, and-left, and-right, lt-true}
-use Rattle.var_places.proofs.KeptLemmas.{filter-filter, filter-same}
+use Rattle.pattern_vars.proofs.VarPlaces.KeptLemmas.{filter-filter, filter-same}
 use Rattle.ctl_table.specs.Table as table
 use Rattle.ctl_table.specs.declared.beside.Beside.{Beside}
 use Rattle.ctl_table.specs.declared.beside.Beside.TheVariants.{Atom, Any}

@@ -12,7 +12,7 @@ use Rattle.ctl_formula.specs.Plain.{Plain, And, Past, Not, Down}
 use Rattle.ctl_formula.specs.declared.node.Node.{Node}
 use Rattle.ctl_formula.specs.Tables.{at, plains, Grows, Makes}
 use Rattle.ctl_formula.proofs.TableLemmas.{grows-refl, grows-trans, and-left, and-right, lt-true}
-use Rattle.var_places.specs.Placing.{occurs_body}
+use Rattle.pattern_vars.specs.VarPlaces.Placing.{occurs_body}
 use Rattle.ctl_table.specs.Table as table
 use Rattle.ctl_table.specs.Settings.{all_below, parts_at, when_at, MakesAll}
 use Rattle.ctl_table.proofs.MakingLemmas.{stays, all-stay, all-stand, lt-test, both-true, made-up, and-of}

@@ -10,9 +10,9 @@ use Rattle.smpl_patch.specs.Bodies.{element, Element, Body, Bodies}
 use Rattle.ctl_formula.specs.Plain.{Plain, True, Atom, BraceOpen, Not, And, Down, Exists}
 use Rattle.ctl_formula.specs.declared.node.Node.{Node}
 use Rattle.ctl_formula.specs.Tables.{at, plains, Grows}
-use Rattle.var_places.specs.Placing.{is_dots, occurs_body}
-use Rattle.var_places.specs.Places.{reading_at}
-use Rattle.var_places.specs.declared.place.Place.{Place}
+use Rattle.pattern_vars.specs.VarPlaces.Placing.{is_dots, occurs_body}
+use Rattle.pattern_vars.specs.VarPlaces.Places.{reading_at}
+use Rattle.pattern_vars.specs.declared.var_places.place.Place.{Place}
 use Rattle.ctl_table.specs.Table as table
 use Rattle.ctl_table.specs.declared.setting.Setting.{Setting}
 use Rattle.ctl_table.specs.declared.follow.Start.{Start}

@@ -5,7 +5,7 @@ use Rattle.smpl_patch.specs.declared.elem.Elem.{Elem}
 use Rattle.smpl_patch.specs.Bodies.{Element, element}
 use Rattle.ctl_formula.specs.Plain.{Plain, True}
 use Rattle.ctl_table.specs.Table as table
-use Rattle.var_places.specs.declared.place.Place.{Place}
+use Rattle.pattern_vars.specs.declared.var_places.place.Place.{Place}
 use Rattle.ctl_table.specs.Settings.{suffix_at, start_with}
 
 abbrev pub first : List Elem → Option Element

@@ -8,7 +8,7 @@ use Rattle.smpl_patch.specs.declared.pattern.Pattern.{Pattern}
 use Rattle.smpl_patch.specs.Bodies.{Element, Compound, Block, Gap, Nest, AnyOf, AllOf, Body, End, Then, Bodies, NoMore, More}
 use Rattle.smpl_patch.specs.Bodies as bodies
 use Rattle.ctl_formula.specs.Plain.{Plain, True, Atom, Bail, BraceOpen, BraceClose, Inside, Outside, Not, And, Or, AX, EX, AU, EU, Past, Down, Exists}
-use Rattle.var_places.specs.Placing.{Reading, is_dots, any_body, occurs_element, occurs_body, at_suffix, is_alone}
+use Rattle.pattern_vars.specs.VarPlaces.Placing.{Reading, is_dots, any_body, occurs_element, occurs_body, at_suffix, is_alone}
 use Rattle.ctl_table.specs.Blocks.{blocks, index_of}
 
 -- what the table goes by, besides the element at hand

@@ -12,11 +12,10 @@ ghost use Rattle.ctl_table.specs.Settings.{neighbours_at, neighbours_below, Make
 use crate::wrap::{exists_all, or_some};
 use c_terms::NoMemory;
 use ctl_formula::Parts;
-use pattern_vars::{VarSet, put_vars};
+use pattern_vars::{Scope, VarSet, among, copied_vars, put_vars};
 use smpl_terms::{Shared, Var};
 use sqlite_items::Items;
 use std::alloc::Global;
-use var_places::{Scope, among, copied_vars};
 
 /// The last or the first atoms of an element. Their parts are made but for their quantifiers, which go by what is quantified
 /// where the dots beside the element are come to.

@@ -18,11 +18,10 @@ use crate::setting::Setting;
 use crate::wrap::{all_of, exists_all, nested, until};
 use c_terms::NoMemory;
 use ctl_formula::{Node, Parts};
-use pattern_vars::VarSet;
+use pattern_vars::{Scope, VarSet, extended};
 use smpl_patch::Elem;
 use smpl_terms::{Shared, Var};
 use std::alloc::Global;
-use var_places::{Scope, extended};
 
 /// What follows an element, as come to from this scope.
 pub fn follow_at(

@@ -23,11 +23,11 @@ use crate::setting::Setting;
 use crate::wrap::{and_all, first_branch};
 use c_terms::NoMemory;
 use ctl_formula::Parts;
+use pattern_vars::{Place, Scope, copied_vars};
 use smpl_patch::{Dots, Elem, Pattern, is_statement};
 use smpl_terms::{Shared, Var};
 use sqlite_items::Items;
 use std::alloc::Global;
-use var_places::{Place, Scope, copied_vars};
 
 /// What may follow an element, as come to from this scope.
 pub fn follows_at(

@@ -13,10 +13,10 @@ use crate::setting::Setting;
 use crate::wrap::{and_all, and_past, downs, exists_all, joined, target};
 use c_terms::NoMemory;
 use ctl_formula::{Node, Parts};
+use pattern_vars::{Place, Scope};
 use smpl_patch::Pattern;
 use smpl_terms::{Shared, Var};
 use std::alloc::Global;
-use var_places::{Place, Scope};
 
 /// An element's formula as what follows, under what is quantified at its suffix.
 pub fn part(

@@ -2,17 +2,17 @@
 ghost use Rattle.std.specs.Prelude.{◌≡◌, not, IfOk};
 ghost use Rattle.std.specs.List.{filter};
 ghost use Rattle.smpl_patch.specs.Bodies.{body};
-ghost use Rattle.var_places.specs.Places.{reading_at};
+ghost use Rattle.pattern_vars.specs.VarPlaces.Places.{reading_at};
 ghost use Rattle.ctl_table.specs.Table as table;
 ghost use Rattle.ctl_table.specs.Settings.{setting_at};
 
 use crate::setting::Setting;
 use c_terms::NoMemory;
+use pattern_vars::{Ordered, Scope, copied_vars, standing_in_atom, standing_in_body};
 use smpl_patch::{Elem, Pattern};
 use smpl_terms::Var;
 use sqlite_items::Items;
 use std::alloc::Global;
-use var_places::{Ordered, Scope, copied_vars, standing_in_atom, standing_in_body};
 
 /// These variables, of which those of a part are found without a look at the others.
 pub fn in_order(alloc: Global, vars: &[Var]) -> Result<Ordered, NoMemory>

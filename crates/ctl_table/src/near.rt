@@ -13,10 +13,10 @@ use crate::loose::{loose, standing};
 use crate::setting::Setting;
 use c_terms::NoMemory;
 use ctl_formula::{Node, Parts};
+use pattern_vars::Scope;
 use smpl_patch::{Elem, Pattern, is_statement};
 use sqlite_items::Items;
 use std::alloc::Global;
-use var_places::Scope;
 
 /// The last or the first atoms of an element, in this scope. Each is read once.
 #[cycle(near)]

@@ -9,10 +9,10 @@ use crate::setting::Setting;
 use crate::wrap::exists_all;
 use c_terms::{NoMemory, Text};
 use ctl_formula::{Node, Parts};
+use pattern_vars::at_atom;
 use smpl_patch::Pattern;
 use smpl_terms::Var;
 use std::alloc::Global;
-use var_places::at_atom;
 
 /// An atom with the quantifiers of the variables that stand in it alone.
 pub fn own_atom(

@@ -6,9 +6,9 @@ ghost use Rattle.smpl_patch.specs.Bodies.{body, element};
 ghost use Rattle.smpl_patch.specs.Bodies as bodies;
 ghost use Rattle.smpl_patch.proofs.BodyLemmas.{bodies as bodies_of};
 ghost use Rattle.ctl_formula.specs.Tables.{Makes};
-ghost use Rattle.var_places.specs.Placing.{occurs_body};
+ghost use Rattle.pattern_vars.specs.VarPlaces.Placing.{occurs_body};
 ghost use Rattle.ctl_table.specs.Table as table;
-ghost use Rattle.var_places.specs.Places.{reading_at};
+ghost use Rattle.pattern_vars.specs.VarPlaces.Places.{reading_at};
 ghost use Rattle.ctl_table.specs.Settings.{setting_at, element_or_none};
 ghost use Rattle.ctl_table.specs.Settings.{made_below, all_made_below, follow, suffix_at};
 ghost use Rattle.ctl_table.specs.Settings.{start_with, compound_at, block_at, when_at};
@@ -27,12 +27,12 @@ use crate::own::{hidden, own_close};
 use crate::setting::Setting;
 use c_terms::NoMemory;
 use ctl_formula::Parts;
+use pattern_vars::{Place, Scope, extended, in_body, places_of};
 use smpl_patch::{Elem, Pattern};
 use smpl_terms::Var;
 use sqlite_items::Items;
 use std::alloc::Global;
 use std::slice::from_ref;
-use var_places::{Place, Scope, extended, in_body, places_of};
 
 /// A sequence under what is quantified inside it and around it, and what follows it. An element is worked off once, for all
 /// that may follow it: d + 1 things at most where d disjunctions stand around it.

@@ -4,8 +4,8 @@ ghost use Rattle.ctl_table.specs.Table as table;
 ghost use Rattle.ctl_table.specs.Settings.{setting_at};
 
 use crate::numbers::Blocks;
+use pattern_vars::{Ordered, Reader};
 use smpl_terms::Var;
-use var_places::{Ordered, Reader};
 
 /// What the table goes by.
 #[derive(Clone, Copy)]

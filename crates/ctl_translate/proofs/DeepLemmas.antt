@@ -8,11 +8,11 @@ use Rattle.smpl_patch.specs.declared.rule.Rule.{Rule}
 use Rattle.smpl_patch.specs.Bodies.{Element, Compound, Block, Gap, Nest, AnyOf, AllOf, Body, End, Then, Bodies, NoMore, More, body, element}
 use Rattle.smpl_patch.specs.Bodies as bodies
 use Rattle.ctl_formula.specs.Plain.{Plain, Atom, BraceOpen, Not, And, Or, Exists, Down, size, depth, fits, most_parts}
-use Rattle.var_places.specs.Placing.{is_dots, is_alone, occurs_element, occurs_body, at_suffix}
+use Rattle.pattern_vars.specs.VarPlaces.Placing.{is_dots, is_alone, occurs_element, occurs_body, at_suffix}
 use Rattle.ctl_table.specs.Table.{Setting, Follow, Start, Nothing, Brace, Dots, Other, nothing, start_of, first_of, exists_all, and_all, or_all, any_of, near_option, own, hidden, joined, target, stays, within, until, nested, condition, closing, with_tail, downs, choices, seq, elem, each, first_and, when_parts, setting}
 use Rattle.ctl_translate.specs.Rules as rules
 use Rattle.ctl_translate.specs.Deep.{levels_element, levels_body, levels_choice, levels_every}
-use Rattle.var_places.proofs.KeptLemmas.{drop-here}
+use Rattle.pattern_vars.proofs.VarPlaces.KeptLemmas.{drop-here}
 
 none-least : (n : ℕ) → 0 ≤ n
 none-least n = omega arith

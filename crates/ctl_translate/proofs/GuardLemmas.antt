@@ -10,7 +10,7 @@ use Rattle.smpl_patch.specs.Bodies as bodies
 use Rattle.ctl_formula.specs.Plain.{Plain, Atom, BraceOpen, BraceClose, Not, And, Or, Down, Exists}
 use Rattle.ctl_formula.specs.Bounds.{Surely, each_quantifier, bound}
 use Rattle.ctl_formula.proofs.TableLemmas.{and-left, and-right}
-use Rattle.var_places.specs.Placing.{occurs_element, occurs_body, at_suffix}
+use Rattle.pattern_vars.specs.VarPlaces.Placing.{occurs_element, occurs_body, at_suffix}
 use Rattle.ctl_table.specs.Table.{Setting, Follow, Start, Nothing, Brace, Dots, Other, nothing, start_of, first_of, in_scope, exists_all, and_all, or_all, all_of, any_of, or_some, option_list, nots, hidden, own, copy, near, near_body, near_each, near_first, near_option, is_end, joined, target, stays, within, until, nested, condition, lone, closing, with_tail, downs, choices, seq, elem, each, first_and, when_parts}
 
 both : (a b : Bool) → a ≡ true → b ≡ true → (a && b) ≡ true

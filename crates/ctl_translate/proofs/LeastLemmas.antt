@@ -11,7 +11,7 @@ use Rattle.smpl_patch.specs.Bodies.{Element, Compound, Block, Gap, Nest, AnyOf, 
 use Rattle.smpl_patch.specs.Bodies as bodies
 use Rattle.smpl_patch.specs.Shapes.{count}
 use Rattle.ctl_formula.specs.Plain.{Plain, Atom, BraceOpen, Not, And, Or, size, depth, fits, most_around}
-use Rattle.var_places.specs.Placing.{is_dots, is_alone, occurs_element, occurs_body, at_suffix}
+use Rattle.pattern_vars.specs.VarPlaces.Placing.{is_dots, is_alone, occurs_element, occurs_body, at_suffix}
 use Rattle.ctl_table.specs.Table.{Setting, Follow, Start, Nothing, Brace, Dots, Other, nothing, start_of, first_of, exists_all, and_all, or_all, all_of, any_of, nots, hidden, own, near_option, joined, target, stays, within, until, nested, condition, lone, closing, with_tail, downs, choices, seq, elem, each, first_and, when_parts, setting}
 use Rattle.ctl_translate.specs.Rules as rules
 use Rattle.ctl_translate.specs.Least.{Least, then_least, least_element, least_body, least_alone, least_choices, least_first}

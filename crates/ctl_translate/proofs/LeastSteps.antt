@@ -7,7 +7,7 @@ use Rattle.smpl_patch.specs.Shapes.{count}
 use Rattle.smpl_patch.proofs.BodyLemmas.{bodies}
 use Rattle.ctl_translate.specs.Least.{Least, least_element, least_body, least_alone, least_choices}
 use Rattle.ctl_translate.proofs.LeastLemmas.{IsLeastOf, least-more}
-use Rattle.var_places.proofs.KeptLemmas.{drop-here}
+use Rattle.pattern_vars.proofs.VarPlaces.KeptLemmas.{drop-here}
 
 pub body-more : (es : List Elem) (e : Elem) (i pf pt ef et nf nt : ℕ) → i < length es → e ≡ get_or es i e
     → IsLeastOf pf pt (least_body (body (drop i es))) (least_body (body es)) → ef ≤ (least_element (element e)).fixed → et ≤ (least_element (element e)).times

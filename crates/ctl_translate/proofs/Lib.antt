@@ -4,3 +4,4 @@ pub mod RuleLemmas
 pub mod LeastLemmas
 pub mod LeastSteps
 pub mod DeepLemmas
+pub mod CtlBound

@@ -16,15 +16,15 @@ use Rattle.smpl_patch.specs.Bodies.{Body, body}
 use Rattle.ctl_formula.specs.Plain.{Plain, fits}
 use Rattle.ctl_formula.specs.Formulas.{FormulaOf}
 use Rattle.ctl_formula.specs.Bounds.{bound, guarded, guarded_for}
-use Rattle.ctl_bound.specs.declared.masks.Binds.{Binds}
-use Rattle.ctl_bound.specs.declared.groups.Bindings.{Bindings}
-use Rattle.ctl_bound.specs.Binding.{binds_at}
-use Rattle.ctl_bound.specs.Saying.{binds_in}
+use Rattle.ctl_translate.specs.declared.ctl_bound.masks.Binds.{Binds}
+use Rattle.ctl_translate.specs.declared.ctl_bound.groups.Bindings.{Bindings}
+use Rattle.ctl_translate.specs.CtlBound.Binding.{binds_at}
+use Rattle.ctl_translate.specs.CtlBound.Saying.{binds_in}
 use Rattle.pattern_vars.specs.Reads.{has, is_declared}
 use Rattle.ctl_formula.specs.declared.node.Node.{Node}
 use Rattle.ctl_formula.specs.Tables.{at, plains}
 use Rattle.ctl_formula.proofs.TableLemmas.{and-left, and-right}
-use Rattle.var_places.specs.Placing.{Reading, is_alone}
+use Rattle.pattern_vars.specs.VarPlaces.Placing.{Reading, is_alone}
 use Rattle.ctl_table.specs.Blocks.{blocks}
 use Rattle.ctl_table.specs.Table as table
 use Rattle.ctl_table.specs.Table.{in_scope}

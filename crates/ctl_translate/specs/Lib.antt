@@ -7,3 +7,5 @@ pub mod Answers
 pub mod Least
 -- how many levels it has at least, by the body alone
 pub mod Deep
+-- What ctl_bound defines.
+pub mod CtlBound

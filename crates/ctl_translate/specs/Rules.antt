@@ -11,7 +11,7 @@ use Rattle.smpl_patch.specs.Patterns as patterns
 use Rattle.smpl_patch.specs.Bodies.{body}
 use Rattle.ctl_formula.specs.Plain.{Plain}
 use Rattle.ctl_formula.specs.Bounds.{bound, guarded_for}
-use Rattle.var_places.specs.Placing.{Reading}
+use Rattle.pattern_vars.specs.VarPlaces.Placing.{Reading}
 use Rattle.ctl_table.specs.Table.{formula}
 
 abbrev pub reading : Rule → Reading

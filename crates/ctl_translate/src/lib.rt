@@ -7,8 +7,13 @@
 //! variables may stay unbound.
 //!
 //! `a(); ... b();` under `exists` is `Atom 0 and EX E[not Atom 0 and not Atom 1 U Atom 1]`.
+//!
+//! Its folders:
+//!
+//! - `ctl_bound`: What a formula says of the declared variables.
 #![tactic(auto)]
 
+mod ctl_bound;
 mod deep;
 mod least;
 mod rule;

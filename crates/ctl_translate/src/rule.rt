@@ -7,9 +7,9 @@ ghost use Rattle.smpl_terms.specs.declared.var.Var.{Var as Variable};
 ghost use Rattle.pattern_vars.specs.Reads.{has};
 ghost use Rattle.ctl_formula.specs.Plain.{fits};
 ghost use Rattle.ctl_formula.specs.Tables.{at, plains, Makes};
-ghost use Rattle.var_places.specs.Placing.{any_body, is_alone};
+ghost use Rattle.pattern_vars.specs.VarPlaces.Placing.{any_body, is_alone};
 ghost use Rattle.ctl_translate.specs.Rules as rules;
-ghost use Rattle.var_places.specs.Places.{reading_at};
+ghost use Rattle.pattern_vars.specs.VarPlaces.Places.{reading_at};
 ghost use Rattle.ctl_translate.specs.Answers.{IsFormulaOf, IsFaultOf};
 
 use crate::deep::is_far_too_long;
@@ -18,12 +18,13 @@ use crate::unbound::first_unbound;
 use c_terms::NoMemory;
 use ctl_formula::{Formula, Parts, copy_decls, copy_tokens};
 use ctl_table::{Made, Setting, blocks, sequence};
-use pattern_vars::{Decls, VarSet, put_vars};
+use pattern_vars::{
+    Decls, Ordered, Reader, Scope, VarSet, among, put_vars, standing_in_body, used_in_body,
+};
 use smpl_patch::{Elem, Mode, Rule, VarDecl};
 use smpl_terms::Var;
 use sqlite_items::Items;
 use std::alloc::{AllocError, Global};
-use var_places::{Ordered, Reader, Scope, among, standing_in_body, used_in_body};
 
 /// Why a rule has no formula that may be used.
 #[derive(Drop)]

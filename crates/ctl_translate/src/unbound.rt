@@ -4,14 +4,14 @@ ghost use Rattle.smpl_terms.specs.declared.var.Var.{Var as Variable};
 ghost use Rattle.smpl_patch.specs.Patterns as patterns;
 ghost use Rattle.pattern_vars.specs.Reads.{has, is_declared};
 ghost use Rattle.ctl_formula.specs.Tables.{at, plains};
-ghost use Rattle.ctl_bound.specs.declared.masks.Binds.{Binds as Said};
-ghost use Rattle.ctl_bound.specs.Binding.{binds_at};
-ghost use Rattle.ctl_bound.specs.Saying.{binds_in};
+ghost use Rattle.ctl_translate.specs.declared.ctl_bound.masks.Binds.{Binds as Said};
+ghost use Rattle.ctl_translate.specs.CtlBound.Binding.{binds_at};
+ghost use Rattle.ctl_translate.specs.CtlBound.Saying.{binds_in};
 ghost use Rattle.ctl_translate.specs.Rules as rules;
 
+use crate::ctl_bound::{Bindings, Binds, bindings_of};
 use crate::rule::{declared, exported};
 use c_terms::NoMemory;
-use ctl_bound::{Bindings, Binds, bindings_of};
 use ctl_formula::Parts;
 use pattern_vars::VarSet;
 use smpl_patch::{Rule, VarDecl};

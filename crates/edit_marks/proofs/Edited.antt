@@ -3,8 +3,8 @@ use Rattle.std.proofs.Common.{ℕ, List, [], ◌∷◌, ◌++◌, sym, subst}
 use Rattle.std.specs.Prelude.{Option, None, Some, IfSome, ◌==◌, slice_get}
 use Rattle.std.specs.List.{list_any}
 use Rattle.smpl_patch.specs.declared.pattern.VarDecl.{VarDecl}
-use Rattle.edit_conflict.specs.declared.edit.Insert.{Insert}
-use Rattle.edit_conflict.specs.declared.edit.Edit.{Edit}
+use Rattle.edit_marks.specs.declared.edit_conflict.edit.Insert.{Insert}
+use Rattle.edit_marks.specs.declared.edit_conflict.edit.Edit.{Edit}
 use Rattle.smpl_patch.specs.declared.pattern.PatToken.{PatToken}
 use Rattle.edit_marks.specs.declared.mark.Aligned.{Aligned}
 use Rattle.smpl_patch.specs.declared.pattern.PlusBlock.{PlusBlock}

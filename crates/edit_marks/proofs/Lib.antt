@@ -7,3 +7,5 @@ pub mod Rows
 pub mod Sound
 pub mod TokenLemmas
 pub mod Examples
+pub mod EditConflict
+pub mod EditWalk

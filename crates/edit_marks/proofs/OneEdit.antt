@@ -14,8 +14,8 @@ use Rattle.std.proofs.lemmas.List.Sums.{sum_by-cons}
 use Rattle.std.proofs.lemmas.List.Elements.{All-nil, All-cons, All-head, All-tail, All-weaker, All-contains}
 use Rattle.smpl_patch.specs.declared.pattern.VarDecl.{VarDecl}
 use Rattle.smpl_patch.specs.declared.pattern.PatToken.{PatToken}
-use Rattle.edit_conflict.specs.declared.edit.Insert.{Insert}
-use Rattle.edit_conflict.specs.declared.edit.Edit.{Edit}
+use Rattle.edit_marks.specs.declared.edit_conflict.edit.Insert.{Insert}
+use Rattle.edit_marks.specs.declared.edit_conflict.edit.Edit.{Edit}
 use Rattle.edit_marks.specs.declared.mark.Aligned.{Aligned}
 use Rattle.edit_marks.specs.declared.spot.PlusSpot.{PlusSpot}
 use Rattle.edit_marks.specs.declared.tokens.FileToken.{FileToken}

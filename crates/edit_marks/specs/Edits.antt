@@ -4,10 +4,10 @@ use Rattle.std.specs.List.{list_any}
 use Rattle.std.specs.List.Sorted.{IsPermutation, IsSortedBy, IsStrictlyIncreasing}
 use Rattle.std.specs.Ordering.{is_lt}
 use Rattle.smpl_patch.specs.declared.pattern.VarDecl.{VarDecl}
-use Rattle.edit_conflict.specs.declared.edit.Side.{Side}
-use Rattle.edit_conflict.specs.declared.edit.Side.TheVariants.{Before, After}
-use Rattle.edit_conflict.specs.declared.edit.Insert.{Insert}
-use Rattle.edit_conflict.specs.declared.edit.Edit.{Edit}
+use Rattle.edit_marks.specs.declared.edit_conflict.edit.Side.{Side}
+use Rattle.edit_marks.specs.declared.edit_conflict.edit.Side.TheVariants.{Before, After}
+use Rattle.edit_marks.specs.declared.edit_conflict.edit.Insert.{Insert}
+use Rattle.edit_marks.specs.declared.edit_conflict.edit.Edit.{Edit}
 use Rattle.edit_marks.specs.declared.insert.Anchor.{Anchor}
 use Rattle.edit_marks.specs.declared.insert.Anchor.TheVariants.{Removed, AfterLine, AfterToken, BeforeToken}
 use Rattle.smpl_patch.specs.declared.pattern.PatToken.{PatToken}

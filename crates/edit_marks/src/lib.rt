@@ -16,9 +16,16 @@
 //!
 //! The walk over witnesses and the alignments themselves are left to the crates of matching; whether edits clash is for
 //! edit_conflict, and what the text becomes for edit_unparse.
+//!
+//! Its folders:
+//!
+//! - `edit_conflict`: Edits of one reading of a text, and whether two of them clash.
+//! - `edit_walk`: The edits of a rule: for each place that its witnesses touch, what the alignment there removes and puts in.
 #![tactic(auto)]
 
 mod block;
+mod edit_conflict;
+mod edit_walk;
 mod even;
 mod insert;
 mod laws;
@@ -29,6 +36,8 @@ mod tokens;
 mod touch;
 mod values;
 
+pub use edit_conflict::{Act, Clash, Edit, EditList, Insert, Mark, Side, first_clash};
+pub use edit_walk::{edits, node_kinds, witnesses_have_one_list};
 pub use even::have_even_blocks;
 pub use insert::{Anchor, ends_line, indent_at, insert_text};
 pub use laws::alignment_has_one_edit;

@@ -3,12 +3,12 @@ ghost use Rattle.std.specs.Prelude.{◌≡◌, ◌++◌, ◌∷◌, Some, IfOk, 
 ghost use Rattle.edit_marks.specs.Blocks.{AreEven};
 ghost use Rattle.edit_marks.specs.Edits.{HaveEvenBlocks, HaveSoundBlocks, HaveBlankIndents, ArePlainInserts, EditOf, block_of, side_of, anchor_of, insert_if, insert_of_block, inserts_at};
 
+use crate::edit_conflict::{Edit, Insert, Side};
 use crate::insert::{Anchor, ends_line, insert_text};
 use crate::mark::{Aligned, removed_tokens};
 use crate::spot::{PlusSpot, spots};
 use crate::tokens::{FileToken, FileTokens};
 use c_terms::{NoMemory, Text};
-use edit_conflict::{Edit, Insert, Side};
 use smpl_patch::{PatToken, PlusBlock, VarDecl};
 use smpl_terms::Env;
 use sqlite_items::Items;

@@ -6,7 +6,7 @@ use Rattle.c_lexer.specs.declared.piece.PieceKind.TheVariants.{Word, Blank, Comm
 use Rattle.c_lexer.specs.Pieces.{TextPiece, text_of}
 use Rattle.c_lexer.specs.Ids.{ids_of}
 use Rattle.c_show.specs.Joint.{runs_together}
-use Rattle.edit_conflict.specs.declared.edit.Edit.{Edit}
+use Rattle.edit_marks.specs.declared.edit_conflict.edit.Edit.{Edit}
 use Rattle.edit_unparse.specs.Output.{output_of}
 
 abbrev piece : PieceKind → List ℕ → TextPiece

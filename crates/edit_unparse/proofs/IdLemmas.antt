@@ -10,8 +10,8 @@ use Rattle.c_lexer.specs.declared.piece.PieceKind.TheVariants.{Word, Blank, Comm
 use Rattle.c_lexer.specs.Pieces.{TextPiece}
 use Rattle.c_lexer.specs.Lexes.{id_after}
 use Rattle.c_lexer.specs.Ids.{ids_of, id_before}
-use Rattle.edit_conflict.specs.declared.edit.Side.TheVariants.{Before, After}
-use Rattle.edit_conflict.specs.declared.edit.Edit.{Edit}
+use Rattle.edit_marks.specs.declared.edit_conflict.edit.Side.TheVariants.{Before, After}
+use Rattle.edit_marks.specs.declared.edit_conflict.edit.Edit.{Edit}
 use Rattle.edit_unparse.specs.Cutting.{cut}
 use Rattle.edit_unparse.specs.Output.{Part, Left, inserted, is_removed, new_part, new_parts, added, old_part, kept, parts_at, placed, left_of, gap, with_next, next_after, spaced, output_of}
 use Rattle.edit_unparse.specs.NextId.{free_id}

@@ -8,9 +8,9 @@ use Rattle.c_lexer.specs.declared.piece.PieceKind.TheVariants.{Word, Blank, Comm
 use Rattle.c_lexer.specs.Pieces.{TextPiece, text_of}
 use Rattle.c_lexer.specs.Lexes.{id_after}
 use Rattle.c_lexer.specs.Ids.{ids_of}
-use Rattle.edit_conflict.specs.declared.edit.Edit.{Edit}
-use Rattle.edit_conflict.specs.declared.mark.Mark.{Mark}
-use Rattle.edit_conflict.specs.Marks.{is_at as is_at_token, AreMarks}
+use Rattle.edit_marks.specs.declared.edit_conflict.edit.Edit.{Edit}
+use Rattle.edit_marks.specs.declared.edit_conflict.mark.Mark.{Mark}
+use Rattle.edit_marks.specs.EditConflict.Marks.{is_at as is_at_token, AreMarks}
 use Rattle.edit_unparse.specs.declared.draft.Draft.{Draft}
 use Rattle.edit_unparse.specs.declared.draft.Place.{Place}
 use Rattle.edit_unparse.specs.Output.{is_word, placed, parts_at, token_parts, spaced, output_of}

@@ -10,8 +10,8 @@ use Rattle.c_lexer.specs.Pieces.{TextPiece, text_of, kind_of_piece}
 use Rattle.c_lexer.specs.Lexes.{Cuts, id_after}
 use Rattle.c_lexer.specs.Beside.{IsOfKind}
 use Rattle.c_lexer.specs.Loose.{Loose}
-use Rattle.edit_conflict.specs.declared.edit.Edit.{Edit}
-use Rattle.edit_conflict.specs.declared.edit.Side.TheVariants.{Before, After}
+use Rattle.edit_marks.specs.declared.edit_conflict.edit.Edit.{Edit}
+use Rattle.edit_marks.specs.declared.edit_conflict.edit.Side.TheVariants.{Before, After}
 use Rattle.c_show.specs.Joint.{runs_together}
 use Rattle.edit_unparse.specs.Output.{Part, left_of, is_word, space, needs_space, were_beside, added, inserted, is_removed, kept, old_part, token_parts, parts_at, placed}
 use Rattle.edit_unparse.specs.Fair.{Stands, after_stray, StrayStays, StraysStay}

@@ -18,8 +18,8 @@ use Rattle.c_lexer.specs.Beside.{IsOfKind}
 use Rattle.c_lexer.specs.First.{IsFirst}
 use Rattle.c_lexer.proofs.Shaped.{known, kind_or_stray, back}
 use Rattle.c_lexer.proofs.Law.{lone_back}
-use Rattle.edit_conflict.specs.declared.edit.Edit.{Edit}
-use Rattle.edit_conflict.specs.declared.edit.Side.TheVariants.{Before, After}
+use Rattle.edit_marks.specs.declared.edit_conflict.edit.Edit.{Edit}
+use Rattle.edit_marks.specs.declared.edit_conflict.edit.Side.TheVariants.{Before, After}
 use Rattle.c_show.specs.Joint.{runs_together}
 use Rattle.c_show.proofs.Together.{runs_together-decides}
 use Rattle.edit_unparse.specs.Cutting.{cut, cut-lexes}

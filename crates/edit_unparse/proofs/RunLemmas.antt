@@ -9,11 +9,11 @@ use Rattle.c_lexer.specs.declared.piece.PieceKind.TheVariants.{Word, Blank, Comm
 use Rattle.c_lexer.specs.Pieces.{TextPiece}
 use Rattle.c_lexer.specs.Lexes.{id_after}
 use Rattle.c_lexer.specs.Ids.{ids_of, id_before}
-use Rattle.edit_conflict.specs.declared.edit.Side.TheVariants.{Before, After}
-use Rattle.edit_conflict.specs.declared.edit.Edit.{Edit}
-use Rattle.edit_conflict.specs.declared.mark.Mark.{Mark}
-use Rattle.edit_conflict.specs.Marks.{is_at, marks_from, AreMarks}
-use Rattle.edit_conflict.proofs.Ordered.{Ordered, Ordered-drop, marks_ordered}
+use Rattle.edit_marks.specs.declared.edit_conflict.edit.Side.TheVariants.{Before, After}
+use Rattle.edit_marks.specs.declared.edit_conflict.edit.Edit.{Edit}
+use Rattle.edit_marks.specs.declared.edit_conflict.mark.Mark.{Mark}
+use Rattle.edit_marks.specs.EditConflict.Marks.{is_at, marks_from, AreMarks}
+use Rattle.edit_marks.proofs.EditConflict.Ordered.{Ordered, Ordered-drop, marks_ordered}
 use Rattle.edit_unparse.specs.declared.draft.Draft.{Draft}
 use Rattle.edit_unparse.specs.declared.draft.Place.{Place}
 use Rattle.edit_unparse.specs.Output.{Part, is_word, old_part, kept, added, inserted, is_removed, token_parts, parts_at, placed}

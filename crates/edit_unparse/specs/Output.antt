@@ -6,12 +6,12 @@ use Rattle.c_lexer.specs.declared.piece.PieceKind.TheVariants.{Word, Blank, Comm
 use Rattle.c_lexer.specs.Pieces.{TextPiece}
 use Rattle.c_lexer.specs.Lexes.{id_after}
 use Rattle.c_lexer.specs.Ids.{without_id}
-use Rattle.edit_conflict.specs.declared.edit.Side.{Side}
-use Rattle.edit_conflict.specs.declared.edit.Side.TheVariants.{Before, After}
-use Rattle.edit_conflict.specs.declared.edit.Insert.{Insert}
-use Rattle.edit_conflict.specs.declared.edit.Edit.{Edit}
-use Rattle.edit_conflict.specs.Same.{side_number}
-use Rattle.edit_conflict.specs.Clashes.{removes}
+use Rattle.edit_marks.specs.declared.edit_conflict.edit.Side.{Side}
+use Rattle.edit_marks.specs.declared.edit_conflict.edit.Side.TheVariants.{Before, After}
+use Rattle.edit_marks.specs.declared.edit_conflict.edit.Insert.{Insert}
+use Rattle.edit_marks.specs.declared.edit_conflict.edit.Edit.{Edit}
+use Rattle.edit_marks.specs.EditConflict.Same.{side_number}
+use Rattle.edit_marks.specs.EditConflict.Clashes.{removes}
 use Rattle.c_show.specs.Joint.{runs_together}
 use Rattle.edit_unparse.specs.Cutting.{cut}
 

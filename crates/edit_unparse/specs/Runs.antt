@@ -3,9 +3,9 @@ use Rattle.std.specs.Prelude.{ℕ, ◌≡◌, ◌<◌, ◌≤◌, ◌+◌, ◌-�
 use Rattle.c_lexer.specs.declared.piece.PieceKind.{PieceKind}
 use Rattle.c_lexer.specs.declared.piece.PieceKind.TheVariants.{Word, Blank, Comment, Line}
 use Rattle.c_lexer.specs.Pieces.{TextPiece}
-use Rattle.edit_conflict.specs.declared.edit.Edit.{Edit}
-use Rattle.edit_conflict.specs.declared.mark.Mark.{Mark}
-use Rattle.edit_conflict.specs.Marks.{is_at, marks_from}
+use Rattle.edit_marks.specs.declared.edit_conflict.edit.Edit.{Edit}
+use Rattle.edit_marks.specs.declared.edit_conflict.mark.Mark.{Mark}
+use Rattle.edit_marks.specs.EditConflict.Marks.{is_at, marks_from}
 use Rattle.edit_unparse.specs.declared.draft.Draft.{Draft}
 use Rattle.edit_unparse.specs.declared.draft.Place.{Place}
 use Rattle.edit_unparse.specs.Output.{Part, old_part, placed, is_word}

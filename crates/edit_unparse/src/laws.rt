@@ -3,7 +3,7 @@ ghost use Rattle.std.specs.Prelude.{ℕ, ◌≡◌, ◌<◌, true, List, All};
 ghost use Rattle.c_show.specs.PlainText.{IsPlainText};
 ghost use Rattle.c_lexer.specs.Pieces.{TextPiece};
 ghost use Rattle.c_lexer.specs.Ids.{ids_of};
-ghost use Rattle.edit_conflict.specs.declared.edit.Edit.{Edit};
+ghost use Rattle.edit_marks.specs.declared.edit_conflict.edit.Edit.{Edit};
 ghost use Rattle.edit_unparse.specs.Fair.{is_plain_text};
 ghost use Rattle.edit_unparse.specs.NextId.{free_id};
 ghost use Rattle.edit_unparse.specs.Output.{output_of};

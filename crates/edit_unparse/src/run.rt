@@ -3,7 +3,7 @@ ghost use Rattle.std.specs.Prelude.{◌≡◌, ◌≤◌, ◌<◌, ◌+◌, ◌-
 ghost use Rattle.c_lexer.specs.Pieces.{text_of, TextPiece};
 ghost use Rattle.c_lexer.specs.Lexes.{id_after};
 ghost use Rattle.c_lexer.specs.Ids.{ids_of, id_before};
-ghost use Rattle.edit_conflict.specs.declared.edit.Edit.{Edit};
+ghost use Rattle.edit_marks.specs.declared.edit_conflict.edit.Edit.{Edit};
 ghost use Rattle.edit_unparse.specs.declared.fault.OutFault.TheVariants.{NoMemory};
 ghost use Rattle.edit_unparse.specs.Output.{gap, left_of, old_part, placed};
 ghost use Rattle.edit_unparse.specs.Written.{Writes, Overflows, left};

@@ -13,19 +13,19 @@ use Rattle.smpl_patch.specs.Bodies.{body}
 use Rattle.smpl_patch.specs.Shapes.{patterns_body}
 use Rattle.ctl_translate.specs.Rules.{first_unbound}
 use Rattle.rule_envs.specs.declared.carrier.Carrier.{Carrier}
-use Rattle.rule_turn.specs.Turns.{turn_found, turn_carriers}
-use Rattle.rule_edits.specs.Kinds.{kinds_of}
-use Rattle.rule_edits.specs.Pages.{is_edited}
-use Rattle.rule_work.specs.States.{Chained, ReadsAgain, first_state}
-use Rattle.rule_work.specs.OneRule.{MayRead, Leads, rule_found, worked}
+use Rattle.rule_chain.specs.RuleTurn.Turns.{turn_found, turn_carriers}
+use Rattle.rule_chain.specs.RuleEdits.Kinds.{kinds_of}
+use Rattle.rule_chain.specs.RuleEdits.Pages.{is_edited}
+use Rattle.rule_chain.specs.RuleWork.States.{Chained, ReadsAgain, first_state}
+use Rattle.rule_chain.specs.RuleWork.OneRule.{MayRead, Leads, rule_found, worked}
 use Rattle.rule_chain.specs.Chain.{is_followed}
 use Rattle.rule_laws.specs.Ready.{IsReady}
 use Rattle.edit_marks.specs.declared.mark.Aligned.{Aligned}
-use Rattle.edit_walk.specs.Touches.{Touched, touches}
-use Rattle.edit_walk.specs.Named.{pairs_at}
-use Rattle.again_laws.specs.Reached.{IsBefore}
-use Rattle.again_laws.specs.Reached.IsBefore.{first, later}
-use Rattle.touch_laws.specs.Metas.{CarriesTerms, AreMetas, ShowsTerms}
+use Rattle.edit_marks.specs.EditWalk.Touches.{Touched, touches}
+use Rattle.edit_marks.specs.EditWalk.Named.{pairs_at}
+use Rattle.text_laws.specs.AgainLaws.Reached.{IsBefore}
+use Rattle.text_laws.specs.AgainLaws.Reached.IsBefore.{first, later}
+use Rattle.insert_laws.specs.TouchLaws.Metas.{CarriesTerms, AreMetas, ShowsTerms}
 use Rattle.insert_laws.specs.Instantiated.{IsInstantiated}
 use Rattle.insert_laws.proofs.PlusLemmas.{HasAt, all_shown}
 use Rattle.insert_laws.proofs.NamedLemmas.{PathLaw, BareLaw, AlignedLaw, KeepsPlus, IsUsed, touch_used}

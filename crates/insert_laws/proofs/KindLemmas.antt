@@ -18,10 +18,10 @@ use Rattle.smpl_patch.specs.declared.pattern.PatToken.{PatToken}
 use Rattle.smpl_patch.specs.declared.rule.Rule.{Rule}
 use Rattle.smpl_patch.specs.Patterns.{is_position_kind, is_position_of}
 use Rattle.smpl_patch.specs.Sound.{same_kind, declares, none_alike, exported_from, is_sound_decl, is_sound_token, is_sound_block, AreSoundRules}
-use Rattle.ctl_holds.proofs.TestLemmas.{or_cases, or_left, or_right, and_left, and_right, and_both, not_both, not_true, any_found, all_has}
-use Rattle.wit_trees.specs.Forest.{is_hidden}
-use Rattle.term_laws.specs.Terms.{IsNoPosition}
-use Rattle.touch_laws.specs.Metas.{AreMetas}
+use Rattle.ctl_fixpoint.proofs.CtlHolds.TestLemmas.{or_cases, or_left, or_right, and_left, and_right, and_both, not_both, not_true, any_found, all_has}
+use Rattle.wit_forest.specs.WitTrees.Forest.{is_hidden}
+use Rattle.insert_laws.specs.TermLaws.Terms.{IsNoPosition}
+use Rattle.insert_laws.specs.TouchLaws.Metas.{AreMetas}
 
 -- ---- kinds
 

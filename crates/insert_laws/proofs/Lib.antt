@@ -4,3 +4,8 @@ pub mod PlusLemmas
 pub mod NamedLemmas
 pub mod RuleLemmas
 pub mod ChainLemmas
+pub mod TermLaws
+pub mod ScopeLaws
+pub mod NameLaws
+pub mod AlignedLaws
+pub mod TouchLaws

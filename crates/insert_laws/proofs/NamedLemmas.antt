@@ -13,10 +13,10 @@ use Rattle.c_terms.specs.Trees.{leaves}
 use Rattle.c_terms.specs.Places.{Place, subtree}
 use Rattle.cpp_lines.specs.declared.reading.Item.{Item}
 use Rattle.cpp_lines.specs.declared.reading.Item.TheVariants.{Parsed, Skipped}
-use Rattle.cfg_graph.specs.declared.label.NodeKind.{NodeKind}
-use Rattle.cfg_graph.specs.declared.label.NodeKind.TheVariants as kind
-use Rattle.cfg_graph.specs.declared.label.NodeLabel.{NodeLabel}
-use Rattle.cfg_graph.specs.Flow.{Flow}
+use Rattle.cfg_build.specs.declared.cfg_graph.label.NodeKind.{NodeKind}
+use Rattle.cfg_build.specs.declared.cfg_graph.label.NodeKind.TheVariants as kind
+use Rattle.cfg_build.specs.declared.cfg_graph.label.NodeLabel.{NodeLabel}
+use Rattle.cfg_build.specs.CfgGraph.Flow.{Flow}
 use Rattle.cfg_build.specs.Graphs.{graph_of}
 use Rattle.c_file.specs.Fit.{item_graph}
 use Rattle.smpl_terms.specs.declared.var.Var.{Var}
@@ -34,16 +34,16 @@ use Rattle.pat_match.specs.Runs.{Pair}
 use Rattle.pat_match.specs.Roles.{role_at, may_stand}
 use Rattle.pat_match.specs.declared.role.NodeRole.{NodeRole}
 use Rattle.pat_match.specs.Matching.{is_live_in, fits_seat}
-use Rattle.pat_pairs.specs.declared.pairs.AlignedToken.{AlignedToken}
-use Rattle.pat_pairs.specs.Pairs.{aligned_token, numbers, first_aligned, aligned_tokens}
-use Rattle.ctl_holds.proofs.TestLemmas.{or_cases, or_left, or_right, and_left, and_right, not_both, not_true}
+use Rattle.pat_match.specs.declared.pat_pairs.pairs.AlignedToken.{AlignedToken}
+use Rattle.pat_match.specs.PatPairs.Pairs.{aligned_token, numbers, first_aligned, aligned_tokens}
+use Rattle.ctl_fixpoint.proofs.CtlHolds.TestLemmas.{or_cases, or_left, or_right, and_left, and_right, not_both, not_true}
 use Rattle.edit_marks.specs.declared.mark.Aligned.{Aligned}
-use Rattle.edit_walk.specs.Keys.{number_of}
-use Rattle.edit_walk.specs.Touches.{Touched}
-use Rattle.edit_walk.specs.Named.{pattern_of, kind_at, part_of, tree_at, numbered, pairs_of, pairs_at}
-use Rattle.rule_edits.specs.Kinds.{graph_kinds, kinds_of}
-use Rattle.aligned_laws.specs.Compared.{compared, IsCompared, is_head_tree, HasNoBodies}
-use Rattle.touch_laws.specs.Metas.{StandsAt}
+use Rattle.edit_marks.specs.EditWalk.Keys.{number_of}
+use Rattle.edit_marks.specs.EditWalk.Touches.{Touched}
+use Rattle.edit_marks.specs.EditWalk.Named.{pattern_of, kind_at, part_of, tree_at, numbered, pairs_of, pairs_at}
+use Rattle.rule_chain.specs.RuleEdits.Kinds.{graph_kinds, kinds_of}
+use Rattle.insert_laws.specs.AlignedLaws.Compared.{compared, IsCompared, is_head_tree, HasNoBodies}
+use Rattle.insert_laws.specs.TouchLaws.Metas.{StandsAt}
 
 some_equal : {A : Type 0} (a b : A) → Some a ≡ Some b → a ≡ b
 some_equal a b e = cc

@@ -27,7 +27,7 @@ use Rattle.smpl_patch.specs.declared.pattern.PlusBlock.{PlusBlock}
 use Rattle.smpl_patch.specs.Patterns.{is_position_kind, declared_as, is_var_of, is_meta_of, in_line, in_block, in_plus}
 use Rattle.smpl_patch.specs.Sound.{same_kind, declares_name, is_plus_token, is_sound_line, is_sound_block, is_sound_token}
 use Rattle.pattern_vars.specs.Reads.{is_declared}
-use Rattle.ctl_holds.proofs.TestLemmas.{or_cases, or_left, or_right, and_left, and_right, and_both, not_both}
+use Rattle.ctl_fixpoint.proofs.CtlHolds.TestLemmas.{or_cases, or_left, or_right, and_left, and_right, and_both, not_both}
 use Rattle.edit_marks.specs.Blocks.{Environment, is_meta, term_of, term}
 use Rattle.edit_marks.specs.declared.mark.Aligned.{Aligned}
 use Rattle.edit_marks.specs.declared.spot.PlusSpot.{PlusSpot}

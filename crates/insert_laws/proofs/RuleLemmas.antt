@@ -20,26 +20,26 @@ use Rattle.smpl_patch.specs.Shapes.{patterns_body}
 use Rattle.smpl_patch.specs.Patterns.{is_position_of, in_first, in_block, in_plus}
 use Rattle.smpl_patch.specs.Sound.{none_alike, is_sound_token, AreSoundRules}
 use Rattle.smpl_meta.specs.declared.patterns.Placed.{Placed}
-use Rattle.smpl_when.specs.Cutting.{cut}
-use Rattle.smpl_when.specs.Grammar.{IsCut}
-use Rattle.smpl_formed.specs.Bodies.{tokens_of}
-use Rattle.smpl_formed.proofs.PatternLemmas.{any_tokens}
-use Rattle.smpl_formed.proofs.ReadLemmas.{body_patterns}
-use Rattle.smpl_formed.proofs.SequenceLemmas.{AllGood}
+use Rattle.smpl_body.specs.SmplWhen.Cutting.{cut}
+use Rattle.smpl_body.specs.SmplWhen.Grammar.{IsCut}
+use Rattle.sound_laws.specs.SmplFormed.Bodies.{tokens_of}
+use Rattle.sound_laws.proofs.SmplFormed.PatternLemmas.{any_tokens}
+use Rattle.sound_laws.proofs.SmplFormed.ReadLemmas.{body_patterns}
+use Rattle.sound_laws.proofs.SmplFormed.SequenceLemmas.{AllGood}
 use Rattle.smpl_file.specs.Patches.{IsSpelled}
-use Rattle.smpl_sound.specs.Parts.{EachHas}
-use Rattle.smpl_sound.proofs.RuleLemmas.{SmallLaw, patch-has, ps, short}
+use Rattle.sound_laws.specs.SmplSound.Parts.{EachHas}
+use Rattle.sound_laws.proofs.SmplSound.RuleLemmas.{SmallLaw, patch-has, ps, short}
 use Rattle.ctl_formula.specs.Plain.{fits}
 use Rattle.ctl_translate.specs.Rules.{formula_of, first_unbound}
-use Rattle.ctl_holds.proofs.TestLemmas.{or_cases, or_left, or_right, not_both}
-use Rattle.wit_trees.specs.Forest.{is_hidden}
-use Rattle.iso_forms.specs.Replacing.{is_plain}
-use Rattle.iso_forms.specs.Forms.{forms}
+use Rattle.ctl_fixpoint.proofs.CtlHolds.TestLemmas.{or_cases, or_left, or_right, not_both}
+use Rattle.wit_forest.specs.WitTrees.Forest.{is_hidden}
+use Rattle.iso_expand.specs.IsoForms.Replacing.{is_plain}
+use Rattle.iso_expand.specs.IsoForms.Forms.{forms}
 use Rattle.iso_expand.specs.Bodies.{forms_of_first, expanded_pattern}
 use Rattle.iso_expand.specs.Patches.{IsExpandedRule, AreExpanded}
 use Rattle.rule_laws.specs.Ready.{IsReady}
-use Rattle.aligned_laws.specs.Compared.{compared}
-use Rattle.touch_laws.specs.Metas.{AreMetas}
+use Rattle.insert_laws.specs.AlignedLaws.Compared.{compared}
+use Rattle.insert_laws.specs.TouchLaws.Metas.{AreMetas}
 use Rattle.insert_laws.proofs.KindLemmas.{is_meta_in, is_meta_of_some, all_metas}
 use Rattle.insert_laws.proofs.NamedLemmas.{KeepsPlus}
 

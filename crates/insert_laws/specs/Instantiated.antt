@@ -14,9 +14,9 @@ use Rattle.smpl_patch.specs.Shapes.{patterns_body}
 use Rattle.edit_marks.specs.Blocks.{Environment, is_meta, term}
 use Rattle.edit_marks.specs.Spots.{all_spots}
 use Rattle.edit_marks.specs.Edits.{block_of}
-use Rattle.edit_walk.specs.Touches.{Touched}
-use Rattle.edit_walk.specs.Named.{pairs_at}
-use Rattle.rule_edits.specs.Kinds.{kinds_of}
+use Rattle.edit_marks.specs.EditWalk.Touches.{Touched}
+use Rattle.edit_marks.specs.EditWalk.Named.{pairs_at}
+use Rattle.rule_chain.specs.RuleEdits.Kinds.{kinds_of}
 
 module _ (decls : List VarDecl) (env : Environment) where
   -- a metavariable has a value, and it is a term

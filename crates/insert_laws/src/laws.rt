@@ -5,25 +5,25 @@ ghost use Rattle.smpl_patch.specs.declared.rule.Rule.{Rule as PatchRule};
 ghost use Rattle.smpl_patch.specs.declared.rule.Patch.{Patch as Whole};
 ghost use Rattle.smpl_file.specs.Patches.{IsPatchOf};
 ghost use Rattle.iso_expand.specs.Patches.{IsExpanded};
-ghost use Rattle.rule_work.specs.States.{Chained};
-ghost use Rattle.rule_work.specs.OneRule.{rule_found};
-ghost use Rattle.edit_walk.specs.Touches.{touches};
-ghost use Rattle.again_laws.specs.Reached.{IsBefore};
+ghost use Rattle.rule_chain.specs.RuleWork.States.{Chained};
+ghost use Rattle.rule_chain.specs.RuleWork.OneRule.{rule_found};
+ghost use Rattle.edit_marks.specs.EditWalk.Touches.{touches};
+ghost use Rattle.text_laws.specs.AgainLaws.Reached.{IsBefore};
 ghost use Rattle.insert_laws.specs.Instantiated.{IsInstantiated};
 
-use aligned_laws::{
+use crate::aligned_laws::{
     aligned_tokens_are_compared, forms_keep_plus_code, simple_nodes_have_no_bodies,
 };
+use crate::name_laws::declared_names_are_words;
+use crate::touch_laws::touches_show_terms;
 use cfg_build::paths_lead_to_trees;
-use iso_expand::rules_keep_their_shape;
-use iso_forms::the_tree_comes_first;
-use iso_formulas::{accepted_patches_stay_accepted, formulas_keep_their_shape};
-use name_laws::declared_names_are_words;
-use rule_laws::{rules_have_formulas, rules_may_run};
-use smpl_all_sound::spelled_patches_are_sound;
+use iso_expand::{rules_keep_their_shape, the_tree_comes_first};
+use rule_laws::{
+    accepted_patches_stay_accepted, formulas_keep_their_shape, rules_have_formulas, rules_may_run,
+};
+use smpl_body::bodies_are_parted_once;
 use smpl_lexer::patch_is_read_once;
-use smpl_when::bodies_are_parted_once;
-use touch_laws::touches_show_terms;
+use sound_laws::spelled_patches_are_sound;
 
 /// Of each patch that is read, over each text, at each rule to which its rules come, at each touch of its witnesses: each metavariable
 /// of each block of plus code that the edit of the touch puts in has a value there, and this value is a term. So it comes in as the

@@ -4,3 +4,4 @@ pub mod DotsLemmas
 pub mod RoomLemmas
 pub mod RuleLemmas
 pub mod ShapeLemmas
+pub mod IsoForms

@@ -4,10 +4,10 @@ use Rattle.std.specs.Prelude.{slice_get}
 use Rattle.c_terms.specs.declared.tree.Tree.{Tree}
 use Rattle.smpl_patch.specs.declared.pattern.PatToken.{PatToken}
 use Rattle.smpl_patch.specs.declared.rule.Iso.{Iso}
-use Rattle.iso_forms.specs.declared.fault.FormsFault.{FormsFault}
-use Rattle.iso_forms.specs.declared.fault.FormsFault.TheVariants as fault
-use Rattle.iso_forms.specs.Forms.{forms, Refused}
-use Rattle.iso_forms.proofs.FormLemmas.{has_form}
+use Rattle.iso_expand.specs.declared.iso_forms.fault.FormsFault.{FormsFault}
+use Rattle.iso_expand.specs.declared.iso_forms.fault.FormsFault.TheVariants as fault
+use Rattle.iso_expand.specs.IsoForms.Forms.{forms, Refused}
+use Rattle.iso_expand.proofs.IsoForms.FormLemmas.{has_form}
 use Rattle.iso_expand.specs.Bodies.{forms_of_first}
 use Rattle.iso_expand.specs.Stepped.{NoRoom}
 

@@ -2,8 +2,8 @@
 use Rattle.std.proofs.Common.{◌≡◌, ℕ, ◌+◌, ◌<◌, ◌≤◌, List, [], ◌∷◌, ◌++◌, length, get_or, take, drop, refl, sym, ap, subst, ◌∙◌, arith, length-take, zero, suc}
 use Rattle.smpl_patch.specs.declared.rule.Iso.{Iso}
 use Rattle.smpl_patch.specs.declared.rule.Rule.{Rule}
-use Rattle.iso_forms.specs.declared.fault.FormsFault.{FormsFault}
-use Rattle.iso_forms.specs.declared.fault.FormsFault.TheVariants as forms_fault
+use Rattle.iso_expand.specs.declared.iso_forms.fault.FormsFault.{FormsFault}
+use Rattle.iso_expand.specs.declared.iso_forms.fault.FormsFault.TheVariants as forms_fault
 use Rattle.iso_expand.specs.Patches.{IsExpandedRule, AreExpanded, AllFew, IsFirstMany, IsFaultOf, fault_at, forms_rule, most_forms}
 use Rattle.iso_expand.specs.Stepped.{NoRoom}
 use Rattle.iso_expand.proofs.BodyLemmas.{take_item}

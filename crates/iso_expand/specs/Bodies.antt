@@ -5,7 +5,7 @@ use Rattle.smpl_patch.specs.declared.pattern.Pattern.{Pattern}
 use Rattle.smpl_patch.specs.declared.pattern.PatToken.{PatToken}
 use Rattle.smpl_patch.specs.declared.rule.Iso.{Iso}
 use Rattle.smpl_patch.specs.Bodies.{Element, Atom, Compound, Block, Gap, Nest, AnyOf, AllOf, Body, End, Then, Bodies, NoMore, More}
-use Rattle.iso_forms.specs.Forms.{forms}
+use Rattle.iso_expand.specs.IsoForms.Forms.{forms}
 
 module _ (isos : List Iso) (tokens : List PatToken) where
   abbrev pub forms_of_first : List Tree → List Tree

@@ -3,3 +3,5 @@ pub mod Bodies
 pub mod Patches
 -- For inside use: what the parts answer.
 pub mod Stepped
+-- What iso_forms defines.
+pub mod IsoForms

@@ -6,8 +6,8 @@ use Rattle.smpl_patch.specs.declared.rule.Iso.{Iso}
 use Rattle.smpl_patch.specs.declared.rule.Rule.{Rule}
 use Rattle.smpl_patch.specs.declared.rule.Patch.{Patch}
 use Rattle.smpl_patch.specs.Bodies.{body}
-use Rattle.iso_forms.specs.declared.fault.FormsFault.{FormsFault}
-use Rattle.iso_forms.specs.declared.fault.FormsFault.TheVariants as forms_fault
+use Rattle.iso_expand.specs.declared.iso_forms.fault.FormsFault.{FormsFault}
+use Rattle.iso_expand.specs.declared.iso_forms.fault.FormsFault.TheVariants as forms_fault
 use Rattle.iso_expand.specs.declared.fault.ExpandFault.{ExpandFault}
 use Rattle.iso_expand.specs.declared.fault.ExpandFault.TheVariants as fault
 use Rattle.iso_expand.specs.Bodies.{expanded_body, forms_body}

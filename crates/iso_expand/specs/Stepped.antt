@@ -1,7 +1,7 @@
 -- For inside use: how much room is left for forms.
 use Rattle.std.specs.Prelude.{ℕ, ◌<◌}
-use Rattle.iso_forms.specs.declared.fault.FormsFault.{FormsFault}
-use Rattle.iso_forms.specs.declared.fault.FormsFault.TheVariants as fault
+use Rattle.iso_expand.specs.declared.iso_forms.fault.FormsFault.{FormsFault}
+use Rattle.iso_expand.specs.declared.iso_forms.fault.FormsFault.TheVariants as fault
 
 -- there is no room for so many, or memory was refused
 abbrev pub NoRoom : ℕ → ℕ → FormsFault → Type 0

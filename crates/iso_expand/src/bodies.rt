@@ -2,12 +2,12 @@
 ghost use Rattle.std.specs.Prelude.{◌≡◌, ◌+◌, ◌≤◌, ◌<◌, length, IfOk, IfErr};
 ghost use Rattle.smpl_patch.specs.Bodies.{body, element};
 ghost use Rattle.smpl_patch.proofs.BodyLemmas.{bodies as bodies_of, dots_of};
-ghost use Rattle.iso_forms.specs.Forms.{Refused};
+ghost use Rattle.iso_expand.specs.IsoForms.Forms.{Refused};
 ghost use Rattle.iso_expand.specs.Bodies as of;
 ghost use Rattle.iso_expand.specs.Stepped.{NoRoom};
 
+use crate::iso_forms::{FormsFault, forms_of};
 use c_terms::Tree;
-use iso_forms::{FormsFault, forms_of};
 use smpl_patch::{Dots, Elem, Iso, PatToken, Pattern};
 use sqlite_items::Items;
 use std::alloc::Global;

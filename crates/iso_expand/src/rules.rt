@@ -8,7 +8,7 @@ ghost use Rattle.iso_expand.specs.Stepped.{NoRoom};
 use crate::ExpandFault;
 use crate::bodies::expanded_body;
 use crate::copies::{copy_decls, copy_dep, copy_texts, copy_tokens, copy_vars};
-use iso_forms::FormsFault;
+use crate::iso_forms::FormsFault;
 use smpl_patch::{Elem, Iso, PatToken, Patch, Rule};
 use sqlite_items::Items;
 use std::alloc::Global;

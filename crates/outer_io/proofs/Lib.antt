@@ -1,2 +1,3 @@
 pub mod FileMapLemmas
 mod Examples
+pub mod EscapedNames

@@ -5,3 +5,5 @@ pub mod Calls
 pub mod Adapters
 -- For inside use: how contents and calls are stored.
 pub mod Stored
+-- What escaped_names defines.
+pub mod EscapedNames

@@ -14,11 +14,16 @@
 //!
 //! Memory may run out in a load, in a store, and in a put to a sink in memory. The adapters over streams take none.
 //! Nothing here recurses. What the bytes mean is for other crates.
+//!
+//! Its folders:
+//!
+//! - `escaped_names`: Names of files as lines and reports show them.
 #![tactic(auto)]
 
 mod calls;
 mod calm;
 mod disk;
+mod escaped_names;
 mod file_map;
 mod files;
 mod mem;
@@ -31,6 +36,7 @@ mod version;
 
 pub use calm::{CalmShelf, CalmSink};
 pub use disk::Disk;
+pub use escaped_names::{escaped_name, names_end_no_line, names_read_back};
 pub use files::FileShelf;
 pub use mem::{MemShelf, MemSink};
 pub use shelf::{Loads, Shelf, ShelfFault};

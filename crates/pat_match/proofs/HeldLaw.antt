@@ -16,9 +16,9 @@ use Rattle.c_terms.proofs.Induct.{tree_cases}
 use Rattle.smpl_terms.specs.declared.var.Var.{Var}
 use Rattle.smpl_terms.specs.declared.value.Value.{Value}
 use Rattle.smpl_terms.specs.Environments.{Environment}
-use Rattle.cfg_graph.specs.declared.label.NodeKind.{NodeKind}
-use Rattle.cfg_graph.specs.declared.label.NodeKind.TheVariants as kind
-use Rattle.cfg_graph.specs.Own.{is_own}
+use Rattle.cfg_build.specs.declared.cfg_graph.label.NodeKind.{NodeKind}
+use Rattle.cfg_build.specs.declared.cfg_graph.label.NodeKind.TheVariants as kind
+use Rattle.cfg_build.specs.CfgGraph.Own.{is_own}
 use Rattle.smpl_patch.specs.declared.pattern.VarDecl.{VarDecl}
 use Rattle.smpl_patch.specs.declared.pattern.PatToken.{PatToken}
 use Rattle.smpl_patch.specs.declared.pattern.Spot.{Spot}

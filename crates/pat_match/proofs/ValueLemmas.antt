@@ -18,8 +18,8 @@ use Rattle.c_terms.proofs.SameLemmas.{out-Branch}
 use Rattle.smpl_terms.specs.declared.value.Value.{Value}
 use Rattle.smpl_terms.specs.declared.value.Value.TheVariants as value
 use Rattle.smpl_terms.specs.Values.{same}
-use Rattle.cfg_graph.specs.Values.{runs_after, runs_from, runs, runs_of_shape, runs_at, terms_at, terms_in}
-use Rattle.cfg_graph.proofs.ValueLemmas.{terms-first}
+use Rattle.cfg_build.specs.CfgGraph.Values.{runs_after, runs_from, runs, runs_of_shape, runs_at, terms_at, terms_in}
+use Rattle.cfg_build.proofs.CfgGraph.ValueLemmas.{terms-first}
 use Rattle.pat_match.specs.Tokens.{id_of, first_id}
 use Rattle.pat_match.specs.Valued.{has_value}
 

@@ -7,7 +7,7 @@ use Rattle.c_terms.specs.declared.token.TokenKind.TheVariants as token_kind
 use Rattle.c_terms.specs.declared.tree.Tree.{Tree}
 use Rattle.c_terms.specs.Trees.{leaves}
 use Rattle.c_terms.specs.Places.{Place}
-use Rattle.cfg_graph.specs.declared.label.NodeLabel.{NodeLabel}
+use Rattle.cfg_build.specs.declared.cfg_graph.label.NodeLabel.{NodeLabel}
 use Rattle.smpl_terms.specs.declared.var.Var.{Var}
 use Rattle.smpl_patch.specs.declared.pattern.VarDecl.{VarDecl}
 use Rattle.smpl_patch.specs.declared.pattern.PatToken.{PatToken}

@@ -2,9 +2,9 @@
 use Rattle.std.specs.Prelude.{ℕ, Bool, true, false, ◌&&◌, not, nat_eq, List, length}
 use Rattle.c_terms.specs.declared.tree.Tree.{Tree, out-Tree}
 use Rattle.c_terms.specs.declared.tree.Tree.TheOpen.{Tree-F}
-use Rattle.cfg_graph.specs.declared.label.NodeKind.{NodeKind}
-use Rattle.cfg_graph.specs.declared.label.NodeKind.TheVariants as kind
-use Rattle.cfg_graph.specs.declared.label.NodeLabel.{NodeLabel}
+use Rattle.cfg_build.specs.declared.cfg_graph.label.NodeKind.{NodeKind}
+use Rattle.cfg_build.specs.declared.cfg_graph.label.NodeKind.TheVariants as kind
+use Rattle.cfg_build.specs.declared.cfg_graph.label.NodeLabel.{NodeLabel}
 use Rattle.smpl_patch.specs.Patterns.{is_statement_token}
 use Rattle.pat_match.specs.declared.role.NodeRole.{NodeRole}
 

@@ -10,9 +10,9 @@ use Rattle.c_terms.specs.declared.shape.Shape.TheVariants as shape
 use Rattle.c_terms.specs.Shapes.{shape_of, is_expression_part}
 use Rattle.c_terms.specs.Lists.{is_punct}
 use Rattle.c_terms.specs.Places.{Place, below, child, part_at, parts}
-use Rattle.cfg_graph.specs.declared.label.NodeKind.{NodeKind}
-use Rattle.cfg_graph.specs.declared.label.NodeKind.TheVariants as kind
-use Rattle.cfg_graph.specs.Own.{is_own}
+use Rattle.cfg_build.specs.declared.cfg_graph.label.NodeKind.{NodeKind}
+use Rattle.cfg_build.specs.declared.cfg_graph.label.NodeKind.TheVariants as kind
+use Rattle.cfg_build.specs.CfgGraph.Own.{is_own}
 use Rattle.smpl_patch.specs.declared.pattern.VarDecl.{VarDecl}
 use Rattle.smpl_patch.specs.declared.pattern.PatToken.{PatToken}
 use Rattle.smpl_patch.specs.declared.pattern.Spot.{Spot}

@@ -7,7 +7,7 @@ use Rattle.c_terms.specs.Trees.{leaves}
 use Rattle.smpl_terms.specs.declared.value.Value.{Value}
 use Rattle.smpl_terms.specs.declared.value.Value.TheVariants.{Term, Place}
 use Rattle.smpl_terms.specs.Values.{same}
-use Rattle.cfg_graph.specs.Values.{terms_in}
+use Rattle.cfg_build.specs.CfgGraph.Values.{terms_in}
 
 -- a subtree, a run of members of a list of arguments or parameters, or the place of a token
 abbrev pub has_value : Tree → Value → Bool

@@ -2,14 +2,14 @@
 ghost use Rattle.std.specs.Prelude.{◌≡◌, ◌++◌, ◌<◌, ◌^◌, IfOk, OnOk, length, slice_index_or, [], ◌∷◌, if◌then◌else◌};
 ghost use Rattle.smpl_terms.specs.Environments.{total};
 ghost use Rattle.c_terms.specs.declared.tree.Tree.{out-Tree};
-ghost use Rattle.cfg_graph.specs.Own as own;
+ghost use Rattle.cfg_build.specs.CfgGraph.Own as own;
 ghost use Rattle.pat_match.specs.Spots as at;
 ghost use Rattle.pat_match.specs.Matching as of;
 
 use crate::role::{NodeRole, may_fit, role_of};
 use crate::spots::fit_at;
 use c_terms::{Label, NoMemory, Tree, TreePath, is_expression_part};
-use cfg_graph::{NodeLabel, is_own};
+use cfg_build::{NodeLabel, is_own};
 use env_sets::denotes;
 use smpl_patch::{PatToken, Pattern, Spot, VarDecl};
 use smpl_terms::Env;

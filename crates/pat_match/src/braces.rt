@@ -6,7 +6,7 @@ ghost use Rattle.c_terms.specs.Lists as lists;
 ghost use Rattle.pat_match.specs.Spots as of;
 
 use c_terms::{Token, TokenKind, Tree, child, same_text};
-use cfg_graph::NodeKind;
+use cfg_build::NodeKind;
 
 fn is_punct(kind: TokenKind) -> bool
     ensures { result ≡ lists.is_punct kind }

@@ -5,7 +5,7 @@ ghost use Rattle.c_terms.specs.declared.tree.Tree.{out-Tree};
 ghost use Rattle.smpl_terms.specs.declared.var.Var.{Var};
 ghost use Rattle.smpl_terms.specs.Environments.{Environment};
 ghost use Rattle.env_sets.specs.Sets.{set_denotes, set_vars};
-ghost use Rattle.cfg_graph.specs.Own as own;
+ghost use Rattle.cfg_build.specs.CfgGraph.Own as own;
 ghost use Rattle.pat_match.specs.Fitting.{fits_tree};
 ghost use Rattle.pat_match.specs.Vars.{form_vars};
 ghost use Rattle.pat_match.specs.Spots.{own_parts, own_parts_from, parts_of_child};
@@ -13,7 +13,7 @@ ghost use Rattle.pat_match.specs.Spots.{own_parts, own_parts_from, parts_of_chil
 use crate::fit::fit;
 use crate::sets::{put_set, union};
 use c_terms::{Label, NoMemory, Tree, is_expression_part};
-use cfg_graph::{NodeKind, is_own};
+use cfg_build::{NodeKind, is_own};
 use env_sets::{Entry, EnvSet};
 use smpl_patch::{PatToken, VarDecl};
 use std::alloc::Global;

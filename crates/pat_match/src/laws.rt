@@ -4,7 +4,7 @@ ghost use Rattle.c_terms.specs.declared.token.Token.{Token};
 ghost use Rattle.c_terms.specs.declared.label.Label.{Label};
 ghost use Rattle.c_terms.specs.declared.list.Member.{Member};
 ghost use Rattle.c_terms.specs.declared.tree.Tree.{Tree};
-ghost use Rattle.cfg_graph.specs.declared.label.NodeKind.{NodeKind};
+ghost use Rattle.cfg_build.specs.declared.cfg_graph.label.NodeKind.{NodeKind};
 ghost use Rattle.smpl_terms.specs.declared.var.Var.{Var};
 ghost use Rattle.smpl_terms.specs.Environments.{Environment};
 ghost use Rattle.smpl_patch.specs.declared.pattern.VarDecl.{VarDecl};

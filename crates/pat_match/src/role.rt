@@ -7,7 +7,7 @@ ghost use Rattle.pat_match.specs.Roles as of;
 use crate::live::is_live_at;
 use crate::spots::is_statement_kind;
 use c_terms::Tree;
-use cfg_graph::{NodeKind, NodeLabel};
+use cfg_build::{NodeKind, NodeLabel};
 use smpl_patch::{PatToken, Pattern, VarDecl};
 
 /// What a node is for the forms that are held against it.

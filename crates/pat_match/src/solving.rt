@@ -13,7 +13,7 @@ use crate::role::{NodeRole, may_fit, role_of};
 use crate::sets::{is_none, put_set, union};
 use crate::spots::fit_at;
 use c_terms::{NoMemory, Tree};
-use cfg_graph::{NodeKind, NodeLabel};
+use cfg_build::{NodeKind, NodeLabel};
 use env_sets::EnvSet;
 use smpl_patch::{PatToken, Pattern, Spot, VarDecl};
 use std::alloc::Global;

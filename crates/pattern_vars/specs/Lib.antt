@@ -6,3 +6,5 @@ pub mod Keys
 pub mod Index
 -- and what branches have in common.
 pub mod Sure
+-- What var_places defines.
+pub mod VarPlaces

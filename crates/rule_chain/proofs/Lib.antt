@@ -3,3 +3,9 @@ pub mod StopLemmas
 pub mod StepLemmas
 pub mod CutLemmas
 pub mod OnceLemmas
+pub mod RuleWitnesses
+pub mod RuleEdits
+pub mod RuleFound
+pub mod RuleTurn
+pub mod RuleWork
+pub mod EditLaws

@@ -8,22 +8,22 @@ use Rattle.c_lexer.specs.Ids.{ids_of}
 use Rattle.c_lexer.specs.Pieces.{text_of}
 use Rattle.cpp_lines.specs.declared.reading.Item.{Item}
 use Rattle.c_file.specs.Reads.{Reads}
-use Rattle.cfg_graph.specs.declared.label.NodeKind.{NodeKind}
+use Rattle.cfg_build.specs.declared.cfg_graph.label.NodeKind.{NodeKind}
 use Rattle.smpl_patch.specs.declared.rule.Rule.{Rule}
 use Rattle.smpl_patch.specs.declared.witness.RuleWitness.{RuleWitness}
-use Rattle.edit_conflict.specs.declared.edit.Edit.{Edit}
-use Rattle.edit_conflict.specs.declared.clash.Clash.{Clash}
-use Rattle.edit_conflict.specs.Clashes.{IsFirstClash, NotAfter}
-use Rattle.edit_walk.specs.Edited.{AreEdits}
-use Rattle.rule_edits.specs.declared.fault.EditFault.{EditFault}
-use Rattle.rule_edits.specs.Kinds.{kinds_of}
-use Rattle.rule_edits.specs.Pages.{is_edited}
-use Rattle.rule_edits.specs.Faults.{AreFine, IsEditFault}
-use Rattle.rule_edits.specs.Faults.IsEditFault.{conflict, too_long}
-use Rattle.rule_work.specs.declared.fault.FileFault.{FileFault}
-use Rattle.rule_work.specs.States.{Chained, ReadsAgain, first_state, notes_from}
-use Rattle.rule_work.specs.OneRule.{edit_fault, MayRead, AreFew, RuleEdits, IsFault, Leads, worked, is_too_much, rule_found}
-use Rattle.rule_work.specs.OneRule.IsFault.{too_many_witnesses, too_many_environments, in_edits}
+use Rattle.edit_marks.specs.declared.edit_conflict.edit.Edit.{Edit}
+use Rattle.edit_marks.specs.declared.edit_conflict.clash.Clash.{Clash}
+use Rattle.edit_marks.specs.EditConflict.Clashes.{IsFirstClash, NotAfter}
+use Rattle.edit_marks.specs.EditWalk.Edited.{AreEdits}
+use Rattle.rule_chain.specs.declared.rule_edits.fault.EditFault.{EditFault}
+use Rattle.rule_chain.specs.RuleEdits.Kinds.{kinds_of}
+use Rattle.rule_chain.specs.RuleEdits.Pages.{is_edited}
+use Rattle.rule_chain.specs.RuleEdits.Faults.{AreFine, IsEditFault}
+use Rattle.rule_chain.specs.RuleEdits.Faults.IsEditFault.{conflict, too_long}
+use Rattle.rule_chain.specs.declared.rule_work.fault.FileFault.{FileFault}
+use Rattle.rule_chain.specs.RuleWork.States.{Chained, ReadsAgain, first_state, notes_from}
+use Rattle.rule_chain.specs.RuleWork.OneRule.{edit_fault, MayRead, AreFew, RuleEdits, IsFault, Leads, worked, is_too_much, rule_found}
+use Rattle.rule_chain.specs.RuleWork.OneRule.IsFault.{too_many_witnesses, too_many_environments, in_edits}
 use Rattle.rule_chain.specs.Chain.{Outcome, Refused, Runs, Chain, is_followed}
 
 -- ---- the first clash

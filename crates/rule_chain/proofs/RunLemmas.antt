@@ -7,16 +7,16 @@ use Rattle.std.specs.List.{AllZip}
 use Rattle.std.proofs.Math.Seq.{drop-cons}
 use Rattle.c_lexer.specs.Pieces.{TextPiece}
 use Rattle.c_file.specs.File.{FileItems}
-use Rattle.edit_conflict.specs.declared.edit.Edit.{Edit}
+use Rattle.edit_marks.specs.declared.edit_conflict.edit.Edit.{Edit}
 use Rattle.edit_unparse.specs.Output.{output_of}
 use Rattle.smpl_patch.specs.declared.rule.Rule.{Rule}
-use Rattle.rule_edits.specs.declared.texts.NewText.{NewText}
-use Rattle.rule_edits.specs.Pages.{Page, is_edited, old_page, page_of, page_after, IsNew}
-use Rattle.rule_work.specs.declared.fault.FileFault.{FileFault}
-use Rattle.rule_work.specs.declared.state.Findings.{Findings}
-use Rattle.rule_work.specs.States.{Chained}
-use Rattle.rule_work.specs.OneRule.{MayRead, IsFault, Leads, worked}
-use Rattle.rule_work.specs.Worked.{IsAtReading, Works}
+use Rattle.rule_chain.specs.declared.rule_edits.texts.NewText.{NewText}
+use Rattle.rule_chain.specs.RuleEdits.Pages.{Page, is_edited, old_page, page_of, page_after, IsNew}
+use Rattle.rule_chain.specs.declared.rule_work.fault.FileFault.{FileFault}
+use Rattle.rule_chain.specs.declared.rule_work.state.Findings.{Findings}
+use Rattle.rule_chain.specs.RuleWork.States.{Chained}
+use Rattle.rule_chain.specs.RuleWork.OneRule.{MayRead, IsFault, Leads, worked}
+use Rattle.rule_chain.specs.RuleWork.Worked.{IsAtReading, Works}
 use Rattle.rule_chain.specs.Chain.{Refused, Runs, is_followed}
 use Rattle.rule_chain.specs.Stops.{page_left, LeadsOn}
 

@@ -7,15 +7,15 @@ use Rattle.c_file.specs.File.{FileItems}
 use Rattle.c_file.specs.Reads.{Reads}
 use Rattle.c_lexer.specs.Lexes.{Lexes}
 use Rattle.smpl_patch.specs.declared.rule.Rule.{Rule}
-use Rattle.rule_edits.specs.declared.texts.NewText.{NewText}
-use Rattle.rule_edits.specs.Pages.{Page, page_in}
-use Rattle.rule_work.specs.declared.fault.FileFault.{FileFault}
-use Rattle.rule_work.specs.declared.fault.FileFault.TheVariants.{NoMemory}
-use Rattle.rule_work.specs.declared.state.Findings.{Findings}
-use Rattle.rule_work.specs.declared.state.SkipNote.{SkipNote}
-use Rattle.rule_work.specs.States.{Chained, IsCut, ReadsAgain, notes_from, first_state}
-use Rattle.rule_work.specs.OneRule.{MayRead}
-use Rattle.rule_work.specs.Worked.{AreFindingsOf, IsAtReading}
+use Rattle.rule_chain.specs.declared.rule_edits.texts.NewText.{NewText}
+use Rattle.rule_chain.specs.RuleEdits.Pages.{Page, page_in}
+use Rattle.rule_chain.specs.declared.rule_work.fault.FileFault.{FileFault}
+use Rattle.rule_chain.specs.declared.rule_work.fault.FileFault.TheVariants.{NoMemory}
+use Rattle.rule_chain.specs.declared.rule_work.state.Findings.{Findings}
+use Rattle.rule_chain.specs.declared.rule_work.state.SkipNote.{SkipNote}
+use Rattle.rule_chain.specs.RuleWork.States.{Chained, IsCut, ReadsAgain, notes_from, first_state}
+use Rattle.rule_chain.specs.RuleWork.OneRule.{MayRead}
+use Rattle.rule_chain.specs.RuleWork.Worked.{AreFindingsOf, IsAtReading}
 use Rattle.rule_chain.specs.declared.state.Applied.{Applied}
 use Rattle.rule_chain.specs.declared.state.Reached.{Reached}
 use Rattle.rule_chain.specs.declared.state.Step.{Step}

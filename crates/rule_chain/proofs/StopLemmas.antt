@@ -3,12 +3,12 @@ use Rattle.std.proofs.Common.{◌≡◌, ◌⊎◌, inl, inr, ℕ, Option, None,
 use Rattle.std.proofs.Common.{List, drop}
 use Rattle.c_file.specs.File.{FileItems}
 use Rattle.smpl_patch.specs.declared.rule.Rule.{Rule}
-use Rattle.rule_edits.specs.declared.texts.NewText.{NewText}
-use Rattle.rule_work.specs.declared.fault.FileFault.{FileFault}
-use Rattle.rule_work.specs.declared.fault.FileFault.TheVariants.{NoMemory}
-use Rattle.rule_work.specs.declared.state.Findings.{Findings}
-use Rattle.rule_work.specs.States.{Chained}
-use Rattle.rule_work.specs.Worked.{AreFindingsOf, IsAtReading}
+use Rattle.rule_chain.specs.declared.rule_edits.texts.NewText.{NewText}
+use Rattle.rule_chain.specs.declared.rule_work.fault.FileFault.{FileFault}
+use Rattle.rule_chain.specs.declared.rule_work.fault.FileFault.TheVariants.{NoMemory}
+use Rattle.rule_chain.specs.declared.rule_work.state.Findings.{Findings}
+use Rattle.rule_chain.specs.RuleWork.States.{Chained}
+use Rattle.rule_chain.specs.RuleWork.Worked.{AreFindingsOf, IsAtReading}
 use Rattle.rule_chain.specs.Chain.{Outcome, Refused, Runs}
 use Rattle.rule_chain.specs.Stops.{page_left, LeadsOn}
 

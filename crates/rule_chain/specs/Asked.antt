@@ -1,12 +1,12 @@
 -- What a rule must be like to be run.
 use Rattle.smpl_patch.specs.declared.rule.Rule.{Rule}
 use Rattle.ctl_formula.specs.Formulas.{plain}
-use Rattle.ctl_holds.specs.Parts.{EachPattern}
-use Rattle.ctl_holds.specs.BoundLaw.{SureStand}
+use Rattle.ctl_fixpoint.specs.CtlHolds.Parts.{EachPattern}
+use Rattle.ctl_fixpoint.specs.CtlHolds.BoundLaw.{SureStand}
 use Rattle.edit_marks.specs.Edits.{HaveEvenBlocks}
-use Rattle.rule_formulas.specs.declared.prepared.PreparedRule.{PreparedRule}
-use Rattle.rule_witnesses.specs.Jobs.{BindsExports}
-use Rattle.rule_turn.specs.Turns.{AreApart}
+use Rattle.rule_envs.specs.declared.rule_formulas.prepared.PreparedRule.{PreparedRule}
+use Rattle.rule_chain.specs.RuleWitnesses.Jobs.{BindsExports}
+use Rattle.rule_chain.specs.RuleTurn.Turns.{AreApart}
 
 -- The sure variables of its patterns stand in them, its formula binds what it exports, each exported variable stands once and
 -- none is inherited, and each line of its plus code has as many gaps as tokens.

@@ -4,3 +4,15 @@ pub mod Results
 pub mod Asked
 -- For inside use: the rules over one reading.
 pub mod Stops
+-- What rule_witnesses defines.
+pub mod RuleWitnesses
+-- What rule_edits defines.
+pub mod RuleEdits
+-- What rule_found defines.
+pub mod RuleFound
+-- What rule_turn defines.
+pub mod RuleTurn
+-- What rule_work defines.
+pub mod RuleWork
+-- What edit_laws defines.
+pub mod EditLaws

@@ -2,11 +2,11 @@
 use Rattle.std.specs.Prelude.{◌≡◌, ◌⊎◌, ℕ, List, map, Result, Ok, Err}
 use Rattle.smpl_patch.specs.declared.rule.Rule.{Rule}
 use Rattle.env_parts.specs.Parts.{bare_env}
-use Rattle.rule_witnesses.specs.Bare.{bare_witness}
+use Rattle.rule_chain.specs.RuleWitnesses.Bare.{bare_witness}
 use Rattle.rule_chain.specs.declared.state.Applied.{Applied}
-use Rattle.rule_work.specs.declared.fault.FileFault.{FileFault}
-use Rattle.rule_work.specs.declared.fault.FileFault.TheVariants.{NoMemory}
-use Rattle.rule_work.specs.States.{Chained}
+use Rattle.rule_chain.specs.declared.rule_work.fault.FileFault.{FileFault}
+use Rattle.rule_chain.specs.declared.rule_work.fault.FileFault.TheVariants.{NoMemory}
+use Rattle.rule_chain.specs.RuleWork.States.{Chained}
 use Rattle.rule_chain.specs.Chain.{Chain, Done, Refused}
 
 -- what is answered of the last state: the text, the witnesses, the skipped items and the environments

@@ -1,13 +1,13 @@
 -- What the rules over one reading lead to, and what comes next.
 use Rattle.std.specs.Prelude.{ℕ, ◌≡◌, ◌+◌, ◌<◌, ◌≤◌, ◌&&◌, Option, None, Some, is_some, List, length, drop}
 use Rattle.smpl_patch.specs.declared.rule.Rule.{Rule}
-use Rattle.rule_edits.specs.declared.texts.NewText.{NewText}
-use Rattle.rule_edits.specs.Pages.{Page, page_in}
-use Rattle.rule_work.specs.declared.state.Findings.{Findings}
-use Rattle.rule_work.specs.declared.state.SkipNote.{SkipNote}
-use Rattle.rule_work.specs.States.{Chained}
-use Rattle.rule_work.specs.OneRule.{MayRead}
-use Rattle.rule_work.specs.Worked.{AreFindingsOf, IsAtReading}
+use Rattle.rule_chain.specs.declared.rule_edits.texts.NewText.{NewText}
+use Rattle.rule_chain.specs.RuleEdits.Pages.{Page, page_in}
+use Rattle.rule_chain.specs.declared.rule_work.state.Findings.{Findings}
+use Rattle.rule_chain.specs.declared.rule_work.state.SkipNote.{SkipNote}
+use Rattle.rule_chain.specs.RuleWork.States.{Chained}
+use Rattle.rule_chain.specs.RuleWork.OneRule.{MayRead}
+use Rattle.rule_chain.specs.RuleWork.Worked.{AreFindingsOf, IsAtReading}
 use Rattle.rule_chain.specs.declared.state.Reached.{Reached}
 use Rattle.rule_chain.specs.declared.state.Step.{Step}
 use Rattle.rule_chain.specs.declared.state.Step.TheVariants.{Ended, On}

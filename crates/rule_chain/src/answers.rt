@@ -1,13 +1,13 @@
 // What is answered of the last state.
 ghost use Rattle.std.specs.Prelude.{◌≡◌, IfOk};
-ghost use Rattle.rule_work.specs.States.{Chained};
-ghost use Rattle.rule_work.specs.Worked.{AreFindingsOf};
+ghost use Rattle.rule_chain.specs.RuleWork.States.{Chained};
+ghost use Rattle.rule_chain.specs.RuleWork.Worked.{AreFindingsOf};
 ghost use Rattle.rule_chain.specs.Results.{AnswersState};
 
+use crate::rule_work::{Findings, SkipNote};
 use crate::state::Applied;
 use c_terms::NoMemory;
 use rule_envs::envs_of;
-use rule_work::{Findings, SkipNote};
 use sqlite_items::Items;
 use std::alloc::Global;
 

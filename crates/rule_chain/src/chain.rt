@@ -3,9 +3,9 @@ ghost use Rattle.std.specs.Prelude.{◌≡◌, ◌≤◌, ◌<◌, ◌+◌, ◌^
 ghost use Rattle.std.specs.List.{AllZip};
 ghost use Rattle.c_lexer.specs.Lexes.{Lexes};
 ghost use Rattle.c_file.specs.Reads.{Reads};
-ghost use Rattle.rule_formulas.specs.Prepared.{ArePrepared};
-ghost use Rattle.rule_work.specs.States.{Chained, first_state};
-ghost use Rattle.rule_work.specs.declared.fault.FileFault.TheVariants as fault;
+ghost use Rattle.rule_envs.specs.RuleFormulas.Prepared.{ArePrepared};
+ghost use Rattle.rule_chain.specs.RuleWork.States.{Chained, first_state};
+ghost use Rattle.rule_chain.specs.declared.rule_work.fault.FileFault.TheVariants as fault;
 ghost use Rattle.rule_chain.specs.Asked.{MayRun};
 ghost use Rattle.rule_chain.specs.Chain.{Runs, Done, Refused};
 ghost use Rattle.rule_chain.specs.Results.{IsResult, AnswersState};
@@ -13,15 +13,14 @@ ghost use Rattle.rule_chain.specs.Stops.{IsAt, ComesOf, Steps, IsFurther};
 
 use crate::answers::answer;
 use crate::readings::{cut, read_again, with_notes};
+use crate::rule_edits::NewText;
+use crate::rule_work::{FileFault, Findings, SkipNote};
 use crate::rules::{Stopped, over_reading};
 use crate::state::{Applied, Reached, Step};
 use c_file::read_file;
 use c_terms::{NoMemory, Text};
 use par_match::Gate;
-use rule_edits::NewText;
-use rule_envs::first_carriers;
-use rule_formulas::{Prepared, PreparedRule};
-use rule_work::{FileFault, Findings, SkipNote};
+use rule_envs::{Prepared, PreparedRule, first_carriers};
 use smpl_patch::{Patch, Rule};
 use sqlite_items::Items;
 use std::alloc::Global;
@@ -178,7 +177,7 @@ fn over_readings<R: Threads + Sync, G: Gate>(
 
 /// Applies a patch to the text of a file: its rules in order, each on the text that the one before left.
 ///
-/// `prepared` is what [`rule_formulas::prepare`] made of the patch, and `defined` are the virtual names that hold. A rule runs once
+/// `prepared` is what [`rule_envs::prepare`] made of the patch, and `defined` are the virtual names that hold. A rule runs once
 /// under each different choice of values of its inherited variables that an environment has; its witnesses extend that
 /// environment, its edits are applied all at once, and the text is read once more where it edited and another rule follows.
 /// Tokens that are kept keep their ids.
@@ -193,7 +192,7 @@ fn over_readings<R: Threads + Sync, G: Gate>(
 /// - `NoMemory`: memory was refused; or ids go beyond 2^62, a reading has more than 2^32 items, or the new text isn't cut into as
 ///   many tokens as it has ids.
 ///
-/// All but the last carry the rule's number, from 0. Costs one [`rule_work::work`] a rule, and one reading of the text at first and
+/// All but the last carry the rule's number, from 0. Costs one [`crate::rule_work::work`] a rule, and one reading of the text at first and
 /// after each rule that edits and is followed by another.
 pub fn apply<R: Threads + Sync, G: Gate>(
     rt: &R,

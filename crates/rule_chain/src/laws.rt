@@ -5,7 +5,7 @@ ghost use Rattle.rule_chain.specs.Chain.{Chain, Outcome};
 
 use c_file::read_once;
 use c_lexer::cut_once;
-use edit_walk::witnesses_have_one_list;
+use edit_marks::witnesses_have_one_list;
 
 /// The rules over a text have no two ends. Does nothing.
 pub fn chain_has_one_end()

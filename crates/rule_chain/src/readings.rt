@@ -4,15 +4,15 @@ ghost use Rattle.c_lexer.specs.Pieces.{text_of};
 ghost use Rattle.c_lexer.specs.Lexes.{Lexes, Cuts};
 ghost use Rattle.c_lexer.specs.Ids.{ids_of};
 ghost use Rattle.c_file.specs.Reads.{Reads};
-ghost use Rattle.rule_edits.specs.Pages.{page_in};
-ghost use Rattle.rule_work.specs.States.{IsCut, notes_from};
+ghost use Rattle.rule_chain.specs.RuleEdits.Pages.{page_in};
+ghost use Rattle.rule_chain.specs.RuleWork.States.{IsCut, notes_from};
 
+use crate::rule_edits::NewText;
+use crate::rule_work::SkipNote;
 use c_file::{CFile, read_file};
 use c_lexer::{LexFault, Lexed, lex};
 use c_terms::NoMemory;
 use cpp_lines::Item;
-use rule_edits::NewText;
-use rule_work::SkipNote;
 use sqlite_items::Items;
 use std::alloc::Global;
 

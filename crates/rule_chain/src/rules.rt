@@ -1,21 +1,20 @@
 // The rules over one reading of the text.
 ghost use Rattle.std.specs.Prelude.{◌≡◌, ◌<◌, ◌≤◌, ◌+◌, ◌^◌, ◌⊎◌, true, None, IfOk, IfErr, length, drop, is_some};
 ghost use Rattle.std.specs.List.{AllZip};
-ghost use Rattle.rule_formulas.specs.Prepared.{ArePrepared};
-ghost use Rattle.rule_work.specs.States.{Chained};
-ghost use Rattle.rule_work.specs.Worked.{AreFindingsOf, IsAtReading};
-ghost use Rattle.rule_work.specs.declared.fault.FileFault.TheVariants as fault;
+ghost use Rattle.rule_envs.specs.RuleFormulas.Prepared.{ArePrepared};
+ghost use Rattle.rule_chain.specs.RuleWork.States.{Chained};
+ghost use Rattle.rule_chain.specs.RuleWork.Worked.{AreFindingsOf, IsAtReading};
+ghost use Rattle.rule_chain.specs.declared.rule_work.fault.FileFault.TheVariants as fault;
 ghost use Rattle.rule_chain.specs.Asked.{MayRun};
 ghost use Rattle.rule_chain.specs.Chain.{Runs, Refused};
 ghost use Rattle.rule_chain.specs.Stops.{LeadsOn};
 
-use c_file::CFile;
+use crate::rule_edits::NewText;
+use crate::rule_work::{FileFault, Findings, Worked, work};
+use c_file::{CFile, Graphs};
 use c_terms::Text;
-use item_graphs::Graphs;
 use par_match::Gate;
-use rule_edits::NewText;
-use rule_formulas::PreparedRule;
-use rule_work::{FileFault, Findings, Worked, work};
+use rule_envs::PreparedRule;
 use smpl_patch::Rule;
 use std::alloc::Global;
 use std::thread::Threads;

@@ -1,6 +1,6 @@
 // How far the chain has come, and what it answers.
+use crate::rule_work::{Findings, SkipNote};
 use c_file::CFile;
-use rule_work::{Findings, SkipNote};
 use smpl_patch::RuleWitness;
 use smpl_terms::Env;
 use sqlite_items::Items;

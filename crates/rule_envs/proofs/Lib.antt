@@ -3,3 +3,4 @@ pub mod CarrierLemmas
 pub mod DependLemmas
 pub mod ShareLemmas
 mod Examples
+pub mod RuleFormulas

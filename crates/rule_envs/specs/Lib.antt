@@ -4,3 +4,5 @@ pub mod Inherited
 pub mod Shares
 pub mod Carriers
 pub mod Places
+-- What rule_formulas defines.
+pub mod RuleFormulas

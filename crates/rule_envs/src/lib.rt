@@ -9,6 +9,11 @@
 //!
 //! Values of two environments never come together: a projection is a part of one environment, and what is found under it
 //! extends just those that have it.
+//!
+//! Its folders:
+//!
+//! - `rule_formulas`: What the rules of a patch are run by: the formula of each, and the variables that it takes from
+//!   earlier rules.
 #![tactic(auto)]
 
 mod carrier;
@@ -18,6 +23,7 @@ mod fault;
 mod inherited;
 mod laws;
 mod next;
+mod rule_formulas;
 mod shares;
 
 pub use carrier::{Carrier, envs_of, first_carriers};
@@ -27,4 +33,5 @@ pub use fault::EnvsFault;
 pub use inherited::inherited_of;
 pub use laws::ids_do_not_count;
 pub use next::next_carriers;
+pub use rule_formulas::{Prepared, PreparedRule, exported_variables_are_bound, prepare};
 pub use shares::{Projected, projections};

@@ -8,8 +8,8 @@ use Rattle.smpl_patch.specs.Bodies.{Element, Compound, Block, Gap, Nest, AnyOf, 
 use Rattle.smpl_patch.specs.Bodies as bodies
 use Rattle.smpl_patch.specs.Shapes.{option_patterns, patterns_element, patterns_body, patterns_bodies}
 use Rattle.ctl_formula.specs.Plain.{Plain, Atom, BraceOpen, BraceClose, Not, And, Or}
-use Rattle.ctl_holds.specs.Parts.{EachPattern}
-use Rattle.var_places.specs.Placing.{Reading, occurs_element, occurs_body, at_suffix, is_alone}
+use Rattle.ctl_fixpoint.specs.CtlHolds.Parts.{EachPattern}
+use Rattle.pattern_vars.specs.VarPlaces.Placing.{Reading, occurs_element, occurs_body, at_suffix, is_alone}
 use Rattle.ctl_table.specs.Table.{Setting, Follow, Start, Nothing, Brace, Dots, Other, nothing, start_of, first_of, in_scope}
 use Rattle.ctl_table.specs.Table.{exists_all}
 use Rattle.ctl_table.specs.Table.{and_all, or_all, all_of, any_of, or_some, option_list, nots, hidden, own, copy, near}

@@ -9,3 +9,6 @@ pub mod RightLemmas
 pub mod BindLemmas
 pub mod PreparedLemmas
 pub mod ReadyLemmas
+pub mod IsoFormulas
+pub mod ChainLaws
+pub mod FormLaws

@@ -5,7 +5,7 @@ use Rattle.ctl_translate.specs.Answers.{IsFaultOf}
 use Rattle.ctl_translate.specs.declared.rule.FormulaFault.{FormulaFault}
 use Rattle.ctl_translate.specs.declared.rule.FormulaFault.TheVariants as fault
 use Rattle.std.specs.List.{AllByRecursion}
-use Rattle.rule_formulas.specs.Prepared.{IsPrepareFault}
+use Rattle.rule_envs.specs.RuleFormulas.Prepared.{IsPrepareFault}
 use Rattle.rule_laws.proofs.RightLemmas.{IsRight}
 
 no-other : (r : Rule) (f : FormulaFault) → IsRight r → IsFaultOf r f → f ≡ fault.NoMemory

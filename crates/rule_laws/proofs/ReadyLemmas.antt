@@ -11,12 +11,12 @@ use Rattle.smpl_patch.specs.Patterns.{sure}
 use Rattle.ctl_formula.specs.Plain.{Plain}
 use Rattle.ctl_formula.specs.Bounds.{bound}
 use Rattle.ctl_formula.specs.Formulas.{FormulaOf, plain}
-use Rattle.ctl_holds.specs.Parts.{EachPattern}
-use Rattle.ctl_holds.specs.BoundLaw.{SureStand}
+use Rattle.ctl_fixpoint.specs.CtlHolds.Parts.{EachPattern}
+use Rattle.ctl_fixpoint.specs.CtlHolds.BoundLaw.{SureStand}
 use Rattle.ctl_translate.specs.Rules.{formula_of}
 use Rattle.ctl_translate.specs.Answers.{IsFormulaOf}
-use Rattle.smpl_formed.specs.Bodies.{AllStand}
-use Rattle.smpl_sound.specs.Parts.{EachHas}
+use Rattle.sound_laws.specs.SmplFormed.Bodies.{AllStand}
+use Rattle.sound_laws.specs.SmplSound.Parts.{EachHas}
 use Rattle.rule_laws.specs.Ready.{IsReady}
 use Rattle.rule_laws.proofs.RuleLemmas.{rule-has}
 use Rattle.rule_laws.proofs.ApartLemmas.{Apart}

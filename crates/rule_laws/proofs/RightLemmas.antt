@@ -7,7 +7,7 @@ use Rattle.smpl_patch.specs.declared.fault.PatchFault.TheVariants as fault
 use Rattle.smpl_patch.specs.declared.rule.Rule.{Rule}
 use Rattle.ctl_formula.specs.Plain.{fits}
 use Rattle.ctl_translate.specs.Rules.{formula_of, is_unbound, first_unbound, first_unbound_from}
-use Rattle.smpl_check.specs.Checks.{is_unbound_in_plus, fault_of_var, or_later, fault_of_vars, fault_of_rule, fault_from}
+use Rattle.smpl_file.specs.SmplCheck.Checks.{is_unbound_in_plus, fault_of_var, or_later, fault_of_vars, fault_of_rule, fault_from}
 
 first-none : (o p : Option PatchFault) → or_later o p ≡ None → o ≡ None
 first-none None p e = refl

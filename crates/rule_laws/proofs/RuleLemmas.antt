@@ -6,8 +6,8 @@ use Rattle.smpl_patch.specs.declared.pattern.Pattern.{Pattern}
 use Rattle.smpl_patch.specs.declared.rule.Rule.{Rule}
 use Rattle.smpl_patch.specs.Bodies.{body}
 use Rattle.smpl_patch.specs.Shapes.{patterns_body}
-use Rattle.ctl_holds.specs.Parts.{EachPattern}
-use Rattle.ctl_holds.specs.BoundLaw.{SureStand}
+use Rattle.ctl_fixpoint.specs.CtlHolds.Parts.{EachPattern}
+use Rattle.ctl_fixpoint.specs.CtlHolds.BoundLaw.{SureStand}
 use Rattle.ctl_translate.specs.Rules.{reading, ranges_over_all, locals, formula_of}
 use Rattle.rule_laws.proofs.FormulaLemmas.{has-formula}
 

@@ -1,2 +1,8 @@
 -- What the laws rest on: what the calls that run a rule ask of it.
 pub mod Ready
+-- What iso_formulas defines.
+pub mod IsoFormulas
+-- What chain_laws defines.
+pub mod ChainLaws
+-- What form_laws defines.
+pub mod FormLaws

@@ -5,11 +5,11 @@ use Rattle.smpl_patch.specs.declared.rule.Rule.{Rule}
 use Rattle.smpl_patch.specs.Patterns.{sure}
 use Rattle.ctl_formula.specs.Bounds.{bound}
 use Rattle.ctl_translate.specs.Rules.{formula_of}
-use Rattle.ctl_holds.specs.Parts.{EachPattern}
-use Rattle.ctl_holds.specs.BoundLaw.{SureStand}
+use Rattle.ctl_fixpoint.specs.CtlHolds.Parts.{EachPattern}
+use Rattle.ctl_fixpoint.specs.CtlHolds.BoundLaw.{SureStand}
 use Rattle.edit_marks.specs.Edits.{HaveEvenBlocks}
 use Rattle.rule_envs.specs.Inherited.{inherited_of}
-use Rattle.rule_turn.specs.Turns.{AreApart}
+use Rattle.rule_chain.specs.RuleTurn.Turns.{AreApart}
 
 pub record IsReady (rule : Rule) : Type 0 where
   -- in each pattern of its formula the sure variables stand

@@ -7,26 +7,25 @@ ghost use Rattle.smpl_patch.specs.Bodies.{body as plain_body};
 ghost use Rattle.smpl_patch.specs.Shapes.{patterns_body};
 ghost use Rattle.smpl_patch.specs.Patterns.{sure};
 ghost use Rattle.smpl_patch.specs.Sound.{IsSound};
-ghost use Rattle.smpl_check.specs.Checks.{first_fault};
+ghost use Rattle.smpl_file.specs.SmplCheck.Checks.{first_fault};
 ghost use Rattle.smpl_file.specs.Patches.{IsSpelled, IsPatchOf};
 ghost use Rattle.ctl_formula.specs.Plain.{fits};
 ghost use Rattle.ctl_formula.specs.Bounds.{bound};
 ghost use Rattle.ctl_formula.specs.Formulas.{FormulaOf, plain};
-ghost use Rattle.ctl_holds.specs.Parts.{EachPattern};
-ghost use Rattle.ctl_holds.specs.BoundLaw.{SureStand};
+ghost use Rattle.ctl_fixpoint.specs.CtlHolds.Parts.{EachPattern};
+ghost use Rattle.ctl_fixpoint.specs.CtlHolds.BoundLaw.{SureStand};
 ghost use Rattle.ctl_translate.specs.Rules.{formula_of, first_unbound};
 ghost use Rattle.ctl_translate.specs.Answers.{IsFormulaOf};
 ghost use Rattle.ctl_translate.specs.declared.rule.FormulaFault.{FormulaFault as Fault};
 ghost use Rattle.ctl_translate.specs.declared.rule.FormulaFault.TheVariants as fault;
 ghost use Rattle.edit_marks.specs.Edits.{HaveEvenBlocks};
 ghost use Rattle.rule_envs.specs.Inherited.{inherited_of};
-ghost use Rattle.rule_formulas.specs.Prepared.{IsPrepareFault};
-ghost use Rattle.rule_turn.specs.Turns.{AreApart};
+ghost use Rattle.rule_envs.specs.RuleFormulas.Prepared.{IsPrepareFault};
+ghost use Rattle.rule_chain.specs.RuleTurn.Turns.{AreApart};
 ghost use Rattle.rule_laws.specs.Ready.{IsReady};
 
-use rule_formulas::exported_variables_are_bound;
-use smpl_all_sound::spelled_patches_are_sound;
-use smpl_sound::patches_are_sound;
+use rule_envs::exported_variables_are_bound;
+use sound_laws::{patches_are_sound, spelled_patches_are_sound};
 
 /// What the patterns of a rule's formula are.
 ///

@@ -8,10 +8,22 @@
 //! - [`rules_may_run`]: all that of each rule of a patch that is read.
 //!
 //! The functions do nothing.
+//!
+//! Its folders:
+//!
+//! - `iso_formulas`: The formulas of rules whose patterns have all their forms under isomorphisms.
+//! - `chain_laws`: Laws of the chain for patches that are read: what `apply` asks of each rule, each rule has.
+//! - `form_laws`: Laws of the chain for patches whose patterns have all their forms under isomorphisms.
 #![tactic(auto)]
 
+mod chain_laws;
+mod form_laws;
+mod iso_formulas;
 mod laws;
 
+pub use chain_laws::rules_that_are_read_may_run;
+pub use form_laws::rules_with_forms_may_run;
+pub use iso_formulas::{accepted_patches_stay_accepted, formulas_keep_their_shape};
 pub use laws::{
     exports_are_apart, exports_are_bound, formulas_have_patterns_of_their_bodies,
     plus_blocks_are_even, rules_have_formulas, rules_may_run,

@@ -1,6 +1,6 @@
 -- The lines on the error output.
 use Rattle.std.specs.Prelude.{ℕ, List, ◌++◌, codes}
-use Rattle.escaped_names.specs.Escapes.{escaped_name}
+use Rattle.outer_io.specs.EscapedNames.Escapes.{escaped_name}
 
 -- a line about a file or a patch, by its name, in which no byte of the name ends the line
 abbrev pub line_of : List ℕ → List ℕ → List ℕ

@@ -16,8 +16,6 @@
 mod lines;
 mod outside;
 mod status;
-#[cfg(test)]
-mod tests;
 
 pub use lines::{cannot_print, cannot_read, cannot_write, line_of};
 pub use outside::{Loaded, load, print, report, store};

@@ -3,7 +3,7 @@ ghost use Rattle.std.specs.Prelude.{◌≡◌, IfOk};
 ghost use Rattle.run_acts.specs.Lines.{line_of, cannot_read, cannot_write, cannot_print};
 
 use c_terms::NoMemory;
-use escaped_names::escaped_name;
+use outer_io::escaped_name;
 use std::alloc::Global;
 
 const CANNOT_PRINT: &str = "spatch: cannot print\n";

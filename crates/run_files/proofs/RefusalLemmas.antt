@@ -1,16 +1,16 @@
 -- No text is refused for want of memory.
 use Rattle.std.proofs.Common.{◌≡◌, ℕ, suc, List, [], ◌∷◌, inl, inr}
 use Rattle.c_lexer.specs.Pieces.{TextPiece}
-use Rattle.edit_conflict.specs.declared.edit.Edit.{Edit}
+use Rattle.edit_marks.specs.declared.edit_conflict.edit.Edit.{Edit}
 use Rattle.smpl_patch.specs.declared.rule.Rule.{Rule}
-use Rattle.rule_edits.specs.declared.fault.EditFault.{EditFault}
-use Rattle.rule_edits.specs.Faults.{IsEditFault}
-use Rattle.rule_edits.specs.Faults.IsEditFault.{conflict, too_long}
-use Rattle.rule_work.specs.declared.fault.FileFault.{FileFault}
-use Rattle.rule_work.specs.declared.fault.FileFault.TheVariants.{NoMemory}
-use Rattle.rule_work.specs.States.{Chained}
-use Rattle.rule_work.specs.OneRule.{IsFault, edit_fault}
-use Rattle.rule_work.specs.OneRule.IsFault.{too_many_witnesses, too_many_environments, in_edits}
+use Rattle.rule_chain.specs.declared.rule_edits.fault.EditFault.{EditFault}
+use Rattle.rule_chain.specs.RuleEdits.Faults.{IsEditFault}
+use Rattle.rule_chain.specs.RuleEdits.Faults.IsEditFault.{conflict, too_long}
+use Rattle.rule_chain.specs.declared.rule_work.fault.FileFault.{FileFault}
+use Rattle.rule_chain.specs.declared.rule_work.fault.FileFault.TheVariants.{NoMemory}
+use Rattle.rule_chain.specs.RuleWork.States.{Chained}
+use Rattle.rule_chain.specs.RuleWork.OneRule.{IsFault, edit_fault}
+use Rattle.rule_chain.specs.RuleWork.OneRule.IsFault.{too_many_witnesses, too_many_environments, in_edits}
 use Rattle.rule_chain.specs.Chain.{Refused, Runs}
 
 edits_say_why : (number next : ℕ) (pieces : List TextPiece) (edits : List Edit) (fault : EditFault) → IsEditFault next pieces edits fault

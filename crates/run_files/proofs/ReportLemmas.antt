@@ -9,7 +9,7 @@ use Rattle.c_terms.specs.Bare.{bare}
 use Rattle.c_terms.specs.declared.tree.Tree.{Tree}
 use Rattle.c_terms.proofs.BareLaws.{bare-Leaf, bare-Branch}
 use Rattle.c_terms.proofs.Induct as terms
-use Rattle.escaped_names.specs.Escapes.{escaped_name}
+use Rattle.outer_io.specs.EscapedNames.Escapes.{escaped_name}
 use Rattle.c_show.specs.declared.page.Role.TheVariants.{Plain}
 use Rattle.c_show.specs.Show.{shown, shown_kids, joined}
 use Rattle.c_show.proofs.Pages.{shown-Leaf, shown-Branch}
@@ -24,14 +24,14 @@ use Rattle.smpl_patch.specs.declared.witness.Witness.{Witness}
 use Rattle.smpl_patch.specs.declared.witness.Witness.TheVariants.{Touch, Bind, rolls-Touch, rolls-Bind}
 use Rattle.smpl_patch.specs.declared.witness.Witness.TheFolds.{fold-roll-Witness}
 use Rattle.smpl_patch.specs.declared.witness.RuleWitness.{RuleWitness}
-use Rattle.wit_order.proofs.Induct.{Each, witness_induction}
+use Rattle.wit_forest.proofs.WitOrder.Induct.{Each, witness_induction}
 use Rattle.env_parts.specs.Parts.{Pairs, bare_value, bare_env}
 use Rattle.env_parts.proofs.PartLemmas.{value_in-bare}
-use Rattle.rule_witnesses.specs.Bare.{bare_tree, bare_step, bare_witness}
+use Rattle.rule_chain.specs.RuleWitnesses.Bare.{bare_tree, bare_step, bare_witness}
 use Rattle.wit_print.specs.Report.{line, value_text, tree_lines, is_reported, reported_name, let_text, let_lines, witness_lines}
 use Rattle.wit_print.specs.Report.{shown_name, rule_lines, rules_lines, report_of}
 use Rattle.wit_print.proofs.Lines.{bind_lines}
-use Rattle.run_lines.specs.Summary as sums
+use Rattle.run_files.specs.RunLines.Summary as sums
 
 -- ---- terms
 

@@ -9,16 +9,16 @@ use Rattle.smpl_patch.specs.declared.rule.Rule.{Rule}
 use Rattle.smpl_patch.specs.declared.rule.Patch.{Patch}
 use Rattle.smpl_patch.specs.declared.witness.RuleWitness.{RuleWitness}
 use Rattle.wit_print.specs.Report.{report_of}
-use Rattle.rule_work.specs.declared.state.SkipNote.{SkipNote}
-use Rattle.rule_work.specs.declared.fault.FileFault.{FileFault}
-use Rattle.rule_work.specs.declared.fault.FileFault.TheVariants.{NoMemory}
-use Rattle.rule_work.specs.States.{Chained}
+use Rattle.rule_chain.specs.declared.rule_work.state.SkipNote.{SkipNote}
+use Rattle.rule_chain.specs.declared.rule_work.fault.FileFault.{FileFault}
+use Rattle.rule_chain.specs.declared.rule_work.fault.FileFault.TheVariants.{NoMemory}
+use Rattle.rule_chain.specs.RuleWork.States.{Chained}
 use Rattle.rule_chain.specs.declared.state.Applied.{Applied}
 use Rattle.rule_chain.specs.Chain.{Chain, Done, Refused}
 use Rattle.rule_chain.specs.Results.{AnswersState, IsResult}
 use Rattle.run_words.specs.declared.order.Mode.{Mode}
-use Rattle.run_lines.specs.Files.{refused_line, skipped_line}
-use Rattle.run_lines.specs.Summary.{summary, rule_lines}
+use Rattle.run_files.specs.RunLines.Files.{refused_line, skipped_line}
+use Rattle.run_files.specs.RunLines.Summary.{summary, rule_lines}
 use Rattle.run_files.specs.Treatment.{refuses, printing, shown, kept, skipped_lines, treated_by, summed_by, Treats, Sums}
 use Rattle.run_files.specs.Does.{Does, Stops}
 use Rattle.run_files.specs.Cuts.{TreatsAll, TreatsPart}

@@ -3,15 +3,15 @@ use Rattle.std.specs.Prelude.{ℕ, ◌≡◌, ◌<◌, ◌^◌, List, [], ◌∷
 use Rattle.std.specs.List.{AllZip}
 use Rattle.run_acts.specs.Acts.{Report, Told}
 use Rattle.smpl_patch.specs.declared.rule.Patch.{Patch}
-use Rattle.rule_formulas.specs.declared.prepared.Prepared.{Prepared}
-use Rattle.rule_formulas.specs.Prepared.{ArePrepared}
-use Rattle.rule_work.specs.declared.fault.FileFault.{FileFault}
-use Rattle.rule_work.specs.States.{Chained}
+use Rattle.rule_envs.specs.declared.rule_formulas.prepared.Prepared.{Prepared}
+use Rattle.rule_envs.specs.RuleFormulas.Prepared.{ArePrepared}
+use Rattle.rule_chain.specs.declared.rule_work.fault.FileFault.{FileFault}
+use Rattle.rule_chain.specs.RuleWork.States.{Chained}
 use Rattle.rule_chain.specs.declared.state.Applied.{Applied}
 use Rattle.rule_chain.specs.Asked.{MayRun}
 use Rattle.rule_chain.specs.Chain.{Chain, Done, Refused}
 use Rattle.rule_chain.specs.Results.{AnswersState}
-use Rattle.run_lines.specs.Files.{refused_line}
+use Rattle.run_files.specs.RunLines.Files.{refused_line}
 use Rattle.run_files.specs.Treatment.{Treated, refuses}
 use Rattle.run_files.specs.Does.{Does}
 

@@ -5,3 +5,7 @@ pub mod Does
 pub mod Cuts
 -- What the rules of a patch must be like to be run, and, for inside use, what they make of the bytes of a file.
 pub mod Applies
+-- What run_lines defines.
+pub mod RunLines
+-- What run_stages defines.
+pub mod RunStages

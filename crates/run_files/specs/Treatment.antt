@@ -4,11 +4,11 @@ use Rattle.c_terms.specs.Same.{same_bytes}
 use Rattle.outer_io.specs.Files.{Files}
 use Rattle.run_acts.specs.Acts.{Act, Store, Print, Report}
 use Rattle.run_words.specs.declared.order.Mode.{Mode}
-use Rattle.run_lines.specs.Files.{too_long_line, special_line, refused_line, skipped_line}
-use Rattle.run_lines.specs.Summary.{summary}
+use Rattle.run_files.specs.RunLines.Files.{too_long_line, special_line, refused_line, skipped_line}
+use Rattle.run_files.specs.RunLines.Summary.{summary}
 use Rattle.smpl_patch.specs.declared.rule.Patch.{Patch}
 use Rattle.wit_print.specs.Report.{report_of}
-use Rattle.rule_work.specs.States.{Chained}
+use Rattle.rule_chain.specs.RuleWork.States.{Chained}
 use Rattle.rule_chain.specs.Chain.{Chain, Outcome, Done, Refused}
 
 -- a file is read up to this many bytes

@@ -4,15 +4,15 @@ ghost use Rattle.outer_io.specs.Files.{Files};
 ghost use Rattle.run_acts.specs.Acts.{Report, told};
 ghost use Rattle.run_acts.specs.Breaks.{counts};
 ghost use Rattle.run_acts.specs.Statuses.{status_of};
-ghost use Rattle.run_lines.specs.Files as lines;
+ghost use Rattle.run_files.specs.RunLines.Files as lines;
 ghost use Rattle.run_files.specs.Treatment.{printing, storing};
 ghost use Rattle.run_files.specs.Does.{Does, Stops};
 
+use crate::run_lines::{refused_line, skipped_line, special_line, too_long_line};
 use c_terms::same_text;
 use outer_io::{Shelf, Sink};
-use rule_work::{FileFault, SkipNote};
+use rule_chain::{FileFault, SkipNote};
 use run_acts::{Stopped, print, report, store};
-use run_lines::{refused_line, skipped_line, special_line, too_long_line};
 use std::alloc::Global;
 
 /// Reports each skipped item.

@@ -8,3 +8,4 @@ pub mod Numbers
 pub mod Names
 pub mod Ordered
 pub mod Examples
+pub mod JobLaws

@@ -8,3 +8,5 @@ pub mod Orders
 pub mod Shown
 -- For inside use: the command as clap knows it.
 pub mod Commands
+-- What job_laws defines.
+pub mod JobLaws

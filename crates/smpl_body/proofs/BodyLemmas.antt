@@ -7,8 +7,8 @@ use Rattle.c_terms.specs.Trees.{join}
 use Rattle.smpl_patch.specs.declared.fault.PatchFault.TheVariants.{BadPattern, DotsAtEdge}
 use Rattle.smpl_patch.specs.Faults.{earlier, first_from, first_of}
 use Rattle.smpl_meta.specs.declared.patterns.Placed.{Placed}
-use Rattle.smpl_when.specs.declared.cutting.Cutting.{Cutting}
-use Rattle.smpl_when.specs.Cutting.{cut}
+use Rattle.smpl_body.specs.declared.smpl_when.cutting.Cutting.{Cutting}
+use Rattle.smpl_body.specs.SmplWhen.Cutting.{cut}
 use Rattle.smpl_body.specs.Deep.{deep_fault}
 use Rattle.smpl_body.specs.Spelled.{body_forms}
 use Rattle.smpl_body.specs.DotsOf.{edges}

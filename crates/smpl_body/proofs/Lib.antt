@@ -8,3 +8,5 @@ pub mod DeepLemmas
 pub mod NumberLemmas
 mod Examples
 mod WholeExamples
+pub mod SmplWhen
+pub mod SmplElem

@@ -15,11 +15,11 @@ use Rattle.smpl_patch.specs.declared.elem.Elem.{Elem}
 use Rattle.smpl_patch.specs.declared.elem.Elem.TheVariants as elem
 use Rattle.smpl_patch.specs.Bodies.{element, body}
 use Rattle.smpl_patch.proofs.BodyLemmas.{bodies, element-Atom, element-Compound, element-Block, element-Gap, element-Nest, element-AnyOf, element-AllOf}
-use Rattle.smpl_elem.specs.declared.form.Form.{Form}
-use Rattle.smpl_elem.specs.declared.form.Form.TheVariants as form
-use Rattle.smpl_elem.specs.Forms.{form_at, kids, label_at, is_part, first_kid, last_kid, id_at, is_more, masked}
-use Rattle.smpl_elem.specs.Elements.{Part, part, row, picked, total, seqs, pattern}
-use Rattle.smpl_elem.proofs.PartLemmas.{parts, part-row, kids-Leaf, kids-Branch}
+use Rattle.smpl_body.specs.declared.smpl_elem.form.Form.{Form}
+use Rattle.smpl_body.specs.declared.smpl_elem.form.Form.TheVariants as form
+use Rattle.smpl_body.specs.SmplElem.Forms.{form_at, kids, label_at, is_part, first_kid, last_kid, id_at, is_more, masked}
+use Rattle.smpl_body.specs.SmplElem.Elements.{Part, part, row, picked, total, seqs, pattern}
+use Rattle.smpl_body.proofs.SmplElem.PartLemmas.{parts, part-row, kids-Leaf, kids-Branch}
 use Rattle.smpl_body.specs.Numbered.{element_numbers, numbers, each_numbers, numbers_from}
 
 -- ---- numbers, one after another

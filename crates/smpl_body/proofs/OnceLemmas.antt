@@ -8,7 +8,7 @@ use Rattle.c_rows.specs.declared.kind.Kind.TheVariants as kind
 use Rattle.c_rows.specs.declared.kind.Kind.{Kind}
 use Rattle.c_rows.specs.Look.{Names}
 use Rattle.c_rows.specs.Trees.{IsTreeOf, stands_alone}
-use Rattle.smpl_when.specs.declared.cutting.Code.{Code}
+use Rattle.smpl_body.specs.declared.smpl_when.cutting.Code.{Code}
 use Rattle.smpl_body.specs.declared.reading.Form.{Form}
 use Rattle.smpl_body.specs.declared.reading.Form.TheVariants as form
 use Rattle.smpl_body.specs.Spelled.{IsTree, IsFirst, IsRead, AreRead, code_forms}

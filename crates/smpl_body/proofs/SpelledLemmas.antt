@@ -4,9 +4,9 @@ use Rattle.std.proofs.lemmas.List.{append-nil}
 use Rattle.std.proofs.lemmas.Bool.{false≢true}
 use Rattle.c_terms.specs.declared.tree.Tree.{Tree}
 use Rattle.smpl_meta.specs.declared.patterns.Placed.{Placed}
-use Rattle.smpl_when.specs.declared.cutting.Code.{Code}
-use Rattle.smpl_when.specs.declared.cutting.Cutting.{Cutting}
-use Rattle.smpl_when.specs.Cutting.{cut}
+use Rattle.smpl_body.specs.declared.smpl_when.cutting.Code.{Code}
+use Rattle.smpl_body.specs.declared.smpl_when.cutting.Cutting.{Cutting}
+use Rattle.smpl_body.specs.SmplWhen.Cutting.{cut}
 use Rattle.smpl_body.specs.Spelled.{body_forms, code_forms, IsRead, AreRead}
 use Rattle.smpl_body.specs.Bodies.{Spells, fits}
 use Rattle.smpl_body.specs.SoFar.{WithCodes, AllSpell}

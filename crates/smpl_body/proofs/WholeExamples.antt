@@ -21,9 +21,9 @@ use Rattle.smpl_patch.specs.declared.elem.Elem.{Elem}
 use Rattle.smpl_patch.specs.declared.elem.Elem.TheVariants as elem
 use Rattle.smpl_patch.specs.declared.fault.PatchFault.TheVariants.{DotsAtEdge}
 use Rattle.smpl_meta.specs.declared.patterns.Placed.{Placed}
-use Rattle.smpl_when.specs.Cutting.{cut}
-use Rattle.smpl_elem.specs.Elements.{atoms, elements, pattern}
-use Rattle.smpl_elem.proofs.CountLemmas.{elements-row}
+use Rattle.smpl_body.specs.SmplWhen.Cutting.{cut}
+use Rattle.smpl_body.specs.SmplElem.Elements.{atoms, elements, pattern}
+use Rattle.smpl_body.proofs.SmplElem.CountLemmas.{elements-row}
 use Rattle.smpl_body.specs.declared.reading.Form.TheVariants as form
 use Rattle.smpl_body.specs.Spelled.{IsTree, NoTree}
 use Rattle.smpl_body.specs.Bodies.{Spells, body_dots, starts_from, IsBody, IsBodyFault, misplaced}

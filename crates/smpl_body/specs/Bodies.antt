@@ -13,11 +13,11 @@ use Rattle.smpl_patch.specs.declared.fault.PatchFault.{PatchFault}
 use Rattle.smpl_patch.specs.declared.fault.PatchFault.TheVariants.{BadPattern, DotsAtEdge, MinusDots}
 use Rattle.smpl_patch.specs.Faults.{first_of}
 use Rattle.smpl_meta.specs.declared.patterns.Placed.{Placed}
-use Rattle.smpl_when.specs.declared.clauses.Said.{Said}
-use Rattle.smpl_when.specs.declared.cutting.Code.{Code}
-use Rattle.smpl_when.specs.declared.cutting.Cutting.{Cutting}
-use Rattle.smpl_when.specs.Cutting.{cut}
-use Rattle.smpl_elem.specs.Elements.{atoms, elements}
+use Rattle.smpl_body.specs.declared.smpl_when.clauses.Said.{Said}
+use Rattle.smpl_body.specs.declared.smpl_when.cutting.Code.{Code}
+use Rattle.smpl_body.specs.declared.smpl_when.cutting.Cutting.{Cutting}
+use Rattle.smpl_body.specs.SmplWhen.Cutting.{cut}
+use Rattle.smpl_body.specs.SmplElem.Elements.{atoms, elements}
 use Rattle.smpl_body.specs.Deep.{deep_fault}
 use Rattle.smpl_body.specs.Spelled.{body_forms, IsRead, AreRead}
 use Rattle.smpl_body.specs.DotsOf.{list_dots, statement_dots, edges}

@@ -7,3 +7,7 @@ pub mod Bodies
 pub mod Numbered
 -- For inside use: what is kept while trees are read.
 pub mod SoFar
+-- What smpl_when defines.
+pub mod SmplWhen
+-- What smpl_elem defines.
+pub mod SmplElem

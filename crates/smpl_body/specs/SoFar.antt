@@ -2,10 +2,10 @@
 use Rattle.std.specs.Prelude.{◌≡◌, ⊤, List, [], ◌∷◌, ◌++◌}
 use Rattle.c_terms.specs.declared.tree.Tree.{Tree}
 use Rattle.smpl_meta.specs.declared.patterns.Placed.{Placed}
-use Rattle.smpl_when.specs.declared.cutting.Code.{Code}
+use Rattle.smpl_body.specs.declared.smpl_when.cutting.Code.{Code}
 use Rattle.smpl_body.specs.Spelled.{AreRead}
 use Rattle.smpl_patch.specs.declared.elem.Elem.{Elem}
-use Rattle.smpl_when.specs.declared.clauses.Said.{Said}
+use Rattle.smpl_body.specs.declared.smpl_when.clauses.Said.{Said}
 use Rattle.smpl_body.specs.Bodies.{Spells, body_elements}
 
 -- behind the trees before stand those of the codes

@@ -10,7 +10,7 @@ use Rattle.c_rows.specs.declared.kind.Kind.TheVariants as kind
 use Rattle.c_rows.specs.Trees.{IsTreeOf}
 use Rattle.c_rows.specs.Depth.{opens_of}
 use Rattle.c_rows.specs.Limits.{most_open}
-use Rattle.smpl_when.specs.declared.cutting.Code.{Code}
+use Rattle.smpl_body.specs.declared.smpl_when.cutting.Code.{Code}
 use Rattle.smpl_body.specs.declared.reading.Form.{Form}
 use Rattle.smpl_body.specs.declared.reading.Form.TheVariants as form
 

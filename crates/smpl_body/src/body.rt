@@ -8,12 +8,12 @@ ghost use Rattle.smpl_body.specs.SoFar.{IsMade};
 use crate::clauses::{BodyDots, starts_from};
 use crate::deep::deep_fault;
 use crate::faults::tree_fault;
+use crate::smpl_elem::{count_atoms, elements};
+use crate::smpl_when::{Clauses, cut};
 use crate::spelled::spelled;
 use c_terms::{NoMemory, Tree};
-use smpl_elem::{count_atoms, elements};
 use smpl_meta::Placed;
 use smpl_patch::{Elem, PatchFault};
-use smpl_when::{Clauses, cut};
 use sqlite_items::Items;
 use std::alloc::Global;
 

@@ -1,13 +1,13 @@
 // What the clauses of dots say, with their code as elements.
 ghost use Rattle.std.specs.Prelude.{◌≡◌, ◌++◌, ◌+◌, slice_get, IfOk, IfSome};
 ghost use Rattle.std.specs.Option.{option_copied};
-ghost use Rattle.smpl_elem.specs.Elements.{atoms};
+ghost use Rattle.smpl_body.specs.SmplElem.Elements.{atoms};
 ghost use Rattle.smpl_body.specs.Bodies as told;
 
+use crate::smpl_elem::{DotsSource, count_atoms, elements};
+use crate::smpl_when::{Clauses, Said};
 use c_terms::{NoMemory, Tree};
-use smpl_elem::{DotsSource, count_atoms, elements};
 use smpl_patch::{Dots, Elem};
-use smpl_when::{Clauses, Said};
 use sqlite_items::{Items, at};
 use std::alloc::Global;
 

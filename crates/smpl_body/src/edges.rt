@@ -5,8 +5,8 @@ ghost use Rattle.smpl_body.specs.Bodies.{nested_host, nested_hosts};
 ghost use Rattle.smpl_body.specs.DotsOf as told;
 
 use crate::dots::is_dots;
+use crate::smpl_when::Code;
 use c_terms::{Label, NoMemory, Tree};
-use smpl_when::Code;
 use sqlite_items::Items;
 use std::alloc::Global;
 

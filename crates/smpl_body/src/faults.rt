@@ -7,10 +7,10 @@ ghost use Rattle.smpl_body.specs.Bodies as told;
 use crate::dots::statement_dots;
 use crate::edges::all_edges;
 use crate::fits::is_pat;
+use crate::smpl_when::Cutting;
 use c_terms::{NoMemory, Tree};
 use smpl_meta::Placed;
 use smpl_patch::{PatchFault, earlier};
-use smpl_when::Cutting;
 use sqlite_items::at;
 use std::alloc::Global;
 

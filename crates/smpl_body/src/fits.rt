@@ -4,9 +4,9 @@ ghost use Rattle.std.specs.Option.{option_copied};
 ghost use Rattle.smpl_body.specs.Bodies as told;
 
 use crate::dots::{list_dots, statement_dots};
+use crate::smpl_when::{Clauses, Cutting, Said};
 use c_terms::{NoMemory, TokenKind, Tree};
 use smpl_meta::Placed;
-use smpl_when::{Clauses, Cutting, Said};
 use sqlite_items::at;
 use std::alloc::Global;
 

@@ -9,6 +9,11 @@
 //! is malformed; dots or a nest first or last in a sequence; dots that are statements, or a sign of a nest, on a `-` line.
 //!
 //! The three lines `f();`, `... when != g(x)` and `h();` are an atom, a gap with one piece of code, and an atom.
+//!
+//! Its folders:
+//!
+//! - `smpl_when`: Cuts the body of a rule into its own tokens and its `when` clauses.
+//! - `smpl_elem`: Reads the trees of patterns as elements of bodies.
 #![tactic(auto)]
 
 ghost use Rattle.std.specs.Prelude.{◌<◌, ◌^◌, length, slice_get, IfOk, IfErr, IfSome};
@@ -25,6 +30,8 @@ mod faults;
 mod fits;
 mod laws;
 mod reading;
+pub mod smpl_elem;
+mod smpl_when;
 mod spelled;
 
 use crate::body::read;
@@ -35,6 +42,7 @@ pub use reading::Form;
 use smpl_lexer::PatchText;
 use smpl_meta::{RuleHead, pattern_tokens};
 use smpl_patch::{Elem, PatchFault};
+pub use smpl_when::{OpenCode, Where, bodies_are_parted_once, own_tokens_are_main};
 use sqlite_items::Items;
 use std::alloc::Global;
 

@@ -2,17 +2,17 @@
 ghost use Rattle.std.specs.Prelude.{◌≡◌, List, IfOk, MatchOption};
 ghost use Rattle.c_terms.specs.Names.{listed_names};
 ghost use Rattle.c_terms.specs.declared.tree.Tree.{Tree as Term};
-ghost use Rattle.smpl_when.specs.Cutting as when;
+ghost use Rattle.smpl_body.specs.SmplWhen.Cutting as when;
 ghost use Rattle.smpl_body.specs.Spelled.{body_forms, code_forms, IsRead, AreRead};
 ghost use Rattle.smpl_body.specs.Bodies.{Spells};
 ghost use Rattle.smpl_body.specs.SoFar.{WithCodes, AllSpell};
 
 use crate::fits::fits;
 use crate::reading::{Form, read_tokens};
+use crate::smpl_when::{Code, Cutting};
 use c_expr::ranges_have_one_tree;
 use c_terms::{Names, NoMemory, Token, Tree};
 use smpl_meta::Placed;
-use smpl_when::{Code, Cutting};
 use std::alloc::Global;
 
 fn read_main(alloc: Global, names: &Names, tokens: &[Token]) -> Result<Option<Tree>, NoMemory>

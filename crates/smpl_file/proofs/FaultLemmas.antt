@@ -4,7 +4,7 @@ use Rattle.smpl_patch.specs.declared.fault.PatchFault.{PatchFault}
 use Rattle.smpl_patch.specs.declared.fault.PatchFault.TheVariants as fault
 use Rattle.smpl_patch.specs.declared.rule.Patch.{Patch}
 use Rattle.smpl_lexer.specs.Texts.{OrNoMemory}
-use Rattle.smpl_check.specs.Checks.{first_fault, IsFaultOf}
+use Rattle.smpl_file.specs.SmplCheck.Checks.{first_fault, IsFaultOf}
 use Rattle.smpl_lexer.specs.declared.text.PatchText.{PatchText}
 use Rattle.smpl_lexer.specs.Texts.{IsTextOf, IsTextFault}
 use Rattle.smpl_meta.specs.declared.head.RuleHead.{RuleHead}

@@ -19,7 +19,7 @@ use Rattle.smpl_meta.specs.Patterns.{pattern_tokens}
 use Rattle.smpl_meta.specs.Heads.{IsHead, IsHeadFault, AreHeads, IsFirstHeadFault}
 use Rattle.smpl_plus.specs.Anchors.{plus_faults, first_phase, AreAnchored}
 use Rattle.smpl_body.specs.Bodies.{IsBody, IsBodyFault}
-use Rattle.smpl_check.specs.Checks.{first_fault}
+use Rattle.smpl_file.specs.SmplCheck.Checks.{first_fault}
 use Rattle.smpl_file.specs.Exports.{taken}
 use Rattle.smpl_file.specs.Patches.{IsRule, AreRules, IsRuleFault, IsFirstRuleFault, AreRulesOf, IsSpelled, IsSpellingFault, IsPatchOf, IsFirstFault}
 use Rattle.smpl_file.specs.Patches.IsRuleFault.{in_plus, in_body}

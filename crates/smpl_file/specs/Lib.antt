@@ -3,3 +3,5 @@ pub mod Exports
 pub mod Patches
 -- For inside use: variables as keys.
 pub mod Keys
+-- What smpl_check defines.
+pub mod SmplCheck

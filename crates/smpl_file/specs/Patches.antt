@@ -11,7 +11,7 @@ use Rattle.smpl_meta.specs.Heads.{AreHeads, IsFirstHeadFault}
 use Rattle.smpl_meta.specs.Patterns.{pattern_tokens}
 use Rattle.smpl_plus.specs.Anchors.{plus_faults, first_phase, AreAnchored}
 use Rattle.smpl_body.specs.Bodies.{IsBody, IsBodyFault}
-use Rattle.smpl_check.specs.Checks.{first_fault}
+use Rattle.smpl_file.specs.SmplCheck.Checks.{first_fault}
 use Rattle.smpl_terms.specs.declared.var.Var.{Var as Variable}
 use Rattle.smpl_patch.specs.declared.elem.Elem.{Elem}
 use Rattle.smpl_patch.specs.declared.pattern.PatToken.{PatToken}

@@ -11,6 +11,10 @@
 //!
 //! `@r@`, `identifier f;`, `@@`, `f();`, `@s@`, `identifier r.f;`, `@@`, `- g(f);` is a patch of two rules; the first
 //! exports `f`.
+//!
+//! Its folders:
+//!
+//! - `smpl_check`: The last look at a patch that is read: formulas that are too large, and variables that may have no value.
 #![tactic(auto)]
 
 ghost use Rattle.std.specs.Prelude.{◌<◌, ◌^◌, length, IfOk, IfErr};
@@ -21,11 +25,12 @@ mod depends;
 mod exports;
 mod laws;
 mod rules;
+mod smpl_check;
 mod taken;
 
 use crate::rules::rules_of;
+use crate::smpl_check::check;
 pub use laws::patches_are_read_once;
-use smpl_check::check;
 use smpl_lexer::lex_patch;
 use smpl_meta::read_headers;
 use smpl_patch::{Patch, PatchFault};

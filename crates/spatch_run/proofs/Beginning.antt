@@ -5,9 +5,9 @@ use Rattle.run_acts.specs.Breaks.{Counts}
 use Rattle.run_acts.proofs.BreaksLemmas.{NoneFell-refl}
 use Rattle.sp_gen.specs.Generated.{generated}
 use Rattle.run_words.specs.Orders.{Order, Apply, Generate, order_of}
-use Rattle.run_lines.specs.Patches.{usage}
-use Rattle.run_stages.specs.Stages.{begun, next_act, patch_limit}
-use Rattle.run_stages.specs.Ends.{Ends, Follows}
+use Rattle.run_files.specs.RunLines.Patches.{usage}
+use Rattle.run_files.specs.RunStages.Stages.{begun, next_act, patch_limit}
+use Rattle.run_files.specs.RunStages.Ends.{Ends, Follows}
 use Rattle.spatch_run.proofs.Chain.{broken}
 
 -- a run begins with an act

@@ -3,9 +3,9 @@ use Rattle.std.proofs.Common.{◌≡◌, ℕ, List, [], ◌∷◌, ◌++◌, Som
 use Rattle.run_acts.specs.Acts.{Act, Told, done, after}
 use Rattle.run_acts.specs.Breaks.{Counts, NoneFell, Breaks}
 use Rattle.run_acts.proofs.BreaksLemmas.{NoneFell-refl, NoneFell-then, Breaks-earlier}
-use Rattle.run_stages.specs.Stages.{Stage, next_act, status_at, Leads}
-use Rattle.run_stages.specs.Paths.{Path}
-use Rattle.run_stages.specs.Ends.{Goes, Ends}
+use Rattle.run_files.specs.RunStages.Stages.{Stage, next_act, status_at, Leads}
+use Rattle.run_files.specs.RunStages.Paths.{Path}
+use Rattle.run_files.specs.RunStages.Ends.{Goes, Ends}
 
 after-append : (acts more : List Act) (old : Told) → after (acts ++ more) old ≡ after more (after acts old)
 after-append [] more old = refl

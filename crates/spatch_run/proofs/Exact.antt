@@ -3,9 +3,9 @@ use Rattle.std.proofs.Common.{◌≡◌, ℕ, ◌⊎◌, List, inl, inr, ◌∙�
 use Rattle.run_acts.specs.Acts.{Told}
 use Rattle.run_acts.specs.Breaks.{Counts, NoneRose}
 use Rattle.run_acts.proofs.BreaksLemmas.{not_failed}
-use Rattle.run_stages.specs.Paths.{DoesAll}
-use Rattle.run_stages.specs.Ends.{Follows}
-use Rattle.run_stages.specs.Promise.{IsExact, EndsRightly}
+use Rattle.run_files.specs.RunStages.Paths.{DoesAll}
+use Rattle.run_files.specs.RunStages.Ends.{Follows}
+use Rattle.run_files.specs.RunStages.Promise.{IsExact, EndsRightly}
 
 module _ {words : List (List ℕ)} {before now : Counts} {old new : Told} {status : ℕ} where
   pub ends_rightly : Follows words before now old new status → EndsRightly words before now old new status

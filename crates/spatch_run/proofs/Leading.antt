@@ -20,10 +20,10 @@ use Rattle.iso_file.specs.declared.fault.IsoFault.TheVariants as iso_fault
 use Rattle.iso_file.specs.Isos.{AreIsosOf, IsFileFault}
 use Rattle.iso_file.specs.Isos.IsFileFault.{too_long}
 use Rattle.run_words.specs.Orders.{Target}
-use Rattle.run_lines.specs.Patches.{patch_fault_line, iso_fault_line}
-use Rattle.run_stages.specs.Stages.{Stage, Work, ReadPatch, ReadIsos, EditFiles, Doing, refusing, first_load, WorkLeads, PatchLeads, IsosFileLeads, ReadLeads, IsosLead}
-use Rattle.run_stages.specs.Ends.{Ends, LeadsBy}
-use Rattle.run_stages.specs.Ends.LeadsBy.{unfed, from}
+use Rattle.run_files.specs.RunLines.Patches.{patch_fault_line, iso_fault_line}
+use Rattle.run_files.specs.RunStages.Stages.{Stage, Work, ReadPatch, ReadIsos, EditFiles, Doing, refusing, first_load, WorkLeads, PatchLeads, IsosFileLeads, ReadLeads, IsosLead}
+use Rattle.run_files.specs.RunStages.Ends.{Ends, LeadsBy}
+use Rattle.run_files.specs.RunStages.Ends.LeadsBy.{unfed, from}
 use Rattle.spatch_run.proofs.Chain.{Goes-act, Goes-ends, broken}
 
 -- what was told before a load is told after it

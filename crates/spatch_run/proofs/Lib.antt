@@ -4,3 +4,5 @@ pub mod Leading
 pub mod Few
 pub mod Beginning
 pub mod Exact
+pub mod RunLaws
+pub mod RunEnds

@@ -9,17 +9,17 @@ use Rattle.run_acts.specs.Loaded.{Found}
 use Rattle.run_acts.proofs.BreaksLemmas.{NoneFell-refl, NoneFell-then}
 use Rattle.smpl_patch.specs.declared.rule.Patch.{Patch}
 use Rattle.run_words.specs.declared.order.Mode.{Mode}
-use Rattle.run_lines.specs.Files.{too_long_line, special_line}
+use Rattle.run_files.specs.RunLines.Files.{too_long_line, special_line}
 use Rattle.run_files.specs.Treatment.{Treated, file_limit, refuses, Treats, TreatsFile, Sums}
 use Rattle.run_files.specs.Does.{Does, Stops}
 use Rattle.run_files.specs.Cuts.{TreatsAll, TreatsPart}
 use Rattle.run_files.specs.Cuts.TreatsPart.{earlier, later}
 use Rattle.run_words.specs.Orders.{OnText}
 use Rattle.sp_gen.specs.Generated.{generated}
-use Rattle.run_stages.specs.Stages.{Stage, Doing, Ending, EditFiles, going, end_status, refusing, next_act, Leads, TargetLeads, generated_name}
-use Rattle.run_stages.specs.Paths.{Path}
-use Rattle.run_stages.specs.Ends.{Goes, Ends, LeadsBy}
-use Rattle.run_stages.specs.Ends.LeadsBy.{unfed, from}
+use Rattle.run_files.specs.RunStages.Stages.{Stage, Doing, Ending, EditFiles, going, end_status, refusing, next_act, Leads, TargetLeads, generated_name}
+use Rattle.run_files.specs.RunStages.Paths.{Path}
+use Rattle.run_files.specs.RunStages.Ends.{Goes, Ends, LeadsBy}
+use Rattle.run_files.specs.RunStages.Ends.LeadsBy.{unfed, from}
 use Rattle.spatch_run.specs.declared.files.Turn.TheVariants as turn
 use Rattle.spatch_run.specs.Turns.{TurnsTo}
 use Rattle.spatch_run.proofs.Chain.{Goes-act, Goes-then, Goes-ends, broken, over}

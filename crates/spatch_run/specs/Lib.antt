@@ -4,3 +4,5 @@ pub mod Callers
 pub mod Answer
 pub mod Turns
 pub mod Usable
+-- What run_ends defines.
+pub mod RunEnds

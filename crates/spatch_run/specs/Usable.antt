@@ -4,8 +4,8 @@ use Rattle.std.specs.List.{AllZip}
 use Rattle.smpl_patch.specs.declared.rule.Patch.{Patch}
 use Rattle.ctl_translate.specs.declared.rule.FormulaFault.{FormulaFault}
 use Rattle.ctl_translate.specs.declared.rule.FormulaFault.TheVariants as fault
-use Rattle.rule_formulas.specs.declared.prepared.PreparedRule.{PreparedRule}
-use Rattle.rule_formulas.specs.Prepared.{ArePrepared, IsPrepareFault}
+use Rattle.rule_envs.specs.declared.rule_formulas.prepared.PreparedRule.{PreparedRule}
+use Rattle.rule_envs.specs.RuleFormulas.Prepared.{ArePrepared, IsPrepareFault}
 use Rattle.rule_chain.specs.Asked.{MayRun}
 
 -- Each rule has a formula that may be used, so that memory alone may be wanting to make it; and by what is made, each may run.

@@ -4,9 +4,9 @@ ghost use Rattle.run_acts.specs.Acts.{told};
 ghost use Rattle.run_acts.specs.Breaks.{counts, NoneFell};
 ghost use Rattle.run_acts.specs.Statuses.{number_of, status_of};
 ghost use Rattle.run_files.specs.Applies.{IsReady};
-ghost use Rattle.run_stages.specs.Stages.{Doing, EditFiles, going, end_status};
+ghost use Rattle.run_files.specs.RunStages.Stages.{Doing, EditFiles, going, end_status};
 ghost use Rattle.spatch_run.specs.Turns.{TurnsTo};
-ghost use Rattle.run_stages.specs.Ends.{Ends};
+ghost use Rattle.run_files.specs.RunStages.Ends.{Ends};
 ghost use Rattle.spatch_run.specs.Answer.{answer};
 
 use crate::refusals::refuse_absent;

@@ -6,10 +6,8 @@ ghost use Rattle.smpl_file.specs.Patches.{IsPatchOf};
 ghost use Rattle.iso_expand.specs.Patches.{IsExpanded};
 ghost use Rattle.spatch_run.specs.Usable.{IsUsable};
 
-use chain_laws::rules_that_are_read_may_run;
-use form_laws::rules_with_forms_may_run;
-use rule_laws::rules_have_formulas;
-use smpl_sound::patches_are_sound;
+use rule_laws::{rules_have_formulas, rules_that_are_read_may_run, rules_with_forms_may_run};
+use sound_laws::patches_are_sound;
 
 /// A patch that is read may be used, and so may one that has all its forms under isomorphisms. Does nothing.
 pub fn patches_may_be_used()

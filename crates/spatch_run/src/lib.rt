@@ -6,24 +6,33 @@
 //! The words `--sp-file p --in-place k.c` load the patch `p` and the file `k.c`, and store what the patch makes of it.
 //!
 //! A patch and a file of isomorphisms have at most 1,048,576 bytes, a file 16,777,216.
+//!
+//! Its folders:
+//!
+//! - `run_laws`: What holds of every run, whatever it is called with.
+//! - `run_ends`: Every run has acts: what holds of a run whose patch, isomorphisms and files are as they should be.
 #![tactic(auto)]
 
 ghost use Rattle.run_acts.specs.Acts.{told};
 ghost use Rattle.run_acts.specs.Breaks.{NoneFell, counts};
-ghost use Rattle.run_stages.specs.Promise.{IsExact, EndsRightly};
-ghost use Rattle.run_stages.specs.Causes.{Causes};
+ghost use Rattle.run_files.specs.RunStages.Promise.{IsExact, EndsRightly};
+ghost use Rattle.run_files.specs.RunStages.Causes.{Causes};
 
 mod files;
 mod laws;
 mod refusals;
+mod run_ends;
+mod run_laws;
 mod stages;
 mod texts;
 
+use crate::run_laws::statuses_have_a_cause;
 use c_terms::Text;
 use outer_io::{Shelf, Sink};
 use par_match::Gate;
 pub use run_acts::Status;
-use run_laws::statuses_have_a_cause;
+pub use run_ends::{jobs_leave_acts, runs_are_complete, words_have_acts};
+pub use run_laws::acts_are_one_list;
 use stages::{follow_words, status_of};
 use std::thread::Threads;
 

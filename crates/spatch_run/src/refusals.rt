@@ -5,15 +5,15 @@ ghost use Rattle.run_acts.specs.Acts.{told};
 ghost use Rattle.run_acts.specs.Breaks.{counts};
 ghost use Rattle.run_acts.specs.Lines.{cannot_read};
 ghost use Rattle.run_acts.specs.Statuses.{number_of};
-ghost use Rattle.run_lines.specs.Patches as lines;
-ghost use Rattle.run_stages.specs.Stages.{refusing};
-ghost use Rattle.run_stages.specs.Ends.{Ends};
+ghost use Rattle.run_files.specs.RunLines.Patches as lines;
+ghost use Rattle.run_files.specs.RunStages.Stages.{refusing};
+ghost use Rattle.run_files.specs.RunStages.Ends.{Ends};
 ghost use Rattle.spatch_run.specs.Answer.{answer};
 
 use iso_file::IsoFault;
 use outer_io::Sink;
 use run_acts::{Status, Stopped, cannot_read, report};
-use run_lines::{forms_line, iso_fault_line, patch_fault_line, usage};
+use run_files::{forms_line, iso_fault_line, patch_fault_line, usage};
 use smpl_patch::PatchFault;
 use std::alloc::Global;
 

@@ -10,10 +10,10 @@ ghost use Rattle.ctl_translate.specs.declared.rule.FormulaFault.TheVariants as f
 ghost use Rattle.smpl_patch.specs.declared.fault.PatchFault.TheVariants as patch_fault;
 ghost use Rattle.smpl_file.specs.Patches.{IsPatchOf};
 ghost use Rattle.iso_file.specs.declared.fault.IsoFault.TheVariants as iso_fault;
-ghost use Rattle.rule_formulas.specs.Prepared.{ArePrepared, IsPrepareFault};
+ghost use Rattle.rule_envs.specs.RuleFormulas.Prepared.{ArePrepared, IsPrepareFault};
 ghost use Rattle.run_words.specs.Shown.{shown_isos, shown_target, few_functions};
-ghost use Rattle.run_stages.specs.Stages.{Doing, ReadPatch, ReadIsos, TargetLeads, ReadLeads, IsosLead};
-ghost use Rattle.run_stages.specs.Ends.{Ends, Follows, LeadsBy};
+ghost use Rattle.run_files.specs.RunStages.Stages.{Doing, ReadPatch, ReadIsos, TargetLeads, ReadLeads, IsosLead};
+ghost use Rattle.run_files.specs.RunStages.Ends.{Ends, Follows, LeadsBy};
 ghost use Rattle.spatch_run.specs.Answer.{answer};
 ghost use Rattle.spatch_run.specs.Usable.{IsUsable};
 
@@ -27,7 +27,7 @@ use iso_expand::{ExpandFault, expand};
 use iso_file::{IsoFault, read_isos};
 use outer_io::{Shelf, Sink};
 use par_match::Gate;
-use rule_formulas::{Prepared, prepare};
+use rule_envs::{Prepared, prepare};
 use run_acts::{Loaded, Status, Stopped, load};
 use run_files::Ready;
 use run_words::{Order, PatchOrder, Target, order_of, texts_of};

@@ -6,8 +6,8 @@ ghost use Rattle.run_acts.specs.Breaks.{counts};
 ghost use Rattle.sp_gen.specs.Generated.{generated};
 ghost use Rattle.run_words.specs.Orders.{OnText};
 ghost use Rattle.run_files.specs.Applies.{IsReady};
-ghost use Rattle.run_stages.specs.Stages.{Ending, TargetLeads};
-ghost use Rattle.run_stages.specs.Ends.{Ends, LeadsBy};
+ghost use Rattle.run_files.specs.RunStages.Stages.{Ending, TargetLeads};
+ghost use Rattle.run_files.specs.RunStages.Ends.{Ends, LeadsBy};
 ghost use Rattle.spatch_run.specs.Answer.{answer};
 
 use crate::files::end_status;

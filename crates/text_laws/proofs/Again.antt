@@ -4,11 +4,11 @@ use Rattle.c_lexer.specs.Pieces.{TextPiece, text_of}
 use Rattle.c_lexer.specs.Lexes.{Cuts, Lexes}
 use Rattle.c_lexer.specs.Ids.{ids_of}
 use Rattle.c_lexer.proofs.Once.{once}
-use Rattle.edit_conflict.specs.declared.edit.Edit.{Edit}
+use Rattle.edit_marks.specs.declared.edit_conflict.edit.Edit.{Edit}
 use Rattle.edit_unparse.specs.Fair.{Fair}
 use Rattle.edit_unparse.specs.Output.{output_of}
 use Rattle.edit_unparse.proofs.Again.{reads_again}
-use Rattle.rule_edits.specs.Pages as pages
+use Rattle.rule_chain.specs.RuleEdits.Pages as pages
 use Rattle.text_laws.proofs.BareCount.{bare_count}
 
 old_counted : (pieces again : List TextPiece) → Cuts pieces → Lexes (text_of pieces) again → length (ids_of again) ≡ length (ids_of pieces)

@@ -12,11 +12,11 @@ use Rattle.c_terms.specs.declared.tree.Tree.TheOpen.{Tree-F}
 use Rattle.c_terms.specs.Shapes.{shape_of}
 use Rattle.c_terms.specs.Lists.{members}
 use Rattle.c_terms.proofs.Induct.{Each, tree_induction}
-use Rattle.output_laws.proofs.TreeTokens.{Have, TreeHas, Layer, layer, SomeTreeHas, kid_at, child_has, SomeHas, MembersHave, members_have}
-use Rattle.output_laws.proofs.TreeTokens.{take_have, drop_have, run_has}
-use Rattle.cfg_graph.specs.declared.label.NodeKind.{NodeKind}
-use Rattle.cfg_graph.specs.declared.label.NodeKind.TheVariants as node_kind
-use Rattle.cfg_graph.specs.Own.{is_own}
+use Rattle.text_laws.proofs.OutputLaws.TreeTokens.{Have, TreeHas, Layer, layer, SomeTreeHas, kid_at, child_has, SomeHas, MembersHave, members_have}
+use Rattle.text_laws.proofs.OutputLaws.TreeTokens.{take_have, drop_have, run_has}
+use Rattle.cfg_build.specs.declared.cfg_graph.label.NodeKind.{NodeKind}
+use Rattle.cfg_build.specs.declared.cfg_graph.label.NodeKind.TheVariants as node_kind
+use Rattle.cfg_build.specs.CfgGraph.Own.{is_own}
 use Rattle.smpl_terms.specs.Environments.{Environment}
 use Rattle.smpl_patch.specs.declared.pattern.VarDecl.{VarDecl}
 use Rattle.smpl_patch.specs.declared.pattern.PatToken.{PatToken}
@@ -31,8 +31,8 @@ use Rattle.pat_match.specs.Spots.{token_alignment, branch_alignment, whole_align
 use Rattle.pat_match.specs.declared.role.NodeRole.{NodeRole}
 use Rattle.pat_match.specs.Matching.{fits_seat}
 use Rattle.pat_match.proofs.Pieces.{piece-Leaf, piece-Branch}
-use Rattle.pat_pairs.specs.declared.pairs.AlignedToken.{AlignedToken}
-use Rattle.pat_pairs.specs.Pairs.{ids_of, numbers, first_aligned, aligned_tokens}
+use Rattle.pat_match.specs.declared.pat_pairs.pairs.AlignedToken.{AlignedToken}
+use Rattle.pat_match.specs.PatPairs.Pairs.{ids_of, numbers, first_aligned, aligned_tokens}
 
 -- each id, each token's ids, what is found
 abbrev pub IdsHave : (ℕ → Type 0) → List ℕ → Type 0

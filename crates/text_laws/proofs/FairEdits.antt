@@ -4,25 +4,25 @@ use Rattle.std.specs.Prelude.{All}
 use Rattle.c_lexer.specs.Pieces.{TextPiece}
 use Rattle.c_lexer.specs.Ids.{ids_of}
 use Rattle.cpp_lines.specs.declared.reading.Item.{Item}
-use Rattle.cfg_graph.specs.declared.label.NodeKind.{NodeKind}
+use Rattle.cfg_build.specs.declared.cfg_graph.label.NodeKind.{NodeKind}
 use Rattle.smpl_patch.specs.declared.rule.Rule.{Rule}
 use Rattle.smpl_patch.specs.declared.witness.RuleWitness.{RuleWitness}
 use Rattle.smpl_patch.specs.Bodies.{body}
 use Rattle.smpl_patch.specs.Shapes.{patterns_body}
-use Rattle.edit_conflict.specs.declared.edit.Edit.{Edit}
+use Rattle.edit_marks.specs.declared.edit_conflict.edit.Edit.{Edit}
 use Rattle.edit_marks.specs.Edits.{HaveSoundBlocks, ArePlainInserts}
 use Rattle.edit_marks.specs.Tokens.{file_tokens}
 use Rattle.edit_marks.proofs.Edited.{edit_plain}
 use Rattle.edit_unparse.specs.Fair.{Fair}
-use Rattle.edit_laws.proofs.FairLemmas.{fair_edits}
-use Rattle.edit_walk.specs.Touches.{Touched, touches}
-use Rattle.edit_walk.specs.Named.{pairs_at}
-use Rattle.edit_walk.specs.Edited.{IsEditAt, AreEdits}
-use Rattle.edit_walk.specs.Fit.{HaveSoundTouches}
-use Rattle.edit_walk.proofs.FitLemmas.{once_all, each_all, each_all_with}
-use Rattle.edit_walk.proofs.PlainLemmas.{blank_indents}
-use Rattle.reading_laws.specs.Sound.{IsSoundItem}
-use Rattle.output_laws.specs.Differ.{AllDiffer}
+use Rattle.rule_chain.proofs.EditLaws.FairLemmas.{fair_edits}
+use Rattle.edit_marks.specs.EditWalk.Touches.{Touched, touches}
+use Rattle.edit_marks.specs.EditWalk.Named.{pairs_at}
+use Rattle.edit_marks.specs.EditWalk.Edited.{IsEditAt, AreEdits}
+use Rattle.edit_marks.specs.EditWalk.Fit.{HaveSoundTouches}
+use Rattle.edit_marks.proofs.EditWalk.FitLemmas.{once_all, each_all, each_all_with}
+use Rattle.edit_marks.proofs.EditWalk.PlainLemmas.{blank_indents}
+use Rattle.text_laws.specs.ReadingLaws.Sound.{IsSoundItem}
+use Rattle.text_laws.specs.OutputLaws.Differ.{AllDiffer}
 use Rattle.text_laws.proofs.Places.{GoodAt}
 use Rattle.text_laws.proofs.Strays.{Touches, strays_stay}
 use Rattle.text_laws.proofs.Touched.{touch_good}

@@ -9,3 +9,10 @@ pub mod FairEdits
 pub mod BareCount
 pub mod Again
 pub mod SoundTouches
+pub mod OutputLaws
+pub mod ReadingLaws
+pub mod ValueLaws
+pub mod PlusLaws
+pub mod TokenLaws
+pub mod AgainLaws
+pub mod ChainEnds

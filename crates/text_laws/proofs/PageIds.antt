@@ -4,12 +4,12 @@ use Rattle.std.specs.Prelude.{All}
 use Rattle.c_lexer.specs.Pieces.{TextPiece, text_of}
 use Rattle.c_lexer.specs.Lexes.{Cuts}
 use Rattle.c_lexer.specs.Ids.{ids_of}
-use Rattle.edit_conflict.specs.declared.edit.Edit.{Edit}
+use Rattle.edit_marks.specs.declared.edit_conflict.edit.Edit.{Edit}
 use Rattle.edit_unparse.specs.Output.{output_of}
-use Rattle.rule_edits.specs.Pages as pages
-use Rattle.output_laws.specs.Differ.{AllDiffer}
-use Rattle.output_laws.proofs.Filled.{pieces_few, output_few, fresh_few}
-use Rattle.output_laws.proofs.DifferentIds.{output_apart}
+use Rattle.rule_chain.specs.RuleEdits.Pages as pages
+use Rattle.text_laws.specs.OutputLaws.Differ.{AllDiffer}
+use Rattle.text_laws.proofs.OutputLaws.Filled.{pieces_few, output_few, fresh_few}
+use Rattle.text_laws.proofs.OutputLaws.DifferentIds.{output_apart}
 
 ids_by : (b : Bool) (next : ℕ) (pieces out : List TextPiece) → length (ids_of pieces) ≤ length (text_of pieces) → length (ids_of out) ≤ length (text_of out)
     → length (cond b (pages.page_of next out) (pages.old_page next pieces)).ids ≤ length (cond b (pages.page_of next out) (pages.old_page next pieces)).bytes

@@ -12,8 +12,8 @@ use Rattle.c_lexer.specs.Pieces.{TextPiece}
 use Rattle.c_lexer.specs.Lexes.{id_after}
 use Rattle.c_lexer.specs.Ids.{ids_of, id_before}
 use Rattle.edit_unparse.specs.Fair.{is_stray, after_stray}
-use Rattle.reading_laws.specs.Sound.{piece_of, StandsApart}
-use Rattle.output_laws.specs.Differ.{AllDiffer}
+use Rattle.text_laws.specs.ReadingLaws.Sound.{piece_of, StandsApart}
+use Rattle.text_laws.specs.OutputLaws.Differ.{AllDiffer}
 
 -- the token of this number is no Stray and stands behind none
 abbrev pub GoodHere : ℕ → Bool → ℕ → PieceKind → Type 0

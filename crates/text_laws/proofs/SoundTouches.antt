@@ -20,14 +20,14 @@ use Rattle.smpl_patch.specs.declared.witness.Witness.TheVariants.{Touch, Bind, r
 use Rattle.smpl_patch.specs.declared.witness.Witness.TheFolds.{fold-roll-Witness}
 use Rattle.smpl_patch.specs.declared.witness.RuleWitness.{RuleWitness}
 use Rattle.smpl_patch.specs.Patterns.{declared_as}
-use Rattle.wit_order.proofs.Induct.{Each, witness_induction}
+use Rattle.wit_forest.proofs.WitOrder.Induct.{Each, witness_induction}
 use Rattle.edit_marks.specs.Blocks.{term_of, is_meta}
 use Rattle.edit_marks.specs.Plain.{IsCTerm, IsSoundToken, AreSoundTokens, AreSoundLines}
 use Rattle.edit_marks.specs.Edits.{side_block, block_of, HaveSoundBlocks}
-use Rattle.edit_walk.specs.Touches.{Values, Touched, bound, touches_in, touches_of, touches}
-use Rattle.edit_walk.specs.Fit.{HaveSoundTouches}
-use Rattle.edit_walk.proofs.TouchLemmas.{touches-Touch, touches-Bind}
-use Rattle.output_laws.specs.Values.{IsCValue, AreCValues}
+use Rattle.edit_marks.specs.EditWalk.Touches.{Values, Touched, bound, touches_in, touches_of, touches}
+use Rattle.edit_marks.specs.EditWalk.Fit.{HaveSoundTouches}
+use Rattle.edit_marks.proofs.EditWalk.TouchLemmas.{touches-Touch, touches-Bind}
+use Rattle.text_laws.specs.OutputLaws.Values.{IsCValue, AreCValues}
 use Rattle.text_laws.specs.Sound.{IsPlusToken, ArePlusTokens, ArePlusLines, IsPlusBlock, HasPlusCode, HavePlusCode, HaveCValues}
 use Rattle.text_laws.specs.Sound.{bind_step, bind_values, HasCTerms}
 

@@ -8,12 +8,12 @@ use Rattle.c_lexer.specs.declared.piece.PieceKind.{PieceKind}
 use Rattle.c_lexer.specs.declared.piece.PieceKind.TheVariants.{Word, Blank, Comment, Line}
 use Rattle.c_lexer.specs.Pieces.{TextPiece}
 use Rattle.c_lexer.specs.Lexes.{id_after}
-use Rattle.edit_conflict.specs.declared.edit.Side.{Side}
-use Rattle.edit_conflict.specs.declared.edit.Side.TheVariants.{Before, After}
-use Rattle.edit_conflict.specs.declared.edit.Insert.{Insert}
-use Rattle.edit_conflict.specs.declared.edit.Edit.{Edit}
-use Rattle.edit_conflict.specs.Same.{side_number}
-use Rattle.edit_conflict.specs.Clashes.{removes}
+use Rattle.edit_marks.specs.declared.edit_conflict.edit.Side.{Side}
+use Rattle.edit_marks.specs.declared.edit_conflict.edit.Side.TheVariants.{Before, After}
+use Rattle.edit_marks.specs.declared.edit_conflict.edit.Insert.{Insert}
+use Rattle.edit_marks.specs.declared.edit_conflict.edit.Edit.{Edit}
+use Rattle.edit_marks.specs.EditConflict.Same.{side_number}
+use Rattle.edit_marks.specs.EditConflict.Clashes.{removes}
 use Rattle.edit_unparse.specs.Output.{texts_in, inserted, is_removed}
 use Rattle.edit_unparse.specs.Fair.{is_stray, after_stray, StrayStays, StraysStay}
 use Rattle.text_laws.proofs.Places.{GoodHere, GoodAt}

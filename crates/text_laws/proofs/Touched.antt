@@ -15,14 +15,14 @@ use Rattle.c_lexer.specs.Ids.{ids_of}
 use Rattle.c_show.specs.PlainText.{is_plain_token}
 use Rattle.cpp_lines.specs.declared.reading.Item.{Item}
 use Rattle.cpp_lines.specs.declared.reading.Item.TheVariants.{Parsed, Skipped}
-use Rattle.cfg_graph.specs.declared.label.NodeKind.{NodeKind}
+use Rattle.cfg_build.specs.declared.cfg_graph.label.NodeKind.{NodeKind}
 use Rattle.smpl_terms.specs.Environments.{total}
 use Rattle.smpl_patch.specs.declared.pattern.VarDecl.{VarDecl}
 use Rattle.smpl_patch.specs.declared.pattern.PatToken.{PatToken}
 use Rattle.smpl_patch.specs.declared.pattern.Pattern.{Pattern}
 use Rattle.smpl_patch.specs.declared.pattern.PlusBlock.{PlusBlock}
-use Rattle.edit_conflict.specs.declared.edit.Insert.{Insert}
-use Rattle.edit_conflict.specs.declared.edit.Edit.{Edit}
+use Rattle.edit_marks.specs.declared.edit_conflict.edit.Insert.{Insert}
+use Rattle.edit_marks.specs.declared.edit_conflict.edit.Edit.{Edit}
 use Rattle.edit_marks.specs.declared.mark.Aligned.{Aligned}
 use Rattle.edit_marks.specs.declared.spot.PlusSpot.{PlusSpot}
 use Rattle.edit_marks.specs.declared.tokens.FileToken.{FileToken}
@@ -32,15 +32,15 @@ use Rattle.edit_marks.specs.Removals.{is_minus_at, minus_tokens}
 use Rattle.edit_marks.specs.Spots.{token_spots, spots_of, all_spots}
 use Rattle.edit_marks.specs.Edits.{block_of, insert_if, inserts_at, EditOf}
 use Rattle.edit_unparse.specs.Fair.{is_stray}
-use Rattle.pat_pairs.specs.declared.pairs.AlignedToken.{AlignedToken}
+use Rattle.pat_match.specs.declared.pat_pairs.pairs.AlignedToken.{AlignedToken}
 use Rattle.pat_match.specs.Roles.{role_at}
-use Rattle.pat_pairs.specs.Pairs.{aligned_tokens}
-use Rattle.edit_walk.specs.Touches.{Touched}
-use Rattle.edit_walk.specs.Keys.{number_of}
-use Rattle.edit_walk.specs.Named.{pattern_of, kind_at, part_of, tree_at, numbered, pairs_of, alignment, pairs_at}
-use Rattle.reading_laws.specs.Sound.{StandsApart, IsSoundItem}
-use Rattle.output_laws.specs.Differ.{AllDiffer}
-use Rattle.output_laws.proofs.TreeTokens.{Have, TreeHas, SomeTreeHas, subtree_has}
+use Rattle.pat_match.specs.PatPairs.Pairs.{aligned_tokens}
+use Rattle.edit_marks.specs.EditWalk.Touches.{Touched}
+use Rattle.edit_marks.specs.EditWalk.Keys.{number_of}
+use Rattle.edit_marks.specs.EditWalk.Named.{pattern_of, kind_at, part_of, tree_at, numbered, pairs_of, alignment, pairs_at}
+use Rattle.text_laws.specs.ReadingLaws.Sound.{StandsApart, IsSoundItem}
+use Rattle.text_laws.specs.OutputLaws.Differ.{AllDiffer}
+use Rattle.text_laws.proofs.OutputLaws.TreeTokens.{Have, TreeHas, SomeTreeHas, subtree_has}
 use Rattle.text_laws.proofs.Aligned.{IdsHave, AlignedHave, FoundHave, tokens_found}
 use Rattle.text_laws.proofs.Places.{GoodAt, number_good}
 use Rattle.text_laws.proofs.Strays.{Touches}

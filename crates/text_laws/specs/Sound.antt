@@ -14,7 +14,7 @@ use Rattle.smpl_patch.specs.declared.witness.Witness.TheFolds.{fold-Witness}
 use Rattle.smpl_patch.specs.declared.witness.RuleWitness.{RuleWitness}
 use Rattle.edit_marks.specs.Blocks.{is_meta}
 use Rattle.edit_marks.specs.Plain.{IsCToken, AreSoundGaps}
-use Rattle.output_laws.specs.Values.{IsCValue, AreCValues}
+use Rattle.text_laws.specs.OutputLaws.Values.{IsCValue, AreCValues}
 
 -- a metavariable, or a token of C that is no Stray with a text of its kind
 abbrev pub IsPlusToken : Bool → Token → Type 0

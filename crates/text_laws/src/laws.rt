@@ -4,20 +4,20 @@ ghost use Rattle.c_lexer.specs.Pieces.{TextPiece};
 ghost use Rattle.c_lexer.specs.Lexes.{Cuts, Lexes};
 ghost use Rattle.c_lexer.specs.Ids.{ids_of};
 ghost use Rattle.cpp_lines.specs.declared.reading.Item.{Item};
-ghost use Rattle.cfg_graph.specs.declared.label.NodeKind.{NodeKind};
+ghost use Rattle.cfg_build.specs.declared.cfg_graph.label.NodeKind.{NodeKind};
 ghost use Rattle.smpl_patch.specs.declared.rule.Rule.{Rule};
 ghost use Rattle.smpl_patch.specs.declared.witness.RuleWitness.{RuleWitness};
-ghost use Rattle.edit_conflict.specs.declared.edit.Edit.{Edit};
+ghost use Rattle.edit_marks.specs.declared.edit_conflict.edit.Edit.{Edit};
 ghost use Rattle.edit_unparse.specs.Fair.{Fair};
-ghost use Rattle.edit_walk.specs.Touches.{touches};
-ghost use Rattle.edit_walk.specs.Edited.{AreEdits};
-ghost use Rattle.edit_walk.specs.Fit.{HaveSoundTouches};
-ghost use Rattle.rule_edits.specs.Pages.{page_after};
+ghost use Rattle.edit_marks.specs.EditWalk.Touches.{touches};
+ghost use Rattle.edit_marks.specs.EditWalk.Edited.{AreEdits};
+ghost use Rattle.edit_marks.specs.EditWalk.Fit.{HaveSoundTouches};
+ghost use Rattle.rule_chain.specs.RuleEdits.Pages.{page_after};
 ghost use Rattle.c_file.specs.Reads.{Reads};
-ghost use Rattle.output_laws.specs.Differ.{AllDiffer};
+ghost use Rattle.text_laws.specs.OutputLaws.Differ.{AllDiffer};
 ghost use Rattle.text_laws.specs.Sound.{HavePlusCode, HasCTerms};
 
-use reading_laws::trees_are_sound;
+use crate::reading_laws::trees_are_sound;
 
 /// Where the tokens of a text have different ids, all below the next one, so have those of the page that edits leave. Does
 /// nothing.

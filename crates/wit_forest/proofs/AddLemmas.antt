@@ -2,7 +2,7 @@
 use Rattle.std.proofs.Common.{◌≡◌, ℕ, ⊎_elim, Bool, true, false, ◌||◌, refl, sym, ap, ◌∙◌, subst, List, [], ◌∷◌, ◌++◌, Contains}
 use Rattle.std.proofs.lemmas.List.Folds.{list_any-append}
 use Rattle.std.specs.List.{list_any}
-use Rattle.cfg_graph.specs.Flow.{Flow}
+use Rattle.cfg_build.specs.CfgGraph.Flow.{Flow}
 use Rattle.smpl_terms.specs.declared.var.Var.{Var}
 use Rattle.smpl_terms.specs.declared.value.Value.{Value}
 use Rattle.smpl_terms.specs.Environments.{Environment, total}
@@ -12,9 +12,9 @@ use Rattle.ctl_formula.specs.Formulas.{FormulaOf}
 use Rattle.smpl_terms.specs.Values.{same}
 use Rattle.smpl_terms.proofs.ValueLaws.{same-refl}
 use Rattle.std.proofs.lemmas.List.Elements.{Contains-append_right}
-use Rattle.ctl_holds.proofs.TestLemmas.{any_has, Contains-first}
-use Rattle.wit_order.specs.Forests.{has}
-use Rattle.wit_trees.proofs.AlikeLemmas.{forest_alike}
+use Rattle.ctl_fixpoint.proofs.CtlHolds.TestLemmas.{any_has, Contains-first}
+use Rattle.wit_forest.specs.WitOrder.Forests.{has}
+use Rattle.wit_forest.proofs.WitTrees.AlikeLemmas.{forest_alike}
 use Rattle.wit_forest.specs.declared.states.State.{State}
 use Rattle.wit_forest.specs.Gathered.{Covered, IsAdded, forest_at}
 use Rattle.wit_forest.proofs.MemberLemmas.{Contains-left}

@@ -1,12 +1,12 @@
 -- Where two tests of parts at nodes agree at a node's parts, the node leads to the same by both.
 use Rattle.std.proofs.Common.{◌≡◌, ℕ, ◌<◌, Bool, true, cond, refl, List, [], ◌∷◌, ◌++◌, map, Contains}
 use Rattle.std.specs.List.{flat_map}
-use Rattle.cfg_graph.specs.Flow.{Flow, IsSound, count_of, succ_of}
+use Rattle.cfg_build.specs.CfgGraph.Flow.{Flow, IsSound, count_of, succ_of}
 use Rattle.ctl_formula.specs.declared.node.Node.{Node}
 use Rattle.ctl_formula.specs.declared.node.Node.TheVariants as node
-use Rattle.ctl_holds.proofs.TestLemmas.{Contains-first, Contains-later}
-use Rattle.ctl_holds.proofs.GraphLemmas.{node_after}
-use Rattle.wit_steps.specs.Steps.{kids, held, way_on}
+use Rattle.ctl_fixpoint.proofs.CtlHolds.TestLemmas.{Contains-first, Contains-later}
+use Rattle.ctl_fixpoint.proofs.CtlHolds.GraphLemmas.{node_after}
+use Rattle.wit_forest.specs.WitSteps.Steps.{kids, held, way_on}
 use Rattle.wit_forest.proofs.KidRangeLemmas.{EachKid, is_until}
 
 module _ (g : Flow) (ok : IsSound g) (a b : ℕ → ℕ → Bool) where

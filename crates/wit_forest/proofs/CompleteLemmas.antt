@@ -3,7 +3,7 @@
 use Rattle.std.proofs.Common.{◌≡◌, ℕ, suc, zero, ◌<◌, ⊎_elim, Bool, true, false, not, cond, ◌&&◌, ◌||◌, eqb, refl, sym, ap, ◌∙◌, subst, arith, List, [], ◌∷◌, ◌++◌, map, Contains}
 use Rattle.std.specs.Prelude.{nat_lt}
 use Rattle.std.specs.List.{filter, flat_map, list_any}
-use Rattle.cfg_graph.specs.Flow.{Flow, IsSound, count_of, succ_of}
+use Rattle.cfg_build.specs.CfgGraph.Flow.{Flow, IsSound, count_of, succ_of}
 use Rattle.smpl_terms.specs.declared.var.Var.{Var}
 use Rattle.smpl_terms.specs.declared.value.Value.{Value}
 use Rattle.smpl_terms.specs.Environments.{Environment, change}
@@ -16,20 +16,20 @@ use Rattle.ctl_formula.specs.Tables.{at, plain_of, below}
 use Rattle.ctl_formula.specs.declared.node.Node.{Node}
 use Rattle.ctl_formula.specs.declared.node.Node.TheVariants as node
 use Rattle.ctl_formula.proofs.TableLemmas.{lt-true}
-use Rattle.ctl_holds.specs.Rounds.{rounds}
-use Rattle.ctl_holds.specs.Values.{values_of}
-use Rattle.ctl_holds.proofs.TestLemmas.{or_cases, and_left, and_right, any_found, Contains-first, Contains-later, Contains-map}
-use Rattle.wit_order.specs.Same.{same_witness}
-use Rattle.wit_order.specs.Forests.{has}
-use Rattle.wit_trees.specs.Unions.{union}
-use Rattle.wit_trees.specs.Forest.{World, forest, is_hidden, bound_to, is_reached, numbers, reached}
-use Rattle.wit_trees.specs.Graphs.{world_of}
-use Rattle.wit_trees.proofs.UnionLemmas.{has-union}
-use Rattle.wit_trees.proofs.ReachLemmas.{any-filter}
-use Rattle.wit_trees.proofs.StepLemmas.{has-union_map}
-use Rattle.wit_steps.specs.Steps.{kids, held, way_on, is_quantifier}
-use Rattle.wit_steps.specs.Touches.{own_touches}
-use Rattle.wit_steps.proofs.KidLemmas.{behind, holds_there, kid_step}
+use Rattle.ctl_fixpoint.specs.CtlHolds.Rounds.{rounds}
+use Rattle.ctl_fixpoint.specs.CtlHolds.Values.{values_of}
+use Rattle.ctl_fixpoint.proofs.CtlHolds.TestLemmas.{or_cases, and_left, and_right, any_found, Contains-first, Contains-later, Contains-map}
+use Rattle.wit_forest.specs.WitOrder.Same.{same_witness}
+use Rattle.wit_forest.specs.WitOrder.Forests.{has}
+use Rattle.wit_forest.specs.WitTrees.Unions.{union}
+use Rattle.wit_forest.specs.WitTrees.Forest.{World, forest, is_hidden, bound_to, is_reached, numbers, reached}
+use Rattle.wit_forest.specs.WitTrees.Graphs.{world_of}
+use Rattle.wit_forest.proofs.WitTrees.UnionLemmas.{has-union}
+use Rattle.wit_forest.proofs.WitTrees.ReachLemmas.{any-filter}
+use Rattle.wit_forest.proofs.WitTrees.StepLemmas.{has-union_map}
+use Rattle.wit_forest.specs.WitSteps.Steps.{kids, held, way_on, is_quantifier}
+use Rattle.wit_forest.specs.WitSteps.Touches.{own_touches}
+use Rattle.wit_forest.proofs.WitSteps.KidLemmas.{behind, holds_there, kid_step}
 use Rattle.wit_forest.proofs.MemberLemmas.{Contains-left, Contains-right, Contains-flat}
 use Rattle.wit_forest.proofs.KidRangeLemmas.{is_until, kid_smaller}
 use Rattle.wit_forest.proofs.WalkLemmas.{found_on_walks}

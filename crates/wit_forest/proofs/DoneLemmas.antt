@@ -1,7 +1,7 @@
 -- A quantifier is done where each value of a list is, if these are the values with which its part holds, ids aside.
 use Rattle.std.proofs.Common.{◌≡◌, ℕ, true, sym, ap, ◌∙◌, List, Contains}
 use Rattle.std.specs.List.{list_any}
-use Rattle.cfg_graph.specs.Flow.{Flow}
+use Rattle.cfg_build.specs.CfgGraph.Flow.{Flow}
 use Rattle.smpl_terms.specs.declared.var.Var.{Var}
 use Rattle.smpl_terms.specs.declared.value.Value.{Value}
 use Rattle.smpl_terms.specs.Values.{same}
@@ -10,11 +10,11 @@ use Rattle.smpl_patch.specs.declared.witness.Witness.{Witness}
 use Rattle.smpl_patch.specs.declared.witness.Witness.TheVariants.{Bind}
 use Rattle.ctl_formula.specs.Tables.{at, plains}
 use Rattle.ctl_formula.specs.Formulas.{FormulaOf}
-use Rattle.ctl_holds.proofs.TestLemmas.{any_found, any_has}
-use Rattle.wit_order.specs.Same.{same_witness}
-use Rattle.wit_order.specs.Forests.{has}
-use Rattle.wit_order.proofs.SameLaws.{witness-along, witness-sym}
-use Rattle.wit_trees.proofs.AlikeLemmas.{forest_alike, value_alike}
+use Rattle.ctl_fixpoint.proofs.CtlHolds.TestLemmas.{any_found, any_has}
+use Rattle.wit_forest.specs.WitOrder.Same.{same_witness}
+use Rattle.wit_forest.specs.WitOrder.Forests.{has}
+use Rattle.wit_forest.proofs.WitOrder.SameLaws.{witness-along, witness-sym}
+use Rattle.wit_forest.proofs.WitTrees.AlikeLemmas.{forest_alike, value_alike}
 use Rattle.wit_forest.specs.declared.states.State.{State}
 use Rattle.wit_forest.specs.Gathered.{Covered, holds_at, forest_at, IsHiddenDone, IsShownDone}
 use Rattle.wit_forest.proofs.ExploredLemmas.{covered_alike}

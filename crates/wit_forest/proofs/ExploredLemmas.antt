@@ -1,6 +1,6 @@
 -- Where all states are explored, the trees of each one's forest are found.
 use Rattle.std.proofs.Common.{◌≡◌, ℕ, ◌+◌, ◌<◌, Bool, true, false, ◌||◌, refl, sym, ap, ◌∙◌, subst, List, [], ◌∷◌, Contains}
-use Rattle.cfg_graph.specs.Flow.{Flow, IsSound, count_of}
+use Rattle.cfg_build.specs.CfgGraph.Flow.{Flow, IsSound, count_of}
 use Rattle.smpl_terms.specs.Environments.{Environment, change, total}
 use Rattle.smpl_patch.specs.declared.pattern.Pattern.{Pattern}
 use Rattle.smpl_patch.specs.declared.witness.Witness.{Witness}
@@ -11,15 +11,15 @@ use Rattle.ctl_formula.specs.Tables.{at, plains}
 use Rattle.ctl_formula.specs.Formulas.{FormulaOf, IsFormula}
 use Rattle.ctl_formula.specs.declared.node.Node.{Node}
 use Rattle.ctl_formula.specs.declared.node.Node.TheVariants as node
-use Rattle.ctl_holds.proofs.TestLemmas.{any_found, any_has}
-use Rattle.wit_order.specs.Same.{same_witness}
-use Rattle.wit_order.specs.Forests.{has}
-use Rattle.wit_order.proofs.SameLaws.{witness-along, witness-sym}
-use Rattle.wit_trees.specs.Alike.{Alike}
-use Rattle.wit_trees.proofs.AlikeLemmas.{holds_alike, forest_alike, change_alike}
-use Rattle.wit_steps.specs.Steps.{kids}
-use Rattle.wit_steps.specs.Touches.{own_touches}
-use Rattle.wit_steps.proofs.KidLemmas.{kid_step}
+use Rattle.ctl_fixpoint.proofs.CtlHolds.TestLemmas.{any_found, any_has}
+use Rattle.wit_forest.specs.WitOrder.Same.{same_witness}
+use Rattle.wit_forest.specs.WitOrder.Forests.{has}
+use Rattle.wit_forest.proofs.WitOrder.SameLaws.{witness-along, witness-sym}
+use Rattle.wit_forest.specs.WitTrees.Alike.{Alike}
+use Rattle.wit_forest.proofs.WitTrees.AlikeLemmas.{holds_alike, forest_alike, change_alike}
+use Rattle.wit_forest.specs.WitSteps.Steps.{kids}
+use Rattle.wit_forest.specs.WitSteps.Touches.{own_touches}
+use Rattle.wit_forest.proofs.WitSteps.KidLemmas.{kid_step}
 use Rattle.wit_forest.specs.declared.states.State.{State}
 use Rattle.wit_forest.specs.Gathered.{Covered, node_at, forest_at, holds_at, InRange, IsExplored}
 use Rattle.wit_forest.proofs.NodeLemmas.{node_is}

@@ -1,18 +1,18 @@
 -- The loop that gathers a forest: nothing is found that the forest lacks, and what the states so far lead to is there.
 use Rattle.std.proofs.Common.{◌≡◌, ℕ, zero, suc, ◌+◌, ◌<◌, ◌≤◌, ⊎_elim, Bool, true, false, ◌||◌, refl, sym, ap, ◌∙◌, subst, arith, List, [], ◌∷◌, ◌++◌, length, get_or, below_more, Contains}
 use Rattle.std.proofs.lemmas.List.Elements.{Contains-append_cases}
-use Rattle.cfg_graph.specs.Flow.{Flow, IsSound}
+use Rattle.cfg_build.specs.CfgGraph.Flow.{Flow, IsSound}
 use Rattle.smpl_terms.specs.declared.var.Var.{Var}
 use Rattle.smpl_terms.specs.declared.value.Value.{Value}
 use Rattle.smpl_terms.specs.Environments.{Environment, total}
 use Rattle.smpl_patch.specs.declared.witness.Witness.{Witness}
 use Rattle.ctl_formula.specs.Tables.{at, plains}
 use Rattle.ctl_formula.specs.Formulas.{FormulaOf, IsFormula}
-use Rattle.ctl_holds.proofs.TestLemmas.{any_has, or_cases, or_right, or_left, same_bool}
-use Rattle.wit_order.specs.Forests.{has, HaveSame, Rise}
-use Rattle.wit_order.specs.Sizes.{forest_size}
-use Rattle.wit_trees.specs.Graphs.{world_of}
-use Rattle.wit_trees.proofs.RiseLemmas.{forest_rises}
+use Rattle.ctl_fixpoint.proofs.CtlHolds.TestLemmas.{any_has, or_cases, or_right, or_left, same_bool}
+use Rattle.wit_forest.specs.WitOrder.Forests.{has, HaveSame, Rise}
+use Rattle.wit_forest.specs.WitOrder.Sizes.{forest_size}
+use Rattle.wit_forest.specs.WitTrees.Graphs.{world_of}
+use Rattle.wit_forest.proofs.WitTrees.RiseLemmas.{forest_rises}
 use Rattle.wit_forest.specs.declared.states.State.{State}
 use Rattle.wit_forest.specs.Gathered.{Covered, IsAdded, InRange, IsExplored, Grows, Adds, HasTooMany, is_there, forest_at}
 use Rattle.wit_forest.proofs.AddLemmas.{of_state, added_there, covered_more}

@@ -1,6 +1,6 @@
 -- What is explored stays so where states and trees are added, and growth goes on.
 use Rattle.std.proofs.Common.{ℕ, ◌≤◌, sym, subst, arith, List}
-use Rattle.cfg_graph.specs.Flow.{Flow}
+use Rattle.cfg_build.specs.CfgGraph.Flow.{Flow}
 use Rattle.smpl_terms.specs.Environments.{Environment}
 use Rattle.smpl_patch.specs.declared.witness.Witness.{Witness}
 use Rattle.smpl_patch.specs.declared.witness.Witness.TheVariants.{Bind}

@@ -1,7 +1,7 @@
 -- At the end of the loop over the values of a hidden variable, its states are there.
 use Rattle.std.proofs.Common.{◌≡◌, ℕ, ◌≤◌, true, ◌||◌, sym, ap, ◌∙◌, List, length}
 use Rattle.std.specs.List.{list_any}
-use Rattle.cfg_graph.specs.Flow.{Flow}
+use Rattle.cfg_build.specs.CfgGraph.Flow.{Flow}
 use Rattle.smpl_terms.specs.declared.var.Var.{Var}
 use Rattle.smpl_terms.specs.declared.value.Value.{Value}
 use Rattle.smpl_terms.specs.Values.{same}
@@ -9,8 +9,8 @@ use Rattle.smpl_terms.specs.Environments.{Environment, change}
 use Rattle.smpl_patch.specs.declared.witness.Witness.{Witness}
 use Rattle.env_sets.specs.Sets.{Entries}
 use Rattle.ctl_formula.specs.Formulas.{FormulaOf}
-use Rattle.wit_order.specs.Forests.{has}
-use Rattle.wit_trees.specs.Forest.{is_hidden}
+use Rattle.wit_forest.specs.WitOrder.Forests.{has}
+use Rattle.wit_forest.specs.WitTrees.Forest.{is_hidden}
 use Rattle.wit_forest.specs.declared.states.State.{State}
 use Rattle.wit_forest.specs.Gathered.{AreReady, InRange, IsBound, Adds, Grows, IsHiddenDone, holds_at, quantified}
 use Rattle.wit_forest.proofs.AddLemmas.{of_state}

@@ -2,14 +2,14 @@
 use Rattle.std.proofs.Common.{◌≡◌, ℕ, suc, zero, ◌<◌, Bool, true, false, cond, refl, subst, arith, List, [], ◌∷◌, ◌++◌, map, length, get_or, Option, Some, None, Contains}
 use Rattle.std.specs.Prelude.{slice_get, nat_lt}
 use Rattle.std.specs.List.{flat_map}
-use Rattle.cfg_graph.specs.Flow.{Flow, IsSound, count_of, succ_of, past_of, down_of}
+use Rattle.cfg_build.specs.CfgGraph.Flow.{Flow, IsSound, count_of, succ_of, past_of, down_of}
 use Rattle.ctl_formula.specs.Tables.{below}
 use Rattle.ctl_formula.specs.declared.node.Node.{Node}
 use Rattle.ctl_formula.specs.declared.node.Node.TheVariants as node
 use Rattle.ctl_formula.proofs.TableLemmas.{lt-true}
-use Rattle.ctl_holds.proofs.TestLemmas.{and_left, and_right, Contains-first, Contains-later}
-use Rattle.ctl_holds.proofs.GraphLemmas.{node_after, past_node, down_node}
-use Rattle.wit_steps.specs.Steps.{kids, held, way_on, there}
+use Rattle.ctl_fixpoint.proofs.CtlHolds.TestLemmas.{and_left, and_right, Contains-first, Contains-later}
+use Rattle.ctl_fixpoint.proofs.CtlHolds.GraphLemmas.{node_after, past_node, down_node}
+use Rattle.wit_forest.specs.WitSteps.Steps.{kids, held, way_on, there}
 
 abbrev pub is_until : Node → Bool
 is_until (node.AU i j) = true

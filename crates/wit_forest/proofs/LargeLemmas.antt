@@ -8,15 +8,15 @@ use Rattle.smpl_terms.specs.declared.value.Value.{Value}
 use Rattle.smpl_patch.specs.declared.pattern.VarDecl.{VarDecl}
 use Rattle.smpl_patch.specs.declared.witness.Witness.{Witness}
 use Rattle.smpl_patch.specs.declared.witness.Witness.TheVariants.{Bind}
-use Rattle.ctl_holds.proofs.TestLemmas.{or_cases, or_left, or_right}
-use Rattle.wit_order.specs.Same.{same_witness, same_forest}
-use Rattle.wit_order.specs.Sizes.{size, forest_size}
-use Rattle.wit_order.specs.Forests.{has, HaveSame, BeforeFirst, Rise}
-use Rattle.wit_order.proofs.ForestLaws.{one_list}
-use Rattle.wit_order.proofs.OrderLaws.{witness_order_total}
-use Rattle.wit_order.proofs.SameLaws.{is_eq-witness_order, witness-refl, witness-sym, witness-along}
-use Rattle.wit_order.proofs.WitnessLemmas.{size-Bind}
-use Rattle.wit_order.proofs.SizeLemmas.{size-along, forest_size-along}
+use Rattle.ctl_fixpoint.proofs.CtlHolds.TestLemmas.{or_cases, or_left, or_right}
+use Rattle.wit_forest.specs.WitOrder.Same.{same_witness, same_forest}
+use Rattle.wit_forest.specs.WitOrder.Sizes.{size, forest_size}
+use Rattle.wit_forest.specs.WitOrder.Forests.{has, HaveSame, BeforeFirst, Rise}
+use Rattle.wit_forest.proofs.WitOrder.ForestLaws.{one_list}
+use Rattle.wit_forest.proofs.WitOrder.OrderLaws.{witness_order_total}
+use Rattle.wit_forest.proofs.WitOrder.SameLaws.{is_eq-witness_order, witness-refl, witness-sym, witness-along}
+use Rattle.wit_forest.proofs.WitOrder.WitnessLemmas.{size-Bind}
+use Rattle.wit_forest.proofs.WitOrder.SizeLemmas.{size-along, forest_size-along}
 use Rattle.wit_forest.specs.Gathered.{HasTooMany}
 
 forest_size-cons : (w : Witness) (ws : List Witness) → forest_size (w ∷ ws) ≡ size w + forest_size ws

@@ -20,3 +20,7 @@ mod ReadyLemmas
 mod GatherLemmas
 mod VisitLemmas
 mod HiddenLemmas
+pub mod WitOrder
+pub mod WitTrees
+pub mod WitSteps
+pub mod ReachLaws

@@ -5,13 +5,13 @@ use Rattle.std.proofs.lemmas.List.{append-nil, take_all}
 use Rattle.std.proofs.lemmas.List.Elements.{Contains-append_cases}
 use Rattle.std.proofs.lemmas.List.Folds.{list_any_more}
 use Rattle.std.specs.List.{list_any}
-use Rattle.cfg_graph.specs.Flow.{Flow}
+use Rattle.cfg_build.specs.CfgGraph.Flow.{Flow}
 use Rattle.smpl_terms.specs.declared.var.Var.{Var}
 use Rattle.smpl_terms.specs.declared.value.Value.{Value}
 use Rattle.smpl_terms.specs.Environments.{Environment, total}
 use Rattle.smpl_patch.specs.declared.witness.Witness.{Witness}
 use Rattle.ctl_formula.specs.Formulas.{FormulaOf}
-use Rattle.wit_order.specs.Forests.{has}
+use Rattle.wit_forest.specs.WitOrder.Forests.{has}
 use Rattle.wit_forest.specs.declared.states.State.{State}
 use Rattle.wit_forest.specs.Gathered.{Covered, IsAdded, InRange, Grows, Adds, forest_at}
 use Rattle.wit_forest.proofs.AddLemmas.{of_state, added_there, covered_more}

@@ -1,7 +1,7 @@
 -- Members of lists that are joined.
 use Rattle.std.proofs.Common.{◌≡◌, ℕ, suc, zero, ◌<◌, sym, subst, arith, List, [], ◌∷◌, ◌++◌, length, get_or, slice_get, Some, Contains}
 use Rattle.std.specs.List.{flat_map}
-use Rattle.ctl_holds.proofs.TestLemmas.{Contains-later}
+use Rattle.ctl_fixpoint.proofs.CtlHolds.TestLemmas.{Contains-later}
 
 left_at : {X : Type 0} (xs ys : List X) (x : X) (i : ℕ) → i < length xs → get_or xs i x ≡ x → Contains (xs ++ ys) x
 left_at [] ys x i lt e = absurd (omega (arith, lt))

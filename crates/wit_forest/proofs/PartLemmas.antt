@@ -4,7 +4,7 @@ use Rattle.ctl_formula.specs.Plain.{Plain, True, Atom, Bail, BraceOpen, BraceClo
 use Rattle.ctl_formula.specs.Tables.{at, plain_of}
 use Rattle.ctl_formula.specs.declared.node.Node.{Node}
 use Rattle.ctl_formula.specs.declared.node.Node.TheVariants as node
-use Rattle.ctl_holds.specs.Parts.{IsPart}
+use Rattle.ctl_fixpoint.specs.CtlHolds.Parts.{IsPart}
 use Rattle.wit_forest.proofs.KidRangeLemmas.{EachKid}
 use Rattle.wit_forest.proofs.TellLemmas.{part_trans}
 

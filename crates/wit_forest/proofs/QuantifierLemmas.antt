@@ -1,7 +1,7 @@
 -- The forest of a quantifier by any list of the values with which its part holds, ids aside.
 use Rattle.std.proofs.Common.{◌≡◌, ℕ, ◌+◌, ◌<◌, Bool, true, false, ◌&&◌, ◌||◌, eqb, sym, ap, ◌∙◌, subst, arith, List}
 use Rattle.std.specs.List.{filter, list_any}
-use Rattle.cfg_graph.specs.Flow.{Flow, IsSound, count_of}
+use Rattle.cfg_build.specs.CfgGraph.Flow.{Flow, IsSound, count_of}
 use Rattle.smpl_terms.specs.declared.var.Var.{Var}
 use Rattle.smpl_terms.specs.declared.value.Value.{Value}
 use Rattle.smpl_terms.specs.Vars.{same_var}
@@ -14,20 +14,20 @@ use Rattle.smpl_patch.specs.declared.witness.Witness.TheVariants.{Bind}
 use Rattle.ctl_formula.specs.Bounds.{bound}
 use Rattle.ctl_formula.specs.Tables.{at, plains}
 use Rattle.ctl_formula.specs.Formulas.{FormulaOf}
-use Rattle.ctl_holds.specs.Parts.{EachPattern}
-use Rattle.ctl_holds.specs.BoundLaw.{SureStand}
-use Rattle.ctl_holds.specs.Values.{values_of, is_among}
-use Rattle.ctl_holds.proofs.BoundLemmas.{bound_law}
-use Rattle.ctl_holds.proofs.TestLemmas.{and_left, and_right, and_both, same_bool, any_found, any_has}
-use Rattle.wit_order.specs.Same.{same_witness}
-use Rattle.wit_order.specs.Forests.{has}
-use Rattle.wit_order.proofs.WitnessLemmas.{same-Bind-Bind}
-use Rattle.wit_order.proofs.SameLaws.{witness-along, witness-refl}
-use Rattle.wit_trees.specs.Forest.{is_hidden, bound_to}
-use Rattle.wit_trees.specs.Graphs.{world_of}
-use Rattle.wit_trees.proofs.AlikeLemmas.{holds_alike, forest_alike, value_alike}
-use Rattle.wit_trees.proofs.ReachLemmas.{any-filter}
-use Rattle.wit_trees.proofs.StepLemmas.{has-union_map}
+use Rattle.ctl_fixpoint.specs.CtlHolds.Parts.{EachPattern}
+use Rattle.ctl_fixpoint.specs.CtlHolds.BoundLaw.{SureStand}
+use Rattle.ctl_fixpoint.specs.CtlHolds.Values.{values_of, is_among}
+use Rattle.ctl_fixpoint.proofs.CtlHolds.BoundLemmas.{bound_law}
+use Rattle.ctl_fixpoint.proofs.CtlHolds.TestLemmas.{and_left, and_right, and_both, same_bool, any_found, any_has}
+use Rattle.wit_forest.specs.WitOrder.Same.{same_witness}
+use Rattle.wit_forest.specs.WitOrder.Forests.{has}
+use Rattle.wit_forest.proofs.WitOrder.WitnessLemmas.{same-Bind-Bind}
+use Rattle.wit_forest.proofs.WitOrder.SameLaws.{witness-along, witness-refl}
+use Rattle.wit_forest.specs.WitTrees.Forest.{is_hidden, bound_to}
+use Rattle.wit_forest.specs.WitTrees.Graphs.{world_of}
+use Rattle.wit_forest.proofs.WitTrees.AlikeLemmas.{holds_alike, forest_alike, value_alike}
+use Rattle.wit_forest.proofs.WitTrees.ReachLemmas.{any-filter}
+use Rattle.wit_forest.proofs.WitTrees.StepLemmas.{has-union_map}
 use Rattle.wit_forest.specs.Gathered.{holds_at, forest_at, quantified}
 use Rattle.wit_forest.proofs.ValueLemmas.{changed_own}
 

@@ -2,7 +2,7 @@
 use Rattle.std.proofs.Common.{◌≡◌, ℕ, ◌<◌, ◌≤◌, Bool, true, false, nat_lt, refl, ap, ◌∙◌, subst, arith, List, [], length, slice_index_or, slice_get, Some, Contains, Result, Ok, Err, IfOk}
 use Rattle.std.proofs.lemmas.Bool.Decides.{nat_tests}
 use Rattle.std.proofs.lemmas.Option.{get_or_from_slice_get}
-use Rattle.cfg_graph.specs.Flow.{Flow, count_of}
+use Rattle.cfg_build.specs.CfgGraph.Flow.{Flow, count_of}
 use Rattle.smpl_terms.specs.declared.var.Var.{Var}
 use Rattle.smpl_terms.specs.declared.value.Value.{Value}
 use Rattle.smpl_terms.specs.Environments.{Environment, change}
@@ -15,13 +15,13 @@ use Rattle.ctl_formula.specs.Tables.{at, plains, plain_of, below}
 use Rattle.ctl_formula.specs.Formulas.{FormulaOf, plain}
 use Rattle.ctl_formula.specs.declared.node.Node.{Node}
 use Rattle.ctl_formula.specs.declared.node.Node.TheVariants as node
-use Rattle.ctl_holds.specs.Parts.{IsPart, EachPattern}
-use Rattle.ctl_holds.specs.BoundLaw.{SureStand}
-use Rattle.ctl_holds.proofs.TestLemmas.{and_left, and_both}
+use Rattle.ctl_fixpoint.specs.CtlHolds.Parts.{IsPart, EachPattern}
+use Rattle.ctl_fixpoint.specs.CtlHolds.BoundLaw.{SureStand}
+use Rattle.ctl_fixpoint.proofs.CtlHolds.TestLemmas.{and_left, and_both}
 use Rattle.ctl_fixpoint.specs.Steps.{IsGood}
 use Rattle.ctl_fixpoint.proofs.StepLemmas.{part_good}
-use Rattle.wit_steps.specs.Steps.{kids, told, is_quantifier}
-use Rattle.wit_steps.specs.Choices.{chosen, AllRise}
+use Rattle.wit_forest.specs.WitSteps.Steps.{kids, told, is_quantifier}
+use Rattle.wit_forest.specs.WitSteps.Choices.{chosen, AllRise}
 use Rattle.wit_forest.specs.Gathered.{node_at, holds_at, AreReady, InRange, IsBound}
 use Rattle.wit_forest.proofs.KidRangeLemmas.{EachKid, each_below, kid_fine}
 use Rattle.wit_forest.proofs.AgreeLemmas.{Agree, kids_agree}

@@ -4,7 +4,7 @@ use Rattle.std.proofs.Math.Bool.{or_assoc}
 use Rattle.std.proofs.lemmas.List.{take_all}
 use Rattle.std.proofs.lemmas.List.Folds.{list_any_more}
 use Rattle.std.specs.List.{list_any}
-use Rattle.cfg_graph.specs.Flow.{Flow, IsSound, count_of}
+use Rattle.cfg_build.specs.CfgGraph.Flow.{Flow, IsSound, count_of}
 use Rattle.smpl_terms.specs.declared.var.Var.{Var}
 use Rattle.smpl_terms.specs.declared.value.Value.{Value}
 use Rattle.smpl_terms.specs.Values.{same}
@@ -16,15 +16,15 @@ use Rattle.smpl_patch.specs.declared.witness.Witness.TheVariants.{Bind}
 use Rattle.ctl_formula.specs.Bounds.{bound}
 use Rattle.ctl_formula.specs.Tables.{at, plains}
 use Rattle.ctl_formula.specs.Formulas.{FormulaOf}
-use Rattle.ctl_holds.specs.Parts.{EachPattern}
-use Rattle.ctl_holds.specs.BoundLaw.{SureStand}
-use Rattle.ctl_holds.proofs.TestLemmas.{and_left, and_right, and_both, any_has, or_left, or_right, or_cases}
-use Rattle.wit_order.specs.Same.{same_witness, same_forest}
-use Rattle.wit_order.specs.Sizes.{forest_size}
-use Rattle.wit_order.specs.Forests.{has}
-use Rattle.wit_order.proofs.WitnessLemmas.{same-Bind-Bind}
-use Rattle.wit_order.proofs.SameLaws.{witness-along, witness-refl}
-use Rattle.wit_trees.specs.Forest.{is_hidden}
+use Rattle.ctl_fixpoint.specs.CtlHolds.Parts.{EachPattern}
+use Rattle.ctl_fixpoint.specs.CtlHolds.BoundLaw.{SureStand}
+use Rattle.ctl_fixpoint.proofs.CtlHolds.TestLemmas.{and_left, and_right, and_both, any_has, or_left, or_right, or_cases}
+use Rattle.wit_forest.specs.WitOrder.Same.{same_witness, same_forest}
+use Rattle.wit_forest.specs.WitOrder.Sizes.{forest_size}
+use Rattle.wit_forest.specs.WitOrder.Forests.{has}
+use Rattle.wit_forest.proofs.WitOrder.WitnessLemmas.{same-Bind-Bind}
+use Rattle.wit_forest.proofs.WitOrder.SameLaws.{witness-along, witness-refl}
+use Rattle.wit_forest.specs.WitTrees.Forest.{is_hidden}
 use Rattle.wit_forest.specs.Gathered.{forest_at, holds_at, quantified, HasTooMany, IsShownDone}
 use Rattle.wit_forest.proofs.DoneLemmas.{shown_done}
 use Rattle.wit_forest.proofs.LargeLemmas.{large_bind, large_more, one_large}

@@ -13,8 +13,8 @@ use Rattle.smpl_terms.specs.Environments.{total, value_in}
 use Rattle.smpl_terms.proofs.VarLaws.{same_var-equal}
 use Rattle.smpl_terms.proofs.ValueLaws.{same-refl, same-sym}
 use Rattle.env_parts.specs.Parts.{Pairs, same_env}
-use Rattle.ctl_holds.proofs.TestLemmas.{any_found}
-use Rattle.wit_trees.specs.Alike.{Alike}
+use Rattle.ctl_fixpoint.proofs.CtlHolds.TestLemmas.{any_found}
+use Rattle.wit_forest.specs.WitTrees.Alike.{Alike}
 use Rattle.wit_forest.specs.declared.states.State.{State}
 use Rattle.wit_forest.specs.Gathered.{Covered, IsAdded}
 use Rattle.wit_forest.specs.States.{same_state, with_state}

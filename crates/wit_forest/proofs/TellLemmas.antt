@@ -1,16 +1,16 @@
 -- What the sets tell is what holds, at each part of the formula; parts of parts are parts.
 use Rattle.std.proofs.Common.{◌≡◌, ℕ, ◌+◌, ◌<◌, inl, inr, ⊎_elim, subst, arith, List, length}
-use Rattle.cfg_graph.specs.Flow.{Flow, IsSound, count_of}
+use Rattle.cfg_build.specs.CfgGraph.Flow.{Flow, IsSound, count_of}
 use Rattle.smpl_terms.specs.Environments.{Environment}
 use Rattle.env_sets.specs.Sets.{Entries, set_denotes}
 use Rattle.env_sets.specs.States.{set_at}
 use Rattle.ctl_formula.specs.Plain.{Plain, True, Atom, Bail, BraceOpen, BraceClose, Inside, Outside, Not, And, Or, AX, EX, AU, EU, Past, Down, Exists}
 use Rattle.ctl_formula.specs.Tables.{at, plains}
 use Rattle.ctl_formula.specs.Formulas.{FormulaOf, plain}
-use Rattle.ctl_holds.specs.Rounds.{holds}
-use Rattle.ctl_holds.specs.Parts.{IsPart}
-use Rattle.ctl_holds.proofs.HoldLemmas.{holds_decides}
-use Rattle.ctl_holds.proofs.TestLemmas.{same_bool}
+use Rattle.ctl_fixpoint.specs.CtlHolds.Rounds.{holds}
+use Rattle.ctl_fixpoint.specs.CtlHolds.Parts.{IsPart}
+use Rattle.ctl_fixpoint.proofs.CtlHolds.HoldLemmas.{holds_decides}
+use Rattle.ctl_fixpoint.proofs.CtlHolds.TestLemmas.{same_bool}
 use Rattle.ctl_fixpoint.specs.States.{AreStateSets}
 
 pub told_is_holds : (g : Flow) (f : FormulaOf) (rows : List (List Entries)) → IsSound g → AreStateSets g f rows

@@ -1,6 +1,6 @@
 -- The values that are read off a set are those with which the part holds.
 use Rattle.std.proofs.Common.{◌≡◌, ℕ, ◌+◌, true, cond, sym, ap, ◌∙◌, subst, arith, List}
-use Rattle.cfg_graph.specs.Flow.{Flow, IsSound, count_of}
+use Rattle.cfg_build.specs.CfgGraph.Flow.{Flow, IsSound, count_of}
 use Rattle.smpl_terms.specs.declared.var.Var.{Var}
 use Rattle.smpl_terms.specs.declared.value.Value.{Value}
 use Rattle.smpl_terms.specs.Environments.{Environment, change}
@@ -11,13 +11,13 @@ use Rattle.env_sets.specs.States.{set_at}
 use Rattle.ctl_formula.specs.Bounds.{bound}
 use Rattle.ctl_formula.specs.Tables.{at, plains}
 use Rattle.ctl_formula.specs.Formulas.{FormulaOf}
-use Rattle.ctl_holds.specs.Parts.{EachPattern}
-use Rattle.ctl_holds.specs.BoundLaw.{SureStand}
-use Rattle.ctl_holds.specs.Values.{values_of, is_among}
-use Rattle.ctl_holds.proofs.BoundLemmas.{bound_law}
+use Rattle.ctl_fixpoint.specs.CtlHolds.Parts.{EachPattern}
+use Rattle.ctl_fixpoint.specs.CtlHolds.BoundLaw.{SureStand}
+use Rattle.ctl_fixpoint.specs.CtlHolds.Values.{values_of, is_among}
+use Rattle.ctl_fixpoint.proofs.CtlHolds.BoundLemmas.{bound_law}
 use Rattle.ctl_fixpoint.specs.States.{AreStateSets}
-use Rattle.wit_steps.specs.Choices.{chosen, AllRise}
-use Rattle.wit_steps.proofs.ChoiceLemmas.{all_chosen}
+use Rattle.wit_forest.specs.WitSteps.Choices.{chosen, AllRise}
+use Rattle.wit_forest.proofs.WitSteps.ChoiceLemmas.{all_chosen}
 use Rattle.wit_forest.specs.Gathered.{holds_at, InRange}
 use Rattle.wit_forest.proofs.TellLemmas.{told_is_holds}
 

@@ -2,7 +2,7 @@
 use Rattle.std.proofs.Common.{◌≡◌, ℕ, ◌<◌, ⊎_elim, Bool, true, false, ◌||◌, refl, sym, ap, ◌∙◌, subst, List, [], Contains}
 use Rattle.std.proofs.lemmas.List.{append-nil}
 use Rattle.std.specs.List.{list_any}
-use Rattle.cfg_graph.specs.Flow.{Flow, IsSound, count_of}
+use Rattle.cfg_build.specs.CfgGraph.Flow.{Flow, IsSound, count_of}
 use Rattle.smpl_terms.specs.declared.var.Var.{Var}
 use Rattle.smpl_terms.specs.Environments.{Environment}
 use Rattle.smpl_patch.specs.declared.witness.Witness.{Witness}
@@ -11,13 +11,13 @@ use Rattle.ctl_formula.specs.Tables.{at, plains, plain_of}
 use Rattle.ctl_formula.specs.Formulas.{FormulaOf}
 use Rattle.ctl_formula.specs.declared.node.Node.{Node}
 use Rattle.ctl_formula.specs.declared.node.Node.TheVariants as node
-use Rattle.ctl_holds.proofs.TestLemmas.{or_cases, or_left, or_right}
-use Rattle.wit_order.specs.Forests.{has}
-use Rattle.wit_trees.specs.Forest.{is_hidden}
-use Rattle.wit_trees.specs.Graphs.{forest_of}
-use Rattle.wit_steps.specs.Steps.{kids, is_quantifier}
-use Rattle.wit_steps.specs.Touches.{own_touches}
-use Rattle.wit_steps.proofs.KidLemmas.{kid_step}
+use Rattle.ctl_fixpoint.proofs.CtlHolds.TestLemmas.{or_cases, or_left, or_right}
+use Rattle.wit_forest.specs.WitOrder.Forests.{has}
+use Rattle.wit_forest.specs.WitTrees.Forest.{is_hidden}
+use Rattle.wit_forest.specs.WitTrees.Graphs.{forest_of}
+use Rattle.wit_forest.specs.WitSteps.Steps.{kids, is_quantifier}
+use Rattle.wit_forest.specs.WitSteps.Touches.{own_touches}
+use Rattle.wit_forest.proofs.WitSteps.KidLemmas.{kid_step}
 use Rattle.wit_forest.specs.declared.states.State.{State}
 use Rattle.wit_forest.specs.Gathered.{Covered, node_at, forest_at, holds_at, quantified, IsHiddenDone, IsShownDone, IsExplored, Adds, Grows, HasTooMany, is_there}
 use Rattle.wit_forest.proofs.AddLemmas.{of_state}

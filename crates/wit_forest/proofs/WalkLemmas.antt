@@ -1,13 +1,13 @@
 -- What is found along the walks of an until.
 use Rattle.std.proofs.Common.{◌≡◌, ℕ, suc, zero, ◌+◌, ◌<◌, ⊎_elim, Bool, true, false, ◌&&◌, eqb, subst, Contains}
 use Rattle.std.specs.List.{list_any}
-use Rattle.cfg_graph.specs.Flow.{Flow, IsSound, count_of, succ_of}
-use Rattle.ctl_holds.specs.Rounds.{rounds}
-use Rattle.ctl_holds.proofs.TestLemmas.{or_cases, and_left, and_right, any_found, any_has}
-use Rattle.ctl_holds.proofs.GraphLemmas.{node_after}
-use Rattle.wit_trees.specs.Forest.{numbers, is_reached}
-use Rattle.wit_trees.proofs.ReachLemmas.{eqb-same, eqb-itself}
-use Rattle.wit_steps.proofs.KidLemmas.{numbers_below}
+use Rattle.cfg_build.specs.CfgGraph.Flow.{Flow, IsSound, count_of, succ_of}
+use Rattle.ctl_fixpoint.specs.CtlHolds.Rounds.{rounds}
+use Rattle.ctl_fixpoint.proofs.CtlHolds.TestLemmas.{or_cases, and_left, and_right, any_found, any_has}
+use Rattle.ctl_fixpoint.proofs.CtlHolds.GraphLemmas.{node_after}
+use Rattle.wit_forest.specs.WitTrees.Forest.{numbers, is_reached}
+use Rattle.wit_forest.proofs.WitTrees.ReachLemmas.{eqb-same, eqb-itself}
+use Rattle.wit_forest.proofs.WitSteps.KidLemmas.{numbers_below}
 
 module _ (g : Flow) (ok : IsSound g) (test q u : ℕ → Bool) (C : ℕ → Type 0) (F : Bool)
     (look : (k : ℕ) → C k → q k ≡ true → F ≡ true)

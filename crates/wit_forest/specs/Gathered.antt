@@ -1,7 +1,7 @@
 -- What a list of states and a list of trees that were found make up, and when nothing is left to be looked at.
 use Rattle.std.specs.Prelude.{◌≡◌, ℕ, ◌+◌, ◌<◌, ◌≤◌, Bool, true, false, ◌||◌, ◌⊎◌, List, [], ◌∷◌, ◌++◌, length, slice_index_or, Contains}
 use Rattle.std.specs.List.{list_any}
-use Rattle.cfg_graph.specs.Flow.{Flow, IsSound, count_of}
+use Rattle.cfg_build.specs.CfgGraph.Flow.{Flow, IsSound, count_of}
 use Rattle.smpl_terms.specs.declared.var.Var.{Var}
 use Rattle.smpl_terms.specs.declared.value.Value.{Value}
 use Rattle.smpl_terms.specs.Environments.{Environment, change, total}
@@ -16,18 +16,18 @@ use Rattle.ctl_formula.specs.Bounds.{bound}
 use Rattle.ctl_formula.specs.Plain.{Exists}
 use Rattle.ctl_formula.specs.Tables.{at, plains}
 use Rattle.ctl_formula.specs.Formulas.{FormulaOf, IsFormula, plain}
-use Rattle.ctl_holds.specs.Parts.{IsPart, EachPattern}
-use Rattle.ctl_holds.specs.BoundLaw.{SureStand}
-use Rattle.ctl_holds.specs.Rounds.{holds}
-use Rattle.ctl_holds.specs.Values.{values_of}
+use Rattle.ctl_fixpoint.specs.CtlHolds.Parts.{IsPart, EachPattern}
+use Rattle.ctl_fixpoint.specs.CtlHolds.BoundLaw.{SureStand}
+use Rattle.ctl_fixpoint.specs.CtlHolds.Rounds.{holds}
+use Rattle.ctl_fixpoint.specs.CtlHolds.Values.{values_of}
 use Rattle.ctl_fixpoint.specs.States.{AreStateSets}
-use Rattle.wit_order.specs.Forests.{has, Rise}
-use Rattle.wit_order.specs.Sizes.{forest_size}
-use Rattle.wit_trees.specs.Alike.{Alike}
-use Rattle.wit_trees.specs.Forest.{is_hidden}
-use Rattle.wit_trees.specs.Graphs.{forest_of}
-use Rattle.wit_steps.specs.Steps.{kids}
-use Rattle.wit_steps.specs.Touches.{own_touches}
+use Rattle.wit_forest.specs.WitOrder.Forests.{has, Rise}
+use Rattle.wit_forest.specs.WitOrder.Sizes.{forest_size}
+use Rattle.wit_forest.specs.WitTrees.Alike.{Alike}
+use Rattle.wit_forest.specs.WitTrees.Forest.{is_hidden}
+use Rattle.wit_forest.specs.WitTrees.Graphs.{forest_of}
+use Rattle.wit_forest.specs.WitSteps.Steps.{kids}
+use Rattle.wit_forest.specs.WitSteps.Touches.{own_touches}
 use Rattle.wit_forest.specs.declared.states.State.{State}
 
 -- different trees that pass the test have more touches and binds than a forest may have

@@ -5,3 +5,11 @@ pub mod States
 pub mod Gathered
 -- for inside use: laws of the first
 pub mod StateLaws
+-- What wit_order defines.
+pub mod WitOrder
+-- What wit_trees defines.
+pub mod WitTrees
+-- What wit_steps defines.
+pub mod WitSteps
+-- What reach_laws defines.
+pub mod ReachLaws

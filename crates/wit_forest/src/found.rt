@@ -1,24 +1,24 @@
 // Trees that were found, put in order where they become many.
 ghost use Rattle.std.specs.Prelude.{◌≡◌, ◌||◌, ◌<◌, ◌≤◌, IfOk, [], Err, length};
-ghost use Rattle.cfg_graph.specs.Flow.{count_of};
+ghost use Rattle.cfg_build.specs.CfgGraph.Flow.{count_of};
 ghost use Rattle.smpl_terms.specs.Environments.{total};
 ghost use Rattle.smpl_patch.specs.declared.witness.Witness.{Witness as Tree};
-ghost use Rattle.wit_order.specs.Same.{same_witness};
-ghost use Rattle.wit_order.specs.Sizes.{forest_size};
-ghost use Rattle.wit_order.specs.Forests.{has, HaveSame, Rise};
-ghost use Rattle.wit_steps.specs.Touches.{own_touches};
+ghost use Rattle.wit_forest.specs.WitOrder.Same.{same_witness};
+ghost use Rattle.wit_forest.specs.WitOrder.Sizes.{forest_size};
+ghost use Rattle.wit_forest.specs.WitOrder.Forests.{has, HaveSame, Rise};
+ghost use Rattle.wit_forest.specs.WitSteps.Touches.{own_touches};
 ghost use Rattle.wit_forest.specs.Gathered.{HasTooMany};
 
 use crate::fault::ForestFault;
-use cfg_graph::Graph;
+use crate::wit_order::{distinct, within};
+use crate::wit_steps::put_own;
+use cfg_build::Graph;
 use ctl_formula::{Formula, Node};
 use smpl_patch::{VarDecl, Witness};
 use smpl_terms::Env;
 use std::alloc::Global;
 use std::marker::Model;
 use std::mem;
-use wit_order::{distinct, within};
-use wit_steps::put_own;
 
 /// The most nodes of a forest.
 const MOST: u32 = 1_000_000;

@@ -2,36 +2,36 @@
 ghost use Rattle.std.specs.Prelude.{◌≡◌, ◌||◌, ℕ, ◌<◌, ◌≤◌, true, false, List, IfOk, OnOk, Err, length, Contains};
 ghost use Rattle.std.specs.List.{list_any};
 ghost use Rattle.std.specs.List.Sorted.{IsStrictlySortedBy};
-ghost use Rattle.cfg_graph.specs.Flow.{count_of};
+ghost use Rattle.cfg_build.specs.CfgGraph.Flow.{count_of};
 ghost use Rattle.smpl_terms.specs.Environments.{total, change};
 ghost use Rattle.smpl_terms.specs.declared.value.Value.{Value as Datum};
 ghost use Rattle.smpl_terms.specs.Values.{same, value_order};
-ghost use Rattle.wit_steps.specs.Steps as steps;
+ghost use Rattle.wit_forest.specs.WitSteps.Steps as steps;
 ghost use Rattle.ctl_formula.specs.Formulas.{plain};
-ghost use Rattle.ctl_holds.specs.Parts.{EachPattern};
-ghost use Rattle.ctl_holds.specs.BoundLaw.{SureStand};
+ghost use Rattle.ctl_fixpoint.specs.CtlHolds.Parts.{EachPattern};
+ghost use Rattle.ctl_fixpoint.specs.CtlHolds.BoundLaw.{SureStand};
 ghost use Rattle.ctl_fixpoint.specs.States.{AreStateSets};
-ghost use Rattle.wit_order.specs.Same.{same_forest};
-ghost use Rattle.wit_order.specs.Sizes.{forest_size};
-ghost use Rattle.wit_order.specs.Forests.{has};
+ghost use Rattle.wit_forest.specs.WitOrder.Same.{same_forest};
+ghost use Rattle.wit_forest.specs.WitOrder.Sizes.{forest_size};
+ghost use Rattle.wit_forest.specs.WitOrder.Forests.{has};
 ghost use Rattle.smpl_patch.specs.declared.witness.Witness.{Witness as Tree};
 ghost use Rattle.wit_forest.specs.Gathered.{node_at, forest_at as part_forest, holds_at, quantified, is_there};
 ghost use Rattle.wit_forest.specs.Gathered.{Covered, AreReady, InRange, IsBound, IsHiddenDone, IsShownDone, IsExplored, Adds, Grows, HasTooMany};
-ghost use Rattle.wit_trees.specs.Forest as of;
-ghost use Rattle.wit_trees.specs.Graphs.{forest_of};
+ghost use Rattle.wit_forest.specs.WitTrees.Forest as of;
+ghost use Rattle.wit_forest.specs.WitTrees.Graphs.{forest_of};
 
 use crate::fault::ForestFault;
 use crate::found::Found;
 use crate::states::States;
+use crate::wit_steps::{changed, kids, values_in};
 use c_terms::NoMemory;
-use cfg_graph::Graph;
+use cfg_build::Graph;
 use ctl_formula::{Formula, Node};
 use env_sets::StateSets;
 use smpl_patch::Witness;
 use smpl_terms::{Env, Value, Var, same_value, value_order};
 use sqlite_items::Items;
 use std::alloc::Global;
-use wit_steps::{changed, kids, values_in};
 
 /// The variable of a block, whose name begins with `{`.
 fn is_hidden(x: &Var) -> bool

@@ -3,7 +3,7 @@ use Rattle.std.specs.Prelude.{ℕ, zero, suc, ◌+◌, Bool, ◌||◌, eqb, List
 use Rattle.std.specs.Fmt.{decimal}
 use Rattle.std.specs.List.{filter, flat_map, list_any}
 use Rattle.c_terms.specs.Same.{same_bytes}
-use Rattle.escaped_names.specs.Escapes.{escaped_name}
+use Rattle.outer_io.specs.EscapedNames.Escapes.{escaped_name}
 use Rattle.c_show.specs.Show.{show_of}
 use Rattle.smpl_terms.specs.declared.var.Var.{Var}
 use Rattle.smpl_terms.specs.declared.value.Value.{Value}

@@ -10,8 +10,8 @@ ghost use Rattle.wit_print.specs.Report.{is_reported, rule_name, let_text, let_l
 use crate::forest::put_tree;
 use crate::report::Report;
 use c_terms::NoMemory;
-use escaped_names::escaped_name;
 use indexmap::IndexSet;
+use outer_io::escaped_name;
 use smpl_patch::{Patch, Rule, RuleWitness, VarDecl, Witness};
 use smpl_terms::{Env, Value, Var};
 use std::alloc::Global;

@@ -2,7 +2,7 @@ use Rattle.std.proofs.Common.{◌≡◌, Bool, true}
 use Rattle.smpl_terms.specs.declared.var.Var.{Var}
 use Rattle.smpl_terms.specs.Environments.{Environment}
 use Rattle.env_sets.specs.Sets.{set_denotes, set_vars}
-use Rattle.ctl_holds.specs.Holding.{open_after, in_block}
+use Rattle.ctl_fixpoint.specs.CtlHolds.Holding.{open_after, in_block}
 use Rattle.ctl_fixpoint.specs.Steps.{row_vars, Gives}
 use Rattle.ctl_fixpoint.proofs.blocks.inside_row.Given as goal
 

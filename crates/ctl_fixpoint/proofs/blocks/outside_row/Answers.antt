@@ -1,7 +1,7 @@
 use Rattle.std.proofs.Common.{◌≡◌, ℕ, suc, ◌+◌, Bool, true, not, ◌&&◌, ◌||◌, sym, ap, ◌∙◌, subst, arith}
 use Rattle.smpl_terms.specs.Environments.{Environment}
 use Rattle.env_sets.specs.Sets.{set_denotes, set_vars}
-use Rattle.ctl_holds.specs.Holding.{at_node, is_open, is_close, is_brace, open_after, off_block}
+use Rattle.ctl_fixpoint.specs.CtlHolds.Holding.{at_node, is_open, is_close, is_brace, open_after, off_block}
 use Rattle.ctl_fixpoint.specs.Steps.{row_vars, Gives}
 use Rattle.ctl_fixpoint.proofs.BlockLemmas.{twice}
 use Rattle.ctl_fixpoint.proofs.RowLemmas.{Gives-push, row_vars-push}

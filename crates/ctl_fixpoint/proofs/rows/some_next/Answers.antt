@@ -1,7 +1,7 @@
 use Rattle.std.proofs.Common.{◌≡◌, ℕ, ◌<◌, ◌≤◌, Bool, true, false, ◌||◌, refl, sym, ap, ◌∙◌, arith, List, [], ◌∷◌, length, get_or}
 use Rattle.std.proofs.lemmas.Result.{IfOk-weaker}
 use Rattle.env_sets.specs.Sets.{set_denotes, set_vars}
-use Rattle.ctl_holds.specs.Rounds.{passes}
+use Rattle.ctl_fixpoint.specs.CtlHolds.Rounds.{passes}
 use Rattle.ctl_fixpoint.specs.Steps.{has}
 use Rattle.ctl_fixpoint.proofs.RowLemmas.{member, row_vars-at}
 use Rattle.ctl_fixpoint.proofs.rows.some_next.Goals as goal

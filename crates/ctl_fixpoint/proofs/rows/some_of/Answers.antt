@@ -2,7 +2,7 @@ use Rattle.std.proofs.Common.{◌<◌, ◌||◌, false, length, arith, ap, sym, 
 use Rattle.std.proofs.lemmas.List.Folds.{list_any_more}
 use Rattle.std.proofs.lemmas.Result.{IfOk-weaker}
 use Rattle.env_sets.specs.Sets.{set_denotes, set_vars}
-use Rattle.ctl_holds.specs.Rounds.{passes}
+use Rattle.ctl_fixpoint.specs.CtlHolds.Rounds.{passes}
 use Rattle.ctl_fixpoint.specs.Steps.{has}
 use Rattle.ctl_fixpoint.proofs.RowLemmas.{member, take_all, row_vars-at}
 use Rattle.ctl_fixpoint.proofs.rows.some_of.Goals as goal

@@ -2,7 +2,7 @@ use Rattle.std.proofs.Common.{◌≡◌, Bool, true, false, take}
 use Rattle.smpl_terms.specs.declared.var.Var.{Var}
 use Rattle.smpl_terms.specs.Environments.{Environment}
 use Rattle.env_sets.specs.Sets.{set_denotes, set_vars}
-use Rattle.ctl_holds.specs.Rounds.{passes}
+use Rattle.ctl_fixpoint.specs.CtlHolds.Rounds.{passes}
 use Rattle.ctl_fixpoint.specs.Steps.{has, row_vars}
 use Rattle.ctl_fixpoint.proofs.rows.some_of.Given as goal
 

@@ -1,5 +1,5 @@
 use Rattle.std.proofs.Common.{◌≡◌, sym, ap, ◌∙◌, subst, arith}
-use Rattle.cfg_graph.specs.Flow.{count_of}
+use Rattle.cfg_build.specs.CfgGraph.Flow.{count_of}
 use Rattle.ctl_fixpoint.specs.Steps.{row_vars, Gives}
 use Rattle.ctl_fixpoint.specs.Sweeps.{until_of, SweptTimes}
 use Rattle.ctl_fixpoint.proofs.SweepLemmas.{swept_more, swept_all, swept_still}

@@ -3,9 +3,9 @@ use Rattle.std.specs.Result.{IfOk}
 use Rattle.smpl_terms.specs.declared.var.Var.{Var}
 use Rattle.smpl_patch.specs.Bodies.{body}
 use Rattle.pattern_vars.specs.Reads.{has}
-use Rattle.var_places.specs.Placing as placing
-use Rattle.var_places.specs.Places.{reading_at}
-use Rattle.var_places.proofs.KeptLemmas.{filter-same}
+use Rattle.pattern_vars.specs.VarPlaces.Placing as placing
+use Rattle.pattern_vars.specs.VarPlaces.Places.{reading_at}
+use Rattle.pattern_vars.proofs.VarPlaces.KeptLemmas.{filter-same}
 use Rattle.ctl_table.proofs.loose.lone.Goals as goal
 
 pub returns : goal.returns

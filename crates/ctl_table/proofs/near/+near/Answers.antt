@@ -6,7 +6,7 @@ use Rattle.smpl_patch.proofs.BodyLemmas.{bodies}
 use Rattle.ctl_table.specs.Table as table
 use Rattle.ctl_table.specs.Settings.{setting_at}
 use Rattle.ctl_table.specs.Beside.{MakesBesides}
-use Rattle.var_places.proofs.Weights.{weight_body, body-at, bodies-at, weight-first}
+use Rattle.pattern_vars.proofs.VarPlaces.Weights.{weight_body, body-at, bodies-at, weight-first}
 use Rattle.ctl_table.proofs.RowLemmas.{taken}
 use Rattle.ctl_table.proofs.NearLemmas.{none-beside, no-besides, near-none, near-at, near-step, near_first-none, near_first-at, beside-as, any-made}
 use Rattle.ctl_table.proofs.near.+near.Goals as goal

@@ -4,7 +4,7 @@ use Rattle.smpl_patch.proofs.BodyLemmas.{bodies}
 use Rattle.ctl_table.specs.Table as table
 use Rattle.ctl_table.specs.Settings.{setting_at}
 use Rattle.ctl_table.specs.Beside.{MakesBesides}
-use Rattle.var_places.proofs.Weights.{weight_element, weight_body, weight_bodies}
+use Rattle.pattern_vars.proofs.VarPlaces.Weights.{weight_element, weight_body, weight_bodies}
 use Rattle.ctl_table.proofs.near.+near.Given as goal
 
 abbrev pub decreases-near : goal.decreases-near

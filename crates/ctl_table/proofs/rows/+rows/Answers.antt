@@ -11,14 +11,14 @@ use Rattle.smpl_terms.specs.declared.var.Var.{Var}
 use Rattle.ctl_formula.specs.Plain.{Plain}
 use Rattle.ctl_formula.specs.Tables.{plains, Makes}
 use Rattle.ctl_formula.proofs.TableLemmas.{grows-refl, grows-trans}
-use Rattle.var_places.specs.Placing.{occurs_body}
+use Rattle.pattern_vars.specs.VarPlaces.Placing.{occurs_body}
 use Rattle.ctl_table.specs.Table as table
-use Rattle.var_places.specs.Places.{reading_at}
+use Rattle.pattern_vars.specs.VarPlaces.Places.{reading_at}
 use Rattle.ctl_table.specs.declared.follow.Made.{Made}
 use Rattle.ctl_table.specs.Settings.{setting_at, element_or_none, all_below, all_made_below, made_below, next_at, parts_at, next_of, suffix_at, start_with, block_at, compound_at, MakesAll, MakesBehind, MakesFollows}
 use Rattle.ctl_table.specs.Columns.{rows_within, MakesColumns}
 use Rattle.ctl_table.specs.Suffixes.{begins, along}
-use Rattle.var_places.proofs.Weights.{weight_element, weight_body, body-at, bodies-at, weight-take, weight-first, weight-rest}
+use Rattle.pattern_vars.proofs.VarPlaces.Weights.{weight_element, weight_body, body-at, bodies-at, weight-take, weight-first, weight-rest}
 use Rattle.ctl_table.proofs.MakingLemmas.{all-stand, both-true}
 use Rattle.ctl_table.proofs.FollowLemmas.{follow-stays}
 use Rattle.ctl_table.proofs.RowLemmas.{taken, init-all, all-next, each-step, when-step}

@@ -2,8 +2,8 @@ use Rattle.std.proofs.Common.{not, ◌∙◌, ap, List}
 use Rattle.std.specs.List.{filter}
 use Rattle.smpl_terms.specs.declared.var.Var.{Var}
 use Rattle.smpl_patch.specs.Bodies.{body}
-use Rattle.var_places.specs.Placing.{is_alone}
-use Rattle.var_places.specs.Places.{reading_at}
+use Rattle.pattern_vars.specs.VarPlaces.Placing.{is_alone}
+use Rattle.pattern_vars.specs.VarPlaces.Places.{reading_at}
 use Rattle.ctl_translate.proofs.rule.root_by.Goals as goal
 
 pub root_of-requires-clause-alone : goal.root_of-requires-clause-alone

@@ -4,7 +4,7 @@ use Rattle.smpl_terms.specs.declared.var.Var.{Var}
 use Rattle.smpl_patch.specs.Bodies.{Body, body}
 use Rattle.ctl_formula.specs.Plain.{Plain}
 use Rattle.ctl_formula.specs.Tables.{Makes}
-use Rattle.var_places.specs.Placing.{Reading, is_alone}
+use Rattle.pattern_vars.specs.VarPlaces.Placing.{Reading, is_alone}
 use Rattle.ctl_table.specs.Blocks.{blocks}
 use Rattle.ctl_translate.proofs.RuleLemmas.{rule-formula, kept-is}
 use Rattle.ctl_translate.proofs.rule.root_of.Goals as goal

@@ -1,9 +1,9 @@
 use Rattle.std.proofs.Common.{not, ◌∙◌, ap}
 use Rattle.smpl_patch.specs.Bodies.{body}
 use Rattle.pattern_vars.specs.Reads.{has}
-use Rattle.var_places.specs.Placing.{is_alone}
-use Rattle.var_places.specs.Places.{reading_at}
-use Rattle.var_places.proofs.KeptLemmas.{filter-same, not-not}
+use Rattle.pattern_vars.specs.VarPlaces.Placing.{is_alone}
+use Rattle.pattern_vars.specs.VarPlaces.Places.{reading_at}
+use Rattle.pattern_vars.proofs.VarPlaces.KeptLemmas.{filter-same, not-not}
 use Rattle.ctl_translate.proofs.rule.sorted_locals.Goals as goal
 
 pub returns-clause-alone : goal.returns-clause-alone

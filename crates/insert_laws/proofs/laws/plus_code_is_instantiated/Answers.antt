@@ -1,7 +1,7 @@
 use Rattle.std.proofs.Common.{◌∙◌}
 use Rattle.std.proofs.lemmas.List.Elements.{All-from_recursion, recursion_from_All}
 use Rattle.rule_laws.specs.Ready.{IsReady}
-use Rattle.form_laws.proofs.ReadyLemmas.{rules-ready}
+use Rattle.rule_laws.proofs.FormLaws.ReadyLemmas.{rules-ready}
 use Rattle.insert_laws.proofs.KindLemmas.{is_meta_of_some}
 use Rattle.insert_laws.proofs.RuleLemmas.{one_form, rules_known, read_fit, forms_fit}
 use Rattle.insert_laws.proofs.ChainLemmas.{at_rule}

@@ -7,7 +7,7 @@ use Rattle.smpl_patch.specs.declared.rule.Iso.{Iso}
 use Rattle.smpl_patch.specs.Bodies.{body}
 use Rattle.smpl_patch.specs.Shapes.{is_formed_body, patterns_body}
 use Rattle.smpl_patch.specs.Sound.{none_alike}
-use Rattle.iso_forms.proofs.FirstLemmas.{first_form}
+use Rattle.iso_expand.proofs.IsoForms.FirstLemmas.{first_form}
 use Rattle.iso_expand.specs.Bodies.{expanded_pattern, forms_of_first}
 use Rattle.iso_expand.proofs.ShapeLemmas.{formed-same, patterns-body, atoms-differ}
 use Rattle.iso_expand.proofs.laws.rules_keep_their_shape.Goals as goal

@@ -1,5 +1,5 @@
 use Rattle.std.proofs.Common.{arith, ap₂, ◌∙◌, ◌+◌, ◌++◌, [], length, if◌then◌else◌}
-use Rattle.cfg_graph.specs.Own.{is_own}
+use Rattle.cfg_build.specs.CfgGraph.Own.{is_own}
 use Rattle.smpl_terms.specs.Environments.{total}
 use Rattle.pat_match.specs.Spots.{parts_of_child}
 use Rattle.pat_match.specs.Matching.{aligned_at}

@@ -1,6 +1,6 @@
 use Rattle.std.proofs.Common.{◌≡◌, ◌++◌, drop, length}
 use Rattle.smpl_terms.specs.Environments.{total}
-use Rattle.cfg_graph.specs.Own.{is_own}
+use Rattle.cfg_build.specs.CfgGraph.Own.{is_own}
 use Rattle.pat_match.specs.Spots.{own_parts_from}
 use Rattle.pat_match.specs.Matching.{aligned_at}
 use Rattle.pat_match.proofs.aligning.align_own_parts.Given as goal

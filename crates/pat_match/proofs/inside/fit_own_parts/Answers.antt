@@ -1,6 +1,6 @@
 use Rattle.std.proofs.Common.{◌∙◌, length}
 use Rattle.std.proofs.lemmas.Result.{IfOk-weaker}
-use Rattle.cfg_graph.specs.Own.{is_own}
+use Rattle.cfg_build.specs.CfgGraph.Own.{is_own}
 use Rattle.pat_match.specs.Fitting.{fits_tree}
 use Rattle.pat_match.proofs.InsideLemmas.{any_own_done}
 use Rattle.pat_match.proofs.inside.fit_own_parts.Goals as goal

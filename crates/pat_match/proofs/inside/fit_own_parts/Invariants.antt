@@ -3,7 +3,7 @@ use Rattle.std.specs.List.{list_any}
 use Rattle.smpl_terms.specs.declared.var.Var.{Var}
 use Rattle.smpl_terms.specs.Environments.{Environment}
 use Rattle.env_sets.specs.Sets.{set_denotes, set_vars}
-use Rattle.cfg_graph.specs.Own.{is_own}
+use Rattle.cfg_build.specs.CfgGraph.Own.{is_own}
 use Rattle.pat_match.specs.Fitting.{fits_tree}
 use Rattle.pat_match.specs.Spots.{own_parts_from}
 use Rattle.pat_match.specs.Vars.{form_vars}

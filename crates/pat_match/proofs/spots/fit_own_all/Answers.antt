@@ -1,6 +1,6 @@
 use Rattle.std.proofs.Common.{arith, ap, sym, ◌∙◌, not, ◌||◌, length}
 use Rattle.env_sets.specs.Sets.{set_denotes}
-use Rattle.cfg_graph.specs.Own.{is_own}
+use Rattle.cfg_build.specs.CfgGraph.Own.{is_own}
 use Rattle.pat_match.specs.Fitting.{piece, fits_tree}
 use Rattle.pat_match.specs.Vars.{form_vars}
 use Rattle.pat_match.proofs.SpotLemmas.{own_fit-uneven_map, own_fit_step}

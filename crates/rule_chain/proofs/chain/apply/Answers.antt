@@ -1,8 +1,8 @@
 use Rattle.std.proofs.Common.{◌≡◌, ◌⊎◌, List, subst}
 use Rattle.std.proofs.lemmas.Result.{err_from_is_err_and}
 use Rattle.smpl_patch.specs.declared.rule.Rule.{Rule}
-use Rattle.rule_work.specs.declared.fault.FileFault.TheVariants.{NoMemory}
-use Rattle.rule_work.specs.States.{Chained}
+use Rattle.rule_chain.specs.declared.rule_work.fault.FileFault.TheVariants.{NoMemory}
+use Rattle.rule_chain.specs.RuleWork.States.{Chained}
 use Rattle.rule_chain.specs.Chain.{Runs, Done, Refused}
 use Rattle.rule_chain.specs.Results.{AnswersState}
 use Rattle.rule_chain.specs.Stops.{IsAt}

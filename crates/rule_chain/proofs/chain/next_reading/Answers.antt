@@ -1,7 +1,7 @@
 use Rattle.std.proofs.Common.{◌≡◌, None, Some, refl, ap, subst, arith, length}
 use Rattle.std.specs.Prelude.{Option, true, is_some}
 use Rattle.std.proofs.lemmas.Result.{err_from_is_err_and}
-use Rattle.rule_edits.specs.declared.texts.NewText.{NewText}
+use Rattle.rule_chain.specs.declared.rule_edits.texts.NewText.{NewText}
 use Rattle.rule_chain.specs.Stops.{LeadsOn}
 use Rattle.rule_chain.proofs.StopLemmas.{Leading}
 use Rattle.rule_chain.proofs.StepLemmas.{step_ended, went_on, left_is, seen_fault}

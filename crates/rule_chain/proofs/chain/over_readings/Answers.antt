@@ -1,6 +1,6 @@
 use Rattle.std.proofs.Common.{◌≡◌, ◌≤◌, ◌<◌, ◌+◌, subst, arith, length}
 use Rattle.std.proofs.lemmas.Result.{err_from_is_err_and}
-use Rattle.rule_work.specs.States.{Chained}
+use Rattle.rule_chain.specs.RuleWork.States.{Chained}
 use Rattle.rule_chain.specs.declared.state.Step.{Step}
 use Rattle.rule_chain.specs.declared.state.Step.TheVariants.{On}
 use Rattle.rule_chain.specs.Stops.{IsAt, Steps, IsFurther}

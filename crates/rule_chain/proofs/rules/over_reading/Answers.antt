@@ -1,7 +1,7 @@
 use Rattle.std.proofs.Common.{◌≡◌, ◌+◌, None, Some, ◌∙◌, subst, arith, length}
 use Rattle.std.specs.Prelude.{Option, ℕ}
 use Rattle.std.proofs.lemmas.Result.{err_from_is_err_and}
-use Rattle.rule_edits.specs.declared.texts.NewText.{NewText}
+use Rattle.rule_chain.specs.declared.rule_edits.texts.NewText.{NewText}
 use Rattle.rule_chain.proofs.StopLemmas.{stays, goes_on, stops_at, Leading}
 use Rattle.rule_chain.proofs.rules.over_reading.Goals as goal
 

@@ -1,11 +1,11 @@
 use Rattle.std.proofs.Common.{◌≡◌, ◌⊎◌, ◌+◌, inl, inr, arith, drop}
 use Rattle.std.proofs.lemmas.Result.{IfOk-weaker, IfErr-weaker}
 use Rattle.std.proofs.lemmas.Slice.Zip.{AllZip-long}
-use Rattle.rule_formulas.specs.Prepared.{IsPrepared}
-use Rattle.rule_work.specs.States.{Chained}
-use Rattle.rule_work.specs.OneRule.{IsFault}
-use Rattle.rule_work.specs.Worked.{AreFindingsOf, IsAtReading, Works}
-use Rattle.rule_work.specs.declared.fault.FileFault.TheVariants as fault
+use Rattle.rule_envs.specs.RuleFormulas.Prepared.{IsPrepared}
+use Rattle.rule_chain.specs.RuleWork.States.{Chained}
+use Rattle.rule_chain.specs.RuleWork.OneRule.{IsFault}
+use Rattle.rule_chain.specs.RuleWork.Worked.{AreFindingsOf, IsAtReading, Works}
+use Rattle.rule_chain.specs.declared.rule_work.fault.FileFault.TheVariants as fault
 use Rattle.rule_chain.specs.Asked.{MayRun}
 use Rattle.rule_chain.specs.Chain.{Runs, Refused}
 use Rattle.rule_chain.specs.Stops.{LeadsOn}

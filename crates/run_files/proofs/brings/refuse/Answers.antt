@@ -1,7 +1,7 @@
 use Rattle.std.proofs.Common.{◌≡◌, ◌∙◌}
 use Rattle.std.proofs.lemmas.Result.{err_from_is_err_and, IfErr-weaker}
 use Rattle.run_acts.specs.Acts.{Report}
-use Rattle.run_lines.specs.Files.{refused_line}
+use Rattle.run_files.specs.RunLines.Files.{refused_line}
 use Rattle.run_files.proofs.ActLemmas.{Stops-one, Stops-unfed}
 use Rattle.run_files.proofs.brings.refuse.Goals as goal
 

@@ -1,11 +1,11 @@
 use Rattle.std.proofs.Common.{◌≡◌, ◌∙◌, ap, refl, inl, arith, get_or}
 use Rattle.std.proofs.lemmas.Result.{err_from_is_err_and}
 use Rattle.cpp_lines.specs.declared.reading.Why.TheVariants.{NoTree}
-use Rattle.rule_work.specs.declared.state.SkipNote.{SkipNote}
+use Rattle.rule_chain.specs.declared.rule_work.state.SkipNote.{SkipNote}
 use Rattle.outer_io.specs.Files.{grown}
 use Rattle.run_acts.specs.Acts.{told}
 use Rattle.run_acts.specs.Breaks.{NoneFell, counts}
-use Rattle.run_lines.specs.Files.{skipped_line}
+use Rattle.run_files.specs.RunLines.Files.{skipped_line}
 use Rattle.run_files.proofs.ActLemmas.{stops_at, does_at, own_default}
 use Rattle.run_files.proofs.TreatLemmas.{note_act}
 use Rattle.run_files.proofs.brings.report_skipped.Goals as goal

@@ -2,7 +2,7 @@ use Rattle.std.proofs.Common.{◌≤◌, List, ℕ, take, map}
 use Rattle.std.specs.Prelude.{Option}
 use Rattle.outer_io.specs.Files.{Files}
 use Rattle.run_acts.specs.Acts.{Report, told}
-use Rattle.run_lines.specs.Files.{skipped_line}
+use Rattle.run_files.specs.RunLines.Files.{skipped_line}
 use Rattle.run_files.specs.Does.{Does}
 use Rattle.run_files.proofs.brings.report_skipped.Given as goal
 

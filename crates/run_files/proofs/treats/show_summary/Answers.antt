@@ -1,7 +1,7 @@
 use Rattle.std.proofs.Common.{◌≡◌, ◌∙◌, ap, [], ◌∷◌, length}
 use Rattle.std.proofs.lemmas.Result.{err_from_is_err_and, IfErr-weaker, on_ok_weaker}
 use Rattle.run_acts.specs.Acts.{Print}
-use Rattle.run_lines.specs.Summary.{summary}
+use Rattle.run_files.specs.RunLines.Summary.{summary}
 use Rattle.run_files.specs.Treatment.{printing}
 use Rattle.run_files.proofs.ActLemmas.{Does-as, Stops-as, Stops-unfed}
 use Rattle.run_files.proofs.TreatLemmas.{summary_prints, summary_shown}

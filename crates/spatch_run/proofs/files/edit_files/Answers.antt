@@ -7,10 +7,10 @@ use Rattle.std.specs.Borrow.{Bor}
 use Rattle.smpl_patch.specs.declared.rule.Patch.{Patch}
 use Rattle.run_words.specs.declared.order.Mode.{Mode}
 use Rattle.run_acts.specs.Acts.{Told}
-use Rattle.run_stages.specs.Ends.{Goes, Ends}
+use Rattle.run_files.specs.RunStages.Ends.{Goes, Ends}
 use Rattle.run_acts.specs.Breaks.{Counts, NoneFell}
 use Rattle.run_acts.specs.Lines.{cannot_read}
-use Rattle.run_stages.specs.Stages.{Stage, Doing, Ending, EditFiles, going, refusing, end_status}
+use Rattle.run_files.specs.RunStages.Stages.{Stage, Doing, Ending, EditFiles, going, refusing, end_status}
 use Rattle.spatch_run.proofs.Chain.{Goes-refl, Goes-then, Goes-ends, over}
 use Rattle.spatch_run.specs.Turns.{TurnsTo}
 use Rattle.spatch_run.specs.declared.files.Turn.TheVariants as turn

@@ -2,8 +2,8 @@ use Rattle.std.proofs.Common.{[], map, drop}
 use Rattle.std.specs.Prelude.{false}
 use Rattle.run_acts.specs.Acts.{told}
 use Rattle.run_acts.specs.Breaks.{counts, NoneFell}
-use Rattle.run_stages.specs.Stages.{going}
-use Rattle.run_stages.specs.Ends.{Goes}
+use Rattle.run_files.specs.RunStages.Stages.{going}
+use Rattle.run_files.specs.RunStages.Ends.{Goes}
 use Rattle.spatch_run.proofs.files.edit_files.Given as goal
 
 abbrev pub invariant-loop-name : goal.invariant-loop-name

@@ -2,7 +2,7 @@ use Rattle.std.proofs.Common.{[], refl, arith}
 use Rattle.std.proofs.lemmas.Result.{err_from_is_err_and}
 use Rattle.run_acts.specs.Acts.{Load}
 use Rattle.run_acts.specs.Breaks.{NoneFell, counts}
-use Rattle.run_stages.specs.Stages.{Doing, EditFiles}
+use Rattle.run_files.specs.RunStages.Stages.{Doing, EditFiles}
 use Rattle.spatch_run.proofs.Chain.{broken}
 use Rattle.spatch_run.proofs.Leading.{no_trace}
 use Rattle.spatch_run.proofs.Treating.{file_cut, long_cut, special_cut, turns_long, turns_special, turns_treated, turns_absent}

@@ -3,7 +3,7 @@ use Rattle.std.proofs.lemmas.Result.{err_from_is_err_and}
 use Rattle.run_acts.specs.Acts.{Report, told}
 use Rattle.run_acts.specs.Breaks.{NoneFell, counts}
 use Rattle.run_acts.specs.Statuses.{number_of}
-use Rattle.run_stages.specs.Stages.{refusing, Ending}
+use Rattle.run_files.specs.RunStages.Stages.{refusing, Ending}
 use Rattle.spatch_run.proofs.Chain.{Goes-act, Goes-ends, broken, over}
 use Rattle.spatch_run.proofs.refusals.end_by.Goals as goal
 

@@ -3,7 +3,7 @@ use Rattle.std.proofs.lemmas.Result.{err_from_is_err_and}
 use Rattle.run_acts.specs.Acts.{Report}
 use Rattle.run_acts.proofs.BreaksLemmas.{NoneFell-refl}
 use Rattle.run_acts.specs.Lines.{cannot_read}
-use Rattle.run_stages.specs.Stages.{refusing}
+use Rattle.run_files.specs.RunStages.Stages.{refusing}
 use Rattle.spatch_run.proofs.Chain.{broken}
 use Rattle.spatch_run.proofs.refusals.refuse_absent.Goals as goal
 

@@ -1,5 +1,5 @@
 use Rattle.std.proofs.Common.{◌≡◌, ◌∙◌}
-use Rattle.run_lines.specs.Patches.{usage}
+use Rattle.run_files.specs.RunLines.Patches.{usage}
 use Rattle.spatch_run.proofs.refusals.refuse_words.Goals as goal
 
 pub returns : goal.returns

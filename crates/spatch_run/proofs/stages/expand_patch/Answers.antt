@@ -1,9 +1,9 @@
 use Rattle.std.proofs.Common.{inl, inr, refl}
 use Rattle.run_acts.proofs.BreaksLemmas.{NoneFell-refl}
 use Rattle.run_words.specs.Shown.{shown_target}
-use Rattle.run_lines.specs.Patches.{forms_line}
-use Rattle.run_stages.specs.Stages.{refusing, TargetLeads, IsosLead}
-use Rattle.run_stages.specs.Ends.LeadsBy.{unfed, from}
+use Rattle.run_files.specs.RunLines.Patches.{forms_line}
+use Rattle.run_files.specs.RunStages.Stages.{refusing, TargetLeads, IsosLead}
+use Rattle.run_files.specs.RunStages.Ends.LeadsBy.{unfed, from}
 use Rattle.spatch_run.proofs.Leading.{by_other}
 use Rattle.spatch_run.proofs.stages.expand_patch.Goals as goal
 

@@ -6,8 +6,8 @@ use Rattle.run_acts.proofs.BreaksLemmas.{NoneFell-refl}
 use Rattle.smpl_patch.specs.declared.fault.PatchFault.TheVariants as patch_fault
 use Rattle.smpl_file.specs.Patches.{IsFirstFault}
 use Rattle.run_words.specs.Shown.{shown_isos, shown_target}
-use Rattle.run_lines.specs.Patches.{patch_fault_line}
-use Rattle.run_stages.specs.Stages.{Doing, ReadPatch, ReadLeads, refusing, first_load}
+use Rattle.run_files.specs.RunLines.Patches.{patch_fault_line}
+use Rattle.run_files.specs.RunStages.Stages.{Doing, ReadPatch, ReadLeads, refusing, first_load}
 use Rattle.spatch_run.proofs.Chain.{broken}
 use Rattle.spatch_run.proofs.Leading.{no_trace, loaded, loaded_unfed, loaded_by, not_memory, patch_absent, patch_long, patch_bad, patch_read}
 use Rattle.spatch_run.proofs.stages.follow_order.Goals as goal

@@ -1,7 +1,7 @@
 use Rattle.std.proofs.Common.{[], refl}
 use Rattle.run_words.specs.Shown.{shown_target}
-use Rattle.run_stages.specs.Stages.{Doing, ReadIsos}
-use Rattle.run_stages.specs.Ends.LeadsBy.{from}
+use Rattle.run_files.specs.RunStages.Stages.{Doing, ReadIsos}
+use Rattle.run_files.specs.RunStages.Ends.LeadsBy.{from}
 use Rattle.spatch_run.proofs.stages.give_forms.Goals as goal
 
 pub use_patch-requires-clause-few : goal.use_patch-requires-clause-few

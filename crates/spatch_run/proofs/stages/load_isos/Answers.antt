@@ -6,8 +6,8 @@ use Rattle.run_acts.proofs.BreaksLemmas.{NoneFell-refl}
 use Rattle.iso_file.specs.declared.fault.IsoFault.TheVariants as iso_fault
 use Rattle.iso_file.specs.Isos.{IsFileFault}
 use Rattle.run_words.specs.Shown.{shown_target}
-use Rattle.run_lines.specs.Patches.{iso_fault_line}
-use Rattle.run_stages.specs.Stages.{Doing, ReadIsos, IsosLead, refusing, first_load}
+use Rattle.run_files.specs.RunLines.Patches.{iso_fault_line}
+use Rattle.run_files.specs.RunStages.Stages.{Doing, ReadIsos, IsosLead, refusing, first_load}
 use Rattle.spatch_run.proofs.Chain.{broken}
 use Rattle.spatch_run.proofs.Leading.{no_trace, loaded, loaded_unfed, loaded_by, not_memory, isos_absent, isos_long, isos_bad, isos_read}
 use Rattle.spatch_run.proofs.stages.load_isos.Goals as goal

@@ -1,8 +1,8 @@
 use Rattle.std.proofs.Common.{[], false, map, refl}
 use Rattle.std.proofs.lemmas.Result.{err_from_is_err_and}
 use Rattle.run_acts.proofs.BreaksLemmas.{NoneFell-refl}
-use Rattle.run_stages.specs.Stages.{going}
-use Rattle.run_stages.specs.Ends.LeadsBy.{unfed, from}
+use Rattle.run_files.specs.RunStages.Stages.{going}
+use Rattle.run_files.specs.RunStages.Ends.LeadsBy.{unfed, from}
 use Rattle.spatch_run.proofs.stages.use_patch.Goals as goal
 
 pub prepared-requires : goal.prepared-requires

@@ -4,7 +4,7 @@ use Rattle.run_acts.specs.Acts.{Print, told}
 use Rattle.run_acts.specs.Breaks.{NoneFell, counts}
 use Rattle.run_acts.proofs.BreaksLemmas.{NoneFell-refl}
 use Rattle.sp_gen.specs.Generated.{generated}
-use Rattle.run_stages.specs.Stages.{Ending}
+use Rattle.run_files.specs.RunStages.Stages.{Ending}
 use Rattle.spatch_run.proofs.Chain.{Goes-act, Goes-ends, broken, over}
 use Rattle.spatch_run.proofs.texts.print_text.Goals as goal
 

@@ -2,7 +2,7 @@ use Rattle.std.proofs.Common.{refl, arith}
 use Rattle.std.proofs.lemmas.Result.{err_from_is_err_and}
 use Rattle.run_acts.specs.Breaks.{NoneFell, counts}
 use Rattle.run_acts.proofs.BreaksLemmas.{NoneFell-refl}
-use Rattle.run_stages.specs.Ends.LeadsBy.{unfed}
+use Rattle.run_files.specs.RunStages.Ends.LeadsBy.{unfed}
 use Rattle.spatch_run.proofs.Treating.{sum_done, sum_cut}
 use Rattle.spatch_run.proofs.texts.sum_text.Goals as goal
 

@@ -6,10 +6,10 @@ use Rattle.smpl_terms.specs.Values.{same}
 use Rattle.smpl_terms.specs.Environments.{total}
 use Rattle.smpl_patch.specs.declared.witness.Witness.TheVariants.{Bind}
 use Rattle.ctl_formula.specs.Tables.{plains, plain_of}
-use Rattle.wit_order.specs.Forests.{has, HaveSame, Rise}
-use Rattle.wit_order.specs.Same.{same_forest, same_witness}
-use Rattle.wit_order.specs.Sizes.{forest_size}
-use Rattle.wit_trees.specs.Forest.{is_hidden}
+use Rattle.wit_forest.specs.WitOrder.Forests.{has, HaveSame, Rise}
+use Rattle.wit_forest.specs.WitOrder.Same.{same_forest, same_witness}
+use Rattle.wit_forest.specs.WitOrder.Sizes.{forest_size}
+use Rattle.wit_forest.specs.WitTrees.Forest.{is_hidden}
 use Rattle.wit_forest.specs.Gathered.{Adds, Grows, HasTooMany, IsExplored, IsHiddenDone, IsShownDone, forest_at, is_there, quantified}
 use Rattle.wit_forest.proofs.GatherLemmas.{gathered_more, gathered_all, root_rises, state_in_range, state_low, large_state, large_all}
 use Rattle.wit_forest.proofs.GrowLemmas.{grows_more}

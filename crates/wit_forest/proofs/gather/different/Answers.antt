@@ -10,7 +10,7 @@ use Rattle.std.specs.Ordering.{is_lt}
 use Rattle.smpl_terms.specs.declared.value.Value.{Value}
 use Rattle.smpl_terms.specs.Values.{same, value_order}
 use Rattle.smpl_terms.proofs.ValueLaws.{same-refl, same-sym, same-along, is_eq-value_order, value_order_total}
-use Rattle.ctl_holds.proofs.TestLemmas.{any_found, any_has, same_bool}
+use Rattle.ctl_fixpoint.proofs.CtlHolds.TestLemmas.{any_found, any_has, same_bool}
 use Rattle.wit_forest.proofs.gather.different.Goals as goal
 
 same_equiv : IsEquivalence same

@@ -1,7 +1,7 @@
 use Rattle.std.proofs.Common.{sym, subst, arith}
 use Rattle.ctl_formula.specs.Tables.{at, plains}
 use Rattle.ctl_formula.specs.Formulas.{plain}
-use Rattle.ctl_holds.specs.Parts.{IsPart}
+use Rattle.ctl_fixpoint.specs.CtlHolds.Parts.{IsPart}
 use Rattle.wit_forest.proofs.PartLemmas.{part_itself}
 use Rattle.wit_forest.proofs.gather.forest.Goals as goal
 

@@ -1,6 +1,6 @@
 use Rattle.std.proofs.Common.{ap, ◌∙◌, subst}
 use Rattle.smpl_terms.specs.Environments.{total}
-use Rattle.wit_steps.specs.Choices.{chosen, AllRise}
+use Rattle.wit_forest.specs.WitSteps.Choices.{chosen, AllRise}
 use Rattle.wit_forest.proofs.ReadyLemmas.{values_hold}
 use Rattle.wit_forest.proofs.gather.values_at.Goals as goal
 

@@ -1,8 +1,8 @@
 use Rattle.std.proofs.Common.{◌≡◌, ℕ, ◌<◌, ◌≤◌, ◌||◌, sym, ap, ◌∙◌, refl, subst, arith, List, length, get_or, Contains}
 use Rattle.std.specs.List.{list_any}
 use Rattle.smpl_terms.specs.Environments.{total}
-use Rattle.wit_steps.specs.Steps.{kids}
-use Rattle.wit_order.specs.Forests.{has}
+use Rattle.wit_forest.specs.WitSteps.Steps.{kids}
+use Rattle.wit_forest.specs.WitOrder.Forests.{has}
 use Rattle.wit_forest.specs.Gathered.{node_at, holds_at, forest_at}
 use Rattle.wit_forest.proofs.AddLemmas.{of_state}
 use Rattle.wit_forest.proofs.LoopLemmas.{any_default, put_none, put_more, put_there, put_done, grows_with}

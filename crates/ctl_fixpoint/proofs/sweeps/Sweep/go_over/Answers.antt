@@ -1,5 +1,5 @@
 use Rattle.std.proofs.Common.{◌≡◌, ◌+◌, ◌-◌, ◌||◌, ◌∙◌, arith}
-use Rattle.cfg_graph.specs.Flow.{count_of}
+use Rattle.cfg_build.specs.CfgGraph.Flow.{count_of}
 use Rattle.ctl_fixpoint.proofs.SweepLemmas.{sweeps_none, sweeps_more, either_true, either_false}
 use Rattle.ctl_fixpoint.proofs.sweeps.Sweep.go_over.Goals as goal
 use Rattle.ctl_fixpoint.proofs.sweeps.Sweep.go_over.Goals.{then-any, else-any}

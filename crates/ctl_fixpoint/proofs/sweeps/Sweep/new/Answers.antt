@@ -1,5 +1,5 @@
 use Rattle.std.proofs.Common.{◌≡◌, length, refl, arith}
-use Rattle.cfg_graph.specs.Flow.{count_of}
+use Rattle.cfg_build.specs.CfgGraph.Flow.{count_of}
 use Rattle.ctl_fixpoint.proofs.SweepLemmas.{sweep_first}
 use Rattle.ctl_fixpoint.proofs.sweeps.Sweep.new.Goals as goal
 

@@ -1,3 +1,0 @@
--- Lemmas: the tokens of a text that is cut again, and states that are sound.
-pub mod TokenLemmas
-pub mod BeforeLemmas

@@ -1,2 +1,0 @@
--- What the laws rest on: tokens among what is compared of a form, and trees of heads.
-pub mod Compared

@@ -1,0 +1,2 @@
+-- Lemmas of item_graphs.
+pub mod TreeLemmas

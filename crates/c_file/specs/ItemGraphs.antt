@@ -1,0 +1,5 @@
+-- Definitions of item_graphs.
+-- What the contracts rest on, in reading order.
+pub mod Pool
+pub mod Made
+pub mod Trees

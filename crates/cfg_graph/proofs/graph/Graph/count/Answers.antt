@@ -1,5 +1,0 @@
-use Rattle.std.proofs.Common.{◌^◌, ◌<◌, arith, rules}
-use Rattle.cfg_graph.proofs.graph.Graph.count.Goals as goal
-
-pub overflow_cast-result : goal.overflow_cast-result
-overflow_cast-result c = let few = c.self.invariant.few in let fits : c.count.result < 2 ^ 32 = omega (arith, few, c.count.ensures) in search rules

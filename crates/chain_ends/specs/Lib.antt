@@ -1,2 +1,0 @@
--- What the laws rest on: what can't be absent.
-pub mod Weakly

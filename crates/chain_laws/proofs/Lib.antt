@@ -1,2 +1,0 @@
--- What holds of each rule is what the chain asks of it.
-pub mod AskedLemmas

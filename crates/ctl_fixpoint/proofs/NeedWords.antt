@@ -1,0 +1,12 @@
+-- Lemmas of need_words.
+pub mod WordLemmas
+pub mod FitWords
+pub mod ListWords
+pub mod HeldWords
+pub mod MatchWords
+pub mod GraphWords
+pub mod HoldWords
+pub mod StandLemmas
+pub mod NeedLemmas
+pub mod LookLemmas
+pub mod Examples

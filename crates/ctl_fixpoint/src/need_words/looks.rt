@@ -1,0 +1,121 @@
+// The forms of a pattern in runs that need the same word.
+ghost use Rattle.std.specs.Prelude.{◌≡◌, ◌≤◌, ◌<◌, true, Some, length, slice_get, IfOk};
+ghost use Rattle.c_terms.specs.declared.tree.Tree.{Tree};
+ghost use Rattle.ctl_fixpoint.specs.NeedWords.Looks as of;
+
+use crate::need_words::spell::held_spells;
+use crate::need_words::word::is_word_kind;
+use c_terms::{NoMemory, Shape, Text, Token, Tree};
+use smpl_patch::{Pattern, Spot};
+use std::alloc::Global;
+
+/// A pattern of fewer forms has no looks: all its forms are tried at each node.
+const FEW_FORMS: usize = 8;
+
+/// A run of forms that need the same word.
+#[derive(Drop)]
+pub struct Look {
+    /// The word. Where there is none, the run's forms are tried at each node.
+    pub word: Option<Text>,
+    /// The number of the form behind the run. The run begins where the one before it ends.
+    pub end: usize,
+}
+
+fn token_word(alloc: Global, token: &Token) -> Result<Option<Text>, NoMemory> {
+    if is_word_kind(token.kind) {
+        Ok(Some(token.text.copy(alloc)?))
+    } else {
+        Ok(None)
+    }
+}
+
+/// A word to be tried as one that the form needs: the first that stands in no disjunction. Recurses once a level.
+fn first_word(alloc: Global, form: &Tree) -> Result<Option<Text>, NoMemory> {
+    match form {
+        Tree::Leaf(token) => token_word(alloc, token),
+        Tree::Branch(label, children) => {
+            if matches!(label.shape(), Shape::Or) {
+                return Ok(None);
+            }
+            for child in children.as_slice() {
+                let found = first_word(alloc, child)?;
+                if found.is_some() {
+                    return Ok(found);
+                }
+            }
+            Ok(None)
+        }
+    }
+}
+
+/// Whether the form needs the word, and there is one.
+fn needs_it(word: &Option<Text>, spot: Spot, form: &Tree) -> bool
+    ensures { result ≡ true → of.finds word.now spot form.now ≡ true }
+{
+    match word {
+        Some(text) => held_spells(text.as_bytes(), spot, form),
+        None => false,
+    }
+}
+
+/// A word that the form needs, if one is found.
+fn form_word(alloc: Global, spot: Spot, form: &Tree) -> Result<Option<Text>, NoMemory>
+    ensures { IfOk result (λ word. of.finds word spot form.now ≡ true) }
+{
+    let word = first_word(alloc, form)?;
+    if needs_it(&word, spot, form) {
+        Ok(word)
+    } else {
+        Ok(None)
+    }
+}
+
+/// Where the run ends that begins with this form.
+fn run_end(word: &Option<Text>, spot: Spot, forms: &[Tree], first: usize) -> usize
+    requires within { first < length forms.now }
+    requires first { (form : Tree) → slice_get forms.now first ≡ Some form → of.finds word.now spot form ≡ true }
+    ensures later { first < result }
+    ensures within { result ≤ length forms.now }
+    ensures run { of.IsRun spot forms.now word.now first result }
+{
+    for i in first + 1..forms.len() {
+        if !needs_it(word, spot, &forms[i]) {
+            return i;
+        }
+    }
+    forms.len()
+}
+
+/// All forms, run by run.
+fn runs_of(alloc: Global, spot: Spot, forms: &[Tree]) -> Result<Vec<Look>, NoMemory>
+    ensures { IfOk result (λ looks. of.Covers spot forms.now 0 looks.items (length forms.now)) }
+{
+    let mut looks = Vec::new(alloc);
+    let mut next = 0;
+    // Each round takes one form at least.
+    for _n in 0..forms.len() {
+        if next == forms.len() {
+            return Ok(looks);
+        }
+        let word = form_word(alloc, spot, &forms[next])?;
+        let end = run_end(&word, spot, forms, next);
+        looks.push(Look { word, end })?;
+        next = end;
+    }
+    Ok(looks)
+}
+
+/// The looks of the pattern, for [`solve_by`](crate::need_words::solve_by): its forms in runs that need the same word, one after another.
+/// A pattern of fewer than eight forms has none.
+///
+/// Each form is gone through up to the run's word; one that lacks it as a whole, and then up to its own first word and
+/// that word again. The one error is want of memory.
+pub fn looks_of(alloc: Global, p: &Pattern) -> Result<Vec<Look>, NoMemory>
+    ensures { IfOk result (λ looks. of.AreLooks p.now looks.items) }
+{
+    let forms = p.forms.as_slice();
+    if forms.len() < FEW_FORMS {
+        return Ok(Vec::new(alloc));
+    }
+    runs_of(alloc, p.spot, forms)
+}

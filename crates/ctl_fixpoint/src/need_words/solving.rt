@@ -1,0 +1,198 @@
+// The environments under which a pattern of many forms matches at a node, by looks.
+ghost use Rattle.std.specs.Prelude.{◌≡◌, ◌≤◌, ◌||◌, ℕ, Bool, true, false, Some, drop, length, IfOk};
+ghost use Rattle.std.specs.List.{list_any};
+ghost use Rattle.smpl_terms.specs.declared.var.Var.{Var};
+ghost use Rattle.smpl_terms.specs.Environments.{Environment};
+ghost use Rattle.env_sets.specs.Sets.{set_denotes, set_vars};
+ghost use Rattle.pat_match.specs.Vars.{pattern_vars};
+ghost use Rattle.pat_match.specs.Matching.{matches};
+ghost use Rattle.ctl_fixpoint.specs.NeedWords.Words.{has_word};
+ghost use Rattle.ctl_fixpoint.specs.NeedWords.Looks as of;
+
+use crate::need_words::looks::Look;
+use crate::need_words::word::is_word;
+use c_terms::{NoMemory, Text, Tree};
+use cfg_build::NodeLabel;
+use env_sets::{Entry, EnvSet};
+use pat_match::parts::{NodeRole, put_set, role_of, solve_form, union};
+use pat_match::solve;
+use smpl_patch::{PatToken, Pattern, VarDecl};
+use std::alloc::Global;
+
+/// A look goes over so many parts of a node's tree for each form that it may spare: less than to try these forms.
+const PARTS_A_FORM: usize = 32;
+
+/// How many parts are left, where none of the tree's tokens is the word. None where one is, or where the tree has more
+/// parts than that. Recurses once a level.
+fn lacking(word: &[u8], tree: &Tree, left: usize) -> Option<usize>
+    ensures { (n : ℕ) → result ≡ Some n → has_word word.now tree.now ≡ false }
+{
+    if left == 0 {
+        return None;
+    }
+    match tree {
+        Tree::Leaf(token) => {
+            if is_word(word, token) {
+                None
+            } else {
+                Some(left - 1)
+            }
+        }
+        Tree::Branch(_, children) => {
+            let mut rest = left - 1;
+            for child in children.as_slice() {
+                match lacking(word, child, rest) {
+                    Some(fewer) => {
+                        rest = fewer;
+                    }
+                    None => {
+                        return None;
+                    }
+                }
+            }
+            Some(rest)
+        }
+    }
+}
+
+/// Whether there is a word, and the tree is seen to lack it: true only where it does. No more than so many parts are gone over.
+fn is_absent(word: &Option<Text>, most: usize, tree: &Tree) -> bool
+    ensures { result ≡ true → of.is_absent word.now tree.now ≡ true }
+{
+    match word {
+        Some(text) => lacking(text.as_bytes(), tree, most).is_some(),
+        None => false,
+    }
+}
+
+/// Adds the environments of the forms from the first number up to the end.
+fn put_forms(
+    alloc: Global,
+    entries: &mut Vec<Entry>,
+    p: &Pattern,
+    decls: &[VarDecl],
+    tokens: &[PatToken],
+    role: NodeRole,
+    first: usize,
+    end: usize,
+    tree: &Tree,
+) -> Result<(), NoMemory>
+    requires in_order { first ≤ end }
+    requires within { end ≤ length p.now.forms }
+    ensures meaning { IfOk result (λ _. (env : Environment) →
+        (set_denotes entries.new.items env
+        || list_any (of.fits_some decls.now tokens.now env p.now role tree.now) (drop end p.now.forms))
+        ≡ (set_denotes entries.old.items env
+        || list_any (of.fits_some decls.now tokens.now env p.now role tree.now) (drop first p.now.forms))) }
+    ensures vars { IfOk result (λ _. (t : Var → Bool) → pattern_vars decls.now tokens.now t p.now ≡ true
+        → set_vars t entries.old.items ≡ true → set_vars t entries.new.items ≡ true) }
+{
+    let forms = p.forms.as_slice();
+    for i in first..end {
+        let here = solve_form(alloc, p, decls, tokens, role, i, &forms[i], tree)?;
+        put_set(entries, here)?;
+    }
+    Ok(())
+}
+
+/// The same for a run of forms, whose word is looked for first.
+fn put_run(
+    alloc: Global,
+    entries: &mut Vec<Entry>,
+    p: &Pattern,
+    decls: &[VarDecl],
+    tokens: &[PatToken],
+    role: NodeRole,
+    first: usize,
+    look: &Look,
+    tree: &Tree,
+) -> Result<(), NoMemory>
+    requires in_order { first ≤ look.now.end }
+    requires within { look.now.end ≤ length p.now.forms }
+    requires run { of.IsRun p.now.spot p.now.forms look.now.word first look.now.end }
+    ensures meaning { IfOk result (λ _. (env : Environment) →
+        (set_denotes entries.new.items env
+        || list_any (of.fits_some decls.now tokens.now env p.now role tree.now) (drop look.now.end p.now.forms))
+        ≡ (set_denotes entries.old.items env
+        || list_any (of.fits_some decls.now tokens.now env p.now role tree.now) (drop first p.now.forms))) }
+    ensures vars { IfOk result (λ _. (t : Var → Bool) → pattern_vars decls.now tokens.now t p.now ≡ true
+        → set_vars t entries.old.items ≡ true → set_vars t entries.new.items ≡ true) }
+{
+    let most = (look.end - first).saturating_mul(PARTS_A_FORM);
+    if is_absent(&look.word, most, tree) {
+        return Ok(());
+    }
+    put_forms(
+        alloc, entries, p, decls, tokens, role, first, look.end, tree,
+    )
+}
+
+/// The same at a node of this role and tree, run by run.
+fn solve_runs(
+    alloc: Global,
+    looks: &[Look],
+    p: &Pattern,
+    decls: &[VarDecl],
+    tokens: &[PatToken],
+    role: NodeRole,
+    tree: &Tree,
+) -> Result<EnvSet, NoMemory>
+    requires { of.Covers p.now.spot p.now.forms 0 looks.now (length p.now.forms) }
+    ensures meaning { IfOk result (λ r. (env : Environment) → set_denotes r env
+        ≡ list_any (of.fits_some decls.now tokens.now env p.now role tree.now) p.now.forms) }
+    ensures vars { IfOk result (λ r. (t : Var → Bool) → pattern_vars decls.now tokens.now t p.now ≡ true
+        → set_vars t r ≡ true) }
+{
+    let mut entries = Vec::new(alloc);
+    let mut next = 0;
+    for n in 0..looks.len() {
+        put_run(
+            alloc,
+            &mut entries,
+            p,
+            decls,
+            tokens,
+            role,
+            next,
+            &looks[n],
+            tree,
+        )?;
+        next = looks[n].end;
+    }
+    union(alloc, entries)
+}
+
+/// The environments under which the pattern matches at the node, as `solve` of pat_match gives them, where the looks are
+/// the pattern's. Where there are none, all forms are tried.
+///
+/// A run's word is looked for in the node's tree, over at most 32 parts for each form of the run, and its forms are left
+/// out where the tree is seen to lack it. So where no word of the pattern is there, a small tree costs each run a step a
+/// part and no step a form; in a larger one the forms are tried, as `solve` tries all.
+pub fn solve_by(
+    alloc: Global,
+    looks: &[Look],
+    p: &Pattern,
+    decls: &[VarDecl],
+    tokens: &[PatToken],
+    node: &NodeLabel,
+) -> Result<EnvSet, NoMemory>
+    requires { of.AreLooks p.now looks.now }
+    ensures meaning { IfOk result (λ r. (env : Environment) → set_denotes r env
+        ≡ matches decls.now tokens.now env p.now node.now) }
+    ensures vars { IfOk result (λ r. (t : Var → Bool) → pattern_vars decls.now tokens.now t p.now
+        ≡ true →
+        set_vars t r ≡ true) }
+{
+    if looks.is_empty() {
+        return solve(alloc, p, decls, tokens, node);
+    }
+    solve_runs(
+        alloc,
+        looks,
+        p,
+        decls,
+        tokens,
+        role_of(node),
+        node.tree.as_tree(),
+    )
+}

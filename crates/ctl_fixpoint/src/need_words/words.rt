@@ -1,0 +1,156 @@
+// The words that a formula needs, and whether an item has them.
+ghost use Rattle.std.specs.Prelude.{◌≡◌, ◌&&◌, ◌||◌, ℕ, List, IfOk};
+ghost use Rattle.c_terms.specs.Same.{same_bytes};
+ghost use Rattle.smpl_patch.specs.Patterns.{in_first};
+ghost use Rattle.ctl_formula.specs.Formulas.{plain};
+ghost use Rattle.ctl_fixpoint.specs.NeedWords.Words as of;
+ghost use Rattle.ctl_fixpoint.specs.NeedWords.Standing as standing;
+
+use crate::need_words::needs::needs;
+use crate::need_words::word::{has_word, is_word_kind};
+use c_terms::{NoMemory, Text, Token, Tree, same_text};
+use ctl_formula::{Formula, Node};
+use smpl_patch::Pattern;
+use sqlite_items::Items;
+use std::alloc::Global;
+
+fn is_among(words: &[Text], word: &[u8]) -> bool
+    ensures { result ≡ of.is_among words.now word.now }
+{
+    for other in words {
+        if same_text(other.as_bytes(), word) {
+            return true;
+        }
+    }
+    false
+}
+
+/// Puts the word among these, if it is needed and isn't there.
+fn put_word(
+    alloc: Global,
+    f: &Formula,
+    word: &Text,
+    found: &mut Items<Text>,
+) -> Result<(), NoMemory>
+    ensures { IfOk result (λ _. (w : List ℕ) → of.is_among found.new w
+        ≡ (of.is_among found.old w || (of.needs w (plain f.now) && same_bytes word.now w))) }
+{
+    if is_among(found.as_slice(), word.as_bytes()) {
+        return Ok(());
+    }
+    let needed = needs(alloc, f, word.as_bytes())?;
+    if !needed {
+        return Ok(());
+    }
+    let copied = word.copy(alloc)?;
+    found.push(copied)?;
+    Ok(())
+}
+
+fn put_token(
+    alloc: Global,
+    f: &Formula,
+    token: &Token,
+    found: &mut Items<Text>,
+) -> Result<(), NoMemory>
+    ensures { IfOk result (λ _. (w : List ℕ) → of.is_among found.new w
+        ≡ (of.is_among found.old w || (of.needs w (plain f.now) && of.is_word w token.now))) }
+{
+    if !is_word_kind(token.kind) {
+        return Ok(());
+    }
+    put_word(alloc, f, &token.text, found)
+}
+
+/// Puts the tree's words that are needed. Recurses once a level.
+fn put_words(
+    alloc: Global,
+    f: &Formula,
+    tree: &Tree,
+    found: &mut Items<Text>,
+) -> Result<(), NoMemory>
+    ensures { IfOk result (λ _. (w : List ℕ) → of.is_among found.new w
+        ≡ (of.is_among found.old w || (of.needs w (plain f.now) && of.has_word w tree.now))) }
+{
+    match tree {
+        Tree::Leaf(token) => put_token(alloc, f, token, found),
+        Tree::Branch(_, children) => {
+            for child in children.as_slice() {
+                put_words(alloc, f, child, found)?;
+            }
+            Ok(())
+        }
+    }
+}
+
+fn put_first(
+    alloc: Global,
+    f: &Formula,
+    forms: &[Tree],
+    found: &mut Items<Text>,
+) -> Result<(), NoMemory>
+    ensures { IfOk result (λ _. (w : List ℕ) → of.is_among found.new w
+        ≡ (of.is_among found.old w || (of.needs w (plain f.now) && in_first (of.has_word w) forms.now))) }
+{
+    match forms {
+        [form, ..] => put_words(alloc, f, form, found),
+        [] => Ok(()),
+    }
+}
+
+fn put_pattern(
+    alloc: Global,
+    f: &Formula,
+    p: &Pattern,
+    found: &mut Items<Text>,
+) -> Result<(), NoMemory>
+    ensures { IfOk result (λ _. (w : List ℕ) → of.is_among found.new w
+        ≡ (of.is_among found.old w || (of.needs w (plain f.now) && standing.stands w p.now))) }
+{
+    put_first(alloc, f, p.forms.as_slice(), found)
+}
+
+fn put_node(
+    alloc: Global,
+    f: &Formula,
+    node: &Node,
+    found: &mut Items<Text>,
+) -> Result<(), NoMemory>
+    ensures { IfOk result (λ _. (w : List ℕ) → of.is_among found.new w
+        ≡ (of.is_among found.old w || (of.needs w (plain f.now) && standing.stands_at w node.now))) }
+{
+    match node {
+        Node::Atom(p) => put_pattern(alloc, f, p, found),
+        Node::BraceOpen(p, _) => put_pattern(alloc, f, p, found),
+        Node::BraceClose(p, _) => put_pattern(alloc, f, p, found),
+        _ => Ok(()),
+    }
+}
+
+/// The words that the formula needs: exactly those, each once, as they first stand in its table. The one error is want of
+/// memory.
+///
+/// Each word of the first forms of the patterns is looked for in the whole table, and in the forms of its patterns up to one that
+/// lacks it: words times the table. Recurses once a level of patterns.
+pub fn needed_words(alloc: Global, f: &Formula) -> Result<Items<Text>, NoMemory>
+    ensures words { IfOk result (λ words. (w : List ℕ) → of.is_among words w ≡ of.needs w (plain f.now)) }
+{
+    let mut found = Items::new(alloc);
+    for i in 0..f.len() {
+        put_node(alloc, f, f.node(i), &mut found)?;
+    }
+    Ok(found)
+}
+
+/// Whether each of the words is one of the tree's tokens. Goes over the tokens once a word, up to the first that is it, and stops
+/// at a word that none is. Takes no memory. Recurses once a level.
+pub fn may_hold(words: &[Text], tree: &Tree) -> bool
+    ensures value { result ≡ of.has_words words.now tree.now }
+{
+    for word in words {
+        if !has_word(word.as_bytes(), tree) {
+            return false;
+        }
+    }
+    true
+}

@@ -1,7 +1,0 @@
-pub mod Distinct
-pub mod Members
-pub mod Ordered
-pub mod Meets
-pub mod Scans
-pub mod Steps
-pub mod Examples

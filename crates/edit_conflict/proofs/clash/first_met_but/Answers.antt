@@ -1,7 +1,0 @@
-use Rattle.std.proofs.Common.{sym, ◌∙◌}
-use Rattle.edit_conflict.proofs.Scans.{met_less}
-use Rattle.edit_conflict.proofs.clash.first_met_but.Goals as goal
-
-pub returns-then-are_among : goal.returns-then-are_among
-returns-then-are_among c =
-    sym (met_less c.args.known c.args.acts c.args.token c.args.marks.now (sym c.are_among.ensures ∙ c.if-are_among.true) c.requires)

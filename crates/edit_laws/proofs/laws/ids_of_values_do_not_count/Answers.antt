@@ -1,6 +1,0 @@
-use Rattle.edit_laws.proofs.BareEdits.{edits_without, edits_with}
-use Rattle.edit_laws.proofs.laws.ids_of_values_do_not_count.Goals as goal
-
-pub returns : goal.returns
-returns c = λ witnesses rule items kinds pieces edits.
-    (edits_without rule items kinds pieces witnesses edits, edits_with rule items kinds pieces witnesses edits)

@@ -1,1 +1,0 @@
--- No words of its own: those of rule_witnesses and edit_walk.

@@ -1,0 +1,8 @@
+-- Lemmas of edit_conflict.
+pub mod Distinct
+pub mod Members
+pub mod Ordered
+pub mod Meets
+pub mod Scans
+pub mod Steps
+pub mod Examples

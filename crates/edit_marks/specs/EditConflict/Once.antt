@@ -1,0 +1,17 @@
+-- Edits, each once.
+use Rattle.std.specs.Prelude.{◌≡◌, ◌<◌, ℕ, Some, List, [], ◌∷◌, ◌++◌, fold, slice_get, if◌then◌else◌}
+use Rattle.std.specs.List.{list_any}
+use Rattle.edit_marks.specs.declared.edit_conflict.edit.Edit.{Edit}
+use Rattle.edit_marks.specs.EditConflict.Same.{same_edit}
+
+-- the edits, and this one where none of them is equal to it
+abbrev pub with_edit : List Edit → Edit → List Edit
+with_edit edits e = if list_any (same_edit e) edits then edits else edits ++ e ∷ []
+
+-- of equal edits the first
+abbrev pub once : List Edit → List Edit
+once edits = fold with_edit [] edits
+
+-- no two are equal
+abbrev pub Differ : List Edit → Type 0
+Differ edits = (i j : ℕ) (a b : Edit) → i < j → slice_get edits i ≡ Some a → slice_get edits j ≡ Some b → a ≡ b → ⊥

@@ -1,0 +1,36 @@
+-- The edits of witnesses: one for each touch, of equal ones the first.
+use Rattle.std.specs.Prelude.{ℕ, ◌≡◌, List}
+use Rattle.std.specs.List.{AllZip}
+use Rattle.c_lexer.specs.Pieces.{TextPiece}
+use Rattle.c_lexer.specs.Ids.{ids_of}
+use Rattle.cpp_lines.specs.declared.reading.Item.{Item}
+use Rattle.cfg_build.specs.declared.cfg_graph.label.NodeKind.{NodeKind}
+use Rattle.smpl_patch.specs.declared.pattern.VarDecl.{VarDecl}
+use Rattle.smpl_patch.specs.declared.pattern.PatToken.{PatToken}
+use Rattle.smpl_patch.specs.declared.pattern.Pattern.{Pattern}
+use Rattle.smpl_patch.specs.declared.rule.Rule.{Rule}
+use Rattle.smpl_patch.specs.declared.witness.RuleWitness.{RuleWitness}
+use Rattle.smpl_patch.specs.Bodies.{body}
+use Rattle.smpl_patch.specs.Shapes.{patterns_body}
+use Rattle.edit_marks.specs.declared.edit_conflict.edit.Edit.{Edit}
+use Rattle.edit_marks.specs.EditConflict.Once.{once}
+use Rattle.edit_marks.specs.Edits.{EditOf}
+use Rattle.edit_marks.specs.declared.tokens.FileToken.{FileToken}
+use Rattle.edit_marks.specs.EditWalk.Touches.{Touched, touches}
+use Rattle.edit_marks.specs.Tokens.{file_tokens}
+use Rattle.edit_marks.specs.EditWalk.Named.{pairs_at}
+
+-- The edit of a touch: that of the alignment which the touch names, and without one the empty edit.
+abbrev pub IsEdit : List Pattern → List VarDecl → List PatToken → List Item → List (List NodeKind) → List ℕ → List FileToken → Touched → Edit → Type 0
+IsEdit patterns decls tokens items kinds ids files t edit =
+    EditOf decls tokens t.env files (pairs_at patterns decls tokens items kinds ids t) edit
+
+abbrev pub IsEditAt : Rule → List Item → List (List NodeKind) → List TextPiece → Touched → Edit → Type 0
+IsEditAt rule items kinds pieces =
+    IsEdit (patterns_body (body rule.body)) rule.vars rule.tokens items kinds (ids_of pieces) (file_tokens pieces)
+
+-- the edits of all touches in order, each once
+pub record AreEdits (witnesses : List RuleWitness) (rule : Rule) (items : List Item) (kinds : List (List NodeKind)) (pieces : List TextPiece) (edits : List Edit) : Type 0 where
+  pub all : List Edit
+  pub each : AllZip (IsEditAt rule items kinds pieces) (touches witnesses) all
+  pub distinct : edits ≡ once all

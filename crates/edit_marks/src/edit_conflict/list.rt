@@ -1,0 +1,101 @@
+// Different edits of one text.
+ghost use Rattle.std.specs.Prelude.{◌≡◌, ◌≢◌, ◌<◌, Some, IfOk, length, slice_get};
+ghost use Rattle.edit_marks.specs.EditConflict.Once.{once, Differ};
+ghost use Rattle.edit_marks.specs.EditConflict.Marks.{AreMarks};
+
+use crate::edit_conflict::edit::Edit;
+use crate::edit_conflict::mark::{Mark, sorted_marks};
+use c_terms::NoMemory;
+use indexmap::IndexSet;
+use std::alloc::Global;
+use std::marker::Model;
+
+/// Different edits of one text, with what they do sorted by token. Contracts see the list of the edits.
+#[derive(Drop)]
+pub struct EditList {
+    edits: IndexSet<Edit>,
+    marks: Vec<Mark>,
+}
+
+impl Model for EditList {
+    ghost use Rattle.std.specs.Prelude.{List};
+    ghost use Rattle.edit_marks.specs.declared.edit_conflict.edit.Edit.{Edit};
+    ghost use Rattle.edit_marks.specs.EditConflict.Marks.{AreMarks};
+
+    ghost Value = { List Edit };
+
+    ghost view = { λ l. l.edits.keys };
+
+    ghost invariant = { λ l. AreMarks l.edits.keys l.marks.items };
+}
+
+impl EditList {
+    /// The edits in order, of equal ones the first. For marks in all it takes n log n steps.
+    pub fn of(alloc: Global, edits: Vec<Edit>) -> Result<EditList, NoMemory>
+        ensures edits { IfOk result (λ list. list ≡ once edits.items) }
+    {
+        let set = distinct(alloc, edits)?;
+        let marks = sorted_marks(alloc, set.as_slice())?;
+        Ok(EditList { edits: set, marks })
+    }
+
+    /// The edits. Takes no memory.
+    pub fn edits(&self) -> &[Edit]
+        ensures edits { result.now ≡ self.now }
+        ensures differ { Differ self.now }
+    {
+        self.edits.as_slice()
+    }
+
+    /// What the edits do, sorted by token, and at each token in the order of the edits. Takes no memory.
+    pub fn marks(&self) -> &[Mark]
+        ensures marks { AreMarks self.now result.now }
+    {
+        self.marks.as_slice()
+    }
+
+    /// Two of the edits. Takes no memory.
+    pub fn take(self, first: usize, second: usize) -> (Edit, Edit)
+        requires differ { first ≢ second }
+        requires first_within { first < length self }
+        requires second_within { second < length self }
+        ensures first { slice_get self first ≡ Some result.0 }
+        ensures second { slice_get self second ≡ Some result.1 }
+    {
+        let EditList { edits, marks: _ } = self;
+        if first < second {
+            take_both(edits, first, second)
+        } else {
+            let (later, earlier) = take_both(edits, second, first);
+            (earlier, later)
+        }
+    }
+}
+
+/// The edits, of equal ones the first.
+fn distinct(alloc: Global, edits: Vec<Edit>) -> Result<IndexSet<Edit>, NoMemory>
+    ensures edits { IfOk result (λ set. set.keys ≡ once edits.items) }
+{
+    let mut set = IndexSet::new(alloc);
+    for edit in edits {
+        set.insert(edit)?;
+    }
+    Ok(set)
+}
+
+/// Two edits, the first before the second.
+fn take_both(edits: IndexSet<Edit>, first: usize, second: usize) -> (Edit, Edit)
+    requires rise { first < second }
+    requires within { second < length edits.keys }
+    ensures first { slice_get edits.keys first ≡ Some result.0 }
+    ensures second { slice_get edits.keys second ≡ Some result.1 }
+{
+    let mut edits = edits;
+    match (
+        edits.swap_remove_index(second),
+        edits.swap_remove_index(first),
+    ) {
+        (Some(later), Some(earlier)) => (earlier, later),
+        _ => unreachable!(),
+    }
+}

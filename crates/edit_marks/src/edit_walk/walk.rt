@@ -1,0 +1,202 @@
+// The walk over witnesses.
+ghost use Rattle.std.specs.Prelude.{◌≡◌, All, length, map, IfOk, OnOk};
+ghost use Rattle.std.specs.List.{flat_map, AllZip};
+ghost use Rattle.c_lexer.specs.Ids.{ids_of};
+ghost use Rattle.edit_marks.specs.Edits.{HaveEvenBlocks, ArePlainInserts};
+ghost use Rattle.edit_marks.specs.EditWalk.Touches.{bound, touches_in, touches_of, touches};
+ghost use Rattle.edit_marks.specs.EditWalk.Edited.{IsEditAt, AreEdits};
+ghost use Rattle.edit_marks.specs.EditWalk.Fit.{FitsText, HaveSoundTouches};
+ghost use Rattle.edit_marks.specs.EditWalk.Growing.{Adds};
+ghost use Rattle.edit_marks.specs.EditWalk.Sites.{IsSite, IsEditHere};
+
+use crate::FileTokens;
+use crate::edit_conflict::{Edit, EditList};
+use crate::edit_walk::numbers::Numbers;
+use crate::edit_walk::patterns::patterns_of;
+use crate::edit_walk::site::Site;
+use crate::edit_walk::tokens::token_ids;
+use crate::edit_walk::touch::touch_edit;
+use c_lexer::Lexed;
+use c_terms::NoMemory;
+use cfg_build::NodeKind;
+use cpp_lines::Item;
+use smpl_patch::{Pattern, Rule, RuleWitness, Witness};
+use smpl_terms::{Env, Value, Var};
+use sqlite_items::Items;
+use std::alloc::Global;
+
+/// The edits of witnesses of a rule, one a touch, in the order of the touches, of equal ones the first.
+///
+/// `items` are those of the text, and `kinds` has for each the kinds of the nodes of its graph, none for an item without a
+/// tree. [`have_even_blocks`](crate::have_even_blocks) tells whether plus code is as is asked. Linear in the text, in the
+/// body of the rule and in the forests, but for the alignment and the edit of each touch, and for each bind, which copies the
+/// environment above it.
+pub fn edits(
+    alloc: Global,
+    witnesses: &[RuleWitness],
+    rule: &Rule,
+    items: &[Item],
+    kinds: &[Items<NodeKind>],
+    lexed: &Lexed,
+) -> Result<EditList, NoMemory>
+    requires even { HaveEvenBlocks rule.now.tokens }
+    ensures edits { IfOk result (AreEdits witnesses.now rule.now items.now kinds.now lexed.now) }
+    ensures fit { IfOk result (λ edits. All (FitsText (length (ids_of lexed.now))) edits) }
+    ensures plain { IfOk result (λ edits. HaveSoundTouches rule.now (touches witnesses.now) →
+        All (λ edit. ArePlainInserts edit.inserts) edits) }
+{
+    let list = edit_list(alloc, witnesses, rule, items, kinds, lexed)?;
+    Ok(list)
+}
+
+fn edit_list(
+    alloc: Global,
+    witnesses: &[RuleWitness],
+    rule: &Rule,
+    items: &[Item],
+    kinds: &[Items<NodeKind>],
+    lexed: &Lexed,
+) -> Result<EditList, NoMemory>
+    requires { HaveEvenBlocks rule.now.tokens }
+    ensures { IfOk result (AreEdits witnesses.now rule.now items.now kinds.now lexed.now) }
+{
+    let all = all_edits(alloc, witnesses, rule, items, kinds, lexed)?;
+    let list = EditList::of(alloc, all)?;
+    Ok(list)
+}
+
+/// The edits of all touches. Of a text without a witness no table is made.
+fn all_edits(
+    alloc: Global,
+    witnesses: &[RuleWitness],
+    rule: &Rule,
+    items: &[Item],
+    kinds: &[Items<NodeKind>],
+    lexed: &Lexed,
+) -> Result<Vec<Edit>, NoMemory>
+    requires { HaveEvenBlocks rule.now.tokens }
+    ensures { IfOk result (λ all. AllZip (IsEditAt rule.now items.now kinds.now lexed.now)
+        (touches witnesses.now) all.items) }
+{
+    let mut all = Vec::new(alloc);
+    if witnesses.is_empty() {
+        return Ok(all);
+    }
+    let patterns = patterns_of(alloc, rule.body.as_slice())?;
+    let atoms = Numbers::of(alloc, atoms_of(alloc, &patterns)?)?;
+    let files = FileTokens::of(alloc, lexed)?;
+    let ids = Numbers::of(alloc, token_ids(alloc, lexed)?)?;
+    let site = Site {
+        decls: rule.vars.as_slice(),
+        tokens: rule.tokens.as_slice(),
+        patterns: &patterns,
+        atoms: &atoms,
+        items,
+        kinds,
+        files: &files,
+        ids: &ids,
+    };
+    put_witnesses(alloc, &site, witnesses, &mut all)?;
+    Ok(all)
+}
+
+fn atoms_of(alloc: Global, patterns: &[&Pattern]) -> Result<Vec<u64>, NoMemory>
+    ensures { IfOk result (λ atoms. atoms.items
+        ≡ map (λ p. p.atom) (map (λ p. p.now) patterns.now)) }
+{
+    let mut atoms = Vec::with_capacity(alloc, patterns.len())?;
+    for pattern in patterns {
+        atoms.push(u64::from(pattern.atom))?;
+    }
+    Ok(atoms)
+}
+
+fn put_witnesses(
+    alloc: Global,
+    site: &Site<'_>,
+    witnesses: &[RuleWitness],
+    edits: &mut Vec<Edit>,
+) -> Result<(), NoMemory>
+    requires { IsSite site.now }
+    ensures { OnOk result (Adds (IsEditHere site.now) edits.old.items edits.new.items
+        (touches witnesses.now)) }
+{
+    for witness in witnesses {
+        put_witness(alloc, site, witness, edits)?;
+    }
+    Ok(())
+}
+
+fn put_witness(
+    alloc: Global,
+    site: &Site<'_>,
+    witness: &RuleWitness,
+    edits: &mut Vec<Edit>,
+) -> Result<(), NoMemory>
+    requires { IsSite site.now }
+    ensures { OnOk result (Adds (IsEditHere site.now) edits.old.items edits.new.items
+        (touches_of witness.now)) }
+{
+    let forest = witness.forest.as_slice();
+    put_forest(alloc, site, witness.item, &witness.env, forest, edits)
+}
+
+fn put_forest(
+    alloc: Global,
+    site: &Site<'_>,
+    item: u32,
+    env: &Env,
+    forest: &[Witness],
+    edits: &mut Vec<Edit>,
+) -> Result<(), NoMemory>
+    requires { IsSite site.now }
+    ensures { OnOk result (Adds (IsEditHere site.now) edits.old.items edits.new.items
+        (flat_map (touches_in item env.now) forest.now)) }
+{
+    for tree in forest {
+        put_tree(alloc, site, item, env, tree, edits)?;
+    }
+    Ok(())
+}
+
+/// Adds the edits of the touches of a tree that was found under these values. Recurses once a level.
+fn put_tree(
+    alloc: Global,
+    site: &Site<'_>,
+    item: u32,
+    env: &Env,
+    tree: &Witness,
+    edits: &mut Vec<Edit>,
+) -> Result<(), NoMemory>
+    requires { IsSite site.now }
+    ensures { OnOk result (Adds (IsEditHere site.now) edits.old.items edits.new.items
+        (touches_in item env.now tree.now)) }
+{
+    match tree {
+        Witness::Touch(node, atom, path) => {
+            let edit = touch_edit(alloc, site, env, item, *node, *atom, path)?;
+            edits.push(edit)?;
+            Ok(())
+        }
+        Witness::Bind(_, x, value, under) => {
+            let deeper = bound(alloc, env, x, value)?;
+            let inner = &deeper;
+            for below in under.as_slice() {
+                put_tree(alloc, site, item, inner, below, edits)?;
+            }
+            Ok(())
+        }
+    }
+}
+
+/// One more value. A variable that has one keeps it.
+fn bound(alloc: Global, env: &Env, x: &Var, value: &Value) -> Result<Env, NoMemory>
+    ensures { IfOk result (λ more. more ≡ bound env.now x.now value.now) }
+{
+    if env.has(x) {
+        let same = env.copy(alloc)?;
+        return Ok(same);
+    }
+    let more = env.with(alloc, x, value)?;
+    Ok(more)
+}

@@ -1,9 +1,0 @@
-use Rattle.std.proofs.Common.{take}
-use Rattle.std.specs.List.{flat_map}
-use Rattle.edit_walk.specs.Touches.{touches_in}
-use Rattle.edit_walk.specs.Growing.{Adds}
-use Rattle.edit_walk.specs.Sites.{IsEditHere}
-use Rattle.edit_walk.proofs.walk.+put_tree.Given as goal
-
-abbrev pub invariant-loop-below : goal.invariant-loop-below
-invariant-loop-below l = Adds (IsEditHere l.site) l.initial.edits.items l.edits.items (flat_map (touches_in l.item l.inner) (take l.below-index l.below-items))

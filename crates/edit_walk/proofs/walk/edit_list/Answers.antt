@@ -1,8 +1,0 @@
-use Rattle.edit_walk.proofs.walk.edit_list.Goals as goal
-
-pub returns : goal.returns
-returns c = record {
-  all = c.in_ok-all.all.items;
-  each = c.in_ok-all.ensures;
-  distinct = c.in_ok-list.ensures.edits;
-}

@@ -1,7 +1,0 @@
-use Rattle.std.proofs.Common.{◌≡◌, ◌++◌, drop}
-use Rattle.std.specs.List.{flat_map}
-use Rattle.escaped_names.specs.Escapes.{escaped_byte}
-use Rattle.escaped_names.proofs.escaped_name.Given as goal
-
-abbrev pub invariant-loop-byte : goal.invariant-loop-byte
-invariant-loop-byte l = l.escaped.items ++ flat_map escaped_byte (drop l.byte-index l.name) ≡ l.initial.escaped.items ++ flat_map escaped_byte l.name

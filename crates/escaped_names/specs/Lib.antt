@@ -1,3 +1,0 @@
--- What contracts rest on: how a line shows a name.
-pub mod Escapes
-pub mod Reads

@@ -1,0 +1,7 @@
+-- Lemmas of aligned_laws.
+-- Lemmas: the tokens of alignments, the trees of nodes, the tokens of forms.
+pub mod PairLemmas
+pub mod SpotLemmas
+pub mod NodeLemmas
+pub mod PlainLemmas
+pub mod FormLemmas

@@ -1,0 +1,5 @@
+-- Lemmas of name_laws.
+-- Lemmas: the tokens of declarations, their items, and the variables of rules.
+pub mod WordLemmas
+pub mod ItemLemmas
+pub mod RuleLemmas

@@ -1,0 +1,6 @@
+-- Lemmas of term_laws.
+-- Lemmas: forms that fit trees, and trees at nodes; atoms that match; formulas.
+pub mod FitLemmas
+pub mod HeldLemmas
+pub mod AtomLemmas
+pub mod BoundLemmas

@@ -1,0 +1,7 @@
+-- Lemmas of touch_laws.
+-- Lemmas: environments, choices of exported values, trees of witnesses, forests, one rule.
+pub mod EnvLemmas
+pub mod ChoiceLemmas
+pub mod TreeLemmas
+pub mod ForestLemmas
+pub mod TurnLemmas

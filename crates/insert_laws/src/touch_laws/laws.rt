@@ -1,0 +1,43 @@
+// The values at touches. The function does nothing.
+ghost use Rattle.std.specs.Prelude.{◌≡◌, ℕ, Bool, List, All, None};
+ghost use Rattle.c_lexer.specs.Pieces.{TextPiece};
+ghost use Rattle.cpp_lines.specs.declared.reading.Item.{Item};
+ghost use Rattle.c_file.specs.Reads.{Reads};
+ghost use Rattle.smpl_terms.specs.declared.var.Var.{Var as Variable};
+ghost use Rattle.smpl_patch.specs.declared.rule.Rule.{Rule as PatchRule};
+ghost use Rattle.ctl_translate.specs.Rules.{first_unbound};
+ghost use Rattle.rule_envs.specs.declared.carrier.Carrier.{Carrier};
+ghost use Rattle.rule_chain.specs.RuleTurn.Turns.{turn_found, turn_carriers};
+ghost use Rattle.rule_laws.specs.Ready.{IsReady};
+ghost use Rattle.edit_marks.specs.EditWalk.Touches.{touches};
+ghost use Rattle.insert_laws.specs.TouchLaws.Metas.{AreMetas, CarriesTerms, ShowsTerms};
+
+use crate::scope_laws::{atoms_have_their_variables, blocks_are_hidden};
+use crate::term_laws::bound_metavariables_have_terms;
+use cfg_build::every_item_has_a_graph;
+use rule_laws::formulas_have_patterns_of_their_bodies;
+
+/// Of a rule that may run and in which no variable may stay unbound, over the items of a text that is read, and of variables that
+/// are positions at none of its tokens and hidden variables of no blocks; under environments that have terms of these.
+///
+/// - `found`: at each touch of its witnesses, each of these variables that the pattern of the touched atom uses, in plus code too, has
+///   a value, and it is a term.
+/// - `carried`: the environments after the rule have terms of them.
+///
+/// Does nothing.
+pub fn touches_show_terms()
+    ensures found { (defined : List (List ℕ)) (had : List ℕ) (number : ℕ) (rule : PatchRule) (pieces : List TextPiece)
+        (items : List Item) (carriers : List Carrier) (metas : Variable → Bool) → IsReady rule → first_unbound rule ≡ None →
+        AreMetas metas rule → Reads pieces items → All (CarriesTerms metas) carriers →
+        All (ShowsTerms metas rule items) (touches (turn_found defined had number rule items carriers)) }
+    ensures carried { (defined : List (List ℕ)) (had : List ℕ) (number : ℕ) (rule : PatchRule) (pieces : List TextPiece)
+        (items : List Item) (carriers : List Carrier) (metas : Variable → Bool) → IsReady rule → first_unbound rule ≡ None →
+        AreMetas metas rule → Reads pieces items → All (CarriesTerms metas) carriers →
+        All (CarriesTerms metas) (turn_carriers defined had number rule items carriers) }
+{
+    bound_metavariables_have_terms();
+    atoms_have_their_variables();
+    blocks_are_hidden();
+    formulas_have_patterns_of_their_bodies();
+    every_item_has_a_graph();
+}

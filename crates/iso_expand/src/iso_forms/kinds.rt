@@ -1,0 +1,159 @@
+// Which trees of a pattern a variable of an isomorphism may stand for.
+ghost use Rattle.std.specs.Prelude.{◌≡◌, ◌&&◌, ◌||◌, Bool, true, false, not};
+ghost use Rattle.std.specs.List.{list_any, list_all};
+ghost use Rattle.c_terms.specs.declared.tree.Tree.{out-Tree};
+ghost use Rattle.c_terms.specs.Same.{same_bytes};
+ghost use Rattle.iso_expand.specs.IsoForms.Kinds as of;
+
+use c_terms::{Label, MetaKind, Text, Token, TokenKind, Tree, same_text};
+use smpl_patch::{VarDecl, declared_as};
+
+fn is_expression_token(kind: TokenKind) -> bool
+    ensures { result ≡ of.is_expression_token kind }
+{
+    match kind {
+        TokenKind::Name | TokenKind::Number | TokenKind::Char | TokenKind::Str => true,
+        TokenKind::Meta(MetaKind::Expr) => true,
+        TokenKind::Meta(MetaKind::Ident) => true,
+        TokenKind::Meta(MetaKind::Constant) => true,
+        _ => false,
+    }
+}
+
+fn is_choice(label: Label) -> bool
+    ensures { result ≡ of.is_choice label }
+{
+    match label {
+        Label::PatOr | Label::PatAnd => true,
+        _ => false,
+    }
+}
+
+/// An expression of C, or a disjunction or conjunction of expressions.
+pub fn is_expression(label: Label) -> bool
+    ensures { result ≡ of.is_expression label }
+{
+    label.is_expression() || is_choice(label)
+}
+
+fn is_capital(byte: u8) -> bool
+    ensures { result ≡ of.is_capital byte }
+{
+    64 < byte && byte < 91
+}
+
+fn is_constant_byte(byte: u8) -> bool
+    ensures { result ≡ of.is_constant_byte byte }
+{
+    is_capital(byte) || ((47 < byte && byte < 58) || byte == 95)
+}
+
+fn has_capital(text: &[u8]) -> bool
+    ensures { result ≡ list_any of.is_capital text.now }
+{
+    for byte in text {
+        if is_capital(*byte) {
+            return true;
+        }
+    }
+    false
+}
+
+fn is_all_constant(text: &[u8]) -> bool
+    ensures { result ≡ list_all of.is_constant_byte text.now }
+{
+    for byte in text {
+        if !is_constant_byte(*byte) {
+            return false;
+        }
+    }
+    true
+}
+
+/// Capital letters, digits and `_`, with one capital letter at least.
+fn is_constant_name(text: &[u8]) -> bool
+    ensures { result ≡ of.is_constant_name text.now }
+{
+    is_all_constant(text) && has_capital(text)
+}
+
+fn is_constant_token(token: &Token) -> bool
+    ensures { result ≡ of.is_constant_token token.now.kind token.now.text }
+{
+    match token.kind {
+        TokenKind::Number | TokenKind::Char | TokenKind::Str => true,
+        TokenKind::Meta(MetaKind::Constant) => true,
+        TokenKind::Name => is_constant_name(token.text.as_bytes()),
+        _ => false,
+    }
+}
+
+fn is_one_of(names: &[Text], text: &[u8]) -> bool
+    ensures { result ≡ list_any (λ n. same_bytes n text.now) names.now }
+{
+    for name in names {
+        if same_text(name.as_bytes(), text) {
+            return true;
+        }
+    }
+    false
+}
+
+fn is_excepted(vars: &[VarDecl], var: &[u8], text: &[u8]) -> bool
+    ensures { result ≡ list_any (λ n. same_bytes n text.now) (of.excepted vars.now var.now) }
+{
+    match declared_as(vars, var) {
+        Some(decl) => is_one_of(decl.not_names.as_slice(), text),
+        None => false,
+    }
+}
+
+fn is_identifier_token(vars: &[VarDecl], var: &[u8], token: &Token) -> bool
+    ensures { result ≡ of.is_identifier_token (of.excepted vars.now var.now) token.now.kind token.now.text }
+{
+    match token.kind {
+        TokenKind::Name => !is_excepted(vars, var, token.text.as_bytes()),
+        TokenKind::Meta(MetaKind::Ident) => true,
+        _ => false,
+    }
+}
+
+fn token_has_kind(vars: &[VarDecl], var: &[u8], kind: MetaKind, token: &Token) -> bool
+    ensures { result ≡ of.token_is_of kind (of.excepted vars.now var.now) token.now }
+{
+    match kind {
+        MetaKind::Expr => is_expression_token(token.kind),
+        MetaKind::Constant => is_constant_token(token),
+        MetaKind::Ident => is_identifier_token(vars, var, token),
+        _ => false,
+    }
+}
+
+fn is_strings(label: Label) -> bool
+    ensures { result ≡ of.is_strings label }
+{
+    match label {
+        Label::Strings => true,
+        _ => false,
+    }
+}
+
+fn label_has_kind(kind: MetaKind, label: Label) -> bool
+    ensures { result ≡ of.label_is_of kind label }
+{
+    match kind {
+        MetaKind::Expr => is_expression(label),
+        MetaKind::Constant => is_strings(label),
+        _ => false,
+    }
+}
+
+/// Whether the variable, which is of this kind, may stand for the tree. Takes no memory.
+pub fn has_kind(vars: &[VarDecl], var: &[u8], kind: MetaKind, tree: &Tree) -> bool
+    ensures { result ≡ of.is_of_kind kind (of.excepted vars.now var.now) (out-Tree tree.now) }
+{
+    match tree {
+        Tree::Leaf(token) => token_has_kind(vars, var, kind, token),
+        Tree::Branch(label, _) => label_has_kind(kind, *label),
+    }
+}

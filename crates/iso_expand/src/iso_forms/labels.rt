@@ -1,0 +1,55 @@
+// Whether a list of forms may grow, as far as labels tell.
+ghost use Rattle.std.specs.Prelude.{◌≡◌};
+ghost use Rattle.std.specs.List.{list_any};
+ghost use Rattle.c_terms.specs.declared.tree.Tree.{out-Tree};
+ghost use Rattle.iso_expand.specs.IsoForms.Stepped as of;
+
+use c_terms::Tree;
+use smpl_patch::Iso;
+
+/// Whether the side is a branch of the tree's label, or a leaf.
+fn may_match(side: &Tree, tree: &Tree) -> bool
+    ensures { result ≡ of.may_match (out-Tree side.now) (out-Tree tree.now) }
+{
+    match side {
+        Tree::Leaf(_) => true,
+        Tree::Branch(l, _) => match tree {
+            Tree::Leaf(_) => false,
+            Tree::Branch(k, _) => l.number() == k.number(),
+        },
+    }
+}
+
+fn has_side_for(sides: &[Tree], tree: &Tree) -> bool
+    ensures { result ≡ of.has_side_for sides.now tree.now }
+{
+    for side in sides {
+        if may_match(side, tree) {
+            return true;
+        }
+    }
+    false
+}
+
+fn may_change(iso: &Iso, list: &[Tree]) -> bool
+    ensures { result ≡ list_any (of.has_side_for iso.now.sides) list.now }
+{
+    for tree in list {
+        if has_side_for(iso.sides.as_slice(), tree) {
+            return true;
+        }
+    }
+    false
+}
+
+/// Whether some side is a leaf, or a branch of the label of some tree. Looks at each side with each tree, and takes no memory.
+pub fn may_grow(isos: &[Iso], list: &[Tree]) -> bool
+    ensures { result ≡ of.may_grow isos.now list.now }
+{
+    for iso in isos {
+        if may_change(iso, list) {
+            return true;
+        }
+    }
+    false
+}

@@ -1,0 +1,77 @@
+// Where a tree may be replaced.
+ghost use Rattle.std.specs.Prelude.{◌≡◌, slice_get, IfOk};
+ghost use Rattle.std.specs.List.{list_all};
+ghost use Rattle.iso_expand.specs.IsoForms.Replacing as of;
+
+use c_terms::{NoMemory, Token, Tree, leaves};
+use smpl_patch::{Mark, PatToken};
+use std::alloc::Global;
+
+fn mark_number(mark: Mark) -> u8
+    ensures { result ≡ of.mark_number mark }
+{
+    match mark {
+        Mark::Context => 0,
+        Mark::Minus => 1,
+        Mark::Star => 2,
+    }
+}
+
+fn mark_of(tokens: &[PatToken], id: u64) -> u8
+    ensures { result ≡ of.mark_of (slice_get tokens.now id) }
+{
+    match tokens.get(id as usize) {
+        Some(p) => mark_number(p.mark),
+        None => 0,
+    }
+}
+
+fn stands_alone(p: &PatToken) -> bool
+    ensures { result ≡ of.stands_alone p.now }
+{
+    p.positions.len() == 0 && !p.before.is_some() && !p.after.is_some()
+}
+
+/// Neither a position nor plus code stands at the token.
+fn is_plain(tokens: &[PatToken], id: u64) -> bool
+    ensures { result ≡ of.is_plain (slice_get tokens.now id) }
+{
+    match tokens.get(id as usize) {
+        Some(p) => stands_alone(p),
+        None => true,
+    }
+}
+
+fn is_plain_of(tokens: &[PatToken], mark: u8, token: &Token) -> bool
+    ensures { result ≡ of.is_plain_of tokens.now mark token.now }
+{
+    is_plain(tokens, token.id) && mark_of(tokens, token.id) == mark
+}
+
+fn are_plain_of(tokens: &[PatToken], mark: u8, all: &[Token]) -> bool
+    ensures { result ≡ list_all (of.is_plain_of tokens.now mark) all.now }
+{
+    for token in all {
+        if !is_plain_of(tokens, mark, token) {
+            return false;
+        }
+    }
+    true
+}
+
+fn are_plain(tokens: &[PatToken], all: &[Token]) -> bool
+    ensures { result ≡ of.are_plain tokens.now all.now }
+{
+    match all.first() {
+        None => false,
+        Some(token) => are_plain_of(tokens, mark_of(tokens, token.id), all),
+    }
+}
+
+/// There are tokens, all carry one mark, and neither a position nor plus code stands at any of them. Linear.
+pub fn is_open(alloc: Global, tokens: &[PatToken], tree: &Tree) -> Result<bool, NoMemory>
+    ensures { IfOk result (λ b. b ≡ of.is_open tokens.now tree.now) }
+{
+    let all = leaves(alloc, tree)?;
+    Ok(are_plain(tokens, all.as_slice()))
+}

@@ -1,8 +1,0 @@
-use Rattle.std.proofs.Common.{sym, ap, ◌∙◌}
-use Rattle.iso_forms.specs.Stepped.{grown}
-use Rattle.iso_forms.proofs.ChoiceLemmas.{grown-by_none}
-use Rattle.iso_forms.proofs.choices.all_grown.Goals as goal
-
-pub returns-in-None : goal.returns-in-None
-returns-in-None c =
-    c.new.ensures.items ∙ sym (grown-by_none c.args.choices.items) ∙ ap (grown c.args.choices.items) (sym c.in-None.ensures.0)

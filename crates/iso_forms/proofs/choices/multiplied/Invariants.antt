@@ -1,6 +1,0 @@
-use Rattle.std.proofs.Common.{◌≡◌, [], ◌∷◌, ◌++◌}
-use Rattle.iso_forms.specs.Stepped.{grown}
-use Rattle.iso_forms.proofs.choices.multiplied.Given as goal
-
-abbrev pub invariant-loop-choice : goal.invariant-loop-choice
-invariant-loop-choice l = l.out.items ≡ grown l.yielded (l.trees ++ l.last ∷ [])

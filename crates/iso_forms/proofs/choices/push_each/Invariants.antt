@@ -1,6 +1,0 @@
-use Rattle.std.proofs.Common.{◌≡◌, ◌++◌}
-use Rattle.iso_forms.specs.Stepped.{longer}
-use Rattle.iso_forms.proofs.choices.push_each.Given as goal
-
-abbrev pub invariant-loop-tree : goal.invariant-loop-tree
-invariant-loop-tree l = l.out.items ≡ l.initial.out.items ++ longer l.choice l.yielded

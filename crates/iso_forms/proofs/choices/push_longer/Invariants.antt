@@ -1,6 +1,0 @@
-use Rattle.std.proofs.Common.{◌≡◌, ◌++◌, drop}
-use Rattle.iso_forms.specs.Stepped.{longer}
-use Rattle.iso_forms.proofs.choices.push_longer.Given as goal
-
-abbrev pub invariant-loop-tree : goal.invariant-loop-tree
-invariant-loop-tree l = l.out.items ++ longer l.choice (drop l.tree-index l.trees) ≡ l.initial.out.items ++ longer l.choice l.trees

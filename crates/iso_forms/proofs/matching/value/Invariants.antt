@@ -1,6 +1,0 @@
-use Rattle.std.proofs.Common.{◌≡◌, drop}
-use Rattle.iso_forms.specs.Matching.{value}
-use Rattle.iso_forms.proofs.matching.value.Given as goal
-
-abbrev pub invariant-loop-b : goal.invariant-loop-b
-invariant-loop-b l = value (drop l.b-index l.bound) l.name ≡ value l.bound l.name

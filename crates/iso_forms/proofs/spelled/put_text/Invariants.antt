@@ -1,6 +1,0 @@
-use Rattle.std.proofs.Common.{◌≡◌, ◌++◌, drop}
-use Rattle.iso_forms.specs.Spelled.{spell_text}
-use Rattle.iso_forms.proofs.spelled.put_text.Given as goal
-
-abbrev pub invariant-loop-byte : goal.invariant-loop-byte
-invariant-loop-byte l = l.out.items ++ spell_text (drop l.byte-index l.text) ≡ l.initial.out.items ++ spell_text l.text

@@ -1,2 +1,0 @@
--- Formulas whose patterns have all forms.
-pub mod Formulas

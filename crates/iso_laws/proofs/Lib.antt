@@ -1,6 +1,0 @@
-pub mod GoodLemmas
-pub mod FittingLemmas
-pub mod MakingLemmas
-pub mod FormLaws
-pub mod PatternLaws
-pub mod PatchLaws

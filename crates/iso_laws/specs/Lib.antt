@@ -1,2 +1,0 @@
--- Isomorphisms under which sound patches stay sound.
-pub mod Fine

@@ -1,6 +1,0 @@
-pub mod PieceLemmas
-pub mod BlockLemmas
-pub mod LostLemmas
-pub mod FileLemmas
-pub mod BodyOnce
-pub mod ExpandLemmas

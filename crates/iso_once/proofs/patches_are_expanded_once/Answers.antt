@@ -1,5 +1,0 @@
-use Rattle.iso_once.proofs.ExpandLemmas.{bodies-once, patch-once, many-once, expanded-apart}
-use Rattle.iso_once.proofs.patches_are_expanded_once.Goals as goal
-
-pub returns : goal.returns
-returns c = record { bodies = bodies-once; whole = patch-once; rule = many-once; apart = expanded-apart }

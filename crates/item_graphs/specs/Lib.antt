@@ -1,4 +1,0 @@
--- What the contracts rest on, in reading order.
-pub mod Pool
-pub mod Made
-pub mod Trees

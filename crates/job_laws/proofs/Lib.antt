@@ -1,2 +1,0 @@
--- Lemmas: what words with other jobs ask for.
-pub mod JobLemmas

@@ -1,2 +1,0 @@
--- What the law rests on: words that are the same but for their jobs.
-pub mod Jobs

@@ -1,9 +1,0 @@
-use Rattle.std.proofs.Common.{◌<◌}
-use Rattle.need_words.specs.Looks.{IsRun}
-use Rattle.need_words.proofs.looks.run_end.Given as goal
-
-abbrev pub invariant-loop-i : goal.invariant-loop-i
-invariant-loop-i l = record {
-  later : l.first < l.i;
-  run : IsRun l.spot l.forms l.word l.first l.i;
-}

@@ -1,0 +1,3 @@
+-- Lemmas of escaped_names.
+pub mod Examples
+pub mod ReadLemmas

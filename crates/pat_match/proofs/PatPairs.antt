@@ -1,0 +1,2 @@
+-- Lemmas of pat_pairs.
+pub mod PairLemmas

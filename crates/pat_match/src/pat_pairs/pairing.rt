@@ -1,0 +1,360 @@
+// What a form's tokens are aligned with in a subtree that it fits.
+ghost use Rattle.std.specs.Prelude.{◌≡◌, ℕ, suc, ◌<◌, ◌≤◌, ◌++◌, [], cond, true, false, None, IfOk, OnOk, map, drop, length, slice_index_or};
+ghost use Rattle.c_terms.specs.declared.tree.Tree.{out-Tree};
+ghost use Rattle.c_terms.specs.Shapes.{shape_of};
+ghost use Rattle.c_terms.specs.Lists.{comma};
+ghost use Rattle.smpl_terms.specs.Environments.{total};
+ghost use Rattle.pat_match.specs.Runs.{is_wild, list_fits, list_pairs};
+ghost use Rattle.pat_match.specs.Fitting.{leaf_of, piece, fits_tree, fits_by, pairs_by, alignment, all_fit, kids_fit, kids_pairs, first_pairs, every_pairs, zip_pairs};
+ghost use Rattle.pat_match.specs.Rows.{comma_before, fits_from};
+ghost use Rattle.pat_match.specs.PatPairs.Pairs.{numbers, left_pairs, IsNext};
+
+use crate::parts::{ListMember, fit, is_wild, list_members};
+use crate::pat_pairs::fewest::put_wild;
+use crate::pat_pairs::pairs::{AlignedToken, put_comma_before, put_leaf};
+use c_terms::{Label, NoMemory, Shape, Tree, comma};
+use env_sets::denotes;
+use smpl_patch::{PatToken, VarDecl};
+use smpl_terms::Env;
+use std::alloc::Global;
+
+/// Whether the form fits the tree under this environment.
+fn does_fit(
+    alloc: Global,
+    decls: &[VarDecl],
+    tokens: &[PatToken],
+    env: &Env,
+    form: &Tree,
+    tree: &Tree,
+) -> Result<bool, NoMemory>
+    ensures { IfOk result (λ r. r
+        ≡ fits_tree decls.now tokens.now (total env.now) form.now tree.now) }
+{
+    let set = fit(alloc, decls, tokens, form, tree)?;
+    Ok(denotes(&set, env))
+}
+
+/// Adds what the form's tokens are aligned with in the tree, which it fits. A few calls deep for each level of the form.
+#[cycle(pair)]
+pub fn put_pairs(
+    alloc: Global,
+    found: &mut Vec<AlignedToken>,
+    decls: &[VarDecl],
+    tokens: &[PatToken],
+    env: &Env,
+    form: &Tree,
+    tree: &Tree,
+) -> Result<(), NoMemory>
+    requires fits { fits_tree decls.now tokens.now (total env.now) form.now tree.now ≡ true }
+    ensures { OnOk result (found.new.items ≡ found.old.items
+        ++ numbers (alignment decls.now tokens.now (total env.now) form.now tree.now)) }
+{
+    match form {
+        Tree::Leaf(token) => put_leaf(alloc, found, token, tree),
+        Tree::Branch(label, forms) => put_branch(
+            alloc,
+            found,
+            decls,
+            tokens,
+            env,
+            *label,
+            forms.as_slice(),
+            tree,
+        ),
+    }
+}
+
+#[cycle(pair)]
+fn put_branch(
+    alloc: Global,
+    found: &mut Vec<AlignedToken>,
+    decls: &[VarDecl],
+    tokens: &[PatToken],
+    env: &Env,
+    label: Label,
+    forms: &[Tree],
+    tree: &Tree,
+) -> Result<(), NoMemory>
+    requires fits { fits_by decls.now tokens.now (total env.now) (shape_of label) label
+        (map (piece decls.now tokens.now (total env.now)) forms.now) tree.now ≡ true }
+    ensures { OnOk result (found.new.items ≡ found.old.items
+        ++ numbers (pairs_by decls.now tokens.now (total env.now) (shape_of label) label
+        (map (piece decls.now tokens.now (total env.now)) forms.now) tree.now)) }
+{
+    match label.shape() {
+        Shape::Or => put_first(alloc, found, decls, tokens, env, forms, tree),
+        Shape::And => put_every(alloc, found, decls, tokens, env, forms, tree),
+        Shape::List => put_list(alloc, found, decls, tokens, env, label, forms, tree),
+        Shape::Plain => put_kids(alloc, found, decls, tokens, env, label, forms, tree),
+    }
+}
+
+/// Adds what the first branch of a disjunction that fits is aligned with.
+#[cycle(pair)]
+fn put_first(
+    alloc: Global,
+    found: &mut Vec<AlignedToken>,
+    decls: &[VarDecl],
+    tokens: &[PatToken],
+    env: &Env,
+    forms: &[Tree],
+    tree: &Tree,
+) -> Result<(), NoMemory>
+    ensures { OnOk result (found.new.items ≡ found.old.items
+        ++ numbers (first_pairs (map (piece decls.now tokens.now (total env.now)) forms.now) tree.now)) }
+{
+    for form in forms {
+        if does_fit(alloc, decls, tokens, env, form, tree)? {
+            return put_pairs(alloc, found, decls, tokens, env, form, tree);
+        }
+    }
+    Ok(())
+}
+
+/// Adds what the form is aligned with, where it fits.
+#[cycle(pair)]
+fn put_where_it_fits(
+    alloc: Global,
+    found: &mut Vec<AlignedToken>,
+    decls: &[VarDecl],
+    tokens: &[PatToken],
+    env: &Env,
+    form: &Tree,
+    tree: &Tree,
+) -> Result<(), NoMemory>
+    ensures { OnOk result (found.new.items ≡ found.old.items
+        ++ numbers (cond (fits_tree decls.now tokens.now (total env.now) form.now tree.now)
+        (alignment decls.now tokens.now (total env.now) form.now tree.now) [])) }
+{
+    if does_fit(alloc, decls, tokens, env, form, tree)? {
+        put_pairs(alloc, found, decls, tokens, env, form, tree)
+    } else {
+        Ok(())
+    }
+}
+
+/// Adds what every branch of a conjunction is aligned with.
+#[cycle(pair)]
+fn put_every(
+    alloc: Global,
+    found: &mut Vec<AlignedToken>,
+    decls: &[VarDecl],
+    tokens: &[PatToken],
+    env: &Env,
+    forms: &[Tree],
+    tree: &Tree,
+) -> Result<(), NoMemory>
+    ensures { OnOk result (found.new.items ≡ found.old.items
+        ++ numbers (every_pairs (map (piece decls.now tokens.now (total env.now)) forms.now) tree.now)) }
+{
+    for form in forms {
+        put_where_it_fits(alloc, found, decls, tokens, env, form, tree)?;
+    }
+    Ok(())
+}
+
+#[cycle(pair)]
+fn put_kids(
+    alloc: Global,
+    found: &mut Vec<AlignedToken>,
+    decls: &[VarDecl],
+    tokens: &[PatToken],
+    env: &Env,
+    label: Label,
+    forms: &[Tree],
+    tree: &Tree,
+) -> Result<(), NoMemory>
+    requires fits { kids_fit all_fit label (map (piece decls.now tokens.now (total env.now)) forms.now)
+        (out-Tree tree.now) ≡ true }
+    ensures { OnOk result (found.new.items ≡ found.old.items
+        ++ numbers (kids_pairs zip_pairs (map (piece decls.now tokens.now (total env.now)) forms.now)
+        (out-Tree tree.now))) }
+{
+    match tree {
+        Tree::Leaf(_) => Ok(()),
+        Tree::Branch(_, trees) => {
+            put_all(alloc, found, decls, tokens, env, forms, trees.as_slice())
+        }
+    }
+}
+
+/// Adds what the first form is aligned with in the first tree, and so on.
+#[cycle(pair)]
+fn put_all(
+    alloc: Global,
+    found: &mut Vec<AlignedToken>,
+    decls: &[VarDecl],
+    tokens: &[PatToken],
+    env: &Env,
+    forms: &[Tree],
+    trees: &[Tree],
+) -> Result<(), NoMemory>
+    requires fits { all_fit (map (piece decls.now tokens.now (total env.now)) forms.now) trees.now ≡ true }
+    ensures { OnOk result (found.new.items ≡ found.old.items
+        ++ numbers (zip_pairs (map (piece decls.now tokens.now (total env.now)) forms.now) trees.now)) }
+{
+    for i in 0..forms.len() {
+        put_pairs(alloc, found, decls, tokens, env, &forms[i], &trees[i])?;
+    }
+    Ok(())
+}
+
+/// Adds what a list of arguments or parameters is aligned with.
+#[cycle(pair)]
+fn put_list(
+    alloc: Global,
+    found: &mut Vec<AlignedToken>,
+    decls: &[VarDecl],
+    tokens: &[PatToken],
+    env: &Env,
+    label: Label,
+    forms: &[Tree],
+    tree: &Tree,
+) -> Result<(), NoMemory>
+    requires fits { kids_fit (list_fits decls.now tokens.now (total env.now) label) label
+        (map (piece decls.now tokens.now (total env.now)) forms.now) (out-Tree tree.now) ≡ true }
+    ensures { OnOk result (found.new.items ≡ found.old.items
+        ++ numbers (kids_pairs (list_pairs decls.now tokens.now (total env.now) label)
+        (map (piece decls.now tokens.now (total env.now)) forms.now) (out-Tree tree.now))) }
+{
+    match tree {
+        Tree::Leaf(_) => Ok(()),
+        Tree::Branch(_, trees) => {
+            let members = list_members(alloc, trees.as_slice())?;
+            put_members(
+                alloc,
+                found,
+                decls,
+                tokens,
+                env,
+                label,
+                forms,
+                members.as_slice(),
+            )
+        }
+    }
+}
+
+/// Adds what the children of a pattern's list are aligned with: from the left, each takes as few members as it can.
+#[cycle(pair)]
+fn put_members(
+    alloc: Global,
+    found: &mut Vec<AlignedToken>,
+    decls: &[VarDecl],
+    tokens: &[PatToken],
+    env: &Env,
+    label: Label,
+    forms: &[Tree],
+    members: &[ListMember],
+) -> Result<(), NoMemory>
+    requires fits { fits_from decls.now tokens.now label None forms.now members.now (total env.now) ≡ true }
+    ensures { OnOk result (found.new.items ≡ found.old.items
+        ++ numbers (left_pairs decls.now tokens.now (total env.now) label None forms.now members.now)) }
+{
+    let mut taken: usize = 0;
+    for i in 0..forms.len() {
+        taken = put_next(
+            alloc, found, decls, tokens, env, label, forms, i, members, taken,
+        )?;
+    }
+    put_comma_before(alloc, found, forms, forms.len(), &[])
+}
+
+/// Adds what the i-th child is aligned with after so many members. Answers how many are taken then.
+#[cycle(pair)]
+fn put_next(
+    alloc: Global,
+    found: &mut Vec<AlignedToken>,
+    decls: &[VarDecl],
+    tokens: &[PatToken],
+    env: &Env,
+    label: Label,
+    forms: &[Tree],
+    i: usize,
+    members: &[ListMember],
+    taken: usize,
+) -> Result<usize, NoMemory>
+    requires within { i < length forms.now }
+    requires left { taken ≤ length members.now }
+    requires fits { fits_from decls.now tokens.now label (comma_before forms.now i) (drop i forms.now)
+        (drop taken members.now) (total env.now) ≡ true }
+    ensures { IfOk result (λ next. IsNext decls.now tokens.now (total env.now) label forms.now i members.now taken next
+        found.old.items found.new.items) }
+{
+    let form = &forms[i];
+    match comma(form) {
+        Some(_) => {
+            put_comma_before(alloc, found, forms, i, &[])?;
+            Ok(taken)
+        }
+        None => {
+            if is_wild(label, form) {
+                put_wild(
+                    alloc, found, decls, tokens, env, label, forms, i, form, members, taken,
+                )
+            } else {
+                put_single(
+                    alloc, found, decls, tokens, env, label, forms, i, form, members, taken,
+                )
+            }
+        }
+    }
+}
+
+/// The member that the i-th child takes after so many members: it is there, and the child fits it. Where that is, the
+/// declarations, tokens and the environment tell; the call looks at none of them.
+fn taken_member<'a, 'b>(
+    decls: &[VarDecl],
+    tokens: &[PatToken],
+    env: &Env,
+    label: Label,
+    forms: &[Tree],
+    i: usize,
+    form: &Tree,
+    members: &'a [ListMember<'b>],
+    taken: usize,
+) -> &'a ListMember<'b>
+    requires within { i < length forms.now }
+    requires child { form.now ≡ slice_index_or forms.now i form.now }
+    requires member { comma form.now ≡ None }
+    requires single { is_wild label (leaf_of (out-Tree form.now)) ≡ false }
+    requires left { taken ≤ length members.now }
+    requires fits { fits_from decls.now tokens.now label (comma_before forms.now i) (drop i forms.now)
+        (drop taken members.now) (total env.now) ≡ true }
+    ensures less { taken < length members.now }
+    ensures item { result.now ≡ slice_index_or members.now taken result.now }
+    ensures fits { fits_tree decls.now tokens.now (total env.now) form.now result.now.tree ≡ true }
+{
+    &members[taken]
+}
+
+/// The same for a child that takes one member.
+#[cycle(pair)]
+fn put_single(
+    alloc: Global,
+    found: &mut Vec<AlignedToken>,
+    decls: &[VarDecl],
+    tokens: &[PatToken],
+    env: &Env,
+    label: Label,
+    forms: &[Tree],
+    i: usize,
+    form: &Tree,
+    members: &[ListMember],
+    taken: usize,
+) -> Result<usize, NoMemory>
+    requires within { i < length forms.now }
+    requires child { form.now ≡ slice_index_or forms.now i form.now }
+    requires member { comma form.now ≡ None }
+    requires single { is_wild label (leaf_of (out-Tree form.now)) ≡ false }
+    requires left { taken ≤ length members.now }
+    requires fits { fits_from decls.now tokens.now label (comma_before forms.now i) (drop i forms.now)
+        (drop taken members.now) (total env.now) ≡ true }
+    ensures { IfOk result (λ next. IsNext decls.now tokens.now (total env.now) label forms.now i members.now taken next
+        found.old.items found.new.items) }
+{
+    let member = taken_member(decls, tokens, env, label, forms, i, form, members, taken);
+    put_comma_before(alloc, found, forms, i, &members[taken..taken + 1])?;
+    put_pairs(alloc, found, decls, tokens, env, form, member.tree())?;
+    Ok(taken + 1)
+}

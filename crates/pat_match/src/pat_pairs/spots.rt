@@ -1,0 +1,214 @@
+// The alignment of a pattern at a subtree of a node.
+ghost use Rattle.std.specs.Prelude.{◌≡◌, ◌++◌, true, IfOk, OnOk};
+ghost use Rattle.std.specs.Option.{option_copied, option_map};
+ghost use Rattle.c_terms.specs.declared.tree.Tree.{out-Tree};
+ghost use Rattle.smpl_terms.specs.Environments.{total};
+ghost use Rattle.smpl_patch.specs.declared.pattern.Spot.TheVariants as spot;
+ghost use Rattle.pat_match.specs.Fitting.{fits_tree, alignment};
+ghost use Rattle.pat_match.specs.Spots as at;
+ghost use Rattle.pat_match.specs.PatPairs.Pairs as of;
+
+use crate::parts::{NodeRole, close_brace, fits_seat, is_close_brace, is_open_brace, open_brace};
+use crate::pat_pairs::own::put_own;
+use crate::pat_pairs::pairing::put_pairs;
+use crate::pat_pairs::pairs::AlignedToken;
+use c_terms::{NoMemory, Token, Tree};
+use cfg_build::NodeKind;
+use smpl_patch::{PatToken, Pattern, Spot, VarDecl};
+use smpl_terms::Env;
+use std::alloc::Global;
+
+fn put_brace(
+    alloc: Global,
+    found: &mut Vec<AlignedToken>,
+    decls: &[VarDecl],
+    tokens: &[PatToken],
+    env: &Env,
+    form: &Tree,
+    brace: Option<&Tree>,
+) -> Result<(), NoMemory>
+    requires fits { at.option_fits (fits_tree decls.now tokens.now (total env.now) form.now)
+        (option_copied brace) ≡ true }
+    ensures { OnOk result (found.new.items ≡ found.old.items
+        ++ of.numbers (at.option_pairs (alignment decls.now tokens.now (total env.now) form.now)
+        (option_copied brace.entry))) }
+{
+    match brace {
+        Some(brace) => put_pairs(alloc, found, decls, tokens, env, form, brace),
+        None => Ok(()),
+    }
+}
+
+fn put_token_whole(
+    alloc: Global,
+    found: &mut Vec<AlignedToken>,
+    decls: &[VarDecl],
+    tokens: &[PatToken],
+    env: &Env,
+    kind: NodeKind,
+    token: &Token,
+    form: &Tree,
+    tree: &Tree,
+) -> Result<(), NoMemory>
+    requires fits { at.token_whole decls.now tokens.now (total env.now) kind token.now form.now tree.now ≡ true }
+    ensures { OnOk result (found.new.items ≡ found.old.items
+        ++ of.numbers (at.token_alignment decls.now tokens.now (total env.now) kind token.now form.now tree.now)) }
+{
+    if is_open_brace(token) {
+        put_brace(
+            alloc,
+            found,
+            decls,
+            tokens,
+            env,
+            form,
+            open_brace(kind, tree),
+        )
+    } else if is_close_brace(token) {
+        put_brace(
+            alloc,
+            found,
+            decls,
+            tokens,
+            env,
+            form,
+            close_brace(kind, tree),
+        )
+    } else {
+        put_pairs(alloc, found, decls, tokens, env, form, tree)
+    }
+}
+
+fn put_branch_whole(
+    alloc: Global,
+    found: &mut Vec<AlignedToken>,
+    decls: &[VarDecl],
+    tokens: &[PatToken],
+    env: &Env,
+    kind: NodeKind,
+    form: &Tree,
+    tree: &Tree,
+) -> Result<(), NoMemory>
+    requires fits { at.branch_whole decls.now tokens.now (total env.now) kind form.now tree.now ≡ true }
+    ensures { OnOk result (found.new.items ≡ found.old.items
+        ++ of.numbers (at.branch_alignment decls.now tokens.now (total env.now) kind form.now tree.now)) }
+{
+    match kind {
+        NodeKind::Simple => put_pairs(alloc, found, decls, tokens, env, form, tree),
+        NodeKind::Head => put_own(alloc, found, decls, tokens, env, NodeKind::Head, form, tree),
+        NodeKind::FunHead => {
+            put_own(
+                alloc,
+                found,
+                decls,
+                tokens,
+                env,
+                NodeKind::FunHead,
+                form,
+                tree,
+            )
+        }
+        _ => Ok(()),
+    }
+}
+
+fn put_whole(
+    alloc: Global,
+    found: &mut Vec<AlignedToken>,
+    decls: &[VarDecl],
+    tokens: &[PatToken],
+    env: &Env,
+    kind: NodeKind,
+    form: &Tree,
+    tree: &Tree,
+) -> Result<(), NoMemory>
+    requires fits { at.whole_at decls.now tokens.now (total env.now) kind (out-Tree form.now) form.now tree.now ≡ true }
+    ensures { OnOk result (found.new.items ≡ found.old.items
+        ++ of.numbers (at.whole_alignment decls.now tokens.now (total env.now) kind (out-Tree form.now) form.now tree.now)) }
+{
+    match form {
+        Tree::Leaf(token) => {
+            put_token_whole(alloc, found, decls, tokens, env, kind, token, form, tree)
+        }
+        Tree::Branch(_, _) => put_branch_whole(alloc, found, decls, tokens, env, kind, form, tree),
+    }
+}
+
+fn put_tail(
+    alloc: Global,
+    found: &mut Vec<AlignedToken>,
+    decls: &[VarDecl],
+    tokens: &[PatToken],
+    env: &Env,
+    kind: NodeKind,
+    form: &Tree,
+    tree: &Tree,
+) -> Result<(), NoMemory>
+    requires fits { at.fits_at decls.now tokens.now (total env.now) spot.Tail kind form.now tree.now ≡ true }
+    ensures { OnOk result (found.new.items ≡ found.old.items
+        ++ of.numbers (at.alignment_at decls.now tokens.now (total env.now) spot.Tail kind form.now tree.now)) }
+{
+    put_own(
+        alloc,
+        found,
+        decls,
+        tokens,
+        env,
+        NodeKind::DoTail,
+        form,
+        tree,
+    )
+}
+
+/// What a form of this spot is aligned with in a subtree that it fits.
+fn pairs_at(
+    alloc: Global,
+    decls: &[VarDecl],
+    tokens: &[PatToken],
+    env: &Env,
+    spot: Spot,
+    kind: NodeKind,
+    form: &Tree,
+    tree: &Tree,
+) -> Result<Vec<AlignedToken>, NoMemory>
+    requires fits { at.fits_at decls.now tokens.now (total env.now) spot kind form.now tree.now ≡ true }
+    ensures { IfOk result (λ r. r.items
+        ≡ of.numbers (at.alignment_at decls.now tokens.now (total env.now) spot kind form.now tree.now)) }
+{
+    let mut found = Vec::new(alloc);
+    match spot {
+        Spot::Whole => put_whole(alloc, &mut found, decls, tokens, env, kind, form, tree)?,
+        Spot::Tail => put_tail(alloc, &mut found, decls, tokens, env, kind, form, tree)?,
+        Spot::Inside => put_pairs(alloc, &mut found, decls, tokens, env, form, tree)?,
+    }
+    Ok(found)
+}
+
+/// The tokens that are aligned where the pattern matches the subtree at a node of this role, in the order of the form:
+/// those of the first form that fits. None where no form fits. For a pattern of spot Whole or Tail the subtree is that of the
+/// node, else a part of it that `align` names.
+///
+/// Each disjunction in the form, and each dots or list variable in a list, costs what `solve` does for its branches or for
+/// the members after it. Recurses a few calls a level.
+pub fn aligned_tokens(
+    alloc: Global,
+    p: &Pattern,
+    decls: &[VarDecl],
+    tokens: &[PatToken],
+    role: NodeRole,
+    tree: &Tree,
+    env: &Env,
+) -> Result<Option<Vec<AlignedToken>>, NoMemory>
+    ensures exact { IfOk result (λ r. option_map (λ found. found.items) r
+        ≡ of.aligned_tokens decls.now tokens.now (total env.now) p.now role tree.now) }
+{
+    let forms = p.forms.as_slice();
+    for i in 0..forms.len() {
+        let form = &forms[i];
+        if fits_seat(alloc, p, decls, tokens, role, i, form, tree, env)? {
+            let found = pairs_at(alloc, decls, tokens, env, p.spot, role.kind, form, tree)?;
+            return Ok(Some(found));
+        }
+    }
+    Ok(None)
+}

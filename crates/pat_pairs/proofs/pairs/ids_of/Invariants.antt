@@ -1,7 +1,0 @@
-use Rattle.std.proofs.Common.{◌≡◌, ◌++◌, drop}
-use Rattle.c_terms.specs.Trees.{leaves}
-use Rattle.pat_pairs.specs.Pairs.{ids_of}
-use Rattle.pat_pairs.proofs.pairs.ids_of.Given as goal
-
-abbrev pub invariant-loop-token : goal.invariant-loop-token
-invariant-loop-token l = l.ids ++ ids_of (drop l.token-index l.token-items) ≡ ids_of (leaves l.tree)

@@ -1,2 +1,0 @@
--- What public contracts rest on: the tokens of a form, and what each is aligned with.
-pub mod Pairs

@@ -1,4 +1,0 @@
--- Lemmas: gaps without newlines, tokens of plus code, rules.
-pub mod GapLemmas
-pub mod TokenLemmas
-pub mod RuleLemmas

@@ -1,2 +1,0 @@
--- Lemmas: members of lists, and walks of whatever length.
-pub mod ReachLemmas

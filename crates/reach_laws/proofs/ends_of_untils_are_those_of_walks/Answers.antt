@@ -1,5 +1,0 @@
-use Rattle.reach_laws.proofs.ReachLemmas.{both_ways}
-use Rattle.reach_laws.proofs.ends_of_untils_are_those_of_walks.Goals as goal
-
-pub returns : goal.returns
-returns c = λ g ok test s n lt. both_ways g ok test s n lt

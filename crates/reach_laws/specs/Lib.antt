@@ -1,2 +1,0 @@
--- What the law rests on: walks that come to a node.
-pub mod Reaching

@@ -1,9 +1,0 @@
--- Walks that come to a node through nodes that pass.
-use Rattle.std.specs.Prelude.{◌≡◌, ℕ, Bool, true, List, ◌∷◌}
-use Rattle.cfg_graph.specs.Flow.{Flow}
-use Rattle.cfg_graph.specs.Walks.{IsWalk}
-use Rattle.ctl_holds.specs.Untils.{EndsIn}
-
--- some walk from s ends at n, and each node before its last one passes the test
-abbrev pub Comes : Flow → (ℕ → Bool) → ℕ → ℕ → Type 0
-Comes g test s n = (walk : List ℕ) × IsWalk g (s ∷ walk) × EndsIn (λ k. test k ≡ true) (λ k. k ≡ n) s walk

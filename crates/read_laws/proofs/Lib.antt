@@ -1,0 +1,3 @@
+pub mod SmplOnce
+pub mod IsoOnce
+pub mod ReadEnds

@@ -1,0 +1,7 @@
+-- Lemmas of read_ends.
+-- Lemmas: cut texts, the text and the heads of a patch, its rules, isomorphisms, forms.
+pub mod PieceLemmas
+pub mod TextLemmas
+pub mod RuleLemmas
+pub mod IsoLemmas
+pub mod FormLemmas

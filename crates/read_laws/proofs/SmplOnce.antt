@@ -1,0 +1,3 @@
+-- Lemmas of smpl_once.
+pub mod RuleLemmas
+pub mod FaultLemmas

@@ -1,0 +1,2 @@
+-- What read_ends defines.
+pub mod ReadEnds

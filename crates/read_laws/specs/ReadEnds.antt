@@ -1,0 +1,1 @@
+-- Definitions of read_ends.

@@ -1,2 +1,0 @@
--- What the laws rest on: tokens of trees, and where they stand.
-pub mod Sound

@@ -1,0 +1,3 @@
+-- Lemmas of rule_turn.
+pub mod TurnLemmas
+pub mod Examples

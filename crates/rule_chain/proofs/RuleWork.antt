@@ -1,0 +1,3 @@
+-- Lemmas of rule_work.
+pub mod HadLemmas
+pub mod WorkLemmas

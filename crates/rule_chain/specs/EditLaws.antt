@@ -1,0 +1,2 @@
+-- Definitions of edit_laws.
+-- No words of its own: those of rule_witnesses and edit_walk.

@@ -1,0 +1,5 @@
+-- Definitions of rule_edits.
+-- What the contract of `edit` rests on, in reading order.
+pub mod Kinds
+pub mod Pages
+pub mod Faults

@@ -1,0 +1,42 @@
+// What the nodes of a file's graphs are.
+ghost use Rattle.std.specs.Prelude.{◌≡◌, ◌<◌, ◌++◌, ◌∷◌, [], ℕ, IfOk, length, slice_get};
+ghost use Rattle.c_file.specs.ItemGraphs.Made.{IsMade};
+ghost use Rattle.rule_chain.specs.RuleEdits.Kinds as of;
+
+use c_file::Graphs;
+use c_terms::NoMemory;
+use cfg_build::NodeKind;
+use edit_marks::node_kinds;
+use sqlite_items::Items;
+use std::alloc::Global;
+
+fn kinds_at(alloc: Global, graphs: &mut Graphs<'_>, i: usize) -> Result<Items<NodeKind>, NoMemory>
+    requires within { i < length graphs.old.items }
+    ensures kinds { IfOk result (λ kinds. kinds ≡ of.kinds_at graphs.old.items i) }
+    ensures items { graphs.new.items ≡ graphs.old.items }
+    ensures kept { (k : ℕ) → IsMade graphs.old k → IsMade graphs.new k }
+{
+    graphs.make(alloc, i)?;
+    match graphs.get(i) {
+        Some(graph) => node_kinds(alloc, graph),
+        None => Ok(Items::new(alloc)),
+    }
+}
+
+/// What the nodes of all graphs are, item by item; nothing where an item has no tree. Makes the graphs that are not made.
+pub fn kinds(
+    alloc: Global,
+    graphs: &mut Graphs<'_>,
+    count: usize,
+) -> Result<Vec<Items<NodeKind>>, NoMemory>
+    requires count { count ≡ length graphs.old.items }
+    ensures kinds { IfOk result (λ kinds. kinds.items ≡ of.kinds_of graphs.old.items) }
+    ensures items { graphs.new.items ≡ graphs.old.items }
+    ensures kept { (k : ℕ) → IsMade graphs.old k → IsMade graphs.new k }
+{
+    let mut kinds = Vec::with_capacity(alloc, count)?;
+    for i in 0..count {
+        kinds.push(kinds_at(alloc, graphs, i)?)?;
+    }
+    Ok(kinds)
+}

@@ -1,0 +1,201 @@
+// What the edits of a rule make of the text.
+ghost use Rattle.std.specs.Prelude.{◌≡◌, ◌<◌, ◌≤◌, ◌^◌, ◌⊎◌, ℕ, List, None, Some, All, IfOk, IfErr, length, slice_get, not, nat_lt};
+ghost use Rattle.std.specs.List.{filter, list_any};
+ghost use Rattle.c_lexer.specs.Pieces.{text_of};
+ghost use Rattle.c_lexer.specs.Ids.{ids_of};
+ghost use Rattle.edit_marks.specs.declared.edit_conflict.edit.Edit.{Edit as Change};
+ghost use Rattle.edit_unparse.specs.Output.{output_of};
+ghost use Rattle.edit_marks.specs.EditConflict.Clashes.{IsFirstClash};
+ghost use Rattle.edit_marks.specs.EditWalk.Edited.{AreEdits};
+ghost use Rattle.edit_marks.specs.EditWalk.Fit.{FitsText};
+ghost use Rattle.edit_marks.specs.Edits.{HaveEvenBlocks};
+ghost use Rattle.c_file.specs.ItemGraphs.Made.{IsMade};
+ghost use Rattle.rule_chain.specs.RuleEdits.Kinds.{kinds_of};
+ghost use Rattle.rule_chain.specs.RuleEdits.Pages as of;
+ghost use Rattle.rule_chain.specs.RuleEdits.Faults.{Leaves, IsEditFault};
+ghost use Rattle.rule_chain.specs.declared.rule_edits.fault.EditFault.TheVariants as fault;
+
+use crate::rule_edits::fault::EditFault;
+use crate::rule_edits::kinds::kinds;
+use c_file::{CFile, Graphs};
+use c_lexer::{Lexed, PieceKind};
+use edit_marks::{Clash, Edit, EditList, edits, first_clash};
+use edit_unparse::{OutFault, output};
+use smpl_patch::{Rule, RuleWitness};
+use std::alloc::Global;
+
+/// A text that edits have left, the ids of its tokens, and the id from which on none has been used in the file.
+#[derive(Drop)]
+pub struct NewText {
+    pub bytes: Vec<u8>,
+    pub ids: Vec<u64>,
+    pub next: u64,
+}
+
+fn changes(edit: &Edit) -> bool
+    ensures { result ≡ of.changes edit.now }
+{
+    !edit.removed.is_empty() || !edit.inserts.is_empty()
+}
+
+fn is_edited(edits: &[Edit]) -> bool
+    ensures { result ≡ of.is_edited edits.now }
+{
+    for edit in edits {
+        if changes(edit) {
+            return true;
+        }
+    }
+    false
+}
+
+/// Whether the forest of some witness has a tree.
+fn has_tree(found: &[RuleWitness]) -> bool
+    ensures { result ≡ list_any (λ w. not (of.is_empty w.forest)) found.now }
+{
+    for witness in found {
+        if !witness.forest.is_empty() {
+            return true;
+        }
+    }
+    false
+}
+
+/// The id of a token, by its number in this reading.
+fn id_of(lexed: &Lexed, token: u32) -> u64
+    requires { token < length (ids_of lexed.now) }
+    ensures { slice_get (ids_of lexed.now) token ≡ Some result }
+{
+    let mut number = 0;
+    for i in 0..lexed.count() {
+        if let PieceKind::Word(_, id) = lexed.piece(i).kind {
+            if number == token {
+                return id;
+            }
+            number += 1;
+        }
+    }
+    0
+}
+
+/// The first clash as a fault.
+fn conflict(lexed: &Lexed, edits: EditList, clash: Clash) -> EditFault
+    requires first { IsFirstClash edits clash }
+    requires fit { All (FitsText (length (ids_of lexed.now))) edits }
+    ensures fault { (next : ℕ) → IsEditFault next lexed.now edits result }
+{
+    let id = id_of(lexed, clash.token);
+    let (first, second) = edits.take(clash.first, clash.second);
+    EditFault::Conflict(id, first, second)
+}
+
+/// How many of these ids are not below `next`.
+fn count_new(ids: &[u64], next: u64) -> usize
+    ensures { result ≡ length (filter (λ id. not (nat_lt id next)) ids.now) }
+{
+    let mut count = 0;
+    for id in ids {
+        if *id >= next {
+            count += 1;
+        }
+    }
+    count
+}
+
+fn written(alloc: Global, lexed: &Lexed, edits: &EditList, next: u64) -> Result<NewText, EditFault>
+    requires fresh { next ≤ 2 ^ 62 }
+    ensures text { IfOk result (λ t. of.page_in t ≡ of.page_of next (output_of lexed.now edits.now next)) }
+    ensures short { IfOk result (λ t. length t.bytes.items ≤ 16777216) }
+    ensures fault { IfErr result (λ f. (f ≡ fault.NoMemory)
+        ⊎ ((f ≡ fault.TooLong) × (16777216 < length (text_of (output_of lexed.now edits.now next))))) }
+{
+    match output(alloc, lexed, edits, next) {
+        Ok(edited) => match next.checked_add(count_new(edited.ids.as_slice(), next) as u64) {
+            Some(next) => Ok(NewText {
+                bytes: edited.bytes,
+                ids: edited.ids,
+                next,
+            }),
+            None => Err(EditFault::NoMemory),
+        },
+        Err(OutFault::TooLong) => Err(EditFault::TooLong),
+        Err(OutFault::NoMemory) => Err(EditFault::NoMemory),
+    }
+}
+
+/// No new text: the old one stays, which is short enough.
+fn nothing_new(lexed: &Lexed) -> Option<NewText>
+    ensures none { result ≡ None }
+    ensures short { length (text_of lexed.now) ≤ 16777216 }
+{
+    let _text = lexed.bytes();
+    None
+}
+
+/// What edits leave of a text.
+fn left(
+    alloc: Global,
+    lexed: &Lexed,
+    list: EditList,
+    next: u64,
+) -> Result<Option<NewText>, EditFault>
+    requires fresh { next ≤ 2 ^ 62 }
+    requires fit { All (FitsText (length (ids_of lexed.now))) list }
+    ensures text { IfOk result (λ left. Leaves next lexed.now list left) }
+    ensures fault { IfErr result (λ f. (f ≡ fault.NoMemory) ⊎ IsEditFault next lexed.now list f) }
+{
+    if let Some(clash) = first_clash(&list) {
+        return Err(conflict(lexed, list, clash));
+    }
+    if !is_edited(list.edits()) {
+        return Ok(nothing_new(lexed));
+    }
+    match written(alloc, lexed, &list, next) {
+        Ok(text) => Ok(Some(text)),
+        Err(fault) => Err(fault),
+    }
+}
+
+/// The text after the edits of the witnesses, all at once, where one of them isn't empty. `next` is an id from which on none
+/// has been used in the file.
+///
+/// - `Conflict`: two edits clash, first at the token of this id.
+/// - `TooLong`: none clash, and the text would have more than 16,777,216 bytes.
+/// - `NoMemory`: memory was refused.
+///
+/// Where the forest of some witness has a tree, the graphs of all items are made, and it is linear in the text, beside the edits. No
+/// forest has one where no token of the rule is marked: then nothing is edited, and it is linear in the witnesses.
+pub fn edit(
+    alloc: Global,
+    rule: &Rule,
+    file: &CFile,
+    graphs: &mut Graphs<'_>,
+    next: u64,
+    found: &[RuleWitness],
+) -> Result<Option<NewText>, EditFault>
+    requires even { HaveEvenBlocks rule.now.tokens }
+    requires fresh { next ≤ 2 ^ 62 }
+    requires items { graphs.old.items ≡ file.now.items }
+    ensures text { IfOk result (λ left. (edits : List Change)
+        × (AreEdits found.now rule.now file.now.items (kinds_of file.now.items) file.now.pieces edits
+        × Leaves next file.now.pieces edits left)) }
+    ensures fault { IfErr result (λ f. (f ≡ fault.NoMemory) ⊎ ((edits : List Change)
+        × (AreEdits found.now rule.now file.now.items (kinds_of file.now.items) file.now.pieces edits
+        × IsEditFault next file.now.pieces edits f))) }
+    ensures graphs { graphs.new.items ≡ graphs.old.items }
+    ensures kept { (k : ℕ) → IsMade graphs.old k → IsMade graphs.new k }
+{
+    if !has_tree(found) {
+        return Ok(nothing_new(file.lexed()));
+    }
+    let kinds = kinds(alloc, graphs, file.items().len())?;
+    let list = edits(
+        alloc,
+        found,
+        rule,
+        file.items(),
+        kinds.as_slice(),
+        file.lexed(),
+    )?;
+    left(alloc, file.lexed(), list, next)
+}

@@ -1,0 +1,117 @@
+// What does the jobs: each finds what a formula finds in one item under one environment.
+ghost use Rattle.std.specs.Prelude.{◌≡◌, ◌<◌, ◌≤◌, ◌^◌, ℕ, true, length, IfOk, Err};
+ghost use Rattle.ctl_formula.specs.Formulas.{plain};
+ghost use Rattle.ctl_fixpoint.specs.CtlHolds.Parts.{EachPattern, each_pattern-prop};
+ghost use Rattle.ctl_fixpoint.specs.CtlHolds.BoundLaw.{SureStand, sure_stand-prop};
+ghost use Rattle.rule_chain.specs.RuleWitnesses.Jobs.{BindsExports, nodes_of};
+ghost use Rattle.rule_chain.specs.declared.rule_witnesses.fault.JobFault.TheVariants as fault;
+ghost use Rattle.rule_chain.specs.RuleFound.Asked.{are_new};
+ghost use Rattle.rule_chain.specs.RuleFound.Jobs.{AreFoundBy, found_by};
+ghost use Rattle.rule_chain.specs.RuleFound.Kept.{IsKept, AreKept, are_kept-prop};
+ghost use Rattle.rule_chain.specs.RuleFound.Lent.{lent_graph};
+
+use crate::rule_found::job::{First, Kept, first_found, next_found};
+use crate::rule_witnesses::JobFault;
+use cfg_build::Graph;
+use ctl_formula::Formula;
+use par_match::Worker;
+use smpl_patch::RuleWitness;
+use smpl_terms::{Env, Var};
+use sqlite_items::Items;
+use std::alloc::Global;
+
+/// Finds what a formula finds in each item under the first environment: a job an item, of the item's number.
+#[derive(Drop)]
+pub struct FirstFinder<'a> {
+    pub alloc: Global,
+    pub number: u32,
+    pub f: &'a Formula,
+    pub exports: &'a [Var],
+    pub graphs: &'a [Option<&'a Graph<'a>>],
+    pub env: &'a Env,
+    /// Of so many items, from the first, is kept where the formula holds.
+    pub keep: usize,
+    ghost stand: { EachPattern (SureStand f.now.decls f.now.tokens) (plain f.now) } by { each_pattern-prop (SureStand f.now.decls f.now.tokens) (sure_stand-prop f.now.decls f.now.tokens) (plain f.now) },
+    ghost binds: { BindsExports f.now exports.now },
+    ghost new: { are_new exports.now env.now ≡ true },
+    ghost few: { length graphs.now ≤ 2 ^ 32 },
+}
+
+impl<'a> Worker for FirstFinder<'a> {
+    type Answer = First;
+
+    type Fault = JobFault;
+
+    ghost jobs = { λ w. length w.graphs.now };
+
+    ghost may_answer = { λ w job first.
+        AreFoundBy (found_by w.f.now w.exports.now w.number job (lent_graph w.graphs.now job) w.env.now) first.found
+        × IsKept w.f.now (lent_graph w.graphs.now job) first.kept };
+
+    ghost may_fail = { λ w job why. why ≡ fault.TooMany
+        → 1000000 < nodes_of (found_by w.f.now w.exports.now w.number job (lent_graph w.graphs.now job) w.env.now) };
+
+    fn answer(&self, job: usize) -> Result<First, JobFault> {
+        match self.graphs[job] {
+            None => Ok(First::nothing(self.alloc)),
+            Some(g) => first_found(
+                self.alloc,
+                self.number,
+                self.f,
+                self.exports,
+                g,
+                job as u32,
+                self.env,
+                job < self.keep,
+            ),
+        }
+    }
+}
+
+/// Finds what a formula finds in each item under one more environment, by what is kept: a job an item, of the item's number.
+#[derive(Drop)]
+pub struct NextFinder<'a> {
+    pub alloc: Global,
+    pub number: u32,
+    pub f: &'a Formula,
+    pub exports: &'a [Var],
+    pub graphs: &'a [Option<&'a Graph<'a>>],
+    pub kept: &'a [Kept],
+    pub env: &'a Env,
+    ghost stand: { EachPattern (SureStand f.now.decls f.now.tokens) (plain f.now) } by { each_pattern-prop (SureStand f.now.decls f.now.tokens) (sure_stand-prop f.now.decls f.now.tokens) (plain f.now) },
+    ghost binds: { BindsExports f.now exports.now },
+    ghost new: { are_new exports.now env.now ≡ true },
+    ghost few: { length graphs.now ≤ 2 ^ 32 },
+    ghost kept_count: { length kept.now ≡ length graphs.now },
+    ghost each_kept: { AreKept f.now graphs.now kept.now } by { are_kept-prop f.now graphs.now kept.now },
+}
+
+impl<'a> Worker for NextFinder<'a> {
+    type Answer = Items<RuleWitness>;
+
+    type Fault = JobFault;
+
+    ghost jobs = { λ w. length w.graphs.now };
+
+    ghost may_answer = { λ w job found.
+        AreFoundBy (found_by w.f.now w.exports.now w.number job (lent_graph w.graphs.now job) w.env.now) found };
+
+    ghost may_fail = { λ w job why. why ≡ fault.TooMany
+        → 1000000 < nodes_of (found_by w.f.now w.exports.now w.number job (lent_graph w.graphs.now job) w.env.now) };
+
+    fn answer(&self, job: usize) -> Result<Items<RuleWitness>, JobFault> {
+        match self.graphs[job] {
+            None => Ok(Items::new(self.alloc)),
+            Some(g) => next_found(
+                self.alloc,
+                self.number,
+                self.f,
+                self.exports,
+                g,
+                &self.kept[job],
+                job as u32,
+                self.env,
+            ),
+        }
+    }
+}

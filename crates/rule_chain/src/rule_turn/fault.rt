@@ -1,0 +1,53 @@
+// Why a rule stops a file, but for its edits.
+ghost use Rattle.std.specs.Prelude.{◌≡◌};
+
+use crate::rule_witnesses::JobFault;
+use c_terms::NoMemory;
+use rule_envs::EnvsFault;
+
+/// Why a rule stops a file, but for its edits.
+#[derive(Drop)]
+pub enum TurnFault {
+    /// The witnesses in one item under one environment have more than 1,000,000 touches and binds.
+    TooManyWitnesses,
+    /// More than 10,000 environments come out.
+    TooManyEnvironments,
+    /// Memory was refused.
+    NoMemory,
+}
+
+impl From<NoMemory> for TurnFault {
+    ghost use Rattle.rule_chain.specs.declared.rule_turn.fault.TurnFault.TheVariants as fault;
+
+    ghost from_gives = { λ _ e. e ≡ fault.NoMemory };
+
+    fn from(_: NoMemory) -> TurnFault {
+        TurnFault::NoMemory
+    }
+}
+
+impl From<JobFault> for TurnFault {
+    ghost use Rattle.rule_chain.specs.RuleTurn.Turns.{job_fault};
+
+    ghost from_gives = { λ fault e. e ≡ job_fault fault };
+
+    fn from(fault: JobFault) -> TurnFault {
+        match fault {
+            JobFault::TooMany => TurnFault::TooManyWitnesses,
+            JobFault::NoMemory => TurnFault::NoMemory,
+        }
+    }
+}
+
+impl From<EnvsFault> for TurnFault {
+    ghost use Rattle.rule_chain.specs.RuleTurn.Turns.{envs_fault};
+
+    ghost from_gives = { λ fault e. e ≡ envs_fault fault };
+
+    fn from(fault: EnvsFault) -> TurnFault {
+        match fault {
+            EnvsFault::TooMany => TurnFault::TooManyEnvironments,
+            EnvsFault::NoMemory => TurnFault::NoMemory,
+        }
+    }
+}

@@ -1,0 +1,112 @@
+// What a rule finds, and the environments after it.
+ghost use Rattle.std.specs.Prelude.{◌≡◌, ◌<◌, ◌≤◌, ℕ, All, IfOk, OnOk, Err, map, length, true, false};
+ghost use Rattle.ctl_formula.specs.Formulas.{plain};
+ghost use Rattle.ctl_fixpoint.specs.CtlHolds.Parts.{EachPattern};
+ghost use Rattle.ctl_fixpoint.specs.CtlHolds.BoundLaw.{SureStand};
+ghost use Rattle.c_file.specs.ItemGraphs.Made.{IsMade};
+ghost use Rattle.rule_envs.specs.Shares.{bare_carrier};
+ghost use Rattle.rule_envs.specs.Carriers.{most_environments};
+ghost use Rattle.rule_envs.specs.RuleFormulas.Prepared.{IsPrepared};
+ghost use Rattle.rule_chain.specs.RuleWitnesses.Bare.{bare_witness};
+ghost use Rattle.rule_chain.specs.RuleWitnesses.Jobs.{BindsExports};
+ghost use Rattle.rule_chain.specs.RuleTurn.Turns as of;
+ghost use Rattle.rule_chain.specs.declared.rule_turn.fault.TurnFault.TheVariants as fault;
+
+use crate::rule_found::witnesses;
+use crate::rule_turn::fault::TurnFault;
+use c_file::Graphs;
+use c_terms::Text;
+use par_match::Gate;
+use rule_envs::{Carrier, PreparedRule, next_carriers, projections};
+use smpl_patch::{Rule, RuleWitness};
+use sqlite_items::Items;
+use std::alloc::Global;
+use std::thread::Threads;
+
+/// What a rule finds, and the environments after it.
+#[derive(Drop)]
+pub struct Turned {
+    pub witnesses: Items<RuleWitness>,
+    pub carriers: Items<Carrier>,
+}
+
+/// Runs a rule over one reading of a file: picks what it is run under, finds its witnesses, and replaces the environments.
+///
+/// `defined` are the virtual names that hold, `had` the rules that have had a witness on the file, `number` is the rule's,
+/// `prepared` what [`rule_envs::prepare`] makes of it, and `count` the number of the file's items. Contracts leave the ids of
+/// terms out.
+///
+/// - `TooManyWitnesses`: the witnesses in one item under one environment have more than 1,000,000 touches and binds.
+/// - `TooManyEnvironments`: not so, and more than 10,000 environments come out.
+/// - `NoMemory`: memory was refused.
+///
+/// Costs one [`projections`], one [`witnesses`] and one [`next_carriers`].
+pub fn turn<R: Threads + Sync, G: Gate>(
+    rt: &R,
+    alloc: Global,
+    defined: &[Text],
+    had: &[u32],
+    number: u32,
+    rule: &Rule,
+    prepared: &PreparedRule,
+    graphs: &mut Graphs<'_>,
+    count: usize,
+    carriers: &[Carrier],
+    jobs: u32,
+    gate: &G,
+) -> Result<Turned, TurnFault>
+    requires some_jobs { 1 ≤ jobs }
+    requires few_jobs { jobs ≤ 64 }
+    requires prepared { IsPrepared rule.now prepared.now }
+    requires stand { EachPattern (SureStand prepared.now.formula.decls prepared.now.formula.tokens) (plain prepared.now.formula) }
+    requires binds { BindsExports prepared.now.formula rule.now.exports }
+    requires apart { of.AreApart rule.now.exports prepared.now.inherited }
+    requires count { count ≡ length graphs.old.items }
+    ensures found { IfOk result (λ t. map bare_witness t.witnesses
+        ≡ of.turn_found defined.now had.now number rule.now graphs.old.items (map bare_carrier carriers.now)) }
+    ensures carriers { IfOk result (λ t. map bare_carrier t.carriers
+        ≡ of.turn_carriers defined.now had.now number rule.now graphs.old.items (map bare_carrier carriers.now)) }
+    ensures few { OnOk result
+        (of.has_too_many defined.now had.now number rule.now graphs.old.items (map bare_carrier carriers.now) ≡ false) }
+    ensures few_environments { IfOk result (λ t. length t.carriers ≤ most_environments) }
+    ensures too_many { result ≡ Err fault.TooManyWitnesses
+        → of.has_too_many defined.now had.now number rule.now graphs.old.items (map bare_carrier carriers.now) ≡ true }
+    ensures too_many_environments { result ≡ Err fault.TooManyEnvironments
+        → (of.has_too_many defined.now had.now number rule.now graphs.old.items (map bare_carrier carriers.now) ≡ false)
+        × (most_environments < length
+        (of.turn_carriers defined.now had.now number rule.now graphs.old.items (map bare_carrier carriers.now))) }
+    ensures items { graphs.new.items ≡ graphs.old.items }
+    ensures kept { (k : ℕ) → IsMade graphs.old k → IsMade graphs.new k }
+{
+    let projected = projections(
+        alloc,
+        defined,
+        had,
+        &rule.depends,
+        prepared.inherited.as_slice(),
+        carriers,
+    )?;
+    let found = witnesses(
+        rt,
+        alloc,
+        number,
+        rule,
+        &prepared.formula,
+        graphs,
+        count,
+        projected.projections.as_slice(),
+        jobs,
+        gate,
+    )?;
+    let next = next_carriers(
+        alloc,
+        number,
+        carriers,
+        projected.places.as_slice(),
+        found.parts.as_slice(),
+    )?;
+    Ok(Turned {
+        witnesses: found.witnesses,
+        carriers: next,
+    })
+}

@@ -1,0 +1,47 @@
+// Why the witnesses of one item are not answered.
+ghost use Rattle.std.specs.Prelude.{◌≡◌};
+ghost use Rattle.wit_forest.specs.declared.fault.ForestFault.TheVariants as forest;
+
+use c_terms::NoMemory;
+use std::alloc::{AllocError, AllocFailed};
+use wit_forest::ForestFault;
+
+/// Why the witnesses of one item are not answered.
+#[derive(Clone, Copy, Debug, PartialEq, Eq)]
+pub enum JobFault {
+    /// Their forests have more than 1,000,000 touches and binds in all.
+    TooMany,
+    /// Memory was refused. This is the one answer that a caller cannot foresee.
+    NoMemory,
+}
+
+impl From<NoMemory> for JobFault {
+    ghost use Rattle.rule_chain.specs.declared.rule_witnesses.fault.JobFault.TheVariants as fault;
+
+    ghost from_gives = { λ _ e. e ≡ fault.NoMemory };
+
+    fn from(_: NoMemory) -> JobFault {
+        JobFault::NoMemory
+    }
+}
+
+impl From<AllocError> for JobFault {
+    ghost use Rattle.rule_chain.specs.declared.rule_witnesses.fault.JobFault.TheVariants as fault;
+
+    ghost from_gives = { λ _ e. e ≡ fault.NoMemory };
+
+    fn from(_: AllocError) -> JobFault {
+        JobFault::NoMemory
+    }
+}
+
+/// The fault of a forest as that of its job.
+pub fn fault_of(of_forest: ForestFault) -> JobFault
+    ensures only { result ≡ JobFault.TooMany → of_forest ≡ forest.TooMany }
+    ensures each { of_forest ≡ forest.TooMany → result ≡ JobFault.TooMany }
+{
+    match of_forest {
+        ForestFault::TooMany => JobFault::TooMany,
+        ForestFault::NoMemory => JobFault::NoMemory,
+    }
+}

@@ -1,0 +1,66 @@
+// What is found in one item.
+ghost use Rattle.std.specs.Prelude.{◌≡◌, ◌<◌, ◌≤◌, ◌+◌, ◌∷◌, ◌++◌, [], Err, IfOk};
+ghost use Rattle.wit_forest.specs.WitOrder.Sizes.{forest_size};
+ghost use Rattle.rule_chain.specs.RuleWitnesses.Jobs.{nodes_of};
+
+use crate::rule_witnesses::fault::JobFault;
+use smpl_patch::{RuleWitness, Witness};
+use sqlite_items::Items;
+use std::alloc::Global;
+use wit_forest::within;
+
+/// The most touches and binds of the witnesses of one item.
+const MOST: u32 = 1_000_000;
+
+/// Witnesses, and how many more touches and binds they may have.
+#[derive(Drop)]
+pub struct Found {
+    pub witnesses: Items<RuleWitness>,
+    left: u32,
+    ghost budget: { left + nodes_of witnesses ≡ 1000000 },
+}
+
+fn left_after(trees: &[Witness], left: u32) -> Result<u32, JobFault>
+    ensures left { IfOk result (λ now. now + forest_size trees.now ≡ left) }
+    ensures too_many { result ≡ Err JobFault.TooMany → left < forest_size trees.now }
+{
+    match within(trees, left) {
+        Some(now) => Ok(now),
+        None => Err(JobFault::TooMany),
+    }
+}
+
+impl Found {
+    /// No witnesses.
+    pub fn none(alloc: Global) -> Found
+        ensures none { result.witnesses ≡ [] }
+    {
+        Found {
+            witnesses: Items::new(alloc),
+            left: MOST,
+        }
+    }
+
+    /// One more witness.
+    pub fn with(self, witness: RuleWitness) -> Result<Found, JobFault>
+        ensures added { IfOk result (λ now. now.witnesses ≡ self.witnesses ++ witness ∷ []) }
+        ensures too_many { result ≡ Err JobFault.TooMany → 1000000 < nodes_of (self.witnesses ++ witness ∷ []) }
+    {
+        let Found {
+            mut witnesses,
+            left,
+        } = self;
+        let left = left_after(witness.forest.as_slice(), left)?;
+        witnesses.push(witness)?;
+        Ok(Found { witnesses, left })
+    }
+
+    /// The witnesses.
+    pub fn into_items(self) -> Items<RuleWitness>
+        ensures items { result ≡ self.witnesses }
+        ensures few { nodes_of result ≤ 1000000 }
+    {
+        let Found { witnesses, left: _ } = self;
+        witnesses
+    }
+}

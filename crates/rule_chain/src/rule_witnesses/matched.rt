@@ -1,0 +1,69 @@
+// Where a formula holds in one item, under whatever environment.
+ghost use Rattle.std.specs.Prelude.{◌≡◌, ◌<◌, ◌∷◌, ◌++◌, [], IfOk, cond, length, slice_index_or};
+ghost use Rattle.std.specs.List.{filter};
+ghost use Rattle.cfg_build.specs.CfgGraph.Flow.{count_of};
+ghost use Rattle.env_sets.specs.States.{set_at};
+ghost use Rattle.ctl_formula.specs.Formulas.{plain};
+ghost use Rattle.ctl_fixpoint.specs.CtlHolds.Parts.{EachPattern};
+ghost use Rattle.ctl_fixpoint.specs.CtlHolds.BoundLaw.{SureStand};
+ghost use Rattle.wit_forest.specs.WitTrees.Forest.{numbers};
+ghost use Rattle.rule_chain.specs.RuleWitnesses.Matched.{AreMatched, has_entries};
+
+use c_terms::NoMemory;
+use cfg_build::Graph;
+use ctl_fixpoint::sat;
+use ctl_formula::Formula;
+use env_sets::{EnvSet, StateSets};
+use sqlite_items::Items;
+use std::alloc::Global;
+
+/// The sets of a formula in one graph, and the nodes, rising, at which the set of the whole formula has an entry.
+#[derive(Drop)]
+pub struct Matched {
+    pub sets: StateSets,
+    pub nodes: Items<u32>,
+}
+
+/// The nodes, and then this one, if its set has an entry.
+fn with_match(nodes: Items<u32>, set: &EnvSet, s: u32) -> Result<Items<u32>, NoMemory>
+    ensures nodes { IfOk result (λ now. now ≡ nodes ++ cond (has_entries set.now) (s ∷ []) []) }
+{
+    if set.is_none() {
+        return Ok(nodes);
+    }
+    let mut nodes = nodes;
+    nodes.push(s)?;
+    Ok(nodes)
+}
+
+/// The nodes, rising, at which the sets of a part have an entry.
+fn nodes_with_entries(
+    alloc: Global,
+    g: &Graph,
+    sets: &StateSets,
+    part: usize,
+) -> Result<Items<u32>, NoMemory>
+    requires part { part < length sets.now }
+    requires nodes { length (slice_index_or sets.now part []) ≡ count_of g.now }
+    ensures nodes { IfOk result (λ nodes. nodes
+        ≡ filter (λ s. has_entries (set_at sets.now part s)) (numbers (count_of g.now))) }
+{
+    let mut nodes = Items::new(alloc);
+    for s in 0..g.count() {
+        nodes = with_match(nodes, sets.at(part, s), s)?;
+    }
+    Ok(nodes)
+}
+
+/// The sets of a formula in the graph of one item, and the nodes, rising, at which the set of the whole formula has an
+/// entry: it holds at no other. Its patterns' sure variables stand in them.
+///
+/// Costs one call of [`sat`], and a look at each node.
+pub fn match_item(alloc: Global, g: &Graph, f: &Formula) -> Result<Matched, NoMemory>
+    requires stand { EachPattern (SureStand f.now.decls f.now.tokens) (plain f.now) }
+    ensures matched { IfOk result (λ m. AreMatched g.now f.now m.sets m.nodes) }
+{
+    let sets = sat(alloc, g, f)?;
+    let nodes = nodes_with_entries(alloc, g, &sets, f.root())?;
+    Ok(Matched { sets, nodes })
+}

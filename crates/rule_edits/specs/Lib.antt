@@ -1,4 +1,0 @@
--- What the contract of `edit` rests on, in reading order.
-pub mod Kinds
-pub mod Pages
-pub mod Faults

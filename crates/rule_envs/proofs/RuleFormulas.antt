@@ -1,0 +1,3 @@
+-- Lemmas of rule_formulas.
+pub mod BoundLemmas
+pub mod PrepareLemmas

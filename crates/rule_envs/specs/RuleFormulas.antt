@@ -1,0 +1,2 @@
+-- Definitions of rule_formulas.
+pub mod Prepared

@@ -1,0 +1,3 @@
+-- Lemmas of chain_laws.
+-- What holds of each rule is what the chain asks of it.
+pub mod AskedLemmas

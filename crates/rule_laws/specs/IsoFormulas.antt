@@ -1,0 +1,3 @@
+-- Definitions of iso_formulas.
+-- Formulas whose patterns have all forms.
+pub mod Formulas

@@ -1,2 +1,0 @@
--- What the contract of `turn` rests on.
-pub mod Turns

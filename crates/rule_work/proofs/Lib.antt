@@ -1,2 +1,0 @@
-pub mod HadLemmas
-pub mod WorkLemmas

@@ -1,8 +1,0 @@
-use Rattle.run_ends.proofs.JobLemmas.{acts_same, comes_same}
-use Rattle.run_ends.proofs.jobs.jobs_leave_acts.Goals as goal
-
-pub returns-clause-acts : goal.returns-clause-acts
-returns-clause-acts c = acts_same c.jobs_leave_orders.ensures
-
-pub returns-clause-comes : goal.returns-clause-comes
-returns-clause-comes c = comes_same c.jobs_leave_orders.ensures

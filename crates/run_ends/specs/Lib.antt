@@ -1,2 +1,0 @@
--- What the laws rest on: files that are there, and whether one of them is refused.
-pub mod Fates

@@ -1,0 +1,5 @@
+-- Definitions of run_lines.
+-- The lines on the error output, and the summary of a generated text.
+pub mod Patches
+pub mod Files
+pub mod Summary

@@ -1,0 +1,109 @@
+-- Why the acts of a whole run are these, and its status is this one: said over the acts, file by file. No stage is in it.
+use Rattle.std.specs.Prelude.{ℕ, ◌≡◌, ◌⊎◌, Bool, false, ◌||◌, List, [], ◌∷◌, ◌++◌, Option, Some, None}
+use Rattle.run_acts.specs.Acts.{Act, Load, Print, Report, Told, after}
+use Rattle.run_acts.specs.Lines.{cannot_read}
+use Rattle.run_acts.specs.Loaded.{Found}
+use Rattle.smpl_patch.specs.declared.rule.Iso.{Iso}
+use Rattle.smpl_patch.specs.declared.rule.Patch.{Patch}
+use Rattle.smpl_patch.specs.declared.fault.PatchFault.{PatchFault}
+use Rattle.smpl_file.specs.Patches.{IsPatchOf, IsFirstFault}
+use Rattle.iso_file.specs.declared.fault.IsoFault.{IsoFault}
+use Rattle.iso_file.specs.Isos.{AreIsosOf, IsFileFault}
+use Rattle.iso_expand.specs.Patches.{IsExpanded, IsFirstMany}
+use Rattle.sp_gen.specs.Generated.{generated}
+use Rattle.run_words.specs.declared.order.Mode.{Mode}
+use Rattle.run_words.specs.Orders.{Target, OnFiles, OnText, Apply, Generate, order_of}
+use Rattle.run_files.specs.RunLines.Patches.{usage, patch_fault_line, iso_fault_line, forms_line}
+use Rattle.run_files.specs.Treatment.{Treated, file_limit, TreatsFile, Sums}
+use Rattle.run_files.specs.RunStages.Stages.{patch_limit, generated_name, end_status}
+
+-- ---- the patch
+
+-- the words ask for this patch, and its bytes are these, or nothing stands under its name
+pub record PatchFound (words : List (List ℕ)) (old : Told) (name : List ℕ) (under : Option (List ℕ)) (isos : Option (List ℕ))
+    (defined : List (List ℕ)) (target : Target) : Type 0 where
+  pub order : order_of words ≡ Some (Apply name isos defined target)
+  pub found : Found old.files name under
+
+-- the words ask for this patch, which is read, and these acts load it
+pub record PatchRead (words : List (List ℕ)) (old : Told) (patch : Patch) (isos : Option (List ℕ)) (defined : List (List ℕ)) (target : Target)
+    (acts : List Act) : Type 0 where
+  pub name : List ℕ
+  pub bytes : List ℕ
+  pub found : PatchFound words old name (Some bytes) isos defined target
+  pub is : IsPatchOf bytes patch
+  pub acts_are : acts ≡ Load name patch_limit ∷ []
+
+-- the patch is read, and isomorphisms of this name are asked for, under which these bytes stand, or nothing
+pub record IsosFound (words : List (List ℕ)) (old : Told) (patch : Patch) (name : List ℕ) (under : Option (List ℕ)) (defined : List (List ℕ))
+    (target : Target) (acts : List Act) : Type 0 where
+  pub before : List Act
+  pub read : PatchRead words old patch (Some name) defined target before
+  pub found : Found old.files name under
+  pub acts_are : acts ≡ before ++ Load name patch_limit ∷ []
+
+-- the patch that the words ask for, with all its forms, and the acts that load it and its isomorphisms
+pub data PatchReady (words : List (List ℕ)) (old : Told) (whole : Patch) (defined : List (List ℕ)) (target : Target) (acts : List Act) : Type 0 where
+  plain : PatchRead words old whole None defined target acts → PatchReady words old whole defined target acts
+  expanded : (patch : Patch) (name bytes : List ℕ) (isos : List Iso) → IsosFound words old patch name (Some bytes) defined target acts
+      → AreIsosOf bytes isos → IsExpanded isos patch whole → PatchReady words old whole defined target acts
+
+-- ---- the files
+
+-- how the files are done with: all of them, and some of them was refused or none; or up to a name under which nothing stands
+pub data FilesEnd : Type 0 where
+  AllDone : (refused : Bool) → FilesEnd
+  Missing : (name : List ℕ) → FilesEnd
+
+-- the status after the files
+abbrev pub files_status : FilesEnd → ℕ
+files_status (AllDone refused) = end_status refused
+files_status (Missing name) = 5
+
+-- The files in turn: each is loaded, by what is told then, and brings its acts.
+abbrev pub FilesDo : Told → Patch → List (List ℕ) → Mode → List (List ℕ) → Bool → List Act → FilesEnd → Type 0
+FilesDo old patch defined mode [] refused acts end = (acts ≡ []) × (end ≡ AllDone refused)
+FilesDo old patch defined mode (name ∷ names) refused acts end =
+    (Found old.files name None × ((acts ≡ Load name file_limit ∷ Report (cannot_read name) ∷ []) × (end ≡ Missing name)))
+    ⊎ ((bytes : List ℕ) × (Found old.files name (Some bytes) × ((treated : Treated)
+    × (TreatsFile old.files mode patch defined name bytes treated × ((rest : List Act)
+    × ((acts ≡ Load name file_limit ∷ treated.acts ++ rest)
+    × FilesDo (after treated.acts old) patch defined mode names (refused || treated.refused) rest end))))))
+
+-- ---- whole runs
+
+pub data Reason (words : List (List ℕ)) (old : Told) (acts : List Act) (status : ℕ) : Type 0 where
+  -- 1: the words are no command
+  unasked : order_of words ≡ None → acts ≡ Report usage ∷ [] → status ≡ 1 → Reason words old acts status
+  -- 0: a text is generated
+  is_generated : (seed functions : ℕ) → order_of words ≡ Some (Generate seed functions) → acts ≡ Print (generated seed functions) ∷ []
+      → status ≡ 0 → Reason words old acts status
+  -- 5: nothing stands under the patch's name
+  no_patch : (name : List ℕ) (isos : Option (List ℕ)) (defined : List (List ℕ)) (target : Target)
+      → PatchFound words old name None isos defined target → acts ≡ Load name patch_limit ∷ Report (cannot_read name) ∷ []
+      → status ≡ 5 → Reason words old acts status
+  -- 2: the patch has a fault, of which this is the first
+  bad_patch : (name bytes : List ℕ) (isos : Option (List ℕ)) (defined : List (List ℕ)) (target : Target) (fault : PatchFault)
+      → PatchFound words old name (Some bytes) isos defined target → IsFirstFault bytes fault
+      → acts ≡ Load name patch_limit ∷ Report (patch_fault_line name fault) ∷ [] → status ≡ 2 → Reason words old acts status
+  -- 5: nothing stands under the isomorphisms' name
+  no_isos : (patch : Patch) (name : List ℕ) (defined : List (List ℕ)) (target : Target) (before : List Act)
+      → IsosFound words old patch name None defined target before → acts ≡ before ++ Report (cannot_read name) ∷ []
+      → status ≡ 5 → Reason words old acts status
+  -- 3: the isomorphisms have a fault, of which this is the first
+  bad_isos : (patch : Patch) (name bytes : List ℕ) (defined : List (List ℕ)) (target : Target) (fault : IsoFault) (before : List Act)
+      → IsosFound words old patch name (Some bytes) defined target before → IsFileFault bytes fault
+      → acts ≡ before ++ Report (iso_fault_line name fault) ∷ [] → status ≡ 3 → Reason words old acts status
+  -- 3: a rule, of which this is the first, has too many forms under the isomorphisms
+  many_forms : (patch : Patch) (name bytes : List ℕ) (defined : List (List ℕ)) (target : Target) (isos : List Iso) (rule : ℕ) (before : List Act)
+      → IsosFound words old patch name (Some bytes) defined target before → AreIsosOf bytes isos → IsFirstMany isos patch.rules rule
+      → acts ≡ before ++ Report (forms_line name rule) ∷ [] → status ≡ 3 → Reason words old acts status
+  -- 0 or 4: a patch is applied to a generated text
+  summed : (patch : Patch) (defined : List (List ℕ)) (seed functions : ℕ) (treated : Treated) (before : List Act)
+      → PatchReady words old patch defined (OnText seed functions) before
+      → Sums patch defined generated_name (generated seed functions) treated
+      → acts ≡ before ++ treated.acts → status ≡ end_status treated.refused → Reason words old acts status
+  -- 0, 4 or 5: the files are done with
+  filed : (patch : Patch) (defined : List (List ℕ)) (mode : Mode) (names : List (List ℕ)) (before rest : List Act) (end : FilesEnd)
+      → PatchReady words old patch defined (OnFiles mode names) before → FilesDo old patch defined mode names false rest end
+      → acts ≡ before ++ rest → status ≡ files_status end → Reason words old acts status

@@ -1,0 +1,140 @@
+-- How far a run has come, and what it does next.
+use Rattle.std.specs.Prelude.{ℕ, ◌≡◌, ◌⊎◌, Bool, false, ◌||◌, cond, List, [], ◌∷◌, Option, Some, None, codes}
+use Rattle.outer_io.specs.Files.{Files}
+use Rattle.run_acts.specs.Acts.{Act, Load, Print, Report}
+use Rattle.run_acts.specs.Lines.{cannot_read}
+use Rattle.run_acts.specs.Loaded.{Found}
+use Rattle.smpl_patch.specs.declared.rule.Iso.{Iso}
+use Rattle.smpl_patch.specs.declared.rule.Patch.{Patch}
+use Rattle.smpl_patch.specs.declared.fault.PatchFault.{PatchFault}
+use Rattle.smpl_file.specs.Patches.{IsPatchOf, IsFirstFault}
+use Rattle.iso_file.specs.declared.fault.IsoFault.{IsoFault}
+use Rattle.iso_file.specs.Isos.{AreIsosOf, IsFileFault}
+use Rattle.iso_expand.specs.Patches.{IsExpanded, IsFirstMany}
+use Rattle.sp_gen.specs.Generated.{generated}
+use Rattle.run_words.specs.declared.order.Mode.{Mode}
+use Rattle.run_words.specs.Orders.{Target, OnFiles, OnText, Order, Apply, Generate}
+use Rattle.run_files.specs.RunLines.Patches.{usage, patch_fault_line, iso_fault_line, forms_line}
+use Rattle.run_files.specs.Treatment.{Treated, file_limit, TreatsFile, Sums}
+
+-- a patch is read up to this many bytes, and so are isomorphisms
+abbrev pub patch_limit : ℕ
+patch_limit = 1048576
+
+-- the name of a generated text
+abbrev pub generated_name : List ℕ
+generated_name = codes "generated"
+
+-- ---- stages
+
+-- what is left to do after the acts at hand
+pub data Work : Type 0 where
+  -- the patch of this name is to be loaded and read
+  ReadPatch : (name : List ℕ) (isos : Option (List ℕ)) (defined : List (List ℕ)) (target : Target) → Work
+  -- the isomorphisms of this name are to be loaded and read, and the patch gets its forms
+  ReadIsos : (patch : Patch) (name : List ℕ) (defined : List (List ℕ)) (target : Target) → Work
+  -- this file is to be loaded and edited, and then these; some file before was refused, or none
+  EditFiles : (patch : Patch) (defined : List (List ℕ)) (mode : Mode) (name : List ℕ) (names : List (List ℕ)) (refused : Bool) → Work
+
+pub data Stage : Type 0 where
+  -- the run does these acts, and then this work
+  Doing : (acts : List Act) (work : Work) → Stage
+  -- the run does these acts, and is over with this status
+  Ending : (acts : List Act) (status : ℕ) → Stage
+
+-- the run reports this line, and is over with this status
+abbrev pub refusing : List ℕ → ℕ → Stage
+refusing line status = Ending (Report line ∷ []) status
+
+-- the status at the end: whether something was refused
+abbrev pub end_status : Bool → ℕ
+end_status refused = cond refused 4 0
+
+-- after these acts the files that are left are edited, or the run is over
+abbrev pub going : List Act → Patch → List (List ℕ) → Mode → List (List ℕ) → Bool → Stage
+going acts patch defined mode [] refused = Ending acts (end_status refused)
+going acts patch defined mode (name ∷ names) refused = Doing acts (EditFiles patch defined mode name names refused)
+
+-- ---- what leads from one to the next
+
+-- the stage that a run begins at, by what its words ask for
+abbrev pub begun : Option Order → Stage
+begun None = refusing usage 1
+begun (Some (Apply patch isos defined target)) = Doing [] (ReadPatch patch isos defined target)
+begun (Some (Generate seed functions)) = Ending (Print (generated seed functions) ∷ []) 0
+
+-- what a patch leads to that has all its forms
+abbrev pub TargetLeads : Patch → List (List ℕ) → Target → Stage → Type 0
+TargetLeads patch defined (OnFiles mode names) to = to ≡ going [] patch defined mode names false
+TargetLeads patch defined (OnText seed functions) to =
+    (treated : Treated) × (Sums patch defined generated_name (generated seed functions) treated
+    × (to ≡ Ending treated.acts (end_status treated.refused)))
+
+-- what a patch leads to that is read: it gets its forms, where isomorphisms are named
+abbrev pub ReadLeads : Patch → Option (List ℕ) → List (List ℕ) → Target → Stage → Type 0
+ReadLeads patch None defined target to = TargetLeads patch defined target to
+ReadLeads patch (Some name) defined target to = to ≡ Doing [] (ReadIsos patch name defined target)
+
+-- what stands under the patch's name leads to
+abbrev pub PatchLeads : Option (List ℕ) → List ℕ → Option (List ℕ) → List (List ℕ) → Target → Stage → Type 0
+PatchLeads None name isos defined target to = to ≡ refusing (cannot_read name) 5
+PatchLeads (Some bytes) name isos defined target to =
+    ((fault : PatchFault) × (IsFirstFault bytes fault × (to ≡ refusing (patch_fault_line name fault) 2)))
+    ⊎ ((patch : Patch) × (IsPatchOf bytes patch × ReadLeads patch isos defined target to))
+
+-- what isomorphisms lead to: a rule has too many forms under them, or the patch gets its forms
+abbrev pub IsosLead : List Iso → Patch → List ℕ → List (List ℕ) → Target → Stage → Type 0
+IsosLead isos patch name defined target to =
+    ((rule : ℕ) × (IsFirstMany isos patch.rules rule × (to ≡ refusing (forms_line name rule) 3)))
+    ⊎ ((whole : Patch) × (IsExpanded isos patch whole × TargetLeads whole defined target to))
+
+-- what stands under the isomorphisms' name leads to
+abbrev pub IsosFileLeads : Option (List ℕ) → Patch → List ℕ → List (List ℕ) → Target → Stage → Type 0
+IsosFileLeads None patch name defined target to = to ≡ refusing (cannot_read name) 5
+IsosFileLeads (Some bytes) patch name defined target to =
+    ((fault : IsoFault) × (IsFileFault bytes fault × (to ≡ refusing (iso_fault_line name fault) 3)))
+    ⊎ ((isos : List Iso) × (AreIsosOf bytes isos × IsosLead isos patch name defined target to))
+
+-- what a file leads to: the acts that it brings, and then the files that are left
+abbrev pub FileLeads : Option Files → Option (List ℕ) → Patch → List (List ℕ) → Mode → List ℕ → List (List ℕ) → Bool → Stage → Type 0
+FileLeads holds None patch defined mode name names refused to = to ≡ refusing (cannot_read name) 5
+FileLeads holds (Some bytes) patch defined mode name names refused to =
+    (treated : Treated) × (TreatsFile holds mode patch defined name bytes treated
+    × (to ≡ going treated.acts patch defined mode names (refused || treated.refused)))
+
+-- ---- acts
+
+-- the load that a work begins with
+abbrev pub first_load : Work → Act
+first_load (ReadPatch name isos defined target) = Load name patch_limit
+first_load (ReadIsos patch name defined target) = Load name patch_limit
+first_load (EditFiles patch defined mode name names refused) = Load name file_limit
+
+-- the next act
+abbrev pub next_act : Stage → Option Act
+next_act (Doing (act ∷ acts) work) = Some act
+next_act (Doing [] work) = Some (first_load work)
+next_act (Ending (act ∷ acts) status) = Some act
+next_act (Ending [] status) = None
+
+-- the status of a run that is over
+abbrev pub status_at : Stage → Option ℕ
+status_at (Doing acts work) = None
+status_at (Ending (act ∷ acts) status) = None
+status_at (Ending [] status) = Some status
+
+-- what its load leads to, by the files as they are then
+abbrev pub WorkLeads : Option Files → Work → Stage → Type 0
+WorkLeads holds (ReadPatch name isos defined target) to =
+    (under : Option (List ℕ)) × (Found holds name under × PatchLeads under name isos defined target to)
+WorkLeads holds (ReadIsos patch name defined target) to =
+    (under : Option (List ℕ)) × (Found holds name under × IsosFileLeads under patch name defined target to)
+WorkLeads holds (EditFiles patch defined mode name names refused) to =
+    (under : Option (List ℕ)) × (Found holds name under × FileLeads holds under patch defined mode name names refused to)
+
+-- the stage after the next act
+abbrev pub Leads : Option Files → Stage → Stage → Type 0
+Leads holds (Doing (act ∷ acts) work) to = to ≡ Doing acts work
+Leads holds (Doing [] work) to = WorkLeads holds work to
+Leads holds (Ending (act ∷ acts) status) to = to ≡ Ending acts status
+Leads holds (Ending [] status) to = ⊥

@@ -1,0 +1,101 @@
+// The lines about words, patches and isomorphisms.
+ghost use Rattle.std.specs.Prelude.{◌≡◌, ◌++◌, IfOk, OnOk};
+ghost use Rattle.run_files.specs.RunLines.Patches as told;
+
+use crate::run_lines::line::Line;
+use c_terms::NoMemory;
+use iso_file::IsoFault;
+use outer_io::escaped_name;
+use smpl_patch::{PatchFault, fault_number, fault_place};
+use std::alloc::Global;
+
+const USAGE: &str =
+    "spatch: usage: spatch --sp-file P [--iso-file I] [--define a,b] [--jobs n] [--witnesses] [--in-place] FILE...\n";
+
+/// The line on how the program is called.
+pub fn usage() -> &'static str
+    ensures bytes { result.now ≡ told.usage }
+{
+    USAGE
+}
+
+/// A line about what has this name, up to its text.
+pub fn line_about(alloc: Global, name: &str) -> Result<Line, NoMemory>
+    ensures { IfOk result (λ line. line ≡ told.begun name.now) }
+{
+    let mut line = Line::new(alloc);
+    line.put(b"spatch: ")?;
+    line.put(&escaped_name(alloc, name.as_bytes())?)?;
+    line.put(b": ")?;
+    Ok(line)
+}
+
+/// Where a patch has a fault.
+fn put_place(line: &mut Line, fault: &PatchFault) -> Result<(), NoMemory>
+    ensures { OnOk result (line.new ≡ line.old ++ told.fault_place_text fault.now) }
+{
+    match fault {
+        PatchFault::PatchTooLong => Ok(()),
+        PatchFault::StarWithEdit(rule) => line.put_numbered(b" in rule ", u64::from(*rule)),
+        PatchFault::TooLarge(rule) => line.put_numbered(b" in rule ", u64::from(*rule)),
+        PatchFault::MayStayUnbound(x) => put_variable(line, x.name.as_bytes()),
+        PatchFault::UnboundInPlus(x) => put_variable(line, x.name.as_bytes()),
+        _ => line.put_numbered(b" at ", u64::from(fault_place(fault))),
+    }
+}
+
+fn put_variable(line: &mut Line, name: &[u8]) -> Result<(), NoMemory>
+    ensures { OnOk result (line.new ≡ line.old ++ told.variable_text name.now) }
+{
+    line.put(b" of ")?;
+    line.put(name)
+}
+
+/// `spatch: NAME: patch fault N PLACE`, the line about a patch of this name that has this fault; its place is ` at` a byte, ` in
+/// rule` a number, ` of` a variable, or nothing. Linear in the name and the variable. Only memory may be wanting. The form is the
+/// project's own.
+pub fn patch_fault_line(alloc: Global, name: &str, fault: &PatchFault) -> Result<Vec<u8>, NoMemory>
+    ensures bytes { IfOk result (λ line. line.items ≡ told.patch_fault_line name.now fault.now) }
+{
+    let mut line = line_about(alloc, name)?;
+    line.put_numbered(b"patch fault ", u64::from(fault_number(fault)))?;
+    put_place(&mut line, fault)?;
+    line.put(b"\n")?;
+    Ok(line.finish())
+}
+
+/// The number of a fault of isomorphisms, and where it stands. Nothing for want of memory, for which none are refused.
+fn put_iso_fault(line: &mut Line, fault: IsoFault) -> Result<(), NoMemory>
+    ensures { OnOk result (line.new ≡ line.old ++ told.iso_fault_text fault) }
+{
+    match fault {
+        IsoFault::BadIso(at) => line.put_numbered(b"1 at ", u64::from(at)),
+        IsoFault::NotExpression(at) => line.put_numbered(b"2 at ", u64::from(at)),
+        IsoFault::VariableLost(at) => line.put_numbered(b"3 at ", u64::from(at)),
+        IsoFault::TooLong => line.put(b"4"),
+        IsoFault::NoMemory => Ok(()),
+    }
+}
+
+/// `spatch: NAME: isomorphism fault N at BYTE`, the line about isomorphisms of this name that have this fault; a file that is too
+/// long has no place. Linear in the name. Only memory may be wanting. The form is the project's own.
+pub fn iso_fault_line(alloc: Global, name: &str, fault: IsoFault) -> Result<Vec<u8>, NoMemory>
+    ensures bytes { IfOk result (λ line. line.items ≡ told.iso_fault_line name.now fault) }
+{
+    let mut line = line_about(alloc, name)?;
+    line.put(b"isomorphism fault ")?;
+    put_iso_fault(&mut line, fault)?;
+    line.put(b"\n")?;
+    Ok(line.finish())
+}
+
+/// `spatch: NAME: too many forms in rule N`, the line about isomorphisms of this name under which the rule of this number has too
+/// many forms. Linear in the name. Only memory may be wanting. The form is the project's own.
+pub fn forms_line(alloc: Global, name: &str, rule: u32) -> Result<Vec<u8>, NoMemory>
+    ensures bytes { IfOk result (λ line. line.items ≡ told.forms_line name.now rule) }
+{
+    let mut line = line_about(alloc, name)?;
+    line.put_numbered(b"too many forms in rule ", u64::from(rule))?;
+    line.put(b"\n")?;
+    Ok(line.finish())
+}

@@ -1,4 +1,0 @@
-pub mod Unique
-pub mod Why
-pub mod Ways
-pub mod Caused

@@ -1,4 +1,0 @@
--- The lines on the error output, and the summary of a generated text.
-pub mod Patches
-pub mod Files
-pub mod Summary

@@ -1,0 +1,3 @@
+-- Lemmas of job_laws.
+-- Lemmas: what words with other jobs ask for.
+pub mod JobLemmas

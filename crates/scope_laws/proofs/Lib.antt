@@ -1,3 +1,0 @@
--- Lemmas: the variables of blocks, and those of atoms.
-pub mod BlockLemmas
-pub mod CoverLemmas

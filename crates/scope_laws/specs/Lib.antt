@@ -1,2 +1,0 @@
--- What the laws rest on: formulas that quantify the variables of their atoms.
-pub mod Scopes

@@ -1,4 +1,0 @@
-pub mod StepLemmas
-pub mod CutLemmas
-pub mod LineLemmas
-pub mod PatchLemmas

@@ -1,0 +1,4 @@
+-- Lemmas of smpl_elem.
+pub mod PartLemmas
+pub mod CountLemmas
+pub mod Examples

@@ -1,0 +1,50 @@
+// Heads and tails: what is compared of a statement with bodies.
+ghost use Rattle.std.specs.Prelude.{◌≡◌, length, IfOk};
+ghost use Rattle.smpl_patch.specs.Held.{is_held as is_held_at};
+ghost use Rattle.smpl_body.specs.SmplElem.Forms as told;
+
+use crate::smpl_elem::form::nothing;
+use c_terms::{Label, NoMemory, Tree};
+use smpl_patch::{Spot, is_held};
+use sqlite_items::Items;
+use std::alloc::Global;
+
+/// A copy of the child, or what stands for it.
+fn child(alloc: Global, own: bool, tree: &Tree) -> Result<Tree, NoMemory>
+    ensures { IfOk result (λ t. t ≡ told.child_or own tree.now) }
+{
+    if own {
+        tree.copy(alloc)
+    } else {
+        Ok(nothing(alloc))
+    }
+}
+
+fn masked_children(
+    alloc: Global,
+    spot: Spot,
+    label: Label,
+    trees: &[Tree],
+) -> Result<Items<Tree>, NoMemory>
+    ensures { IfOk result (λ ts. ts ≡ told.masked_from (is_held_at spot label (length trees.now)) 0 trees.now) }
+{
+    let mut kept = Vec::new(alloc);
+    for i in 0..trees.len() {
+        let own = is_held(spot, label, trees.len(), i);
+        kept.push(child(alloc, own, &trees[i])?)?;
+    }
+    Ok(Items::from_vec(kept))
+}
+
+/// The tree, with an empty list of statements for each child that is not compared at the spot. Linear in what is.
+pub(crate) fn masked(alloc: Global, spot: Spot, tree: &Tree) -> Result<Tree, NoMemory>
+    ensures { IfOk result (λ t. t ≡ told.masked spot tree.now) }
+{
+    match tree {
+        Tree::Leaf(_) => tree.copy(alloc),
+        Tree::Branch(label, children) => {
+            let kept = masked_children(alloc, spot, *label, children.as_slice())?;
+            Ok(Tree::Branch(*label, kept))
+        }
+    }
+}

@@ -1,3 +1,0 @@
-pub mod KnownLemmas
-pub mod FirstLemmas
-mod Examples

@@ -1,0 +1,4 @@
+-- Lemmas of smpl_check.
+pub mod KnownLemmas
+pub mod FirstLemmas
+pub mod Examples

@@ -1,2 +1,0 @@
--- What public contracts rest on: what each rule passes.
-pub mod Parts

@@ -1,6 +1,0 @@
-use Rattle.std.proofs.Common.{◌≡◌, ◌++◌, map, drop}
-use Rattle.smpl_when.specs.Cutting.{unsaid}
-use Rattle.smpl_when.proofs.clauses.Clauses.none.Given as goal
-
-abbrev pub invariant-loop-p : goal.invariant-loop-p
-invariant-loop-p l = l.said.items ++ map unsaid (drop l.p-index l.placed) ≡ map unsaid l.placed

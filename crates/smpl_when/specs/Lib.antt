@@ -1,3 +1,0 @@
--- What public contracts rest on, in reading order: the grammar of clauses, and how a body is cut token by token.
-pub mod Grammar
-pub mod Cutting

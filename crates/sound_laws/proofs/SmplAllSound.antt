@@ -1,0 +1,5 @@
+-- Lemmas of smpl_all_sound.
+pub mod StepLemmas
+pub mod CutLemmas
+pub mod LineLemmas
+pub mod PatchLemmas

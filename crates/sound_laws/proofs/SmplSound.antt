@@ -1,0 +1,19 @@
+-- Lemmas of smpl_sound.
+pub mod FormLemmas
+pub mod NameLemmas
+pub mod HomeLemmas
+pub mod DependLemmas
+pub mod LeadLemmas
+pub mod PositionLemmas
+pub mod ExportLemmas
+pub mod PatchLemmas
+pub mod BoolLemmas
+pub mod TextLemmas
+pub mod LineLemmas
+pub mod PlacedLemmas
+pub mod PlusLemmas
+pub mod KindLemmas
+pub mod GapLemmas
+pub mod CountLemmas
+pub mod RuleLemmas
+pub mod FewLemmas

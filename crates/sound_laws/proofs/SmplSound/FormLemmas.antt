@@ -1,0 +1,150 @@
+-- What items of declarations are not to be.
+use Rattle.std.proofs.Common.{◌≡◌, Bool, true, false, refl, sym, ap, subst, List, [], ◌∷◌, ◌++◌, Option, Some, None, if◌then◌else◌, drop, codes, option_map}
+use Rattle.std.specs.Prelude.{option_and_then}
+use Rattle.c_terms.specs.declared.token.MetaKind.{MetaKind}
+use Rattle.c_terms.specs.declared.token.MetaKind.TheVariants as meta
+use Rattle.smpl_patch.specs.declared.pattern.VarKind.{VarKind}
+use Rattle.smpl_patch.specs.declared.pattern.VarKind.TheVariants.{Meta, Position}
+use Rattle.smpl_lexer.specs.declared.token.PatchToken.{PatchToken}
+use Rattle.smpl_lexer.specs.Tokens.{is_sign}
+use Rattle.smpl_meta.specs.declared.item.Item.{Item}
+use Rattle.smpl_meta.specs.declared.item.Named.{Named}
+use Rattle.smpl_meta.specs.declared.item.DeclKind.{DeclKind}
+use Rattle.smpl_meta.specs.declared.item.DeclKind.TheVariants.{Var, Symbol}
+use Rattle.smpl_meta.specs.Forms.{is_wordish, chunks, before_sign, plain_of, named_of, name_not, not_of, all_of, one_not, nots_between, braced, nots_of, excepted_of, bare_item, item_of, is_listed, kind_of, list_kind_of, items_by, front_items, declared}
+use Rattle.smpl_meta.specs.Decls.{items_or_none, items_of}
+use Rattle.sound_laws.proofs.SmplSound.HomeLemmas.{AllPlain, FitNots, AllFit}
+
+-- ---- what is made of an option
+
+pub record Made {A B : Type 0} (o : Option A) (f : A → Option B) (b : B) : Type 0 where
+  pub from : A
+  pub is : o ≡ Some from
+  pub gives : f from ≡ Some b
+
+pub then-made : {A B : Type 0} (f : A → Option B) (o : Option A) (b : B) → option_and_then f o ≡ Some b → Made o f b
+then-made f None b e = absurd (cc)
+then-made f (Some a) b e = record { from = a; is = refl; gives = e }
+
+pub map-made : {A B : Type 0} (f : A → B) (o : Option A) (b : B) → option_map f o ≡ Some b → Made o (λ a. Some (f a)) b
+map-made f None b e = absurd (cc)
+map-made f (Some a) b e = record { from = a; is = refl; gives = e }
+
+-- ---- names without a rule
+
+plain-by : (x : PatchToken) (n : Named) (b : Bool) → (if b then Some (record { from = None; name = x }) else None) ≡ Some n → n.from ≡ None
+plain-by x n true e = let same : record { from = None; name = x } ≡ n = cc in ap (λ (m : Named). m.from) (sym same)
+plain-by x n false e = absurd (cc)
+
+name-plain : (ts : List PatchToken) (n : Named) → name_not ts ≡ Some n → n.from ≡ None
+name-plain [] n e = absurd (cc)
+name-plain (x ∷ []) n e = plain-by x n (is_wordish x) e
+name-plain (x ∷ y ∷ ts) n e = absurd (cc)
+
+not-plain : (k : MetaKind) (ts : List PatchToken) (n : Named) → not_of (Meta k) ts ≡ Some n → n.from ≡ None
+not-plain meta.Expr ts n e = absurd (cc)
+not-plain meta.Ident ts n e = name-plain ts n e
+not-plain meta.Constant ts n e = absurd (cc)
+not-plain meta.Typ ts n e = absurd (cc)
+not-plain meta.Stmt ts n e = absurd (cc)
+not-plain meta.ExprList ts n e = absurd (cc)
+not-plain meta.Params ts n e = absurd (cc)
+
+all-plain : (k : MetaKind) (cs : List (List PatchToken)) (ns : List Named) → all_of (not_of (Meta k)) cs ≡ Some ns → AllPlain ns
+all-plain k [] ns e = let same : [] ≡ ns = cc in subst AllPlain same tt
+all-plain k (c ∷ cs) ns e =
+    let one = then-made (λ a. option_map (λ more. a ∷ more) (all_of (not_of (Meta k)) cs)) (not_of (Meta k) c) ns e in
+    let rest = map-made (λ more. one.from ∷ more) (all_of (not_of (Meta k)) cs) ns one.gives in
+    let same : one.from ∷ rest.from ≡ ns = let g = rest.gives in cc in
+    subst AllPlain same (not-plain k c one.from one.is, all-plain k cs rest.from rest.is)
+
+one-plain : (k : MetaKind) (ts : List PatchToken) (ns : List Named) → one_not (Meta k) ts ≡ Some ns → AllPlain ns
+one-plain k ts ns e =
+    let m = map-made (λ n. n ∷ []) (not_of (Meta k) ts) ns e in
+    let same : m.from ∷ [] ≡ ns = let g = m.gives in cc in
+    subst AllPlain same (not-plain k ts m.from m.is, tt)
+
+braced-plain : (k : MetaKind) (ts : List PatchToken) (ns : List Named) → braced (Meta k) ts ≡ Some ns → AllPlain ns
+braced-plain k ts ns e =
+    let m = then-made (nots_between (Meta k)) (before_sign (codes "}") ts) ns e in
+    all-plain k (chunks false m.from) ns m.gives
+
+nots-plain-by : (k : MetaKind) (t : PatchToken) (ts : List PatchToken) (ns : List Named) (b : Bool)
+    → (if b then braced (Meta k) ts else one_not (Meta k) (t ∷ ts)) ≡ Some ns → AllPlain ns
+nots-plain-by k t ts ns true e = braced-plain k ts ns e
+nots-plain-by k t ts ns false e = one-plain k (t ∷ ts) ns e
+
+nots-plain : (k : MetaKind) (ts : List PatchToken) (ns : List Named) → nots_of (Meta k) ts ≡ Some ns → AllPlain ns
+nots-plain k [] ns e = absurd (cc)
+nots-plain k (t ∷ ts) ns e = nots-plain-by k t ts ns (is_sign (codes "{") t) e
+
+nots-fit : (k : VarKind) (ts : List PatchToken) (ns : List Named) → nots_of k ts ≡ Some ns → FitNots (Var k) ns
+nots-fit Position ts ns e = tt
+nots-fit (Meta k) ts ns e = nots-plain k ts ns e
+
+-- ---- items
+
+abbrev Fits : Item → Type 0
+Fits i = FitNots i.kind i.nots
+
+excepted-fits : (k : DeclKind) (ts : List PatchToken) (x : Named) (i : Item) → excepted_of k ts x ≡ Some i → Fits i
+excepted-fits Symbol ts x i e = absurd (cc)
+excepted-fits (Var k) ts x i e =
+    let m = map-made (λ nots. record { kind = Var k; named = x; nots = nots }) (nots_of k ts) i e in
+    let same : record { kind = Var k; named = x; nots = m.from } ≡ i = let g = m.gives in cc in
+    subst Fits same (nots-fit k ts m.from m.is)
+
+none-fit : (k : DeclKind) → FitNots k []
+none-fit Symbol = tt
+none-fit (Var Position) = tt
+none-fit (Var (Meta k)) = tt
+
+bare-fits : (k : DeclKind) (ts : List PatchToken) (i : Item) → option_map (bare_item k) (named_of ts) ≡ Some i → Fits i
+bare-fits k ts i e =
+    let m = map-made (bare_item k) (named_of ts) i e in
+    let same : bare_item k m.from ≡ i = let g = m.gives in cc in
+    subst Fits same (none-fit k)
+
+item-fits-by : (k : DeclKind) (x y : PatchToken) (ts : List PatchToken) (i : Item) (b : Bool)
+    → (if b then option_and_then (excepted_of k ts) (plain_of x) else option_map (bare_item k) (named_of (x ∷ y ∷ ts))) ≡ Some i → Fits i
+item-fits-by k x y ts i true e = let m = then-made (excepted_of k ts) (plain_of x) i e in excepted-fits k ts m.from i m.gives
+item-fits-by k x y ts i false e = bare-fits k (x ∷ y ∷ ts) i e
+
+item-fits : (k : DeclKind) (ts : List PatchToken) (i : Item) → item_of k ts ≡ Some i → Fits i
+item-fits k [] i e = bare-fits k [] i e
+item-fits k (x ∷ []) i e = bare-fits k (x ∷ []) i e
+item-fits k (x ∷ y ∷ ts) i e = item-fits-by k x y ts i (is_sign (codes "!=") y) e
+
+items-fit : (k : DeclKind) (cs : List (List PatchToken)) (is : List Item) → all_of (item_of k) cs ≡ Some is → AllFit is
+items-fit k [] is e = let same : [] ≡ is = cc in subst AllFit same tt
+items-fit k (c ∷ cs) is e =
+    let one = then-made (λ a. option_map (λ more. a ∷ more) (all_of (item_of k) cs)) (item_of k c) is e in
+    let rest = map-made (λ more. one.from ∷ more) (all_of (item_of k) cs) is one.gives in
+    let same : one.from ∷ rest.from ≡ is = let g = rest.gives in cc in
+    subst AllFit same (item-fits k c one.from one.is, items-fit k cs rest.from rest.is)
+
+by-fit : (o : Option DeclKind) (ts : List PatchToken) (is : List Item) → items_by o ts ≡ Some is → AllFit is
+by-fit None ts is e = absurd (cc)
+by-fit (Some k) ts is e = items-fit k (chunks false ts) is e
+
+front-fit-by : (t : PatchToken) (ts : List PatchToken) (is : List Item) (b : Bool)
+    → (if b then items_by (list_kind_of t) (drop 1 ts) else items_by (kind_of t) ts) ≡ Some is → AllFit is
+front-fit-by t ts is true e = by-fit (list_kind_of t) (drop 1 ts) is e
+front-fit-by t ts is false e = by-fit (kind_of t) ts is e
+
+front-fit : (ts : List PatchToken) (is : List Item) → front_items ts ≡ Some is → AllFit is
+front-fit [] is e = absurd (cc)
+front-fit (t ∷ ts) is e = front-fit-by t ts is (is_listed ts) e
+
+declared-fit : (part : List PatchToken) (o : Option (List Item)) → declared part ≡ o → AllFit (items_or_none o)
+declared-fit part None e = tt
+declared-fit part (Some is) e = let m = then-made front_items (before_sign (codes ";") part) is e in front-fit m.from is m.gives
+
+fit-append : (xs ys : List Item) → AllFit xs → AllFit ys → AllFit (xs ++ ys)
+fit-append [] ys a b = b
+fit-append (x ∷ xs) ys a b = (a.0, fit-append xs ys a.1 b)
+
+-- the items of declarations exclude rules' names only at positions
+pub items-fitting : (ps : List (List PatchToken)) → AllFit (items_of ps)
+items-fitting [] = tt
+items-fitting (part ∷ more) = fit-append (items_or_none (declared part)) (items_of more) (declared-fit part (declared part) refl) (items-fitting more)

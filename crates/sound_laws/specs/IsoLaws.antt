@@ -1,0 +1,3 @@
+-- Definitions of iso_laws.
+-- Isomorphisms under which sound patches stay sound.
+pub mod Fine

@@ -1,0 +1,123 @@
+-- Words have acts with a reason.
+use Rattle.std.proofs.Common.{◌≡◌, ◌⊎◌, ℕ, false, Option, Some, None, List, [], ◌∷◌, ◌++◌, inl, inr, refl}
+use Rattle.smpl_patch.specs.declared.rule.Iso.{Iso}
+use Rattle.smpl_patch.specs.declared.rule.Patch.{Patch}
+use Rattle.smpl_patch.specs.declared.fault.PatchFault.{PatchFault}
+use Rattle.smpl_file.specs.Patches.{IsPatchOf, IsFirstFault, IsSpelled}
+use Rattle.iso_file.specs.declared.fault.IsoFault.{IsoFault}
+use Rattle.iso_file.specs.Isos.{AreIsosOf, IsFileFault}
+use Rattle.iso_expand.specs.Patches.{IsExpanded, IsFirstMany}
+use Rattle.sp_gen.specs.Generated.{generated}
+use Rattle.rule_chain.specs.Chain.{Chain, Outcome}
+use Rattle.run_acts.specs.Acts.{Act, Load, Print, Report, Told}
+use Rattle.run_acts.specs.Lines.{cannot_read}
+use Rattle.run_acts.specs.Loaded.{Found}
+use Rattle.run_files.specs.RunLines.Patches.{usage, patch_fault_line, iso_fault_line, forms_line}
+use Rattle.run_words.specs.Orders.{Target, OnFiles, OnText, Order, Apply, Generate, order_of}
+use Rattle.run_files.specs.Treatment.{Treated, summed_by}
+use Rattle.run_files.specs.RunStages.Stages.{patch_limit, generated_name, end_status}
+use Rattle.run_files.specs.RunStages.Reasons.{PatchFound, PatchRead, IsosFound, PatchReady, Reason, files_status}
+use Rattle.run_files.specs.RunStages.Reasons.PatchReady.{plain, expanded}
+use Rattle.run_files.specs.RunStages.Reasons.Reason.{unasked, is_generated, no_patch, bad_patch, no_isos, bad_isos, many_forms, summed, filed}
+use Rattle.text_laws.specs.ChainEnds.Weakly.{Weakly}
+use Rattle.spatch_run.proofs.RunEnds.FileLemmas.{HaveEnds, found_some, files_do}
+
+abbrev pub PatchLaw : Type 0
+PatchLaw = (bytes : List ℕ) → ((patch : Patch) → IsPatchOf bytes patch → ⊥) → ((fault : PatchFault) → IsFirstFault bytes fault → ⊥) → ⊥
+
+abbrev pub IsosLaw : Type 0
+IsosLaw = (bytes : List ℕ) → ((isos : List Iso) → AreIsosOf bytes isos → ⊥) → ((fault : IsoFault) → IsFileFault bytes fault → ⊥) → ⊥
+
+abbrev pub FormsLaw : Type 0
+FormsLaw = (isos : List Iso) (patch : Patch) → ((whole : Patch) × IsExpanded isos patch whole) ⊎ ((rule : ℕ) × IsFirstMany isos patch.rules rule)
+
+abbrev pub ReadLaw : Type 0
+ReadLaw = (bytes : List ℕ) (patch : Patch) (defined : List (List ℕ)) (text : List ℕ) → IsSpelled bytes patch
+    → Weakly ((end : Outcome) × Chain patch.rules defined text end)
+
+abbrev pub ExpandedLaw : Type 0
+ExpandedLaw = (bytes : List ℕ) (isos : List Iso) (patch whole : Patch) (defined : List (List ℕ)) (text : List ℕ) → IsSpelled bytes patch
+    → IsExpanded isos patch whole → Weakly ((end : Outcome) × Chain whole.rules defined text end)
+
+-- over each text the rules of a patch that is ready have an end
+pub ready_ends : ReadLaw → ExpandedLaw → (words : List (List ℕ)) (old : Told) (patch : Patch) (defined : List (List ℕ)) (target : Target) (acts : List Act)
+    → PatchReady words old patch defined target acts → HaveEnds patch.rules defined
+ready_ends read forms words old patch defined target acts (plain r) = λ text. read r.bytes patch defined text r.is.spelled
+ready_ends read forms words old patch defined target acts (expanded first name bytes isos found are is) =
+    λ text. forms found.read.bytes isos first patch defined text found.read.is.spelled is
+
+module _ (patch_law : PatchLaw) (isos_law : IsosLaw) (forms_law : FormsLaw) (read_law : ReadLaw) (expanded_law : ExpandedLaw) (words : List (List ℕ))
+    (old : Told) (absent : ((acts : List Act) × ((status : ℕ) × Reason words old acts status)) → ⊥) where
+  -- the patch has all its forms
+  target_by : (patch : Patch) (defined : List (List ℕ)) (target : Target) (before : List Act) → PatchReady words old patch defined target before → ⊥
+  target_by patch defined (OnFiles mode names) before ready =
+      files_do patch defined mode (ready_ends read_law expanded_law words old patch defined (OnFiles mode names) before ready) old names false
+      (λ rest. absent (before ++ rest.0, (files_status rest.1.0, filed patch defined mode names before rest.0 rest.1.0 ready rest.1.1 refl refl)))
+  target_by patch defined (OnText seed functions) before ready =
+      ready_ends read_law expanded_law words old patch defined (OnText seed functions) before ready (generated seed functions)
+      (λ e.
+      let treated : Treated = summed_by patch generated_name e.0 in
+      absent (
+        before ++ treated.acts,
+        (end_status treated.refused, summed patch defined seed functions treated before ready (e.0, (e.1, refl)) refl refl),
+      ))
+
+  isos_by : (patch : Patch) (name : List ℕ) (defined : List (List ℕ)) (target : Target) (before : List Act)
+      → PatchRead words old patch (Some name) defined target before → (under : Option (List ℕ)) → Found old.files name under → ⊥
+  isos_by patch name defined target before read None found =
+      let loaded : List Act = before ++ Load name patch_limit ∷ [] in
+      absent (
+        loaded ++ Report (cannot_read name) ∷ [],
+        (5, no_isos patch name defined target loaded (record { before = before; read = read; found = found; acts_are = refl }) refl refl),
+      )
+  isos_by patch name defined target before read (Some bytes) found =
+      let loaded : List Act = before ++ Load name patch_limit ∷ [] in
+      let is : IsosFound words old patch name (Some bytes) defined target loaded = record { before = before; read = read; found = found; acts_are = refl } in
+      isos_law bytes
+      (λ isos are. elim (forms_law isos patch) [
+        | inl whole ↦ target_by whole.0 defined target loaded (expanded patch name bytes isos is are whole.1)
+        | inr many ↦
+            absent (
+              loaded ++ Report (forms_line name many.0) ∷ [],
+              (3, many_forms patch name bytes defined target isos many.0 loaded is are many.1 refl refl),
+            )
+      ])
+      (λ fault wrong.
+      absent (
+        loaded ++ Report (iso_fault_line name fault) ∷ [],
+        (3, bad_isos patch name bytes defined target fault loaded is wrong refl refl),
+      ))
+
+  read_by : (patch : Patch) (isos : Option (List ℕ)) (defined : List (List ℕ)) (target : Target) (before : List Act)
+      → PatchRead words old patch isos defined target before → ⊥
+  read_by patch None defined target before read = target_by patch defined target before (plain read)
+  read_by patch (Some name) defined target before read =
+      let found = found_some old.files name in isos_by patch name defined target before read found.0 found.1
+
+  patch_by : (name : List ℕ) (isos : Option (List ℕ)) (defined : List (List ℕ)) (target : Target)
+      → order_of words ≡ Some (Apply name isos defined target) → (under : Option (List ℕ)) → Found old.files name under → ⊥
+  patch_by name isos defined target e None found =
+      absent (
+        Load name patch_limit ∷ Report (cannot_read name) ∷ [],
+        (5, no_patch name isos defined target (record { order = e; found = found }) refl refl),
+      )
+  patch_by name isos defined target e (Some bytes) found =
+      let is : PatchFound words old name (Some bytes) isos defined target = record { order = e; found = found } in
+      patch_law bytes
+      (λ patch read. read_by patch isos defined target (Load name patch_limit ∷ [])
+      (record { name = name; bytes = bytes; found = is; is = read; acts_are = refl }))
+      (λ fault wrong.
+      absent (
+        Load name patch_limit ∷ Report (patch_fault_line name fault) ∷ [],
+        (2, bad_patch name bytes isos defined target fault is wrong refl refl),
+      ))
+
+  order_by : (o : Option Order) → order_of words ≡ o → ⊥
+  order_by None e = absent (Report usage ∷ [], (1, unasked e refl refl))
+  order_by (Some (Generate seed functions)) e =
+      absent (Print (generated seed functions) ∷ [], (0, is_generated seed functions e refl refl))
+  order_by (Some (Apply name isos defined target)) e =
+      let found = found_some old.files name in patch_by name isos defined target e found.0 found.1
+
+  pub reason_some : ⊥
+  reason_some = order_by (order_of words) refl

@@ -1,0 +1,50 @@
+// Words have acts, and runs are complete. The functions do nothing.
+ghost use Rattle.std.specs.Prelude.{◌≡◌, ◌⊎◌, ℕ, List, IsSome};
+ghost use Rattle.run_acts.specs.Acts.{Act, Told};
+ghost use Rattle.run_acts.specs.Breaks.{Counts, NoneRose};
+ghost use Rattle.smpl_patch.specs.declared.rule.Patch.{Patch as Whole};
+ghost use Rattle.run_words.specs.declared.order.Mode.{Mode as HowFiles};
+ghost use Rattle.run_words.specs.Orders.{OnFiles};
+ghost use Rattle.run_files.specs.RunStages.Paths.{AreActs};
+ghost use Rattle.run_files.specs.RunStages.Promise.{EndsRightly};
+ghost use Rattle.run_files.specs.RunStages.Reasons.{PatchReady};
+ghost use Rattle.text_laws.specs.ChainEnds.Weakly.{Weakly};
+ghost use Rattle.spatch_run.specs.RunEnds.Fates.{AllThere, NoneRefused, SomeRefused};
+
+use crate::run_laws::{acts_have_a_reason, statuses_have_a_cause};
+use read_laws::{bytes_are_read, patches_get_their_forms};
+use text_laws::chains_have_an_end;
+
+/// It can't be that some words have no list of acts, whatever a shelf tells. Does nothing.
+pub fn words_have_acts()
+    ensures { (words : List (List ℕ)) (old : Told) →
+        Weakly ((acts : List Act) × ((status : ℕ) × AreActs words old acts status)) }
+{
+    bytes_are_read();
+    patches_get_their_forms();
+    chains_have_an_end();
+    acts_have_a_reason();
+}
+
+/// Of runs that edit files, where the shelf tells its files, no count of faults rises, the patch is read, and has its forms, where
+/// isomorphisms are named, and each file is there in its turn.
+///
+/// - `fine`: where no file is refused, the status is 0, or 7 for want of memory.
+/// - `refused`: where some file is refused, it is 4, or 7.
+///
+/// Does nothing.
+pub fn runs_are_complete()
+    ensures fine { (words : List (List ℕ)) (before now : Counts) (old new : Told) (status : ℕ) (patch : Whole)
+        (defined : List (List ℕ)) (mode : HowFiles) (names : List (List ℕ)) (acts : List Act) → IsSome old.files →
+        NoneRose before now → EndsRightly words before now old new status →
+        PatchReady words old patch defined (OnFiles mode names) acts → AllThere patch defined mode old names →
+        NoneRefused patch defined mode old names → (status ≡ 0) ⊎ (status ≡ 7) }
+    ensures refused { (words : List (List ℕ)) (before now : Counts) (old new : Told) (status : ℕ) (patch : Whole)
+        (defined : List (List ℕ)) (mode : HowFiles) (names : List (List ℕ)) (acts : List Act) → IsSome old.files →
+        NoneRose before now → EndsRightly words before now old new status →
+        PatchReady words old patch defined (OnFiles mode names) acts → AllThere patch defined mode old names →
+        SomeRefused patch defined mode old names → (status ≡ 4) ⊎ (status ≡ 7) }
+{
+    chains_have_an_end();
+    statuses_have_a_cause();
+}

@@ -1,0 +1,63 @@
+//! What holds of every run, whatever it is called with.
+//!
+//! - [`acts_are_one_list`] is a law: its clauses hold, and it does nothing. Where the shelf tells its files, words have one list
+//!   of acts with one status.
+//! - [`acts_have_a_reason`]: the stages of a run and the plain description of its acts, file by file, say the same.
+//! - [`statuses_have_a_cause`]: each status comes for its cause, and what has a cause must come where nothing fails.
+#![tactic(auto)]
+
+ghost use Rattle.std.specs.Prelude.{◌≡◌, ◌∷◌, ◌++◌, ℕ, List, IsSome};
+ghost use Rattle.run_acts.specs.Acts.{Act, Told};
+ghost use Rattle.run_acts.specs.Breaks.{Counts};
+ghost use Rattle.run_files.specs.RunStages.Paths.{AreActs, ComesTo};
+ghost use Rattle.run_files.specs.RunStages.Promise.{EndsRightly};
+ghost use Rattle.run_files.specs.RunStages.Reasons.{Reason};
+ghost use Rattle.run_files.specs.RunStages.Causes.{Causes};
+
+use read_laws::{isos_are_read_once, patches_are_expanded_once, patches_have_one_fault};
+use rule_chain::chain_has_one_end;
+use smpl_file::patches_are_read_once;
+
+/// The acts of a list of words are one list, where the shelf tells its files: nothing else decides them.
+///
+/// - `same`: two lists of acts of the same words and the same files are equal, and so are their statuses.
+/// - `begins`: what a run has done that has a next act, and then this act, begin that list.
+///
+/// Does nothing.
+pub fn acts_are_one_list()
+    ensures same { (words : List (List ℕ)) (old other : Told) (acts others : List Act) (status status' : ℕ) →
+        IsSome old.files → other.files ≡ old.files → AreActs words old acts status →
+        AreActs words other others status' → (acts ≡ others) × (status ≡ status') }
+    ensures begins { (words : List (List ℕ)) (old other mid : Told) (next : Act) (acts : List Act) (status : ℕ) →
+        IsSome old.files → other.files ≡ old.files → (comes : ComesTo words old mid next) →
+        AreActs words other acts status → (rest : List Act) × (acts ≡ comes.acts ++ next ∷ rest) }
+{
+    patches_are_read_once();
+    patches_have_one_fault();
+    isos_are_read_once();
+    patches_are_expanded_once();
+    chain_has_one_end();
+}
+
+/// The acts of a whole run have a reason, in which no stage is named, and what has a reason are the acts of a whole run.
+///
+/// - `reason`: the acts of a whole run are those of one of the ways in which a run goes, and its status is that of this way.
+/// - `ways`: each of these ways is a whole run.
+///
+/// Does nothing.
+pub fn acts_have_a_reason()
+    ensures reason { (words : List (List ℕ)) (old : Told) (acts : List Act) (status : ℕ) →
+        AreActs words old acts status → Reason words old acts status }
+    ensures ways { (words : List (List ℕ)) (old : Told) (acts : List Act) (status : ℕ) →
+        Reason words old acts status → AreActs words old acts status }
+{}
+
+/// Where a run ends rightly, each status that it may answer has its cause, and what has a cause must come where nothing fails.
+/// Does nothing.
+pub fn statuses_have_a_cause()
+    ensures { (words : List (List ℕ)) (before now : Counts) (old new : Told) (status : ℕ) →
+        EndsRightly words before now old new status → Causes words before now old new status }
+{
+    acts_are_one_list();
+    acts_have_a_reason();
+}

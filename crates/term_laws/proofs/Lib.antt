@@ -1,5 +1,0 @@
--- Lemmas: forms that fit trees, and trees at nodes; atoms that match; formulas.
-pub mod FitLemmas
-pub mod HeldLemmas
-pub mod AtomLemmas
-pub mod BoundLemmas

@@ -1,0 +1,6 @@
+-- Lemmas of output_laws.
+-- Lemmas: bytes of tokens, ids that differ, tokens of subtrees, values of graphs.
+pub mod Filled
+pub mod DifferentIds
+pub mod TreeTokens
+pub mod GraphValues

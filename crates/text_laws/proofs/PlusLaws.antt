@@ -1,0 +1,5 @@
+-- Lemmas of plus_laws.
+-- Lemmas: gaps without newlines, tokens of plus code, rules.
+pub mod GapLemmas
+pub mod TokenLemmas
+pub mod RuleLemmas

@@ -1,0 +1,7 @@
+-- Lemmas of reading_laws.
+-- Lemmas: pieces by their texts and ids, tokens that rows take, what stands behind a Stray, where items begin, tokens of items.
+pub mod OnePieces
+pub mod Known
+pub mod Behind
+pub mod Begins
+pub mod Tokens

@@ -1,0 +1,4 @@
+-- Lemmas of token_laws.
+-- Lemmas: pieces with other ids, states.
+pub mod PieceLemmas
+pub mod StateLemmas

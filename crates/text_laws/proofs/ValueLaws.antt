@@ -1,0 +1,6 @@
+-- Lemmas of value_laws.
+-- Lemmas: environments, trees of witnesses, trees without ids, one rule.
+pub mod EnvLemmas
+pub mod ForestLemmas
+pub mod BareLemmas
+pub mod TurnLemmas

@@ -1,0 +1,3 @@
+-- Definitions of chain_ends.
+-- What the laws rest on: what can't be absent.
+pub mod Weakly

@@ -1,0 +1,3 @@
+-- Definitions of value_laws.
+-- What the law rests on: environments whose values are of tokens of C.
+pub mod Carried

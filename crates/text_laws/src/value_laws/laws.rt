@@ -1,0 +1,33 @@
+// What values a rule finds. The function does nothing.
+ghost use Rattle.std.specs.Prelude.{ℕ, List, All};
+ghost use Rattle.c_lexer.specs.Pieces.{TextPiece};
+ghost use Rattle.c_lexer.specs.Lexes.{Cuts};
+ghost use Rattle.cpp_lines.specs.declared.reading.Item.{Item};
+ghost use Rattle.c_file.specs.Reads.{Reads};
+ghost use Rattle.smpl_patch.specs.declared.rule.Rule.{Rule};
+ghost use Rattle.rule_envs.specs.declared.carrier.Carrier.{Carrier};
+ghost use Rattle.rule_chain.specs.RuleTurn.Turns.{turn_found, turn_carriers};
+ghost use Rattle.text_laws.specs.Sound.{HasCTerms};
+ghost use Rattle.text_laws.specs.ValueLaws.Carried.{CarriesTerms};
+
+use crate::output_laws::values_are_sound;
+use crate::reading_laws::trees_are_sound;
+
+/// Of a rule, of whatever number, over the items of a text that is read, under environments whose values are places, or terms of
+/// tokens of C that are no Strays.
+///
+/// - `found`: such are all values of its witnesses, in their environments and in their trees.
+/// - `carried`: and such are the values of the environments after it.
+///
+/// Does nothing.
+pub fn found_values_are_sound()
+    ensures found { (defined : List (List ℕ)) (had : List ℕ) (number : ℕ) (rule : Rule) (pieces : List TextPiece)
+        (items : List Item) (carriers : List Carrier) → Cuts pieces → Reads pieces items → All CarriesTerms carriers →
+        All HasCTerms (turn_found defined had number rule items carriers) }
+    ensures carried { (defined : List (List ℕ)) (had : List ℕ) (number : ℕ) (rule : Rule) (pieces : List TextPiece)
+        (items : List Item) (carriers : List Carrier) → Cuts pieces → Reads pieces items → All CarriesTerms carriers →
+        All CarriesTerms (turn_carriers defined had number rule items carriers) }
+{
+    values_are_sound();
+    trees_are_sound();
+}

@@ -1,3 +1,0 @@
--- Lemmas: pieces with other ids, states.
-pub mod PieceLemmas
-pub mod StateLemmas

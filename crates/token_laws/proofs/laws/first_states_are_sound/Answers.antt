@@ -1,6 +1,0 @@
-use Rattle.token_laws.proofs.StateLemmas.{first_sound}
-use Rattle.token_laws.proofs.laws.first_states_are_sound.Goals as goal
-
-pub returns : goal.returns
-returns c = λ bytes pieces items lexes reads.
-    first_sound bytes pieces items lexes reads (c.ids_differ.ensures.first bytes pieces lexes) (c.ids_differ.ensures.below bytes pieces lexes)

@@ -1,5 +1,0 @@
--- Lemmas: environments, trees of witnesses, trees without ids, one rule.
-pub mod EnvLemmas
-pub mod ForestLemmas
-pub mod BareLemmas
-pub mod TurnLemmas

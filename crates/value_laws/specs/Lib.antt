@@ -1,2 +1,0 @@
--- What the law rests on: environments whose values are of tokens of C.
-pub mod Carried

@@ -1,9 +1,0 @@
-use Rattle.std.proofs.Common.{◌≤◌, drop, length}
-use Rattle.var_places.specs.Scopes.{AreFirsts}
-use Rattle.var_places.proofs.numbered.firsts_of.Given as goal
-
-abbrev pub invariant-loop-i : goal.invariant-loop-i
-invariant-loop-i l = (l.i ≤ length l.vars) × AreFirsts l.firsts.entries l.i (drop l.i l.vars)
-
-abbrev pub decreases-loop-i : goal.decreases-loop-i
-decreases-loop-i l = l.i

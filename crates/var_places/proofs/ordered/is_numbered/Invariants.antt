@@ -1,7 +1,0 @@
-use Rattle.std.proofs.Common.{◌≡◌, ◌<◌, ℕ, true, Some, slice_get}
-use Rattle.smpl_terms.specs.declared.var.Var.{Var as Variable}
-use Rattle.var_places.specs.Ordered.{has_number}
-use Rattle.var_places.proofs.ordered.is_numbered.Given as goal
-
-abbrev pub invariant-loop-i : goal.invariant-loop-i
-invariant-loop-i l = (k : ℕ) (y : Variable) → k < l.i → slice_get l.vars k ≡ Some y → has_number l.numbers k y ≡ true

@@ -1,9 +1,0 @@
-use Rattle.std.proofs.Common.{◌≡◌, ◌||◌, ℕ, nat_eq, drop}
-use Rattle.std.specs.List.{list_any}
-use Rattle.var_places.specs.Ordered.{has_number}
-use Rattle.var_places.proofs.ordered.numbers_in.Given as goal
-
-abbrev pub invariant-loop-k : goal.invariant-loop-k
-invariant-loop-k l = (i : ℕ) →
-    (list_any (nat_eq i) l.places.items || list_any (has_number l.numbers i) (drop l.k l.set))
-    ≡ list_any (has_number l.numbers i) l.set

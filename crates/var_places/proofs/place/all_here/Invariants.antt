@@ -1,6 +1,0 @@
-use Rattle.std.proofs.Common.{◌≡◌, ◌++◌, drop}
-use Rattle.var_places.specs.Homes.{all_here}
-use Rattle.var_places.proofs.place.all_here.Given as goal
-
-abbrev pub invariant-loop-share : goal.invariant-loop-share
-invariant-loop-share l = l.all.items ++ all_here (drop l.share-index l.shares) ≡ all_here l.shares

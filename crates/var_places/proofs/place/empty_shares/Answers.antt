@@ -1,7 +1,0 @@
-use Rattle.var_places.proofs.ShareLemmas.{empty-step}
-use Rattle.var_places.proofs.place.empty_shares.Goals as goal
-
-pub loop-i-preserved : goal.loop-i-preserved
-loop-i-preserved c =
-    empty-step c.loop-i._i c.new.result c.new-in-loop-i.result c.loop-i.found.items c.push.new.self.items c.new.ensures c.new-in-loop-i.ensures c.loop-i.invariant
-    c.in_ok-push.ensures.items

@@ -1,8 +1,0 @@
-use Rattle.std.proofs.Common.{◌≡◌, take}
-use Rattle.smpl_patch.specs.Bodies.{body}
-use Rattle.var_places.specs.Places.{reading_at}
-use Rattle.var_places.specs.Homes.{home_in, shares_from}
-use Rattle.var_places.proofs.place.sorted.Given as goal
-
-abbrev pub invariant-loop-x : goal.invariant-loop-x
-invariant-loop-x l = l.found.items ≡ shares_from (home_in (reading_at l.reader) 0 (body l.b)) 0 (body l.b) (take l.x-index l.vars)

@@ -1,9 +1,0 @@
-use Rattle.wit_order.proofs.ForestLaws.{one_list}
-use Rattle.wit_order.proofs.SizeLemmas.{forest_size-along}
-use Rattle.wit_order.proofs.laws.one_list_a_forest.Goals as goal
-
-pub returns-clause-same : goal.returns-clause-same
-returns-clause-same c = one_list
-
-pub returns-clause-size : goal.returns-clause-size
-returns-clause-size c = forest_size-along

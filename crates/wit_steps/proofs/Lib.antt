@@ -1,4 +1,0 @@
-pub mod StepLemmas
-pub mod TouchLemmas
-pub mod KidLemmas
-pub mod ChoiceLemmas

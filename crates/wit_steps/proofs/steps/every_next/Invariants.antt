@@ -1,5 +1,0 @@
-use Rattle.std.proofs.Common.{◌≡◌, map, take}
-use Rattle.wit_steps.proofs.steps.every_next.Given as goal
-
-abbrev pub invariant-loop-k : goal.invariant-loop-k
-invariant-loop-k l = l.kids.items ≡ map (λ k. (l.part, k)) (take l.k-index l.next)

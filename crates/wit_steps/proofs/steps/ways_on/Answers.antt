@@ -1,8 +1,0 @@
-use Rattle.std.proofs.Common.{◌<◌, length, arith}
-use Rattle.wit_steps.proofs.StepLemmas.{member}
-use Rattle.wit_steps.proofs.steps.ways_on.Goals as goal
-
-pub told-requires-clause-node : goal.told-requires-clause-node
-told-requires-clause-node c =
-    let lt : c.loop-k.k-index < length c.args.next.now = omega arith in
-    c.requires.nodes _ (member c.args.next.now c.loop-k.k-index lt)

@@ -1,8 +1,0 @@
-use Rattle.std.proofs.Common.{◌≡◌, take}
-use Rattle.std.specs.List.{flat_map}
-use Rattle.smpl_terms.specs.Environments.{total}
-use Rattle.wit_steps.specs.Steps.{way_on, told}
-use Rattle.wit_steps.proofs.steps.ways_on.Given as goal
-
-abbrev pub invariant-loop-k : goal.invariant-loop-k
-invariant-loop-k l = l.kids.items ≡ flat_map (way_on l.g (told l.sets (total l.env)) l.until l.way l.s) (take l.k-index l.next)

@@ -1,8 +1,0 @@
-use Rattle.wit_trees.proofs.AlikeLemmas.{holds_alike, forest_alike}
-use Rattle.wit_trees.proofs.laws.alike_environments.Goals as goal
-
-pub returns-clause-holding : goal.returns-clause-holding
-returns-clause-holding c = holds_alike
-
-pub returns-clause-forests : goal.returns-clause-forests
-returns-clause-forests c = forest_alike

@@ -69,7 +69,7 @@ member_smaller k ps xs zs t same d =
     let e : Spells (member_kind (front_typed xs)) xs t zs = subst (λ (j : Kind). Spells j xs t zs) same d in
     smaller-argument ps xs zs (omega (arith, spells_shorter e, member_full (front_typed xs)))
 
--- the way at which a row goes on is fine
+-- the way by which a row continues is fine
 pub chosen_fine : (f : Fork) (c : Class) (r : Row) → choose f c ≡ Some r → IsTrue (row_fine r)
 chosen_fine f c r e = let w = chosen_way f c r e in way_fine f w.0 r w.1
 

@@ -16,7 +16,7 @@ behind-first [] d = refl
 behind-first (c ∷ cs) d = refl
 
 module _ (names : Names) where
-  -- The list tells where a scan ends, in any number of brackets.
+  -- The list says where a scan ends, in any number of brackets.
   abbrev pub Tells : List Class → List Token → Type 0
   Tells cs ts = (d : ℕ) → end_at cs d ≡ look names (scan names d ts)
 
@@ -41,7 +41,7 @@ module _ (names : Names) where
   tells_more : (t : Token) (ts : List Token) (cs : List Class) → Tells cs ts → Tells (passed (turn (look names (t ∷ ts))) (look names (t ∷ ts)) cs) (t ∷ ts)
   tells_more t ts cs h d = tells_turn (turn (look names (t ∷ ts))) t ts cs h d ∙ ap (look names) (sym (scan-cons (turn (look names (t ∷ ts))) t ts d refl))
 
-  -- one token more, from the last one on
+  -- one token more, from the last one backwards
   pub tells_next : (tokens : List Token) (i : ℕ) (t : Token) (class : Class) (old new : List Class) → 0 < i → i ≤ length tokens → class ≡ look names (drop (i - 1) tokens) → new ≡ passed (turn class) class old
       → Tells old (drop i tokens) → Tells new (drop (i - 1) tokens)
   tells_next tokens i t class old new pos fits c n h =

@@ -123,7 +123,7 @@ left_root : (f : Family) (r : Rule) (l : Kind) (q : Root) (c : Class) → left r
 left_root f r l None c e w o = refl
 left_root f r l (Some q) c e w o = left_ends r l q c e w o
 
--- the first tree ends where the whole tree goes on
+-- the first tree ends where the whole tree continues
 pub grows_ends : {m : Kind} {p q : Root} {a t : Tree} {xs ys : List Seen} → Grows m p a xs q t ys → IsTrue (within (root_kind (family_of m) p) m) → IsTrue (stops m (front ys))
     → IsTrue (root_ends p (front xs))
 grows_ends {m} {p} {xs = xs} here w s = root_stops m p (front xs) w s

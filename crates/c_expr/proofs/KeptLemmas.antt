@@ -24,7 +24,7 @@ fewer_only most n k xs ys t le one u zs d s l = one u zs d s (omega arith)
 fewer_none : (most n : ℕ) (k : Kind) (xs : List Seen) → n ≤ most → NoTreeAt most k xs → NoTreeAt n k xs
 fewer_none most n k xs le none u zs d s l = none u zs d s (omega arith)
 
--- what is known at one bound tells what holds at each smaller one
+-- what is known at one bound gives what holds at each smaller one
 pub low_known : (most n : ℕ) (k : Kind) (seen : List Seen) (i : ℕ) (found : Option Outline) → n ≤ most → Known most k seen i found → Known n k seen i (low n found)
 low_known most n k seen i None le none = fewer_none most n k (drop i seen) le none
 low_known most n k seen i (Some o) le h = pick (nat_le o.levels n) refl
@@ -107,7 +107,7 @@ right_known from seen es i e most at m b r g a w holds le =
 pub right_kept : (from : ℕ) (seen : List Seen) (old new : List Entry) (e : Entry) → new ≡ old ++ e ∷ [] → AreRight from seen old → from ≤ e.at → Known e.most e.kind seen e.at e.found → AreRight from seen new
 right_kept from seen old new e n r le h = subst (λ (es : List Entry). AreRight from seen es) (sym n) (right_more from seen old e r (record { behind = le; known = h }))
 
--- ---- from the last token on
+-- ---- from the last token backwards
 
 pub right_none : (from : ℕ) (seen : List Seen) (es : List Entry) → es ≡ [] → AreRight from seen es
 right_none from seen es e = subst (λ (xs : List Entry). AreRight from seen xs) (sym e) tt

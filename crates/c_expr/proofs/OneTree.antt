@@ -28,7 +28,7 @@ use Rattle.c_expr.proofs.OperandLemmas.{leaf_never, head_here, head_first, row_o
 
 -- ---- rows
 
--- every tree of at most n levels is the only one where it stands
+-- every tree of at most n levels is the only one at its place
 abbrev AllOne : ℕ → Type 0
 AllOne n = (k : Kind) (xs : List Seen) (t : Tree) (ys : List Seen) → Spells k xs t ys → IsTrue (stops k (front ys)) → levels t ≤ n → OnlyTree n k xs t ys
 
@@ -86,7 +86,7 @@ operand_once n m rows (headed {xs = xs} {ys = ys} {cs = cs} r v e b al runs) end
 no_bool : {A : Type 0} → IsTrue false → A
 no_bool h = let never : ⊥ = cc in absurd never
 
--- where nothing makes a tree longer, no rule goes on
+-- if nothing makes a tree longer, no rule continues it
 quiet_none : (m : Kind) (q : Root) (o : Option Rule) → IsTrue (quiet m o) → next_rule m q o ≡ None
 quiet_none m q None h = refl
 quiet_none m q (Some r) h = pick (within (kind_of r) m) refl h

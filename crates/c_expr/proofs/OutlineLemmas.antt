@@ -1,4 +1,4 @@
--- The steps of the reader that makes no trees, as the code's answers cite them.
+-- The steps of the reader that builds no trees, as the code's answers cite them.
 use Rattle.std.proofs.Common.{◌≡◌, ℕ, ◌+◌, ◌-◌, ◌*◌, ◌≤◌, ◌<◌, max, List, [], ◌∷◌, ◌++◌, length, take, drop, get_or, map, refl, subst, ap, sym, ◌∙◌, arith, add-zero}
 use Rattle.std.proofs.lemmas.List.{drop_more, get_or-drop, length-drop, map-append}
 use Rattle.std.specs.Prelude.{Bool, false, IsTrue, IfErr, Some, None, Result, Ok, Err}
@@ -42,7 +42,7 @@ pub err_each : {A E : Type 0} {P Q : E → Type 0} (x : Result A E) → ((e : E)
 err_each (Ok a) f h = tt
 err_each (Err e) f h = f e h
 
--- ---- what stands at the front
+-- ---- the front
 
 pub row_whole : (ps : Row) (s : Symbol) → 1 ≤ length ps → ps ≡ get_or ps 0 s ∷ take (length ps - 1) (drop 1 ps)
 row_whole [] s h = absurd (omega arith)
@@ -277,7 +277,7 @@ module _ (most : ℕ) (seen : List Seen) where
   pub too_high : (r : Rule) (o : Outline) → most ≤ o.levels → (t : Tree) → IsOf most o t → NoGrowth most r t (drop o.end seen)
   too_high r o high t h = no_growth most o.levels r t (drop o.end seen) h.deep.0 high
 
-  -- the sketch is of a tree from which every tree of the kind at the place grows
+  -- the sketch is that of a tree from which every tree of the kind at the place grows
   pub record Grew (m : Kind) (i : ℕ) (g : Sketch) : Type 0 where
     pub tree : Tree
     pub growing : Growing most m (drop i seen) g.root tree (drop g.outline.end seen)

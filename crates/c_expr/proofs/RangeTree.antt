@@ -73,7 +73,7 @@ whole = tree_induction Whole
     (λ b xs ys h eq. let f = same-Branch-Leaf l cs b in absurd (cc))
     (λ k us xs ys h eq. branch_whole l cs e k us xs ys h eq))
 
--- trees with equal leaves that are not unequal
+-- two trees with equal leaves that are not unequal
 stable : (t u : Tree) → ((t ≡ u → ⊥) → ⊥) → leaves t ≡ leaves u → t ≡ u
 stable t u n e = (whole t u [] [] (pick (same_tree t u) refl) (ap (λ (ts : List Token). ts ++ []) e)).0
   where
@@ -89,7 +89,7 @@ seen_at names t ts b = record { token = t; class = look names (t ∷ ts); typed 
 no_bool : {A : Type 0} → IsTrue false → A
 no_bool h = let never : ⊥ = cc in absurd never
 
--- Tokens can't be such that they are seen in no way.
+-- Every list of tokens is seen in some way, up to double negation.
 seen_some : (names : Names) (leads : Bool) (ts : List Token) → ((ss : List Seen) → AreSeenAs names leads ts ss → ⊥) → ⊥
 seen_some names leads [] f = f [] tt
 seen_some names leads (t ∷ ts) f = seen_some names (leads_member t) ts (λ ss a.

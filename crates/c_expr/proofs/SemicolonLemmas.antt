@@ -12,7 +12,7 @@ flags-behind : (bs : List Bool) (d : ℕ) → flag_at (flags_behind bs) d ≡ fl
 flags-behind [] d = refl
 flags-behind (b ∷ bs) d = refl
 
--- The list tells whether a `;` stands in the branch, in any number of groups.
+-- The list says whether the branch has a `;`, in any number of groups.
 abbrev pub TellsBranches : List Bool → List Token → Type 0
 TellsBranches bs ts = (d : ℕ) → flag_at bs d ≡ has_semicolon d ts
 
@@ -37,7 +37,7 @@ tells-from groups.Plain ts bs h d = h d
 tells-more : (t : Token) (ts : List Token) (bs : List Bool) → TellsBranches bs ts → TellsBranches (passed (group t) bs) (t ∷ ts)
 tells-more t ts bs h d = tells-from (group t) ts bs h d ∙ sym (semicolon-cons t ts d)
 
--- one token more, from the last one on
+-- one token more, from the last one backwards
 pub branches_next : (tokens : List Token) (i : ℕ) (t : Token) (u : Group) (old new : List Bool) → 0 < i → i ≤ length tokens → t ≡ get_or tokens (i - 1) t → u ≡ group t → new ≡ passed u old
     → TellsBranches old (drop i tokens) → TellsBranches new (drop (i - 1) tokens)
 branches_next tokens i t u old new pos fits is g n h =

@@ -29,7 +29,7 @@ found_member ss ys t n false d one deep e = λ u zs d' e' l.
     let never : false ≡ true = e ∙ yes in
     let no : ⊥ = cc in absurd no
 
--- ---- from the last token on
+-- ---- from the last token backwards
 
 pub sight_start : (names : Names) (leads : Bool) (tokens : List Token) (seen : List Seen) → length seen ≡ length tokens
     → AreSeenAs names leads (drop (length tokens) tokens) (drop (length tokens) seen)

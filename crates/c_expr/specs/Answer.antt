@@ -1,4 +1,4 @@
--- What the calls answer.
+-- What the calls return.
 use Rattle.std.specs.Prelude.{◌≡◌, ◌≤◌, ◌<◌, ◌↔◌, IfOk, List, Result, Ok, Err}
 use Rattle.c_terms.specs.declared.token.Token.{Token}
 use Rattle.c_terms.specs.declared.tree.Tree.{Tree}
@@ -10,7 +10,7 @@ use Rattle.c_rows.specs.Depth.{opens_of}
 use Rattle.c_expr.specs.declared.fault.ParseFault.{ParseFault}
 use Rattle.c_expr.specs.declared.fault.ParseFault.TheVariants.{NoTree, TooDeep, NoMemory}
 
--- the tree was answered, unless memory ran out
+-- the tree was returned, unless memory ran out
 abbrev pub Answers : Tree → Result Tree ParseFault → Type 0
 Answers t (Ok u) = u ≡ t
 Answers t (Err NoMemory) = Unit {0}
@@ -18,11 +18,11 @@ Answers t (Err _) = ⊥
 
 -- The tokens were read as a tree of this kind.
 pub record Reads (kind : Kind) (names : Names) (tokens : List Token) (result : Result Tree ParseFault) : Type 0 where
-  -- what is answered is a tree of the tokens
+  -- what is returned is a tree of the tokens
   pub found : IfOk result (λ t. IsTreeOf kind names tokens t)
-  -- it is their only one, ids included
+  -- it is their only tree, ids included
   pub only : (t : Tree) → IsTreeOf kind names tokens t → opens_of tokens ≤ most_open → Answers t result
-  -- where NoTree is answered, they have none
+  -- if NoTree is returned, they have none
   pub no_tree : result ≡ Err NoTree → (t : Tree) → IsTreeOf kind names tokens t → ⊥
-  -- TooDeep is answered exactly over 200 open brackets
+  -- TooDeep is returned exactly if more than 200 brackets are open at once
   pub too_deep : (result ≡ Err TooDeep) ↔ (most_open < opens_of tokens)

@@ -1,4 +1,4 @@
--- What public contracts rest on.
+-- What public contracts depend on.
 
 pub mod Answer
 -- What the steps of the parser ensure.

@@ -1,4 +1,4 @@
--- What the steps of the reader ensure that makes no trees.
+-- What the steps of the reader that builds no trees ensure.
 use Rattle.std.specs.Prelude.{◌≡◌, ℕ, ◌+◌, ◌*◌, ◌≤◌, ◌<◌, ⊤, IsTrue, Option, Some, None, nat_le, if◌then◌else◌, List, [], ◌∷◌, length, drop, map}
 use Rattle.c_terms.specs.declared.tree.Tree.{Tree}
 use Rattle.c_terms.specs.Trees.{levels_of_all}
@@ -21,19 +21,19 @@ use Rattle.c_expr.specs.declared.outline.Spot.{Spot}
 use Rattle.c_expr.specs.declared.outline.Sketch.{Sketch}
 use Rattle.c_expr.specs.Steps.{OnFault, place, Leads, OnlyTree, NoTreeAt, OnlyOperand, NoRun, RunsTo, NoBranch, GrowsBy, NoGrowth, HasLevels}
 
--- ---- trees that are not made
+-- ---- trees that are not built
 
--- the outline of a tree of at most so many levels
+-- the outline of a tree of at most `most` levels
 pub record IsOf (most : ℕ) (o : Outline) (t : Tree) : Type 0 where
   pub facts : o.facts ≡ facts_of t
   pub deep : HasLevels t o.levels most
 
--- trees with these facts and so many levels
+-- trees with these facts and n levels
 pub record AreOf (fs : List Facts) (n : ℕ) (ts : List Tree) : Type 0 where
   pub facts : fs ≡ map facts_of ts
   pub deep : n ≡ levels_of_all ts
 
--- The outline is that of the one tree of the kind that begins at the place and has at most so many levels.
+-- The outline is that of the one tree of the kind that begins at the place and has at most `most` levels.
 pub record Outlined (most : ℕ) (k : Kind) (seen : List Seen) (i : ℕ) (o : Outline) : Type 0 where
   pub tree : Tree
   pub spelled : Spells k (drop i seen) tree (drop o.end seen)
@@ -47,7 +47,7 @@ abbrev pub Known : ℕ → Kind → List Seen → ℕ → Option Outline → Typ
 Known most k seen i None = NoTreeAt most k (drop i seen)
 Known most k seen i (Some o) = Outlined most k seen i o
 
--- the tree, where it has at most so many levels
+-- the tree, if it has at most `most` levels
 abbrev pub low : ℕ → Option Outline → Option Outline
 low most None = None
 low most (Some o) = if nat_le o.levels most then Some o else None
@@ -56,14 +56,14 @@ pub record IsRight (from : ℕ) (seen : List Seen) (e : Entry) : Type 0 where
   pub behind : from ≤ e.at
   pub known : Known e.most e.kind seen e.at e.found
 
--- what is kept is right, and is of places from this one on
+-- what is kept is right, and concerns places from this one on
 abbrev pub AreRight : ℕ → List Seen → List Entry → Type 0
 AreRight from seen [] = ⊤
 AreRight from seen (e ∷ es) = IsRight from seen e × AreRight from seen es
 
 -- ---- rows
 
--- from the first spot, with this row before it, to the second
+-- the step from the first spot, with this row before it, to the second
 pub record Moves (most : ℕ) (seen : List Seen) (row : Row) (p q : Spot) : Type 0 where
   pub leads : (before : List Tree) → AreOf p.parts.items p.deepest before
       → (now : List Tree) × AreOf q.parts.items q.deepest now × Leads most (place row (drop p.at seen) before) (place q.row.now (drop q.at seen) now)
@@ -73,22 +73,22 @@ pub record Moves (most : ℕ) (seen : List Seen) (row : Row) (p q : Spot) : Type
 pub record Steps (most : ℕ) (seen : List Seen) (s : Symbol) (p q : Spot) : Type 0 where
   pub moves : Moves most seen (s ∷ p.row.now) p q
   pub fine : IsTrue (row_fine q.row.now)
-  -- fewer tokens are left, or as many and less of the row
+  -- fewer tokens are left, or as many tokens and less of the row
   pub smaller : 3 * length (drop q.at seen) + weight q.row.now < 3 * length (drop p.at seen) + weight (s ∷ p.row.now)
 
--- The children after those before are the one run of the row.
+-- The children after the earlier ones are the one run of the row.
 pub record RunsOn (most : ℕ) (seen : List Seen) (p q : Spot) : Type 0 where
   pub runs : (before : List Tree) → AreOf p.parts.items p.deepest before
       → (all : List Tree) × AreOf q.parts.items q.deepest all × RunsTo most p.row.now (drop p.at seen) before all (drop q.at seen)
   pub ahead : p.at ≤ q.at
 
--- Whatever the children before are, the row has no run.
+-- Whatever the earlier children are, the row has no run.
 abbrev pub NotRun : ℕ → List Seen → Spot → ParseFault → Type 0
 NotRun most seen p e = (before : List Tree) → AreOf p.parts.items p.deepest before → OnFault e (NoRun most p.row.now (drop p.at seen))
 
 -- ---- branches
 
--- the sketch is of the rule's branch over the children, and ends where the spot is
+-- the sketch is that of the rule's branch over the children, and ends at the spot
 pub record Ends (most : ℕ) (r : Rule) (p : Spot) (g : Sketch) : Type 0 where
   pub root : g.root ≡ Some r
   pub here : g.outline.end ≡ p.at
@@ -106,7 +106,7 @@ pub record Opened (most : ℕ) (m : Kind) (seen : List Seen) (i : ℕ) (g : Sket
   pub is : IsOf most g.outline tree
   pub ahead : i ≤ g.outline.end
 
--- Whatever the first tree is, so it grows.
+-- Whatever the first tree is, it grows in this way.
 pub record GrowsOn (most : ℕ) (r : Rule) (seen : List Seen) (o : Outline) (g : Sketch) : Type 0 where
   pub grown : (t : Tree) → IsOf most o t → (u : Tree) × GrowsBy most r t (drop o.end seen) g.root u (drop g.outline.end seen) × IsOf most g.outline u
   pub ahead : o.end ≤ g.outline.end

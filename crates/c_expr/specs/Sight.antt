@@ -1,10 +1,10 @@
--- How a range is seen, from its last token on.
+-- How a range is seen, from its last token backwards.
 use Rattle.std.specs.Prelude.{ℕ, ◌-◌, ◌==◌, Bool, true, false, Option, Some, None, IsTrue, if◌then◌else◌, List, slice_get}
 use Rattle.c_terms.specs.declared.token.Token.{Token}
 use Rattle.c_rows.specs.Seen.{Seen}
 use Rattle.c_rows.specs.Range.{leads_member, may_be_type, NoMember}
 
--- a test that tells whether a fact holds
+-- a test that decides whether a fact holds
 abbrev pub decided : Bool → Type 0 → Type 0
 decided true p = p
 decided false p = p → ⊥
@@ -13,7 +13,7 @@ abbrev pub led : Option Token → Bool
 led None = false
 led (Some t) = leads_member t
 
--- a member of a call's list may begin at this place
+-- whether a member of a call's list may begin at this place
 abbrev pub leads_before : List Token → ℕ → Bool
 leads_before ts i = if i == 0 then false else led (slice_get ts (i - 1))
 

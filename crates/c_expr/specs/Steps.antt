@@ -18,19 +18,19 @@ use Rattle.c_rows.specs.Seen.{Seen, front}
 use Rattle.c_rows.specs.Spells.{Spells, Runs}
 use Rattle.c_rows.specs.Growth.{Root, root_kind, root_ends, Operand}
 
--- why nothing was answered: there is nothing, or memory ran out
+-- why nothing was returned: there is nothing, or memory ran out
 abbrev pub OnFault : ParseFault → Type 0 → Type 0
 OnFault NoTree p = p
 OnFault TooDeep p = ⊥
 OnFault NoMemory p = Unit {0}
 
--- what is left of a row, the tokens from there on, and the children before
+-- what is left of a row, the tokens from there on, and the children read so far
 pub record Place : Type 0 where
   pub row : Row
   pub rest : List Seen
   pub children : List Tree
 
--- The children at q go on those at p.
+-- The children at q continue those at p.
 pub record Leads (most : ℕ) (p q : Place) : Type 0 where
   pub sound : (cs : List Tree) (ys : List Seen) → Runs q.row q.rest cs ys → (ds : List Tree) × (q.children ++ cs ≡ p.children ++ ds) × Runs p.row p.rest ds ys
   pub only : (ds : List Tree) (ys : List Seen) → Runs p.row p.rest ds ys → IsTrue (ends p.row (front ys)) → levels_of_all ds ≤ most
@@ -44,11 +44,11 @@ place row rest children = record { row = row; rest = rest; children = children }
 
 -- ---- a step of the parser
 
--- the place where a position stands
+-- the place of a position
 abbrev pub place_of : Position → Place
 place_of p = place p.row.now p.rest.now p.children
 
--- the place before a symbol behind which the row goes on as the position says
+-- the place before a symbol after which the row continues as the position says
 abbrev pub before : Symbol → Position → Place
 before s p = place (s ∷ p.row.now) p.rest.now p.children
 
@@ -61,12 +61,12 @@ pub record Sound (row : Row) (p : Position) : Type 0 where
 pub record Takes (most : ℕ) (s : Symbol) (p q : Position) : Type 0 where
   pub leads : Leads most (before s p) (place_of q)
   pub sound : Sound q.row.now q
-  -- fewer tokens are left, or as many and less of the row
+  -- fewer tokens are left, or as many tokens and less of the row
   pub smaller : 3 * length q.rest.now + weight q.row.now < 3 * length p.rest.now + weight (s ∷ p.row.now)
 
--- ---- how a tree goes on
+-- ---- how a tree grows
 
--- the rule, where its branches are of the kind
+-- the rule, if its branches are of the kind
 abbrev pub rule_of_kind : Kind → Option Rule → Option Rule
 rule_of_kind m None = None
 rule_of_kind m (Some r) = if within (kind_of r) m then Some r else None
@@ -79,7 +79,7 @@ abbrev pub takes : Family → Option Kind → Root → Bool
 takes f None q = false
 takes f (Some l) q = within (root_kind f q) l
 
--- the rule, where its first part may be a tree of this root
+-- the rule, if its first part may be a tree of this root
 abbrev pub taking : Family → Root → Option Rule → Option Rule
 taking f q None = None
 taking f q (Some r) = if takes f (left r) q then Some r else None
@@ -90,7 +90,7 @@ next_rule m q o = taking (family_of m) q (rule_of_kind m o)
 abbrev pub goes_on : Kind → Root → Class → Option Rule
 goes_on m q c = next_rule m q (tail (family_of m) c)
 
--- ---- the one answer
+-- ---- the one tree
 
 -- Every tree of the kind that begins at the tokens is this one.
 abbrev pub OnlyTree : ℕ → Kind → List Seen → Tree → List Seen → Type 0
@@ -111,11 +111,11 @@ OnlyRun most r xs cs ys = (ds : List Tree) (zs : List Seen) → Runs r xs ds zs 
 abbrev pub NoRun : ℕ → Row → List Seen → Type 0
 NoRun most r xs = (ds : List Tree) (zs : List Seen) → Runs r xs ds zs → IsTrue (ends r (front zs)) → levels_of_all ds ≤ most → ⊥
 
--- The children after those before are the one run of the row.
+-- The children after the earlier ones are the one run of the row.
 abbrev pub RunsTo : ℕ → Row → List Seen → List Tree → List Tree → List Seen → Type 0
 RunsTo most r xs before all ys = (cs : List Tree) × (all ≡ before ++ cs) × Runs r xs cs ys × OnlyRun most r xs cs ys
 
--- ---- what a tree grows by
+-- ---- by what a tree grows
 
 abbrev pub OnlyGrowth : ℕ → Rule → Tree → List Seen → List Tree → List Seen → Type 0
 OnlyGrowth most r t xs cs ys = (ds : List Tree) (zs : List Seen) → Runs (own r) xs ds zs → IsTrue (ends (own r) (front zs)) → IsTrue (allows r (t ∷ ds)) → levels (build r (t ∷ ds)) ≤ most → (cs ≡ ds) × (ys ≡ zs)
@@ -128,7 +128,7 @@ GrowsBy most r t xs q u ys = (cs : List Tree) × (q ≡ Some r) × (u ≡ build 
 
 -- ---- a branch
 
--- The tree that was made is the rule's branch over the children, with the tokens after them.
+-- The tree that was built is the rule's branch over the children, with the tokens after them.
 pub record IsBranch (r : Rule) (cs : List Tree) (ys : List Seen) (q : Root) (t : Tree) (zs : List Seen) : Type 0 where
   pub root : q ≡ Some r
   pub tree : t ≡ build r cs
@@ -138,6 +138,6 @@ pub record IsBranch (r : Rule) (cs : List Tree) (ys : List Seen) (q : Root) (t :
 abbrev pub NoBranch : ℕ → Rule → List Tree → Type 0
 NoBranch most r cs = IsTrue (allows r cs) → levels (build r cs) ≤ most → ⊥
 
--- the tree has this many levels, which is no more than the most
+-- the tree has this many levels, at most `most`
 abbrev pub HasLevels : Tree → ℕ → ℕ → Type 0
 HasLevels t n most = (n ≡ levels t) × (n ≤ most)

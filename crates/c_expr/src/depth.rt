@@ -6,7 +6,7 @@ ghost use Rattle.c_rows.specs.Depth.{opens_of, step};
 
 use c_terms::Token;
 
-/// Brackets that may be open at once.
+/// The most brackets that may be open at once.
 const MOST_OPEN: usize = 200;
 
 fn is(text: &[u8], word: &[u8]) -> bool
@@ -15,7 +15,7 @@ fn is(text: &[u8], word: &[u8]) -> bool
     text == word
 }
 
-/// The depth behind a token.
+/// Returns the depth after a token.
 fn depth_after(token: &Token, depth: usize) -> usize
     requires { depth ≤ most_open }
     ensures { result ≡ step token.now depth }
@@ -30,7 +30,7 @@ fn depth_after(token: &Token, depth: usize) -> usize
     }
 }
 
-/// More than 200 brackets are open at once.
+/// Whether more than 200 brackets are open at once.
 pub fn is_too_deep(tokens: &[Token]) -> bool
     ensures { IsTrue result ↔ (most_open < opens_of tokens.now) }
 {

@@ -1,4 +1,4 @@
-// Where members end, from the last token on.
+// Where members end, from the last token backwards.
 ghost use Rattle.std.specs.Prelude.{◌≡◌, [], reverse, OnOk};
 ghost use Rattle.c_rows.specs.Scan.{turn};
 ghost use Rattle.c_expr.specs.Ends.{passed, end_at};
@@ -6,16 +6,16 @@ ghost use Rattle.c_expr.specs.Ends.{passed, end_at};
 use c_rows::{Class, Turn, turn_at};
 use std::alloc::{AllocError, Global};
 
-/// The class of the first `?`, comma or closing bracket behind a place, for each number of brackets that are open there.
+/// The class of the first `?`, comma or closing bracket after a place, for each number of brackets that are open there.
 /// The place moves towards the first token.
 #[derive(Drop)]
 pub struct Ends {
-    /// The class for the largest number of brackets first. For larger ones it is the end of the tokens.
+    /// The classes, that for the largest number of brackets first. For larger numbers the class is the end of the tokens.
     classes: Vec<Class>,
 }
 
 impl Ends {
-    /// At the end of the tokens. Takes no memory.
+    /// Returns the state at the end of the tokens. Takes no memory.
     pub fn at_end(alloc: Global) -> Ends
         ensures { result.classes.items ≡ [] }
     {
@@ -24,7 +24,7 @@ impl Ends {
         }
     }
 
-    /// Moves the place before a token of this class. Where memory is refused, nothing is said of what stands there.
+    /// Moves the place to before a token of this class. If memory is refused, the state is unspecified.
     pub fn pass(&mut self, class: Class) -> Result<(), AllocError>
         ensures { OnOk result (reverse self.new.classes.items
             ≡ passed (turn class) class (reverse self.old.classes.items)) }
@@ -43,7 +43,7 @@ impl Ends {
         Ok(())
     }
 
-    /// The class where no bracket is open. Takes no memory.
+    /// Returns the class for no open bracket. Takes no memory.
     pub fn nearest(&self) -> Class
         ensures { result ≡ end_at (reverse self.now.classes.items) 0 }
     {

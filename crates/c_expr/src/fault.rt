@@ -1,17 +1,17 @@
-// Why a parser answers no tree.
+// Why a parser returns no tree.
 ghost use Rattle.std.specs.Prelude.{◌≡◌};
 
 use c_terms::NoMemory;
 use std::alloc::{AllocError, AllocFailed};
 
-/// Why a parser answers no tree. A range that is too deep is reported as such, whatever else is wrong with it.
+/// Why a parser returns no tree. A range that is too deep is reported as such, whatever else is wrong with it.
 #[derive(Clone, Copy, Debug, PartialEq, Eq)]
 pub enum ParseFault {
     /// The range is not too deep, and no tree spells it.
     NoTree,
     /// More than 200 brackets are open at once.
     TooDeep,
-    /// Memory was refused. This is the one answer that a caller cannot foresee.
+    /// Memory was refused. This is the one result that a caller cannot foresee.
     NoMemory,
 }
 

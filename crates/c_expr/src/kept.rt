@@ -8,7 +8,7 @@ ghost use Rattle.c_expr.specs.Outlines as outlines;
 use c_rows::{Facts, Kind, within};
 use std::alloc::{AllocError, Global};
 
-/// A tree that is not made: its facts, how many levels it has, and the place behind its last token.
+/// A tree that is not built: its facts, the number of its levels, and the place after its last token.
 #[derive(Clone, Copy)]
 pub struct Outline {
     pub facts: Facts,
@@ -16,27 +16,27 @@ pub struct Outline {
     pub end: usize,
 }
 
-/// The one tree of the kind that begins at the place and has at most so many levels, or that there is none.
+/// The one tree of the kind that begins at the place and has at most `most` levels, or the fact that there is none.
 #[derive(Clone, Copy)]
 pub struct Entry {
     pub at: usize,
     pub kind: Kind,
     pub most: u16,
     pub found: Option<Outline>,
-    /// The number of the entry before of the same place, from 1 on, or 0.
+    /// The number of the previous entry of the same place, counted from 1, or 0 if there is none.
     before: usize,
 }
 
 /// What is known of the trees that begin at places.
 #[derive(Drop)]
 pub struct Kept {
-    /// For each place the number of its last entry, from 1 on, or 0.
+    /// For each place the number of its last entry, counted from 1, or 0 if there is none.
     last: Vec<usize>,
     pub entries: Vec<Entry>,
 }
 
 impl Kept {
-    /// Of no place. Takes no memory.
+    /// Returns an empty record, without places or entries. Takes no memory.
     pub fn nothing(alloc: Global) -> Kept
         ensures { result.entries.items ≡ [] }
     {
@@ -46,7 +46,7 @@ impl Kept {
         }
     }
 
-    /// Makes room for so many places. Where memory is refused, nothing is lost.
+    /// Extends the record to this many places. If memory is refused, no entry is lost.
     pub fn reach(&mut self, places: usize) -> Result<(), AllocError>
         ensures { self.new.entries.items ≡ self.old.entries.items }
     {
@@ -56,8 +56,8 @@ impl Kept {
         Ok(())
     }
 
-    /// What is known of the trees of the kind that begin at the place and have at most so many levels. Takes no memory,
-    /// and a step for each entry of the place.
+    /// Returns what is known of the trees of the kind that begin at the place and have at most `most` levels. Takes no
+    /// memory, and one step for each entry of the place.
     pub fn recall(&self, most: u16, kind: Kind, at: usize) -> Option<Option<Outline>>
         ensures { IfSome result (λ known. (from : ℕ) (seen : List view.Seen)
             → AreRight from seen self.now.entries.items → Known most kind seen at known) }
@@ -79,7 +79,7 @@ impl Kept {
         None
     }
 
-    /// Keeps what was found of the trees of the kind that begin at the place and have at most so many levels.
+    /// Keeps what was found of the trees of the kind that begin at the place and have at most `most` levels.
     pub fn keep(
         &mut self,
         most: u16,
@@ -105,14 +105,14 @@ impl Kept {
     }
 }
 
-/// The trees of the one kind are those of the other.
+/// Whether both kinds have the same trees.
 fn is_same(kind: Kind, other: Kind) -> bool
     ensures { result ≡ kinds.within kind other && kinds.within other kind }
 {
     within(kind, other) && within(other, kind)
 }
 
-/// The tree, where it has at most so many levels.
+/// Returns the tree if it has at most `most` levels.
 fn low(most: u16, found: Option<Outline>) -> Option<Outline>
     ensures { result ≡ outlines.low most found }
 {

@@ -1,4 +1,4 @@
-// What holds of the trees of ranges, and no single call shows.
+// What holds of the trees of ranges but is not the contract of any single call.
 ghost use Rattle.std.specs.Prelude.{◌≡◌, IsTrue, List};
 ghost use Rattle.c_terms.specs.declared.token.Token.{Token};
 ghost use Rattle.c_terms.specs.declared.tree.Tree.{Tree};

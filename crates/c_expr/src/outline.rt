@@ -1,5 +1,5 @@
-// The reader that makes no trees: whether a tree begins at a place, and where it ends. It goes by the rows as the parser
-// does, and keeps what stands in each bracket, so that what is in brackets is not read again with what is around them.
+// The reader that builds no trees: whether a tree begins at a place, and where it ends. It follows the rows as the parser
+// does, and keeps what it finds in each bracket, so that this is not read again with what is around the bracket.
 ghost use Rattle.std.specs.Prelude.{◌≡◌, ◌∷◌, [], drop, IsTrue, IfOk, IfErr, Some, None};
 ghost use Rattle.c_rows.specs.Choice.{row_fine};
 ghost use Rattle.c_rows.specs.Kinds.{family_of, has_leaf};
@@ -16,14 +16,14 @@ use c_rows::{
 };
 use std::alloc::Global;
 
-/// The tokens from a place on.
+/// Returns the tokens from a place on.
 pub fn rest_at<'a, 't>(seen: &'a [Seen<'t>], at: usize) -> &'a [Seen<'t>]
     ensures { result.now ≡ drop at seen.now }
 {
     if at < seen.len() { &seen[at..] } else { &[] }
 }
 
-/// What is in brackets, or an alternative of a pattern, begins behind a token of this class.
+/// Whether what is in brackets, or an alternative of a pattern, begins after a token of this class.
 fn opens_group(class: Class) -> bool {
     matches!(
         class,
@@ -41,7 +41,7 @@ fn opens_group(class: Class) -> bool {
     )
 }
 
-/// A list in braces, or type words with one, begin with a token of this class.
+/// Whether a list in braces, or type words with one, begin with a token of this class.
 fn begins_braces(class: Class) -> bool {
     matches!(
         class,
@@ -49,7 +49,7 @@ fn begins_braces(class: Class) -> bool {
     )
 }
 
-/// What is in brackets begins at this place.
+/// Whether what is in brackets begins at this place.
 fn begins_group(seen: &[Seen], at: usize) -> bool {
     if begins_braces(front(rest_at(seen, at))) {
         return true;
@@ -57,17 +57,18 @@ fn begins_group(seen: &[Seen], at: usize) -> bool {
     at > 0 && opens_group(front(rest_at(seen, at - 1)))
 }
 
-/// A place in a row: what is left of the row, the place of the next token, and the children before, which are not made.
+/// A place in a row: what is left of the row, the place of the next token, and the facts of the children so far, which are
+/// not built.
 #[derive(Drop)]
 pub struct Spot {
     pub row: &'static [Symbol],
     pub at: usize,
     pub parts: Vec<Facts>,
-    /// How many levels the children have.
+    /// The number of levels that the children have.
     pub deepest: u16,
 }
 
-/// Goes over a token of the word. Behind it the row goes on as `spot` says.
+/// Passes a token of the word. After it the row continues as `spot` says.
 fn pass_word(most: u16, seen: &[Seen], word: Word, mut spot: Spot) -> Result<Spot, ParseFault>
     requires { IsTrue (row_fine (Symbol.Word word ∷ spot.row.now)) }
     ensures steps { IfOk result (Steps most seen.now (Symbol.Word word) spot) }
@@ -87,7 +88,7 @@ fn pass_word(most: u16, seen: &[Seen], word: Word, mut spot: Spot) -> Result<Spo
     }
 }
 
-/// Goes on in the one way of the fork that the front of the tokens allows. Passes nothing.
+/// Continues in the one way of the fork that the front of the tokens allows. Passes nothing.
 fn pass_way(most: u16, seen: &[Seen], fork: Fork, mut spot: Spot) -> Result<Spot, ParseFault>
     requires { IsTrue (row_fine (Symbol.Fork fork ∷ spot.row.now)) }
     ensures steps { IfOk result (Steps most seen.now (Symbol.Fork fork) spot) }
@@ -103,7 +104,7 @@ fn pass_way(most: u16, seen: &[Seen], fork: Fork, mut spot: Spot) -> Result<Spot
     }
 }
 
-/// Goes over a tree of the kind. Behind it the row goes on as `spot` says.
+/// Passes a tree of the kind. After it the row continues as `spot` says.
 #[cycle(outline)]
 fn pass_child(
     alloc: Global,
@@ -128,7 +129,7 @@ fn pass_child(
     Ok(spot)
 }
 
-/// Goes over a member of a call's list. Behind it the row goes on as `spot` says.
+/// Passes a member of a call's list. After it the row continues as `spot` says.
 #[cycle(outline)]
 fn pass_argument(
     alloc: Global,
@@ -153,7 +154,7 @@ fn pass_argument(
     Ok(spot)
 }
 
-/// Goes over the part that the symbol asks for. Behind it the row goes on as `spot` says.
+/// Passes the part that the symbol asks for. After it the row continues as `spot` says.
 #[cycle(outline)]
 fn pass(
     alloc: Global,
@@ -179,7 +180,7 @@ fn pass(
     }
 }
 
-/// Goes over what is left of a row.
+/// Passes what is left of a row.
 #[cycle(outline)]
 fn pass_row(
     alloc: Global,
@@ -202,14 +203,14 @@ fn pass_row(
     Ok(spot)
 }
 
-/// A tree that is not made, with its rule if it is no leaf.
+/// A tree that is not built, with its rule unless it is a leaf.
 #[derive(Clone, Copy)]
 pub struct Sketch {
     pub root: Option<Rule>,
     pub outline: Outline,
 }
 
-/// The branch of the rule over all that was passed, where it is allowed and has at most so many levels.
+/// Returns the branch of the rule over all that was passed, if it is allowed and fits into the levels.
 fn finish(most: u16, rule: Rule, spot: &Spot) -> Result<Sketch, ParseFault>
     ensures found { IfOk result (Ends most rule spot.now) }
     ensures refused { IfErr result (λ e. NoEnd most rule spot.now e) }
@@ -231,7 +232,7 @@ fn finish(most: u16, rule: Rule, spot: &Spot) -> Result<Sketch, ParseFault>
     })
 }
 
-/// The first tree from which one of the kind grows: a leaf, or a branch that begins with a token of its own.
+/// Returns the first tree from which one of the kind grows: a leaf, or a branch that begins with a token of its own.
 #[cycle(outline)]
 fn begin(
     alloc: Global,
@@ -268,7 +269,7 @@ fn begin(
     finish(most, rule, &spot)
 }
 
-/// The leaf at a place, which is by itself a tree of the kind.
+/// Returns the leaf at a place, which is by itself a tree of the kind.
 fn sketch_leaf(most: u16, kind: Kind, seen: &[Seen], at: usize) -> Result<Sketch, ParseFault>
     requires { IsTrue (has_leaf (family_of kind) (front (drop at seen.now))) }
     ensures found { IfOk result (Opened most kind seen.now at) }
@@ -287,7 +288,7 @@ fn sketch_leaf(most: u16, kind: Kind, seen: &[Seen], at: usize) -> Result<Sketch
     }
 }
 
-/// The tree with what follows it by the rule.
+/// Returns the rule's branch of the tree and of what follows it.
 #[cycle(outline)]
 fn grow(
     alloc: Global,
@@ -318,7 +319,7 @@ fn grow(
     finish(most, rule, &spot)
 }
 
-/// The tree of the kind that begins at a place.
+/// Returns the tree of the kind that begins at a place.
 #[cycle(outline)]
 fn read(
     alloc: Global,
@@ -341,8 +342,8 @@ fn read(
     Ok(sketch.outline)
 }
 
-/// The tree of the kind that begins at a place. What is in brackets is kept, if its place is `from` or behind, and is not
-/// read again.
+/// Returns the tree of the kind that begins at a place. Results for what is in brackets at `from` or later are kept, and
+/// are not read again.
 #[cycle(outline)]
 pub fn outline(
     alloc: Global,

@@ -1,4 +1,4 @@
-// The parser, which goes by the rows.
+// The parser, which follows the rows.
 ghost use Rattle.std.specs.Prelude.{◌≡◌, ◌∷◌, [], IsTrue, IfOk, IfErr};
 ghost use Rattle.c_terms.specs.Trees.{levels, levels_of_all};
 ghost use Rattle.c_rows.specs.Kinds.{family_of, has_leaf};
@@ -16,7 +16,7 @@ use c_terms::Tree;
 use sqlite_items::Items;
 use std::alloc::Global;
 
-/// The rule, where its branches are of the kind.
+/// Returns the rule if its branches are of the kind.
 fn rule_of_kind(kind: Kind, rule: Option<Rule>) -> Option<Rule>
     ensures { result ≡ rule_of_kind kind rule }
 {
@@ -32,14 +32,14 @@ fn rule_of_kind(kind: Kind, rule: Option<Rule>) -> Option<Rule>
     }
 }
 
-/// The rule of a tree of the kind that begins with a token of its own.
+/// Returns the rule of a tree of the kind that begins with a token of its own, if a token of this class begins one.
 pub fn headed(kind: Kind, class: Class) -> Option<Rule>
     ensures { result ≡ headed_by kind class }
 {
     rule_of_kind(kind, head(family_of(kind), class))
 }
 
-/// The rule by which a tree goes on to one of the kind, where `root` is its own.
+/// Returns the rule by which a tree whose own rule is `root` grows into one of the kind, if there is one.
 pub fn goes_on(kind: Kind, root: Option<Rule>, class: Class) -> Option<Rule>
     ensures { result ≡ goes_on kind root class }
 {
@@ -57,17 +57,17 @@ pub fn goes_on(kind: Kind, root: Option<Rule>, class: Class) -> Option<Rule>
     }
 }
 
-/// A place in a row: what is left of the row, the tokens from there on, and the children before.
+/// A place in a row: what is left of the row, the tokens from there on, and the children read so far.
 #[derive(Drop)]
 struct Position<'a, 't> {
     row: &'static [Symbol],
     rest: &'a [Seen<'t>],
     children: Items<Tree>,
-    /// How many levels the children have.
+    /// The number of levels that the children have.
     deepest: u16,
 }
 
-/// Reads a token of the word. Behind it the row goes on as `at` says.
+/// Reads a token of the word. After it the row continues as `at` says.
 fn take_word<'a, 't>(
     alloc: Global,
     most: u16,
@@ -93,7 +93,7 @@ fn take_word<'a, 't>(
     }
 }
 
-/// Goes on in the one way of the fork that the front of the tokens allows. Reads nothing.
+/// Continues in the one way of the fork that the front of the tokens allows. Reads nothing.
 fn take_way<'a, 't>(
     most: u16,
     fork: Fork,
@@ -113,7 +113,7 @@ fn take_way<'a, 't>(
     }
 }
 
-/// Reads a tree of the kind. Behind it the row goes on as `at` says.
+/// Reads a tree of the kind. After it the row continues as `at` says.
 #[cycle(parse)]
 fn take_child<'a, 't>(
     alloc: Global,
@@ -133,8 +133,8 @@ fn take_child<'a, 't>(
     Ok(at)
 }
 
-/// Reads a member of a call's list: an expression without commas, or a type where none can stand. Behind it the row goes
-/// on as `at` says.
+/// Reads a member of a call's list: an expression without commas, or a type if there can be no such expression. After it
+/// the row continues as `at` says.
 #[cycle(parse)]
 fn take_argument<'a, 't>(
     alloc: Global,
@@ -153,7 +153,7 @@ fn take_argument<'a, 't>(
     Ok(at)
 }
 
-/// Reads the part that the symbol asks for, and puts it behind the children. Behind it the row goes on as `at` says.
+/// Reads the part that the symbol asks for, and appends it to the children. After it the row continues as `at` says.
 #[cycle(parse)]
 fn take<'a, 't>(
     alloc: Global,
@@ -173,7 +173,7 @@ fn take<'a, 't>(
     }
 }
 
-/// Reads what is left of a row, and puts its parts behind the children.
+/// Reads what is left of a row, and appends its parts to the children.
 #[cycle(parse)]
 fn run<'a, 't>(
     alloc: Global,
@@ -195,7 +195,7 @@ fn run<'a, 't>(
     Ok(at)
 }
 
-/// A tree, its rule if it is no leaf, and the tokens after it.
+/// A tree, its rule unless it is a leaf, its levels, and the tokens after it.
 #[derive(Drop)]
 pub struct Grown<'a, 't> {
     pub root: Option<Rule>,
@@ -204,7 +204,8 @@ pub struct Grown<'a, 't> {
     pub rest: &'a [Seen<'t>],
 }
 
-/// No children, with room for those of a short branch of the rule: most branches have as many as their row has parts.
+/// Returns an empty list of children, with capacity for a short branch of the rule: most branches have as many children as
+/// their row has parts.
 fn room(alloc: Global, rule: Rule) -> Result<Items<Tree>, ParseFault>
     ensures none { IfOk result (λ children. children ≡ []) }
     ensures fault { IfErr result (λ fault. fault ≡ ParseFault.NoMemory) }
@@ -213,7 +214,7 @@ fn room(alloc: Global, rule: Rule) -> Result<Items<Tree>, ParseFault>
     Ok(Items::from_vec(children))
 }
 
-/// The branch of the rule over all that was read, where it is allowed and has at most so many levels.
+/// Returns the branch of the rule over all that was read, if it is allowed and fits into the levels.
 fn finish<'a, 't>(
     most: u16,
     rule: Rule,
@@ -238,7 +239,7 @@ fn finish<'a, 't>(
     })
 }
 
-/// The leaf at the front of the tokens, which is by itself a tree of the kind.
+/// Returns the leaf at the front of the tokens, which is by itself a tree of the kind.
 fn take_leaf<'a, 't>(
     alloc: Global,
     most: u16,
@@ -265,7 +266,7 @@ fn take_leaf<'a, 't>(
     }
 }
 
-/// The first tree from which one of the kind grows: a leaf, or a branch that begins with a token of its own.
+/// Returns the first tree from which one of the kind grows: a leaf, or a branch that begins with a token of its own.
 #[cycle(parse)]
 fn operand<'a, 't>(
     alloc: Global,
@@ -299,7 +300,7 @@ fn operand<'a, 't>(
     finish(most, rule, read)
 }
 
-/// The tree, of this height, with what follows it by the rule.
+/// Returns the rule's branch of the tree, which has this height, and of what follows it.
 #[cycle(parse)]
 fn grow<'a, 't>(
     alloc: Global,
@@ -329,7 +330,7 @@ fn grow<'a, 't>(
     finish(most, rule, read)
 }
 
-/// The tree of the kind at the front of the tokens, and the tokens after it.
+/// Returns the tree of the kind at the front of the tokens, and the tokens after it.
 #[cycle(parse)]
 pub fn parse<'a, 't>(
     alloc: Global,

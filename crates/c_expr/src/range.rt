@@ -17,7 +17,7 @@ use c_rows::{Class, Kind, Seen};
 use c_terms::{Names, Token, Tree};
 use std::alloc::Global;
 
-/// The one tree of the kind that spells a range as it is seen, all of it.
+/// Returns the one tree of the kind that spells the whole range as it is seen.
 fn parse_seen<'a, 't>(alloc: Global, kind: Kind, seen: &'a [Seen<'t>]) -> Result<Tree, ParseFault>
     requires { IsTrue (stops kind Class.End) }
     ensures found { IfOk result (λ t. Spells kind seen.now t [] × (levels t ≤ most_levels)) }
@@ -33,7 +33,7 @@ fn parse_seen<'a, 't>(alloc: Global, kind: Kind, seen: &'a [Seen<'t>]) -> Result
     Ok(found.tree)
 }
 
-/// The one tree of the kind that spells all the tokens, which are not too deep.
+/// Returns the one tree of the kind that spells all the tokens. Doesn't check the depth of brackets.
 fn parse_shallow(
     alloc: Global,
     kind: Kind,
@@ -51,12 +51,13 @@ fn parse_shallow(
     parse_seen(alloc, kind, seen.as_slice())
 }
 
-/// The one tree of the kind that spells the tokens `from..to`: any kind but those that are read within a list, which are
-/// Args, TypeArg, Params, Param, InitItem, NamelessBits, EnumName and Enumerator. Linear but for the looks of c_rows at a
-/// bracket that begins a type or follows a name, each of which walks to the bracket that closes it. Behind each `(` and `,`
-/// what may be a type by its first three tokens and by its end is read beforehand, without a tree; what is in brackets is
-/// kept, and is read again only for another kind or for more levels. Recurses five calls deep for each of at most 1,000
-/// levels, beforehand six.
+/// Returns the one tree of the kind that spells the tokens `from..to`. The kind is any but those that are read within a
+/// list: Args, TypeArg, Params, Param, InitItem, NamelessBits, EnumName and Enumerator.
+///
+/// Linear, except that c_rows, at a bracket that begins a type or follows a name, walks ahead to the bracket that closes
+/// it. What follows `(` or `,` and may be a type by its first three tokens and by its end is read beforehand, without a
+/// tree; results for what is in brackets are kept, so it is read again only for another kind or for more levels. Recurses
+/// five calls deep for each of at most 1,000 levels, and six when reading beforehand.
 pub fn parse_kind(
     alloc: Global,
     kind: Kind,
@@ -77,7 +78,7 @@ pub fn parse_kind(
     parse_shallow(alloc, kind, range, names)
 }
 
-/// The one expression that spells the tokens `from..to`: C11 6.5, with the forms of patterns. Its cost is that of
+/// Returns the one expression that spells the tokens `from..to` (C11 6.5), with the forms of patterns. Costs as much as
 /// [`parse_kind`].
 pub fn parse_expr(
     alloc: Global,
@@ -93,7 +94,7 @@ pub fn parse_expr(
     parse_kind(alloc, Kind::Expr, tokens, names, from, to)
 }
 
-/// The one type name that spells the tokens `from..to`: C11 6.7.7. Its cost is that of [`parse_kind`].
+/// Returns the one type name that spells the tokens `from..to` (C11 6.7.7). Costs as much as [`parse_kind`].
 pub fn parse_type_name(
     alloc: Global,
     tokens: &[Token],
@@ -108,7 +109,7 @@ pub fn parse_type_name(
     parse_kind(alloc, Kind::TypeName, tokens, names, from, to)
 }
 
-/// The one Specs that spells the tokens `from..to`, the declaration specifiers of C11 6.7. Its cost is that of
+/// Returns the one Specs that spells the tokens `from..to`, the declaration specifiers of C11 6.7. Costs as much as
 /// [`parse_kind`].
 pub fn parse_specs(
     alloc: Global,
@@ -124,8 +125,8 @@ pub fn parse_specs(
     parse_kind(alloc, Kind::Specs, tokens, names, from, to)
 }
 
-/// The one declarator that spells the tokens `from..to`, with a name or without: C11 6.7.6 and 6.7.7. Its cost is that
-/// of [`parse_kind`].
+/// Returns the one declarator, with or without a name, that spells the tokens `from..to` (C11 6.7.6 and 6.7.7). Costs as
+/// much as [`parse_kind`].
 pub fn parse_declarator(
     alloc: Global,
     tokens: &[Token],
@@ -140,7 +141,7 @@ pub fn parse_declarator(
     parse_kind(alloc, Kind::Declarator, tokens, names, from, to)
 }
 
-/// The one list of initialisers in braces that spells the tokens `from..to`: C11 6.7.9. Its cost is that of
+/// Returns the one list of initialisers in braces that spells the tokens `from..to` (C11 6.7.9). Costs as much as
 /// [`parse_kind`].
 pub fn parse_init(
     alloc: Global,

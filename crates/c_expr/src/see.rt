@@ -1,4 +1,4 @@
-// A range as it is seen: each token with its class, and with a mark where a type is a member of a call's list.
+// A range as it is seen: each token with its class, and with a mark if a type begins there as a member of a call's list.
 ghost use Rattle.std.specs.Prelude.{◌≡◌, ◌+◌, ◌<◌, IfOk, IfErr, false, length, drop};
 ghost use Rattle.c_rows.specs.Range.{NoMember, AreSeenAs};
 ghost use Rattle.c_expr.specs.Outlines.{AreRight};
@@ -13,10 +13,10 @@ use c_rows::{Class, Kind, Seen, ends_member, front, group_at, leads_member, look
 use c_terms::{Names, Token};
 use std::alloc::Global;
 
-/// Levels of branches that a tree may have.
+/// The most levels of branches that a tree may have.
 pub const MOST_LEVELS: u16 = 1000;
 
-/// No expression without commas begins here and ends where a member of a call's list may end.
+/// Whether no expression without commas begins at `at` and ends where a member of a call's list may end.
 fn has_no_member(
     alloc: Global,
     kept: &mut Kept,
@@ -45,7 +45,7 @@ fn has_no_member(
     }
 }
 
-/// A member of a call's list may begin at this place.
+/// Whether a member of a call's list may begin at this place.
 fn leads_before(tokens: &[Token], i: usize) -> bool
     ensures { result ≡ leads_before tokens.now i }
 {
@@ -58,8 +58,8 @@ fn leads_before(tokens: &[Token], i: usize) -> bool
     }
 }
 
-/// The first token is marked: a member of a call's list may begin there, by the first three tokens and by its end it may
-/// be a type, and no expression can be that member.
+/// Whether the token at `at` is marked: a member of a call's list may begin there, it may be a type by its first three
+/// tokens and by its end, and no expression can be that member.
 fn is_marked(
     alloc: Global,
     kept: &mut Kept,
@@ -81,7 +81,7 @@ fn is_marked(
     has_no_member(alloc, kept, seen, at)
 }
 
-/// As many tokens, none of which is seen yet.
+/// Returns a list as long as the tokens, with placeholder classes and no marks.
 fn unseen<'t>(alloc: Global, tokens: &'t [Token]) -> Result<Vec<Seen<'t>>, ParseFault>
     ensures value { IfOk result (λ seen. length seen.items ≡ length tokens.now) }
     ensures fault { IfErr result (λ fault. fault ≡ ParseFault.NoMemory) }
@@ -93,10 +93,11 @@ fn unseen<'t>(alloc: Global, tokens: &'t [Token]) -> Result<Vec<Seen<'t>>, Parse
     Ok(seen)
 }
 
-/// The tokens as they are seen, from the last one on. Linear but for the looks at brackets (c_rows): behind each `(` and
-/// `,`, whether a call's list is there or not, what may be a type by its first three tokens and by its end is gone over as
-/// an expression, but what is in brackets is kept, so it is gone over once for each kind that is asked of it, and again
-/// only for more levels.
+/// Returns the tokens as they are seen, working from the last one backwards.
+///
+/// Linear, except for the walks of c_rows to closing brackets. What follows `(` or `,`, in a call's list or not, and may
+/// be a type by its first three tokens and by its end is read as an expression beforehand. Results for what is in
+/// brackets are kept, so it is read once for each kind that is asked for, and again only for more levels.
 pub fn see<'t>(
     alloc: Global,
     names: &Names,

@@ -1,20 +1,20 @@
-// Whether branches have a `;`, from the last token on.
+// Whether branches have a `;`, from the last token backwards.
 ghost use Rattle.std.specs.Prelude.{◌≡◌, [], reverse, OnOk};
 ghost use Rattle.c_expr.specs.Semicolons.{passed, flag_at};
 
 use c_rows::Group;
 use std::alloc::{AllocError, Global};
 
-/// Whether a `;` stands in the first branch behind a place, in no group, for each number of groups that are open there.
+/// Whether the first branch after a place has a `;` outside all groups, for each number of groups that are open there.
 /// The place moves towards the first token.
 #[derive(Drop)]
 pub struct Semicolons {
-    /// The answer for the largest number of groups first. For larger ones there is none.
+    /// The flags, that for the largest number of groups first. For larger numbers there is no `;`.
     flags: Vec<bool>,
 }
 
 impl Semicolons {
-    /// At the end of the tokens. Takes no memory.
+    /// Returns the state at the end of the tokens. Takes no memory.
     pub fn at_end(alloc: Global) -> Semicolons
         ensures { result.flags.items ≡ [] }
     {
@@ -23,7 +23,7 @@ impl Semicolons {
         }
     }
 
-    /// Moves the place before such a token. Where memory is refused, nothing is said of what stands there.
+    /// Moves the place to before a token of this group. If memory is refused, the state is unspecified.
     pub fn pass(&mut self, group: Group) -> Result<(), AllocError>
         ensures { OnOk result (reverse self.new.flags.items
             ≡ passed group (reverse self.old.flags.items)) }
@@ -46,7 +46,7 @@ impl Semicolons {
         Ok(())
     }
 
-    /// The answer where no group is open. Takes no memory.
+    /// Returns the flag for no open group. Takes no memory.
     pub fn nearest(&self) -> bool
         ensures { result ≡ flag_at (reverse self.now.flags.items) 0 }
     {

@@ -28,7 +28,7 @@ pub core-Branch : (l : Label) (cs : List Tree) → core (Branch l cs) ≡ option
 core-Branch l cs = ap core (sym (rolls-Branch l cs)) ∙ fold-roll-Tree (Option (List ℕ)) core_step _
     ∙ ap (λ n. option_and_then (λ i. option_flatten (slice_get (map core cs) i)) (core_place l n)) (length-cores cs) ∙ step-at cs (core_place l (length cs))
 
--- what the child that has the name gives is what the whole gives
+-- the name in the child that has it is the name of the whole
 pub core-found : (l : Label) (cs : List Tree) (n place : ℕ) (o : Option Tree) → n ≡ length cs → Some place ≡ core_place l n → slice_get cs place ≡ o → core (Branch l cs) ≡ option_and_then core o
 core-found l cs n place o e p g =
     core-Branch l cs ∙ ap (λ k. option_and_then (λ i. option_and_then core (slice_get cs i)) (core_place l k)) (sym e)

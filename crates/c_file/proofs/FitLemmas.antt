@@ -1,5 +1,5 @@
--- How many children the branches of a derived tree have: a row takes a token for each, but for parts that may be empty,
--- and no two of these stand side by side.
+-- How many children the branches of a derived tree have: a row takes a token for each, except for parts that may be empty,
+-- and no two of these are adjacent.
 use Rattle.std.proofs.Common.{◌≡◌, ℕ, suc, ◌+◌, ◌-◌, ◌*◌, ◌≤◌, refl, sym, ap, subst, ◌∙◌, arith, List, [], ◌∷◌, map, length, drop}
 use Rattle.std.specs.Prelude.{Bool, true, false, ◌&&◌, ◌||◌, IsTrue, if◌then◌else◌, nat_le, nat_lt, All}
 use Rattle.std.specs.List.{list_all, slice_range}
@@ -61,7 +61,7 @@ steady_row : (r : Rule) → IsTrue (steady (row r))
 steady_row rule.Paren = refl
 steady_row _ = refl
 
--- how many parts a row has at least
+-- the least number of parts that a row has
 abbrev parts_at_least : Row → ℕ
 parts_at_least [] = 0
 parts_at_least (symbol.Word w ∷ ps) = parts_at_least ps + 1
@@ -80,7 +80,7 @@ least_one : (b : Bool) → (if b then 1 else 0) ≤ 1
 least_one true = omega arith
 least_one false = omega arith
 
--- ---- how many tokens and children a derived row has
+-- ---- the numbers of tokens and children that a derived row has
 
 step-child : (b : Bool) (n a c k : ℕ) → IsTrue (b || nat_le n 1) → n ≤ 2 → a + (if b then 1 else 0) ≤ c → k ≤ 3 * a + n → suc k ≤ 3 * c + (if b then 0 else 2)
 step-child true n a c k h small le w = omega arith

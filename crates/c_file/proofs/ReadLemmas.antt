@@ -56,15 +56,15 @@ span-within from (s ∷ spans) to zero d h lt =
     let r = stand-le s.last spans to h.2 in (omega (arith, h.0, h.1), r)
 span-within from (s ∷ spans) to (suc i) d h lt = span-within s.last spans to i d h.2 (omega (arith, lt))
 
--- each span rises
+-- no span ends before it begins
 pub span-rises : (spans : List ItemSpan) (to : ℕ) (i : ℕ) (d : ItemSpan) → StandEndToEnd 0 spans to → i < length spans → (get_or spans i d).first ≤ (get_or spans i d).last
 span-rises spans to i d h lt = (span-within 0 spans to i d h lt).0
 
--- and none goes beyond the end
+-- and no span goes beyond the end
 pub span-ends : (spans : List ItemSpan) (to : ℕ) (i : ℕ) (d : ItemSpan) → StandEndToEnd 0 spans to → i < length spans → (get_or spans i d).last ≤ to
 span-ends spans to i d h lt = (span-within 0 spans to i d h lt).1
 
--- one more item is read: what is left behind it is what is left
+-- one more item is read: what remains after it is what remains of all
 pub reads-more : (v : VisibleTokens) (start names more : Names) (spans : List ItemSpan) (i : ℕ) (d : ItemSpan) (items new : List Item) (tokens : List Token) (item : Item)
     → ((rest : List Item) → ReadsFrom v names (drop i spans) rest → ReadsFrom v start spans (items ++ rest))
     → i < length spans → tokens ≡ tokens_in v (get_or spans i d) → IsReading names tokens (get_or spans i d) item
@@ -76,7 +76,7 @@ reads-more v start names more spans i d items new tokens item h lt et r em en re
     let both : ReadsFrom v names (drop i spans) (item ∷ rest) = subst (λ (ss : List ItemSpan). ReadsFrom v names ss (item ∷ rest)) (sym (drop_more spans i d lt)) (first, later) in
     subst (λ (is : List Item). ReadsFrom v start spans is) (sym (ap (λ xs. xs ++ rest) en ∙ append_assoc items (item ∷ []) rest)) (h (item ∷ rest) both)
 
--- behind the last span nothing is left
+-- after the last span nothing is left
 pub reads-all : (v : VisibleTokens) (start names : Names) (spans : List ItemSpan) (i : ℕ) (items : List Item)
     → ((rest : List Item) → ReadsFrom v names (drop i spans) rest → ReadsFrom v start spans (items ++ rest))
     → length spans ≤ i → ReadsFrom v start spans items

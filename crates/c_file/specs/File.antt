@@ -1,4 +1,4 @@
--- A file as contracts see it: its pieces, the numbers of those that are shown, and its items.
+-- A file as contracts see it: its pieces, the numbers of the shown pieces, and its items.
 use Rattle.std.specs.Prelude.{ℕ, List}
 use Rattle.c_lexer.specs.Pieces.{TextPiece}
 use Rattle.cpp_lines.specs.declared.reading.Item.{Item}

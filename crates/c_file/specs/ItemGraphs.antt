@@ -1,5 +1,5 @@
 -- Definitions of item_graphs.
--- What the contracts rest on, in reading order.
+-- What the contracts depend on, in reading order.
 pub mod Pool
 pub mod Made
 pub mod Trees

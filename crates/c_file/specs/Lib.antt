@@ -1,5 +1,5 @@
--- What public contracts rest on, in reading order: the limit of graphs, the tokens of an item, the names that it declares
--- as types, what it is read as, what items are like, and a file.
+-- What public contracts depend on, in reading order: the limit of graphs, the tokens of an item, the names that it declares
+-- as types, what it is read as, what items satisfy, and a file.
 
 pub mod Limits
 pub mod Tokens

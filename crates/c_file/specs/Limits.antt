@@ -1,6 +1,6 @@
 -- The limit of graphs.
 use Rattle.std.specs.Prelude.{ℕ}
 
--- nodes that the graph of an item may have
+-- the most nodes that the graph of an item may have
 abbrev pub most_nodes : ℕ
 most_nodes = 20000

@@ -25,7 +25,7 @@ use Rattle.c_file.specs.Typedefs.{with_declared}
 abbrev pub Spells : Names → List Token → Tree → Type 0
 Spells names tokens t = IsTreeOf kind.External names tokens t
 
--- the tokens of this span are read so under these names
+-- the tokens of this span are read as this item under these names
 abbrev pub IsReading : Names → List Token → ItemSpan → Item → Type 0
 IsReading names tokens span (Parsed t) = (opens_of tokens ≤ most_open) × Spells names tokens t × (node_count t ≤ most_nodes)
 IsReading names tokens span (Skipped s TooDeep) = (s ≡ span) × (most_open < opens_of tokens)
@@ -43,7 +43,7 @@ ReadsFrom v names [] [] = Unit {0}
 ReadsFrom v names (span ∷ spans) (item ∷ items) = IsReading names (tokens_in v span) span item × ReadsFrom v (names_after names item) spans items
 ReadsFrom v names _ _ = ⊥
 
--- the items of a text
+-- a text is read as these items
 abbrev pub Reads : List TextPiece → List Item → Type 0
 Reads pieces items = (shown : List ℕ) × AreShown pieces shown
     × ReadsFrom (record { pieces = pieces; shown = shown }) listed_names (items_of (signs_of (record { pieces = pieces; shown = shown }))) items

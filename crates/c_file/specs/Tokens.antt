@@ -9,7 +9,7 @@ use Rattle.c_lexer.specs.Pieces.{TextPiece}
 use Rattle.cpp_lines.specs.declared.span.ItemSpan.{ItemSpan}
 use Rattle.cpp_lines.specs.Visible.{VisibleTokens}
 
--- the kind and the id of a token; a piece that is shown is one
+-- the kind and the id of a piece that is a token, as every shown piece is
 abbrev pub word_of : PieceKind → TokenKind × ℕ
 word_of (Word kind id) = (kind, id)
 word_of _ = (Stray, 0)

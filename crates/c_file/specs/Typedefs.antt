@@ -1,5 +1,5 @@
--- The names that an item declares as types: where its first part is a Specs with the word `typedef`, the names at the cores
--- of its declarators (C11 6.7.8).
+-- The names that an item declares as types: the names at the cores of its declarators, if its first part is a Specs with
+-- the word `typedef` (C11 6.7.8).
 use Rattle.std.specs.Prelude.{ℕ, ◌-◌, Bool, false, List, [], ◌∷◌, length, Option, None, Some, slice_get, option_and_then, if◌then◌else◌, codes}
 use Rattle.std.specs.List.{list_any}
 use Rattle.std.specs.Option.{option_flatten}
@@ -67,7 +67,7 @@ with_some names (Some name) = with_name names name
 abbrev pub with_core : List (List ℕ) → Tree → List (List ℕ)
 with_core names t = with_some names (core t)
 
--- the names, and those that these declarators declare
+-- the names together with those that these declarators declare
 abbrev pub with_cores : List (List ℕ) → List Tree → List (List ℕ)
 with_cores names [] = names
 with_cores names (t ∷ ts) = with_cores (with_core names t) ts
@@ -80,6 +80,6 @@ abbrev pub with_declared_at : List (List ℕ) → Tree-F Tree → List (List ℕ
 with_declared_at names (Tree-F.Leaf token) = names
 with_declared_at names (Tree-F.Branch l cs) = with_declared_by names cs
 
--- the names, and those that an item declares as types
+-- the names together with those that an item declares as types
 abbrev pub with_declared : List (List ℕ) → Tree → List (List ℕ)
 with_declared names t = with_declared_at names (out-Tree t)

@@ -16,7 +16,7 @@ use sqlite_items::at;
 use std::alloc::Global;
 use std::marker::Model;
 
-/// A text with its items. Contracts see the pieces, the numbers of those that are shown, and the items.
+/// A text with its items. Contracts see the pieces, the numbers of the shown pieces, and the items.
 #[derive(Drop)]
 pub struct CFile {
     visible: Visible,
@@ -40,14 +40,14 @@ impl Model for CFile {
 }
 
 impl CFile {
-    /// The text with its pieces. Takes no memory.
+    /// Returns the text with its pieces. Takes no memory.
     pub fn lexed(&self) -> &Lexed
         ensures lexed { result.now ≡ self.now.pieces }
     {
         self.visible.lexed()
     }
 
-    /// The numbers of the pieces that are shown: the span of a skipped item is one of places in this list. Takes no
+    /// Returns the numbers of the shown pieces. The span of a skipped item is a range of places in this list. Takes no
     /// memory.
     pub fn shown(&self) -> &[u32]
         ensures shown { result.now ≡ self.now.shown }
@@ -55,7 +55,7 @@ impl CFile {
         self.visible.shown()
     }
 
-    /// The items, in the order of the text. Graphs can be made of those that have a tree. Takes no memory.
+    /// Returns the items, in the order of the text. Each item with a tree has a graph. Takes no memory.
     pub fn items(&self) -> &[Item]
         ensures items { result.now ≡ self.now.items }
         ensures fit { All IsFit result.now }
@@ -63,8 +63,8 @@ impl CFile {
         self.items.as_slice()
     }
 
-    /// The graph of item `i`, if that is there and has a tree. The one error is want of memory. Its cost is that of
-    /// [`cfg_build::build`].
+    /// Returns the graph of item `i`, or `None` if there is no such item or it has no tree. Fails only when out of memory.
+    /// Costs as much as [`cfg_build::build`].
     pub fn graph(&self, alloc: Global, i: usize) -> Result<Option<Graph<'_>>, NoMemory>
         ensures graph { IfOk result (λ graph. graph ≡ item_graph (slice_get self.now.items i)) }
     {
@@ -79,9 +79,10 @@ impl CFile {
     }
 }
 
-/// The items of a text, each read with the names that are known there; the one error is want of memory. Linear but for the
-/// parser's reading ahead and for names that are picked to collide, since they are found by a hash with a fixed seed. Takes
-/// memory for the trees, and for the tokens of one item at a time. Recurses as the parser does.
+/// Returns the text with its items, each read with the names that are known there. Fails only when out of memory.
+///
+/// Linear except for the parser's reading ahead and for names that are chosen to collide, since names are found by a hash
+/// with a fixed seed. Takes memory for the trees, and for the tokens of one item at a time. Recurses as the parser does.
 pub fn read_file(alloc: Global, lexed: Lexed) -> Result<CFile, NoMemory>
     ensures pieces { IfOk result (λ file. file.pieces ≡ lexed) }
     ensures shown { IfOk result (λ file. AreShown lexed file.shown) }

@@ -1,20 +1,20 @@
 //! Reads a C file as a list of items: functions, declarations, macros' items, and what is skipped.
 //!
-//! - [`read_file`] reads the pieces of a text. It knows types by their names: those that are listed, and those that the
+//! - [`read_file`] reads the pieces of a text. It knows types by their names: the listed names, and those that the
 //!   typedefs before an item declare.
 //! - [`CFile`] has the text, its items and their graphs.
 //! - [`read_once`] is a law, and does nothing: a text is read in one way.
 //!
-//! Of `typedef int t; void k(void) { x = (t)(y); }` both items are read, and the second has a cast.
+//! In `typedef int t; void k(void) { x = (t)(y); }` both items are read, and the second has a cast.
 //!
 //! An item that is too deep, that no tree of at most 1,000 levels spells, or whose graph would have more than 20,000 nodes
-//! is skipped with its reason, and the items after it are read. Nothing is refused but for want of memory.
+//! is skipped with its reason, and the items after it are read. Reading fails only when out of memory.
 //!
-//! Cutting is for c_lexer, shown tokens and spans for cpp_lines, trees for c_stmt, and graphs for cfg_build.
+//! c_lexer cuts the text, cpp_lines finds shown tokens and spans, c_stmt builds trees, and cfg_build builds graphs.
 //!
 //! Its folders:
 //!
-//! - `item_graphs`: The control-flow graphs of a file's items, each made when it is first asked for, and once.
+//! - `item_graphs`: The control-flow graphs of a file's items, each made once, when it is first requested.
 #![tactic(auto)]
 
 mod file;

@@ -7,7 +7,7 @@ use c_terms::{NoMemory, Text, Token, TokenKind};
 use cpp_lines::{ItemSpan, Visible};
 use std::alloc::Global;
 
-/// The kind and the id of a piece that is a token.
+/// Returns the kind and the id of a piece that is a token.
 fn word_of(kind: PieceKind) -> (TokenKind, u64)
     ensures { result ≡ word_of kind }
 {
@@ -30,7 +30,7 @@ fn token_at(alloc: Global, lexed: &Lexed, number: usize) -> Result<Token, NoMemo
     Ok(Token { kind, text, id })
 }
 
-/// The tokens of an item.
+/// Returns the tokens of an item.
 pub(crate) fn tokens_in(
     alloc: Global,
     visible: &Visible,

@@ -17,7 +17,7 @@ fn name_of(token: &Token) -> Option<&Text>
     }
 }
 
-/// Which child of a declarator with `n` children has the name.
+/// Returns which child of a declarator with `n` children has the name, if one has.
 fn core_place(label: Label, n: usize) -> Option<usize>
     ensures { result ≡ of.core_place label n }
 {
@@ -29,7 +29,7 @@ fn core_place(label: Label, n: usize) -> Option<usize>
     }
 }
 
-/// The name that a declarator declares.
+/// Returns the name that a declarator declares, if there is one.
 fn core(tree: &Tree) -> Option<&Text>
     ensures { option_copied result ≡ of.core tree.now }
 {

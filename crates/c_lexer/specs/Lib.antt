@@ -1,4 +1,5 @@
--- What contracts rest on: the kinds of texts, what it is to be the first piece, and the pieces of a text; their ids, and which texts run together.
+-- What contracts rest on: the kinds of texts, what it is to be the first piece, and the pieces of a text; their ids,
+-- and which texts run together.
 pub mod Words
 pub mod Kinds
 pub mod First
@@ -8,7 +9,7 @@ pub mod Ids
 pub mod Parts
 pub mod Beside
 pub mod Loose
--- The same kinds, each by itself in the terms of C11, with which the kinds above agree.
+-- The same kinds, each by itself in C11's terms, with which the kinds above agree.
 pub mod Blanks
 pub mod Comments
 pub mod Names
@@ -17,7 +18,7 @@ pub mod Literals
 pub mod Puncts
 pub mod Strays
 pub mod Lines
--- For inside use: pieces as they are kept, and the scan for the longest.
+-- For internal use: pieces as they are kept, and the search for the longest.
 pub mod Spans
 pub mod Longest
 pub mod Runs

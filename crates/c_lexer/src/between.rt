@@ -10,7 +10,7 @@ ghost use Rattle.c_lexer.specs.Parts.{RunTogether};
 use crate::state::State;
 use crate::step::{kind_at, step};
 
-/// Where a text leads to.
+/// Returns the state to which a text leads, if there is one.
 fn walk(bytes: &[u8]) -> Option<State>
     ensures { result ≡ walk (Some Start) bytes.now }
 {
@@ -24,7 +24,7 @@ fn walk(bytes: &[u8]) -> Option<State>
     Some(state)
 }
 
-/// No front of the bytes ends a text of a kind.
+/// Whether no non-empty prefix of the bytes completes a text of a kind.
 fn is_quiet(start: State, bytes: &[u8]) -> bool
     ensures { IsTrue result ↔ MayFollow start bytes.now }
 {
@@ -41,7 +41,7 @@ fn is_quiet(start: State, bytes: &[u8]) -> bool
     true
 }
 
-/// Whether the first text isn't the first piece of both.
+/// Whether the first text is not the first piece of both together.
 fn is_longer(left: &[u8], right: &[u8]) -> bool
     ensures { IsTrue result ↔ ((k : Kind) → IsFirst k left.now right.now → ⊥) }
 {
@@ -54,8 +54,8 @@ fn is_longer(left: &[u8], right: &[u8]) -> bool
     }
 }
 
-/// Whether two texts run together where no space stands between them: the left one is not the first piece of both, or
-/// it is `.` and the right one begins with `.`. Linear, and takes no memory.
+/// Whether two texts run together if no space is between them: the left one is not the first piece
+/// of both together, or it is `.` and the right one begins with `.`. Linear, and allocates nothing.
 pub fn parts(left: &[u8], right: &[u8]) -> bool
     ensures { IsTrue result ↔ RunTogether left.now right.now }
 {

@@ -16,7 +16,8 @@ pub fn every_text_is_cut()
     ensures pieces { (bytes : List ℕ) → (pieces : List TextPiece) × Lexes bytes pieces }
 {}
 
-/// A text is cut in one way: pieces of the same bytes are equal but for ids, and equal where the ids count from 0.
+/// A text is cut in one way: pieces with the same bytes are equal except for ids, and equal if
+/// their ids count from 0.
 pub fn cut_once()
     ensures but_ids { (left right : List TextPiece) → Cuts left → Cuts right →
         text_of left ≡ text_of right → without_ids left ≡ without_ids right }
@@ -24,14 +25,14 @@ pub fn cut_once()
         Lexes bytes right → left ≡ right }
 {}
 
-/// Pieces that are put together are cut of their text again, blanks side by side being one: each was beside the next
-/// in an old text, does not run together with it, stands before blanks that are a part of what stood there, ends by
-/// itself, or is a blank.
+/// The text of pieces that are put together is cut into these pieces again, adjacent blanks being
+/// joined, if each piece was followed by the next in an old text, does not run together with it, is
+/// followed by blanks that are a part of what followed it before, ends by itself, or is a blank.
 pub fn loose_pieces_stay()
     ensures cuts { (pieces : List TextPiece) → Loose pieces → Cuts (join_blanks pieces) }
 {}
 
-/// A space parts a token that is no Stray from whatever follows.
+/// A space separates a token that is not a Stray from whatever follows.
 pub fn space_parts()
     ensures first { (text : List ℕ) (kind : Kind) (rest : List ℕ) → kind_of text ≡ Some kind →
         IsTrue (is_plain kind) → IsFirst kind text (32 ∷ rest) }
@@ -48,7 +49,8 @@ pub fn dots_join()
     ensures no_first { (kind : Kind) (rest : List ℕ) → ¬ IsFirst kind (46 ∷ []) (46 ∷ 46 ∷ rest) }
 {}
 
-/// A comment that a byte other than a newline followed ends by itself: it stays whatever follows.
+/// A comment that was followed by a byte other than a newline ends by itself: it stays a piece
+/// whatever follows.
 pub fn comment_ends()
     ensures first { (text : List ℕ) (byte : ℕ) (old : List ℕ) →
         IsFirst kind.Comment text (byte ∷ old) → byte ≢ 10 → (rest : List ℕ) →

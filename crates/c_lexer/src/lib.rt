@@ -1,18 +1,22 @@
 //! Cuts C text into pieces: tokens, blanks, comments and preprocessor lines.
 //!
-//! - [`lex`] cuts a whole text, and gives a [`Lexed`]: the text and its pieces. [`Lexed::piece`] reads a [`Piece`],
-//!   [`Lexed::renumber`] gives the tokens other ids.
-//! - [`first_piece`] tells the first piece of a text, and [`parts`] whether two texts run together.
-//! - [`every_text_is_cut`], [`cut_once`] and [`loose_pieces_stay`] are laws of cutting, and do nothing; so are
-//!   [`space_parts`], [`parted_texts_stay`], [`dots_join`] and [`comment_ends`]. [`number_texts`] and its like say
-//!   of each kind that the automaton and a definition in C11's terms allow the same texts.
+//! - [`lex`] cuts a whole text and returns a [`Lexed`]: the text and its pieces. [`Lexed::piece`]
+//!   reads a [`Piece`], and [`Lexed::renumber`] gives the tokens other ids.
+//! - [`first_piece`] finds the first piece of a text, and [`parts`] decides whether two texts run
+//!   together.
+//! - [`every_text_is_cut`], [`cut_once`] and [`loose_pieces_stay`] are laws of cutting, and do
+//!   nothing; so are [`space_parts`], [`parted_texts_stay`], [`dots_join`] and [`comment_ends`].
+//!   [`number_texts`] and its like say of each kind that the automaton and a definition in C11's
+//!   terms allow the same texts.
 //!
 //! `a+++b //c` gives Name, Punct `++`, Punct `+`, Name, Blank, Comment.
 //!
-//! The next piece is the longest text that begins at its place and is of a kind (C11 6.4 p4). Nothing here fails on
-//! bad C: a quote without an end is a Stray. A text may have 16,777,216 bytes. Nothing recurses.
+//! The next piece is the longest text that begins at its place and is of a kind (C11 6.4 p4).
+//! Nothing here fails on bad C: a quote without an end is a Stray. A text may have up to 16,777,216
+//! bytes. Nothing recurses.
 //!
-//! Which lines open groups, and which words are markers, is for cpp_lines; which words are types is for c_rows.
+//! Which lines open groups and which words are markers is up to cpp_lines; which words are types is
+//! up to c_rows.
 #![tactic(auto)]
 
 mod between;

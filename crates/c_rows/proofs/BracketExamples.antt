@@ -172,7 +172,7 @@ alignof_unknown : look (codes "t" ∷ []) (word_of (codes "_Alignof") ∷ left �
 unfolding look
 alignof_unknown = refl
 
--- ---- a `(` where nothing of a declarator was read yet
+-- ---- a `(` before anything of a declarator has been read
 
 declarator_of_star : look (codes "t" ∷ []) (left ∷ punct_of (codes "*") ∷ x ∷ right ∷ []) ≡ class.ParenNest
 unfolding look

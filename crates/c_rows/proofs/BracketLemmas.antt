@@ -1,4 +1,4 @@
--- A scan for the end of a member of a call's list passes over what a tree spells.
+-- A scan for the end of a member of an argument list passes over what a tree spells.
 use Rattle.std.proofs.Common.{◌≡◌, ◌⊎◌, ℕ, zero, suc, List, [], ◌∷◌, refl, subst, ap, sym, ◌∙◌, inl, inr, eqb-true}
 use Rattle.std.specs.Prelude.{Bool, true, false, not, ◌||◌, ◌==◌, IsTrue}
 use Rattle.c_terms.specs.declared.token.Token.{Token}
@@ -20,7 +20,7 @@ use Rattle.c_rows.specs.Scan.{turn, step, scan, ends_as_member}
 
 -- ---- the scan
 
--- e brackets more than b
+-- e more brackets than b
 abbrev above : ℕ → ℕ → ℕ
 above zero b = b
 above (suc e) b = suc (above e b)
@@ -144,8 +144,9 @@ module _ (names : Names) where
       halt (turn (look names (t ∷ ts))) (t ∷ ts) (λ e. scan names e ts)
       (modus (ends_member (look names (t ∷ ts))) (halts (turn (look names (t ∷ ts)))) (passes_at end_halts_at end_halts_test (look names (t ∷ ts))) h)
 
-  -- A type and an expression without commas that begin at one token, and end where a member of a call's list may end, end at one token.
-  -- Proof: outside brackets a type has no `?` and no comma, and an expression has a comma only behind a `?`.
+  -- A type and an expression without commas that begin at the same token, and end where a member of an argument list
+  -- may end, end at the same token. Proof: outside brackets a type has no `?` and no comma, and an expression has a
+  -- comma only after a `?`.
   pub same_end : (may also : List Token → List Token → Type 0) {xs ys zs : List Token} {t u : Tree} → Derives names may kind.TypeArg xs t ys
       → Derives names also kind.AssignLevel xs u zs → IsTrue (ends_member (look names ys)) → IsTrue (ends_member (look names zs)) → ys ≡ zs
   same_end may also {xs} {ys} {zs} d e h g =

@@ -74,7 +74,7 @@ leaf_turn_test _ = refl
 pub leaf_turn : (f : Family) (c : Class) → IsTrue (has_leaf f c) → turn c ≡ turns.Plain
 leaf_turn f c h = turn_is (turn c) turns.Plain (modus (has_leaf f c) (same_turn (turn c) turns.Plain) (passes_at (leaf_turn_at f) (leaf_turn_test f) c) h)
 
--- ---- where a tree stands
+-- ---- where a tree is
 
 -- in brackets; as an expression without commas; as a type
 pub data Place : Type 0 where
@@ -202,7 +202,7 @@ fine_word turns.Parting zero p go = is_inside p && go 0
 fine_word turns.Parting (suc e) p go = go (suc e)
 fine_word turns.Plain e p go = go e
 
--- What is left of a row closes the brackets that are open in it, and no more.
+-- The rest of a row closes the brackets that are open in it, and no more.
 abbrev pub fine : Place → Row → ℕ → Bool
 fine p [] e = e == 0
 fine p (symbol.Word w ∷ ps) e = fine_word (word_turn w) e p (fine p ps)

@@ -25,7 +25,7 @@ abbrev any_leads : Fork → List Row → Class → Bool
 any_leads f [] c = false
 any_leads f (ps ∷ more) c = leads f ps c || any_leads f more c
 
--- at most one way leads on
+-- a row takes at most one way
 abbrev apart : Fork → List Row → Class → Bool
 apart f [] c = true
 apart f (ps ∷ more) c = implies (leads f ps c) (not (any_leads f more c)) && apart f more c
@@ -221,7 +221,7 @@ head_is r c e b o = rule_is r (head (family_of (kind_of r)) c) (and_left (is_rul
 pub head_no_leaf : (r : Rule) (c : Class) → left r ≡ None → IsTrue (begins r c) → IsTrue (opens (row r) c) → has_leaf (family_of (kind_of r)) c ≡ false
 head_no_leaf r c e b o = not_true _ (and_right (is_rule r (head (family_of (kind_of r)) c)) (not (has_leaf (family_of (kind_of r)) c)) (heads_here r c e b o))
 
--- ---- going on
+-- ---- continuing
 
 abbrev pub word_led : Row → Bool
 word_led (symbol.Word w ∷ ps) = true
@@ -253,7 +253,7 @@ pub tail_is : (r : Rule) (l : Kind) (c : Class) → left r ≡ Some l → IsTrue
 tail_is r l c e o =
     rule_is r _ (modus (opens (own r) c) _ (subst (λ (k : Option Kind). IsTrue (goes r k c)) e (passes_at (goes_at r) (goes_test r) c)) o)
 
--- a left part ends where its rule goes on
+-- a left part ends where its rule continues
 abbrev pairs : Rule → Option Kind → Rule → Class → Bool
 pairs r None q c = true
 pairs r (Some l) q c = implies (within (kind_of q) l) (implies (opens (own r) c) (ends (own q) c))
@@ -294,7 +294,7 @@ head_left f c r e = is_none_is (left r) (and_left (is_none (left r)) (begins r c
 pub head_begins : (f : Family) (c : Class) (r : Rule) → head f c ≡ Some r → IsTrue (begins r c)
 head_begins f c r e = and_right (is_none (left r)) (begins r c) (subst (λ (o : Option Rule). IsTrue (no_left c o)) e (passes_at (no_left_at f) (no_left_test f) c))
 
--- a rule that goes on from a tree may begin anywhere
+-- a rule that continues from a tree may begin anywhere
 abbrev tail_begins_at : Rule → Class → Bool
 tail_begins_at r c = is_none (left r) || begins r c
 

@@ -1,4 +1,4 @@
--- Which way a row goes on, and which row begins, by examples.
+-- Which way a row continues, and which row begins, by examples.
 use Rattle.std.proofs.Common.{◌≡◌, [], ◌∷◌, refl}
 use Rattle.std.specs.Prelude.{true, false, Some, None}
 use Rattle.c_rows.specs.declared.class.Class.TheVariants as class

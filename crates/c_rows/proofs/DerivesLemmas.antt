@@ -68,7 +68,7 @@ module _ (names : Names) (may : List Token → List Token → Type 0) where
         let o : IsTrue (opens ps (look names xs)) = row_first way (joins_way f i ps w) (closes_way f i ps (look names ys) w c) in
         open_at f ps (look names xs) (leads_way f i ps (look names xs) w (both (may_go f ps (look names xs)) _ v (leads_at f ps (look names xs) (unforked_way f i ps w) o (λ e. at_end f way e c))))
 
-  -- a member of a call's list that stands in a row ends where it may
+  -- a member of an argument list that is a part of a row ends where it may
   pub member_end : {ps : Row} {xs ys : List Token} {cs : List Tree} → DerivesRow names may ps xs cs ys → IsTrue (joins (symbol.Argument ∷ ps))
       → IsTrue (closes (symbol.Argument ∷ ps) (look names ys)) → IsTrue (ends_member (look names xs))
   member_end {ps = []} done j c = c
@@ -76,7 +76,7 @@ module _ (names : Names) (may : List Token → List Token → Type 0) where
       modus _ _ (every_at (member_at (p ∷ ps)) (and_left (every (member_at (p ∷ ps))) (joins (p ∷ ps)) j) (look names xs))
       (row_first rest (and_right (every (member_at (p ∷ ps))) (joins (p ∷ ps)) j) c)
 
-  -- a tree of another kind stands before what may follow it
+  -- a tree of another kind comes before what may follow it
   pub child_end : (k : Kind) {ps : Row} {xs ys : List Token} {cs : List Tree} → DerivesRow names may ps xs cs ys → IsTrue (joins (symbol.Child k ∷ ps))
       → IsTrue (closes (symbol.Child k ∷ ps) (look names ys)) → IsTrue (after k (look names xs))
   child_end k {ps = []} done j c = c
@@ -84,7 +84,7 @@ module _ (names : Names) (may : List Token → List Token → Type 0) where
       modus _ _ (every_at (joins_at k (p ∷ ps)) (and_left (every (joins_at k (p ∷ ps))) (joins (p ∷ ps)) j) (look names xs))
       (row_first rest (and_right (every (joins_at k (p ∷ ps))) (joins (p ∷ ps)) j) c)
 
--- what is left of a row behind its first part
+-- the rest of a row after its first part
 pub joins_rest : (k : Kind) (ps : Row) → IsTrue (joins (symbol.Child k ∷ ps)) → IsTrue (joins ps)
 joins_rest k [] j = refl
 joins_rest k (p ∷ ps) j = and_right (every (joins_at k (p ∷ ps))) (joins (p ∷ ps)) j

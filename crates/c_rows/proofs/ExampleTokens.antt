@@ -1,4 +1,4 @@
--- Tokens of examples. `t` is in the names there, `u` is not.
+-- The tokens of the examples, in which `t` is in the names and `u` is not.
 use Rattle.std.specs.Prelude.{ℕ, List, codes}
 use Rattle.c_terms.specs.declared.token.Token.{Token}
 use Rattle.c_terms.specs.declared.token.TokenKind.TheVariants as token

@@ -1,4 +1,4 @@
--- The facts of trees are those of their parts.
+-- The facts of a tree are those computed from its parts.
 use Rattle.std.proofs.Common.{◌≡◌, List, [], ◌∷◌, map, refl, ap, sym, ◌∙◌}
 use Rattle.std.specs.Prelude.{Bool, true, false, not, ◌&&◌, if◌then◌else◌}
 use Rattle.std.specs.List.{list_all}
@@ -22,7 +22,7 @@ use Rattle.c_rows.proofs.PlainLemmas.{declares-Leaf, declares-Branch, function-B
 
 -- ---- the label
 
--- two labels of branches that the same is asked of
+-- two labels of branches of which the same is required
 record Alike (l m : Label) : Type 0 where
   defined : defines l ≡ defines m
   loose : is_loose_label l ≡ is_loose_label m
@@ -64,7 +64,7 @@ branches (a ∷ []) = same label.PatAnd
 branches (a ∷ b ∷ []) = same label.PatAnd
 branches (a ∷ b ∷ c ∷ cs) = dull _ label.PatOr label.PatAnd label.PatAnd pat (same label.PatAnd)
 
--- where the parts tell the label of a branch, they change nothing that is asked of it
+-- if the parts of a branch determine its label, that changes nothing that is required of the branch
 alike_named : (n : Naming) (cs : List Tree) → Alike (named n cs) (named n [])
 alike_named naming.PatBySign cs = branches cs
 alike_named naming.AtByRange [] = same label.AtRange
@@ -127,7 +127,7 @@ functions_same : (cs : List Tree) → map (λ (f : Facts). f.functions) (map fac
 functions_same [] = refl
 functions_same (c ∷ cs) = ap (λ (bs : List Bool). declares_function c ∷ bs) (functions_same cs)
 
--- The facts of a branch are told by those of its parts.
+-- The facts of a branch are determined by those of its parts.
 pub branch_same : (r : Rule) (cs : List Tree) → branch_facts r (map facts_of cs) ≡ facts_of (build r cs)
 branch_same r cs =
     let a = alike r cs in
@@ -138,7 +138,7 @@ branch_same r cs =
     (ap (function_at (label_of r [])) (functions_same cs) ∙ sym (a.functions (map declares_function cs)) ∙ sym (function-Branch l cs))
     (sym a.loose ∙ sym (ap (labelled is_loose_label) o)) (sym a.block ∙ sym (ap (labelled is_block_label) o))
 
--- What a row asks of its parts is told by their facts.
+-- Whether a row allows its parts is determined by their facts.
 pub allows_same : (r : Rule) (cs : List Tree) → allows_facts r (map facts_of cs) ≡ allows r cs
 allows_same rule.TypeName [] = refl
 allows_same rule.TypeName (a ∷ []) = refl

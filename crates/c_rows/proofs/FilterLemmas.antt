@@ -32,9 +32,9 @@ use Rattle.c_rows.proofs.FactLemmas.{branch_same}
 use Rattle.c_rows.proofs.MemberLemmas.{is_args, needs, needs_test, lead_word, led, led_rule, led_way, needs_way, never_needs}
 use Rattle.c_rows.proofs.DerivesLemmas.{tree_first, member_end, child_end, joins_rest, joins_member, closes_rest, closes_member}
 
--- ---- trees that the rows do not tell apart
+-- ---- trees that the rows do not distinguish
 
--- the facts of a tree but for what is asked of its parts
+-- the facts of a tree other than those of its parts
 abbrev core : Facts → Facts
 core f = record { plain = f.plain; plain_parts = true; names = f.names; functions = f.functions; loose = f.loose; block = f.block }
 
@@ -72,7 +72,7 @@ label_core l fs =
     ap (λ (bs : List Bool). core_with l bs (map (λ (f : Facts). f.functions) fs)) (names_core fs)
     ∙ ap (λ (bs : List Bool). core_with l (map (λ (f : Facts). f.names) (map core fs)) bs) (functions_core fs)
 
--- ---- rows without members of a call's list
+-- ---- rows without members of an argument list
 
 abbrev is_args_rule : Rule → Bool
 is_args_rule rule.Args = true
@@ -214,7 +214,7 @@ module _ (names : Names) where
     row_short may (type_argument a d rest) = shorter _ _ _ (row_short may rest) (tree_short may d)
     row_short may (fork i w v way) = row_short may way
 
-  -- A type may stand wherever it might before.
+  -- If `also` allows every type that `may` allows, every tree derived by `may` is also derived by `also`.
   module _ (may also : List Token → List Token → Type 0) (go : (xs ys : List Token) → may xs ys → also xs ys) where
     mutual
       pub loosened : {k : Kind} {xs ys : List Token} {t : Tree} → Derives names may k xs t ys → Derives names also k xs t ys
@@ -329,8 +329,8 @@ module _ (names : Names) where
   no_member true h = cc
   no_member false h = cc
 
-  -- Where the rows alone derive a member of a call's list, they derive one by the letter.
-  -- Proof: by induction on the number of tokens. Where a type stands inside beside an expression with its tokens, that expression takes its place.
+  -- Where the rows alone derive a member of an argument list, they derive one to the letter. Proof: by induction on the
+  -- number of tokens. If a type inside has the same tokens as an expression, that expression takes its place.
   pub filters : (n : ℕ) (b : Bool) (xs ys : List Token) (t : Tree) → Derives names Anywhere (member_kind b) xs t ys → IsTrue (ends_member (look names ys)) → length xs ≤ n → (Filtered (member_kind b) xs t ys → ⊥) → ⊥
   filters zero b [] ys t d h s f = no_member b (tree_first names Anywhere d (member_after b (look names ys) h))
   filters zero b (x ∷ xs) ys t d h s f = let never : ⊥ = omega arith in never

@@ -1,4 +1,4 @@
--- What may stand first: tests of the rows, each computed over every class.
+-- What may come first: tests of the rows, each computed over every class.
 use Rattle.std.proofs.Common.{◌≡◌, ℕ, zero, suc, List, [], ◌∷◌, refl, subst, ap, sym, ◌∙◌, eqb-true}
 use Rattle.std.specs.Prelude.{Bool, true, false, not, ◌&&◌, ◌||◌, IsTrue, Some, slice_get}
 use Rattle.std.specs.List.{list_all}
@@ -67,7 +67,7 @@ at p (x ∷ xs) (suc i) c h e = at p xs i c (and_right (p x) (list_all p xs) h) 
 pub every_at : (p : Class → Bool) → IsTrue (every p) → (c : Class) → IsTrue (p c)
 every_at p h c = at p classes (number c) c h (listed c)
 
--- two classes of one number are one
+-- two classes with the same number are the same
 pub one_is : (c d : Class) → IsTrue (same_class c d) → c ≡ d
 one_is c d h = some_is (sym (listed c) ∙ ap (λ (n : ℕ). slice_get classes n) (eqb-true (number c) (number d) h) ∙ listed d)
 
@@ -113,7 +113,7 @@ row_at p [] i ps h e = let no : ⊥ = cc in absurd no
 row_at p (x ∷ xs) zero ps h e = let same : x ≡ ps = cc in subst (λ (y : Row). IsTrue (p y)) same (and_left (p x) (list_all p xs) h)
 row_at p (x ∷ xs) (suc i) ps h e = row_at p xs i ps (and_right (p x) (list_all p xs) h) e
 
--- ---- what stands first
+-- ---- what comes first
 
 abbrev pub closes : Row → Class → Bool
 closes [] c = true

@@ -1,4 +1,4 @@
--- A tree that is right grows from its first operand.
+-- A tree that the rows allow grows from its first operand.
 use Rattle.std.proofs.Common.{◌≡◌, List, [], ◌∷◌, refl, subst, ap, sym}
 use Rattle.std.specs.Prelude.{Bool, true, false, IsTrue, Option, Some, None, is_some, if◌then◌else◌}
 use Rattle.c_terms.specs.declared.tree.Tree.{Tree}

@@ -1,5 +1,5 @@
--- The classes behind which a member of a call's list may begin are those of `(` and of a comma, and the classes of names
--- are those of names.
+-- The classes after which a member of an argument list may begin are those of `(` and of a comma; and only names have
+-- the classes of names.
 use Rattle.std.proofs.Common.{◌≡◌, ℕ, List, [], ◌∷◌, refl, sym, ◌∙◌}
 use Rattle.std.proofs.lemmas.Bool.{false≢true}
 use Rattle.std.specs.Prelude.{Bool, true, false, ◌&&◌, ◌||◌, if◌then◌else◌, IsTrue, codes}
@@ -26,7 +26,7 @@ leads_class c = fits word.AnyOpen c
 
 -- ---- where a member may begin
 
--- one of the texts whose class in the list is such
+-- whether the text is one of those whose class in the list passes the test
 abbrev spelled : (Class → Bool) → List (List ℕ × Class) → List ℕ → Bool
 spelled p [] s = false
 spelled p (w ∷ ws) s = p w.1 && bytes_eq s w.0 || spelled p ws s
@@ -102,7 +102,7 @@ named_test (token.Meta meta.Expr) = refl
 named_test (token.Meta _) = refl
 named_test _ = refl
 
--- A token of a name's class is a name.
+-- A token of the class of a name is a name.
 pub token_named : (names : Names) (t : Token) (ts : List Token) → IsTrue (fits word.Name (look names (t ∷ ts)))
     → IsTrue (is_named t)
 token_named names t ts h =

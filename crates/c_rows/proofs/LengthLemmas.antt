@@ -101,7 +101,7 @@ smaller-child k ps xs ys s le = full_or (full (family_of k)) (weight ps) (and_le
 pub smaller-argument : (ps : Row) (xs ys : List Seen) → length ys + 1 ≤ length xs → 3 * length ys + weight ps < 3 * length xs + weight (symbol.Argument ∷ ps)
 smaller-argument ps xs ys le = omega (arith, weight-small ps)
 
--- ---- what is left of a fine row
+-- ---- the rest of a fine row
 
 ok_rest : (p : Symbol) (ps : Row) → IsTrue (row_ok (p ∷ ps)) → IsTrue (row_ok ps)
 ok_rest (symbol.Word w) ps h = h

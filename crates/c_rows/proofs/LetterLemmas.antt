@@ -1,4 +1,4 @@
--- What the rule on types in a call's list comes to where the rows alone say which expressions there are.
+-- The rule on types in an argument list, if the rows alone say which expressions there are.
 use Rattle.std.proofs.Common.{◌≤◌, length, ℕ, zero, suc, List, [], ◌∷◌, refl, arith}
 use Rattle.std.specs.Prelude.{true, false, IsTrue}
 use Rattle.c_terms.specs.declared.token.Token.{Token}
@@ -21,7 +21,7 @@ use Rattle.c_rows.proofs.SightLemmas.{some_token, some_expression}
 use Rattle.c_rows.proofs.TreeLemmas.{alone_after}
 
 module _ (names : Names) where
-  -- `Rest` holds of what is left of the tokens. Where a type stands, it may also stand by the other condition.
+  -- `Rest` holds for the remaining tokens. Where a type may be a member by `may`, it may also be one by `also`.
   module _ (may also : List Token → List Token → Type 0) (Rest : List Token → Type 0) (fall : (t : Token) (ts : List Token) → Rest (t ∷ ts) → Rest ts) where
     mutual
       rest_tree : {k : Kind} {xs ys : List Token} {t : Tree} → Derives names may k xs t ys → Rest xs → Rest ys
@@ -55,7 +55,7 @@ module _ (names : Names) where
             type_argument (go xs us t p d h a) (changed d p (member_after true (look names us) h)) (changed_row rest (rest_tree d p) (joins_member ps j) (closes_member ps (look names ys) c))
         changed_row (fork {f = f} {ps = ps} {ys = ys} i w v way) p j c = fork i w v (changed_row way p (joins_way f i ps w) (closes_way f i ps (look names ys) w c))
 
-  -- Where no expression of the rows stands, none that obeys the rule does.
+  -- Where the rows derive no expression, there is none that obeys the rule.
   none_loose : (n : ℕ) (xs ys : List Token) → NoExpression names xs ys → NoRival names n xs ys
   none_loose zero xs ys f = tt
   none_loose (suc n) xs ys f = λ u d l. f u (unfiltered names (NoRival names n) d)
@@ -82,8 +82,8 @@ module _ (names : Names) where
   none_short : (t : Token) (ts : List Token) → length (t ∷ ts) ≤ 0 → ⊥
   none_short t ts h = omega arith
 
-  -- Where no expression that obeys the rule stands against a type, none of the rows does, if all of them are low.
-  -- Proof: an expression to the letter would have the same tokens, and obeys the rule.
+  -- If no expression that obeys the rule has the tokens of a type, the rows derive none with these tokens, provided
+  -- that all expressions are low. Proof: an expression to the letter would have the same tokens, and obeys the rule.
   none_low : (n : ℕ) (ts us : List Token) (t : Tree) → Low n ts → Derives names (NoRival names n) kind.TypeArg ts t us → IsTrue (ends_member (look names us)) → NoRival names n ts us → NoExpression names ts us
   none_low zero [] us t p d h r = absurd (some_token names [] (tree_first names (NoRival names 0) d (member_after true (look names us) h)) refl)
   none_low zero (x ∷ ts) us t p d h r = absurd (none_short x ts p.1)

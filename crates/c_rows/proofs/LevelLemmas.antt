@@ -25,7 +25,7 @@ use Rattle.c_rows.specs.Letter.{AllLow}
 use Rattle.c_rows.proofs.Checks.{and_left, and_right, row_at}
 use Rattle.c_rows.proofs.FirstLemmas.{within_family}
 
--- ---- tokens: four times the least number that a row takes
+-- ---- tokens: four times the smallest number that a row takes
 
 abbrev least_fork : Fork → ℕ
 least_fork forks.FirstString = 4

@@ -1,4 +1,4 @@
--- Where a member of a call's list may begin.
+-- Where a member of an argument list may begin.
 use Rattle.std.proofs.Common.{◌≡◌, ℕ, [], ◌∷◌, refl}
 use Rattle.std.specs.Prelude.{Bool, true, false, not, ◌&&◌, IsTrue, Some, slice_get}
 use Rattle.std.specs.List.{list_all}
@@ -28,7 +28,7 @@ args_fork forks.FirstArg = true
 args_fork forks.NextArg = true
 args_fork _ = false
 
--- a member of a call's list may stand first in the row
+-- a member of an argument list may come first in the row
 abbrev pub needs : Row → Bool
 needs [] = false
 needs (symbol.Word w ∷ ps) = false
@@ -55,7 +55,7 @@ lead_test _ = refl
 pub word_leads : (w : Word) (c : Class) → IsTrue (lead_word w) → IsTrue (fits w c) → IsTrue (leads_class c)
 word_leads w c l f = modus (lead_word w) (leads_class c) (word_at leads_at (λ d. implies_self (leads_class d)) lead_test w c f) l
 
--- Behind the first part, a member stands only behind a comma or an opening bracket.
+-- After the first part, a member comes only after a comma or an opening bracket.
 abbrev pub led : Row → Bool
 led [] = true
 led (symbol.Word w ∷ ps) = implies (needs ps) (lead_word w) && led ps

@@ -1,4 +1,4 @@
--- A label that the parts of a branch tell is one of two: what both pass, it passes.
+-- A label that the parts of a branch determine is one of two: it passes any test that both pass.
 use Rattle.std.proofs.Common.{◌≡◌, List, [], ◌∷◌}
 use Rattle.std.specs.Prelude.{Bool, true, false, ◌&&◌, IsTrue, if◌then◌else◌}
 use Rattle.c_terms.specs.declared.label.Label.{Label}
@@ -31,7 +31,7 @@ other_label naming.ForByDecl = label.For
 other_label naming.DeclByBlock = label.Decl
 other_label naming.MacroByBlock = label.MacroFun
 
--- both labels of a rule's branches pass the test
+-- whether both labels of a rule's branches pass the test
 abbrev pub both_pass : (Label → Bool) → Rule → Bool
 both_pass p r = p (one_label (naming_of r)) && p (other_label (naming_of r))
 

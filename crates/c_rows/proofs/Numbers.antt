@@ -1,4 +1,4 @@
--- The classes and the rules, numbered as they are declared: a test of a list of all is one of each.
+-- The classes and the rules, numbered as they are declared: a test of the list of all of them tests each one.
 use Rattle.std.proofs.Common.{◌≡◌, ℕ, List, [], ◌∷◌, refl}
 use Rattle.std.specs.Prelude.{◌++◌, Some, slice_get}
 use denote.Enum.Declared.{tag_of}

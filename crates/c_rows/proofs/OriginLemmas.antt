@@ -1,4 +1,4 @@
--- Which classes a token of each kind can have. A fact on kinds and classes is then a test over both.
+-- The classes that a token of each kind can have. A fact about kinds and classes is then a test over both.
 use Rattle.std.proofs.Common.{ℕ, List, [], ◌∷◌, refl}
 use Rattle.std.specs.Prelude.{Bool, true, false, ◌&&◌, ◌||◌, if◌then◌else◌, IsTrue, codes}
 use Rattle.std.specs.List.{list_all}
@@ -56,7 +56,7 @@ of_meta meta.Typ c = of_type c
 of_meta meta.Params c = same_class c class.ParamList
 of_meta meta.Stmt c = same_class c class.Stmt
 
--- a token of this kind can have the class
+-- whether a token of this kind can have the class
 abbrev pub gives : TokenKind → Class → Bool
 gives token.Name c = fits word.Name c
 gives token.Keyword c = of_keyword c
@@ -69,7 +69,7 @@ gives (token.Meta k) c = of_meta k c
 gives token.Dots c = same_class c class.Dots
 gives token.Pat c = of_pattern c
 
--- ---- each kind has no other
+-- ---- no kind has any other
 
 pick : (p : Class → Bool) (b : Bool) (x y : Class) → IsTrue (p x) → IsTrue (p y) → IsTrue (p (if b then x else y))
 pick p true x y h g = h
@@ -179,12 +179,12 @@ kind_gives names token.Pat s ts next =
     pattern_of (is_of_statements (has_semicolon 0 ts) next) (class_in pattern_signs s)
     (class_in_of of_pattern pattern_signs s refl refl)
 
--- ---- facts on kinds and classes
+-- ---- facts about kinds and classes
 
 abbrev pub kind_test : (TokenKind → Class → Bool) → TokenKind → Class → Bool
 kind_test p k c = implies (gives k c) (p k c)
 
--- What holds of each kind and each of its classes holds of a token's.
+-- What holds of each kind and each of its classes holds of the kind and the class of a token.
 pub kind_tells : (p : TokenKind → Class → Bool) → ((k : TokenKind) → Passes (kind_test p k))
     → (names : Names) (k : TokenKind) (s : List ℕ) (ts : List Token) (next : Class)
     → IsTrue (p k (class_of names k s ts next))

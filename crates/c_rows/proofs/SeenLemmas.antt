@@ -21,7 +21,7 @@ use Rattle.c_rows.specs.Choice.{implies, full}
 use Rattle.c_rows.proofs.Checks.{modus, row_at}
 use Rattle.c_rows.proofs.FirstLemmas.{within_family}
 
--- a row that begins with a token, which is no member of a call's list
+-- a row that begins with a token, which is not a member of an argument list
 abbrev headed_fork : Fork → Bool
 headed_fork forks.FirstString = true
 headed_fork forks.NoType = true

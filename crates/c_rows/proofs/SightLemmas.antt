@@ -76,7 +76,7 @@ module _ (names : Names) where
 
   -- ---- from what is seen to the tokens
 
-  -- `Wide` holds of what is left of the tokens, and `Narrow` behind a word.
+  -- `Wide` holds for the remaining tokens, and `Narrow` for those after a word.
   module _ (may : List Token → List Token → Type 0) (Wide Narrow : List Token → Type 0) (fall : (t : Token) (ts : List Token) → Wide (t ∷ ts) → Narrow ts) (widen : (ts : List Token) → Narrow ts → Wide ts) where
     pub record Taken (k : Kind) (ts : List Token) (t : Tree) (ys : List Seen) : Type 0 where
       pub leads : Bool
@@ -116,7 +116,7 @@ module _ (names : Names) where
               (word (subst (λ (c : Class). IsTrue (fits w c)) a.0.class h) g.derived);
         }
 
-    -- `allowed`: where what is seen says that a type stands, it may
+    -- `allowed`: if what is seen says that there is a type, the type may be there
     module _ (allowed : (l : Bool) (ts us : List Token) (ss ys : List Seen) (t : Tree) → AreSeenAs names l ts ss → IsTrue (front_typed ss) → Derives names may kind.TypeArg ts t us
         → IsTrue (ends_member (look names us)) → Narrow ts → may ts us) where
       take_member : (b : Bool) (l : Bool) (ps : Row) (ts us zs : List Token) (ss ys : List Seen) (t : Tree) (cs : List Tree) → front_typed ss ≡ b → AreSeenAs names l ts ss
@@ -243,7 +243,7 @@ module _ (names : Names) where
         }
 
     module _ (may : List Token → List Token → Type 0) where
-      -- `barred`: where a type may stand and does, no expression can
+      -- `barred`: where a type may be and is, no expression can be
       module _ (barred : (l : Bool) (ts us : List Token) (ss : List Seen) (t : Tree) → AreSeenAs names l ts ss → may ts us → Derives names may kind.TypeArg ts t us
           → IsTrue (ends_member (look names us)) → Narrow ts → NoMember ss) where
         mutual

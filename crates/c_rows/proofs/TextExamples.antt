@@ -1,4 +1,4 @@
--- Of which class keywords and signs are, by examples; and no list has a text twice.
+-- The classes of keywords and signs, by examples; and no list has a text twice.
 use Rattle.std.proofs.Common.{◌≡◌, ℕ, List, [], ◌∷◌, refl}
 use Rattle.std.specs.Prelude.{Bool, true, false, not, ◌&&◌, ◌||◌, codes}
 use Rattle.std.specs.Str.{bytes_eq}

@@ -38,7 +38,7 @@ stops_test : (k : Kind) → IsTrue (stops_at k)
 stops_test kind.Post = refl
 stops_test _ = refl
 
--- A tree that is read by itself ends at the end.
+-- A tree that is read by itself ends at the end of the tokens.
 pub alone_stops : (k : Kind) → IsTrue (stands_alone k) → IsTrue (stops k class.End)
 alone_stops k = modus (stands_alone k) (stops k class.End) (stops_test k)
 
@@ -91,7 +91,7 @@ module _ (names : Names) where
         let x = keep_tree names Wide Narrow fall widen may barred d false ss a p (alone_args k o) (alone_after k o) n in
         subst (λ (r : List Seen). Spells k ss t r) (nothing_left x.leads x.rest x.right) x.spelled
 
-  -- ---- the rule, asked of the rivals too
+  -- ---- the rule, applied to the rivals too
 
   abbrev Short : ℕ → List Token → Type 0
   Short n ts = length ts ≤ n
@@ -130,7 +130,7 @@ module _ (names : Names) where
   tree_spelled k ts t ss o a h =
       whole_kept (NoRival names (length ts)) (Short (suc (length ts))) (Short (length ts)) (fall_short (length ts)) (widen_short (length ts)) (rule_barred (length ts)) k ts t ss o a (all_short ts) h.derived h.shallow
 
-  -- and the other way round.
+  -- and conversely.
   pub spelled_tree : (k : Kind) (ts : List Token) (t : Tree) (ss : List Seen) → IsTrue (stands_alone k) → AreSeenAs names false ts ss → Spells k ss t [] → levels t ≤ 1000 → IsTreeOf k names ts t
   spelled_tree k ts t ss o a d n = record {
     derived = whole_taken (NoRival names (length ts)) (Short (suc (length ts))) (Short (length ts)) (fall_short (length ts)) (widen_short (length ts)) (rule_allowed (length ts)) k ts t ss o a (all_short ts) d;

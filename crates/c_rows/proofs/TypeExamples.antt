@@ -1,4 +1,4 @@
--- Where a type may stand as a member of a call's list.
+-- Where a type may be a member of an argument list.
 use Rattle.std.proofs.Common.{◌≡◌, ◌≤◌, ℕ, arith, [], ◌∷◌, refl, ap, ◌∙◌}
 use Rattle.std.specs.Prelude.{true, false, ◌&&◌, IsTrue, codes}
 use Rattle.c_terms.specs.declared.token.Token.{Token}
@@ -24,7 +24,7 @@ a = record { kind = token.Name; text = codes "a"; id = 0 }
 abbrev int : Token
 int = record { kind = token.Keyword; text = codes "int"; id = 0 }
 
--- The tokens of `a` are those of an expression, so in `f(a)` no type stands.
+-- The tokens of `a` are those of an expression, so `f(a)` has no type.
 name_is_rival : NoRival [] 1 (a ∷ []) [] → ⊥
 unfolding look
 name_is_rival h = h (tree.Leaf a) (leaf refl) (low (levels (tree.Leaf a)) (levels-Leaf a))
@@ -32,7 +32,7 @@ name_is_rival h = h (tree.Leaf a) (leaf refl) (low (levels (tree.Leaf a)) (level
     low : (n : ℕ) → n ≡ 0 → n ≤ 1000
     low n e = omega arith
 
--- In `f(int)` a type may stand, and does.
+-- `f(int)` may have a type, and does.
 word_has_none : NoRival [] 1 (int ∷ []) []
 unfolding look
 word_has_none u d l = let h : IsTrue false = tree_first [] (NoRival [] 0) d refl in let never : ⊥ = cc in never

@@ -1,4 +1,4 @@
--- The first three tokens of a type that is a member of a call's list.
+-- The first three tokens of a type that is a member of an argument list.
 use Rattle.std.proofs.Common.{◌≡◌, ◌⊎◌, List, [], ◌∷◌, map, refl, subst, ap, sym, inl, inr}
 use Rattle.std.specs.Prelude.{Bool, true, false, not, ◌&&◌, ◌||◌, IsTrue}
 use Rattle.std.proofs.lemmas.Bool.{false≢true}
@@ -87,7 +87,7 @@ same_truth a b e h = subst (λ (x : Bool). IsTrue x) (sym e) h
 abbrev parts_name : (Class → Bool) → Class → Bool
 parts_name p c = implies (p c) (not (fits words.Name c))
 
--- no name's class
+-- the class is not that of a name
 unnamed : (p : Class → Bool) → IsTrue (every (parts_name p)) → (c : Class) → IsTrue (p c) → IsTrue (not (fits words.Name c))
 unnamed p h c = modus (p c) (not (fits words.Name c)) (every_at (parts_name p) h c)
 
@@ -127,7 +127,7 @@ abbrev one_type : Row → Bool
 one_type (symbol.Fork forks.OneType ∷ []) = true
 one_type _ = false
 
--- a way that begins with a name goes on with modifiers
+-- a way that begins with a name continues with modifiers
 abbrev type_way : Row → Bool
 type_way (symbol.Word words.Name ∷ ps) = one_type ps
 type_way (symbol.Word words.Modifier ∷ ps) = true
@@ -178,7 +178,7 @@ module _ (names : Names) (may : List Token → List Token → Type 0) where
 
   -- ---- a type's words
 
-  -- behind a name, modifiers or the end
+  -- after a name, modifiers or the end
   modifiers_end : {ps : Row} {xs ys : List Token} {cs : List Tree} → DerivesRow names may ps xs cs ys → IsTrue (modifier_way ps) → IsTrue (fits words.Modifier (look names xs)) ⊎ (ys ≡ xs)
   modifiers_end done m = inr refl
   modifiers_end (word {w = words.Modifier} f rest) m = inl f
@@ -213,7 +213,7 @@ module _ (names : Names) (may : List Token → List Token → Type 0) where
   abbrev EndsAt : List Token → List Token → Type 0
   EndsAt xs ys = IsTrue (fits words.Modifier (look names (behind xs))) ⊎ (ys ≡ behind xs)
 
-  -- Where the words of a type begin with a name, a modifier follows, or they end.
+  -- If the words of a type begin with a name, a modifier follows, or they end.
   words_end : {k : Kind} {xs ys : List Token} {t : Tree} → Derives names may k xs t ys → IsTrue (within k kind.Specs) → IsTrue (fits words.Name (look names xs)) → EndsAt xs ys
   words_end {k} (leaf {t = t} {ys = ys} h) w n =
       let f : IsTrue (has_leaf family.Specs (look names (t ∷ ys))) = subst (λ (o : Family). IsTrue (has_leaf o (look names (t ∷ ys)))) (within_family k kind.Specs w) h in
@@ -226,7 +226,7 @@ module _ (names : Names) (may : List Token → List Token → Type 0) where
 
   -- ---- type names
 
-  -- behind the words of a type: the end, or a declarator without a name
+  -- after the words of a type: the end, or a declarator without a name
   nameless_front : (specs : Tree) {ps : Row} {xs ys : List Token} {cs : List Tree} → DerivesRow names may ps xs cs ys → IsTrue (nameless_way ps) → IsTrue (is_plain_type (specs ∷ cs))
       → IsTrue (ends_member (look names ys)) → IsTrue (ends_member (look names xs) || begins_nameless (look names xs) (look names (behind xs)))
   nameless_front specs (done {xs = xs}) m al e = or_left (ends_member (look names xs)) (begins_nameless (look names xs) (look names (behind xs))) e
@@ -242,7 +242,7 @@ module _ (names : Names) (may : List Token → List Token → Type 0) where
   abbrev Fronts : List Token → Type 0
   Fronts xs = IsTrue (fits words.Name (look names xs)) → IsTrue (follows_type (look names (behind xs)) (look names (behind (behind xs))))
 
-  -- Where a type name begins with a name, the two tokens behind it may follow a type.
+  -- If a type name begins with a name, the two tokens after it may follow a type.
   name_front : {k : Kind} {xs ys : List Token} {t : Tree} → Derives names may k xs t ys → IsTrue (within k kind.TypeName) → IsTrue (ends_member (look names ys)) → Fronts xs
   name_front {k} (leaf {t = t} {ys = ys} h) w e = λ n.
       let f : IsTrue (has_leaf family.TypeName (look names (t ∷ ys))) = subst (λ (o : Family). IsTrue (has_leaf o (look names (t ∷ ys)))) (within_family k kind.TypeName w) h in
@@ -273,7 +273,7 @@ module _ (names : Names) (may : List Token → List Token → Type 0) where
       rule_argument rule.TypeArg (child d done) w e = name_front d refl e
       rule_argument _ parts w e = absurd (false≢true w)
 
-  -- A type that is a member of a call's list begins with three classes that say so.
+  -- A type that is a member of an argument list begins with three classes with which one may begin.
   pub type_front : {xs ys : List Token} {t : Tree} → Derives names may kind.TypeArg xs t ys → IsTrue (ends_member (look names ys))
       → IsTrue (begins_member (look names xs) (look names (behind xs)) (look names (behind (behind xs))))
   type_front {xs} {ys} d e =

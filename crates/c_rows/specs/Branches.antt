@@ -1,4 +1,4 @@
--- Guards: what the parts of a branch have in common, and where the tokens behind let a branch and a way begin.
+-- Guards: what a branch requires of its parts together, and where the tokens that follow let a branch or a way begin.
 use Rattle.std.specs.Prelude.{Bool, true, false, not, ◌&&◌, ◌||◌, List, [], ◌∷◌}
 use Rattle.std.specs.List.{list_all}
 use Rattle.c_terms.specs.declared.label.Label.{Label}
@@ -33,7 +33,7 @@ abbrev pub any_of : List Bool → Bool
 any_of [] = false
 any_of (b ∷ bs) = b || any_of bs
 
--- an array's size and a function's parameters are no part of the way to the name
+-- an array's size and a function's parameters are not on the path to the name
 abbrev pub declares_at : Label → List Bool → Bool
 declares_at label.Pointer bs = any_of bs
 declares_at label.DParen bs = any_of bs
@@ -45,7 +45,7 @@ abbrev pub declares_step : Tree-F Bool → Bool
 declares_step (Tree-F.Leaf t) = is_named t
 declares_step (Tree-F.Branch l bs) = declares_at l bs
 
--- the declarator has a name at its core
+-- whether the declarator has a name at its core
 abbrev pub declares_name : Tree → Bool
 declares_name = fold-Tree Bool declares_step
 
@@ -54,7 +54,7 @@ defines label.StructDef = true
 defines label.EnumDef = true
 defines _ = false
 
--- the part of a Specs is no storage word, and defines nothing
+-- whether the part of a Specs is not a storage word, and defines nothing
 abbrev pub plain_part : Tree-F Tree → Bool
 plain_part (Tree-F.Leaf t) = not (is_storage t)
 plain_part (Tree-F.Branch l cs) = not (defines l)
@@ -96,7 +96,7 @@ abbrev pub function_step : Tree-F Bool → Bool
 function_step (Tree-F.Leaf t) = false
 function_step (Tree-F.Branch l bs) = function_at l bs
 
--- A DFun stands on the way from the outermost declarator to the name.
+-- Whether a DFun is on the path from the outermost declarator to the name.
 abbrev pub declares_function : Tree → Bool
 declares_function = fold-Tree Bool function_step
 
@@ -105,7 +105,7 @@ abbrev pub is_external : List Tree → Bool
 is_external (specs ∷ declarator ∷ last ∷ []) = not (labelled is_block_label (out-Tree last)) || declares_function declarator
 is_external _ = true
 
--- what a row asks of its parts together
+-- whether the rule's row allows these parts together
 abbrev pub allows : Rule → List Tree → Bool
 allows rule.TypeName cs = is_plain_type cs
 allows rule.Case cs = is_case cs
@@ -114,7 +114,7 @@ allows _ cs = true
 
 -- ---- where a branch may begin
 
--- a macro's item begins exactly here
+-- whether a macro's item begins with this class
 abbrev pub begins_macro : Class → Bool
 begins_macro class.StorageOfMacro = true
 begins_macro class.NameOfCall = true
@@ -130,15 +130,15 @@ abbrev pub is_typ : Class → Bool
 is_typ class.Typ = true
 is_typ _ = false
 
--- At the start of a statement and behind the `(` of a `for`, a declaration begins exactly here: with a word of a type, a
--- metavariable for one, or a name of which the tokens behind say so.
+-- Whether a declaration begins with this class, at the start of a statement and after the `(` of a `for`: with a word
+-- of a type, a metavariable for one, or a name that begins one by the tokens after it.
 abbrev pub begins_declaration : Class → Bool
 begins_declaration class.NameOfDecl = true
 begins_declaration class.Typ = true
 begins_declaration class.TypOfDeclarator = true
 begins_declaration c = fits word.BasicOrModifier c || begins_tag c
 
--- At the start of a statement, a label and an iterator begin exactly here.
+-- Whether a label or an iterator begins with this class at the start of a statement.
 abbrev pub begins_label : Class → Bool
 begins_label c = same_class class.NameOfLabel c || fits word.IteratorName c
 
@@ -152,9 +152,9 @@ begins_dots class.PatNestOfExpression = true
 begins_dots class.PatNestOfStatements = true
 begins_dots _ = false
 
--- Where the tokens behind let a branch begin. A metavariable for a type before no declarator is a TypeName by
--- itself. What begins a macro's item is no Field and no External of another rule. What begins a declaration, a label or
--- an iterator is no ExprStat.
+-- Whether a branch of the rule may begin at this class. A metavariable for a type that no declarator follows is a
+-- TypeName by itself. What begins a macro's item begins no Field and no External of another rule. What begins a
+-- declaration, a label or an iterator begins no ExprStat.
 abbrev pub begins : Rule → Class → Bool
 begins rule.Strings c = is_strings c
 begins rule.TypeName c = not (is_typ c)
@@ -165,13 +165,13 @@ begins rule.External c = not (begins_macro c)
 begins rule.ExternalMacro c = begins_macro c
 begins _ c = true
 
--- Where the tokens behind let a row end at a fork: an If without an `else` does not stand directly before one.
+-- Whether a row may end at a fork before this class: an If without an `else` is never directly before one.
 abbrev pub may_end : Fork → Class → Bool
 may_end fork.ElseOrNot c = not (same_class class.Else c)
 may_end _ c = true
 
--- Where the tokens behind let a row go on with a part of this kind: a declaration stands exactly where one begins, and a
--- PatNest, a Block and other statements are told apart by their first token.
+-- Whether a row may continue at a fork with a part of this kind at this class: a declaration is exactly where one
+-- begins, and the first token distinguishes a PatNest, a Block and other statements.
 abbrev pub may_stand : Fork → Kind → Class → Bool
 may_stand fork.ForInit kind.Expr c = not (begins_declaration c)
 may_stand f kind.Decl c = begins_declaration c

@@ -18,7 +18,7 @@ use Rattle.c_rows.specs.Forks.{Row, ways}
 use Rattle.c_rows.specs.Rows.{kind_of, row, heads, tails}
 use Rattle.c_rows.specs.Branches.{begins, begins_macro, begins_declaration, begins_dots, may_go}
 
--- ---- what may stand first
+-- ---- what may come first
 
 abbrev pub begins_expression : Class → Bool
 begins_expression class.Name = true
@@ -48,7 +48,7 @@ begins_statement class.Stmt = true
 begins_statement class.PatOpenOfStatements = true
 begins_statement c = begins_by_keyword c || begins_dots c || begins_expression c
 
--- a list of statements ends before this class
+-- whether a list of statements ends before this class
 abbrev pub ends_list : Class → Bool
 ends_list class.End = true
 ends_list class.PatBar = true
@@ -61,7 +61,8 @@ begins_designator class.Dot = true
 begins_designator class.LeftBracket = true
 begins_designator _ = false
 
--- A tree of the family may begin with this class. Where it may have no token, these are also the classes behind it.
+-- Whether a tree of the family may begin with this class. If such a tree may have no tokens, this includes the classes
+-- that may follow it.
 abbrev pub first : Family → Class → Bool
 first family.Expression c = begins_expression c
 first family.Args c = begins_expression c || begins_specs c || fits word.ArgRun c || same_class class.Close c
@@ -108,7 +109,7 @@ ends_declarator class.Semicolon = true
 ends_declarator class.LeftBrace = true
 ends_declarator c = ends_type c
 
--- a row that is at this fork may end before this class
+-- whether a row that is at this fork may end before this class
 abbrev pub stops_fork : forks.Fork → Class → Bool
 stops_fork fork.FirstString c = not (fits word.Str c) && not (fits word.Name c)
 stops_fork fork.SecondString c = not (fits word.Str c) && not (fits word.Name c)
@@ -133,7 +134,7 @@ stops_fork fork.MoreDesignators c = ends_item c
 stops_fork fork.ItemValue c = ends_item c
 stops_fork _ c = true
 
--- the way begins with this class
+-- whether the way begins with this class
 abbrev pub begins_way : forks.Fork → Row → Class → Bool
 begins_way f [] c = stops_fork f c
 begins_way f (Word w ∷ ps) c = fits w c
@@ -141,7 +142,7 @@ begins_way f (Child k ∷ ps) c = first (family_of k) c
 begins_way f (Argument ∷ ps) c = begins_expression c || begins_specs c
 begins_way f (Fork g ∷ ps) c = false
 
--- the way leads on at this class
+-- whether the row takes the way at this class
 abbrev pub leads : forks.Fork → Row → Class → Bool
 leads f ps c = may_go f ps c && begins_way f ps c
 
@@ -149,11 +150,11 @@ abbrev pub pick_way : forks.Fork → List Row → Class → Option Row
 pick_way f [] c = None
 pick_way f (ps ∷ more) c = if leads f ps c then Some ps else pick_way f more c
 
--- the way at a fork
+-- the way that a row takes at a fork
 abbrev pub choose : forks.Fork → Class → Option Row
 choose f c = pick_way f (ways f) c
 
--- what is left of a row may begin with this class
+-- whether the rest of a row may begin with this class
 abbrev pub opens : Row → Class → Bool
 opens [] c = true
 opens (Word w ∷ ps) c = fits w c
@@ -163,7 +164,7 @@ opens (Fork f ∷ ps) c = is_some (choose f c)
 
 -- ---- rules
 
--- the kind of a rule's first part, where its family is the rule's
+-- the kind of a rule's first part, if that part is of the rule's family
 abbrev pub left_in : Family → Row → Option Kind
 left_in f [] = None
 left_in f (Word w ∷ ps) = None
@@ -178,7 +179,7 @@ abbrev pub tail_of : Row → Row
 tail_of [] = []
 tail_of (p ∷ ps) = ps
 
--- what is read after the choice of the rule
+-- the parts that are read after the rule is chosen
 abbrev pub own : Rule → Row
 own r = if is_some (left r) then tail_of (row r) else row r
 
@@ -194,7 +195,7 @@ abbrev pub pick_tail : List Rule → Class → Option Rule
 pick_tail [] c = None
 pick_tail (r ∷ rs) c = if opens (own r) c then Some r else pick_tail rs c
 
--- the rule whose row has this class behind its first part
+-- the rule whose row has this class after its first part
 abbrev pub tail : Family → Class → Option Rule
 tail f c = pick_tail (tails f) c
 
@@ -254,7 +255,7 @@ abbrev pub reach : Kind → Option Rule → Bool
 reach k None = false
 reach k (Some r) = takes_left k (left r)
 
--- a tree of kind k may stand before a token of this class
+-- whether a tree of kind k may come before a token of this class
 abbrev pub after : Kind → Class → Bool
 after k c = top (family_of k) c || reach k (tail (family_of k) c)
 
@@ -266,7 +267,7 @@ quiet m (Some r) = not (within (kind_of r) m)
 abbrev pub stops : Kind → Class → Bool
 stops m c = after m c && quiet m (tail (family_of m) c)
 
--- the same of what is left of a row
+-- the same for the rest of a row
 abbrev pub ends : Row → Class → Bool
 ends [] c = true
 ends (Word w ∷ ps) c = ends ps c
@@ -313,7 +314,7 @@ row_ok (Argument ∷ p ∷ ps) = every (λ c. implies (opens (p ∷ ps) c) (ends
 row_ok (Fork f ∷ []) = true
 row_ok (Fork f ∷ p ∷ ps) = false
 
--- a number for a row that may go on without a token, and more where it does so twice
+-- 2 for a row whose first part may take no token, 1 for a fork, and 0 otherwise
 abbrev pub weight : Row → ℕ
 weight [] = 0
 weight (Word w ∷ ps) = 0
@@ -321,7 +322,7 @@ weight (Child k ∷ ps) = if full (family_of k) then 0 else 2
 weight (Argument ∷ ps) = 0
 weight (Fork f ∷ ps) = 1
 
--- A part that may take no token stands before one that takes one, or before a fork.
+-- A part that may take no token comes before one that takes a token, or before a fork.
 abbrev pub steady : Row → Bool
 steady [] = true
 steady (Word w ∷ ps) = steady ps

@@ -9,11 +9,11 @@ opens_one s = bytes_eq s (codes "(") || bytes_eq s (codes "[") || bytes_eq s (co
 abbrev pub closes_one : List ℕ → Bool
 closes_one s = bytes_eq s (codes ")") || bytes_eq s (codes "]") || bytes_eq s (codes "}")
 
--- the depth behind a token; a closing bracket too many counts as none
+-- the depth after a token; a surplus closing bracket leaves it at zero
 abbrev pub step : Token → ℕ → ℕ
 step t depth = if opens_one t.text then depth + 1 else (if closes_one t.text then depth - 1 else depth)
 
--- the greatest depth that the tokens reach from this one on
+-- the greatest depth that the tokens reach, starting from this one
 unfoldable pub opens_from : ℕ → List Token → ℕ
 opens_from depth [] = depth
 opens_from depth (t ∷ ts) = max depth (opens_from (step t depth) ts)

@@ -15,8 +15,8 @@ use Rattle.c_rows.specs.Kinds.{family_of, within, has_leaf}
 use Rattle.c_rows.specs.Rows.{Row, ways, row, kind_of, build}
 use Rattle.c_rows.specs.Branches.{begins, allows, may_go}
 
--- `may` says of two lists, the second of which is the end of the first, whether a type that spells the tokens
--- between them may be a member of a call's list.
+-- `may` takes two lists, the second of which is the end of the first, and says whether a type that spells the tokens
+-- between them may be a member of an argument list.
 module _ (names : Names) (may : List Token → List Token → Type 0) where
   mutual
     -- By the rows, a tree of this kind spells the tokens from the first list to the second.
@@ -34,7 +34,7 @@ module _ (names : Names) (may : List Token → List Token → Type 0) where
           → DerivesRow ps xs cs ys → DerivesRow (Word w ∷ ps) (t ∷ xs) (tree.Leaf t ∷ cs) ys
       child : {k : Kind} {ps : Row} {xs ys zs : List Token} {t : Tree} {cs : List Tree} → Derives k xs t ys
           → DerivesRow ps ys cs zs → DerivesRow (Child k ∷ ps) xs (t ∷ cs) zs
-      -- a member of a call's list: an expression without commas, or a type where it may stand
+      -- a member of an argument list: an expression without commas, or a type if `may` allows it
       argument : {ps : Row} {xs ys zs : List Token} {t : Tree} {cs : List Tree} → Derives kind.AssignLevel xs t ys
           → DerivesRow ps ys cs zs → DerivesRow (Argument ∷ ps) xs (t ∷ cs) zs
       type_argument : {ps : Row} {xs ys zs : List Token} {t : Tree} {cs : List Tree} → may xs ys → Derives kind.TypeArg xs t ys
@@ -43,6 +43,6 @@ module _ (names : Names) (may : List Token → List Token → Type 0) where
       fork : {f : forks.Fork} {ps : Row} {xs ys : List Token} {cs : List Tree} → (i : ℕ) → slice_get (ways f) i ≡ Some ps → IsTrue (may_go f ps (look names xs))
           → DerivesRow ps xs cs ys → DerivesRow (Fork f ∷ []) xs cs ys
 
--- the rows alone: a type may stand wherever an expression may
+-- the rows alone: a type may be a member wherever an expression may
 abbrev pub Anywhere : List Token → List Token → Type 0
 Anywhere xs ys = ⊤

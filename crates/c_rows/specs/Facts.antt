@@ -1,4 +1,4 @@
--- What the branch around a tree asks of it, without the tree.
+-- What the branch around a tree needs to know of it, kept without the tree.
 use Rattle.std.specs.Prelude.{Bool, true, false, not, ◌&&◌, ◌||◌, List, [], ◌∷◌, map}
 use Rattle.std.specs.List.{list_all}
 use Rattle.c_terms.specs.declared.token.Token.{Token}
@@ -22,11 +22,11 @@ facts_of t = record {
   block = labelled is_block_label (out-Tree t);
 }
 
--- of a token by itself
+-- the facts of a token by itself
 abbrev pub leaf_facts : Token → Facts
 leaf_facts t = record { plain = not (is_storage t); plain_parts = true; names = is_named t; functions = false; loose = false; block = false }
 
--- of a branch with this label
+-- the facts of a branch with this label
 abbrev pub label_facts : Label → List Facts → Facts
 label_facts l fs = record {
   plain = not (defines l);
@@ -37,7 +37,7 @@ label_facts l fs = record {
   block = is_block_label l;
 }
 
--- Of a branch of this rule: where its parts tell the label, they change nothing of these facts.
+-- The facts of a branch of this rule. If the parts determine the label, that makes no difference to these facts.
 abbrev pub branch_facts : Rule → List Facts → Facts
 branch_facts r fs = label_facts (label_of r []) fs
 
@@ -55,7 +55,7 @@ abbrev pub allows_external : List Facts → Bool
 allows_external (s ∷ d ∷ l ∷ []) = not l.block || d.functions
 allows_external _ = true
 
--- what a row asks of its parts together, by their facts
+-- whether the rule's row allows parts with these facts together
 abbrev pub allows_facts : Rule → List Facts → Bool
 allows_facts rule.TypeName fs = allows_type fs
 allows_facts rule.Case fs = allows_case fs

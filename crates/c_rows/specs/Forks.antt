@@ -1,4 +1,4 @@
--- What a row has for parts, and the ways in which it may go on at a fork.
+-- The parts of a row, and the ways in which it may continue at a fork.
 use Rattle.std.specs.Prelude.{List, [], ◌∷◌}
 use Rattle.c_rows.specs.declared.class.Class.{Class}
 use Rattle.c_rows.specs.declared.class.Class.TheVariants as class
@@ -16,7 +16,7 @@ Row = List Symbol
 abbrev pub One : Class → Symbol
 One c = Word (word.One c)
 
--- the ways in which a row may go on at a fork
+-- the ways in which a row may continue at a fork
 abbrev pub ways : forks.Fork → List Row
 -- two or more strings and names, no two names side by side, and at least one string
 ways fork.FirstString =
@@ -30,17 +30,17 @@ ways fork.AfterString =
     ∷ (Word word.Name ∷ Fork fork.AfterName ∷ [])
     ∷ [] ∷ []
 ways fork.AfterName = (Word word.Str ∷ Fork fork.AfterString ∷ []) ∷ [] ∷ []
--- members parted by commas, or none
+-- members separated by commas, possibly none
 ways fork.FirstArg = (Argument ∷ Fork fork.MoreArgs ∷ []) ∷ (Word word.ArgRun ∷ Fork fork.MoreArgs ∷ []) ∷ [] ∷ []
 ways fork.MoreArgs = (One class.Comma ∷ Fork fork.NextArg ∷ []) ∷ [] ∷ []
 ways fork.NextArg = (Argument ∷ Fork fork.MoreArgs ∷ []) ∷ (Word word.ArgRun ∷ Fork fork.MoreArgs ∷ []) ∷ []
--- two or more branches, all parted by `\|` or all by `\&`
+-- two or more branches, all separated by `\|` or all by `\&`
 ways fork.FirstBranch =
     (One class.PatBar ∷ Child kind.Expr ∷ Fork fork.MoreOr ∷ [])
     ∷ (One class.PatAmp ∷ Child kind.Expr ∷ Fork fork.MoreAnd ∷ []) ∷ []
 ways fork.MoreOr = (One class.PatBar ∷ Child kind.Expr ∷ Fork fork.MoreOr ∷ []) ∷ (One class.PatClose ∷ []) ∷ []
 ways fork.MoreAnd = (One class.PatAmp ∷ Child kind.Expr ∷ Fork fork.MoreAnd ∷ []) ∷ (One class.PatClose ∷ []) ∷ []
--- a declarator or none
+-- an optional declarator
 ways fork.Nameless = (Child kind.Declarator ∷ []) ∷ [] ∷ []
 -- modifiers in any order, with exactly one type part: basic words, a tag or a name
 ways fork.NoType =
@@ -50,7 +50,7 @@ ways fork.NoType =
     ∷ (Word word.Name ∷ Fork fork.OneType ∷ []) ∷ []
 ways fork.BasicType = (Word word.BasicOrModifier ∷ Fork fork.BasicType ∷ []) ∷ [] ∷ []
 ways fork.OneType = (Word word.Modifier ∷ Fork fork.OneType ∷ []) ∷ [] ∷ []
--- a name or none, and the members
+-- an optional name, and the members
 ways fork.StructName =
     (Word word.Name ∷ One class.LeftBrace ∷ Fork fork.Members ∷ [])
     ∷ (One class.LeftBrace ∷ Fork fork.Members ∷ []) ∷ []
@@ -58,7 +58,7 @@ ways fork.Members =
     (Child kind.Field ∷ Fork fork.Members ∷ [])
     ∷ (Child kind.MacroItem ∷ Fork fork.Members ∷ [])
     ∷ (One class.RightBrace ∷ []) ∷ []
--- declarators and bits parted by commas, or none
+-- declarators and bits separated by commas, possibly none
 ways fork.FirstField =
     (Child kind.FieldDeclarator ∷ Fork fork.MoreFields ∷ [])
     ∷ (Child kind.NamelessBits ∷ Fork fork.MoreFields ∷ [])
@@ -67,17 +67,17 @@ ways fork.MoreFields = (One class.Comma ∷ Fork fork.NextField ∷ []) ∷ (One
 ways fork.NextField =
     (Child kind.FieldDeclarator ∷ Fork fork.MoreFields ∷ [])
     ∷ (Child kind.NamelessBits ∷ Fork fork.MoreFields ∷ []) ∷ []
--- a name or none, and enumerators parted by commas, with or without a last comma
+-- an optional name, and enumerators separated by commas, with an optional trailing comma
 ways fork.EnumName =
     (Word word.Name ∷ One class.LeftBrace ∷ Child kind.Enumerator ∷ Fork fork.MoreEnumerators ∷ [])
     ∷ (One class.LeftBrace ∷ Child kind.Enumerator ∷ Fork fork.MoreEnumerators ∷ []) ∷ []
 ways fork.MoreEnumerators = (One class.Comma ∷ Fork fork.NextEnumerator ∷ []) ∷ (One class.RightBrace ∷ []) ∷ []
 ways fork.NextEnumerator = (Child kind.Enumerator ∷ Fork fork.MoreEnumerators ∷ []) ∷ (One class.RightBrace ∷ []) ∷ []
--- qualifiers, and a declarator or none
+-- qualifiers, and an optional declarator
 ways fork.Pointee = (One class.Qualifier ∷ Fork fork.Pointee ∷ []) ∷ (Child kind.Declarator ∷ []) ∷ [] ∷ []
--- a size or none
+-- an optional size
 ways fork.Size = (Child kind.CondLevel ∷ One class.RightBracket ∷ []) ∷ (One class.RightBracket ∷ []) ∷ []
--- parameters parted by commas, or none; the last may be `...`
+-- parameters separated by commas, possibly none; the last may be `...`
 ways fork.FirstParam =
     (Child kind.Param ∷ Fork fork.MoreParams ∷ [])
     ∷ (Word word.ParamRun ∷ Fork fork.MoreParams ∷ [])
@@ -88,9 +88,9 @@ ways fork.NextParam =
     (Child kind.Param ∷ Fork fork.MoreParams ∷ [])
     ∷ (Word word.ParamRun ∷ Fork fork.MoreParams ∷ [])
     ∷ (One class.Ellipsis ∷ []) ∷ []
--- a declarator or none
+-- an optional declarator
 ways fork.ParamName = (Child kind.Declarator ∷ []) ∷ [] ∷ []
--- members parted by commas, or none, with or without a last comma
+-- members separated by commas, possibly none, with an optional trailing comma
 ways fork.FirstInit =
     (Child kind.AssignLevel ∷ Fork fork.MoreInits ∷ [])
     ∷ (Child kind.InitList ∷ Fork fork.MoreInits ∷ [])
@@ -116,7 +116,7 @@ ways fork.AtEnd =
 ways fork.MacroWords =
     (Word word.Storage ∷ Fork fork.MacroWords ∷ [])
     ∷ (Word word.Name ∷ Word word.AnyOpen ∷ Child kind.Args ∷ One class.Close ∷ One class.Semicolon ∷ []) ∷ []
--- declarators and initialisers parted by commas, or none
+-- declarators and initialisers separated by commas, possibly none
 ways fork.FirstDeclarator =
     (Child kind.InitDeclarator ∷ Fork fork.MoreDeclarators ∷ [])
     ∷ (One class.Semicolon ∷ []) ∷ []
@@ -138,11 +138,11 @@ ways fork.BlockBehindDots =
     (Child kind.Decl ∷ Fork fork.BlockStatements ∷ [])
     ∷ (Child kind.Statement ∷ Fork fork.BlockStatements ∷ [])
     ∷ (One class.RightBrace ∷ []) ∷ []
--- `else` and a body, or not
+-- an optional `else` and its body
 ways fork.ElseOrNot =
     (One class.Else ∷ Child kind.Body ∷ [])
     ∷ [] ∷ []
--- what stands in the brackets, and a body
+-- what is in the brackets, and a body
 ways fork.ForInit =
     (Child kind.Decl ∷ Fork fork.ForTest ∷ [])
     ∷ (Child kind.Expr ∷ One class.Semicolon ∷ Fork fork.ForTest ∷ [])
@@ -157,7 +157,7 @@ ways fork.ForStep =
 ways fork.CaseEnd =
     (One class.Colon ∷ [])
     ∷ (One class.Ellipsis ∷ Child kind.CondLevel ∷ One class.Colon ∷ []) ∷ []
--- an expression or none
+-- an optional expression
 ways fork.ReturnValue =
     (Child kind.Expr ∷ One class.Semicolon ∷ [])
     ∷ (One class.Semicolon ∷ []) ∷ []
@@ -172,7 +172,7 @@ ways fork.ListBehindDots =
     (Child kind.Decl ∷ Fork fork.ListStatements ∷ [])
     ∷ (Child kind.Statement ∷ Fork fork.ListStatements ∷ [])
     ∷ [] ∷ []
--- declarators and initialisers parted by commas, or none; or behind the first a Block
+-- declarators and initialisers separated by commas, possibly none; or, after the first, a Block
 ways fork.FirstExternal =
     (Child kind.InitDeclarator ∷ Fork fork.AfterExternal ∷ [])
     ∷ (One class.Semicolon ∷ []) ∷ []
@@ -187,7 +187,7 @@ ways fork.MacroNames =
 ways fork.MacroEnd =
     (One class.Semicolon ∷ [])
     ∷ (Child kind.Block ∷ []) ∷ []
--- two or more lists of statements, all parted by `\|` or all by `\&`
+-- two or more lists of statements, all separated by `\|` or all by `\&`
 ways fork.FirstList =
     (One class.PatBar ∷ Child kind.StmtList ∷ Fork fork.MoreListsOr ∷ [])
     ∷ (One class.PatAmp ∷ Child kind.StmtList ∷ Fork fork.MoreListsAnd ∷ []) ∷ []

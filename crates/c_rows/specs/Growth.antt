@@ -1,4 +1,4 @@
--- A tree from its first operand on: how a left-grouping tree grows.
+-- How a left-grouping tree grows from its first operand.
 use Rattle.std.specs.Prelude.{◌≡◌, Bool, true, IsTrue, Option, Some, None, List, ◌∷◌}
 use Rattle.c_terms.specs.declared.tree.Tree.{Tree}
 use Rattle.c_terms.specs.declared.tree.Tree.TheVariants as tree
@@ -25,7 +25,7 @@ abbrev pub root_ends : Root → Class → Bool
 root_ends None c = true
 root_ends (Some r) c = ends (own r) c
 
--- a tree that begins with a token of its own
+-- a tree that begins with a token of its own and not with a tree to its left
 pub data Operand (m : Kind) : Root → List Seen → Tree → List Seen → Type 0 where
   token : {s : Seen} {ys : List Seen} → IsTrue (has_leaf (family_of m) s.class) → Operand m None (s ∷ ys) (tree.Leaf s.token) ys
   headed : {xs ys : List Seen} {cs : List Tree} → (r : Rule) → IsTrue (within (kind_of r) m) → left r ≡ None → IsTrue (begins r (front xs)) → IsTrue (allows r cs) → Runs (own r) xs cs ys

@@ -1,4 +1,4 @@
--- The kinds of trees, and which lie within which.
+-- The kinds of trees, and which of them include which.
 use Rattle.std.specs.Prelude.{ℕ, Bool, true, false, ◌&&◌, nat_le}
 use Rattle.c_rows.specs.declared.class.Class.{Class}
 use Rattle.c_rows.specs.declared.class.Class.TheVariants as class
@@ -68,7 +68,7 @@ rank kind.Body = 2
 rank kind.Statement = 3
 rank _ = 0
 
--- Bits and declarators with an initialiser lie beside each other.
+-- Bits and declarators with an initialiser don't include each other.
 abbrev pub side : Kind → ℕ
 side kind.FieldDeclarator = 1
 side _ = 0
@@ -96,7 +96,7 @@ same_family family.StmtList family.StmtList = true
 same_family family.External family.External = true
 same_family _ _ = false
 
--- every tree of kind k is one of kind m
+-- whether every tree of kind k is also one of kind m
 abbrev pub within : Kind → Kind → Bool
 within k m = same_family (family_of k) (family_of m) && nat_le (rank k) (rank m) && nat_le (side k) (side m)
 
@@ -111,9 +111,9 @@ is_operand class.Operand = true
 is_operand class.Str = true
 is_operand _ = false
 
--- Where a token by itself is a tree: names, constants and strings as expressions, names as declarators and
--- enumerators, metavariables for types as a Specs, and before no declarator as a TypeName; `...` and metavariables for
--- statements as statements.
+-- Whether a token by itself is a tree: names, constants and strings as expressions, names as declarators and
+-- enumerators, metavariables for types as a Specs, and as a TypeName if no declarator follows; `...` and metavariables
+-- for statements as statements.
 abbrev pub has_leaf : Family → Class → Bool
 has_leaf family.Expression c = is_operand c
 has_leaf family.TypeName class.Typ = true

@@ -1,4 +1,4 @@
--- The labels of branches, as their parts tell them.
+-- The labels of branches, as their parts determine them.
 use Rattle.std.specs.Prelude.{ℕ, Bool, true, false, not, if◌then◌else◌, List, [], ◌∷◌, codes}
 use Rattle.std.specs.List.{list_all}
 use Rattle.std.specs.Str.{bytes_eq}
@@ -13,7 +13,7 @@ abbrev pub text_is : List ℕ → Tree-F Tree → Bool
 text_is s (Tree-F.Leaf t) = bytes_eq t.text s
 text_is s (Tree-F.Branch l cs) = false
 
--- Branches of a pattern parted by `\|` are a PatOr, those parted by `\&` a PatAnd.
+-- Branches of a pattern are a PatOr if `\|` separates them, and a PatAnd if `\&` does.
 abbrev pub branches_label : List Tree → Label
 branches_label (a ∷ b ∷ c ∷ cs) = if text_is (codes "\\|") (out-Tree c) then label.PatOr else label.PatAnd
 branches_label _ = label.PatAnd
@@ -33,7 +33,7 @@ abbrev pub case_label : List Tree → Label
 case_label (a ∷ b ∷ c ∷ []) = label.Case
 case_label _ = label.CaseRange
 
--- a branch with such a label
+-- whether the tree is a branch whose label passes the test
 abbrev pub labelled : (Label → Bool) → Tree-F Tree → Bool
 labelled p (Tree-F.Leaf t) = false
 labelled p (Tree-F.Branch l cs) = p l
@@ -51,7 +51,7 @@ abbrev pub is_block_label : Label → Bool
 is_block_label label.Block = true
 is_block_label _ = false
 
--- Type words, a declarator and a Block are a FunDef, anything else behind type words a Decl.
+-- Type words, a declarator and a Block are a FunDef; anything else after type words is a Decl.
 abbrev pub external_label : List Tree → Label
 external_label (a ∷ b ∷ c ∷ []) = if labelled is_block_label (out-Tree c) then label.FunDef else label.Decl
 external_label _ = label.Decl
@@ -63,7 +63,7 @@ is_blockless = list_all (λ c. not (labelled is_block_label (out-Tree c)))
 abbrev pub macro_label : List Tree → Label
 macro_label cs = if is_blockless cs then label.MacroItem else label.MacroFun
 
--- the label of a branch with these children that is so named
+-- the label of a branch with these children that is named in this way
 abbrev pub named : Naming → List Tree → Label
 named (naming.Always l) cs = l
 named naming.PatBySign cs = branches_label cs

@@ -1,4 +1,4 @@
--- What public contracts rest on, in reading order.
+-- The definitions on which public contracts rest, in reading order.
 
 pub mod Limits
 pub mod Texts
@@ -13,10 +13,10 @@ pub mod Branches
 pub mod Derives
 pub mod Trees
 pub mod Depth
--- What the law on types rests on besides.
+-- What the law on types rests on in addition.
 
 pub mod Letter
--- What of trees a reader keeps that makes none.
+-- What a reader that builds no trees keeps of them.
 
 pub mod Facts
 -- How the rows are read.

@@ -21,7 +21,7 @@ Names = List (List ℕ)
 abbrev pub is_known : Names → Token → Bool
 is_known names t = is_named t && has_name names t.text
 
--- ---- what stands first
+-- ---- the first token
 
 abbrev pub at_sign : List Token → List ℕ → Bool
 at_sign [] s = false
@@ -42,21 +42,21 @@ abbrev pub stars_close : List Token → Bool
 stars_close [] = false
 stars_close (t ∷ ts) = is_sign t (codes ")") || is_sign t (codes "*") && stars_close ts
 
--- It begins a type where the next token is a type word; or a name in the names; or a name that is followed by
--- one or more `*` and `)`.
+-- The `(` begins a type if the next token is a type word; or a name in the names; or a name that is followed by one or
+-- more `*` and `)`.
 abbrev pub begins_type : Names → List Token → Bool
 begins_type names [] = false
 begins_type names (t ∷ ts) = is_type_word t || is_known names t || is_named t && at_sign ts (codes "*") && stars_close ts
 
--- but for `sizeof` and `_Alignof`, also where a name and `)` are followed by what follows a cast
+-- except after `sizeof` and `_Alignof`, it also begins a type if what follows a cast comes after a name and `)`
 abbrev pub begins_unknown_cast : List Token → Bool
 begins_unknown_cast (t ∷ u ∷ v ∷ ts) = is_named t && is_sign u (codes ")") && follows_cast v
 begins_unknown_cast _ = false
 
--- ---- a `(` where nothing of the inner declarator was read yet
+-- ---- a `(` before anything of the inner declarator has been read
 
--- It begins a declarator in brackets where the next token is `*`, `(`, or a name that is not in the names, and
--- else the parameters of a function without a name.
+-- The `(` begins a declarator in brackets if the next token is `*`, `(`, or a name that is not in the names. Otherwise
+-- it begins the parameters of a function without a name.
 abbrev pub begins_nest : Names → List Token → Bool
 begins_nest names [] = false
 begins_nest names (t ∷ ts) = is_sign t (codes "*") || is_sign t (codes "(") || is_named t && not (has_name names t.text)
@@ -69,7 +69,8 @@ is_opening t = is_sign t (codes "(") || is_sign t (codes "[") || is_sign t (code
 abbrev pub is_closing : Token → Bool
 is_closing t = is_sign t (codes ")") || is_sign t (codes "]") || is_sign t (codes "}")
 
--- Behind an opening bracket, and in so many more: what stands behind the bracket that closes it.
+-- The tokens after the bracket that closes an opening one, given the tokens after that, with `more` further brackets
+-- open.
 abbrev pub behind_group : ℕ → List Token → List Token
 behind_group more [] = []
 behind_group more (t ∷ ts) =
@@ -77,7 +78,7 @@ behind_group more (t ∷ ts) =
     else (if is_closing t then (if more == 0 then ts else behind_group (more - 1) ts)
     else behind_group more ts)
 
--- Behind an opening bracket: the bracket that closes it is directly followed by `{`.
+-- Given the tokens after an opening bracket: whether `{` directly follows the bracket that closes it.
 abbrev pub closes_before_brace : List Token → Bool
 closes_before_brace ts = at_sign (behind_group 0 ts) (codes "{")
 
@@ -99,8 +100,8 @@ abbrev pub is_name_before_brace : List Token → Bool
 is_name_before_brace (t ∷ u ∷ v ∷ ts) = is_named t && is_sign u (codes ")") && is_sign v (codes "{")
 is_name_before_brace _ = false
 
--- `sizeof` stands before a type in brackets, or before an expression, which may be a literal. A name in brackets
--- that is not known as a type is no type of a literal here.
+-- `sizeof` is before a type in brackets, or before an expression, which may be a literal. A name in brackets that is
+-- not known as a type is not the type of a literal here.
 abbrev pub sizeof_bracket : Names → List Token → Class
 sizeof_bracket names ts =
     if begins_type names ts
@@ -111,7 +112,7 @@ abbrev pub sizeof : Names → List Token → Class
 sizeof names [] = class.SizeofExpr
 sizeof names (t ∷ ts) = if is_sign t (codes "(") then sizeof_bracket names ts else class.SizeofExpr
 
--- `_Alignof` stands before a type in brackets
+-- `_Alignof` is before a type in brackets
 abbrev pub alignof : Names → List Token → Class
 alignof names [] = class.Other
 alignof names (t ∷ ts) = if is_sign t (codes "(") && begins_type names ts then class.SizeofType else class.Other
@@ -121,14 +122,14 @@ abbrev pub has_members : List Token → Bool
 has_members [] = false
 has_members (t ∷ ts) = is_sign t (codes "{") || is_named t && at_sign ts (codes "{")
 
--- A storage word before further ones, a name, and a `(` that no `*` follows, begins a macro's item.
+-- A storage word before any others, a name, and a `(` that no `*` follows begins a macro's item.
 abbrev pub storage : Class → Class
 storage class.StorageOfMacro = class.StorageOfMacro
 storage class.NameOfCall = class.StorageOfMacro
 storage class.NameOfIterator = class.StorageOfMacro
 storage _ = class.Storage
 
--- what the tokens behind tell of a keyword
+-- the class of a keyword, given the tokens after it
 abbrev pub keyword_before : Names → List Token → Class → Class → Class
 keyword_before names ts next class.Storage = storage next
 keyword_before names ts next class.Struct = if has_members ts then class.StructBody else class.Struct
@@ -151,8 +152,8 @@ abbrev pub stars_name : List Token → Bool
 stars_name [] = false
 stars_name (t ∷ ts) = if is_sign t (codes "*") then stars_name ts else is_named t && at_end_of_name ts
 
--- At the start of a statement, and behind the `(` of a `for`, a name with this text begins a declaration where it is in
--- the names and a name or `*` follows; and where any number of `*`, a name, and one of `;`, `,`, `=` and `[` follow.
+-- At the start of a statement, and after the `(` of a `for`, a name with this text begins a declaration if it is in the
+-- names and a name or `*` follows; and if any number of `*`, a name, and one of `;`, `,`, `=` and `[` follow.
 abbrev pub declares : Names → List ℕ → List Token → Bool
 declares names s ts = (at_name ts || at_sign ts (codes "*")) && has_name names s || stars_name ts
 
@@ -160,12 +161,12 @@ abbrev pub at_word : List Token → Bool
 at_word [] = false
 at_word (t ∷ ts) = is_word t
 
--- At the start of a statement, a name with this text and a `(` begin an iterator where `{` stands behind the bracket that
--- closes it; and where the text holds `for_each` and a name, a keyword or a metavariable stands there.
+-- At the start of a statement, a name with this text and a `(` begin an iterator if `{` follows the bracket that closes
+-- it; and if the text contains `for_each` and a name, a keyword or a metavariable follows that bracket.
 abbrev pub iterates : List ℕ → List Token → Bool
 iterates s inside = at_sign (behind_group 0 inside) (codes "{") || holds_for_each s && at_word (behind_group 0 inside)
 
--- before `(`
+-- the class of a name before `(`
 abbrev pub name_of_bracket : List ℕ → List Token → Class
 name_of_bracket s inside =
     if iterates s inside
@@ -193,7 +194,7 @@ typ ts = if at_sign ts (codes "*") || at_sign ts (codes "(") || at_sign ts (code
 abbrev pub question : List Token → Class
 question ts = if at_sign ts (codes ":") then class.ShortQuestion else class.Question
 
--- what the tokens behind tell of a punctuator
+-- the class of a punctuator, given the tokens after it
 abbrev pub sign_before : Names → List Token → Class → Class
 sign_before names ts class.ParenNest = bracket names ts
 sign_before names ts class.Question = question ts
@@ -230,7 +231,7 @@ group t =
     else (if is_sign t (codes ";") then groups.Semicolon
     else groups.Plain)))
 
--- `behind` tells of what stands behind the token, in so many groups.
+-- `behind` gives the result for the tokens after this one, inside the given number of groups.
 abbrev pub semicolon_from : Group → ℕ → (ℕ → Bool) → Bool
 semicolon_from groups.Opening d behind = behind (suc d)
 semicolon_from groups.Closing zero behind = false
@@ -241,12 +242,12 @@ semicolon_from groups.Semicolon zero behind = true
 semicolon_from groups.Semicolon (suc d) behind = behind (suc d)
 semicolon_from groups.Plain d behind = behind d
 
--- In so many groups of the first branch: a `;` stands in that branch, in no group.
+-- Whether the first branch has a `;` outside groups, when the scan starts inside d groups of that branch.
 unfoldable pub has_semicolon : ℕ → List Token → Bool
 has_semicolon d [] = false
 has_semicolon d (t ∷ ts) = semicolon_from (group t) d (λ e. has_semicolon e ts)
 
--- What begins statements and no expression, and what ends a branch or a nest that has nothing.
+-- Whether this class begins statements and no expression, or ends an empty branch or nest.
 abbrev pub begins_statements : Class → Bool
 begins_statements class.LeftBrace = true
 begins_statements class.NameOfLabel = true
@@ -263,12 +264,12 @@ begins_statements class.PatClose = true
 begins_statements class.PatNestClose = true
 begins_statements c = begins_by_keyword c
 
--- The first branch of a PatOr or PatAnd, or what a PatNest has, is a list of statements: it is empty, or begins as no
--- expression does, or has a `;`.
+-- Whether the first branch of a PatOr or PatAnd, or the content of a PatNest, is a list of statements: it is empty, or
+-- begins as no expression does, or has a `;`.
 abbrev pub is_of_statements : Bool → Class → Bool
 is_of_statements semicolon next = begins_statements next || semicolon
 
--- what stands behind a sign of patterns: statements or an expression
+-- what follows a sign of patterns: statements or an expression
 abbrev pub pattern_before : Bool → Class → Class
 pattern_before statements class.PatOpen = if statements then class.PatOpenOfStatements else class.PatOpen
 pattern_before statements class.PatNestOfExpression = if statements then class.PatNestOfStatements else class.PatNestOfExpression
@@ -289,7 +290,7 @@ class_of names (token.Meta k) s ts next = metavariable names k s ts
 class_of names token.Dots s ts next = class.Dots
 class_of names token.Pat s ts next = pattern s (has_semicolon 0 ts) next
 
--- what stands at the front of the tokens
+-- the class of the front of the tokens
 unfoldable pub look : Names → List Token → Class
 look names [] = class.End
 look names (t ∷ ts) = class_of names t.kind t.text ts (look names ts)

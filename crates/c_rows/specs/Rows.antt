@@ -1,4 +1,4 @@
--- The rows of the grammar: of each rule, of which kind and label its branches are, and their parts in order.
+-- The rows of the grammar: for each rule, the kind and the label of its branches, and their parts in order.
 use Rattle.std.specs.Prelude.{List, [], ◌∷◌}
 use Rattle.c_terms.specs.declared.label.Label.{Label}
 use Rattle.c_terms.specs.declared.label.Label.TheVariants as label
@@ -20,7 +20,7 @@ use Rattle.c_rows.specs.declared.symbol.Fork.TheVariants as fork
 use Rattle.c_rows.specs.Labels.{named}
 pub use Rattle.c_rows.specs.Forks.{Row, One, ways}
 
--- the tightest kind of which a branch is, how it is labelled, and its parts in order
+-- the tightest kind of a branch, how the branch is labelled, and its parts in order
 pub record Production : Type 0 where
   pub kind : Kind
   pub naming : Naming
@@ -51,7 +51,7 @@ production rule.SizeofExpr = Of kind.Un (Always label.SizeofExpr) (One class.Siz
 -- `sizeof` or `_Alignof`, `(` type-name `)`: `sizeof(T)`
 production rule.SizeofType = Of kind.Un (Always label.SizeofType)
     (One class.SizeofType ∷ Word word.AnyOpen ∷ Child kind.TypeName ∷ One class.Close ∷ [])
--- expressions between `\(` and `\)`, parted by `\|` or by `\&`: `\( a \| b \)`, `\( a \& b \)`
+-- expressions between `\(` and `\)`, separated by `\|` or by `\&`: `\( a \| b \)`, `\( a \& b \)`
 production rule.PatBranches = Of kind.Post PatBySign (One class.PatOpen ∷ Child kind.Expr ∷ Fork fork.FirstBranch ∷ [])
 -- postfix-expression `[` expression `]`: `e[e]`
 production rule.Index = Of kind.Post (Always label.Index)
@@ -94,27 +94,27 @@ production rule.CondShort = Of kind.CondLevel (Always label.CondShort)
 production rule.Assign = Of kind.AssignLevel (Always label.Assign) (Child kind.Un ∷ Word word.Assign ∷ Child kind.AssignLevel ∷ [])
 -- expression `,` assignment-expression: `a, b`
 production rule.Comma = Of kind.Expr (Always label.Comma) (Child kind.Expr ∷ One class.Comma ∷ Child kind.AssignLevel ∷ [])
--- ---- lists of calls
+-- ---- argument lists
 
--- arguments parted by commas, or none: `a, b`
+-- arguments separated by commas, possibly none: `a, b`
 production rule.Args = Of kind.Args (Always label.Args) (Fork fork.FirstArg ∷ [])
 -- a type as an argument: `int`
 production rule.TypeArg = Of kind.TypeArg (Always label.TypeArg) (Child kind.TypeName ∷ [])
 -- ---- types
 
--- type words, and a declarator without a name, or none: `int *`
+-- type words, and an optional declarator without a name: `int *`
 production rule.TypeName = Of kind.TypeName (Always label.TypeName) (Child kind.Specs ∷ Fork fork.Nameless ∷ [])
 -- modifiers and one type part: `static const int`
 production rule.Specs = Of kind.Specs (Always label.Specs) (Fork fork.NoType ∷ [])
 -- `struct` or `union`, name: `struct s`
 production rule.StructUse = Of kind.Tag (Always label.StructUse) (One class.Struct ∷ Word word.Name ∷ [])
--- `struct` or `union`, a name or none, members in braces: `struct s { int x; }`
+-- `struct` or `union`, an optional name, members in braces: `struct s { int x; }`
 production rule.StructDef = Of kind.Tag (Always label.StructDef) (One class.StructBody ∷ Fork fork.StructName ∷ [])
 -- `enum` name: `enum e`
 production rule.EnumUse = Of kind.Tag (Always label.EnumUse) (One class.Enum ∷ Word word.Name ∷ [])
--- `enum`, a name or none, enumerators in braces: `enum e { A, B = 2 }`
+-- `enum`, an optional name, enumerators in braces: `enum e { A, B = 2 }`
 production rule.EnumDef = Of kind.Tag (Always label.EnumDef) (One class.EnumBody ∷ Fork fork.EnumName ∷ [])
--- type words, declarators and bits parted by commas, or none, `;`: `int x, y : 3;`
+-- type words, declarators and bits separated by commas (possibly none), `;`: `int x, y : 3;`
 production rule.Field = Of kind.Field (Always label.Field) (Child kind.Specs ∷ Fork fork.FirstField ∷ [])
 -- storage words, name, `(` arguments `)` `;`: `static MACRO(x);`
 production rule.MacroItem = Of kind.MacroItem (Always label.MacroItem) (Fork fork.MacroWords ∷ [])
@@ -122,15 +122,15 @@ production rule.MacroItem = Of kind.MacroItem (Always label.MacroItem) (Fork for
 production rule.NamelessBits = Of kind.NamelessBits (Always label.Bits) (One class.Colon ∷ Child kind.CondLevel ∷ [])
 -- ---- declarators
 
--- `*`, qualifiers, a declarator or none: `*const d`
+-- `*`, qualifiers, an optional declarator: `*const d`
 production rule.Pointer = Of kind.Declarator (Always label.Pointer) (One class.Star ∷ Fork fork.Pointee ∷ [])
 -- `(` declarator `)`: `(d)`
 production rule.DParen = Of kind.Direct (Always label.DParen) (Word word.NestOpen ∷ Child kind.Declarator ∷ One class.Close ∷ [])
--- `[` a size or none `]`, where no name is declared: `[3]`
+-- `[` an optional size `]`, when no name is declared: `[3]`
 production rule.NamelessArray = Of kind.Direct (Always label.DArray) (One class.LeftBracket ∷ Fork fork.Size ∷ [])
--- `(` parameters `)`, where no name is declared: `(int x)`
+-- `(` parameters `)`, when no name is declared: `(int x)`
 production rule.NamelessFun = Of kind.Direct (Always label.DFun) (Word word.ListOpen ∷ Child kind.Params ∷ One class.Close ∷ [])
--- direct-declarator `[` a size or none `]`: `d[3]`
+-- direct-declarator `[` an optional size `]`: `d[3]`
 production rule.DArray = Of kind.Direct (Always label.DArray) (Child kind.Direct ∷ One class.LeftBracket ∷ Fork fork.Size ∷ [])
 -- direct-declarator `(` parameters `)`: `d(int x)`
 production rule.DFun = Of kind.Direct (Always label.DFun) (Child kind.Direct ∷ Word word.AnyOpen ∷ Child kind.Params ∷ One class.Close ∷ [])
@@ -139,13 +139,13 @@ production rule.Bits = Of kind.FieldDeclarator (Always label.Bits) (Child kind.D
 -- declarator `=` an expression or a list of initialisers: `x = 1`
 production rule.InitDecl = Of kind.InitDeclarator (Always label.InitDecl)
     (Child kind.Declarator ∷ One class.Equal ∷ Fork fork.InitValue ∷ [])
--- parameters parted by commas, or none: `int x, ...`
+-- parameters separated by commas, possibly none: `int x, ...`
 production rule.Params = Of kind.Params (Always label.Params) (Fork fork.FirstParam ∷ [])
--- type words, and a declarator or none: `int x`
+-- type words, and an optional declarator: `int x`
 production rule.Param = Of kind.Param (Always label.Param) (Child kind.Specs ∷ Fork fork.ParamName ∷ [])
 -- ---- initialisers
 
--- initialisers in braces, parted by commas: `{ 1, .x = 2, }`
+-- initialisers in braces, separated by commas: `{ 1, .x = 2, }`
 production rule.InitList = Of kind.InitList (Always label.InitList) (One class.LeftBrace ∷ Fork fork.FirstInit ∷ [])
 -- designators `=` an expression or a list: `.x[2] = 3`
 production rule.InitItem = Of kind.InitItem (Always label.InitItem) (Child kind.Designator ∷ Fork fork.MoreDesignators ∷ [])
@@ -159,16 +159,16 @@ production rule.At = Of kind.Designator AtByRange (One class.LeftBracket ∷ Chi
 production rule.EnumValue = Of kind.Enumerator (Always label.EnumValue) (Child kind.EnumName ∷ One class.Equal ∷ Child kind.CondLevel ∷ [])
 -- ---- declarations
 
--- type words, declarators and initialisers parted by commas, or none, `;`: `int x = 1, y;`
+-- type words, declarators and initialisers separated by commas (possibly none), `;`: `int x = 1, y;`
 production rule.Decl = Of kind.Decl (Always label.Decl) (Child kind.Specs ∷ Fork fork.FirstDeclarator ∷ [])
 -- ---- statements
 
 -- expression `;`: `f();`
 production rule.ExprStat = Of kind.Body (Always label.ExprStat) (Child kind.Expr ∷ One class.Semicolon ∷ [])
--- `if` `(` expression `)` body, and with or without `else` body: `if (c) f(); else g();`
+-- `if` `(` expression `)` body, and optionally `else` body: `if (c) f(); else g();`
 production rule.If = Of kind.Body IfByElse
     (One class.If ∷ Word word.AnyOpen ∷ Child kind.Expr ∷ One class.Close ∷ Child kind.Body ∷ Fork fork.ElseOrNot ∷ [])
--- `return` an expression or none `;`: `return e;`
+-- `return` an optional expression `;`: `return e;`
 production rule.Return = Of kind.Body (Always label.Return) (One class.Return ∷ Fork fork.ReturnValue ∷ [])
 -- `{` statements `}`: `{ f(); }`
 production rule.Block = Of kind.Block (Always label.Block) (One class.LeftBrace ∷ Fork fork.BlockStatements ∷ [])
@@ -180,7 +180,8 @@ production rule.Label = Of kind.Statement (Always label.Label) (One class.NameOf
 production rule.Case = Of kind.Statement CaseByRange (One class.Case ∷ Child kind.Expr ∷ Fork fork.CaseEnd ∷ [])
 -- `break` `;`
 production rule.Break = Of kind.Body (Always label.Break) (One class.Break ∷ One class.Semicolon ∷ [])
--- `for` `(` a declaration, or an expression or none and `;`, two more, `)` body: `for (;;) f();`
+-- `for` `(`, a declaration or an optional expression and `;`, an optional expression and `;`, an optional expression, `)` body:
+-- `for (;;) f();`
 production rule.For = Of kind.Body ForByDecl (One class.For ∷ Word word.AnyOpen ∷ Fork fork.ForInit ∷ [])
 -- `while` `(` expression `)` body: `while (c) f();`
 production rule.While = Of kind.Body (Always label.While)
@@ -200,7 +201,7 @@ production rule.Do = Of kind.Body (Always label.Do)
     (One class.Do ∷ Child kind.Body ∷ One class.While ∷ Word word.AnyOpen ∷ Child kind.Expr ∷ One class.Close ∷ One class.Semicolon ∷ [])
 -- `;`
 production rule.Empty = Of kind.Body (Always label.Empty) (One class.Semicolon ∷ [])
--- lists of statements between `\(` and `\)`, parted by `\|` or by `\&`: `\( f(); \| g(); \)`
+-- lists of statements between `\(` and `\)`, separated by `\|` or by `\&`: `\( f(); \| g(); \)`
 production rule.PatLists = Of kind.Body PatBySign (One class.PatOpenOfStatements ∷ Child kind.StmtList ∷ Fork fork.FirstList ∷ [])
 -- `<...` or `<+...`, an expression or statements, `...>` or `...+>`: `<... f(x) ...>`
 production rule.PatNest = Of kind.PatNest (Always label.PatNest) (Fork fork.NestStart ∷ [])
@@ -208,14 +209,14 @@ production rule.PatNest = Of kind.PatNest (Always label.PatNest) (Fork fork.Nest
 production rule.StmtList = Of kind.StmtList (Always label.StmtList) (Fork fork.ListStatements ∷ [])
 -- ---- items
 
--- type words, a declarator and a Block, or what a Decl has: `int f(void) { }`, `int x = 1, y;`
+-- type words, a declarator and a Block, or the parts of a Decl: `int f(void) { }`, `int x = 1, y;`
 production rule.External = Of kind.External DeclByBlock (Child kind.Specs ∷ Fork fork.FirstExternal ∷ [])
 -- storage words, name, `(` arguments `)`, and `;` or a Block: `MACRO(x);`, `MACRO(x) { }`
 production rule.ExternalMacro = Of kind.External MacroByBlock (Fork fork.MacroNames ∷ [])
 -- `;`
 production rule.ExternalEmpty = Of kind.External (Always label.Empty) (One class.Semicolon ∷ [])
 
--- ---- what it says of a rule
+-- ---- what the production says of a rule
 
 abbrev pub kind_of : Rule → Kind
 kind_of r = (production r).kind
@@ -226,7 +227,7 @@ row r = (production r).parts
 abbrev pub naming_of : Rule → Naming
 naming_of r = (production r).naming
 
--- the label of a branch with these children
+-- the label of a branch of the rule with these children
 abbrev pub label_of : Rule → List Tree → Label
 label_of r cs = named (naming_of r) cs
 

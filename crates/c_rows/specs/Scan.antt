@@ -1,4 +1,4 @@
--- Where a member of a list ends: at the first `?`, comma or closing bracket outside brackets of its own.
+-- Where a member of a list ends: at the first `?`, comma or closing bracket outside its own brackets.
 use Rattle.std.specs.Prelude.{ℕ, zero, suc, Bool, List, [], ◌∷◌}
 use Rattle.c_terms.specs.declared.token.Token.{Token}
 use Rattle.c_rows.specs.declared.class.Class.{Class}
@@ -28,7 +28,7 @@ turn class.Question = turns.Asking
 turn class.Comma = turns.Parting
 turn _ = turns.Plain
 
--- `go` scans what is behind the token, in so many brackets.
+-- `go` scans the tokens after this one, inside the given number of brackets.
 abbrev pub step : Turn → ℕ → List Token → (ℕ → List Token) → List Token
 step turns.Opening d here go = go (suc d)
 step turns.Closing zero here go = here
@@ -39,11 +39,12 @@ step turns.Parting zero here go = here
 step turns.Parting (suc d) here go = go (suc d)
 step turns.Plain d here go = go d
 
--- In so many brackets: the first `?`, comma or closing bracket that stands in none.
+-- The tokens from the first `?`, comma or closing bracket on that is outside all brackets, when the scan starts inside
+-- d of them.
 unfoldable pub scan : Names → ℕ → List Token → List Token
 scan names d [] = []
 scan names d (t ∷ ts) = step (turn (look names (t ∷ ts))) d (t ∷ ts) (λ e. scan names e ts)
 
--- What begins here goes on to a comma or `)`, with no `?` before, brackets of its own aside.
+-- What begins here extends to a comma or `)` with no `?` before it, not counting what is inside its own brackets.
 abbrev pub ends_as_member : Names → List Token → Bool
 ends_as_member names ts = ends_member (look names (scan names 0 ts))

@@ -14,7 +14,7 @@ use Rattle.c_rows.specs.Rows.{Row, ways, row, kind_of, build}
 use Rattle.c_rows.specs.Branches.{begins, allows, may_go}
 use Rattle.c_rows.specs.Seen.{Seen, front, front_typed}
 
--- A member of a call's list is a type where no expression can stand, and else an expression without commas.
+-- A member of an argument list is a type if no expression can be there, and otherwise an expression without commas.
 abbrev pub member_kind : Bool → Kind
 member_kind true = kind.TypeArg
 member_kind false = kind.AssignLevel

@@ -1,10 +1,10 @@
--- Keywords and signs: of which class each is by itself.
+-- Keywords and signs: the class that each has by itself.
 use Rattle.std.specs.Prelude.{ℕ, if◌then◌else◌, List, [], ◌∷◌, codes}
 use Rattle.std.specs.Str.{bytes_eq}
 use Rattle.c_rows.specs.declared.class.Class.{Class}
 use Rattle.c_rows.specs.declared.class.Class.TheVariants as class
 
--- statements (C11 6.8)
+-- the keywords of statements (C11 6.8)
 abbrev pub statement_keywords : List (List ℕ × Class)
 statement_keywords =
     (codes "if", class.If)
@@ -41,7 +41,7 @@ type_keywords =
     ∷ (codes "_Alignof", class.SizeofType)
     ∷ statement_keywords
 
--- the keywords that have rows: those, and the words of a basic type (C11 6.7.2)
+-- the keywords that have rows: those above, and the words of a basic type (C11 6.7.2)
 abbrev pub keywords : List (List ℕ × Class)
 keywords =
     (codes "int", class.Basic)
@@ -119,7 +119,7 @@ pattern_signs =
     ∷ (codes "...>", class.PatNestClose)
     ∷ (codes "...+>", class.PatNestClose) ∷ []
 
--- the class that the list gives the text
+-- the class that the list assigns to the text
 abbrev pub class_in : List (List ℕ × Class) → List ℕ → Class
 class_in [] s = class.Other
 class_in (w ∷ ws) s = if bytes_eq s w.0 then w.1 else class_in ws s

@@ -34,7 +34,7 @@ is_punct_kind _ = false
 abbrev pub is_sign : Token → List ℕ → Bool
 is_sign t text = is_punct_kind t.kind && bytes_eq t.text text
 
--- the words of storage (C11 6.7.1)
+-- the storage words (C11 6.7.1)
 abbrev pub is_storage_class : Class → Bool
 is_storage_class class.Storage = true
 is_storage_class _ = false
@@ -46,7 +46,7 @@ storage_kind _ s = false
 abbrev pub is_storage : Token → Bool
 is_storage t = storage_kind t.kind t.text
 
--- a word of a basic type, a qualifier or a tag's word
+-- a word of a basic type, a qualifier or the keyword of a tag
 abbrev pub is_type_class : Class → Bool
 is_type_class class.Basic = true
 is_type_class class.Qualifier = true
@@ -59,8 +59,8 @@ type_word_kind token.Keyword s = is_type_class (class_in keywords s)
 type_word_kind (token.Meta meta.Typ) s = true
 type_word_kind _ s = false
 
--- a token with which a type begins that is no name: a word of a basic type, a qualifier, a tag's word,
--- or a metavariable for a type
+-- a token that begins a type and is not a name: a word of a basic type, a qualifier, the keyword of a tag, or a
+-- metavariable for a type
 abbrev pub is_type_word : Token → Bool
 is_type_word t = type_word_kind t.kind t.text
 
@@ -86,7 +86,7 @@ word_kind _ = false
 abbrev pub is_word : Token → Bool
 is_word t = word_kind t.kind
 
--- `for_each` stands in the text.
+-- Whether the text contains `for_each`.
 abbrev pub holds_for_each : List ℕ → Bool
 holds_for_each [] = false
 holds_for_each (b ∷ bs) = starts_with ◌==◌ (b ∷ bs) (codes "for_each") || holds_for_each bs

@@ -10,14 +10,14 @@ use Rattle.c_rows.specs.Look.{Names}
 use Rattle.c_rows.specs.Derives.{Derives}
 
 -- No expression without commas, of at most 1,000 levels, spells the tokens from the first list to the second. A type in
--- such an expression obeys the same rule. It begins behind the expression's first token, so the rule is asked inside
--- itself at most as often as there are tokens: with that number, the line for zero is never reached.
+-- such an expression obeys the same rule. The type begins after the expression's first token, so the rule is nested at
+-- most as deep as there are tokens: starting from that number, the line for zero is never reached.
 abbrev pub NoRival : Names → ℕ → List Token → List Token → Type 0
 NoRival names zero xs ys = ⊤
 NoRival names (suc n) xs ys = (u : Tree) → Derives names (NoRival names n) kind.AssignLevel xs u ys → levels u ≤ most_levels → ⊥
 
--- The tree is of this kind, the rows derive it from the tokens, all of them, and it has at most 1,000 levels of branches.
--- A type is a member of a call's list in it only where no expression has the same tokens.
+-- The tree is of this kind, the rows derive it from all of the tokens, and it has at most 1,000 levels of branches. In
+-- it, a type is a member of an argument list only if no expression has the same tokens.
 pub record IsTreeOf (kind : Kind) (names : Names) (tokens : List Token) (t : Tree) : Type 0 where
   pub derived : Derives names (NoRival names (length tokens)) kind tokens t []
   pub shallow : levels t ≤ most_levels

@@ -1,4 +1,4 @@
--- The words of rows: which classes each has.
+-- The words of rows: the classes that each consists of.
 use Rattle.std.specs.Prelude.{ℕ, ◌==◌, Bool, true, false, ◌||◌}
 use denote.Enum.Declared.{tag_of}
 use Rattle.c_rows.specs.contracts.class.Class as contracts
@@ -7,14 +7,14 @@ use Rattle.c_rows.specs.declared.class.Class.TheVariants as class
 use Rattle.c_rows.specs.declared.word.Word.{Word}
 use Rattle.c_rows.specs.declared.word.Word.TheVariants as word
 
--- the place of the class among all
+-- the position of the class among all classes
 abbrev pub number : Class → ℕ
 number c = tag_of contracts.the_type c
 
 abbrev pub same_class : Class → Class → Bool
 same_class c d = number c == number d
 
--- a token of this class is a token of the word
+-- whether a token of this class is a token of the word
 abbrev pub fits : Word → Class → Bool
 fits (word.One c) d = same_class c d
 fits word.Name class.Name = true
@@ -100,7 +100,7 @@ begins_by_keyword class.Break = true
 begins_by_keyword class.Continue = true
 begins_by_keyword _ = false
 
--- a member of a call's list ends before this class
+-- whether a member of an argument list ends before this class
 abbrev pub ends_member : Class → Bool
 ends_member class.Comma = true
 ends_member class.Close = true

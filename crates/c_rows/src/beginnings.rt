@@ -1,11 +1,11 @@
-// With which classes a tree may begin, and before which some end.
+// The classes with which trees may begin, and those before which some trees end.
 ghost use Rattle.std.specs.Prelude.{◌≡◌};
 ghost use Rattle.c_rows.specs.Choice as choice;
 ghost use Rattle.c_rows.specs.Words as words;
 
 use crate::{Class, Family, Word, begins_declaration, begins_dots, begins_macro, fits, same_class};
 
-/// An expression may begin with this class.
+/// Whether an expression may begin with this class.
 pub fn begins_expression(class: Class) -> bool
     ensures value { result ≡ choice.begins_expression class }
 {
@@ -27,7 +27,7 @@ pub fn begins_expression(class: Class) -> bool
     }
 }
 
-/// A tag may begin with this class.
+/// Whether a tag may begin with this class.
 pub fn begins_tag(class: Class) -> bool
     ensures value { result ≡ words.begins_tag class }
 {
@@ -37,7 +37,7 @@ pub fn begins_tag(class: Class) -> bool
     )
 }
 
-/// A type may begin with this class.
+/// Whether a type may begin with this class.
 pub fn begins_specs(class: Class) -> bool
     ensures value { result ≡ words.begins_specs class }
 {
@@ -47,7 +47,7 @@ pub fn begins_specs(class: Class) -> bool
     }
 }
 
-/// A keyword with which a statement begins.
+/// Whether this is the class of a keyword with which a statement begins.
 pub fn begins_by_keyword(class: Class) -> bool
     ensures value { result ≡ words.begins_by_keyword class }
 {
@@ -59,7 +59,7 @@ pub fn begins_by_keyword(class: Class) -> bool
     }
 }
 
-/// A statement other than a declaration may begin with this class.
+/// Whether a statement other than a declaration may begin with this class.
 fn begins_statement(class: Class) -> bool
     ensures { result ≡ choice.begins_statement class }
 {
@@ -69,7 +69,7 @@ fn begins_statement(class: Class) -> bool
     }
 }
 
-/// A declarator may begin with this class.
+/// Whether a declarator may begin with this class.
 pub fn begins_declarator(class: Class) -> bool
     ensures value { result ≡ choice.begins_declarator class }
 {
@@ -79,7 +79,8 @@ pub fn begins_declarator(class: Class) -> bool
     }
 }
 
-/// A tree of the family may begin with this class. Where it may have no token, these are also the classes behind it.
+/// Whether a tree of the family may begin with this class. If such a tree may have no tokens, this includes the classes
+/// that may follow it.
 pub fn first(family: Family, class: Class) -> bool
     ensures value { result ≡ choice.first family class }
 {
@@ -117,14 +118,14 @@ pub fn first(family: Family, class: Class) -> bool
     }
 }
 
-/// A member of a call's list ends before this class.
+/// Whether a member of an argument list ends before this class.
 pub fn ends_member(class: Class) -> bool
     ensures value { result ≡ words.ends_member class }
 {
     matches!(class, Class::Comma | Class::Close)
 }
 
-/// A list of statements ends before this class.
+/// Whether a list of statements ends before this class.
 pub fn ends_list(class: Class) -> bool
     ensures value { result ≡ choice.ends_list class }
 {

@@ -6,14 +6,14 @@ use crate::Class;
 use crate::words::{follows_cast, is_named, is_sign, is_string, is_type_word};
 use c_terms::{Names, Token};
 
-/// A name in the names.
+/// Whether the token is a name in `names`.
 fn is_known(names: &Names, token: &Token) -> bool
     ensures { result ≡ ahead.is_known names.now token.now }
 {
     is_named(token) && names.has(token.text.as_bytes())
 }
 
-/// The sign stands first.
+/// Whether the first token is the punctuator with this text.
 pub fn at_sign(rest: &[Token], text: &[u8]) -> bool
     ensures { result ≡ ahead.at_sign rest.now text.now }
 {
@@ -23,7 +23,7 @@ pub fn at_sign(rest: &[Token], text: &[u8]) -> bool
     }
 }
 
-/// A name stands first.
+/// Whether the first token is a name.
 pub fn at_name(rest: &[Token]) -> bool
     ensures { result ≡ ahead.at_name rest.now }
 {
@@ -33,7 +33,7 @@ pub fn at_name(rest: &[Token]) -> bool
     }
 }
 
-/// A string stands first.
+/// Whether the first token is a string.
 pub fn at_string(rest: &[Token]) -> bool
     ensures { result ≡ ahead.at_string rest.now }
 {
@@ -43,7 +43,7 @@ pub fn at_string(rest: &[Token]) -> bool
     }
 }
 
-/// Any number of `*`, and `)`.
+/// Whether the tokens begin with any number of `*` and a `)`.
 fn stars_close(rest: &[Token]) -> bool
     ensures { result ≡ ahead.stars_close rest.now }
 {
@@ -58,7 +58,8 @@ fn stars_close(rest: &[Token]) -> bool
     false
 }
 
-/// After the `(`: a type word; or a name in the names; or a name followed by one or more `*` and `)`.
+/// Whether the tokens after a `(` begin a type: with a type word; or a name in `names`; or a name followed by one or
+/// more `*` and `)`.
 fn begins_type(names: &Names, inside: &[Token]) -> bool
     ensures { result ≡ ahead.begins_type names.now inside.now }
 {
@@ -72,7 +73,7 @@ fn begins_type(names: &Names, inside: &[Token]) -> bool
     }
 }
 
-/// After the `(`: a name and `)`, followed by what follows a cast.
+/// Whether the tokens after a `(` are a name and `)`, followed by what follows a cast.
 fn begins_unknown_cast(inside: &[Token]) -> bool
     ensures { result ≡ ahead.begins_unknown_cast inside.now }
 {
@@ -82,7 +83,8 @@ fn begins_unknown_cast(inside: &[Token]) -> bool
     }
 }
 
-/// After the `(` where nothing of a declarator was read yet: `*`, `(`, or a name that is not in the names.
+/// Whether a `(` begins a declarator in brackets when nothing of a declarator has been read yet: `*`, `(`, or a name
+/// that is not in `names` comes next.
 fn begins_nest(names: &Names, inside: &[Token]) -> bool
     ensures { result ≡ ahead.begins_nest names.now inside.now }
 {
@@ -96,21 +98,21 @@ fn begins_nest(names: &Names, inside: &[Token]) -> bool
     }
 }
 
-/// An opening bracket.
+/// Whether the token is an opening bracket.
 pub fn is_opening(token: &Token) -> bool
     ensures { result ≡ ahead.is_opening token.now }
 {
     is_sign(token, b"(") || is_sign(token, b"[") || is_sign(token, b"{")
 }
 
-/// A closing bracket.
+/// Whether the token is a closing bracket.
 pub fn is_closing(token: &Token) -> bool
     ensures { result ≡ ahead.is_closing token.now }
 {
     is_sign(token, b")") || is_sign(token, b"]") || is_sign(token, b"}")
 }
 
-/// After the opening bracket: what stands behind the bracket that closes it.
+/// The tokens after the bracket that closes an opening bracket, given the tokens after the opening one.
 pub fn behind_group(inside: &[Token]) -> &[Token]
     ensures { result.now ≡ ahead.behind_group 0 inside.now }
 {
@@ -129,14 +131,14 @@ pub fn behind_group(inside: &[Token]) -> &[Token]
     &[]
 }
 
-/// After the `(`: the bracket that closes it is directly followed by `{`.
+/// Whether `{` directly follows the bracket that closes a `(`, given the tokens after the `(`.
 fn closes_before_brace(inside: &[Token]) -> bool
     ensures { result ≡ ahead.closes_before_brace inside.now }
 {
     at_sign(behind_group(inside), b"{")
 }
 
-/// What a `(` is, by what stands inside it.
+/// The class of a `(`, given the tokens after it.
 pub fn bracket(names: &Names, inside: &[Token]) -> Class
     ensures { result ≡ ahead.bracket names.now inside.now }
 {
@@ -156,7 +158,7 @@ pub fn bracket(names: &Names, inside: &[Token]) -> Class
     }
 }
 
-/// A name and `)` before `{`.
+/// Whether the tokens begin with a name, `)` and `{`.
 fn is_name_before_brace(inside: &[Token]) -> bool
     ensures { result ≡ ahead.is_name_before_brace inside.now }
 {
@@ -166,7 +168,7 @@ fn is_name_before_brace(inside: &[Token]) -> bool
     }
 }
 
-/// `sizeof` before a `(`, by what stands inside it.
+/// The class of `sizeof` before a `(`, given the tokens after the `(`.
 fn sizeof_bracket(names: &Names, inside: &[Token]) -> Class
     ensures { result ≡ ahead.sizeof_bracket names.now inside.now }
 {
@@ -183,7 +185,7 @@ fn sizeof_bracket(names: &Names, inside: &[Token]) -> Class
     }
 }
 
-/// `sizeof`: before a type in brackets that is no literal's; before an expression; or before what is neither.
+/// The class of `sizeof`: before a type in brackets that is not a literal's, before an expression, or before neither.
 pub fn sizeof(names: &Names, rest: &[Token]) -> Class
     ensures { result ≡ ahead.sizeof names.now rest.now }
 {
@@ -199,7 +201,7 @@ pub fn sizeof(names: &Names, rest: &[Token]) -> Class
     }
 }
 
-/// `_Alignof`: before a type in brackets.
+/// The class of `_Alignof`: before a type in brackets, or before anything else.
 pub fn alignof(names: &Names, rest: &[Token]) -> Class
     ensures { result ≡ ahead.alignof names.now rest.now }
 {

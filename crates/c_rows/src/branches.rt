@@ -1,4 +1,4 @@
-// The signs of patterns: whether expressions or statements stand behind them.
+// The signs of patterns: whether expressions or statements follow them.
 ghost use Rattle.std.specs.Prelude.{◌≡◌};
 ghost use Rattle.c_rows.specs.Look as ahead;
 
@@ -8,21 +8,21 @@ use crate::words::{is_pat, is_sign};
 use crate::{Class, begins_by_keyword};
 use c_terms::Token;
 
-/// An opening bracket, `\(`, `<...` or `<+...`.
+/// Whether the token is an opening bracket, `\(`, `<...` or `<+...`.
 fn opens_group(token: &Token) -> bool
     ensures { result ≡ ahead.opens_group token.now }
 {
     is_opening(token) || is_pat(token, b"\\(") || is_pat(token, b"<...") || is_pat(token, b"<+...")
 }
 
-/// A closing bracket, `\)`, `...>` or `...+>`.
+/// Whether the token is a closing bracket, `\)`, `...>` or `...+>`.
 fn closes_group(token: &Token) -> bool
     ensures { result ≡ ahead.closes_group token.now }
 {
     is_closing(token) || is_pat(token, b"\\)") || is_pat(token, b"...>") || is_pat(token, b"...+>")
 }
 
-/// `\|` or `\&`.
+/// Whether the token is `\|` or `\&`.
 fn parts_branches(token: &Token) -> bool
     ensures { result ≡ ahead.parts_branches token.now }
 {
@@ -44,7 +44,7 @@ pub enum Group {
     Plain,
 }
 
-/// What a token does to a scan for the `;` of a branch. Takes no memory.
+/// Returns what a token does to a scan for the `;` of a branch. Allocates no memory.
 pub fn group_at(token: &Token) -> Group
     ensures value { result ≡ ahead.group token.now }
 {
@@ -61,7 +61,7 @@ pub fn group_at(token: &Token) -> Group
     }
 }
 
-/// What begins statements and no expression, and what ends a branch or a nest that has nothing.
+/// Whether this class begins statements and no expression, or ends an empty branch or nest.
 fn begins_statements(class: Class) -> bool
     ensures { result ≡ ahead.begins_statements class }
 {
@@ -77,14 +77,14 @@ fn begins_statements(class: Class) -> bool
     }
 }
 
-/// The first branch, or what a nest has, is a list of statements.
+/// Whether the first branch, or the content of a nest, is a list of statements.
 fn is_of_statements(semicolon: bool, next: Class) -> bool
     ensures { result ≡ ahead.is_of_statements semicolon next }
 {
     begins_statements(next) || semicolon
 }
 
-/// A sign of patterns, by what stands behind it: whether its branch has a `;`, and the next class.
+/// The class of a sign of patterns, given what follows it: whether its branch has a `;`, and the next class.
 pub fn pattern(text: &[u8], semicolon: bool, next: Class) -> Class
     ensures { result ≡ ahead.pattern text.now semicolon next }
 {

@@ -10,7 +10,7 @@ use crate::{
     same_family, ways,
 };
 
-/// A declarator ends before this class.
+/// Whether a declarator ends before this class.
 fn ends_declarator(class: Class) -> bool
     ensures { result ≡ choice.ends_declarator class }
 {
@@ -25,7 +25,7 @@ fn ends_declarator(class: Class) -> bool
     )
 }
 
-/// A row that is at this fork may end before this class.
+/// Whether a row that is at this fork may end before this class.
 fn stops(fork: Fork, class: Class) -> bool
     ensures { result ≡ choice.stops_fork fork class }
 {
@@ -49,7 +49,7 @@ fn stops(fork: Fork, class: Class) -> bool
     }
 }
 
-/// What is left of a row may begin with this class.
+/// Whether the rest of a row may begin with this class.
 fn opens(row: &[Symbol], class: Class) -> bool
     ensures { result ≡ choice.opens row.now class }
 {
@@ -62,7 +62,7 @@ fn opens(row: &[Symbol], class: Class) -> bool
     }
 }
 
-/// The way begins with this class.
+/// Whether the way begins with this class.
 fn begins_way(fork: Fork, way: &[Symbol], class: Class) -> bool
     ensures { result ≡ choice.begins_way fork way.now class }
 {
@@ -75,14 +75,14 @@ fn begins_way(fork: Fork, way: &[Symbol], class: Class) -> bool
     }
 }
 
-/// The way leads on at this class.
+/// Whether the row takes the way at this class.
 fn leads(fork: Fork, way: &[Symbol], class: Class) -> bool
     ensures { result ≡ choice.leads fork way.now class }
 {
     may_go(fork, way, class) && begins_way(fork, way, class)
 }
 
-/// The way in which a row goes on at the fork.
+/// Returns the way in which a row continues at the fork before this class, or `None` if there is none.
 pub fn choose(fork: Fork, class: Class) -> Option<&'static [Symbol]>
     ensures value { MatchOption result (choice.choose fork class ≡ None)
         (λ way. choice.choose fork class ≡ Some way.now) }
@@ -162,7 +162,7 @@ fn heads(family: Family) -> &'static [Rule]
     }
 }
 
-/// The rule by which an expression goes on at this class. Asked behind each operand, so it is a table.
+/// The rule by which an expression continues at this class. This is looked up after each operand, so it is a table.
 fn expression_tail(class: Class) -> Option<Rule>
     ensures { result ≡ choice.tail families.Expression class }
 {
@@ -191,7 +191,7 @@ fn expression_tail(class: Class) -> Option<Rule>
     }
 }
 
-/// The rule by which a declarator goes on at this class.
+/// The rule by which a declarator continues at this class.
 fn declarator_tail(class: Class) -> Option<Rule>
     ensures { result ≡ choice.tail families.Declarator class }
 {
@@ -205,7 +205,7 @@ fn declarator_tail(class: Class) -> Option<Rule>
     }
 }
 
-/// The rule by which an enumerator goes on at this class.
+/// The rule by which an enumerator continues at this class.
 fn enumerator_tail(class: Class) -> Option<Rule>
     ensures { result ≡ choice.tail families.Enumerator class }
 {
@@ -215,7 +215,7 @@ fn enumerator_tail(class: Class) -> Option<Rule>
     }
 }
 
-/// The kind of a rule's first part, where that is of the rule's own family.
+/// Returns the kind of a rule's first part if that part is of the rule's own family, and `None` otherwise.
 pub fn left(rule: Rule) -> Option<Kind>
     ensures value { result ≡ choice.left rule }
 {
@@ -232,7 +232,7 @@ pub fn left(rule: Rule) -> Option<Kind>
     }
 }
 
-/// The parts of a row behind its left part.
+/// Returns the parts of a row after its left part.
 pub fn own(rule: Rule) -> &'static [Symbol]
     ensures value { result.now ≡ choice.own rule }
 {
@@ -243,7 +243,7 @@ pub fn own(rule: Rule) -> &'static [Symbol]
     }
 }
 
-/// The rule of the family that begins with this class.
+/// Returns the rule of the family that begins with this class, or `None` if there is none.
 pub fn head(family: Family, class: Class) -> Option<Rule>
     ensures value { result ≡ choice.head family class }
 {
@@ -255,7 +255,7 @@ pub fn head(family: Family, class: Class) -> Option<Rule>
     None
 }
 
-/// The rule of the family by which a tree goes on at this class.
+/// Returns the rule of the family by which a tree continues at this class, or `None` if there is none.
 pub fn tail(family: Family, class: Class) -> Option<Rule>
     ensures value { result ≡ choice.tail family class }
 {

@@ -1,12 +1,12 @@
-// What stands at the front of a list of tokens.
+// What is at the front of a list of tokens.
 
-/// What stands at the front of a list of tokens, with what the grammar asks of the tokens behind it.
+/// What is at the front of a list of tokens: its first token, and what the grammar asks of the tokens after it.
 #[derive(Clone, Copy)]
 pub enum Class {
     /// No token.
     End,
 
-    /// A name, of which nothing else is known.
+    /// A name of which nothing else is known.
     Name,
     /// A name directly before a string: `PRIu64 "x"`
     NameOfString,
@@ -16,10 +16,10 @@ pub enum Class {
     NameOfLabel,
     /// A name that begins a declaration at the start of a statement: `foo_t *p;`
     NameOfDecl,
-    /// A name before a group in brackets that the body of an iterator follows, and before no `(` and `*`:
+    /// A name before a group in brackets that does not begin with `*`, and that the body of an iterator follows:
     /// `list_for_each(p, head) f(p);`, `foo(x) {`
     NameOfIterator,
-    /// The same, before a `(` and `*`: `for_each(*p) {`
+    /// The same, if the group begins with `*`: `for_each(*p) {`
     NameOfStarIterator,
     /// A number, a character, or a metavariable for an expression or a constant.
     Operand,
@@ -110,13 +110,13 @@ pub enum Class {
     Function,
     /// `static` and the other storage words
     Storage,
-    /// A storage word before further ones, a name, and a `(` that no `*` follows: `static DEFINE_MUTEX(m)`
+    /// A storage word before any others, a name, and a `(` that no `*` follows: `static DEFINE_MUTEX(m)`
     StorageOfMacro,
-    /// `struct`, `union` where no members follow
+    /// `struct`, `union` if no members follow
     Struct,
     /// `struct`, `union` before `{`, or before a name and `{`
     StructBody,
-    /// `enum` where no members follow
+    /// `enum` if no members follow
     Enum,
     /// `enum` before `{`, or before a name and `{`
     EnumBody,

@@ -1,17 +1,17 @@
-// What the branch around a tree asks of it, without the tree.
-/// What the branch around a tree asks of it: whether a row allows its parts can be told from these facts of theirs.
+// What the branch around a tree needs to know of it, kept without the tree.
+/// What the branch around a tree needs to know of it. The facts of a row's parts decide whether the row allows them.
 #[derive(Clone, Copy)]
 pub struct Facts {
-    /// As a part of the type words of a type name it may stand: it is no storage word, and defines nothing.
+    /// Whether the tree may be one of the type words of a type name: it is not a storage word, and defines nothing.
     pub plain: bool,
-    /// All its parts may stand there.
+    /// Whether all its parts may be type words of a type name.
     pub plain_parts: bool,
-    /// As a declarator it has a name at its core.
+    /// Whether the tree, as a declarator, has a name at its core.
     pub names: bool,
-    /// As a declarator it has a DFun on the way to its name.
+    /// Whether the tree, as a declarator, has a DFun on the path to its name.
     pub functions: bool,
-    /// It is a Comma or an Assign.
+    /// Whether the tree is a Comma or an Assign.
     pub loose: bool,
-    /// It is a Block.
+    /// Whether the tree is a Block.
     pub block: bool,
 }

@@ -1,10 +1,10 @@
-// The ways in which rows go on, in the order of the rows.
+// The ways in which rows continue at forks, in the order of the rows.
 ghost use Rattle.std.specs.Prelude.{◌≡◌, map};
 ghost use Rattle.c_rows.specs.Rows as rows;
 
 use crate::{Class, Fork, Kind, Symbol, Word};
 
-/// The ways in which a row may go on at the fork.
+/// Returns the ways in which a row may continue at the fork.
 pub fn ways(fork: Fork) -> &'static [&'static [Symbol]]
     ensures value { map (λ way. way.now) result.now ≡ rows.ways fork }
 {
@@ -25,7 +25,7 @@ pub fn ways(fork: Fork) -> &'static [&'static [Symbol]]
         ],
         Fork::AfterName => &[row![word Str, fork AfterString], row![]],
 
-        // members parted by commas, or none
+        // members separated by commas, possibly none
         Fork::FirstArg => &[
             row![any Argument, fork MoreArgs],
             row![word ArgRun, fork MoreArgs],
@@ -37,7 +37,7 @@ pub fn ways(fork: Fork) -> &'static [&'static [Symbol]]
             row![word ArgRun, fork MoreArgs],
         ],
 
-        // two or more branches, all parted by `\|` or all by `\&`
+        // two or more branches, all separated by `\|` or all by `\&`
         Fork::FirstBranch => &[
             row![one PatBar, child Expr, fork MoreOr],
             row![one PatAmp, child Expr, fork MoreAnd],
@@ -51,7 +51,7 @@ pub fn ways(fork: Fork) -> &'static [&'static [Symbol]]
             row![one PatClose],
         ],
 
-        // a declarator or none
+        // an optional declarator
         Fork::Nameless => &[row![child Declarator], row![]],
 
         // modifiers in any order, with exactly one type part: basic words, a tag or a name
@@ -64,7 +64,7 @@ pub fn ways(fork: Fork) -> &'static [&'static [Symbol]]
         Fork::BasicType => &[row![word BasicOrModifier, fork BasicType], row![]],
         Fork::OneType => &[row![word Modifier, fork OneType], row![]],
 
-        // a name or none, and the members
+        // an optional name, and the members
         Fork::StructName => &[
             row![word Name, one LeftBrace, fork Members],
             row![one LeftBrace, fork Members],
@@ -75,7 +75,7 @@ pub fn ways(fork: Fork) -> &'static [&'static [Symbol]]
             row![one RightBrace],
         ],
 
-        // declarators and bits parted by commas, or none
+        // declarators and bits separated by commas, possibly none
         Fork::FirstField => &[
             row![child FieldDeclarator, fork MoreFields],
             row![child NamelessBits, fork MoreFields],
@@ -87,7 +87,7 @@ pub fn ways(fork: Fork) -> &'static [&'static [Symbol]]
             row![child NamelessBits, fork MoreFields],
         ],
 
-        // a name or none, and enumerators parted by commas, with or without a last comma
+        // an optional name, and enumerators separated by commas, with an optional trailing comma
         Fork::EnumName => &[
             row![word Name, one LeftBrace, child Enumerator, fork MoreEnumerators],
             row![one LeftBrace, child Enumerator, fork MoreEnumerators],
@@ -98,20 +98,20 @@ pub fn ways(fork: Fork) -> &'static [&'static [Symbol]]
             row![one RightBrace],
         ],
 
-        // qualifiers, and a declarator or none
+        // qualifiers, and an optional declarator
         Fork::Pointee => &[
             row![one Qualifier, fork Pointee],
             row![child Declarator],
             row![],
         ],
 
-        // a size or none
+        // an optional size
         Fork::Size => &[
             row![child CondLevel, one RightBracket],
             row![one RightBracket],
         ],
 
-        // parameters parted by commas, or none; the last may be `...`
+        // parameters separated by commas, possibly none; the last may be `...`
         Fork::FirstParam => &[
             row![child Param, fork MoreParams],
             row![word ParamRun, fork MoreParams],
@@ -125,10 +125,10 @@ pub fn ways(fork: Fork) -> &'static [&'static [Symbol]]
             row![one Ellipsis],
         ],
 
-        // a declarator or none
+        // an optional declarator
         Fork::ParamName => &[row![child Declarator], row![]],
 
-        // members parted by commas, or none, with or without a last comma
+        // members separated by commas, possibly none, with an optional trailing comma
         Fork::FirstInit => &[
             row![child AssignLevel, fork MoreInits],
             row![child InitList, fork MoreInits],
@@ -163,7 +163,7 @@ pub fn ways(fork: Fork) -> &'static [&'static [Symbol]]
             row![word Name, word AnyOpen, child Args, one Close, one Semicolon],
         ],
 
-        // declarators and initialisers parted by commas, or none
+        // declarators and initialisers separated by commas, possibly none
         Fork::FirstDeclarator => &[
             row![child InitDeclarator, fork MoreDeclarators],
             row![one Semicolon],
@@ -190,10 +190,10 @@ pub fn ways(fork: Fork) -> &'static [&'static [Symbol]]
             row![one RightBrace],
         ],
 
-        // `else` and a body, or not
+        // an optional `else` and its body
         Fork::ElseOrNot => &[row![one Else, child Body], row![]],
 
-        // what stands in the brackets, and a body
+        // what is in the brackets, and a body
         Fork::ForInit => &[
             row![child Decl, fork ForTest],
             row![child Expr, one Semicolon, fork ForTest],
@@ -214,7 +214,7 @@ pub fn ways(fork: Fork) -> &'static [&'static [Symbol]]
             row![one Ellipsis, child CondLevel, one Colon],
         ],
 
-        // an expression or none
+        // an optional expression
         Fork::ReturnValue => &[row![child Expr, one Semicolon], row![one Semicolon]],
 
         // declarations and statements, no two of `...` and PatNest side by side
@@ -231,7 +231,7 @@ pub fn ways(fork: Fork) -> &'static [&'static [Symbol]]
             row![],
         ],
 
-        // declarators and initialisers parted by commas, or none; or behind the first a Block
+        // declarators and initialisers separated by commas, possibly none; or, after the first, a Block
         Fork::FirstExternal => &[
             row![child InitDeclarator, fork AfterExternal],
             row![one Semicolon],
@@ -249,7 +249,7 @@ pub fn ways(fork: Fork) -> &'static [&'static [Symbol]]
         ],
         Fork::MacroEnd => &[row![one Semicolon], row![child Block]],
 
-        // two or more lists of statements, all parted by `\|` or all by `\&`
+        // two or more lists of statements, all separated by `\|` or all by `\&`
         Fork::FirstList => &[
             row![one PatBar, child StmtList, fork MoreListsOr],
             row![one PatAmp, child StmtList, fork MoreListsAnd],

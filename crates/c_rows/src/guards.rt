@@ -1,4 +1,4 @@
-// Guards: what is asked of a branch's parts together, and where the tokens behind let a branch and a way begin.
+// Guards: what a branch requires of its parts together, and where the tokens that follow let a branch or a way begin.
 ghost use Rattle.std.specs.Prelude.{◌≡◌};
 ghost use Rattle.c_terms.specs.declared.tree.Tree.{out-Tree};
 ghost use Rattle.c_rows.specs.Labels.{labelled};
@@ -11,7 +11,7 @@ use crate::{
 };
 use c_terms::{Label, Tree};
 
-/// An expression with a comma or an assignment outside brackets.
+/// Whether the tree is an expression with a comma or an assignment outside brackets.
 fn is_loose(tree: &Tree) -> bool
     ensures { result ≡ labelled branches.is_loose_label (out-Tree tree.now) }
 {
@@ -21,7 +21,7 @@ fn is_loose(tree: &Tree) -> bool
     }
 }
 
-/// The first expression of a CaseRange is of Cond level.
+/// Whether the first expression is of Cond level, if the branch is a CaseRange.
 fn is_case(children: &[Tree]) -> bool
     ensures { result ≡ branches.is_case children.now }
 {
@@ -32,7 +32,7 @@ fn is_case(children: &[Tree]) -> bool
     }
 }
 
-/// The declarator of a FunDef declares a function.
+/// Whether the declarator declares a function, if the branch is a FunDef.
 fn is_external(children: &[Tree]) -> bool
     ensures { result ≡ branches.is_external children.now }
 {
@@ -42,7 +42,7 @@ fn is_external(children: &[Tree]) -> bool
     }
 }
 
-/// What a row asks of its parts together.
+/// Whether the rule's row allows these parts together.
 pub fn allows(rule: Rule, children: &[Tree]) -> bool
     ensures value { result ≡ branches.allows rule children.now }
 {
@@ -54,7 +54,7 @@ pub fn allows(rule: Rule, children: &[Tree]) -> bool
     }
 }
 
-/// A macro's item begins exactly with these classes.
+/// Whether a macro's item begins with this class.
 pub fn begins_macro(class: Class) -> bool
     ensures value { result ≡ branches.begins_macro class }
 {
@@ -64,7 +64,7 @@ pub fn begins_macro(class: Class) -> bool
     )
 }
 
-/// At the start of a statement and behind the `(` of a `for`, a declaration begins exactly here.
+/// Whether a declaration begins with this class, at the start of a statement and after the `(` of a `for`.
 pub fn begins_declaration(class: Class) -> bool
     ensures value { result ≡ branches.begins_declaration class }
 {
@@ -74,7 +74,7 @@ pub fn begins_declaration(class: Class) -> bool
     }
 }
 
-/// `...` or a PatNest begins with this class.
+/// Whether `...` or a PatNest begins with this class.
 pub fn begins_dots(class: Class) -> bool
     ensures value { result ≡ branches.begins_dots class }
 {
@@ -84,7 +84,8 @@ pub fn begins_dots(class: Class) -> bool
     )
 }
 
-/// What begins a label, an iterator or a declaration at the start of a statement begins no expression there.
+/// Whether an expression may begin with this class at the start of a statement: what begins a label, an iterator or a
+/// declaration there begins no expression.
 fn begins_expr_stat(class: Class) -> bool
     ensures { result ≡ branches.begins_expr_stat class }
 {
@@ -95,7 +96,7 @@ fn begins_expr_stat(class: Class) -> bool
         )
 }
 
-/// Where the tokens behind let a branch of the rule begin.
+/// Whether a branch of the rule may begin at this class.
 pub fn begins(rule: Rule, class: Class) -> bool
     ensures value { result ≡ branches.begins rule class }
 {
@@ -111,7 +112,7 @@ pub fn begins(rule: Rule, class: Class) -> bool
     }
 }
 
-/// The tokens behind let the row end at the fork.
+/// Whether the row may end at the fork before this class.
 fn may_end(fork: Fork, class: Class) -> bool
     ensures { result ≡ branches.may_end fork class }
 {
@@ -121,7 +122,7 @@ fn may_end(fork: Fork, class: Class) -> bool
     }
 }
 
-/// The tokens behind let the row go on with an expression.
+/// Whether the row may continue at the fork with an expression at this class.
 fn may_be_expression(fork: Fork, class: Class) -> bool
     ensures { result ≡ branches.may_stand fork kinds.Expr class }
 {
@@ -131,7 +132,7 @@ fn may_be_expression(fork: Fork, class: Class) -> bool
     }
 }
 
-/// The tokens behind let the row go on with a part of this kind.
+/// Whether the row may continue at the fork with a part of this kind at this class.
 fn may_stand(fork: Fork, kind: Kind, class: Class) -> bool
     ensures { result ≡ branches.may_stand fork kind class }
 {
@@ -145,7 +146,7 @@ fn may_stand(fork: Fork, kind: Kind, class: Class) -> bool
     }
 }
 
-/// The tokens behind let the row go on in this way.
+/// Whether the row may continue at the fork in this way at this class.
 pub fn may_go(fork: Fork, way: &[Symbol], class: Class) -> bool
     ensures value { result ≡ branches.may_go fork way.now class }
 {

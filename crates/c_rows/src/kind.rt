@@ -1,4 +1,4 @@
-// The kinds of trees, and which lie within which.
+// The kinds of trees, and which of them include which.
 
 ghost use Rattle.std.specs.Prelude.{◌≡◌};
 ghost use Rattle.c_rows.specs.Kinds as kinds;
@@ -6,7 +6,8 @@ ghost use Rattle.c_rows.specs.Choice as choice;
 
 use crate::{Class, Word, fits};
 
-/// What a part of a row may be. A kind of expressions has the expressions of all tighter kinds too.
+/// The kinds of trees that a part of a row may have. A kind of expressions also includes the expressions of all tighter
+/// kinds.
 #[derive(Clone, Copy)]
 pub enum Kind {
     /// `a`, `f(x)`, `a[i]`, `(T){ 1 }`
@@ -42,7 +43,7 @@ pub enum Kind {
     /// `a, b`
     Expr,
 
-    /// What stands between the brackets of a call
+    /// What is between the brackets of a call
     Args,
     /// A type as a member of such a list
     TypeArg,
@@ -67,7 +68,7 @@ pub enum Kind {
     FieldDeclarator,
     /// `d = 1`
     InitDeclarator,
-    /// What stands between the brackets of a function's declarator
+    /// What is between the brackets of a function's declarator
     Params,
     /// `int x`
     Param,
@@ -85,9 +86,9 @@ pub enum Kind {
 
     /// `int x = 1;`
     Decl,
-    /// `<... f(); ...>`. Where it is a part, one of its signs stands first
+    /// `<... f(); ...>`. As a part of a row, it begins with one of its signs
     PatNest,
-    /// `{ f(); }`. Where it is a part, `{` stands first
+    /// `{ f(); }`. As a part of a row, it begins with `{`
     Block,
     /// `f();`, `if (c) f();`, `{ f(); }`: what the body of a statement may be
     Body,
@@ -99,7 +100,7 @@ pub enum Kind {
     External,
 }
 
-/// Kinds that lie within one another.
+/// A group of kinds in which wider kinds include tighter ones.
 #[derive(Clone, Copy)]
 pub enum Family {
     /// Expressions, from Post to Expr
@@ -136,7 +137,7 @@ pub enum Family {
     Enumerator,
     /// [`Kind::Decl`]
     Decl,
-    /// Statements but declarations, from PatNest to Statement
+    /// Statements other than declarations, from PatNest to Statement
     Statement,
     /// [`Kind::StmtList`]
     StmtList,
@@ -144,7 +145,7 @@ pub enum Family {
     External,
 }
 
-/// The family of the kind.
+/// Returns the family of the kind.
 pub fn family_of(kind: Kind) -> Family
     ensures value { result ≡ kinds.family_of kind }
 {
@@ -173,7 +174,7 @@ pub fn family_of(kind: Kind) -> Family
     }
 }
 
-/// The place of a kind in its family, tightest first.
+/// Returns the place of a kind in its family, tightest first.
 pub fn rank(kind: Kind) -> u8
     ensures value { result ≡ kinds.rank kind }
 {
@@ -208,7 +209,7 @@ pub fn rank(kind: Kind) -> u8
     }
 }
 
-/// Tells bits from declarators with an initialiser, which lie beside each other.
+/// Returns 1 for bits and 0 for any other kind: bits and declarators with an initialiser don't include each other.
 pub fn side(kind: Kind) -> u8
     ensures value { result ≡ kinds.side kind }
 {
@@ -218,7 +219,7 @@ pub fn side(kind: Kind) -> u8
     }
 }
 
-/// One family.
+/// Whether the two families are the same.
 pub fn same_family(a: Family, b: Family) -> bool
     ensures value { result ≡ kinds.same_family a b }
 {
@@ -246,7 +247,7 @@ pub fn same_family(a: Family, b: Family) -> bool
     }
 }
 
-/// Every tree of the kind is one of the limit.
+/// Whether every tree of `kind` is also one of `limit`.
 pub fn within(kind: Kind, limit: Kind) -> bool
     ensures value { result ≡ kinds.within kind limit }
 {
@@ -255,7 +256,7 @@ pub fn within(kind: Kind, limit: Kind) -> bool
         && side(kind) <= side(limit)
 }
 
-/// A token of this class is by itself a tree of the family's tightest kind.
+/// Whether a token of this class is by itself a tree of the family's tightest kind.
 pub fn has_leaf(family: Family, class: Class) -> bool
     ensures value { result ≡ kinds.has_leaf family class }
 {
@@ -279,7 +280,7 @@ pub fn has_leaf(family: Family, class: Class) -> bool
     }
 }
 
-/// The tightest kind of a family, to which its leaves belong.
+/// Returns the tightest kind of a family, to which its leaves belong.
 pub fn bottom(family: Family) -> Kind
     ensures value { result ≡ choice.bottom family }
 {

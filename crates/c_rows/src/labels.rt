@@ -1,4 +1,4 @@
-// The labels of branches, as their parts tell them.
+// The labels of branches, as their parts determine them.
 ghost use Rattle.std.specs.Prelude.{◌≡◌, codes};
 ghost use Rattle.std.specs.Str.{bytes_eq};
 ghost use Rattle.c_terms.specs.declared.tree.Tree.{out-Tree};
@@ -8,7 +8,7 @@ ghost use Rattle.c_rows.specs.Rows as rows;
 use crate::{Rule, production_of};
 use c_terms::{Label, Tree};
 
-/// How a branch is labelled: always in one way, or as its parts tell.
+/// How a branch is labelled: always with the same label, or depending on its parts.
 #[derive(Clone, Copy)]
 pub enum Naming {
     /// With this label
@@ -21,7 +21,7 @@ pub enum Naming {
     IfByElse,
     /// Case or CaseRange
     CaseByRange,
-    /// For or ForDecl, by what stands in its brackets
+    /// For or ForDecl, by what is in its brackets
     ForByDecl,
     /// Decl or FunDef
     DeclByBlock,
@@ -38,7 +38,7 @@ fn is_leaf_of(tree: &Tree, text: &[u8]) -> bool
     }
 }
 
-/// Branches of a pattern parted by `\|` are a PatOr, those parted by `\&` a PatAnd.
+/// Branches of a pattern are a PatOr if `\|` separates them, and a PatAnd if `\&` does.
 fn branches_label(children: &[Tree]) -> Label
     ensures { result ≡ labels.branches_label children.now }
 {
@@ -84,7 +84,7 @@ fn case_label(children: &[Tree]) -> Label
     }
 }
 
-/// A declaration.
+/// Whether the tree is a declaration.
 fn is_decl(tree: &Tree) -> bool
     ensures { result ≡ labels.labelled labels.is_decl_label (out-Tree tree.now) }
 {
@@ -110,7 +110,7 @@ fn for_label(children: &[Tree]) -> Label
     }
 }
 
-/// A statement in braces.
+/// Whether the tree is a statement in braces.
 pub fn is_block(tree: &Tree) -> bool
     ensures value { result ≡ labels.labelled labels.is_block_label (out-Tree tree.now) }
 {
@@ -120,7 +120,7 @@ pub fn is_block(tree: &Tree) -> bool
     }
 }
 
-/// Type words, a declarator and a Block are a FunDef, anything else behind type words a Decl.
+/// Type words, a declarator and a Block are a FunDef; anything else after type words is a Decl.
 fn external_label(children: &[Tree]) -> Label
     ensures { result ≡ labels.external_label children.now }
 {
@@ -136,7 +136,7 @@ fn external_label(children: &[Tree]) -> Label
     }
 }
 
-/// No child is a Block.
+/// Whether no child is a Block.
 fn is_blockless(children: &[Tree]) -> bool
     ensures { result ≡ labels.is_blockless children.now }
 {
@@ -159,7 +159,7 @@ fn macro_label(children: &[Tree]) -> Label
     }
 }
 
-/// The label of a branch with these children that is so named.
+/// The label of a branch with these children that is named in this way.
 fn named(naming: Naming, children: &[Tree]) -> Label
     ensures { result ≡ labels.named naming children.now }
 {
@@ -175,7 +175,7 @@ fn named(naming: Naming, children: &[Tree]) -> Label
     }
 }
 
-/// The label of a branch with these children.
+/// Returns the label of a branch of the rule with these children.
 pub fn label_of(rule: Rule, children: &[Tree]) -> Label
     ensures value { result ≡ rows.label_of rule children.now }
 {

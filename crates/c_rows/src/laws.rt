@@ -1,4 +1,4 @@
-// What holds of the grammar, and no single call shows.
+// Laws of the grammar that the contract of no single call states.
 ghost use Rattle.std.specs.Prelude.{◌≡◌, ◌≤◌, IsTrue, List, length, map};
 ghost use Rattle.c_terms.specs.declared.token.Token.{Token};
 ghost use Rattle.c_terms.specs.declared.tree.Tree.{Tree};
@@ -22,17 +22,19 @@ pub fn leaves_are_the_tokens()
         → IsTreeOf kind names tokens t → leaves t ≡ tokens }
 {}
 
-/// A type and an expression without commas that begin at one token, and end before a comma or `)`, end at one token.
+/// A type and an expression without commas that begin at the same token, and end before a comma or `)`, end at the same
+/// token.
 pub fn members_have_one_end()
     ensures { (names : Names) (xs ys zs : List Token) (t u : Tree)
         → Derives names Anywhere kind.TypeArg xs t ys → Derives names Anywhere kind.AssignLevel xs u zs
         → IsTrue (ends_member (look names ys)) → IsTrue (ends_member (look names zs)) → ys ≡ zs }
 {}
 
-/// To the letter, a type gives way to every expression of the rows, whether or not it obeys the rule inside, and however
-/// deep it is. Each tree to the letter is a tree of the range. The trees of the range are trees to the letter in 250
-/// tokens, and wherever no expression has more than 1,000 levels. Beyond that, a type may have far fewer levels than an
-/// expression with its tokens: where the expression has more than 1,000, the range has the type, and to the letter
+/// Read to the letter, the rule makes a type give way to every expression that the rows derive, whether or not that
+/// expression obeys the rule inside, and however deep it is. Every tree to the letter is a tree of the range. For kinds
+/// that are read by themselves, the trees of the range are trees to the letter in ranges of at most 250 tokens, and
+/// wherever no expression has more than 1,000 levels. Beyond that, a type may have far fewer levels than an expression
+/// with the same tokens: if the expression has more than 1,000, the range has the type, and to the letter it has
 /// nothing.
 pub fn rivals_need_no_rule()
     ensures letter { (kind : Kind) (names : Names) (tokens : List Token) (t : Tree)
@@ -45,8 +47,8 @@ pub fn rivals_need_no_rule()
         → IsTreeOf kind names tokens t → IsLetterTreeOf kind names tokens t }
 {}
 
-/// What a row asks of its parts, and the facts of its branch, are told by the facts of the parts; those of a token by
-/// itself by the token.
+/// The facts of a row's parts determine what the row asks of them and the facts of its branch. A token by itself
+/// determines its own facts.
 pub fn facts_are_enough()
     ensures leaf { (t : Token) → leaf_facts t ≡ facts_of (Leaf t) }
     ensures allows { (rule : Rule) (cs : List Tree) → allows_facts rule (map facts_of cs) ≡ allows rule cs }

@@ -1,22 +1,22 @@
-//! The grammar of C as data: its rows, which trees they allow, and how a reader chooses among them.
+//! The grammar of C as data: its rows, the trees that they allow, and how a reader chooses among them.
 //!
 //! - [`row`] and [`ways`] are the rows: lists of [`Symbol`]s, each a token of a [`Word`], a tree of a [`Kind`], a member
-//!   of a call's list, or a [`Fork`] at which the row goes on in one of several ways.
-//! - [`kind_of`], [`label_of`] and [`allows`] say of a [`Rule`] what its branches are, and what their parts have in common.
-//!   [`within`] and [`has_leaf`] say which kinds hold which, and what a token is by itself.
+//!   of an argument list, or a [`Fork`] at which the row continues in one of several ways.
+//! - [`kind_of`], [`label_of`] and [`allows`] say which kind and label the branches of a [`Rule`] have, and which parts they
+//!   allow together. [`within`] and [`has_leaf`] say which kinds include which, and what a token is by itself.
 //! - [`look`] is the [`Class`] of the front of a list of tokens: which names are types, and what a bracket begins.
 //!   A [`Seen`] is a token with its class.
-//! - [`head`], [`tail`], [`choose`], [`left`] and [`own`] are how a reader chooses a rule and a way by one class.
-//!   [`may_be_type`] says by three classes whether a type can be a member of a call's list, and [`turn_at`] how a token
-//!   bears on where a member ends, [`group_at`] on whether a branch has a `;`.
+//! - With [`head`], [`tail`], [`choose`], [`left`] and [`own`], a reader chooses a rule and a way by one class.
+//!   [`may_be_type`] says by three classes whether a type can be a member of an argument list, [`turn_at`] how a token
+//!   bears on where a member ends, and [`group_at`] how it bears on whether a branch has a `;`.
 //!
-//! `row(Rule::Cast)` is `(`, a TypeName, `)`, an expression of Cast level. Where `a` is not in the names, the first `(` of
+//! `row(Rule::Cast)` is `(`, a TypeName, `)`, an expression of Cast level. If `a` is not in the names, the first `(` of
 //! `(a) ~b` is of class `CastNest`, and that of `(a) - b` of class `ParenNest`.
 //!
 //! The specification says which trees are right without saying how to read: `Derives` in specs/Derives, and `IsTreeOf` in
 //! specs/Trees. The reader is c_expr.
 //!
-//! No call takes memory; none recurses but [`allows`], which walks down a declarator.
+//! No call allocates memory. Only [`allows`] recurses, as it walks down a declarator.
 #![tactic(auto)]
 
 /// `row![word AnyOpen, child Expr, one Close]` is a list of symbols: a word that is a set of classes, a kind, a class.

@@ -1,4 +1,4 @@
-// The class of the front of a list of tokens: what it is with the tokens behind it.
+// The class of the front of a list of tokens: what it is, given the tokens after it.
 ghost use Rattle.std.specs.Prelude.{◌≡◌};
 ghost use Rattle.c_rows.specs.Look as ahead;
 
@@ -10,7 +10,7 @@ use crate::texts::{keyword_class, sign_class};
 use crate::words::{is_named, is_sign};
 use c_terms::{MetaKind, Names, Token, TokenKind};
 
-/// Members follow the word of a tag.
+/// Whether members follow the keyword of a tag.
 fn has_members(rest: &[Token]) -> bool
     ensures { result ≡ ahead.has_members rest.now }
 {
@@ -20,7 +20,7 @@ fn has_members(rest: &[Token]) -> bool
     }
 }
 
-/// A storage word, by what follows it.
+/// The class of a storage word, given the class that follows it.
 fn storage(next: Class) -> Class
     ensures { result ≡ ahead.storage next }
 {
@@ -30,7 +30,7 @@ fn storage(next: Class) -> Class
     }
 }
 
-/// A keyword.
+/// The class of a keyword, given the tokens after it and their class.
 fn keyword(names: &Names, text: &[u8], rest: &[Token], next: Class) -> Class
     ensures { result ≡ ahead.keyword names.now text.now rest.now next }
 {
@@ -44,7 +44,7 @@ fn keyword(names: &Names, text: &[u8], rest: &[Token], next: Class) -> Class
     }
 }
 
-/// A string, by what follows it.
+/// The class of a string, given the tokens after it.
 fn string(rest: &[Token]) -> Class
     ensures { result ≡ ahead.string rest.now }
 {
@@ -55,7 +55,7 @@ fn string(rest: &[Token]) -> Class
     }
 }
 
-/// A metavariable for a type, by what follows it.
+/// The class of a metavariable for a type, given the tokens after it.
 fn typ(rest: &[Token]) -> Class
     ensures { result ≡ ahead.typ rest.now }
 {
@@ -66,7 +66,7 @@ fn typ(rest: &[Token]) -> Class
     }
 }
 
-/// A `?`, by what follows it.
+/// The class of a `?`, given the tokens after it.
 fn question(rest: &[Token]) -> Class
     ensures { result ≡ ahead.question rest.now }
 {
@@ -77,7 +77,7 @@ fn question(rest: &[Token]) -> Class
     }
 }
 
-/// A punctuator.
+/// The class of a punctuator, given the tokens after it.
 fn sign(names: &Names, text: &[u8], rest: &[Token]) -> Class
     ensures { result ≡ ahead.sign names.now text.now rest.now }
 {
@@ -88,7 +88,7 @@ fn sign(names: &Names, text: &[u8], rest: &[Token]) -> Class
     }
 }
 
-/// A metavariable.
+/// The class of a metavariable, given the tokens after it.
 fn metavariable(names: &Names, kind: MetaKind, text: &[u8], rest: &[Token]) -> Class
     ensures { result ≡ ahead.metavariable names.now kind text.now rest.now }
 {
@@ -103,10 +103,10 @@ fn metavariable(names: &Names, kind: MetaKind, text: &[u8], rest: &[Token]) -> C
     }
 }
 
-/// The class of a list that begins with the token, of which the rest is of class `next` and has a `;` in its first branch,
-/// in no group, as `semicolon` says. Looks at up to three tokens behind, four behind `sizeof`; at the run of `*` behind a
-/// name, with or without a bracket; and behind a bracket that begins a type or follows a name, at what it encloses and the
-/// token after that.
+/// Returns the class of the list that begins with `token` and continues with `rest`, given the class `next` of `rest`
+/// and whether the first branch of `rest` has a `;` outside groups (`semicolon`). Looks at up to three tokens after
+/// `token`, four after `sizeof`; at the run of `*` after a name, with or without a bracket; and after a bracket that
+/// begins a type or follows a name, at what it encloses and the token after that.
 pub fn look(names: &Names, token: &Token, rest: &[Token], next: Class, semicolon: bool) -> Class
     requires { semicolon ≡ ahead.has_semicolon 0 rest.now }
     ensures value { result ≡ ahead.class_of names.now token.now.kind token.now.text rest.now next }

@@ -7,14 +7,14 @@ use crate::brackets::{at_name, at_sign, behind_group};
 use crate::words::{holds_for_each, is_named, is_sign, is_string, is_word};
 use c_terms::{Names, Token};
 
-/// One of `;`, `,`, `=` and `[` stands first.
+/// Whether the first token is `;`, `,`, `=` or `[`.
 fn at_end_of_name(rest: &[Token]) -> bool
     ensures { result ≡ ahead.at_end_of_name rest.now }
 {
     at_sign(rest, b";") || at_sign(rest, b",") || at_sign(rest, b"=") || at_sign(rest, b"[")
 }
 
-/// Any number of `*`, a name, and one of `;`, `,`, `=` and `[`.
+/// Whether the tokens begin with any number of `*`, a name, and one of `;`, `,`, `=` and `[`.
 fn stars_name(rest: &[Token]) -> bool
     ensures { result ≡ ahead.stars_name rest.now }
 {
@@ -27,14 +27,14 @@ fn stars_name(rest: &[Token]) -> bool
     false
 }
 
-/// At the start of a statement, a name with this text begins a declaration, by what follows it.
+/// Whether a name with this text begins a declaration at the start of a statement, given the tokens after it.
 fn declares(names: &Names, text: &[u8], rest: &[Token]) -> bool
     ensures { result ≡ ahead.declares names.now text.now rest.now }
 {
     (at_name(rest) || at_sign(rest, b"*")) && names.has(text) || stars_name(rest)
 }
 
-/// A name, a keyword or a metavariable stands first.
+/// Whether the first token is a name, a keyword or a metavariable.
 fn at_word(rest: &[Token]) -> bool
     ensures { result ≡ ahead.at_word rest.now }
 {
@@ -44,7 +44,8 @@ fn at_word(rest: &[Token]) -> bool
     }
 }
 
-/// At the start of a statement, a name with this text and a `(` begin an iterator, by what stands behind the `(`.
+/// Whether a name with this text and a `(` begin an iterator at the start of a statement, given the tokens after the
+/// `(`.
 fn iterates(text: &[u8], inside: &[Token]) -> bool
     ensures { result ≡ ahead.iterates text.now inside.now }
 {
@@ -52,7 +53,7 @@ fn iterates(text: &[u8], inside: &[Token]) -> bool
     at_sign(behind, b"{") || holds_for_each(text) && at_word(behind)
 }
 
-/// A name before `(`, by what stands behind that.
+/// The class of a name before `(`, given the tokens after the `(`.
 fn name_of_bracket(text: &[u8], inside: &[Token]) -> Class
     ensures { result ≡ ahead.name_of_bracket text.now inside.now }
 {
@@ -64,7 +65,7 @@ fn name_of_bracket(text: &[u8], inside: &[Token]) -> Class
     }
 }
 
-/// A name, by what follows it.
+/// The class of a name, given the tokens after it.
 pub fn name(names: &Names, text: &[u8], rest: &[Token]) -> Class
     ensures { result ≡ ahead.name names.now text.now rest.now }
 {

@@ -1,4 +1,4 @@
-// The facts of trees, from those of their parts.
+// The facts of trees, computed from those of their parts.
 ghost use Rattle.std.specs.Prelude.{◌≡◌, map};
 ghost use Rattle.std.specs.List.{list_all};
 ghost use Rattle.c_rows.specs.Branches.{any_of, first_of, declares_at, function_at};
@@ -8,7 +8,7 @@ use crate::words::{is_named, is_storage};
 use crate::{Facts, Rule, label_of};
 use c_terms::{Label, Token, Tree};
 
-/// The facts of a token by itself. Takes no memory.
+/// Returns the facts of a token by itself. Allocates no memory.
 pub fn leaf_facts(token: &Token) -> Facts
     ensures value { result ≡ leaf_facts token.now }
 {
@@ -22,7 +22,7 @@ pub fn leaf_facts(token: &Token) -> Facts
     }
 }
 
-/// Each part may be one of the type words of a type name.
+/// Whether each part may be one of the type words of a type name.
 fn all_plain(parts: &[Facts]) -> bool
     ensures { result ≡ list_all (λ f. f.plain) parts.now }
 {
@@ -56,7 +56,7 @@ fn any_functions(parts: &[Facts]) -> bool
     false
 }
 
-/// A declarator with this label has a name at its core.
+/// Whether a declarator with this label and these parts has a name at its core.
 fn names_at(label: Label, parts: &[Facts]) -> bool
     ensures { result ≡ declares_at label (map (λ f. f.names) parts.now) }
 {
@@ -70,7 +70,7 @@ fn names_at(label: Label, parts: &[Facts]) -> bool
     }
 }
 
-/// A declarator with this label has a DFun on the way to its name.
+/// Whether a declarator with this label and these parts has a DFun on the path to its name.
 fn functions_at(label: Label, parts: &[Facts]) -> bool
     ensures { result ≡ function_at label (map (λ f. f.functions) parts.now) }
 {
@@ -85,7 +85,7 @@ fn functions_at(label: Label, parts: &[Facts]) -> bool
     }
 }
 
-/// The facts of a branch of the rule with parts of these facts. Takes no memory.
+/// Returns the facts of a branch of the rule whose parts have these facts. Allocates no memory.
 pub fn branch_facts(rule: Rule, parts: &[Facts]) -> Facts
     ensures value { result ≡ branch_facts rule parts.now }
 {
@@ -130,7 +130,8 @@ fn allows_external(parts: &[Facts]) -> bool
     }
 }
 
-/// What a row asks of its parts together, by their facts: what [`allows`](crate::allows) answers of parts that have them.
+/// Whether the rule's row allows parts with these facts together: what [`allows`](crate::allows) answers for parts that
+/// have them.
 pub fn allows_facts(rule: Rule, parts: &[Facts]) -> bool
     ensures value { result ≡ allows_facts rule parts.now }
 {

@@ -1,5 +1,5 @@
-// What a type name may not hold: a name, a storage word, the members of a structure or an enumeration. Which declarators
-// declare a function.
+// What a type name must not contain: a name, a storage word, the members of a structure or an enumeration. Also which
+// declarators declare a function.
 
 ghost use Rattle.std.specs.Prelude.{◌≡◌};
 ghost use Rattle.c_terms.specs.declared.tree.Tree.{out-Tree};
@@ -8,7 +8,7 @@ ghost use Rattle.c_rows.specs.Branches as branches;
 use crate::{is_named, is_storage};
 use c_terms::{Label, Tree};
 
-/// The declarator has a name at its core.
+/// Whether the declarator has a name at its core.
 pub fn declares_name(declarator: &Tree) -> bool
     ensures value { result ≡ branches.declares_name declarator.now }
 {
@@ -32,7 +32,7 @@ pub fn declares_name(declarator: &Tree) -> bool
     }
 }
 
-/// A DFun stands on the way from the outermost declarator to the name.
+/// Whether a DFun is on the path from the outermost declarator to the name.
 pub fn declares_function(declarator: &Tree) -> bool
     ensures value { result ≡ branches.declares_function declarator.now }
 {
@@ -57,7 +57,7 @@ pub fn declares_function(declarator: &Tree) -> bool
     }
 }
 
-/// The part of a Specs is no storage word, and defines nothing.
+/// Whether the part of a Specs is not a storage word, and defines nothing.
 fn is_plain_part(part: &Tree) -> bool
     ensures { result ≡ branches.plain_part (out-Tree part.now) }
 {
@@ -67,7 +67,7 @@ fn is_plain_part(part: &Tree) -> bool
     }
 }
 
-/// No part of the Specs is a storage word or defines anything.
+/// Whether no part of the Specs is a storage word or defines anything.
 fn is_plain(specs: &Tree) -> bool
     ensures { result ≡ branches.is_plain specs.now }
 {
@@ -84,7 +84,7 @@ fn is_plain(specs: &Tree) -> bool
     }
 }
 
-/// The children of a TypeName: a plain Specs, and a declarator without a name, if any.
+/// Whether the children of a TypeName are a plain Specs and, if there is one, a declarator without a name.
 pub fn is_plain_type(children: &[Tree]) -> bool
     ensures value { result ≡ branches.is_plain_type children.now }
 {

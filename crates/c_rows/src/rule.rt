@@ -5,8 +5,9 @@ ghost use Rattle.c_rows.specs.Rows as rows;
 use crate::{Class, Fork, Kind, Naming, Symbol, Word};
 use c_terms::Label;
 
-/// A row of the grammar. Rows of one label that begin in different ways are rules of their own. They stand by families, in
-/// each first those that don't begin with a part of the family itself: in the order of `heads` and `tails` in specs/Rows.
+/// A row of the grammar. Rows with the same label that begin in different ways are separate rules. The rules are listed
+/// by family, and within a family those come first that don't begin with a part of the family itself: the order is that
+/// of `heads` and `tails` in specs/Rows.
 #[derive(Clone, Copy)]
 pub enum Rule {
     // expressions
@@ -26,7 +27,7 @@ pub enum Rule {
     SizeofExpr,
     /// `sizeof` or `_Alignof`, `(` type-name `)`: `sizeof(T)`
     SizeofType,
-    /// expressions between `\(` and `\)`, parted by `\|` or by `\&`: `\( a \| b \)`, `\( a \& b \)`
+    /// expressions between `\(` and `\)`, separated by `\|` or by `\&`: `\( a \| b \)`, `\( a \& b \)`
     PatBranches,
     /// postfix-expression `[` expression `]`: `e[e]`
     Index,
@@ -67,26 +68,26 @@ pub enum Rule {
     /// expression `,` assignment-expression: `a, b`
     Comma,
 
-    // lists of calls
-    /// arguments parted by commas, or none: `a, b`
+    // argument lists
+    /// arguments separated by commas, possibly none: `a, b`
     Args,
     /// a type as an argument: `int`
     TypeArg,
 
     // types
-    /// type words, and a declarator without a name, or none: `int *`
+    /// type words, and an optional declarator without a name: `int *`
     TypeName,
     /// modifiers and one type part: `static const int`
     Specs,
     /// `struct` or `union`, name: `struct s`
     StructUse,
-    /// `struct` or `union`, a name or none, members in braces: `struct s { int x; }`
+    /// `struct` or `union`, an optional name, members in braces: `struct s { int x; }`
     StructDef,
     /// `enum` name: `enum e`
     EnumUse,
-    /// `enum`, a name or none, enumerators in braces: `enum e { A, B = 2 }`
+    /// `enum`, an optional name, enumerators in braces: `enum e { A, B = 2 }`
     EnumDef,
-    /// type words, declarators and bits parted by commas, or none, `;`: `int x, y : 3;`
+    /// type words, declarators and bits separated by commas (possibly none), `;`: `int x, y : 3;`
     Field,
     /// storage words, name, `(` arguments `)` `;`: `static MACRO(x);`
     MacroItem,
@@ -94,15 +95,15 @@ pub enum Rule {
     NamelessBits,
 
     // declarators
-    /// `*`, qualifiers, a declarator or none: `*const d`
+    /// `*`, qualifiers, an optional declarator: `*const d`
     Pointer,
     /// `(` declarator `)`: `(d)`
     DParen,
-    /// `[` a size or none `]`, where no name is declared: `[3]`
+    /// `[` an optional size `]`, when no name is declared: `[3]`
     NamelessArray,
-    /// `(` parameters `)`, where no name is declared: `(int x)`
+    /// `(` parameters `)`, when no name is declared: `(int x)`
     NamelessFun,
-    /// direct-declarator `[` a size or none `]`: `d[3]`
+    /// direct-declarator `[` an optional size `]`: `d[3]`
     DArray,
     /// direct-declarator `(` parameters `)`: `d(int x)`
     DFun,
@@ -110,13 +111,13 @@ pub enum Rule {
     Bits,
     /// declarator `=` an expression or a list of initialisers: `x = 1`
     InitDecl,
-    /// parameters parted by commas, or none: `int x, ...`
+    /// parameters separated by commas, possibly none: `int x, ...`
     Params,
-    /// type words, and a declarator or none: `int x`
+    /// type words, and an optional declarator: `int x`
     Param,
 
     // initialisers
-    /// initialisers in braces, parted by commas: `{ 1, .x = 2, }`
+    /// initialisers in braces, separated by commas: `{ 1, .x = 2, }`
     InitList,
     /// designators `=` an expression or a list: `.x[2] = 3`
     InitItem,
@@ -130,15 +131,15 @@ pub enum Rule {
     EnumValue,
 
     // declarations
-    /// type words, declarators and initialisers parted by commas, or none, `;`: `int x = 1, y;`
+    /// type words, declarators and initialisers separated by commas (possibly none), `;`: `int x = 1, y;`
     Decl,
 
     // statements
     /// expression `;`: `f();`
     ExprStat,
-    /// `if` `(` expression `)` body, and with or without `else` body: `if (c) f(); else g();`
+    /// `if` `(` expression `)` body, and optionally `else` body: `if (c) f(); else g();`
     If,
-    /// `return` an expression or none `;`: `return e;`
+    /// `return` an optional expression `;`: `return e;`
     Return,
     /// `{` statements `}`: `{ f(); }`
     Block,
@@ -150,7 +151,8 @@ pub enum Rule {
     Case,
     /// `break` `;`
     Break,
-    /// `for` `(` a declaration, or an expression or none and `;`, two more, `)` body: `for (;;) f();`
+    /// `for` `(`, a declaration or an optional expression and `;`, an optional expression and `;`, an optional expression, `)`
+    /// body: `for (;;) f();`
     For,
     /// `while` `(` expression `)` body: `while (c) f();`
     While,
@@ -166,7 +168,7 @@ pub enum Rule {
     Do,
     /// `;`
     Empty,
-    /// lists of statements between `\(` and `\)`, parted by `\|` or by `\&`: `\( f(); \| g(); \)`
+    /// lists of statements between `\(` and `\)`, separated by `\|` or by `\&`: `\( f(); \| g(); \)`
     PatLists,
     /// `<...` or `<+...`, an expression or statements, `...>` or `...+>`: `<... f(x) ...>`
     PatNest,
@@ -174,7 +176,7 @@ pub enum Rule {
     StmtList,
 
     // items
-    /// type words, a declarator and a Block, or what a Decl has: `int f(void) { }`, `int x = 1, y;`
+    /// type words, a declarator and a Block, or the parts of a Decl: `int f(void) { }`, `int x = 1, y;`
     External,
     /// storage words, name, `(` arguments `)`, and `;` or a Block: `MACRO(x);`, `MACRO(x) { }`
     ExternalMacro,
@@ -182,19 +184,19 @@ pub enum Rule {
     ExternalEmpty,
 }
 
-/// What a rule says.
+/// What a rule says of its branches.
 #[derive(Clone, Copy)]
 pub struct Production {
-    /// The tightest kind of which a branch of the rule is
+    /// The tightest kind of a branch of the rule
     pub kind: Kind,
-    /// How a branch of it is labelled
+    /// How a branch of the rule is labelled
     pub naming: Naming,
     /// The parts of its row, in order
     pub parts: &'static [Symbol],
 }
 
-/// `rule![Post, Paren: word ParenOpen, child Expr, one Close]` is of a kind, has a label and these parts. In place of the
-/// label, `by IfByElse` is a way in which the parts tell it.
+/// `rule![Post, Paren: word ParenOpen, child Expr, one Close]` is a production: a kind, a label and the parts. In place
+/// of the label, `by IfByElse` names the way in which the parts determine it.
 macro_rules! rule {
     ($kind:ident, by $naming:ident: $($parts:tt)*) => {
         Production { kind: Kind::$kind, naming: Naming::$naming, parts: row![$($parts)*] }
@@ -204,7 +206,7 @@ macro_rules! rule {
     };
 }
 
-/// What the rule says.
+/// Returns what the rule says of its branches.
 pub fn production_of(rule: Rule) -> Production
     ensures kind { result.kind ≡ rows.kind_of rule }
     ensures naming { result.naming ≡ rows.naming_of rule }
@@ -247,7 +249,7 @@ pub fn production_of(rule: Rule) -> Production
         Rule::Assign => rule![AssignLevel, Assign: child Un, word Assign, child AssignLevel],
         Rule::Comma => rule![Expr, Comma: child Expr, one Comma, child AssignLevel],
 
-        // lists of calls
+        // argument lists
         Rule::Args => rule![Args, Args: fork FirstArg],
         Rule::TypeArg => rule![TypeArg, TypeArg: child TypeName],
 
@@ -321,14 +323,14 @@ pub fn production_of(rule: Rule) -> Production
     }
 }
 
-/// The tightest kind of which a branch of the rule is.
+/// Returns the tightest kind of a branch of the rule.
 pub fn kind_of(rule: Rule) -> Kind
     ensures value { result ≡ rows.kind_of rule }
 {
     production_of(rule).kind
 }
 
-/// The parts of the rule's row, in order.
+/// Returns the parts of the rule's row, in order.
 pub fn row(rule: Rule) -> &'static [Symbol]
     ensures value { result.now ≡ rows.row rule }
 {

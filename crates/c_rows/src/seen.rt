@@ -1,4 +1,4 @@
-// Tokens as they are seen.
+// Tokens as a reader sees them: each with the class of the list that it begins.
 ghost use Rattle.std.specs.Prelude.{◌≡◌};
 ghost use Rattle.c_rows.specs.Seen.{Seen, front, front_typed};
 ghost use Rattle.c_rows.specs.Spells.{member_kind};
@@ -26,7 +26,7 @@ impl<'a> Model for Seen<'a> {
 }
 
 impl<'a> Seen<'a> {
-    /// The token with its class. `typed` says that no expression can stand here as a member of a call's list.
+    /// Returns the token with its class. `typed` says that no expression can be a member of an argument list here.
     pub fn new(token: &'a Token, class: Class, typed: bool) -> Seen<'a>
         ensures value { result ≡ record { token = token.now; class = class; typed = typed } }
     {
@@ -37,21 +37,21 @@ impl<'a> Seen<'a> {
         }
     }
 
-    /// The token. Takes no memory.
+    /// Returns the token. Allocates no memory.
     pub fn token(&self) -> &'a Token
         ensures value { result.now ≡ self.now.token }
     {
         self.token
     }
 
-    /// The class of the list that the token begins. Takes no memory.
+    /// Returns the class of the list that the token begins. Allocates no memory.
     pub fn class(&self) -> Class
         ensures value { result ≡ self.now.class }
     {
         self.class
     }
 
-    /// No expression can stand here as a member of a call's list. Takes no memory.
+    /// Whether no expression can be a member of an argument list here. Allocates no memory.
     pub fn is_typed(&self) -> bool
         ensures value { result ≡ self.now.typed }
     {
@@ -59,7 +59,7 @@ impl<'a> Seen<'a> {
     }
 }
 
-/// What stands first. Takes no memory.
+/// Returns the class of the first token, or [`Class::End`] if there is none. Allocates no memory.
 pub fn front(rest: &[Seen]) -> Class
     ensures value { result ≡ front rest.now }
 {
@@ -69,7 +69,8 @@ pub fn front(rest: &[Seen]) -> Class
     }
 }
 
-/// No expression can stand first as a member of a call's list. Takes no memory.
+/// Whether no expression that is a member of an argument list can begin at the first token; `false` if there is none.
+/// Allocates no memory.
 pub fn front_typed(rest: &[Seen]) -> bool
     ensures value { result ≡ front_typed rest.now }
 {
@@ -79,7 +80,8 @@ pub fn front_typed(rest: &[Seen]) -> bool
     }
 }
 
-/// What a member of a call's list is: a type where no expression can stand, and else an expression without commas.
+/// Returns what a member of an argument list is: a type if no expression can be there, otherwise an expression without
+/// commas.
 pub fn member_kind(typed: bool) -> Kind
     ensures value { result ≡ member_kind typed }
 {
@@ -90,7 +92,7 @@ pub fn member_kind(typed: bool) -> Kind
     }
 }
 
-/// A member of a call's list may begin behind this token.
+/// Whether a member of an argument list may begin after this token.
 pub fn leads_member(token: &Token) -> bool
     ensures value { result ≡ leads_member token.now }
 {

@@ -9,129 +9,129 @@ pub enum Symbol {
     Word(Word),
     /// A tree of the kind
     Child(Kind),
-    /// A member of a call's list: an expression without commas, or a type
+    /// A member of an argument list: an expression without commas, or a type
     Argument,
-    /// What is left of the row, in one of the ways of the fork
+    /// The rest of the row, in one of the ways of the fork
     Fork(Fork),
 }
 
-/// A place at which a row goes on in one of several ways.
+/// A place at which a row continues in one of several ways.
 #[derive(Clone, Copy)]
 pub enum Fork {
     /// The start of a Strings
     FirstString,
-    /// A Strings behind its first string
+    /// A Strings after its first string
     SecondString,
-    /// A Strings behind a string
+    /// A Strings after a string
     AfterString,
-    /// A Strings behind a name
+    /// A Strings after a name
     AfterName,
     /// The start of an Args
     FirstArg,
-    /// An Args behind a member
+    /// An Args after a member
     MoreArgs,
-    /// An Args behind a comma
+    /// An Args after a comma
     NextArg,
-    /// A PatOr or PatAnd behind its first branch
+    /// A PatOr or PatAnd after its first branch
     FirstBranch,
-    /// A PatOr behind a later branch
+    /// A PatOr after a later branch
     MoreOr,
-    /// A PatAnd behind a later branch
+    /// A PatAnd after a later branch
     MoreAnd,
-    /// A TypeName behind its Specs
+    /// A TypeName after its Specs
     Nameless,
     /// A Specs before its type part
     NoType,
-    /// A Specs behind a word of a basic type
+    /// A Specs after a word of a basic type
     BasicType,
-    /// A Specs behind a tag or a name
+    /// A Specs after a tag or a name
     OneType,
-    /// A StructDef behind its word
+    /// A StructDef after its word
     StructName,
-    /// A StructDef behind `{` or a member
+    /// A StructDef after `{` or a member
     Members,
-    /// A Field behind its Specs
+    /// A Field after its Specs
     FirstField,
-    /// A Field behind a declarator
+    /// A Field after a declarator
     MoreFields,
-    /// A Field behind a comma
+    /// A Field after a comma
     NextField,
-    /// An EnumDef behind its word
+    /// An EnumDef after its word
     EnumName,
-    /// An EnumDef behind an enumerator
+    /// An EnumDef after an enumerator
     MoreEnumerators,
-    /// An EnumDef behind a comma
+    /// An EnumDef after a comma
     NextEnumerator,
-    /// A Pointer behind `*` or a qualifier
+    /// A Pointer after `*` or a qualifier
     Pointee,
-    /// A DArray behind `[`
+    /// A DArray after `[`
     Size,
     /// The start of a Params
     FirstParam,
-    /// A Params behind a member
+    /// A Params after a member
     MoreParams,
-    /// A Params behind a comma
+    /// A Params after a comma
     NextParam,
-    /// A Param behind its Specs
+    /// A Param after its Specs
     ParamName,
-    /// An InitList behind `{`
+    /// An InitList after `{`
     FirstInit,
-    /// An InitList behind a member
+    /// An InitList after a member
     MoreInits,
-    /// An InitList behind a comma
+    /// An InitList after a comma
     NextInit,
-    /// An InitItem behind a designator
+    /// An InitItem after a designator
     MoreDesignators,
-    /// An InitItem behind `=`
+    /// An InitItem after `=`
     ItemValue,
-    /// An At or AtRange behind its first expression
+    /// An At or AtRange after its first expression
     AtEnd,
     /// A MacroItem before its name
     MacroWords,
-    /// An If behind its body
+    /// An If after its body
     ElseOrNot,
-    /// A Decl behind its Specs
+    /// A Decl after its Specs
     FirstDeclarator,
-    /// A Decl behind a declarator
+    /// A Decl after a declarator
     MoreDeclarators,
-    /// An InitDecl behind `=`
+    /// An InitDecl after `=`
     InitValue,
-    /// A Block behind `{` or a statement
+    /// A Block after `{` or a statement
     BlockStatements,
-    /// A Block behind `...` or a PatNest
+    /// A Block after `...` or a PatNest
     BlockBehindDots,
-    /// A For or ForDecl behind `(`
+    /// A For or ForDecl after `(`
     ForInit,
     /// A For or ForDecl before its second expression
     ForTest,
     /// A For or ForDecl before its third expression
     ForStep,
-    /// A Case or CaseRange behind its first expression
+    /// A Case or CaseRange after its first expression
     CaseEnd,
-    /// A Return behind its word
+    /// A Return after its word
     ReturnValue,
-    /// The start of a StmtList, or a StmtList behind a statement
+    /// The start of a StmtList, or a StmtList after a statement
     ListStatements,
-    /// A StmtList behind `...` or a PatNest
+    /// A StmtList after `...` or a PatNest
     ListBehindDots,
-    /// A FunDef or Decl behind its Specs
+    /// A FunDef or Decl after its Specs
     FirstExternal,
-    /// A FunDef or Decl behind its first declarator
+    /// A FunDef or Decl after its first declarator
     AfterExternal,
     /// A MacroItem or MacroFun before its name
     MacroNames,
-    /// A MacroItem or MacroFun behind `)`
+    /// A MacroItem or MacroFun after `)`
     MacroEnd,
-    /// A PatOr or PatAnd behind its first list of statements
+    /// A PatOr or PatAnd after its first list of statements
     FirstList,
-    /// A PatOr behind a later list of statements
+    /// A PatOr after a later list of statements
     MoreListsOr,
-    /// A PatAnd behind a later list of statements
+    /// A PatAnd after a later list of statements
     MoreListsAnd,
     /// The start of a PatNest
     NestStart,
-    /// A PatNest behind its sign or a statement
+    /// A PatNest after its sign or a statement
     NestStatements,
-    /// A PatNest behind `...` or a PatNest
+    /// A PatNest after `...` or a PatNest
     NestBehindDots,
 }

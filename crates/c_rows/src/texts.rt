@@ -1,4 +1,4 @@
-// Keywords and signs: of which class each is by itself.
+// Keywords and signs: the class that each has by itself.
 ghost use Rattle.std.specs.Prelude.{◌≡◌};
 ghost use Rattle.c_rows.specs.Texts as texts;
 
@@ -38,7 +38,7 @@ fn statement_keyword(text: &[u8]) -> Class
     }
 }
 
-/// The class of a keyword that is no basic type.
+/// The class of a keyword of types that is not a basic type.
 fn type_keyword(text: &[u8]) -> Class
     ensures { result ≡ texts.class_in texts.type_keywords text.now }
 {
@@ -79,7 +79,7 @@ fn type_keyword(text: &[u8]) -> Class
     }
 }
 
-/// The class of a keyword, where nothing follows that changes it.
+/// Returns the class of a keyword, if nothing that follows changes it.
 pub fn keyword_class(text: &[u8]) -> Class
     ensures value { result ≡ texts.class_in texts.keywords text.now }
 {
@@ -110,7 +110,7 @@ pub fn keyword_class(text: &[u8]) -> Class
     }
 }
 
-/// The class of a punctuator, where nothing follows that changes it.
+/// Returns the class of a punctuator, if nothing that follows changes it.
 pub fn sign_class(text: &[u8]) -> Class
     ensures value { result ≡ texts.class_in texts.signs text.now }
 {
@@ -165,7 +165,7 @@ pub fn sign_class(text: &[u8]) -> Class
     }
 }
 
-/// The class of a sign of patterns before expressions.
+/// Returns the class of a sign of patterns before expressions.
 pub fn pattern_class(text: &[u8]) -> Class
     ensures value { result ≡ texts.class_in texts.pattern_signs text.now }
 {

@@ -19,7 +19,7 @@ pub enum Turn {
     Plain,
 }
 
-/// What a token of this class does to a scan for the end of a member. Takes no memory.
+/// Returns what a token of this class does to a scan for the end of a member. Allocates no memory.
 pub fn turn_at(class: Class) -> Turn
     ensures value { result ≡ scans.turn class }
 {

@@ -46,14 +46,14 @@ pub enum Word {
     One(Class),
 }
 
-/// One class.
+/// Whether the two classes are the same.
 pub fn same_class(a: Class, b: Class) -> bool
     ensures value { result ≡ words.same_class a b }
 {
     a as u8 == b as u8
 }
 
-/// A token of this class is a token of the word.
+/// Whether a token of this class is a token of the word.
 pub fn fits(word: Word, class: Class) -> bool
     ensures value { result ≡ words.fits word class }
 {

@@ -7,14 +7,14 @@ use crate::Class;
 use crate::texts::keyword_class;
 use c_terms::{MetaKind, Token, TokenKind};
 
-/// Equal bytes.
+/// Whether the two texts have the same bytes.
 pub fn is(text: &[u8], word: &[u8]) -> bool
     ensures { result ≡ bytes_eq text.now word.now }
 {
     text == word
 }
 
-/// A name, or a metavariable for one.
+/// Whether the token is a name, or a metavariable for one.
 pub fn is_named(token: &Token) -> bool
     ensures value { result ≡ tokens.is_named token.now }
 {
@@ -25,7 +25,7 @@ pub fn is_named(token: &Token) -> bool
     }
 }
 
-/// A string.
+/// Whether the token is a string.
 pub fn is_string(token: &Token) -> bool
     ensures { result ≡ tokens.is_string token.now }
 {
@@ -35,7 +35,7 @@ pub fn is_string(token: &Token) -> bool
     }
 }
 
-/// The punctuator with this text.
+/// Whether the token is the punctuator with this text.
 pub fn is_sign(token: &Token, text: &[u8]) -> bool
     ensures { result ≡ tokens.is_sign token.now text.now }
 {
@@ -45,7 +45,7 @@ pub fn is_sign(token: &Token, text: &[u8]) -> bool
     }
 }
 
-/// A storage word.
+/// Whether the token is a storage word.
 pub fn is_storage(token: &Token) -> bool
     ensures value { result ≡ tokens.is_storage token.now }
 {
@@ -55,8 +55,8 @@ pub fn is_storage(token: &Token) -> bool
     }
 }
 
-/// A token with which a type begins that is no name: a word of a basic type, a qualifier, a tag's word,
-/// or a metavariable for a type.
+/// Whether the token begins a type and is not a name: a word of a basic type, a qualifier, the keyword of a tag, or a
+/// metavariable for a type.
 pub fn is_type_word(token: &Token) -> bool
     ensures { result ≡ tokens.is_type_word token.now }
 {
@@ -70,7 +70,7 @@ pub fn is_type_word(token: &Token) -> bool
     }
 }
 
-/// A name, a keyword or a metavariable.
+/// Whether the token is a name, a keyword or a metavariable.
 pub fn is_word(token: &Token) -> bool
     ensures { result ≡ tokens.is_word token.now }
 {
@@ -82,7 +82,7 @@ pub fn is_word(token: &Token) -> bool
     }
 }
 
-/// `for_each` stands in the text.
+/// Whether the text contains `for_each`.
 pub fn holds_for_each(text: &[u8]) -> bool
     ensures { result ≡ tokens.holds_for_each text.now }
 {
@@ -96,7 +96,7 @@ pub fn holds_for_each(text: &[u8]) -> bool
     false
 }
 
-/// The sign of patterns with this text.
+/// Whether the token is the sign of patterns with this text.
 pub fn is_pat(token: &Token, text: &[u8]) -> bool
     ensures { result ≡ tokens.is_pat token.now text.now }
 {
@@ -106,8 +106,8 @@ pub fn is_pat(token: &Token, text: &[u8]) -> bool
     }
 }
 
-/// A token that may follow a name in brackets only where that is a cast or begins a literal:
-/// a name, a constant, a string, a metavariable for an expression, `~`, `!`, `sizeof` or `{`.
+/// Whether the token may follow a name in brackets only if that is a cast or begins a literal: a name, a constant, a
+/// string, a metavariable for an expression, `~`, `!`, `sizeof` or `{`.
 pub fn follows_cast(token: &Token) -> bool
     ensures { result ≡ tokens.follows_cast token.now }
 {

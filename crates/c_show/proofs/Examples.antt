@@ -25,7 +25,7 @@ signs_run_together : is_parted (punct (codes "-")) (punct (codes "->")) ≡ true
 unfolding runs_together
 signs_run_together = refl
 
--- `..` is no token, but a third dot would join the two
+-- `..` is not a token, but a third dot would join the two
 dots_run_together : is_parted (punct (codes ".")) (punct (codes ".")) ≡ true
 unfolding runs_together
 dots_run_together = refl
@@ -55,7 +55,7 @@ around_an_operator : joined None (name (codes "a") ∷ token Punct (codes "+") O
 unfolding runs_together
 around_an_operator = refl
 
--- the same text is no operator elsewhere, as the `=` of a designator
+-- elsewhere the same text is not an operator, such as the `=` of a designator
 a_sign_alone_stands_tight : joined None (name (codes "a") ∷ punct (codes "=") ∷ name (codes "b") ∷ []) ≡ codes "a=b"
 unfolding runs_together
 a_sign_alone_stands_tight = refl
@@ -103,6 +103,6 @@ init_decl = (refl, refl)
 pointer : (role_of label.Pointer 0 ≡ Star) × (role_of label.Pointer 1 ≡ Plain)
 pointer = (refl, refl)
 
--- neither a comma nor the sign of a prefix is an operator of two operands
+-- neither a comma nor a prefix sign is an operator with two operands
 others : (role_of label.Comma 1 ≡ Plain) × (role_of label.Unary 0 ≡ Plain)
 others = (refl, refl)

@@ -1,4 +1,4 @@
--- A page that has come from some tokens to the rest of them.
+-- A page on which some tokens have been written, and the rest have not.
 use Rattle.std.proofs.Common.{◌≡◌, refl, sym, ap, ◌∙◌, List, [], ◌∷◌, ◌++◌, append_assoc, map}
 use Rattle.c_terms.specs.declared.label.Label.{Label}
 use Rattle.c_terms.specs.declared.token.Token.{Token}
@@ -16,7 +16,7 @@ shown-Leaf t role = ap (λ x. shown x role) (sym (rolls-Leaf t)) ∙ ap (λ f. f
 pub shown-Branch : (l : Label) (cs : List Tree) (role : Role) → shown (Branch l cs) role ≡ shown_kids l 0 (map shown cs)
 shown-Branch l cs role = ap (λ x. shown x role) (sym (rolls-Branch l cs)) ∙ ap (λ f. f role) (fold-roll-Tree (Role → List Shown) shown_step _)
 
--- what it has, joined with the rest, is all
+-- the text of the new page, joined with the rest, is that of the old page joined with all the tokens
 pub record Reaches (old : Page) (all : List Shown) (new : Page) (rest : List Shown) : Type 0 where
   pub text : (more : List Shown) → text_with new (rest ++ more) ≡ text_with old (all ++ more)
 

@@ -1,4 +1,4 @@
--- The test whether two texts run together says what it is to say.
+-- The test whether two texts run together is correct.
 use Rattle.std.proofs.Common.{◌≡◌, ℕ, Bool, true, false, not, ◌&&◌, refl, sym, ap, ◌∙◌, arith, List, [], ◌∷◌, take, subst}
 use Rattle.std.specs.Prelude.{Option, Some, None, option_and_then}
 use Rattle.std.specs.Bool.{Decides}

@@ -5,7 +5,7 @@ use Rattle.c_lexer.specs.declared.state.State.{State}
 use Rattle.c_lexer.specs.declared.state.State.TheVariants.{Start}
 use Rattle.c_lexer.specs.Kinds.{walk, step, kind_at}
 
--- no front of the bytes ends a text of a kind
+-- whether no prefix of the bytes completes a text of a kind
 abbrev pub is_quiet : State → List ℕ → Bool
 is_quiet q [] = true
 is_quiet q (b ∷ bs) = elim (step q b) as (λ r. Bool) [
@@ -17,10 +17,11 @@ abbrev pub is_longer_from : Option State → List ℕ → Bool
 is_longer_from None right = true
 is_longer_from (Some q) right = elim (kind_at q) as (λ r. Bool) [ None ↦ true | Some k ↦ not (is_quiet q right) ]
 
--- the left text is no first piece of both
+-- whether the left text is not the first piece of both
 abbrev pub is_longer : List ℕ → List ℕ → Bool
 is_longer left right = is_longer_from (walk (Some Start) left) right
 
--- They run together where no space stands between them: the left one is no first piece of both, or both are dots, which a third would join.
+-- Whether two texts run together if there is no space between them: the left one is not the first piece of both, or it is
+-- `.` and the right one begins with `.`, which a third `.` would join.
 unfoldable pub runs_together : List ℕ → List ℕ → Bool
 runs_together left right = is_longer left right || (bytes_eq left (46 ∷ []) && bytes_eq (take 1 right) (46 ∷ []))

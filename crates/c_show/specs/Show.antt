@@ -1,4 +1,5 @@
--- How a tree is written out: the texts of its tokens, and a space between two neighbours where they run together or where C is written so.
+-- How a tree is written out: the texts of its tokens, with a space between two neighbours that run together or that are
+-- written with one in C.
 use Rattle.std.specs.Prelude.{ℕ, ◌+◌, ◌==◌, ◌&&◌, ◌||◌, Bool, true, false, List, [], ◌∷◌, ◌++◌, Option, None, Some, if◌then◌else◌, codes}
 use Rattle.std.specs.Str.{bytes_eq}
 use Rattle.c_terms.specs.declared.label.Label.{Label}
@@ -17,7 +18,7 @@ abbrev pub operator_if : Bool → Role
 operator_if true = Operator
 operator_if false = Plain
 
--- the part that a token plays as a child of this number
+-- the part that a token plays as the child with this index
 abbrev pub role_of : Label → ℕ → Role
 role_of Binary n = operator_if (n == 1)
 role_of Assign n = operator_if (n == 1)
@@ -44,7 +45,7 @@ abbrev pub shown_step : Tree-F (Role → List Shown) → Role → List Shown
 shown_step (Tree-F.Leaf t) role = shown_token t role ∷ []
 shown_step (Tree-F.Branch l fs) role = shown_kids l 0 fs
 
--- the tokens from left to right, with their parts; the tree as a whole plays this one
+-- the tokens from left to right, with the parts that they play; the tree as a whole plays the given one
 abbrev pub shown : Tree → Role → List Shown
 shown = fold-Tree (Role → List Shown) shown_step
 
@@ -63,15 +64,15 @@ is_named Name = true
 is_named Keyword = true
 is_named kind = false
 
--- a space stands after it
+-- whether a space comes after it
 abbrev pub is_wide_after : List ℕ → Bool
 is_wide_after text = bytes_eq text (codes ",") || bytes_eq text (codes ";") || bytes_eq text (codes "{")
 
--- a space stands before it
+-- whether a space comes before it
 abbrev pub is_wide_before : List ℕ → Bool
 is_wide_before text = bytes_eq text (codes "{") || bytes_eq text (codes "}")
 
--- whether a space stands between two neighbours
+-- whether a space separates two neighbours
 abbrev pub is_parted : Shown → Shown → Bool
 is_parted t u =
     runs_together t.text u.text || is_wide_after t.text || is_wide_before u.text
@@ -81,7 +82,7 @@ abbrev pub blank_before : Option Shown → Shown → List ℕ
 blank_before None u = []
 blank_before (Some t) u = if is_parted t u then 32 ∷ [] else []
 
--- the texts with the spaces, after a token
+-- the texts with the spaces between them, after the given token if there is one
 abbrev pub joined : Option Shown → List Shown → List ℕ
 joined left [] = []
 joined left (u ∷ us) = blank_before left u ++ (u.text ++ joined (Some u) us)

@@ -1,4 +1,4 @@
--- What a page has, joined with what is still to be written.
+-- The text of a page, joined with what is still to be written.
 use Rattle.std.specs.Prelude.{ℕ, ◌≡◌, Bool, false, List, ◌++◌, drop, Option, None, Some, option_map}
 use Rattle.c_show.specs.declared.page.Role.{Role}
 use Rattle.c_show.specs.declared.page.LastToken.{LastToken}
@@ -13,7 +13,7 @@ abbrev pub parted_from : Option Shown → List ℕ → Role → Bool
 parted_from None text role = false
 parted_from (Some t) text role = is_parted t (record { kind = Name; text = text; role = role })
 
--- whether a space parts a token from the last one
+-- whether a space separates a token from the last one
 abbrev pub is_parted_from : Page → List ℕ → Role → Bool
 is_parted_from d text role = parted_from (left d) text role
 

@@ -8,9 +8,10 @@ use crate::page::{LastToken, Page, Role};
 use c_terms::{Label, NoMemory, Text, Token, TokenKind, Tree};
 use std::alloc::Global;
 
-/// The tree written out: the texts of its tokens, and one space between two neighbours where they run together, after
-/// `,`, `;` and `{`, before `{` and `}`, around operators of two operands, `?`, `:` and the `=` of a declaration, and
-/// between a word and the `*` of a pointer. Linear. Recurses once a level.
+/// Returns the text of the tree: the texts of its tokens, with one space between two neighbours that run together, after
+/// `,`, `;` and `{`, before `{` and `}`, around operators with two operands, `?`, `:` and the `=` of a declaration, and
+/// between a word and the `*` of a pointer. Linear time. Recurses once for each level of the tree. Fails only when out of
+/// memory.
 pub fn show(alloc: Global, tree: &Tree) -> Result<Text, NoMemory>
     ensures text { IfOk result (λ text. text ≡ show_of tree.now) }
 {
@@ -37,7 +38,7 @@ fn put_tree(page: &mut Page, tree: &Tree, role: Role) -> Result<(), NoMemory>
     }
 }
 
-/// Adds a token, with a space before it where one has to stand there.
+/// Adds a token, and before it a space if one is needed there.
 fn put_token(page: &mut Page, token: &Token, role: Role) -> Result<(), NoMemory>
     ensures { OnOk result (Writes page.old page.new (shown_token token.now role ∷ [])) }
 {
@@ -55,7 +56,7 @@ fn put_token(page: &mut Page, token: &Token, role: Role) -> Result<(), NoMemory>
     Ok(())
 }
 
-/// Whether a space parts this token from the last one.
+/// Whether a space separates this token from the last one.
 fn is_parted(page: &Page, text: &[u8], role: Role) -> bool
     ensures { result ≡ is_parted_from page.now text.now role }
 {
@@ -113,7 +114,7 @@ fn is_named(kind: TokenKind) -> bool
     }
 }
 
-/// The part that a token plays as a child of this number.
+/// The part that a token plays as the child with this index.
 fn role_of(label: Label, child: usize) -> Role
     ensures { result ≡ role_of label child }
 {

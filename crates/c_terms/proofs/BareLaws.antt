@@ -1,4 +1,4 @@
--- Two trees are the same exactly where they are equal without their ids.
+-- Two trees are the same exactly when they are equal without their ids.
 use Rattle.std.proofs.Common.{◌≡◌, ℕ, true, ◌&&◌, refl, sym, ap, ◌∙◌, arith, List, [], ◌∷◌, map}
 use Rattle.std.proofs.lemmas.Bool.Decides.{nat_tests}
 use Rattle.std.proofs.lemmas.Grind.{common_steps}

@@ -1,4 +1,4 @@
--- Trees may go to other threads and be shared by them.
+-- Trees may be sent to other threads and shared by them.
 use denote.Param.Send.{IsSend, IsSync, sendable}
 use Rattle.std.proofs.Crossing.{crosses}
 use Rattle.c_terms.specs.contracts.tree.Tree as Tree
@@ -12,7 +12,7 @@ tree_send = search (send-Tree, Token.the_field_send, Label.the_field_send, cross
 pub tree_sync : IsSync Tree.the_row
 tree_sync = search (sync-Tree, Token.the_field_sync, Label.the_field_sync, crosses, sendable) depth 60
 
--- as they stand in a struct or an enum
+-- as fields of a struct or an enum
 pub tree_in_send : IsSend (Tree.the_field).row
 tree_in_send = search (send-Tree, Token.the_field_send, Label.the_field_send, crosses, sendable) depth 60 fits 20000
 

@@ -1,4 +1,4 @@
--- The definitions at small trees and texts, above all where two readings would differ.
+-- The definitions at small trees and texts, above all where they could be read in two ways.
 use Rattle.std.proofs.Common.{◌≡◌, ℕ, ◌+◌, true, false, refl, List, [], ◌∷◌, Some}
 use Rattle.std.specs.Prelude.{codes}
 use Rattle.std.specs.declared.cmp.Ordering.TheVariants.{Less, Greater}
@@ -39,11 +39,11 @@ ids_aside = refl
 kinds_count : same_token (name (codes "x") 1) (token (kind.Meta meta.Expr) (codes "x") 1) ≡ false
 kinds_count = refl
 
--- a token comes by its kind before its bytes: the name `z` before the number `1`
+-- a token is ordered by its kind before its bytes: the name `z` before the number `1`
 kind_first : token_order (name (codes "z") 5) (token kind.Number (codes "1") 3) ≡ Less
 kind_first = refl
 
--- metavariables stand between strays and dots
+-- metavariables are between strays and dots
 meta_after_stray : token_order (token (kind.Meta meta.Expr) (codes "a") 0) (token kind.Stray (codes "z") 0) ≡ Greater
 meta_after_stray = refl
 
@@ -65,7 +65,7 @@ leaf_first a = order-Leaf-Branch a label.Call _
 label_first : tree_order (Branch label.Paren (Leaf (punct (codes "(") 0) ∷ Leaf (name (codes "z") 1) ∷ Leaf (punct (codes ")") 2) ∷ [])) (call 0) ≡ Less
 label_first = order-Branch-Branch label.Paren _ label.Call _
 
--- no statements come before one
+-- an empty list of statements comes before a list of one
 none_first : tree_order (Branch label.StmtList []) (Branch label.StmtList (Branch label.Empty [] ∷ [])) ≡ Less
 none_first = order-Branch-Branch label.StmtList [] label.StmtList (Branch label.Empty [] ∷ [])
 

@@ -1,5 +1,6 @@
 -- The path of each part of a tree leads to it.
--- Proof: by induction on the tree. The parts of a branch are split by child, and a child's number is how many stand before it.
+-- Proof: by induction on the tree. The parts of a branch are split by child, and a child's number is the number of
+-- children before it.
 use Rattle.std.proofs.Common.{◌≡◌, ℕ, zero, suc, Bool, true, false, cond, refl, sym, ap, ◌∙◌, subst, arith, List, [], ◌∷◌, ◌++◌, map, length, append_assoc, length-append, Some, slice_get}
 use Rattle.std.specs.Option.{option_and_then}
 use Rattle.c_terms.specs.declared.label.Label.{Label}
@@ -24,7 +25,7 @@ found-at t [] f k p e = absurd (cc)
 found-at t (q ∷ ps) f zero p e = let same : q ≡ p = cc in subst (λ (x : Place). subtree t x.path ≡ Some x.tree) same f.0
 found-at t (q ∷ ps) f (suc k) p e = found-at t ps f.1 k p e
 
--- the child that stands behind these
+-- the child after these
 child-behind : (before more : List Tree) (c : Tree) → slice_get (before ++ c ∷ more) (length before) ≡ Some c
 child-behind [] more c = refl
 child-behind (b ∷ before) more c = child-behind before more c

@@ -1,4 +1,4 @@
--- Runs of members, one member more.
+-- Runs of members, with one more member.
 use Rattle.std.proofs.Common.{◌≡◌, ℕ, zero, suc, ◌+◌, ◌<◌, refl, sym, ap, ◌∙◌, arith, List, [], ◌∷◌, ◌++◌, length, take, get_or, append_assoc}
 use Rattle.std.proofs.Math.Seq.{take-suc}
 use Rattle.c_terms.specs.declared.tree.Tree.{Tree}

@@ -32,14 +32,14 @@ pub map-push : {K : Type 0} (f : K → List ℕ) (keys : List K) (k : K) → map
 map-push f [] k = refl
 map-push f (x ∷ keys) k = ap (λ ys. f x ∷ ys) (map-push f keys k)
 
--- a set that gains a key which it lacks gains its name
+-- a set that gains a new key gains its name
 pub put-new : {K : Type 0} (f : K → List ℕ) (keys : List K) (k : K) (name : List ℕ) → f k ≡ name → has_name (map f keys) name ≡ false
     → map f (cond (list_any (λ x. pointwise nat_eq (f k) (f x)) keys) keys (keys ++ k ∷ [])) ≡ with_name (map f keys) name
 put-new f keys k name e h =
     let a : list_any (λ x. pointwise nat_eq (f k) (f x)) keys ≡ false = any-items f (f k) keys ∙ ap (has_name (map f keys)) e ∙ h in
     rw (a, h) (map-push f keys k ∙ ap (λ n. map f keys ++ n ∷ []) e)
 
--- the names of a list, one more of them added
+-- the names of a list, with one more of them added
 pub added-more : (all names new : List (List ℕ)) (i : ℕ) (name text : List ℕ) → i < length all → names ≡ fold with_name [] (take i all)
     → name ≡ get_or all i [] → text ≡ name → new ≡ with_name names text → new ≡ fold with_name [] (take (i + 1) all)
 added-more all names new i name text lt e f g h =

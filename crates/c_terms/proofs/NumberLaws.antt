@@ -1,4 +1,4 @@
--- A kind and a label are known by their numbers.
+-- Kinds and labels are determined by their numbers.
 use Rattle.std.proofs.Common.{◌≡◌, Some, refl, List, [], ◌∷◌}
 use Rattle.std.specs.Prelude.{slice_get}
 use Rattle.c_terms.specs.declared.token.MetaKind.TheVariants as meta

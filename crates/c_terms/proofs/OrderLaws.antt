@@ -1,7 +1,8 @@
--- `tree_order` is a total order, Equal exactly at the same terms.
--- A tree has a code, a list of numbers, so that trees are ordered as their codes are. A code is never a part of another's
--- beginning, so the codes of children stand one after another. A leaf is 1, its kind, its bytes plus 1, and 0; a branch is 2,
--- its label, the codes of its children, and 0. So a text or a list of children that ends comes before one that goes on.
+-- `tree_order` is a total order, and Equal exactly if the terms are the same.
+-- Each tree has a code, a list of numbers, so that trees are ordered as their codes are. No code is a proper prefix of
+-- another, so the codes of children can be written one after another. A leaf's code is 1, its kind, its bytes plus 1,
+-- and 0; a branch's is 2, its label, the codes of its children, and 0. So a text or a list of children comes before its
+-- extensions.
 use Rattle.std.proofs.Common.{◌≡◌, ◌↔◌, ℕ, suc, true, ◌&&◌, ◌||◌, eqb, refl, sym, ap, ◌∙◌, subst, arith, List, [], ◌∷◌, ◌++◌, map, append_assoc}
 use Rattle.std.proofs.lemmas.Bool.Decides.{nat_tests}
 use Rattle.std.proofs.lemmas.Cmp.{nat_list_cmp_total, on_total}
@@ -148,7 +149,7 @@ branch-tied : (l : Label) (cs : List Tree) → Each Tied cs → (k : Label) (us 
 branch-tied l cs e k us =
     rw (order-Branch-Branch l cs k us, same-Branch-Branch l cs k us, is_eq-then (nat_cmp (label_number l) (label_number k)) (slice_cmp tree_order cs us), is_eq-nat (label_number l) (label_number k), kids-tied cs us e) refl
 
--- the order takes for equal what is the same term
+-- the terms that the order makes equal are the same
 pub is_eq-tree_order : (t u : Tree) → is_eq (tree_order t u) ≡ same_tree t u
 is_eq-tree_order = tree_induction Tied
     (λ a. tree_cases (λ u. is_eq (tree_order (Leaf a) u) ≡ same_tree (Leaf a) u)

@@ -61,7 +61,7 @@ before_suc n = grind (arith, nat_tests)
 pub after_zero : (n : ℕ) → Greater ≡ nat_cmp (suc n) 0
 after_zero n = grind (arith, nat_tests)
 
--- where one of the lists ends, the longer one is greater
+-- if one of the lists ends, the longer one is the greater
 pub slice_cmp_end : {A : Type 0} (f : A → A → Ordering) (xs ys : List A) (n : ℕ) → n ≡ min (length xs) (length ys)
     → slice_cmp f (drop n xs) (drop n ys) ≡ nat_cmp (length xs) (length ys)
 slice_cmp_end f [] [] n e = let z : n ≡ 0 = omega (arith, e) in rw z refl

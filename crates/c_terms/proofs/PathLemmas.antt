@@ -1,4 +1,4 @@
--- The paths of the parts of a tree, one child more.
+-- The paths of the parts of a tree, with one more child.
 use Rattle.std.proofs.Common.{◌≡◌, ℕ, suc, ◌+◌, ◌-◌, ◌^◌, ◌<◌, ◌≤◌, max, Bool, true, false, cond, refl, sym, ap, ◌∙◌, arith, List, [], ◌∷◌, ◌++◌, map, length, take, drop, get_or, append_assoc, length-append, drop-cons}
 use Rattle.std.proofs.lemmas.List.{map-append}
 use Rattle.std.proofs.Math.Seq.{take-append_seam}
@@ -10,7 +10,7 @@ use Rattle.c_terms.specs.Trees.{width, greatest, levels, levels_of_all}
 use Rattle.c_terms.proofs.TreeLemmas.{width-Branch, levels-Branch, greatest-at}
 use Rattle.c_terms.proofs.PlaceLaws.{child_known, parts-Branch}
 
--- the paths of places that stand at a path
+-- the paths of places that are below a path
 abbrev pub paths_at : List ℕ → List Place → List (List ℕ)
 paths_at above ps = map (λ p. above ++ p.path) ps
 
@@ -41,7 +41,7 @@ module _ (test : Label → ℕ → Tree → Bool) where
       (map-append (λ (p : Place). above ++ p.path) (part_at test l i c) (map (below i) (parts test c))
       ∙ (λ k. paths-part above l i c k ++ paths-below above i (parts test c) k)))
 
--- what is left once the last step is taken back
+-- what is left once the last step is removed
 pub back-up : (above now after : List ℕ) (i : ℕ) → now ≡ above ++ i ∷ [] → after ≡ take (length now - 1) now → after ≡ above
 back-up above now after i e h =
     let n : length now - 1 ≡ length above = omega (arith, length-append above (i ∷ []), ap length e) in
@@ -69,7 +69,7 @@ paths-more test above l cs i c all own inside after b now lt e f g h p q =
     append_assoc (own ++ first) deep rest ∙ append_assoc own first (deep ++ rest) ∙ ap (λ xs. own ++ xs) (sym (append_assoc first deep rest)) in
     ap (λ xs. xs ++ rest) two ∙ join ∙ ap (λ xs. own ++ xs) (sym step) ∙ h
 
--- a branch's children are fewer than it is wide, and no wider
+-- a branch has at most as many children as its width, and no child is wider than it
 pub child-number : (t : Tree) (l : Label) (cs : List Tree) (i : ℕ) → t ≡ Branch l cs → width t < 2 ^ 32 → i < length cs → i < 2 ^ 32
 child-number t l cs i e w h = let b : width t ≡ max (length cs) (greatest (map width cs)) = ap width e ∙ width-Branch l cs in omega (arith, b, h, w)
 

@@ -9,7 +9,7 @@ use Rattle.c_terms.specs.declared.tree.Tree.TheFolds.{fold-Tree, fold-roll-Tree}
 use Rattle.c_terms.specs.Places.{Known, places, places_step, places_from, parts, parts_step, parts_from}
 use Rattle.c_terms.proofs.Induct.{Each, tree_induction}
 
--- what a fold that keeps the tree knows of it
+-- what a fold that keeps the tree knows about it
 abbrev Keeps : (Tree-F Known → Known) → Tree → Type 0
 Keeps step t = (fold-Tree Known step t).tree ≡ t
 
@@ -53,7 +53,7 @@ module _ (test : Label → ℕ → Tree → Bool) where
       (λ a. ap (λ k. k.tree) (at_leaf (parts_step test) a))
       (λ l cs e. ap (λ k. k.tree) (at_branch (parts_step test) l cs) ∙ ap (Branch l) (kids-kept (parts_step test) cs e))
 
-  -- what is known of a child
+  -- what is known about a child
   abbrev pub child_known : Tree → Known
   child_known c = record { tree = c; places = parts test c }
 

@@ -29,7 +29,7 @@ pub leaf-found : (items : List Tree) (i : ℕ) (c : Tree) (t : Token) (all : Lis
     → join (map leaves (drop i items)) ≡ all → Some t ≡ slice_get (leaves c) 0 → Some t ≡ slice_get all 0
 leaf-found items i c t all lt e h f = rw (← h, join-at items i c lt e) (first-some (leaves c) (join (map leaves (drop (i + 1) items))) t f)
 
--- a child without leaves is passed over
+-- a child without leaves is skipped
 pub leaf-none : (items : List Tree) (i : ℕ) (c : Tree) (all : List Token) → i < length items → c ≡ get_or items i c
     → join (map leaves (drop i items)) ≡ all → None ≡ slice_get (leaves c) 0 → join (map leaves (drop (i + 1) items)) ≡ all
 leaf-none items i c all lt e h f =

@@ -35,7 +35,7 @@ pub same-Branch-Branch : (l : Label) (cs : List Tree) (k : Label) (us : List Tre
     → same_tree (Branch l cs) (Branch k us) ≡ (same_label l k && all_pass (map same_tree cs) us)
 same-Branch-Branch l cs k us = at_branch l cs (Branch k us) ∙ ap (same_at (Tree-F.Branch l (map same_tree cs))) (out-Branch k us)
 
--- tests that are as many as the trees
+-- as many tests as trees
 pub all_pass-length : (fs : List (Tree → Bool)) (ts : List Tree) → all_pass fs ts ≡ true → length fs ≡ length ts
 all_pass-length [] [] h = refl
 all_pass-length [] (t ∷ ts) h = absurd cc

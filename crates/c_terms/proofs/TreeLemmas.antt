@@ -31,7 +31,7 @@ pub width-Branch : (l : Label) (cs : List Tree) → width (Branch l cs) ≡ max 
 width-Branch l cs =
     ap width (sym (rolls-Branch l cs)) ∙ fold-roll-Tree ℕ width_step _ ∙ ap (λ n. max n (greatest (map width cs))) (length-map cs width)
 
--- no member of a list counts more than the greatest
+-- no member of a list exceeds the maximum
 pub greatest-at : (f : Tree → ℕ) (ts : List Tree) (i : ℕ) (t : Tree) → i < length ts → t ≡ get_or ts i t → f t ≤ greatest (map f ts)
 greatest-at f [] i t h e = absurd (omega (arith, h))
 greatest-at f (u ∷ ts) zero t h e = rw e (omega arith)

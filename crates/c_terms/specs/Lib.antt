@@ -11,6 +11,6 @@ pub mod Names
 pub mod Shapes
 pub mod Places
 pub mod Lists
--- For inside use: how a text keeps its bytes.
+-- For internal use: how a text keeps its bytes.
 
 pub mod Kept

@@ -22,7 +22,7 @@ abbrev pub comma_at : Tree-F Tree → Option Token
 comma_at (Tree-F.Leaf token) = if is_comma token then Some token else None
 comma_at (Tree-F.Branch l cs) = None
 
--- the comma that a child of a list is
+-- the token of a child of a list, if it is a comma
 abbrev pub comma : Tree → Option Token
 comma t = comma_at (out-Tree t)
 
@@ -34,7 +34,7 @@ members_from before (t ∷ ts) = elim (comma t) as (λ o. List Member) [
   | Some c ↦ members_from (Some c) ts
 ]
 
--- the children that are no commas, each with the comma before it: of two commas side by side the later one
+-- the children that are not commas, each with the comma before it: the later one if two commas are side by side
 abbrev pub members : List Tree → List Member
 members = members_from None
 

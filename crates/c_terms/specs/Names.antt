@@ -1,4 +1,4 @@
--- The names that stand for types.
+-- The names that denote types.
 use Rattle.std.specs.Prelude.{ℕ, Bool, List, [], ◌∷◌, ◌++◌, if◌then◌else◌, codes}
 use Rattle.std.specs.List.{list_any}
 use Rattle.c_terms.specs.Same.{same_bytes}
@@ -7,7 +7,7 @@ use Rattle.c_terms.specs.Same.{same_bytes}
 abbrev pub has_name : List (List ℕ) → List ℕ → Bool
 has_name names name = list_any (same_bytes name) names
 
--- a new name goes last, and a known one changes nothing
+-- a new name is added at the end, and a known one changes nothing
 abbrev pub with_name : List (List ℕ) → List ℕ → List (List ℕ)
 with_name names name = if has_name names name then names else names ++ name ∷ []
 

@@ -16,7 +16,7 @@ meta_number meta.Typ = 4
 meta_number meta.Stmt = 5
 meta_number meta.Params = 6
 
--- metavariables stand between strays and dots, in the order of their own kinds
+-- metavariables are between strays and dots, in the order of their own kinds
 abbrev pub kind_number : TokenKind → ℕ
 kind_number kind.Name = 0
 kind_number kind.Keyword = 1

@@ -24,6 +24,6 @@ order_at (Tree-F.Branch l fs) (Tree-F.Branch k us) =
 abbrev pub order_step : Tree-F (Tree → Ordering) → Tree → Ordering
 order_step layer u = order_at layer (out-Tree u)
 
--- the order of terms: the layer of one tree, its children already functions that compare, against the other tree
+-- the order of terms: a fold over the first tree, whose children have become functions that compare, against the second tree
 abbrev pub tree_order : Tree → Tree → Ordering
 tree_order = fold-Tree (Tree → Ordering) order_step

@@ -31,7 +31,7 @@ abbrev pub places_from : ℕ → List (List Place) → List Place
 places_from i [] = []
 places_from i (ps ∷ more) = map (below i) ps ++ places_from (suc i) more
 
--- what is known of a tree while its places are collected
+-- what is known about a tree while its places are collected
 pub record Known : Type 0 where
   pub tree : Tree
   pub places : List Place
@@ -47,7 +47,7 @@ abbrev pub places : Tree → List Place
 places t = (fold-Tree Known places_step t).places
 
 module _ (test : Label → ℕ → Tree → Bool) where
-  -- child i itself, where it passes
+  -- child i itself, if it passes
   abbrev pub part_at : Label → ℕ → Tree → List Place
   part_at l i t = if test l i t then record { path = i ∷ []; tree = t } ∷ [] else []
 
@@ -59,6 +59,6 @@ module _ (test : Label → ℕ → Tree → Bool) where
   parts_step (Tree-F.Leaf token) = record { tree = Leaf token; places = [] }
   parts_step (Tree-F.Branch l ks) = record { tree = Branch l (map (λ k. k.tree) ks); places = parts_from l 0 ks }
 
-  -- the subtrees below a tree, by place, that pass a test on their branch's label, their number in it, and themselves
+  -- the subtrees below a tree, by place, that pass a test of their branch's label, their number in it, and themselves
   abbrev pub parts : Tree → List Place
   parts t = (fold-Tree Known parts_step t).places

@@ -1,4 +1,4 @@
--- When two trees are the same term: equal but for the ids of their tokens.
+-- When two trees are the same term: equal except for the ids of their tokens.
 use Rattle.std.specs.Prelude.{ℕ, Bool, true, false, ◌&&◌, eqb, List, [], ◌∷◌}
 use Rattle.c_terms.specs.declared.token.Token.{Token}
 use Rattle.c_terms.specs.declared.label.Label.{Label}
@@ -16,7 +16,7 @@ same_bytes (x ∷ xs) (y ∷ ys) = eqb x y && same_bytes xs ys
 abbrev pub same_label : Label → Label → Bool
 same_label l k = eqb (label_number l) (label_number k)
 
--- equal but for the id
+-- equal except for the id
 abbrev pub same_token : Token → Token → Bool
 same_token a b = eqb (kind_number a.kind) (kind_number b.kind) && same_bytes a.text b.text
 

@@ -17,7 +17,7 @@ is_operand kind.Char = true
 is_operand kind.Str = true
 is_operand _ = false
 
--- a call's list of arguments and a type in it are no expressions
+-- a call's list of arguments and a type in it are not expressions
 abbrev pub is_expression_label : Label → Bool
 is_expression_label label.Strings = true
 is_expression_label label.Paren = true
@@ -47,7 +47,7 @@ expression_at (Tree-F.Branch l cs) = is_expression_label l
 abbrev pub is_expression : Tree → Bool
 is_expression t = expression_at (out-Tree t)
 
--- a declarator, where it is no plain name
+-- a declarator that is not a plain name
 abbrev pub is_declarator_label : Label → Bool
 is_declarator_label label.Pointer = true
 is_declarator_label label.DParen = true
@@ -60,7 +60,7 @@ is_type_label label.TypeName = true
 is_type_label label.Specs = true
 is_type_label _ = false
 
--- a declaration among statements is one
+-- a declaration among statements counts as one
 abbrev pub is_statement_label : Label → Bool
 is_statement_label label.Decl = true
 is_statement_label label.ExprStat = true
@@ -118,7 +118,7 @@ abbrev pub is_tail : Label → ℕ → Bool
 is_tail label.Do i = nat_lt 1 i
 is_tail _ i = false
 
--- how a pattern is held against a tree
+-- how a pattern is compared with a tree
 abbrev pub shape_of : Label → Shape
 shape_of label.Args = shape.List
 shape_of label.Params = shape.List
@@ -126,7 +126,7 @@ shape_of label.PatOr = shape.Or
 shape_of label.PatAnd = shape.And
 shape_of _ = shape.Plain
 
--- whether child i may fill an expression part of a row: a member's name, a label and a declarator's name fill none
+-- whether child i may fill an expression part of a row; a member's name, a label and a declarator's name never do
 abbrev pub may_hold : Label → ℕ → Bool
 may_hold label.Paren i = true
 may_hold label.Index i = true

@@ -26,7 +26,7 @@ abbrev pub levels_step : Tree-F ℕ → ℕ
 levels_step (Tree-F.Leaf t) = 0
 levels_step (Tree-F.Branch l ns) = greatest ns + 1
 
--- how many branches stand above one another
+-- the greatest number of branches above one another
 abbrev pub levels : Tree → ℕ
 levels = fold-Tree ℕ levels_step
 
@@ -37,6 +37,6 @@ abbrev pub width_step : Tree-F ℕ → ℕ
 width_step (Tree-F.Leaf t) = 0
 width_step (Tree-F.Branch l ns) = max (length ns) (greatest ns)
 
--- the most children of any branch
+-- the greatest number of children of any branch
 abbrev pub width : Tree → ℕ
 width = fold-Tree ℕ width_step

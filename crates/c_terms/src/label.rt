@@ -2,8 +2,8 @@
 ghost use Rattle.std.specs.Prelude.{◌≡◌};
 ghost use Rattle.c_terms.specs.Numbers.{label_number};
 
-/// Which row of the grammar a branch is. The labels stand in the order of the grammar's tables,
-/// which is their order as terms. The sections are those of ISO/IEC 9899:2011.
+/// Which row of the grammar a branch is. The labels are in the order of the grammar's tables, which
+/// is their order as terms. The sections are those of ISO/IEC 9899:2011.
 #[derive(Clone, Copy, Debug, PartialEq, Eq)]
 pub enum Label {
     /// `"a" "b"`, `PRIu64 "x"`: two or more tokens, at least one a string (6.4.5)
@@ -14,7 +14,7 @@ pub enum Label {
     Index,
     /// `f(a, b)`: the function, `(`, an [`Label::Args`], `)` (6.5.2.2)
     Call,
-    /// `a, b`: what stands between the brackets of a call, the commas with it
+    /// `a, b`: what is between the brackets of a call, including the commas
     Args,
     /// `int` in `va_arg(ap, int)`: a type as a member of a call's list
     TypeArg,
@@ -73,7 +73,7 @@ pub enum Label {
     DArray,
     /// `d(int x)`: the declarator, `(`, a [`Label::Params`], `)` (6.7.6.3)
     DFun,
-    /// `int x, ...`: what stands between the brackets of a function's declarator
+    /// `int x, ...`: what is between the brackets of a function's declarator
     Params,
     /// `int x` among parameters (6.7.6)
     Param,
@@ -91,7 +91,7 @@ pub enum Label {
     At,
     /// `[2 ... 5]` in such an item, an extension of C
     AtRange,
-    /// `MODULE_LICENSE("GPL");` where an item or field may stand
+    /// `MODULE_LICENSE("GPL");` in place of an item or a field
     MacroItem,
 
     /// `e;` (6.8.3)
@@ -114,7 +114,7 @@ pub enum Label {
     ForDecl,
     /// `switch (e) s` (6.8.4.2)
     Switch,
-    /// `list_for_each_entry(p, head, node) s`: a loop that a macro makes
+    /// `list_for_each_entry(p, head, node) s`: a loop by a macro
     Iterator,
     /// `case 1:` (6.8.1)
     Case,
@@ -143,12 +143,12 @@ pub enum Label {
     PatOr,
     /// `\( a \& b \)` in a pattern: all of these
     PatAnd,
-    /// `<... s ...>`, `<+... s ...+>` in a pattern: at any places of a way
+    /// `<... s ...>`, `<+... s ...+>` in a pattern: at any places of a path
     PatNest,
 }
 
 impl Label {
-    /// The label's place in the order of labels, from 0. Takes no memory.
+    /// Returns the label's place in the order of labels, from 0. Allocates nothing.
     pub fn number(self) -> u8
         ensures value { result ≡ label_number self }
     {

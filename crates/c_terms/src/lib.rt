@@ -1,6 +1,6 @@
 //! The data that every part of the tool shares: texts, tokens, trees, names, and the order of terms.
 //!
-//! - [`Text`] keeps bytes, [`Token`] is a text with its [`TokenKind`] and an id, which edits keep.
+//! - [`Text`] keeps bytes; [`Token`] is a text with its [`TokenKind`] and an id, which edits keep.
 //! - [`Tree`] is a token, or a branch with its [`Label`]; [`TreePath`] is a place in one.
 //! - [`leaves`], [`first_leaf`], [`child`], [`subtree`], [`width`] and [`expression_paths`] read a
 //!   tree.
@@ -8,15 +8,15 @@
 //!   [`same_text`] and [`text_order`] their parts.
 //! - [`Label::is_expression`] and its like, [`Label::shape`], [`is_expression_part`] say what a label is.
 //! - [`members_of`] and [`run_of`] take a list apart by its commas and put it together.
-//! - [`Names`] are the names that stand for types. [`NoMemory`] is the one answer that no caller can
-//!   foresee.
+//! - [`Names`] are the names that denote types. [`NoMemory`] is the one error that no caller can foresee.
 //! - [`term_order_is_total`], [`same_term_is_equality`], [`numbers_tell_apart`],
 //!   [`names_stay_distinct`] and [`paths_lead_to_parts`] are laws: their clauses hold, and their bodies are empty.
 //!
 //! The tree of `f(x)` is `Branch(Call, [f, (, Branch(Args, [x]), )])`; its leaves are `f ( x )`.
 //!
-//! Calls on trees recurse once a level. Parsers give at most 1,000 levels, which 256 KB of stack
-//! serve. Which bytes make a token is for c_lexer, and which trees are C for c_rows.
+//! Calls on trees recurse once per level. Parsers build at most 1,000 levels, for which 256 KB of
+//! stack are enough. Which bytes make a token is up to c_lexer, and which trees are C is up to
+//! c_rows.
 #![tactic(auto)]
 
 mod label;

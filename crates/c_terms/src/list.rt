@@ -14,14 +14,14 @@ pub struct Member {
     pub tree: Tree,
 }
 
-/// Whether the token is `,`. Takes no memory.
+/// Whether the token is `,`. Allocates nothing.
 pub fn is_comma(token: &Token) -> bool
     ensures value { result ≡ is_comma token.now }
 {
     token.kind == TokenKind::Punct && same_text(token.text.as_bytes(), b",")
 }
 
-/// The comma that a child of a list is. Takes no memory.
+/// Returns the token of a child of a list, if it is a comma. Allocates nothing.
 pub fn comma(tree: &Tree) -> Option<&Token>
     ensures value { option_copied result ≡ comma tree.now }
 {
@@ -31,8 +31,8 @@ pub fn comma(tree: &Tree) -> Option<&Token>
     }
 }
 
-/// Copies of the children that are no commas, each with the comma before it: of two commas side by
-/// side the later one. Linear.
+/// Returns copies of the children that are not commas, each with the comma before it: the later one
+/// if two commas are side by side. Linear.
 pub fn members_of(alloc: Global, children: &[Tree]) -> Result<Items<Member>, NoMemory>
     ensures members { IfOk result (λ found. found ≡ members children.now) }
 {
@@ -53,8 +53,8 @@ pub fn members_of(alloc: Global, children: &[Tree]) -> Result<Items<Member>, NoM
     Ok(found)
 }
 
-/// The run of these members as a list of this label: the commas between them are part of it, and
-/// the one before the first is not. Linear.
+/// Returns the run of these members as a list with this label. The commas between them are part of
+/// it; the one before the first is not. Linear.
 pub fn run_of(alloc: Global, label: Label, members: &[Member]) -> Result<Tree, NoMemory>
     ensures run { IfOk result (λ tree. tree ≡ run label members.now) }
 {

@@ -1,4 +1,4 @@
-// The names that stand for types.
+// The names that denote types.
 ghost use Rattle.std.specs.Prelude.{◌≡◌, ◌<◌, ◌↔◌, Contains, IsTrue, IsOk, IfOk, OnOk, OnErr, slice_index_or, []};
 ghost use Rattle.c_terms.specs.Names.{has_name, with_name, listed_names};
 
@@ -7,10 +7,10 @@ use indexmap::IndexSet;
 use std::alloc::Global;
 use std::marker::Model;
 
-/// How many names are known without a declaration.
+/// The number of names that are known without a declaration.
 const LISTED: usize = 30;
 
-/// A type of C's library or of kernels that is known without a declaration.
+/// Returns a type of C's library or of kernels that is known without a declaration.
 fn listed_name(i: usize) -> &'static [u8]
     requires { i < LISTED }
     ensures { result.now ≡ slice_index_or listed_names i [] }
@@ -49,7 +49,7 @@ fn listed_name(i: usize) -> &'static [u8]
     }
 }
 
-/// Names that stand for types, each once, in the order of their coming.
+/// Names that denote types, each once, in the order in which they were added.
 #[derive(Drop)]
 pub struct Names {
     set: IndexSet<Vec<u8>>,
@@ -64,7 +64,7 @@ impl Model for Names {
 }
 
 impl Names {
-    /// Whether the name is there. One look-up; takes no memory.
+    /// Whether the name is there. One look-up; allocates nothing.
     pub fn has(&self, name: &[u8]) -> bool
         ensures value { result ≡ has_name self.now name.now }
         ensures member { IsTrue result ↔ Contains self.now name.now }
@@ -72,7 +72,7 @@ impl Names {
         self.set.contains(name)
     }
 
-    /// Puts a new name last. A known one changes nothing and takes no memory. Linear in the name.
+    /// Adds a new name at the end. A known one changes nothing and allocates nothing. Linear in the name.
     pub fn add(&mut self, alloc: Global, name: Text) -> Result<(), NoMemory>
         ensures ok { OnOk result (self.new ≡ with_name self.old name) }
         ensures err { OnErr result (self.new ≡ self.old) }
@@ -86,7 +86,7 @@ impl Names {
         Ok(())
     }
 
-    /// The names that are known without a declaration.
+    /// Returns the names that are known without a declaration.
     pub fn listed(alloc: Global) -> Result<Names, NoMemory>
         ensures names { IfOk result (λ names. names ≡ listed_names) }
     {

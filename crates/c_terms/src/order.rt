@@ -7,14 +7,14 @@ ghost use Rattle.c_terms.specs.Order.{token_order, tree_order};
 use crate::{Token, Tree};
 use std::cmp::Ordering;
 
-/// By bytes, a proper prefix first. Stops at the first difference, and takes no memory.
+/// Compares by bytes; a proper prefix comes first. Stops at the first difference, and allocates nothing.
 pub fn text_order(a: &[u8], b: &[u8]) -> Ordering
     ensures value { result ≡ slice_cmp nat_cmp a.now b.now }
 {
     a.cmp(b)
 }
 
-/// By kind, in the order of [`TokenKind`](crate::TokenKind), then by bytes. Takes no memory.
+/// Compares by kind, in the order of [`TokenKind`](crate::TokenKind), then by bytes. Allocates nothing.
 pub fn compare_tokens(a: &Token, b: &Token) -> Ordering
     ensures value { result ≡ token_order a.now b.now }
 {
@@ -24,9 +24,9 @@ pub fn compare_tokens(a: &Token, b: &Token) -> Ordering
     }
 }
 
-/// The order of terms: a leaf before a branch; leaves by kind, then bytes; branches by label, then
-/// children one by one, a proper prefix first. Stops at the first difference, takes no memory, and
-/// recurses once a level.
+/// Compares two terms: a leaf comes before a branch; leaves are ordered by kind, then bytes;
+/// branches by label, then by children one by one, a proper prefix first. Stops at the first
+/// difference, allocates nothing, and recurses once per level.
 #[cycle(order)]
 pub fn term_order(a: &Tree, b: &Tree) -> Ordering
     ensures value { result ≡ tree_order a.now b.now }

@@ -9,8 +9,8 @@ use crate::{NoMemory, Token, Tree, TreePath, is_expression_part};
 use sqlite_items::Items;
 use std::alloc::Global;
 
-/// The first token from the left, if there is one. Takes no memory, and looks at no more branches
-/// than stand before it. Recurses once a level.
+/// Returns the first token from the left, if there is one. Allocates nothing, and looks only at
+/// branches before it. Recurses once per level.
 pub fn first_leaf(tree: &Tree) -> Option<&Token>
     ensures value { option_copied result ≡ slice_get (leaves tree.now) 0 }
 {
@@ -27,7 +27,7 @@ pub fn first_leaf(tree: &Tree) -> Option<&Token>
     }
 }
 
-/// Child `i` of a branch, if there is one. Takes no memory.
+/// Returns child `i` of a branch, if there is one. Allocates nothing.
 pub fn child(tree: &Tree, i: usize) -> Option<&Tree>
     ensures value { option_copied result ≡ child tree.now i }
 {
@@ -37,8 +37,8 @@ pub fn child(tree: &Tree, i: usize) -> Option<&Tree>
     }
 }
 
-/// The subtree at a path of child numbers, from the root downwards. Takes no memory, and one step
-/// a number.
+/// Returns the subtree at a path of child numbers, from the root downwards, if there is one.
+/// Allocates nothing, and takes one step per number.
 pub fn subtree<'a>(tree: &'a Tree, path: &[u32]) -> Option<&'a Tree>
     ensures value { option_copied result ≡ subtree tree.now path.now }
 {
@@ -49,7 +49,8 @@ pub fn subtree<'a>(tree: &'a Tree, path: &[u32]) -> Option<&'a Tree>
     Some(found)
 }
 
-/// The most children of any branch. Takes no memory, is linear, and recurses once a level.
+/// Returns the greatest number of children of any branch. Allocates nothing, is linear, and
+/// recurses once per level.
 pub fn width(tree: &Tree) -> usize
     ensures value { result ≡ width tree.now }
 {
@@ -65,8 +66,9 @@ pub fn width(tree: &Tree) -> usize
     }
 }
 
-/// The paths of the subtrees that fill an expression part of their row, by place: each before those
-/// inside it. Linear in the tree, and in the length of each path. Recurses once a level.
+/// Returns the paths of the subtrees that fill an expression part of their row, by place: each
+/// before those inside it. Linear in the tree, and in the length of each path. Recurses once per
+/// level.
 pub fn expression_paths(alloc: Global, tree: &Tree) -> Result<Items<TreePath>, NoMemory>
     requires narrow { width tree.now < 2 ^ 32 }
     ensures paths { IfOk result
@@ -78,7 +80,7 @@ pub fn expression_paths(alloc: Global, tree: &Tree) -> Result<Items<TreePath>, N
     Ok(found)
 }
 
-/// Puts the paths in a tree that stands at the path `above`.
+/// Appends the paths in a tree that is at the path `above`.
 fn put_paths(
     alloc: Global,
     tree: &Tree,
@@ -101,7 +103,7 @@ fn put_paths(
     Ok(())
 }
 
-/// Puts the path, where the subtree there is asked for.
+/// Appends the path if `asked` is true.
 fn put_part(
     alloc: Global,
     asked: bool,

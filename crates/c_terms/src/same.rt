@@ -5,7 +5,7 @@ ghost use Rattle.c_terms.specs.Same.{same_bytes, same_token, same_tree, all_pass
 
 use crate::{Token, Tree};
 
-/// Equal bytes. Stops at the first difference, and takes no memory.
+/// Whether the bytes are equal. Stops at the first difference, and allocates nothing.
 pub fn same_text(a: &[u8], b: &[u8]) -> bool
     ensures value { result ≡ same_bytes a.now b.now }
 {
@@ -20,14 +20,15 @@ pub fn same_text(a: &[u8], b: &[u8]) -> bool
     true
 }
 
-/// Equal but for the id. Takes no memory.
+/// Whether the tokens are equal except for their ids. Allocates nothing.
 pub fn is_same_token(a: &Token, b: &Token) -> bool
     ensures value { result ≡ same_token a.now b.now }
 {
     a.kind.number() == b.kind.number() && same_text(a.text.as_bytes(), b.text.as_bytes())
 }
 
-/// Equal but for ids. Stops at the first difference, takes no memory, and recurses once a level.
+/// Whether the trees are equal except for ids. Stops at the first difference, allocates nothing,
+/// and recurses once per level.
 pub fn same_term(a: &Tree, b: &Tree) -> bool
     ensures value { result ≡ same_tree a.now b.now }
     ensures ids_aside { IsTrue result ↔ (bare a.now ≡ bare b.now) }

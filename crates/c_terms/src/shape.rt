@@ -4,7 +4,7 @@ ghost use Rattle.c_terms.specs.Shapes.{is_expression_part};
 
 use crate::{Label, TokenKind, Tree};
 
-/// How a pattern is held against a tree.
+/// How a pattern is compared with a tree.
 #[derive(Clone, Copy, Debug, PartialEq, Eq)]
 pub enum Shape {
     /// One of several branches: [`Label::PatOr`]
@@ -34,7 +34,7 @@ impl TokenKind {
 impl Label {
     ghost use Rattle.c_terms.specs.Shapes.{is_expression_label, is_declarator_label, is_type_label, is_statement_label, is_item_label, is_head_label, is_body, is_tail, shape_of, may_hold};
 
-    /// Whether a branch of this label is an expression of C (6.5). A list of arguments is none.
+    /// Whether a branch of this label is an expression of C (6.5). A list of arguments is not one.
     pub fn is_expression(self) -> bool
         ensures value { result ≡ is_expression_label self }
     {
@@ -161,7 +161,7 @@ impl Label {
         }
     }
 
-    /// How a pattern of this label is held against a tree.
+    /// Returns how a pattern of this label is compared with a tree.
     pub fn shape(self) -> Shape
         ensures value { result ≡ shape_of self }
     {
@@ -174,7 +174,7 @@ impl Label {
     }
 
     /// Whether child `i` may fill an expression part of the label's row. A member's name, a label
-    /// and a declarator's name fill none.
+    /// and a declarator's name never do.
     pub fn may_hold(self, i: usize) -> bool
         ensures value { result ≡ may_hold self i }
     {
@@ -215,8 +215,8 @@ impl Label {
 impl Tree {
     ghost use Rattle.c_terms.specs.Shapes.{is_expression};
 
-    /// Whether the tree is an expression of C: a token that is one by itself, or such a branch.
-    /// Takes no memory.
+    /// Whether the tree is an expression of C: a token that is one by itself, or a branch whose
+    /// label is one. Allocates nothing.
     pub fn is_expression(&self) -> bool
         ensures value { result ≡ is_expression self.now }
     {
@@ -227,7 +227,7 @@ impl Tree {
     }
 }
 
-/// Whether a child fills an expression part of its row: child `i` of a branch of this label.
+/// Whether child `i` of a branch of this label fills an expression part of the label's row.
 pub fn is_expression_part(label: Label, i: usize, child: &Tree) -> bool
     ensures value { result ≡ is_expression_part label i child.now }
 {

@@ -1,11 +1,11 @@
-// Texts, and the want of memory.
+// Texts, and the error of running out of memory.
 ghost use Rattle.std.specs.Prelude.{◌≡◌, ◌≤◌, length, take, IfOk};
 
 use std::alloc::{AllocError, AllocFailed, Global};
 use std::marker::Model;
 use std::sync::ArcSlice;
 
-/// Memory was refused.
+/// The error of running out of memory.
 #[derive(Clone, Copy, Debug, PartialEq, Eq)]
 pub struct NoMemory;
 
@@ -21,7 +21,7 @@ impl<T: Drop> From<AllocFailed<T>> for NoMemory {
     }
 }
 
-/// Bytes that a text keeps in itself, as most tokens do.
+/// The number of bytes that a text keeps in itself, which is enough for most tokens.
 const INLINE: usize = 15;
 
 #[derive(Clone, Copy)]
@@ -37,8 +37,8 @@ enum Kept {
     Long(ArcSlice<u8>),
 }
 
-/// A list of bytes, which need not be UTF-8. Up to 15 bytes stand in the value itself. A longer text
-/// is allocated once, and its copies share it.
+/// A list of bytes, which need not be UTF-8. Up to 15 bytes are kept in the value itself. A longer
+/// text is allocated once, and its copies share it.
 #[derive(Drop)]
 pub struct Text {
     kept: Kept,
@@ -69,7 +69,7 @@ fn keep_inline(bytes: &[u8]) -> Short
 }
 
 impl Text {
-    /// The text of these bytes. Linear.
+    /// Returns the text of these bytes. Linear.
     pub fn from_bytes(alloc: Global, bytes: &[u8]) -> Result<Text, NoMemory>
         ensures bytes { IfOk result (λ text. text ≡ bytes.now) }
     {
@@ -81,7 +81,7 @@ impl Text {
         Ok(Text { kept })
     }
 
-    /// The bytes. Takes no memory.
+    /// Returns the bytes. Allocates nothing.
     #[inline]
     pub fn as_bytes(&self) -> &[u8]
         ensures bytes { result.now ≡ self.now }
@@ -92,7 +92,7 @@ impl Text {
         }
     }
 
-    /// An equal text. Takes no memory of its own, and the same time at any length.
+    /// Returns an equal text. Allocates nothing, and takes the same time at any length.
     #[inline]
     pub fn copy(&self, _alloc: Global) -> Result<Text, NoMemory>
         ensures same { IfOk result (λ text. text ≡ self.now) }

@@ -24,10 +24,10 @@ pub enum MetaKind {
     Params,
 }
 
-/// What a token is. Those from `Meta` on come from patches only.
+/// What a token is. The kinds from `Meta` on occur in patches only.
 #[derive(Clone, Copy, Debug, PartialEq, Eq)]
 pub enum TokenKind {
-    /// An identifier that is no keyword: `main`
+    /// An identifier that is not a keyword: `main`
     Name,
     /// `while`
     Keyword,
@@ -39,7 +39,7 @@ pub enum TokenKind {
     Str,
     /// `->`
     Punct,
-    /// What begins no other token: `$`, or a quote that has no end
+    /// A character that begins no other token: `$`, or a quote without an end
     Stray,
     /// A name that a patch declares
     Meta(MetaKind),
@@ -49,7 +49,7 @@ pub enum TokenKind {
     Pat,
 }
 
-/// A token with its place in the file's history: an id that later edits keep.
+/// A token with its identity in the file's history: an id that later edits keep.
 #[derive(Drop)]
 pub struct Token {
     pub kind: TokenKind,
@@ -58,7 +58,7 @@ pub struct Token {
 }
 
 impl MetaKind {
-    /// The kind's place in the order of kinds of metavariables, from 0. Takes no memory.
+    /// Returns the kind's place in the order of kinds of metavariables, from 0. Allocates nothing.
     pub fn number(self) -> u8
         ensures value { result ≡ meta_number self }
     {
@@ -75,7 +75,7 @@ impl MetaKind {
 }
 
 impl TokenKind {
-    /// The kind's place in the order of kinds, from 0. Takes no memory.
+    /// Returns the kind's place in the order of kinds, from 0. Allocates nothing.
     pub fn number(self) -> u8
         ensures value { result ≡ kind_number self }
     {
@@ -101,7 +101,8 @@ impl TokenKind {
 }
 
 impl Token {
-    /// An equal token, the id included. It takes the same time however long its text is, which the two share.
+    /// Returns an equal token, the id included. Takes the same time at any length of the text,
+    /// which the two share.
     #[inline]
     pub fn copy(&self, alloc: Global) -> Result<Token, NoMemory>
         ensures same { IfOk result (λ token. token ≡ self.now) }

@@ -7,7 +7,7 @@ use sqlite_items::Items;
 use std::alloc::Global;
 use std::marker::Model;
 
-/// A tree of C or of a pattern. It has at most 1,000 levels of branches where a parser made it.
+/// A tree of C or of a pattern. A tree that a parser built has at most 1,000 levels of branches.
 #[derive(Drop)]
 pub enum Tree {
     Leaf(Token),
@@ -15,7 +15,7 @@ pub enum Tree {
 }
 
 impl Tree {
-    /// An equal tree, ids included. Linear. Recurses once a level.
+    /// Returns an equal tree, ids included. Linear. Recurses once per level.
     pub fn copy(&self, alloc: Global) -> Result<Tree, NoMemory>
         ensures same { IfOk result (λ tree. tree ≡ self.now) }
     {
@@ -49,7 +49,7 @@ fn put_leaves(alloc: Global, tree: &Tree, found: &mut Items<Token>) -> Result<()
     }
 }
 
-/// The tokens from left to right, ids included. Linear. Recurses once a level.
+/// Returns the tokens from left to right, ids included. Linear. Recurses once per level.
 pub fn leaves(alloc: Global, tree: &Tree) -> Result<Items<Token>, NoMemory>
     ensures tokens { IfOk result (λ tokens. tokens ≡ leaves tree.now) }
 {
@@ -73,21 +73,21 @@ impl Model for TreePath {
 }
 
 impl TreePath {
-    /// The path of these child numbers. Takes no memory.
+    /// Returns the path of these child numbers. Allocates nothing.
     pub fn of(steps: Vec<u32>) -> TreePath
         ensures steps { result ≡ steps.items }
     {
         TreePath { steps }
     }
 
-    /// The child numbers. Takes no memory.
+    /// Returns the child numbers. Allocates nothing.
     pub fn steps(&self) -> &[u32]
         ensures steps { result.now ≡ self.now }
     {
         self.steps.as_slice()
     }
 
-    /// An equal path. Linear.
+    /// Returns an equal path. Linear.
     pub fn copy(&self, alloc: Global) -> Result<TreePath, NoMemory>
         ensures same { IfOk result (λ path. path ≡ self.now) }
     {

@@ -6,7 +6,7 @@ use c_terms::{Names, NoMemory, Token, Tree};
 use std::alloc::Global;
 use std::test::Fail;
 
-/// Tokens, parted by blanks, and the tree that an expression of them is. `t` is in the names, and `u` is not.
+/// Tokens, separated by blanks, and the tree of the expression that they form. `t` is in the names, and `u` is not.
 /// `dots:...` and `expr:e` are tokens of a pattern.
 const EXPRESSIONS: [(&str, &str); 41] = [
     // groups
@@ -145,7 +145,7 @@ const OTHERS: [(Kind, &str, &str); 17] = [
     (Kind::InitList, "{ . x }", "no tree"),
 ];
 
-/// The call that is named after the kind, over all the tokens.
+/// Parses all the tokens with the call that is named after the kind.
 fn parse_whole(
     alloc: Global,
     kind: Kind,
@@ -162,7 +162,7 @@ fn parse_whole(
     }
 }
 
-/// What the words are read as.
+/// Returns what the words are read as, as text.
 fn read(alloc: Global, kind: Kind, words: &str) -> Result<String, NoMemory> {
     let tokens = tokens_of(alloc, words)?;
     let names = names_with_t(alloc)?;

@@ -1,4 +1,4 @@
-// The graph of a function that has each form of statement.
+// The graph of a function with every form of statement.
 use c_file::{CFile, read_file};
 use c_lexer::lex;
 use c_terms::first_leaf;
@@ -16,7 +16,7 @@ const EACH_FORM: &[u8] = b"void k(void) { if (a) { f(); goto out; } while (b) br
     switch (e) { case 1: break; case 2 ... 3: ; { default: ; } switch (g) { case 4: ; } } \
     for (int i = 0; i; i++) continue; list_for_each(p) f(p); out: out: ; }";
 
-/// The nodes of that function: kind, `!` at a bail, successors, what is past, and the entries of branches.
+/// The nodes of that function: kind, `!` at a bail, successors, what is past it, and the entries of branches.
 const NODES: [&str; 41] = [
     "f 1/40/1", // void k(void)
     "{ 2/40/2", // {
@@ -73,7 +73,7 @@ fn kind_of(kind: NodeKind) -> &'static str {
     }
 }
 
-/// The numbers with commas, or `-`.
+/// Returns the numbers, separated by commas, or `-` if there are none.
 fn joined(alloc: Global, numbers: &[u32]) -> Result<String, AllocError> {
     let mut text = format!(in alloc; "-")?;
     for (i, number) in numbers.iter().enumerate() {
@@ -109,7 +109,7 @@ fn node_row(alloc: Global, graph: &Graph, n: u32) -> Result<String, AllocError> 
     format!(in alloc; "{kind}{bail} {succ}/{past}/{down}")
 }
 
-/// Whether a brace has the id of the `{` of its block, and any other node none.
+/// Whether the node has the id of the `{` of its block if it is a brace, and no such id otherwise.
 fn has_its_brace(graph: &Graph, n: u32) -> bool {
     if n >= graph.count() {
         return false;

@@ -1,6 +1,6 @@
-//! Tests of the calls of the C side. There is nothing else in this crate, and nothing of it is for use.
+//! Tests of the calls of the C side. The crate has nothing else, and no public items.
 //!
-//! They stand here and not in the crates, since a crate with tests is proved twice.
+//! The tests are here rather than in the tested crates because a crate with tests is proved twice.
 #![tactic(auto)]
 
 #[cfg(test)]

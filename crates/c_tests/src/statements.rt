@@ -13,7 +13,7 @@ enum Form {
     Item,
 }
 
-/// Tokens, parted by blanks, and the tree of a declaration of them. `t` is in the names, and `u` is not.
+/// Tokens, separated by blanks, and the tree of the declaration that they form. `t` is in the names, and `u` is not.
 const DECLARATIONS: [(&str, &str); 4] = [
     ("int x = 1 ;", "(Decl (Specs int) (InitDecl x = 1) ;)"),
     ("u ( x ) ;", "(Decl (Specs u) (DParen ( x )) ;)"),
@@ -146,7 +146,7 @@ const ITEMS: [(&str, &str); 12] = [
     ("f ( ) ; ;", "no tree"),
 ];
 
-/// What the words are read as.
+/// Returns what the words are read as, as text.
 fn parsed(alloc: Global, form: Form, tokens: &[Token], names: &Names) -> Result<Tree, ParseFault> {
     let to = tokens.len();
     match form {
@@ -162,7 +162,7 @@ fn read(alloc: Global, form: Form, words: &str) -> Result<String, NoMemory> {
     shown(alloc, parsed(alloc, form, &tokens, &names), tokens.len())
 }
 
-/// The first row whose words are read as another tree.
+/// Returns the first row whose words are read as another tree.
 fn first_wrong<'a>(
     alloc: Global,
     form: Form,

@@ -1,4 +1,4 @@
-// What tests are made of: tokens from words, names, and trees as text.
+// Helpers of the tests: tokens from words, names, and trees as text.
 use c_expr::ParseFault;
 use c_terms::{MetaKind, Names, NoMemory, Text, Token, TokenKind, Tree};
 use std::alloc::Global;
@@ -8,7 +8,7 @@ fn token(alloc: Global, kind: TokenKind, text: &[u8], id: u64) -> Result<Token, 
     Ok(Token { kind, text, id })
 }
 
-/// The kind of token that a word before `:` names.
+/// Returns the kind of token that a word before `:` names.
 fn named_kind(word: &str) -> Option<TokenKind> {
     match word {
         "expr" => Some(TokenKind::Meta(MetaKind::Expr)),
@@ -47,7 +47,7 @@ fn kind_of(word: &str) -> TokenKind {
     }
 }
 
-/// Puts the word's token behind the others. Its id is its number, from 0.
+/// Appends the word's token to the others. Its id is its index.
 fn put(alloc: Global, tokens: &mut Vec<Token>, word: &str) -> Result<(), NoMemory> {
     let mut text = word;
     let mut kind = kind_of(word);
@@ -62,7 +62,7 @@ fn put(alloc: Global, tokens: &mut Vec<Token>, word: &str) -> Result<(), NoMemor
     Ok(())
 }
 
-/// The tokens of words that are parted by blanks. `dots:...` and `expr:e` are tokens of a pattern.
+/// Returns the tokens of words that are separated by blanks. `dots:...` and `expr:e` are tokens of a pattern.
 pub fn tokens_of(alloc: Global, words: &str) -> Result<Vec<Token>, NoMemory> {
     let mut tokens = Vec::new(alloc);
     for word in words.split(' ') {
@@ -71,14 +71,14 @@ pub fn tokens_of(alloc: Global, words: &str) -> Result<Vec<Token>, NoMemory> {
     Ok(tokens)
 }
 
-/// The listed names and `t`.
+/// Returns the listed names and `t`.
 pub fn names_with_t(alloc: Global) -> Result<Names, NoMemory> {
     let mut names = Names::listed(alloc)?;
     names.add(alloc, Text::from_bytes(alloc, b"t")?)?;
     Ok(names)
 }
 
-/// Puts the tree as text: a branch is its label and its children in brackets, a leaf its text. Puts a leaf's id behind
+/// Appends the tree as text: a branch is its label and its children in brackets, a leaf its text. Appends each leaf's id to
 /// the ids.
 fn put_tree(
     alloc: Global,
@@ -107,7 +107,8 @@ fn put_tree(
     }
 }
 
-/// An answer as text, the tree or the fault. Where the leaves' ids are not those of as many tokens, in order, it says so.
+/// Returns an answer as text, the tree or the fault. The text says so if the leaves' ids aren't those of this many tokens,
+/// in order.
 pub fn shown(
     alloc: Global,
     answer: Result<Tree, ParseFault>,

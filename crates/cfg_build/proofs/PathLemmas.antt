@@ -1,4 +1,4 @@
--- The paths of nodes, as more nodes are put.
+-- The paths of nodes, as more nodes are pushed.
 use Rattle.std.proofs.Common.{◌≡◌, ℕ, ◌+◌, ◌<◌, ap, ◌∙◌, arith, List, [], ◌∷◌, map, length, get_or, length-append}
 use Rattle.std.proofs.lemmas.List.{length-map, map-append, get_or_append_left, get_or_push}
 use Rattle.c_terms.specs.declared.tree.Tree.{Tree}
@@ -12,7 +12,7 @@ use Rattle.cfg_build.proofs.SoundLemmas.{part-fine}
 count-plus : (g : Flow) (ns : List Node) → count_of (plus g ns) ≡ count_of g + length ns
 count-plus g ns = length-append g.labels (map (λ n. n.label) ns) ∙ ap (λ k. count_of g + k) (length-map ns (λ n. n.label))
 
--- how many nodes there are with one more, and with those of a part
+-- the number of nodes with one more, and with those of a part
 pub count-first : (g h : Flow) (n : Node) (at : ℕ) → h ≡ plus g (n ∷ []) → count_of g ≡ at → count_of h ≡ at + 1
 count-first g h n at e c = let p = count-plus g (n ∷ []) in let q = ap count_of e in omega (arith, p, q, c)
 
@@ -23,7 +23,7 @@ count-part g h t a at end e c m =
 paths-length : (labels : List NodeLabel) → length (paths_in labels) ≡ length labels
 paths-length labels = length-map labels (λ l. l.path)
 
--- the path of the node that is put, and of those before
+-- the path of the node that is pushed, and of those before
 pub path-first : (g h : Flow) (n : Node) (at : ℕ) → h ≡ plus g (n ∷ []) → count_of g ≡ at → path_at h.labels at ≡ n.label.path
 path-first g h n at e c =
     ap (λ (g : Flow). path_at g.labels at) e ∙ ap (λ ps. get_or ps at []) (map-append (λ (l : NodeLabel). l.path) g.labels (n.label ∷ []))

@@ -1,8 +1,8 @@
-//! Control-flow graphs: nodes with a label each, and the ways between them.
+//! Control-flow graphs: labelled nodes, and the edges between them.
 //!
-//! - [`Graph`] has for each node its label, its successors, what comes past its statement, and the entries of its branches.
-//!   A [`GraphBuilder`] makes one, a [`NodeEntry`] for each node.
-//! - [`NodeLabel`] says what a node is, which statement it names, by a [`NodeTree`], and where that stands, by a [`NodePath`].
+//! - [`Graph`] has for each node its label, its successors, what is past its statement, and the entries of its branches.
+//!   A [`GraphBuilder`] makes one from a [`NodeEntry`] for each node.
+//! - [`NodeLabel`] says what a node is, which statement it names, as a [`NodeTree`], and where that is, as a [`NodePath`].
 //! - [`is_own`] says which children of that statement's tree are the node's own.
 //! - [`Links`] are a few numbers of nodes.
 //! - [`labels_are_values`] and [`parts_are_values`] are laws: their clauses hold, and their bodies are empty.
@@ -14,8 +14,8 @@
 //!
 //! Here 3 has the successors 4 and 5 and the same two branch entries, and 6 is past 3, 4 and 5.
 //!
-//! A graph lends its trees from the item that it was made of, so a label costs no copy of its
-//! statement. Which graph an item has is for cfg_build.
+//! A graph borrows its trees from the item that it was made from, so a label needs no copy of its statement. cfg_build
+//! determines which graph an item has.
 #![tactic(auto)]
 
 mod graph;

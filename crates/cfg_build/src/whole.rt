@@ -10,9 +10,11 @@ use crate::statement::put_statement;
 use c_terms::{NoMemory, Tree};
 use std::alloc::Global;
 
-/// The graph of an item: of a tree with fewer than 2^32 nodes, none of whose branches has 2^32 children, as the items of
-/// a file are. The one error is want of memory. The labels lend their trees from the item. Linear in the item, but for names
-/// of labels that are picked to collide. Recurses once a level of statements.
+/// Returns the graph of an item. The graph must have fewer than 2^32 nodes, and no branch of the tree may have 2^32
+/// children, as is the case for the items of a file. Fails only when out of memory.
+///
+/// The labels borrow their trees from the item. Linear in the item, unless names of labels are chosen to collide. Recurses
+/// once for each level of statements.
 pub fn build<'a>(alloc: Global, item: &'a Tree) -> Result<Graph<'a>, NoMemory>
     requires few { node_count item.now < 2 ^ 32 }
     requires narrow { width item.now < 2 ^ 32 }
@@ -33,7 +35,7 @@ pub fn build<'a>(alloc: Global, item: &'a Tree) -> Result<Graph<'a>, NoMemory>
     Ok(rows.into_graph())
 }
 
-/// Puts the exit. It names no statement of the item.
+/// Appends the exit, which names no statement of the item.
 fn put_exit<'a>(item: &'a Tree, exit: u32, rows: &mut GraphBuilder<'a>) -> Result<(), NoMemory>
     ensures { OnOk result (rows.new ≡ plus rows.old (exit_node exit ∷ [])) }
 {

@@ -1,4 +1,4 @@
--- The definitions leave no choice, and items stand end to end.
+-- The definitions determine what is shown, and items are end to end.
 use Rattle.std.proofs.Common.{◌≡◌, ℕ, suc, ◌+◌, ◌<◌, Bool, true, false, if◌then◌else◌, List, [], ◌∷◌, length, drop, refl, sym, ap, ◌∙◌, arith}
 use Rattle.c_lexer.specs.declared.piece.PieceKind.{PieceKind}
 use Rattle.c_lexer.specs.declared.piece.PieceKind.TheVariants.{Word, Blank, Comment, Line}

@@ -1,4 +1,4 @@
--- Lines, shown tokens and items, above all those that another reading would tell otherwise.
+-- Examples of lines, shown tokens and items, above all those on which another reading would differ.
 use Rattle.std.specs.Prelude.{ℕ, ◌≡◌, Bool, true, false, List, [], ◌∷◌, refl, codes}
 use Rattle.std.specs.List.{list_all}
 use Rattle.c_terms.specs.declared.token.TokenKind.TheVariants.{Name}
@@ -35,11 +35,11 @@ second_arm = refl
 second_arm_of_zero : is_hidden 0 0 (line.Next ∷ line.OpenZero ∷ []) ≡ false
 second_arm_of_zero = refl
 
--- an `else` after an `else` begins a next arm
+-- an `else` after an `else` begins another arm
 third_arm_of_zero : is_hidden 0 0 (line.Next ∷ line.Next ∷ line.OpenZero ∷ []) ≡ true
 third_arm_of_zero = refl
 
--- a group that has ended hides nothing, and one line that closes too much has no effect
+-- a group that has ended hides nothing, and an unmatched closing line has no effect
 past_group : is_hidden 0 0 (line.Close ∷ line.OpenZero ∷ []) ≡ false
 past_group = refl
 
@@ -66,7 +66,7 @@ every_marker : list_all is_marker_text
     ∷ codes "__restrict" ∷ codes "__restrict__" ∷ []) ≡ true
 every_marker = refl
 
--- `__attribute__ ( (`, the nearest first; and where a marker stands between
+-- `__attribute__ ( (`, the nearest first; and the same with a marker in between
 inside_attribute : is_enclosed 0 (sign.Opening Paren ∷ sign.Opening Paren ∷ sign.Attribute ∷ []) ≡ true
 inside_attribute = refl
 
@@ -93,6 +93,6 @@ span first last = record { first = first; last = last }
 three_items : items_of (sign.Other ∷ sign.Other ∷ sign.Semicolon ∷ sign.Other ∷ sign.Opening Paren ∷ sign.Closing Paren ∷ sign.Opening Brace ∷ sign.Other ∷ sign.Semicolon ∷ sign.Closing Brace ∷ sign.Other ∷ sign.Other ∷ sign.Opening Brace ∷ sign.Other ∷ sign.Semicolon ∷ sign.Closing Brace ∷ sign.Semicolon ∷ []) ≡ span 0 3 ∷ span 3 10 ∷ span 10 17 ∷ []
 three_items = refl
 
--- a closing bracket too many counts as none, and what is left is an item
+-- an unmatched closing bracket doesn't count, and what is left is an item
 too_many : items_of (sign.Closing Brace ∷ sign.Semicolon ∷ sign.Other ∷ []) ≡ span 0 2 ∷ span 2 3 ∷ []
 too_many = refl

@@ -1,4 +1,4 @@
--- The groups that are open tell what a place looks out on.
+-- The open groups determine what is_hidden reads from the lines before a place.
 use Rattle.std.proofs.Common.{◌≡◌, ℕ, ◌&&◌, Bool, true, false, List, [], ◌∷◌, drop, suc, zero, not, refl, sym, ap, ◌∙◌}
 use Rattle.std.specs.Prelude.{if◌then◌else◌}
 use Rattle.std.proofs.Math.Seq.{drop-nil}
@@ -19,7 +19,7 @@ shows_after Shown zero = true
 shows_after Shown (suc n) = false
 shows_after Past n = false
 
--- as is_hidden, by the groups that are open
+-- like is_hidden, but by the open groups
 abbrev pub hides : ℕ → List Frame → Bool
 hides arm [] = false
 hides arm (frame ∷ frames) = if shows_after frame.arm arm then hides 0 frames else true
@@ -29,7 +29,7 @@ abbrev pub AreSound : List Frame → Type 0
 AreSound [] = Unit {0}
 AreSound (frame ∷ frames) = (frame.outer ≡ all_shown frames) × AreSound frames
 
--- the groups tell what lines before a place do
+-- the groups determine what the lines before a place do
 abbrev pub TellLines : List Directive → List Frame → Type 0
 TellLines lines frames = (closed arm : ℕ) → is_hidden closed arm lines ≡ hides arm (drop closed frames)
 

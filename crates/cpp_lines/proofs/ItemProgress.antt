@@ -11,7 +11,7 @@ use Rattle.cpp_lines.specs.Visible.{sign_at}
 use Rattle.cpp_lines.specs.Items.{ends_item, last_item, items_from, items_of}
 use Rattle.cpp_lines.specs.SoFar.{so_far}
 
--- so far as the first tokens go
+-- as far as the first tokens go
 pub record ItemProgress (signs : List Sign) (number first : ℕ) (item : ItemSoFar) (spans : List ItemSpan) : Type 0 where
   pub before : List Sign
   pub known : item ≡ so_far before

@@ -20,7 +20,7 @@ use Rattle.cpp_lines.specs.Frames.{all_shown, frames_after}
 use Rattle.cpp_lines.specs.Masks.{Tells}
 use Rattle.cpp_lines.proofs.Groups.{TellLines, AreSound, hides, all_shown-hides, tell_line, line_sound}
 
--- so far as the first pieces go
+-- as far as the first pieces go
 pub record Progress (pieces : List TextPiece) (i : ℕ) (frames : List Frame) (mask : Mask) (shown : List ℕ) : Type 0 where
   pub lines : List Directive
   pub tokens : List Sign
@@ -58,7 +58,7 @@ joined_more : (pieces : List TextPiece) (i : ℕ) (shown : List ℕ) (lines : Li
 joined_more pieces i shown lines tokens ds p d at joined more =
     ap (λ (l : List Directive). shown_from [] [] 0 pieces l) (append_assoc ds (d ∷ []) more) ∙ (joined (d ∷ more) ∙ ap (λ (l : List TextPiece). shown ++ shown_from lines tokens i l (d ∷ more)) at.here)
 
--- a piece that is no token
+-- a piece that is not a token
 pub no_token : (pieces : List TextPiece) (i : ℕ) (frames : List Frame) (mask : Mask) (shown : List ℕ) (p : TextPiece) (d : Directive) → Progress pieces i frames mask shown → At pieces i p → Directs p.kind p.text d → is_word p.kind ≡ false → Progress pieces (i + 1) (frames_after d frames) mask shown
 no_token pieces i frames mask shown p d g at does other = record {
   lines = d ∷ g.lines;
@@ -125,7 +125,7 @@ shown_token pieces i frames mask next shown p g at word in_arms masked tells =
       masks = tells;
     }
 
--- at the end all are done
+-- at the end all pieces are done
 pub all_shown_tokens : (pieces : List TextPiece) (i : ℕ) (frames : List Frame) (mask : Mask) (shown : List ℕ) → Progress pieces i frames mask shown → length pieces ≤ i → AreShown pieces shown
 all_shown_tokens pieces i frames mask shown g end =
     let goes = g.joined [] in

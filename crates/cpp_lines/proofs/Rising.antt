@@ -1,4 +1,4 @@
--- The numbers of shown tokens rise.
+-- The numbers of shown tokens increase.
 use Rattle.std.proofs.Common.{◌≡◌, ℕ, ◌+◌, ◌<◌, ◌≤◌, ◌&&◌, Bool, true, false, not, List, [], ◌∷◌, length, get_or, suc, zero, arith, subst}
 use Rattle.std.specs.Prelude.{if◌then◌else◌}
 use Rattle.c_lexer.specs.Pieces.{TextPiece}

@@ -18,14 +18,14 @@ use Rattle.cpp_lines.specs.declared.directive.Directive.{Directive}
 use Rattle.cpp_lines.specs.Directives.{word_before, words_of, IsDirective}
 use Rattle.cpp_lines.specs.Words.{is_token_kind, NoWord, IsNextWord, DoesAll}
 
--- pieces with the words of all, of what is left of a text
+-- pieces of what is left of a text, with the words of all pieces
 pub record Left (pieces : List TextPiece) (rest : List ℕ) : Type 0 where
   pub more : List TextPiece
   pub cuts : Cuts more
   pub text : text_of more ≡ rest
   pub words : words_of pieces ≡ words_of more
 
--- no word stands before a place
+-- there is no word before a place
 abbrev pub NoWordTo : List ℕ → ℕ → Type 0
 NoWordTo text at = (pieces : List TextPiece) → Cuts pieces → text_of pieces ≡ text → Left pieces (drop at text)
 
@@ -59,7 +59,7 @@ a_word Comment j text words e true_is = absurd (clash_back kind.Comment j e refl
 a_word Line j text words e true_is = absurd (clash_back kind.Line j e refl true_is)
 a_word (Word k id) j text words e true_is = refl
 
--- a piece that is no token is passed
+-- a piece that is not a token is passed
 pub pass : (text : List ℕ) (at len : ℕ) (kind : Kind) → NoWordTo text at → IsFirst kind (take len (drop at text)) (drop len (drop at text)) → is_token_kind kind ≡ false → NoWordTo text (at + len)
 pass text at len kind before first false_is pieces cuts is =
     let left = before pieces cuts is in
@@ -93,7 +93,7 @@ no_more text at before end pieces cuts is =
     let left = before pieces cuts is in
     left.words ∙ no_pieces left.more left.cuts (left.text ∙ drop_all at text end)
 
--- a text is cut, so what all its pieces do is done
+-- a text is cut into pieces, so what every such cutting does is done
 pub does : (line : List ℕ) (d : Directive) → DoesAll (drop 1 line) d → IsDirective line d
 does line d all =
     let c = lexes_some (drop 1 line) in

@@ -1,4 +1,4 @@
--- Which preprocessor lines open, part and close groups.
+-- Which preprocessor lines open groups, begin their next arms, and close them.
 use Rattle.std.specs.Prelude.{ℕ, ◌≡◌, ◌||◌, Bool, false, List, [], ◌∷◌, drop, if◌then◌else◌, codes}
 use Rattle.std.specs.Str.{bytes_eq}
 use Rattle.c_lexer.specs.declared.piece.PieceKind.{PieceKind}
@@ -8,7 +8,7 @@ use Rattle.c_lexer.specs.Lexes.{Cuts}
 use Rattle.cpp_lines.specs.declared.directive.Directive.{Directive}
 use Rattle.cpp_lines.specs.declared.directive.Directive.TheVariants.{Open, OpenZero, Next, Close, Other}
 
--- a text before others, where it is a token
+-- a text put before others, if it is a token
 abbrev pub word_before : PieceKind → List ℕ → List (List ℕ) → List (List ℕ)
 word_before (Word kind id) text words = text ∷ words
 word_before Blank text words = words

@@ -11,7 +11,7 @@ is_shown Before = false
 is_shown Shown = true
 is_shown Past = false
 
--- by the innermost group, which knows of those around it
+-- decided by the innermost group, which knows about those around it
 abbrev pub all_shown : List Frame → Bool
 all_shown [] = true
 all_shown (frame ∷ frames) = frame.outer && is_shown frame.arm
@@ -21,7 +21,7 @@ arm_after Before = Shown
 arm_after Shown = Past
 arm_after Past = Past
 
--- the innermost group has come to its next arm
+-- the innermost group goes to its next arm
 abbrev pub next_arm : List Frame → List Frame
 next_arm [] = []
 next_arm (frame ∷ frames) = record { arm = arm_after frame.arm; outer = frame.outer } ∷ frames

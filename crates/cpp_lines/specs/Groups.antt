@@ -1,11 +1,11 @@
--- Whether a place stands in the arm that is shown of each group around it.
+-- Whether a place is in the shown arm of each group around it.
 use Rattle.std.specs.Prelude.{ℕ, Bool, true, false, List, [], ◌∷◌, suc, zero}
 use Rattle.cpp_lines.specs.declared.directive.Directive.{Directive}
 use Rattle.cpp_lines.specs.declared.directive.Directive.TheVariants.{Open, OpenZero, Next, Close, Other}
 
--- Looking out from a place, the nearest line first: `closed` groups that end before the place are still to be passed,
--- and of the group around the place `arm` arms have ended. A group that `#if 0` opens shows
--- its second arm, another its first.
+-- Reads the lines before a place, the nearest first: `closed` groups that end before the place are still to be passed,
+-- and `arm` arms of the group around the place have ended. A group that `#if 0` opens shows
+-- its second arm, any other group its first.
 abbrev pub is_hidden : (closed arm : ℕ) → List Directive → Bool
 is_hidden closed arm [] = false
 is_hidden closed arm (Close ∷ lines) = is_hidden (suc closed) arm lines

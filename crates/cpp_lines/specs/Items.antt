@@ -7,20 +7,20 @@ use Rattle.cpp_lines.specs.declared.span.ItemSpan.{ItemSpan}
 use Rattle.cpp_lines.specs.declared.item.Body.{Body}
 use Rattle.cpp_lines.specs.declared.item.Body.TheVariants as body
 
--- the depth after these tokens, the nearest first; a closing bracket too many counts as none
+-- the depth after these tokens, the nearest first; an unmatched closing bracket doesn't count
 abbrev pub depth : List Sign → ℕ
 depth [] = 0
 depth (Opening _ ∷ tokens) = depth tokens + 1
 depth (Closing _ ∷ tokens) = depth tokens - 1
 depth (sign ∷ tokens) = depth tokens
 
--- nothing, or a `)`
+-- whether a body may follow these tokens: there are none, or the last is `)`
 abbrev pub may_precede_body : List Sign → Bool
 may_precede_body [] = true
 may_precede_body (Closing Paren ∷ tokens) = true
 may_precede_body (sign ∷ tokens) = false
 
--- what a token is to the search for the first `{` at depth 0, after these tokens
+-- what a token after these tokens begins, if it is a `{` at depth 0
 abbrev pub body_at : Sign → List Sign → Body
 body_at (Opening Brace) tokens = if depth tokens == 0 then (if may_precede_body tokens then body.Function else body.Other) else body.Missing
 body_at sign tokens = body.Missing
@@ -38,8 +38,8 @@ abbrev pub is_function : Body → Bool
 is_function body.Function = true
 is_function b = false
 
--- Whether a token ends the item of which these tokens stand before it: a `;` at depth 0, or a `}` that returns to depth 0
--- where the first `{` at depth 0 is the first token or follows `)`.
+-- Whether a token ends the item whose earlier tokens are these: a `;` at depth 0, or a `}` that returns to depth 0
+-- if the first `{` at depth 0 is the first token or follows `)`.
 abbrev pub ends_item : Sign → List Sign → Bool
 ends_item Semicolon before = depth before == 0
 ends_item (Closing Brace) before = depth before == 1 && is_function (body_of before)
@@ -50,7 +50,7 @@ abbrev pub last_item : (first : ℕ) (before : List Sign) (number : ℕ) → Lis
 last_item first [] number = []
 last_item first (sign ∷ before) number = record { first = first; last = number } ∷ []
 
--- the items of tokens that count on from a number, where these stand before them in an item that begins at first
+-- the items of tokens numbered from `number` on, if the tokens `before` precede them in an item that begins at `first`
 abbrev pub items_from : (first : ℕ) (before : List Sign) (number : ℕ) → List Sign → List ItemSpan
 items_from first before number [] = last_item first before number
 items_from first before number (sign ∷ tokens) =

@@ -1,8 +1,8 @@
--- Numbers of pieces, which rise.
+-- Numbers of pieces, in increasing order.
 use Rattle.std.specs.Prelude.{ℕ, ◌+◌, ◌<◌, ◌≤◌, List, [], ◌∷◌, length}
 use Rattle.c_lexer.specs.Pieces.{TextPiece}
 
--- the numbers rise from one bound, and stay below another
+-- the numbers increase from one bound on, and stay below another
 abbrev pub Rise : ℕ → List ℕ → ℕ → Type 0
 Rise from [] to = Unit {0}
 Rise from (n ∷ numbers) to = (from ≤ n) × ((n < to) × Rise (n + 1) numbers to)

@@ -16,7 +16,7 @@ follows_attribute [] = false
 follows_attribute (Attribute ∷ tokens) = true
 follows_attribute (sign ∷ tokens) = false
 
--- Whether a place stands in the bracket group of an `__attribute__`: looking out from it, the nearest token first,
+-- Whether a place is in the bracket group of an `__attribute__`. Reads the tokens before the place, the nearest first;
 -- `closed` groups that end before the place are still to be passed.
 abbrev pub is_enclosed : (closed : ℕ) → List Sign → Bool
 is_enclosed closed [] = false
@@ -26,7 +26,7 @@ is_enclosed zero (Opening Paren ∷ tokens) = follows_attribute tokens || is_enc
 is_enclosed zero (Opening _ ∷ tokens) = is_enclosed zero tokens
 is_enclosed closed (sign ∷ tokens) = is_enclosed closed tokens
 
--- A marker, an `__attribute__`, and a token of the bracket group that follows one; before it stand these tokens.
+-- Whether a token after these tokens is a marker, an `__attribute__`, or in the bracket group that follows one.
 abbrev pub is_masked : Sign → List Sign → Bool
 is_masked Marker tokens = true
 is_masked Attribute tokens = true
@@ -39,8 +39,8 @@ is_word Blank = false
 is_word Comment = false
 is_word Line = false
 
--- The numbers of the tokens that are shown, among pieces that do these things and count on from a number: those that
--- stand in shown arms and are not masked. Before the pieces stand these lines and these tokens of shown arms, the nearest first.
+-- The numbers of the shown tokens, those in shown arms that are not masked, among pieces that do these things and are
+-- numbered from `number` on. Before the pieces come these lines and these tokens of shown arms, the nearest first.
 abbrev pub shown_from : (lines : List Directive) (tokens : List Sign) (number : ℕ) → List TextPiece → List Directive → List ℕ
 shown_from lines tokens number [] ds = []
 shown_from lines tokens number (p ∷ pieces) [] = []
@@ -50,6 +50,6 @@ shown_from lines tokens number (p ∷ pieces) (d ∷ ds) =
     else number ∷ shown_from (d ∷ lines) (sign_of p.text ∷ tokens) (number + 1) pieces ds)
     else shown_from (d ∷ lines) tokens (number + 1) pieces ds
 
--- these are the numbers of the tokens that are shown
+-- these are the numbers of the shown tokens
 abbrev pub AreShown : List TextPiece → List ℕ → Type 0
 AreShown pieces shown = (ds : List Directive) × (AreDirectives pieces ds × (shown ≡ shown_from [] [] 0 pieces ds))

@@ -1,4 +1,4 @@
--- The tokens that count for what is shown and where items end.
+-- The tokens that determine what is shown and where items end.
 use Rattle.std.specs.Prelude.{ℕ, ◌==◌, List, [], ◌∷◌, if◌then◌else◌, codes}
 use Rattle.std.specs.Str.{bytes_eq}
 use Rattle.c_lexer.specs.Words.{is_in}
@@ -6,7 +6,7 @@ use Rattle.cpp_lines.specs.declared.sign.Bracket.TheVariants.{Paren, Square, Bra
 use Rattle.cpp_lines.specs.declared.sign.Sign.{Sign}
 use Rattle.cpp_lines.specs.declared.sign.Sign.TheVariants.{Opening, Closing, Semicolon, Attribute, Marker, Other}
 
--- names that mark declarations, and say nothing of their form
+-- names that mark declarations, and don't affect their form
 abbrev pub markers : List (List ℕ)
 markers = codes "__init" ∷ codes "__exit" ∷ codes "__initdata" ∷ codes "__exitdata" ∷ codes "__user" ∷ codes "__iomem" ∷ codes "__kernel" ∷ codes "__force" ∷ codes "__percpu" ∷ codes "__rcu" ∷ codes "__must_check" ∷ codes "__maybe_unused" ∷ codes "__always_inline" ∷ codes "__read_mostly" ∷ codes "__packed" ∷ codes "__cold" ∷ codes "__weak" ∷ codes "noinline" ∷ codes "asmlinkage" ∷ codes "__inline" ∷ codes "__inline__" ∷ codes "__extension__" ∷ codes "__restrict" ∷ codes "__restrict__" ∷ []
 

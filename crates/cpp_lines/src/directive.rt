@@ -16,11 +16,11 @@ pub enum Directive {
     Next,
     /// `#endif`: closes the group.
     Close,
-    /// Any other line, and any piece that is no line.
+    /// Any other line, and any piece that is not a line.
     Other,
 }
 
-/// What a line does.
+/// Returns what a line does to groups.
 pub fn read_directive(line: &[u8]) -> Directive
     ensures { IsDirective line.now result }
 {
@@ -30,7 +30,7 @@ pub fn read_directive(line: &[u8]) -> Directive
     of_words(&line[1..])
 }
 
-/// What a line with this text after its `#` does.
+/// Returns what a line with this text after its `#` does.
 fn of_words(text: &[u8]) -> Directive
     ensures { DoesAll text.now result }
 {
@@ -41,7 +41,7 @@ fn of_words(text: &[u8]) -> Directive
     of_word(&text[start..end], &text[end..])
 }
 
-/// What a line does whose first word and what stands after it are these.
+/// Returns what a line does that has this first word and this text after it.
 fn of_word(word: &[u8], rest: &[u8]) -> Directive
     ensures { DoesAllAfter word.now rest.now result }
 {
@@ -64,7 +64,7 @@ fn of_word(word: &[u8], rest: &[u8]) -> Directive
     Directive::Other
 }
 
-/// Whether the text has just the word `0`.
+/// Whether the text consists of just the word `0`.
 fn is_only_zero(text: &[u8]) -> bool
     ensures { HasOnlyZero text.now result }
 {
@@ -77,7 +77,7 @@ fn is_only_zero(text: &[u8]) -> bool
     }
 }
 
-/// Where the first token of a text begins and ends.
+/// Returns where the first token of a text begins and ends, or `None` if it has no token.
 fn next_word(text: &[u8]) -> Option<(usize, usize)>
     ensures { MatchOption result (NoWord text.now) (λ word. (word.0 ≤ word.1)
         × ((word.1 ≤ length text.now) × IsNextWord text.now word.0 word.1)) }

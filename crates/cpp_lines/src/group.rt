@@ -5,14 +5,14 @@ ghost use Rattle.cpp_lines.specs.Frames.{all_shown, is_shown, frames_after, arm_
 use crate::directive::Directive;
 use c_terms::NoMemory;
 
-/// Where a group has come to.
+/// The arm that a group is in.
 #[derive(Clone, Copy, Debug, PartialEq, Eq)]
 pub enum Arm {
-    /// The arm that is shown comes next.
+    /// The arm before the one that is shown.
     Before,
     /// The arm that is shown.
     Shown,
-    /// The arm that is shown has ended.
+    /// An arm after the one that is shown.
     Past,
 }
 
@@ -44,7 +44,7 @@ fn is_shown(arm: Arm) -> bool
     }
 }
 
-/// The groups that are open after a line.
+/// Updates the open groups by a line.
 pub fn read_line(groups: &mut Vec<Frame>, line: Directive) -> Result<(), NoMemory>
     ensures { OnOk result (reverse groups.new.items ≡ frames_after line
         (reverse groups.old.items)) }

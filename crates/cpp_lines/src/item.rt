@@ -7,10 +7,10 @@ ghost use Rattle.cpp_lines.specs.SoFar.{so_far};
 
 use crate::sign::{Bracket, Sign};
 
-/// What the first `{` of an item that stands in no bracket begins.
+/// What the first `{` of an item outside all brackets begins.
 #[derive(Clone, Copy, Debug, PartialEq, Eq)]
 pub enum Body {
-    /// There is none yet.
+    /// There is no such `{` yet.
     Missing,
     /// A body: it is the first token, or it follows `)`.
     Function,
@@ -27,7 +27,7 @@ pub struct ItemSoFar {
     pub before_body: bool,
 }
 
-/// What is known of an item with no tokens.
+/// Returns what is known of an item with no tokens.
 pub fn no_tokens() -> ItemSoFar
     ensures { result ≡ so_far [] }
 {
@@ -38,7 +38,7 @@ pub fn no_tokens() -> ItemSoFar
     }
 }
 
-/// What is known with a token more.
+/// Returns what is known with one more token.
 pub fn with_token(item: ItemSoFar, sign: Sign) -> ItemSoFar
     requires { item.depth < 2 ^ 63 }
     ensures value { (tokens : List Sign) → item ≡ so_far tokens → result ≡ so_far (sign ∷ tokens) }
@@ -63,7 +63,7 @@ pub fn with_token(item: ItemSoFar, sign: Sign) -> ItemSoFar
     }
 }
 
-/// What the first `{` begins, with an opening bracket more.
+/// Returns what the first `{` begins, with one more opening bracket.
 fn body_with(item: ItemSoFar, bracket: Bracket) -> Body
     ensures { (tokens : List Sign) → item ≡ so_far tokens →
         result ≡ (so_far (Opening bracket ∷ tokens)).body }

@@ -10,13 +10,13 @@ use crate::sign::{Bracket, Sign};
 /// What is known of the tokens before a place.
 #[derive(Clone, Copy, Debug, PartialEq, Eq)]
 pub struct Mask {
-    /// How many brackets are open in the group of an attribute, its own counted.
+    /// The number of open brackets in the group of an attribute, including the group's own.
     pub depth: usize,
     /// Whether the last token is `__attribute__`.
     pub after_attribute: bool,
 }
 
-/// What is known where there is no token.
+/// Returns what is known before the first token.
 pub fn no_mask() -> Mask
     ensures tells { Tells [] result }
     ensures none { result.depth ≡ 0 }
@@ -27,7 +27,7 @@ pub fn no_mask() -> Mask
     }
 }
 
-/// What is known with a token more.
+/// Returns what is known with one more token.
 pub fn mask_with(mask: Mask, sign: Sign) -> Mask
     requires { mask.depth < 2 ^ 63 }
     ensures tells { (tokens : List Sign) → Tells tokens mask → Tells (sign ∷ tokens) result }
@@ -53,7 +53,7 @@ pub fn mask_with(mask: Mask, sign: Sign) -> Mask
     }
 }
 
-/// How many are open with an opening bracket more.
+/// Returns how many brackets are open with one more opening bracket.
 fn opened(mask: Mask, bracket: Bracket) -> usize
     requires { mask.depth < 2 ^ 63 }
     ensures tells { (tokens : List Sign) → Tells tokens mask → (closed : ℕ) →
@@ -67,7 +67,7 @@ fn opened(mask: Mask, bracket: Bracket) -> usize
     }
 }
 
-/// Whether a token is masked.
+/// Whether a token is masked: a marker, an `__attribute__`, or in its bracket group.
 pub fn is_masked(mask: Mask, sign: Sign) -> bool
     ensures { (tokens : List Sign) → Tells tokens mask → result ≡ is_masked sign tokens }
 {

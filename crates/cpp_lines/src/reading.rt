@@ -18,6 +18,6 @@ pub enum Why {
 pub enum Item {
     /// A function, a declaration, a macro's item, or a `;`.
     Parsed(Tree),
-    /// What is not read, by its visible tokens.
+    /// The visible tokens of an item that is not read, and why.
     Skipped(ItemSpan, Why),
 }

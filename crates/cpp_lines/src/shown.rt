@@ -11,9 +11,10 @@ use c_lexer::{Lexed, PieceKind};
 use c_terms::NoMemory;
 use std::alloc::Global;
 
-/// The text with the numbers of the tokens that are shown: those that stand in the shown arm of each group of
-/// preprocessor lines around them, but for markers as `__init` and for `__attribute__` with its bracket group.
-/// Linear. The groups that are open take 2 bytes each.
+/// Returns the text with the numbers of its shown tokens: those in the shown arm of each group of preprocessor lines
+/// around them, except markers such as `__init` and `__attribute__` with its bracket group.
+///
+/// Linear. Each open group takes 2 bytes.
 pub fn arms(alloc: Global, lexed: Lexed) -> Result<Visible, NoMemory>
     ensures lexed { IfOk result (λ visible. visible.pieces ≡ lexed) }
     ensures shown { IfOk result (λ visible. AreShown lexed visible.shown) }
@@ -22,7 +23,7 @@ pub fn arms(alloc: Global, lexed: Lexed) -> Result<Visible, NoMemory>
     Ok(Visible { lexed, shown })
 }
 
-/// The numbers of the tokens that are shown.
+/// Returns the numbers of the shown tokens.
 fn shown_tokens(alloc: Global, lexed: &Lexed) -> Result<Vec<u32>, NoMemory>
     ensures shown { IfOk result (λ shown. AreShown lexed.now shown.items) }
     ensures short { IfOk result (λ _. length lexed.now ≤ 16777216) }

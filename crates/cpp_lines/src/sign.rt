@@ -1,9 +1,9 @@
-// The tokens that count for what is shown and where items end.
+// The tokens that determine what is shown and where items end.
 ghost use Rattle.std.specs.Prelude.{◌≡◌, ◌∷◌, [], codes};
 ghost use Rattle.c_lexer.specs.Words.{is_in};
 ghost use Rattle.cpp_lines.specs.Signs.{markers, sign_of, sign_of_byte};
 
-/// `(`, `[` or `{`, or their like.
+/// A kind of bracket.
 #[derive(Clone, Copy, Debug, PartialEq, Eq)]
 pub enum Bracket {
     /// `(` and `)`
@@ -14,7 +14,7 @@ pub enum Bracket {
     Brace,
 }
 
-/// What a token is to groups of brackets and items.
+/// The role of a token in bracket groups and items.
 #[derive(Clone, Copy, Debug, PartialEq, Eq)]
 pub enum Sign {
     Opening(Bracket),
@@ -23,12 +23,12 @@ pub enum Sign {
     Semicolon,
     /// `__attribute__`
     Attribute,
-    /// A name that marks a declaration: `__init`
+    /// A name that marks a declaration, such as `__init`
     Marker,
     Other,
 }
 
-/// What a token with this text is.
+/// Returns the sign of a token with this text.
 pub fn sign_of(text: &[u8]) -> Sign
     ensures { result ≡ sign_of text.now }
 {

@@ -9,16 +9,16 @@ use crate::visible::Visible;
 use c_terms::NoMemory;
 use std::alloc::Global;
 
-/// The visible tokens of one item, by their numbers among the visible tokens. The last is left out.
+/// The visible tokens `first..last` of one item, by their numbers among the visible tokens. `last` is not included.
 #[derive(Clone, Copy, Debug, PartialEq, Eq)]
 pub struct ItemSpan {
     pub first: u32,
     pub last: u32,
 }
 
-/// The items of the tokens that are shown. Each ends after a `;` that stands in no bracket, or after the `}` of a body:
-/// one whose `{`, the first that stands in no bracket, is the first token or follows `)`. What is left at the end is
-/// one item. Linear.
+/// Returns the items of the shown tokens. Each ends after a `;` outside all brackets, or after the `}` of a body. A body's
+/// `{` is the first one outside all brackets, and is the item's first token or follows `)`. What is left at the end is one
+/// item. Linear.
 pub fn items(alloc: Global, visible: &Visible) -> Result<Vec<ItemSpan>, NoMemory>
     ensures { IfOk result (λ spans. spans.items ≡ items_of (signs_of visible.now)) }
 {

@@ -5,7 +5,7 @@ ghost use Rattle.std.specs.List.Sorted.{IsStrictlyIncreasing};
 use c_lexer::Lexed;
 use std::marker::Model;
 
-/// A text with its pieces, and the numbers of the pieces that are shown. Contracts see both as lists.
+/// A text with its pieces, and the numbers of the shown pieces. Contracts see both as lists.
 #[derive(Drop)]
 pub struct Visible {
     pub(crate) lexed: Lexed,
@@ -24,14 +24,14 @@ impl Model for Visible {
 }
 
 impl Visible {
-    /// The text with its pieces.
+    /// Returns the text with its pieces.
     pub fn lexed(&self) -> &Lexed
         ensures lexed { result.now ≡ self.now.pieces }
     {
         &self.lexed
     }
 
-    /// The numbers of the pieces that are shown. They rise.
+    /// Returns the numbers of the shown pieces, in increasing order.
     pub fn shown(&self) -> &[u32]
         ensures shown { result.now ≡ self.now.shown }
         ensures rising { IsStrictlyIncreasing result.now }

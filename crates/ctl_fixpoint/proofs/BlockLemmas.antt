@@ -1,4 +1,4 @@
--- What a brace changes of the blocks that are open.
+-- How a brace changes which blocks are open.
 use Rattle.std.proofs.Common.{◌≡◌, ℕ, Bool, true, false, not, ◌&&◌, ◌||◌, refl, sym, ap, ◌∙◌, Option, Some, slice_get}
 use Rattle.cfg_build.specs.declared.cfg_graph.label.NodeLabel.{NodeLabel}
 use Rattle.cfg_build.specs.CfgGraph.Flow.{Flow}
@@ -11,7 +11,7 @@ pub twice : (a : Bool) → not (not a) ≡ a
 twice true = refl
 twice false = refl
 
--- p: the node is a `{`, q: it is a `}`, x: its block is the one asked for, a: that block was open before it
+-- p: the node is a `{`, q: it is a `}`, x: its block is the given one, a: that block was open before it
 opens : (p q x a : Bool) → p ≡ true → (a || x) ≡ ((p && x) || (not (q && x) && a))
 opens true q true true h = refl
 opens true q true false h = refl
@@ -34,7 +34,7 @@ passes false false x a h k = refl
 passes true q x a h k = absurd cc
 passes false true x a h k = absurd cc
 
--- d: the block was shut before the node
+-- d: the block was closed before the node
 opens-shut : (p q x d : Bool) → p ≡ true → (d && not x) ≡ not ((p && x) || (not (q && x) && not d))
 opens-shut true q true true h = refl
 opens-shut true q true false h = refl
@@ -58,7 +58,7 @@ passes-shut false false x false h k = refl
 passes-shut true q x d h k = absurd cc
 passes-shut false true x d h k = absurd cc
 
--- the end of the block is neither in it nor outside of it
+-- the end of the block is neither inside nor outside it
 ends : (q x d : Bool) → q ≡ true → (d && not x) ≡ (not (q && x) && d)
 ends true true true h = refl
 ends true true false h = refl

@@ -1,4 +1,4 @@
--- Lists by their places, one more set of a row, and what a row's variables say of a set.
+-- Lists by their places, a row with one more set, and what a row's variables say about a set.
 use Rattle.std.proofs.Common.{◌≡◌, ℕ, suc, zero, ◌+◌, ◌<◌, ◌≤◌, Bool, true, false, ◌&&◌, refl, sym, ap, ◌∙◌, subst, arith}
 use Rattle.std.proofs.Common.{List, [], ◌∷◌, ◌++◌, length, get_or, set, take, ⊎_elim, length-append, Contains}
 use Rattle.std.specs.Bool.{Decides}
@@ -24,7 +24,7 @@ take_all [] (suc i) le = refl
 take_all (x ∷ xs) zero le = absurd (omega (arith, le))
 take_all (x ∷ xs) (suc i) le = ap (λ l. x ∷ l) (take_all xs i (omega (arith, le)))
 
--- once each successor has been looked at, none has changed later than the node was seen
+-- when each successor has been checked, none has changed since the node was computed
 pub looked_at : (items next inner seen changed : List ℕ) (i s v : ℕ) → items ≡ next → length items ≤ i
     → ((k : ℕ) → Contains (take i items) k → get_or changed k 0 ≤ v) → inner ≡ seen → v ≡ get_or inner s v
     → s < length seen → (k : ℕ) → Contains next k → get_or changed k 0 ≤ get_or seen s 0
@@ -42,7 +42,7 @@ at_last : (row : List Entries) (e : Entries) → e ≡ set_of (row ++ e ∷ []) 
 at_last [] e = refl
 at_last (x ∷ row) e = at_last row e
 
--- what holds of each set, and of one more
+-- what holds for each set, and for one more
 pushed : (P : ℕ → Entries → Type 0) (n : ℕ) (row : List Entries) (e : Entries) → length row ≡ n
     → ((s : ℕ) → s < n → P s (set_of row s)) → P n e → (s : ℕ) → s < n + 1 → P s (set_of (row ++ e ∷ []) s)
 pushed P n row e len h last s lt = ⊎_elim

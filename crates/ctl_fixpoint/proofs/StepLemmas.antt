@@ -1,4 +1,4 @@
--- A row by the rows of its parts stands for the formula.
+-- A row that is computed from the rows of its parts denotes where the formula holds.
 use Rattle.std.proofs.Common.{◌≡◌, ℕ, suc, zero, ◌+◌, ◌<◌, ◌≤◌, Bool, true, false, not, ◌&&◌, ◌||◌, cond, nat_lt, refl, sym}
 use Rattle.std.proofs.Common.{ap, ◌∙◌, subst, arith, List, [], ◌∷◌, ◌++◌, length, Option, None, Some, slice_get, ◌⊎◌, ⊎_elim}
 use Rattle.std.proofs.Common.{length-append, Contains}
@@ -104,7 +104,7 @@ module _ (decls : List VarDecl) (tokens : List PatToken) where
   part_good h (plain.Exists x f) u p = ⊎_elim (λ e. subst Good (sym e) u)
       (λ i. part_good h f (good f (and_right (bound (sure decls tokens) f x) _ u.guarded_by_parts) u.stand) i) p
 
-  -- the variables of a part, by those of its parts
+  -- the variables of a part, given those of its parts
   step_free : (n : Node) (fs : List Plain) (len : ℕ) → below len n ≡ true → (v : (Var → Bool) → ℕ → Bool)
       → ((i : ℕ) → i < len → (t : Var → Bool) → free_vars decls tokens t (at fs i) ≡ true → v t i ≡ true)
       → (test : Var → Bool) → free_vars decls tokens test (plain_of fs n) ≡ true
@@ -132,7 +132,7 @@ module _ (decls : List VarDecl) (tokens : List PatToken) where
   step_free (node.Exists x i) fs len b v h test e = h i (lt-true i len b) (λ y. test y || same_var y x) e
 
   module _ (g : Flow) (ok : IsSound g) where
-    -- where what a part's parts say is what they hold, it says what it holds
+    -- if its parts' rows are right, a part's row is right
     step_means : (n : Node) (fs : List Plain) (len : ℕ) → below len n ≡ true → is_quantifier n ≡ false
         → (x : ℕ → ℕ → Bool) (m : ℕ) → count_of g ≤ m → (env : Environment)
         → ((i : ℕ) → i < len → Good (at fs i) → Agree (count_of g) (x i) (λ s. holds decls tokens g m (at fs i) s env))

@@ -1,7 +1,7 @@
 -- Sweeps find the least fixpoint.
--- Proof: under one environment the sets are a test of nodes. It is never more than the until, since rounds are monotone
--- and the until is a fixpoint of them. After k sweeps it is at least what k rounds give: where a sweep computes a node, it
--- adds what a round adds; where it doesn't, no successor has changed, and a round adds nothing.
+-- Proof: under one environment the sets are a test of nodes. It never exceeds the until, since rounds are monotone and the
+-- until is a fixpoint of them. After k sweeps it has at least the result of k rounds: if a sweep computes a node, it adds
+-- what a round adds; if it doesn't, no successor has changed, and a round adds nothing.
 use Rattle.std.proofs.Common.{◌≡◌, ◌≢◌, ℕ, suc, zero, ◌+◌, ◌-◌, ◌*◌, ◌^◌, ◌<◌, ◌≤◌, Bool, true, false, ◌&&◌, ◌||◌, refl, sym}
 use Rattle.std.proofs.Common.{ap, ◌∙◌, subst, arith, List, [], ◌∷◌, ◌++◌, length, get_or, set, ◌⊎◌, inl, inr, ⊎_elim, add-one}
 use Rattle.std.proofs.Common.{length-set, get_or-set_same, get_or-set_other, Contains}
@@ -43,14 +43,14 @@ clock_fits count k clock few lt le =
     omega (arith, a, b, le, few)
 
 module _ (g : Flow) (ok : IsSound g) (every : Bool) (p q : List Entries) where
-  -- a round over more gives more
+  -- a round over a larger set yields more
   more : (x y : List Entries) → Grows (count_of g) x y → (s : ℕ) → s < count_of g → (env : Environment)
       → round_of g every p q x s env ≡ true → round_of g every p q y s env ≡ true
   more x y h s lt env =
       round-mono g ok every (λ k. has p k env) (λ k. has q k env) (λ k. has x k env) (λ k. has y k env)
       (λ k l e. h k l env e) s lt
 
-  -- what is never more than the until stays so after a round
+  -- what never exceeds the until still doesn't after a round
   never : (x : List Entries)
       → ((s : ℕ) → s < count_of g → (env : Environment) → has x s env ≡ true → until_of g every p q (count_of g) s env ≡ true)
       → (s : ℕ) → s < count_of g → (env : Environment) → round_of g every p q x s env ≡ true
@@ -98,7 +98,7 @@ module _ (g : Flow) (ok : IsSound g) (every : Bool) (p q : List Entries) where
       vars = λ test u v h. h;
     }
 
-    -- it is computed, and is as it was
+    -- it is recomputed, and is unchanged
     pub visit_same : (new : Sweeping) → new.sets ≡ old.sets → new.seen ≡ set old.seen s old.clock
         → new.changed ≡ old.changed → new.clock ≡ old.clock
         → ((env : Environment) → has old.sets s env ≡ round_of g every p q old.sets s env)
@@ -141,7 +141,7 @@ module _ (g : Flow) (ok : IsSound g) (every : Bool) (p q : List Entries) where
           vars = λ test u v h. ap (row_vars test) a ∙ h;
         }
 
-    -- it is computed, and may have changed
+    -- it is recomputed, and may have changed
     pub visit_changed : (new : Sweeping) (e : Entries) → new.sets ≡ set old.sets s e → new.seen ≡ set old.seen s old.clock
         → new.changed ≡ set old.changed s (old.clock + 1) → new.clock ≡ old.clock + 1
         → ((env : Environment) → set_denotes e env ≡ round_of g every p q old.sets s env)
@@ -281,7 +281,7 @@ module _ (g : Flow) (ok : IsSound g) (every : Bool) (p q : List Entries) where
     vars = λ test x y. v.vars test x y (a.vars test x y);
   }
 
-  -- what a round adds nothing to is at least the until
+  -- if a round adds nothing to it, it is at least the until
   closed : (x : List Entries)
       → ((s : ℕ) → s < count_of g → (env : Environment) → round_of g every p q x s env ≡ true → has x s env ≡ true)
       → (k s : ℕ) → s < count_of g → (env : Environment) → until_of g every p q k s env ≡ true → has x s env ≡ true

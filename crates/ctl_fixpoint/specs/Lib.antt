@@ -1,10 +1,10 @@
--- What public contracts rest on.
--- sets by part and node that stand for where a formula holds
+-- The modules that public contracts rest on.
+-- sets by part and node, which denote where a formula holds
 pub mod States
--- For inside use.
+-- For internal use.
 -- the looks of an atom's pattern
 pub mod Looked
--- one part by the rows of its parts
+-- the row of one part, given the rows of its parts
 pub mod Steps
 -- untils by sweeps
 pub mod Sweeps

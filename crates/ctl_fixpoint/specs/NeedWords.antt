@@ -1,6 +1,6 @@
 -- Definitions of need_words.
--- What public contracts rest on.
+-- The modules that public contracts rest on.
 pub mod Words
 pub mod Looks
--- For inside use: in which patterns of a table words stand.
+-- For internal use: in which patterns of a table words occur.
 pub mod Standing

@@ -1,4 +1,4 @@
--- Sets by part and node that stand for where the parts of a formula hold.
+-- Sets by part and node, which denote where the parts of a formula hold.
 use Rattle.std.specs.Prelude.{◌≡◌, ℕ, ◌+◌, ◌<◌, ◌≤◌, Bool, true, List, [], length, slice_index_or}
 use Rattle.std.specs.Bool.{Decides}
 use Rattle.cfg_build.specs.CfgGraph.Flow.{Flow, count_of}
@@ -15,14 +15,15 @@ use Rattle.ctl_fixpoint.specs.CtlHolds.Holding.{Holds}
 use Rattle.ctl_fixpoint.specs.CtlHolds.Free.{free_vars}
 use Rattle.ctl_fixpoint.specs.CtlHolds.Parts.{IsPart}
 
--- The set stands for exactly the environments under which h holds at node s, whatever the bound on walks, if it is more
--- than the number of nodes; and its variables are free ones of h.
+-- The set denotes exactly the environments under which h holds at node s, for every bound on walks that is greater than the
+-- number of nodes; and its variables are free in h.
 pub record StandsFor (decls : List VarDecl) (tokens : List PatToken) (g : Flow) (h : Plain) (s : ℕ) (set : Entries) : Type 0 where
   pub means : (m : ℕ) → count_of g + 1 ≤ m → (env : Environment)
       → Decides (set_denotes set env) (Holds decls tokens g m h s env)
   pub vars : (test : Var → Bool) → free_vars decls tokens test h ≡ true → set_vars test set ≡ true
 
--- For each part of the table a row of sets, one a node. Where the part is one of the formula, they stand for it.
+-- For each part of the table there is a row of sets, one per node. If the part is one of the formula, its sets denote where
+-- it holds.
 pub record AreStateSets (g : Flow) (f : FormulaOf) (rows : List (List Entries)) : Type 0 where
   pub parts : length rows ≡ length f.nodes
   pub nodes : (i : ℕ) → i < length f.nodes → length (slice_index_or rows i []) ≡ count_of g

@@ -1,4 +1,4 @@
--- What a part of a formula says at a node, by what its parts say.
+-- Where a part of a formula holds at a node, given where its parts hold.
 use Rattle.std.specs.Prelude.{◌≡◌, ℕ, ◌+◌, ◌<◌, ◌≤◌, Bool, true, false, not, ◌&&◌, ◌||◌, List, [], length, slice_index_or, slice_get}
 use Rattle.std.specs.Bool.{Decides}
 use Rattle.std.specs.List.{list_all}
@@ -26,7 +26,7 @@ use Rattle.ctl_fixpoint.specs.CtlHolds.BoundLaw.{SureStand}
 abbrev pub set_of : List Entries → ℕ → Entries
 set_of row s = slice_index_or row s []
 
--- whether it stands for an environment
+-- whether it denotes the environment
 abbrev pub has : List Entries → ℕ → Environment → Bool
 has row s env = set_denotes (set_of row s) env
 
@@ -37,18 +37,18 @@ row_of rows i = slice_index_or rows i []
 abbrev pub row_vars : (Var → Bool) → List Entries → Bool
 row_vars test row = list_all (set_vars test) row
 
--- n sets, each of which stands for the environments that pass the test there
+-- n sets, each of which denotes the environments that pass the test at its node
 pub record Gives (n : ℕ) (row : List Entries) (test : ℕ → Environment → Bool) : Type 0 where
   pub len : length row ≡ n
   pub means : (s : ℕ) → s < n → (env : Environment) → has row s env ≡ test s env
 
--- n sets, each of which stands for what the other row's does after some change of x alone
+-- n sets, each of which denotes the environments that the other row's set denotes after some change of x alone
 pub record Projects (n : ℕ) (x : Var) (a row : List Entries) : Type 0 where
   pub len : length row ≡ n
   pub means : (s : ℕ) → s < n → (env : Environment)
       → Decides (has row s env) (ForSomeValue (λ v. has a s (change env x v)))
 
--- Untils and quantifiers take whole rows, and blocks are gone along once; all else is told node by node.
+-- Untils and quantifiers take whole rows, and blocks take one pass over the nodes; all else is computed node by node.
 abbrev pub is_pointwise : Node → Bool
 is_pointwise (node.Inside b) = false
 is_pointwise (node.Outside b) = false
@@ -62,7 +62,8 @@ is_quantifier (node.Exists x i) = true
 is_quantifier _ = false
 
 module _ (decls : List VarDecl) (tokens : List PatToken) (g : Flow) where
-  -- what a node of the table says at node s, where x tells what its parts say; of a quantifier nothing is told
+  -- whether a node of the table holds at node s, where x says whether its parts hold; for a quantifier the value has no
+  -- meaning
   abbrev pub step : (ℕ → ℕ → Bool) → Node → ℕ → Environment → Bool
   step x node.True s env = true
   step x (node.Atom p) s env = atom_at decls tokens g p s env
@@ -82,7 +83,7 @@ module _ (decls : List VarDecl) (tokens : List PatToken) (g : Flow) where
   step x (node.Down b i) s env = passes_there (x i) (slice_get (down_of g s) b)
   step x (node.Exists y i) s env = x i s
 
--- each variable of the node passes the test, where v tells it of its parts
+-- each variable of the node passes the test, where v says whether those of its parts do
 module _ (decls : List VarDecl) (tokens : List PatToken) where
   abbrev pub step_vars : ((Var → Bool) → ℕ → Bool) → (Var → Bool) → Node → Bool
   step_vars v test node.True = true
@@ -103,7 +104,7 @@ module _ (decls : List VarDecl) (tokens : List PatToken) where
   step_vars v test (node.Down b i) = v test i
   step_vars v test (node.Exists x i) = v (λ y. test y || same_var y x) i
 
--- the row of a node of the table, by the rows of its parts
+-- the row of a node of the table, given the rows of its parts
 pub record IsRowBy (decls : List VarDecl) (tokens : List PatToken) (g : Flow) (rows : List (List Entries)) (n : Node)
     (row : List Entries) : Type 0 where
   pub len : length row ≡ count_of g
@@ -113,12 +114,13 @@ pub record IsRowBy (decls : List VarDecl) (tokens : List PatToken) (g : Flow) (r
   pub vars : (test : Var → Bool) → step_vars decls tokens (λ t i. row_vars t (row_of rows i)) test n ≡ true
       → row_vars test row ≡ true
 
--- a formula all of whose quantifiers are over parts that bind their variables, and whose patterns' sure variables stand there
+-- a formula whose quantifiers all range over parts that bind their variables, and whose patterns contain their sure
+-- variables
 pub record IsGood (decls : List VarDecl) (tokens : List PatToken) (h : Plain) : Type 0 where
   pub guarded_by_parts : guarded (sure decls tokens) h ≡ true
   pub stand : EachPattern (SureStand decls tokens) h
 
--- a row that stands for a formula, if that is a good one
+-- a row that denotes where a formula holds, if the formula is a good one
 pub record IsRowOf (decls : List VarDecl) (tokens : List PatToken) (g : Flow) (h : Plain) (row : List Entries) : Type 0 where
   pub len : length row ≡ count_of g
   pub means : IsGood decls tokens h → (m : ℕ) → count_of g + 1 ≤ m → (s : ℕ) → s < count_of g → (env : Environment)

@@ -1,4 +1,4 @@
--- Untils by sweeps: node by node from the last to the first, a node anew only where a successor has changed since.
+-- Untils by sweeps: from the last node to the first, recomputing a node only if a successor has changed since.
 use Rattle.std.specs.Prelude.{◌≡◌, ℕ, ◌+◌, ◌*◌, ◌<◌, ◌≤◌, Bool, true, false, List, length, slice_index_or, Contains}
 use Rattle.cfg_build.specs.CfgGraph.Flow.{Flow, count_of, succ_of}
 use Rattle.smpl_terms.specs.declared.var.Var.{Var}
@@ -10,7 +10,7 @@ use Rattle.ctl_fixpoint.specs.Steps.{has, row_vars}
 abbrev pub time_at : List ℕ → ℕ → ℕ
 time_at times n = slice_index_or times n 0
 
--- the sets so far, when each node was last computed, when its set last changed, and what the clock says
+-- the sets so far, when each node was last computed, when its set last changed, and the clock's time
 pub record Sweeping : Type 0 where
   pub sets : List Entries
   pub seen : List ℕ
@@ -22,12 +22,12 @@ module _ (g : Flow) (every : Bool) (p q : List Entries) where
   abbrev pub round_of : List Entries → ℕ → Environment → Bool
   round_of x s env = round g every (λ k. has p k env) (λ k. has q k env) (λ k. has x k env) s
 
-  -- what so many rounds give
+  -- the result of this many rounds
   abbrev pub until_of : ℕ → ℕ → Environment → Bool
   until_of k s env = rounds g every (λ k. has p k env) (λ k. has q k env) k s
 
-  -- Of the sets of a sweep: there is one a node, none stands for more than the until does, a round takes nothing away,
-  -- and where no successor has changed since a node was computed, a round would add nothing there.
+  -- The invariant of a sweep's sets: there is one per node, none denotes more than the until does, a round takes nothing
+  -- away, and if no successor has changed since a node was computed, a round would add nothing there.
   pub record IsSweep (w : Sweeping) : Type 0 where
     pub sets_each : length w.sets ≡ count_of g
     pub seen_each : length w.seen ≡ count_of g
@@ -41,12 +41,12 @@ module _ (g : Flow) (every : Bool) (p q : List Entries) where
         → ((k : ℕ) → Contains (succ_of g s) k → time_at w.changed k ≤ time_at w.seen s)
         → (env : Environment) → round_of w.sets s env ≡ true → has w.sets s env ≡ true
 
--- each set stands for all that it stood for
+-- each set denotes at least what it denoted before
 abbrev pub Grows : ℕ → List Entries → List Entries → Type 0
 Grows n old new = (s : ℕ) → s < n → (env : Environment) → has old s env ≡ true → has new s env ≡ true
 
 module _ (g : Flow) (every : Bool) (p q : List Entries) where
-  -- what a visit of node s leaves: what a round adds there is added
+  -- the state after a visit of node s: what a round adds there has been added
   pub record Visits (old new : Sweeping) (s : ℕ) (changed : Bool) : Type 0 where
     pub sweep : IsSweep g every p q new
     pub grows : Grows (count_of g) old.sets new.sets
@@ -56,7 +56,7 @@ module _ (g : Flow) (every : Bool) (p q : List Entries) where
     pub vars : (test : Var → Bool) → row_vars test p ≡ true → row_vars test q ≡ true → row_vars test old.sets ≡ true
         → row_vars test new.sets ≡ true
 
-  -- the same once the last n nodes have been visited
+  -- the state after the last n nodes have been visited
   pub record SweepsLast (n : ℕ) (old new : Sweeping) (changed : Bool) : Type 0 where
     pub sweep : IsSweep g every p q new
     pub grows : Grows (count_of g) old.sets new.sets
@@ -67,7 +67,7 @@ module _ (g : Flow) (every : Bool) (p q : List Entries) where
     pub vars : (test : Var → Bool) → row_vars test p ≡ true → row_vars test q ≡ true → row_vars test old.sets ≡ true
         → row_vars test new.sets ≡ true
 
-  -- after k sweeps there is at least what k rounds give
+  -- after k sweeps the sets denote at least the result of k rounds
   pub record SweptTimes (k : ℕ) (w : Sweeping) : Type 0 where
     pub sweep : IsSweep g every p q w
     pub reached : (s : ℕ) → s < count_of g → (env : Environment) → until_of g every p q k s env ≡ true

@@ -1,4 +1,4 @@
-// Rows of the nodes in a block and of those outside of it: the nodes are gone along once, as a reader of the text would.
+// The rows of the nodes inside a block and of those outside it, computed in one pass over the nodes in text order.
 //
 //       0 head   1 `{` 7   2 a();   3 `{` 9   4 b();   5 `}` 9   6 c();   7 `}` 7   8 exit
 //     inside       7         7        7, 9      7, 9     7         7
@@ -21,7 +21,7 @@ use env_sets::{Bound, EnvSet, Values, join, meet};
 use smpl_terms::{Value, Var};
 use std::alloc::Global;
 
-/// The variable is the place.
+/// Returns the set of the environments in which the variable's value is the place.
 fn at_place(alloc: Global, b: &Var, place: u64) -> Result<EnvSet, NoMemory>
     ensures gives { IfOk result (λ r. (env : Environment) → set_denotes r env ≡ same (Place place) (env b.now)) }
     ensures vars { IfOk result (λ r. (test : Var → Bool) → test b.now ≡ true → set_vars test r ≡ true) }
@@ -29,7 +29,7 @@ fn at_place(alloc: Global, b: &Var, place: u64) -> Result<EnvSet, NoMemory>
     EnvSet::one(alloc, b, Bound::Is(Value::Place(place)))
 }
 
-/// The variable is anything else.
+/// Returns the set of the environments in which the variable's value is anything else.
 fn off_place(alloc: Global, b: &Var, place: u64) -> Result<EnvSet, NoMemory>
     ensures gives { IfOk result (λ r. (env : Environment) → set_denotes r env ≡ not (same (Place place) (env b.now))) }
     ensures vars { IfOk result (λ r. (test : Var → Bool) → test b.now ≡ true → set_vars test r ≡ true) }
@@ -39,7 +39,7 @@ fn off_place(alloc: Global, b: &Var, place: u64) -> Result<EnvSet, NoMemory>
     EnvSet::one(alloc, b, Bound::Not(Values::of(alloc, places)?))
 }
 
-/// The places of the blocks that are open after the node, by those that are open before it.
+/// Returns the places of the blocks that are open after the node, given those that are open before it.
 fn open_after(alloc: Global, g: &Graph, b: &Var, before: EnvSet, s: u32) -> Result<EnvSet, NoMemory>
     requires node { s < count_of g.now }
     ensures gives { IfOk result (λ r. (env : Environment) → set_denotes r env ≡ at_node g.now s
@@ -57,9 +57,9 @@ fn open_after(alloc: Global, g: &Graph, b: &Var, before: EnvSet, s: u32) -> Resu
     Ok(before)
 }
 
-/// The row of the nodes that stand in the block whose `{` is the variable's value. A set is made anew at braces alone: the
-/// nodes between two of them share one. So it takes as many steps as there are nodes, and at a brace some for each block
-/// around it.
+/// Returns the row of the nodes that are inside the block whose `{` is the variable's value. Only a brace makes a new set:
+/// the nodes between two braces share one. The cost is one step per node, and at a brace some steps for each enclosing
+/// block.
 pub fn inside_row(alloc: Global, g: &Graph, b: &Var) -> Result<Vec<EnvSet>, NoMemory>
     ensures gives { IfOk result (λ r. Gives (count_of g.now) r.items (λ s env. in_block g.now (env b.now) s)) }
     ensures vars { IfOk result (λ r. (test : Var → Bool) → test b.now ≡ true → row_vars test r.items ≡ true) }
@@ -73,7 +73,8 @@ pub fn inside_row(alloc: Global, g: &Graph, b: &Var) -> Result<Vec<EnvSet>, NoMe
     Ok(sets)
 }
 
-/// The values that are the place of no block that is open after the node, by those that are that of none open before it.
+/// Returns the values that are the place of no block open after the node, given those that are the place of none open before
+/// it.
 fn shut_after(alloc: Global, g: &Graph, b: &Var, shut: EnvSet, s: u32) -> Result<EnvSet, NoMemory>
     requires node { s < count_of g.now }
     ensures gives { IfOk result (λ r. (env : Environment) → set_denotes r env ≡ not (at_node g.now s
@@ -91,7 +92,7 @@ fn shut_after(alloc: Global, g: &Graph, b: &Var, shut: EnvSet, s: u32) -> Result
     Ok(shut)
 }
 
-/// The same without the place of the block whose `}` the node is.
+/// Returns the set `shut` without the place of the block whose `}` the node is.
 fn without_end(alloc: Global, g: &Graph, b: &Var, shut: &EnvSet, s: u32) -> Result<EnvSet, NoMemory>
     requires node { s < count_of g.now }
     ensures gives { IfOk result (λ r. (env : Environment) → set_denotes r env ≡ at_node g.now s
@@ -106,7 +107,7 @@ fn without_end(alloc: Global, g: &Graph, b: &Var, shut: &EnvSet, s: u32) -> Resu
     shut.copy(alloc)
 }
 
-/// The row of the nodes that neither stand in that block nor are its `}`. It takes as many steps as [`inside_row`].
+/// Returns the row of the nodes that are neither inside that block nor its `}`. The cost is that of [`inside_row`].
 pub fn outside_row(alloc: Global, g: &Graph, b: &Var) -> Result<Vec<EnvSet>, NoMemory>
     ensures gives { IfOk result (λ r. Gives (count_of g.now) r.items (λ s env. off_block g.now (env b.now) s)) }
     ensures vars { IfOk result (λ r. (test : Var → Bool) → test b.now ≡ true → row_vars test r.items ≡ true) }

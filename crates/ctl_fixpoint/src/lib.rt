@@ -1,29 +1,28 @@
 //! Where the parts of a formula hold in a graph, as sets of environments: satisfaction by fixpoints.
 //!
-//! [`sat`] gives for each part of a formula's table and each node of the graph the set of environments under which the
-//! part holds there. Parts are worked off in the table's order, each once, so what stands at several places of the
-//! formula costs once.
+//! [`sat`] returns, for each part of a formula's table and each node of the graph, the set of environments under which the
+//! part holds there. Parts are processed in the table's order, each once, so a part that occurs several times in the formula
+//! is computed once.
 //!
 //! ```text
 //!       0 head ─► 1 {  ─► 2 lock(a); ─► 3 f(); ─► 4 unlock(a); ─► 5 } ─► 6 exit (goes to itself)
 //! ```
 //!
-//! `E[True U unlock(E);]` has at nodes 0 to 4 the one entry "`E` is `a`", and no entry after them.
+//! `E[True U unlock(E);]` has the single entry "`E` is `a`" at nodes 0 to 4, and no entry after them.
 //!
-//! An until is the least fixpoint of rounds: where its end holds, or where its way holds and the until next. The sets
-//! start empty and only grow. They are gone over from the last node to the first, so that what holds further on is
-//! known where it is needed, and a node is computed anew only where a successor's set has changed since it was. When a
-//! sweep changes nothing, all is found: after two sweeps, and one more for each loop around another and for each jump
-//! backwards on a walk, as a rule. After Clarke, Emerson and Sistla (1986), over the sets of environments of Brunel,
-//! Doligez, Hansen, Lawall and Muller (POPL 2009).
+//! An until is the least fixpoint of rounds: it holds where its end holds, or where its way holds and the until holds next.
+//! The sets start empty and only grow. A sweep visits the nodes from the last to the first, so that what holds further on is
+//! known when it is needed, and recomputes a node only if the set of a successor has changed since the node was last
+//! computed. When a sweep changes nothing, the fixpoint is reached: as a rule after two sweeps, plus one for each loop that
+//! encloses another and for each jump backwards on a walk. After Clarke, Emerson and Sistla (1986), over the sets of
+//! environments of Brunel, Doligez, Hansen, Lawall and Muller (POPL 2009).
 //!
 //! Nothing here recurses over a formula or a graph.
 //!
 //! Its folders:
 //!
 //! - `ctl_holds`: Path satisfaction: at which nodes of a control-flow graph, and under which environments, a formula holds.
-//! - `need_words`: The words that a formula needs: where no token of an item is one of them, the formula holds nowhere in
-//!   the item.
+//! - `need_words`: The words that a formula needs: if an item lacks one of them, the formula holds nowhere in the item.
 #![tactic(auto)]
 
 mod blocks;

@@ -1,20 +1,20 @@
-//! The words that a formula needs: where no token of an item is one of them, the formula holds nowhere in the item.
+//! The words that a formula needs: if no token of an item is such a word, the formula holds nowhere in the item.
 //!
-//! - [`needed_words`] finds them, once for a formula.
-//! - [`may_hold`] says whether each stands among an item's tokens. Where one doesn't, the item needs no graph.
+//! - [`needed_words`] finds them, once per formula.
+//! - [`may_hold`] says whether each of them is among an item's tokens. If one isn't, the item needs no graph.
 //! - [`formulas_need_words`] is the law.
-//! - [`looks_of`] puts the forms of a pattern into runs that need the same word, and [`solve_by`] tries a run's forms at a node
-//!   only where the node's tree has the word.
+//! - [`looks_of`] groups the forms of a pattern into runs that need the same word, and [`solve_by`] tries a run's forms at a
+//!   node only if the node's tree may have the word.
 //!
-//! An atom needs the names, keywords, numbers and literals that all forms of its pattern spell; of a disjunction's branches those
-//! that each spells. Both parts of an `and` are needed, of an `or` what both parts need, of an until its last part. Under `not`
-//! nothing is needed.
+//! An atom needs the names, keywords, numbers and literals that all forms of its pattern spell; a disjunction spells those
+//! that each of its branches spells. An `and` needs what either part needs, an `or` what both parts need, and an until what
+//! its end needs. A `not` needs nothing.
 //!
 //! ```text
 //!     lock(x); ... \( unlock(x); \| unlock_all(); \)        needs lock
 //! ```
 //!
-//! What isn't needed by its words is left to ctl_fixpoint.
+//! An item that has all the needed words is left to the fixpoint.
 #![tactic(auto)]
 
 mod laws;

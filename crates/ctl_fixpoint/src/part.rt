@@ -1,4 +1,4 @@
-// The rows of a formula's parts, one after another.
+// The rows of a formula's parts, computed one after another.
 ghost use Rattle.std.specs.Prelude.{◌≡◌, ℕ, ◌<◌, true, false, List, [], length, IfOk};
 ghost use Rattle.cfg_build.specs.CfgGraph.Flow.{IsSound, count_of};
 ghost use Rattle.ctl_formula.specs.Formulas.{plain};
@@ -18,7 +18,7 @@ use ctl_formula::{Formula, Node};
 use env_sets::{EnvSet, StateRow, StateSets};
 use std::alloc::Global;
 
-/// The row of a part, by those of its parts.
+/// Returns the row of a part, given the rows of its parts.
 fn part_row(
     alloc: Global,
     g: &Graph,
@@ -41,14 +41,14 @@ fn part_row(
     }
 }
 
-/// For each part of the formula and each node of the graph the set of exactly the environments under which the part
-/// holds there. Parts go by their numbers in the formula's table. The patterns' sure variables stand in them, as those
-/// of every pattern do that a patch spells.
+/// Returns, for each part of the formula and each node of the graph, the set of exactly the environments under which the
+/// part holds there. Parts are numbered as in the formula's table. The sure variables of the formula's patterns must occur
+/// in them, as they do in every pattern that a patch spells.
 ///
-/// A part is computed once, an atom once a node; of an until each node is computed anew only where the set of a
-/// successor has changed, in as many sweeps over the nodes as it takes until nothing changes. Where edges lead back only
-/// to the heads of loops, nested d deep, that is linear in the nodes times d + 2 as a rule, apart from the sets; each
-/// further jump backwards on a walk may take one sweep more.
+/// Each part is computed once, and an atom once per node. Of an until, a node is recomputed only if the set of a successor
+/// has changed, in as many sweeps over the nodes as it takes until nothing changes. If edges lead back only to the heads of
+/// loops, nested d deep, this is as a rule linear in the nodes times d + 2, apart from the sets; each further jump backwards
+/// on a walk may take one more sweep.
 pub fn sat(alloc: Global, g: &Graph, f: &Formula) -> Result<StateSets, NoMemory>
     requires { EachPattern (SureStand f.now.decls f.now.tokens) (plain f.now) }
     ensures { IfOk result (λ sets. AreStateSets g.now f.now sets) }

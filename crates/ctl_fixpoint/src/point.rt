@@ -1,4 +1,4 @@
-// Parts that are told node by node.
+// Parts that are computed node by node.
 ghost use Rattle.std.specs.Prelude.{◌≡◌, ℕ, ◌<◌, Bool, true, false, not, ◌&&◌, ◌||◌, List, [], length};
 ghost use Rattle.std.specs.Prelude.{slice_index_or, slice_get, Some, IfOk, Contains};
 ghost use Rattle.cfg_build.specs.CfgGraph.Flow.{IsSound, count_of, succ_of, past_of, down_of};
@@ -24,7 +24,7 @@ use smpl_patch::{PatToken, Pattern, VarDecl};
 use smpl_terms::{Value, Var};
 use std::alloc::Global;
 
-/// Every environment, or none.
+/// Returns the set of all environments if `holds`, and the empty set otherwise.
 fn all_if(alloc: Global, holds: bool) -> Result<EnvSet, NoMemory>
     ensures gives { IfOk result (λ r. (env : Environment) → set_denotes r env ≡ holds) }
     ensures vars { IfOk result (λ r. (test : Var → Bool) → set_vars test r ≡ true) }
@@ -48,7 +48,7 @@ pub fn is_close(kind: NodeKind) -> bool
     matches!(kind, NodeKind::CloseBrace)
 }
 
-/// Where a body that leaves the function begins.
+/// Returns all environments if a body that leaves the function begins at the node, and none otherwise.
 fn bail_set(alloc: Global, g: &Graph, s: u32) -> Result<EnvSet, NoMemory>
     requires { s < count_of g.now }
     ensures gives { IfOk result (λ r. (env : Environment)
@@ -58,7 +58,7 @@ fn bail_set(alloc: Global, g: &Graph, s: u32) -> Result<EnvSet, NoMemory>
     all_if(alloc, g.label(s).bail)
 }
 
-/// Where the pattern matches at the node.
+/// Returns the environments under which the pattern matches at the node.
 fn atom_set(
     alloc: Global,
     g: &Graph,
@@ -79,7 +79,7 @@ fn atom_set(
     solve_by(alloc, looks, p, decls, tokens, &g.label(s))
 }
 
-/// Where the pattern matches at the node, and the variable is the place of its label's `{`.
+/// Returns the environments under which the pattern matches at the node and the variable is the place of its label's `{`.
 fn placed_set(
     alloc: Global,
     g: &Graph,
@@ -154,7 +154,7 @@ fn close_set(
     }
 }
 
-/// The row's set at every next node, or at some.
+/// Returns the environments that are in the row's sets at all next nodes, or at some of them.
 pub fn next_set(
     alloc: Global,
     g: &Graph,
@@ -177,7 +177,7 @@ pub fn next_set(
     }
 }
 
-/// The row's set past the node's statement.
+/// Returns the row's set at the node past this node's statement.
 fn past_set(alloc: Global, g: &Graph, x: &[EnvSet], s: u32) -> Result<EnvSet, NoMemory>
     requires sound { IsSound g.now }
     requires node { s < count_of g.now }
@@ -190,7 +190,7 @@ fn past_set(alloc: Global, g: &Graph, x: &[EnvSet], s: u32) -> Result<EnvSet, No
     set_there(alloc, g.past(s), x)
 }
 
-/// The row's set at the first node of a body.
+/// Returns the row's set at the first node of a body.
 fn down_set(alloc: Global, g: &Graph, body: usize, x: &[EnvSet], s: u32) -> Result<EnvSet, NoMemory>
     requires sound { IsSound g.now }
     requires node { s < count_of g.now }
@@ -203,8 +203,8 @@ fn down_set(alloc: Global, g: &Graph, body: usize, x: &[EnvSet], s: u32) -> Resu
     set_there(alloc, g.down(s, body), x)
 }
 
-/// The set of a part at a node, by the rows of its parts. It is told node by node, so it is no until, no quantifier and
-/// neither inside nor outside a block.
+/// Returns the set of a part at a node, given the rows of its parts. The part must be one that is computed node by node: no
+/// until, no quantifier, and neither `Inside` nor `Outside`.
 fn point_set(
     alloc: Global,
     g: &Graph,
@@ -247,7 +247,7 @@ fn point_set(
     }
 }
 
-/// The looks of the part's pattern, if it has one.
+/// Returns the looks of the part's pattern, if it has one.
 fn node_looks(alloc: Global, node: &Node) -> Result<Vec<Look>, NoMemory>
     ensures { IfOk result (λ looks. AreLooksOf node.now looks.items) }
 {
@@ -259,7 +259,8 @@ fn node_looks(alloc: Global, node: &Node) -> Result<Vec<Look>, NoMemory>
     }
 }
 
-/// The row of a part that is told node by node. Where its pattern has many forms, its looks are made once for all nodes.
+/// Returns the row of a part that is computed node by node. If its pattern has many forms, its looks are made once for all
+/// nodes.
 pub fn point_row(
     alloc: Global,
     g: &Graph,

@@ -12,7 +12,7 @@ use env_sets::{EnvSet, StateRow, meet};
 use pat_match::parts::{put_set, union};
 use std::alloc::Global;
 
-/// The row of a part.
+/// Returns the row of a part.
 pub fn row_at(rows: &[StateRow], i: usize) -> &[EnvSet]
     requires { i < length rows.now }
     ensures { result.now ≡ row_of rows.now i }
@@ -20,7 +20,7 @@ pub fn row_at(rows: &[StateRow], i: usize) -> &[EnvSet]
     rows[i].as_slice()
 }
 
-/// The set at a node.
+/// Returns the set at a node.
 pub fn set_in(row: &[EnvSet], s: u32) -> &EnvSet
     requires { s < length row.now }
     ensures { result.now ≡ set_of row.now s }
@@ -28,7 +28,7 @@ pub fn set_in(row: &[EnvSet], s: u32) -> &EnvSet
     &row[s as usize]
 }
 
-/// The set of a part at a node.
+/// Returns the set of a part at a node.
 pub fn set_at(rows: &[StateRow], i: usize, s: u32) -> &EnvSet
     requires part { i < length rows.now }
     requires node { s < length (row_of rows.now i) }
@@ -37,7 +37,7 @@ pub fn set_at(rows: &[StateRow], i: usize, s: u32) -> &EnvSet
     set_in(row_at(rows, i), s)
 }
 
-/// The environments that are in the sets of all these nodes.
+/// Returns the environments that are in the sets of all these nodes.
 pub fn every_next(alloc: Global, next: &[u32], x: &[EnvSet]) -> Result<EnvSet, NoMemory>
     requires { (k : ℕ) → Contains next.now k → k < length x.now }
     ensures gives { IfOk result (λ r. (env : Environment) → set_denotes r env
@@ -52,7 +52,8 @@ pub fn every_next(alloc: Global, next: &[u32], x: &[EnvSet]) -> Result<EnvSet, N
     Ok(out)
 }
 
-/// The environments that are in the set of some of these nodes. The set of a node alone is shared.
+/// Returns the environments that are in the set of at least one of these nodes. If there is only one node, its set is
+/// shared.
 pub fn some_next(alloc: Global, next: &[u32], x: &[EnvSet]) -> Result<EnvSet, NoMemory>
     requires { (k : ℕ) → Contains next.now k → k < length x.now }
     ensures gives { IfOk result (λ r. (env : Environment) → set_denotes r env
@@ -66,7 +67,7 @@ pub fn some_next(alloc: Global, next: &[u32], x: &[EnvSet]) -> Result<EnvSet, No
     }
 }
 
-/// The same. The entries of all are put in order together.
+/// Returns the same for any number of nodes. Sorts the entries of all their sets together.
 fn some_of(alloc: Global, next: &[u32], x: &[EnvSet]) -> Result<EnvSet, NoMemory>
     requires { (k : ℕ) → Contains next.now k → k < length x.now }
     ensures gives { IfOk result (λ r. (env : Environment) → set_denotes r env
@@ -81,7 +82,7 @@ fn some_of(alloc: Global, next: &[u32], x: &[EnvSet]) -> Result<EnvSet, NoMemory
     union(alloc, entries)
 }
 
-/// The set of a node, or none where there is no node.
+/// Returns the set of the node, or the empty set if there is no node.
 pub fn set_there(alloc: Global, node: Option<u32>, x: &[EnvSet]) -> Result<EnvSet, NoMemory>
     requires { (k : ℕ) → node ≡ Some k → k < length x.now }
     ensures gives { IfOk result (λ r. (env : Environment)

@@ -1,4 +1,4 @@
-// One sweep of an until: from the last node to the first, each where it may have changed.
+// One sweep of an until: it visits the nodes from the last to the first and recomputes those that may have changed.
 ghost use Rattle.std.specs.Prelude.{◌≡◌, ℕ, ◌+◌, ◌-◌, ◌<◌, ◌≤◌, ◌^◌, Bool, true, false, not, ◌&&◌, ◌||◌, List, []};
 ghost use Rattle.std.specs.Prelude.{length, slice_index_or, IfOk, Contains};
 ghost use Rattle.cfg_build.specs.CfgGraph.Flow.{IsSound, count_of, succ_of};
@@ -16,8 +16,8 @@ use env_sets::{EnvSet, join, meet, same_set};
 use std::alloc::Global;
 use std::marker::Model;
 
-/// The sets of an until so far, with the times at which each node was last computed, and at which its set last changed.
-/// The clock goes on by one with each change.
+/// The sets of an until so far, with the times at which each node was last computed and its set last changed. The clock
+/// advances by one with each change.
 #[derive(Drop)]
 pub struct Sweep {
     sets: Vec<EnvSet>,
@@ -38,7 +38,7 @@ impl Model for Sweep {
     ghost view = { λ w. record { sets = w.sets.items; seen = w.seen.items; changed = w.changed.items; clock = w.clock } };
 }
 
-/// What one round gives at a node: the end holds, or the way does and the sets so far next.
+/// Returns what one round yields at a node: the end holds, or the way holds and the sets so far hold next.
 fn round_set(
     alloc: Global,
     g: &Graph,
@@ -68,7 +68,7 @@ fn round_set(
 }
 
 impl Sweep {
-    /// No environment anywhere, and each node is still to be computed.
+    /// Creates a sweep in which no set has an environment and every node is still to be computed.
     pub fn new(
         alloc: Global,
         g: &Graph,
@@ -96,7 +96,7 @@ impl Sweep {
         })
     }
 
-    /// The sets.
+    /// Returns the sets.
     pub fn into_sets(self) -> Vec<EnvSet>
         ensures { result.items ≡ self.sets }
     {
@@ -122,7 +122,7 @@ impl Sweep {
         false
     }
 
-    /// Computes a node anew where it may have changed. Says whether it has.
+    /// Recomputes a node if it may have changed, and returns whether it has.
     fn visit(
         &mut self,
         alloc: Global,
@@ -154,7 +154,7 @@ impl Sweep {
         Ok(true)
     }
 
-    /// Visits each node, the last one first. Says whether a set has changed.
+    /// Visits each node, from the last to the first, and returns whether a set has changed.
     pub fn go_over(
         &mut self,
         alloc: Global,

@@ -1,4 +1,4 @@
-// Rows of untils and of quantifiers.
+// The rows of untils and of quantifiers.
 ghost use Rattle.std.specs.Prelude.{◌≡◌, ℕ, ◌<◌, Bool, true, false, ◌||◌, List, [], length, IfOk};
 ghost use Rattle.cfg_build.specs.CfgGraph.Flow.{IsSound, count_of};
 ghost use Rattle.smpl_terms.specs.declared.var.Var.{Var};
@@ -14,7 +14,7 @@ use env_sets::{EnvSet, project};
 use smpl_terms::Var;
 use std::alloc::Global;
 
-/// The row of an until, by those of its way and its end: sweeps until one changes nothing.
+/// Returns the row of an until, given those of its way and its end. Sweeps until a sweep changes nothing.
 pub fn until_row(
     alloc: Global,
     g: &Graph,
@@ -41,7 +41,7 @@ pub fn until_row(
     Ok(sweep.into_sets())
 }
 
-/// The row of a quantifier: the variable may have any value.
+/// Returns the row of a quantifier, given that of its part: the variable may have any value.
 pub fn exists_row(alloc: Global, x: &Var, row: &[EnvSet]) -> Result<Vec<EnvSet>, NoMemory>
     ensures gives { IfOk result (λ r. Projects (length row.now) x.now row.now r.items) }
     ensures vars { IfOk result (λ r. (test : Var → Bool)

@@ -91,7 +91,7 @@ depth-few f = omega arith
 le-counted : (a m : ℕ) → nat_le (min a (m + 1)) m ≡ nat_le a m
 le-counted a m = grind (arith, nat_tests)
 
--- a formula fits where its counts do
+-- a formula fits exactly if its counts do
 pub fits-counted : (f : Plain) → (nat_le (counted_size f) 100000 && nat_le (counted_depth f) 4000) ≡ fits f
 fits-counted f = ap₂ (λ a b. a && b) (le-counted (size f) 100000) (le-counted (depth f) 4000)
 

@@ -1,4 +1,4 @@
--- Formulas, and the tables that they stand in, may go to other threads and be shared by them.
+-- Formulas and the tables they are in may be sent to other threads and shared by them.
 use denote.Param.Send.{IsSend, IsSync, sendable}
 use Rattle.std.proofs.Crossing.{crosses}
 use Rattle.std.proofs.MapsCrossing as maps

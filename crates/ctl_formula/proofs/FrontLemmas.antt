@@ -1,4 +1,4 @@
--- What a node's formula is, by the parts before it.
+-- A node's formula, given the parts before it.
 use Rattle.std.proofs.Common.{◌≡◌, ℕ, zero, suc, ◌<◌, ◌≤◌, true, arith, refl, sym, ap, ◌∙◌, List, [], ◌∷◌}
 use Rattle.std.proofs.Common.{◌++◌, length, take, drop}
 use Rattle.std.proofs.lemmas.Grind.{common_steps}

@@ -1,4 +1,4 @@
--- Tables grow at their end, and a part that stands keeps its formula.
+-- Tables grow at their end, and existing parts keep their formulas.
 use Rattle.std.proofs.Common.{◌≡◌, ℕ, zero, suc, ◌+◌, ◌<◌, ◌≤◌, Bool, true, false, ◌&&◌, nat_lt, arith, refl}
 use Rattle.std.proofs.Common.{sym, ap, ◌∙◌, List, [], ◌∷◌, ◌++◌, length, append_assoc}
 use Rattle.std.proofs.Common.{append-nil, length-append, Some}
@@ -19,7 +19,7 @@ plains_from-append fs (n ∷ ns) ms = plains_from-append (fs ++ plain_of fs n �
 pub plains-push : (ns : List Node) (n : Node) → plains (ns ++ n ∷ []) ≡ plains ns ++ plain_of (plains ns) n ∷ []
 plains-push ns n = plains_from-append [] ns (n ∷ [])
 
--- what is there stays at the front
+-- existing formulas stay at the front
 pub plains_from-front : (fs : List Plain) (ns : List Node) → (more : List Plain) × (plains_from fs ns ≡ fs ++ more)
 plains_from-front fs [] = ([], sym (append-nil fs))
 plains_from-front fs (n ∷ ns) =
@@ -37,7 +37,7 @@ length-plains_from fs (n ∷ ns) = let r = length-plains_from (fs ++ plain_of fs
 pub length-plains : (ns : List Node) → length (plains ns) ≡ length ns
 length-plains ns = let r = length-plains_from [] ns in omega (arith, r)
 
--- parts in front don't move
+-- parts at the front don't move
 pub at-front : (fs more : List Plain) (i : ℕ) → i < length fs → at (fs ++ more) i ≡ at fs i
 at-front [] more i h = absurd (omega (arith, h))
 at-front (f ∷ fs) more zero h = refl
@@ -154,7 +154,7 @@ pub made-found : (ns : List Node) (i : ℕ) (n : Node) → ordered ns ≡ true �
     → Makes ns ns i (plain_of (plains ns) n)
 made-found ns i n o h e = record { within = h; is = at-node ns i n o e; grows = grows-refl ns }
 
--- a node that is put at the end
+-- a node that is added at the end
 pub made-pushed : (ns : List Node) (n : Node) → Makes ns (ns ++ n ∷ []) (length ns) (plain_of (plains ns) n)
 made-pushed ns n = record {
   within = omega (arith, length-append ns (n ∷ []));

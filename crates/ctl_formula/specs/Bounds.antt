@@ -26,7 +26,7 @@ each_quantifier test (Past f) = each_quantifier test f
 each_quantifier test (Down i f) = each_quantifier test f
 each_quantifier test (Exists x f) = test x f && each_quantifier test f
 
--- which variables are sure in an atom
+-- which variables an atom surely has
 abbrev pub Surely : Type 0
 Surely = Pattern → Var → Bool
 
@@ -74,6 +74,6 @@ module _ (sure : Surely) where
   abbrev pub guarded : Plain → Bool
   guarded f = each_quantifier (λ x g. bound g x) f
 
-  -- the quantifiers of x are so
+  -- the same for the quantifiers of x only
   abbrev pub guarded_for : Var → Plain → Bool
   guarded_for x f = each_quantifier (λ y g. not (same_var y x) || bound g x) f

@@ -5,7 +5,7 @@ use Rattle.ctl_formula.specs.declared.node.Node.{Node}
 use Rattle.ctl_formula.specs.declared.parts.Part.{Part}
 use Rattle.ctl_formula.specs.Tables.{plains, ordered}
 
--- what is above the limit counts as one above it
+-- a count above its limit becomes the limit plus one
 abbrev pub counted_size : Plain → ℕ
 counted_size f = min (size f) (most_parts + 1)
 

@@ -8,7 +8,7 @@ use Rattle.ctl_formula.specs.Plain.{Plain, fits}
 use Rattle.ctl_formula.specs.declared.node.Node.{Node}
 use Rattle.ctl_formula.specs.Tables.{at, plains, ordered}
 
--- a table and the part that the whole formula is, with the declarations and the tokens that its patterns are read by
+-- a table, and the part that is the whole formula, with the declarations and tokens that its patterns are read with
 pub record FormulaOf : Type 0 where
   pub nodes : List Node
   pub root : ℕ

@@ -11,7 +11,7 @@ pub data Plain : Type 0 where
   -- a brace, and the variable whose value is the place of the `{`
   BraceOpen : Pattern → Var → Plain
   BraceClose : Pattern → Var → Plain
-  -- the node stands in the block whose `{` is the variable's value, and neither in that block nor at its `}`
+  -- the node is in the block whose `{` is the variable's value; the node is neither in that block nor at its `}`
   Inside : Var → Plain
   Outside : Var → Plain
   Not : Plain → Plain
@@ -21,12 +21,12 @@ pub data Plain : Type 0 where
   EX : Plain → Plain
   AU : Plain → Plain → Plain
   EU : Plain → Plain → Plain
-  -- at the node past the statement, and at the statement's body of a number
+  -- at the node past the statement; at the statement's body with this number
   Past : Plain → Plain
   Down : ℕ → Plain → Plain
   Exists : Var → Plain → Plain
 
--- how many subformulas there are, f among them; a part that stands at two places counts twice
+-- how many subformulas there are, f itself included; a part that occurs twice counts twice
 abbrev pub size : Plain → ℕ
 size True = 1
 size (Atom p) = 1
@@ -46,7 +46,7 @@ size (Past f) = 1 + size f
 size (Down i f) = 1 + size f
 size (Exists x f) = 1 + size f
 
--- how many subformulas stand around the one that stands inside the most
+-- the largest number of subformulas around any one subformula
 abbrev pub depth : Plain → ℕ
 depth True = 0
 depth (Atom p) = 0
@@ -66,7 +66,7 @@ depth (Past f) = 1 + depth f
 depth (Down i f) = 1 + depth f
 depth (Exists x f) = 1 + depth f
 
--- the most subformulas that a formula may have, and the most that may stand around one
+-- the largest number of subformulas that a formula may have, and of those around one
 abbrev pub most_parts : ℕ
 most_parts = 100000
 

@@ -10,7 +10,7 @@ use Rattle.ctl_formula.specs.declared.node.Node.TheVariants as node
 abbrev pub at : List Plain → ℕ → Plain
 at fs i = slice_index_or fs i plain.True
 
--- a node's formula, by those of its parts
+-- a node's formula, given those of its parts
 abbrev pub plain_of : List Plain → Node → Plain
 plain_of fs node.True = plain.True
 plain_of fs (node.Atom p) = plain.Atom p
@@ -38,7 +38,7 @@ plains_from fs (n ∷ ns) = plains_from (fs ++ plain_of fs n ∷ []) ns
 abbrev pub plains : List Node → List Plain
 plains ns = plains_from [] ns
 
--- the node's parts have numbers below n
+-- the numbers of the node's parts are below n
 abbrev pub below : ℕ → Node → Bool
 below n node.True = true
 below n (node.Atom p) = true
@@ -71,11 +71,11 @@ pub record Stands (ns : List Node) (i : ℕ) (n : Node) : Type 0 where
   pub within : i < length ns
   pub is : slice_get ns i ≡ Some n
 
--- the new table is the old one and perhaps more
+-- the new table is the old one, possibly with more nodes at its end
 abbrev pub Grows : List Node → List Node → Type 0
 Grows old new = (more : List Node) × (new ≡ old ++ more)
 
--- part i of the new table is the formula, and the old parts stand as they were
+-- part i of the new table is the formula, and the old parts are unchanged
 pub record Makes (old new : List Node) (i : ℕ) (f : Plain) : Type 0 where
   pub within : i < length new
   pub is : at (plains new) i ≡ f

@@ -13,9 +13,9 @@ use sqlite_items::Items;
 use std::alloc::Global;
 use std::marker::Model;
 
-/// A formula with the declarations and the pattern tokens of its rule. Each variable is bound by the formula under each
-/// of its quantifiers. There are at most 100,000 subformulas, each inside at most 4,000 others; as a rule equal
-/// ones are kept once, and have one number.
+/// A formula together with the declarations and pattern tokens of its rule. Each variable is bound by the formula under
+/// each of its quantifiers. There are at most 100,000 subformulas, each inside at most 4,000 others. Equal subformulas
+/// are normally stored once, under one number.
 #[derive(Drop)]
 pub struct Formula {
     parts: Parts,
@@ -42,7 +42,7 @@ impl Model for Formula {
 }
 
 impl Formula {
-    /// The formula that a part of a table is. Takes no memory.
+    /// Returns the formula that a part of a table stands for. Allocates nothing.
     pub fn of(parts: Parts, root: usize, decls: Items<VarDecl>, tokens: Items<PatToken>) -> Formula
         requires within { root < length parts }
         requires fits { fits (at (plains parts) root) ≡ true }
@@ -60,7 +60,7 @@ impl Formula {
         }
     }
 
-    /// The number of the node that the whole formula is.
+    /// Returns the number of the node that represents the whole formula.
     pub fn root(&self) -> usize
         ensures root { result ≡ self.now.root }
         ensures within { result < length self.now.nodes }
@@ -69,14 +69,14 @@ impl Formula {
         self.root
     }
 
-    /// How many nodes the table has.
+    /// Returns the number of nodes in the table.
     pub fn len(&self) -> usize
         ensures len { result ≡ length self.now.nodes }
     {
         self.parts.len()
     }
 
-    /// A node by its number.
+    /// Returns the node with the given number.
     pub fn node(&self, i: usize) -> &Node
         requires { i < length self.now.nodes }
         ensures node { slice_get self.now.nodes i ≡ Some result.now }
@@ -86,21 +86,21 @@ impl Formula {
         self.parts.node(i)
     }
 
-    /// The declarations of the rule.
+    /// Returns the declarations of the rule.
     pub fn decls(&self) -> &[VarDecl]
         ensures decls { result.now ≡ self.now.decls }
     {
         self.decls.as_slice()
     }
 
-    /// The pattern tokens of the rule.
+    /// Returns the pattern tokens of the rule.
     pub fn tokens(&self) -> &[PatToken]
         ensures tokens { result.now ≡ self.now.tokens }
     {
         self.tokens.as_slice()
     }
 
-    /// An equal formula, ids included. Linear in the table.
+    /// Returns an equal formula, ids included. Takes time linear in the table.
     pub fn copy(&self, alloc: Global) -> Result<Formula, NoMemory>
         ensures same { IfOk result (λ copied. copied ≡ self.now) }
     {
@@ -111,7 +111,7 @@ impl Formula {
     }
 }
 
-/// Equal declarations. Linear.
+/// Returns equal declarations. Takes linear time.
 pub fn copy_decls(alloc: Global, decls: &[VarDecl]) -> Result<Items<VarDecl>, NoMemory>
     ensures copies { IfOk result (λ copies. copies ≡ decls.now) }
 {
@@ -122,7 +122,7 @@ pub fn copy_decls(alloc: Global, decls: &[VarDecl]) -> Result<Items<VarDecl>, No
     Ok(Items::from_vec(copies))
 }
 
-/// Equal pattern tokens, ids included. Linear.
+/// Returns equal pattern tokens, ids included. Takes linear time.
 pub fn copy_tokens(alloc: Global, tokens: &[PatToken]) -> Result<Items<PatToken>, NoMemory>
     ensures copies { IfOk result (λ copies. copies ≡ tokens.now) }
 {
@@ -133,8 +133,8 @@ pub fn copy_tokens(alloc: Global, tokens: &[PatToken]) -> Result<Items<PatToken>
     Ok(Items::from_vec(copies))
 }
 
-/// How many subformulas the formula has; one that stands at several places counts at each. Takes no memory, and the
-/// same time for any formula.
+/// Returns the number of subformulas of the formula; one that occurs several times counts each time. Allocates nothing
+/// and takes constant time.
 pub fn parts_of(f: &Formula) -> u32
     ensures size { result ≡ size (plain f.now) }
 {

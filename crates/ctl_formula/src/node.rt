@@ -6,22 +6,22 @@ use smpl_patch::{Pattern, is_equal_pattern};
 use smpl_terms::{Var, same_var};
 use std::alloc::Global;
 
-/// A formula over the nodes of a graph, whose parts are named by their numbers in a table.
+/// A formula over the nodes of a graph, whose parts are given by their numbers in a table.
 #[derive(Drop)]
 pub enum Node {
-    /// It holds everywhere.
+    /// Holds everywhere.
     True,
     /// The pattern matches at the node.
     Atom(Pattern),
     /// The node begins a body that leaves the function.
     Bail,
-    /// The pattern matches at an opening brace, and the variable is its place.
+    /// The pattern matches at an opening brace, and the variable's value is its place.
     BraceOpen(Pattern, Var),
-    /// The pattern matches at a closing brace, and the variable is the place of its `{`.
+    /// The pattern matches at a closing brace, and the variable's value is the place of the matching `{`.
     BraceClose(Pattern, Var),
-    /// The node stands in the block whose `{` is at the variable's place: at that `{` or after it, and before the `}`.
+    /// The node is in the block whose `{` is at the variable's place: at that `{` or after it, and before the `}`.
     Inside(Var),
-    /// The node stands outside that block, and isn't its `}`.
+    /// The node is outside that block, and isn't its `}`.
     Outside(Var),
     /// `not f`
     Not(usize),
@@ -29,24 +29,24 @@ pub enum Node {
     And(usize, usize),
     /// `f or g`
     Or(usize, usize),
-    /// `f` at every next node.
+    /// `f` holds at every next node.
     AX(usize),
-    /// `f` at some next node.
+    /// `f` holds at some next node.
     EX(usize),
-    /// `A[f U g]`: every walk comes to `g`, through nodes with `f`.
+    /// `A[f U g]`: every walk reaches `g`, through nodes with `f`.
     AU(usize, usize),
-    /// `E[f U g]`: some walk comes to `g`, through nodes with `f`.
+    /// `E[f U g]`: some walk reaches `g`, through nodes with `f`.
     EU(usize, usize),
-    /// `f` at the node past the statement.
+    /// `f` holds at the node past the statement.
     Past(usize),
-    /// `f` at the node's body of this number.
+    /// `f` holds at the node's body with this number.
     Down(usize, usize),
-    /// `f` under some value of the variable.
+    /// `f` holds under some value of the variable.
     Exists(Var, usize),
 }
 
 impl Node {
-    /// An equal node, ids included.
+    /// Returns an equal node, ids included.
     pub fn copy(&self, alloc: Global) -> Result<Node, NoMemory>
         ensures same { IfOk result (λ copied. copied ≡ self.now) }
     {
@@ -72,7 +72,7 @@ impl Node {
     }
 }
 
-/// Whether the two are equal, ids included. Takes no memory.
+/// Whether the two nodes are equal, ids included. Allocates nothing.
 pub fn is_equal_node(a: &Node, b: &Node) -> bool
     ensures equal { IsTrue result → a.now ≡ b.now }
     ensures found { a.now ≡ b.now → IsTrue result }
@@ -108,7 +108,7 @@ fn is_equal_var(x: &Var, y: &Var) -> bool
     same_var(x, y)
 }
 
-/// Where a table looks for an equal node. Equal nodes have equal keys.
+/// Returns the key under which a table looks for an equal node. Equal nodes have equal keys.
 pub fn key(node: &Node) -> (u8, usize, usize) {
     match node {
         Node::True => (0, 0, 0),
@@ -131,7 +131,7 @@ pub fn key(node: &Node) -> (u8, usize, usize) {
     }
 }
 
-/// Variables of one part differ by their names, as a rule.
+/// Variables of one part normally differ by their names.
 fn key_of_var(x: &Var) -> usize {
     let mut key = x.rule as usize;
     for b in x.name.as_bytes() {

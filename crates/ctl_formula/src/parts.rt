@@ -1,4 +1,4 @@
-// The table in which a formula is made.
+// The table in which a formula is built.
 ghost use Rattle.std.specs.Prelude.{◌≡◌, ◌<◌, ◌≤◌, ◌+◌, min, true, [], ◌∷◌, ◌++◌, length, slice_get};
 ghost use Rattle.std.specs.Prelude.{IfOk, IfSome, OnOk, OnErr};
 ghost use Rattle.ctl_formula.specs.Plain.{fits, most_parts, most_around};
@@ -12,14 +12,14 @@ use std::alloc::Global;
 use std::collections::HashMap;
 use std::marker::Model;
 
-/// The most subformulas that a formula has.
+/// The largest number of subformulas that a formula may have.
 pub const MOST_PARTS: u32 = 100_000;
 
-/// The most others that a subformula is inside.
+/// The largest number of other subformulas that a subformula may be inside.
 pub const MOST_AROUND: u32 = 4_000;
 
-/// A node, and what is counted on its formula: a part that stands at two places counts twice. What is above a limit
-/// counts as one above it.
+/// A node, and the counts of its formula: a part that occurs twice counts twice. A count above its limit is stored as
+/// the limit plus one.
 #[derive(Drop)]
 struct Part {
     node: Node,
@@ -27,7 +27,7 @@ struct Part {
     depth: u32,
 }
 
-/// Nodes, each after its parts. As a rule equal nodes are kept once. Contracts see the list of nodes.
+/// Nodes, each after its parts. Equal nodes are normally stored once. Contracts see the list of nodes.
 #[derive(Drop)]
 pub struct Parts {
     parts: Vec<Part>,
@@ -52,7 +52,7 @@ impl Model for Parts {
 }
 
 impl Parts {
-    /// No nodes.
+    /// Returns a table without nodes.
     pub fn new(alloc: Global) -> Parts
         ensures empty { result ≡ [] }
     {
@@ -62,14 +62,14 @@ impl Parts {
         }
     }
 
-    /// How many nodes there are.
+    /// Returns the number of nodes.
     pub fn len(&self) -> usize
         ensures len { result ≡ length self.now }
     {
         self.parts.len()
     }
 
-    /// A node by its number.
+    /// Returns the node with the given number.
     pub fn node(&self, i: usize) -> &Node
         requires { i < length self.now }
         ensures node { slice_get self.now i ≡ Some result.now }
@@ -79,7 +79,8 @@ impl Parts {
         &self.parts[i].node
     }
 
-    /// How many subformulas a node's formula has; one more than [`MOST_PARTS`] where there are more. Constant time.
+    /// Returns the number of subformulas of a node's formula, or [`MOST_PARTS`] plus one if there are more. Takes
+    /// constant time.
     pub fn size(&self, i: usize) -> u32
         requires { i < length self.now }
         ensures size { result ≡ counted_size (at (plains self.now) i) }
@@ -88,8 +89,8 @@ impl Parts {
         self.parts[i].size
     }
 
-    /// The most other subformulas that one of a node's formula is inside; one more than [`MOST_AROUND`] where there
-    /// are more. Constant time.
+    /// Returns the largest number of other subformulas that a subformula of the node's formula is inside, or
+    /// [`MOST_AROUND`] plus one if there are more. Takes constant time.
     pub fn depth(&self, i: usize) -> u32
         requires { i < length self.now }
         ensures depth { result ≡ counted_depth (at (plains self.now) i) }
@@ -98,7 +99,7 @@ impl Parts {
         self.parts[i].depth
     }
 
-    /// Whether a node's formula is within the limits. Constant time.
+    /// Whether a node's formula is within the limits. Takes constant time.
     pub fn fits(&self, i: usize) -> bool
         requires { i < length self.now }
         ensures fits { result ≡ fits (at (plains self.now) i) }
@@ -174,7 +175,7 @@ impl Parts {
         None
     }
 
-    /// From now on equal nodes are looked for at this number.
+    /// Makes later look-ups of equal nodes try this number.
     fn remember(&mut self, node: &Node, i: usize) -> Result<(), NoMemory>
         ensures same { self.new ≡ self.old }
     {
@@ -197,8 +198,9 @@ impl Parts {
         Ok(())
     }
 
-    /// A node with the formula that this node is over the parts. An equal one is found, in constant time as a rule. There
-    /// may be as many nodes as memory has room for; where it is refused, the table is as it was.
+    /// Returns the number of a node whose formula is this node over its parts, adding it if no equal one is found.
+    /// Normally takes constant time. The number of nodes is limited only by memory; when out of memory, the table is
+    /// unchanged.
     pub fn push(&mut self, node: Node) -> Result<usize, NoMemory>
         requires { below (length self.old) node ≡ true }
         ensures made { IfOk result (λ i. Makes self.old self.new i (plain_of (plains self.old) node)) }
@@ -215,7 +217,7 @@ impl Parts {
         Ok(i)
     }
 
-    /// The same nodes, which are found again as here. Linear.
+    /// Returns a table with the same nodes, which are found as they are here. Takes linear time.
     pub fn copy(&self, alloc: Global) -> Result<Parts, NoMemory>
         ensures same { IfOk result (λ copied. copied ≡ self.now) }
     {

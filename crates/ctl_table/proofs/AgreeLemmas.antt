@@ -1,4 +1,4 @@
--- The table goes by what follows only at scopes that begin with the scope at hand.
+-- The table depends on what follows only at scopes that begin with the current scope.
 use Rattle.std.proofs.Common.{◌≡◌, not, refl, sym, ap, ◌∙◌, List, [], ◌∷◌, ◌++◌, append_assoc, append-nil, Option, None, Some}
 use Rattle.std.specs.List.{filter}
 use Rattle.smpl_terms.specs.declared.var.Var.{Var}
@@ -9,7 +9,7 @@ use Rattle.pattern_vars.specs.VarPlaces.Placing.{occurs_element, occurs_body, at
 use Rattle.ctl_table.specs.Table as table
 use Rattle.ctl_table.specs.Settings.{Agree}
 
--- an equation at this scope and more, where there are no more
+-- an equation at this scope with further variables, when there are no further ones
 agree-end : (f g : List Var → Plain) (s : List Var) → f (s ++ []) ≡ g (s ++ []) → f s ≡ g s
 agree-end f g s e = sym (ap f (append-nil s)) ∙ e ∙ ap g (append-nil s)
 
@@ -23,7 +23,7 @@ agree-later k h s here a = record {
   same = λ more. ap k.at (append_assoc s here more) ∙ a.same (here ++ more) ∙ sym (ap h.at (append_assoc s here more));
 }
 
--- a row that goes by how what follows begins, and by its formula at this scope
+-- a row that depends on how what follows begins, and on its formula at this scope
 agree-row : (row : table.Start → Plain → Plain) (k h : table.Follow) (s : List Var) → Agree s k h
     → row k.start (k.at s) ≡ row h.start (h.at s)
 agree-row row k h s a = ap (λ (z : table.Start). row z (k.at s)) a.starts ∙ ap (row h.start) (agree-here k h s a)

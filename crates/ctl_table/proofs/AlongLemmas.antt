@@ -1,4 +1,4 @@
--- A sequence is worked off from its end: the formula of each suffix is that of its first element before the next one's.
+-- A sequence is processed from its end: the formula of each suffix is that of its first element before the next one's.
 use Rattle.std.proofs.Common.{◌≡◌, ℕ, suc, ◌+◌, ◌<◌, ◌++◌, arith, refl, sym, ap, ◌∙◌, subst, List, [], ◌∷◌, length, get_or, drop, Option, None, Some}
 use Rattle.std.specs.List.{filter}
 use Rattle.std.proofs.Math.Path.{fun_ext}
@@ -62,7 +62,7 @@ drop-end : {A : Type 0} (xs : List A) (n : ℕ) → n ≡ length xs → drop n x
 drop-end [] n e = ap (λ (z : ℕ). drop z []) e
 drop-end (x ∷ xs) n e = ap (λ (z : ℕ). drop z (x ∷ xs)) e ∙ drop-end xs (length xs) refl
 
--- the formula of a list's suffixes, as a fact of the lists that are left
+-- the formula of a list's suffixes, stated about the lists that are left
 abbrev Reaches : table.Setting → table.Follow → List Node → List Node → Made → List Elem → List Place → Type 0
 Reaches m k a b f es ps = MakesFollow m a b f (begins es k.start) (along m k es ps)
 

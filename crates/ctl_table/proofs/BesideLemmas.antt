@@ -1,4 +1,4 @@
--- The atoms beside dots: the equations of their definitions, and that they stay what they are while the table grows.
+-- The atoms beside dots: the equations of their definitions, and that they keep their formulas while the table grows.
 use Rattle.std.proofs.Common.{◌≡◌, ℕ, zero, suc, ◌<◌, ◌≤◌, Bool, true, false, cond, not, ◌||◌, nat_lt, arith, refl, sym, ap, subst, ◌∙◌, List, [], ◌∷◌, ◌++◌, map, length, take, get_or, ◌+◌, Option, Some}
 use Rattle.std.specs.List.{filter, list_any}
 use Rattle.std.proofs.Math.Seq.{take-length}
@@ -133,7 +133,7 @@ each-cong fs s t (b ∷ bs) e h =
     ∙ ap (λ (z : List Plain). option_list (beside_at fs b t) ++ z)
     (each-cong fs s t bs e.1 (λ x n. h x (or-right (names_in b x) (list_any (λ f. f x) (map names_in bs)) n)))
 
--- two scopes that have the same of the atoms' variables
+-- two scopes that contain the same ones of the atoms' variables
 pub beside-cong : (fs : List Plain) (s t : Scope) (b : Beside) → ((x : Var) → names_in b x ≡ true → in_scope s x ≡ in_scope t x) → beside_at fs b s ≡ beside_at fs b t
 beside-cong fs s t = induction (λ b. ((x : Var) → names_in b x ≡ true → in_scope s x ≡ in_scope t x) → beside_at fs b s ≡ beside_at fs b t)
     (λ i vars h.
@@ -144,7 +144,7 @@ beside-cong fs s t = induction (λ b. ((x : Var) → names_in b x ≡ true → i
     (λ bs e h.
     at-Any fs bs s ∙ ap or_some (each-cong fs s t bs e (λ x n. h x (names-Any bs x ∙ n))) ∙ sym (at-Any fs bs t))
 
--- of what is quantified, those that the atoms have
+-- of what is quantified, the variables that the atoms have
 pub inner-same : (names more : List Var) (x : Var) → has names x ≡ true → in_scope (filter (has names) more) x ≡ in_scope more x
 inner-same names [] x h = refl
 inner-same names (y ∷ ys) x h = by (has names y) refl (inner-same names ys x h)
@@ -158,7 +158,7 @@ inner-same names (y ∷ ys) x h = by (has names y) refl (inner-same names ys x h
     by true e r = ap (λ z. same_var y x || z) r
     by false e r = r ∙ sym (ap (λ z. z || in_scope ys x) (apart (same_var y x) refl e))
 
--- how deep these are within one another: what a recursion over them goes down by
+-- how deeply these are nested: the measure of a recursion over them
 
 abbrev levels_step : Beside-F ℕ → ℕ
 levels_step (Beside-F.Atom i vars) = 0

@@ -1,4 +1,4 @@
--- The table from bodies to formulas, where dots stand in blocks.
+-- The table from bodies to formulas, for dots in blocks.
 use Rattle.std.proofs.Common.{◌≡◌, ℕ, Bool, true, false, refl, List, [], ◌∷◌, Some, None}
 use Rattle.std.specs.Prelude.{codes}
 use Rattle.std.specs.Fmt.{digits}
@@ -17,15 +17,15 @@ b0 = v 0 (123 ∷ codes "0")
 abbrev b1 : Var
 b1 = v 0 (123 ∷ codes "1")
 
--- the formula of a body in which no variable stands
+-- the formula of a body without variables
 abbrev plain : Bool → Body → Plain
 plain forall_walks b = formula (reads [] [] []) forall_walks [] b
 
--- a block as a whole body, by its formula inside
+-- a block as a whole body, given its formula inside
 abbrev block : Plain → Plain
 block f = And (Exists b0 (And (BraceOpen (p 0) b0) (Down 0 f))) (Past True)
 
--- `{ a(); ... b(); }`: dots pass nodes of the block alone, and what follows them stands in it
+-- `{ a(); ... b(); }`: dots pass only nodes of the block, and what follows them is in it
 between_statements : plain false (Then (Block (p 0) (Then (bodies.Atom (p 1)) (Then (Gap NoMore false false)
     (Then (bodies.Atom (p 2)) End))) (p 3)) End)
     ≡ block (And (Atom (p 1)) (EX (EU (And (And (Inside b0) (Not (Atom (p 1)))) (Not (Atom (p 2))))
@@ -33,8 +33,8 @@ between_statements : plain false (Then (Block (p 0) (Then (bodies.Atom (p 1)) (T
 unfolding digits
 between_statements = refl
 
--- `{ ... a(); ... }`: dots that nothing but the `}` follows may end where their way leaves the block; those that are first
--- stand alone
+-- `{ ... a(); ... }`: dots that are followed only by the `}` may end where their way leaves the block; dots that come
+-- first have no neighbour before them
 before_the_end : plain false (Then (Block (p 0) (Then (Gap NoMore false false) (Then (bodies.Atom (p 1))
     (Then (Gap NoMore false false) End))) (p 2)) End)
     ≡ block (EU (And (Inside b0) (Not (Atom (p 1)))) (And (Inside b0) (And (Atom (p 1))
@@ -50,14 +50,14 @@ before_the_end_forall : plain true (Then (Block (p 0) (Then (bodies.Atom (p 1)) 
 unfolding digits
 before_the_end_forall = refl
 
--- `when any` lets dots pass their neighbours, not the block
+-- `when any` lets dots pass their neighbours, but not leave the block
 any_in_block : plain false (Then (Block (p 0) (Then (bodies.Atom (p 1)) (Then (Gap NoMore true false)
     (Then (bodies.Atom (p 2)) End))) (p 3)) End)
     ≡ block (And (Atom (p 1)) (EX (EU (Inside b0) (And (Inside b0) (And (Atom (p 2)) (Past (BraceClose (p 3) b0)))))))
 unfolding digits
 any_in_block = refl
 
--- the parts for `when` code come after the block's, and dots in that code stand in the block too
+-- the parts for `when` code come after the block's, and dots in that code are in the block too
 when_in_block : plain false (Then (Block (p 0) (Then (bodies.Atom (p 1))
     (Then (Gap (More (Then (bodies.Atom (p 4)) (Then (Gap NoMore false false) (Then (bodies.Atom (p 5)) End))) NoMore) false false)
     (Then (bodies.Atom (p 2)) End))) (p 3)) End)
@@ -68,7 +68,7 @@ when_in_block : plain false (Then (Block (p 0) (Then (bodies.Atom (p 1))
 unfolding digits
 when_in_block = refl
 
--- dots of a branch stay in the block around the branch, also where the branch is excluded alone
+-- dots of a branch stay in the block around the branch, even when the branch is excluded alone
 branch_in_block : plain false (Then (Block (p 0) (Then (AnyOf (More (Then (bodies.Atom (p 1)) (Then (Gap NoMore false false)
     (Then (bodies.Atom (p 2)) End))) (More (Then (bodies.Atom (p 3)) End) NoMore))) End) (p 4)) End)
     ≡ block (Or (And (Atom (p 1)) (EX (EU (And (And (Inside b0) (Not (Atom (p 1)))) (Not (Atom (p 2))))
@@ -88,7 +88,7 @@ nest_in_block : plain false (Then (Block (p 0) (Then (bodies.Atom (p 1)) (Then (
 unfolding digits
 nest_in_block = refl
 
--- dots of a nested block stay in that block, and those after it in the outer one
+-- dots of a nested block stay in that block, and those after it stay in the outer one
 nested_block : plain false (Then (Block (p 0) (Then (Block (p 1) (Then (bodies.Atom (p 2)) (Then (Gap NoMore false false) End)) (p 3))
     (Then (Gap NoMore false false) (Then (bodies.Atom (p 4)) End))) (p 5)) End)
     ≡ block (And (Exists b1 (And (BraceOpen (p 1) b1) (Down 0 (And (Atom (p 2))
@@ -97,7 +97,7 @@ nested_block : plain false (Then (Block (p 0) (Then (Block (p 1) (Then (bodies.A
 unfolding digits
 nested_block = refl
 
--- dots after a block that is in no other one are as ever
+-- dots after a block that is not nested in another are ordinary dots
 after_block : plain false (Then (Block (p 0) (Then (bodies.Atom (p 1)) (Then (Gap NoMore false false) End)) (p 2))
     (Then (Gap NoMore false false) (Then (bodies.Atom (p 3)) End)))
     ≡ And (Exists b0 (And (BraceOpen (p 0) b0) (Down 0 (And (Atom (p 1))

@@ -22,7 +22,7 @@ use Rattle.ctl_table.specs.declared.follow.Start.TheVariants as start
 use Rattle.ctl_table.specs.Settings.{parts_at, follow_of, compound_at, block_at, when_at, MakesAll}
 use Rattle.ctl_table.proofs.MakingLemmas.{made-up, stays}
 
--- a block's braces and what they hold
+-- a block's braces and their contents
 pub block-made : {E : Type 0} (m n : table.Setting) (a b c d : List Node) (o e : Pattern) (es : Body) (w v s : List Var) (x : Var) (close inside : ℕ) (r : Result ℕ E)
     → x ≡ table.hidden m o → n ≡ table.within m x → Makes a b close (table.own m w e (BraceClose e x)) → v ≡ filter (occurs_body m.reading es) w
     → Makes b c inside (table.seq n None es (follow_of (plains b) n None (made.Part start.Brace close)) v s s)
@@ -59,13 +59,13 @@ when-made m a b c f w al ar v s r p q n x y =
     (x.is ∙ ap (λ (z : List Var). table.seq m None w table.nothing z ar ar) n ∙ ap (λ (z : List Var). table.seq m None w table.nothing [] z z) q)
     ∙ ap (λ (z : List Var). Not (table.exists_all z (table.seq m None w table.nothing [] (s ++ z) (s ++ z)))) p) y
 
--- an element's row, what is quantified inside it and around it being that of its place
+-- an element's row, given that what is quantified inside and around it is that of its place
 pub elem-at : (m : table.Setting) (after : Option Element) (y : Element) (k : table.Follow) (v s : List Var) (p : Place) → v ≡ p.inside → s ≡ p.scope
     → (before : Option Element) (t : List Var) → table.elem m before after y k v s t ≡ table.elem m before after y k p.inside p.scope t
 elem-at m after y k v s p e f before t =
     ap (λ (z : List Var). table.elem m before after y k z s t) e ∙ ap (λ (z : List Var). table.elem m before after y k p.inside z t) f
 
--- the parts of `when` code, as dots have them
+-- the parts of `when` code, in the form that dots have them
 pub whens-are : (m : table.Setting) (a b : List Node) (is : List ℕ) (d : Dots) (ws : List (List Elem)) (s : List Var) (p : Place) → ws ≡ (out-Dots d).whens → s ≡ p.scope
     → MakesAll a b is (table.when_parts m (bodies ws) s) → parts_at b is ≡ table.when_parts m (dots_of d).whens p.scope
 whens-are m a b is d ws s p e f x =

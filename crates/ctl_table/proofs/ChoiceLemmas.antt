@@ -1,4 +1,4 @@
--- Branches, each with what follows it and without those before it, one after another.
+-- Branches, each with what follows it and the negations of those before it, one after another.
 use Rattle.std.proofs.Common.{◌≡◌, ℕ, zero, suc, ◌+◌, ◌-◌, ◌<◌, true, arith, refl, sym, ap, subst, ◌∙◌, List, [], ◌∷◌, ◌++◌}
 use Rattle.std.proofs.Common.{map, length, take, drop, get_or, nat_lt, append_assoc, append-nil, min, add-one, Result}
 use Rattle.std.specs.Result.{IfOk}
@@ -13,7 +13,7 @@ use Rattle.ctl_table.specs.Settings.{all_below, parts_at, not_first, MakesAll}
 use Rattle.ctl_table.proofs.MakingLemmas.{stays, all-stay, all-stand, both-true, made-up}
 use Rattle.ctl_table.proofs.RowLemmas.{all-at, all-more, all-as, all-next, one-more, choices-but_last}
 
--- how far the branches are worked off: those that are made, and what excludes the next ones
+-- how far the branches are processed: those that are made, and what excludes the next ones
 pub record IsChosen (a b : List Node) (with alone made earlier : List ℕ) (i : ℕ) : Type 0 where
   pub within : all_below (length b) made ≡ true
   pub excluded : all_below (length b) earlier ≡ true
@@ -122,7 +122,7 @@ choices-least a with alone =
     ∙ ap (λ (n : ℕ). table.choices [] (parts_at a with) (take (n - 1) (parts_at a alone))) (sym (length-map with (at (plains a))))
     ∙ choices-but_last [] (parts_at a with) (parts_at a alone)
 
--- one more that doesn't hold
+-- one more negation
 pub exclude-made : (a b : List Node) (alone earlier next : List ℕ) (i e f j : ℕ) → i < length alone → f ≡ get_or alone i e → all_below (length a) earlier ≡ true
     → Makes a b j (Not (at (plains a) f)) → next ≡ earlier ++ j ∷ []
     → MakesAll a b next (parts_at a earlier ++ not_first (drop i (parts_at a alone)))
@@ -133,7 +133,7 @@ exclude-made a b alone earlier next i e f j l q h m o =
     (ap (λ (v : List Plain). parts_at a earlier ++ v) (sym n))
     (one-more a a b earlier j (parts_at a earlier) (Not (at (plains a) f)) (record { within = h; are = refl; grows = grows-refl a }) m))
 
--- the first branch that holds, the branches alone being without the last
+-- the first branch that holds, if the list of the branches alone omits the last
 pub first-made : {E : Type 0} (a b c : List Node) (with alone cut is js : List ℕ) (r : Result ℕ E)
     → cut ≡ take (min (length alone) (length with - 1)) alone → js ≡ is
     → MakesAll a b is (table.choices [] (parts_at a with) (parts_at a cut))

@@ -35,7 +35,7 @@ eq-true i n h = grind (arith, nat_tests)
 eq-test : (i n : ℕ) → i ≡ n → nat_eq i n ≡ true
 eq-test i n h = grind (arith, nat_tests)
 
--- what stands of the rows in a table that grew
+-- rows that are in range stay so in a table that grew
 pub rows-stand : (a b : List Node) (w : ℕ) (rows : List (List ℕ)) → Grows a b → rows_within (length a) w rows ≡ true → rows_within (length b) w rows ≡ true
 rows-stand a b w [] g h = refl
 rows-stand a b w (row ∷ rows) g h =
@@ -133,7 +133,7 @@ last-pushed (y ∷ xs) x =
     let n : length (y ∷ xs ++ x ∷ []) - 1 ≡ suc (length (xs ++ x ∷ []) - 1) = omega (arith, length-append xs (x ∷ [])) in
     ap (slice_get (y ∷ xs ++ x ∷ [])) n ∙ last-pushed xs x
 
--- what may follow stands in front where nothing is the last
+-- what may follow is at the front of the list that ends with nothing
 front-of : (nexts all : List Made) → EndsWithNothing nexts all → take (length nexts) all ≡ nexts
 front-of nexts all e = elim e.kept [
   | inl q ↦ ap (take (length nexts)) q ∙ take-length nexts
@@ -148,7 +148,7 @@ front-long nexts all e =
     let n : length (take (length nexts) all) ≡ length nexts = ap length (front-of nexts all e) in
     omega (arith, n, length-take (length nexts) all)
 
--- all of it has its parts
+-- all of it has its parts in range
 pub all-within : (n : ℕ) (nexts all : List Made) → EndsWithNothing nexts all → all_made_below n nexts ≡ true → all_made_below n all ≡ true
 all-within n nexts all e h = elim e.kept [
   | inl q ↦ ap (all_made_below n) q ∙ h
@@ -162,7 +162,7 @@ last-long nexts all e = slice_get_within all (length all - 1) made.Nothing e.las
 pub all-long : (a b : List Node) (is : List ℕ) (f : Made → Plain) (nexts : List Made) → MakesAll a b is (map f nexts) → length is ≡ length nexts
 all-long a b is f nexts x = sym (length-map is (at (plains b))) ∙ ap length x.are ∙ length-map nexts f
 
--- the branch that the last would exclude isn't there
+-- the branch that the last would exclude doesn't exist
 choices-front : (e fs gs : List Plain) (f g : Plain) → length fs ≡ length gs
     → table.choices e (fs ++ f ∷ []) gs ≡ table.choices e (fs ++ f ∷ []) (gs ++ g ∷ [])
 choices-front e [] [] f g l = refl
@@ -175,7 +175,7 @@ each-long : (m : table.Setting) (k h : table.Follow) (w s : List Var) (bs : List
 each-long m k h w s [] = refl
 each-long m k h w s (b ∷ bs) = let e = each-long m k h w s bs in omega (arith, e)
 
--- the first branch that holds, where the last isn't made alone
+-- the first branch that holds, if the last isn't made alone
 first-whole : (m : table.Setting) (k : table.Follow) (w s : List Var) (bs : List (List Elem)) (b : List Elem)
     → table.choices [] (table.each m (bodies bs) k w s ++ table.seq m None (body b) k (filter (occurs_body m.reading (body b)) w) s s ∷ []) (table.each m (bodies bs) table.nothing w s)
     ≡ table.choices [] (table.each m (bodies (bs ++ b ∷ [])) k w s) (table.each m (bodies (bs ++ b ∷ [])) table.nothing w s)
@@ -236,7 +236,7 @@ pub choice-none : (m : table.Setting) (a b : List Node) (k : Made → table.Foll
 choice-none m a b k nexts is [] w s e x = x
 choice-none m a b k nexts is (z ∷ zs) w s e x = absurd (omega (arith, e))
 
--- the branches but the last, and the last
+-- the branches except the last, and the last
 pub last-branch : {A : Type 0} (xs : List A) (x : A) → 1 ≤ length xs → x ≡ get_or xs (length xs - 1) x → xs ≡ take (length xs - 1) xs ++ x ∷ []
 last-branch {A = A} xs x l q =
     let n : length xs - 1 + 1 ≡ length xs = omega (arith, l) in

@@ -1,4 +1,4 @@
--- Dots as come to from a scope, their parts made one after another.
+-- Dots as reached from a scope, their parts made one after another.
 use Rattle.std.proofs.Common.{◌≡◌, ℕ, ◌<◌, Bool, true, false, if◌then◌else◌, refl, sym, ap, ◌∙◌, List, [], ◌∷◌, ◌++◌, length}
 use Rattle.std.proofs.Common.{append_assoc, append-nil, nat_lt, Option, None, Some, Result}
 use Rattle.std.specs.Result.{IfOk}
@@ -15,7 +15,7 @@ use Rattle.ctl_table.proofs.MakingLemmas.{made-up, stays, all-stay, all-stand, l
 use Rattle.ctl_table.proofs.FollowLemmas.{some-stays, passed-stays, dots-nest}
 use Rattle.ctl_table.proofs.RowLemmas.{all-as, all-next, one-more}
 
--- as they are
+-- unchanged parts
 pub all-there : (a : List Node) (is : List ℕ) → all_below (length a) is ≡ true → MakesAll a a is (parts_at a is)
 all-there a is h = record { within = h; are = refl; grows = grows-refl a }
 
@@ -56,7 +56,7 @@ neighbours-made a b c d is js ks before after near any f h k x y z =
       grows = grows-trans a c d ac z.grows;
     }
 
--- dots that stand in no block
+-- dots that are in no block
 pub staying-none : (a : List Node) (o : Option Var) (is whens : List ℕ) → o ≡ None → all_below (length a) whens ≡ true → is ≡ whens
     → MakesAll a a is (table.stays o ++ parts_at a whens)
 staying-none a o is whens n h e = record {

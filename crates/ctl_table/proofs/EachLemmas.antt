@@ -1,4 +1,4 @@
--- What is made for each of some things, one after another.
+-- What is made for each of several things, one after another.
 use Rattle.std.proofs.Common.{◌≡◌, ℕ, zero, suc, ◌+◌, ◌<◌, Bool, true, false, ◌||◌, arith, refl, sym, ap, subst, ◌∙◌, List, [], ◌∷◌, ◌++◌}
 use Rattle.std.proofs.Common.{map, length, length-append, take, drop, get_or, nat_lt, cond, ◌&&◌, ◌≤◌, append_assoc, append-nil, Option, None, Some, Result}
 use Rattle.std.specs.Result.{IfOk}
@@ -25,7 +25,7 @@ use Rattle.ctl_table.proofs.FollowLemmas.{made-stands, made-stays, behind-below,
 use Rattle.ctl_table.proofs.BesideLemmas.{or-left, or-right, beside-stands, beside-stays, beside-cong, inner-same, in_more}
 use Rattle.ctl_table.proofs.RowLemmas.{all-next, all-as, one-more, taken}
 
--- what all items of a list are, one of them is
+-- what holds of all items of a list holds of one of them
 pub item-is : {A : Type 0} (p : A → Bool) (xs : List A) (i : ℕ) (x d : A) → i < length xs → x ≡ get_or xs i d → list_all p xs ≡ true → p x ≡ true
 item-is p [] i x d l q h = absurd (omega (arith, l))
 item-is p (y ∷ xs) zero x d l q h = ap p q ∙ and-left (p y) (list_all p xs) h
@@ -38,7 +38,7 @@ nexts-stand a b (f ∷ fs) g h =
     (made-stands a b f g (and-left (made_below (length a) f) (all_made_below (length a) fs) h))
     (nexts-stand a b fs g (and-right (made_below (length a) f) (all_made_below (length a) fs) h))
 
--- equal at each item that the test holds of
+-- two functions that are equal at each item that passes the test
 pub map-same : {A B : Type 0} (p : A → Bool) (f g : A → B) → ((x : A) → p x ≡ true → f x ≡ g x) → (xs : List A) → list_all p xs ≡ true → map f xs ≡ map g xs
 map-same p f g e [] h = refl
 map-same p f g e (x ∷ xs) h =
@@ -77,7 +77,7 @@ follow-kept m a b c f s e x g = record {
   grows = grows-trans a b c x.grows g;
 }
 
--- the formulas may be written in another way, and the first table be an earlier one
+-- the formulas may be written in another way, and the first table may be an earlier one
 pub follow-as : (m : table.Setting) (a b c : List Node) (f : Made) (s : table.Start) (e d : Option Element → List Var → Plain)
     → Grows a b → ((before : Option Element) (t : List Var) → e before t ≡ d before t) → MakesFollow m b c f s e → MakesFollow m a c f s d
 follow-as m a b c f s e d g q x = record {
@@ -193,7 +193,7 @@ pub only-one : (a b : List Node) (is : List ℕ) (f : Plain) → MakesAll a b is
 only-one a b [] f x = absurd (let e = x.are in cc)
 only-one a b (j ∷ is) f x = omega arith
 
--- what may follow, behind an element whose last atoms are made
+-- what may follow, after an element whose last atoms are made
 
 behind-below-all : (a b : List Node) (o : Option Neighbours) (fs : List Made) → Grows a b → all_made_below (length a) fs ≡ true → before_below (length b) o ≡ true
     → all_made_below (length b) (map (behind o) fs) ≡ true
@@ -253,7 +253,7 @@ pub from-some : (fs : List Plain) (n : Neighbours) (inner : List Var) → (lengt
 from-some fs n [] h = absurd (h refl)
 from-some fs n (x ∷ xs) h = refl
 
--- the atoms, where these of their variables are quantified inside the element, known as a set
+-- the atoms, given that these of their variables, known as a set, are quantified inside the element
 pub where-made : {E : Type 0} (a b : List Node) (n : Neighbours) (inner set : List Var) (r : Result (Option ℕ) E) → (length inner ≡ 0 → ⊥)
     → ((y : Var) → has set y ≡ (has n.inner y || has inner y)) → IfOk r (λ o. MakesSome a b o (beside_at (plains a) n.atoms set)) → IfOk r (λ o. MakesSome a b o (from_inner (plains a) n inner))
 where-made a b n inner set r l e x =

@@ -50,7 +50,7 @@ dots-made m a b e d k s g i w y z =
       grows = ae;
     }
 
--- an element that is no dots, as the suffix that begins with it
+-- an element other than dots, as the suffix that begins with it
 pub part-row : (m : table.Setting) (a b c : List Node) (after : Option Element) (x y : Element) (k : table.Follow) (p : Place) (f : ℕ) (g : Made) (h : Plain) → x ≡ y → is_dots y ≡ false
     → Makes a b f h → ((before : Option Element) (t : List Var) → h ≡ table.elem m before after y k p.inside p.scope t)
     → MakesFollow m b c g table.Other (λ before t. table.exists_all p.here (at (plains b) f))

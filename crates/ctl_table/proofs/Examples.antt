@@ -1,4 +1,4 @@
--- The table from bodies to formulas, on worked rows and where two readings differ.
+-- The table from bodies to formulas, on worked rows and at points that could be read in two ways.
 use Rattle.std.proofs.Common.{◌≡◌, ℕ, Bool, true, false, refl, List, [], ◌∷◌, Some, None, slice_index_or}
 use Rattle.std.specs.Prelude.{codes, eqb}
 use Rattle.std.specs.List.{list_any}
@@ -16,7 +16,7 @@ use Rattle.ctl_table.specs.Table.{formula}
 abbrev pub v : ℕ → List ℕ → Var
 v rule name = record { rule = rule; name = name }
 
--- a pattern is named by its number alone, and tables say what is read off it
+-- a pattern is identified by its number alone, and tables say what is read from it
 abbrev pub p : ℕ → Pattern
 p n = record { atom = n; spot = spot.Whole; forms = [] }
 
@@ -35,7 +35,7 @@ dots_exists : formula (reads ([] ∷ [] ∷ []) ([] ∷ [] ∷ []) []) false [] 
 unfolding digits
 dots_exists = refl
 
--- under `forall` they go over all walks, a bail ends them, and some walk has to come to their end
+-- under `forall` they go over all walks, a bail ends them, and some walk has to reach their end
 dots_forall : formula (reads ([] ∷ [] ∷ []) ([] ∷ [] ∷ []) []) true [] (Then (bodies.Atom (p 0)) (Then (Gap NoMore false false) (Then (bodies.Atom (p 1)) End))) ≡ (And (Atom (p 0)) (AX (And (AU (And (Not (Atom (p 0))) (Not (Atom (p 1)))) (Or (Atom (p 1)) Bail)) (EU (And (Not (Atom (p 0))) (Not (Atom (p 1)))) (Atom (p 1))))))
 unfolding digits
 dots_forall = refl
@@ -45,17 +45,17 @@ dots_strict : formula (reads ([] ∷ [] ∷ []) ([] ∷ [] ∷ []) []) true [] (
 unfolding digits
 dots_strict = refl
 
--- `when any` passes its neighbours
+-- `when any` lets dots pass their neighbours
 dots_any : formula (reads ([] ∷ [] ∷ []) ([] ∷ [] ∷ []) []) false [] (Then (bodies.Atom (p 0)) (Then (Gap NoMore true false) (Then (bodies.Atom (p 1)) End))) ≡ (And (Atom (p 0)) (EX (EU True (Atom (p 1)))))
 unfolding digits
 dots_any = refl
 
--- each branch but the first says that no earlier one holds, and that alone without what follows
+-- each branch but the first says that no earlier one holds; the earlier ones appear alone, without what follows
 first_that_holds : formula (reads (((v 0 (codes "x")) ∷ []) ∷ [] ∷ ((v 0 (codes "x")) ∷ []) ∷ []) (((v 0 (codes "x")) ∷ []) ∷ [] ∷ ((v 0 (codes "x")) ∷ []) ∷ []) []) false ((v 0 (codes "x")) ∷ []) (Then (AnyOf (More (Then (bodies.Atom (p 0)) End) (More (Then (bodies.Atom (p 1)) End) NoMore))) (Then (bodies.Atom (p 2)) End)) ≡ (Exists (v 0 (codes "x")) (Or (And (Atom (p 0)) (Past (Atom (p 2)))) (And (And (Atom (p 1)) (Past (Atom (p 2)))) (Not (Atom (p 0))))))
 unfolding digits
 first_that_holds = refl
 
--- an empty branch holds where what follows does, and dots after it stand alone
+-- an empty branch holds if what follows does, and dots after it have no neighbour before them
 empty_branch : formula (reads ([] ∷ [] ∷ [] ∷ []) ([] ∷ [] ∷ [] ∷ []) []) false [] (Then (bodies.Atom (p 0)) (Then (AnyOf (More End (More (Then (bodies.Atom (p 1)) End) NoMore))) (Then (Gap NoMore false false) (Then (bodies.Atom (p 2)) End)))) ≡ (And (Atom (p 0)) (Past (Or (EU (And (Not (Atom (p 1))) (Not (Atom (p 2)))) (Atom (p 2))) (And (And (Atom (p 1)) (EX (EU (And (Not (Atom (p 1))) (Not (Atom (p 2)))) (Atom (p 2))))) (Not True)))))
 unfolding digits
 empty_branch = refl
@@ -65,17 +65,17 @@ all_branches : formula (reads (((v 0 (codes "x")) ∷ []) ∷ [] ∷ [] ∷ []) 
 unfolding digits
 all_branches = refl
 
--- x stands in one branch alone: it is quantified there, and again around the copy in the dots of the other branch
+-- x occurs in only one branch: it is quantified there, and again around the copy in the dots of the other branch
 quantified_at_branch : formula (reads (((v 0 (codes "x")) ∷ []) ∷ ((v 0 (codes "x")) ∷ []) ∷ [] ∷ [] ∷ []) (((v 0 (codes "x")) ∷ []) ∷ ((v 0 (codes "x")) ∷ []) ∷ [] ∷ [] ∷ []) []) false ((v 0 (codes "x")) ∷ []) (Then (AnyOf (More (Then (bodies.Atom (p 0)) (Then (bodies.Atom (p 1)) End)) (More (Then (bodies.Atom (p 2)) End) NoMore))) (Then (Gap NoMore false false) (Then (bodies.Atom (p 3)) End))) ≡ (Or (Exists (v 0 (codes "x")) (And (Atom (p 0)) (Past (And (Atom (p 1)) (EX (EU (And (Not (Or (Atom (p 1)) (Atom (p 2)))) (Not (Atom (p 3)))) (Atom (p 3)))))))) (And (And (Atom (p 2)) (EX (EU (And (Not (Or (Exists (v 0 (codes "x")) (Atom (p 1))) (Atom (p 2)))) (Not (Atom (p 3)))) (Atom (p 3))))) (Not (Exists (v 0 (codes "x")) (And (Atom (p 0)) (Past (Atom (p 1))))))))
 unfolding digits
 quantified_at_branch = refl
 
--- a variable that stands after dots and elsewhere is quantified before the dots
+-- a variable that occurs after dots and elsewhere is quantified before the dots
 after_dots : formula (reads ([] ∷ ((v 0 (codes "x")) ∷ []) ∷ [] ∷ ((v 0 (codes "x")) ∷ []) ∷ []) ([] ∷ ((v 0 (codes "x")) ∷ []) ∷ [] ∷ ((v 0 (codes "x")) ∷ []) ∷ []) []) false ((v 0 (codes "x")) ∷ []) (Then (bodies.Atom (p 0)) (Then (AnyOf (More (Then (bodies.Atom (p 1)) End) (More (Then (bodies.Atom (p 2)) End) NoMore))) (Then (Gap NoMore false false) (Then (bodies.Atom (p 3)) End)))) ≡ (And (Atom (p 0)) (Past (Exists (v 0 (codes "x")) (Or (And (Atom (p 1)) (EX (EU (And (Not (Or (Atom (p 1)) (Atom (p 2)))) (Not (Atom (p 3)))) (Atom (p 3))))) (And (And (Atom (p 2)) (EX (EU (And (Not (Or (Atom (p 1)) (Atom (p 2)))) (Not (Atom (p 3)))) (Atom (p 3))))) (Not (Atom (p 1))))))))
 unfolding digits
 after_dots = refl
 
--- a variable of `when` code alone is quantified around its piece
+-- a variable that occurs only in `when` code is quantified around its piece
 when_alone : formula (reads (((v 0 (codes "x")) ∷ []) ∷ [] ∷ ((v 0 (codes "x")) ∷ (v 0 (codes "y")) ∷ []) ∷ []) (((v 0 (codes "x")) ∷ []) ∷ [] ∷ ((v 0 (codes "x")) ∷ (v 0 (codes "y")) ∷ []) ∷ []) []) false ((v 0 (codes "x")) ∷ (v 0 (codes "y")) ∷ []) (Then (bodies.Atom (p 0)) (Then (Gap (More (Then (bodies.Atom (p 2)) End) NoMore) false false) (Then (bodies.Atom (p 1)) End))) ≡ (Exists (v 0 (codes "x")) (And (Atom (p 0)) (EX (EU (And (And (Not (Exists (v 0 (codes "y")) (Atom (p 2)))) (Not (Atom (p 0)))) (Not (Atom (p 1)))) (Atom (p 1))))))
 unfolding digits
 when_alone = refl
@@ -85,7 +85,7 @@ nest : formula (reads (((v 0 (codes "x")) ∷ []) ∷ ((v 0 (codes "x")) ∷ [])
 unfolding digits
 nest = refl
 
--- and `<+...` comes to its part at least once, by the plain condition
+-- and `<+...` reaches its part at least once, under the plain condition
 nest_plus : formula (reads (((v 0 (codes "x")) ∷ []) ∷ ((v 0 (codes "x")) ∷ []) ∷ [] ∷ []) (((v 0 (codes "x")) ∷ []) ∷ ((v 0 (codes "x")) ∷ []) ∷ [] ∷ []) []) false ((v 0 (codes "x")) ∷ []) (Then (bodies.Atom (p 0)) (Then (Nest true (Then (bodies.Atom (p 1)) End) NoMore false false) (Then (bodies.Atom (p 2)) End))) ≡ (Exists (v 0 (codes "x")) (And (Atom (p 0)) (EX (And (EU (And (And (Not (Atom (p 0))) (Not (Atom (p 2)))) (Or (Atom (p 1)) (Not (Atom (p 1))))) (Atom (p 2))) (EU (And (Not (Atom (p 0))) (Not (Atom (p 2)))) (And (And (And (Not (Atom (p 0))) (Not (Atom (p 2)))) (Atom (p 1))) (EU (And (Not (Atom (p 0))) (Not (Atom (p 2)))) (Atom (p 2)))))))))
 unfolding digits
 nest_plus = refl
@@ -100,7 +100,7 @@ blocks_in_order : formula (reads (((v 0 (codes "x")) ∷ []) ∷ [] ∷ [] ∷ [
 unfolding digits
 blocks_in_order = refl
 
--- a statement variable goes by the end of its statement, and stands in no condition
+-- what follows a statement variable is at the end of its statement, and no condition contains the variable
 statement_variable : formula (reads (((v 0 (codes "S")) ∷ []) ∷ [] ∷ []) (((v 0 (codes "S")) ∷ []) ∷ [] ∷ []) (0 ∷ [])) false ((v 0 (codes "S")) ∷ []) (Then (bodies.Atom (p 0)) (Then (Gap NoMore false false) (Then (bodies.Atom (p 1)) End))) ≡ (And (Exists (v 0 (codes "S")) (Atom (p 0))) (Past (EU (Not (Atom (p 1))) (Atom (p 1)))))
 unfolding digits
 statement_variable = refl
@@ -120,7 +120,7 @@ choice_after_dots : formula (reads ([] ∷ [] ∷ [] ∷ []) ([] ∷ [] ∷ [] �
 unfolding digits
 choice_after_dots = refl
 
--- of branches that all hold, dots go by the first
+-- of branches that all hold, only the first counts for dots
 all_after_dots : formula (reads ([] ∷ [] ∷ [] ∷ []) ([] ∷ [] ∷ [] ∷ []) []) false [] (Then (bodies.Atom (p 0)) (Then (Gap NoMore false false) (Then (AllOf (More (Then (bodies.Atom (p 1)) End) (More (Then (bodies.Atom (p 2)) End) NoMore))) End))) ≡ (And (Atom (p 0)) (EX (EU (And (Not (Atom (p 0))) (Not (Atom (p 1)))) (And (Atom (p 1)) (Atom (p 2))))))
 unfolding digits
 all_after_dots = refl
@@ -134,42 +134,42 @@ nest_forall : formula (reads ([] ∷ [] ∷ [] ∷ []) ([] ∷ [] ∷ [] ∷ [])
 unfolding digits
 nest_forall = refl
 
--- with `when strict` none does, and `<+...` asks for a way past its part besides
+-- with `when strict` nothing ends them, and `<+...` also requires a way past its part
 nest_strict : formula (reads ([] ∷ [] ∷ [] ∷ []) ([] ∷ [] ∷ [] ∷ []) []) true [] (Then (bodies.Atom (p 0)) (Then (Nest true (Then (bodies.Atom (p 1)) End) NoMore true true) (Then (bodies.Atom (p 2)) End))) ≡ (And (Atom (p 0)) (AX (And (And (AU (And True (Or (Atom (p 1)) (Not (Atom (p 1))))) (Atom (p 2))) (EU (And True (Or (Atom (p 1)) (Not (Atom (p 1))))) (Atom (p 2)))) (EU True (And (And True (Atom (p 1))) (EU True (Atom (p 2))))))))
 unfolding digits
 nest_strict = refl
 
--- what follows a block stands past its statement, and dots after it have no element to stop before on that side
+-- what follows a block is past its statement, and dots after it have no element to stop before on that side
 block_before_dots : formula (reads ([] ∷ [] ∷ [] ∷ [] ∷ []) ([] ∷ [] ∷ [] ∷ [] ∷ []) []) false [] (Then (Block (p 0) (Then (bodies.Atom (p 1)) End) (p 2)) (Then (Gap NoMore false false) (Then (bodies.Atom (p 3)) End))) ≡ (And (Exists (v 0 (123 ∷ codes "0")) (And (BraceOpen (p 0) (v 0 (123 ∷ codes "0"))) (Down 0 (And (Atom (p 1)) (Past (BraceClose (p 2) (v 0 (123 ∷ codes "0")))))))) (Past (EU (Not (Atom (p 3))) (Atom (p 3)))))
 unfolding digits
 block_before_dots = refl
 
--- what follows a head with a body stands past the statement
+-- what follows a head with a body is past the statement
 compound_before_atom : formula (reads ([] ∷ [] ∷ [] ∷ []) ([] ∷ [] ∷ [] ∷ []) []) false [] (Then (Compound (p 0) (More (Then (bodies.Atom (p 1)) End) NoMore) None) (Then (bodies.Atom (p 2)) End)) ≡ (And (And (Atom (p 0)) (Down 0 (Atom (p 1)))) (Past (Atom (p 2))))
 unfolding digits
 compound_before_atom = refl
 
--- variables that are quantified at one part stand in declared order
+-- variables that are quantified at the same part are in declared order
 two_at_one_part : formula (reads (((v 0 (codes "x")) ∷ (v 0 (codes "y")) ∷ []) ∷ ((v 0 (codes "x")) ∷ (v 0 (codes "y")) ∷ []) ∷ []) (((v 0 (codes "x")) ∷ (v 0 (codes "y")) ∷ []) ∷ ((v 0 (codes "x")) ∷ (v 0 (codes "y")) ∷ []) ∷ []) []) false ((v 0 (codes "y")) ∷ (v 0 (codes "x")) ∷ []) (Then (bodies.Atom (p 0)) (Then (bodies.Atom (p 1)) End)) ≡ (Exists (v 0 (codes "y")) (Exists (v 0 (codes "x")) (And (Atom (p 0)) (Past (Atom (p 1))))))
 unfolding digits
 two_at_one_part = refl
 
--- a variable of the element after dots that stands again later is quantified at the dots
+-- a variable of the element after dots that occurs again later is quantified at the dots
 again_after_dots : formula (reads ([] ∷ ((v 0 (codes "x")) ∷ []) ∷ ((v 0 (codes "x")) ∷ []) ∷ []) ([] ∷ ((v 0 (codes "x")) ∷ []) ∷ ((v 0 (codes "x")) ∷ []) ∷ []) []) false ((v 0 (codes "x")) ∷ []) (Then (bodies.Atom (p 0)) (Then (Gap NoMore false false) (Then (bodies.Atom (p 1)) (Then (bodies.Atom (p 2)) End)))) ≡ (And (Atom (p 0)) (EX (Exists (v 0 (codes "x")) (EU (And (Not (Atom (p 0))) (Not (Atom (p 1)))) (And (Atom (p 1)) (Past (Atom (p 2))))))))
 unfolding digits
 again_after_dots = refl
 
--- but not where that element is a disjunction
+-- but not if that element is a disjunction
 again_in_choice : formula (reads ([] ∷ ((v 0 (codes "x")) ∷ []) ∷ ((v 0 (codes "x")) ∷ []) ∷ [] ∷ []) ([] ∷ ((v 0 (codes "x")) ∷ []) ∷ ((v 0 (codes "x")) ∷ []) ∷ [] ∷ []) []) false ((v 0 (codes "x")) ∷ []) (Then (bodies.Atom (p 0)) (Then (Gap NoMore false false) (Then (AnyOf (More (Then (bodies.Atom (p 1)) End) (More (Then (bodies.Atom (p 3)) End) NoMore))) (Then (bodies.Atom (p 2)) End)))) ≡ (And (Atom (p 0)) (EX (EU (And (Not (Atom (p 0))) (Not (Or (Exists (v 0 (codes "x")) (Atom (p 1))) (Atom (p 3))))) (Exists (v 0 (codes "x")) (Or (And (Atom (p 1)) (Past (Atom (p 2)))) (And (And (Atom (p 3)) (Past (Atom (p 2)))) (Not (Atom (p 1)))))))))
 unfolding digits
 again_in_choice = refl
 
--- nor where it stands in that element's plus code alone
+-- nor if it occurs only in that element's plus code
 again_in_plus : formula (reads ([] ∷ [] ∷ ((v 0 (codes "x")) ∷ []) ∷ []) ([] ∷ ((v 0 (codes "x")) ∷ []) ∷ ((v 0 (codes "x")) ∷ []) ∷ []) []) false ((v 0 (codes "x")) ∷ []) (Then (bodies.Atom (p 0)) (Then (Gap NoMore false false) (Then (bodies.Atom (p 1)) (Then (bodies.Atom (p 2)) End)))) ≡ (And (Atom (p 0)) (EX (EU (And (Not (Atom (p 0))) (Not (Atom (p 1)))) (Exists (v 0 (codes "x")) (And (Atom (p 1)) (Past (Atom (p 2))))))))
 unfolding digits
 again_in_plus = refl
 
--- a variable that is no local one, as one that a later rule inherits, is quantified nowhere
+-- a variable that isn't local, such as one that a later rule inherits, is quantified nowhere
 not_local : formula (reads (((v 0 (codes "x")) ∷ []) ∷ [] ∷ []) (((v 0 (codes "x")) ∷ []) ∷ [] ∷ []) []) false [] (Then (bodies.Atom (p 0)) (Then (Gap NoMore false false) (Then (bodies.Atom (p 1)) End))) ≡ (And (Atom (p 0)) (EX (EU (And (Not (Atom (p 0))) (Not (Atom (p 1)))) (Atom (p 1)))))
 unfolding digits
 not_local = refl

@@ -1,4 +1,4 @@
--- What was made stays what it is while the table grows.
+-- What was made keeps its formula while the table grows.
 use Rattle.std.proofs.Common.{◌≡◌, ℕ, ◌<◌, Bool, true, false, not, ◌&&◌, ◌++◌, nat_lt, refl, sym, ap, ◌∙◌, List, [], ◌∷◌, map, drop, length, append_assoc, Option, None, Some}
 use Rattle.std.proofs.Math.Path.{fun_ext}
 use Rattle.std.specs.List.{filter}
@@ -105,13 +105,13 @@ dots-stay a b forall_walks before d i t g h l =
     ∙ ap (λ (z : Plain). table.exists_all d.here (passed (plains b) forall_walks d.nest d.strict (table.condition d.any (map (at (plains a)) d.firsts.items) near (some_at (plains a) d.after)) z)) e
     ∙ ap (table.exists_all d.here) (passed-stays a b forall_walks d.nest d.strict _ _ g (dots-nest (length a) d h))
 
--- the same dots behind the same atoms
+-- the same dots after the same atoms
 pub dots-beside : (fs : List Plain) (forall_walks : Bool) (before after : List Var → Option Plain) (d : MadeDots) (i : ℕ) (t : List Var) → before (t ++ d.here) ≡ after (t ++ d.here)
     → dots_at fs forall_walks before d i t ≡ dots_at fs forall_walks after d i t
 dots-beside fs forall_walks before after d i t e =
     ap (λ (z : Option Plain). table.exists_all d.here (passed fs forall_walks d.nest d.strict (table.condition d.any (map (at fs) d.firsts.items) z (some_at fs d.after)) (at fs i))) e
 
--- where any element may stand, those beside the dots don't count
+-- with `when any`, the elements beside the dots don't count
 dots-any : (fs : List Plain) (forall_walks : Bool) (before other : List Var → Option Plain) (d : MadeDots) (i : ℕ) (t : List Var) → d.any ≡ true
     → dots_at fs forall_walks before d i t ≡ dots_at fs forall_walks other d i t
 dots-any fs forall_walks before other d i t e =
@@ -155,7 +155,7 @@ first-next fs m (made.Part s i) t h = refl
 first-next fs m (made.Dots d i None) t h = dots-beside fs m.forall_walks (before_at fs None) (table.near_option m true None) d i t refl
 first-next fs m (made.Dots d i (Some o)) t h = absurd cc
 
--- dots behind the element whose last atoms they know
+-- dots after the element whose last atoms they know
 pub behind-next : (a b : List Node) (m : table.Setting) (e : Element) (s : List Var) (o : Option Neighbours) (f : Made) (more : List Var) → Grows a b → made_below (length a) f ≡ true
     → (looks_back f ≡ true → (vars : List Var) → before_at (plains b) o (s ++ vars) ≡ table.near_option m true (Some e) (s ++ vars))
     → next_at (plains b) m (behind o f) (s ++ more) ≡ made_at (plains a) m (Some e) f (s ++ more)

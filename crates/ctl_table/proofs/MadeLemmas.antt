@@ -66,7 +66,7 @@ joined-made m a b c next s statement start f g r l q y z =
     ∙ ap (λ (v : table.Start). table.joined m.forall_walks statement (at (plains a) f) v (at (plains b) g)) q
     ∙ ap (table.joined m.forall_walks statement (at (plains a) f) (made_start next)) y.is) z
 
--- an opening brace, and what it holds
+-- an opening brace and the contents of its block
 pub braced-made : {E : Type 0} (a b c d e : List Node) (v : Var) (h : Plain) (inside opening down both : ℕ) (r : Result ℕ E) → inside < length a
     → Makes a b opening h → Makes b c down (Down 0 (at (plains b) inside)) → Makes c d both (And (at (plains c) opening) (at (plains c) down))
     → IfOk r (λ i. Makes d e i (Exists v (at (plains d) both)))

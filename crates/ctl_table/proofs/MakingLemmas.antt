@@ -10,7 +10,7 @@ use Rattle.ctl_formula.specs.declared.node.Node.{Node}
 use Rattle.ctl_formula.specs.Tables.{at, plains, Grows, Makes}
 use Rattle.ctl_formula.proofs.TableLemmas.{at-grows, grows-refl, grows-trans, grows-length, and-left, and-right, lt-true}
 
--- a part that is there
+-- a part that exists
 pub made-there : (ns : List Node) (i : ℕ) → i < length ns → Makes ns ns i (at (plains ns) i)
 made-there ns i h = record { within = h; is = refl; grows = grows-refl ns }
 
@@ -22,7 +22,7 @@ made-as a b i f g e m = record { within = m.within; is = m.is ∙ e; grows = m.g
 pub made-then : (a b c : List Node) (j : ℕ) (f g : Plain) → Grows a b → Makes b c j f → f ≡ g → Makes a c j g
 made-then a b c j f g s m e = record { within = m.within; is = m.is ∙ e; grows = grows-trans a b c s m.grows }
 
--- a part of the first table stands in the grown one, as it was
+-- a part of the first table is in the grown one, unchanged
 pub stands-still : (a b : List Node) (i : ℕ) → Grows a b → i < length a → i < length b
 stands-still a b i g h = omega (arith, h, grows-length a b g)
 
@@ -35,7 +35,7 @@ lt-test i n h = grind (arith, nat_tests)
 pub both-true : (a b : Bool) → a ≡ true → b ≡ true → (a && b) ≡ true
 both-true a b h k = ap (λ z. z && b) h ∙ k
 
--- all parts of a list stand in the grown table, as they were
+-- all parts of a list are in the grown table, unchanged
 pub all-stand : (a b : List Node) (is : List ℕ) → Grows a b → list_all (λ i. nat_lt i (length a)) is ≡ true → list_all (λ i. nat_lt i (length b)) is ≡ true
 all-stand a b [] g h = refl
 all-stand a b (i ∷ is) g h =

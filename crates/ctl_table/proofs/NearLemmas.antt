@@ -1,4 +1,4 @@
--- What stands beside dots, made one after another.
+-- What is beside dots, made one after another.
 use Rattle.std.proofs.Common.{◌≡◌, ℕ, zero, suc, ◌+◌, ◌-◌, ◌<◌, ◌≤◌, Bool, true, false, ◌&&◌, ◌||◌, not, if◌then◌else◌, arith, refl, sym, ap, subst, ◌∙◌}
 use Rattle.std.proofs.Common.{List, [], ◌∷◌, ◌++◌, length, take, get_or, append_assoc, append-nil, Option, None, Some, Result}
 use Rattle.std.specs.List.{filter}

@@ -1,4 +1,4 @@
--- A loop that puts what each element of a list gives behind a list of numbers.
+-- A loop that appends what each element of a list gives to a list of numbers.
 use Rattle.std.proofs.Common.{◌≡◌, ℕ, suc, ◌+◌, ◌<◌, sym, ap, ◌∙◌, List, [], ◌∷◌, ◌++◌, length, drop, get_or, append_assoc, append-nil, add-one, refl}
 use Rattle.std.proofs.Math.Seq.{drop-cons}
 

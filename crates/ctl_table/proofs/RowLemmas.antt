@@ -1,4 +1,4 @@
--- Lists of parts that a loop makes one after another, and rows made of parts of several tables.
+-- Lists of parts that a loop makes one after another, and rows made from parts of several tables.
 use Rattle.std.proofs.Common.{◌≡◌, ℕ, zero, suc, ◌+◌, ◌-◌, ◌<◌, true, arith, refl, sym, ap, subst, ◌∙◌, List, [], ◌∷◌, ◌++◌, length, take, get_or, nat_lt, None, Result}
 use Rattle.std.specs.List.{filter}
 use Rattle.std.specs.Result.{IfOk}
@@ -50,7 +50,7 @@ downs-more i (g ∷ fs) f =
     let z : suc i + length fs ≡ i + length (g ∷ fs) = omega arith in
     ap (λ gs. Down i g ∷ gs) (downs-more (suc i) fs f ∙ ap (λ n. table.downs (suc i) fs ++ Down n f ∷ []) z)
 
--- the last branch is excluded nowhere
+-- the last branch is never excluded
 pub choices-but_last : (e fs gs : List Plain) → table.choices e fs (take (length fs - 1) gs) ≡ table.choices e fs gs
 choices-but_last e [] gs = refl
 choices-but_last e (f ∷ []) [] = refl
@@ -85,7 +85,7 @@ length-parts-take a is i l = length-map (take i is) (at (plains a)) ∙ length-t
 pub all-as : (a b : List Node) (is : List ℕ) (fs gs : List Plain) → fs ≡ gs → MakesAll a b is fs → MakesAll a b is gs
 all-as a b is fs gs e m = record { within = m.within; are = m.are ∙ e; grows = m.grows }
 
--- one more part at the body of its number
+-- one more part at the body with its number
 pub downs-step : (a b c : List Node) (inside is : List ℕ) (i d f j : ℕ) → i < length inside → f ≡ get_or inside i d → all_below (length a) inside ≡ true
     → MakesAll a b is (table.downs 0 (parts_at a (take i inside))) → Makes b c j (Down i (at (plains b) f))
     → MakesAll a c (is ++ j ∷ []) (table.downs 0 (parts_at a (take (i + 1) inside)))

@@ -40,7 +40,7 @@ last-each m k a b nexts fs es ps i e p l o q r y = record {
   grows = y.grows;
 }
 
--- a suffix before what agrees with what follows it
+-- a suffix before something that agrees with what follows it
 pub agreed-row : (m : table.Setting) (b c : List Node) (after : Option Element) (e : Element) (k h : table.Follow) (p : Place) (g : Made) → Agree p.scope k h
     → MakesFollow m b c g (start_with e) (suffix_at m after e k p) → MakesFollow m b c g (start_with e) (suffix_at m after e h p)
 agreed-row m b c after e k h p g q x =
@@ -94,7 +94,7 @@ pub sequences-none : (m : table.Setting) (k : Made → table.Follow) (a b : List
 sequences-none m k a b nexts is [] w s e x = x
 sequences-none m k a b nexts is (d ∷ es) w s e x = absurd (omega (arith, e))
 
--- an element that is no dots, as the suffix that begins with it
+-- an element other than dots, as the suffix that begins with it
 pub row-each : (m : table.Setting) (a b c : List Node) (after : Option Element) (x y : Element) (k : Made → table.Follow) (p : Place) (nexts : List Made) (is js : List ℕ) (fs : List Made) (h : Made → Plain)
     → x ≡ y → is_dots y ≡ false → js ≡ is → MakesAll a b is (map h nexts)
     → ((n : Made) (before : Option Element) (t : List Var) → h n ≡ table.elem m before after y (k n) p.inside p.scope t)

@@ -1,4 +1,4 @@
--- The parts of what dots are.
+-- The parts that dots are made of.
 use Rattle.std.proofs.Common.{◌≡◌, Bool, true, ap}
 use Rattle.ctl_formula.specs.Plain.{Plain, And, Or, AU, EU, Not}
 use Rattle.ctl_table.specs.Table as table

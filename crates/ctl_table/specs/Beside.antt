@@ -1,4 +1,4 @@
--- The last or the first atoms of an element, made but for the quantifiers that the scope leaves to them.
+-- The last or the first atoms of an element, made except for the quantifiers that depend on the scope.
 use Rattle.std.specs.Prelude.{◌≡◌, ℕ, Bool, true, not, nat_lt, List, [], ◌∷◌, ◌++◌, map, length, Option, None, Some}
 use Rattle.std.specs.List.{filter, list_all, list_any}
 use Rattle.smpl_terms.specs.declared.var.Var.{Var}
@@ -11,7 +11,7 @@ use Rattle.ctl_table.specs.declared.beside.Beside.{Beside}
 use Rattle.ctl_table.specs.declared.beside.Beside.TheOpen.{Beside-F}
 use Rattle.ctl_table.specs.declared.beside.Beside.TheFolds.{fold-Beside}
 
--- those that there are, where these variables are quantified inside the element
+-- those that exist, given that these variables are quantified inside the element
 abbrev pub all_at : List (Scope → Option Plain) → Scope → List Plain
 all_at [] s = []
 all_at (f ∷ fs) s = option_list (f s) ++ all_at fs s
@@ -20,7 +20,7 @@ abbrev pub beside_step : List Plain → Beside-F (Scope → Option Plain) → Sc
 beside_step fs (Beside-F.Atom i vars) s = Some (exists_all (filter (λ x. not (in_scope s x)) vars) (at fs i))
 beside_step fs (Beside-F.Any several) s = or_some (all_at several s)
 
--- the atoms with their quantifiers, where these variables are quantified inside the element
+-- the atoms with their quantifiers, given that these variables are quantified inside the element
 abbrev pub beside_at : List Plain → Beside → Scope → Option Plain
 beside_at fs = fold-Beside (Scope → Option Plain) (beside_step fs)
 
@@ -43,7 +43,7 @@ abbrev pub below_step : ℕ → Beside-F Bool → Bool
 below_step n (Beside-F.Atom i vars) = nat_lt i n
 below_step n (Beside-F.Any several) = list_all (λ b. b) several
 
--- the parts have numbers below n
+-- the numbers of the parts are below n
 abbrev pub beside_below : ℕ → Beside → Bool
 beside_below n = fold-Beside Bool (below_step n)
 
@@ -58,13 +58,13 @@ abbrev pub beside_list : Option Beside → List Beside
 beside_list None = []
 beside_list (Some b) = b ∷ []
 
--- the atoms are made: whatever is quantified inside the element, they are these, and the old parts stand as they were
+-- the atoms are made: whatever is quantified inside the element, they are these, and the old parts are unchanged
 pub record MakesBeside (old new : List Node) (b : Option Beside) (f : Scope → Option Plain) : Type 0 where
   pub within : or_none_below (length new) b ≡ true
   pub is : (s : Scope) → or_none_at (plains new) b s ≡ f s
   pub grows : Grows old new
 
--- the same of several
+-- the same for several
 pub record MakesBesides (old new : List Node) (bs : List Beside) (fs : Scope → List Plain) : Type 0 where
   pub within : besides_below (length new) bs ≡ true
   pub are : (s : Scope) → besides_at (plains new) bs s ≡ fs s

@@ -2,7 +2,7 @@
 use Rattle.std.specs.Prelude.{ℕ, suc, cond, eqb, List, [], ◌∷◌, ◌++◌}
 use Rattle.smpl_patch.specs.Bodies.{Element, Atom, Compound, Block, Gap, Nest, AnyOf, AllOf, Body, End, Then, Bodies, NoMore, More}
 
--- the atoms of the opening braces of blocks, those of `when` code aside
+-- the atoms of the opening braces of blocks, except those in `when` code
 abbrev mutual
   pub opens_element : Element → List ℕ
   opens_element (Atom p) = []
@@ -21,7 +21,7 @@ abbrev mutual
   opens_bodies NoMore = []
   opens_bodies (More b bs) = opens_body b ++ opens_bodies bs
 
--- those of `when` code; the ones in a piece's own `when` code come directly after the piece
+-- those in `when` code; those in a piece's own `when` code come directly after the piece
 abbrev mutual
   pub later_element : Element → List ℕ
   later_element (Atom p) = []

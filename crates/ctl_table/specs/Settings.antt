@@ -1,4 +1,4 @@
--- What the code goes by, as the definitions have it.
+-- What the code works with, in the terms of the definitions.
 use Rattle.std.specs.Prelude.{◌≡◌, ℕ, Bool, true, false, not, ◌&&◌, nat_lt, List, [], ◌∷◌, ◌++◌, map, drop, length, cond, Option, None, Some}
 use Rattle.std.specs.List.{list_all, list_any, filter}
 use Rattle.std.specs.Option.{option_copied}
@@ -35,7 +35,7 @@ setting_at m = record {
   around = option_copied m.around;
 }
 
--- an element, or none
+-- an element, if there is one
 abbrev pub element_or_none : Option Elem → Option Element
 element_or_none None = None
 element_or_none (Some e) = Some (element e)
@@ -48,7 +48,7 @@ all_below n is = list_all (λ i. nat_lt i n) is
 abbrev pub parts_at : List Node → List ℕ → List Plain
 parts_at ns is = map (at (plains ns)) is
 
--- parts of the new table are the formulas, and the old parts stand as they were
+-- parts of the new table are the formulas, and the old parts are unchanged
 pub record MakesAll (old new : List Node) (is : List ℕ) (fs : List Plain) : Type 0 where
   pub within : all_below (length new) is ≡ true
   pub are : parts_at new is ≡ fs
@@ -66,7 +66,7 @@ abbrev pub option_numbers : Option ℕ → List ℕ
 option_numbers None = []
 option_numbers (Some i) = i ∷ []
 
--- the same of one formula, or none
+-- the same for one formula, or none
 pub record MakesSome (old new : List Node) (i : Option ℕ) (f : Option Plain) : Type 0 where
   pub within : some_below (length new) i ≡ true
   pub is : some_at (plains new) i ≡ f
@@ -89,12 +89,13 @@ abbrev pub before_below : ℕ → Option Neighbours → Bool
 before_below n None = true
 before_below n (Some b) = neighbours_below n b
 
--- the last atoms of an element, where these of their variables too are quantified inside it
+-- the last atoms of an element, given that these of their variables are quantified inside it too
 abbrev pub from_inner : List Plain → Neighbours → List Var → Option Plain
 from_inner fs b [] = some_at fs b.alone
 from_inner fs b (x ∷ xs) = beside_at fs b.atoms (b.inner ++ x ∷ xs)
 
--- the same from a scope: what it has besides those around the place at hand counts as quantified inside the element
+-- the same from a scope: what it has besides the variables around the current place counts as quantified inside the
+-- element
 abbrev pub neighbours_at : List Plain → Neighbours → List Var → Option Plain
 neighbours_at fs b t = from_inner fs b (filter (has b.names) (drop b.around t))
 
@@ -102,7 +103,7 @@ abbrev pub before_at : List Plain → Option Neighbours → List Var → Option 
 before_at fs None t = None
 before_at fs (Some b) t = neighbours_at fs b t
 
--- the parts of made dots have numbers below n
+-- the numbers of the parts of made dots are below n
 abbrev pub dots_below : ℕ → MadeDots → Bool
 dots_below n d = all_below n d.firsts.items && some_below n d.after && nest_below n d.nest
 
@@ -111,12 +112,12 @@ made_below n made.Nothing = true
 made_below n (made.Part s i) = nat_lt i n
 made_below n (made.Dots d i b) = dots_below n d && nat_lt i n && before_below n b
 
--- dots or a nest, by the condition and the target
+-- dots or a nest, given the condition and the target
 abbrev pub passed : List Plain → Bool → Option NestPart → Bool → Plain → Plain → Plain
 passed fs forall_walks None strict d t = table.until forall_walks strict d t
 passed fs forall_walks (Some p) strict d t = table.nested forall_walks p.plus strict d (at fs p.part) t
 
--- made dots that lead to a part, as come to from a scope; which atoms stand before them goes by the scope too
+-- made dots that lead to a part, as reached from a scope; which atoms are before them depends on the scope too
 abbrev pub dots_at : List Plain → Bool → (List Var → Option Plain) → MadeDots → ℕ → List Var → Plain
 dots_at fs forall_walks before d i t =
     table.exists_all d.here
@@ -129,13 +130,13 @@ made_start made.Nothing = table.Nothing
 made_start (made.Part s i) = start_at s
 made_start (made.Dots d i b) = table.Dots
 
--- what was made, as come to from a scope behind this element or none, whatever atoms the dots know
+-- what was made, as reached from a scope after this element or none, whatever atoms the dots know
 abbrev pub made_at : List Plain → table.Setting → Option Element → Made → List Var → Plain
 made_at fs m before made.Nothing t = True
 made_at fs m before (made.Part s i) t = at fs i
 made_at fs m before (made.Dots d i b) t = dots_at fs m.forall_walks (table.near_option m true before) d i t
 
--- the same, behind the element whose atoms the dots know
+-- the same, after the element whose atoms the dots know
 abbrev pub next_at : List Plain → table.Setting → Made → List Var → Plain
 next_at fs m made.Nothing t = True
 next_at fs m (made.Part s i) t = at fs i
@@ -145,7 +146,7 @@ next_at fs m (made.Dots d i b) t = dots_at fs m.forall_walks (before_at fs b) d 
 abbrev pub follow_of : List Plain → table.Setting → Option Element → Made → table.Follow
 follow_of fs m before f = record { start = made_start f; at = λ t. made_at fs m before f t }
 
--- the same, behind the element whose atoms the dots know
+-- the same, after the element whose atoms the dots know
 abbrev pub next_of : List Plain → table.Setting → Made → table.Follow
 next_of fs m f = record { start = made_start f; at = λ t. next_at fs m f t }
 
@@ -160,19 +161,19 @@ is_first (made.Part s i) = true
 is_first (made.Dots d i None) = true
 is_first (made.Dots d i (Some b)) = false
 
--- dots at which no neighbour may stand
+-- dots that may not pass their neighbours
 abbrev pub looks_back : Made → Bool
 looks_back made.Nothing = false
 looks_back (made.Part s i) = false
 looks_back (made.Dots d i b) = not d.any
 
--- the same, behind an element with these last atoms
+-- the same, after an element with these last atoms
 abbrev pub behind : Option Neighbours → Made → Made
 behind b made.Nothing = made.Nothing
 behind b (made.Part s i) = made.Part s i
 behind b (made.Dots d i o) = made.Dots d i b
 
--- what was made is what follows that begins so and has this formula after an element, from a scope
+-- what was made is what follows that begins like this and has this formula after an element, from a scope
 pub record MakesFollow (m : table.Setting) (old new : List Node) (f : Made) (begins : table.Start) (is_at : Option Element → List Var → Plain) : Type 0 where
   pub within : made_below (length new) f ≡ true
   pub starts : made_start f ≡ begins
@@ -180,31 +181,31 @@ pub record MakesFollow (m : table.Setting) (old new : List Node) (f : Made) (beg
   pub is : (before : Option Element) (t : List Var) → made_at (plains new) m before f t ≡ is_at before t
   pub grows : Grows old new
 
--- each thing that may follow has parts with numbers below n
+-- the numbers of the parts of each thing that may follow are below n
 abbrev pub all_made_below : ℕ → List Made → Bool
 all_made_below n fs = list_all (made_below n) fs
 
--- two things that may follow are the same from each scope that begins with these variables
+-- two things that may follow are equal from each scope that begins with these variables
 pub record Agree (s : List Var) (k h : table.Follow) : Type 0 where
   pub starts : k.start ≡ h.start
   pub same : (more : List Var) → k.at (s ++ more) ≡ h.at (s ++ more)
 
--- of two lists that are as long as one another, any two items at one place are so related
+-- the two lists have the same length, and any two items at the same place are related
 abbrev pub Pairwise : {A B : Type 0} → (A → B → Type 0) → List A → List B → Type 0
 Pairwise R [] [] = Unit {0}
 Pairwise R (x ∷ xs) (y ∷ ys) = R x y × Pairwise R xs ys
 Pairwise R [] (y ∷ ys) = ⊥
 Pairwise R (x ∷ xs) [] = ⊥
 
--- For each of some things, what was made is what follows that begins so and has this formula. The old parts stand as they
--- were.
+-- For each of the given things, what was made is what follows that begins like this and has this formula. The old parts
+-- are unchanged.
 pub record MakesFollows {A : Type 0} (m : table.Setting) (old new : List Node) (xs : List A) (fs : List Made)
     (begins : A → table.Start) (is_at : A → Option Element → List Var → Plain) : Type 0 where
   pub each : Pairwise (λ x f. MakesFollow m old new f (begins x) (is_at x)) xs fs
   pub grows : Grows old new
 
--- what is kept of an element's atoms, which go by a scope: their variables, their part where nothing is quantified inside the
--- element, and how many variables the scope has
+-- what is kept of an element's atoms, which depend on a scope: their variables, their part if nothing is quantified
+-- inside the element, and the number of variables in the scope
 pub record MakesNeighbours (old new : List Node) (s : List Var) (atoms : Beside) (b : Neighbours) : Type 0 where
   pub within : neighbours_below (length new) b ≡ true
   pub atoms_are : b.atoms ≡ atoms
@@ -220,13 +221,13 @@ pub record MakesDeeper (old new : List Node) (s : List Var) (b c : Neighbours) :
   pub is : (more : List Var) → neighbours_at (plains new) c (s ++ more) ≡ neighbours_at (plains old) b (s ++ more)
   pub grows : Grows old new
 
--- the same of one thing
+-- the same for one thing
 pub record IsSame (m : table.Setting) (s : List Var) (old new : List Node) (f g : Made) : Type 0 where
   pub within : made_below (length new) g ≡ true
   pub agrees : Agree s (next_of (plains new) m g) (next_of (plains old) m f)
   pub grows : Grows old new
 
--- what was made in place of what may follow is the same from each scope that begins with these variables
+-- what was made in place of what may follow is equal to it from each scope that begins with these variables
 pub record MakesSame (m : table.Setting) (s : List Var) (old new : List Node) (fs gs : List Made) : Type 0 where
   pub within : all_made_below (length new) gs ≡ true
   pub each : Pairwise (λ f g. Agree s (next_of (plains new) m g) (next_of (plains old) m f)) fs gs
@@ -238,7 +239,7 @@ pub record MakesLast (m : table.Setting) (e : Element) (s : List Var) (old new :
   pub is : list_any looks_back fs ≡ true → (more : List Var) → before_at (plains new) b (s ++ more) ≡ table.near_option m true (Some e) (s ++ more)
   pub grows : Grows old new
 
--- what was made is what follows the element in a scope, and the old parts stand as they were
+-- what was made is what follows the element in a scope, and the old parts are unchanged
 pub record MakesBehind (m : table.Setting) (e : Element) (s : List Var) (old new : List Node) (fs gs : List Made) : Type 0 where
   pub within : all_made_below (length new) gs ≡ true
   pub each : Pairwise (λ f g. Agree s (next_of (plains new) m g) (follow_of (plains old) m (Some e) f)) fs gs
@@ -257,7 +258,7 @@ abbrev pub compound_at : table.Setting → Pattern → Bodies → Option Pattern
 compound_at m h bs tail w s =
     table.with_tail m w tail (table.and_all (table.own m w h (Atom h)) (table.downs 0 (table.each m bs table.nothing w s)))
 
--- a block's braces, and what they hold
+-- a block's braces and their contents
 abbrev pub block_at : table.Setting → Pattern → Body → Pattern → List Var → List Var → Plain
 block_at m o b c w s =
     let v = table.hidden m o in
@@ -270,7 +271,7 @@ when_at m w s =
     let alone = table.lone m w in
     Not (table.exists_all alone (table.seq m None w table.nothing [] (s ++ alone) (s ++ alone)))
 
--- dots or the end of a nest at their place, by what stands in their condition before their neighbours
+-- dots or the end of a nest at their place, given what comes before the neighbours in their condition
 abbrev pub dots_row : table.Setting → List Node → Option Element → Option Element → List Plain → Bool → Bool → Option NestPart → table.Follow → Place → List Var → Plain
 dots_row m ns before after firsts any strict nest k p t =
     table.exists_all p.here
@@ -278,7 +279,7 @@ dots_row m ns before after firsts any strict nest k p t =
     (table.condition any firsts (table.near_option m true before (t ++ p.here)) (table.near_option m false after p.scope))
     (table.target m.around k.start (k.at p.scope)))
 
--- made dots before what follows them, which they come to from a scope
+-- made dots before what follows them, which they reach from a scope
 abbrev pub dots_before : List Plain → table.Setting → MadeDots → table.Follow → List Var → Option Element → List Var → Plain
 dots_before fs m d k s before t =
     table.exists_all d.here

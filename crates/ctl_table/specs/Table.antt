@@ -11,21 +11,21 @@ use Rattle.ctl_formula.specs.Plain.{Plain, True, Atom, Bail, BraceOpen, BraceClo
 use Rattle.pattern_vars.specs.VarPlaces.Placing.{Reading, is_dots, any_body, occurs_element, occurs_body, at_suffix, is_alone}
 use Rattle.ctl_table.specs.Blocks.{blocks, index_of}
 
--- what the table goes by, besides the element at hand
+-- the inputs of the table, besides the current element
 pub record Setting : Type 0 where
   pub reading : Reading
-  -- dots go over all walks, and else over some walk
+  -- dots go over all walks; otherwise they go over some walk
   pub forall_walks : Bool
   -- the variables that are neither exported nor inherited, in declared order
   pub locals : List Var
-  -- those of them that occur in `when` code alone
+  -- those of them that occur only in `when` code
   pub alone : List Var
-  -- the opening braces' atoms, in the order of their hidden variables
+  -- the atoms of the opening braces, in the order of their hidden variables
   pub blocks : List ℕ
-  -- the hidden variable of the innermost block around, where there is one
+  -- the hidden variable of the innermost enclosing block, if there is one
   pub around : Option Var
 
--- the same for what stands in a block
+-- the same setting inside a block
 abbrev pub within : Setting → Var → Setting
 within m b = record {
   reading = m.reading;
@@ -43,15 +43,15 @@ Scope = List Var
 abbrev pub in_scope : Scope → Var → Bool
 in_scope s x = list_any (λ v. same_var v x) s
 
--- how what follows begins: there is nothing, a closing brace, dots, or another element
+-- how what follows begins: with nothing, a closing brace, dots, or another element
 pub data Start : Type 0 where
   Nothing : Start
   Brace : Start
   Dots : Start
   Other : Start
 
--- What follows a sequence: how it begins, and its formula. The scope is that at the end of the sequence, by which the
--- neighbours of dots go; a variable that is quantified inside a branch occurs nowhere else in what follows it.
+-- What follows a sequence: how it begins, and its formula. The scope is the one at the end of the sequence, on which
+-- the neighbours of dots depend; a variable that is quantified inside a branch occurs nowhere else in what follows it.
 pub record Follow : Type 0 where
   pub start : Start
   pub at : Scope → Plain
@@ -76,7 +76,7 @@ abbrev pub exists_all : List Var → Plain → Plain
 exists_all [] f = f
 exists_all (x ∷ xs) f = Exists x (exists_all xs f)
 
--- parts group to the left
+-- parts are grouped to the left
 abbrev pub and_all : Plain → List Plain → Plain
 and_all f [] = f
 and_all f (g ∷ gs) = and_all (And f g) gs
@@ -85,12 +85,12 @@ abbrev pub or_all : Plain → List Plain → Plain
 or_all f [] = f
 or_all f (g ∷ gs) = or_all (Or f g) gs
 
--- none of them: True
+-- without parts: True
 abbrev pub all_of : List Plain → Plain
 all_of [] = True
 all_of (f ∷ fs) = and_all f fs
 
--- none of them: not True
+-- without parts: not True
 abbrev pub any_of : List Plain → Plain
 any_of [] = Not True
 any_of (f ∷ fs) = or_all f fs
@@ -107,7 +107,7 @@ abbrev pub nots : Option Plain → List Plain
 nots None = []
 nots (Some f) = Not f ∷ []
 
--- the variable of a block, which stands for the place of its `{`: no declared name begins with a brace
+-- the variable of a block, whose value is the place of its `{`: no declared name begins with a brace
 abbrev pub hidden : Setting → Pattern → Var
 hidden m o = record { rule = 0; name = 123 ∷ decimal (index_of o.atom m.blocks) }
 
@@ -115,11 +115,11 @@ hidden m o = record { rule = 0; name = 123 ∷ decimal (index_of o.atom m.blocks
 abbrev pub own : Setting → List Var → Pattern → Plain → Plain
 own m w p f = exists_all (filter (λ x. m.reading.used p x) w) f
 
--- an atom as it stands in the condition of dots: what isn't quantified around the place is so around the atom
+-- an atom in the condition of dots: variables that aren't quantified around the place are quantified around the atom
 abbrev pub copy : Setting → Pattern → Scope → Plain
 copy m p s = exists_all (filter (λ x. m.reading.stands p x && not (in_scope s x)) m.locals) (Atom p)
 
--- the last or the first atoms of an element that stands beside dots
+-- the last or the first atoms of an element that is beside dots
 abbrev mutual
   pub near : Setting → Bool → Element → Scope → Option Plain
   near m last (bodies.Atom p) s = cond (m.reading.is_statement p) None (Some (copy m p s))
@@ -157,8 +157,8 @@ joined forall_walks statement f Dots g = And f (if statement then Past g else ne
 joined forall_walks statement f Brace g = And f (Past g)
 joined forall_walks statement f Other g = And f (Past g)
 
--- Where dots lead to. Dots in a block come to what follows them inside that block alone; their way may end where it leaves
--- the block, but only where nothing but the block's end follows them.
+-- The target of dots. Dots in a block reach what follows them only inside that block; their way may end where it leaves
+-- the block, but only if nothing except the block's end follows them.
 abbrev pub target : Option Var → Start → Plain → Plain
 target None start f = f
 target (Some b) Brace f = Or f (Outside b)
@@ -184,12 +184,12 @@ nested forall_walks plus strict d p t =
     let f = until forall_walks strict (And d (Or p (Not p))) t in
     if plus then And f (EU d (And (And d p) (EU d t))) else f
 
--- what holds at each node that dots pass: first that they stay in their block and the parts for `when` code, and then no
--- neighbour, unless `when any` stands there
+-- what holds at each node that dots pass: first that they stay in their block, then the parts for `when` code, and then
+-- that the node is no neighbour, unless there is a `when any`
 abbrev pub condition : Bool → List Plain → Option Plain → Option Plain → Plain
 condition any firsts before after = all_of (firsts ++ (if any then [] else nots before ++ nots after))
 
--- the variables that occur in `when` code alone, and in this piece
+-- the variables that occur only in `when` code, and in this piece
 abbrev pub lone : Setting → Body → List Var
 lone m w = filter (λ x. any_body true (λ p. m.reading.stands p x) w) m.alone
 
@@ -200,21 +200,21 @@ abbrev pub with_tail : Setting → List Var → Option Pattern → Plain → Pla
 with_tail m w None f = f
 with_tail m w (Some p) f = And f (Down 1 (own m w p (Atom p)))
 
--- each at the body of its number
+-- each part at the body with its number
 abbrev pub downs : ℕ → List Plain → List Plain
 downs i [] = []
 downs i (f ∷ fs) = Down i f ∷ downs (suc i) fs
 
--- each branch with what follows it, and none of the branches before it
+-- each branch with what follows it and the negations of the branches before it
 abbrev pub choices : List Plain → List Plain → List Plain → List Plain
 choices earlier [] gs = []
 choices earlier (f ∷ fs) [] = and_all f earlier ∷ choices earlier fs []
 choices earlier (f ∷ fs) (g ∷ gs) = and_all f earlier ∷ choices (earlier ++ Not g ∷ []) fs gs
 
--- The rows. `w` are the variables that are quantified inside the part at hand, since all their occurrences stand there;
+-- The rows. `w` are the variables that are quantified inside the current part, since all their occurrences are in it;
 -- `s` is what is quantified around it.
 abbrev mutual
-  -- A sequence after some element, and what follows it. The neighbours of dots that it begins with go by the scope `t`.
+  -- A sequence after some element, and what follows it. The neighbours of dots at its start depend on the scope `t`.
   pub seq : Setting → Option Element → Body → Follow → List Var → Scope → Scope → Plain
   seq m before End k w s t = k.at t
   seq m before (Then e rest) k w s t =
@@ -259,14 +259,14 @@ abbrev mutual
   first_and m (More b bs) k w s =
       and_all (seq m None b k (filter (occurs_body m.reading b) w) s s) (each m bs nothing w s)
 
-  -- `not` each piece of `when` code; what occurs in `when` code alone is quantified around the piece
+  -- `not` each piece of `when` code; variables that occur only in `when` code are quantified around the piece
   pub when_parts : Setting → Bodies → Scope → List Plain
   when_parts m NoMore s = []
   when_parts m (More w ws) s =
       let alone = lone m w in
       Not (exists_all alone (seq m None w nothing [] (s ++ alone) (s ++ alone))) ∷ when_parts m ws s
 
--- the formula of a body, the variables that are neither exported nor inherited given in declared order
+-- the formula of a body; the variables that are neither exported nor inherited are given in declared order
 abbrev pub setting : Reading → Bool → List Var → Body → Setting
 setting r forall_walks locals b = record {
   reading = r;

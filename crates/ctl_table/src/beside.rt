@@ -1,4 +1,4 @@
-// The atoms of an element that stand beside dots, as they are come to from a scope.
+// The atoms of an element that are beside dots, as reached from a scope.
 ghost use Rattle.std.specs.Prelude.{◌≡◌, ◌<◌, ◌≤◌, ◌++◌, ◌||◌, Bool, true, not, drop, length, IfOk, OnOk};
 ghost use Rattle.std.specs.List.{filter};
 ghost use Rattle.smpl_terms.specs.declared.var.Var.{Var as Variable};
@@ -17,8 +17,8 @@ use smpl_terms::{Shared, Var};
 use sqlite_items::Items;
 use std::alloc::Global;
 
-/// The last or the first atoms of an element. Their parts are made but for their quantifiers, which go by what is quantified
-/// where the dots beside the element are come to.
+/// The last or the first atoms of an element. Their parts are made except for their quantifiers, which depend on what
+/// is quantified at the point from which the dots beside the element are reached.
 #[derive(Drop)]
 pub enum Beside {
     /// An atom's part, and those of its local variables that aren't quantified around the element.
@@ -27,21 +27,21 @@ pub enum Beside {
     Any(Items<Beside>),
 }
 
-/// The last atoms of an element, for dots behind it.
+/// The last atoms of an element, for dots after it.
 #[derive(Drop)]
 pub struct Neighbours {
     pub atoms: Shared<Beside>,
     /// Those of their local variables that aren't quantified around the element.
     pub names: Shared<VarSet>,
-    /// Those of these that are quantified inside the element around the place at hand.
+    /// Those of `names` that are quantified inside the element around the current place.
     pub inner: Items<Var>,
-    /// The atoms' part where no others are quantified inside the element; none where there are no atoms.
+    /// The atoms' part if no others are quantified inside the element; `None` if there are no atoms.
     pub alone: Option<usize>,
-    /// How many variables are quantified around the place at hand.
+    /// The number of variables quantified around the current place.
     pub around: usize,
 }
 
-/// Those of the variables that the set lacks.
+/// Returns those of the variables that the set lacks.
 fn outside(alloc: Global, inner: &VarSet, vars: &[Var]) -> Result<Items<Var>, NoMemory>
     ensures { IfOk result (λ found. found ≡ filter (λ x. not (table.in_scope inner.now x)) vars.now) }
 {
@@ -55,7 +55,7 @@ fn outside(alloc: Global, inner: &VarSet, vars: &[Var]) -> Result<Items<Var>, No
     Ok(found)
 }
 
-/// An atom's part with the quantifiers of those of its variables that aren't among these.
+/// Returns an atom's part under the quantifiers of those of its variables that aren't among these.
 fn atom_at(
     alloc: Global,
     parts: &mut Parts,
@@ -71,8 +71,8 @@ fn atom_at(
     exists_all(alloc, parts, here.as_slice(), f)
 }
 
-/// The atoms as they stand in the condition of dots, where these variables are quantified inside the element. Each of the
-/// atoms' variables is looked up among them.
+/// Returns the atoms as they appear in the condition of dots, given that these variables are quantified inside the
+/// element. Each of the atoms' variables is looked up among them.
 pub fn at_inner(
     alloc: Global,
     parts: &mut Parts,
@@ -105,7 +105,7 @@ fn push_some(f: Option<usize>, found: &mut Vec<usize>) -> Result<(), NoMemory>
     Ok(())
 }
 
-/// Puts in the variables that are kept with the atoms.
+/// Adds the variables that are kept with the atoms.
 fn put_names(alloc: Global, beside: &Beside, names: &mut VarSet) -> Result<(), NoMemory>
     ensures { OnOk result ((y : Variable) → has names.new y ≡ (has names.old y || names_in beside.now y)) }
 {
@@ -120,7 +120,7 @@ fn put_names(alloc: Global, beside: &Beside, names: &mut VarSet) -> Result<(), N
     }
 }
 
-/// The atoms, for dots behind their element.
+/// Returns the atoms, for dots after their element.
 pub fn neighbours_of(
     alloc: Global,
     parts: &mut Parts,
@@ -143,7 +143,7 @@ pub fn neighbours_of(
     })
 }
 
-/// These variables and those as a set.
+/// Returns both lists of variables as one set.
 fn set_of(alloc: Global, vars: &[Var], more: &[Var]) -> Result<VarSet, NoMemory>
     ensures { IfOk result (λ set. (y : Variable) → has set y ≡ (has vars.now y || has more.now y)) }
 {
@@ -153,8 +153,8 @@ fn set_of(alloc: Global, vars: &[Var], more: &[Var]) -> Result<VarSet, NoMemory>
     Ok(set)
 }
 
-/// The atoms, where these of their variables too are quantified inside the element. Where there are none, nothing is looked
-/// up.
+/// Returns the atoms, given that these of their variables are quantified inside the element too. If there are none,
+/// nothing is looked up.
 fn where_inner(
     alloc: Global,
     parts: &mut Parts,
@@ -172,9 +172,9 @@ fn where_inner(
     at_inner(alloc, parts, n.atoms.get(), &inner)
 }
 
-/// The atoms as they stand in the condition of dots behind their element, from this scope. Where they have local variables,
-/// each that the scope has besides those around the place at hand is looked up; the atoms are gone over where one of them is
-/// theirs.
+/// Returns the atoms as they appear in the condition of dots after their element, from this scope. If they have local
+/// variables, each variable that the scope has besides those around the current place is looked up; the atoms are
+/// visited if one of them is theirs.
 fn from_scope(
     alloc: Global,
     parts: &mut Parts,
@@ -192,7 +192,7 @@ fn from_scope(
     where_inner(alloc, parts, n, inner.as_slice())
 }
 
-/// Those of the atoms' variables that the scope has besides those around the place at hand.
+/// Returns those of the atoms' variables that the scope has besides those around the current place.
 fn inner_names(alloc: Global, n: &Neighbours, scope: &Scope) -> Result<Items<Var>, NoMemory>
     ensures { IfOk result (λ inner. inner ≡ filter (has n.now.names) (drop n.now.around scope.now)) }
 {
@@ -200,7 +200,7 @@ fn inner_names(alloc: Global, n: &Neighbours, scope: &Scope) -> Result<Items<Var
     among(alloc, n.names.get(), more.as_slice())
 }
 
-/// The variables, and then the others.
+/// Returns the variables, followed by the others.
 fn joined(alloc: Global, vars: &[Var], more: &[Var]) -> Result<Items<Var>, NoMemory>
     ensures { IfOk result (λ all. all ≡ vars.now ++ more.now) }
 {
@@ -211,8 +211,8 @@ fn joined(alloc: Global, vars: &[Var], more: &[Var]) -> Result<Items<Var>, NoMem
     Ok(all)
 }
 
-/// The atoms as they are known from this scope on: what it has besides those around the place at hand is looked up now, and
-/// by no one further inside.
+/// Returns the atoms as they are known from this scope on: what the scope has besides those around the current place is
+/// looked up now, and never again further inside.
 fn from_here(
     alloc: Global,
     parts: &mut Parts,
@@ -237,8 +237,8 @@ fn from_here(
     })
 }
 
-/// The same atoms for dots that are come to from scopes that begin with this one. Where they have local variables, each that
-/// the scope has besides those around the place at hand is looked up.
+/// Returns the same atoms for dots that are reached from scopes that begin with this one. If they have local variables,
+/// each variable that the scope has besides those around the current place is looked up.
 pub fn deeper_atoms(
     alloc: Global,
     parts: &mut Parts,
@@ -257,8 +257,8 @@ pub fn deeper_atoms(
     Shared::of(alloc, found)
 }
 
-/// The last atoms of the element before dots, as they stand in the dots' condition from this scope; none where the dots know
-/// of no such atoms. Costs what `from_scope` says.
+/// Returns the last atoms of the element before dots, as they appear in the dots' condition from this scope, or `None`
+/// if the dots know of no such atoms. Costs what `from_scope` says.
 pub fn before_dots(
     alloc: Global,
     parts: &mut Parts,

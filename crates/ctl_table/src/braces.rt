@@ -9,8 +9,9 @@ use smpl_patch::Elem;
 use sqlite_items::Items;
 use std::alloc::{AllocError, Global};
 
-/// The blocks of a body, by their opening braces' atoms, in the order of their hidden variables. Comes to each element twice,
-/// and is linear in the body, where no hashes collide. Recurses once a level of nested statements, branches and `when` code.
+/// Returns the blocks of a body, by the atoms of their opening braces, in the order of their hidden variables. Visits
+/// each element twice, and takes time linear in the body if no hashes collide. Recurses once for each level of nested
+/// statements, branches and `when` code.
 pub fn blocks(alloc: Global, b: &[Elem]) -> Result<Blocks, AllocError>
     ensures { IfOk result (λ found. found ≡ blocks.blocks (body b.now)) }
 {
@@ -100,7 +101,7 @@ fn put_later_each(bodies: &[Items<Elem>], found: &mut Vec<u32>) -> Result<(), Al
     Ok(())
 }
 
-/// Those of pieces of `when` code.
+/// Appends those of the given pieces of `when` code.
 #[cycle(later)]
 fn put_pieces(whens: &[Items<Elem>], found: &mut Vec<u32>) -> Result<(), AllocError>
     ensures { OnOk result

@@ -1,4 +1,4 @@
-// What follows, as come to from a scope.
+// What follows an element, as reached from a scope.
 ghost use Rattle.std.specs.Prelude.{◌≡◌, ◌<◌, ◌++◌, IfOk, OnOk, true, false, length};
 ghost use Rattle.std.specs.Prelude.{None, [], if◌then◌else◌};
 ghost use Rattle.std.specs.Option.{option_copied};
@@ -23,7 +23,7 @@ use smpl_patch::Elem;
 use smpl_terms::{Shared, Var};
 use std::alloc::Global;
 
-/// What follows an element, as come to from this scope.
+/// Returns the part for what follows an element, as reached from this scope.
 pub fn follow_at(
     alloc: Global,
     parts: &mut Parts,
@@ -52,7 +52,7 @@ pub fn follow_at(
     }
 }
 
-/// Dots that lead to a part, behind an element with these last atoms, as come to from this scope.
+/// Returns the part for dots that lead to a part, after an element with these last atoms, as reached from this scope.
 fn dots_at(
     alloc: Global,
     parts: &mut Parts,
@@ -75,7 +75,7 @@ fn dots_at(
     exists_all(alloc, parts, here, f)
 }
 
-/// What holds at each node that dots pass.
+/// Returns the part for what holds at each node that dots pass.
 fn condition(
     alloc: Global,
     parts: &mut Parts,
@@ -95,7 +95,7 @@ fn condition(
     all_of(parts, found.as_slice())
 }
 
-/// Further parts: `not` the element before the dots and `not` the one after them, unless `when any` stands there.
+/// Appends further parts: `not` the element before the dots and `not` the one after them, unless there is a `when any`.
 fn push_neighbours(
     alloc: Global,
     parts: &mut Parts,
@@ -131,7 +131,7 @@ fn copied_numbers(alloc: Global, numbers: &[usize]) -> Result<Vec<usize>, NoMemo
     Ok(copies)
 }
 
-/// One more part, `not` this one, where there is one.
+/// Appends the part `not f`, if there is an `f`.
 fn push_not(parts: &mut Parts, f: Option<usize>, found: &mut Vec<usize>) -> Result<(), NoMemory>
     requires f { some_below (length parts.old) f ≡ true }
     requires found { all_below (length parts.old) found.old.items ≡ true }
@@ -145,7 +145,7 @@ fn push_not(parts: &mut Parts, f: Option<usize>, found: &mut Vec<usize>) -> Resu
     Ok(())
 }
 
-/// That dots stay in the block around them, where there is one, and then these parts.
+/// Returns the part that says that dots stay in the block around them, if there is one, followed by these parts.
 pub fn staying(
     alloc: Global,
     parts: &mut Parts,
@@ -178,7 +178,7 @@ fn push_numbers(more: &[usize], numbers: &mut Vec<usize>) -> Result<(), NoMemory
     Ok(())
 }
 
-/// Dots or a nest with this condition.
+/// Returns the part for dots or a nest with this condition.
 fn passed(
     parts: &mut Parts,
     forall_walks: bool,
@@ -207,7 +207,7 @@ fn passed(
     }
 }
 
-/// The first atoms of the element after dots, which `when any` leaves out.
+/// Returns the first atoms of the element after dots; with `when any` there are none.
 pub fn after_dots(
     alloc: Global,
     parts: &mut Parts,
@@ -229,7 +229,7 @@ pub fn after_dots(
     }
 }
 
-/// What follows, for what stands inside this scope.
+/// Returns what follows, for use inside this scope.
 pub fn deeper(
     alloc: Global,
     parts: &mut Parts,

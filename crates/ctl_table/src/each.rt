@@ -1,4 +1,4 @@
-// What is made for each of the things that may follow, one after another.
+// What is made for each thing that may follow, one after another.
 ghost use Rattle.std.specs.Prelude.{◌≡◌, ◌+◌, ◌<◌, ◌≤◌, ◌∷◌, ◌++◌, nat_lt, length, map, true, [], IfOk};
 ghost use Rattle.std.specs.List.{list_all, range_with_len};
 ghost use Rattle.std.specs.Option.{option_copied};
@@ -29,7 +29,7 @@ use smpl_terms::{Shared, Var};
 use sqlite_items::Items;
 use std::alloc::Global;
 
-/// What may follow an element, as come to from this scope.
+/// Returns the parts for what may follow an element, as reached from this scope.
 pub fn follows_at(
     alloc: Global,
     parts: &mut Parts,
@@ -49,7 +49,7 @@ pub fn follows_at(
     Ok(made)
 }
 
-/// An atom before each thing that may follow. The atom's part is made once.
+/// Returns the parts for an atom before each thing that may follow. The atom's own part is made once.
 pub fn atoms(
     alloc: Global,
     parts: &mut Parts,
@@ -95,7 +95,7 @@ fn joined_each(
     Ok(made)
 }
 
-/// A statement whose part is made, before each thing that may follow it.
+/// Returns the parts for a statement, whose own part is given, before each thing that may follow it.
 pub fn past_each(
     alloc: Global,
     parts: &mut Parts,
@@ -119,7 +119,7 @@ pub fn past_each(
     Ok(made)
 }
 
-/// Each of these parts, and all of the others.
+/// Returns the conjunction of each of these parts with all of the others.
 pub fn and_each(
     alloc: Global,
     parts: &mut Parts,
@@ -139,7 +139,7 @@ pub fn and_each(
     Ok(made)
 }
 
-/// Each of these parts as what follows, under what is quantified at its suffix.
+/// Returns each of these parts as what follows, under the variables quantified at its suffix.
 pub fn part_each(
     alloc: Global,
     parts: &mut Parts,
@@ -160,8 +160,8 @@ pub fn part_each(
     Ok(made)
 }
 
-/// Dots, or the end of a nest, whose `when` code is made, before each thing that may follow them. What is the same for all
-/// these is made once.
+/// Returns dots, or the end of a nest, whose `when` code is made, before each thing that may follow them. What is the
+/// same for all of these is made once.
 pub fn dots_each(
     alloc: Global,
     parts: &mut Parts,
@@ -200,7 +200,7 @@ pub fn dots_each(
     each_dots(alloc, parts, m, &made, nexts, scope)
 }
 
-/// Dots before each thing that may follow them, as come to from this scope.
+/// Returns dots before each thing that may follow them, as reached from this scope.
 fn each_dots(
     alloc: Global,
     parts: &mut Parts,
@@ -223,7 +223,7 @@ fn each_dots(
     Ok(made)
 }
 
-/// The last atoms of an element in this scope, if dots may follow it at which they don't stand.
+/// Returns the last atoms of an element in this scope, if it may be followed by dots that don't allow them.
 fn last_atoms(
     alloc: Global,
     parts: &mut Parts,
@@ -247,7 +247,8 @@ fn last_atoms(
     }
 }
 
-/// What may follow an element in this scope: dots among it know the element's last atoms, which are read once for all of them.
+/// Returns what may follow an element in this scope. Dots among it know the element's last atoms, which are read once
+/// for all of them.
 pub fn behind_each(
     alloc: Global,
     parts: &mut Parts,
@@ -264,7 +265,8 @@ pub fn behind_each(
     all_behind(alloc, &before, nexts)
 }
 
-/// What may follow, for what stands inside this scope: which atoms stand before dots is worked out as far as the scope tells.
+/// Returns what may follow, for use inside this scope. Which atoms are before dots is worked out as far as the scope
+/// determines it.
 pub fn deeper_each(
     alloc: Global,
     parts: &mut Parts,
@@ -283,7 +285,7 @@ pub fn deeper_each(
     Ok(found)
 }
 
-/// A disjunction that has no branches, before each thing that may follow it.
+/// Returns the parts for a disjunction without branches, before each thing that may follow it.
 pub fn no_branches(alloc: Global, parts: &mut Parts, nexts: &[Made]) -> Result<Vec<usize>, NoMemory>
     ensures made { IfOk result (λ is. MakesAll parts.old parts.new is.items
         (map (λ next. table.any_of []) nexts.now)) }
@@ -296,9 +298,9 @@ pub fn no_branches(alloc: Global, parts: &mut Parts, nexts: &[Made]) -> Result<V
     Ok(made)
 }
 
-/// The first branch that holds, with each thing that may follow. A row has the parts of one branch: the first are for what
-/// follows, and the last is the branch alone. The last branch has no row: it is excluded nowhere, so its parts, the ends, are
-/// for what follows alone.
+/// Returns the parts for the first branch that holds, with each thing that may follow. A row has the parts of one
+/// branch: the branch with each thing that follows, and last the branch alone. The last branch has no row: it is never
+/// excluded, so its parts, the ends, are only those with what follows.
 pub fn first_branches(
     alloc: Global,
     parts: &mut Parts,
@@ -322,7 +324,8 @@ pub fn first_branches(
     Ok(made)
 }
 
-/// The first branch that holds, by the column of the branches with what follows, and the last branch's part behind them.
+/// Returns the part for the first branch that holds, given the column of the branches with what follows, and the part
+/// of the last branch, which comes after them.
 fn first_of(
     alloc: Global,
     parts: &mut Parts,
@@ -345,7 +348,7 @@ fn first_of(
     first_branch(alloc, parts, with.as_slice(), alone)
 }
 
-/// The part of this number in each row.
+/// Returns the part with this number in each row.
 fn column(alloc: Global, rows: &[Items<usize>], j: usize) -> Result<Vec<usize>, NoMemory>
     requires { list_all (λ row. nat_lt j (length row)) rows.now ≡ true }
     ensures { IfOk result (λ found. found.items ≡ column_of j rows.now) }

@@ -18,7 +18,7 @@ use smpl_patch::Pattern;
 use smpl_terms::{Shared, Var};
 use std::alloc::Global;
 
-/// An element's formula as what follows, under what is quantified at its suffix.
+/// Returns an element's formula as what follows, under the variables quantified at its suffix.
 pub fn part(
     alloc: Global,
     parts: &mut Parts,
@@ -34,7 +34,7 @@ pub fn part(
     Ok(Made::Part(Start::Other, f))
 }
 
-/// An atom's part, and what follows it.
+/// Returns the part for an atom and what follows it.
 pub fn joined_next(
     alloc: Global,
     parts: &mut Parts,
@@ -60,7 +60,7 @@ pub fn joined_next(
     }
 }
 
-/// A statement's part, and what follows the statement.
+/// Returns the part for a statement and what follows the statement.
 pub fn past_next(
     alloc: Global,
     parts: &mut Parts,
@@ -79,7 +79,7 @@ pub fn past_next(
     and_past(parts, f, g)
 }
 
-/// A head with its bodies and its tail.
+/// Returns the part for a head with its bodies and its tail.
 pub fn headed(
     alloc: Global,
     parts: &mut Parts,
@@ -123,7 +123,7 @@ fn with_tail(
     }
 }
 
-/// An opening brace, and what it holds.
+/// Returns the part for an opening brace and the contents of its block.
 pub fn braced(
     alloc: Global,
     parts: &mut Parts,
@@ -145,7 +145,7 @@ pub fn braced(
     parts.push(Node::Exists(v, both))
 }
 
-/// Dots before what may follow them, as come to from this scope.
+/// Returns dots before what may follow them, as reached from this scope.
 pub fn dots(
     alloc: Global,
     parts: &mut Parts,
@@ -165,7 +165,7 @@ pub fn dots(
     Ok(Made::Dots(d.share()?, target, None))
 }
 
-/// `not` a piece of `when` code, under what is quantified around it.
+/// Returns `not` a piece of `when` code, under the variables quantified around it.
 pub fn not_piece(
     alloc: Global,
     parts: &mut Parts,

@@ -1,4 +1,4 @@
-// What follows a sequence, once it is made.
+// What follows a sequence, once its parts are made.
 ghost use Rattle.std.specs.Prelude.{◌≡◌, ◌-◌, length, map, slice_get, true, IfOk};
 ghost use Rattle.std.specs.List.{list_any};
 ghost use Rattle.ctl_table.specs.Settings.{start_at, made_start, behind, looks_back};
@@ -26,17 +26,18 @@ pub struct NestPart {
     pub part: usize,
 }
 
-/// Dots whose parts are made, but for where they lead to and the condition's part on the element before them.
+/// Dots whose parts are made, except for their target and the part of their condition about the element before them.
 #[derive(Drop)]
 pub struct MadeDots {
-    /// That the dots stay in the block around them, where there is one, and then `not` each piece of `when` code.
+    /// The parts saying that the dots stay in the block around them, if there is one, followed by `not` each piece of
+    /// `when` code.
     pub firsts: Vec<usize>,
     pub any: bool,
     pub strict: bool,
     /// The first atoms of the element after the dots.
     pub after: Option<usize>,
     pub nest: Option<NestPart>,
-    /// What is quantified at the suffix that begins with the dots.
+    /// The variables quantified at the suffix that begins with the dots.
     pub here: Items<Var>,
 }
 
@@ -45,12 +46,12 @@ pub struct MadeDots {
 pub enum Made {
     Nothing,
     Part(Start, usize),
-    /// Dots that lead to a part, behind an element with these last atoms. None are known where no element stands before them,
-    /// or one without such atoms, or where these don't count.
+    /// Dots that lead to a part, after an element with these last atoms. None are known if no element precedes the
+    /// dots, if it has no such atoms, or if these don't count.
     Dots(Shared<MadeDots>, usize, Option<Shared<Neighbours>>),
 }
 
-/// The same atoms, shared.
+/// Returns the same atoms, shared.
 fn share_before(before: &Option<Shared<Neighbours>>) -> Result<Option<Shared<Neighbours>>, NoMemory>
     ensures { IfOk result (λ r. r ≡ before.now) }
 {
@@ -61,7 +62,7 @@ fn share_before(before: &Option<Shared<Neighbours>>) -> Result<Option<Shared<Nei
 }
 
 impl Made {
-    /// The same. Takes no memory.
+    /// Returns the same value. Allocates nothing.
     pub fn share(&self) -> Result<Made, NoMemory>
         ensures same { IfOk result (λ r. r ≡ self.now) }
     {
@@ -74,7 +75,7 @@ impl Made {
         }
     }
 
-    /// The same, behind an element with these last atoms. Takes no memory.
+    /// Returns the same value, after an element with these last atoms. Allocates nothing.
     fn behind(&self, before: &Option<Shared<Neighbours>>) -> Result<Made, NoMemory>
         ensures { IfOk result (λ r. r ≡ behind before.now self.now) }
     {
@@ -98,7 +99,7 @@ pub fn start_of(made: &Made) -> Start
     }
 }
 
-/// What may follow, with nothing as the last: where it wasn't, it is one more.
+/// Returns what may follow, with nothing as the last; if it wasn't the last, it is appended.
 pub fn with_nothing(alloc: Global, nexts: &[Made]) -> Result<Vec<Made>, NoMemory>
     ensures { IfOk result (λ all. EndsWithNothing nexts.now all.items) }
 {
@@ -130,7 +131,7 @@ fn ends_with_nothing(nexts: &[Made]) -> bool
     }
 }
 
-/// All of these, behind an element with these last atoms. Takes no memory but for the list.
+/// Returns all of these, after an element with these last atoms. Allocates only the list.
 pub fn all_behind(
     alloc: Global,
     before: &Option<Shared<Neighbours>>,
@@ -146,7 +147,7 @@ pub fn all_behind(
     Ok(all)
 }
 
-/// Whether these are dots at which the element before them may not stand.
+/// Whether these are dots that may not pass the element before them.
 fn looks_back(made: &Made) -> bool
     ensures { result ≡ looks_back made.now }
 {
@@ -157,7 +158,7 @@ fn looks_back(made: &Made) -> bool
     }
 }
 
-/// Whether some of these are dots at which the element before them may not stand.
+/// Whether some of these are dots that may not pass the element before them.
 pub fn some_look_back(nexts: &[Made]) -> bool
     ensures { result ≡ list_any looks_back nexts.now }
 {

@@ -1,18 +1,18 @@
 //! The table from the elements of a body to formulas.
 //!
-//! - [`sequence`] gives the part that the formula of a sequence is, under what is quantified inside it and around it.
-//! - [`Setting`] is what the table goes by besides, of which `within` gives that of a block, and [`Made`] what follows a
+//! - [`sequence`] returns the part for a sequence, under the variables quantified inside it and around it.
+//! - [`Setting`] holds the other inputs of the table; its `within` returns that of a block. [`Made`] is what follows a
 //!   sequence.
-//! - [`blocks`] gives the [`Blocks`] of a body, by which their hidden variables are named.
+//! - [`blocks`] returns the [`Blocks`] of a body, by which their hidden variables are named.
 //!
-//! A part that stands at several places of the formula is kept once. What formula a body has, row by row, stands in
-//! `specs/Table`: the module `rows` is that table, row for row. A sequence is worked off from its end, so what follows an
-//! element is made before it. What stands inside a disjunction is worked off once for all that may follow it: what follows
-//! the disjunction, what follows each one around it, and nothing.
+//! A part that occurs several times in the formula is stored once. `specs/Table` says which formula a body has, row by
+//! row; the module `rows` is that table, row for row. A sequence is processed from its end, so what follows an element
+//! is made before it. The inside of a disjunction is processed once for everything that may follow it: what follows the
+//! disjunction, what follows each one around it, and nothing.
 //!
 //! `a(); ... b();` under `exists` is `Atom 0 and EX E[not Atom 0 and not Atom 1 U Atom 1]`.
 //!
-//! Limits, and variables that may stay unbound, are for ctl_translate.
+//! Limits, and variables that may stay unbound, are up to ctl_translate.
 #![tactic(auto)]
 
 mod beside;

@@ -14,15 +14,15 @@ use smpl_terms::Var;
 use sqlite_items::Items;
 use std::alloc::Global;
 
-/// These variables, of which those of a part are found without a look at the others.
+/// Returns these variables such that those of a part are found without looking at the others.
 pub fn in_order(alloc: Global, vars: &[Var]) -> Result<Ordered, NoMemory>
     ensures { IfOk result (λ ordered. ordered ≡ vars.now) }
 {
     Ordered::of(alloc, copied_vars(alloc, vars)?)
 }
 
-/// The local variables that stand in an atom. Each of the atom's variables is looked up a few times; where no variable is
-/// local, nothing is read.
+/// Returns the local variables that occur in an atom. Each of the atom's variables is looked up a few times; if no
+/// variable is local, nothing is read.
 pub fn standing(alloc: Global, m: &Setting, p: &Pattern) -> Result<Items<Var>, NoMemory>
     ensures { IfOk result (λ found. found ≡ filter (λ x. (reading_at m.now.reader).stands p.now x) m.now.locals.now) }
 {
@@ -33,7 +33,7 @@ pub fn standing(alloc: Global, m: &Setting, p: &Pattern) -> Result<Items<Var>, N
     m.locals.among(alloc, &set)
 }
 
-/// Those of the variables that the scope lacks, in their order.
+/// Returns those of the variables that the scope lacks, in their order.
 pub fn loose(alloc: Global, scope: &Scope, vars: &[Var]) -> Result<Items<Var>, NoMemory>
     ensures { IfOk result (λ found. found ≡ filter (λ x. not (table.in_scope scope.now x)) vars.now) }
 {
@@ -47,8 +47,8 @@ pub fn loose(alloc: Global, scope: &Scope, vars: &[Var]) -> Result<Items<Var>, N
     Ok(found)
 }
 
-/// The variables that occur in `when` code alone, and in this piece. Each of the piece's variables is looked up a few times;
-/// where no variable occurs in `when` code alone, nothing is read.
+/// Returns the variables that occur only in `when` code, and in this piece. Each of the piece's variables is looked up
+/// a few times; if no variable occurs only in `when` code, nothing is read.
 pub fn lone(alloc: Global, m: &Setting, piece: &[Elem]) -> Result<Items<Var>, NoMemory>
     ensures { IfOk result (λ found. found ≡ table.lone (setting_at m.now) (body piece.now)) }
 {

@@ -1,4 +1,4 @@
-// The atoms of an element that stand beside dots.
+// The atoms of an element that are beside dots.
 ghost use Rattle.std.specs.Prelude.{◌≡◌, ◌++◌, ◌-◌, ◌<◌, ◌≤◌, if◌then◌else◌, Some, IfOk, OnOk, true};
 ghost use Rattle.std.specs.Option.{option_copied};
 ghost use Rattle.smpl_patch.specs.Bodies.{body, element};
@@ -18,7 +18,7 @@ use smpl_patch::{Elem, Pattern, is_statement};
 use sqlite_items::Items;
 use std::alloc::Global;
 
-/// The last or the first atoms of an element, in this scope. Each is read once.
+/// Returns the last or the first atoms of an element, in this scope. Each is read once.
 #[cycle(near)]
 fn near(
     alloc: Global,
@@ -93,7 +93,7 @@ fn near_body(
     near(alloc, parts, m, last, &b[i], scope)
 }
 
-/// The number of the last or the first of so many.
+/// Returns the index of the last or the first of `len` items.
 fn end_of(len: usize, last: bool) -> usize
     requires { 1 ≤ len }
     ensures value { result ≡ (if last then len - 1 else 0) }
@@ -102,7 +102,7 @@ fn end_of(len: usize, last: bool) -> usize
     if last { len - 1 } else { 0 }
 }
 
-/// Those of some branches: one of them.
+/// Returns those of some branches: one of them.
 #[cycle(near)]
 fn near_any(
     alloc: Global,
@@ -125,7 +125,7 @@ fn near_any(
     Ok(Some(Beside::Any(Items::from_vec(found))))
 }
 
-/// Those of the first branch.
+/// Returns those of the first branch.
 #[cycle(near)]
 fn near_all(
     alloc: Global,
@@ -153,7 +153,7 @@ fn push_beside(beside: Option<Beside>, found: &mut Vec<Beside>) -> Result<(), No
     Ok(())
 }
 
-/// The last or the first atoms of an element beside dots, where there is one.
+/// Returns the last or the first atoms of an element beside dots, if there is one.
 pub fn near_option(
     alloc: Global,
     parts: &mut Parts,

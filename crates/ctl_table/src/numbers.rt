@@ -8,8 +8,8 @@ use std::alloc::{AllocError, Global};
 use std::collections::HashMap;
 use std::marker::Model;
 
-/// The opening braces' atoms of a body's blocks, in the order of their hidden variables, with the first place of each.
-/// Contracts see the list.
+/// The atoms of the opening braces of a body's blocks, in the order of their hidden variables, with the first place of
+/// each. Contracts see the list.
 #[derive(Drop)]
 pub struct Blocks {
     atoms: Vec<u32>,
@@ -28,7 +28,8 @@ impl Model for Blocks {
     ghost invariant = { λ b. ArePlaces b.atoms.items (get nat_eq b.places) };
 }
 
-/// The first place of each atom: places are put from the last on, and each replaces a later one of the same atom.
+/// Returns the first place of each atom: places are inserted from the last on, and each replaces a later one of the
+/// same atom.
 fn places_of(alloc: Global, atoms: &[u32]) -> Result<HashMap<u32, usize>, AllocError>
     ensures { IfOk result (λ places. ArePlaces atoms.now (get nat_eq places)) }
 {
@@ -42,7 +43,7 @@ fn places_of(alloc: Global, atoms: &[u32]) -> Result<HashMap<u32, usize>, AllocE
 }
 
 impl Blocks {
-    /// The blocks whose opening braces are these atoms. Linear, where no hashes collide.
+    /// Returns the blocks whose opening braces are these atoms. Takes linear time if no hashes collide.
     pub fn of(alloc: Global, atoms: Vec<u32>) -> Result<Blocks, AllocError>
         ensures { IfOk result (λ blocks. blocks ≡ atoms.items) }
     {
@@ -50,8 +51,8 @@ impl Blocks {
         Ok(Blocks { atoms, places })
     }
 
-    /// The number of the first block with this opening brace, or how many blocks there are if none has it. One look-up; takes
-    /// no memory.
+    /// Returns the number of the first block with this opening brace, or the number of blocks if none has it. Takes one
+    /// look-up; allocates nothing.
     pub fn number_of(&self, atom: u32) -> usize
         ensures { result ≡ index_of atom self.now }
     {

@@ -14,7 +14,7 @@ use smpl_patch::Pattern;
 use smpl_terms::Var;
 use std::alloc::Global;
 
-/// An atom with the quantifiers of the variables that stand in it alone.
+/// Returns the part for an atom under the quantifiers of those of the variables that occur in it.
 pub fn own_atom(
     alloc: Global,
     parts: &mut Parts,
@@ -62,7 +62,7 @@ pub fn own_close(
     exists_all(alloc, parts, here.as_slice(), f)
 }
 
-/// The variable of a block. One look-up.
+/// Returns the variable of a block. Takes one look-up.
 pub fn hidden(alloc: Global, m: &Setting, o: &Pattern) -> Result<Var, NoMemory>
     ensures { IfOk result (λ v. v ≡ table.hidden (setting_at m.now) o.now) }
 {

@@ -34,8 +34,8 @@ use sqlite_items::Items;
 use std::alloc::Global;
 use std::slice::from_ref;
 
-/// A sequence under what is quantified inside it and around it, and what follows it. An element is worked off once, for all
-/// that may follow it: d + 1 things at most where d disjunctions stand around it.
+/// Returns the part for a sequence, under the variables quantified inside it and around it, and what follows it. An
+/// element is processed once for everything that may follow it: d + 1 things at most inside d disjunctions.
 #[cycle(rows)]
 pub fn sequence(
     alloc: Global,
@@ -57,7 +57,7 @@ pub fn sequence(
     Ok(made[0])
 }
 
-/// A sequence before each of the things that may follow it.
+/// Returns the parts for a sequence before each of the things that may follow it.
 #[cycle(rows)]
 fn sequences(
     alloc: Global,
@@ -82,7 +82,7 @@ fn sequences(
     follows_at(alloc, parts, m, made.as_slice(), scope)
 }
 
-/// The whole of a sequence, for what stands before it: its suffixes are made from the last.
+/// Returns the whole of a sequence, for what is before it. Its suffixes are made from the last one on.
 #[cycle(rows)]
 fn suffixes(
     alloc: Global,
@@ -114,8 +114,8 @@ fn suffixes(
     Ok(made)
 }
 
-/// The suffix that begins with an element, for what stands before it. What stands inside the element is made once, but for
-/// branches, which what follows goes into.
+/// Returns the suffix that begins with an element, for what is before it. What is inside the element is made once,
+/// except for branches, which include what follows.
 #[cycle(rows)]
 fn suffix(
     alloc: Global,
@@ -176,7 +176,7 @@ fn suffix(
     }
 }
 
-/// A head with its bodies and its tail.
+/// Returns the part for a head with its bodies and its tail.
 #[cycle(rows)]
 fn compound(
     alloc: Global,
@@ -195,7 +195,7 @@ fn compound(
     headed(alloc, parts, m, h, inside.as_slice(), tail, vars)
 }
 
-/// A block's braces, and what they hold.
+/// Returns the part for a block's braces and their contents.
 #[cycle(rows)]
 fn block(
     alloc: Global,
@@ -219,7 +219,7 @@ fn block(
     braced(alloc, parts, m, vars, o, v, inside)
 }
 
-/// The part of a nest.
+/// Returns the part of a nest.
 #[cycle(rows)]
 fn nest(
     alloc: Global,
@@ -238,7 +238,7 @@ fn nest(
     sequence(alloc, parts, m, b, &Made::Nothing, own, scope)
 }
 
-/// `not` each piece of `when` code.
+/// Returns `not` each piece of `when` code.
 #[cycle(rows)]
 fn when_parts(
     alloc: Global,
@@ -276,8 +276,9 @@ fn when_part(
     not_piece(alloc, parts, alone, f)
 }
 
-/// The first branch that holds, before each of the things that may follow. Each branch is worked off once: the last for these
-/// things, and each of the others for nothing too, since it is excluded at later branches.
+/// Returns the parts for the first branch that holds, before each of the things that may follow. Each branch is
+/// processed once: the last for these things, and each of the others also for nothing, since it is excluded at later
+/// branches.
 #[cycle(rows)]
 fn choice(
     alloc: Global,
@@ -308,7 +309,7 @@ fn choice(
     }
 }
 
-/// The parts of a branch, one for each of the things that may follow.
+/// Returns the parts of a branch, one for each of the things that may follow.
 #[cycle(rows)]
 fn one_branch(
     alloc: Global,
@@ -331,7 +332,7 @@ fn one_branch(
     sequences(alloc, parts, m, b, nexts, own, scope)
 }
 
-/// The parts of each branch, one for each of the things that may follow.
+/// Returns the parts of each branch, one for each of the things that may follow.
 #[cycle(rows)]
 fn branches(
     alloc: Global,
@@ -359,7 +360,7 @@ fn branches(
     Ok(rows)
 }
 
-/// All branches, the first before each of the things that may follow.
+/// Returns the parts for all branches, the first one before each of the things that may follow.
 #[cycle(rows)]
 fn every(
     alloc: Global,
@@ -387,7 +388,7 @@ fn every(
     }
 }
 
-/// Bodies or branches, nothing following any of them.
+/// Returns the parts for bodies or branches that nothing follows.
 #[cycle(rows)]
 fn each(
     alloc: Global,

@@ -1,4 +1,4 @@
-// Parts made of parts.
+// Parts made from parts.
 ghost use Rattle.std.specs.Prelude.{◌≡◌, ◌<◌, ◌++◌, true, length, drop, IfOk, OnOk, Some, []};
 ghost use Rattle.std.specs.Option.{option_copied};
 ghost use Rattle.ctl_formula.specs.Plain as plain;
@@ -13,7 +13,7 @@ use ctl_formula::{Node, Parts};
 use smpl_terms::Var;
 use std::alloc::Global;
 
-/// The first variable is the outermost.
+/// Returns a part under these quantifiers. The first variable is the outermost.
 pub fn exists_all(
     alloc: Global,
     parts: &mut Parts,
@@ -60,7 +60,7 @@ pub fn or_all(parts: &mut Parts, f: usize, more: &[usize]) -> Result<usize, NoMe
     Ok(found)
 }
 
-/// Of no parts it is True.
+/// Returns the conjunction of the parts; without parts it is True.
 pub fn all_of(parts: &mut Parts, fs: &[usize]) -> Result<usize, NoMemory>
     requires { all_below (length parts.old) fs.now ≡ true }
     ensures made { IfOk result (λ i. Makes parts.old parts.new i
@@ -72,7 +72,7 @@ pub fn all_of(parts: &mut Parts, fs: &[usize]) -> Result<usize, NoMemory>
     }
 }
 
-/// Of no parts it is `not` True.
+/// Returns the disjunction of the parts; without parts it is `not` True.
 fn any_of(parts: &mut Parts, fs: &[usize]) -> Result<usize, NoMemory>
     requires { all_below (length parts.old) fs.now ≡ true }
     ensures made { IfOk result (λ i. Makes parts.old parts.new i
@@ -87,7 +87,7 @@ fn any_of(parts: &mut Parts, fs: &[usize]) -> Result<usize, NoMemory>
     }
 }
 
-/// A part at all next nodes, or at some.
+/// Returns the part that says that a part holds at all next nodes, or at some.
 fn next(parts: &mut Parts, forall_walks: bool, f: usize) -> Result<usize, NoMemory>
     requires { f < length parts.old }
     ensures made { IfOk result (λ i. Makes parts.old parts.new i
@@ -99,7 +99,7 @@ fn next(parts: &mut Parts, forall_walks: bool, f: usize) -> Result<usize, NoMemo
     parts.push(Node::EX(f))
 }
 
-/// Dots whose condition is d, and which lead to t.
+/// Returns the part for dots with condition `d` that lead to `t`.
 pub fn until(
     parts: &mut Parts,
     forall_walks: bool,
@@ -133,7 +133,7 @@ fn or_bail(parts: &mut Parts, strict: bool, t: usize) -> Result<usize, NoMemory>
     parts.push(Node::Or(t, bail))
 }
 
-/// A nest whose part is p.
+/// Returns the part for a nest whose part is `p`.
 pub fn nested(
     parts: &mut Parts,
     forall_walks: bool,
@@ -163,7 +163,7 @@ pub fn nested(
     parts.push(Node::And(f, some))
 }
 
-/// Where dots lead to, by the block around them.
+/// Returns the target of dots, given the block around them.
 pub fn target(
     alloc: Global,
     parts: &mut Parts,
@@ -181,7 +181,7 @@ pub fn target(
     }
 }
 
-/// Where dots in a block lead to.
+/// Returns the target of dots in a block.
 fn target_of_block(
     alloc: Global,
     parts: &mut Parts,
@@ -201,7 +201,7 @@ fn target_of_block(
     }
 }
 
-/// A part, or a place outside the block.
+/// Returns the disjunction of a part and a place outside the block.
 fn or_outside(alloc: Global, parts: &mut Parts, b: &Var, f: usize) -> Result<usize, NoMemory>
     requires { f < length parts.old }
     ensures made { IfOk result (λ i. Makes parts.old parts.new i
@@ -212,7 +212,7 @@ fn or_outside(alloc: Global, parts: &mut Parts, b: &Var, f: usize) -> Result<usi
     parts.push(Node::Or(f, outside))
 }
 
-/// A part, inside the block.
+/// Returns the conjunction of a part and a place inside the block.
 fn and_inside(alloc: Global, parts: &mut Parts, b: &Var, f: usize) -> Result<usize, NoMemory>
     requires { f < length parts.old }
     ensures made { IfOk result (λ i. Makes parts.old parts.new i
@@ -223,7 +223,7 @@ fn and_inside(alloc: Global, parts: &mut Parts, b: &Var, f: usize) -> Result<usi
     parts.push(Node::And(inside, f))
 }
 
-/// A part, and another at the node past its statement.
+/// Returns the conjunction of a part and another at the node past its statement.
 pub fn and_past(parts: &mut Parts, f: usize, g: usize) -> Result<usize, NoMemory>
     requires f { f < length parts.old }
     requires g { g < length parts.old }
@@ -234,7 +234,7 @@ pub fn and_past(parts: &mut Parts, f: usize, g: usize) -> Result<usize, NoMemory
     parts.push(Node::And(f, past))
 }
 
-/// A part, and another at the next nodes.
+/// Returns the conjunction of a part and another at the next nodes.
 fn and_next(parts: &mut Parts, forall_walks: bool, f: usize, g: usize) -> Result<usize, NoMemory>
     requires f { f < length parts.old }
     requires g { g < length parts.old }
@@ -245,7 +245,7 @@ fn and_next(parts: &mut Parts, forall_walks: bool, f: usize, g: usize) -> Result
     parts.push(Node::And(f, next))
 }
 
-/// A part for an atom or a statement variable, and what follows.
+/// Returns the part for an atom or a statement variable, and what follows.
 pub fn joined(
     parts: &mut Parts,
     forall_walks: bool,
@@ -273,7 +273,7 @@ pub fn joined(
     }
 }
 
-/// Of no parts it is none.
+/// Returns the disjunction of the parts, or `None` without parts.
 pub fn or_some(parts: &mut Parts, fs: &[usize]) -> Result<Option<usize>, NoMemory>
     requires { all_below (length parts.old) fs.now ≡ true }
     ensures made { IfOk result (λ found. MakesSome parts.old parts.new found
@@ -285,7 +285,7 @@ pub fn or_some(parts: &mut Parts, fs: &[usize]) -> Result<Option<usize>, NoMemor
     }
 }
 
-/// Each part at the body of its number.
+/// Returns each part at the body with its number.
 pub fn downs(alloc: Global, parts: &mut Parts, inside: &[usize]) -> Result<Vec<usize>, NoMemory>
     requires { all_below (length parts.old) inside.now ≡ true }
     ensures made { IfOk result (λ made. MakesAll parts.old parts.new made.items (table.downs 0
@@ -299,7 +299,7 @@ pub fn downs(alloc: Global, parts: &mut Parts, inside: &[usize]) -> Result<Vec<u
     Ok(made)
 }
 
-/// Each branch with what follows it, and none of those before it.
+/// Returns each branch with what follows it and the negations of the branches before it.
 fn choices(
     alloc: Global,
     parts: &mut Parts,
@@ -321,7 +321,7 @@ fn choices(
     Ok(made)
 }
 
-/// One more that doesn't hold: the branch of this number, if there is one.
+/// Adds the negation of the branch with this number, if there is one.
 fn exclude(
     parts: &mut Parts,
     alone: &[usize],
@@ -341,7 +341,7 @@ fn exclude(
     Ok(())
 }
 
-/// The first branch that holds. The branches alone may be without the last.
+/// Returns the part for the first branch that holds. `alone` may omit the last branch.
 pub fn first_branch(
     alloc: Global,
     parts: &mut Parts,

@@ -1,4 +1,4 @@
--- The formula of a body has at least as many levels as its elements alone tell.
+-- The formula of a body has at least as many levels as its elements alone imply.
 use Rattle.std.proofs.Common.{◌≡◌, ℕ, suc, ◌+◌, ◌<◌, ◌≤◌, max, Bool, true, false, not, ◌&&◌, cond, nat_le, refl, sym, ap, ◌∙◌, subst, List, [], ◌∷◌, ◌++◌, length, drop, get_or, Option, None, Some, arith}
 use Rattle.std.proofs.lemmas.Bool.{lt-leb}
 use Rattle.std.specs.List.{filter}
@@ -55,7 +55,7 @@ nested-deep : (forall_walks plus strict : Bool) (d p t : Plain) → suc (depth t
 nested-deep forall_walks false strict d p t = until-deep forall_walks strict (And d (Or p (Not p))) t
 nested-deep forall_walks true strict d p t = let r = until-deep forall_walks strict (And d (Or p (Not p))) t in omega (arith, r)
 
--- what follows has n levels, none where there is nothing
+-- what follows has n levels, or none if there is nothing
 abbrev Counts : Start → ℕ → Type 0
 Counts Nothing n = n ≤ 0
 Counts Brace n = Unit {0}
@@ -149,7 +149,7 @@ over-around f h = ap (λ z. nat_le (size f) most_parts && z) (lt-leb (depth f) 4
 far-step : (n x z : ℕ) → n ≤ x → 4001 < n → x ≤ suc z → 4000 < z
 far-step n x z p q r = omega (arith, p, q, r)
 
--- a body that tells of too many levels has a formula that is too large
+-- a body that implies too many levels has a formula that is too large
 pub too-deep : (r : Rule) (n : ℕ) → n ≤ levels_body (body r.body) 0 → 4001 < n → fits (rules.formula_of r) ≡ false
 too-deep r n h l =
     let b = body r.body in

@@ -1,4 +1,4 @@
--- A formula whose quantifiers are of known variables is guarded where it is so for each local variable.
+-- A formula whose quantifiers are of known variables is guarded if it is guarded for each local variable.
 use Rattle.std.proofs.Common.{◌≡◌, Bool, true, false, not, ◌&&◌, ◌||◌, refl, sym, ap, ◌∙◌, List}
 use Rattle.smpl_terms.specs.declared.var.Var.{Var}
 use Rattle.smpl_terms.specs.Vars.{same_var}

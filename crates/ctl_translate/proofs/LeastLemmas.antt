@@ -1,4 +1,4 @@
--- The formula of a body has at least as many subformulas as its elements alone tell.
+-- The formula of a body has at least as many subformulas as its elements alone imply.
 use Rattle.std.proofs.Common.{◌≡◌, ℕ, suc, ◌+◌, ◌*◌, ◌<◌, ◌≤◌, Bool, true, false, not, ◌&&◌, cond, nat_le, ap, List, [], ◌∷◌, ◌++◌, Option, None, Some, arith}
 use Rattle.std.proofs.Math.Nat.{mul-le-mul_left}
 use Rattle.std.proofs.lemmas.Bool.{lt-leb}
@@ -16,12 +16,12 @@ use Rattle.ctl_table.specs.Table.{Setting, Follow, Start, Nothing, Brace, Dots, 
 use Rattle.ctl_translate.specs.Rules as rules
 use Rattle.ctl_translate.specs.Least.{Least, then_least, least_element, least_body, least_alone, least_choices, least_first}
 
--- how many subformulas several formulas have
+-- the number of subformulas of several formulas together
 abbrev pub sizes : List Plain → ℕ
 sizes [] = 0
 sizes (f ∷ fs) = size f + sizes fs
 
--- the same, and the joint before each
+-- the same, plus one for the connective before each formula
 abbrev pub joined_sizes : List Plain → ℕ
 joined_sizes [] = 0
 joined_sizes (f ∷ fs) = 1 + size f + joined_sizes fs
@@ -69,7 +69,7 @@ target-size (Some b) Nothing f = omega arith
 target-size (Some b) Dots f = omega arith
 target-size (Some b) Other f = omega arith
 
--- the part that dots stay in their block takes nothing from the others
+-- the part saying that dots stay in their block removes nothing from the others
 firsts-sizes : (o : Option Var) (fs : List Plain) (n : ℕ) → n ≤ sizes fs → n ≤ sizes (stays o ++ fs)
 firsts-sizes None fs n h = h
 firsts-sizes (Some b) fs n h = omega (arith, h)
@@ -93,7 +93,7 @@ condition-size false whens before after =
     let f = front-sizes whens (nots before ++ nots after) in
     omega (arith, a, f)
 
--- what follows has at least n subformulas, none where there is nothing
+-- what follows has at least n subformulas, or none if there is nothing
 abbrev Counts : Start → ℕ → Type 0
 Counts Nothing n = n ≤ 0
 Counts Brace n = Unit {0}
@@ -122,11 +122,11 @@ joined-size false false f Dots g n h z = omega (arith, h)
 joined-size forall_walks statement f Brace g n h z = omega (arith, h)
 joined-size forall_walks statement f Other g n h z = omega (arith, h)
 
--- one part and then another, at what follows both
+-- one part followed by another, with what follows both
 regroup : (a b c d n x : ℕ) → a + b * (c + d * n) ≤ x → a + b * c + b * d * n ≤ x
 regroup a b c d n x h = omega (arith, h)
 
--- the part so far, and then the rest, is at most the whole
+-- the part so far, followed by the rest, is at most the whole
 pub record IsLeastOf (fixed times : ℕ) (rest all : Least) : Type 0 where
   pub below : fixed + times * rest.fixed ≤ all.fixed
   pub often : times * rest.times ≤ all.times
@@ -305,7 +305,7 @@ mutual
 over-limit : (f : Plain) → 100000 < size f → fits f ≡ false
 over-limit f h = ap (λ z. z && nat_le (depth f) most_around) (lt-leb (size f) 100000 h)
 
--- a body that tells of too many subformulas has a formula that is too large
+-- a body that implies too many subformulas has a formula that is too large
 pub too-many : (r : Rule) (n : ℕ) → n ≤ (least_body (body r.body)).fixed → 100000 < n → fits (rules.formula_of r) ≡ false
 too-many r n h l =
     let b = body r.body in

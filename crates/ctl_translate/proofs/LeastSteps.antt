@@ -1,4 +1,4 @@
--- How many subformulas there are at least, element by element and branch by branch.
+-- Lower bounds for the number of subformulas, element by element and branch by branch.
 use Rattle.std.proofs.Common.{◌≡◌, ℕ, suc, ◌+◌, ◌-◌, ◌*◌, ◌<◌, ◌≤◌, refl, ap, ◌∙◌, subst, List, [], ◌∷◌, length, drop, get_or, arith, length-drop}
 use Rattle.std.proofs.lemmas.Nat.{mul-le}
 use Rattle.smpl_patch.specs.declared.elem.Elem.{Elem}
@@ -39,7 +39,7 @@ later-branches bs i l =
     let d = length-drop (i + 1) bs in
     omega (arith, c, d, l)
 
--- the branches so far, and then the rest, are at most all
+-- the branches so far, followed by the rest, are at most all
 pub record AreLeastOf (fixed times : ℕ) (rest all : Least) : Type 0 where
   pub below : fixed + rest.fixed ≤ all.fixed
   pub often : times + rest.times ≤ all.times

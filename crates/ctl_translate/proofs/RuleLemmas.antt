@@ -1,4 +1,4 @@
--- A rule's formula is guarded where none of its variables may stay unbound.
+-- A rule's formula is guarded if none of its variables may stay unbound.
 use Rattle.std.proofs.Common.{◌≡◌, ℕ, Bool, true, false, not, ◌&&◌, ◌||◌, cond, if◌then◌else◌, refl, sym, ap, ◌∙◌, ◌⊎◌, inl, inr}
 use Rattle.std.proofs.Common.{List, [], ◌∷◌, map, length, get_or, drop, ◌+◌, ◌<◌, Option, None, Some, arith}
 use Rattle.std.specs.List.{filter, list_all}
@@ -56,7 +56,7 @@ all-self [] = refl
 all-self (x ∷ xs) =
     ap (λ z. (z || in_scope xs x) && list_all (in_scope (x ∷ xs)) xs) (same_var-refl x) ∙ all-more xs xs x (all-self xs)
 
--- the declaration is one of the local ones of the variable, or one of the others is
+-- either the declaration passes the test and declares the variable, or one of the others declares it
 among : (b : Bool) (d : VarDecl) (ds : List VarDecl) (x : Var) → in_scope (map (λ e. e.var) (cond b (d ∷ ds) ds)) x ≡ true
     → ((b ≡ true) × (same_var d.var x ≡ true)) ⊎ (in_scope (map (λ e. e.var) ds) x ≡ true)
 among true d ds x h = elim (or-cases (same_var d.var x) (in_scope (map (λ e. e.var) ds) x) h) [ inl e ↦ inl (refl, e) | inr e ↦ inr e ]
@@ -101,7 +101,7 @@ pub formula-guarded : (r : Rule) → rules.first_unbound r ≡ None → guarded 
 formula-guarded r h =
     guarded-all (patterns.sure r.vars r.tokens) (rules.locals r) same_var-refl (rules.formula_of r) (known-formula r) (λ x k. guarded-from r r.vars x h k)
 
--- what the code reads patterns by
+-- what the code reads patterns with
 abbrev pub read : List VarDecl → List PatToken → Reading
 read decls tokens = record { stands = patterns.stands decls tokens; used = patterns.used decls tokens; is_statement = patterns.is_statement }
 
@@ -129,7 +129,7 @@ rule-formula r decls tokens forall_walks locals alone bs es w s d t f l a b e v 
     ∙ ap (λ (z : List Var). whole r.vars r.tokens (rules.ranges_over_all r.mode) (rules.locals r) (filter (is_alone (rules.reading r) (body r.body)) (rules.locals r)) (blocks (body r.body)) r.body
     (filter (λ x. not (is_alone (rules.reading r) (body r.body) x)) (rules.locals r)) z) n
 
--- the formula is guarded, as the code has it
+-- the formula is guarded, in the terms of the code
 pub root-guarded : (r : Rule) (decls : List VarDecl) (tokens : List PatToken) (f : Plain) → decls ≡ r.vars → tokens ≡ r.tokens → f ≡ rules.formula_of r
     → rules.first_unbound r ≡ None → guarded (patterns.sure decls tokens) f ≡ true
 root-guarded r decls tokens f d t e h =
@@ -160,7 +160,7 @@ kept-is test r decls tokens es xs d t e l =
     ∙ ap (λ (z : List Elem). kept_by test r.vars r.tokens z xs) e
     ∙ ap (λ (z : List Var). kept_by test r.vars r.tokens r.body z) l
 
--- what a rule's formula says of each of its variables, as the code has it
+-- what a rule's formula says about each of its variables, in the terms of the code
 abbrev pub AllSaid : Rule → Bindings → Type 0
 AllSaid r found = (x : Var) → is_declared r.vars x ≡ true
     → binds_in found x ≡ Some (binds_at (patterns.sure r.vars r.tokens) x (rules.formula_of r))
@@ -171,7 +171,7 @@ declared-at ds i d h e =
     list_any_at (λ (y : Var). same_var y d.var) (map (λ c. c.var) ds) i d.var within
     (ap (λ (y : Var). same_var y d.var) (get_or-map (λ c. c.var) ds i d d.var h ∙ ap (λ c. c.var) (sym e)) ∙ same_var-refl d.var)
 
--- what the code asks of the formula about the declaration of this number
+-- what the code asks about the declaration with this number
 module _ (r : Rule) (exports : List Var) (found : Bindings) (ds : List VarDecl) (i : ℕ) (d : VarDecl) (u : Bool) (w : Option Var)
     (e : (x : Var) → has exports x ≡ rules.is_exported r x) (s : AllSaid r found) (v : ds ≡ r.vars)
     (h : i < length ds) (g : d ≡ get_or ds i d)
@@ -190,7 +190,7 @@ module _ (r : Rule) (exports : List Var) (found : Bindings) (ds : List VarDecl) 
       ap (rules.first_unbound_from r) (drop_more ds i d h ∙ ap (λ (z : VarDecl). z ∷ drop (i + 1) ds) (sym g))
       ∙ ap (λ (z : Bool). if z then Some d.var else rules.first_unbound_from r (drop (i + 1) ds)) (sym unbound-is)
 
-  -- the variable is bound, and the next one is asked
+  -- the variable is bound, and the next one is checked
   pub passed : u ≡ false → rules.first_unbound_from r (drop (i + 1) ds) ≡ w
   passed q = ap (λ (z : Bool). if z then Some d.var else rules.first_unbound_from r (drop (i + 1) ds)) (sym q) ∙ sym here ∙ k
 

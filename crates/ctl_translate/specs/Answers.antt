@@ -1,4 +1,4 @@
--- What `formula_of` answers.
+-- What `formula_of` returns.
 use Rattle.std.specs.Prelude.{◌≡◌, true, false, None, Some}
 use Rattle.smpl_terms.specs.declared.var.Var.{Var}
 use Rattle.smpl_patch.specs.declared.rule.Rule.{Rule}
@@ -9,7 +9,7 @@ use Rattle.ctl_translate.specs.declared.rule.FormulaFault.{FormulaFault}
 use Rattle.ctl_translate.specs.declared.rule.FormulaFault.TheVariants as fault
 
 -- the rule's formula, which is within the limits and in which no variable may stay unbound, with what its patterns are
--- read by
+-- read with
 pub record IsFormulaOf (r : Rule) (f : FormulaOf) : Type 0 where
   pub formula : plain f ≡ formula_of r
   pub decls : f.decls ≡ r.vars
@@ -21,7 +21,7 @@ pub record IsUnbound (r : Rule) (x : Var) : Type 0 where
   pub in_limits : fits (formula_of r) ≡ true
   pub first : first_unbound r ≡ Some x
 
--- each fault but the lack of memory comes exactly where it must
+-- each fault except the lack of memory is returned exactly when it must be
 abbrev pub IsFaultOf : Rule → FormulaFault → Type 0
 IsFaultOf r fault.TooLarge = fits (formula_of r) ≡ false
 IsFaultOf r (fault.Unbound x) = IsUnbound r x

@@ -1,12 +1,12 @@
 -- Definitions of ctl_bound.
--- What public contracts rest on, in reading order.
--- what a formula says of a variable
+-- What the public contracts rest on, in reading order.
+-- what a formula says about a variable
 pub mod Binding
--- the same of 64 variables, a bit each
+-- the same for 64 variables, one bit each
 pub mod Bits
--- and of many: 64 of them each, by their numbers
+-- and for many variables by their numbers, 64 of them each
 pub mod Saying
--- For inside use: which variables a node names, as marks and as bits.
+-- Internal: which variables a node names, as marks and as bits.
 pub mod Naming
--- And what it says by its parts.
+-- What a node says, given its parts.
 pub mod Steps

@@ -1,9 +1,10 @@
--- How many levels the formula of a body has at least, by its elements alone: enough to tell bodies that are far too long
--- before any part is made. A formula has one level more than the most that stand around one of its subformulas.
+-- A lower bound for the number of levels of a body's formula, computed from its elements alone: enough to detect bodies
+-- that are far too long before any part is made. A formula has one level more than the most subformulas around one of
+-- its subformulas.
 use Rattle.std.specs.Prelude.{ℕ, suc}
 use Rattle.smpl_patch.specs.Bodies.{Element, Atom, Compound, Block, Gap, Nest, AnyOf, AllOf, Body, End, Then, Bodies, NoMore, More}
 
--- the number is how many levels what follows has; none where nothing does
+-- the number is how many levels what follows has: 0 if nothing follows
 abbrev mutual
   pub levels_element : Element → ℕ → ℕ
   levels_element (Atom p) n = suc n
@@ -18,7 +19,7 @@ abbrev mutual
   levels_body End n = n
   levels_body (Then e rest) n = levels_element e (levels_body rest n)
 
-  -- of a disjunction the first branch; one of no branches is followed by nothing
+  -- for a disjunction the first branch counts; one without branches is followed by nothing
   pub levels_choice : Bodies → ℕ → ℕ
   levels_choice NoMore n = 1
   levels_choice (More b bs) n = levels_body b n

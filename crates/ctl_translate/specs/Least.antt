@@ -1,15 +1,15 @@
--- How many subformulas the formula of a body has at least, by its elements alone: enough to tell formulas that are far
--- too large before any of them is made.
+-- A lower bound for the number of subformulas of a body's formula, computed from its elements alone: enough to detect
+-- formulas that are far too large before any of them is made.
 use Rattle.std.specs.Prelude.{ℕ, ◌+◌, ◌*◌}
 use Rattle.smpl_patch.specs.Bodies.{Element, Atom, Compound, Block, Gap, Nest, AnyOf, AllOf, Body, End, Then, Bodies, NoMore, More}
 use Rattle.smpl_patch.specs.Shapes.{count}
 
--- a part of a body that has at least `fixed + times * n` subformulas where what follows it has n
+-- a part of a body that has at least `fixed + times * n` subformulas if what follows it has n
 pub record Least : Type 0 where
   pub fixed : ℕ
   pub times : ℕ
 
--- one part, and then another
+-- one part followed by another
 abbrev pub then_least : Least → Least → Least
 then_least e r = record { fixed = e.fixed + e.times * r.fixed; times = e.times * r.times }
 
@@ -40,7 +40,7 @@ abbrev mutual
     times = (least_body b).times + (least_choices bs).times;
   }
 
-  -- the first branch is followed, the others hold alone
+  -- the first branch is followed, and the others are alone
   pub least_first : Bodies → Least
   least_first NoMore = record { fixed = 0; times = 1 }
   least_first (More b bs) = record { fixed = (least_body b).fixed + least_alone bs; times = (least_body b).times }

@@ -1,11 +1,11 @@
--- What public contracts rest on, in reading order.
--- the formula of a rule, and why it has none that may be used
+-- What the public contracts rest on, in reading order.
+-- the formula of a rule, and why it has no usable one
 pub mod Rules
--- what `formula_of` answers
+-- what `formula_of` returns
 pub mod Answers
--- For inside use: how large a formula is at least, by the body alone.
+-- Internal: lower bounds for the size of a formula, from the body alone.
 pub mod Least
--- how many levels it has at least, by the body alone
+-- lower bounds for its number of levels, from the body alone
 pub mod Deep
--- What ctl_bound defines.
+-- The definitions of ctl_bound.
 pub mod CtlBound

@@ -1,4 +1,4 @@
--- The formula of a rule, and why it has none that may be used.
+-- The formula of a rule, and why it has no usable one.
 use Rattle.std.specs.Prelude.{Bool, true, false, not, ◌&&◌, if◌then◌else◌, Option, None, Some, List, [], ◌∷◌, map}
 use Rattle.std.specs.List.{filter, list_any}
 use Rattle.smpl_terms.specs.declared.var.Var.{Var}
@@ -28,7 +28,7 @@ ranges_over_all mode.Forall = true
 abbrev pub is_exported : Rule → Var → Bool
 is_exported r x = list_any (λ y. same_var y x) r.exports
 
--- the variables that are quantified somewhere, if they stand in the body: neither exported nor inherited
+-- the variables that are quantified somewhere, if they occur in the body: neither exported nor inherited
 abbrev pub locals : Rule → List Var
 locals r = map (λ d. d.var) (filter (λ d. not d.inherited && not (is_exported r d.var)) r.vars)
 
@@ -36,7 +36,7 @@ locals r = map (λ d. d.var) (filter (λ d. not d.inherited && not (is_exported 
 abbrev pub formula_of : Rule → Plain
 formula_of r = formula (reading r) (ranges_over_all r.mode) (locals r) (body r.body)
 
--- in some way in which the formula under a quantifier of x holds, x has no value; for an exported x, in some way in
+-- there is a way in which the formula under a quantifier of x holds while x has no value; for an exported x, a way in
 -- which the whole formula holds
 abbrev pub is_unbound : Rule → VarDecl → Bool
 is_unbound r d =

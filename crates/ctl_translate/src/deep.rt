@@ -1,4 +1,4 @@
-// How many levels the formula of a rule has at least, by the elements of its body alone.
+// A lower bound for the number of levels of a rule's formula, computed from the elements of its body alone.
 ghost use Rattle.std.specs.Prelude.{◌≡◌, ◌≤◌, true, false};
 ghost use Rattle.smpl_patch.specs.Bodies.{body, element};
 ghost use Rattle.smpl_patch.proofs.BodyLemmas.{bodies as bodies_of};
@@ -9,10 +9,10 @@ ghost use Rattle.ctl_translate.specs.Rules as rules;
 use smpl_patch::{Elem, Rule};
 use sqlite_items::Items;
 
-/// How many levels a formula may have: one more than the most that may stand around a subformula.
+/// The largest number of levels of a formula: one more than the largest number of subformulas around one.
 const MOST_LEVELS: u64 = 4_001;
 
-/// An element that so many levels come after.
+/// Returns a lower bound for the levels of an element, given that of what follows it.
 #[cycle(levels)]
 fn levels_element(e: &Elem, after: u64) -> u64
     ensures { result ≤ deep.levels_element (element e.now) after }
@@ -61,8 +61,9 @@ fn levels_every(bs: &[Items<Elem>], after: u64) -> u64
     }
 }
 
-/// Whether the elements alone tell that in the rule's formula too many subformulas stand around one. Linear in the
-/// elements. A body of more than 4,001 elements in a row is too long, those aside whose first branch is empty.
+/// Whether the elements alone imply that too many subformulas are around one in the rule's formula. Linear in the
+/// elements. A body of more than 4,001 elements in a row is too long, not counting elements whose first branch is
+/// empty.
 pub fn is_far_too_long(rule: &Rule) -> bool
     ensures { result ≡ true → fits (rules.formula_of rule.now) ≡ false }
 {

@@ -1,4 +1,4 @@
-// How many subformulas the formula of a rule has at least, by the elements of its body alone.
+// A lower bound for the number of subformulas of a rule's formula, computed from the elements of its body alone.
 ghost use Rattle.std.specs.Prelude.{◌≡◌, ◌+◌, ◌*◌, ◌≤◌, true, false};
 ghost use Rattle.smpl_patch.specs.Bodies.{body, element};
 ghost use Rattle.smpl_patch.proofs.BodyLemmas.{bodies as bodies_of};
@@ -9,17 +9,17 @@ ghost use Rattle.ctl_translate.specs.Rules as rules;
 use smpl_patch::{Elem, Rule};
 use sqlite_items::Items;
 
-/// How many subformulas a formula may have.
+/// The largest number of subformulas of a formula.
 const MOST_PARTS: u64 = 100_000;
 
-/// What a part of a body has at least: `fixed + times * n` subformulas where what follows it has n.
+/// The lower bound for a part of a body: `fixed + times * n` subformulas if what follows it has n.
 #[derive(Clone, Copy)]
 struct Least {
     fixed: u64,
     times: u64,
 }
 
-/// One part, and then another.
+/// Returns the bound for one part followed by another.
 fn then_least(first: Least, second: Least) -> Least
     ensures fixed { result.fixed ≤ first.fixed + first.times * second.fixed }
     ensures times { result.times ≤ first.times * second.times }
@@ -31,7 +31,7 @@ fn then_least(first: Least, second: Least) -> Least
     }
 }
 
-/// A part that what follows stands behind once.
+/// Returns the bound for a part whose formula contains what follows it once.
 fn once(inside: u64) -> Least
     ensures fixed { result.fixed ≤ 1 + inside }
     ensures times { result.times ≡ 1 }
@@ -42,7 +42,7 @@ fn once(inside: u64) -> Least
     }
 }
 
-/// Some branches, and one more, which is excluded at so many later ones.
+/// Returns the bound for some branches and one more, which is excluded at `later` later ones.
 fn with_branch(earlier: Least, branch: Least, later: u64) -> Least
     ensures fixed { result.fixed ≤ earlier.fixed + (branch.fixed + later * (2 + branch.fixed)) }
     ensures times { result.times ≤ earlier.times + branch.times }
@@ -87,7 +87,7 @@ fn least_body(b: &[Elem]) -> Least
     so_far
 }
 
-/// Bodies that nothing follows.
+/// Returns the bound for bodies that nothing follows.
 #[cycle(least)]
 fn least_alone(bs: &[Items<Elem>]) -> u64
     ensures { result ≤ least.least_alone (bodies_of bs.now) }
@@ -100,7 +100,7 @@ fn least_alone(bs: &[Items<Elem>]) -> u64
     so_far
 }
 
-/// Branches of which one is to hold.
+/// Returns the bound for branches of which one has to hold.
 #[cycle(least)]
 fn least_choices(bs: &[Items<Elem>]) -> Least
     ensures fixed { result.fixed ≤ (least.least_choices (bodies_of bs.now)).fixed }
@@ -115,7 +115,7 @@ fn least_choices(bs: &[Items<Elem>]) -> Least
     so_far
 }
 
-/// Branches all of which are to hold.
+/// Returns the bound for branches all of which have to hold.
 #[cycle(least)]
 fn least_first(bs: &[Items<Elem>]) -> Least
     ensures fixed { result.fixed ≤ (least.least_first (bodies_of bs.now)).fixed }
@@ -133,8 +133,8 @@ fn least_first(bs: &[Items<Elem>]) -> Least
     }
 }
 
-/// Whether the elements alone tell that the rule's formula has too many subformulas. Linear in the elements. So no table is
-/// made of branches within one another, each with something behind it, whose formula doubles at each level.
+/// Whether the elements alone imply that the rule's formula has too many subformulas. Linear in the elements. This way
+/// no table is made for nested branches, each with something after it, whose formula doubles at each level.
 pub fn is_far_too_large(rule: &Rule) -> bool
     ensures { result ≡ true → fits (rules.formula_of rule.now) ≡ false }
 {

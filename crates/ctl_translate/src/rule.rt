@@ -26,14 +26,14 @@ use smpl_terms::Var;
 use sqlite_items::Items;
 use std::alloc::{AllocError, Global};
 
-/// Why a rule has no formula that may be used.
+/// Why a rule has no usable formula.
 #[derive(Drop)]
 pub enum FormulaFault {
     /// It has more than 100,000 subformulas, or one inside more than 4,000 others.
     TooLarge,
     /// It isn't too large, and this is the first variable in declared order that may stay unbound.
     Unbound(Var),
-    /// Memory was refused.
+    /// Out of memory.
     NoMemory,
 }
 
@@ -73,7 +73,7 @@ fn is_local(alloc: Global, exports: &VarSet, d: &VarDecl) -> Result<bool, NoMemo
     Ok(!d.inherited && !exported)
 }
 
-/// The exported variables.
+/// Returns the exported variables.
 pub fn exported(alloc: Global, rule: &Rule) -> Result<VarSet, NoMemory>
     ensures { IfOk result (λ set. (x : Variable) → has set x ≡ rules.is_exported rule.now x) }
 {
@@ -82,7 +82,7 @@ pub fn exported(alloc: Global, rule: &Rule) -> Result<VarSet, NoMemory>
     Ok(set)
 }
 
-/// The variables that are neither exported nor inherited.
+/// Returns the variables that are neither exported nor inherited.
 fn locals(alloc: Global, rule: &Rule) -> Result<Items<Var>, NoMemory>
     ensures { IfOk result (λ found. found ≡ rules.locals rule.now) }
 {
@@ -103,7 +103,7 @@ fn is_unused(alloc: Global, used: &VarSet, x: &Var) -> Result<bool, NoMemory>
     Ok(!there)
 }
 
-/// Those of the variables that aren't in the set.
+/// Returns those of the variables that aren't in the set.
 fn others(alloc: Global, used: &VarSet, vars: &[Var]) -> Result<Items<Var>, NoMemory>
     ensures { IfOk result (λ found. found ≡ filter (λ x. not (has used.now x)) vars.now) }
 {
@@ -116,7 +116,7 @@ fn others(alloc: Global, used: &VarSet, vars: &[Var]) -> Result<Items<Var>, NoMe
     Ok(found)
 }
 
-/// The rule's declarations, found by their names.
+/// Returns the rule's declarations, found by their names.
 pub fn declared(alloc: Global, rule: &Rule) -> Result<Decls, NoMemory>
     ensures { IfOk result (λ known. known ≡ rule.now.vars) }
 {
@@ -124,9 +124,9 @@ pub fn declared(alloc: Global, rule: &Rule) -> Result<Decls, NoMemory>
     Decls::of(alloc, decls)
 }
 
-/// The variables that stand in the rule's pattern, `when` code and plus code aside. Of a head and of the tail of `do` only
-/// their own tokens count. Recurses once a level of nested statements and of branches, and is linear in the rule, where no
-/// hashes collide.
+/// Returns the variables that occur in the rule's pattern, except in `when` code and plus code. Of a head and of the
+/// tail of a `do` only their own tokens count. Recurses once for each level of nested statements and of branches, and
+/// is linear in the rule if no hashes collide.
 pub fn standing_outside_whens(alloc: Global, rule: &Rule) -> Result<VarSet, NoMemory>
     ensures value { IfOk result (λ set. (x : Variable) → has set x ≡ any_body false
         (λ p. patterns.stands rule.now.vars rule.now.tokens p x) (body rule.now.body)) }
@@ -138,7 +138,7 @@ pub fn standing_outside_whens(alloc: Global, rule: &Rule) -> Result<VarSet, NoMe
     standing_in_body(alloc, &Reader { decls, tokens }, false, b)
 }
 
-/// The variables that are neither exported nor inherited: those that occur in `when` code alone, and the others.
+/// The variables that are neither exported nor inherited: those that occur only in `when` code, and the others.
 #[derive(Drop)]
 pub struct LocalVars {
     pub alone: Ordered,
@@ -163,7 +163,7 @@ fn sorted_locals(
     Ok(LocalVars { alone, placed })
 }
 
-/// The part that the rule's formula is, by these variables.
+/// Returns the part for the rule's formula, given these variables.
 fn root_of(
     alloc: Global,
     parts: &mut Parts,
@@ -196,7 +196,7 @@ fn root_of(
     sequence(alloc, parts, &m, b, &Made::Nothing, placed, &around)
 }
 
-/// The part that the rule's formula is, by what patterns are read by.
+/// Returns the part for the rule's formula, given what patterns are read with.
 fn root_by(
     alloc: Global,
     parts: &mut Parts,
@@ -214,7 +214,7 @@ fn root_by(
     root_of(alloc, parts, rule, reader, &locals, &found)
 }
 
-/// The part that the rule's formula is.
+/// Returns the part for the rule's formula.
 fn root(alloc: Global, parts: &mut Parts, rule: &Rule) -> Result<usize, NoMemory>
     ensures made { IfOk result (λ i. Makes parts.old parts.new i (rules.formula_of rule.now)) }
 {
@@ -224,7 +224,7 @@ fn root(alloc: Global, parts: &mut Parts, rule: &Rule) -> Result<usize, NoMemory
     root_by(alloc, parts, rule, &Reader { decls, tokens })
 }
 
-/// The formula that a part is, with the rule's declarations and tokens.
+/// Returns the formula that a part stands for, with the rule's declarations and tokens.
 fn formula(alloc: Global, parts: Parts, root: usize, rule: &Rule) -> Result<Formula, NoMemory>
     requires within { root < length parts }
     requires root { at (plains parts) root ≡ rules.formula_of rule.now }
@@ -237,14 +237,14 @@ fn formula(alloc: Global, parts: Parts, root: usize, rule: &Rule) -> Result<Form
     Ok(Formula::of(parts, root, decls, tokens))
 }
 
-/// The formula of a rule, with the rule's declarations and tokens.
+/// Returns the formula of a rule, with the rule's declarations and tokens.
 ///
-/// [`FormulaFault::TooLarge`] comes where the formula is over a limit, whether or not it has variables that may stay unbound;
-/// [`FormulaFault::Unbound`] where it is within the limits and has such a variable; [`FormulaFault::NoMemory`] where memory
-/// was refused. Recurses once a level of nested statements, branches and `when` code. Makes what stands at several places
-/// once, and works each element off once; a token is read a few times for each statement, branch or piece of `when` code
-/// around it. The table is after Brunel, Doligez, Hansen, Lawall and Muller, POPL 2009; what they leave open is this
-/// project's own.
+/// Fails with [`FormulaFault::TooLarge`] if the formula is over a limit, whether or not it has variables that may stay unbound;
+/// with [`FormulaFault::Unbound`] if it is within the limits and has such a variable; and with [`FormulaFault::NoMemory`] when
+/// out of memory. Recurses once for each level of nested statements, branches and `when` code. Makes a part that occurs several
+/// times once, and processes each element once; a token is read a few times for each statement, branch or piece of `when` code
+/// around it. The table is after Brunel, Doligez, Hansen, Lawall and Muller, POPL 2009; what they leave open is this project's
+/// own.
 pub fn formula_of(alloc: Global, rule: &Rule) -> Result<Formula, FormulaFault>
     ensures formula { IfOk result (λ formula. IsFormulaOf rule.now formula) }
     ensures fault { IfErr result (λ fault. IsFaultOf rule.now fault) }

@@ -18,7 +18,7 @@ use smpl_patch::{Rule, VarDecl};
 use smpl_terms::Var;
 use std::alloc::Global;
 
-/// What the rule's formula says of each of the rule's variables.
+/// Returns what the rule's formula says about each of the rule's variables.
 fn bindings(alloc: Global, parts: &Parts, root: usize, rule: &Rule) -> Result<Bindings, NoMemory>
     requires within { root < length parts.now }
     requires root { at (plains parts.now) root ≡ rules.formula_of rule.now }
@@ -30,8 +30,8 @@ fn bindings(alloc: Global, parts: &Parts, root: usize, rule: &Rule) -> Result<Bi
     Ok(found)
 }
 
-/// Whether a variable of which a rule's formula says this may stay unbound: an exported one where the formula holds, any
-/// other one under some quantifier of it.
+/// Whether a variable about which a rule's formula says this may stay unbound: an exported one if the formula can hold
+/// without binding it, any other one if some quantifier of it isn't guarded.
 fn is_open(binds: Binds, exported: bool) -> bool
     ensures { result ≡ (if exported then not binds.holding else not binds.guarded) }
 {
@@ -42,7 +42,7 @@ fn is_open(binds: Binds, exported: bool) -> bool
     }
 }
 
-/// Whether the variable may stay unbound. Two look-ups.
+/// Whether the variable may stay unbound. Takes two look-ups.
 fn is_unbound(
     alloc: Global,
     exports: &VarSet,
@@ -62,7 +62,7 @@ fn is_unbound(
     }
 }
 
-/// The first declared variable that may stay unbound, by what the formula says of each.
+/// Returns the first declared variable that may stay unbound, given what the formula says about each.
 fn first_unbound_by(
     alloc: Global,
     rule: &Rule,
@@ -82,8 +82,8 @@ fn first_unbound_by(
     Ok(None)
 }
 
-/// The first declared variable that may stay unbound. One pass over the table for each 64 variables, with one reading of
-/// its patterns.
+/// Returns the first declared variable that may stay unbound. Takes one pass over the table for each 64 variables, and
+/// one reading of its patterns.
 pub fn first_unbound(
     alloc: Global,
     parts: &Parts,

@@ -1,4 +1,4 @@
--- The test of lines of plus code says just that they have as many gaps as tokens.
+-- The test of lines of plus code says exactly that they have as many gaps as tokens.
 use Rattle.std.proofs.Common.{◌≡◌, ◌==◌, ◌&&◌, ℕ, zero, suc, Bool, true, false, refl, List, [], ◌∷◌, length}
 use Rattle.std.specs.Prelude.{Option, None, Some, IfSome, slice_get}
 use Rattle.std.specs.List.{list_all}

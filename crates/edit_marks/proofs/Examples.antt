@@ -19,7 +19,7 @@ word text = record { kind = Name; text = text; id = 0 }
 abbrev sign : List ℕ → Token
 sign text = record { kind = Punct; text = text; id = 0 }
 
--- a line of one name and a semicolon, behind these blanks
+-- a line of one name and a semicolon, after these blanks
 abbrev line : ℕ → List ℕ → List ℕ → PlusLine
 line lead gap name = record { lead = lead; tokens = word name ∷ sign (codes ";") ∷ []; gaps = gap ∷ [] ∷ [] }
 
@@ -32,12 +32,12 @@ block lines = record { many = false; lines = lines }
 abbrev joint : List ℕ
 joint = 10 ∷ 9 ∷ []
 
--- the least lead goes from each line, and a line that has no token doesn't count
+-- the least lead is removed from each line, and a line that has no token doesn't count
 least_lead_goes : block_text [] [] joint (block (line 2 (codes "  ") (codes "a") ∷ empty_line ∷ line 4 (codes "    ") (codes "b") ∷ [])) ≡ codes "a;" ++ joint ++ joint ++ codes "  b;"
 unfolding runs_together
 least_lead_goes = refl
 
--- a space parts tokens that stand side by side and run together
+-- a space separates tokens that are side by side and would run together
 tokens_are_parted : block_text [] [] joint (block (record { lead = 0; tokens = word (codes "a") ∷ word (codes "b") ∷ sign (codes "+") ∷ sign (codes "+") ∷ []; gaps = [] ∷ [] ∷ [] ∷ [] ∷ [] } ∷ [])) ≡ codes "a b+ +"
 unfolding runs_together
 tokens_are_parted = refl
@@ -57,7 +57,7 @@ before_within_a_line = refl
 in_place_of_a_token : insert_of (anchor_of true true (codes ";")) joint (codes "b;") true ≡ codes "b;"
 in_place_of_a_token = refl
 
--- the blanks of the line on which the place stands, not of the one before it
+-- the blanks of the line that the place is in, not of the one before it
 indent : indent_at (codes "  a" ++ 10 ∷ 9 ∷ codes "b c") 7 ≡ 9 ∷ []
 indent = refl
 

@@ -1,4 +1,5 @@
--- Of an alignment there is one edit: rising lists with the same members are one list, and so are the places of plus code in order.
+-- An alignment has only one edit: ascending lists with the same members are equal, and so are ordered lists of places of
+-- plus code.
 use Rattle.std.proofs.Common.{◌≡◌, ◌<◌, ◌≤◌, ◌+◌, ◌⊎◌, ℕ, zero, suc, Bool, true, false, inl, inr, refl, sym, ap, subst, ◌∙◌, arith, List, [], ◌∷◌, length, get_or}
 use Rattle.std.specs.Prelude.{All, Contains, ◌==◌, slice_index, slice_index_or, nat_lt, cond}
 use Rattle.std.specs.List.{sum_by}
@@ -23,7 +24,7 @@ use Rattle.edit_marks.specs.Blocks.{Environment}
 use Rattle.edit_marks.specs.Spots.{side, spot_order, all_spots}
 use Rattle.edit_marks.specs.Edits.{inserts_at, EditOf}
 
--- ---- rising numbers
+-- ---- ascending numbers
 
 abbrev Rising : List ℕ → Type 0
 Rising [] = Unit {0}
@@ -61,7 +62,7 @@ none_in y h = let less : h.0 < 0 = h.1 in omega (arith, less)
 abbrev AreAmong : List ℕ → List ℕ → Type 0
 AreAmong xs ys = (n : ℕ) → Contains xs n → Contains ys n
 
--- a rising list begins no later than what is in it
+-- an ascending list begins no later than any of its members
 head_first : (y : ℕ) (ys : List ℕ) (x : ℕ) → Rising (y ∷ ys) → Contains (y ∷ ys) x → y ≤ x
 head_first y ys x r h =
     elim (either y ys x h) [
@@ -93,7 +94,7 @@ one_rising (x ∷ xs) (y ∷ ys) r s f g =
 pub spot_total : IsTotalOrder spot_order
 spot_total = then_total (then_total (on_total (λ s. s.token) nat_cmp_total) (on_total (λ s. side s.after) nat_cmp_total)) (on_total (λ s. s.pattern) nat_cmp_total)
 
--- each is before no earlier one
+-- no place comes before an earlier one
 abbrev pub AreRising : List PlusSpot → Type 0
 AreRising [] = Unit {0}
 AreRising (s ∷ spots) = All (λ t. is_lt (spot_order t s) ≡ false) spots × AreRising spots
@@ -146,7 +147,7 @@ one_if Less = 0
 one_if Equal = 1
 one_if Greater = 0
 
--- how often a place stands among others
+-- how often a place occurs among others
 abbrev count : PlusSpot → List PlusSpot → ℕ
 count s spots = sum_by (λ t. one_if (spot_order s t)) spots
 
@@ -173,7 +174,7 @@ first_by s t Less n e some later = later (omega (arith, some))
 first_by s t Equal n e some later = ap is_lt e
 first_by s t Greater n e some later = later (omega (arith, some))
 
--- places in order begin no later than what stands among them
+-- places in order begin no later than any of them
 first_least : (t : PlusSpot) (spots : List PlusSpot) (s : PlusSpot) → AreRising (t ∷ spots) → 1 ≤ count s (t ∷ spots) → is_lt (spot_order s t) ≡ false
 first_least t spots s r some =
     first_by s t (spot_order s t) (count s spots) refl (omega (arith, some, count_more s t spots)) (λ more. none_before s t spots r.0 more)

@@ -50,7 +50,7 @@ right_of Blank text = None
 right_of Comment text = None
 right_of Line text = None
 
--- after a token that the first may stand beside
+-- after a token that the first may be beside
 abbrev pub Row : Option (List ℕ) → List TextPiece → Type 0
 Row left [] = Unit {0}
 Row left (p ∷ ps) = (BlankPiece p ⊎ WordPiece left p) × Row (right_of p.kind p.text) ps

@@ -1,4 +1,4 @@
--- The text of plus code is blanks and plain tokens.
+-- The text of plus code consists of blanks and plain tokens.
 use Rattle.std.proofs.Common.{◌≡◌, ◌+◌, ◌-◌, ◌&&◌, ℕ, zero, suc, Bool, true, false, refl, sym, ap, ◌∙◌, inl, inr, arith, List, [], ◌∷◌, ◌++◌, append_assoc, map, drop, length, subst}
 use Rattle.std.specs.Prelude.{Option, None, Some, if◌then◌else◌, ◌||◌, slice_get}
 use Rattle.std.specs.List.{list_all}
@@ -135,7 +135,7 @@ some_last : (x : Pair) (xs : List Pair) (left : Left) → last_text left (x ∷ 
 some_last x [] left e = absurd cc
 some_last x (y ∷ ys) left e = some_last y ys (Some x.1) e
 
--- a text that may come after a token that it doesn't run together with
+-- a text that may come after a token with which it doesn't run together
 
 record Whole (c : Chunk) : Type 0 where
   rows : (left : Left) → is_together left c.first ≡ false → Rowed left c.text (left_after left c.last)
@@ -250,7 +250,7 @@ sound_lead : (m : ℕ) (gaps : List (List ℕ)) → AreSoundGaps gaps → AreSou
 sound_lead m [] g = tt
 sound_lead m (gap ∷ gaps) g = (drop_spaces m gap g.0, g.1)
 
--- after whatever ends in a blank
+-- after anything that ends in a blank
 line_rows : (decls : List VarDecl) (env : Environment) (m : ℕ) (line : PlusLine) → AreSoundGaps line.gaps → AreSoundTokens decls env line.tokens → Rows None (line_text decls env m line)
 line_rows decls env m line g h = tokens_rows decls env None (without_lead m line.gaps) line.tokens (sound_lead m line.gaps g) h
 
@@ -288,7 +288,7 @@ insert_rows AfterLine joint text ends j h = then_rows None None joint text (join
 insert_rows AfterToken joint text ends j h = then_rows None None (32 ∷ []) text (space_row None) h
 insert_rows BeforeToken joint text ends j h = then_rows None h.right text (if ends then joint else 32 ∷ []) h.rowed (blank_rows h.right (if ends then joint else 32 ∷ []) (end_spaces joint ends j))
 
--- what plus code gives at an anchor is cut into blanks and plain tokens
+-- the text of plus code at an anchor is cut into blanks and plain tokens
 pub insert_plain : (decls : List VarDecl) (env : Environment) (joint : List ℕ) (block : PlusBlock) (anchor : Anchor) (ends : Bool)
     → IsJoint joint → AreSoundLines decls env block.lines → IsPlainText (insert_of anchor joint (block_text decls env joint block) ends)
 insert_plain decls env joint block anchor ends j h =

@@ -1,4 +1,4 @@
--- The tokens of a text, piece by piece, and the lines that they stand in.
+-- The tokens of a text, piece by piece, and the lines that they are in.
 use Rattle.std.proofs.Common.{◌≡◌, ◌≢◌, ◌<◌, ◌≤◌, ◌+◌, ◌-◌, ◌==◌, ◌||◌, ℕ, zero, suc, Bool, true, false, inl, inr, refl, sym, ap, ◌∙◌, arith, List, [], ◌∷◌, ◌++◌, append_assoc, length, drop, take, get_or, length-drop}
 use Rattle.std.specs.Prelude.{Some, All, map, slice_get, slice_range, slice_index, if◌then◌else◌}
 use Rattle.std.specs.List.{list_any}
@@ -43,7 +43,7 @@ line_same bytes start (suc n) le none =
           ∙ line_same bytes start n less (λ k from below. none k from (omega arith))
     ]
 
--- the line is that of the place before, where no line begins between
+-- the line is that of the previous place, if no line begins in between
 pub same_line : (bytes : List ℕ) (start end : ℕ) → start ≤ end → list_any (λ b. b == 10) (take (end - start) (drop start bytes)) ≡ false
     → line_start bytes start ≡ line_start bytes end
 same_line bytes start end le none = sym (line_same bytes start end le (none_between bytes start end none))
@@ -52,7 +52,7 @@ start_by : (b : Bool) (bytes : List ℕ) (n : ℕ) → line_start bytes n ≤ n 
 start_by true bytes n h = omega arith
 start_by false bytes n h = omega (arith, h)
 
--- a line begins no later than what stands in it
+-- a line begins no later than what is in it
 pub start_within : (bytes : List ℕ) (n : ℕ) → line_start bytes n ≤ n
 start_within bytes zero = omega arith
 start_within bytes (suc n) = start_by (slice_index bytes n == 10) bytes n (start_within bytes n)
@@ -64,7 +64,7 @@ from_place [] i x at = absurd cc
 from_place (y ∷ ys) zero x at = let same : y ≡ x = cc in ap (λ z. z ∷ ys) same
 from_place (y ∷ ys) (suc i) x at = from_place ys i x at
 
--- the member at a place, and those behind it
+-- the member at a place, and those after it
 pub drop_here : {A : Type 0} (xs : List A) (i : ℕ) (x : A) → slice_get xs i ≡ Some x → drop i xs ≡ x ∷ drop (i + 1) xs
 drop_here xs i x at = let one : suc i ≡ i + 1 = omega arith in from_place xs i x at ∙ ap (λ (n : ℕ). x ∷ drop n xs) one
 

@@ -1,4 +1,4 @@
--- The text that plus code gives: its lines without the blanks that lead them all, metavariables written out.
+-- The text of plus code: its lines without the blanks that begin all of them, with metavariables written out.
 use Rattle.std.specs.Prelude.{ℕ, zero, suc, ◌≡◌, ◌-◌, ◌||◌, Bool, true, false, min, List, [], ◌∷◌, ◌++◌, drop, length, slice_get, Option, None, Some, option_and_then, if◌then◌else◌, codes}
 use Rattle.std.specs.Str.{bytes_eq}
 use Rattle.c_terms.specs.declared.token.Token.{Token}
@@ -25,7 +25,7 @@ term_of (Place p) = None
 abbrev pub Environment : Type 0
 Environment = List (Var × Value)
 
--- the term of the variable of this name
+-- the term of the variable with this name
 abbrev pub term : List VarDecl → Environment → List ℕ → Option Tree
 term decls env name = option_and_then (λ d. option_and_then term_of (value_in env d.var)) (declared_as decls name)
 
@@ -37,7 +37,7 @@ abbrev pub text_of_token : Option Token → Option (List ℕ)
 text_of_token None = None
 text_of_token (Some t) = Some t.text
 
--- what stands for a metavariable that has this term
+-- the text of a metavariable that has this term
 abbrev pub value_chunk : Tree → Chunk
 value_chunk t = record { text = show_of t; first = text_of_token (slice_get (leaves t) 0); last = text_of_token (slice_get (leaves t) (length (leaves t) - 1)) }
 
@@ -48,16 +48,16 @@ abbrev pub term_chunk : Option Tree → Chunk
 term_chunk None = no_chunk
 term_chunk (Some t) = value_chunk t
 
--- what stands for a token of plus code
+-- the text of a token of plus code
 abbrev pub chunk_of : List VarDecl → Environment → Token → Chunk
 chunk_of decls env t = if is_meta t.kind then term_chunk (term decls env t.text) else record { text = t.text; first = Some t.text; last = Some t.text }
 
--- the token to the left, where no blanks part it from what comes
+-- the token to the left, if no blanks separate it from what comes
 abbrev pub left_at : Option (List ℕ) → List ℕ → Option (List ℕ)
 left_at left [] = left
 left_at left (b ∷ bs) = None
 
--- whether two tokens that stand side by side run together
+-- whether two tokens that are side by side run together
 abbrev pub is_together : Option (List ℕ) → Option (List ℕ) → Bool
 is_together None first = false
 is_together (Some left) None = false
@@ -71,18 +71,18 @@ abbrev pub left_after : Option (List ℕ) → Option (List ℕ) → Option (List
 left_after left None = left
 left_after left (Some last) = Some last
 
--- a token with the blanks before it, after a token that it may stand beside
+-- a token with the blanks before it, after a token that it may be beside
 abbrev pub chunk_text : Option (List ℕ) → List ℕ → Chunk → List ℕ
 chunk_text left gap chunk = gap ++ (blank_between (left_at left gap) chunk.first ++ chunk.text)
 
--- tokens with the blanks before each, after a token that they may stand beside
+-- tokens with the blanks before each, after a token that they may be beside
 abbrev pub tokens_text : List VarDecl → Environment → Option (List ℕ) → List (List ℕ) → List Token → List ℕ
 tokens_text decls env left gaps [] = []
 tokens_text decls env left [] (t ∷ tokens) = []
 tokens_text decls env left (gap ∷ gaps) (t ∷ tokens) =
     chunk_text left gap (chunk_of decls env t) ++ tokens_text decls env (left_after (left_at left gap) (chunk_of decls env t).last) gaps tokens
 
--- the blanks before the first token go, as far as they lead all lines
+-- without the blanks before the first token, as far as they begin all lines
 abbrev pub without_lead : ℕ → List (List ℕ) → List (List ℕ)
 without_lead m [] = []
 without_lead m (gap ∷ gaps) = drop m gap ∷ gaps
@@ -90,7 +90,7 @@ without_lead m (gap ∷ gaps) = drop m gap ∷ gaps
 abbrev pub line_text : List VarDecl → Environment → ℕ → PlusLine → List ℕ
 line_text decls env m line = tokens_text decls env None (without_lead m line.gaps) line.tokens
 
--- the least number of blanks that lead a line that has a token
+-- the least number of blanks at the start of a line that has a token
 abbrev pub least : Option ℕ → ℕ → Option ℕ
 least None n = Some n
 least (Some m) n = Some (min m n)
@@ -107,7 +107,7 @@ abbrev pub lead_of : Option ℕ → ℕ
 lead_of None = 0
 lead_of (Some m) = m
 
--- the lines, each after the first behind a joint
+-- the lines after the first, each preceded by a joint
 abbrev pub more_lines : List VarDecl → Environment → ℕ → List ℕ → List PlusLine → List ℕ
 more_lines decls env m joint [] = []
 more_lines decls env m joint (line ∷ lines) = joint ++ (line_text decls env m line ++ more_lines decls env m joint lines)
@@ -142,7 +142,7 @@ abbrev pub AreEven : List PlusLine → Type 0
 AreEven [] = Unit {0}
 AreEven (line ∷ lines) = (length line.gaps ≡ length line.tokens) × AreEven lines
 
--- the lines from this number on
+-- the text of the lines from this number on
 abbrev pub rest_lines : List VarDecl → Environment → ℕ → List ℕ → ℕ → List PlusLine → List ℕ
 rest_lines decls env m joint zero lines = lines_text decls env m joint lines
 rest_lines decls env m joint (suc i) lines = more_lines decls env m joint lines

@@ -1,4 +1,4 @@
--- The edit of a touch: what an alignment removes, and the plus code that it puts in.
+-- The edit of a touch: what an alignment removes, and the plus code that it inserts.
 use Rattle.std.specs.Prelude.{ℕ, ◌≡◌, ◌↔◌, ◌==◌, Bool, true, false, List, [], ◌∷◌, ◌++◌, Contains, IfSome, Option, None, Some, option_and_then, slice_get, if◌then◌else◌}
 use Rattle.std.specs.List.{list_any}
 use Rattle.std.specs.List.Sorted.{IsPermutation, IsSortedBy, IsStrictlyIncreasing}
@@ -33,7 +33,7 @@ abbrev pub side_of : Bool → Side
 side_of true = After
 side_of false = Before
 
--- by whether the token is removed, whether the block stands after it, and the token's text
+-- the anchor, given whether the token is removed, whether the block comes after it, and the token's text
 abbrev pub anchor_of : Bool → Bool → List ℕ → Anchor
 anchor_of true after text = Removed
 anchor_of false true text = if ends_line text then AfterLine else AfterToken
@@ -62,7 +62,7 @@ inserts_at decls tokens env files removed (s ∷ spots) = insert_if decls env re
 abbrev pub HaveEvenBlocks : List PatToken → Type 0
 HaveEvenBlocks tokens = (s : PlusSpot) → IfSome (block_of tokens s) (λ block. AreEven block.lines)
 
--- the tokens aligned with minus tokens, and the blocks of all plus code whose anchors take part, in order
+-- the tokens aligned with minus tokens, and the blocks of all plus code whose anchors are aligned, in order
 pub record EditOf (decls : List VarDecl) (tokens : List PatToken) (env : Environment) (files : List FileToken) (pairs : List Aligned) (edit : Edit) : Type 0 where
   pub rise : IsStrictlyIncreasing edit.removed
   pub removed : (n : ℕ) → Contains edit.removed n ↔ Contains (minus_tokens tokens pairs) n
@@ -71,7 +71,7 @@ pub record EditOf (decls : List VarDecl) (tokens : List PatToken) (env : Environ
   pub sorted : IsSortedBy (λ a b. is_lt (spot_order a b)) spots
   pub inserts : edit.inserts ≡ inserts_at decls tokens env files edit.removed spots
 
--- every block is of tokens of C and metavariables with such terms
+-- every block consists of tokens of C and metavariables with such terms
 abbrev pub HaveSoundBlocks : List VarDecl → List PatToken → Environment → Type 0
 HaveSoundBlocks decls tokens env = (s : PlusSpot) → IfSome (block_of tokens s) (λ block. AreSoundLines decls env block.lines)
 

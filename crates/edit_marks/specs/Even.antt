@@ -1,4 +1,4 @@
--- For inside use: the test whether lines of plus code have as many gaps as tokens.
+-- For internal use: the test whether lines of plus code have as many gaps as tokens.
 use Rattle.std.specs.Prelude.{◌==◌, ◌&&◌, Bool, true, List, length, Option, None, Some}
 use Rattle.std.specs.List.{list_all}
 use Rattle.smpl_patch.specs.declared.pattern.PatToken.{PatToken}

@@ -1,4 +1,4 @@
--- Plus code that gives a text of blanks and tokens of C, none of them a Stray.
+-- Plus code whose text consists of blanks and tokens of C, none of which is a Stray.
 use Rattle.std.specs.Prelude.{ℕ, ◌≡◌, Bool, true, false, List, [], ◌∷◌, Option, None, Some}
 use Rattle.std.specs.List.{list_all}
 use Rattle.c_terms.specs.declared.token.Token.{Token}
@@ -13,7 +13,7 @@ use Rattle.smpl_patch.specs.declared.pattern.VarDecl.{VarDecl}
 use Rattle.smpl_patch.specs.declared.pattern.PlusLine.{PlusLine}
 use Rattle.edit_marks.specs.Blocks.{Environment, is_meta, term}
 
--- a token of C that is no Stray, with a text of its kind
+-- a token of C other than a Stray, with a text of its kind
 pub record IsCToken (kind : TokenKind) (text : List ℕ) : Type 0 where
   pub plain : is_plain_token kind ≡ true
   pub of : IsOfKind (record { kind = Word kind 0; text = text })
@@ -46,7 +46,7 @@ abbrev pub AreSoundLines : List VarDecl → Environment → List PlusLine → Ty
 AreSoundLines decls env [] = Unit {0}
 AreSoundLines decls env (line ∷ lines) = (AreSoundGaps line.gaps × AreSoundTokens decls env line.tokens) × AreSoundLines decls env lines
 
--- spaces, one at least
+-- one or more spaces
 abbrev pub IsJoint : List ℕ → Type 0
 IsJoint [] = ⊥
 IsJoint (b ∷ bs) = AreSpaces (b ∷ bs)

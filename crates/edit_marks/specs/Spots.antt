@@ -1,4 +1,4 @@
--- Where an alignment puts plus code in.
+-- Where an alignment inserts plus code.
 use Rattle.std.specs.Prelude.{ℕ, ◌-◌, ◌&&◌, Bool, true, false, List, [], ◌∷◌, ◌++◌, length, nat_lt, slice_index, slice_get, Option, None, Some, is_some, if◌then◌else◌}
 use Rattle.std.specs.Ordering.{on, then_cmp, nat_cmp}
 use Rattle.std.specs.declared.cmp.Ordering.{Ordering}
@@ -10,11 +10,11 @@ abbrev pub side : Bool → ℕ
 side true = 1
 side false = 0
 
--- by token, before it first, then by the pattern token
+-- by token, with those before a token first, then by the pattern token
 abbrev pub spot_order : PlusSpot → PlusSpot → Ordering
 spot_order = then_cmp (then_cmp (on (λ s. s.token) nat_cmp) (on (λ s. side s.after) nat_cmp)) (on (λ s. s.pattern) nat_cmp)
 
--- the first and the last of what a token is aligned with, where it has a block before it or after it
+-- the first and the last of the tokens that a pattern token is aligned with, if it has a block before or after it
 abbrev pub token_spots : PatToken → Aligned → List PlusSpot
 token_spots t p =
     (if is_some t.before && nat_lt 0 (length p.files) then record { token = slice_index p.files 0; after = false; pattern = p.pattern } ∷ [] else [])

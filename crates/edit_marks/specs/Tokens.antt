@@ -15,7 +15,7 @@ token_of Blank text indent = []
 token_of Comment text indent = []
 token_of Line text indent = []
 
--- the tokens among pieces of which the first stands at this place of the bytes
+-- the tokens among pieces of which the first is at this offset in the bytes
 abbrev pub tokens_from : List ℕ → ℕ → List TextPiece → List FileToken
 tokens_from bytes at [] = []
 tokens_from bytes at (p ∷ pieces) = token_of p.kind p.text (indent_at bytes at) ++ tokens_from bytes (at + length p.text) pieces
@@ -23,16 +23,16 @@ tokens_from bytes at (p ∷ pieces) = token_of p.kind p.text (indent_at bytes at
 abbrev pub file_tokens : List TextPiece → List FileToken
 file_tokens pieces = tokens_from (text_of pieces) 0 pieces
 
--- for inside use
+-- for internal use
 
--- the blanks that begin the line that begins here
+-- the blanks of the line that begins here
 abbrev pub blanks_at : List ℕ → ℕ → List ℕ
 blanks_at bytes line = take (prefix_len is_blank (drop line bytes)) (drop line bytes)
 
 abbrev pub token_at : List ℕ → TokenPlace → FileToken
 token_at bytes p = record { text = slice_range bytes p.start p.end; indent = blanks_at bytes p.line }
 
--- a place of a piece, if it is a token
+-- the place of a piece, if it is a token
 abbrev pub places_of : PieceKind → TokenPlace → List TokenPlace
 places_of (Word kind id) p = p ∷ []
 places_of Blank p = []

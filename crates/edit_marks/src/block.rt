@@ -8,7 +8,7 @@ use smpl_patch::{PlusBlock, PlusLine, VarDecl};
 use smpl_terms::Env;
 use std::alloc::Global;
 
-/// Adds the text of a block whose lines are joined by these bytes, and answers its last token. Linear in the text.
+/// Adds the text of a block whose lines are joined by these bytes, and returns its last token. Linear in the text.
 pub fn put_block(
     alloc: Global,
     decls: &[VarDecl],
@@ -33,7 +33,7 @@ pub fn put_block(
     Ok(last)
 }
 
-/// The least number of blanks that lead a line that has a token.
+/// Returns the least number of blanks at the start of a line that has a token.
 fn least_lead(lines: &[PlusLine]) -> usize
     ensures { result ≡ lead_of (least_lead None lines.now) }
 {

@@ -1,17 +1,18 @@
-//! Edits of one reading of a text, and whether two of them clash.
+//! Edits of one version of a text, and whether two of them clash.
 //!
-//! - An [`Edit`] removes tokens and puts [`Insert`]s before or after tokens, all named by their numbers in this reading.
-//! - [`EditList::of`] keeps of equal edits the first, and sorts what they do by token: a list of [`Mark`]s.
-//! - [`first_clash`] gives the first [`Clash`] of a list.
+//! - An [`Edit`] removes tokens and adds [`Insert`]s before or after tokens; tokens are given by their numbers in this
+//!   version.
+//! - [`EditList::of`] keeps the first of several equal edits, and sorts what the edits do by token, as a list of [`Mark`]s.
+//! - [`first_clash`] returns the first [`Clash`] of a list.
 //!
-//! Of two edits of the text `a b c`, one that removes `b` and one that inserts after `b` clash at token 1. One that
-//! inserts before `b` and one that inserts after it do not.
+//! Take two edits of the text `a b c`: if one removes `b` and the other inserts after `b`, they clash at token 1. If one
+//! inserts before `b` and the other after it, they don't clash.
 //!
-//! Two edits clash at a token where both remove it, where both insert on one side of it and one of these inserts is not
-//! from `++` lines, or where one inserts at it and the other removes it. Equal edits count once. Only memory may be
-//! wanting. Nothing recurses.
+//! Two edits clash at a token if both remove it, if both insert on one side of it and one of these inserts is not from `++`
+//! lines, or if one inserts at it and the other removes it. Equal edits count once. The calls fail only when out of memory.
+//! Nothing recurses.
 //!
-//! Which edits a rule makes is for edit_marks, and what the text becomes for edit_unparse.
+//! Module edit_walk finds the edits of a rule, and crate edit_unparse makes the new text.
 #![tactic(auto)]
 
 mod clash;

@@ -1,20 +1,23 @@
-//! The edits of a rule: for each place that its witnesses touch, what the alignment there removes and puts in.
+//! The edits of a rule: for each place that its witnesses touch, what the alignment there removes and inserts.
 //!
-//! - [`edits`] gives the edits of witnesses, one a touch, in the order of the touches, of equal ones the first.
-//! - [`node_kinds`] gives what the nodes of a graph are, which is all that [`edits`] asks of the graphs of the items.
-//! - [`witnesses_have_one_list`] is a law, that their definition allows one list of edits, and does nothing.
+//! - [`edits`] returns the edits of witnesses, one per touch, in the order of the touches, keeping the first of several
+//!   equal ones.
+//! - [`node_kinds`] returns the kinds of a graph's nodes, which is all that [`edits`] needs of the items' graphs.
+//! - [`witnesses_have_one_list`] is a law: its definition allows witnesses only one list of edits. The function does
+//!   nothing.
 //!
-//! Of `f(E)` with its `f` marked by `-`, touched at node 2 under a bind of `E`, the edit removes the `f` there. A touch that
-//! is met again under the same values gives the same edit, which counts once.
+//! For example, take `f(E)` with its `f` marked by `-`. If it is touched at node 2 under a bind of `E`, the edit removes the
+//! `f` there. Another touch of the same place under the same values yields the same edit, which counts once.
 //!
-//! A touch names a node, the number of an atom and a path. Its alignment is that of the first form of the atom's pattern that
-//! fits the subtree there, under the values of the witness and of the binds above the touch. Where it names nothing, or no
-//! form fits, its edit is the empty one, as where the pattern has neither minus tokens nor plus code.
+//! A touch names a node, the number of an atom and a path. Its alignment is that of the first form of the atom's pattern
+//! that fits the subtree there, under the values of the witness and of the binds above the touch. If it names nothing, or if
+//! no form fits, its edit is empty, as it is if the pattern has neither minus tokens nor plus code.
 //!
-//! Only memory may be wanting. [`edits`] recurses once a level of a forest, of a body and of a term, and as matching does.
+//! [`edits`] fails only when out of memory. It recurses once per level of a forest, of a body and of a term, and as matching
+//! does.
 //!
-//! Which tokens are aligned is for pat_pairs, and the edit of an alignment for edit_marks. Whether edits clash is for
-//! edit_conflict, and what the text becomes for edit_unparse.
+//! The alignment is found by pat_pairs, and its edit by edit_marks. Clashes are found by edit_conflict, and the new text is
+//! made by edit_unparse.
 #![tactic(auto)]
 
 mod aligned;

@@ -6,7 +6,7 @@ ghost use Rattle.edit_marks.specs.Even.{is_even_line, is_even_block, is_even_sid
 
 use smpl_patch::{PatToken, PlusBlock, PlusLine};
 
-/// Whether each line of plus code that these tokens carry has as many gaps as tokens, as [`edit_of`](crate::edit_of) asks.
+/// Whether each line of plus code of these tokens has as many gaps as tokens, as [`edit_of`](crate::edit_of) requires.
 /// Linear in the lines; takes no memory.
 pub fn have_even_blocks(tokens: &[PatToken]) -> bool
     ensures { IsTrue result ↔ HaveEvenBlocks tokens.now }

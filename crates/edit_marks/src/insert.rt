@@ -1,4 +1,4 @@
-// The text that a block of plus code puts in at its anchor.
+// The text that a block of plus code inserts at its anchor.
 ghost use Rattle.std.specs.Prelude.{◌≡◌, ◌≤◌, ◌++◌, length, take, IfOk, None};
 ghost use Rattle.std.specs.List.{prefix_len};
 ghost use Rattle.c_show.specs.PlainText.{IsPlainText};
@@ -15,7 +15,7 @@ use std::alloc::Global;
 /// Where a block of plus code goes.
 #[derive(Clone, Copy, Debug, PartialEq, Eq)]
 pub enum Anchor {
-    /// Where a token was, which is removed.
+    /// In place of a token that is removed.
     Removed,
     /// After a token that stays: `;`, `{`, `}` or `:`.
     AfterLine,
@@ -25,7 +25,7 @@ pub enum Anchor {
     BeforeToken,
 }
 
-/// The text that a block puts in at an anchor. Its lines are joined by this line end and these blanks.
+/// Returns the text that a block inserts at an anchor. The bytes of `joint`, a line end and blanks, join its lines.
 pub fn insert_text(
     alloc: Global,
     decls: &[VarDecl],
@@ -102,7 +102,7 @@ pub fn ends_line(text: &[u8]) -> bool
         || text == b":".as_slice()
 }
 
-/// The spaces and tabs that begin the line of a place.
+/// Returns the spaces and tabs at the start of the line that a place is in.
 pub fn indent_at(bytes: &[u8], at: usize) -> &[u8]
     requires { at ≤ length bytes.now }
     ensures { result.now ≡ indent_at bytes.now at }
@@ -110,7 +110,7 @@ pub fn indent_at(bytes: &[u8], at: usize) -> &[u8]
     blanks(&bytes[line_start(bytes, at)..])
 }
 
-/// The spaces and tabs that begin a line.
+/// Returns the spaces and tabs at the start of a line.
 pub fn blanks(line: &[u8]) -> &[u8]
     ensures { result.now ≡ take (prefix_len is_blank line.now) line.now }
 {
@@ -124,7 +124,7 @@ fn blank_count(line: &[u8]) -> usize
     line.iter().take_while(|byte| is_blank(**byte)).count()
 }
 
-/// Where the line of a place begins.
+/// Returns where the line that a place is in begins.
 pub fn line_start(bytes: &[u8], at: usize) -> usize
     requires { at ≤ length bytes.now }
     ensures value { result ≡ line_start bytes.now at }

@@ -1,4 +1,4 @@
-// What holds of the edits of alignments. The function does nothing.
+// Laws that hold for the edits of alignments. The function does nothing.
 ghost use Rattle.std.specs.Prelude.{◌≡◌, List};
 ghost use Rattle.smpl_patch.specs.declared.pattern.VarDecl.{VarDecl};
 ghost use Rattle.smpl_patch.specs.declared.pattern.PatToken.{PatToken as PatternToken};
@@ -8,7 +8,7 @@ ghost use Rattle.edit_marks.specs.declared.tokens.FileToken.{FileToken as Token}
 ghost use Rattle.edit_marks.specs.Blocks.{Environment};
 ghost use Rattle.edit_marks.specs.Edits.{EditOf};
 
-/// An alignment has one edit.
+/// An alignment has only one edit.
 pub fn alignment_has_one_edit()
     ensures { (decls : List VarDecl) (tokens : List PatternToken) (env : Environment)
         (files : List Token) (pairs : List Pairing) (a b : Change) →

@@ -1,26 +1,27 @@
-//! The edit that a match makes: which tokens it removes, and the texts that its plus code puts in.
+//! The edit that a match makes: which tokens it removes, and the texts that its plus code inserts.
 //!
-//! - [`edit_of`] gives the edit of one alignment: pairs of a pattern token and the file's tokens that it is aligned with
-//!   ([`Aligned`]), under an environment that gives the metavariables their terms.
-//! - Its parts: [`removed_tokens`], the places of plus code ([`spots`], [`PlusSpot`]), and [`insert_text`], the text of
-//!   a block at its [`Anchor`].
-//! - [`FileTokens`] gives the file's tokens by their numbers, each with the blanks that begin its line ([`FileToken`]).
-//! - [`have_even_blocks`] tests what [`edit_of`] asks of plus code.
-//! - [`indent_at`] gives the blanks that begin a line, and [`ends_line`] says after which tokens a new line begins.
-//! - [`alignment_has_one_edit`] is a law, and does nothing.
+//! - [`edit_of`] returns the edit of one alignment, under an environment that gives the metavariables their terms. An
+//!   alignment has pairs of a pattern token and the file's tokens that it is aligned with ([`Aligned`]).
+//! - Its parts: [`removed_tokens`], the places of plus code ([`spots`], [`PlusSpot`]), and [`insert_text`], the text of a
+//!   block at its [`Anchor`].
+//! - [`FileTokens`] holds the file's tokens by their numbers, each with the blanks that begin its line ([`FileToken`]).
+//! - [`have_even_blocks`] tests the precondition of [`edit_of`] on plus code.
+//! - [`indent_at`] returns the blanks that begin a line, and [`ends_line`] says after which tokens a new line begins.
+//! - [`alignment_has_one_edit`] is a law; the function does nothing.
 //!
-//! With `+ b();` anchored after a kept `a();` in a line that begins with a tab, the text is a newline, a tab and
-//! `b();`. In the place of a removed `a();` it is `b();` alone.
+//! With `+ b();` anchored after a kept `a();` in a line that begins with a tab, the inserted text is a newline, a tab and
+//! `b();`. In place of a removed `a();` it is only `b();`.
 //!
-//! Only memory may be wanting. Recursion is that of writing a term out: once a level.
+//! The calls fail only when out of memory. They recurse only to write a term out: once per level.
 //!
-//! The walk over witnesses and the alignments themselves are left to the crates of matching; whether edits clash is for
-//! edit_conflict, and what the text becomes for edit_unparse.
+//! Alignments are found by the crates of matching, and edit_walk walks over witnesses. Clashes are found by edit_conflict,
+//! and the new text is made by edit_unparse.
 //!
 //! Its folders:
 //!
-//! - `edit_conflict`: Edits of one reading of a text, and whether two of them clash.
-//! - `edit_walk`: The edits of a rule: for each place that its witnesses touch, what the alignment there removes and puts in.
+//! - `edit_conflict`: Edits of one version of a text, and whether two of them clash.
+//! - `edit_walk`: The edits of a rule: for each place that its witnesses touch, what the alignment there removes and
+//!   inserts.
 #![tactic(auto)]
 
 mod block;

@@ -9,7 +9,7 @@ use smpl_patch::{PlusLine, VarDecl};
 use smpl_terms::Env;
 use std::alloc::Global;
 
-/// What a line puts in for one of its tokens.
+/// What a line has in place of one of its tokens.
 #[derive(Drop)]
 pub struct Chunk {
     pub text: Text,
@@ -19,7 +19,7 @@ pub struct Chunk {
     pub last: Option<Text>,
 }
 
-/// The token's text, or the term of a metavariable written out.
+/// Returns the token's text, or the term of a metavariable written out.
 fn chunk_of(alloc: Global, decls: &[VarDecl], env: &Env, token: &Token) -> Result<Chunk, NoMemory>
     ensures { IfOk result (λ chunk. chunk ≡ chunk_of decls.now env.now token.now) }
 {
@@ -69,15 +69,15 @@ fn is_meta(kind: TokenKind) -> bool
     }
 }
 
-/// The last tokens before a place: the one that what comes stands beside, and the last of all.
+/// The last tokens before a place: the one that the next token is directly beside, if any, and the last of all.
 #[derive(Drop)]
 pub struct Edge {
     pub beside: Option<Text>,
     pub last: Option<Text>,
 }
 
-/// Adds the text of a line whose lines all have so many blanks before them. Answers the last token of it, or of what
-/// was before.
+/// Adds the text of a line, without the `lead` blanks that begin every line of its block. Returns the last token of the
+/// line, or the last one before it if the line has none.
 pub fn put_line(
     alloc: Global,
     decls: &[VarDecl],

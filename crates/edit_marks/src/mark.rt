@@ -15,7 +15,7 @@ pub struct Aligned {
     pub files: Items<u32>,
 }
 
-/// The tokens that are aligned with minus tokens, rising, each once. n log n in them.
+/// Returns the tokens that are aligned with minus tokens, in ascending order, each once. Takes n log n steps for n tokens.
 pub fn removed_tokens(
     alloc: Global,
     tokens: &[PatToken],

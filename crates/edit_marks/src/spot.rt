@@ -1,4 +1,4 @@
-// Where an alignment puts plus code in.
+// Where an alignment inserts plus code.
 ghost use Rattle.std.specs.Prelude.{◌≡◌, ◌++◌, slice_get, IfOk, OnOk};
 ghost use Rattle.std.specs.List.Sorted.{IsPermutation, IsSortedBy};
 ghost use Rattle.std.specs.Ordering.{is_lt};
@@ -10,7 +10,7 @@ use smpl_patch::PatToken;
 use std::alloc::Global;
 use std::cmp::Ordering;
 
-/// A place for plus code: before a token of the file or after it, and the pattern token that carries the block.
+/// A place for plus code: before or after a token of the file, with the pattern token that carries the block.
 #[derive(Clone, Copy, Debug, PartialEq, Eq)]
 pub struct PlusSpot {
     pub token: u32,
@@ -18,8 +18,8 @@ pub struct PlusSpot {
     pub pattern: u32,
 }
 
-/// The places of all plus code whose anchors take part: by token, before it first, and then by the number of the pattern
-/// token. n log n in them.
+/// Returns the places of all plus code whose anchors are aligned: by token, with those before a token first, and then by the
+/// number of the pattern token. Takes n log n steps for n places.
 pub fn spots(
     alloc: Global,
     tokens: &[PatToken],

@@ -17,7 +17,7 @@ pub struct FileToken {
     pub indent: Text,
 }
 
-/// Where a token stands: its first byte, the byte after its last, and where its line begins.
+/// Where a token is: its first byte, the byte after its last, and where its line begins.
 #[derive(Clone, Copy)]
 pub struct TokenPlace {
     pub start: u32,
@@ -25,7 +25,7 @@ pub struct TokenPlace {
     pub line: u32,
 }
 
-/// The tokens of a text in order. Contracts see the list of them; kept are their places alone.
+/// The tokens of a text in order. Contracts see their list; only their places are stored.
 #[derive(Drop)]
 pub struct FileTokens<'a> {
     bytes: &'a [u8],
@@ -46,8 +46,8 @@ impl<'a> Model for FileTokens<'a> {
 }
 
 impl<'a> FileTokens<'a> {
-    /// The tokens of a text. Linear: a line's beginning is looked for once behind each piece in which a line begins.
-    /// Twelve bytes a token.
+    /// Creates the tokens of a text. Linear: the start of a line is searched for once after each piece in which a line
+    /// begins. Takes twelve bytes per token.
     pub fn of(alloc: Global, lexed: &'a Lexed) -> Result<FileTokens<'a>, NoMemory>
         ensures { IfOk result (λ tokens. tokens ≡ file_tokens lexed.now) }
     {
@@ -67,7 +67,7 @@ impl<'a> FileTokens<'a> {
         Ok(FileTokens { bytes, places })
     }
 
-    /// The token of this number, counted from 0. Copies its text and the blanks.
+    /// Returns the token with this number, counted from 0. Copies its text and the blanks.
     pub fn get(&self, alloc: Global, number: u32) -> Result<Option<FileToken>, NoMemory>
         ensures { IfOk result (λ token. token ≡ slice_get self.now number) }
     {
@@ -97,7 +97,7 @@ fn put_place(
     Ok(())
 }
 
-/// Where the line of one place begins, by where that of an earlier one does.
+/// Returns where the line of a place begins, given where that of an earlier place begins.
 fn line_after(bytes: &[u8], line: u32, start: u32, end: u32) -> u32
     requires rise { start ≤ end }
     requires within { end ≤ length bytes.now }

@@ -14,7 +14,7 @@ use smpl_terms::Env;
 use sqlite_items::Items;
 use std::alloc::Global;
 
-/// The edit that an alignment gives.
+/// Returns the edit that an alignment makes.
 pub fn edit_of(
     alloc: Global,
     decls: &[VarDecl],
@@ -168,7 +168,7 @@ fn insert_of_block(
     })
 }
 
-/// A newline and these blanks.
+/// Returns a newline followed by these blanks.
 fn joint(alloc: Global, indent: &[u8]) -> Result<Vec<u8>, NoMemory>
     ensures { IfOk result (λ joint. joint.items ≡ 10 ∷ indent.now) }
 {

@@ -7,7 +7,7 @@ use c_terms::Tree;
 use smpl_patch::{VarDecl, declared_as};
 use smpl_terms::{Env, Value};
 
-/// The term of the variable of this name, the first that is declared so.
+/// Returns the term of the variable with this name, the first that is declared with it.
 pub fn term<'a>(decls: &[VarDecl], env: &'a Env, name: &[u8]) -> Option<&'a Tree>
     ensures { option_copied result ≡ term decls.now env.now name.now }
 {

@@ -1,4 +1,4 @@
--- One piece of the new text before the next.
+-- Which pieces of the new text may come next to each other.
 use Rattle.std.proofs.Common.{◌≡◌, ◌+◌, ◌&&◌, ◌⊎◌, ℕ, Bool, true, false, not, refl, sym, ap, ◌∙◌, inl, inr, List, [], ◌∷◌, ◌++◌, take, subst}
 use Rattle.std.specs.Prelude.{Option, Some, None, if◌then◌else◌, IsSomeAnd, IsTrue}
 use Rattle.std.specs.Str.{bytes_eq}
@@ -35,7 +35,7 @@ plain left (p ∷ parts) = gap left p.from p.piece.text ++ p.piece ∷ plain (So
 abbrev pub after : Part → List Part → List TextPiece
 after p parts = plain (Some (left_of p)) parts
 
--- the part and those after it may be put together
+-- the part and those after it may be put next to each other
 abbrev pub Good : Part → List Part → Type 0
 Good p parts = Loose (p.piece ∷ after p parts)
 
@@ -67,7 +67,7 @@ plain_word Blank e = absurd cc
 plain_word Comment e = absurd cc
 plain_word Line e = absurd cc
 
--- it stays whatever comes after it, parted by a space where need be
+-- it stays one token whatever comes after it, separated by a space if need be
 abbrev pub Free : TextPiece → Type 0
 Free p = (p.kind ≡ Blank) ⊎ (PlainWord p.kind ⊎ Ended p)
 
@@ -158,7 +158,7 @@ bytes_of p of =
     let b = begins p.text (kind_or_stray p.kind) k.1 in
     record { byte = b.byte; more = b.more; is = b.is }
 
--- what is no blank does not begin with a space
+-- what is not a blank does not begin with a space
 pub no_space : (p : TextPiece) (c : ℕ) (cs : List ℕ) → p.text ≡ c ∷ cs → IsOfKind p → (p.kind ≡ Blank → ⊥) → is_space c ≡ true → ⊥
 no_space p c cs is of other sp =
     let k = known p.kind (λ k. kind_of p.text ≡ Some k) of in
@@ -170,7 +170,7 @@ no_newline p c cs is of other e = no_space p c cs is of other (ap is_space e)
 no_return : (p : TextPiece) (c : ℕ) (cs : List ℕ) → p.text ≡ c ∷ cs → IsOfKind p → (p.kind ≡ Blank → ⊥) → c ≡ 13 → ⊥
 no_return p c cs is of other e = no_space p c cs is of other (ap is_space e)
 
--- a Stray backslash before what is no blank, whatever follows
+-- a Stray backslash before what is not a blank, whatever follows
 lone_before : (p q : TextPiece) (rest : List ℕ) → p.text ≡ 92 ∷ [] → IsOfKind p → IsOfKind q → (q.kind ≡ Blank → ⊥) → IsFirstPiece p (q.text ++ rest)
 lone_before p q rest back of_p of_q other =
     let b = bytes_of q of_q in
@@ -181,7 +181,7 @@ lone_before p q rest back of_p of_q other =
     (backslash_first b.byte (b.more ++ rest) (no_newline q b.byte b.more b.is of_q other) (no_return q b.byte b.more b.is of_q other))) in
     first_as p kind.Stray (q.text ++ rest) (k.0 ∙ ap Some stray) first
 
--- two bytes of a piece and of what follows
+-- two bytes: of a piece and of what follows it
 two_of : (text rest old : List ℕ) (c : ℕ) (cs : List ℕ) → text ≡ c ∷ cs → take 1 rest ≡ take 1 old → take 2 (text ++ rest) ≡ take 2 (text ++ old)
 two_of text rest old c [] is one = rw is (ap (λ (l : List ℕ). c ∷ l) one)
 two_of text rest old c (d ∷ ds) is one = rw is refl
@@ -243,7 +243,7 @@ stays p q rest old of_p of_q was dots back =
 beside_next : (k : ℕ) → were_beside (Some k) (Some (k + 1)) ≡ true
 beside_next k = (Decides-eqb (k + 1) (k + 1)).1 refl
 
--- a part that was its neighbour, and is
+-- a part that was its neighbour, and still is
 pub old_step : (p q : Part) (parts : List Part) (k : ℕ) (old : List ℕ) → p.from ≡ Some k → q.from ≡ Some (k + 1) → IsOfKind p.piece → IsOfKind q.piece → IsFirstPiece p.piece (q.piece.text ++ old)
     → (q.piece.text ≡ 46 ∷ [] → take 1 (text_of (after q parts)) ≡ 46 ∷ [] → take 1 old ≡ 46 ∷ [])
     → (p.piece.text ≡ 92 ∷ [] → q.piece.kind ≡ Blank → take 1 (text_of (after q parts)) ≡ take 1 old)
@@ -280,7 +280,7 @@ ends_by p of no_stray (Word (Meta m) id) e c os other was = absurd (nothing p (W
 ends_by p of no_stray (Word Dots id) e c os other was = absurd (nothing p (Word Dots id) of e refl)
 ends_by p of no_stray (Word Pat id) e c os other was = absurd (nothing p (Word Pat id) of e refl)
 
--- a piece before a token that goes or has something before it ends by itself
+-- a piece before a token that is removed or gets something before it ends by itself
 pub ends_before : (p q : TextPiece) (old : List ℕ) → IsOfKind p → IsOfKind q → (q.kind ≡ Blank → ⊥) → (kind_of_piece p.kind ≡ Some kind.Stray → ⊥) → IsFirstPiece p (q.text ++ old) → Free p
 ends_before p q old of_p of_q other no_stray was =
     let b = bytes_of q of_q in

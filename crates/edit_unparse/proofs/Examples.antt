@@ -1,4 +1,4 @@
--- Small texts and what edits make of them.
+-- Small texts and the results of edits to them.
 use Rattle.std.specs.Prelude.{◌≡◌, ℕ, List, [], ◌∷◌, ◌++◌, refl, codes}
 use Rattle.c_terms.specs.declared.token.TokenKind.TheVariants.{Name, Punct}
 use Rattle.c_lexer.specs.declared.piece.PieceKind.{PieceKind}
@@ -19,7 +19,7 @@ removal token = record { removed = token ∷ []; inserts = [] }
 abbrev difference : List TextPiece
 difference = piece (Word Name 0) (codes "a") ∷ piece (Word Punct 1) (codes "-") ∷ piece (Word Name 2) (codes "b") ∷ []
 
--- two names that were no neighbours are parted, and keep their ids
+-- two names that were not neighbours are separated, and keep their ids
 parted : text_of (output_of difference (removal 1 ∷ []) 9) ≡ codes "a b"
 unfolding runs_together
 parted = refl
@@ -33,7 +33,7 @@ not_parted : text_of (output_of difference (removal 0 ∷ []) 9) ≡ codes "-b"
 unfolding runs_together
 not_parted = refl
 
--- the blanks beside a removed token stay, and part what is left
+-- the blanks beside a removed token stay, and separate what is left
 blanks_stay : text_of (output_of (piece (Word Name 0) (codes "a") ∷ piece Blank (32 ∷ []) ∷ piece (Word Punct 1) (codes "-") ∷ piece Blank (9 ∷ []) ∷ piece (Word Name 2) (codes "b") ∷ []) (removal 1 ∷ []) 9) ≡ codes "a" ++ 32 ∷ 9 ∷ codes "b"
 unfolding runs_together
 blanks_stay = refl
@@ -43,12 +43,12 @@ no_comment_begins : text_of (output_of (piece (Word Punct 0) (codes "/") ∷ pie
 unfolding runs_together
 no_comment_begins = refl
 
--- a comment is no token: no space comes after it
+-- a comment is not a token: no space comes after it
 after_a_comment : text_of (output_of (piece Comment (codes "/**/") ∷ piece (Word Name 0) (codes "a") ∷ piece (Word Name 1) (codes "b") ∷ []) (removal 0 ∷ []) 9) ≡ codes "/**/b"
 unfolding runs_together
 after_a_comment = refl
 
--- neighbours in the old text stay together, whatever they are
+-- neighbours in the old text stay next to each other, whatever they are
 old_neighbours : text_of (output_of (piece (Word Punct 0) (codes ".") ∷ piece (Word Punct 1) (codes ".") ∷ piece (Word Name 2) (codes "a") ∷ []) (removal 2 ∷ []) 9) ≡ codes ".."
 unfolding runs_together
 old_neighbours = refl

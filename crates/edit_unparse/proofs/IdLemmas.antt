@@ -1,4 +1,4 @@
--- The ids of added tokens count on from the next one.
+-- The ids of added tokens count up from the next one.
 use Rattle.std.proofs.Common.{◌≡◌, ◌<◌, ◌≤◌, ◌+◌, ℕ, suc, Bool, true, false, not, cond, refl, sym, ap, subst, ◌∙◌, arith, List, [], ◌∷◌, ◌++◌, length, map}
 use Rattle.std.specs.Prelude.{Option, None, Some, All, nat_lt}
 use Rattle.std.specs.List.{filter}
@@ -21,7 +21,7 @@ module _ (base : ℕ) where
   abbrev news : List ℕ → ℕ
   news ids = length (filter (λ id. not (nat_lt id base)) ids)
 
-  -- all are below so many
+  -- each id is below n plus the number of ids that are not below base
   abbrev Within : ℕ → List ℕ → Type 0
   Within n ids = All (λ id. id < n + news ids) ids
 
@@ -39,7 +39,7 @@ module _ (base : ℕ) where
       let above : nat_lt id base ≡ false = not_below id (nat_lt id base) refl h in
       ap (λ (b : Bool). length (cond (not b) (id ∷ filter (λ k. not (nat_lt k base)) ids) (filter (λ k. not (nat_lt k base)) ids))) above
 
-  -- a token of the old text has an id below
+  -- a token of the old text has an id below base
   abbrev IsOld : Option ℕ → PieceKind → Type 0
   IsOld None kind = Unit {0}
   IsOld (Some number) (Word kind id) = id < base
@@ -86,7 +86,7 @@ module _ (base : ℕ) where
       subst (Within n) (sym same)
       (one_more p.from p.piece.kind n (ids_of rest) le old.0 (spaced_within (Some (left_of p)) (next_after p.from n p.piece.kind) parts (next_up p.from p.piece.kind n le) old.1))
 
-  -- ---- the parts of a text whose ids are below
+  -- ---- the parts of a text whose ids are below base
 
   both_old : (a b : List Part) → AreOld a → AreOld b → AreOld (a ++ b)
   both_old [] b h k = k

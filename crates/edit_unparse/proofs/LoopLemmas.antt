@@ -1,4 +1,4 @@
--- From one token that is touched to the next: what the draft has written, and which acts are left.
+-- From one touched token to the next: what the draft has written, and which acts are left.
 use Rattle.std.proofs.Common.{◌≡◌, ◌<◌, ◌≤◌, ◌+◌, ◌-◌, ℕ, true, refl, sym, ap, ◌∙◌, arith, List, [], ◌++◌, length, take, drop, subst}
 use Rattle.std.specs.Prelude.{None, Some, slice_get}
 use Rattle.std.specs.List.{prefix_len}
@@ -20,8 +20,8 @@ use Rattle.edit_unparse.proofs.Cursor.{Ahead, ahead_next, piece_here}
 use Rattle.edit_unparse.proofs.Reached.{Ends, ends_more, ends_over}
 use Rattle.edit_unparse.proofs.RunLemmas.{ahead_on, untouched, stop_ahead, get_there}
 
--- Before a token at which something is done, or behind the last piece: the acts from here on are left, and what is
--- written, joined with the rest, is the new text.
+-- Before a touched token, or after the last piece: the acts from here on are left, and what is written, joined with the
+-- rest, is the new text.
 pub record IsAt (pieces : List TextPiece) (edits : List Edit) (next : ℕ) (marks : List Mark) (at : ℕ) (place : Place) (d : Draft) : Type 0 where
   pub within : place.piece ≤ length pieces
   pub few : place.token ≤ place.piece
@@ -47,7 +47,7 @@ word_parts Comment edits token i p is = absurd cc
 word_parts Line edits token i p is = absurd cc
 
 module _ (pieces : List TextPiece) (edits : List Edit) (next : ℕ) where
-  -- a token, with what stands beside it
+  -- a token, with what is beside it
   pub ends_token : (d e : Draft) (token i : ℕ) (p : TextPiece) → slice_get pieces i ≡ Some p → is_word p.kind ≡ true → Writes d e (token_parts edits token i p)
       → Ends pieces edits next d (placed edits token i (drop i pieces)) → Ends pieces edits next e (placed edits (token + 1) (i + 1) (drop (i + 1) pieces))
   ends_token d e token i p at word writes ends =
@@ -56,7 +56,7 @@ module _ (pieces : List TextPiece) (edits : List Edit) (next : ℕ) where
       ends_more pieces edits next d e (token_parts edits token i p) rest
       (subst (Ends pieces edits next d) (piece_here edits token i pieces p at ∙ (λ j. w.0 j ++ placed edits (w.1 j) (i + 1) (drop (i + 1) pieces))) ends) writes
 
-  -- a token whose parts are too many
+  -- a token with too many parts
   pub over_token : (d : Draft) (token i : ℕ) (p : TextPiece) → slice_get pieces i ≡ Some p → is_word p.kind ≡ true → Overflows d (token_parts edits token i p)
       → Ends pieces edits next d (placed edits token i (drop i pieces)) → 16777216 < length (text_of (output_of pieces edits next))
   over_token d token i p at word over ends =
@@ -77,7 +77,7 @@ module _ (pieces : List TextPiece) (edits : List Edit) (next : ℕ) where
         let rest = placed edits from.token from.piece (drop from.piece pieces) in
         ends_over pieces edits next d rest [] (subst (Ends pieces edits next d) (sym (append-nil rest)) ends) (over edits none)
 
-    -- a run up to the next token at which something is done
+    -- a run up to the next touched token
     pub is_at : (at stop : ℕ) (from to : Place) (d e : Draft) → length pieces ≤ 16777216 → from.piece ≤ length pieces → from.token ≤ from.piece → Ahead edits marks at from.token
         → stop ≡ next_token (drop at marks) → IsRun pieces from stop to → Writes d e (old_parts from.piece (run_of pieces from.piece to.piece))
         → Ends pieces edits next d (placed edits from.token from.piece (drop from.piece pieces)) → IsAt pieces edits next marks at to e
@@ -93,7 +93,7 @@ module _ (pieces : List TextPiece) (edits : List Edit) (next : ℕ) where
               (subst (Ends pieces edits next d) (own.passes.same edits (untouched edits marks at from.token are ahead less)) ends) writes;
         }
 
-    -- a token at which something is done, and the run behind it
+    -- a touched token, and the run after it
     pub is_at_next : (at count stop : ℕ) (place to : Place) (d e f : Draft) → length pieces ≤ 16777216 → place.piece < length pieces → IsAt pieces edits next marks at place d
         → count ≡ prefix_len (is_at_token place.token) (take (length marks - at) (drop at marks)) → count ≤ length (take (length marks - at) (drop at marks))
         → ((p : TextPiece) → slice_get pieces place.piece ≡ Some p → Writes d e (token_parts edits place.token place.piece p))
@@ -109,7 +109,7 @@ module _ (pieces : List TextPiece) (edits : List Edit) (next : ℕ) where
         is_at (at + count) stop (record { piece = place.piece + 1; token = place.token + 1 }) to e f small within few
         (ahead_next edits marks at place.token count are own.acts counted fits) (is ∙ ap next_token (take_rest marks (at + count))) run writes ends
 
-    -- a run that is too long behind a token at which something is done
+    -- a run that is too long after a touched token
     pub over_next : (at count stop : ℕ) (place : Place) (d e : Draft) → length pieces ≤ 16777216 → place.piece < length pieces → IsAt pieces edits next marks at place d
         → count ≡ prefix_len (is_at_token place.token) (take (length marks - at) (drop at marks)) → count ≤ length (take (length marks - at) (drop at marks))
         → ((p : TextPiece) → slice_get pieces place.piece ≡ Some p → Writes d e (token_parts edits place.token place.piece p))
@@ -124,7 +124,7 @@ module _ (pieces : List TextPiece) (edits : List Edit) (next : ℕ) where
         over_run (at + count) stop (record { piece = place.piece + 1; token = place.token + 1 }) e small within few
         (ahead_next edits marks at place.token count are own.acts counted fits) (is ∙ ap next_token (take_rest marks (at + count))) over ends
 
-    -- the next token at which something is done is a later one
+    -- the next touched token is a later one
     pub stop_later : (at count stop : ℕ) (place : Place) (d : Draft) → length pieces ≤ 16777216 → place.piece < length pieces → IsAt pieces edits next marks at place d
         → count ≡ prefix_len (is_at_token place.token) (take (length marks - at) (drop at marks)) → count ≤ length (take (length marks - at) (drop at marks))
         → stop ≡ next_token (take (length marks - (at + count)) (drop (at + count) marks)) → place.token + 1 ≤ stop
@@ -133,7 +133,7 @@ module _ (pieces : List TextPiece) (edits : List Edit) (next : ℕ) where
         let later = stop_ahead edits marks (at + count) (place.token + 1) are (ahead_next edits marks at place.token count are own.acts counted fits) few in
         subst (λ (s : ℕ). place.token + 1 ≤ s) (sym (is ∙ ap next_token (take_rest marks (at + count)))) later.0
 
--- where nothing is left, all is written
+-- if nothing is left, all is written
 pub all_written : (pieces : List TextPiece) (edits all : List Edit) (next : ℕ) (d : Draft) (token i : ℕ) → length pieces ≤ i → all ≡ edits → Ends pieces all next d (placed all token i (drop i pieces))
     → (d.bytes.items ≡ text_of (output_of pieces edits next)) × (d.ids.items ≡ ids_of (output_of pieces edits next))
 all_written pieces edits all next d token i less same ends =

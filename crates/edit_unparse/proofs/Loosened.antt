@@ -55,7 +55,7 @@ module _ (edits : List Edit) (plain_texts : (token : ℕ) → AllNew (added (ins
       by Comment stands = after_blank q n r (placed edits (id_after r.kind token) (n + 1) rs) blank of_r ∙ sym (take_front r (text_of rs) of_r)
       by Line stands = after_blank q n r (placed edits (id_after r.kind token) (n + 1) rs) blank of_r ∙ sym (take_front r (text_of rs) of_r)
 
-  -- an old piece after what stands before it
+  -- an old piece after what is before it
   module _ (r : TextPiece) (rs : List TextPiece) (n : ℕ) (b : Bool) (cuts : Cuts (r ∷ rs)) where
     abbrev here : Part
     here = old_part n r
@@ -144,7 +144,7 @@ module _ (edits : List Edit) (plain_texts : (token : ℕ) → AllNew (added (ins
       by Comment is stays after_it = other after_it
       by Line is stays after_it = other after_it
 
-  -- before everything stands nothing; blanks there change nothing
+  -- nothing comes before everything; blanks there change nothing
   pub loose : (pieces : List TextPiece) → Cuts pieces → StraysStay edits false 0 pieces → Loose (plain None (placed edits 0 0 pieces))
   loose pieces cuts stay = by (placed edits 0 0 pieces) (main pieces 0 0 false cuts stay (record { from = None; piece = space }) refl (inl (record { free = inl refl; were = λ o least. refl })))
     where

@@ -1,4 +1,4 @@
--- The parts of the new text, put together with spaces, are loose: each stays beside the next.
+-- The parts of the new text, joined with spaces, are loose: each stays separate from the next.
 use Rattle.std.proofs.Common.{◌≡◌, ◌<◌, ◌≤◌, ◌+◌, ◌==◌, ◌&&◌, ◌⊎◌, ℕ, Bool, true, false, refl, sym, ap, ◌∙◌, inl, inr, arith, List, [], ◌∷◌, ◌++◌, append_assoc, take, map, subst}
 use Rattle.std.specs.Prelude.{Option, Some, None, if◌then◌else◌}
 use Rattle.std.specs.List.{list_all}
@@ -141,7 +141,7 @@ one_old n r rest xs of = record {
       ap (λ (x : Part). take 1 x.piece.text) (sym (head_of (old_part n r) q xs more e)) ∙ sym (take_one r.text rest b.byte b.more b.is);
 }
 
--- what comes later is a neighbour of nothing here
+-- what comes later is not a neighbour of anything here
 later : (n : ℕ) (text other : List ℕ) (parts : List Part) → Head (n + 1) text parts → Head n other parts
 later n text other parts h = record {
   of = h.of;
@@ -162,12 +162,12 @@ neighbour n None e = absurd (false≢true e)
 pub take_front : (f : TextPiece) (more : List ℕ) → IsOfKind f → take 1 (f.text ++ more) ≡ take 1 f.text
 take_front f more of = let b = bytes_of f of in take_one f.text more b.byte b.more b.is
 
--- what begins the text after a part, by whether a space stands there
+-- what begins the text after a part, depending on whether a space is there
 after_with : (b : Bool) (f : Part) (fs : List Part) → take 1 (text_of ((if b then space ∷ [] else []) ++ f.piece ∷ after f fs)) ≡ 46 ∷ [] → IsOfKind f.piece → (b ≡ false) × (take 1 f.piece.text ≡ 46 ∷ [])
 after_with true f fs e of = absurd (space_no_dot (32 ∷ []) refl e)
 after_with false f fs e of = (refl, sym (take_front f.piece (text_of (after f fs)) of) ∙ e)
 
--- a dot comes after a dot only where it did
+-- a dot comes after a dot only where it did before
 pub dot_after : (q : Part) (n : ℕ) (old : List ℕ) (parts : List Part) → q.from ≡ Some n → is_word q.piece.kind ≡ true → Head (n + 1) old parts
     → q.piece.text ≡ 46 ∷ [] → take 1 (text_of (after q parts)) ≡ 46 ∷ [] → take 1 old ≡ 46 ∷ []
 dot_after q n old [] from w h dot next = absurd (nil_no_dot [] refl next)
@@ -232,7 +232,7 @@ far_beside a n (Some m) less least = by (m == a + 1) refl
     by true e = let same : m ≡ a + 1 = (Decides-eqb m (a + 1)).0 e in let l = least m refl in absurd (omega arith)
     by false e = refl
 
--- a neighbour whose piece goes is apart from what follows it
+-- a neighbour whose piece is removed is apart from what follows it
 pub gone_apart : (p : Part) (n : ℕ) (text : List ℕ) (b : Bool) → Next p n text b → Free p.piece → Apart p (n + 1)
 gone_apart p n text b next free = record { free = free; were = λ o least. ap (λ x. were_beside x o) next.from ∙ far_beside next.number (n + 1) o (omega (arith, next.before)) least }
 
@@ -273,7 +273,7 @@ plain_or_stray (Meta m) id p e of = absurd (unknown p (Word (Meta m) id) e of re
 plain_or_stray Dots id p e of = absurd (unknown p (Word Dots id) e of refl)
 plain_or_stray Pat id p e of = absurd (unknown p (Word Pat id) e of refl)
 
--- a lone backslash is a Stray
+-- a single backslash is a Stray
 pub back_stray : (p : TextPiece) → IsOfKind p → p.text ≡ 92 ∷ [] → kind_of_piece p.kind ≡ Some kind.Stray
 back_stray p of is =
     let k = known p.kind (λ k. kind_of p.text ≡ Some k) of in

@@ -1,4 +1,4 @@
--- Runs of pieces that no edit touches: what stands there, and what is written of them.
+-- Runs of pieces that no edit touches: which parts are there, and what of them is written.
 use Rattle.std.proofs.Common.{◌≡◌, ◌<◌, ◌≤◌, ◌+◌, ◌-◌, ◌==◌, ℕ, zero, suc, true, false, inl, inr, refl, sym, ap, ◌∙◌, arith, List, [], ◌∷◌, ◌++◌, append_assoc, length, take, drop, filter, subst}
 use Rattle.std.specs.Prelude.{Some, slice_get}
 use Rattle.std.specs.List.{list_any}
@@ -23,7 +23,7 @@ use Rattle.edit_unparse.proofs.Acts.{From, none_at, texts_there, removed_there}
 use Rattle.edit_unparse.proofs.Cursor.{Ahead, piece_here}
 use Rattle.edit_unparse.proofs.WrittenLemmas.{ids_of-append}
 
--- what stands at a piece that no edit touches
+-- the parts at a piece that no edit touches
 
 token_stays : (edits : List Edit) (t n : ℕ) (p : TextPiece) → filter (is_at t) (marks_from 0 edits) ≡ [] → token_parts edits t n p ≡ old_part n p ∷ []
 token_stays edits t n p none =
@@ -70,7 +70,7 @@ get_drop zero n ps = let e : n ≡ 0 + n = omega arith in ap (slice_get ps) e
 get_drop (suc m) n [] = refl
 get_drop (suc m) n (q ∷ ps) = let e : suc (m + n) ≡ suc m + n = omega arith in get_drop m n ps ∙ ap (slice_get (q ∷ ps)) e
 
--- one piece more
+-- one more piece
 pub run_more : (pieces : List TextPiece) (a b : ℕ) (p : TextPiece) → a ≤ b → slice_get pieces b ≡ Some p → run_of pieces a (b + 1) ≡ run_of pieces a b ++ p ∷ []
 run_more pieces a b p le at =
     let one : b + 1 - a ≡ suc (b - a) = omega arith in
@@ -139,7 +139,7 @@ same_start d = record { bytes = refl; next = refl; left = refl }
 pub same_more : (a b c : Draft) → SameButIds a b → SameButIds b c → SameButIds a c
 same_more a b c h k = record { bytes = k.bytes ∙ h.bytes; next = k.next ∙ h.next; left = k.left ∙ h.left }
 
--- the piece of a number
+-- the piece with a number
 
 pub get_there : (pieces : List TextPiece) (i : ℕ) → i < length pieces → (p : TextPiece) × (slice_get pieces i ≡ Some p)
 get_there [] i less = absurd (omega arith)

@@ -17,7 +17,7 @@ use Rattle.edit_unparse.specs.Runs.{run_of, old_parts, Untouched, Passes, SameBu
 use Rattle.edit_unparse.proofs.WrittenLemmas.{text_of-append, ids_of-append, gap_ids, overflows_more}
 use Rattle.edit_unparse.proofs.RunLemmas.{run_more, run_none, run_length, get_drop, get_there}
 
--- pieces behind their old neighbour need no space
+-- pieces after their old neighbour need no space
 
 no_gap : (p : TextPiece) (n : ℕ) (text : List ℕ) → gap (Some (left_of (old_part n p))) (Some (n + 1)) text ≡ []
 no_gap p n text =
@@ -27,7 +27,7 @@ no_gap p n text =
       | false ↦ refl
     ]
 
--- the last of a run, as what stands to the left of what comes
+-- the last piece of a run, as what is to the left of what comes next
 abbrev pub end_of : ℕ → TextPiece → List TextPiece → Left
 end_of n p [] = left_of (old_part n p)
 end_of n p (q ∷ ps) = end_of (n + 1) q ps
@@ -73,7 +73,7 @@ run_writes old new n p last ps at bytes end next ids =
           ∙ sym (ids_of-append g ((p ∷ ps) ++ rest more)) ∙ ap ids_of (sym (same more)));
     }
 
--- the same of the pieces from one number up to another
+-- the same for the pieces from one number up to another
 
 non_empty : (xs : List TextPiece) (n : ℕ) → length xs ≡ suc n → (p : TextPiece) × ((ps : List TextPiece) × ((xs ≡ p ∷ ps) × (length ps ≡ n)))
 non_empty [] n e = absurd cc
@@ -124,7 +124,7 @@ module _ (pieces : List TextPiece) (old mid new : Draft) (a b : ℕ) (less : a <
       (others.1 ∙ same.next)
       (others.0 ∙ ids ∙ ap (λ (l : List TextPiece). old.ids.items ++ ids_of l) parts.1.1.0))
 
-  -- a text that is too long already stays so, whatever comes
+  -- a text that is already too long stays too long, whatever comes
   longer : (xs ys zs : List ℕ) → 16777216 < length (xs ++ ys) → 16777216 < length (xs ++ (ys ++ zs))
   longer xs ys zs h = omega (arith, h, length-append xs ys, length-append xs (ys ++ zs), length-append ys zs)
 
@@ -187,7 +187,7 @@ span_text pieces a b le =
     ∙ ap (take (length (text_of r))) (drop-append_seam (text_of (take a pieces)) (text_of r ++ text_of rest))
     ∙ take-append_seam (text_of r) (text_of rest)
 
--- the last text of a run stands behind the texts before it
+-- the last text of a run comes after the texts before it
 pub end_text : (pieces : List TextPiece) (xs : List ℕ) (a b : ℕ) (p : TextPiece) → a < b → slice_get pieces (b - 1) ≡ Some p
     → drop (length xs + (length (text_of (take (b - 1) pieces)) - length (text_of (take a pieces)))) (xs ++ text_of (run_of pieces a b)) ≡ p.text
 end_text pieces xs a b p less at =
@@ -201,18 +201,18 @@ end_text pieces xs a b p less at =
     ∙ (λ i. drop (sym (length-append xs (text_of r)) i) (sym (append_assoc xs (text_of r) p.text) i))
     ∙ drop-append_seam (xs ++ text_of r) p.text
 
--- spans rise
+-- spans are ascending
 pub text_rises : (pieces : List TextPiece) (a b : ℕ) → a ≤ b → length (text_of (take a pieces)) ≤ length (text_of (take b pieces))
 text_rises pieces a b le =
     let both : length (text_of (take b pieces)) ≡ length (text_of (take a pieces) ++ text_of (run_of pieces a b)) = ap (λ (l : List TextPiece). length (text_of l)) (take_split a b pieces le) ∙ ap length (text_of-append (take a pieces) (run_of pieces a b)) in
     omega (arith, both, length-append (text_of (take a pieces)) (text_of (run_of pieces a b)))
 
--- what is too long as far as a run goes is too long as a whole
+-- if a text is too long at the end of a run, the whole is too long
 pub run_overflow : (pieces : List TextPiece) (from to : Place) (stop : ℕ) (old : Draft) (edits : List Edit) → Passes pieces from stop to.piece to.token → Untouched edits from.token stop
     → Overflows old (old_parts from.piece (run_of pieces from.piece to.piece)) → Overflows old (placed edits from.token from.piece (drop from.piece pieces))
 run_overflow pieces from to stop old edits h none over = subst (Overflows old) (sym (h.same edits none)) (overflows_more old _ _ over)
 
--- the texts of a run and of its first piece, as they stand in the bytes
+-- the texts of a run and of its first piece, as they are in the bytes
 
 pub run_text : (pieces : List TextPiece) (bytes : List ℕ) (a b s e : ℕ) → a < b → bytes ≡ text_of pieces → s ≡ length (text_of (take a pieces)) → e ≡ length (text_of (take (b - 1 + 1) pieces))
     → take (e - s) (drop s bytes) ≡ text_of (run_of pieces a b)
@@ -256,7 +256,7 @@ end_is_last pieces mid new text a b s t n p less at len end start is run =
 pub left_is : (n : ℕ) (w : Bool) (text : List ℕ) (p : TextPiece) → w ≡ is_word p.kind → text ≡ p.text → Some (let l : Left = record { from = Some n; is_word = w; text = text } in l) ≡ Some (left_of (old_part n p))
 left_is n w text p h k = λ i. Some (record { from = Some n; is_word = h i; text = k i })
 
--- the piece at a place, as it stands in the bytes
+-- the piece at a place, as it is in the bytes
 pub piece_is : (pieces : List TextPiece) (bytes : List ℕ) (i s e : ℕ) (k : PieceKind) (p : TextPiece) → bytes ≡ text_of pieces
     → slice_get pieces i ≡ Some (record { kind = k; text = take (e - s) (drop s (text_of pieces)) }) → slice_get pieces i ≡ Some p
     → (let q : TextPiece = record { kind = k; text = take (e - s) (drop s bytes) } in q) ≡ p

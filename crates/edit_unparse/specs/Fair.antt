@@ -1,4 +1,4 @@
--- Edits after which the new text is cut into the pieces that it was put together from.
+-- Edits whose new text is cut into the pieces that it was assembled from.
 use Rattle.std.specs.Prelude.{ℕ, ◌≡◌, Bool, true, false, List, [], ◌∷◌}
 use Rattle.std.specs.List.{list_all}
 use Rattle.c_terms.specs.declared.token.TokenKind.{TokenKind}
@@ -17,7 +17,7 @@ abbrev pub is_stray : TokenKind → Bool
 is_stray Stray = true
 is_stray kind = false
 
--- the text is cut into blanks and tokens, none of them a Stray
+-- the text is cut into blanks and tokens, none of which is a Stray
 abbrev pub is_plain_text : List ℕ → Bool
 is_plain_text text = list_all (λ p. may_come p.kind) (cut text)
 
@@ -28,7 +28,7 @@ has_plain_inserts e = list_all (λ i. is_plain_text i.text) e.inserts
 abbrev pub Stands : List Edit → ℕ → Type 0
 Stands edits token = (is_removed token edits ≡ false) × (inserted Before token edits ≡ [])
 
--- whether, after a piece, the nearest earlier piece that is no blank is a Stray
+-- whether, after a piece, the nearest earlier piece that is not a blank is a Stray
 abbrev pub after_stray : PieceKind → Bool → Bool
 after_stray (Word kind id) after = is_stray kind
 after_stray Blank after = after
@@ -41,12 +41,12 @@ StrayStays Blank edits after token = Unit {0}
 StrayStays Comment edits after token = Unit {0}
 StrayStays Line edits after token = Unit {0}
 
--- no insert stands after a Stray, and a token whose nearest earlier piece that is no blank is a Stray stays as it is
+-- nothing is inserted after a Stray, and a token whose nearest earlier piece that is not a blank is a Stray stays unchanged
 abbrev pub StraysStay : List Edit → Bool → ℕ → List TextPiece → Type 0
 StraysStay edits after token [] = Unit {0}
 StraysStay edits after token (p ∷ pieces) = StrayStays p.kind edits after token × StraysStay edits (after_stray p.kind after) (id_after p.kind token) pieces
 
--- inserts are blanks and tokens that are no Strays, and what stands after a Stray stays
+-- inserts are blanks and tokens other than Strays, and what comes after a Stray stays unchanged
 pub record Fair (pieces : List TextPiece) (edits : List Edit) : Type 0 where
   pub inserts : list_all has_plain_inserts edits ≡ true
   pub strays : StraysStay edits false 0 pieces

@@ -1,4 +1,6 @@
--- The text that edits make of a text: its pieces in order without the removed tokens, each insert's pieces directly before or after its token's place, and a space where a token and a piece that was not its neighbour run together.
+-- The text that results from applying edits to a text: its pieces in order without the removed tokens, each insert's pieces
+-- directly before or after its token's place, and a space where a token and a piece that was not its neighbour would run
+-- together.
 use Rattle.std.specs.Prelude.{ℕ, ◌+◌, ◌==◌, ◌&&◌, Bool, true, false, not, List, [], ◌∷◌, ◌++◌, map, Option, Some, None, if◌then◌else◌}
 use Rattle.std.specs.List.{list_any}
 use Rattle.c_lexer.specs.declared.piece.PieceKind.{PieceKind}
@@ -15,7 +17,7 @@ use Rattle.edit_marks.specs.EditConflict.Clashes.{removes}
 use Rattle.c_show.specs.Joint.{runs_together}
 use Rattle.edit_unparse.specs.Cutting.{cut}
 
--- A piece of the new text, and its number among the old pieces, if it is one of them.
+-- A piece of the new text, with its number among the old pieces if it is one of them.
 pub record Part : Type 0 where
   pub from : Option ℕ
   pub piece : TextPiece
@@ -50,18 +52,18 @@ abbrev pub kept : Bool → ℕ → TextPiece → List Part
 kept true number p = []
 kept false number p = old_part number p ∷ []
 
--- what stands at the place of a token: the inserts before it, the token unless it is removed, the inserts after it
+-- the parts at the place of a token: the inserts before it, the token unless it is removed, the inserts after it
 abbrev pub token_parts : List Edit → ℕ → ℕ → TextPiece → List Part
 token_parts edits token number p = added (inserted Before token edits) ++ (kept (is_removed token edits) number p ++ added (inserted After token edits))
 
--- what stands at the place of a piece of this kind
+-- the parts at the place of a piece of this kind
 abbrev pub parts_at : PieceKind → List Edit → ℕ → ℕ → TextPiece → List Part
 parts_at (Word kind id) edits token number p = token_parts edits token number p
 parts_at Blank edits token number p = old_part number p ∷ []
 parts_at Comment edits token number p = old_part number p ∷ []
 parts_at Line edits token number p = old_part number p ∷ []
 
--- the new text's pieces but for spaces; the numbers of the next token and of the next piece
+-- the new text's pieces without spaces, given the numbers of the next token and of the next piece
 abbrev pub placed : List Edit → ℕ → ℕ → List TextPiece → List Part
 placed edits token number [] = []
 placed edits token number (p ∷ pieces) = parts_at p.kind edits token number p ++ placed edits (id_after p.kind token) (number + 1) pieces
@@ -72,7 +74,7 @@ is_word Blank = false
 is_word Comment = false
 is_word Line = false
 
--- What stands to the left of a place.
+-- What is to the left of a place.
 pub record Left : Type 0 where
   pub from : Option ℕ
   pub is_word : Bool
@@ -81,7 +83,7 @@ pub record Left : Type 0 where
 abbrev pub left_of : Part → Left
 left_of p = record { from = p.from; is_word = is_word p.piece.kind; text = p.piece.text }
 
--- they stood side by side in the old text
+-- they were neighbours in the old text
 abbrev pub were_beside : Option ℕ → Option ℕ → Bool
 were_beside (Some a) (Some b) = b == a + 1
 were_beside (Some a) None = false
@@ -93,7 +95,7 @@ needs_space left from text = left.is_word && (not (were_beside left.from from) &
 abbrev pub space : TextPiece
 space = record { kind = Blank; text = 32 ∷ [] }
 
--- what parts a piece from what stands to its left
+-- what separates a piece from what is to its left
 abbrev pub gap : Option Left → Option ℕ → List ℕ → List TextPiece
 gap None from text = []
 gap (Some left) from text = if needs_space left from text then space ∷ [] else []
@@ -110,7 +112,7 @@ abbrev pub next_after : Option ℕ → ℕ → PieceKind → ℕ
 next_after (Some number) next kind = next
 next_after None next kind = id_after kind next
 
--- the parts with spaces and ids, after what stands to the left
+-- the parts with spaces and ids, given what is to the left
 abbrev pub spaced : Option Left → ℕ → List Part → List TextPiece
 spaced left next [] = []
 spaced left next (p ∷ parts) =

@@ -1,16 +1,17 @@
-//! The text that edits make of a text.
+//! The text that results from applying edits to a text.
 //!
-//! - [`output`] gives it, with the ids of its tokens, as an [`Edited`].
+//! - [`output`] returns it, with the ids of its tokens, as an [`Edited`].
 //! - [`OutFault`] says why there is none.
-//! - [`plain_texts_are_fair`] and [`ids_stay_below`] are laws, about the texts of inserts and about ids, and do nothing.
+//! - [`plain_texts_are_fair`] and [`ids_stay_below`] are laws, about inserted texts and about ids; the functions do nothing.
 //!
-//! Of `x = a-b;`, with the `-` removed, the text is `x = a b;`. With no edits it is the text itself.
+//! For example, removing the `-` from `x = a-b;` yields `x = a b;`. Without edits the text is unchanged.
 //!
-//! Blanks, comments and preprocessor lines stay as they are. A space comes in only where a token and a piece that was
-//! not its neighbour would run together. Cut again, the text has exactly the kept and the added tokens. It may have
+//! Blanks, comments and preprocessor lines stay as they are. A space is added only where a token and a piece that was not
+//! its neighbour would run together. Cut again, the text has exactly the kept and the added tokens. It may have up to
 //! 16,777,216 bytes. Nothing recurses.
 //!
-//! Whether two edits clash is for edit_conflict, and which edits a rule makes for edit_marks.
+//! This crate doesn't check whether two edits clash; that is the task of edit_conflict, and edit_marks finds the edits of a
+//! rule.
 #![tactic(auto)]
 
 mod draft;

@@ -10,7 +10,7 @@ use crate::fault::OutFault;
 use c_lexer::{Kind, PieceKind};
 use c_show::runs_together;
 
-/// The most bytes that a text may have.
+/// The largest number of bytes that a text may have.
 pub const MAX_LEN: usize = 16_777_216;
 
 impl Draft {
@@ -26,7 +26,7 @@ impl Draft {
         Ok(())
     }
 
-    /// Adds a piece that is new.
+    /// Adds a new piece.
     pub fn put_new(&mut self, kind: Kind, text: &[u8]) -> Result<(), OutFault>
         ensures ok { OnOk result (Writes self.old self.new ((let p : Part = record { from = None; piece = record { kind = kind_with_id kind 0; text = text.now } } in p) ∷ [])) }
         ensures too_long { IsErrOf result OutFault.TooLong → Overflows self.old ((let p : Part = record { from = None; piece = record { kind = kind_with_id kind 0; text = text.now } } in p) ∷ []) }
@@ -40,7 +40,7 @@ impl Draft {
         Ok(())
     }
 
-    /// Adds a text, with a space before it where one has to part it from what is there.
+    /// Adds a text, preceded by a space if it must be separated from what is there.
     fn put_text(&mut self, from: Option<u32>, is_word: bool, text: &[u8]) -> Result<(), OutFault>
         ensures bytes { OnOk result (self.new.bytes.items ≡ self.old.bytes.items ++ (text_of (gap (left self.old) from text.now) ++ text.now)) }
         ensures last { OnOk result (left self.new ≡ Some (record { from = from; is_word = is_word; text = text.now })) }
@@ -61,7 +61,7 @@ impl Draft {
         Ok(())
     }
 
-    /// How many bytes there are.
+    /// Returns the number of bytes so far.
     pub fn len(&self) -> usize
         ensures value { result ≡ length self.now.bytes.items }
         ensures short { result ≤ 16777216 }
@@ -69,7 +69,7 @@ impl Draft {
         self.bytes.len()
     }
 
-    /// How many spaces part a text from what is there: 1 or 0.
+    /// Returns how many spaces separate a text from what is there: 1 or 0.
     pub fn spaces(&self, from: Option<u32>, text: &[u8]) -> usize
         ensures value { result ≡ length (text_of (gap (left self.now) from text.now)) }
         ensures at_most { result ≤ 1 }
@@ -87,7 +87,7 @@ impl Draft {
     }
 }
 
-/// Whether two pieces stood side by side in the old text.
+/// Whether two pieces were neighbours in the old text.
 fn were_beside(left: Option<u32>, right: Option<u32>) -> bool
     ensures { result ≡ were_beside left right }
 {
@@ -108,7 +108,7 @@ pub fn is_word(kind: PieceKind) -> bool
     }
 }
 
-/// Whether a text of a kind is a token.
+/// Whether a text of this kind is a token.
 fn is_token(kind: Kind) -> bool
     ensures { result ≡ is_word (kind_with_id kind 0) }
 {

@@ -1,4 +1,4 @@
-// Copies runs of pieces at which no edit does anything, each run at once.
+// Copies runs of pieces that no edit touches, each run at once.
 ghost use Rattle.std.specs.Prelude.{◌≡◌, ◌≤◌, ◌<◌, ◌+◌, ◌-◌, ◌++◌, [], List, length, take, drop, slice_get, OnOk, IfOk, IfErr, IsErrOf, Some};
 ghost use Rattle.c_lexer.specs.Pieces.{text_of, TextPiece};
 ghost use Rattle.c_lexer.specs.Lexes.{id_after};
@@ -14,7 +14,7 @@ use crate::fault::OutFault;
 use crate::put::{MAX_LEN, is_word};
 use c_lexer::{Lexed, PieceKind};
 
-/// Adds the pieces from a place up to the token of number `stop`, or to the end, and says where that is.
+/// Adds the pieces from a place up to token number `stop`, or to the end, and returns the place reached.
 pub fn put_run(draft: &mut Draft, lexed: &Lexed, from: Place, stop: u32) -> Result<Place, OutFault>
     requires within { from.piece ≤ length lexed.now }
     requires few { from.token ≤ from.piece }
@@ -34,7 +34,7 @@ pub fn put_run(draft: &mut Draft, lexed: &Lexed, from: Place, stop: u32) -> Resu
     Ok(to)
 }
 
-/// Adds the ids alone of the pieces up to the token of number `stop`.
+/// Adds only the ids of the pieces up to token number `stop`.
 fn put_ids(draft: &mut Draft, lexed: &Lexed, from: Place, stop: u32) -> Result<Place, OutFault>
     requires within { from.piece ≤ length lexed.now }
     requires few { from.token ≤ from.piece }
@@ -61,7 +61,7 @@ fn put_ids(draft: &mut Draft, lexed: &Lexed, from: Place, stop: u32) -> Result<P
     Ok(Place { piece, token })
 }
 
-/// Adds the id of a piece, if it is a token, and says which number the next token has.
+/// Adds the id of a piece, if it is a token, and returns the number of the next token.
 fn put_id(draft: &mut Draft, kind: PieceKind, token: u32) -> Result<u32, OutFault>
     requires { token ≤ 16777216 }
     ensures next { IfOk result (λ next. next ≡ id_after kind token) }
@@ -88,8 +88,8 @@ fn is_stop(kind: PieceKind, token: u32, stop: u32) -> bool
     }
 }
 
-/// Adds the texts alone of the pieces from one up to another, with a space before them where one has to part the first
-/// from what is there.
+/// Adds only the texts of the pieces from one number up to another, preceded by a space if the first of them must be
+/// separated from what is there.
 fn put_texts(draft: &mut Draft, lexed: &Lexed, from: usize, to: usize) -> Result<(), OutFault>
     requires some { from < to }
     requires within { to ≤ length lexed.now }
@@ -126,7 +126,7 @@ fn put_texts(draft: &mut Draft, lexed: &Lexed, from: usize, to: usize) -> Result
     Ok(())
 }
 
-/// The bytes from one place up to another.
+/// Returns the bytes from one offset up to another.
 fn part(bytes: &[u8], start: u32, end: u32) -> &[u8]
     requires rise { start ≤ end }
     requires within { end ≤ length bytes.now }

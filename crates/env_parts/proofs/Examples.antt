@@ -1,4 +1,4 @@
--- The definitions at a few values, above all where two readings would differ.
+-- The definitions at a few values, mainly where two readings would differ.
 use Rattle.std.proofs.Common.{◌≡◌, false, refl, [], ◌∷◌}
 use Rattle.std.specs.Prelude.{codes}
 use Rattle.std.specs.declared.cmp.Ordering.TheVariants.{Less, Greater}
@@ -18,7 +18,7 @@ y_of_later_rule = record { rule = 1; name = codes "y" }
 abbrev one : Pairs
 one = (x, Place 1) ∷ (y, Place 2) ∷ []
 
--- a variable that the environment lacks is passed by, and the order in which variables are asked for is no matter
+-- a variable that the environment lacks is skipped, and the order of the given variables doesn't matter
 asked_for : restricted (y_of_later_rule ∷ y ∷ []) one ≡ (y, Place 2) ∷ []
 asked_for = refl
 
@@ -30,19 +30,19 @@ first_stays : joined one ((x, Place 7) ∷ (y_of_later_rule, Place 8) ∷ [])
     ≡ (x, Place 1) ∷ (y, Place 2) ∷ (y_of_later_rule, Place 8) ∷ []
 first_stays = refl
 
--- of one name in two rules there are two variables
+-- the same name in two rules stands for two variables
 rules_count : same_env ((y, Place 2) ∷ []) ((y_of_later_rule, Place 2) ∷ []) ≡ false
 rules_count = refl
 
--- an environment is not the same as one with more
+-- an environment is not the same as one with more pairs
 prefix_differs : same_env one ((x, Place 1) ∷ []) ≡ false
 prefix_differs = refl
 
--- the first of equal ones stays where it is
+-- the first of equal environments keeps its place
 in_order : distinct (one ∷ [] ∷ one ∷ ((x, Place 1) ∷ []) ∷ [] ∷ []) ≡ one ∷ [] ∷ ((x, Place 1) ∷ []) ∷ []
 in_order = refl
 
--- a value counts before the next variable, and a proper prefix comes first
+-- a value decides before the next variable, and a proper prefix is first
 value_first : env_order ((x, Place 1) ∷ (y_of_later_rule, Place 1) ∷ []) ((x, Place 2) ∷ (y, Place 1) ∷ []) ≡ Less
 value_first = refl
 

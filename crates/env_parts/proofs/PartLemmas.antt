@@ -49,7 +49,7 @@ same_env-bare (p ∷ ps) (q ∷ qs) h =
     let a = same_var-equal p.0 q.0 x in let b = same-bare_value p.1 q.1 v in let r = same_env-bare ps qs rest in
     λ i. (a i, b i) ∷ r i
 
--- what doesn't look at ids gives the same without them
+-- what doesn't depend on ids is the same without them
 pub value_in-bare : (env : Pairs) (x : Var) → value_in (bare_env env) x ≡ option_map bare_value (value_in env x)
 value_in-bare [] x = refl
 value_in-bare (p ∷ ps) x =

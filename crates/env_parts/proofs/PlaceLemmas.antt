@@ -69,7 +69,7 @@ shifted_at env x xs (Some k) n h rest =
     let e : suc k ≡ n = cc in
     subst (λ (m : ℕ). IsSomeAnd (slice_get (x ∷ xs) m) (λ e. same_env env e ≡ true)) e (rest k refl)
 
--- what stands at the place is the same
+-- the environment at the place is the same
 pub place_in_at : (env : Pairs) (envs : List Pairs) (n : ℕ) → place_in env envs ≡ Some n
     → IsSomeAnd (slice_get envs n) (λ e. same_env env e ≡ true)
 place_in_at env [] n h = absurd cc
@@ -80,7 +80,7 @@ place_in_at env (x ∷ xs) n h =
       | false ↦ λ t e. shifted_at env x xs (place_in env xs) n e (λ k. place_in_at env xs k)
     ] refl h
 
--- the last one stands at the length of those before
+-- the index of the last one is the number of those before it
 pub pushed_at : (env : Pairs) (envs : List Pairs) → IsSomeAnd (slice_get (envs ++ env ∷ []) (length envs)) (λ e. same_env env e ≡ true)
 pushed_at env [] = same_env-refl env
 pushed_at env (x ∷ xs) = pushed_at env xs

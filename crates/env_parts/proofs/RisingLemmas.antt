@@ -1,4 +1,4 @@
--- A pair whose variable is after all others goes to the end.
+-- A pair whose variable is after all others is put at the end.
 use Rattle.std.proofs.Common.{◌≡◌, ℕ, suc, zero, ◌+◌, ◌<◌, Bool, true, false, ◌&&◌, cond, Some, None, refl, sym, ap, ◌∙◌, subst, arith, List, [], ◌∷◌, ◌++◌, length, take, get_or}
 use Rattle.std.specs.List.{filter, insert, list_all}
 use Rattle.std.specs.declared.cmp.Ordering.TheVariants.{Less}
@@ -77,7 +77,7 @@ module _ (vars : List Var) (ps : Pairs) (n : ℕ) (p : Var × Value) (rises : Ri
   restricted_left h =
       sym (one_more ∙ ap (λ b. restricted vars (take n ps) ++ cond b (p ∷ []) []) h ∙ append-none (restricted vars (take n ps)))
 
--- where the variables are all of it, nothing is left out
+-- if each pair's variable is among the given ones, nothing is left out
 pub restricted_all : (vars : List Var) (ps : Pairs) → list_all (λ p. is_among vars p.0) ps ≡ true → restricted vars ps ≡ ps
 restricted_all vars [] h = refl
 restricted_all vars (p ∷ ps) h =

@@ -1,4 +1,4 @@
--- The order of environments is a total one.
+-- The order of environments is total.
 use Rattle.std.specs.Cmp.{IsTotalOrder}
 use Rattle.std.proofs.lemmas.Cmp.{lists_total, on_total, then_total}
 use Rattle.smpl_terms.specs.declared.var.Var.{Var}

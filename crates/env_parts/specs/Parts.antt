@@ -12,7 +12,7 @@ use Rattle.smpl_terms.specs.Vars.{same_var, var_order, with_pair}
 use Rattle.smpl_terms.specs.Values.{same, value_order}
 use Rattle.smpl_terms.specs.Environments.{has_value}
 
--- what a finite environment is seen as
+-- a finite environment, as contracts see it
 abbrev pub Pairs : Type 0
 Pairs = List (Var × Value)
 
@@ -30,7 +30,7 @@ same_env [] (q ∷ qs) = false
 same_env (p ∷ ps) [] = false
 same_env (p ∷ ps) (q ∷ qs) = (same_var p.0 q.0 && same p.1 q.1) && same_env ps qs
 
--- a value as it counts: a term without the ids of its tokens, or a place
+-- a value as it is compared: a term without the ids of its tokens, or a place
 abbrev pub bare_value : Value → Value
 bare_value (Term t) = Term (bare t)
 bare_value (Place p) = Place p
@@ -45,13 +45,13 @@ bare_env env = map bare_pair env
 abbrev pub adopted : Pairs → Var × Value → Pairs
 adopted env p = cond (has_value env p.0) env (with_pair env p.0 p.1)
 
--- env with more pairs, where it has no value of the variable
+-- env with those pairs whose variables it has no value of
 abbrev pub joined : Pairs → Pairs → Pairs
 joined env [] = env
 joined env (p ∷ ps) = joined (adopted env p) ps
 
--- environments, each once, in the order in which they first appear: those that were seen, and this one after them unless
--- it is there
+-- environments, each once, in the order in which they first appear: those seen so far, with this one appended unless it is
+-- there
 abbrev pub with_new : List Pairs → Pairs → List Pairs
 with_new seen env = cond (list_any (same_env env) seen) seen (seen ++ env ∷ [])
 
@@ -66,6 +66,6 @@ distinct envs = distinct_after [] envs
 abbrev pub pair_order : Var × Value → Var × Value → Ordering
 pair_order p q = ordering_then (var_order p.0 q.0) (value_order p.1 q.1)
 
--- pair by pair, the first difference counts; a proper prefix first
+-- pair by pair, the first difference decides; a proper prefix is first
 abbrev pub env_order : Pairs → Pairs → Ordering
 env_order = slice_cmp pair_order

@@ -1,4 +1,4 @@
--- Where each of some different environments stands.
+-- The place of each of some different environments.
 use Rattle.std.specs.Prelude.{ℕ, suc, ◌≡◌, cond, Option, None, Some, List, [], ◌∷◌, option_map}
 use Rattle.std.specs.Map.{lookup}
 use Rattle.std.specs.Ordering.{is_eq}
@@ -10,6 +10,6 @@ abbrev pub place_in : Pairs → List Pairs → Option ℕ
 place_in env [] = None
 place_in env (e ∷ envs) = cond (same_env env e) (Some 0) (option_map suc (place_in env envs))
 
--- the entries of a search tree give the place of each of these environments, and of no other
+-- the entries of a search tree map each of these environments, and no other, to its place
 abbrev pub ArePlaces : List (Key × ℕ) → List Pairs → Type 0
 ArePlaces entries envs = (env : Pairs) → lookup (λ k. is_eq (env_order env k.env)) entries ≡ place_in env envs

@@ -1,4 +1,4 @@
-// Different environments, in the order in which they first came.
+// Different environments, in the order in which they were first added.
 ghost use Rattle.std.specs.Prelude.{◌≡◌, [], true, IfOk, IsSomeAnd, slice_get};
 ghost use Rattle.env_parts.specs.Parts as of;
 ghost use Rattle.env_parts.specs.Places.{place_in};
@@ -11,7 +11,7 @@ use std::alloc::Global;
 use std::collections::BTreeMap;
 use std::marker::Model;
 
-/// Environments, each once, in the order in which they first came. Contracts see the list.
+/// Environments, each once, in the order in which they were first added. Contracts see the list.
 #[derive(Drop)]
 pub struct DistinctEnvs {
     envs: Items<Env>,
@@ -34,7 +34,7 @@ impl Model for DistinctEnvs {
     ghost invariant = { λ a. ArePlaces a.places.entries a.envs };
 }
 
-/// Different environments, and the place of one of them.
+/// Different environments, and the index of one of them.
 #[derive(Drop)]
 pub struct Placed {
     pub envs: DistinctEnvs,
@@ -42,7 +42,7 @@ pub struct Placed {
 }
 
 impl DistinctEnvs {
-    /// No environments. Takes no memory.
+    /// Returns an empty list. Takes no memory.
     pub fn new(alloc: Global) -> DistinctEnvs
         ensures envs { result ≡ [] }
     {
@@ -58,8 +58,8 @@ impl DistinctEnvs {
         self.places.get(key).copied()
     }
 
-    /// The environments, and this one after them unless it is there; and its place among them. Costs a look-up in a search
-    /// tree, which compares with as many environments as the tree is deep.
+    /// Returns the environments, with this one appended unless it is there, and the index at which it is found. Costs a look-up
+    /// in a search tree, which compares it with as many environments as the tree is deep.
     pub fn with(self, alloc: Global, env: Env) -> Result<Placed, NoMemory>
         ensures envs { IfOk result (λ r. r.envs ≡ of.with_new self env) }
         ensures place { IfOk result (λ r. IsSomeAnd (slice_get r.envs r.place) (λ e. of.same_env env e ≡ true)) }
@@ -83,7 +83,7 @@ impl DistinctEnvs {
         })
     }
 
-    /// The environments, in that order.
+    /// Returns the environments, in that order.
     pub fn into_envs(self) -> Items<Env>
         ensures envs { result ≡ self }
     {

@@ -1,4 +1,4 @@
-//! Parts of environments: their pairs for some variables, one with the pairs of another, and lists of different ones.
+//! Parts of environments: their pairs for some variables, joined with the pairs of others, and lists of different environments.
 #![tactic(auto)]
 
 mod distinct;

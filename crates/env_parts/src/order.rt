@@ -29,15 +29,15 @@ fn pairs_order(a: &[(Var, Value)], b: &[(Var, Value)]) -> Ordering
     a.len().cmp(&b.len())
 }
 
-/// Pair by pair, by variable and then by value, ids aside; a proper prefix first. Stops at the first difference, and takes no
-/// memory.
+/// Compares two environments pair by pair, by variable and then by value, ids aside; a proper prefix is first. Stops at the
+/// first difference, and takes no memory.
 pub fn env_order(a: &Env, b: &Env) -> Ordering
     ensures value { result ≡ of.env_order a.now b.now }
 {
     pairs_order(a.pairs(), b.pairs())
 }
 
-/// The order of environments is a total one, and two are at one place of it exactly where they are the same.
+/// The order of environments is total, and two compare as equal exactly if they are the same.
 pub fn environments_are_ordered()
     ensures total { IsTotalOrder of.env_order }
     ensures equal { (a b : of.Pairs) → is_eq (of.env_order a b) ≡ of.same_env a b }

@@ -9,7 +9,7 @@ use c_terms::NoMemory;
 use smpl_terms::{Env, Value, Var, same_value, same_var};
 use std::alloc::Global;
 
-/// Whether the variable is one of these. Linear, and takes no memory.
+/// Whether `x` is one of these variables. Linear, and takes no memory.
 pub fn is_among(vars: &[Var], x: &Var) -> bool
     ensures value { result ≡ of.is_among vars.now x.now }
 {
@@ -33,8 +33,8 @@ fn are_among(pairs: &[(Var, Value)], vars: &[Var]) -> bool
     true
 }
 
-/// The pairs of these variables. Shares the environment where they are all of it; else each pair that is kept is copied
-/// once for each that is kept after it.
+/// Returns the pairs of these variables. Shares the environment if it has no others; otherwise it copies each pair that it
+/// keeps once for each pair that it keeps after it.
 pub fn restricted(alloc: Global, env: &Env, vars: &[Var]) -> Result<Env, NoMemory>
     ensures pairs { IfOk result (λ r. r ≡ of.restricted vars.now env.now) }
 {
@@ -51,7 +51,7 @@ pub fn restricted(alloc: Global, env: &Env, vars: &[Var]) -> Result<Env, NoMemor
     Ok(part)
 }
 
-/// The environment with one more pair, unless it has a value of the variable.
+/// Returns the environment with one more pair, or unchanged if it has a value of the variable.
 fn adopted(alloc: Global, env: Env, x: &Var, value: &Value) -> Result<Env, NoMemory>
     ensures { IfOk result (λ r. r ≡ of.adopted env (x.now, value.now)) }
 {
@@ -61,7 +61,7 @@ fn adopted(alloc: Global, env: Env, x: &Var, value: &Value) -> Result<Env, NoMem
     env.with(alloc, x, value)
 }
 
-/// The environment with more pairs, where it has no value of the variable. It is copied once for each of them.
+/// Returns the environment with those pairs of `more` whose variables it has no value of. Copies it once for each of them.
 pub fn joined(alloc: Global, env: &Env, more: &Env) -> Result<Env, NoMemory>
     ensures pairs { IfOk result (λ r. r ≡ of.joined env.now more.now) }
 {

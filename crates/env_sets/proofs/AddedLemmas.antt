@@ -1,4 +1,4 @@
--- Blocks of entries in order with one entry more.
+-- Blocks of entries in order, with one more entry.
 use Rattle.std.proofs.Common.{◌≡◌, Bool, true, false, ◌||◌, refl, sym, ap, ◌∙◌, List, ◌∷◌, ◌++◌}
 use Rattle.smpl_terms.specs.declared.var.Var.{Var}
 use Rattle.smpl_terms.specs.Environments.{Environment}
@@ -8,7 +8,7 @@ use Rattle.env_sets.proofs.LoopLemmas.{both_parts}
 use Rattle.env_sets.proofs.PairLemmas.{both_true}
 use Rattle.env_sets.proofs.BlockLemmas.{denotes-append, vars-append}
 
--- one entry more
+-- one more entry
 or_one : (d : Bool) → (d || true) ≡ true
 or_one true = refl
 or_one false = refl

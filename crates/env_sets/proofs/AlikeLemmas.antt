@@ -1,4 +1,4 @@
--- A set cannot tell environments apart whose values are the same.
+-- A set cannot distinguish environments whose values are the same.
 use Rattle.std.proofs.Common.{◌≡◌, Bool, true, false, cond, refl, List, [], ◌∷◌}
 use Rattle.smpl_terms.specs.declared.value.Value.{Value}
 use Rattle.env_sets.specs.declared.bounds.Bound.{Bound}

@@ -1,4 +1,4 @@
--- A search by halves in entries that ascend.
+-- Binary search in entries that ascend.
 use Rattle.std.proofs.Common.{◌≡◌, ℕ, suc, zero, ◌-◌, ◌<◌, ◌≤◌, Bool, true, false, ◌&&◌, ◌||◌, refl, sym, ap, ◌∙◌, subst, arith, List, [], ◌∷◌, length, get_or, take, drop, take-append-drop}
 use Rattle.std.specs.declared.cmp.Ordering.{Ordering}
 use Rattle.std.specs.declared.cmp.Ordering.TheVariants.{Less, Equal, Greater}
@@ -20,7 +20,7 @@ use Rattle.env_sets.specs.Sets.{Entries, entry_denotes, set_denotes}
 use Rattle.env_sets.specs.Ascending.{bound_side, side, NoLater, MayFollow, FirstMayFollow, Ascend, IsInOrder}
 use Rattle.env_sets.proofs.RisingLemmas.{turned}
 
--- orders of values beside one value
+-- how values compare with one value
 no_later_less : (o p r s : Ordering) → (p ≡ Less → o ≡ Less) → (p ≡ Equal → o ≡ Less)
     → NoLater (ordering_then o r) (ordering_then p s)
 no_later_less o Less r s h k = subst (λ q. NoLater (ordering_then q r) Less) (sym (h refl)) (λ a. refl, λ b. absurd cc)
@@ -32,7 +32,7 @@ no_later_same Less r s t = (λ a. refl, λ b. b)
 no_later_same Equal r s t = t
 no_later_same Greater r s t = (λ a. a, λ b. refl)
 
--- a value before another, beside a value that is the same as the other
+-- a value before another, compared with a value that is the same as the other
 pub beside_same : (v w x : Value) → value_order v w ≡ Less → value_order w x ≡ Equal → value_order v x ≡ Less
 beside_same v w x h k =
     turned x v Greater (sym (value_order_total.congr w x v k) ∙ turned v w Less h)
@@ -86,7 +86,7 @@ after_misses e env h = aside e env (ap is_eq h)
 pub neither : (b c : Bool) → b ≡ false → c ≡ false → (b || c) ≡ false
 neither b c h k = ap (λ x. x || c) h ∙ k
 
--- before an entry that is before env stand only such
+-- all entries before an entry that is before env are before env
 all_before : (es : Entries) (n : ℕ) (e x : List (Var × Bound)) (env : Environment) → FirstMayFollow e es
     → Ascend es → n < length es → x ≡ get_or es n x → side x env ≡ Less → side e env ≡ Less
 all_before [] n e x env f a lt at h = absurd (omega arith)
@@ -107,7 +107,7 @@ pub front_misses_at : (es : Entries) (n m : ℕ) (x : List (Var × Bound)) (env 
     → n < length es → x ≡ get_or es n x → side x env ≡ Less → m ≡ suc n → set_denotes (take m es) env ≡ false
 front_misses_at es n m x env a lt at h k = ap (λ j. set_denotes (take j es) env) k ∙ front_misses es n x env a lt at h
 
--- behind an entry that is after env stand only such
+-- all entries after an entry that is after env are after env
 pub all_after : (es : Entries) (e : List (Var × Bound)) (env : Environment) → FirstMayFollow e es → Ascend es
     → side e env ≡ Greater → set_denotes es env ≡ false
 all_after [] e env f a h = refl
@@ -132,7 +132,7 @@ parts_miss es n x env a lt at h front =
     ∙ list_any-append (λ e. entry_denotes e env) (take n es) (drop n es)
     ∙ neither _ _ front (back_misses es n x env a lt at h)
 
--- what a test of the side tells
+-- what a test of the side shows
 less : (o : Ordering) → is_lt o ≡ true → o ≡ Less
 less Less h = refl
 less Equal h = absurd cc
@@ -182,12 +182,12 @@ last_alone (x ∷ y ∷ es) (suc n) e = last_alone (y ∷ es) n (omega (arith, e
 pub ascend_last : (es : Entries) (n : ℕ) → 0 < n → n ≡ length es → Ascend (drop (n - 1) es)
 ascend_last es n some e = last_alone es (n - 1) (omega (arith, some, e))
 
--- the number behind all of them
+-- the number after all of them
 pub none_in_order : (es : Entries) (n : ℕ) → n ≡ length es → IsInOrder n es
 unfolding IsInOrder
 none_in_order es n e = (omega (arith, e), subst Ascend (sym (drop_all n es (omega (arith, e)))) tt)
 
--- what the order says
+-- what the order shows
 pub in_order_within : (es : Entries) (n : ℕ) → IsInOrder n es → n ≤ length es
 unfolding IsInOrder
 in_order_within es n h = h.0

@@ -1,4 +1,4 @@
--- Entries that are kept in blocks.
+-- Entries that are stored in blocks.
 use Rattle.std.proofs.Common.{◌≡◌, ℕ, suc, zero, ◌-◌, ◌<◌, ◌≤◌, Bool, true, false, ◌&&◌, ◌||◌, eqb, refl, sym, ap, ◌∙◌, subst, arith, List, [], ◌∷◌, ◌++◌, length, get_or, take, drop, append_assoc, append-nil}
 use Rattle.std.specs.declared.cmp.Ordering.TheVariants.{Less, Greater}
 use Rattle.std.proofs.lemmas.Grind.{flat_map-append}
@@ -79,7 +79,7 @@ ascend_with [] ys e a l f = (f, a)
 ascend_with (x ∷ []) ys e a l f = (l, (f, a.1))
 ascend_with (x ∷ z ∷ xs) ys e a l f = (a.0, ascend_with (z ∷ xs) ys e a.1 l f)
 
--- entries before an environment, and behind it
+-- entries before an environment, and after it
 last_before : (x : List (Var × Bound)) (xs : Entries) (env : Environment) → Ascend (x ∷ xs) → LastIsBefore env (x ∷ xs)
     → side x env ≡ Less
 last_before x [] env a h = h
@@ -236,7 +236,7 @@ around_parts before front back after block is =
     ∙ ap (λ es. before ++ es) (append_assoc front back after)
     ∙ sym (append_assoc before front (back ++ after))
 
--- blocks beside a split, where one part is empty
+-- blocks beside a split one of whose parts is empty
 pub next_block : (P : Entries → Type 0) (back : Entries) (after : List Entries) (b : Entries) → length back ≡ 0
     → 0 < length after → b ≡ get_or after 0 b → ((es : Entries) → P (b ++ es)) → P (back ++ all_entries after)
 next_block P [] [] b none some at f = absurd (omega arith)
@@ -274,7 +274,7 @@ with_first list before (c ∷ cs) after b e some at is =
     e ∙ ap (λ d. before ++ d ∷ cs) (sym at)
     ∙ ap (λ ds. before ++ b ∷ ds) (sym (take_all (length (c ∷ cs) - 1) cs (omega arith)) ∙ sym is)
 
--- what is left of a list and blocks behind the front of a list
+-- what is left of a list and blocks after the front of a list
 or_nothing : (b : Bool) → (b || false) ≡ b
 or_nothing true = refl
 or_nothing false = refl

@@ -1,4 +1,4 @@
--- A bound cannot tell same values apart; what two bounds allow.
+-- A bound cannot distinguish values that are the same; what two bounds allow.
 use Rattle.std.proofs.Common.{◌≡◌, Bool, true, false, ◌&&◌, not, refl, sym, ◌∙◌, ap, arith, List, [], ◌∷◌}
 use Rattle.std.specs.List.{list_any, list_all}
 use Rattle.std.proofs.lemmas.Grind.{common_steps}

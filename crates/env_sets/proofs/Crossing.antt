@@ -1,4 +1,4 @@
--- Sets, what they are made of and sets by node may go to other threads and be shared by them.
+-- Sets, their parts and sets by node may be sent to other threads and shared by them.
 use denote.Param.Send.{IsSend, IsSync, sendable, recorded_send, recorded_sync, enum_send, enum_sync}
 use denote.Enum.Declared.{shape}
 use Rattle.std.proofs.Crossing.{crosses}
@@ -11,7 +11,7 @@ use Rattle.env_sets.specs.contracts.sets.EnvSet as EnvSet
 use Rattle.env_sets.specs.contracts.states.StateRow as StateRow
 use Rattle.env_sets.specs.contracts.states.StateSets as StateSets
 
--- the lists of excluded values, as they stand in a struct
+-- the lists of excluded values, as fields of a struct
 runs_send : IsSend (Runs.the_field).row
 runs_send = search (value_in_send, value_in_sync, crosses, sendable) depth 60
 

@@ -1,4 +1,4 @@
--- The definitions at a few values, above all where two readings would differ.
+-- The definitions at a few values, mainly where two readings would differ.
 use Rattle.std.proofs.Common.{◌≡◌, ℕ, Bool, true, false, not, ◌&&◌, ◌||◌, refl, sym, ap, ◌∙◌, List, [], ◌∷◌}
 use Rattle.std.specs.Prelude.{codes}
 use Rattle.c_terms.specs.declared.token.Token.{Token}
@@ -56,18 +56,18 @@ same_one = same-Leaf-Leaf (digits (codes "1") 7) (digits (codes "1") 8)
 one_two : same one two ≡ false
 one_two = same-Leaf-Leaf (digits (codes "1") 7) (digits (codes "2") 9)
 
--- ids don't count, neither where a value is allowed nor where it is excluded
+-- ids don't count, neither when a value is allowed nor when it is excluded
 ids_aside : fits one_again (Is one) ≡ true
 ids_aside = same_one
 
 excluded_ids_aside : fits one_again (Not (one ∷ [])) ≡ false
 excluded_ids_aside = ap (λ b. not (b || false)) same_one
 
--- all values are left where none is excluded
+-- all values are left if none is excluded
 none_excluded : (v : Value) → fits v (Not []) ≡ true
 none_excluded v = refl
 
--- no entry: no environment; an entry without bounds: each
+-- no entry: no environment; an entry without bounds: every environment
 no_entry : (env : Environment) → set_denotes [] env ≡ false
 no_entry env = refl
 
@@ -90,7 +90,7 @@ denotes_other = ap (λ b. (not (b || false) && true) || false) one_two
 denotes_excluded : set_denotes (only x (Not (one ∷ []))) (total ((x, one_again) ∷ [])) ≡ false
 denotes_excluded = ap (λ b. (not (b || false) && true) || false) same_one
 
--- the complement of `x` is 1 excludes 1, for each environment; the two meet nowhere and join to all
+-- the complement of `x` is 1 excludes 1, for each environment; the two meet in nothing and join to everything
 outside : (b : Bool) → ((not (b || false) && true) || false) ≡ not ((b && true) || false)
 outside true = refl
 outside false = refl
@@ -112,7 +112,7 @@ meet_with_complement env = nowhere (same one (env x))
 join_with_complement : IsJoin (only x (Is one)) (only x (Not (one ∷ []))) ([] ∷ [])
 join_with_complement env = everywhere (same one (env x))
 
--- of `x` is 1, `y` is 2 there remains `y` is 2, where `x` may change and where it is 1; where it is 2 nothing remains
+-- of `x` is 1, `y` is 2 there remains `y` is 2 if `x` may change or is 1; if `x` is 2 nothing remains
 given_y : (a b : Bool) → ((a && (b && true)) || false) ≡ true → ((b && true) || false) ≡ true
 given_y true b h = h
 given_y false b h = absurd cc
@@ -129,7 +129,7 @@ given_one rest = sym (ap (λ b. (b && (same two (rest y) && true)) || false) sam
 given_two : IsGiven ((x, two) ∷ []) both []
 given_two rest = sym (ap (λ b. (b && (same two (rest y) && true)) || false) one_two)
 
--- a set without bounds has no variable; else each counts
+-- a set without bounds has no variable; otherwise each variable counts
 no_variable : set_vars (λ v. false) ([] ∷ []) ≡ true
 no_variable = refl
 

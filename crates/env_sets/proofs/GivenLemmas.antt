@@ -1,4 +1,4 @@
--- An entry where some variables have values.
+-- An entry when some variables have values.
 use Rattle.std.proofs.Common.{◌≡◌, Bool, true, false, ◌&&◌, ◌||◌, not, cond, refl, arith, List, [], ◌∷◌, Option, Some, None, is_some, unwrap_or}
 use Rattle.std.specs.List.{list_all, filter}
 use Rattle.std.proofs.lemmas.Grind.{common_steps}

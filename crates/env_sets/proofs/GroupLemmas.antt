@@ -1,4 +1,4 @@
--- The entries of a set by the value at which they fix a variable.
+-- The entries of a set, grouped by the value at which they fix a variable.
 use Rattle.std.proofs.Common.{◌≡◌, ℕ, ◌+◌, ◌<◌, Bool, true, false, ◌&&◌, ◌||◌, refl, sym, ap, ◌∙◌, subst, arith, List, [], ◌∷◌, ◌++◌, length, get_or, take, set, Option, Some, None, ⊎_elim}
 use Rattle.std.specs.Option.{IfSome, MatchOption}
 use Rattle.std.specs.List.{list_any}
@@ -84,7 +84,7 @@ group_more x values groups next others e k r within only is es h =
       ),
     )
 
--- an entry meets its group and the others alone
+-- an entry meets only its group and the others
 pub met_in_group : (x : Var) (values : List Value) (b : Entries) (groups : List Entries) (others group : Entries) (e : List (Var × Bound)) (v : Value) (k : ℕ)
     → AreGroupsOf x values b groups others → ((u : Value) → same v u ≡ false → passes x (fits u) e ≡ false)
     → k < length values → same (get_or values k v) v ≡ true → group ≡ get_or groups k []
@@ -100,7 +100,7 @@ met_in_group x values b groups others group e v k h only within here at env =
           ap (λ d. d && (set_denotes group env || set_denotes others env)) gone ∙ sym (ap (λ d. d && set_denotes b env) gone)
     ] refl
 
--- an entry without a group meets the others alone
+-- an entry without a group meets only the others
 pub met_elsewhere : (x : Var) (values : List Value) (b : Entries) (groups : List Entries) (others : Entries) (e : List (Var × Bound)) (v : Value)
     → AreGroupsOf x values b groups others → ((u : Value) → same v u ≡ false → passes x (fits u) e ≡ false) → list_any (λ w. same w v) values ≡ false
     → (env : Environment) → (entry_denotes e env && set_denotes others env) ≡ (entry_denotes e env && set_denotes b env)
@@ -112,12 +112,12 @@ met_elsewhere x values b groups others e v h only none env =
           ap (λ d. d && set_denotes others env) gone ∙ sym (ap (λ d. d && set_denotes b env) gone)
     ] refl
 
--- what the value in a `Some` gives
+-- what follows for the value in a `Some`
 pub some_gives : {X : Type 0} (o : Option X) (N : Type 0) {P Q : X → Type 0} → MatchOption o N P → ((x : X) → P x → Q x) → IfSome o Q
 some_gives None N h f = tt
 some_gives (Some x) N h f = f x h
 
--- one more entry read
+-- one more entry is read
 pub groups_read : (x : Var) (values read : List Value) (es : Entries) (e : List (Var × Bound)) (groups old new : List Entries) (others next : Entries) → read ≡ values → old ≡ groups
     → (AreGroupsOf x read es old others → AreGroupsOf x read (es ++ e ∷ []) new next) → AreGroupsOf x values es groups others → AreGroupsOf x values (es ++ e ∷ []) new next
 groups_read x values read es e groups old new others next s o step h =

@@ -55,7 +55,7 @@ value_dropped q ks ys v z along out h =
     dropped_step (list_any (λ w. same w z) ks) (list_any (λ w. same w z) ys) (same v z) (q z) (λ s. sym (along s) ∙ out) h
     ∙ ap (λ b. b && q z) (sym (list_any-append (λ w. same w z) ys (v ∷ [])))
 
--- where no value is left to exclude, each value is allowed
+-- if no value is left to exclude, each value is allowed
 nothing_has : (vs : List Value) (z : Value) → length vs ≡ 0 → list_any (λ v. same v z) vs ≡ false
 nothing_has [] z h = refl
 nothing_has (v ∷ vs) z h = absurd (omega arith)
@@ -65,7 +65,7 @@ nothing_left vs left z e true d is none split outside fixed = fixed refl
 nothing_left vs left z true false d is none split outside fixed = absurd (let n = sym split ∙ ap (list_any (λ v. same v z)) (sym is) ∙ nothing_has vs z none in cc)
 nothing_left vs left z false false d is none split outside fixed = outside refl
 
--- more entries that stand for nothing more
+-- more entries that add no environment
 absorbed : (a b : Bool) → (b ≡ true → a ≡ true) → (a || b) ≡ a
 absorbed true b h = refl
 absorbed false true h = sym (h refl)

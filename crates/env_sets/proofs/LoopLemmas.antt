@@ -67,7 +67,7 @@ project_step es i e x env r s d lt at is old new =
 middle_false : (a b c : Bool) → b ≡ false → false ≡ (a && (b && c))
 middle_false a b c h = grind (arith, common_steps)
 
--- what one member fails all fail
+-- what one member fails, not all pass
 pub all_fails_at : {X : Type 0} (q : X → Bool) (xs zs : List X) (i : ℕ) (x : X) → i < length xs → x ≡ get_or xs i x → xs ≡ zs → q x ≡ false → false ≡ list_all q zs
 all_fails_at q xs zs i x lt e z h =
     let s = all_split q xs i x lt e in
@@ -76,7 +76,7 @@ all_fails_at q xs zs i x lt e z h =
 middle_true : (a b c : Bool) → (a && (b && c)) ≡ true → b ≡ true
 middle_true a b c h = grind (arith, common_steps)
 
--- what each member passes one does
+-- what each member passes, one passes
 pub all_at : {X : Type 0} (q : X → Bool) (xs : List X) (i : ℕ) (x : X) → i < length xs → x ≡ get_or xs i x → list_all q xs ≡ true → q x ≡ true
 all_at q xs i x lt e h = middle_true (list_all q (take i xs)) (q x) (list_all q (drop (suc i) xs)) (sym (all_split q xs i x lt e) ∙ h)
 
@@ -120,7 +120,7 @@ all-not-any q (x ∷ xs) = elim (q x) as (λ b. (b && list_all q xs) ≡ not (no
 pub list_all-IsPermutation : {X : Type 0} (q : X → Bool) (xs ys : List X) → IsPermutation xs ys → list_all q xs ≡ list_all q ys
 list_all-IsPermutation q xs ys h = all-not-any q xs ∙ ap not (list_any-IsPermutation (λ x. not (q x)) xs ys h) ∙ sym (all-not-any q ys)
 
--- what one member passes some member does
+-- what one member passes, some member passes
 pub any_at : {X : Type 0} (q : X → Bool) (xs : List X) (i : ℕ) (x : X) → i < length xs → x ≡ get_or xs i x → q x ≡ true → list_any q xs ≡ true
 any_at q [] i x lt e h = absurd (omega arith)
 any_at q (y ∷ ys) zero x lt e h = let k : q y ≡ true = ap q (sym e) ∙ h in either_true (q y) (list_any q ys) k

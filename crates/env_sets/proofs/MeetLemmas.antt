@@ -30,7 +30,7 @@ pub known : (s F B O : Bool) → (s ≡ true → F ≡ true) → B ≡ (F || O) 
 known true F B O h k = let f = h refl in grind (arith, common_steps)
 known false F B O h k = refl
 
--- and one whose value it has not
+-- and one whose value it does not have
 pub unknown : (s F B O : Bool) → (s ≡ true → F ≡ false) → B ≡ (F || O) → (s && O) ≡ (s && B)
 unknown true F B O h k = let f = h refl in grind (arith, common_steps)
 unknown false F B O h k = refl

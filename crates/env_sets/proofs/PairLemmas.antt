@@ -1,4 +1,4 @@
--- What an insert and a write do to what an entry stands for, and to its variables.
+-- How an insert and a write change what an entry stands for, and its variables.
 use Rattle.std.proofs.Common.{◌≡◌, ℕ, suc, zero, ◌<◌, Bool, true, false, ◌&&◌, refl, sym, ap, ◌∙◌, arith, List, [], ◌∷◌, length, get_or}
 use Rattle.std.proofs.Math.ListN.{set}
 use Rattle.std.specs.List.{list_all, insert}
@@ -29,7 +29,7 @@ all-set q [] n y d r lt e = absurd (omega arith)
 all-set q (x ∷ xs) zero y d r lt e = and-past (q y) (q x) (list_all q xs) r e
 all-set q (x ∷ xs) (suc n) y d r lt e = let h = all-set q xs n y d r (omega arith) e in and-swap (q x) (list_all q (set xs n y)) (list_all q xs) r h
 
--- what an insert and a write do to what an entry stands for, and to its variables
+-- how an insert and a write change what an entry stands for, and its variables
 pub insert_meaning : (xs self new : List (Var × Bound)) (n : ℕ) (x : Var) (b bound : Bound) → new ≡ insert xs n (x, b) → b ≡ bound → xs ≡ self
     → (env : Environment) → entry_denotes new env ≡ (entry_denotes self env && fits (env x) bound)
 insert_meaning xs self new n x b bound e f v env =

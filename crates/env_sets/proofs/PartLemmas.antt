@@ -29,7 +29,7 @@ second_false : (a b : Bool) → (a || b) ≡ false → b ≡ false
 second_false true b h = absurd cc
 second_false false b h = h
 
--- what no member passes one does not
+-- what no member passes, one does not pass
 pub any_none : {X : Type 0} (q : X → Bool) (xs : List X) (i : ℕ) (x : X) → i < length xs → x ≡ get_or xs i x → list_any q xs ≡ false → q x ≡ false
 any_none q [] i x lt e h = absurd (omega arith)
 any_none q (y ∷ ys) zero x lt e h = ap q e ∙ first_false (q y) (list_any q ys) h
@@ -96,7 +96,7 @@ parts_put x values parts next e v w k r only within here fits_there is es h = (
       (cases_eq j k),
 )
 
--- each part so far has the entry, where it allows it
+-- each part so far has the entry, if the entry allows its value
 abbrev pub Halfway : Var → List Value → List (List (Var × Bound)) → List (Var × Bound) → ℕ → List (List (List (Var × Bound))) → Type 0
 Halfway x values es e n parts = (length parts ≡ length values) × ((j : ℕ) (u : Value) → j < length values → u ≡ get_or values j u
     → (j < n → get_or parts j [] ≡ restricted x (fits u) (es ++ e ∷ [])) × (n ≤ j → get_or parts j [] ≡ restricted x (fits u) es))
@@ -143,7 +143,7 @@ lone_set x env (e ∷ es) h =
     let rest = lone_set x env es (grind (arith, common_steps)) in
     (λ i. first i || rest i)
 
--- the same values are allowed alike
+-- values that are the same are allowed alike
 passes_along : (x : Var) (v z : Value) → same v z ≡ true → (ps : List (Var × Bound)) → passes x (fits v) ps ≡ passes x (fits z) ps
 passes_along x v z h [] = refl
 passes_along x v z h (p ∷ ps) = λ i. (not (same_var p.0 x) || fits-along v z h p.1 i) && passes_along x v z h ps i
@@ -168,7 +168,7 @@ one_bound e (q ∷ []) p x env f some one at here =
     ∙ ap (λ y. fits (env y) p.1) (same_var-equal p.0 x here)
 one_bound e (q ∷ r ∷ ps) p x env f some one at here = absurd (omega arith)
 
--- values of which those outside the set are kept
+-- values, of which those outside the set are kept
 pub lone_end : (any A : Bool) → (any ≡ false → A ≡ true) → (any && not A) ≡ not A
 lone_end true A h = refl
 lone_end false A h = ap not (sym (h refl))
@@ -183,7 +183,7 @@ empty_more [] y (suc k) e h = refl
 empty_more (p ∷ ps) y zero e h = h 0
 empty_more (p ∷ ps) y (suc k) e h = empty_more ps y k e (λ j. h (suc j))
 
--- one more entry read
+-- one more entry is read
 pub parts_more : (x : Var) (values : List Value) (a : List (List (Var × Bound))) (i : ℕ) (e : List (Var × Bound)) (new whole : List (List (List (Var × Bound))))
     → i < length a → e ≡ get_or a i e → whole ≡ new → AreRestrictions x values (take i a ++ e ∷ []) new → AreRestrictions x values (take (i + 1) a) whole
 parts_more x values a i e new whole lt at is h =

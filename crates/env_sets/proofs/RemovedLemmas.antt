@@ -1,4 +1,4 @@
--- Blocks of entries in order with some entries fewer.
+-- Blocks of entries in order, without some entries.
 use Rattle.std.proofs.Common.{◌≡◌, ◌<◌, Bool, true, false, ◌&&◌, ◌||◌, not, eqb, refl, sym, ap, ◌∙◌, subst, arith, List, [], ◌∷◌, ◌++◌, length, get_or}
 use Rattle.std.specs.declared.cmp.Ordering.{Ordering}
 use Rattle.std.specs.declared.cmp.Ordering.TheVariants.{Less, Equal, Greater}
@@ -24,7 +24,7 @@ use Rattle.env_sets.proofs.LoopLemmas.{both_parts}
 use Rattle.env_sets.proofs.PairLemmas.{both_true}
 use Rattle.env_sets.proofs.BlockLemmas.{denotes-append, vars-append, ascend_front, ascend_back, front_misses_env, back_misses_env}
 
--- some entries fewer
+-- without some entries
 both_kept : (p m s : Bool) → m ≡ false → (p || s) ≡ ((p || (m || s)) && true)
 both_kept true m s h = refl
 both_kept false true s h = absurd cc
@@ -63,7 +63,7 @@ without_vars all xs ms ys t is h =
     let more = both_parts (set_vars t ms) (set_vars t ys) (sym (vars-append ms ys t) ∙ parts.1) in
     vars-append xs ys t ∙ both_true (set_vars t xs) (set_vars t ys) parts.0 more.1
 
--- nothing is left out where nothing is taken
+-- if no entry is removed, nothing changes
 pub nothing_taken : (all xs ms ys : Entries) (env : Environment) (s : Bool) → all ≡ xs ++ (ms ++ ys)
     → eqb (length ms) 0 ≡ true → set_denotes (xs ++ ys) env ≡ (set_denotes all env && not s)
     → set_denotes all env ≡ (set_denotes all env && not s)

@@ -1,4 +1,4 @@
--- A search by halves in values in order.
+-- Binary search in values in order.
 use Rattle.std.proofs.lemmas.Bool.Decides.{nat_tests}
 use Rattle.std.proofs.Common.{◌≡◌, ℕ, suc, zero, ◌+◌, ◌-◌, ◌<◌, ◌≤◌, ◌==◌, Bool, true, false, ◌||◌, ◌&&◌, not, refl, sym, ap, ◌∙◌, subst, arith, List, [], ◌∷◌, ◌++◌, length, get_or, take, drop, take-append-drop}
 use Rattle.std.specs.List.{list_any, list_all}
@@ -22,7 +22,7 @@ more_apart v w h = sym (is_eq-value_order v w) ∙ ap is_eq h
 pub turned : (v w : Value) (o : Ordering) → value_order v w ≡ o → value_order w v ≡ ordering_reverse o
 turned v w o h = value_order_total.antisymm w v ∙ ap ordering_reverse h
 
--- of values in order, one that is before v has only such before it
+-- in a list in order, all values before one that is before v are before v
 front_step : (b : Bool) (c : Bool) → b ≡ false → c ≡ false → (b || c) ≡ false
 front_step b c h k = ap (λ x. x || c) h ∙ k
 
@@ -39,7 +39,7 @@ front_misses (w ∷ ws) (suc n) x v r lt e h =
     (less_apart w v (value_order_total.trans w x v (all_less w x v ws n r.0 r.1 (omega arith) e) h))
     (front_misses ws n x v r.1 (omega arith) e h)
 
--- one that is after v has only such after it
+-- all values after one that is after v are after v
 after_all : (ws : List Value) (w v : Value) → BeforeFirst w ws → Rise ws → value_order v w ≡ Less → list_any (λ y. same y v) ws ≡ false
 after_all [] w v b r h = refl
 after_all (y ∷ ws) w v b r h =
@@ -53,7 +53,7 @@ back_misses (w ∷ ws) zero x v r lt e h =
     front_step (same w v) (list_any (λ y. same y v) ws) (more_apart w v here) (after_all ws w v r.0 r.1 (turned w v Greater here))
 back_misses (w ∷ ws) (suc n) x v r lt e h = back_misses ws n x v r.1 (omega arith) e h
 
--- what neither part has the list has not
+-- what neither part has, the list does not have
 pub parts_miss : (ws : List Value) (n : ℕ) (v : Value) → list_any (λ w. same w v) (take n ws) ≡ false → list_any (λ w. same w v) (drop n ws) ≡ false → false ≡ list_any (λ w. same w v) ws
 parts_miss ws n v front back =
     sym (ap (list_any (λ w. same w v)) (sym (take-append-drop n ws)) ∙ list_any-append (λ w. same w v) (take n ws) (drop n ws) ∙ front_step _ _ front back)
@@ -123,7 +123,7 @@ neither Less h k = refl
 neither Equal h k = absurd cc
 neither Greater h k = absurd cc
 
--- of two values in sorted order that are not the same, the first is before the second
+-- if two values in sorted order are not the same, the first is before the second
 pub before_sorted : (x v : Value) → same x v ≡ false → is_lt (value_order v x) ≡ false → value_order x v ≡ Less
 before_sorted x v h k = neither (value_order x v) (is_eq-value_order x v ∙ h) (ap is_lt (sym (value_order_total.antisymm v x)) ∙ k)
 

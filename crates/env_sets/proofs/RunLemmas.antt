@@ -1,4 +1,4 @@
--- Lists in order that are kept as several.
+-- Lists in order that are stored as several lists.
 use Rattle.std.proofs.Common.{inl, inr, ◌≡◌, ℕ, suc, zero, ◌+◌, ◌<◌, Bool, true, false, ◌||◌, ◌&&◌, cond, refl, sym, ap, ◌∙◌, subst, arith, List, [], ◌∷◌, ◌++◌, length, get_or, take, drop, append_assoc, take-append-drop, length-drop}
 use Rattle.std.proofs.lemmas.List.{at_drop_more, drop_all, get_or_default}
 use Rattle.std.specs.List.{list_any, list_all}
@@ -169,7 +169,7 @@ here v vs [] r h = value_before v (with_values vs []) (first-with_values v vs []
 here v vs (w ∷ ws) r h =
     here_by (value_order w v) v w vs ws refl (h w refl (omega arith)) r ∙ ap (λ b. cond b [] (v ∷ []) ++ with_values vs (w ∷ ws)) (is_eq-value_order w v)
 
--- one step of merging: the values before v, and v unless the others begin with it
+-- one step of a merge: the values before v, and v unless the others begin with it
 pub merge_step : (v : Value) (vs front ws : List Value) → Rise (v ∷ vs) → list_all (λ w. is_lt (value_order w v)) front ≡ true
     → ((w : Value) → w ≡ get_or ws 0 w → 0 < length ws → is_lt (value_order w v) ≡ false)
     → with_values (v ∷ vs) (front ++ ws) ≡ front ++ (unless_first v ws ++ with_values vs ws)
@@ -195,7 +195,7 @@ first_dropped zero xs d = refl
 first_dropped (suc n) [] d = refl
 first_dropped (suc n) (x ∷ xs) d = first_dropped n xs d
 
--- the loop of a merge, as far as it has come
+-- the invariant of the loop of a merge
 pub merge_turn : (small large rest out kept last : List Value) (i n : ℕ) (v : Value)
     → Rise small → i < length small → v ≡ get_or small i v
     → list_all (λ w. is_lt (value_order w v)) (take n rest) ≡ true
@@ -312,7 +312,7 @@ lacked a new one two s first more rs rest z n f r e h k =
     ∙ or_group a (list_any is s) (list_any has rs)
     ∙ ap (λ b. a || b) ((λ i. list_any is (f i) || list_any has (r i)) ∙ sym (any-all_of first rest z) ∙ ap (list_any is) e)
 
--- one value more that is looked up
+-- one more value that is looked up
 pub lacking_step : (a b c t : Bool) (items : List Value) (i : ℕ) (v z : Value) → i < length items → v ≡ get_or items i v
     → (a || c) ≡ ((a || b) || same v z) → (a || b) ≡ (t || list_any (λ w. same w z) (take i items)) → (a || c) ≡ (t || list_any (λ w. same w z) (take (i + 1) items))
 lacking_step a b c t items i v z lt e h k =
@@ -344,7 +344,7 @@ run_before runs i j x y all new e lt at f n h vs =
     at_drop_more (λ rs. rs) runs j x lt ∙ ap (λ r. r ∷ drop (j + 1) runs) (sym at) ∙ ap (λ k. x ∷ drop k runs) e in
     ap (λ rs. all_of vs rs) here ∙ ap (with_values vs) (h x ∙ ap (λ xs. with_values xs all) (sym f) ∙ sym n)
 
--- lists that are kept alike
+-- lists that are stored alike
 pub alike : (first other f g : List Value) (rest others r s : List (List Value)) (z : Value) → f ≡ first → g ≡ other → r ≡ rest → s ≡ others
     → list_any (λ v. same v z) f ≡ list_any (λ v. same v z) g
     → list_any (λ ws. list_any (λ v. same v z) ws) r ≡ list_any (λ ws. list_any (λ v. same v z) ws) s

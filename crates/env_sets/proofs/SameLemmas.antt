@@ -18,7 +18,7 @@ pub both_any : {X : Type 0} (q : X → Bool) (xs ys : List X) (i : ℕ) (x y : X
     → list_any q (take i xs) ≡ list_any q (take i ys) → q x ≡ q y → list_any q (take (i + 1) xs) ≡ list_any q (take (i + 1) ys)
 both_any q xs ys i x y lx ly ex ey before here = any_step q xs i x lx ex ∙ (λ j. before j || here j) ∙ sym (any_step q ys i y ly ey)
 
--- values that are the same are the same as equal ones
+-- values that are the same are the same as equal values
 pub same_alike : (v w x : Value) → same v w ≡ true → same v x ≡ same w x
 same_alike v w x h = same-sym v x ∙ same-along v w h x ∙ same-sym x w
 

@@ -16,7 +16,7 @@ or_inside : (f r e : Bool) → (f || (r || e)) ≡ ((f || r) || e)
 or_inside true r e = refl
 or_inside false r e = refl
 
--- other blocks behind the same entries
+-- other blocks after the same entries
 pub with_rest : (set first copies new : Entries) (rest more : List Entries) (e : List (Var × Bound)) (env : Environment)
     → first ++ all_entries rest ≡ set → copies ≡ first → new ≡ copies ++ all_entries more
     → set_denotes (all_entries more) env ≡ (set_denotes (all_entries rest) env || entry_denotes e env)
@@ -113,7 +113,7 @@ pub and_always : (b : Bool) → b ≡ (b && true)
 and_always true = refl
 and_always false = refl
 
--- what a call may give, in other words
+-- what a call may return, in other terms
 some_weaker : {X : Type 0} (o : Option X) (P Q : X → Type 0) → ((x : X) → P x → Q x) → IfSome o P → IfSome o Q
 some_weaker None P Q f h = h
 some_weaker (Some x) P Q f h = f x h

@@ -1,4 +1,4 @@
--- A set where one variable has a value: the entries that allow it, without the variable.
+-- A set when one variable has a value: the entries that allow it, without the variable.
 use Rattle.std.proofs.Common.{◌≡◌, ℕ, ◌+◌, ◌<◌, ◌≤◌, suc, Bool, true, false, ◌&&◌, ◌||◌, not, cond, refl, sym, ap, ◌∙◌, arith, List, [], ◌∷◌, ◌++◌, length, get_or, take, ⊎_elim}
 use Rattle.std.proofs.lemmas.List.{take_more}
 use Rattle.std.proofs.lemmas.Grind.{common_steps}
@@ -15,7 +15,7 @@ use Rattle.env_sets.specs.Splits.{passes, without, restricted, occurs, agree, is
 use Rattle.env_sets.proofs.BoundLemmas.{fits-along}
 use Rattle.env_sets.proofs.LoopLemmas.{both_parts, or_cases, either_true}
 
--- the test answers for each bound of x as the value of x does
+-- the test gives the same answer for each bound of x as the value of x does
 abbrev pub Decided : Var → (Bound → Bool) → Value → List (Var × Bound) → Type 0
 Decided x test z [] = Unit {0}
 Decided x test z (p ∷ ps) = (same_var p.0 x ≡ true → test p.1 ≡ fits z p.1) × Decided x test z ps
@@ -49,7 +49,7 @@ pub set-split : (x : Var) (test : Bound → Bool) (env : Environment) (es : List
 set-split x test env [] d = refl
 set-split x test env (e ∷ es) d = set_step x test env e es (passes x test e) (entry-split x test env e d.0) (set-split x test env es d.1)
 
--- where x is v
+-- when x is v
 pub fits-Decided : (x : Var) (v z : Value) → same v z ≡ true → (ps : List (Var × Bound)) → Decided x (fits v) z ps
 fits-Decided x v z h [] = tt
 fits-Decided x v z h (p ∷ ps) = (λ _. fits-along v z h p.1, fits-Decided x v z h ps)
@@ -61,7 +61,7 @@ fits-AllDecided x v z h (e ∷ es) = (fits-Decided x v z h e, fits-AllDecided x 
 pub is-split : (x : Var) (v : Value) (env : Environment) (es : List (List (Var × Bound))) → same v (env x) ≡ true → set_denotes (restricted x (fits v) es) env ≡ set_denotes es env
 is-split x v env es h = set-split x (fits v) env es (fits-AllDecided x v (env x) h es)
 
--- where x is a value that no entry names
+-- when x is a value that no entry names
 agree-equal : (a b : Bool) → agree a b ≡ true → a ≡ b
 agree-equal true b h = sym h
 agree-equal false true h = absurd cc
@@ -168,7 +168,7 @@ complement_step false true P A h = let e = h refl in grind (arith, common_steps)
 complement_step true false P A h = grind (arith, common_steps)
 complement_step false false P A h = grind (arith, common_steps)
 
--- and where the variable has none of the values
+-- and when the variable has none of the values
 pub complement_end : (any P A : Bool) → (any ≡ false → P ≡ A) → ((any && not A) || (not P && not any)) ≡ not A
 complement_end true P A h = grind (arith, common_steps)
 complement_end false P A h = let e = h refl in grind (arith, common_steps)

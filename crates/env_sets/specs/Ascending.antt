@@ -1,4 +1,4 @@
--- Entries in the order of the values that they fix, so that those near an environment's values are found by halves.
+-- Entries in the order of the values that they fix, so that binary search finds those near an environment's values.
 use Rattle.std.specs.Prelude.{ℕ, ◌≡◌, ◌≤◌, List, [], ◌∷◌, length, drop}
 use Rattle.std.specs.declared.cmp.Ordering.{Ordering}
 use Rattle.std.specs.declared.cmp.Ordering.TheVariants.{Less, Equal, Greater}
@@ -10,7 +10,7 @@ use Rattle.smpl_terms.specs.Environments.{Environment}
 use Rattle.env_sets.specs.declared.bounds.Bound.{Bound}
 use Rattle.env_sets.specs.declared.bounds.Bound.TheVariants.{Is, Not}
 
--- a fixed value is before that of the variable, or after it, or leaves it to the rest; excluded values end it
+-- a fixed value is before that of the variable or after it, or else the rest decides; excluded values end the comparison
 abbrev pub bound_side : Bound → Value → Ordering → Ordering
 bound_side (Is v) x rest = ordering_then (value_order v x) rest
 bound_side (Not vs) x rest = Equal
@@ -20,7 +20,7 @@ abbrev pub side : List (Var × Bound) → Environment → Ordering
 side [] env = Equal
 side (p ∷ ps) env = bound_side p.1 (env p.0) (side ps env)
 
--- in Less < Equal < Greater the first is not behind the second
+-- in Less < Equal < Greater the first is not after the second
 abbrev pub NoLater : Ordering → Ordering → Type 0
 NoLater o p = (p ≡ Less → o ≡ Less) × (o ≡ Greater → p ≡ Greater)
 
@@ -38,6 +38,6 @@ abbrev pub Ascend : List (List (Var × Bound)) → Type 0
 Ascend [] = Unit {0}
 Ascend (e ∷ es) = FirstMayFollow e es × Ascend es
 
--- the entries ascend from this number on, which is at most how many there are
+-- the entries ascend from this index on, which is at most their number
 unfoldable pub IsInOrder : ℕ → List (List (Var × Bound)) → Type 0
 IsInOrder from entries = (from ≤ length entries) × Ascend (drop from entries)

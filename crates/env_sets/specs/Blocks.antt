@@ -1,4 +1,4 @@
--- Entries that are kept as several lists, and in which order.
+-- Entries that are stored as several lists, and their order.
 use Rattle.std.specs.Prelude.{◌≡◌, List, [], ◌∷◌, flat_map}
 use Rattle.std.specs.declared.cmp.Ordering.TheVariants.{Less, Greater}
 use Rattle.smpl_terms.specs.declared.var.Var.{Var}
@@ -11,7 +11,7 @@ use Rattle.env_sets.specs.Ascending.{side, MayFollow, Ascend}
 abbrev pub all_entries : List Entries → Entries
 all_entries blocks = flat_map (λ block. block) blocks
 
--- they ascend, from block to block too
+-- the entries ascend, also from one block to the next
 unfoldable pub AreInOrder : List Entries → Type 0
 AreInOrder blocks = Ascend (all_entries blocks)
 

@@ -1,4 +1,4 @@
--- What the calls make of sets, and when two sets stand for the same. The laws speak in these words.
+-- What the operations on sets return, and when two sets stand for the same environments. The laws are stated in these terms.
 use Rattle.std.specs.Prelude.{◌≡◌, ◌&&◌, ◌||◌, not, List}
 use Rattle.std.specs.Bool.{Decides}
 use Rattle.smpl_terms.specs.declared.var.Var.{Var}

@@ -1,4 +1,4 @@
--- A list of values in order that is kept as several.
+-- A list of values in order that is stored as several lists.
 use Rattle.std.specs.Prelude.{cond, List, [], ◌∷◌}
 use Rattle.std.specs.declared.cmp.Ordering.{Ordering}
 use Rattle.std.specs.declared.cmp.Ordering.TheVariants.{Less, Equal, Greater}
@@ -11,7 +11,7 @@ by_order Less a b c = a
 by_order Equal a b c = b
 by_order Greater a b c = c
 
--- one more value, in its place; nothing more where the list has it
+-- the list with one more value at its place, or unchanged if it has the value
 abbrev pub with_value : Value → List Value → List Value
 with_value v [] = v ∷ []
 with_value v (w ∷ ws) = by_order (value_order v w) (v ∷ w ∷ ws) (w ∷ ws) (w ∷ with_value v ws)
@@ -20,7 +20,7 @@ abbrev pub with_values : List Value → List Value → List Value
 with_values [] ws = ws
 with_values (v ∷ vs) ws = with_value v (with_values vs ws)
 
--- the values of a list and of others, in one
+-- the values of a list and of others, in one list
 abbrev pub all_of : List Value → List (List Value) → List Value
 all_of vs [] = vs
 all_of vs (ws ∷ rest) = with_values vs (all_of ws rest)
@@ -30,7 +30,7 @@ abbrev pub AllRise : List (List Value) → Type 0
 AllRise [] = Unit {0}
 AllRise (vs ∷ rest) = Rise vs × AllRise rest
 
--- what is added where v stands before ws, unless ws begins with it
+-- what is added before ws: v, unless ws begins with it
 abbrev pub unless_first : Value → List Value → List Value
 unless_first v [] = v ∷ []
 unless_first v (w ∷ ws) = cond (same w v) [] (v ∷ [])

@@ -19,7 +19,7 @@ abbrev pub option_denotes : Option (List (Var × Bound)) → Environment → Boo
 option_denotes None env = false
 option_denotes (Some pairs) env = entry_denotes pairs env
 
--- some entry does
+-- some entry stands for the environment
 abbrev pub set_denotes : List (List (Var × Bound)) → Environment → Bool
 set_denotes entries env = list_any (λ e. entry_denotes e env) entries
 

@@ -27,7 +27,7 @@ abbrev pub restricted : Var → (Bound → Bool) → List (List (Var × Bound)) 
 restricted x test [] = []
 restricted x test (e ∷ es) = cond (passes x test e) (without x e ∷ restricted x test es) (restricted x test es)
 
--- how many bounds all entries have
+-- the number of bounds of all entries
 abbrev pub size_of : List (List (Var × Bound)) → ℕ
 size_of [] = 0
 size_of (e ∷ es) = length e + size_of es
@@ -36,12 +36,12 @@ size_of (e ∷ es) = length e + size_of es
 abbrev pub occurs : Var → List (List (Var × Bound)) → Bool
 occurs x es = list_any (λ e. has_pair e x) es
 
--- both tests give one answer
+-- both tests give the same answer
 abbrev pub agree : Bool → Bool → Bool
 agree true b = b
 agree false b = not b
 
--- the bounds of x allow z exactly where they exclude values
+-- the bounds of x allow z exactly if they exclude values
 abbrev pub is_unnamed : Var → Value → List (Var × Bound) → Bool
 is_unnamed x z pairs = passes x (λ b. agree (is_not b) (fits z b)) pairs
 
@@ -56,7 +56,7 @@ AreRestrictions x values es parts = (length parts ≡ length values) × ((k : �
 abbrev pub are_allowed : Var → Value → List Value → List (List (Var × Bound)) → Bool
 are_allowed x v fixed others = list_any (λ w. same w v) fixed || list_any (λ e. passes x (fits v) e) others
 
--- where x is one of the values, the set is its group and the others; elsewhere it is the others
+-- if x is one of the values, the set is its group and the others; otherwise it is the others
 abbrev pub AreGroupsOf : Var → List Value → Entries → List Entries → Entries → Type 0
 AreGroupsOf x values es groups others = (length groups ≡ length values)
     × (((env : Environment) (k : ℕ) (v : Value) → k < length values → v ≡ slice_index_or values k v → same v (env x) ≡ true → set_denotes es env ≡ (set_denotes (slice_index_or groups k []) env || set_denotes others env))

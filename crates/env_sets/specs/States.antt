@@ -2,7 +2,7 @@
 use Rattle.std.specs.Prelude.{◌≡◌, ◌<◌, ℕ, List, [], length, slice_index_or}
 use Rattle.env_sets.specs.Sets.{Entries}
 
--- the rows have one length
+-- the rows have the same length
 abbrev pub IsEven : List (List Entries) → Type 0
 IsEven rows = (i j : ℕ) → i < length rows → j < length rows → length (slice_index_or rows i []) ≡ length (slice_index_or rows j [])
 

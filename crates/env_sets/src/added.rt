@@ -1,4 +1,4 @@
-// Blocks of entries in order with one entry more.
+// Blocks of entries in order, with one more entry.
 ghost use Rattle.std.specs.Prelude.{◌≡◌, ◌||◌, ◌++◌, ◌≤◌, Bool, true, ◌∷◌, length, IfOk, IfSome};
 ghost use Rattle.smpl_terms.specs.declared.var.Var.{Var};
 ghost use Rattle.smpl_terms.specs.Environments.{Environment};
@@ -13,8 +13,8 @@ use c_terms::NoMemory;
 use smpl_terms::SharedList;
 use std::alloc::Global;
 
-/// The blocks with one entry more, in its place; None where its place is not plain. Where an entry at its place covers it,
-/// the blocks as they are. It copies the block and a pointer for each other one.
+/// Returns the blocks with one more entry at its place, or `None` if the place is not evident. If an entry at that place covers
+/// it, returns the blocks as they are. Copies one block and a pointer to each of the others.
 pub fn blocks_with(
     alloc: Global,
     blocks: &SharedList<SharedList<Entry>>,
@@ -35,7 +35,7 @@ pub fn blocks_with(
     }
 }
 
-/// The same, where the place is in this block, if anywhere.
+/// Like `blocks_with`, given that the place is in this block if it exists.
 fn with_in_block(
     alloc: Global,
     blocks: &SharedList<SharedList<Entry>>,
@@ -63,7 +63,7 @@ fn with_in_block(
     Ok(None)
 }
 
-/// Whether the entry before its place covers this one. It looks for the place by halves, and takes no memory.
+/// Whether the entry before the place of `e` covers `e`. Finds the place by binary search, and takes no memory.
 pub fn blocks_cover(blocks: &[SharedList<Entry>], e: &Entry) -> bool
     ensures { result ≡ true → (env : Environment) → entry_denotes e.now env ≡ true →
         set_denotes (all_entries blocks.now) env ≡ true }
@@ -75,7 +75,7 @@ pub fn blocks_cover(blocks: &[SharedList<Entry>], e: &Entry) -> bool
     block_covers(blocks[i].as_slice(), e)
 }
 
-/// The same of one block.
+/// Like `blocks_cover`, for one block.
 fn block_covers(block: &[Entry], e: &Entry) -> bool
     ensures { result ≡ true → (env : Environment) → entry_denotes e.now env ≡ true →
         set_denotes block.now env ≡ true }
@@ -84,7 +84,7 @@ fn block_covers(block: &[Entry], e: &Entry) -> bool
     last_covers(front, e)
 }
 
-/// The number of the last block that begins with no later entry, or else of the first block.
+/// Returns the index of the last block that begins with an entry not later than `e`, or of the first block if there is none.
 fn block_for(blocks: &[SharedList<Entry>], e: &Entry) -> usize
     ensures { result ≤ length blocks.now }
 {
@@ -107,7 +107,7 @@ fn begins_later(block: &[Entry], e: &Entry) -> bool {
     }
 }
 
-/// How many entries at the front of a block are not later.
+/// Returns the number of entries at the front of the block that are not later than `e`.
 fn place_for(block: &[Entry], e: &Entry) -> usize
     ensures { result ≤ length block.now }
 {
@@ -123,7 +123,7 @@ fn place_for(block: &[Entry], e: &Entry) -> usize
     low
 }
 
-/// Whether the last entry covers this one.
+/// Whether the last of the entries covers `e`.
 fn last_covers(entries: &[Entry], e: &Entry) -> bool
     ensures { result ≡ true → (env : Environment) → entry_denotes e.now env ≡ true →
         set_denotes entries.now env ≡ true }
@@ -134,7 +134,7 @@ fn last_covers(entries: &[Entry], e: &Entry) -> bool
     entry_covers(&entries[entries.len() - 1], e)
 }
 
-/// Whether e may follow the last of these entries.
+/// Whether `e` may follow the last of these entries.
 fn may_end(before: &[SharedList<Entry>], front: &[Entry], e: &Entry) -> bool
     ensures { result ≡ true → LastMayPrecede (all_entries before.now ++ front.now) e.now }
 {
@@ -144,7 +144,7 @@ fn may_end(before: &[SharedList<Entry>], front: &[Entry], e: &Entry) -> bool
     may_follow(front[front.len() - 1].pairs(), e.pairs())
 }
 
-/// Whether the first of these entries may follow e.
+/// Whether the first of these entries may follow `e`.
 fn may_begin(e: &Entry, back: &[Entry], after: &[SharedList<Entry>]) -> bool
     ensures { result ≡ true → FirstMayFollow e.now (back.now ++ all_entries after.now) }
 {
@@ -157,7 +157,7 @@ fn may_begin(e: &Entry, back: &[Entry], after: &[SharedList<Entry>]) -> bool
     }
 }
 
-/// Whether the block has a first entry, and it may follow e.
+/// Whether the block has a first entry that may follow `e`.
 fn may_begin_block(e: &Entry, block: &[Entry]) -> bool
     ensures { result ≡ true → (es : Entries) → FirstMayFollow e.now (block.now ++ es) }
 {
@@ -167,7 +167,7 @@ fn may_begin_block(e: &Entry, block: &[Entry]) -> bool
     }
 }
 
-/// All of these, with e between.
+/// Returns all of these entries, with `e` between `front` and `back`.
 fn with_between(
     alloc: Global,
     before: &[SharedList<Entry>],
@@ -183,7 +183,7 @@ fn with_between(
     blocks_around(alloc, before, block, after)
 }
 
-/// The entries of a block, with one between, all of which are shared.
+/// Returns the entries of a block with `e` between them. All entries are shared.
 fn block_with(
     alloc: Global,
     front: &[Entry],

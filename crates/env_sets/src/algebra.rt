@@ -1,4 +1,4 @@
-// What is computed with sets.
+// Operations on sets.
 ghost use Rattle.std.specs.Prelude.{◌≡◌, ◌&&◌, ◌||◌, ◌++◌, Bool, true, not, List, [], ◌∷◌, IfOk, IfSome};
 ghost use Rattle.std.specs.List.{list_all, list_any};
 ghost use Rattle.smpl_terms.specs.Values.{same};
@@ -24,9 +24,9 @@ use c_terms::NoMemory;
 use smpl_terms::{Env, Value, Var, same_var};
 use std::alloc::Global;
 
-/// Either: what a stands for, and what b stands for. Entries that others cover are dropped.
+/// Returns the union: what `a` or `b` stands for. Drops entries that others cover.
 ///
-/// For n entries over one variable that are values it takes n log n steps.
+/// For n entries that each fix the same single variable, it takes n log n steps.
 pub fn join(alloc: Global, a: &EnvSet, b: &EnvSet) -> Result<EnvSet, NoMemory>
     ensures meaning { IfOk result (λ r. IsJoin a.now b.now r) }
     ensures vars { IfOk result (λ r. (t : Var → Bool) → set_vars t a.now ≡ true →
@@ -41,12 +41,12 @@ pub fn join(alloc: Global, a: &EnvSet, b: &EnvSet) -> Result<EnvSet, NoMemory>
     settled(alloc, entries)
 }
 
-/// Both: what a and b stand for.
+/// Returns the intersection: what both `a` and `b` stand for.
 ///
-/// Entries of b are shared, at most twice each. An entry of a that fixes the variable which the first entry of b bounds
-/// first meets those entries of b that fix it to the same value, found by look-up, and those that do not fix it; if
-/// one of the former plainly covers it, it meets no more. Any other entry of a meets each of b. So for n entries
-/// that fix the same variables, of which those of b fix this one to n values, it takes n log n steps.
+/// It shares entries of `b`, each at most twice. Let x be the variable that the first entry of `b` bounds first. An entry of
+/// `a` that fixes x meets those entries of `b` that fix x to the same value, found by look-up, and those that do not fix x; if
+/// one of the former plainly covers it, it meets no others. Any other entry of `a` meets each entry of `b`. So for n entries
+/// that fix the same variables, if those of `b` fix x to n values, it takes n log n steps.
 pub fn meet(alloc: Global, a: &EnvSet, b: &EnvSet) -> Result<EnvSet, NoMemory>
     ensures meaning { IfOk result (λ r. IsMeet a.now b.now r) }
     ensures vars { IfOk result (λ r. (t : Var → Bool) → set_vars t a.now ≡ true →
@@ -62,7 +62,7 @@ pub fn meet(alloc: Global, a: &EnvSet, b: &EnvSet) -> Result<EnvSet, NoMemory>
     meet_lists(alloc, es.entries(), fs.entries())
 }
 
-/// What both lists stand for.
+/// Returns what both lists stand for.
 fn meet_lists(alloc: Global, a: &[Entry], b: &[Entry]) -> Result<EnvSet, NoMemory>
     ensures meaning { IfOk result (λ r. IsMeet a.now b.now r) }
     ensures vars { IfOk result (λ r. (t : Var → Bool) → set_vars t a.now ≡ true →
@@ -87,7 +87,7 @@ fn first_var(b: &[Entry]) -> Option<&Var> {
     }
 }
 
-/// Meets each entry of a with each of b.
+/// Meets each entry of `a` with each of `b`.
 fn meet_pairs(alloc: Global, a: &[Entry], b: &[Entry]) -> Result<EnvSet, NoMemory>
     ensures meaning { IfOk result (λ r. IsMeet a.now b.now r) }
     ensures vars { IfOk result (λ r. (t : Var → Bool) → set_vars t a.now ≡ true →
@@ -100,7 +100,8 @@ fn meet_pairs(alloc: Global, a: &[Entry], b: &[Entry]) -> Result<EnvSet, NoMemor
     settled(alloc, entries)
 }
 
-/// The same, by the values at which entries of b fix x. Those that fix x alone are kept as values.
+/// Like `meet_pairs`, but looks entries of `b` up by the value at which they fix x. Entries that fix x alone are kept as
+/// values.
 fn meet_by(alloc: Global, a: &[Entry], b: &[Entry], x: &Var) -> Result<EnvSet, NoMemory>
     ensures meaning { IfOk result (λ r. IsMeet a.now b.now r) }
     ensures vars { IfOk result (λ r. (t : Var → Bool) → set_vars t a.now ≡ true →
@@ -115,14 +116,14 @@ fn meet_by(alloc: Global, a: &[Entry], b: &[Entry], x: &Var) -> Result<EnvSet, N
     settled(alloc, entries)
 }
 
-/// A set at a variable: the values of the entries that fix it alone, and all other entries.
+/// A set split at a variable: the values of the entries that fix this variable alone, and all other entries.
 #[derive(Drop)]
 pub struct LoneSplit {
     pub fixed: ValueList,
     pub others: EntryList,
 }
 
-/// The parts of a set at x. Copies each entry once, and sorts the values.
+/// Splits a set at x. Copies each entry once, and sorts the values.
 pub fn split_lone(alloc: Global, b: &[Entry], x: &Var) -> Result<LoneSplit, NoMemory>
     ensures meaning { IfOk result (λ parts. (env : Environment)
         → set_denotes b.now env ≡ (list_any (λ v. same v (env x.now)) parts.fixed || set_denotes parts.others env)) }
@@ -140,7 +141,7 @@ pub fn split_lone(alloc: Global, b: &[Entry], x: &Var) -> Result<LoneSplit, NoMe
     })
 }
 
-/// Adds the entry to the values or to the entries.
+/// Adds the value of the entry to `fixed` if it fixes x alone, and the entry to `others` otherwise.
 fn put_lone_or_other(
     alloc: Global,
     fixed: &mut Vec<Value>,
@@ -166,7 +167,7 @@ fn put_lone_or_other(
     }
 }
 
-/// The value of x, where the entry fixes x and nothing else.
+/// Returns the value of x if the entry fixes x and bounds nothing else.
 fn only_value<'e>(e: &'e Entry, x: &Var) -> Option<&'e Value>
     ensures { IfSome result (λ v. (env : Environment) →
         entry_denotes e.now env ≡ same v.now (env x.now)) }
@@ -180,7 +181,8 @@ fn only_value<'e>(e: &'e Entry, x: &Var) -> Option<&'e Value>
     }
 }
 
-/// Adds what the entry and some entry of b stand for; if b has the value at which the entry fixes x, the entry itself.
+/// Adds what both the entry and some entry of `b` stand for. If `b` has the value at which the entry fixes x, adds the entry
+/// itself.
 fn meet_at_variable(
     alloc: Global,
     out: &mut Vec<Entry>,
@@ -216,7 +218,7 @@ fn meet_at_variable(
     }
 }
 
-/// Adds what the entry and some entry of b stand for.
+/// Adds what both the entry and some entry of `b` stand for.
 fn meet_by_group(
     alloc: Global,
     out: &mut Vec<Entry>,
@@ -250,7 +252,7 @@ fn meet_by_group(
     }
 }
 
-/// Adds what the entry and some entry of the group or of the others stand for.
+/// Adds what both the entry and some entry of the group or of the others stand for.
 fn meet_group_and_others(
     alloc: Global,
     out: &mut Vec<Entry>,
@@ -271,7 +273,7 @@ fn meet_group_and_others(
     meet_each(alloc, out, e, others)
 }
 
-/// Adds what the entry and some entry of b stand for.
+/// Adds what both the entry and some entry of `b` stand for.
 fn meet_each(alloc: Global, out: &mut Vec<Entry>, e: &Entry, b: &[Entry]) -> Result<(), NoMemory>
     ensures meaning { IfOk result
         (λ _. (env : Environment) → set_denotes out.new.items env ≡ (set_denotes out.old.items env || (entry_denotes e.now env && set_denotes b.now env))) }
@@ -284,9 +286,9 @@ fn meet_each(alloc: Global, out: &mut Vec<Entry>, e: &Entry, b: &[Entry]) -> Res
     Ok(())
 }
 
-/// What a stands for after some change of v alone. The result lacks v.
+/// Returns the environments that are in `a` after some change of `v` alone. `v` does not occur in the result.
 ///
-/// It copies each entry once, and drops what others cover.
+/// It copies each entry once, and drops entries that others cover.
 pub fn project(alloc: Global, a: &EnvSet, v: &Var) -> Result<EnvSet, NoMemory>
     ensures meaning { IfOk result (λ r. IsProjection v.now a.now r) }
     ensures vars { IfOk result (λ r. (t : Var → Bool) → set_vars (λ y. t y
@@ -301,7 +303,7 @@ pub fn project(alloc: Global, a: &EnvSet, v: &Var) -> Result<EnvSet, NoMemory>
     }
 }
 
-/// The same for a list.
+/// Like `project`, for a list.
 fn projected(alloc: Global, a: &[Entry], v: &Var) -> Result<EnvSet, NoMemory>
     ensures meaning { IfOk result (λ r. IsProjection v.now a.now r) }
     ensures vars { IfOk result (λ r. (t : Var → Bool) → set_vars (λ y. t y
@@ -314,9 +316,10 @@ fn projected(alloc: Global, a: &[Entry], v: &Var) -> Result<EnvSet, NoMemory>
     settled(alloc, entries)
 }
 
-/// What remains where the variables of env have its values. Those variables no longer occur in it.
+/// Returns what remains of `a` when the variables of `env` have the values that it gives them. Those variables no longer occur
+/// in the result.
 ///
-/// It copies each entry at most once, looks each of its variables up in env, and drops what others cover.
+/// It copies each entry at most once, looks each of its variables up in `env`, and drops entries that others cover.
 pub fn given(alloc: Global, a: &EnvSet, env: &Env) -> Result<EnvSet, NoMemory>
     ensures meaning { IfOk result (λ r. IsGiven env.now a.now r) }
     ensures vars { IfOk result (λ r. (t : Var → Bool) → set_vars (λ x. t x
@@ -331,7 +334,7 @@ pub fn given(alloc: Global, a: &EnvSet, env: &Env) -> Result<EnvSet, NoMemory>
     }
 }
 
-/// The same for a list.
+/// Like `given`, for a list.
 fn entries_given(alloc: Global, a: &[Entry], env: &Env) -> Result<EnvSet, NoMemory>
     ensures meaning { IfOk result (λ r. IsGiven env.now a.now r) }
     ensures vars { IfOk result (λ r. (t : Var → Bool) → set_vars (λ x. t x
@@ -356,7 +359,7 @@ fn entry_given(alloc: Global, entry: &Entry, env: &Env) -> Result<Option<Entry>,
     Ok(Some(entry.free_of(alloc, env)?))
 }
 
-/// Whether each bound of a variable that has a value allows it.
+/// Whether each bound of a variable that has a value in `env` allows that value.
 fn entry_agrees(entry: &Entry, env: &Env) -> bool
     ensures { result ≡ list_all (λ p. fits_if (value_in env.now p.0) p.1) entry.now }
 {
@@ -370,12 +373,12 @@ fn entry_agrees(entry: &Entry, env: &Env) -> bool
     true
 }
 
-/// Whether a stands for env, which gives each variable of a its value. A variable of a without a value counts as the
+/// Whether `a` stands for `env`, which gives each variable of `a` its value. A variable of `a` without a value counts as the
 /// place 0.
 ///
-/// It looks each variable of an entry up in env. Where the last entries, 16 and more in all, fix the same variables in
-/// order, as those of results do, it finds by halves those of them that fix env's values, up to a variable whose values
-/// they exclude; the others it looks at one by one, until an entry stands for env. Takes no memory.
+/// It looks each variable of an entry up in `env`. If the last entries, at least 16 in all, fix the same variables in order, as
+/// those of results do, it uses binary search to find those that agree with the values of `env` up to a variable whose values
+/// they exclude. It checks the others one by one, until an entry stands for `env`. Takes no memory.
 pub fn denotes(a: &EnvSet, env: &Env) -> bool
     ensures meaning { result ≡ set_denotes a.now (total env.now) }
 {
@@ -383,7 +386,7 @@ pub fn denotes(a: &EnvSet, env: &Env) -> bool
     some_hold(first, env) || blocks_hold(rest.as_slice(), env)
 }
 
-/// Whether one of the entries stands for env. Takes no memory.
+/// Whether one of the entries stands for `env`. Takes no memory.
 fn some_hold(entries: &[Entry], env: &Env) -> bool
     ensures { result ≡ set_denotes entries.now (total env.now) }
 {

@@ -1,4 +1,4 @@
-// Entries in the order of the values that they fix, and a search by halves among them.
+// Entries in the order of the values that they fix, and binary search among them.
 ghost use Rattle.std.specs.Prelude.{◌≡◌, ◌≤◌, ◌<◌, ◌-◌, true, false, length, take, drop};
 ghost use Rattle.std.specs.declared.cmp.Ordering.{Ordering};
 ghost use Rattle.std.specs.declared.cmp.Ordering.TheVariants.{Less, Equal};
@@ -12,12 +12,12 @@ use crate::entries::{Entry, entry_holds};
 use smpl_terms::{Env, Value, Var, same_var, value_order};
 use std::cmp::Ordering;
 
-/// Fewer entries are looked at one by one.
+/// Fewer entries than this are checked one by one.
 const MANY: usize = 16;
 
-/// The number of an entry from which on they ascend: each fixes the same variables as the next, up to one whose values
-/// it excludes, at values that are not after those of the next. Fewer than 16 that do are none. It looks at no more than
-/// do ascend, and takes no memory.
+/// Returns the index from which the entries ascend to the end: each fixes the same variables as the next, up to one whose
+/// values it excludes, at values that are not after those of the next. Returns the number of entries if fewer than 16 ascend.
+/// It visits no more entries than ascend, and takes no memory.
 pub fn ascending_from(entries: &[Entry]) -> usize
     ensures { IsInOrder result entries.now }
 {
@@ -35,7 +35,7 @@ pub fn ascending_from(entries: &[Entry]) -> usize
     from
 }
 
-/// Whether the entry before this number may be followed by those from it on.
+/// Whether the entries from this index on may follow the entry before it.
 fn goes_on(entries: &[Entry], from: usize) -> bool
     requires some { 0 < from }
     requires within { from ≤ length entries.now }
@@ -47,7 +47,7 @@ fn goes_on(entries: &[Entry], from: usize) -> bool
     may_follow(entries[from - 1].pairs(), entries[from].pairs())
 }
 
-/// Whether the second entry is not before the first; false where that is not plain.
+/// Whether the second entry is not before the first; `false` if this is not evident.
 pub fn may_follow(a: &[(Var, Bound)], b: &[(Var, Bound)]) -> bool
     ensures { result ≡ true → MayFollow a.now b.now }
 {
@@ -64,8 +64,8 @@ pub fn may_follow(a: &[(Var, Bound)], b: &[(Var, Bound)]) -> bool
     true
 }
 
-/// Less where the second pair may follow the first, whatever comes after them; Equal where it is left to what comes
-/// after them.
+/// Returns `Less` if the second pair may follow the first, whatever pairs come after them, and `Equal` if this depends on the
+/// pairs after them.
 fn pair_step(p: &(Var, Bound), q: &(Var, Bound)) -> Ordering
     ensures less { result ≡ Less → (env : Environment) → (r s : Ordering) →
         NoLater (bound_side p.now.1 (env p.now.0) r) (bound_side q.now.1 (env q.now.0) s) }
@@ -85,8 +85,8 @@ fn pair_step(p: &(Var, Bound), q: &(Var, Bound)) -> Ordering
     }
 }
 
-/// Whether one of the entries stands for env. The first that is not before env is found by halves, and those beside env
-/// are looked at one by one. Takes no memory.
+/// Whether one of the entries stands for `env`. It finds the first entry that is not before `env` by binary search, and checks
+/// those beside `env` one by one. Takes no memory.
 pub fn ascending_hold(entries: &[Entry], env: &Env) -> bool
     requires { Ascend entries.now }
     ensures { result ≡ set_denotes entries.now (total env.now) }
@@ -102,7 +102,7 @@ pub fn ascending_hold(entries: &[Entry], env: &Env) -> bool
     false
 }
 
-/// The number of the first entry that is not before env, or how many there are.
+/// Returns the index of the first entry that is not before `env`, or the number of entries if there is none.
 fn first_not_before(entries: &[Entry], env: &Env) -> usize
     requires { Ascend entries.now }
     ensures within { result ≤ length entries.now }
@@ -120,7 +120,7 @@ fn first_not_before(entries: &[Entry], env: &Env) -> usize
     low
 }
 
-/// Whether the entry is before env, after it or beside it. Of variables without a value the place 0 counts.
+/// Returns whether the entry is before `env`, after it or beside it. Variables without a value count as the place 0.
 pub fn entry_side(pairs: &[(Var, Bound)], env: &Env) -> Ordering
     ensures { result ≡ side pairs.now (total env.now) }
 {
@@ -136,7 +136,7 @@ pub fn entry_side(pairs: &[(Var, Bound)], env: &Env) -> Ordering
     Ordering::Equal
 }
 
-/// Whether v is before the variable's value or after it.
+/// Returns whether `v` is before the variable's value, equal to it or after it.
 fn value_side(v: &Value, x: &Var, env: &Env) -> Ordering
     ensures { result ≡ value_order v.now (total env.now x.now) }
 {

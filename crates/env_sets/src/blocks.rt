@@ -1,4 +1,4 @@
-// Entries in the order of the values that they fix, kept in blocks, so that a set with one entry more or fewer shares
+// Entries in the order of the values that they fix, kept in blocks, so that a set with one more or one fewer entry shares
 // most of them.
 //
 //     [1, .., 60]  [64, .., 99]   with 62   =   [1, .., 60, 62]  [64, .., 99]
@@ -13,13 +13,13 @@ use c_terms::NoMemory;
 use smpl_terms::{Env, SharedList};
 use std::alloc::Global;
 
-/// A block of more entries is made two.
+/// A block with more entries than this is split in two.
 const MOST: usize = 128;
 
-/// How many entries a block has that is made anew.
+/// The number of entries in a newly made block.
 const HALF: usize = 64;
 
-/// The blocks of these entries, which are moved.
+/// Splits these entries into blocks. The entries are moved.
 pub fn blocks_of(
     alloc: Global,
     entries: Vec<Entry>,
@@ -39,7 +39,7 @@ pub fn blocks_of(
     Ok(SharedList::of(alloc, blocks)?)
 }
 
-/// Adds these entries, which are shared.
+/// Appends these entries, which are shared.
 pub fn put_entries(out: &mut Vec<Entry>, entries: &[Entry]) -> Result<(), NoMemory>
     ensures { IfOk result (λ _. out.new.items ≡ out.old.items ++ entries.now) }
 {
@@ -49,7 +49,7 @@ pub fn put_entries(out: &mut Vec<Entry>, entries: &[Entry]) -> Result<(), NoMemo
     Ok(())
 }
 
-/// Adds the entries of all blocks, which are shared.
+/// Appends the entries of all blocks, which are shared.
 pub fn put_blocks(out: &mut Vec<Entry>, blocks: &[SharedList<Entry>]) -> Result<(), NoMemory>
     ensures { IfOk result (λ _. out.new.items ≡ out.old.items ++ all_entries blocks.now) }
 {
@@ -72,8 +72,8 @@ pub fn are_empty(blocks: &[SharedList<Entry>]) -> bool
     true
 }
 
-/// Whether an entry stands for env. The first block that is not before env is found by halves, and in it the first entry.
-/// Takes no memory.
+/// Whether an entry stands for `env`. It uses binary search to find the first block that is not before `env`, and the first
+/// such entry in the block. Takes no memory.
 pub fn blocks_hold(blocks: &[SharedList<Entry>], env: &Env) -> bool
     requires { AreInOrder blocks.now }
     ensures { result ≡ set_denotes (all_entries blocks.now) (total env.now) }
@@ -90,7 +90,7 @@ pub fn blocks_hold(blocks: &[SharedList<Entry>], env: &Env) -> bool
     false
 }
 
-/// The number of the first block that is not before env, or how many there are.
+/// Returns the index of the first block that is not before `env`, or the number of blocks if there is none.
 fn first_block(blocks: &[SharedList<Entry>], env: &Env) -> usize
     requires { AreInOrder blocks.now }
     ensures within { result ≤ length blocks.now }
@@ -108,7 +108,7 @@ fn first_block(blocks: &[SharedList<Entry>], env: &Env) -> usize
     low
 }
 
-/// Whether the last entry is before env.
+/// Whether the last entry of the block is before `env`.
 fn ends_before(block: &[Entry], env: &Env) -> bool
     ensures { result ≡ true → (es : Entries) → LastIsBefore (total env.now) (es ++ block.now) }
 {
@@ -118,7 +118,7 @@ fn ends_before(block: &[Entry], env: &Env) -> bool
     entry_side(block[block.len() - 1].pairs(), env).is_lt()
 }
 
-/// Whether the first entry is after env.
+/// Whether the first entry of the block is after `env`.
 fn is_behind(block: &[Entry], env: &Env) -> bool
     ensures { result ≡ true → (es : Entries) → FirstIsAfter (total env.now) (block.now ++ es) }
 {
@@ -128,8 +128,8 @@ fn is_behind(block: &[Entry], env: &Env) -> bool
     }
 }
 
-/// These blocks with one between: two where it has too many entries, and none where it has none. Those before and behind
-/// are shared.
+/// Returns these blocks with one more between them: two if it has too many entries, and none if it is empty. The blocks before
+/// and after it are shared.
 pub fn blocks_around(
     alloc: Global,
     before: &[SharedList<Entry>],
@@ -148,7 +148,7 @@ pub fn blocks_around(
     Ok(SharedList::of(alloc, blocks)?)
 }
 
-/// Adds these blocks, which are shared.
+/// Appends these blocks, which are shared.
 fn put_shares(
     out: &mut Vec<SharedList<Entry>>,
     blocks: &[SharedList<Entry>],
@@ -161,7 +161,7 @@ fn put_shares(
     Ok(())
 }
 
-/// Adds a block: two where it has too many entries, and none where it has none.
+/// Appends a block: two blocks if it has too many entries, and none if it is empty.
 fn put_block(
     alloc: Global,
     out: &mut Vec<SharedList<Entry>>,

@@ -1,4 +1,4 @@
-// What one variable may be: one value, or none of some values.
+// What a bound says of one variable: that it has one value, or none of some values.
 ghost use Rattle.std.specs.Prelude.{◌≡◌, ◌&&◌, true, false, not, IfOk};
 ghost use Rattle.std.specs.List.{list_any};
 ghost use Rattle.smpl_terms.specs.Values.{same};
@@ -21,7 +21,7 @@ pub enum Bound {
 }
 
 impl Bound {
-    /// An equal bound, ids included. It shares the values, and takes no memory.
+    /// Returns an equal bound, ids included. It shares the values, and takes no memory.
     pub fn copy(&self, alloc: Global) -> Result<Bound, NoMemory>
         ensures same { IfOk result (λ b. b ≡ self.now) }
     {
@@ -31,8 +31,8 @@ impl Bound {
         }
     }
 
-    /// Whether the variable may have this value. Logarithmic in the number of excluded values where they are in order, and
-    /// else linear. Takes no memory.
+    /// Whether the variable may have this value. Logarithmic in the number of excluded values if they are in order, and linear
+    /// otherwise. Takes no memory.
     pub fn allows(&self, v: &Value) -> bool
         ensures value { result ≡ fits v.now self.now }
     {
@@ -42,7 +42,7 @@ impl Bound {
         }
     }
 
-    /// Whether this is a list of values that the variable does not have. Takes no memory.
+    /// Whether this is a list of excluded values. Takes no memory.
     pub fn is_not(&self) -> bool
         ensures value { result ≡ is_not self.now }
     {
@@ -59,7 +59,8 @@ impl Copied for Bound {
     }
 }
 
-/// What both bounds allow; nothing where no value is left. Where both exclude values, it joins their lists.
+/// Returns a bound that allows what both bounds allow, or `None` if no value is left. If both exclude values, it joins their
+/// lists.
 pub fn meet_bounds(alloc: Global, a: &Bound, b: &Bound) -> Result<Option<Bound>, NoMemory>
     ensures { IfOk result (λ o. (x : Datum) → option_fits x o ≡ (fits x a.now && fits x b.now)) }
 {
@@ -82,7 +83,7 @@ pub fn meet_bounds(alloc: Global, a: &Bound, b: &Bound) -> Result<Option<Bound>,
     }
 }
 
-/// Whether no value is allowed by both; false where that is not plain. Takes no memory.
+/// Whether no value is allowed by both bounds; `false` if this is not evident. Takes no memory.
 pub fn bounds_clash(a: &Bound, b: &Bound) -> bool
     ensures { result ≡ true → (x : Datum) → false ≡ (fits x a.now && fits x b.now) }
 {
@@ -93,7 +94,7 @@ pub fn bounds_clash(a: &Bound, b: &Bound) -> bool
     }
 }
 
-/// How many values the bound excludes. Takes no memory.
+/// Returns the number of values that the bound excludes. Takes no memory.
 pub fn excluded(bound: &Bound) -> usize {
     match bound {
         Bound::Is(_) => 0,
@@ -101,8 +102,8 @@ pub fn excluded(bound: &Bound) -> usize {
     }
 }
 
-/// Whether a allows each value that b allows; false where that is not plain. For n excluded values of a it takes n
-/// look-ups among those of b. Takes no memory.
+/// Whether `a` allows each value that `b` allows; `false` if this is not evident. If `a` excludes n values, it looks up n
+/// values among those of `b`. Takes no memory.
 pub fn bound_covers(a: &Bound, b: &Bound) -> bool
     ensures { result ≡ true → (x : Datum) → fits x b.now ≡ true → fits x a.now ≡ true }
 {
@@ -113,7 +114,8 @@ pub fn bound_covers(a: &Bound, b: &Bound) -> bool
     }
 }
 
-/// Whether each value of the first list is in the second, which then is no shorter, if the first has each value once.
+/// Whether each value of the first list is in the second. If the first list has each value once, the second can then be no
+/// shorter.
 fn exclude_no_more(vs: &Values, ws: &Values) -> bool
     ensures { result ≡ true → (x : Datum) → not (list_any (λ w. same w x) ws.now) ≡ true →
         not (list_any (λ v. same v x) vs.now) ≡ true }
@@ -124,7 +126,8 @@ fn exclude_no_more(vs: &Values, ws: &Values) -> bool
     vs.are_among(ws)
 }
 
-/// A list of excluded values before a value; lists, and values, in their order. Takes no memory.
+/// Compares two bounds. A list of excluded values is before a value; lists, and values, compare in their own order. Takes no
+/// memory.
 pub fn bound_order(a: &Bound, b: &Bound) -> Ordering {
     match (a, b) {
         (Bound::Is(v), Bound::Is(w)) => value_order(v, w),

@@ -3,8 +3,8 @@
 //     not { x Is 1, y Is 3 } { x Is 2 }   =   { x Is 1, not { y Is 3 } } { x Is 2, not { } } { x Not [1, 2], not nothing }
 //                                         =   { x Is 1, y Not [3] } { x Not [1, 2] }
 //
-// So k entries that fix two variables each have a complement of about k + 1 entries. By the law of De Morgan over
-// entries it would have 2^k.
+// So k entries that fix two variables each have a complement of about k + 1 entries. De Morgan's law, applied entry by
+// entry, would give 2^k.
 ghost use Rattle.std.specs.Prelude.{◌≡◌, ◌&&◌, ◌||◌, ◌<◌, Bool, true, not, [], ◌∷◌, length, IfOk, IfSome};
 ghost use Rattle.std.specs.List.{list_any};
 ghost use Rattle.smpl_terms.specs.declared.var.Var.{Var};
@@ -27,13 +27,13 @@ use c_terms::NoMemory;
 use smpl_terms::{Value, Var, same_var};
 use std::alloc::Global;
 
-/// The environments that a does not stand for.
+/// Returns the environments that `a` does not stand for.
 ///
-/// It splits on the values of the variable that most entries bound, and takes the complement of what is left for each of them and for
-/// all others: at most one split for each choice of values that the entries name. It recurses once a variable, and an
-/// entry that does not fix the variable is copied for each value that it allows. So n entries that fix the same
-/// variables take n log n steps a variable. Entries over one variable take n log n steps, for n values that they name in
-/// order. The result is sorted, and cleared as that of `join` is.
+/// It splits on the values of the variable that most entries bound, and takes the complement of what is left for each of them
+/// and for all other values: at most one split for each choice of values that the entries name. It recurses once per variable,
+/// and copies an entry that does not fix the variable for each value that the entry allows. So n entries that fix the same
+/// variables take n log n steps per variable. Entries over one variable take n log n steps for n values that they name in
+/// order. The result is sorted, and drops covered entries as the result of `join` does.
 pub fn complement(alloc: Global, a: &EnvSet) -> Result<EnvSet, NoMemory>
     ensures meaning { IfOk result (λ r. IsComplement a.now r) }
     ensures vars { IfOk result (λ r. (t : Var → Bool) → set_vars t a.now ≡ true →
@@ -48,7 +48,7 @@ pub fn complement(alloc: Global, a: &EnvSet) -> Result<EnvSet, NoMemory>
     }
 }
 
-/// The environments that none of the entries stands for.
+/// Returns the environments that none of the entries stands for.
 fn complement_of(alloc: Global, a: &[Entry]) -> Result<EnvSet, NoMemory>
     ensures meaning { IfOk result (λ r. IsComplement a.now r) }
     ensures vars { IfOk result (λ r. (t : Var → Bool) → set_vars t a.now ≡ true →
@@ -75,8 +75,8 @@ fn are_in_order(a: &[Entry]) -> bool {
     true
 }
 
-/// The entries of the complement, as they come. Where all lists of excluded values are in order, no two of them stand for
-/// one environment: they differ in a variable on which a set was split.
+/// Returns the entries of the complement, in the order in which they are found. If all lists of excluded values are in order,
+/// no two of these entries stand for the same environment: they differ in a variable on which a set was split.
 #[cycle(outside)]
 fn outside(alloc: Global, a: &[Entry]) -> Result<Vec<Entry>, NoMemory>
     ensures meaning { IfOk result (λ r. (env : Environment) →
@@ -99,7 +99,7 @@ fn outside(alloc: Global, a: &[Entry]) -> Result<Vec<Entry>, NoMemory>
     }
 }
 
-/// The same, by the values of x, which some entry bounds.
+/// Like `outside`, by the values of x, which some entry bounds.
 #[cycle(outside)]
 fn outside_at(alloc: Global, a: &[Entry], x: &Var) -> Result<Vec<Entry>, NoMemory>
     requires occurs { occurs x.now a.now ≡ true }
@@ -123,7 +123,7 @@ fn outside_at(alloc: Global, a: &[Entry], x: &Var) -> Result<Vec<Entry>, NoMemor
     split(alloc, a, x)
 }
 
-/// The same, by the values that the entries name at x, and all others.
+/// Like `outside_at`, by the values that the entries name at x and by all others.
 #[cycle(outside)]
 fn split(alloc: Global, a: &[Entry], x: &Var) -> Result<Vec<Entry>, NoMemory>
     requires occurs { occurs x.now a.now ≡ true }
@@ -146,7 +146,7 @@ fn split(alloc: Global, a: &[Entry], x: &Var) -> Result<Vec<Entry>, NoMemory>
     Ok(entries)
 }
 
-/// The values of the list that no entry allows at x, where every entry bounds x alone.
+/// Returns the values of the list that no entry allows at x, given that every entry bounds x alone.
 fn outside_lone(
     alloc: Global,
     values: &[Value],
@@ -166,7 +166,7 @@ fn outside_lone(
     Ok(out)
 }
 
-/// Adds an entry that fixes x to be v, unless the parts of a set allow v.
+/// Adds an entry that fixes x to be `v`, unless the parts of a set allow `v`.
 fn put_outside(
     alloc: Global,
     out: &mut Vec<Entry>,
@@ -197,7 +197,7 @@ fn one_entry(alloc: Global, e: Entry) -> Result<Vec<Entry>, NoMemory>
     Ok(entries)
 }
 
-/// Whether no entry bounds another variable.
+/// Whether no entry bounds a variable other than x.
 fn are_lone(a: &[Entry], x: &Var) -> bool
     ensures { result ≡ set_vars (λ y. same_var y x.now) a.now }
 {
@@ -220,7 +220,7 @@ fn is_lone(e: &Entry, x: &Var) -> bool
     true
 }
 
-/// The excluded values of x, where the entry bounds x and nothing else.
+/// Returns the excluded values of x if the entry bounds x and nothing else.
 pub fn only_excluded<'e>(e: &'e Entry, x: &Var) -> Option<&'e Values>
     ensures { IfSome result (λ vs. (env : Environment) →
         entry_denotes e.now env ≡ not (list_any (λ v. same v (env x.now)) vs.now)) }
@@ -234,7 +234,7 @@ pub fn only_excluded<'e>(e: &'e Entry, x: &Var) -> Option<&'e Values>
     }
 }
 
-/// The number of an entry that excludes the fewest values.
+/// Returns the index of an entry that excludes the fewest values.
 fn shortest(a: &[Entry]) -> usize
     requires some { 0 < length a.now }
     ensures { result < length a.now }
@@ -260,7 +260,7 @@ fn some_allow(a: &[Entry], x: &Var, v: &Value) -> bool
     false
 }
 
-/// Adds the entries where x is v.
+/// Adds the entries, narrowed to x being `v`.
 fn put_fixed(
     alloc: Global,
     out: &mut Vec<Entry>,
@@ -277,7 +277,7 @@ fn put_fixed(
     put_narrowed(alloc, out, rest, x, &bound)
 }
 
-/// Adds the entries where x is none of the values.
+/// Adds the entries, narrowed to x being none of the values.
 fn put_other(
     alloc: Global,
     out: &mut Vec<Entry>,
@@ -294,7 +294,7 @@ fn put_other(
     put_narrowed(alloc, out, rest, x, &bound)
 }
 
-/// Adds the entries with one more bound.
+/// Adds the entries, each with one more bound.
 fn put_narrowed(
     alloc: Global,
     out: &mut Vec<Entry>,

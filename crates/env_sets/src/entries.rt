@@ -1,4 +1,4 @@
-// Entries: what some variables may be, each variable once, in order.
+// Entries: bounds of some variables, each variable once, in order.
 ghost use Rattle.std.specs.Prelude.{◌≡◌, ◌&&◌, ◌||◌, Bool, true, false, not, List, [], ◌∷◌, IfOk, map};
 ghost use Rattle.std.specs.List.{list_all, filter};
 ghost use Rattle.std.specs.Bool.{Decides};
@@ -16,7 +16,7 @@ use std::alloc::Global;
 use std::cmp::Ordering;
 use std::marker::Model;
 
-/// Bounds of some variables. Copies share them. Contracts see the list of pairs, sorted by variable, each variable once.
+/// The bounds of some variables. Copies share them. Contracts see the list of pairs, sorted by variable, each variable once.
 #[derive(Drop)]
 pub struct Entry {
     map: VarMap<Bound>,
@@ -80,7 +80,7 @@ fn is_open(bound: &Bound) -> bool
 }
 
 impl Entry {
-    /// No bound: every environment.
+    /// Returns the entry without bounds, which stands for every environment.
     pub fn all(_alloc: Global) -> Entry
         ensures pairs { result ≡ [] }
     {
@@ -89,7 +89,7 @@ impl Entry {
         }
     }
 
-    /// One bound.
+    /// Returns an entry with one bound.
     pub fn one(alloc: Global, v: &Var, bound: Bound) -> Result<Entry, NoMemory>
         ensures pairs { IfOk result (λ e. e ≡ (v.now, bound) ∷ []) }
     {
@@ -99,7 +99,7 @@ impl Entry {
         Ok(Entry { map })
     }
 
-    /// The bounds, sorted by variable. Takes no memory.
+    /// Returns the bounds, sorted by variable. Takes no memory.
     pub fn pairs(&self) -> &[(Var, Bound)]
         ensures pairs { result.now ≡ self.now }
         ensures rising { Rising self.now }
@@ -107,14 +107,14 @@ impl Entry {
         self.map.pairs()
     }
 
-    /// An equal entry, ids included. It shares the bounds, and takes no memory.
+    /// Returns an equal entry, ids included. It shares the bounds, and takes no memory.
     pub fn copy(&self, _alloc: Global) -> Result<Entry, NoMemory>
         ensures same { IfOk result (λ e. e ≡ self.now) }
     {
         self.share()
     }
 
-    /// The same.
+    /// Like [`Entry::copy`].
     pub(crate) fn share(&self) -> Result<Entry, NoMemory>
         ensures same { IfOk result (λ e. e ≡ self.now) }
     {
@@ -122,11 +122,11 @@ impl Entry {
         Ok(Entry { map })
     }
 
-    /// The entry with one more bound; nothing where no environment is left. A bound that excludes no value is not added, and
-    /// where the entry has a bound of v that plainly allows no more, it stays as it is.
+    /// Returns the entry with one more bound, or `None` if no environment is left. A bound that excludes no value is not added,
+    /// and an entry whose bound of `v` plainly allows no more stays as it is.
     ///
-    /// It looks v up from the first variable on. Where it is the only owner of its bounds, it copies none but the new one;
-    /// where both exclude values, it joins their lists, at the cost of [`Values::joined`](crate::Values::joined).
+    /// It searches for `v` from the first variable on. If the entry is the only owner of its bounds, it copies none but the new
+    /// one. If both bounds exclude values, it joins their lists, at the cost of [`Values::joined`](crate::Values::joined).
     pub fn narrowed(self, alloc: Global, v: &Var, bound: &Bound) -> Result<Option<Entry>, NoMemory>
         ensures meaning { IfOk result
             (λ o. (env : Environment) → option_denotes o env ≡ (entry_denotes self env && fits (env v.now) bound.now)) }
@@ -142,7 +142,7 @@ impl Entry {
         self.bounded(alloc, v, bound)
     }
 
-    /// The same, where the bound is added or met with that of v.
+    /// Like `narrowed`, but always adds the bound or meets it with that of `v`.
     fn bounded(self, alloc: Global, v: &Var, bound: &Bound) -> Result<Option<Entry>, NoMemory>
         ensures meaning { IfOk result
             (λ o. (env : Environment) → option_denotes o env ≡ (entry_denotes self env && fits (env v.now) bound.now)) }
@@ -170,8 +170,8 @@ impl Entry {
         }
     }
 
-    /// The entry without the bounds of the variables that have a value in env. It copies the others, and looks each
-    /// variable up in env.
+    /// Returns the entry without the bounds of the variables that have a value in `env`. It copies the other bounds, and looks
+    /// each variable up in `env`.
     pub fn free_of(&self, alloc: Global, env: &Env) -> Result<Entry, NoMemory>
         ensures pairs { IfOk result (λ e. e ≡ filter (λ p. not (has_value env.now p.0)) self.now) }
     {
@@ -180,7 +180,8 @@ impl Entry {
         Ok(Entry { map })
     }
 
-    /// The entry without the bound of v: what it stands for after some change of v alone. It copies the others.
+    /// Returns the entry without the bound of `v`: what it stands for after some change of `v` alone. It copies the other
+    /// bounds.
     pub fn without(&self, alloc: Global, v: &Var) -> Result<Entry, NoMemory>
         ensures pairs { IfOk result (λ e. e ≡ filter (λ p. not (same_var p.0 v.now)) self.now) }
         ensures meaning { IfOk result (λ e. (env : Environment) →
@@ -195,7 +196,7 @@ impl Entry {
     }
 }
 
-/// Whether some pair bounds v in a way that leaves no value to this bound.
+/// Whether some pair bounds `v` such that no value is left for this bound.
 fn has_clash(pairs: &[(Var, Bound)], v: &Var, bound: &Bound) -> bool
     ensures { result ≡ true → (env : Environment) →
         false ≡ (entry_denotes pairs.now env && fits (env v.now) bound.now) }
@@ -208,8 +209,7 @@ fn has_clash(pairs: &[(Var, Bound)], v: &Var, bound: &Bound) -> bool
     false
 }
 
-/// Whether the entries have a variable to which they leave no value in common; false where that is not plain. Takes no
-/// memory.
+/// Whether the entries leave no common value to some variable; `false` if this is not evident. Takes no memory.
 fn entries_clash(a: &Entry, b: &Entry) -> bool
     ensures { result ≡ true → (env : Environment) →
         false ≡ (entry_denotes a.now env && entry_denotes b.now env) }
@@ -222,7 +222,7 @@ fn entries_clash(a: &Entry, b: &Entry) -> bool
     false
 }
 
-/// How many values the entry excludes. Takes no memory.
+/// Returns the number of values that the entry excludes. Takes no memory.
 pub fn all_excluded(entry: &Entry) -> usize {
     let mut count: usize = 0;
     for p in entry.pairs() {
@@ -231,7 +231,7 @@ pub fn all_excluded(entry: &Entry) -> usize {
     count
 }
 
-/// Whether the first fixes more variables, or as many and excludes no fewer values. Takes no memory.
+/// Whether `a` fixes more variables than `b`, or fixes as many and excludes no fewer values. Takes no memory.
 fn is_narrower(a: &Entry, b: &Entry) -> bool {
     match fixed_count(a).cmp(&fixed_count(b)) {
         Ordering::Less => false,
@@ -240,13 +240,13 @@ fn is_narrower(a: &Entry, b: &Entry) -> bool {
     }
 }
 
-/// How many variables the entry fixes. Takes no memory.
+/// Returns the number of variables that the entry fixes. Takes no memory.
 fn fixed_count(entry: &Entry) -> usize {
     entry.pairs().iter().filter(|p| !p.1.is_not()).count()
 }
 
-/// What both entries stand for; nothing where no environment is left. It takes no memory where a variable has bounds in
-/// both that leave it no value. Where one of them plainly allows no more than the other, the result shares it.
+/// Returns what both entries stand for, or `None` if no environment is left. Takes no memory if a variable has bounds in both
+/// entries that leave it no value. If one entry plainly allows no more than the other, the result shares it.
 pub fn meet_entries(alloc: Global, a: &Entry, b: &Entry) -> Result<Option<Entry>, NoMemory>
     ensures meaning { IfOk result (λ o. (env : Environment) →
         option_denotes o env ≡ (entry_denotes a.now env && entry_denotes b.now env)) }
@@ -263,7 +263,7 @@ pub fn meet_entries(alloc: Global, a: &Entry, b: &Entry) -> Result<Option<Entry>
     }
 }
 
-/// The first entry with the bounds of the second; nothing where no environment is left.
+/// Returns the first entry with the bounds of the second, or `None` if no environment is left.
 fn narrowed_by(alloc: Global, a: &Entry, b: &Entry) -> Result<Option<Entry>, NoMemory>
     ensures meaning { IfOk result (λ o. (env : Environment) →
         option_denotes o env ≡ (entry_denotes a.now env && entry_denotes b.now env)) }
@@ -280,7 +280,7 @@ fn narrowed_by(alloc: Global, a: &Entry, b: &Entry) -> Result<Option<Entry>, NoM
     Ok(Some(both))
 }
 
-/// Whether the pairs bound v, and bound allows all that they do.
+/// Whether the pairs bound `v`, and `bound` allows all that they allow.
 fn has_within(pairs: &[(Var, Bound)], v: &Var, bound: &Bound) -> bool
     ensures { result ≡ true → (env : Environment) → entry_denotes pairs.now env ≡ true →
         fits (env v.now) bound.now ≡ true }
@@ -293,8 +293,8 @@ fn has_within(pairs: &[(Var, Bound)], v: &Var, bound: &Bound) -> bool
     false
 }
 
-/// Whether a stands for all that b stands for; false where that is not plain. It begins with the last bounds, since
-/// entries beside one another in a set begin alike. Takes no memory.
+/// Whether `a` stands for all that `b` stands for; `false` if this is not evident. It begins with the last bounds, since
+/// neighbouring entries of a set begin alike. Takes no memory.
 pub fn entry_covers(a: &Entry, b: &Entry) -> bool
     ensures { result ≡ true → (env : Environment) → entry_denotes b.now env ≡ true →
         entry_denotes a.now env ≡ true }
@@ -310,8 +310,8 @@ pub fn entry_covers(a: &Entry, b: &Entry) -> bool
     true
 }
 
-/// Fewer bounds first, then by variables and bounds. An entry that covers another is before it, but for lists of
-/// excluded values that name a value twice; it is Equal only for entries whose bounds are the same, ids aside.
+/// Compares two entries: first by the number of bounds, then by variables and bounds. An entry that covers another is before
+/// it, unless lists of excluded values name a value twice. The result is `Equal` only if the bounds are the same, ids aside.
 pub fn entry_order(a: &Entry, b: &Entry) -> Ordering {
     let (ps, qs) = (a.pairs(), b.pairs());
     let lengths = ps.len().cmp(&qs.len());
@@ -334,7 +334,8 @@ fn pair_order(p: &(Var, Bound), q: &(Var, Bound)) -> Ordering {
     }
 }
 
-/// Whether each bound of the entry allows the variable's value; without one the place 0 counts. Takes no memory.
+/// Whether each bound of the entry allows the variable's value. A variable without a value counts as the place 0. Takes no
+/// memory.
 pub fn entry_holds(entry: &Entry, env: &Env) -> bool
     ensures { result ≡ entry_denotes entry.now (total env.now) }
 {

@@ -15,13 +15,13 @@ use std::alloc::Global;
 use std::cmp::Ordering;
 use std::marker::Model;
 
-/// A list of values. Copies share it. It knows whether it is in order, each value once; then look-ups are logarithmic,
-/// and a list with one value more shares most of it. Contracts see the list.
+/// A list of values. Copies share it. It records whether it is in order, each value once; if so, look-ups are logarithmic, and
+/// a list with one more value shares most of it. Contracts see the list.
 #[derive(Drop)]
 pub struct Values {
     runs: Runs,
     rising: bool,
-    /// How many values there are.
+    /// The number of values.
     count: usize,
     /// One of 64 bits for each value.
     mark: u64,
@@ -45,7 +45,7 @@ impl Model for Values {
 }
 
 impl Values {
-    /// The values of a `Vec`. Linear.
+    /// Makes a list of the values of a `Vec`. Linear.
     pub fn of(alloc: Global, items: Vec<Value>) -> Result<Values, NoMemory>
         ensures items { IfOk result (λ r. r ≡ items.items) }
     {
@@ -60,7 +60,7 @@ impl Values {
         })
     }
 
-    /// The list as a `Vec`. Linear in the values, whose trees are shared.
+    /// Returns the list as a `Vec`. Linear in the number of values, whose trees are shared.
     pub fn into_vec(self, alloc: Global) -> Result<Vec<Value>, NoMemory>
         ensures items { IfOk result (λ r. r.items ≡ self) }
     {
@@ -72,7 +72,7 @@ impl Values {
         first.into_vec(alloc)
     }
 
-    /// The list as one call works on it. Linear.
+    /// Returns the list in the form that a single call works on. Linear.
     pub(crate) fn list(&self, alloc: Global) -> Result<ValueList, NoMemory>
         ensures items { IfOk result (λ r. r ≡ self.now) }
     {
@@ -80,42 +80,42 @@ impl Values {
         Ok(ValueList::of(items))
     }
 
-    /// Whether it is known that there are no values. Takes no memory.
+    /// Whether the list is known to be empty. Takes no memory.
     pub fn is_empty(&self) -> bool
         ensures none { result ≡ true → self.now ≡ [] }
     {
         are_none(self.runs.first.as_slice()) && are_none(self.runs.rest.as_slice())
     }
 
-    /// How many values there are, which `joined` counts but once. Takes no memory.
+    /// Returns the number of values; `joined` counts equal values only once. Takes no memory.
     pub fn count(&self) -> usize {
         self.count
     }
 
-    /// One of 64 bits for each value: equal for lists of the same values, and a list that another has all values of has no
-    /// other bits. Takes no memory.
+    /// Returns a mark that has one of 64 bits for each value. The marks of lists of the same values are equal, and the mark of
+    /// a list has no bits other than those of a list that has all its values. Takes no memory.
     pub fn mark(&self) -> u64 {
         self.mark
     }
 
-    /// The values of the first list.
+    /// Returns the values of the first list.
     pub(crate) fn first_run(&self) -> &[Value] {
         self.runs.first.as_slice()
     }
 
-    /// The other lists.
+    /// Returns the other lists.
     pub(crate) fn rest_runs(&self) -> &[SharedList<Value>] {
         self.runs.rest.as_slice()
     }
 
-    /// Whether it is known that the values are in order, each once. Takes no memory.
+    /// Whether the values are known to be in order, each once. Takes no memory.
     pub fn rises(&self) -> bool
         ensures rise { result ≡ true → Rise self.now }
     {
         self.rising
     }
 
-    /// An equal list, ids included, which knows its order too. It shares the list, and takes no memory.
+    /// Returns an equal list, ids included, with the same knowledge of its order. It shares the list, and takes no memory.
     pub fn copy(&self, _alloc: Global) -> Result<Values, NoMemory>
         ensures same { IfOk result (λ r. r ≡ self.now) }
     {
@@ -128,7 +128,7 @@ impl Values {
         })
     }
 
-    /// Whether a value of the list is the same as this one. Logarithmic where the list is in order, and else linear.
+    /// Whether the list has a value that is the same as this one. Logarithmic if the list is in order, and linear otherwise.
     /// Takes no memory.
     pub fn have(&self, v: &Value) -> bool
         ensures value { result ≡ list_any (λ w. same w v.now) self.now }
@@ -139,7 +139,7 @@ impl Values {
         has(self.runs.first.as_slice(), v)
     }
 
-    /// Whether the other list has each value. A look-up for each. Takes no memory.
+    /// Whether the other list has each value. One look-up for each. Takes no memory.
     pub fn are_among(&self, others: &Values) -> bool
         ensures { result ≡ true → list_all (λ v. list_any (λ w. same w v) others.now) self.now ≡ true }
     {
@@ -147,7 +147,7 @@ impl Values {
             && runs_among(self.runs.rest.as_slice(), others)
     }
 
-    /// Whether both lists are kept alike, value by value.
+    /// Whether both lists are stored alike, value by value.
     pub fn are_alike(&self, others: &Values) -> bool
         ensures { result ≡ true → (z : Datum) →
             list_any (λ v. same v z) self.now ≡ list_any (λ v. same v z) others.now }
@@ -156,10 +156,10 @@ impl Values {
             && same_runs(self.runs.rest.as_slice(), others.runs.rest.as_slice())
     }
 
-    /// Shorter lists before longer ones, then by their marks. Of lists that agree in both, that one is first which has
-    /// the first value, in the order of values, that but one of them has: lists in order are compared value by value. It is
-    /// Equal for lists of one length that have the same values, however they are kept. A look-up for each value at most,
-    /// and only where length and mark agree. Takes no memory.
+    /// Compares two lists: first by length, then by mark. If two lists agree in both, the first is the one that has the first
+    /// value, in the order of values, that only one of them has; lists in order are compared value by value. The result is
+    /// `Equal` for lists of the same length with the same values, however they are stored. At most one look-up for each value,
+    /// and only if length and mark agree. Takes no memory.
     pub(crate) fn order(&self, others: &Values) -> Ordering {
         let lengths = self.count.cmp(&others.count);
         if lengths.is_ne() {
@@ -177,7 +177,7 @@ impl Values {
         }
     }
 
-    /// Of the values that the other list has not, the first in the order of values.
+    /// Returns the first value, in the order of values, that the other list does not have.
     fn first_lacked_by(&self, others: &Values) -> Option<&Value> {
         let mut first = earlier_lacked_by(others, self.runs.first.as_slice(), self.rising, None);
         for run in self.runs.rest.as_slice() {
@@ -186,7 +186,7 @@ impl Values {
         first
     }
 
-    /// Copies the values to the end of a list, in any order.
+    /// Appends copies of the values to a list, in any order.
     pub(crate) fn put_in(&self, alloc: Global, out: &mut Vec<Value>) -> Result<(), NoMemory>
         ensures { IfOk result (λ _. (z : Datum) → list_any (λ v. same v z) out.new.items
             ≡ (list_any (λ v. same v z) out.old.items || list_any (λ v. same v z) self.now)) }
@@ -195,8 +195,9 @@ impl Values {
         put_runs(alloc, out, self.runs.rest.as_slice())
     }
 
-    /// The values of both lists, in order, each once. The shorter list is looked up in the longer, which shares most of its
-    /// values with the result: n log n in all for n values that come one by one. Lists that are not in order are sorted.
+    /// Returns the values of both lists, in order, each once. It looks the values of the shorter list up in the longer, which
+    /// shares most of its values with the result: n log n in all for n values that are added one by one. Lists that are not in
+    /// order are sorted.
     pub fn joined(&self, alloc: Global, more: &Values) -> Result<Values, NoMemory>
         ensures meaning { IfOk result (λ r. (z : Datum) → list_any (λ v. same v z) r ≡ (list_any
             (λ v. same v z) self.now || list_any (λ v. same v z) more.now)) }
@@ -208,7 +209,7 @@ impl Values {
         self.with_all(alloc, more)
     }
 
-    /// The same, where the second is the shorter list.
+    /// Like `joined`, given that the second list is the shorter one.
     fn with_all(&self, alloc: Global, more: &Values) -> Result<Values, NoMemory>
         ensures meaning { IfOk result (λ r. (z : Datum) → list_any (λ v. same v z) r ≡ (list_any
             (λ v. same v z) self.now || list_any (λ v. same v z) more.now)) }
@@ -232,7 +233,7 @@ impl Values {
         })
     }
 
-    /// The values of the other list that this one has not, in order, each once.
+    /// Returns the values of the other list that this one does not have, in order, each once.
     fn lacking(&self, alloc: Global, more: &Values) -> Result<Vec<Value>, NoMemory>
         ensures meaning { IfOk result (λ r. (z : Datum) → (list_any (λ v. same v z) self.now || list_any (λ v. same v z) r.items)
             ≡ (list_any (λ v. same v z) self.now || list_any (λ v. same v z) more.now)) }
@@ -245,7 +246,7 @@ impl Values {
         Ok(lacking.into_vec())
     }
 
-    /// The values of both lists, sorted.
+    /// Returns the values of both lists, sorted.
     fn anew(&self, alloc: Global, more: &Values) -> Result<Values, NoMemory>
         ensures meaning { IfOk result (λ r. (z : Datum) → list_any (λ v. same v z) r ≡ (list_any
             (λ v. same v z) self.now || list_any (λ v. same v z) more.now)) }
@@ -259,8 +260,8 @@ impl Values {
     }
 }
 
-/// The first in the order of values of the one found and those that the list has not. Where the items are in order, it
-/// stops there.
+/// Returns the first, in the order of values, of `found` and the items that the list does not have. If the items are in order,
+/// it stops there.
 fn earlier_lacked_by<'v>(
     values: &Values,
     items: &'v [Value],
@@ -293,7 +294,7 @@ fn are_none<T>(items: &[T]) -> bool
     items.is_empty()
 }
 
-/// Adds those of the values that a list has not.
+/// Adds those items that the list of values does not have.
 fn put_lacking(
     alloc: Global,
     out: &mut Vec<Value>,
@@ -325,7 +326,7 @@ fn put_if_lacking(
     Ok(())
 }
 
-/// The same for several lists.
+/// Like `put_lacking`, for several lists.
 fn lack_runs(
     alloc: Global,
     out: &mut Vec<Value>,
@@ -342,7 +343,7 @@ fn lack_runs(
     Ok(())
 }
 
-/// Copies the values of several lists to the end of a list.
+/// Appends copies of the values of several lists to a list.
 fn put_runs(alloc: Global, out: &mut Vec<Value>, runs: &[SharedList<Value>]) -> Result<(), NoMemory>
     ensures { IfOk result (λ _. (z : Datum) → list_any (λ v. same v z) out.new.items
         ≡ (list_any (λ v. same v z) out.old.items || list_any (λ ws. list_any (λ v. same v z) ws) runs.now)) }
@@ -353,7 +354,7 @@ fn put_runs(alloc: Global, out: &mut Vec<Value>, runs: &[SharedList<Value>]) -> 
     Ok(())
 }
 
-/// Whether a list has each of the values.
+/// Whether the list has each of the values.
 fn all_among(items: &[Value], others: &Values) -> bool
     ensures { result ≡ list_all (λ v. list_any (λ w. same w v) others.now) items.now }
 {
@@ -365,7 +366,7 @@ fn all_among(items: &[Value], others: &Values) -> bool
     true
 }
 
-/// The same for several lists.
+/// Like `all_among`, for several lists.
 fn runs_among(runs: &[SharedList<Value>], others: &Values) -> bool
     ensures { result ≡ list_all (λ ws. list_all (λ v. list_any (λ w. same w v) others.now) ws) runs.now }
 {

@@ -1,4 +1,4 @@
-// The entries of a set by the value at which they fix one variable.
+// The entries of a set, grouped by the value at which they fix one variable.
 ghost use Rattle.std.specs.Prelude.{◌≡◌, ◌++◌, ◌<◌, Bool, true, false, [], ◌∷◌, length, slice_index_or, IfOk, IfSome};
 ghost use Rattle.smpl_terms.specs.declared.var.Var.{Var};
 ghost use Rattle.smpl_terms.specs.declared.value.Value.{Value as Datum};
@@ -16,8 +16,8 @@ use c_terms::NoMemory;
 use smpl_terms::{Value, Var};
 use std::alloc::Global;
 
-/// A set at a variable: the values at which entries fix it, in order, each once; for each value these entries; and all
-/// other entries.
+/// A set grouped by one variable: the values at which entries fix it, in order, each once; the entries for each of these
+/// values; and all other entries.
 #[derive(Drop)]
 pub struct Groups {
     pub values: ValueList,
@@ -25,7 +25,7 @@ pub struct Groups {
     pub others: EntryList,
 }
 
-/// The groups of a set at x. Copies each entry once, and sorts the values.
+/// Groups a set by x. Copies each entry once, and sorts the values.
 pub fn groups_by(alloc: Global, b: &[Entry], x: &Var) -> Result<Groups, NoMemory>
     ensures rise { IfOk result (λ g. Rise g.values) }
     ensures meaning { IfOk result (λ g. AreGroupsOf x.now g.values b.now g.groups.items g.others) }
@@ -45,7 +45,7 @@ pub fn groups_by(alloc: Global, b: &[Entry], x: &Var) -> Result<Groups, NoMemory
     })
 }
 
-/// The values at which entries fix x, in order, each once.
+/// Returns the values at which entries fix x, in order, each once.
 fn values_at(alloc: Global, b: &[Entry], x: &Var) -> Result<ValueList, NoMemory>
     ensures rise { IfOk result (λ vs. Rise vs) }
 {
@@ -58,7 +58,7 @@ fn values_at(alloc: Global, b: &[Entry], x: &Var) -> Result<ValueList, NoMemory>
     distinct(alloc, values)
 }
 
-/// Adds the entry to the group of the value at which it fixes x, or else to the others.
+/// Adds the entry to the group of the value at which it fixes x, or to the others if there is none.
 fn put_in_group(
     alloc: Global,
     groups: &mut [EntryList],
@@ -87,7 +87,7 @@ fn put_in_group(
     }
 }
 
-/// The place of the value at which the entry fixes x.
+/// Returns the index of the value at which the entry fixes x.
 fn group_of(e: &Entry, x: &Var, values: &[Value]) -> Option<usize>
     requires rise { Rise values.now }
     ensures { IfSome result (λ k. (k < length values.now) × ((env : Environment) →

@@ -1,4 +1,4 @@
-// Entries of which none plainly covers another.
+// Entries none of which plainly covers another.
 ghost use Rattle.std.specs.Prelude.{◌≡◌, ◌||◌, Bool, true, [], IfOk};
 ghost use Rattle.smpl_terms.specs.declared.var.Var.{Var};
 ghost use Rattle.smpl_terms.specs.Environments.{Environment};
@@ -12,7 +12,7 @@ use c_terms::NoMemory;
 use std::alloc::Global;
 use std::marker::Model;
 
-/// The set of entries in order, without those that another plainly covers.
+/// Returns the set of these entries, which are in order, without those that another plainly covers.
 pub fn kept_of(alloc: Global, entries: Vec<Entry>) -> Result<EnvSet, NoMemory>
     ensures meaning { IfOk result (λ r. (env : Environment) →
         set_denotes r env ≡ set_denotes entries.items env) }
@@ -26,13 +26,13 @@ pub fn kept_of(alloc: Global, entries: Vec<Entry>) -> Result<EnvSet, NoMemory>
     EnvSet::in_blocks(alloc, kept.into_vec())
 }
 
-/// Entries in order, so that one which covers others comes before them.
+/// Entries in an order in which an entry that covers others is before them.
 #[derive(Drop)]
 struct Kept {
     entries: Vec<Entry>,
-    /// A mark of each.
+    /// A mark of each entry.
     marks: Vec<Mark>,
-    /// Those that may cover a later one, by a bound of each.
+    /// The entries that may cover a later one, by one bound of each.
     lookup: Lookup,
 }
 
@@ -51,7 +51,7 @@ impl Model for Kept {
 }
 
 impl Kept {
-    /// No entry yet, of so many at most.
+    /// Returns an empty list, for at most this many entries.
     fn new(alloc: Global, most: usize) -> Kept
         ensures { result ≡ [] }
     {
@@ -69,7 +69,7 @@ impl Kept {
         entries
     }
 
-    /// One more entry, unless another covers it.
+    /// Adds an entry, unless another covers it.
     fn put(&mut self, alloc: Global, e: Entry) -> Result<(), NoMemory>
         ensures meaning { IfOk result (λ _. (env : Environment) →
             set_denotes self.new env ≡ (set_denotes self.old env || entry_denotes e env)) }
@@ -85,7 +85,7 @@ impl Kept {
         Ok(())
     }
 
-    /// Whether an entry that may cover this one does.
+    /// Whether an entry covers this one.
     fn have_over(&self, alloc: Global, e: &Entry) -> Result<bool, NoMemory>
         ensures { IfOk result (λ r. r ≡ true → (env : Environment) → entry_denotes e.now env ≡ true →
             set_denotes self.now env ≡ true) }
@@ -103,7 +103,7 @@ impl Kept {
     }
 }
 
-/// Whether an entry covers this one. A mark tells most that don't.
+/// Whether an entry covers this one. A mark rules out most entries that don't.
 fn any_covers(entries: &[Entry], marks: &[Mark], mark: &Mark, e: &Entry) -> bool
     ensures { result ≡ true → (env : Environment) → entry_denotes e.now env ≡ true →
         set_denotes entries.now env ≡ true }
@@ -116,7 +116,7 @@ fn any_covers(entries: &[Entry], marks: &[Mark], mark: &Mark, e: &Entry) -> bool
     false
 }
 
-/// Whether one of the entries with these numbers covers this one.
+/// Whether one of the entries with these indices covers this one.
 fn some_covers(entries: &[Entry], marks: &[Mark], numbers: &[usize], mark: &Mark, e: &Entry) -> bool
     ensures { result ≡ true → (env : Environment) → entry_denotes e.now env ≡ true →
         set_denotes entries.now env ≡ true }

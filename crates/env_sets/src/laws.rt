@@ -1,11 +1,11 @@
-// What holds of all sets, and no single call shows.
+// Laws of all sets, which no single call shows.
 ghost use Rattle.std.specs.Prelude.{List};
 ghost use Rattle.smpl_terms.specs.declared.var.Var.{Var};
 ghost use Rattle.smpl_terms.specs.declared.value.Value.{Value};
 ghost use Rattle.env_sets.specs.Sets.{Entries};
 ghost use Rattle.env_sets.specs.Laws.{StandForSame, IsMeet, IsJoin, IsComplement, IsProjection, IsGiven};
 
-/// The complement of a complement stands for what the set does.
+/// The complement of a complement stands for the same as the set.
 pub fn complement_twice()
     ensures { (a once twice : Entries) → IsComplement a once → IsComplement once twice →
         StandForSame twice a }
@@ -25,7 +25,7 @@ pub fn project_a_join()
         → IsProjection x a of_a → IsProjection x b of_b → IsJoin of_a of_b joined → StandForSame of_either joined }
 {}
 
-/// A meet where some variables have values is the meet of what remains of both sets.
+/// If some variables are given values, what remains of a meet is the meet of what remains of both sets.
 pub fn given_a_meet()
     ensures { (env : List (Var × Value)) (a b both of_both of_a of_b met : Entries) →
         IsMeet a b both → IsGiven env both of_both

@@ -1,20 +1,20 @@
 //! Sets of environments: which values the variables may have, over all terms and places, in the file or not.
 //!
-//! - [`Bound`] says of one variable that it is a value, or none of some values. [`Entry`] has bounds of some variables,
-//!   and stands for every environment that meets them. [`EnvSet`] stands for what some entry of it stands for.
+//! - [`Bound`] says that one variable has a value, or has none of some values. [`Entry`] has bounds of some variables, and
+//!   stands for every environment that meets them. [`EnvSet`] stands for every environment that one of its entries stands for.
 //! - [`meet`], [`join`] and [`complement`] are intersection, union and complement; [`project`] lets one variable change;
 //!   [`given`] gives some variables their values; [`denotes`] says whether an environment is in a set.
-//! - [`EnvSet::entries`] lists the entries of a set, and [`EnvSet::blocks`] hands them out as they stand: a slice, and blocks
-//!   that follow it, which sets share.
+//! - [`EnvSet::entries`] lists the entries of a set, and [`EnvSet::blocks`] returns them as they are stored: a slice, and the
+//!   blocks that follow it, which sets share.
 //! - [`StateSets`] keeps a set for each subformula and node.
-//! - [`complement_twice`] and its neighbours are laws, which no single call shows.
+//! - [`complement_twice`], [`de_morgan`], [`project_a_join`] and [`given_a_meet`] are laws, which no single call shows.
 //!
-//! The complement of `x` is 1 is `x` is not 1; its meet with `y` is 2 stands for each environment where both hold.
+//! The complement of "`x` is 1" is "`x` is not 1"; its meet with "`y` is 2" stands for each environment in which both hold.
 //!
-//! Values are compared as terms, ids aside. The calls hand back sets whose entries over one variable alone are merged,
-//! and without entries that another plainly covers; sets that a caller builds may have them. Nothing is lost or added
-//! by that: a set is known by what it stands for.
-//! [`complement`] recurses once a variable, and comparing values and listing them once a level of a tree.
+//! Values are compared as terms, ids aside. The calls return sets in which entries over a single variable are merged, and
+//! without entries that another plainly covers; sets that a caller builds may have such entries. This neither loses nor adds
+//! anything: a set is known by what it stands for.
+//! [`complement`] recurses once per variable; comparing and listing values recurses once per level of a tree.
 #![tactic(auto)]
 
 mod added;

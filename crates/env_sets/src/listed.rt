@@ -1,4 +1,4 @@
-// Entries as one call works on them.
+// Lists of entries that a single call works on.
 ghost use Rattle.std.specs.Prelude.{◌≡◌, ◌++◌, [], ◌∷◌, IfOk};
 
 use crate::entries::Entry;
@@ -6,7 +6,7 @@ use c_terms::NoMemory;
 use std::alloc::Global;
 use std::marker::Model;
 
-/// A list of entries that one call works on, of no known order.
+/// A list of entries that a single call works on, in no known order.
 #[derive(Drop)]
 pub struct EntryList {
     items: Vec<Entry>,
@@ -27,7 +27,7 @@ impl Model for EntryList {
 }
 
 impl EntryList {
-    /// No entry. Takes no memory.
+    /// Returns an empty list. Takes no memory.
     pub fn none(alloc: Global) -> EntryList
         ensures entries { result ≡ [] }
     {
@@ -36,21 +36,21 @@ impl EntryList {
         }
     }
 
-    /// These entries. Takes no memory.
+    /// Makes a list of these entries. Takes no memory.
     pub fn of(items: Vec<Entry>) -> EntryList
         ensures entries { result ≡ items.items }
     {
         EntryList { items }
     }
 
-    /// The entries. Takes no memory.
+    /// Returns the entries. Takes no memory.
     pub fn entries(&self) -> &[Entry]
         ensures entries { result.now ≡ self.now }
     {
         self.items.as_slice()
     }
 
-    /// Adds an entry, last.
+    /// Appends an entry.
     pub fn put(&mut self, e: Entry) -> Result<(), NoMemory>
         ensures { IfOk result (λ _. self.new ≡ self.old ++ e ∷ []) }
     {

@@ -1,4 +1,4 @@
-// Entries that bound one variable alone: together they are one list of excluded values, or values.
+// Entries that bound one variable alone: together they amount to one list of excluded values, or to values.
 //
 //     { x Not [1, 2] } { x Not [2, 3] } { x Is 2 }   =   everything
 //     { x Not [1, 2] } { x Not [1, 3] } { x Is 2 }   =   { x Not [1] }
@@ -21,10 +21,10 @@ use c_terms::NoMemory;
 use smpl_terms::{Value, Var, same_var};
 use std::alloc::Global;
 
-/// For entries in order: of each variable that some bound alone, one entry for all of these, where they exclude values
-/// and it excludes fewer.
+/// For each variable that some entries bound alone, returns one entry that stands for all of these, if they exclude values and
+/// it excludes fewer. The given entries are in order.
 ///
-/// It takes n log n steps for n values that are named there, where the lists of excluded values are in order.
+/// For n values named there it takes n log n steps, if the lists of excluded values are in order.
 pub fn wider_entries(alloc: Global, entries: &[Entry]) -> Result<Vec<Entry>, NoMemory>
     ensures within { IfOk result (λ r. (env : Environment) → set_denotes r.items env ≡ true →
         set_denotes entries.now env ≡ true) }
@@ -40,7 +40,7 @@ pub fn wider_entries(alloc: Global, entries: &[Entry]) -> Result<Vec<Entry>, NoM
     Ok(wider)
 }
 
-/// Whether both bound one variable alone, and the same.
+/// Whether both entries bound a single variable, and the same one.
 fn bound_alike(a: &Entry, b: &Entry) -> bool {
     match (a.pairs(), b.pairs()) {
         ([p], [q]) => same_var(&p.0, &q.0),
@@ -48,14 +48,14 @@ fn bound_alike(a: &Entry, b: &Entry) -> bool {
     }
 }
 
-/// Whether the entry after this one bounds the same variable alone.
+/// Whether the entry after this one bounds the same single variable.
 fn has_next(entries: &[Entry], start: usize) -> bool
     requires { start < length entries.now }
 {
     entries.len() - start > 1 && bound_alike(&entries[start], &entries[start + 1])
 }
 
-/// For the entries from a place on that bound the same variable alone, of which there are several.
+/// Like `wider_entries`, for the entries from an index on that bound the same single variable, if there are several.
 fn wider_entry(alloc: Global, entries: &[Entry], start: usize) -> Result<Option<Entry>, NoMemory>
     requires { start < length entries.now }
     ensures within { IfOk result (λ o. (env : Environment) → option_denotes o env ≡ true →
@@ -75,7 +75,7 @@ fn wider_entry(alloc: Global, entries: &[Entry], start: usize) -> Result<Option<
     }
 }
 
-/// The bound of x, where the entry bounds x and nothing else.
+/// Returns the bound of x if the entry bounds x and nothing else.
 fn lone_bound<'e>(e: &'e Entry, x: &Var) -> Option<&'e Bound>
     ensures meaning { IfSome result (λ b. (env : Environment) →
         entry_denotes e.now env ≡ fits (env x.now) b.now) }
@@ -94,7 +94,7 @@ fn lone_bound<'e>(e: &'e Entry, x: &Var) -> Option<&'e Bound>
     }
 }
 
-/// One entry for those from a place on that bound x alone, of which the first excludes these values.
+/// Returns one entry for the entries from an index on that bound x alone, the first of which excludes these values.
 fn less_excluded(
     alloc: Global,
     entries: &[Entry],
@@ -124,7 +124,7 @@ fn less_excluded(
     Ok(Some(Entry::one(alloc, x, Bound::Not(Values::of(alloc, left.into_vec())?))?))
 }
 
-/// Of these values, those that all lists of the entries exclude.
+/// Returns those of these values that all lists of the entries exclude.
 fn excluded_by_all(
     alloc: Global,
     entries: &[Entry],
@@ -147,7 +147,7 @@ fn excluded_by_all(
     Ok(left)
 }
 
-/// The values that the bound excludes too, where it is a list of these.
+/// Returns the values that the bound excludes too, if it is a list of excluded values, and all of them otherwise.
 fn excluded_too(alloc: Global, left: ValueList, bound: &Bound) -> Result<ValueList, NoMemory>
     ensures { IfOk result (λ r. (z : Datum) → not (list_any (λ v. same v z) r) ≡ true →
         (not (list_any (λ v. same v z) left) || fits z bound.now) ≡ true) }
@@ -158,7 +158,7 @@ fn excluded_too(alloc: Global, left: ValueList, bound: &Bound) -> Result<ValueLi
     }
 }
 
-/// The values of x in the entries that fix it, each once.
+/// Returns the values of x in the entries that fix it, each once.
 fn fixed_values(
     alloc: Global,
     entries: &[Entry],
@@ -178,7 +178,7 @@ fn fixed_values(
     Ok(ValueList::of(fixed))
 }
 
-/// Adds the value, if the bound is one, unless it is the last.
+/// Adds the value, if the bound is one, unless it is already the last.
 fn put_fixed(alloc: Global, fixed: &mut Vec<Value>, bound: &Bound) -> Result<(), NoMemory>
     ensures { IfOk result (λ _. (z : Datum) → list_any (λ v. same v z) fixed.new.items ≡ true →
         (list_any (λ v. same v z) fixed.old.items || fits z bound.now) ≡ true) }

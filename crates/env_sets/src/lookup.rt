@@ -1,4 +1,4 @@
-// Entries by one bound of each. One that covers another is found under the bounds of the other.
+// Entries indexed by one bound of each. An entry that covers another is found under the bounds of the other.
 use crate::bounds::Bound;
 use crate::entries::{Entry, all_excluded};
 use crate::excluded::Values;
@@ -7,28 +7,28 @@ use c_terms::NoMemory;
 use smpl_terms::Var;
 use std::alloc::Global;
 
-/// Fewer entries are all compared.
+/// Fewer entries than this are all compared.
 const MANY: usize = 16;
 
 /// The key of an entry that names no value.
 const NO_VALUE: u64 = 0;
 
-/// Numbers of entries in order. Each stands under a value at which the entry fixes a variable; where it fixes none, under
-/// a value that it excludes, and under the variable of that.
+/// The indices of entries in order. Each is listed under a value at which the entry fixes a variable; if it fixes none, under a
+/// value that it excludes, and under the variable of that value.
 #[derive(Drop)]
 pub struct Lookup {
-    /// The numbers, by the key of a bound.
+    /// The indices, by the key of a bound.
     slots: Vec<Vec<usize>>,
-    /// How many slots there are to be.
+    /// The number of slots to be made.
     most: usize,
-    /// Entries from this number on were not looked at.
+    /// Entries from this index on have not been visited.
     seen: usize,
-    /// Entries from this number on are not here if they exclude nothing: they have as many bounds as the last.
+    /// Entries from this index on that exclude nothing are not listed yet: they have as many bounds as the last.
     waiting: usize,
 }
 
 impl Lookup {
-    /// No entry yet, of so many at most. Takes no memory.
+    /// Returns an empty index, for at most this many entries. Takes no memory.
     pub fn new(alloc: Global, most: usize) -> Lookup {
         Lookup {
             slots: Vec::new(alloc),
@@ -38,7 +38,7 @@ impl Lookup {
         }
     }
 
-    /// Takes up the entries that may cover this one. An entry that excludes nothing covers only those with more bounds.
+    /// Lists the entries that may cover this one. An entry that excludes nothing covers only entries with more bounds.
     pub fn prepare(&mut self, alloc: Global, entries: &[Entry], e: &Entry) -> Result<(), NoMemory> {
         if entries.len() < MANY {
             return Ok(());
@@ -65,12 +65,12 @@ impl Lookup {
         Ok(())
     }
 
-    /// Whether it is cheaper to ask for candidates than to try as many entries.
+    /// Whether looking up candidates is cheaper than comparing `count` entries.
     pub fn serves(&self, count: usize, e: &Entry) -> bool {
         count >= MANY && all_excluded(e) <= count
     }
 
-    /// The numbers of all entries that cover this one, and of others.
+    /// Returns the indices of all entries that cover this one, and of some others.
     pub fn candidates(&self, alloc: Global, e: &Entry) -> Result<Vec<usize>, NoMemory> {
         let mut numbers = Vec::new(alloc);
         if self.slots.is_empty() {
@@ -89,7 +89,7 @@ impl Lookup {
         Ok(numbers)
     }
 
-    /// Adds the numbers under the values that are excluded.
+    /// Adds the indices listed under the excluded values.
     fn put_excluding(
         &self,
         numbers: &mut Vec<usize>,
@@ -107,7 +107,7 @@ impl Lookup {
         Ok(())
     }
 
-    /// Puts the number of an entry where there are fewest.
+    /// Lists an entry under the key with the fewest indices.
     fn put(&mut self, alloc: Global, number: usize, e: &Entry) -> Result<(), NoMemory> {
         if self.slots.is_empty() {
             for _ in 0..self.most {
@@ -126,7 +126,7 @@ impl Lookup {
         }
     }
 
-    /// The key of a value at which the entry fixes a variable.
+    /// Returns the rarest key of a value at which the entry fixes a variable.
     fn rarest_fixed(&self, e: &Entry) -> Option<u64> {
         let mut best = None;
         for p in e.pairs() {
@@ -140,7 +140,8 @@ impl Lookup {
         best
     }
 
-    /// The keys of a variable and of a value that the entry excludes there: the first of some bound.
+    /// Returns the keys of a variable and of a value that the entry excludes for it: the rarest among the first values of its
+    /// bounds.
     fn rarest_excluded(&self, e: &Entry) -> Option<(u64, u64)> {
         let mut best = None;
         for p in e.pairs() {
@@ -163,7 +164,7 @@ impl Lookup {
         }
     }
 
-    /// The numbers under a key, and under others of its slot.
+    /// Returns the indices under a key, and under other keys of the same slot.
     fn under(&self, key: u64) -> &[usize] {
         let count = self.slots.len();
         if count == 0 {

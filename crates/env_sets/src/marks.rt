@@ -1,25 +1,25 @@
-// Marks of entries and values: what can be told at once of two entries of which one may cover the other.
+// Marks of entries and values, which quickly rule out that one entry covers another.
 use crate::bounds::Bound;
 use crate::entries::Entry;
 use c_terms::Tree;
 use smpl_terms::{Value, Var};
 
-/// What is compared of an entry before its bounds are.
+/// The properties of an entry that are compared before its bounds.
 #[derive(Clone, Copy)]
 pub struct Mark {
     /// One of 64 bits for each variable, by its name.
     vars: u64,
-    /// How many variables have a value.
+    /// The number of variables that have a value.
     fixed: usize,
-    /// How many values are excluded.
+    /// The number of excluded values.
     excluded: usize,
-    /// One of 64 bits for each of them.
+    /// One of 64 bits for each excluded value.
     bits: u64,
-    /// How many bounds there are.
+    /// The number of bounds.
     bounds: usize,
 }
 
-/// The mark of an entry. Linear in the names of its variables, and takes no memory.
+/// Returns the mark of an entry. Linear in the length of its variables' names, and takes no memory.
 pub fn mark_of(e: &Entry) -> Mark {
     let mut mark = Mark {
         vars: 0,
@@ -45,7 +45,7 @@ fn bit_of(x: &Var) -> u64 {
     1u64 << (var_mark(x) % 64)
 }
 
-/// A number that is equal for one variable.
+/// Returns a number that is equal for equal variables.
 fn var_mark(x: &Var) -> u64 {
     let mut mark = u64::from(x.rule);
     for byte in x.name.as_bytes() {
@@ -54,24 +54,24 @@ fn var_mark(x: &Var) -> u64 {
     mark
 }
 
-/// The key of a variable that is a value: equal for one variable and same values.
+/// Returns the key of a variable fixed at a value: equal for the same variable and the same value.
 pub fn fixed_key(x: &Var, v: &Value) -> u64 {
     mixed(mixed(5, var_mark(x)), value_mark(v))
 }
 
-/// The key of a variable that is not a value.
+/// Returns the key of a variable for which a value is excluded.
 pub fn excluded_key(x: &Var, v: &Value) -> u64 {
     mixed(mixed(7, var_mark(x)), value_mark(v))
 }
 
-/// The key of a variable that is not some values.
+/// Returns the key of a variable for which some values are excluded.
 pub fn open_key(x: &Var) -> u64 {
     mixed(11, var_mark(x))
 }
 
 /// Whether an entry with the first mark may cover another with the second. An entry that covers another bounds no other
-/// variables, and fixes no more of them; where it fixes as many, it excludes no other values. Entries that agree in all
-/// of this are the same, if one covers the other, and are beside one another in a sorted list.
+/// variables, and fixes no more of them; if it fixes as many, it excludes no other values. If two entries agree in all of this
+/// and one covers the other, they are the same, and neighbours in a sorted list.
 pub fn may_cover(a: &Mark, b: &Mark) -> bool {
     if a.vars & b.vars != a.vars || a.fixed > b.fixed {
         return false;
@@ -88,7 +88,7 @@ pub fn may_cover(a: &Mark, b: &Mark) -> bool {
     a.excluded == b.excluded && a.bounds < b.bounds
 }
 
-/// One of 64 bits for each value.
+/// Returns one of 64 bits for each value.
 pub fn bits_of(items: &[Value]) -> u64 {
     let mut bits: u64 = 0;
     for v in items {
@@ -97,7 +97,7 @@ pub fn bits_of(items: &[Value]) -> u64 {
     bits
 }
 
-/// A number that is equal for same values.
+/// Returns a number that is equal for values that are the same.
 fn value_mark(v: &Value) -> u64 {
     match v {
         Value::Term(tree) => term_mark(tree.get(), 3),

@@ -16,7 +16,7 @@ use c_terms::NoMemory;
 use smpl_terms::{Value, Var, same_var};
 use std::alloc::Global;
 
-/// For each of the values, what the entries stand for where x is that value, without x.
+/// For each of the values, returns what the entries stand for when x is that value, without x.
 ///
 /// An entry that fixes x goes to the part of its value, and any other to each part whose value it allows.
 pub fn restrictions(
@@ -35,7 +35,7 @@ pub fn restrictions(
     Ok(parts)
 }
 
-/// So many lists without entries.
+/// Returns this many empty lists.
 pub fn empty_lists(alloc: Global, count: usize) -> Result<Vec<EntryList>, NoMemory>
     ensures count { IfOk result (λ parts. length parts.items ≡ count) }
     ensures empty { IfOk result (λ parts. (k : ℕ) → slice_index_or parts.items k [] ≡ []) }
@@ -78,7 +78,7 @@ fn put_where_allowed(
     }
 }
 
-/// Adds the rest, which is the entry without x, to the part at k, if the entry allows the value. It shares the rest.
+/// Adds `rest`, which is the entry without x, to the part at `k` if the entry allows the value. It shares `rest`.
 fn put_if_allowed(
     alloc: Global,
     parts: &mut [EntryList],
@@ -99,7 +99,7 @@ fn put_if_allowed(
     Ok(())
 }
 
-/// The value of x, where the entry fixes x.
+/// Returns the value of x if the entry fixes x.
 pub fn fixed_value<'e>(e: &'e Entry, x: &Var) -> Option<&'e Value>
     ensures { IfSome result (λ v. (u : Datum) → same v.now u ≡ false →
         passes x.now (fits u) e.now ≡ false) }
@@ -114,7 +114,7 @@ pub fn fixed_value<'e>(e: &'e Entry, x: &Var) -> Option<&'e Value>
     None
 }
 
-/// What the entries stand for where x is a value that none of them names, without x.
+/// Returns what the entries stand for when x is a value that none of them names, without x.
 pub fn where_other(alloc: Global, a: &[Entry], x: &Var) -> Result<Vec<Entry>, NoMemory>
     ensures { IfOk result (λ r. r.items ≡ restricted x.now is_not a.now) }
 {
@@ -127,7 +127,7 @@ pub fn where_other(alloc: Global, a: &[Entry], x: &Var) -> Result<Vec<Entry>, No
     Ok(entries)
 }
 
-/// Whether x may be v.
+/// Whether the entry allows x to be `v`.
 pub fn is_allowed(e: &Entry, x: &Var, v: &Value) -> bool
     ensures { result ≡ passes x.now (fits v.now) e.now }
 {
@@ -139,7 +139,7 @@ pub fn is_allowed(e: &Entry, x: &Var, v: &Value) -> bool
     true
 }
 
-/// Whether x is not fixed.
+/// Whether the entry does not fix x.
 fn is_open(e: &Entry, x: &Var) -> bool
     ensures { result ≡ passes x.now is_not e.now }
 {
@@ -151,7 +151,7 @@ fn is_open(e: &Entry, x: &Var) -> bool
     true
 }
 
-/// The values that the entries name at x, in order, each once.
+/// Returns the values that the entries name at x, in order, each once.
 pub fn named(alloc: Global, a: &[Entry], x: &Var) -> Result<ValueList, NoMemory>
     ensures meaning { IfOk result (λ vs. (z : Datum) → list_any (λ v. same v z) vs ≡ false →
         none_named x.now z a.now ≡ true) }

@@ -1,4 +1,4 @@
-// Blocks of entries in order without those that fix a variable at a value.
+// Blocks of entries in order, without those that fix a variable at a value.
 ghost use Rattle.std.specs.Prelude.{◌≡◌, ◌&&◌, ◌++◌, ◌≤◌, Bool, true, false, not, ◌∷◌, length, take, Some, IfOk, IfSome};
 ghost use Rattle.std.specs.declared.cmp.Ordering.TheVariants.{Less, Equal, Greater};
 ghost use Rattle.smpl_terms.specs.declared.var.Var.{Var};
@@ -16,8 +16,9 @@ use smpl_terms::{SharedList, Value, Var, same_var, value_order};
 use std::alloc::Global;
 use std::cmp::Ordering;
 
-/// The blocks without the entries that fix x to be v; None where these are not plain: where entries beside them don't begin
-/// with x, or they stand in several blocks. It copies the block and a pointer for each other one, and nothing where no entry goes.
+/// Returns the blocks without the entries that fix x to be `v`, or `None` if these are not evident: if their neighbours don't
+/// begin with x, or if they are in several blocks. It copies one block and a pointer to each of the others, and nothing if no
+/// entry is removed.
 pub fn blocks_without(
     alloc: Global,
     blocks: &SharedList<SharedList<Entry>>,
@@ -39,7 +40,7 @@ pub fn blocks_without(
     }
 }
 
-/// The same, where the entries are in this block, if anywhere.
+/// Like `blocks_without`, given that the entries are in this block if they exist.
 fn without_in_block(
     alloc: Global,
     blocks: &SharedList<SharedList<Entry>>,
@@ -72,7 +73,8 @@ fn without_in_block(
     Ok(Some(without_between(alloc, before, front, back, after)?))
 }
 
-/// The side of an entry that fixes x first: whether its value is before v, the same or after it. None for other entries.
+/// Returns the side of an entry that fixes x first: whether its value is before `v`, the same or after it. Returns `None` for
+/// other entries.
 fn side_at(e: &Entry, x: &Var, v: &Value) -> Option<Ordering>
     ensures less { result ≡ Some Less → (env : Environment) → same v.now (env x.now) ≡ true → side e.now env ≡ Less }
     ensures greater { result ≡ Some Greater → (env : Environment) → same v.now (env x.now) ≡ true → side e.now env ≡ Greater }
@@ -120,7 +122,7 @@ fn is_at(e: &Entry, x: &Var, v: &Value) -> bool
     }
 }
 
-/// The number of the last block whose first entry fixes x below v, or else of the first block.
+/// Returns the index of the last block whose first entry fixes x below `v`, or of the first block if there is none.
 fn block_at(blocks: &[SharedList<Entry>], x: &Var, v: &Value) -> usize
     ensures { result ≤ length blocks.now }
 {
@@ -143,7 +145,7 @@ fn begins_below(block: &[Entry], x: &Var, v: &Value) -> bool {
     }
 }
 
-/// How many entries at the front of a block fix x below v.
+/// Returns the number of entries at the front of a block that fix x below `v`.
 fn count_before(block: &[Entry], x: &Var, v: &Value) -> usize
     ensures { result ≤ length block.now }
 {
@@ -159,7 +161,7 @@ fn count_before(block: &[Entry], x: &Var, v: &Value) -> usize
     low
 }
 
-/// How many entries at the front of a list fix x at v.
+/// Returns the number of entries at the front of a list that fix x at `v`.
 fn count_at(entries: &[Entry], x: &Var, v: &Value) -> usize
     ensures within { result ≤ length entries.now }
     ensures fixed { (env : Environment) → same v.now (env x.now) ≡ false →
@@ -173,7 +175,7 @@ fn count_at(entries: &[Entry], x: &Var, v: &Value) -> usize
     entries.len()
 }
 
-/// Whether the last of these entries fixes x below v.
+/// Whether the last of these entries fixes x below `v`.
 fn ends_below(before: &[SharedList<Entry>], front: &[Entry], x: &Var, v: &Value) -> bool
     ensures { result ≡ true → (env : Environment) → same v.now (env x.now) ≡ true →
         LastIsBefore env (all_entries before.now ++ front.now) }
@@ -184,7 +186,7 @@ fn ends_below(before: &[SharedList<Entry>], front: &[Entry], x: &Var, v: &Value)
     is_below(&front[front.len() - 1], x, v)
 }
 
-/// Whether the first of these entries fixes x above v.
+/// Whether the first of these entries fixes x above `v`.
 fn begins_above(back: &[Entry], after: &[SharedList<Entry>], x: &Var, v: &Value) -> bool
     ensures { result ≡ true → (env : Environment) → same v.now (env x.now) ≡ true →
         FirstIsAfter env (back.now ++ all_entries after.now) }
@@ -198,7 +200,7 @@ fn begins_above(back: &[Entry], after: &[SharedList<Entry>], x: &Var, v: &Value)
     }
 }
 
-/// Whether the block has a first entry, and it fixes x above v.
+/// Whether the block has a first entry that fixes x above `v`.
 fn block_begins_above(block: &[Entry], x: &Var, v: &Value) -> bool
     ensures { result ≡ true → (env : Environment) → same v.now (env x.now) ≡ true → (es : Entries) →
         FirstIsAfter env (block.now ++ es) }
@@ -209,7 +211,7 @@ fn block_begins_above(block: &[Entry], x: &Var, v: &Value) -> bool
     }
 }
 
-/// All of these.
+/// Returns all of these entries, in blocks.
 fn without_between(
     alloc: Global,
     before: &[SharedList<Entry>],
@@ -224,7 +226,7 @@ fn without_between(
     blocks_around(alloc, before, block, after)
 }
 
-/// The entries of a block, which are shared.
+/// Returns the entries of both slices as one block. The entries are shared.
 fn block_of(alloc: Global, front: &[Entry], back: &[Entry]) -> Result<Vec<Entry>, NoMemory>
     ensures { IfOk result (λ r. r.items ≡ front.now ++ back.now) }
 {

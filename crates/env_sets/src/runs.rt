@@ -1,4 +1,4 @@
-// Lists of values in order that are kept as several, so that one value more copies few of them.
+// Lists of values in order that are stored as several lists, so that adding one value copies few of them.
 //
 //     [7]  [1, .., 40]  [0, .., 900]   with 5   =   [5, 7]  [1, .., 40]  [0, .., 900]
 ghost use Rattle.std.specs.Prelude.{◌≡◌, ◌||◌, ◌++◌, ◌-◌, ◌<◌, ◌≤◌, List, true, false, [], ◌∷◌, length, take, drop, slice_index_or, IfOk};
@@ -14,10 +14,10 @@ use c_terms::NoMemory;
 use smpl_terms::{SharedList, Value, same_value, value_order};
 use std::alloc::Global;
 
-/// Each list is more than so many times as long as the one before it.
+/// Each list is more than this many times as long as the one before it.
 const RATIO: usize = 16;
 
-/// Lists in order, of which no two have a value in common. Copies share them.
+/// Lists in order, no two of which have a value in common. Copies share them.
 #[derive(Drop)]
 pub struct Runs {
     pub first: SharedList<Value>,
@@ -25,7 +25,7 @@ pub struct Runs {
 }
 
 impl Runs {
-    /// One list.
+    /// Makes one list of these values.
     pub fn one(alloc: Global, items: Vec<Value>) -> Result<Runs, NoMemory>
         ensures first { IfOk result (λ r. r.first ≡ items.items) }
         ensures rest { IfOk result (λ r. r.rest ≡ []) }
@@ -36,7 +36,7 @@ impl Runs {
         })
     }
 
-    /// The same lists. It shares them, and takes no memory.
+    /// Returns the same lists. It shares them, and takes no memory.
     pub fn share(&self) -> Result<Runs, NoMemory>
         ensures first { IfOk result (λ r. r.first ≡ self.now.first) }
         ensures rest { IfOk result (λ r. r.rest ≡ self.now.rest) }
@@ -56,7 +56,8 @@ impl Runs {
         has_in_order(self.first.as_slice(), v) || some_has(self.rest.as_slice(), v)
     }
 
-    /// With values in order, none of which is there. For n of them and n log n steps in all, where they come one by one.
+    /// Returns the lists with more values, which are in order and none of which is there yet. Adding n values one by one takes
+    /// n log n steps in all.
     pub fn with_more(&self, alloc: Global, more: Vec<Value>) -> Result<Runs, NoMemory>
         requires more { Rise more.items }
         requires first { Rise self.now.first }
@@ -73,7 +74,7 @@ impl Runs {
         absorbed(alloc, run, &self.rest)
     }
 
-    /// With one more list, before all others.
+    /// Returns the lists with one more list before all others.
     fn under(&self, alloc: Global, more: Vec<Value>) -> Result<Runs, NoMemory>
         ensures { IfOk result (λ r. (r.first ≡ more.items) × (r.rest ≡ self.now.first ∷ self.now.rest)) }
     {
@@ -86,7 +87,7 @@ impl Runs {
         })
     }
 
-    /// All values in order.
+    /// Returns all values in order.
     pub fn into_vec(self, alloc: Global) -> Result<Vec<Value>, NoMemory>
         requires first { Rise self.first }
         requires rest { AllRise self.rest }
@@ -102,7 +103,7 @@ impl Runs {
     }
 }
 
-/// The values of all lists, of which there is one at least.
+/// Returns the values of all lists, of which there is at least one.
 fn joined_from(alloc: Global, runs: &[SharedList<Value>]) -> Result<Vec<Value>, NoMemory>
     requires some { 0 < length runs.now }
     requires rise { AllRise runs.now }
@@ -118,7 +119,7 @@ fn joined_from(alloc: Global, runs: &[SharedList<Value>]) -> Result<Vec<Value>, 
     Ok(all)
 }
 
-/// A copy of the last of the lists.
+/// Returns a copy of the last list.
 fn last_of(alloc: Global, runs: &[SharedList<Value>]) -> Result<Vec<Value>, NoMemory>
     requires some { 0 < length runs.now }
     requires rise { AllRise runs.now }
@@ -145,7 +146,7 @@ fn some_has(runs: &[SharedList<Value>], v: &Value) -> bool
     false
 }
 
-/// The list with those that follow it, as far as they are too short to stand alone.
+/// Returns the list merged with those that follow it, as long as they are too short to be kept separately.
 fn absorbed(
     alloc: Global,
     run: Vec<Value>,
@@ -172,7 +173,7 @@ fn absorbed(
     })
 }
 
-/// The lists from a place on.
+/// Returns the lists from an index on.
 fn rest_from(
     alloc: Global,
     rest: &SharedList<SharedList<Value>>,
@@ -199,7 +200,7 @@ fn put_shares(out: &mut Vec<SharedList<Value>>, runs: &[SharedList<Value>]) -> R
     Ok(())
 }
 
-/// Copies the values to the end of a list.
+/// Appends copies of the values to a list.
 pub fn put_all(alloc: Global, out: &mut Vec<Value>, items: &[Value]) -> Result<(), NoMemory>
     ensures { IfOk result (λ _. out.new.items ≡ out.old.items ++ items.now) }
 {
@@ -209,7 +210,8 @@ pub fn put_all(alloc: Global, out: &mut Vec<Value>, items: &[Value]) -> Result<(
     Ok(())
 }
 
-/// The values of two lists in order, in order. For m values of the first and n of the second it copies n, and looks m up.
+/// Returns the values of two lists in order, in order. For m values in the first and n in the second it copies n, and looks m
+/// up.
 pub fn merged(alloc: Global, few: &[Value], many: &[Value]) -> Result<Vec<Value>, NoMemory>
     requires few { Rise few.now }
     requires many { Rise many.now }
@@ -246,7 +248,7 @@ fn put_unless_first(
     }
 }
 
-/// How many values at the front of a list in order are before v, by halves.
+/// Returns the number of values at the front of a list in order that are before `v`, found by binary search.
 fn front_len(items: &[Value], v: &Value) -> usize
     requires { Rise items.now }
     ensures within { result ≤ length items.now }

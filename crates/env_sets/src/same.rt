@@ -1,4 +1,4 @@
-// When two sets are plainly the same.
+// When two sets are evidently the same.
 ghost use Rattle.std.specs.Prelude.{◌≡◌, ◌||◌, ◌++◌, true, ◌<◌, length, IfSome};
 ghost use Rattle.std.specs.List.{list_any};
 ghost use Rattle.smpl_terms.specs.declared.value.Value.{Value as Datum};
@@ -16,8 +16,8 @@ use crate::excluded::Values;
 use crate::sets::EnvSet;
 use smpl_terms::{SharedList, Value, Var, same_value, same_var};
 
-/// Whether both sets have the same entries in the same order, values compared but for ids: then both stand for the same
-/// environments. The results of two calls that stand for the same may differ, and then it says false.
+/// Whether both sets have the same entries in the same order, values compared ids aside; then both stand for the same
+/// environments. The results of two calls that stand for the same environments may differ, in which case it is `false`.
 ///
 /// It stops at the first difference, and takes no memory.
 pub fn same_set(a: &EnvSet, b: &EnvSet) -> bool
@@ -29,7 +29,7 @@ pub fn same_set(a: &EnvSet, b: &EnvSet) -> bool
     }
 }
 
-/// The same, however the entries are kept.
+/// Like `same_set`, however the entries are stored.
 fn same_in_blocks(a: &EnvSet, b: &EnvSet) -> bool
     ensures { result ≡ true → StandForSame a.now b.now }
 {
@@ -59,7 +59,7 @@ fn same_blocks(blocks: &[SharedList<Entry>], es: &[Entry], others: &[SharedList<
     left.is_empty() && are_empty(rest)
 }
 
-/// What is left of a list and blocks behind the same entries as these, one by one.
+/// Returns what is left of a list and blocks after the same entries as these, one by one.
 fn after<'b>(
     entries: &[Entry],
     es: &'b [Entry],
@@ -146,7 +146,7 @@ fn same_bound(a: &Bound, b: &Bound) -> bool
     }
 }
 
-/// Whether both have the same values, in whatever order: kept alike, or each looked up.
+/// Whether both lists have the same values, in any order: either stored alike, or each value looked up.
 fn same_values(vs: &Values, ws: &Values) -> bool
     ensures { result ≡ true → (x : Datum) → list_any (λ v. same v x) vs.now ≡ list_any (λ w. same w x) ws.now }
 {
@@ -159,7 +159,7 @@ fn same_values(vs: &Values, ws: &Values) -> bool
     vs.are_among(ws) && ws.are_among(vs)
 }
 
-/// Whether the lists have the same values one by one.
+/// Whether the lists have the same values, one by one.
 pub fn same_slices(vs: &[Value], ws: &[Value]) -> bool
     ensures { result ≡ true → (x : Datum) → list_any (λ v. same v x) vs.now ≡ list_any (λ w. same w x) ws.now }
 {

@@ -21,7 +21,7 @@ use std::marker::Model;
 /// A set of environments: those that some entry stands for. Contracts see the list of entries.
 #[derive(Drop)]
 pub struct EnvSet {
-    /// Entries of no known order.
+    /// Entries in no known order.
     first: Vec<Entry>,
     /// The others, in the order of the values that they fix. Copies share the blocks.
     rest: SharedList<SharedList<Entry>>,
@@ -47,7 +47,7 @@ impl Model for EnvSet {
 }
 
 impl EnvSet {
-    /// No entry: no environment. Takes no memory.
+    /// Returns the set without entries, which stands for no environment. Takes no memory.
     pub fn none(alloc: Global) -> EnvSet
         ensures entries { result ≡ [] }
         ensures meaning { (env : Environment) → set_denotes result env ≡ false }
@@ -55,7 +55,7 @@ impl EnvSet {
         EnvSet::of(Vec::new(alloc))
     }
 
-    /// One entry without bounds: every environment.
+    /// Returns the set of one entry without bounds, which stands for every environment.
     pub fn all(alloc: Global) -> Result<EnvSet, NoMemory>
         ensures entries { IfOk result (λ r. r ≡ [] ∷ []) }
         ensures meaning { IfOk result (λ r. (env : Environment) → set_denotes r env ≡ true) }
@@ -65,7 +65,7 @@ impl EnvSet {
         Ok(EnvSet::of(entries))
     }
 
-    /// One entry with one bound.
+    /// Returns the set of one entry with one bound.
     pub fn one(alloc: Global, v: &Var, bound: Bound) -> Result<EnvSet, NoMemory>
         ensures entries { IfOk result (λ r. r ≡ ((v.now, bound) ∷ []) ∷ []) }
         ensures meaning { IfOk result (λ r. (env : Environment) →
@@ -76,7 +76,7 @@ impl EnvSet {
         Ok(EnvSet::of(entries))
     }
 
-    /// The set of these entries, as they stand. Takes no memory.
+    /// Returns the set of these entries, unchanged. Takes no memory.
     pub fn of(entries: Vec<Entry>) -> EnvSet
         ensures entries { result ≡ entries.items }
     {
@@ -86,8 +86,8 @@ impl EnvSet {
         }
     }
 
-    /// The same. The last ones, 16 and more, that are in the order of the values that they fix are put in blocks. It
-    /// compares neighbours, from the last on, as long as they are in that order.
+    /// Like `of`, but puts the last entries that are in the order of the values that they fix in blocks, if there are at least
+    /// 16. It compares neighbours, from the last on, as long as they are in that order.
     pub(crate) fn in_blocks(alloc: Global, entries: Vec<Entry>) -> Result<EnvSet, NoMemory>
         ensures entries { IfOk result (λ r. r ≡ entries.items) }
     {
@@ -101,7 +101,7 @@ impl EnvSet {
         Ok(EnvSet { first, rest })
     }
 
-    /// These entries, and blocks of others.
+    /// Returns the set of these entries, and blocks of others.
     pub(crate) fn with_blocks(first: Vec<Entry>, rest: SharedList<SharedList<Entry>>) -> EnvSet
         requires { AreInOrder rest }
         ensures entries { result ≡ first.items ++ all_entries rest }
@@ -109,7 +109,7 @@ impl EnvSet {
         EnvSet { first, rest }
     }
 
-    /// The entries as a `Vec`. Those in blocks are shared, and the others moved.
+    /// Returns the entries as a `Vec`. Entries in blocks are shared, and the others are moved.
     pub fn into_vec(self) -> Result<Vec<Entry>, NoMemory>
         ensures entries { IfOk result (λ r. r.items ≡ self) }
     {
@@ -119,15 +119,15 @@ impl EnvSet {
         Ok(entries)
     }
 
-    /// The entries: a list, and blocks of others that follow it. Takes no memory.
+    /// Returns the entries: a list, and blocks of others that follow it. Takes no memory.
     pub fn blocks(&self) -> (&[Entry], &[SharedList<Entry>])
         ensures entries { result.0.now ++ all_entries result.1.now ≡ self.now }
     {
         (self.first.as_slice(), self.rest.as_slice())
     }
 
-    /// Each entry, in order. A copy shares what it holds; one slice would have to copy the blocks that sets share, so it is a
-    /// list of its own. Linear in the entries; [`EnvSet::blocks`] takes no memory.
+    /// Returns each entry, in order. Each copy of an entry shares its bounds. The result is a new list, since a single slice
+    /// would have to copy the blocks that sets share. Linear in the number of entries; [`EnvSet::blocks`] takes no memory.
     pub fn entries(&self, alloc: Global) -> Result<Vec<Entry>, NoMemory>
         ensures entries { IfOk result (λ r. r.items ≡ self.now) }
     {
@@ -136,7 +136,7 @@ impl EnvSet {
         Ok(entries)
     }
 
-    /// The same as [`EnvSet::blocks`]. The blocks are in order.
+    /// Like [`EnvSet::blocks`], with the contract that the blocks are in order.
     pub(crate) fn by_order(&self) -> (&[Entry], &SharedList<SharedList<Entry>>)
         ensures entries { result.0.now ++ all_entries result.1.now ≡ self.now }
         ensures order { AreInOrder result.1.now }
@@ -144,7 +144,7 @@ impl EnvSet {
         (self.first.as_slice(), &self.rest)
     }
 
-    /// The entries, where there are no blocks. Takes no memory.
+    /// Returns the entries if there are no blocks. Takes no memory.
     pub(crate) fn as_list(&self) -> Option<&[Entry]>
         ensures { IfSome result (λ es. es.now ≡ self.now) }
     {
@@ -155,14 +155,14 @@ impl EnvSet {
         }
     }
 
-    /// The entries, which are shared.
+    /// Returns the entries, which are shared.
     pub(crate) fn list(&self, alloc: Global) -> Result<EntryList, NoMemory>
         ensures { IfOk result (λ r. r ≡ self.now) }
     {
         Ok(EntryList::of(self.entries(alloc)?))
     }
 
-    /// Adds the entries, which are shared.
+    /// Appends the entries, which are shared.
     pub(crate) fn put_in(&self, out: &mut Vec<Entry>) -> Result<(), NoMemory>
         ensures { IfOk result (λ _. out.new.items ≡ out.old.items ++ self.now) }
     {
@@ -170,7 +170,7 @@ impl EnvSet {
         put_blocks(out, self.rest.as_slice())
     }
 
-    /// Whether there is no entry: no environment. Takes no memory.
+    /// Whether there is no entry, so that the set stands for no environment. Takes no memory.
     pub fn is_none(&self) -> bool
         ensures none { result ≡ true → self.now ≡ [] }
         ensures some { result ≡ false → 0 < length self.now }
@@ -178,15 +178,15 @@ impl EnvSet {
         self.first.is_empty() && are_empty(self.rest.as_slice())
     }
 
-    /// Whether some entry has no bounds: every environment. Takes no memory. It may be false where several entries stand
-    /// for every environment together.
+    /// Whether some entry has no bounds, so that the set stands for every environment. Takes no memory. It may be `false` if
+    /// several entries together stand for every environment.
     pub fn is_all(&self) -> bool
         ensures meaning { result ≡ true → (env : Environment) → set_denotes self.now env ≡ true }
     {
         have_all(&self.first)
     }
 
-    /// An equal set, ids included. It shares each entry, and the blocks.
+    /// Returns an equal set, ids included. It shares each entry, and the blocks.
     pub fn copy(&self, alloc: Global) -> Result<EnvSet, NoMemory>
         ensures same { IfOk result (λ r. r ≡ self.now) }
     {
@@ -209,11 +209,11 @@ pub fn have_all(a: &[Entry]) -> bool
     false
 }
 
-/// The set of these entries, sorted, without those that another plainly covers. Of the entries that bound one variable
-/// alone, one stands for all that exclude values, and excludes none that another of them allows.
+/// Returns the set of these entries, sorted, without those that another plainly covers. Of the entries that bound one variable
+/// alone, a single one stands for all that exclude values, and it excludes no value that another of them allows.
 ///
-/// For n entries that fix the same variables it takes n log n steps; where some exclude values, or have fewer bounds,
-/// each entry is compared with those that bound a variable as it does, found by look-up.
+/// For n entries that fix the same variables it takes n log n steps. If some exclude values, or have fewer bounds, each entry
+/// is compared with those that bound a variable as it does, found by look-up.
 pub fn settled(alloc: Global, entries: Vec<Entry>) -> Result<EnvSet, NoMemory>
     ensures meaning { IfOk result (λ r. (env : Environment) →
         set_denotes r env ≡ set_denotes entries.items env) }
@@ -231,7 +231,7 @@ pub fn settled(alloc: Global, entries: Vec<Entry>) -> Result<EnvSet, NoMemory>
     kept_of(alloc, in_order(with_all(entries, wider)?))
 }
 
-/// The same for entries of which no two stand for one environment, so that none covers another.
+/// Like `settled`, for entries no two of which stand for the same environment, so that none covers another.
 pub fn settled_apart(alloc: Global, entries: Vec<Entry>) -> Result<EnvSet, NoMemory>
     ensures meaning { IfOk result (λ r. (env : Environment) →
         set_denotes r env ≡ set_denotes entries.items env) }
@@ -249,7 +249,7 @@ pub fn settled_apart(alloc: Global, entries: Vec<Entry>) -> Result<EnvSet, NoMem
     kept_of(alloc, in_order(with_all(entries, wider)?))
 }
 
-/// The entries, sorted.
+/// Returns the entries, sorted.
 fn in_order(entries: Vec<Entry>) -> Vec<Entry>
     ensures meaning { (env : Environment) →
         set_denotes result.items env ≡ set_denotes entries.items env }
@@ -260,7 +260,7 @@ fn in_order(entries: Vec<Entry>) -> Vec<Entry>
     entries
 }
 
-/// The entries of both lists.
+/// Returns the entries of both lists.
 fn with_all(entries: Vec<Entry>, more: Vec<Entry>) -> Result<Vec<Entry>, NoMemory>
     ensures { IfOk result (λ r. r.items ≡ entries.items ++ more.items) }
 {
@@ -281,7 +281,7 @@ pub fn put_some(entries: &mut Vec<Entry>, more: Option<Entry>) -> Result<(), NoM
     Ok(())
 }
 
-/// Whether one of the first entries covers this one.
+/// Whether one of the first `count` entries covers this one.
 pub fn first_cover(entries: &[Entry], count: usize, e: &Entry) -> bool
     ensures { result ≡ true → (env : Environment) → entry_denotes e.now env ≡ true →
         set_denotes entries.now env ≡ true }

@@ -22,11 +22,11 @@ use c_terms::NoMemory;
 use smpl_terms::{SharedList, Var};
 use std::alloc::Global;
 
-/// Values are looked for one by one where there are no more.
+/// At most this many values or entries are searched for one by one.
 const FEW: usize = 16;
 
-/// The join, where one of the sets has blocks and the other has few entries that it lacks, which can be put among them;
-/// else None.
+/// Returns the join if one of the sets has blocks, and lacks only a few entries of the other, which can be put among them;
+/// `None` otherwise.
 pub fn join_sharing(alloc: Global, a: &EnvSet, b: &EnvSet) -> Result<Option<EnvSet>, NoMemory>
     ensures meaning { IfOk result (λ o. IfSome o (λ r. IsJoin a.now b.now r)) }
     ensures vars { IfOk result (λ o. IfSome o (λ r. (t : Var → Bool) → set_vars t a.now ≡ true →
@@ -40,7 +40,7 @@ pub fn join_sharing(alloc: Global, a: &EnvSet, b: &EnvSet) -> Result<Option<EnvS
     }
 }
 
-/// The same of two sets with blocks. The one with more blocks takes what it lacks of the other.
+/// Like `join_sharing`, for two sets with blocks. The one with more blocks takes what it lacks of the other.
 fn join_blocks(alloc: Global, a: &EnvSet, b: &EnvSet) -> Result<Option<EnvSet>, NoMemory>
     ensures meaning { IfOk result (λ o. IfSome o (λ r. IsJoin a.now b.now r)) }
     ensures vars { IfOk result (λ o. IfSome o (λ r. (t : Var → Bool) → set_vars t a.now ≡ true →
@@ -52,7 +52,7 @@ fn join_blocks(alloc: Global, a: &EnvSet, b: &EnvSet) -> Result<Option<EnvSet>, 
     with_lacking(alloc, a, b)
 }
 
-/// The set with those entries of the other that it lacks.
+/// Returns the set with those entries of the other that it lacks.
 fn with_lacking(alloc: Global, set: &EnvSet, other: &EnvSet) -> Result<Option<EnvSet>, NoMemory>
     ensures meaning { IfOk result (λ o. IfSome o (λ r. (env : Environment) →
         set_denotes r env ≡ (set_denotes set.now env || set_denotes other.now env))) }
@@ -66,7 +66,7 @@ fn with_lacking(alloc: Global, set: &EnvSet, other: &EnvSet) -> Result<Option<En
     }
 }
 
-/// The entries that none of the set covers at its place; None where they are more than the blocks.
+/// Returns the entries that no entry of the set covers at its place, or `None` if there are more of them than blocks.
 fn lacking(alloc: Global, set: &EnvSet, entries: &[Entry]) -> Result<Option<Vec<Entry>>, NoMemory>
     ensures meaning { IfOk result (λ o. IfSome o (λ few. (env : Environment) →
         (set_denotes set.now env || set_denotes few.items env) ≡ (set_denotes set.now env || set_denotes entries.now env))) }
@@ -84,7 +84,7 @@ fn lacking(alloc: Global, set: &EnvSet, entries: &[Entry]) -> Result<Option<Vec<
     Ok(Some(few))
 }
 
-/// Adds the entry, unless one of the set covers it.
+/// Adds the entry, unless an entry of the set covers it.
 fn put_if_lacking(out: &mut Vec<Entry>, set: &EnvSet, e: &Entry) -> Result<(), NoMemory>
     ensures meaning { IfOk result (λ _. (env : Environment) → (set_denotes set.now env || set_denotes out.new.items env)
         ≡ ((set_denotes set.now env || set_denotes out.old.items env) || entry_denotes e.now env)) }
@@ -98,7 +98,7 @@ fn put_if_lacking(out: &mut Vec<Entry>, set: &EnvSet, e: &Entry) -> Result<(), N
     Ok(())
 }
 
-/// Whether one of the first entries covers this one, or the one at its place in the blocks.
+/// Whether one of the first entries, or the one at its place in the blocks, covers this entry.
 fn is_covered(set: &EnvSet, e: &Entry) -> bool
     ensures { result ≡ true → (env : Environment) → entry_denotes e.now env ≡ true → set_denotes set.now env ≡ true }
 {
@@ -109,7 +109,7 @@ fn is_covered(set: &EnvSet, e: &Entry) -> bool
     blocks_cover(rest.as_slice(), e)
 }
 
-/// The set with these entries, where they are no more than the blocks, and the place of each is plain.
+/// Returns the set with these entries, if there are no more of them than blocks and the place of each is evident.
 fn with_few(alloc: Global, set: &EnvSet, few: &[Entry]) -> Result<Option<EnvSet>, NoMemory>
     ensures meaning { IfOk result (λ o. IfSome o (λ r. (env : Environment) →
         set_denotes r env ≡ (set_denotes set.now env || set_denotes few.now env))) }
@@ -129,7 +129,7 @@ fn with_few(alloc: Global, set: &EnvSet, few: &[Entry]) -> Result<Option<EnvSet>
     Ok(Some(all))
 }
 
-/// The set with one entry more, where its place is plain.
+/// Returns the set with one more entry, if its place is evident.
 fn with_entry(alloc: Global, set: &EnvSet, e: &Entry) -> Result<Option<EnvSet>, NoMemory>
     ensures meaning { IfOk result (λ o. IfSome o (λ r. (env : Environment) →
         set_denotes r env ≡ (set_denotes set.now env || entry_denotes e.now env))) }
@@ -153,8 +153,8 @@ fn with_entry(alloc: Global, set: &EnvSet, e: &Entry) -> Result<Option<EnvSet>, 
     }
 }
 
-/// Whether the entry can only cover one that is the same, and none can be merged with it: it excludes no values, and the
-/// others are few, and none where it bounds but one variable.
+/// Whether the entry can only cover an equal one, and none can be merged with it: it excludes no values, and the entries
+/// outside the blocks are few, and none if it bounds only one variable.
 fn may_be_put(first: &[Entry], e: &Entry) -> bool {
     let pairs = e.pairs();
     if first.len() >= FEW || (pairs.len() < 2 && !first.is_empty()) {
@@ -163,8 +163,8 @@ fn may_be_put(first: &[Entry], e: &Entry) -> bool {
     !pairs.iter().any(|p| p.1.is_not())
 }
 
-/// The meet, where one of the sets has blocks and the other is nothing, everything or one entry that excludes few values
-/// of a variable which all in the blocks fix first; else None.
+/// Returns the meet if one of the sets has blocks and the other is nothing, everything or one entry that excludes few values of
+/// a variable that all entries in the blocks fix first; `None` otherwise.
 pub fn meet_sharing(alloc: Global, a: &EnvSet, b: &EnvSet) -> Result<Option<EnvSet>, NoMemory>
     ensures meaning { IfOk result (λ o. IfSome o (λ r. IsMeet a.now b.now r)) }
     ensures vars { IfOk result (λ o. IfSome o (λ r. (t : Var → Bool) → set_vars t a.now ≡ true →
@@ -177,7 +177,7 @@ pub fn meet_sharing(alloc: Global, a: &EnvSet, b: &EnvSet) -> Result<Option<EnvS
     }
 }
 
-/// What both stand for, where that is plain.
+/// Returns what both stand for, if this is evident.
 fn within(alloc: Global, set: &EnvSet, few: &[Entry]) -> Result<Option<EnvSet>, NoMemory>
     ensures meaning { IfOk result (λ o. IfSome o (λ r. (env : Environment) →
         set_denotes r env ≡ (set_denotes set.now env && set_denotes few.now env))) }
@@ -206,7 +206,7 @@ fn within_entry(alloc: Global, set: &EnvSet, e: &Entry) -> Result<Option<EnvSet>
     }
 }
 
-/// What the set stands for where x has none of the values.
+/// Returns what the set stands for when x has none of the values.
 fn without_values(
     alloc: Global,
     set: &EnvSet,
@@ -231,7 +231,7 @@ fn without_values(
     }
 }
 
-/// The blocks without the entries that fix x at one of the values.
+/// Returns the blocks without the entries that fix x at one of the values.
 fn blocks_outside(
     alloc: Global,
     rest: &SharedList<SharedList<Entry>>,

@@ -29,7 +29,7 @@ impl Model for StateRow {
 }
 
 impl StateRow {
-    /// The row of these sets, which are moved.
+    /// Makes a row of these sets, which are moved.
     pub fn of(alloc: Global, sets: Vec<EnvSet>) -> Result<StateRow, NoMemory>
         ensures sets { IfOk result (λ r. r ≡ sets.items) }
     {
@@ -37,7 +37,7 @@ impl StateRow {
         Ok(StateRow { sets })
     }
 
-    /// An equal row, ids included. It shares the sets, and takes no memory.
+    /// Returns an equal row, ids included. It shares the sets, and takes no memory.
     pub fn copy(&self) -> Result<StateRow, NoMemory>
         ensures same { IfOk result (λ r. r ≡ self.now) }
     {
@@ -45,7 +45,7 @@ impl StateRow {
         Ok(StateRow { sets })
     }
 
-    /// The sets, by node. Takes no memory.
+    /// Returns the sets, by node. Takes no memory.
     pub fn as_slice(&self) -> &[EnvSet]
         ensures sets { result.now ≡ self.now }
     {
@@ -53,7 +53,7 @@ impl StateRow {
     }
 }
 
-/// A set for each subformula number and node. Contracts see the rows, which have one length.
+/// A set for each subformula and node, by their indices. Contracts see the rows, which have the same length.
 #[derive(Drop)]
 pub struct StateSets {
     rows: Vec<StateRow>,
@@ -78,7 +78,7 @@ impl Model for StateSets {
 }
 
 impl StateSets {
-    /// The sets of these rows, by subformula and then by node. Takes no memory.
+    /// Makes the sets of these rows, by subformula and then by node. Takes no memory.
     pub fn new(rows: Vec<StateRow>) -> StateSets
         requires even { IsEven rows.items }
         ensures rows { result ≡ rows.items }
@@ -86,7 +86,7 @@ impl StateSets {
         StateSets { rows }
     }
 
-    /// The set of a subformula at a node. Takes no memory.
+    /// Returns the set of a subformula at a node. Takes no memory.
     pub fn at(&self, part: usize, node: u32) -> &EnvSet
         requires part { part < length self.now }
         requires node { node < length (slice_index_or self.now part []) }

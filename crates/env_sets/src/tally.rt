@@ -8,8 +8,8 @@ use c_terms::NoMemory;
 use smpl_terms::{Var, same_var};
 use std::alloc::Global;
 
-/// The variable that most entries bound; of several the one that comes first. For n bounds over k variables it takes
-/// n times k steps.
+/// Returns the variable that most entries bound; if there are several, the one that comes first. For n bounds over k variables
+/// it takes n times k steps.
 pub fn split_var(alloc: Global, a: &[Entry], first: &Var) -> Result<Var, NoMemory>
     requires first { occurs first.now a.now ≡ true }
     ensures occurs { IfOk result (λ x. occurs x a.now ≡ true) }
@@ -24,7 +24,7 @@ pub fn split_var(alloc: Global, a: &[Entry], first: &Var) -> Result<Var, NoMemor
     first.copy(alloc)
 }
 
-/// How many entries bound each variable.
+/// Returns, for each variable, the number of entries that bound it.
 fn counts_of(alloc: Global, a: &[Entry]) -> Result<Vec<(Var, usize)>, NoMemory> {
     let mut counts = Vec::new(alloc);
     for e in a {
@@ -48,7 +48,7 @@ fn count_one(alloc: Global, counts: &mut Vec<(Var, usize)>, x: &Var) -> Result<(
     }
 }
 
-/// Where the variable is counted.
+/// Returns the index at which the variable is counted.
 fn position(counts: &[(Var, usize)], x: &Var) -> Option<usize>
     ensures { IfSome result (λ k. k < length counts.now) }
 {
@@ -60,7 +60,7 @@ fn position(counts: &[(Var, usize)], x: &Var) -> Option<usize>
     None
 }
 
-/// Where the highest count is.
+/// Returns the index of the highest count.
 fn most(counts: &[(Var, usize)]) -> usize
     requires some { 0 < length counts.now }
     ensures { result < length counts.now }

@@ -13,7 +13,7 @@ use std::alloc::Global;
 use std::cmp::Ordering;
 use std::marker::Model;
 
-/// A list of values that one call works on. It knows whether it is in order, each value once; then look-ups are
+/// A list of values that a single call works on. It records whether it is in order, each value once; if so, look-ups are
 /// logarithmic.
 #[derive(Drop)]
 pub struct ValueList {
@@ -39,7 +39,7 @@ impl Model for ValueList {
 }
 
 impl ValueList {
-    /// The values of a `Vec`. Linear, and takes no memory.
+    /// Makes a list of the values of a `Vec`. Linear, and takes no memory.
     pub fn of(items: Vec<Value>) -> ValueList
         ensures items { result ≡ items.items }
     {
@@ -47,7 +47,7 @@ impl ValueList {
         ValueList { items, rising }
     }
 
-    /// The list as a `Vec`. Takes no memory.
+    /// Returns the list as a `Vec`. Takes no memory.
     pub fn into_vec(self) -> Vec<Value>
         ensures items { result.items ≡ self }
     {
@@ -55,14 +55,14 @@ impl ValueList {
         items
     }
 
-    /// The values, as they stand. Takes no memory.
+    /// Returns the values, unchanged. Takes no memory.
     pub fn as_slice(&self) -> &[Value]
         ensures items { result.now ≡ self.now }
     {
         self.items.as_slice()
     }
 
-    /// Whether a value of the list is the same as this one. Logarithmic where the list is in order, and else linear.
+    /// Whether the list has a value that is the same as this one. Logarithmic if the list is in order, and linear otherwise.
     /// Takes no memory.
     pub fn have(&self, v: &Value) -> bool
         ensures value { result ≡ list_any (λ w. same w v.now) self.now }
@@ -74,7 +74,7 @@ impl ValueList {
     }
 }
 
-/// The values in order, each once. For n values it takes n log n steps.
+/// Returns the values in order, each once. For n values it takes n log n steps.
 pub fn distinct(alloc: Global, values: Vec<Value>) -> Result<ValueList, NoMemory>
     ensures meaning { IfOk result (λ r. (z : Datum) → list_any (λ v. same v z) r ≡ list_any
         (λ v. same v z) values.items) }
@@ -86,7 +86,7 @@ pub fn distinct(alloc: Global, values: Vec<Value>) -> Result<ValueList, NoMemory
     Ok(ValueList::of(kept))
 }
 
-/// The values of a sorted list, each once.
+/// Returns the values of a sorted list, each once.
 fn without_repeats(alloc: Global, values: Vec<Value>) -> Result<Vec<Value>, NoMemory>
     requires sorted { IsSortedBy (λ v w. is_lt (value_order v w)) values.items }
     ensures meaning { IfOk result (λ r. (z : Datum) → list_any (λ v. same v z) r.items ≡ list_any
@@ -100,7 +100,7 @@ fn without_repeats(alloc: Global, values: Vec<Value>) -> Result<Vec<Value>, NoMe
     Ok(kept)
 }
 
-/// Adds a value, unless it is the last.
+/// Adds a value, unless it is already the last.
 pub fn put_new(kept: &mut Vec<Value>, v: Value) -> Result<(), NoMemory>
     ensures meaning { IfOk result (λ _. (z : Datum) → list_any
         (λ w. same w z) kept.new.items ≡ (list_any (λ w. same w z) kept.old.items || same v z)) }
@@ -116,7 +116,7 @@ pub fn put_new(kept: &mut Vec<Value>, v: Value) -> Result<(), NoMemory>
     Ok(())
 }
 
-/// Whether the last value of the list is the same.
+/// Whether the last value of the list is the same as `v`.
 fn is_last(kept: &[Value], v: &Value) -> bool
     ensures known { result ≡ true → (z : Datum) →
         list_any (λ w. same w z) kept.now ≡ (list_any (λ w. same w z) kept.now || same v.now z) }
@@ -129,7 +129,7 @@ fn is_last(kept: &[Value], v: &Value) -> bool
     same_value(&kept[kept.len() - 1], v)
 }
 
-/// Whether the list has a value that is the same.
+/// Whether the list has a value that is the same as `v`.
 pub fn has(items: &[Value], v: &Value) -> bool
     ensures { result ≡ list_any (λ w. same w v.now) items.now }
 {
@@ -141,7 +141,7 @@ pub fn has(items: &[Value], v: &Value) -> bool
     false
 }
 
-/// The same of a list in order.
+/// Like `has`, for a list in order.
 pub fn has_in_order(items: &[Value], v: &Value) -> bool
     requires { Rise items.now }
     ensures { result ≡ list_any (λ w. same w v.now) items.now }
@@ -149,7 +149,7 @@ pub fn has_in_order(items: &[Value], v: &Value) -> bool
     place_in_order(items, v).is_some()
 }
 
-/// Where a list in order has the value, by halves. Takes no memory.
+/// Returns the index of the value in a list in order, found by binary search. Takes no memory.
 pub fn place_in_order(items: &[Value], v: &Value) -> Option<usize>
     requires { Rise items.now }
     ensures { MatchOption result (list_any (λ w. same w v.now) items.now ≡ false)

@@ -1,5 +1,4 @@
--- Lemmas of aligned_laws.
--- Lemmas: the tokens of alignments, the trees of nodes, the tokens of forms.
+-- Lemmas of aligned_laws: the tokens of alignments, the trees of nodes, the tokens of forms.
 pub mod PairLemmas
 pub mod SpotLemmas
 pub mod NodeLemmas

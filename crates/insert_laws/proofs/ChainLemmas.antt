@@ -1,5 +1,5 @@
--- At each rule to which the rules of a patch come, the text is read, and environments have terms of metavariables. So its touches are
--- instantiated.
+-- At each rule that the run of a patch reaches, the text is read, and environments give metavariables only terms. So the
+-- plus code at its touches is instantiated.
 use Rattle.std.proofs.Common.{◌≡◌, ℕ, Bool, true, false, ◌&&◌, sym, subst, List, [], ◌∷◌, None}
 use Rattle.std.specs.Prelude.{All}
 use Rattle.std.proofs.lemmas.List.Elements.{All-nil, All-cons, All-head, All-tail, All-weaker, All-contains}

@@ -1,4 +1,5 @@
--- Lemmas: which variables are metavariables of a patch, plus code with terms, what a touch names, the rules of a patch, the chain.
+-- Lemmas: the variables that are metavariables of a patch, plus code with terms, the variables that a touch uses, the rules
+-- of a patch, the chain.
 pub mod KindLemmas
 pub mod PlusLemmas
 pub mod NamedLemmas

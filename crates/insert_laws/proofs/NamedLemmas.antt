@@ -1,4 +1,4 @@
--- Pattern tokens that take part at a touch: the plus code at them is used in the pattern of the touched atom.
+-- The plus code at the pattern tokens of a touch is used in the pattern of the touched atom.
 use Rattle.std.proofs.Common.{◌≡◌, ℕ, zero, suc, ◌+◌, ◌<◌, ◌^◌, Bool, true, false, not, ◌&&◌, ◌||◌, cond, eqb, refl, sym, ap, ◌∙◌, subst, arith}
 use Rattle.std.proofs.Common.{⊎_elim, List, [], ◌∷◌, ◌++◌, map, length, get_or, Option, None, Some, slice_get, Contains, if◌then◌else◌}
 use Rattle.std.specs.Prelude.{All, option_and_then, nat_lt, nat_eq}

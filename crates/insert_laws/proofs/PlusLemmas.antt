@@ -1,4 +1,4 @@
--- Each metavariable of a block of plus code has a term, where those of the patch have that stand in the block.
+-- Each metavariable of a block of plus code has a term, if the metavariables of the patch in the block have terms.
 use Rattle.std.proofs.Common.{◌≡◌, ℕ, zero, suc, Bool, true, false, not, ◌&&◌, cond, refl, sym, ap, ◌∙◌, subst, ⊎_elim, List, [], ◌∷◌, Option, None}
 use Rattle.std.proofs.Common.{Some, slice_get, if◌then◌else◌}
 use Rattle.std.specs.Prelude.{All, option_and_then, nat_lt, length, slice_index, is_some, ◌-◌}

@@ -1,4 +1,4 @@
--- What each rule of a patch that is read has, with forms or without.
+-- Properties of each rule of a patch that is read, with forms or without.
 use Rattle.std.proofs.Common.{◌≡◌, ℕ, ◌*◌, Bool, true, false, not, ◌&&◌, refl, sym, ap, ◌∙◌, subst, ⊎_elim, List, [], ◌∷◌, ◌++◌, map, length, Option}
 use Rattle.std.proofs.Common.{None, Some, slice_get}
 use Rattle.std.specs.Prelude.{All, nat_eq, is_some}

@@ -1,4 +1,3 @@
--- Lemmas of scope_laws.
--- Lemmas: the variables of blocks, and those of atoms.
+-- Lemmas of scope_laws: the variables of blocks, and those of atoms.
 pub mod BlockLemmas
 pub mod CoverLemmas

@@ -1,5 +1,4 @@
--- Lemmas of term_laws.
--- Lemmas: forms that fit trees, and trees at nodes; atoms that match; formulas.
+-- Lemmas of term_laws: forms that fit trees, and trees at nodes; atoms that match; formulas.
 pub mod FitLemmas
 pub mod HeldLemmas
 pub mod AtomLemmas

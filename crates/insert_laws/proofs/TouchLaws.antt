@@ -1,5 +1,4 @@
--- Lemmas of touch_laws.
--- Lemmas: environments, choices of exported values, trees of witnesses, forests, one rule.
+-- Lemmas of touch_laws: environments, choices of exported values, trees of witnesses, forests, one rule.
 pub mod EnvLemmas
 pub mod ChoiceLemmas
 pub mod TreeLemmas

@@ -1,3 +1,2 @@
--- Definitions of aligned_laws.
--- What the laws rest on: tokens among what is compared of a form, and trees of heads.
+-- Definitions of aligned_laws. What the laws rest on: tokens of the compared part of a form, and trees of heads.
 pub mod Compared

@@ -1,4 +1,4 @@
--- Touches at which each metavariable of the plus code that comes in has a term.
+-- Touches at which each metavariable of the inserted plus code has a term.
 use Rattle.std.specs.Prelude.{◌≡◌, Bool, true, false, List, [], ◌∷◌, Option, None, Some, All}
 use Rattle.c_terms.specs.declared.token.Token.{Token}
 use Rattle.c_terms.specs.declared.tree.Tree.{Tree}
@@ -32,13 +32,13 @@ module _ (decls : List VarDecl) (env : Environment) where
   AreInstantiatedLines [] = Unit {0}
   AreInstantiatedLines (line ∷ lines) = AreInstantiatedTokens line.tokens × AreInstantiatedLines lines
 
-  -- so has each metavariable of the block, if there is one
+  -- each metavariable of the block, if there is one, has a value, and it is a term
   abbrev pub IsInstantiatedBlock : Option PlusBlock → Type 0
   IsInstantiatedBlock None = Unit {0}
   IsInstantiatedBlock (Some block) = AreInstantiatedLines block.lines
 
--- At each place where the edit of the touch puts plus code in, each metavariable of that code has a value at the touch, and it is a
--- term.
+-- At each place where the edit of the touch inserts plus code, each metavariable of that code has a value at the touch, and
+-- it is a term.
 abbrev pub IsInstantiated : Rule → List Item → List TextPiece → Touched → Type 0
 IsInstantiated rule items pieces t =
     All (λ s. IsInstantiatedBlock rule.vars t.env (block_of rule.tokens s)) (all_spots rule.tokens

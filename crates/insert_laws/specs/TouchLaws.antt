@@ -1,3 +1,3 @@
--- Definitions of touch_laws.
--- What the law rests on: environments that give metavariables terms, and touches at which they have them.
+-- Definitions of touch_laws. What the law rests on: environments that give metavariables only terms, and touches at which
+-- they have terms.
 pub mod Metas

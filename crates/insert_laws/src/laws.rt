@@ -1,4 +1,4 @@
-// What stands for the metavariables of plus code. The function does nothing.
+// A law of the values of the metavariables of plus code. The function does nothing.
 ghost use Rattle.std.specs.Prelude.{ℕ, List, ◌∷◌, All};
 ghost use Rattle.smpl_patch.specs.declared.rule.Iso.{Iso as Isomorphism};
 ghost use Rattle.smpl_patch.specs.declared.rule.Rule.{Rule as PatchRule};
@@ -25,12 +25,13 @@ use smpl_body::bodies_are_parted_once;
 use smpl_lexer::patch_is_read_once;
 use sound_laws::spelled_patches_are_sound;
 
-/// Of each patch that is read, over each text, at each rule to which its rules come, at each touch of its witnesses: each metavariable
-/// of each block of plus code that the edit of the touch puts in has a value there, and this value is a term. So it comes in as the
-/// text of a term, and never as nothing for want of one. The term of a list variable may be a run of no members, whose text is empty.
+/// For each patch that is read, over each text, at each rule that the run reaches, at each touch of its witnesses: each
+/// metavariable of each block of plus code that the edit of the touch inserts has a value there, and this value is a term.
+/// So it is inserted as the text of a term, and is never left out because it has none. The term of a list variable may be a
+/// run of no members, whose text is empty.
 ///
-/// - `read`: of a patch that bytes spell.
-/// - `forms`: of such a patch with all forms, under whatever isomorphisms.
+/// - `read`: for a patch that bytes spell.
+/// - `forms`: for such a patch with all forms, under any isomorphisms.
 ///
 /// Does nothing.
 pub fn plus_code_is_instantiated()

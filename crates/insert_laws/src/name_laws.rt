@@ -1,6 +1,6 @@
 //! The names that a patch declares are words: none begins with `{`, as the hidden variables of blocks do.
 //!
-//! - [`declared_names_are_words`]: so it is of each patch that bytes spell.
+//! - [`declared_names_are_words`]: this holds of each patch that bytes spell.
 //!
 //! The function does nothing.
 #![tactic(auto)]

@@ -1,7 +1,7 @@
-//! What metavariables have as values, where forms fit and formulas hold: terms, and no places.
+//! The values of metavariables, when forms fit and formulas hold, are terms, not places.
 //!
-//! - [`metavariables_have_terms`]: where a form fits, what is sure in it and is no position has a term.
-//! - [`bound_metavariables_have_terms`]: so has, where a formula holds, what it binds.
+//! - [`metavariables_have_terms`]: if a form fits, each variable that is sure in it and no position has a term.
+//! - [`bound_metavariables_have_terms`]: if a formula holds, each variable that it binds has one too.
 //!
 //! The functions do nothing.
 #![tactic(auto)]

@@ -1,6 +1,7 @@
 //! The metavariables that the pattern of a touched atom uses have terms at the touch.
 //!
-//! - [`touches_show_terms`]: at the touches of a rule's witnesses, and so it stays in the environments after the rule.
+//! - [`touches_show_terms`]: this holds at the touches of a rule's witnesses, and the environments after the rule preserve
+//!   it.
 //!
 //! The function does nothing.
 #![tactic(auto)]

@@ -1,4 +1,4 @@
--- Room for forms.
+-- How many more forms are allowed.
 use Rattle.std.proofs.Common.{◌≡◌, ℕ, ◌+◌, ◌<◌, ◌≤◌, List, [], ◌∷◌, length, refl, ap, arith, Option, Some, None}
 use Rattle.std.specs.Prelude.{slice_get}
 use Rattle.c_terms.specs.declared.tree.Tree.{Tree}
@@ -15,7 +15,7 @@ pub no_room : (room : ℕ) (list : List Tree) (f : FormsFault) → Refused room 
 no_room room list fault.TooMany h = h
 no_room room list fault.NoMemory h = tt
 
--- where there is no room for a part there is none for the whole
+-- if too many forms are left for a part, there are too many for the whole
 pub no_room_more : (room left used n all : ℕ) (f : FormsFault) → left + used ≡ room → used + n ≤ all → NoRoom left n f → NoRoom room all f
 no_room_more room left used n all fault.TooMany e h r = omega arith
 no_room_more room left used n all fault.NoMemory e h r = tt

@@ -1,4 +1,4 @@
--- What bodies keep as their patterns get forms: where dots stand, how many branches there are, the numbers of atoms.
+-- What bodies keep when their patterns get forms: where dots are, how many branches there are, the numbers of atoms.
 use Rattle.std.proofs.Common.{◌≡◌, ℕ, ◌+◌, suc, Bool, true, false, not, ◌&&◌, Option, Some, None, List, [], ◌∷◌, ◌++◌, map, nat_eq, refl, sym, ap, ◌∙◌}
 use Rattle.std.specs.Prelude.{nat_le}
 use Rattle.std.specs.List.{list_any}
@@ -19,7 +19,7 @@ any-atoms : (f : Pattern → Pattern) → ((p : Pattern) → (f p).atom ≡ p.at
 any-atoms f e n [] = refl
 any-atoms f e n (p ∷ ps) = let a = e p in let b = any-atoms f e n ps in cc
 
--- numbers of atoms that differ go on to differ
+-- numbers of atoms that differ still differ
 pub atoms-differ : (f : Pattern → Pattern) → ((p : Pattern) → (f p).atom ≡ p.atom) → (ps : List Pattern)
     → none_alike (λ (p : Pattern) (q : Pattern). nat_eq p.atom q.atom) (map f ps) ≡ none_alike (λ (p : Pattern) (q : Pattern). nat_eq p.atom q.atom) ps
 atoms-differ f e [] = refl

@@ -1,4 +1,4 @@
--- Bodies in which each pattern has the forms of its first one.
+-- Bodies in which each pattern has the forms of its first form.
 use Rattle.std.specs.Prelude.{ℕ, ◌+◌, Option, None, Some, List, [], ◌∷◌, length}
 use Rattle.c_terms.specs.declared.tree.Tree.{Tree}
 use Rattle.smpl_patch.specs.declared.pattern.Pattern.{Pattern}
@@ -37,7 +37,7 @@ module _ (isos : List Iso) (tokens : List PatToken) where
     expanded_bodies NoMore = NoMore
     expanded_bodies (More b bs) = More (expanded_body b) (expanded_bodies bs)
 
-  -- how many forms there are
+  -- the number of forms
   abbrev pub forms_pattern : Pattern → ℕ
   forms_pattern p = length (forms_of_first p.forms)
 

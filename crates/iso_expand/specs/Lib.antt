@@ -1,7 +1,7 @@
--- What public contracts rest on, in reading order: bodies with all forms, rules and patches with all forms.
+-- What the public contracts rest on, in reading order: bodies with all forms, rules and patches with all forms.
 pub mod Bodies
 pub mod Patches
--- For inside use: what the parts answer.
+-- Internal: what the parts return.
 pub mod Stepped
--- What iso_forms defines.
+-- The definitions of iso_forms.
 pub mod IsoForms

@@ -1,4 +1,4 @@
--- Patches in which each pattern has the forms of its first one, and rules that would have too many.
+-- Patches in which each pattern has the forms of its first form, and rules that would have too many.
 use Rattle.std.specs.Prelude.{ℕ, ◌≡◌, ◌<◌, ◌≤◌, ⊤, List, [], ◌∷◌, ◌++◌, length}
 use Rattle.smpl_patch.specs.declared.elem.Elem.{Elem}
 use Rattle.smpl_patch.specs.declared.pattern.PatToken.{PatToken}
@@ -12,17 +12,17 @@ use Rattle.iso_expand.specs.declared.fault.ExpandFault.{ExpandFault}
 use Rattle.iso_expand.specs.declared.fault.ExpandFault.TheVariants as fault
 use Rattle.iso_expand.specs.Bodies.{expanded_body, forms_body}
 
--- the most forms that the patterns of a rule may have together
+-- the largest number of forms that the patterns of a rule may have together
 abbrev pub most_forms : ℕ
 most_forms = 10000
 
--- what is answered of a rule of this number
+-- what is returned for the rule with this number
 abbrev pub fault_at : FormsFault → ℕ → ExpandFault
 fault_at forms_fault.TooMany n = fault.TooManyForms n
 fault_at forms_fault.NoMemory n = fault.NoMemory
 
 module _ (isos : List Iso) where
-  -- how many forms the patterns of a rule have together
+  -- the number of forms of a rule's patterns together
   abbrev pub forms_rule : Rule → ℕ
   forms_rule r = forms_body isos r.tokens (body r.body)
 
@@ -56,7 +56,7 @@ module _ (isos : List Iso) where
   abbrev pub IsExpandedBody : List PatToken → List Elem → List Elem → Type 0
   IsExpandedBody tokens b c = body c ≡ expanded_body isos tokens (body b)
 
-  -- the rule of this number is the first that has too many forms
+  -- the rule with this number is the first that has too many forms
   pub record IsFirstMany (rules : List Rule) (n : ℕ) : Type 0 where
     pub before : List Rule
     pub rule : Rule

@@ -126,7 +126,7 @@ fn expanded_element(
     }
 }
 
-/// The body with all forms, for which there is to be room.
+/// Returns the body with all forms, and lowers `room` by their number; fails if there are more than `room`.
 #[cycle(expand)]
 pub fn expanded_body(
     alloc: Global,

@@ -47,7 +47,7 @@ pub fn copy_tokens(alloc: Global, tokens: &[PatToken]) -> Result<Items<PatToken>
     Ok(Items::from_vec(copies))
 }
 
-/// Recurses once a level.
+/// Returns an equal dependency. Recurses once for each level.
 pub fn copy_dep(alloc: Global, dep: &Dep) -> Result<Dep, NoMemory>
     ensures { IfOk result (λ copy. copy ≡ dep.now) }
 {

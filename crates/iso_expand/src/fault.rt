@@ -7,9 +7,9 @@ use std::alloc::{AllocError, AllocFailed};
 /// Why a patch is not expanded.
 #[derive(Clone, Copy, Debug, PartialEq, Eq)]
 pub enum ExpandFault {
-    /// The patterns of this rule have more than 10,000 forms together, and those of no rule before it do.
+    /// The patterns of this rule have more than 10,000 forms together, and those of no earlier rule do.
     TooManyForms(u32),
-    /// Memory was refused.
+    /// Out of memory.
     NoMemory,
 }
 

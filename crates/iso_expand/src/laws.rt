@@ -1,4 +1,4 @@
-// What patches keep as their patterns get forms.
+// What patches keep when their patterns get forms.
 ghost use Rattle.std.specs.Prelude.{◌≡◌, List, Some, map, nat_eq, slice_get};
 ghost use Rattle.c_terms.specs.declared.tree.Tree.{Tree as Form};
 ghost use Rattle.smpl_patch.specs.declared.pattern.Pattern.{Pattern as Atom};
@@ -11,12 +11,12 @@ ghost use Rattle.smpl_patch.specs.Sound.{none_alike};
 ghost use Rattle.iso_expand.specs.Bodies.{expanded_pattern};
 ghost use Rattle.iso_expand.specs.Patches.{IsExpandedRule};
 
-/// What a rule with all forms keeps of the rule that it is made of.
+/// Proves what a rule with all forms keeps of the rule that it is made from.
 ///
 /// - `patterns`: its patterns are those of the rule with their forms, in the same order.
-/// - `first`: the first form of a pattern is the one that was the first.
-/// - `atoms`: its patterns have different numbers where those of the rule have.
-/// - `formed`: dots and nests stand where they may, and disjunctions and conjunctions have branches enough, where it is so in
+/// - `first`: the first form of a pattern stays the first.
+/// - `atoms`: its patterns have different numbers if those of the rule have.
+/// - `formed`: dots and nests are in allowed places, and disjunctions and conjunctions have enough branches, if it is so in
 ///   the rule.
 ///
 /// Does nothing.

@@ -1,12 +1,12 @@
 //! Gives the patterns of a patch their forms under isomorphisms.
 //!
-//! - [`expand`] answers the patch in which each pattern has all its forms, or the first rule that would have too many.
-//! - [`rules_keep_their_shape`] is a law: what a rule keeps as its patterns get forms.
+//! - [`expand`] returns the patch in which each pattern has all its forms, or the first rule that would have too many.
+//! - [`rules_keep_their_shape`] is a law: what a rule keeps when its patterns get forms.
 //!
-//! Under `X == NULL <=> NULL == X => !X` the pattern `f(p == NULL);` gets the forms `f(NULL == p);` and `f(!p);` beside
-//! its own.
+//! Under `X == NULL <=> NULL == X => !X` the pattern `f(p == NULL);` gets the forms `f(NULL == p);` and `f(!p);`
+//! besides its own.
 //!
-//! The patterns of a rule may have 10,000 forms together. What the forms of a tree are is said by iso_forms.
+//! The patterns of a rule may have 10,000 forms together. The forms of a tree are defined by iso_forms.
 //!
 //! Its folders:
 //!

@@ -13,10 +13,10 @@ use smpl_patch::{Elem, Iso, PatToken, Patch, Rule};
 use sqlite_items::Items;
 use std::alloc::Global;
 
-/// The most forms that the patterns of a rule may have together.
+/// The largest number of forms that the patterns of a rule may have together.
 const MOST_FORMS: usize = 10_000;
 
-/// The body with all forms, of which there are not too many.
+/// Returns the body with all forms, unless there are too many.
 fn body_in_room(
     alloc: Global,
     isos: &[Iso],
@@ -52,7 +52,7 @@ fn expanded_rule(alloc: Global, isos: &[Iso], rule: &Rule) -> Result<Rule, Forms
     })
 }
 
-/// Why this rule is refused.
+/// Returns why this rule is refused.
 fn fault_of(fault: FormsFault, rule: u32) -> ExpandFault
     ensures { result ≡ of.fault_at fault rule }
 {
@@ -77,10 +77,11 @@ fn expanded_rules(alloc: Global, isos: &[Iso], rules: &[Rule]) -> Result<Items<R
     Ok(out)
 }
 
-/// The patch in which each pattern has the forms of its first one, in their order, the first one first. Nothing else changes.
+/// Returns the patch in which each pattern has the forms of its first form, in their order, the first form first. Nothing else
+/// changes.
 ///
 /// - `TooManyForms`: the first rule whose patterns have more than 10,000 forms together.
-/// - `NoMemory`: memory was refused.
+/// - `NoMemory`: out of memory.
 pub fn expand(alloc: Global, patch: Patch, isos: &[Iso]) -> Result<Patch, ExpandFault>
     requires { length patch.rules < 4294967296 }
     ensures patch { IfOk result (of.IsExpanded isos.now patch) }

@@ -1,4 +1,4 @@
--- Tokens that are parted up to some place.
+-- Tokens that are split at arrows up to some place.
 use Rattle.std.proofs.Common.{◌≡◌, ℕ, ◌+◌, ◌<◌, Bool, List, [], ◌∷◌, ◌++◌, length, drop, Option, Some, None, refl, sym, ap, ◌∙◌, subst, append_assoc, get_or, arith}
 use Rattle.std.proofs.lemmas.List.{append-nil, drop-drop, drop_more}
 use Rattle.smpl_lexer.specs.declared.token.PatchToken.{PatchToken}
@@ -8,7 +8,7 @@ use Rattle.iso_file.specs.Sides.{arrow_of, sides_in, arrows_in}
 use Rattle.iso_file.proofs.Groups.{join_put}
 use Rattle.iso_file.specs.Stepped.{join, arrow_first, with_arrow, with_token, sides_with}
 
--- what is parted so far, and what is left
+-- what is split so far, and what is left
 pub record Parts (all left : List PatchToken) (p : Parting) : Type 0 where
   pub sides : sides_with p (sides_in left) ≡ sides_in all
   pub both : p.both ++ arrows_in left ≡ arrows_in all
@@ -74,7 +74,7 @@ parts_last all left p so_far none =
     let s = subst (λ (l : List PatchToken). Parts all l p) none so_far in
     (sym (append-nil p.both) ∙ s.both, ap (λ (l : List PatchToken). p.sides ++ l ∷ []) (sym (append-nil p.side)) ∙ s.sides)
 
--- ---- one side more than arrows
+-- ---- one more side than arrows
 
 put_length : (t : PatchToken) (gs : List (List PatchToken)) → Some_more gs → length (put t gs) ≡ length gs
 put_length t gs s = ap (λ (l : List (List PatchToken)). length (put t l)) s.is ∙ sym (ap (λ (l : List (List PatchToken)). length l) s.is)

@@ -49,7 +49,7 @@ isos_append [] bs (x ∷ xs) ys h k = absurd h
 isos_append (a ∷ these) bs [] ys h k = absurd h
 isos_append (a ∷ these) bs (x ∷ xs) ys h k = (h.0, isos_append these bs xs ys h.1 k)
 
--- a fault behind blocks in which nothing is wrong
+-- a fault after blocks without faults
 pub fault_in : (done more rest : List (List (List PatchToken))) (isos : List Iso) (f : IsoFault) → AreIsos done isos → IsFirstBlockFault more f
     → IsFirstBlockFault (done ++ (more ++ rest)) f
 fault_in done more rest isos f fine w = record {
@@ -201,7 +201,7 @@ pub no_lines : (lines : List (List PatchToken)) → length lines ≡ 0 → lines
 no_lines [] e = refl
 no_lines (l ∷ ls) e = absurd (omega (arith, e))
 
--- ---- steps, with what the reader knows of them
+-- ---- steps, with what the reader knows about them
 
 here_is : (all : List (List PatchToken)) (i : ℕ) (seen here : Bool) (line item : List PatchToken) → line ≡ item → item ≡ get_or all i item
     → here ≡ seen || is_header line → here ≡ seen || is_header (get_or all i item)
@@ -245,7 +245,7 @@ pub led_along : (all : List (List PatchToken)) (isos same : List Iso) (start oth
 led_along all isos same start other i seen e s led =
     subst (λ (x : List Iso). Led all x start i seen) (sym e) (subst (λ (n : ℕ). Led all same n i seen) (sym s) led)
 
--- beyond the end a range has no more
+-- a range doesn't grow beyond the end
 pub end_range : (all : List (List PatchToken)) (start i : ℕ) → length all ≤ i → slice_range all start (length all) ≡ slice_range all start i
 end_range all start i h =
     take_all (length all - start) (drop start all) (omega (arith, length-drop start all)) ∙ sym (take_all (i - start) (drop start all) (omega (arith, h, length-drop start all)))

@@ -1,5 +1,5 @@
--- Sides up to one between which and the next a variable is lost: each has all variables of those behind it, so of two of
--- them the second loses one where the first does.
+-- Sides up to the first one between which and the next a variable is lost: each has all variables of those after it, so
+-- if one of them loses a variable, each later one does too.
 use Rattle.std.proofs.Common.{◌≡◌, ℕ, zero, suc, ◌+◌, ◌-◌, ◌<◌, ◌≤◌, ◌⊎◌, inl, inr, Bool, true, false, ◌&&◌, ◌||◌, true≢false, List, [], length, get_or, slice_get, Option, Some, None, is_some, refl, sym, ap, ◌∙◌, subst, arith}
 use Rattle.std.proofs.lemmas.List.{get_or_read}
 use Rattle.std.proofs.lemmas.Option.{slice_get-get_or, get_or_from_slice_get, slice_get_within}
@@ -33,7 +33,7 @@ module _ (vars : List VarDecl) (sides : List (List PatchToken)) (arrows : List B
   abbrev Kept : ℕ → ℕ → Type 0
   Kept i j = Keeps vars (side_at sides i) (side_at sides j)
 
-  -- what a pair that loses a variable loses
+  -- what is lost by a pair that loses a variable
   pub loses_at : (i j at : ℕ) → Loses vars sides arrows i j at → lost_at i j ≡ Some at
   loses_at i j at l =
       ap (λ s. lost_between vars s (side_at sides j)) (get_or_from_slice_get sides i l.from [] l.from_is)
@@ -121,7 +121,7 @@ module _ (vars : List VarDecl) (sides : List (List PatchToken)) (arrows : List B
         let j_in = second_within i j at loses in
         kept_loses i j at (within i j (omega arith) (omega arith) loses.may) loses
 
-  -- what the first of the sides that loses a variable loses
+  -- what is lost by the first of the sides that loses a variable
   pub first_lost : (i at : ℕ) → ((l : ℕ) → l < i → IsLostFrom vars sides arrows l None) → IsLostAt vars sides arrows i at → FirstLost vars sides arrows at
   first_lost i at before l = record { i = i; j = l.j; loses = l.loses; least = λ a b n sooner other. by a b n other sooner }
     where
@@ -129,7 +129,7 @@ module _ (vars : List VarDecl) (sides : List (List PatchToken)) (arrows : List B
       by a b n other (inl less) = before a less b n other
       by a b n other (inr (same, less)) = l.least b n less (subst (λ m. Loses vars sides arrows m b n) same other)
 
-  -- behind a side that loses nothing, though between it and the next a variable is lost, the next loses one
+  -- after a side that loses nothing, if a variable is lost between it and the next, the next loses one
   pub next_lost : (k : ℕ) (found : Option ℕ) → length sides ≡ length arrows + 1 → IsBreak vars sides arrows k → IsLostFrom vars sides arrows k None
       → IsLostFrom vars sides arrows (k + 1) found → IsLost vars sides arrows found
   next_lost k (Some at) long broken none found =
@@ -174,7 +174,7 @@ module _ (vars : List VarDecl) (sides : List (List PatchToken)) (arrows : List B
   pub none_here : (i j at : ℕ) → lost_at i j ≡ None → Loses vars sides arrows i j at → ⊥
   none_here i j at e loses = none_not_some (lost_at i j) at e (loses_at i j at loses)
 
-  -- ---- what a look at two sides says
+  -- ---- what a comparison of two sides says
 
   pub looked : (i j : ℕ) (one a two b : List PatchToken) (o : Option ℕ) → o ≡ lost_between vars one two → one ≡ a → a ≡ get_or sides i a → i < length sides
       → two ≡ b → b ≡ get_or sides j b → j < length sides → o ≡ lost_at i j

@@ -20,14 +20,14 @@ sign text at = made token.Punct text at
 
 -- ---- lines
 
--- a comment that goes over lines ends one, and an empty line is none
+-- a comment that spans lines ends a line, and an empty line doesn't count
 lines_of_pieces : filled (groups 0
     (record { kind = kind.Name; text = codes "a" } ∷ record { kind = kind.Comment; text = 47 ∷ 42 ∷ 10 ∷ 42 ∷ 47 ∷ [] }
     ∷ record { kind = kind.Blank; text = 10 ∷ 10 ∷ [] } ∷ record { kind = kind.Name; text = codes "b" } ∷ []))
     ≡ (name (codes "a") 0 ∷ []) ∷ (name (codes "b") 8 ∷ []) ∷ []
 lines_of_pieces = refl
 
--- a blank within a line is none
+-- a blank within a line doesn't end it
 one_line : filled (groups 0
     (record { kind = kind.Name; text = codes "a" } ∷ record { kind = kind.Blank; text = codes " " } ∷ record { kind = kind.Name; text = codes "b" } ∷ []))
     ≡ (name (codes "a") 0 ∷ name (codes "b") 2 ∷ []) ∷ []
@@ -45,11 +45,11 @@ header at = made token.Stray (codes "@") at ∷ name (codes "r") (at + 1) ∷ ma
 two_blocks : blocks (word 0 ∷ header 11 ∷ word 20 ∷ header 31 ∷ []) ≡ (word 0 ∷ header 11 ∷ []) ∷ (word 20 ∷ header 31 ∷ []) ∷ []
 two_blocks = refl
 
--- the line before the first does not
+-- the line before the first header does not
 one_block : blocks (word 0 ∷ word 11 ∷ header 22 ∷ []) ≡ (word 0 ∷ word 11 ∷ header 22 ∷ []) ∷ []
 one_block = refl
 
--- of two headers one after the other the first is the line before the second
+-- of two consecutive headers, the first is the line before the second
 headers_alone : blocks (header 0 ∷ header 4 ∷ []) ≡ (header 0 ∷ header 4 ∷ []) ∷ []
 headers_alone = refl
 
@@ -67,7 +67,7 @@ three_sides : sides_in (name (codes "X") 0 ∷ sign (codes "<=") 2 ∷ sign (cod
     ≡ (name (codes "X") 0 ∷ []) ∷ (name (codes "Y") 6 ∷ []) ∷ (name (codes "Z") 11 ∷ []) ∷ []
 three_sides = refl
 
--- `X = > Y`: no arrow, since a blank stands in it
+-- `X = > Y`: no arrow, since there is a blank in it
 no_arrow : arrows_in (name (codes "X") 0 ∷ sign (codes "=") 2 ∷ sign (codes ">") 4 ∷ name (codes "Y") 6 ∷ []) ≡ []
 no_arrow = refl
 
@@ -92,6 +92,6 @@ var text = record { var = record { rule = 0; name = text }; kind = Meta meta.Exp
 lost : lost_between (var (codes "X") ∷ var (codes "Y") ∷ []) (name (codes "X") 0 ∷ []) (name (codes "X") 5 ∷ name (codes "Y") 7 ∷ name (codes "Y") 9 ∷ []) ≡ Some 7
 lost = refl
 
--- what is no variable is never lost
+-- a name that is no variable is never lost
 kept : lost_between (var (codes "X") ∷ []) (name (codes "X") 0 ∷ []) (name (codes "X") 5 ∷ name (codes "NULL") 7 ∷ []) ≡ None
 kept = refl

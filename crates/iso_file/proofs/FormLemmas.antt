@@ -22,7 +22,7 @@ use Rattle.iso_file.specs.Stepped.IsFormFault.{of_no_form as no_form_fault, lost
 some_same : (o : Option ℕ) (n m : ℕ) → o ≡ Some n → o ≡ Some m → n ≡ m
 some_same o n m h k = let e : Some n ≡ Some m = sym h ∙ k in cc
 
--- ---- behind `@@`
+-- ---- after `@@`
 
 pub under_none : (vars : List VarDecl) (tokens : List PatchToken) (both : List Bool) → both ≡ arrows_in tokens → length both ≡ 0 → Under vars tokens None
 under_none vars tokens both e none trees some are = let l : length both ≡ length (arrows_in tokens) = ap length e in omega arith
@@ -44,7 +44,7 @@ under_judged vars tokens sides both j b s a some is e =
       lost = subst (λ (ways : List Bool). IsLost vars (sides_in tokens) ways j.lost) a (subst (λ (ss : List (List PatchToken)). IsLost vars ss both j.lost) s is.lost);
     })
 
--- ---- behind `@ name @`
+-- ---- after `@ name @`
 
 pub behind_none : (lines : List (List PatchToken)) → second_at lines ≡ None → Behind lines None
 behind_none lines none vars sides arrows trees b = true≢false (sym (ap is_some b.second_is) ∙ ap is_some none)

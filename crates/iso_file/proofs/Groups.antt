@@ -1,4 +1,4 @@
--- Groups that go on with what stands before them.
+-- Groups that continue what is before them.
 use Rattle.std.proofs.Common.{◌≡◌, List, [], ◌∷◌, ◌++◌, refl, ap, append_assoc}
 use Rattle.iso_file.specs.Lines.{put, filled}
 use Rattle.iso_file.specs.Stepped.{join}

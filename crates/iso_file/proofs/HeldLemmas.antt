@@ -1,4 +1,4 @@
--- Names that are held, and variables among them.
+-- Names that a side contains, and variables among them.
 use Rattle.std.proofs.Common.{◌≡◌, ℕ, ◌+◌, ◌<◌, Bool, true, false, ◌&&◌, ◌||◌, not, if◌then◌else◌, true≢false, List, [], ◌∷◌, ◌++◌, length, get_or, drop, Some, refl, sym, ap, ◌∙◌}
 use Rattle.std.specs.Str.{bytes_eq}
 use Rattle.std.proofs.lemmas.Slice.Eq.{bytes_eq-Decides}
@@ -55,7 +55,7 @@ on_by : (x n q r : Bool) → n ≡ false → x || r ≡ x || (if n && q then tru
 on_by x false q r h = refl
 on_by x true q r h = absurd (true≢false h)
 
--- one more token, a name or another
+-- one more token, a name or not
 pub held_more : (held more : List (List ℕ)) (t : PatchToken) (rest : List PatchToken) (text : List ℕ) → is_name t ≡ true → more ≡ with_name held t.token.text
     → has_name more text || stands_in rest text ≡ has_name held text || stands_in (t ∷ rest) text
 held_more held more t rest text h e =

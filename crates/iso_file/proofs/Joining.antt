@@ -12,7 +12,7 @@ use Rattle.iso_file.specs.Lines.{Piece, joined, Cut, token_kind, part, put_piece
 use Rattle.iso_file.proofs.Groups.{join_put, filled_join, filled_more}
 use Rattle.iso_file.specs.Stepped.{ended_by, with_piece, lines_with}
 
--- however the rest is cut, the whole is
+-- however the rest is cut, the result is how the whole is cut
 pub record Leads (bytes : List ℕ) (start : ℕ) (c : Cutting) : Type 0 where
   pub within : start ≤ length bytes
   pub leads : (ps : List Piece) → joined ps ≡ drop start bytes → Cut ps → AreLinesOf bytes (lines_with c (groups start ps))

@@ -8,7 +8,7 @@ use Rattle.smpl_lexer.specs.Tokens.{is_name}
 use Rattle.smpl_meta.specs.Known.{var_named}
 use Rattle.iso_file.specs.Lost.{stands_in, is_variable, lost_between}
 
--- each variable of the second side stands in the first
+-- each variable of the second side occurs in the first
 pub record Keeps (vars : List VarDecl) (from to : List PatchToken) : Type 0 where
   pub has : (x : List ℕ) → is_some (var_named x vars) ≡ true → stands_in to x ≡ true → stands_in from x ≡ true
 

@@ -20,7 +20,7 @@ use Rattle.iso_file.specs.Stepped.{Decides, Tells}
 all_left : (n : ℕ) → n - 0 ≡ n
 all_left n = omega arith
 
--- all tokens are a range of them
+-- the range of all tokens is the tokens
 whole_range : (tokens : List Token) → slice_range tokens 0 (length tokens) ≡ tokens
 whole_range tokens = ap (λ n. take n tokens) (all_left (length tokens)) ∙ take-length tokens
 
@@ -49,7 +49,7 @@ reads_side vars side (Err TooDeep) found h e =
     let none : Decides (IsSide vars side) None = λ t s. absurd (let d = s.shallow in omega arith) in
     subst (λ o. Decides (IsSide vars side) o) (sym e) none
 
--- what is told of all tokens of a side
+-- what is decided about all tokens of a side
 pub decides : (vars : List VarDecl) (side : List PatchToken) (tokens : List Token) (names : List (List ℕ)) (r : Result Tree ParseFault) (found : Option Tree)
     → tokens ≡ map (made vars 0) side → names ≡ listed_names → Reads kinds.Expr names (slice_range tokens 0 (length tokens)) r → Tells r found
     → Decides (IsSide vars side) found
@@ -67,7 +67,7 @@ sides_more vars [] (t ∷ ts) side tree are is = absurd are
 sides_more vars (s ∷ ss) [] side tree are is = absurd are
 sides_more vars (s ∷ ss) (t ∷ ts) side tree are is = (are.0, sides_more vars ss ts side tree are.1 is)
 
--- where one of them has no tree, they have none
+-- if one of them has no tree, they have none
 pub no_sides : (vars : List VarDecl) (sides : List (List PatchToken)) (i : ℕ) (d : List PatchToken) → i < length sides
     → ((t : Tree) → IsSide vars (get_or sides i d) t → ⊥) → (trees : List Tree) → AreSides vars sides trees → ⊥
 no_sides vars [] i d within none trees are = absurd (omega (arith, within))

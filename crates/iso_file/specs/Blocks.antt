@@ -1,11 +1,11 @@
--- Blocks: the first begins at the file's first line, each other at the line before a line `@ name @` that is not the first
--- such line.
+-- Blocks: the first begins at the file's first line, and each other one begins at the line before a line `@ name @`
+-- that is not the first such line.
 use Rattle.std.specs.Prelude.{ℕ, ◌&&◌, ◌||◌, Bool, true, false, List, [], ◌∷◌, Option, Some, None}
 use Rattle.smpl_lexer.specs.declared.token.PatchToken.{PatchToken}
 use Rattle.smpl_lexer.specs.Tokens.{is_at, is_name}
 use Rattle.iso_file.specs.Lines.{put, filled}
 
--- `@ name @`, alone in its line
+-- `@ name @`, alone on its line
 abbrev pub is_header : List PatchToken → Bool
 is_header (first ∷ name ∷ last ∷ []) = is_at first && is_name name && is_at last
 is_header _ = false
@@ -24,7 +24,7 @@ abbrev pub begin : Bool → List (List (List PatchToken)) → List (List (List P
 begin true gs = [] ∷ gs
 begin false gs = gs
 
--- the lines of each block, the first of which may have begun before; whether a line `@ name @` stands before
+-- the lines of each block, the first of which may have begun earlier; `seen`: an earlier line is a line `@ name @`
 abbrev pub parts : Bool → List (List PatchToken) → List (List (List PatchToken))
 parts seen [] = [] ∷ []
 parts seen (l ∷ ls) = begin ((seen || is_header l) && header_next ls) (put l (parts (seen || is_header l) ls))

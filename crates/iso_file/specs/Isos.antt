@@ -30,13 +30,13 @@ AreSides vars [] (t ∷ ts) = ⊥
 AreSides vars (s ∷ ss) [] = ⊥
 AreSides vars (s ∷ ss) (t ∷ ts) = IsSide vars s t × AreSides vars ss ts
 
--- declarations of expressions, constants and identifiers, in which nothing is wrong
+-- well-formed declarations of expressions, constants and identifiers
 pub record AreVars (tokens : List PatchToken) (vars : List VarDecl) : Type 0 where
   pub kinds : are_of_kinds true tokens ≡ true
   pub decls : IsDecls [] 0 tokens vars
   pub have : have_kinds vars ≡ true
 
--- the lines behind `@ name @` are of the form: with these variables and sides
+-- the lines after `@ name @` are of the form: with these variables and sides
 pub record IsBehind (lines : List (List PatchToken)) (vars : List VarDecl) (sides : List (List PatchToken)) (arrows : List Bool) (trees : List Tree)
     : Type 0 where
   pub second : ℕ
@@ -58,7 +58,7 @@ pub record IsOfForm (block : List (List PatchToken)) (iso : Iso) (sides : List (
   pub name_is : header_name header ≡ Some iso.name
   pub behind : IsBehind lines iso.vars sides iso.both iso.sides
 
--- Nothing is wrong with the block, and this is its isomorphism.
+-- The block has no fault, and this is its isomorphism.
 pub record IsIso (block : List (List PatchToken)) (iso : Iso) : Type 0 where
   pub sides : List (List PatchToken)
   pub form : IsOfForm block iso sides
@@ -69,7 +69,7 @@ abbrev pub first_word : List (List PatchToken) → Option PatchToken
 first_word ((t ∷ ts) ∷ ls) = Some t
 first_word _ = None
 
--- The first that is wrong with a block: its first word, its form, then a variable that is lost.
+-- The first fault of a block: its first word, its form, then a variable that is lost.
 pub data IsBlockFault (block : List (List PatchToken)) : IsoFault → Type 0 where
   other_word : (t : PatchToken) → first_word block ≡ Some t → (is_word (codes "Expression") t ≡ true → ⊥)
       → IsBlockFault block (fault.NotExpression t.at)
@@ -105,7 +105,7 @@ pub record AreIsosOf (bytes : List ℕ) (isos : List Iso) : Type 0 where
   pub lines_are : AreLinesOf bytes lines
   pub isos_are : AreIsos (blocks lines) isos
 
--- This is the first that is wrong with a file: it is too long, or a block has a fault.
+-- The first fault of a file: it is too long, or a block has a fault.
 pub data IsFileFault (bytes : List ℕ) : IsoFault → Type 0 where
   too_long : most_bytes < length bytes → IsFileFault bytes fault.TooLong
   in_block : {f : IsoFault} → length bytes ≤ most_bytes → (lines : List (List PatchToken)) → AreLinesOf bytes lines

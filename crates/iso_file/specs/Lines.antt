@@ -1,5 +1,5 @@
--- A file is cut as C text, as a whole: blanks and comments are no tokens, also where a comment goes over lines. What is no
--- token of C is one that no form has.
+-- A file is cut as C text, as a whole: blanks and comments are not tokens, even if a comment spans several lines. Text
+-- that is no token of C counts as a token that no form has.
 use Rattle.std.specs.Prelude.{ℕ, ◌≡◌, ◌+◌, Bool, true, false, List, [], ◌∷◌, ◌++◌, length, Option, Some, None}
 use Rattle.c_terms.specs.declared.token.TokenKind.{TokenKind}
 use Rattle.c_terms.specs.declared.token.TokenKind.TheVariants as token
@@ -36,7 +36,7 @@ token_kind kind.Line = Some token.Stray
 token_kind kind.Blank = None
 token_kind kind.Comment = None
 
--- one more before the first of some groups
+-- prepends an item to the first of some groups
 abbrev pub put : {A : Type 0} → A → List (List A) → List (List A)
 put a [] = (a ∷ []) ∷ []
 put a (g ∷ gs) = (a ∷ g) ∷ gs
@@ -50,7 +50,7 @@ abbrev pub put_piece : Option TokenKind → List ℕ → ℕ → List (List Patc
 put_piece (Some k) text at gs = put (made k text at) gs
 put_piece None text at gs = part (has_newline text) gs
 
--- the tokens of each line, the first of which may have begun before
+-- the tokens of each line, the first of which may have begun earlier
 abbrev pub groups : ℕ → List Piece → List (List PatchToken)
 groups at [] = [] ∷ []
 groups at (p ∷ ps) = put_piece (token_kind p.kind) p.text at (groups (at + length p.text) ps)

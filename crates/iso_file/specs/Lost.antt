@@ -1,4 +1,4 @@
--- Variables that a side holds, and a side that may become it does not.
+-- Variables that a side contains and a side that may become it does not.
 use Rattle.std.specs.Prelude.{ℕ, ◌≡◌, ◌<◌, ◌≤◌, ◌⊎◌, ◌&&◌, not, if◌then◌else◌, Bool, true, false, List, [], ◌∷◌, Option, Some, None, is_some, slice_get}
 use Rattle.std.specs.Str.{bytes_eq}
 use Rattle.smpl_patch.specs.declared.pattern.VarDecl.{VarDecl}
@@ -6,7 +6,7 @@ use Rattle.smpl_lexer.specs.declared.token.PatchToken.{PatchToken}
 use Rattle.smpl_lexer.specs.Tokens.{is_name}
 use Rattle.smpl_meta.specs.Known.{var_named}
 
--- a name of this text stands in the side
+-- a name with this text occurs in the side
 abbrev pub stands_in : List PatchToken → List ℕ → Bool
 stands_in [] text = false
 stands_in (t ∷ ts) text = if is_name t && bytes_eq t.token.text text then true else stands_in ts text
@@ -14,7 +14,7 @@ stands_in (t ∷ ts) text = if is_name t && bytes_eq t.token.text text then true
 abbrev pub is_variable : List VarDecl → PatchToken → Bool
 is_variable vars t = is_name t && is_some (var_named t.token.text vars)
 
--- the first place in the second side of a variable that the first does not hold
+-- the first place in the second side of a variable that the first does not contain
 abbrev pub lost_between : List VarDecl → List PatchToken → List PatchToken → Option ℕ
 lost_between vars from [] = None
 lost_between vars from (t ∷ ts) =
@@ -28,7 +28,7 @@ BothWays arrows i j = (k : ℕ) → i ≤ k → k < j → slice_get arrows k ≡
 abbrev pub MayBecome : List Bool → (i j : ℕ) → Type 0
 MayBecome arrows i j = (i < j) ⊎ ((j < i) × BothWays arrows j i)
 
--- side i may become side j, which holds a variable that i does not hold, first at this place
+-- side i may become side j, which contains a variable that i does not contain, first at this place
 pub record Loses (vars : List VarDecl) (sides : List (List PatchToken)) (arrows : List Bool) (i j : ℕ) (at : ℕ) : Type 0 where
   pub may : MayBecome arrows i j
   pub from : List PatchToken

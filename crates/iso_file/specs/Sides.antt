@@ -8,17 +8,17 @@ use Rattle.smpl_lexer.specs.declared.token.PatchToken.{PatchToken}
 use Rattle.smpl_lexer.specs.Tokens.{is_at, is_word, is_sign}
 use Rattle.iso_file.specs.Lines.{put}
 
--- `Expression`, alone in its line
+-- `Expression`, alone on its line
 abbrev pub is_expression_line : List PatchToken → Bool
 is_expression_line (t ∷ []) = is_word (codes "Expression") t
 is_expression_line _ = false
 
--- `@@`, alone in its line
+-- `@@`, alone on its line
 abbrev pub is_second : List PatchToken → Bool
 is_second (first ∷ last ∷ []) = is_at first && is_at last
 is_second _ = false
 
--- how many lines stand before the first line `@@`
+-- how many lines are before the first line `@@`
 abbrev pub second_at : List (List PatchToken) → Option ℕ
 second_at [] = None
 second_at (l ∷ ls) = if is_second l then Some 0 else option_map (λ n. n + 1) (second_at ls)
@@ -27,12 +27,12 @@ abbrev pub concatenated : List (List PatchToken) → List PatchToken
 concatenated [] = []
 concatenated (l ∷ ls) = l ++ concatenated ls
 
--- ---- declarations: expressions, constants and identifiers alone
+-- ---- declarations: only expressions, constants and identifiers
 
 abbrev pub is_kind_word : PatchToken → Bool
 is_kind_word t = is_word (codes "expression") t || is_word (codes "constant") t || is_word (codes "identifier") t
 
--- each begins with such a word; whether one begins here
+-- each declaration begins with such a word; `begins` is whether one begins here
 abbrev pub are_of_kinds : Bool → List PatchToken → Bool
 are_of_kinds begins [] = true
 are_of_kinds begins (t ∷ ts) = if begins && not (is_kind_word t) then false else are_of_kinds (is_sign (codes ";") t) ts

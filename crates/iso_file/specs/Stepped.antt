@@ -1,4 +1,4 @@
--- For inside use: what is read so far, and what the parts of a reader answer.
+-- Internal: what is read so far, and what the parts of a reader return.
 use Rattle.std.specs.Prelude.{ℕ, ◌≡◌, ◌<◌, ◌≤◌, ◌+◌, ◌&&◌, ◌||◌, ⊤, Bool, true, false, List, [], ◌∷◌, ◌++◌, length, slice_index_or, Option, Some, None, is_some, Result, Ok, Err}
 use Rattle.c_terms.specs.declared.token.TokenKind.{TokenKind}
 use Rattle.smpl_lexer.specs.Pieces.{has_newline}
@@ -32,7 +32,7 @@ abbrev pub with_piece : Option TokenKind → List ℕ → ℕ → Cutting → Cu
 with_piece (Some k) text at c = record { lines = c.lines; tokens = c.tokens ++ made k text at ∷ [] }
 with_piece None text at c = ended_by (has_newline text) c
 
--- the groups of what is left go on with the line so far
+-- the groups of what is left continue the current line
 abbrev pub join : {A : Type 0} → List A → List (List A) → List (List A)
 join ts [] = ts ∷ []
 join ts (g ∷ gs) = (ts ++ g) ∷ gs
@@ -55,14 +55,14 @@ with_token t p = record { both = p.both; sides = p.sides; side = p.side ++ t ∷
 abbrev pub sides_with : Parting → List (List PatchToken) → List (List PatchToken)
 sides_with p gs = p.sides ++ join p.side gs
 
--- ---- answers
+-- ---- results
 
--- an answer that is of the form, or that nothing is
+-- a result that is of the form, or none if nothing is
 abbrev pub Decides : {A : Type 0} → (A → Type 0) → Option A → Type 0
 Decides Is (Some a) = Is a
 Decides {A} Is None = (a : A) → Is a → ⊥
 
--- what a parser answered, where it had the memory
+-- what a parser returns, unless it is out of memory
 abbrev pub Tells : Result Tree ParseFault → Option Tree → Type 0
 Tells (Ok tree) found = found ≡ Some tree
 Tells (Err NoMemory) found = ⊥
@@ -93,7 +93,7 @@ IsLost vars sides arrows (Some at) = FirstLost vars sides arrows at
 abbrev pub side_at : List (List PatchToken) → ℕ → List PatchToken
 side_at sides i = slice_index_or sides i []
 
--- a variable is lost from the side to the next, or where it may be from the next to the side
+-- a variable is lost from the side to the next, or from the next to the side if the arrow goes both ways
 abbrev pub is_break : List VarDecl → List (List PatchToken) → List Bool → ℕ → Bool
 is_break vars sides arrows i =
     is_some (lost_between vars (side_at sides i) (side_at sides (i + 1)))
@@ -111,7 +111,7 @@ abbrev pub IsFirstBreak : List VarDecl → List (List PatchToken) → List Bool 
 IsFirstBreak vars sides arrows None = IsUnbroken vars sides arrows (length arrows)
 IsFirstBreak vars sides arrows (Some k) = IsBreak vars sides arrows k
 
--- the first of the sides from which arrows both ways alone lead to this one
+-- the first of the sides from which only arrows that go both ways lead to this one
 pub record IsStart (arrows : List Bool) (i start : ℕ) : Type 0 where
   pub within : start ≤ i
   pub leads : BothWays arrows start i
@@ -123,12 +123,12 @@ pub record IsJudged (vars : List VarDecl) (sides : List (List PatchToken)) (arro
   pub trees : AreSides vars sides j.trees
   pub lost : IsLost vars sides arrows j.lost
 
--- these sides under these variables, or none are of the form
+-- these sides under these variables, or none if they aren't of the form
 abbrev pub Judges : List VarDecl → List (List PatchToken) → List Bool → Option Judged → Type 0
 Judges vars sides arrows None = (trees : List Tree) → AreSides vars sides trees → ⊥
 Judges vars sides arrows (Some j) = IsJudged vars sides arrows j
 
--- the tokens behind `@@`, under variables
+-- the tokens after `@@`, under variables
 pub record IsUnder (vars : List VarDecl) (tokens : List PatchToken) (b : Block) : Type 0 where
   pub vars_are : b.vars ≡ vars
   pub arrows_are : b.both ≡ arrows_in tokens
@@ -140,7 +140,7 @@ abbrev pub Under : List VarDecl → List PatchToken → Option Block → Type 0
 Under vars tokens None = (trees : List Tree) → 0 < length (arrows_in tokens) → AreSides vars (sides_in tokens) trees → ⊥
 Under vars tokens (Some b) = IsUnder vars tokens b
 
--- the lines behind `@ name @`
+-- the lines after `@ name @`
 pub record IsBlockOf (lines : List (List PatchToken)) (b : Block) : Type 0 where
   pub sides : List (List PatchToken)
   pub behind : IsBehind lines b.vars sides b.both b.trees
@@ -151,12 +151,12 @@ Behind lines None = (vars : List VarDecl) (sides : List (List PatchToken)) (arro
     → IsBehind lines vars sides arrows trees → ⊥
 Behind lines (Some b) = IsBlockOf lines b
 
--- `Expression` and `@ name @`, each alone in its line, and more lines
+-- `Expression` and `@ name @`, each alone on its line, and more lines
 abbrev pub is_begun : List (List PatchToken) → Bool
 is_begun (word ∷ header ∷ lines) = is_expression_line word && is_header header
 is_begun _ = false
 
--- what is wrong with a block whose first token stands at this place, and is the word
+-- the faults of a block whose first token is at this place, and is the word
 pub data IsFormFault (block : List (List PatchToken)) (at : ℕ) : IsoFault → Type 0 where
   of_no_form : ((iso : Iso) (sides : List (List PatchToken)) → IsOfForm block iso sides → ⊥) → IsFormFault block at (fault.BadIso at)
   lost : (iso : Iso) (sides : List (List PatchToken)) (place : ℕ) → IsOfForm block iso sides → FirstLost iso.vars sides iso.both place

@@ -25,7 +25,7 @@ pub struct Judged {
     pub lost: Option<u32>,
 }
 
-/// Sides under variables, where they are of the form.
+/// Returns the trees of sides under variables and what is lost between them, or `None` if they aren't of the form.
 fn judge(
     alloc: Global,
     vars: &[VarDecl],
@@ -45,7 +45,7 @@ fn judge(
     }
 }
 
-/// What a block says.
+/// The contents of a block.
 #[derive(Drop)]
 pub struct Block {
     pub vars: Items<VarDecl>,
@@ -54,7 +54,7 @@ pub struct Block {
     pub lost: Option<u32>,
 }
 
-/// What the tokens behind `@@` say, where they are of the form.
+/// Returns the contents given by the tokens after `@@`, or `None` if they aren't of the form.
 fn under(
     alloc: Global,
     vars: Items<VarDecl>,
@@ -80,7 +80,7 @@ fn under(
     }
 }
 
-/// What the lines behind `@ name @` say, where they are of the form.
+/// Returns the contents given by the lines after `@ name @`, or `None` if they aren't of the form.
 fn behind_header(alloc: Global, lines: &[Items<PatchToken>]) -> Result<Option<Block>, NoMemory>
     ensures { IfOk result (λ b. Behind lines.now b) }
 {
@@ -121,7 +121,7 @@ fn made_iso(alloc: Global, header: &[PatchToken], block: Block) -> Result<Iso, N
     })
 }
 
-/// `Expression` and `@ name @`, each alone in its line, and more lines.
+/// Whether the lines are `Expression` and `@ name @`, each alone on its line, and more lines.
 fn is_begun(lines: &[Items<PatchToken>]) -> bool
     ensures { result ≡ stepped.is_begun lines.now }
 {
@@ -131,7 +131,8 @@ fn is_begun(lines: &[Items<PatchToken>]) -> bool
     }
 }
 
-/// The isomorphism of a block whose first token is the word, at this place, or its first fault.
+/// Returns the isomorphism of a block whose first token, at this place, is the word `Expression`, or the block's first
+/// fault.
 fn read_lines(alloc: Global, at: u32, lines: &[Items<PatchToken>]) -> Result<Iso, IsoFault>
     ensures iso { IfOk result (λ iso. IsIso lines.now iso) }
     ensures fault { IfErr result (λ f. OrNoMemory (IsFormFault lines.now at) f) }
@@ -148,7 +149,7 @@ fn read_lines(alloc: Global, at: u32, lines: &[Items<PatchToken>]) -> Result<Iso
     }
 }
 
-/// The isomorphism of a block, or its first fault.
+/// Returns the isomorphism of a block, or its first fault.
 pub fn read_block(alloc: Global, lines: &[Items<PatchToken>]) -> Result<Iso, IsoFault>
     requires { IsSome (first_word lines.now) }
     ensures iso { IfOk result (λ iso. IsIso lines.now iso) }

@@ -14,7 +14,7 @@ use smpl_patch::Iso;
 use sqlite_items::Items;
 use std::alloc::Global;
 
-/// One more block, unless it has no lines.
+/// Adds the isomorphism of one more block, unless it has no lines.
 fn with_block(
     alloc: Global,
     isos: Items<Iso>,
@@ -34,21 +34,21 @@ fn with_block(
     Ok(isos)
 }
 
-/// Whether a line `@ name @` stands here, or stood before.
+/// Whether this line or an earlier one is a line `@ name @`.
 fn seen_at(seen: bool, line: &[PatchToken]) -> bool
     ensures { result ≡ (seen || told.is_header line.now) }
 {
     seen || is_header(line)
 }
 
-/// Whether a block begins at a line before these, at which such a line was seen or wasn't.
+/// Whether a block begins at the line before these, given whether that line or an earlier one is a line `@ name @`.
 fn is_begin(seen: bool, rest: &[Items<PatchToken>]) -> bool
     ensures { result ≡ (seen && told.header_next rest.now) }
 {
     seen && header_next(rest)
 }
 
-/// The isomorphisms of all blocks, or the first fault of the first block that has one.
+/// Returns the isomorphisms of all blocks, or the first fault of the first block that has one.
 pub fn read_blocks(alloc: Global, lines: &[Items<PatchToken>]) -> Result<Items<Iso>, IsoFault>
     requires { AllFilled lines.now }
     ensures isos { IfOk result (λ isos. AreIsos (blocks lines.now) isos) }

@@ -11,7 +11,8 @@ use smpl_lexer::PatchToken;
 use sqlite_items::Items;
 use std::alloc::Global;
 
-/// The kind of token that a piece is, if it is one. A preprocessor line counts as what is no token of any form.
+/// Returns the kind of token that a piece is, or `None` if it isn't one. A preprocessor line counts as a token that no
+/// form has.
 fn token_kind(kind: Kind) -> Option<TokenKind>
     ensures { result ≡ told.token_kind kind }
 {
@@ -39,14 +40,14 @@ fn made(alloc: Global, kind: TokenKind, text: &[u8], at: u32) -> Result<PatchTok
     })
 }
 
-/// The lines so far, and the tokens of the line that goes on.
+/// The lines so far, and the tokens of the current line.
 #[derive(Drop)]
 pub struct Cutting {
     pub lines: Items<Items<PatchToken>>,
     pub tokens: Items<PatchToken>,
 }
 
-/// The line ends here.
+/// Ends the current line.
 fn ended(alloc: Global, cutting: Cutting) -> Result<Cutting, NoMemory>
     ensures lines { IfOk result (λ c. c.lines ≡ cutting.lines ++ filled (cutting.tokens ∷ [])) }
     ensures tokens { IfOk result (λ c. c.tokens ≡ []) }
@@ -61,7 +62,7 @@ fn ended(alloc: Global, cutting: Cutting) -> Result<Cutting, NoMemory>
     })
 }
 
-/// A piece that stands at a place.
+/// Adds a piece at a place.
 fn with_piece(
     alloc: Global,
     cutting: Cutting,
@@ -87,7 +88,7 @@ fn with_piece(
     }
 }
 
-/// The lines that have tokens. Linear.
+/// Returns the lines that have tokens. Takes linear time.
 pub fn lines_of(alloc: Global, bytes: &[u8]) -> Result<Items<Items<PatchToken>>, NoMemory>
     requires { length bytes.now ≤ 1048576 }
     ensures { IfOk result (λ lines. AreLinesOf bytes.now lines) }

@@ -7,15 +7,16 @@ use std::alloc::{AllocError, AllocFailed};
 /// Why an isomorphism file is not read. A number is the offset of a byte.
 #[derive(Clone, Copy, Debug, PartialEq, Eq)]
 pub enum IsoFault {
-    /// A block that isn't of the form, at its first word.
+    /// A block isn't of the form; the offset is that of its first word.
     BadIso(u32),
-    /// A block whose first word is another than `Expression`, at that word.
+    /// The first word of a block isn't `Expression`; the offset is that of the word.
     NotExpression(u32),
-    /// A variable that a side holds, and another side that may become it doesn't, at its first place in that side.
+    /// A side contains a variable that another side that may become it doesn't; the offset is the variable's first
+    /// place in that side.
     VariableLost(u32),
-    /// More than 1,048,576 bytes.
+    /// The file has more than 1,048,576 bytes.
     TooLong,
-    /// Memory was refused.
+    /// Out of memory.
     NoMemory,
 }
 

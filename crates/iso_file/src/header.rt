@@ -8,7 +8,7 @@ use smpl_lexer::{PatchToken, is_at, is_name, is_word};
 use sqlite_items::Items;
 use std::alloc::Global;
 
-/// `@ name @`, alone in its line.
+/// Whether the tokens are `@ name @`, alone on its line.
 pub fn is_header(tokens: &[PatchToken]) -> bool
     ensures { result ≡ told.is_header tokens.now }
 {
@@ -28,7 +28,7 @@ pub fn header_next(lines: &[Items<PatchToken>]) -> bool
     }
 }
 
-/// `Expression`, alone in its line.
+/// Whether the tokens are `Expression`, alone on its line.
 pub fn is_expression_line(tokens: &[PatchToken]) -> bool
     ensures { result ≡ sides.is_expression_line tokens.now }
 {
@@ -38,7 +38,7 @@ pub fn is_expression_line(tokens: &[PatchToken]) -> bool
     }
 }
 
-/// `@@`, alone in its line.
+/// Whether the tokens are `@@`, alone on its line.
 fn is_second(tokens: &[PatchToken]) -> bool
     ensures { result ≡ sides.is_second tokens.now }
 {
@@ -48,7 +48,7 @@ fn is_second(tokens: &[PatchToken]) -> bool
     }
 }
 
-/// How many lines stand before the first line `@@`, where there is one.
+/// Returns the number of lines before the first line `@@`, or `None` if there is no such line.
 pub fn second_at(lines: &[Items<PatchToken>]) -> Option<usize>
     ensures value { result ≡ sides.second_at lines.now }
     ensures within { IfSome result (λ n. n < length lines.now) }
@@ -75,7 +75,7 @@ fn push_all(
     Ok(out)
 }
 
-/// The tokens of lines, one after another.
+/// Returns the tokens of the lines, one line after another.
 pub fn concatenated(
     alloc: Global,
     lines: &[Items<PatchToken>],

@@ -1,4 +1,4 @@
-// The names that a side holds.
+// The names that a side contains.
 ghost use Rattle.std.specs.Prelude.{◌≡◌, ℕ, List, [], IfOk, OnOk};
 ghost use Rattle.c_terms.specs.Names.{has_name, with_name};
 ghost use Rattle.iso_file.specs.Lost.{stands_in};
@@ -9,7 +9,7 @@ use smpl_lexer::{PatchToken, is_name};
 use std::alloc::Global;
 use std::marker::Model;
 
-/// Names, each once.
+/// A set of names.
 #[derive(Drop)]
 pub struct Held {
     set: IndexSet<Vec<u8>>,
@@ -32,7 +32,7 @@ impl Held {
         }
     }
 
-    /// Whether the name is there. One look-up; takes no memory.
+    /// Whether the name is in the set. Takes one look-up; allocates nothing.
     pub fn has(&self, name: &[u8]) -> bool
         ensures { result ≡ has_name self.now name.now }
     {
@@ -50,7 +50,7 @@ impl Held {
         Ok(())
     }
 
-    /// The names among tokens. Linear in them and their bytes, where no hashes of names collide.
+    /// Returns the set of the names among tokens. Linear in the tokens and their bytes if no hashes of names collide.
     pub fn of(alloc: Global, tokens: &[PatchToken]) -> Result<Held, NoMemory>
         ensures { IfOk result (λ held. (text : List ℕ) → has_name held text ≡ stands_in tokens.now text) }
     {

@@ -1,12 +1,12 @@
 //! Reads isomorphism files.
 //!
-//! - [`read_isos`] answers the isomorphisms of a file, or its first fault ([`IsoFault`]).
+//! - [`read_isos`] returns the isomorphisms of a file, or its first fault ([`IsoFault`]).
 //!
 //! The lines `Expression`, `@ is_null @`, `expression X;`, `@@`, `X == NULL <=> NULL == X => !X` are one isomorphism of
 //! three sides: the first two may become each other, and both may become the third.
 //!
-//! A file has at most 1,048,576 bytes, a side at most 200 brackets open at once. Sides are read as c_expr says, and its
-//! depth of calls is this crate's. What isomorphisms make of a pattern is for others.
+//! A file has at most 1,048,576 bytes, and a side has at most 200 brackets open at once. Sides are read as c_expr says,
+//! and its depth of calls is this crate's. What isomorphisms do to a pattern is up to other crates.
 #![tactic(auto)]
 
 ghost use Rattle.std.specs.Prelude.{IfOk, IfErr};
@@ -30,18 +30,18 @@ use smpl_patch::Iso;
 use sqlite_items::Items;
 use std::alloc::Global;
 
-/// The most bytes that a file may have.
+/// The largest number of bytes that a file may have.
 const MOST_BYTES: usize = 1_048_576;
 
-/// The isomorphisms of a file, in order, or its first fault. Blocks go in order. Within a block its first word is looked at
-/// first, then its form, then what is lost between its sides.
+/// Returns the isomorphisms of a file, in order, or its first fault. Blocks are checked in order. Within a block, its first
+/// word is checked first, then its form, then whether a variable is lost between its sides.
 ///
-/// - `TooLong`: it has more than 1,048,576 bytes, and nothing else is looked for.
-/// - `NotExpression`: the first word of a block, which is another than `Expression`.
-/// - `BadIso`: the first word of a block that isn't of the form.
-/// - `VariableLost`: of the least pair of sides of which the first may become the second, and the second holds a variable
-///   that the first doesn't hold, the first place of such a variable in the second.
-/// - `NoMemory`: memory was refused, and nothing is kept of the file.
+/// - `TooLong`: the file has more than 1,048,576 bytes, and nothing else is checked.
+/// - `NotExpression`: the first word of a block isn't `Expression`; the offset is that of the word.
+/// - `BadIso`: a block isn't of the form; the offset is that of its first word.
+/// - `VariableLost`: of the least pair of sides of which the first may become the second, and the second contains a variable
+///   that the first doesn't contain; the offset is the first place of such a variable in the second.
+/// - `NoMemory`: out of memory; nothing is kept of the file.
 pub fn read_isos(alloc: Global, bytes: &[u8]) -> Result<Items<Iso>, IsoFault>
     ensures isos { IfOk result (λ isos. AreIsosOf bytes.now isos) }
     ensures fault { IfErr result (λ f. OrNoMemory (IsFileFault bytes.now) f) }

@@ -19,7 +19,7 @@ fn is_variable(vars: &VarTable<'_>, t: &PatchToken) -> bool
     is_name(t) && vars.find(t.token.text.as_bytes()).is_some()
 }
 
-/// The first place of a variable that isn't held.
+/// Returns the first place of a variable that `from` doesn't contain.
 fn lost_between(vars: &VarTable<'_>, from: &Held, to: &[PatchToken]) -> Option<u32>
     ensures { (side : List Word) → ((text : List ℕ) → has_name from.now text ≡ told.stands_in side text) →
         result ≡ told.lost_between vars.now side to.now }
@@ -32,7 +32,7 @@ fn lost_between(vars: &VarTable<'_>, from: &Held, to: &[PatchToken]) -> Option<u
     None
 }
 
-/// The first place of a variable of one side that another doesn't hold. Linear.
+/// Returns the first place in `to` of a variable that `from` doesn't contain. Takes linear time.
 fn lost(
     alloc: Global,
     vars: &VarTable<'_>,
@@ -45,7 +45,7 @@ fn lost(
     Ok(lost_between(vars, &held, to))
 }
 
-/// The first of the sides from which `<=>` alone leads to this one.
+/// Returns the first of the sides from which only `<=>` leads to this one.
 fn start_of(both: &[bool], i: usize) -> usize
     requires { i ≤ length both.now }
     ensures { IsStart both.now i result }
@@ -57,7 +57,7 @@ fn start_of(both: &[bool], i: usize) -> usize
     start
 }
 
-/// The first variable that is lost where a side becomes another. Linear in all sides.
+/// Returns the first variable that is lost when a side becomes another, if there is one. Linear in all sides.
 fn lost_from(
     alloc: Global,
     vars: &VarTable<'_>,
@@ -79,7 +79,7 @@ fn lost_from(
     Ok(None)
 }
 
-/// A side or the next loses a variable of the other, where it may become it. Linear in the two.
+/// Whether a side or the next one loses a variable of the other, which it may become. Linear in the two.
 fn is_break(
     alloc: Global,
     vars: &VarTable<'_>,
@@ -99,7 +99,7 @@ fn is_break(
     Ok(both[i] && lost(alloc, vars, next, one)?.is_some())
 }
 
-/// The first of the sides between which and the next a variable is lost. Linear.
+/// Returns the first side such that a variable is lost between it and the next, if there is one. Takes linear time.
 fn first_break(
     alloc: Global,
     vars: &VarTable<'_>,
@@ -117,8 +117,8 @@ fn first_break(
     Ok(None)
 }
 
-/// What is lost from the least of the sides up to `high` that loses a variable. Up to there each side has all variables of
-/// the next, so that of two of them the second loses one where the first does.
+/// Returns what is lost from the least of the sides up to `last` that loses a variable. Up to there each side has all
+/// variables of the next one, so if a side loses one, every later side up to there does too.
 fn least_lost(
     alloc: Global,
     vars: &VarTable<'_>,
@@ -150,7 +150,8 @@ fn least_lost(
     Ok(found)
 }
 
-/// The first variable lost, of the least pair of sides of which the first may become the second. n log n in the sides.
+/// Returns the first variable lost, from the least pair of sides of which the first may become the second, if there is
+/// one. Takes time n log n in the sides.
 pub fn first_lost(
     alloc: Global,
     vars: &VarTable<'_>,

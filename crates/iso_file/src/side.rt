@@ -8,7 +8,7 @@ use smpl_lexer::{PatchToken, is_sign};
 use sqlite_items::Items;
 use std::alloc::Global;
 
-/// The two tokens are an arrow, between which nothing stands: whether it goes both ways.
+/// Returns whether the arrow goes both ways if the two tokens, with nothing between them, are an arrow.
 fn arrow_of(t: &PatchToken, next: &PatchToken) -> Option<bool>
     ensures { result ≡ told.arrow_of t.now next.now }
 {
@@ -23,7 +23,7 @@ fn arrow_of(t: &PatchToken, next: &PatchToken) -> Option<bool>
     }
 }
 
-/// The same of the first two tokens.
+/// Returns the same for the first two tokens.
 fn arrow_first(tokens: &[PatchToken]) -> Option<bool>
     ensures { result ≡ stepped.arrow_first tokens.now }
 {
@@ -33,7 +33,7 @@ fn arrow_first(tokens: &[PatchToken]) -> Option<bool>
     }
 }
 
-/// Tokens parted by arrows: the arrows, the sides, and the side that goes on.
+/// Tokens split at arrows: the arrows, the sides, and the current side.
 #[derive(Drop)]
 pub struct Parting {
     pub both: Items<bool>,
@@ -98,12 +98,12 @@ fn part_at_arrows(alloc: Global, tokens: &[PatchToken]) -> Result<Parting, NoMem
 /// Arrows, and the sides between them.
 #[derive(Drop)]
 pub struct Parted {
-    /// `<=>` and not `=>` between each side and the next.
+    /// Whether the arrow between each side and the next is `<=>`; otherwise it is `=>`.
     pub both: Items<bool>,
     pub sides: Items<Items<PatchToken>>,
 }
 
-/// Tokens parted by arrows. Linear.
+/// Splits tokens at arrows. Takes linear time.
 pub fn part(alloc: Global, tokens: &[PatchToken]) -> Result<Parted, NoMemory>
     ensures both { IfOk result (λ p. p.both ≡ told.arrows_in tokens.now) }
     ensures sides { IfOk result (λ p. p.sides ≡ told.sides_in tokens.now) }

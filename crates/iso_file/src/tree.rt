@@ -12,7 +12,7 @@ use smpl_meta::{VarTable, made};
 use sqlite_items::Items;
 use std::alloc::Global;
 
-/// The tokens, those that are declared as metavariables.
+/// Returns the tokens, with those that are declared turned into metavariables.
 fn all_made(
     alloc: Global,
     vars: &VarTable<'_>,
@@ -37,7 +37,7 @@ fn answered(answer: Result<Tree, ParseFault>) -> Result<Option<Tree>, NoMemory>
     }
 }
 
-/// The tree of a side, if it is an expression.
+/// Returns the tree of a side, if it is an expression.
 fn tree_of(
     alloc: Global,
     names: &Names,
@@ -52,7 +52,7 @@ fn tree_of(
     answered(parse_expr(alloc, tokens, names, 0, tokens.len()))
 }
 
-/// The trees of sides, if each is an expression. It costs what parsing costs.
+/// Returns the trees of sides, if each is an expression. Costs what parsing costs.
 pub fn trees_of(
     alloc: Global,
     vars: &VarTable<'_>,

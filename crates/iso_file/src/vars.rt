@@ -17,7 +17,7 @@ fn is_kind_word(t: &PatchToken) -> bool
     is_word(t, b"expression") || is_word(t, b"constant") || is_word(t, b"identifier")
 }
 
-/// Whether each declaration begins with one of the words.
+/// Whether each declaration begins with one of the words for the allowed kinds.
 fn are_of_kinds(tokens: &[PatchToken]) -> bool
     ensures { result ≡ told.are_of_kinds true tokens.now }
 {
@@ -63,7 +63,7 @@ fn with_kinds(vars: Items<VarDecl>) -> Option<Items<VarDecl>>
     }
 }
 
-/// The variables of declarations, none where these are not of the form.
+/// Returns the variables of declarations, or `None` if these aren't of the form.
 pub fn vars_of(alloc: Global, tokens: &[PatchToken]) -> Result<Option<Items<VarDecl>>, NoMemory>
     ensures { IfOk result (λ vars. Decides (AreVars tokens.now) vars) }
 {

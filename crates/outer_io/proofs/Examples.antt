@@ -6,7 +6,7 @@ use Rattle.outer_io.specs.Files.{name_cmp, grown}
 use Rattle.outer_io.specs.Faults.{counted}
 use Rattle.outer_io.specs.Calls.{ShelfState, no_calls, next_fails, after_call, is_rewritten, other_rewrites}
 
--- of two entries of a name, the first of the list from the back counts
+-- of two entries of a name, the first of the reversed list counts
 last_counts : get (from_entries {R = name_cmp} ((codes "a", codes "new") ∷ (codes "a", codes "old") ∷ [])) (codes "a") ≡ Some (codes "new")
 last_counts = get-from_entries nat_list_cmp_total ((codes "a", codes "new") ∷ (codes "a", codes "old") ∷ []) (codes "a")
 
@@ -14,7 +14,7 @@ last_counts = get-from_entries nat_list_cmp_total ((codes "a", codes "new") ∷ 
 no_entry : get (from_entries {R = name_cmp} ((codes "a", codes "new") ∷ [])) (codes "b") ≡ None
 no_entry = get-from_entries nat_list_cmp_total ((codes "a", codes "new") ∷ []) (codes "b")
 
--- the call with the number 1 fails, and no other
+-- the call with number 1 fails, and no other one
 second_fails : next_fails (after_call (no_calls (1 ∷ [])) false) ≡ true
 second_fails = refl
 
@@ -24,7 +24,7 @@ first_succeeds = refl
 third_succeeds : next_fails (after_call (after_call (no_calls (1 ∷ [])) false) true) ≡ false
 third_succeeds = refl
 
--- a file that is written anew before the call with the number 1 is so from that call on, and under its own name alone
+-- a file that is rewritten before the call with number 1 is so from that call on, and only under its own name
 abbrev shelf_at : ℕ → ShelfState
 shelf_at done = record {
   files = from_entries [];
@@ -42,17 +42,17 @@ from_then_on = refl
 other_name : is_rewritten (shelf_at 2) (codes "b") ≡ false
 other_name = refl
 
--- a load of it knows of that, and a load of another name doesn't
+-- a load of it notices that, and a load of another name does not
 known_by_load : other_rewrites (shelf_at 2) (codes "a") ≡ []
 known_by_load = refl
 
 unknown_by_other : other_rewrites (shelf_at 2) (codes "b") ≡ (1, codes "a") ∷ []
 unknown_by_other = refl
 
--- a count stays at its last value
+-- a count saturates at its maximum
 last_value : counted 18446744073709551615 ≡ 18446744073709551615
 last_value = refl
 
--- what is not told stays untold
+-- what is not revealed stays unknown
 untold : grown None (codes "a") ≡ None
 untold = refl

@@ -11,11 +11,11 @@ pub record Calls : Type 0 where
   pub fail : List ℕ
   pub faults : ℕ
 
--- the call that comes next is one that fails
+-- whether the next call is one that fails
 abbrev pub next_fails : Calls → Bool
 next_fails calls = list_any (λ number. number == calls.done) calls.fail
 
--- one more call was made, and failed or not
+-- after one more call, which failed or not
 abbrev pub after_call : Calls → Bool → Calls
 after_call calls failed = record {
   done = counted calls.done;
@@ -27,24 +27,24 @@ after_call calls failed = record {
 abbrev pub no_calls : List ℕ → Calls
 no_calls fail = record { done = 0; fail = fail; faults = 0 }
 
--- By the call of this number, another program wrote what stands under the name anew: the rewrite has the number of the
--- call before which it is, and its name.
+-- Whether another program rewrote what is under the name by the call of this number. A rewrite has the number of the
+-- call before which it happens, and its name.
 abbrev pub is_rewrite_of : List ℕ → ℕ → ℕ × List ℕ → Bool
 is_rewrite_of name call rewrite = leb rewrite.0 call && same_bytes rewrite.1 name
 
--- a shelf in memory: its files, how many stores were done or failed, its calls, and the rewrites by another program of
--- which no load has told it
+-- a shelf in memory: its files, how many stores were done or failed, its calls, and the rewrites by another program
+-- that no load has noticed
 pub record ShelfState : Type 0 where
   pub files : Files
   pub stores : ℕ
   pub calls : Calls
   pub rewrites : List (ℕ × List ℕ)
 
--- what stands under the name was written anew before the call that comes next, and not loaded since
+-- whether what is under the name was rewritten before the next call, and not loaded since
 abbrev pub is_rewritten : ShelfState → List ℕ → Bool
 is_rewritten shelf name = list_any (is_rewrite_of name shelf.calls.done) shelf.rewrites
 
--- the rewrites that are left when the next call has loaded what stands under the name
+-- the rewrites that are left when the next call has loaded what is under the name
 abbrev pub other_rewrites : ShelfState → List ℕ → List (ℕ × List ℕ)
 other_rewrites shelf name = filter (λ rewrite. not (is_rewrite_of name shelf.calls.done rewrite)) shelf.rewrites
 
@@ -53,13 +53,13 @@ pub record SinkState : Type 0 where
   pub bytes : List ℕ
   pub calls : Calls
 
--- a shelf in memory of whose calls none fails: its files, how many stores were done, and how many calls were made
+-- a shelf in memory none of whose calls fails: its files, how many stores were done, and how many calls were made
 pub record CalmShelfState : Type 0 where
   pub files : Files
   pub stores : ℕ
   pub calls : ℕ
 
--- a sink in memory of whose puts none fails: its bytes, and how many puts were made
+-- a sink in memory none of whose puts fails: its bytes, and how many puts were made
 pub record CalmSinkState : Type 0 where
   pub bytes : List ℕ
   pub calls : ℕ

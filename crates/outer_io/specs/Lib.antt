@@ -3,7 +3,7 @@ pub mod Files
 pub mod Faults
 pub mod Calls
 pub mod Adapters
--- For inside use: how contents and calls are stored.
+-- For internal use: how contents and calls are stored.
 pub mod Stored
 -- What escaped_names defines.
 pub mod EscapedNames

@@ -5,7 +5,7 @@ ghost use Rattle.outer_io.specs.Calls.{next_fails, after_call, no_calls};
 
 use std::marker::Model;
 
-/// The calls that were made, the numbers of those that fail, and the faults so far.
+/// The number of calls that were made, the numbers of those that fail, and the number of faults so far.
 #[derive(Drop)]
 pub struct CallCount {
     done: u64,
@@ -32,21 +32,21 @@ impl CallCount {
         }
     }
 
-    /// How many calls were made.
+    /// Returns how many calls were made.
     pub fn done(&self) -> u64
         ensures { result ≡ self.now.done }
     {
         self.done
     }
 
-    /// Whether the call that comes next is one that fails.
+    /// Whether the next call is one that fails.
     pub fn next_fails(&self) -> bool
         ensures { result ≡ next_fails self.now }
     {
         self.fail.contains(&self.done)
     }
 
-    /// Counts a call, and a fault where it failed. Each count stays at its last value.
+    /// Counts a call, and a fault if it failed. Each count saturates at its maximum.
     pub fn count(&mut self, failed: bool)
         ensures value { self.new ≡ after_call self.old failed }
         ensures later { self.old.faults ≤ self.new.faults }
@@ -60,7 +60,7 @@ impl CallCount {
     }
 }
 
-/// The next value of a count, which stays at its last.
+/// Returns the next value of a count, which saturates at its maximum.
 pub fn one_more(count: u64) -> u64
     ensures { result ≡ counted count }
 {

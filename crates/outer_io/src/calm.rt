@@ -13,8 +13,8 @@ use std::marker::Model;
 
 /// Files in memory. Contracts see the map from names to bytes, and the counts of stores and of calls.
 ///
-/// No call fails but for want of memory. A load or a store costs the look-up of the name, which is logarithmic
-/// in the number of files, and a copy of the bytes.
+/// No call returns `Failed`, and a store fails only when out of memory. A load or a store costs the
+/// look-up of the name, which is logarithmic in the number of files, and a copy of the bytes.
 #[derive(Drop)]
 pub struct CalmShelf {
     files: FileMap,
@@ -34,7 +34,8 @@ impl Model for CalmShelf {
 }
 
 impl CalmShelf {
-    /// A shelf with these files, of which no call was made. Where a name stands twice, its last entry counts.
+    /// Returns a shelf with these files, on which no call was made. If a name occurs more than
+    /// once, its last entry counts.
     pub fn new(entries: Vec<(Text, Vec<u8>)>) -> Result<CalmShelf, NoMemory>
         ensures files { IfOk result (λ shelf. shelf.files ≡ files_of entries.items) }
         ensures stores { IfOk result (λ shelf. shelf.stores ≡ 0) }
@@ -48,7 +49,7 @@ impl CalmShelf {
         })
     }
 
-    /// The bytes under a name, without a copy. This is no call that is counted.
+    /// Returns the bytes under a name, without a copy. The call is not counted.
     pub fn bytes_of(&self, name: &[u8]) -> Option<&[u8]>
         ensures bytes { option_copied result ≡ get self.now.files name.now }
     {
@@ -58,14 +59,14 @@ impl CalmShelf {
         }
     }
 
-    /// How many stores were done.
+    /// Returns how many stores were done.
     pub fn stores(&self) -> u64
         ensures count { result ≡ self.now.stores }
     {
         self.stores
     }
 
-    /// How many loads and stores were asked for, also those that found no memory.
+    /// Returns how many loads and stores were called, including those that ran out of memory.
     pub fn calls(&self) -> u64
         ensures count { result ≡ self.now.calls }
     {
@@ -124,7 +125,7 @@ impl Shelf for CalmShelf {
 
 /// Bytes in memory. Contracts see the list of bytes, and the count of puts.
 ///
-/// No call fails but for want of memory. A put is linear in its piece, over many puts.
+/// A call fails only when out of memory. A put is linear in its piece, amortized over many puts.
 #[derive(Drop)]
 pub struct CalmSink {
     bytes: Vec<u8>,
@@ -140,7 +141,7 @@ impl Model for CalmSink {
 }
 
 impl CalmSink {
-    /// A sink with no bytes, to which no put was made.
+    /// Returns a sink with no bytes, to which no put was made.
     pub fn new(alloc: Global) -> CalmSink
         ensures empty { result.bytes ≡ [] }
         ensures calls { result.calls ≡ 0 }
@@ -151,14 +152,15 @@ impl CalmSink {
         }
     }
 
-    /// The bytes that were put.
+    /// Returns the bytes that were put.
     pub fn bytes(&self) -> &[u8]
         ensures bytes { result.now ≡ self.now.bytes }
     {
         &self.bytes
     }
 
-    /// How many puts were asked for, also those of an empty piece and those that found no memory.
+    /// Returns how many puts were called, including those of an empty piece and those that ran out
+    /// of memory.
     pub fn calls(&self) -> u64
         ensures count { result ≡ self.now.calls }
     {

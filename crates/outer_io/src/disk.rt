@@ -1,4 +1,4 @@
-// What a store asks of open files and of the process, beside what std's trait of file systems has.
+// What a store needs of open files and of the process, beyond std's trait of file systems.
 use std::alloc::Allocator;
 use std::fs::{File, Files, TryLockError};
 use std::io::Read;
@@ -7,10 +7,11 @@ use std::os::unix::fs::fchown;
 use std::rt::LibcRuntime;
 use std::{fs, io};
 
-/// Where Linux tells the limits of this process, a line each: its name, the limit, how far it may be raised, and a unit.
+/// The file in which Linux reports the limits of this process, one per line: its name, the limit,
+/// how far it may be raised, and a unit.
 const LIMITS: &str = "/proc/self/limits";
 
-/// How much of it is read, more than twice what it has.
+/// How many bytes of it are read, which is more than twice its length.
 const LIMITS_LENGTH: usize = 4_096;
 
 /// The name of the limit on the bytes of a file.
@@ -18,15 +19,16 @@ const FILE_SIZE: &str = "Max file size";
 
 /// A file system whose open files have owners and locks.
 pub trait Disk: Files {
-    /// Gives an open file to an owner and a group. `None` leaves one as it is.
+    /// Changes the owner and the group of an open file. `None` leaves one as it is.
     fn give(&self, file: &Self::File, owner: Option<u32>, group: Option<u32>) -> io::Result<()>;
 
-    /// Takes the lock on an open file. Whether nobody else has it; the lock goes when the file is closed. Where there
-    /// are no locks nobody has one.
+    /// Takes the lock on an open file, and returns whether nobody else has it. The lock is released
+    /// when the file is closed. On a system without locks nobody has one.
     fn lock(&self, file: &Self::File) -> bool;
 
-    /// The most bytes that a file may have which this process writes. A write past it would end the process. Where the
-    /// system doesn't tell, any number.
+    /// Returns the greatest number of bytes that a file written by this process may have. A write
+    /// past it would end the process. If the system reports no limit, any
+    /// number is allowed.
     fn most_bytes(&self) -> u64;
 }
 
@@ -51,7 +53,8 @@ impl Disk for LibcRuntime {
     }
 }
 
-/// The most bytes of a file, by the text of the limits. Where it names no number there is no limit.
+/// Returns the greatest number of bytes of a file, given the text of the limits. If the text names
+/// no number, there is no limit.
 fn most_bytes_in(limits: &[u8]) -> u64 {
     let Ok(limits) = str::from_utf8(limits) else {
         return u64::MAX;
@@ -64,7 +67,7 @@ fn most_bytes_in(limits: &[u8]) -> u64 {
     u64::MAX
 }
 
-/// The number that is the first word.
+/// Returns the number that is the first word.
 fn number_of(words: &str) -> u64 {
     match words.split_whitespace().next() {
         Some(word) => word.parse::<u64>().unwrap_or(u64::MAX),

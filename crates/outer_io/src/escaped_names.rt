@@ -5,7 +5,7 @@
 //!
 //! `a` newline `b.c` is shown as `a\nb.c`, and `a\b.c` as `a\\b.c`.
 //!
-//! Only memory may be wanting. Linear in the name; nothing recurses.
+//! Fails only when out of memory. Linear in the name; nothing recurses.
 #![tactic(auto)]
 
 ghost use Rattle.std.specs.Prelude.{◌≡◌, ◌++◌, ◌<◌, IfOk, OnOk};
@@ -17,8 +17,8 @@ use c_terms::NoMemory;
 pub use laws::{names_end_no_line, names_read_back};
 use std::alloc::Global;
 
-/// The name as lines show it: a newline is `\n`, a tab `\t`, a backslash `\\`, and any other byte below 32, and 127, is
-/// `\x` and its two hexadecimal digits.
+/// Returns the name as lines show it: a newline is `\n`, a tab `\t`, a backslash `\\`, and any
+/// other byte below 32, and 127, is `\x` and its two hexadecimal digits.
 pub fn escaped_name(alloc: Global, name: &[u8]) -> Result<Vec<u8>, NoMemory>
     ensures escaped { IfOk result (λ escaped. escaped.items ≡ told.escaped_name name.now) }
 {
@@ -29,7 +29,7 @@ pub fn escaped_name(alloc: Global, name: &[u8]) -> Result<Vec<u8>, NoMemory>
     Ok(escaped)
 }
 
-/// One byte, as lines show it.
+/// Appends one byte, as lines show it.
 fn put_byte(escaped: &mut Vec<u8>, byte: u8) -> Result<(), NoMemory>
     ensures { OnOk result (escaped.new.items ≡ escaped.old.items ++ told.escaped_byte byte) }
 {
@@ -46,7 +46,7 @@ fn put_byte(escaped: &mut Vec<u8>, byte: u8) -> Result<(), NoMemory>
     Ok(())
 }
 
-/// A hexadecimal digit, in lower case.
+/// Returns a hexadecimal digit, in lower case.
 fn hex_digit(value: u8) -> u8
     requires digit { value < 16 }
     ensures { result ≡ told.hex_digit value }

@@ -29,7 +29,7 @@ impl Model for FileMap {
 }
 
 impl FileMap {
-    /// The files of a list, in which the last entry of a name counts.
+    /// Returns the files of a list, in which the last entry of a name counts.
     pub fn of(entries: Vec<(Text, Vec<u8>)>) -> Result<Self, NoMemory>
         ensures files { IfOk result (λ files. files ≡ files_of entries.items) }
     {
@@ -44,14 +44,14 @@ impl FileMap {
         Ok(files)
     }
 
-    /// The bytes under a name.
+    /// Returns the bytes under a name.
     pub fn get(&self, name: &[u8]) -> Option<&Vec<u8>>
         ensures { option_map (λ bytes. bytes.now.items) result ≡ get self.now name.now }
     {
         self.by_name.get(name)
     }
 
-    /// The bytes under a name, where they are no more than the limit.
+    /// Returns the bytes under a name, if there are at most `limit` of them.
     pub fn load(&self, name: &str, limit: u64) -> Result<Vec<u8>, ShelfFault>
         ensures bytes { IfOk result (λ bytes. get self.now name.now ≡ Some bytes.items) }
         ensures within { IfOk result (λ bytes. length bytes.items ≤ limit) }

@@ -1,4 +1,4 @@
-// The files of the system as a shelf. It tells no content.
+// The files of the system as a shelf. It reveals no content.
 ghost use Rattle.std.specs.Prelude.{◌≡◌, ◌≢◌, ◌<◌, ◌≤◌, None, [], length, take, IfOk, OnOk, IfErr, OnErr, IfSome, IsErrOf, false};
 ghost use Rattle.std.specs.Io.{ReadsAtMost};
 ghost use Rattle.std.specs.Io.KnownBytes.{Consumes, IsAtEnd, Keeps};
@@ -16,19 +16,20 @@ use std::io::{ErrorKind, Read};
 use std::marker::Model;
 use std::{fs, io};
 
-/// Bytes that are read at a time.
+/// The number of bytes that are read at a time.
 const BLOCK: usize = 65536;
 
-/// The files of the system, by their paths. It tells no content, so what a file gives and takes is trusted.
-/// Contracts see the counts of stores and of faults.
+/// The files of the system, by their paths. It reveals no content, so what files return and keep is
+/// trusted. Contracts see the counts of stores and of faults.
 ///
-/// It remembers which file was loaded or stored under each name, and how it was then, so that a store overwrites nothing
-/// that another program wrote since.
+/// It remembers which file was loaded or stored under each name, and what its state was, so that a
+/// store overwrites nothing that another program has written since.
 ///
-/// `Failed` are a file that is missing or cannot be opened, a read or a write that fails, and a write that takes
-/// nothing. A read or a write that a signal interrupts is made again. The count of faults rises at each `Err`, also
-/// where a file is too long or memory runs out, and at no `Ok`. A load is linear in what it reads, which is at most one
-/// block of 64 KiB past its limit; a store is linear in its bytes, and waits until they are on the disk.
+/// The error is `Failed` for a file that is missing or cannot be opened, a read or a write that
+/// fails, and a write that accepts nothing. A read or a write that is interrupted by a signal is
+/// retried. The count of faults rises at each `Err`, including a file that is too long and a lack
+/// of memory, and at no `Ok`. A load is linear in what it reads, which is at most one block of 64
+/// KiB past its limit; a store is linear in its bytes, and waits until they are on the disk.
 #[derive(Drop)]
 pub struct FileShelf<'a, R> {
     rt: &'a R,
@@ -46,7 +47,7 @@ impl<'a, R> Model for FileShelf<'a, R> {
 }
 
 impl<'a, R: Disk + AllocGlobal> FileShelf<'a, R> {
-    /// The files that this runtime reaches, with no store and no fault so far.
+    /// Returns the files that this runtime reaches, with no store and no fault so far.
     pub fn new(rt: &'a R) -> FileShelf<'a, R>
         ensures stores { result.stores ≡ 0 }
         ensures faults { result.faults ≡ 0 }
@@ -67,7 +68,8 @@ impl<'a, R: Disk + AllocGlobal> Loads for FileShelf<'a, R> {
 
     ghost faults = { λ s. s.faults };
 
-    /// Links are followed, and nothing is opened. What the process was started with open is read as it is.
+    /// Links are followed, and nothing is opened. Files that were open when the process started are
+    /// read as they are.
     fn is_special(&self, name: &str) -> bool {
         !is_stream(name)
             && match fs::metadata(self.rt, name) {
@@ -76,7 +78,7 @@ impl<'a, R: Disk + AllocGlobal> Loads for FileShelf<'a, R> {
             }
     }
 
-    /// The bytes of the file. A file that is missing is `Failed`, and so is a folder.
+    /// Returns the bytes of the file. The error is `Failed` for a missing file or a folder.
     fn load(&mut self, name: &str, limit: u64) -> Result<Vec<u8>, ShelfFault>
         ensures no_store { self.new.stores ≡ self.old.stores }
         ensures within { IfOk result (λ bytes. length bytes.items ≤ limit) }
@@ -96,18 +98,21 @@ impl<'a, R: Disk + AllocGlobal> Loads for FileShelf<'a, R> {
 impl<'a, R: Disk + AllocGlobal> Shelf for FileShelf<'a, R> {
     ghost is_changed = { λ _ _. false };
 
-    /// Puts the bytes into the file, to which links are followed.
+    /// Puts the bytes into the file, following links.
     ///
-    /// A file that was loaded under this name, or stored, must still be the same, and unchanged since: else it is
-    /// `Failed`, and what stands there stays.
+    /// A file that was loaded or stored under this name must still be the same, and unchanged
+    /// since: otherwise the error is `Failed`, and the file there stays as it is.
     ///
-    /// A new file beside the old one gets the bytes, the old one's mode and, where that is allowed, its owner. It is
-    /// synced, and takes the old one's name in one step. Where no file may be made beside the old one, or that has a
-    /// second name, it is written over. What is no plain file, or may not be written, is `Failed`, and so are a stream
-    /// that the process was started with, a file whose lock another has, and more bytes than the process may write.
+    /// A new file next to the old one gets the bytes, the old one's mode and, if that is allowed,
+    /// its owner. It is synced, and takes the old one's name in one step. If no file may be made
+    /// next to the old one, or it has a second name, it is overwritten. The error is `Failed` if it
+    /// is not a plain file or may not be written, and also for a stream that was open when the
+    /// process started, a file whose lock another program has, and more bytes than the process may
+    /// write.
     ///
-    /// After an `Err` the old bytes stand there, but for a file that was written over and could not be put back. The new
-    /// file is removed after a fault. `NoMemory` comes before any file is touched.
+    /// After an `Err` the old bytes are still there, except in a file that was overwritten and
+    /// could not be restored. The new file is removed after a fault. `NoMemory` occurs before any
+    /// file is touched.
     fn store(&mut self, name: &str, bytes: &[u8]) -> Result<(), ShelfFault>
         ensures counts_ok { OnOk result (self.new.stores ≡ counted self.old.stores) }
         ensures counts_failed { IsErrOf result ShelfFault.Failed →
@@ -131,8 +136,8 @@ impl<'a, R: Disk + AllocGlobal> Shelf for FileShelf<'a, R> {
     }
 }
 
-/// Whether a name leads to what the process was started with open: `/dev/stdin`, or `/dev/fd/` and a number. It is read as a
-/// stream.
+/// Whether a name leads to what was open when the process started: `/dev/stdin`, or `/dev/fd/` and
+/// a number. It is read as a stream.
 fn is_stream(name: &str) -> bool {
     name == "/dev/stdin"
         || match name.strip_prefix("/dev/fd/") {
@@ -141,7 +146,8 @@ fn is_stream(name: &str) -> bool {
         }
 }
 
-/// The bytes of a file, if there are no more than the limit. What stands there is kept as the version that is known.
+/// Returns the bytes of a file, if there are no more than the limit. The file is kept as the
+/// version that is known.
 fn read_file<R: Disk + AllocGlobal>(
     rt: &R,
     name: &str,
@@ -163,7 +169,8 @@ fn read_file<R: Disk + AllocGlobal>(
     read_whole(rt.alloc(), &mut file, about.len(), limit)
 }
 
-/// Puts the bytes into the file of a name, if it is the version that is known. Nothing is stored on a stream.
+/// Puts the bytes into the file of a name, if it is the version that is known. A stream is never
+/// stored on.
 fn store_known<R: Disk + AllocGlobal>(
     rt: &R,
     name: &str,
@@ -183,7 +190,8 @@ fn store_known<R: Disk + AllocGlobal>(
     Ok(())
 }
 
-/// The bytes that a reader has left, if there are no more than the limit. About `size` are awaited.
+/// Returns the bytes that a reader has left, if there are no more than the limit. About `size`
+/// bytes are expected.
 pub fn read_whole<F: Read>(
     alloc: Global,
     file: &mut F,
@@ -206,7 +214,7 @@ pub fn read_whole<F: Read>(
     read_blocks(file, &mut block, bytes, limit)
 }
 
-/// The same, by way of a block.
+/// Does the same by reading into a block.
 fn read_blocks<F: Read>(
     file: &mut F,
     block: &mut [u8],
@@ -239,7 +247,7 @@ fn read_blocks<F: Read>(
     Err(ShelfFault::Failed)
 }
 
-/// One read, made again where a signal interrupts it.
+/// Reads once, retrying if a signal interrupts the read.
 fn read_some<F: Read>(file: &mut F, block: &mut [u8]) -> io::Result<usize>
     ensures bound { ReadsAtMost result block.new }
     ensures ok { IfOk result

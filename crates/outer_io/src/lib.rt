@@ -1,19 +1,21 @@
-//! What a run meets outside: shelves that files are loaded from and stored on, and sinks that take bytes.
+//! The outside world of a run: shelves that files are loaded from and stored on, and sinks that
+//! take bytes.
 //!
-//! - [`Loads`], [`Shelf`] and [`Sink`] are what a run is written against. Each counts its faults, and may tell what it
-//!   holds. What is written against [`Loads`] alone can't store, and every store is counted.
-//! - [`CalmShelf`] and [`CalmSink`] stand in memory and never fail; [`MemShelf`] and [`MemSink`] fail at the calls
-//!   whose numbers they are given, so that a test can try each fault of the outside. All four tell how many calls were
-//!   made.
-//! - [`FileShelf`] is the files of the system, which a store replaces in one step where it can, and [`StreamSink`] a
-//!   stream, by the names [`OutSink`] and [`ErrSink`] the two standard ones. They tell no content, so what the system
-//!   gives and takes is trusted.
+//! - [`Loads`], [`Shelf`] and [`Sink`] are the interfaces that a run uses. Each counts its faults,
+//!   and may reveal its content. Code that uses [`Loads`] alone can't store, and every store is
+//!   counted.
+//! - [`CalmShelf`] and [`CalmSink`] are in memory and never return `Failed`; [`MemShelf`] and
+//!   [`MemSink`] fail at the calls whose numbers they are given, so that a test can try each fault
+//!   of the outside world. All four report how many calls were made.
+//! - [`FileShelf`] is the files of the system, which a store replaces in one step if it can, and
+//!   [`StreamSink`] is a stream; [`OutSink`] and [`ErrSink`] are its names for the two standard
+//!   ones. They reveal no content, so what the system returns and keeps is trusted.
 //!
-//! `load("k.c", 4)` on a calm shelf that holds `f();` under `k.c` answers these 4 bytes, and with the limit 3
-//! it answers `TooLong`; `load("x.c", 4)` answers `Absent`.
+//! `load("k.c", 4)` on a calm shelf that holds `f();` under `k.c` returns these 4 bytes, and with
+//! the limit 3 it returns `TooLong`; `load("x.c", 4)` returns `Absent`.
 //!
-//! Memory may run out in a load, in a store, and in a put to a sink in memory. The adapters over streams take none.
-//! Nothing here recurses. What the bytes mean is for other crates.
+//! A load, a store, and a put to a sink in memory may run out of memory. The adapters for streams
+//! allocate nothing. Nothing here recurses. What the bytes mean is up to other crates.
 //!
 //! Its folders:
 //!

@@ -13,11 +13,12 @@ use c_terms::{NoMemory, Text, same_text};
 use std::alloc::Global;
 use std::marker::Model;
 
-/// Files in memory, with the numbers of the calls that fail, and those before which another program writes a file anew.
-/// Contracts see the files, the count of stores, the calls and the rewrites.
+/// Files in memory, with the numbers of the calls that fail, and of those before which another
+/// program rewrites a file. Contracts see the files, the count of stores, the calls and the
+/// rewrites.
 ///
-/// Loads and stores are counted together, from 0, also those that find no memory. Costs are those of `CalmShelf`,
-/// and a walk of the two lists of numbers.
+/// Loads and stores are counted together, from 0, including those that run out of memory. The costs
+/// are those of `CalmShelf`, and a walk of the two lists of numbers.
 #[derive(Drop)]
 pub struct MemShelf {
     files: FileMap,
@@ -38,8 +39,8 @@ impl Model for MemShelf {
 }
 
 impl MemShelf {
-    /// A shelf with these files, of whose calls those with these numbers fail. Where a name stands twice, its last
-    /// entry counts.
+    /// Returns a shelf with these files, on which the calls with these numbers fail. If a name
+    /// occurs more than once, its last entry counts.
     pub fn new(entries: Vec<(Text, Vec<u8>)>, fail: Vec<u64>) -> Result<MemShelf, NoMemory>
         ensures files { IfOk result (λ shelf. shelf.files ≡ files_of entries.items) }
         ensures stores { IfOk result (λ shelf. shelf.stores ≡ 0) }
@@ -56,8 +57,9 @@ impl MemShelf {
         })
     }
 
-    /// From now on another program writes what stands under a name anew, with the bytes that it has, before the call of each
-    /// of these numbers. What stands under a name that was written so is stored on only after it is loaded once more.
+    /// Makes another program rewrite what is under a name, with the bytes that it has, before the
+    /// call of each of these numbers. A file that was rewritten is stored on only after it is
+    /// loaded again.
     pub fn set_rewrites(&mut self, rewrites: Vec<(u64, Text)>)
         ensures value { self.new ≡ record {
           files = self.old.files;
@@ -69,7 +71,7 @@ impl MemShelf {
         self.rewrites = rewrites;
     }
 
-    /// The bytes under a name, without a copy. This is no call that is counted.
+    /// Returns the bytes under a name, without a copy. The call is not counted.
     pub fn bytes_of(&self, name: &[u8]) -> Option<&[u8]>
         ensures bytes { option_copied result ≡ get self.now.files name.now }
     {
@@ -79,28 +81,28 @@ impl MemShelf {
         }
     }
 
-    /// How many stores were done or failed.
+    /// Returns how many stores were done or failed.
     pub fn stores(&self) -> u64
         ensures count { result ≡ self.now.stores }
     {
         self.stores
     }
 
-    /// How many loads and stores were asked for, also those that found no memory.
+    /// Returns how many loads and stores were called, including those that ran out of memory.
     pub fn calls(&self) -> u64
         ensures count { result ≡ self.now.calls.done }
     {
         self.calls.done()
     }
 
-    /// Whether the call that comes next fails, if it is a store under this name.
+    /// Whether the next call fails, if it is a store under this name.
     fn next_store_fails(&self, name: &str) -> bool
         ensures { result ≡ (next_fails self.now.calls || is_rewritten self.now name.now) }
     {
         self.calls.next_fails() || self.is_rewritten(name)
     }
 
-    /// Whether another program wrote what stands under the name anew before the call that comes next.
+    /// Whether another program rewrote what is under the name before the next call.
     fn is_rewritten(&self, name: &str) -> bool
         ensures { result ≡ is_rewritten self.now name.now }
     {
@@ -124,7 +126,7 @@ impl Loads for MemShelf {
         false
     }
 
-    /// Fails exactly where the number of the call is one that fails.
+    /// Fails exactly if the number of the call is one that fails.
     fn load(&mut self, name: &str, limit: u64) -> Result<Vec<u8>, ShelfFault>
         ensures same { self.new.files ≡ self.old.files }
         ensures no_store { self.new.stores ≡ self.old.stores }
@@ -152,7 +154,7 @@ impl Loads for MemShelf {
     }
 }
 
-/// Leaves the rewrites that are not of this name, or come after this call.
+/// Keeps only the rewrites that are of another name, or come after this call.
 fn forget_rewrites(rewrites: &mut Vec<(u64, Text)>, name: &str, call: u64)
     ensures { rewrites.new.items ≡
         filter (λ rewrite. not (is_rewrite_of name.now call rewrite)) rewrites.old.items }
@@ -160,7 +162,7 @@ fn forget_rewrites(rewrites: &mut Vec<(u64, Text)>, name: &str, call: u64)
     rewrites.retain(|rewrite| !is_rewrite_of(name, call, rewrite));
 }
 
-/// Whether another program wrote what stands under the name anew before this call.
+/// Whether another program rewrote what is under the name before this call.
 fn is_rewrite_of(name: &str, call: u64, rewrite: &(u64, Text)) -> bool
     ensures { result ≡ is_rewrite_of name.now call rewrite.now }
 {
@@ -170,7 +172,7 @@ fn is_rewrite_of(name: &str, call: u64, rewrite: &(u64, Text)) -> bool
 impl Shelf for MemShelf {
     ghost is_changed = { is_rewritten };
 
-    /// Fails exactly where the number of the call is one that fails, or another program wrote the file anew.
+    /// Fails exactly if the number of the call is one that fails, or another program rewrote the file.
     fn store(&mut self, name: &str, bytes: &[u8]) -> Result<(), ShelfFault>
         ensures ok { OnOk result (self.new.files ≡ insert self.old.files name.now bytes.now) }
         ensures err { OnErr result (self.new.files ≡ self.old.files) }
@@ -206,7 +208,7 @@ impl Shelf for MemShelf {
 
 /// Bytes in memory, with the numbers of the puts that fail. Contracts see the bytes and the calls.
 ///
-/// Puts are counted from 0, also those of an empty piece and those that find no memory.
+/// Puts are counted from 0, including those of an empty piece and those that run out of memory.
 #[derive(Drop)]
 pub struct MemSink {
     bytes: Vec<u8>,
@@ -222,7 +224,7 @@ impl Model for MemSink {
 }
 
 impl MemSink {
-    /// A sink with no bytes, of whose puts those with these numbers fail.
+    /// Returns a sink with no bytes, of whose puts those with these numbers fail.
     pub fn new(alloc: Global, fail: Vec<u64>) -> MemSink
         ensures empty { result.bytes ≡ [] }
         ensures calls { result.calls ≡ no_calls fail.items }
@@ -233,14 +235,15 @@ impl MemSink {
         }
     }
 
-    /// The bytes that were put.
+    /// Returns the bytes that were put.
     pub fn bytes(&self) -> &[u8]
         ensures bytes { result.now ≡ self.now.bytes }
     {
         &self.bytes
     }
 
-    /// How many puts were asked for, also those of an empty piece and those that found no memory.
+    /// Returns how many puts were called, including those of an empty piece and those that ran out
+    /// of memory.
     pub fn calls(&self) -> u64
         ensures count { result ≡ self.now.calls.done }
     {
@@ -253,8 +256,8 @@ impl Sink for MemSink {
 
     ghost faults = { λ s. s.calls.faults };
 
-    /// A put whose number is one that fails appends the first half of its piece, rounded down. The put of an empty
-    /// piece is counted and never fails.
+    /// A put whose number is one that fails appends the first half of its piece, rounded down. A
+    /// put of an empty piece is counted and never fails.
     fn put(&mut self, bytes: &[u8]) -> Result<(), PutFault>
         ensures ok { OnOk result (self.new.bytes ≡ self.old.bytes ++ bytes.now) }
         ensures failed { IsErrOf result PutFault.Failed →

@@ -1,4 +1,4 @@
-// A store of a file: a new file takes the old one's name, or the old one is written over.
+// A store of a file: a new file takes the old one's name, or the old one is overwritten.
 ghost use Rattle.std.specs.Prelude.{IsErrOf};
 
 use crate::ShelfFault;
@@ -12,49 +12,53 @@ use std::os::unix::fs::{MetadataExt, OpenOptionsExt, PermissionsExt};
 use std::path::PathBuf;
 use std::{fs, io};
 
-/// The links that are followed from one name; with one more they count as a circle. Linux follows as many.
+/// The greatest number of links that are followed from one name; one more counts as a circle. Linux
+/// follows the same number.
 const MOST_LINKS: usize = 40;
 
-/// The names that are tried for a new file before a store gives up.
+/// The number of names that are tried for a new file before a store gives up.
 const MOST_NAMES: u32 = 10_000;
 
-/// The mode of a new file until it has the old one's: nobody else reads it.
+/// The mode of a new file until it has the old one's: nobody else may read it.
 const OWN_MODE: u32 = 0o600;
 
-/// The bits of a mode that give whoever runs a file its owner's or group's rights.
+/// The bits of a mode that give whoever runs a file the rights of its owner or group.
 const OWNER_RIGHTS: u32 = 0o6000;
 
-/// What a store found under a name, and what it left there, as far as the system tells it.
+/// The file that a store found under a name, and the one that it left there, as far as the system
+/// reports it.
 #[derive(Clone, Copy)]
 pub struct Stored {
     pub was: Option<FileVersion>,
     pub now: Option<FileVersion>,
 }
 
-/// Why a new file did not take the old one's name. The old one is as it was.
+/// Why a new file did not take the old one's name. The old one is unchanged.
 #[derive(Clone, Copy)]
 enum BesideFault {
-    /// No file may be made in the folder, or take the name or the mode of the old one.
+    /// No file may be made in the folder, or have the name or the mode of the old one.
     NotAllowed,
     /// Memory ran out before a file was made.
     NoMemory,
-    /// A call failed, or another file stands under a name by now.
+    /// A call failed, or another file is under a name by now.
     Failed,
 }
 
 /// Puts the bytes into the file of this name, in place of those that were there. Links are followed.
 ///
-/// Where a version is known, the file must still be that one: else it is `Failed`, and what stands there stays as it is.
-/// The file is looked at before it is opened, when its lock is taken, and once more just before its bytes or its name go. What
-/// another program writes between that last look and the next call is lost.
+/// If a version is known, the file must still be that one: otherwise the error is `Failed`, and the
+/// file there stays as it is. The file is checked before it is opened, when its lock is taken, and
+/// once more just before its bytes or its name are replaced. What another program writes between
+/// that last check and the next call is lost.
 ///
-/// A new file beside the old one gets the bytes, and the old one's mode and, where that is allowed, its owner; it is
-/// synced and takes the old one's name in one step. Where no file may be made beside it, or it has a second name, the
-/// old one is written over. What is no plain file, or may not be read and written, is `Failed`, and so is a circle of
-/// links, and more bytes than this process may write to a file.
+/// A new file next to the old one gets the bytes, and the old one's mode and, if that is allowed,
+/// its owner; it is synced and takes the old one's name in one step. If no file may be made next to
+/// it, or it has a second name, the old one is overwritten. The error is `Failed` for what is not a
+/// plain file, or may not be read and written, for a circle of links, and for more bytes than this
+/// process may write to a file.
 ///
-/// After an `Err` the old bytes stand there, but where the old one was written over and they can't be put back.
-/// `NoMemory` comes before any file is touched.
+/// After an `Err` the old bytes are still there, except if the old file was overwritten and they
+/// can't be restored. `NoMemory` occurs before any file is touched.
 pub fn store_file<R: Disk + AllocGlobal>(
     rt: &R,
     name: &str,
@@ -85,10 +89,11 @@ pub fn store_file<R: Disk + AllocGlobal>(
     }
 }
 
-/// The same for a path at which a plain file was found.
+/// Does the same for a path at which a plain file was found.
 ///
-/// Once it is opened to be written, a file in layers may be another one with the same bytes. So it is compared with what
-/// is known before that, and from then on with what was opened.
+/// Once it is opened to be written, a file on a layered file system may be another one with the
+/// same bytes. So it is compared with what is known before that, and from then on with what was
+/// opened.
 fn store_there<R: Disk + AllocGlobal>(
     rt: &R,
     path: &PathBuf,
@@ -103,8 +108,8 @@ fn store_there<R: Disk + AllocGlobal>(
     if known.map_or(false, |known| known != was) {
         return Err(ShelfFault::Failed);
     }
-    // A file that may not be written is not replaced either. It is opened to be read too, so that a pipe that has taken
-    // its place doesn't hold this up.
+    // A file that may not be written is not replaced either. It is opened for reading too, so that
+    // a pipe that has taken its place doesn't block this.
     let mut how = OpenOptions::new();
     how.read(true).write(true);
     let Ok(mut old) = how.open(rt, path.as_path()) else {
@@ -143,7 +148,8 @@ fn store_there<R: Disk + AllocGlobal>(
     })
 }
 
-/// The path to which links lead from a name, and the plain file that stands there, if any. Anything else is an error.
+/// Returns the path to which links lead from a name, and the plain file that is there, if any.
+/// Anything else is an error.
 fn place_of<R: Disk + AllocGlobal>(rt: &R, name: &str) -> io::Result<(PathBuf, Option<Metadata>)> {
     let mut path = PathBuf::from_str(rt.alloc(), name)?;
     for _ in 0..=MOST_LINKS {
@@ -162,8 +168,9 @@ fn place_of<R: Disk + AllocGlobal>(rt: &R, name: &str) -> io::Result<(PathBuf, O
     Err(io::Error::from(ErrorKind::FilesystemLoop))
 }
 
-/// Whether the name of a file may be taken away from its folder. The system is asked to remove a folder of this name,
-/// which it refuses for a file, and for another reason where no name may go.
+/// Whether the name of a file may be removed from its folder. The system is asked to remove a
+/// folder of this name, which it refuses for a file, and for another reason if no name may be
+/// removed.
 fn may_be_replaced<R: Disk>(rt: &R, path: &PathBuf) -> bool {
     match fs::remove_dir(rt, path.as_path()) {
         Err(error) => error.kind() == ErrorKind::NotADirectory,
@@ -171,7 +178,8 @@ fn may_be_replaced<R: Disk>(rt: &R, path: &PathBuf) -> bool {
     }
 }
 
-/// Whether the file that was met still stands at the path, and nobody changed it since; or that nothing stands there yet.
+/// Whether the file that was found is still at the path, and nobody changed it since; or that
+/// nothing is there yet.
 fn is_at<R: Disk>(rt: &R, path: &PathBuf, old: Option<&Metadata>) -> bool {
     match (fs::symlink_metadata(rt, path.as_path()), old) {
         (Ok(about), Some(old)) => FileVersion::of(&about) == FileVersion::of(old),
@@ -180,7 +188,7 @@ fn is_at<R: Disk>(rt: &R, path: &PathBuf, old: Option<&Metadata>) -> bool {
     }
 }
 
-/// Whether the open file stands at the path.
+/// Whether the open file is at the path.
 fn stands_at<R: Disk>(rt: &R, file: &R::File, path: &PathBuf) -> bool {
     match (file.metadata(), fs::symlink_metadata(rt, path.as_path())) {
         (Ok(about), Ok(there)) => is_same_file(&about, &there),
@@ -195,7 +203,7 @@ fn version_of<F: OpenFile>(file: &F) -> Option<FileVersion> {
     }
 }
 
-/// Writes the bytes into a new file beside the path, which then takes its name.
+/// Writes the bytes into a new file next to the path, which then takes its name.
 fn write_beside<R: Disk + AllocGlobal>(
     rt: &R,
     path: &PathBuf,
@@ -213,7 +221,7 @@ fn write_beside<R: Disk + AllocGlobal>(
     end
 }
 
-/// Lets a new file take the name of the old one, where both still stand where they did.
+/// Lets a new file take the name of the old one, if both are still where they were.
 fn take_name<R: Disk>(
     rt: &R,
     file: &R::File,
@@ -221,8 +229,8 @@ fn take_name<R: Disk>(
     path: &PathBuf,
     old: Option<&Metadata>,
 ) -> Result<Option<FileVersion>, BesideFault> {
-    // Another program may be about to put a file there. A rename of a name to itself does nothing but wait for its turn in
-    // the folder, so that the look that follows sees that file.
+    // Another program may be about to put a file there. A rename of a name to itself does nothing
+    // but wait for its turn in the folder, so that the check that follows sees that file.
     let _ = fs::rename(rt, new_path.as_path(), new_path.as_path());
     if !stands_at(rt, file, new_path) || !is_at(rt, path, old) {
         return Err(BesideFault::Failed);
@@ -231,7 +239,7 @@ fn take_name<R: Disk>(
     Ok(version_of(file))
 }
 
-/// A new file in the folder of this path, open to be written.
+/// Makes a new file in the folder of this path, open for writing.
 fn new_file_beside<R: Disk + AllocGlobal>(
     rt: &R,
     path: &PathBuf,
@@ -255,7 +263,7 @@ fn new_file_beside<R: Disk + AllocGlobal>(
     Err(BesideFault::Failed)
 }
 
-/// The path of a new file with this number beside a file.
+/// Returns the path of a new file with this number next to a file.
 fn path_beside<R: AllocGlobal>(
     rt: &R,
     path: &PathBuf,
@@ -287,8 +295,8 @@ fn fill<R: Disk>(
     file.sync_all().map_err(|_| BesideFault::Failed)
 }
 
-/// Gives a new file the owner and the group of the old one, else the group alone where that is allowed. Says whether it
-/// has both.
+/// Gives a new file the owner and the group of the old one, or else the group alone if that is
+/// allowed. Returns whether it has both.
 fn keeps_owner<R: Disk>(rt: &R, file: &R::File, about: &Metadata) -> bool {
     let (owner, group) = (about.uid(), about.gid());
     if rt.give(file, Some(owner), Some(group)).is_ok() {
@@ -298,8 +306,9 @@ fn keeps_owner<R: Disk>(rt: &R, file: &R::File, about: &Metadata) -> bool {
     false
 }
 
-/// Whether the system allows no new file, or not the old one's mode or name for it, as at a mount point, also where the
-/// folder is on a disk that is read only and the file is not, and where the new file's path is too long.
+/// Returns `NotAllowed` if the error says that the system allows no new file, or not the old one's
+/// mode or name for it: as at a mount point, in a folder on a read-only disk even if the file is
+/// not on that disk, or if the new file's path is too long. Otherwise returns `Failed`.
 fn fault_of(error: io::Error) -> BesideFault {
     match error.kind() {
         ErrorKind::PermissionDenied

@@ -1,4 +1,4 @@
-// A sink takes bytes, piece by piece.
+// Sinks, which take bytes piece by piece.
 ghost use Rattle.std.specs.Prelude.{◌≡◌, ℕ, List, Option, [], take, IsOk, OnOk, IsErrOf};
 ghost use Rattle.outer_io.specs.Files.{grown};
 ghost use Rattle.outer_io.specs.Faults.{HasCause};
@@ -6,15 +6,15 @@ ghost use Rattle.outer_io.specs.Faults.{HasCause};
 /// Why a put did not append its piece.
 #[derive(Clone, Copy, Debug, PartialEq, Eq)]
 pub enum PutFault {
-    /// The sink failed, and its count of faults rose. A first part of the piece may have been appended.
+    /// The sink failed, and its count of faults rose. A prefix of the piece may have been appended.
     Failed,
-    /// Memory ran out, and nothing was appended.
+    /// Out of memory; nothing was appended.
     NoMemory,
 }
 
-/// Bytes that grow at their end. A sink may tell what was written, and counts its faults.
+/// Bytes that are appended to. A sink may reveal what was written, and counts its faults.
 pub trait Sink {
-    /// The bytes that were put, where the sink tells them.
+    /// The bytes that were put, if the sink reveals them.
     ghost written: { Self → Option (List ℕ) };
 
     /// How often the sink has failed. The count never falls.
@@ -24,7 +24,7 @@ pub trait Sink {
     fn put(&mut self, bytes: &[u8]) -> Result<(), PutFault>
         ensures ok { OnOk result (written self.new ≡ grown (written self.old) bytes.now) }
 
-        // A failed put leaves a first part of the piece.
+        // A failed put leaves a prefix of the piece.
         ensures failed { IsErrOf result PutFault.Failed → (n : ℕ)
             × (written self.new ≡ grown (written self.old) (take n bytes.now)) }
         ensures no_memory { IsErrOf result PutFault.NoMemory → written self.new ≡ written self.old }

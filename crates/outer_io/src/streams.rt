@@ -1,4 +1,4 @@
-// The standard streams as sinks. They tell no content.
+// The standard streams as sinks. They reveal no content.
 ghost use Rattle.std.specs.Prelude.{◌≡◌, ◌≢◌, ℕ, None, [], take, IsTrue, IsOk, OnOk, IfOk, IfErr, OnErr, IsErrOf};
 ghost use Rattle.std.specs.Io.{WritesAtMost};
 ghost use Rattle.std.specs.Io.KnownBytes.{Appends, Keeps};
@@ -11,11 +11,12 @@ use std::io;
 use std::io::{ErrorKind, Write};
 use std::marker::Model;
 
-/// A stream as a sink. It tells no content. Contracts see the writer and the count of faults, and say of every put what
-/// it appends to a writer that tells its bytes.
+/// A stream as a sink. It reveals no content. Contracts see the writer and the count of faults, and
+/// say of every put what it appends to a writer that reveals its bytes.
 ///
-/// The count rises at each `Failed`: a write that fails, and a write that takes nothing of a piece that is not empty. A
-/// write that a signal interrupts is made again. A put is linear in its piece and takes no memory.
+/// The count rises at each `Failed`: a write that fails, or one that accepts nothing of a piece
+/// that is not empty. A write that is interrupted by a signal is retried. A put is linear in its
+/// piece and allocates nothing.
 #[derive(Drop)]
 pub struct StreamSink<W> {
     writer: W,
@@ -37,7 +38,7 @@ impl<W> Model for StreamSink<W> {
 }
 
 impl<W: Write> StreamSink<W> {
-    /// The sink over this writer, with no fault so far.
+    /// Returns the sink over this writer, with no fault so far.
     pub fn new(writer: W) -> StreamSink<W>
         ensures writer { result.writer ≡ writer }
         ensures faults { result.faults ≡ 0 }
@@ -45,7 +46,7 @@ impl<W: Write> StreamSink<W> {
         StreamSink { writer, faults: 0 }
     }
 
-    /// The writer, with all that was put.
+    /// Returns the writer, with all that was put.
     pub fn into_writer(self) -> W
         ensures writer { result ≡ self.writer }
     {
@@ -60,7 +61,7 @@ impl<W: Write> Sink for StreamSink<W> {
     ghost faults = { λ s. s.faults };
 
     fn put(&mut self, bytes: &[u8]) -> Result<(), PutFault>
-        // Of a writer that tells its bytes: all of the piece was appended, or a first part.
+        // If the writer reveals its bytes: all of the piece was appended, or a prefix.
         ensures whole { OnOk result
             (Appends (W.contents self.old.writer) (W.contents self.new.writer) bytes.now) }
         ensures front { (n : ℕ)
@@ -80,8 +81,8 @@ impl<W: Write> Sink for StreamSink<W> {
     }
 }
 
-/// Writes all the bytes, and says whether it did. A write that fails or takes nothing ends it; a first part of the
-/// bytes is then written.
+/// Writes all the bytes, and returns whether it did. A write that fails or accepts nothing ends it;
+/// a prefix of the bytes is then written.
 pub fn write_whole<W: Write>(writer: &mut W, bytes: &[u8]) -> bool
     ensures whole { IsTrue result →
         Appends (W.contents writer.old) (W.contents writer.new) bytes.now }
@@ -100,7 +101,7 @@ pub fn write_whole<W: Write>(writer: &mut W, bytes: &[u8]) -> bool
     true
 }
 
-/// One write, made again where a signal interrupts it.
+/// Writes once, retrying if a signal interrupts the write.
 fn write_some<W: Write>(writer: &mut W, bytes: &[u8]) -> io::Result<usize>
     ensures bound { WritesAtMost result bytes.now }
     ensures ok { IfOk result

@@ -1,11 +1,12 @@
-// Which file stood under a name when it was loaded or stored last, and how it was then.
+// Which file was under a name when it was loaded or stored last, and its state then.
 use c_terms::NoMemory;
 use std::alloc::Global;
 use std::collections::BTreeMap;
 use std::fs::Metadata;
 use std::os::unix::fs::MetadataExt;
 
-/// The stores of one file that are followed from a name under which it was loaded before them.
+/// The greatest number of stores of one file that are followed from a name under which it was
+/// loaded before them.
 const MOST_STORES: u32 = 1 << 20;
 
 /// A time of the file system's clock.
@@ -15,8 +16,8 @@ struct Moment {
     nanoseconds: i64,
 }
 
-/// A file at a moment: which one it is, its length, when its bytes were last written, and when it was last changed in
-/// any way, as by another name, mode or owner.
+/// A file at one moment: which one it is, its length, when its bytes were last written, and when it
+/// was last changed in any way, including its names, mode and owner.
 #[derive(Clone, Copy, Debug, PartialEq, Eq, PartialOrd, Ord)]
 pub struct FileVersion {
     device: u64,
@@ -43,7 +44,8 @@ impl FileVersion {
         }
     }
 
-    /// Whether the bytes of two are the same, as far as the length and the time of the last write tell.
+    /// Whether two versions have the same bytes, as far as the length and the time of the last
+    /// write show.
     pub fn has_bytes_of(self, other: FileVersion) -> bool {
         self.length == other.length && self.written == other.written
     }
@@ -54,8 +56,9 @@ pub fn is_same_file(one: &Metadata, other: &Metadata) -> bool {
     one.dev() == other.dev() && one.ino() == other.ino()
 }
 
-/// The versions that are known: under each name the one that was loaded or stored there last, and of each version that
-/// was stored on the one that came of it, since the same file may stand under other names too.
+/// The versions that are known: under each name, the one that was loaded or stored there last; and
+/// for each version that was overwritten by a store, the one that replaced it, since the same file
+/// may have other names too.
 #[derive(Drop)]
 pub struct Versions {
     alloc: Global,
@@ -72,7 +75,7 @@ impl Versions {
         }
     }
 
-    /// The version that is to stand under a name, where one is known.
+    /// Returns the version that is expected under a name, if one is known.
     pub fn at(&self, name: &str) -> Option<FileVersion> {
         let mut version = *self.by_name.get(name.as_bytes())?;
         for _ in 0..MOST_STORES {
@@ -91,8 +94,8 @@ impl Versions {
         Ok(())
     }
 
-    /// Keeps what a store made of a file. Where memory is refused, later stores of it find a file that they don't know,
-    /// and fail.
+    /// Keeps the version into which a store turned a file. When out of memory, later stores of the
+    /// file find a version that they don't know, and fail.
     pub fn renew(&mut self, name: &str, old: Option<FileVersion>, new: FileVersion) {
         if let Some(old) = old
             && old != new

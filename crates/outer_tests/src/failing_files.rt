@@ -1,4 +1,4 @@
-// A stand-in for the file system: the files of the system, of whose calls one fails, or which are nearly full.
+// A stand-in for the file system: the system's files, but one call fails, or the disk is nearly full.
 use outer_io::Disk;
 use std::cell::Cell;
 use std::fs::{File, FileTimes, Files, Metadata, OpenFile, OpenOptions, Permissions};
@@ -6,11 +6,11 @@ use std::io::{Empty, Error, ErrorKind, Read, Seek, SeekFrom, Write};
 use std::path::PathBuf;
 use std::{alloc, io};
 
-/// The bytes that one write takes.
+/// The most bytes that one write accepts.
 const MOST_WRITTEN: usize = 4;
 
-/// Which call fails, by its number from 0 on, and how; how many calls were made; by how many bytes files may grow; and
-/// whether something was changed that is not synced yet.
+/// Which call fails, by its number from 0, and how; the number of calls made; the number of bytes by which files may grow;
+/// and whether there are changes that aren't synced yet.
 #[derive(Drop)]
 pub struct Trouble {
     fails: Option<u64>,
@@ -41,7 +41,7 @@ impl Trouble {
         }
     }
 
-    /// Whether the call that fails was made.
+    /// Whether the failing call was made, or no call fails.
     pub fn is_past(&self) -> bool {
         self.fails.map_or(true, |number| number < self.calls.get())
     }
@@ -50,7 +50,7 @@ impl Trouble {
         !self.unsynced.get()
     }
 
-    /// Counts a call, which may be the one that fails.
+    /// Counts a call, and fails if it is the one that fails.
     fn call(&self) -> io::Result<()> {
         let number = self.calls.get();
         self.calls.set(number.saturating_add(1));
@@ -104,7 +104,7 @@ impl<'a> Files for FailingFiles<'a> {
         Err(Error::from(ErrorKind::Unsupported))
     }
 
-    /// What is not synced must not take a name.
+    /// A file that isn't synced must not be renamed.
     fn rename(&self, from: &str, to: &str) -> io::Result<()> {
         self.trouble.call()?;
         if !self.trouble.is_synced() {
@@ -137,7 +137,7 @@ impl<'a> Files for FailingFiles<'a> {
     }
 }
 
-/// A lock that fails is one that somebody else has.
+/// A lock fails as if somebody else held it.
 impl<'a> Disk for FailingFiles<'a> {
     fn give(
         &self,

@@ -1,4 +1,4 @@
-// Real files, where the program's command lines don't tell what a store leaves.
+// Real files, for cases in which the program's command lines don't show what a store leaves.
 use crate::place::{LONG, OLD, SHORT, is, place_of_one};
 use outer_io::{FileShelf, Shelf, ShelfFault};
 use std::fs;
@@ -6,7 +6,7 @@ use std::fs::Permissions;
 use std::os::unix::fs::{MetadataExt, PermissionsExt, chown, symlink};
 use std::test::Fail;
 
-/// Whether a store of the bytes is done, and they stand there alone.
+/// Whether a store of the bytes succeeds, and the file then has exactly these bytes.
 fn stores(rt: &HostRuntime, name: &str, bytes: &[u8]) -> bool {
     FileShelf::new(rt).store(name, bytes).is_ok() && is(&fs::read(rt, name).ok(), Some(bytes))
 }

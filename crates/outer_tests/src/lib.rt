@@ -1,6 +1,6 @@
-//! Tests of stores of real files. There is nothing else in this crate, and nothing of it is for use.
+//! Tests of stores of real files. The crate has nothing else, and no public items.
 //!
-//! They stand here and not in outer_io, since a crate with tests is proved twice.
+//! The tests are here rather than in outer_io because a crate with tests is proved twice.
 //!
 //! Its folders:
 //!

@@ -38,7 +38,7 @@ impl Deed {
     }
 }
 
-/// Loads a file, lets others do something to it, and tries to store it. Answers what stands there then.
+/// Loads a file, lets others do something to it, and tries to store it. Returns what is there then.
 fn left_after(rt: &HostRuntime, place: &Place, deed: Deed) -> Result<Option<Vec<u8>>, Fail> {
     let other = "outer_io_others/other.c";
     place.make(rt)?;

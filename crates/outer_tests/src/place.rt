@@ -9,12 +9,12 @@ pub const LONG: &[u8] = b"the new text has more bytes";
 
 pub const SHORT: &[u8] = b"new";
 
-/// A folder in which nothing stands but a file and other names that lead to it.
+/// A folder that contains only a file and other names that lead to it.
 #[derive(Clone, Copy)]
 pub struct Place {
     pub folder: &'static str,
     pub file: &'static str,
-    /// Whether the file stands there at first, with the old bytes.
+    /// Whether the file exists at first, with the old bytes.
     pub is_there: bool,
     pub link: Option<&'static str>,
     pub second: Option<&'static str>,
@@ -45,13 +45,13 @@ impl Place {
         Ok(())
     }
 
-    /// The name that is stored to.
+    /// Returns the name to which tests store.
     pub fn name(&self) -> &'static str {
         self.link.unwrap_or(self.file)
     }
 
-    /// Removes the names and the folder, which succeeds only where nothing else stands in it. Answers the bytes of the
-    /// file, where there is one.
+    /// Removes the names and the folder, which succeeds only if the folder has nothing else. Returns the bytes of the file,
+    /// if there is one.
     pub fn take(&self, rt: &HostRuntime) -> Result<Option<Vec<u8>>, Fail> {
         let bytes = fs::read(rt, self.file).ok();
         if let Some(second) = self.second {
@@ -74,7 +74,7 @@ impl Place {
     }
 }
 
-/// A file with a second name.
+/// Returns the place of a file with a second name.
 pub fn place_of_two(folder: &'static str, file: &'static str, second: &'static str) -> Place {
     Place {
         second: Some(second),
@@ -82,7 +82,7 @@ pub fn place_of_two(folder: &'static str, file: &'static str, second: &'static s
     }
 }
 
-/// Whether the file has these bytes, or there is none.
+/// Whether the file has these bytes, or, for `None`, doesn't exist.
 pub fn is(found: &Option<Vec<u8>>, wanted: Option<&[u8]>) -> bool {
     found.as_ref().map(|bytes| bytes.as_slice()) == wanted
 }

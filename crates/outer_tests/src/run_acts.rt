@@ -1,4 +1,4 @@
-// The lines as they are printed, each act once, and each act where it fails.
+// The printed lines, each act once, and each act when it fails.
 use c_terms::{NoMemory, Text};
 use outer_io::{CalmShelf, CalmSink, Loads, MemShelf, MemSink, Shelf, Sink};
 use run_acts::{
@@ -51,14 +51,14 @@ fn the_statuses_have_these_numbers(rt: HostRuntime) {
 /// An act on `k.c`, or on the outputs.
 #[derive(Clone, Copy, Debug)]
 enum Act {
-    /// A load of what stands under this name, with this limit.
+    /// A load of the file with this name, with this limit.
     Load(&'static str, u64),
     Store,
     Print,
     Report,
 }
 
-/// What an act answers.
+/// What an act returns.
 #[derive(Clone, Copy, Debug, PartialEq, Eq)]
 enum Answer {
     OldBytes,
@@ -177,7 +177,7 @@ fn acts_on_a_million_bytes_are_done(rt: HostRuntime) -> Result<(), Fail> {
     Ok(())
 }
 
-/// How many calls were made: of the shelf, and the stores among them, of the output and of the error output.
+/// The number of calls made: of the shelf, of stores among them, of the output and of the error output.
 #[derive(Clone, Copy, Debug, PartialEq, Eq)]
 struct Calls {
     shelf: u64,
@@ -186,7 +186,7 @@ struct Calls {
     err: u64,
 }
 
-/// The calls of an act that fails: its own, and the put of its line.
+/// Returns the calls of an act that fails: its own, and the output of its line.
 fn calls_of(act: Act) -> Calls {
     let (shelf, stores, out) = match act {
         Act::Load(_, _) => (1, 0, 0),
@@ -202,7 +202,7 @@ fn calls_of(act: Act) -> Calls {
     }
 }
 
-/// An act whose call fails, and then maybe the put of its line too: its status, and what stands on the two outputs.
+/// An act whose call fails, and possibly the output of its line too: its status, and what is on the two outputs.
 #[derive(Clone, Copy)]
 struct Broken {
     act: Act,
@@ -230,7 +230,7 @@ impl Broken {
     }
 }
 
-/// Does the act, and says whether it ended so, with as many calls as it has, and the old bytes on the shelf.
+/// Does the act, and returns whether it ended as described, with the calls of such an act and the old bytes on the shelf.
 fn ends_so(alloc: Global, broken: &Broken) -> Result<bool, NoMemory> {
     let first = [0].to_vec(alloc)?;
     let line = if broken.line_fails {

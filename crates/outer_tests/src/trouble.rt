@@ -1,4 +1,4 @@
-// Stores of which a call fails, each in turn, and stores on a disk that is full.
+// Stores in which each call fails in turn, and stores on a full disk.
 use crate::failing_files::{FailingFiles, Trouble};
 use crate::place::{LONG, OLD, Place, SHORT, is, place_of_one, place_of_two};
 use outer_io::{FileShelf, Shelf, ShelfFault};
@@ -8,14 +8,14 @@ use std::io::ErrorKind;
 use std::os::unix::fs::{MetadataExt, PermissionsExt};
 use std::test::Fail;
 
-/// How a store ended, and what stands there then.
+/// How a store ended, and what the file has then.
 #[derive(Drop)]
 struct Stored {
     is_done: bool,
     bytes: Option<Vec<u8>>,
 }
 
-/// Stores in trouble. What is done must be synced.
+/// Stores under the given trouble. A store that succeeds must be synced.
 fn store_in(
     rt: &HostRuntime,
     place: &Place,
@@ -40,8 +40,8 @@ fn store_in(
     }
 }
 
-/// Stores of which one call fails, each in turn. Either the new bytes stand there after a store that is done, or what
-/// stood there before. Answers after how many failing calls the store was done all the same.
+/// Stores once for each call, which then fails. The file must have the new bytes if the store succeeds, and its old content
+/// otherwise. Returns for how many failing calls the store still succeeded.
 fn done_all_the_same(
     rt: &HostRuntime,
     place: &Place,
@@ -76,13 +76,13 @@ fn a_store_of_which_a_call_fails_loses_nothing(rt: HostRuntime) -> Result<(), Fa
         link: Some("outer_io_one/link.c"),
         ..one
     };
-    // The owner may be another; where it isn't known that the name may go, the file is written over; a turn in the folder
-    // needn't be waited for, nor be known what stands there then.
+    // The owner may differ; if it isn't known whether the name may be removed, the file is overwritten; a store needn't
+    // wait for its turn in the folder, nor know what is there then.
     for place in [one, linked] {
         for new in [LONG, SHORT] {
             let done = done_all_the_same(&rt, &place, new, ErrorKind::Other)?;
             assert_eq!(rt; done, 4);
-            // Where no new file, or not the mode or the name for it, is allowed, the old file is written over.
+            // If a new file, its mode or its name isn't allowed, the old file is overwritten.
             let done = done_all_the_same(&rt, &place, new, ErrorKind::PermissionDenied)?;
             assert_eq!(rt; done, 7);
         }
@@ -94,7 +94,7 @@ fn a_store_of_which_a_call_fails_loses_nothing(rt: HostRuntime) -> Result<(), Fa
     for kind in [ErrorKind::Other, ErrorKind::PermissionDenied] {
         assert_eq!(rt; done_all_the_same(&rt, &made, LONG, kind)?, 2);
     }
-    // Each of seven writes is made again where it is interrupted.
+    // Each of seven writes is repeated when it is interrupted.
     assert_eq!(rt;
         done_all_the_same(&rt, &one, LONG, ErrorKind::Interrupted)?,
         4 + 7
@@ -128,7 +128,7 @@ fn without_its_owner_a_new_file_runs_as_who_runs_it(rt: HostRuntime) -> Result<(
             break;
         }
     }
-    // But for root a file that is written over runs so too.
+    // Unless root overwrites a file, it loses these mode bits too.
     assert!(rt; without == 1 || without == 2);
     Ok(())
 }
@@ -136,7 +136,7 @@ fn without_its_owner_a_new_file_runs_as_who_runs_it(rt: HostRuntime) -> Result<(
 #[test]
 fn a_file_of_two_names_is_written_over(rt: HostRuntime) -> Result<(), Fail> {
     let place = place_of_two("outer_io_both", "outer_io_both/k.c", "outer_io_both/l.c");
-    // What was written before a call failed is put back.
+    // The bytes that were overwritten before a call failed are restored.
     for new in [LONG, SHORT] {
         assert_eq!(rt; done_all_the_same(&rt, &place, new, ErrorKind::Other)?, 1);
     }

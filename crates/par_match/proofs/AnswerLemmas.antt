@@ -44,7 +44,7 @@ module _ {A : Type 0} (may : ℕ → A → Type 0) where
       record { answer = g.0; may = subst (λ n. may n g.0) (omega (arith, l)) (h.each (i - from) g.0 g.1) }
 
   module _ {F : Type 0} (may_fail : ℕ → F → Type 0) where
-    -- the first fault of a range is the first of all where what comes before has answers
+    -- the first fault of a range is the first of all if the jobs before it have answers
     pub why-after : (from mid to n : ℕ) (xs : List A) (e : JobFault F) → from ≤ mid → to ≤ n → AreAnswers may from mid xs → IsWhy may may_fail mid to e → IsWhy may may_fail from n e
     why-after from mid to n xs (Worker j f) l m h w = record {
       after = omega (arith, l, w.after);

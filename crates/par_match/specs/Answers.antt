@@ -4,7 +4,7 @@ use Rattle.par_match.specs.declared.fault.JobFault.{JobFault}
 use Rattle.par_match.specs.declared.fault.JobFault.TheVariants.{Worker, NoMemory}
 
 module _ {A : Type 0} (may_answer : ℕ → A → Type 0) where
-  -- the answers of the jobs from `from` on, before `to`, in their order
+  -- the answers of the jobs from `from` up to, but not including, `to`, in their order
   pub record AreAnswers (from to : ℕ) (answers : List A) : Type 0 where
     pub each : (i : ℕ) (a : A) → slice_get answers i ≡ Some a → may_answer (from + i) a
     pub count : length answers ≡ to - from
@@ -15,7 +15,8 @@ module _ {A : Type 0} (may_answer : ℕ → A → Type 0) where
     pub may : may_answer job answer
 
   module _ {F : Type 0} (may_fail : ℕ → F → Type 0) where
-    -- of the jobs from `from` on, before `to`, this one failed so, and each lesser one has an answer
+    -- of the jobs from `from` up to, but not including, `to`, this one failed with this fault, and each lower one has
+    -- an answer
     pub record IsFirst (from to job : ℕ) (fault : F) : Type 0 where
       pub after : from ≤ job
       pub before : job < to

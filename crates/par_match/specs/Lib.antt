@@ -1,6 +1,6 @@
 -- What public contracts rest on: which lists of answers and which faults some jobs may have.
 
 pub mod Answers
--- For inside use: what comes of a range of jobs.
+-- For internal use: the outcome of a range of jobs.
 
 pub mod Parts

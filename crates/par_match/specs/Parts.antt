@@ -1,4 +1,4 @@
--- What came of a range of jobs.
+-- The outcome of a range of jobs.
 use Rattle.std.specs.Prelude.{ℕ, IfOk, IfErr, IfSome, Option}
 use Rattle.par_match.specs.declared.parts.Part.{Part}
 use Rattle.par_match.specs.Answers.{AreAnswers, IsWhy}

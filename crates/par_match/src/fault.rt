@@ -6,9 +6,9 @@ use std::alloc::{AllocError, AllocFailed};
 /// Why there is no list of answers.
 #[derive(Clone, Copy, Debug, PartialEq, Eq)]
 pub enum JobFault<F> {
-    /// The job of this number failed so, and every job of a lesser number has an answer.
+    /// The job with this number failed with this fault, and every job with a lower number has an answer.
     Worker(usize, F),
-    /// Memory was refused. This is the one answer that a caller cannot foresee.
+    /// Out of memory. This is the one error that a caller cannot foresee.
     NoMemory,
 }
 

@@ -1,11 +1,12 @@
-// What is told of each job before it begins.
+// The trait of gates, which are notified of each job before it begins.
 
-/// Is told of each job before it begins, in the thread that does it. So a test can show that jobs run side by side.
+/// A gate is notified of each job before it begins, in the thread that does the job, so that a test
+/// can show that jobs run side by side.
 pub trait Gate: Sync {
     fn reached(&self, job: usize);
 }
 
-/// Lets each job pass, and does nothing.
+/// A gate that lets each job pass and does nothing.
 #[derive(Clone, Copy, Debug)]
 pub struct FreeGate;
 

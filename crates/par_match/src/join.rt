@@ -1,4 +1,4 @@
-// What the threads left, put in order and joined.
+// The parts that the threads left, put in order and joined.
 ghost use Rattle.std.specs.Prelude.{◌≡◌, ◌<◌, ◌≤◌, ℕ, All, IfOk, IfErr, OnOk};
 ghost use Rattle.par_match.specs.Answers.{AreAnswers, IsWhy};
 ghost use Rattle.par_match.specs.Parts.{IsPartOf, Holds};
@@ -7,7 +7,7 @@ use crate::parts::{Part, part_at};
 use crate::{Gate, JobFault, Worker};
 use std::alloc::{AllocError, Global};
 
-/// A cell for each range, with the part that begins there where a thread left one.
+/// Returns a cell for each range, with the part that begins there if a thread left one.
 pub(crate) fn in_order<W: Worker>(
     alloc: Global,
     ranges: usize,
@@ -59,7 +59,8 @@ fn put_parts<W: Worker>(
     }
 }
 
-/// The answers of all parts in order, or the first fault. A range that no thread left is done now.
+/// Returns the answers of all parts in order, or the first fault. A range that no thread left is
+/// done now.
 pub(crate) fn joined<W: Worker, G: Gate>(
     alloc: Global,
     n: usize,

@@ -11,15 +11,17 @@ use std::sync::atomic::AtomicUsize;
 use std::thread;
 use std::thread::Threads;
 
-/// The most ranges of one call. So few that each costs next to nothing beside what it stands for, and so many that jobs which
-/// cost much, and stand side by side, are seldom in one range.
+/// The greatest number of ranges of one call. It is small enough that the cost of the ranges is
+/// negligible, and large enough that costly jobs which are side by side are seldom in one range.
 const MOST_RANGES: usize = 4_096;
 
-/// Does the jobs 0 to `n - 1` of a worker in up to `jobs` threads, and answers what they answered, in order. Of jobs that
-/// fail it names the one of the least number. The gate is told of each job before it begins.
+/// Does the jobs 0 to `n - 1` of a worker in up to `jobs` threads, and returns their answers in
+/// order. If jobs fail, returns the fault of the one with the lowest number. The gate is notified
+/// of each job before it begins.
 ///
-/// Starts no thread for one job or where `jobs` is 1. Takes memory for the answers and a few words for each range: up to 4,096 jobs
-/// are a range each, and more are shared out among at most 4,096 ranges.
+/// Starts no thread for one job or if `jobs` is 1. Allocates memory for the answers and a few words
+/// for each range: up to 4,096 jobs have a range each, and more are divided among at most 4,096
+/// ranges.
 pub fn map_jobs<R: Threads + Sync, W: Worker, G: Gate>(
     rt: &R,
     alloc: Global,
@@ -53,7 +55,7 @@ pub fn map_jobs<R: Threads + Sync, W: Worker, G: Gate>(
     joined(alloc, n, size, cells, worker, gate)
 }
 
-/// How many jobs a range has.
+/// Returns the number of jobs in a range.
 fn range_size(n: usize) -> usize
     ensures some { 0 < result }
 {

@@ -1,4 +1,4 @@
-// Ranges that threads take, and what comes of them.
+// Ranges that threads take, and their outcomes.
 ghost use Rattle.std.specs.Prelude.{◌≡◌, ◌<◌, ◌≤◌, All, IfOk, IfSome, OnOk};
 ghost use Rattle.par_match.specs.Parts.{IsPartOf, Holds};
 
@@ -7,7 +7,7 @@ use crate::{Gate, JobFault, Worker};
 use std::alloc::{AllocError, Global};
 use std::sync::atomic::{AtomicUsize, Ordering};
 
-/// What came of the jobs from `from` on, before `to`.
+/// The outcome of the jobs from `from` up to, but not including, `to`.
 #[derive(Drop)]
 pub(crate) struct Part<A, F> {
     pub(crate) from: usize,
@@ -15,8 +15,8 @@ pub(crate) struct Part<A, F> {
     pub(crate) outcome: Result<Vec<A>, JobFault<F>>,
 }
 
-/// Does one range after another, up to the first with a fault. The number at which the next range begins is shared with
-/// the other threads, so each takes what no other has taken.
+/// Does one range after another, up to the first with a fault. The number at which the next range
+/// begins is shared with the other threads, so each thread takes ranges that no other has taken.
 pub(crate) fn take_ranges<W: Worker, G: Gate>(
     alloc: Global,
     n: usize,
@@ -67,7 +67,7 @@ fn do_part<W: Worker, G: Gate>(
     Part { from, to, outcome }
 }
 
-/// The part that begins here: the one that a thread left, or else one that is done now.
+/// Returns the part that begins here: the one that a thread left, or else one that is done now.
 pub(crate) fn part_at<W: Worker, G: Gate>(
     alloc: Global,
     from: usize,

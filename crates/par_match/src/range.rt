@@ -5,7 +5,7 @@ ghost use Rattle.par_match.specs.Answers.{AreAnswers, IsWhy};
 use crate::{Gate, JobFault, Worker};
 use std::alloc::Global;
 
-/// Does the jobs from `from` on, before `to`, up to the first that fails.
+/// Does the jobs from `from` up to, but not including, `to`, and stops at the first that fails.
 pub(crate) fn do_range<W: Worker, G: Gate>(
     alloc: Global,
     from: usize,
@@ -29,7 +29,7 @@ pub(crate) fn do_range<W: Worker, G: Gate>(
     Ok(answers)
 }
 
-/// Where a range of this size ends that begins at `from`.
+/// Returns the end of the range of this size that begins at `from`.
 pub(crate) fn end_of(from: usize, size: usize, n: usize) -> usize
     requires size { 0 < size }
     requires within { from < n }

@@ -1,4 +1,4 @@
-// What no clause says: that jobs run side by side, and that each call has an answer with ample memory.
+// What no clause says: that jobs run side by side, and that each call succeeds with ample memory.
 ghost use Rattle.std.specs.Prelude.{◌^◌};
 
 use crate::{FreeGate, Gate, JobFault, Worker, map_jobs};
@@ -8,7 +8,7 @@ use std::thread::Threads;
 
 const MANY: usize = 100_000;
 
-/// Answers the square of its job, and from one job on fails with the job's number.
+/// Answers the square of its job; jobs from a given number on fail with their number.
 #[derive(Drop)]
 struct Squares {
     fails_from: usize,
@@ -47,7 +47,7 @@ fn ask<R: Threads + Sync, G: Gate>(
     map_jobs(rt, alloc, jobs, n, &Squares { fails_from }, gate)
 }
 
-/// Whether jobs 0 to `n - 1` have their squares in order.
+/// Whether the answers to jobs 0 to `n - 1` are their squares, in order.
 fn are_squares<R: Threads + Sync>(rt: &R, alloc: Global, jobs: u32, n: usize) -> bool {
     match ask(rt, alloc, jobs, n, MANY, &FreeGate) {
         Ok(answers) => {
@@ -70,7 +70,7 @@ fn answers_are_in_order_for_every_number_of_jobs(rt: HostRuntime) {
     }
 }
 
-/// Whether the first of the failing jobs is named.
+/// Whether the fault is that of the first of the failing jobs.
 fn names<R: Threads + Sync>(rt: &R, alloc: Global, jobs: u32, n: usize, first: usize) -> bool {
     matches!(ask(rt, alloc, jobs, n, first, &FreeGate), Err(JobFault::Worker(job, fault)) if job == first && fault == first)
 }
@@ -85,7 +85,7 @@ fn the_first_fault_is_named(rt: HostRuntime) {
     }
 }
 
-/// Two jobs that look for one another, each for a while.
+/// Two jobs that wait for one another, each for a while.
 #[derive(Drop)]
 struct Meeting {
     here: [AtomicBool; 2],

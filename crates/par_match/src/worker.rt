@@ -1,13 +1,14 @@
-// What does the jobs.
+// The trait of workers, which do the jobs.
 ghost use Rattle.std.specs.Prelude.{ℕ, ◌<◌, IfOk, IfErr};
 
-/// What does the jobs. All threads share one worker, so a job reads what does not change and writes its answer alone.
+/// Does the jobs. All threads share one worker, so a job only reads data that does not change, and
+/// only writes its answer.
 pub trait Worker: Sync {
     type Answer: Send + Drop;
 
     type Fault: Send + Drop;
 
-    /// How many jobs it has.
+    /// How many jobs the worker has.
     ghost jobs: { Self → ℕ };
 
     /// Which answers a job may give.

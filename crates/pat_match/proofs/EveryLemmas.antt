@@ -1,4 +1,4 @@
--- Rows from a child on that takes every run in every environment: each set has that of the member after it.
+-- Rows from a child that takes every run in every environment: each set includes that of the member after it.
 use Rattle.std.proofs.Common.{◌≡◌, ℕ, suc, zero, ◌+◌, ◌-◌, ◌<◌, ◌≤◌, Bool, true, false, ◌&&◌, ◌||◌, nat_eq, nat_le, refl, sym, ap, ap₂, ◌∙◌, arith, List, [], ◌∷◌, ◌++◌, length, take, drop, set, Option, Some, None, slice_get}
 use Rattle.std.proofs.lemmas.Bool.Decides.{nat_tests}
 use Rattle.std.proofs.lemmas.Grind.{common_steps, get_or-set_at}
@@ -137,11 +137,11 @@ tail_put row out new count from m n env s e g h k = by (nat_eq from n) refl
         g ∙ ap₂ (λ x y. x || (y && s)) (h ∙ ap (λ z. z && tail_at count row n env) a) q
         ∙ or_false (nat_le from n && tail_at count row n env)
 
--- nothing is put in yet
+-- no entry is added yet
 pub tail_none : (count n m : ℕ) (t : Bool) → n < count + 1 → m ≡ count + 1 → false ≡ (nat_le m n && t)
 tail_none count n m t lt e = let a : nat_le m n ≡ false = grind (arith, nat_tests) in ap (λ x. x && t) (sym a)
 
--- all is put in
+-- all entries are added
 pub tail_done : (n m : ℕ) (t r : Bool) → m ≤ 0 → r ≡ (nat_le m n && t) → r ≡ t
 tail_done n m t r le h = let a : nat_le m n ≡ true = grind (arith, nat_tests) in h ∙ ap (λ x. x && t) a
 

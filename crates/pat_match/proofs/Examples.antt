@@ -1,4 +1,4 @@
--- The definitions at a few values, above all where two readings would differ.
+-- The definitions at a few values, mainly where two readings would differ.
 use Rattle.std.proofs.Common.{◌≡◌, ℕ, Bool, true, false, ◌&&◌, not, ap, refl, List, [], ◌∷◌, Some, None}
 use Rattle.std.specs.Prelude.{codes}
 use Rattle.c_terms.specs.declared.token.Token.{Token}
@@ -61,7 +61,7 @@ p_not_q = record { var = p; kind = var_kind.Position; inherited = false; not_nam
 
 -- Kinds.
 
--- a constant's name has a capital letter, and no small one
+-- a constant's name has a capital letter, and no lower-case letter
 capitals : is_constant_name (codes "X_1") ≡ true
 capitals = refl
 
@@ -77,14 +77,14 @@ empty_name = refl
 number_is_constant : token_is_of meta.Constant (token kind.Number (codes "1") 0) ≡ true
 number_is_constant = refl
 
--- a keyword is no name, and capitals don't make a constant of it
+-- a keyword is not a name, and capitals don't make it a constant
 keyword_is_none : token_is_of meta.Constant (token kind.Keyword (codes "X") 0) ≡ false
 keyword_is_none = refl
 
 strings_are_constant : label_is_of meta.Constant label.Strings ≡ true
 strings_are_constant = refl
 
--- what stands between a call's brackets is no expression, and a list variable fits no tree by itself
+-- the list between a call's parentheses is not an expression, and a list variable fits no tree by itself
 args_are_none : label_is_of meta.Expr label.Args ≡ false
 args_are_none = refl
 
@@ -98,7 +98,7 @@ declaration_is_statement = refl
 excepted : is_named (codes "a" ∷ []) (Tree-F.Leaf (name (codes "a") 4)) ≡ true
 excepted = refl
 
--- list variables belong to one kind of list, Dots to both
+-- list variables belong to one kind of list, Dots to both kinds
 params_in_args : is_wild_kind label.Args (kind.Meta meta.Params) ≡ false
 params_in_args = refl
 
@@ -156,11 +156,11 @@ abbrev member : Tree → Member
 member t = record { comma = Some (comma_token 9); tree = t }
 
 module _ (env : Environment) (a b : Tree) where
-  -- Dots take no member too, with the comma after them aligned with nothing
+  -- Dots may also take no member, with the comma after them aligned with nothing
   dots_take_none : runs_from [] [] env label.Args None (dots ∷ comma_piece 1 ∷ one true ∷ []) (record { comma = None; tree = a } ∷ []) ≡ true
   dots_take_none = refl
 
-  -- a member that is no wildcard takes exactly one
+  -- a member that is not a wildcard takes exactly one member
   one_takes_one : runs_from [] [] env label.Args None (one true ∷ []) (record { comma = None; tree = a } ∷ member b ∷ []) ≡ false
   one_takes_one = refl
 
@@ -182,7 +182,7 @@ module _ (env : Environment) (a b : Tree) where
   comma_before_none : runs_from [] (bare_entry ∷ at_p ∷ []) env label.Args None (one true ∷ comma_piece 1 ∷ dots ∷ []) (record { comma = None; tree = a } ∷ []) ≡ false
   comma_before_none = refl
 
-  -- a disjunction fits where a branch does, whatever the others do, and its first branch that fits is used
+  -- a disjunction fits if a branch fits, whatever the others do, and its first branch that fits is used
   later_branch : fits_by [] [] env shape.Or label.PatOr (one false ∷ one true ∷ []) a ≡ true
   later_branch = refl
 
@@ -203,7 +203,7 @@ module _ (env : Environment) (a b : Tree) where
 
   -- Spots.
 
-  -- nothing that is written as a whole stands at the tail of `do`, or at an exit
+  -- no branch at spot Whole fits at the tail of `do`, or at an exit
   whole_at_tail : (form : Tree) → branch_whole [] [] env node.DoTail form a ≡ false
   whole_at_tail form = refl
 
@@ -217,14 +217,14 @@ module _ (env : Environment) (a b : Tree) where
   brace_at_simple : (form : Tree) → token_whole [] [] env node.Simple (token kind.Punct (codes "{") 0) form a ≡ false
   brace_at_simple form = refl
 
-  -- of a head the body is not compared, and the number of children is
+  -- the body of a head is not compared, but the number of its children is
   body_not_compared : own_fit (is_own node.Head label.If 5) 0 (one true ∷ one true ∷ one true ∷ one true ∷ one false ∷ []) (a ∷ a ∷ a ∷ a ∷ b ∷ []) ≡ true
   body_not_compared = refl
 
   children_counted : own_fit (is_own node.Head label.If 5) 0 (one true ∷ []) (a ∷ b ∷ []) ≡ false
   children_counted = refl
 
--- `else` is the head's own, the bodies around it are not; of `do` all from `while` on is the tail's
+-- `else` is the head's own, the bodies around it are not; in a `do` statement all from `while` on is the tail's own
 else_is_own : is_own node.Head label.IfElse 7 5 ≡ true
 else_is_own = refl
 
@@ -263,7 +263,7 @@ own_is_outermost = refl
 inner_is_not : inner_block.outermost ≡ false
 inner_is_not = refl
 
--- a function's head, at the path of the item, and a statement are no blocks
+-- a function's head, at the path of the item, and a statement are not blocks
 head_is_not : (role_at node.FunHead []).outermost ≡ false
 head_is_not = refl
 

@@ -45,7 +45,7 @@ run_first l [] = sym (ap first_in (leaves-Branch l []))
 run_first l (m ∷ ms) = sym (ap first_in (leaves-Branch l (run_kids (m ∷ ms))) ∙ kids_next m.tree (more_kids ms)
     ∙ ap (or_else (first_id m.tree)) (members_first ms))
 
--- one member less
+-- one fewer member
 pub members_at : (ms : List Member) (i : ℕ) (m : Member) → i < length ms → m ≡ get_or ms i m
     → first_of_members (drop i ms) ≡ or_else (first_of_member m) (first_of_members (drop (suc i) ms))
 members_at ms i m lt e = ap first_of_members (drop_at ms i m lt e)

@@ -1,4 +1,4 @@
--- The same at a node: of what is compared of a form, each sure variable has a value of the subtree.
+-- The same at a node: each sure variable of the compared part of a form has a value of the subtree.
 use Rattle.std.proofs.Common.{◌≡◌, ℕ, suc, zero, ◌+◌, Bool, true, false, ◌&&◌, ◌||◌, not, nat_eq, refl, sym, ap, ◌∙◌, List, [], ◌∷◌, map, length, Option, Some, None, slice_get, ⊎_elim, if◌then◌else◌}
 use Rattle.std.specs.List.{list_any}
 use Rattle.c_terms.specs.declared.token.Token.{Token}
@@ -128,7 +128,7 @@ module _ (decls : List VarDecl) (tokens : List PatToken) (env : Environment) (x 
       let f = sym (ap (kids_fit (own_fit (is_own k l (length cs)) 0) l (map (piece decls tokens env) cs)) (out-Branch j us)) ∙ h in
       has-kid j us (env x) (own_kids (is_own k l (length cs)) 0 cs us (and_right _ _ f) s))
 
-  -- what is sure in a branch that is no disjunction is so in a child
+  -- what is sure in a branch that is not a disjunction is sure in a child
   by_shape : (r : Shape) (cs : List Tree) → not (is_disjunction r) ≡ true → sure_kids decls tokens x r cs ≡ true → any_sure decls tokens env x cs ≡ true
   by_shape shape.Or cs n s = absurd (cc)
   by_shape shape.And cs n s = s
@@ -146,7 +146,7 @@ module _ (decls : List VarDecl) (tokens : List PatToken) (env : Environment) (x 
           (or_cases (is_sure decls tokens x c) (any_sure decls tokens env x (kept test (suc i) cs)) s)
       by false more s = or_right _ _ (more s)
 
-  -- a branch at spot Whole: the head's own children where its label has bodies, else the branch itself
+  -- a branch at spot Whole: the head's own children if its label has bodies, and the branch itself otherwise
   abbrev held_whole : Bool → Label → List Tree → Bool
   held_whole b l cs = any_sure decls tokens env x (if b then kept (is_held spot.Whole l (length cs)) 0 cs else Branch l cs ∷ [])
 
@@ -218,7 +218,7 @@ module _ (decls : List VarDecl) (tokens : List PatToken) (env : Environment) (x 
       (λ l cs h s. given (Branch l cs) t h (or_false (is_sure decls tokens x (Branch l cs))
       (sym (ap (λ y. any_sure decls tokens env x (held_at spot.Inside y (Branch l cs))) (out-Branch l cs)) ∙ s)))
 
--- where a form fits a subtree at a node, each sure variable of what is compared of it has a value of the subtree
+-- if a form fits a subtree at a node, each sure variable of the compared part has a value of the subtree
 pub held_has_value : (decls : List VarDecl) (tokens : List PatToken) (env : Environment) (x : Var) (s : Spot) (k : NodeKind) (form t : Tree)
     → fits_at decls tokens env s k form t ≡ true → held_sure decls tokens s x form ≡ true → has_value t (env x) ≡ true
 held_has_value decls tokens env x spot.Whole k form t h s = whole_law decls tokens env x k t form h s

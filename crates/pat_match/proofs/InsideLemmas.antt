@@ -1,4 +1,4 @@
--- The parts of a tree, one child more: whether one of them passes, and those that are aligned.
+-- The parts of a tree with one more child: whether one of them passes, and those that are aligned.
 use Rattle.std.proofs.Common.{◌≡◌, ℕ, suc, ◌<◌, ◌≤◌, Bool, true, false, ◌&&◌, ◌||◌, refl, sym, ap, ap₂, ◌∙◌, arith, List, [], ◌∷◌, ◌++◌, map, length, drop, get_or, drop-cons, append_assoc, if◌then◌else◌}
 use Rattle.std.proofs.lemmas.Grind.{common_steps}
 use Rattle.std.specs.List.{list_any}
@@ -19,7 +19,7 @@ use Rattle.pat_match.specs.Spots.{parts_of_child, own_parts_from}
 use Rattle.pat_match.specs.Matching.{put_form, form_at, aligned_at}
 use Rattle.pat_match.proofs.CountLemmas.{drop_past}
 
--- the parts of the children from number i on
+-- the parts of the children from index i on
 abbrev pub kids_parts : Label → ℕ → List Tree → List Place
 kids_parts l i cs = parts_from is_expression_part l i (map (child_known is_expression_part) cs)
 
@@ -90,7 +90,7 @@ or_three : (a b c : Bool) → ((a || b) || c) ≡ (a || (b || c))
 or_three true b c = refl
 or_three false b c = refl
 
--- once no child is left, a child and the parts inside it have been asked
+-- once no child is left, a child and the parts inside it have been tested
 pub any_child_done : (q : Tree → Bool) (l : Label) (i : ℕ) (c : Tree) (inner : Label) (cs : List Tree) (j : ℕ) (asked a o d : Bool) → length cs ≤ j → asked ≡ is_expression_part l i c
     → o ≡ (a || (asked && q c)) → (d || list_any (λ s. q s.tree) (kids_parts inner j (drop j cs))) ≡ (o || list_any (λ s. q s.tree) (parts is_expression_part c))
     → d ≡ (a || list_any (λ s. q s.tree) (parts_of_child l i c))
@@ -172,7 +172,7 @@ module _ (decls : List VarDecl) (tokens : List PatToken) (env : Environment) (p 
       ∙ ap (λ xs. old ++ xs) (sym (ap (aligned above) (own_step own l cs i c lt e) ∙ aligned-append above ps (own_parts_from own l (suc i) (drop (suc i) cs))))
       ∙ h
 
-  -- a child that is aligned, where it is asked for, and then the parts inside it
+  -- a child that is aligned, if it is asked for, and then the parts inside it
   pub aligned_whole : (above now : List ℕ) (l : Label) (i : ℕ) (c : Tree) (old part : List Alignment) (asked : Bool) → asked ≡ is_expression_part l i c → now ≡ above ++ i ∷ []
       → part ≡ old ++ (if asked then put_form now (form_at decls tokens env p k c) else [])
       → part ++ aligned now (parts is_expression_part c) ≡ old ++ aligned above (parts_of_child l i c)

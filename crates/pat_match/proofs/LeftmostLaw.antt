@@ -109,7 +109,7 @@ module _ (decls : List VarDecl) (tokens : List PatToken) (env : Environment) (l 
           both_true _ _ (le_test _ _ r.0) (both_true _ _ (and_left _ _ r.1) (rest None (drop (few before p ps ms) ms) (and_right _ _ r.1)))
       by (Some c) rest h = both_true _ _ (and_left _ _ h) (rest (Some c) ms (and_right _ _ h))
 
-  -- where some alignment does, the list fits
+  -- if some alignment does, the list fits
   pub aligned_fits : (before : Option Token) (ps : List Piece) (ms : List Member) (ks : List ℕ) → taken before ps ms ks ≡ true → fits before ps ms ≡ true
   aligned_fits before [] [] [] h = h
   aligned_fits before [] [] (k ∷ ks) h = absurd (cc)

@@ -15,7 +15,7 @@ use Rattle.pat_match.specs.Fitting.{piece, leaf_of, fits_tree}
 use Rattle.pat_match.proofs.CountLemmas.{drop_at, none_below}
 use Rattle.pat_match.proofs.RowLemmas.{at_comma, at_member, takes_single, single_none, and_false}
 
--- the number of members, one child less
+-- the number of members, with one fewer child
 
 less_at : (before : Option Token) (t : Tree) (ts : List Tree) (o : Option Token) → comma t ≡ o → length (members_from before (t ∷ ts))
     ≡ length (elim o as (λ o. List Member) [ None ↦ record { comma = before; tree = t } ∷ members_from None ts | Some c ↦ members_from (Some c) ts ])
@@ -47,7 +47,7 @@ pub count_member : (ts : List Tree) (i j : ℕ) (t : Tree) → j ≡ suc i → i
 count_member ts i j t n lt g e =
     ap (λ us. length (members us)) (drop_at ts i t lt g) ∙ less_member None t (drop (suc i) ts) e ∙ ap (λ k. suc (length (members (drop k ts)))) (sym n)
 
--- more members than children, each of which takes one at most
+-- more members than children, each of which takes at most one
 
 left_false : (a b : Bool) → (a || b) ≡ false → a ≡ false
 left_false a b h = grind (arith, common_steps)
@@ -62,7 +62,7 @@ module _ (decls : List VarDecl) (tokens : List PatToken) (label : Label) (env : 
   abbrev from : Option Token → List Tree → List Member → Bool
   from before fs ms = runs_from decls tokens env label before (map (piece decls tokens env) fs) ms
 
-  -- so many members are too few or too many for the child, or leave too many for those after it
+  -- this many members are too few or too many for the child, or leave too many for the children after it
   not_so_many : (before : Option Token) (f : Tree) (fs : List Tree) (ms : List Member) → is_wild label (leaf_of (out-Tree f)) ≡ false → suc (length fs) < length ms
       → ((b : Option Token) (ns : List Member) → length fs < length ns → from b fs ns ≡ false)
       → (k : ℕ) → k < suc (length ms) → (takes decls tokens env label before (piece decls tokens env f) (take k ms) && from None fs (drop k ms)) ≡ false

@@ -1,13 +1,13 @@
 -- One more step of a loop that narrows a set.
 use Rattle.std.proofs.Common.{◌≡◌, ◌&&◌, ◌||◌, Bool, true, false, refl, sym, ap}
 
--- a set that had some conditions has two more
+-- a set with some conditions has two more
 pub two_more : (s t p n : Bool) → (((s && t) && p) && n) ≡ (s && (t && (p && n)))
 two_more true true p n = refl
 two_more true false p n = refl
 two_more false t p n = refl
 
--- one more form, which is no sign and fits
+-- one more form, which is not a sign and fits
 pub form_added : (t s f : Bool) → s ≡ false → (t && f) ≡ (t && (s || f))
 form_added t s f h = ap (λ b. t && (b || f)) (sym h)
 

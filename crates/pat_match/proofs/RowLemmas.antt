@@ -1,4 +1,4 @@
--- Rows, one entry more and one child more.
+-- Rows with one more entry and one more child.
 use Rattle.std.proofs.Common.{◌≡◌, ℕ, suc, zero, ◌+◌, ◌-◌, ◌<◌, ◌≤◌, Bool, true, false, ◌&&◌, ◌||◌, nat_eq, nat_lt, nat_le, refl, sym, ap, ap₂, ◌∙◌, subst, arith, List, [], ◌∷◌, map, length, take, drop, get_or, Option, Some, None, slice_get, length-drop}
 use Rattle.std.proofs.lemmas.Bool.Decides.{nat_tests}
 use Rattle.std.proofs.lemmas.Grind.{common_steps}
@@ -49,7 +49,7 @@ wild_layer : (l : Label) (x : Tree-F Tree) → is_wild l (leaf_of x) ≡ true �
 wild_layer l (Tree-F.Leaf a) h = let e = wild_punct l a.kind h in grind (arith, common_steps)
 wild_layer l (Tree-F.Branch k cs) h = refl
 
--- dots and list variables are no commas
+-- dots and list variables are not commas
 pub wild_comma : (l : Label) (f : Tree) → is_wild l (leaf_of (out-Tree f)) ≡ true → comma f ≡ None
 wild_comma l f h = wild_layer l (out-Tree f) h
 
@@ -74,7 +74,7 @@ module _ (decls : List VarDecl) (tokens : List PatToken) (label : Label) where
       ≡ (comma_fits decls tokens env before run && single_fits (fits_tree decls tokens env f) run)
   takes_single env before f run h = let e = piece-token decls tokens env f in rw (e, h) refl
 
-  -- the entries of a row together say what the child and the row say
+  -- the entries of a row together are equivalent to the child and the row
   pub wild_step : (before : Option Token) (f : Tree) (ms : List Member) (row : List RowEntry) (n : ℕ) (env : Environment) → is_wild label (leaf_of (out-Tree f)) ≡ true → n ≤ length ms
       → list_any (wild_entry decls tokens label before f ms n env) row ≡ step_at decls tokens label before f ms row n env
   wild_step before f ms row n env w le =
@@ -115,7 +115,7 @@ module _ (decls : List VarDecl) (tokens : List PatToken) (label : Label) where
               let t = takes_single env before f (take (e.taken - n) (drop n ms)) w in
               rw (h, a, b, t, none) (ap (λ x. x && set_denotes e.set env) (sym (and_false (comma_fits decls tokens env before (take (e.taken - n) (drop n ms))))))
 
-  -- lists, one child less
+  -- lists with one fewer child
 
   pub piece_comma : (env : Environment) (f : Tree) → as_comma (piece decls tokens env f).token ≡ comma f
   piece_comma env f = ap as_comma (piece-token decls tokens env f) ∙ layer_comma (out-Tree f)
@@ -240,7 +240,7 @@ module _ (decls : List VarDecl) (tokens : List PatToken) (label : Label) where
       rw (t, s) (ap (λ x. x && fits_from decls tokens label (comma_before fs (suc i)) (drop (suc i) fs) (drop k ms) env) (and_false (comma_fits decls tokens env (comma_before fs i) (take k ms)))))
       ∙ ap (λ x. x && fits_from decls tokens label (comma_before fs (suc i)) (drop (suc i) fs) (drop 1 ms) env) (takes_single env (comma_before fs i) f (take 1 ms) w)
 
-  -- what one entry adds to a row, where the child takes the member before those that it has taken
+  -- what one entry adds to a row if the child takes the member before those that it has taken
   pub single_put : (before : Option Token) (f : Tree) (ms : List Member) (e : RowEntry) (from n : ℕ) (run : List Member) (env : Environment) → from ≡ e.taken - 1 → 0 < e.taken → e.taken ≤ length ms
       → run ≡ take (e.taken - from) (drop from ms)
       → (nat_eq from n && ((comma_fits decls tokens env before run && single_fits (fits_tree decls tokens env f) run) && set_denotes e.set env))
@@ -260,7 +260,7 @@ module _ (decls : List VarDecl) (tokens : List PatToken) (label : Label) where
           let a : nat_eq e.taken (suc n) ≡ false = grind (arith, nat_tests) in
           rw (s, a) refl
 
-  -- where no child is left
+  -- when no child is left
   pub end_fits : (fs : List Tree) (i taken : ℕ) (ms : List Member) (bare : Bool) (env : Environment) → drop i fs ≡ [] → bare ≡ is_bare_comma tokens (comma_before fs i) → taken ≤ length ms
       → fits_from decls tokens label (comma_before fs i) (drop i fs) (drop taken ms) env ≡ last_at bare (length ms) taken
   end_fits fs i taken ms bare env e b le =
@@ -277,7 +277,7 @@ module _ (decls : List VarDecl) (tokens : List PatToken) (label : Label) where
       ∙ sym (member_next fs i f rest env lt g (wild_comma label f w))
       ∙ ap (λ xs. fits_from decls tokens label (comma_before fs i) (drop i fs) xs env) e
 
-  -- the same, by a row that counts from one child later
+  -- the same, for a row that counts from the next child on
   pub rest_taken : (fs : List Tree) (i j taken : ℕ) (f : Tree) (ms rest : List Member) (row old : List RowEntry) (env : Environment) → j ≡ suc i → old ≡ row → i < length fs → f ≡ get_or fs i f
       → first_is_wild label (drop i fs) ≡ true → rest ≡ drop taken ms → IsRow decls tokens label (comma_before fs j) (drop j fs) rest row
       → step_at decls tokens label (comma_before fs i) f rest old 0 env ≡ fits_from decls tokens label (comma_before fs i) (drop i fs) (drop taken ms) env
@@ -285,7 +285,7 @@ module _ (decls : List VarDecl) (tokens : List PatToken) (label : Label) where
       ap (λ x. step_at decls tokens label (comma_before fs i) f rest x 0 env) same
       ∙ rest_fits fs i taken f ms rest row env lt g (wild_first fs i f true lt g w) e (row_at_number fs j (suc i) rest row n r)
 
-  -- a child that takes the next member, by what is known of it
+  -- a child that takes the next member, from what is known of it
   pub member_taken : (fs : List Tree) (i taken after : ℕ) (f : Tree) (ms run : List Member) (s : Bool) (env : Environment) → i < length fs → f ≡ get_or fs i f → comma f ≡ None
       → first_is_wild label (drop i fs) ≡ false → taken < length ms → after ≡ taken + 1 → run ≡ take (after - taken) (drop taken ms)
       → s ≡ (comma_fits decls tokens env (comma_before fs i) run && single_fits (fits_tree decls tokens env f) run)

@@ -1,4 +1,4 @@
--- Where a form fits a tree, each of its sure variables has a value of the tree: all cases but lists.
+-- If a form fits a tree, each of its sure variables has a value of the tree: all cases but lists.
 use Rattle.std.proofs.Common.{◌≡◌, ℕ, Bool, true, false, ◌&&◌, ◌||◌, not, refl, sym, ap, ◌∙◌, subst, List, [], ◌∷◌, map, Option, Some, None, slice_get, ⊎_elim}
 use Rattle.std.specs.List.{list_any, list_all}
 use Rattle.c_terms.specs.declared.token.Token.{Token}
@@ -46,7 +46,7 @@ bare_position : (o : Option PatToken) (x : Var) → is_bare o ≡ true → is_po
 bare_position None x h = refl
 bare_position (Some p) x h = none_any x p.positions (and_left _ _ h)
 
--- a sign is no metavariable, and fits nothing
+-- a sign is not a metavariable, and fits nothing
 sign_meta : (decls : List VarDecl) (a : Token) (k : TokenKind) (x : Var) → is_sign k ≡ true → is_meta_of decls a k x ≡ false
 sign_meta decls a (kind.Meta k) x h = absurd (cc)
 sign_meta decls a _ x h = refl
@@ -80,7 +80,7 @@ module _ (decls : List VarDecl) (tokens : List PatToken) (env : Environment) (x 
   meta_value (kind.Meta k) a t h s = meta_at k (declared_as decls a.text) t h s
   meta_value _ a t h s = absurd (cc)
 
-  -- a position that stands at a token is the place of the token that this one is aligned with
+  -- a position at a token is the place of the token that this one is aligned with
   pub position_at : (o : Option PatToken) (first : Option ℕ) → stands_at decls env o first ≡ true → is_position_of o x ≡ true
       → (id : ℕ) × (first ≡ Some id) × (same (value.Place id) (env x) ≡ true)
   position_at None first h s = absurd (cc)
@@ -135,7 +135,7 @@ module _ (decls : List VarDecl) (tokens : List PatToken) (env : Environment) (x 
       sure-Leaf decls tokens x a ∙ neither _ _ (sign_meta decls a a.kind x g) (bare_position (slice_get tokens a.id) x (not_or _ _ f g)))
       (λ l cs h b. let f = sym (ap (λ y. is_sign_token (leaf_of y)) (out-Branch l cs)) ∙ h in absurd (cc))
 
-  -- a sign fits nothing, and what is sure in a disjunction is so in each branch
+  -- a sign fits nothing, and what is sure in a disjunction is sure in each branch
   some_law : (cs : List Tree) (t : Tree) → Each Law cs → list_any (λ p. p.fits t) (map (piece decls tokens env) cs) ≡ true
       → list_all (λ c. is_sign_tree c || is_sure decls tokens x c) cs ≡ true → has_value t (env x) ≡ true
   some_law [] t e h s = absurd (cc)

@@ -63,7 +63,7 @@ tree_has v m = has_value m.tree v
 abbrev comma_is : Value → Member → Bool
 comma_is v m = is_id (id_of m.comma) v
 
--- what a list gives of a value: from it follows a claim
+-- a claim that follows from what a list says of a value
 record Given (l : Label) (v : Value) (Q : Type 0) (ms : List Member) : Type 0 where
   member : list_any (tree_has v) ms ≡ true → Q
   comma : list_any (comma_is v) ms ≡ true → Q
@@ -262,6 +262,6 @@ module _ (decls : List VarDecl) (tokens : List PatToken) (env : Environment) (x 
       let n : has_value (Branch k us) (env x) ≡ has_value (Branch l us) (env x) = ap (λ j. has_value (Branch j us) (env x)) (sym (label-equal l k (and_left _ _ f))) in
       n ∙ runs_law decls tokens env x l (has_value (Branch l us) (env x) ≡ true) cs laws None (members us) (given_members l us (env x) e) (and_right _ _ f) s)
 
-  -- where the form fits the tree, each of its sure variables has a value of the tree
+  -- if the form fits the tree, each of its sure variables has a value of the tree
   pub sure_has_value : (form t : Tree) → fits_tree decls tokens env form t ≡ true → is_sure decls tokens x form ≡ true → has_value t (env x) ≡ true
   sure_has_value form = sure_law decls tokens env x list_law form

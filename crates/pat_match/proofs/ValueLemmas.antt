@@ -1,4 +1,4 @@
--- What a tree gives, by its parts: itself, its children, its runs, and its tokens.
+-- The values of a tree, by its parts: itself, its children, its runs, and its tokens.
 use Rattle.std.proofs.Common.{◌≡◌, ℕ, suc, zero, Bool, true, false, ◌&&◌, ◌||◌, refl, sym, ap, ◌∙◌, List, [], ◌∷◌, ◌++◌, append_assoc, map, take, drop, Some, slice_get, inl, inr, ◌⊎◌, ⊎_elim}
 use Rattle.std.specs.List.{list_any}
 use Rattle.std.proofs.lemmas.List.Folds.{list_any-append}

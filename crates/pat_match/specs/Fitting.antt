@@ -39,7 +39,7 @@ all_fit [] (t ∷ ts) = false
 all_fit (p ∷ ps) [] = false
 all_fit (p ∷ ps) (t ∷ ts) = p.fits t && all_fit ps ts
 
--- a branch fits a branch of its label, by a test of their children
+-- a branch fits a branch with the same label whose children pass a test
 abbrev pub kids_fit : (List Piece → List Tree → Bool) → Label → List Piece → Tree-F Tree → Bool
 kids_fit test l ps (Tree-F.Leaf b) = false
 kids_fit test l ps (Tree-F.Branch k us) = same_label l k && test ps us
@@ -69,7 +69,7 @@ module _ (decls : List VarDecl) (tokens : List PatToken) (env : Environment) whe
   fits_by shape.List l ps t = kids_fit (list_fits decls tokens env l) l ps (out-Tree t)
   fits_by shape.Plain l ps t = kids_fit all_fit l ps (out-Tree t)
 
-  -- a disjunction uses its first branch that fits, a conjunction all
+  -- a disjunction uses its first branch that fits, a conjunction all branches
   abbrev pub pairs_by : Shape → Label → List Piece → Tree → List Pair
   pairs_by shape.Or l ps t = first_pairs ps t
   pairs_by shape.And l ps t = every_pairs ps t

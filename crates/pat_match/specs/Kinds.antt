@@ -1,4 +1,4 @@
--- What a tree is: which trees a metavariable of a kind may stand for, and which names it excepts.
+-- Kinds of trees: which trees a metavariable of a kind may stand for, and which names it excepts.
 use Rattle.std.specs.Prelude.{ℕ, Bool, true, false, ◌&&◌, ◌||◌, nat_lt, nat_eq, List}
 use Rattle.std.specs.List.{list_any, list_all}
 use Rattle.c_terms.specs.declared.token.Token.{Token}
@@ -56,12 +56,12 @@ abbrev pub is_of_kind : MetaKind → Tree-F Tree → Bool
 is_of_kind k (Tree-F.Leaf t) = token_is_of k t
 is_of_kind k (Tree-F.Branch l cs) = label_is_of k l
 
--- the tree is a token of one of these texts
+-- the tree is a token with one of these texts
 abbrev pub is_named : List (List ℕ) → Tree-F Tree → Bool
 is_named names (Tree-F.Leaf t) = list_any (λ n. same_bytes n t.text) names
 is_named names (Tree-F.Branch l cs) = false
 
--- the tree is a token of this kind and text
+-- the tree is a token with this kind and text
 abbrev pub plain_fits : Token → Tree-F Tree → Bool
 plain_fits a (Tree-F.Leaf b) = same_token a b
 plain_fits a (Tree-F.Branch k us) = false

@@ -47,11 +47,11 @@ module _ (decls : List VarDecl) (tokens : List PatToken) where
   abbrev pub token_passes : (Var → Bool) → Token → Bool
   token_passes test a = meta_passes decls test a.kind a && positions_pass test (slice_get tokens a.id)
 
-  -- where x is sure in the first form, it is in this one
+  -- if x is sure in the first form, it is sure in this one
   abbrev pub keeps : Spot → Tree → Tree → Var → Bool
   keeps s first form x = not (held_sure decls tokens s x first) || held_sure decls tokens s x form
 
-  -- the form has every sure variable of the first that stands there
+  -- the form has every variable that is sure in the compared part of the first form
   abbrev pub is_live : Spot → Tree → Tree → Bool
   is_live s first form = list_all (token_passes (keeps s first form)) (leaves first)
 
@@ -59,7 +59,7 @@ module _ (decls : List VarDecl) (tokens : List PatToken) where
   is_live_in p form = in_first (λ first. is_live p.spot first form) p.forms
 
 module _ (decls : List VarDecl) (tokens : List PatToken) (env : Environment) where
-  -- the form has the first form's sure variables, may stand at a node of this role, and fits the subtree
+  -- the form has the first form's sure variables, may be at a node of this role, and fits the subtree
   abbrev pub fits_seat : Pattern → NodeRole → Tree → Tree → Bool
   fits_seat p r form t =
       (is_live_in decls tokens p form && may_stand r form) && fits_at decls tokens env p.spot r.kind form t
@@ -76,6 +76,6 @@ module _ (decls : List VarDecl) (tokens : List PatToken) (env : Environment) whe
   aligned_at p r above [] = []
   aligned_at p r above (s ∷ ss) = put_form (above ++ s.path) (form_at p r s.tree) ++ aligned_at p r above ss
 
-  -- each subtree that matches, by place, with its first form that does
+  -- each subtree that matches, by place, with its first form that matches
   abbrev pub aligns : Pattern → NodeLabel → List Alignment
   aligns p n = aligned_at p (role_of n) n.path (seats p.spot n.kind n.tree)

@@ -1,3 +1,3 @@
 -- Definitions of pat_pairs.
--- What public contracts rest on: the tokens of a form, and what each is aligned with.
+-- Definitions that public contracts use: the tokens of a form, and what each is aligned with.
 pub mod Pairs

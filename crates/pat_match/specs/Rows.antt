@@ -46,7 +46,7 @@ abbrev pub first_of_run : List Member → Option ℕ
 first_of_run [] = None
 first_of_run (m ∷ ms) = or_else (first_id m.tree) (first_of_members ms)
 
--- the environment is among those for so many members
+-- the environment is among those for this many members
 abbrev pub row_at : List RowEntry → ℕ → Environment → Bool
 row_at row n env = list_any (λ e. nat_eq e.taken n && set_denotes e.set env) row
 
@@ -61,7 +61,7 @@ set_at sets n env = set_denotes (slice_index_or sets n []) env
 abbrev pub row_vars : (Var → Bool) → List RowEntry → Bool
 row_vars test row = list_all (λ e. set_vars test e.set) row
 
--- where no child is left, all members are taken
+-- if no child is left, all members are taken
 abbrev pub last_at : Bool → ℕ → ℕ → Bool
 last_at bare n m = bare && nat_eq n m
 
@@ -72,13 +72,13 @@ module _ (decls : List VarDecl) (tokens : List PatToken) (label : Label) where
       (λ k. takes decls tokens env label before (piece decls tokens env form) (take k (drop n ms)) && row_at row (n + k) env)
       (suc (length (drop n ms)))
 
-  -- what one entry of the row adds: where the child takes any run
+  -- what one entry of the row adds if the child takes any run
   abbrev pub wild_entry : Option Token → Tree → List Member → ℕ → Environment → RowEntry → Bool
   wild_entry before form ms n env e = nat_le n e.taken && (nat_le e.taken (length ms)
       && ((comma_fits decls tokens env before (take (e.taken - n) (drop n ms))
       && run_fits decls tokens env label (leaf_of (out-Tree form)) (take (e.taken - n) (drop n ms))) && set_denotes e.set env))
 
-  -- and where it takes one member
+  -- and if it takes one member
   abbrev pub single_entry : Option Token → Tree → List Member → ℕ → Environment → RowEntry → Bool
   single_entry before form ms n env e = nat_eq e.taken (suc n) && (nat_le e.taken (length ms)
       && ((comma_fits decls tokens env before (take 1 (drop n ms))

@@ -20,14 +20,14 @@ use Rattle.pat_match.specs.Tokens.{id_of, first_id, is_bare, run_is, stands}
 abbrev pub Pair : Type 0
 Pair = Token × List Token
 
--- What a parent must know of a child of a form: its token, where it is a leaf, which subtrees it fits, and where it
--- fits one, what is aligned.
+-- What a parent must know of a child of a form: its token if it is a leaf, which subtrees it fits, and what is aligned if it
+-- fits one.
 pub record Piece : Type 0 where
   pub token : Option Token
   pub fits : Tree → Bool
   pub pairs : Tree → List Pair
 
--- the token, where it is a comma
+-- the token, if it is a comma
 abbrev pub as_comma : Option Token → Option Token
 as_comma None = None
 as_comma (Some a) = cond (is_comma a) (Some a) None
@@ -44,7 +44,7 @@ abbrev pub is_parameters : Label → Bool
 is_parameters label.Params = true
 is_parameters _ = false
 
--- a metavariable of this kind stands for runs of such a list
+-- a metavariable of this kind stands for runs of a list with this label
 abbrev pub is_list_kind : MetaKind → Label → Bool
 is_list_kind meta.ExprList l = is_arguments l
 is_list_kind meta.Params l = is_parameters l
@@ -60,7 +60,7 @@ abbrev pub is_wild : Label → Option Token → Bool
 is_wild l None = false
 is_wild l (Some a) = is_wild_kind l a.kind
 
--- any other member takes a run of one that it fits
+-- any other member takes a run of one member that it fits
 abbrev pub single_fits : (Tree → Bool) → List Member → Bool
 single_fits test [] = false
 single_fits test (m ∷ []) = test m.tree
@@ -71,13 +71,13 @@ abbrev pub some_below : (ℕ → Bool) → ℕ → Bool
 some_below test zero = false
 some_below test (suc n) = some_below test n || test n
 
--- from the left, no number differs, or the first that does is less
+-- from the left, no number differs, or the first that differs is less
 abbrev pub is_left : List ℕ → List ℕ → Bool
 is_left [] ks = true
 is_left (j ∷ js) [] = false
 is_left (j ∷ js) (k ∷ ks) = nat_lt j k || (nat_eq j k && is_left js ks)
 
--- the least number below n that passes, else n
+-- the least number below n that passes, or n if there is none
 abbrev pub least : (ℕ → Bool) → ℕ → ℕ
 least test zero = zero
 least test (suc n) = cond (some_below test n) (least test n) n
@@ -151,7 +151,7 @@ module _ (decls : List VarDecl) (tokens : List PatToken) (env : Environment) whe
     | Some c ↦ leftmost l (Some c) ps ms
   ]
 
-  -- the pattern's members take so many members each, and no member is left
+  -- the pattern's members take these numbers of members, and no member is left
   abbrev pub runs_align : Label → Option Token → List Piece → List Member → List ℕ → Bool
   runs_align l before [] [] [] = comma_fits before []
   runs_align l before [] [] (k ∷ ks) = false
@@ -164,7 +164,7 @@ module _ (decls : List VarDecl) (tokens : List PatToken) (env : Environment) whe
     | Some c ↦ comma_fits before [] && runs_align l (Some c) ps ms ks
   ]
 
-  -- what is aligned where the pattern's members take so many members each
+  -- what is aligned if the pattern's members take these numbers of members
   abbrev pub runs_pairs : Label → Option Token → List Piece → List Member → List ℕ → List Pair
   runs_pairs l before [] ms ks = comma_pairs before []
   runs_pairs l before (p ∷ ps) ms ks = elim (as_comma p.token) as (λ o. List Pair) [

@@ -1,4 +1,4 @@
--- Where a form is held against a node: heads by their own tokens, braces, statement variables, expression parts.
+-- Where a form is matched against a node: heads by their own tokens, braces, statement variables, expression parts.
 use Rattle.std.specs.Prelude.{ℕ, suc, ◌-◌, Bool, true, false, ◌&&◌, ◌||◌, not, Option, Some, None, List, [], ◌∷◌, ◌++◌, map, length, slice_get, if◌then◌else◌, codes}
 use Rattle.c_terms.specs.declared.token.Token.{Token}
 use Rattle.c_terms.specs.declared.label.Label.{Label}
@@ -41,7 +41,7 @@ abbrev pub close_brace : NodeKind → Tree → Option Tree
 close_brace kind.CloseBrace t = last_at (out-Tree t)
 close_brace _ t = None
 
--- what begins a statement: a statement variable takes the whole of it
+-- the nodes that begin a statement, all of which a statement variable takes
 abbrev pub is_statement_node : NodeKind → Bool
 is_statement_node kind.Simple = true
 is_statement_node kind.Head = true
@@ -56,7 +56,7 @@ abbrev pub is_tail_node : NodeKind → Bool
 is_tail_node kind.DoTail = true
 is_tail_node _ = false
 
--- the pieces and trees are as many, and those whose numbers pass fit
+-- there are as many pieces as trees, and those whose indices pass fit
 abbrev pub own_fit : (ℕ → Bool) → ℕ → List Piece → List Tree → Bool
 own_fit test i [] [] = true
 own_fit test i [] (t ∷ ts) = false
@@ -80,9 +80,9 @@ abbrev pub option_pairs : (Tree → List Pair) → Option Tree → List Pair
 option_pairs pairs None = []
 option_pairs pairs (Some t) = pairs t
 
--- The subtrees against which a form of a spot is held, by place.
+-- The subtrees against which a form of a spot is matched, by place.
 
--- a child, where it fills an expression part of its row, and then the parts inside it
+-- a child, if it fills an expression part of its row, and then the parts inside it
 abbrev pub parts_of_child : Label → ℕ → Tree → List Place
 parts_of_child l i c = part_at is_expression_part l i c ++ map (below i) (parts is_expression_part c)
 
@@ -101,13 +101,13 @@ seats spot.Whole k t = record { path = []; tree = t } ∷ []
 seats spot.Tail k t = record { path = []; tree = t } ∷ []
 
 module _ (decls : List VarDecl) (tokens : List PatToken) (env : Environment) where
-  -- of a head and of a tail only the own tokens are compared; a disjunction fits neither
+  -- only the own tokens of a head or tail are compared; a disjunction fits neither
   abbrev pub own_fits : NodeKind → Tree-F Tree → Tree → Bool
   own_fits k (Tree-F.Leaf a) t = false
   own_fits k (Tree-F.Branch l fs) t = not (is_disjunction (shape_of l))
       && kids_fit (own_fit (is_own k l (length fs)) 0) l (map (piece decls tokens env) fs) (out-Tree t)
 
-  -- `{` and `}` fit the braces of nodes, a statement variable what begins a statement, other tokens what has no body
+  -- `{` and `}` fit the braces of nodes, statement variables fit what begins a statement, other tokens what has no body
   abbrev pub token_whole : NodeKind → Token → Tree → Tree → Bool
   token_whole k a form t =
       if is_open_brace a then option_fits (fits_tree decls tokens env form) (open_brace k t)
@@ -131,7 +131,7 @@ module _ (decls : List VarDecl) (tokens : List PatToken) (env : Environment) whe
   fits_at spot.Tail k form t = is_tail_node k && own_fits kind.DoTail (out-Tree form) t
   fits_at spot.Inside k form t = fits_tree decls tokens env form t
 
-  -- the same for what is aligned, where the form fits
+  -- the same for what is aligned, if the form fits
 
   abbrev pub own_alignment : NodeKind → Tree-F Tree → Tree → List Pair
   own_alignment k (Tree-F.Leaf a) t = []
@@ -152,7 +152,7 @@ module _ (decls : List VarDecl) (tokens : List PatToken) (env : Environment) whe
   whole_alignment k (Tree-F.Leaf a) form t = token_alignment k a form t
   whole_alignment k (Tree-F.Branch l fs) form t = branch_alignment k form t
 
-  -- what is aligned where the form fits the subtree at a node of this kind
+  -- what is aligned if the form fits the subtree at a node of this kind
   abbrev pub alignment_at : Spot → NodeKind → Tree → Tree → List Pair
   alignment_at spot.Whole k form t = whole_alignment k (out-Tree form) form t
   alignment_at spot.Tail k form t = own_alignment kind.DoTail (out-Tree form) t

@@ -1,4 +1,4 @@
--- When one token of a pattern fits: its metavariable, and the positions and the plus code that stand at it.
+-- When one token of a pattern fits: its metavariable, and the positions and plus code attached to it.
 use Rattle.std.specs.Prelude.{ℕ, Bool, true, false, cond, ◌&&◌, not, Option, Some, None, List, [], ◌∷◌, slice_get}
 use Rattle.std.specs.List.{list_all}
 use Rattle.c_terms.specs.declared.token.Token.{Token}
@@ -45,17 +45,17 @@ is_bare None = true
 is_bare (Some p) = has_none p.positions && (is_absent p.before && is_absent p.after)
 
 module _ (decls : List VarDecl) (env : Environment) where
-  -- the position x stands at the token of this id, and none that it excepts does
+  -- the position x is at the token with this id, and none that it excepts is
   abbrev pub is_place : ℕ → Var → Bool
   is_place id x = same (Place id) (env x) && list_all (λ y. not (same (Place id) (env y))) (not_places decls x)
 
-  -- of a pattern token that is aligned with nothing neither a position nor plus code may hang
+  -- a pattern token that is aligned with nothing may have neither a position nor plus code
   abbrev pub stands_at : Option PatToken → Option ℕ → Bool
   stands_at None first = true
   stands_at (Some p) None = is_bare (Some p)
   stands_at (Some p) (Some id) = list_all (is_place id) p.positions
 
-  -- a metavariable of this kind fits what is of the kind, isn't excepted and is its value
+  -- a metavariable of this kind fits a tree that is of the kind, isn't excepted and is its value
   abbrev pub meta_fits : MetaKind → Option VarDecl → Tree → Bool
   meta_fits k None t = false
   meta_fits k (Some d) t =
@@ -65,7 +65,7 @@ module _ (decls : List VarDecl) (env : Environment) where
   value_is None t = false
   value_is (Some d) t = same (Term t) (env d.var)
 
-  -- of a run of members a list variable is the value; dots have none
+  -- a list variable has the run of members as its value; dots have no value
   abbrev pub run_is : TokenKind → Token → Tree → Bool
   run_is (kind.Meta k) a whole = value_is (declared_as decls a.text) whole
   run_is _ a whole = true
@@ -78,7 +78,7 @@ module _ (decls : List VarDecl) (env : Environment) where
   token_fits _ a t = plain_fits a (out-Tree t)
 
 module _ (decls : List VarDecl) (tokens : List PatToken) (env : Environment) where
-  -- the positions and plus code of a pattern token, at the first token that it is aligned with
+  -- the positions and plus code of a pattern token are at the first token that it is aligned with
   abbrev pub stands : Token → Option ℕ → Bool
   stands tok first = stands_at decls env (slice_get tokens tok.id) first
 

@@ -1,4 +1,4 @@
--- Which variables a pattern speaks of: those of its tokens, its positions, and the positions that these except.
+-- The variables of a pattern: those of its tokens, its positions, and the positions that these except.
 use Rattle.std.specs.Prelude.{Bool, true, ◌&&◌, Option, Some, None, List, slice_get}
 use Rattle.std.specs.List.{list_all}
 use Rattle.c_terms.specs.declared.token.Token.{Token}

@@ -22,7 +22,7 @@ pub struct Alignment {
     pub form: u32,
 }
 
-/// Whether the i-th form has the first form's sure variables, may stand at a node of this role, and fits the subtree.
+/// Whether the i-th form has the first form's sure variables, may be at a node of this role, and fits the subtree.
 pub fn fits_seat(
     alloc: Global,
     p: &Pattern,
@@ -44,7 +44,7 @@ pub fn fits_seat(
     Ok(fits && may_fit(decls, tokens, p, i, role, form))
 }
 
-/// The number of the first form that fits the subtree.
+/// Returns the number of the first form that fits the subtree.
 fn form_at(
     alloc: Global,
     p: &Pattern,
@@ -85,7 +85,7 @@ fn put_form(
     }
 }
 
-/// Adds the subtree at this path, where it is asked for and matches.
+/// Adds the subtree at this path, if it is asked for and matches.
 fn put_part(
     alloc: Global,
     found: &mut Vec<Alignment>,
@@ -110,8 +110,8 @@ fn put_part(
     put_form(alloc, found, path, form)
 }
 
-/// Adds child i of the branch at the path `above`, where it fills an expression part of the row and matches, and the
-/// parts inside it. Recurses once a level of the child.
+/// Adds child `i` of the branch at the path `above`, if it fills an expression part of the row and matches, and the matching
+/// parts inside it. Recurses once per level of the child.
 fn put_child(
     alloc: Global,
     found: &mut Vec<Alignment>,
@@ -162,7 +162,7 @@ fn put_child(
     Ok(())
 }
 
-/// The same, where the child is the node's own.
+/// Like `put_child`, if the child is the node's own.
 fn put_own(
     alloc: Global,
     found: &mut Vec<Alignment>,
@@ -274,11 +274,11 @@ fn align_whole(
     Ok(found)
 }
 
-/// The subtrees of the node that match under the environment, by place, each with its first form that does. A variable
-/// without a value counts as the place 0.
+/// Returns the subtrees of the node that match under the environment, by place, each with its first form that matches. A
+/// variable without a value counts as the place 0.
 ///
-/// At each subtree it costs what `solve` does there, and the path of each that matches; once it takes the path of the node.
-/// Recurses a few calls a level. A child number from 2^32 on is refused as if memory had run out.
+/// For each subtree it costs as much as `solve` does there, and a path for each that matches; it copies the path of the node
+/// once. Each level costs a few recursive calls. A child number of 2^32 or more is refused as if out of memory.
 pub fn align(
     alloc: Global,
     p: &Pattern,

@@ -24,7 +24,7 @@ use env_sets::EnvSet;
 use smpl_patch::{PatToken, VarDecl};
 use std::alloc::Global;
 
-/// The environments in which the form fits the tree. A few calls deep for each level of the form.
+/// Returns the environments in which the form fits the tree. Each level of the form costs a few recursive calls.
 #[cycle(fit)]
 pub fn fit(
     alloc: Global,
@@ -70,7 +70,7 @@ fn fit_branch(
     }
 }
 
-/// The environments in which some branch of a disjunction fits.
+/// Returns the environments in which some branch of a disjunction fits.
 #[cycle(fit)]
 fn fit_some(
     alloc: Global,
@@ -97,7 +97,7 @@ fn fit_some(
     union(alloc, entries)
 }
 
-/// The environments in which every branch of a conjunction fits. The first that fits in none ends it.
+/// Returns the environments in which every branch of a conjunction fits. Stops at the first branch that fits in none.
 #[cycle(fit)]
 fn fit_every(
     alloc: Global,
@@ -130,7 +130,7 @@ fn fit_every(
     Ok(out)
 }
 
-/// The environments in which a branch fits child by child.
+/// Returns the environments in which a branch fits child by child.
 #[cycle(fit)]
 fn fit_kids(
     alloc: Global,
@@ -157,8 +157,8 @@ fn fit_kids(
     }
 }
 
-/// The environments in which the first form fits the first tree, and so on. Tokens are looked at first, since a variable
-/// takes a copy of its tree. The first that fits in no environment ends it.
+/// Returns the environments in which the first form fits the first tree, and so on. Compares tokens first, since a variable
+/// copies its tree. Stops at the first form that fits in no environment.
 #[cycle(fit)]
 fn fit_all(
     alloc: Global,
@@ -190,8 +190,8 @@ fn fit_all(
     Ok(out)
 }
 
-/// The environments in which the i-th child of a pattern's list takes the run, which must be one member, with the
-/// comma before it.
+/// Returns the environments in which the i-th child of a pattern's list takes the run, which must be one member, with the comma
+/// before it.
 #[cycle(fit)]
 fn fit_member(
     alloc: Global,
@@ -261,7 +261,7 @@ fn put_single(
     push_entry(out, from, all)
 }
 
-/// The row from a child on that takes one member.
+/// Returns the row from a child that takes one member.
 #[cycle(fit)]
 fn fit_single_row(
     alloc: Global,
@@ -292,7 +292,7 @@ fn fit_single_row(
     Ok(out)
 }
 
-/// The row from the i-th child on, by the row of those that follow it.
+/// Returns the row from the i-th child, given the row of the children that follow it.
 #[cycle(fit)]
 fn fit_child(
     alloc: Global,
@@ -344,7 +344,7 @@ fn fit_child(
     }
 }
 
-/// The row from a child on, from the last child back to it.
+/// Returns the row from a child, computed from the last child back to it.
 #[cycle(fit)]
 pub fn fit_rows(
     alloc: Global,
@@ -373,14 +373,15 @@ pub fn fit_rows(
     Ok(row)
 }
 
-/// What the first children of a pattern's list say: in which environments they fit, and how many members they take.
+/// The result for the first children of a pattern's list: the environments in which they fit, and the number of members they
+/// take.
 #[derive(Drop)]
 struct Front {
     set: EnvSet,
     taken: usize,
 }
 
-/// The environments in which the children from the i-th on, which takes any run, fit the members that are left.
+/// Returns the environments in which the children from the i-th, which takes any run, fit the members that are left.
 #[cycle(fit)]
 fn fit_rest(
     alloc: Global,
@@ -418,7 +419,7 @@ fn fit_rest(
     )
 }
 
-/// What the i-th child, which takes one member, adds to those before it.
+/// Returns what the i-th child, which takes one member, adds to the children before it.
 #[cycle(fit)]
 fn fit_next(
     alloc: Global,
@@ -463,7 +464,7 @@ fn fit_next(
     }
 }
 
-/// The environments in which a pattern's list fits. Up to the first child that takes any run, each takes one member.
+/// Returns the environments in which a pattern's list fits. Each child before the first that takes any run takes one member.
 #[cycle(fit)]
 fn fit_members(
     alloc: Global,
@@ -500,7 +501,8 @@ fn fit_members(
     }
 }
 
-/// The environments in which a pattern's list fits these children. One that has too many members isn't gone through.
+/// Returns the environments in which a pattern's list fits these children. A list with too many members is rejected without
+/// visiting them.
 #[cycle(fit)]
 fn fit_children(
     alloc: Global,
@@ -523,7 +525,7 @@ fn fit_children(
     fit_members(alloc, decls, tokens, label, forms, members.as_slice())
 }
 
-/// The environments in which a list of arguments or parameters fits.
+/// Returns the environments in which a list of arguments or parameters fits.
 #[cycle(fit)]
 fn fit_list(
     alloc: Global,

@@ -1,4 +1,4 @@
-// A form against the expression parts among a node's own tokens.
+// Matching a form against the expression parts among a node's own tokens.
 ghost use Rattle.std.specs.Prelude.{◌≡◌, Bool, true, ◌&&◌, ◌||◌, IfOk, length};
 ghost use Rattle.std.specs.List.{list_any};
 ghost use Rattle.c_terms.specs.declared.tree.Tree.{out-Tree};
@@ -18,7 +18,7 @@ use env_sets::{Entry, EnvSet};
 use smpl_patch::{PatToken, VarDecl};
 use std::alloc::Global;
 
-/// Adds the environments in which the form fits the tree, where it is asked for.
+/// Adds the environments in which the form fits the tree, if the tree is asked for.
 fn put_part(
     alloc: Global,
     entries: &mut Vec<Entry>,
@@ -41,8 +41,8 @@ fn put_part(
     put_set(entries, here)
 }
 
-/// Adds the environments in which the form fits child i of a branch, where it fills an expression part of the row, or
-/// a part inside it. Recurses once a level of the child.
+/// Adds the environments in which the form fits child `i` of a branch, if this fills an expression part of the row, or a part
+/// inside it. Recurses once per level of the child.
 fn put_child(
     alloc: Global,
     entries: &mut Vec<Entry>,
@@ -70,7 +70,7 @@ fn put_child(
     Ok(())
 }
 
-/// The same, where the child is the node's own.
+/// Like `put_child`, if the child is the node's own.
 fn put_own(
     alloc: Global,
     entries: &mut Vec<Entry>,
@@ -130,8 +130,8 @@ fn fit_own_parts(
     union(alloc, entries)
 }
 
-/// The environments in which the form fits an expression part among the node's own tokens. Linear in these tokens,
-/// where it fits none.
+/// Returns the environments in which the form fits an expression part among the node's own tokens. Linear in the number of
+/// these tokens if it fits none.
 pub fn fit_inside(
     alloc: Global,
     decls: &[VarDecl],

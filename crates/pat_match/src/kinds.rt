@@ -1,4 +1,4 @@
-// What a tree is: which trees a metavariable of a kind may stand for, and which names it excepts.
+// Kinds of trees: which trees a metavariable of a kind may stand for, and which names it excepts.
 ghost use Rattle.std.specs.Prelude.{◌≡◌, ◌&&◌, ◌||◌, Bool, true, false};
 ghost use Rattle.std.specs.List.{list_any, list_all};
 ghost use Rattle.c_terms.specs.declared.tree.Tree.{out-Tree};
@@ -59,7 +59,7 @@ fn is_all_constant(text: &[u8]) -> bool
     true
 }
 
-/// Capital letters, digits and `_`, with one capital letter at least.
+/// Whether the text consists of capital letters, digits and `_`, with at least one capital letter.
 fn is_constant_name(text: &[u8]) -> bool
     ensures { result ≡ of.is_constant_name text.now }
 {

@@ -1,4 +1,4 @@
-// What holds of all patterns.
+// Laws of all patterns.
 ghost use Rattle.std.specs.Prelude.{◌≡◌, ℕ, true, List, Option};
 ghost use Rattle.c_terms.specs.declared.token.Token.{Token};
 ghost use Rattle.c_terms.specs.declared.label.Label.{Label};
@@ -15,8 +15,8 @@ ghost use Rattle.pat_match.specs.Runs.{Piece, runs_from, is_left, leftmost, runs
 ghost use Rattle.pat_match.specs.Spots.{fits_at};
 ghost use Rattle.pat_match.specs.Valued.{has_value};
 
-/// Where a form fits a subtree, each sure variable of what is compared of the form has a value of the subtree: a subtree of
-/// it, a run of members of one of its lists, or the place of one of its tokens.
+/// If a form fits a subtree, each sure variable of the compared part of the form has a value of the subtree: a subtree of it, a
+/// run of members of one of its lists, or the place of one of its tokens.
 pub fn sure_variables_have_values()
     ensures { (decls : List VarDecl) (tokens : List PatToken) (env : Environment) (x : Var)
         (s : Spot)
@@ -24,8 +24,8 @@ pub fn sure_variables_have_values()
         → held_sure decls tokens s x form ≡ true → has_value t (env x) ≡ true }
 {}
 
-/// Where the members of a pattern's list take runs of a file's members, the leftmost alignment is one of those that do so,
-/// and none is further left: from the left, each takes as few members as it can.
+/// If the members of a pattern's list can take runs of a file's members, the leftmost alignment is one in which they do, and
+/// none is further left: from the left, each takes as few members as it can.
 pub fn leftmost_alignments()
     ensures meets { (decls : List VarDecl) (tokens : List PatToken) (env : Environment) (l : Label)
         (before : Option Token) (ps : List Piece) (ms : List Member) → runs_from decls tokens env l before ps ms ≡ true

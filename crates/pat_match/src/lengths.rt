@@ -24,7 +24,7 @@ fn has_wild(label: Label, forms: &[Tree]) -> bool
     false
 }
 
-/// Whether the children have more members than this. Stops at the first too many.
+/// Whether the children have more members than `count`. Stops at the first member beyond that.
 fn has_more_members(trees: &[Tree], count: usize) -> bool
     ensures { result ≡ true → count < length (members trees.now) }
 {
@@ -43,8 +43,8 @@ fn has_more_members(trees: &[Tree], count: usize) -> bool
     false
 }
 
-/// Whether the file's list has more members than the pattern's has children, none of which takes more than one. Linear
-/// in the pattern's, but for commas side by side. Takes no memory.
+/// Whether the file's list has more members than the pattern's list has children, none of which takes more than one. Linear in
+/// the length of the pattern's list, apart from adjacent commas. Takes no memory.
 pub fn is_too_long(label: Label, forms: &[Tree], trees: &[Tree]) -> bool
     ensures { result ≡ true → (decls : List VarDecl) (tokens : List PatToken) (env : Environment)
         → runs.list_fits decls tokens env label (map (piece decls tokens env) forms.now) trees.now ≡ false }

@@ -29,7 +29,7 @@ use sqlite_items::Items;
 use std::alloc::Global;
 use std::marker::Model;
 
-/// A member of a list of the file: the comma before it, and its tree. Both are lent. Contracts see a `Member`.
+/// A member of a list of the file: the comma before it, and its tree. Both are borrowed. Contracts see a `Member`.
 #[derive(Drop)]
 pub struct ListMember<'a> {
     comma: Option<&'a Token>,
@@ -50,14 +50,14 @@ impl<'a> Model for ListMember<'a> {
 }
 
 impl<'a> ListMember<'a> {
-    /// The tree. Takes no memory.
+    /// Returns the tree. Takes no memory.
     pub fn tree(&self) -> &Tree
         ensures { result.now ≡ self.now.tree }
     {
         self.tree
     }
 
-    /// The id of the comma before it. Takes no memory.
+    /// Returns the id of the comma before the member. Takes no memory.
     pub fn comma_id(&self) -> Option<u64>
         ensures { result ≡ id_of self.now.comma }
     {
@@ -68,8 +68,8 @@ impl<'a> ListMember<'a> {
     }
 }
 
-/// The children that are no commas, each with the comma before it: of two commas side by side the later one. Linear in
-/// their number.
+/// Returns the children that are not commas, each with the comma before it; of two adjacent commas, the later one. Linear in
+/// the number of children.
 pub fn list_members<'a>(
     alloc: Global,
     children: &'a [Tree],
@@ -106,7 +106,7 @@ fn push_comma(
     Ok(())
 }
 
-/// A copy of a run of members, as a list of this label. Linear.
+/// Returns a copy of a run of members, as a list of this label. Linear.
 pub fn run_tree(alloc: Global, label: Label, members: &[ListMember]) -> Result<Tree, NoMemory>
     ensures { IfOk result (λ tree. tree ≡ run label members.now) }
 {
@@ -168,7 +168,7 @@ pub fn is_wild(label: Label, form: &Tree) -> bool
     }
 }
 
-/// Whether the i-th member does.
+/// Whether the i-th member of a pattern's list takes any run of members.
 pub fn is_wild_at(label: Label, forms: &[Tree], i: usize) -> bool
     requires within { i < length forms.now }
     ensures { result ≡ first_is_wild label (drop i forms.now) }
@@ -176,7 +176,7 @@ pub fn is_wild_at(label: Label, forms: &[Tree], i: usize) -> bool
     is_wild(label, &forms[i])
 }
 
-/// The environments in which the pattern's comma stands before the run.
+/// Returns the environments in which the pattern's comma fits before the run.
 fn fit_comma(
     alloc: Global,
     decls: &[VarDecl],
@@ -197,8 +197,7 @@ fn fit_comma(
     }
 }
 
-/// The environments in which the pattern's comma directly before its i-th child, if one stands there, stands before
-/// the run.
+/// Returns the environments in which the pattern's comma directly before its i-th child, if there is one, fits before the run.
 pub fn fit_comma_before(
     alloc: Global,
     decls: &[VarDecl],
@@ -237,7 +236,7 @@ pub fn is_bare_before(tokens: &[PatToken], forms: &[Tree], i: usize) -> bool
     }
 }
 
-/// The environments in which the list variable is the run.
+/// Returns the environments in which the list variable is the run.
 fn fit_value(alloc: Global, decls: &[VarDecl], name: &[u8], run: &Tree) -> Result<EnvSet, NoMemory>
     ensures meaning { IfOk result (λ r. (env : Environment) → set_denotes r env
         ≡ value_is decls.now env (declared_as decls.now name.now) run.now) }
@@ -269,7 +268,7 @@ fn fit_wild_value(
     }
 }
 
-/// The id of the first of a member's tokens, of which the comma before it is one.
+/// Returns the id of the first token of a member, which includes the comma before it.
 fn first_of_member(member: &ListMember) -> Option<u64>
     ensures { result ≡ row.first_of_member member.now }
 {
@@ -279,7 +278,7 @@ fn first_of_member(member: &ListMember) -> Option<u64>
     }
 }
 
-/// The id of the first token of the members, the comma before each included.
+/// Returns the id of the first token of the members, which include the comma before each.
 fn first_of_members(members: &[ListMember]) -> Option<u64>
     ensures { result ≡ row.first_of_members members.now }
 {
@@ -292,8 +291,8 @@ fn first_of_members(members: &[ListMember]) -> Option<u64>
     None
 }
 
-/// The id of the first token of a run of members, which the comma before it is no part of. Takes no memory, and a few
-/// steps where the first member has a token.
+/// Returns the id of the first token of a run of members, which does not include the comma before it. Takes no memory, and a
+/// few steps if the first member has a token.
 fn first_of_run(run: &[ListMember]) -> Option<u64>
     ensures { result ≡ row.first_of_run run.now }
 {
@@ -315,7 +314,7 @@ fn is_dots(kind: TokenKind) -> bool
     }
 }
 
-/// Whether the token takes every run in every environment: dots without positions and plus code. Takes no memory.
+/// Whether the token takes every run in every environment, as dots without positions and plus code do. Takes no memory.
 fn takes_all(tokens: &[PatToken], token: &Token) -> bool
     ensures { result ≡ true → (decls : List VarDecl) (env : Environment) (whole : Tree)
         (first : Option ℕ) →
@@ -335,7 +334,7 @@ fn takes_every(tokens: &[PatToken], form: &Tree) -> bool
     }
 }
 
-/// The environments in which dots take the run: those in which their positions stand at its first token.
+/// Returns the environments in which dots take the run: those in which the positions of the dots are at its first token.
 fn fit_dots(
     alloc: Global,
     decls: &[VarDecl],
@@ -354,8 +353,8 @@ fn fit_dots(
     with_stand(alloc, all, decls, tokens, token, first)
 }
 
-/// The environments in which dots or a list variable take the run. Linear in the run for a list variable, which takes a
-/// copy of it, and a few steps for dots.
+/// Returns the environments in which dots or a list variable take the run. Linear in the run for a list variable, which copies
+/// it, and a few steps for dots.
 fn fit_run(
     alloc: Global,
     decls: &[VarDecl],
@@ -386,8 +385,8 @@ fn fit_run(
     }
 }
 
-/// Whether the i-th child of a pattern's list takes every run in every environment, and so does the comma before it. Takes
-/// no memory.
+/// Whether the i-th child of a pattern's list takes every run in every environment, and so does the comma before it. Takes no
+/// memory.
 pub fn is_free(tokens: &[PatToken], forms: &[Tree], i: usize, form: &Tree) -> bool
     requires within { i ≤ length forms.now }
     ensures comma { result ≡ true → of.is_bare_comma tokens.now (comma_before forms.now i) ≡ true }
@@ -397,8 +396,8 @@ pub fn is_free(tokens: &[PatToken], forms: &[Tree], i: usize, form: &Tree) -> bo
     takes_every(tokens, form) && is_bare_before(tokens, forms, i)
 }
 
-/// The environments in which dots or a list variable, the i-th child of a pattern's list, take the run, with the comma
-/// before them.
+/// Returns the environments in which dots or a list variable, the i-th child of a pattern's list, take the run, with the comma
+/// before it.
 pub fn fit_wild(
     alloc: Global,
     decls: &[VarDecl],

@@ -10,7 +10,7 @@ use c_terms::{Token, TokenKind, Tree};
 use smpl_patch::{PatToken, Pattern, Spot, VarDecl, declared_as, is_held_sure};
 use smpl_terms::Var;
 
-/// Whether the form has the variable as a sure one, where the first has.
+/// Whether the variable is sure in this form if it is sure in the first.
 fn keeps(
     decls: &[VarDecl],
     tokens: &[PatToken],
@@ -108,7 +108,7 @@ fn keeps_part(
     }
 }
 
-/// Whether the form has the sure variables of the pattern's first. Takes no memory.
+/// Whether the form has the sure variables of the pattern's first form. Takes no memory.
 fn is_live(decls: &[VarDecl], tokens: &[PatToken], p: &Pattern, form: &Tree) -> bool
     ensures { result ≡ of.is_live_in decls.now tokens.now p.now form.now }
 {
@@ -118,7 +118,7 @@ fn is_live(decls: &[VarDecl], tokens: &[PatToken], p: &Pattern, form: &Tree) -> 
     }
 }
 
-/// Whether the i-th form has the sure variables of the pattern's first. The first has them: nothing is looked at then.
+/// Whether the i-th form has the sure variables of the pattern's first form. The first form has them, and is not examined.
 /// Takes no memory.
 pub fn is_live_at(
     decls: &[VarDecl],

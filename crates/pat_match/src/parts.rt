@@ -1,6 +1,6 @@
-//! What [`solve`](crate::solve) and [`align`](crate::align) are made of, for the crate that gives the pairs of an
-//! alignment: a form against a subtree, the lists of forms and files, the braces of nodes. And one form at a node, and unions
-//! of sets, for the crates that choose among forms, and join the sets of many nodes.
+//! The parts of [`solve`](crate::solve) and [`align`](crate::align), for the crate that returns the pairs of an alignment:
+//! matching a form against a subtree, the lists of forms and files, and the braces of nodes. Also matching one form at a node,
+//! and unions of sets, for the crates that choose among forms and join the sets of many nodes.
 
 pub use crate::aligning::fits_seat;
 pub use crate::braces::{close_brace, is_close_brace, is_open_brace, open_brace};

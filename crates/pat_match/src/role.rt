@@ -1,4 +1,4 @@
-// What a node is for the forms that are held against it.
+// The role of a node for the forms that are matched against it.
 ghost use Rattle.std.specs.Prelude.{◌≡◌, ◌<◌, ◌&&◌, length, slice_index_or};
 ghost use Rattle.c_terms.specs.declared.tree.Tree.{out-Tree};
 ghost use Rattle.pat_match.specs.Matching.{is_live_in};
@@ -10,15 +10,15 @@ use c_terms::Tree;
 use cfg_build::{NodeKind, NodeLabel};
 use smpl_patch::{PatToken, Pattern, VarDecl};
 
-/// What a node is for the forms that are held against it.
+/// The role of a node for the forms that are matched against it.
 #[derive(Clone, Copy, Debug, PartialEq, Eq)]
 pub struct NodeRole {
     pub kind: NodeKind,
-    /// Whether the node is the `{` of a function's own block, for which no statement variable stands.
+    /// Whether the node is the `{` of a function's own block, which no statement variable matches.
     pub outermost: bool,
 }
 
-/// The role of a node of this kind, whose statement or block stands at this path from the item. Takes no memory.
+/// Returns the role of a node of this kind whose statement or block is at this path from the item. Takes no memory.
 pub fn role_at(kind: NodeKind, path: &[u32]) -> NodeRole
     ensures { result ≡ of.role_at kind path.now }
 {
@@ -29,7 +29,7 @@ pub fn role_at(kind: NodeKind, path: &[u32]) -> NodeRole
     NodeRole { kind, outermost }
 }
 
-/// The role of a node. Of a `{` it goes over the path, up to its second number. Takes no memory.
+/// Returns the role of a node. For a `{` it reads the path, up to its second number. Takes no memory.
 pub fn role_of(node: &NodeLabel) -> NodeRole
     ensures { result ≡ of.role_of node.now }
 {
@@ -52,14 +52,14 @@ fn is_statement_variable(form: &Tree) -> bool
     }
 }
 
-/// Whether the form may stand at a node of this role: a statement variable stands for no function's own block.
+/// Whether the form may be at a node of this role: a statement variable matches no function's own block.
 fn may_stand(role: NodeRole, form: &Tree) -> bool
     ensures { result ≡ of.may_stand role form.now }
 {
     !(role.outermost && is_statement_variable(form))
 }
 
-/// Whether the i-th form has the first form's sure variables and may stand at a node of this role. Takes no memory.
+/// Whether the i-th form has the first form's sure variables and may be at a node of this role. Takes no memory.
 pub fn may_fit(
     decls: &[VarDecl],
     tokens: &[PatToken],

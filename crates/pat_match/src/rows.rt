@@ -1,5 +1,5 @@
 // Rows: for each number of members that a list's first children may have taken, the environments in which the other
-// children fit the members that follow. Numbers with no environment have no entry.
+// children fit the members that follow. A number without environments has no entry.
 ghost use Rattle.std.specs.Prelude.{◌≡◌, ℕ, suc, ◌+◌, ◌^◌, ◌<◌, ◌≤◌, ◌&&◌, ◌||◌, nat_eq, Bool, true, false, IfOk, List, [], length, slice_index_or};
 ghost use Rattle.std.specs.List.{list_all};
 ghost use Rattle.c_terms.specs.declared.tree.Tree.{out-Tree};
@@ -18,14 +18,14 @@ use env_sets::{Entry, EnvSet, join};
 use smpl_patch::{PatToken, VarDecl};
 use std::alloc::Global;
 
-/// How many members are taken, and the environments in which the rest fits.
+/// The number of members that are taken, and the environments in which the rest fits.
 #[derive(Drop)]
 pub struct RowEntry {
     pub taken: usize,
     pub set: EnvSet,
 }
 
-/// Adds an entry, unless its set is plainly empty.
+/// Adds an entry, unless its set is evidently empty.
 pub fn push_entry(row: &mut Vec<RowEntry>, taken: usize, set: EnvSet) -> Result<(), NoMemory>
     ensures meaning { IfOk result (λ _. (n : ℕ) (env : Environment) → of.row_at row.new.items n env
         ≡ (of.row_at row.old.items n env || (nat_eq taken n && set_denotes set env))) }
@@ -40,7 +40,7 @@ pub fn push_entry(row: &mut Vec<RowEntry>, taken: usize, set: EnvSet) -> Result<
     Ok(())
 }
 
-/// The row where no child is left: all members are taken.
+/// Returns the row when no child is left: all members are taken.
 pub fn last_row(alloc: Global, bare: bool, count: usize) -> Result<Vec<RowEntry>, NoMemory>
     ensures meaning { IfOk result (λ r. (n : ℕ) (env : Environment) → of.row_at r.items n env
         ≡ of.last_at bare count n) }
@@ -55,7 +55,7 @@ pub fn last_row(alloc: Global, bare: bool, count: usize) -> Result<Vec<RowEntry>
     Ok(row)
 }
 
-/// Adds the environments in which the child takes the members from this one to those that the entry has taken.
+/// Adds the environments in which the child takes the members from this one up to those that the entry has taken.
 fn put_run(
     alloc: Global,
     entries: &mut Vec<Entry>,
@@ -91,7 +91,7 @@ fn put_run(
     put_set(entries, all)
 }
 
-/// The environments in which the child takes some run from this member on, and the row fits what follows.
+/// Returns the environments in which the child takes some run from this member on, and the row fits what follows.
 pub fn fit_some_run(
     alloc: Global,
     decls: &[VarDecl],
@@ -132,7 +132,7 @@ pub fn fit_some_run(
     union(alloc, entries)
 }
 
-/// The n-th of the sets.
+/// Returns the n-th set.
 fn set_at(sets: &[EnvSet], n: usize) -> &EnvSet
     requires { n < length sets.now }
     ensures value { result.now ≡ slice_index_or sets.now n [] }
@@ -141,7 +141,7 @@ fn set_at(sets: &[EnvSet], n: usize) -> &EnvSet
     &sets[n]
 }
 
-/// Adds an entry's set to the one for its number of members, if there is one.
+/// Adds an entry's set to the set for its number of members, if there is one.
 fn put_entry(alloc: Global, sets: &mut Vec<EnvSet>, entry: &RowEntry) -> Result<(), NoMemory>
     ensures even { IfOk result (λ _. length sets.new.items ≡ length sets.old.items) }
     ensures meaning { IfOk result (λ _. (n : ℕ) (env : Environment) → n < length sets.old.items
@@ -159,7 +159,7 @@ fn put_entry(alloc: Global, sets: &mut Vec<EnvSet>, entry: &RowEntry) -> Result<
     Ok(())
 }
 
-/// So many sets and one more, each of no environment.
+/// Returns `count` + 1 sets, each of no environment.
 fn no_sets(alloc: Global, count: usize) -> Result<Vec<EnvSet>, NoMemory>
     requires { count + 1 < 2 ^ 64 }
     ensures even { IfOk result (λ r. length r.items ≡ count + 1) }
@@ -173,7 +173,7 @@ fn no_sets(alloc: Global, count: usize) -> Result<Vec<EnvSet>, NoMemory>
     Ok(sets)
 }
 
-/// For each number of members up to `count` the environments that the row has there.
+/// Returns, for each number of members up to `count`, the environments of the row for that number.
 fn sets_by_count(alloc: Global, row: &[RowEntry], count: usize) -> Result<Vec<EnvSet>, NoMemory>
     requires { count + 1 < 2 ^ 64 }
     ensures even { IfOk result (λ r. length r.items ≡ count + 1) }
@@ -189,7 +189,7 @@ fn sets_by_count(alloc: Global, row: &[RowEntry], count: usize) -> Result<Vec<En
     Ok(sets)
 }
 
-/// What either set stands for.
+/// Returns what either set stands for.
 fn either(alloc: Global, a: EnvSet, b: &EnvSet) -> Result<EnvSet, NoMemory>
     ensures meaning { IfOk result (λ r. (env : Environment) →
         set_denotes r env ≡ (set_denotes a env || set_denotes b.now env)) }
@@ -202,7 +202,7 @@ fn either(alloc: Global, a: EnvSet, b: &EnvSet) -> Result<EnvSet, NoMemory>
     join(alloc, &a, b)
 }
 
-/// The set of those from so many members on, which is put into the row.
+/// Returns the union of `set` and the set for `from` members, and adds it to the row.
 fn put_from(
     alloc: Global,
     out: &mut Vec<RowEntry>,
@@ -226,8 +226,8 @@ fn put_from(
     Ok(all)
 }
 
-/// The row from a child on that takes every run in every environment, and after it so many members at most. From the last
-/// member to the first, each set has that of the member after it. Linear in the members, where the sets stay small.
+/// Returns the row from a child that takes every run in every environment, in a list of `count` members. From the last member
+/// to the first, each set includes that of the member after it. Linear in the number of members, if the sets stay small.
 fn fit_every_row(alloc: Global, row: &[RowEntry], count: usize) -> Result<Vec<RowEntry>, NoMemory>
     requires { count + 1 < 2 ^ 64 }
     ensures meaning { IfOk result (λ r. (n : ℕ) (env : Environment) → n < count + 1
@@ -246,7 +246,7 @@ fn fit_every_row(alloc: Global, row: &[RowEntry], count: usize) -> Result<Vec<Ro
     Ok(out)
 }
 
-/// The row from a child on that takes any run.
+/// Returns the row from a child that takes any run.
 pub fn fit_wild_row(
     alloc: Global,
     decls: &[VarDecl],

@@ -1,4 +1,4 @@
-// Sets of environments as a form's parts give them: unions of many, and meets where one side is all or nothing.
+// Sets of environments that result from a form's parts: unions of many, and meets in which one side is everything or nothing.
 ghost use Rattle.std.specs.Prelude.{◌≡◌, ◌&&◌, ◌||◌, Bool, true, false, IfOk};
 ghost use Rattle.smpl_terms.specs.declared.var.Var.{Var};
 ghost use Rattle.smpl_terms.specs.Environments.{Environment};
@@ -8,14 +8,14 @@ use c_terms::NoMemory;
 use env_sets::{Entry, EnvSet, join, meet};
 use std::alloc::Global;
 
-/// Whether the set plainly stands for no environment. Takes no memory.
+/// Whether the set evidently stands for no environment. Takes no memory.
 pub fn is_none(set: &EnvSet) -> bool
     ensures { result ≡ true → (env : Environment) → set_denotes set.now env ≡ false }
 {
     set.is_none()
 }
 
-/// Every environment, or none.
+/// Returns the set of every environment, or of none.
 pub fn all_or_none(alloc: Global, all: bool) -> Result<EnvSet, NoMemory>
     ensures meaning { IfOk result (λ r. (env : Environment) → set_denotes r env ≡ all) }
     ensures vars { IfOk result (λ r. (t : Var → Bool) → set_vars t r ≡ true) }
@@ -27,7 +27,7 @@ pub fn all_or_none(alloc: Global, all: bool) -> Result<EnvSet, NoMemory>
     }
 }
 
-/// What both sets stand for.
+/// Returns what both sets stand for.
 pub fn both(alloc: Global, a: EnvSet, b: EnvSet) -> Result<EnvSet, NoMemory>
     ensures meaning { IfOk result (λ r. (env : Environment) →
         set_denotes r env ≡ (set_denotes a env && set_denotes b env)) }
@@ -43,7 +43,7 @@ pub fn both(alloc: Global, a: EnvSet, b: EnvSet) -> Result<EnvSet, NoMemory>
     meet(alloc, &a, &b)
 }
 
-/// Adds the entries of a set, which shares those in blocks.
+/// Adds the entries of a set. Entries in blocks are shared.
 pub fn put_set(entries: &mut Vec<Entry>, set: EnvSet) -> Result<(), NoMemory>
     ensures meaning { IfOk result (λ _. (env : Environment) →
         set_denotes entries.new.items env ≡ (set_denotes entries.old.items env || set_denotes set env)) }
@@ -57,7 +57,7 @@ pub fn put_set(entries: &mut Vec<Entry>, set: EnvSet) -> Result<(), NoMemory>
     Ok(())
 }
 
-/// The set of these entries, without those that others plainly cover.
+/// Returns the set of these entries, without those that others plainly cover.
 pub fn union(alloc: Global, entries: Vec<Entry>) -> Result<EnvSet, NoMemory>
     ensures meaning { IfOk result (λ r. (env : Environment) → set_denotes r env
         ≡ set_denotes entries.items env) }

@@ -1,4 +1,4 @@
-// Signs between the branches of a disjunction or conjunction, and plain tokens: what is told of a form without a set.
+// Signs between the branches of a disjunction or conjunction, and plain tokens: what is known of a form without a set.
 ghost use Rattle.std.specs.Prelude.{◌≡◌, List, true, false, map, length};
 ghost use Rattle.std.specs.List.{list_all};
 ghost use Rattle.c_terms.specs.declared.tree.Tree.{out-Tree};
@@ -53,7 +53,7 @@ pub fn has_bare_signs(tokens: &[PatToken], trees: &[Tree]) -> bool
     true
 }
 
-/// Whether the token is one of C, and the tree another.
+/// Whether the token is a token of C, and the tree is a different one.
 fn is_other_leaf(token: &Token, tree: &Tree) -> bool
     ensures { result ≡ true → (decls : List VarDecl) (tokens : List PatToken) (env : Environment)
         → leaf_fits decls tokens env token.now tree.now ≡ false }
@@ -66,7 +66,7 @@ fn is_other_leaf(token: &Token, tree: &Tree) -> bool
     }
 }
 
-/// Whether the form is a token of C, and the tree another. Takes no memory.
+/// Whether the form is a token of C, and the tree is a different one. Takes no memory.
 fn is_other_token(form: &Tree, tree: &Tree) -> bool
     ensures { result ≡ true → (decls : List VarDecl) (tokens : List PatToken) (env : Environment)
         → fits_tree decls tokens env form.now tree.now ≡ false }
@@ -77,7 +77,7 @@ fn is_other_token(form: &Tree, tree: &Tree) -> bool
     }
 }
 
-/// Whether some form is a token of C, and the tree at its place another. Takes no memory.
+/// Whether some form is a token of C, and the tree at its place is a different one. Takes no memory.
 pub fn has_other_token(forms: &[Tree], trees: &[Tree]) -> bool
     requires even { length forms.now ≡ length trees.now }
     ensures { result ≡ true → (decls : List VarDecl) (tokens : List PatToken) (env : Environment)

@@ -18,7 +18,7 @@ use env_sets::EnvSet;
 use smpl_patch::{PatToken, Pattern, Spot, VarDecl};
 use std::alloc::Global;
 
-/// The environments in which a form of this spot fits some subtree of the node.
+/// Returns the environments in which a form of this spot fits some subtree of the node.
 fn fit_seats(
     alloc: Global,
     decls: &[VarDecl],
@@ -41,8 +41,8 @@ fn fit_seats(
     }
 }
 
-/// The environments in which the i-th form has the first form's sure variables, may stand at a node of this role, and fits some
-/// subtree of the node.
+/// Returns the environments in which the i-th form has the first form's sure variables, may be at a node of this role, and fits
+/// some subtree of the node.
 pub fn solve_form(
     alloc: Global,
     p: &Pattern,
@@ -72,13 +72,13 @@ pub fn solve_form(
     }
 }
 
-/// The environments under which the pattern matches at the node.
+/// Returns the environments under which the pattern matches at the node.
 ///
-/// A form is gone through in step with a subtree, up to a token that fits in no environment. So at a node whose first
-/// token is another this costs a few steps a form, and for a pattern of spot Inside a few for each form and expression
-/// part. A list of m members that has dots or list variables takes a row of at most n + 1 sets a member for the file's
-/// n members, and for each dots with a position or plus code in its middle n times n steps; a list variable there takes
-/// a copy of its run for each number of members that it may take. Recurses a few calls a level.
+/// A form is traversed in step with a subtree, up to a token that fits in no environment. So a node whose first token is a
+/// different one costs a few steps per form, and for a pattern of spot Inside a few for each form and expression part. A list
+/// of m members that has dots or list variables takes a row of at most n + 1 sets per member for the file's n members, and n
+/// times n steps for each dots with a position or plus code in its middle. A list variable there copies its run for each number
+/// of members that it may take. Each level costs a few recursive calls.
 pub fn solve(
     alloc: Global,
     p: &Pattern,

@@ -1,4 +1,4 @@
-// A form against a node: heads and tails by their own tokens, braces, statement variables, expression parts.
+// Matching a form against a node: heads and tails by their own tokens, braces, statement variables, expression parts.
 ghost use Rattle.std.specs.Prelude.{◌≡◌, Bool, true, false, not, ◌&&◌, ◌||◌, IfOk, map, length};
 ghost use Rattle.std.specs.List.{list_all};
 ghost use Rattle.c_terms.specs.declared.tree.Tree.{out-Tree};
@@ -121,7 +121,7 @@ fn fit_where(
     }
 }
 
-/// The environments in which the form fits the tree, and all where it is not the node's own.
+/// Returns the environments in which the form fits the tree, or all environments if the tree is not the node's own.
 fn fit_own_child(
     alloc: Global,
     decls: &[VarDecl],
@@ -143,7 +143,7 @@ fn fit_own_child(
     }
 }
 
-/// The environments in which the forms that are the node's own fit the trees.
+/// Returns the environments in which the forms that are the node's own fit the trees.
 fn fit_own_all(
     alloc: Global,
     decls: &[VarDecl],
@@ -209,7 +209,7 @@ fn is_disjunction(label: Label) -> bool
     }
 }
 
-/// The environments in which the own tokens of a head or tail fit. A disjunction fits neither.
+/// Returns the environments in which the own tokens of a head or tail fit. A disjunction fits neither.
 fn fit_own(
     alloc: Global,
     decls: &[VarDecl],
@@ -324,7 +324,7 @@ fn fit_tail(
     }
 }
 
-/// The environments in which a form of this spot fits the subtree at a node of this kind.
+/// Returns the environments in which a form of this spot fits the subtree at a node of this kind.
 pub fn fit_at(
     alloc: Global,
     decls: &[VarDecl],

@@ -1,4 +1,4 @@
-// One token of a pattern: its metavariable, and the positions and plus code that stand at it.
+// One token of a pattern: its metavariable, and the positions and plus code attached to it.
 ghost use Rattle.std.specs.Prelude.{◌≡◌, Bool, true, false, not, ◌&&◌, IfOk, slice_get, Option, Some, None};
 ghost use Rattle.std.specs.List.{list_all};
 ghost use Rattle.smpl_terms.specs.declared.value.Value.TheVariants.{Term, Place};
@@ -19,7 +19,7 @@ use smpl_patch::{PatToken, PlusBlock, VarDecl, declared_as};
 use smpl_terms::{Value, Var, same_var};
 use std::alloc::Global;
 
-/// The environments in which the variable is this tree.
+/// Returns the environments in which the variable is this tree.
 pub fn is_tree(alloc: Global, var: &Var, tree: &Tree) -> Result<EnvSet, NoMemory>
     ensures meaning { IfOk result (λ r. (env : Environment) → set_denotes r env
         ≡ same (Term tree.now) (env var.now)) }
@@ -32,7 +32,7 @@ pub fn is_tree(alloc: Global, var: &Var, tree: &Tree) -> Result<EnvSet, NoMemory
     )
 }
 
-/// The environments in which the variable isn't this place.
+/// Returns the environments in which the variable isn't this place.
 fn not_at(alloc: Global, var: &Var, id: u64) -> Result<EnvSet, NoMemory>
     ensures meaning { IfOk result (λ r. (env : Environment) → set_denotes r env
         ≡ not (same (Place id) (env var.now))) }
@@ -44,7 +44,7 @@ fn not_at(alloc: Global, var: &Var, id: u64) -> Result<EnvSet, NoMemory>
     EnvSet::one(alloc, var, Bound::Not(values))
 }
 
-/// The environments of the set in which none of the variables is this place.
+/// Returns the environments of the set in which none of the variables is this place.
 fn with_nots(alloc: Global, set: EnvSet, vars: &[Var], id: u64) -> Result<EnvSet, NoMemory>
     ensures meaning { IfOk result (λ r. (env : Environment) → set_denotes r env
         ≡ (set_denotes set env && list_all (λ y. not (same (Place id) (env y))) vars.now)) }
@@ -60,7 +60,7 @@ fn with_nots(alloc: Global, set: EnvSet, vars: &[Var], id: u64) -> Result<EnvSet
     Ok(out)
 }
 
-/// The environments of the set in which none of the positions that x excepts is this place.
+/// Returns the environments of the set in which none of the positions that `x` excepts is this place.
 fn with_not_places(
     alloc: Global,
     set: EnvSet,
@@ -82,7 +82,7 @@ fn with_not_places(
     Ok(set)
 }
 
-/// The environments of the set in which each of the positions stands at the token with this id.
+/// Returns the environments of the set in which each of the positions is at the token with this id.
 fn with_positions(
     alloc: Global,
     set: EnvSet,
@@ -129,7 +129,7 @@ pub fn is_bare_token(tokens: &[PatToken], id: u64) -> bool
     }
 }
 
-/// The set, where a token with this entry may be aligned with nothing.
+/// Returns the set if a token with this entry may be aligned with nothing, and the empty set otherwise.
 fn where_bare(alloc: Global, set: EnvSet, entry: &PatToken) -> EnvSet
     ensures meaning { (env : Environment) → set_denotes result env ≡ (set_denotes set env
         && of.is_bare (Some entry.now)) }
@@ -142,8 +142,8 @@ fn where_bare(alloc: Global, set: EnvSet, entry: &PatToken) -> EnvSet
     }
 }
 
-/// The environments of the set in which the token's positions and plus code stand at the first of the tokens that it
-/// is aligned with.
+/// Returns the environments of the set in which the token's positions and plus code are at the first of the tokens that it is
+/// aligned with.
 pub fn with_stand(
     alloc: Global,
     set: EnvSet,
@@ -166,7 +166,7 @@ pub fn with_stand(
     }
 }
 
-/// The id of the tree's first token. Takes no memory.
+/// Returns the id of the tree's first token. Takes no memory.
 pub fn first_id(tree: &Tree) -> Option<u64>
     ensures { result ≡ of.first_id tree.now }
 {
@@ -176,7 +176,7 @@ pub fn first_id(tree: &Tree) -> Option<u64>
     }
 }
 
-/// The environments in which the metavariable fits the tree.
+/// Returns the environments in which the metavariable fits the tree.
 fn fit_meta(
     alloc: Global,
     decls: &[VarDecl],
@@ -202,7 +202,7 @@ fn fit_meta(
     }
 }
 
-/// The environments in which the token fits the tree, but for its positions and plus code.
+/// Returns the environments in which the token fits the tree, apart from its positions and plus code.
 fn fit_token(
     alloc: Global,
     decls: &[VarDecl],
@@ -223,7 +223,7 @@ fn fit_token(
     }
 }
 
-/// The environments in which the token fits the tree.
+/// Returns the environments in which the token fits the tree.
 pub fn fit_leaf(
     alloc: Global,
     decls: &[VarDecl],

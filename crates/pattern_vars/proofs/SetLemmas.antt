@@ -28,7 +28,7 @@ or_assoc false b c = refl
 abbrev pub vars_of : List Key → List Var
 vars_of keys = map (λ k. k.var) keys
 
--- keys are the same where their variables are
+-- keys are the same if their variables are
 pub key-same : (a b : Key) → same_key a b ≡ same_var b.var a.var
 key-same a b = ap (λ (q : Bool). eqb a.var.rule b.var.rule && q) (pointwise-same a.var.name b.var.name) ∙ same_var-sym a.var b.var
 
@@ -88,7 +88,7 @@ pub any-end : {X : Type 0} (all : List X → Bool) → all [] ≡ false → (xs 
 any-end all none xs i old whole e h =
     sym (or_false old) ∙ ap (λ (b : Bool). old || b) (sym (ap all (ap (λ n. drop n xs) e ∙ drop-end xs) ∙ none)) ∙ h
 
--- one puts in after another
+-- two puts, one after the other
 pub put-two : (old mid new a b : Bool) → mid ≡ (old || a) → new ≡ (mid || b) → new ≡ (old || (a || b))
 put-two old mid new a b h k = k ∙ ap (λ (c : Bool). c || b) h ∙ or_assoc old a b
 

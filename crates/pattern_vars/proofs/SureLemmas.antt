@@ -1,4 +1,4 @@
--- Sets of variables that are met, and what puts in the sure variables of trees.
+-- Intersections of sets of variables, and what puts in the sure variables of trees.
 use Rattle.std.proofs.Common.{◌≡◌, ℕ, ◌<◌, Bool, true, false, ◌&&◌, ◌||◌, List, length, get_or, refl, sym, ap, ◌∙◌, Some, slice_get, Result, OnOk}
 use Rattle.std.proofs.lemmas.Option.{slice_get-get_or, same_Some}
 use Rattle.std.proofs.lemmas.Result.{on_ok_weaker}
@@ -51,7 +51,7 @@ pub record IsBranch (u : Tree) (l : Label) (cs ds : List Tree) (s : Shape) : Typ
   pub shape : s ≡ shape_of l
   pub children : ds ≡ cs
 
--- what is put in of a branch is what it surely has
+-- the variables that are put in for a branch are its sure ones
 pub put-shown : {E : Type 0} (decls : List VarDecl) (tokens : List PatToken) (u : Tree) (l : Label) (cs ds : List Tree) (s : Shape)
     (old new : List Var) (r : Result (Unit {0}) E) → IsBranch u l cs ds s
     → OnOk r ((y : Var) → is_declared decls y ≡ true → has new y ≡ (has old y || sure_kids decls tokens y s ds))

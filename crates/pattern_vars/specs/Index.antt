@@ -1,4 +1,4 @@
--- For inside use: numbers of declarations by the names of their variables.
+-- For internal use: numbers of declarations by the names of their variables.
 use Rattle.std.specs.Prelude.{◌≡◌, ℕ, cond, List, [], ◌∷◌, Option, None, Some, slice_get}
 use Rattle.c_terms.specs.Same.{same_bytes}
 use Rattle.smpl_patch.specs.declared.pattern.VarDecl.{VarDecl}
@@ -14,6 +14,6 @@ abbrev pub at : List VarDecl → Option ℕ → Option VarDecl
 at decls None = None
 at decls (Some i) = slice_get decls i
 
--- a name's number is that of what it is declared as among the last of the declarations
+-- the declaration with a name's number is what the last of the declarations declare the name as
 abbrev pub Finds : List (List ℕ × ℕ) → List VarDecl → List VarDecl → Type 0
 Finds numbers decls last = (name : List ℕ) → at decls (number_in numbers name) ≡ declared_as last name

@@ -1,8 +1,8 @@
--- What public contracts rest on: which variables a pattern is read to have.
+-- What public contracts rest on: which variables are read from a pattern.
 pub mod Reads
 -- and what a map has for a variable
 pub mod Keys
--- For inside use: numbers of declarations,
+-- For internal use: numbers of declarations,
 pub mod Index
 -- and what branches have in common.
 pub mod Sure

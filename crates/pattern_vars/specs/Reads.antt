@@ -1,4 +1,4 @@
--- The variables that stand in a pattern, and those of plus code that is anchored at it.
+-- The variables that appear in a pattern, and those of plus code that is anchored at it.
 use Rattle.std.specs.Prelude.{ℕ, Bool, false, ◌||◌, cond, nat_eq, List, map, Option, None, Some, slice_get}
 use Rattle.std.specs.List.{list_any, position}
 use Rattle.c_terms.specs.declared.token.Token.{Token}
@@ -12,11 +12,11 @@ use Rattle.smpl_patch.specs.declared.pattern.Pattern.{Pattern}
 use Rattle.smpl_patch.specs.Held.{held}
 use Rattle.smpl_patch.specs.Patterns.{is_own, in_plus, in_first}
 
--- the variable is among these
+-- the variable is in the list
 abbrev pub has : List Var → Var → Bool
 has vars x = list_any (λ y. same_var y x) vars
 
--- the first place at which the variable stands
+-- the first place of the variable in the list
 abbrev pub number_of : List Var → Var → Option ℕ
 number_of vars x = position (λ y. same_var y x) vars
 
@@ -30,13 +30,13 @@ abbrev pub is_declared : List VarDecl → Var → Bool
 is_declared decls x = has (map (λ d. d.var) decls) x
 
 module _ (decls : List VarDecl) (tokens : List PatToken) where
-  -- x is the variable of the token or a position at it, or stands in plus code there, where that counts
+  -- x is the variable of the token or a position at it, or is in plus code there, if that counts
   abbrev pub reads_token : Bool → Var → Token → Bool
   reads_token plus x a = cond plus (is_own decls tokens x a || in_plus decls (slice_get tokens a.id) x) (is_own decls tokens x a)
 
   abbrev pub reads_tree : Bool → Var → Tree → Bool
   reads_tree plus x t = list_any (reads_token plus x) (leaves t)
 
-  -- x is used in the pattern, where plus code counts, and else it stands there
+  -- x is used in the pattern, if plus code counts, and otherwise appears there
   abbrev pub reads : Bool → Pattern → Var → Bool
   reads plus p x = in_first (λ form. list_any (reads_tree plus x) (held p.spot form)) p.forms

@@ -4,7 +4,7 @@
 pub mod Placing
 -- the places of a sequence's elements
 pub mod Places
--- For inside use: where each variable of a sequence is quantified,
+-- For internal use: where each variable of a sequence is quantified,
 pub mod Homes
 -- what scopes share,
 pub mod Scopes

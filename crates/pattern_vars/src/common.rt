@@ -1,4 +1,4 @@
-// What sets have together, and what they have in common.
+// Unions and intersections of sets.
 ghost use Rattle.std.specs.Prelude.{◌≡◌, ◌||◌, ◌&&◌, IfOk, OnOk};
 ghost use Rattle.smpl_terms.specs.declared.var.Var.{Var as Variable};
 ghost use Rattle.smpl_terms.specs.Vars.{same_var};
@@ -9,7 +9,7 @@ use c_terms::NoMemory;
 use smpl_terms::Var;
 use std::alloc::Global;
 
-/// Puts in the variables of another set. One look-up each, linear in their names.
+/// Puts in the variables of another set. Takes one look-up for each, linear in its name.
 pub fn put_set(alloc: Global, other: &VarSet, set: &mut VarSet) -> Result<(), NoMemory>
     ensures { OnOk result ((y : Variable) → has set.new y ≡ (has set.old y || has other.now y)) }
 {
@@ -29,8 +29,8 @@ fn put_if_in(alloc: Global, x: &Var, other: &VarSet, set: &mut VarSet) -> Result
     Ok(())
 }
 
-/// Puts in the variables that two other sets both have. A look-up for each of the first's, and one more for each that goes
-/// in, linear in their names.
+/// Puts in the variables that two other sets both have. Takes one look-up for each variable of the first set, and one more
+/// for each that both have, linear in their names.
 pub fn put_met(
     alloc: Global,
     one: &VarSet,
@@ -45,7 +45,8 @@ pub fn put_met(
     Ok(())
 }
 
-/// The variables that both sets have. A look-up for each of the first's, and one more for each that both have.
+/// Returns the variables that both sets have. Takes one look-up for each variable of the first set, and one more for each
+/// that both have.
 pub fn met(alloc: Global, one: &VarSet, other: &VarSet) -> Result<VarSet, NoMemory>
     ensures { IfOk result (λ both. (y : Variable) → has both y ≡ (has one.now y && has other.now y)) }
 {

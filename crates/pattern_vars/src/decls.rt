@@ -15,7 +15,7 @@ use sqlite_items::Items;
 use std::alloc::Global;
 use std::marker::Model;
 
-/// A rule's declarations, with the number of the one that each metavariable's name goes by. Contracts see the list.
+/// A rule's declarations, with the number of the one that declares each metavariable's name. Contracts see the list.
 #[derive(Drop)]
 pub struct Decls {
     decls: Items<VarDecl>,
@@ -34,7 +34,7 @@ impl Model for Decls {
     ghost invariant = { λ d. Finds (map (λ e. (e.0.items, e.1)) d.numbers.entries) d.decls d.decls };
 }
 
-/// Gives the name of a metavariable's declaration this number.
+/// Gives this number to the declaration's name, unless it is a position.
 fn put_number(
     alloc: Global,
     d: &VarDecl,
@@ -55,7 +55,7 @@ fn put_number(
     }
 }
 
-/// The number of the first declaration of each metavariable's name.
+/// Returns the number of the first declaration of each metavariable's name.
 fn numbers_of(alloc: Global, decls: &[VarDecl]) -> Result<IndexMap<Vec<u8>, usize>, NoMemory>
     ensures { IfOk result (λ numbers. Finds (map (λ e. (e.0.items, e.1)) numbers.entries) decls.now decls.now) }
 {
@@ -68,7 +68,7 @@ fn numbers_of(alloc: Global, decls: &[VarDecl]) -> Result<IndexMap<Vec<u8>, usiz
     Ok(numbers)
 }
 
-/// The declaration of this number.
+/// Returns the declaration with this number.
 fn numbered(decls: &[VarDecl], i: usize) -> Option<&VarDecl>
     ensures { option_copied result ≡ slice_get decls.now i }
 {
@@ -76,7 +76,7 @@ fn numbered(decls: &[VarDecl], i: usize) -> Option<&VarDecl>
 }
 
 impl Decls {
-    /// The declarations. Linear in their names, where no hashes collide.
+    /// Returns the declarations, ready for look-ups. Linear in their names if no hashes collide.
     pub fn of(alloc: Global, decls: Items<VarDecl>) -> Result<Decls, NoMemory>
         ensures { IfOk result (λ known. known ≡ decls) }
     {
@@ -84,15 +84,14 @@ impl Decls {
         Ok(Decls { decls, numbers })
     }
 
-    /// The declarations, in their order. Takes no memory.
+    /// Returns the declarations, in their order. Takes no memory.
     pub fn as_slice(&self) -> &[VarDecl]
         ensures { result.now ≡ self.now }
     {
         self.decls.as_slice()
     }
 
-    /// What a metavariable of this name is declared as. One look-up, linear in the name; takes no
-    /// memory.
+    /// Returns what a metavariable of this name is declared as. Takes one look-up, linear in the name, and no memory.
     pub fn declared(&self, name: &[u8]) -> Option<&VarDecl>
         ensures { option_copied result ≡ declared_as self.now name.now }
     {
@@ -103,7 +102,7 @@ impl Decls {
     }
 }
 
-/// The variables of the declarations, each once. One look-up for each declaration, linear in its name.
+/// Returns the variables of the declarations, as a set. Takes one look-up for each declaration, linear in its name.
 pub fn declared_vars(alloc: Global, decls: &Decls) -> Result<VarSet, NoMemory>
     ensures { IfOk result (λ vars. (x : Variable) → has vars x ≡ is_declared decls.now x) }
 {

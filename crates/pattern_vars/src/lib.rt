@@ -1,22 +1,22 @@
-//! The variables that stand in patterns, as sets.
+//! The variables that appear in patterns, as sets.
 //!
-//! - [`VarSet`] is a set of variables: one look-up tells whether a variable is there.
+//! - [`VarSet`] is a set of variables. One look-up finds whether a variable is in it.
 //! - [`put_set`] puts another set in, [`put_met`] what two other sets have in common.
-//! - [`Decls`] is a rule's declarations, of which one look-up finds what a metavariable's name is declared as.
-//! - [`declared_vars`] gives their variables.
+//! - [`Decls`] is a rule's declarations. One look-up finds what a metavariable's name is declared as.
+//! - [`declared_vars`] returns their variables.
 //! - [`put_pattern`] puts the variables of a pattern into a set, [`put_block`] those of plus code.
-//! - [`put_sure`] puts those in that have a value wherever the pattern fits. Of a disjunction these are the ones that all its
-//!   branches have.
+//! - [`put_sure`] puts in the variables that have a value wherever the pattern matches. Of a disjunction, these are the ones
+//!   that all its branches have.
 //!
-//! Of `f(x)@p;` with `expression x` and `position p` the set is x and p.
+//! For `f(x)@p;` with `expression x` and `position p`, the set is x and p.
 //!
-//! A set has exactly the variables of which smpl_patch says that they stand in the pattern, or are used there. To ask
-//! that of each of many variables costs a reading of the pattern each; to make the set costs one.
+//! A set has exactly the variables that appear in the pattern, or are used there, as smpl_patch defines it. To ask that of
+//! each of many variables takes one reading of the pattern per variable; to make the set takes one in all.
 //!
 //! Its folders:
 //!
-//! - `var_places`: Where the variables of a rule are quantified: at the smallest part of its body that holds all
-//!   occurrences of each.
+//! - `var_places`: Where the variables of a rule are quantified: each at the smallest part of the body that holds all its
+//!   occurrences.
 #![tactic(auto)]
 
 mod common;

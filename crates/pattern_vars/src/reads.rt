@@ -14,7 +14,7 @@ use smpl_patch::{PatToken, Pattern, PlusBlock, PlusLine, Spot, is_held};
 use smpl_terms::Var;
 use std::alloc::Global;
 
-/// Puts the variable in that a metavariable of this name is.
+/// Puts in the variable of the metavariable with this name, if one is declared.
 fn put_named(alloc: Global, decls: &Decls, name: &[u8], set: &mut VarSet) -> Result<(), NoMemory>
     ensures { OnOk result ((y : Variable) → has set.new y
         ≡ (has set.old y || of.is_var_of (of.declared_as decls.now name.now) y)) }
@@ -35,7 +35,7 @@ fn put_meta(alloc: Global, decls: &Decls, token: &Token, set: &mut VarSet) -> Re
     }
 }
 
-/// Puts these variables in. One look-up each.
+/// Puts these variables in. Takes one look-up for each.
 pub fn put_vars(alloc: Global, vars: &[Var], set: &mut VarSet) -> Result<(), NoMemory>
     ensures { OnOk result ((y : Variable) → has set.new y ≡ (has set.old y || has vars.now y)) }
 {
@@ -60,7 +60,7 @@ fn put_positions(
     }
 }
 
-/// Puts the token's variable in, and the positions at it.
+/// Puts in the token's variable, and the positions at the token.
 pub fn put_own(
     alloc: Global,
     decls: &Decls,
@@ -86,7 +86,7 @@ fn put_line(alloc: Global, decls: &Decls, line: &PlusLine, set: &mut VarSet) -> 
     Ok(())
 }
 
-/// Puts the variables of plus code in. Linear in it, where no hashes collide.
+/// Puts in the variables of plus code. Linear in it if no hashes collide.
 pub fn put_block(
     alloc: Global,
     decls: &Decls,
@@ -107,7 +107,7 @@ pub fn put_block(
     }
 }
 
-/// Puts the variables of the plus code in that is anchored at the token of this number.
+/// Puts in the variables of the plus code that is anchored at the token with this number.
 fn put_plus(
     alloc: Global,
     decls: &Decls,
@@ -217,7 +217,7 @@ pub fn is_parted(spot: Spot, label: Label) -> bool
     }
 }
 
-/// Puts the variables of what is compared of a form in.
+/// Puts in the variables of the compared parts of a form.
 fn put_form(
     alloc: Global,
     decls: &Decls,
@@ -251,8 +251,8 @@ fn put_form(
     }
 }
 
-/// Puts the variables in that stand in what is compared of the pattern's first form, and where `plus` is true those of
-/// plus code that is anchored there. Linear in the pattern and that code, where no hashes collide. Recurses once a level.
+/// Puts in the variables that appear in the compared parts of the pattern's first form, and if `plus` is true, those of plus
+/// code that is anchored there. Linear in the pattern and that code if no hashes collide. Recurses once per level.
 pub fn put_pattern(
     alloc: Global,
     decls: &Decls,

@@ -11,7 +11,7 @@ use std::alloc::Global;
 use std::hash::{Hash, Hasher};
 use std::marker::Model;
 
-/// A variable that is looked up.
+/// A variable as the key of a look-up.
 #[derive(Drop)]
 pub struct Key {
     pub var: Var,
@@ -53,7 +53,7 @@ impl Hash for Key {
     }
 }
 
-/// Variables. Contracts see the list.
+/// A set of variables. Contracts see the list.
 #[derive(Drop)]
 pub struct VarSet {
     set: IndexSet<Key>,
@@ -69,7 +69,7 @@ impl Model for VarSet {
 }
 
 impl VarSet {
-    /// No variables. Takes no memory.
+    /// Returns the empty set. Takes no memory.
     pub fn new(alloc: Global) -> VarSet
         ensures { result ≡ [] }
     {
@@ -78,7 +78,7 @@ impl VarSet {
         }
     }
 
-    /// Puts the variable in, if it isn't there yet. One look-up, linear in the name.
+    /// Puts the variable in, if it isn't in the set yet. Takes one look-up, linear in the name.
     pub fn put(&mut self, alloc: Global, x: &Var) -> Result<(), NoMemory>
         ensures { OnOk result ((y : Variable) → has self.new y ≡ (has self.old y || same_var x.now y)) }
     {
@@ -88,7 +88,7 @@ impl VarSet {
         Ok(())
     }
 
-    /// Whether the variable is there. One look-up and a copy of the variable, linear in the name.
+    /// Whether the variable is in the set. Takes one look-up and a copy of the variable, linear in the name.
     pub fn has(&self, alloc: Global, x: &Var) -> Result<bool, NoMemory>
         ensures { IfOk result (λ there. there ≡ has self.now x.now) }
     {
@@ -98,7 +98,8 @@ impl VarSet {
         Ok(self.set.contains(&key))
     }
 
-    /// The number of the variable, by which `at` gives it. One look-up and a copy of the variable, linear in the name.
+    /// Returns the number of the variable, for which `at` returns the variable. Takes one look-up and a copy of the variable,
+    /// linear in the name.
     pub fn number(&self, alloc: Global, x: &Var) -> Result<Option<usize>, NoMemory>
         ensures { IfOk result (λ found. found ≡ number_of self.now x.now) }
     {
@@ -108,14 +109,14 @@ impl VarSet {
         Ok(self.set.get_index_of(&key))
     }
 
-    /// How long the list is. Takes no memory.
+    /// Returns the length of the list. Takes no memory.
     pub fn len(&self) -> usize
         ensures { result ≡ length self.now }
     {
         self.set.len()
     }
 
-    /// One of them, by its number. Takes no memory.
+    /// Returns the variable with this number. Takes no memory.
     pub fn at(&self, i: usize) -> &Var
         requires { i < length self.now }
         ensures { slice_get self.now i ≡ Some result.now }

@@ -1,4 +1,4 @@
-// Variables that patterns surely have.
+// The sure variables of patterns.
 ghost use Rattle.std.specs.Prelude.{◌≡◌, ◌||◌, ◌&&◌, true, length, IfOk, OnOk};
 ghost use Rattle.std.specs.List.{list_any, list_all};
 ghost use Rattle.smpl_terms.specs.declared.var.Var.{Var as Variable};
@@ -34,7 +34,7 @@ fn is_sign_tree(tree: &Tree) -> bool
     }
 }
 
-/// What the branches so far have in common, met with the variables of one more. `None` stands for all variables.
+/// Returns what the branches so far and one more have in common. `None` stands for all variables.
 fn met_with(alloc: Global, common: Option<VarSet>, own: VarSet) -> Result<VarSet, NoMemory>
     ensures { IfOk result (λ both. (y : Variable) → has both y ≡ (has_unless_all common y && has own y)) }
 {
@@ -44,7 +44,7 @@ fn met_with(alloc: Global, common: Option<VarSet>, own: VarSet) -> Result<VarSet
     }
 }
 
-/// The same for a branch of a disjunction, which may be a sign.
+/// Returns the same for a branch of a disjunction; a branch that is a sign changes nothing.
 #[cycle(sure)]
 fn common_with(
     alloc: Global,
@@ -64,7 +64,7 @@ fn common_with(
     Ok(Some(met_with(alloc, common, own)?))
 }
 
-/// The declared variables that all branches have but for signs.
+/// Returns the declared variables that all branches surely have, signs left aside.
 #[cycle(sure)]
 fn common_of(
     alloc: Global,
@@ -85,7 +85,7 @@ fn common_of(
     }
 }
 
-/// Puts in the variables that all branches have.
+/// Puts in the variables that all branches surely have.
 #[cycle(sure)]
 fn put_common(
     alloc: Global,
@@ -101,7 +101,7 @@ fn put_common(
     put_set(alloc, &common, set)
 }
 
-/// Puts in the variables that any of the trees has.
+/// Puts in the variables that any of the trees surely has.
 #[cycle(sure)]
 fn put_each(
     alloc: Global,
@@ -179,7 +179,7 @@ fn put_sure_kept(
     Ok(())
 }
 
-/// The same of what is compared of a form.
+/// Puts in the variables that the compared parts of a form surely have.
 fn put_sure_held(
     alloc: Global,
     decls: &Decls,
@@ -203,9 +203,9 @@ fn put_sure_held(
     }
 }
 
-/// Puts in the variables that the pattern surely has: those of its tokens, and of a disjunction those that all its
-/// branches have. Of a disjunction without branches these are all declared variables. Recurses once a level. Linear in the
-/// pattern times how deep its disjunctions stand in one another, where no hashes collide.
+/// Puts in the variables that the pattern surely has: those of its tokens, and of a disjunction, those that all its branches
+/// have. For a disjunction without branches, these are all declared variables. Recurses once per level. Linear in the pattern
+/// times the depth of its nested disjunctions, if no hashes collide.
 pub fn put_sure(
     alloc: Global,
     decls: &Decls,

@@ -1,5 +1,4 @@
--- Lemmas of read_ends.
--- Lemmas: cut texts, the text and the heads of a patch, its rules, isomorphisms, forms.
+-- Lemmas of read_ends: cut texts, the text and the heads of a patch, its rules, isomorphisms, forms.
 pub mod PieceLemmas
 pub mod TextLemmas
 pub mod RuleLemmas

@@ -1,9 +1,10 @@
-//! A file of isomorphisms is read in one way, and a patch gets its forms under them in one way.
+//! A file of isomorphisms is read in at most one way, and a patch is given its forms under them in at most one way.
 //!
-//! - [`isos_are_read_once`] is a law: its clauses hold, and it does nothing. What `read_isos` of iso_file answers rests on the
-//!   bytes alone, memory aside: a file has one list of isomorphisms or one first fault, and not both.
-//! - [`patches_are_expanded_once`] is one too: what `expand` of iso_expand answers rests on the patch and the isomorphisms
-//!   alone, memory aside.
+//! - [`isos_are_read_once`] is a law: its clauses hold, and it does nothing. What `read_isos` of iso_file returns depends
+//!   only on the bytes, unless it is out of memory: a file has at most one list of isomorphisms and at most one first
+//!   fault, and not both.
+//! - [`patches_are_expanded_once`] is another law: what `expand` of iso_expand returns depends only on the patch and the
+//!   isomorphisms, unless it is out of memory.
 #![tactic(auto)]
 
 ghost use Rattle.std.specs.Prelude.{◌≡◌, ℕ, List};
@@ -18,11 +19,11 @@ ghost use Rattle.iso_expand.specs.Patches.{IsExpanded, IsFirstMany};
 
 use c_expr::ranges_have_one_tree;
 
-/// A file has one list of isomorphisms or one first fault, and not both.
+/// A file has at most one list of isomorphisms and at most one first fault, and not both.
 ///
-/// - `isos`: two lists of isomorphisms of the same bytes are one.
-/// - `fault`: two first faults of the same bytes are one.
-/// - `apart`: bytes that are isomorphisms have no fault.
+/// - `isos`: two lists of isomorphisms of the same bytes are equal.
+/// - `fault`: two first faults of the same bytes are equal.
+/// - `apart`: bytes that spell isomorphisms have no fault.
 ///
 /// Does nothing.
 pub fn isos_are_read_once()
@@ -35,12 +36,12 @@ pub fn isos_are_read_once()
     ranges_have_one_tree();
 }
 
-/// A patch has one patch with all forms, or one first rule that has too many, and not both.
+/// A patch has at most one patch with all forms and at most one first rule with too many, and not both.
 ///
-/// - `bodies`: two bodies that are one as plain data are one.
-/// - `whole`: two patches with all forms of the same patch are one.
-/// - `rule`: of a list of rules one is the first that has too many forms.
-/// - `apart`: where a patch has one with all forms, no rule has too many.
+/// - `bodies`: two bodies that are equal as plain data are equal.
+/// - `whole`: two patches with all forms of the same patch are equal.
+/// - `rule`: at most one rule of a list is the first with too many forms.
+/// - `apart`: if a patch has one with all forms, no rule has too many.
 ///
 /// Does nothing.
 pub fn patches_are_expanded_once()

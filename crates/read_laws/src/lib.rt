@@ -1,9 +1,11 @@
-//! Laws of reading: each text is read in one way or has one first fault, and one of these there is.
+//! Laws of reading: no text is read in two ways, has two first faults, or has both, and it is impossible that it has
+//! neither.
 //!
-//! - `smpl_once`: A text of patches has one first fault.
-//! - `iso_once`: A file of isomorphisms is read in one way, and a patch gets its forms under them in one way.
-//! - `read_ends`: Bytes are a patch or have a first fault, they are isomorphisms or have a first fault, and a patch has
-//!   all its forms or a first rule with too many.
+//! - `smpl_once`: A text of patches has at most one first fault.
+//! - `iso_once`: A file of isomorphisms is read in at most one way, and a patch is given its forms under them in at most
+//!   one way.
+//! - `read_ends`: Bytes spell a patch or have a first fault, they spell isomorphisms or have a first fault, and a patch can
+//!   be given all its forms or has a first rule with too many.
 #![tactic(auto)]
 
 mod iso_once;

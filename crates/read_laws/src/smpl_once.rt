@@ -1,7 +1,8 @@
-//! A text of patches has one first fault.
+//! A text of patches has at most one first fault.
 //!
-//! - [`patches_have_one_fault`] is a law: its clauses hold, and it does nothing. What `read_patch` of smpl_file answers rests
-//!   on the bytes alone: where it answers a fault it is the only one that is first, whatever was found on the way.
+//! - [`patches_have_one_fault`] is a law: its clauses hold, and it does nothing. What `read_patch` of smpl_file returns
+//!   depends only on the bytes, unless it is out of memory: if it returns a fault, that is the only first fault, whatever
+//!   was found on the way.
 #![tactic(auto)]
 
 ghost use Rattle.std.specs.Prelude.{◌≡◌, ℕ, List, []};
@@ -17,11 +18,11 @@ use smpl_lexer::patch_is_read_once;
 use smpl_meta::heads_are_read_once;
 use smpl_plus::plus_code_is_read_once;
 
-/// A text has one first fault, and each phase of it has one.
+/// A text has at most one first fault, and so has each phase of reading it.
 ///
-/// - `rules`: under the heads of its rules a text has one first fault of plus code and bodies.
-/// - `spelling`: bytes have one first fault of spelling, whatever its phase.
-/// - `whole`: bytes have one first fault, of spelling or of meaning.
+/// - `rules`: with the heads of its rules given, a text has at most one first fault of plus code and bodies.
+/// - `spelling`: bytes have at most one first fault of spelling, in whichever phase.
+/// - `whole`: bytes have at most one first fault, of spelling or of meaning.
 ///
 /// Does nothing.
 pub fn patches_have_one_fault()

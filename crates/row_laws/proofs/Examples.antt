@@ -1,4 +1,4 @@
--- A number that is one less than that of the tokens is not enough: with 0 a type may stand where `a` is alone.
+-- One less than the number of tokens is not enough: with 0 a type may be a member where `a` is the only token.
 use Rattle.std.proofs.Common.{◌≡◌, ◌≤◌, length, ℕ, List, [], ◌∷◌, refl, arith}
 use Rattle.std.specs.Prelude.{◌+◌, codes}
 use Rattle.c_terms.specs.declared.token.Token.{Token}

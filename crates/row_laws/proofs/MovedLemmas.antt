@@ -1,4 +1,4 @@
--- A tree asks where a type may be a member only behind its first token, if it is no list of a call.
+-- A tree that is no list of a call applies the condition on types only after its first token.
 use Rattle.std.proofs.Common.{List, ◌∷◌, refl, subst}
 use Rattle.std.specs.Prelude.{not, IsTrue}
 use Rattle.c_terms.specs.declared.token.Token.{Token}

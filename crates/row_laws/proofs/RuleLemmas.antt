@@ -1,4 +1,4 @@
--- The rule on types decides where a type may be a member, by induction on the number of tokens.
+-- The rule on types determines where a type may be a member. Proof: by induction on the number of tokens.
 use Rattle.std.proofs.Common.{◌≤◌, length, ℕ, zero, suc, List, [], ◌∷◌, refl, arith}
 use Rattle.c_terms.specs.declared.token.Token.{Token}
 use Rattle.c_terms.specs.declared.tree.Tree.{Tree}

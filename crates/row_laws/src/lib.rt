@@ -1,9 +1,9 @@
 //! Laws of the rule on types in calls' lists: a type is a member only where no expression has the same tokens, and the
 //! types in such an expression obey the same rule.
 //!
-//! - [`bounds_agree`]: `NoRival` asks the rule inside itself a number of times, and each number that is at least that of
-//!   the tokens gives the same trees.
-//! - [`rule_is_one`]: so it is the rule itself, and no other condition is.
+//! - [`bounds_agree`]: `NoRival` applies the rule recursively up to a number of times, and each number that is at least the
+//!   number of tokens gives the same trees.
+//! - [`rule_is_one`]: so `NoRival` is the rule itself, and no other condition is.
 //!
 //! The functions do nothing.
 #![tactic(auto)]
@@ -17,9 +17,9 @@ ghost use Rattle.c_rows.specs.Derives.{Derives};
 ghost use Rattle.c_rows.specs.Trees.{NoRival};
 ghost use Rattle.row_laws.specs.Rule.{IsTheRule};
 
-/// With two numbers that are at least that of the tokens, the same types have rivals (`types`), and the same trees are
-/// derived, of each kind and up to each end (`trees`). With numbers of which one is one less, the same types need not have
-/// rivals (`least`). Does nothing.
+/// With two numbers that are at least the number of tokens, the same types have rivals (`types`), and the same trees are
+/// derived, of each kind and up to each end (`trees`). If one of the numbers may be one less, this need not hold of types
+/// (`least`). Does nothing.
 pub fn bounds_agree()
     ensures types { (names : Names) (m n : ℕ) (xs ys : List Token) → length xs ≤ m → length xs ≤ n
         → NoRival names m xs ys → NoRival names n xs ys }
@@ -30,8 +30,8 @@ pub fn bounds_agree()
         → NoRival names m xs ys → NoRival names n xs ys) → ⊥ }
 {}
 
-/// `NoRival` with a number is the rule for lists of at most so many tokens (`rule`). Each test that is the rule for lists
-/// of at most as many tokens as there are derives the same trees (`same`, `back`). Does nothing.
+/// `NoRival` with a number is the rule for lists of at most this many tokens (`rule`). Each test that is the rule for all
+/// lists no longer than the tokens derives the same trees (`same`, `back`). Does nothing.
 pub fn rule_is_one()
     ensures rule { (names : Names) (n : ℕ) → IsTheRule names n (NoRival names n) }
     ensures same { (names : Names) (may : List Token → List Token → Bool) (kind : Kind) (xs ys : List Token) (t : Tree)

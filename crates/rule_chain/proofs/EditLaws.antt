@@ -1,5 +1,5 @@
 -- Lemmas of edit_laws.
--- Lemmas: alignments under environments alike, values without ids, edits of witnesses without ids, fair inserts.
+-- They cover alignments under environments that agree, values without ids, edits of witnesses without ids, and fair inserts.
 pub mod AlignLemmas
 pub mod ValueLemmas
 pub mod BareEdits

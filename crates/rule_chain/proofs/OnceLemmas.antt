@@ -1,4 +1,4 @@
--- A chain has one end.
+-- A chain has at most one end.
 use Rattle.std.proofs.Common.{◌≡◌, ◌<◌, ◌≤◌, ◌⊎◌, ℕ, Bool, true, false, ◌&&◌, Some, refl, sym, ap, ◌∙◌, subst}
 use Rattle.std.proofs.Common.{inl, inr, suc, arith, List, [], ◌∷◌, ◌++◌}
 use Rattle.std.specs.Prelude.{slice_get}
@@ -67,7 +67,7 @@ fine_or_fault : (next : ℕ) (pieces : List TextPiece) (edits : List Edit) (f : 
 fine_or_fault next pieces edits _ fine (conflict c id a b one at first second) = fine.apart c one.clash
 fine_or_fault next pieces edits _ fine (too_long none long) = let short = fine.short in omega arith
 
--- ---- one rule, where witnesses have one list of edits
+-- ---- one rule, if witnesses have one list of edits
 
 abbrev pub HaveOneList : Type 0
 HaveOneList = (found : List RuleWitness) (rule : Rule) (items : List Item) (kinds : List (List NodeKind)) (pieces : List TextPiece) (a b : List Edit)
@@ -107,7 +107,7 @@ module _ (one_list : HaveOneList) (defined : List (List ℕ)) (number : ℕ) (ru
       let e : edits ≡ leads.edits = edits_once edits leads.edits are leads.are in
       fine_or_fault s.page.next s.pieces leads.edits fault leads.fine (subst (λ (x : List Edit). IsEditFault s.page.next s.pieces x fault) e is)
 
--- ---- the text read once more
+-- ---- the text read again
 
 module _ (one_cut : HaveOneCut) (one_reading : HaveOneReading) where
   again_once : (s a b : Chained) → ReadsAgain s a → ReadsAgain s b → a ≡ b

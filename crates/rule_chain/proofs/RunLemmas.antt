@@ -23,7 +23,7 @@ use Rattle.rule_chain.specs.Stops.{page_left, LeadsOn}
 pub left_of : {A : Type 0} (xs : List A) (i : ℕ) (x : A) → i < length xs → x ≡ get_or xs i x → drop i xs ≡ x ∷ drop (i + 1) xs
 left_of xs i x lt is = rw add-one (drop-cons xs i x lt ∙ ap (λ z. z ∷ drop (suc i) xs) (sym is))
 
--- the items of one place
+-- lists with the element of one place
 pub at_pair : {A B : Type 0} (R : A → B → Type 0) (xs : List A) (ys : List B) (i : ℕ) (x : A) (y : B) → AllZip R xs ys → i < length xs
     → x ≡ get_or xs i x → y ≡ get_or ys i y → R x y
 at_pair R [] ys i x y all lt one two = absurd (omega arith)

@@ -1,4 +1,4 @@
--- What comes after the rules over one reading.
+-- What follows the rules over one reading.
 use Rattle.std.proofs.Common.{◌≡◌, ◌<◌, ◌≤◌, ◌+◌, ◌⊎◌, ℕ, Bool, true, None, Some, refl, sym, ap, ◌∙◌, subst, inl, inr}
 use Rattle.std.proofs.Common.{zero, suc, arith, add-one}
 use Rattle.std.proofs.Common.{List, [], ◌∷◌, ◌++◌, length, drop}
@@ -37,7 +37,7 @@ none_left defined rules done s all =
 
 module _ (findings : Findings) (text : NewText) (reading : ℕ) (skipped : List SkipNote) (file : FileItems) (s : Chained)
     (left : IsLeft findings text reading skipped s) (cut : IsCut (page_in text) file.pieces) (reads : Reads file.pieces file.items) where
-  -- the text read once more
+  -- the text is read again
   read_state : Chained
   read_state = record s {
     reading = suc s.reading;
@@ -132,7 +132,7 @@ module _ (defined : List (List ℕ)) (rules : List Rule) (from done : ℕ) (s : 
     skipped_is = on.skipped ∙ at.skipped;
   }
 
-  -- from each state that is seen so
+  -- from each state that the code's data describes
   pub step_ended : (file : FileItems) (next : ℕ) (r : Reached) → Leading defined rules from done file next r.findings findings None
       → IsAt r s → IsAtReading file next s → length rules ≤ done → (applied : Applied)
       → ((last : Chained) → AreFindingsOf findings last → r.bytes.items ≡ last.page.bytes → last.skipped ≡ r.skipped → AnswersState applied last)
@@ -143,7 +143,7 @@ module _ (defined : List (List ℕ)) (rules : List Rule) (from done : ℕ) (s : 
       (at.bytes ∙ ap (λ (p : Page). p.bytes) (sym was.page)) (was.skipped ∙ at.skipped))
 
 module _ (defined : List (List ℕ)) (rules : List Rule) where
-  -- the chain has come so far from there
+  -- the chain has come this far from there
   abbrev pub Coming : Reached → ℕ → Reached → Type 0
   Coming first from r = (s : Chained) → IsAt first s → (now : Chained) × (IsAt r now
       × ((end : Outcome) → Runs defined r.done (drop r.done rules) now end → Runs defined from (drop from rules) s end))

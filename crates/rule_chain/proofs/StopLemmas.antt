@@ -1,4 +1,4 @@
--- Rules after rules.
+-- Sequences of rules.
 use Rattle.std.proofs.Common.{◌≡◌, ◌⊎◌, inl, inr, ℕ, Option, None, refl, ◌∙◌, subst}
 use Rattle.std.proofs.Common.{List, drop}
 use Rattle.c_file.specs.File.{FileItems}
@@ -13,7 +13,7 @@ use Rattle.rule_chain.specs.Chain.{Outcome, Refused, Runs}
 use Rattle.rule_chain.specs.Stops.{page_left, LeadsOn}
 
 module _ (defined : List (List ℕ)) (rules : List Rule) where
-  -- no rule leads on
+  -- with no rule, the state stays
   pub stays : (from : ℕ) (s : Chained) (findings : Findings) → AreFindingsOf findings s → LeadsOn defined rules from s from findings None
   stays from s findings are = record {
     state = s;
@@ -35,7 +35,7 @@ module _ (defined : List (List ℕ)) (rules : List Rule) where
     items = on.items ∙ at.items;
   }
 
-  -- what comes after comes after the first, too
+  -- an end that follows from the later state follows from the first, too
   pub back_to : (from mid : ℕ) (s : Chained) (findings : Findings) (on : LeadsOn defined rules from s mid findings None) (end : Outcome)
       → Runs defined mid (drop mid rules) on.state end → Runs defined from (drop from rules) s end
   back_to from mid s findings on end runs = on.back on.state end refl runs
@@ -53,7 +53,7 @@ module _ (defined : List (List ℕ)) (rules : List Rule) where
     back = λ next end may runs. back_to from mid s findings on end (more.back next end may runs);
   }
 
-  -- from each state that is seen so, to such a state
+  -- from each state that the code's data describes, to such a state
   abbrev pub Leading : ℕ → ℕ → FileItems → ℕ → Findings → Findings → Option NewText → Type 0
   Leading from done file next findings later text = (s : Chained) → AreFindingsOf findings s → IsAtReading file next s
       → LeadsOn defined rules from s done later text

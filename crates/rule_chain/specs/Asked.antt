@@ -1,4 +1,4 @@
--- What a rule must be like to be run.
+-- What is required of a rule that is run.
 use Rattle.smpl_patch.specs.declared.rule.Rule.{Rule}
 use Rattle.ctl_formula.specs.Formulas.{plain}
 use Rattle.ctl_fixpoint.specs.CtlHolds.Parts.{EachPattern}
@@ -8,7 +8,7 @@ use Rattle.rule_envs.specs.declared.rule_formulas.prepared.PreparedRule.{Prepare
 use Rattle.rule_chain.specs.RuleWitnesses.Jobs.{BindsExports}
 use Rattle.rule_chain.specs.RuleTurn.Turns.{AreApart}
 
--- The sure variables of its patterns stand in them, its formula binds what it exports, each exported variable stands once and
+-- The sure variables of its patterns occur in them, its formula binds what it exports, each exported variable occurs once and
 -- none is inherited, and each line of its plus code has as many gaps as tokens.
 pub record MayRun (rule : Rule) (p : PreparedRule) : Type 0 where
   pub stand : EachPattern (SureStand p.formula.decls p.formula.tokens) (plain p.formula)

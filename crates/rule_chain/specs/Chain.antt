@@ -1,4 +1,4 @@
--- The rules of a patch over a file, one after another.
+-- The run of a patch's rules over a file, one after another.
 use Rattle.std.specs.Prelude.{ℕ, ◌≡◌, ◌⊎◌, suc, Bool, true, false, List, [], ◌∷◌}
 use Rattle.smpl_patch.specs.declared.rule.Rule.{Rule}
 use Rattle.c_lexer.specs.Pieces.{TextPiece}
@@ -19,7 +19,7 @@ abbrev pub is_followed : List Rule → Bool
 is_followed [] = false
 is_followed (rule ∷ rules) = true
 
--- the rules, whose numbers begin here, lead from a state to this end
+-- the rules, numbered from here, lead from a state to this end
 abbrev pub Runs : List (List ℕ) → ℕ → List Rule → Chained → Outcome → Type 0
 Runs defined number [] s end = end ≡ Done s
 Runs defined number (rule ∷ rules) s end =
@@ -27,7 +27,7 @@ Runs defined number (rule ∷ rules) s end =
     ⊎ ((next : Chained) × (Leads defined number rule (is_followed rules) s next
     × Runs defined (suc number) rules next end))
 
--- the chain of these rules over a text ends so
+-- the chain of these rules over a text ends in this way
 pub record Chain (rules : List Rule) (defined : List (List ℕ)) (bytes : List ℕ) (end : Outcome) : Type 0 where
   pub pieces : List TextPiece
   pub cut : Lexes bytes pieces

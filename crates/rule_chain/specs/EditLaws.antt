@@ -1,2 +1,2 @@
 -- Definitions of edit_laws.
--- No words of its own: those of rule_witnesses and edit_walk.
+-- It has none of its own: it uses those of rule_witnesses and edit_walk.

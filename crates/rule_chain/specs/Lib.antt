@@ -1,8 +1,8 @@
--- What the contract of the chain rests on, in reading order; rule_work comes before.
+-- What the contract of the chain depends on, in reading order; rule_work comes first.
 pub mod Chain
 pub mod Results
 pub mod Asked
--- For inside use: the rules over one reading.
+-- For internal use: the rules over one reading.
 pub mod Stops
 -- What rule_witnesses defines.
 pub mod RuleWitnesses

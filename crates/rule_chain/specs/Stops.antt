@@ -1,4 +1,4 @@
--- What the rules over one reading lead to, and what comes next.
+-- What the rules over one reading lead to, and what follows.
 use Rattle.std.specs.Prelude.{ℕ, ◌≡◌, ◌+◌, ◌<◌, ◌≤◌, ◌&&◌, Option, None, Some, is_some, List, length, drop}
 use Rattle.smpl_patch.specs.declared.rule.Rule.{Rule}
 use Rattle.rule_chain.specs.declared.rule_edits.texts.NewText.{NewText}
@@ -19,8 +19,8 @@ abbrev pub page_left : Page → Option NewText → Page
 page_left page None = page
 page_left page (Some t) = page_in t
 
--- Some rules, from one number up to another, lead to a state of the same reading with these findings and this page. Whatever the
--- rules that are left lead to, from there or from the new text read once more, they all lead to.
+-- Some rules, from one number up to another, lead to a state of the same reading with these findings and this page. Whatever
+-- the remaining rules lead to, from there or from the new text once it is read, all of them lead to.
 pub record LeadsOn (defined : List (List ℕ)) (rules : List Rule) (from : ℕ) (s : Chained) (done : ℕ) (findings : Findings)
     (text : Option NewText) : Type 0 where
   pub state : Chained
@@ -33,7 +33,7 @@ pub record LeadsOn (defined : List (List ℕ)) (rules : List Rule) (from : ℕ) 
   pub back : (next : Chained) (end : Outcome) → MayRead (is_some text && is_followed (drop done rules)) state next
       → Runs defined done (drop done rules) next end → Runs defined from (drop from rules) s end
 
--- what is reached is this state
+-- the point that is reached is this state
 pub record IsAt (r : Reached) (s : Chained) : Type 0 where
   pub findings : AreFindingsOf r.findings s
   pub at : IsAtReading r.file r.next s
@@ -48,24 +48,24 @@ pub record IsLeft (findings : Findings) (text : NewText) (reading : ℕ) (skippe
   pub reading_is : s.reading ≡ reading
   pub skipped_is : s.skipped ≡ skipped
 
--- no rule is left and the state is answered, or the text is read once more
+-- no rule is left and the state is returned, or the text is read again
 abbrev pub GoesOn : List Rule → ℕ → Chained → Step → Type 0
 GoesOn rules done s (Ended applied) = (length rules ≤ done) × AnswersState applied s
 GoesOn rules done s (On r) = (next : Chained) × (MayRead (is_followed (drop done rules)) s next × (IsAt r next × (r.done ≡ done)))
 
--- what comes after that many rules of this count, whatever they are
+-- what follows after this many rules of this count, whatever the rules are
 abbrev pub ComesOf : ℕ → Findings → NewText → ℕ → List SkipNote → ℕ → Step → Type 0
 ComesOf count findings text reading skipped done st =
     (rules : List Rule) (s : Chained) → length rules ≡ count → IsLeft findings text reading skipped s → GoesOn rules done s st
 
--- The rules from a number on lead from a state to an end that is answered; or to what is reached, and whatever the rules that are
--- left lead to from there, they all lead to.
+-- The rules from a number on lead from a state to an end, which is returned; or they lead to the point that is reached, and
+-- whatever the remaining rules lead to from there, all of them lead to.
 abbrev pub Steps : List (List ℕ) → List Rule → ℕ → Chained → Step → Type 0
 Steps defined rules from s (Ended applied) = (last : Chained) × (Runs defined from (drop from rules) s (Done last) × AnswersState applied last)
 Steps defined rules from s (On r) = (next : Chained) × (IsAt r next
     × ((end : Outcome) → Runs defined r.done (drop r.done rules) next end → Runs defined from (drop from rules) s end))
 
--- what is reached is further on than this number of rules and of readings
+-- the point that is reached is further on than this number of rules and of readings
 abbrev pub IsFurther : ℕ → ℕ → ℕ → Step → Type 0
 IsFurther from count reading (Ended applied) = Unit {0}
 IsFurther from count reading (On r) = (from < r.done) × (r.done ≤ count) × (r.reading ≡ reading + 1)

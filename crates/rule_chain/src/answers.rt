@@ -1,4 +1,4 @@
-// What is answered of the last state.
+// The result for a file, made from the last state.
 ghost use Rattle.std.specs.Prelude.{◌≡◌, IfOk};
 ghost use Rattle.rule_chain.specs.RuleWork.States.{Chained};
 ghost use Rattle.rule_chain.specs.RuleWork.Worked.{AreFindingsOf};
@@ -11,7 +11,7 @@ use rule_envs::envs_of;
 use sqlite_items::Items;
 use std::alloc::Global;
 
-/// The answer for a file whose text is this after the last rule.
+/// Returns the result for a file whose text after the last rule is `bytes`.
 pub fn answer(
     alloc: Global,
     bytes: Vec<u8>,

@@ -1,4 +1,4 @@
-// The rules of a patch over a file.
+// Runs the rules of a patch over a file.
 ghost use Rattle.std.specs.Prelude.{◌≡◌, ◌≤◌, ◌<◌, ◌+◌, ◌^◌, ◌⊎◌, ℕ, IfOk, IfErr, length, drop};
 ghost use Rattle.std.specs.List.{AllZip};
 ghost use Rattle.c_lexer.specs.Lexes.{Lexes};
@@ -26,10 +26,10 @@ use sqlite_items::Items;
 use std::alloc::Global;
 use std::thread::Threads;
 
-/// Ids are at most this.
+/// The upper bound on ids.
 const MOST_IDS: u64 = 4_611_686_018_427_387_904;
 
-/// The chain before the first rule.
+/// Returns the state of the chain before the first rule.
 fn begin(alloc: Global, bytes: Vec<u8>) -> Result<Reached, NoMemory>
     ensures cut { IfOk result (λ r. Lexes bytes.items r.file.pieces) }
     ensures reads { IfOk result (λ r. Reads r.file.pieces r.file.items) }
@@ -57,7 +57,7 @@ fn begin(alloc: Global, bytes: Vec<u8>) -> Result<Reached, NoMemory>
     })
 }
 
-/// What comes after a rule that edits: the text is read once more, if another rule follows.
+/// Returns the step that follows a rule that edits: reads the text again if another rule follows, and ends the chain if not.
 fn go_on(
     alloc: Global,
     count: usize,
@@ -92,7 +92,8 @@ fn go_on(
     }))
 }
 
-/// The rules that are left over the reading that is reached, and the next reading.
+/// Runs the remaining rules over the current reading, up to the first that edits, and then reads the new text if another rule
+/// follows.
 fn next_reading<R: Threads + Sync, G: Gate>(
     rt: &R,
     alloc: Global,
@@ -141,7 +142,7 @@ fn next_reading<R: Threads + Sync, G: Gate>(
     }
 }
 
-/// The rules, reading by reading.
+/// Runs all rules, reading by reading.
 fn over_readings<R: Threads + Sync, G: Gate>(
     rt: &R,
     alloc: Global,
@@ -175,25 +176,25 @@ fn over_readings<R: Threads + Sync, G: Gate>(
     Ok(answer(alloc, reached.bytes, reached.skipped, reached.findings)?)
 }
 
-/// Applies a patch to the text of a file: its rules in order, each on the text that the one before left.
+/// Applies a patch to the text of a file: its rules in order, each to the text that the one before left.
 ///
-/// `prepared` is what [`rule_envs::prepare`] made of the patch, and `defined` are the virtual names that hold. A rule runs once
-/// under each different choice of values of its inherited variables that an environment has; its witnesses extend that
-/// environment, its edits are applied all at once, and the text is read once more where it edited and another rule follows.
+/// `prepared` is what [`rule_envs::prepare`] returned for the patch, and `defined` lists the virtual names that are defined. A
+/// rule runs once for each distinct choice of values that some environment has for its inherited variables. Its witnesses
+/// extend that environment and its edits are applied all at once. If it edits and another rule follows, the text is read again.
 /// Tokens that are kept keep their ids.
 ///
-/// For one rule faults are looked for in this order; the first of the first rule that has one is answered, and nothing of the
-/// file is.
+/// The faults of one rule are looked for in the order below. The call returns the first fault of the first rule that has one,
+/// and then nothing else of the file.
 ///
 /// - `TooManyWitnesses`: in some item, under some choice, the witnesses have more than 1,000,000 touches and binds.
-/// - `TooManyEnvironments`: more than 10,000 environments come out.
-/// - `Conflict`: two edits clash, first at the token of this id.
+/// - `TooManyEnvironments`: more than 10,000 environments result.
+/// - `Conflict`: two edits clash; the id is that of the first token at which they do.
 /// - `FileTooLong`: the new text has more than 16,777,216 bytes.
-/// - `NoMemory`: memory was refused; or ids go beyond 2^62, a reading has more than 2^32 items, or the new text isn't cut into as
-///   many tokens as it has ids.
+/// - `NoMemory`: out of memory; or ids go beyond 2^62, a reading has 2^32 items or more, or the new text isn't cut into as many
+///   tokens as it has ids.
 ///
-/// All but the last carry the rule's number, from 0. Costs one [`crate::rule_work::work`] a rule, and one reading of the text at first and
-/// after each rule that edits and is followed by another.
+/// All but the last carry the number of the rule, from 0. Costs one [`crate::rule_work::work`] per rule, one reading of the
+/// text at the start, and one after each rule that edits and is followed by another.
 pub fn apply<R: Threads + Sync, G: Gate>(
     rt: &R,
     alloc: Global,

@@ -1,19 +1,19 @@
-//! The rules of a patch over the text of a file, one after another.
+//! Applies the rules of a patch to the text of a file, one after another.
 //!
-//! [`apply`] is the chain over one text: the new text, the witnesses, the skipped items and the environments, or its first
-//! fault. What the rules are run by is made once a patch, by rule_formulas.
+//! [`apply`] runs the whole chain over one text. It returns the new text, the witnesses, the skipped items and the
+//! environments, or the first fault. The prepared form that rules are run from is made once per patch, by rule_formulas.
 //!
 //! Its folders:
 //!
 //! - `rule_witnesses`: The witnesses of a rule in one item: the nodes and the values of exported variables under which its
 //!   formula holds, each with its forest.
-//! - `rule_edits`: What the edits of a rule make of a text: all of them at once, or the first fault.
-//! - `rule_found`: What a rule finds over the items of one reading of a file: its witnesses under each of its projections,
-//!   item by item, and the values of exported variables that they bring.
-//! - `rule_turn`: One rule over one reading of a file, but for its edits: what it is run under, what it finds, and what
-//!   becomes of the environments.
-//! - `rule_work`: One rule of a patch over one reading of a file, with its edits.
-//! - `edit_laws`: Laws of the edits of witnesses that calls above need: what is said of them in one crate, in the words of
+//! - `rule_edits`: Applies the edits of a rule to a text: all of them at once, or none and the first fault.
+//! - `rule_found`: What a rule finds over the items of one reading of a file: its witnesses under each of its projections, item
+//!   by item, and the values of exported variables in them.
+//! - `rule_turn`: Runs one rule over one reading of a file, except for its edits: what it runs under, what it finds, and the
+//!   environments that result.
+//! - `rule_work`: Runs one rule of a patch over one reading of a file, including its edits.
+//! - `edit_laws`: Laws of the edits of witnesses that the calls above need. They restate what one crate says in the terms of
 //!   another.
 #![tactic(auto)]
 

@@ -16,7 +16,7 @@ use cpp_lines::Item;
 use sqlite_items::Items;
 use std::alloc::Global;
 
-/// The pieces of a text that is short enough.
+/// Returns the pieces of a text that is short enough. A text that is too long is refused as if out of memory.
 pub fn cut(alloc: Global, bytes: &[u8]) -> Result<Lexed, NoMemory>
     ensures { IfOk result (λ lexed. Lexes bytes.now lexed) }
 {
@@ -27,7 +27,8 @@ pub fn cut(alloc: Global, bytes: &[u8]) -> Result<Lexed, NoMemory>
     }
 }
 
-/// The pieces of a text whose tokens have these ids.
+/// Returns the pieces of a text with these ids on its tokens. If there aren't as many ids as tokens, the text is refused as if
+/// out of memory.
 fn with_ids(alloc: Global, bytes: &[u8], ids: &[u64]) -> Result<Lexed, NoMemory>
     ensures text { IfOk result (λ lexed. text_of lexed ≡ bytes.now) }
     ensures cuts { IfOk result (λ lexed. Cuts lexed) }
@@ -40,7 +41,7 @@ fn with_ids(alloc: Global, bytes: &[u8], ids: &[u64]) -> Result<Lexed, NoMemory>
     Ok(lexed.renumber(ids))
 }
 
-/// The text that edits have left, read once more; its tokens keep their ids.
+/// Reads the text that edits have left. Its tokens keep their ids.
 pub fn read_again(alloc: Global, text: &NewText) -> Result<CFile, NoMemory>
     ensures cut { IfOk result (λ file. IsCut (page_in text.now) file.pieces) }
     ensures reads { IfOk result (λ file. Reads file.pieces file.items) }
@@ -50,7 +51,7 @@ pub fn read_again(alloc: Global, text: &NewText) -> Result<CFile, NoMemory>
     Ok(file)
 }
 
-/// The note that an item of this number is skipped, if it is.
+/// Appends a note on the item with this number if it is skipped.
 fn with_note(
     skipped: Items<SkipNote>,
     reading: u32,
@@ -70,7 +71,7 @@ fn with_note(
     Ok(skipped)
 }
 
-/// The notes, and after them those on the items of a reading.
+/// Appends the notes on the items of a reading.
 pub fn with_notes(
     skipped: Items<SkipNote>,
     reading: u32,

@@ -1,7 +1,7 @@
 //! What a rule finds over the items of one reading of a file: its witnesses under each of its projections, item by item, and
-//! the values of exported variables that they bring.
+//! the values of exported variables in them.
 //!
-//! [`witnesses`] gives both. Items are matched by many jobs at a time, and the answer is that of one thread: what is found in one item
+//! [`witnesses`] returns both. Many jobs match items at a time, and the result is that of one thread: what is found in one item
 //! under one environment is a call of [`item_witnesses`](crate::rule_witnesses::item_witnesses), which has no state.
 #![tactic(auto)]
 

@@ -1,5 +1,5 @@
-//! One rule over one reading of a file, but for its edits: what it is run under, what it finds, and what becomes of the
-//! environments.
+//! Runs one rule over one reading of a file, except for its edits: what it runs under, what it finds, and the environments that
+//! result.
 #![tactic(auto)]
 
 mod fault;

@@ -1,9 +1,9 @@
-//! The witnesses of a rule in one item: the nodes and the values of exported variables under which its formula holds, each
-//! with its forest.
+//! The witnesses of a rule in one item: the nodes and the values of exported variables under which its formula holds, each with
+//! its forest.
 //!
 //! [`match_item`] computes where the formula holds, once for all environments, and [`item_witnesses`] reads from that what is
-//! found under one of them. Neither has a state: what they answer rests on their parameters alone, so that many can run side by
-//! side.
+//! found under one of them. Neither has a state: their results depend on their parameters alone, so that many calls can run
+//! side by side.
 #![tactic(auto)]
 
 mod fault;

@@ -1,7 +1,7 @@
-//! One rule of a patch over one reading of a file, with its edits.
+//! Runs one rule of a patch over one reading of a file, including its edits.
 //!
-//! [`work`] takes what the rules before it left, and gives what this one leaves, or the first fault that it meets. Reading the
-//! text once more, where a rule has edited it, is left to the chain of rules.
+//! [`work`] takes what the rules before it left, and returns what this one leaves, or the first fault that it meets. If the
+//! rule edits the text, reading it again is left to the chain of rules.
 #![tactic(auto)]
 
 mod fault;

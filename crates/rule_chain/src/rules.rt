@@ -1,4 +1,4 @@
-// The rules over one reading of the text.
+// Runs rules over one reading of the text.
 ghost use Rattle.std.specs.Prelude.{◌≡◌, ◌<◌, ◌≤◌, ◌+◌, ◌^◌, ◌⊎◌, true, None, IfOk, IfErr, length, drop, is_some};
 ghost use Rattle.std.specs.List.{AllZip};
 ghost use Rattle.rule_envs.specs.RuleFormulas.Prepared.{ArePrepared};
@@ -28,7 +28,7 @@ pub struct Stopped {
     pub text: Option<NewText>,
 }
 
-/// The rule of this number over a reading.
+/// Runs the rule with this number over a reading.
 fn work_at<R: Threads + Sync, G: Gate>(
     rt: &R,
     alloc: Global,
@@ -75,7 +75,7 @@ fn work_at<R: Threads + Sync, G: Gate>(
     )
 }
 
-/// The rules from a number on over one reading, up to one that edits.
+/// Runs the rules from the number `from` on over one reading, up to and including the first that edits.
 pub fn over_reading<R: Threads + Sync, G: Gate>(
     rt: &R,
     alloc: Global,

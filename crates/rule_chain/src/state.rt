@@ -1,11 +1,11 @@
-// How far the chain has come, and what it answers.
+// The state of the chain, and its result.
 use crate::rule_work::{Findings, SkipNote};
 use c_file::CFile;
 use smpl_patch::RuleWitness;
 use smpl_terms::Env;
 use sqlite_items::Items;
 
-/// What becomes of a file.
+/// The result of a patch for one file.
 #[derive(Drop)]
 pub struct Applied {
     /// The text after the last rule.
@@ -18,12 +18,12 @@ pub struct Applied {
     pub envs: Items<Env>,
 }
 
-/// The chain just after a reading of the text.
+/// The state of the chain just after a reading of the text.
 #[derive(Drop)]
 pub struct Reached {
     pub bytes: Vec<u8>,
     pub file: CFile,
-    /// An id from which on none has been used in the file.
+    /// An id such that neither it nor a larger one has been used in the file.
     pub next: u64,
     /// The number of the reading.
     pub reading: u32,
@@ -33,11 +33,11 @@ pub struct Reached {
     pub done: usize,
 }
 
-/// What comes of the rules over one reading.
+/// The outcome of running the rules over one reading.
 #[derive(Drop)]
 pub enum Step {
     /// No rule is left.
     Ended(Applied),
-    /// The text was read once more.
+    /// The text was read again.
     On(Reached),
 }

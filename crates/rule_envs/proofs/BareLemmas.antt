@@ -1,4 +1,4 @@
--- What a rule is run under and what it brings, with and without the ids of tokens.
+-- What a rule is run under and the values that it exports, with and without the ids of tokens.
 use Rattle.std.proofs.Common.{◌≡◌, Bool, true, false, ◌||◌, cond, Some, None, Option, refl, sym, ap, ◌∙◌, ℕ, List, [], ◌∷◌, ◌++◌, map}
 use Rattle.std.specs.Prelude.{option_map}
 use Rattle.std.specs.List.{list_any, filter_map, cons_option}

@@ -1,4 +1,4 @@
--- What becomes of environments, with and without the ids of tokens.
+-- The environments after a rule, with and without the ids of tokens.
 use Rattle.std.proofs.Common.{◌≡◌, ◌<◌, ◌≤◌, ◌+◌, ℕ, Some, None, Option, refl, sym, ap, ◌∙◌, arith, List, [], ◌∷◌, ◌++◌, length, get_or, drop, map}
 use Rattle.std.specs.Prelude.{option_map, slice_get}
 use Rattle.std.specs.List.{AllZip}
@@ -74,7 +74,7 @@ all_done number parts cs places i next past h =
     sym (append-nil next)
     ∙ ap (λ (xs : List Carrier). next ++ all_replaced number parts xs (drop i places)) (sym (drop_all i cs past)) ∙ h
 
--- those so far, what becomes of this one, and those that come after it
+-- the environments so far, those that replace this one, and those that replace the later ones
 pub one_replaced : (number : ℕ) (parts : List (List Pairs)) (cs : List Carrier) (places : List (Option ℕ)) (i : ℕ) (next now : List Carrier)
     (c : Carrier) (d : Option ℕ) → i < length cs → length places ≡ length cs → c ≡ get_or cs i c
     → next ++ all_replaced number parts (drop i cs) (drop i places) ≡ all_replaced number parts cs places

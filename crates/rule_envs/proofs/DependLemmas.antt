@@ -1,4 +1,4 @@
--- What a condition says, by its form.
+-- The value of a condition, by its form.
 use Rattle.std.proofs.Common.{◌≡◌, ℕ, Bool, true, ◌&&◌, ◌||◌, not, eqb, sym, ap, ◌∙◌, List}
 use Rattle.std.specs.List.{list_any}
 use Rattle.c_terms.specs.Same.{same_bytes}

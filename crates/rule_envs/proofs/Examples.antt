@@ -1,4 +1,4 @@
--- The definitions at a few values, above all where two readings would differ.
+-- Examples of the definitions, above all where two readings would differ.
 use Rattle.std.proofs.Common.{◌≡◌, ℕ, Bool, true, false, ◌&&◌, cond, Some, None, refl, ap, List, [], ◌∷◌}
 use Rattle.std.specs.Prelude.{codes}
 use Rattle.std.specs.List.{filter_map, list_all}
@@ -28,13 +28,13 @@ empty = record { env = []; rules = [] }
 abbrev carrier : Pairs → List ℕ → Carrier
 carrier env rules = record { env = env; rules = rules }
 
--- what a rule that inherits both variables is run under, where each environment that carries rules takes part
+-- what a rule that inherits both variables is run under, if each environment that carries rules takes part
 abbrev under : (List ℕ → Bool) → List Carrier → List Pairs
 under depends cs = distinct (filter_map (λ (c : Carrier). cond (depends c.rules && list_all (has_value c.env) (a ∷ b ∷ []))
     (Some (restricted (a ∷ b ∷ []) c.env)) None) cs)
 
--- the values of two environments are never mixed, one choice counts once, and an environment that lacks a variable takes no
--- part
+-- the values of two environments are never mixed, equal choices count once, and an environment that lacks a variable doesn't
+-- take part
 pairs_stay_together : projections [] (0 ∷ []) Always (a ∷ b ∷ [])
     (carrier (both 1 2) (0 ∷ []) ∷ empty ∷ carrier (both 3 4) (0 ∷ []) ∷ carrier (both 1 2) (0 ∷ 1 ∷ []) ∷ [])
     ≡ both 1 2 ∷ both 3 4 ∷ []
@@ -45,7 +45,7 @@ pairs_stay_together = ap (λ (j : List ℕ → Bool). under j (carrier (both 1 2
 in_order : exported (a ∷ []) (both 5 1 ∷ both 2 1 ∷ both 5 3 ∷ []) ≡ ((a, Place 5) ∷ []) ∷ ((a, Place 2) ∷ []) ∷ []
 in_order = refl
 
--- two witnesses of the first rule: each makes an environment of its own out of the empty one
+-- two witnesses of the first rule: each makes a new environment from the empty one
 each_its_own : next_carriers 0 (λ c. Some c.env) (λ env. both 1 2 ∷ both 3 4 ∷ []) first_carriers
     ≡ carrier (both 1 2) (0 ∷ []) ∷ carrier (both 3 4) (0 ∷ []) ∷ []
 each_its_own = refl
@@ -57,8 +57,8 @@ stays = refl
 no_part : next_carriers 1 (λ c. None) (λ env. both 1 2 ∷ []) first_carriers ≡ first_carriers
 no_part = refl
 
--- a name of a rule asks the environment alone, and `ever` asks the file: here the environment of the second witness, after a
--- second rule that had a witness under the first one alone
+-- a rule's name is looked up only in the environment, and `ever` in the file: here the environment of the second witness, after
+-- a second rule that had a witness only under the first
 name_asks_the_environment : judge (0 ∷ []) (0 ∷ 1 ∷ []) [] (Had 1) ≡ false
 name_asks_the_environment = judge-Had (0 ∷ []) (0 ∷ 1 ∷ []) [] 1
 

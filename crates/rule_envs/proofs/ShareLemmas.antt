@@ -43,7 +43,7 @@ share_rest f envs now (Some env) place c cs is joins =
     ap (λ (x : List Pairs). distinct_after x (filter_map f cs)) joins.0
     ∙ ap (λ (o : Option Pairs). distinct_after envs (cons_option o (filter_map f cs))) is
 
--- what was there keeps its place
+-- an element that is there keeps its place
 slice_get-append : (xs ys : List Pairs) (k : ℕ) (x : Pairs) → slice_get xs k ≡ Some x → slice_get (xs ++ ys) k ≡ Some x
 slice_get-append [] ys k x h = absurd cc
 slice_get-append (z ∷ zs) ys zero x h = h
@@ -67,7 +67,7 @@ all_push P [] (p ∷ ps) o place h one = absurd h
 all_push P (x ∷ xs) [] o place h one = absurd h
 all_push P (x ∷ xs) (p ∷ ps) o place h one = (h.0, all_push P xs ps o place h.1 one)
 
--- the list with one that is new is the list with some more
+-- the list with an environment that is new is the list followed by some more
 with_new_longer : (envs : List Pairs) (env : Pairs) → (more : List Pairs) × (with_new envs env ≡ envs ++ more)
 with_new_longer envs env =
     elim (list_any (same_env env) envs) as (λ b. (more : List Pairs) × (cond b envs (envs ++ env ∷ []) ≡ envs ++ more)) [

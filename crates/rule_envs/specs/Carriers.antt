@@ -1,4 +1,4 @@
--- What becomes of the environments after a rule.
+-- The environments after a rule.
 use Rattle.std.specs.Prelude.{ℕ, ◌≡◌, Option, None, Some, List, [], ◌∷◌, ◌++◌, map}
 use Rattle.std.specs.List.{flat_map, AllZip}
 use Rattle.smpl_terms.specs.declared.var.Var.{Var}
@@ -6,7 +6,7 @@ use Rattle.env_parts.specs.Parts.{Pairs, restricted, joined, distinct}
 use Rattle.rule_envs.specs.declared.carrier.Carrier.{Carrier}
 use Rattle.rule_envs.specs.Shares.{StandsAt}
 
--- the different values of the exported variables in the environments of witnesses
+-- the distinct values of the exported variables in the environments of witnesses
 abbrev pub exported : List Var → List Pairs → List Pairs
 exported exports envs = distinct (map (restricted exports) envs)
 
@@ -22,13 +22,13 @@ first_carriers = record { env = []; rules = [] } ∷ []
 abbrev pub extended : ℕ → Carrier → Pairs → Carrier
 extended number c part = record { env = joined c.env part; rules = c.rules ++ number ∷ [] }
 
--- an environment stays where nothing is brought, and else is replaced by its extensions, in order
+-- an environment stays if there are no parts, and otherwise is replaced by its extensions, in order
 abbrev pub replaced : ℕ → Carrier → List Pairs → List Carrier
 replaced number c [] = c ∷ []
 replaced number c (part ∷ parts) = map (extended number c) (part ∷ parts)
 
--- By what each environment shares with the rule, if it takes part, and by what the rule brings under each share: the
--- different exported values of its witnesses.
+-- Given what each environment shares with the rule, if it takes part, and what the rule finds under each share: the distinct
+-- exported values of its witnesses.
 module _ (number : ℕ) (share : Carrier → Option Pairs) (brings : Pairs → List Pairs) where
   abbrev pub becomes_by : Carrier → Option Pairs → List Carrier
   becomes_by c None = c ∷ []
@@ -38,7 +38,7 @@ module _ (number : ℕ) (share : Carrier → Option Pairs) (brings : Pairs → L
   abbrev pub next_carriers : List Carrier → List Carrier
   next_carriers carriers = flat_map (λ c. becomes_by c (share c)) carriers
 
--- Each environment has the place of its share among some projections, and these parts are what is brought under each of them.
+-- Each environment has the place of its share among some projections, and these parts are what is found under each of them.
 pub record AreBrought (share : Carrier → Option Pairs) (brings : Pairs → List Pairs) (carriers : List Carrier)
     (places : List (Option ℕ)) (parts : List (List Pairs)) : Type 0 where
   pub projections : List Pairs

@@ -1,4 +1,4 @@
--- Whether what a rule depends on holds of an environment.
+-- Whether the condition that a rule depends on holds for an environment.
 use Rattle.std.specs.Prelude.{ℕ, Bool, true, ◌&&◌, ◌||◌, not, eqb, List}
 use Rattle.std.specs.List.{list_any}
 use Rattle.c_terms.specs.Same.{same_bytes}
@@ -16,6 +16,6 @@ module _ (carried had : List ℕ) (defined : List (List ℕ)) where
   judge_step (Dep-F.Both d e) = d && e
   judge_step (Dep-F.Either d e) = d || e
 
-  -- by the rules that the environment carries, those that have had a witness on the file, and the names that are defined
+  -- given the rules that the environment carries, those that have had a witness on the file, and the names that are defined
   abbrev pub judge : Dep → Bool
   judge = fold-Dep Bool judge_step

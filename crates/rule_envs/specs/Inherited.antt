@@ -1,11 +1,11 @@
--- What a rule takes from earlier rules.
+-- The variables that a rule takes from earlier rules.
 use Rattle.std.specs.Prelude.{cond, List, [], ◌∷◌, ◌++◌}
 use Rattle.std.specs.List.{flat_map}
 use Rattle.smpl_terms.specs.declared.var.Var.{Var}
 use Rattle.smpl_patch.specs.declared.pattern.VarDecl.{VarDecl}
 use Rattle.smpl_patch.specs.declared.rule.Rule.{Rule}
 
--- those that are declared so, and the positions after `!=`
+-- the variables that are declared as inherited, and the positions after `!=`
 abbrev pub inherited_by : VarDecl → List Var
 inherited_by d = cond d.inherited (d.var ∷ []) [] ++ d.not_places
 

@@ -1,4 +1,4 @@
--- What the contracts rest on, in reading order.
+-- What the contracts depend on, in reading order.
 pub mod Depends
 pub mod Inherited
 pub mod Shares

@@ -1,8 +1,8 @@
--- The parts that are brought under the projection at a place.
+-- The parts that are found under the projection at a place.
 use Rattle.std.specs.Prelude.{ℕ, Option, None, Some, List, [], slice_index_or}
 use Rattle.env_parts.specs.Parts.{Pairs}
 
--- none without a place
+-- no parts without a place
 abbrev pub parts_at : List (List Pairs) → Option ℕ → List Pairs
 parts_at parts None = []
 parts_at parts (Some k) = slice_index_or parts k []

@@ -13,19 +13,19 @@ abbrev pub bare_carrier : Carrier → Carrier
 bare_carrier c = record c { env = bare_env c.env }
 
 module _ (defined : List (List ℕ)) (had : List ℕ) (depends : Dep) (inherited : List Var) where
-  -- what the rule depends on holds of the environment, and it has all inherited variables
+  -- the condition that the rule depends on holds for the environment, and it has all inherited variables
   abbrev pub takes_part : Carrier → Bool
   takes_part c = judge c.rules had defined depends && list_all (has_value c.env) inherited
 
-  -- its values of the inherited variables, where it takes part
+  -- its values of the inherited variables, if it takes part
   abbrev pub share : Carrier → Option Pairs
   share c = cond (takes_part c) (Some (restricted inherited c.env)) None
 
-  -- what the rule is run under: the different shares, in the order in which they first appear
+  -- what the rule is run under: the distinct shares, in the order in which they first appear
   abbrev pub projections : List Carrier → List Pairs
   projections carriers = distinct (filter_map share carriers)
 
--- the place of a share among the projections; none where there is no share
+-- the place of a share among the projections, or none if there is no share
 abbrev pub StandsAt : List Pairs → Option Pairs → Option ℕ → Type 0
 StandsAt projections None place = place ≡ None
 StandsAt projections (Some env) place = (k : ℕ) × ((place ≡ Some k) × (slice_get projections k ≡ Some env))

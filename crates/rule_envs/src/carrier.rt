@@ -14,7 +14,7 @@ pub struct Carrier {
     pub rules: SharedList<u32>,
 }
 
-/// What the rules begin with: one empty environment, which carries no rule.
+/// Returns what the first rule begins with: one empty environment, which carries no rule.
 pub fn first_carriers(alloc: Global) -> Result<Items<Carrier>, NoMemory>
     ensures carriers { IfOk result (λ carriers. carriers ≡ of.first_carriers) }
 {
@@ -26,7 +26,7 @@ pub fn first_carriers(alloc: Global) -> Result<Items<Carrier>, NoMemory>
     Ok(carriers)
 }
 
-/// An equal one. It shares the environment and the list of rules: that takes the same time for any.
+/// Returns an equal carrier. It shares the environment and the list of rules, so that this takes the same time for any carrier.
 pub fn copied(alloc: Global, carrier: &Carrier) -> Result<Carrier, NoMemory>
     ensures { IfOk result (λ c. c ≡ carrier.now) }
 {
@@ -35,7 +35,7 @@ pub fn copied(alloc: Global, carrier: &Carrier) -> Result<Carrier, NoMemory>
     Ok(Carrier { env, rules })
 }
 
-/// The environments alone, in order. They share their pairs.
+/// Returns the environments alone, in order. They share their pairs.
 pub fn envs_of(alloc: Global, carriers: &[Carrier]) -> Result<Items<Env>, NoMemory>
     ensures envs { IfOk result (λ envs. envs ≡ map (λ c. c.env) carriers.now) }
 {

@@ -1,4 +1,4 @@
-// Whether what a rule depends on holds.
+// Whether the condition that a rule depends on holds.
 ghost use Rattle.std.specs.Prelude.{◌≡◌, eqb};
 ghost use Rattle.std.specs.List.{list_any};
 ghost use Rattle.c_terms.specs.Same.{same_bytes};
@@ -7,8 +7,9 @@ ghost use Rattle.rule_envs.specs.Depends as of;
 use c_terms::{Text, same_text};
 use smpl_patch::Dep;
 
-/// Whether what a rule depends on holds of an environment that carries these rules, where those rules have had a witness and
-/// those virtual names are defined. Recurses once a level, and takes no memory.
+/// Whether the condition that a rule depends on holds for an environment that carries the rules `carried`, if the rules `had`
+/// have had a witness and the virtual names `defined` are defined. Recurses once per level of the condition, and takes no
+/// memory.
 pub fn judge(dep: &Dep, carried: &[u32], had: &[u32], defined: &[Text]) -> bool
     ensures value { result ≡ of.judge carried.now had.now defined.now dep.now }
 {

@@ -1,4 +1,4 @@
-// What witnesses bring to later rules.
+// The values that witnesses pass to later rules.
 ghost use Rattle.std.specs.Prelude.{◌≡◌, IfOk, map};
 ghost use Rattle.rule_envs.specs.Carriers as of;
 
@@ -9,8 +9,8 @@ use smpl_terms::{Env, Var};
 use sqlite_items::Items;
 use std::alloc::Global;
 
-/// The different values of the exported variables in these witnesses, in the order in which they first appear. Costs a look-up
-/// in a search tree for each witness.
+/// Returns the distinct values of the exported variables in these witnesses, in the order in which they first appear. Costs a
+/// look-up in a search tree for each witness.
 pub fn exported(
     alloc: Global,
     exports: &[Var],

@@ -7,9 +7,9 @@ use std::alloc::{AllocError, AllocFailed};
 /// Why there are no environments after a rule.
 #[derive(Clone, Copy, Debug, PartialEq, Eq)]
 pub enum EnvsFault {
-    /// More than 10,000 come out.
+    /// More than 10,000 environments result.
     TooMany,
-    /// Memory was refused.
+    /// Out of memory.
     NoMemory,
 }
 

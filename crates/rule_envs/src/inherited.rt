@@ -28,8 +28,8 @@ fn with_inherited(alloc: Global, vars: Items<Var>, d: &VarDecl) -> Result<Items<
     with_all(alloc, vars, d.not_places.as_slice())
 }
 
-/// The inherited variables of a rule, in the order of their declarations: those that are declared so, and the positions after
-/// `!=`. Linear in the declarations.
+/// Returns the inherited variables of a rule, in the order of their declarations: those that are declared as inherited, and the
+/// positions after `!=`. Linear in the declarations.
 pub fn inherited_of(alloc: Global, rule: &Rule) -> Result<Items<Var>, NoMemory>
     ensures vars { IfOk result (λ vars. vars ≡ of.inherited_of rule.now) }
 {

@@ -1,4 +1,4 @@
-// What holds of environments whatever the ids of their tokens.
+// Laws of environments, whatever the ids of their tokens.
 ghost use Rattle.std.specs.Prelude.{◌≡◌, ℕ, List, map};
 ghost use Rattle.smpl_terms.specs.declared.var.Var.{Var};
 ghost use Rattle.smpl_patch.specs.declared.rule.Dep.{Dep};
@@ -7,7 +7,8 @@ ghost use Rattle.rule_envs.specs.declared.carrier.Carrier.{Carrier};
 ghost use Rattle.rule_envs.specs.Shares as shares;
 ghost use Rattle.rule_envs.specs.Carriers as of;
 
-/// What a rule is run under, and what witnesses bring, are the same without the ids of tokens as with them. Does nothing.
+/// What a rule is run under and the values that witnesses export are the same without the ids of tokens as with them. Does
+/// nothing.
 pub fn ids_do_not_count()
     ensures projections { (defined : List (List ℕ)) (had : List ℕ) (depends : Dep) (inherited : List Var) (carriers : List Carrier) →
         map bare_env (shares.projections defined had depends inherited carriers)

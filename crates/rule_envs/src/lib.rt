@@ -1,18 +1,18 @@
-//! The environments of a file, as the rules of a patch go over it: which of them take part in a rule, what the rule is run
-//! under, and what becomes of them.
+//! The environments of a file, as the rules of a patch process it: which of them take part in a rule, what the rule is run
+//! under, and which environments result.
 //!
 //! - [`inherited_of`] lists the variables that a rule takes from earlier ones.
-//! - [`projections`] picks the environments that take part and gives their different values of those variables, each once.
-//! - [`exported`] gives the different values that some witnesses bring to later rules.
+//! - [`projections`] chooses the environments that take part and returns their distinct values of those variables, each once.
+//! - [`exported`] returns the distinct values of exported variables that some witnesses pass to later rules.
 //! - [`next_carriers`] replaces each environment that got witnesses by its extensions.
 //! - [`ids_do_not_count`] is a law, and does nothing: values are compared without the ids of their tokens.
 //!
-//! Values of two environments never come together: a projection is a part of one environment, and what is found under it
-//! extends just those that have it.
+//! Values of two environments are never combined: a projection is a part of one environment, and what is found under it extends
+//! only those that have it.
 //!
 //! Its folders:
 //!
-//! - `rule_formulas`: What the rules of a patch are run by: the formula of each, and the variables that it takes from
+//! - `rule_formulas`: What the rules of a patch are run by: the formula of each rule, and the variables that it takes from
 //!   earlier rules.
 #![tactic(auto)]
 

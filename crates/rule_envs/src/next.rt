@@ -1,4 +1,4 @@
-// What becomes of the environments after a rule.
+// The environments after a rule.
 ghost use Rattle.std.specs.Prelude.{◌≡◌, ◌<◌, ◌≤◌, ◌++◌, ℕ, List, [], Option, IfOk, IfErr, IsErrOf, map, length};
 ghost use Rattle.env_parts.specs.Parts.{Pairs, bare_env};
 ghost use Rattle.rule_envs.specs.declared.carrier.Carrier.{Carrier as One};
@@ -43,7 +43,7 @@ fn extend(
     Ok(next)
 }
 
-/// The environments, and after them what becomes of this one.
+/// Appends what replaces this environment: itself if there are no parts, and otherwise its extensions.
 fn replace(
     alloc: Global,
     number: u32,
@@ -61,7 +61,7 @@ fn replace(
     extend(alloc, number, carrier, parts, next)
 }
 
-/// The parts at the place of a projection; none without a place.
+/// Returns the parts at the place of a projection, or none if there is no place.
 fn parts_of<'a>(parts: &'a [Items<Env>], place: Option<usize>) -> &'a [Env]
     ensures { result.now ≡ parts_at parts.now place }
 {
@@ -74,12 +74,13 @@ fn parts_of<'a>(parts: &'a [Items<Env>], place: Option<usize>) -> &'a [Env]
     }
 }
 
-/// The environments after a rule: each that takes part and under whose share parts are brought is replaced by its extensions
-/// with them, in order, which carry the rule too; every other stays. `places` are those of [`crate::projections`], and `parts`
-/// the different exported values that each projection brings, as [`crate::exported`] lists them.
+/// Returns the environments after a rule. Each environment that takes part and whose projection has parts is replaced by its
+/// extensions with them, in order, which carry the rule too; every other one stays. `places` are those of
+/// [`crate::projections`], and `parts` lists for each projection the distinct exported values that are found under it, as
+/// [`crate::exported`] returns them.
 ///
-/// - `TooMany`: more than 10,000 environments come out. No more than one environment's extensions are made beyond that.
-/// - `NoMemory`: memory was refused.
+/// - `TooMany`: more than 10,000 environments result. At most one environment's extensions are made beyond that.
+/// - `NoMemory`: out of memory.
 pub fn next_carriers(
     alloc: Global,
     number: u32,

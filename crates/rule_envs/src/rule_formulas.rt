@@ -1,7 +1,7 @@
-//! What the rules of a patch are run by: the formula of each, and the variables that it takes from earlier rules. Made once for
-//! a patch, however many files it is applied to.
+//! What the rules of a patch are run by: the formula of each rule, and the variables that it takes from earlier rules. Made
+//! once per patch, however many files it is applied to.
 //!
-//! - [`prepare`] makes them, by [`formula_of`](ctl_translate::formula_of) and [`inherited_of`](crate::inherited_of).
+//! - [`prepare`] makes both, with [`formula_of`](ctl_translate::formula_of) and [`inherited_of`](crate::inherited_of).
 //! - [`exported_variables_are_bound`] is a law, and does nothing: the formula gives each exported variable a value.
 #![tactic(auto)]
 

@@ -14,11 +14,11 @@ use smpl_terms::{Env, Var};
 use sqlite_items::Items;
 use std::alloc::Global;
 
-/// What a rule is run under, and where each environment finds its share of it.
+/// What a rule is run under, and the place of each environment's share in it.
 #[derive(Drop)]
 pub struct Projected {
     pub projections: Items<Env>,
-    /// For each environment the place of its projection; none where it takes no part.
+    /// For each environment the place of its projection, or none if it doesn't take part.
     pub places: Items<Option<usize>>,
 }
 
@@ -33,7 +33,7 @@ fn has_all(env: &Env, vars: &[Var]) -> bool
     true
 }
 
-/// The values of the inherited variables, where the environment takes part in the rule.
+/// Returns the environment's values of the inherited variables, if it takes part in the rule.
 fn share(
     alloc: Global,
     defined: &[Text],
@@ -54,7 +54,7 @@ fn share(
     Ok(Some(env))
 }
 
-/// Different shares, and the place of one of them.
+/// Distinct shares, and the place of one of them.
 #[derive(Drop)]
 struct Shared {
     envs: DistinctEnvs,
@@ -78,9 +78,9 @@ fn with_share(alloc: Global, envs: DistinctEnvs, share: Option<Env>) -> Result<S
     }
 }
 
-/// What the rule is run under: the different shares of the environments that take part, in the order in which they first
-/// appear; and for each environment the place of its share. Costs a look-up in a search tree for each environment, beside its
-/// own look-ups.
+/// Returns what the rule is run under: the distinct shares of the environments that take part, in the order in which they first
+/// appear, and for each environment the place of its share. Costs a look-up in a search tree for each environment, in addition
+/// to the look-ups in the environment.
 pub fn projections(
     alloc: Global,
     defined: &[Text],

@@ -1,6 +1,6 @@
--- The exported variables of a rule stand once each, and none is inherited.
--- Proof: they are declared variables, in declared order, and declared names differ. An own variable has the number of its rule, and
--- an inherited one that of an earlier rule.
+-- Each exported variable of a rule occurs once, and none is inherited.
+-- Proof: they are declared variables, in declared order, and declared names differ. A rule's own variables have its number,
+-- and an inherited one that of an earlier rule.
 use Rattle.std.proofs.Common.{◌≡◌, ℕ, suc, ◌+◌, ◌<◌, Bool, true, false, not, ◌&&◌, ◌||◌, refl, sym, ap, ◌∙◌, subst, inl, inr}
 use Rattle.std.proofs.Common.{true≢false, List, [], ◌∷◌, ◌++◌, length, if◌then◌else◌, cond, nat_eq, arith}
 use Rattle.std.specs.List.{list_any, list_all, flat_map, AllByRecursion}

@@ -1,3 +1,2 @@
--- Lemmas of chain_laws.
--- What holds of each rule is what the chain asks of it.
+-- Lemmas of chain_laws. The properties of each rule imply the preconditions of the chain.
 pub mod AskedLemmas

@@ -1,4 +1,4 @@
--- Of a sound patch each line of plus code has as many gaps as tokens.
+-- In a sound patch, each line of plus code has as many gaps as tokens.
 use Rattle.std.proofs.Common.{◌≡◌, ◌==◌, ◌&&◌, ℕ, true, refl, arith, nat_eq, Option, None, Some, List, [], ◌∷◌, length}
 use Rattle.std.specs.List.{list_all, AllByRecursion}
 use Rattle.std.proofs.lemmas.Bool.Decides.{nat_tests, Decides-eqb}

@@ -1,3 +1,2 @@
--- Lemmas of form_laws.
--- What a rule with all forms has of what the rule has of which it is made.
+-- Lemmas of form_laws. A rule with all forms has the properties of the original rule.
 pub mod ReadyLemmas

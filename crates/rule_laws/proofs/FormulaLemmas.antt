@@ -1,5 +1,6 @@
 -- The patterns of a body's formula are patterns of the body.
--- Proof: by recursion on the body, row by row of the table. What follows an element, and what stands beside dots, is taken along.
+-- Proof: by recursion on the body, row by row of the table. The induction covers what follows an element and what is next
+-- to dots.
 use Rattle.std.proofs.Common.{ℕ, suc, Bool, true, false, not, ◌&&◌, cond, Option, None, Some, List, [], ◌∷◌, ◌++◌}
 use Rattle.std.specs.List.{filter, AllByRecursion}
 use Rattle.smpl_terms.specs.declared.var.Var.{Var}

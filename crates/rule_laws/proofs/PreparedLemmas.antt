@@ -1,4 +1,4 @@
--- The rules of a patch with whose meaning nothing is wrong have formulas.
+-- The rules of a patch without faults of meaning have formulas.
 use Rattle.std.proofs.Common.{◌≡◌, true, false, refl, sym, ◌∙◌, inl, inr, true≢false, List, [], ◌∷◌}
 use Rattle.smpl_patch.specs.declared.rule.Rule.{Rule}
 use Rattle.ctl_translate.specs.Answers.{IsFaultOf}

@@ -1,4 +1,4 @@
--- What the parts of the laws say together of each rule.
+-- The laws combined, for each rule.
 use Rattle.std.proofs.Common.{◌≡◌, true, sym, ap, ◌∙◌, subst, List, [], ◌∷◌}
 use Rattle.std.specs.List.{list_all, AllByRecursion}
 use Rattle.smpl_patch.specs.declared.pattern.VarDecl.{VarDecl}

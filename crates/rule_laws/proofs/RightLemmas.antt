@@ -1,4 +1,4 @@
--- Of a patch with whose meaning nothing is wrong each rule's formula is within the limits, and no variable may stay unbound there.
+-- In a patch without faults of meaning, each rule's formula is within the limits, and no variable can remain unbound in it.
 use Rattle.std.proofs.Common.{◌≡◌, ℕ, suc, Bool, true, false, refl, ap, ◌∙◌, if◌then◌else◌, Option, None, Some, List, [], ◌∷◌}
 use Rattle.std.specs.List.{AllByRecursion}
 use Rattle.smpl_patch.specs.declared.pattern.VarDecl.{VarDecl}

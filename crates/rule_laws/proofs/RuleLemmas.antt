@@ -1,4 +1,4 @@
--- What holds of the patterns of a rule's formula.
+-- Properties of the patterns of a rule's formula.
 use Rattle.std.specs.Prelude.{All, Contains}
 use Rattle.std.specs.List.{AllByRecursion}
 use Rattle.std.proofs.lemmas.List.Elements.{All-contains_itself, recursion_from_All}

@@ -1,4 +1,4 @@
--- Tests that are joined, and what holds of each rule of a patch.
+-- Conjunctions of tests, and properties of each rule of a patch.
 use Rattle.std.proofs.Common.{◌≡◌, ◌⊎◌, inl, inr, Bool, true, false, not, ◌&&◌, ◌||◌, refl, List, [], ◌∷◌, ◌++◌}
 use Rattle.std.specs.List.{AllByRecursion}
 use Rattle.smpl_patch.specs.declared.rule.Rule.{Rule}

@@ -1,4 +1,4 @@
--- What the laws rest on: what the calls that run a rule ask of it.
+-- What the laws rest on: the preconditions of the calls that run a rule.
 pub mod Ready
 -- What iso_formulas defines.
 pub mod IsoFormulas

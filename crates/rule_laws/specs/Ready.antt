@@ -1,4 +1,4 @@
--- What the calls that run a rule ask of it.
+-- The preconditions of the calls that run a rule.
 use Rattle.std.specs.Prelude.{◌≡◌, true}
 use Rattle.std.specs.List.{list_all}
 use Rattle.smpl_patch.specs.declared.rule.Rule.{Rule}
@@ -12,11 +12,11 @@ use Rattle.rule_envs.specs.Inherited.{inherited_of}
 use Rattle.rule_chain.specs.RuleTurn.Turns.{AreApart}
 
 pub record IsReady (rule : Rule) : Type 0 where
-  -- in each pattern of its formula the sure variables stand
+  -- each pattern of its formula contains its sure variables
   pub stand : EachPattern (SureStand rule.vars rule.tokens) (formula_of rule)
   -- the formula binds each exported variable
   pub binds : list_all (bound (sure rule.vars rule.tokens) (formula_of rule)) rule.exports ≡ true
-  -- exported variables stand once, and none is inherited
+  -- each exported variable occurs once, and none is inherited
   pub apart : AreApart rule.exports (inherited_of rule)
   -- each line of plus code has as many gaps as tokens
   pub even : HaveEvenBlocks rule.tokens

@@ -1,4 +1,4 @@
-//! Laws of the chain for patches that are read: what `apply` asks of each rule, each rule has.
+//! Laws of the chain for patches that are read: each rule satisfies the preconditions of `apply`.
 //!
 //! The functions do nothing.
 #![tactic(auto)]

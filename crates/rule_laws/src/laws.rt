@@ -27,11 +27,11 @@ ghost use Rattle.rule_laws.specs.Ready.{IsReady};
 use rule_envs::exported_variables_are_bound;
 use sound_laws::{patches_are_sound, spelled_patches_are_sound};
 
-/// What the patterns of a rule's formula are.
+/// The patterns of a rule's formula are those of its body.
 ///
-/// - `patterns`: each of them is one of the rule's body, those of `when` code included. So what is so of each pattern of the body
-///   is so of each of the formula.
-/// - `stand`: where in each pattern of the body the sure variables stand, they do so in each of the formula.
+/// - `patterns`: each of them is one of the rule's body, including those of `when` code. So what holds of each pattern of
+///   the body holds of each of the formula.
+/// - `stand`: if each pattern of the body contains its sure variables, so does each of the formula.
 ///
 /// Does nothing.
 pub fn formulas_have_patterns_of_their_bodies()
@@ -40,14 +40,14 @@ pub fn formulas_have_patterns_of_their_bodies()
         EachPattern (SureStand rule.vars rule.tokens) (formula_of rule) }
 {}
 
-/// Of a sound patch that bytes spell: each variable that a rule exports stands once among its exports, and is none that it takes
-/// from earlier rules. Does nothing.
+/// In a sound patch that bytes spell, each variable that a rule exports occurs once among its exports, and isn't inherited
+/// from an earlier rule. Does nothing.
 pub fn exports_are_apart()
     ensures apart { (bytes : List ℕ) (patch : Whole) → IsSpelled bytes patch → IsSound patch →
         All (λ r. AreApart r.exports (inherited_of r)) patch.rules }
 {}
 
-/// Of a sound patch with whose meaning nothing is wrong: the formula of each rule binds each variable that the rule exports. Does
+/// In a sound patch without faults of meaning, the formula of each rule binds each variable that the rule exports. Does
 /// nothing.
 pub fn exports_are_bound()
     ensures bound { (patch : Whole) → IsSound patch → first_fault patch ≡ None →
@@ -56,15 +56,15 @@ pub fn exports_are_bound()
     exported_variables_are_bound();
 }
 
-/// Of a sound patch: each line of plus code at a token of a rule has as many gaps as tokens. Does nothing.
+/// In a sound patch, each line of plus code at a token of a rule has as many gaps as tokens. Does nothing.
 pub fn plus_blocks_are_even()
     ensures even { (patch : Whole) → IsSound patch → All (λ r. HaveEvenBlocks r.tokens) patch.rules }
 {}
 
-/// Of a patch with whose meaning nothing is wrong.
+/// The rules of a patch without faults of meaning have formulas.
 ///
-/// - `right`: each rule's formula is within the limits, and none of the rule's variables may stay unbound there.
-/// - `fault`: where making the formulas of the rules ends with a fault, memory was wanting.
+/// - `right`: each rule's formula is within the limits, and none of the rule's variables can remain unbound in it.
+/// - `fault`: making the formulas of the rules fails only when out of memory.
 ///
 /// Does nothing.
 pub fn rules_have_formulas()
@@ -73,11 +73,11 @@ pub fn rules_have_formulas()
     ensures fault { (patch : Whole) (f : Fault) → first_fault patch ≡ None → IsPrepareFault patch.rules f → f ≡ fault.NoMemory }
 {}
 
-/// What the calls that run a rule ask of it.
+/// Each rule of a patch that is read satisfies the preconditions of the calls that run it.
 ///
-/// - `rules`: each rule of a patch that is read has it.
-/// - `stand`, `binds`: of a rule that has it, the formula that is made, with the declarations and tokens that this carries, has
-///   sure variables that stand in its patterns, and binds what the rule exports.
+/// - `rules`: each rule of a patch that is read is ready.
+/// - `stand`, `binds`: the formula that is made of a rule that is ready, with the declarations and tokens that it carries,
+///   has patterns that contain their sure variables, and binds what the rule exports.
 ///
 /// Does nothing.
 pub fn rules_may_run()

@@ -1,18 +1,18 @@
-//! Laws of the rules of patches that are read: what the calls that run a rule ask of it, each rule has.
+//! Laws of the rules of patches that are read: each rule satisfies the preconditions of the calls that run it.
 //!
 //! - [`formulas_have_patterns_of_their_bodies`]: a rule's formula has no patterns but those of its body.
-//! - [`exports_are_apart`]: what a rule exports stands once, and isn't inherited.
+//! - [`exports_are_apart`]: each variable that a rule exports occurs once among its exports, and isn't inherited.
 //! - [`exports_are_bound`]: the formula of a rule binds what the rule exports.
 //! - [`plus_blocks_are_even`]: a line of plus code has as many gaps as tokens.
-//! - [`rules_have_formulas`]: where nothing is wrong with a patch's meaning, its rules have formulas.
-//! - [`rules_may_run`]: all that of each rule of a patch that is read.
+//! - [`rules_have_formulas`]: if a patch has no fault of meaning, its rules have formulas.
+//! - [`rules_may_run`]: each rule of a patch that is read has all of this.
 //!
 //! The functions do nothing.
 //!
 //! Its folders:
 //!
 //! - `iso_formulas`: The formulas of rules whose patterns have all their forms under isomorphisms.
-//! - `chain_laws`: Laws of the chain for patches that are read: what `apply` asks of each rule, each rule has.
+//! - `chain_laws`: Laws of the chain for patches that are read: each rule satisfies the preconditions of `apply`.
 //! - `form_laws`: Laws of the chain for patches whose patterns have all their forms under isomorphisms.
 #![tactic(auto)]
 

@@ -1,4 +1,4 @@
--- How an act breaks: the counts may begin earlier, and where nothing fails no act breaks.
+-- How an act breaks: the counts may begin earlier, and if nothing fails, no act breaks.
 use Rattle.std.proofs.Common.{◌≡◌, ℕ, ◌≤◌, List, inl, inr, arith}
 use Rattle.outer_io.specs.Faults.{Rose}
 use Rattle.run_acts.specs.Acts.{Act, Load, Store, Print, Report, Told}
@@ -39,14 +39,14 @@ pub Breaks-earlier : (first before now : Counts) (act : Act) (old new : Told) (s
 Breaks-earlier first before now act old new status fell (inl none) = inl none
 Breaks-earlier first before now act old new status fell (inr fails) = inr (Fails-earlier first before now act old new status fell fails)
 
--- an act fails only where a count rose
+-- an act fails only if a count rose
 pub not_failed : (before now : Counts) → NoneRose before now → (act : Act) (old new : Told) (status : ℕ) → Fails before now act old new status → ⊥
 not_failed before now calm (Load name limit) old new status fails = calm.shelf fails.0
 not_failed before now calm (Store name bytes) old new status fails = calm.shelf fails.1
 not_failed before now calm (Print bytes) old new status fails = calm.out fails.1
 not_failed before now calm (Report line) old new status fails = calm.err fails.1
 
--- an act breaks only for want of memory or where a count rose
+-- an act breaks only if memory ran out or a count rose
 pub not_broken : (before now : Counts) → NoneRose before now → (act : Act) (old new : Told) (status : ℕ) → (status ≡ 7 → ⊥) → Breaks before now act old new status → ⊥
 not_broken before now calm act old new status memory (inl none) = memory none.0
 not_broken before now calm act old new status memory (inr fails) = not_failed before now calm act old new status fails

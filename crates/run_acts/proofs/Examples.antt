@@ -1,4 +1,4 @@
--- The definitions, run.
+-- Examples of the definitions, computed.
 use Rattle.std.proofs.Common.{◌≡◌, [], ◌∷◌, Some, None, refl, codes}
 use Rattle.run_acts.specs.Acts.{Load, Store, Print, Report, told, after, tried}
 use Rattle.run_acts.specs.Lines.{cannot_read, cannot_write, cannot_print}
@@ -12,22 +12,22 @@ cannot_write_line = refl
 cannot_print_line : cannot_print ≡ codes "spatch: cannot print\n"
 cannot_print_line = refl
 
--- a load leaves no trace, and two puts stand one after the other
+-- a load leaves no trace, and two puts are written one after the other
 acts_in_order : after (Load (codes "p") 9 ∷ Print (codes "ab") ∷ Report (codes "x") ∷ Print (codes "c") ∷ []) (told None 3 (Some []) (Some (codes "w"))) ≡ told None 3 (Some (codes "abc")) (Some (codes "wx"))
 acts_in_order = refl
 
--- what isn't told stays untold
+-- what isn't reported stays unreported
 untold_stays : after (Print (codes "ab") ∷ Report (codes "x") ∷ []) (told None 0 None None) ≡ told None 0 None None
 untold_stays = refl
 
--- each store counts, also of the same bytes on a shelf that tells nothing
+-- each store counts, even one of the same bytes on a shelf that reports nothing
 stores_count : after (Store (codes "k.c") (codes "x") ∷ Load (codes "k.c") 9 ∷ Store (codes "k.c") (codes "x") ∷ []) (told None 0 None None) ≡ told None 2 None None
 stores_count = refl
 
--- and so does one that fails
+-- a store that fails counts too
 failed_store_counts : tried (told None 0 None None) ≡ told None 1 None None
 failed_store_counts = refl
 
--- no name makes a line
+-- a newline in a name doesn't end the line
 escaped_line : cannot_read (codes "a\nb") ≡ codes "spatch: a\\nb: cannot read\n"
 escaped_line = refl

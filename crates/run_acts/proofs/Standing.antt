@@ -1,4 +1,4 @@
--- What may stand under a name, from what a load answered.
+-- What may be stored under a name, from what a load returned.
 use Rattle.std.proofs.Common.{◌≡◌, ℕ, ◌<◌, ◌+◌, List, Option, Some, None, length, sym, refl, arith}
 use Rattle.std.specs.Prelude.{IsSomeAnd, IfSome, replicate}
 use Rattle.std.proofs.lemmas.List.{length-replicate}

@@ -1,11 +1,11 @@
--- The acts of a run, and what is told after them.
+-- The acts of a run, and what is observed after them.
 use Rattle.std.specs.Prelude.{ℕ, List, [], ◌∷◌, Option}
 use Rattle.outer_io.specs.Files.{Files, stored, grown}
 use Rattle.outer_io.specs.Faults.{counted}
 
--- what a run does outside
+-- an effect of a run
 pub data Act : Type 0 where
-  -- it loads what stands under the name, where that is no longer than the limit
+  -- it loads what is stored under the name, if that is no longer than the limit
   Load : (name : List ℕ) (limit : ℕ) → Act
   -- it stores the bytes under the name
   Store : (name bytes : List ℕ) → Act
@@ -14,7 +14,7 @@ pub data Act : Type 0 where
   -- it puts the line on the error output
   Report : (line : List ℕ) → Act
 
--- what the shelf, the output and the error output tell, each where it tells something, and how many stores there were
+-- what the shelf, the output and the error output report, if they report anything, and the number of stores
 pub record Told : Type 0 where
   pub files : Option Files
   pub stores : ℕ
@@ -24,18 +24,18 @@ pub record Told : Type 0 where
 abbrev pub told : Option Files → ℕ → Option (List ℕ) → Option (List ℕ) → Told
 told files stores out err = record { files = files; stores = stores; out = out; err = err }
 
--- what is told when the act is done; a store counts even where it changes no byte, and a load leaves no trace
+-- what is observed when the act is done; a store counts even if it changes no byte, and a load leaves no trace
 abbrev pub done : Act → Told → Told
 done (Load name limit) old = old
 done (Store name bytes) old = told (stored old.files name bytes) (counted old.stores) old.out old.err
 done (Print bytes) old = told old.files old.stores (grown old.out bytes) old.err
 done (Report line) old = told old.files old.stores old.out (grown old.err line)
 
--- what is told when a store failed: it was counted, and the files are as before
+-- what is observed when a store failed: it was counted, and the files are as before
 abbrev pub tried : Told → Told
 tried old = told old.files (counted old.stores) old.out old.err
 
--- what is told when the acts are done, in order
+-- what is observed when the acts are done, in order
 abbrev pub after : List Act → Told → Told
 after [] old = old
 after (act ∷ acts) old = after acts (done act old)

@@ -1,4 +1,4 @@
--- How a run ends at an act that is not done whole: the act failed, or memory ran out.
+-- How a run ends at an act that isn't completed: the act failed, or memory ran out.
 use Rattle.std.specs.Prelude.{ℕ, ◌≡◌, ◌≤◌, ◌⊎◌, List, take}
 use Rattle.outer_io.specs.Faults.{Rose}
 use Rattle.run_acts.specs.Acts.{Act, Load, Store, Print, Report, Told, done, tried}
@@ -13,7 +13,7 @@ pub record Counts : Type 0 where
 abbrev pub counts : ℕ → ℕ → ℕ → Counts
 counts shelf out err = record { shelf = shelf; out = out; err = err }
 
--- no count rose, and none stands at its last value
+-- no count rose, and none is at its maximum
 pub record NoneRose (before now : Counts) : Type 0 where
   pub shelf : ¬ Rose before.shelf now.shelf
   pub out : ¬ Rose before.out now.out
@@ -25,17 +25,16 @@ pub record NoneFell (before now : Counts) : Type 0 where
   pub out : before.out ≤ now.out
   pub err : before.err ≤ now.err
 
--- The line of a failed act stands whole on the error output, or nothing of it does, or a prefix where the error output
--- failed too.
+-- The whole line of a failed act is on the error output, or nothing of it, or a prefix of it if the error output failed too.
 abbrev pub LineMayStand : Counts → Counts → List ℕ → Told → Told → Type 0
 LineMayStand before now line old new =
     (new ≡ done (Report line) old)
     ⊎ ((new ≡ old)
     ⊎ (Rose before.err now.err × ((n : ℕ) × (new ≡ done (Report (take n line)) old))))
 
--- A run ends at an act that failed, by the counts when the run began and now, what was told before the act and now, and
--- the status. Of bytes whose put failed a prefix was written, and a failed store was counted. A failed load is status 5,
--- where its line could be put.
+-- A run ends at an act that failed, by the counts when the run began and now, what was observed before the act and now, and the
+-- status. If a put failed, a prefix of its bytes was written, and a failed store was counted. A failed load has status 5 if its
+-- line could be put.
 abbrev pub Fails : Counts → Counts → Act → Told → Told → ℕ → Type 0
 Fails before now (Load name limit) old new status = Rose before.shelf now.shelf
     × (((status ≡ 5) × (new ≡ done (Report (cannot_read name)) old))

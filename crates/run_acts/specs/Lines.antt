@@ -2,7 +2,7 @@
 use Rattle.std.specs.Prelude.{ℕ, List, ◌++◌, codes}
 use Rattle.outer_io.specs.EscapedNames.Escapes.{escaped_name}
 
--- a line about a file or a patch, by its name, in which no byte of the name ends the line
+-- a line about the file or patch of this name, in which no byte of the name ends the line
 abbrev pub line_of : List ℕ → List ℕ → List ℕ
 line_of name text = codes "spatch: " ++ escaped_name name ++ codes ": " ++ text ++ codes "\n"
 

@@ -1,16 +1,16 @@
--- What a load gives, by what stands under the name.
+-- What a load returns, by what is stored under the name.
 use Rattle.std.specs.Prelude.{ℕ, ◌≡◌, ◌<◌, ◌≤◌, List, Option, Some, None, length, IsSome, IsSomeAnd}
 use Rattle.std.specs.FinMap.{get}
 use Rattle.outer_io.specs.Files.{Files}
 use Rattle.run_acts.specs.declared.outside.Loaded.{Loaded}
 use Rattle.run_acts.specs.declared.outside.Loaded.TheVariants.{Bytes, TooLong, Absent}
 
--- This may stand under a name: what the shelf tells, or some bytes where it tells nothing.
+-- This may be stored under a name: what the shelf reports, or some bytes if it reports nothing.
 abbrev pub Found : Option Files → List ℕ → Option (List ℕ) → Type 0
 Found None name under = IsSome under
 Found (Some files) name under = under ≡ get files name
 
--- a load with this limit gives this, by what stands under the name
+-- a load with this limit returns this, by what is stored under the name
 abbrev pub Gives : Option (List ℕ) → ℕ → Loaded → Type 0
 Gives under limit (Bytes bytes) = (under ≡ Some bytes.items) × (length bytes.items ≤ limit)
 Gives under limit TooLong = IsSomeAnd under (λ bytes. limit < length bytes)

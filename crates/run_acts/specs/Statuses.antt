@@ -5,7 +5,7 @@ use Rattle.run_acts.specs.declared.status.Status.TheVariants as status
 use Rattle.run_acts.specs.declared.status.Stopped.{Stopped}
 use Rattle.run_acts.specs.declared.status.Stopped.TheVariants as stopped
 
--- the number with which the program ends
+-- the number with which the program exits
 abbrev pub number_of : Status → ℕ
 number_of status.Done = 0
 number_of status.WordsRefused = 1
@@ -16,7 +16,7 @@ number_of status.CannotRead = 5
 number_of status.CannotWrite = 6
 number_of status.NoMemory = 7
 
--- and that of a run that stopped
+-- the number for a run that stopped
 abbrev pub status_of : Stopped → ℕ
 status_of stopped.CannotRead = 5
 status_of stopped.CannotWrite = 6

@@ -1,16 +1,16 @@
-//! What a run does outside, one act at a time: it loads, stores, prints and reports.
+//! The effects of a run, one act at a time: a run loads, stores, prints and reports.
 //!
-//! - [`load`], [`store`], [`print`] and [`report`] do one act each. Where an act fails, its line is put on the error
-//!   output, and [`Stopped`] says with which [`Status`] the run ends.
-//! - [`line_of`], [`cannot_read`], [`cannot_write`] and [`cannot_print`] are the texts of lines.
+//! - [`load`], [`store`], [`print`] and [`report`] do one act each. If an act fails, its line is put on the error output, and
+//!   [`Stopped`] says which [`Status`] the run ends with.
+//! - [`line_of`], [`cannot_read`], [`cannot_write`] and [`cannot_print`] return the texts of lines.
 //!
-//! The contracts speak of acts, of what the shelf and the two outputs tell after them, and of their counts of faults. A
-//! run's own contract strings them: so many acts were done, and then the next one broke.
+//! The contracts are about acts, what the shelf and the two outputs report after them, and the counts of faults. The contract
+//! of a run combines them: this many acts were done, and then the next one broke.
 //!
 //! A failed load of `k.c` puts `spatch: k.c: cannot read` on the error output, and the run ends with status 5.
 //!
-//! Nothing here recurses. A line takes memory for its text; the acts themselves take what the shelf takes.
-//! Which acts a run does, and in which order, is for spatch_run.
+//! Nothing here recurses. A line takes memory for its text; the acts themselves take what the shelf takes. spatch_run decides
+//! which acts a run does, and in which order.
 #![tactic(auto)]
 
 mod lines;

@@ -8,7 +8,8 @@ use std::alloc::Global;
 
 const CANNOT_PRINT: &str = "spatch: cannot print\n";
 
-/// `spatch: NAME: TEXT` with its newline, the line about a file or a patch, in which the name is escaped. Linear in both.
+/// Returns the line `spatch: NAME: TEXT`, with its newline, about a file or a patch. The name is escaped. Linear in the name
+/// and the text.
 pub fn line_of(alloc: Global, name: &str, text: &str) -> Result<Vec<u8>, NoMemory>
     ensures bytes { IfOk result (λ line. line.items ≡ line_of name.now text.now) }
 {
@@ -21,21 +22,21 @@ pub fn line_of(alloc: Global, name: &str, text: &str) -> Result<Vec<u8>, NoMemor
     Ok(line)
 }
 
-/// The line about what cannot be read.
+/// Returns the line about a name that cannot be read.
 pub fn cannot_read(alloc: Global, name: &str) -> Result<Vec<u8>, NoMemory>
     ensures bytes { IfOk result (λ line. line.items ≡ cannot_read name.now) }
 {
     line_of(alloc, name, "cannot read")
 }
 
-/// The line about what cannot be written.
+/// Returns the line about a name that cannot be written.
 pub fn cannot_write(alloc: Global, name: &str) -> Result<Vec<u8>, NoMemory>
     ensures bytes { IfOk result (λ line. line.items ≡ cannot_write name.now) }
 {
     line_of(alloc, name, "cannot write")
 }
 
-/// The line on an output that failed.
+/// Returns the line about an output that failed.
 pub fn cannot_print() -> &'static str
     ensures bytes { result.now ≡ cannot_print }
 {

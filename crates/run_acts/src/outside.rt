@@ -1,4 +1,4 @@
-// One act of a run at a time.
+// The acts of a run, one at a time.
 ghost use Rattle.std.specs.Prelude.{◌≡◌, ◌≤◌, List, ℕ, Option, IfOk, OnOk, IfErr};
 ghost use Rattle.outer_io.specs.Files.{Files, stored, grown};
 ghost use Rattle.outer_io.specs.Faults.{counted};
@@ -12,10 +12,10 @@ use crate::status::Stopped;
 use outer_io::{Loads, PutFault, Shelf, ShelfFault, Sink};
 use std::alloc::Global;
 
-/// What stands under a name.
+/// What is stored under a name.
 #[derive(Drop)]
 pub enum Loaded {
-    /// These bytes, which are no more than the limit.
+    /// These bytes, no more than the limit.
     Bytes(Vec<u8>),
     /// More bytes than the limit.
     TooLong,
@@ -23,7 +23,7 @@ pub enum Loaded {
     Absent,
 }
 
-/// Loads what stands under a name, where it is no longer than `limit` bytes. Where the load fails, the line
+/// Loads what is stored under a name, if it is no longer than `limit` bytes. If the load fails, the line
 /// `spatch: NAME: cannot read` is put on the error output.
 pub fn load<S: Loads, E: Sink>(
     alloc: Global,
@@ -40,7 +40,7 @@ pub fn load<S: Loads, E: Sink>(
     ensures later { S.faults shelf.old ≤ S.faults shelf.new }
     ensures later_err { E.faults err.old ≤ E.faults err.new }
 
-    // What the load doesn't touch may be anything.
+    // The output, which the load doesn't touch, may be anything.
     ensures stopped { IfErr result (λ stopped. (out : Option (List ℕ)) (o o' : ℕ) →
         Breaks (counts (S.faults shelf.old) o (E.faults err.old))
         (counts (S.faults shelf.new) o' (E.faults err.new)) (Load name.now limit)
@@ -63,8 +63,8 @@ pub fn load<S: Loads, E: Sink>(
     }
 }
 
-/// Stores bytes under a name. Where the store fails, the line `spatch: NAME: cannot write` is put on the error output,
-/// if memory allows.
+/// Stores bytes under a name. If the store fails, the line `spatch: NAME: cannot write` is put on the error output, if memory
+/// allows.
 pub fn store<S: Shelf, E: Sink>(
     alloc: Global,
     shelf: &mut S,
@@ -87,7 +87,7 @@ pub fn store<S: Shelf, E: Sink>(
         Ok(()) => Ok(()),
         Err(ShelfFault::NoMemory) => Err(Stopped::NoMemory),
         Err(ShelfFault::Failed | ShelfFault::TooLong | ShelfFault::Absent) => {
-            // The line is left out where memory is refused.
+            // The line is left out if memory is refused.
             if let Ok(line) = cannot_write(alloc, name) {
                 let _ = err.put(&line);
             }
@@ -96,8 +96,8 @@ pub fn store<S: Shelf, E: Sink>(
     }
 }
 
-/// Puts bytes on the output. Where the put fails, the line `spatch: cannot print` is put on the error output, and a
-/// prefix of the bytes may stand on the output.
+/// Puts bytes on the output. If the put fails, the line `spatch: cannot print` is put on the error output, and a prefix of the
+/// bytes may have been written.
 pub fn print<O: Sink, E: Sink>(out: &mut O, err: &mut E, bytes: &[u8]) -> Result<(), Stopped>
     ensures ok { OnOk result (O.written out.new ≡ grown (O.written out.old) bytes.now) }
     ensures ok_err { OnOk result (E.written err.new ≡ E.written err.old) }
@@ -119,7 +119,7 @@ pub fn print<O: Sink, E: Sink>(out: &mut O, err: &mut E, bytes: &[u8]) -> Result
     }
 }
 
-/// Puts a line on the error output. Where the put fails, a prefix of it may stand there.
+/// Puts a line on the error output. If the put fails, a prefix of the line may have been written.
 pub fn report<E: Sink>(err: &mut E, line: &[u8]) -> Result<(), Stopped>
     ensures ok { OnOk result (E.written err.new ≡ grown (E.written err.old) line.now) }
     ensures later { E.faults err.old ≤ E.faults err.new }

@@ -5,10 +5,10 @@ ghost use Rattle.run_acts.specs.declared.status.Stopped.TheVariants.{NoMemory};
 
 use c_terms::NoMemory;
 
-/// How a run ended. Each has its number, with which the program ends.
+/// How a run ended. Each status has a number, with which the program exits.
 #[derive(Clone, Copy, Debug, PartialEq, Eq)]
 pub enum Status {
-    /// All was done.
+    /// Everything was done.
     Done = 0,
     /// The words are no command.
     WordsRefused = 1,
@@ -18,7 +18,7 @@ pub enum Status {
     IsosRefused = 3,
     /// Some file is refused.
     FileRefused = 4,
-    /// Nothing stands under a name, or its load failed; the line about it was put.
+    /// Nothing is stored under a name, or its load failed; the line about it was reported.
     CannotRead = 5,
     /// A store or a put failed.
     CannotWrite = 6,
@@ -27,7 +27,7 @@ pub enum Status {
 }
 
 impl Status {
-    /// The number of the status.
+    /// Returns the number of the status.
     pub fn number(self) -> u8
         ensures { result ≡ number_of self }
     {
@@ -38,7 +38,7 @@ impl Status {
 /// Why a run stops before its last act.
 #[derive(Clone, Copy, Debug, PartialEq, Eq)]
 pub enum Stopped {
-    /// A load failed, and its line was put.
+    /// A load failed, and its line was reported.
     CannotRead,
     /// A store or a put failed.
     CannotWrite,
@@ -47,7 +47,7 @@ pub enum Stopped {
 }
 
 impl Stopped {
-    /// The status that the run answers.
+    /// Returns the status that the run ends with.
     pub fn status(self) -> Status
         ensures { number_of result ≡ status_of self }
     {

@@ -1,4 +1,4 @@
--- Acts that follow on each other.
+-- Acts that follow one another.
 use Rattle.std.proofs.Common.{◌≡◌, ◌<◌, ℕ, zero, suc, ◌+◌, List, [], ◌∷◌, ◌++◌, refl, sym, ap, ◌∙◌, inl, subst, append_assoc}
 use Rattle.std.proofs.Common.{arith, length, map, take, drop, get_or, add-one}
 use Rattle.run_acts.specs.Acts.{Act, Print, Told, done, after}
@@ -20,7 +20,7 @@ pub Does-then : (acts more : List Act) (old mid new : Told) → Does acts old mi
 Does-then acts more old mid new one two =
     record { told = two.told ∙ ap (after more) one.told ∙ sym (after-append acts more old) }
 
--- the same acts by another name
+-- the same acts, given by an equal list
 pub Does-as : (acts others : List Act) (old new : Told) → acts ≡ others → Does acts old new → Does others old new
 Does-as acts others old new same does = record { told = does.told ∙ ap (λ (a : List Act). after a old) same }
 
@@ -34,7 +34,7 @@ Stops-one act before now old new status breaks = record { part = []; act = act; 
 pub Stops-unfed : (act : Act) (before now : Counts) (old : Told) → Stops (act ∷ []) before now old old 7
 Stops-unfed act before now old = Stops-one act before now old old 7 (inl (refl, refl))
 
--- the first acts broke, whatever was to follow
+-- the first acts broke, whatever follows them
 pub Stops-first : (acts more : List Act) (before now : Counts) (old new : Told) (status : ℕ) → Stops acts before now old new status
     → Stops (acts ++ more) before now old new status
 Stops-first acts more before now old new status stops = record {
@@ -103,7 +103,7 @@ any_default [] i d e lt = absurd (omega arith)
 any_default (y ∷ ys) zero d e lt = refl
 any_default (y ∷ ys) (suc i) d e lt = any_default ys i d e (omega arith)
 
--- in range the default doesn't count
+-- in range, the default doesn't matter
 pub own_default : {A : Type 0} (xs : List A) (i : ℕ) (d : A) → i < length xs → get_or xs i d ≡ get_or xs i (get_or xs i d)
 own_default xs i d lt = any_default xs i d (get_or xs i d) lt
 

@@ -1,4 +1,4 @@
--- No text is refused for want of memory.
+-- No text is refused because memory ran out.
 use Rattle.std.proofs.Common.{◌≡◌, ℕ, suc, List, [], ◌∷◌, inl, inr}
 use Rattle.c_lexer.specs.Pieces.{TextPiece}
 use Rattle.edit_marks.specs.declared.edit_conflict.edit.Edit.{Edit}

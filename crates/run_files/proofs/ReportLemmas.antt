@@ -1,4 +1,4 @@
--- Ids of tokens are not shown: the report and the summary of witnesses without ids are those of the witnesses.
+-- Ids of tokens are not shown: the report and the summary are the same for witnesses without their ids.
 use Rattle.std.proofs.Common.{◌≡◌, ℕ, ◌+◌, true, false, cond, eqb, refl, sym, ap, ◌∙◌, List, [], ◌∷◌, ◌++◌, length, map, codes}
 use Rattle.std.specs.Prelude.{Option, Some, None, option_map}
 use Rattle.std.specs.Fmt.{decimal}
@@ -112,7 +112,7 @@ witnesses_alike rules vars [] = refl
 witnesses_alike rules vars (w ∷ ws) =
     let first = witness_alike rules vars w in let rest = witnesses_alike rules vars ws in λ i. first i ++ rest i
 
--- those of one rule are still those
+-- the witnesses of one rule are still the same
 own_bare : (n : ℕ) (ws : List RuleWitness) → filter (λ w. eqb w.rule n) (map bare_witness ws) ≡ map bare_witness (filter (λ w. eqb w.rule n) ws)
 own_bare n [] = refl
 own_bare n (w ∷ ws) =

@@ -1,4 +1,4 @@
--- How a text is treated, by how far the acts that it brings were done.
+-- How a text is treated, by how many of the acts that result from it were done.
 use Rattle.std.proofs.Common.{◌≡◌, ◌≤◌, ◌∙◌, true, false, Bool, cond, ℕ, List, length, [], ◌∷◌, ◌++◌}
 use Rattle.std.proofs.Common.{None, Some, Err, refl, sym, inl, inr, map, ap, subst, codes}
 use Rattle.std.specs.Prelude.{Option}
@@ -32,7 +32,7 @@ use Rattle.run_files.proofs.ReportLemmas.{report-bare, summary-bare}
 abbrev pub note_act : List ℕ → SkipNote → Act
 note_act name note = Report (skipped_line name note)
 
--- the notes that were answered are those of the state
+-- the returned notes are those of the state
 pub notes_done : (name : List ℕ) (notes : List SkipNote) (s : Chained) (old mid new : Told) → notes ≡ s.skipped → mid ≡ old
     → Does (map (note_act name) notes) mid new → Does (skipped_lines name s) old new
 notes_done name notes s old mid new is same does =
@@ -60,7 +60,7 @@ report_prints patch name ws = refl
 pub summary_prints : (rules : List Rule) (ws : List RuleWitness) (bytes : ℕ) → Print (summary rules ws bytes) ∷ [] ≡ printing (summary rules ws bytes)
 summary_prints rules ws bytes = sym (printing_after (rule_lines 0 rules ws ++ codes "bytes " ++ decimal bytes) (codes "\n") refl)
 
--- the answered witnesses are reported as those of the state
+-- the returned witnesses are reported as those of the state
 pub report_shown : (patch : Patch) (name : List ℕ) (applied : Applied) (s : Chained) → AnswersState applied s
     → report_of patch name applied.witnesses ≡ report_of patch name s.found
 report_shown patch name applied s a = sym (report-bare patch name applied.witnesses) ∙ ap (report_of patch name) a.witnesses
@@ -81,7 +81,7 @@ pub applied_none : (patch : Patch) (defined : List (List ℕ)) (name bytes : Lis
 applied_none patch defined name bytes None old new not made = made
 applied_none patch defined name bytes (Some applied) old new not made = absurd (not applied refl)
 
--- a fault that is not for want of memory is that of the chain
+-- a fault other than `NoMemory` is that of the chain
 pub chain_of : (rules : List Rule) (defined : List (List ℕ)) (bytes : List ℕ) (fault : FileFault) → (fault ≡ NoMemory → ⊥)
     → IsResult rules defined bytes (Err fault) → Chain rules defined bytes (Refused fault)
 chain_of rules defined bytes fault other (inl none) = absurd (other none)

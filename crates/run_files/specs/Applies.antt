@@ -1,4 +1,4 @@
--- What a patch makes of the bytes of a file, where its refusal is reported.
+-- What a patch makes of the bytes of a file: a result, or a refusal that is reported.
 use Rattle.std.specs.Prelude.{ℕ, ◌≡◌, ◌<◌, ◌^◌, List, [], ◌∷◌, Option, Some, None, length}
 use Rattle.std.specs.List.{AllZip}
 use Rattle.run_acts.specs.Acts.{Report, Told}
@@ -15,18 +15,18 @@ use Rattle.run_files.specs.RunLines.Files.{refused_line}
 use Rattle.run_files.specs.Treatment.{Treated, refuses}
 use Rattle.run_files.specs.Does.{Does}
 
--- the rules of the patch may be run by what is prepared of them
+-- the rules of the patch may be run with these prepared rules
 pub record IsReady (patch : Patch) (prepared : Prepared) : Type 0 where
   pub few : length patch.rules < 2 ^ 32
   pub prepared_are : ArePrepared patch.rules prepared.rules
   pub may : AllZip MayRun patch.rules prepared.rules
 
--- the bytes are refused under the patch, and treated so
+-- the bytes are refused under the patch, and this is their treatment
 abbrev pub Refuses : Patch → List (List ℕ) → List ℕ → List ℕ → Treated → Type 0
 Refuses patch defined name bytes treated =
     (fault : FileFault) × (Chain patch.rules defined bytes (Refused fault) × (treated ≡ refuses (refused_line name fault)))
 
--- the last state is answered, and nothing is told anew; or the text is refused, and its line is reported
+-- the last state is returned, and nothing is output; or the text is refused, and its line is reported
 abbrev pub AppliesTo : Patch → List (List ℕ) → List ℕ → List ℕ → Option Applied → Told → Told → Type 0
 AppliesTo patch defined name bytes (Some applied) old new =
     (s : Chained) × (Chain patch.rules defined bytes (Done s) × (AnswersState applied s × (new ≡ old)))

@@ -5,14 +5,14 @@ use Rattle.run_acts.specs.Breaks.{Counts}
 use Rattle.run_files.specs.Treatment.{Treated}
 use Rattle.run_files.specs.Does.{Does, Stops}
 
--- a text was treated in one of these ways, which refuses it or not, and its acts were done
+-- a text was treated in one of these ways, which refuses it or not, and all of its acts were done
 pub record TreatsAll (Ways : Treated → Type 0) (refused : Bool) (old new : Told) : Type 0 where
   pub treated : Treated
   pub treats : Ways treated
   pub refused_is : treated.refused ≡ refused
   pub does : Does treated.acts old new
 
--- memory ran out before it was known how, or one of the acts broke
+-- memory ran out before the treatment was known, or one of its acts broke
 pub data TreatsPart (Ways : Treated → Type 0) (before now : Counts) (old new : Told) (status : ℕ) : Type 0 where
   earlier : status ≡ 7 → new ≡ old → TreatsPart Ways before now old new status
   later : (treated : Treated) → Ways treated → Stops treated.acts before now old new status → TreatsPart Ways before now old new status

@@ -1,9 +1,9 @@
--- Acts that are done one after another, or up to one that breaks. No stage is in it.
+-- Acts that are done one after another, all of them or up to one that breaks. Stages don't occur here.
 use Rattle.std.specs.Prelude.{ℕ, ◌≡◌, List, ◌∷◌, ◌++◌}
 use Rattle.run_acts.specs.Acts.{Act, Told, after}
 use Rattle.run_acts.specs.Breaks.{Counts, Breaks}
 
--- all of them were done, and this is told after them
+-- all of them were done, and `new` is observed after them
 pub record Does (acts : List Act) (old new : Told) : Type 0 where
   pub told : new ≡ after acts old
 

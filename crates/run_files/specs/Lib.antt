@@ -1,9 +1,9 @@
--- What the contracts rest on, in reading order: the acts that a text brings, acts that are done or broken off, and how the
--- treatment of a text ends.
+-- What the contracts depend on, in reading order: the acts that result from a text, acts that are done or broken off, and how
+-- the treatment of a text ends.
 pub mod Treatment
 pub mod Does
 pub mod Cuts
--- What the rules of a patch must be like to be run, and, for inside use, what they make of the bytes of a file.
+-- When the rules of a patch may be run and, for internal use, what they make of the bytes of a file.
 pub mod Applies
 -- What run_lines defines.
 pub mod RunLines

@@ -1,4 +1,4 @@
-// A patch over the bytes of a text.
+// Applies a patch to the bytes of a text.
 ghost use Rattle.std.specs.Prelude.{◌≤◌, ◌↔◌, ◌≡◌, List, ℕ, Option, IsTrue, length, IfOk, IfErr};
 ghost use Rattle.outer_io.specs.Files.{Files};
 ghost use Rattle.run_acts.specs.Acts.{told};
@@ -19,13 +19,13 @@ use smpl_patch::Patch;
 use std::alloc::Global;
 use std::thread::Threads;
 
-/// A patch that is read, what its rules are run by, the virtual names that hold, and how many jobs may be done at a time.
+/// A patch that was read, its prepared rules, the virtual names that are defined, and the maximum number of concurrent jobs.
 #[derive(Clone, Copy)]
 pub struct Ready<'a> {
     pub patch: &'a Patch,
     pub prepared: &'a Prepared,
     pub defined: &'a [Text],
-    /// How many jobs may be done at a time.
+    /// The maximum number of concurrent jobs.
     pub jobs: u32,
     pub ghost some_jobs: { 1 ≤ jobs },
     pub ghost few_jobs: { jobs ≤ 64 },
@@ -37,7 +37,8 @@ fn is_no_memory(fault: &FileFault) -> bool
     matches!(fault, FileFault::NoMemory)
 }
 
-/// The patch over the bytes; nothing where they are refused, whose line is reported.
+/// Applies the patch to the bytes and returns the result. Returns `None` if they are refused, after reporting the line of the
+/// refusal.
 pub fn apply_or_refuse<R: Threads + Sync, E: Sink, G: Gate>(
     rt: &R,
     alloc: Global,

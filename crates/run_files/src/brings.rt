@@ -1,4 +1,4 @@
-// The acts that a text brings.
+// The acts that result from a text.
 ghost use Rattle.std.specs.Prelude.{◌≡◌, ◌≤◌, ◌∷◌, [], List, ℕ, Option, map, OnOk, IfErr};
 ghost use Rattle.outer_io.specs.Files.{Files};
 ghost use Rattle.run_acts.specs.Acts.{Report, told};
@@ -15,7 +15,7 @@ use rule_chain::{FileFault, SkipNote};
 use run_acts::{Stopped, print, report, store};
 use std::alloc::Global;
 
-/// Reports each skipped item.
+/// Reports a line for each skipped item.
 pub fn report_skipped<E: Sink>(
     alloc: Global,
     err: &mut E,
@@ -38,7 +38,7 @@ pub fn report_skipped<E: Sink>(
     Ok(())
 }
 
-/// Prints a text, if there is any.
+/// Prints a text, unless it is empty.
 pub fn show<O: Sink, E: Sink>(out: &mut O, err: &mut E, text: &[u8]) -> Result<(), Stopped>
     ensures done { OnOk result ((files : Option Files) (stores : ℕ) → Does (printing text.now)
         (told files stores (O.written out.old) (E.written err.old))
@@ -56,7 +56,7 @@ pub fn show<O: Sink, E: Sink>(out: &mut O, err: &mut E, text: &[u8]) -> Result<(
     print(out, err, text)
 }
 
-/// Stores a text, if it differs from the bytes that were loaded.
+/// Stores a text if it differs from the bytes that were loaded.
 pub fn keep<S: Shelf, E: Sink>(
     alloc: Global,
     shelf: &mut S,
@@ -81,7 +81,7 @@ pub fn keep<S: Shelf, E: Sink>(
     store(alloc, shelf, err, name, text)
 }
 
-/// Puts the line of a refused file.
+/// Reports the line of a refused file.
 pub fn refuse<E: Sink>(
     alloc: Global,
     err: &mut E,
@@ -101,7 +101,7 @@ pub fn refuse<E: Sink>(
     report(err, &line)
 }
 
-/// Puts the line about a file of this name that is over its limit when it is loaded.
+/// Reports the line about a file of this name that is over its limit when it is loaded.
 pub fn refuse_long<E: Sink>(alloc: Global, err: &mut E, name: &str) -> Result<(), Stopped>
     ensures done { OnOk result ((files : Option Files) (stores : ℕ) (out : Option (List ℕ)) →
         Does (Report (lines.too_long_line name.now) ∷ [])
@@ -116,7 +116,7 @@ pub fn refuse_long<E: Sink>(alloc: Global, err: &mut E, name: &str) -> Result<()
     report(err, &line)
 }
 
-/// Puts the line about a pipe, a device or a socket of this name.
+/// Reports the line about a pipe, a device or a socket of this name.
 pub fn refuse_special<E: Sink>(alloc: Global, err: &mut E, name: &str) -> Result<(), Stopped>
     ensures done { OnOk result ((files : Option Files) (stores : ℕ) (out : Option (List ℕ)) →
         Does (Report (lines.special_line name.now) ∷ [])

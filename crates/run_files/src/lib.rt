@@ -1,21 +1,20 @@
-//! What becomes of one text under a patch: a file, or a text that was generated.
+//! Applies a patch to one text, a file or a generated one, and outputs the result.
 //!
-//! - [`treat`] applies a patch to the bytes of a file and brings what comes of it: lines about skipped items, then its
-//!   report or
-//!   its text on the output, then its text on the shelf; or the line of its refusal.
-//! - [`sum`] does the same for a generated text, whose summary is printed.
+//! - [`treat`] applies a patch to the bytes of a file and outputs the result: lines about skipped items, then the report or the
+//!   new text on the output, then the new text on the shelf. If the file is refused, it reports only the line of the refusal.
+//! - [`sum`] does the same for a generated text, and prints its summary.
 //! - [`refuse_long`] is for a file that is over its limit, and [`refuse_special`] for a pipe, a device or a socket.
 //!
-//! A [`Ready`] is a patch with what its rules are run by. Under the patch of a rule whose `- f(x);` matches, the file
-//! `void k(void) { f(1); }` named `k.c` brings one act: its new text on the output, or, with `in_place`, on the shelf.
+//! A [`Ready`] is a patch together with its prepared rules. Under a patch with one rule whose `- f(x);` matches, the file
+//! `void k(void) { f(1); }` named `k.c` leads to one act: its new text goes to the output or, with `in_place`, to the shelf.
 //!
-//! Which text comes when, and what the status is, is for spatch_run.
+//! spatch_run decides the order of the texts and the status.
 //!
 //! Its folders:
 //!
 //! - `run_lines`: The lines on the error output, and the summary of a generated text.
-//! - `run_stages`: The stages of a run, and what a run promises: definitions alone, on which the laws over them and the
-//!   code of a run rest.
+//! - `run_stages`: The stages of a run, and what a run promises: only definitions, on which the laws about them and the code of
+//!   a run depend.
 #![tactic(auto)]
 
 mod applies;

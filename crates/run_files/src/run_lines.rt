@@ -1,10 +1,10 @@
 //! The lines on the error output, and the summary of a generated text.
 //!
-//! - [`patch_fault_line`], [`iso_fault_line`], [`forms_line`], [`refused_line`], [`too_long_line`], [`special_line`], [`skipped_line`]
-//!   are lines about a patch, about isomorphisms, and about a file.
-//! - [`usage`] is the line on how the program is called, and [`summary`] tells what a patch finds in a generated text.
+//! - [`patch_fault_line`] returns a line about a patch, [`iso_fault_line`] and [`forms_line`] return lines about isomorphisms,
+//!   and [`refused_line`], [`too_long_line`], [`special_line`] and [`skipped_line`] return lines about a file.
+//! - [`usage`] returns the usage line, and [`summary`] reports what a patch finds in a generated text.
 //!
-//! A conflict in `k.c` is `spatch: k.c: refused: conflict in rule 0 at token 8`.
+//! A conflict in `k.c` is reported as `spatch: k.c: refused: conflict in rule 0 at token 8`.
 #![tactic(auto)]
 
 mod files;

@@ -26,7 +26,7 @@ use std::alloc::Global;
 use std::thread::Threads;
 use wit_print::print as report_of;
 
-/// What is compared with the text that is stored: the bytes as they were. Nothing is copied where none is stored.
+/// Returns a copy of the original bytes, to compare with the text to be stored. Copies nothing when no text is to be stored.
 fn copied(alloc: Global, mode: Mode, bytes: &[u8]) -> Result<Vec<u8>, NoMemory>
     ensures { IfOk result (λ old. (name : List ℕ) (s : Chained) → kept mode name old.items s ≡ kept mode name bytes.now s) }
 {
@@ -36,12 +36,14 @@ fn copied(alloc: Global, mode: Mode, bytes: &[u8]) -> Result<Vec<u8>, NoMemory>
     Ok(Vec::new(alloc))
 }
 
-/// Applies the patch to the bytes of a file, and brings what comes of it: the lines of the items that were skipped, reading by
-/// reading; its report or its text on the output; its text on the shelf, where it changed. A file that is refused brings its line
-/// and nothing else. Whether it is refused.
+/// Applies the patch to the bytes of a file, outputs the result, and returns whether the file is refused.
 ///
-/// Costs one [`apply`](rule_chain::apply), its report or its text, and under `in_place` a copy of the bytes. Stops at the first act
-/// that fails, and where memory is wanting.
+/// The acts are, in this order: a line on the error output for each skipped item, reading by reading; the report or the new
+/// text on the output; and, with `in_place`, a store of the new text if it changed. For a refused file, the only act is the
+/// line of the refusal.
+///
+/// Costs one [`apply`](rule_chain::apply), the report or the text, and with `in_place` a copy of the bytes. Stops at the first
+/// act that fails, and when out of memory.
 pub fn treat<R: Threads + Sync, S: Shelf, O: Sink, E: Sink, G: Gate>(
     rt: &R,
     alloc: Global,
@@ -78,7 +80,7 @@ pub fn treat<R: Threads + Sync, S: Shelf, O: Sink, E: Sink, G: Gate>(
     Ok(false)
 }
 
-/// Prints the report of the witnesses, or the text where it isn't stored.
+/// Prints the report of the witnesses if it is asked for, or else the text if it isn't stored.
 fn show_file<O: Sink, E: Sink>(
     alloc: Global,
     patch: &Patch,
@@ -109,7 +111,7 @@ fn show_file<O: Sink, E: Sink>(
     show(out, err, &applied.bytes)
 }
 
-/// Stores the text, where it is to be stored and differs from what was loaded.
+/// Stores the text if a store is asked for and the text differs from what was loaded.
 fn keep_file<S: Shelf, E: Sink>(
     alloc: Global,
     mode: Mode,
@@ -136,10 +138,12 @@ fn keep_file<S: Shelf, E: Sink>(
     keep(alloc, shelf, err, name, old, text)
 }
 
-/// Applies the patch to a generated text of this name, and brings what comes of it: the lines of the items that were skipped, and
-/// its summary on the output; or the line of its refusal and nothing else. Whether it is refused.
+/// Applies the patch to a generated text of this name, outputs the result, and returns whether the text is refused.
 ///
-/// Costs one [`apply`](rule_chain::apply) and one [`summary`]. Stops at the first act that fails, and where memory is wanting.
+/// The acts are, in this order: a line on the error output for each skipped item, and the summary on the output. For a refused
+/// text, the only act is the line of the refusal.
+///
+/// Costs one [`apply`](rule_chain::apply) and one [`summary`]. Stops at the first act that fails, and when out of memory.
 pub fn sum<R: Threads + Sync, O: Sink, E: Sink, G: Gate>(
     rt: &R,
     alloc: Global,

@@ -1,4 +1,4 @@
-// That a run with two jobs matches two items side by side.
+// A run with two jobs matches two items at the same time.
 use c_terms::{NoMemory, Text};
 use outer_io::{CalmShelf, CalmSink};
 use par_match::Gate;
@@ -9,7 +9,7 @@ use std::test::Fail;
 use std::thread;
 use std::time::Duration;
 
-/// How often a job looks for the other, once a millisecond, before it goes on alone.
+/// How often a job looks for the other, once per millisecond, before it continues alone.
 const LOOKS: u32 = 5_000;
 
 const PATCH: &[u8] = b"@@\n@@\n- g(a);\n";
@@ -17,17 +17,17 @@ const PATCH: &[u8] = b"@@\n@@\n- g(a);\n";
 const FILE: &[u8] =
     b"void f(void)\n{\n\tg(a);\n\th();\n}\n\nvoid k(void)\n{\n\tif (b)\n\t\th();\n\tg(a);\n}\n";
 
-/// The calls of g are gone, and the blanks before them stay.
+/// The calls of `g` are gone, and the blanks before them remain.
 const EDITED: &[u8] =
     b"void f(void)\n{\n\t\n\th();\n}\n\nvoid k(void)\n{\n\tif (b)\n\t\th();\n\t\n}\n";
 
-/// A gate that holds each of two jobs until the other has come too.
+/// A gate that holds each of two jobs until the other has arrived too.
 #[derive(Drop)]
 struct Meeting<'a> {
     rt: &'a HostRuntime,
-    /// Whether a job has come.
+    /// Whether each job has arrived.
     here: [AtomicBool; 2],
-    /// Whether a job has seen the other.
+    /// Whether each job has seen the other.
     seen: [AtomicBool; 2],
 }
 
@@ -82,7 +82,7 @@ fn words(alloc: Global) -> Result<Vec<Text>, NoMemory> {
     Ok(words)
 }
 
-/// Where the jobs are done one after another, the first looks in vain for five seconds and goes on, and has seen nothing.
+/// If the jobs run one after another, the first looks in vain for five seconds and continues without having seen the other.
 #[test]
 fn two_items_are_matched_side_by_side(rt: HostRuntime) -> Result<(), Fail> {
     let words = words(rt.alloc())?;

@@ -1,7 +1,7 @@
-//! Tests of whole runs, of what the built program can't show. There is nothing else in this crate, and nothing of it is for use.
+//! Tests of whole runs, for what the built program can't show. The crate has nothing else, and no public items.
 //!
-//! The program tells no gate of its jobs, and no other program can be made to write between two calls of it. Here a run has
-//! a gate of its own, or a shelf beside which another program writes.
+//! The program's gate doesn't observe its jobs, and a test can't make another program write between two given calls of the
+//! program. Here a run has a gate that does, or a shelf to which another program writes too.
 #![tactic(auto)]
 
 #[cfg(test)]

@@ -1,4 +1,4 @@
-// That a run stores nothing on a file that another program wrote anew after it was loaded.
+// A run doesn't overwrite a file that another program rewrote after it was loaded.
 use c_terms::{NoMemory, Text};
 use outer_io::{MemShelf, MemSink};
 use par_match::FreeGate;
@@ -20,14 +20,14 @@ const LOAD: u64 = 1;
 
 const STORE: u64 = 2;
 
-/// What a run leaves: its status, the file, the error output, and how many stores were done or failed.
+/// What a run leaves: its status, the file, the error output, and the number of stores that succeeded or failed.
 type Left = (u8, Vec<u8>, Vec<u8>, u64);
 
 fn text(alloc: Global, bytes: &[u8]) -> Result<Text, NoMemory> {
     Text::from_bytes(alloc, bytes)
 }
 
-/// A run in place, beside which another program writes the file anew before the call of this number.
+/// Runs in place, while another program rewrites the file before the call with this number.
 fn run_beside<R: AllocGlobal + Threads + Sync>(rt: &R, call: u64) -> Result<Left, Fail> {
     let alloc = rt.alloc();
     let mut words = Vec::new(alloc);

@@ -1,4 +1,4 @@
--- What a parse of the command gives, and what the grammar says of the words: one thing.
+-- A parse of the command gives exactly what the grammar says about the words.
 use Rattle.std.proofs.Common.{◌≡◌, ◌∙◌, refl, sym, ap, Bool, true, false, cond, List, [], ◌∷◌, ◌++◌, Option, Some, None, codes, fold, is_some, slice_get}
 use Rattle.std.proofs.Common.{option_map, option_and_then, IfSome, inl, inr, true≢false}
 use Rattle.std.specs.List.{list_all}
@@ -43,7 +43,7 @@ kept : {X : Type 0} (o other : Option X) → is_some o ≡ true → o ≡ first_
 kept None other h = absurd (true≢false (sym h))
 kept (Some x) other h = refl
 
--- a flag that is there stays
+-- a flag that is present stays
 there : (flag name : Text) (rows : List Row) → has_row flag rows ≡ true → look name rows ≡ first_some (look name rows) (or_default flag name)
 there flag name rows h = elim (cases_Bool (bytes_eq flag name)) [
   | inl e ↦
@@ -92,7 +92,7 @@ look_ended : (name : Text) (rows : List Row) → look name (with_flags rows)
 look_ended name rows = look_default (codes "in-place") name (with_default rows (flag_rule (codes "witnesses")))
     ∙ ap (λ o. first_some o (or_default (codes "in-place") name)) (look_default (codes "witnesses") name rows)
 
--- ---- faults behind the walk
+-- ---- faults after the walk
 
 abbrev HasNoDefaultFault : List Rule → Type 0
 HasNoDefaultFault [] = Unit {0}
@@ -108,7 +108,7 @@ guard_map : {X Y : Type 0} (kinds : Kinds) (f : X → Y) (x : X) → guard kinds
 guard_map [] f x = refl
 guard_map (k ∷ kinds) f x = refl
 
--- behind the walk and its last use nothing fails
+-- after the walk and its last use, nothing fails
 level_is : (words : List Text) → level_fault spatch [] nothing_held words false []
     ≡ or_else (walk_fault spatch [] (walk_from nothing_held) words)
     (settle_fault spatch.rules spatch.args_override_self (fold (walked spatch.rules []) (walk_from nothing_held) words).held)
@@ -264,7 +264,7 @@ are_collected f o parts end found known put rows =
 no_names : (name : Text) → bytes_eq (codes "FILE") name ≡ false → false ≡ false
 no_names name h = refl
 
--- by what the parts make of no rows
+-- by what the parts make of an empty list of rows
 by_parts : (f : Found) (o : Options) → IsFound f o → (parts : Option (List Part)) → IfSome parts AreKnown
     → Some (rows_of f) ≡ option_map with_flags (option_and_then (put_all []) parts) → Some o ≡ option_and_then options_in parts
 by_parts f o found None known e = absurd (none-some (rows_of f) (sym e))

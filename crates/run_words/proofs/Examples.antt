@@ -1,4 +1,4 @@
--- The definitions at words that are written out, above all where another reading would differ.
+-- Examples of the definitions for concrete words, mainly where another interpretation would differ.
 use Rattle.std.specs.Prelude.{◌≡◌, [], ◌∷◌, true, false, Some, None, refl, codes}
 use Rattle.std.specs.Char.{encode_utf8}
 use Rattle.std.specs.Str.{chars, is_utf8}
@@ -7,18 +7,18 @@ use Rattle.run_words.specs.Orders.{Apply, Generate, OnFiles, OnText, jobs_of, or
 use Rattle.run_words.specs.Parts.{Valued, Flag, File, parts_from, parts_of}
 use Rattle.run_words.specs.Values.{count_in, names_in, seed_in}
 
--- a value stands behind `=` or is the next word; words that are no options are files
+-- a value follows `=` or is the next word; words that aren't options are files
 both_forms : parts_of (codes "k.c" ∷ codes "--sp-file" ∷ codes "p" ∷ codes "--jobs=2" ∷ codes "--in-place" ∷ [])
     ≡ Some (File (codes "k.c") ∷ Valued (codes "sp-file") (codes "p") ∷ Valued (codes "jobs") (codes "2") ∷ Flag (codes "in-place") ∷ [])
 unfolding parts_from
 both_forms = refl
 
--- behind `--` stand files alone, and `-` is a file or a value
+-- after `--` there are only files, and `-` is a file or a value
 files_behind : parts_of (codes "-" ∷ codes "--" ∷ codes "--jobs" ∷ codes "--" ∷ []) ≡ Some (File (codes "-") ∷ File (codes "--jobs") ∷ File (codes "--") ∷ [])
 unfolding parts_from
 files_behind = refl
 
--- the next word is no value where it is an option, whichever; behind `=` it may look like one
+-- the next word isn't a value if it is any option; after `=`, a value may look like an option
 no_value : parts_of (codes "--sp-file" ∷ codes "--" ∷ codes "p" ∷ []) ≡ None
 unfolding parts_from
 no_value = refl
@@ -27,7 +27,7 @@ signed_value : parts_of (codes "--sp-file=-x=y" ∷ []) ≡ Some (Valued (codes 
 unfolding parts_from
 signed_value = refl
 
--- no option is abbreviated, and none has one letter
+-- no option can be abbreviated, and none has a single letter
 abbreviated : parts_of (codes "--sp" ∷ codes "p" ∷ []) ≡ None
 unfolding parts_from
 abbreviated = refl
@@ -54,7 +54,7 @@ zero_first = refl
 past_most : count_in 64 (codes "65") ≡ None
 past_most = refl
 
--- single commas part names of C
+-- single commas separate names of C
 two_names : names_in (codes "a,_b2") ≡ Some (codes "a" ∷ codes "_b2" ∷ [])
 two_names = refl
 
@@ -79,7 +79,7 @@ no_file : order_of (codes "--sp-file=p" ∷ []) ≡ None
 unfolding order_of ordered options_of parts_from is_utf8 chars encode_utf8
 no_file = refl
 
--- an empty value is refused, an empty word names a file
+-- an empty value is refused, but an empty word names a file
 empty_value : order_of (codes "--sp-file=" ∷ codes "k.c" ∷ []) ≡ None
 unfolding order_of ordered options_of parts_from is_utf8 chars encode_utf8
 empty_value = refl
@@ -88,7 +88,7 @@ empty_word : order_of (codes "--sp-file=p" ∷ [] ∷ []) ≡ Some (Apply (codes
 unfolding order_of ordered options_of parts_from is_utf8 chars encode_utf8
 empty_word = refl
 
--- jobs go with a patch alone
+-- jobs are only allowed with a patch
 a_text : order_of (codes "--generate=1" ∷ codes "--functions=2" ∷ []) ≡ Some (Generate 1 2)
 unfolding order_of ordered options_of parts_from is_utf8 chars encode_utf8
 a_text = refl
@@ -102,7 +102,7 @@ a_patch_on_a_text : order_of (codes "--generate=1" ∷ codes "--functions=2" ∷
 unfolding order_of ordered options_of parts_from is_utf8 chars encode_utf8
 a_patch_on_a_text = refl
 
--- as many jobs as the words say, and one where they say nothing
+-- as many jobs as the words give, or one if they give no number
 jobs_said : jobs_of (codes "--jobs" ∷ codes "64" ∷ codes "--sp-file=p" ∷ codes "k.c" ∷ []) ≡ 64
 unfolding jobs_of options_of parts_from
 jobs_said = refl

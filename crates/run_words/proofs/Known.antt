@@ -1,4 +1,4 @@
--- The parts of words have names of options.
+-- The parts of words have names of existing options.
 use Rattle.std.proofs.Common.{◌≡◌, ℕ, true, cond, eqb, List, [], ◌∷◌, map, Option, Some, None, IfSome, option_map}
 use Rattle.std.proofs.lemmas.Bool.{cond_both}
 use Rattle.c_lexer.specs.Words.{is_in}

@@ -107,7 +107,7 @@ one_comma (b ∷ bytes) h = elim (cases_Bool (b == 44)) [
       rw (e, rest) (later b bytes (prefix_len is_no_comma bytes))
 ]
 
--- the names of a text are those so far, and those from this place on
+-- the names of a text are those so far, followed by those from this position on
 pub record SoFar (text : List ℕ) (names : List (List ℕ)) (start : ℕ) : Type 0 where
   pub within : start ≤ length text
   pub same : names_in text ≡ option_map (λ more. names ++ more) (names_in (drop start text))
@@ -124,7 +124,7 @@ joined : (names : List (List ℕ)) (name : List ℕ) (are : Bool) (more : List (
 joined names name true more = ap Some (sym (append_assoc names (name ∷ []) more))
 joined names name false more = refl
 
--- what stands before a comma, or the end, and is no name
+-- if what precedes a comma or the end isn't a name, there are no names
 none_in : (rest : List ℕ) (n : ℕ) → n ≡ prefix_len is_no_comma rest → n ≤ length rest → is_c_name (take n rest) ≡ false → names_in rest ≡ None
 none_in rest n is within other = elim (cases_lt n (length rest)) [
   | inl less ↦

@@ -9,7 +9,7 @@ use Rattle.std.specs.List.{list_all}
 use Rattle.c_lexer.specs.Words.{is_digit}
 use Rattle.run_words.specs.Values.{begins_with_zero, count_in, decimal_from, decimal_value, number_in}
 
--- the number of digits behind those of n
+-- the number that the digits represent when appended to those of n
 abbrev pub number_from : ℕ → List ℕ → Option ℕ
 number_from n text = cond (list_all is_digit text && nat_lt (decimal_from n text) (2 ^ 64)) (Some (decimal_from n text)) None
 
@@ -21,11 +21,11 @@ both_false : (a : Bool) → (a && false) ≡ false
 both_false true = refl
 both_false false = refl
 
--- a text with another byte has none
+-- a text with another byte has no number
 pub no_digit : (n b : ℕ) (text : List ℕ) → is_digit b ≡ false → number_from n (b ∷ text) ≡ None
 no_digit n b text h = rw h refl
 
--- nor has one whose number is past the limit
+-- a text whose number is past the limit has none
 pub too_large : (n b : ℕ) (text : List ℕ) → 2 ^ 64 ≤ n * 10 + (b - 48) → number_from n (b ∷ text) ≡ None
 too_large n b text h =
     let past : 2 ^ 64 ≤ decimal_from (n * 10 + (b - 48)) text = le_trans h (grows text (n * 10 + (b - 48))) in
@@ -37,7 +37,7 @@ one_digit n b text h = rw h refl
 pub no_more : (n : ℕ) → n < 2 ^ 64 → number_from n [] ≡ Some n
 no_more n h = rw (lt-ltb _ _ h) refl
 
--- ---- at a place among digits
+-- ---- at a position among digits
 
 at_place : (ds : List ℕ) (i n : ℕ) → i < length ds → number_from n (drop i ds) ≡ number_from n (get_or ds i 0 ∷ drop (i + 1) ds)
 at_place ds i n low = ap (number_from n) (drop-cons ds i 0 low ∙ ap (λ k. get_or ds i 0 ∷ drop k ds) (sym (add-one i)))
@@ -84,6 +84,6 @@ by_tests most text true true false d some digits other small n is = let e : Some
 by_tests most text true false c d some digits other small n is = let e : Some n ≡ None = is in absurd cc
 by_tests most text false b c d some digits other small n is = let e : Some n ≡ None = is in absurd cc
 
--- a count is the number that its digits write, from one on, and no more than the most
+-- a count is the number that its digits represent, at least one and at most the maximum
 pub count_is : (most : ℕ) (text : List ℕ) (n : ℕ) → Some n ≡ count_in most text → IsCount most text n
 count_is most text n is = by_tests most text _ _ _ _ refl refl refl refl n is

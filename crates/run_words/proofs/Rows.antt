@@ -1,4 +1,4 @@
--- What the rows tell that clap made of parts.
+-- What the rows contain that clap made of parts.
 use Rattle.std.proofs.Common.{◌≡◌, ◌∙◌, refl, sym, ap, Bool, true, false, cond, not, ◌&&◌, ◌||◌, List, [], ◌∷◌, ◌++◌, append_assoc, append-nil, Option}
 use Rattle.std.proofs.Common.{Some, None, codes, find, is_some, slice_get, option_map, option_and_then, inl, inr}
 use Rattle.std.specs.Str.{bytes_eq}
@@ -46,7 +46,7 @@ look_append name (r ∷ rows) row = elim (bytes_eq r.id name) as (λ b. cond b (
       | false ↦ look_append name rows row
     ]
 
--- the change of a row that isn't there
+-- the change of a missing row
 pub at_new : (name : Text) (change : Row → List Row) (missing rows : List Row) → has_row name rows ≡ false → at_row name change missing rows ≡ rows ++ missing
 at_new name change missing [] h = refl
 at_new name change missing (r ∷ rows) h =
@@ -83,7 +83,7 @@ filed word rows = with_values (codes "FILE") (reading_by file_rule) CommandLine 
 put_file : (word : Text) (rows : List Row) → put (File word) rows ≡ Some (filed word rows)
 put_file word rows = refl
 
--- files leave other rows
+-- files don't change other rows
 look_filed : (name word : Text) → bytes_eq (codes "FILE") name ≡ false → (rows : List Row) → look name (filed word rows) ≡ look name rows
 look_filed name word other [] = rw other refl
 look_filed name word other (r ∷ rows) = elim (cases_Bool (bytes_eq r.id (codes "FILE"))) [
@@ -129,7 +129,7 @@ flag_no_file name = of_one (λ n. bytes_eq n (codes "FILE") ≡ false) flag_opti
 
 -- ---- all parts
 
--- what a part that is put leaves to say
+-- what remains to be shown after a part is put
 then_some : {X Y P : Type 0} (b : Bool) (x : X) (next : X → Option Y) (end : Y) → option_and_then next (cond b None (Some x)) ≡ Some end
     → ((b ≡ false) → next x ≡ Some end → P) → P
 then_some true x next end h k = absurd (none-some end h)
@@ -142,7 +142,7 @@ first_first : {X : Type 0} (a b c : Option X) → first_some (first_some a b) c 
 first_first None b c = refl
 first_first (Some x) b c = refl
 
--- what stands first with a name: a part, or those behind it
+-- what comes first with a name: a part, or one after it
 found_step : (name : Text) (part : Part) (parts : List Part) → first_some (cond (bytes_eq (id_of part) name) (Some (row_of_part part)) None)
     (found_in name parts) ≡ found_in name (part ∷ parts)
 found_step name part parts = elim (bytes_eq (id_of part) name) as (λ b. first_some (cond b (Some (row_of_part part)) None) (found_in name parts)
@@ -190,7 +190,7 @@ files_all (File w ∷ parts) k rows end h =
     files_all parts k.1 (filed w rows) end h
     ∙ (ap (λ fs. fs ++ files_in parts) (files_filed w rows) ∙ append_assoc (files_at rows) (w ∷ []) (files_in parts))
 
--- rows have the names, but for files
+-- rows have the names, except for files
 abbrev HasNames : List Row → List Text → Type 0
 HasNames rows names = (name : Text) → bytes_eq (codes "FILE") name ≡ false → is_some (look name rows) ≡ is_in names name
 
@@ -245,7 +245,7 @@ value_found name other differ (Valued n v ∷ parts) k = elim (bytes_eq n name) 
 value_found name other differ (Flag n ∷ parts) k = rw (differ n k.0) (value_found name other differ parts k.1)
 value_found name other differ (File w ∷ parts) k = rw other (value_found name other differ parts k.1)
 
--- a flag's row, where it is given
+-- a flag's row, if the flag is given
 abbrev pub flag_row : Text → Bool → Option Row
 flag_row name given = cond given (Some (row_of_part (Flag name))) None
 

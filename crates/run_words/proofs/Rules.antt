@@ -1,4 +1,4 @@
--- The rules of the built command: which argument a name, a place or a short name has.
+-- The rules of the built command: which argument belongs to a name, a position or a short name.
 use Rattle.std.proofs.Common.{◌≡◌, ◌∙◌, refl, sym, subst, ℕ, Bool, true, false, cond, ◌||◌, List, [], ◌∷◌, Some, None, codes, inl, inr}
 use Rattle.std.specs.Str.{bytes_eq}
 use Rattle.std.proofs.lemmas.Bool.{or_cases, or_parts, false_from_ne_true}
@@ -19,7 +19,7 @@ flag_rule name = filled (flag_new name)
 abbrev pub file_rule : Rule
 file_rule = with_index 1 (filled files_new)
 
--- what the walk asks of a command
+-- what the walk requires of a command
 pub record Serves (s : Shape) : Type 0 where
   pub once : s.args_override_self ≡ false
   pub valued_long : (name : List ℕ) → is_in valued_options name ≡ true → arg_by_long s.rules name ≡ Some (valued_rule name)
@@ -37,7 +37,7 @@ bytes_eq_sym s t = elim (bytes_eq s t) as (λ b. bytes_eq s t ≡ b → b ≡ by
       ((bytes_eq-Decides t s).0 h))) ∙ e in cc))
 ] refl
 
--- what holds of each name of a list holds of one that is in it
+-- what holds for each name of a list holds for one that is in it
 abbrev pub OfEach : (List ℕ → Type 0) → List (List ℕ) → Type 0
 OfEach P [] = Unit {0}
 OfEach P (name ∷ names) = P name × OfEach P names

@@ -12,7 +12,7 @@ one_fails [] i d low bad = absurd (omega arith)
 one_fails (w ∷ ws) zero d low bad = and_left (is_utf8 w) (list_all is_utf8 ws) bad
 one_fails (w ∷ ws) (suc i) d low bad = and_right (is_utf8 w) (list_all is_utf8 ws) (one_fails ws i d (le_of_suc-le-suc low) bad)
 
--- a word that is no text
+-- a word that isn't text
 pub no_text : (words : List (List ℕ)) (i : ℕ) (word : List ℕ) → i < length words → word ≡ get_or words i word → (IsUtf8 word → ⊥)
     → list_all is_utf8 words ≡ false
 no_text words i word low is bad = one_fails words i word low (false_from_ne_true _ (λ text. bad (IsUtf8-from_is_utf8 word (ap is_utf8 is ∙ text))))

@@ -1,4 +1,4 @@
--- The walk of clap over the words makes of them what the grammar says.
+-- The walk of clap over the words gives what the grammar says.
 use Rattle.std.proofs.Common.{◌≡◌, ◌∙◌, refl, sym, ap, subst, ℕ, Bool, true, false, ◌&&◌, ◌==◌, List, [], ◌∷◌, map, Option, Some, None, codes}
 use Rattle.std.proofs.Common.{encode_utf8_all, slice_get, option_map, option_and_then, inl, inr, true≢false, fold}
 use Rattle.std.specs.List.{list_all}
@@ -103,7 +103,7 @@ unfolding put_all
 held_step part rows None = none_then (put part rows)
 held_step part rows (Some parts) = refl
 
--- ---- what a walk says: nothing where it fails
+-- ---- the result of a walk: nothing if it fails
 
 unfoldable pub says : Shape → Walk → List Text → Option (List Row)
 says s w [] = guard (settle_fault s.rules s.args_override_self w.held) (Some (settled_rows s.rules w.held.pending w.held.rows))
@@ -149,7 +149,7 @@ by_word P plain short dashes long [] = plain [] refl refl refl refl
 by_word P plain short dashes long (a ∷ []) = one_byte P plain a
 by_word P plain short dashes long (a ∷ b ∷ bytes) = by_first P plain (by_second P short dashes long) a b bytes
 
--- a word of one sign and more is no part
+-- a word with one `-` followed by another byte isn't a part
 sign_unknown : (b : ℕ) (bytes : Text) → (b == 45) ≡ false → behind_sign (b ∷ bytes) ≡ Unknown
 sign_unknown b [] h = rw h refl
 sign_unknown b (c ∷ bytes) h = rw h refl
@@ -158,7 +158,7 @@ short_parts : (b : ℕ) (bytes : Text) (words : List Text) → (b == 45) ≡ fal
 unfolding parts_from
 short_parts b bytes words h = ap (λ kind. after_word kind (45 ∷ b ∷ bytes) words (parts_from words)) (sign_unknown b bytes h)
 
--- a text behind a sign has a first character
+-- a text after a `-` has a first character
 first_of_chars : (cs : List ℕ) (b : ℕ) (bytes : Text) → (all_scalars (45 ∷ cs) && bytes_eq (encode_utf8_all (45 ∷ cs)) (45 ∷ b ∷ bytes)) ≡ true
     → (x : ℕ) × (slice_get cs 0 ≡ Some x)
 unfolding encode_utf8
@@ -175,7 +175,7 @@ module _ (s : Shape) (serves : Serves s) where
   abbrev at : List Row → Option Part → Waiting → Bool → Walk
   at rows p w t = record { held = record { rows = rows; pending = pended p; skip = 0 }; waiting = w; position = 1; is_trailing = t; stopped = None }
 
-  -- an option awaits its value
+  -- an option expects its value
   abbrev awaiting : List Row → Text → Waiting → Bool → Walk
   awaiting rows name w t = record {
     held = record {
@@ -218,7 +218,7 @@ module _ (s : Shape) (serves : Serves s) where
   file_walk rows p w true word = rw (serves.place, never) refl
   file_walk rows p w false word = rw (serves.place, never) refl
 
-  -- behind `--`
+  -- after `--`
   trail : (words : List Text) (rows : List Row) (p : Option Part) (w : Waiting) → IsHeld s.rules p
       → says s (at rows p w true) words ≡ option_and_then (λ r. put_all r (map File words)) (put_held rows p)
   unfolding says put_all walked
@@ -230,7 +230,7 @@ module _ (s : Shape) (serves : Serves s) where
       let rest = trail words after (Some (File word)) positional serves.file_id in
       rw (fault, step, rest) (settles rows p h (λ r. option_and_then (λ q. put_all q (map File words)) (put (File word) r)))
 
-  -- an option without its value is refused at the end, or by what follows
+  -- an option without its value is refused at the end, or because of what follows
   lacks : (rows : List Row) (name : Text) → is_in valued_options name ≡ true → {X : Type 0} (other : Kinds) (x : Option X)
       → guard (or_else (settle_fault s.rules s.args_override_self (record { rows = rows; pending = Some (name, []); skip = 0 })) other) x ≡ None
   lacks rows name k other x = rw (serves.once, serves.valued_id name k) refl
@@ -245,7 +245,7 @@ module _ (s : Shape) (serves : Serves s) where
   stuck [] rows name w k = lacks_end rows name k _
   stuck (word ∷ words) rows name w k = rw (serves.place, never) (lacks_end rows name k _)
 
-  -- a bundle of short options: there are none
+  -- a bundle of short options: none exist
   bundle_is : (b : ℕ) (bytes : Text) (rows : List Row) (pending : Option (Text × List Text)) → is_utf8 (45 ∷ b ∷ bytes) ≡ true
       → bundle_fault s.rules s.args_override_self (b ∷ bytes) (record { rows = rows; pending = pending; skip = 0 }) ≡ kind.UnknownArgument ∷ []
   unfolding flags_fault
@@ -253,12 +253,12 @@ module _ (s : Shape) (serves : Serves s) where
       let c = first_char b bytes text in
       rw (c.1, serves.no_short c.0) refl
 
-  -- ---- a long option while none waits
+  -- ---- a long option while no option expects its value
 
   abbrev met_of : Text → Option Text → Text → Waiting → List Row → Option Part → Held × Step
   met_of name v word w rows p = long_word s.rules w word name v (record { rows = rows; pending = pended p; skip = 0 })
 
-  -- what the walk says of such a word and those behind it
+  -- the walk's result for such a word and those after it
   abbrev says_long : Text → Option Text → Text → Waiting → List Row → Option Part → List Text → Option (List Row)
   says_long name v word w rows p words =
       let met = met_of name v word w rows p in
@@ -266,7 +266,7 @@ module _ (s : Shape) (serves : Serves s) where
       (step_fault s 1 met.0 met.1))
       (says s (after_step s.rules word (at rows p w false) met.0 met.1) words)
 
-  -- what the grammar says of it
+  -- the grammar's result for it
   abbrev told : Word → Text → List Row → Option Part → List Text → Option (List Row)
   told kind word rows p words = option_and_then (λ r. option_and_then (put_all r) (after_word kind word words (parts_from words))) (put_held rows p)
 
@@ -336,7 +336,7 @@ module _ (s : Shape) (serves : Serves s) where
     ]
   ]
 
-  -- a long option while one awaits its value
+  -- a long option while another option expects its value
   long_lacks : (name : Text) (v : Option Text) (rows : List Row) (waits : Text) → is_in valued_options waits ≡ true
       → {X : Type 0} (other : Kinds) (x : Option X)
       → guard (or_else (long_fault s.rules s.args_override_self (arg_by_long s.rules name) v (record {
@@ -435,7 +435,7 @@ module _ (s : Shape) (serves : Serves s) where
         by_word (AwaitedAt words) (awaited_plain words rest.0) (awaited_short words) (awaited_dashes words) (awaited_long words) word parts.0,
       )
 
-  -- the walk from the first word makes of the words what their parts make of no rows
+  -- the walk from the first word gives what the parts of the words make of an empty list of rows
   pub walk_says : (words : List Text) → list_all is_utf8 words ≡ true → says s (at [] None idle false) words ≡ option_and_then (put_all [])
       (parts_from words None)
   walk_says words text = (both words text).0 [] None idle tt idle_rests

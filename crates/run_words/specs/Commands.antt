@@ -1,4 +1,4 @@
--- The command as `clap` knows it.
+-- The command as `clap` represents it.
 use Rattle.std.specs.Prelude.{ℕ, true, List, Some, codes}
 use Rattle.clap.specs.Words.{App, Rule, new_app, new_rule, with_rule}
 use Rattle.clap.specs.declared.builder.action.ArgAction.TheVariants.{Set, SetTrue, Append}
@@ -12,7 +12,7 @@ flag_new name = record (new_rule name) { long = Some name; action = Some SetTrue
 abbrev pub files_new : Rule
 files_new = record (new_rule (codes "FILE")) { action = Some Append }
 
--- without a program's name, and with no help option
+-- the command without a program's name and without a help option
 abbrev pub bare_app : App
 bare_app = record (new_app (codes "spatch")) {
   top = record (new_app (codes "spatch")).top { no_binary_name = true; disable_help_flag = true };

@@ -1,3 +1,3 @@
 -- Definitions of job_laws.
--- What the law rests on: words that are the same but for their jobs.
+-- What the law depends on: words that differ only in their jobs.
 pub mod Jobs

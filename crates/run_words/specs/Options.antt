@@ -16,7 +16,7 @@ pub record Options : Type 0 where
   -- in this order
   pub files : List (List ℕ)
 
--- no option stands twice, and none has one of these names
+-- no option occurs twice, and none has one of these names
 abbrev pub are_new : List (List ℕ) → List Part → Bool
 are_new names [] = true
 are_new names (Valued name value ∷ parts) = not (is_in names name) && are_new (name ∷ names) parts
@@ -59,6 +59,7 @@ collected parts = record {
 abbrev pub options_in : List Part → Option Options
 options_in parts = cond (are_new [] parts) (Some (collected parts)) None
 
--- the options that the words give; nothing where an option is none, lacks its value, has one that it doesn't take, or stands twice
+-- the options that the words give; nothing if an option doesn't exist, lacks its value, has one that it doesn't take, or occurs
+-- twice
 unfoldable pub options_of : List (List ℕ) → Option Options
 options_of words = option_and_then options_in (parts_of words)

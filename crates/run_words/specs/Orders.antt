@@ -11,13 +11,13 @@ use Rattle.run_words.specs.Values.{seed_in, count_in, decimal_value, names_in}
 pub data Target : Type 0 where
   -- files, in this order
   OnFiles : (mode : Mode) (names : List (List ℕ)) → Target
-  -- the text of this seed, of so many functions
+  -- the text that is generated from this seed, with this many functions
   OnText : (seed functions : ℕ) → Target
 
 pub data Order : Type 0 where
   -- the patch of this name, under the isomorphisms of this name, with these virtual names, is applied
   Apply : (patch : List ℕ) (isos : Option (List ℕ)) (defined : List (List ℕ)) (target : Target) → Order
-  -- the text of this seed, of so many functions, is printed
+  -- the text that is generated from this seed, with this many functions, is printed
   Generate : (seed functions : ℕ) → Order
 
 -- ---- values
@@ -28,22 +28,22 @@ most_jobs = 64
 abbrev pub most_functions : ℕ
 most_functions = 100000
 
--- a value that is given isn't empty
+-- the value, if given, isn't empty
 abbrev pub is_filled : Option (List ℕ) → Bool
 is_filled value = option_map_or (λ text. nat_le 1 (length text)) value true
 
 abbrev pub are_filled : Options → Bool
 are_filled o = is_filled o.sp_file && is_filled o.iso_file && is_filled o.define && is_filled o.jobs && is_filled o.generate && is_filled o.functions
 
--- `--jobs` has a number of jobs, where it is given
+-- `--jobs` has a valid number of jobs, if it is given
 abbrev pub has_jobs : Options → Bool
 has_jobs o = option_map_or (λ value. is_some (count_in most_jobs value)) o.jobs true
 
--- how many jobs may be done at a time: the number that `--jobs` has, and one where it isn't given
+-- the maximum number of concurrent jobs: the number that `--jobs` has, or one if it isn't given
 abbrev pub jobs_in : Options → ℕ
 jobs_in o = option_map_or decimal_value o.jobs 1
 
--- the names that are defined; none where the option isn't given
+-- the names that are defined; none if the option isn't given
 abbrev pub defined_in : Options → Option (List (List ℕ))
 defined_in o = option_map_or names_in o.define (Some [])
 
@@ -55,16 +55,16 @@ has_files o = nat_le 1 (length o.files)
 abbrev pub mode_in : Options → Mode
 mode_in o = record { witnesses = o.witnesses; in_place = o.in_place }
 
--- something is given that goes with files alone
+-- something is given that is only allowed with files
 abbrev pub is_about_files : Options → Bool
 is_about_files o = is_some o.iso_file || is_some o.define || o.witnesses || o.in_place || has_files o
 
--- without `--generate`: a patch and a file are needed
+-- without `--generate`: a patch and a file are required
 abbrev pub editing : Options → Option Order
 editing o = cond (has_files o && not (is_some o.functions))
     (option_and_then (λ patch. option_map (λ defined. Apply patch o.iso_file defined (OnFiles (mode_in o) o.files)) (defined_in o)) o.sp_file) None
 
--- with it: the text is printed, or a patch is applied to it
+-- with `--generate`: the text is printed, or a patch is applied to it
 abbrev pub on_text : Options → ℕ → ℕ → Option Order
 on_text o seed functions = option_map_or (λ patch. Some (Apply patch None [] (OnText seed functions))) o.sp_file
     (cond (is_some o.jobs) None (Some (Generate seed functions)))
@@ -77,10 +77,10 @@ generating o value = cond (is_about_files o) None
 unfoldable pub ordered : Options → Option Order
 ordered o = cond (are_filled o && has_jobs o) (option_map_or (generating o) o.generate (editing o)) None
 
--- what the words ask for; nothing where they are no command, as where one of them isn't UTF-8
+-- what the words ask for; nothing if they are no command, for example if one of them isn't UTF-8
 unfoldable pub order_of : List (List ℕ) → Option Order
 order_of words = cond (list_all is_utf8 words) (option_and_then ordered (options_of words)) None
 
--- how many jobs may be done at a time, where the words ask for a patch to be applied
+-- the maximum number of concurrent jobs, if the words ask for a patch to be applied
 unfoldable pub jobs_of : List (List ℕ) → ℕ
 jobs_of words = option_map_or jobs_in (options_of words) 1

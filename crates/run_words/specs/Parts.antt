@@ -6,7 +6,7 @@ use Rattle.c_lexer.specs.Words.{is_in}
 pub data Part : Type 0 where
   -- an option with its value
   Valued : (name value : List ℕ) → Part
-  -- an option that has none
+  -- an option that takes no value
   Flag : (name : List ℕ) → Part
   -- a word that names a file
   File : (word : List ℕ) → Part
@@ -21,11 +21,11 @@ pub data Word : Type 0 where
   Awaits : (name : List ℕ) → Word
   -- `--NAME=VALUE`
   Has : (name value : List ℕ) → Word
-  -- an option that has no value
+  -- an option without a value
   Bare : (name : List ℕ) → Word
-  -- no option
+  -- not an option
   Plain : Word
-  -- an option that there isn't
+  -- an option that doesn't exist
   Unknown : Word
 
 abbrev pub valued_options : List (List ℕ)
@@ -34,25 +34,25 @@ valued_options = codes "sp-file" ∷ codes "iso-file" ∷ codes "define" ∷ cod
 abbrev pub flag_options : List (List ℕ)
 flag_options = codes "witnesses" ∷ codes "in-place" ∷ []
 
--- it begins with `-`, and has more than this byte
+-- the word begins with `-` and is longer than one byte
 abbrev pub is_option : List ℕ → Bool
 is_option [] = false
 is_option (b ∷ []) = false
 is_option (b ∷ c ∷ bytes) = b == 45
 
--- the bytes before the first `=`, and those behind it, if there is one
+-- the bytes before the first `=`, and those after it, if there is one
 abbrev pub name_part : List ℕ → List ℕ
 name_part text = before_first (λ b. b == 61) text
 
 abbrev pub value_part : List ℕ → Option (List ℕ)
 value_part text = cond (list_any (λ b. b == 61) text) (Some (after_first (λ b. b == 61) text)) None
 
--- an option of this name, with the value that stands in its word
+-- an option of this name, with the value that its word contains
 abbrev pub named : List ℕ → Option (List ℕ) → Word
 named name None = cond (is_in valued_options name) (Awaits name) (cond (is_in flag_options name) (Bare name) Unknown)
 named name (Some value) = cond (is_in valued_options name) (Has name value) Unknown
 
--- what stands behind the first `-` of an option
+-- an option by what follows its first `-`
 abbrev pub behind_sign : List ℕ → Word
 behind_sign [] = Unknown
 behind_sign (b ∷ []) = cond (b == 45) End Unknown
@@ -70,7 +70,7 @@ word_of word = cond (is_option word) (option_word word) Plain
 abbrev pub with_part : Part → Option (List Part) → Option (List Part)
 with_part part parts = option_map (λ ps. part ∷ ps) parts
 
--- this word and those behind it, by what it is; `next` reads those behind it, of which the first may be the value of an option
+-- this word and those after it, by its kind; `next` reads those after it, the first of which may be the value of an option
 abbrev pub after_word : Word → List ℕ → List (List ℕ) → (Option (List ℕ) → Option (List Part)) → Option (List Part)
 after_word End word behind next = Some (map File behind)
 after_word (Awaits name) word behind next = next (Some name)
@@ -79,7 +79,7 @@ after_word (Bare name) word behind next = with_part (Flag name) (next None)
 after_word Plain word behind next = with_part (File word) (next None)
 after_word Unknown word behind next = None
 
--- the parts of these words, of which the first is the value of this option, if there is one that awaits it
+-- the parts of these words; if an option expects its value, the first word is that value
 unfoldable pub parts_from : List (List ℕ) → Option (List ℕ) → Option (List Part)
 parts_from [] None = Some []
 parts_from [] (Some name) = None

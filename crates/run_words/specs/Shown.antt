@@ -1,4 +1,4 @@
--- What the answers of calls stand for.
+-- What the results of calls represent.
 use Rattle.std.specs.Prelude.{ℕ, ◌≡◌, ◌≤◌, Bool, List, [], Option, Some, option_map, map, codes}
 use Rattle.std.specs.Borrow.{Bor}
 use Rattle.std.specs.Option.{option_map_or}
@@ -24,7 +24,7 @@ abbrev pub shown_order : CodeOrder → Order
 shown_order (order.Apply p) = Apply p.patch.now (shown_isos p.isos) p.defined.items (shown_target p.target)
 shown_order (order.Generate seed functions) = Generate seed functions
 
--- the patch is applied with so many jobs
+-- the patch is applied with this many jobs
 abbrev pub HasJobs : ℕ → CodeOrder → Type 0
 HasJobs jobs (order.Apply p) = p.jobs ≡ jobs
 HasJobs jobs (order.Generate seed functions) = Unit {0}
@@ -34,7 +34,7 @@ abbrev pub few_functions : CodeTarget → Type 0
 few_functions (target.Files mode names) = Unit {0}
 few_functions (target.Text seed functions) = functions ≤ 100000
 
--- ---- inside the crate
+-- ---- internal to the crate
 
 abbrev pub shown_value : Option (Bor (List ℕ)) → Option (List ℕ)
 shown_value value = option_map (λ text. text.now) value

@@ -5,7 +5,7 @@ use Rattle.c_lexer.specs.Words.{is_letter, is_digit, is_word_byte, is_keyword}
 
 -- ---- numbers
 
--- the number that digits write, after this one
+-- the number that the digits represent when appended to the digits of this one
 abbrev pub decimal_from : ℕ → List ℕ → ℕ
 decimal_from n [] = n
 decimal_from n (b ∷ bytes) = decimal_from (n * 10 + (b - 48)) bytes
@@ -13,11 +13,11 @@ decimal_from n (b ∷ bytes) = decimal_from (n * 10 + (b - 48)) bytes
 abbrev pub decimal_value : List ℕ → ℕ
 decimal_value = decimal_from 0
 
--- the number of a text of digits, where it is below 2^64
+-- the number that a text of digits represents, if it is below 2^64
 abbrev pub number_in : List ℕ → Option ℕ
 number_in text = cond (list_all is_digit text && nat_lt (decimal_value text) (2 ^ 64)) (Some (decimal_value text)) None
 
--- one to twenty digits of such a number
+-- the number that one to twenty digits represent, if it is below 2^64
 abbrev pub seed_in : List ℕ → Option ℕ
 seed_in text = cond (nat_le 1 (length text) && nat_le (length text) 20) (number_in text) None
 
@@ -25,28 +25,28 @@ abbrev pub begins_with_zero : List ℕ → Bool
 begins_with_zero [] = false
 begins_with_zero (b ∷ bytes) = b == 48
 
--- a number from 1 to a most, whose first digit isn't 0
+-- a number from 1 to a maximum, whose first digit isn't 0
 abbrev pub count_in : ℕ → List ℕ → Option ℕ
 count_in most text = cond (nat_le 1 (length text) && list_all is_digit text && not (begins_with_zero text) && nat_le (decimal_value text) most)
     (Some (decimal_value text)) None
 
 -- ---- names
 
--- an identifier that is no keyword
+-- an identifier that isn't a keyword
 abbrev pub is_c_name : List ℕ → Bool
 is_c_name [] = false
 is_c_name (b ∷ bytes) = is_letter b && list_all is_word_byte bytes && not (is_keyword (b ∷ bytes))
 
--- one more byte in front of the first text
+-- prepends one byte to the first text
 abbrev pub in_first : ℕ → List (List ℕ) → List (List ℕ)
 in_first b [] = (b ∷ []) ∷ []
 in_first b (text ∷ texts) = (b ∷ text) ∷ texts
 
--- the texts that commas part
+-- the texts that are separated by commas
 abbrev pub between_commas : List ℕ → List (List ℕ)
 between_commas [] = [] ∷ []
 between_commas (b ∷ bytes) = cond (b == 44) ([] ∷ between_commas bytes) (in_first b (between_commas bytes))
 
--- the names that commas part
+-- the names that are separated by commas
 abbrev pub names_in : List ℕ → Option (List (List ℕ))
 names_in text = cond (list_all is_c_name (between_commas text)) (Some (between_commas text)) None

@@ -1,6 +1,6 @@
-//! Words that differ in their jobs alone ask for the same.
+//! Words that differ only in their jobs ask for the same.
 //!
-//! - [`jobs_leave_orders`]: so what they ask for is the same, and the number of jobs stands nowhere in it.
+//! - [`jobs_leave_orders`]: what such words ask for is the same, and doesn't depend on the number of jobs.
 //!
 //! `--sp-file p --jobs 8 k.c` asks for what `--sp-file p k.c` asks for.
 //!
@@ -11,7 +11,7 @@ ghost use Rattle.std.specs.Prelude.{◌≡◌, ℕ, List};
 ghost use Rattle.run_words.specs.Orders.{order_of};
 ghost use Rattle.run_words.specs.JobLaws.Jobs.{SameButJobs};
 
-/// Words that are the same but for their jobs ask for the same. Does nothing.
+/// Words that differ only in their jobs ask for the same. Does nothing.
 pub fn jobs_leave_orders()
     ensures { (words others : List (List ℕ)) → SameButJobs words others → order_of others ≡ order_of words }
 {}

@@ -1,4 +1,4 @@
-// The options, as `clap` reads them.
+// The options, as `clap` parses them.
 ghost use Rattle.std.specs.Prelude.{◌≡◌, true, false, [], map, option_map, codes, IfOk};
 ghost use Rattle.std.specs.Option.{option_map_or};
 ghost use Rattle.std.specs.List.{list_all};
@@ -13,7 +13,7 @@ use clap::error::ErrorKind;
 use clap::{Arg, ArgAction, ArgMatches, Command};
 use std::alloc::{AllocError, Global};
 
-/// An option that has a value.
+/// Returns an option that takes a value.
 fn valued<'a>(alloc: Global, name: &'a str) -> Arg<'a>
     ensures rule { rule_of result ≡ valued_new name.entry.now }
     ensures local { result.global ≡ false }
@@ -21,7 +21,7 @@ fn valued<'a>(alloc: Global, name: &'a str) -> Arg<'a>
     Arg::new(alloc, name).long(name).action(ArgAction::Set)
 }
 
-/// An option that has none.
+/// Returns an option that takes no value.
 fn flag<'a>(alloc: Global, name: &'a str) -> Arg<'a>
     ensures rule { rule_of result ≡ flag_new name.entry.now }
     ensures local { result.global ≡ false }
@@ -29,7 +29,7 @@ fn flag<'a>(alloc: Global, name: &'a str) -> Arg<'a>
     Arg::new(alloc, name).long(name).action(ArgAction::SetTrue)
 }
 
-/// The words that are no options.
+/// Returns the positional argument: the words that aren't options.
 fn files<'a>(alloc: Global) -> Arg<'a>
     ensures rule { rule_of result ≡ files_new }
     ensures local { result.global ≡ false }
@@ -37,7 +37,7 @@ fn files<'a>(alloc: Global) -> Arg<'a>
     Arg::new(alloc, "FILE").action(ArgAction::Append)
 }
 
-/// The command with all its options. Which of them go together is looked at later.
+/// Returns the command with all its options. Their combinations are checked later.
 fn command<'a>(alloc: Global) -> Result<Command<'a>, AllocError>
     ensures { IfOk result (λ command. app_of command ≡ spatch_app) }
 {
@@ -55,7 +55,7 @@ fn command<'a>(alloc: Global) -> Result<Command<'a>, AllocError>
         .arg(files(alloc))
 }
 
-/// The options by name, and the words that are none.
+/// The options by name, and the words that aren't options.
 #[derive(Drop)]
 pub struct Given<'a> {
     pub sp_file: Option<&'a str>,
@@ -96,7 +96,7 @@ fn read<'a>(alloc: Global, matches: &ArgMatches<'a>) -> Result<Given<'a>, AllocE
     })
 }
 
-/// The options that the words give, if they are options as the command has them.
+/// Parses the words, and returns the options that they give. Returns `None` if the command doesn't accept them.
 pub fn parse<'a>(alloc: Global, words: &'a [&'a str]) -> Result<Option<Given<'a>>, NoMemory>
     requires { list_all is_utf8 (map (λ w. w.now) words.now) ≡ true }
     ensures { IfOk result (λ given. option_map shown_options given

@@ -3,7 +3,8 @@ ghost use Rattle.std.specs.Prelude.{◌≤◌};
 
 use c_terms::Text;
 
-/// What is printed and kept of an edited file: its witnesses on the output; its text under its name, or else on the output.
+/// How the result for an edited file is output: whether its witnesses are printed, and whether its text is stored under its
+/// name. With neither, its text is printed.
 #[derive(Clone, Copy, Debug, PartialEq, Eq)]
 pub struct Mode {
     pub witnesses: bool,
@@ -15,21 +16,21 @@ pub struct Mode {
 pub enum Target<'a> {
     /// Files, in this order.
     Files(Mode, Vec<&'a str>),
-    /// The text of this seed, of so many functions.
+    /// The text that is generated from this seed, with this many functions.
     Text(u64, u32),
 }
 
-/// A patch is applied.
+/// A request to apply a patch.
 #[derive(Drop)]
 pub struct PatchOrder<'a> {
     /// The name of the patch.
     pub patch: &'a str,
     /// The name of the isomorphisms.
     pub isos: Option<&'a str>,
-    /// The virtual names that hold.
+    /// The virtual names that are defined.
     pub defined: Vec<Text>,
     pub target: Target<'a>,
-    /// How many jobs may be done at a time.
+    /// The maximum number of concurrent jobs.
     pub jobs: u32,
     pub ghost some_jobs: { 1 ≤ jobs },
     pub ghost few_jobs: { jobs ≤ 64 },
@@ -39,6 +40,6 @@ pub struct PatchOrder<'a> {
 #[derive(Drop)]
 pub enum Order<'a> {
     Apply(PatchOrder<'a>),
-    /// The text of this seed, of so many functions, is printed.
+    /// Print the text that is generated from this seed, with this many functions.
     Generate(u64, u32),
 }

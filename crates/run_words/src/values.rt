@@ -7,7 +7,7 @@ use c_lexer::{Kind, first_piece};
 use c_terms::{NoMemory, Text};
 use std::alloc::Global;
 
-/// The number that these digits write, if there are only digits and it is less than 2^64.
+/// Returns the decimal number that the digits represent, if they are all digits and it is less than 2^64.
 fn decimal(digits: &[u8]) -> Option<u64>
     ensures { result ≡ number_in digits.now }
 {
@@ -21,7 +21,7 @@ fn decimal(digits: &[u8]) -> Option<u64>
     Some(n)
 }
 
-/// The number of a seed: one to twenty digits.
+/// Parses a seed: one to twenty digits.
 pub fn seed(text: &str) -> Option<u64>
     ensures { result ≡ seed_in text.now }
 {
@@ -32,7 +32,7 @@ pub fn seed(text: &str) -> Option<u64>
     decimal(digits)
 }
 
-/// A number from 1 to a most, without leading zeros.
+/// Parses a number from 1 to `most`, without leading zeros.
 pub fn count(text: &str, most: u64) -> Option<u64>
     ensures { result ≡ count_in most text.now }
 {
@@ -44,7 +44,7 @@ pub fn count(text: &str, most: u64) -> Option<u64>
     if n <= most { Some(n) } else { None }
 }
 
-/// Whether a text is a name of C: an identifier that is no keyword.
+/// Whether a text is a name of C: an identifier that isn't a keyword.
 fn is_c_name(text: &[u8]) -> bool
     ensures { result ≡ is_c_name text.now }
 {
@@ -58,7 +58,7 @@ fn is_c_name(text: &[u8]) -> bool
     }
 }
 
-/// The first comma of a text, or its end.
+/// Returns the position of the first comma in a text, or of its end.
 fn name_end(text: &[u8]) -> usize
     ensures within { result ≤ length text.now }
     ensures first { result ≡ prefix_len (λ b. not (b == 44)) text.now }
@@ -66,7 +66,7 @@ fn name_end(text: &[u8]) -> usize
     text.iter().take_while(|b| **b != b',').count()
 }
 
-/// The names that commas part, if each is a name of C.
+/// Returns the names that are separated by commas, if each is a name of C.
 pub fn names(alloc: Global, text: &[u8]) -> Result<Option<Vec<Text>>, NoMemory>
     ensures { IfOk result (λ names. option_map (λ list. list.items) names ≡ names_in text.now) }
 {

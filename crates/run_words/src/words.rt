@@ -17,7 +17,7 @@ const MOST_JOBS: u64 = 64;
 
 const MOST_FUNCTIONS: u64 = 100_000;
 
-/// The words as text, if each is UTF-8. Linear in the words.
+/// Returns the words as text, if each is UTF-8. Linear in the words.
 pub fn texts_of<'a>(alloc: Global, words: &'a [Text]) -> Result<Option<Vec<&'a str>>, NoMemory>
     ensures { IfOk result (λ texts. MatchOption texts (list_all is_utf8 words.entry.now ≡ false)
         (λ list. (map (λ t. t.now) list.items ≡ words.entry.now) × (list_all is_utf8 words.entry.now ≡ true))) }
@@ -32,12 +32,12 @@ pub fn texts_of<'a>(alloc: Global, words: &'a [Text]) -> Result<Option<Vec<&'a s
     Ok(Some(texts))
 }
 
-/// What the words ask for, if they are a command. Takes memory in proportion to the words.
+/// Returns what the words ask for, if they are a command. Takes memory in proportion to the words.
 pub fn order_of<'a>(alloc: Global, words: &'a [&'a str]) -> Result<Option<Order<'a>>, NoMemory>
     requires { list_all is_utf8 (map (λ w. w.now) words.now) ≡ true }
     ensures order { IfOk result (λ order. option_map shown_order order ≡ told.order_of (map (λ w. w.now) words.entry.now)) }
 
-    // A patch is applied with as many jobs as the words say.
+    // A patch is applied with the number of jobs that the words give.
     ensures jobs { IfOk result (λ order. IfSome order (HasJobs (told.jobs_of (map (λ w. w.now) words.entry.now)))) }
 {
     match parse(alloc, words)? {
@@ -66,7 +66,7 @@ fn are_filled(given: &Given<'_>) -> bool
         && is_filled(given.functions)
 }
 
-/// Whether the number of jobs is one, where it is given.
+/// Whether the number of jobs is valid, if it is given.
 fn has_jobs(given: &Given<'_>) -> bool
     ensures { result ≡ told.has_jobs (shown_options given.now) }
 {
@@ -76,7 +76,7 @@ fn has_jobs(given: &Given<'_>) -> bool
     }
 }
 
-/// How many jobs may be done at a time: one where no number is given.
+/// Returns the maximum number of concurrent jobs: one if no number is given.
 fn jobs_of(given: &Given<'_>) -> u32
     requires { told.has_jobs (shown_options given.now) ≡ true }
     ensures value { result ≡ told.jobs_in (shown_options given.now) }
@@ -101,7 +101,7 @@ fn jobs_in(value: &str) -> u32
     }
 }
 
-/// Whether the values of options are there, and the number of jobs is one.
+/// Whether no option has an empty value, and the number of jobs is valid.
 fn has_values(given: &Given<'_>) -> bool
     ensures { result ≡ (told.are_filled (shown_options given.now) && told.has_jobs (shown_options given.now)) }
 {
@@ -121,7 +121,7 @@ fn order_given<'a>(alloc: Global, given: Given<'a>) -> Result<Option<Order<'a>>,
     }
 }
 
-/// Whether something is given that goes with files alone.
+/// Whether something is given that is only allowed with files.
 fn is_about_files(given: &Given<'_>) -> bool
     ensures { result ≡ told.is_about_files (shown_options given.now) }
 {
@@ -132,7 +132,7 @@ fn is_about_files(given: &Given<'_>) -> bool
         || !given.files.is_empty()
 }
 
-/// What is asked for with a seed.
+/// Returns what is asked for with a seed.
 fn generating<'a>(alloc: Global, given: &Given<'a>, value: &str) -> Option<Order<'a>>
     requires { told.has_jobs (shown_options given.now) ≡ true }
     ensures order { option_map shown_order result ≡ told.generating (shown_options given.now) value.now }
@@ -168,7 +168,7 @@ fn on_text<'a>(alloc: Global, given: &Given<'a>, seed: u64, functions: u32) -> O
     }
 }
 
-/// What is asked for without a seed.
+/// Returns what is asked for without a seed.
 fn editing<'a>(alloc: Global, given: Given<'a>) -> Result<Option<Order<'a>>, NoMemory>
     requires { told.has_jobs (shown_options given) ≡ true }
     ensures order { IfOk result (λ order. option_map shown_order order ≡ told.editing (shown_options given.entry)) }
@@ -197,7 +197,7 @@ fn editing<'a>(alloc: Global, given: Given<'a>) -> Result<Option<Order<'a>>, NoM
     })))
 }
 
-/// The names that are defined, if they are names.
+/// Returns the names that are defined, if they are names of C.
 fn defined(alloc: Global, value: Option<&str>) -> Result<Option<Vec<Text>>, NoMemory>
     ensures { IfOk result (λ names. option_map (λ list. list.items) names
         ≡ option_map_or names_in (shown_value value.entry) (Some [])) }

@@ -1,6 +1,6 @@
-//! Tests of the calls on sets of environments. There is nothing else in this crate, and nothing of it is for use.
+//! Tests of the calls on sets of environments. The crate has nothing else, and no public items.
 //!
-//! They stand here and not in env_sets, since a crate with tests is proved twice.
+//! The tests are here rather than in env_sets because a crate with tests is proved twice.
 #![tactic(auto)]
 
 #[cfg(test)]

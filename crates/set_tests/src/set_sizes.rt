@@ -1,10 +1,10 @@
-// How many entries results have, and how many values these name.
+// The number of entries in results, and the number of values that they name.
 use crate::sets::{are_same, both, made, size};
 use env_sets::{Bound, Entry, EnvSet};
 use std::alloc::Global;
 use std::test::Fail;
 
-/// How many values the entries of a set name.
+/// Returns the number of values that the entries of a set name.
 fn named(a: &EnvSet) -> usize {
     let (first, blocks) = a.blocks();
     let mut count = named_in(first);
@@ -31,7 +31,7 @@ fn named_by(bound: &Bound) -> usize {
     }
 }
 
-/// Whether the recipe makes a set of so many entries, which name so many values.
+/// Whether the recipe makes a set of this many entries, which name this many values.
 fn measures(alloc: Global, recipe: &str, entries: usize, values: usize) -> Result<bool, Fail> {
     let set = made(alloc, recipe)?;
     Ok(size(&set) == entries && named(&set) == values)
@@ -54,7 +54,7 @@ fn results_stay_small(rt: HostRuntime) -> Result<(), Fail> {
     Ok(())
 }
 
-/// So many entries, each of which fixes x and y.
+/// Returns a recipe for this many entries, each of which fixes x and y.
 fn pairs(alloc: Global, count: u32) -> Result<String, Fail> {
     let mut recipe = format!(in alloc; "none")?;
     for k in 0..count {
@@ -63,7 +63,7 @@ fn pairs(alloc: Global, count: u32) -> Result<String, Fail> {
     Ok(recipe)
 }
 
-/// So many entries over x and y, and as many over y and z.
+/// Returns a recipe for this many entries over x and y, and as many over y and z.
 fn around_y(alloc: Global, count: u32) -> Result<String, Fail> {
     let mut recipe = pairs(alloc, count)?;
     for k in 0..count {
@@ -72,7 +72,7 @@ fn around_y(alloc: Global, count: u32) -> Result<String, Fail> {
     Ok(recipe)
 }
 
-/// The join of so many entries, each of which excludes another value of x.
+/// Returns a recipe for the join of this many entries, each of which excludes another value of x.
 fn exclusions(alloc: Global, count: u32) -> Result<String, Fail> {
     let mut recipe = format!(in alloc; "none")?;
     for k in 0..count {
@@ -81,7 +81,7 @@ fn exclusions(alloc: Global, count: u32) -> Result<String, Fail> {
     Ok(recipe)
 }
 
-/// So many entries that fix x and y, with entries that these cover.
+/// Returns a recipe for this many entries that fix x and y, and entries that these cover.
 fn covered_pairs(alloc: Global, count: u32) -> Result<String, Fail> {
     let mut recipe = pairs(alloc, count)?;
     for k in 0..count {
@@ -90,7 +90,7 @@ fn covered_pairs(alloc: Global, count: u32) -> Result<String, Fail> {
     Ok(recipe)
 }
 
-/// One entry that fixes so many variables.
+/// Returns a recipe for one entry that fixes this many variables.
 fn wide(alloc: Global, count: u32) -> Result<String, Fail> {
     let mut recipe = format!(in alloc; "all")?;
     for k in 0..count {
@@ -99,7 +99,7 @@ fn wide(alloc: Global, count: u32) -> Result<String, Fail> {
     Ok(recipe)
 }
 
-/// The join of so many values of x, the last number first, or the first.
+/// Returns a recipe for the join of this many values of x, in falling or rising order.
 fn values(alloc: Global, count: u32, falling: bool) -> Result<String, Fail> {
     let mut recipe = format!(in alloc; "none")?;
     for k in 0..count {
@@ -113,7 +113,7 @@ fn values(alloc: Global, count: u32, falling: bool) -> Result<String, Fail> {
     Ok(recipe)
 }
 
-/// The recipe, and one word more.
+/// Returns the recipe with one more word.
 fn then(recipe: String, word: &str) -> Result<String, Fail> {
     let mut recipe = recipe;
     write!(recipe, " {word}")?;
@@ -166,12 +166,12 @@ fn sets_in_blocks_keep_their_entries(rt: HostRuntime) -> Result<(), Fail> {
     Ok(())
 }
 
-/// The join of what two recipes make.
+/// Returns the join of the sets that two recipes make.
 fn joined(alloc: Global, first: &str, second: &str) -> Result<String, Fail> {
     Ok(format!(in alloc; "{first} {second} |")?)
 }
 
-/// Whether two recipes make sets of which either join has so many entries.
+/// Whether two recipes make sets whose join has this many entries in either order.
 fn join_to(alloc: Global, first: String, second: String, entries: usize) -> Result<bool, Fail> {
     Ok(
         measures_size(alloc, &joined(alloc, &first, &second)?, entries)?
@@ -206,7 +206,7 @@ fn joins_of_sets_in_blocks_have_each_entry_once(rt: HostRuntime) -> Result<(), F
     Ok(())
 }
 
-/// Whether the recipe makes a set of so many entries.
+/// Whether the recipe makes a set of this many entries.
 fn measures_size(alloc: Global, recipe: &str, entries: usize) -> Result<bool, Fail> {
     Ok(size(&made(alloc, recipe)?) == entries)
 }

@@ -1,4 +1,4 @@
-// Sets of environments that recipes make: which are told to be the same, and what threads share.
+// Sets of environments that recipes make: which are reported to be the same, and what threads share.
 use c_terms::{Text, Token, TokenKind, Tree};
 use env_sets::{Bound, Entry, EnvSet, Values, complement, join, meet, same_set};
 use smpl_terms::{Value, Var};
@@ -14,7 +14,7 @@ fn var(alloc: Global, name: &str) -> Result<Var, Fail> {
     })
 }
 
-/// The number as a term, whose token has this id.
+/// Returns the number as a term, whose token has this id.
 fn term(alloc: Global, number: &str, id: u64) -> Result<Value, Fail> {
     let token = Token {
         kind: TokenKind::Number,
@@ -24,7 +24,7 @@ fn term(alloc: Global, number: &str, id: u64) -> Result<Value, Fail> {
     Ok(Value::term(alloc, Tree::Leaf(token))?)
 }
 
-/// One number or two, with a comma between them, as terms.
+/// Returns one number, or two separated by a comma, as terms.
 fn terms(alloc: Global, numbers: &str) -> Result<Values, Fail> {
     let mut values = Vec::new(alloc);
     match numbers.split_once(',') {
@@ -37,7 +37,7 @@ fn terms(alloc: Global, numbers: &str) -> Result<Values, Fail> {
     Ok(Values::of(alloc, values)?)
 }
 
-// The calls without their clauses, so that goals stay small.
+// The calls without their clauses, which keeps goals small.
 
 fn is(alloc: Global, name: &str, number: &str) -> Result<EnvSet, Fail> {
     let bound = Bound::Is(term(alloc, number, 1)?);
@@ -78,7 +78,7 @@ pub fn size(a: &EnvSet) -> usize {
     count
 }
 
-/// The last set, which is taken.
+/// Removes and returns the last set.
 fn last(sets: &mut Vec<EnvSet>) -> Result<EnvSet, Fail> {
     match sets.pop() {
         Some(set) => Ok(set),
@@ -86,8 +86,8 @@ fn last(sets: &mut Vec<EnvSet>) -> Result<EnvSet, Fail> {
     }
 }
 
-/// The set that a recipe makes, in postfix. Its words are `none`, `all`, `x=1`, `x!1` and `x!1,2`; `~`, `&` and `|` of the
-/// last sets.
+/// Returns the set that a recipe in postfix order makes. Its words are `none`, `all`, `x=1`, `x!1` and `x!1,2`; and `~`,
+/// `&` and `|`, which apply to the last sets.
 pub fn made(alloc: Global, recipe: &str) -> Result<EnvSet, Fail> {
     let mut sets = Vec::new(alloc);
     for word in recipe.split_whitespace() {
@@ -122,7 +122,7 @@ fn listed(alloc: Global, a: &EnvSet) -> Result<Vec<Entry>, Fail> {
     Ok(a.entries(alloc)?)
 }
 
-/// Adds the bound as a word of a recipe, where it is one number.
+/// Appends the bound as a word of a recipe. Fails unless it is one number.
 fn put_word(out: &mut Vec<u8>, x: &Var, bound: &Bound) -> Result<(), Fail> {
     let Bound::Is(Value::Term(tree)) = bound else {
         return Err("the bound is no term")?;
@@ -137,7 +137,7 @@ fn put_word(out: &mut Vec<u8>, x: &Var, bound: &Bound) -> Result<(), Fail> {
     Ok(())
 }
 
-/// The bounds of the entries, one after another, as words of a recipe.
+/// Returns the bounds of the entries, one after another, as words of a recipe.
 fn words_of(alloc: Global, entries: &[Entry]) -> Result<Vec<u8>, Fail> {
     let mut out = Vec::new(alloc);
     for e in entries {
@@ -166,7 +166,7 @@ fn a_set_hands_out_the_entries_that_were_put_in(rt: HostRuntime) -> Result<(), F
     Ok(())
 }
 
-/// Whether two recipes make sets that are told to be the same.
+/// Whether two recipes make sets that are reported to be the same.
 pub fn are_same(alloc: Global, first: &str, second: &str) -> Result<bool, Fail> {
     Ok(same_set(&made(alloc, first)?, &made(alloc, second)?))
 }
@@ -186,7 +186,7 @@ fn sets_are_told_apart(rt: HostRuntime) -> Result<(), Fail> {
     Ok(())
 }
 
-/// Whether it is known that the set is empty, and that it has each environment.
+/// Returns whether it is known that the set is empty, and whether it is known that it has every environment.
 fn extremes(alloc: Global, recipe: &str) -> Result<(bool, bool), Fail> {
     let set = copied(alloc, &made(alloc, recipe)?)?;
     Ok((set.is_none(), set.is_all()))
@@ -223,12 +223,12 @@ fn lists_of_values_know_their_order(rt: HostRuntime) -> Result<(), Fail> {
     Ok(())
 }
 
-/// Lets the set go, and tells its size.
+/// Drops the set, and returns its size.
 fn last_size(a: EnvSet) -> usize {
     size(&a)
 }
 
-/// The sizes of two sets, each of which is let go in a thread.
+/// Returns the sizes of two sets, each of which is dropped in its own thread.
 fn sizes_apart(rt: &impl Threads, a: EnvSet, b: EnvSet) -> (usize, usize) {
     thread::join(rt, move || last_size(a), move || last_size(b))
 }

@@ -100,7 +100,7 @@ front-empty : (xs ys : List ℕ) → xs ++ ys ≡ [] → xs ≡ []
 front-empty [] ys h = refl
 front-empty (x ∷ xs) ys h = let k : x ∷ (xs ++ ys) ≡ [] = h in absurd (cc)
 
--- where no dots are at an edge, no code stands in code
+-- if no dots are at an edge, there is no code within code
 pub body-flat : (ps : List Placed) (es : List Elem) → IsBody ps es → nested_hosts (cut ps).codes ≡ []
 body-flat ps es b =
     let c = cut ps in

@@ -58,7 +58,7 @@ none d (p ∷ ps) h =
     let more = at-least (step p.token d) (tokens ps) in
     else-branch p.at (step p.token d) ps (not-there (step p.token d) (omega (arith, h, more))) (none (step p.token d) ps (omega (arith, h)))
 
--- a fault of tokens behind which this many brackets are open
+-- a fault of tokens after which this many brackets are open
 record From (d : ℕ) (ps : List Placed) (f : PatchFault) : Type 0 where
   before : List Placed
   here : Placed

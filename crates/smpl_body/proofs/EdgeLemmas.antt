@@ -64,7 +64,7 @@ last-at (t ∷ u ∷ ts) d h =
     let e : suc (suc (length ts)) - 1 ≡ suc (suc (length ts) - 1) = omega arith in
     ap (λ n. gap (get_or (t ∷ u ∷ ts) n d)) e ∙ last-at (u ∷ ts) d (omega arith)
 
--- behind the edges of a branch's own sequences stand those within its children
+-- the edges of a branch's own sequences are followed by those within its children
 pub own-then-kids : (t : Tree) (l : Label) (cs ks : List Tree) (old now : List ℕ) → t ≡ Branch l cs → ks ≡ cs → now ≡ old ++ own_ends l cs
     → now ++ join (map edges_in ks) ≡ old ++ edges_in t
 own-then-kids t l cs ks old now e k n =

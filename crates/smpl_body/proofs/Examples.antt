@@ -1,4 +1,4 @@
--- What is wrong with bodies, at small values.
+-- The faults of small bodies.
 use Rattle.std.proofs.Common.{◌≡◌, ℕ, zero, suc, true, false, List, [], ◌∷◌, Some, None, refl, codes}
 use Rattle.c_terms.specs.declared.token.TokenKind.{TokenKind}
 use Rattle.c_terms.specs.declared.token.TokenKind.TheVariants as kind
@@ -33,18 +33,18 @@ sign text id at mark = placed kind.Pat text id at mark
 
 -- ---- 201 brackets
 
--- the 201st that opens, where it stands
+-- the 201st bracket that opens, at its place
 one_too_many : deep_from 199 (punct (codes "(") 0 5 ∷ punct (codes "[") 1 6 ∷ []) ≡ Some (TooDeep 6)
 one_too_many = refl
 
 just_enough : deep_from 199 (punct (codes "(") 0 5 ∷ punct (codes ")") 1 6 ∷ punct (codes "{") 2 7 ∷ []) ≡ None
 just_enough = refl
 
--- signs of patterns are no brackets
+-- signs of patterns aren't brackets
 sign_is_none : deep_from 200 (sign (codes "\\(") 0 5 32 ∷ []) ≡ None
 sign_is_none = refl
 
--- it goes before all else that may be wrong: nothing spells this body
+-- it comes before every other fault: nothing spells this body
 abbrev many : ℕ → List Placed
 many zero = []
 many (suc n) = punct (codes "(") 0 n ∷ many n
@@ -54,7 +54,7 @@ brackets_go_first = deep refl
 
 -- ---- what spells no body
 
--- no tokens, also where there are plus lines; the place is the rule's end
+-- no tokens, even if there are plus lines; the place is the rule's end
 no_tokens : IsBodyFault [] 7 (BadPattern 7)
 no_tokens = unspelled refl (λ t cs s. s.body)
 
@@ -62,14 +62,14 @@ no_tokens = unspelled refl (λ t cs s. s.body)
 first_token_s_place : place_in (punct (codes "(") 0 5 ∷ punct (codes "+") 1 6 ∷ []) 7 ≡ 5
 first_token_s_place = refl
 
--- `... when` and nothing behind it
+-- `... when` and nothing after it
 abbrev half_clause : List Placed
 half_clause = placed kind.Dots (codes "...") 0 5 32 ∷ placed kind.Name (codes "when") 1 9 32 ∷ []
 
 half_a_clause : IsBodyFault half_clause 20 (BadPattern 5)
 half_a_clause = unspelled refl (λ t cs s. cc s.clauses)
 
--- a position behind a sign, and behind a name
+-- a position after a sign, and after a name
 position_behind_a_sign : signs_fit (with_position (sign (codes "...>") 0 5 32) ∷ []) ≡ false
 position_behind_a_sign = refl
 
@@ -101,11 +101,11 @@ list ts = Branch label.StmtList ts
 both_ends : edges (list (dots 0 ∷ word 1 ∷ dots 2 ∷ word 3 ∷ dots 4 ∷ [])) ≡ 0 ∷ 4 ∷ []
 both_ends = simp (out-Leaf, out-Branch, edges-Leaf, edges-Branch)
 
--- a nest stands where its first sign does
+-- the place of a nest is that of its first sign
 nest_at_the_end : edges (list (word 0 ∷ Branch label.PatNest (mark 1 ∷ word 2 ∷ mark 3 ∷ []) ∷ [])) ≡ 1 ∷ []
 nest_at_the_end = simp (out-Leaf, out-Branch, edges-Leaf, edges-Branch)
 
--- dots alone between braces are at no edge; alone behind `if (f)`, in a nest or in a branch they are
+-- dots alone between braces aren't at an edge; dots alone after `if (f)`, in a nest or in a branch are
 in_braces : edges (list (Branch label.Block (word 0 ∷ dots 1 ∷ word 2 ∷ []) ∷ [])) ≡ []
 in_braces = simp (out-Branch, edges-Leaf, edges-Branch)
 
@@ -118,7 +118,7 @@ first_in_a_nest = simp out-Leaf
 last_in_a_branch : own_ends label.PatOr (mark 0 ∷ list (word 1 ∷ []) ∷ mark 2 ∷ list (word 3 ∷ dots 4 ∷ []) ∷ mark 5 ∷ []) ≡ 4 ∷ []
 last_in_a_branch = simp (out-Leaf, out-Branch)
 
--- `f(...)`: a member of a list is no statement, and at no edge
+-- `f(...)`: a member of a list isn't a statement, and isn't at an edge
 abbrev call : Tree
 call = Branch label.Call (word 0 ∷ word 1 ∷ Branch label.Args (dots 2 ∷ []) ∷ word 3 ∷ [])
 
@@ -134,7 +134,7 @@ member_at_no_edge = simp (out-Branch, edges-Leaf, edges-Branch)
 abbrev three : List Placed
 three = placed kind.Dots (codes "...") 0 5 45 ∷ placed kind.Dots (codes "...") 1 6 32 ∷ placed kind.Dots (codes "...") 2 7 45 ∷ []
 
--- of dots on `-` lines the first, whatever their order here
+-- the first of the dots on `-` lines, whatever their order here
 first_minus : first_of (minus_dots three (2 ∷ 1 ∷ 0 ∷ [])) ≡ Some (MinusDots 5)
 first_minus = refl
 
@@ -144,6 +144,6 @@ context_is_fine = refl
 nest_on_a_minus_line : minus_signs (sign (codes "<...") 0 5 45 ∷ sign (codes "\\(") 1 6 45 ∷ sign (codes "...>") 2 9 32 ∷ []) ≡ MinusDots 5 ∷ []
 nest_on_a_minus_line = refl
 
--- dots at an edge go before dots on a `-` line that stand earlier
+-- dots at an edge come before earlier dots on a `-` line
 edges_go_first : first_some (first_of (edge_faults three (2 ∷ 1 ∷ []))) (first_of (minus_dots three (0 ∷ []))) ≡ Some (DotsAtEdge 6)
 edges_go_first = refl

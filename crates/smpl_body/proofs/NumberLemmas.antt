@@ -1,6 +1,6 @@
--- The patterns of a tree's elements are numbered one after another.
--- Proof: by induction on the tree. Its elements are made by its form, of the sequences of those children that are parts; each
--- of these begins where the one before it ends.
+-- The patterns of a tree's elements are numbered consecutively.
+-- Proof: by induction on the tree. Its elements are made by its form from the sequences of those children that are parts;
+-- each of these begins where the one before it ends.
 use Rattle.std.proofs.Common.{◌≡◌, ℕ, zero, suc, ◌+◌, refl, sym, ap, ◌∙◌, subst, arith, List, [], ◌∷◌, ◌++◌, map, length, append_assoc, Bool, true, false, if◌then◌else◌, Option, Some, None}
 use Rattle.std.proofs.lemmas.List.{append-nil}
 use Rattle.c_terms.specs.declared.label.Label.{Label}
@@ -88,7 +88,7 @@ some-picked f l n i [] g = tt
 some-picked f l n i (p ∷ ps) g =
     with-part (is_part f l n i p.tree) p (picked f l n (i + 1) ps) g.0 (some-picked f l n (i + 1) ps g.1)
 
--- a row of a form, whose parts are numbered; where the form has none, of no parts
+-- a row of a form whose parts are numbered, or that has no parts if the form has none
 abbrev Parts : Form → List Part → Type 0
 Parts form.Gap ps = ps ≡ []
 Parts form.Expression ps = ps ≡ []
@@ -113,7 +113,7 @@ bare n ps e = ap (λ qs. numbers_from n (1 + total qs + 0)) e
 gone : (n : ℕ) (ps : List Part) → ps ≡ [] → numbers_from n (0 + total ps + 0) ≡ []
 gone n ps e = ap (λ qs. numbers_from n (0 + total qs + 0)) e
 
--- so many in the parts alone; behind one of its own; and one more behind them
+-- this many in the parts alone; after one of its own; and with one more after them
 inner-only : (n k : ℕ) → numbers_from (n + 0) k ≡ numbers_from n (0 + k + 0)
 inner-only n k =
     let a : n + 0 ≡ n = omega arith in let b : k ≡ 0 + k + 0 = omega arith in λ i. numbers_from (a i) (b i)

@@ -1,4 +1,4 @@
--- Tokens have one tree, and a body has one list of elements or one fault.
+-- Tokens have at most one tree, and a body has at most one list of elements and at most one fault.
 use Rattle.std.specs.Prelude.{IsTrue}
 use Rattle.std.proofs.Common.{◌≡◌, refl, List, [], ◌∷◌, inl, inr}
 use Rattle.c_terms.specs.declared.token.Token.{Token}
@@ -13,7 +13,7 @@ use Rattle.smpl_body.specs.declared.reading.Form.{Form}
 use Rattle.smpl_body.specs.declared.reading.Form.TheVariants as form
 use Rattle.smpl_body.specs.Spelled.{IsTree, IsFirst, IsRead, AreRead, code_forms}
 
--- tokens have one tree of a kind
+-- tokens have at most one tree of a kind
 abbrev pub OneTree : Type 0
 OneTree = (kind : Kind) (names : Names) (tokens : List Token) (t u : Tree) → IsTrue (stands_alone kind) → IsTreeOf kind names tokens t → IsTreeOf kind names tokens u → t ≡ u
 

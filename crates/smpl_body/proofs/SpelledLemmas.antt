@@ -1,4 +1,4 @@
--- The trees of a body and of its codes.
+-- The trees of a body and of its pieces of code.
 use Rattle.std.proofs.Common.{◌≡◌, ◌≤◌, ◌<◌, ◌+◌, ℕ, zero, suc, false, true, refl, sym, ap, ◌∙◌, arith, subst, List, [], ◌∷◌, ◌++◌, length, drop, get_or, drop-cons, append_assoc}
 use Rattle.std.proofs.lemmas.List.{append-nil}
 use Rattle.std.proofs.lemmas.Bool.{false≢true}
@@ -12,7 +12,7 @@ use Rattle.smpl_body.specs.Bodies.{Spells, fits}
 use Rattle.smpl_body.specs.SoFar.{WithCodes, AllSpell}
 use Rattle.smpl_body.proofs.OnceLemmas.{OneTree, read-once, all-once}
 
--- ---- codes, one after another
+-- ---- pieces of code, one after another
 
 abbrev pub Into : (now first : List Tree) → (some all : List Code) → Type 0
 Into now first some all = (ts : List Tree) → WithCodes now ts some → WithCodes first ts all
@@ -50,7 +50,7 @@ pub codes-from : (codes : List Code) (i : ℕ) (c : Code) → i < length codes �
 codes-from codes i c lt at from = λ refuted.
     from (λ ts are. rest-none c (drop (i + 1) codes) refuted ts (subst (λ (cs : List Code). AreRead cs ts) (one-more codes i c lt at) are))
 
--- a code that has no tree
+-- a piece of code that has no tree
 pub codes-none : (codes : List Code) (i : ℕ) (c : Code) → i < length codes → c ≡ get_or codes i c → ((t : Tree) → IsRead code_forms c.tokens t → ⊥)
     → From (drop i codes) codes → (ts : List Tree) → AreRead codes ts → ⊥
 codes-none codes i c lt at refuted from =
@@ -62,14 +62,14 @@ drop-all zero (x ∷ xs) h = absurd (omega (arith, h))
 drop-all (suc n) [] h = refl
 drop-all (suc n) (x ∷ xs) h = drop-all n xs (omega (arith, h))
 
--- the codes end
+-- the pieces of code end
 pub codes-end : (codes : List Code) (i : ℕ) (now first : List Tree) → length codes ≤ i → Into now first (drop i codes) codes → WithCodes first now codes
 codes-end codes i now first h into =
     into now (subst (λ (cs : List Code). WithCodes now now cs) (sym (drop-all i codes h)) (record { trees = []; is = sym (append-nil now); are = tt }))
 
 -- ---- the whole
 
--- the body, the codes behind it
+-- the body, and the pieces of code after it
 pub all-spell : (ps : List Placed) (c : Cutting) (t : Tree) (first all : List Tree) → c ≡ cut ps → c.broken ≡ false → IsRead body_forms c.main t
     → first ≡ t ∷ [] → WithCodes first all c.codes → fits ps c all ≡ true → AllSpell ps all
 all-spell ps c t first all e whole body f w fit =

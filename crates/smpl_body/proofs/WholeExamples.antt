@@ -1,4 +1,4 @@
--- Two whole bodies: a name is one pattern, and dots alone stand at an edge.
+-- Two whole bodies: a name is one pattern, and dots alone are at an edge.
 use Rattle.std.proofs.Common.{◌≡◌, ◌≤◌, ℕ, false, arith, refl, sym, ◌∙◌, [], ◌∷◌, inl, inr, codes}
 use Rattle.std.specs.Prelude.{IsTrue}
 use Rattle.c_terms.specs.declared.token.TokenKind.TheVariants as kind

@@ -22,7 +22,7 @@ use Rattle.smpl_body.specs.Deep.{deep_fault}
 use Rattle.smpl_body.specs.Spelled.{body_forms, IsRead, AreRead}
 use Rattle.smpl_body.specs.DotsOf.{list_dots, statement_dots, edges}
 
--- ---- where positions and clauses may stand
+-- ---- where positions and clauses are allowed
 
 abbrev pub some_position : List Variable → Bool
 some_position [] = false
@@ -32,7 +32,7 @@ abbrev pub has_position : Option Placed → Bool
 has_position None = false
 has_position (Some p) = some_position p.positions
 
--- behind none of the tokens of these numbers a position stands
+-- no position follows any of the tokens with these numbers
 abbrev pub without_positions : List Placed → List ℕ → Bool
 without_positions ps ids = list_all (λ id. not (has_position (slice_get ps id))) ids
 
@@ -43,7 +43,7 @@ is_pat _ = false
 abbrev pub sign_fits : Placed → Bool
 sign_fits p = not (is_pat p.token.kind && some_position p.positions)
 
--- no position stands behind a sign
+-- no position follows a sign
 abbrev pub signs_fit : List Placed → Bool
 signs_fit ps = list_all sign_fits ps
 
@@ -55,12 +55,12 @@ abbrev pub says_nothing : Option Said → Bool
 says_nothing None = true
 says_nothing (Some s) = not s.any && not s.strict && no_codes s.codes
 
--- none of the tokens of these numbers has a clause
+-- none of the tokens with these numbers has a clause
 abbrev pub without_clauses : List Said → List ℕ → Bool
 without_clauses said ids = list_all (λ id. says_nothing (slice_get said id)) ids
 
--- A position stands behind no dots that are statements, no sign and no word of a clause. Dots that are members of a list
--- have no clause.
+-- No position follows dots that are statements, a sign, or a word of a clause. Dots that are members of a list have no
+-- clause.
 abbrev pub fits : List Placed → Cutting → List Tree → Bool
 fits ps c ts =
     (signs_fit ps && without_positions ps c.words)
@@ -77,7 +77,7 @@ pub record Spells (ps : List Placed) (tree : Tree) (codes : List Tree) : Type 0 
 
 -- ---- what is wrong with a body
 
--- the place of a body that nothing spells: its first token, or the rule's end
+-- the place that is reported for a body that nothing spells: its first token, or the rule's end
 abbrev pub place_in : List Placed → ℕ → ℕ
 place_in [] end = end
 place_in (p ∷ ps) end = p.at
@@ -90,7 +90,7 @@ abbrev pub sign_of : Option Placed → ℕ
 sign_of None = 0
 sign_of (Some p) = p.sign
 
--- Code in other code stands behind the last token of that code: those dots are at its edge.
+-- Code within other code follows the last token of that code, so those dots are at its edge.
 abbrev pub nested_host : Code → List ℕ
 nested_host c = if c.nested then c.host ∷ [] else []
 
@@ -133,12 +133,12 @@ abbrev pub first_some : Option PatchFault → Option PatchFault → Option Patch
 first_some None g = g
 first_some (Some f) g = Some f
 
--- of a body that these trees spell: dots and nests at edges, and where there are none those on `-` lines
+-- the first fault of a body that these trees spell: dots and nests at edges, or if there are none, those on `-` lines
 abbrev pub tree_fault : List Placed → Cutting → List Tree → Option PatchFault
 tree_fault ps c ts = first_some (first_of (edge_faults ps (all_edges c ts))) (first_of (minus_faults ps ts))
 
--- The first that is wrong with a body of a rule that ends at a place: too many brackets; else that nothing spells it; else
--- what its trees say.
+-- The first fault of the body of a rule that ends at a place: too many brackets; else that nothing spells it; else what its
+-- trees show.
 pub data IsBodyFault (ps : List Placed) (end : ℕ) : PatchFault → Type 0 where
   deep : {f : PatchFault} → deep_fault ps ≡ Some f → IsBodyFault ps end f
   unspelled : deep_fault ps ≡ None → ((t : Tree) (cs : List Tree) → Spells ps t cs → ⊥) → IsBodyFault ps end (BadPattern (place_in ps end))
@@ -147,7 +147,7 @@ pub data IsBodyFault (ps : List Placed) (end : ℕ) : PatchFault → Type 0 wher
 
 -- ---- the elements of a body
 
--- what the clauses of a token say, code aside
+-- what the clauses of a token say, without code
 abbrev pub is_any : Option Said → Bool
 is_any None = false
 is_any (Some s) = s.any
@@ -160,11 +160,11 @@ abbrev pub codes_of : Option Said → List ℕ
 codes_of None = []
 codes_of (Some s) = s.codes
 
--- The clauses in code: there is no code in code where no dots are at an edge.
+-- The clauses within code: if no dots are at an edge, there is no code within code.
 abbrev pub code_dots : List Said → ℕ → Dots
 code_dots said id = roll-Dots (record { whens = []; any = is_any (slice_get said id); strict = is_strict (slice_get said id) })
 
--- the code of this number as elements, the first pattern of which has a number
+-- the code with a given number as elements, whose first pattern has a given number
 abbrev pub code_at : List Said → Option Tree → Option ℕ → List (List Elem)
 code_at said None n = []
 code_at said (Some t) None = []
@@ -181,16 +181,16 @@ body_dots said cs starts id = roll-Dots (record {
   strict = is_strict (slice_get said id);
 })
 
--- the numbers of the first patterns of codes, one code after another
+-- the number of the first pattern of each piece of code, one piece after another
 abbrev pub starts_from : ℕ → List Tree → List ℕ
 starts_from n [] = []
 starts_from n (t ∷ ts) = n ∷ starts_from (n + atoms t) ts
 
--- The elements of a body: its patterns are numbered from 0, and those of the codes of its clauses behind them.
+-- The elements of a body: its patterns are numbered from 0, and those of its clauses' code after them.
 abbrev pub body_elements : List Said → Tree → List Tree → List Elem
 body_elements said t cs = elements (body_dots said cs (starts_from (atoms t) cs)) 0 t
 
--- Nothing is wrong with the body, and these are its elements.
+-- The body has no fault, and these are its elements.
 pub record IsBody (ps : List Placed) (es : List Elem) : Type 0 where
   pub shallow : deep_fault ps ≡ None
   pub tree : Tree

@@ -1,4 +1,4 @@
--- The 201st bracket that is open at once among a rule's pattern tokens, those of `when` code included.
+-- The 201st bracket that is open at once among a rule's pattern tokens, including those of `when` code.
 use Rattle.std.specs.Prelude.{ℕ, ◌≡◌, ◌≤◌, ◌<◌, ◌==◌, if◌then◌else◌, List, [], ◌∷◌, ◌++◌, map, Option, None, Some}
 use Rattle.c_terms.specs.declared.token.Token.{Token}
 use Rattle.c_rows.specs.Depth.{step, opens_of}

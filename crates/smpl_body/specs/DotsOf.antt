@@ -35,7 +35,7 @@ module _ (listed : Bool) where
   dots_step (Tree-F.Leaf t) inside = wanted t inside
   dots_step (Tree-F.Branch l ds) inside = join (map (λ d. d (is_list l)) ds)
 
-  -- the numbers of the dots that are members of a list, or of those that aren't; `inside` is said of the tree itself
+  -- the numbers of the dots that are members of a list, or of those that aren't; `inside` describes the tree itself
   abbrev pub dots_in : Tree → Bool → List ℕ
   dots_in = fold-Tree (Bool → List ℕ) dots_step
 
@@ -63,7 +63,7 @@ gap_in (Tree-F.Leaf t) = if is_dots t.kind then t.id ∷ [] else []
 gap_in (Tree-F.Branch label.PatNest cs) = first_id cs
 gap_in (Tree-F.Branch l cs) = []
 
--- of dots and of a nest the number of the first token, and of anything else none
+-- the number of the first token of dots or of a nest, and nothing for any other tree
 abbrev pub gap : Tree → List ℕ
 gap t = gap_in (out-Tree t)
 
@@ -89,7 +89,7 @@ statements_in (Tree-F.Branch l cs) = []
 abbrev pub statements : Tree → List Tree
 statements t = statements_in (out-Tree t)
 
--- of branches each is a sequence of its own
+-- each branch is a separate sequence
 abbrev pub branch_ends : List Tree → List ℕ
 branch_ends [] = []
 branch_ends (t ∷ ts) = ends (statements t) ++ branch_ends ts
@@ -127,6 +127,6 @@ edged_step (Tree-F.Branch l es) =
 abbrev pub edged : Tree → Edged
 edged = fold-Tree Edged edged_step
 
--- the numbers of the dots and nests at edges of a tree, which is a sequence itself where it is a list of statements
+-- the numbers of the dots and nests at edges of a tree, which is itself a sequence if it is a list of statements
 abbrev pub edges : Tree → List ℕ
 edges t = ends (statements t) ++ (edged t).found

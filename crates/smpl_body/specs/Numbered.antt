@@ -1,4 +1,4 @@
--- The numbers of the patterns of elements in order, those of `when` code aside.
+-- The numbers of the patterns of elements in order, except those of `when` code.
 use Rattle.std.specs.Prelude.{ℕ, zero, suc, ◌+◌, List, [], ◌∷◌, ◌++◌, Option, None, Some}
 use Rattle.smpl_patch.specs.declared.pattern.Pattern.{Pattern}
 use Rattle.smpl_patch.specs.Bodies.{Element, Atom, Compound, Block, Gap, Nest, AnyOf, AllOf, Body, End, Then, Bodies, NoMore, More}
@@ -25,7 +25,7 @@ abbrev mutual
   each_numbers NoMore = []
   each_numbers (More b bs) = numbers b ++ each_numbers bs
 
--- so many numbers, from this one on
+-- this many numbers, starting from this one
 abbrev pub numbers_from : (first count : ℕ) → List ℕ
 numbers_from n zero = []
 numbers_from n (suc count) = n ∷ numbers_from (n + 1) count

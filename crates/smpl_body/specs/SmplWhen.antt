@@ -1,4 +1,4 @@
 -- Definitions of smpl_when.
--- What public contracts rest on, in reading order: the grammar of clauses, and how a body is cut token by token.
+-- What public contracts rest on, in reading order: the grammar of clauses, and how a body is split token by token.
 pub mod Grammar
 pub mod Cutting

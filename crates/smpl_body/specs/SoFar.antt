@@ -1,4 +1,4 @@
--- What is kept while trees are read: the body's tree first, then those of the codes.
+-- What is kept while trees are read: the body's tree first, then those of the pieces of code.
 use Rattle.std.specs.Prelude.{◌≡◌, ⊤, List, [], ◌∷◌, ◌++◌}
 use Rattle.c_terms.specs.declared.tree.Tree.{Tree}
 use Rattle.smpl_meta.specs.declared.patterns.Placed.{Placed}
@@ -8,7 +8,7 @@ use Rattle.smpl_patch.specs.declared.elem.Elem.{Elem}
 use Rattle.smpl_body.specs.declared.smpl_when.clauses.Said.{Said}
 use Rattle.smpl_body.specs.Bodies.{Spells, body_elements}
 
--- behind the trees before stand those of the codes
+-- the trees of the pieces of code follow the trees before
 pub record WithCodes (before all : List Tree) (codes : List Code) : Type 0 where
   pub trees : List Tree
   pub is : all ≡ before ++ trees
@@ -21,7 +21,7 @@ pub record AllSpell (ps : List Placed) (all : List Tree) : Type 0 where
   pub is : all ≡ body ∷ codes
   pub spells : Spells ps body codes
 
--- the elements, where there is a first tree
+-- the elements, if there is a first tree
 abbrev pub IsMade : List Said → List Tree → List Elem → Type 0
 IsMade said [] es = ⊤
 IsMade said (t ∷ cs) es = es ≡ body_elements said t cs

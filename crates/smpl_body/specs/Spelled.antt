@@ -1,4 +1,4 @@
--- Which tree spells tokens: the first that there is of an expression, statements and, for a body, one function.
+-- Which tree spells tokens: the first that exists of an expression, statements and, for a body, one function.
 use Rattle.std.specs.Prelude.{◌≡◌, ◌≤◌, ⊤, Bool, true, false, List, [], ◌∷◌, ◌⊎◌}
 use Rattle.c_terms.specs.declared.token.Token.{Token}
 use Rattle.c_terms.specs.declared.label.Label.TheVariants as label
@@ -33,7 +33,7 @@ IsOfForm form.Expression t = ⊤
 IsOfForm form.Statements t = ⊤
 IsOfForm form.Function t = is_function t ≡ true
 
--- A tree of this form spells the tokens, all of them, under the listed names of types. They open at most 200 brackets.
+-- A tree of this form spells all of the tokens with the listed names of types. They have at most 200 brackets open at once.
 pub record IsTree (form : Form) (tokens : List Token) (t : Tree) : Type 0 where
   pub shallow : opens_of tokens ≤ most_open
   pub spells : IsTreeOf (kind_of form) listed_names tokens t
@@ -42,7 +42,7 @@ pub record IsTree (form : Form) (tokens : List Token) (t : Tree) : Type 0 where
 abbrev pub NoTree : Form → List Token → Type 0
 NoTree form tokens = (t : Tree) → IsTree form tokens t → ⊥
 
--- the tree is of the first of these forms of which a tree spells the tokens
+-- the tree has the first of these forms in which a tree spells the tokens
 abbrev pub IsFirst : List Form → List Token → Tree → Type 0
 IsFirst [] tokens t = ⊥
 IsFirst (f ∷ fs) tokens t = IsTree f tokens t ⊎ (NoTree f tokens × IsFirst fs tokens t)
@@ -53,12 +53,12 @@ body_forms = form.Expression ∷ form.Statements ∷ form.Function ∷ []
 abbrev pub code_forms : List Form
 code_forms = form.Expression ∷ form.Statements ∷ []
 
--- the same, where there is a token
+-- the same, and there is a token
 abbrev pub IsRead : List Form → List Token → Tree → Type 0
 IsRead forms [] tree = ⊥
 IsRead forms (t ∷ ts) tree = IsFirst forms (t ∷ ts) tree
 
--- each code has a tree
+-- each piece of code has a tree
 abbrev pub AreRead : List Code → List Tree → Type 0
 AreRead [] [] = ⊤
 AreRead [] (t ∷ ts) = ⊥

@@ -1,4 +1,4 @@
-// A body: its elements, or the first that is wrong with it.
+// A body: its elements, or its first fault.
 ghost use Rattle.std.specs.Prelude.{◌≡◌, ◌∷◌, ◌<◌, length, IfOk, IfErr};
 ghost use Rattle.smpl_lexer.specs.Texts.{OrNoMemory};
 ghost use Rattle.smpl_body.specs.Bodies as told;
@@ -17,7 +17,7 @@ use smpl_patch::{Elem, PatchFault};
 use sqlite_items::Items;
 use std::alloc::Global;
 
-/// The place of a body that nothing spells: its first token, or the rule's end.
+/// Returns the place that is reported for a body that nothing spells: its first token, or the rule's end.
 fn place_in(placed: &[Placed], end: u32) -> u32
     ensures { result ≡ told.place_in placed.now end }
 {
@@ -27,7 +27,7 @@ fn place_in(placed: &[Placed], end: u32) -> u32
     }
 }
 
-/// The elements of a body by its tree and those of the codes of its clauses.
+/// Returns the elements of a body, given its tree and the trees of the code of its clauses.
 fn body_elements(alloc: Global, said: &Clauses, trees: &[Tree]) -> Result<Items<Elem>, NoMemory>
     ensures { IfOk result (λ es. IsMade said.now trees.now es) }
 {
@@ -47,7 +47,7 @@ fn body_elements(alloc: Global, said: &Clauses, trees: &[Tree]) -> Result<Items<
     }
 }
 
-/// The elements of a body, or its first fault.
+/// Returns the elements of a body, or its first fault.
 pub(crate) fn read(alloc: Global, placed: &[Placed], end: u32) -> Result<Items<Elem>, PatchFault>
     ensures body { IfOk result (λ es. IsBody placed.now es) }
     ensures fault { IfErr result (λ fault. OrNoMemory (IsBodyFault placed.now end) fault) }

@@ -38,7 +38,7 @@ fn codes_of<'a>(found: Option<&'a Said>) -> &'a [usize]
     }
 }
 
-/// The clauses in code.
+/// The clauses within code.
 #[derive(Drop)]
 struct CodeDots<'a> {
     said: &'a Clauses,
@@ -59,7 +59,7 @@ impl<'a> DotsSource for CodeDots<'a> {
     }
 }
 
-/// The clauses of a body, the trees of their codes, and the numbers of the first patterns of these.
+/// The clauses of a body, the trees of their pieces of code, and the number of the first pattern of each of these.
 #[derive(Drop)]
 pub(crate) struct BodyDots<'a> {
     pub(crate) said: &'a Clauses,
@@ -67,7 +67,7 @@ pub(crate) struct BodyDots<'a> {
     pub(crate) starts: &'a [u32],
 }
 
-/// Puts the code of a clause as elements.
+/// Adds the code of a clause as elements.
 fn put_code(
     alloc: Global,
     said: &Clauses,
@@ -92,7 +92,7 @@ fn put_code(
     Ok(whens)
 }
 
-/// The codes of these numbers as elements.
+/// Returns the pieces of code with these numbers as elements.
 fn whens_of(
     alloc: Global,
     said: &Clauses,
@@ -124,14 +124,14 @@ impl<'a> DotsSource for BodyDots<'a> {
     }
 }
 
-/// The number of the first pattern after those of a tree, where a `u32` counts so far.
+/// Returns the number of the first pattern after those of a tree, if it fits in a `u32`.
 fn after_atoms(first: u32, tree: &Tree) -> Option<u32>
     ensures { IfSome result (λ next. next ≡ first + atoms tree.now) }
 {
     first.checked_add(count_atoms(tree)?)
 }
 
-/// The numbers of the first patterns of codes, the first of which begins with this number.
+/// Returns the number of the first pattern of each piece of code. The first piece begins at the given number.
 pub(crate) fn starts_from(alloc: Global, first: u32, trees: &[Tree]) -> Result<Items<u32>, NoMemory>
     ensures { IfOk result (λ starts. starts ≡ told.starts_from first trees.now) }
 {

@@ -8,7 +8,7 @@ use c_terms::Token;
 use smpl_meta::Placed;
 use smpl_patch::PatchFault;
 
-/// Brackets that may be open at once.
+/// The number of brackets that may be open at once.
 const MOST_OPEN: usize = 200;
 
 fn is(text: &[u8], word: &[u8]) -> bool
@@ -17,7 +17,7 @@ fn is(text: &[u8], word: &[u8]) -> bool
     text == word
 }
 
-/// The depth behind a token.
+/// Returns the depth after a token.
 fn depth_after(token: &Token, depth: usize) -> usize
     requires { depth ≤ 200 }
     ensures value { result ≡ step token.now depth }
@@ -33,7 +33,7 @@ fn depth_after(token: &Token, depth: usize) -> usize
     }
 }
 
-/// The fault of the 201st open bracket, if there is one. Linear; takes no memory.
+/// Returns the fault of the 201st open bracket, if there is one. Linear. Takes no memory.
 pub(crate) fn deep_fault(placed: &[Placed]) -> Option<PatchFault>
     ensures { result ≡ told.deep_fault placed.now }
 {

@@ -32,7 +32,7 @@ fn is_wanted(listed: bool, inside: bool) -> bool
     if listed { inside } else { !inside }
 }
 
-/// Puts the number of a token that is such dots.
+/// Adds the number of the token if it is dots of the wanted kind.
 fn put_wanted(
     token: &Token,
     listed: bool,
@@ -48,7 +48,7 @@ fn put_wanted(
     Ok(())
 }
 
-/// Puts the numbers of the dots that are members of a list, or of those that are not.
+/// Adds the numbers of the dots that are members of a list, or of the dots that aren't.
 fn put_dots(tree: &Tree, listed: bool, inside: bool, found: &mut Items<u64>) -> Result<(), NoMemory>
     ensures { OnOk result (found.new ≡ found.old ++ told.dots_in listed tree.now inside) }
 {
@@ -64,7 +64,8 @@ fn put_dots(tree: &Tree, listed: bool, inside: bool, found: &mut Items<u64>) -> 
     }
 }
 
-/// The numbers of the dots of trees that are members of a list of arguments or parameters. Linear. Recurses once a level.
+/// Returns the numbers of the dots in trees that are members of a list of arguments or parameters. Linear. Recurses once
+/// per level.
 pub(crate) fn list_dots(alloc: Global, trees: &[Tree]) -> Result<Items<u64>, NoMemory>
     ensures { IfOk result (λ ids. ids ≡ join (map told.list_dots trees.now)) }
 {
@@ -75,7 +76,7 @@ pub(crate) fn list_dots(alloc: Global, trees: &[Tree]) -> Result<Items<u64>, NoM
     Ok(found)
 }
 
-/// The numbers of the dots of trees that are statements. Linear. Recurses once a level.
+/// Returns the numbers of the dots in trees that are statements. Linear. Recurses once per level.
 pub(crate) fn statement_dots(alloc: Global, trees: &[Tree]) -> Result<Items<u64>, NoMemory>
     ensures { IfOk result (λ ids. ids ≡ join (map told.statement_dots trees.now)) }
 {

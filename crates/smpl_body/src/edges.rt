@@ -10,7 +10,7 @@ use c_terms::{Label, NoMemory, Tree};
 use sqlite_items::Items;
 use std::alloc::Global;
 
-/// Puts the number of a child that is a token.
+/// Adds the number of the first child, if it is a token.
 fn put_first_id(children: &[Tree], found: &mut Items<u64>) -> Result<(), NoMemory>
     ensures { OnOk result (found.new ≡ found.old ++ told.first_id children.now) }
 {
@@ -23,7 +23,7 @@ fn put_first_id(children: &[Tree], found: &mut Items<u64>) -> Result<(), NoMemor
     }
 }
 
-/// Puts the number of the first token of dots or of a nest.
+/// Adds the number of the first token, if the tree is dots or a nest.
 fn put_gap(tree: &Tree, found: &mut Items<u64>) -> Result<(), NoMemory>
     ensures { OnOk result (found.new ≡ found.old ++ told.gap tree.now) }
 {
@@ -58,7 +58,7 @@ fn put_last(trees: &[Tree], found: &mut Items<u64>) -> Result<(), NoMemory>
     }
 }
 
-/// Puts the dots and nests that are first or last in a sequence.
+/// Adds the dots and nests that are first or last in a sequence.
 fn put_ends(trees: &[Tree], found: &mut Items<u64>) -> Result<(), NoMemory>
     ensures { OnOk result (found.new ≡ found.old ++ told.ends trees.now) }
 {
@@ -66,7 +66,7 @@ fn put_ends(trees: &[Tree], found: &mut Items<u64>) -> Result<(), NoMemory>
     put_last(trees, found)
 }
 
-/// The statements of a list of statements.
+/// Returns the statements of a list of statements.
 fn statements(tree: &Tree) -> &[Tree]
     ensures { result.now ≡ told.statements tree.now }
 {
@@ -95,7 +95,7 @@ fn put_body_ends(trees: &[Tree], found: &mut Items<u64>) -> Result<(), NoMemory>
     Ok(())
 }
 
-/// All but the first and the last.
+/// Returns all trees but the first and the last.
 fn inner(trees: &[Tree]) -> &[Tree]
     ensures { result.now ≡ told.inner trees.now }
 {
@@ -115,7 +115,7 @@ fn put_head_ends(is_head: bool, trees: &[Tree], found: &mut Items<u64>) -> Resul
     }
 }
 
-/// Puts the edges of the sequences that are parts of a branch.
+/// Adds the edges of the sequences that are parts of a branch.
 fn put_own_ends(label: Label, trees: &[Tree], found: &mut Items<u64>) -> Result<(), NoMemory>
     ensures { OnOk result (found.new ≡ found.old ++ told.own_ends label trees.now) }
 {
@@ -127,7 +127,7 @@ fn put_own_ends(label: Label, trees: &[Tree], found: &mut Items<u64>) -> Result<
     }
 }
 
-/// Puts the dots and nests at edges within a tree.
+/// Adds the dots and nests at edges within a tree.
 fn put_edged(tree: &Tree, found: &mut Items<u64>) -> Result<(), NoMemory>
     ensures { OnOk result (found.new ≡ found.old ++ (told.edged tree.now).found) }
 {
@@ -150,7 +150,7 @@ fn put_edges(tree: &Tree, found: &mut Items<u64>) -> Result<(), NoMemory>
     put_edged(tree, found)
 }
 
-/// Puts the token that has the code, where that is in other code.
+/// Adds the token that has the code, if that token is in other code.
 fn put_host(code: &Code, found: &mut Items<u64>) -> Result<(), NoMemory>
     ensures { OnOk result (found.new ≡ found.old ++ nested_host code.now) }
 {
@@ -161,7 +161,7 @@ fn put_host(code: &Code, found: &mut Items<u64>) -> Result<(), NoMemory>
     Ok(())
 }
 
-/// Puts the tokens that have code in other code.
+/// Adds the tokens that are in code and have code of their own.
 fn put_nested(codes: &[Code], found: &mut Items<u64>) -> Result<(), NoMemory>
     ensures { OnOk result (found.new ≡ found.old ++ nested_hosts codes.now) }
 {
@@ -171,8 +171,8 @@ fn put_nested(codes: &[Code], found: &mut Items<u64>) -> Result<(), NoMemory>
     Ok(())
 }
 
-/// The numbers of the dots and nests at edges: those that have code in other code, and those of the trees. Linear.
-/// Recurses once a level.
+/// Returns the numbers of the dots and nests at edges: those that are in code and have code of their own, and those of the
+/// trees. Linear. Recurses once per level.
 pub(crate) fn all_edges(
     alloc: Global,
     codes: &[Code],

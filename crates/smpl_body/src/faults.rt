@@ -1,4 +1,4 @@
-// What is wrong with a body that trees spell.
+// The faults of a body that trees spell.
 ghost use Rattle.std.specs.Prelude.{◌≡◌, ◌++◌, slice_get, IfOk};
 ghost use Rattle.std.specs.Option.{option_copied};
 ghost use Rattle.smpl_patch.specs.Faults.{first_of, first_from};
@@ -43,7 +43,7 @@ fn edge_fault(placed: &[Placed], ids: &[u64]) -> Option<PatchFault>
     first
 }
 
-/// With dots of this number.
+/// Returns the first of the fault so far and the fault of the dots with this number.
 fn with_dots(placed: &[Placed], first: Option<PatchFault>, id: u64) -> Option<PatchFault>
     ensures { result ≡ first_from first (told.minus_dot placed.now id) }
 {
@@ -55,7 +55,7 @@ fn with_dots(placed: &[Placed], first: Option<PatchFault>, id: u64) -> Option<Pa
     }
 }
 
-/// With dots that are statements, on `-` lines.
+/// Returns the first fault of dots that are statements on `-` lines.
 fn with_all_dots(placed: &[Placed], ids: &[u64]) -> Option<PatchFault>
     ensures { result ≡ first_of (told.minus_dots placed.now ids.now) }
 {
@@ -87,7 +87,7 @@ fn with_sign(first: Option<PatchFault>, p: &Placed) -> Option<PatchFault>
     }
 }
 
-/// With signs of nests on `-` lines.
+/// Returns the first of the fault so far and the faults of signs of nests on `-` lines.
 fn with_signs(placed: &[Placed], first: Option<PatchFault>) -> Option<PatchFault>
     ensures { result ≡ first_from first (told.minus_signs placed.now) }
 {
@@ -104,8 +104,8 @@ fn minus_fault(placed: &[Placed], ids: &[u64]) -> Option<PatchFault>
     with_signs(placed, with_all_dots(placed, ids))
 }
 
-/// The first that is wrong with a body that these trees spell: dots and nests at edges go before those on `-` lines.
-/// Linear.
+/// Returns the first fault of a body that these trees spell. Faults of dots and nests at edges come before those on `-`
+/// lines. Linear.
 pub(crate) fn tree_fault(
     alloc: Global,
     placed: &[Placed],

@@ -1,4 +1,4 @@
-// Where positions and clauses may stand.
+// Where positions and clauses are allowed.
 ghost use Rattle.std.specs.Prelude.{◌≡◌, slice_get, IfOk};
 ghost use Rattle.std.specs.Option.{option_copied};
 ghost use Rattle.smpl_body.specs.Bodies as told;
@@ -19,7 +19,7 @@ fn has_position(found: Option<&Placed>) -> bool
     }
 }
 
-/// Behind none of the tokens of these numbers a position stands.
+/// Whether no position follows any of the tokens with these numbers.
 fn without_positions(placed: &[Placed], ids: &[u64]) -> bool
     ensures { result ≡ told.without_positions placed.now ids.now }
 {
@@ -46,7 +46,7 @@ fn sign_fits(p: &Placed) -> bool
     !(is_pat(p.token.kind) && has_position(Some(p)))
 }
 
-/// No position stands behind a sign.
+/// Whether no position follows a sign.
 fn signs_fit(placed: &[Placed]) -> bool
     ensures { result ≡ told.signs_fit placed.now }
 {
@@ -67,7 +67,7 @@ fn says_nothing(found: Option<&Said>) -> bool
     }
 }
 
-/// None of the tokens of these numbers has a clause.
+/// Whether none of the tokens with these numbers has a clause.
 fn without_clauses(said: &Clauses, ids: &[u64]) -> bool
     ensures { result ≡ told.without_clauses said.now ids.now }
 {
@@ -79,8 +79,8 @@ fn without_clauses(said: &Clauses, ids: &[u64]) -> bool
     true
 }
 
-/// No position stands behind dots that are statements, a sign or a word of a clause, and dots that are members of a list
-/// have no clause. Linear.
+/// Whether no position follows dots that are statements, a sign, or a word of a clause, and no dots that are members of a
+/// list have a clause. Linear.
 pub(crate) fn fits(
     alloc: Global,
     placed: &[Placed],

@@ -1,4 +1,4 @@
-// Laws of bodies: functions whose clauses hold, and that do nothing.
+// Laws of bodies: functions whose contracts hold, and that do nothing.
 ghost use Rattle.std.specs.Prelude.{◌≡◌, ◌≤◌, ◌↔◌, ℕ, List, [], None, Some};
 ghost use Rattle.c_terms.specs.declared.tree.Tree.{Tree as Term};
 ghost use Rattle.c_rows.specs.Depth.{opens_of};
@@ -16,7 +16,7 @@ ghost use Rattle.smpl_body.specs.Numbered.{numbers, numbers_from};
 
 use c_expr::ranges_have_one_tree;
 
-/// A body has one list of elements or one fault, and not both. Does nothing.
+/// A body has at most one list of elements, at most one fault, and never both. Does nothing.
 pub fn bodies_are_read_once()
     ensures body { (ps : List Word) (one other : List Part) → IsBody ps one → IsBody ps other → one ≡ other }
     ensures fault { (ps : List Word) (end : ℕ) (one other : Fault) → IsBodyFault ps end one →
@@ -27,19 +27,19 @@ pub fn bodies_are_read_once()
     ranges_have_one_tree();
 }
 
-/// A body has more than 200 brackets open at once exactly where the parser's count says so, and the fault is at the first
-/// token that makes it so. Does nothing.
+/// A body has more than 200 brackets open at once exactly if the parser's count says so, and the fault is at the first
+/// token that exceeds the limit. Does nothing.
 pub fn brackets_are_counted()
     ensures count { (ps : List Word) → (deep_fault ps ≡ None) ↔ (opens_of (tokens ps) ≤ most_open) }
     ensures first { (ps : List Word) (fault : Fault) → deep_fault ps ≡ Some fault → IsFirstTooMany ps fault }
 {}
 
-/// Where a body is read, no clause has code in the code of another. Does nothing.
+/// If a body is read, no clause has code within the code of another. Does nothing.
 pub fn code_has_no_code()
     ensures { (ps : List Word) (es : List Part) → IsBody ps es → nested_hosts (cut ps).codes ≡ [] }
 {}
 
-/// The patterns of a tree's elements are numbered in their order, with no number left out, those of `when` code aside. Does
+/// The patterns of a tree's elements, except those of `when` code, are numbered in order, with no number left out. Does
 /// nothing.
 pub fn patterns_are_numbered()
     ensures { (tree : Term) (gap : ℕ → Gap) (first : ℕ) →

@@ -1,18 +1,19 @@
 //! Reads the bodies of rules: their pattern tokens become elements.
 //!
-//! - [`read_body`] answers a rule's body as elements, or the first fault of it.
+//! - [`read_body`] returns a rule's body as elements, or its first fault.
 //! - [`bodies_are_read_once`], [`brackets_are_counted`], [`code_has_no_code`] and [`patterns_are_numbered`] are laws: their
-//!   clauses hold, and they do nothing.
+//!   contracts hold, and calling them does nothing.
 //!
-//! A body is an expression where it can be one, else statements, else one function. Code behind `when !=` is an expression
-//! or statements. The faults are, in this order: more than 200 brackets open at once; nothing spells the body, or a `when`
-//! is malformed; dots or a nest first or last in a sequence; dots that are statements, or a sign of a nest, on a `-` line.
+//! A body is read as an expression if it can be one, else as statements, else as one function. Code after `when !=` is an
+//! expression or statements. The faults are, in this order: more than 200 brackets are open at once; nothing spells the
+//! body, or a `when` is malformed; dots or a nest are first or last in a sequence; dots that are statements, or a sign of a
+//! nest, are on a `-` line.
 //!
 //! The three lines `f();`, `... when != g(x)` and `h();` are an atom, a gap with one piece of code, and an atom.
 //!
 //! Its folders:
 //!
-//! - `smpl_when`: Cuts the body of a rule into its own tokens and its `when` clauses.
+//! - `smpl_when`: Splits the body of a rule into its own tokens and its `when` clauses.
 //! - `smpl_elem`: Reads the trees of patterns as elements of bodies.
 #![tactic(auto)]
 
@@ -46,9 +47,9 @@ pub use smpl_when::{OpenCode, Where, bodies_are_parted_once, own_tokens_are_main
 use sqlite_items::Items;
 use std::alloc::Global;
 
-/// The elements of a rule's body, or its first fault. Linear in the body, but that behind each `(` and `,` what may be a
-/// type is read beforehand, as the parser of c_expr says. Recurses once a level of the body's trees, of which there are at
-/// most 1,000.
+/// Returns the elements of a rule's body, or its first fault. Linear in the body, except that after each `(` and `,` the
+/// parser first reads what may be a type, as c_expr describes. Recurses once per level of the body's trees, of which there
+/// are at most 1,000.
 pub fn read_body(
     alloc: Global,
     text: &PatchText,

@@ -10,7 +10,7 @@ use c_rows::Kind;
 use c_terms::{Label, Names, NoMemory, Token, Tree};
 use std::alloc::Global;
 
-/// What a body may be, in the order in which it is tried.
+/// The forms that a body can have, in the order in which they are tried.
 #[derive(Clone, Copy, Debug, PartialEq, Eq)]
 pub enum Form {
     Expression,
@@ -38,7 +38,7 @@ fn kind_of(form: Form) -> Kind
     }
 }
 
-/// The tree, where it is of the form: an item may also be a declaration.
+/// Returns the tree if it has the form: an item may be a declaration rather than a function.
 fn of_form(form: Form, tree: Tree) -> Option<Tree>
     ensures { MatchOption result (told.IsOfForm form tree → ⊥) (λ t. (t ≡ tree) × told.IsOfForm form tree) }
 {
@@ -49,7 +49,7 @@ fn of_form(form: Form, tree: Tree) -> Option<Tree>
     }
 }
 
-/// The one tree of the form that spells the tokens, if there is one.
+/// Returns the one tree of the form that spells the tokens, if there is one.
 fn read_form(
     alloc: Global,
     form: Form,
@@ -67,7 +67,7 @@ fn read_form(
     }
 }
 
-/// The tree of the first of the forms that spells the tokens, if there is one.
+/// Returns the tree of the first of the forms that spells the tokens, if there is one.
 fn read_first(
     alloc: Global,
     forms: &[Form],
@@ -88,7 +88,7 @@ fn read_first(
     Ok(None)
 }
 
-/// The same, where there is a token.
+/// Like [`read_first`], but returns `None` if there is no token.
 pub(crate) fn read_tokens(
     alloc: Global,
     forms: &[Form],

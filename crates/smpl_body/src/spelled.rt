@@ -33,7 +33,7 @@ fn read_code(alloc: Global, names: &Names, tokens: &[Token]) -> Result<Option<Tr
     read_tokens(alloc, &forms, names, tokens)
 }
 
-/// Puts the trees of codes behind those before. None where a code has none.
+/// Appends the trees of pieces of code to those before. `None` if a piece has no tree.
 fn put_codes(
     alloc: Global,
     names: &Names,
@@ -54,7 +54,7 @@ fn put_codes(
     Ok(Some(trees))
 }
 
-/// The trees of a body and of the code of its clauses, the body's first, if there are any that spell them.
+/// Returns the trees that spell a body and the code of its clauses, the body's first, if there are such trees.
 pub(crate) fn spelled(
     alloc: Global,
     placed: &[Placed],

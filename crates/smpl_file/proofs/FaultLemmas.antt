@@ -17,7 +17,7 @@ pub or-map : (P Q : PatchFault → Type 0) (f : PatchFault) → ((g : PatchFault
 or-map P Q f k (inl e) = inl e
 or-map P Q f k (inr p) = inr (k f p)
 
--- what is asked of a fault of the last phase
+-- what a fault of the last phase must satisfy
 pub checked-fault : (patch : Patch) (f : PatchFault) → IsFaultOf patch f → OrNoMemory (λ g. first_fault patch ≡ Some g) f
 checked-fault patch fault.NoMemory h = inl refl
 checked-fault patch fault.PatchTooLong h = inr h

@@ -1,4 +1,4 @@
--- Bytes spell one patch, and then nothing is wrong with what they spell.
+-- Bytes spell at most one patch, and then what they spell has no fault.
 use Rattle.std.proofs.Common.{◌≡◌, ℕ, zero, suc, ◌+◌, ◌<◌, List, [], ◌∷◌, ◌++◌, length, take, Some, None, refl, sym, ap, ◌∙◌, subst, arith, slice_get, append_assoc}
 use Rattle.std.specs.Prelude.{IfSome}
 use Rattle.std.proofs.lemmas.List.{append-nil}
@@ -85,7 +85,7 @@ module _ (plus : PlusOnce) (bodies : BodyOnce) where
   rules-once known n (r ∷ rs) (h ∷ hs) (x ∷ xs) (y ∷ ys) a b =
       ap (λ (z : Rule). z ∷ xs) (rule-once known n r h x y a.0 b.0) ∙ ap (λ (zs : List Rule). y ∷ zs) (rules-once known (suc n) rs hs xs ys a.1 b.1)
 
--- the rule of a number, with its text and its head
+-- the rule with a given number, with its text and its head
 record Read (known : List Variable) (n k : ℕ) (rs : List RuleText) (hs : List RuleHead) : Type 0 where
   pub text : RuleText
   pub head : RuleHead
@@ -123,7 +123,7 @@ module _ (plus : PlusApart) (bodies : BodyApart) where
 
 -- ---- heads
 
--- the head of a number, and those before it
+-- the head with a given number, and those before it
 record HeadAt (text : PatchText) (earlier : List RuleHead) (k : ℕ) (rs : List RuleText) : Type 0 where
   pub front : List RuleHead
   pub rule : RuleText
@@ -165,7 +165,7 @@ heads-apart once apart text heads f go are w =
 -- ---- patches
 
 module _ (text : TextOnce) (go : TextGoesOn) (heads : HeadsOnce) where
-  -- under the text and the heads of the one
+  -- with the text and the heads of the first patch
   moved : (bytes : List ℕ) (one other : Patch) (a : IsSpelled bytes one) → IsSpelled bytes other → AreRulesOf a.text a.heads other
   moved bytes one other a b =
       let e = text bytes b.text a.text b.is_text a.is_text in

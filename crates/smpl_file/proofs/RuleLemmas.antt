@@ -104,7 +104,7 @@ body-short text i small within =
     let P : Option RuleText → Type 0 = λ o. IfSome o (λ r. length r.body < 2 ^ 32) in
     subst P (sym at.1) (short_by most_bytes at.0 (lit< tt) is.lines)
 
--- what holds of the rule of a number
+-- what holds of the rule with a given number
 pub of-some : {A : Type 0} (P : A → Type 0) (o : Option A) (x : A) → o ≡ Some x → IfSome o P → P x
 of-some {A} P o x e h = let Q : Option A → Type 0 = λ k. IfSome k P in subst Q e h
 

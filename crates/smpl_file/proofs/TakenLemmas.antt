@@ -23,7 +23,7 @@ or_assoc : (a b c : Bool) → (a || b) || c ≡ a || (b || c)
 or_assoc true b c = refl
 or_assoc false b c = refl
 
--- keys are the same where their variables are
+-- keys are the same if their variables are
 key-same : (a b : Key) → same_key a b ≡ same_var b.var a.var
 key-same a b = ap (λ (q : Bool). eqb a.var.rule b.var.rule && q) (pointwise-same a.var.name b.var.name) ∙ same_var-sym a.var b.var
 
@@ -43,7 +43,7 @@ put_more keys k y = by (list_any (same_key k) keys) refl
     by true h = known (sym (looked_up keys k) ∙ h) (same_var k.var y) refl
     by false h = list_any-append (λ q. same_var q.var y) keys (k ∷ []) ∙ ap (λ (b : Bool). has_key keys y || b) (or_false (same_var k.var y))
 
--- one more variable of a list is put in
+-- one more variable of a list is added
 pub set_step : (vars : List Variable) (i : ℕ) (x y : Variable) (keys more : List Key) → i < length vars → x ≡ get_or vars i x
     → has_key more y ≡ has_key keys y || same_var x y → has_key keys y || has_var (drop i vars) y ≡ has_var vars y
     → has_key more y || has_var (drop (i + 1) vars) y ≡ has_var vars y

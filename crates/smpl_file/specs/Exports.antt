@@ -6,7 +6,7 @@ use Rattle.smpl_terms.specs.Vars.{same_var}
 use Rattle.smpl_patch.specs.declared.pattern.VarDecl.{VarDecl}
 use Rattle.smpl_meta.specs.declared.head.RuleHead.{RuleHead}
 
--- what a declaration takes from other rules: the variable, where it is inherited, and the positions behind its `!=`
+-- what a declaration takes from other rules: the variable, if it is inherited, and the positions after its `!=`
 abbrev pub taken_by : VarDecl → List Variable
 taken_by d = (if d.inherited then d.var ∷ [] else []) ++ d.not_places
 
@@ -19,7 +19,7 @@ abbrev pub taken : List RuleHead → List Variable
 taken [] = []
 taken (h ∷ hs) = taken_by_all h.vars ++ taken hs
 
--- what the rule of a number takes
+-- what the rule with a given number takes
 abbrev pub taken_of : Option RuleHead → List Variable
 taken_of None = []
 taken_of (Some h) = taken_by_all h.vars
@@ -30,11 +30,11 @@ taken_at heads rule = taken_of (slice_get heads rule)
 abbrev pub has_var : List Variable → Variable → Bool
 has_var vs x = list_any (λ v. same_var v x) vs
 
--- an own variable that is among these
+-- one of the rule's own variables that is among these
 abbrev pub is_exported : List Variable → VarDecl → Bool
 is_exported vs d = not d.inherited && has_var vs d.var
 
--- the own variables of a rule that are among those that rules take, in declared order
+-- the rule's own variables that are among those that rules take, in declared order
 abbrev pub exports_of : List Variable → List VarDecl → List Variable
 exports_of vs [] = []
 exports_of vs (d ∷ ds) = if is_exported vs d then d.var ∷ exports_of vs ds else exports_of vs ds

@@ -1,4 +1,4 @@
--- For inside use: variables as keys of a set.
+-- For internal use: variables as keys of a set.
 use Rattle.std.specs.Prelude.{Bool, nat_eq, ◌++◌, List}
 use Rattle.std.specs.List.{list_any}
 use Rattle.std.specs.Ordering.{on, eq_of_both}

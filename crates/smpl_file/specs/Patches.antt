@@ -1,4 +1,4 @@
--- What patch a text spells, and the first that is wrong with it.
+-- What patch a text spells, and its first fault.
 use Rattle.std.specs.Prelude.{ℕ, suc, ◌≡◌, ◌<◌, ⊤, List, [], ◌∷◌, length, take, slice_get, Some, None, IfSome}
 use Rattle.smpl_patch.specs.declared.rule.Rule.{Rule}
 use Rattle.smpl_patch.specs.declared.rule.Patch.{Patch}
@@ -19,7 +19,7 @@ use Rattle.smpl_file.specs.Exports.{taken, exports_of}
 
 -- ---- rules
 
--- a head, what stands at the tokens of patterns, and a body, where rules take these variables
+-- the rule made of a head, what is at the tokens of patterns, and a body, if rules take these variables
 abbrev pub made : RuleHead → List Variable → List PatToken → List Elem → Rule
 made h known tokens body = record {
   name = h.name;
@@ -31,8 +31,7 @@ made h known tokens body = record {
   tokens = tokens;
 }
 
--- The rule of a number, of a text and a head, where rules take these variables: nothing is wrong with its plus code and its
--- body.
+-- The rule with this number, text and head, if rules take these variables: its plus code and its body have no fault.
 pub record IsRule (known : List Variable) (number : ℕ) (r : RuleText) (h : RuleHead) (rule : Rule) : Type 0 where
   pub name : rule.name ≡ h.name
   pub depends : rule.depends ≡ h.depends
@@ -48,13 +47,13 @@ AreRules known n [] [] [] = ⊤
 AreRules known n (r ∷ rs) (h ∷ hs) (rule ∷ rules) = IsRule known n r h rule × AreRules known (suc n) rs hs rules
 AreRules known n _ _ _ = ⊥
 
--- The first that is wrong with a rule: with its plus code, and where nothing is wrong there with its body.
+-- The first fault of a rule: of its plus code, or if that has none, of its body.
 pub data IsRuleFault (number : ℕ) (r : RuleText) (h : RuleHead) : PatchFault → Type 0 where
   in_plus : {f : PatchFault} → first_phase (plus_faults h.vars number r.body) ≡ Some f → IsRuleFault number r h f
   in_body : {f : PatchFault} → first_phase (plus_faults h.vars number r.body) ≡ None
       → IsBodyFault (pattern_tokens h.vars r.body) r.end f → IsRuleFault number r h f
 
--- This rule is the first with which something is wrong, and this is what is.
+-- This rule is the first that has a fault, and this is its first fault.
 pub record IsFirstRuleFault (text : PatchText) (heads : List RuleHead) (f : PatchFault) : Type 0 where
   pub rule : ℕ
   pub within : rule < length text.rules
@@ -62,14 +61,14 @@ pub record IsFirstRuleFault (text : PatchText) (heads : List RuleHead) (f : Patc
   pub are : AreRules (taken heads) 0 (take rule text.rules) (take rule heads) before
   pub here : IfSome (slice_get text.rules rule) (λ r. IfSome (slice_get heads rule) (λ h. IsRuleFault rule r h f))
 
--- the patch of a text, of whose rules these are the heads
+-- the patch of a text whose rules have these heads
 pub record AreRulesOf (text : PatchText) (heads : List RuleHead) (patch : Patch) : Type 0 where
   pub virtuals : patch.virtuals ≡ text.virtuals
   pub rules : AreRules (taken heads) 0 text.rules heads patch.rules
 
 -- ---- patches
 
--- The bytes spell the patch: nothing is wrong with their text, with headers and declarations, with plus code and bodies.
+-- The bytes spell the patch: their text, headers and declarations, plus code and bodies have no fault.
 pub record IsSpelled (bytes : List ℕ) (patch : Patch) : Type 0 where
   pub text : PatchText
   pub is_text : IsTextOf bytes text
@@ -77,20 +76,20 @@ pub record IsSpelled (bytes : List ℕ) (patch : Patch) : Type 0 where
   pub are_heads : AreHeads text [] text.rules heads
   pub are_rules : AreRulesOf text heads patch
 
--- The first that is wrong with what the bytes spell: with the text; where nothing is wrong there, with the header and
--- declarations of a rule; and where nothing is wrong there either, with plus code and body of a rule.
+-- The first fault of what the bytes spell: of the text; if that has none, of the header and declarations of a rule; and if
+-- these have none either, of the plus code and body of a rule.
 pub data IsSpellingFault (bytes : List ℕ) : PatchFault → Type 0 where
   in_text : {f : PatchFault} → IsTextFault bytes f → IsSpellingFault bytes f
   in_heads : {f : PatchFault} (text : PatchText) → IsTextOf bytes text → IsFirstHeadFault text f → IsSpellingFault bytes f
   in_rules : {f : PatchFault} (text : PatchText) (heads : List RuleHead) → IsTextOf bytes text
       → AreHeads text [] text.rules heads → IsFirstRuleFault text heads f → IsSpellingFault bytes f
 
--- The bytes spell the patch, and nothing is wrong with what its rules mean.
+-- The bytes spell the patch, and what its rules mean has no fault.
 pub record IsPatchOf (bytes : List ℕ) (patch : Patch) : Type 0 where
   pub spelled : IsSpelled bytes patch
   pub checked : first_fault patch ≡ None
 
--- the first that is wrong with what the bytes spell, or else with what the patch means
+-- the first fault of what the bytes spell, or else of what the patch means
 pub data IsFirstFault (bytes : List ℕ) : PatchFault → Type 0 where
   spelling : {f : PatchFault} → IsSpellingFault bytes f → IsFirstFault bytes f
   meaning : {f : PatchFault} (patch : Patch) → IsSpelled bytes patch → first_fault patch ≡ Some f → IsFirstFault bytes f

@@ -6,7 +6,7 @@ use smpl_patch::Dep;
 use sqlite_items::Boxed;
 use std::alloc::Global;
 
-/// An equal condition. Linear; recurses once a level.
+/// Returns a copy of the condition. Linear. Recurses once per level.
 pub fn copy_dep(alloc: Global, d: &Dep) -> Result<Dep, NoMemory>
     ensures { IfOk result (λ e. e ≡ d.now) }
 {

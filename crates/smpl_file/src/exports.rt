@@ -10,7 +10,7 @@ use smpl_terms::Var;
 use sqlite_items::Items;
 use std::alloc::Global;
 
-/// The positions after `!=`, behind those that are known.
+/// Appends the positions after a declaration's `!=` to the known variables.
 fn with_places(alloc: Global, known: Items<Var>, d: &VarDecl) -> Result<Items<Var>, NoMemory>
     ensures { IfOk result (λ vs. vs ≡ known ++ d.now.not_places) }
 {
@@ -21,7 +21,7 @@ fn with_places(alloc: Global, known: Items<Var>, d: &VarDecl) -> Result<Items<Va
     Ok(known)
 }
 
-/// With the variables that a declaration takes from other rules.
+/// Appends the variables that a declaration takes from other rules.
 fn with_taken(alloc: Global, known: Items<Var>, d: &VarDecl) -> Result<Items<Var>, NoMemory>
     ensures { IfOk result (λ vs. vs ≡ known ++ told.taken_by d.now) }
 {
@@ -42,7 +42,7 @@ fn with_all(alloc: Global, known: Items<Var>, vars: &[VarDecl]) -> Result<Items<
     Ok(known)
 }
 
-/// With the variables that the rule of a number takes from other rules.
+/// Appends the variables that the rule with a given number takes from other rules.
 fn with_rule(
     alloc: Global,
     known: Items<Var>,
@@ -67,7 +67,7 @@ fn taken_vars(alloc: Global, heads: &Earlier) -> Result<Items<Var>, NoMemory>
     Ok(known)
 }
 
-/// All variables that rules take from other rules. Linear in the declarations, where no hashes collide.
+/// Returns all variables that rules take from other rules. Linear in the declarations if no hashes collide.
 pub fn taken(alloc: Global, heads: &Earlier) -> Result<Taken, NoMemory>
     ensures { IfOk result (λ vs. vs ≡ told.taken heads.now.heads) }
 {
@@ -83,7 +83,7 @@ fn is_exported(alloc: Global, known: &Taken, d: &VarDecl) -> Result<bool, NoMemo
     known.has(alloc, &d.var)
 }
 
-/// The own variables of a rule that are among these, in declared order. One look-up for each of them.
+/// Returns the rule's own variables that are among these, in declared order. Takes one look-up for each own variable.
 pub fn exports_of(alloc: Global, known: &Taken, vars: &[VarDecl]) -> Result<Items<Var>, NoMemory>
     ensures { IfOk result (λ xs. xs ≡ told.exports_of known.now vars.now) }
 {

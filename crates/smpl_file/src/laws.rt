@@ -1,4 +1,4 @@
-// A law of patches: a function whose clauses hold, and that does nothing.
+// A law of patches: a function whose contract holds, and that does nothing.
 ghost use Rattle.std.specs.Prelude.{◌≡◌, ℕ, List};
 ghost use Rattle.smpl_patch.specs.declared.fault.PatchFault.{PatchFault as Fault};
 ghost use Rattle.smpl_patch.specs.declared.rule.Patch.{Patch as Whole};
@@ -9,8 +9,8 @@ use smpl_lexer::patch_is_read_once;
 use smpl_meta::heads_are_read_once;
 use smpl_plus::plus_code_is_read_once;
 
-/// Bytes spell one patch, and where they spell one there is no fault of spelling; where they are one there is no fault at
-/// all. Does nothing.
+/// Bytes spell at most one patch. If they spell one, there is no fault of spelling, and if what its rules mean has no fault
+/// either, there is no fault at all. Does nothing.
 pub fn patches_are_read_once()
     ensures patch { (bytes : List ℕ) (one other : Whole) → IsSpelled bytes one →
         IsSpelled bytes other → one ≡ other }

@@ -1,4 +1,4 @@
-// The rules of a text, under their heads.
+// The rules of a text, given their heads.
 ghost use Rattle.std.specs.Prelude.{◌≡◌, ◌<◌, [], length, slice_get, IfOk, IfErr, IfSome};
 ghost use Rattle.smpl_lexer.specs.Texts.{OrNoMemory, IsSmall};
 ghost use Rattle.smpl_meta.specs.Heads.{AreHeads};
@@ -30,7 +30,7 @@ fn copy_vars(alloc: Global, vars: &[VarDecl]) -> Result<Items<VarDecl>, NoMemory
     Ok(copies)
 }
 
-/// A rule of a head, a body, and what stands at the tokens of its patterns.
+/// Makes a rule from a head, a body, and what is at the tokens of its patterns.
 fn made_rule(
     alloc: Global,
     head: &RuleHead,
@@ -56,7 +56,7 @@ fn made_rule(
     })
 }
 
-/// The rule of a number, or its first fault: of its plus code, then of its body.
+/// Returns the rule with a given number, or its first fault: of its plus code, then of its body.
 fn rule_of(
     alloc: Global,
     text: &PatchText,
@@ -76,7 +76,7 @@ fn rule_of(
     Ok(made_rule(alloc, head, known, tokens, body)?)
 }
 
-/// The rule of a number under its head, or its first fault.
+/// Returns the rule with this number, made from its head, or its first fault.
 fn rule_at(
     alloc: Global,
     text: &PatchText,
@@ -97,7 +97,7 @@ fn rule_at(
     }
 }
 
-/// The rules of a text, of which these are the heads, or the first fault of the first rule that has one.
+/// Returns the rules of a text that have these heads, or the first fault of the first rule that has one.
 fn rules_under(
     alloc: Global,
     text: &PatchText,
@@ -120,7 +120,7 @@ fn rules_under(
     Ok(rules)
 }
 
-/// The patch of a text, of whose rules these are the heads, or the first fault of the first rule that has one.
+/// Returns the patch of a text whose rules have these heads, or the first fault of the first rule that has one.
 pub fn rules_of(alloc: Global, text: PatchText, heads: &Earlier) -> Result<Patch, PatchFault>
     requires small { IsSmall text }
     requires heads { AreHeads text [] text.rules heads.now.heads }

@@ -1,11 +1,11 @@
-//! The last look at a patch that is read: formulas that are too large, and variables that may have no value.
+//! The last check of a patch once it is read: formulas that are too large, and variables that may have no value.
 //!
-//! - [`check`] answers the first fault of a patch's rules, or that there is none.
+//! - [`check`] returns the first fault of a patch's rules, if there is one.
 //!
-//! `@@ expression x, y; @@` with `- f(y);` and `+ g(x, y);` has the fault that x stands in plus code alone.
+//! `@@ expression x, y; @@` with `- f(y);` and `+ g(x, y);` has the fault that x is in plus code alone.
 //!
-//! Rule by rule the size of the formula is asked first. Then the variables go in declared order: of each it is asked
-//! first whether it stands in plus code alone, then whether it may stay unbound. So the fault of an earlier variable
+//! For each rule in order, the size of the formula is checked first. Then the variables are checked in declared order:
+//! first whether the variable is in plus code alone, then whether it may stay unbound. So the fault of an earlier variable
 //! comes before any fault of a later one.
 #![tactic(auto)]
 

@@ -13,7 +13,7 @@ use std::alloc::Global;
 use std::hash::{Hash, Hasher};
 use std::marker::Model;
 
-/// A variable that is looked up.
+/// A variable as a key of a set.
 #[derive(Drop)]
 pub struct Key {
     pub var: Var,
@@ -55,7 +55,7 @@ impl Hash for Key {
     }
 }
 
-/// Puts the variable in, if it isn't there yet.
+/// Adds the variable, if it isn't there yet.
 fn put(alloc: Global, set: &mut IndexSet<Key>, x: &Var) -> Result<(), NoMemory>
     ensures { OnOk result ((y : Variable) → has_key set.new.keys y ≡ has_key set.old.keys y || same_var x.now y) }
 {
@@ -65,7 +65,7 @@ fn put(alloc: Global, set: &mut IndexSet<Key>, x: &Var) -> Result<(), NoMemory>
     Ok(())
 }
 
-/// The set of the variables.
+/// Returns the set of the variables.
 fn set_of(alloc: Global, vars: &[Var]) -> Result<IndexSet<Key>, NoMemory>
     ensures { IfOk result (λ set. (y : Variable) → has_key set.keys y ≡ has_var vars.now y) }
 {
@@ -76,7 +76,7 @@ fn set_of(alloc: Global, vars: &[Var]) -> Result<IndexSet<Key>, NoMemory>
     Ok(set)
 }
 
-/// Variables, and a set that tells which they are. Contracts see the list.
+/// Variables, and a set for looking them up. Contracts see the list.
 #[derive(Drop)]
 pub struct Taken {
     vars: Items<Var>,
@@ -97,7 +97,7 @@ impl Model for Taken {
 }
 
 impl Taken {
-    /// The variables. Linear in their names, where no hashes collide.
+    /// Makes a `Taken` of the variables. Linear in their names if no hashes collide.
     pub fn of(alloc: Global, vars: Items<Var>) -> Result<Taken, NoMemory>
         ensures { IfOk result (λ taken. taken ≡ vars) }
     {
@@ -105,7 +105,7 @@ impl Taken {
         Ok(Taken { vars, set })
     }
 
-    /// Whether the variable is there. One look-up, and a copy of the variable.
+    /// Whether the variable is there. Takes one look-up and a copy of the variable.
     pub fn has(&self, alloc: Global, x: &Var) -> Result<bool, NoMemory>
         ensures { IfOk result (λ there. there ≡ has_var self.now x.now) }
     {

@@ -13,7 +13,7 @@ use Rattle.smpl_lexer.specs.Virtuals.Names.{last, closed, more}
 use Rattle.smpl_lexer.specs.Virtuals.IsVirtual.{blank, names}
 use Rattle.smpl_lexer.proofs.Derived.{Derived, whole, goes, told, stops}
 
--- what may stand behind a name
+-- what may come after a name
 data Behind : List PatchToken → Type 0 where
   nothing : Behind []
   semicolon : (s : PatchToken) → is_sign (codes ";") s ≡ true → Behind (s ∷ [])
@@ -39,7 +39,7 @@ named_of n _ (last m is) = record { name = is; behind = nothing }
 named_of n _ (closed m s is e) = record { name = is; behind = semicolon s e }
 named_of n _ (more m c is e rest) = record { name = is; behind = comma c e rest }
 
--- a comma is no semicolon
+-- a comma is not a semicolon
 and_right : (a b : Bool) → (a && b) ≡ true → b ≡ true
 and_right true b e = e
 and_right false b e = absurd (cc)

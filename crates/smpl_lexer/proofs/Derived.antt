@@ -1,4 +1,4 @@
--- A table of places each of which stands for what may come there: it stops exactly where nothing may.
+-- A table of places, each of which stands for what may come there. It stops exactly where nothing may come.
 use Rattle.std.proofs.Common.{◌≡◌, ℕ, Bool, true, false, List, [], ◌∷◌, ◌++◌, Option, Some, None, refl, sym, ap, subst}
 use Rattle.smpl_lexer.specs.declared.token.PatchToken.{PatchToken}
 use Rattle.smpl_lexer.specs.Headers.{stop, stop_at}
@@ -21,7 +21,7 @@ module _ {P : Type 0} (step : P → PatchToken → Option P) (ends : P → Bool)
   abbrev After : PatchToken → List PatchToken → Option P → Option ℕ
   After t ts o = elim o as (λ (x : Option P). Option ℕ) [ None ↦ Some t.at | Some q ↦ Stop q ts ]
 
-  -- ---- a line that goes on to its end
+  -- ---- a line that is complete
 
   whole_end : (p : P) (b : Bool) → ends p ≡ b → stop_at b end ≡ None → May p []
   whole_end p true is e = d.ended p is
@@ -78,7 +78,7 @@ module _ {P : Type 0} (step : P → PatchToken → Option P) (ends : P → Bool)
   told [] p at e = told_end p at (ends p) refl e
   told (t ∷ ts) p at e = told_step p t ts at (step p t) (λ q left. told ts q at left) refl e
 
-  -- a line that can't stand with a token stops there
+  -- a line that can't continue with a token stops there
   put_back : (p q : P) (t : PatchToken) (ts : List PatchToken) (at : ℕ) → step p t ≡ Some q → StopsAt (May p) (t ∷ ts) end at
       → StopsAt (May q) ts end at
   put_back p q t ts _ is (token [] rest u e can cannot) =

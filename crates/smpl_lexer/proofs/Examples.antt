@@ -32,7 +32,7 @@ no_longer_sign = refl
 less_is_none : sign_length (codes "<+..") ≡ 0
 less_is_none = refl
 
--- an `@` is a token but in plus code; a comment is bad where it goes over the line's end
+-- an `@` is a token except in plus code; a comment is bad if it runs over the line's end
 at_is_fine : is_bad false (Plain kind.Stray) (codes "@") ≡ false
 at_is_fine = refl
 
@@ -51,7 +51,7 @@ mark text at = made Punct text at
 abbrev at_sign : ℕ → PatchToken
 at_sign at = made Stray (codes "@") at
 
--- `@r depends on` can't go on at its end, `@ever@` at the name, `@@ x` behind the second `@`
+-- `@r depends on` can't continue at its end, `@ever@` at the name, `@@ x` after the second `@`
 ends_early : header_stop (at_sign 0 ∷ word (codes "r") 1 ∷ word (codes "depends") 3 ∷ word (codes "on") 11 ∷ []) 13 ≡ Some 13
 ends_early = refl
 
@@ -65,11 +65,11 @@ whole_header : header_stop (at_sign 0 ∷ word (codes "depends") 1 ∷ word (cod
     ∷ word (codes "never") 19 ∷ word (codes "b") 25 ∷ mark (codes ")") 26 ∷ word (codes "exists") 28 ∷ at_sign 34 ∷ []) 35 ≡ None
 whole_header = refl
 
--- a rule of a script language is a fault at the header's first byte, before the one where it can't go on
+-- a rule in a script language is a fault at the header's first byte, before the fault where it can't continue
 script_first : first_of (header_faults 0 (at_sign 0 ∷ word (codes "script") 1 ∷ mark (codes ":") 7 ∷ []) 8) ≡ Some (ScriptRule 0)
 script_first = refl
 
--- of two faults at one place the lesser number counts
+-- of two faults at one place, the one with the lesser number counts
 lesser_number : first_of (BadHeader 4 ∷ BadToken 4 ∷ BadToken 5 ∷ []) ≡ Some (BadToken 4)
 lesser_number = refl
 
@@ -79,7 +79,7 @@ two_names = refl
 comma_at_end : virtual_stop (word (codes "virtual") 0 ∷ word (codes "a") 8 ∷ mark (codes ",") 9 ∷ []) 10 ≡ Some 10
 comma_at_end = refl
 
--- `|` alone in column 1 is a sign of patches, and not in column 2
+-- `|` alone is a sign of patches in column 1, and not in column 2
 alone : as_branch 7 (mark (codes "|") 7 ∷ []) ≡ made Pat (92 ∷ 124 ∷ []) 7 ∷ []
 alone = refl
 
@@ -119,11 +119,11 @@ one_rule : text_of 9 cut ≡ record {
 }
 one_rule = refl
 
--- a line of a body, its tokens aside
+-- a line of a body, without its tokens
 abbrev line_of : List ℕ → BodyLine
 line_of bytes = body_line 0 bytes []
 
--- `++` is one sign; in `+++ b;` it has a token `+` behind it
+-- `++` is one sign; in `+++ b;` a token `+` is after it
 two_signs : line_of (codes "++ b();") ≡ record { sign = 43; many = true; start = 0; text = codes " b();"; tokens = [] }
 two_signs = refl
 

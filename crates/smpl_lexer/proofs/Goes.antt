@@ -1,4 +1,4 @@
--- In a text in which nothing is wrong each header goes on to its end.
+-- In a text without faults, each header is complete.
 use Rattle.std.proofs.Common.{◌≡◌, ℕ, List, [], ◌∷◌, ◌++◌, Option, Some, None, length, refl, sym, subst}
 use Rattle.smpl_lexer.specs.declared.section.Section.TheVariants as section
 use Rattle.smpl_lexer.specs.declared.section.Role.{Role}
@@ -35,7 +35,7 @@ record Good (g : Gathered) : Type 0 where
   rules : AllGoOn g.rules
   last : AllGoOn (ended g.last 0)
 
--- where a rule ends is no matter
+-- it does not matter where a rule ends
 last_ends : (o : Option RuleText) (a b : ℕ) → AllGoOn (ended o a) → AllGoOn (ended o b)
 last_ends None a b all = tt
 last_ends (Some r) a b all = all

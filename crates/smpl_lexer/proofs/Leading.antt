@@ -10,7 +10,7 @@ use Rattle.smpl_lexer.specs.Pieces.{LinePiece, joined, Cut, IsFirstPiece, is_bad
 use Rattle.smpl_lexer.specs.Tokens.{tokens_from, bad_from, token_kind, put_token, put_bad}
 use Rattle.smpl_lexer.specs.Cutting.{IsCutTo}
 
--- however the rest is cut, the whole is
+-- however the rest is cut, the whole is cut so
 pub record Leads (signs plus : Bool) (at : ℕ) (bytes : List ℕ) (first : Option PatchFault) (start : ℕ) (tokens : List PatchToken) (so_far : Option PatchFault) : Type 0 where
   pub within : start ≤ length bytes
   pub leads : (ps : List LinePiece) → joined ps ≡ drop start bytes → Cut signs ps

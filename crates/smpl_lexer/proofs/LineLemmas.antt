@@ -32,7 +32,7 @@ content-other bytes i within is = ap content (drop_more bytes i 0 within)
 
 -- ---- the first line, and those after it
 
--- the first line of bytes, and the lines after it
+-- the first line of some bytes, and the lines after it
 abbrev Split : ℕ → List ℕ → Type 0
 Split start bytes = lines_from start bytes ≡ record { start = start; bytes = take (line_length bytes) bytes } ∷ lines_from (start + line_length bytes) (drop (line_length bytes) bytes)
 

@@ -19,7 +19,7 @@ use Rattle.smpl_lexer.specs.Texts.IsTextFault.{first}
 use Rattle.smpl_lexer.specs.Cutting.{IsCutTo, after_line, after_lines, unread, IsReadTo, AreReadTo}
 use Rattle.smpl_lexer.proofs.LineLemmas.{split_lines}
 
--- however the other lines are cut, the whole patch is read so
+-- however the other lines are cut, the whole patch is read to what follows from r and them
 pub record LeadsOn (bytes : List ℕ) (start : ℕ) (r : Reading) : Type 0 where
   pub within : start ≤ length bytes
   pub leads : (cs : List CutLine) → AreCutLines r.section (lines_from start (drop start bytes)) cs
@@ -38,7 +38,7 @@ pub begins_some : (bs : List ℕ) → 0 < length bs → Begins bs
 begins_some [] some = absurd (omega arith)
 begins_some (b ∷ bs) some = record { byte = b; rest = bs; are = refl }
 
--- the lines that are left are the first of them and those behind it
+-- the lines that are left are the first of them and those after it
 pub lines_left : (start : ℕ) (bs : List ℕ) → 0 < length bs
     → lines_from start bs ≡ record { start = start; bytes = take (line_length bs) bs } ∷ lines_from (start + line_length bs) (drop (line_length bs) bs)
 lines_left start bs some = let b = begins_some bs some in

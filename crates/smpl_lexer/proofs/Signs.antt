@@ -1,4 +1,4 @@
--- With which bytes a sign of patches begins.
+-- The bytes with which a sign of patches begins.
 use Rattle.std.proofs.Common.{◌≡◌, ℕ, ◌==◌, ◌||◌, Bool, true, false, List, ◌∷◌, refl}
 use Rattle.smpl_lexer.specs.Pieces.{sign_length}
 

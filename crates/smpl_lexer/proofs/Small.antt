@@ -1,6 +1,6 @@
 -- A text is small.
 --
--- Proof: each line has a byte at least, so there are no more lines than bytes; each rule has a line of its own, its header.
+-- Proof: each line has at least one byte, so there are no more lines than bytes; each rule has a line of its own, its header.
 use Rattle.std.proofs.Common.{◌≡◌, ℕ, suc, ◌+◌, ◌≤◌, ◌==◌, Bool, true, false, List, [], ◌∷◌, length, drop, All, Option, Some, None, refl, sym, subst, arith, if◌then◌else◌}
 use Rattle.std.proofs.lemmas.List.Elements.{All-nil, All-cons, All-head, All-tail, All-append, All-push, All-weaker}
 use Rattle.std.proofs.lemmas.List.{length-append, length-drop}
@@ -59,7 +59,7 @@ lines_short start (b ∷ bs) = by (b == newline) (lines_short (start + 1) bs)
     }
     by false short = begun_short start b (lines_from (start + 1) bs) (length bs) short
 
--- ---- what is gathered, where so many lines are left, and there may be so many lines, rules and bytes
+-- ---- what is gathered when `left` lines are left, with at most `most` lines, rules and bytes
 
 module _ (most : ℕ) where
   record RuleFits (r : RuleText) : Type 0 where

@@ -1,4 +1,4 @@
--- Lines with their pieces, and what each gives: tokens and faults.
+-- Lines with their pieces, and the tokens and faults of each.
 use Rattle.std.specs.Prelude.{ℕ, ◌≡◌, ◌+◌, ⊤, List, [], ◌∷◌, ◌++◌, drop}
 use Rattle.smpl_patch.specs.declared.fault.PatchFault.{PatchFault}
 use Rattle.smpl_lexer.specs.declared.section.Section.{Section}
@@ -11,18 +11,18 @@ use Rattle.smpl_lexer.specs.Pieces.{LinePiece, joined, Cut}
 use Rattle.smpl_lexer.specs.Tokens.{tokens_from, bad_from}
 use Rattle.smpl_lexer.specs.Headers.{virtual_faults, header_faults, second_faults, is_second}
 
--- a line, what it is to the patch, and its pieces, its sign aside
+-- a line, its role in the patch, and its pieces without the sign
 pub record CutLine : Type 0 where
   pub role : Role
   pub line : Line
   pub pieces : List LinePiece
 
--- the pieces are cut of the line's bytes behind the sign
+-- the pieces are cut from the line's bytes after the sign
 pub record IsCutLine (c : CutLine) : Type 0 where
   pub text : joined c.pieces ≡ drop (skipped c.role c.line.bytes) c.line.bytes
   pub cut : Cut (has_signs c.role c.line.bytes) c.pieces
 
--- these are the lines from a section on, each by what it is and cut
+-- these are the lines from a section on, each with its role and its pieces
 abbrev pub AreCutLines : Section → List Line → List CutLine → Type 0
 AreCutLines s [] [] = ⊤
 AreCutLines s [] (c ∷ cs) = ⊥
@@ -34,7 +34,7 @@ AreCutLines s (l ∷ ls) (c ∷ cs) = (c.line ≡ l) × ((c.role ≡ role_in s (
 abbrev pub place_in : CutLine → ℕ
 place_in c = c.line.start + skipped c.role c.line.bytes
 
--- the tokens as they stand
+-- the tokens as they are
 abbrev pub plain_tokens : CutLine → List PatchToken
 plain_tokens c = tokens_from (place_in c) c.pieces
 

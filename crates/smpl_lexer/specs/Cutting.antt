@@ -1,4 +1,4 @@
--- What a line is cut to, and what lines are read to, as the reader keeps it.
+-- What the reader keeps of the lines that it cuts and reads.
 use Rattle.std.specs.Prelude.{◌≡◌, ℕ, Bool, List, [], ◌∷◌, Option, None}
 use Rattle.smpl_patch.specs.declared.fault.PatchFault.{PatchFault}
 use Rattle.smpl_patch.specs.Faults.{first_from}
@@ -12,7 +12,7 @@ use Rattle.smpl_lexer.specs.Tokens.{tokens_from, bad_from}
 use Rattle.smpl_lexer.specs.CutLines.{CutLine, IsCutLine, AreCutLines, plain_tokens, faults_of}
 use Rattle.smpl_lexer.specs.Texts.{gather_line, nothing}
 
--- bytes of a line that stand at a place were cut
+-- the bytes of a line that begin at a place were cut
 pub record IsCutTo (signs plus : Bool) (at : ℕ) (bytes : List ℕ) (first : Option PatchFault) (cut : LineTokens)
     : Type 0 where
   pub pieces : List LinePiece

@@ -1,4 +1,4 @@
--- Headers and `virtual` lines: where a token leads, and where the line can't go on.
+-- Headers and `virtual` lines: where a token leads, and where the line can't continue.
 use Rattle.std.specs.Prelude.{ℕ, ◌+◌, ◌-◌, ◌==◌, ◌≤◌, ◌||◌, ◌&&◌, not, Bool, true, false, if◌then◌else◌, List, [], ◌∷◌, ◌++◌, Option, Some, None, codes}
 use Rattle.smpl_patch.specs.declared.fault.PatchFault.{PatchFault}
 use Rattle.smpl_patch.specs.declared.fault.PatchFault.TheVariants.{BadHeader, ScriptRule}
@@ -43,11 +43,11 @@ after_depends t = if is_mode t then Some h.Moded else after_mode t
 abbrev pub after_name : PatchToken → Option HeaderPlace
 after_name t = if is_word (codes "depends") t then Some h.Depends else after_depends t
 
--- how many names, `!` and `(` may stand behind `depends on`
+-- how many names, `!` and `(` there may be after `depends on`
 abbrev pub most_counted : ℕ
 most_counted = 200
 
--- a name, `!` or `(`, of which so many may stand
+-- a name, `!` or `(`, of which this many may still come
 abbrev pub counted : ℕ → HeaderPlace → Option HeaderPlace
 counted left next = if left == 0 then None else Some next
 
@@ -97,7 +97,7 @@ IsWithin h.Depends = Unit {0}
 IsWithin h.Moded = Unit {0}
 IsWithin h.Closed = Unit {0}
 
--- ---- where a line can't go on: at a token that leads nowhere, or at its end, where it may not end so
+-- ---- where a line can't continue: at a token that leads nowhere, or at its end, if it may not end there
 
 abbrev pub stop_at : Bool → ℕ → Option ℕ
 stop_at true at = None

@@ -1,5 +1,5 @@
--- What public contracts rest on, in reading order: lines and what they are, pieces, tokens, headers and `virtual` lines, the whole
--- text.
+-- What public contracts rest on, in reading order: lines and their roles, pieces, tokens, headers and `virtual` lines, the
+-- whole text.
 pub mod Lines
 pub mod Sections
 pub mod Pieces
@@ -8,5 +8,5 @@ pub mod Headers
 pub mod Virtuals
 pub mod CutLines
 pub mod Texts
--- For inside use: what a line is cut to.
+-- For internal use: what a line is cut into.
 pub mod Cutting

@@ -4,17 +4,17 @@ use Rattle.std.specs.Prelude.{ℕ, suc, ◌+◌, ◌==◌, if◌then◌else◌, 
 abbrev pub newline : ℕ
 newline = 10
 
--- a line with its newline, where it has one, and the place of its first byte
+-- a line with its newline, if it has one, and the place of its first byte
 pub record Line : Type 0 where
   pub start : ℕ
   pub bytes : List ℕ
 
--- one more byte before the first of some lines, which goes on the line of that byte
+-- one more byte before some lines, at the start of the first of them
 abbrev pub begun : ℕ → ℕ → List Line → List Line
 begun start b [] = record { start = start; bytes = b ∷ [] } ∷ []
 begun start b (l ∷ ls) = record { start = start; bytes = b ∷ l.bytes } ∷ ls
 
--- A newline ends a line. What is left at the end is a line too.
+-- A newline ends a line. What is left at the end is also a line.
 abbrev pub lines_from : ℕ → List ℕ → List Line
 lines_from start [] = []
 lines_from start (b ∷ bs) =
@@ -30,7 +30,7 @@ content (b ∷ bs) = if b == newline then [] else b ∷ content bs
 abbrev pub end_of : Line → ℕ
 end_of l = l.start + length (content l.bytes)
 
--- how long the first line is, its newline with it
+-- the length of the first line, including its newline
 abbrev pub line_length : List ℕ → ℕ
 line_length [] = 0
 line_length (b ∷ bs) = if b == newline then 1 else suc (line_length bs)

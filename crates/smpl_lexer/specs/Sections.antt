@@ -1,11 +1,11 @@
--- What each line is: before the first rule stand `virtual` lines; a rule is a header, declarations, `@@`, and a body.
+-- What each line is: the lines before the first rule are `virtual` lines; a rule is a header, declarations, `@@`, and a body.
 use Rattle.std.specs.Prelude.{ℕ, ◌==◌, ◌||◌, ◌&&◌, not, Bool, true, false, if◌then◌else◌, List, [], ◌∷◌}
 use Rattle.smpl_lexer.specs.declared.section.Section.{Section}
 use Rattle.smpl_lexer.specs.declared.section.Section.TheVariants as section
 use Rattle.smpl_lexer.specs.declared.section.Role.{Role}
 use Rattle.smpl_lexer.specs.declared.section.Role.TheVariants as role
 
--- by whether the line begins with `@`
+-- the role of a line in a section, by whether the line begins with `@`
 abbrev pub role_in : Section → Bool → Role
 role_in section.Before false = role.Virtual
 role_in section.Before true = role.Header
@@ -36,7 +36,7 @@ space = 32
 abbrev pub is_sign_byte : ℕ → Bool
 is_sign_byte b = b == minus || b == plus || b == star
 
--- the sign of a body line, a space where it has none
+-- the sign of a body line, or a space if it has none
 abbrev pub sign_of : List ℕ → ℕ
 sign_of [] = space
 sign_of (b ∷ bs) = if is_sign_byte b then b else space
@@ -47,17 +47,17 @@ is_many [] = false
 is_many (a ∷ []) = false
 is_many (a ∷ b ∷ bs) = a == plus && b == plus
 
--- how many bytes of a line are its sign
+-- the number of bytes in the line's sign
 abbrev pub skipped : Role → List ℕ → ℕ
 skipped role.Body bytes = if sign_of bytes == space then 0 else (if is_many bytes then 2 else 1)
 skipped _ bytes = 0
 
--- a line of plus code
+-- the line is plus code
 abbrev pub is_plus : Role → List ℕ → Bool
 is_plus role.Body bytes = sign_of bytes == plus
 is_plus _ bytes = false
 
--- a line of a pattern, in which the signs of patches may stand
+-- the line is of a pattern, which may have the signs of patches
 abbrev pub has_signs : Role → List ℕ → Bool
 has_signs role.Body bytes = not (sign_of bytes == plus)
 has_signs _ bytes = false

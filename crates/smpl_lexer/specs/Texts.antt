@@ -1,4 +1,4 @@
--- A patch by its rules, and the first fault of its text.
+-- A patch as its rules, and the first fault of its text.
 use Rattle.std.specs.Prelude.{ℕ, ◌≡◌, ◌<◌, ◌≤◌, ◌⊎◌, List, [], ◌∷◌, ◌++◌, drop, length, All, Option, Some, None}
 use Rattle.smpl_patch.specs.declared.fault.PatchFault.{PatchFault}
 use Rattle.smpl_patch.specs.declared.fault.PatchFault.TheVariants as fault
@@ -18,7 +18,7 @@ use Rattle.smpl_lexer.specs.Tokens.{as_branch}
 use Rattle.smpl_lexer.specs.Headers.{virtual_names, header_stop}
 use Rattle.smpl_lexer.specs.CutLines.{CutLine, AreCutLines, plain_tokens, faults_of}
 
--- ---- what each line gives to the patch: `last` is the rule to which more lines may come
+-- ---- what each line adds to the patch: `last` is the rule to which more lines may be added
 
 -- the rule ends here, if there is one
 abbrev pub ended : Option RuleText → ℕ → List RuleText
@@ -46,8 +46,8 @@ body_line start bytes tokens = record {
   tokens = as_branch start tokens;
 }
 
--- A `virtual` line gives its names. A header ends the rule before it and begins one. Declarations and body lines go to
--- the last rule.
+-- A `virtual` line adds its names. A header ends the rule before it and begins one. Declarations and body lines are added
+-- to the last rule.
 abbrev pub gather_line : Role → ℕ → List ℕ → List PatchToken → Gathered → Gathered
 gather_line role.Virtual start bytes tokens g = record g { virtuals = g.virtuals ++ virtual_names tokens }
 gather_line role.Header start bytes tokens g =
@@ -72,7 +72,7 @@ text_of end cs = finished end (gather nothing cs)
 
 -- ---- faults
 
--- the section behind the lines
+-- the section after the lines
 abbrev pub section_of : Section → List CutLine → Section
 section_of s [] = s
 section_of s (c ∷ cs) = section_of (section_after c.role) cs
@@ -87,7 +87,7 @@ abbrev pub line_faults : List CutLine → List PatchFault
 line_faults [] = []
 line_faults (c ∷ cs) = faults_of c ++ line_faults cs
 
--- all that is wrong with the text: of each line, and of its end
+-- everything that is wrong with the text: with each line, and with its end
 abbrev pub text_faults : ℕ → List CutLine → List PatchFault
 text_faults end cs = line_faults cs ++ end_faults (section_of section.Before cs) end
 
@@ -109,14 +109,14 @@ pub record IsTextOf (bytes : List ℕ) (text : PatchText) : Type 0 where
   pub faultless : text_faults (length bytes) lines ≡ []
   pub is : text ≡ text_of (length bytes) lines
 
--- This is the first that is wrong with the text: it is too long, or of all faults the one at the least place, and there
--- of the least number.
+-- This is the first fault of the text: it is too long, or this is the fault at the least place, and at one place the one
+-- with the least number.
 pub data IsTextFault (bytes : List ℕ) : PatchFault → Type 0 where
   too_long : most_bytes < length bytes → IsTextFault bytes fault.PatchTooLong
   first : {f : PatchFault} → (lines : List CutLine) → AreLinesOf bytes lines
       → first_of (text_faults (length bytes) lines) ≡ Some f → IsTextFault bytes f
 
--- the header goes on to its end
+-- the header is complete
 abbrev pub GoesOn : RuleText → Type 0
 GoesOn r = (end : ℕ) × (header_stop r.header end ≡ None)
 
@@ -124,16 +124,16 @@ abbrev pub AllGoOn : List RuleText → Type 0
 AllGoOn [] = Unit {0}
 AllGoOn (r ∷ rs) = GoesOn r × AllGoOn rs
 
--- A rule has at most as many lines, and each of them at most as many bytes, as a patch may have bytes.
+-- A rule has at most as many lines as a patch may have bytes, and each of them has at most that many bytes.
 pub record IsSmallRule (r : RuleText) : Type 0 where
   pub lines : length r.body ≤ most_bytes
   pub texts : All (λ (l : BodyLine). length l.text ≤ most_bytes) r.body
 
--- A text has at most as many rules, each of which is small.
+-- A text has at most as many rules as a patch may have bytes, and each of them is small.
 pub record IsSmall (text : PatchText) : Type 0 where
   pub rules : length text.rules ≤ most_bytes
   pub each : All IsSmallRule text.rules
 
--- the fault of a phase was answered, or memory was refused
+-- the fault of a phase, or out of memory
 abbrev pub OrNoMemory : (PatchFault → Type 0) → PatchFault → Type 0
 OrNoMemory P f = (f ≡ fault.NoMemory) ⊎ P f

@@ -26,7 +26,7 @@ token_kind (Plain kind.Line) = None
 token_kind Dots = Some token.Dots
 token_kind Sign = Some token.Pat
 
--- a token, whose id is no matter yet
+-- a token; its id does not matter yet
 abbrev pub made : TokenKind → List ℕ → ℕ → PatchToken
 made k text at = record { token = record { kind = k; text = text; id = 0 }; at = at }
 
@@ -34,7 +34,7 @@ abbrev pub put_token : Option TokenKind → List ℕ → ℕ → List PatchToken
 put_token None text at tokens = tokens
 put_token (Some k) text at tokens = made k text at ∷ tokens
 
--- the tokens of pieces, of which the first stands at this place
+-- the tokens of pieces, of which the first is at this place
 abbrev pub tokens_from : ℕ → List LinePiece → List PatchToken
 tokens_from at [] = []
 tokens_from at (p ∷ ps) = put_token (token_kind p.kind) p.text at (tokens_from (at + length p.text) ps)
@@ -69,11 +69,11 @@ is_mark t = is_mark_kind t.token.kind
 abbrev pub is_stray : PatchToken → Bool
 is_stray t = is_stray_kind t.token.kind
 
--- a name of this text
+-- a name with this text
 abbrev pub is_word : List ℕ → PatchToken → Bool
 is_word text t = is_name t && bytes_eq t.token.text text
 
--- the punctuator of this text
+-- the punctuator with this text
 abbrev pub is_sign : List ℕ → PatchToken → Bool
 is_sign text t = is_mark t && bytes_eq t.token.text text
 
@@ -85,7 +85,7 @@ is_at t = is_stray t && bytes_eq t.token.text (codes "@")
 abbrev pub is_branch_sign : PatchToken → Bool
 is_branch_sign t = is_sign (codes "(") t || is_sign (codes "|") t || is_sign (codes "&") t || is_sign (codes ")") t
 
--- such a sign alone, which stands at this place
+-- such a sign alone, at this place
 abbrev pub is_branch : ℕ → List PatchToken → Bool
 is_branch start (t ∷ []) = t.at == start && is_branch_sign t
 is_branch start _ = false
@@ -94,6 +94,6 @@ abbrev pub branch_tokens : List PatchToken → List PatchToken
 branch_tokens [] = []
 branch_tokens (t ∷ ts) = made token.Pat (backslash ∷ t.token.text) t.at ∷ branch_tokens ts
 
--- Alone in its line and in column 1 such a sign has a backslash before it.
+-- Such a sign has a backslash before it if it is alone in its line and in column 1.
 abbrev pub as_branch : ℕ → List PatchToken → List PatchToken
 as_branch start ts = if is_branch start ts then branch_tokens ts else ts

@@ -18,7 +18,7 @@ pub struct LineTokens {
     pub first: Option<PatchFault>,
 }
 
-/// Puts a piece that is a token last.
+/// Appends the piece, if it is a token.
 fn push_token(
     alloc: Global,
     tokens: &mut Items<PatchToken>,
@@ -38,7 +38,7 @@ fn push_token(
     Ok(())
 }
 
-/// The first fault so far, with that of a piece, if it has one.
+/// Returns the first fault so far, that of a piece included, if it has one.
 fn with_bad(first: Option<PatchFault>, bad: bool, at: u32) -> Option<PatchFault>
     ensures { result ≡ first_from first (told.put_bad bad at []) }
 {
@@ -49,7 +49,7 @@ fn with_bad(first: Option<PatchFault>, bad: bool, at: u32) -> Option<PatchFault>
     }
 }
 
-/// Cuts bytes of a line that stand at a place. Linear.
+/// Cuts the bytes of a line that begin at a place. Linear.
 pub fn cut(
     alloc: Global,
     signs: bool,

@@ -1,16 +1,16 @@
 //! Cuts semantic patches into rules, lines and tokens, or finds the first fault of their text.
 //!
-//! - [`lex_patch`] answers a [`PatchText`]: the names of `virtual` lines, and the rules, each by its header, its
+//! - [`lex_patch`] returns a [`PatchText`]: the names of `virtual` lines, and the rules. Each rule has its header, its
 //!   declarations and the lines of its body ([`RuleText`], [`BodyLine`]). A [`PatchToken`] has its place.
 //! - [`is_name`], [`is_word`], [`is_sign`], [`is_at`], [`is_rule_name`] and [`is_mode`] say what a token is.
-//! - [`patch_is_read_once`] is a law: a patch has one text or one first fault. [`virtual_lines_are_spelled`] is one on the
-//!   lines before the first rule.
+//! - [`patch_is_read_once`] is the law that a patch has one text or one first fault. [`virtual_lines_are_spelled`] is a law
+//!   on the lines before the first rule.
 //!
 //! The lines `@r@`, `expression x;`, `@@`, `- f(x);` are one rule: its header has the tokens `@`, `r`, `@`, its
 //! declarations have `expression`, `x`, `;`, and its body has one line, with the sign `-` and five tokens.
 //!
-//! Nothing recurses, and all is linear in the patch. What conditions and declarations say is for smpl_meta, what the
-//! lines of a body spell is for the crates above it.
+//! Nothing recurses, and everything is linear in the patch. smpl_meta reads conditions and declarations, and the crates
+//! above it read the lines of a body.
 #![tactic(auto)]
 
 ghost use Rattle.std.specs.Prelude.{◌≡◌, ◌↔◌, List, ℕ, Some, None, IfOk, IfErr};
@@ -47,14 +47,14 @@ pub use token::{PatchToken, is_at, is_name, is_sign, is_word};
 const MOST_BYTES: usize = 1_048_576;
 
 /// Reads a patch into its virtual names and its rules, or finds the first fault of its text: the one at the least place,
-/// and there the one of the least number. Linear in the patch.
+/// and at one place the one with the least number. Linear in the patch.
 ///
-/// - `PatchTooLong`: it has more than 1,048,576 bytes, and nothing else is looked for.
-/// - `BadToken`: a byte or a literal that is no token, a `#` line, a comment over lines, or `@` in a plus line.
-/// - `BadHeader`: the token, or the end of the line, at which a header or a `virtual` line can't go on. Before the first
-///   rule also any other text. Before a rule's line `@@` also another line that begins with `@`, and the text's end.
+/// - `PatchTooLong`: the patch has more than 1,048,576 bytes. Nothing else is looked for then.
+/// - `BadToken`: a byte or a literal that is not a token, a `#` line, a comment over several lines, or `@` in a plus line.
+/// - `BadHeader`: the token, or the end of the line, at which a header or a `virtual` line can't continue. Before the first
+///   rule, also any other text. Before a rule's line `@@`, also another line that begins with `@`, and the text's end.
 /// - `ScriptRule`: the `@` of a header that begins `@script`, `@initialize` or `@finalize`.
-/// - `NoMemory`: memory was refused, and nothing is kept of the patch.
+/// - `NoMemory`: out of memory. Nothing is kept of the patch.
 pub fn lex_patch(alloc: Global, bytes: &[u8]) -> Result<PatchText, PatchFault>
     ensures text { IfOk result (λ text. IsTextOf bytes.now text) }
     ensures small { IfOk result (λ text. IsSmall text) }
@@ -71,8 +71,8 @@ pub fn lex_patch(alloc: Global, bytes: &[u8]) -> Result<PatchText, PatchFault>
     }
 }
 
-/// A patch has one text or one first fault, and not both; each header of a text goes on to its end; a text has no more
-/// rules, and a rule no more lines, than a patch may have bytes. Does nothing.
+/// The law that a patch has one text or one first fault, and not both; that each header of a text is complete; and that a
+/// text has no more rules, a rule no more lines, and a line no more bytes than a patch may have bytes. Does nothing.
 pub fn patch_is_read_once()
     ensures text { (bytes : List ℕ) (one other : Whole) → IsTextOf bytes one → IsTextOf bytes other →
         one ≡ other }
@@ -84,8 +84,8 @@ pub fn patch_is_read_once()
     ensures small { (bytes : List ℕ) (text : Whole) → IsTextOf bytes text → IsSmall text }
 {}
 
-/// A line before the first rule goes on to its end exactly where it has no tokens, or `virtual` and names. Else it stops at
-/// the first token with which no such line begins, or at its end. Does nothing.
+/// The law that a line before the first rule is complete exactly if it has no tokens, or `virtual` and names. Otherwise it
+/// stops at the first token with which no such line begins, or at its end. Does nothing.
 pub fn virtual_lines_are_spelled()
     ensures whole { (ts : List Word) (end : ℕ) → (virtual_stop ts end ≡ None) ↔ IsVirtual ts }
     ensures stop { (ts : List Word) (end at : ℕ) →

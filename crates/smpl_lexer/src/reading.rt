@@ -12,7 +12,7 @@ use smpl_patch::PatchFault;
 use sqlite_items::Items;
 use std::alloc::Global;
 
-/// What is read of a patch so far: where its next line stands, its first fault, and its rules.
+/// What is read of a patch so far: the section of its next line, its first fault, and its rules.
 #[derive(Drop)]
 pub struct Reading {
     pub section: Section,

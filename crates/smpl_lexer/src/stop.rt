@@ -12,7 +12,7 @@ use crate::section::{Role, Section};
 use crate::token::{PatchToken, is_at, is_word};
 use smpl_patch::{PatchFault, earlier};
 
-/// Where a line before the first rule can't go on.
+/// Returns where a line before the first rule can't continue.
 fn virtual_stop(tokens: &[PatchToken], end: u32) -> Option<u32>
     ensures { result ≡ ahead.virtual_stop tokens.now end }
 {
@@ -26,7 +26,7 @@ fn virtual_stop(tokens: &[PatchToken], end: u32) -> Option<u32>
     if virtual_ends(place) { None } else { Some(end) }
 }
 
-/// Where a header can't go on.
+/// Returns where a header can't continue.
 fn header_stop(tokens: &[PatchToken], end: u32) -> Option<u32>
     ensures { result ≡ ahead.header_stop tokens.now end }
 {
@@ -49,7 +49,7 @@ fn with_stop(first: Option<PatchFault>, stop: Option<u32>) -> Option<PatchFault>
     }
 }
 
-/// The second word of the header of a rule in a script language.
+/// Whether the token is the second one in the header of a rule in a script language.
 fn is_script(t: &PatchToken) -> bool
     ensures { result ≡ ahead.is_script t.now }
 {
@@ -94,7 +94,7 @@ fn with_second(first: Option<PatchFault>, start: u32, second: bool) -> Option<Pa
     }
 }
 
-/// The first fault so far, with those of the tokens of a line.
+/// Returns the first fault so far, those of the tokens of a line included.
 pub fn with_role(
     first: Option<PatchFault>,
     role: Role,
@@ -116,7 +116,7 @@ pub fn with_role(
     }
 }
 
-/// The first fault so far, with that of the text's end.
+/// Returns the first fault so far, that of the text's end included.
 pub fn with_end(first: Option<PatchFault>, section: Section, end: u32) -> Option<PatchFault>
     ensures { result ≡ first_from first (texts.end_faults section end) }
 {

@@ -1,4 +1,5 @@
--- A condition through which a header goes counts no more than is left, and a header goes through it wherever so much is.
+-- A condition through which a header goes counts no more than is left, and a header goes through it wherever that much is
+-- left.
 use Rattle.std.proofs.Common.{◌≡◌, ℕ, ◌+◌, ◌-◌, ◌≤◌, inl, inr, List, [], ◌∷◌, Some, refl, sym, ap, subst, arith}
 use Rattle.smpl_lexer.specs.declared.token.PatchToken.{PatchToken}
 use Rattle.smpl_lexer.specs.declared.places.HeaderPlace.{HeaderPlace}
@@ -25,7 +26,7 @@ places n m _ _ (hole level) = record { place = h.Operand level; of = hole_of lev
 places n m _ _ (worded level) = record { place = h.Word level; of = word_of level; first = refl; second = refl }
 places n m _ _ (full level) = record { place = h.Operated level; of = full_of level; first = refl; second = refl }
 
--- with one more left a place of a condition can be completed
+-- with one more left, a place of a condition can be completed
 live_place : (n m : ℕ) (p r : HeaderPlace) → Pair n m p r → 1 ≤ m → Live r
 live_place n m _ _ (hole level) some = live.hole level m (m - 1) (omega (arith, some))
 live_place n m _ _ (worded level) some = live.worded level m (m - 1) (omega (arith, some))

@@ -1,5 +1,5 @@
--- A condition through which a header goes, whatever count is left before it: it goes through the same tokens where as many
--- are left as they count.
+-- A condition through which a header goes, whatever count is left before it: it goes through the same tokens if as many are
+-- left as they count.
 use Rattle.std.proofs.Common.{◌≡◌, ℕ, ◌+◌, ◌-◌, ◌==◌, ◌||◌, ◌⊎◌, inl, inr, Bool, true, false, List, [], ◌∷◌, Some, None, refl, sym, ap, ◌∙◌, subst, codes, arith, if◌then◌else◌}
 use Rattle.std.specs.Prelude.{cond}
 use Rattle.std.proofs.lemmas.Bool.{eqb-true}
@@ -21,7 +21,7 @@ use Rattle.smpl_meta.proofs.Passing.{Passes, Live}
 use Rattle.smpl_meta.proofs.Passing.Passes.{here, on}
 use Rattle.smpl_meta.proofs.Passing.{Live as live}
 
--- ---- behind the condition
+-- ---- after the condition
 
 pub data Outer : HeaderPlace → Type 0 where
   moded : Outer h.Moded
@@ -71,7 +71,7 @@ pub record Led (t : PatchToken) (p : HeaderPlace) (next rest : ℕ) (q : HeaderP
   pub is : header_step p t ≡ Some place
   pub pair : Pair next rest q place
 
--- the token goes on with the condition
+-- the token continues the condition
 pub record Goes (n : ℕ) (t : PatchToken) (ts : List PatchToken) (p : ℕ → HeaderPlace) (q : HeaderPlace) : Type 0 where
   pub cost : ℕ
   pub next : ℕ
@@ -105,7 +105,7 @@ no_more n = omega arith
 same_left : (m rest : ℕ) → m ≡ rest + 0 → m ≡ rest
 same_left m rest e = omega (arith, e)
 
--- where nothing is counted, as many are left
+-- if nothing is counted, as many are left
 stays : {t : PatchToken} {next rest m : ℕ} {p q : HeaderPlace} → m ≡ rest → Led t p next m q → Led t p next rest q
 stays {t = t} {next = next} {p = p} {q = q} e led = subst (λ (k : ℕ). Led t p next k q) e led
 
@@ -238,7 +238,7 @@ from_full n level t ts q (ends z is e) = inl (record {
   leads = λ m. leaves t q level m z is e;
 })
 
--- a token leads from each place of a condition either on or out of it
+-- from each place of a condition, a token leads either further into it or out of it
 pub from_place : (n : ℕ) (t : PatchToken) (ts : List PatchToken) (p : ℕ → HeaderPlace) (q : HeaderPlace) → Condition p
     → header_step (p n) t ≡ Some q → Moves n t ts p q
 from_place n t ts _ q (hole_of level) e = inr (from_hole n level t ts q (operand_is level n t q e))

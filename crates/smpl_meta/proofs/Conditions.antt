@@ -1,7 +1,7 @@
--- A header that goes on to its end has a condition.
+-- A header that has no stop has a condition.
 --
--- Proof: by recursion on the tokens. At each place stands what an operand would complete (`Fill`), or what one has
--- completed (`Done`), for the innermost group, and for each group around it what it would complete (`Around`).
+-- Proof: by recursion on the tokens. Each place has what an operand would complete (`Fill`), or what one has completed
+-- (`Done`), for the innermost group, and for each group around it what that group would complete (`Around`).
 use Rattle.std.proofs.Common.{◌≡◌, ℕ, ◌+◌, ◌-◌, ◌⊎◌, inl, inr, ◌==◌, ◌||◌, Bool, true, false, List, [], ◌∷◌, Option, Some, None, refl, sym, ap, subst, codes, arith, if◌then◌else◌}
 use Rattle.std.proofs.lemmas.Bool.{eqb-true, eq-eqb}
 use Rattle.smpl_patch.specs.declared.rule.Dep.{Dep}
@@ -18,7 +18,7 @@ use Rattle.smpl_meta.specs.Heads.Level.{Either, Both, Prefix}
 use Rattle.smpl_meta.specs.Heads.Spells.{either, one_both, both, one_prefix, negated, group, name, ever, never}
 use Rattle.smpl_meta.proofs.Marks.{Goes, is_not, is_open, is_close, is_or, is_and, is_ever, is_never, plain, name_goes}
 
--- ---- the table of places, turned round
+-- ---- the table of places, inverted
 
 abbrev pub Ends : HeaderPlace → List PatchToken → ℕ → Type 0
 Ends p ts end = stop header_step header_ends p ts end ≡ None
@@ -40,7 +40,7 @@ stepped p t ts end e = step_of (header_step p t) t.at ts end e
 not_zero : (level : ℕ) → (level == 0) ≡ false → level ≡ 0 → ⊥
 not_zero level e z = let yes : (level == 0) ≡ true = eq-eqb level 0 z in absurd (cc)
 
--- a counted token stands only where one may come
+-- there is a counted token only where one is allowed
 counted_by : (left : ℕ) (next q : HeaderPlace) (b : Bool) → (left == 0) ≡ b → (if b then None else Some next) ≡ Some q
     → (q ≡ next) × (left ≡ 0 → ⊥)
 counted_by left next q true is e = absurd (cc)
@@ -142,7 +142,7 @@ pub is_name : (t : PatchToken) → is_rule_name t ≡ true → Goes t mark.Name
 is_name t e = name_goes t (plain t e) e
 
 module _ (earlier : List RuleHead) where
-  -- an operand has ended: the group is what stands behind its last `||`, and what stands before that
+  -- an operand has ended: the group is the part after its last `||` and the part before that
   data Done : List PatchToken → List PatchToken → Type 0 where
     alone : {xs zs : List PatchToken} (b : Dep) → Spells earlier Both xs b zs → Done xs zs
     after : {xs mid zs : List PatchToken} (t : PatchToken) (a b : Dep) → Spells earlier Either xs a (t ∷ mid)
@@ -174,7 +174,7 @@ module _ (earlier : List RuleHead) where
     inner : {k n : ℕ} {xs ys : List PatchToken} (t : PatchToken) → k ≡ n + 1 → mark_of t ≡ mark.Open
         → Fill xs (t ∷ ys) → Around all n xs → Around all k ys
 
-  -- where a header stands in a condition
+  -- where a header is in a condition
   data At (all : List PatchToken) : HeaderPlace → List PatchToken → Type 0 where
     hole : {level left : ℕ} {xs ys : List PatchToken} → Around all level xs → Fill xs ys
         → At all (h.Operand level left) ys
@@ -198,7 +198,7 @@ module _ (earlier : List RuleHead) where
       let filled = f g.0 cs (group t u o g.1 close) in
       subst (λ (k : ℕ). At all (h.Operated k left) cs) outer (full around filled)
 
-  -- what a token leads to: the end of the condition, or the place behind it
+  -- what a token leads to: the end of the condition, or the place after it
   abbrev Moves : List PatchToken → List PatchToken → HeaderPlace → Type 0
   Moves all ts q = Spelled all [] ⊎ At all q (condition ts)
 
@@ -272,7 +272,7 @@ module _ (earlier : List RuleHead) where
         | inr next ↦ condition_of ts s.next end next s.ends
       ]
 
-  -- behind `depends on`
+  -- after `depends on`
   pub behind : (ts : List PatchToken) (left end : ℕ) → Ends (h.Operand 0 left) ts end
       → (d : Dep) × Spells earlier Either (condition ts) d []
   behind ts left end e = condition_of ts (h.Operand 0 left) end (hole bottom (fresh (condition ts))) e

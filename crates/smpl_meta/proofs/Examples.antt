@@ -1,4 +1,4 @@
--- The definitions, run.
+-- The definitions applied to small values.
 use Rattle.std.proofs.Common.{◌≡◌, ℕ, true, false, List, [], ◌∷◌, Some, refl, codes, length, arith}
 use Rattle.c_terms.specs.declared.token.TokenKind.TheVariants.{Name, Keyword, Punct, Stray, Dots}
 use Rattle.c_terms.specs.declared.token.MetaKind.TheVariants as meta
@@ -85,7 +85,7 @@ binds = refl
 never : dep_of earlier (word (codes "never") 0 ∷ word (codes "r") 1 ∷ []) ≡ dep.Not (dep.Ever 0)
 never = refl
 
--- `x@p` has one token, behind which a position stands
+-- `x@p` has one token, which a position follows
 abbrev p_decl : List VarDecl
 p_decl = record { var = record { rule = 0; name = codes "p" }; kind = Position; inherited = false; not_names = []; not_places = [] } ∷ []
 
@@ -107,7 +107,7 @@ two_outside = refl
 one_clause : (split dotted).clauses ≡ (0, Not (record { token = record { kind = Name; text = codes "a"; id = 3 }; at = 12; sign = 32; line = 0; positions = [] } ∷ [])) ∷ []
 one_clause = refl
 
--- `!(ever r)` counts three
+-- `!(ever r)` has three counted tokens
 counts_three : counted_in (mark (codes "!") 0 ∷ mark (codes "(") 1 ∷ word (codes "ever") 2 ∷ word (codes "r") 3 ∷ mark (codes ")") 4 ∷ []) ≡ 3
 counts_three = refl
 
@@ -120,7 +120,7 @@ is_header = named (at 0) (word (codes "s") 1) refl refl
     (depends {cs = mark (codes "!") 4 ∷ word (codes "r") 5 ∷ []} {ts = at 6 ∷ []} (word (codes "depends") 2) (word (codes "on") 3) refl refl
     (one_both (one_prefix (negated (mark (codes "!") 4) refl (plain (word (codes "r") 5) refl)))) (omega arith) (bare (at 6) refl))
 
--- `@s depends on r t@` can't go on at t, and `@s depends on` not at its end
+-- `@s depends on r t@` stops at t, and `@s depends on` at its end
 at_second_name : header_stop (at 0 ∷ word (codes "s") 1 ∷ word (codes "depends") 2 ∷ word (codes "on") 3 ∷ word (codes "r") 4 ∷ word (codes "t") 5 ∷ at 6 ∷ []) 9 ≡ Some 5
 at_second_name = refl
 

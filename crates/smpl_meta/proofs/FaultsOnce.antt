@@ -1,4 +1,4 @@
--- A text has one first fault of its heads, and none where it has heads.
+-- A text has at most one first fault of its heads, and none if it has heads.
 use Rattle.std.proofs.Common.{◌≡◌, ℕ, zero, suc, ◌<◌, ◌⊎◌, inl, inr, List, [], ◌∷◌, ◌++◌, length, take, Option, Some, refl, sym, ◌∙◌, subst, append_assoc, slice_get, arith}
 use Rattle.std.specs.Prelude.{IfSome}
 use Rattle.std.proofs.lemmas.List.{append-nil}

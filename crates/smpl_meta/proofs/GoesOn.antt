@@ -1,7 +1,7 @@
--- A header that the grammar spells goes on to its end.
+-- A header that the grammar spells has no stop.
 --
--- Proof: by induction on how a condition is spelled. Reading what is spelled leads from before an operand to behind one, at
--- the same level of brackets, and takes as many of the counted tokens as stand there.
+-- Proof: by induction on how a condition is spelled. Reading what is spelled leads from before an operand to after one, at
+-- the same level of brackets, and uses up as many of the counted tokens as it contains.
 use Rattle.std.proofs.Common.{◌≡◌, ℕ, ◌+◌, ◌-◌, ◌≤◌, ◌==◌, ◌||◌, Bool, true, false, List, [], ◌∷◌, ◌++◌, Option, Some, None, refl, ap, ◌∙◌, subst, codes, arith, if◌then◌else◌}
 use Rattle.std.specs.Prelude.{cond}
 use Rattle.std.specs.Str.{bytes_eq}
@@ -94,7 +94,7 @@ taken_by left rest f false is e =
 pub taken : (left rest : ℕ) (f : ℕ → HeaderPlace) → left ≡ rest + 1 → counted left (f (less left)) ≡ Some (f rest)
 taken left rest f e = taken_by left rest f (left == 0) refl e
 
--- what stands before an operand, by its tests in order
+-- what precedes an operand, by its tests in order
 operand_by : (level left : ℕ) (a b c n : Bool) → Option HeaderPlace
 operand_by level left a b c n =
     if a then counted left (h.Operand level (less left))
@@ -166,8 +166,8 @@ module _ (end : ℕ) where
   uncounted : (b : Bool) → b ≡ false → cond {A = ℕ} b 1 0 ≡ 0
   uncounted b none = ap (λ (c : Bool). cond {A = ℕ} c 1 0) none
 
-  -- so many counted tokens stand from the first list to the second, and reading them leads from before an operand to
-  -- behind one
+  -- there are this many counted tokens from the first list to the second, and reading them leads from before an operand to
+  -- after one
   record Reads (xs zs : List PatchToken) : Type 0 where
     count : ℕ
     counts : counted_in xs ≡ count + counted_in zs
@@ -265,7 +265,7 @@ module _ (end : ℕ) where
 
     -- ---- the whole header
 
-    -- a token with which a header ends is none of those that go on
+    -- a token with which a header ends is none of those that continue one
     pub record Last (t : PatchToken) : Type 0 where
       pub name : is_rule_name t ≡ false
       pub depends : is_word (codes "depends") t ≡ false
@@ -327,7 +327,7 @@ module _ (end : ℕ) where
         neither : (a b : Bool) → a ≡ false → b ≡ false → (a || b) ≡ false
         neither a b ea eb = rw (ea, eb) refl
 
-    -- behind `depends on`
+    -- after `depends on`
     pub condition_ends : (most : ℕ) {cs ts : List PatchToken} {d : Dep} → Spells earlier Either cs d [] → counted_in cs ≤ most
         → Closes ts → Ends (h.Operand 0 most) (cs ++ ts) end
     condition_ends most {cs = cs} {ts = ts} spelled few last =
@@ -335,7 +335,7 @@ module _ (end : ℕ) where
         r.leads 0 most (most - r.count) ts (omega (arith, few, r.counts))
         (closed (h.Operated 0 (most - r.count)) ts last (operated_closes (most - r.count)))
 
-    -- behind the name, or where none stands
+    -- after the name, or where the name is missing
     behind : (p : HeaderPlace) (ts : List PatchToken) → Goes earlier 200 ts → MayClose p
         → ((t : PatchToken) → is_word (codes "depends") t ≡ true → header_step p t ≡ Some h.Depends) → Ends p ts end
     behind p ts (free last) may on = closed p ts last may

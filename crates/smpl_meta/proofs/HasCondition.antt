@@ -1,4 +1,4 @@
--- Each header that goes on to its end has a condition, `Always` where it has no `depends on`.
+-- Each header that has no stop has a condition, `Always` if it has no `depends on`.
 use Rattle.std.proofs.Common.{◌≡◌, ℕ, ◌||◌, Bool, true, false, List, [], ◌∷◌, Some, None, refl, sym, ap, ◌∙◌, subst, codes, if◌then◌else◌}
 use Rattle.smpl_patch.specs.declared.rule.Dep.{Dep}
 use Rattle.smpl_patch.specs.declared.rule.Dep.TheVariants as dep
@@ -26,7 +26,7 @@ mode_not_on t false true is also e = word_not_on (codes "forall") t also refl
 mode_not_on t false false is also e = absurd (cc)
 
 module _ (earlier : List RuleHead) (end : ℕ) where
-  -- the tokens behind `on` have a condition
+  -- the tokens after `on` have a condition
   abbrev Has : List PatchToken → Type 0
   Has ts = (d : Dep) × DependsOn earlier (condition ts) d
 

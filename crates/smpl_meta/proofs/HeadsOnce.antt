@@ -1,4 +1,4 @@
--- The rules of a text have one list of heads, or one first fault.
+-- The rules of a text have at most one list of heads, or one first fault.
 use Rattle.std.proofs.Common.{◌≡◌, ℕ, List, [], ◌∷◌, ◌++◌, Some, None, length, refl, sym, ap, ◌∙◌, subst}
 use Rattle.smpl_patch.specs.declared.pattern.VarDecl.{VarDecl}
 use Rattle.smpl_patch.specs.declared.rule.Dep.{Dep}

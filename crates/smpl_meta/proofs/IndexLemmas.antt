@@ -30,7 +30,7 @@ module _ {K : Type 0} (f : K → List ℕ) where
   found name [] = refl
   found name (e ∷ es) = let r = found name es in let s = bytes_eq-sym name (f e.0) in cc
 
-  -- a key that is not alike, before the others
+  -- a key that is not equal, before the others
   step_by : (here there : Bool) (m : ℕ) (q r rest o : Option ℕ) → here ≡ false → (if here then Some m else q) ≡ None → (q ≡ None → rest ≡ or_else r o)
       → (if there then Some m else rest) ≡ or_else (if there then Some m else r) o
   step_by true there m q r rest o h none more = absurd (true≢false h)
@@ -105,7 +105,7 @@ pub place_within : (n m : ℕ) (xs : List (List ℕ)) (name : List ℕ) → plac
 place_within n m [] name e = cc
 place_within n m (x ∷ xs) name e = within_by (bytes_eq x name) n m (length xs) (place_from (n + 1) xs name) (place_within (n + 1) m xs name) e
 
--- which of the names is the first that is this one
+-- which of the names is the first that equals this one
 abbrev pub place_of : List (List ℕ) → List ℕ → Option ℕ
 place_of [] name = None
 place_of (x ∷ xs) name = if bytes_eq x name then Some 0 else option_map (λ j. suc j) (place_of xs name)
@@ -127,7 +127,7 @@ from_zero (Some j) = ap (λ k. Some k) (omega arith)
 place-from-zero : (xs : List (List ℕ)) (name : List ℕ) → place_from 0 xs name ≡ place_of xs name
 place-from-zero xs name = shift 0 xs name ∙ from_zero (place_of xs name)
 
--- ---- what stands at a place
+-- ---- what is at a place
 
 here_by : {A : Type 0} (a : A) (rest : List A) (b : Bool) (o : Option ℕ) (v : Option A) → v ≡ option_and_then (slice_get rest) o
     → (if b then Some a else v) ≡ option_and_then (slice_get (a ∷ rest)) (if b then Some 0 else option_map (λ j. suc j) o)
@@ -139,7 +139,7 @@ var_at : (vars : List VarDecl) (name : List ℕ) → var_named name vars ≡ opt
 var_at [] name = refl
 var_at (d ∷ ds) name = here_by d ds (bytes_eq d.var.name name) (place_of (names_of ds) name) (var_named name ds) (var_at ds name)
 
--- the variable of a name stands at the name's place
+-- the variable with a given name is at the name's place
 pub var-at-place : (vars : List VarDecl) (names : List (List ℕ)) (name : List ℕ) (o : Option ℕ) → names ≡ names_of vars → o ≡ place_from 0 names name
     → option_and_then (slice_get vars) o ≡ var_named name vars
 var-at-place vars names name o same e =
@@ -149,7 +149,7 @@ head_at : (heads : List RuleHead) (name : List ℕ) → head_named name heads �
 head_at [] name = refl
 head_at (h ∷ hs) name = here_by h hs (bytes_eq h.name name) (place_of (head_names hs) name) (head_named name hs) (head_at hs name)
 
--- the rule of a name stands at the name's place
+-- the rule with a given name is at the name's place
 pub head-at-place : (heads : List RuleHead) (names : List (List ℕ)) (name : List ℕ) (o : Option ℕ) → names ≡ head_names heads → o ≡ place_from 0 names name
     → option_and_then (slice_get heads) o ≡ head_named name heads
 head-at-place heads names name o same e =

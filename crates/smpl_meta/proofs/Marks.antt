@@ -61,7 +61,7 @@ stray_kind (Meta m) e = absurd (cc)
 stray_kind Dots e = absurd (cc)
 stray_kind Pat e = absurd (cc)
 
--- what a token is, and that a condition goes on over it
+-- what a token is, and that a condition continues past it
 pub record Goes (t : PatchToken) (m : Mark) : Type 0 where
   pub mark : mark_of t ≡ m
   pub goes : (is_mode t || is_at t) ≡ false
@@ -98,7 +98,7 @@ is_ever t e = let s = word (codes "ever") t e in record { mark = rw (s.0, s.1) r
 pub is_never : (t : PatchToken) → is_word (codes "never") t ≡ true → Goes t mark.Never
 is_never t e = let s = word (codes "never") t e in record { mark = rw (s.0, s.1) refl; goes = rw (s.0, s.1) refl }
 
--- a rule's name is none of the header's words
+-- a rule's name isn't one of the header's words
 pub record Plain (t : PatchToken) : Type 0 where
   pub kind : t.token.kind ≡ Name
   pub depends : is_word (codes "depends") t ≡ false

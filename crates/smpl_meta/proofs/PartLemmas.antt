@@ -1,4 +1,4 @@
--- Declarations that are read up to some one.
+-- Declarations that are read up to some declaration.
 use Rattle.std.proofs.Common.{◌≡◌, ℕ, suc, ◌+◌, ◌<◌, ◌≤◌, Bool, true, false, List, [], ◌∷◌, ◌++◌, length, take, drop, Option, refl, sym, ap, ◌∙◌, append_assoc, if◌then◌else◌, codes, arith}
 use Rattle.std.proofs.lemmas.List.{drop-drop, length-drop, append-nil}
 use Rattle.smpl_patch.specs.declared.fault.PatchFault.{PatchFault}
@@ -11,7 +11,7 @@ use Rattle.smpl_meta.specs.Splits.{part_length}
 use Rattle.smpl_meta.specs.Decls.{items_or_none, items_of, form_fault, form_faults}
 use Rattle.smpl_meta.proofs.FirstLemmas.{first_append}
 
--- the first part, and the parts behind it
+-- the first part, and the parts after it
 abbrev Split : List PatchToken → Type 0
 Split ts = parts ts ≡ take (part_length ts) ts ∷ parts (drop (part_length ts) ts)
 

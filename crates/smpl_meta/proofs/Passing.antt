@@ -1,4 +1,4 @@
--- Tokens through which a header goes, and how it can be completed behind them.
+-- Tokens through which a header goes, and how it can be completed after them.
 use Rattle.std.proofs.Common.{◌≡◌, ℕ, zero, suc, ◌+◌, List, [], ◌∷◌, ◌++◌, Option, Some, None, refl, sym, ap, ◌∙◌, subst, codes, arith}
 use Rattle.c_terms.specs.declared.token.TokenKind.TheVariants as token
 use Rattle.smpl_lexer.specs.declared.token.PatchToken.{PatchToken}
@@ -32,7 +32,7 @@ pub ended : (end : ℕ) (more : List PatchToken) {xs : List PatchToken} {p q : H
 ended end more here e = e
 ended end more (on {p = p} {q = q} {t = t} {ts = ts} is rest) e = goes end p q t (ts ++ more) is (ended end more rest e)
 
--- where a header stops behind tokens through which it goes
+-- where a header stops after tokens through which it goes
 pub stops_behind : (end : ℕ) (more : List PatchToken) {xs : List PatchToken} {p q : HeaderPlace} → Passes p xs q
     → stop header_step header_ends p (xs ++ more) end ≡ stop header_step header_ends q more end
 stops_behind end more here = refl
@@ -50,7 +50,7 @@ pub record Next (q : HeaderPlace) (t : PatchToken) : Type 0 where
   pub place : HeaderPlace
   pub is : header_step q t ≡ Some place
 
--- the token behind others
+-- the token after others
 pub next_step : {xs : List PatchToken} {p q r : HeaderPlace} (t : PatchToken) → Passes p xs q → Passes p (xs ++ t ∷ []) r
     → Next q t
 next_step t here (on {q = q} is rest) = record { place = q; is = is }
@@ -60,7 +60,7 @@ next_step t (on {q = a} {ts = ts} first rest) (on {q = b} {r = r} other more) =
 
 -- ---- a header that can be completed
 
--- places from which it can: before an operand one more token that counts may come
+-- places from which it can: before an operand, one more counted token may come
 pub data Live : HeaderPlace → Type 0 where
   starts : Live h.Start
   opened : Live h.Opened

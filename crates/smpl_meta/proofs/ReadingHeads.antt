@@ -9,7 +9,7 @@ use Rattle.smpl_lexer.specs.declared.text.PatchText.{PatchText}
 use Rattle.smpl_meta.specs.declared.head.RuleHead.{RuleHead}
 use Rattle.smpl_meta.specs.Heads.{IsHead, IsHeadFault, AreHeads, IsFirstHeadFault}
 
--- one more rule, read under all heads before it
+-- one more rule, read after all heads before it
 more_heads : (text : PatchText) (earlier : List RuleHead) (rs : List RuleText) (hs : List RuleHead) (r : RuleText) (h : RuleHead)
     → AreHeads text earlier rs hs → IsHead text.virtuals (earlier ++ hs) (length (earlier ++ hs)) r h → AreHeads text earlier (rs ++ r ∷ []) (hs ++ h ∷ [])
 more_heads text earlier [] [] r h are is =
@@ -29,7 +29,7 @@ heads-more text rules i virtuals hs r h within e same count are is =
     let longer : take (i + 1) rules ≡ take i rules ++ r ∷ [] = take_more rules i r within ∙ ap (λ (y : RuleText). take i rules ++ y ∷ []) (sym e) in
     subst (λ (l : List RuleText). AreHeads text [] l (hs ++ h ∷ [])) (sym longer) (more_heads text [] (take i rules) hs r h are is-there)
 
--- a rule's fault is the first one where nothing is wrong with the rules before
+-- a rule's fault is the first one if the rules before it have none
 pub fault-here : (text : PatchText) (rules : List RuleText) (i : ℕ) (virtuals : List (List ℕ)) (hs : List RuleHead) (r : RuleText) (f : PatchFault)
     → rules ≡ text.rules → i < length rules → r ≡ get_or rules i r → virtuals ≡ text.virtuals → AreHeads text [] (take i rules) hs
     → IsHeadFault virtuals hs r f → IsFirstHeadFault text f

@@ -15,7 +15,7 @@ later : (b k m : Bool) (n : Bool) → n ≡ (if k then true else m) → (if b th
 later true k m n h = refl
 later false k m n h = h
 
--- one more item before
+-- one more earlier item
 pub known-append : (before : List Item) (j i : Item) → is_known (before ++ j ∷ []) i ≡ (if is_known before i then true else is_again i j)
 known-append [] j i = same_if (is_again i j)
 known-append (x ∷ xs) j i = later (is_again i x) (is_known xs i) (is_again i j) (is_known (xs ++ j ∷ []) i) (known-append xs j i)
@@ -44,6 +44,6 @@ module _ (s r : Seen) (i j : Item) (all : IsPut false (name_of i) s.all r.all) w
   by true true put = ap is_some (put (name_of j)) ∙ same_by (number_in s.variables (name_of j)) (bytes_eq (name_of i) (name_of j))
   by true false put = ap is_some (put (name_of j)) ∙ some_by (number_in s.variables (name_of j)) (bytes_eq (name_of i) (name_of j))
 
-  -- an item is put to what is seen
+  -- an item is added to those seen so far
   pub seen-put : IsPut (is_symbol i.kind) (name_of i) s.variables r.variables → is_seen r j ≡ (if is_seen s j then true else is_again j i)
   seen-put put = by (is_symbol j.kind) (is_symbol i.kind) put

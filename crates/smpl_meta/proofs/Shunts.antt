@@ -1,7 +1,7 @@
 -- What is read from left to right is what the grammar spells.
 --
 -- Proof: by induction on how the tokens are spelled. At each level, reading them has the effect that the level's word says:
--- an operand is taken; what `&&` joins stands alone behind the last `||`; what `||` joins is what the group closes to.
+-- an operand is taken; what `&&` joins is alone after the last `||`; what `||` joins is what the group closes to.
 use Rattle.std.proofs.Common.{◌≡◌, List, [], ◌∷◌, Option, Some, None, refl, sym, ap, ◌∙◌}
 use Rattle.smpl_patch.specs.declared.rule.Dep.{Dep}
 use Rattle.smpl_lexer.specs.declared.token.PatchToken.{PatchToken}
@@ -35,7 +35,7 @@ module _ (earlier : List RuleHead) where
       → run earlier s (t ∷ ts) ≡ run earlier (step_by earlier m s t.token.text) ts
   steps s t ts m e = ap (λ (k : Mark). run earlier (step_by earlier k s t.token.text) ts) e
 
-  -- what reading has done where a group of `||` was read
+  -- what reading has done after a group of `||`
   pub record Closes (xs : List PatchToken) (d : Dep) (zs : List PatchToken) (ps : List Pending) : Type 0 where
     pub left : Option Dep
     pub right : Option Dep

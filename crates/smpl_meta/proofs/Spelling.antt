@@ -1,7 +1,7 @@
--- A header that goes on to its end is one that the grammar spells.
+-- A header that has no stop is one that the grammar spells.
 --
--- Proof: what stands from the place behind `on` up to `exists`, `forall` or `@` has a condition, as is known; the rest of the
--- header and the count of its tokens are read off the places, by recursion on the tokens.
+-- Proof: the tokens after `on` up to `exists`, `forall` or `@` have a condition, as is known; the rest of the header
+-- and the count of its tokens are read off the places, by recursion on the tokens.
 use Rattle.std.proofs.Common.{◌≡◌, ℕ, ◌+◌, ◌-◌, ◌≤◌, ◌==◌, ◌||◌, ◌⊎◌, inl, inr, Bool, true, false, List, [], ◌∷◌, ◌++◌, Some, None, refl, sym, ap, ◌∙◌, subst, codes, arith, if◌then◌else◌}
 use Rattle.std.specs.Prelude.{cond}
 use Rattle.std.proofs.lemmas.Bool.{eqb-true}
@@ -58,7 +58,7 @@ module _ (end : ℕ) where
       → Closes (t ∷ ts)
   closes_of t ts q e last = closes_by t ts q (is_mode t) refl e last
 
-  -- ---- a condition, and what stands behind it
+  -- ---- a condition, and what follows it
 
   pub record Rest (left : ℕ) (ts : List PatchToken) : Type 0 where
     pub tail : List PatchToken
@@ -86,7 +86,7 @@ module _ (end : ℕ) where
   one_less : (left : ℕ) → (left ≡ 0 → ⊥) → 1 + less left ≤ left
   one_less left some = less_by left (left == 0) refl some
 
-  -- the places of a condition, before each of which so many counted tokens may come
+  -- the places of a condition, before each of which this many counted tokens may come
   pub data In (left : ℕ) : HeaderPlace → Type 0 where
     hole : (level : ℕ) → In left (h.Operand level left)
     worded : (level : ℕ) → In left (h.Word level left)
@@ -103,7 +103,7 @@ module _ (end : ℕ) where
     | inr is ↦ longer left left t ts mark.Never is w.goes (omega arith) r
   ]
 
-  -- a token leads to a place of the condition, and what stands there makes what stands here
+  -- a token leads to a place of the condition, and what is there makes what is here
   record On (left : ℕ) (t : PatchToken) (ts : List PatchToken) (q : HeaderPlace) : Type 0 where
     next : ℕ
     at : In next q

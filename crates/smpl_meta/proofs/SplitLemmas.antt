@@ -73,7 +73,7 @@ more_by : (w : Bool) (t : PatchToken) (ts : List PatchToken) (b : Bool) → (is_
 more_by w t ts true is e after = ap (λ (v : Bool). [] ∷ chunks v ts) (not_within w (is_sign (codes ",") t) is)
 more_by w t ts false is e after = ap (put t) (after (omega arith))
 
--- behind the last comma
+-- after the last comma
 pub chunks_last : (w : Bool) (ts : List PatchToken) → chunk_length w ts ≡ length ts → chunks w ts ≡ ts ∷ []
 chunks_last w [] e = refl
 chunks_last w (t ∷ ts) e = last_by w t ts (is_sign (codes ",") t && not w) refl e (λ e. chunks_last (within_after w t) ts e)

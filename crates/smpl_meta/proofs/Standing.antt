@@ -1,4 +1,4 @@
--- A header can stand so far exactly where the table goes through the tokens.
+-- Tokens can begin a header exactly if the table goes through them.
 use Rattle.std.proofs.Common.{◌≡◌, ℕ, ◌+◌, ◌≤◌, ◌⊎◌, inl, inr, Bool, true, false, List, [], ◌∷◌, ◌++◌, Some, None, refl, sym, ap, ◌∙◌, subst, codes, append_assoc, arith, if◌then◌else◌}
 use Rattle.smpl_patch.specs.declared.rule.Dep.{Dep}
 use Rattle.smpl_lexer.specs.declared.token.PatchToken.{PatchToken}
@@ -25,7 +25,7 @@ use Rattle.smpl_meta.proofs.Carried.{few_passed, carried}
 
 -- ---- the parts of what a header goes through
 
--- no `on` stands behind the condition
+-- there is no `on` after the condition
 at_by : (t : PatchToken) (ts : List PatchToken) (q r : HeaderPlace) (b : Bool) → is_at t ≡ b → (if b then Some h.Closed else None) ≡ Some q
     → Passes q ts r → behind_on (t ∷ ts) ≡ []
 at_by t [] q r true is e pass = skipped t [] (at_not_on t is)
@@ -48,7 +48,7 @@ outer_by t ts q r true is e pass =
 outer_by t ts q r false is e pass = at_by t ts q r (is_at t) refl e pass
 
 module _ (earlier : List RuleHead) where
-  -- what a header goes through ends before `on`, or it has a condition up to here, behind which anything that ends a
+  -- what a header goes through ends before `on`, or it has a condition up to here, after which anything that ends a
   -- condition makes tokens of a kind
   record Within (Whole : (most : ℕ) → List PatchToken → Type 0) (ts : List PatchToken) (q : HeaderPlace) : Type 0 where
     first : List PatchToken
@@ -111,7 +111,7 @@ module _ (earlier : List RuleHead) where
     whole = λ most cs last d spelled few ends. more most (w.first ++ (cs ++ last)) (w.whole most cs last d spelled few ends);
   })
 
-  -- behind `@`
+  -- after `@`
   abbrev Tail : (most : ℕ) → List PatchToken → Type 0
   Tail most ts = (a : PatchToken) → is_at a ≡ true → IsHeader earlier most (a ∷ ts)
 
@@ -150,7 +150,7 @@ module _ (earlier : List RuleHead) where
   parts _ _ here = inl (record { none = refl; live = live.starts })
   parts _ r (on {q = q} {t = t} {ts = ts} step rest) = start_by t ts q r (is_at t) refl step rest
 
-  -- ---- where the table goes through, a header can stand
+  -- ---- if the table goes through, the tokens can begin a header
 
   few_of : (ts : List PatchToken) (n : ℕ) → behind_on ts ≡ [] → counted_in (depends_tokens ts) ≤ n
   few_of ts n none = let zero_is : counted_in (depends_tokens ts) ≡ 0 = ap (λ (l : List PatchToken). counted_in (condition l)) none in

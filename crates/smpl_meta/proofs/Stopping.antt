@@ -1,4 +1,4 @@
--- A header stops exactly where it can't stand any more.
+-- A header stops exactly where its tokens no longer begin a header.
 use Rattle.std.proofs.Common.{◌≡◌, ℕ, ◌≤◌, ◌⊎◌, inl, inr, Bool, true, false, List, [], ◌∷◌, ◌++◌, Option, Some, None, refl, sym, ap, ◌∙◌, subst, codes, if◌then◌else◌}
 use Rattle.std.proofs.lemmas.List.{append-nil}
 use Rattle.smpl_lexer.specs.declared.token.PatchToken.{PatchToken}
@@ -26,7 +26,7 @@ record Reached (p : HeaderPlace) (xs : List PatchToken) : Type 0 where
   at : HeaderPlace
   passes : Passes p xs at
 
--- up to here no more counts than may
+-- up to here no more is counted than is allowed
 abbrev Few : List PatchToken → Type 0
 Few xs = counted_in (depends_tokens xs) ≤ 200
 
@@ -36,7 +36,7 @@ few_behind t xs other few = subst (λ (l : List PatchToken). counted_in (conditi
 few_on : (t : PatchToken) (xs : List PatchToken) → is_word (codes "on") t ≡ true → Few (t ∷ xs) → counted_in (condition xs) ≤ 200
 few_on t xs is few = subst (λ (l : List PatchToken). counted_in (condition l) ≤ 200) (found t xs is) few
 
--- through one token that isn't `on`, or not even that far
+-- past one token that isn't `on`, or not even that far
 through : (p q : HeaderPlace) (t : PatchToken) (ts more xs : List PatchToken) → header_step p t ≡ Some q
     → is_word (codes "on") t ≡ false → ((ys : List PatchToken) → ys ++ more ≡ ts → Few ys → Reached q ys)
     → xs ++ more ≡ t ∷ ts → Few xs → Reached p xs
@@ -54,7 +54,7 @@ module _ (earlier : List RuleHead) where
       let r = passed 0 xs more p (subst (λ (l : List PatchToken). Ends p l 0) (sym e) ends) in
       record { at = r.at; passes = r.passes }
 
-  -- from `on`, through a condition for which so many may count
+  -- from `on`, through a condition in which this many may be counted
   reach_on : (most : ℕ) (o : PatchToken) (ts more xs : List PatchToken) → is_word (codes "on") o ≡ true → Ends (h.Operand 0 most) ts 0
       → xs ++ more ≡ o ∷ ts → Few xs → Reached h.Depends xs
   reach_on most o ts more [] is ends e few = record { at = h.Depends; passes = here }

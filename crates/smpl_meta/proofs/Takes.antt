@@ -11,7 +11,7 @@ use Rattle.smpl_meta.specs.Shunting.{take_on, settled}
 pub reverse_last : (ps : List Pending) (p : Pending) → reverse (ps ++ p ∷ []) ≡ p ∷ reverse ps
 reverse_last ps p = reverse-append ps (p ∷ [])
 
--- to take one operand is to take the other
+-- taking one operand equals taking the other
 pub record TakesAs (from : List Pending) (operand : Dep) (to : List Pending) (d : Dep) : Type 0 where
   pub same : (a b : Option Dep) → take_on a b (reverse from) operand ≡ take_on a b (reverse to) d
 

@@ -1,4 +1,4 @@
--- Lists that are gone over up to some place.
+-- Lists that are traversed up to some place.
 use Rattle.std.proofs.Common.{◌≡◌, ℕ, ◌+◌, ◌<◌, Bool, List, [], ◌∷◌, ◌++◌, length, take, drop, Option, sym, ap, ◌∙◌, get_or, append_assoc}
 use Rattle.std.proofs.lemmas.List.{drop_more, take_more}
 use Rattle.smpl_terms.specs.declared.var.Var.{Var as Variable}

@@ -1,13 +1,13 @@
--- What stands before a rule.
+-- What precedes a rule.
 use Rattle.std.specs.Prelude.{ℕ, List, [], ◌∷◌, ◌++◌, map}
 use Rattle.smpl_meta.specs.declared.head.RuleHead.{RuleHead}
 
--- the names of `virtual` lines, and the heads of the rules before
+-- the names of `virtual` lines, and the heads of earlier rules
 pub record Before : Type 0 where
   pub virtuals : List (List ℕ)
   pub heads : List RuleHead
 
--- no rule stands before
+-- no rule precedes
 abbrev pub first_under : List (List ℕ) → Before
 first_under virtuals = record { virtuals = virtuals; heads = [] }
 

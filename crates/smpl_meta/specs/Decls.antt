@@ -26,7 +26,7 @@ abbrev pub items_of : List (List PatchToken) → List Item
 items_of [] = []
 items_of (part ∷ more) = items_or_none (declared part) ++ items_of more
 
--- a declaration that isn't of the form is a fault at its first token
+-- a malformed declaration is a fault at its first token
 abbrev pub not_of_form : List PatchToken → List PatchFault
 not_of_form [] = []
 not_of_form (t ∷ ts) = BadMetavariable t.at ∷ []
@@ -52,7 +52,7 @@ abbrev pub is_symbol : DeclKind → Bool
 is_symbol Symbol = true
 is_symbol (Var k) = false
 
--- of one name, unless both are symbols
+-- both have the same name, unless both are symbols
 abbrev pub is_again : Item → Item → Bool
 is_again i j = bytes_eq j.named.name.token.text i.named.name.token.text && not (is_symbol i.kind && is_symbol j.kind)
 
@@ -67,7 +67,7 @@ abbrev pub is_kind : DeclKind → VarKind → Bool
 is_kind Symbol k = false
 is_kind (Var j) k = eqb (kind_number j) (kind_number k)
 
--- `r.x` where x is found so, if it is found
+-- the fault of `r.x`, by what is found for x
 abbrev pub found_fault : DeclKind → PatchToken → Option VarDecl → List PatchFault
 found_fault kind r None = UnknownRule r.at ∷ []
 found_fault kind r (Some d) = if is_kind kind d.kind then [] else KindDiffers r.at ∷ []
@@ -76,7 +76,7 @@ abbrev pub from_fault : List RuleHead → DeclKind → Option PatchToken → Pat
 from_fault earlier kind None x = []
 from_fault earlier kind (Some r) x = found_fault kind r (var_of earlier r.token.text x.token.text)
 
--- a name, and where it comes from
+-- the faults of a name and of the rule that it comes from
 abbrev pub named_faults : List RuleHead → DeclKind → Named → List PatchFault
 named_faults earlier kind n = from_word n.from ++ (word_fault n.name ++ from_fault earlier kind n.from n.name)
 
@@ -84,7 +84,7 @@ abbrev pub nots_faults : List RuleHead → DeclKind → List Named → List Patc
 nots_faults earlier kind [] = []
 nots_faults earlier kind (n ∷ ns) = named_faults earlier kind n ++ nots_faults earlier kind ns
 
--- of an item whose name is used again, or isn't
+-- the faults of an item, by whether its name is used again
 abbrev pub item_faults_by : Bool → List RuleHead → Item → List PatchFault
 item_faults_by again earlier i =
     twice_by again i ++ (named_faults earlier i.kind i.named ++ nots_faults earlier i.kind i.nots)
@@ -92,12 +92,12 @@ item_faults_by again earlier i =
 abbrev pub item_faults : List RuleHead → List Item → Item → List PatchFault
 item_faults earlier before i = item_faults_by (is_known before i) earlier i
 
--- of items that stand behind others
+-- the faults of items that follow others
 abbrev pub items_faults : List RuleHead → List Item → List Item → List PatchFault
 items_faults earlier before [] = []
 items_faults earlier before (i ∷ is) = item_faults earlier before i ++ items_faults earlier (before ++ i ∷ []) is
 
--- all that is wrong with declarations
+-- all faults of declarations
 abbrev pub decl_faults : List RuleHead → List PatchToken → List PatchFault
 decl_faults earlier tokens = form_faults (parts tokens) ++ items_faults earlier [] (items_of (parts tokens))
 
@@ -155,7 +155,7 @@ vars_of_items earlier rule (i ∷ is) = vars_in earlier rule i.kind i ++ vars_of
 abbrev pub vars_of : List RuleHead → ℕ → List PatchToken → List VarDecl
 vars_of earlier rule tokens = vars_of_items earlier rule (items_of (parts tokens))
 
--- Nothing is wrong with the declarations, and these are their variables.
+-- The declarations have no fault, and these are their variables.
 pub record IsDecls (earlier : List RuleHead) (rule : ℕ) (tokens : List PatchToken) (vars : List VarDecl)
     : Type 0 where
   pub faultless : decl_faults earlier tokens ≡ []

@@ -1,4 +1,4 @@
--- The form of declarations: a kind, items parted by commas, and `;`.
+-- The form of declarations: a kind, items separated by commas, and `;`.
 use Rattle.std.specs.Prelude.{ℕ, ◌||◌, ◌&&◌, not, Bool, true, false, if◌then◌else◌, List, [], ◌∷◌, drop, Option, Some, None, option_map, option_and_then, codes}
 use Rattle.c_terms.specs.declared.token.TokenKind.{TokenKind}
 use Rattle.c_terms.specs.declared.token.TokenKind.TheVariants as token
@@ -21,13 +21,13 @@ is_keyword_kind _ = false
 abbrev pub is_keyword : PatchToken → Bool
 is_keyword t = is_keyword_kind t.token.kind
 
--- what has the form of a name, be it a keyword
+-- a token in the form of a name, even if it is a keyword
 abbrev pub is_wordish : PatchToken → Bool
 is_wordish t = is_name t || is_keyword t
 
--- ---- lists of tokens, taken apart
+-- ---- lists of tokens, split
 
--- one more token before the first of some parts
+-- a token is added at the front of the first of some parts
 abbrev pub put : PatchToken → List (List PatchToken) → List (List PatchToken)
 put t [] = (t ∷ []) ∷ []
 put t (part ∷ parts) = (t ∷ part) ∷ parts
@@ -37,18 +37,18 @@ abbrev pub parts : List PatchToken → List (List PatchToken)
 parts [] = []
 parts (t ∷ ts) = if is_sign (codes ";") t then (t ∷ []) ∷ parts ts else put t (parts ts)
 
--- whether the next token stands within braces
+-- whether the next token is within braces
 abbrev pub within_after : Bool → PatchToken → Bool
 within_after within t = if is_sign (codes "{") t then true else (if is_sign (codes "}") t then false else within)
 
--- what stands between commas, those within braces aside
+-- what is between the commas outside braces
 abbrev pub chunks : Bool → List PatchToken → List (List PatchToken)
 chunks within [] = [] ∷ []
 chunks within (t ∷ ts) =
     if is_sign (codes ",") t && not within then [] ∷ chunks within ts
     else put t (chunks (within_after within t) ts)
 
--- the tokens before the last one, where that is this sign
+-- the tokens before the last one, if the last one is this sign
 abbrev pub before_sign : List ℕ → List PatchToken → Option (List PatchToken)
 before_sign text [] = None
 before_sign text (t ∷ []) = if is_sign text t then Some [] else None
@@ -70,7 +70,7 @@ named_of (x ∷ []) = plain_of x
 named_of (r ∷ dot ∷ x ∷ []) = member_of r dot x
 named_of _ = None
 
--- ---- what an item is not to be
+-- ---- what an item must differ from
 
 abbrev pub name_not : List PatchToken → Option Named
 name_not (x ∷ []) = plain_of x
@@ -86,7 +86,7 @@ not_of (Meta meta.Ident) ts = name_not ts
 not_of Position ts = place_not ts
 not_of _ ts = None
 
--- each of some parts, if all are of the form
+-- what some parts spell, if each of them spells something
 abbrev pub all_of : {A : Type 0} → (List PatchToken → Option A) → List (List PatchToken) → Option (List A)
 all_of read [] = Some []
 all_of read (c ∷ cs) = option_and_then (λ a. option_map (λ more. a ∷ more) (all_of read cs)) (read c)
@@ -122,7 +122,7 @@ item_of kind ts = option_map (bare_item kind) (named_of ts)
 
 -- ---- declarations
 
--- `list` belongs to the kind where a name follows
+-- `list` belongs to the kind if a name follows
 abbrev pub is_listed : List PatchToken → Bool
 is_listed (l ∷ x ∷ ts) = is_word (codes "list") l && is_wordish x
 is_listed _ = false
@@ -138,7 +138,7 @@ kind_of t =
     else (if is_word (codes "position") t then Some (Var Position)
     else (if is_word (codes "symbol") t then Some Symbol else None))))))
 
--- the kind that a word and `list` name
+-- the kind that a word and `list` name together
 abbrev pub list_kind_of : PatchToken → Option DeclKind
 list_kind_of t =
     if is_word (codes "expression") t then Some (Var (Meta meta.ExprList))
@@ -151,11 +151,11 @@ abbrev pub items_by : Option DeclKind → List PatchToken → Option (List Item)
 items_by None ts = None
 items_by (Some kind) ts = items_in kind ts
 
--- a declaration without its `;`
+-- the items of a declaration without its `;`
 abbrev pub front_items : List PatchToken → Option (List Item)
 front_items [] = None
 front_items (t ∷ ts) = if is_listed ts then items_by (list_kind_of t) (drop 1 ts) else items_by (kind_of t) ts
 
--- a declaration, which ends in `;`
+-- the items of a declaration, which ends in `;`
 abbrev pub declared : List PatchToken → Option (List Item)
 declared part = option_and_then front_items (before_sign (codes ";") part)

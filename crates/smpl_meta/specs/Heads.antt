@@ -1,4 +1,4 @@
--- The head of a rule: its name, on what it depends, its mode, and its variables.
+-- The head of a rule: its name, what it depends on, its mode, and its variables.
 use Rattle.std.specs.Prelude.{ℕ, ◌≡◌, ◌==◌, ◌||◌, ◌&&◌, not, Bool, true, false, if◌then◌else◌, List, [], ◌∷◌, ◌++◌, length, take, ◌<◌, slice_get, IfSome, ⊤, Option, Some, None, codes}
 use Rattle.std.specs.Str.{bytes_eq}
 use Rattle.smpl_patch.specs.declared.rule.Dep.{Dep}
@@ -48,14 +48,14 @@ abbrev pub name_fault : List (List ℕ) → List RuleHead → Option PatchToken 
 name_fault virtuals earlier None = []
 name_fault virtuals earlier (Some t) = if is_taken virtuals earlier t.token.text then TwiceNamed t.at ∷ [] else []
 
--- ---- what stands behind `depends on`
+-- ---- what follows `depends on`
 
--- the tokens behind the word `on`, none where it isn't there
+-- the tokens after the word `on`, or none if it is missing
 abbrev pub behind_on : List PatchToken → List PatchToken
 behind_on [] = []
 behind_on (t ∷ ts) = if is_word (codes "on") t then ts else behind_on ts
 
--- up to `exists`, `forall` or `@`
+-- the tokens up to `exists`, `forall` or `@`
 abbrev pub condition : List PatchToken → List PatchToken
 condition [] = []
 condition (t ∷ ts) = if is_mode t || is_at t then [] else t ∷ condition ts
@@ -63,7 +63,7 @@ condition (t ∷ ts) = if is_mode t || is_at t then [] else t ∷ condition ts
 abbrev pub depends_tokens : List PatchToken → List PatchToken
 depends_tokens header = condition (behind_on header)
 
--- names that neither an earlier rule nor a `virtual` line has
+-- a name that neither an earlier rule nor a `virtual` line has
 abbrev pub is_unknown : List (List ℕ) → List RuleHead → PatchToken → Bool
 is_unknown virtuals earlier t = is_rule_name t && not (is_taken virtuals earlier t.token.text)
 
@@ -88,7 +88,7 @@ mark_of t =
     else (if is_word (codes "never") t then mark.Never
     else (if is_rule_name t then mark.Name else mark.Other)))))))
 
--- a rule's number, or a virtual name, before which `ever` says nothing
+-- a rule's number, or a virtual name, for which `ever` makes no difference
 abbrev pub plain_dep : List ℕ → Option ℕ → Dep
 plain_dep name None = dep.Defined name
 plain_dep name (Some r) = dep.Had r
@@ -97,19 +97,19 @@ abbrev pub ever_dep : List ℕ → Option ℕ → Dep
 ever_dep name None = dep.Defined name
 ever_dep name (Some r) = dep.Ever r
 
--- what a name stands for behind `ever`, `never`, or none of them
+-- what a name means after `ever`, after `never`, or after neither
 abbrev pub named_dep : List RuleHead → Mark → List ℕ → Dep
 named_dep earlier mark.Ever name = ever_dep name (number_from 0 name earlier)
 named_dep earlier mark.Never name = dep.Not (ever_dep name (number_from 0 name earlier))
 named_dep earlier _ name = plain_dep name (number_from 0 name earlier)
 
--- the levels of a condition, loosest first: `||`, `&&`, and what `!`, `(` or a name begins
+-- the levels of a condition, loosest first: `||`, `&&`, and what starts with `!`, `(` or a name
 pub data Level : Type 0 where
   Either : Level
   Both : Level
   Prefix : Level
 
--- The tokens from the first list to the second spell the condition. `||` and `&&` group to the left.
+-- The tokens from the first list to the second spell the condition. `||` and `&&` associate to the left.
 module _ (earlier : List RuleHead) where
   pub data Spells : Level → List PatchToken → Dep → List PatchToken → Type 0 where
     either : {xs ys zs : List PatchToken} {a b : Dep} (t : PatchToken) → Spells Either xs a (t ∷ ys)
@@ -156,13 +156,13 @@ mode_of r =
 
 -- ---- the head
 
--- all that is wrong with a rule's header and declarations
+-- all faults of a rule's header and declarations
 abbrev pub head_faults : List (List ℕ) → List RuleHead → RuleText → List PatchFault
 head_faults virtuals earlier r =
     name_fault virtuals earlier (name_token r.header)
     ++ (unknown_faults virtuals earlier (depends_tokens r.header) ++ decl_faults earlier r.decls)
 
--- Nothing is wrong with them, and this is the head.
+-- They have no fault, and this is the head.
 pub record IsHead (virtuals : List (List ℕ)) (earlier : List RuleHead) (rule : ℕ) (r : RuleText) (h : RuleHead)
     : Type 0 where
   pub faultless : head_faults virtuals earlier r ≡ []
@@ -172,18 +172,18 @@ pub record IsHead (virtuals : List (List ℕ)) (earlier : List RuleHead) (rule :
   -- The condition that the header spells is the rule's.
   pub depends : (d : Dep) → DependsOn earlier (depends_tokens r.header) d → h.depends ≡ d
 
--- the first that is wrong with them
+-- their first fault
 abbrev pub IsHeadFault : List (List ℕ) → List RuleHead → RuleText → PatchFault → Type 0
 IsHeadFault virtuals earlier r f = first_of (head_faults virtuals earlier r) ≡ Some f
 
--- the same of the rule of a number
+-- the same for the rule with a given number
 abbrev pub IsHeadIn : PatchText → List RuleHead → ℕ → RuleHead → Type 0
 IsHeadIn text earlier rule h = IfSome (slice_get text.rules rule) (λ r. IsHead text.virtuals earlier rule r h)
 
 abbrev pub IsHeadFaultIn : PatchText → List RuleHead → ℕ → PatchFault → Type 0
 IsHeadFaultIn text earlier rule f = IfSome (slice_get text.rules rule) (λ r. IsHeadFault text.virtuals earlier r f)
 
--- These are the heads of the rules from a number on, each read under those before it.
+-- These are the heads of the rules from a number on, each read after the heads before it.
 abbrev pub AreHeads : PatchText → List RuleHead → List RuleText → List RuleHead → Type 0
 AreHeads text earlier [] [] = ⊤
 AreHeads text earlier [] (h ∷ hs) = ⊥
@@ -191,7 +191,7 @@ AreHeads text earlier (r ∷ rs) [] = ⊥
 AreHeads text earlier (r ∷ rs) (h ∷ hs) =
     IsHead text.virtuals earlier (length earlier) r h × AreHeads text (earlier ++ h ∷ []) rs hs
 
--- A rule has this first fault, under the heads of the rules before, in which nothing is wrong.
+-- A rule has this first fault, after the heads of the earlier rules, which have no fault.
 pub record IsFirstHeadFault (text : PatchText) (f : PatchFault) : Type 0 where
   pub rule : ℕ
   pub within : rule < length text.rules

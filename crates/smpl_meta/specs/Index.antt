@@ -17,12 +17,12 @@ or_else (Some n) m = Some n
 abbrev pub only : List ℕ → ℕ → List ℕ → Option ℕ
 only name n other = if bytes_eq name other then Some n else None
 
--- which of the names is the first that is this one, where the first of them has the number n
+-- the number of the first name that equals this one, if the names are numbered from n
 abbrev pub place_from : ℕ → List (List ℕ) → List ℕ → Option ℕ
 place_from n [] name = None
 place_from n (x ∷ xs) name = if bytes_eq x name then Some n else place_from (n + 1) xs name
 
--- the index has the place of the first of each of the names
+-- the index holds the first place of each of the names
 abbrev pub Indexes : List (List ℕ × ℕ) → List (List ℕ) → Type 0
 Indexes index names = (name : List ℕ) → number_in index name ≡ place_from 0 names name
 

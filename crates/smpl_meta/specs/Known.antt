@@ -7,12 +7,12 @@ use Rattle.smpl_patch.specs.declared.pattern.VarKind.{VarKind}
 use Rattle.smpl_patch.specs.declared.pattern.VarKind.TheVariants.{Meta, Position}
 use Rattle.smpl_meta.specs.declared.head.RuleHead.{RuleHead}
 
--- the first rule of a name
+-- the first rule with a given name
 abbrev pub head_named : List ℕ → List RuleHead → Option RuleHead
 head_named name [] = None
 head_named name (h ∷ hs) = if bytes_eq h.name name then Some h else head_named name hs
 
--- its number, where the first rule has this one
+-- its number, if the first rule has the number n
 abbrev pub number_from : ℕ → List ℕ → List RuleHead → Option ℕ
 number_from n name [] = None
 number_from n name (h ∷ hs) = if bytes_eq h.name name then Some n else number_from (n + 1) name hs

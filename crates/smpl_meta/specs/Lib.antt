@@ -1,13 +1,13 @@
--- What public contracts rest on, in reading order: what declarations declare, what earlier rules have, a rule's head.
+-- What public contracts rest on, in reading order: what declarations declare, what earlier rules have, and a rule's head.
 pub mod Forms
 pub mod Known
 pub mod Decls
 pub mod Heads
 pub mod Spelled
 pub mod Before
--- What the crates above read bodies by.
+-- What the crates above use to read bodies.
 pub mod Patterns
--- For inside use: indexes of names, how long parts are.
+-- For internal use: indexes of names, and the lengths of parts.
 pub mod Splits
 pub mod Shunting
 pub mod Index

@@ -36,19 +36,19 @@ abbrev pub kind_by : Option MetaKind → TokenKind → TokenKind
 kind_by None k = k
 kind_by (Some m) k = token.Meta m
 
--- the token with this id, a metavariable where its name is declared
+-- the token with this id, a metavariable if its name is declared
 abbrev pub made : List VarDecl → ℕ → PatchToken → Token
 made vars id t = record { kind = kind_by (declared_meta vars t) t.token.kind; text = t.token.text; id = id }
 
 -- ---- the tokens of a body without its plus lines
 
--- the position stands behind the last token
+-- the position is attached to the last token
 abbrev pub with_position : Variable → List Placed → List Placed
 with_position v [] = []
 with_position v (p ∷ []) = record p { positions = p.positions ++ v ∷ [] } ∷ []
 with_position v (p ∷ q ∷ ps) = p ∷ with_position v (q ∷ ps)
 
--- `@p` behind a token; a place without a position, and an `@` that stands so otherwise, is a token like any other
+-- `@p` after a token; an `@` in any other context is an ordinary token
 abbrev pub at_position : List VarDecl → List Placed → PatchToken → PatchToken → Option Variable
 at_position vars [] t n = None
 at_position vars (p ∷ ps) t n = if is_at t then declared_position vars n else None
@@ -61,7 +61,7 @@ abbrev pub put_two : List VarDecl → ℕ → ℕ → List Placed → PatchToken
 put_two vars sign line out t (Some v) = with_position v out
 put_two vars sign line out t None = put vars sign line out t
 
--- how many tokens are taken
+-- the number of tokens taken
 abbrev pub width_of : Option Variable → ℕ
 width_of (Some v) = 2
 width_of None = 1
@@ -93,15 +93,15 @@ pub data Clause : Type 0 where
   Not : List Placed → Clause
   Broken : Clause
 
--- Where the next token stands: it may begin no clause; it may, of the token with this number; `when` stands before it,
--- in this line; or `when !=` and code.
+-- The context of the next token: it can't begin a clause; it can begin a clause of the token with this number; it follows
+-- a `when` in this line; or it follows `when !=` and code.
 pub data Where : Type 0 where
   Free : Where
   After : (host : ℕ) → Where
   When : (host line : ℕ) → Where
   Code : (host line : ℕ) → List Placed → Where
 
--- The tokens outside clauses, the clauses, each with the number of the token that has it, and the words of clauses.
+-- The tokens outside clauses; the clauses, each with the number of the token that it belongs to; and the words of clauses.
 pub record Split : Type 0 where
   pub main : List Placed
   pub clauses : List (ℕ × Clause)
@@ -155,7 +155,7 @@ when_by host line s p =
     else (if is_word (codes "strict") p then to_clauses (to_words s p Free) host Strict
     else (if is_differs p then to_words s p (Code host line []) else after host (to_clauses s host Broken) p)))
 
--- code is what stands up to the line's end
+-- code extends to the end of the line
 abbrev pub code_by : ℕ → ℕ → List Placed → Split → Placed → Split
 code_by host line code s p =
     if p.line == line then record s { next = Code host line (code ++ p ∷ []) }
@@ -171,7 +171,7 @@ abbrev pub split_all : Split → List Placed → Split
 split_all s [] = s
 split_all s (p ∷ ps) = split_all (split_by s.next s p) ps
 
--- the last clause ends with the tokens
+-- the last clause ends at the end of the tokens
 abbrev pub ended_by : Where → Split → Split
 ended_by Free s = s
 ended_by (After host) s = s

@@ -13,7 +13,7 @@ use Rattle.smpl_meta.specs.declared.depends.Pending.TheVariants as pending
 use Rattle.smpl_meta.specs.declared.depends.Shunted.{Shunted}
 use Rattle.smpl_meta.specs.Heads.{mark_of, named_dep, name_text, name_token, depends_tokens, mode_of}
 
--- as it is kept, but that the innermost pending one is first
+-- the state of the reader, with the innermost pending one first
 pub record Shunt : Type 0 where
   pub either : Option Dep
   pub both : Option Dep
@@ -32,11 +32,11 @@ closed None b = b
 closed (Some a) None = Some a
 closed (Some a) (Some b) = Some (dep.Either a b)
 
--- an operand stands behind what is waiting
+-- an operand follows what is waiting
 abbrev pub settled : Option Dep → Option Dep → List Pending → Dep → Shunt
 settled either both ps d = record { either = either; both = Some (both_of both d); word = mark.Name; waiting = ps }
 
--- an operand, with each `!` before it
+-- an operand and each `!` before it
 abbrev pub take_on : Option Dep → Option Dep → List Pending → Dep → Shunt
 take_on either both [] d = settled either both [] d
 take_on either both (pending.Not ∷ ps) d = take_on either both ps (dep.Not d)
@@ -45,7 +45,7 @@ take_on either both (pending.Open a b ∷ ps) d = settled either both (pending.O
 abbrev pub take : Shunt → Dep → Shunt
 take s d = take_on s.either s.both s.waiting d
 
--- a `)` behind what a group closes to; where there is no group, or nothing in it, no header goes on so
+-- a `)` after the condition that a group closes to; no header continues like this if there is no group or it is empty
 abbrev pub close_on : List Pending → Option Dep → Shunt
 close_on [] d = record { either = None; both = d; word = mark.Name; waiting = [] }
 close_on (pending.Not ∷ ps) d = record { either = None; both = d; word = mark.Name; waiting = ps }
@@ -90,11 +90,11 @@ or_always (Some d) = d
 abbrev pub unread : Shunt
 unread = record { either = None; both = None; word = mark.Name; waiting = [] }
 
--- what is read of all tokens
+-- what has been read after all tokens
 abbrev pub dep_of : List RuleHead → List PatchToken → Dep
 dep_of earlier ts = let s = run earlier unread ts in or_always (closed s.either s.both)
 
--- the head that is made where nothing is wrong
+-- the head that is made if there is no fault
 abbrev pub head_of : List RuleHead → RuleText → List VarDecl → RuleHead
 head_of earlier r vars = record {
   name = name_text (name_token r.header);

@@ -11,7 +11,7 @@ use Rattle.smpl_meta.specs.declared.depends.Mark.TheVariants as mark
 use Rattle.smpl_meta.specs.Heads.{mark_of, Spells, depends_tokens}
 use Rattle.smpl_meta.specs.Heads.Level.{Either}
 
--- names, `!` and `(` count
+-- names, `!` and `(` are counted
 abbrev pub is_counted : Mark → Bool
 is_counted mark.Not = true
 is_counted mark.Open = true
@@ -27,9 +27,9 @@ pub data Closes : List PatchToken → Type 0 where
   bare : (a : PatchToken) → is_at a ≡ true → Closes (a ∷ [])
   moded : (m a : PatchToken) → is_mode m ≡ true → is_at a ≡ true → Closes (m ∷ a ∷ [])
 
--- headers whose conditions have at most so many of these
+-- headers whose conditions have at most this many counted tokens
 module _ (earlier : List RuleHead) (most : ℕ) where
-  -- what stands behind the name
+  -- what follows the name
   pub data Goes : List PatchToken → Type 0 where
     free : {ts : List PatchToken} → Closes ts → Goes ts
     depends : {cs ts : List PatchToken} {d : Dep} (w o : PatchToken) → is_word (codes "depends") w ≡ true
@@ -42,18 +42,18 @@ module _ (earlier : List RuleHead) (most : ℕ) where
     named : {ts : List PatchToken} (a n : PatchToken) → is_at a ≡ true → is_rule_name n ≡ true → Goes ts
         → IsHeader (a ∷ n ∷ ts)
 
--- ---- where a header can't go on
+-- ---- where a header stops
 
 module _ (earlier : List RuleHead) where
-  -- The header can go on up to here: with some more tokens it is one, whatever it counts, and up to here it counts no more
-  -- than 200.
+  -- The tokens can begin a header: some more tokens complete them to one, with any count, and the tokens up to here
+  -- count at most 200.
   pub record CanStand (ts : List PatchToken) : Type 0 where
     pub most : ℕ
     pub more : List PatchToken
     pub header : IsHeader earlier most (ts ++ more)
     pub few : counted_in (depends_tokens ts) ≤ most_counted
 
-  -- It can't go on at the first token with which it can't stand, or at its end where that is too early.
+  -- A header stops at the first token with which its tokens no longer begin a header, or at its end if it ends too early.
   pub data StopsAt (ts : List PatchToken) (end : ℕ) : ℕ → Type 0 where
     token : (front rest : List PatchToken) (t : PatchToken) → ts ≡ front ++ t ∷ rest → CanStand front
         → (CanStand (front ++ t ∷ []) → ⊥) → StopsAt ts end t.at

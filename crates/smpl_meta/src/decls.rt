@@ -86,7 +86,7 @@ fn parse(
     Ok(parsed)
 }
 
-/// Reads declarations, and puts their faults to the first one so far.
+/// Reads declarations, and updates the first fault so far with theirs.
 pub fn declare(
     alloc: Global,
     tokens: &[PatchToken],

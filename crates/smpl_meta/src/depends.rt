@@ -1,4 +1,4 @@
-// On what a rule depends.
+// What a rule depends on.
 ghost use Rattle.std.specs.Prelude.{◌≡◌, ◌<◌, ◌^◌, length, reverse, Option, IfOk};
 ghost use Rattle.smpl_patch.specs.declared.rule.Dep.{Dep as Condition};
 ghost use Rattle.smpl_meta.specs.Heads as told;
@@ -26,15 +26,15 @@ pub enum Mark {
     Other,
 }
 
-/// What stands before an operand: a `!`, or a `(` with what was read before it.
+/// What precedes an operand: a `!`, or a `(` with what was read before it.
 #[derive(Drop)]
 pub enum Pending {
     Not,
     Open(Option<Dep>, Option<Dep>),
 }
 
-/// What is read of a condition: what stands before the last `||`, what stands behind it, the word before a name, and
-/// what is pending, the innermost last.
+/// What has been read of a condition: the part before the last `||`, the part after it, the word before a name, and what
+/// is pending, the innermost last.
 #[derive(Drop)]
 pub struct Shunted {
     pub either: Option<Dep>,
@@ -43,7 +43,7 @@ pub struct Shunted {
     pub pending: Items<Pending>,
 }
 
-/// What a token is in a condition.
+/// Returns what a token is in a condition.
 fn mark_of(t: &PatchToken) -> Mark
     ensures { result ≡ told.mark_of t.now }
 {
@@ -101,7 +101,7 @@ fn named_dep(alloc: Global, earlier: &Earlier, word: Mark, name: &Text) -> Resul
     }
 }
 
-/// Two conditions parted by `&&`, or the second alone.
+/// Joins two conditions by `&&`, or returns the second if there is no first.
 fn both_of(alloc: Global, left: Option<Dep>, right: Dep) -> Result<Dep, NoMemory>
     ensures { IfOk result (λ d. d ≡ shunt.both_of left right) }
 {
@@ -115,7 +115,7 @@ fn both_of(alloc: Global, left: Option<Dep>, right: Dep) -> Result<Dep, NoMemory
     }
 }
 
-/// What was read of a group, if anything was.
+/// Returns what has been read of a group, if there is anything.
 fn closed(alloc: Global, left: Option<Dep>, right: Option<Dep>) -> Result<Option<Dep>, NoMemory>
     ensures { IfOk result (λ d. d ≡ shunt.closed left right) }
 {
@@ -139,7 +139,7 @@ pub struct Operand {
     pub dep: Dep,
 }
 
-/// Each `!` directly before an operand is put to it.
+/// Applies each `!` that directly precedes an operand to it.
 fn negated(alloc: Global, pending: Items<Pending>, operand: Dep) -> Result<Operand, NoMemory>
     ensures { IfOk result (λ r. (a b : Option Condition) →
         shunt.take_on a b (reverse pending) operand
@@ -159,7 +159,7 @@ fn negated(alloc: Global, pending: Items<Pending>, operand: Dep) -> Result<Opera
     Ok(Operand { pending, dep })
 }
 
-/// Takes an operand, with each `!` before it.
+/// Takes an operand and each `!` before it.
 fn take(alloc: Global, s: Shunted, operand: Dep) -> Result<Shunted, NoMemory>
     ensures { IfOk result (λ r. kept r ≡ shunt.take (kept s) operand) }
 {
@@ -179,7 +179,7 @@ fn take(alloc: Global, s: Shunted, operand: Dep) -> Result<Shunted, NoMemory>
     })
 }
 
-/// A `)` stands.
+/// Reads a `)`.
 fn close(alloc: Global, s: Shunted) -> Result<Shunted, NoMemory>
     ensures { IfOk result
         (λ r. kept r ≡ shunt.close_on (kept s).waiting (shunt.closed s.either s.both)) }
@@ -310,7 +310,7 @@ fn step(alloc: Global, earlier: &Earlier, s: Shunted, t: &PatchToken) -> Result<
     }
 }
 
-/// The condition that the tokens spell.
+/// Returns the condition that the tokens spell.
 pub fn dep_of(alloc: Global, earlier: &Earlier, tokens: &[PatchToken]) -> Result<Dep, NoMemory>
     requires { length earlier.now.heads < 2 ^ 32 }
     ensures { IfOk result (λ d. d ≡ shunt.dep_of earlier.now.heads tokens.now) }

@@ -1,4 +1,4 @@
-// What stands before a rule, found by names.
+// What precedes a rule, found by name.
 ghost use Rattle.std.specs.Prelude.{◌≡◌, ◌==◌, ◌<◌, ◌^◌, length, slice_get, IfOk};
 ghost use Rattle.std.specs.Option.{option_copied};
 ghost use Rattle.smpl_meta.specs.Before.{first_under, with_head};
@@ -14,7 +14,7 @@ use sqlite_items::Items;
 use std::alloc::Global;
 use std::marker::Model;
 
-/// A head, of which one look-up finds a variable.
+/// A head in which one look-up finds a variable.
 #[derive(Drop)]
 struct KnownHead {
     head: RuleHead,
@@ -51,7 +51,7 @@ impl KnownHead {
         &self.head
     }
 
-    /// The first variable of a name.
+    /// Returns the first variable with this name, if there is one.
     fn var(&self, name: &[u8]) -> Option<&VarDecl>
         ensures { option_copied result ≡ known.var_named name.now self.now.vars }
     {
@@ -59,7 +59,7 @@ impl KnownHead {
     }
 }
 
-/// The names of `virtual` lines and the heads of rules, as they stand before a rule. One look-up finds a name.
+/// The names of `virtual` lines and the heads of the rules that precede a rule. One look-up finds a name.
 #[derive(Drop)]
 pub struct Earlier {
     virtuals: NameTable,
@@ -83,8 +83,8 @@ impl Model for Earlier {
 }
 
 impl Earlier {
-    /// What stands before the first rule, under these names of `virtual` lines. Linear in them. `NoMemory`: memory
-    /// was refused.
+    /// Returns what precedes the first rule: these names of `virtual` lines, and no heads. Linear in them. Fails only
+    /// when out of memory.
     pub fn of(alloc: Global, virtuals: &[Text]) -> Result<Earlier, NoMemory>
         ensures { IfOk result (λ e. e ≡ first_under virtuals.now) }
     {
@@ -99,8 +99,8 @@ impl Earlier {
         })
     }
 
-    /// What stands before the next rule. Linear in the head's variables and in the length of their names.
-    /// `NoMemory`: memory was refused, and what stood before is gone too.
+    /// Adds the head of the next rule. Linear in the head's variables and in the length of their names. Fails only
+    /// when out of memory, and the earlier heads are then dropped too.
     pub fn with(self, alloc: Global, head: RuleHead) -> Result<Earlier, NoMemory>
         ensures { IfOk result (λ e. e ≡ with_head self head) }
     {
@@ -118,21 +118,21 @@ impl Earlier {
         })
     }
 
-    /// How many rules stand before.
+    /// Returns the number of earlier rules.
     pub fn len(&self) -> usize
         ensures { result ≡ length self.now.heads }
     {
         self.heads.len()
     }
 
-    /// No rule stands before.
+    /// Whether there is no earlier rule.
     pub fn is_empty(&self) -> bool
         ensures { result ≡ (length self.now.heads == 0) }
     {
         self.len() == 0
     }
 
-    /// The head of the rule of a number.
+    /// Returns the head of the rule with this number, if there is one.
     pub fn head(&self, rule: usize) -> Option<&RuleHead>
         ensures { option_copied result ≡ slice_get self.now.heads rule }
     {
@@ -142,14 +142,14 @@ impl Earlier {
         }
     }
 
-    /// A `virtual` line has the name. One look-up.
+    /// Whether a `virtual` line has the name. Takes one look-up.
     pub fn is_virtual(&self, name: &[u8]) -> bool
         ensures { result ≡ told.is_virtual self.now.virtuals name.now }
     {
         self.virtuals.place(name).is_some()
     }
 
-    /// The number of the first rule of a name. One look-up.
+    /// Returns the number of the first rule with this name, if there is one. Takes one look-up.
     pub fn number_of(&self, name: &[u8]) -> Option<u32>
         requires { length self.now.heads < 2 ^ 32 }
         ensures { result ≡ known.number_from 0 name.now self.now.heads }
@@ -169,7 +169,7 @@ impl Earlier {
         }
     }
 
-    /// The variable x of the rule r. Two look-ups.
+    /// Returns the variable x of the rule r, if there is one. Takes two look-ups.
     pub fn var_of(&self, r: &[u8], x: &[u8]) -> Option<&VarDecl>
         ensures { option_copied result ≡ known.var_of self.now.heads r.now x.now }
     {

@@ -134,7 +134,7 @@ fn with_item(
     with_nots(first, earlier, i.kind, i.nots.as_slice())
 }
 
-/// The first fault so far, with those of items. Linear.
+/// Returns the first of the fault so far and the faults of items. Linear.
 pub fn with_items(
     alloc: Global,
     first: Option<PatchFault>,

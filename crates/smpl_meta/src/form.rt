@@ -13,7 +13,7 @@ use smpl_patch::VarKind;
 use sqlite_items::Items;
 use std::alloc::Global;
 
-/// The name, not to be what the tokens behind `!=` say.
+/// Returns the item of a name that must differ from what the tokens after `!=` name, or `None` if they are malformed.
 fn excepted_of(
     alloc: Global,
     kind: DeclKind,
@@ -31,7 +31,7 @@ fn excepted_of(
     }
 }
 
-/// `x != ..`
+/// Reads `x != ..`.
 fn except(
     alloc: Global,
     kind: DeclKind,
@@ -47,7 +47,7 @@ fn except(
     }
 }
 
-/// `x` or `r.x`
+/// Reads `x` or `r.x`.
 fn bare(alloc: Global, kind: DeclKind, tokens: &[PatchToken]) -> Result<Option<Item>, NoMemory>
     ensures { IfOk result (λ o. o ≡ option_map (told.bare_item kind) (told.named_of tokens.now)) }
 {
@@ -92,7 +92,7 @@ impl PartReader for ItemReader {
     }
 }
 
-/// Items, parted by commas.
+/// Reads items that are separated by commas.
 fn items_in(
     alloc: Global,
     kind: DeclKind,
@@ -103,7 +103,7 @@ fn items_in(
     parts_between(alloc, &ItemReader { kind }, tokens)
 }
 
-/// `list` belongs to the kind where a name follows.
+/// Whether `list` belongs to the kind. It does if a name follows.
 fn is_listed(tokens: &[PatchToken]) -> bool
     ensures { result ≡ told.is_listed tokens.now }
 {
@@ -113,7 +113,7 @@ fn is_listed(tokens: &[PatchToken]) -> bool
     }
 }
 
-/// The kind that one word names.
+/// Returns the kind that one word names.
 fn kind_of(t: &PatchToken) -> Option<DeclKind>
     ensures { result ≡ told.kind_of t.now }
 {
@@ -136,7 +136,7 @@ fn kind_of(t: &PatchToken) -> Option<DeclKind>
     }
 }
 
-/// The kind that a word and `list` name.
+/// Returns the kind that a word and `list` name together.
 fn list_kind_of(t: &PatchToken) -> Option<DeclKind>
     ensures { result ≡ told.list_kind_of t.now }
 {
@@ -162,7 +162,7 @@ fn items_by(
     }
 }
 
-/// The items of a declaration without its `;`.
+/// Returns the items of a declaration that is given without its `;`.
 fn front_items(alloc: Global, tokens: &[PatchToken]) -> Result<Option<Items<Item>>, NoMemory>
     ensures { IfOk result (λ o. o ≡ told.front_items tokens.now) }
 {
@@ -178,7 +178,7 @@ fn front_items(alloc: Global, tokens: &[PatchToken]) -> Result<Option<Items<Item
     }
 }
 
-/// The items of a declaration, which ends in `;`. None where it is not of the form.
+/// Returns the items of a declaration, which ends in `;`, or `None` if it is malformed.
 pub fn declared(alloc: Global, part: &[PatchToken]) -> Result<Option<Items<Item>>, NoMemory>
     ensures { IfOk result (λ o. o ≡ told.declared part.now) }
 {

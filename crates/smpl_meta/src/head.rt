@@ -3,10 +3,10 @@ use c_terms::Text;
 use smpl_patch::{Dep, Mode, VarDecl};
 use sqlite_items::Items;
 
-/// What stands before a rule's body.
+/// What precedes a rule's body.
 #[derive(Drop)]
 pub struct RuleHead {
-    /// Empty where the rule has none.
+    /// Empty if the rule has none.
     pub name: Text,
     pub depends: Dep,
     pub mode: Mode,

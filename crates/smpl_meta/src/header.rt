@@ -12,7 +12,7 @@ use smpl_lexer::{BodyLine, PatchToken, RuleText, is_at, is_mode, is_rule_name, i
 use smpl_patch::{Mode, PatchFault, earlier as earlier_fault};
 use std::alloc::Global;
 
-/// An earlier rule or a `virtual` line has the name.
+/// Whether an earlier rule or a `virtual` line has the name.
 fn is_taken(earlier: &Earlier, name: &[u8]) -> bool
     requires { length earlier.now.heads < 2 ^ 32 }
     ensures { result ≡ told.is_taken earlier.now.virtuals earlier.now.heads name.now }
@@ -23,7 +23,7 @@ fn is_taken(earlier: &Earlier, name: &[u8]) -> bool
     }
 }
 
-/// The rule's name, if it has one.
+/// Returns the token of the rule's name, if it has one.
 pub fn name_token(header: &[PatchToken]) -> Option<&PatchToken>
     ensures { option_copied result ≡ told.name_token header.now }
 {
@@ -85,7 +85,7 @@ fn condition(tokens: &[PatchToken]) -> &[PatchToken]
     tokens
 }
 
-/// The tokens of the header's condition.
+/// Returns the tokens of the header's condition.
 pub fn depends_tokens(header: &[PatchToken]) -> &[PatchToken]
     ensures { result.now ≡ told.depends_tokens header.now }
 {
@@ -109,7 +109,7 @@ fn with_bad(first: Option<PatchFault>, unknown: bool, at: u32) -> Option<PatchFa
     }
 }
 
-/// The first fault so far, with those of the names of a condition.
+/// Returns the first of the fault so far and the faults of the names in a condition.
 pub fn with_unknown(
     first: Option<PatchFault>,
     earlier: &Earlier,
@@ -154,7 +154,7 @@ fn has_edit(lines: &[BodyLine]) -> bool
     false
 }
 
-/// The rule's mode: as its header says it, and else by its lines.
+/// Returns the rule's mode: the one that its header gives, or else the one that follows from its lines.
 pub fn mode_of(rule: &RuleText) -> Mode
     ensures { result ≡ told.mode_of rule.now }
 {

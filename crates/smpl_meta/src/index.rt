@@ -1,4 +1,4 @@
-// Names and their numbers, found by one look-up.
+// Names and their numbers, each found by one look-up.
 ghost use Rattle.std.specs.Prelude.{◌≡◌, ◌++◌, ◌∷◌, ℕ, List, [], IfOk, OnOk};
 ghost use Rattle.smpl_meta.specs.Index.{number_in, or_else, only, place_from};
 
@@ -8,7 +8,7 @@ use sqlite_items::Items;
 use std::alloc::Global;
 use std::marker::Model;
 
-/// Names with a number each. A name keeps the first number that it was given.
+/// Names, each with a number. A name keeps the first number that it is given.
 #[derive(Drop)]
 pub struct NameIndex {
     numbers: IndexMap<Vec<u8>, usize>,
@@ -23,7 +23,7 @@ impl Model for NameIndex {
 }
 
 impl NameIndex {
-    /// No name has a number. Takes no memory.
+    /// Returns an index in which no name has a number. Takes no memory.
     pub fn new(alloc: Global) -> NameIndex
         ensures { result ≡ [] }
     {
@@ -32,14 +32,14 @@ impl NameIndex {
         }
     }
 
-    /// The number of a name. One look-up; takes no memory.
+    /// Returns the number of a name, if it has one. Makes one look-up and takes no memory.
     pub fn find(&self, name: &[u8]) -> Option<usize>
         ensures { result ≡ number_in self.now name.now }
     {
         self.numbers.get(name).copied()
     }
 
-    /// Gives the name the number, unless it has one. Linear in the name.
+    /// Gives the name the number, unless it already has one. Linear in the name.
     pub fn put(&mut self, alloc: Global, name: &[u8], number: usize) -> Result<(), NoMemory>
         ensures { OnOk result ((other : List ℕ) → number_in self.new other
             ≡ or_else (number_in self.old other) (only name.now number other)) }
@@ -53,7 +53,7 @@ impl NameIndex {
     }
 }
 
-/// Names in order, of which one look-up finds the place of the first that is a name.
+/// Names in order. One look-up finds the place of the first one that equals a given name.
 #[derive(Drop)]
 pub struct NameTable {
     names: Items<Text>,
@@ -72,7 +72,7 @@ impl Model for NameTable {
 }
 
 impl NameTable {
-    /// No names. Takes no memory.
+    /// Returns a table without names. Takes no memory.
     pub fn new(alloc: Global) -> NameTable
         ensures { result ≡ [] }
     {
@@ -82,7 +82,7 @@ impl NameTable {
         }
     }
 
-    /// One more name, at the end. Linear in the name.
+    /// Adds a name at the end. Linear in the name.
     pub fn with(self, alloc: Global, name: Text) -> Result<NameTable, NoMemory>
         ensures { IfOk result (λ table. table ≡ self ++ name ∷ []) }
     {
@@ -95,7 +95,7 @@ impl NameTable {
         Ok(NameTable { names, index })
     }
 
-    /// The place of the first name that is this one. One look-up; takes no memory.
+    /// Returns the place of the first name that equals this one, if there is one. Makes one look-up and takes no memory.
     pub fn place(&self, name: &[u8]) -> Option<usize>
         ensures { result ≡ place_from 0 self.now name.now }
     {

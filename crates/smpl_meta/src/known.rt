@@ -4,7 +4,7 @@ ghost use Rattle.smpl_meta.specs.Known as known;
 
 use smpl_patch::VarKind;
 
-/// The kind's place in the order of kinds.
+/// Returns the kind's place in the order of kinds.
 pub fn kind_number(kind: VarKind) -> u8
     ensures { result ≡ known.kind_number kind }
 {

@@ -1,16 +1,16 @@
 //! Reads the headers and the declarations of semantic patches, and numbers the tokens of their patterns.
 //!
-//! - [`read_headers`] answers the heads of all rules of a text, [`read_header`] that of one rule: its name, on what it
-//!   depends, its mode, and its variables ([`RuleHead`]). [`read_decls`] reads declarations alone.
-//! - [`Earlier`] is what stands before a rule: the names of `virtual` lines, and the heads of earlier rules, by names.
-//! - [`pattern_tokens`] answers the tokens of a body's patterns in order ([`Placed`]), [`made`] one of them.
+//! - [`read_headers`] returns the heads of all rules of a text, and [`read_header`] the head of one rule: its name, what it
+//!   depends on, its mode, and its variables ([`RuleHead`]). [`read_decls`] reads declarations alone.
+//! - [`Earlier`] is what precedes a rule: the names of `virtual` lines, and the heads of earlier rules, found by name.
+//! - [`pattern_tokens`] returns the tokens of a body's patterns in order ([`Placed`]). [`made`] makes one such token.
 //! - [`headers_are_spelled`], [`headers_have_conditions`] and [`heads_are_read_once`] are laws.
 //!
-//! `@s depends on !(v && ever r)@`, `expression r.x;`, `identifier f != {g, h};`, with a `virtual v` and a rule `r` that
-//! declares `x`, is a rule with the name `s`, which depends on `Not(Both(Defined(v), Ever(0)))`, with the variable `x` of
-//! rule 0 and its own `f`, which may be neither `g` nor `h`.
+//! After a `virtual v` and a rule `r` that declares `x`, `@s depends on !(v && ever r)@`, `expression r.x;`,
+//! `identifier f != {g, h};` is a rule named `s` that depends on `Not(Both(Defined(v), Ever(0)))`. It has the variable `x`
+//! of rule 0 and its own `f`, which may be neither `g` nor `h`.
 //!
-//! Nothing recurses. Names are found by look-ups in tables. What the lines of a body spell is for the crates above.
+//! Nothing recurses. Names are found by look-ups in tables. What the lines of a body spell is left to the crates above.
 #![tactic(auto)]
 
 ghost use Rattle.std.specs.Prelude.{◌≡◌, ◌↔◌, ◌<◌, ◌^◌, ℕ, List, [], Some, None, length, IfOk, IfErr};
@@ -61,14 +61,15 @@ use sqlite_items::Items;
 use std::alloc::Global;
 pub use variables::VarTable;
 
-/// The variables that declarations declare, as variables of a rule, or their first fault: the one at the least place, and
-/// there the one of the least number. Linear in the tokens and their bytes, where no hashes of names collide.
+/// Returns the variables that declarations declare, as variables of a rule, or the first fault of the declarations: the
+/// one at the least place, and at that place the one with the least number. Linear in the tokens and their bytes if no
+/// hashes of names collide.
 ///
-/// - `BadMetavariable`: a declaration that is not of the form, at its first token, or a keyword for a name.
-/// - `TwiceNamed`: a name that an earlier item of the declarations has, unless both are symbols.
-/// - `UnknownRule`: the r of `r.x`, where no earlier rule is named r, or r has no variable x.
-/// - `KindDiffers`: the r of `r.x`, where x has another kind in r.
-/// - `NoMemory`: memory was refused, and nothing is kept.
+/// - `BadMetavariable`: at the first token of a malformed declaration, or at a keyword that is used as a name.
+/// - `TwiceNamed`: at a name that an earlier item of the declarations has, unless both are symbols.
+/// - `UnknownRule`: at the r of `r.x`, if no earlier rule is named r or r has no variable x.
+/// - `KindDiffers`: at the r of `r.x`, if x has another kind in r.
+/// - `NoMemory`: out of memory. Nothing is kept.
 pub fn read_decls(
     alloc: Global,
     decls: &[PatchToken],
@@ -86,7 +87,7 @@ pub fn read_decls(
     }
 }
 
-/// The head of a rule in which nothing is wrong.
+/// Makes the head of a rule that has no fault.
 fn made_head(
     alloc: Global,
     r: &RuleText,
@@ -128,14 +129,15 @@ fn read_head(
     }
 }
 
-/// The head of a rule, or the first fault of its header and declarations: the one at the least place, and there the one
-/// of the least number. Linear in them and their bytes, and in the lines of the body, which may say the mode, where no
-/// hashes of names collide. Of a header that the grammar doesn't spell, which no text has, the condition is not told.
+/// Returns the head of a rule, or the first fault of its header and declarations: the one at the least place, and at that
+/// place the one with the least number. Linear in the header, the declarations and their bytes, and in the lines of the
+/// body, on which the mode may depend, if no hashes of names collide. The contract doesn't determine the condition of a
+/// header that the grammar doesn't spell; no text has such a header.
 ///
-/// - `TwiceNamed`: the rule's name, where an earlier rule or a `virtual` line has it.
-/// - `UnknownRule`: a name behind `depends on` that is no earlier rule and not virtual.
-/// - The faults of declarations, as [`read_decls`] says.
-/// - `NoMemory`: memory was refused, and nothing is kept.
+/// - `TwiceNamed`: at the rule's name, if an earlier rule or a `virtual` line has it.
+/// - `UnknownRule`: at a name after `depends on` that is neither an earlier rule nor virtual.
+/// - The faults of declarations, as listed for [`read_decls`].
+/// - `NoMemory`: out of memory. Nothing is kept.
 pub fn read_header(
     alloc: Global,
     text: &PatchText,
@@ -153,8 +155,8 @@ pub fn read_header(
     read_head(alloc, &rules[rule as usize], rule, earlier)
 }
 
-/// The heads of all rules of a text, or the first fault of the first rule that has one, as [`read_header`] says. Linear in
-/// the text, where no hashes of names collide.
+/// Returns the heads of all rules of a text, or the first fault of the first rule that has one, as described for
+/// [`read_header`]. Linear in the text if no hashes of names collide.
 pub fn read_headers(alloc: Global, text: &PatchText) -> Result<Earlier, PatchFault>
     requires { length text.now.rules < 2 ^ 32 }
     ensures heads { IfOk result (λ e. AreHeads text.now [] text.now.rules e.heads) }
@@ -170,7 +172,7 @@ pub fn read_headers(alloc: Global, text: &PatchText) -> Result<Earlier, PatchFau
     Ok(earlier)
 }
 
-/// A header that can go on to its end, at some place, has a condition, and no other. Does nothing.
+/// A header for which `header_stop` reports no stop has exactly one condition. Does nothing.
 pub fn headers_have_conditions()
     ensures some { (earlier : List Head) (ts : List Word) (end : ℕ) → header_stop ts end ≡ None →
         (d : Dep) × DependsOn earlier (depends_tokens ts) d }
@@ -178,9 +180,9 @@ pub fn headers_have_conditions()
         DependsOn earlier ts one → DependsOn earlier ts other → one ≡ other }
 {}
 
-/// A header goes on to its end exactly where the grammar spells it, with at most 200 names, `!` and `(` in its condition.
-/// Else it stops at its first token with which no header of the grammar begins, at the 201st that counts, or at its end.
-/// Does nothing.
+/// A header has no stop exactly if the grammar spells it with at most 200 names, `!` and `(` in its condition. Otherwise
+/// its stop is the first token that no header of the grammar can have there, the 201st counted token, or its end. Does
+/// nothing.
 pub fn headers_are_spelled()
     ensures whole { (earlier : List Head) (ts : List Word) (end : ℕ) →
         (header_stop ts end ≡ None) ↔ IsHeader earlier most_counted ts }
@@ -188,8 +190,8 @@ pub fn headers_are_spelled()
         (header_stop ts end ≡ Some at) ↔ StopsAt earlier ts end at }
 {}
 
-/// Rules whose headers go on to their ends have one list of heads, whatever stands before them, and a rule has a head or
-/// a fault. A text of such rules has heads or one first fault, and not both. Does nothing.
+/// Rules whose headers have no stop have at most one list of heads after given earlier heads, and no rule has both a head
+/// and a fault. A text of such rules has at most one first fault, and never both heads and a fault. Does nothing.
 pub fn heads_are_read_once()
     ensures once { (text : Whole) (earlier : List Head) (rules : List Rule) (one other : List Head) →
         AllGoOn rules → AreHeads text earlier rules one → AreHeads text earlier rules other → one ≡ other }

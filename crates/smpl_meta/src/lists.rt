@@ -1,4 +1,4 @@
-// Parts that are parted by commas.
+// Lists of parts that are separated by commas.
 ghost use Rattle.std.specs.Prelude.{◌≡◌, List, Option, IfOk, false};
 ghost use Rattle.smpl_lexer.specs.declared.token.PatchToken.{PatchToken as Word};
 ghost use Rattle.smpl_meta.specs.Forms.{all_of, chunks};
@@ -13,15 +13,15 @@ use std::alloc::Global;
 pub trait PartReader {
     type Part: Drop;
 
-    /// What tokens spell.
+    /// The part that tokens spell, if they spell one.
     ghost spelled: { Self → List Word → Option Self.Part };
 
-    /// The part that the tokens spell. None where they spell none.
+    /// Returns the part that the tokens spell, or `None` if they spell none.
     fn read(&self, alloc: Global, tokens: &[PatchToken]) -> Result<Option<Self::Part>, NoMemory>
         ensures { IfOk result (λ o. o ≡ spelled self.now tokens.now) };
 }
 
-/// The parts between commas, those within braces aside. None where one of them spells nothing.
+/// Returns the parts between the commas outside braces, or `None` if one of them spells nothing.
 pub fn parts_between<R: PartReader>(
     alloc: Global,
     reader: &R,

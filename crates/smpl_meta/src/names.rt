@@ -7,7 +7,7 @@ use c_terms::{NoMemory, TokenKind};
 use smpl_lexer::{PatchToken, is_name, is_sign};
 use std::alloc::Global;
 
-/// A keyword.
+/// Whether the token is a keyword.
 pub fn is_keyword(t: &PatchToken) -> bool
     ensures { result ≡ told.is_keyword t.now }
 {
@@ -17,14 +17,14 @@ pub fn is_keyword(t: &PatchToken) -> bool
     }
 }
 
-/// What has the form of a name, be it a keyword.
+/// Whether the token has the form of a name, even if it is a keyword.
 pub fn is_wordish(t: &PatchToken) -> bool
     ensures { result ≡ told.is_wordish t.now }
 {
     is_name(t) || is_keyword(t)
 }
 
-/// `x`
+/// Reads `x`.
 pub fn plain_of(alloc: Global, x: &PatchToken) -> Result<Option<Named>, NoMemory>
     ensures { IfOk result (λ o. o ≡ told.plain_of x.now) }
 {
@@ -37,7 +37,7 @@ pub fn plain_of(alloc: Global, x: &PatchToken) -> Result<Option<Named>, NoMemory
     }))
 }
 
-/// `r.x`
+/// Reads `r.x`.
 pub fn member_of(
     alloc: Global,
     r: &PatchToken,
@@ -55,7 +55,7 @@ pub fn member_of(
     }))
 }
 
-/// `x` or `r.x`
+/// Reads `x` or `r.x`.
 pub fn named_of(alloc: Global, tokens: &[PatchToken]) -> Result<Option<Named>, NoMemory>
     ensures { IfOk result (λ o. o ≡ told.named_of tokens.now) }
 {

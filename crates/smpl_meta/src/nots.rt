@@ -1,4 +1,4 @@
-// What an item is not to be: `!= y`, `!= {y, z}`.
+// What an item must differ from: `!= y`, `!= {y, z}`.
 ghost use Rattle.std.specs.Prelude.{◌≡◌, IfOk};
 ghost use Rattle.smpl_meta.specs.Forms as told;
 
@@ -12,7 +12,7 @@ use smpl_patch::VarKind;
 use sqlite_items::Items;
 use std::alloc::Global;
 
-/// A name for an identifier.
+/// Reads a name that an identifier must differ from.
 fn name_not(alloc: Global, tokens: &[PatchToken]) -> Result<Option<Named>, NoMemory>
     ensures { IfOk result (λ o. o ≡ told.name_not tokens.now) }
 {
@@ -22,7 +22,7 @@ fn name_not(alloc: Global, tokens: &[PatchToken]) -> Result<Option<Named>, NoMem
     }
 }
 
-/// A position of another rule for a position.
+/// Reads a position of another rule that a position must differ from.
 fn place_not(alloc: Global, tokens: &[PatchToken]) -> Result<Option<Named>, NoMemory>
     ensures { IfOk result (λ o. o ≡ told.place_not tokens.now) }
 {
@@ -42,7 +42,7 @@ fn not_of(alloc: Global, kind: VarKind, tokens: &[PatchToken]) -> Result<Option<
     }
 }
 
-/// Reads one of what an item of this kind is not to be.
+/// Reads one name that an item of this kind must differ from.
 #[derive(Drop)]
 struct NotReader {
     kind: VarKind,
@@ -58,7 +58,7 @@ impl PartReader for NotReader {
     }
 }
 
-/// Several, parted by commas.
+/// Reads several names that are separated by commas.
 fn nots_between(
     alloc: Global,
     kind: VarKind,
@@ -99,7 +99,7 @@ fn braced(
     }
 }
 
-/// One, or several in braces.
+/// Reads one name, or several in braces.
 pub fn nots_of(
     alloc: Global,
     kind: VarKind,

@@ -1,11 +1,11 @@
-// Takes the tokens of declarations apart.
+// Splits the tokens of declarations into parts.
 ghost use Rattle.std.specs.Prelude.{◌≡◌, ◌≤◌, ◌<◌, length, MatchOption, false};
 ghost use Rattle.smpl_meta.specs.Forms as told;
 ghost use Rattle.smpl_meta.specs.Splits as split;
 
 use smpl_lexer::{PatchToken, is_sign};
 
-/// How many tokens the first declaration has, its `;` with it.
+/// Returns the number of tokens in the first declaration, including its `;`.
 pub fn part_length(tokens: &[PatchToken]) -> usize
     ensures value { result ≡ split.part_length tokens.now }
     ensures within { result ≤ length tokens.now }
@@ -19,7 +19,7 @@ pub fn part_length(tokens: &[PatchToken]) -> usize
     tokens.len()
 }
 
-/// How many tokens stand before the first comma that stands in no braces.
+/// Returns the number of tokens before the first comma outside braces.
 pub fn chunk_length(tokens: &[PatchToken]) -> usize
     ensures value { result ≡ split.chunk_length false tokens.now }
     ensures within { result ≤ length tokens.now }
@@ -35,7 +35,7 @@ pub fn chunk_length(tokens: &[PatchToken]) -> usize
     tokens.len()
 }
 
-/// Whether the token behind this one stands within braces.
+/// Whether the token after this one is within braces.
 fn within_after(within: bool, t: &PatchToken) -> bool
     ensures { result ≡ told.within_after within t.now }
 {
@@ -48,7 +48,7 @@ fn within_after(within: bool, t: &PatchToken) -> bool
     }
 }
 
-/// The tokens before the last one, where that is this sign.
+/// Returns the tokens before the last one, if the last one is this sign.
 pub fn before_sign<'a>(text: &[u8], tokens: &'a [PatchToken]) -> Option<&'a [PatchToken]>
     ensures { MatchOption result (told.before_sign text.now tokens.now ≡ None)
         (λ front. told.before_sign text.now tokens.now ≡ Some front.now) }

@@ -12,8 +12,8 @@ use smpl_terms::Var;
 use sqlite_items::Items;
 use std::alloc::Global;
 
-/// A token of a pattern: its number in the rule is its id. Beside it stand its place, the sign and the number of its
-/// line, and the positions behind it.
+/// A token of a pattern, whose id is its number in the rule, together with its place, the sign and the number of its
+/// line, and the positions after it.
 #[derive(Drop)]
 pub struct Placed {
     pub token: Token,
@@ -54,7 +54,7 @@ fn kind_by(meta: Option<MetaKind>, kind: TokenKind) -> TokenKind
     }
 }
 
-/// The token with this id, a metavariable where its name is declared. `NoMemory`: memory was refused.
+/// Returns the token with this id, as a metavariable if its name is declared. Fails only when out of memory.
 pub fn made(alloc: Global, vars: &VarTable<'_>, id: u64, t: &PatchToken) -> Result<Token, NoMemory>
     ensures { IfOk result (λ token. token ≡ told.made vars.now id t.now) }
 {
@@ -91,7 +91,7 @@ fn declared_position(
     }
 }
 
-/// `@p` behind a token.
+/// Returns the position of an `@p` after a token, if there is one.
 fn at_position(
     alloc: Global,
     vars: &VarTable<'_>,
@@ -113,7 +113,7 @@ fn at_position(
     }
 }
 
-/// The position stands behind the last token.
+/// Attaches the position to the last token.
 fn with_position(out: Items<Placed>, v: Var) -> Result<Items<Placed>, NoMemory>
     ensures { IfOk result (λ r. r ≡ told.with_position v out) }
 {
@@ -163,7 +163,7 @@ fn put(
     Ok(out)
 }
 
-/// The tokens so far, and how many tokens were taken for the last.
+/// The tokens so far, and the number of tokens taken for the last one.
 #[derive(Drop)]
 struct Taken {
     out: Items<Placed>,
@@ -236,8 +236,8 @@ fn put_line(
     put_tokens(alloc, vars, l.sign, line, out, l.tokens.as_slice())
 }
 
-/// The tokens of the patterns of a body, plus lines aside. Linear, where no hashes of names collide. `NoMemory`: memory was
-/// refused, and nothing is kept.
+/// Returns the tokens of a body's patterns, without those of plus lines. Linear if no hashes of names collide. Fails only
+/// when out of memory, and nothing is kept then.
 pub fn pattern_tokens(
     alloc: Global,
     vars: &[VarDecl],

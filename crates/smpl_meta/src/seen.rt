@@ -1,4 +1,4 @@
-// The names that items have, found by one look-up.
+// The names of the items seen so far, each found by one look-up.
 ghost use Rattle.std.specs.Prelude.{◌≡◌, IfOk, if◌then◌else◌, true};
 ghost use Rattle.smpl_meta.specs.Seen as of;
 ghost use Rattle.smpl_meta.specs.Decls as told;
@@ -9,7 +9,7 @@ use crate::item::{DeclKind, Item};
 use c_terms::NoMemory;
 use std::alloc::Global;
 
-/// The names of items: of all, and of those that are no symbols.
+/// The names of all items, and the names of those that aren't symbols.
 #[derive(Drop)]
 pub struct Seen {
     pub all: NameIndex,
@@ -25,7 +25,7 @@ pub fn is_symbol(kind: DeclKind) -> bool
     }
 }
 
-/// Whether an item before has the name, unless both are symbols. One look-up.
+/// Whether an earlier item has the same name, unless both are symbols. Takes one look-up.
 pub fn is_seen(seen: &Seen, i: &Item) -> bool
     ensures { result ≡ of.is_seen seen.now i.now }
 {
@@ -52,7 +52,7 @@ fn with_name(
     Ok(index)
 }
 
-/// One more item.
+/// Adds an item to those seen so far.
 pub fn with_seen(alloc: Global, seen: Seen, i: &Item) -> Result<Seen, NoMemory>
     ensures { IfOk result (λ r. (j : Declared) → of.is_seen r j
         ≡ (if of.is_seen seen j then true else told.is_again j i.now)) }

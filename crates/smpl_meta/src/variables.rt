@@ -1,4 +1,4 @@
-// Declared variables, found by their names.
+// Declared variables, found by name.
 ghost use Rattle.std.specs.Prelude.{◌≡◌, IfOk};
 ghost use Rattle.std.specs.Option.{option_copied};
 ghost use Rattle.smpl_meta.specs.Index.{names_of};
@@ -11,7 +11,7 @@ use sqlite_items::at;
 use std::alloc::Global;
 use std::marker::Model;
 
-/// The names of variables. Linear.
+/// Returns the names of variables. Linear.
 pub fn names_of(alloc: Global, vars: &[VarDecl]) -> Result<NameTable, NoMemory>
     ensures { IfOk result (λ names. names ≡ names_of vars.now) }
 {
@@ -22,7 +22,7 @@ pub fn names_of(alloc: Global, vars: &[VarDecl]) -> Result<NameTable, NoMemory>
     Ok(names)
 }
 
-/// The first variable of a name. One look-up.
+/// Returns the first variable with this name, if there is one. Takes one look-up.
 pub fn var_by<'a>(vars: &'a [VarDecl], names: &NameTable, name: &[u8]) -> Option<&'a VarDecl>
     requires { names.now ≡ names_of vars.now }
     ensures { option_copied result ≡ known.var_named name.now vars.now }
@@ -33,7 +33,7 @@ pub fn var_by<'a>(vars: &'a [VarDecl], names: &NameTable, name: &[u8]) -> Option
     }
 }
 
-/// Declared variables, of which one look-up finds the first of a name.
+/// Declared variables. One look-up finds the first with a given name.
 #[derive(Drop)]
 pub struct VarTable<'a> {
     vars: &'a [VarDecl],
@@ -53,7 +53,7 @@ impl<'a> Model for VarTable<'a> {
 }
 
 impl<'a> VarTable<'a> {
-    /// A table of the variables. Linear. `NoMemory`: memory was refused.
+    /// Returns a table of the variables. Linear. Fails only when out of memory.
     pub fn of(alloc: Global, vars: &'a [VarDecl]) -> Result<VarTable<'a>, NoMemory>
         ensures { IfOk result (λ table. table ≡ vars.now) }
     {
@@ -61,7 +61,7 @@ impl<'a> VarTable<'a> {
         Ok(VarTable { vars, names })
     }
 
-    /// The first variable of a name. One look-up; takes no memory.
+    /// Returns the first variable with this name, if there is one. Makes one look-up and takes no memory.
     pub fn find(&self, name: &[u8]) -> Option<&'a VarDecl>
         ensures { option_copied result ≡ known.var_named name.now self.now }
     {

@@ -162,7 +162,7 @@ fn push_vars(
     }
 }
 
-/// The variables that items declare. Linear.
+/// Returns the variables that items declare. Linear.
 pub fn vars_of(
     alloc: Global,
     earlier: &Earlier,

@@ -1,4 +1,4 @@
--- Patterns, declarations, tokens of a rule and witnesses may go to other threads and be shared by them.
+-- Patterns, declarations, tokens of a rule and witnesses may be sent to other threads and shared between them.
 use denote.Param.Send.{IsSend, IsSync, sendable}
 use Rattle.std.proofs.Crossing.{crosses}
 use Rattle.c_terms.proofs.token.Token.TheSendSync as Token
@@ -33,7 +33,7 @@ pattern_send = search (tree_send, Spot.the_field_send, crosses, sendable) depth 
 pub pattern_sync : IsSync Pattern.the_row
 pattern_sync = search (tree_sync, Spot.the_field_sync, crosses, sendable) depth 60
 
--- as it stands in an enum or a struct
+-- as it is in an enum or a struct
 pub pattern_in_send : IsSend (Pattern.the_field).row
 pattern_in_send = search (tree_send, Spot.the_field_send, crosses, sendable) depth 60
 

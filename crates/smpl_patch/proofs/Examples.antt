@@ -20,23 +20,23 @@ use Rattle.smpl_patch.specs.Sound.{is_plus_token, is_gap, is_sound_decl}
 
 -- ---- what is compared
 
--- of `if (c) s` all but s
+-- all of `if (c) s` but s
 if_without_its_body : (form a b c d s : Tree) → held_at spot.Whole (Tree-F.Branch label.If (a ∷ b ∷ c ∷ d ∷ s ∷ [])) form ≡ a ∷ b ∷ c ∷ d ∷ []
 if_without_its_body form a b c d s = refl
 
--- of `if (c) s else t` the `else` too
+-- of `if (c) s else t`, also the `else`
 else_is_own : (form a b c d s e t : Tree)
     → held_at spot.Whole (Tree-F.Branch label.IfElse (a ∷ b ∷ c ∷ d ∷ s ∷ e ∷ t ∷ [])) form ≡ a ∷ b ∷ c ∷ d ∷ e ∷ []
 else_is_own form a b c d s e t = refl
 
--- of `do s while (c);` the `do` at its head, and at its tail all from `while` on
+-- of `do s while (c);`, the `do` at its head, and everything from `while` on at its tail
 do_is_its_head : (form d s w a c b e : Tree) → held_at spot.Whole (Tree-F.Branch label.Do (d ∷ s ∷ w ∷ a ∷ c ∷ b ∷ e ∷ [])) form ≡ d ∷ []
 do_is_its_head form d s w a c b e = refl
 
 tail_of_do : (form d s w a c b e : Tree) → held_at spot.Tail (Tree-F.Branch label.Do (d ∷ s ∷ w ∷ a ∷ c ∷ b ∷ e ∷ [])) form ≡ w ∷ a ∷ c ∷ b ∷ e ∷ []
 tail_of_do form d s w a c b e = refl
 
--- of what is no head, and of an expression, all
+-- what is not a head, and an expression, are compared whole
 call_is_whole : (form f a : Tree) → held_at spot.Whole (Tree-F.Branch label.Call (f ∷ a ∷ [])) form ≡ form ∷ []
 call_is_whole form f a = refl
 
@@ -54,7 +54,7 @@ as_expression = record { var = x 1; kind = var_kind.Meta meta.Expr; inherited = 
 abbrev as_position : VarDecl
 as_position = record { var = x 1; kind = var_kind.Position; inherited = false; not_names = []; not_places = [] }
 
--- a position is no metavariable
+-- a position is not a metavariable
 no_position : declared_as (as_position ∷ as_expression ∷ []) (codes "x") ≡ Some as_expression
 no_position = refl
 
@@ -68,7 +68,7 @@ own_number = refl
 least_place : first_of (fault.BadToken 9 ∷ fault.UnknownRule 4 ∷ fault.TwiceNamed 9 ∷ []) ≡ Some (fault.UnknownRule 4)
 least_place = refl
 
--- at one place the lesser number
+-- at one place, the lesser number counts
 least_number : first_of (fault.UnknownRule 4 ∷ fault.TwiceNamed 4 ∷ fault.KindDiffers 4 ∷ []) ≡ Some (fault.TwiceNamed 4)
 least_number = refl
 
@@ -77,7 +77,7 @@ least_number = refl
 abbrev dots : Element
 dots = Gap NoMore false false
 
--- dots may be first in a block, and neither first in a body nor beside other dots
+-- dots may be first in a block, but neither first in a body nor next to other dots
 first_in_block : (p : Pattern) → is_formed_body (Then (Block p (Then dots (Then (Atom p) End)) p) End) ≡ true
 first_in_block p = refl
 
@@ -97,13 +97,13 @@ empty_branch p = refl
 when_code : (p q : Pattern) → patterns_body (Then (Atom p) (Then (Gap (More (Then (Atom q) End) NoMore) false false) (Then (Atom p) End))) ≡ p ∷ q ∷ p ∷ []
 when_code p q = refl
 
--- of a block the sequence inside it, which has three members
+-- for a block, the sequence inside it, which has three members
 lengths_of_block : (p : Pattern) → lengths_body (Then (Block p (Then dots (Then (Atom p) (Then dots End))) p) End) ≡ 3 ∷ 0 ∷ 0 ∷ []
 lengths_of_block p = refl
 
 -- ---- plus code
 
--- `if` is a keyword, and two tokens are no token
+-- `if` is a keyword, and two tokens are not a token
 keyword : is_plus_token [] token.Keyword (codes "if") ≡ true
 keyword = refl
 
@@ -113,7 +113,7 @@ no_name = refl
 two_tokens : is_plus_token [] token.Punct (codes ")(") ≡ false
 two_tokens = refl
 
--- a comment is no gap
+-- a comment is not a gap
 blanks : is_gap (codes "  ") ≡ true
 blanks = refl
 

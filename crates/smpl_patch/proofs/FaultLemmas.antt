@@ -7,7 +7,7 @@ use Rattle.smpl_patch.specs.Faults.{number_of, place_of, is_before, earlier, fir
 abbrev lex : ℕ → ℕ → ℕ → ℕ → Bool
 lex p n q m = nat_lt p q || (p == q && nat_lt n m)
 
--- by place, then by number: what is not before h, which is before g, has no g before it
+-- by place, then by number: if h is before g, and h is not before f, then g is not before f
 lex_through : (p n q m r k : ℕ) → lex q m r k ≡ true → lex q m p n ≡ false → lex r k p n ≡ false
 lex_through p n q m r k a b = grind (arith, nat_tests)
 
@@ -17,7 +17,7 @@ lex_not p n q m r k a b = grind (arith, nat_tests)
 lex_self : (p n : ℕ) → lex p n p n ≡ false
 lex_self p n = grind (arith, nat_tests)
 
--- what was first before stays no later than the first of all
+-- the first fault so far is never before the first of all
 record Stays (o : Option PatchFault) (fs : List PatchFault) (f : PatchFault) : Type 0 where
   known : (g : PatchFault) → o ≡ Some g → is_before g f ≡ false
   least : NoneBefore f fs

@@ -42,7 +42,7 @@ module _ (decls : List VarDecl) (tokens : List PatToken) (x : Var) where
   pub sure-Leaf : (t : Token) → is_sure decls tokens x (Leaf t) ≡ is_own decls tokens x t
   sure-Leaf t = ap (λ (s : Sure). s.sure) (both-Leaf t)
 
-  -- what a branch of a shape has
+  -- whether x is a sure variable of a branch with this shape and these children
   abbrev pub sure_kids : Shape → List Tree → Bool
   sure_kids shape.Or cs = list_all (λ t. is_sign_tree t || is_sure decls tokens x t) cs
   sure_kids shape.And cs = list_any (λ t. is_sure decls tokens x t) cs

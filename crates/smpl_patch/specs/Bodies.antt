@@ -11,9 +11,9 @@ mutual
     -- the head, the bodies, and the tail of `do`
     Compound : Pattern → Bodies → Option Pattern → Element
     Block : Pattern → Body → Pattern → Element
-    -- `...`: the pieces of `when` code, and whether `when any` and `when strict` stand there
+    -- `...`: the pieces of `when` code, and whether there are `when any` and `when strict`
     Gap : Bodies → Bool → Bool → Element
-    -- `<... ...>` or, where the first is true, `<+... ...+>`
+    -- `<... ...>`, or `<+... ...+>` if the first is true
     Nest : Bool → Body → Bodies → Bool → Bool → Element
     AnyOf : Bodies → Element
     AllOf : Bodies → Element
@@ -26,7 +26,7 @@ mutual
     NoMore : Bodies
     More : Body → Bodies → Bodies
 
--- what is known of dots
+-- the clauses of dots
 pub record DotsOf : Type 0 where
   pub whens : Bodies
   pub any : Bool

@@ -3,7 +3,7 @@ use Rattle.std.specs.Prelude.{ℕ, ◌≡◌, ◌==◌, ◌&&◌, ◌||◌, Bool
 use Rattle.smpl_patch.specs.declared.fault.PatchFault.{PatchFault}
 use Rattle.smpl_patch.specs.declared.fault.PatchFault.TheVariants.{PatchTooLong, BadToken, BadHeader, BadMetavariable, TwiceNamed, UnknownRule, KindDiffers, BadPattern, StarWithEdit, PlusWithoutAnchor, DotsAtEdge, MinusDots, MayStayUnbound, UnboundInPlus, ScriptRule, TooDeep, TooLarge, NoMemory}
 
--- as users see it
+-- the number that users see
 abbrev pub number_of : PatchFault → ℕ
 number_of PatchTooLong = 1
 number_of (BadToken at) = 2
@@ -24,7 +24,7 @@ number_of (TooDeep at) = 16
 number_of (TooLarge rule) = 17
 number_of NoMemory = 18
 
--- the byte where it stands, and 0 where it stands at none
+-- the offset of the byte where the fault is, or 0 if it has no place
 abbrev pub place_of : PatchFault → ℕ
 place_of PatchTooLong = 0
 place_of (BadToken at) = at
@@ -45,7 +45,7 @@ place_of (TooDeep at) = at
 place_of (TooLarge rule) = 0
 place_of NoMemory = 0
 
--- at an earlier place, or at the same place and of a lesser number
+-- f is at an earlier place than g, or at the same place with a lesser number
 abbrev pub is_before : PatchFault → PatchFault → Bool
 is_before f g = nat_lt (place_of f) (place_of g) || (place_of f == place_of g && nat_lt (number_of f) (number_of g))
 
@@ -53,12 +53,12 @@ abbrev pub earlier : Option PatchFault → PatchFault → PatchFault
 earlier None f = f
 earlier (Some g) f = if is_before f g then f else g
 
--- the first of a fault, if there is one, and of several
+-- the first of an optional fault and of several more
 abbrev pub first_from : Option PatchFault → List PatchFault → Option PatchFault
 first_from o [] = o
 first_from o (f ∷ fs) = first_from (Some (earlier o f)) fs
 
--- the one at the least place, and there the one of the least number
+-- the fault at the least place; at one place, the one with the least number
 abbrev pub first_of : List PatchFault → Option PatchFault
 first_of = first_from None
 
@@ -70,7 +70,7 @@ abbrev pub NoneBefore : PatchFault → List PatchFault → Type 0
 NoneBefore f [] = Unit {0}
 NoneBefore f (g ∷ gs) = (is_before g f ≡ false) × NoneBefore f gs
 
--- one of the faults, before which none of them is
+-- f is one of the faults, and none of them is before it
 pub record IsFirstOf (faults : List PatchFault) (f : PatchFault) : Type 0 where
   pub among : IsAmong f faults
   pub least : NoneBefore f faults

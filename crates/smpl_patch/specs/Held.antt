@@ -7,19 +7,19 @@ use Rattle.c_terms.specs.Shapes.{is_head_label, is_body, is_tail}
 use Rattle.smpl_patch.specs.declared.pattern.Spot.{Spot}
 use Rattle.smpl_patch.specs.declared.pattern.Spot.TheVariants as spot
 
--- whether of a branch of this label only some children are compared
+-- whether only some children of a branch with this label are compared
 abbrev pub is_parted : Spot → Label → Bool
 is_parted spot.Whole l = is_head_label l
 is_parted spot.Tail l = true
 is_parted spot.Inside l = false
 
--- child i of n is the head's own, or the tail's
+-- whether child i of n is compared: of a head or of a tail, only their own children are
 abbrev pub is_held : Spot → Label → (n i : ℕ) → Bool
 is_held spot.Whole l n i = not (is_body l n i) && not (is_tail l i)
 is_held spot.Tail l n i = is_tail l i
 is_held spot.Inside l n i = true
 
--- the trees whose numbers pass, of which the first has the number i
+-- the trees whose numbers pass the test; the first tree has the number i
 abbrev pub kept : (ℕ → Bool) → ℕ → List Tree → List Tree
 kept test i [] = []
 kept test i (t ∷ ts) = if test i then t ∷ kept test (suc i) ts else kept test (suc i) ts

@@ -1,4 +1,4 @@
--- What public contracts rest on, in reading order: what is compared of a pattern, what it says of a variable, faults.
+-- What public contracts rest on, in reading order: which parts of a pattern are compared, what it says of variables, faults.
 pub mod Held
 pub mod Patterns
 pub mod Faults

@@ -1,4 +1,4 @@
--- What the tokens of a pattern say: which variables stand in it, and whether it is a statement variable.
+-- What the tokens of a pattern say: which variables appear in it, and whether it is a statement variable.
 use Rattle.std.specs.Prelude.{ℕ, Bool, true, false, not, ◌&&◌, ◌||◌, cond, Option, None, Some, List, [], ◌∷◌, slice_get}
 use Rattle.std.specs.List.{list_any, list_all}
 use Rattle.c_terms.specs.declared.shape.Shape.{Shape}
@@ -31,7 +31,7 @@ abbrev pub is_position_kind : VarKind → Bool
 is_position_kind var_kind.Position = true
 is_position_kind (var_kind.Meta k) = false
 
--- what a metavariable's name is declared as: the first declaration of the name that is no position
+-- what a metavariable's name is declared as: the first declaration of the name that is not a position
 abbrev pub declared_as : List VarDecl → List ℕ → Option VarDecl
 declared_as [] name = None
 declared_as (d ∷ ds) name = cond (not (is_position_kind d.kind) && same_bytes d.var.name name) (Some d) (declared_as ds name)
@@ -49,7 +49,7 @@ abbrev pub is_position_of : Option PatToken → Var → Bool
 is_position_of None x = false
 is_position_of (Some p) x = list_any (λ y. same_var y x) p.positions
 
--- signs of patterns stand between branches
+-- signs of patterns separate branches
 abbrev pub is_sign : TokenKind → Bool
 is_sign kind.Pat = true
 is_sign _ = false
@@ -82,7 +82,7 @@ pub record Sure : Type 0 where
   pub sign : Bool
   pub sure : Bool
 
--- a disjunction has the variables that all its branches have, any other branch those of its children
+-- a disjunction has the variables that all its branches have, and any other branch those of its children
 abbrev pub sure_by : Shape → List Sure → Bool
 sure_by shape.Or ss = list_all (λ s. s.sign || s.sure) ss
 sure_by shape.And ss = list_any (λ s. s.sure) ss
@@ -110,7 +110,7 @@ module _ (decls : List VarDecl) (tokens : List PatToken) where
   abbrev pub stands_in : Var → Tree → Bool
   stands_in x t = list_any (is_own x) (leaves t)
 
-  -- the same, plus code that is anchored at the tokens included
+  -- the same, or x is in plus code that is anchored at one of the tokens
   abbrev pub used_in : Var → Tree → Bool
   used_in x t = list_any (λ a. is_own x a || in_plus decls (slice_get tokens a.id) x) (leaves t)
 
@@ -119,32 +119,32 @@ module _ (decls : List VarDecl) (tokens : List PatToken) where
     sure_step (Tree-F.Leaf t) = record { sign = is_sign t.kind; sure = is_own x t }
     sure_step (Tree-F.Branch l ss) = record { sign = false; sure = sure_by (shape_of l) ss }
 
-    -- x has a value wherever the tree fits
+    -- x has a value wherever the tree matches
     abbrev pub is_sure : Tree → Bool
     is_sure t = (fold-Tree Sure sure_step t).sure
 
-  -- what is asked of a variable and a tree
+  -- the answer to a question about a variable and a tree
   abbrev pub answer : Question → Var → Tree → Bool
   answer question.Stands = stands_in
   answer question.Used = used_in
   answer question.Sure = is_sure
 
-  -- the answer is yes of some part of the form that is compared at the spot
+  -- the answer is yes for some part of the form that is compared at the spot
   abbrev pub held_answer : Question → Spot → Var → Tree → Bool
   held_answer q s x form = list_any (answer q x) (held s form)
 
-  -- x is a sure variable of what is compared of the form
+  -- x is a sure variable of the compared parts of the form
   abbrev pub held_sure : Spot → Var → Tree → Bool
   held_sure = held_answer question.Sure
 
   abbrev pub of_first : Question → Pattern → Var → Bool
   of_first q p x = in_first (held_answer q p.spot x) p.forms
 
-  -- x stands in the pattern
+  -- x appears in the pattern
   abbrev pub stands : Pattern → Var → Bool
   stands = of_first question.Stands
 
-  -- x stands in the pattern, or in plus code that is anchored at it
+  -- x appears in the pattern, or in plus code that is anchored at it
   abbrev pub used : Pattern → Var → Bool
   used = of_first question.Used
 

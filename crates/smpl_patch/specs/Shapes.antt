@@ -1,4 +1,4 @@
--- What holds of each body of a sound rule: where dots stand, how many branches there are, and which patterns there are.
+-- What holds for each body of a sound rule: where dots may be, how many branches there are, and which patterns there are.
 use Rattle.std.specs.Prelude.{ℕ, suc, Bool, true, false, not, ◌&&◌, nat_le, Option, None, Some, List, [], ◌∷◌, ◌++◌}
 use Rattle.smpl_patch.specs.declared.pattern.Pattern.{Pattern}
 use Rattle.smpl_patch.specs.Bodies.{Element, Atom, Compound, Block, Gap, Nest, AnyOf, AllOf, Body, End, Then, Bodies, NoMore, More}
@@ -18,7 +18,7 @@ ends_with_dots End = false
 ends_with_dots (Then e End) = is_dots e
 ends_with_dots (Then e (Then f rest)) = ends_with_dots (Then f rest)
 
--- no two of dots and nests stand side by side
+-- no two dots or nests are adjacent
 abbrev pub are_parted : Body → Bool
 are_parted End = true
 are_parted (Then e rest) = not (is_dots e && begins_with_dots rest) && are_parted rest
@@ -31,7 +31,7 @@ abbrev pub count : Bodies → ℕ
 count NoMore = 0
 count (More b bs) = suc (count bs)
 
--- Dots and nests are first or last in a sequence only directly inside a block, and no two of them stand side by side.
+-- Dots and nests are first or last in a sequence only directly inside a block, and no two of them are adjacent.
 -- A disjunction and a conjunction have at least two branches.
 abbrev mutual
   pub is_formed : Element → Bool
@@ -58,7 +58,7 @@ abbrev pub option_patterns : Option Pattern → List Pattern
 option_patterns None = []
 option_patterns (Some p) = p ∷ []
 
--- the patterns, those of `when` code included
+-- the patterns, including those of `when` code
 abbrev mutual
   pub patterns_element : Element → List Pattern
   patterns_element (Atom p) = p ∷ []

@@ -1,4 +1,4 @@
--- What every patch that is read is: its names, numbers and tokens agree.
+-- What holds for every patch that is read: its names, numbers and tokens agree.
 use Rattle.std.specs.Prelude.{◌≡◌, ℕ, ◌+◌, Bool, true, false, not, ◌&&◌, ◌||◌, cond, nat_eq, nat_lt, eqb, Option, None, Some, List, [], ◌∷◌, ◌++◌, map, length}
 use Rattle.std.specs.List.{list_any, list_all}
 use Rattle.std.specs.Str.{bytes_eq}
@@ -42,12 +42,12 @@ declares vars x k = list_any (λ d. same_var d.var x && same_kind d.kind k) vars
 abbrev pub declares_name : List VarDecl → List ℕ → MetaKind → Bool
 declares_name vars name k = list_any (λ d. bytes_eq d.var.name name && same_kind d.kind (var_kind.Meta k)) vars
 
--- no member passes the test with a later one
+-- no member passes the test together with a later one
 abbrev pub none_alike : {A : Type 0} → (A → A → Bool) → List A → Bool
 none_alike alike [] = true
 none_alike alike (x ∷ xs) = not (list_any (alike x) xs) && none_alike alike xs
 
--- the rule of the variable's number exports it with this kind; the first of the rules has the number n
+-- the rule with the variable's number exports it with this kind; the first of the rules has the number n
 abbrev pub exported_from : ℕ → List Rule → Var → VarKind → Bool
 exported_from n [] x k = false
 exported_from n (r ∷ rs) x k =
@@ -59,11 +59,11 @@ is_sound_decl earlier d =
     cond d.inherited (exported_from 0 earlier d.var d.kind) (nat_eq d.var.rule (length earlier))
     && list_all (λ y. exported_from 0 earlier y var_kind.Position) d.not_places
 
--- an own variable of the rule
+-- the variable is the rule's own
 abbrev pub is_own_var : List VarDecl → Var → Bool
 is_own_var vars x = list_any (λ d. same_var d.var x && not d.inherited) vars
 
--- the rules of which it speaks have numbers below n
+-- the rules that it names have numbers below n
 abbrev pub dep_step : ℕ → Dep-F Bool → Bool
 dep_step n Dep-F.Always = true
 dep_step n (Dep-F.Had rule) = nat_lt rule n
@@ -87,7 +87,7 @@ abbrev pub has_form : List Tree → Bool
 has_form [] = false
 has_form (f ∷ fs) = true
 
--- it has a form, and each token of its forms has a number that the rule has, and is declared where it is a metavariable
+-- it has a form, and each token of its forms has a number that the rule has, and is declared if it is a metavariable
 abbrev pub is_sound_pattern : List VarDecl → List PatToken → Pattern → Bool
 is_sound_pattern vars tokens p =
     has_form p.forms
@@ -130,7 +130,7 @@ abbrev pub is_sound_block : List VarDecl → Option PlusBlock → Bool
 is_sound_block vars None = true
 is_sound_block vars (Some b) = list_all (is_sound_line vars) b.lines
 
--- what stands at a token: its positions are declared, its plus code is tokens and blanks
+-- what belongs to a token: its positions are declared, and its plus code is tokens and blanks
 abbrev pub is_sound_token : List VarDecl → PatToken → Bool
 is_sound_token vars p =
     list_all (λ x. declares vars x var_kind.Position) p.positions && (is_sound_block vars p.before && is_sound_block vars p.after)
@@ -141,7 +141,7 @@ abbrev pub lengths_block : Option PlusBlock → List ℕ
 lengths_block None = []
 lengths_block (Some b) = length b.lines ∷ map (λ l. length l.tokens) b.lines
 
--- the lengths of the lists of a rule; of a tree, the most children of a branch
+-- the lengths of the lists of a rule; for a tree, the most children that a branch has
 abbrev pub lengths : Rule → List ℕ
 lengths r =
     length r.vars ∷ length r.exports ∷ length r.body ∷ length r.tokens ∷ lengths_body (body r.body)
@@ -151,7 +151,7 @@ lengths r =
 
 -- ---- rules and patches
 
--- the rule after these
+-- the rule is sound after these
 pub record IsSoundRule (earlier : List Rule) (r : Rule) : Type 0 where
   pub names : none_alike (λ d e. bytes_eq d.var.name e.var.name) r.vars ≡ true
   pub exports : list_all (is_own_var r.vars) r.exports ≡ true
@@ -163,7 +163,7 @@ pub record IsSoundRule (earlier : List Rule) (r : Rule) : Type 0 where
   pub formed : is_formed_body (body r.body) ≡ true
   pub few : list_all (λ n. nat_lt n 4294967296) (lengths r) ≡ true
 
--- each rule after those before it
+-- each rule is sound after those before it
 abbrev pub AreSoundRules : (earlier rules : List Rule) → Type 0
 AreSoundRules earlier [] = Unit {0}
 AreSoundRules earlier (r ∷ rs) = IsSoundRule earlier r × AreSoundRules (earlier ++ r ∷ []) rs

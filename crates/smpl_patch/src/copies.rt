@@ -48,7 +48,7 @@ fn copy_vars(alloc: Global, vars: &[Var]) -> Result<Items<Var>, NoMemory>
 }
 
 impl Pattern {
-    /// An equal pattern, ids included. Linear. Recurses once a level.
+    /// Returns an equal pattern, ids included. Linear. Recurses once per level.
     pub fn copy(&self, alloc: Global) -> Result<Pattern, NoMemory>
         ensures same { IfOk result (λ p. p ≡ self.now) }
     {
@@ -62,7 +62,7 @@ impl Pattern {
 }
 
 impl VarDecl {
-    /// An equal declaration. Linear.
+    /// Returns an equal declaration. Linear.
     pub fn copy(&self, alloc: Global) -> Result<VarDecl, NoMemory>
         ensures same { IfOk result (λ d. d ≡ self.now) }
     {
@@ -80,7 +80,7 @@ impl VarDecl {
 }
 
 impl PlusLine {
-    /// An equal line. Linear.
+    /// Returns an equal line. Linear.
     pub fn copy(&self, alloc: Global) -> Result<PlusLine, NoMemory>
         ensures same { IfOk result (λ l. l ≡ self.now) }
     {
@@ -95,7 +95,7 @@ impl PlusLine {
 }
 
 impl PlusBlock {
-    /// An equal block. Linear.
+    /// Returns an equal block. Linear.
     pub fn copy(&self, alloc: Global) -> Result<PlusBlock, NoMemory>
         ensures same { IfOk result (λ b. b ≡ self.now) }
     {
@@ -120,7 +120,7 @@ fn copy_block(alloc: Global, block: &Option<PlusBlock>) -> Result<Option<PlusBlo
 }
 
 impl PatToken {
-    /// An equal token. Linear.
+    /// Returns an equal token. Linear.
     pub fn copy(&self, alloc: Global) -> Result<PatToken, NoMemory>
         ensures same { IfOk result (λ p. p ≡ self.now) }
     {

@@ -20,14 +20,14 @@ pub struct Dots {
 pub enum Elem {
     /// A statement without bodies, an expression, or a metavariable for a statement.
     Atom(Pattern),
-    /// A statement or function with bodies: its head, its bodies, and the tail of a `do`. In the head's tree and in the
-    /// tail's an empty list of statements stands for each child that is not its own and has tokens.
+    /// A statement or function with bodies: its head, its bodies, and the tail of a `do`. In the trees of the head and of the
+    /// tail, an empty list of statements replaces each child that has tokens and is not their own.
     Compound(Pattern, Items<Items<Elem>>, Option<Pattern>),
-    /// `{ .. }`, by its braces.
+    /// `{ .. }`: the opening brace, the body, and the closing brace.
     Block(Pattern, Items<Elem>, Pattern),
     /// `...`
     Gap(Dots),
-    /// `<... ...>`, and `<+... ...+>` where the bool is true.
+    /// `<... ...>`, or `<+... ...+>` if the bool is true.
     Nest(bool, Items<Elem>, Dots),
     /// `\( .. \| .. \)`
     AnyOf(Items<Items<Elem>>),

@@ -7,30 +7,30 @@ use c_terms::NoMemory;
 use smpl_terms::Var;
 use std::alloc::{AllocError, AllocFailed};
 
-/// Why a patch is not read. A number is the offset of a byte of the patch, where nothing else is said.
+/// The reason why a patch is not read. A number is the offset of a byte in the patch, unless the variant says otherwise.
 #[derive(Drop)]
 pub enum PatchFault {
     /// More than 1,048,576 bytes.
     PatchTooLong,
-    /// What is no token of patches.
+    /// Text that is not a token of semantic patches.
     BadToken(u32),
-    /// A header, a `virtual` line or a rule can't go on here.
+    /// A header, a `virtual` line or a rule that can't continue here.
     BadHeader(u32),
-    /// A declaration that is not of the form, or a keyword for a name.
+    /// A malformed declaration, or a keyword in place of a name.
     BadMetavariable(u32),
     /// A name that is used twice.
     TwiceNamed(u32),
-    /// A name that is no earlier rule, no variable of one, and not virtual.
+    /// A name that is neither an earlier rule, nor a variable of one, nor virtual.
     UnknownRule(u32),
-    /// An inherited variable of another kind.
+    /// An inherited variable that is declared with another kind.
     KindDiffers(u32),
-    /// A body that nothing spells.
+    /// A body that the grammar does not allow.
     BadPattern(u32),
     /// A `*` line and a `-` or `+` line in the rule of this number.
     StarWithEdit(u32),
-    /// Plus code without an anchor.
+    /// Plus code without an anchor, or `+` and `++` lines in one block of plus code.
     PlusWithoutAnchor(u32),
-    /// Dots or a nest first or last.
+    /// Dots or a nest at the start or the end, where none may be.
     DotsAtEdge(u32),
     /// Dots on a `-` line.
     MinusDots(u32),
@@ -44,11 +44,11 @@ pub enum PatchFault {
     TooDeep(u32),
     /// The formula of the rule of this number is too large.
     TooLarge(u32),
-    /// Memory was refused.
+    /// Out of memory.
     NoMemory,
 }
 
-/// The fault's number, from 1, as users see it.
+/// Returns the fault's number as users see it, from 1.
 pub fn fault_number(fault: &PatchFault) -> u8
     ensures value { result ≡ number_of fault.now }
 {
@@ -74,7 +74,7 @@ pub fn fault_number(fault: &PatchFault) -> u8
     }
 }
 
-/// The offset of the byte where the fault stands, and 0 where it stands at none.
+/// Returns the offset of the byte where the fault is, or 0 if it has no place.
 pub fn fault_place(fault: &PatchFault) -> u32
     ensures value { result ≡ place_of fault.now }
 {
@@ -95,7 +95,7 @@ pub fn fault_place(fault: &PatchFault) -> u32
     }
 }
 
-/// At an earlier place, or at the same place and of a lesser number.
+/// Whether `a` is at an earlier place than `b`, or at the same place with a lesser number.
 fn is_before(a: &PatchFault, b: &PatchFault) -> bool
     ensures { result ≡ is_before a.now b.now }
 {
@@ -103,7 +103,7 @@ fn is_before(a: &PatchFault, b: &PatchFault) -> bool
     p < q || p == q && fault_number(a) < fault_number(b)
 }
 
-/// The first of a fault and those that were met before it.
+/// Returns the earlier of a new fault and the first fault so far, by place, then by number.
 pub fn earlier(first: Option<PatchFault>, fault: PatchFault) -> PatchFault
     ensures value { result ≡ earlier first fault }
 {
@@ -119,7 +119,7 @@ pub fn earlier(first: Option<PatchFault>, fault: PatchFault) -> PatchFault
     }
 }
 
-/// The first of faults is one of them, and none of them is before it. Does nothing.
+/// The law that the first of several faults is one of them, and that none of them is before it. Does nothing.
 pub fn first_is_least()
     ensures { (faults : List Fault) (f : Fault) → first_of faults ≡ Some f → IsFirstOf faults f }
 {}

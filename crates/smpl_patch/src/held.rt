@@ -1,4 +1,4 @@
-// What is asked of a pattern and a variable goes over the parts that are compared at a node.
+// Questions about a variable in the parts of a pattern that are compared at a node.
 ghost use Rattle.std.specs.Prelude.{◌≡◌, ◌&&◌, length};
 ghost use Rattle.std.specs.List.{list_any};
 ghost use Rattle.smpl_patch.specs.Held as parts;
@@ -10,14 +10,14 @@ use crate::{PatToken, Pattern, Spot, VarDecl};
 use c_terms::{Label, Tree};
 use smpl_terms::Var;
 
-/// What is asked of a variable and a tree.
+/// A question about a variable and a tree.
 #[derive(Clone, Copy, Debug, PartialEq, Eq)]
 pub(crate) enum Question {
-    /// Whether it stands there.
+    /// Whether the variable appears in the tree.
     Stands,
-    /// Whether it stands there or in plus code that is anchored there.
+    /// Whether the variable appears in the tree or in plus code that is anchored there.
     Used,
-    /// Whether it has a value wherever the tree fits.
+    /// Whether the variable has a value wherever the tree matches.
     Sure,
 }
 
@@ -31,8 +31,8 @@ fn is_parted(spot: Spot, label: Label) -> bool
     }
 }
 
-/// Whether child `i` of `n` children of a form of this label is compared at the spot: of a head and of the tail of `do`
-/// only what is their own. Takes no memory.
+/// Whether child `i` of the `n` children of a form with this label is compared at the spot. Of a head, and of the tail of
+/// `do`, only their own children are compared. Takes no memory.
 pub fn is_held(spot: Spot, label: Label, n: usize, i: usize) -> bool
     ensures value { result ≡ parts.is_held spot label n i }
 {
@@ -131,30 +131,32 @@ fn of_first(
     }
 }
 
-/// Whether the variable stands in what is compared of the pattern's first form. Takes no memory. Recurses once a level.
+/// Whether the variable appears in the compared parts of the pattern's first form. Takes no memory. Recurses once per
+/// level.
 pub fn stands(decls: &[VarDecl], tokens: &[PatToken], p: &Pattern, x: &Var) -> bool
     ensures value { result ≡ of.stands decls.now tokens.now p.now x.now }
 {
     of_first(Question::Stands, decls, tokens, p, x)
 }
 
-/// The same, or in plus code that is anchored there. Takes no memory. Recurses once a level.
+/// Whether the variable appears in the compared parts of the pattern's first form, or in plus code that is anchored there.
+/// Takes no memory. Recurses once per level.
 pub fn used(decls: &[VarDecl], tokens: &[PatToken], p: &Pattern, x: &Var) -> bool
     ensures value { result ≡ of.used decls.now tokens.now p.now x.now }
 {
     of_first(Question::Used, decls, tokens, p, x)
 }
 
-/// Whether the variable is a sure variable of what is compared of the pattern's first form: it has a value wherever that
-/// fits. Takes no memory. Recurses once a level.
+/// Whether the variable is a sure variable of the compared parts of the pattern's first form: it has a value wherever they
+/// match. Takes no memory. Recurses once per level.
 pub fn is_sure(decls: &[VarDecl], tokens: &[PatToken], p: &Pattern, x: &Var) -> bool
     ensures value { result ≡ of.sure decls.now tokens.now p.now x.now }
 {
     of_first(Question::Sure, decls, tokens, p, x)
 }
 
-/// Whether the variable is a sure variable of what is compared of the form at the spot. Takes no memory. Recurses once a
-/// level.
+/// Whether the variable is a sure variable of the parts of the form that are compared at the spot. Takes no memory. Recurses
+/// once per level.
 pub fn is_held_sure(
     decls: &[VarDecl],
     tokens: &[PatToken],

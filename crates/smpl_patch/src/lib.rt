@@ -1,18 +1,19 @@
 //! What semantic patches are made of: rules, bodies, patterns, isomorphisms, witnesses, and the faults of patches.
 //!
-//! - [`Patch`] is its virtual names and its [`Rule`]s: what a rule depends on ([`Dep`]), its [`Mode`], its declared
-//!   variables ([`VarDecl`]), its body, and what stands at each token of its patterns ([`PatToken`]).
-//! - A body is a list of [`Elem`]s over [`Pattern`]s: an atom with its [`Spot`] and its forms.
-//! - [`stands`], [`used`] and [`is_sure`] ask whether a variable stands in a pattern, also with the plus code there, and
-//!   whether it has a value wherever the pattern matches. They go over what is compared at a node: of a head and of the
-//!   tail of `do` only what is their own ([`is_held`]).
-//! - [`Iso`] is an isomorphism, [`Witness`] and [`RuleWitness`] are what a run reports.
-//! - [`PatchFault`] is why a patch is not read; [`earlier`] keeps the first of several.
+//! - [`Patch`] has the virtual names and the [`Rule`]s. A rule has what it depends on ([`Dep`]), its [`Mode`], its
+//!   declared variables ([`VarDecl`]), its body, and the marks, positions and plus code at the tokens of its patterns
+//!   ([`PatToken`]).
+//! - A body is a list of [`Elem`]s over [`Pattern`]s. A pattern is an atom with its [`Spot`] and its forms.
+//! - [`stands`] says whether a variable appears in a pattern, [`used`] whether it appears there or in the plus code there,
+//!   and [`is_sure`] whether it has a value wherever the pattern matches. They look only at what is compared at a node:
+//!   of a head, and of the tail of `do`, only their own parts ([`is_held`]).
+//! - [`Iso`] is an isomorphism. [`Witness`] and [`RuleWitness`] are what a run reports.
+//! - [`PatchFault`] is the reason why a patch is not read; [`earlier`] keeps the first of several faults.
 //!
-//! In `- f(x);` with `expression x` the variable `x` stands in the one atom, and is sure there.
+//! In `- f(x);` with `expression x`, the variable `x` appears in the only atom and is sure there.
 //!
-//! Everything here is data. Comparing and copying recurse once a level of a tree; comparing takes no memory. Reading
-//! patches is for smpl_lexer and the crates above it.
+//! Everything here is data. Comparisons and copies recurse once per level of a tree; comparisons take no memory.
+//! smpl_lexer and the crates above it read patches.
 #![tactic(auto)]
 
 mod copies;

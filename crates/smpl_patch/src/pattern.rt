@@ -1,4 +1,4 @@
-// Patterns, what stands at their tokens, and declared variables.
+// Patterns, the marks, positions and plus code at their tokens, and declared variables.
 use c_terms::{MetaKind, Text, Token, Tree};
 use smpl_terms::Var;
 use sqlite_items::Items;
@@ -18,13 +18,13 @@ pub struct VarDecl {
     pub var: Var,
     pub kind: VarKind,
     pub inherited: bool,
-    /// The names that an identifier is not to be.
+    /// The names that an identifier must not be.
     pub not_names: Items<Text>,
-    /// The positions of earlier rules that a position is not to be.
+    /// The positions of earlier rules that a position must not be.
     pub not_places: Items<Var>,
 }
 
-/// The sign of a token's line.
+/// The sign at the start of a token's line.
 #[derive(Clone, Copy, Debug, PartialEq, Eq)]
 pub enum Mark {
     /// None.
@@ -35,25 +35,25 @@ pub enum Mark {
     Star,
 }
 
-/// A line of plus code, its comments left out.
+/// A line of plus code, without its comments.
 #[derive(Drop)]
 pub struct PlusLine {
-    /// How many blanks lead the line.
+    /// The number of blanks before the line's first token.
     pub lead: u32,
     pub tokens: Items<Token>,
     /// The blanks directly before each token.
     pub gaps: Items<Text>,
 }
 
-/// A longest run of plus lines between which no line of a pattern stands.
+/// A longest run of plus lines with no token of a pattern between them.
 #[derive(Drop)]
 pub struct PlusBlock {
-    /// Its lines begin with `++`: what they put at one place does not clash.
+    /// Whether its lines begin with `++`. What they put at one place then does not clash.
     pub many: bool,
     pub lines: Items<PlusLine>,
 }
 
-/// What stands at a token of a pattern: its mark, the positions behind it, and the plus code that is anchored at it.
+/// What belongs to a token of a pattern: its mark, the positions after it, and the plus code that is anchored at it.
 #[derive(Drop)]
 pub struct PatToken {
     pub mark: Mark,
@@ -65,7 +65,7 @@ pub struct PatToken {
 /// Which trees at a node a pattern is compared with.
 #[derive(Clone, Copy, Debug, PartialEq, Eq)]
 pub enum Spot {
-    /// The statement or item that begins at the node; of a head, its own tokens.
+    /// The statement or item that begins at the node; if it is a head, only the head's own tokens.
     Whole,
     /// The expressions in the node's own tokens.
     Inside,
@@ -73,8 +73,8 @@ pub enum Spot {
     Tail,
 }
 
-/// A pattern that is compared at one node: its number in the rule, and its forms under isomorphisms, of which the first
-/// is as it is written. A token's id is its number among the rule's pattern tokens.
+/// A pattern that is compared at one node: its number in the rule, and its forms under isomorphisms. The first form is the
+/// one that is written. A token's id is its number among the rule's pattern tokens.
 #[derive(Drop)]
 pub struct Pattern {
     pub atom: u32,

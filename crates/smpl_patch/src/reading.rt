@@ -1,4 +1,4 @@
-// What is read off a pattern.
+// Queries on declarations, tokens and patterns.
 ghost use Rattle.std.specs.Prelude.{◌≡◌, ◌||◌, slice_get};
 ghost use Rattle.std.specs.List.{list_any, list_all};
 ghost use Rattle.std.specs.Option.{option_copied};
@@ -20,7 +20,8 @@ fn is_position_kind(kind: VarKind) -> bool
     }
 }
 
-/// What a metavariable of this name is declared as. Takes no memory.
+/// Returns the declaration of the metavariable with this name: the first one of the name that is not a position. Takes no
+/// memory.
 pub fn declared_as<'a>(decls: &'a [VarDecl], name: &[u8]) -> Option<&'a VarDecl>
     ensures value { option_copied result ≡ of.declared_as decls.now name.now }
 {
@@ -53,8 +54,8 @@ fn is_declared_as(decls: &[VarDecl], name: &[u8], x: &Var) -> bool
     }
 }
 
-/// Whether a metavariable of this name is the variable. Most are told apart by their names, before declarations are
-/// looked up.
+/// Whether a metavariable of this name is the variable. Compares the names first, which mostly saves the search of the
+/// declarations.
 fn is_named(decls: &[VarDecl], name: &[u8], x: &Var) -> bool
     ensures { result ≡ of.is_var_of (of.declared_as decls.now name.now) x.now }
 {
@@ -145,7 +146,7 @@ fn is_at(decls: &[VarDecl], tokens: &[PatToken], x: &Var, token: &Token) -> bool
     is_own(decls, tokens, x, token) || in_plus(decls, tokens, token.id, x)
 }
 
-/// The same, plus code that is anchored at the tokens included.
+/// Whether the variable is that of one of the tree's tokens, a position at one, or in plus code that is anchored at one.
 pub(crate) fn used_in(decls: &[VarDecl], tokens: &[PatToken], x: &Var, tree: &Tree) -> bool
     ensures { result ≡ of.used_in decls.now tokens.now x.now tree.now }
 {

@@ -4,7 +4,7 @@ use c_terms::{Text, Tree};
 use smpl_terms::Var;
 use sqlite_items::{Boxed, Items};
 
-/// On what a rule depends.
+/// What a rule depends on.
 #[derive(Drop)]
 pub enum Dep {
     /// Nothing.
@@ -33,16 +33,16 @@ pub enum Mode {
 /// A rule of a patch.
 #[derive(Drop)]
 pub struct Rule {
-    /// Empty where the rule has none.
+    /// Empty if the rule has none.
     pub name: Text,
     pub depends: Dep,
     pub mode: Mode,
-    /// In the order in which they are declared.
+    /// The variables, in the order of their declarations.
     pub vars: Items<VarDecl>,
-    /// The own variables that later rules inherit, in that order.
+    /// The rule's own variables that later rules inherit, in that order.
     pub exports: Items<Var>,
     pub body: Items<Elem>,
-    /// What stands at each token of the patterns.
+    /// The mark, positions and plus code at each token of the patterns.
     pub tokens: Items<PatToken>,
 }
 
@@ -53,8 +53,8 @@ pub struct Patch {
     pub rules: Items<Rule>,
 }
 
-/// An isomorphism: expressions that stand for one another. Between each two sides stands `=>` or, where `both` is true,
-/// `<=>`.
+/// An isomorphism: expressions that stand for one another. Between two neighboring sides is `=>`, or `<=>` if `both` is
+/// true there.
 #[derive(Drop)]
 pub struct Iso {
     pub name: Text,

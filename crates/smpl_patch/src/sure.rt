@@ -49,7 +49,7 @@ fn in_some(decls: &[VarDecl], tokens: &[PatToken], x: &Var, trees: &[Tree]) -> b
     false
 }
 
-/// Whether the variable is a sure variable of the form. Takes no memory. Recurses once a level.
+/// Whether the variable is a sure variable of the form. Takes no memory. Recurses once per level.
 #[cycle(sure)]
 pub fn is_sure_in(decls: &[VarDecl], tokens: &[PatToken], x: &Var, tree: &Tree) -> bool
     ensures { result ≡ of.is_sure decls.now tokens.now x.now tree.now }

@@ -11,7 +11,7 @@ use std::alloc::Global;
 pub enum Witness {
     /// At the node of this number, a variable has a value, with what was found under it.
     Bind(u32, Var, Value, Items<Witness>),
-    /// At the node of this number, the atom of that number stands at this place of the item.
+    /// At the node of the first number, the atom of the second number is at this place in the item.
     Touch(u32, u32, TreePath),
 }
 
@@ -26,7 +26,7 @@ pub struct RuleWitness {
 }
 
 impl Witness {
-    /// An equal tree, ids included. Linear. Recurses once a level.
+    /// Returns an equal tree, ids included. Linear. Recurses once per level.
     pub fn copy(&self, alloc: Global) -> Result<Witness, NoMemory>
         ensures same { IfOk result (λ w. w ≡ self.now) }
     {

@@ -20,7 +20,7 @@ use Rattle.smpl_plus.specs.Blocks.{Block, Blocks, ended, all_blocks, has_tokens,
 use Rattle.smpl_plus.specs.Anchors.{tokens_before, place_of_block, anchor_at, anchor_of, no_anchor, differ, other_in, mixed_at, block_faults, anchor_faults, bare, changed, with_block, with_blocks}
 use Rattle.smpl_plus.specs.SoFar.{IsKept, IsOpen, SoFar}
 
--- another item at a place
+-- a changed item at a place
 pub changed-set : (f : PatToken → PatToken) (n : ℕ) (ts : List PatToken) (d : PatToken) → n < length ts → changed f n ts ≡ set ts n (f (get_or ts n d))
 changed-set f n [] d h = absurd (omega arith)
 changed-set f zero (t ∷ ts) d h = refl
@@ -139,7 +139,7 @@ many-append : (ls : List BodyLine) (l : BodyLine) → 0 < length ls → is_many 
 many-append [] l h = absurd (omega arith)
 many-append (k ∷ ls) l h = refl
 
--- the first of the other kind, after one more line
+-- the first line of the other kind, one more line included
 abbrev pub other-with : Option ℕ → Bool → BodyLine → Option ℕ
 other-with other many l = if is_some other then other else other_in many (l ∷ [])
 

@@ -6,7 +6,7 @@ use Rattle.c_lexer.specs.declared.state.Kind.TheVariants as kind
 use Rattle.c_lexer.specs.First.{IsFirst}
 use Rattle.smpl_plus.specs.Blocks.{Piece, joined, Cut, gaps_by, gaps_from, lead_of, AreGaps}
 
--- however the rest is cut, the whole is
+-- however the rest is cut, the whole is cut so
 pub record Leads (bytes : List ℕ) (start : ℕ) (gaps : List (List ℕ)) (blank : List ℕ) : Type 0 where
   pub within : start ≤ length bytes
   pub leads : (ps : List Piece) → joined ps ≡ drop start bytes → Cut ps → AreGaps bytes (gaps ++ gaps_from blank ps)

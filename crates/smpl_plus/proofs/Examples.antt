@@ -16,14 +16,14 @@ call sign start = record {
   tokens = made Name (codes "a") 8 ∷ made Punct (codes "(") 9 ∷ made Punct (codes ")") 10 ∷ made Punct (codes ";") 11 ∷ [];
 }
 
--- a line of plus code, its tokens aside
+-- a line of plus code, without its tokens
 abbrev line : Bool → ℕ → List ℕ → BodyLine
 line many start text = record { sign = 43; many = many; start = start; text = text; tokens = [] }
 
 abbrev blank : ℕ → BodyLine
 blank start = record { sign = 32; many = false; start = start; text = []; tokens = [] }
 
--- behind `@@`, `@@` and `  a();` stand `++ b();` and `++ c();`
+-- `++ b();` and `++ c();`, after `@@`, `@@` and `  a();`
 of_one_kind : first_phase (plus_faults [] 0 (call 32 6 ∷ line true 13 (codes " b();") ∷ line true 21 (codes " c();") ∷ [])) ≡ None
 of_one_kind = refl
 
@@ -42,11 +42,11 @@ empty_of_one_kind = refl
 empty_of_another_kind : first_phase (plus_faults [] 0 (call 32 6 ∷ line false 13 [] ∷ line true 15 (codes " c();") ∷ [])) ≡ Some (PlusWithoutAnchor 15)
 empty_of_another_kind = refl
 
--- a blank line parts no block
+-- a blank line does not split a block
 behind_a_blank_line : first_phase (plus_faults [] 0 (call 32 6 ∷ line true 13 (codes " b();") ∷ blank 21 ∷ line false 22 (codes " c();") ∷ [])) ≡ Some (PlusWithoutAnchor 22)
 behind_a_blank_line = refl
 
--- without an anchor the block's first line counts
+-- without an anchor, the block's first line counts
 no_anchor : first_phase (plus_faults [] 0 (line true 6 (codes " b();") ∷ line false 14 (codes " c();") ∷ [])) ≡ Some (PlusWithoutAnchor 6)
 no_anchor = refl
 

@@ -1,4 +1,4 @@
--- The tokens of patterns stand in the order of their lines.
+-- The tokens of patterns are in the order of their lines.
 use Rattle.std.proofs.Common.{◌≡◌, ℕ, suc, ◌+◌, ◌<◌, ◌≤◌, ◌||◌, ◌==◌, Bool, true, false, if◌then◌else◌, List, [], ◌∷◌, ◌++◌, length, take, drop, Option, Some, None, refl, sym, ap, ◌∙◌, subst, arith, nat_lt}
 use Rattle.std.proofs.lemmas.List.{take-append-drop, length-take-le, length-drop, drop-drop}
 use Rattle.std.proofs.Math.Seq.{take-append-add}
@@ -80,7 +80,7 @@ order-lines vars line out (l ∷ ls) o =
 pub pattern-tokens-rise : (vars : List VarDecl) (body : List BodyLine) → RisingFrom 0 (pattern_tokens vars body)
 pattern-tokens-rise vars body = order-lines vars 0 [] body (record { rising = tt; below = tt })
 
--- ---- how they are gone over
+-- ---- how they are processed
 
 eq_less : (a b : ℕ) → a < b → (a == b) ≡ false
 eq_less a b h = grind (arith, nat_tests)
@@ -118,7 +118,7 @@ count-back line m (p ∷ ps) r h =
     let above : line ≤ p.line = omega (arith, r.0) in
     ap (λ x. if x then suc (tokens_before line ps) else tokens_before line ps) (less_no p.line line above) ∙ count-back line p.line ps r.1 above
 
--- a run at the head of a rising list
+-- a run at the start of a list in order
 pub record Run (line : ℕ) (ps : List Placed) : Type 0 where
   pub within : run_length line ps ≤ length ps
   pub front : AllBelow (suc line) (take (run_length line ps) ps)

@@ -19,7 +19,7 @@ place_of (split.Code host line code) = Code line
 abbrev taken : Standing → Placed → List Placed
 taken s p = if s.outside then p ∷ [] else []
 
--- one token is taken alike
+-- one token is treated the same way
 record Alike (s r : Split) (p : Placed) (t : Standing) : Type 0 where
   pub main : r.main ≡ s.main ++ taken t p
   pub next : place_of r.next ≡ t.next

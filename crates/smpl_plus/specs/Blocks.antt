@@ -1,4 +1,4 @@
--- Plus code: longest runs of plus lines between which no line of a pattern stands.
+-- Plus code: longest runs of plus lines with no token of a pattern between them.
 use Rattle.std.specs.Prelude.{ℕ, suc, ◌≡◌, ◌==◌, Bool, false, if◌then◌else◌, ⊤, List, [], ◌∷◌, ◌++◌, map, length, Option, Some, None}
 use Rattle.std.specs.List.{list_any}
 use Rattle.c_lexer.specs.declared.state.Kind.{Kind}
@@ -18,12 +18,12 @@ pub record Block : Type 0 where
   pub first : ℕ
   pub lines : List BodyLine
 
--- the blocks that are whole, and the one to which more lines may come
+-- the blocks that are complete, and the one to which more lines may be added
 pub record Blocks : Type 0 where
   pub whole : List Block
   pub last : Option Block
 
--- a token of a pattern stands in the line of this number
+-- a token of a pattern is in the line with this number
 abbrev pub has_tokens : List Placed → ℕ → Bool
 has_tokens ps line = list_any (λ (p : Placed). p.line == line) ps
 
@@ -83,14 +83,14 @@ abbrev pub lead_of : List (List ℕ) → ℕ
 lead_of [] = 0
 lead_of (gap ∷ gaps) = length gap
 
--- The line, cut with a newline, has these blanks.
+-- The line, cut together with a newline, has these blanks.
 pub record AreGaps (text : List ℕ) (gaps : List (List ℕ)) : Type 0 where
   pub pieces : List Piece
   pub joins : joined pieces ≡ text
   pub cut : Cut pieces
   pub are : gaps ≡ gaps_from [] pieces
 
--- The line has these tokens, those of declared names being metavariables, and these blanks.
+-- The line has these tokens, of which those with declared names are metavariables, and these blanks.
 pub record IsPlusLine (vars : List VarDecl) (l : BodyLine) (p : PlusLine) : Type 0 where
   pub tokens : p.tokens ≡ map (made vars 0) l.tokens
   pub gaps : AreGaps (l.text ++ 10 ∷ []) p.gaps
@@ -107,7 +107,7 @@ abbrev pub is_many : List BodyLine → Bool
 is_many [] = false
 is_many (l ∷ ls) = l.many
 
--- The block is of these lines, and of the kind of the first of them.
+-- The block has these lines, and the kind of the first of them.
 pub record IsPlusBlock (vars : List VarDecl) (b : Block) (c : PlusBlock) : Type 0 where
   pub lines : ArePlusLines vars b.lines c.lines
   pub many : c.many ≡ is_many b.lines

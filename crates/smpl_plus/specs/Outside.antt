@@ -1,4 +1,4 @@
--- Which tokens of patterns stand outside clauses.
+-- Which tokens of patterns are outside clauses.
 use Rattle.std.specs.Prelude.{ℕ, ◌==◌, ◌||◌, ◌&&◌, not, Bool, true, false, if◌then◌else◌, List, [], ◌∷◌, codes}
 use Rattle.c_terms.specs.declared.token.TokenKind.{TokenKind}
 use Rattle.c_terms.specs.declared.token.TokenKind.TheVariants as token
@@ -8,7 +8,7 @@ use Rattle.smpl_plus.specs.declared.clauses.Where.{Where}
 use Rattle.smpl_plus.specs.declared.clauses.Where.TheVariants.{Free, After, When, Code}
 use Rattle.smpl_plus.specs.declared.clauses.Standing.{Standing}
 
--- ---- a token, and where the next one stands
+-- ---- a token, and where the next one is
 
 abbrev pub next_of : Placed → Where
 next_of p = if is_host_of p.token.kind p.token.text then After else Free

@@ -1,4 +1,4 @@
--- What was anchored up to some line, as the reader keeps it.
+-- What is anchored up to some line, as the reader keeps it.
 use Rattle.std.specs.Prelude.{ℕ, suc, ◌≡◌, ◌≤◌, ◌<◌, ◌==◌, if◌then◌else◌, ⊤, List, [], ◌∷◌, map, length, take, drop, Option, Some, None}
 use Rattle.smpl_patch.specs.declared.pattern.VarDecl.{VarDecl}
 use Rattle.smpl_patch.specs.declared.pattern.PlusBlock.{PlusBlock}
@@ -11,7 +11,7 @@ use Rattle.smpl_plus.specs.Anchors.{tokens_before, place_of_block, other_in, anc
 
 -- ---- lines of tokens
 
--- the lines rise from this one on
+-- the lines of the tokens do not decrease, from this line on
 abbrev pub RisingFrom : ℕ → List Placed → Type 0
 RisingFrom m [] = Unit {0}
 RisingFrom m (p ∷ ps) = (m ≤ p.line) × RisingFrom p.line ps
@@ -20,12 +20,12 @@ abbrev pub AllBelow : ℕ → List Placed → Type 0
 AllBelow n [] = Unit {0}
 AllBelow n (p ∷ ps) = (p.line < n) × AllBelow n ps
 
--- how many tokens at the head of the list stand in this line
+-- how many tokens at the start of the list are in this line
 abbrev pub run_length : ℕ → List Placed → ℕ
 run_length line [] = 0
 run_length line (p ∷ ps) = if p.line == line then suc (run_length line ps) else 0
 
--- k tokens stand in lines before this one, and the others in this line or later
+-- k tokens are in lines before this one, and the others in this line or later
 pub record AtLine (line k : ℕ) (ps : List Placed) : Type 0 where
   pub within : k ≤ length ps
   pub below : AllBelow line (take k ps)
@@ -33,7 +33,7 @@ pub record AtLine (line k : ℕ) (ps : List Placed) : Type 0 where
 
 -- ---- blocks
 
--- a block to which more lines may come, as it is kept
+-- a block to which more lines may be added, as it is kept
 pub record IsKept (vars : List VarDecl) (ps : List Placed) (b : Block) (o : OpenBlock) : Type 0 where
   pub some : 0 < length b.lines
   pub lines : ArePlusLines vars b.lines o.lines

@@ -19,28 +19,28 @@ use smpl_terms::Var;
 use sqlite_items::Items;
 use std::alloc::Global;
 
-/// At which token a block is anchored.
+/// The token at which a block is anchored.
 #[derive(Clone, Copy, Debug, PartialEq, Eq)]
 pub enum Anchor {
     Before(usize),
     After(usize),
 }
 
-/// Plus lines to which more may come.
+/// Plus lines to which more may be added.
 #[derive(Drop)]
 pub struct OpenBlock {
-    /// How many pattern tokens stand before them.
+    /// The number of pattern tokens before the lines.
     pub before: usize,
-    /// The offset of the first.
+    /// The offset of the first line.
     pub at: u32,
-    /// The first begins with `++`.
+    /// Whether the first line begins with `++`.
     pub many: bool,
-    /// The offset of the first that is of the other kind.
+    /// The offset of the first line of the other kind.
     pub other: Option<u32>,
     pub lines: Items<PlusLine>,
 }
 
-/// What stands at the tokens so far, the block that is open, and the first fault so far.
+/// The tokens with the plus code so far, the block that is open, and the first fault so far.
 #[derive(Drop)]
 pub struct Anchoring {
     pub tokens: Vec<PatToken>,
@@ -81,7 +81,7 @@ fn bare(alloc: Global, p: &Placed) -> Result<PatToken, NoMemory>
     })
 }
 
-/// The tokens without plus code.
+/// Returns the tokens without plus code.
 pub fn bare_tokens(alloc: Global, placed: &[Placed]) -> Result<Vec<PatToken>, NoMemory>
     ensures { IfOk result (λ out. out.items ≡ map told.bare placed.now) }
 {
@@ -102,7 +102,7 @@ fn anchor_before(may: &[bool], n: usize) -> Option<Anchor>
     }
 }
 
-/// Of code before which n tokens stand: behind the last of them, else before the next one.
+/// Returns the anchor of code that comes after n tokens: after the last of them, or else before the next one.
 fn anchor_at(may: &[bool], n: usize) -> Option<Anchor>
     ensures { result ≡ told.anchor_at may.now n }
 {
@@ -113,7 +113,7 @@ fn anchor_at(may: &[bool], n: usize) -> Option<Anchor>
     }
 }
 
-/// The block stands before the token of this number.
+/// Puts the block before the token with this number.
 fn with_before(tokens: Vec<PatToken>, n: usize, block: PlusBlock) -> Vec<PatToken>
     ensures { result.items ≡ told.changed (told.with_before block) n tokens.items }
 {
@@ -126,7 +126,7 @@ fn with_before(tokens: Vec<PatToken>, n: usize, block: PlusBlock) -> Vec<PatToke
     tokens
 }
 
-/// The block stands behind the token of this number.
+/// Puts the block after the token with this number.
 fn with_after(tokens: Vec<PatToken>, n: usize, block: PlusBlock) -> Vec<PatToken>
     ensures { result.items ≡ told.changed (told.with_after block) n tokens.items }
 {
@@ -139,7 +139,7 @@ fn with_after(tokens: Vec<PatToken>, n: usize, block: PlusBlock) -> Vec<PatToken
     tokens
 }
 
-/// The block stands at its anchor.
+/// Puts the block at its anchor.
 fn with_block(tokens: Vec<PatToken>, anchor: Option<Anchor>, block: PlusBlock) -> Vec<PatToken>
     ensures { result.items ≡ told.with_block tokens.items anchor block }
 {
@@ -210,7 +210,7 @@ fn differ(many: bool, other: bool) -> bool
     if many { !other } else { other }
 }
 
-/// Where the first line of the other kind begins, after one more line.
+/// Returns where the first line of the other kind begins, one more line included.
 fn first_other(other: Option<u32>, many: bool, l: &BodyLine) -> Option<u32>
     ensures { result ≡ (if is_some other then other else told.other_in many (l.now ∷ [])) }
 {
@@ -223,7 +223,7 @@ fn first_other(other: Option<u32>, many: bool, l: &BodyLine) -> Option<u32>
     }
 }
 
-/// One more line of plus code, before whose block so many tokens stand.
+/// Adds one more line of plus code to the open block, or begins a block that comes after this many tokens.
 fn with_plus(
     alloc: Global,
     pending: Option<OpenBlock>,
@@ -268,7 +268,7 @@ fn with_plus(
     }
 }
 
-/// How many tokens from one on stand in this line.
+/// Returns the number of tokens in this line, counted from the token `from`.
 fn run(placed: &[Placed], from: usize, line: u32) -> usize
     requires { from ≤ length placed.now }
     ensures value { result ≡ run_length line (drop from placed.now) }
@@ -284,7 +284,7 @@ fn run(placed: &[Placed], from: usize, line: u32) -> usize
     rest.len()
 }
 
-/// One more line, before which so many tokens stand.
+/// Processes one more line, which comes after this many tokens.
 fn with_line(
     alloc: Global,
     vars: &VarTable<'_>,
@@ -321,7 +321,8 @@ fn with_line(
     Ok(s)
 }
 
-/// What stands at the tokens of a body, and the first plus code that has no anchor. Linear.
+/// Returns the tokens of a body with their plus code, and the first plus code that has no anchor or has lines of both kinds.
+/// Linear.
 pub fn anchored(
     alloc: Global,
     vars: &VarTable<'_>,

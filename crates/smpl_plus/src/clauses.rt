@@ -1,4 +1,4 @@
-// Which tokens stand in `when` clauses.
+// The tokens in `when` clauses.
 ghost use Rattle.std.specs.Prelude.{◌≡◌, IfOk};
 ghost use Rattle.smpl_meta.specs.Patterns as patterns;
 ghost use Rattle.smpl_plus.specs.Outside as told;
@@ -8,20 +8,20 @@ use smpl_meta::Placed;
 use sqlite_items::Items;
 use std::alloc::Global;
 
-/// Where the next token stands.
+/// Where the next token is.
 #[derive(Clone, Copy, Debug, PartialEq, Eq)]
 pub enum Where {
     /// No clause may begin.
     Free,
     /// Directly after dots, the end of a nest or a clause.
     After,
-    /// Behind `when` in the line of this number.
+    /// After `when` in the line with this number.
     When(u32),
-    /// Behind `when !=` in the line of this number.
+    /// After `when !=` in the line with this number.
     Code(u32),
 }
 
-/// Whether a token stands outside clauses, and where the next one stands.
+/// Whether a token is outside clauses, and where the next one is.
 #[derive(Clone, Copy, Debug, PartialEq, Eq)]
 pub struct Standing {
     pub outside: bool,
@@ -128,7 +128,7 @@ fn stand(place: Where, p: &Placed) -> Standing
     }
 }
 
-/// A token of C or a metavariable.
+/// Whether the token is one of C or a metavariable.
 fn is_code(kind: TokenKind) -> bool
     ensures { result ≡ told.is_code kind }
 {
@@ -140,7 +140,7 @@ fn is_code(kind: TokenKind) -> bool
     }
 }
 
-/// For each token whether plus code may be anchored at it: it is one of C or a metavariable, outside clauses. Linear.
+/// Returns for each token whether plus code may be anchored at it: it is one of C or a metavariable, outside clauses. Linear.
 pub fn may_anchor(alloc: Global, tokens: &[Placed]) -> Result<Items<bool>, NoMemory>
     ensures { IfOk result (λ may. may ≡ told.may_anchor tokens.now) }
 {

@@ -1,13 +1,13 @@
-//! Anchors plus code: what stands at each token of a rule's patterns.
+//! Anchors plus code: finds the mark, positions and plus code at each token of a rule's patterns.
 //!
-//! - [`anchor`] answers the marks, positions and plus code of a rule's pattern tokens, in order, or the first fault: a
-//!   `*` line beside a `-` or `+` line, and where there is none the first plus code that has no anchor or has lines of
-//!   both kinds, `+` and `++`.
+//! - [`anchor`] returns the marks, positions and plus code of a rule's pattern tokens, in order, or the first fault: a
+//!   `*` line beside a `-` or `+` line, or if there is none, the first plus code that has no anchor or has lines of both
+//!   kinds, `+` and `++`.
 //! - [`plus_code_is_read_once`], [`tokens_keep_their_lines`] and [`outside_tokens_are_main`] are laws.
 //!
-//! A longest run of plus lines between which no line of a pattern stands is a block. It is anchored behind the last token
-//! before it, if that is a token of C or a metavariable outside `when` clauses, else before the first token after it, if
-//! that is one.
+//! A longest run of plus lines with no token of a pattern between them is a block. It is anchored after the last token
+//! before it, if that is a token of C or a metavariable outside `when` clauses. Otherwise it is anchored before the first
+//! token after it, if that is one.
 #![tactic(auto)]
 
 ghost use Rattle.std.specs.Prelude.{◌≡◌, ◌<◌, ◌&&◌, ℕ, List, map, Some, length, slice_get, IfOk, IfErr, IfSome};
@@ -65,7 +65,7 @@ fn has_edit(body: &[BodyLine]) -> bool
     false
 }
 
-/// A `*` line, and a `-` or `+` line.
+/// Whether the body has a `*` line and a `-` or `+` line.
 fn is_starred_edit(body: &[BodyLine]) -> bool
     ensures { result ≡ (told.has_star body.now && heads.has_edit body.now) }
 {
@@ -100,13 +100,13 @@ fn anchor_body(
     }
 }
 
-/// The marks, the positions and the plus code of a rule's pattern tokens, in order, or the first fault. The text has no
-/// more rules, lines and bytes than a patch may have, as every text that was read. Linear in the rule.
+/// Returns the marks, the positions and the plus code of a rule's pattern tokens, in order, or the first fault. The text must
+/// have no more rules, lines and bytes than a patch may have, as is true of every text that was read. Linear in the rule.
 ///
 /// - `StarWithEdit`: the rule has a `*` line and a `-` or `+` line. Nothing else is looked for then.
 /// - `PlusWithoutAnchor`: the first `+` of the first plus code that has no anchor, or the first line that begins with `+`
 ///   alone in a block that begins with `++`, or with `++` in one that doesn't.
-/// - `NoMemory`: memory was refused, and nothing is kept.
+/// - `NoMemory`: out of memory. Nothing is kept.
 pub fn anchor(
     alloc: Global,
     text: &PatchText,
@@ -125,8 +125,8 @@ pub fn anchor(
     anchor_body(alloc, rule, head.vars.as_slice(), r.body.as_slice())
 }
 
-/// A rule's plus code is read in one way: one list says what stands at its tokens, or there is a first fault, and not
-/// both. Does nothing.
+/// The law that a rule's plus code is read in one way: there is one list of what belongs to its tokens, or a first fault,
+/// and not both. Does nothing.
 pub fn plus_code_is_read_once()
     ensures tokens { (vars : List Variable) (rule : ℕ) (body : List Line) (one other : List Anchored) →
         AreAnchored vars rule body one → AreAnchored vars rule body other → one ≡ other }
@@ -135,8 +135,8 @@ pub fn plus_code_is_read_once()
         told.first_phase (told.plus_faults vars rule body) ≡ Some fault → ⊥ }
 {}
 
-/// Each token of a rule's patterns has the mark of its line and its own positions, whatever plus code there is. Does
-/// nothing.
+/// The law that each token of a rule's patterns has the mark of its line and its own positions, whatever plus code there
+/// is. Does nothing.
 pub fn tokens_keep_their_lines()
     ensures marks { (vars : List Variable) (rule : ℕ) (body : List Line) (tokens : List Anchored) →
         AreAnchored vars rule body tokens →
@@ -148,7 +148,8 @@ pub fn tokens_keep_their_lines()
         ≡ map (λ (p : Word). p.positions) (patterns.pattern_tokens vars body) }
 {}
 
-/// The tokens that may be anchors are sought among those that a rule's patterns have outside `when` clauses. Does nothing.
+/// The law that the tokens among which anchors are sought are those that a rule's patterns have outside `when` clauses.
+/// Does nothing.
 pub fn outside_tokens_are_main()
     ensures { (ps : List Word) → (split ps).main ≡ outside_from Free ps }
 {}

@@ -13,7 +13,7 @@ use smpl_patch::PlusLine;
 use sqlite_items::Items;
 use std::alloc::Global;
 
-/// The tokens of a line, those of declared names being metavariables.
+/// Returns the tokens of a line. Those with declared names are metavariables.
 fn made_all(
     alloc: Global,
     vars: &VarTable<'_>,
@@ -28,14 +28,14 @@ fn made_all(
     Ok(out)
 }
 
-/// The blanks before tokens so far, and those before the next token.
+/// The blanks before the tokens so far, and those before the next token.
 #[derive(Drop)]
 pub struct Gaps {
     pub gaps: Items<Text>,
     pub blank: Items<u8>,
 }
 
-/// The blanks so far stand before a token.
+/// Ends the blanks so far, which are before a token.
 fn ended(alloc: Global, before: Gaps) -> Result<Gaps, NoMemory>
     ensures gaps { IfOk result (λ r. r.gaps ≡ before.gaps ++ before.blank ∷ []) }
     ensures blank { IfOk result (λ r. r.blank ≡ []) }
@@ -57,7 +57,7 @@ fn with_blank(alloc: Global, before: Gaps, text: &[u8]) -> Result<Gaps, NoMemory
     Ok(Gaps { gaps, blank })
 }
 
-/// One more piece.
+/// Adds one more piece.
 fn with_piece(alloc: Global, before: Gaps, kind: Kind, text: &[u8]) -> Result<Gaps, NoMemory>
     ensures { IfOk result (λ r. (more : List ℕ → List (List ℕ)) →
         before.gaps ++ told.gaps_by kind text.now before.blank more ≡ r.gaps ++ more r.blank) }
@@ -76,7 +76,7 @@ fn with_piece(alloc: Global, before: Gaps, kind: Kind, text: &[u8]) -> Result<Ga
     }
 }
 
-/// The blanks directly before each token. Comments are left out first. Linear.
+/// Returns the blanks directly before each token. Leaves comments out first. Linear.
 fn gaps_of(alloc: Global, bytes: &[u8]) -> Result<Items<Text>, NoMemory>
     ensures { IfOk result (AreGaps bytes.now) }
 {
@@ -104,7 +104,7 @@ fn lead_of(gaps: &[Text]) -> u32
     }
 }
 
-/// The line with its metavariables and its blanks. Linear.
+/// Returns the line with its metavariables and its blanks. Linear.
 pub fn plus_line(alloc: Global, vars: &VarTable<'_>, l: &BodyLine) -> Result<PlusLine, NoMemory>
     requires { length l.now.text < 2 ^ 31 }
     ensures { IfOk result (IsPlusLine vars.now l.now) }

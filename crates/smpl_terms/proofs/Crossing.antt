@@ -1,4 +1,4 @@
--- Variables, values and environments may go to other threads and be shared by them.
+-- Variables, values and environments may be sent to other threads and shared by them.
 use denote.Param.Send.{IsSend, IsSync, sendable}
 use Rattle.std.proofs.Crossing.{crosses}
 use Rattle.c_terms.proofs.Crossing.{tree_send, tree_sync}
@@ -12,7 +12,7 @@ var_send = search (crosses, sendable) depth 60
 pub var_sync : IsSync Var.the_row
 var_sync = search (crosses, sendable) depth 60
 
--- as they stand in a struct or an enum
+-- as fields of a struct or an enum
 pub var_in_send : IsSend (Var.the_field).row
 var_in_send = search (crosses, sendable) depth 60
 

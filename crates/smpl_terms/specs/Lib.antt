@@ -2,5 +2,5 @@
 pub mod Vars
 pub mod Values
 pub mod Environments
--- For inside use: the items of a list that copies share.
+-- For internal use: the items of a list that copies share.
 pub mod Lists

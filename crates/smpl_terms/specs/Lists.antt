@@ -1,4 +1,4 @@
--- What is seen of a list that copies share.
+-- What contracts see of a list that copies share.
 use Rattle.std.specs.Prelude.{List, [], Option, Some, None, Vec}
 use Rattle.std.specs.declared.sync.Arc.{Arc}
 

@@ -9,8 +9,8 @@ use c_terms::NoMemory;
 use std::alloc::Global;
 use std::marker::Model;
 
-/// Some variables, each with an item. Copies share the list. Contracts see the list of pairs, sorted by variable, each
-/// variable once.
+/// A map from some variables to items. Copies share the list. Contracts see the list of pairs,
+/// sorted by variable, each variable once.
 #[derive(Drop)]
 pub struct VarMap<B> {
     pairs: SharedList<(Var, B)>,
@@ -32,7 +32,7 @@ impl<B> Model for VarMap<B> {
 }
 
 impl<B: Drop> VarMap<B> {
-    /// No pairs. Takes no memory.
+    /// Returns the map without pairs. Allocates nothing.
     pub fn empty() -> VarMap<B>
         ensures pairs { result ≡ [] }
     {
@@ -41,7 +41,7 @@ impl<B: Drop> VarMap<B> {
         }
     }
 
-    /// The map of these pairs. Takes memory for one count of owners, and copies nothing.
+    /// Returns the map of these pairs. Allocates a reference count, and copies nothing.
     pub fn of(alloc: Global, pairs: Vec<(Var, B)>) -> Result<VarMap<B>, NoMemory>
         requires rising { Rising pairs.items }
         ensures pairs { IfOk result (λ m. m ≡ pairs.items) }
@@ -51,7 +51,7 @@ impl<B: Drop> VarMap<B> {
         })
     }
 
-    /// The pairs, sorted by variable, each variable once. Takes no memory.
+    /// Returns the pairs, sorted by variable, each variable once. Allocates nothing.
     pub fn pairs(&self) -> &[(Var, B)]
         ensures pairs { result.now ≡ self.now }
         ensures rising { Rising self.now }
@@ -59,7 +59,7 @@ impl<B: Drop> VarMap<B> {
         self.pairs.as_slice()
     }
 
-    /// One more owner of the map. Takes no memory.
+    /// Returns one more owner of the map. Allocates nothing.
     pub fn share(&self) -> Result<VarMap<B>, NoMemory>
         ensures same { IfOk result (λ m. m ≡ self.now) }
     {
@@ -70,7 +70,7 @@ impl<B: Drop> VarMap<B> {
 }
 
 impl<B: Drop + Copied> VarMap<B> {
-    /// The map with one more pair, in its place. Linear in the pairs.
+    /// Returns the map with one more pair, in its place. Linear in the pairs.
     pub fn with(&self, alloc: Global, v: &Var, item: &B) -> Result<VarMap<B>, NoMemory>
         requires absent { has_pair self.now v.now ≡ false }
         ensures pairs { IfOk result (λ m. m ≡ with_pair self.now v.now item.now) }
@@ -81,7 +81,7 @@ impl<B: Drop + Copied> VarMap<B> {
         VarMap::of(alloc, pairs)
     }
 
-    /// The pairs as a `Vec`: moved where this is the only owner, and else each copied.
+    /// Returns the pairs as a `Vec`: moved if this is the only owner, otherwise each copied.
     pub fn into_vec(self, alloc: Global) -> Result<Vec<(Var, B)>, NoMemory>
         ensures pairs { IfOk result (λ r. r.items ≡ self) }
         ensures rising { Rising self }
@@ -96,7 +96,7 @@ impl<B: Drop> Copied for VarMap<B> {
     }
 }
 
-/// How many pairs have a variable before this one. Linear, and takes no memory.
+/// Returns how many pairs at the front have a variable before this one. Linear, and allocates nothing.
 pub fn place<B>(pairs: &[(Var, B)], v: &Var) -> usize
     ensures { result ≡ place_of v.now pairs.now }
 {

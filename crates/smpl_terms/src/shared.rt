@@ -1,4 +1,5 @@
-// Values and lists that are allocated once and shared by their copies, and what can be copied.
+// Values and lists that are allocated once and shared by their copies, and the trait of what can be
+// copied.
 ghost use Rattle.std.specs.Prelude.{◌≡◌, [], IfOk};
 
 use c_terms::NoMemory;
@@ -6,14 +7,14 @@ use std::alloc::Global;
 use std::marker::Model;
 use std::sync::Arc;
 
-/// Data of which an equal copy can be made.
+/// Data that can be copied.
 pub trait Copied {
-    /// An equal value, ids included.
+    /// Returns an equal value, ids included.
     fn copied(&self, alloc: Global) -> Result<Self, NoMemory>
         ensures same { IfOk result (λ r. r ≡ self.now) };
 }
 
-/// A value that is allocated once, and shared by its copies. Contracts see the value.
+/// A value that is allocated once and shared by its copies. Contracts see the value.
 #[derive(Drop)]
 pub struct Shared<T> {
     inner: Arc<T>,
@@ -28,7 +29,8 @@ impl<T> Model for Shared<T> {
 }
 
 impl<T: Drop> Shared<T> {
-    /// Moves the value to where its copies share it. Takes memory for it and a count of owners.
+    /// Moves the value to where its copies share it. Allocates one block, for the value and a
+    /// reference count.
     pub fn of(alloc: Global, value: T) -> Result<Shared<T>, NoMemory>
         ensures value { IfOk result (λ r. r ≡ value) }
     {
@@ -37,14 +39,14 @@ impl<T: Drop> Shared<T> {
         })
     }
 
-    /// The value. Takes no memory.
+    /// Returns the value. Allocates nothing.
     pub fn get(&self) -> &T
         ensures value { result.now ≡ self.now }
     {
         &self.inner
     }
 
-    /// One more owner of the value. Takes no memory.
+    /// Returns one more owner of the value. Allocates nothing.
     pub fn share(&self) -> Result<Shared<T>, NoMemory>
         ensures same { IfOk result (λ r. r ≡ self.now) }
     {
@@ -54,7 +56,7 @@ impl<T: Drop> Shared<T> {
     }
 }
 
-/// A list that is allocated once, and shared by its copies. Contracts see the list.
+/// A list that is allocated once and shared by its copies. Contracts see the list.
 #[derive(Drop)]
 pub struct SharedList<T> {
     items: Option<Arc<Vec<T>>>,
@@ -73,14 +75,14 @@ impl<T> Model for SharedList<T> {
 }
 
 impl<T: Drop> SharedList<T> {
-    /// No items. Takes no memory.
+    /// Returns the list without items. Allocates nothing.
     pub fn empty() -> SharedList<T>
         ensures items { result ≡ [] }
     {
         SharedList { items: None }
     }
 
-    /// Moves the items to where their copies share them. Takes memory for one count of owners.
+    /// Moves the items to where their copies share them. Allocates a reference count.
     pub fn of(alloc: Global, items: Vec<T>) -> Result<SharedList<T>, NoMemory>
         ensures items { IfOk result (λ r. r ≡ items.items) }
     {
@@ -89,7 +91,7 @@ impl<T: Drop> SharedList<T> {
         })
     }
 
-    /// The items. Takes no memory.
+    /// Returns the items. Allocates nothing.
     pub fn as_slice(&self) -> &[T]
         ensures items { result.now ≡ self.now }
     {
@@ -99,7 +101,7 @@ impl<T: Drop> SharedList<T> {
         }
     }
 
-    /// One more owner of the list. Takes no memory.
+    /// Returns one more owner of the list. Allocates nothing.
     pub fn share(&self) -> Result<SharedList<T>, NoMemory>
         ensures same { IfOk result (λ r. r ≡ self.now) }
     {
@@ -112,7 +114,7 @@ impl<T: Drop> SharedList<T> {
 }
 
 impl<T: Drop + Copied> SharedList<T> {
-    /// The items as a `Vec`: moved where this is the only owner, and else each copied.
+    /// Returns the items as a `Vec`: moved if this is the only owner, otherwise each copied.
     pub fn into_vec(self, alloc: Global) -> Result<Vec<T>, NoMemory>
         ensures items { IfOk result (λ r. r.items ≡ self) }
     {
@@ -138,7 +140,7 @@ impl<T: Drop> Copied for SharedList<T> {
     }
 }
 
-/// Equal items, in their order.
+/// Returns equal items, in their order.
 pub fn copied_items<T: Drop + Copied>(alloc: Global, items: &[T]) -> Result<Vec<T>, NoMemory>
     ensures { IfOk result (λ r. r.items ≡ items.now) }
 {

@@ -1,5 +1,4 @@
--- Lemmas of iso_fine.
--- How much the tokens of a file weigh, how wide its trees are, which sides cover which, isomorphisms.
+-- Lemmas of iso_fine. The weight of the tokens of a file, the width of its trees, sides that cover others, isomorphisms.
 pub mod WeightLemmas
 pub mod WidthLemmas
 pub mod CoverLemmas

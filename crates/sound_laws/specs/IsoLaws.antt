@@ -1,3 +1,2 @@
--- Definitions of iso_laws.
--- Isomorphisms under which sound patches stay sound.
+-- Definitions of iso_laws. Isomorphisms under which sound patches remain sound.
 pub mod Fine

@@ -1,5 +1,5 @@
--- Definitions of smpl_formed.
--- What public contracts rest on: bodies whose tokens are numbered, and patterns whose sure variables stand in them.
+-- Definitions of smpl_formed. What public contracts rest on: bodies whose tokens are numbered, and patterns that contain
+-- their sure variables.
 pub mod Bodies
--- For inside use: which shape the trees have that rows build.
+-- Internal: the shape of the trees that rows build.
 pub mod Shapes

@@ -1,5 +1,5 @@
 -- Definitions of smpl_leaves.
 -- What the law rests on: the tokens of elements.
 pub mod Leaves
--- For inside use: which shape the trees have that rows build.
+-- Internal: the shape of the trees that rows build.
 pub mod Shapes

@@ -1,7 +1,7 @@
 //! Isomorphisms that are read keep sound patches sound.
 //!
-//! - [`read_isomorphisms_are_fine`]: each list of isomorphisms that a file has is fine, so a sound patch whose patterns get their
-//!   forms under it is sound.
+//! - [`read_isomorphisms_are_fine`]: the isomorphisms of each file are fine, so a sound patch remains sound when its
+//!   patterns are given their forms under them.
 //!
 //! The function does nothing.
 #![tactic(auto)]

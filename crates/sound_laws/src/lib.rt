@@ -1,11 +1,10 @@
-//! Laws of soundness: patches that are read are sound, and stay so as their patterns get forms.
+//! Laws of soundness: patches that are read are sound, and remain so when their patterns are given their forms.
 //!
 //! - `smpl_leaves`: The law that no token of a pattern is lost when a body is read.
-//! - `smpl_formed`: Laws on the elements of bodies: what shape they have, how many they are, and which tokens their
-//!   patterns have.
-//! - `smpl_sound`: What is proved of the soundness of patches that are read, as `smpl_patch` defines it.
+//! - `smpl_formed`: Laws of the elements of bodies: their shape, their number, and the tokens of their patterns.
+//! - `smpl_sound`: The parts of soundness that are proved of patches that are read, as `smpl_patch` defines soundness.
 //! - `smpl_all_sound`: Patches that are read are sound, as `smpl_patch` defines it.
-//! - `iso_laws`: Patches stay sound as their patterns get forms.
+//! - `iso_laws`: Patches remain sound when their patterns are given their forms.
 //! - `iso_fine`: Isomorphisms that are read keep sound patches sound.
 #![tactic(auto)]
 

@@ -11,8 +11,8 @@ ghost use Rattle.smpl_file.specs.Patches.{IsSpelled};
 use crate::smpl_sound::patches_are_sound;
 use c_lexer::blank_texts;
 
-/// Each patch that bytes spell is sound: all that smpl_sound says of it, and a line of plus code has as many gaps as
-/// tokens. Does nothing.
+/// Each patch that bytes spell is sound: it has all the parts of soundness that smpl_sound proves, and a line of plus code
+/// has as many gaps as tokens. Does nothing.
 pub fn spelled_patches_are_sound()
     ensures sound { (bytes : List ℕ) (patch : Whole) → IsSpelled bytes patch → IsSound patch }
 {

@@ -1,8 +1,8 @@
-//! Laws on the elements of bodies: what shape they have, how many they are, and which tokens their patterns have.
+//! Laws of the elements of bodies: their shape, their number, and the tokens of their patterns.
 //!
 //! - [`bodies_are_formed`] is a law: its clauses hold, and it does nothing.
 //!
-//! The clauses speak of each body that is read, whoever reads it. smpl_sound takes them for the rules of whole patches.
+//! The clauses are about each body that is read, whoever reads it. smpl_sound uses them for the rules of whole patches.
 #![tactic(auto)]
 
 ghost use Rattle.std.specs.Prelude.{◌≡◌, ◌&&◌, ◌<◌, ℕ, Bool, List, ◌∷◌, true, nat_lt, nat_eq, length, map};
@@ -22,15 +22,16 @@ ghost use Rattle.sound_laws.specs.SmplFormed.Bodies.{tokens_of, CountFrom, AllSt
 
 use smpl_body::bodies_are_parted_once;
 
-/// What the elements of a body have that is read of fewer than 2^31 tokens.
+/// The elements of a body that is read from fewer than 2^31 tokens satisfy the following clauses; `atoms` needs no bound on
+/// the tokens.
 ///
-/// - `formed`: dots and nests are first or last in a sequence only directly inside a block, and no two of them stand side
-///   by side; a disjunction and a conjunction have two branches at least.
-/// - `few`: fewer than 2^32 elements stand in a sequence, and fewer than 2^32 sequences in a list of sequences.
-/// - `atoms`: where the tokens are numbered from 0, the patterns have different numbers, those of `when` code included.
-/// - `patterns`: each pattern has a form, and each token of its forms passes any test that all tokens pass.
+/// - `formed`: dots and nests are first or last in a sequence only directly inside a block, and no two of them are
+///   adjacent; a disjunction and a conjunction have at least two branches.
+/// - `few`: a sequence has fewer than 2^32 elements, and a list of sequences fewer than 2^32 sequences.
+/// - `atoms`: if the tokens are numbered from 0, the patterns have different numbers, including those of `when` code.
+/// - `patterns`: each pattern has a form, and each token of its forms passes any test that all tokens of the body pass.
 /// - `narrow`: a pattern has fewer than 2^32 forms, and a branch of a form fewer than 2^32 children.
-/// - `sure`: each sure variable of a pattern stands in it.
+/// - `sure`: each sure variable of a pattern occurs in it.
 ///
 /// Does nothing.
 pub fn bodies_are_formed()

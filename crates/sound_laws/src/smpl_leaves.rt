@@ -17,9 +17,9 @@ ghost use Rattle.smpl_body.specs.Spelled.{IsRead};
 ghost use Rattle.smpl_body.specs.Bodies.{IsBody};
 ghost use Rattle.sound_laws.specs.SmplLeaves.Leaves.{code, body_tokens};
 
-/// The patterns of a body's elements, put together in order, have the tokens of the body in their order, those of clauses
-/// aside (`body`). So have the elements of any tokens that are read, the code of clauses too (`read`). Dots and the signs
-/// of patterns don't count on either side: where they stand among statements no pattern has them. Does nothing.
+/// The concatenation of the patterns of a body's elements has the tokens of the body in their order, except for those of
+/// clauses (`body`). The same holds of the elements of any tokens that are read, including the code of clauses (`read`).
+/// Dots and the signs of patterns don't count on either side: among statements, no pattern has them. Does nothing.
 pub fn no_token_is_lost()
     ensures body { (ps : List Word) (es : List Part) → IsBody ps es → code (body_tokens (plain es)) ≡ code (cut ps).main }
     ensures read { (forms : List Form) (tokens : List Token) (tree : Term) → IsRead forms tokens tree

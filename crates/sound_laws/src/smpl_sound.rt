@@ -1,9 +1,9 @@
-//! What is proved of the soundness of patches that are read, as [`smpl_patch`] defines it.
+//! The parts of soundness that are proved of patches that are read, as [`smpl_patch`] defines soundness.
 //!
 //! - [`patches_are_sound`] is a law: its clauses hold, and it does nothing. Each clause is a part of soundness, for every
-//!   rule of a patch that bytes spell, beside the rules before it.
+//!   rule of a patch that bytes spell, given the rules before it.
 //!
-//! That a line of plus code has as many gaps as tokens is proved in smpl_all_sound, which puts all together.
+//! That a line of plus code has as many gaps as tokens is proved in smpl_all_sound, which combines all parts.
 #![tactic(auto)]
 
 ghost use Rattle.std.specs.Prelude.{◌≡◌, ℕ, List, [], true, nat_lt, nat_eq, length};
@@ -26,26 +26,26 @@ use smpl_lexer::patch_is_read_once;
 use smpl_meta::headers_have_conditions;
 use smpl_plus::tokens_keep_their_lines;
 
-/// What a patch that bytes spell has of soundness, rule by rule.
+/// A patch that bytes spell has the following parts of soundness, rule by rule.
 ///
-/// - `virtuals`: fewer than 2^32 names stand in `virtual` lines.
+/// - `virtuals`: the `virtual` lines have fewer than 2^32 names.
 /// - `count`: it has fewer than 2^32 rules.
 /// - `names`: the variables of a rule have different names.
-/// - `exports`: what a rule exports it declares as its own.
+/// - `exports`: a rule declares as its own each variable that it exports.
 /// - `vars`: an inherited variable, and each excluded position, has the number of an earlier rule that exports it with the
 ///   same kind; any other variable has the number of its rule.
 /// - `positions`: the positions at a rule's tokens are declared.
 /// - `leads`: the first gap of a line of plus code, if it has one, is as long as the line's lead.
-/// - `whole`: each token of plus code is a token of C, or a metavariable that is declared.
-/// - `gaps`: each gap of plus code is empty, or blanks.
+/// - `whole`: each token of plus code is a token of C or a declared metavariable.
+/// - `gaps`: each gap of plus code is empty or consists of blanks.
 /// - `depends`: the rules on which a rule depends are earlier ones.
-/// - `atoms`: the patterns of a rule have different numbers, those of `when` code included.
-/// - `patterns`: each pattern has a form, the numbers of its tokens are those of the rule, and its metavariables are
-///   declared.
-/// - `formed`: dots and nests are first or last in a sequence only directly inside a block, and no two of them stand side
-///   by side; a disjunction and a conjunction have two branches at least.
+/// - `atoms`: the patterns of a rule have different numbers, including those of `when` code.
+/// - `patterns`: each pattern has a form, the numbers of its tokens are numbers of the rule's tokens, and its metavariables
+///   are declared.
+/// - `formed`: dots and nests are first or last in a sequence only directly inside a block, and no two of them are
+///   adjacent; a disjunction and a conjunction have at least two branches.
 /// - `few`: the lists of a rule have fewer than 2^32 members.
-/// - `sure`: each sure variable of a pattern stands in it.
+/// - `sure`: each sure variable of a pattern occurs in it.
 ///
 /// Does nothing.
 pub fn patches_are_sound()

@@ -1,11 +1,11 @@
--- What a draw leads to, one statement more, and one function more.
+-- The result of a draw, one more statement, and one more function.
 use Rattle.std.proofs.Common.{◌≡◌, ◌≢◌, ℕ, zero, suc, ◌+◌, ◌%◌, ◌⊎◌, inl, inr, true, false, eqb, refl, sym, ap, ◌∙◌, List, [], ◌++◌, append_assoc, Result, Ok, Err, OnOk, arith, codes, add-zero}
 use Rattle.std.specs.Fmt.{decimal}
 use Rattle.std.proofs.lemmas.List.{append-nil}
 use Rattle.std.proofs.lemmas.Bool.Decides.{eqb_tells}
 use Rattle.sp_gen.specs.Generated.{next_state, statement_text, statement, after_statement, statements, after_statements, function, functions_from}
 
--- what was put in is the text that was wanted
+-- the appended text is the expected one
 pub put_in : {X E : Type 0} (r : Result X E) (after before put wanted : List ℕ) → OnOk r (after ≡ before ++ put) → put ≡ wanted → OnOk r (after ≡ before ++ wanted)
 put_in (Ok x) after before put wanted h e = h ∙ ap (λ t. before ++ t) e
 put_in (Err x) after before put wanted h e = h
@@ -41,7 +41,7 @@ after_plain state d e h = by (eqb_tells d 3)
     by (inl (t, same)) = absurd (h same)
     by (inr (f, not)) = rw (e, f) refl
 
--- ---- none, and one more
+-- ---- no statement, and one more
 
 pub no_statement : (state : ℕ) → statements 0 state ≡ []
 unfolding statements
@@ -67,7 +67,7 @@ unfolding after_statements
 after_more zero state = refl
 after_more (suc n) state = after_more n (after_statement state)
 
--- the state after so many functions
+-- the state after this many functions
 pub after_functions : ℕ → ℕ → ℕ
 after_functions zero state = state
 after_functions (suc n) state = after_functions n (after_statements 6 state)

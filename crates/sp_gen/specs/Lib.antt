@@ -1,2 +1,2 @@
--- What the contract rests on: the text of a seed.
+-- What the contract depends on: the text that is generated from a seed.
 pub mod Generated

@@ -1,8 +1,8 @@
-// The numbers that choose statements.
+// The pseudo-random numbers that choose statements.
 ghost use Rattle.std.specs.Prelude.{◌≡◌, ◌<◌, ◌%◌};
 ghost use Rattle.sp_gen.specs.Generated.{first_state, next_state};
 
-/// A linear congruential generator: from a state `s` a draw leads to `(75 * s + 74) % 65537`.
+/// A linear congruential generator: a draw changes the state `s` to `(75 * s + 74) % 65537`.
 #[derive(Drop)]
 pub struct Draws {
     state: u32,
@@ -18,7 +18,7 @@ impl Draws {
         }
     }
 
-    /// Draws a number below the given one.
+    /// Draws a number less than `below`.
     pub fn draw(&mut self, below: u32) -> u32
         requires { 0 < below }
         ensures state { self.new.state ≡ next_state self.old.state }

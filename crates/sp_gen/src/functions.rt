@@ -7,11 +7,12 @@ use crate::draws::Draws;
 use c_terms::NoMemory;
 use std::alloc::Global;
 
-/// The draw that stands for an assignment of a number.
+/// The draw that represents an assignment of a number.
 const ASSIGNMENT: u32 = 3;
 
-/// The text of so many functions under a seed. Linear in the text, of which each function has at most 142 bytes. The form
-/// is the project's own.
+/// Returns the text that is generated from a seed, with this many functions.
+///
+/// Linear in the text; each function has at most 142 bytes. Fails only when out of memory. The format is the project's own.
 pub fn generate(alloc: Global, seed: u64, functions: u32) -> Result<Vec<u8>, NoMemory>
     ensures text { IfOk result (λ text. text.items ≡ generated seed functions) }
     ensures fits_a_file { functions ≤ 100000 → IfOk result (λ text. length text.items ≤ 16777216) }
@@ -61,7 +62,7 @@ fn put_statement(alloc: Global, text: &mut Vec<u8>, draws: &mut Draws) -> Result
     put(text, plain_text(drawn))
 }
 
-/// The statement that a draw stands for, where it has no number in it.
+/// Returns the statement that a draw represents, if the statement contains no number.
 fn plain_text(drawn: u32) -> &'static [u8]
     requires below { drawn < 6 }
     requires plain { drawn ≢ 3 }

@@ -1,7 +1,7 @@
-//! Text for measuring: a file of C functions, made from a seed.
+//! Text for measurements: a file of C functions, generated from a seed.
 //!
-//! [`generate`] makes the functions `f0`, `f1` and so on, of six statements each, which the numbers of a small generator
-//! choose. The same seed gives the same text everywhere. With seed 1 the first function is
+//! [`generate`] generates the functions `f0`, `f1` and so on, with six statements each, chosen by a small pseudo-random number
+//! generator. The same seed gives the same text everywhere. With seed 1 the first function is
 //!
 //! ```text
 //! void f0(int a)
@@ -16,7 +16,7 @@
 //! }
 //! ```
 //!
-//! Only memory may be wanting. Nothing here recurses.
+//! Generation fails only when out of memory. Nothing here recurses.
 #![tactic(auto)]
 
 mod draws;

@@ -1,4 +1,4 @@
-// The status that the program ends with.
+// The status that the program exits with.
 ghost use Rattle.std.specs.Prelude.{◌≡◌, IfOk, OnErr};
 ghost use Rattle.std.specs.Process.{exit_status};
 ghost use Rattle.spatch_run.specs.Callers.{told, counts, IsExact, EndsRightly};
@@ -10,7 +10,8 @@ use spatch_run::{Status, run};
 use std::process::ExitCode;
 use std::thread::Threads;
 
-/// Runs the words, and ends with the status of the run, or for want of memory where they found none.
+/// Does what the words ask for, and returns the status of the run as exit code. Returns 7 if memory ran out while the words
+/// were read.
 pub fn exit_of<R: AllocGlobal + Threads + Sync, S: Shelf, O: Sink, E: Sink, G: Gate>(
     rt: &R,
     words: Result<Vec<Text>, NoMemory>,
@@ -21,7 +22,7 @@ pub fn exit_of<R: AllocGlobal + Threads + Sync, S: Shelf, O: Sink, E: Sink, G: G
 ) -> ExitCode
     ensures no_words { OnErr words (exit_status result ≡ 7) }
 
-    // Else the program does what a run does, and its status is the run's.
+    // Otherwise the program does what a run does, and its status is that of the run.
     ensures exact { IfOk words (λ words. IsExact words.items
         (counts (S.faults shelf.old) (O.faults out.old) (E.faults err.old))
         (counts (S.faults shelf.new) (O.faults out.new) (E.faults err.new))

@@ -1,8 +1,8 @@
-//! `spatch`: applies semantic patches to C files, and prints or stores what the files become.
+//! `spatch`: applies semantic patches to C files, and prints or stores the results.
 //!
-//! This makes the real objects, the files of the system and the standard streams, and hands them to the run with the words
-//! after the program's name. The run's status is the program's. The words are taken as bytes: one that is not UTF-8 makes
-//! a faulty command line as any other.
+//! `main` creates the real objects, the files of the system and the standard streams, and passes them to the run together with
+//! the words after the program's name. The program exits with the status of the run. The words are taken as bytes: one that
+//! isn't UTF-8 makes the command line invalid, like any other fault.
 #![tactic(auto)]
 
 mod exit;

@@ -3,10 +3,10 @@ use c_terms::{NoMemory, Text};
 use std::alloc::Global;
 use std::env::{Env, FillError};
 
-/// The first buffer for a word. A longer word doubles it.
+/// The size in bytes of the first buffer for a word. It is doubled until the word fits.
 const SHORT_WORD: usize = 256;
 
-/// The words after the program's name. They need not be UTF-8.
+/// Returns the words after the program's name. They need not be UTF-8.
 pub fn words_after_name<R: Env>(rt: &R, alloc: Global) -> Result<Vec<Text>, NoMemory> {
     let mut words = Vec::new(alloc);
     for place in 1..usize::MAX {
@@ -18,7 +18,7 @@ pub fn words_after_name<R: Env>(rt: &R, alloc: Global) -> Result<Vec<Text>, NoMe
     Ok(words)
 }
 
-/// The word at a place, if there is one.
+/// Returns the word at a position, if there is one.
 fn word_at<R: Env>(rt: &R, alloc: Global, place: usize) -> Result<Option<Text>, NoMemory> {
     let mut room = SHORT_WORD;
     for _ in 0..usize::BITS {

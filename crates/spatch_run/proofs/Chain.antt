@@ -1,4 +1,4 @@
--- Acts that follow on each other.
+-- Acts that follow one another.
 use Rattle.std.proofs.Common.{◌≡◌, ℕ, List, [], ◌∷◌, ◌++◌, Some, refl, sym, ap, ◌∙◌, inl, inr}
 use Rattle.run_acts.specs.Acts.{Act, Told, done, after}
 use Rattle.run_acts.specs.Breaks.{Counts, NoneFell, Breaks}
@@ -34,7 +34,7 @@ Goes-act from act to old new next leads told = record {
   told = told;
 }
 
--- the run is over
+-- the run has ended
 pub over : (from : Stage) (now : Counts) (old : Told) (status : ℕ) → status_at from ≡ Some status → Ends from now now old old status
 over from now old status is = record {
   stage = from;
@@ -54,7 +54,7 @@ broken from act {old = old} next fell breaks = record {
   end = inr (act, (next, breaks));
 }
 
--- the run went on, and ended from there, where the counts may begin earlier
+-- the run went on, and ended from there; the counts may begin earlier
 pub Goes-ends : {from mid : Stage} {first before now : Counts} {old here new : Told} {status : ℕ} → Goes from old mid here → NoneFell first before → Ends mid before now here new status → Ends from first now old new status
 Goes-ends {first = first} {before = before} {now = now} {new = new} {status = status} goes fell rest = record {
   stage = rest.stage;

@@ -1,4 +1,4 @@
--- How a run ends by its words, and that one in which nothing fails does all its acts.
+-- How a run ends by its words; a run in which nothing fails does all its acts.
 use Rattle.std.proofs.Common.{◌≡◌, ℕ, ◌⊎◌, List, inl, inr, ◌∙◌}
 use Rattle.run_acts.specs.Acts.{Told}
 use Rattle.run_acts.specs.Breaks.{Counts, NoneRose}
@@ -27,7 +27,7 @@ module _ {words : List (List ℕ)} {before now : Counts} {old new : Told} {statu
     )
   ]
 
-  -- where no count rises, all acts are done, or memory ran out
+  -- if no count rises, all acts were done, or memory ran out
   all_or_seven : EndsRightly words before now old new status → NoneRose before now → DoesAll words old new status ⊎ (status ≡ 7)
   all_or_seven ends calm = elim ends [
     | inl all ↦ inl all

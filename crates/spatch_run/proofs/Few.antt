@@ -1,4 +1,4 @@
--- What words ask for: nothing where one of them is no text, and generated texts of at most 100,000 functions.
+-- What words ask for: nothing if one of them isn't text, and generated texts of at most 100,000 functions.
 use Rattle.std.proofs.Common.{◌≡◌, ◌≤◌, Bool, true, false, ◌&&◌, ℕ, List, [], Option, Some, None, length, refl, arith, subst}
 use Rattle.std.specs.Prelude.{cond, not, nat_le, is_some, option_and_then, option_map}
 use Rattle.std.specs.List.{list_all}

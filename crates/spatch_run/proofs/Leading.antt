@@ -1,4 +1,4 @@
--- What a load leads to, by what it gave, and how the run ends from there.
+-- What a load leads to, by what it returned, and how the run ends from there.
 use Rattle.std.proofs.Common.{◌≡◌, ◌⊎◌, Bool, false, ℕ, ◌<◌, List, [], Option, Some, None, length, refl, sym, inl, inr, ◌∙◌}
 use Rattle.std.proofs.lemmas.Bool.{false≢true}
 use Rattle.std.specs.Prelude.{◌↔◌, IsTrue, IsSomeAnd}
@@ -26,7 +26,7 @@ use Rattle.run_files.specs.RunStages.Ends.{Ends, LeadsBy}
 use Rattle.run_files.specs.RunStages.Ends.LeadsBy.{unfed, from}
 use Rattle.spatch_run.proofs.Chain.{Goes-act, Goes-ends, broken}
 
--- what was told before a load is told after it
+-- what was observed before a load is observed after it
 pub no_trace : {holds holds' : Option Files} {stores stores' : ℕ} {out err err' : Option (List ℕ)} → holds' ≡ holds → stores' ≡ stores → err' ≡ err → told holds' stores' out err' ≡ told holds stores out err
 no_trace same same_stores same_err = rw (same, same_stores, same_err) refl
 
@@ -45,17 +45,17 @@ pub loaded_unfed : (work : Work) {first before now : Counts} {old here new : Tol
 loaded_unfed work {first = first} {before = before} {now = now} same fell more seven none =
     broken (Doing [] work) (first_load work) refl (NoneFell-then first before now fell more) (inl (seven, none ∙ same))
 
--- a load was done, and the run ended from some stage that this leads to
+-- a load was done, and the run ended from some stage that the load leads to
 pub loaded_by : (work : Work) (To : Stage → Type 0) {first before now : Counts} {old here new : Told} {status : ℕ} → ((to : Stage) → To to → WorkLeads old.files work to) → here ≡ old → NoneFell first before → LeadsBy To before now here new status → Ends (Doing [] work) first now old new status
 loaded_by work To leads same fell (unfed more seven none) = loaded_unfed work same fell more seven none
 loaded_by work To leads same fell (from stage to ends) = loaded work stage (leads stage to) same fell ends
 
--- what leads on may be said in other words
+-- a weaker condition on the next stage holds too
 pub by_other : (To Other : Stage → Type 0) {before now : Counts} {old new : Told} {status : ℕ} → ((to : Stage) → To to → Other to) → LeadsBy To before now old new status → LeadsBy Other before now old new status
 by_other To Other other (unfed fell seven none) = unfed fell seven none
 by_other To Other other (from stage to ends) = from stage (other stage to) ends
 
--- memory wasn't wanting, so something else is so
+-- memory didn't run out, so the other alternative holds
 pub not_memory : {A B : Type 0} (b : Bool) → b ≡ false → (IsTrue b ↔ A) → A ⊎ B → B
 not_memory b isnt wanting (inl a) = absurd (false≢true (sym isnt ∙ wanting.1 a))
 not_memory b isnt wanting (inr other) = other

@@ -54,7 +54,7 @@ module _ (holding : List Act → Stage) (next : (act : Act) (acts : List Act) �
 
 -- ---- a file
 
--- where a shelf tells nothing, any bytes may stand under a name
+-- if a shelf reports nothing, any bytes may be stored under a name
 found_any : (holds : Option Files) (name : List ℕ) → holds ≡ None → Found holds name (Some [])
 found_any None name none = refl
 found_any (Some files) name none = absurd (cc)
@@ -122,7 +122,7 @@ module _ (patch : Patch) (defined : List (List ℕ)) (mode : Mode) where
   pub turn_goes : (name : List ℕ) (names : List (List ℕ)) (refused here_refused : Bool) {old new : Told} → TurnsTo (turn.Treated here_refused) patch defined mode name old new → Goes (Doing [] (EditFiles patch defined mode name names refused)) old (going [] patch defined mode names (refused || here_refused)) new
   turn_goes name names refused here_refused turned = file_goes name names refused here_refused turned.0 turned.1.0 refl turned.1.1
 
-  -- nothing stands under its name
+  -- nothing is stored under its name
   pub turn_absent : (name : List ℕ) (names : List (List ℕ)) (refused : Bool) {old new : Told} → TurnsTo turn.Absent patch defined mode name old new → Goes (Doing [] (EditFiles patch defined mode name names refused)) old (refusing (cannot_read name) 5) new
   turn_absent name names refused {old = old} {new = new} turned =
       Goes-act (Doing [] (EditFiles patch defined mode name names refused)) (Load name file_limit) (refusing (cannot_read name) 5) old new refl (None, (turned.0, refl)) turned.1

@@ -1,4 +1,4 @@
--- The status that a run answers, at its end or where it stopped.
+-- The status that a run returns, at its end or when it stops early.
 use Rattle.std.specs.Prelude.{ℕ, Result, Ok, Err}
 use Rattle.run_acts.specs.declared.status.Status.{Status}
 use Rattle.run_acts.specs.declared.status.Stopped.{Stopped}

@@ -1,6 +1,6 @@
--- For callers: what their own clauses name.
+-- For callers: the definitions that their own clauses need.
 pub mod Callers
--- For inside use: the status that a run answers, what one file in its turn comes to, and what is asked of a patch that is used.
+-- For internal use: the status that a run returns, the outcome of a file's turn, and what is required of a patch that is used.
 pub mod Answer
 pub mod Turns
 pub mod Usable

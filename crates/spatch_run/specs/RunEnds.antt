@@ -1,3 +1,3 @@
 -- Definitions of run_ends.
--- What the laws rest on: files that are there, and whether one of them is refused.
+-- What the laws depend on: files that are present, and whether one of them is refused.
 pub mod Fates

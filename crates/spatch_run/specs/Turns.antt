@@ -1,4 +1,4 @@
--- What one file in its turn comes to.
+-- The outcome of a file's turn.
 use Rattle.std.specs.Prelude.{ℕ, ◌≡◌, List, Some, None}
 use Rattle.run_acts.specs.Acts.{Told}
 use Rattle.run_acts.specs.Loaded.{Found}
@@ -9,7 +9,7 @@ use Rattle.run_files.specs.Cuts.{TreatsAll}
 use Rattle.spatch_run.specs.declared.files.Turn.{Turn}
 use Rattle.spatch_run.specs.declared.files.Turn.TheVariants as turn
 
--- nothing stands under its name, and nothing is told anew; or its bytes are treated, and their acts are done
+-- nothing is stored under its name, and nothing is output; or its bytes are treated, and their acts are done
 abbrev pub TurnsTo : Turn → Patch → List (List ℕ) → Mode → List ℕ → Told → Told → Type 0
 TurnsTo turn.Absent patch defined mode name old new = Found old.files name None × (new ≡ old)
 TurnsTo (turn.Treated refused) patch defined mode name old new =

@@ -1,4 +1,4 @@
--- What is asked of a patch that is used.
+-- What is required of a patch that is used.
 use Rattle.std.specs.Prelude.{◌≡◌, ◌<◌, ◌^◌, List, length}
 use Rattle.std.specs.List.{AllZip}
 use Rattle.smpl_patch.specs.declared.rule.Patch.{Patch}
@@ -8,7 +8,8 @@ use Rattle.rule_envs.specs.declared.rule_formulas.prepared.PreparedRule.{Prepare
 use Rattle.rule_envs.specs.RuleFormulas.Prepared.{ArePrepared, IsPrepareFault}
 use Rattle.rule_chain.specs.Asked.{MayRun}
 
--- Each rule has a formula that may be used, so that memory alone may be wanting to make it; and by what is made, each may run.
+-- Each rule has a formula that may be used, so preparing the rules fails only when out of memory; and each rule may run when
+-- prepared.
 pub record IsUsable (patch : Patch) : Type 0 where
   pub few : length patch.rules < 2 ^ 32
   pub formulas : (f : FormulaFault) → IsPrepareFault patch.rules f → f ≡ fault.NoMemory

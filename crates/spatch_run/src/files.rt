@@ -20,7 +20,7 @@ use std::thread::Threads;
 
 const FILE_LIMIT: u64 = 16_777_216;
 
-/// The status at the end: whether something was refused.
+/// Returns the status at the end, by whether something was refused.
 pub fn end_status(refused: bool) -> Status
     ensures { number_of result ≡ end_status refused }
 {
@@ -31,14 +31,14 @@ pub fn end_status(refused: bool) -> Status
     }
 }
 
-/// Whether one of two is refused.
+/// Whether at least one of two is refused.
 fn either(first: bool, second: bool) -> bool
     ensures { result ≡ (first || second) }
 {
     first || second
 }
 
-/// Whether a file is refused, or that nothing stands under its name.
+/// The outcome of a file's turn: whether the file is refused, or that nothing is stored under its name.
 #[derive(Clone, Copy, Debug, PartialEq, Eq)]
 pub enum Turn {
     Treated(bool),
@@ -88,7 +88,7 @@ fn take_turn<R: Threads + Sync, S: Shelf, O: Sink, E: Sink, G: Gate>(
     Ok(Turn::Treated(refused))
 }
 
-/// The files in turn, up to the last, or to a name under which nothing stands.
+/// Loads and treats the files in turn, up to the last one or to a name under which nothing is stored.
 pub fn edit_files<R: Threads + Sync, S: Shelf, O: Sink, E: Sink, G: Gate>(
     rt: &R,
     alloc: Global,

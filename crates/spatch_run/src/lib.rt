@@ -1,16 +1,17 @@
-//! One run of the tool: its words, what it does outside, and its status.
+//! One run of the tool: its words, its effects outside, and its status.
 //!
-//! - [`run`] does what the words ask for, on a shelf of files and two sinks, and answers the status.
-//! - [`Status`] has a name for each status; [`run`] answers its number.
+//! - [`run`] does what the words ask for, on a shelf of files and two sinks, and returns the status.
+//! - [`Status`] has a name for each status; [`run`] returns its number.
 //!
-//! The words `--sp-file p --in-place k.c` load the patch `p` and the file `k.c`, and store what the patch makes of it.
+//! With the words `--sp-file p --in-place k.c` a run loads the patch `p` and the file `k.c`, and stores what the patch makes of
+//! it.
 //!
-//! A patch and a file of isomorphisms have at most 1,048,576 bytes, a file 16,777,216.
+//! A patch and a file of isomorphisms may have at most 1,048,576 bytes each, and a file at most 16,777,216.
 //!
 //! Its folders:
 //!
-//! - `run_laws`: What holds of every run, whatever it is called with.
-//! - `run_ends`: Every run has acts: what holds of a run whose patch, isomorphisms and files are as they should be.
+//! - `run_laws`: What holds for every run, whatever it is called with.
+//! - `run_ends`: Every run has acts: what holds for a run whose patch, isomorphisms and files are as they should be.
 #![tactic(auto)]
 
 ghost use Rattle.run_acts.specs.Acts.{told};
@@ -36,8 +37,8 @@ pub use run_laws::acts_are_one_list;
 use stages::{follow_words, status_of};
 use std::thread::Threads;
 
-/// Does what the words ask for, and answers the status. Items are matched by as many jobs at a time as the words ask for; the gate
-/// is told of each job before it begins.
+/// Does what the words ask for, and returns the number of the status. The words set the maximum number of concurrent jobs that
+/// match items; the gate is notified of each job before it begins.
 pub fn run<R: AllocGlobal + Threads + Sync, S: Shelf, O: Sink, E: Sink, G: Gate>(
     rt: &R,
     words: &[Text],
@@ -46,7 +47,7 @@ pub fn run<R: AllocGlobal + Threads + Sync, S: Shelf, O: Sink, E: Sink, G: Gate>
     err: &mut E,
     gate: &G,
 ) -> u8
-    // Where nothing fails, the acts done are those of these words and this shelf, and the answer is their status.
+    // If nothing fails, the acts done are those of these words and this shelf, and the result is their status.
     ensures exact { IsExact words.now
         (counts (S.faults shelf.old) (O.faults out.old) (E.faults err.old))
         (counts (S.faults shelf.new) (O.faults out.new) (E.faults err.new))
@@ -54,7 +55,7 @@ pub fn run<R: AllocGlobal + Threads + Sync, S: Shelf, O: Sink, E: Sink, G: Gate>
         (told (S.holds shelf.new) (S.stores shelf.new) (O.written out.new) (E.written err.new))
         result }
 
-    // Else the acts done are the first of them, and the next one failed or found no memory.
+    // Otherwise the acts done are a prefix of them, and the next one failed or ran out of memory.
     ensures ends { EndsRightly words.now
         (counts (S.faults shelf.old) (O.faults out.old) (E.faults err.old))
         (counts (S.faults shelf.new) (O.faults out.new) (E.faults err.new))
@@ -67,7 +68,7 @@ pub fn run<R: AllocGlobal + Threads + Sync, S: Shelf, O: Sink, E: Sink, G: Gate>
         (counts (S.faults shelf.old) (O.faults out.old) (E.faults err.old))
         (counts (S.faults shelf.new) (O.faults out.new) (E.faults err.new)) }
 
-    // Each status comes for its cause, and must come where nothing fails.
+    // Each status is returned for its cause, and must be returned if nothing fails.
     ensures causes { Causes words.now
         (counts (S.faults shelf.old) (O.faults out.old) (E.faults err.old))
         (counts (S.faults shelf.new) (O.faults out.new) (E.faults err.new))

@@ -1,4 +1,4 @@
-// The ends of a run that goes no further: a line is put, and a status answered.
+// The ends of a run that stops early: a line is reported, and a status is returned.
 ghost use Rattle.std.specs.Prelude.{List, ℕ, Option};
 ghost use Rattle.outer_io.specs.Files.{Files};
 ghost use Rattle.run_acts.specs.Acts.{told};
@@ -17,7 +17,7 @@ use run_files::{forms_line, iso_fault_line, patch_fault_line, usage};
 use smpl_patch::PatchFault;
 use std::alloc::Global;
 
-/// Puts a line, and answers a status.
+/// Reports a line and returns a status.
 fn end_by<E: Sink>(err: &mut E, line: &[u8], status: Status) -> Result<Status, Stopped>
     ensures ends { (files : Option Files) (out : Option (List ℕ)) (stores s o : ℕ) →
         Ends (refusing line.now (number_of status))
@@ -29,7 +29,7 @@ fn end_by<E: Sink>(err: &mut E, line: &[u8], status: Status) -> Result<Status, S
     Ok(status)
 }
 
-/// Puts the line on how the program is called.
+/// Reports the usage line.
 pub fn refuse_words<E: Sink>(err: &mut E) -> Result<Status, Stopped>
     ensures ends { (files : Option Files) (out : Option (List ℕ)) (stores s o : ℕ) →
         Ends (refusing lines.usage 1)
@@ -40,7 +40,7 @@ pub fn refuse_words<E: Sink>(err: &mut E) -> Result<Status, Stopped>
     end_by(err, usage().as_bytes(), Status::WordsRefused)
 }
 
-/// Puts the line about a name under which nothing stands.
+/// Reports the line about a name under which nothing is stored.
 pub fn refuse_absent<E: Sink>(alloc: Global, err: &mut E, name: &str) -> Result<Status, Stopped>
     ensures ends { (files : Option Files) (out : Option (List ℕ)) (stores s o : ℕ) →
         Ends (refusing (cannot_read name.now) 5)
@@ -52,7 +52,7 @@ pub fn refuse_absent<E: Sink>(alloc: Global, err: &mut E, name: &str) -> Result<
     end_by(err, &line, Status::CannotRead)
 }
 
-/// Puts the line about the patch of this name that has this fault.
+/// Reports the line about the patch of this name with this fault.
 pub fn refuse_patch<E: Sink>(
     alloc: Global,
     err: &mut E,
@@ -69,7 +69,7 @@ pub fn refuse_patch<E: Sink>(
     end_by(err, &line, Status::PatchRefused)
 }
 
-/// Puts the line about the isomorphisms of this name that have this fault.
+/// Reports the line about the isomorphisms of this name with this fault.
 pub fn refuse_isos<E: Sink>(
     alloc: Global,
     err: &mut E,
@@ -86,7 +86,7 @@ pub fn refuse_isos<E: Sink>(
     end_by(err, &line, Status::IsosRefused)
 }
 
-/// Puts the line about the isomorphisms of this name under which a rule has too many forms.
+/// Reports the line about the isomorphisms of this name under which a rule has too many forms.
 pub fn refuse_forms<E: Sink>(
     alloc: Global,
     err: &mut E,

@@ -1,9 +1,9 @@
-//! Every run has acts: what holds of a run whose patch, isomorphisms and files are as they should be.
+//! Every run has acts: what holds for a run whose patch, isomorphisms and files are as they should be.
 //!
-//! - [`words_have_acts`]: that some words have no list of acts can't be, whatever the shelf tells.
-//! - [`runs_are_complete`]: where the patch and its isomorphisms are read, each file is there and none is refused, a run answers 0
-//!   or wants memory; where some file is refused it answers 4 or wants memory.
-//! - [`jobs_leave_acts`]: words that differ in their jobs alone have the same acts.
+//! - [`words_have_acts`]: it is impossible that some words have no list of acts, whatever the shelf reports.
+//! - [`runs_are_complete`]: if the patch and its isomorphisms are read and each file is present, a run returns 0 when no file
+//!   is refused and 4 when some file is, unless it runs out of memory.
+//! - [`jobs_leave_acts`]: words that differ only in their jobs have the same acts.
 //!
 //! The functions do nothing.
 #![tactic(auto)]

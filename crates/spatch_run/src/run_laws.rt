@@ -1,9 +1,10 @@
-//! What holds of every run, whatever it is called with.
+//! What holds for every run, whatever it is called with.
 //!
-//! - [`acts_are_one_list`] is a law: its clauses hold, and it does nothing. Where the shelf tells its files, words have one list
-//!   of acts with one status.
-//! - [`acts_have_a_reason`]: the stages of a run and the plain description of its acts, file by file, say the same.
-//! - [`statuses_have_a_cause`]: each status comes for its cause, and what has a cause must come where nothing fails.
+//! - [`acts_are_one_list`] is a law: its clauses hold, and it does nothing. If the shelf reports its files, words have only one
+//!   list of acts, with one status.
+//! - [`acts_have_a_reason`]: the stages of a run and the plain description of its acts, file by file, are equivalent.
+//! - [`statuses_have_a_cause`]: each status is returned for its cause, and a status with a cause must be returned if nothing
+//!   fails.
 #![tactic(auto)]
 
 ghost use Rattle.std.specs.Prelude.{◌≡◌, ◌∷◌, ◌++◌, ℕ, List, IsSome};
@@ -18,10 +19,10 @@ use read_laws::{isos_are_read_once, patches_are_expanded_once, patches_have_one_
 use rule_chain::chain_has_one_end;
 use smpl_file::patches_are_read_once;
 
-/// The acts of a list of words are one list, where the shelf tells its files: nothing else decides them.
+/// A list of words has only one list of acts if the shelf reports its files: nothing else determines them.
 ///
 /// - `same`: two lists of acts of the same words and the same files are equal, and so are their statuses.
-/// - `begins`: what a run has done that has a next act, and then this act, begin that list.
+/// - `begins`: the acts that a run has done so far, followed by its next act, are a prefix of that list.
 ///
 /// Does nothing.
 pub fn acts_are_one_list()
@@ -39,9 +40,9 @@ pub fn acts_are_one_list()
     chain_has_one_end();
 }
 
-/// The acts of a whole run have a reason, in which no stage is named, and what has a reason are the acts of a whole run.
+/// The acts of a whole run have a reason, which mentions no stage, and acts that have a reason are those of a whole run.
 ///
-/// - `reason`: the acts of a whole run are those of one of the ways in which a run goes, and its status is that of this way.
+/// - `reason`: the acts of a whole run are those of one of the ways a run can go, and its status is the status of that way.
 /// - `ways`: each of these ways is a whole run.
 ///
 /// Does nothing.
@@ -52,8 +53,8 @@ pub fn acts_have_a_reason()
         Reason words old acts status → AreActs words old acts status }
 {}
 
-/// Where a run ends rightly, each status that it may answer has its cause, and what has a cause must come where nothing fails.
-/// Does nothing.
+/// If a run ends rightly, each status that it may return has its cause, and a status with a cause must be returned if nothing
+/// fails. Does nothing.
 pub fn statuses_have_a_cause()
     ensures { (words : List (List ℕ)) (before now : Counts) (old new : Told) (status : ℕ) →
         EndsRightly words before now old new status → Causes words before now old new status }

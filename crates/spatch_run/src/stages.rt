@@ -1,4 +1,4 @@
-// The stages of a run up to the files, a function each.
+// The stages of a run up to the files, one function for each.
 ghost use Rattle.std.specs.Prelude.{◌≡◌, ◌↔◌, [], List, ℕ, true, map, IfOk, IsTrue};
 ghost use Rattle.std.specs.List.{list_all};
 ghost use Rattle.std.specs.Str.{is_utf8};
@@ -36,10 +36,10 @@ use smpl_patch::{Iso, Patch, PatchFault};
 use std::alloc::Global;
 use std::thread::Threads;
 
-/// The most bytes of a patch, and of a file of isomorphisms.
+/// The maximum number of bytes of a patch, and of a file of isomorphisms.
 const PATCH_LIMIT: u64 = 1_048_576;
 
-/// The status of a run that ended or stopped.
+/// Returns the status of a run that ended or stopped.
 pub fn status_of(end: Result<Status, Stopped>) -> Status
     ensures { number_of result ≡ answer end }
 {
@@ -49,7 +49,7 @@ pub fn status_of(end: Result<Status, Stopped>) -> Status
     }
 }
 
-/// Reads the words, and does what they ask for.
+/// Reads the words and does what they ask for.
 pub fn follow_words<R: Threads + Sync, S: Shelf, O: Sink, E: Sink, G: Gate>(
     rt: &R,
     alloc: Global,
@@ -73,7 +73,7 @@ pub fn follow_words<R: Threads + Sync, S: Shelf, O: Sink, E: Sink, G: Gate>(
     }
 }
 
-/// Reads the words that are text, and does what they ask for.
+/// Reads the words, which are text, and does what they ask for.
 fn follow_texts<R: Threads + Sync, S: Shelf, O: Sink, E: Sink, G: Gate>(
     rt: &R,
     alloc: Global,
@@ -99,14 +99,14 @@ fn follow_texts<R: Threads + Sync, S: Shelf, O: Sink, E: Sink, G: Gate>(
     }
 }
 
-/// Whether memory was wanting, and it isn't known that something is wrong with the patch.
+/// Whether memory ran out, so that nothing is known to be wrong with the patch.
 fn is_no_memory(fault: &PatchFault) -> bool
     ensures { IsTrue result ↔ (fault.now ≡ patch_fault.NoMemory) }
 {
     matches!(fault, PatchFault::NoMemory)
 }
 
-/// Loads and reads the patch, and goes on with it.
+/// Loads and reads the patch, and continues with it.
 fn follow_order<R: Threads + Sync, S: Shelf, O: Sink, E: Sink, G: Gate>(
     rt: &R,
     alloc: Global,
@@ -140,7 +140,7 @@ fn follow_order<R: Threads + Sync, S: Shelf, O: Sink, E: Sink, G: Gate>(
     }
 }
 
-/// Gives the patch its forms, where isomorphisms are named, and goes on with it.
+/// Gives the patch its forms if isomorphisms are named, and continues with it.
 fn give_forms<R: Threads + Sync, S: Shelf, O: Sink, E: Sink, G: Gate>(
     rt: &R,
     alloc: Global,
@@ -167,14 +167,14 @@ fn give_forms<R: Threads + Sync, S: Shelf, O: Sink, E: Sink, G: Gate>(
     }
 }
 
-/// Whether memory was wanting, and it isn't known that something is wrong with the isomorphisms.
+/// Whether memory ran out, so that nothing is known to be wrong with the isomorphisms.
 fn is_no_memory_for_isos(fault: IsoFault) -> bool
     ensures { IsTrue result ↔ (fault ≡ iso_fault.NoMemory) }
 {
     matches!(fault, IsoFault::NoMemory)
 }
 
-/// Loads and reads the isomorphisms, and goes on with the patch under them.
+/// Loads and reads the isomorphisms, and continues with the patch under them.
 fn load_isos<R: Threads + Sync, S: Shelf, O: Sink, E: Sink, G: Gate>(
     rt: &R,
     alloc: Global,
@@ -222,7 +222,7 @@ fn load_isos<R: Threads + Sync, S: Shelf, O: Sink, E: Sink, G: Gate>(
     }
 }
 
-/// Gives the patch its forms under the isomorphisms of this name, and goes on with it.
+/// Gives the patch its forms under the isomorphisms of this name, and continues with it.
 fn expand_patch<R: Threads + Sync, S: Shelf, O: Sink, E: Sink, G: Gate>(
     rt: &R,
     alloc: Global,
@@ -252,14 +252,14 @@ fn expand_patch<R: Threads + Sync, S: Shelf, O: Sink, E: Sink, G: Gate>(
     }
 }
 
-/// Whether memory was wanting to make formulas.
+/// Whether memory ran out while formulas were made.
 fn is_no_memory_for_formulas(fault: &FormulaFault) -> bool
     ensures { IsTrue result ↔ (fault.now ≡ formula_fault.NoMemory) }
 {
     matches!(fault, FormulaFault::NoMemory)
 }
 
-/// What the rules of a patch are run by. Each rule has a formula that may be used, so that memory alone may be wanting.
+/// Returns the prepared rules of a patch. Each rule has a formula that may be used, so this fails only when out of memory.
 fn prepared(alloc: Global, patch: &Patch) -> Result<Prepared, NoMemory>
     requires formulas { (f : Fault) → IsPrepareFault patch.now.rules f → f ≡ formula_fault.NoMemory }
     ensures { IfOk result (λ prepared. ArePrepared patch.now.rules prepared.rules) }

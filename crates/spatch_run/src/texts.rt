@@ -1,4 +1,4 @@
-// Texts that are generated.
+// Generated texts.
 ghost use Rattle.std.specs.Prelude.{◌≤◌, ◌∷◌, [], List, ℕ, Option};
 ghost use Rattle.outer_io.specs.Files.{Files};
 ghost use Rattle.run_acts.specs.Acts.{Print, told};
@@ -22,7 +22,7 @@ use std::thread::Threads;
 /// The name of a generated text.
 const GENERATED: &str = "generated";
 
-/// Prints the text of a seed, of so many functions.
+/// Prints the text that is generated from a seed, with this many functions.
 pub fn print_text<O: Sink, E: Sink>(
     alloc: Global,
     seed: u64,
@@ -40,7 +40,7 @@ pub fn print_text<O: Sink, E: Sink>(
     Ok(Status::Done)
 }
 
-/// The text of a seed, of so many functions, under a patch.
+/// Applies the patch to the text that is generated from a seed, with this many functions.
 pub fn sum_text<R: Threads + Sync, O: Sink, E: Sink, G: Gate>(
     rt: &R,
     alloc: Global,

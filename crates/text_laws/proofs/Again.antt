@@ -1,4 +1,4 @@
--- A text that fair edits make is cut into as many tokens as it has ids.
+-- A text that fair edits produce is cut into as many tokens as it has ids.
 use Rattle.std.proofs.Common.{◌≡◌, ℕ, Bool, true, false, cond, refl, sym, ap, ◌∙◌, List, length}
 use Rattle.c_lexer.specs.Pieces.{TextPiece, text_of}
 use Rattle.c_lexer.specs.Lexes.{Cuts, Lexes}

@@ -1,4 +1,4 @@
--- What the tokens of a form are aligned with are tokens of the subtree.
+-- The tokens of a form are aligned with tokens of the subtree.
 use Rattle.std.proofs.Common.{ℕ, suc, Bool, true, false, cond, sym, subst, List, [], ◌∷◌, ◌++◌, map, length, take, drop, Option}
 use Rattle.std.proofs.Common.{None, Some, ◌-◌}
 use Rattle.std.specs.Prelude.{if◌then◌else◌}

@@ -1,5 +1,4 @@
--- Lemmas of chain_ends.
--- Lemmas: readings, lists in order, edits of touches, the first clash, the rules.
+-- Lemmas of chain_ends: readings, lists in order, edits of touches, the first clash, the rules.
 pub mod ReadLemmas
 pub mod NumberLemmas
 pub mod SpotLemmas

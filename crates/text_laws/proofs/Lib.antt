@@ -1,4 +1,4 @@
--- Lemmas: ids of pages, tokens that forms are aligned with, numbers of tokens that stand apart, edits that leave Strays, plus
+-- Lemmas: ids of pages, tokens that forms are aligned with, numbers of tokens that are apart, edits that keep Strays, plus
 -- code at touches, fair edits, the new text cut again.
 pub mod PageIds
 pub mod Aligned

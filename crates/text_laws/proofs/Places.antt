@@ -1,4 +1,4 @@
--- Where the token of an id stands behind no Stray, so does the token of the number that the id has.
+-- If the token with an id doesn't follow a Stray, neither does the token with the number that the id has.
 use Rattle.std.proofs.Common.{◌≡◌, ◌<◌, ◌≤◌, ◌+◌, ◌⊎◌, ℕ, Bool, true, false, cond, inl, inr, refl, ap, subst, ◌∙◌, arith, List, [], ◌∷◌}
 use Rattle.std.specs.Prelude.{Option, Some, All, eqb}
 use Rattle.std.specs.List.{position_from}

@@ -1,5 +1,4 @@
--- Lemmas of plus_laws.
--- Lemmas: gaps without newlines, tokens of plus code, rules.
+-- Lemmas of plus_laws: gaps without newlines, tokens of plus code, rules.
 pub mod GapLemmas
 pub mod TokenLemmas
 pub mod RuleLemmas

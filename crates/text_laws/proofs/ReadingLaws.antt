@@ -1,5 +1,5 @@
--- Lemmas of reading_laws.
--- Lemmas: pieces by their texts and ids, tokens that rows take, what stands behind a Stray, where items begin, tokens of items.
+-- Lemmas of reading_laws: pieces by their texts and ids, tokens that rows accept, what follows a Stray, where items begin,
+-- tokens of items.
 pub mod OnePieces
 pub mod Known
 pub mod Behind

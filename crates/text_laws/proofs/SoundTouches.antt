@@ -1,4 +1,4 @@
--- Where plus code and the values of witnesses are of tokens of C, they are so at each touch.
+-- If plus code and the values of witnesses consist of tokens of C, they do so at each touch.
 use Rattle.std.proofs.Common.{◌≡◌, ℕ, zero, suc, Bool, true, false, cond, sym, ap, subst, ◌∙◌, List, [], ◌∷◌, ◌++◌, map, take, drop}
 use Rattle.std.specs.Prelude.{Option, None, Some, IfSome, All, slice_get, option_and_then}
 use Rattle.std.specs.List.{flat_map}

@@ -1,4 +1,4 @@
--- Edits that touch no Stray and no token behind one leave what stands behind Strays as it is.
+-- Edits that touch no Stray and no token after one don't change what follows Strays.
 use Rattle.std.proofs.Common.{◌≡◌, ◌==◌, ◌&&◌, ◌||◌, ℕ, Bool, true, false, refl, List, [], ◌∷◌, ◌++◌}
 use Rattle.std.specs.Prelude.{All, if◌then◌else◌}
 use Rattle.std.specs.List.{list_any}

@@ -1,4 +1,3 @@
--- Lemmas of token_laws.
--- Lemmas: pieces with other ids, states.
+-- Lemmas of token_laws: pieces with other ids, states.
 pub mod PieceLemmas
 pub mod StateLemmas

@@ -1,4 +1,4 @@
--- The edits of witnesses touch tokens that stand behind no Stray, and no Stray.
+-- The edits of witnesses touch no Stray, and no token that follows one.
 use Rattle.std.proofs.Common.{◌≡◌, ◌<◌, ◌-◌, ◌&&◌, ℕ, zero, suc, Bool, true, false, refl, sym, ap, subst, arith, List, [], ◌∷◌, length, ◌∙◌}
 use Rattle.std.specs.Prelude.{Option, None, Some, All, Contains, slice_get, slice_index, option_and_then, is_some, nat_lt, ◌^◌, if◌then◌else◌}
 use Rattle.std.specs.List.{flat_map, filter_map, cons_option}

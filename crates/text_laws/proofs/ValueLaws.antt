@@ -1,5 +1,4 @@
--- Lemmas of value_laws.
--- Lemmas: environments, trees of witnesses, trees without ids, one rule.
+-- Lemmas of value_laws: environments, trees of witnesses, trees without ids, one rule.
 pub mod EnvLemmas
 pub mod ForestLemmas
 pub mod BareLemmas

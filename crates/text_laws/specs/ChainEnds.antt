@@ -1,3 +1,2 @@
--- Definitions of chain_ends.
--- What the laws rest on: what can't be absent.
+-- Definitions of chain_ends. What the laws rest on: that something can't be absent.
 pub mod Weakly

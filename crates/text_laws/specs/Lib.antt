@@ -1,4 +1,4 @@
--- What the laws rest on: plus code and values of tokens of C.
+-- What the laws rest on: plus code and values that consist of tokens of C.
 pub mod Sound
 -- What output_laws defines.
 pub mod OutputLaws

@@ -1,4 +1,4 @@
--- Plus code of tokens of C and metavariables, and witnesses whose values are terms of tokens of C.
+-- Plus code that consists of tokens of C and metavariables, and witnesses whose values are terms of tokens of C.
 use Rattle.std.specs.Prelude.{Bool, true, false, List, [], ◌∷◌, Option, None, Some, All}
 use Rattle.c_terms.specs.declared.token.Token.{Token}
 use Rattle.std.specs.List.{flat_map}
@@ -36,7 +36,7 @@ IsPlusBlock (Some block) = ArePlusLines block.lines
 abbrev pub HasPlusCode : PatToken → Type 0
 HasPlusCode t = IsPlusBlock t.before × IsPlusBlock t.after
 
--- the rule's plus code is of such tokens, and only spaces stand between them
+-- the rule's plus code consists of such tokens, with only spaces between them
 abbrev pub HavePlusCode : List PatToken → Type 0
 HavePlusCode = All HasPlusCode
 

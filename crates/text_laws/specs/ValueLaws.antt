@@ -1,3 +1,2 @@
--- Definitions of value_laws.
--- What the law rests on: environments whose values are of tokens of C.
+-- Definitions of value_laws. What the law rests on: environments whose values consist of tokens of C.
 pub mod Carried

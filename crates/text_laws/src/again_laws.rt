@@ -1,7 +1,8 @@
-//! The text that a rule leaves is cut again into exactly the tokens that were kept and added.
+//! The text that a rule leaves is cut again into exactly the kept and the added tokens.
 //!
-//! - [`new_texts_are_of_their_tokens`]: so it is where a rule whose plus code is of tokens of C works from a sound state.
-//! - [`patches_leave_their_tokens`]: so it is of each rule of each patch that is read, wherever its rules have come to.
+//! - [`new_texts_are_of_their_tokens`]: this holds of a rule whose plus code consists of tokens of C and which starts from
+//!   a sound state.
+//! - [`patches_leave_their_tokens`]: this holds of each rule of each patch that is read, at whatever point of the run.
 //!
 //! The functions do nothing.
 #![tactic(auto)]

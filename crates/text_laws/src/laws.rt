@@ -1,4 +1,4 @@
-// Laws of the texts that edits make. The functions do nothing.
+// Laws of the texts that edits produce. The functions do nothing.
 ghost use Rattle.std.specs.Prelude.{◌≡◌, ◌<◌, ◌≤◌, ◌+◌, ℕ, List, All, length};
 ghost use Rattle.c_lexer.specs.Pieces.{TextPiece};
 ghost use Rattle.c_lexer.specs.Lexes.{Cuts, Lexes};
@@ -19,14 +19,14 @@ ghost use Rattle.text_laws.specs.Sound.{HavePlusCode, HasCTerms};
 
 use crate::reading_laws::trees_are_sound;
 
-/// Where the tokens of a text have different ids, all below the next one, so have those of the page that edits leave. Does
+/// If the tokens of a text have different ids, all below the next one, so have those of the page that edits leave. Does
 /// nothing.
 pub fn ids_stay_apart()
     ensures { (next : ℕ) (pieces : List TextPiece) (edits : List Edit) → AllDiffer (ids_of pieces)
         → All (λ id. id < next) (ids_of pieces) → AllDiffer (page_after next pieces edits).ids }
 {}
 
-/// The page that edits leave has no more ids than bytes, and the next id rises by no more than there are ids. Does nothing.
+/// The page that edits leave has no more ids than bytes, and the next id rises by at most the number of ids. Does nothing.
 pub fn ids_stay_few()
     ensures ids { (next : ℕ) (pieces : List TextPiece) (edits : List Edit) → Cuts pieces
         → length (page_after next pieces edits).ids ≤ length (page_after next pieces edits).bytes }
@@ -35,7 +35,8 @@ pub fn ids_stay_few()
 {}
 
 /// The edits of witnesses of a reading of the text are fair: their texts are blanks and tokens of C that are no Strays, and
-/// what stands behind a Stray stays. Asks that plus code and values are of such tokens at the touches. Does nothing.
+/// whatever follows a Stray is kept. The law requires that plus code and values consist of such tokens at the touches. Does
+/// nothing.
 pub fn edits_are_fair()
     ensures { (found : List RuleWitness) (rule : Rule) (items : List Item) (kinds : List (List NodeKind))
         (pieces : List TextPiece) (edits : List Edit) → Cuts pieces → Reads pieces items
@@ -45,13 +46,13 @@ pub fn edits_are_fair()
     trees_are_sound();
 }
 
-/// Where plus code and the values of witnesses are of tokens of C, they are so at each touch. Does nothing.
+/// If plus code and the values of witnesses consist of tokens of C, they do so at each touch. Does nothing.
 pub fn touches_are_sound()
     ensures { (rule : Rule) (found : List RuleWitness) → HavePlusCode rule.tokens → All HasCTerms found
         → HaveSoundTouches rule (touches found) }
 {}
 
-/// After the edits of witnesses, the text is cut into as many tokens as it has ids. Does nothing.
+/// The text after the edits of witnesses is cut into as many tokens as it has ids. Does nothing.
 pub fn text_keeps_its_tokens()
     ensures { (found : List RuleWitness) (rule : Rule) (items : List Item) (kinds : List (List NodeKind))
         (pieces : List TextPiece) (edits : List Edit) (next : ℕ) (again : List TextPiece) → Cuts pieces

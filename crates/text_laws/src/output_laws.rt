@@ -1,7 +1,7 @@
-//! Laws of the texts that edits make, whatever the edits, and of the values of graphs.
+//! Laws of the texts that any edits produce, and of the values of graphs.
 //!
-//! - [`ids_differ`]: no two tokens of a text have one id.
-//! - [`ids_are_few`]: there are no more ids than bytes, and as few new ones.
+//! - [`ids_differ`]: no two tokens of a text have the same id.
+//! - [`ids_are_few`]: there are no more ids than bytes, and at most that many new ones.
 //! - [`values_are_sound`]: the values of an item's graph are places, or terms of the item's tokens.
 //!
 //! The functions do nothing.

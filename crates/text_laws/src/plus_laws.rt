@@ -1,6 +1,6 @@
-//! The plus code of patches that are read is of tokens of C and metavariables, with white space between them.
+//! The plus code of patches that are read consists of tokens of C and metavariables, with white space between them.
 //!
-//! - [`read_plus_code_is_sound`]: so it is in each rule, and in each rule whose patterns have all their forms.
+//! - [`read_plus_code_is_sound`]: this holds of each rule, and of each rule whose patterns have all their forms.
 //!
 //! The function does nothing.
 #![tactic(auto)]

@@ -1,4 +1,4 @@
--- What a state that is added adds to the trees of all states, and that it keeps those that are covered.
+-- What adding a state adds to the trees of all states; covered states stay covered.
 use Rattle.std.proofs.Common.{◌≡◌, ℕ, ⊎_elim, Bool, true, false, ◌||◌, refl, sym, ap, ◌∙◌, subst, List, [], ◌∷◌, ◌++◌, Contains}
 use Rattle.std.proofs.lemmas.List.Folds.{list_any-append}
 use Rattle.std.specs.List.{list_any}
@@ -28,11 +28,11 @@ no-more : (b : Bool) → (b || false) ≡ b
 no-more true = refl
 no-more false = refl
 
--- more states cover what fewer did
+-- more states cover what fewer states cover
 pub covered_more : (old more : List State) (i s : ℕ) (env : Environment) → Covered old i s env → Covered (old ++ more) i s env
 covered_more old more i s env c = (c.0, Contains-left old more c.0 c.1, c.2, c.3, c.4)
 
--- a state that was put last is covered
+-- a state that was appended is covered
 pub covered_last : (old new : List State) (one : State) (env : List (Var × Value)) → new ≡ old ++ one ∷ [] → one.env ≡ env
     → Covered new one.part one.node (total env)
 covered_last old new one env e h = (
@@ -43,7 +43,7 @@ covered_last old new one env e h = (
   λ x. subst (λ d. same (total d x) (total env x) ≡ true) (sym h) (same-refl (total env x)),
 )
 
--- one state more, for any test of parts at nodes
+-- one more state, for any test of parts at nodes
 module _ (h : ℕ → ℕ → Environment → Bool) where
   abbrev of_one : State → Bool
   of_one one = h one.part one.node (total one.env)
@@ -65,7 +65,7 @@ module _ (g : Flow) (f : FormulaOf) (z : Witness) where
   abbrev pub of_state : State → Bool
   of_state one = has (forest_at g f one.part one.node (total one.env)) z
 
-  -- the forest of what is covered is that of a state
+  -- the forest of a covered part is that of a state
   pub covered_there : (states : List State) (i s : ℕ) (env : Environment) → Covered states i s env → has (forest_at g f i s env) z ≡ true
       → list_any of_state states ≡ true
   covered_there states i s env c h =

@@ -1,4 +1,4 @@
--- Where two tests of parts at nodes agree at a node's parts, the node leads to the same by both.
+-- If two tests of parts at nodes agree at a node's parts, the node leads to the same parts by both.
 use Rattle.std.proofs.Common.{◌≡◌, ℕ, ◌<◌, Bool, true, cond, refl, List, [], ◌∷◌, ◌++◌, map, Contains}
 use Rattle.std.specs.List.{flat_map}
 use Rattle.cfg_build.specs.CfgGraph.Flow.{Flow, IsSound, count_of, succ_of}

@@ -1,5 +1,5 @@
--- All trees of a forest are found: where a family of parts at nodes under environments holds with each of its members what that
--- leads to, a tree of a member's forest is found.
+-- All trees of a forest are found: if a family of parts at nodes under environments is closed under what its members lead
+-- to, each tree of a member's forest is found.
 use Rattle.std.proofs.Common.{◌≡◌, ℕ, suc, zero, ◌<◌, ⊎_elim, Bool, true, false, not, cond, ◌&&◌, ◌||◌, eqb, refl, sym, ap, ◌∙◌, subst, arith, List, [], ◌∷◌, ◌++◌, map, Contains}
 use Rattle.std.specs.Prelude.{nat_lt}
 use Rattle.std.specs.List.{filter, flat_map, list_any}
@@ -42,7 +42,7 @@ module _ (decls : List VarDecl) (tokens : List PatToken) (g : Flow) (fs : List P
   abbrev pub H : Environment → ℕ → ℕ → Bool
   H env i s = W.holds (at fs i) s env
 
-  -- the family holds what its members lead to, and z is found where a member leads to it
+  -- the family contains what its members lead to, and z is found if a member leads to it
   pub record Closed (C : ℕ → ℕ → Environment → Type 0) : Type 0 where
     pub inside : (i s : ℕ) (env : Environment) → C i s env → s < count_of g
     pub stands : (i s : ℕ) (env : Environment) → C i s env → at fs i ≡ plain_of fs (N i)
@@ -56,7 +56,7 @@ module _ (decls : List VarDecl) (tokens : List PatToken) (g : Flow) (fs : List P
         → same_witness (Bind s x v (forest W (at fs j) s (change env x v))) z ≡ true → F ≡ true
 
   module _ (ok : IsSound g) (C : ℕ → ℕ → Environment → Type 0) (closed : Closed C) where
-    -- what the forest of a part has that is in the family is found, if its number is below n
+    -- each tree in the forest of a part in the family is found, if the part's number is below n
     abbrev Found : ℕ → Type 0
     Found n = (i : ℕ) → i < n → (s : ℕ) (env : Environment) → C i s env → has (forest W (at fs i) s env) z ≡ true → F ≡ true
 
@@ -132,7 +132,7 @@ module _ (decls : List VarDecl) (tokens : List PatToken) (g : Flow) (fs : List P
           → Contains (held g (H env) b k ++ cond (H env a k) (flat_map (way_on g (H env) i a k) (succ_of g k)) []) j → C j.0 j.1 env
       leads k c j m = closed.kid i k env c j (subst (λ y. Contains (kids g (H env) y i k) j) (sym e) m)
 
-      -- what the here_on leads to
+      -- the way here and the until at a next node are in the family
       on_way : (k : ℕ) → C i k env → H env a k ≡ true → (j : ℕ) → Contains (succ_of g k) j → until j ≡ true
           → (p : ℕ × ℕ) → Contains ((a, k) ∷ (i, j) ∷ []) p → C p.0 p.1 env
       on_way k c w j m u p here =
@@ -220,6 +220,6 @@ module _ (decls : List VarDecl) (tokens : List PatToken) (g : Flow) (fs : List P
         by_node (N i) i (λ j lj. all_found n j (omega (arith, lt, lj))) refl (closed.low i s env c) s env c
         (sym (ap (λ f. has (forest W f s env) z) (closed.stands i s env c)) ∙ h)
 
-    -- what the forest of a member has is found
+    -- each tree in the forest of a member is found
     pub complete : (i s : ℕ) (env : Environment) → C i s env → has (forest W (at fs i) s env) z ≡ true → F ≡ true
     complete i s env c h = all_found (suc i) i (omega arith) s env c h

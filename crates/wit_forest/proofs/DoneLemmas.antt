@@ -1,4 +1,4 @@
--- A quantifier is done where each value of a list is, if these are the values with which its part holds, ids aside.
+-- A quantifier is done if each value of a list is, provided that these are the values under which its part holds, ids aside.
 use Rattle.std.proofs.Common.{◌≡◌, ℕ, true, sym, ap, ◌∙◌, List, Contains}
 use Rattle.std.specs.List.{list_any}
 use Rattle.cfg_build.specs.CfgGraph.Flow.{Flow}
@@ -20,7 +20,7 @@ use Rattle.wit_forest.specs.Gathered.{Covered, holds_at, forest_at, IsHiddenDone
 use Rattle.wit_forest.proofs.ExploredLemmas.{covered_alike}
 use Rattle.wit_forest.proofs.QuantifierLemmas.{bind_same}
 
--- a tree that is the same as one that is found is found
+-- a tree that is the same as a found one is found
 pub has_same : (found : List Witness) (w z : Witness) → has found w ≡ true → same_witness w z ≡ true → has found z ≡ true
 has_same found w z h e =
     let u = any_found (λ u. same_witness u w) found h in

@@ -1,4 +1,4 @@
--- Where all states are explored, the trees of each one's forest are found.
+-- If all states are explored, the trees of each state's forest are found.
 use Rattle.std.proofs.Common.{◌≡◌, ℕ, ◌+◌, ◌<◌, Bool, true, false, ◌||◌, refl, sym, ap, ◌∙◌, subst, List, [], ◌∷◌, Contains}
 use Rattle.cfg_build.specs.CfgGraph.Flow.{Flow, IsSound, count_of}
 use Rattle.smpl_terms.specs.Environments.{Environment, change, total}
@@ -93,7 +93,7 @@ module _ (g : Flow) (f : FormulaOf) (ok : IsSound g) (states : List State) (foun
         (subst (λ k. IsExplored g f states found i k (total c.0.env)) c.3
         (subst (λ j. IsExplored g f states found j c.0.node (total c.0.env)) c.2 (done c.0 c.1)))
 
-    -- a tree that is the same as one that is found is found
+    -- a tree that is the same as a found one is found
     found_same : (w z : Witness) → has found w ≡ true → same_witness w z ≡ true → has found z ≡ true
     found_same w z h e =
         let u = any_found (λ u. same_witness u w) found h in
@@ -113,7 +113,7 @@ module _ (g : Flow) (f : FormulaOf) (ok : IsSound g) (states : List State) (foun
           found_same (Bind s x v (forest_at g f j s (change env x v))) z ((explored_at i s env c).shown x j q b v m h) e;
     }
 
-    -- the trees of the forest of each part that is covered are found
+    -- the trees of the forest of each covered part are found
     pub covered_found : (i s : ℕ) (env : Environment) → Covered states i s env → (z : Witness) → has (forest_at g f i s env) z ≡ true → has found z ≡ true
     covered_found i s env c z h =
         complete f.decls f.tokens g (plains f.nodes) (node_at g f) z (has found z) ok (Covered states) (all_closed z) i s env c h

@@ -1,4 +1,4 @@
--- The loop that gathers a forest: nothing is found that the forest lacks, and what the states so far lead to is there.
+-- The loop that gathers a forest: everything that is found is in the forest, and what the states so far lead to is there.
 use Rattle.std.proofs.Common.{◌≡◌, ℕ, zero, suc, ◌+◌, ◌<◌, ◌≤◌, ⊎_elim, Bool, true, false, ◌||◌, refl, sym, ap, ◌∙◌, subst, arith, List, [], ◌∷◌, ◌++◌, length, get_or, below_more, Contains}
 use Rattle.std.proofs.lemmas.List.Elements.{Contains-append_cases}
 use Rattle.cfg_build.specs.CfgGraph.Flow.{Flow, IsSound}
@@ -35,7 +35,7 @@ module _ (g : Flow) (f : FormulaOf) (part node : ℕ) (env : Environment) where
   abbrev root : List Witness
   root = forest_at g f part node env
 
-  -- of the states, the first n are explored
+  -- the first n states are explored
   pub record Gathered (n : ℕ) (states : List State) (found : List Witness) : Type 0 where
     pub start : Covered states part node env
     pub range : (one : State) → Contains states one → InRange g f part one.part one.node
@@ -99,7 +99,7 @@ module _ (g : Flow) (f : FormulaOf) (part node : ℕ) (env : Environment) where
           subst (λ u. IsExplored g f more trees u.part u.node (total u.env)) here x);
     }
 
-  -- at the end what is found is the forest
+  -- at the end the found trees are the forest
   pub gathered_all : IsSound g → IsFormula f → (n : ℕ) (states : List State) (found : List Witness) → length states ≤ n → Gathered n states found
       → HaveSame found root
   gathered_all ok formula n states found le p z = same_bool

@@ -1,4 +1,4 @@
--- What is explored stays so where states and trees are added, and growth goes on.
+-- What is explored stays explored when states and trees are added, and growth is transitive.
 use Rattle.std.proofs.Common.{ℕ, ◌≤◌, sym, subst, arith, List}
 use Rattle.cfg_build.specs.CfgGraph.Flow.{Flow}
 use Rattle.smpl_terms.specs.Environments.{Environment}

@@ -1,4 +1,4 @@
--- The parts that a node leads to are its own parts, and for an until itself, at nodes of the graph.
+-- The parts that a node leads to are its own parts, and for an until also itself, at nodes of the graph.
 use Rattle.std.proofs.Common.{◌≡◌, ℕ, suc, zero, ◌<◌, Bool, true, false, cond, refl, subst, arith, List, [], ◌∷◌, ◌++◌, map, length, get_or, Option, Some, None, Contains}
 use Rattle.std.specs.Prelude.{slice_get, nat_lt}
 use Rattle.std.specs.List.{flat_map}
@@ -16,7 +16,7 @@ is_until (node.AU i j) = true
 is_until (node.EU i j) = true
 is_until _ = false
 
--- each part of the node is so
+-- P holds for each part of the node
 abbrev pub EachKid : (ℕ → Type 0) → Node → Type 0
 EachKid P (node.Not i) = P i
 EachKid P (node.And i j) = P i × P j

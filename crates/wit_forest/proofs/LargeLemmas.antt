@@ -1,5 +1,5 @@
--- Sizes: different trees that all stand in a list are together no larger than it, and a tree that stands for a value is larger
--- than the forest under it.
+-- Sizes: distinct trees that are all in a list are together no larger than the list, and the tree of a value is larger than
+-- the forest under it.
 use Rattle.std.proofs.Common.{◌≡◌, ℕ, ◌+◌, ◌<◌, ◌≤◌, ⊎_elim, Bool, true, false, ◌||◌, cond, refl, sym, ap, ◌∙◌, arith, List, [], ◌∷◌, map}
 use Rattle.std.proofs.lemmas.List.Sums.{sum_by-cons}
 use Rattle.std.specs.Ordering.{is_eq}
@@ -31,7 +31,7 @@ not_first : (a b : Bool) → a ≡ false → (a || b) ≡ true → b ≡ true
 not_first true b e h = absurd cc
 not_first false b e h = h
 
--- of the list after its first tree it is known
+-- the claim is known for the list after its first tree
 size_by : (v w : Witness) (ws : List Witness) (b : Bool) → same_witness w v ≡ b → (has ws v ≡ true → forest_size ws ≡ size v + forest_size (without v ws))
     → has (w ∷ ws) v ≡ true → forest_size (w ∷ ws) ≡ size v + forest_size (cond b ws (w ∷ without v ws))
 size_by v w ws true e rest h = let s = size-along w v e in let sums = forest_size-cons w ws in omega (arith, s, sums)
@@ -66,7 +66,7 @@ none_true true h = absurd (h refl)
 none_true false h = refl
 
 module _ (decls : List VarDecl) where
-  -- what is before the first of trees in order is none of them
+  -- a tree before the first tree of an ascending list is not in the list
   misses : (w : Witness) (ws : List Witness) → BeforeFirst decls w ws → Rise decls ws → has ws w ≡ false
   misses w [] b r = refl
   misses w (u ∷ us) b r =
@@ -77,7 +77,7 @@ module _ (decls : List VarDecl) where
       later [] h = tt
       later (t ∷ ts) h = (witness_order_total decls).trans w u t b h
 
-  -- different trees that all stand in a list are together no larger than it
+  -- distinct trees that are all in a list are together no larger than the list
   rise_within : (vs ws : List Witness) → Rise decls vs → ((z : Witness) → has vs z ≡ true → has ws z ≡ true) → forest_size vs ≤ forest_size ws
   rise_within [] ws r h = omega arith
   rise_within (v ∷ vs) ws r h =
@@ -97,7 +97,7 @@ module _ (decls : List VarDecl) where
   pub large_more : (test more : Witness → Bool) → ((z : Witness) → test z ≡ true → more z ≡ true) → HasTooMany decls test → HasTooMany decls more
   large_more test more h l = (l.0, l.1, λ z k. h z (l.2 z k), l.3)
 
-  -- one tree alone
+  -- a single tree
   pub one_large : (test : Witness → Bool) (w : Witness) → ((z : Witness) → same_witness w z ≡ true → test z ≡ true) → 1000000 < size w
       → HasTooMany decls test
   one_large test w h l =
@@ -108,7 +108,7 @@ module _ (decls : List VarDecl) where
       only true k = refl
       only false k = k
 
-  -- trees that rise are the one list of their forest
+  -- ascending trees are the one list of their forest
   pub one_forest : (trees found root : List Witness) → HaveSame trees found → Rise decls trees → Rise decls root → HaveSame found root
       → (same_forest trees root ≡ true) × (forest_size trees ≡ forest_size root)
   one_forest trees found root h r s k =

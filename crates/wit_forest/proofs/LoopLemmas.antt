@@ -20,7 +20,7 @@ pub or-none : (b : Bool) → (b || false) ≡ b
 or-none true = refl
 or-none false = refl
 
--- the element of an index, whatever stands for those past the end
+-- the element at an index, whatever the default past the end is
 pub one_item : {X : Type 0} (xs : List X) (i : ℕ) (u v : X) → i < length xs → get_or xs i u ≡ u → v ≡ get_or xs i v → v ≡ u
 one_item [] i u v lt e h = absurd (omega (arith, lt))
 one_item (x ∷ xs) zero u v lt e h = h ∙ e
@@ -122,7 +122,7 @@ module _ (g : Flow) (f : FormulaOf) where
         → Covered new (part_of u) (node_of u) (env_of u)
     put_done most us n old new le p u c = let lt = c.1 in p.done c.0 (omega (arith, lt, le)) u c.1 c.2
 
-  -- what the states have more is what a forest has
+  -- what is new among the states is what a forest has
   pub adds_states : (old new : List State) (found ws : List Witness)
       → ((z : Witness) → list_any (of_state g f z) new ≡ (list_any (of_state g f z) old || has ws z)) → Adds g f old new found found ws
   adds_states old new found ws h z = ap (λ b. has found z || b) (h z) ∙ sym (or_assoc (has found z) (list_any (of_state g f z) old) (has ws z))

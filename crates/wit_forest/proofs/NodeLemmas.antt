@@ -1,4 +1,4 @@
--- A part's node by its number.
+-- The node with a part's number.
 use Rattle.std.proofs.Common.{◌≡◌, ℕ, suc, zero, ◌+◌, ◌<◌, true, refl, ap, ◌∙◌, arith, List, [], ◌∷◌, length, Some}
 use Rattle.std.specs.Prelude.{slice_get, slice_index_or}
 use Rattle.ctl_formula.specs.Tables.{at, plains, plain_of, below, ordered, ordered_from}

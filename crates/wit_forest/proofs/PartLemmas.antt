@@ -1,4 +1,4 @@
--- A node's parts are parts of the formula, if the node is one.
+-- The parts of a node are parts of the formula, if the node is one.
 use Rattle.std.proofs.Common.{ℕ, inl, inr, refl, List}
 use Rattle.ctl_formula.specs.Plain.{Plain, True, Atom, Bail, BraceOpen, BraceClose, Inside, Outside, Not, And, Or, AX, EX, AU, EU, Past, Down, Exists}
 use Rattle.ctl_formula.specs.Tables.{at, plain_of}

@@ -1,4 +1,4 @@
--- The forest of a quantifier by any list of the values with which its part holds, ids aside.
+-- The forest of a quantifier, given any list of the values under which its part holds, ids aside.
 use Rattle.std.proofs.Common.{◌≡◌, ℕ, ◌+◌, ◌<◌, Bool, true, false, ◌&&◌, ◌||◌, eqb, sym, ap, ◌∙◌, subst, arith, List}
 use Rattle.std.specs.List.{filter, list_any}
 use Rattle.cfg_build.specs.CfgGraph.Flow.{Flow, IsSound, count_of}
@@ -31,7 +31,7 @@ use Rattle.wit_forest.proofs.WitTrees.StepLemmas.{has-union_map}
 use Rattle.wit_forest.specs.Gathered.{holds_at, forest_at, quantified}
 use Rattle.wit_forest.proofs.ValueLemmas.{changed_own}
 
--- trees of values that are the same, over one forest
+-- trees of the same values, over one forest
 pub bind_same : (s : ℕ) (x : Var) (v u : Value) (ws : List Witness) → same v u ≡ true → same_witness (Bind s x v ws) (Bind s x u ws) ≡ true
 bind_same s x v u ws h =
     let itself = sym (same-Bind-Bind s x u ws s x u ws) ∙ witness-refl (Bind s x u ws) in

@@ -1,3 +1,3 @@
 -- Lemmas of reach_laws.
--- Lemmas: members of lists, and walks of whatever length.
+-- Lemmas: members of lists, and walks of any length.
 pub mod ReachLemmas

@@ -1,4 +1,5 @@
--- What a step asks, by what all rest on: the parts of a part are in range, and the sets tell what holds there.
+-- The preconditions of a step, from those shared by all: the parts of a part are in range, and the sets say what holds
+-- there.
 use Rattle.std.proofs.Common.{◌≡◌, ℕ, ◌<◌, ◌≤◌, Bool, true, false, nat_lt, refl, ap, ◌∙◌, subst, arith, List, [], length, slice_index_or, slice_get, Some, Contains, Result, Ok, Err, IfOk}
 use Rattle.std.proofs.lemmas.Bool.Decides.{nat_tests}
 use Rattle.std.proofs.lemmas.Option.{get_or_from_slice_get}
@@ -70,7 +71,7 @@ each_kid P Q R h (node.Past i) a b = h i a b
 each_kid P Q R h (node.Down v i) a b = h i a b
 each_kid P Q R h (node.Exists x i) a b = h i a b
 
--- what an `Ok` has by two facts of it
+-- two facts about an `Ok` result, combined
 pub of_both : {X E : Type 0} (r : Result X E) (P Q R : X → Type 0) → ((x : X) → P x → Q x → R x) → IfOk r P → IfOk r Q → IfOk r R
 of_both (Ok x) P Q R h p q = h x p q
 of_both (Err e) P Q R h p q = p
@@ -99,7 +100,7 @@ module _ (g : Flow) (f : FormulaOf) (rows : List (List Entries)) (ready : AreRea
   pub part_stands : EachPattern (SureStand f.decls f.tokens) (at (plains f.nodes) i)
   part_stands = good.stand
 
-  -- the values that are read off the set are those with which the part holds
+  -- the values that the set assigns are those under which the part holds
   pub values_hold : (x : Var) → IsBound f x i → AllRise (set_at rows i s) → (env : Environment) (v : Value)
       → chosen x env (set_at rows i s) v ≡ holds_at g f (change env x v) i s
   values_hold x b rise env v = values_told g f rows ready.sound ready.sets most i s r part_stands x b rise env v
@@ -128,7 +129,7 @@ module _ (g : Flow) (f : FormulaOf) (rows : List (List Entries)) (ready : AreRea
         let fine = kid_fine g ready.sound H Fine x i s r.node each_fine (λ u. (r.within, omega arith, r.part)) k c in
         record { within = fine.0.0; low = fine.0.1; part = fine.0.2; node = fine.1 }
 
-    -- an item of the list of what it leads to
+    -- an item of the list of parts that it leads to
     pub item_in_range : (env : Environment) (ks : List (ℕ × ℕ)) → ks ≡ kids g (told rows env) x i s → (k : ℕ × ℕ) → Contains ks k → InRange g f i k.0 k.1
     item_in_range env ks e k c = kid_in_range (told rows env) k (subst (λ l. Contains l k) e c)
 
@@ -147,7 +148,7 @@ module _ (g : Flow) (f : FormulaOf) (rows : List (List Entries)) (ready : AreRea
         and_left (bound (sure f.decls f.tokens) (at (plains f.nodes) j) v) _
         (subst (λ h. guarded (sure f.decls f.tokens) h ≡ true) shape good.guarded_by_parts)
 
-    -- by the sets the node leads to the same as by where its parts hold
+    -- the node leads to the same parts by the sets as by where its parts hold
     pub kids_told : (env : Environment) → kids g (told rows env) x i s ≡ kids g (holds_at g f env) x i s
     kids_told env =
         let at_part : (k : ℕ) → k < length f.nodes → OfPart k → Agree g ready.sound (told rows env) (holds_at g f env) k =

@@ -1,4 +1,4 @@
--- A loop over values that adds a tree for each.
+-- A loop over values that adds a tree for each value.
 use Rattle.std.proofs.Common.{◌≡◌, ℕ, zero, suc, ◌+◌, ◌<◌, ◌≤◌, ⊎_elim, Bool, true, false, ◌&&◌, ◌||◌, eqb, sym, ap, ◌∙◌, subst, List, [], ◌∷◌, length, get_or, take, Contains}
 use Rattle.std.proofs.Math.Bool.{or_assoc}
 use Rattle.std.proofs.lemmas.List.{take_all}
@@ -31,7 +31,7 @@ use Rattle.wit_forest.proofs.LargeLemmas.{large_bind, large_more, one_large}
 use Rattle.wit_forest.proofs.LoopLemmas.{or-none}
 use Rattle.wit_forest.proofs.QuantifierLemmas.{tree_of, quantified_has}
 
--- trees over forests that are the same
+-- trees over the same forests
 over_same : (s : ℕ) (x : Var) (v : Value) (us ws : List Witness) → same_forest us ws ≡ true → same_witness (Bind s x v us) (Bind s x v ws) ≡ true
 over_same s x v us ws h =
     let itself = sym (same-Bind-Bind s x v us s x v us) ∙ witness-refl (Bind s x v us) in
@@ -42,7 +42,7 @@ over_same s x v us ws h =
     (and_both (same_var x x) (same v v && same_forest us ws) (and_left (same_var x x) (same v v && same_forest us us) rest)
     (and_both (same v v) (same_forest us ws) (and_left (same v v) (same_forest us us) last) h))
 
--- what some of the first do, some do
+-- what holds for some of the first holds for some of all
 any_take : {X : Type 0} (q : X → Bool) (xs : List X) (n : ℕ) → list_any q (take n xs) ≡ true → list_any q xs ≡ true
 any_take q xs zero h = absurd cc
 any_take q [] (suc n) h = h
@@ -62,7 +62,7 @@ module _ (g : Flow) (f : FormulaOf) (x : Var) (j s : ℕ) (env : Environment) wh
   pub shown_none : (us : List Value) (old : List Witness) → Shown us 0 old old
   shown_none us old z = sym (or-none (has old z))
 
-  -- with a tree more, over the forest that was gathered under the value
+  -- with one more tree, over the forest that was gathered under the value
   shown_step : (us : List Value) (n : ℕ) (old mid : List Witness) (v u : Value) (y : Var) (inner : Environment) (under : List Witness)
       → n < length us → v ≡ get_or us n v → u ≡ v → y ≡ x → inner ≡ change env x v → same_forest under (forest_at g f j s inner) ≡ true
       → Shown us n old mid → (z : Witness)
@@ -86,7 +86,7 @@ module _ (g : Flow) (f : FormulaOf) (x : Var) (j s : ℕ) (env : Environment) wh
       (b : bound (sure f.decls f.tokens) (at (plains f.nodes) j) x ≡ true)
       (us : List Value) (all : (v : Value) → list_any (λ u. same u v) us ≡ holds_at g f (change env x v) j s)
       (shown : is_hidden x ≡ false) where
-    -- what the forest of the quantifier has, by the trees
+    -- what the forest of the quantifier has, given the trees
     by_trees : (z : Witness) → list_any (λ v. same_witness (tree v) z) us ≡ has (quantified g f x j s env) z
     by_trees z =
         let one : (λ v. same_witness (tree v) z) ≡ tree_of g f x j s env z false = λ i v. sym (or-none (same_witness (tree v) z)) i in
@@ -102,7 +102,7 @@ module _ (g : Flow) (f : FormulaOf) (x : Var) (j s : ℕ) (env : Environment) wh
         p (tree u) ∙ ap (λ l. has old (tree u) || list_any (λ v. same_witness (tree v) (tree u)) l) (take_all n us le)
         ∙ or_right (has old (tree u)) _ (any_has (λ v. same_witness (tree v) (tree u)) u us c (witness-refl (tree u))))
 
-    -- the forest under a value alone is too large
+    -- the forest under one value is already too large
     pub large_shown : (old : List Witness) (v : Value) → Contains us v → (inner : Environment) → inner ≡ change env x v
         → 1000000 < forest_size (forest_at g f j s inner) → HasTooMany f.decls (λ z. has old z || has (quantified g f x j s env) z)
     large_shown old v c inner e h =
@@ -110,7 +110,7 @@ module _ (g : Flow) (f : FormulaOf) (x : Var) (j s : ℕ) (env : Environment) wh
         one_large f.decls (λ z. has old z || has (quantified g f x j s env) z) (tree v)
         (λ z k. or_right (has old z) _ (sym (by_trees z) ∙ any_has (λ w. same_witness (tree w) z) v us c k)) (large_bind s x v _ here)
 
-    -- the trees so far are, with one more
+    -- the trees so far are too many, with one more
     pub large_so_far : (n : ℕ) (old mid : List Witness) (v u : Value) (y : Var) (inner : Environment) (under : List Witness)
         → n < length us → v ≡ get_or us n v → u ≡ v → y ≡ x → inner ≡ change env x v → same_forest under (forest_at g f j s inner) ≡ true
         → Shown us n old mid → HasTooMany f.decls (λ z. has mid z || same_witness (Bind s y u under) z)

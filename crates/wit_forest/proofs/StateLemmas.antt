@@ -1,4 +1,4 @@
--- What follows for a list of states that one more is put to unless it is there.
+-- What follows for a list of states to which a state is added unless it is already there.
 use Rattle.std.proofs.Common.{◌≡◌, ℕ, Bool, true, false, cond, ◌&&◌, nat_eq, inl, inr, refl, sym, ap, ◌∙◌, subst, List, [], ◌∷◌, ◌++◌}
 use Rattle.std.proofs.Common.{Some, unwrap_or, if◌then◌else◌}
 use Rattle.std.specs.List.{list_any}
@@ -20,7 +20,7 @@ use Rattle.wit_forest.specs.Gathered.{Covered, IsAdded}
 use Rattle.wit_forest.specs.States.{same_state, with_state}
 use Rattle.wit_forest.proofs.AddLemmas.{covered_last}
 
--- an environment that is the same gives each variable the same value
+-- environments that are the same give each variable the same value
 alike_back : (ps qs : Pairs) → same_env ps qs ≡ true → Alike (total qs) (total ps)
 alike_back [] [] h y = same-refl (Place 0)
 alike_back [] (q ∷ qs) h y = absurd cc
@@ -58,7 +58,7 @@ covered_with old new one env e h = by (list_any (same_state one) old) refl
         (subst (λ d. Covered old one.part one.node (total d)) h (there old one k))
     by false k = covered_last old new one env (e ∙ ap (λ c. if c then old else old ++ one ∷ []) k) h
 
--- the new list is the old one, or has the state more, last
+-- the new list is the old one, or has the state appended
 pub added_with : (old new : List State) (one : State) (env : Pairs) → new ≡ with_state old one → one.env ≡ env
     → IsAdded old new one.part one.node env
 added_with old new one env e h = by (list_any (same_state one) old) refl

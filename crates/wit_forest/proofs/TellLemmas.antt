@@ -1,4 +1,4 @@
--- What the sets tell is what holds, at each part of the formula; parts of parts are parts.
+-- The sets say what holds, at each part of the formula; parts of parts are parts.
 use Rattle.std.proofs.Common.{◌≡◌, ℕ, ◌+◌, ◌<◌, inl, inr, ⊎_elim, subst, arith, List, length}
 use Rattle.cfg_build.specs.CfgGraph.Flow.{Flow, IsSound, count_of}
 use Rattle.smpl_terms.specs.Environments.{Environment}

@@ -1,4 +1,4 @@
--- The values that are read off a set are those with which the part holds.
+-- The values that the set assigns are those under which the part holds.
 use Rattle.std.proofs.Common.{◌≡◌, ℕ, ◌+◌, true, cond, sym, ap, ◌∙◌, subst, arith, List}
 use Rattle.cfg_build.specs.CfgGraph.Flow.{Flow, IsSound, count_of}
 use Rattle.smpl_terms.specs.declared.var.Var.{Var}

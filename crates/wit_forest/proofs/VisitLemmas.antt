@@ -1,4 +1,4 @@
--- One visit of a part at a node: what it adds, and that the part is explored then.
+-- One visit of a part at a node: what it adds, and that the part is explored afterwards.
 use Rattle.std.proofs.Common.{◌≡◌, ℕ, ◌<◌, ⊎_elim, Bool, true, false, ◌||◌, refl, sym, ap, ◌∙◌, subst, List, [], Contains}
 use Rattle.std.proofs.lemmas.List.{append-nil}
 use Rattle.std.specs.List.{list_any}
@@ -71,7 +71,7 @@ module _ (g : Flow) (f : FormulaOf) (i s : ℕ) (env : Environment) where
   quantifier_large old found x j e l =
       subst (λ h. HasTooMany f.decls (λ z. is_there g f old found z || has (forest_of f.decls f.tokens g h s env) z)) (sym e) l
 
-  -- trees that are added for a quantifier, and no state
+  -- trees are added for a quantifier, and no state
   pub shown_adds : (old : List State) (found trees ws : List Witness) → ((z : Witness) → has trees z ≡ (has found z || has ws z)) → Adds g f old old found trees ws
   shown_adds old found trees ws h z =
       ap (λ b. b || list_any (of_state g f z) old) (h z) ∙ or_turned (has found z) (has ws z) (list_any (of_state g f z) old)
@@ -99,7 +99,7 @@ module _ (g : Flow) (f : FormulaOf) (i s : ℕ) (env : Environment) where
       (or_cases (has found z) _ k))
       l
 
-  -- what a part touches is too much
+  -- what a part touches makes the forest too large
   pub own_large : (x : Node) → at (plains f.nodes) i ≡ plain_of (plains f.nodes) x → is_quantifier x ≡ false → IsSound g → s < count_of g
       → (old : List State) (found : List Witness) → HasTooMany f.decls (λ z. has found z || has (own_touches f.decls f.tokens g x s env) z)
       → HasTooMany f.decls (λ z. is_there g f old found z || has (forest_at g f i s env) z)

@@ -23,7 +23,7 @@ module _ (g : Flow) (ok : IsSound g) (test q u : ℕ → Bool) (C : ℕ → Type
       walk m lm h n j.0 lj (next k j.0 c (and_left (test k) _ on) j.1 (back m lm h n j.0 lj j.2)) j.2)
       (or_cases (eqb k m) _ r)
 
-  -- what some node has that walks come to is found
+  -- what some node that walks reach has is found
   pub found_on_walks : (s : ℕ) → s < count_of g → C s → list_any (λ m. is_reached g test s m && q m) (numbers (count_of g)) ≡ true → F ≡ true
   found_on_walks s lt c h =
       let m = any_found (λ m. is_reached g test s m && q m) (numbers (count_of g)) h in

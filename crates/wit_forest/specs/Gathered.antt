@@ -1,4 +1,4 @@
--- What a list of states and a list of trees that were found make up, and when nothing is left to be looked at.
+-- What the lists of states and of found trees make up, and when nothing is left to be explored.
 use Rattle.std.specs.Prelude.{◌≡◌, ℕ, ◌+◌, ◌<◌, ◌≤◌, Bool, true, false, ◌||◌, ◌⊎◌, List, [], ◌∷◌, ◌++◌, length, slice_index_or, Contains}
 use Rattle.std.specs.List.{list_any}
 use Rattle.cfg_build.specs.CfgGraph.Flow.{Flow, IsSound, count_of}
@@ -40,7 +40,7 @@ abbrev pub Covered : List State → ℕ → ℕ → Environment → Type 0
 Covered states i s env =
     (one : State) × Contains states one × (one.part ≡ i) × (one.node ≡ s) × Alike (total one.env) env
 
--- the list is as it was, or has that state more, last
+-- the list is unchanged, or that state is appended
 abbrev pub IsAdded : List State → List State → ℕ → ℕ → List (Var × Value) → Type 0
 IsAdded old new i s env = (new ≡ old)
     ⊎ ((one : State) × (new ≡ old ++ one ∷ []) × (one.part ≡ i) × (one.node ≡ s) × (one.env ≡ env))
@@ -50,7 +50,7 @@ abbrev pub IsBound : FormulaOf → Var → ℕ → Type 0
 IsBound f x i = bound (sure f.decls f.tokens) (at (plains f.nodes) i) x ≡ true
 
 module _ (g : Flow) (f : FormulaOf) where
-  -- the node of a part's number
+  -- the node with a part's number
   abbrev pub node_at : ℕ → Node
   node_at i = slice_index_or f.nodes i node.True
 
@@ -64,15 +64,15 @@ module _ (g : Flow) (f : FormulaOf) where
   abbrev pub is_there : List State → List Witness → Witness → Bool
   is_there states found z = has found z || list_any (λ one. has (forest_at one.part one.node (total one.env)) z) states
 
-  -- what each step rests on: a graph and a formula as they are made, sure variables that stand in their patterns, and the
-  -- sets of the formula's parts
+  -- the preconditions of each step: a sound graph, a well-formed formula whose patterns contain their sure variables, and
+  -- the sets of the formula's parts
   pub record AreReady (rows : List (List Entries)) : Type 0 where
     pub sound : IsSound g
     pub formula : IsFormula f
     pub stand : EachPattern (SureStand f.decls f.tokens) (plain f)
     pub sets : AreStateSets g f rows
 
-  -- the number is that of a part of the formula, and not above `most`; the node is one of the graph
+  -- the number is that of a part of the formula, and at most `most`; the node is one of the graph
   pub record InRange (most i s : ℕ) : Type 0 where
     pub within : i < length f.nodes
     pub low : i ≤ most
@@ -83,11 +83,11 @@ module _ (g : Flow) (f : FormulaOf) where
   abbrev pub quantified : Var → ℕ → ℕ → Environment → List Witness
   quantified x j s env = forest_of f.decls f.tokens g (Exists x (at (plains f.nodes) j)) s env
 
-  -- part j is among the states under each value of x with which it holds
+  -- part j is among the states under each value of x under which it holds
   abbrev pub IsHiddenDone : List State → Var → ℕ → ℕ → Environment → Type 0
   IsHiddenDone states x j s env = (v : Value) → Contains (values_of g) v → holds_at (change env x v) j s ≡ true → Covered states j s (change env x v)
 
-  -- the tree of each value of x with which part j holds is found
+  -- the tree of each value of x under which part j holds is found
   abbrev pub IsShownDone : List Witness → Var → ℕ → ℕ → Environment → Type 0
   IsShownDone found x j s env = (v : Value) → Contains (values_of g) v → holds_at (change env x v) j s ≡ true
       → has found (Bind s x v (forest_at j s (change env x v))) ≡ true
@@ -99,11 +99,11 @@ module _ (g : Flow) (f : FormulaOf) where
     pub hidden : (x : Var) (j : ℕ) → node_at i ≡ node.Exists x j → is_hidden x ≡ true → IsHiddenDone states x j s env
     pub shown : (x : Var) (j : ℕ) → node_at i ≡ node.Exists x j → is_hidden x ≡ false → IsShownDone found x j s env
 
-  -- the trees of the new lists are those of the old ones and these, and no tree is lost
+  -- the trees of the new lists are those of the old ones and `ws`, and no tree is lost
   abbrev pub Adds : List State → List State → List Witness → List Witness → List Witness → Type 0
   Adds states more found trees ws = (z : Witness) → is_there more trees z ≡ (is_there states found z || has ws z)
 
-  -- no state and no tree is lost, and the new states have parts up to a number
+  -- no state and no tree is lost, and the new states have parts with numbers up to `most`
   pub record Grows (most : ℕ) (states more : List State) (found trees : List Witness) : Type 0 where
     pub rest : List State
     pub longer : more ≡ states ++ rest

@@ -1,9 +1,9 @@
--- What contracts rest on.
+-- The modules that contracts rest on.
 -- lists of states, each once
 pub mod States
--- what was gathered, and what is left to be looked at
+-- what was gathered, and what is left to be explored
 pub mod Gathered
--- for inside use: laws of the first
+-- for internal use: laws of the first
 pub mod StateLaws
 -- What wit_order defines.
 pub mod WitOrder

@@ -1,3 +1,3 @@
 -- Definitions of reach_laws.
--- What the law rests on: walks that come to a node.
+-- What the law rests on: walks that reach a node.
 pub mod Reaching

@@ -1,4 +1,4 @@
--- That states are the same is an equivalence, and such states are fed alike.
+-- Sameness of states is an equivalence, and states that are the same feed a hasher the same input.
 use Rattle.std.specs.Prelude.{◌≡◌, ℕ, Bool, true, false, ◌&&◌, nat_eq, List, [], ◌∷◌, ◌++◌}
 use Rattle.std.specs.Bool.{Decides}
 use Rattle.std.specs.Cmp.{IsEquivalence, first_so, second_so, and_equiv, on_equiv, nat_eq_equiv}

@@ -1,4 +1,4 @@
--- When two states are the same, and states in the order in which they came, each once.
+-- When two states are the same, and lists of states in the order in which they were added, each once.
 use Rattle.std.specs.Prelude.{◌≡◌, ℕ, Bool, true, nat_eq, List, [], ◌∷◌, ◌++◌, if◌then◌else◌}
 use Rattle.std.specs.List.{list_any, flat_map}
 use Rattle.std.specs.Ordering.{on, eq_of_both}
@@ -13,7 +13,7 @@ use Rattle.wit_forest.specs.declared.states.State.{State}
 abbrev pub same_state : State → State → Bool
 same_state = eq_of_both (on (λ s. s.part) nat_eq) (eq_of_both (on (λ s. s.node) nat_eq) (on (λ s. s.env) same_env))
 
--- the states, and this one behind them unless it is there
+-- the states, with this one appended unless it is already there
 abbrev pub with_state : List State → State → List State
 with_state states one = if list_any (same_state one) states then states else states ++ one ∷ []
 

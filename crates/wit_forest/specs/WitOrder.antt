@@ -1,5 +1,5 @@
 -- Definitions of wit_order.
--- What public contracts rest on, in reading order.
+-- The modules that public contracts rest on, in reading order.
 -- when two trees of witnesses are the same
 pub mod Same
 -- their order

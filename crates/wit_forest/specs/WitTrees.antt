@@ -1,5 +1,5 @@
 -- Definitions of wit_trees.
--- What public contracts rest on, in reading order.
+-- The modules that public contracts rest on, in reading order.
 -- unions of forests
 pub mod Unions
 -- which atoms are touched

@@ -9,7 +9,7 @@ use std::alloc::{AllocError, AllocFailed};
 pub enum ForestFault {
     /// It has more than 1,000,000 touches and binds.
     TooMany,
-    /// Memory was refused. This is the one answer that a caller cannot foresee.
+    /// Out of memory. This is the only error that a caller cannot foresee.
     NoMemory,
 }
 

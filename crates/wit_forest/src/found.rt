@@ -1,4 +1,4 @@
-// Trees that were found, put in order where they become many.
+// Trees that have been found, sorted when there are many of them.
 ghost use Rattle.std.specs.Prelude.{◌≡◌, ◌||◌, ◌<◌, ◌≤◌, IfOk, [], Err, length};
 ghost use Rattle.cfg_build.specs.CfgGraph.Flow.{count_of};
 ghost use Rattle.smpl_terms.specs.Environments.{total};
@@ -20,17 +20,17 @@ use std::alloc::Global;
 use std::marker::Model;
 use std::mem;
 
-/// The most nodes of a forest.
+/// The largest number of nodes that a forest may have.
 const MOST: u32 = 1_000_000;
 
-/// Trees that were found; the same one may stand there again. Contracts see the list.
+/// Trees that have been found; the same tree may occur several times. Contracts see the list.
 ///
-/// Where they come to more than twice the nodes of the largest forest, they are put in order, each once. So what is found
-/// again takes no memory for long, and a forest that is too large is told early.
+/// When the trees have more than twice the nodes of the largest forest, they are sorted and repeats are removed. So a tree
+/// that is found again takes memory only for a while, and a forest that is too large is reported early.
 #[derive(Drop)]
 pub struct Found {
     trees: Vec<Witness>,
-    /// How many nodes more there may be until the trees are put in order.
+    /// How many more nodes there may be before the trees are sorted.
     room: u32,
 }
 
@@ -48,7 +48,7 @@ impl Model for Found {
     ghost view = { λ a. a.trees.items };
 }
 
-/// The trees in order, each once, if they are not too many.
+/// Returns the trees in order, each once, if they are not too many.
 fn settled(alloc: Global, decls: &[VarDecl], trees: Vec<Witness>) -> Result<Found, ForestFault>
     ensures trees { IfOk result (λ r. HaveSame r trees.items) }
     ensures rise { IfOk result (λ r. Rise decls.now r) }
@@ -75,7 +75,7 @@ impl Found {
         }
     }
 
-    /// Counts the trees from that place on; puts all in order, each once, where they are many.
+    /// Counts the trees from place `start` on; if there are many, sorts all of them and removes repeats.
     fn count(&mut self, alloc: Global, decls: &[VarDecl], start: usize) -> Result<(), ForestFault>
         requires { start ≤ length self.old }
         ensures trees { IfOk result (λ _. HaveSame self.new self.old) }
@@ -127,7 +127,7 @@ impl Found {
         self.count(alloc, f.decls(), start)
     }
 
-    /// The forest of the trees, if it is not too large.
+    /// Returns the forest of the trees, if it is not too large.
     pub fn into_forest(self, alloc: Global, decls: &[VarDecl]) -> Result<Vec<Witness>, ForestFault>
         ensures trees { IfOk result (λ r. HaveSame r.items self) }
         ensures rise { IfOk result (λ r. Rise decls.now r.items) }

@@ -33,7 +33,7 @@ use smpl_terms::{Env, Value, Var, same_value, value_order};
 use sqlite_items::Items;
 use std::alloc::Global;
 
-/// The variable of a block, whose name begins with `{`.
+/// Whether the variable is that of a block: its name begins with `{`.
 fn is_hidden(x: &Var) -> bool
     ensures { result ≡ of.is_hidden x.now }
 {
@@ -43,7 +43,7 @@ fn is_hidden(x: &Var) -> bool
     }
 }
 
-/// The values in order, each once.
+/// Returns the values in order, each once.
 fn different(values: Vec<Value>) -> Vec<Value>
     ensures values { (z : Datum) → list_any (λ u. same u z) result.items ≡ list_any (λ u. same u z) values.items }
     ensures rise { IsStrictlySortedBy value_order result.items }
@@ -54,7 +54,7 @@ fn different(values: Vec<Value>) -> Vec<Value>
     values
 }
 
-/// The values of the variable under which the part holds at the node, in order, each once.
+/// Returns the values of the variable under which the part holds at the node, in order, each once.
 fn values_at(
     alloc: Global,
     g: &Graph,
@@ -76,7 +76,7 @@ fn values_at(
     Ok(different(values))
 }
 
-/// The part under each value of a hidden variable.
+/// Adds a state of the part for each value of a hidden variable.
 fn visit_hidden(
     alloc: Global,
     g: &Graph,
@@ -133,7 +133,7 @@ fn visit_kids(
     Ok(())
 }
 
-/// A tree for each value of the variable, over the forest under it.
+/// Adds a tree for each value of the variable, over the forest under that value.
 #[cycle(forest)]
 fn visit_values(
     alloc: Global,
@@ -197,7 +197,7 @@ fn visit_quantifier(
     visit_values(alloc, g, f, sets, found, x, part, node, env)
 }
 
-/// What a part at a node leads to.
+/// Adds what a part at a node touches and the states that it leads to.
 #[cycle(forest)]
 fn visit(
     alloc: Global,
@@ -229,7 +229,7 @@ fn visit(
     }
 }
 
-/// The forest of a part at a node. Recurses once a quantifier.
+/// Returns the forest of a part at a node. Recurses once per quantifier.
 #[cycle(forest)]
 fn forest_at(
     alloc: Global,
@@ -262,7 +262,7 @@ fn forest_at(
     Err(ForestFault::NoMemory)
 }
 
-/// The forest of the formula at a node under an environment.
+/// Returns the forest of the formula at a node under an environment.
 pub fn forest(
     alloc: Global,
     g: &Graph,

@@ -5,8 +5,8 @@
 //! - `wit_order`: Forests of witnesses: trees in order, each once.
 //! - `wit_trees`: What the forest of a formula is: at a node under an environment, the trees of what makes it hold there.
 //! - `wit_steps`: One step on the way to a forest: which parts of the formula, at which nodes, a part leads to (`kids`),
-//!   what an atom touches (`put_own`), and which values a quantified variable has, read off a set (`values_in`).
-//! - `reach_laws`: The nodes that an until comes to, which forests are united over, are those that walks come to.
+//!   what an atom touches (`put_own`), and which values a set assigns to a quantified variable (`values_in`).
+//! - `reach_laws`: The nodes that an until reaches, whose forests are united, are those that walks reach.
 #![tactic(auto)]
 
 mod fault;

@@ -1,4 +1,4 @@
-// What is still to be looked at, each once.
+// The states that are still to be explored, each once.
 ghost use Rattle.std.specs.Prelude.{◌≡◌, ◌<◌, true, false, length, slice_get, Some, IfOk, [], ◌∷◌, ◌++◌, if◌then◌else◌, fold};
 ghost use Rattle.smpl_terms.specs.Environments.{total};
 ghost use Rattle.wit_forest.specs.Gathered.{Covered, IsAdded};
@@ -55,7 +55,7 @@ impl Hash for State {
     }
 }
 
-/// Feeds the places of an environment, and nothing of its terms.
+/// Feeds the places in an environment, and nothing of its terms, to the hasher.
 fn feed_value<H: Hasher>(v: &Value, state: &mut H)
     ensures { state.new ≡ fold H.write state.old (value_input v.now) }
 {
@@ -73,7 +73,7 @@ fn feed_env<H: Hasher>(env: &Env, state: &mut H)
     }
 }
 
-/// States in the order in which they came, each once. Contracts see the list.
+/// States in the order in which they were added, each once. Contracts see the list.
 #[derive(Drop)]
 pub struct States {
     items: IndexSet<State>,
@@ -121,7 +121,7 @@ impl States {
         Ok(())
     }
 
-    /// Adds a state behind the others, unless it is there.
+    /// Appends a state, unless it is already in the list.
     pub fn add(&mut self, alloc: Global, part: usize, node: u32, env: &Env) -> Result<(), NoMemory>
         ensures states { IfOk result (λ _. self.new ≡ with_state self.old (record { part = part; node = node; env = env.now })) }
         ensures covered { IfOk result (λ _. Covered self.new part node (total env.now)) }

@@ -1,15 +1,15 @@
 //! Forests of witnesses: trees in order, each once.
 //!
-//! A forest is a set of trees. It is kept as the one list of them that rises in [`witness_order`]: [`distinct`] makes it
-//! of trees in any order, and two such lists with the same trees are the same one by one ([`one_list_a_forest`]). Trees
-//! are the same where their terms are, ids aside.
+//! A forest is a set of trees. It is kept as the one list of its trees that is ascending in [`witness_order`]: [`distinct`]
+//! makes this list from trees in any order, and two such lists with the same trees have the same elements one by one
+//! ([`one_list_a_forest`]). Trees are the same if their terms are, ids aside.
 //!
 //! ```text
 //!       touch 2 0 2.1  <  bind 2 x = a  <  bind 2 x = b  <  touch 5 1 2.3
 //! ```
 //!
-//! [`within`] says whether a forest is larger than a budget, and what is left of it. Gathering a
-//! forest is for wit_forest.
+//! [`within`] says whether a forest is larger than a budget, and what is left of the budget. Forests are gathered by
+//! `forest` of wit_forest.
 #![tactic(auto)]
 
 mod laws;

@@ -21,7 +21,7 @@ bind_lines node x v under blanks =
     ap (λ t. tree_lines t blanks) (sym (rolls-Bind node x v under)) ∙ ap (λ f. f blanks) (fold-roll-Witness (List ℕ → List ℕ) tree_step _)
     ∙ ap (λ more. blanks ++ bind_line node x v ++ more) (flat_map-map (λ f. f (blanks ++ 32 ∷ [])) tree_lines under)
 
--- a tree whose first line and whose trees below are written
+-- a tree whose first line and whose subtrees are written
 pub bind_whole : (start indented begun end : List ℕ) (node : ℕ) (x : Var) (v : Value) (under items : List Witness) (blanks inner : List ℕ) (n : ℕ) (t : Witness)
     → t ≡ Bind node x v under → indented ≡ start ++ blanks → begun ≡ indented ++ bind_line node x v
     → items ≡ under → inner ≡ blanks ++ 32 ∷ [] → length items ≤ n

@@ -29,7 +29,7 @@ present (x ∷ xs) name m h e = by (same_bytes m x) (same_bytes name x) (λ k. p
     by false true next p q k = let along = bytes-along m name e x in absurd (cc)
     by false false next p q k = next k
 
--- a name more in a set
+-- one more name in a set
 pub has_more : (names : List (List ℕ)) (name m : List ℕ) → has_name (names ++ name ∷ []) m ≡ (has_name names m || same_bytes name m)
 has_more names name m = let e = list_any-append (same_bytes m) names (name ∷ []) in by (same_bytes m name) refl e
   where
@@ -38,7 +38,7 @@ has_more names name m = let e = list_any-append (same_bytes m) names (name ∷ [
     by true h e = let s = bytes-sym m name in grind (arith, s, h, e)
     by false h e = let s = bytes-sym m name in grind (arith, s, h, e)
 
--- a name that is there already
+-- a name that is already in the set
 pub has_again : (names : List (List ℕ)) (name m : List ℕ) → has_name names name ≡ true → has_name names m ≡ (has_name names m || same_bytes name m)
 has_again names name m h = by (same_bytes m name) refl
   where
@@ -57,7 +57,7 @@ own_it n ws w e = own_more n ws w ∙ ap (λ b. own n ws ++ cond b (w ∷ []) []
 own_not : (n : ℕ) (ws : List RuleWitness) (w : RuleWitness) → eqb w.rule n ≡ false → own n (ws ++ w ∷ []) ≡ own n ws
 own_not n ws w e = own_more n ws w ∙ ap (λ b. own n ws ++ cond b (w ∷ []) []) e ∙ append-nil (own n ws)
 
--- a witness of one of the rules goes to its rule
+-- a witness of one of the rules is added to its rule's group
 pub group_more : (count : ℕ) (ws : List RuleWitness) (w : RuleWitness) (groups : List (List RuleWitness)) → w.rule < count → AreGroups count ws groups
     → AreGroups count (ws ++ w ∷ []) (set groups w.rule (get_or groups w.rule [] ++ w ∷ []))
 group_more count ws w groups lt are = record {
@@ -75,7 +75,7 @@ group_more count ws w groups lt are = record {
     by n below (inr (e, other)) =
         get_or-set_other groups w.rule n (get_or groups w.rule [] ++ w ∷ []) [] (λ s. other (sym s)) ∙ are.each n below ∙ sym (own_not n ws w e)
 
--- a witness of another rule goes nowhere
+-- a witness of any other rule is added to no group
 pub group_none : (count : ℕ) (ws : List RuleWitness) (w : RuleWitness) (groups : List (List RuleWitness)) → count ≤ w.rule → AreGroups count ws groups
     → AreGroups count (ws ++ w ∷ []) groups
 group_none count ws w groups le are = record {
@@ -87,7 +87,7 @@ group_none count ws w groups le are = record {
     by n below (inl (e, same)) = absurd (omega (arith, same, below, le))
     by n below (inr (e, other)) = are.each n below ∙ sym (own_not n ws w e)
 
--- a set that gains a name which it lacks
+-- a set to which a missing name is added
 pub has_put : {K : Type 0} (f : K → List ℕ) (keys new : List K) (k : K) (name m : List ℕ) → f k ≡ name → has_name (map f keys) name ≡ false
     → new ≡ cond (list_any (λ x. pointwise nat_eq (f k) (f x)) keys) keys (keys ++ k ∷ [])
     → has_name (map f new) m ≡ (has_name (map f keys) m || same_bytes name m)
@@ -95,12 +95,12 @@ has_put f keys new k name m e h is =
     let added : map f new ≡ with_name (map f keys) name = ap (map f) is ∙ put-new f keys k name e h in
     ap (λ names. has_name names m) (added ∙ rw h refl) ∙ has_more (map f keys) name m
 
--- what a look at one witness more does
+-- what processing one more witness does
 pub group_next : (count i : ℕ) (ws : List RuleWitness) (w : RuleWitness) (groups : List (List RuleWitness)) → i < length ws → get_or ws i w ≡ w
     → AreGroups count (take i ws ++ w ∷ []) groups → AreGroups count (take (i + 1) ws) groups
 group_next count i ws w groups lt is are = rw (take_more ws i w lt, is) are
 
--- the groups behind borrows: the witness goes to its own, or nowhere
+-- the groups that the borrows lead to: the witness is added to its own group, or to none
 pub group_put : {Z : Type 0} (count : ℕ) (before : List RuleWitness) (groups : List (Vec (Bor RuleWitness) Z)) (w : Bor RuleWitness) (old new : Vec (Bor RuleWitness) Z)
     → w.now.rule < length groups → old ≡ get_or groups w.now.rule old → new.items ≡ old.items ++ w ∷ []
     → AreGroups count before (shown_groups groups) → AreGroups count (before ++ w.now ∷ []) (shown_groups (set groups w.now.rule new))

@@ -8,7 +8,7 @@ use Rattle.smpl_patch.specs.declared.witness.RuleWitness.{RuleWitness}
 abbrev pub own : ℕ → List RuleWitness → List RuleWitness
 own n witnesses = filter (λ w. eqb w.rule n) witnesses
 
--- for each of so many rules its witnesses
+-- one group for each of `count` rules, with the rule's witnesses
 pub record AreGroups (count : ℕ) (witnesses : List RuleWitness) (groups : List (List RuleWitness)) : Type 0 where
   pub many : length groups ≡ count
   pub each : (n : ℕ) → n < count → get_or groups n [] ≡ own n witnesses

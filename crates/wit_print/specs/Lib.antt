@@ -1,4 +1,4 @@
 -- What the contract rests on: the report of a file.
 pub mod Report
--- For inside use: the witnesses of each rule, by its number.
+-- For internal use: the witnesses of each rule, by its number.
 pub mod Groups

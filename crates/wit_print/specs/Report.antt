@@ -1,4 +1,5 @@
--- The report of a file: for each rule of the patch a line, and under it its witnesses, each with its variables and its forest.
+-- The report of a file: one line for each rule of the patch, and under it the rule's witnesses, each with its variables and
+-- its forest.
 use Rattle.std.specs.Prelude.{ℕ, zero, suc, ◌+◌, Bool, ◌||◌, eqb, List, [], ◌∷◌, ◌++◌, Option, None, Some, if◌then◌else◌, codes}
 use Rattle.std.specs.Fmt.{decimal}
 use Rattle.std.specs.List.{filter, flat_map, list_any}
@@ -31,7 +32,7 @@ value_text (Place id) = codes "#" ++ decimal id
 abbrev pub steps_text : List ℕ → List ℕ
 steps_text = flat_map (λ n. codes "." ++ decimal n)
 
--- child numbers parted by dots; `-` where there are none
+-- child numbers separated by dots; `-` if there are none
 abbrev pub path_text : List ℕ → List ℕ
 path_text [] = codes "-"
 path_text (n ∷ ns) = decimal n ++ steps_text ns
@@ -44,7 +45,7 @@ touch_line node atom path = line (codes "touch " ++ decimal node ++ codes " " ++
 abbrev pub bind_line : ℕ → Var → Value → List ℕ
 bind_line node x value = line (codes "bind " ++ decimal node ++ codes " " ++ x.name ++ codes " = " ++ value_text value)
 
--- the lines of a tree of witnesses; the first one begins with these blanks, and what is under it with one more
+-- the lines of a tree of witnesses; the first line begins with these blanks, and the lines under it with one more
 abbrev pub tree_step : Witness-F (List ℕ → List ℕ) → List ℕ → List ℕ
 tree_step (Witness-F.Touch node atom path) blanks = blanks ++ touch_line node atom path
 tree_step (Witness-F.Bind node x value under) blanks = blanks ++ bind_line node x value ++ flat_map (λ f. f (blanks ++ codes " ")) under
@@ -54,17 +55,17 @@ tree_lines = fold-Witness (List ℕ → List ℕ) tree_step
 
 -- ---- variables
 
--- the rule inherits it, or later rules inherit it
+-- the rule inherits the variable, or later rules inherit it
 abbrev pub is_reported : List Var → VarDecl → Bool
 is_reported exports d = d.inherited || list_any (λ x. same_bytes x.name d.var.name) exports
 
--- the name of the rule of this number
+-- the name of the rule with this number
 abbrev pub rule_name : List Rule → ℕ → List ℕ
 rule_name [] n = []
 rule_name (r ∷ rs) zero = r.name
 rule_name (r ∷ rs) (suc n) = rule_name rs n
 
--- an inherited variable bears the name of its rule
+-- an inherited variable is prefixed with the name of its rule
 abbrev pub reported_name : List Rule → VarDecl → List ℕ
 reported_name rules d = (if d.inherited then rule_name rules d.var.rule ++ codes "." else []) ++ d.var.name
 

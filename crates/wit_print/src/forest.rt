@@ -7,7 +7,8 @@ use c_terms::{NoMemory, TreePath};
 use smpl_patch::Witness;
 use smpl_terms::{Value, Var};
 
-/// Writes a tree of witnesses; its first line begins with these blanks, which stay as they are. Recurses once a level.
+/// Writes a tree of witnesses. Its first line begins with the bytes of `blanks`, which are unchanged afterwards. Recurses
+/// once per level.
 #[tactic(auto, using(crate::proofs::Lines::touch_lines, crate::proofs::Lines::bind_lines))]
 pub fn put_tree(report: &mut Report, tree: &Witness, blanks: &mut Vec<u8>) -> Result<(), NoMemory>
     ensures lines { OnOk result (report.new ≡ report.old ++ tree_lines tree.now blanks.old.items) }

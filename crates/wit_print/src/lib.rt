@@ -10,7 +10,7 @@
 //!   touch 2 0 2.1
 //! ```
 //!
-//! Only memory may be wanting. [`print`] recurses once a level of a forest, and once a level of a term.
+//! [`print`] fails only when out of memory. It recurses once per level of a forest, and once per level of a term.
 #![tactic(auto)]
 
 mod forest;

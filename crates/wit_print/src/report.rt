@@ -1,4 +1,4 @@
-// A report as far as it is written, and its smallest parts.
+// A report under construction, and its smallest parts.
 ghost use Rattle.std.specs.Prelude.{◌≡◌, ◌++◌, ◌∷◌, [], OnOk};
 ghost use Rattle.std.specs.Fmt.{decimal};
 ghost use Rattle.wit_print.specs.Report.{value_text, path_text};

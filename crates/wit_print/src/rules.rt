@@ -16,15 +16,16 @@ use smpl_patch::{Patch, Rule, RuleWitness, VarDecl, Witness};
 use smpl_terms::{Env, Value, Var};
 use std::alloc::Global;
 
-/// The report of a file of this name: a line `file NAME`, in which the name is escaped; for each rule of the patch, by number, `rule N NAME`, or `-` for
-/// a rule without a name, and under it its witnesses in their order, each with `at ITEM NODE`, its variables and its
-/// forest. A variable that the rule inherits, and one that later rules inherit, has a line ` let x = v`, in the order of
-/// the declarations, unless the witness has no value for it; an inherited one is written `r.x`. In a forest a line begins
-/// with as many blanks as its depth, from 1: `touch NODE ATOM PATH` or `bind NODE x = v`. A value is a term written out,
-/// or `#` and the id of a token; a path is child numbers parted by dots, or `-`.
+/// Returns the report of a file with this name. It has a line `file NAME`, in which the name is escaped. For each rule of
+/// the patch, by number, it has a line `rule N NAME`, with `-` for a rule without a name, and under it the rule's witnesses
+/// in their order, each with a line `at ITEM NODE`, its variables and its forest. Each variable that the rule inherits or
+/// that later rules inherit has a line ` let x = v`, in the order of the declarations, unless the witness has no value for
+/// it; an inherited variable is written `r.x`. In a forest, a line begins with as many blanks as its depth, counted from 1,
+/// and reads `touch NODE ATOM PATH` or `bind NODE x = v`. A value is a term written out, or `#` and the id of a token; a
+/// path is a sequence of child numbers separated by dots, or `-`.
 ///
-/// Linear in the report, but for the look-ups of values, each linear in its environment. Recurses once a level of a forest
-/// and of a term. Only memory may be wanting. The form is the project's own.
+/// Linear in the report, except for the look-ups of values, each of which is linear in its environment. Recurses once per
+/// level of a forest and of a term. Fails only when out of memory. The form is the project's own.
 pub fn print(
     alloc: Global,
     patch: &Patch,
@@ -45,7 +46,7 @@ pub fn print(
     Ok(report.finish())
 }
 
-/// The witnesses of each rule.
+/// Returns the witnesses of each rule.
 fn by_rule<'a>(
     alloc: Global,
     count: usize,
@@ -63,7 +64,7 @@ fn by_rule<'a>(
     Ok(groups)
 }
 
-/// One more witness.
+/// Adds one more witness to the group of its rule, if there is such a rule.
 fn put_own<'a>(groups: &mut Vec<Vec<&'a RuleWitness>>, w: &'a RuleWitness) -> Result<(), NoMemory>
     ensures { OnOk result ((count : ℕ) (before : List RuleWitness) → AreGroups count before (shown_groups groups.old.items)
         → AreGroups count (before ++ w.now ∷ []) (shown_groups groups.new.items)) }
@@ -110,14 +111,14 @@ fn put_witnesses(
     Ok(())
 }
 
-/// `-` for a rule without a name.
+/// Returns the name, or `-` for a rule without a name.
 fn shown_name(name: &[u8]) -> &[u8]
     ensures { result.now ≡ shown_name name.now }
 {
     if name.is_empty() { b"-" } else { name }
 }
 
-/// The variables that the rule inherits, and those that later rules inherit.
+/// Returns the variables that the rule inherits and those that later rules inherit.
 #[tactic(auto, using(std::proofs::lemmas::List::Elements::filter_more))]
 fn reported<'a>(alloc: Global, rule: &'a Rule) -> Result<Vec<&'a VarDecl>, NoMemory>
     ensures { IfOk result (λ vars. map (λ d. d.now) vars.items ≡ filter (is_reported rule.now.exports) rule.now.vars) }
@@ -138,7 +139,7 @@ fn is_reported(exports: &IndexSet<Vec<u8>>, d: &VarDecl) -> bool
     d.inherited || exports.contains(d.var.name.as_bytes())
 }
 
-/// The names of variables, as a set.
+/// Returns the names of the variables, as a set.
 #[tactic(auto, using(std::proofs::lemmas::List::Folds::list_any_more))]
 fn names_of(alloc: Global, vars: &[Var]) -> Result<IndexSet<Vec<u8>>, NoMemory>
     ensures { IfOk result (λ names. (name : List ℕ) →
@@ -193,7 +194,7 @@ fn put_lets(
     Ok(())
 }
 
-/// The line of a variable, if it has a value.
+/// Writes the line of a variable, if it has a value.
 fn put_let(
     report: &mut Report,
     rules: &[Rule],
@@ -216,7 +217,7 @@ fn put_let(
     report.put(b"\n")
 }
 
-/// The name of a rule; empty where there is no such rule.
+/// Returns the name of a rule, or the empty name if there is no such rule.
 #[tactic(auto, using(crate::proofs::Lines::name_of_rule, crate::proofs::Lines::name_of_no_rule))]
 fn rule_name(rules: &[Rule], n: usize) -> &[u8]
     ensures { result.now ≡ rule_name rules.now n }

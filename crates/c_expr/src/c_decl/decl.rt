@@ -8,7 +8,7 @@ use c_rows::Kind;
 use c_terms::{Names, Token, Tree};
 use std::alloc::Global;
 
-/// The one declaration that spells the tokens `from..to`: C11 6.7, with the forms of patterns. Its cost is that of
+/// Returns the one declaration that spells the tokens `from..to` (C11 6.7), with the forms of patterns. Costs as much as
 /// [`parse_kind`].
 pub fn parse_decl(
     alloc: Global,

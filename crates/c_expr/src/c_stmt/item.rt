@@ -8,8 +8,8 @@ use c_rows::Kind;
 use c_terms::{Names, Token, Tree};
 use std::alloc::Global;
 
-/// The one item that spells the tokens `from..to`: a function, a declaration, a macro's item or function, or a `;`
-/// (C11 6.9), with the forms of patterns. Its cost is that of [`parse_kind`].
+/// Returns the one item that spells the tokens `from..to`: a function, a declaration, a macro's item or function, or a `;`
+/// (C11 6.9), with the forms of patterns. Costs as much as [`parse_kind`].
 pub fn parse_item(
     alloc: Global,
     tokens: &[Token],

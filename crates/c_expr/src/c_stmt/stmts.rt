@@ -8,8 +8,8 @@ use c_rows::Kind;
 use c_terms::{Names, Token, Tree};
 use std::alloc::Global;
 
-/// The one list of statements that spells the tokens `from..to`: C11 6.8, with the forms of patterns. It may be empty.
-/// Its cost is that of [`parse_kind`].
+/// Returns the one list of statements that spells the tokens `from..to` (C11 6.8), with the forms of patterns. The list
+/// may be empty. Costs as much as [`parse_kind`].
 pub fn parse_stmts(
     alloc: Global,
     tokens: &[Token],

@@ -13,7 +13,7 @@ use sqlite_items::{Items, at};
 use std::alloc::Global;
 use std::marker::Model;
 
-/// The graphs of a file's items that are made so far. Contracts see the items, and for each its graph, if it is made.
+/// The graphs of a file's items that have been made so far. Contracts see the items, and for each its graph if it is made.
 #[derive(Drop)]
 pub struct Graphs<'a> {
     file: &'a CFile,
@@ -36,7 +36,7 @@ impl<'a> Model for Graphs<'a> {
     ghost invariant = { λ a. AreMade a.file.now.items a.made };
 }
 
-/// As many places, with no graph.
+/// Returns `count` places, none with a graph.
 fn places<'a>(alloc: Global, count: usize) -> Result<Items<Option<Graph<'a>>>, NoMemory>
     ensures count { IfOk result (λ made. length made ≡ count) }
     ensures none { IfOk result (λ made. All (λ graph. graph ≡ None) made) }
@@ -49,7 +49,7 @@ fn places<'a>(alloc: Global, count: usize) -> Result<Items<Option<Graph<'a>>>, N
 }
 
 impl<'a> Graphs<'a> {
-    /// None of them is made yet. Takes a place for each item.
+    /// Returns the graphs of a file's items, none of which is made yet. Takes a place for each item.
     pub fn new(alloc: Global, file: &'a CFile) -> Result<Graphs<'a>, NoMemory>
         ensures items { IfOk result (λ graphs. graphs.items ≡ file.now.items) }
     {
@@ -57,7 +57,8 @@ impl<'a> Graphs<'a> {
         Ok(Graphs { file, made })
     }
 
-    /// The tree of an item, if the item has one: its graph has fewer than 2^32 nodes. Takes no memory, and makes no graph.
+    /// Returns the tree of an item, if the item has one. Its graph has fewer than 2^32 nodes. Takes no memory, and makes no
+    /// graph.
     #[tactic(auto, using(crate::proofs::ItemGraphs::TreeLemmas::trees_few))]
     pub fn tree(&self, i: usize) -> Option<&Tree>
         ensures tree { option_copied result ≡ item_tree (slice_get self.now.items i) }
@@ -79,8 +80,8 @@ impl<'a> Graphs<'a> {
         }
     }
 
-    /// Makes the graph of an item, unless it is made. The one error is want of memory, and leaves all as it was. Costs one
-    /// [`CFile::graph`], the first time.
+    /// Makes the graph of an item, unless it is made already. Fails only when out of memory, and then changes nothing. Costs
+    /// one [`CFile::graph`] the first time.
     pub fn make(&mut self, alloc: Global, i: usize) -> Result<(), NoMemory>
         requires within { i < length self.old.items }
         ensures items { self.new.items ≡ self.old.items }
@@ -95,7 +96,7 @@ impl<'a> Graphs<'a> {
         Ok(())
     }
 
-    /// The graph of an item, if the item has a tree. Takes no memory.
+    /// Returns the graph of an item, if the item has a tree. Takes no memory.
     pub fn get(&self, i: usize) -> Option<&Graph<'a>>
         requires made { IsMade self.now i }
         ensures graph { option_copied result ≡ item_graph (slice_get self.now.items i) }

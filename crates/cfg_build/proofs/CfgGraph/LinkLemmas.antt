@@ -1,4 +1,4 @@
--- Lists that are kept in one list: one list more, and the list of a number.
+-- Lists that are kept in one list: one more list, and the list of a number.
 use Rattle.std.proofs.Common.{◌≡◌, ℕ, zero, suc, ◌+◌, ◌-◌, ◌<◌, ◌≤◌, refl, sym, ap, subst, ◌∙◌, arith, List, [], ◌∷◌, ◌++◌, length, take, drop, get_or, length-append, Some, slice_get}
 use Rattle.std.specs.List.{slice_range}
 use Rattle.std.proofs.lemmas.List.{length-take-le, length-drop, take-append-le, drop-append-le, drop-take, take-take}
@@ -9,7 +9,7 @@ ends-rise : (from : ℕ) (es : List ℕ) → AreEnds from es → from ≤ last_e
 ends-rise from [] h = omega arith
 ends-rise from (e ∷ es) h = let r = ends-rise e es h.1 in let l = h.0 in omega arith
 
--- what stands before n stays
+-- what is before n stays
 range-more : (i j n : ℕ) (xs ys : List ℕ) → i ≤ j → j ≤ n → n ≤ length xs → slice_range (take n xs ++ ys) i j ≡ slice_range xs i j
 range-more i j n xs ys lo hi w =
     let l = length-take-le n xs w in
@@ -46,7 +46,7 @@ last-snoc : (from : ℕ) (es : List ℕ) (e : ℕ) → last_end from (es ++ e �
 last-snoc from [] e = refl
 last-snoc from (d ∷ es) e = last-snoc d es e
 
--- one list more
+-- one more list
 row-pushed : (ends xs ys : List ℕ) → AreKept ends (length xs)
     → lists_of 0 (ends ++ length (take (last_end 0 ends) xs ++ ys) ∷ []) (take (last_end 0 ends) xs ++ ys) ≡ lists_of 0 ends xs ++ ys ∷ []
 row-pushed ends xs ys k =
@@ -87,7 +87,7 @@ last-get from (e ∷ (f ∷ es)) x h =
     let k : length (e ∷ f ∷ es) - 1 ≡ suc (length (f ∷ es) - 1) = omega arith in
     last-get e (f ∷ es) x (h ∙ ap (slice_get (e ∷ f ∷ es)) k)
 
--- one list more, as the code puts it
+-- one more list, as the code appends it
 pub pushed : (ends xs ys ends' xs' : List ℕ) (from end : ℕ) → AreKept ends (length xs) → from ≡ last_end 0 ends → xs' ≡ take from xs ++ ys → end ≡ length xs' → ends' ≡ ends ++ end ∷ []
     → (lists_of 0 ends' xs' ≡ lists_of 0 ends xs ++ ys ∷ []) × AreKept ends' (length xs')
 pushed ends xs ys ends' xs' from end k f x n e =

@@ -70,7 +70,7 @@ in-subtree (i ∷ path) t s x e h = below-child t s x i path (λ c f. in-subtree
 itself : (t : Tree) → Contains (terms_in t) t
 itself t = let b = terms-first t in subst (λ ts. Contains ts t) (sym b.1) (first t b.0)
 
--- the run of all members between, among the runs that begin with those before
+-- the run of all members in between, among the runs that begin with those before
 in-after : (l : Label) (before : List Member) (m : Member) (more after : List Member) → Contains (runs_after l before (m ∷ more ++ after)) (run l (before ++ m ∷ more))
 in-after l before m [] after = first (run l (before ++ m ∷ [])) (runs_after l (before ++ m ∷ []) after)
 in-after l before m (k ∷ more) after =

@@ -1,4 +1,4 @@
--- The paths of nodes that are kept: a path is that of the node which tells the seat, and perhaps one step more.
+-- The paths of nodes that are kept: a path is that of the node to which the seat refers, and perhaps one step more.
 use Rattle.std.proofs.Common.{◌≡◌, ℕ, zero, suc, ◌+◌, ◌≤◌, refl, sym, ap, ◌∙◌, arith, List, [], ◌∷◌, ◌++◌, length, get_or, reverse, append_assoc, length-append}
 use Rattle.std.proofs.lemmas.List.{reverse-append, get_or_append_left}
 use Rattle.cfg_build.specs.declared.cfg_graph.node.Seat.{Seat}
@@ -18,7 +18,7 @@ pub seated-snoc : (ns : List NodeEntry) (n : NodeEntry) → AreSeated ns → sea
 seated-snoc ns n h s k =
     let r = seated-from 0 ns n (λ j. let g = h j in omega (arith, g)) (omega arith) k in omega (arith, r)
 
--- a seat that earlier nodes tell stays where it is
+-- a seat that refers to earlier nodes keeps its path
 path_to-more : (paths more : List (List ℕ)) (s : Seat) → seat_needs s ≤ length paths → path_to (paths ++ more) s ≡ path_to paths s
 path_to-more paths more Item h = refl
 path_to-more paths more (With n) h = get_or_append_left paths more [] n (omega arith)
@@ -41,7 +41,7 @@ path-after done (m ∷ ns) (suc k) h =
 pub path-by : (ns : List NodeEntry) (k : ℕ) (s : Seat) → AreSeated ns → seat_at ns k ≡ s → path_of ns k ≡ path_to (paths_after [] ns) s
 path-by ns k s h e = path-after [] ns k (λ j. let g = h j in omega (arith, g)) ∙ ap (path_to (paths_after [] ns)) e
 
--- the node that tells a seat is an earlier one
+-- the node to which a seat refers is an earlier one
 pub earlier : (ns : List NodeEntry) (k : ℕ) (s : Seat) → AreSeated ns → seat_at ns k ≡ s → seat_needs s ≤ k
 earlier ns k s h e = let g = h k in let n = ap seat_needs e in omega (arith, g, n)
 

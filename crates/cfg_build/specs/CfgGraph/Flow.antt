@@ -21,7 +21,7 @@ past_of g n = slice_index_or g.past n None
 abbrev pub down_of : Flow → ℕ → List ℕ
 down_of g n = slice_index_or g.down n []
 
--- less than the first of them, if there is one
+-- n is less than the first of the numbers, if there is one
 abbrev pub IsBelow : ℕ → List ℕ → Type 0
 IsBelow n [] = Unit {0}
 IsBelow n (k ∷ ks) = n < k
@@ -31,7 +31,7 @@ abbrev pub IsRising : List ℕ → Type 0
 IsRising [] = Unit {0}
 IsRising (n ∷ ns) = IsBelow n ns × IsRising ns
 
--- successors in a graph of so many nodes: at least one, rising, each a node
+-- successors in a graph of `count` nodes: at least one, increasing, each a node
 pub record AreLinks (count : ℕ) (numbers : List ℕ) : Type 0 where
   pub some : 0 < length numbers
   pub rising : IsRising numbers

@@ -1,4 +1,4 @@
--- A few numbers, as they are kept.
+-- Short lists of numbers, as they are kept.
 use Rattle.std.specs.Prelude.{ℕ, List, take}
 use Rattle.cfg_build.specs.declared.cfg_graph.links.Kept.{Kept}
 use Rattle.cfg_build.specs.declared.cfg_graph.links.Kept.TheVariants.{Few, Many}

@@ -34,11 +34,11 @@ paths_in labels = map (λ l. l.path) labels
 abbrev pub path_at : List NodeLabel → ℕ → List ℕ
 path_at labels n = slice_index_or (paths_in labels) n []
 
--- the path to a seat that one of these nodes tells
+-- the path to a seat that refers to one of these nodes
 abbrev pub seat_path : List NodeLabel → Seat → List ℕ
 seat_path labels seat = path_to (paths_in labels) seat
 
--- a graph with one node more
+-- a graph with one more node
 abbrev pub with_node : Flow → NodeEntry → List ℕ → Option ℕ → List ℕ → Flow
 with_node g n succ past down = record {
   labels = g.labels ++ label_of (seat_path g.labels n.seat) n ∷ [];

@@ -11,12 +11,12 @@ abbrev pub last_end : ℕ → List ℕ → ℕ
 last_end from [] = from
 last_end from (e ∷ es) = last_end e es
 
--- none ends before the one that it follows
+-- no list ends before the one that it follows
 abbrev pub AreEnds : ℕ → List ℕ → Type 0
 AreEnds from [] = Unit {0}
 AreEnds from (e ∷ es) = (from ≤ e) × AreEnds e es
 
--- such ends in so many numbers
+-- such ends within `count` numbers
 pub record AreKept (ends : List ℕ) (count : ℕ) : Type 0 where
   pub rising : AreEnds 0 ends
   pub within : last_end 0 ends ≤ count

@@ -1,5 +1,5 @@
--- The tokens of a label's tree that are its node's own. What other nodes hold is left out: bodies, the statements of a
--- block, and the tail of `do`.
+-- The tokens of a label's tree that are its node's own. What belongs to other nodes is excluded: bodies, the statements of
+-- a block, and the tail of `do`.
 use Rattle.std.specs.Prelude.{ℕ, suc, ◌+◌, Bool, true, ◌&&◌, not, nat_eq, List, [], ◌∷◌, map, length, if◌then◌else◌}
 use Rattle.c_terms.specs.declared.label.Label.{Label}
 use Rattle.c_terms.specs.declared.token.Token.{Token}
@@ -20,7 +20,7 @@ is_own kind.Head l n i = not (is_body l n i) && not (is_tail l i)
 is_own kind.DoTail l n i = is_tail l i
 is_own _ l n i = true
 
--- the children from number i on whose numbers pass
+-- the children from number i on whose numbers pass the test
 abbrev pub kept : (ℕ → Bool) → ℕ → List Tree → List Tree
 kept test i [] = []
 kept test i (c ∷ cs) = if test i then c ∷ kept test (suc i) cs else kept test (suc i) cs

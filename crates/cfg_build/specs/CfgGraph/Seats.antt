@@ -1,4 +1,4 @@
--- Nodes as they are kept: each tells where its statement stands by an earlier node.
+-- Nodes as they are kept: each says where its statement is by an earlier node.
 use Rattle.std.specs.Prelude.{ℕ, suc, ◌≤◌, List, [], ◌∷◌, ◌++◌, Option, None, Some, slice_get, slice_index_or}
 use Rattle.cfg_build.specs.declared.cfg_graph.node.Seat.{Seat}
 use Rattle.cfg_build.specs.declared.cfg_graph.node.Seat.TheVariants.{Item, With, Child}
@@ -18,7 +18,7 @@ paths_after paths (n ∷ ns) = path_to paths n.seat ∷ paths_after (paths ++ pa
 abbrev pub path_of : List NodeEntry → ℕ → List ℕ
 path_of ns k = slice_index_or (paths_after [] ns) k []
 
--- how many nodes have to come before a seat
+-- how many nodes must come before a seat
 abbrev pub seat_needs : Seat → ℕ
 seat_needs Item = 0
 seat_needs (With n) = suc n
@@ -32,6 +32,6 @@ seat_in (Some n) = n.seat
 abbrev pub seat_at : List NodeEntry → ℕ → Seat
 seat_at ns k = seat_in (slice_get ns k)
 
--- each node's seat is told by an earlier node
+-- each node's seat refers to earlier nodes only
 abbrev pub AreSeated : List NodeEntry → Type 0
 AreSeated ns = (k : ℕ) → seat_needs (seat_at ns k) ≤ k

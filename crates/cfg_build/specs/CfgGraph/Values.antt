@@ -1,4 +1,4 @@
--- The values of a graph: the terms and places that a variable can stand for in it.
+-- The values of a graph: the terms and places to which a variable can be bound in it.
 use Rattle.std.specs.Prelude.{ℕ, List, [], ◌∷◌, ◌++◌, map}
 use Rattle.c_terms.specs.declared.label.Label.{Label}
 use Rattle.c_terms.specs.declared.shape.Shape.{Shape}
@@ -13,12 +13,12 @@ use Rattle.c_terms.specs.Places.{places}
 use Rattle.cfg_build.specs.declared.cfg_graph.label.NodeLabel.{NodeLabel}
 use Rattle.cfg_build.specs.CfgGraph.Flow.{Flow}
 
--- the runs that begin with the members before and go on with at least one more
+-- the runs that begin with the members `before` and continue with at least one more
 abbrev pub runs_after : Label → List Member → List Member → List Tree
 runs_after l before [] = []
 runs_after l before (m ∷ ms) = run l (before ++ m ∷ []) ∷ runs_after l (before ++ m ∷ []) ms
 
--- the runs of at least one member, by their first
+-- the runs of at least one member, by their first member
 abbrev pub runs_from : Label → List Member → List Tree
 runs_from l [] = []
 runs_from l (m ∷ ms) = runs_after l [] (m ∷ ms) ++ runs_from l ms
@@ -35,7 +35,7 @@ abbrev pub runs_at : Tree-F Tree → List Tree
 runs_at (Tree-F.Leaf token) = []
 runs_at (Tree-F.Branch l cs) = runs_of_shape (shape_of l) l cs
 
--- a tree, and its runs where it is a list of arguments or parameters
+-- a tree, and its runs if it is a list of arguments or parameters
 abbrev pub terms_at : Tree → List Tree
 terms_at t = t ∷ runs_at (out-Tree t)
 

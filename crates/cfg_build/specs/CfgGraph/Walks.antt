@@ -2,7 +2,7 @@
 use Rattle.std.specs.Prelude.{ℕ, ◌<◌, List, [], ◌∷◌, Contains}
 use Rattle.cfg_build.specs.CfgGraph.Flow.{Flow, count_of, succ_of}
 
--- each of the nodes is a successor of the one before it, the first of them of n
+-- each of the nodes is a successor of the one before it, and the first is one of n
 abbrev pub Follows : Flow → ℕ → List ℕ → Type 0
 Follows g n [] = Unit {0}
 Follows g n (k ∷ walk) = Contains (succ_of g n) k × Follows g k walk

@@ -1,4 +1,4 @@
-// A graph, and how one is made.
+// Graphs and their builder.
 ghost use Rattle.std.specs.Prelude.{◌≡◌, ◌<◌, ◌≤◌, [], Some, OnOk, IfOk, length, slice_get};
 ghost use Rattle.cfg_build.specs.CfgGraph.Flow.{Flow, IsSound, count_of, succ_of, past_of, down_of};
 ghost use Rattle.cfg_build.specs.CfgGraph.Seats.{seat_needs};
@@ -14,15 +14,15 @@ use sqlite_items::Items;
 use std::alloc::Global;
 use std::marker::Model;
 
-/// A graph in the making. Contracts see the four lists of its nodes so far: labels, successors, what is past them, and the
-/// entries of branches.
+/// A graph under construction. Contracts see the four lists of its nodes so far: labels, successors, what is past them, and
+/// the entries of branches.
 #[derive(Drop)]
 pub struct GraphBuilder<'a> {
     nodes: Vec<NodeEntry<'a>>,
     succ: LinkRows,
     past: Vec<Option<u32>>,
     down: LinkRows,
-    // what an exit names, an empty list of statements
+    // the tree that an exit names, an empty list of statements
     nothing: Tree,
 }
 
@@ -45,7 +45,7 @@ impl<'a> Model for GraphBuilder<'a> {
 }
 
 impl<'a> GraphBuilder<'a> {
-    /// No node. There is room for so many.
+    /// Returns a builder without nodes, with capacity for `room` nodes.
     pub fn new(alloc: Global, room: usize) -> Result<GraphBuilder<'a>, NoMemory>
         ensures none { IfOk result (λ g. g ≡ record { labels = []; succ = []; past = []; down = [] }) }
     {
@@ -62,7 +62,7 @@ impl<'a> GraphBuilder<'a> {
         })
     }
 
-    /// Puts one node more, whose seat is told by an earlier one. Where it answers NoMemory, what was made is of no use.
+    /// Appends a node, whose seat is the item or refers to an earlier node. After NoMemory the builder is of no use.
     pub fn push(
         &mut self,
         node: NodeEntry<'a>,
@@ -80,7 +80,7 @@ impl<'a> GraphBuilder<'a> {
         Ok(())
     }
 
-    /// The graph of these nodes. Takes no memory.
+    /// Returns the graph of these nodes. Takes no memory.
     pub fn into_graph(self) -> Graph<'a>
         requires sound { IsSound self }
         ensures same { result ≡ self.entry }
@@ -111,7 +111,7 @@ impl<'a> GraphBuilder<'a> {
     }
 }
 
-/// The tree that a node names.
+/// Returns the tree that a node names.
 fn tree_of<'b>(kind: NodeKind, tree: &'b Tree, nothing: &'b Tree) -> &'b Tree
     requires { nothing.now ≡ no_statements }
     ensures { result.now ≡ tree_of kind tree.now }
@@ -122,8 +122,8 @@ fn tree_of<'b>(kind: NodeKind, tree: &'b Tree, nothing: &'b Tree) -> &'b Tree
     }
 }
 
-/// A graph: for each node its label, its successors, what is past its statement, and the entries of
-/// its branches. Contracts see the four lists. Each node has a successor, and all numbers are nodes.
+/// A graph: for each node its label, its successors, what is past its statement, and the entries of its branches.
+/// Contracts see the four lists. Each node has a successor, and all numbers are nodes.
 #[derive(Drop)]
 pub struct Graph<'a> {
     rows: GraphBuilder<'a>,
@@ -144,7 +144,7 @@ impl<'a> Model for Graph<'a> {
 }
 
 impl<'a> Graph<'a> {
-    /// The number of nodes. Takes no memory.
+    /// Returns the number of nodes. Takes no memory.
     pub fn count(&self) -> u32
         ensures value { result ≡ count_of self.now }
         ensures sound { IsSound self.now }
@@ -152,7 +152,7 @@ impl<'a> Graph<'a> {
         self.rows.count() as u32
     }
 
-    /// The successors of a node, rising. There is at least one. Takes no memory.
+    /// Returns the successors of a node in increasing order. There is at least one. Takes no memory.
     pub fn succ(&self, n: u32) -> &[u32]
         requires in_range { n < count_of self.now }
         ensures value { result.now ≡ succ_of self.now n }
@@ -160,8 +160,8 @@ impl<'a> Graph<'a> {
         self.rows.succ.get(n as usize)
     }
 
-    /// The node past the statement of this one: where control comes that runs through it. An exit has none. Takes no
-    /// memory.
+    /// Returns the node past this node's statement: the one that control reaches after running through the statement. An
+    /// exit has none. Takes no memory.
     pub fn past(&self, n: u32) -> Option<u32>
         requires in_range { n < count_of self.now }
         ensures value { result ≡ past_of self.now n }
@@ -169,8 +169,8 @@ impl<'a> Graph<'a> {
         self.rows.past[n as usize]
     }
 
-    /// The first node of branch `branch` of this node's statement, if it has that branch: 0 is the body, or the first
-    /// statement of a block; 1 is what follows `else`, or the tail of `do`. Takes no memory.
+    /// Returns the first node of branch `branch` of this node's statement, if it has that branch: 0 is the body, or the
+    /// inside of a block; 1 is what follows `else`, or the tail of `do`. Takes no memory.
     pub fn down(&self, n: u32, branch: usize) -> Option<u32>
         requires in_range { n < count_of self.now }
         ensures value { result ≡ slice_get (down_of self.now n) branch }
@@ -178,7 +178,7 @@ impl<'a> Graph<'a> {
         self.rows.down.get(n as usize).get(branch).copied()
     }
 
-    /// What the node is. Takes no memory.
+    /// Returns the label of a node. Takes no memory.
     pub fn label(&self, n: u32) -> NodeLabel<'_>
         requires in_range { n < count_of self.now }
         ensures value { slice_get self.now.labels n ≡ Some result }

@@ -14,7 +14,7 @@ pub enum NodeKind {
     OpenBrace,
     /// `}`
     CloseBrace,
-    /// A statement without a body, or an item that is no function
+    /// A statement without a body, or an item that is not a function
     Simple,
     /// The head of a statement that has bodies: `if (c)`
     Head,
@@ -24,7 +24,7 @@ pub enum NodeKind {
     ExitNode,
 }
 
-/// The tree that a node names. It lies in the item, or is the exit's: an empty list of statements. It is lent, and contracts
+/// The tree that a node names: a part of the item, or an empty list of statements for the exit. It is borrowed, and contracts
 /// see the tree.
 #[derive(Drop)]
 pub struct NodeTree<'b> {
@@ -44,14 +44,14 @@ impl<'b> Model for NodeTree<'b> {
 }
 
 impl<'b> NodeTree<'b> {
-    /// This tree, which is lent. Takes no memory.
+    /// Borrows this tree. Takes no memory.
     pub(crate) fn of(tree: &'b Tree) -> NodeTree<'b>
         ensures value { result ≡ tree.now }
     {
         NodeTree { lent: tree }
     }
 
-    /// The tree. Takes no memory.
+    /// Returns the tree. Takes no memory.
     pub fn as_tree(&self) -> &'b Tree
         ensures value { result.now ≡ self.now }
     {
@@ -59,19 +59,19 @@ impl<'b> NodeTree<'b> {
     }
 }
 
-/// What a node is, which statement it names, and where that stands in the item. It is made of what the graph keeps, and
+/// What a node is, which statement it names, and where that is in the item. It is made from what the graph keeps, and
 /// takes no memory.
 #[derive(Drop)]
 pub struct NodeLabel<'b> {
     pub kind: NodeKind,
-    /// The statement or item that begins here. Of a head of a function it is the item, of a brace
-    /// its block, of a tail its `do`.
+    /// The statement or item that begins here. For the head of a function it is the item, for a brace its block, and for a
+    /// tail its `do`.
     pub tree: NodeTree<'b>,
-    /// The path of that tree from the item.
+    /// The path from the item to that tree.
     pub path: NodePath<'b>,
-    /// Whether a body that only leaves begins here: `return` or `goto` as the body of an `if`, or a
-    /// block that ends in one.
+    /// Whether a body that leaves begins here: `return` or `goto` as the body of an `if` without `else`, or a block that
+    /// ends in one.
     pub bail: bool,
-    /// The id of the `{` of a brace, and 0 elsewhere.
+    /// For a brace the id of the `{` of its block, and otherwise 0.
     pub brace: u64,
 }

@@ -1,4 +1,4 @@
-// What holds of the values of all graphs.
+// What holds of the values of every graph.
 ghost use Rattle.std.specs.Prelude.{◌≡◌, ◌++◌, ℕ, List, Some, slice_get, Contains};
 ghost use Rattle.c_terms.specs.declared.label.Label.{Label};
 ghost use Rattle.c_terms.specs.declared.list.Member.{Member};
@@ -20,8 +20,8 @@ pub fn labels_are_values()
     ensures places { (g : Flow) (n : ℕ) (l : NodeLabel) → slice_get g.labels n ≡ Some l → Contains (places_of g) l.brace }
 {}
 
-/// So are each subtree of a label's tree, each run of the members of a list in it, the empty run too, and the id of each of
-/// its tokens.
+/// Each subtree of a label's tree, each run of the members of a list in it, including the empty run, and the id of each of
+/// its tokens are values of its graph.
 pub fn parts_are_values()
     ensures subtrees { (g : Flow) (n : ℕ) (l : NodeLabel) (path : List ℕ) (t : Tree) → slice_get g.labels n ≡ Some l
         → subtree l.tree path ≡ Some t → Contains (terms_of g) t }

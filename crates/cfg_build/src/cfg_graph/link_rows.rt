@@ -7,7 +7,7 @@ use std::alloc::Global;
 use std::marker::Model;
 
 /// Lists of numbers, one for each node: all numbers one after another, and where each list ends. A list takes four bytes
-/// besides its numbers.
+/// in addition to its numbers.
 #[derive(Drop)]
 pub(crate) struct LinkRows {
     numbers: Vec<u32>,
@@ -26,7 +26,7 @@ impl Model for LinkRows {
 }
 
 impl LinkRows {
-    /// No list. There is room for so many lists, and for so many numbers in all.
+    /// Returns no lists, with capacity for `lists` lists and for `numbers` numbers in all.
     pub(crate) fn new(alloc: Global, lists: usize, numbers: usize) -> Result<LinkRows, NoMemory>
         ensures { IfOk result (λ rows. rows ≡ []) }
     {
@@ -35,11 +35,11 @@ impl LinkRows {
         Ok(LinkRows { numbers, ends })
     }
 
-    /// Puts one list more. Where all lists have more than 2^32 - 1 numbers in all, that is answered as want of memory.
+    /// Appends a list. Fails as if out of memory when all lists together would have more than 2^32 - 1 numbers.
     pub(crate) fn push(&mut self, list: &[u32]) -> Result<(), NoMemory>
         ensures { OnOk result (self.new ≡ self.old ++ list.now ∷ []) }
     {
-        // what a push that failed has left
+        // removes what a failed push has left
         let from = end_of(self.ends.as_slice());
         self.numbers.truncate(from);
         self.numbers.extend_from_slice(list)?;
@@ -51,7 +51,7 @@ impl LinkRows {
         Ok(())
     }
 
-    /// The list of this number.
+    /// Returns the list of this number.
     pub(crate) fn get(&self, n: usize) -> &[u32]
         requires { n < length self.now }
         ensures { result.now ≡ slice_index_or self.now n [] }
@@ -65,7 +65,7 @@ impl LinkRows {
     }
 }
 
-/// Where the last list ends.
+/// Returns where the last list ends.
 fn end_of(ends: &[u32]) -> usize
     ensures { result ≡ last_end 0 ends.now }
 {
@@ -75,7 +75,7 @@ fn end_of(ends: &[u32]) -> usize
     }
 }
 
-/// Where the list before this one ends.
+/// Returns where the list before this one ends.
 fn end_before(ends: &[u32], n: usize) -> usize
     requires { n ≤ length ends.now }
     ensures { result ≡ last_end 0 (take n ends.now) }

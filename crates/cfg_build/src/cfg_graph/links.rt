@@ -1,4 +1,4 @@
-// A few numbers of nodes.
+// Short lists of node numbers.
 ghost use Rattle.std.specs.Prelude.{◌≡◌, ◌≤◌, [], ◌∷◌};
 
 use std::marker::Model;
@@ -16,7 +16,7 @@ enum Kept {
     Many(Vec<u32>),
 }
 
-/// Numbers of nodes. Up to two stand in the value itself, as nearly every node's do.
+/// A list of node numbers. Up to two are stored inline, which is enough for nearly every node.
 #[derive(Drop)]
 pub struct Links {
     kept: Kept,
@@ -32,7 +32,7 @@ impl Model for Links {
 }
 
 impl Links {
-    /// No number. Takes no memory.
+    /// Returns an empty list. Takes no memory.
     pub fn none() -> Links
         ensures numbers { result ≡ [] }
     {
@@ -44,7 +44,7 @@ impl Links {
         }
     }
 
-    /// One number. Takes no memory.
+    /// Returns a list of one number. Takes no memory.
     pub fn one(number: u32) -> Links
         ensures numbers { result ≡ number ∷ [] }
     {
@@ -56,7 +56,7 @@ impl Links {
         }
     }
 
-    /// Two numbers in this order. Takes no memory.
+    /// Returns a list of two numbers in this order. Takes no memory.
     pub fn two(first: u32, second: u32) -> Links
         ensures numbers { result ≡ first ∷ second ∷ [] }
     {
@@ -68,7 +68,7 @@ impl Links {
         }
     }
 
-    /// These numbers. Takes no memory.
+    /// Returns a list of these numbers. Takes no memory.
     pub fn from_vec(numbers: Vec<u32>) -> Links
         ensures numbers { result ≡ numbers.items }
     {
@@ -77,7 +77,7 @@ impl Links {
         }
     }
 
-    /// The numbers. Takes no memory.
+    /// Returns the numbers. Takes no memory.
     pub fn as_slice(&self) -> &[u32]
         ensures numbers { result.now ≡ self.now }
     {

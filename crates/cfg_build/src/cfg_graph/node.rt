@@ -2,29 +2,29 @@
 use crate::cfg_graph::NodeKind;
 use c_terms::Tree;
 
-/// Where a node's statement stands in the item. Told by an earlier node whose statement holds it, so that no node keeps a
-/// list of numbers of its own.
+/// Where a node's statement is in the item. It refers to an earlier node whose statement contains it, so that no node
+/// keeps a list of numbers itself.
 #[derive(Clone, Copy)]
 pub enum Seat {
-    /// It is the item.
+    /// The statement is the item.
     Item,
-    /// It is the statement of this earlier node: a brace or a tail.
+    /// The statement is that of this earlier node, as for a closing brace or a tail.
     With(u32),
-    /// Of this earlier node's statement it is the child of this number.
+    /// The statement is the child of this number of this earlier node's statement.
     Child(u32, u32),
 }
 
-/// A node as it is kept. Of an exit `tree` says nothing.
+/// A node as it is kept. For an exit, `tree` has no meaning.
 #[derive(Clone, Copy)]
 pub struct NodeEntry<'a> {
     /// The statement or item that begins here, as a label has it.
     pub tree: &'a Tree,
-    /// The id of the `{` of a brace, and 0 elsewhere.
+    /// For a brace the id of the `{` of its block, and otherwise 0.
     pub brace: u64,
-    /// Where that statement stands.
+    /// Where that statement is.
     pub seat: Seat,
     /// What the node is.
     pub kind: NodeKind,
-    /// Whether a body that only leaves begins here.
+    /// Whether a body that leaves begins here.
     pub bail: bool,
 }

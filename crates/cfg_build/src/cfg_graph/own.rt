@@ -5,8 +5,8 @@ ghost use Rattle.cfg_build.specs.CfgGraph.Own.{is_own};
 use crate::cfg_graph::NodeKind;
 use c_terms::Label;
 
-/// Whether child `i` of the `n` children of a branch belongs to a node of this kind that names the branch. What other
-/// nodes hold does not: bodies, the statements of a block, and the tail of `do`. Takes no memory.
+/// Whether child `i` of the `n` children of a branch belongs to a node of this kind that names the branch. What belongs
+/// to other nodes is excluded: bodies, the statements of a block, and the tail of `do`. Takes no memory.
 pub fn is_own(kind: NodeKind, label: Label, n: usize, i: usize) -> bool
     requires in_range { i < n }
     ensures value { result ≡ is_own kind label n i }

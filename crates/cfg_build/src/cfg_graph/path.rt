@@ -1,4 +1,4 @@
-// Where a node's statement stands in the item.
+// Where a node's statement is in the item.
 ghost use Rattle.std.specs.Prelude.{◌≡◌, ◌<◌, IfOk, length, nat_eq, reverse};
 ghost use Rattle.cfg_build.specs.CfgGraph.Seats.{seat_at, path_of, AreSeated};
 
@@ -7,7 +7,7 @@ use c_terms::NoMemory;
 use std::alloc::Global;
 use std::marker::Model;
 
-/// The path of a node's statement from the item. It is kept as the nodes of the graph and a number, and takes no memory.
+/// The path from the item to a node's statement. It is kept as the nodes of the graph and a number, and takes no memory.
 /// Contracts see the child numbers.
 #[derive(Drop)]
 pub struct NodePath<'b> {
@@ -27,7 +27,7 @@ impl<'b> Model for NodePath<'b> {
 }
 
 impl<'b> NodePath<'b> {
-    /// The path of this node.
+    /// Returns the path of this node.
     pub(crate) fn of(nodes: &'b [NodeEntry<'b>], node: usize) -> NodePath<'b>
         requires inside { node < length nodes.now }
         requires seated { AreSeated nodes.now }
@@ -36,7 +36,7 @@ impl<'b> NodePath<'b> {
         NodePath { nodes, node }
     }
 
-    /// The child numbers, from the item downwards. It takes a step and a number for each.
+    /// Returns the child numbers, from the item downwards. Takes a step and a number for each.
     pub fn steps(&self, alloc: Global) -> Result<Vec<u32>, NoMemory>
         ensures value { IfOk result (λ steps. steps.items ≡ self.now) }
     {
@@ -45,8 +45,8 @@ impl<'b> NodePath<'b> {
         Ok(steps)
     }
 
-    /// Whether the path has one number, as that of a child of the item has. It takes a step for each, up to the second.
-    /// Takes no memory.
+    /// Whether the path has exactly one number, as the path of a child of the item does. Takes a step for each number, up to
+    /// the second, and no memory.
     pub fn has_one_step(&self) -> bool
         ensures value { result ≡ nat_eq (length self.now) 1 }
     {
@@ -54,7 +54,7 @@ impl<'b> NodePath<'b> {
     }
 }
 
-/// The seat of a node.
+/// Returns the seat of a node.
 fn seat_at(nodes: &[NodeEntry], node: usize) -> Seat
     ensures { result ≡ seat_at nodes.now node }
 {
@@ -64,7 +64,7 @@ fn seat_at(nodes: &[NodeEntry], node: usize) -> Seat
     }
 }
 
-/// The child numbers of the path of a node, from the node upwards.
+/// Returns the child numbers of the path of a node, from the node upwards.
 fn steps_up(alloc: Global, nodes: &[NodeEntry], node: usize) -> Result<Vec<u32>, NoMemory>
     requires inside { node < length nodes.now }
     requires seated { AreSeated nodes.now }
@@ -84,7 +84,7 @@ fn steps_up(alloc: Global, nodes: &[NodeEntry], node: usize) -> Result<Vec<u32>,
     }
 }
 
-/// Whether the path of a node has one number.
+/// Whether the path of a node has exactly one number.
 fn is_one_up(nodes: &[NodeEntry], node: usize) -> bool
     requires inside { node < length nodes.now }
     requires seated { AreSeated nodes.now }

@@ -54,7 +54,7 @@ use Rattle.ctl_fixpoint.specs.CtlHolds.BoundLaw.{SureStand}
 use Rattle.ctl_fixpoint.proofs.CtlHolds.TestLemmas.{or_cases, or_left, or_right, and_left, and_right, not_both, Contains-map, any_found}
 use Rattle.ctl_fixpoint.proofs.CtlHolds.TestLemmas.{any_has, all_has, any_weaker}
 
--- values of a tree of a label are values of the graph
+-- the values of a label's tree are values of the graph
 
 among-term : (g : Flow) (u : Tree) (v : Value) → Contains (terms_of g) u → same (Term u) v ≡ true
     → is_among (values_of g) v ≡ true
@@ -83,7 +83,7 @@ among-label g n l v e h = ⊎_elim
     among-place g a.0.id v (token-place g n l a.0 e a.1) a.2)
     (or_cases (list_any (λ u. same (Term u) v) (terms_in l.tree)) (list_any (λ (a : Token). same (Place a.id) v) (leaves l.tree)) h)
 
--- a value of a subtree against which a form is held is one of the tree
+-- a value of a subtree that a form is compared with is a value of the tree
 
 module _ (v : Value) where
   abbrev here : Spot_in → Bool
@@ -139,7 +139,7 @@ module _ (v : Value) where
   seat-value spot.Whole k t h = ⊎_elim (λ a. a) (λ b. not_both false b refl) (or_cases (has_value t v) false h)
   seat-value spot.Tail k t h = ⊎_elim (λ a. a) (λ b. not_both false b refl) (or_cases (has_value t v) false h)
 
--- a variable that stands in what is compared of a form is at one of the form's tokens
+-- a variable that occurs in what is compared of a form is at one of the form's tokens
 
 kept_step : (q : Tree → Bool) (test : ℕ → Bool) (i : ℕ) (c : Tree) (cs : List Tree) (b : Bool)
     → (list_any q (kept test (suc i) cs) ≡ true → list_any q cs ≡ true)
@@ -182,7 +182,7 @@ held_leaves q s = tree_cases
     (λ l cs h. held_branch q s l cs (is_parted s l)
     (sym (ap (λ y. list_any (λ t. list_any q (leaves t)) (held_at s y (Branch l cs))) (out-Branch l cs)) ∙ h))
 
--- and so the other forms that match have it as a sure one
+-- and so it is sure in the other forms that match
 
 all_any : (q : Var → Bool) (x : Var) (ys : List Var) → list_all q ys ≡ true → list_any (λ y. same_var y x) ys ≡ true
     → q x ≡ true
@@ -270,7 +270,7 @@ module _ (decls : List VarDecl) (tokens : List PatToken) (g : Flow) (p : Pattern
       (among-place g l.0.brace (env b) (label-place g s l.0 l.1) (and_right _ _ (and_left _ _ l.2))))
       (or_cases (sure decls tokens p x) (same_var b x) e)
 
--- the place of an open block is one of the graph's
+-- the place of an open block is one of the graph's values
 module _ (g : Flow) (v : Value) where
   open-among : (n : ℕ) → open_after g v n ≡ true → is_among (values_of g) v ≡ true
   open-among zero h = not_both false h refl

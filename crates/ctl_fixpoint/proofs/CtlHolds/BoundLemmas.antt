@@ -1,4 +1,4 @@
--- What a formula binds has a value of the graph: by induction on the formula, both polarities together.
+-- A variable that a formula binds has a value of the graph: by induction on the formula, both polarities together.
 use Rattle.std.proofs.Common.{◌≡◌, ℕ, suc, zero, ◌<◌, Bool, true, false, ◌&&◌, ◌||◌, not, cond, refl, sym, ap, ◌∙◌, subst}
 use Rattle.std.proofs.Common.{arith, List, [], ◌∷◌, length, map, Option, None, Some, slice_get, ◌⊎◌, ⊎_elim, Contains}
 use Rattle.std.proofs.lemmas.List.Elements.{Contains-append_right}
@@ -62,7 +62,7 @@ module _ (g : Flow) (ok : IsSound g) where
       until_end false p q m k.0 (node_after g ok s k.0 lt k.1) k.2)
       (or_cases (q s) _ h)
 
-  -- where it doesn't, its end doesn't hold here
+  -- where an until doesn't hold, its end doesn't hold here
   until_not : (every : Bool) (p q : ℕ → Bool) (m s : ℕ) → 0 < m → rounds g every p q m s ≡ false → q s ≡ false
   until_not every p q zero s pos h = absurd (omega (arith, pos))
   until_not every p q (suc m) s pos h = (or_false (q s) _ h).0

@@ -1,4 +1,4 @@
--- Path satisfaction at a small graph, above all where two readings would differ.
+-- Path satisfaction in a small graph, above all where two readings would differ.
 --
 --       0 head ─► 1 `{` ─► 2 if ─┬─► 3 (a bail) ─► 6 exit ─► 6
 --                                ├─► 4 while ─► 4
@@ -37,11 +37,11 @@ abbrev env : Environment
 env x = Place 7
 
 module _ (b : Var) where
-  -- the exit: no other node outside the block is without a body
+  -- the exit is the only node outside the block that has no body
   abbrev exit : Plain
   exit = And (Outside b) (Not (Down 0 True))
 
-  -- some walk leaves; a walk that stays in a loop for ever does not, so not every walk does
+  -- some walk leaves the function; a walk that stays in a loop forever does not, so not every walk does
   some_leave : at 8 (EU True exit) 0 env ≡ true
   some_leave = refl
 
@@ -65,28 +65,28 @@ module _ (b : Var) where
   way_broken : at 8 (EU (Not Bail) exit) 3 env ≡ false
   way_broken = refl
 
-  -- from node 0 the exit is the fifth node: a bound of four is too few, and one more than there are nodes is enough
+  -- from node 0 the exit is the fifth node: a bound of four is too small, and one more than the number of nodes is enough
   four_too_few : at 4 (EU True exit) 0 env ≡ false
   four_too_few = refl
 
   five_enough : at 5 (EU True exit) 0 env ≡ true
   five_enough = refl
 
-  -- one node more makes no difference once the bound is large, for a loop and its negation neither
+  -- once the bound is large, one more node makes no difference, neither for a loop nor for its negation
   loop_not : at 8 (Not (AU True exit)) 4 env ≡ true
   loop_not = refl
 
   loop_not_longer : at 30 (Not (AU True exit)) 4 env ≡ true
   loop_not_longer = refl
 
-  -- next is not past: past the `if` is the `}`, next are its branches
+  -- next is not past: past the `if` is the `}`, while next are its branches
   past_is_not_next : at 8 (Past (AX exit)) 2 env ≡ true
   past_is_not_next = refl
 
   next_is_not_past : at 8 (AX (AX exit)) 2 env ≡ false
   next_is_not_past = refl
 
-  -- where there is no such node, neither `Past` nor `Down` holds of anything
+  -- where there is no such node, neither `Past` nor `Down` holds for anything
   no_past : at 8 (Past True) 3 env ≡ false
   no_past = refl
 
@@ -99,14 +99,14 @@ module _ (b : Var) where
   second_body : at 8 (Down 1 Bail) 2 env ≡ false
   second_body = refl
 
-  -- a bail is a node's own mark; the `}` of a block is not outside of it yet
+  -- a bail is marked at the node itself; the `}` of a block is not outside it yet
   bail_there : at 8 (And (EX Bail) (Not Bail)) 2 env ≡ true
   bail_there = refl
 
   exit_there : at 8 exit 5 env ≡ false
   exit_there = refl
 
--- A block in a block, and where each node stands.
+-- A block in a block, and which nodes are inside and outside.
 --
 --       0 head   1 `{` of 7   2 a();   3 `{` of 9   4 b();   5 `}` of 9   6 c();   7 `}` of 7   8 exit
 abbrev brace : NodeKind → ℕ → NodeLabel
@@ -122,12 +122,12 @@ nested = record {
   down = [];
 }
 
--- at nodes 0 to 9, of which the last is none of the graph's, where each variable has the value
+-- at nodes 0 to 9, of which the last is not in the graph, if each variable has the value
 abbrev along : Plain → Value → List Bool
 along f v = map (λ s. holds [] [] nested 10 f s (λ x. v)) (0 ∷ 1 ∷ 2 ∷ 3 ∷ 4 ∷ 5 ∷ 6 ∷ 7 ∷ 8 ∷ 9 ∷ [])
 
 module _ (b : Var) where
-  -- from the `{` on, inner blocks and their braces too, up to the `}`, which is neither inside nor outside
+  -- inside from the `{` up to the `}`, inner blocks and their braces included; the `}` is neither inside nor outside
   outer_inside : along (Inside b) (Place 7)
       ≡ false ∷ true ∷ true ∷ true ∷ true ∷ true ∷ true ∷ false ∷ false ∷ false ∷ []
   outer_inside = refl
@@ -136,7 +136,7 @@ module _ (b : Var) where
       ≡ true ∷ false ∷ false ∷ false ∷ false ∷ false ∷ false ∷ false ∷ true ∷ false ∷ []
   outer_outside = refl
 
-  -- what follows the `}` is outside, in the outer block too
+  -- what follows the `}` is outside, even in the outer block
   inner_inside : along (Inside b) (Place 9)
       ≡ false ∷ false ∷ false ∷ true ∷ true ∷ false ∷ false ∷ false ∷ false ∷ false ∷ []
   inner_inside = refl
@@ -145,7 +145,7 @@ module _ (b : Var) where
       ≡ true ∷ true ∷ true ∷ false ∷ false ∷ false ∷ true ∷ true ∷ true ∷ false ∷ []
   inner_outside = refl
 
-  -- all is outside where the value is no brace's place, or no place
+  -- every node is outside if the value is not the place of a brace, or not a place
   no_inside : along (Inside b) (Place 8)
       ≡ false ∷ false ∷ false ∷ false ∷ false ∷ false ∷ false ∷ false ∷ false ∷ false ∷ []
   no_inside = refl

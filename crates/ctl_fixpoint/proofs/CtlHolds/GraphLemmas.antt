@@ -1,4 +1,4 @@
--- What a node leads to is a node.
+-- The successors of a node are nodes of the graph.
 use Rattle.std.proofs.Common.{◌≡◌, ℕ, suc, zero, ◌<◌, refl, sym, ap, ◌∙◌, subst, arith, List, [], ◌∷◌, length}
 use Rattle.std.proofs.Common.{get_or, Option, None, Some, slice_get, IfSome, Contains}
 use Rattle.cfg_build.specs.CfgGraph.Flow.{Flow, IsSound, count_of, succ_of, past_of, down_of}
@@ -7,7 +7,7 @@ first : (l : List ℕ) → 0 < length l → (k : ℕ) × Contains l k
 first [] h = absurd (omega (arith, h))
 first (k ∷ l) h = (k, (0, omega arith, refl))
 
--- a number of a list, by its place
+-- the number at a place of a list is in the list
 pub got : (l : List ℕ) (i k : ℕ) → slice_get l i ≡ Some k → Contains l k
 got [] i k e = absurd (cc)
 got (n ∷ l) zero k e = let same : n ≡ k = cc in (zero, omega arith, same)

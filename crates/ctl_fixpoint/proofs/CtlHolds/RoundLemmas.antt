@@ -1,4 +1,4 @@
--- Rounds grow, and as many as there are nodes are enough: more and more nodes pass, until a round adds none.
+-- Rounds grow, and as many rounds as there are nodes are enough: each round adds nodes, until one adds none.
 use Rattle.std.proofs.Common.{◌≡◌, ℕ, suc, zero, ◌+◌, ◌-◌, ◌<◌, ◌≤◌, Bool, true, false, ◌&&◌, ◌||◌, cond, refl, sym, ap}
 use Rattle.std.proofs.Common.{◌∙◌, subst, arith, List, [], ◌∷◌, ◌⊎◌, inl, inr, ⊎_elim, add-zero, add-suc, Contains}
 use Rattle.std.proofs.lemmas.Bool.{cases_lt}
@@ -8,11 +8,11 @@ use Rattle.ctl_fixpoint.proofs.CtlHolds.TestLemmas.{or_cases, or_left, or_right,
 use Rattle.ctl_fixpoint.proofs.CtlHolds.TestLemmas.{any_members, all_members}
 use Rattle.ctl_fixpoint.proofs.CtlHolds.GraphLemmas.{node_after}
 
--- what passes x passes y, below N
+-- what passes x passes y, for numbers below N
 abbrev pub Within : ℕ → (ℕ → Bool) → (ℕ → Bool) → Type 0
 Within N x y = (n : ℕ) → n < N → x n ≡ true → y n ≡ true
 
--- x and y agree below N
+-- x and y agree for numbers below N
 abbrev pub Agree : ℕ → (ℕ → Bool) → (ℕ → Bool) → Type 0
 Agree N x y = (n : ℕ) → n < N → x n ≡ y n
 
@@ -50,7 +50,7 @@ count-mono x y (suc n) s =
 below_or : (k n : ℕ) → k ≤ n → (k < n) ⊎ (k ≡ n)
 below_or k n h = ⊎_elim (λ lt. inl lt) (λ ge. inr (omega arith)) (cases_lt k n)
 
--- where no more pass, the same pass
+-- if no more nodes pass, the same nodes pass
 count-same : (x y : ℕ → Bool) (n : ℕ) → Within n x y → count y n ≤ count x n → Agree n x y
 count-same x y zero s h k lt = absurd (omega (arith, lt))
 count-same x y (suc n) s h k lt =
@@ -123,7 +123,7 @@ module _ (g : Flow) (ok : IsSound g) (every : Bool) where
         (λ s. inr (stable-next k s))
         (grown k)
 
-    -- a round more than there are nodes adds nothing
+    -- one round more than there are nodes adds nothing
     pub stable-count : Stable (count_of g)
     stable-count = ⊎_elim
         (λ h.

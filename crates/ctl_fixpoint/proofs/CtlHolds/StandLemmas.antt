@@ -1,4 +1,4 @@
--- Sure variables that stand nowhere: they are sure for the same reason as any other that stands nowhere.
+-- Sure variables that occur nowhere: they are sure for the same reason as any other variable that occurs nowhere.
 use Rattle.std.proofs.Common.{◌≡◌, ℕ, ◌<◌, Bool, true, false, ◌&&◌, ◌||◌, nat_lt, refl, sym, ap, ◌∙◌, List, [], ◌∷◌, ◌++◌, map}
 use Rattle.std.proofs.Common.{length, Contains, ⊎_elim}
 use Rattle.std.specs.List.{list_any, list_all}
@@ -31,7 +31,7 @@ use Rattle.ctl_fixpoint.specs.CtlHolds.BoundLaw.{SureStand}
 use Rattle.ctl_fixpoint.proofs.CtlHolds.TestLemmas.{and_left, and_right, or_false, true_or_false, not_both, any_lacks, any_members}
 
 module _ (decls : List VarDecl) (tokens : List PatToken) (x z : Var) where
-  -- neither stands in the tree
+  -- neither occurs in the tree
   abbrev Absent : Tree → Type 0
   Absent t = (list_any (is_own decls tokens x) (leaves t) ≡ false) × (list_any (is_own decls tokens z) (leaves t) ≡ false)
 

@@ -1,6 +1,6 @@
--- Rounds say which walks there are.
--- Proof: a walk of an until is found node by node, one a round. Where every walk is asked for and the rounds say no, a
--- walk of any length is built that never comes to its end; it goes on since each node has a successor.
+-- Rounds find exactly the walks that exist.
+-- Proof: a walk of an until is found node by node, one per round. If every walk is required and the rounds say no, we build
+-- a walk of any length that never reaches its end; it can be continued because each node has a successor.
 use Rattle.std.proofs.Common.{◌≡◌, ℕ, suc, zero, ◌+◌, ◌<◌, ◌≤◌, Bool, true, false, ◌&&◌, ◌||◌, refl, sym, ap, ◌∙◌, arith}
 use Rattle.std.proofs.Common.{List, [], ◌∷◌, length, ◌⊎◌, inl, inr, ⊎_elim, Contains}
 use Rattle.std.specs.Bool.{Decides}
@@ -78,7 +78,7 @@ module _ (g : Flow) (ok : IsSound g) where
     leaves_at_once n [] lt h out r = not_here n lt h r
     leaves_at_once n (k ∷ w) lt h out r = ⊎_elim (not_here n lt h) (λ x. not_through n lt out x.0) r
 
-    -- where the rounds say no, some walk never comes to Q
+    -- if the rounds say no, some walk never reaches Q
     stuck : (m n : ℕ) → n < count_of g → rounds g true p q (suc m) n ≡ false
         → (w : List ℕ) × Follows g n w × (length w ≡ m) × (Reaches P Q n w → ⊥)
     stuck zero n lt h = ([], tt, refl, not_here n lt (or_false (q n) _ h).0)

@@ -28,11 +28,11 @@ a_keyword = refl
 a_number : is_word (codes "0") (token kind.Number (codes "0")) ≡ true
 a_number = refl
 
--- another text is another word
+-- a different text is a different word
 a_longer_name : is_word (codes "lock") (token kind.Name (codes "locked")) ≡ false
 a_longer_name = refl
 
--- what a variable is called says nothing of the tokens that it stands for; brackets are everywhere
+-- a variable's name says nothing about the tokens that it matches; brackets are everywhere
 a_variable : is_word (codes "x") (token (kind.Meta meta.Expr) (codes "x")) ≡ false
 a_variable = refl
 
@@ -77,25 +77,25 @@ module _ (w : List ℕ) (p q : Pattern) (b x : Var) (here : spelled w p ≡ true
   the_other_part : needs w (And (Atom q) (Atom p)) ≡ true
   the_other_part = ap₂ (λ y z. y || z) absent here
 
-  -- of an `or` what one part needs isn't needed
+  -- what only one part of an `or` needs isn't needed
   one_branch : needs w (Or (Atom p) (Atom q)) ≡ false
   one_branch = ap₂ (λ y z. y && z) here absent
 
   both_branches : needs w (Or (Atom p) (AX (Atom p))) ≡ true
   both_branches = ap₂ (λ y z. y && z) here here
 
-  -- dots may leave the function in place of coming to what follows them
+  -- dots may leave the function instead of reaching what follows them
   or_leaves : needs w (Or (Atom p) Bail) ≡ false
   or_leaves = ap (λ y. y && false) here
 
-  -- the way of an until may have no node
+  -- the way of an until may be empty
   the_way : needs w (EU (Atom p) (Atom q)) ≡ false
   the_way = absent
 
   the_end : needs w (AU (Atom q) (Atom p)) ≡ true
   the_end = here
 
-  -- what may not stand there need not stand there
+  -- what must not occur there isn't needed
   under_not : needs w (Not (Atom p)) ≡ false
   under_not = refl
 

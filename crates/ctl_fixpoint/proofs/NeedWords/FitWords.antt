@@ -1,4 +1,4 @@
--- Where a form fits a tree, each word that it spells is one of the tree's tokens: all cases but lists.
+-- If a form fits a tree, each word that it spells is one of the tree's tokens: all cases but lists.
 use Rattle.std.proofs.Common.{◌≡◌, ℕ, Bool, true, false, ◌&&◌, ◌||◌, refl, sym, ap, ◌∙◌, List, [], ◌∷◌, map, ⊎_elim}
 use Rattle.std.specs.List.{list_any, list_all}
 use Rattle.c_terms.specs.declared.token.Token.{Token}
@@ -45,7 +45,7 @@ module _ (decls : List VarDecl) (tokens : List PatToken) (env : Environment) (w 
   word_fits kind.Pat a t h f = absurd (cc)
   word_fits _ a t h f = f
 
-  -- a word fits the same word alone
+  -- a word fits only the same word
   plain_word : (a : Token) (t : Tree) → plain_fits a (out-Tree t) ≡ true → is_word w a ≡ true → has_word w t ≡ true
   plain_word a = tree_cases (λ t. plain_fits a (out-Tree t) ≡ true → is_word w a ≡ true → has_word w t ≡ true)
       (λ b f h.
@@ -97,7 +97,7 @@ module _ (decls : List VarDecl) (tokens : List PatToken) (env : Environment) (w 
       spells-Leaf w a ∙ false_and _ _ (sign_word a.kind g))
       (λ l cs h. let f = sym (ap (λ y. is_sign_token (leaf_of y)) (out-Branch l cs)) ∙ h in absurd (cc))
 
-  -- a sign fits nothing, and what a disjunction spells each branch does
+  -- a sign fits nothing, and each branch of a disjunction spells what the disjunction spells
   some_law : (cs : List Tree) (t : Tree) → Each Law cs → list_any (λ p. p.fits t) (map (piece decls tokens env) cs) ≡ true
       → list_all (λ c. is_sign_tree c || spells w c) cs ≡ true → has_word w t ≡ true
   some_law [] t e h s = absurd (cc)

@@ -1,4 +1,4 @@
--- The tokens of a graph's labels are among the item's: what the item lacks each label lacks.
+-- The tokens of a graph's labels are among the item's: a word that the item lacks is missing from each label.
 use Rattle.std.proofs.Common.{◌≡◌, ℕ, zero, suc, ◌+◌, Bool, true, false, cond, sym, ◌∙◌, subst, List, [], ◌∷◌, ◌++◌, map, length, Some}
 use Rattle.std.specs.Prelude.{slice_get}
 use Rattle.std.specs.List.{list_any}

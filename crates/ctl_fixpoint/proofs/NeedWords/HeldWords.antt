@@ -1,4 +1,4 @@
--- The same at a node: each word that what is compared of a form spells is one of the subtree's tokens.
+-- The same at a node: each word that the compared part of a form spells is one of the subtree's tokens.
 use Rattle.std.proofs.Common.{◌≡◌, ℕ, suc, zero, ◌+◌, Bool, true, false, ◌&&◌, ◌||◌, not, nat_eq, refl, sym, ap, ◌∙◌, List, [], ◌∷◌, map, length, Option, Some, None, slice_get, ⊎_elim, if◌then◌else◌}
 use Rattle.std.specs.List.{list_any}
 use Rattle.c_terms.specs.declared.token.Token.{Token}
@@ -125,7 +125,7 @@ module _ (decls : List VarDecl) (tokens : List PatToken) (env : Environment) (w 
       let f = sym (ap (kids_fit (own_fit (is_own k l (length cs)) 0) l (map (piece decls tokens env) cs)) (out-Branch j us)) ∙ h in
       word-kid w j us (own_kids (is_own k l (length cs)) 0 cs us (and_right _ _ f) s))
 
-  -- what a branch that is no disjunction spells a child does
+  -- if a branch other than a disjunction spells a word, some child spells it
   by_shape : (r : Shape) (cs : List Tree) → not (is_disjunction r) ≡ true → spells_kids w r cs ≡ true → any_spells decls tokens env w cs ≡ true
   by_shape shape.Or cs n s = absurd (cc)
   by_shape shape.And cs n s = s
@@ -143,7 +143,7 @@ module _ (decls : List VarDecl) (tokens : List PatToken) (env : Environment) (w 
           (or_cases (spells w c) (any_spells decls tokens env w (kept test (suc i) cs)) s)
       by false more s = or_right _ _ (more s)
 
-  -- a branch at spot Whole: the head's own children where its label has bodies, else the branch itself
+  -- a branch at spot Whole: the head's own children if its label has bodies, else the branch itself
   abbrev held_whole : Bool → Label → List Tree → Bool
   held_whole b l cs = any_spells decls tokens env w (if b then kept (is_held spot.Whole l (length cs)) 0 cs else Branch l cs ∷ [])
 
@@ -215,7 +215,7 @@ module _ (decls : List VarDecl) (tokens : List PatToken) (env : Environment) (w 
       (λ l cs h s. given (Branch l cs) t h (or_false (spells w (Branch l cs))
       (sym (ap (λ y. any_spells decls tokens env w (held_at spot.Inside y (Branch l cs))) (out-Branch l cs)) ∙ s)))
 
--- where a form fits a subtree at a node, each word that what is compared of it spells is one of the subtree's tokens
+-- if a form fits a subtree at a node, each word that the compared part of the form spells is one of the subtree's tokens
 pub held_has_word : (decls : List VarDecl) (tokens : List PatToken) (env : Environment) (w : List ℕ) (s : Spot) (k : NodeKind) (form t : Tree)
     → fits_at decls tokens env s k form t ≡ true → held_spells w s form ≡ true → has_word w t ≡ true
 held_has_word decls tokens env w spot.Whole k form t h s = whole_law decls tokens env w k t form h s

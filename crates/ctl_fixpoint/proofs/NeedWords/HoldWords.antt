@@ -1,5 +1,5 @@
--- Where no label has a word, a formula that needs it holds at no node.
--- Proof: by the cases of the formula. Each node has a successor, so what holds at every next node holds at one.
+-- If no label has a word, a formula that needs it holds at no node.
+-- Proof: by cases of the formula. Each node has a successor, so what holds at every next node holds at one of them.
 use Rattle.std.proofs.Common.{◌≡◌, ℕ, zero, suc, ◌<◌, ◌^◌, Bool, true, false, ◌&&◌, ◌||◌, refl, List, Option, None, Some, slice_get, ⊎_elim, Contains}
 use Rattle.std.specs.List.{list_any, list_all}
 use Rattle.c_terms.specs.declared.tree.Tree.{Tree}
@@ -59,7 +59,7 @@ there_no x None h = refl
 there_no x (Some k) h = h k refl
 
 module _ (g : Flow) (ok : IsSound g) where
-  -- nowhere it passes
+  -- it passes at no node
   abbrev Nowhere : (ℕ → Bool) → Type 0
   Nowhere x = (s : ℕ) → s < count_of g → x s ≡ false
 

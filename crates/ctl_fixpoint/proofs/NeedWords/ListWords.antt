@@ -40,7 +40,7 @@ cond_false : (b x y : Bool) → b ≡ false → cond b x y ≡ true → y ≡ tr
 cond_false true x y e h = absurd (cc)
 cond_false false x y e h = h
 
--- kinds of words are of neither of these kinds
+-- the kinds of words are neither of these kinds
 
 word_not_wild : (l : Label) (k : TokenKind) → is_word_kind k ≡ true → is_wild_kind l k ≡ false
 word_not_wild l (kind.Meta k) h = absurd (cc)
@@ -59,7 +59,7 @@ module _ (w : List ℕ) where
   abbrev in_member : Member → Bool
   in_member m = has_word w m.tree
 
-  -- what spells a word takes no run, and is no comma
+  -- a form that spells a word takes no run, and is no comma
 
   not_wild : (l : Label) (c : Tree) → spells w c ≡ true → is_wild l (leaf_of (out-Tree c)) ≡ false
   not_wild l = tree_cases (λ c. spells w c ≡ true → is_wild l (leaf_of (out-Tree c)) ≡ false)
@@ -138,6 +138,6 @@ module _ (decls : List VarDecl) (tokens : List PatToken) (env : Environment) (w 
       let f = sym (ap (kids_fit (list_fits decls tokens env l) l (map (piece decls tokens env) cs)) (out-Branch k us)) ∙ h in
       word-kid w k us (kid_of w us None (runs_law decls tokens env w l cs laws None (members us) (and_right _ _ f) s)))
 
-  -- where the form fits the tree, each word that it spells is one of the tree's tokens
+  -- if the form fits the tree, each word that it spells is one of the tree's tokens
   pub fits_word : (form t : Tree) → fits_tree decls tokens env form t ≡ true → spells w form ≡ true → has_word w t ≡ true
   fits_word form = fit_law decls tokens env w list_law form

@@ -1,4 +1,4 @@
--- Runs of forms that need a word: where the tree lacks it, none of them fits.
+-- Runs of forms that need a word: if the tree lacks it, none of them fits.
 use Rattle.std.proofs.Common.{◌≡◌, ℕ, suc, zero, ◌+◌, ◌-◌, ◌<◌, ◌≤◌, Bool, true, false, ◌||◌, not, refl, sym, ap, ◌∙◌, subst, arith}
 use Rattle.std.proofs.Common.{List, [], ◌∷◌, ◌++◌, length, drop, get_or, Option, Some, None, slice_get, ⊎_elim}
 use Rattle.std.specs.List.{list_any, list_all}
@@ -60,7 +60,7 @@ or-both : (a b c : Bool) → ((a || b) || c) ≡ (a || (b || c))
 or-both true b c = refl
 or-both false b c = refl
 
--- one form more is tried
+-- one more form is tried
 pub tried-more : {X : Type 0} (q : X → Bool) (xs : List X) (i : ℕ) (x : X) (a b new whole : Bool) → slice_get xs i ≡ Some x
     → new ≡ (a || b) → b ≡ q x → (a || list_any q (drop i xs)) ≡ whole → (new || list_any q (drop (i + 1) xs)) ≡ whole
 tried-more q xs i x a b new whole g e f h =
@@ -72,7 +72,7 @@ tried-more q xs i x a b new whole g e f h =
     ∙ ap (λ z. a || z) (sym (one-more q xs i x g))
     ∙ h
 
--- all are
+-- all forms are tried
 pub tried-all : {X : Type 0} (q : X → Bool) (xs : List X) (n : ℕ) (a whole : Bool) → n ≡ length xs
     → (a || list_any q (drop n xs)) ≡ whole → a ≡ whole
 tried-all q xs n a whole e h =
@@ -87,7 +87,7 @@ not-true true h = absurd (cc)
 not-true false h = refl
 
 module _ (decls : List VarDecl) (tokens : List PatToken) (env : Environment) where
-  -- a form that needs a word fits nothing where the tree lacks it
+  -- a form that needs a word fits nothing if the tree lacks the word
   lacks-fit : (w : List ℕ) (p : Pattern) (r : NodeRole) (form t : Tree) → held_spells w p.spot form ≡ true → has_word w t ≡ false
       → fits_some decls tokens env p r t form ≡ false
   lacks-fit w p r form t h a = no (fits_some decls tokens env p r t form) (λ e.
@@ -100,7 +100,7 @@ module _ (decls : List VarDecl) (tokens : List PatToken) (env : Environment) whe
   absent-fit None p k form t h a = absurd (cc)
   absent-fit (Some w) p k form t h a = lacks-fit w p k form t h (not-true (has_word w t) a)
 
-  -- none of the run fits
+  -- no form of the run fits
   pub run-skipped : (p : Pattern) (k : NodeRole) (t : Tree) (w : Option (List ℕ)) (n e : ℕ) → n ≤ e → IsRun p.spot p.forms w n e
       → is_absent w t ≡ true
       → list_any (fits_some decls tokens env p k t) (drop e p.forms) ≡ list_any (fits_some decls tokens env p k t) (drop n p.forms)
@@ -109,7 +109,7 @@ module _ (decls : List VarDecl) (tokens : List PatToken) (env : Environment) whe
       (λ i form l r g. absent-fit w p k form t (run i form l (omega arith) g) a)
       ∙ ap (λ m. list_any (fits_some decls tokens env p k t) (drop m p.forms)) (omega arith))
 
--- runs behind one another
+-- consecutive runs
 
 same-some : {X : Type 0} {x y : X} {o : Option X} → o ≡ Some x → o ≡ Some y → x ≡ y
 same-some e f = cc
@@ -137,7 +137,7 @@ pub looks-cover : (p : Pattern) (ls : List Look) → AreLooks p ls → (ls ≡ [
 looks-cover p [] c h = absurd (h refl)
 looks-cover p (l ∷ ls) c h = c
 
--- what the run of a number begins with, and those behind it
+-- where the run with this number begins, and the runs after it
 pub covers-at : (s : Spot) (forms : List Tree) (ls : List Look) (i : ℕ) (l : Look) (n e : ℕ) → slice_get ls i ≡ Some l
     → Covers s forms n (drop i ls) e
     → (n ≤ l.end) × (l.end ≤ length forms) × IsRun s forms l.word n l.end × Covers s forms l.end (drop (suc i) ls) e
@@ -147,6 +147,6 @@ covers-at s forms (k ∷ ls) zero l n e g c =
     subst (λ (z : Look). (n ≤ z.end) × (z.end ≤ length forms) × IsRun s forms z.word n z.end × Covers s forms z.end ls e) h c
 covers-at s forms (k ∷ ls) (suc i) l n e g c = covers-at s forms ls i l n e g c
 
--- behind the last of them nothing is left
+-- after the last run nothing is left
 pub covers-all : (s : Spot) (forms : List Tree) (ls : List Look) (i n e : ℕ) → length ls ≤ i → Covers s forms n (drop i ls) e → n ≡ e
 covers-all s forms ls i n e le c = subst (λ ks. Covers s forms n ks e) (drop_all i ls le) c

@@ -1,4 +1,4 @@
--- Where a pattern matches at a node, each word that all its forms spell is one of the label's tokens.
+-- If a pattern matches at a node, each word that all its forms spell is one of the label's tokens.
 use Rattle.std.proofs.Common.{◌≡◌, ℕ, suc, Bool, true, false, ◌&&◌, refl, sym, ap, ◌∙◌, List, [], ◌∷◌, length, ⊎_elim, if◌then◌else◌}
 use Rattle.std.specs.List.{list_any}
 use Rattle.std.proofs.lemmas.List.Folds.{list_any-append}
@@ -27,7 +27,7 @@ use Rattle.ctl_fixpoint.specs.NeedWords.Words.{has_word, held_spells, spelled}
 use Rattle.ctl_fixpoint.proofs.NeedWords.WordLemmas.{and_right, or_cases, or_left, or_right, not_both, word-kid}
 use Rattle.ctl_fixpoint.proofs.NeedWords.HeldWords.{held_has_word}
 
--- a word of a subtree against which a form is held is one of the tree
+-- a word of a subtree that a form is compared with is a word of the tree
 
 module _ (w : List ℕ) where
   abbrev pub here : Place → Bool

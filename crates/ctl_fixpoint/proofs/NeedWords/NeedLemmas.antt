@@ -1,4 +1,4 @@
--- Steps of the code that looks for words.
+-- Steps of the code that searches for words.
 use Rattle.std.proofs.Common.{◌≡◌, ℕ, zero, suc, ◌+◌, ◌<◌, ◌≤◌, Bool, true, false, ◌&&◌, ◌||◌, refl, sym, subst, ap, ◌∙◌, arith, List, [], ◌∷◌, ◌++◌, map, length, take, drop, get_or, add-one, Some}
 use Rattle.std.specs.Prelude.{slice_get}
 use Rattle.std.specs.List.{list_any}
@@ -47,7 +47,7 @@ pub known-within : (g : Plain → Bool) (ns : List Node) (ks slice : List Bool) 
 known-within g ns ks slice root h s e =
     omega (arith, h, ap length s, ap length e, length-map (plains ns) g, length-plains ns)
 
--- ---- words that are put among others
+-- ---- words that are added to a list
 
 stays : (a n s : Bool) → (s ≡ true → a ≡ true) → a ≡ (a || (n && s))
 stays true n s h = refl
@@ -67,7 +67,7 @@ same_if true false h = refl
 same_if false true h = absurd (let e = h refl in cc)
 same_if false false h = refl
 
--- what is among them then, where the words that pass are asked for
+-- what the list has then, if the words that pass the test are added
 abbrev pub Puts : (List ℕ → Bool) → (List ℕ → Bool) → List (List ℕ) → List (List ℕ) → Type 0
 Puts needed passes old new = (w : List ℕ) → is_among new w ≡ (is_among old w || (needed w && passes w))
 
@@ -90,7 +90,7 @@ no_more true n = refl
 no_more false true = refl
 no_more false false = refl
 
--- nothing is asked for
+-- no words are to be added
 pub put-none : (needed passes : List ℕ → Bool) (words : List (List ℕ)) → ((w : List ℕ) → passes w ≡ false) → Puts needed passes words words
 put-none needed passes words h w = no_more (is_among words w) (needed w) ∙ ap (λ b. is_among words w || (needed w && b)) (sym (h w))
 
@@ -99,11 +99,11 @@ shuffle true n c r = refl
 shuffle false true c r = refl
 shuffle false false c r = refl
 
--- these are put, and then the rest
+-- these words are added, and then the rest
 pub put-more : (a b n c r t z : Bool) → b ≡ (a || (n && c)) → t ≡ (c || r) → (a || (n && t)) ≡ z → (b || (n && r)) ≡ z
 put-more a b n c r t z e f h = ap (λ y. y || (n && r)) e ∙ shuffle a n c r ∙ ap (λ y. a || (n && y)) (sym f) ∙ h
 
--- once nothing is left
+-- when nothing is left
 pub put-all : (a n r z : Bool) → r ≡ false → (a || (n && r)) ≡ z → a ≡ z
 put-all a n r z e h = no_more a n ∙ ap (λ y. a || (n && y)) (sym e) ∙ h
 
@@ -132,7 +132,7 @@ both_if : (n s : Bool) → (n ≡ true → s ≡ true) → (n && s) ≡ n
 both_if true s h = h refl
 both_if false s h = refl
 
--- a node's words are put, and then those of the later ones
+-- a node's words are added, and then those of the later nodes
 pub node_more : (w : List ℕ) (n : Bool) (ns : List Node) (i : ℕ) (x : Node) (old new : List (List ℕ)) (z : Bool) → slice_get ns i ≡ Some x
     → is_among new w ≡ (is_among old w || (n && stands_at w x))
     → (is_among old w || (n && list_any (stands_at w) (drop i ns))) ≡ z
@@ -141,7 +141,7 @@ node_more w n ns i x old new z e p h =
     put-more (is_among old w) (is_among new w) n (stands_at w x) (list_any (stands_at w) (drop (i + 1) ns)) (list_any (stands_at w) (drop i ns)) z
     p (any_next (stands_at w) ns i x e) h
 
--- once all nodes are done
+-- when all nodes are done
 pub nodes_all : (w : List ℕ) (ns : List Node) (root i : ℕ) (found : List (List ℕ)) → length ns ≤ i
     → (is_among found w || (needs w (at (plains ns) root) && list_any (stands_at w) (drop i ns)))
     ≡ (needs w (at (plains ns) root) && list_any (stands_at w) ns)

@@ -1,4 +1,4 @@
--- Each word that a formula needs stands in the first form of some pattern of its table.
+-- Each word that a formula needs occurs in the first form of some pattern of its table.
 use Rattle.std.proofs.Common.{◌≡◌, ℕ, zero, suc, Bool, true, false, ◌&&◌, sym, ap, ◌∙◌, List, [], ◌∷◌, ◌++◌, length, ⊎_elim, if◌then◌else◌}
 use Rattle.std.specs.List.{list_any, list_all}
 use Rattle.c_terms.specs.declared.label.Label.{Label}
@@ -77,7 +77,7 @@ module _ (w : List ℕ) where
 
   -- tables
 
-  -- of which a part needs the word, of that the claim follows
+  -- the claim follows for a part that needs the word
   abbrev Known : Type 0 → List Plain → Type 0
   Known Q fs = (i : ℕ) → needs w (at fs i) ≡ true → Q
 

@@ -1,4 +1,4 @@
--- Words of trees by their children, and the equations of `spells`.
+-- The words of trees, given their children, and the equations of `spells`.
 use Rattle.std.proofs.Common.{◌≡◌, ℕ, Bool, true, false, ◌&&◌, ◌||◌, eqb, refl, sym, ap, ap₂, ◌∙◌, arith, List, [], ◌∷◌, map, inl, inr, ◌⊎◌}
 use Rattle.std.specs.List.{list_any, list_all}
 use Rattle.std.proofs.lemmas.List.Folds.{list_any-append}

@@ -1,4 +1,4 @@
--- Which variables a formula speaks of.
+-- Which variables occur free in a formula.
 use Rattle.std.specs.Prelude.{Bool, true, ◌&&◌, ◌||◌, List}
 use Rattle.smpl_terms.specs.declared.var.Var.{Var}
 use Rattle.smpl_terms.specs.Vars.{same_var}

@@ -35,37 +35,37 @@ abbrev pub is_close : NodeKind → Bool
 is_close kind.CloseBrace = true
 is_close _ = false
 
--- the node is a brace of the kind, and v is the place of its `{`
+-- the node is a brace of this kind, and v is the place of its `{`
 abbrev pub is_brace : (NodeKind → Bool) → Value → NodeLabel → Bool
 is_brace is v l = is l.kind && same (Place l.brace) v
 
--- After the first n nodes the block whose `{` is at v is open: the last of them is that `{`, or the block was open before
--- it and it isn't the block's `}`.
+-- After the first n nodes the block whose `{` is at v is open: the last of them is that `{`, or the block was open before it
+-- and it isn't the block's `}`.
 abbrev pub open_after : Flow → Value → ℕ → Bool
 open_after g v zero = false
 open_after g v (suc n) = at_node g n (λ l. is_brace is_open v l || (not (is_brace is_close v l) && open_after g v n))
 
--- node s stands in that block: it is the `{`, or comes after it and before the `}`
+-- node s is inside that block: it is the `{`, or comes after it and before the `}`
 abbrev pub in_block : Flow → Value → ℕ → Bool
 in_block g v s = open_after g v (suc s)
 
--- it neither stands in the block nor is the `}`
+-- node s is neither inside the block nor its `}`
 abbrev pub off_block : Flow → Value → ℕ → Bool
 off_block g v s = at_node g s (λ l. not (is_brace is_close v l) && not (in_block g v s))
 
--- what the patterns of a formula are read by, and what they are held against
+-- the declarations and tokens that a formula's patterns are read with, and the graph that they are compared with
 module _ (decls : List VarDecl) (tokens : List PatToken) (g : Flow) where
   -- the pattern matches at node s
   abbrev pub atom_at : Pattern → ℕ → Environment → Bool
   atom_at p s env = at_node g s (λ l. matches decls tokens env p l)
 
-  -- so it does, the node is a brace of the kind, and b is the place of its `{`
+  -- the pattern matches, the node is a brace of this kind, and b is the place of its `{`
   abbrev pub brace_at : (NodeKind → Bool) → Pattern → Var → ℕ → Environment → Bool
   brace_at is p b s env =
       at_node g s (λ l. is l.kind && same (Place l.brace) (env b) && matches decls tokens env p l)
 
   module _ (m : ℕ) where
-    -- The formula holds at node s under the environment. An until looks at walks of at most, or exactly, m nodes.
+    -- The formula holds at node s under the environment. An until considers walks of at most, or exactly, m nodes.
     abbrev pub Holds : Plain → ℕ → Environment → Type 0
     Holds True s env = Unit {0}
     Holds (Atom p) s env = atom_at p s env ≡ true

@@ -28,7 +28,7 @@ IsPart h (Past f) = (h ≡ Past f) ⊎ IsPart h f
 IsPart h (Down i f) = (h ≡ Down i f) ⊎ IsPart h f
 IsPart h (Exists x f) = (h ≡ Exists x f) ⊎ IsPart h f
 
--- each pattern of the formula is so
+-- P holds of each pattern of the formula
 abbrev pub EachPattern : (Pattern → Type 0) → Plain → Type 0
 EachPattern P True = Unit {0}
 EachPattern P (Atom p) = P p
@@ -48,7 +48,7 @@ EachPattern P (Past f) = EachPattern P f
 EachPattern P (Down i f) = EachPattern P f
 EachPattern P (Exists x f) = EachPattern P f
 
--- which has one proof, where it has one of each pattern
+-- this has one proof, if P has one for each pattern
 pub each_pattern-prop : (P : Pattern → Type 0) → ((p : Pattern) → IsProp (P p)) → (f : Plain) → IsProp (EachPattern P f)
 each_pattern-prop P h True = Unit-prop
 each_pattern-prop P h (Atom p) = h p
@@ -68,7 +68,7 @@ each_pattern-prop P h (Past f) = each_pattern-prop P h f
 each_pattern-prop P h (Down i f) = each_pattern-prop P h f
 each_pattern-prop P h (Exists x f) = each_pattern-prop P h f
 
--- the pattern of a node of a table is so, if it has one
+-- P holds of the pattern of a node of a table, if the node has one
 abbrev pub OwnPattern : (Pattern → Type 0) → Node → Type 0
 OwnPattern P (node.Atom p) = P p
 OwnPattern P (node.BraceOpen p b) = P p

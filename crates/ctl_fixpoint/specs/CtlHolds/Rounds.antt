@@ -1,4 +1,4 @@
--- Where a formula holds, by computing: an until by rounds over all nodes.
+-- Where a formula holds, as a computation: an until by rounds over all nodes.
 use Rattle.std.specs.Prelude.{ℕ, zero, suc, Bool, true, false, not, ◌&&◌, ◌||◌, Option, None, Some, List, slice_get}
 use Rattle.std.specs.List.{list_any, list_all}
 use Rattle.cfg_build.specs.CfgGraph.Flow.{Flow, succ_of, past_of, down_of}
@@ -21,11 +21,11 @@ passes_there x None = false
 passes_there x (Some k) = x k
 
 module _ (g : Flow) (every : Bool) (p q : ℕ → Bool) where
-  -- q here, or p here and x next
+  -- q holds here, or p holds here and x holds next
   abbrev pub round : (ℕ → Bool) → ℕ → Bool
   round x s = q s || (p s && passes every x (succ_of g s))
 
-  -- after so many rounds, the first of them from nowhere
+  -- the result of this many rounds, of which the first starts with no nodes
   abbrev pub rounds : ℕ → ℕ → Bool
   rounds zero s = false
   rounds (suc k) s = round (rounds k) s

@@ -11,6 +11,6 @@ use Rattle.cfg_build.specs.CfgGraph.Values.{terms_of, places_of}
 abbrev pub values_of : Flow → List Value
 values_of g = map Term (terms_of g) ++ map Place (places_of g)
 
--- one of the values, up to the ids of tokens
+-- v is one of the values, up to the ids of tokens
 abbrev pub is_among : List Value → Value → Bool
 is_among vs v = list_any (λ u. same u v) vs

@@ -1,4 +1,4 @@
--- Runs of a pattern's forms that need the same word: at a node whose tree lacks it, none of the run fits.
+-- Runs of a pattern's forms that need the same word: if a node's tree lacks it, no form of the run fits.
 use Rattle.std.specs.Prelude.{◌≡◌, ◌≤◌, ◌<◌, ℕ, Bool, true, false, not, Option, Some, None, List, [], ◌∷◌, length, slice_get, ⊤}
 use Rattle.std.specs.List.{list_any}
 use Rattle.c_terms.specs.declared.tree.Tree.{Tree}
@@ -13,7 +13,7 @@ use Rattle.pat_match.specs.Matching.{fits_seat}
 use Rattle.ctl_fixpoint.specs.declared.need_words.looks.Look.{Look}
 use Rattle.ctl_fixpoint.specs.NeedWords.Words.{has_word, held_spells}
 
--- the form needs the word, if there is one
+-- the form needs the word, if there is a word
 abbrev pub finds : Option (List ℕ) → Spot → Tree → Bool
 finds None s form = true
 finds (Some w) s form = held_spells w s form
@@ -23,17 +23,17 @@ abbrev pub is_absent : Option (List ℕ) → Tree → Bool
 is_absent None t = false
 is_absent (Some w) t = not (has_word w t)
 
--- each of the forms from number n on, up to number e, needs the word
+-- each of the forms from number n up to number e needs the word
 abbrev pub IsRun : Spot → List Tree → Option (List ℕ) → (n e : ℕ) → Type 0
 IsRun s forms w n e = (i : ℕ) (form : Tree) → n ≤ i → i < e → slice_get forms i ≡ Some form → finds w s form ≡ true
 
--- the runs follow one another, from the form of number n up to that of number e
+-- the runs are consecutive, from the form with number n up to the one with number e
 abbrev pub Covers : Spot → List Tree → (n : ℕ) → List Look → (e : ℕ) → Type 0
 Covers s forms n [] e = n ≡ e
 Covers s forms n (l ∷ ls) e =
     (n ≤ l.end) × (l.end ≤ length forms) × IsRun s forms l.word n l.end × Covers s forms l.end ls e
 
--- The looks of a pattern: all its forms, run by run. Where there are none, all forms are tried.
+-- The looks of a pattern: all its forms, run by run. If there are none, all forms are tried.
 abbrev pub AreLooks : Pattern → List Look → Type 0
 AreLooks p [] = ⊤
 AreLooks p (l ∷ ls) = Covers p.spot p.forms 0 (l ∷ ls) (length p.forms)

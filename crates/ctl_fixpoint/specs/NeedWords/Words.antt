@@ -1,4 +1,4 @@
--- The words that a formula needs: in an item that lacks one of them it holds nowhere.
+-- The words that a formula needs: in an item that lacks one of them the formula holds nowhere.
 use Rattle.std.specs.Prelude.{ℕ, Bool, true, false, ◌&&◌, ◌||◌, List, [], ◌∷◌}
 use Rattle.std.specs.List.{list_any, list_all}
 use Rattle.c_terms.specs.declared.token.Token.{Token}
@@ -38,11 +38,12 @@ module _ (w : List ℕ) where
   abbrev pub is_word : Token → Bool
   is_word a = is_word_kind a.kind && same_bytes a.text w
 
-  -- one of the tree's tokens is
+  -- one of the tree's tokens is the word
   abbrev pub has_word : Tree → Bool
   has_word t = list_any is_word (leaves t)
 
-  -- a disjunction spells what each of its branches does, and has one; any other branch what one of its children does
+  -- a disjunction has a branch and spells what each of its branches spells; any other branch spells what one of its children
+  -- spells
   abbrev pub spells_by : Shape → List Sure → Bool
   spells_by shape.Or ss = list_any (λ s. s.sure) ss && list_all (λ s. s.sign || s.sure) ss
   spells_by shape.And ss = list_any (λ s. s.sure) ss
@@ -53,19 +54,19 @@ module _ (w : List ℕ) where
   spells_step (Tree-F.Leaf a) = record { sign = is_sign a.kind; sure = is_word a }
   spells_step (Tree-F.Branch l ss) = record { sign = false; sure = spells_by (shape_of l) ss }
 
-  -- the form spells the word in whichever way it fits
+  -- the form spells the word however it fits
   abbrev pub spells : Tree → Bool
   spells t = (fold-Tree Sure spells_step t).sure
 
-  -- what is compared of the form at the spot does
+  -- the part of the form that is compared at the spot spells the word
   abbrev pub held_spells : Spot → Tree → Bool
   held_spells s form = list_any spells (held s form)
 
-  -- of each form of the pattern
+  -- the pattern has a form, and each of its forms spells the word
   abbrev pub spelled : Pattern → Bool
   spelled p = has_form p.forms && list_all (held_spells p.spot) p.forms
 
-  -- the formula can't hold in an item of which no token is the word
+  -- the formula can't hold in an item in which no token is the word
   abbrev pub needs : Plain → Bool
   needs True = false
   needs (Atom p) = spelled p
@@ -89,6 +90,6 @@ module _ (w : List ℕ) where
 abbrev pub is_among : List (List ℕ) → List ℕ → Bool
 is_among words w = list_any (λ x. same_bytes x w) words
 
--- each of these words stands in the tree
+-- each of these words is in the tree
 abbrev pub has_words : List (List ℕ) → Tree → Bool
 has_words words t = list_all (λ w. has_word w t) words

@@ -1,4 +1,4 @@
-// What holds of all formulas.
+// Laws that hold for all formulas.
 ghost use Rattle.std.specs.Prelude.{ℕ, ◌<◌, List};
 ghost use Rattle.std.specs.Bool.{Decides};
 ghost use Rattle.cfg_build.specs.CfgGraph.Flow.{Flow, IsSound, count_of};
@@ -13,7 +13,7 @@ ghost use Rattle.ctl_formula.specs.Formulas.{FormulaOf, IsFormula, plain};
 ghost use Rattle.ctl_fixpoint.specs.CtlHolds.Parts.{IsPart, HasNumber, EachPattern};
 ghost use Rattle.ctl_fixpoint.specs.CtlHolds.BoundLaw.{SureStand, HasValues};
 
-/// Whether a formula holds can be computed: m rounds over all nodes say of an until what walks of m nodes do.
+/// Whether a formula holds can be computed: m rounds over all nodes decide an until exactly as walks of m nodes do.
 pub fn walks_by_rounds()
     ensures { (decls : List VarDecl) (tokens : List PatToken) (g : Flow) → IsSound g → (m : ℕ)
         → 0 < m
@@ -21,8 +21,8 @@ pub fn walks_by_rounds()
         → Decides (holds decls tokens g m f s env) (Holds decls tokens g m f s env) }
 {}
 
-/// Wherever a formula holds, each variable that it binds has a value of the graph; and so has each that it binds where
-/// it fails, wherever it doesn't hold.
+/// Where a formula holds, each variable that it binds has a value of the graph. Where it doesn't hold, each variable that it
+/// binds on failure has one.
 pub fn bound_variables_have_values()
     ensures { (decls : List VarDecl) (tokens : List PatToken) (g : Flow) → IsSound g → (m : ℕ)
         → 0 < m
@@ -30,7 +30,7 @@ pub fn bound_variables_have_values()
         → (env : Environment) (x : Var) → HasValues decls tokens g m f s env x }
 {}
 
-/// Each part of a formula is a node of its table, so it has a number there.
+/// Each part of a formula is a node of its table, and so has a number there.
 pub fn every_part_has_a_number()
     ensures { (f : FormulaOf) → IsFormula f → (h : Plain) → IsPart h (plain f)
         → HasNumber f.nodes h }

@@ -1,4 +1,4 @@
-// Whether the sure variables of a formula's patterns stand in them.
+// Whether the sure variables of a formula's patterns occur in them.
 ghost use Rattle.std.specs.Prelude.{◌≡◌, true, IfOk};
 ghost use Rattle.ctl_formula.specs.Formulas.{plain};
 ghost use Rattle.ctl_fixpoint.specs.CtlHolds.Parts.{OwnPattern, EachPattern};
@@ -10,8 +10,8 @@ use smpl_patch::{PatToken, Pattern, VarDecl, is_sure, stands};
 use smpl_terms::Var;
 use std::alloc::Global;
 
-/// Where a variable that doesn't stand in the pattern isn't a sure one either, no disjunction without branches makes
-/// one.
+/// Whether `absent` neither occurs in the pattern nor is sure in it. If so, no disjunction without branches makes variables
+/// sure.
 fn pattern_stands(decls: &[VarDecl], tokens: &[PatToken], p: &Pattern, absent: &Var) -> bool
     ensures { result ≡ true → SureStand decls.now tokens.now p.now }
 {
@@ -35,11 +35,9 @@ fn node_stands(decls: &[VarDecl], tokens: &[PatToken], node: &Node, absent: &Var
     }
 }
 
-/// Whether each sure variable of the formula's patterns stands in them, as [`bound_variables_have_values`] asks. It
-/// is so
-/// of every formula whose patterns a patch spells; what may break it is a disjunction without branches. True only
-/// where it
-/// is so. Linear in the patterns of the formula's table.
+/// Whether each sure variable of the formula's patterns occurs in its pattern, as [`bound_variables_have_values`] requires.
+/// Returns true only if this is so. It is so for every formula whose patterns a patch spells; only a disjunction without
+/// branches can break it. Linear in the patterns of the formula's table.
 ///
 /// [`bound_variables_have_values`]: crate::ctl_holds::bound_variables_have_values
 pub fn sure_variables_stand(alloc: Global, f: &Formula) -> Result<bool, NoMemory>

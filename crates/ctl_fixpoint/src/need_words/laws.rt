@@ -1,4 +1,4 @@
-// What holds of all formulas.
+// Laws that hold for all formulas.
 ghost use Rattle.std.specs.Prelude.{◌≡◌, ◌<◌, ◌^◌, ℕ, List, true, false};
 ghost use Rattle.c_terms.specs.declared.tree.Tree.{Tree};
 ghost use Rattle.cfg_build.specs.CfgGraph.Flow.{count_of};
@@ -11,8 +11,8 @@ ghost use Rattle.ctl_fixpoint.specs.CtlHolds.Holding.{Holds};
 ghost use Rattle.ctl_fixpoint.specs.CtlHolds.Rounds.{holds};
 ghost use Rattle.ctl_fixpoint.specs.NeedWords.Words.{needs, has_word};
 
-/// Where a formula needs a word, and no token of an item is this word, the formula holds at no node of the item's graph, under no
-/// environment. Does nothing.
+/// If a formula needs a word and no token of an item is that word, the formula holds at no node of the item's graph, under
+/// no environment. Calling this function does nothing.
 pub fn formulas_need_words()
     ensures holding { (w : List ℕ) (decls : List VarDecl) (tokens : List PatToken) (t : Tree) → node_count t < 2 ^ 32
         → has_word w t ≡ false → (m : ℕ) → 0 < m → (f : Plain) → needs w f ≡ true → (s : ℕ) → s < count_of (graph_of t)

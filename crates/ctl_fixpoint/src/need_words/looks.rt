@@ -1,4 +1,4 @@
-// The forms of a pattern in runs that need the same word.
+// The forms of a pattern, grouped into runs that need the same word.
 ghost use Rattle.std.specs.Prelude.{◌≡◌, ◌≤◌, ◌<◌, true, Some, length, slice_get, IfOk};
 ghost use Rattle.c_terms.specs.declared.tree.Tree.{Tree};
 ghost use Rattle.ctl_fixpoint.specs.NeedWords.Looks as of;
@@ -9,15 +9,15 @@ use c_terms::{NoMemory, Shape, Text, Token, Tree};
 use smpl_patch::{Pattern, Spot};
 use std::alloc::Global;
 
-/// A pattern of fewer forms has no looks: all its forms are tried at each node.
+/// A pattern with fewer forms than this has no looks: all its forms are tried at each node.
 const FEW_FORMS: usize = 8;
 
 /// A run of forms that need the same word.
 #[derive(Drop)]
 pub struct Look {
-    /// The word. Where there is none, the run's forms are tried at each node.
+    /// The word. If there is none, the run's forms are tried at each node.
     pub word: Option<Text>,
-    /// The number of the form behind the run. The run begins where the one before it ends.
+    /// The number of the first form after the run. The run begins where the previous one ends.
     pub end: usize,
 }
 
@@ -29,7 +29,7 @@ fn token_word(alloc: Global, token: &Token) -> Result<Option<Text>, NoMemory> {
     }
 }
 
-/// A word to be tried as one that the form needs: the first that stands in no disjunction. Recurses once a level.
+/// Returns the first word that is in no disjunction, as a candidate for a word that the form needs. Recurses once per level.
 fn first_word(alloc: Global, form: &Tree) -> Result<Option<Text>, NoMemory> {
     match form {
         Tree::Leaf(token) => token_word(alloc, token),
@@ -48,7 +48,7 @@ fn first_word(alloc: Global, form: &Tree) -> Result<Option<Text>, NoMemory> {
     }
 }
 
-/// Whether the form needs the word, and there is one.
+/// Whether there is a word and the form needs it.
 fn needs_it(word: &Option<Text>, spot: Spot, form: &Tree) -> bool
     ensures { result ≡ true → of.finds word.now spot form.now ≡ true }
 {
@@ -58,7 +58,7 @@ fn needs_it(word: &Option<Text>, spot: Spot, form: &Tree) -> bool
     }
 }
 
-/// A word that the form needs, if one is found.
+/// Returns a word that the form needs, if one is found.
 fn form_word(alloc: Global, spot: Spot, form: &Tree) -> Result<Option<Text>, NoMemory>
     ensures { IfOk result (λ word. of.finds word spot form.now ≡ true) }
 {
@@ -70,7 +70,7 @@ fn form_word(alloc: Global, spot: Spot, form: &Tree) -> Result<Option<Text>, NoM
     }
 }
 
-/// Where the run ends that begins with this form.
+/// Returns the end of the run that begins with this form.
 fn run_end(word: &Option<Text>, spot: Spot, forms: &[Tree], first: usize) -> usize
     requires within { first < length forms.now }
     requires first { (form : Tree) → slice_get forms.now first ≡ Some form → of.finds word.now spot form ≡ true }
@@ -86,13 +86,13 @@ fn run_end(word: &Option<Text>, spot: Spot, forms: &[Tree], first: usize) -> usi
     forms.len()
 }
 
-/// All forms, run by run.
+/// Returns all forms, run by run.
 fn runs_of(alloc: Global, spot: Spot, forms: &[Tree]) -> Result<Vec<Look>, NoMemory>
     ensures { IfOk result (λ looks. of.Covers spot forms.now 0 looks.items (length forms.now)) }
 {
     let mut looks = Vec::new(alloc);
     let mut next = 0;
-    // Each round takes one form at least.
+    // Each round takes at least one form.
     for _n in 0..forms.len() {
         if next == forms.len() {
             return Ok(looks);
@@ -105,11 +105,11 @@ fn runs_of(alloc: Global, spot: Spot, forms: &[Tree]) -> Result<Vec<Look>, NoMem
     Ok(looks)
 }
 
-/// The looks of the pattern, for [`solve_by`](crate::need_words::solve_by): its forms in runs that need the same word, one after another.
-/// A pattern of fewer than eight forms has none.
+/// Returns the looks of the pattern, for [`solve_by`](crate::need_words::solve_by): its forms in consecutive runs that need
+/// the same word. A pattern with fewer than eight forms has none.
 ///
-/// Each form is gone through up to the run's word; one that lacks it as a whole, and then up to its own first word and
-/// that word again. The one error is want of memory.
+/// Each form is searched up to the run's word. A form that lacks the word is searched as a whole, then up to its own first
+/// word, and once more for that word. Fails only when out of memory.
 pub fn looks_of(alloc: Global, p: &Pattern) -> Result<Vec<Look>, NoMemory>
     ensures { IfOk result (λ looks. of.AreLooks p.now looks.items) }
 {

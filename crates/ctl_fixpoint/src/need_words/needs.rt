@@ -1,4 +1,4 @@
-// Whether a formula needs one word.
+// Whether a formula needs a given word.
 ghost use Rattle.std.specs.Prelude.{◌≡◌, ◌<◌, true, ◌&&◌, ◌||◌, List, map, length, IfOk};
 ghost use Rattle.ctl_formula.specs.Plain.{Plain};
 ghost use Rattle.ctl_formula.specs.Tables.{at, plain_of, below};
@@ -38,7 +38,7 @@ fn both_of(f: bool, g: bool) -> bool
     f && g
 }
 
-/// Whether a node needs the word, by which of its parts do.
+/// Whether a node needs the word, given which of its parts do.
 fn needs_of(word: &[u8], node: &Node, known: &[bool]) -> bool
     requires { below (length known.now) node.now ≡ true }
     ensures { (fs : List Plain) → known.now ≡ map (of.needs word.now) fs
@@ -65,7 +65,7 @@ fn needs_of(word: &[u8], node: &Node, known: &[bool]) -> bool
     }
 }
 
-/// Whether the part of this number needs the word.
+/// Whether the part with this number needs the word.
 fn part_needs(word: &[u8], known: &[bool], part: usize) -> bool
     requires { part < length known.now }
     ensures { (fs : List Plain) → known.now ≡ map (of.needs word.now) fs → result ≡ of.needs word.now (at fs part) }

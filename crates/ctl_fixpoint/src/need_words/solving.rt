@@ -1,4 +1,4 @@
-// The environments under which a pattern of many forms matches at a node, by looks.
+// The environments under which a pattern with many forms matches at a node, computed with looks.
 ghost use Rattle.std.specs.Prelude.{◌≡◌, ◌≤◌, ◌||◌, ℕ, Bool, true, false, Some, drop, length, IfOk};
 ghost use Rattle.std.specs.List.{list_any};
 ghost use Rattle.smpl_terms.specs.declared.var.Var.{Var};
@@ -19,11 +19,12 @@ use pat_match::solve;
 use smpl_patch::{PatToken, Pattern, VarDecl};
 use std::alloc::Global;
 
-/// A look goes over so many parts of a node's tree for each form that it may spare: less than to try these forms.
+/// The number of parts of a node's tree that a look visits at most for each form that it may spare: less than trying these
+/// forms takes.
 const PARTS_A_FORM: usize = 32;
 
-/// How many parts are left, where none of the tree's tokens is the word. None where one is, or where the tree has more
-/// parts than that. Recurses once a level.
+/// Returns how many parts are left of the budget if none of the tree's tokens is the word. Returns none if one is, or if the
+/// tree has more parts than that. Recurses once per level.
 fn lacking(word: &[u8], tree: &Tree, left: usize) -> Option<usize>
     ensures { (n : ℕ) → result ≡ Some n → has_word word.now tree.now ≡ false }
 {
@@ -55,7 +56,8 @@ fn lacking(word: &[u8], tree: &Tree, left: usize) -> Option<usize>
     }
 }
 
-/// Whether there is a word, and the tree is seen to lack it: true only where it does. No more than so many parts are gone over.
+/// Whether there is a word and the tree is known to lack it. Visits at most `most` parts, and returns true only if the tree
+/// lacks the word.
 fn is_absent(word: &Option<Text>, most: usize, tree: &Tree) -> bool
     ensures { result ≡ true → of.is_absent word.now tree.now ≡ true }
 {
@@ -65,7 +67,7 @@ fn is_absent(word: &Option<Text>, most: usize, tree: &Tree) -> bool
     }
 }
 
-/// Adds the environments of the forms from the first number up to the end.
+/// Adds the environments of the forms from number `first` up to the end.
 fn put_forms(
     alloc: Global,
     entries: &mut Vec<Entry>,
@@ -95,7 +97,7 @@ fn put_forms(
     Ok(())
 }
 
-/// The same for a run of forms, whose word is looked for first.
+/// Adds the environments of a run of forms, unless the tree is known to lack the run's word.
 fn put_run(
     alloc: Global,
     entries: &mut Vec<Entry>,
@@ -127,7 +129,7 @@ fn put_run(
     )
 }
 
-/// The same at a node of this role and tree, run by run.
+/// Returns the environments of all forms at a node with this role and tree, run by run.
 fn solve_runs(
     alloc: Global,
     looks: &[Look],
@@ -162,12 +164,12 @@ fn solve_runs(
     union(alloc, entries)
 }
 
-/// The environments under which the pattern matches at the node, as `solve` of pat_match gives them, where the looks are
-/// the pattern's. Where there are none, all forms are tried.
+/// Returns the environments under which the pattern matches at the node, as `solve` of pat_match does. The looks must be
+/// those of the pattern; if there are none, all forms are tried.
 ///
-/// A run's word is looked for in the node's tree, over at most 32 parts for each form of the run, and its forms are left
-/// out where the tree is seen to lack it. So where no word of the pattern is there, a small tree costs each run a step a
-/// part and no step a form; in a larger one the forms are tried, as `solve` tries all.
+/// A run's word is looked for in the node's tree, over at most 32 parts for each form of the run, and the run's forms are
+/// skipped if the tree is known to lack the word. So if the tree has no word of the pattern, each run costs one step per
+/// part in a small tree and no step per form; in a larger tree the forms are tried, as `solve` tries them all.
 pub fn solve_by(
     alloc: Global,
     looks: &[Look],

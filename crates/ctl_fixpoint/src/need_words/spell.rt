@@ -59,7 +59,7 @@ fn in_branches(word: &[u8], trees: &[Tree]) -> bool
     in_some(word, trees) && in_every(word, trees)
 }
 
-/// Whether the form spells the word in whichever way it fits. Takes no memory. Recurses once a level.
+/// Whether the form spells the word however it fits. Takes no memory. Recurses once per level.
 #[cycle(spell)]
 pub fn spells(word: &[u8], tree: &Tree) -> bool
     ensures { result ≡ of.spells word.now tree.now }
@@ -103,7 +103,7 @@ fn kept_spell(word: &[u8], spot: Spot, label: Label, trees: &[Tree]) -> bool
     false
 }
 
-/// Whether what is compared of the form at the spot spells the word in whichever way it fits. Takes no memory.
+/// Whether the part of the form that is compared at the spot spells the word however it fits. Takes no memory.
 pub fn held_spells(word: &[u8], spot: Spot, form: &Tree) -> bool
     ensures { result ≡ of.held_spells word.now spot form.now }
 {
@@ -139,7 +139,7 @@ fn each_spells(word: &[u8], spot: Spot, forms: &[Tree]) -> bool
     true
 }
 
-/// Whether each of the pattern's forms spells the word, and there is one. Takes no memory.
+/// Whether the pattern has a form and each of its forms spells the word. Takes no memory.
 pub fn spelled(word: &[u8], p: &Pattern) -> bool
     ensures { result ≡ of.spelled word.now p.now }
 {

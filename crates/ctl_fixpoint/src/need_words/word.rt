@@ -4,7 +4,7 @@ ghost use Rattle.ctl_fixpoint.specs.NeedWords.Words as of;
 
 use c_terms::{Token, TokenKind, Tree, same_text};
 
-/// A name, a keyword, a number or a literal.
+/// Whether tokens of the kind are words: names, keywords, numbers and literals.
 pub fn is_word_kind(kind: TokenKind) -> bool
     ensures { result ≡ of.is_word_kind kind }
 {
@@ -25,7 +25,7 @@ pub fn is_word(word: &[u8], token: &Token) -> bool
     is_word_kind(token.kind) && same_text(token.text.as_bytes(), word)
 }
 
-/// Whether one of the tree's tokens is the word. Stops at the first. Recurses once a level.
+/// Whether one of the tree's tokens is the word. Stops at the first match. Recurses once per level.
 pub fn has_word(word: &[u8], tree: &Tree) -> bool
     ensures { result ≡ of.has_word word.now tree.now }
 {

@@ -25,7 +25,7 @@ fn is_among(words: &[Text], word: &[u8]) -> bool
     false
 }
 
-/// Puts the word among these, if it is needed and isn't there.
+/// Adds the word to the list if it is needed and isn't in the list yet.
 fn put_word(
     alloc: Global,
     f: &Formula,
@@ -62,7 +62,7 @@ fn put_token(
     put_word(alloc, f, &token.text, found)
 }
 
-/// Puts the tree's words that are needed. Recurses once a level.
+/// Adds the words of the tree that are needed. Recurses once per level.
 fn put_words(
     alloc: Global,
     f: &Formula,
@@ -127,11 +127,11 @@ fn put_node(
     }
 }
 
-/// The words that the formula needs: exactly those, each once, as they first stand in its table. The one error is want of
-/// memory.
+/// Returns exactly the words that the formula needs, each once, in the order in which they first occur in its table. Fails
+/// only when out of memory.
 ///
-/// Each word of the first forms of the patterns is looked for in the whole table, and in the forms of its patterns up to one that
-/// lacks it: words times the table. Recurses once a level of patterns.
+/// Each word of the patterns' first forms is looked for in the whole table, and there in the forms of each pattern up to one
+/// that lacks it: the cost is words times the table. Recurses once per level of the patterns.
 pub fn needed_words(alloc: Global, f: &Formula) -> Result<Items<Text>, NoMemory>
     ensures words { IfOk result (λ words. (w : List ℕ) → of.is_among words w ≡ of.needs w (plain f.now)) }
 {
@@ -142,8 +142,8 @@ pub fn needed_words(alloc: Global, f: &Formula) -> Result<Items<Text>, NoMemory>
     Ok(found)
 }
 
-/// Whether each of the words is one of the tree's tokens. Goes over the tokens once a word, up to the first that is it, and stops
-/// at a word that none is. Takes no memory. Recurses once a level.
+/// Whether each of the words is one of the tree's tokens. Searches the tokens once per word, up to the first match, and
+/// stops at the first word without a match. Takes no memory. Recurses once per level.
 pub fn may_hold(words: &[Text], tree: &Tree) -> bool
     ensures value { result ≡ of.has_words words.now tree.now }
 {

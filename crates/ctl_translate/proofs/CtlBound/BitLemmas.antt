@@ -1,4 +1,4 @@
--- Bits of masks are computed each by itself.
+-- Each bit of a mask is computed separately.
 use Rattle.std.proofs.Common.{◌≡◌, ℕ, zero, suc, ◌-◌, ◌^◌, ◌<◌, ◌%◌, ◌*◌, min, max, true, false, not, ◌&&◌, ◌||◌, arith, refl, ap, ◌∙◌, inl, inr, ◌⊎◌, w64}
 use Rattle.std.proofs.Common.{◌≢◌}
 use Rattle.std.specs.Prelude.{bit_and, bit_or, nat_eq}

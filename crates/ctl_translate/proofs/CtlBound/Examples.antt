@@ -1,4 +1,4 @@
--- The definitions at small values, above all where two readings would differ.
+-- The definitions at small values, especially at points that could be read in two ways.
 use Rattle.std.proofs.Common.{◌≡◌, ℕ, true, false, Some, None, [], ◌∷◌, cond, refl, codes}
 use Rattle.std.specs.Prelude.{nat_eq}
 use Rattle.smpl_terms.specs.declared.var.Var.{Var}
@@ -21,7 +21,7 @@ y = record { rule = 0; name = codes "y" }
 abbrev pattern : ℕ → Pattern
 pattern n = record { atom = n; spot = spot.Whole; forms = [] }
 
--- the first pattern has x, and any other one y
+-- the first pattern has x, and any other pattern has y
 abbrev sure : Surely
 sure p v = same_var v (cond (nat_eq p.atom 0) x y)
 
@@ -43,7 +43,7 @@ a_quantifier_of_another_variable : binds_at sure x (Exists y some_next)
     ≡ record { holding = true; failing = false; guarded = true }
 a_quantifier_of_another_variable = refl
 
--- a place inside a block says which block that is; one outside, and the lack of one inside, says nothing
+-- a place inside a block says which block that is; one outside, or the negation of one inside, says nothing
 inside_names_its_block : binds_at sure x (Inside x) ≡ record { holding = true; failing = false; guarded = true }
 inside_names_its_block = refl
 
@@ -53,7 +53,8 @@ outside_names_nothing = refl
 not_outside_names_nothing : binds_at sure x (Not (Outside x)) ≡ record { holding = false; failing = false; guarded = true }
 not_outside_names_nothing = refl
 
--- ---- masks: of three variables the first and the last have a value where the formula holds, and the second where it fails
+-- ---- masks: of three variables the first and the last have a value where the formula holds, and the second has one
+-- where it fails
 
 abbrev three : Masks
 three = record { holding = 5; failing = 2; guarded = 7 }

@@ -1,4 +1,4 @@
--- What the masks of many variables say.
+-- What the masks say about many variables.
 use Rattle.std.proofs.Common.{◌≡◌, ℕ, zero, suc, min, ◌+◌, ◌*◌, ◌/◌, ◌%◌, ◌<◌, ◌≤◌, Bool, true, false, true≢false, ◌||◌, cond, nat_lt}
 use Rattle.std.proofs.Common.{arith, refl, sym, ap, subst, ◌∙◌, inl, inr, List, [], ◌∷◌, ◌++◌, length, get_or, take, drop, None, Some}
 use Rattle.std.specs.Prelude.{slice_get, Vec}
@@ -29,7 +29,7 @@ last : (xs : List Masks) (m : Masks) → slice_get (xs ++ m ∷ []) (length xs) 
 last [] m = refl
 last (x ∷ xs) m = last xs m
 
--- a list that is written over stays as long
+-- a list that is overwritten keeps its length
 pub as-long : (new old : List ℕ) (n : ℕ) → n ≡ length old → length new ≡ length old
     → length (take n (new ++ drop (length new) old)) ≡ length old
 as-long new old n h l = grind (arith, common_steps)
@@ -73,7 +73,7 @@ place-within test (x ∷ xs) h = elim (cases_Bool (test x)) [
   | inr e ↦ let later = place-within test xs (ap (λ (z : Bool). z || list_any test xs) (sym e) ∙ h) in rw e (omega (arith, later))
 ]
 
--- a variable that is there has a number
+-- a variable that is in the list has a number
 pub has-number : (vars : List Var) (x : Var) → has vars x ≡ true → (k : ℕ) × (number_of vars x ≡ Some k) × (k < length vars)
 has-number vars x h =
     let test : Var → Bool = λ z. same_var z x in
@@ -91,7 +91,7 @@ place-none test (x ∷ xs) h = elim (cases_Bool (test x)) [
   | inr e ↦ let later = place-none test xs (ap (λ (z : Bool). z || list_any test xs) (sym e) ∙ h) in rw e (omega (arith, later))
 ]
 
--- and one that isn't has none
+-- and a variable that isn't has none
 pub no-number : (vars : List Var) (x : Var) → has vars x ≡ false → number_of vars x ≡ None
 no-number vars x h =
     let test : Var → Bool = λ z. same_var z x in

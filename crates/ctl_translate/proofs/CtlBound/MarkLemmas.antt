@@ -10,7 +10,7 @@ use Rattle.pattern_vars.proofs.SetLemmas.{or_false, put-none}
 use Rattle.ctl_translate.specs.declared.ctl_bound.naming.Mark.{Mark}
 use Rattle.ctl_translate.specs.CtlBound.Naming.{is_marked, lists_of, group_of}
 
--- one more group that has no marks
+-- one more group without marks
 pub empty-more : {Z : Type 0} (groups : List (Vec Mark Z)) (v : Vec Mark Z) → v.items ≡ []
     → ((j : ℕ) → get_or (lists_of groups) j [] ≡ []) → (j : ℕ) → get_or (lists_of (groups ++ v ∷ [])) j [] ≡ []
 empty-more [] v e h zero = e

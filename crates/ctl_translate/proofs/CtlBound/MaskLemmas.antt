@@ -1,4 +1,4 @@
--- What the parts of a table say of a variable, by a bit of their masks.
+-- What the parts of a table say about a variable, given by a bit of their masks.
 use Rattle.std.proofs.Common.{◌≡◌, ℕ, ◌+◌, ◌<◌, ◌≤◌, true, nat_lt, arith, sym, ap, subst, ◌∙◌, List, [], ◌∷◌, ◌++◌, map}
 use Rattle.std.proofs.Common.{length, take, get_or, Some}
 use Rattle.std.specs.Prelude.{slice_get, slice_index}
@@ -29,12 +29,12 @@ use Rattle.ctl_translate.proofs.CtlBound.StepLemmas.{below-step, ordered-steps, 
 abbrev pub no_masks : Masks
 no_masks = record { holding = 0; failing = 0; guarded = 0 }
 
--- what is known of one of the parts
+-- what is known about one of the parts
 pub part : (h : Masks → Binds) (known : List Masks) (i : ℕ) (m : Masks) → nat_lt i (length known) ≡ true
     → h (get_or known i m) ≡ said_at (map h known) i
 part h known i m l = sym (get_or-map h known i m of_true (lt-true i (length known) l))
 
--- what is known of one more part
+-- what is known about one more part
 known-more : (h : Masks → Binds) (g : Plain → Binds) (ns : List Node) (i : ℕ) (ks more : List Masks) (m : Masks) (n : Node)
     → i < length ns → below i n ≡ true → at (plains ns) i ≡ plain_of (plains ns) n → more ≡ ks ++ m ∷ []
     → map h ks ≡ map g (take i (plains ns)) → h m ≡ g (plain_of (take i (plains ns)) n)
@@ -47,7 +47,7 @@ known-more h g ns i ks more m n l b e a s r =
     ap (map h) a ∙ map-append h ks (m ∷ []) ∙ ap (λ z. z ++ h m ∷ []) s
     ∙ ap (λ z. map g (take i (plains ns)) ++ z ∷ []) here ∙ sym whole
 
--- by what its step says
+-- the same, given what its step says
 pub step-more : (sure : Surely) (x : Var) (k : ℕ) (ns : List Node) (steps : List Step) (named : List ℕ) (i : ℕ)
     (ks slice more : List Masks) (m : Masks) → i < length steps → AreOrdered steps → steps ≡ map step_of ns
     → AreNamed sure x k ns named → slice ≡ ks
@@ -75,12 +75,12 @@ step-more sure x k ns steps named i ks slice more m l o copied marked v says-ste
 take-all : (fs : List Plain) (i : ℕ) → length fs ≤ i → take i fs ≡ fs
 take-all fs i h = grind (arith, common_steps)
 
--- and of all
+-- what is known about all parts
 known-all : (h : Masks → Binds) (g : Plain → Binds) (ns : List Node) (i : ℕ) (ks : List Masks) → length ns ≤ i
     → map h ks ≡ map g (take i (plains ns)) → map h ks ≡ map g (plains ns)
 known-all h g ns i ks l e = e ∙ ap (map g) (take-all (plains ns) i (omega (arith, l, length-plains ns)))
 
--- and so of the root
+-- what is known about the root
 pub root-known : (sure : Surely) (x : Var) (k : ℕ) (ns : List Node) (steps : List Step) (i : ℕ) (ks : List Masks)
     (root : ℕ) (m : Masks) → length steps ≤ i → length ks ≡ i → root < length steps → steps ≡ map step_of ns
     → m ≡ get_or ks root m → map (λ z. bit_binds z k) ks ≡ map (binds_at sure x) (take i (plains ns))

@@ -21,7 +21,7 @@ use Rattle.ctl_translate.specs.CtlBound.Bits.{is_bit}
 use Rattle.ctl_translate.specs.CtlBound.Naming.{is_marked}
 use Rattle.ctl_translate.proofs.CtlBound.BitLemmas.{is_bit-set_same, is_bit-set_other}
 
--- a mark's bit is put in
+-- a mark's bit is set
 pub bit-put : (masks : List ℕ) (part variable group : ℕ) → variable / 64 ≡ group → part < length masks
     → (i k : ℕ) → i < length masks → k < 64
     → is_bit (get_or (set masks part (bit_or (get_or masks part 0) (1 * 2 ^ (variable % 64) % 2 ^ 64))) i 0) k
@@ -61,7 +61,7 @@ named-more marks m j i k old new l e o n =
     ∙ ap (λ (z : Mark). is_marked (take j marks) i k || (nat_eq z.part i && nat_eq z.variable k)) e
     ∙ sym (list_any_more (λ (z : Mark). nat_eq z.part i && nat_eq z.variable k) marks j m l)
 
--- variables of one number are one
+-- variables with the same number are equal
 number-true : (o : Option ℕ) (k : ℕ) → is_number o k ≡ true → o ≡ Some k
 number-true None k h = absurd cc
 number-true (Some j) k h = ap Some (eqb-true j k h)
@@ -78,7 +78,7 @@ number-same vars x y k h = elim (cases_Bool (same_var y x)) [
       both_ways (same_var y x) e (ap (λ (z : Var). same_var z x) one ∙ same_var-refl x)) ∙ sym e
 ]
 
--- a variable that has a number is there
+-- a variable that has a number is in the list
 pub has-numbered : (vars : List Var) (x : Var) (k : ℕ) → number_of vars x ≡ Some k → has vars x ≡ true
 has-numbered vars x k h =
     let found = position-Some (λ (z : Var). same_var z x) vars k x h in

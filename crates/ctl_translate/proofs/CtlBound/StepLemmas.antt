@@ -120,7 +120,7 @@ step-get [] i n e = absurd cc
 step-get (m ∷ ns) zero n e = let same : m ≡ n = cc in ap (λ z. Some (step_of z)) same
 step-get (m ∷ ns) (suc i) n e = step-get ns i n e
 
--- a node's parts are earlier ones where those of its step are
+-- a node's parts are earlier ones if those of its step are
 pub below-step : (ns : List Node) → AreOrdered (map step_of ns) → (i : ℕ) (n : Node) → slice_get ns i ≡ Some n
     → below i n ≡ true
 below-step ns o i n e = sym (is_below-node i n) ∙ o i (step_of n) (step-get ns i n e)

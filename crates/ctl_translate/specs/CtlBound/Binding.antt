@@ -1,4 +1,4 @@
--- What a formula says of a variable.
+-- What a formula says about a variable.
 use Rattle.smpl_terms.specs.declared.var.Var.{Var}
 use Rattle.ctl_formula.specs.Plain.{Plain}
 use Rattle.ctl_formula.specs.Bounds.{Surely, bound, bound_not, guarded_for}

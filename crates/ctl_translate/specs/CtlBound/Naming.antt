@@ -1,5 +1,5 @@
--- Which variables a node names: those that its pattern surely has, the place of its brace, that of the block in which it
--- stands, and the one that it quantifies.
+-- Which variables a node names: those that its pattern surely has, the place of its brace, that of the block in which
+-- it is, and the one that it quantifies.
 use Rattle.std.specs.Prelude.{◌≡◌, ℕ, ◌+◌, ◌*◌, ◌/◌, ◌<◌, Bool, false, ◌&&◌, ◌||◌, nat_eq, List, [], map, get_or, Vec, Some, slice_get, slice_index}
 use Rattle.std.specs.List.{list_any}
 use Rattle.smpl_terms.specs.declared.var.Var.{Var}
@@ -21,7 +21,7 @@ names sure (node.Inside b) x = same_var b x
 names sure (node.Exists y f) x = same_var y x
 names sure _ x = false
 
--- in the mask of each node, bit k tells whether the node names the variable
+-- in the mask of each node, bit k says whether the node names the variable
 abbrev pub AreNamed : Surely → Var → ℕ → List Node → List ℕ → Type 0
 AreNamed sure x k ns named =
     (i : ℕ) (n : Node) → slice_get ns i ≡ Some n → is_bit (slice_index named i) k ≡ names sure n x
@@ -42,7 +42,7 @@ lists_of groups = map (λ group. group.items) groups
 abbrev pub group_of : List (List Mark) → ℕ → List Mark
 group_of lists k = get_or lists (k / 64) []
 
--- of each variable of a group, the masks say what part i of the table says
+-- about each variable of a group, the masks say what part i of the table says
 abbrev pub SaysOf : List Node → List Mark → ℕ → ℕ → Masks → Type 0
 SaysOf ns marks i group masks =
     (sure : Surely) (x : Var) (k : ℕ) → k < 64 → AreMarked sure x (64 * group + k) ns marks

@@ -1,4 +1,4 @@
--- What a node says by what its parts say and by what it names: no pattern is needed for that, nor any variable.
+-- What a node says, given what its parts say and what it names: neither patterns nor variables are needed for that.
 use Rattle.std.specs.Prelude.{◌≡◌, ℕ, Bool, true, false, not, ◌&&◌, ◌||◌, nat_lt, List, Some, slice_get, slice_index_or}
 use Rattle.ctl_formula.specs.declared.node.Node.{Node}
 use Rattle.ctl_formula.specs.declared.node.Node.TheVariants as node
@@ -25,7 +25,7 @@ step_of (node.Past f) = step.Moved f
 step_of (node.Down b f) = step.Moved f
 step_of (node.Exists y f) = step.Exists f
 
--- its parts have numbers below n
+-- the numbers of its parts are below n
 abbrev pub is_below : ℕ → Step → Bool
 is_below n step.True = true
 is_below n step.Atom = true
@@ -49,7 +49,7 @@ of_true = record { holding = false; failing = true; guarded = true }
 abbrev pub said_at : List Binds → ℕ → Binds
 said_at known f = slice_index_or known f of_true
 
--- what a step says of a variable, by what earlier ones say of it and by whether its node names it
+-- what a step says about a variable, given what earlier ones say about it and whether its node names it
 abbrev pub says : List Binds → Bool → Step → Binds
 says known own step.True = of_true
 says known own step.Atom = record { holding = own; failing = false; guarded = true }

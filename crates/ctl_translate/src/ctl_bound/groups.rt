@@ -1,4 +1,4 @@
-// What a part of a table says of each declared variable.
+// What a part of a table says about each declared variable.
 ghost use Rattle.std.specs.Prelude.{◌≡◌, ◌<◌, ◌/◌, ℕ, true, false, List, map, length, None, Some, IfOk};
 ghost use Rattle.smpl_terms.specs.declared.var.Var.{Var as Variable};
 ghost use Rattle.smpl_patch.specs.Patterns.{sure};
@@ -21,18 +21,18 @@ use smpl_patch::PatToken;
 use smpl_terms::Var;
 use std::alloc::Global;
 
-/// What a formula says of each declared variable.
+/// What a formula says about each declared variable.
 #[derive(Drop)]
 pub struct Bindings {
     /// The declared variables, each with a number.
     vars: VarSet,
-    /// What it says of 64 variables each, in the order of their numbers.
+    /// What the formula says about 64 variables each, in the order of their numbers.
     masks: Vec<Masks>,
 }
 
 impl Bindings {
-    /// What the formula says of the variable, if that is declared. One look-up and a copy of the variable, linear in the
-    /// name.
+    /// Returns what the formula says about the variable, or `None` if it isn't declared. Takes one look-up and a copy
+    /// of the variable, linear in the name.
     pub fn of(&self, alloc: Global, x: &Var) -> Result<Option<Binds>, NoMemory>
         ensures { IfOk result (λ said. said ≡ binds_in self.now x.now) }
     {
@@ -41,7 +41,7 @@ impl Bindings {
     }
 }
 
-/// What the masks say of the variable of this number.
+/// Returns what the masks say about the variable with this number.
 fn said_of(masks: &[Masks], number: Option<usize>) -> Option<Binds>
     ensures { result ≡ said_of masks.now number }
 {
@@ -51,8 +51,9 @@ fn said_of(masks: &[Masks], number: Option<usize>) -> Option<Binds>
     }
 }
 
-/// What a part of a table says of the 64 variables of the group of this number, by the table's steps and the group's marks.
-/// Linear in the two. `named` is as long as the table; what it and `known` have counts for nothing.
+/// Returns what a part of a table says about the 64 variables of the group with this number, given the table's steps
+/// and the group's marks. Linear in the two. `named` is as long as the table; the old contents of `named` and `known`
+/// don't matter.
 fn group_masks(
     steps: &[Step],
     marks: &[Mark],
@@ -71,7 +72,8 @@ fn group_masks(
     root_masks(steps, named, root, known)
 }
 
-/// What the part says of the variables of each group, by the marks of each. All passes share their room.
+/// Returns what the part says about the variables of each group, given the marks of each. All passes share their
+/// buffers.
 fn all_masks(
     alloc: Global,
     steps: &[Step],
@@ -94,8 +96,9 @@ fn all_masks(
     Ok(masks)
 }
 
-/// What the part of this number says of each declared variable, and of no other one. Each pattern is read once; then each
-/// 64 variables take one pass over a copy of the table that has no patterns, and over which part names which of the 64.
+/// Returns what the part with this number says about each declared variable, and about no other one. Each pattern is
+/// read once; then each 64 variables take one pass over a copy of the table that has no patterns, and over the list of
+/// which part names which of the 64.
 pub fn bindings_of(
     alloc: Global,
     parts: &Parts,

@@ -1,4 +1,4 @@
-// What the parts of a table say of 64 variables at once.
+// What the parts of a table say about 64 variables at once.
 ghost use Rattle.std.specs.Prelude.{◌≡◌, ◌<◌, ℕ, true, false, not, ◌&&◌, ◌||◌, List, map, length, IfOk};
 ghost use Rattle.smpl_terms.specs.declared.var.Var.{Var as Variable};
 ghost use Rattle.ctl_formula.specs.declared.node.Node.{Node as Part};
@@ -12,29 +12,29 @@ ghost use Rattle.ctl_translate.specs.CtlBound.Steps.{step_of, is_below, AreOrder
 use crate::ctl_bound::steps::Step;
 use c_terms::NoMemory;
 
-/// What a formula says of a variable.
+/// What a formula says about a variable.
 #[derive(Clone, Copy)]
 pub struct Binds {
-    /// It has a value of the graph wherever the formula holds.
+    /// Whether it has a value of the graph wherever the formula holds.
     pub holding: bool,
-    /// It has one wherever the formula doesn't hold.
+    /// Whether it has one wherever the formula doesn't hold.
     pub failing: bool,
-    /// Each of its quantifiers in the formula is over a formula that binds it.
+    /// Whether each of its quantifiers in the formula is over a formula that binds it.
     pub guarded: bool,
 }
 
-/// What a formula says of 64 variables, a bit each.
+/// What a formula says about 64 variables, one bit each.
 #[derive(Clone, Copy)]
 pub struct Masks {
-    /// Those that have a value of the graph wherever the formula holds.
+    /// The variables that have a value of the graph wherever the formula holds.
     pub holding: u64,
-    /// Those that have one wherever the formula doesn't hold.
+    /// The variables that have one wherever the formula doesn't hold.
     pub failing: u64,
-    /// Those of which each quantifier in the formula is over a formula that binds them.
+    /// The variables whose every quantifier in the formula is over a formula that binds them.
     pub guarded: u64,
 }
 
-/// What the masks say of the variable of this bit.
+/// Returns what the masks say about the variable of this bit.
 pub fn binds_by(masks: &Masks, k: usize) -> Binds
     requires { k < 64 }
     ensures { result ≡ bit_binds masks.now k }
@@ -46,7 +46,7 @@ pub fn binds_by(masks: &Masks, k: usize) -> Binds
     }
 }
 
-/// Whether the mask has this bit.
+/// Whether this bit of the mask is set.
 fn has_bit(mask: u64, k: usize) -> bool
     requires { k < 64 }
     ensures { result ≡ is_bit mask k }
@@ -54,7 +54,7 @@ fn has_bit(mask: u64, k: usize) -> bool
     (mask >> k) & 1 == 1
 }
 
-/// What `true` says: nothing fails there.
+/// Returns what `true` says: it never fails.
 fn always() -> Masks
     ensures { (k : ℕ) → k < 64 → bit_binds result k ≡ record { holding = false; failing = true; guarded = true } }
 {
@@ -65,7 +65,8 @@ fn always() -> Masks
     }
 }
 
-/// What an atom says that surely has the variables of this mask, and of nothing where it fails.
+/// Returns what an atom says: the variables of this mask surely have values where it holds, and nothing is known where it
+/// fails.
 fn atom(own: u64) -> Masks
     ensures { (k : ℕ) → k < 64 → bit_binds result k ≡ record { holding = is_bit own k; failing = false; guarded = true } }
 {
@@ -76,7 +77,7 @@ fn atom(own: u64) -> Masks
     }
 }
 
-/// What a negation says.
+/// Returns what a negation says.
 fn turned(f: Masks) -> Masks
     ensures { (k : ℕ) → bit_binds result k ≡ record {
       holding = is_bit f.failing k;
@@ -91,7 +92,7 @@ fn turned(f: Masks) -> Masks
     }
 }
 
-/// What two formulas say that both hold.
+/// Returns what a conjunction says.
 fn both(f: Masks, g: Masks) -> Masks
     ensures { (k : ℕ) → bit_binds result k ≡ record {
       holding = is_bit f.holding k || is_bit g.holding k;
@@ -106,7 +107,7 @@ fn both(f: Masks, g: Masks) -> Masks
     }
 }
 
-/// What two formulas say of which one holds.
+/// Returns what a disjunction says.
 fn either(f: Masks, g: Masks) -> Masks
     ensures { (k : ℕ) → bit_binds result k ≡ record {
       holding = is_bit f.holding k && is_bit g.holding k;
@@ -121,7 +122,7 @@ fn either(f: Masks, g: Masks) -> Masks
     }
 }
 
-/// What is said where some or every walk comes to the second formula, through nodes with the first.
+/// Returns what an until says: some or every walk reaches the second formula, through nodes with the first.
 fn until(f: Masks, g: Masks) -> Masks
     ensures { (k : ℕ) → bit_binds result k ≡ record {
       holding = is_bit g.holding k;
@@ -135,7 +136,7 @@ fn until(f: Masks, g: Masks) -> Masks
     }
 }
 
-/// What is said where the formula holds at a node that this node may lack.
+/// Returns what is said if the formula holds at a node that the current node may lack.
 fn moved(f: Masks) -> Masks
     ensures { (k : ℕ) → bit_binds result k ≡ record {
       holding = is_bit f.holding k;
@@ -146,7 +147,7 @@ fn moved(f: Masks) -> Masks
     Masks { failing: 0, ..f }
 }
 
-/// What is said under a quantifier of the variables of this mask.
+/// Returns what is said under a quantifier of the variables of this mask.
 fn exists(f: Masks, own: u64) -> Masks
     ensures { (k : ℕ) → k < 64 → bit_binds result k ≡ record {
       holding = is_bit f.holding k && not (is_bit own k);
@@ -161,7 +162,7 @@ fn exists(f: Masks, own: u64) -> Masks
     }
 }
 
-/// What a step says, by what its parts say and by the mask of the variables that its node names.
+/// Returns what a step says, given what its parts say and the mask of the variables that its node names.
 fn masks_of(step: Step, own: u64, known: &[Masks]) -> Masks
     requires { is_below (length known.now) step ≡ true }
     ensures { (k : ℕ) → k < 64
@@ -180,9 +181,9 @@ fn masks_of(step: Step, own: u64, known: &[Masks]) -> Masks
     }
 }
 
-/// What the part of this number says, by the steps of a table and the mask of the variables that each part names. One pass
-/// over the two. What earlier parts say is kept in `known`, in place of what was there; memory is taken only where its room
-/// doesn't suffice.
+/// Returns what the part with this number says, given the steps of a table and the masks of the variables that each
+/// part names. Takes one pass over the two. What earlier parts say is stored in `known`, in place of its old contents;
+/// memory is allocated only if its capacity doesn't suffice.
 pub fn root_masks(
     steps: &[Step],
     named: &[u64],

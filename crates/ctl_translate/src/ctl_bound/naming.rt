@@ -15,7 +15,7 @@ use smpl_patch::{PatToken, Pattern};
 use smpl_terms::Var;
 use std::alloc::Global;
 
-/// A part of a table names a variable.
+/// Says that a part of a table names a variable.
 #[derive(Clone, Copy)]
 pub struct Mark {
     /// The number of the part.
@@ -24,7 +24,7 @@ pub struct Mark {
     pub variable: usize,
 }
 
-/// Puts in the variables that a brace names: those that its pattern surely has, and the one that is its place.
+/// Adds the variables that a brace names: those that its pattern surely has, and the one that is its place.
 fn put_brace(
     alloc: Global,
     decls: &Decls,
@@ -41,7 +41,7 @@ fn put_brace(
     Ok(())
 }
 
-/// Puts in the variables that the node names.
+/// Adds the variables that the node names.
 fn put_names(
     alloc: Global,
     decls: &Decls,
@@ -73,7 +73,7 @@ fn put_names(
     }
 }
 
-/// Marks the part with the variable, if that has a number.
+/// Marks the part with the variable, if the variable has a number.
 fn push_mark(
     alloc: Global,
     vars: &VarSet,
@@ -132,7 +132,7 @@ fn push_part(
     Ok(())
 }
 
-/// Which parts name which of the variables. Each pattern is read once.
+/// Returns the marks that say which parts name which of the variables. Each pattern is read once.
 pub fn marks_of(
     alloc: Global,
     parts: &Parts,
@@ -151,7 +151,7 @@ pub fn marks_of(
     Ok(marks)
 }
 
-/// Puts the mark to those of the group of its variable, if there is such a group.
+/// Adds the mark to the group of its variable, if there is such a group.
 fn put_in_group(mark: &Mark, groups: &mut Vec<Vec<Mark>>) -> Result<(), NoMemory>
     ensures len { OnOk result (length groups.new.items ≡ length groups.old.items) }
     ensures marks { OnOk result ((i k : ℕ) → k / 64 < length groups.old.items
@@ -166,8 +166,8 @@ fn put_in_group(mark: &Mark, groups: &mut Vec<Vec<Mark>>) -> Result<(), NoMemory
     Ok(())
 }
 
-/// The marks by the groups of their variables: so many lists, one for each 64 variables; a mark of a later variable is left
-/// out. Linear in both.
+/// Returns the marks by the groups of their variables: `count` lists, one for each 64 variables. Marks of later
+/// variables are omitted. Linear in both.
 pub fn grouped(alloc: Global, marks: &[Mark], count: usize) -> Result<Vec<Vec<Mark>>, NoMemory>
     ensures len { IfOk result (λ groups. length groups.items ≡ count) }
     ensures marks { IfOk result (λ groups. (i k : ℕ) → k / 64 < count
@@ -183,7 +183,7 @@ pub fn grouped(alloc: Global, marks: &[Mark], count: usize) -> Result<Vec<Vec<Ma
     Ok(groups)
 }
 
-/// Puts the mark's bit into the mask of its part, if the mark's variable is one of the group of this number.
+/// Sets the mark's bit in the mask of its part, if the mark's variable is in the group with this number.
 fn put_bit(mark: &Mark, group: usize, named: &mut [u64])
     ensures { (i k : ℕ) → i < length named.old → k < 64 → is_bit (slice_index named.new i) k
         ≡ (is_bit (slice_index named.old i) k || (nat_eq mark.now.part i && nat_eq mark.now.variable (64 * group + k))) }
@@ -193,8 +193,8 @@ fn put_bit(mark: &Mark, group: usize, named: &mut [u64])
     }
 }
 
-/// Writes for each part which of the 64 variables of the group of this number it names, a bit each, in place of what was
-/// written there. One pass over the parts and the marks; takes no memory.
+/// Writes for each part which of the 64 variables of the group with this number it names, one bit each, over the old
+/// contents. Takes one pass over the parts and the marks; allocates nothing.
 pub fn put_named(marks: &[Mark], group: usize, named: &mut [u64])
     ensures { (i k : ℕ) → i < length named.old → k < 64 → is_bit (slice_index named.new i) k
         ≡ is_marked marks.now i (64 * group + k) }

@@ -6,10 +6,10 @@ use c_terms::NoMemory;
 use ctl_formula::{Node, Parts};
 use std::alloc::Global;
 
-/// How the masks of a node go by those of its parts, which have these numbers.
+/// How the masks of a node depend on those of its parts, which have these numbers.
 #[derive(Clone, Copy)]
 pub enum Step {
-    /// It holds everywhere.
+    /// Holds everywhere.
     True,
     /// An atom, a brace, a place inside or outside a block, or the beginning of a body that leaves the function.
     Atom,
@@ -19,17 +19,17 @@ pub enum Step {
     And(usize, usize),
     /// `f or g`
     Or(usize, usize),
-    /// `f` at some or every next node.
+    /// `f` holds at some or every next node.
     Next(usize),
-    /// Some or every walk comes to `g`, through nodes with `f`.
+    /// Some or every walk reaches `g`, through nodes with `f`.
     Until(usize, usize),
-    /// `f` at a node that this node may lack.
+    /// `f` holds at a node that the current node may lack.
     Moved(usize),
-    /// `f` under some value of a variable.
+    /// `f` holds under some value of a variable.
     Exists(usize),
 }
 
-/// The step of the node.
+/// Returns the step of the node.
 fn step_of(node: &Node) -> Step
     ensures { result ≡ step_of node.now }
 {
@@ -54,7 +54,7 @@ fn step_of(node: &Node) -> Step
     }
 }
 
-/// The steps of the table's nodes. Linear in the table.
+/// Returns the steps of the table's nodes. Linear in the table.
 pub fn steps_of(alloc: Global, parts: &Parts) -> Result<Vec<Step>, NoMemory>
     ensures same { IfOk result (λ steps. steps.items ≡ map step_of parts.now) }
     ensures ordered { IfOk result (λ steps. AreOrdered steps.items) }

@@ -1,4 +1,4 @@
--- Distinct keys of a set of edits differ.
+-- The distinct keys of a set of edits differ.
 use Rattle.std.proofs.Common.{◌≡◌, ℕ, zero, suc, true, false, ◌∙◌, arith, List, [], ◌∷◌, slice_get, subst}
 use Rattle.std.specs.Prelude.{Some}
 use Rattle.std.specs.List.{IsDistinct, AllByRecursion}

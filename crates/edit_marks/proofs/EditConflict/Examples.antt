@@ -1,4 +1,4 @@
--- Edits that clash at a token and such that do not.
+-- Edits that clash at a token and edits that don't.
 use Rattle.std.specs.Prelude.{◌≡◌, ℕ, Bool, true, false, List, [], ◌∷◌, refl, codes}
 use Rattle.edit_marks.specs.declared.edit_conflict.edit.Side.{Side}
 use Rattle.edit_marks.specs.declared.edit_conflict.edit.Side.TheVariants.{Before, After}
@@ -20,7 +20,7 @@ insertion token side text = record { removed = []; inserts = insert token side f
 abbrev addition : ℕ → Side → List ℕ → Edit
 addition token side text = record { removed = []; inserts = insert token side true text ∷ [] }
 
--- a call, and the call around it: of `f(f(x))` the inner one has the tokens 8 to 11
+-- a call, and the call around it: in `f(f(x))` the inner one has the tokens 8 to 11
 abbrev inner : Edit
 inner = removal (8 ∷ 9 ∷ 10 ∷ 11 ∷ [])
 
@@ -52,24 +52,24 @@ removes_where_another_inserts = refl
 equal_edits_count_once : once (inner ∷ outer ∷ inner ∷ []) ≡ inner ∷ outer ∷ []
 equal_edits_count_once = refl
 
--- edits that put in other texts are other edits
+-- edits that insert different texts are different edits
 other_texts : once (insertion 3 After (codes "a") ∷ insertion 3 After (codes "b") ∷ []) ≡ insertion 3 After (codes "a") ∷ insertion 3 After (codes "b") ∷ []
 other_texts = refl
 
 -- ---- `++` lines
 
--- two inserts from `++` lines stand at one side of a token
+-- two inserts from `++` lines may be on one side of a token
 two_of_many : meet_at 3 (addition 3 After (codes "a")) (addition 3 After (codes "b")) ≡ false
 two_of_many = refl
 
--- one from `++` lines and one from others don't
+-- one from `++` lines and one from other lines may not
 one_of_many : meet_at 3 (addition 3 After (codes "a")) (insertion 3 After (codes "b")) ≡ true
 one_of_many = refl
 
 other_of_many : meet_at 3 (insertion 3 After (codes "a")) (addition 3 After (codes "b")) ≡ true
 other_of_many = refl
 
--- nor where one of the edits has both kinds there
+-- nor may they if one of the edits has both kinds there
 abbrev both_kinds : Edit
 both_kinds = record { removed = []; inserts = insert 3 After true (codes "a") ∷ insert 3 After false (codes "b") ∷ [] }
 
@@ -82,7 +82,7 @@ many_on_two_sides = refl
 many_where_another_removes : meet_at 3 (addition 3 Before (codes "a")) (removal (3 ∷ [])) ≡ true
 many_where_another_removes = refl
 
--- equal edits are one edit, and edits that differ in this alone are two
+-- equal edits are one edit, and edits that differ only in this are two
 equal_of_many : once (addition 3 After (codes "a") ∷ addition 3 After (codes "a") ∷ []) ≡ addition 3 After (codes "a") ∷ []
 equal_of_many = refl
 

@@ -1,4 +1,4 @@
--- Two edits meet at a token exactly where an act of each stands there and the two are in conflict.
+-- Two edits meet at a token exactly if each has an act there and the two acts conflict.
 use Rattle.std.proofs.Common.{◌≡◌, ◌<◌, ◌+◌, ◌⊎◌, ◌==◌, ◌||◌, ◌&&◌, ℕ, zero, suc, Bool, true, false, refl, sym, ap, ◌∙◌, arith, inl, inr, List, [], ◌∷◌, subst, slice_get}
 use Rattle.std.specs.Prelude.{Some, not}
 use Rattle.std.specs.Cmp.{first_so, second_so}
@@ -24,7 +24,7 @@ conflict Remove b = true
 conflict (Insert s many n) Remove = true
 conflict (Insert s many n) (Insert t more m) = side_number s == side_number t && not (many && more)
 
--- acts in conflict, of these two edits at this token
+-- conflicting acts of these two edits at this token
 pub record MarkClash (marks : List Mark) (c : Clash) : Type 0 where
   pub one : Mark
   pub two : Mark
@@ -37,7 +37,7 @@ pub record MarkClash (marks : List Mark) (c : Clash) : Type 0 where
   pub rise : c.first < c.second
   pub meet : conflict one.act two.act ≡ true
 
--- what an act says of its edit
+-- what an act says about its edit
 abbrev pub Does : Edit → ℕ → Act → Type 0
 Does e token Remove = removes token e ≡ true
 Does e token (Insert s many n) = (inserts s token e ≡ true) × (many ≡ false → inserts_alone s token e ≡ true)
@@ -165,7 +165,7 @@ insert_mark edit n token s (i ∷ is) h = elim (either (i.token == token && side
   | inr k ↦ later_mark edit n token s i is (insert_mark edit (n + 1) token s is k)
 ]
 
--- one that stands alone
+-- an insert that must be alone
 abbrev AlonePlaced : ℕ → ℕ → Side → List Mark → Type 0
 AlonePlaced edit token s marks = (p : Placed edit token s marks) × (p.many ≡ false)
 
@@ -248,7 +248,7 @@ into t a b = inserts_at t a && removes t b
 abbrev out : ℕ → Edit → Edit → Bool
 out t a b = removes t a && inserts_at t b
 
--- two inserts on one side, one of which stands alone
+-- two inserts on one side, one of which must be alone
 two_there : (edits : List Edit) (c : Clash) (is : IsClash edits c) (s : Side) (p : Placed c.first c.token s (marks_from 0 edits))
     (q : Placed c.second c.token s (marks_from 0 edits)) → not (p.many && q.many) ≡ true → MarkClash (marks_from 0 edits) c
 two_there edits c is s p q alone = record {
@@ -396,7 +396,7 @@ clash_of edits c differ m =
       };
     }
 
--- the same of a list that has the same acts
+-- the same for a list that has the same acts
 pub along : (xs ys : List Mark) (c : Clash) → ((m : Mark) → In m xs → In m ys) → MarkClash xs c → MarkClash ys c
 along xs ys c into m = record {
   one = m.one;

@@ -11,7 +11,7 @@ use Rattle.edit_marks.proofs.EditConflict.Members.{In, In-either, In-filter, In-
 abbrev pub NoLater : Mark → Mark → Type 0
 NoLater a b = (a.token < b.token) ⊎ ((a.token ≡ b.token) × (a.edit ≤ b.edit))
 
--- each is no later than those after it
+-- each act is no later than those after it
 abbrev pub Ordered : List Mark → Type 0
 Ordered [] = Unit {0}
 Ordered (m ∷ ms) = ((x : Mark) → In x ms → NoLater m x) × Ordered ms
@@ -25,7 +25,7 @@ Ordered-drop zero ms o = o
 Ordered-drop (suc n) [] o = o
 Ordered-drop (suc n) (m ∷ ms) o = Ordered-drop n ms o.1
 
--- the acts of the edits rise by edit
+-- the acts of the edits are ascending by edit
 
 Rising-append : (xs ys : List Mark) → Rising xs → Rising ys → ((x y : Mark) → In x xs → In y ys → x.edit ≤ y.edit) → Rising (xs ++ ys)
 Rising-append [] ys r s below = s
@@ -70,7 +70,7 @@ Rising-filter p (m ∷ ms) r = elim (p m) as (λ b. Rising (cond b (m ∷ filter
   | false ↦ Rising-filter p ms r.1
 ]
 
--- sorted by token, and rising at each token
+-- sorted by token, and ascending by edit at each token
 
 place_of : (x : Mark) (ms : List Mark) → In x ms → (k : ℕ) × ((k < length ms) × (get_or ms k x ≡ x))
 place_of x [] h = absurd h

@@ -1,4 +1,4 @@
--- The search among sorted acts.
+-- The search through sorted acts.
 use Rattle.std.proofs.Common.{◌≡◌, ◌<◌, ◌≤◌, ◌+◌, ◌⊎◌, ◌==◌, ◌||◌, ◌&&◌, ℕ, suc, Bool, true, false, refl, sym, ap, ◌∙◌, arith, inl, inr, List, [], ◌∷◌, subst, take, drop, fold, cond}
 use Rattle.std.specs.Prelude.{Some, None, if◌then◌else◌}
 use Rattle.std.specs.Cmp.{first_so, second_so}
@@ -62,7 +62,7 @@ none_met (Insert Before false n) = refl
 none_met (Insert After true n) = refl
 none_met (Insert After false n) = refl
 
--- a run of acts is in conflict where one of them is
+-- a run of acts conflicts if one of them does
 pub run_conflicts : (ms : List Mark) (y : Act) → conflicts (fold (λ acts m. acts_with acts m.act) no_acts ms) y ≡ list_any (λ m. conflict m.act y) ms
 run_conflicts ms y = all_acts no_acts ms y ∙ ap (λ b. b || list_any (λ m. conflict m.act y) ms) (none_met y)
 
@@ -73,7 +73,7 @@ or_swap true b c d = refl
 or_swap false true c d = sym (or_true c)
 or_swap false false c d = refl
 
--- what is in conflict with the acts of both is so with those of one
+-- what conflicts with the acts of both conflicts with those of one
 both_conflict : (a b : Acts) (y : Act) → conflicts (acts_of_both a b) y ≡ (conflicts a y || conflicts b y)
 both_conflict a b Remove =
     ap (λ s. s || (a.after || b.after)) (or_swap a.removes b.removes a.before b.before)
@@ -83,7 +83,7 @@ both_conflict a b (Insert Before false n) = or_swap a.removes b.removes a.before
 both_conflict a b (Insert After true n) = or_swap a.removes b.removes a.alone_after b.alone_after
 both_conflict a b (Insert After false n) = or_swap a.removes b.removes a.after b.after
 
--- `those` stands where `these` does
+-- `those` holds if `these` does
 implied : (these those : Bool) → implies these those ≡ true → these ≡ true → those ≡ true
 implied true those h e = h
 implied false those h e = absurd cc
@@ -98,7 +98,7 @@ or_implied true b c d h k = ap (λ s. s || d) h
 or_implied false true c d h k = ap (λ s. c || s) k ∙ or_true c
 or_implied false false c d h k = refl
 
--- what is in conflict with these acts is so with those that they are among
+-- what conflicts with these acts conflicts with any acts that they are among
 among : (those these : Acts) (y : Act) → are_among those these ≡ true → conflicts these y ≡ true → conflicts those y ≡ true
 among those these y h e =
     let four = first_so _ _ h in
@@ -126,7 +126,7 @@ not_true : (a : Bool) → (a ≡ true → ⊥) → a ≡ false
 not_true true h = absurd (h refl)
 not_true false h = refl
 
--- where no act at the token passes, none is met
+-- if no act at the token passes, none is met
 pub none_passes : (test : Act → Bool) (token : ℕ) (ms : List Mark)
     → ((d : Mark) → In d ms → d.token ≡ token → test d.act ≡ true → ⊥) → first_met test token ms ≡ None
 none_passes test token [] h = refl
@@ -139,7 +139,7 @@ none_passes test token (m ∷ ms) h = by (m.token == token) refl (none_passes te
         let fails = not_true (test m.act) (h m (inl refl) ((Decides-eqb m.token token).0 e)) in
         ap (λ t. if t then Some m.edit else first_met test token ms) fails ∙ rest
 
--- of acts that are among those with which nothing is met, nothing is met
+-- if nothing is met by some acts, nothing is met by acts that are among them
 pub met_less : (those these : Acts) (token : ℕ) (ms : List Mark) → are_among those these ≡ true
     → first_met (conflicts those) token ms ≡ None → first_met (conflicts these) token ms ≡ None
 met_less those these token [] h none = refl
@@ -157,7 +157,7 @@ met_less those these token (m ∷ ms) h none = by (m.token == token) refl (confl
         let fails = not_true (conflicts these m.act) (λ yes. let no : conflicts those m.act ≡ true = among those these m.act h yes in absurd cc) in
         ap (λ t. if t then Some m.edit else first_met (conflicts these) token ms) fails ∙ less rest
 
--- no act at this token is in conflict with these
+-- no act at this token conflicts with these
 abbrev pub Quiet : Acts → ℕ → List Mark → Type 0
 Quiet acts token ms = (d : Mark) → In d ms → d.token ≡ token → conflicts acts d.act ≡ true → ⊥
 
@@ -172,7 +172,7 @@ quiet_both a b token ms h k d l same e = by (conflicts a d.act) refl (conflicts 
     by false f true g is = k d l same g
     by false f false g is = let no : (conflicts a d.act || conflicts b d.act) ≡ false = λ i. f i || g i in absurd cc
 
--- what is settled is so at its token alone
+-- what is settled is settled only at its token
 pub quiet_at : (s : Settled) (token : ℕ) (ms : List Mark) → Quiet s.acts s.token ms → Quiet (settled_at s token) token ms
 quiet_at s token ms h = by (s.token == token) refl
   where
@@ -312,7 +312,7 @@ after_run t p (m ∷ ms) o up x h = by (is_of t p m) refl (after_run t p ms o.1 
           | inr later ↦ earlier_on t p m x here (o.0 x later)
         ]
 
--- the acts that are left begin with a run
+-- the remaining acts begin with a run
 module _ (m : Mark) (ms : List Mark) (o : Ordered (m ∷ ms)) where
   abbrev pub run : ℕ
   run = prefix_len (is_of m.token m.edit) (m ∷ ms)
@@ -335,7 +335,7 @@ module _ (m : Mark) (ms : List Mark) (o : Ordered (m ∷ ms)) where
   pub back_up : (x : Mark) → In x back → m.token ≤ x.token
   back_up x h = elim (later x h) [ inl less ↦ omega arith | inr both ↦ omega (arith, both.0) ]
 
-  -- of two acts in conflict, whose edits rise
+  -- of two conflicting acts whose edits are ascending
   record Halves (d : Clash) : Type 0 where
     one : Mark
     two : Mark
@@ -390,14 +390,14 @@ module _ (m : Mark) (ms : List Mark) (o : Ordered (m ∷ ms)) where
   tests : (d : Clash) (h : Halves d) → conflicts (fold (λ acts m. acts_with acts m.act) no_acts front) h.two.act ≡ true
   tests d h = run_conflicts front h.two.act ∙ In-any (λ (x : Mark). conflict x.act h.two.act) h.one front h.one_front h.meet
 
-  -- where nothing is met, what is left is behind the run
+  -- if nothing is met, the remaining acts come after the run
   pub go_on : first_met (conflicts (fold (λ acts m. acts_with acts m.act) no_acts front)) m.token back ≡ None → (d : Clash) → MarkClash (m ∷ ms) d → MarkClash back d
   go_on none d c = elim (split d c) [
     | inl h ↦ absurd (not_met (conflicts (fold (λ acts m. acts_with acts m.act) no_acts front)) m.token back (Ordered-drop run (m ∷ ms) o) back_up none h.two h.two_back h.two_token (tests d h))
     | inr rest ↦ rest
   ]
 
-  -- what is met is a clash, and none is before it
+  -- what is met is a clash, and no clash comes before it
   pub is_met : (q : ℕ) → first_met (conflicts (fold (λ acts m. acts_with acts m.act) no_acts front)) m.token back ≡ Some q
       → MarkClash (m ∷ ms) (record { token = m.token; first = m.edit; second = q }) × ((d : Clash) → MarkClash (m ∷ ms) d → NotAfter (record { token = m.token; first = m.edit; second = q }) d)
   is_met q some =

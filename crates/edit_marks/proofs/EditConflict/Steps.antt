@@ -17,7 +17,7 @@ use Rattle.edit_marks.proofs.EditConflict.Scans.{Quiet, quiet_both, not_met, bac
 abbrev pub taken : List Mark → Acts
 taken ms = fold (λ acts m. acts_with acts m.act) no_acts ms
 
--- what one run answers: the place after it, and what its acts meet
+-- the result of one run: the place after it, and what its acts meet
 pub record Step (marks : List Mark) (at n : ℕ) (m : Mark) (acts : Acts) : Type 0 where
   pub place : at < length marks
   pub here : m ≡ get_or marks at m
@@ -75,7 +75,7 @@ module _ (marks : List Mark) (at n : ℕ) (m : Mark) (acts : Acts) (o : Ordered 
         λ d c. r.1 d (subst (λ (ms : List Mark). MarkClash ms d) rest c),
       )
 
-  -- what was settled before and what this edit does is settled behind its acts
+  -- what was settled before, and what this edit does, is settled after its acts
   pub quiet_here : (known : Acts) → Quiet known m.token (drop at marks)
       → None ≡ first_met (conflicts acts) m.token (take (length marks - (at + n)) (drop (at + n) marks))
       → Quiet (acts_of_both known acts) m.token (drop (at + n) marks)

@@ -16,7 +16,7 @@ second_key = refl
 no_key : number_of (5 ∷ 7 ∷ 5 ∷ []) 6 ≡ None
 no_key = refl
 
--- ids of a file that was edited before: 9 is its second token, and the id 4 is of none
+-- ids of a file that was edited before: 9 is its second token, and no token has the id 4
 by_numbers : pairs_of (3 ∷ 9 ∷ 12 ∷ []) (Some ((let p : AlignedToken = record { pattern = 2; files = 9 ∷ 4 ∷ 12 ∷ [] } in p) ∷ []))
     ≡ (let q : Aligned = record { pattern = 2; files = 1 ∷ 2 ∷ [] } in q) ∷ []
 by_numbers = refl

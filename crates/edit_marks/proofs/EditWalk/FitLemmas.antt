@@ -30,7 +30,7 @@ use Rattle.edit_marks.specs.EditWalk.Fit.{FitsText, AreInOrder}
 use Rattle.edit_marks.proofs.EditWalk.NumberLemmas.{number_within}
 use Rattle.edit_marks.proofs.EditWalk.OrderLemmas.{inserts_in_order}
 
--- ---- what holds of each edit holds of each one kept
+-- ---- what holds for each edit holds for each kept edit
 
 module _ (P : Edit → Type 0) where
   with_all : (b : Bool) (edits : List Edit) (e : Edit) → All P edits → P e → All P (if b then edits else edits ++ e ∷ [])
@@ -45,14 +45,14 @@ module _ (P : Edit → Type 0) where
   pub once_all : (edits : List Edit) → All P edits → All P (once edits)
   once_all edits all = fold_all [] edits (All-nil P) all
 
-  -- and it holds of each edit where it does for the edit of each touch
+  -- and it holds for each edit if it holds for the edit of each touch
   pub each_all : (R : Touched → Edit → Type 0) (ts : List Touched) (edits : List Edit) → ((t : Touched) (e : Edit) → R t e → P e) → AllZip R ts edits → All P edits
   each_all R [] [] from zip = All-nil P
   each_all R [] (e ∷ edits) from zip = absurd zip
   each_all R (t ∷ ts) [] from zip = absurd zip
   each_all R (t ∷ ts) (e ∷ edits) from zip = All-cons P e edits (from t e zip.0) (each_all R ts edits from zip.1)
 
-  -- the same, where each touch has more to say
+  -- the same, if more is known of each touch
   pub each_all_with : (R : Touched → Edit → Type 0) (Q : Touched → Type 0) (ts : List Touched) (edits : List Edit) → ((t : Touched) (e : Edit) → Q t → R t e → P e)
       → All Q ts → AllZip R ts edits → All P edits
   each_all_with R Q [] [] from have zip = All-nil P
@@ -100,7 +100,7 @@ minus_below tokens n (p ∷ pairs) h =
     All-append (λ m. m < n) (if is_minus_at tokens p.pattern then p.files else []) (minus_tokens tokens pairs)
     (if_minus n (is_minus_at tokens p.pattern) p.files (All-head (AreBelow n) p pairs h)) (minus_below tokens n pairs (All-tail (AreBelow n) p pairs h))
 
--- ---- inserts stand at tokens of the table
+-- ---- inserts are at tokens of the table
 
 some_within : {A : Type 0} (xs : List A) (n : ℕ) (x : A) → slice_get xs n ≡ Some x → n < length xs
 some_within [] n x at = absurd cc

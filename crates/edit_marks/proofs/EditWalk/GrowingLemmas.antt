@@ -27,7 +27,7 @@ module _ (R : Touched → Edit → Type 0) where
     each = each_both ts us h.more k.more h.each k.each;
   }
 
-  -- a loop over what has touches
+  -- a loop over things that have touches
   pub adds_more : {X : Type 0} (f : X → List Touched) (xs : List X) (i : ℕ) (x : X) (a b c : List Edit) → i < length xs → x ≡ get_or xs i x
       → Adds R a b (flat_map f (take i xs)) → Adds R b c (f x) → Adds R a c (flat_map f (take (i + 1) xs))
   adds_more f xs i x a b c lt is h k =
@@ -41,6 +41,6 @@ module _ (R : Touched → Edit → Type 0) where
       → Adds R a b (flat_map f (take i xs)) → Adds R a b (flat_map f xs)
   adds_end f xs i a b le h = subst (λ l. Adds R a b (flat_map f l)) (take_all i xs le) h
 
-  -- from nothing on
+  -- from the empty list on
   pub adds_all : (old es : List Edit) (ts : List Touched) → old ≡ [] → Adds R old es ts → AllZip R ts es
   adds_all old es ts none h = subst (AllZip R ts) (sym (h.joined ∙ ap (λ (l : List Edit). l ++ h.more) none)) h.each

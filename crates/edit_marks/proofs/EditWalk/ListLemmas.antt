@@ -1,4 +1,4 @@
--- Lists up to a place, and loops that put what each member gives behind a list.
+-- Lists up to a place, and loops that append what each member yields to a list.
 use Rattle.std.proofs.Common.{◌≡◌, ◌<◌, ◌≤◌, ◌+◌, ℕ, zero, suc, sym, ap, ◌∙◌, add-one, List, [], ◌∷◌, ◌++◌, length, drop, take, get_or, append_assoc}
 use Rattle.std.proofs.lemmas.List.{drop_more, drop_all, append-nil}
 use Rattle.std.specs.Prelude.{Some, slice_get}
@@ -12,7 +12,7 @@ up_to (y ∷ ys) (suc i) x at = ap (λ l. y ∷ l) (up_to ys i x at)
 pub take_here : {A : Type 0} (xs : List A) (i : ℕ) (x : A) → slice_get xs i ≡ Some x → take (i + 1) xs ≡ take i xs ++ x ∷ []
 take_here xs i x at = ap (λ n. take n xs) (add-one i) ∙ up_to xs i x at
 
--- a loop that puts what each member gives behind a list
+-- a loop that appends what each member yields to a list
 pub put-step : {X Y : Type 0} (one : X → List Y) (all : List X → List Y) → ((x : X) (xs : List X) → all (x ∷ xs) ≡ one x ++ all xs)
     → (xs : List X) (i : ℕ) (x : X) (found next whole : List Y) → i < length xs → x ≡ get_or xs i x → next ≡ found ++ one x
     → found ++ all (drop i xs) ≡ whole → next ++ all (drop (i + 1) xs) ≡ whole

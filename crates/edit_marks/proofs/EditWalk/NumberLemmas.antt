@@ -28,7 +28,7 @@ number_within keys key =
     let P : ℕ → Type 0 = λ m. IfSome (number_of keys key) (λ n. n < m) in
     subst P e (found_within (λ k. eqb k key) 0 keys)
 
--- one key more, before the others
+-- one more key, before the others
 pub one_earlier : (keys : List ℕ) (i key : ℕ) (old new : Option ℕ) → i < length keys → new ≡ with_number (get_or keys i 0) i key old
     → old ≡ position_from (λ k. eqb k key) (i + 1) (drop (i + 1) keys) → new ≡ position_from (λ k. eqb k key) i (drop i keys)
 one_earlier keys i key old new lt is h = is ∙ ap (cond (eqb (get_or keys i 0) key) (Some i)) h ∙ sym (from_here (λ k. eqb k key) keys i lt)

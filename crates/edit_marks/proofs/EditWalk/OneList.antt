@@ -1,4 +1,4 @@
--- Of witnesses there is one list of edits.
+-- Witnesses have only one list of edits.
 use Rattle.std.proofs.Common.{◌≡◌, refl, sym, ap, ◌∙◌, List, [], ◌∷◌}
 use Rattle.std.specs.List.{AllZip}
 use Rattle.c_lexer.specs.Pieces.{TextPiece}

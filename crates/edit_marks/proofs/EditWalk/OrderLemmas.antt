@@ -1,4 +1,4 @@
--- The inserts of an edit stand in order, since the places of plus code do.
+-- The inserts of an edit are in order, since the places of plus code are.
 use Rattle.std.proofs.Common.{◌≡◌, ◌<◌, ◌≤◌, ℕ, suc, Bool, true, false, refl, ◌∙◌, arith, List, [], ◌∷◌, ◌++◌, length, get_or}
 use Rattle.std.specs.Prelude.{Option, None, Some, All, slice_get}
 use Rattle.std.specs.Ordering.{is_lt, ordering_then, nat_cmp}
@@ -28,7 +28,7 @@ side_is : (after : Bool) → side_number (side_of after) ≡ side after
 side_is true = refl
 side_is false = refl
 
--- an insert that stands at a place of plus code
+-- an insert that is at a place of plus code
 abbrev IsAtSpot : PlusSpot → Insert → Type 0
 IsAtSpot s i = (i.token ≡ s.token) × (side_number i.side ≡ side s.after)
 

@@ -1,4 +1,4 @@
--- The blanks that begin lines are spaces, and so the texts of all inserts are blanks and tokens of C.
+-- The blanks that begin lines are spaces, so the texts of all inserts consist of blanks and tokens of C.
 use Rattle.std.proofs.Common.{◌≡◌, ◌+◌, ◌==◌, ◌&&◌, ◌||◌, ℕ, zero, suc, Bool, true, false, cond, refl, ap, subst, arith, List, [], ◌∷◌, ◌++◌, length, take, drop}
 use Rattle.std.specs.Prelude.{Option, IfSome, slice_get, nat_le}
 use Rattle.std.specs.List.{list_all, prefix_len}

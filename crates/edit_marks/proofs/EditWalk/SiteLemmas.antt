@@ -1,4 +1,4 @@
--- The edits of a place are those of the rule and the text that it was made of.
+-- The edits in a context are those of the rule and the text that it was made from.
 use Rattle.std.proofs.Common.{◌≡◌, ℕ, subst, List}
 use Rattle.std.specs.List.{AllZip}
 use Rattle.cpp_lines.specs.declared.reading.Item.{Item}

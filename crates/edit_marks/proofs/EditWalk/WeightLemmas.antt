@@ -1,4 +1,4 @@
--- How much there is to do in a body: what a recursion over it goes down by.
+-- The size of a body, which decreases in a recursion over it.
 use Rattle.std.proofs.Common.{◌≡◌, ℕ, zero, suc, ◌+◌, ◌<◌, ◌≤◌, arith, ap, List, [], ◌∷◌, length, get_or}
 use Rattle.smpl_patch.specs.declared.elem.Elem.{Elem}
 use Rattle.smpl_patch.specs.Bodies.{Element, Atom, Compound, Block, Gap, Nest, AnyOf, AllOf, Body, End, Then, Bodies, NoMore, More, element, body}

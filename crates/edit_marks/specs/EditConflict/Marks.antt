@@ -10,16 +10,16 @@ abbrev pub removal_marks : ℕ → List ℕ → List Mark
 removal_marks edit [] = []
 removal_marks edit (token ∷ tokens) = record { token = token; edit = edit; act = act.Remove } ∷ removal_marks edit tokens
 
--- the inserts, the first having this number
+-- the inserts, of which the first has this number
 abbrev pub insert_marks : ℕ → ℕ → List Insert → List Mark
 insert_marks edit number [] = []
 insert_marks edit number (i ∷ inserts) = record { token = i.token; edit = edit; act = act.Insert i.side i.many number } ∷ insert_marks edit (number + 1) inserts
 
--- the acts of the edit of this number
+-- the acts of the edit with this number
 abbrev pub marks_of : ℕ → Edit → List Mark
 marks_of edit e = removal_marks edit e.removed ++ insert_marks edit 0 e.inserts
 
--- the acts of edits, the first having this number
+-- the acts of edits, of which the first has this number
 abbrev pub marks_from : ℕ → List Edit → List Mark
 marks_from number [] = []
 marks_from number (e ∷ edits) = marks_of number e ++ marks_from (number + 1) edits

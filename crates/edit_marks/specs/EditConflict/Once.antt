@@ -4,11 +4,11 @@ use Rattle.std.specs.List.{list_any}
 use Rattle.edit_marks.specs.declared.edit_conflict.edit.Edit.{Edit}
 use Rattle.edit_marks.specs.EditConflict.Same.{same_edit}
 
--- the edits, and this one where none of them is equal to it
+-- the edits, with this one appended if none of them is equal to it
 abbrev pub with_edit : List Edit → Edit → List Edit
 with_edit edits e = if list_any (same_edit e) edits then edits else edits ++ e ∷ []
 
--- of equal edits the first
+-- the edits without repeats: of equal edits the first is kept
 abbrev pub once : List Edit → List Edit
 once edits = fold with_edit [] edits
 

@@ -64,7 +64,7 @@ edit_is a b h =
 edit_self : (a : Edit) → same_edit a a ≡ true
 edit_self a = both _ _ ((texts_decide a.removed a.removed).1 refl) ((inserts_decide a.inserts a.inserts).1 refl)
 
--- the test holds exactly of equal edits
+-- the test holds exactly for equal edits
 pub edit_decides : (a b : Edit) → Decides (same_edit a b) (a ≡ b)
 edit_decides a b = (edit_is a b, λ e. subst (λ c. same_edit a c ≡ true) e (edit_self a))
 

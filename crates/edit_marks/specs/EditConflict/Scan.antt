@@ -25,7 +25,8 @@ acts_of_both a b = record {
   alone_after = a.alone_after || b.alone_after;
 }
 
--- an insert at a side is in conflict with these: all that are there, and those that stand alone
+-- an insert on a side conflicts with those there: with all of them, or, if it is from `++` lines itself, only with those
+-- that aren't
 abbrev pub conflicts_on : Bool → Bool → Bool → Bool
 conflicts_on all alone many = if many then alone else all
 
@@ -34,7 +35,7 @@ conflicts acts Remove = acts.removes || acts.before || acts.after
 conflicts acts (Insert Before many n) = acts.removes || conflicts_on acts.before acts.alone_before many
 conflicts acts (Insert After many n) = acts.removes || conflicts_on acts.after acts.alone_after many
 
--- every one of these is among those
+-- each of these is among those
 abbrev pub implies : Bool → Bool → Bool
 implies true b = b
 implies false b = true
@@ -44,11 +45,11 @@ are_among those these =
     implies these.removes those.removes && implies these.before those.before && implies these.after those.after
     && implies these.alone_before those.alone_before && implies these.alone_after those.alone_after
 
--- the acts at this token with which no act of a later edit is in conflict
+-- the acts at this token that conflict with no act of a later edit
 abbrev pub settled_at : Settled → ℕ → Acts
 settled_at s token = if s.token == token then s.acts else no_acts
 
--- of this edit, at this token
+-- the act is of this edit, at this token
 abbrev pub is_of : ℕ → ℕ → Mark → Bool
 is_of token edit m = m.token == token && m.edit == edit
 

@@ -1,4 +1,4 @@
--- The edits of witnesses: one for each touch, of equal ones the first.
+-- The edits of witnesses: one for each touch, keeping the first of several equal ones.
 use Rattle.std.specs.Prelude.{ℕ, ◌≡◌, List}
 use Rattle.std.specs.List.{AllZip}
 use Rattle.c_lexer.specs.Pieces.{TextPiece}
@@ -20,7 +20,7 @@ use Rattle.edit_marks.specs.EditWalk.Touches.{Touched, touches}
 use Rattle.edit_marks.specs.Tokens.{file_tokens}
 use Rattle.edit_marks.specs.EditWalk.Named.{pairs_at}
 
--- The edit of a touch: that of the alignment which the touch names, and without one the empty edit.
+-- The edit of a touch: that of the alignment that the touch names, and the empty edit if there is none.
 abbrev pub IsEdit : List Pattern → List VarDecl → List PatToken → List Item → List (List NodeKind) → List ℕ → List FileToken → Touched → Edit → Type 0
 IsEdit patterns decls tokens items kinds ids files t edit =
     EditOf decls tokens t.env files (pairs_at patterns decls tokens items kinds ids t) edit

@@ -17,14 +17,14 @@ use Rattle.edit_marks.specs.declared.mark.Aligned.{Aligned}
 use Rattle.edit_marks.specs.EditWalk.Touches.{Touched}
 use Rattle.edit_marks.specs.EditWalk.Keys.{number_of}
 
--- the pattern of a number, the first where several have it
+-- the pattern with a number, the first if several have it
 abbrev pub pattern_of : List Pattern → ℕ → Option Pattern
 pattern_of patterns atom = option_and_then (slice_get patterns) (number_of (map (λ p. p.atom) patterns) atom)
 
 abbrev pub kind_at : List (List NodeKind) → ℕ → ℕ → Option NodeKind
 kind_at kinds item node = option_and_then (λ own. slice_get own node) (slice_get kinds item)
 
--- the subtree of an item that is read
+-- the subtree of an item that was read
 abbrev pub part_of : Item → List ℕ → Option Tree
 part_of (Parsed tree) path = subtree tree path
 part_of (Skipped span why) path = None
@@ -32,7 +32,7 @@ part_of (Skipped span why) path = None
 abbrev pub tree_at : List Item → ℕ → List ℕ → Option Tree
 tree_at items item path = option_and_then (λ i. part_of i path) (slice_get items item)
 
--- by numbers in place of ids; tokens of no number are left out
+-- numbers in place of ids; tokens without a number are left out
 abbrev pub numbered : List ℕ → AlignedToken → List Aligned
 numbered ids p = if nat_lt p.pattern (2 ^ 32) then record { pattern = p.pattern; files = filter_map (number_of ids) p.files } ∷ [] else []
 
@@ -40,14 +40,15 @@ abbrev pub pairs_of : List ℕ → Option (List AlignedToken) → List Aligned
 pairs_of ids None = []
 pairs_of ids (Some pairs) = flat_map (numbered ids) pairs
 
--- what is known at a place: the patterns and variables of a rule, the items with the kinds of their nodes, the ids of the tokens
+-- the context of a place: the patterns and variables of a rule, the items with the kinds of their nodes, the ids of the
+-- tokens
 module _ (patterns : List Pattern) (decls : List VarDecl) (tokens : List PatToken) (items : List Item) (kinds : List (List NodeKind)) (ids : List ℕ) where
-  -- the alignment at a touch; None where it names nothing, or where no form fits
+  -- the alignment at a touch; None if the touch names nothing, or if no form fits
   abbrev pub alignment : Touched → Option (List AlignedToken)
   alignment t =
       option_and_then (λ p. option_and_then (λ k. option_and_then (λ tree. aligned_tokens decls tokens (total t.env) p (role_at k t.path) tree)
       (tree_at items t.item t.path)) (kind_at kinds t.item t.node)) (pattern_of patterns t.atom)
 
-  -- the pairs of numbers; none where there is no alignment
+  -- the pairs of numbers; the empty list if there is no alignment
   abbrev pub pairs_at : Touched → List Aligned
   pairs_at t = pairs_of ids (alignment t)

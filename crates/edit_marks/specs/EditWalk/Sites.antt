@@ -1,4 +1,4 @@
--- What the walk goes by, as the definitions have it.
+-- The context of the walk, in terms of the definitions.
 use Rattle.std.specs.Prelude.{◌≡◌, ◌≤◌, ◌^◌, List, map, length}
 use Rattle.smpl_patch.specs.declared.pattern.Pattern.{Pattern}
 use Rattle.edit_marks.specs.declared.edit_conflict.edit.Edit.{Edit}
@@ -10,7 +10,7 @@ use Rattle.edit_marks.specs.EditWalk.Edited.{IsEdit}
 abbrev pub patterns_at : Site → List Pattern
 patterns_at s = map (λ p. p.now) s.patterns.now
 
--- the atoms are those of the patterns, and numbers of tokens fit 32 bits
+-- the atoms are those of the patterns, and the numbers of tokens fit in 32 bits
 pub record IsSite (s : Site) : Type 0 where
   pub even : HaveEvenBlocks s.tokens.now
   pub atoms : s.atoms.now ≡ map (λ p. p.atom) (patterns_at s)

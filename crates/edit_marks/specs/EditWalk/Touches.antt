@@ -21,7 +21,7 @@ pub record Touched : Type 0 where
   pub path : List ℕ
   pub env : Values
 
--- one more value; a variable that has one keeps it
+-- one more value; a variable that already has a value keeps it
 abbrev pub bound : Values → Var → Value → Values
 bound env x v = cond (has_value env x) env (with_pair env x v)
 

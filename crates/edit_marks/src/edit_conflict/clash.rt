@@ -9,7 +9,7 @@ use crate::edit_conflict::edit::Side;
 use crate::edit_conflict::list::EditList;
 use crate::edit_conflict::mark::{Act, Mark};
 
-/// Two edits that clash, by their numbers, and the token at which they do.
+/// Two edits that clash, by their numbers, and the token at which they clash.
 #[derive(Clone, Copy, Debug, PartialEq, Eq)]
 pub struct Clash {
     pub token: u32,
@@ -17,28 +17,28 @@ pub struct Clash {
     pub second: usize,
 }
 
-/// What an edit does at a token, in all.
+/// All that an edit does at a token.
 #[derive(Clone, Copy, Debug)]
 pub struct Acts {
     removes: bool,
     before: bool,
     after: bool,
-    /// An insert before the token is not from `++` lines.
+    /// Whether an insert before the token is not from `++` lines.
     alone_before: bool,
-    /// An insert after the token is not from `++` lines.
+    /// Whether an insert after the token is not from `++` lines.
     alone_after: bool,
 }
 
-/// Acts at a token with which no act of a later edit is in conflict.
+/// Acts at a token that conflict with no act of a later edit.
 #[derive(Clone, Copy, Debug)]
 pub struct Settled {
     token: u32,
     acts: Acts,
 }
 
-/// The clash at the least token, and there the one of the least numbers. Takes no memory, and is linear in what the
-/// edits do: at one token at most five edits are held against all that follow there, since each brings what none of
-/// those before it had.
+/// Returns the clash at the least token, and there the one with the least pair of numbers. Takes no memory, and is linear in
+/// what the edits do: at one token at most five edits are compared with all that follow there, since each of these does
+/// something that none of the edits before it does.
 pub fn first_clash(edits: &EditList) -> Option<Clash>
     ensures none { IfNone result ((c : Pair) → ¬ IsClash edits.now c) }
     ensures first { IfSome result (λ c. IsFirstClash edits.now c) }
@@ -83,7 +83,7 @@ fn no_acts() -> Acts
     }
 }
 
-/// The acts at this token with which no act of a later edit is in conflict.
+/// Returns the acts at this token that conflict with no act of a later edit.
 fn settled_at(settled: Settled, token: u32) -> Acts
     ensures { result ≡ settled_at settled token }
 {
@@ -94,7 +94,7 @@ fn settled_at(settled: Settled, token: u32) -> Acts
     }
 }
 
-/// The acts of both.
+/// Returns the acts of both.
 fn acts_of_both(a: Acts, b: Acts) -> Acts
     ensures { result ≡ acts_of_both a b }
 {
@@ -113,7 +113,7 @@ fn implies(a: bool, b: bool) -> bool
     if a { b } else { true }
 }
 
-/// Whether every one of these acts is among those.
+/// Whether each of `these` acts is among `those`.
 fn are_among(those: Acts, these: Acts) -> bool
     ensures { result ≡ are_among those these }
 {
@@ -124,7 +124,7 @@ fn are_among(those: Acts, these: Acts) -> bool
         && implies(these.alone_after, those.alone_after)
 }
 
-/// How many acts at the front are of this edit at this token.
+/// Returns how many acts at the front are of this edit at this token.
 fn run_length(marks: &[Mark], token: u32, edit: usize) -> usize
     ensures value { result ≡ prefix_len (is_of token edit) marks.now }
     ensures within { result ≤ length marks.now }
@@ -135,7 +135,7 @@ fn run_length(marks: &[Mark], token: u32, edit: usize) -> usize
         .count()
 }
 
-/// All these acts.
+/// Returns all these acts together.
 fn acts_of(marks: &[Mark]) -> Acts
     ensures { result ≡ fold (λ acts m. acts_with acts m.act) no_acts marks.now }
 {
@@ -164,7 +164,8 @@ fn acts_with(acts: Acts, act: Act) -> Acts
     acts
 }
 
-/// The edit of the first act at this token that is in conflict with these of another edit. With what is known none is.
+/// Returns the edit of the first act at this token that conflicts with `acts` of another edit. No act at this token
+/// conflicts with `known`.
 fn first_met_but(known: Acts, acts: Acts, token: u32, marks: &[Mark]) -> Option<usize>
     requires { first_met (conflicts known) token marks.now ≡ Nothing }
     ensures { result ≡ first_met (conflicts acts) token marks.now }
@@ -175,7 +176,7 @@ fn first_met_but(known: Acts, acts: Acts, token: u32, marks: &[Mark]) -> Option<
     first_met(acts, token, marks)
 }
 
-/// The edit of the first act at this token that is in conflict with these of another edit.
+/// Returns the edit of the first act at this token that conflicts with `acts` of another edit.
 fn first_met(acts: Acts, token: u32, marks: &[Mark]) -> Option<usize>
     ensures { result ≡ first_met (conflicts acts) token marks.now }
 {
@@ -190,7 +191,7 @@ fn first_met(acts: Acts, token: u32, marks: &[Mark]) -> Option<usize>
     None
 }
 
-/// Whether an act is in conflict with these of another edit.
+/// Whether an act conflicts with `acts` of another edit.
 fn conflicts(acts: Acts, act: Act) -> bool
     ensures { result ≡ conflicts acts act }
 {
@@ -203,7 +204,8 @@ fn conflicts(acts: Acts, act: Act) -> bool
     }
 }
 
-/// Whether an insert at a side is in conflict with those there: with those that stand alone, or with all.
+/// Whether an insert on a side conflicts with those there: with all of them, or, if it is from `++` lines itself, only with
+/// those that aren't.
 fn conflicts_on(all: bool, alone: bool, many: bool) -> bool
     ensures { result ≡ conflicts_on all alone many }
 {

@@ -1,4 +1,4 @@
-// Edits of one reading of a text.
+// Edits of one version of a text.
 ghost use Rattle.std.specs.Prelude.{◌≡◌};
 ghost use Rattle.edit_marks.specs.EditConflict.Same.{side_number};
 
@@ -14,7 +14,7 @@ pub enum Side {
 }
 
 impl Side {
-    /// The side's place in the order of sides, from 0.
+    /// Returns the side's place in the order of sides, from 0.
     pub fn number(self) -> u8
         ensures value { result ≡ side_number self }
     {
@@ -25,12 +25,12 @@ impl Side {
     }
 }
 
-/// A text that comes in at a token's place.
+/// A text that is inserted at a token's place.
 #[derive(Drop)]
 pub struct Insert {
     pub token: u32,
     pub side: Side,
-    /// It is from `++` lines: other such inserts may stand at the same place.
+    /// Whether it is from `++` lines: other such inserts may be at the same place.
     pub many: bool,
     pub text: Text,
 }
@@ -76,7 +76,7 @@ impl Hash for Insert {
     }
 }
 
-/// What is removed from a text and what comes in. Tokens are named by their numbers in this reading of it.
+/// What is removed from a text and what is inserted. Tokens are given by their numbers in this version of the text.
 #[derive(Drop)]
 pub struct Edit {
     pub removed: Items<u32>,

@@ -1,4 +1,4 @@
-// Different edits of one text.
+// Distinct edits of one text.
 ghost use Rattle.std.specs.Prelude.{◌≡◌, ◌≢◌, ◌<◌, Some, IfOk, length, slice_get};
 ghost use Rattle.edit_marks.specs.EditConflict.Once.{once, Differ};
 ghost use Rattle.edit_marks.specs.EditConflict.Marks.{AreMarks};
@@ -10,7 +10,7 @@ use indexmap::IndexSet;
 use std::alloc::Global;
 use std::marker::Model;
 
-/// Different edits of one text, with what they do sorted by token. Contracts see the list of the edits.
+/// Distinct edits of one text, with what they do sorted by token. Contracts see the list of the edits.
 #[derive(Drop)]
 pub struct EditList {
     edits: IndexSet<Edit>,
@@ -30,7 +30,7 @@ impl Model for EditList {
 }
 
 impl EditList {
-    /// The edits in order, of equal ones the first. For marks in all it takes n log n steps.
+    /// Creates the list of the edits in order, keeping the first of several equal ones. Takes n log n steps for n marks.
     pub fn of(alloc: Global, edits: Vec<Edit>) -> Result<EditList, NoMemory>
         ensures edits { IfOk result (λ list. list ≡ once edits.items) }
     {
@@ -39,7 +39,7 @@ impl EditList {
         Ok(EditList { edits: set, marks })
     }
 
-    /// The edits. Takes no memory.
+    /// Returns the edits. Takes no memory.
     pub fn edits(&self) -> &[Edit]
         ensures edits { result.now ≡ self.now }
         ensures differ { Differ self.now }
@@ -47,14 +47,14 @@ impl EditList {
         self.edits.as_slice()
     }
 
-    /// What the edits do, sorted by token, and at each token in the order of the edits. Takes no memory.
+    /// Returns what the edits do, sorted by token, and at each token in the order of the edits. Takes no memory.
     pub fn marks(&self) -> &[Mark]
         ensures marks { AreMarks self.now result.now }
     {
         self.marks.as_slice()
     }
 
-    /// Two of the edits. Takes no memory.
+    /// Returns the two edits with these numbers. Takes no memory.
     pub fn take(self, first: usize, second: usize) -> (Edit, Edit)
         requires differ { first ≢ second }
         requires first_within { first < length self }
@@ -72,7 +72,7 @@ impl EditList {
     }
 }
 
-/// The edits, of equal ones the first.
+/// Returns the edits, keeping the first of several equal ones.
 fn distinct(alloc: Global, edits: Vec<Edit>) -> Result<IndexSet<Edit>, NoMemory>
     ensures edits { IfOk result (λ set. set.keys ≡ once edits.items) }
 {
@@ -83,7 +83,7 @@ fn distinct(alloc: Global, edits: Vec<Edit>) -> Result<IndexSet<Edit>, NoMemory>
     Ok(set)
 }
 
-/// Two edits, the first before the second.
+/// Returns two edits, of which the first comes before the second.
 fn take_both(edits: IndexSet<Edit>, first: usize, second: usize) -> (Edit, Edit)
     requires rise { first < second }
     requires within { second < length edits.keys }

@@ -9,13 +9,13 @@ use std::alloc::Global;
 /// What an edit does at a token.
 #[derive(Clone, Copy, Debug)]
 pub enum Act {
-    /// It removes the token.
+    /// The edit removes the token.
     Remove,
-    /// An insert goes to this side of it: whether it is from `++` lines, and its number in the edit.
+    /// The edit inserts on this side of the token: whether the insert is from `++` lines, and its number in the edit.
     Insert(Side, bool, usize),
 }
 
-/// An act of the edit of this number at the token of this number.
+/// An act of the edit with this number at the token with this number.
 #[derive(Clone, Copy, Debug)]
 pub struct Mark {
     pub token: u32,
@@ -23,7 +23,7 @@ pub struct Mark {
     pub act: Act,
 }
 
-/// All acts of these edits, sorted by token, and at each token in the order of the edits.
+/// Returns all acts of these edits, sorted by token, and at each token in the order of the edits.
 pub fn sorted_marks(alloc: Global, edits: &[Edit]) -> Result<Vec<Mark>, NoMemory>
     ensures { IfOk result (λ marks. AreMarks edits.now marks.items) }
 {
@@ -32,7 +32,7 @@ pub fn sorted_marks(alloc: Global, edits: &[Edit]) -> Result<Vec<Mark>, NoMemory
     Ok(marks)
 }
 
-/// All acts, edit by edit.
+/// Returns all acts, edit by edit.
 fn all_marks(alloc: Global, edits: &[Edit]) -> Result<Vec<Mark>, NoMemory>
     ensures { IfOk result (λ marks. marks.items ≡ marks_from 0 edits.now) }
 {

@@ -11,8 +11,8 @@ use pat_match::AlignedToken;
 use sqlite_items::Items;
 use std::alloc::Global;
 
-/// The pairs by numbers: a pattern token's id is its number among the rule's tokens, and the table has the numbers of the
-/// file's tokens by their ids.
+/// Returns the pairs by numbers: a pattern token's id is its number among the rule's tokens, and the table has the numbers
+/// of the file's tokens by their ids.
 pub fn numbered(
     alloc: Global,
     ids: &Numbers,

@@ -1,4 +1,4 @@
-// What the nodes of a graph are.
+// The kinds of a graph's nodes.
 ghost use Rattle.std.specs.Prelude.{◌≡◌, map, IfOk};
 ghost use Rattle.cfg_build.specs.CfgGraph.Flow.{count_of};
 
@@ -7,7 +7,7 @@ use cfg_build::{Graph, NodeKind};
 use sqlite_items::Items;
 use std::alloc::Global;
 
-/// The kinds of the nodes of a graph, by their numbers. One byte a node.
+/// Returns the kinds of the nodes of a graph, by their numbers. Takes one byte per node.
 pub fn node_kinds(alloc: Global, graph: &Graph<'_>) -> Result<Items<NodeKind>, NoMemory>
     ensures kinds { IfOk result (λ kinds. kinds ≡ map (λ n. n.kind) graph.now.labels) }
 {

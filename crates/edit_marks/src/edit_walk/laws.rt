@@ -1,4 +1,4 @@
-// What holds of the edits of witnesses. The function does nothing.
+// Laws that hold for the edits of witnesses. The function does nothing.
 ghost use Rattle.std.specs.Prelude.{◌≡◌, List};
 ghost use Rattle.c_lexer.specs.Pieces.{TextPiece};
 ghost use Rattle.cpp_lines.specs.declared.reading.Item.{Item};
@@ -8,7 +8,7 @@ ghost use Rattle.smpl_patch.specs.declared.witness.RuleWitness.{RuleWitness};
 ghost use Rattle.edit_marks.specs.declared.edit_conflict.edit.Edit.{Edit};
 ghost use Rattle.edit_marks.specs.EditWalk.Edited.{AreEdits};
 
-/// Witnesses have one list of edits.
+/// Witnesses have only one list of edits.
 pub fn witnesses_have_one_list()
     ensures { (witnesses : List RuleWitness) (rule : Rule) (items : List Item)
         (kinds : List (List NodeKind)) (pieces : List TextPiece) (a b : List Edit) →

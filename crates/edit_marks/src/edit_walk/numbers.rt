@@ -1,4 +1,4 @@
-// Keys by their numbers in a list.
+// The numbers of keys in a list.
 ghost use Rattle.std.specs.Prelude.{◌≡◌, ◌<◌, ◌≤◌, ℕ, Some, IfOk, IfSome, OnOk, length};
 ghost use Rattle.edit_marks.specs.EditWalk.Keys.{number_of};
 ghost use Rattle.edit_marks.specs.EditWalk.Numbered.{IsTable, found, number_in, with_number};
@@ -8,7 +8,7 @@ use std::alloc::Global;
 use std::collections::HashMap;
 use std::marker::Model;
 
-/// A list of keys, of which each is looked up in constant time. Contracts see the list.
+/// A list of keys in which each is looked up in constant time. Contracts see the list.
 #[derive(Drop)]
 pub struct Numbers {
     keys: Vec<u64>,
@@ -27,7 +27,7 @@ impl Model for Numbers {
 }
 
 impl Numbers {
-    /// A table of these keys. Linear; those below twice their number are not hashed.
+    /// Creates a table of these keys. Linear; keys less than twice their count are not hashed.
     pub fn of(alloc: Global, keys: Vec<u64>) -> Result<Numbers, NoMemory>
         ensures keys { IfOk result (λ numbers. numbers ≡ keys.items) }
     {
@@ -35,7 +35,7 @@ impl Numbers {
         Ok(Numbers { keys, places })
     }
 
-    /// The number of a key, the first where it stands more than once.
+    /// Returns the number of a key, the first if the key occurs several times.
     pub fn find(&self, key: u64) -> Option<usize>
         ensures value { result ≡ number_of self.now key }
         ensures within { IfSome result (λ n. n < length self.now) }
@@ -51,13 +51,13 @@ impl Numbers {
     }
 }
 
-/// Numbers below `count`, by keys.
+/// Numbers less than `count`, by keys.
 #[derive(Drop)]
 pub struct Places {
     count: usize,
-    /// By key, for small ones. `count` stands for none.
+    /// The numbers of small keys, by key. `count` means none.
     low: Vec<usize>,
-    /// For all other keys.
+    /// The numbers of all other keys.
     high: HashMap<u64, usize>,
 }
 

@@ -9,7 +9,7 @@ use smpl_patch::{Elem, Pattern};
 use sqlite_items::Items;
 use std::alloc::Global;
 
-/// The patterns of a body, those of `when` code included.
+/// Returns the patterns of a body, those of `when` code included.
 pub fn patterns_of<'a>(alloc: Global, elems: &'a [Elem]) -> Result<Vec<&'a Pattern>, NoMemory>
     ensures { IfOk result (λ found. map (λ p. p.now) found.items ≡ patterns_body (body elems.now)) }
 {

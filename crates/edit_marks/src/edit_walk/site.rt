@@ -1,4 +1,4 @@
-// What the walk goes by.
+// The context of the walk.
 use crate::FileTokens;
 use crate::edit_walk::numbers::Numbers;
 use cfg_build::NodeKind;
@@ -6,7 +6,7 @@ use cpp_lines::Item;
 use smpl_patch::{PatToken, Pattern, VarDecl};
 use sqlite_items::Items;
 
-/// What is known of a rule and of a file.
+/// What the walk needs of a rule and of a file.
 #[derive(Clone, Copy)]
 pub struct Site<'a> {
     pub decls: &'a [VarDecl],
@@ -16,10 +16,10 @@ pub struct Site<'a> {
     /// The numbers of the patterns' atoms.
     pub atoms: &'a Numbers,
     pub items: &'a [Item],
-    /// For each item the kinds of its nodes.
+    /// The kinds of the nodes of each item.
     pub kinds: &'a [Items<NodeKind>],
     /// The tokens of the file.
     pub files: &'a FileTokens<'a>,
-    /// Their ids.
+    /// The ids of the tokens of the file.
     pub ids: &'a Numbers,
 }

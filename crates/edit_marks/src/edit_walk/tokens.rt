@@ -6,7 +6,7 @@ use c_lexer::{Lexed, PieceKind};
 use c_terms::NoMemory;
 use std::alloc::Global;
 
-/// The ids of the tokens in order.
+/// Returns the ids of the tokens in order.
 pub fn token_ids(alloc: Global, lexed: &Lexed) -> Result<Vec<u64>, NoMemory>
     ensures ids { IfOk result (λ ids. ids.items ≡ ids_of lexed.now) }
     ensures few { IfOk result (λ ids. length ids.items ≤ 16777216) }

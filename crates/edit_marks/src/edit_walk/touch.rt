@@ -44,7 +44,7 @@ fn tree_at<'a>(items: &'a [Item], item: u32, path: &TreePath) -> Option<&'a Tree
     }
 }
 
-/// What is aligned at a touch.
+/// Returns what is aligned at a touch.
 fn alignment(
     alloc: Global,
     site: &Site<'_>,
@@ -88,7 +88,7 @@ fn pairs_of(
     }
 }
 
-/// The edit of a touch.
+/// Returns the edit of a touch.
 pub fn touch_edit(
     alloc: Global,
     site: &Site<'_>,

@@ -25,12 +25,13 @@ use smpl_terms::{Env, Value, Var};
 use sqlite_items::Items;
 use std::alloc::Global;
 
-/// The edits of witnesses of a rule, one a touch, in the order of the touches, of equal ones the first.
+/// Returns the edits of the witnesses of a rule, one per touch, in the order of the touches, keeping the first of several
+/// equal ones.
 ///
-/// `items` are those of the text, and `kinds` has for each the kinds of the nodes of its graph, none for an item without a
-/// tree. [`have_even_blocks`](crate::have_even_blocks) tells whether plus code is as is asked. Linear in the text, in the
-/// body of the rule and in the forests, but for the alignment and the edit of each touch, and for each bind, which copies the
-/// environment above it.
+/// `items` are those of the text, and `kinds` has for each item the kinds of the nodes of its graph, none for an item
+/// without a tree. The precondition on plus code is tested by [`have_even_blocks`](crate::have_even_blocks). Linear in the
+/// text, in the body of the rule and in the forests, apart from the alignment and the edit of each touch, and from each
+/// bind, which copies the environment above it.
 pub fn edits(
     alloc: Global,
     witnesses: &[RuleWitness],
@@ -65,7 +66,7 @@ fn edit_list(
     Ok(list)
 }
 
-/// The edits of all touches. Of a text without a witness no table is made.
+/// Returns the edits of all touches. Makes no table for a text without a witness.
 fn all_edits(
     alloc: Global,
     witnesses: &[RuleWitness],
@@ -159,7 +160,7 @@ fn put_forest(
     Ok(())
 }
 
-/// Adds the edits of the touches of a tree that was found under these values. Recurses once a level.
+/// Adds the edits of the touches of a tree that was found under these values. Recurses once per level.
 fn put_tree(
     alloc: Global,
     site: &Site<'_>,
@@ -189,7 +190,7 @@ fn put_tree(
     }
 }
 
-/// One more value. A variable that has one keeps it.
+/// Returns the environment with one more value. A variable that already has a value keeps it.
 fn bound(alloc: Global, env: &Env, x: &Var, value: &Value) -> Result<Env, NoMemory>
     ensures { IfOk result (λ more. more ≡ bound env.now x.now value.now) }
 {

@@ -1,4 +1,4 @@
--- Tokens with positions or plus code that are compared of a form of a tree are compared of the tree.
+-- Tokens with positions or plus code in the compared part of a form of a tree are in the compared part of the tree.
 use Rattle.std.proofs.Common.{◌≡◌, ℕ, suc, Bool, true, false, refl, sym, ap, ◌∙◌, subst, ⊎_elim, List, [], ◌∷◌, ◌++◌, map, length, slice_get, if◌then◌else◌}
 use Rattle.std.specs.Prelude.{All}
 use Rattle.std.specs.List.{list_any, list_all}

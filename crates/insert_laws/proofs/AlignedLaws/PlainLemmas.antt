@@ -1,4 +1,4 @@
--- What an isomorphism puts in place of a tree has no token with a position or plus code.
+-- The tree that an isomorphism puts in place of another has no token with a position or plus code.
 use Rattle.std.proofs.Common.{◌≡◌, ℕ, suc, ◌+◌, Bool, true, false, refl, sym, ap, ◌∙◌, subst, true≢false, arith, List, [], ◌∷◌, map, Option, None}
 use Rattle.std.proofs.Common.{Some, slice_get, if◌then◌else◌}
 use Rattle.std.specs.Prelude.{unwrap_or}

@@ -1,4 +1,4 @@
--- The same at a node: they are tokens of what is compared of the form.
+-- The pattern tokens of an alignment at a node are tokens of the compared part of the form.
 use Rattle.std.proofs.Common.{◌≡◌, ℕ, suc, Bool, true, false, ◌&&◌, refl, sym, ap, ◌∙◌, arith, List, [], ◌∷◌, ◌++◌, map, length, Option, Some, None}
 use Rattle.std.proofs.Common.{if◌then◌else◌}
 use Rattle.std.specs.Prelude.{All}

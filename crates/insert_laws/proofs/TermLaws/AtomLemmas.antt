@@ -1,4 +1,4 @@
--- Where an atom matches, each of its sure variables that is no position has a term.
+-- If an atom matches, each of its sure variables that is no position has a term.
 use Rattle.std.proofs.Common.{◌≡◌, ℕ, suc, Bool, true, false, ◌&&◌, ◌||◌, not, refl, sym, ap, ◌∙◌, subst, List, [], ◌∷◌, map, length, Option, None}
 use Rattle.std.proofs.Common.{Some, slice_get, ⊎_elim, if◌then◌else◌}
 use Rattle.std.specs.List.{list_any, list_all}

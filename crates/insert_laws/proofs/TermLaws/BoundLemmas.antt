@@ -1,4 +1,4 @@
--- What a formula binds has a term: by induction on the formula, both polarities together.
+-- Each variable that a formula binds has a term. Proof: by induction on the formula, both polarities together.
 use Rattle.std.proofs.Common.{◌≡◌, ℕ, suc, zero, ◌<◌, Bool, true, false, ◌||◌, not, cond, refl, sym, ap, ◌∙◌, subst, arith, List, [], ◌∷◌, length}
 use Rattle.std.proofs.Common.{map, Option, None, Some, slice_get, ⊎_elim, Contains}
 use Rattle.std.proofs.lemmas.List.Elements.{Contains-append_right}

@@ -1,4 +1,4 @@
--- Where a form fits a tree, each of its sure variables that is no position has a term.
+-- If a form fits a tree, each of its sure variables that is no position has a term.
 use Rattle.std.proofs.Common.{◌≡◌, ℕ, zero, suc, Bool, true, false, ◌&&◌, ◌||◌, cond, refl, sym, ap, ◌∙◌, subst, List, [], ◌∷◌, map, take, drop}
 use Rattle.std.proofs.Common.{length, Option, Some, None, slice_get, ⊎_elim}
 use Rattle.std.specs.List.{list_any, list_all}

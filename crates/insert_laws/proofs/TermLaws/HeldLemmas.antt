@@ -1,4 +1,4 @@
--- The same at a node: of what is compared of a form, each sure variable that is no position has a term.
+-- If a form fits at a node, each sure variable of its compared part that is no position has a term.
 use Rattle.std.proofs.Common.{◌≡◌, ℕ, suc, ◌+◌, Bool, true, false, ◌&&◌, ◌||◌, not, nat_eq, refl, sym, ap, ◌∙◌, List, [], ◌∷◌, map, length, Option}
 use Rattle.std.proofs.Common.{Some, None, ⊎_elim, if◌then◌else◌}
 use Rattle.c_terms.specs.declared.label.Label.{Label}

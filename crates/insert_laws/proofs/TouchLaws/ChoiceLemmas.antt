@@ -1,4 +1,4 @@
--- Choices of values of exported variables: these have a value then, and the others keep theirs.
+-- Choices of values of exported variables give these a value, and the others keep theirs.
 use Rattle.std.proofs.Common.{◌≡◌, Bool, true, false, not, ◌&&◌, cond, refl, sym, ap, ◌∙◌, ◌⊎◌, inl, inr, ⊎_elim, List, [], ◌∷◌, ◌++◌, map, None, Some}
 use Rattle.std.specs.Prelude.{All, is_some}
 use Rattle.std.specs.List.{filter, flat_map}

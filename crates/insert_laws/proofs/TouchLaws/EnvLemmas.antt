@@ -1,4 +1,4 @@
--- Environments that give metavariables terms, as they grow and are cut down.
+-- Environments that give metavariables only terms, when they are extended and restricted.
 use Rattle.std.proofs.Common.{◌≡◌, Bool, true, false, ◌||◌, cond, refl, sym, ap, ◌∙◌, List, [], ◌∷◌, ◌++◌, Option, None, Some}
 use Rattle.std.specs.Prelude.{All, is_some, option_map}
 use Rattle.std.specs.List.{list_any}

@@ -1,5 +1,5 @@
--- In the forest of a rule's formula, above each touch stand the values of the variables that the touched pattern uses, and those of
--- metavariables are terms.
+-- In the forest of a rule's formula, the variables that the touched pattern uses have their values above each touch, and
+-- those of metavariables are terms.
 use Rattle.std.proofs.Common.{◌≡◌, ℕ, zero, suc, ◌+◌, ◌<◌, Bool, true, false, not, ◌&&◌, ◌||◌, cond, refl, sym, ap, ◌∙◌, subst, arith, ⊎_elim}
 use Rattle.std.proofs.Common.{if◌then◌else◌, List, [], ◌∷◌, ◌++◌, map, get_or, Option, None, Some, Contains, slice_get}
 use Rattle.std.specs.Prelude.{All}

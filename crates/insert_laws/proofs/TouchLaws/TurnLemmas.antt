@@ -1,4 +1,5 @@
--- At the touches of a rule's witnesses the metavariables that are used have terms, and so have the environments after it.
+-- At the touches of a rule's witnesses the metavariables that are used have terms, and the environments after it give them
+-- only terms.
 use Rattle.std.proofs.Common.{◌≡◌, ℕ, suc, ◌+◌, ◌<◌, ◌^◌, Bool, true, false, cond, refl, sym, ap, ◌∙◌, subst, arith, ⊎_elim, List, [], ◌∷◌, map}
 use Rattle.std.proofs.Common.{Option, None, Some, Contains, slice_get}
 use Rattle.std.specs.Prelude.{All, unwrap_or}

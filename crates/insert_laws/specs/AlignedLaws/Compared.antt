@@ -1,4 +1,4 @@
--- Tokens among what is compared of a form, and trees that have bodies.
+-- Tokens of the compared part of a form, and trees that have bodies.
 use Rattle.std.specs.Prelude.{◌≡◌, Bool, true, false}
 use Rattle.std.specs.List.{list_any}
 use Rattle.c_terms.specs.declared.token.Token.{Token}
@@ -13,11 +13,11 @@ use Rattle.smpl_patch.specs.declared.pattern.Spot.TheVariants as spot
 use Rattle.smpl_patch.specs.Held.{held}
 use Rattle.pat_match.specs.Runs.{Pair}
 
--- a token of what is compared of the form at the spot passes
+-- a token of the part of the form that is compared at the spot passes
 abbrev pub compared : (Token → Bool) → Spot → Tree → Bool
 compared q s form = list_any (λ t. list_any q (leaves t)) (held s form)
 
--- where the pattern token of the pair passes, one of what is compared does
+-- if the pattern token of the pair passes, so does a token of the compared part
 abbrev pub IsCompared : (Token → Bool) → Spot → Tree → Pair → Type 0
 IsCompared q s form pair = q pair.0 ≡ true → compared q s form ≡ true
 
@@ -29,6 +29,6 @@ is_head_at (Tree-F.Branch l cs) = is_head_label l
 abbrev pub is_head_tree : Tree → Bool
 is_head_tree t = is_head_at (out-Tree t)
 
--- of a statement that a simple node holds as a whole
+-- a tree that a simple node holds as a whole is none with bodies
 abbrev pub HasNoBodies : Spot → NodeKind → Tree → Type 0
 HasNoBodies s k t = s ≡ spot.Whole → k ≡ kind.Simple → is_head_tree t ≡ false

@@ -10,8 +10,8 @@ use Rattle.pattern_vars.specs.Reads.{has}
 use Rattle.ctl_translate.specs.Rules.{locals}
 
 module _ (used : Pattern → Var → Bool) where
-  -- At each atom of the formula, those under Not aside, each variable that the pattern uses is quantified above it, or passes.
-  -- What stands under Not is never touched.
+  -- At each atom of the formula that isn't under Not, each variable that the pattern uses is quantified above it, or
+  -- passes. Atoms under Not are never touched.
   abbrev pub Covers : (Var → Bool) → Plain → Type 0
   Covers test True = Unit {0}
   Covers test (Atom p) = (x : Var) → used p x ≡ true → test x ≡ true

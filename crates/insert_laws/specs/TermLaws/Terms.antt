@@ -42,7 +42,8 @@ HidesBlocks (Past f) = HidesBlocks f
 HidesBlocks (Down i f) = HidesBlocks f
 HidesBlocks (Exists x f) = HidesBlocks f
 
--- what a formula binds has a term where it holds, and what it binds where it fails has one where it doesn't
+-- each variable that a formula binds has a term where it holds, and each that it binds when it fails has one where it
+-- doesn't
 pub record HasTerms (decls : List VarDecl) (tokens : List PatToken) (g : Flow) (m : ℕ) (f : Plain) (s : ℕ)
     (env : Environment) (x : Var) : Type 0 where
   pub holding : bound (sure decls tokens) f x ≡ true → Holds decls tokens g m f s env → is_term (env x) ≡ true

@@ -1,4 +1,4 @@
--- Environments that give metavariables terms, and touches at which the metavariables that a pattern uses have terms.
+-- Environments that give metavariables only terms, and touches at which the metavariables that a pattern uses have terms.
 use Rattle.std.specs.Prelude.{◌≡◌, ◌++◌, Bool, true, false, List, Contains, Some, slice_get}
 use Rattle.c_terms.specs.declared.tree.Tree.{Tree}
 use Rattle.c_terms.specs.Places.{Place}
@@ -23,7 +23,7 @@ use Rattle.rule_envs.specs.declared.carrier.Carrier.{Carrier}
 use Rattle.edit_marks.specs.EditWalk.Touches.{Touched}
 use Rattle.insert_laws.specs.TermLaws.Terms.{is_term, IsNoPosition}
 
--- where the environment has a value of a variable that passes, it is a term
+-- if the environment has a value for a variable that passes, the value is a term
 abbrev pub GivesTerms : (Var → Bool) → Pairs → Type 0
 GivesTerms metas env = (x : Var) → metas x ≡ true → (v : Value) → value_in env x ≡ Some v → is_term v ≡ true
 
@@ -35,7 +35,7 @@ pub record AreMetas (metas : Var → Bool) (rule : Rule) : Type 0 where
   pub no_positions : (x : Var) → metas x ≡ true → IsNoPosition rule.tokens x
   pub not_hidden : (x : Var) → metas x ≡ true → is_hidden x ≡ false
 
--- the touch is of a node of its item's graph, and its path leads to a subtree against which the pattern is held there
+-- the touch is of a node of its item's graph, and its path leads to a subtree with which the pattern is compared there
 pub record StandsAt (items : List Item) (p : Pattern) (t : Touched) : Type 0 where
   pub graph : Flow
   pub graph_is : item_graph (slice_get items t.item) ≡ Some graph
@@ -45,8 +45,8 @@ pub record StandsAt (items : List Item) (p : Pattern) (t : Touched) : Type 0 whe
   pub seat_is : Contains (seats p.spot label.kind label.tree) seat
   pub path_is : t.path ≡ label.path ++ seat.path
 
--- The touch is one of an atom of the rule's body, in these items. Each variable of the rule that passes and is used in the atom's
--- pattern, in plus code too, has a value at the touch, and it is a term.
+-- The touch is one of an atom of the rule's body, in these items. Each variable of the rule that passes and is used in the
+-- atom's pattern, including in plus code, has a value at the touch, and it is a term.
 pub record ShowsTerms (metas : Var → Bool) (rule : Rule) (items : List Item) (t : Touched) : Type 0 where
   pub pattern : Pattern
   pub among : Contains (patterns_body (body rule.body)) pattern

@@ -1,4 +1,4 @@
-// Which tokens alignments take. The functions do nothing.
+// Laws of the tokens of alignments. The functions do nothing.
 ghost use Rattle.std.specs.Prelude.{◌≡◌, ℕ, Bool, List, All, Some, true, false, slice_get};
 ghost use Rattle.c_terms.specs.declared.token.Token.{Token};
 ghost use Rattle.c_terms.specs.declared.tree.Tree.{Tree};
@@ -16,8 +16,9 @@ ghost use Rattle.iso_expand.specs.IsoForms.Replacing.{is_plain};
 ghost use Rattle.iso_expand.specs.IsoForms.Forms.{forms};
 ghost use Rattle.insert_laws.specs.AlignedLaws.Compared.{compared, IsCompared, is_head_tree, HasNoBodies};
 
-/// Where a form fits a subtree at a node, whatever is asked of pattern tokens: where one that is aligned passes, one of what is
-/// compared of the form does. It asks that a tree which a simple node holds as a whole has no bodies. Does nothing.
+/// If a form fits a subtree at a node, and a pattern token that is aligned there passes a test, some token of the compared
+/// part of the form passes it, for any test. The premise is that a tree that a simple node holds as a whole has no bodies.
+/// Does nothing.
 pub fn aligned_tokens_are_compared()
     ensures { (decls : List VarDecl) (tokens : List PatToken) (env : Environment) (q : Token → Bool) (s : Spot) (k : Kind)
         (form t : Tree) → HasNoBodies s k t → fits_at decls tokens env s k form t ≡ true →
@@ -30,8 +31,8 @@ pub fn simple_nodes_have_no_bodies()
         is_head_tree l.tree ≡ false }
 {}
 
-/// Whatever is asked of tokens that have a position or plus code: where one of what is compared of a form of a tree passes, one of
-/// what is compared of the tree does, under whatever isomorphisms. Does nothing.
+/// If a token of the compared part of a form of a tree passes a test that only tokens with a position or plus code pass,
+/// some token of the compared part of the tree passes it, under any isomorphisms. Does nothing.
 pub fn forms_keep_plus_code()
     ensures { (isos : List Isomorphism) (tokens : List PatToken) (q : Token → Bool) →
         ((a : Token) → q a ≡ true → is_plain (slice_get tokens a.id) ≡ false) → (s : Spot) (t : Tree) →

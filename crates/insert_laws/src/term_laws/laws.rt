@@ -1,4 +1,4 @@
-// Metavariables have terms. The functions do nothing.
+// Laws of the values of metavariables. The functions do nothing.
 ghost use Rattle.std.specs.Prelude.{◌≡◌, ℕ, ◌<◌, List, true, false};
 ghost use Rattle.c_terms.specs.declared.tree.Tree.{Tree};
 ghost use Rattle.cfg_build.specs.declared.cfg_graph.label.NodeKind.{NodeKind};
@@ -16,16 +16,16 @@ ghost use Rattle.ctl_fixpoint.specs.CtlHolds.BoundLaw.{SureStand};
 ghost use Rattle.wit_forest.specs.WitTrees.Forest.{is_hidden};
 ghost use Rattle.insert_laws.specs.TermLaws.Terms.{is_term, IsNoPosition, HidesBlocks, HasTerms};
 
-/// Where a form fits a subtree, each sure variable of what is compared of the form that stands as a position at no token has a term.
-/// Does nothing.
+/// If a form fits a subtree, each sure variable of the compared part of the form has a term, unless it is a position at a
+/// token. Does nothing.
 pub fn metavariables_have_terms()
     ensures { (decls : List VarDecl) (tokens : List PatToken) (env : Environment) (x : Var) (s : Spot) (k : NodeKind)
         (form t : Tree) → IsNoPosition tokens x → fits_at decls tokens env s k form t ≡ true →
         held_sure decls tokens s x form ≡ true → is_term (env x) ≡ true }
 {}
 
-/// Wherever a formula holds, each variable that it binds has a term, and so has each that it binds where it fails, wherever it
-/// doesn't hold; but for positions, and the hidden variables of blocks. Does nothing.
+/// Where a formula holds, each variable that it binds has a term, and where it doesn't hold, each variable that it binds
+/// when it fails has a term, except for positions and the hidden variables of blocks. Does nothing.
 pub fn bound_metavariables_have_terms()
     ensures { (decls : List VarDecl) (tokens : List PatToken) (g : Flow) → IsSound g → (m : ℕ) → 0 < m →
         (f : Plain) → EachPattern (SureStand decls tokens) f → HidesBlocks f → (s : ℕ) → s < count_of g →

@@ -1,4 +1,4 @@
-// The values at touches. The function does nothing.
+// A law of the values at touches. The function does nothing.
 ghost use Rattle.std.specs.Prelude.{◌≡◌, ℕ, Bool, List, All, None};
 ghost use Rattle.c_lexer.specs.Pieces.{TextPiece};
 ghost use Rattle.cpp_lines.specs.declared.reading.Item.{Item};
@@ -17,12 +17,13 @@ use crate::term_laws::bound_metavariables_have_terms;
 use cfg_build::every_item_has_a_graph;
 use rule_laws::formulas_have_patterns_of_their_bodies;
 
-/// Of a rule that may run and in which no variable may stay unbound, over the items of a text that is read, and of variables that
-/// are positions at none of its tokens and hidden variables of no blocks; under environments that have terms of these.
+/// The metavariables that a rule uses have terms at its touches, if the rule may run and no variable can remain unbound in
+/// it, over the items of a text that is read. The metavariables are any set of variables that are neither positions at the
+/// rule's tokens nor hidden variables of blocks, and the environments before the rule must give them only terms as values.
 ///
-/// - `found`: at each touch of its witnesses, each of these variables that the pattern of the touched atom uses, in plus code too, has
-///   a value, and it is a term.
-/// - `carried`: the environments after the rule have terms of them.
+/// - `found`: at each touch of its witnesses, each of these variables that the rule declares and the pattern of the touched
+///   atom uses, including in plus code, has a value, and it is a term.
+/// - `carried`: the environments after the rule give them only terms as values.
 ///
 /// Does nothing.
 pub fn touches_show_terms()

@@ -61,7 +61,7 @@ module _ (both : List Bool) where
       and_true true = refl
       and_true false = refl
 
-  -- one that doesn't
+  -- an arrow that doesn't
   pub leads_anew : (k low : ℕ) → k < length both → get_or both k false ≡ false → Leads (k + 1) (k + 1)
   leads_anew k low w b =
       by_place k (k + 1) (omega arith) (λ j n.
@@ -72,7 +72,7 @@ module _ (both : List Bool) where
       and_false true = refl
       and_false false = refl
 
-  -- behind the last arrow there is none
+  -- after the last arrow there is none
   past : (i j : ℕ) → length both ≤ i → j ≤ length both → run j i ≡ run j (length both)
   past i j h w =
       let a : length (drop j both) ≤ i - j = omega (arith, length-drop j both) in
@@ -85,7 +85,7 @@ module _ (both : List Bool) where
       none : (n : ℕ) → list_all (λ (b : Bool). b) (take n []) ≡ true
       none n = ap (list_all (λ (b : Bool). b)) (take_all n [] (omega arith))
 
-  -- the lowest, from the arrows that there are
+  -- the lowest side, given the arrows that exist
   pub is_lowest : (i k low : ℕ) → k ≤ i → (k < i → k ≡ length both) → k ≤ length both → Leads k low → IsLowest both i low
   is_lowest i k low w end fits h = record {
     within = let l = leads_within k low h in omega arith;

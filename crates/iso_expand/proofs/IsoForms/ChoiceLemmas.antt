@@ -11,11 +11,11 @@ use Rattle.iso_expand.proofs.IsoForms.ListLemmas.{append_empty}
 abbrev Choice : Type 0
 Choice = List Tree
 
--- each of some choices behind one
+-- each of some choices after one
 abbrev behind : Choice → List Choice → List Choice
 behind cs ds = map (λ d. cs ++ d) ds
 
--- each of some choices behind each of others
+-- each of some choices after each of others
 abbrev pairs : List Choice → List Choice → List Choice
 pairs [] ds = []
 pairs (cs ∷ css) ds = behind cs ds ++ pairs css ds
@@ -60,11 +60,11 @@ behind-nothing : (ds : List Choice) → behind [] ds ≡ ds
 behind-nothing [] = refl
 behind-nothing (d ∷ ds) = ap (λ (x : List Choice). d ∷ x) (behind-nothing ds)
 
--- grown child by child they are the choices
+-- grown child by child, they are the choices
 pub grown-choices : (fss : List (List Tree)) → grown_by ([] ∷ []) fss ≡ choices fss
 grown-choices fss = grown_by-pairs ([] ∷ []) fss ∙ append_empty (behind [] (choices fss)) ∙ behind-nothing (choices fss)
 
--- ---- how many
+-- ---- their number
 
 longer-length : (cs : Choice) (ts : List Tree) → length (longer cs ts) ≡ length ts
 longer-length cs ts = length-map ts (λ t. cs ++ t ∷ [])
@@ -90,7 +90,7 @@ grown_by-length css [] h = omega arith
 grown_by-length css (ts ∷ more) h =
     omega (arith, grown-choices_length css ts h.0, grown_by-length (grown css ts) more h.1)
 
--- as many as there are pairs
+-- there are as many as there are pairs
 pub grown-length : (css : List Choice) (ts : List Tree) → length (grown css ts) ≡ length css * length ts
 grown-length [] ts = sym (zero-mul (length ts))
 grown-length (cs ∷ css) ts =

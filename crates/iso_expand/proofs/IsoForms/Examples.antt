@@ -1,4 +1,4 @@
--- The definitions at small values, above all where two readings would differ.
+-- The definitions at small values, especially at points that could be read in two ways.
 use Rattle.std.proofs.Common.{◌≡◌, ℕ, Bool, true, false, refl, List, [], ◌∷◌, Option, Some, None}
 use Rattle.std.specs.Prelude.{codes}
 use Rattle.c_terms.specs.declared.token.Token.{Token}
@@ -30,7 +30,7 @@ first_slowest : choices ((leaf 0 ∷ leaf 1 ∷ []) ∷ (leaf 2 ∷ leaf 3 ∷ [
     ≡ (leaf 0 ∷ leaf 2 ∷ []) ∷ (leaf 0 ∷ leaf 3 ∷ []) ∷ (leaf 1 ∷ leaf 2 ∷ []) ∷ (leaf 1 ∷ leaf 3 ∷ []) ∷ []
 first_slowest = refl
 
--- no children have one choice
+-- without children there is one choice
 no_children : choices [] ≡ [] ∷ []
 no_children = refl
 
@@ -69,7 +69,7 @@ capitals_are_constants = refl
 small_letters_are_not : token_is_of meta.Constant [] (token kind.Name (codes "Null") 0) ≡ false
 small_letters_are_not = refl
 
--- lists of arguments and dots are no expressions, a disjunction is one
+-- lists of arguments and dots are not expressions, but a disjunction is one
 lists_are_none : token_is_of meta.Expr [] (token (kind.Meta meta.ExprList) (codes "es") 0) ≡ false
 lists_are_none = refl
 

@@ -1,4 +1,4 @@
--- Forms of branches, and how many there are at least.
+-- Forms of branches, and lower bounds for their number.
 use Rattle.std.proofs.Common.{◌≡◌, ℕ, ◌+◌, ◌<◌, ◌≤◌, Bool, true, false, if◌then◌else◌, List, [], ◌∷◌, ◌++◌, length, get_or, drop, map, refl, sym, ap, subst, ◌∙◌, arith, length-append}
 use Rattle.std.proofs.lemmas.List.{length-map}
 use Rattle.c_terms.specs.declared.token.Token.{Token}
@@ -25,7 +25,7 @@ module _ (tokens : List PatToken) (isos : List Iso) where
   pub forms-Branch : (l : Label) (cs : List Tree) → forms tokens isos (Branch l cs) ≡ of_choices tokens isos l (choices (map (forms tokens isos) cs))
   forms-Branch l cs = ap (forms tokens isos) (sym (rolls-Branch l cs)) ∙ fold-roll-Tree (List Tree) (form_step tokens isos) _
 
-  -- as many forms as choices at least
+  -- there are at least as many forms as choices
   pub choices-fit : (l : Label) (css : List (List Tree)) → length css ≤ length (of_choices tokens isos l css)
   choices-fit l css = by (is_expression l)
     where
@@ -72,7 +72,7 @@ module _ (tokens : List PatToken) (isos : List Iso) where
       ∙ ap (λ (ts : List Tree). grown_by (grown css ts) (map (forms tokens isos) (drop (i + 1) cs))) (sym w)
       ∙ ap (λ (x : List (List Tree)). grown_by x (map (forms tokens isos) (drop (i + 1) cs))) (sym n)
 
-  -- choices that grow are no more than the forms of the branch
+  -- choices that grow stay no more than the forms of the branch
   grown_fit : (l : Label) (cs : List Tree) (i : ℕ) (next : List (List Tree))
       → grown_by next (map (forms tokens isos) (drop (i + 1) cs)) ≡ grown_by ([] ∷ []) (map (forms tokens isos) cs)
       → length next ≤ length (forms tokens isos (Branch l cs))
@@ -118,7 +118,7 @@ module _ (tokens : List PatToken) (isos : List Iso) where
       ap (of_choices tokens isos l) (sym (ap (λ (xs : List Tree). grown_by css (map (forms tokens isos) xs)) none) ∙ e ∙ grown-choices (map (forms tokens isos) cs))
       ∙ sym (forms-Branch l cs)
 
-  -- ---- the tree by another name
+  -- ---- the tree under another name
 
   pub refused_tree : (limit : ℕ) (t u : Tree) (f : FormsFault) → t ≡ u → Refused limit (forms tokens isos u) f → Refused limit (forms tokens isos t) f
   refused_tree limit t u f e r = subst (λ (x : Tree). Refused limit (forms tokens isos x) f) (sym e) r

@@ -48,7 +48,7 @@ pub with_forms-append : (list xs ys : List Tree) → with_forms list (xs ++ ys) 
 with_forms-append list [] ys = refl
 with_forms-append list (x ∷ xs) ys = with_forms-append (with_form list x) xs ys
 
--- what is refused of a list is refused of one that extends it
+-- what is refused for a list is refused for one that extends it
 pub refused_more : (limit : ℕ) (a b : List Tree) (f : FormsFault) → Extends a b → Refused limit a f → Refused limit b f
 refused_more limit a b fault.TooMany h r =
     let e : length b ≡ length (a ++ h.0) = ap length h.1 in omega (arith, length-append a h.0)
@@ -68,7 +68,7 @@ stays_at a b k t h e = ap (λ (xs : List Tree). slice_get xs k) h.1 ∙ within a
 
 -- ---- the state of a loop
 
--- what is kept of some forms is kept of their equals
+-- what is kept with some forms is kept with their equals
 pub kept : (limit : ℕ) (f g : Listed) (list : List Tree) → g ≡ f → Has limit f list → Has limit g g.list × (g.list ≡ list)
 kept limit f g list e h =
     let k : Has limit g list = subst (λ (x : Listed). Has limit x list) (sym e) h in

@@ -5,7 +5,7 @@ use Rattle.iso_expand.specs.declared.iso_forms.matching.Bound.{Bound}
 use Rattle.iso_expand.specs.IsoForms.Matching.{Matcher, each}
 use Rattle.iso_expand.proofs.IsoForms.ListLemmas.{drop_item}
 
--- sides that are not as many as the trees
+-- the number of sides differs from that of the trees
 pub each-uneven : (f : Tree → Matcher) (ss ts : List Tree) (bound : List Bound) → (length ss ≡ length ts → ⊥) → each (map f ss) ts bound ≡ None
 each-uneven f [] [] bound h = absurd (h refl)
 each-uneven f [] (t ∷ ts) bound h = refl

@@ -1,4 +1,4 @@
--- Spellings that are seen, beside the trees of a list.
+-- Spellings that are seen, together with the trees of a list.
 use Rattle.std.proofs.Common.{◌≡◌, ℕ, ◌+◌, ◌<◌, Bool, true, false, ◌||◌, if◌then◌else◌, List, [], ◌∷◌, ◌++◌, length, get_or, drop, refl, sym, ap, subst, ◌∙◌, arith, length-append}
 use Rattle.std.proofs.lemmas.List.Folds.{list_any-append}
 use Rattle.c_terms.specs.declared.tree.Tree.{Tree}
@@ -74,7 +74,7 @@ with_new names name h = ap (λ (b : Bool). if b then names else names ++ name �
 with_new_form : (list : List Tree) (t : Tree) → is_among list t ≡ false → with_form list t ≡ list ++ t ∷ []
 with_new_form list t h = ap (λ (b : Bool). if b then list else list ++ t ∷ []) h
 
--- a list that gains a tree which it lacks, and the tree's spelling beside it
+-- a list that gains a tree which it lacks, together with the tree's spelling
 pub gains : (limit : ℕ) (list all : List Tree) (seen more : List (List ℕ)) (t : Tree) (key : List ℕ) → key ≡ spelled t → Knows seen list
     → has_name seen key ≡ false
     → more ≡ with_name seen key → all ≡ list ++ t ∷ [] → length list < limit → Has limit (record { list = all; seen = more }) (with_form list t)

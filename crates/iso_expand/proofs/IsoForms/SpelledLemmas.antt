@@ -1,5 +1,5 @@
--- Two trees are the same exactly where they are spelled alike.
--- Proof: what is spelled has an end that its beginning tells, so a spelling with more behind it is read in one way.
+-- Two trees are the same exactly if they are spelled alike.
+-- Proof: the beginning of a spelling determines its end, so a spelling followed by more can be read in only one way.
 use Rattle.std.proofs.Common.{◌≡◌, ℕ, Bool, true, false, true≢false, ◌&&◌, List, [], ◌∷◌, ◌++◌, map, refl, sym, ap, ◌∙◌, append_assoc, arith}
 use Rattle.std.proofs.lemmas.Bool.Decides.{nat_tests}
 use Rattle.std.proofs.lemmas.Grind.{common_steps}
@@ -147,7 +147,7 @@ spells = tree_induction Spells
     (λ b h. absurd (true≢false (sym h ∙ same-Branch-Leaf l cs b)))
     (λ k us h. branch-spells l cs each k us h))
 
--- spelled alike where they are the same
+-- trees are spelled alike exactly if they are the same
 pub spelled-same : (t u : Tree) → same_bytes (spelled t) (spelled u) ≡ same_tree t u
 spelled-same t u = by (same_bytes (spelled t) (spelled u)) (same_tree t u) refl refl
   where

@@ -23,7 +23,7 @@ choices (ts ∷ more) = join (map (λ t. map (λ cs. t ∷ cs) (choices more)) t
 abbrev pub is_among : List Tree → Tree → Bool
 is_among list t = list_any (λ u. same_tree u t) list
 
--- a tree that is not in the list yet goes last
+-- a tree that is not in the list yet is appended
 abbrev pub with_form : List Tree → Tree → List Tree
 with_form list t = if is_among list t then list else list ++ t ∷ []
 
@@ -35,7 +35,7 @@ abbrev pub branches : Label → List (List Tree) → List Tree
 branches l css = map (λ cs. Branch l cs) css
 
 module _ (tokens : List PatToken) where
-  -- the list, and what its trees become, of those that stand there as the isomorphism's turn comes
+  -- the list, and what its trees become, of those listed before the isomorphism's turn
   abbrev pub with_iso : List Tree → Iso → List Tree
   with_iso list iso = with_forms list (join (map (becomes tokens iso) list))
 
@@ -52,11 +52,11 @@ module _ (tokens : List PatToken) where
     form_step (Tree-F.Leaf a) = Leaf a ∷ []
     form_step (Tree-F.Branch l fss) = of_choices l (choices fss)
 
-    -- a leaf has itself, a branch those of one form of each child
+    -- a leaf has itself, a branch has the branches of one form of each child
     abbrev pub forms : Tree → List Tree
     forms = fold-Tree (List Tree) form_step
 
--- a list is refused where it is longer than the limit, or for want of memory
+-- a list is refused if it is longer than the limit, or when out of memory
 abbrev pub Refused : {A : Type 0} → ℕ → List A → FormsFault → Type 0
 Refused limit list fault.TooMany = limit < length list
 Refused limit list fault.NoMemory = Unit {0}

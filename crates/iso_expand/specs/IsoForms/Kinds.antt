@@ -76,7 +76,7 @@ label_is_of meta.Expr l = is_expression l
 label_is_of meta.Constant l = is_strings l
 label_is_of _ l = false
 
--- a variable of this kind, which is not to be one of the names, may stand for the tree
+-- a variable of this kind, for which some names are excepted, may stand for the tree
 abbrev pub is_of_kind : MetaKind → List (List ℕ) → Tree-F Tree → Bool
 is_of_kind k excepted (Tree-F.Leaf t) = token_is_of k excepted t
 is_of_kind k excepted (Tree-F.Branch l cs) = label_is_of k l
@@ -85,6 +85,6 @@ abbrev pub names_of : Option VarDecl → List (List ℕ)
 names_of None = []
 names_of (Some d) = d.not_names
 
--- the names that the variable is not to be
+-- the names that the variable may not be
 abbrev pub excepted : List VarDecl → List ℕ → List (List ℕ)
 excepted vars name = names_of (declared_as vars name)

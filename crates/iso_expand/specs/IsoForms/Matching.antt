@@ -1,5 +1,5 @@
--- When a tree matches a side, and what the side's variables stand for then. Ids don't count. Of several equal trees that a
--- variable stands for, the first from the left is its value.
+-- When a tree matches a side, and what the side's variables stand for then. Ids don't count. If a variable stands for
+-- several equal trees, the first from the left is its value.
 use Rattle.std.specs.Prelude.{ℕ, Bool, false, if◌then◌else◌, List, [], ◌∷◌, ◌++◌, Option, Some, None}
 use Rattle.c_terms.specs.declared.token.Token.{Token}
 use Rattle.c_terms.specs.declared.token.TokenKind.{TokenKind}
@@ -22,7 +22,7 @@ value (b ∷ bs) name = if same_bytes b.name name then Some b.tree else value bs
 abbrev pub Matcher : Type 0
 Matcher = Tree → List Bound → Option (List Bound)
 
--- a variable that stands for nothing yet, and one that has a value
+-- a variable that stands for nothing yet, and a variable that has a value
 abbrev pub bind : Option Tree → List ℕ → Matcher
 bind None name t bs = Some (bs ++ record { name = name; tree = t } ∷ [])
 bind (Some v) name t bs = if same_tree v t then Some bs else None

@@ -27,7 +27,7 @@ mark_of (Some p) = mark_number p.mark
 abbrev pub stands_alone : PatToken → Bool
 stands_alone p = (nat_eq (length p.positions) 0 && not (is_some p.before)) && not (is_some p.after)
 
--- neither a position nor plus code stands at the token
+-- the token has neither a position nor plus code
 abbrev pub is_plain : Option PatToken → Bool
 is_plain None = true
 is_plain (Some p) = stands_alone p
@@ -40,7 +40,7 @@ abbrev pub are_plain : List PatToken → List Token → Bool
 are_plain tokens [] = false
 are_plain tokens (a ∷ rest) = list_all (is_plain_of tokens (mark_of (slice_get tokens a.id))) (a ∷ rest)
 
--- there are tokens, all carry one mark, and neither a position nor plus code stands at any of them
+-- there are tokens, all carry one mark, and none has a position or plus code
 abbrev pub is_open : List PatToken → Tree → Bool
 is_open tokens t = are_plain tokens (leaves t)
 
@@ -50,7 +50,7 @@ is_open tokens t = are_plain tokens (leaves t)
 abbrev pub may_become : List Bool → (i j : ℕ) → Bool
 may_become both i j = nat_lt i j || (nat_lt j i && list_all (λ b. b) (take (i - j) (drop j both)))
 
--- what the sides make that side i may become; the first of these sides has the number j
+-- the trees made by the sides that side i may become; the first of these sides has the number j
 abbrev pub targets_from : List Bool → List Bound → (id i j : ℕ) → List Tree → List Tree
 targets_from both bound id i j [] = []
 targets_from both bound id i j (s ∷ ss) =

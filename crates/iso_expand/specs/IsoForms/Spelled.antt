@@ -1,4 +1,4 @@
--- A tree as bytes, without its ids: two trees are the same where they are spelled alike.
+-- A tree as bytes, without its ids: two trees are the same exactly if they are spelled alike.
 use Rattle.std.specs.Prelude.{ℕ, List, [], ◌∷◌, ◌++◌}
 use Rattle.c_terms.specs.declared.token.Token.{Token}
 use Rattle.c_terms.specs.declared.tree.Tree.{Tree}

@@ -3,7 +3,8 @@ ghost use Rattle.std.specs.Prelude.{◌≡◌, Bool, List};
 ghost use Rattle.iso_expand.specs.IsoForms.Replacing as of;
 ghost use Rattle.iso_expand.specs.IsoForms.Stepped.{IsLowest};
 
-/// The lowest side that side `i` may become, or `i` where it may become none below. Linear in the arrows before it.
+/// Returns the lowest side that side `i` may become, or `i` if it may become none below. Linear in the arrows before
+/// it.
 pub fn lowest(both: &[bool], i: usize) -> usize
     ensures { IsLowest both.now i result }
 {
@@ -16,7 +17,7 @@ pub fn lowest(both: &[bool], i: usize) -> usize
     low
 }
 
-/// Whether side `i`, of which this is the lowest, may become side `j`.
+/// Whether side `i`, for which `low` is the lowest side, may become side `j`.
 pub fn may_become(low: usize, i: usize, j: usize) -> bool
     ensures { (both : List Bool) → IsLowest both i low → result ≡ of.may_become both i j }
 {

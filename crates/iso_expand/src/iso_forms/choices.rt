@@ -9,7 +9,7 @@ use c_terms::{Label, NoMemory, Tree};
 use sqlite_items::Items;
 use std::alloc::Global;
 
-/// The choice of nothing.
+/// Returns the choice of nothing.
 pub fn no_choice(alloc: Global) -> Result<Vec<Items<Tree>>, NoMemory>
     ensures { IfOk result (λ css. css.items ≡ [] ∷ []) }
 {
@@ -28,7 +28,7 @@ fn copied(alloc: Global, trees: &[Tree]) -> Result<Items<Tree>, NoMemory>
     Ok(Items::from_vec(copies))
 }
 
-/// The choice with one more tree.
+/// Returns the choice with one more tree.
 fn with_tree(alloc: Global, choice: &[Tree], tree: &Tree) -> Result<Items<Tree>, NoMemory>
     ensures { IfOk result (λ cs. cs ≡ choice.now ++ tree.now ∷ []) }
 {
@@ -52,7 +52,8 @@ fn push_longer(
     Ok(())
 }
 
-/// Each choice with each of the trees and with the last one, all of them copied but the choice that takes the last.
+/// Returns each choice with each of the trees and with the last one. All of them are copied, except the choice that
+/// takes the last tree.
 fn multiplied(
     alloc: Global,
     choices: Vec<Items<Tree>>,
@@ -70,7 +71,7 @@ fn multiplied(
     Ok(out)
 }
 
-/// The same trees, which are not copied. Linear.
+/// Returns the same trees, without copying them. Takes linear time.
 fn moved(alloc: Global, mut trees: Items<Tree>) -> Result<Vec<Tree>, NoMemory>
     ensures { IfOk result (λ all. all.items ≡ trees) }
 {
@@ -82,7 +83,7 @@ fn moved(alloc: Global, mut trees: Items<Tree>) -> Result<Vec<Tree>, NoMemory>
     Ok(all)
 }
 
-/// Adds the choice, copied, with each of the trees themselves.
+/// Adds a copy of the choice with each of the trees, which are moved.
 fn push_each(
     alloc: Global,
     choice: &[Tree],
@@ -99,7 +100,8 @@ fn push_each(
     Ok(())
 }
 
-/// Each choice with each of the trees and with the last one. The last choice takes the trees themselves.
+/// Returns each choice with each of the trees and with the last one. The last choice takes the trees without copying
+/// them.
 fn with_each(
     alloc: Global,
     mut choices: Vec<Items<Tree>>,
@@ -133,8 +135,8 @@ fn all_grown(
     }
 }
 
-/// Each choice with each of the trees. Each choice is copied for each tree but the last, and each tree for each choice but the
-/// last; nothing is copied where there are more than the limit.
+/// Returns each choice with each of the trees. Each choice is copied for each tree except the last, and each tree for
+/// each choice except the last; nothing is copied if there are more than the limit.
 pub fn grow(
     alloc: Global,
     choices: Vec<Items<Tree>>,
@@ -152,7 +154,7 @@ pub fn grow(
     Ok(all_grown(alloc, choices, trees)?)
 }
 
-/// Branches of the label, by their children.
+/// Returns branches with the label, one for each list of children.
 pub fn branches(
     alloc: Global,
     label: Label,

@@ -1,15 +1,15 @@
-// Why the forms of a tree are not answered.
+// Why the forms of a tree are not returned.
 ghost use Rattle.std.specs.Prelude.{◌≡◌};
 
 use c_terms::NoMemory;
 use std::alloc::{AllocError, AllocFailed};
 
-/// Why the forms of a tree are not answered.
+/// Why the forms of a tree are not returned.
 #[derive(Clone, Copy, Debug, PartialEq, Eq)]
 pub enum FormsFault {
     /// There are more than the limit.
     TooMany,
-    /// Memory was refused.
+    /// Out of memory.
     NoMemory,
 }
 

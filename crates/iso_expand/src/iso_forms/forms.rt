@@ -19,7 +19,7 @@ fn leaf_form(alloc: Global, tree: &Tree) -> Result<Items<Tree>, NoMemory>
     Ok(forms)
 }
 
-/// The branches of the choices, and at an expression what isomorphisms make of them.
+/// Returns the branches of the choices, and at an expression what isomorphisms make of them.
 fn branch_forms(
     alloc: Global,
     isos: &[Iso],
@@ -41,16 +41,16 @@ fn branch_forms(
     }
 }
 
-/// The forms of a pattern's tree: a leaf has itself; a branch has the branches of one form of each child, the choices of the
-/// first varying slowest, and at an expression, for each isomorphism in turn, what the forms that stand there become, each that
-/// isn't there yet. The tree itself is the first. `tokens` say what stands at the tokens of the pattern.
+/// Returns the forms of a pattern's tree. A leaf has itself. A branch has the branches of one form of each child, the choices
+/// of the first varying slowest, and at an expression, for each isomorphism in turn, what the forms listed so far become, each
+/// unless it is already listed. The tree itself is the first. `tokens` describes the tokens of the pattern.
 ///
-/// - `TooMany`: it has more than `limit` forms.
-/// - `NoMemory`: memory was refused.
+/// - `TooMany`: the tree has more than `limit` forms.
+/// - `NoMemory`: out of memory.
 ///
-/// Linear in the children of a branch in which no child has a second form; where one has, each choice is copied for each of its
-/// forms but the last. A tree is held against every side of every isomorphism, and for a side that it matches every other side
-/// is looked at. Recurses once a level.
+/// Linear in the children of a branch if no child has a second form; otherwise each choice is copied for each form of such a
+/// child except the last. A tree is compared with every side of every isomorphism, and for a side that it matches every other
+/// side is visited. Recurses once for each level.
 pub fn forms_of(
     alloc: Global,
     isos: &[Iso],

@@ -29,7 +29,7 @@ fn is_choice(label: Label) -> bool
     }
 }
 
-/// An expression of C, or a disjunction or conjunction of expressions.
+/// Whether the label is that of an expression of C, or of a disjunction or conjunction of expressions.
 pub fn is_expression(label: Label) -> bool
     ensures { result ≡ of.is_expression label }
 {
@@ -70,7 +70,7 @@ fn is_all_constant(text: &[u8]) -> bool
     true
 }
 
-/// Capital letters, digits and `_`, with one capital letter at least.
+/// Whether the text consists of capital letters, digits and `_`, with at least one capital letter.
 fn is_constant_name(text: &[u8]) -> bool
     ensures { result ≡ of.is_constant_name text.now }
 {
@@ -148,7 +148,7 @@ fn label_has_kind(kind: MetaKind, label: Label) -> bool
     }
 }
 
-/// Whether the variable, which is of this kind, may stand for the tree. Takes no memory.
+/// Whether the variable, which is of this kind, may stand for the tree. Allocates nothing.
 pub fn has_kind(vars: &[VarDecl], var: &[u8], kind: MetaKind, tree: &Tree) -> bool
     ensures { result ≡ of.is_of_kind kind (of.excepted vars.now var.now) (out-Tree tree.now) }
 {

@@ -1,4 +1,4 @@
-// Whether a list of forms may grow, as far as labels tell.
+// Whether a list of forms may grow, as far as labels determine it.
 ghost use Rattle.std.specs.Prelude.{◌≡◌};
 ghost use Rattle.std.specs.List.{list_any};
 ghost use Rattle.c_terms.specs.declared.tree.Tree.{out-Tree};
@@ -7,7 +7,7 @@ ghost use Rattle.iso_expand.specs.IsoForms.Stepped as of;
 use c_terms::Tree;
 use smpl_patch::Iso;
 
-/// Whether the side is a branch of the tree's label, or a leaf.
+/// Whether the side is a branch with the tree's label, or a leaf.
 fn may_match(side: &Tree, tree: &Tree) -> bool
     ensures { result ≡ of.may_match (out-Tree side.now) (out-Tree tree.now) }
 {
@@ -42,7 +42,8 @@ fn may_change(iso: &Iso, list: &[Tree]) -> bool
     false
 }
 
-/// Whether some side is a leaf, or a branch of the label of some tree. Looks at each side with each tree, and takes no memory.
+/// Whether some side is a leaf, or a branch with the label of some tree. Compares each side with each tree, and
+/// allocates nothing.
 pub fn may_grow(isos: &[Iso], list: &[Tree]) -> bool
     ensures { result ≡ of.may_grow isos.now list.now }
 {

@@ -1,4 +1,4 @@
-// A list of forms, each once.
+// A list of distinct forms.
 ghost use Rattle.std.specs.Prelude.{◌≡◌, ◌≤◌, ◌<◌, ℕ, List, [], length, OnOk, IfOk, IfErr};
 ghost use Rattle.c_terms.specs.Names.{has_name, with_name};
 ghost use Rattle.iso_expand.specs.IsoForms.Forms as of;
@@ -13,7 +13,7 @@ use sqlite_items::Items;
 use std::alloc::Global;
 use std::marker::Model;
 
-/// Spellings of trees, each once.
+/// A set of spellings of trees.
 #[derive(Drop)]
 pub struct Seen {
     set: IndexSet<Vec<u8>>,
@@ -52,7 +52,7 @@ impl Seen {
         Ok(())
     }
 
-    /// The spellings of the trees.
+    /// Returns the set of the spellings of the trees.
     fn of(alloc: Global, list: &[Tree]) -> Result<Seen, NoMemory>
         ensures { IfOk result (λ seen. Knows seen list.now) }
     {
@@ -64,7 +64,7 @@ impl Seen {
     }
 }
 
-/// Forms, and what tells whether a tree is among them.
+/// Forms, and what is needed to decide whether a tree is among them.
 #[derive(Drop)]
 pub struct Listed {
     pub list: Items<Tree>,
@@ -72,7 +72,7 @@ pub struct Listed {
 }
 
 impl Listed {
-    /// The list. Linear in its tokens, where no hashes of spellings collide.
+    /// Returns the list with the set of its spellings. Linear in its tokens if no hashes of spellings collide.
     pub fn of(alloc: Global, list: Items<Tree>, limit: usize) -> Result<Listed, NoMemory>
         requires { length list ≤ limit }
         ensures { IfOk result (λ forms. Has limit forms list) }
@@ -81,7 +81,7 @@ impl Listed {
         Ok(Listed { list, seen })
     }
 
-    /// Puts the tree last, if it isn't there yet.
+    /// Appends the tree, unless it is already in the list.
     pub fn add(&mut self, alloc: Global, tree: Tree, limit: usize) -> Result<(), FormsFault>
         requires { Has limit self.old self.old.list }
         ensures forms { OnOk result (Has limit self.new (of.with_form self.old.list tree)) }

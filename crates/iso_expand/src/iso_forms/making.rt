@@ -36,7 +36,8 @@ fn make_leaf(alloc: Global, bound: &[Bound], id: u64, token: &Token) -> Result<T
     }
 }
 
-/// The tree that the side makes, its own tokens with this id. Recurses once a level of the side.
+/// Returns the tree that the side makes, giving the side's own tokens this id. Recurses once for each level of the
+/// side.
 pub fn made(alloc: Global, bound: &[Bound], id: u64, side: &Tree) -> Result<Tree, NoMemory>
     ensures { IfOk result (λ tree. tree ≡ of.made bound.now id side.now) }
 {
@@ -52,7 +53,7 @@ pub fn made(alloc: Global, bound: &[Bound], id: u64, side: &Tree) -> Result<Tree
     }
 }
 
-/// The id of the first token, or 0.
+/// Returns the id of the first token, or 0.
 pub fn first_id(tree: &Tree) -> u64
     ensures { result ≡ of.first_id tree.now }
 {

@@ -1,4 +1,4 @@
-// A side against a tree.
+// Matching a tree against a side.
 ghost use Rattle.std.specs.Prelude.{◌≡◌, map, IfOk};
 ghost use Rattle.std.specs.Option.{option_copied};
 ghost use Rattle.c_terms.specs.declared.tree.Tree.{out-Tree};
@@ -20,7 +20,7 @@ pub struct Bound {
     pub tree: Tree,
 }
 
-/// What the variable stands for. Linear in the variables.
+/// Returns what the variable stands for, if it is bound. Linear in the variables.
 pub fn value<'a>(bound: &'a [Bound], name: &[u8]) -> Option<&'a Tree>
     ensures { option_copied result ≡ of.value bound.now name.now }
 {
@@ -85,8 +85,8 @@ fn match_leaf(
     }
 }
 
-/// Whether the tree matches the side, and then what the side's variables stand for, behind those that are bound. Each is
-/// looked up among those before it. Recurses once a level of the side.
+/// Whether the tree matches the side. If so, what the side's variables stand for is appended to `bound`. Each variable
+/// is looked up among those before it. Recurses once for each level of the side.
 #[cycle(matching)]
 pub fn matches(
     alloc: Global,

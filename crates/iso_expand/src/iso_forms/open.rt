@@ -32,7 +32,7 @@ fn stands_alone(p: &PatToken) -> bool
     p.positions.len() == 0 && !p.before.is_some() && !p.after.is_some()
 }
 
-/// Neither a position nor plus code stands at the token.
+/// Whether the token has neither a position nor plus code.
 fn is_plain(tokens: &[PatToken], id: u64) -> bool
     ensures { result ≡ of.is_plain (slice_get tokens.now id) }
 {
@@ -68,7 +68,7 @@ fn are_plain(tokens: &[PatToken], all: &[Token]) -> bool
     }
 }
 
-/// There are tokens, all carry one mark, and neither a position nor plus code stands at any of them. Linear.
+/// Whether there are tokens, all carry one mark, and none has a position or plus code. Takes linear time.
 pub fn is_open(alloc: Global, tokens: &[PatToken], tree: &Tree) -> Result<bool, NoMemory>
     ensures { IfOk result (λ b. b ≡ of.is_open tokens.now tree.now) }
 {

@@ -18,7 +18,7 @@ use smpl_patch::{Iso, PatToken, VarDecl};
 use sqlite_items::Items;
 use std::alloc::Global;
 
-/// What the variables of a side stand for at the tree, if it matches and may be replaced.
+/// Returns what the variables of a side stand for at the tree, if it matches and may be replaced.
 fn replaced(
     alloc: Global,
     tokens: &[PatToken],
@@ -36,7 +36,7 @@ fn replaced(
     }
 }
 
-/// Adds what the sides make that side `i` may become.
+/// Adds the trees made by the sides that side `i` may become.
 fn add_targets(
     alloc: Global,
     iso: &Iso,
@@ -84,7 +84,7 @@ fn add_form(
     Ok(())
 }
 
-/// Adds what each form that stands there becomes by the isomorphism.
+/// Adds what each form listed so far becomes by the isomorphism.
 fn add_iso(
     alloc: Global,
     tokens: &[PatToken],
@@ -102,7 +102,7 @@ fn add_iso(
     Ok(())
 }
 
-/// The list, and what its trees become by each isomorphism in turn. Trees are spelled only where a label fits.
+/// Returns the list, and what its trees become by each isomorphism in turn. Trees are spelled only if a label fits.
 pub fn with_isos(
     alloc: Global,
     tokens: &[PatToken],

@@ -42,7 +42,8 @@ fn put_tree(tree: &Tree, out: &mut Vec<u8>) -> Result<(), NoMemory>
     }
 }
 
-/// The tree's bytes, which are those of the trees that are the same, and of no others. Linear. Recurses once a level.
+/// Returns the tree's bytes, which are those of the trees that are the same, and of no others. Takes linear time.
+/// Recurses once for each level.
 pub fn spelled(alloc: Global, tree: &Tree) -> Result<Vec<u8>, NoMemory>
     ensures { IfOk result (λ bytes. bytes.items ≡ of.spelled tree.now) }
 {

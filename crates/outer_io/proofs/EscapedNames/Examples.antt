@@ -1,4 +1,4 @@
--- The definitions, run.
+-- The definitions, evaluated.
 use Rattle.std.proofs.Common.{◌≡◌, [], ◌∷◌, ◌++◌, refl, codes}
 use Rattle.outer_io.specs.EscapedNames.Escapes.{escaped_name}
 
@@ -14,6 +14,6 @@ tab_and_backslash = refl
 escape : escaped_name (27 ∷ codes "[1m" ++ 127 ∷ 0 ∷ []) ≡ codes "\\x1b[1m\\x7f\\x00"
 escape = refl
 
--- above 127 stand the bytes of other characters, which are shown as they are
+-- bytes above 127 belong to other characters, and are shown as they are
 beyond : escaped_name (195 ∷ 188 ∷ []) ≡ 195 ∷ 188 ∷ []
 beyond = refl

@@ -1,22 +1,22 @@
--- Escapes, read back.
+-- Escapes, and how they are read back.
 use Rattle.std.specs.Prelude.{ℕ, ◌+◌, ◌-◌, ◌*◌, ◌==◌, nat_lt, List, [], ◌∷◌, if◌then◌else◌}
 
--- what a hexadecimal digit in lower case stands for
+-- the value of a hexadecimal digit in lower case
 abbrev pub hex_value : ℕ → ℕ
 hex_value digit = if nat_lt digit 58 then digit - 48 else digit - 87
 
 -- how far an escape has been read
 pub data Reading : Type 0 where
-  -- a byte of its own comes, or an escape
+  -- the next byte is itself, or an escape begins
   Outside : Reading
-  -- a backslash stood there
+  -- a backslash was read
   Begun : Reading
-  -- a backslash and an `x` stood there
+  -- a backslash and an `x` were read
   Coded : Reading
-  -- a first digit too, with this value
+  -- a first digit was read too, with this value
   Half : ℕ → Reading
 
--- the name of which these are the bytes that lines show
+-- the name that is shown as these bytes
 abbrev pub read_on : Reading → List ℕ → List ℕ
 read_on reading [] = []
 read_on Reading.Outside (b ∷ bs) = if b == 92 then read_on Reading.Begun bs else b ∷ read_on Reading.Outside bs

@@ -1,4 +1,4 @@
-// What lines show of names tells them apart, and ends no line. The functions do nothing.
+// What lines show of names distinguishes them, and ends no line. The functions do nothing.
 ghost use Rattle.std.specs.Prelude.{◌≡◌, ℕ, false, List};
 ghost use Rattle.std.specs.List.{list_any};
 ghost use Rattle.outer_io.specs.EscapedNames.Escapes.{escaped_name, is_control};
@@ -9,7 +9,7 @@ pub fn names_end_no_line()
     ensures { (name : List ℕ) → list_any is_control (escaped_name name) ≡ false }
 {}
 
-/// What lines show of a name is read back as the name, so two names are never shown alike. Does nothing.
+/// What lines show of a name is read back as the name, so no two names are shown alike. Does nothing.
 pub fn names_read_back()
     ensures { (name : List ℕ) → read_name (escaped_name name) ≡ name }
 {}

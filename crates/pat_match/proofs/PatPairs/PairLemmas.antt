@@ -1,4 +1,4 @@
--- What a form is aligned with: one branch, one child and one member more.
+-- What a form is aligned with: one more branch, one more child and one more member.
 use Rattle.std.proofs.Common.{◌≡◌, ℕ, suc, zero, ◌+◌, ◌-◌, ◌<◌, ◌≤◌, Bool, true, false, ◌&&◌, ◌||◌, cond, nat_eq, refl, sym, ap, ap₂, ◌∙◌, subst, arith, List, [], ◌∷◌, ◌++◌, map, length, take, drop, get_or, append_assoc, append-nil, length-drop, Option, Some, None, inl, inr, ◌⊎◌}
 use Rattle.std.proofs.lemmas.List.{map-append}
 use Rattle.std.proofs.lemmas.Bool.Decides.{nat_tests}
@@ -27,7 +27,7 @@ use Rattle.pat_match.proofs.LeftmostLaw.{cases_of, below_intro, least-passes}
 pub numbers-append : (a b : List Pair) → numbers (a ++ b) ≡ numbers a ++ numbers b
 numbers-append a b = map-append aligned_token a b
 
--- one part more is found, and the rest is left
+-- one more part is found, and the rest is left
 pub found_step : (old new : List AlignedToken) (here rest whole : List Pair) → new ≡ old ++ numbers here → whole ≡ here ++ rest → new ++ numbers rest ≡ old ++ numbers whole
 found_step old new here rest whole e g =
     ap (λ x. x ++ numbers rest) e ∙ append_assoc old (numbers here) (numbers rest)
@@ -200,7 +200,7 @@ module _ (decls : List VarDecl) (tokens : List PatToken) (env : Environment) whe
       found = sym (found_step old new _ _ _ more (left_comma fs i f c (drop taken ms) lt g e));
     }
 
-    -- a child takes so many members: what is known of the number, and what is found
+    -- a child takes this many members: what is known of the number, and what is found
     next_taken : (fs : List Tree) (i taken count next : ℕ) (f : Tree) (ms : List Member) (old new : List AlignedToken) → i < length fs → f ≡ get_or fs i f → comma f ≡ None
         → taken ≤ length ms → fits_from decls tokens l (comma_before fs i) (drop i fs) (drop taken ms) env ≡ true
         → count ≡ least (takes_first decls tokens env l fs i f (drop taken ms)) (suc (length (drop taken ms))) → next ≡ taken + count
@@ -257,7 +257,7 @@ module _ (decls : List VarDecl) (tokens : List PatToken) (env : Environment) whe
         next_taken fs i taken 1 next f ms old new lt g e le fits (sym (single_count fs i f (drop taken ms) lt g e wild fits)) sum
         (all ∙ ap (λ xs. old ++ numbers (taken_pairs l (comma_before fs i) (piece decls tokens env f) xs)) (sym run_is))
 
-    -- where the rest of a list fits, a member is left for a child that takes one, and the child fits it
+    -- if the rest of a list fits, a member is left for a child that takes one, and the child fits it
 
     pub member_left : (fs : List Tree) (i taken : ℕ) (f : Tree) (ms : List Member) → i < length fs → f ≡ get_or fs i f → comma f ≡ None
         → is_wild l (leaf_of (out-Tree f)) ≡ false → taken ≤ length ms → fits_from decls tokens l (comma_before fs i) (drop i fs) (drop taken ms) env ≡ true → taken < length ms

@@ -1,4 +1,4 @@
--- Which tokens are aligned where a pattern matches a subtree, by their ids.
+-- Which tokens are aligned if a pattern matches a subtree, by their ids.
 use Rattle.std.specs.Prelude.{ℕ, suc, ◌≡◌, ◌≤◌, ◌++◌, ◌&&◌, Bool, true, cond, Option, None, Some, List, [], ◌∷◌, map, take, drop, length}
 use Rattle.c_terms.specs.declared.token.Token.{Token}
 use Rattle.c_terms.specs.declared.label.Label.{Label}
@@ -34,14 +34,14 @@ module _ (decls : List VarDecl) (tokens : List PatToken) (env : Environment) whe
       cond (fits_seat decls tokens env p r f t) (Some (numbers (alignment_at decls tokens env p.spot r.kind f t)))
       (first_aligned p r t fs)
 
-  -- The tokens that are aligned where the pattern matches the subtree at a node of this role: those of its first form
-  -- that does.
+  -- The tokens that are aligned if the pattern matches the subtree at a node of this role: those of its first form that
+  -- matches.
   abbrev pub aligned_tokens : Pattern → NodeRole → Tree → Option (List AlignedToken)
   aligned_tokens p r t = first_aligned p r t p.forms
 
-  -- for inside use
+  -- for internal use
 
-  -- the child takes so many of the members, and those after it the others
+  -- the child takes this many of the members, and the children after it take the others
   abbrev pub takes_first : Label → List Tree → ℕ → Tree → List Member → ℕ → Bool
   takes_first l fs i f ms k = takes decls tokens env l (comma_before fs i) (piece decls tokens env f) (take k ms)
       && fits_from decls tokens l (comma_before fs (suc i)) (drop (suc i) fs) (drop k ms) env
@@ -51,7 +51,7 @@ module _ (decls : List VarDecl) (tokens : List PatToken) (env : Environment) whe
   left_pairs l before fs ms = runs_pairs decls tokens env l before (map (piece decls tokens env) fs) ms
       (leftmost decls tokens env l before (map (piece decls tokens env) fs) ms)
 
--- From one child of a list to the next: the rest fits after so many members, and what is found, joined with what the rest
+-- From one child of a list to the next: the rest fits after this many members, and what is found, joined with what the rest
 -- is aligned with, stays the same.
 pub record IsNext (decls : List VarDecl) (tokens : List PatToken) (env : Environment) (l : Label) (fs : List Tree) (i : ℕ) (ms : List Member) (taken next : ℕ) (old new : List AlignedToken) : Type 0 where
   pub within : next ≤ length ms

@@ -1,4 +1,4 @@
-// How many members dots or a list variable take in the leftmost alignment: as few as they can.
+// The number of members that dots or a list variable take in the leftmost alignment: as few as they can.
 ghost use Rattle.std.specs.Prelude.{◌≡◌, ℕ, suc, ◌<◌, ◌≤◌, ◌&&◌, ◌||◌, nat_eq, true, false, IfOk, drop, length, slice_index_or};
 ghost use Rattle.c_terms.specs.declared.tree.Tree.{out-Tree};
 ghost use Rattle.smpl_terms.specs.Environments.{total};
@@ -16,7 +16,7 @@ use smpl_patch::{PatToken, VarDecl};
 use smpl_terms::Env;
 use std::alloc::Global;
 
-/// Sets the flag of the entry's number, where it has one and the entry has the environment.
+/// Sets the flag for the entry's number of members, if there is one and the entry has the environment.
 fn set_flag(flags: &mut [bool], entry: &RowEntry, env: &Env)
     ensures length { length flags.new ≡ length flags.old }
     ensures flags { (n : ℕ) → n < length flags.old → slice_index_or flags.new n false
@@ -30,7 +30,7 @@ fn set_flag(flags: &mut [bool], entry: &RowEntry, env: &Env)
     }
 }
 
-/// For each number of members below the count, whether the row has the environment there.
+/// Returns, for each number of members below `count`, whether the row has the environment there.
 fn row_flags(
     alloc: Global,
     row: &[RowEntry],
@@ -93,8 +93,8 @@ fn takes_if(
     }
 }
 
-/// The least number of members that the i-th child, which takes any run, may take where those after it take the others.
-/// Takes what `solve` does for the children after it.
+/// Returns the least number of members that the i-th child, which takes any run, may take such that the children after it take
+/// the others. Costs as much as `solve` does for the children after it.
 fn fewest(
     alloc: Global,
     decls: &[VarDecl],
@@ -126,7 +126,8 @@ fn fewest(
     Ok(members.len())
 }
 
-/// Adds what the i-th child, which takes any run, is aligned with after so many members. Answers how many are taken then.
+/// Adds what the i-th child, which takes any run, is aligned with after `taken` members. Returns the number of members taken
+/// after it.
 pub fn put_wild(
     alloc: Global,
     found: &mut Vec<AlignedToken>,

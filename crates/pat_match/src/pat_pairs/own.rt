@@ -1,4 +1,4 @@
-// Heads and tails: their own tokens.
+// The own tokens of heads and tails.
 ghost use Rattle.std.specs.Prelude.{◌≡◌, ◌++◌, ◌||◌, not, true, OnOk, map, length, cond, []};
 ghost use Rattle.c_terms.specs.declared.tree.Tree.{out-Tree};
 ghost use Rattle.smpl_terms.specs.Environments.{total};

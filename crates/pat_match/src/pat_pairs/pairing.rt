@@ -1,4 +1,4 @@
-// What a form's tokens are aligned with in a subtree that it fits.
+// The alignment of a form's tokens in a subtree that the form fits.
 ghost use Rattle.std.specs.Prelude.{◌≡◌, ℕ, suc, ◌<◌, ◌≤◌, ◌++◌, [], cond, true, false, None, IfOk, OnOk, map, drop, length, slice_index_or};
 ghost use Rattle.c_terms.specs.declared.tree.Tree.{out-Tree};
 ghost use Rattle.c_terms.specs.Shapes.{shape_of};
@@ -34,7 +34,8 @@ fn does_fit(
     Ok(denotes(&set, env))
 }
 
-/// Adds what the form's tokens are aligned with in the tree, which it fits. A few calls deep for each level of the form.
+/// Adds what the form's tokens are aligned with in the tree, which the form fits. Each level of the form costs a few recursive
+/// calls.
 #[cycle(pair)]
 pub fn put_pairs(
     alloc: Global,
@@ -111,7 +112,7 @@ fn put_first(
     Ok(())
 }
 
-/// Adds what the form is aligned with, where it fits.
+/// Adds what the form is aligned with, if it fits.
 #[cycle(pair)]
 fn put_where_it_fits(
     alloc: Global,
@@ -260,7 +261,7 @@ fn put_members(
     put_comma_before(alloc, found, forms, forms.len(), &[])
 }
 
-/// Adds what the i-th child is aligned with after so many members. Answers how many are taken then.
+/// Adds what the i-th child is aligned with after `taken` members. Returns the number of members taken after it.
 #[cycle(pair)]
 fn put_next(
     alloc: Global,
@@ -301,8 +302,8 @@ fn put_next(
     }
 }
 
-/// The member that the i-th child takes after so many members: it is there, and the child fits it. Where that is, the
-/// declarations, tokens and the environment tell; the call looks at none of them.
+/// Returns the member that the i-th child takes after `taken` members. By the contract the member exists and the child fits it.
+/// The contract depends on the declarations, tokens and environment; the call reads none of them.
 fn taken_member<'a, 'b>(
     decls: &[VarDecl],
     tokens: &[PatToken],
@@ -328,7 +329,7 @@ fn taken_member<'a, 'b>(
     &members[taken]
 }
 
-/// The same for a child that takes one member.
+/// Like `put_next`, for a child that takes one member.
 #[cycle(pair)]
 fn put_single(
     alloc: Global,

@@ -63,7 +63,7 @@ fn id_list(alloc: Global, id: Option<u64>) -> Result<Items<u64>, NoMemory>
     }
 }
 
-/// The id of the comma before the run, if there is one.
+/// Returns the id of the comma before the run, if there is one.
 fn comma_ids(alloc: Global, run: &[ListMember]) -> Result<Items<u64>, NoMemory>
     ensures { IfOk result (λ ids. ids ≡ ids_of (comma_tokens run.now)) }
 {
@@ -90,7 +90,7 @@ fn put_comma(
     Ok(())
 }
 
-/// Adds the pattern's comma directly before its i-th child, if one stands there, aligned with the comma before the run.
+/// Adds the pattern's comma directly before its i-th child, if there is one, aligned with the comma before the run.
 pub fn put_comma_before(
     alloc: Global,
     found: &mut Vec<AlignedToken>,

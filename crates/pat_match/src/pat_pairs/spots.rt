@@ -160,7 +160,7 @@ fn put_tail(
     )
 }
 
-/// What a form of this spot is aligned with in a subtree that it fits.
+/// Returns what a form of this spot is aligned with in a subtree that it fits.
 fn pairs_at(
     alloc: Global,
     decls: &[VarDecl],
@@ -184,12 +184,12 @@ fn pairs_at(
     Ok(found)
 }
 
-/// The tokens that are aligned where the pattern matches the subtree at a node of this role, in the order of the form:
-/// those of the first form that fits. None where no form fits. For a pattern of spot Whole or Tail the subtree is that of the
-/// node, else a part of it that `align` names.
+/// Returns the tokens that are aligned if the pattern matches the subtree at a node of this role, in the order of the form:
+/// those of the first form that fits. Returns `None` if no form fits. For a pattern of spot Whole or Tail the subtree is that
+/// of the node; otherwise it is a part of the node that `align` reports.
 ///
-/// Each disjunction in the form, and each dots or list variable in a list, costs what `solve` does for its branches or for
-/// the members after it. Recurses a few calls a level.
+/// Each disjunction in the form costs as much as `solve` does for its branches, and each dots or list variable in a list as
+/// much as `solve` does for the members after it. Each level costs a few recursive calls.
 pub fn aligned_tokens(
     alloc: Global,
     p: &Pattern,

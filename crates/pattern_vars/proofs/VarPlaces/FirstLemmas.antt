@@ -1,4 +1,4 @@
--- The first places of variables tell which of them a front has.
+-- The first places of variables say which of them a front has.
 use Rattle.std.proofs.Common.{◌≡◌, ℕ, zero, suc, ◌+◌, ◌<◌, ◌≤◌, Bool, true, false, ◌||◌, cond, refl, sym, ap, ◌∙◌, arith}
 use Rattle.std.proofs.Common.{List, [], ◌∷◌, ◌++◌, take, Option, None, Some}
 use Rattle.std.specs.Prelude.{nat_lt}
@@ -29,7 +29,7 @@ none-before p (v ∷ vs) k n l = by (p v) (none-before p vs (k + 1) n (omega ari
     by true h = not-below k n l
     by false h = h
 
--- the first place that passes a test is in the front where some element of the front passes it
+-- the first place that passes a test is in the front if some element of the front passes it
 before-is : (p : Var → Bool) (vars : List Var) (k n : ℕ) → is_before (k + n) (position_from p k vars) ≡ list_any p (take n vars)
 before-is p [] k zero = refl
 before-is p [] k (suc n) = refl

@@ -65,7 +65,7 @@ apart m n l = grind (arith, nat_tests)
 pub before : (m n : ℕ) → m < n → nat_eq m n ≡ false
 before m n l = grind (arith, nat_tests)
 
--- what stands outside of `when` code stands in the part
+-- what appears outside `when` code appears in the part
 module _ (test : Pattern → Bool) where
   mutual
     pub stands-element : (e : Element) → any_element false test e ≡ true → any_element true test e ≡ true
@@ -178,7 +178,7 @@ module _ (r : Reading) where
       by false true = refl
       by false false = refl
 
-  -- what passes a test of those that are quantified later
+  -- those of the variables quantified later that pass a test
   passing-later : (e : Element) (rest : Body) (p q : Var → Bool) (w : List Var)
       → ((x : Var) → p x ≡ (not (at_suffix r e rest x) && (not (occurs_element r e x) && q x))) → filter p w ≡ filter q (later_at r e rest w)
   passing-later e rest p q w h =
@@ -251,7 +251,7 @@ module _ (r : Reading) where
       by true q = ap (λ (z : Bool). Some (made n z (has later y))) (s q)
       by false q = refl
 
-  -- one element more before a sequence
+  -- one more element before a sequence
   pub homes-step : (n : ℕ) (e : Element) (rest : Body) (old mid new : List (Key × Home)) (vars later : List Var)
       → AreHomes old r (suc n) rest
       → ((y : Var) → has vars y ≡ occurs_element r e y)
@@ -306,7 +306,7 @@ first-of (e ∷ es) d l q = ap (λ (z : Elem). z ∷ es) q
 rest-is : {A : Type 0} (xs : List A) (n : ℕ) → take (length xs - n) (drop n xs) ≡ drop n xs
 rest-is xs n = ap (λ (k : ℕ). take k (drop n xs)) (sym (length-drop n xs)) ∙ take-length (drop n xs)
 
--- the homes of the elements behind one
+-- the homes of the elements after one
 pub homes-behind : (r : Reading) (es : List Elem) (i : ℕ) (entries : List (Key × Home)) → 0 < i
     → AreHomes entries r i (body (drop i es))
     → AreHomes entries r (suc (i - 1)) (body (take (length es - (i - 1 + 1)) (drop (i - 1 + 1) es)))

@@ -17,7 +17,7 @@ not-not false = refl
 pub filter-same : (p q : Var → Bool) (w : List Var) → ((x : Var) → p x ≡ q x) → filter p w ≡ filter q w
 filter-same p q w h = ap (λ (f : Var → Bool). filter f w) (fun_ext h)
 
--- those of what passes a test that pass another
+-- the variables that pass one test, and of these those that pass another
 pub filter-filter : (p q : Var → Bool) (w : List Var) → filter q (filter p w) ≡ filter (λ x. p x && q x) w
 filter-filter p q [] = refl
 filter-filter p q (x ∷ w) = by (p x) (filter-filter p q w)

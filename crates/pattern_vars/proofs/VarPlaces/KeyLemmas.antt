@@ -34,7 +34,7 @@ or-cond true true h o = refl
 or-cond true false h o = refl
 or-cond false b h o = refl
 
--- one more variable of which the map has where it is quantified
+-- one more variable; the map says where it is quantified
 pub each-step : (h : Var → Home) (vs : List Var) (i : ℕ) (v y : Var) (old now first : Option Home) → i < length vs → slice_get vs i ≡ Some v
     → old ≡ cond (has (take i vs) y) (Some (h y)) first → now ≡ cond (same_var v y) (Some (h v)) old
     → now ≡ cond (has (take (i + 1) vs) y) (Some (h y)) first

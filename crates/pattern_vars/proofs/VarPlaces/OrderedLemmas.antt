@@ -88,7 +88,7 @@ module _ (numbers vars : List Var) (h : IsNumbered numbers vars) where
   sorted-places set found sorted places f p e i =
       ap (list_any (nat_eq i)) e ∙ sym (list_any-IsPermutation (nat_eq i) found sorted p) ∙ f i ∙ numbers-places set i
 
--- where no variable from n on before i passes, as many are kept
+-- if no variable from n on before i passes, as many are kept
 skip : (test : Var → Bool) (xs : List Var) (n i : ℕ) → n ≤ i → i ≤ length xs
     → ((j : ℕ) → n ≤ j → j < i → passes test (slice_get xs j) ≡ false) → filter test (take i xs) ≡ filter test (take n xs)
 skip test xs zero zero l m h = refl
@@ -102,7 +102,7 @@ skip test (x ∷ xs) (suc n) (suc i) l m h =
     ap (λ ys. cond (test x) (x ∷ ys) ys)
     (skip test xs n i (omega arith) (omega arith) (λ j a b. h (suc j) (omega arith) (omega arith)))
 
--- the variables at the places so far, where those that are left are at `next` or behind it
+-- the variables at the places so far, if those that are left are at `next` or after it
 pub record IsSoFar (vars : List Var) (places : List ℕ) (k next : ℕ) (found : List Var) : Type 0 where
   pub within : next ≤ length vars
   pub rest : (j : ℕ) → next ≤ j → list_any (nat_eq j) places ≡ list_any (nat_eq j) (drop k places)
@@ -114,7 +114,7 @@ so_far-is vars places k next there found all e f s =
     subst (λ z. IsSoFar vars places k z found) (sym e) (subst (λ zs. IsSoFar vars places k there zs) (sym f) s)
 
 module _ (vars : List Var) (places : List ℕ) (rising : IsNonDecreasing places) where
-  -- what stands before a place isn't among the places that are left
+  -- what is before a place isn't among the places that are left
   none-before : (k i j : ℕ) → k < length places → i ≡ get_or places k 0 → j < i
       → list_any (nat_eq j) (drop k places) ≡ false
   none-before k i j l e b =

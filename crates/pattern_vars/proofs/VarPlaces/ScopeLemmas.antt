@@ -14,7 +14,7 @@ at-here shares i s l q = drop_more shares i s l ∙ ap (λ (z : Shares). z ∷ d
 none-left : (shares : List Shares) (i : ℕ) → i ≡ length shares → drop i shares ≡ []
 none-left shares i l = ap (λ (k : ℕ). drop k shares) l ∙ drop-end shares
 
--- the variables of one suffix more
+-- the variables of one more suffix
 pub around-step : (shares : List Shares) (i : ℕ) (s : Shares) (here old new whole : List Var) → i < length shares → s ≡ get_or shares i s → here ≡ s.here
     → new ≡ old ++ here → old ++ all_here (drop i shares) ≡ whole → new ++ all_here (drop (i + 1) shares) ≡ whole
 around-step shares i s here old new whole l q h n o =
@@ -25,7 +25,7 @@ around-step shares i s here old new whole l q h n o =
 pub around-end : (shares : List Shares) (i : ℕ) (old whole : List Var) → i ≡ length shares → old ++ all_here (drop i shares) ≡ whole → old ≡ whole
 around-end shares i old whole l o = sym (append-nil old) ∙ ap (λ (z : List Shares). old ++ all_here z) (sym (none-left shares i l)) ∙ o
 
--- of what is quantified at the suffixes, so much is around the elements before the next one, whose places were found
+-- the places of the first i elements are found, and the suffixes at them quantify the first `count` variables
 pub record AreScoped (shares : List Shares) (scope vars : List Var) (i count : ℕ) (found : List Place) : Type 0 where
   pub within : count ≤ length vars
   pub left : drop count vars ≡ all_here (drop i shares)
@@ -70,7 +70,7 @@ scoped-step shares scope vars i count old new s p l q e n h =
           ∙ ap (λ (z : List Shares). old ++ scoped z (scope ++ take count vars)) (sym (at-here shares i s l q)) ∙ h.are;
     }
 
--- one place more
+-- one more place
 pub scoped-more : (shares : List Shares) (scope vars : List Var) (i count k : ℕ) (old new : List Place) (s : Shares) (p : Place) → i < length shares → s ≡ get_or shares i s
     → k ≡ length s.here → p ≡ record { here = s.here; inside = s.inside; scope = scope ++ take (count + k) vars } → new ≡ old ++ p ∷ []
     → AreScoped shares scope vars i count old → AreScoped shares scope vars (i + 1) (count + k) new

@@ -37,7 +37,7 @@ empty-more : (n : ℕ) → empty_shares n ++ (let s : Shares = record { here = [
 empty-more zero = refl
 empty-more (suc n) = ap (λ (z : List Shares). let s : Shares = record { here = []; inside = [] } in s ∷ z) (empty-more n)
 
--- no variables once more
+-- one more of the empty shares
 pub empty-step : (n : ℕ) (a b : List Var) (old new : List Shares) → a ≡ [] → b ≡ [] → old ≡ empty_shares n
     → new ≡ old ++ (let s : Shares = record { here = a; inside = b } in s ∷ []) → new ≡ empty_shares (n + 1)
 empty-step n a b old new p q o w =

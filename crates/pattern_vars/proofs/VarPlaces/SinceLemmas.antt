@@ -15,7 +15,7 @@ joined-here : (links : List (List Var)) (i : ℕ) (link : List Var) → i < leng
 joined-here links i link l q =
     ap joined (drop_more links i link l ∙ ap (λ (z : List Var). z ∷ drop (i + 1) links) (sym q))
 
--- those of one link more are found
+-- those of one more link are found
 pub since-step : (links : List (List Var)) (i : ℕ) (link last : List Var) (left after : ℕ) (old new whole : List Var) → i < length links
     → link ≡ get_or links i link → new ≡ old ++ drop left link → after ≡ left - length link
     → old ++ drop left (joined (drop i links) ++ last) ≡ whole → new ++ drop after (joined (drop (i + 1) links) ++ last) ≡ whole

@@ -1,4 +1,4 @@
--- How much there is to do in a body: what a recursion over it goes down by.
+-- The weight of a body, by which a recursion over it decreases.
 use Rattle.std.proofs.Common.{◌≡◌, ℕ, zero, suc, ◌+◌, ◌<◌, ◌≤◌, arith, ap, List, [], ◌∷◌, length, take, drop, get_or, ◌-◌}
 use Rattle.smpl_patch.specs.declared.elem.Elem.{Elem}
 use Rattle.smpl_patch.specs.Bodies.{Element, Atom, Compound, Block, Gap, Nest, AnyOf, AllOf, Body, End, Then, Bodies, NoMore, More, element, body}
@@ -46,7 +46,7 @@ weight-take zero bs = one (bodies bs)
 weight-take (suc n) [] = omega arith
 weight-take (suc n) (b ∷ bs) = let r = weight-take n bs in omega (arith, r)
 
--- so do the bodies after the first
+-- neither do the bodies after the first
 pub weight-rest : (bs : List (List Elem)) → 1 ≤ length bs → weight_bodies (bodies (take (length bs - 1) (drop 1 bs))) ≤ weight_bodies (bodies bs)
 weight-rest [] l = absurd (omega (arith, l))
 weight-rest (b ∷ bs) l = let r = weight-take (length (b ∷ bs) - 1) bs in omega (arith, r)

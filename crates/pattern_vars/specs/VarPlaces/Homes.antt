@@ -1,5 +1,5 @@
--- Where the variables of a sequence are quantified: for each variable the element or the suffix, in place of, element by
--- element, the variables.
+-- Where the variables of a sequence are quantified: the element or the suffix for each variable, and not the variables
+-- element by element.
 use Rattle.std.specs.Prelude.{◌≡◌, ℕ, zero, suc, Bool, true, false, not, ◌&&◌, ◌||◌, cond, nat_eq, nat_lt, Option, None, Some, List, [], ◌∷◌, ◌++◌}
 use Rattle.std.specs.List.{filter}
 use Rattle.smpl_terms.specs.declared.var.Var.{Var}
@@ -21,11 +21,11 @@ home_in r n (Then e rest) x =
     (Some (record { place = n; here = not (is_inside r e x) || occurs_body r rest x; again = occurs_body r rest x }))
     (cond (after_dots r e rest x) (Some (record { place = n; here = true; again = true })) (home_in r (suc n) rest x))
 
--- the map has where each variable is quantified
+-- the map says where each variable is quantified
 abbrev pub AreHomes : List (Key × Home) → Reading → ℕ → Body → Type 0
 AreHomes entries r n b = (x : Var) → value_of entries x ≡ home_in r n b x
 
--- it is quantified somewhere, and where the flag says so it is known to occur again behind the element that holds it
+-- it is quantified somewhere and, if the flag says so, is known to occur again after the element that holds it
 abbrev pub passes : Bool → Option Home → Bool
 passes again None = false
 passes again (Some h) = not again || h.again
@@ -48,7 +48,7 @@ shares_from home n End w = []
 shares_from home n (Then e rest) w =
     record { here = filter (λ x. is_here (home x) n) w; inside = filter (λ x. is_within (home x) n) w } ∷ shares_from home (suc n) rest w
 
--- so many times no variables
+-- this many empty shares
 abbrev pub empty_shares : ℕ → List Shares
 empty_shares zero = []
 empty_shares (suc n) = record { here = []; inside = [] } ∷ empty_shares n
@@ -63,12 +63,12 @@ abbrev pub all_here : List Shares → List Var
 all_here [] = []
 all_here (h ∷ hs) = h.here ++ all_here hs
 
--- the places that these shares are, where so much is quantified around the first element
+-- the places with these shares, if this list is quantified around the first element
 abbrev pub scoped : List Shares → List Var → List Place
 scoped [] s = []
 scoped (h ∷ hs) s = record { here = h.here; inside = h.inside; scope = s ++ h.here } ∷ scoped hs (s ++ h.here)
 
--- so many of the parts that were counted have the variable
+-- n of the parts that were counted have the variable
 pub record IsCount (c : Counted) (x : Var) (n : ℕ) : Type 0 where
   pub some : has c.some x ≡ nat_lt 0 n
   pub several : has c.several x ≡ nat_lt 1 n

@@ -13,7 +13,7 @@ abbrev pub passes : (Var → Bool) → Option Var → Bool
 passes test None = false
 passes test (Some x) = test x
 
--- the numbers of variables are their places in the list, each of whose variables stands there once
+-- the numbers of the variables are their places in the list, and each variable is in the list once
 pub record IsNumbered (numbers vars : List Var) : Type 0 where
   pub count : length numbers ≡ length vars
   pub each : (i : ℕ) (x : Var) → slice_get vars i ≡ Some x → has_number numbers i x ≡ true

@@ -17,11 +17,11 @@ reading_at r = record {
   is_statement = patterns.is_statement;
 }
 
--- whether the variable stands in the pattern, or where the flag says so is used there
+-- whether the variable appears in the pattern or, if the flag says so, is used there
 abbrev pub reads_by : Reader → Bool → Pattern → Var → Bool
 reads_by r plus p x = reads r.decls.now r.tokens.now plus p x
 
--- the place of the element that a suffix begins with
+-- the place of the first element of a suffix
 abbrev pub place_at : Reading → Element → Body → List Var → List Var → Place
 place_at r e rest w s = record {
   here = filter (at_suffix r e rest) w;

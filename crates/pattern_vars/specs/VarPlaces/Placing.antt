@@ -1,12 +1,12 @@
 -- Where a variable of a rule is quantified: at the smallest part of the body that holds all its occurrences. The parts
--- are the body's atoms, its branches, bodies and nests, and the suffixes of its sequences. A brace and a tail are atoms.
+-- are the body's atoms, its branches, bodies and nests, and the suffixes of its sequences. Braces and tails are atoms.
 use Rattle.std.specs.Prelude.{ℕ, ◌+◌, Bool, true, false, not, ◌&&◌, ◌||◌, cond, nat_le, Option, None, Some}
 use Rattle.smpl_terms.specs.declared.var.Var.{Var}
 use Rattle.smpl_patch.specs.declared.pattern.Pattern.{Pattern}
 use Rattle.smpl_patch.specs.Bodies.{Element, Atom, Compound, Block, Gap, Nest, AnyOf, AllOf, Body, End, Then, Bodies, NoMore, More}
 
--- what is read off a pattern: whether a variable stands in it, the same with plus code that is anchored there, and
--- whether it is a statement variable
+-- what a pattern says: whether a variable appears in it, whether it appears in it or in plus code that is anchored there,
+-- and whether the pattern is a statement variable
 pub record Reading : Type 0 where
   pub stands : Pattern → Var → Bool
   pub used : Pattern → Var → Bool
@@ -26,7 +26,7 @@ abbrev pub any_option : (Pattern → Bool) → Option Pattern → Bool
 any_option test None = false
 any_option test (Some p) = test p
 
--- some pattern passes the test; those of `when` code count where the flag says so
+-- some pattern passes the test; those of `when` code count if the flag is true
 abbrev mutual
   pub any_element : Bool → (Pattern → Bool) → Element → Bool
   any_element whens test (Atom p) = test p
@@ -49,7 +49,7 @@ abbrev pub one : Bool → ℕ
 one b = cond b 1 0
 
 module _ (r : Reading) where
-  -- x stands in a piece of `when` code
+  -- x appears in a piece of `when` code
   abbrev pub in_whens : Bodies → Var → Bool
   in_whens ws x = any_bodies true (λ p. r.stands p x) ws
 
@@ -64,7 +64,7 @@ module _ (r : Reading) where
   bodies_with NoMore x = 0
   bodies_with (More b bs) x = one (occurs_body b x) + bodies_with bs x
 
-  -- of an x that occurs in the element: one part inside it holds all of that
+  -- for an x that occurs in the element: one part inside it holds all those occurrences
   abbrev pub is_inside : Element → Var → Bool
   is_inside (Atom p) x = true
   is_inside (Compound h bs t) x = nat_le (one (r.used h x) + bodies_with bs x + one (any_option (λ p. r.used p x) t)) 1
@@ -75,18 +75,18 @@ module _ (r : Reading) where
   is_inside (AnyOf bs) x = nat_le (bodies_with bs x) 1
   is_inside (AllOf bs) x = nat_le (bodies_with bs x) 1
 
-  -- a variable of the element directly after dots counts at the dots too, where it also occurs elsewhere and the
-  -- element is no disjunction or conjunction
+  -- a variable of the element directly after dots also counts at the dots, if it occurs again after that element, and the
+  -- element is neither a disjunction nor a conjunction
   abbrev pub after_dots : Element → Body → Var → Bool
   after_dots e End x = false
   after_dots e (Then n more) x =
       is_dots e && not (is_choice n) && any_element false (λ p. r.stands p x) n && occurs_body more x
 
-  -- of an x all of whose occurrences the suffix `Then e rest` holds: no smaller part does
+  -- for an x all of whose occurrences are in the suffix `Then e rest`: no smaller part holds them all
   abbrev pub at_suffix : Element → Body → Var → Bool
   at_suffix e rest x =
       cond (occurs_element e x) (not (is_inside e x) || occurs_body rest x) (after_dots e rest x)
 
-  -- x occurs in `when` code alone, if it occurs in the body at all
+  -- x occurs only in `when` code, if it occurs in the body at all
   abbrev pub is_alone : Body → Var → Bool
   is_alone b x = not (any_body false (λ p. r.used p x) b)

@@ -23,7 +23,7 @@ pub struct Counted {
     pub several: VarSet,
 }
 
-/// One more part.
+/// Counts one more part.
 fn count(alloc: Global, part: &VarSet, counted: &mut Counted) -> Result<(), NoMemory>
     ensures { OnOk result ((y : Variable) (n : ℕ) → IsCount counted.old y n
         → IsCount counted.new y (n + placing.one (has part.now y))) }
@@ -33,7 +33,7 @@ fn count(alloc: Global, part: &VarSet, counted: &mut Counted) -> Result<(), NoMe
     Ok(())
 }
 
-/// One more part: an atom.
+/// Counts one more part: an atom.
 fn count_atom(
     alloc: Global,
     reader: &Reader,
@@ -48,7 +48,7 @@ fn count_atom(
     Ok(())
 }
 
-/// One more part: an atom, if there is one.
+/// Counts one more part: an atom, if there is one.
 fn count_option(
     alloc: Global,
     reader: &Reader,
@@ -63,7 +63,7 @@ fn count_option(
     Ok(())
 }
 
-/// One more part: a sequence.
+/// Counts one more part: a sequence.
 fn count_body(
     alloc: Global,
     reader: &Reader,
@@ -103,7 +103,7 @@ fn count_nothing(alloc: Global) -> Counted
     }
 }
 
-/// The variables that several of the bodies have.
+/// Returns the variables that several of the bodies have.
 fn spread_bodies(alloc: Global, reader: &Reader, bs: &[Items<Elem>]) -> Result<VarSet, NoMemory>
     ensures { IfOk result (λ set. (y : Variable) → has set y
         ≡ not (nat_le (placing.bodies_with (reading_at reader.now) (bodies_of bs.now) y) 1)) }
@@ -160,7 +160,7 @@ fn no_vars(alloc: Global) -> Result<VarSet, NoMemory>
     Ok(VarSet::new(alloc))
 }
 
-/// Of the variables that occur in the element, those of which no part inside it holds all occurrences.
+/// Returns, of the variables that occur in the element, those for which no part inside it holds all occurrences.
 pub fn spread(alloc: Global, reader: &Reader, e: &Elem) -> Result<VarSet, NoMemory>
     ensures { IfOk result (λ set. (y : Variable) → placing.occurs_element (reading_at reader.now) (element e.now) y ≡ true
         → has set y ≡ not (placing.is_inside (reading_at reader.now) (element e.now) y)) }

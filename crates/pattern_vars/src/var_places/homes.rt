@@ -21,18 +21,18 @@ use smpl_patch::Elem;
 use smpl_terms::Var;
 use std::alloc::Global;
 
-/// Where a variable is quantified, of which a suffix of a sequence holds all occurrences.
+/// Where a variable is quantified, if a suffix of a sequence holds all its occurrences.
 #[derive(Clone, Copy)]
 pub struct Home {
-    /// The number of the element that holds it, or of the first of the suffix at which it is quantified.
+    /// The number of the element that holds it, or of the first element of the suffix at which it is quantified.
     pub place: usize,
-    /// It is quantified at the suffix, and else inside the element.
+    /// Whether it is quantified at the suffix, and not inside the element.
     pub here: bool,
-    /// It occurs behind that element too.
+    /// Whether it also occurs after that element.
     pub again: bool,
 }
 
-/// Where the variable is quantified.
+/// Returns where the variable is quantified.
 pub fn home_of(
     alloc: Global,
     homes: &IndexMap<Key, Home>,
@@ -72,7 +72,7 @@ fn passes(again: bool, home: Option<Home>) -> bool
     }
 }
 
-/// Puts the variable in, if it is quantified somewhere, and where the flag says so occurs again.
+/// Puts the variable in, if it is quantified somewhere and, if `again` is true, occurs again.
 fn put_passing(
     alloc: Global,
     homes: &IndexMap<Key, Home>,
@@ -91,7 +91,7 @@ fn put_passing(
     Ok(())
 }
 
-/// Those of the variables that are quantified somewhere, and where the flag says so occur again.
+/// Returns those of the variables that are quantified somewhere and, if `again` is true, occur again.
 fn passing(
     alloc: Global,
     homes: &IndexMap<Key, Home>,
@@ -135,7 +135,7 @@ fn counts_at(e: &Elem, n: &Elem) -> bool
     is_dots(e) && !is_choice(n)
 }
 
-/// The variables that count at dots since they stand in the element after them and again later.
+/// Returns the variables that count at dots because they appear in the element after the dots and occur again later.
 fn after_dots(
     alloc: Global,
     reader: &Reader,
@@ -161,7 +161,7 @@ fn after_dots(
     Ok(found)
 }
 
-/// The variables are quantified at the suffix that begins with this element.
+/// Records that the variables are quantified at the suffix that begins with this element.
 fn put_here(
     alloc: Global,
     place: usize,
@@ -182,7 +182,7 @@ fn put_here(
     Ok(())
 }
 
-/// The variable occurs in this element.
+/// Records where the variable, which occurs in this element, is quantified.
 fn put_own(
     alloc: Global,
     place: usize,
@@ -204,7 +204,7 @@ fn put_own(
     put_home(alloc, x, Home { place, here, again }, homes)
 }
 
-/// The variables occur in this element.
+/// Records where the variables, which occur in this element, are quantified.
 fn put_each(
     alloc: Global,
     place: usize,
@@ -226,7 +226,7 @@ fn put_each(
     Ok(())
 }
 
-/// From the homes of a sequence: the variables that count at the dots before it are quantified there.
+/// Records that the variables which count at the dots before a sequence are quantified there, given its homes.
 fn put_dotted(
     alloc: Global,
     reader: &Reader,
@@ -245,7 +245,7 @@ fn put_dotted(
     Ok(())
 }
 
-/// The variables occur in this element, and those of the other set behind it too.
+/// Records where the variables that occur in this element are quantified; `later` has those that also occur after it.
 fn put_spread(
     alloc: Global,
     reader: &Reader,
@@ -268,7 +268,7 @@ fn put_spread(
     Ok(())
 }
 
-/// From the homes of a sequence those of one that has an element more before it.
+/// Turns the homes of a sequence into those of the sequence with one more element before it.
 fn put_homes(
     alloc: Global,
     reader: &Reader,
@@ -287,8 +287,8 @@ fn put_homes(
     Ok(())
 }
 
-/// Where each variable that occurs in the sequence is quantified, if the sequence holds all its occurrences. Each element is
-/// read a few times.
+/// Returns where each variable that occurs in the sequence is quantified, if the sequence holds all its occurrences. Reads
+/// each element a few times.
 pub fn homes_of(alloc: Global, reader: &Reader, b: &[Elem]) -> Result<IndexMap<Key, Home>, NoMemory>
     ensures { IfOk result (λ homes. AreHomes homes.entries (reading_at reader.now) 0 (body b.now)) }
 {

@@ -34,7 +34,7 @@ impl Model for Numbered {
     ghost invariant = { λ n. AreFirsts n.firsts.entries 0 n.vars.items };
 }
 
-/// Gives the variable this place.
+/// Gives this place to the variable.
 fn put_place(
     alloc: Global,
     x: &Var,
@@ -51,7 +51,8 @@ fn put_place(
     Ok(())
 }
 
-/// The first place of each variable: places are put from the last on, and each replaces a later one of the same variable.
+/// Returns the first place of each variable. Puts places in from the last one backward, so that each replaces a later one of
+/// the same variable.
 fn firsts_of(alloc: Global, vars: &[Var]) -> Result<IndexMap<Key, usize>, NoMemory>
     ensures { IfOk result (λ firsts. AreFirsts firsts.entries 0 vars.now) }
 {
@@ -65,7 +66,7 @@ fn firsts_of(alloc: Global, vars: &[Var]) -> Result<IndexMap<Key, usize>, NoMemo
 }
 
 impl Numbered {
-    /// These variables. Linear in their names, where no hashes collide.
+    /// Returns these variables with their first places. Linear in their names if no hashes collide.
     pub fn of(alloc: Global, vars: Vec<Var>) -> Result<Numbered, NoMemory>
         ensures value { IfOk result (λ numbered. numbered ≡ vars.items) }
         ensures fits { IfOk result (λ numbered. length numbered < 2 ^ 64) }
@@ -74,14 +75,14 @@ impl Numbered {
         Ok(Numbered { vars, firsts })
     }
 
-    /// The variables, in their order. Takes no memory.
+    /// Returns the variables, in their order. Takes no memory.
     pub fn as_slice(&self) -> &[Var]
         ensures { result.now ≡ self.now }
     {
         self.vars.as_slice()
     }
 
-    /// The first place of the variable. One look-up, linear in the name; takes no memory.
+    /// Returns the first place of the variable. Takes one look-up, linear in the name, and no memory.
     pub fn place_of(&self, x: &Key) -> Option<usize>
         ensures { result ≡ position_from (λ v. same_var v x.now.var) 0 self.now }
     {

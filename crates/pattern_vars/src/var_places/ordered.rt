@@ -1,4 +1,4 @@
-// Variables in their order, of which those of a set are soon found.
+// Variables in their order, with a fast search for those that are in a set.
 ghost use Rattle.std.specs.Prelude.{◌≡◌, ◌↔◌, ◌||◌, ◌<◌, ℕ, Bool, true, nat_eq, length, [], All, IsTrue, IfOk, IfSome, OnOk};
 ghost use Rattle.std.specs.List.{filter, list_any};
 ghost use Rattle.std.specs.List.Sorted.{IsNonDecreasing};
@@ -20,12 +20,12 @@ use sqlite_items::Items;
 use std::alloc::Global;
 use std::marker::Model;
 
-/// Variables in their order, of which those that a set has are found without a look at the others. Contracts see the list.
+/// Variables in their order. Those that are in a set are found without a look at the others. Contracts see the list.
 #[derive(Drop)]
 pub struct Ordered {
     /// The variables, in their order.
     vars: Items<Var>,
-    /// Gives each variable its place as its number. There is none if a variable stands twice.
+    /// Gives each variable its place as its number. `None` if a variable is in the list twice.
     numbers: Option<VarSet>,
 }
 
@@ -66,7 +66,7 @@ fn is_numbered(alloc: Global, numbers: &VarSet, vars: &[Var]) -> Result<bool, No
     Ok(true)
 }
 
-/// The places of variables as their numbers, if none of them stands twice.
+/// Returns the places of the variables as their numbers, if none of them is in the list twice.
 fn numbers_of(alloc: Global, vars: &[Var]) -> Result<Option<VarSet>, NoMemory>
     ensures { IfOk result (λ found. IfSome found (λ numbers. IsNumbered numbers vars.now)) }
 {
@@ -79,7 +79,7 @@ fn numbers_of(alloc: Global, vars: &[Var]) -> Result<Option<VarSet>, NoMemory>
     }
 }
 
-/// One more number, if the variable has one.
+/// Adds the number of the variable, if it has one.
 fn put_number(
     alloc: Global,
     numbers: &VarSet,
@@ -98,7 +98,7 @@ fn put_number(
     }
 }
 
-/// The numbers that variables of the set have.
+/// Returns the numbers of the variables of the set that have one.
 fn numbers_in(alloc: Global, numbers: &VarSet, set: &VarSet) -> Result<Vec<usize>, NoMemory>
     ensures { IfOk result (λ places. (i : ℕ) → list_any (nat_eq i) places.items
         ≡ list_any (has_number numbers.now i) set.now) }
@@ -110,7 +110,7 @@ fn numbers_in(alloc: Global, numbers: &VarSet, set: &VarSet) -> Result<Vec<usize
     Ok(places)
 }
 
-/// The variables at these places, in their order. Places that are equal count once.
+/// Returns the variables at these places, in their order. Equal places count once.
 fn at_places(alloc: Global, vars: &[Var], places: &[usize]) -> Result<Items<Var>, NoMemory>
     requires in_order { IsNonDecreasing places.now }
     requires within { All (λ i. i < length vars.now) places.now }
@@ -128,7 +128,7 @@ fn at_places(alloc: Global, vars: &[Var], places: &[usize]) -> Result<Items<Var>
     Ok(found)
 }
 
-/// Those of the variables that are in the set, by their numbers.
+/// Returns those of the variables that are in the set, by their numbers.
 fn among_numbered(
     alloc: Global,
     numbers: &VarSet,
@@ -144,7 +144,7 @@ fn among_numbered(
 }
 
 impl Ordered {
-    /// These variables. A few look-ups for each.
+    /// Returns these variables, ready for searches. Takes a few look-ups for each.
     pub fn of(alloc: Global, vars: Items<Var>) -> Result<Ordered, NoMemory>
         ensures { IfOk result (λ found. found ≡ vars) }
     {
@@ -152,30 +152,30 @@ impl Ordered {
         Ok(Ordered { vars, numbers })
     }
 
-    /// The variables, in their order. Takes no memory.
+    /// Returns the variables, in their order. Takes no memory.
     pub fn as_slice(&self) -> &[Var]
         ensures { result.now ≡ self.now }
     {
         self.vars.as_slice()
     }
 
-    /// How many there are. Takes no memory.
+    /// Returns the number of variables. Takes no memory.
     pub fn len(&self) -> usize
         ensures { result ≡ length self.now }
     {
         self.vars.len()
     }
 
-    /// Whether there are none. Takes no memory.
+    /// Whether there are no variables. Takes no memory.
     pub fn is_empty(&self) -> bool
         ensures { IsTrue result ↔ (self.now ≡ []) }
     {
         self.vars.is_empty()
     }
 
-    /// Those of the variables that are in the set, in their order. For a set of n variables this takes n look-ups and n log n
-    /// steps, however long the list is, where no hashes collide. If a variable stands in the list twice, each variable of the
-    /// list is looked up in place of that.
+    /// Returns those of the variables that are in the set, in their order. For a set of n variables this takes n look-ups and
+    /// n log n steps, however long the list is, if no hashes collide. If a variable is in the list twice, each variable of the
+    /// list is looked up instead.
     pub fn among(&self, alloc: Global, set: &VarSet) -> Result<Items<Var>, NoMemory>
         ensures { IfOk result (λ found. found ≡ filter (has set.now) self.now) }
     {
@@ -185,8 +185,8 @@ impl Ordered {
         }
     }
 
-    /// Those of the variables that occur in the sequence, in their order. The sequence is read once, and not at all where there
-    /// are no variables.
+    /// Returns those of the variables that occur in the sequence, in their order. Reads the sequence once, and not at all if
+    /// there are no variables.
     pub fn in_body(
         &self,
         alloc: Global,

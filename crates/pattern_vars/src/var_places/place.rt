@@ -30,7 +30,7 @@ pub struct Place {
     pub scope: Scope,
 }
 
-/// Equal variables.
+/// Returns equal variables.
 pub fn copied_vars(alloc: Global, vars: &[Var]) -> Result<Items<Var>, NoMemory>
     ensures { IfOk result (λ copies. copies ≡ vars.now) }
 {
@@ -41,7 +41,7 @@ pub fn copied_vars(alloc: Global, vars: &[Var]) -> Result<Items<Var>, NoMemory>
     Ok(copies)
 }
 
-/// What is quantified at the suffix that begins with an element, and what inside the element.
+/// The variables that are quantified at the suffix that begins with an element, and those inside the element.
 #[derive(Drop)]
 pub struct Shares {
     pub here: Items<Var>,
@@ -71,7 +71,7 @@ fn put_at(alloc: Global, h: Home, x: &Var, shares: &mut Vec<Shares>) -> Result<(
     Ok(())
 }
 
-/// Puts the variable where it is quantified.
+/// Puts the variable into the shares of the element at which it is quantified.
 fn put_var(
     alloc: Global,
     home: Option<Home>,
@@ -86,7 +86,7 @@ fn put_var(
     }
 }
 
-/// So many times no variables.
+/// Returns this many empty shares.
 fn empty_shares(alloc: Global, count: usize) -> Result<Vec<Shares>, NoMemory>
     ensures { IfOk result (λ found. found.items ≡ of_sequence.empty_shares count) }
 {
@@ -100,7 +100,7 @@ fn empty_shares(alloc: Global, count: usize) -> Result<Vec<Shares>, NoMemory>
     Ok(found)
 }
 
-/// The variables by where they are quantified. Each is looked up once; where there are none, nothing is read.
+/// Sorts the variables by where they are quantified. Looks each up once; if there are none, reads nothing.
 fn sorted(alloc: Global, reader: &Reader, b: &[Elem], vars: &[Var]) -> Result<Vec<Shares>, NoMemory>
     ensures { IfOk result (λ found. found.items ≡ of_sequence.shares_from
         (of_sequence.home_in (reading_at reader.now) 0 (body b.now)) 0 (body b.now) vars.now) }
@@ -117,7 +117,7 @@ fn sorted(alloc: Global, reader: &Reader, b: &[Elem], vars: &[Var]) -> Result<Ve
     Ok(found)
 }
 
-/// Those of the variables that are in the set, in their order.
+/// Returns those of the variables that are in the set, in their order.
 pub fn among(alloc: Global, set: &VarSet, vars: &[Var]) -> Result<Items<Var>, NoMemory>
     ensures { IfOk result (λ found. found ≡ filter (has set.now) vars.now) }
 {
@@ -130,7 +130,7 @@ pub fn among(alloc: Global, set: &VarSet, vars: &[Var]) -> Result<Items<Var>, No
     Ok(found)
 }
 
-/// Those that occur in the sequence. Where there are none, nothing is read.
+/// Returns those of the variables that occur in the sequence, in their order. Reads nothing if there are no variables.
 pub fn in_body(
     alloc: Global,
     reader: &Reader,
@@ -147,7 +147,7 @@ pub fn in_body(
     among(alloc, &set, vars)
 }
 
-/// Those that are used in the atom. Where there are none, nothing is read.
+/// Returns those of the variables that are used in the atom, in their order. Reads nothing if there are no variables.
 pub fn at_atom(
     alloc: Global,
     reader: &Reader,
@@ -174,7 +174,7 @@ fn append(alloc: Global, more: &[Var], all: &mut Vec<Var>) -> Result<(), NoMemor
     Ok(())
 }
 
-/// The scope with further variables. Where there are none, it is shared. What is around is not copied.
+/// Returns the scope with further variables, or the shared scope if there are none. Does not copy what is around.
 pub fn extended(alloc: Global, scope: &Scope, here: &[Var]) -> Result<Scope, NoMemory>
     ensures { IfOk result (λ found. found ≡ scope.now ++ here.now) }
 {
@@ -187,7 +187,7 @@ pub fn extended(alloc: Global, scope: &Scope, here: &[Var]) -> Result<Scope, NoM
     inside.front(here.len())
 }
 
-/// What is quantified at the suffixes of a sequence.
+/// Returns what is quantified at the suffixes of a sequence.
 fn all_here(alloc: Global, shares: &[Shares]) -> Result<Vec<Var>, NoMemory>
     ensures { IfOk result (λ all. all.items ≡ of_sequence.all_here shares.now) }
 {
@@ -198,7 +198,7 @@ fn all_here(alloc: Global, shares: &[Shares]) -> Result<Vec<Var>, NoMemory>
     Ok(all)
 }
 
-/// An element's place in the sequence, of whose variables so many are quantified around it.
+/// Returns an element's place in a sequence of which this many variables are quantified around the element.
 fn place_of(
     alloc: Global,
     share: &Shares,
@@ -221,7 +221,7 @@ fn place_of(
     })
 }
 
-/// The places of a sequence's elements.
+/// Returns the places of a sequence's elements.
 fn along(alloc: Global, shares: &[Shares], inside: &SequenceScope) -> Result<Vec<Place>, NoMemory>
     requires vars { inside.now.vars ≡ of_sequence.all_here shares.now }
     requires fits { length inside.now.vars < 2 ^ 64 }
@@ -238,7 +238,7 @@ fn along(alloc: Global, shares: &[Shares], inside: &SequenceScope) -> Result<Vec
     Ok(found)
 }
 
-/// The places of a sequence's elements. They share one list of what is quantified at its suffixes.
+/// Returns the places of a sequence's elements. They share one list of what is quantified at its suffixes.
 fn scoped(alloc: Global, shares: &[Shares], scope: &Scope) -> Result<Vec<Place>, NoMemory>
     ensures { IfOk result (λ found. found.items ≡ of_sequence.scoped shares.now scope.now) }
 {
@@ -247,8 +247,8 @@ fn scoped(alloc: Global, shares: &[Shares], scope: &Scope) -> Result<Vec<Place>,
     along(alloc, shares, &inside)
 }
 
-/// The places of a sequence's elements, by the variables that are quantified inside it and around it. The sequence is read a
-/// few times, and each variable is looked up once.
+/// Returns the places of a sequence's elements, given the variables that are quantified in the sequence and around it. Reads
+/// the sequence a few times, and looks each variable up once.
 pub fn places_of(
     alloc: Global,
     reader: &Reader,

@@ -1,8 +1,8 @@
-// What patterns are read by.
+// What is needed to read patterns.
 use crate::Decls;
 use smpl_patch::PatToken;
 
-/// What patterns are read by: a rule's declarations and its tokens.
+/// What is needed to read patterns: a rule's declarations and its tokens.
 #[derive(Clone, Copy)]
 pub struct Reader<'a> {
     pub decls: &'a Decls,

@@ -12,12 +12,12 @@ use sqlite_items::Items;
 use std::alloc::Global;
 use std::marker::Model;
 
-/// The first ones of variables that scopes share. Contracts see them.
+/// The front of a list of variables that scopes share. Contracts see the variables of the front.
 #[derive(Drop)]
 pub struct Link {
-    /// The variables that are shared.
+    /// The shared list.
     vars: Shared<Numbered>,
-    /// How many of them are seen, from the first on.
+    /// How many of its variables are in the front.
     count: usize,
 }
 
@@ -31,7 +31,7 @@ impl Model for Link {
 }
 
 impl Link {
-    /// The variables, in their order. Takes no memory.
+    /// Returns the variables, in their order. Takes no memory.
     fn as_slice(&self) -> &[Var]
         ensures { result.now ≡ self.now }
     {
@@ -39,7 +39,7 @@ impl Link {
         &vars[..self.count.min(vars.len())]
     }
 
-    /// Whether the variable is there. One look-up, linear in the name; takes no memory.
+    /// Whether the variable is in the front. Takes one look-up, linear in the name, and no memory.
     fn has(&self, x: &Key) -> bool
         ensures { result ≡ has self.now x.now.var }
     {
@@ -67,7 +67,7 @@ fn is_in_some(links: &[Link], x: &Key) -> bool
     links.iter().any(|link| link.has(x))
 }
 
-/// How many variables the links have, where a `usize` counts them. Takes no memory.
+/// Returns the number of variables in the links, if a `usize` can count them. Takes no memory.
 fn count_of(links: &[Link]) -> Option<usize>
     ensures { IfSome result (λ count. count ≡ length (joined links.now)) }
 {
@@ -78,7 +78,7 @@ fn count_of(links: &[Link]) -> Option<usize>
     Some(count)
 }
 
-/// Appends the variables from this number on. Those before it are not looked at.
+/// Appends the variables from this number on. Does not look at those before it.
 fn put_since(
     alloc: Global,
     vars: &[Var],
@@ -93,13 +93,13 @@ fn put_since(
     Ok(())
 }
 
-/// Variables that are quantified around an element: those of the sequences around it, from the outermost on. Contracts see
-/// them.
+/// The variables that are quantified around an element: those of the sequences around it, from the outermost inward.
+/// Contracts see the list.
 #[derive(Drop)]
 pub struct Scope {
     /// What is quantified around the innermost of the sequences.
     outer: SharedList<Link>,
-    /// What is quantified in that one.
+    /// What is quantified in the innermost sequence.
     last: Link,
 }
 
@@ -114,7 +114,7 @@ impl Model for Scope {
 }
 
 impl Scope {
-    /// No variables.
+    /// Returns the scope without variables.
     pub fn none(alloc: Global) -> Result<Scope, NoMemory>
         ensures { IfOk result (λ scope. scope ≡ []) }
     {
@@ -126,7 +126,7 @@ impl Scope {
         })
     }
 
-    /// The same variables, shared. Takes no memory.
+    /// Returns the same variables, shared. Takes no memory.
     pub fn share(&self) -> Result<Scope, NoMemory>
         ensures { IfOk result (λ scope. scope ≡ self.now) }
     {
@@ -141,7 +141,7 @@ impl Scope {
         })
     }
 
-    /// Whether the variable is there. One copy of it, and a look-up for each sequence around in which something is
+    /// Whether the variable is in the scope. Takes one copy of it, and a look-up for each sequence around in which something is
     /// quantified.
     pub fn has(&self, alloc: Global, x: &Var) -> Result<bool, NoMemory>
         ensures { IfOk result (λ there. there ≡ has self.now x.now) }
@@ -155,8 +155,8 @@ impl Scope {
         Ok(self.last.has(&key))
     }
 
-    /// How many variables there are, where a `usize` counts them. Linear in the number of sequences around in which something
-    /// is quantified; takes no memory.
+    /// Returns the number of variables, if a `usize` can count them. Linear in the number of sequences around in which
+    /// something is quantified; takes no memory.
     pub fn len(&self) -> Option<usize>
         ensures { IfSome result (λ count. count ≡ length self.now) }
     {
@@ -164,8 +164,8 @@ impl Scope {
         count.checked_add(self.last.as_slice().len())
     }
 
-    /// The variables from this number on: what is quantified further inside than so many. Linear in their number, and in the
-    /// number of sequences around in which something is quantified.
+    /// Returns all but the first `count` variables: those that are quantified further inside. Linear in their number, and in
+    /// the number of sequences around in which something is quantified.
     pub fn since(&self, alloc: Global, count: usize) -> Result<Items<Var>, NoMemory>
         ensures { IfOk result (λ found. found ≡ drop count self.now) }
     {
@@ -180,7 +180,7 @@ impl Scope {
         Ok(found)
     }
 
-    /// The links, to which a further one is the next. Where the last is empty, the outer ones are shared.
+    /// Returns all links, to which a further one may be added. If the last link is empty, these are the outer ones, shared.
     fn links(&self, alloc: Global) -> Result<SharedList<Link>, NoMemory>
         ensures { IfOk result (λ links. joined links ≡ self.now) }
     {
@@ -193,7 +193,7 @@ impl Scope {
     }
 }
 
-/// What is quantified around a sequence, and in it.
+/// The variables that are quantified around a sequence and in it.
 #[derive(Drop)]
 pub struct SequenceScope {
     /// What is quantified around the sequence.
@@ -203,8 +203,8 @@ pub struct SequenceScope {
 }
 
 impl SequenceScope {
-    /// These variables are quantified in a sequence, and those of the scope around it. Linear in the variables' names, where
-    /// no hashes collide, and in the number of sequences around in which something is quantified.
+    /// Returns the scope of a sequence: these variables are quantified in it, and those of `scope` around it. Linear in the
+    /// variables' names, if no hashes collide, and in the number of sequences around in which something is quantified.
     pub fn of(alloc: Global, scope: &Scope, vars: Vec<Var>) -> Result<SequenceScope, NoMemory>
         ensures outer { IfOk result (λ inside. joined inside.outer ≡ scope.now) }
         ensures vars { IfOk result (λ inside. inside.vars ≡ vars.items) }
@@ -216,7 +216,7 @@ impl SequenceScope {
         Ok(SequenceScope { outer, vars })
     }
 
-    /// What is around the sequence, and so many of its own variables, from the first on. Takes no memory.
+    /// Returns what is quantified around the sequence, and the first `count` of its own variables. Takes no memory.
     pub fn front(&self, count: usize) -> Result<Scope, NoMemory>
         ensures { IfOk result (λ scope. scope
             ≡ joined self.now.outer ++ take count self.now.vars) }

@@ -30,7 +30,7 @@ fn put_option(
     }
 }
 
-/// Puts the variables of the element's patterns in. Plus code and `when` code count where the flags say so.
+/// Puts in the variables of the element's patterns. The flags say whether plus code and `when` code count.
 #[cycle(put)]
 fn put_element(
     alloc: Global,
@@ -103,7 +103,7 @@ fn put_block(
     Ok(())
 }
 
-/// Those of `when` code, where it counts.
+/// Puts in the variables of `when` code, if it counts.
 #[cycle(put)]
 fn put_whens(
     alloc: Global,
@@ -177,7 +177,7 @@ fn put_bodies(
     Ok(())
 }
 
-/// The variables that are used in the atom.
+/// Returns the variables that are used in the atom.
 pub fn used_in_atom(alloc: Global, reader: &Reader, p: &Pattern) -> Result<VarSet, NoMemory>
     ensures { IfOk result (λ set. (y : Variable) → has set y ≡ (reading_at reader.now).used p.now y) }
 {
@@ -186,7 +186,7 @@ pub fn used_in_atom(alloc: Global, reader: &Reader, p: &Pattern) -> Result<VarSe
     Ok(set)
 }
 
-/// The variables that are used in the atom, if there is one.
+/// Returns the variables that are used in the atom, if there is one.
 pub fn used_in_option(
     alloc: Global,
     reader: &Reader,
@@ -200,7 +200,7 @@ pub fn used_in_option(
     Ok(set)
 }
 
-/// The variables that stand in the atom.
+/// Returns the variables that appear in the atom.
 pub fn standing_in_atom(alloc: Global, reader: &Reader, p: &Pattern) -> Result<VarSet, NoMemory>
     ensures { IfOk result (λ set. (y : Variable) → has set y ≡ (reading_at reader.now).stands p.now y) }
 {
@@ -209,7 +209,7 @@ pub fn standing_in_atom(alloc: Global, reader: &Reader, p: &Pattern) -> Result<V
     Ok(set)
 }
 
-/// The variables that are used in the sequence, `when` code aside.
+/// Returns the variables that are used in the sequence, without `when` code.
 pub fn used_in_body(alloc: Global, reader: &Reader, b: &[Elem]) -> Result<VarSet, NoMemory>
     ensures { IfOk result (λ set. (y : Variable) → has set y
         ≡ placing.any_body false (λ p. (reading_at reader.now).used p y) (body b.now)) }
@@ -219,7 +219,7 @@ pub fn used_in_body(alloc: Global, reader: &Reader, b: &[Elem]) -> Result<VarSet
     Ok(set)
 }
 
-/// The variables that stand in the sequence; `when` code counts where the flag says so.
+/// Returns the variables that appear in the sequence; `when` code counts if `whens` is true.
 pub fn standing_in_body(
     alloc: Global,
     reader: &Reader,
@@ -234,7 +234,7 @@ pub fn standing_in_body(
     Ok(set)
 }
 
-/// The variables that stand in the element, `when` code aside.
+/// Returns the variables that appear in the element, without `when` code.
 pub fn standing_in_element(alloc: Global, reader: &Reader, e: &Elem) -> Result<VarSet, NoMemory>
     ensures { IfOk result (λ set. (y : Variable) → has set y
         ≡ placing.any_element false (λ p. (reading_at reader.now).stands p y) (element e.now)) }
@@ -244,7 +244,7 @@ pub fn standing_in_element(alloc: Global, reader: &Reader, e: &Elem) -> Result<V
     Ok(set)
 }
 
-/// The variables that stand in pieces of `when` code.
+/// Returns the variables that appear in pieces of `when` code.
 pub fn standing_in_whens(
     alloc: Global,
     reader: &Reader,
@@ -258,7 +258,7 @@ pub fn standing_in_whens(
     Ok(set)
 }
 
-/// The variables that occur in the element, in `when` code or in plus code too.
+/// Returns the variables that occur in the element, including its `when` code and plus code.
 pub fn occurring_in_element(alloc: Global, reader: &Reader, e: &Elem) -> Result<VarSet, NoMemory>
     ensures { IfOk result (λ set. (y : Variable) → has set y
         ≡ placing.occurs_element (reading_at reader.now) (element e.now) y) }
@@ -269,7 +269,7 @@ pub fn occurring_in_element(alloc: Global, reader: &Reader, e: &Elem) -> Result<
     Ok(set)
 }
 
-/// The variables that occur in the sequence.
+/// Returns the variables that occur in the sequence.
 pub fn occurring_in_body(alloc: Global, reader: &Reader, b: &[Elem]) -> Result<VarSet, NoMemory>
     ensures { IfOk result (λ set. (y : Variable) → has set y
         ≡ placing.occurs_body (reading_at reader.now) (body b.now) y) }

@@ -1,4 +1,4 @@
--- A block has one isomorphism or one fault, and not both.
+-- A block has at most one isomorphism and at most one fault, and not both.
 use Rattle.std.specs.Prelude.{IsTrue, codes}
 use Rattle.std.proofs.Common.{◌≡◌, ℕ, ◌+◌, Bool, true, List, [], ◌∷◌, Some, take, drop, map, refl, sym, ap, ◌∙◌, subst}
 use Rattle.c_terms.specs.declared.token.Token.{Token}

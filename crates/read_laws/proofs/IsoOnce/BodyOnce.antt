@@ -1,4 +1,4 @@
--- Bodies that are one as plain data are one.
+-- Bodies that are equal as plain data are equal.
 use Rattle.std.proofs.Common.{◌≡◌, Bool, List, [], ◌∷◌, map, Option, refl, sym, ap, ◌∙◌}
 use Rattle.smpl_patch.specs.declared.pattern.Pattern.{Pattern}
 use Rattle.smpl_patch.specs.declared.elem.Elem.{Elem}

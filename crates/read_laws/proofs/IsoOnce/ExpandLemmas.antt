@@ -1,4 +1,4 @@
--- A patch has one patch with all forms, or one first rule that has too many, and not both.
+-- A patch has at most one patch with all forms and at most one first rule with too many, and not both.
 use Rattle.std.proofs.Common.{◌≡◌, ℕ, ◌<◌, ◌≤◌, List, [], ◌∷◌, ◌++◌, length, refl, sym, ◌∙◌, subst, arith}
 use Rattle.smpl_patch.specs.declared.elem.Elem.{Elem}
 use Rattle.smpl_patch.specs.declared.rule.Iso.{Iso}

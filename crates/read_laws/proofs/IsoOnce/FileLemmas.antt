@@ -1,4 +1,4 @@
--- A file has one list of isomorphisms or one first fault, and not both.
+-- A file has at most one list of isomorphisms and at most one first fault, and not both.
 use Rattle.std.proofs.Common.{◌≡◌, ℕ, ◌<◌, ◌≤◌, List, [], ◌∷◌, ◌++◌, length, refl, sym, ◌∙◌, subst, arith}
 use Rattle.smpl_patch.specs.declared.rule.Iso.{Iso}
 use Rattle.smpl_lexer.specs.declared.token.PatchToken.{PatchToken}

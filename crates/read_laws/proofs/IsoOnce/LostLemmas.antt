@@ -1,4 +1,4 @@
--- One place is the first at which a variable is lost: its pair of sides is the least, and of a pair the place is one.
+-- At most one place is the first at which a variable is lost: its pair of sides is the least, and a pair has one place.
 use Rattle.std.proofs.Common.{◌≡◌, ℕ, ◌<◌, ◌⊎◌, Bool, List, Some, sym, ap, ◌∙◌, inl, inr, arith, slice_get}
 use Rattle.smpl_patch.specs.declared.pattern.VarDecl.{VarDecl}
 use Rattle.smpl_lexer.specs.declared.token.PatchToken.{PatchToken}

@@ -1,4 +1,4 @@
--- A file has one list of lines.
+-- A file has at most one list of lines.
 use Rattle.std.proofs.Common.{◌≡◌, ℕ, List, [], ◌∷◌, ◌++◌, refl, sym, ap, ◌∙◌}
 use Rattle.c_lexer.specs.declared.state.Kind.{Kind}
 use Rattle.c_lexer.specs.First.{IsFirst}

@@ -1,4 +1,4 @@
--- Every text is cut: as C text, as plus code and isomorphisms are, and as lines of patches are, in which signs stand.
+-- Every text is cut: as C text, like plus code and isomorphisms, and as lines of patches, which contain signs.
 use Rattle.std.proofs.Common.{◌≡◌, ◌+◌, ◌<◌, ◌≤◌, ◌||◌, ℕ, zero, suc, Bool, true, false, Option, Some, None, IsSomeAnd, List, [], ◌∷◌, ◌++◌, length, take, drop, inl, inr, refl, sym, ap, ◌∙◌, subst, arith, codes, if◌then◌else◌, length-append, length-take, take-append-drop}
 use Rattle.std.proofs.lemmas.Bool.{or_cases}
 use Rattle.std.proofs.lemmas.Slice.Eq.{bytes_eq-Decides}

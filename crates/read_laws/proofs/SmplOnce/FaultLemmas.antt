@@ -1,5 +1,5 @@
--- Bytes have one first fault, whatever its phase.
--- Proof: each phase has one, and where a phase has one nothing was wrong in those before it.
+-- Bytes have at most one first fault, in whichever phase.
+-- Proof: each phase has at most one, and if a phase has one, those before it have none.
 use Rattle.std.proofs.Common.{◌≡◌, ℕ, List, [], Some, sym, ap, ◌∙◌, subst}
 use Rattle.smpl_patch.specs.declared.rule.Patch.{Patch}
 use Rattle.smpl_patch.specs.declared.fault.PatchFault.{PatchFault}

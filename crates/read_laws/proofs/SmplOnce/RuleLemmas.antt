@@ -1,5 +1,5 @@
--- Rules have one first fault of plus code and bodies.
--- Proof: were two of different rules, the earlier one would be among the rules before the other, in which nothing is wrong.
+-- Rules have at most one first fault of plus code and bodies.
+-- Proof: if two were in different rules, the earlier rule would be among those before the other, which have no faults.
 use Rattle.std.proofs.Common.{◌≡◌, ℕ, zero, suc, ◌+◌, ◌<◌, ◌⊎◌, inl, inr, List, [], ◌∷◌, ◌++◌, length, take, Option, Some, None, refl, sym, ap, ◌∙◌, subst, arith, slice_get}
 use Rattle.std.specs.Prelude.{IfSome}
 use Rattle.smpl_terms.specs.declared.var.Var.{Var as Variable}

@@ -1,4 +1,4 @@
-// What is read has an end: what it is, or its first fault. The functions do nothing.
+// Laws on the end of reading: what bytes spell, or their first fault. The functions do nothing.
 ghost use Rattle.std.specs.Prelude.{◌⊎◌, ℕ, List};
 ghost use Rattle.smpl_patch.specs.declared.rule.Iso.{Iso as Isomorphism};
 ghost use Rattle.smpl_patch.specs.declared.rule.Patch.{Patch as Whole};
@@ -10,11 +10,11 @@ ghost use Rattle.iso_expand.specs.Patches.{IsExpanded, IsFirstMany};
 
 use c_lexer::every_text_is_cut;
 
-/// Bytes that are nothing and have no first fault can't be. Whether tokens have a tree is decided by nothing here, so it is not
-/// said which of the two it is.
+/// It is impossible that bytes spell nothing and have no first fault. Whether tokens have a tree isn't decided here, so the
+/// law doesn't say which case holds.
 ///
-/// - `patch`: bytes that spell no patch whose rules mean something have a first fault.
-/// - `isos`: bytes that are no isomorphisms have a first fault.
+/// - `patch`: it is impossible that bytes spell no patch without faults of meaning and have no first fault.
+/// - `isos`: it is impossible that bytes spell no isomorphisms and have no first fault.
 ///
 /// Does nothing.
 pub fn bytes_are_read()
@@ -26,8 +26,7 @@ pub fn bytes_are_read()
     every_text_is_cut();
 }
 
-/// Under whatever isomorphisms there is a patch with all forms of a patch, or a first rule that has too many.
-/// Does nothing.
+/// Under any isomorphisms, a patch has a patch with all forms, or a first rule with too many. Does nothing.
 pub fn patches_get_their_forms()
     ensures { (isos : List Isomorphism) (patch : Whole) →
         ((whole : Whole) × IsExpanded isos patch whole) ⊎ ((rule : ℕ) × IsFirstMany isos patch.rules rule) }

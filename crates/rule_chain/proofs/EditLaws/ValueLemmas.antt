@@ -1,4 +1,4 @@
--- Values without ids: what they are looked up as, how they are written out, and the texts of plus code that has them.
+-- Values without ids: how they are looked up and written out, and the texts of plus code that has them.
 use Rattle.std.proofs.Common.{◌≡◌, ◌+◌, ◌-◌, ℕ, suc, Bool, true, false, cond, refl, sym, ap, ◌∙◌, List, [], ◌∷◌, ◌++◌, map, length, take, drop}
 use Rattle.std.specs.Prelude.{Option, None, Some, unwrap_or, option_map, option_and_then, slice_get, if◌then◌else◌}
 use Rattle.std.proofs.lemmas.List.{map-append, length-map, take-map, drop-map}

@@ -1,4 +1,4 @@
--- Where edits of a text act, there is a token.
+-- Edits of a text act at tokens of the text.
 use Rattle.std.proofs.Common.{◌≡◌, ◌<◌, ◌⊎◌, ℕ, Bool, true, false, ◌&&◌, ◌||◌, ◌==◌, Some, refl, subst, inl, inr, arith, List, [], ◌∷◌}
 use Rattle.std.specs.Prelude.{All, slice_get}
 use Rattle.std.specs.List.{list_any}
@@ -63,7 +63,7 @@ at_place : (count : ℕ) (edits : List Edit) (i : ℕ) (e : Edit) → All (FitsT
 at_place count edits i e all is =
     subst (FitsText count) (get_or_from_slice_get edits i e e is) (all i e (slice_get_within edits i e is))
 
--- a clash stands at a token of the text
+-- a clash is at a token of the text
 pub clash_within : (count : ℕ) (edits : List Edit) (c : Clash) → All (FitsText count) edits → IsClash edits c → c.token < count
 clash_within count edits c all is =
     meets_within c.token count is.first is.second (at_place count edits c.first is.first all is.first_is) is.clash.meet

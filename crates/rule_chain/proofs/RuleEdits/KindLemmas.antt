@@ -1,4 +1,4 @@
--- What the nodes of the graphs are, one item after another.
+-- The kinds of the nodes of the graphs, one item after another.
 use Rattle.std.proofs.Common.{◌≡◌, ◌<◌, ◌+◌, ℕ, zero, suc, refl, sym, ap, ◌∙◌, arith, List, [], ◌∷◌, ◌++◌, length, drop}
 use Rattle.std.proofs.lemmas.List.{append_assoc}
 use Rattle.cpp_lines.specs.declared.reading.Item.{Item}

@@ -1,4 +1,4 @@
--- What edits leave, where no two of them clash.
+-- What edits leave if no two of them clash.
 use Rattle.std.proofs.Common.{◌≡◌, ◌≤◌, ◌<◌, ℕ, true, false, cond, Option, Some, None, refl, sym, ap, subst, ◌∙◌, inl, inr, ◌⊎◌, List, length}
 use Rattle.std.specs.Prelude.{IfNone}
 use Rattle.c_lexer.specs.Pieces.{TextPiece, text_of}

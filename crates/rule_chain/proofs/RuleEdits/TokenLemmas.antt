@@ -16,14 +16,14 @@ left_ids pieces i p is =
     ap ids_of (drop_more pieces i p (slice_get_within pieces i p is))
     ∙ ap (λ (q : TextPiece). id_before q.kind (ids_of (drop (i + 1) pieces))) (get_or_from_slice_get pieces i p p is)
 
--- a token that is passed
+-- a token that is skipped
 pub passed : (ids : List ℕ) (id token number : ℕ) → number < token → slice_get (id ∷ ids) (token - number) ≡ slice_get ids (token - (number + 1))
 passed ids id token number lt = let e : token - number ≡ suc (token - (number + 1)) = omega arith in ap (slice_get (id ∷ ids)) e
 
 pub here : (ids : List ℕ) (id token number : ℕ) → number ≡ token → slice_get (id ∷ ids) (token - number) ≡ Some id
 here ids id token number is = let e : token - number ≡ 0 = omega arith in ap (slice_get (id ∷ ids)) e
 
--- past the last piece there is no token
+-- after the last piece there is no token
 pub none_left : (pieces : List TextPiece) (i n : ℕ) → length pieces ≤ i → slice_get (ids_of (drop i pieces)) n ≡ None
 none_left pieces i n past = ap (λ (ps : List TextPiece). slice_get (ids_of ps) n) (drop_all i pieces past)
 

@@ -49,7 +49,7 @@ one_many is_large (e ∷ es) (suc k, (lt, many)) = either (is_large (bare_env e)
     either true h = refl
     either false h = h
 
--- ---- one list more
+-- ---- one more list
 
 pub join_next : (ws now list : List RuleWitness) (lists : List (List RuleWitness)) → ws ≡ flat_map (λ l. l) lists → now ≡ ws ++ list
     → now ≡ flat_map (λ l. l) (lists ++ list ∷ [])

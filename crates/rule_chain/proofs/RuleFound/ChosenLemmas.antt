@@ -14,7 +14,7 @@ use Rattle.rule_chain.specs.RuleFound.Lent.{lent_graph, AreChosenGraphs, AreLent
 pub no_graph : (rule : Rule) (items : List Item) (i : ℕ) → None ≡ item_graph (slice_get items i) → FindsNothing rule items i
 no_graph rule items i is = λ number env. ap (λ (o : Option Flow). witnesses_in number rule i o env) (sym is)
 
--- by the graphs that are lent the same is found
+-- with the graphs that are lent the same is found
 pub chosen_lent : (rule : Rule) (items : List Item) (chosen : List Bool) (graphs : List (Option (Bor Flow))) → AreChosen rule items chosen
     → AreChosenGraphs items chosen graphs → AreLent rule items graphs
 chosen_lent rule items chosen graphs are own = record {

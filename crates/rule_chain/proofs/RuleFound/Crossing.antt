@@ -1,11 +1,11 @@
--- What is kept of an item may go to another thread and be shared by several.
+-- What is kept of an item may be sent to another thread and be shared by several.
 use denote.Param.Send.{IsSend, IsSync, sendable}
 use Rattle.std.proofs.Crossing.{crosses}
 use Rattle.env_sets.proofs.Crossing.{row_send, row_sync}
 use Rattle.rule_chain.specs.contracts.rule_witnesses.matched.Matched as Matched
 use Rattle.rule_chain.specs.contracts.rule_found.job.Kept as Kept
 
--- as they stand in an enum or a struct
+-- as fields of an enum or a struct
 matched_in_send : IsSend (Matched.the_field).row
 matched_in_send = search (row_send, crosses, sendable) depth 60
 

@@ -1,4 +1,4 @@
--- What is found in one item, and what witnesses bring.
+-- What is found in one item, and which values of exported variables witnesses have.
 use Rattle.std.proofs.Common.{◌≡◌, ◌<◌, ◌≤◌, ℕ, nat_lt, refl, sym, ap, ◌∙◌, arith, true, false, Some, List, [], ◌∷◌, map}
 use Rattle.std.proofs.lemmas.Bool.Decides.{nat_tests}
 use Rattle.cpp_lines.specs.declared.reading.Item.{Item}
@@ -40,7 +40,7 @@ module _ (number : ℕ) (rule : Rule) (f : FormulaOf) (is : IsFormulaOf rule f) 
   pub one_large : 1000000 < nodes_of (witnesses_of f g rule.exports number item env) → is_large number rule item (Some g) (bare_env env) ≡ true
   one_large h = ap (λ n. nat_lt 1000000 n) (sym size) ∙ beyond_most (nodes_of (witnesses_of f g rule.exports number item env)) h
 
--- ---- what witnesses bring
+-- ---- values of exported variables
 
 bare_envs : (ws : List RuleWitness) → map bare_env (map (λ (w : RuleWitness). w.env) ws) ≡ map (λ (w : RuleWitness). w.env) (map bare_witness ws)
 bare_envs [] = refl

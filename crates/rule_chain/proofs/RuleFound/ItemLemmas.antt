@@ -27,7 +27,7 @@ use Rattle.rule_chain.proofs.RuleFound.FoundLemmas.{one_item, one_few, one_large
 -- ---- one item after another
 
 module _ (number : ℕ) (rule : Rule) (env : Pairs) where
-  -- what is found in the item of this number
+  -- what is found in the item with this number
   abbrev at_item : Item → ℕ → List RuleWitness
   at_item item at = witnesses_in number rule at (item_graph (Some item)) env
 
@@ -75,7 +75,7 @@ module _ (number : ℕ) (rule : Rule) (env : Pairs) where
       either true e = refl
       either false e = e
 
--- ---- by the graphs that are lent
+-- ---- with the graphs that are lent
 
 has_answer : {A : Type 0} (answers : List A) (j : ℕ) → j < length answers → (a : A) × (slice_get answers j ≡ Some a)
 has_answer [] j lt = absurd (omega (arith, lt))

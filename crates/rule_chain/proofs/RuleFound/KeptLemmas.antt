@@ -1,4 +1,4 @@
--- Where a formula holds in an item, as it is kept.
+-- Where a formula holds in an item, as the jobs keep it.
 use Rattle.std.proofs.Common.{◌≡◌, ◌+◌, ◌<◌, ◌≤◌, ℕ, zero, suc, Bool, true, false, cond, refl, sym, ap, ◌∙◌, subst, arith, Bor, Option, Some, List, [], ◌∷◌, length, get_or, map}
 use Rattle.std.specs.Prelude.{slice_get}
 use Rattle.std.specs.Bool.{Decides}
@@ -64,7 +64,7 @@ module _ (f : FormulaOf) (g : Flow) (ok : IsSound g) where
     nodes = told.1.1;
   }
 
-  -- where the formula holds at no node nothing is found
+  -- if the formula holds at no node, nothing is found
   no_node : (sets : List (List Entries)) (nodes : List ℕ) → AreMatched g f sets nodes → nodes ≡ [] → f.root < length f.nodes
       → (exports : List Var) (number item : ℕ) (env : Pairs) → witnesses_of f g exports number item env ≡ []
   no_node sets nodes are none within exports number item env =
@@ -80,7 +80,7 @@ module _ (f : FormulaOf) (g : Flow) (ok : IsSound g) where
 
 -- ---- what the jobs keep
 
--- where the sets aren't kept nothing is said
+-- if the sets aren't kept, nothing is stated
 pub told_kept : (f : FormulaOf) (g : Flow) (keep : Bool) (m : Matched) → AreTold f g m → IsKept f (Some g) (cond keep (Sets m) Anew)
 told_kept f g true m told = told
 told_kept f g false m told = tt

@@ -1,4 +1,4 @@
--- In an item that lacks a word which the rule's formula needs nothing is found.
+-- Nothing is found in an item that lacks a word which the rule's formula needs.
 use Rattle.std.proofs.Common.{◌≡◌, ◌<◌, ◌+◌, ◌^◌, ℕ, zero, suc, Bool, true, false, not, refl, sym, ap, ap₂, ◌∙◌, arith, Option, None, Some, IfSome, List, [], ◌∷◌, ◌++◌, map}
 use Rattle.std.specs.List.{filter, flat_map}
 use Rattle.std.proofs.lemmas.List.Concat.{flat_map-append}

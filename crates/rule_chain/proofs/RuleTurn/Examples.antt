@@ -10,7 +10,7 @@ x = record { rule = 0; name = codes "x" }
 abbrev y : Var
 y = record { rule = 1; name = codes "x" }
 
--- a variable of another rule with the same name is another one
+-- a variable of another rule with the same name is a different one
 other_rule : AreApart (y ∷ []) (x ∷ [])
 other_rule = (refl, refl, tt)
 

@@ -1,4 +1,5 @@
--- What a rule is run under, without the ids of terms: it has no value of an exported variable, and its places tell what is brought.
+-- What a rule is run under, without the ids of terms: it gives no exported variable a value, and its places say what is found
+-- there.
 use Rattle.std.proofs.Common.{◌≡◌, ℕ, suc, refl, sym, ap, ◌∙◌, subst, Bool, true, false, cond, Option, None, Some, List, [], ◌∷◌, ◌++◌, map, length}
 use Rattle.std.proofs.Math.Path.{subst₂}
 use Rattle.std.proofs.lemmas.List.{length-map}
@@ -46,7 +47,7 @@ pub are_new : (exports inherited : List Var) → AreApart exports inherited → 
 are_new [] inherited apart env = tt
 are_new (x ∷ xs) inherited apart env = (no_value inherited env x apart.0, apart.1, are_new xs inherited apart.2 env)
 
--- ---- all that a rule is run under
+-- ---- everything that a rule is run under
 
 module _ (P : Pairs → Type 0) where
   more_kept : (seen : List Pairs) (env : Pairs) → All P seen → P env → All P (with_new seen env)

@@ -1,4 +1,4 @@
--- Trees of witnesses without ids: the same trees are equal, and have one size.
+-- Trees of witnesses without ids: equal trees stay equal, and have the same size.
 use Rattle.std.proofs.Common.{◌≡◌, ℕ, ◌+◌, eqb, refl, sym, ap, ◌∙◌, Bool, true, false, arith, List, [], ◌∷◌, map}
 use Rattle.std.proofs.lemmas.List.Sums.{sum_by-cons}
 use Rattle.std.proofs.lemmas.Bool.Decides.{nat_tests}

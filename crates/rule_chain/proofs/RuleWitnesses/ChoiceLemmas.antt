@@ -73,7 +73,7 @@ module _ (env : Pairs) (x : Var) (v : Value) (none : value_in env x ≡ None) wh
       let p = neither (same_var y x) (parts.is_among ys x) out in
       (look_up y ∙ ap (λ b. cond b (Some v) (value_in env y)) (same_var-sym x y ∙ p.0) ∙ n.0, n.1, new_after ys p.1 n.2)
 
--- what has a value is none of the new variables
+-- a variable that has a value is none of the new ones
 has_none : (xs : List Var) (env : Pairs) (y : Var) (w : Value) → AreNew xs env → value_in env y ≡ Some w → parts.is_among xs y ≡ false
 has_none [] env y w n h = refl
 has_none (x ∷ xs) env y w n h = none_of (same_var x y) (parts.is_among xs y) (at (same_var x y) refl) (has_none xs env y w n.2 h)
@@ -118,7 +118,7 @@ flat_map-append : {A B : Type 0} (f : A → List B) (xs ys : List A) → flat_ma
 flat_map-append f [] ys = refl
 flat_map-append f (x ∷ xs) ys = ap (λ r. f x ++ r) (flat_map-append f xs ys) ∙ sym (append_assoc (f x) (flat_map f xs) (flat_map f ys))
 
--- a part that fails the test brings nothing
+-- a part that fails the test yields nothing
 flat_map-filter : {A B : Type 0} (test : A → Bool) (f : A → List B) → ((x : A) → test x ≡ false → f x ≡ []) → (xs : List A)
     → flat_map f (filter test xs) ≡ flat_map f xs
 flat_map-filter test f none [] = refl
@@ -129,7 +129,7 @@ flat_map-filter test f none (x ∷ xs) = at (test x) refl (flat_map-filter test 
     at true e r = ap (λ r. f x ++ r) r
     at false e r = r ∙ ap (λ h. h ++ flat_map f xs) (sym (none x e))
 
--- a map over what passes, part by part
+-- a map over the elements that pass, part by part
 map-filter-flat_map : {A B C : Type 0} (h : B → C) (test : B → Bool) (f : A → List B) (xs : List A)
     → flat_map (λ x. map h (filter test (f x))) xs ≡ map h (filter test (flat_map f xs))
 map-filter-flat_map h test f [] = refl
@@ -138,7 +138,7 @@ map-filter-flat_map h test f (x ∷ xs) =
     ∙ sym (map-append h (filter test (f x)) (filter test (flat_map f xs)))
     ∙ ap (map h) (sym (filter-append test (f x) (flat_map f xs)))
 
--- values that are equal without ids bring the same
+-- values that are equal without ids yield the same
 flat_map-bare : {B : Type 0} (f : Value → List B) → ((v w : Value) → bare_value v ≡ bare_value w → f v ≡ f w) → (vs ws : List Value)
     → map bare_value vs ≡ map bare_value ws → flat_map f vs ≡ flat_map f ws
 flat_map-bare f alike [] [] h = refl
@@ -149,7 +149,7 @@ flat_map-bare f alike (v ∷ vs) (w ∷ ws) h =
     let rest : map bare_value vs ≡ map bare_value ws = cc in
     λ i. alike v w first i ++ flat_map-bare f alike vs ws rest i
 
--- ---- choices that pass a test which cannot tell same values apart
+-- ---- choices that pass a test which doesn't distinguish equal values
 
 module _ (test : Environment → Bool) (alike : (d e : Environment) → Alike d e → test d ≡ test e) (values : List Value) where
   -- ids aside
@@ -216,7 +216,7 @@ module _ (set : Entries) where
 
   -- ---- an environment that is given values of the variables one by one
 
-  -- it has none of the variables, D leaves them these values, and D has it for some
+  -- the environment has none of the variables, D leaves them these values, and D has it for some of them
   pub record IsReady (values : List Value) (xs : List Var) (env : Pairs) : Type 0 where
     pub new : AreNew xs env
     pub leaves : (d : Environment) → D (over env d) ≡ true → list_all (λ x. is_among values (over env d x)) xs ≡ true
@@ -263,7 +263,7 @@ module _ (set : Entries) where
                 sym (ap (λ p. unwrap_or p (Place 0)) s) ∙ sym (ap (λ b. cond b u (total env y)) (apart w s))
                 ∙ a y (has_none xs env y w r.new.2 s)
 
-    -- no choice that D has, where it has none
+    -- no choice passes a test that fails for every environment
     module _ (test : Pairs → Bool) where
       pub none_left : (xs : List Var) (env : Pairs) → AreNew xs env
           → ((e : Pairs) → AgreeBut xs (total env) (total e) → test e ≡ false) → filter test (choices values xs env) ≡ []
@@ -283,14 +283,14 @@ module _ (set : Entries) where
               filter-append test (choices values xs (with_pair env x v)) (flat_map (λ v. choices values xs (with_pair env x v)) vs)
               ∙ (λ i. h v i ++ all h vs i)
 
-    -- the choices that D has, ids aside
+    -- the choices that are in D, ids aside
     abbrev pub left : List Var → Pairs → List Pairs
     left xs env = map bare_env (filter (λ e. D (total e)) (choices values xs env))
 
     left_alike : (xs : List Var) (e f : Pairs) → bare_env e ≡ bare_env f → left xs e ≡ left xs f
     left_alike = passing_alike D (λ d e a. set_alike d e a set) values
 
-    -- the values that the open set leaves x bring all choices
+    -- the values that the open set leaves x yield all choices
     pub one_env : (rise : Rise values) (xs : List Var) (x : Var) (env : Pairs) (o : Entries) → IsOpen set xs o
         → IsReady values (x ∷ xs) env → (vs : List Value) → Rise vs
         → ((z : Value) → is_among vs z ≡ set_denotes o (change (total env) x z))

@@ -1,11 +1,11 @@
--- Where a formula holds in an item may go to other threads and be shared by them.
+-- The matched sets and nodes of an item may be sent to other threads and be shared by them.
 use denote.Param.Send.{IsSend, IsSync, sendable}
 use Rattle.std.proofs.Crossing.{crosses}
 use Rattle.env_sets.proofs.Crossing.{row_send, row_sync}
 use Rattle.env_sets.specs.contracts.states.StateSets as StateSets
 use Rattle.rule_chain.specs.contracts.rule_witnesses.matched.Matched as Matched
 
--- as they stand in a struct
+-- as fields of a struct
 sets_in_send : IsSend (StateSets.the_field).row
 sets_in_send = search (row_send, crosses, sendable) depth 60
 

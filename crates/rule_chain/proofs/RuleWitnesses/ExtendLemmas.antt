@@ -1,4 +1,4 @@
--- Environments that are given values one variable after another have each choice under which the set has them.
+-- Environments that are given values one variable after another contain each choice under which the set has them.
 use Rattle.std.proofs.Common.{◌≡◌, ℕ, suc, zero, ◌+◌, ◌-◌, ◌<◌, ◌≤◌, inl, inr, Bool, true, false, ◌||◌, cond, None, refl, sym, ap, ◌∙◌, subst, arith, List, [], ◌∷◌, ◌++◌, map, append_assoc, length, get_or, take, drop}
 use Rattle.std.specs.List.{All, filter, flat_map, list_all}
 use Rattle.std.proofs.lemmas.Bool.{cases_lt}
@@ -137,7 +137,7 @@ module _ (set : Entries) (vars : List Var) (env : Pairs) (o : Entries) (opens : 
       ) c
       ∙ append-nil (left set (in_order values) vars env)
 
-  -- it has the environment for none
+  -- it has the environment for no values
   pub no_choices : AreNew vars env → set_denotes o (total env) ≡ false → (values : List Value)
       → [] ≡ map bare_env (filter (λ e. set_denotes set (total e)) (choices (in_order values) vars env))
   no_choices n h values = ap (map bare_env) (sym (none_left set (in_order values) (λ e. set_denotes set (total e)) vars env n fails))
@@ -153,7 +153,7 @@ none_pass : (es : List Pairs) → filter (λ e. false) es ≡ []
 none_pass [] = refl
 none_pass (e ∷ es) = none_pass es
 
--- no entry, no choice
+-- no entry gives no choice
 pub empty_set : (set : Entries) → set ≡ [] → (es : List Pairs) → [] ≡ map bare_env (filter (λ e. set_denotes set (total e)) es)
 empty_set set h es = ap (map bare_env) (sym (ap (λ s. filter (λ e. set_denotes s (total e)) es) h ∙ none_pass es))
 

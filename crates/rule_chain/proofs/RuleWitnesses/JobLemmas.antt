@@ -53,7 +53,7 @@ nodes-bare [] = refl
 nodes-bare (w ∷ ws) =
     nodes-cons (bare_witness w) (map bare_witness ws) ∙ (λ i. size-bare_forest w.forest i + nodes-bare ws i) ∙ sym (nodes-cons w ws)
 
--- what is equal without ids has one size
+-- witnesses that are equal without ids have the same size
 pub nodes-same : (vs ws : List RuleWitness) → map bare_witness vs ≡ map bare_witness ws → nodes_of vs ≡ nodes_of ws
 nodes-same vs ws h = sym (nodes-bare vs) ∙ ap nodes_of h ∙ nodes-bare ws
 
@@ -93,7 +93,7 @@ module _ (f : FormulaOf) (g : Flow) (rule item s : ℕ) where
       bare-append_both ws ws (record { rule = rule; item = item; node = s; env = own; forest = forest } ∷ []) (W env ∷ []) refl
       (λ i. record { rule = rule; item = item; node = s; env = bare_env (e i); forest = bare i } ∷ [])
 
-  -- and they are too many
+  -- and the forests are too large
   pub many_made : (env own : Pairs) (trees forest : List Witness) (ws : List RuleWitness) → own ≡ env → forest ≡ trees
       → same_forest trees (forest_of f.decls f.tokens g (plain f) s (total env)) ≡ true
       → 1000000 < nodes_of (ws ++ record { rule = rule; item = item; node = s; env = own; forest = forest } ∷ [])
@@ -156,7 +156,7 @@ module _ (f : FormulaOf) (g : Flow) (rule item s : ℕ) where
   node_done ws now at_node es i le h k =
       h ∙ bare-append_both ws ws (map W (take i es)) at_node refl (ap (λ l. map bare_witness (map W l)) (take_all i es le) ∙ k)
 
-  -- some of them are too many
+  -- some of them are too large
   pub node_past : (ws now at_node : List RuleWitness) (es : List Pairs) (i : ℕ) (e : Pairs) → i < length es → e ≡ get_or es i e
       → map bare_witness now ≡ map bare_witness (ws ++ map W (take i es)) → map bare_witness (map W es) ≡ map bare_witness at_node
       → 1000000 < nodes_of (now ++ W e ∷ []) → 1000000 < nodes_of (ws ++ at_node)
@@ -186,7 +186,7 @@ module _ (at_node : ℕ → List RuleWitness) (nodes : List ℕ) where
       ∙ ap (map bare_witness) (ap (λ l. flat_map at_node (take k nodes) ++ l) (sym (append-nil (at_node s)))
       ∙ sym (flat_map-append at_node (take k nodes) (s ∷ [])) ∙ ap (flat_map at_node) (sym more))
 
-  -- those up to a node are too many
+  -- those up to a node are too large
   pub nodes_past : (now : List RuleWitness) (k s : ℕ) → k < length nodes → s ≡ get_or nodes k s
       → map bare_witness now ≡ map bare_witness (flat_map at_node (take k nodes))
       → 1000000 < nodes_of (now ++ at_node s) → 1000000 < nodes_of (flat_map at_node nodes)

@@ -1,4 +1,4 @@
--- The nodes at which a formula can hold: at every other one there is no witness.
+-- The nodes at which a formula can hold: at every other node there is no witness.
 use Rattle.std.proofs.Common.{◌≡◌, ℕ, zero, suc, ◌+◌, ◌<◌, ◌≤◌, Bool, true, false, cond, refl, sym, ap, ap₂, ◌∙◌, subst, arith, List, [], ◌∷◌, ◌++◌, map, length, get_or, add-one}
 use Rattle.std.specs.Prelude.{All}
 use Rattle.std.specs.List.{filter, flat_map}
@@ -45,7 +45,7 @@ module _ (p : ℕ → Bool) where
       let one : get_or nodes k s < n = All-get_or (λ (m : ℕ). m < n) nodes k s lt all in
       omega (arith, one, is)
 
-  -- what they have is all, if the others have nothing
+  -- what is found at them is all, if nothing is found at the others
   pub others_nothing : {X : Type 0} (at_node : ℕ → List X) (n : ℕ) → ((s : ℕ) → s < n → p s ≡ false → at_node s ≡ [])
       → flat_map at_node (filter p (numbers n)) ≡ flat_map at_node (numbers n)
   others_nothing at_node zero none = refl
@@ -77,7 +77,7 @@ no_witness f g exports rule item s env set told none =
     (filter_none (λ (e : Pairs). holds f.decls f.tokens g (count_of g + 1) (plain f) s (total e)) (choices (in_order (values_of g)) exports env)
     (λ e. sym (told (total e)) ∙ ap (λ es. set_denotes es (total e)) (entries_none set none)))
 
--- an item of a list that is the other
+-- an element of a list that equals the other
 pub item_at : (items nodes : List ℕ) (k : ℕ) → items ≡ nodes → k < length items
     → (k < length nodes) × (get_or items k 0 ≡ get_or nodes k (get_or items k 0))
 item_at items nodes k e lt =

@@ -1,4 +1,4 @@
--- Values in order, each once: there is one list of them, ids aside.
+-- Values in order, each once: they form exactly one list, ids aside.
 use Rattle.std.proofs.Common.{◌≡◌, ◌⊎◌, inl, inr, refl, sym, ap, ◌∙◌, Bool, true, false, ◌&&◌, ◌||◌, cond, List, [], ◌∷◌, map}
 use Rattle.std.specs.List.{filter}
 use Rattle.std.specs.declared.cmp.Ordering.{Ordering}
@@ -121,7 +121,7 @@ failing : (s a m u : Bool) → a ≡ (u && m) → (s ≡ true → false ≡ u) �
 failing true a m u k h = k ∙ (λ i. sym (h refl) i && m) ∙ (λ i. h refl i && true)
 failing false a m u k h = k
 
--- a test that cannot tell same values apart
+-- a test that doesn't distinguish equal values
 pub among-filter : (test : Value → Bool) → ((v w : Value) → same v w ≡ true → test v ≡ test w) → (vs : List Value) (z : Value)
     → is_among (filter test vs) z ≡ (test z && is_among vs z)
 among-filter test alike [] z = at (test z)

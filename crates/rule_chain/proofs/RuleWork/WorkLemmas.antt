@@ -1,4 +1,4 @@
--- What a rule does, as it is seen from a state whose terms have no ids.
+-- What a rule does, seen from a state whose terms have no ids.
 use Rattle.std.proofs.Common.{◌≡◌, ◌<◌, ◌≤◌, ◌⊎◌, inl, inr, ℕ, refl, sym, ap, subst, ◌∙◌, arith, Bool, true, false, Option, List, [], ◌∷◌, ◌++◌, length, map}
 use Rattle.std.proofs.Math.Path.{subst₂, subst₃}
 use Rattle.std.proofs.lemmas.List.{map-append, length-map}

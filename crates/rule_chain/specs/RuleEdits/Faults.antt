@@ -1,4 +1,4 @@
--- Which faults edits meet, and what they leave where they meet none.
+-- Which faults edits meet, and what they leave if they meet none.
 use Rattle.std.specs.Prelude.{ℕ, ◌≡◌, ◌<◌, ◌≤◌, Option, Some, List, length, slice_get}
 use Rattle.c_lexer.specs.Pieces.{TextPiece}
 use Rattle.c_lexer.specs.Ids.{ids_of}
@@ -24,7 +24,7 @@ pub record Leaves (next : ℕ) (pieces : List TextPiece) (edits : List Edit) (le
   pub fine : AreFine next pieces edits
   pub new : IsNew next pieces edits left
 
--- the first two that clash, at the token of this id; or where none clash, the text that they make is too long
+-- the first two that clash, at the token with this id; or if none clash, the text that they make is too long
 pub data IsEditFault (next : ℕ) (pieces : List TextPiece) (edits : List Edit) : EditFault → Type 0 where
   conflict : (c : Clash) (id : ℕ) (first second : Edit) → IsFirstClash edits c → slice_get (ids_of pieces) c.token ≡ Some id
       → slice_get edits c.first ≡ Some first → slice_get edits c.second ≡ Some second

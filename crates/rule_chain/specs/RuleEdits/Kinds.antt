@@ -1,4 +1,4 @@
--- What the nodes of the items' graphs are.
+-- The kinds of the nodes of the items' graphs.
 use Rattle.std.specs.Prelude.{ℕ, List, [], map, Option, None, Some, slice_get}
 use Rattle.cpp_lines.specs.declared.reading.Item.{Item}
 use Rattle.cfg_build.specs.declared.cfg_graph.label.NodeKind.{NodeKind}

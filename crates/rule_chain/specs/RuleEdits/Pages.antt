@@ -1,4 +1,4 @@
--- What edits make of a page.
+-- What a page becomes after edits.
 use Rattle.std.specs.Prelude.{ℕ, ◌≡◌, Bool, true, false, not, ◌||◌, cond, Option, None, Some, List, [], ◌∷◌}
 use Rattle.std.specs.List.{list_any}
 use Rattle.c_lexer.specs.Pieces.{TextPiece, text_of}
@@ -8,7 +8,7 @@ use Rattle.edit_unparse.specs.NextId.{free_id}
 use Rattle.edit_unparse.specs.Output.{output_of}
 use Rattle.rule_chain.specs.declared.rule_edits.texts.NewText.{NewText}
 
--- A text, the ids of its tokens, and the id from which on none has been used in the file.
+-- A text, the ids of its tokens, and an id such that neither it nor a larger one has been used in the file.
 pub record Page : Type 0 where
   pub bytes : List ℕ
   pub ids : List ℕ
@@ -33,14 +33,14 @@ old_page next pieces = record { bytes = text_of pieces; ids = ids_of pieces; nex
 abbrev pub page_of : ℕ → List TextPiece → Page
 page_of next pieces = record { bytes = text_of pieces; ids = ids_of pieces; next = free_id next (ids_of pieces) }
 
--- the page after the edits: the old one, where none of them changes anything
+-- the page after the edits: the old one, if none of them changes anything
 abbrev pub page_after : ℕ → List TextPiece → List Edit → Page
 page_after next pieces edits = cond (is_edited edits) (page_of next (output_of pieces edits next)) (old_page next pieces)
 
 abbrev pub page_in : NewText → Page
 page_in t = record { bytes = t.bytes.items; ids = t.ids.items; next = t.next }
 
--- a new text where the edits change something
+-- a new text if the edits change something
 abbrev pub IsNew : ℕ → List TextPiece → List Edit → Option NewText → Type 0
 IsNew next pieces edits None = is_edited edits ≡ false
 IsNew next pieces edits (Some t) = (is_edited edits ≡ true) × (page_in t ≡ page_after next pieces edits)

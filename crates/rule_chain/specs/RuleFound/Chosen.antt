@@ -9,7 +9,7 @@ use Rattle.env_parts.specs.Parts.{Pairs}
 use Rattle.rule_chain.specs.RuleFound.Found.{witnesses_in}
 
 module _ (rule : Rule) (items : List Item) where
-  -- in the item of this number the rule finds nothing, whatever its own number and the environment
+  -- in the item with this number the rule finds nothing, whatever its own number and the environment
   abbrev pub FindsNothing : ℕ → Type 0
   FindsNothing i = (number : ℕ) (env : Pairs) → witnesses_in number rule i (item_graph (slice_get items i)) env ≡ []
 

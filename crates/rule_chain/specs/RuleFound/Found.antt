@@ -1,4 +1,4 @@
--- What a rule finds over the items of one reading, and where that is too much.
+-- What a rule finds over the items of one reading, and when that is too much.
 use Rattle.std.specs.Prelude.{ℕ, suc, Bool, false, ◌||◌, nat_lt, Option, None, Some, List, [], ◌∷◌, ◌++◌, map}
 use Rattle.std.specs.List.{list_any, flat_map}
 use Rattle.cpp_lines.specs.declared.reading.Item.{Item}
@@ -17,7 +17,7 @@ use Rattle.rule_envs.specs.Carriers as envs
 abbrev pub most_nodes : ℕ
 most_nodes = 1000000
 
--- the witnesses of the rule of this number in one item, by the item's graph; an item that was skipped has no graph
+-- the witnesses of the rule with this number in one item, given the item's graph; an item that was skipped has no graph
 abbrev pub witnesses_in : ℕ → Rule → ℕ → Option Flow → Pairs → List RuleWitness
 witnesses_in number rule item None env = []
 witnesses_in number rule item (Some g) env =
@@ -27,13 +27,13 @@ witnesses_in number rule item (Some g) env =
 abbrev pub is_large : ℕ → Rule → ℕ → Option Flow → Pairs → Bool
 is_large number rule item graph env = nat_lt most_nodes (nodes_of (witnesses_in number rule item graph env))
 
--- the witnesses, without the ids of terms, in these items, whose numbers begin here
+-- the witnesses, without the ids of terms, in these items, which are numbered from here
 abbrev pub found_from : ℕ → Rule → ℕ → List Item → Pairs → List RuleWitness
 found_from number rule at [] env = []
 found_from number rule at (item ∷ items) env =
     map bare_witness (witnesses_in number rule at (item_graph (Some item)) env) ++ found_from number rule (suc at) items env
 
--- in one of these items they are too large
+-- in one of these items they have too many touches and binds
 abbrev pub is_large_from : ℕ → Rule → ℕ → List Item → Pairs → Bool
 is_large_from number rule at [] env = false
 is_large_from number rule at (item ∷ items) env =
@@ -47,7 +47,7 @@ module _ (number : ℕ) (rule : Rule) (items : List Item) where
   abbrev pub is_large_under : Pairs → Bool
   is_large_under env = is_large_from number rule 0 items env
 
-  -- the different values of the exported variables in them
+  -- the distinct values of the exported variables in them
   abbrev pub brings : Pairs → List Pairs
   brings env = envs.exported rule.exports (map (λ w. w.env) (found_under env))
 
@@ -55,6 +55,6 @@ module _ (number : ℕ) (rule : Rule) (items : List Item) where
   abbrev pub rule_found : List Pairs → List RuleWitness
   rule_found projections = flat_map found_under projections
 
-  -- in one item under one of them there is too much
+  -- in one item under one of them the witnesses have too many touches and binds
   abbrev pub has_too_many : List Pairs → Bool
   has_too_many projections = list_any is_large_under projections

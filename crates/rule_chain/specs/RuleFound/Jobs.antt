@@ -8,12 +8,12 @@ use Rattle.env_parts.specs.Parts.{Pairs}
 use Rattle.rule_chain.specs.RuleWitnesses.Bare.{bare_witness}
 use Rattle.rule_chain.specs.RuleWitnesses.Jobs.{nodes_of, witnesses_of}
 
--- what the formula finds in one item, by the graph that the item is lent; without one it finds nothing
+-- what the formula finds in one item, given the graph that the item is lent; without one it finds nothing
 abbrev pub found_by : FormulaOf → List Var → ℕ → ℕ → Option Flow → Pairs → List RuleWitness
 found_by f exports number item None env = []
 found_by f exports number item (Some g) env = witnesses_of f g exports number item env
 
--- these are the witnesses, ids aside, and they aren't too much
+-- these are the witnesses, ids aside, and they don't have too many touches and binds
 pub record AreFoundBy (witnesses found : List RuleWitness) : Type 0 where
   pub same : map bare_witness found ≡ map bare_witness witnesses
   pub few : nodes_of witnesses ≤ 1000000

@@ -24,7 +24,7 @@ use Rattle.rule_chain.specs.RuleFound.Jobs.{found_by}
 use Rattle.rule_chain.specs.RuleFound.Lent.{lent_graph}
 
 module _ (f : FormulaOf) (g : Flow) where
-  -- the set tells under which environments h holds at node s, whatever the bound on walks, and its variables are free ones of h
+  -- the set says under which environments h holds at node s, whatever the bound on walks, and its variables are free ones of h
   abbrev pub Tells : Plain → ℕ → Entries → Type 0
   Tells h s set =
       ((m : ℕ) → count_of g + 1 ≤ m → (env : Environment) → set_denotes set env ≡ holds f.decls f.tokens g m h s env)
@@ -36,7 +36,7 @@ module _ (f : FormulaOf) (g : Flow) where
       (length m.sets ≡ length f.nodes)
       × ((i : ℕ) → i < length f.nodes → length (slice_index_or m.sets i []) ≡ count_of g)
 
-  -- those of the formula's parts tell where these hold
+  -- the sets of the formula's parts say where these hold
   abbrev pub RowsTell : Matched → Type 0
   RowsTell m = (i s : ℕ) → i < length f.nodes → IsPart (at (plains f.nodes) i) (plain f) → s < count_of g
       → Tells (at (plains f.nodes) i) s (set_at m.sets i s)
@@ -45,7 +45,7 @@ module _ (f : FormulaOf) (g : Flow) where
   abbrev pub HasNodes : Matched → Type 0
   HasNodes m = m.nodes ≡ filter (λ s. has_entries (set_at m.sets f.root s)) (numbers (count_of g))
 
-  -- what `AreMatched` of rule_witnesses says, in equations alone, so that it has one proof
+  -- what `AreMatched` of rule_witnesses says, only in equations, so that it has one proof
   abbrev pub AreTold : Matched → Type 0
   AreTold m = HasRows m × (RowsTell m × HasNodes m)
 
@@ -56,11 +56,11 @@ IsKept f graph Nowhere = (exports : List Var) (number item : ℕ) (env : Pairs) 
 IsKept f None (Sets m) = Unit {0}
 IsKept f (Some g) (Sets m) = AreTold f g m
 
--- of each item, by the graphs that are lent
+-- this is kept of each item, with the graphs that are lent
 abbrev pub AreKept : FormulaOf → List (Option (Bor Flow)) → List Kept → Type 0
 AreKept f graphs kept = (i : ℕ) → i < length graphs → IsKept f (lent_graph graphs i) (slice_index_or kept i Anew)
 
--- each has one proof
+-- each of these has one proof
 tells-prop : (f : FormulaOf) (g : Flow) (h : Plain) (s : ℕ) (set : Entries) → IsProp (Tells f g h s set)
 tells-prop f g h s set =
     ×_prop (Π_prop (λ m. Π_prop (λ le. Π_prop (λ env. Coded-set coded_bool (set_denotes set env) (holds f.decls f.tokens g m h s env)))))

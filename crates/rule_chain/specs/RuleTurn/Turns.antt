@@ -1,4 +1,4 @@
--- What one rule does over one reading of a file, but for its edits.
+-- What one rule does over one reading of a file, apart from its edits.
 use Rattle.std.specs.Prelude.{ℕ, ◌≡◌, false, Bool, Option, List, [], ◌∷◌}
 use Rattle.cpp_lines.specs.declared.reading.Item.{Item}
 use Rattle.smpl_terms.specs.declared.var.Var.{Var}
@@ -17,12 +17,12 @@ use Rattle.rule_chain.specs.RuleFound.Found as found
 use Rattle.rule_chain.specs.declared.rule_turn.fault.TurnFault.{TurnFault}
 use Rattle.rule_chain.specs.declared.rule_turn.fault.TurnFault.TheVariants.{TooManyWitnesses, TooManyEnvironments, NoMemory}
 
--- each of these variables stands once, and none is inherited
+-- each of these variables occurs once, and none is inherited
 abbrev pub AreApart : List Var → List Var → Type 0
 AreApart [] inherited = Unit {0}
 AreApart (x ∷ xs) inherited = (is_among inherited x ≡ false) × (is_among xs x ≡ false) × AreApart xs inherited
 
--- by the names that are defined, the rules that have had a witness, the items and the environments without ids
+-- given the names that are defined, the rules that have had a witness, the items and the environments without ids
 module _ (defined : List (List ℕ)) (had : List ℕ) (number : ℕ) (rule : Rule) (items : List Item) (carriers : List Carrier) where
   abbrev pub rule_share : Carrier → Option Pairs
   rule_share = share defined had rule.depends (inherited_of rule)
@@ -41,7 +41,7 @@ module _ (defined : List (List ℕ)) (had : List ℕ) (number : ℕ) (rule : Rul
   abbrev pub turn_carriers : List Carrier
   turn_carriers = envs.next_carriers number rule_share (found.brings number rule items) carriers
 
--- the faults of what it finds, and of the environments after it, as those of the rule
+-- the faults of finding witnesses, and of the environments after them, as those of the rule
 abbrev pub job_fault : JobFault → TurnFault
 job_fault job_faults.TooMany = TooManyWitnesses
 job_fault job_faults.NoMemory = NoMemory

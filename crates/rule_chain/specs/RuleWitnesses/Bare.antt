@@ -1,4 +1,4 @@
--- Witnesses as they count: terms without the ids of their tokens.
+-- Witnesses without the ids of their terms' tokens, as they are compared.
 use Rattle.std.specs.Prelude.{map}
 use Rattle.smpl_patch.specs.declared.witness.Witness.{Witness}
 use Rattle.smpl_patch.specs.declared.witness.Witness.TheOpen.{Witness-F}

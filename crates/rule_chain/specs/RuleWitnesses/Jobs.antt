@@ -1,4 +1,4 @@
--- What is found in one item, how large it is, and what a formula says of exported variables.
+-- What is found in one item, how large it is, and when a formula binds exported variables.
 use Rattle.std.specs.Prelude.{ℕ, ◌≡◌, true, List, map, sum}
 use Rattle.std.specs.List.{list_all}
 use Rattle.cfg_build.specs.CfgGraph.Flow.{Flow}
@@ -11,7 +11,7 @@ use Rattle.ctl_formula.specs.Bounds.{bound}
 use Rattle.wit_forest.specs.WitOrder.Sizes.{forest_size}
 use Rattle.wit_forest.specs.WitTrees.Rules as rules
 
--- the touches and binds of all their forests
+-- the number of touches and binds of all their forests
 abbrev pub nodes_of : List RuleWitness → ℕ
 nodes_of found = sum (map (λ w. forest_size w.forest) found)
 
@@ -19,7 +19,7 @@ nodes_of found = sum (map (λ w. forest_size w.forest) found)
 abbrev pub BindsExports : FormulaOf → List Var → Type 0
 BindsExports f exports = list_all (bound (sure f.decls f.tokens) (plain f)) exports ≡ true
 
--- the witnesses of a rule in one item, by the rule's formula and the item's graph
+-- the witnesses of a rule in one item, given the rule's formula and the item's graph
 module _ (f : FormulaOf) (g : Flow) (exports : List Var) (rule item : ℕ) where
   -- the one at a node under an environment that has the exported variables
   abbrev pub witness_at : ℕ → Pairs → RuleWitness
@@ -29,6 +29,6 @@ module _ (f : FormulaOf) (g : Flow) (exports : List Var) (rule item : ℕ) where
   abbrev pub witnesses_at : ℕ → Pairs → List RuleWitness
   witnesses_at = rules.witnesses_at f.decls f.tokens g (plain f) exports rule item
 
-  -- all, under an environment that gives the inherited variables their values
+  -- all witnesses, under an environment that gives the inherited variables their values
   abbrev pub witnesses_of : Pairs → List RuleWitness
   witnesses_of = rules.witnesses_of f.decls f.tokens g (plain f) exports rule item

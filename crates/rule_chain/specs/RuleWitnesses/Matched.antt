@@ -8,12 +8,13 @@ use Rattle.ctl_formula.specs.Formulas.{FormulaOf}
 use Rattle.ctl_fixpoint.specs.States.{AreStateSets}
 use Rattle.wit_forest.specs.WitTrees.Forest.{numbers}
 
--- the set has an entry; one that has none stands for no environment
+-- the set has an entry; one that has none denotes no environment
 abbrev pub has_entries : Entries → Bool
 has_entries [] = false
 has_entries (e ∷ es) = true
 
--- the rows are the sets of the formula, and these are the nodes, rising, at which the set of the whole formula has an entry
+-- the rows are the sets of the formula, and these are the nodes, in ascending order, at which the set of the whole formula has
+-- an entry
 pub record AreMatched (g : Flow) (f : FormulaOf) (rows : List (List Entries)) (found : List ℕ) : Type 0 where
   pub sets : AreStateSets g f rows
   pub nodes : found ≡ filter (λ s. has_entries (set_at rows f.root s)) (numbers (count_of g))

@@ -6,15 +6,15 @@ use Rattle.smpl_terms.specs.Environments.{Environment}
 use Rattle.env_parts.specs.Parts as parts
 use Rattle.env_sets.specs.Sets.{Entries, set_denotes}
 
--- the environments differ in these variables alone
+-- the environments differ only in these variables
 abbrev pub AgreeBut : List Var → Environment → Environment → Type 0
 AgreeBut xs d e = (y : Var) → parts.is_among xs y ≡ false → d y ≡ e y
 
--- for some values of the variables the set has the environment
+-- the set has the environment for some values of the variables
 abbrev pub CanHold : Entries → List Var → Environment → Type 0
 CanHold set xs d = (e : Environment) × (AgreeBut xs d e × (set_denotes set e ≡ true))
 
--- the other set stands for the environments for which that is so
+-- the other set denotes the environments for which that is so
 abbrev pub IsOpen : Entries → List Var → Entries → Type 0
 IsOpen set xs other = (d : Environment) → Decides (set_denotes other d) (CanHold set xs d)
 

@@ -35,13 +35,13 @@ abbrev pub had_after : List ℕ → ℕ → List RuleWitness → List ℕ
 had_after had number [] = had
 had_after had number (w ∷ ws) = had ++ number ∷ []
 
--- the text is read once more, or all stays
+-- the text is read again, or everything stays
 abbrev pub MayRead : Bool → Chained → Chained → Type 0
 MayRead false s next = next ≡ s
 MayRead true s next = ReadsAgain s next
 
 module _ (defined : List (List ℕ)) (number : ℕ) (rule : Rule) (s : Chained) where
-  -- its witnesses, the environments after it, and whether in some item there is too much
+  -- its witnesses, the environments after it, and whether they have too many touches and binds in some item
   abbrev pub rule_found : List RuleWitness
   rule_found = turn_found defined s.had number rule s.items s.carriers
 
@@ -55,7 +55,7 @@ module _ (defined : List (List ℕ)) (number : ℕ) (rule : Rule) (s : Chained) 
   abbrev pub RuleEdits : List Edit → Type 0
   RuleEdits = AreEdits rule_found rule s.items (kinds_of s.items) s.pieces
 
-  -- what it leaves where it meets no fault; the pieces and items are still those of the last reading
+  -- what it leaves if it meets no fault; the pieces and items are still those of the last reading
   abbrev pub worked : List Edit → Chained
   worked edits = record s {
     page = page_after s.page.next s.pieces edits;
@@ -78,8 +78,7 @@ pub data IsFault (defined : List (List ℕ)) (number : ℕ) (rule : Rule) (s : C
   in_edits : (edits : List Edit) (fault : EditFault) → AreFew defined number rule s → RuleEdits defined number rule s edits
       → IsEditFault s.page.next s.pieces edits fault → IsFault defined number rule s (edit_fault number fault)
 
--- The rule meets no fault and leads from one state to the next: where it edited and is followed by another, the text is
--- read once more.
+-- The rule meets no fault and leads from one state to the next: if it edits and is followed by another, the text is read again.
 pub record Leads (defined : List (List ℕ)) (number : ℕ) (rule : Rule) (followed : Bool) (s next : Chained) : Type 0 where
   pub edits : List Edit
   pub few : AreFew defined number rule s

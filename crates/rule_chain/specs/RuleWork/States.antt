@@ -1,4 +1,4 @@
--- How far the chain has come.
+-- The states of the chain.
 use Rattle.std.specs.Prelude.{ℕ, ◌≡◌, suc, List, [], ◌∷◌, ◌++◌, length}
 use Rattle.c_lexer.specs.Pieces.{TextPiece, text_of}
 use Rattle.c_lexer.specs.Lexes.{Cuts}
@@ -12,7 +12,7 @@ use Rattle.rule_envs.specs.Carriers.{first_carriers}
 use Rattle.rule_chain.specs.RuleEdits.Pages.{Page}
 use Rattle.rule_chain.specs.declared.rule_work.state.SkipNote.{SkipNote}
 
--- The chain between two rules, or before the first, or after the last. The pieces and the items are those of the last
+-- The state of the chain between two rules, before the first, or after the last. The pieces and the items are those of the last
 -- reading. Terms in environments and witnesses have no ids.
 pub record Chained : Type 0 where
   pub page : Page
@@ -31,7 +31,7 @@ pub record IsCut (page : Page) (pieces : List TextPiece) : Type 0 where
   pub cuts : Cuts pieces
   pub ids : ids_of pieces ≡ page.ids
 
--- the items that a reading skipped, from this number on
+-- notes on the items that a reading skipped, numbered from here
 abbrev pub notes_from : ℕ → ℕ → List Item → List SkipNote
 notes_from reading at [] = []
 notes_from reading at (Parsed t ∷ items) = notes_from reading (suc at) items
@@ -53,7 +53,7 @@ first_state pieces items = record {
   skipped = notes_from 0 0 items;
 }
 
--- the text is read once more
+-- the text is read again
 pub record ReadsAgain (s next : Chained) : Type 0 where
   pub pieces : List TextPiece
   pub cut : IsCut s.page pieces

@@ -1,4 +1,4 @@
--- How the work of a rule is seen.
+-- How the code's findings relate to the states of the chain.
 use Rattle.std.specs.Prelude.{ℕ, ◌≡◌, List, map, Option}
 use Rattle.c_file.specs.File.{FileItems}
 use Rattle.edit_marks.specs.declared.edit_conflict.edit.Edit.{Edit}
@@ -29,7 +29,7 @@ pub record IsAtReading (file : FileItems) (next : ℕ) (s : Chained) : Type 0 wh
   pub pieces : s.pieces ≡ file.pieces
   pub items : s.items ≡ file.items
 
--- The rule meets no fault from this state on, and leaves these findings and this text.
+-- Starting from this state, the rule meets no fault and leaves these findings and this text.
 pub record Works (defined : List (List ℕ)) (number : ℕ) (rule : Rule) (s : Chained) (findings : Findings) (text : Option NewText) : Type 0 where
   pub edits : List Edit
   pub few : AreFew defined number rule s

@@ -12,13 +12,13 @@ ghost use Rattle.edit_unparse.specs.Fair.{has_plain_inserts};
 ghost use Rattle.edit_marks.specs.EditWalk.Edited.{AreEdits};
 ghost use Rattle.rule_chain.specs.RuleWitnesses.Bare.{bare_witness};
 
-/// Inserts whose texts are cut into blanks and tokens that are no Strays are fair.
+/// Inserts whose texts are cut into blanks and tokens other than Strays are fair.
 pub fn plain_inserts_are_fair()
     ensures { (edits : List Edit) → All (λ edit. ArePlainInserts edit.inserts) edits →
         list_all has_plain_inserts edits ≡ true }
 {}
 
-/// Witnesses have the same edits as with 0 in place of each id of their values' tokens.
+/// Witnesses have the same edits when each id of their values' tokens is replaced by 0.
 pub fn ids_of_values_do_not_count()
     ensures { (witnesses : List RuleWitness) (rule : Rule) (items : List Item)
         (kinds : List (List NodeKind)) (pieces : List TextPiece) (edits : List Edit) →

@@ -1,18 +1,18 @@
-// Why edits make no text.
+// Why edits produce no text.
 ghost use Rattle.std.specs.Prelude.{◌≡◌};
 
 use c_terms::NoMemory;
 use edit_marks::Edit;
 use std::alloc::{AllocError, AllocFailed};
 
-/// Why the edits of a rule make no text.
+/// Why the edits of a rule produce no text.
 #[derive(Drop)]
 pub enum EditFault {
-    /// Two edits clash at the token of this id.
+    /// Two edits clash at the token with this id.
     Conflict(u64, Edit, Edit),
     /// The text would have more than 16,777,216 bytes.
     TooLong,
-    /// Memory was refused.
+    /// Out of memory.
     NoMemory,
 }
 

@@ -1,4 +1,4 @@
-// What the nodes of a file's graphs are.
+// The kinds of the nodes of a file's graphs.
 ghost use Rattle.std.specs.Prelude.{◌≡◌, ◌<◌, ◌++◌, ◌∷◌, [], ℕ, IfOk, length, slice_get};
 ghost use Rattle.c_file.specs.ItemGraphs.Made.{IsMade};
 ghost use Rattle.rule_chain.specs.RuleEdits.Kinds as of;
@@ -23,7 +23,8 @@ fn kinds_at(alloc: Global, graphs: &mut Graphs<'_>, i: usize) -> Result<Items<No
     }
 }
 
-/// What the nodes of all graphs are, item by item; nothing where an item has no tree. Makes the graphs that are not made.
+/// Returns the kinds of the nodes of all graphs, item by item; an item without a tree has none. Makes the graphs that aren't
+/// made yet.
 pub fn kinds(
     alloc: Global,
     graphs: &mut Graphs<'_>,

@@ -1,4 +1,4 @@
-// What the edits of a rule make of the text.
+// Applies the edits of a rule to the text.
 ghost use Rattle.std.specs.Prelude.{◌≡◌, ◌<◌, ◌≤◌, ◌^◌, ◌⊎◌, ℕ, List, None, Some, All, IfOk, IfErr, length, slice_get, not, nat_lt};
 ghost use Rattle.std.specs.List.{filter, list_any};
 ghost use Rattle.c_lexer.specs.Pieces.{text_of};
@@ -24,7 +24,8 @@ use edit_unparse::{OutFault, output};
 use smpl_patch::{Rule, RuleWitness};
 use std::alloc::Global;
 
-/// A text that edits have left, the ids of its tokens, and the id from which on none has been used in the file.
+/// The text that edits have left, the ids of its tokens, and an id such that neither it nor a larger one has been used in the
+/// file.
 #[derive(Drop)]
 pub struct NewText {
     pub bytes: Vec<u8>,
@@ -61,7 +62,7 @@ fn has_tree(found: &[RuleWitness]) -> bool
     false
 }
 
-/// The id of a token, by its number in this reading.
+/// Returns the id of a token, given its number in this reading.
 fn id_of(lexed: &Lexed, token: u32) -> u64
     requires { token < length (ids_of lexed.now) }
     ensures { slice_get (ids_of lexed.now) token ≡ Some result }
@@ -78,7 +79,7 @@ fn id_of(lexed: &Lexed, token: u32) -> u64
     0
 }
 
-/// The first clash as a fault.
+/// Returns the first clash as a fault.
 fn conflict(lexed: &Lexed, edits: EditList, clash: Clash) -> EditFault
     requires first { IsFirstClash edits clash }
     requires fit { All (FitsText (length (ids_of lexed.now))) edits }
@@ -89,7 +90,7 @@ fn conflict(lexed: &Lexed, edits: EditList, clash: Clash) -> EditFault
     EditFault::Conflict(id, first, second)
 }
 
-/// How many of these ids are not below `next`.
+/// The number of these ids that are not below `next`.
 fn count_new(ids: &[u64], next: u64) -> usize
     ensures { result ≡ length (filter (λ id. not (nat_lt id next)) ids.now) }
 {
@@ -123,7 +124,7 @@ fn written(alloc: Global, lexed: &Lexed, edits: &EditList, next: u64) -> Result<
     }
 }
 
-/// No new text: the old one stays, which is short enough.
+/// Returns no new text: the old one, which is short enough, stays.
 fn nothing_new(lexed: &Lexed) -> Option<NewText>
     ensures none { result ≡ None }
     ensures short { length (text_of lexed.now) ≤ 16777216 }
@@ -132,7 +133,7 @@ fn nothing_new(lexed: &Lexed) -> Option<NewText>
     None
 }
 
-/// What edits leave of a text.
+/// Returns the text that the edits leave, if one of them isn't empty.
 fn left(
     alloc: Global,
     lexed: &Lexed,
@@ -156,15 +157,16 @@ fn left(
     }
 }
 
-/// The text after the edits of the witnesses, all at once, where one of them isn't empty. `next` is an id from which on none
-/// has been used in the file.
+/// Returns the text after the edits of the witnesses, applied all at once, if one of them isn't empty. `next` is an id such
+/// that neither it nor a larger one has been used in the file.
 ///
-/// - `Conflict`: two edits clash, first at the token of this id.
+/// - `Conflict`: two edits clash; the id is that of the first token at which they do.
 /// - `TooLong`: none clash, and the text would have more than 16,777,216 bytes.
-/// - `NoMemory`: memory was refused.
+/// - `NoMemory`: out of memory.
 ///
-/// Where the forest of some witness has a tree, the graphs of all items are made, and it is linear in the text, beside the edits. No
-/// forest has one where no token of the rule is marked: then nothing is edited, and it is linear in the witnesses.
+/// If the forest of some witness has a tree, the graphs of all items are made, and the cost is linear in the text, apart from
+/// that of the edits. No forest has a tree if no token of the rule is marked and all its variables are inherited or exported:
+/// then nothing is edited, and the cost is linear in the witnesses.
 pub fn edit(
     alloc: Global,
     rule: &Rule,

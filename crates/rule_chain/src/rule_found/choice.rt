@@ -15,13 +15,13 @@ use smpl_patch::Rule;
 use sqlite_items::Items;
 use std::alloc::Global;
 
-/// The most tokens of a rule whose words are looked for: that costs words times its formula.
+/// The most tokens of a rule whose words are looked for: the search costs the number of words times the size of the formula.
 const MOST_TOKENS: usize = 1_000;
 
 /// The most items: a witness carries the number of its item in 32 bits.
 const MOST_ITEMS: usize = 4_294_967_296;
 
-/// Words that the formula needs: all of them, or none where the rule has too many tokens.
+/// Returns words that the formula needs: all of them, or none if the rule has too many tokens.
 fn words_of(alloc: Global, f: &Formula) -> Result<Items<Text>, NoMemory>
     ensures { IfOk result (λ words. AreNeeded words f.now) }
 {
@@ -31,7 +31,7 @@ fn words_of(alloc: Global, f: &Formula) -> Result<Items<Text>, NoMemory>
     needed_words(alloc, f)
 }
 
-/// Whether the item has a tree in which one of the words doesn't stand. Makes no graph.
+/// Whether the item has a tree that lacks one of the words. Makes no graph.
 fn lacks_word(words: &[Text], graphs: &Graphs<'_>, i: usize) -> bool
     ensures lacks { result ≡ misses words.now (item_tree (slice_get graphs.now.items i)) }
     ensures few { IfSome (item_tree (slice_get graphs.now.items i)) (λ t. node_count t < 2 ^ 32) }
@@ -42,8 +42,8 @@ fn lacks_word(words: &[Text], graphs: &Graphs<'_>, i: usize) -> bool
     }
 }
 
-/// Whether something may be found in the item: it has a tree, with each of these words that the formula needs. Then makes its
-/// graph, if it isn't made.
+/// Whether something may be found in the item: it has a tree, which has each of these words that the formula needs. If so,
+/// makes the graph of the item unless it is already made.
 fn may_find(
     alloc: Global,
     rule: &Rule,
@@ -70,9 +70,10 @@ fn may_find(
     }
 }
 
-/// For each item whether the rule may find something in it. Makes the graphs of those in which it may, where they aren't made.
+/// Returns for each item whether the rule may find something in it. Makes the graphs of the items in which it may, unless they
+/// are already made.
 ///
-/// More than 2^32 items are refused as if memory had run out.
+/// More than 2^32 items are refused as if out of memory.
 pub fn choose(
     alloc: Global,
     rule: &Rule,

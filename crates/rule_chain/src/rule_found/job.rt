@@ -21,7 +21,7 @@ use std::alloc::Global;
 /// What is kept of an item for the environments after the first.
 #[derive(Drop)]
 pub enum Kept {
-    /// Nothing: the item is matched anew under each.
+    /// Nothing: the item is matched again under each environment.
     Anew,
     /// The formula holds at no node.
     Nowhere,
@@ -37,7 +37,7 @@ pub struct First {
 }
 
 impl First {
-    /// Nothing is found, under any environment.
+    /// Returns the answer for an item in which nothing is found, under any environment.
     pub fn nothing(alloc: Global) -> First
         ensures found { result.found ≡ [] }
         ensures kept { result.kept ≡ held.Nowhere }
@@ -58,7 +58,7 @@ fn kept_if(keep: bool, matched: Matched) -> Kept
     Kept::Sets(matched)
 }
 
-/// What is found in an item under an environment, and where the formula holds, if that is to be kept.
+/// Returns what is found in an item under an environment, and where the formula holds, if that is to be kept.
 pub fn first_found(
     alloc: Global,
     number: u32,
@@ -76,7 +76,7 @@ pub fn first_found(
     ensures kept { IfOk result (λ first. IsKept f.now (Some g.now) first.kept) }
     ensures too_many { result ≡ Err fault.TooMany → 1000000 < nodes_of (witnesses_of f.now g.now exports.now number item env.now) }
 {
-    // Their clauses say that the graph is sound and the root is in the table, which the proof asks for.
+    // The contracts of these calls say that the graph is sound and the root is in the table, which the proof needs.
     let _count = g.count();
     let _root = f.root();
     let matched = match_item(alloc, g, f)?;
@@ -90,7 +90,7 @@ pub fn first_found(
     })
 }
 
-/// What is found in an item under an environment. Matches the item, and keeps nothing.
+/// Returns what is found in an item under an environment. Matches the item, and keeps nothing.
 fn found_anew(
     alloc: Global,
     number: u32,
@@ -110,7 +110,7 @@ fn found_anew(
     Ok(found)
 }
 
-/// What is found in an item under one more environment, by what is kept of it.
+/// Returns what is found in an item under one more environment, using what is kept of the item.
 pub fn next_found(
     alloc: Global,
     number: u32,
@@ -128,7 +128,7 @@ pub fn next_found(
     ensures found { IfOk result (λ found. AreFoundBy (witnesses_of f.now g.now exports.now number item env.now) found) }
     ensures too_many { result ≡ Err fault.TooMany → 1000000 < nodes_of (witnesses_of f.now g.now exports.now number item env.now) }
 {
-    // Its clause says that the graph is sound, which the proof asks for.
+    // The contract of this call says that the graph is sound, which the proof needs.
     let _count = g.count();
     match kept {
         Kept::Anew => found_anew(alloc, number, f, exports, g, item, env),

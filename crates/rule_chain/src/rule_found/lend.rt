@@ -10,7 +10,7 @@ use c_terms::NoMemory;
 use cfg_build::Graph;
 use std::alloc::Global;
 
-/// The graph of one item, if something may be found in it and it has a tree.
+/// Returns the graph of one item if something may be found in it and it has a tree.
 fn lent_one<'g, 'a>(graphs: &'g Graphs<'a>, may_find: bool, i: usize) -> Option<&'g Graph<'a>>
     requires made { may_find ≡ true → IsMade graphs.now i }
     ensures graph { option_copied result ≡ cond may_find (item_graph (slice_get graphs.now.items i)) None }
@@ -21,7 +21,7 @@ fn lent_one<'g, 'a>(graphs: &'g Graphs<'a>, may_find: bool, i: usize) -> Option<
     graphs.get(i)
 }
 
-/// For each item its graph, if something may be found in the item. The graphs are made.
+/// Returns for each item its graph if something may be found in the item. These graphs must already be made.
 pub fn lend<'g, 'a>(
     alloc: Global,
     graphs: &'g Graphs<'a>,

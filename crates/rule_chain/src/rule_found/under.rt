@@ -1,4 +1,4 @@
-// What a rule finds over all items under one environment: one call of `map_jobs`, a job an item.
+// What a rule finds over all items under one environment: one call of `map_jobs`, with one job per item.
 ghost use Rattle.std.specs.Prelude.{◌≡◌, ◌≤◌, ◌^◌, ℕ, IfOk, OnOk, Err, List, length, map, true, false};
 ghost use Rattle.std.specs.List.{flat_map};
 ghost use Rattle.cpp_lines.specs.declared.reading.Item.{Item};
@@ -29,25 +29,25 @@ use sqlite_items::Items;
 use std::alloc::Global;
 use std::thread::Threads;
 
-/// So many nodes at which the formula holds are worth a thread of their own, under an environment after the first: most are only
-/// asked for the environment.
+/// The number of nodes at which the formula holds that is worth one thread under an environment after the first. For most of
+/// these nodes the set is only asked whether it has the environment.
 const NODES_A_THREAD: usize = 8_192;
 
-/// So many of these nodes a witness counts for, since its forest is made. What each forest costs is not counted.
+/// The number of such nodes that a witness counts for, since its forest is made. What each forest really costs is not counted.
 const NODES_A_WITNESS: usize = 64;
 
-/// The most sets that are kept for the environments after the first, one for each part of the formula and each node. They have
-/// some 30 bytes each, and more by their entries: half a gigabyte, where most are empty.
+/// The most sets that are kept for the environments after the first, one for each part of the formula and each node. A set
+/// takes about 30 bytes, and its entries take more: half a gigabyte in all, if most sets are empty.
 const MOST_SETS: usize = 16_777_216;
 
-/// What is found under the first environment, and for each item what is kept of it, if there are later ones.
+/// What is found under the first environment, and what is kept of each item if there are later ones.
 #[derive(Drop)]
 pub struct AllFirst {
     pub found: Items<RuleWitness>,
     pub kept: Vec<Kept>,
 }
 
-/// What stopped the jobs: the fault of the first of those that met one, or want of memory.
+/// Returns what stopped the jobs: the fault of the first job that met one, or out of memory.
 fn stopped(stop: Stopped<JobFault>) -> JobFault
     ensures { result ≡ fault.TooMany → (job : ℕ) × (stop ≡ WorkerStopped job fault.TooMany) }
 {
@@ -57,7 +57,7 @@ fn stopped(stop: Stopped<JobFault>) -> JobFault
     }
 }
 
-/// What is found in each item in turn.
+/// Joins what is found in the items, in their order.
 fn one_list(alloc: Global, lists: Vec<Items<RuleWitness>>) -> Result<Items<RuleWitness>, NoMemory>
     ensures found { IfOk result (λ found. found ≡ flat_map (λ list. list) lists.items) }
 {
@@ -68,7 +68,7 @@ fn one_list(alloc: Global, lists: Vec<Items<RuleWitness>>) -> Result<Items<RuleW
     Ok(found)
 }
 
-/// How many sets the formula has in an item, if the item is lent a graph.
+/// The number of sets that the formula has in an item: 0 if the item is lent no graph.
 fn sets_of(f: &Formula, graph: Option<&Graph<'_>>) -> usize {
     match graph {
         None => 0,
@@ -76,7 +76,7 @@ fn sets_of(f: &Formula, graph: Option<&Graph<'_>>) -> usize {
     }
 }
 
-/// Of how many items, from the first, the sets are kept: of as many as have at most [`MOST_SETS`] together.
+/// The number of items, from the first, whose sets are kept: as many as have at most [`MOST_SETS`] sets together.
 fn most_kept(f: &Formula, graphs: &[Option<&Graph<'_>>]) -> usize
     ensures most { result ≤ length graphs.now }
 {
@@ -90,7 +90,7 @@ fn most_kept(f: &Formula, graphs: &[Option<&Graph<'_>>]) -> usize
     graphs.len()
 }
 
-/// What is found in each item in turn, and what is kept of each, if there are later environments.
+/// Joins what is found in the items, in their order, and collects what is kept of each if there are later environments.
 fn all_first(alloc: Global, answers: Vec<First>, later: bool) -> Result<AllFirst, NoMemory>
     ensures found { IfOk result (λ all. all.found ≡ flat_map (λ first. first.found) answers.items) }
     ensures kept { IfOk result (λ all. later ≡ true → all.kept.items ≡ map (λ first. first.kept) answers.items) }
@@ -110,7 +110,7 @@ fn all_first(alloc: Global, answers: Vec<First>, later: bool) -> Result<AllFirst
     })
 }
 
-/// The witnesses under the first environment, and, if there are later ones, what is kept of each item.
+/// Returns the witnesses under the first environment and, if there are later ones, what is kept of each item.
 pub fn under_first<R: Threads + Sync, G: Gate>(
     rt: &R,
     alloc: Global,
@@ -154,7 +154,7 @@ pub fn under_first<R: Threads + Sync, G: Gate>(
     }
 }
 
-/// The witnesses under one more environment, by what is kept of each item.
+/// Returns the witnesses under one more environment, using what is kept of each item.
 pub fn under_next<R: Threads + Sync, G: Gate>(
     rt: &R,
     alloc: Global,
@@ -198,7 +198,8 @@ pub fn under_next<R: Threads + Sync, G: Gate>(
     }
 }
 
-/// At how many nodes of the item the formula holds. One that is matched anew counts for as many as are worth a thread.
+/// The number of nodes of the item at which the formula holds. An item that is matched again counts for as many as are worth a
+/// thread.
 fn nodes_of_item(kept: &Kept) -> usize {
     match kept {
         Kept::Anew => NODES_A_THREAD,
@@ -207,9 +208,9 @@ fn nodes_of_item(kept: &Kept) -> usize {
     }
 }
 
-/// How many jobs at a time an environment after the first is worth, by what is kept of the items, and how many witnesses there are
-/// under the first: one for each 8,192 nodes at which the formula holds, where a witness counts for 64 and an item that is matched
-/// anew for 8,192.
+/// The number of jobs at a time that an environment after the first is worth, given what is kept of the items and the number of
+/// witnesses under the first: one for each 8,192 nodes at which the formula holds, where a witness counts for 64 nodes and an
+/// item that is matched again for 8,192. It is at least 1 and at most `jobs`.
 pub fn jobs_next(jobs: u32, kept: &[Kept], witnesses: usize) -> u32
     requires some { 1 ≤ jobs }
     ensures some { 1 ≤ result }

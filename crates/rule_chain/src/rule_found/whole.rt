@@ -32,14 +32,14 @@ use sqlite_items::Items;
 use std::alloc::Global;
 use std::thread::Threads;
 
-/// The witnesses of a rule, and for each projection the different values of the exported variables in its witnesses.
+/// The witnesses of a rule, and for each projection the distinct values of the exported variables in its witnesses.
 #[derive(Drop)]
 pub struct Found {
     pub witnesses: Items<RuleWitness>,
     pub parts: Items<Items<Env>>,
 }
 
-/// One list more.
+/// Appends one list.
 fn put_list(lists: &mut Vec<Items<RuleWitness>>, list: Items<RuleWitness>) -> Result<(), NoMemory>
     ensures added { OnOk result (lists.new.items ≡ lists.old.items ++ list ∷ []) }
 {
@@ -47,8 +47,8 @@ fn put_list(lists: &mut Vec<Items<RuleWitness>>, list: Items<RuleWitness>) -> Re
     Ok(())
 }
 
-/// For each environment the witnesses under it, item by item. Each environment is a call of `map_jobs`; where the formula holds in
-/// the items is found out by the first, and kept, within a bound, if there are others.
+/// Returns for each environment the witnesses under it, item by item. Each environment takes one call of `map_jobs`. The first
+/// call computes where the formula holds in the items, and keeps that, within a bound, if there are other environments.
 fn over_lent<R: Threads + Sync, G: Gate>(
     rt: &R,
     alloc: Global,
@@ -101,7 +101,7 @@ fn over_lent<R: Threads + Sync, G: Gate>(
     Ok(lists)
 }
 
-/// For each environment the witnesses under it, item by item. Without environments no item is looked at.
+/// Returns for each environment the witnesses under it, item by item. Without environments no item is looked at.
 fn over_items<R: Threads + Sync, G: Gate>(
     rt: &R,
     alloc: Global,
@@ -146,7 +146,7 @@ fn over_items<R: Threads + Sync, G: Gate>(
     )
 }
 
-/// The lists joined, and for each of them the different values of the exported variables.
+/// Joins the lists, and finds for each of them the distinct values of the exported variables.
 fn joined(alloc: Global, exports: &[Var], lists: Vec<Items<RuleWitness>>) -> Result<Found, NoMemory>
     ensures witnesses { IfOk result (λ found. found.witnesses ≡ flat_map (λ list. list) lists.items) }
     ensures parts { IfOk result (λ found. found.parts ≡ map (brought exports.now) lists.items) }
@@ -161,26 +161,28 @@ fn joined(alloc: Global, exports: &[Var], lists: Vec<Items<RuleWitness>>) -> Res
     Ok(Found { witnesses, parts })
 }
 
-/// The witnesses of a rule over the items of a file, under each of its projections in turn, and for each projection the
-/// different values of the exported variables in its witnesses. Contracts leave the ids of terms out.
+/// Returns the witnesses of a rule over the items of a file, under each of its projections in turn, and for each projection the
+/// distinct values of the exported variables in its witnesses. The contract ignores the ids of terms.
 ///
-/// `number` is the rule's, `f` its formula, and `count` the number of the file's items. The formula binds each exported variable,
-/// and its patterns' sure variables stand in them. For each projection `map_jobs` is called once, with a job for each item, of the
-/// item's number; one that was skipped, or lacks a word that the formula needs, is a job that finds nothing. Up to `jobs` items are
-/// matched at a time, and the gate is told of each before its job begins.
+/// `number` is the number of the rule, `f` its formula, and `count` the number of the file's items. The formula must bind each
+/// exported variable, and the sure variables of its patterns must occur in them. Each projection takes one call of `map_jobs`,
+/// with one job for each item, which has the item's number. The job of an item that was skipped, or that lacks a word that the
+/// formula needs, finds nothing. Up to `jobs` items are matched at a time, and the gate is informed of each before its job
+/// begins.
 ///
 /// - `TooMany`: the forests of the witnesses in one item under one projection have more than 1,000,000 touches and binds.
-/// - `NoMemory`: memory was refused, or there are more than 2^32 items.
+/// - `NoMemory`: out of memory, or there are more than 2^32 items.
 ///
-/// Costs one [`match_item`](crate::rule_witnesses::match_item) for each item that has a tree with all words that the formula needs, one
-/// [`item_witnesses`](crate::rule_witnesses::item_witnesses) for each item in which it holds somewhere and each projection, which the jobs
-/// share, and one [`exported`] a projection; a job that answers an empty list costs each other item and projection; the words are
-/// looked for once in the formula, and once among the tokens of each item. The graph of an item is made when it is first needed.
+/// Costs one [`match_item`](crate::rule_witnesses::match_item) for each item that has a tree with all words that the formula
+/// needs, one [`item_witnesses`](crate::rule_witnesses::item_witnesses) for each projection and each item in which the formula
+/// holds somewhere, both shared among the jobs, and one [`exported`] per projection. Each other item costs, per projection, a
+/// job that returns an empty list. The words are looked for once in the formula, and once among the tokens of each item. The
+/// graph of an item is made when it is first needed.
 ///
-/// Where there is more than one projection, the sets of the items in which the formula holds somewhere are kept to the end: those of
-/// the first items, as many as have at most 16,777,216 sets in all, one for each part of the formula and each node, of some 30 bytes
-/// and more by their entries. The items behind these in which it holds are matched anew under each projection. Of a rule of more than
-/// 1,000 tokens no words are looked for. Without projections nothing is done.
+/// If there is more than one projection, the sets of items in which the formula holds somewhere are kept to the end: those of
+/// the first items, as many as have at most 16,777,216 sets in all. There is one set for each part of the formula and each
+/// node, of about 30 bytes and more with its entries. The items after these in which the formula holds are matched again under
+/// each projection. No words are looked for if the rule has more than 1,000 tokens. Without projections nothing is done.
 pub fn witnesses<R: Threads + Sync, G: Gate>(
     rt: &R,
     alloc: Global,

@@ -1,4 +1,4 @@
-// What does the jobs: each finds what a formula finds in one item under one environment.
+// The workers of the jobs: each job finds what a formula finds in one item under one environment.
 ghost use Rattle.std.specs.Prelude.{◌≡◌, ◌<◌, ◌≤◌, ◌^◌, ℕ, true, length, IfOk, Err};
 ghost use Rattle.ctl_formula.specs.Formulas.{plain};
 ghost use Rattle.ctl_fixpoint.specs.CtlHolds.Parts.{EachPattern, each_pattern-prop};
@@ -20,7 +20,7 @@ use smpl_terms::{Env, Var};
 use sqlite_items::Items;
 use std::alloc::Global;
 
-/// Finds what a formula finds in each item under the first environment: a job an item, of the item's number.
+/// Finds what a formula finds in each item under the first environment, with one job per item, which has the item's number.
 #[derive(Drop)]
 pub struct FirstFinder<'a> {
     pub alloc: Global,
@@ -29,7 +29,7 @@ pub struct FirstFinder<'a> {
     pub exports: &'a [Var],
     pub graphs: &'a [Option<&'a Graph<'a>>],
     pub env: &'a Env,
-    /// Of so many items, from the first, is kept where the formula holds.
+    /// The number of items, from the first, for which what `match_item` returns is kept.
     pub keep: usize,
     ghost stand: { EachPattern (SureStand f.now.decls f.now.tokens) (plain f.now) } by { each_pattern-prop (SureStand f.now.decls f.now.tokens) (sure_stand-prop f.now.decls f.now.tokens) (plain f.now) },
     ghost binds: { BindsExports f.now exports.now },
@@ -68,7 +68,8 @@ impl<'a> Worker for FirstFinder<'a> {
     }
 }
 
-/// Finds what a formula finds in each item under one more environment, by what is kept: a job an item, of the item's number.
+/// Finds what a formula finds in each item under one more environment, using what is kept of the item, with one job per item,
+/// which has the item's number.
 #[derive(Drop)]
 pub struct NextFinder<'a> {
     pub alloc: Global,

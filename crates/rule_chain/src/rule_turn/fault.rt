@@ -1,18 +1,18 @@
-// Why a rule stops a file, but for its edits.
+// Why a rule fails on a file, apart from its edits.
 ghost use Rattle.std.specs.Prelude.{◌≡◌};
 
 use crate::rule_witnesses::JobFault;
 use c_terms::NoMemory;
 use rule_envs::EnvsFault;
 
-/// Why a rule stops a file, but for its edits.
+/// Why a rule fails on a file, apart from its edits.
 #[derive(Drop)]
 pub enum TurnFault {
     /// The witnesses in one item under one environment have more than 1,000,000 touches and binds.
     TooManyWitnesses,
-    /// More than 10,000 environments come out.
+    /// More than 10,000 environments result.
     TooManyEnvironments,
-    /// Memory was refused.
+    /// Out of memory.
     NoMemory,
 }
 

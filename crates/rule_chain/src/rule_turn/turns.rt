@@ -30,15 +30,15 @@ pub struct Turned {
     pub carriers: Items<Carrier>,
 }
 
-/// Runs a rule over one reading of a file: picks what it is run under, finds its witnesses, and replaces the environments.
+/// Runs a rule over one reading of a file: chooses what it runs under, finds its witnesses, and replaces the environments.
 ///
-/// `defined` are the virtual names that hold, `had` the rules that have had a witness on the file, `number` is the rule's,
-/// `prepared` what [`rule_envs::prepare`] makes of it, and `count` the number of the file's items. Contracts leave the ids of
-/// terms out.
+/// `defined` lists the virtual names that are defined, and `had` the rules that have had a witness on the file. `number` is the
+/// number of the rule, `prepared` is what [`rule_envs::prepare`] returns for it, and `count` is the number of the file's items.
+/// The contract ignores the ids of terms.
 ///
 /// - `TooManyWitnesses`: the witnesses in one item under one environment have more than 1,000,000 touches and binds.
-/// - `TooManyEnvironments`: not so, and more than 10,000 environments come out.
-/// - `NoMemory`: memory was refused.
+/// - `TooManyEnvironments`: they don't, and more than 10,000 environments result.
+/// - `NoMemory`: out of memory.
 ///
 /// Costs one [`projections`], one [`witnesses`] and one [`next_carriers`].
 pub fn turn<R: Threads + Sync, G: Gate>(

@@ -1,4 +1,4 @@
-// Why the witnesses of one item are not answered.
+// Why the witnesses of one item are not returned.
 ghost use Rattle.std.specs.Prelude.{◌≡◌};
 ghost use Rattle.wit_forest.specs.declared.fault.ForestFault.TheVariants as forest;
 
@@ -6,12 +6,12 @@ use c_terms::NoMemory;
 use std::alloc::{AllocError, AllocFailed};
 use wit_forest::ForestFault;
 
-/// Why the witnesses of one item are not answered.
+/// Why the witnesses of one item are not returned.
 #[derive(Clone, Copy, Debug, PartialEq, Eq)]
 pub enum JobFault {
     /// Their forests have more than 1,000,000 touches and binds in all.
     TooMany,
-    /// Memory was refused. This is the one answer that a caller cannot foresee.
+    /// Out of memory. This is the only result that a caller cannot foresee.
     NoMemory,
 }
 
@@ -35,7 +35,7 @@ impl From<AllocError> for JobFault {
     }
 }
 
-/// The fault of a forest as that of its job.
+/// Returns the fault of a forest as the fault of its job.
 pub fn fault_of(of_forest: ForestFault) -> JobFault
     ensures only { result ≡ JobFault.TooMany → of_forest ≡ forest.TooMany }
     ensures each { of_forest ≡ forest.TooMany → result ≡ JobFault.TooMany }

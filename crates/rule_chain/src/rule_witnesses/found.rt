@@ -31,7 +31,7 @@ fn left_after(trees: &[Witness], left: u32) -> Result<u32, JobFault>
 }
 
 impl Found {
-    /// No witnesses.
+    /// Returns no witnesses, with the whole budget left.
     pub fn none(alloc: Global) -> Found
         ensures none { result.witnesses ≡ [] }
     {
@@ -41,7 +41,7 @@ impl Found {
         }
     }
 
-    /// One more witness.
+    /// Adds one witness.
     pub fn with(self, witness: RuleWitness) -> Result<Found, JobFault>
         ensures added { IfOk result (λ now. now.witnesses ≡ self.witnesses ++ witness ∷ []) }
         ensures too_many { result ≡ Err JobFault.TooMany → 1000000 < nodes_of (self.witnesses ++ witness ∷ []) }
@@ -55,7 +55,7 @@ impl Found {
         Ok(Found { witnesses, left })
     }
 
-    /// The witnesses.
+    /// Returns the witnesses.
     pub fn into_items(self) -> Items<RuleWitness>
         ensures items { result ≡ self.witnesses }
         ensures few { nodes_of result ≤ 1000000 }

@@ -53,7 +53,7 @@ fn forest_at(
     }
 }
 
-/// One more witness, with its forest.
+/// Adds the witness at a node under an environment, with its forest.
 fn with_witness(
     alloc: Global,
     g: &Graph,
@@ -85,7 +85,7 @@ fn with_witness(
     })
 }
 
-/// The witnesses at one more node.
+/// Adds the witnesses at one node.
 fn with_node(
     alloc: Global,
     g: &Graph,
@@ -119,17 +119,17 @@ fn with_node(
     Ok(found)
 }
 
-/// The witnesses of a rule in one item, under an environment that gives the inherited variables their values: by nodes, then
-/// by the values of the exported variables, each with its forest. Contracts compare them with the ids of terms left out.
+/// Returns the witnesses of a rule in one item, under an environment that gives the inherited variables their values: by nodes,
+/// then by the values of the exported variables, each with its forest. The contract compares them without the ids of terms.
 ///
-/// `matched` is what [`match_item`](crate::rule_witnesses::match_item) says of the formula and the graph: one serves all environments. `rule` and
-/// `item` are the numbers that the witnesses carry. The formula binds each exported variable, and its patterns' sure variables
-/// stand in them.
+/// `matched` is what [`match_item`](crate::rule_witnesses::match_item) returns for the formula and the graph: one serves all
+/// environments. `rule` and `item` are the numbers that the witnesses carry. The formula must bind each exported variable, and
+/// the sure variables of its patterns must occur in them.
 ///
 /// - `TooMany`: the forests have more than 1,000,000 touches and binds in all.
-/// - `NoMemory`: memory was refused.
+/// - `NoMemory`: out of memory.
 ///
-/// Costs one call of [`choices`](crate::rule_witnesses::choices) for each node of `matched`, and one of [`forest`] a witness.
+/// Costs one call of [`choices`](crate::rule_witnesses::choices) for each node of `matched`, and one of [`forest`] per witness.
 pub fn item_witnesses(
     alloc: Global,
     g: &Graph,
@@ -150,7 +150,7 @@ pub fn item_witnesses(
     ensures too_many { result ≡ Err fault.TooMany → 1000000 < nodes_of
         (witnesses_of f.now g.now exports.now rule item env.now) }
 {
-    // Its clause says that the graph is sound, which the proof asks for.
+    // The contract of this call says that the graph is sound, which the proof needs.
     let _count = g.count();
     let root = f.root();
     let sets = &matched.sets;

@@ -1,4 +1,4 @@
-// What holds of the witnesses of all formulas.
+// Laws of the witnesses of all formulas.
 ghost use Rattle.std.specs.Prelude.{◌≡◌, ℕ, List, map};
 ghost use Rattle.cfg_build.specs.CfgGraph.Flow.{Flow};
 ghost use Rattle.smpl_terms.specs.declared.var.Var.{Var};
@@ -8,8 +8,8 @@ ghost use Rattle.ctl_formula.specs.Formulas.{FormulaOf};
 ghost use Rattle.rule_chain.specs.RuleWitnesses.Bare.{bare_witness};
 ghost use Rattle.rule_chain.specs.RuleWitnesses.Jobs.{nodes_of, witnesses_of};
 
-/// The witnesses under an environment are, without ids, those under the environment without ids; and witnesses that are
-/// equal without ids have as many touches and binds.
+/// The witnesses under an environment are, without ids, those under the environment without ids. Witnesses that are equal
+/// without ids have the same number of touches and binds.
 pub fn ids_make_no_difference()
     ensures witnesses { (f : FormulaOf) (g : Flow) (exports : List Var) (rule item : ℕ) (env : Pairs)
         → map bare_witness (witnesses_of f g exports rule item env)

@@ -1,4 +1,4 @@
-// Where a formula holds in one item, under whatever environment.
+// Where a formula holds in one item, under any environment.
 ghost use Rattle.std.specs.Prelude.{◌≡◌, ◌<◌, ◌∷◌, ◌++◌, [], IfOk, cond, length, slice_index_or};
 ghost use Rattle.std.specs.List.{filter};
 ghost use Rattle.cfg_build.specs.CfgGraph.Flow.{count_of};
@@ -17,14 +17,14 @@ use env_sets::{EnvSet, StateSets};
 use sqlite_items::Items;
 use std::alloc::Global;
 
-/// The sets of a formula in one graph, and the nodes, rising, at which the set of the whole formula has an entry.
+/// The sets of a formula in one graph, and the nodes, in ascending order, at which the set of the whole formula has an entry.
 #[derive(Drop)]
 pub struct Matched {
     pub sets: StateSets,
     pub nodes: Items<u32>,
 }
 
-/// The nodes, and then this one, if its set has an entry.
+/// Appends this node to the nodes if its set has an entry.
 fn with_match(nodes: Items<u32>, set: &EnvSet, s: u32) -> Result<Items<u32>, NoMemory>
     ensures nodes { IfOk result (λ now. now ≡ nodes ++ cond (has_entries set.now) (s ∷ []) []) }
 {
@@ -36,7 +36,7 @@ fn with_match(nodes: Items<u32>, set: &EnvSet, s: u32) -> Result<Items<u32>, NoM
     Ok(nodes)
 }
 
-/// The nodes, rising, at which the sets of a part have an entry.
+/// Returns the nodes, in ascending order, at which the set of a part has an entry.
 fn nodes_with_entries(
     alloc: Global,
     g: &Graph,
@@ -55,8 +55,8 @@ fn nodes_with_entries(
     Ok(nodes)
 }
 
-/// The sets of a formula in the graph of one item, and the nodes, rising, at which the set of the whole formula has an
-/// entry: it holds at no other. Its patterns' sure variables stand in them.
+/// Returns the sets of a formula in the graph of one item, and the nodes, in ascending order, at which the set of the whole
+/// formula has an entry: the formula holds at no other node. The sure variables of its patterns must occur in them.
 ///
 /// Costs one call of [`sat`], and a look at each node.
 pub fn match_item(alloc: Global, g: &Graph, f: &Formula) -> Result<Matched, NoMemory>

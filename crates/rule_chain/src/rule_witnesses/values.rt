@@ -18,7 +18,7 @@ use smpl_terms::{Env, Value, Var};
 use std::alloc::Global;
 use wit_forest::values_in;
 
-/// The set, and so on until all variables are left open: of number k the set of the environments that are in it for some
+/// Returns the set with more and more variables left open: set number k has the environments that are in the given set for some
 /// values of the last k variables.
 fn open_sets(alloc: Global, set: &EnvSet, vars: &[Var]) -> Result<Vec<EnvSet>, NoMemory>
     ensures { IfOk result (λ sets. AreOpen set.now vars.now sets.items) }
@@ -32,7 +32,7 @@ fn open_sets(alloc: Global, set: &EnvSet, vars: &[Var]) -> Result<Vec<EnvSet>, N
     Ok(sets)
 }
 
-/// The values in order, each once.
+/// Returns the values in order, each once.
 fn in_order(alloc: Global, values: Vec<Value>) -> Result<Vec<Value>, NoMemory>
     ensures rise { IfOk result (λ r. Rise r.items) }
     ensures values { IfOk result (λ r. (z : Datum) → list_any (λ v. same v z) r.items ≡ list_any (λ v. same v z) values.items) }
@@ -43,7 +43,7 @@ fn in_order(alloc: Global, values: Vec<Value>) -> Result<Vec<Value>, NoMemory>
     joined.into_vec(alloc)
 }
 
-/// Adds the environment with each value that the set leaves the variable, in order.
+/// Appends the environment extended by each value that the set leaves the variable, in order.
 fn put_extended(
     alloc: Global,
     set: &EnvSet,
@@ -61,7 +61,7 @@ fn put_extended(
     Ok(())
 }
 
-/// Each environment with each value that the set leaves the variable.
+/// Returns each environment extended by each value that the set leaves the variable.
 fn extended(alloc: Global, set: &EnvSet, x: &Var, envs: &[Env]) -> Result<Vec<Env>, NoMemory>
     requires absent { All (λ (e : Pairs). value_in e x.now ≡ None) envs.now }
     ensures { IfOk result (λ more. AreExtended set.now x.now envs.now more.items) }
@@ -73,7 +73,7 @@ fn extended(alloc: Global, set: &EnvSet, x: &Var, envs: &[Env]) -> Result<Vec<En
     Ok(more)
 }
 
-/// The environment with each choice of values of the variables, one variable after another.
+/// Returns the environment extended by each choice of values of the variables, one variable after another.
 fn all_extended(
     alloc: Global,
     sets: &[EnvSet],
@@ -93,7 +93,7 @@ fn all_extended(
     Ok(envs)
 }
 
-/// The environment itself, where the set has it.
+/// Returns the environment itself if the set has it.
 fn itself(alloc: Global, set: &EnvSet, env: &Env) -> Result<Vec<Env>, NoMemory>
     ensures { IfOk result (λ envs. envs.items ≡ cond (set_denotes set.now (total env.now)) (env.now ∷ []) []) }
 {
@@ -104,11 +104,11 @@ fn itself(alloc: Global, set: &EnvSet, env: &Env) -> Result<Vec<Env>, NoMemory>
     Ok(envs)
 }
 
-/// The environment with each choice of values of the variables under which the set has it: in the order of values, the
-/// first variable slowest. The set leaves each variable finitely many values.
+/// Returns the environment with each choice of values of the variables under which the set has it, in the order of values, with
+/// the first variable varying slowest. The set leaves each variable finitely many values.
 ///
-/// A set without entries has none. Without variables the set is asked for the environment alone. For n variables it is
-/// projected n times, and then gone over once for each environment that has a value more.
+/// A set without entries has none. Without variables the set is only asked whether it has the environment itself. For n
+/// variables the set is projected n times, and then traversed once for each environment that is given one more value.
 pub fn choices(alloc: Global, set: &EnvSet, vars: &[Var], env: &Env) -> Result<Vec<Env>, NoMemory>
     requires new { of.AreNew vars.now env.now }
     ensures envs { IfOk result (λ envs. (values : List Datum) → of.Leaves values vars.now set.now env.now →

@@ -1,4 +1,4 @@
-// Why nothing becomes of a file.
+// Why a file has no result.
 ghost use Rattle.std.specs.Prelude.{◌≡◌};
 ghost use Rattle.rule_chain.specs.RuleWork.OneRule.{edit_fault, turn_fault};
 
@@ -8,18 +8,18 @@ use c_terms::NoMemory;
 use edit_marks::Edit;
 use std::alloc::{AllocError, AllocFailed};
 
-/// Why nothing becomes of a file. The first number is that of the rule.
+/// Why a file has no result. The first number is that of the rule.
 #[derive(Drop)]
 pub enum FileFault {
     /// The text would have more than 16,777,216 bytes.
     FileTooLong(u32),
-    /// Two edits clash at the token of this id.
+    /// Two edits clash at the token with this id.
     Conflict(u32, u64, Edit, Edit),
     /// The witnesses in one item under one environment have more than 1,000,000 touches and binds.
     TooManyWitnesses(u32),
-    /// More than 10,000 environments come out.
+    /// More than 10,000 environments result.
     TooManyEnvironments(u32),
-    /// Memory was refused.
+    /// Out of memory.
     NoMemory,
 }
 
@@ -53,7 +53,7 @@ impl<T: Drop> From<AllocFailed<T>> for FileFault {
     }
 }
 
-/// A fault of the edits of the rule of this number.
+/// Returns the file's fault for a fault of the edits of the rule with this number.
 pub fn of_edits(number: u32, fault: EditFault) -> FileFault
     ensures { result ≡ edit_fault number fault }
 {
@@ -64,7 +64,7 @@ pub fn of_edits(number: u32, fault: EditFault) -> FileFault
     }
 }
 
-/// A fault of the rule of this number, but for its edits.
+/// Returns the file's fault for a fault of the rule with this number, apart from its edits.
 pub fn of_turn(number: u32, fault: TurnFault) -> FileFault
     ensures { result ≡ turn_fault number fault }
 {

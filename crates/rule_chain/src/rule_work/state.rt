@@ -12,7 +12,7 @@ pub struct SkipNote {
     pub why: Why,
 }
 
-/// What becomes of the environments, and what was found.
+/// The environments so far, and what was found.
 #[derive(Drop)]
 pub struct Findings {
     pub carriers: Items<Carrier>,

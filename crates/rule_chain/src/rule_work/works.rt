@@ -1,4 +1,4 @@
-// One rule over one reading of a file.
+// Runs one rule over one reading of a file.
 ghost use Rattle.std.specs.Prelude.{◌≡◌, ◌≤◌, ◌^◌, ◌⊎◌, ◌++◌, ℕ, IfOk, IfErr};
 ghost use Rattle.ctl_formula.specs.Formulas.{plain};
 ghost use Rattle.ctl_fixpoint.specs.CtlHolds.Parts.{EachPattern};
@@ -26,7 +26,7 @@ use sqlite_items::Items;
 use std::alloc::Global;
 use std::thread::Threads;
 
-/// The rules that have had a witness, after this one.
+/// Returns the rules that have had a witness, after this one.
 #[tactic(auto, using(crate::proofs::RuleWork::HadLemmas::had_none, crate::proofs::RuleWork::HadLemmas::had_some))]
 fn had_after(had: Items<u32>, number: u32, found: &[RuleWitness]) -> Result<Items<u32>, NoMemory>
     ensures { IfOk result (λ now. now ≡ of.had_after had number found.now) }
@@ -39,7 +39,7 @@ fn had_after(had: Items<u32>, number: u32, found: &[RuleWitness]) -> Result<Item
     Ok(had)
 }
 
-/// What becomes of the findings.
+/// Returns the findings after the rule.
 fn findings_after(
     had: Items<u32>,
     found: Items<RuleWitness>,
@@ -64,27 +64,28 @@ fn findings_after(
     })
 }
 
-/// What a rule leaves of the findings, and the new text where one of its edits isn't empty.
+/// The findings after a rule, and the new text if one of its edits isn't empty.
 #[derive(Drop)]
 pub struct Worked {
     pub findings: Findings,
     pub text: Option<NewText>,
 }
 
-/// Works one rule through over a reading of the file: finds its witnesses, replaces the environments, and makes the text that
-/// all its edits leave at once.
+/// Runs one rule over a reading of the file: finds its witnesses, replaces the environments, and applies all its edits to the
+/// text at once.
 ///
-/// `defined` are the virtual names that hold, `number` is the rule's, `prepared` what [`rule_envs::prepare`] makes of it,
-/// `graphs` are those of the file, `next` is an id from which on none has been used in the file, and `findings` are what the
-/// rules before left. There is no new text where no edit changes anything. Contracts leave the ids of terms out.
+/// `defined` lists the virtual names that are defined, `number` is the number of the rule, and `prepared` is what
+/// [`rule_envs::prepare`] returns for it. `graphs` are those of the file, `next` is an id such that neither it nor a larger one
+/// has been used in the file, and `findings` are what the rules before left. There is no new text if no edit changes anything.
+/// The contract ignores the ids of terms.
 ///
-/// The first fault in this order is answered, with the rule's number:
+/// The call returns the first fault in this order, with the number of the rule:
 ///
 /// - `TooManyWitnesses`: the witnesses in one item under one environment have more than 1,000,000 touches and binds.
-/// - `TooManyEnvironments`: more than 10,000 environments come out.
-/// - `Conflict`: two edits clash, first at the token of this id.
+/// - `TooManyEnvironments`: more than 10,000 environments result.
+/// - `Conflict`: two edits clash; the id is that of the first token at which they do.
 /// - `FileTooLong`: the new text would have more than 16,777,216 bytes.
-/// - `NoMemory`: memory was refused.
+/// - `NoMemory`: out of memory.
 ///
 /// Costs one [`turn`] and one [`edit`].
 pub fn work<R: Threads + Sync, G: Gate>(

@@ -32,7 +32,7 @@ passed_by : (b : Bool) (x : Var) (o : Option Var) → (if b then Some x else o) 
 passed_by true x o h = absurd cc
 passed_by false x o h = (refl, h)
 
--- what is said of a declaration that is own and exported
+-- what holds of a declaration that is the rule's own and exported
 own_bound : (inherited exported binds guarded : Bool) → inherited ≡ false → exported ≡ true
     → (not inherited && (if exported then not binds else not guarded)) ≡ false → binds ≡ true
 own_bound true exported binds guarded own out h = absurd cc
@@ -68,7 +68,7 @@ or_true : (b : Bool) → (b || true) ≡ true
 or_true true = refl
 or_true false = refl
 
--- each of a list's members is in it, and stays so behind more
+-- variables that are all in a list are also in the list with one more in front
 all_later : (y : Var) (ys xs : List Var) → list_all (λ x. list_any (λ z. same_var z x) ys) xs ≡ true
     → list_all (λ x. list_any (λ z. same_var z x) (y ∷ ys)) xs ≡ true
 all_later y ys [] h = refl

@@ -7,11 +7,11 @@ use Rattle.ctl_translate.specs.declared.rule.FormulaFault.{FormulaFault}
 use Rattle.rule_envs.specs.declared.rule_formulas.prepared.PreparedRule.{PreparedRule}
 use Rattle.rule_envs.specs.RuleFormulas.Prepared.{IsPrepared, ArePrepared, IsPrepareFault}
 
--- whatever is prepared of the rules that are left completes those that are done
+-- whatever is prepared of the remaining rules completes what is prepared of those that are done
 abbrev pub Completes : List Rule → ℕ → List PreparedRule → Type 0
 Completes rules i done = (ps : List PreparedRule) → ArePrepared (drop i rules) ps → ArePrepared rules (done ++ ps)
 
--- a fault of the rules that are left is one of all
+-- a fault of the remaining rules is one of all rules
 abbrev pub FirstOfAll : List Rule → ℕ → Type 0
 FirstOfAll rules i = (fault : FormulaFault) → IsPrepareFault (drop i rules) fault → IsPrepareFault rules fault
 

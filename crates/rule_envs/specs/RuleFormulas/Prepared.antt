@@ -12,7 +12,7 @@ pub record IsPrepared (rule : Rule) (p : PreparedRule) : Type 0 where
   pub formula : IsFormulaOf rule p.formula
   pub inherited : p.inherited ≡ inherited_of rule
 
--- each rule in its place, and no more
+-- what is prepared of each rule, in its place, and no more
 abbrev pub ArePrepared : List Rule → List PreparedRule → Type 0
 ArePrepared rules prepared = AllZip IsPrepared rules prepared
 

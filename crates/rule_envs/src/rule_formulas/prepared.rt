@@ -1,4 +1,4 @@
-// What is made once for a patch.
+// What is prepared once per patch.
 ghost use Rattle.std.specs.Prelude.{◌≡◌, IfOk, IfErr};
 ghost use Rattle.ctl_translate.specs.Answers.{IsFaultOf};
 ghost use Rattle.rule_envs.specs.RuleFormulas.Prepared as of;
@@ -33,8 +33,8 @@ fn prepared_rule(alloc: Global, rule: &Rule) -> Result<PreparedRule, FormulaFaul
     Ok(PreparedRule { formula, inherited })
 }
 
-/// What the rules of a patch are run by. Costs one [`formula_of`] a rule, which stops at the first rule whose formula is too
-/// large or may leave a variable without a value; a patch that is read has no such rule.
+/// Returns what the rules of a patch are run by. Costs one [`formula_of`] per rule. Stops at the first rule whose formula is
+/// too large or may leave a variable without a value; a patch that is read has no such rule.
 pub fn prepare(alloc: Global, patch: &Patch) -> Result<Prepared, FormulaFault>
     ensures rules { IfOk result (λ p. of.ArePrepared patch.now.rules p.rules) }
     ensures fault { IfErr result (λ fault. of.IsPrepareFault patch.now.rules fault) }

@@ -1,4 +1,4 @@
--- What holds of each rule is what the chain asks of it.
+-- The properties of each rule imply the preconditions of the chain.
 use Rattle.std.proofs.Common.{sym, subst, List, [], ◌∷◌}
 use Rattle.std.specs.Prelude.{All}
 use Rattle.std.specs.List.{AllZip}

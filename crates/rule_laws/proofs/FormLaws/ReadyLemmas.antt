@@ -1,5 +1,6 @@
--- A rule whose patterns have all forms has what the rule has of which it is made.
--- Proof: its formula is that of the rule with all forms, and which variables stand in a pattern, and which are sure there, stays.
+-- A rule whose patterns have all forms has the properties of the original rule.
+-- Proof: its formula is that of the rule with all forms, and the variables that occur in a pattern, and those that are sure
+-- in it, don't change.
 use Rattle.std.proofs.Common.{◌≡◌, ℕ, suc, ◌<◌, ◌&&◌, Bool, true, refl, sym, ap, ap₂, ◌∙◌, subst, arith, nat_lt, List, [], ◌∷◌, length}
 use Rattle.std.specs.List.{list_all, flat_map, AllByRecursion}
 use Rattle.std.proofs.lemmas.Bool.Decides.{nat_tests}

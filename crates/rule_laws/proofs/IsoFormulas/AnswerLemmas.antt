@@ -1,4 +1,5 @@
--- What is read off a pattern with all forms is what is read off the pattern: its first form stays.
+-- What formulas take from a pattern with all forms is what they take from the original pattern: its first form doesn't
+-- change.
 use Rattle.std.proofs.Common.{◌≡◌, Bool, refl, ap, Some, List, [], ◌∷◌}
 use Rattle.std.specs.Prelude.{slice_get}
 use Rattle.std.specs.List.{list_any}

@@ -1,4 +1,4 @@
--- What the pieces of the table make of formulas with all forms.
+-- The parts of the table, applied to formulas with all forms.
 use Rattle.std.proofs.Common.{◌≡◌, ℕ, suc, Bool, true, false, cond, refl, sym, ap, ap₂, ◌∙◌, Option, None, Some, List, [], ◌∷◌, ◌++◌, map, if◌then◌else◌}
 use Rattle.smpl_terms.specs.declared.var.Var.{Var}
 use Rattle.smpl_patch.specs.declared.pattern.PatToken.{PatToken}

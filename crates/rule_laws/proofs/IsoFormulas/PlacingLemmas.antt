@@ -1,4 +1,4 @@
--- Where the variables of a rule are quantified stays as it was when patterns get forms.
+-- Where the variables of a rule are quantified doesn't change when patterns are given forms.
 use Rattle.std.proofs.Common.{◌≡◌, ℕ, ◌+◌, Bool, true, false, not, ◌&&◌, ◌||◌, cond, refl, ap, ap₂, ◌∙◌, Option, None, Some, List, [], ◌∷◌, ◌++◌}
 use Rattle.std.specs.Prelude.{nat_le}
 use Rattle.std.specs.List.{filter}

@@ -1,4 +1,4 @@
--- The formula of a rule with all forms, and what is wrong with such a rule's meaning.
+-- The formula of a rule with all forms, and the faults of such a rule's meaning.
 use Rattle.std.proofs.Common.{◌≡◌, ℕ, suc, Bool, false, not, ◌&&◌, refl, ap, ap₂, ◌∙◌, Option, None, Some, List, [], ◌∷◌, map, if◌then◌else◌}
 use Rattle.std.specs.List.{filter, list_any}
 use Rattle.smpl_terms.specs.declared.var.Var.{Var}

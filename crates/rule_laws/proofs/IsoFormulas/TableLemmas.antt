@@ -1,5 +1,5 @@
--- The table makes of a body with all forms the formula of the body with all forms.
--- Proof: by recursion on the body, row by row. What follows an element, and what stands beside dots, is taken along.
+-- The table translates a body with all forms to the formula of the body with all forms.
+-- Proof: by recursion on the body, row by row. The induction covers what follows an element and what is next to dots.
 use Rattle.std.proofs.Common.{◌≡◌, ℕ, Bool, true, false, not, ◌&&◌, cond, refl, sym, ap, ap₂, ◌∙◌, Option, None, Some, List, [], ◌∷◌, ◌++◌, map}
 use Rattle.std.specs.List.{filter}
 use Rattle.smpl_terms.specs.declared.var.Var.{Var}

@@ -1,4 +1,4 @@
-// What the chain asks of the rules of a patch with all forms. The function does nothing.
+// A law of the preconditions of the chain, for patches with all forms. The function does nothing.
 ghost use Rattle.std.specs.Prelude.{◌≡◌, ◌<◌, ◌^◌, ℕ, List, length};
 ghost use Rattle.std.specs.List.{AllZip};
 ghost use Rattle.smpl_patch.specs.declared.rule.Iso.{Iso as Isomorphism};
@@ -15,10 +15,12 @@ use crate::iso_formulas::{accepted_patches_stay_accepted, formulas_keep_their_sh
 use crate::{rules_have_formulas, rules_may_run};
 use sound_laws::patches_are_sound;
 
-/// Of a patch that is read, and the patch that it becomes as its patterns get all their forms, under whatever isomorphisms.
+/// A patch that is read still satisfies the preconditions of the chain when its patterns have all their forms, under any
+/// isomorphisms.
 ///
-/// - `may`: each rule has what `apply` of rule_chain asks of it, when the rules are run by what `prepare` makes of them.
-/// - `fault`: where making the formulas of the rules ends with a fault, memory was wanting.
+/// - `may`: each rule satisfies the preconditions of `apply` of rule_chain, when the rules are run in the form that
+///   `prepare` makes of them.
+/// - `fault`: making the formulas of the rules fails only when out of memory.
 /// - `count`: there are fewer than 2^32 rules.
 ///
 /// Does nothing.

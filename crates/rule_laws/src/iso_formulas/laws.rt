@@ -17,11 +17,12 @@ ghost use Rattle.rule_laws.specs.IsoFormulas.Formulas.{expanded_formula};
 
 use iso_expand::rules_keep_their_shape;
 
-/// What the formula of a rule with all forms keeps of the rule that it is made of.
+/// The formula of a rule with all forms has the shape of the original rule's formula.
 ///
 /// - `formula`: it is the rule's formula, in which each pattern has its forms.
-/// - `stands`, `sure`: the variables that stand in a pattern, and those that are sure there, are those of the pattern as it was.
-/// - `bound`: so the formula binds the variables that it bound.
+/// - `stands`, `sure`: the variables that occur in a pattern, and those that are sure in it, are those of the original
+///   pattern.
+/// - `bound`: so the formula binds the same variables.
 ///
 /// Does nothing.
 pub fn formulas_keep_their_shape()
@@ -37,8 +38,8 @@ pub fn formulas_keep_their_shape()
     rules_keep_their_shape();
 }
 
-/// A patch with all forms has the first fault of meaning that the patch had of which it is made, and none where that had none: no
-/// formula grows too large, and no variable may stay unbound that couldn't before. Does nothing.
+/// A patch with all forms has the same first fault of meaning as the original patch, or none if that has none: no formula
+/// grows too large, and no further variable can remain unbound. Does nothing.
 pub fn accepted_patches_stay_accepted()
     ensures fault { (isos : List Isomorphism) (p q : Whole) → IsExpanded isos p q → first_fault q ≡ first_fault p }
 {

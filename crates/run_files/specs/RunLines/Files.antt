@@ -8,7 +8,7 @@ use Rattle.rule_chain.specs.declared.rule_work.fault.FileFault.{FileFault}
 use Rattle.rule_chain.specs.declared.rule_work.fault.FileFault.TheVariants.{FileTooLong, Conflict, TooManyWitnesses, TooManyEnvironments, NoMemory}
 use Rattle.run_files.specs.RunLines.Patches.{line_about}
 
--- why a file is refused; for want of memory none is
+-- why a file is refused; no file is refused because memory ran out
 abbrev pub fault_text : FileFault → List ℕ
 fault_text (FileTooLong rule) = codes "file too long after rule " ++ decimal rule
 fault_text (Conflict rule token first second) = codes "conflict in rule " ++ decimal rule ++ codes " at token " ++ decimal token
@@ -19,11 +19,11 @@ fault_text NoMemory = []
 abbrev pub refused_line : List ℕ → FileFault → List ℕ
 refused_line name fault = line_about name (codes "refused: " ++ fault_text fault)
 
--- a file that is over its limit when it is loaded
+-- the line about a file that is over its limit when it is loaded
 abbrev pub too_long_line : List ℕ → List ℕ
 too_long_line name = line_about name (codes "refused: file too long")
 
--- what is no regular file: a pipe, a device or a socket
+-- the line about what is no regular file: a pipe, a device or a socket
 abbrev pub special_line : List ℕ → List ℕ
 special_line name = line_about name (codes "refused: no regular file")
 
@@ -32,7 +32,7 @@ why_text NoTree = codes "no tree"
 why_text TooDeep = codes "too deep"
 why_text TooManyNodes = codes "too many nodes"
 
--- an item that a reading skipped
+-- the line about an item that a reading skipped
 abbrev pub skipped_line : List ℕ → SkipNote → List ℕ
 skipped_line name note = line_about name
     (codes "reading " ++ decimal note.reading ++ codes ": item " ++ decimal note.item ++ codes " not read: " ++ why_text note.why)

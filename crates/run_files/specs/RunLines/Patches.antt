@@ -11,7 +11,7 @@ use Rattle.iso_file.specs.declared.fault.IsoFault.TheVariants as iso
 abbrev pub usage : List ℕ
 usage = codes "spatch: usage: spatch --sp-file P [--iso-file I] [--define a,b] [--jobs n] [--witnesses] [--in-place] FILE...\n"
 
--- a line about what has this name, in which no byte of the name ends the line
+-- the start of a line about this name, in which no byte of the name ends the line
 abbrev pub begun : List ℕ → List ℕ
 begun name = codes "spatch: " ++ escaped_name name ++ codes ": "
 
@@ -23,7 +23,7 @@ line_about name text = begun name ++ text ++ codes "\n"
 abbrev pub variable_text : List ℕ → List ℕ
 variable_text name = codes " of " ++ name
 
--- where a fault stands: nowhere, in a rule, at a variable, or at a byte
+-- the place of a fault: none, a rule, a variable, or a byte
 abbrev pub fault_place_text : PatchFault → List ℕ
 fault_place_text PatchTooLong = []
 fault_place_text (StarWithEdit rule) = codes " in rule " ++ decimal rule
@@ -37,7 +37,7 @@ patch_fault_line name fault = line_about name (codes "patch fault " ++ decimal (
 
 -- ---- isomorphisms
 
--- the number of a fault, and where it stands; none are refused for want of memory
+-- the number of a fault, and its place; no isomorphisms are refused because memory ran out
 abbrev pub iso_fault_text : IsoFault → List ℕ
 iso_fault_text (iso.BadIso at) = codes "1 at " ++ decimal at
 iso_fault_text (iso.NotExpression at) = codes "2 at " ++ decimal at

@@ -13,7 +13,7 @@ abbrev pub rule_line : ℕ → Rule → List RuleWitness → List ℕ
 rule_line number rule witnesses =
     codes "rule " ++ decimal number ++ codes " " ++ shown_name rule.name ++ codes " witnesses " ++ decimal (count_of number witnesses) ++ codes "\n"
 
--- the rules from this number on
+-- the lines of the rules, numbered from this number on
 abbrev pub rule_lines : ℕ → List Rule → List RuleWitness → List ℕ
 rule_lines number [] witnesses = []
 rule_lines number (rule ∷ rules) witnesses = rule_line number rule witnesses ++ rule_lines (number + 1) rules witnesses

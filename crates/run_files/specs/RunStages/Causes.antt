@@ -1,4 +1,4 @@
--- When each status comes: said over the acts that were done.
+-- When each status is returned, in terms of the acts that were done.
 use Rattle.std.specs.Prelude.{ℕ, ◌≡◌, ◌<◌, ◌≤◌, ◌⊎◌, List, IsSome}
 use Rattle.outer_io.specs.Faults.{Rose}
 use Rattle.run_acts.specs.Acts.{Act, Load, Report, Told, done, after}
@@ -13,11 +13,11 @@ pub record DoneFor (words : List (List ℕ)) (old new : Told) (status : ℕ) : T
   pub reason : Reason words old acts status
   pub told : new ≡ after acts old
 
--- For each status what was so where it is answered, whatever the counts did, and when it must come.
+-- For each status: what held when it is returned, whatever the counts did, and when it must be returned.
 pub record Causes (words : List (List ℕ)) (before now : Counts) (old new : Told) (status : ℕ) : Type 0 where
   -- 0 to 4: a whole run was done, and its reason has this status
   pub whole : status < 5 → DoneFor words old new status
-  -- 5: a whole run was done that ended at an absent name; or the run came to a load that failed, and its line was put
+  -- 5: a whole run was done that ended at an absent name; or the run came to a load that failed, and its line was reported
   pub cannot_read : status ≡ 5 → DoneFor words old new 5
       ⊎ ((mid : Told) × ((name : List ℕ) × ((limit : ℕ) × (ComesTo words old mid (Load name limit)
       × (Rose before.shelf now.shelf × (new ≡ done (Report (cannot_read name)) mid))))))
@@ -26,8 +26,8 @@ pub record Causes (words : List (List ℕ)) (before now : Counts) (old new : Tol
       → (mid : Told) × ((act : Act) × (ComesTo words old mid act × Fails before now act mid new 6))
   -- 7: the run came to an act of which nothing was done
   pub no_memory : status ≡ 7 → (act : Act) × ComesTo words old new act
-  -- what has a reason where the shelf tells its files must come where no count rises
+  -- if the shelf reports its files, a status that has a reason must be returned when no count rises
   pub must : (acts : List Act) (wanted : ℕ) → IsSome old.files → Reason words old acts wanted → NoneRose before now
       → (status ≡ wanted) ⊎ (status ≡ 7)
-  -- and there is no other
+  -- there is no other status
   pub at_most : status ≤ 7

@@ -1,4 +1,4 @@
--- Why the acts of a whole run are these, and its status is this one: said over the acts, file by file. No stage is in it.
+-- Why a whole run has these acts and this status, in terms of the acts, file by file. Stages don't occur here.
 use Rattle.std.specs.Prelude.{ℕ, ◌≡◌, ◌⊎◌, Bool, false, ◌||◌, List, [], ◌∷◌, ◌++◌, Option, Some, None}
 use Rattle.run_acts.specs.Acts.{Act, Load, Print, Report, Told, after}
 use Rattle.run_acts.specs.Lines.{cannot_read}
@@ -19,13 +19,13 @@ use Rattle.run_files.specs.RunStages.Stages.{patch_limit, generated_name, end_st
 
 -- ---- the patch
 
--- the words ask for this patch, and its bytes are these, or nothing stands under its name
+-- the words ask for this patch, and these are its bytes, or nothing is stored under its name
 pub record PatchFound (words : List (List ℕ)) (old : Told) (name : List ℕ) (under : Option (List ℕ)) (isos : Option (List ℕ))
     (defined : List (List ℕ)) (target : Target) : Type 0 where
   pub order : order_of words ≡ Some (Apply name isos defined target)
   pub found : Found old.files name under
 
--- the words ask for this patch, which is read, and these acts load it
+-- the words ask for this patch, which was read, and these acts load it
 pub record PatchRead (words : List (List ℕ)) (old : Told) (patch : Patch) (isos : Option (List ℕ)) (defined : List (List ℕ)) (target : Target)
     (acts : List Act) : Type 0 where
   pub name : List ℕ
@@ -34,7 +34,7 @@ pub record PatchRead (words : List (List ℕ)) (old : Told) (patch : Patch) (iso
   pub is : IsPatchOf bytes patch
   pub acts_are : acts ≡ Load name patch_limit ∷ []
 
--- the patch is read, and isomorphisms of this name are asked for, under which these bytes stand, or nothing
+-- the patch was read, and isomorphisms of this name are asked for, under which these bytes are stored, or nothing
 pub record IsosFound (words : List (List ℕ)) (old : Told) (patch : Patch) (name : List ℕ) (under : Option (List ℕ)) (defined : List (List ℕ))
     (target : Target) (acts : List Act) : Type 0 where
   pub before : List Act
@@ -50,7 +50,8 @@ pub data PatchReady (words : List (List ℕ)) (old : Told) (whole : Patch) (defi
 
 -- ---- the files
 
--- how the files are done with: all of them, and some of them was refused or none; or up to a name under which nothing stands
+-- how the files end: all of them are processed, and at least one was refused or none; or the run ends at a name under which
+-- nothing is stored
 pub data FilesEnd : Type 0 where
   AllDone : (refused : Bool) → FilesEnd
   Missing : (name : List ℕ) → FilesEnd
@@ -60,7 +61,7 @@ abbrev pub files_status : FilesEnd → ℕ
 files_status (AllDone refused) = end_status refused
 files_status (Missing name) = 5
 
--- The files in turn: each is loaded, by what is told then, and brings its acts.
+-- The files in turn: each is loaded, as observed at that time, and leads to its acts.
 abbrev pub FilesDo : Told → Patch → List (List ℕ) → Mode → List (List ℕ) → Bool → List Act → FilesEnd → Type 0
 FilesDo old patch defined mode [] refused acts end = (acts ≡ []) × (end ≡ AllDone refused)
 FilesDo old patch defined mode (name ∷ names) refused acts end =
@@ -78,23 +79,23 @@ pub data Reason (words : List (List ℕ)) (old : Told) (acts : List Act) (status
   -- 0: a text is generated
   is_generated : (seed functions : ℕ) → order_of words ≡ Some (Generate seed functions) → acts ≡ Print (generated seed functions) ∷ []
       → status ≡ 0 → Reason words old acts status
-  -- 5: nothing stands under the patch's name
+  -- 5: nothing is stored under the patch's name
   no_patch : (name : List ℕ) (isos : Option (List ℕ)) (defined : List (List ℕ)) (target : Target)
       → PatchFound words old name None isos defined target → acts ≡ Load name patch_limit ∷ Report (cannot_read name) ∷ []
       → status ≡ 5 → Reason words old acts status
-  -- 2: the patch has a fault, of which this is the first
+  -- 2: the patch has a fault, and this is the first
   bad_patch : (name bytes : List ℕ) (isos : Option (List ℕ)) (defined : List (List ℕ)) (target : Target) (fault : PatchFault)
       → PatchFound words old name (Some bytes) isos defined target → IsFirstFault bytes fault
       → acts ≡ Load name patch_limit ∷ Report (patch_fault_line name fault) ∷ [] → status ≡ 2 → Reason words old acts status
-  -- 5: nothing stands under the isomorphisms' name
+  -- 5: nothing is stored under the isomorphisms' name
   no_isos : (patch : Patch) (name : List ℕ) (defined : List (List ℕ)) (target : Target) (before : List Act)
       → IsosFound words old patch name None defined target before → acts ≡ before ++ Report (cannot_read name) ∷ []
       → status ≡ 5 → Reason words old acts status
-  -- 3: the isomorphisms have a fault, of which this is the first
+  -- 3: the isomorphisms have a fault, and this is the first
   bad_isos : (patch : Patch) (name bytes : List ℕ) (defined : List (List ℕ)) (target : Target) (fault : IsoFault) (before : List Act)
       → IsosFound words old patch name (Some bytes) defined target before → IsFileFault bytes fault
       → acts ≡ before ++ Report (iso_fault_line name fault) ∷ [] → status ≡ 3 → Reason words old acts status
-  -- 3: a rule, of which this is the first, has too many forms under the isomorphisms
+  -- 3: some rule has too many forms under the isomorphisms, and this is the first
   many_forms : (patch : Patch) (name bytes : List ℕ) (defined : List (List ℕ)) (target : Target) (isos : List Iso) (rule : ℕ) (before : List Act)
       → IsosFound words old patch name (Some bytes) defined target before → AreIsosOf bytes isos → IsFirstMany isos patch.rules rule
       → acts ≡ before ++ Report (forms_line name rule) ∷ [] → status ≡ 3 → Reason words old acts status
@@ -103,7 +104,7 @@ pub data Reason (words : List (List ℕ)) (old : Told) (acts : List Act) (status
       → PatchReady words old patch defined (OnText seed functions) before
       → Sums patch defined generated_name (generated seed functions) treated
       → acts ≡ before ++ treated.acts → status ≡ end_status treated.refused → Reason words old acts status
-  -- 0, 4 or 5: the files are done with
+  -- 0, 4 or 5: the files are processed
   filed : (patch : Patch) (defined : List (List ℕ)) (mode : Mode) (names : List (List ℕ)) (before rest : List Act) (end : FilesEnd)
       → PatchReady words old patch defined (OnFiles mode names) before → FilesDo old patch defined mode names false rest end
       → acts ≡ before ++ rest → status ≡ files_status end → Reason words old acts status

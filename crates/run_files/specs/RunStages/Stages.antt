@@ -17,7 +17,7 @@ use Rattle.run_words.specs.Orders.{Target, OnFiles, OnText, Order, Apply, Genera
 use Rattle.run_files.specs.RunLines.Patches.{usage, patch_fault_line, iso_fault_line, forms_line}
 use Rattle.run_files.specs.Treatment.{Treated, file_limit, TreatsFile, Sums}
 
--- a patch is read up to this many bytes, and so are isomorphisms
+-- the maximum number of bytes of a patch, and of isomorphisms
 abbrev pub patch_limit : ℕ
 patch_limit = 1048576
 
@@ -33,49 +33,49 @@ pub data Work : Type 0 where
   ReadPatch : (name : List ℕ) (isos : Option (List ℕ)) (defined : List (List ℕ)) (target : Target) → Work
   -- the isomorphisms of this name are to be loaded and read, and the patch gets its forms
   ReadIsos : (patch : Patch) (name : List ℕ) (defined : List (List ℕ)) (target : Target) → Work
-  -- this file is to be loaded and edited, and then these; some file before was refused, or none
+  -- this file is to be loaded and edited, and then these; whether an earlier file was refused
   EditFiles : (patch : Patch) (defined : List (List ℕ)) (mode : Mode) (name : List ℕ) (names : List (List ℕ)) (refused : Bool) → Work
 
 pub data Stage : Type 0 where
   -- the run does these acts, and then this work
   Doing : (acts : List Act) (work : Work) → Stage
-  -- the run does these acts, and is over with this status
+  -- the run does these acts, and ends with this status
   Ending : (acts : List Act) (status : ℕ) → Stage
 
--- the run reports this line, and is over with this status
+-- the run reports this line, and ends with this status
 abbrev pub refusing : List ℕ → ℕ → Stage
 refusing line status = Ending (Report line ∷ []) status
 
--- the status at the end: whether something was refused
+-- the status at the end, by whether something was refused
 abbrev pub end_status : Bool → ℕ
 end_status refused = cond refused 4 0
 
--- after these acts the files that are left are edited, or the run is over
+-- after these acts the remaining files are edited, or the run ends
 abbrev pub going : List Act → Patch → List (List ℕ) → Mode → List (List ℕ) → Bool → Stage
 going acts patch defined mode [] refused = Ending acts (end_status refused)
 going acts patch defined mode (name ∷ names) refused = Doing acts (EditFiles patch defined mode name names refused)
 
 -- ---- what leads from one to the next
 
--- the stage that a run begins at, by what its words ask for
+-- the stage at which a run begins, by what its words ask for
 abbrev pub begun : Option Order → Stage
 begun None = refusing usage 1
 begun (Some (Apply patch isos defined target)) = Doing [] (ReadPatch patch isos defined target)
 begun (Some (Generate seed functions)) = Ending (Print (generated seed functions) ∷ []) 0
 
--- what a patch leads to that has all its forms
+-- what a patch with all its forms leads to
 abbrev pub TargetLeads : Patch → List (List ℕ) → Target → Stage → Type 0
 TargetLeads patch defined (OnFiles mode names) to = to ≡ going [] patch defined mode names false
 TargetLeads patch defined (OnText seed functions) to =
     (treated : Treated) × (Sums patch defined generated_name (generated seed functions) treated
     × (to ≡ Ending treated.acts (end_status treated.refused)))
 
--- what a patch leads to that is read: it gets its forms, where isomorphisms are named
+-- what a patch that was read leads to: it gets its forms if isomorphisms are named
 abbrev pub ReadLeads : Patch → Option (List ℕ) → List (List ℕ) → Target → Stage → Type 0
 ReadLeads patch None defined target to = TargetLeads patch defined target to
 ReadLeads patch (Some name) defined target to = to ≡ Doing [] (ReadIsos patch name defined target)
 
--- what stands under the patch's name leads to
+-- what the content stored under the patch's name leads to
 abbrev pub PatchLeads : Option (List ℕ) → List ℕ → Option (List ℕ) → List (List ℕ) → Target → Stage → Type 0
 PatchLeads None name isos defined target to = to ≡ refusing (cannot_read name) 5
 PatchLeads (Some bytes) name isos defined target to =
@@ -88,14 +88,14 @@ IsosLead isos patch name defined target to =
     ((rule : ℕ) × (IsFirstMany isos patch.rules rule × (to ≡ refusing (forms_line name rule) 3)))
     ⊎ ((whole : Patch) × (IsExpanded isos patch whole × TargetLeads whole defined target to))
 
--- what stands under the isomorphisms' name leads to
+-- what the content stored under the isomorphisms' name leads to
 abbrev pub IsosFileLeads : Option (List ℕ) → Patch → List ℕ → List (List ℕ) → Target → Stage → Type 0
 IsosFileLeads None patch name defined target to = to ≡ refusing (cannot_read name) 5
 IsosFileLeads (Some bytes) patch name defined target to =
     ((fault : IsoFault) × (IsFileFault bytes fault × (to ≡ refusing (iso_fault_line name fault) 3)))
     ⊎ ((isos : List Iso) × (AreIsosOf bytes isos × IsosLead isos patch name defined target to))
 
--- what a file leads to: the acts that it brings, and then the files that are left
+-- what a file leads to: the acts that result from it, and then the remaining files
 abbrev pub FileLeads : Option Files → Option (List ℕ) → Patch → List (List ℕ) → Mode → List ℕ → List (List ℕ) → Bool → Stage → Type 0
 FileLeads holds None patch defined mode name names refused to = to ≡ refusing (cannot_read name) 5
 FileLeads holds (Some bytes) patch defined mode name names refused to =
@@ -117,13 +117,13 @@ next_act (Doing [] work) = Some (first_load work)
 next_act (Ending (act ∷ acts) status) = Some act
 next_act (Ending [] status) = None
 
--- the status of a run that is over
+-- the status of a run that has ended
 abbrev pub status_at : Stage → Option ℕ
 status_at (Doing acts work) = None
 status_at (Ending (act ∷ acts) status) = None
 status_at (Ending [] status) = Some status
 
--- what its load leads to, by the files as they are then
+-- what the load of a work leads to, given the files at that time
 abbrev pub WorkLeads : Option Files → Work → Stage → Type 0
 WorkLeads holds (ReadPatch name isos defined target) to =
     (under : Option (List ℕ)) × (Found holds name under × PatchLeads under name isos defined target to)

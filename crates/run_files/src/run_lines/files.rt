@@ -9,7 +9,7 @@ use cpp_lines::Why;
 use rule_chain::{FileFault, SkipNote};
 use std::alloc::Global;
 
-/// Why a file is refused. Nothing for want of memory, for which no file is.
+/// Appends why a file is refused. Appends nothing for `NoMemory`: no file is refused because memory ran out.
 fn put_fault(line: &mut Line, fault: &FileFault) -> Result<(), NoMemory>
     ensures { OnOk result (line.new ≡ line.old ++ told.fault_text fault.now) }
 {
@@ -31,8 +31,9 @@ fn put_fault(line: &mut Line, fault: &FileFault) -> Result<(), NoMemory>
     }
 }
 
-/// `spatch: NAME: refused: FAULT`, the line about a file of this name that is refused for this fault. Linear in the name. Only
-/// memory may be wanting. The form is the project's own.
+/// Returns the line `spatch: NAME: refused: FAULT` for a file of this name that is refused because of this fault.
+///
+/// Linear in the name. Fails only when out of memory. The format is the project's own.
 pub fn refused_line(alloc: Global, name: &str, fault: &FileFault) -> Result<Vec<u8>, NoMemory>
     ensures bytes { IfOk result (λ line. line.items ≡ told.refused_line name.now fault.now) }
 {
@@ -43,8 +44,9 @@ pub fn refused_line(alloc: Global, name: &str, fault: &FileFault) -> Result<Vec<
     Ok(line.finish())
 }
 
-/// `spatch: NAME: refused: file too long`, the line about a file of this name that is over its limit when it is loaded. Linear in
-/// the name. Only memory may be wanting. The form is the project's own.
+/// Returns the line `spatch: NAME: refused: file too long` for a file of this name that is over its limit when it is loaded.
+///
+/// Linear in the name. Fails only when out of memory. The format is the project's own.
 pub fn too_long_line(alloc: Global, name: &str) -> Result<Vec<u8>, NoMemory>
     ensures bytes { IfOk result (λ line. line.items ≡ told.too_long_line name.now) }
 {
@@ -54,7 +56,9 @@ pub fn too_long_line(alloc: Global, name: &str) -> Result<Vec<u8>, NoMemory>
     Ok(line.finish())
 }
 
-/// `spatch: NAME: refused: no regular file`, the line about a pipe, a device or a socket of this name. Linear in the name. Only memory may be wanting. The form is the project's own.
+/// Returns the line `spatch: NAME: refused: no regular file` for a pipe, a device or a socket of this name.
+///
+/// Linear in the name. Fails only when out of memory. The format is the project's own.
 pub fn special_line(alloc: Global, name: &str) -> Result<Vec<u8>, NoMemory>
     ensures bytes { IfOk result (λ line. line.items ≡ told.special_line name.now) }
 {
@@ -74,8 +78,10 @@ fn why_text(why: Why) -> &'static [u8]
     }
 }
 
-/// `spatch: NAME: reading R: item N not read: WHY`, the line about an item of the file of this name that a reading skipped. Linear
-/// in the name. Only memory may be wanting. The form is the project's own.
+/// Returns the line `spatch: NAME: reading R: item N not read: WHY` for an item that a reading of the file of this name
+/// skipped.
+///
+/// Linear in the name. Fails only when out of memory. The format is the project's own.
 pub fn skipped_line(alloc: Global, name: &str, note: &SkipNote) -> Result<Vec<u8>, NoMemory>
     ensures bytes { IfOk result (λ line. line.items ≡ told.skipped_line name.now note.now) }
 {

@@ -1,4 +1,4 @@
-// A text that is written piece by piece.
+// A text that is built piece by piece.
 ghost use Rattle.std.specs.Prelude.{◌≡◌, ◌++◌, [], OnOk};
 ghost use Rattle.std.specs.Fmt.{decimal};
 
@@ -51,7 +51,7 @@ impl Line {
         self.put(text.as_bytes())
     }
 
-    /// A text, and a number after it.
+    /// Appends a text, then a number.
     pub fn put_numbered(&mut self, text: &[u8], n: u64) -> Result<(), NoMemory>
         ensures { OnOk result (self.new ≡ self.old ++ text.now ++ decimal n) }
     {

@@ -12,14 +12,14 @@ use std::alloc::Global;
 const USAGE: &str =
     "spatch: usage: spatch --sp-file P [--iso-file I] [--define a,b] [--jobs n] [--witnesses] [--in-place] FILE...\n";
 
-/// The line on how the program is called.
+/// Returns the usage line.
 pub fn usage() -> &'static str
     ensures bytes { result.now ≡ told.usage }
 {
     USAGE
 }
 
-/// A line about what has this name, up to its text.
+/// Returns the start of a line about the given name: everything before the line's text.
 pub fn line_about(alloc: Global, name: &str) -> Result<Line, NoMemory>
     ensures { IfOk result (λ line. line ≡ told.begun name.now) }
 {
@@ -30,7 +30,7 @@ pub fn line_about(alloc: Global, name: &str) -> Result<Line, NoMemory>
     Ok(line)
 }
 
-/// Where a patch has a fault.
+/// Appends the place of a patch's fault.
 fn put_place(line: &mut Line, fault: &PatchFault) -> Result<(), NoMemory>
     ensures { OnOk result (line.new ≡ line.old ++ told.fault_place_text fault.now) }
 {
@@ -51,9 +51,10 @@ fn put_variable(line: &mut Line, name: &[u8]) -> Result<(), NoMemory>
     line.put(name)
 }
 
-/// `spatch: NAME: patch fault N PLACE`, the line about a patch of this name that has this fault; its place is ` at` a byte, ` in
-/// rule` a number, ` of` a variable, or nothing. Linear in the name and the variable. Only memory may be wanting. The form is the
-/// project's own.
+/// Returns the line `spatch: NAME: patch fault N PLACE` for a patch of this name with this fault. The place is ` at` and a
+/// byte, ` in rule` and a number, ` of` and a variable, or nothing.
+///
+/// Linear in the name and the variable. Fails only when out of memory. The format is the project's own.
 pub fn patch_fault_line(alloc: Global, name: &str, fault: &PatchFault) -> Result<Vec<u8>, NoMemory>
     ensures bytes { IfOk result (λ line. line.items ≡ told.patch_fault_line name.now fault.now) }
 {
@@ -64,7 +65,8 @@ pub fn patch_fault_line(alloc: Global, name: &str, fault: &PatchFault) -> Result
     Ok(line.finish())
 }
 
-/// The number of a fault of isomorphisms, and where it stands. Nothing for want of memory, for which none are refused.
+/// Appends the number of a fault in isomorphisms, and its place. Appends nothing for `NoMemory`: isomorphisms are never refused
+/// because memory ran out.
 fn put_iso_fault(line: &mut Line, fault: IsoFault) -> Result<(), NoMemory>
     ensures { OnOk result (line.new ≡ line.old ++ told.iso_fault_text fault) }
 {
@@ -77,8 +79,10 @@ fn put_iso_fault(line: &mut Line, fault: IsoFault) -> Result<(), NoMemory>
     }
 }
 
-/// `spatch: NAME: isomorphism fault N at BYTE`, the line about isomorphisms of this name that have this fault; a file that is too
-/// long has no place. Linear in the name. Only memory may be wanting. The form is the project's own.
+/// Returns the line `spatch: NAME: isomorphism fault N at BYTE` for isomorphisms of this name with this fault. The fault of a
+/// file that is too long has no place.
+///
+/// Linear in the name. Fails only when out of memory. The format is the project's own.
 pub fn iso_fault_line(alloc: Global, name: &str, fault: IsoFault) -> Result<Vec<u8>, NoMemory>
     ensures bytes { IfOk result (λ line. line.items ≡ told.iso_fault_line name.now fault) }
 {
@@ -89,8 +93,10 @@ pub fn iso_fault_line(alloc: Global, name: &str, fault: IsoFault) -> Result<Vec<
     Ok(line.finish())
 }
 
-/// `spatch: NAME: too many forms in rule N`, the line about isomorphisms of this name under which the rule of this number has too
-/// many forms. Linear in the name. Only memory may be wanting. The form is the project's own.
+/// Returns the line `spatch: NAME: too many forms in rule N` for isomorphisms of this name under which rule `N` has too many
+/// forms.
+///
+/// Linear in the name. Fails only when out of memory. The format is the project's own.
 pub fn forms_line(alloc: Global, name: &str, rule: u32) -> Result<Vec<u8>, NoMemory>
     ensures bytes { IfOk result (λ line. line.items ≡ told.forms_line name.now rule) }
 {

@@ -8,7 +8,7 @@ use c_terms::NoMemory;
 use smpl_patch::{Rule, RuleWitness};
 use std::alloc::Global;
 
-/// How many of the witnesses are those of the rule of this number.
+/// Returns the number of witnesses that belong to the rule with this number.
 fn count_of(witnesses: &[RuleWitness], number: usize) -> usize
     ensures { result ≡ told.count_of number witnesses.now }
 {
@@ -18,7 +18,7 @@ fn count_of(witnesses: &[RuleWitness], number: usize) -> usize
         .count()
 }
 
-/// `-` for a rule without a name.
+/// Returns the name as it is printed: `-` for a rule without a name.
 fn shown_name(name: &[u8]) -> &[u8]
     ensures { result.now ≡ shown_name name.now }
 {
@@ -40,10 +40,10 @@ fn put_rule(
     line.put(b"\n")
 }
 
-/// For each rule, by number, `rule N NAME witnesses COUNT`, `-` for a rule without a name; and then `bytes LENGTH`, the length of
-/// the text that they leave. A line ends with a newline.
+/// Returns the summary: a line `rule N NAME witnesses COUNT` for each rule in order of its number, with `-` for a rule without
+/// a name, followed by `bytes LENGTH`, the length of the text that the rules leave. Each line ends with a newline.
 ///
-/// Linear in the witnesses, once a rule. Only memory may be wanting. The form is the project's own.
+/// Linear in the witnesses for each rule. Fails only when out of memory. The format is the project's own.
 pub fn summary(
     alloc: Global,
     rules: &[Rule],

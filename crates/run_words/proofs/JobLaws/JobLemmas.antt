@@ -28,7 +28,7 @@ module _ (o : Options) (jobs : Option (List ℕ)) (has_one : has_jobs o ≡ true
   abbrev other : Options
   other = with_jobs jobs o
 
-  -- where no patch is named, `--jobs` is given in both or in none
+  -- if no patch is named, `--jobs` is given in both or in neither
   both_given : (sp : Option (List ℕ)) → (is_some o.jobs ≡ is_some jobs) ⊎ (is_some sp ≡ true) → sp ≡ None → is_some jobs ≡ is_some o.jobs
   both_given sp (inl same) e = sym same
   both_given None (inr named) e = let f : false ≡ true = named in absurd cc

@@ -1,4 +1,4 @@
--- Words that are the same but for their jobs.
+-- Words that differ only in their jobs.
 use Rattle.std.specs.Prelude.{ℕ, ◌≡◌, ◌⊎◌, true, List, Option, Some, is_some}
 use Rattle.std.specs.List.{list_all}
 use Rattle.std.specs.Str.{is_utf8}
@@ -19,8 +19,8 @@ with_jobs jobs o = record {
   files = o.files;
 }
 
--- Two lists of words give the same options but for `--jobs`, which has a number of jobs where it is given. It is given in
--- both, or a patch is named, beside which it may stand or not.
+-- Two lists of words give the same options except for `--jobs`, which has a valid number of jobs if it is given. Either both
+-- lists give it or neither does, or a patch is named, and then each list may give it or not.
 pub record SameButJobs (words others : List (List ℕ)) : Type 0 where
   pub options : Options
   pub jobs : Option (List ℕ)

@@ -16,7 +16,7 @@ join-last [] p = append-nil p
 join-last (q ∷ parts) p = ap (λ (l : List Elem). q ++ l) (join-last parts p) ∙ sym (append_assoc q (join parts) p)
 
 module _ (f : Form) (l : Label) (t : Tree) where
-  -- so many patterns, with those of the parts that are left, are so many
+  -- this many patterns, together with those of the remaining parts, are this many in total
   abbrev pub Counts : (count i all : ℕ) → Type 0
   Counts count i all = count + total (parts_from f l t i) ≡ all
 
@@ -32,7 +32,7 @@ module _ (f : Form) (l : Label) (t : Tree) where
       let s : total (parts_from f l t i) ≡ total (parts_from f l t (i + 1)) = ap total (parts-other f l t c i k h) in
       omega (arith, s, inv)
 
-  -- of a part that is counted there are no more patterns than of all
+  -- a part that is counted has no more patterns than all parts together
   pub counts-within : (c : Tree) (count i all : ℕ) → IsKid t i c → is_part f l (length (kids t)) i c ≡ true → Counts count i all
       → count + atoms c ≤ all
   counts-within c count i all k h inv =
@@ -45,7 +45,7 @@ module _ (f : Form) (l : Label) (t : Tree) where
       omega (arith, s, inv)
 
   module _ (dots : ℕ → Dots) where
-    -- these sequences, with those of the parts that are left, are all
+    -- these sequences, together with those of the remaining parts, are all
     abbrev pub Makes : (next i : ℕ) (made all : List (List Elem)) → Type 0
     Makes next i made all = made ++ seqs dots next (parts_from f l t i) ≡ all
 
@@ -65,7 +65,7 @@ module _ (f : Form) (l : Label) (t : Tree) where
     makes-end cs next i made all e h inv =
         sym (ap (λ ps. made ++ seqs dots next ps) (parts-end f l t cs i e h) ∙ append-nil made) ∙ inv
 
--- how many patterns a tree has
+-- the number of patterns in a tree
 pub atoms-row : (t : Tree) → atoms t ≡ before (form_at t) + total (parts t) + after (form_at t)
 atoms-row t = ap (λ (p : Part). p.atoms) (part-row t)
 
@@ -82,7 +82,7 @@ pub atoms-done : (t : Tree) (f : Form) (l : Label) (count behind : ℕ) → f �
     → count ≡ before f + total (parts_from f l t 0) → behind ≡ after f → count + behind ≡ atoms t
 atoms-done t f l count behind ef el ec eb = let a = all-atoms t f l ef el in omega (arith, a, ec, eb)
 
--- those before its own last one are no more than all
+-- the patterns before its own last one are no more than all
 pub atoms-within : (t : Tree) (f : Form) (l : Label) → f ≡ form_at t → l ≡ label_at t → before f + total (parts_from f l t 0) ≤ atoms t
 atoms-within t f l ef el = let a = all-atoms t f l ef el in omega (arith, a)
 

@@ -1,4 +1,4 @@
--- Forms and numbers of patterns, run.
+-- Forms and numbers of patterns of small trees.
 use Rattle.std.proofs.Common.{◌≡◌, ℕ, true, false, List, [], ◌∷◌, refl}
 use Rattle.c_terms.specs.declared.label.Label.TheVariants as label
 use Rattle.c_terms.specs.declared.token.TokenKind.TheVariants as token
@@ -24,7 +24,7 @@ jump : form_of label.Goto [] ≡ form.Plain
 jump = refl
 
 module _ (t : Tree) where
-  -- of `if (c) s else t` the two bodies are parts, and of a block all but its braces
+  -- the parts of `if (c) s else t` are the two bodies, and those of a block all but its braces
   then_body : is_part form.Head label.IfElse 7 4 t ≡ true
   then_body = refl
 
@@ -34,7 +34,7 @@ module _ (t : Tree) where
   closing_brace : is_part form.Block label.Block 3 2 t ≡ false
   closing_brace = refl
 
-  -- `do f(); while (c);` has its head, its body and its tail, and a nest of one statement that alone
+  -- `do f(); while (c);` has its head, its body and its tail, and a nest of one statement has only that statement
   abbrev plain : Part
   plain = row form.Plain t []
 

@@ -66,7 +66,7 @@ row-Branch l cs =
     let n : length (map part cs) ≡ length (kids (Branch l cs)) = length-map cs part ∙ ap length ks in
     λ i. row (form_at (Branch l (k i))) (Branch l (k i)) (picked (form_at (Branch l (k i))) (label_at (Branch l (k i))) (n i) 0 (map part (ks i)))
 
--- a tree is a row of its form with its parts
+-- a tree is a row of its form and its parts
 pub part-row : (t : Tree) → part t ≡ row (form_at t) t (parts t)
 part-row = tree_cases (λ t. part t ≡ row (form_at t) t (parts t))
     (λ a. at_leaf a ∙ row-Leaf a)

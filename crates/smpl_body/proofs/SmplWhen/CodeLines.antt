@@ -1,4 +1,4 @@
--- Code that is open: its line, the dots behind whose clauses it stands, and where it ends.
+-- Code that is open: its line, the dots whose clauses it follows, and where it ends.
 use Rattle.std.proofs.Common.{◌≡◌, ℕ, suc, ◌≤◌, Bool, true, false, not, List, [], ◌∷◌, length, Option, Some, refl, sym, ap, ◌∙◌, subst, arith, codes}
 use Rattle.std.specs.Prelude.{◌==◌, if◌then◌else◌}
 use Rattle.std.proofs.lemmas.Bool.Decides.{nat_tests}
@@ -22,7 +22,7 @@ pub pick : (P : Cutting → Type 0) (x : Bool) (a b : Cutting) → P a → P b �
 pick P true a b k l = k
 pick P false a b k l = l
 
--- the code that is open stands in the line of this one, and goes back to the same dots
+-- the code that is open is in the line of this one, and goes back to the same dots
 pub record Kept (o : OpenCode) (d : Cutting) : Type 0 where
   pub open_now : OpenCode
   pub inner : d.inner ≡ Some open_now
@@ -71,7 +71,7 @@ pub stops : (line : ℕ) (ps : List Placed) → Stops line (behind_end_of line p
 stops line [] = tt
 stops line (p ∷ ps) = stops_by line p ps (line == p.line) refl (stops line ps)
 
--- there code ends
+-- code ends there
 pub turn_st : (o : OpenCode) (m : List Token) (cs : List Code) (ss : List Said) (ws : List ℕ) (b : Bool) (v : Where) (qs : List Placed) → Stops o.line qs
     → finished (steps (st m cs (Some o) ss ws b v) qs) ≡ finished (steps (finished (st m cs (Some o) ss ws b v)) qs)
 turn_st o m cs ss ws b v [] k = refl
@@ -86,7 +86,7 @@ turn o c qs k s =
     let here : P (Some k.open_now) = turn_st k.open_now c.main c.codes c.said c.words c.broken c.next qs (stops_as k.open_now.line o.line qs k.line s) in
     subst P (sym k.inner) here
 
--- tokens up to the end of the line, and those behind it
+-- tokens up to the end of the line, and those after it
 pub split_by : (c : Cutting) (line : ℕ) (p : Placed) (ps : List Placed) (x : Bool) → steps (step c p) ps ≡ steps (steps (step c p) (up_to_end_of line ps)) (behind_end_of line ps)
     → steps c (p ∷ ps) ≡ steps (steps c (if x then p ∷ up_to_end_of line ps else [])) (if x then behind_end_of line ps else p ∷ ps)
 split_by c line p ps true e = e
@@ -104,7 +104,7 @@ pub go_up : (o : OpenCode) (ps : List Placed) → GoOn (Some o) (up_to_end_of o.
 go_up o [] = tt
 go_up o (p ∷ ps) = go_by o p ps (o.line == p.line) refl (go_up o ps)
 
--- in code all is in one line
+-- all tokens of code are in one line
 pub same_up : (o : OpenCode) (line : ℕ) (ps : List Placed) → o.line ≡ line → GoOn (Some o) ps → up_to_end_of line ps ≡ ps
 same_up o line [] e g = refl
 same_up o line (p ∷ ps) e g =

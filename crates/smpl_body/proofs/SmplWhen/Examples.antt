@@ -1,4 +1,4 @@
--- The cutting of bodies, run.
+-- Small bodies, split.
 use Rattle.std.proofs.Common.{◌≡◌, ℕ, Bool, true, false, List, [], ◌∷◌, refl, codes, map}
 use Rattle.c_terms.specs.declared.token.TokenKind.{TokenKind}
 use Rattle.c_terms.specs.declared.token.TokenKind.TheVariants.{Name, Punct, Dots, Pat}
@@ -9,7 +9,7 @@ use Rattle.smpl_body.specs.SmplWhen.Cutting.{cut}
 use Rattle.smpl_body.specs.SmplWhen.Grammar.{IsParted, Apart, with_own, with_code, nothing}
 use Rattle.smpl_body.specs.SmplWhen.Grammar.IsParted.{ends, plain, dots, apart, differs}
 
--- the token of a number, in the line of a number
+-- the token with a given number, in the line with a given number
 abbrev placed : TokenKind → List ℕ → ℕ → ℕ → Placed
 placed k text id line = record { token = record { kind = k; text = text; id = id }; at = 0; sign = 32; line = line; positions = [] }
 
@@ -34,7 +34,7 @@ code_up_to_the_line_s_end = refl
 words_of_clauses : (cut two_clauses).words ≡ 2 ∷ 3 ∷ 4 ∷ 5 ∷ []
 words_of_clauses = refl
 
--- code goes on over `when` where no dots stand before it, and what follows in the next line is a clause of the first dots
+-- code continues past `when` if no dots precede it, and what follows in the next line is a clause of the first dots
 abbrev code_in_code : List Placed
 code_in_code =
     placed Dots (codes "...") 0 0 ∷ placed Name (codes "when") 1 0 ∷ placed Punct (codes "!=") 2 0 ∷ placed Dots (codes "...") 3 0
@@ -47,7 +47,7 @@ hosts_of_codes = refl
 inner_code : map ids (cut code_in_code).codes ≡ (3 ∷ []) ∷ (6 ∷ []) ∷ (9 ∷ []) ∷ []
 inner_code = refl
 
--- a `when` that nothing follows, and one behind no dots, which is a name
+-- a `when` that nothing follows, and one that follows no dots, which is a name
 nothing_follows : (cut (placed Dots (codes "...") 0 0 ∷ placed Name (codes "when") 1 0 ∷ [])).broken ≡ true
 nothing_follows = refl
 
@@ -82,18 +82,18 @@ word_in_the_next_line = refl
 next_line_is_malformed : (cut next_line).broken ≡ true
 next_line_is_malformed = refl
 
--- a line that begins with `when` goes on with the clauses; the clause itself may stand in a later line than its dots
+-- a line that begins with `when` continues the clauses; the clause itself may be in a later line than its dots
 abbrev later_line : List Placed
 later_line = placed Dots (codes "...") 0 0 ∷ placed Name (codes "when") 1 1 ∷ placed Name (codes "any") 2 1 ∷ placed Name (codes "h") 3 1 ∷ []
 
 clause_in_a_later_line : any_of (cut later_line).said ≡ true ∷ false ∷ false ∷ false ∷ []
 clause_in_a_later_line = refl
 
--- behind a clause in its line the body goes on
+-- after a clause, the body continues in the same line
 body_goes_on : map (λ t. t.id) (cut later_line).main ≡ 0 ∷ 3 ∷ []
 body_goes_on = refl
 
--- `... when != x when any`: all of `x when any` is code, since no dots stand before its `when`
+-- `... when != x when any`: all of `x when any` is code, since no dots precede its `when`
 abbrev name_in_code : List Placed
 name_in_code =
     placed Dots (codes "...") 0 0 ∷ placed Name (codes "when") 1 0 ∷ placed Punct (codes "!=") 2 0 ∷ placed Name (codes "x") 3 0
@@ -102,8 +102,8 @@ name_in_code =
 when_is_a_name_in_code : map ids (cut name_in_code).codes ≡ (3 ∷ 4 ∷ 5 ∷ []) ∷ []
 when_is_a_name_in_code = refl
 
--- `... when != ... when any x` and then `when any`: the first `any` is of the dots in the code, the second of those of the
--- body, and the code goes on behind the clause in it
+-- `... when != ... when any x` and then `when any`: the first `any` belongs to the dots in the code, the second to those of
+-- the body, and the code continues after the clause in it
 abbrev any_in_code : List Placed
 any_in_code =
     placed Dots (codes "...") 0 0 ∷ placed Name (codes "when") 1 0 ∷ placed Punct (codes "!=") 2 0 ∷ placed Dots (codes "...") 3 0
@@ -116,11 +116,11 @@ each_any_of_its_dots = refl
 code_goes_on : map ids (cut any_in_code).codes ≡ (3 ∷ 6 ∷ []) ∷ []
 code_goes_on = refl
 
--- codes are numbered as they begin: of the first dots 0 and 2, of the dots in code 1
+-- pieces of code are numbered as they begin: 0 and 2 for the first dots, 1 for the dots in code
 numbers_of_codes : codes_of (cut code_in_code).said ≡ (0 ∷ 2 ∷ []) ∷ [] ∷ [] ∷ (1 ∷ []) ∷ [] ∷ [] ∷ [] ∷ [] ∷ [] ∷ [] ∷ []
 numbers_of_codes = refl
 
--- `when !=` at the end of a line has code without tokens, and what follows in the next line is no code
+-- `when !=` at the end of a line has code without tokens, and what follows in the next line isn't code
 abbrev no_code : List Placed
 no_code = placed Dots (codes "...") 0 0 ∷ placed Name (codes "when") 1 0 ∷ placed Punct (codes "!=") 2 0 ∷ placed Name (codes "h") 3 1 ∷ []
 
@@ -132,7 +132,7 @@ no_code_is_parted : IsParted false Apart no_code
     (with_own (placed Dots (codes "...") 0 0) (with_code false 0 (placed Name (codes "when") 1 0) (placed Punct (codes "!=") 2 0) nothing (with_own (placed Name (codes "h") 3 1) nothing)))
 no_code_is_parted = dots _ refl (differs _ _ refl ends (apart refl (plain _ refl ends)))
 
--- the end of a nest has clauses, its beginning none
+-- the end of a nest can have clauses, its beginning can't
 nest_ends : any_of (cut (placed Pat (codes "...>") 0 0 ∷ placed Name (codes "when") 1 0 ∷ placed Name (codes "any") 2 0 ∷ [])).said ≡ true ∷ false ∷ false ∷ []
 nest_ends = refl
 

@@ -1,4 +1,4 @@
--- What the steps of a cutting come to, part by part of the grammar.
+-- What the steps of a cutting lead to, part by part of the grammar.
 use Rattle.std.proofs.Common.{◌≡◌, ℕ, zero, suc, ◌+◌, ◌≤◌, Bool, true, false, ◌||◌, List, [], ◌∷◌, ◌++◌, length, Option, Some, None, refl, sym, ap, ◌∙◌, subst, arith, append_assoc, length-append, map, codes}
 use Rattle.std.specs.Prelude.{◌==◌}
 use Rattle.std.proofs.lemmas.List.{append-nil}
@@ -68,7 +68,7 @@ code_in_code h w d m cs o ss ws b c e j =
       next = j.next;
     }
 
--- behind `when !=`
+-- after `when !=`
 pub third : (i : Option OpenCode) (h : ℕ) (w p : Placed) (m : List Token) (cs : List Code) (ss : List Said) (ws : List ℕ) (b : Bool) → goes_on i w.line ≡ true → goes_on i p.line ≡ true
     → is_word (codes "when") w ≡ true → (p.line == w.line) ≡ true → is_word (codes "any") p ≡ false → is_word (codes "strict") p ≡ false → is_differs p ≡ true
     → step (step (st m cs i ss ws b (After h)) w) p
@@ -171,7 +171,7 @@ runs (suc n) nested Apart (p ∷ ps) le = own_here n (runs n) nested p ps (omega
 runs (suc n) nested (Behind h) (p ∷ ps) le =
     at_when n (runs n) nested h p ps (omega arith) (is_word (codes "when") p) refl (own_here n (runs n) nested p ps (omega arith))
 
--- a body is cut as the grammar parts it
+-- a body is split as the grammar splits it
 pub cut-is : (ps : List Placed) → IsCut ps (machine.cut ps)
 cut-is ps =
     let r = runs (length ps) false Apart ps (omega arith) in

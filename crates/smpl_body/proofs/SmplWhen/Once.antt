@@ -1,4 +1,4 @@
--- Tokens are parted in one way.
+-- Tokens are split in only one way.
 use Rattle.std.proofs.Common.{◌≡◌, Bool, true, false, List, refl, sym, ap, ◌∙◌}
 use Rattle.smpl_meta.specs.declared.patterns.Placed.{Placed}
 use Rattle.smpl_body.specs.SmplWhen.Grammar.{Form, Parts, with_own, with_any, with_strict, with_code, with_malformed, Spot, IsParted}

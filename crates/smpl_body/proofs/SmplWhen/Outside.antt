@@ -23,7 +23,7 @@ tokens-snoc : (ps : List Placed) (p : Placed) → tokens_of (ps ++ p ∷ []) ≡
 tokens-snoc [] p = refl
 tokens-snoc (q ∷ ps) p = ap (λ (l : List Token). q.token ∷ l) (tokens-snoc ps p)
 
--- where the next token stands, whosever the clause
+-- the context of the next token, whichever token has the clause
 data Place : Type 0 where
   Apart : Place
   Behind : Place
@@ -42,7 +42,7 @@ split_place (split.After h) = Behind
 split_place (split.When h line) = Word line
 split_place (split.Code h line code) = Inside line
 
--- both have the same tokens outside clauses, and stand alike
+-- both have the same tokens outside clauses, and the same context
 record Alike (c : Cutting) (s : Split) : Type 0 where
   pub main : c.main ≡ tokens_of s.main
   pub place : place_by c.inner c.next ≡ split_place s.next

@@ -13,7 +13,7 @@ abbrev pub mapped : (ℕ → Said → Said) → ℕ → List Said → List Said
 mapped f n [] = []
 mapped f n (s ∷ ss) = f n s ∷ mapped f (suc n) ss
 
--- what parts say more, with the codes numbered from k
+-- what parts add, with the pieces of code numbered from k
 abbrev pub said_more : ℕ → Parts → ℕ → Said → Said
 said_more k r n s = record { any = s.any || has n r.anys; strict = s.strict || has n r.stricts; codes = s.codes ++ numbers_at n k r.codes }
 
@@ -49,7 +49,7 @@ pub mapped-twice : (f g : ℕ → Said → Said) (n : ℕ) (ss : List Said) → 
 mapped-twice f g n [] = refl
 mapped-twice f g n (s ∷ ss) = ap (λ (l : List Said). f n (g n s) ∷ l) (mapped-twice f g (suc n) ss)
 
--- past the place of a change both say the same
+-- after the place of a change both say the same
 mapped-past : (f g : ℕ → Said → Said) (host : ℕ) → ((n : ℕ) → n ≢ host → (s : Said) → f n s ≡ g n s) → (n : ℕ) (ss : List Said) → host < n → mapped f n ss ≡ mapped g n ss
 mapped-past f g host h n [] lt = refl
 mapped-past f g host h n (s ∷ ss) lt =
@@ -109,7 +109,7 @@ numbers-append n k (c ∷ cs) ds =
     in
     ap (λ (l : List ℕ). if n == c.host then k ∷ l else l) moved ∙ numbers-front (n == c.host) k (numbers_at n (suc k) cs) (numbers_at n (k + suc (length cs)) ds)
 
--- the code that begins has the number k, those in it follow, and then those behind it
+-- the piece of code that begins has the number k; the pieces in it follow, and then those after it
 pub said-code : (k : ℕ) (nested : Bool) (host : ℕ) (w d : Placed) (c r : Parts) (ss : List Said)
     → mapped (said_more (suc k + length c.codes) r) 0 (mapped (said_more (suc k) c) 0 (changed (say_code k) host ss))
     ≡ mapped (said_more k (with_code nested host w d c r)) 0 ss
@@ -140,7 +140,7 @@ said-nothing k n (s ∷ ss) =
     ap (λ (x : Said). x ∷ mapped (said_more k nothing) (suc n) ss) (same_said (or-false s.any) (or-false s.strict) (append-nil s.codes))
     ∙ ap (λ (l : List Said). s ∷ l) (said-nothing k (suc n) ss)
 
--- of tokens of which nothing was said
+-- of tokens about which nothing was said
 pub said-begun : (r : Parts) (n : ℕ) (ps : List Placed) → mapped (said_more 0 r) n (map unsaid ps) ≡ said_from n ps r
 said-begun r n [] = refl
 said-begun r n (p ∷ ps) = ap (λ (l : List Said). said_at n r ∷ l) (said-begun r (suc n) ps)

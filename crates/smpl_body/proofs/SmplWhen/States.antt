@@ -1,4 +1,4 @@
--- What parts of the tokens ahead make of a state of a cutting, and a token of its own.
+-- How the parts of the tokens ahead change a state of a cutting, and the step over a token of its own.
 use Rattle.std.proofs.Common.{◌≡◌, ℕ, suc, Bool, true, false, ◌||◌, List, [], ◌∷◌, ◌++◌, length, Option, Some, None, refl, sym, ap, ◌∙◌, subst, append_assoc}
 use Rattle.std.specs.Prelude.{if◌then◌else◌}
 use Rattle.std.proofs.lemmas.List.{append-nil}
@@ -19,7 +19,7 @@ use Rattle.smpl_body.proofs.SmplWhen.Says.{mapped, said_more, said-nothing, or-f
 abbrev pub st : List Token → List Code → Option OpenCode → List Said → List ℕ → Bool → Where → Cutting
 st m cs i ss ws b next = record { main = m; codes = cs; inner = i; said = ss; words = ws; broken = b; next = next }
 
--- ---- what parts of the tokens ahead make of a state
+-- ---- how the parts of the tokens ahead change a state
 
 abbrev pub own_with : Option OpenCode → Parts → List Token
 own_with None r = r.own
@@ -47,7 +47,7 @@ pub record Joined (c : Cutting) (r : Parts) (d : Cutting) : Type 0 where
   pub broken : d.broken ≡ c.broken || r.broken
   pub next : Returns c.inner d.next
 
--- all tokens stand in the line of the code that is open
+-- all tokens are in the line of the code that is open
 abbrev pub GoOn : Option OpenCode → List Placed → Type 0
 GoOn i [] = Unit {0}
 GoOn i (p ∷ ps) = (goes_on i p.line ≡ true) × GoOn i ps
@@ -64,7 +64,7 @@ abbrev pub where_of : Spot → Where
 where_of Apart = Free
 where_of (Behind h) = After h
 
--- tokens are parted, and the steps over them come to these parts
+-- tokens are split, and the steps over them lead to these parts
 pub record Runs (nested : Bool) (spot : Spot) (ps : List Placed) : Type 0 where
   pub parts : Parts
   pub are : IsParted nested spot ps parts

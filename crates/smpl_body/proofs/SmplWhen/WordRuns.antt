@@ -18,7 +18,7 @@ use Rattle.smpl_body.specs.SmplWhen.Grammar.IsParted.{ends, plain, dots, apart, 
 use Rattle.smpl_body.proofs.SmplWhen.Says.{said-any, said-strict, or-true}
 use Rattle.smpl_body.proofs.SmplWhen.States.{st, Joined, GoOn, inner_of, Runs, goes, end_joined}
 
--- ---- behind dots, a nest or a clause
+-- ---- after dots, a nest or a clause
 
 -- no clause follows
 pub free_joins : (nested : Bool) (h : ℕ) (p : Placed) (ps : List Placed) (r : Parts) (m : List Token) (cs : List Code) (o : OpenCode) (ss : List Said) (ws : List ℕ) (b : Bool)
@@ -51,7 +51,7 @@ first i h w m cs ss ws b g e =
     let c : Cutting = st m cs i ss ws b (After h) in
     goes c w g ∙ ap (λ (x : Bool). if x then machine.put_word c w (When h w.line) else put c w) e
 
--- the word behind it, by what it is
+-- the word after it, by what it is
 abbrev pub when_by : (c : Cutting) (h line : ℕ) (p : Placed) → Bool → Bool → Bool → Bool → Cutting
 when_by c h line p x y z w =
     if not x then machine.after (machine.with_broken c) h p
@@ -181,7 +181,7 @@ malformed_joined true w r m cs o ss ws b v d j = record {
   next = j.next;
 }
 
--- at the end it is told, and else the token behind it is read anew
+-- at the end it is reported, and otherwise the token after it is read afresh
 pub lone_joined : (nested : Bool) (h line : ℕ) (m : List Token) (cs : List Code) (o : OpenCode) (ss : List Said) (ws : List ℕ) (b : Bool)
     → finished (st m cs (inner_of nested o) ss ws b (When h line)) ≡ finished (st m cs (inner_of nested o) ss ws true (When h line))
 lone_joined false h line m cs o ss ws b = refl
@@ -206,7 +206,7 @@ runs_lone nested h w e = record {
       subst Q (sym same) (malformed_joined nested w nothing m cs o ss ws b (After h) _ (lone_is nested h w.line m cs o ss ws'));
 }
 
--- whatever stood before, a token behind a clause is taken alike
+-- a token after a clause is taken in the same way, whatever came before
 pub anew : (nested : Bool) (h : ℕ) (p : Placed) (m : List Token) (cs : List Code) (o : OpenCode) (ss : List Said) (ws : List ℕ) (b : Bool) (v : Where)
     → machine.after (machine.with_broken (st m cs (inner_of nested o) ss ws b v)) h p ≡ machine.after (st m cs (inner_of nested o) ss ws true (After h)) h p
 anew false h p m cs o ss ws b v = refl

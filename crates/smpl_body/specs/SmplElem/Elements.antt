@@ -1,5 +1,5 @@
--- The elements of a tree. Their patterns are numbered one after another: of a compound first the head, then its bodies,
--- then the tail; of a block the `{`, what it holds, the `}`.
+-- The elements of a tree. Their patterns are numbered consecutively: in a compound the head, then its bodies, then the
+-- tail; in a block the `{`, then what it holds, then the `}`.
 use Rattle.std.specs.Prelude.{ℕ, ◌+◌, Bool, if◌then◌else◌, List, [], ◌∷◌, ◌++◌, map, length, Option, None, Some}
 use Rattle.c_terms.specs.declared.label.Label.{Label}
 use Rattle.c_terms.specs.declared.tree.Tree.{Tree}
@@ -20,9 +20,9 @@ use Rattle.smpl_body.specs.SmplElem.Forms.{form_at, kids, label_at, is_part, bef
 -- a tree as a sequence: a list of statements is one, and anything else a sequence of one element
 pub record Part : Type 0 where
   pub tree : Tree
-  -- how many patterns it has
+  -- the number of its patterns
   pub atoms : ℕ
-  -- its elements, by what the clauses of tokens say, where the first pattern has this number
+  -- its elements, by what the clauses of tokens say, if the first pattern has this number
   pub seq : (ℕ → Dots) → ℕ → List Elem
 
 -- the children that are parts, the first of which is child i
@@ -30,7 +30,7 @@ abbrev pub picked : Form → Label → (n i : ℕ) → List Part → List Part
 picked f l n i [] = []
 picked f l n i (p ∷ ps) = if is_part f l n i p.tree then p ∷ picked f l n (i + 1) ps else picked f l n (i + 1) ps
 
--- all patterns of the parts
+-- the number of patterns of all parts
 abbrev pub total : List Part → ℕ
 total [] = 0
 total (p ∷ ps) = p.atoms + total ps
@@ -43,7 +43,7 @@ seqs dots n (p ∷ ps) = p.seq dots n ∷ seqs dots (n + p.atoms) ps
 abbrev pub pattern : ℕ → Spot → Tree → Pattern
 pattern n s t = record { atom = n; spot = s; forms = t ∷ [] }
 
--- The elements of a tree of this form whose parts are these sequences, between its patterns of the numbers n and m.
+-- The elements of a tree of this form whose parts are these sequences, between its patterns with the numbers n and m.
 abbrev pub made : Form → (ℕ → Dots) → Tree → (n : ℕ) → List (List Elem) → (m : ℕ) → List Elem
 made form.Gap dots t n parts m = elem.Gap (dots (id_at t)) ∷ []
 made form.Expression dots t n parts m = elem.Atom (pattern n spot.Inside t) ∷ []
@@ -75,7 +75,7 @@ part_step (Tree-F.Branch l ps) = row_of (Branch l (map (λ (p : Part). p.tree) p
 abbrev pub part : Tree → Part
 part = fold-Tree Part part_step
 
--- how many patterns a tree has
+-- the number of patterns in a tree
 abbrev pub atoms : Tree → ℕ
 atoms t = (part t).atoms
 

@@ -1,4 +1,4 @@
--- What a tree is as a part of a body, and which of its children are parts again.
+-- What a tree is as a part of a body, and which of its children are parts in turn.
 use Rattle.std.specs.Prelude.{ℕ, ◌+◌, Bool, true, false, ◌&&◌, if◌then◌else◌, nat_lt, List, [], ◌∷◌, length, Option, None, Some, slice_get, codes}
 use Rattle.std.specs.Str.{bytes_eq}
 use Rattle.c_terms.specs.declared.token.TokenKind.{TokenKind}
@@ -37,7 +37,7 @@ form_of_token token.Dots = form.Gap
 form_of_token (token.Meta meta.Stmt) = form.Plain
 form_of_token _ = form.Expression
 
--- `\(`, `\|`, `\&` and `\)` stand between lists of statements, or between expressions
+-- `\(`, `\|`, `\&` and `\)` delimit lists of statements, or expressions
 abbrev pub form_of_choice : Form → List Tree → Form
 form_of_choice f cs = if is_list_at (slice_get cs 1) then f else form.Expression
 
@@ -72,7 +72,7 @@ abbrev pub label_in : Tree-F Tree → Label
 label_in (Tree-F.Leaf t) = label.StmtList
 label_in (Tree-F.Branch l cs) = l
 
--- the label of a branch; of a token, that of a list of statements
+-- the label of a branch, or for a token the label of a list of statements
 abbrev pub label_at : Tree → Label
 label_at t = label_in (out-Tree t)
 
@@ -87,7 +87,7 @@ is_part form.Head l n i c = is_body l n i
 is_part form.Do l n i c = is_body l n i
 is_part _ l n i c = false
 
--- how many patterns of its own stand before those of its parts, and how many after them
+-- the number of its own patterns before those of its parts, and after them
 abbrev pub before : Form → ℕ
 before form.Expression = 1
 before form.Plain = 1
@@ -103,7 +103,7 @@ after _ = 0
 
 -- ---- the tokens of a branch
 
--- what stands for a child that is not compared
+-- the placeholder for a child that is not compared
 abbrev pub nothing : Tree
 nothing = Branch label.StmtList []
 
@@ -135,7 +135,7 @@ is_more t = is_more_in (out-Tree t)
 abbrev pub child_or : Bool → Tree → Tree
 child_or own t = if own then t else nothing
 
--- an empty list of statements stands for each child that is not compared at the spot
+-- an empty list of statements replaces each child that is not compared at the spot
 abbrev pub masked_from : (ℕ → Bool) → ℕ → List Tree → List Tree
 masked_from own i [] = []
 masked_from own i (t ∷ ts) = child_or (own i) t ∷ masked_from own (i + 1) ts

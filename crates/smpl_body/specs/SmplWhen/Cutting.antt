@@ -1,6 +1,6 @@
--- The tokens of a body, and the clauses among them: `when any`, `when strict` and `when != code`. A clause stands directly
--- behind dots, behind the end of a nest, or behind another clause. Code goes up to the end of its line, and may have
--- clauses of its own, whose code then goes up to the end of that line too.
+-- The tokens of a body, and the clauses among them: `when any`, `when strict` and `when != code`. A clause directly follows
+-- dots, the end of a nest, or another clause. Code extends to the end of its line, and may have clauses of its own, whose
+-- code then extends to the end of that line too.
 use Rattle.std.specs.Prelude.{ℕ, zero, suc, ◌==◌, ◌||◌, not, Bool, true, false, if◌then◌else◌, List, [], ◌∷◌, ◌++◌, map, length, Option, Some, None, codes}
 use Rattle.c_terms.specs.declared.token.Token.{Token}
 use Rattle.smpl_meta.specs.declared.patterns.Placed.{Placed}
@@ -24,7 +24,7 @@ say_any s = record { any = true; strict = s.strict; codes = s.codes }
 abbrev pub say_strict : Said → Said
 say_strict s = record { any = s.any; strict = true; codes = s.codes }
 
--- the code of this number
+-- the code with this number is added
 abbrev pub say_code : ℕ → Said → Said
 say_code k s = record { any = s.any; strict = s.strict; codes = s.codes ++ k ∷ [] }
 
@@ -45,7 +45,7 @@ next_of p = if is_host_of p.token.kind p.token.text then After p.token.id else F
 abbrev pub with_token : OpenCode → Token → OpenCode
 with_token o t = record { line = o.line; back = o.back; code = record { host = o.code.host; nested = o.code.nested; tokens = o.code.tokens ++ t ∷ [] } }
 
--- behind the tokens of the code that is open, and else behind those of the body
+-- after the tokens of the code that is open, or else after those of the body
 abbrev pub put_by : Option OpenCode → Cutting → Placed → Cutting
 put_by None c p = record { main = c.main ++ p.token ∷ []; codes = c.codes; inner = None; said = c.said; words = c.words; broken = c.broken; next = next_of p }
 put_by (Some o) c p = record {
@@ -76,22 +76,22 @@ abbrev pub open_codes : Option OpenCode → List Code
 open_codes None = []
 open_codes (Some o) = o.code ∷ []
 
--- the line to whose end code goes, and the token of the body behind whose clauses that line stands
+-- the line to whose end code extends, and the token of the body whose clauses that line follows
 abbrev pub opened : Option OpenCode → (host line : ℕ) → OpenCode
 opened None host line = record { line = line; back = host; code = record { host = host; nested = false; tokens = [] } }
 opened (Some o) host line = record { line = o.line; back = o.back; code = record { host = host; nested = true; tokens = [] } }
 
--- behind `when !=`: the code that is open ends, since the new code takes the rest of the line
+-- after `when !=`: the code that is open ends, since the new code takes the rest of the line
 abbrev pub with_code : Cutting → (host line : ℕ) → Cutting
 with_code c host line =
     let all = c.codes ++ open_codes c.inner in
     record { main = c.main; codes = all; inner = Some (opened c.inner host line); said = changed (say_code (length all)) host c.said; words = c.words; broken = c.broken; next = Free }
 
--- directly behind dots, a nest or a clause
+-- directly after dots, a nest or a clause
 abbrev pub after : Cutting → ℕ → Placed → Cutting
 after c host p = if is_word (codes "when") p then put_word c p (When host p.line) else put c p
 
--- directly behind `when`
+-- directly after `when`
 abbrev pub behind_when : Cutting → (host line : ℕ) → Placed → Cutting
 behind_when c host line p =
     if not (p.line == line) then after (with_broken c) host p
@@ -110,12 +110,12 @@ abbrev pub is_when : Where → Bool
 is_when (When host line) = true
 is_when _ = false
 
--- code that is open ends, with a `when` that nothing follows in it
+-- code that is open ends, and so does a `when` in it that nothing follows
 abbrev pub ended_by : Option OpenCode → Cutting → Cutting
 ended_by None c = c
 ended_by (Some o) c = record { main = c.main; codes = c.codes ++ o.code ∷ []; inner = None; said = c.said; words = c.words; broken = c.broken || is_when c.next; next = After o.back }
 
--- code goes on in this line
+-- no code is open, or the open code continues in this line
 abbrev pub goes_on : Option OpenCode → ℕ → Bool
 goes_on None line = true
 goes_on (Some o) line = o.line == line
@@ -131,10 +131,10 @@ abbrev pub steps : Cutting → List Placed → Cutting
 steps c [] = c
 steps c (p ∷ ps) = steps (step c p) ps
 
--- the tokens end, with a `when` that nothing follows
+-- the tokens end, and so does a `when` that nothing follows
 abbrev pub finished : Cutting → Cutting
 finished c = let d = ended_by c.inner c in if is_when d.next then with_broken d else d
 
--- the body is cut
+-- the body, split
 abbrev pub cut : List Placed → Cutting
 cut ps = finished (steps (begun ps) ps)

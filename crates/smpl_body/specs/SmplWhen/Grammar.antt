@@ -1,10 +1,10 @@
--- The grammar of clauses: how the tokens of a body are parted into its own tokens and its `when` clauses.
+-- The grammar of clauses: how the tokens of a body are split into its own tokens and its `when` clauses.
 --
--- A clause stands directly behind dots, behind the end of a nest, or behind another clause, and begins with the word `when`:
+-- A clause directly follows dots, the end of a nest, or another clause, and begins with the word `when`:
 --   when any        when strict        when != code
--- with `any`, `strict` or `!=` in the line of `when`. Code goes up to the end of that line, and is parted as a body is:
--- its clauses are clauses of its own dots, whose code is the rest of the line. A `when` that none of the three follows is
--- malformed, and what stands behind it is read anew.
+-- with `any`, `strict` or `!=` in the line of `when`. Code extends to the end of that line, and is split as a body is: its
+-- clauses are clauses of its own dots, whose code is the rest of the line. A `when` that none of the three follows is
+-- malformed, and what comes after it is read afresh.
 use Rattle.std.specs.Prelude.{ℕ, suc, ◌≡◌, ◌==◌, ◌||◌, not, Bool, true, false, if◌then◌else◌, List, [], ◌∷◌, ◌++◌, None, codes}
 use Rattle.std.specs.List.{list_any}
 use Rattle.c_terms.specs.declared.token.Token.{Token}
@@ -14,7 +14,7 @@ use Rattle.smpl_body.specs.declared.smpl_when.clauses.Said.{Said}
 use Rattle.smpl_body.specs.declared.smpl_when.cutting.Code.{Code}
 use Rattle.smpl_body.specs.declared.smpl_when.cutting.Cutting.{Cutting}
 
--- ---- which clause begins at the front of tokens that stand behind dots, a nest or a clause
+-- ---- which clause begins at the front of tokens that follow dots, a nest or a clause
 
 pub data Form : Type 0 where
   -- no clause: the first token is not the word `when`, or there is none
@@ -26,7 +26,7 @@ pub data Form : Type 0 where
   -- a `when` that none of the three follows in its line
   Malformed : Form
 
--- behind this `when`
+-- after this `when`
 abbrev pub form_behind : Placed → List Placed → Form
 form_behind w [] = Malformed
 form_behind w (p ∷ ps) =
@@ -41,17 +41,17 @@ form_of (p ∷ ps) = if is_word (codes "when") p then form_behind p ps else NoCl
 
 -- ---- lines
 
--- the tokens from the front on that stand in a line
+-- the tokens at the front that are in a line
 abbrev pub up_to_end_of : ℕ → List Placed → List Placed
 up_to_end_of line [] = []
 up_to_end_of line (p ∷ ps) = if line == p.line then p ∷ up_to_end_of line ps else []
 
--- the tokens behind those
+-- the tokens after those
 abbrev pub behind_end_of : ℕ → List Placed → List Placed
 behind_end_of line [] = []
 behind_end_of line (p ∷ ps) = if line == p.line then behind_end_of line ps else p ∷ ps
 
--- ---- what tokens are parted into
+-- ---- what tokens are split into
 
 pub record Parts : Type 0 where
   -- the tokens outside clauses
@@ -94,7 +94,7 @@ with_strict host w a r = record {
   broken = r.broken;
 }
 
--- `when !=`, the parts of its code, and the parts of what stands behind that
+-- `when !=`, the parts of its code, and the parts of what follows that
 abbrev pub with_code : Bool → ℕ → Placed → Placed → Parts → Parts → Parts
 with_code nested host w d code r = record {
   own = r.own;
@@ -117,7 +117,7 @@ with_malformed w r = record {
 
 -- ---- the grammar
 
--- Tokens stand directly behind the token with this number, which may have clauses, or behind a clause of it; or they don't.
+-- Tokens directly follow the token with this number, which may have clauses, or a clause of it; or they don't.
 pub data Spot : Type 0 where
   Apart : Spot
   Behind : (host : ℕ) → Spot
@@ -125,7 +125,7 @@ pub data Spot : Type 0 where
 abbrev pub takes_clauses : Placed → Bool
 takes_clauses p = is_host_of p.token.kind p.token.text
 
--- Tokens of a body, or of code, are these parts.
+-- Tokens of a body, or of code, have these parts.
 pub data IsParted : (nested : Bool) → Spot → List Placed → Parts → Type 0 where
   -- no token
   ends : {nested : Bool} → IsParted nested Apart [] nothing
@@ -142,7 +142,7 @@ pub data IsParted : (nested : Bool) → Spot → List Placed → Parts → Type 
       → IsParted nested (Behind host) ps r → IsParted nested (Behind host) (w ∷ a ∷ ps) (with_any host w a r)
   strict : {nested : Bool} {host : ℕ} {ps : List Placed} {r : Parts} → (w a : Placed) → form_of (w ∷ a ∷ ps) ≡ Strict
       → IsParted nested (Behind host) ps r → IsParted nested (Behind host) (w ∷ a ∷ ps) (with_strict host w a r)
-  -- code up to the end of the line, and what stands behind that
+  -- code up to the end of the line, and what follows that
   differs : {nested : Bool} {host : ℕ} {ps : List Placed} {c r : Parts} → (w d : Placed) → form_of (w ∷ d ∷ ps) ≡ Differs
       → IsParted true Apart (up_to_end_of w.line ps) c → IsParted nested (Behind host) (behind_end_of w.line ps) r
       → IsParted nested (Behind host) (w ∷ d ∷ ps) (with_code nested host w d c r)
@@ -154,21 +154,21 @@ pub data IsParted : (nested : Bool) → Spot → List Placed → Parts → Type 
 abbrev pub has : ℕ → List ℕ → Bool
 has n ns = list_any (λ m. n == m) ns
 
--- the numbers of the codes of a token, of codes that are numbered from k
+-- the numbers of a token's pieces of code, if the pieces are numbered from k
 abbrev pub numbers_at : ℕ → ℕ → List Code → List ℕ
 numbers_at n k [] = []
 numbers_at n k (c ∷ cs) = if n == c.host then k ∷ numbers_at n (suc k) cs else numbers_at n (suc k) cs
 
--- of the token with the number n
+-- what the clauses of the token with the number n say
 abbrev pub said_at : ℕ → Parts → Said
 said_at n r = record { any = has n r.anys; strict = has n r.stricts; codes = numbers_at n 0 r.codes }
 
--- of as many tokens as there are, from the number n on
+-- what the clauses of these tokens say, which are numbered from n
 abbrev pub said_from : ℕ → List Placed → Parts → List Said
 said_from n [] r = []
 said_from n (p ∷ ps) r = said_at n r ∷ said_from (suc n) ps r
 
--- The tokens of a body are cut so.
+-- The tokens of a body are split in this way.
 pub record IsCut (ps : List Placed) (c : Cutting) : Type 0 where
   pub parts : Parts
   pub are : IsParted false Apart ps parts

@@ -5,8 +5,8 @@ ghost use Rattle.smpl_body.specs.SmplElem.Elements.{atoms};
 use crate::smpl_elem::form::{after, before, form_at, is_part, kids, label_at};
 use c_terms::Tree;
 
-/// How many patterns the elements of a tree have, where a `u32` counts them. Takes no memory, is linear, and recurses once a
-/// level.
+/// Returns the number of patterns in the elements of a tree, if it fits in a `u32`. Takes no memory, is linear, and
+/// recurses once per level.
 pub fn count_atoms(tree: &Tree) -> Option<u32>
     ensures value { IfSome result (λ n. n ≡ atoms tree.now) }
     ensures many { IfNone result (2 ^ 32 ≤ atoms tree.now) }

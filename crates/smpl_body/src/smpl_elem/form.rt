@@ -1,4 +1,4 @@
-// What a tree is as a part of a body, and which of its children are parts again.
+// What a tree is as a part of a body, and which of its children are parts in turn.
 ghost use Rattle.std.specs.Prelude.{◌≡◌, ◌<◌, slice_get, IfOk};
 ghost use Rattle.std.specs.Option.{option_copied};
 ghost use Rattle.smpl_body.specs.SmplElem.Forms as told;
@@ -28,11 +28,11 @@ pub enum Form {
     AllOf,
     /// A statement or function with bodies.
     Head,
-    /// `do s while (c);`, whose tail has a pattern of its own.
+    /// `do s while (c);`, whose tail has its own pattern.
     Do,
 }
 
-/// A list of statements.
+/// Whether the tree is a list of statements.
 fn is_list(tree: &Tree) -> bool
     ensures { result ≡ told.is_list tree.now }
 {
@@ -53,7 +53,7 @@ fn form_of_token(kind: TokenKind) -> Form
     }
 }
 
-/// The form, where the branches are lists of statements.
+/// Returns the given form if the branches are lists of statements, else the form of an expression.
 fn form_of_choice(form: Form, children: &[Tree]) -> Form
     ensures { result ≡ told.form_of_choice form children.now }
 {
@@ -104,7 +104,7 @@ pub(crate) fn form_at(tree: &Tree) -> Form
     }
 }
 
-/// The children of a branch. A token has none.
+/// Returns the children of a branch. A token has none.
 pub(crate) fn kids(tree: &Tree) -> &[Tree]
     ensures { result.now ≡ told.kids tree.now }
 {
@@ -114,7 +114,7 @@ pub(crate) fn kids(tree: &Tree) -> &[Tree]
     }
 }
 
-/// The label of a branch; of a token, that of a list of statements.
+/// Returns the label of a branch, or for a token the label of a list of statements.
 pub(crate) fn label_at(tree: &Tree) -> Label
     ensures { result ≡ told.label_at tree.now }
 {
@@ -138,7 +138,7 @@ pub(crate) fn is_part(form: Form, label: Label, n: usize, i: usize, child: &Tree
     }
 }
 
-/// How many patterns of its own stand before those of its parts.
+/// Returns the number of the form's own patterns before those of its parts.
 pub(crate) fn before(form: Form) -> u32
     ensures { result ≡ told.before form }
 {
@@ -148,7 +148,7 @@ pub(crate) fn before(form: Form) -> u32
     }
 }
 
-/// How many patterns of its own stand behind those of its parts.
+/// Returns the number of the form's own patterns after those of its parts.
 pub(crate) fn after(form: Form) -> u32
     ensures { result ≡ told.after form }
 {
@@ -158,7 +158,7 @@ pub(crate) fn after(form: Form) -> u32
     }
 }
 
-/// The number of a token.
+/// Returns the number of a token.
 pub(crate) fn id_at(tree: &Tree) -> u64
     ensures { result ≡ told.id_at tree.now }
 {
@@ -168,14 +168,14 @@ pub(crate) fn id_at(tree: &Tree) -> u64
     }
 }
 
-/// What stands for a child that is not compared.
+/// Returns the placeholder for a child that is not compared.
 pub(crate) fn nothing(alloc: Global) -> Tree
     ensures { result ≡ told.nothing }
 {
     Tree::Branch(Label::StmtList, Items::new(alloc))
 }
 
-/// A copy of the first child.
+/// Returns a copy of the first child.
 pub(crate) fn first_kid(alloc: Global, children: &[Tree]) -> Result<Tree, NoMemory>
     ensures { IfOk result (λ t. t ≡ told.first_kid children.now) }
 {
@@ -185,7 +185,7 @@ pub(crate) fn first_kid(alloc: Global, children: &[Tree]) -> Result<Tree, NoMemo
     }
 }
 
-/// A copy of the last child.
+/// Returns a copy of the last child.
 pub(crate) fn last_kid(alloc: Global, children: &[Tree]) -> Result<Tree, NoMemory>
     ensures { IfOk result (λ t. t ≡ told.last_kid children.now) }
 {
@@ -195,7 +195,7 @@ pub(crate) fn last_kid(alloc: Global, children: &[Tree]) -> Result<Tree, NoMemor
     }
 }
 
-/// The number of the last child, which is a token.
+/// Returns the number of the last child, which is a token.
 pub(crate) fn last_id(children: &[Tree]) -> u64
     ensures { result ≡ told.id_at (told.last_kid children.now) }
 {
@@ -205,7 +205,7 @@ pub(crate) fn last_id(children: &[Tree]) -> u64
     }
 }
 
-/// The first child is `<+...`.
+/// Whether the first child is `<+...`.
 pub(crate) fn is_more(children: &[Tree]) -> bool
     ensures { result ≡ told.is_more (told.first_kid children.now) }
 {

@@ -9,7 +9,7 @@ use smpl_patch::{Spot, is_held};
 use sqlite_items::Items;
 use std::alloc::Global;
 
-/// A copy of the child, or what stands for it.
+/// Returns a copy of the child, or its placeholder.
 fn child(alloc: Global, own: bool, tree: &Tree) -> Result<Tree, NoMemory>
     ensures { IfOk result (λ t. t ≡ told.child_or own tree.now) }
 {
@@ -36,7 +36,8 @@ fn masked_children(
     Ok(Items::from_vec(kept))
 }
 
-/// The tree, with an empty list of statements for each child that is not compared at the spot. Linear in what is.
+/// Returns a copy of the tree in which an empty list of statements replaces each child that is not compared at the spot.
+/// Linear in the children that are compared.
 pub(crate) fn masked(alloc: Global, spot: Spot, tree: &Tree) -> Result<Tree, NoMemory>
     ensures { IfOk result (λ t. t ≡ told.masked spot tree.now) }
 {

@@ -23,7 +23,7 @@ pub trait DotsSource {
 
     ghost dots_at: { Self → ℕ → Said };
 
-    /// The clauses of the token of this number.
+    /// Returns what the clauses of the token with this number say.
     fn dots(&self, alloc: Global, id: u64) -> Result<Dots, NoMemory>
         ensures { IfOk result (λ d. d ≡ dots_at self.now id) };
 }
@@ -43,7 +43,7 @@ fn pattern(alloc: Global, atom: u32, spot: Spot, tree: Tree) -> Result<Pattern, 
     Ok(Pattern { atom, spot, forms })
 }
 
-/// The sequences, one after another. Linear.
+/// Concatenates the sequences. Linear.
 fn joined(alloc: Global, parts: Vec<Items<Elem>>) -> Result<Items<Elem>, NoMemory>
     ensures { IfOk result (λ all. all ≡ join parts.items) }
 {
@@ -143,7 +143,7 @@ fn do_while(
     )
 }
 
-/// The elements of a tree of this form with these parts.
+/// Returns the elements of a tree of this form with these parts.
 fn made<C: DotsSource>(
     alloc: Global,
     form: Form,
@@ -170,7 +170,7 @@ fn made<C: DotsSource>(
     }
 }
 
-/// The elements of a tree of this form with these parts, and the number behind its patterns.
+/// Returns the elements of a tree of this form with these parts, and the number after those of its patterns.
 fn finished<C: DotsSource>(
     alloc: Global,
     form: Form,
@@ -189,8 +189,8 @@ fn finished<C: DotsSource>(
     Ok(Numbered { elems, next })
 }
 
-/// The elements of a tree, where the first pattern has this number. Where a number would be 2^32 or more it answers
-/// `NoMemory`. Linear. Recurses once a level.
+/// Returns the elements of a tree whose first pattern has the given number. Returns `NoMemory` if a number would be 2^32 or
+/// more. Linear. Recurses once per level.
 pub fn elements<C: DotsSource>(
     alloc: Global,
     clauses: &C,

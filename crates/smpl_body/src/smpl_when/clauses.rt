@@ -16,11 +16,11 @@ pub struct Said {
     pub any: bool,
     /// `when strict`
     pub strict: bool,
-    /// The numbers of the codes of its `when !=`, in order.
+    /// The numbers of the pieces of code of its `when !=`, in order.
     pub codes: Items<usize>,
 }
 
-/// No clause.
+/// Returns what a token without clauses has.
 fn unsaid(alloc: Global, _p: &Placed) -> Said
     ensures { result ≡ told.unsaid _p.now }
 {
@@ -49,7 +49,7 @@ impl Model for Clauses {
 impl Clauses {
     ghost use Rattle.smpl_body.specs.SmplWhen.Cutting.{unsaid, say_any, say_strict, say_code, changed};
 
-    /// No clauses, for these tokens. Linear.
+    /// Returns no clauses for these tokens. Linear.
     pub(crate) fn none(alloc: Global, placed: &[Placed]) -> Result<Clauses, NoMemory>
         ensures { IfOk result (λ c. c ≡ map unsaid placed.now) }
     {
@@ -60,7 +60,7 @@ impl Clauses {
         Ok(Clauses { said })
     }
 
-    /// `when any` at the token of this number.
+    /// Adds `when any` to the token with this number.
     pub(crate) fn with_any(self, host: u64) -> Clauses
         ensures { result ≡ changed say_any host self }
     {
@@ -74,7 +74,7 @@ impl Clauses {
         Clauses { said }
     }
 
-    /// `when strict` at the token of this number.
+    /// Adds `when strict` to the token with this number.
     pub(crate) fn with_strict(self, host: u64) -> Clauses
         ensures { result ≡ changed say_strict host self }
     {
@@ -88,7 +88,7 @@ impl Clauses {
         Clauses { said }
     }
 
-    /// The code of this number at the token of this number.
+    /// Adds the piece of code with the number `code` to the token with the number `host`.
     pub(crate) fn with_code(self, host: u64, code: usize) -> Result<Clauses, NoMemory>
         ensures { IfOk result (λ c. c ≡ changed (say_code code) host self) }
     {
@@ -102,7 +102,7 @@ impl Clauses {
         Ok(Clauses { said })
     }
 
-    /// What the clauses of the token of this number say. Takes no memory.
+    /// Returns what the clauses of the token with this number say. Takes no memory.
     pub fn get(&self, id: u64) -> Option<&Said>
         ensures value { option_copied result ≡ slice_get self.now id }
     {

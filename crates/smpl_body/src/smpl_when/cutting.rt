@@ -1,4 +1,4 @@
-// A body, cut into its own tokens and its clauses.
+// Splits a body into its own tokens and its clauses.
 ghost use Rattle.std.specs.Prelude.{◌≡◌, ◌++◌, IfOk};
 ghost use Rattle.smpl_body.specs.SmplWhen.Cutting as told;
 
@@ -14,24 +14,24 @@ use std::alloc::Global;
 pub struct Code {
     /// The number of the token that has the clause.
     pub host: u64,
-    /// That token stands in other code.
+    /// Whether that token is in other code.
     pub nested: bool,
-    /// Its own tokens, those of clauses in it aside.
+    /// Its own tokens, without those of clauses in it.
     pub tokens: Items<Token>,
 }
 
-/// Where the next token stands.
+/// The context of the next token.
 #[derive(Clone, Copy, Debug, PartialEq, Eq)]
 pub enum Where {
     /// It begins no clause.
     Free,
-    /// Directly behind the token of this number, or a clause of it.
+    /// It directly follows the token with this number, or a clause of that token.
     After(u64),
-    /// Behind `when` in the line of this number, in a clause of the token of this number.
+    /// It follows `when`, in a clause of the token with the first number, in the line with the second.
     When(u64, u32),
 }
 
-/// Code that goes on up to the end of its line, and the token of the body to which clauses behind it belong.
+/// Open code, which extends to the end of its line, and the token of the body to which the clauses after it belong.
 #[derive(Drop)]
 pub struct OpenCode {
     pub line: u32,
@@ -39,20 +39,20 @@ pub struct OpenCode {
     pub code: Code,
 }
 
-/// A body, cut up to some token.
+/// A body, split up to some token.
 #[derive(Drop)]
 pub struct Cutting {
     /// The tokens outside clauses.
     pub main: Items<Token>,
-    /// The codes in the order in which they begin.
+    /// The pieces of code, in the order in which they begin.
     pub codes: Items<Code>,
-    /// The code that goes on. None where the body is cut.
+    /// The code that is open. `None` once the whole body is split.
     pub inner: Option<OpenCode>,
     /// What the clauses of each token say.
     pub said: Clauses,
     /// The numbers of the words of clauses.
     pub words: Items<u64>,
-    /// A `when` stands there that begins no clause.
+    /// Whether there is a malformed `when`, which begins no clause.
     pub broken: bool,
     pub next: Where,
 }
@@ -75,7 +75,7 @@ fn with_token(going: OpenCode, token: Token) -> Result<OpenCode, NoMemory>
     Ok(going)
 }
 
-/// A token outside clauses, or one of the code that goes on.
+/// Adds a token outside clauses, or a token of the open code.
 fn put(alloc: Global, c: Cutting, p: &Placed) -> Result<Cutting, NoMemory>
     ensures { IfOk result (λ r. r ≡ told.put c p.now) }
 {
@@ -107,7 +107,7 @@ fn put(alloc: Global, c: Cutting, p: &Placed) -> Result<Cutting, NoMemory>
     })
 }
 
-/// A word of a clause.
+/// Adds a word of a clause.
 fn put_word(c: Cutting, p: &Placed, next: Where) -> Result<Cutting, NoMemory>
     ensures { IfOk result (λ r. r ≡ told.put_word c p.now next) }
 {
@@ -141,14 +141,14 @@ fn with_broken(c: Cutting) -> Cutting
     c
 }
 
-/// The codes with the one that goes on, which ends, and the new one.
+/// The pieces of code including the open one, which ends, and the new one.
 #[derive(Drop)]
 struct NewCode {
     codes: Items<Code>,
     going: OpenCode,
 }
 
-/// New code takes the rest of the line.
+/// Opens new code, which takes the rest of the line.
 fn opened(
     alloc: Global,
     codes: Items<Code>,
@@ -189,7 +189,7 @@ fn opened(
     }
 }
 
-/// Behind `when !=`.
+/// Begins the code after `when !=`.
 fn with_code(alloc: Global, c: Cutting, host: u64, line: u32) -> Result<Cutting, NoMemory>
     ensures { IfOk result (λ r. r ≡ told.with_code c host line) }
 {
@@ -215,7 +215,7 @@ fn with_code(alloc: Global, c: Cutting, host: u64, line: u32) -> Result<Cutting,
     })
 }
 
-/// Directly behind dots, a nest or a clause.
+/// Takes a token directly after dots, a nest or a clause.
 fn after(alloc: Global, c: Cutting, host: u64, p: &Placed) -> Result<Cutting, NoMemory>
     ensures { IfOk result (λ r. r ≡ told.after c host p.now) }
 {
@@ -226,7 +226,7 @@ fn after(alloc: Global, c: Cutting, host: u64, p: &Placed) -> Result<Cutting, No
     }
 }
 
-/// Directly behind `when`.
+/// Takes a token directly after `when`.
 fn behind_when(
     alloc: Global,
     c: Cutting,
@@ -259,7 +259,7 @@ fn is_when(next: Where) -> bool
     }
 }
 
-/// The code that goes on ends.
+/// Ends the open code.
 fn ended(c: Cutting) -> Result<Cutting, NoMemory>
     ensures { IfOk result (λ r. r ≡ told.ended_by c.inner c) }
 {
@@ -302,7 +302,7 @@ fn ended(c: Cutting) -> Result<Cutting, NoMemory>
     }
 }
 
-/// Code goes on in this line.
+/// Whether no code is open, or the open code continues in this line.
 fn goes_on(inner: &Option<OpenCode>, line: u32) -> bool
     ensures { result ≡ told.goes_on inner.now line }
 {
@@ -312,7 +312,7 @@ fn goes_on(inner: &Option<OpenCode>, line: u32) -> bool
     }
 }
 
-/// A token in another line ends the code that goes on.
+/// Ends the open code if the token is in another line.
 fn turned(c: Cutting, line: u32) -> Result<Cutting, NoMemory>
     ensures { IfOk result (λ r. r ≡ told.turned c line) }
 {
@@ -333,7 +333,7 @@ fn step(alloc: Global, c: Cutting, p: &Placed) -> Result<Cutting, NoMemory>
     }
 }
 
-/// The tokens end.
+/// Ends the tokens.
 fn finished(c: Cutting) -> Result<Cutting, NoMemory>
     ensures { IfOk result (λ r. r ≡ told.finished c) }
 {
@@ -344,7 +344,7 @@ fn finished(c: Cutting) -> Result<Cutting, NoMemory>
     Ok(c)
 }
 
-/// Cuts a body, given by its pattern tokens, into its own tokens and its clauses. Linear.
+/// Splits a body, given by its pattern tokens, into its own tokens and its clauses. Linear.
 pub fn cut(alloc: Global, placed: &[Placed]) -> Result<Cutting, NoMemory>
     ensures { IfOk result (λ c. c ≡ told.cut placed.now) }
 {

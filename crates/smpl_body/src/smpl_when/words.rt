@@ -1,11 +1,11 @@
-// The words of clauses, and the tokens behind which clauses stand.
+// The words of clauses, and the tokens that clauses follow.
 ghost use Rattle.std.specs.Prelude.{◌≡◌};
 ghost use Rattle.smpl_meta.specs.Patterns as patterns;
 
 use c_terms::TokenKind;
 use smpl_meta::Placed;
 
-/// Dots, or the end of a nest.
+/// Whether the token is dots or the end of a nest.
 pub(crate) fn is_host(p: &Placed) -> bool
     ensures { result ≡ patterns.is_host_of p.now.token.kind p.now.token.text }
 {
@@ -19,7 +19,7 @@ pub(crate) fn is_host(p: &Placed) -> bool
     }
 }
 
-/// The word, also where it is declared as a metavariable.
+/// Whether the token is the word, even if it is declared as a metavariable.
 pub(crate) fn is_word(p: &Placed, text: &[u8]) -> bool
     ensures { result ≡ patterns.is_word text.now p.now }
 {
@@ -30,7 +30,7 @@ pub(crate) fn is_word(p: &Placed, text: &[u8]) -> bool
     }
 }
 
-/// `!=`
+/// Whether the token is `!=`.
 pub(crate) fn is_differs(p: &Placed) -> bool
     ensures { result ≡ patterns.is_differs p.now }
 {

@@ -1,4 +1,4 @@
--- The first fault at small patches, above all where two orders differ.
+-- The first fault of small patches, above all those for which two orders differ.
 use Rattle.std.proofs.Common.{◌≡◌, Bool, true, false, refl, List, [], ◌∷◌, None, Some}
 use Rattle.std.specs.Prelude.{codes}
 use Rattle.c_terms.specs.declared.token.TokenKind.TheVariants as token
@@ -36,18 +36,18 @@ shows_x = record {
   });
 }
 
--- a rule whose body holds no variable
+-- a rule whose body contains no variable
 abbrev rule : Dep → List VarDecl → List Var → List PatToken → Rule
 rule d vars exports tokens = record { name = []; depends = d; mode = mode.Exists; vars = vars; exports = exports; body = []; tokens = tokens }
 
 abbrev patch : List Rule → Patch
 patch rules = record { virtuals = []; rules = rules }
 
--- of one variable the fault of plus code comes first, though x, which a later rule asks for, may stay unbound too
+-- for one variable the fault of plus code comes first, although x, which a later rule inherits, may stay unbound too
 plus_code_first : (d : Dep) → first_fault (patch (rule d (declared false x ∷ []) (x ∷ []) (shows_x ∷ []) ∷ [])) ≡ Some (fault.UnboundInPlus x)
 plus_code_first d = refl
 
--- of two variables the one that is declared first, whatever its fault
+-- of two variables the one declared first comes first, whatever its fault
 earlier_variable_first : (d : Dep) → first_fault (patch (rule d (declared false y ∷ declared false x ∷ []) (y ∷ []) (shows_x ∷ []) ∷ [])) ≡ Some (fault.MayStayUnbound y)
 earlier_variable_first d = refl
 
@@ -55,7 +55,7 @@ earlier_variable_first d = refl
 inherited_is_fine : (d : Dep) → first_fault (patch (rule d (declared true x ∷ []) [] (shows_x ∷ []) ∷ [])) ≡ None
 inherited_is_fine d = refl
 
--- neither has one that stands nowhere and isn't exported
+-- neither does one that occurs nowhere and isn't exported
 unused_is_fine : (d : Dep) → first_fault (patch (rule d (declared false x ∷ []) [] [] ∷ [])) ≡ None
 unused_is_fine d = refl
 

@@ -1,4 +1,4 @@
--- Faults of variables are those that the first variable without a value tells.
+-- Faults of variables are those that follow from the first variable without a value.
 use Rattle.std.proofs.Common.{◌≡◌, Bool, true, false, not, ◌&&◌, if◌then◌else◌, refl, sym, ap, ◌∙◌, List, [], ◌∷◌, Option, None, Some}
 use Rattle.smpl_terms.specs.declared.var.Var.{Var}
 use Rattle.smpl_terms.specs.Vars.{same_var}
@@ -13,7 +13,7 @@ use Rattle.ctl_translate.specs.Rules.{formula_of, is_exported, is_unbound, first
 use Rattle.smpl_file.specs.SmplCheck.Checks.{is_unbound_in_plus, or_later, fault_of_vars}
 use Rattle.smpl_file.specs.SmplCheck.Known.{is_own_of, fault_by}
 
--- the variable has no value in some way in which the formula holds; whether it is inherited is not asked
+-- the variable has no value in some way in which the formula holds, whether or not it is inherited
 abbrev may_lack : Rule → Var → Bool
 may_lack r x =
     if is_exported r x then not (bound (patterns.sure r.vars r.tokens) (formula_of r) x)
@@ -34,7 +34,7 @@ own false h = refl
 same-value : (r : Rule) (c d : VarDecl) → is_unbound r c ≡ true → d.inherited ≡ false → d.var ≡ c.var → is_unbound r d ≡ true
 same-value r c d h i e = ap (λ z. not z && may_lack r d.var) i ∙ (ap (may_lack r) e ∙ right (not c.inherited) (may_lack r c.var) h)
 
--- an own declaration of the first variable that may stay unbound declares one that may
+-- the rule's own declaration of the first variable that may stay unbound declares one that may
 first-lacks : (r : Rule) (ds : List VarDecl) (x : Var) (d : VarDecl) → first_unbound_from r ds ≡ Some x → d.inherited ≡ false → d.var ≡ x → is_unbound r d ≡ true
 first-lacks r [] x d h i e = absurd cc
 first-lacks r (c ∷ cs) x d h i e =
@@ -75,7 +75,7 @@ later-first : (u : Bool) (x : Var) (o v : Option Var) → (if u then Some x else
 later-first true x o v h q = absurd cc
 later-first false x o v h q = h
 
--- what is told by the first variable that may stay unbound is the first fault of the variables
+-- what follows from the first variable that may stay unbound is the first fault of the variables
 pub same-faults : (r : Rule) (u : Option Var) (ds : List VarDecl) → first_unbound_from r ds ≡ u → fault_by r u ds ≡ fault_of_vars r ds
 same-faults r u [] h = refl
 same-faults r u (d ∷ ds) h =

@@ -1,4 +1,4 @@
--- The faults of variables, where it is known which variable is the first that may stay unbound.
+-- The faults of variables, given the first variable that may stay unbound.
 use Rattle.std.specs.Prelude.{Bool, false, not, ◌&&◌, if◌then◌else◌, Option, None, Some, List, [], ◌∷◌}
 use Rattle.smpl_terms.specs.declared.var.Var.{Var}
 use Rattle.smpl_terms.specs.Vars.{same_var}
@@ -8,7 +8,7 @@ use Rattle.smpl_patch.specs.declared.fault.PatchFault.{PatchFault}
 use Rattle.smpl_patch.specs.declared.fault.PatchFault.TheVariants as fault
 use Rattle.smpl_file.specs.SmplCheck.Checks.{is_unbound_in_plus}
 
--- the declaration is an own one of this variable
+-- the declaration is the rule's own, of this variable
 abbrev pub is_own_of : Option Var → VarDecl → Bool
 is_own_of None d = false
 is_own_of (Some x) d = not d.inherited && same_var d.var x

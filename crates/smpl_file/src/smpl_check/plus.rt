@@ -1,4 +1,4 @@
-// Variables of plus code that the pattern doesn't hold.
+// Variables of plus code that the pattern doesn't contain.
 ghost use Rattle.std.specs.Prelude.{◌≡◌, ◌||◌, Some, IfOk, OnOk};
 ghost use Rattle.std.specs.List.{list_any};
 ghost use Rattle.smpl_terms.specs.declared.var.Var.{Var as Variable};
@@ -12,7 +12,7 @@ use pattern_vars::{Decls, VarSet, put_block};
 use smpl_patch::{PatToken, Rule, VarDecl};
 use std::alloc::Global;
 
-/// Puts the variables in that stand in plus code at the token.
+/// Adds the variables in the plus code at the token.
 fn put_token(
     alloc: Global,
     decls: &Decls,
@@ -42,7 +42,7 @@ fn put_tokens(
     Ok(())
 }
 
-/// The variables that stand in plus code of the rule.
+/// Returns the variables in the rule's plus code.
 pub fn in_plus_code(alloc: Global, rule: &Rule) -> Result<VarSet, NoMemory>
     ensures { IfOk result (λ set. (x : Variable) → has set x ≡ checks.in_plus_code rule.now x) }
 {

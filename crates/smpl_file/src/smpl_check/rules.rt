@@ -10,7 +10,7 @@ use smpl_patch::{Patch, PatchFault, Rule, VarDecl};
 use smpl_terms::{Var, same_var};
 use std::alloc::Global;
 
-/// Whether this is an own declaration of the variable.
+/// Whether this is the rule's own declaration of the variable.
 fn is_own_of(x: Option<&Var>, d: &VarDecl) -> bool
     ensures { result ≡ known.is_own_of (option_copied x.entry) d.now }
 {
@@ -20,7 +20,7 @@ fn is_own_of(x: Option<&Var>, d: &VarDecl) -> bool
     }
 }
 
-/// The first fault of a rule's variables, of which this is the first that may stay unbound.
+/// Fails with the first fault of a rule's variables, given the first that may stay unbound.
 fn check_vars(alloc: Global, rule: &Rule, unbound: Option<&Var>) -> Result<(), PatchFault>
     ensures accepted { OnOk result
         (known.fault_by rule.now (option_copied unbound.entry) rule.now.vars ≡ None) }
@@ -40,7 +40,7 @@ fn check_vars(alloc: Global, rule: &Rule, unbound: Option<&Var>) -> Result<(), P
     Ok(())
 }
 
-/// The first fault of the rule of this number.
+/// Fails with the first fault of the rule, which has this number.
 fn check_rule(alloc: Global, n: u32, rule: &Rule) -> Result<(), PatchFault>
     ensures accepted { OnOk result (fault_of_rule n rule.now ≡ None) }
     ensures fault { IfErr result (λ fault. IsFirst (fault_of_rule n rule.now) fault) }
@@ -53,16 +53,18 @@ fn check_rule(alloc: Global, n: u32, rule: &Rule) -> Result<(), PatchFault>
     }
 }
 
-/// Whether each rule of a patch has a formula that may be used, and each variable of it a value where it is needed.
+/// Checks that each rule of a patch has a formula that may be used, and that each of its variables has a value where it is
+/// needed.
 ///
-/// Rules go in order. Of a rule, [`PatchFault::TooLarge`] with its number, from 0, comes first: its formula has more
-/// than 100,000 subformulas, or one inside more than 4,000 others. Else its variables go in declared order, and of each
-/// that isn't inherited two faults are looked for: [`PatchFault::UnboundInPlus`], it stands in plus code and nowhere in
-/// the pattern outside of `when` code; then [`PatchFault::MayStayUnbound`], it has no value in some way in which the
-/// formula under one of its quantifiers can hold, or, where a later rule inherits it, in which the whole formula can.
-/// [`PatchFault::NoMemory`] comes where memory was refused. No other fault comes. Patterns are read in their first form.
+/// Rules are checked in order. [`PatchFault::TooLarge`], with the rule's number counted from 0, comes first: the rule's
+/// formula has more than 100,000 subformulas, or one inside more than 4,000 others. Otherwise the rule's variables are
+/// checked in declared order, each that isn't inherited for two faults. [`PatchFault::UnboundInPlus`]: it is in plus
+/// code and nowhere in the pattern outside of `when` code. Then [`PatchFault::MayStayUnbound`]: it has no value in some
+/// way in which the formula under one of its quantifiers can hold, or, if a later rule inherits it, in which the whole
+/// formula can. [`PatchFault::NoMemory`] means out of memory. There are no other faults. Patterns are read in their
+/// first form.
 ///
-/// Makes each rule's formula once; besides, it is linear in the rule, where no hashes collide. Takes the stack of
+/// Makes each rule's formula once, and is otherwise linear in the rule if no hashes collide. Uses the stack of
 /// [`formula_of`]. The faults and their order are this project's own.
 pub fn check(alloc: Global, patch: &Patch) -> Result<(), PatchFault>
     requires { length patch.now.rules < 2 ^ 32 }

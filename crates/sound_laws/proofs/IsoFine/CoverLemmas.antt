@@ -1,4 +1,4 @@
--- A side covers another where none of the other's variables is lost.
+-- A side covers another if none of the other's variables is lost.
 use Rattle.std.proofs.Common.{◌≡◌, ℕ, ◌≤◌, Bool, true, false, true≢false, not, ◌&&◌, ◌||◌, if◌then◌else◌, refl, sym}
 use Rattle.std.proofs.Common.{ap, ap₂, ◌∙◌, arith, eq-eqb, is_some, Option, None, Some, List, [], ◌∷◌, map}
 use Rattle.std.specs.List.{list_all}

@@ -1,6 +1,6 @@
 -- A side of a file has no more tokens than the file has bytes, and none of a metavariable's kind.
--- Proof: a token of such a kind weighs more than a file has bytes, and any other weighs one. The tokens of a file weigh no more
--- than it has bytes, and what stands in a part of it weighs no more than the whole.
+-- Proof: a token of such a kind weighs more than a file has bytes, and any other weighs one. The tokens of a file weigh no
+-- more than it has bytes, and a part of it weighs no more than the whole.
 use Rattle.std.proofs.Common.{◌≡◌, ℕ, zero, suc, ◌+◌, ◌≤◌, ◌||◌, ◌&&◌, Bool, true, false, if◌then◌else◌, refl}
 use Rattle.std.proofs.Common.{sym, ap, ◌∙◌, arith, Option, None, Some, List, [], ◌∷◌, ◌++◌, length, drop, length-append}
 use Rattle.c_terms.specs.declared.token.TokenKind.{TokenKind}

@@ -1,5 +1,5 @@
--- What the variables of a side stand for where a tree matches it.
--- Proof: by induction on the side, with the tree and the values so far left open.
+-- What the variables of a side stand for when a tree matches it.
+-- Proof: by induction on the side, for all trees and all values so far.
 use Rattle.std.proofs.Common.{◌≡◌, ℕ, Bool, true, false, true≢false, ◌&&◌, ◌||◌, if◌then◌else◌, List, [], ◌∷◌, ◌++◌, map, Option, Some}
 use Rattle.std.proofs.Common.{None, refl, sym, ap, subst, ◌∙◌}
 use Rattle.std.proofs.lemmas.List.Folds.{list_any-append}

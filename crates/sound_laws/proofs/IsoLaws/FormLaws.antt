@@ -1,6 +1,6 @@
 -- Each form of a good tree is good.
--- Proof: by induction on the tree. A branch of one good form of each child is good, and what an isomorphism makes of a good
--- tree is.
+-- Proof: by induction on the tree. A branch of one good form of each child is good, and so is what an isomorphism makes of
+-- a good tree.
 use Rattle.std.proofs.Common.{◌≡◌, ℕ, ◌+◌, suc, ◌<◌, Bool, true, false, true≢false, not, ◌||◌, if◌then◌else◌, List, [], ◌∷◌, ◌++◌}
 use Rattle.std.proofs.Common.{length, map, Option, Some, None, refl, sym, ap, subst, arith}
 use Rattle.std.specs.Prelude.{nat_lt, slice_get}

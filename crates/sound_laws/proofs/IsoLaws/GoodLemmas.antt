@@ -1,4 +1,4 @@
--- Trees whose tokens all pass a test, and that have no branch of too many children.
+-- Trees whose tokens all pass a test, and in which no branch has too many children.
 use Rattle.std.proofs.Common.{◌≡◌, ℕ, ◌<◌, Bool, true, false, true≢false, ◌&&◌, ◌||◌, if◌then◌else◌, List, [], ◌∷◌, ◌++◌, length, map}
 use Rattle.std.proofs.Common.{Some, None, refl, sym, ap, subst, ◌∙◌, arith}
 use Rattle.std.specs.List.{list_all}

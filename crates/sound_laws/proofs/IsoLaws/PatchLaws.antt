@@ -1,4 +1,4 @@
--- Rules and patches that stay sound as their patterns get forms.
+-- Rules and patches remain sound when their patterns are given their forms.
 use Rattle.std.proofs.Common.{◌≡◌, ℕ, ◌+◌, ◌≤◌, Bool, true, ◌&&◌, ◌||◌, List, [], ◌∷◌, ◌++◌, length, map, refl, sym, ap}
 use Rattle.std.proofs.Common.{◌∙◌, arith, nat_eq}
 use Rattle.std.specs.Prelude.{nat_lt, cond}

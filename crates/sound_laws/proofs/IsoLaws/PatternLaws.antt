@@ -1,4 +1,4 @@
--- The patterns of a rule, and the lengths of its lists, as its patterns get forms.
+-- The patterns of a rule, and the lengths of its lists, when its patterns are given their forms.
 use Rattle.std.proofs.Common.{◌≡◌, ℕ, ◌+◌, suc, ◌<◌, ◌≤◌, Bool, true, false, true≢false, ◌&&◌, Option, Some, None, List, [], ◌∷◌, ◌++◌}
 use Rattle.std.proofs.Common.{length, map, refl, sym, ap, ◌∙◌, arith}
 use Rattle.std.specs.Prelude.{nat_lt}

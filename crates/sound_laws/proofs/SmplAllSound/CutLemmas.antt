@@ -1,5 +1,5 @@
--- A text cut into pieces with no Stray and no Line has as many tokens with a newline behind it.
--- Proof: piece by piece the two are the same, up to a piece that takes the newline in: what stood in its place has no token.
+-- A text cut into pieces with no Stray and no Line has the same number of tokens when a newline is appended.
+-- Proof: piece by piece the two are the same, up to a piece that includes the newline: what was in its place has no token.
 use Rattle.std.proofs.Common.{◌≡◌, ℕ, zero, suc, ◌+◌, ◌<◌, ◌==◌, ◌⊎◌, inl, inr, Bool, true, false, refl, sym, ap, ◌∙◌, subst, arith, add-one, true≢false, List, [], ◌∷◌, ◌++◌, length, take, Option, Some, None, if◌then◌else◌, option_map, option_and_then, append_assoc}
 use Rattle.std.proofs.lemmas.List.{take_at, append-nil}
 use Rattle.c_lexer.specs.declared.state.Kind.{Kind}

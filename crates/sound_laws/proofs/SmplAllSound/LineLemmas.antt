@@ -1,5 +1,5 @@
--- A plus line of a text with which nothing is wrong has as many gaps as tokens.
--- Proof: its pieces are those of the line as it stands, with its newline or, at the text's end, without one.
+-- A plus line of a text without faults has as many gaps as tokens.
+-- Proof: its pieces are those of the line as it is in the text, with its newline or, at the text's end, without one.
 use Rattle.std.proofs.Common.{◌≡◌, ℕ, suc, ◌+◌, ◌==◌, ◌⊎◌, inl, inr, Bool, true, false, ◌&&◌, refl, sym, ap, ◌∙◌, subst, arith, true≢false, List, [], ◌∷◌, ◌++◌, drop, length, Option, Some, None, if◌then◌else◌}
 use Rattle.std.specs.Cmp.{second_so}
 use Rattle.std.proofs.lemmas.Bool.{eqb-true}

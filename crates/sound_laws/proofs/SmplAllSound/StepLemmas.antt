@@ -1,6 +1,6 @@
--- What a newline behind a text may make of it.
--- Proof: by the states of the lexer. In few of them a newline goes on with a piece, and there the text without it is a piece
--- of nearly the same kind, or blanks whose last splice is not whole.
+-- How a newline after a text may change its pieces.
+-- Proof: by the states of the lexer. In few of them does a newline continue a piece, and in those the text without it is a
+-- piece of nearly the same kind, or blanks whose last splice is incomplete.
 use Rattle.std.proofs.Common.{◌≡◌, ℕ, ◌==◌, Bool, true, false, ◌&&◌, ◌||◌, refl, sym, ap, ◌∙◌, subst, true≢false, List, [], ◌∷◌, ◌++◌, Option, Some, None, if◌then◌else◌, option_map, option_and_then, codes}
 use Rattle.std.proofs.lemmas.Bool.{eqb-true}
 use Rattle.c_lexer.specs.declared.state.Kind.{Kind}

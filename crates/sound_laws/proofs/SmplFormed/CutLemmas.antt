@@ -1,4 +1,4 @@
--- What the tokens of a body have, those of its parts have: its own tokens, and those of each code.
+-- What holds of the tokens of a body holds of those of its parts: its own tokens, and those of each piece of `when` code.
 -- Proof: by recursion on the grammar of clauses.
 use Rattle.std.proofs.Common.{◌≡◌, ℕ, zero, suc, ◌+◌, ◌<◌, ◌≤◌, refl, sym, ap, ◌∙◌, subst, arith, List, [], ◌∷◌, ◌++◌, length, Some, None, slice_get, ◌⊎◌, inl, inr}
 use Rattle.std.proofs.lemmas.List.{length-append}

@@ -1,4 +1,4 @@
--- The elements of children, one after another: a child that is no list of statements has one, which is dots or a nest where
+-- The elements of children, one after another: a child that is no list of statements has one, which is dots or a nest if
 -- the child is.
 use Rattle.std.proofs.Common.{◌≡◌, ℕ, suc, ◌+◌, ◌-◌, ◌≤◌, refl, sym, ap, ◌∙◌, subst, arith, List, [], ◌∷◌, ◌++◌, map, length, take, Some, None, slice_get}
 use Rattle.std.proofs.lemmas.Bool.{false≢true}

@@ -1,6 +1,6 @@
 -- The patterns of a body have different numbers.
--- Proof: the body's own patterns are numbered from 0, and those of the codes behind them, one code after another. Each code
--- stands behind one token, and that token once in the body.
+-- Proof: the body's own patterns are numbered from 0, and those of the `when` code after them, one piece of code after
+-- another. Each piece comes after one token, and that token occurs once in the body.
 use Rattle.std.proofs.Common.{◌≡◌, ℕ, zero, suc, ◌+◌, ◌≤◌, refl, sym, ap, subst, arith, List, [], ◌∷◌, ◌++◌, length, slice_get, inl, inr, ◌⊎◌}
 use Rattle.std.proofs.lemmas.List.{append-nil}
 use Rattle.std.specs.Prelude.{Bool, true, false, ◌==◌, nat_eq, if◌then◌else◌}

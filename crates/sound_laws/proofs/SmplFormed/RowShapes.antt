@@ -1,5 +1,5 @@
 -- The trees that rows build have their form.
--- Proof: by recursion on the derivation, with tests of the rows and of the ways of their forks.
+-- Proof: by recursion on the derivation, with tests of the rows and of the alternatives of their forks.
 use Rattle.std.proofs.Common.{◌≡◌, ℕ, suc, ◌+◌, ◌*◌, ◌≤◌, subst, refl, ap, sym, ◌∙◌, arith, List, [], ◌∷◌, length}
 use Rattle.std.proofs.lemmas.Bool.{false≢true}
 use Rattle.std.proofs.lemmas.Bool.Decides.{nat_tests}

@@ -1,4 +1,4 @@
--- What parts a row has: tests of the rules, and of the ways of forks.
+-- The parts that a row has: tests of the rules, and of the alternatives of forks.
 use Rattle.std.proofs.Common.{◌≡◌, refl, List, [], ◌∷◌, subst}
 use Rattle.std.proofs.lemmas.Bool.{false≢true}
 use Rattle.std.specs.Prelude.{Bool, true, false, not, ◌&&◌, ◌||◌, IsTrue, if◌then◌else◌}

@@ -1,5 +1,5 @@
--- Each sure variable of a pattern stands in it.
--- Proof: by induction on the form. Of a disjunction the first branch is there, and has the variables that all have.
+-- Each sure variable of a pattern occurs in it.
+-- Proof: by induction on the form. A disjunction has a first branch, and that has the variables that all branches have.
 use Rattle.std.proofs.Common.{◌≡◌, ℕ, suc, refl, sym, ap, ◌∙◌, subst, List, [], ◌∷◌, ◌++◌, map, length}
 use Rattle.std.proofs.lemmas.Bool.{false≢true}
 use Rattle.std.specs.Prelude.{Bool, true, false, ◌||◌, if◌then◌else◌}

@@ -1,4 +1,4 @@
--- The elements of a tree that has its form, with no dots and no nest at an edge, are fine.
+-- The elements of a tree that has its form, with no dots and no nest at either end, are fine.
 -- Proof: by induction on the tree.
 use Rattle.std.proofs.Common.{◌≡◌, ℕ, suc, ◌+◌, ◌<◌, ◌≤◌, refl, sym, ap, ◌∙◌, subst, arith, List, [], ◌∷◌, ◌++◌, map, length, Some, None, slice_get}
 use Rattle.std.proofs.lemmas.Bool.{false≢true}

@@ -1,6 +1,6 @@
 -- The trees that rows build have their shape.
--- Proof: by recursion on the derivation. That a row ends with a sign, has a part, or has nothing but lists and signs, is told
--- by its parts, and by those of the ways of its fork.
+-- Proof: by recursion on the derivation. Whether a row ends with a sign, has a part, or has nothing but lists and signs,
+-- follows from its parts, and from those of the alternatives of its fork.
 use Rattle.std.proofs.Common.{◌≡◌, ℕ, zero, suc, subst, refl, ap, sym, ◌∙◌, List, [], ◌∷◌, length, slice_get}
 use Rattle.std.proofs.lemmas.Bool.{false≢true}
 use Rattle.std.specs.Prelude.{true, false, ◌&&◌, ◌||◌, nat_lt, IsTrue, Some}

@@ -1,5 +1,5 @@
 -- A token that fits a word for a sign of patterns is a sign.
--- Proof: by the class of what stands there. A token of another kind can have no class of a sign.
+-- Proof: by the class of the token. A token of another kind can't have the class of a sign.
 use Rattle.std.proofs.Common.{◌≡◌, refl, ap, ◌∙◌, subst, List, ◌∷◌}
 use Rattle.std.proofs.lemmas.Bool.{false≢true}
 use Rattle.std.specs.Prelude.{Bool, true, false, IsTrue}

@@ -1,4 +1,4 @@
--- The declarations of a rule have no more items than tokens, and an item no more exclusions.
+-- The declarations of a rule have no more items than tokens, and an item has no more exclusions than tokens.
 use Rattle.std.proofs.Common.{◌≡◌, ℕ, suc, ◌+◌, ◌≤◌, Bool, true, false, refl, sym, ap, ◌∙◌, subst, arith, List, [], ◌∷◌, ◌++◌, length, Option, Some, None, if◌then◌else◌, drop, codes, option_map}
 use Rattle.std.specs.Prelude.{option_and_then, ◌&&◌, not}
 use Rattle.std.proofs.lemmas.List.{length-append}

@@ -1,4 +1,4 @@
--- What items of declarations are not to be.
+-- What items of declarations must not be.
 use Rattle.std.proofs.Common.{◌≡◌, Bool, true, false, refl, sym, ap, subst, List, [], ◌∷◌, ◌++◌, Option, Some, None, if◌then◌else◌, drop, codes, option_map}
 use Rattle.std.specs.Prelude.{option_and_then}
 use Rattle.c_terms.specs.declared.token.MetaKind.{MetaKind}

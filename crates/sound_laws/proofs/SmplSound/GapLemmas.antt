@@ -1,5 +1,5 @@
 -- The gaps of plus lines are empty or blanks.
--- Proof: a gap is what blanks stand directly before a token, comments left out, and blanks side by side are blanks.
+-- Proof: a gap is the blanks directly before a token, without comments, and adjacent blanks together are blanks.
 use Rattle.std.proofs.Common.{◌≡◌, ℕ, ◌≤◌, ◌↔◌, Bool, true, refl, ap, ◌∙◌, List, [], ◌∷◌, ◌++◌, length, Some}
 use Rattle.std.specs.List.{list_all}
 use Rattle.c_lexer.specs.declared.state.Kind.{Kind}

@@ -1,4 +1,4 @@
--- What a rule declares as inherited, and what it excludes, is an earlier rule's own.
+-- A variable that a rule declares as inherited, or excludes, is declared by an earlier rule as its own.
 use Rattle.std.proofs.Common.{◌≡◌, ℕ, suc, ◌+◌, Bool, true, false, refl, sym, ap, ◌∙◌, subst, true≢false, List, [], ◌∷◌, ◌++◌, append_assoc, length, Option, Some, None, if◌then◌else◌, arith, ◌⊎◌, inl, inr}
 use Rattle.std.specs.Str.{bytes_eq}
 use Rattle.std.proofs.lemmas.Bool.Decides.{nat_tests}

@@ -1,6 +1,6 @@
 -- A text has no more tokens than it has bytes: in its `virtual` lines, in the declarations of a rule, and in the lines of a
 -- body.
--- Proof: each token has a byte at least, and each byte stands in one line.
+-- Proof: each token has at least one byte, and each byte is in one line.
 use Rattle.std.proofs.Common.{◌≡◌, ℕ, zero, suc, ◌+◌, ◌≤◌, ◌==◌, Bool, true, false, List, [], ◌∷◌, ◌++◌, length, Option, Some, None, refl, sym, subst, ap, arith, if◌then◌else◌}
 use Rattle.std.proofs.lemmas.List.{length-append, length-drop}
 use Rattle.c_terms.specs.declared.token.TokenKind.{TokenKind}

@@ -1,4 +1,4 @@
--- Bodies whose tokens are numbered, and patterns whose sure variables stand in them.
+-- Bodies whose tokens are numbered, and patterns that contain their sure variables.
 use Rattle.std.specs.Prelude.{◌≡◌, ℕ, suc, true, List, [], ◌∷◌, map}
 use Rattle.c_terms.specs.declared.token.Token.{Token}
 use Rattle.smpl_terms.specs.declared.var.Var.{Var as Variable}
@@ -11,12 +11,12 @@ use Rattle.smpl_meta.specs.declared.patterns.Placed.{Placed}
 abbrev pub tokens_of : List Placed → List Token
 tokens_of ps = map (λ (p : Placed). p.token) ps
 
--- the tokens are numbered from a number on
+-- the tokens have consecutive numbers from the given one
 abbrev pub CountFrom : ℕ → List Placed → Type 0
 CountFrom n [] = Unit {0}
 CountFrom n (p ∷ ps) = (p.token.id ≡ n) × CountFrom (suc n) ps
 
--- in each of the patterns its sure variables stand
+-- each of the patterns contains its sure variables
 abbrev pub AllStand : List VarDecl → List PatToken → List Pattern → Type 0
 AllStand decls tokens [] = Unit {0}
 AllStand decls tokens (p ∷ ps) = ((x : Variable) → sure decls tokens p x ≡ true → stands decls tokens p x ≡ true) × AllStand decls tokens ps

@@ -1,4 +1,4 @@
--- The shape of the trees that rows build: where lists of statements, dots and nests stand in them.
+-- The shape of the trees that rows build: where lists of statements, dots and nests occur in them.
 use Rattle.std.specs.Prelude.{◌≡◌, ◌≤◌, ℕ, suc, Bool, true, false, not, ◌&&◌, nat_le, if◌then◌else◌, Option, None, Some, List, [], ◌∷◌, length, slice_get}
 use Rattle.std.specs.List.{list_all}
 use Rattle.c_terms.specs.declared.token.Token.{Token}
@@ -40,7 +40,7 @@ finishes [] = false
 finishes (t ∷ []) = is_dots_tree t
 finishes (t ∷ u ∷ ts) = finishes (u ∷ ts)
 
--- no two of dots and nests stand side by side
+-- no two of dots and nests are adjacent
 abbrev pub apart : List Tree → Bool
 apart [] = true
 apart (t ∷ ts) = not (is_dots_tree t && begins ts) && apart ts
@@ -51,7 +51,7 @@ unlisted cs = list_all (λ c. not (is_list c)) cs
 abbrev pub undotted : List Tree → Bool
 undotted cs = list_all (λ c. not (is_dots_tree c)) cs
 
--- how many are lists of statements
+-- the number of lists of statements
 abbrev pub lists : List Tree → ℕ
 lists [] = 0
 lists (c ∷ cs) = if is_list c then suc (lists cs) else lists cs
@@ -60,11 +60,11 @@ abbrev pub is_sign_at : Option Tree → Bool
 is_sign_at None = true
 is_sign_at (Some t) = is_sign_tree t
 
--- the first branch is there, and no sign
+-- there is a first branch, and it is no sign
 abbrev pub has_branch : List Tree → Bool
 has_branch cs = not (is_sign_at (slice_get cs 1))
 
--- between signs stand two lists of statements at least, or else only expressions
+-- between signs there are at least two lists of statements, or else only expressions
 abbrev pub is_choice : List Tree → Bool
 is_choice cs = has_branch cs && (if is_list_at (slice_get cs 1) then nat_le 2 (lists cs) && undotted cs else true)
 
@@ -72,8 +72,8 @@ abbrev pub is_firm : Label → List Tree → Bool
 is_firm label.PatOr cs = has_branch cs
 is_firm l cs = true
 
--- Lists of statements stand only between the signs of a disjunction or a conjunction. Statements have no two of dots and
--- nests side by side. A nest begins and ends with a token.
+-- Lists of statements occur only between the signs of a disjunction or a conjunction. No two of dots and nests are adjacent
+-- in a list of statements. A nest begins and ends with a token.
 abbrev pub has_form : Label → List Tree → Bool
 has_form label.PatOr cs = is_choice cs
 has_form label.PatAnd cs = is_choice cs
@@ -83,7 +83,7 @@ has_form label.PatNest cs = unlisted cs && (apart cs && (is_leaf (first_kid cs) 
 has_form l cs = unlisted cs
 
 mutual
-  -- a tree of which each branch has its form, and so many children at most
+  -- a tree each branch of which has its form, and at most this many children
   pub data Formed (most : ℕ) : Tree → Type 0 where
     token : (a : Token) → Formed most (Leaf a)
     branch : (l : Label) (cs : List Tree) → has_form l cs ≡ true → length cs ≤ most → AllFormed most cs → Formed most (Branch l cs)
@@ -93,7 +93,7 @@ mutual
     more : (c : Tree) (cs : List Tree) → Formed most c → AllFormed most cs → AllFormed most (c ∷ cs)
 
 mutual
-  -- a tree of which each token passes the test, and each branch is firm and has so many children at most
+  -- a tree each token of which passes the test, and each branch of which is firm and has at most this many children
   pub data Sound (ok : Token → Bool) (most : ℕ) : Tree → Type 0 where
     sound_token : (a : Token) → ok a ≡ true → Sound ok most (Leaf a)
     sound_branch : (l : Label) (cs : List Tree) → is_firm l cs ≡ true → length cs ≤ most → AllSound ok most cs → Sound ok most (Branch l cs)

@@ -1,4 +1,4 @@
--- The tokens of elements in order. Of `when` code they have none; dots and the signs of patterns don't count.
+-- The tokens of elements in order. Tokens of `when` code aren't among them; dots and the signs of patterns don't count.
 use Rattle.std.specs.Prelude.{ℕ, ◌+◌, Bool, true, false, if◌then◌else◌, List, [], ◌∷◌, ◌++◌, drop, length, Option, None, Some}
 use Rattle.c_terms.specs.declared.token.Token.{Token}
 use Rattle.c_terms.specs.declared.token.TokenKind.{TokenKind}
@@ -29,7 +29,7 @@ abbrev pub first_part : List (List Token) → List Token
 first_part [] = []
 first_part (p ∷ ps) = p
 
--- the tokens of a head's children, from child i of n on, with the parts in the places of its bodies
+-- the tokens of a head's children, from child i of n on, with the given parts in the places of its bodies
 abbrev pub woven : Label → (n i : ℕ) → List Tree → List (List Token) → List Token
 woven l n i [] parts = []
 woven l n i (c ∷ cs) parts =

@@ -1,4 +1,4 @@
--- The shape of trees that rows build: what a law on their tokens needs of them.
+-- The shape of trees that rows build: what a law on their tokens requires of them.
 use Rattle.std.specs.Prelude.{◌≡◌, Bool, true, false, ◌&&◌, ◌||◌, nat_lt, if◌then◌else◌, List, [], ◌∷◌, length, slice_get}
 use Rattle.std.specs.List.{list_all}
 use Rattle.c_terms.specs.declared.token.Token.{Token}
@@ -26,7 +26,8 @@ is_sign t = is_sign_in (out-Tree t)
 abbrev pub lists_and_signs : List Tree → Bool
 lists_and_signs cs = list_all (λ c. is_list c || is_sign c) cs
 
--- a block and a nest have a first and a last child, and those of a nest are signs; between lists of statements stand signs
+-- a block and a nest have a first and a last child, and those of a nest are signs; lists of statements are separated by
+-- signs
 abbrev pub has_shape : Label → List Tree → Bool
 has_shape label.Block cs = nat_lt 1 (length cs)
 has_shape label.PatNest cs = nat_lt 1 (length cs) && (is_sign (first_kid cs) && is_sign (last_kid cs))

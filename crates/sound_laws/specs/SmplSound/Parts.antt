@@ -9,12 +9,12 @@ use Rattle.smpl_patch.specs.declared.pattern.PatToken.{PatToken}
 use Rattle.smpl_patch.specs.Sound.{leads, is_plus_token, is_gap}
 use Rattle.smpl_patch.specs.declared.rule.Rule.{Rule}
 
--- each of the rules passes the test, beside those before it
+-- each of the rules passes the test, given those before it
 abbrev pub EachPasses : (List Rule → Rule → Bool) → (earlier rules : List Rule) → Type 0
 EachPasses test earlier [] = Unit {0}
 EachPasses test earlier (r ∷ rs) = (test earlier r ≡ true) × EachPasses test (earlier ++ r ∷ []) rs
 
--- this holds of each of the rules
+-- the property holds of each of the rules
 abbrev pub EachHas : (Rule → Type 0) → List Rule → Type 0
 EachHas P [] = Unit {0}
 EachHas P (r ∷ rs) = P r × EachHas P rs
@@ -27,7 +27,7 @@ leads_block (Some b) = list_all (λ (l : PlusLine). leads l.lead l.gaps) b.lines
 abbrev pub leads_token : PatToken → Bool
 leads_token t = leads_block t.before && leads_block t.after
 
--- each token of plus code is a token of C, or a metavariable that is declared
+-- each token of plus code is a token of C or a declared metavariable
 abbrev pub whole_block : List VarDecl → Option PlusBlock → Bool
 whole_block vars None = true
 whole_block vars (Some b) = list_all (λ (l : PlusLine). list_all (λ (t : Token). is_plus_token vars t.kind t.text) l.tokens) b.lines
@@ -35,7 +35,7 @@ whole_block vars (Some b) = list_all (λ (l : PlusLine). list_all (λ (t : Token
 abbrev pub whole_token : List VarDecl → PatToken → Bool
 whole_token vars t = whole_block vars t.before && whole_block vars t.after
 
--- each gap of plus code is empty, or blanks
+-- each gap of plus code is empty or consists of blanks
 abbrev pub gaps_block : Option PlusBlock → Bool
 gaps_block None = true
 gaps_block (Some b) = list_all (λ (l : PlusLine). list_all is_gap l.gaps) b.lines

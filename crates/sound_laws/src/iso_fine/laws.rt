@@ -1,4 +1,4 @@
-// What holds of isomorphisms that are read. The function does nothing.
+// Laws of isomorphisms that are read. The function does nothing.
 ghost use Rattle.std.specs.Prelude.{ℕ, List};
 ghost use Rattle.smpl_patch.specs.declared.rule.Iso.{Iso as Isomorphism};
 ghost use Rattle.smpl_patch.specs.declared.rule.Patch.{Patch as Whole};
@@ -9,11 +9,11 @@ ghost use Rattle.sound_laws.specs.IsoLaws.Fine.{AreFine};
 
 use crate::iso_laws::expanded_patches_are_sound;
 
-/// Of the isomorphisms of a file.
+/// The isomorphisms of a file are fine, and keep sound patches sound.
 ///
-/// - `fine`: they are fine: a side that may become another holds each variable of the other, and no branch of a side has 2^32
-///   children.
-/// - `sound`: so a sound patch whose patterns get all their forms under them is sound.
+/// - `fine`: a side that may be replaced by another contains each variable of the other, and each branch of a side has
+///   fewer than 2^32 children.
+/// - `sound`: so a sound patch remains sound when its patterns are given all their forms under them.
 ///
 /// Does nothing.
 pub fn read_isomorphisms_are_fine()

@@ -1,4 +1,4 @@
--- Files in turn have acts, and end as they are there and refused.
+-- Files in turn have acts, and their end follows from whether they are present and refused.
 use Rattle.std.proofs.Common.{◌≡◌, ◌<◌, ◌≤◌, ◌⊎◌, ◌||◌, ℕ, Bool, true, false, Option, Some, None, List, [], ◌∷◌, ◌++◌, length, inl, inr, refl, ap, ◌∙◌, subst, arith}
 use Rattle.std.specs.Prelude.{IsSome}
 use Rattle.std.specs.FinMap.{get}
@@ -16,19 +16,19 @@ use Rattle.run_files.specs.RunStages.Reasons.{FilesEnd, AllDone, Missing, FilesD
 use Rattle.text_laws.specs.ChainEnds.Weakly.{Weakly}
 use Rattle.spatch_run.specs.RunEnds.Fates.{AllThere, NoneRefused, SomeRefused}
 
--- over each text the rules have an end
+-- the rules have an outcome over each text
 abbrev pub HaveEnds : List Rule → List (List ℕ) → Type 0
 HaveEnds rules defined = (text : List ℕ) → Weakly ((end : Outcome) × Chain rules defined text end)
 
 order : (a b : ℕ) → (a ≤ b) ⊎ (b < a)
 order a b = grind arith
 
--- something may stand under each name, or nothing does
+-- for each name, some content or none may be found
 pub found_some : (holds : Option Files) (name : List ℕ) → (under : Option (List ℕ)) × Found holds name under
 found_some None name = (Some [], refl)
 found_some (Some files) name = (get files name, refl)
 
--- where files are told, they are so after acts too
+-- a shelf that reports its files does so after acts too
 stored_some : (holds : Option Files) (name bytes : List ℕ) → IsSome holds → IsSome (stored holds name bytes)
 stored_some None name bytes some = some
 stored_some (Some files) name bytes some = refl
@@ -59,7 +59,7 @@ module _ (patch : Patch) (defined : List (List ℕ)) (mode : Mode) where
   abbrev pub Does : Told → List (List ℕ) → Bool → List Act → FilesEnd → Type 0
   Does old names refused acts end = FilesDo old patch defined mode names refused acts end
 
-  -- where files are told, none is a pipe, a device or a socket
+  -- if the shelf reports its files, none is a pipe, a device or a socket
   treats_told : (holds : Option Files) (name bytes : List ℕ) (treated : Treated) → IsSome holds → TreatsFile holds mode patch defined name bytes treated
       → Treats mode patch defined name bytes treated
   treats_told holds name bytes treated some (inl treats) = treats
@@ -91,7 +91,7 @@ module _ (patch : Patch) (defined : List (List ℕ)) (mode : Mode) where
 
   -- ---- how they end
 
-  -- where each is there and some was refused before
+  -- if each is present and an earlier one was refused
   stays : (old : Told) (names : List (List ℕ)) (acts : List Act) (end : FilesEnd) → IsSome old.files → Does old names true acts end
       → AllThere patch defined mode old names → end ≡ AllDone true
   stays old [] acts end told does there = does.1
@@ -101,7 +101,7 @@ module _ (patch : Patch) (defined : List (List ℕ)) (mode : Mode) where
       stays (after some.1.1.0.acts old) names some.1.1.1.1.0 end (told_after some.1.1.0.acts old told) some.1.1.1.1.1.1
       (there.1 some.0 some.1.1.0 some.1.0 treats)
 
-  -- where each is there and none is refused
+  -- if each is present and none is refused
   pub fine : (old : Told) (names : List (List ℕ)) (refused : Bool) (acts : List Act) (end : FilesEnd) → IsSome old.files → Does old names refused acts end
       → AllThere patch defined mode old names → NoneRefused patch defined mode old names → end ≡ AllDone refused
   fine old [] refused acts end told does there none = does.1
@@ -114,12 +114,12 @@ module _ (patch : Patch) (defined : List (List ℕ)) (mode : Mode) where
       (there.1 some.0 treated some.1.0 treats) here.1 in
       rest ∙ ap (λ (b : Bool). AllDone (refused || b)) here.0 ∙ ap AllDone (or_false refused)
 
-  -- where each is there and some is refused, they have acts that end so
+  -- if each is present and some is refused, they have acts with this end
   module _ (ends : HaveEnds patch.rules defined) where
     abbrev Refusing : Told → List (List ℕ) → Bool → Type 0
     Refusing old names refused = (acts : List Act) × ((end : FilesEnd) × (Does old names refused acts end × (end ≡ AllDone true)))
 
-    -- behind a file that is refused
+    -- after a file that is refused
     behind : (old : Told) (names : List (List ℕ)) (refused : Bool) → IsSome old.files → refused ≡ true → AllThere patch defined mode old names
         → Weakly (Refusing old names refused)
     behind old names refused told is there = λ absent.

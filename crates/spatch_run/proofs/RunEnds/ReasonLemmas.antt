@@ -39,7 +39,7 @@ abbrev pub ExpandedLaw : Type 0
 ExpandedLaw = (bytes : List ℕ) (isos : List Iso) (patch whole : Patch) (defined : List (List ℕ)) (text : List ℕ) → IsSpelled bytes patch
     → IsExpanded isos patch whole → Weakly ((end : Outcome) × Chain whole.rules defined text end)
 
--- over each text the rules of a patch that is ready have an end
+-- the rules of a patch that is ready have an outcome over each text
 pub ready_ends : ReadLaw → ExpandedLaw → (words : List (List ℕ)) (old : Told) (patch : Patch) (defined : List (List ℕ)) (target : Target) (acts : List Act)
     → PatchReady words old patch defined target acts → HaveEnds patch.rules defined
 ready_ends read forms words old patch defined target acts (plain r) = λ text. read r.bytes patch defined text r.is.spelled

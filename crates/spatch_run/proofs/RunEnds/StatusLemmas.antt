@@ -1,4 +1,4 @@
--- The status of a run over files that are there.
+-- The status of a run over files that are present.
 use Rattle.std.proofs.Common.{◌≡◌, ◌<◌, ◌⊎◌, ℕ, true, false, List, ◌++◌, inl, inr, refl, sym, ap, arith}
 use Rattle.std.specs.Prelude.{IsSome}
 use Rattle.smpl_patch.specs.declared.rule.Patch.{Patch}
@@ -23,7 +23,7 @@ same_or_not a b = elim (order a b) [
   | inr (inr more) ↦ inr (λ e. omega (arith, more, e))
 ]
 
--- that a number is neither of two can't be, so it is one of them
+-- if it is impossible that a number is neither of two, it is one of them
 one_of : (n a b : ℕ) → (((n ≡ a) ⊎ (n ≡ b) → ⊥) → ⊥) → (n ≡ a) ⊎ (n ≡ b)
 one_of n a b h = elim (same_or_not n a) [
   | inl same ↦ inl same
@@ -37,7 +37,7 @@ module _ (read_law : ReadLaw) (expanded_law : ExpandedLaw) (words : List (List �
     (defined : List (List ℕ)) (mode : Mode) (names : List (List ℕ)) (acts : List Act) (some : IsSome old.files) (calm : NoneRose before now)
     (causes : Causes words before now old new status) (ready : PatchReady words old patch defined (OnFiles mode names) acts)
     (there : AllThere patch defined mode old names) where
-  -- by the acts of the files, which end so
+  -- by the acts of the files, which have this end
   by_end : (rest : List Act) (end last : FilesEnd) → Does patch defined mode old names false rest end → end ≡ last
       → (status ≡ files_status last) ⊎ (status ≡ 7)
   by_end rest end last does is =

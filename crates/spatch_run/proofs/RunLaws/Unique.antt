@@ -1,4 +1,4 @@
--- Where the shelf tells its files, a stage leads to one stage, and the acts of some words are one list.
+-- If the shelf reports its files, a stage leads to only one stage, and words have only one list of acts.
 use Rattle.std.proofs.Common.{◌≡◌, false, true, Bool, ◌||◌, ◌<◌, ◌≤◌, ℕ, List, [], ◌∷◌, ◌++◌, length, Option, Some, None, refl, sym, ap, ◌∙◌, subst, inl, inr, arith}
 use Rattle.std.specs.Prelude.{IsSome}
 use Rattle.outer_io.specs.Files.{Files, stored}
@@ -27,7 +27,7 @@ none_some a e = cc
 pub same_some : {A : Type 0} (a b : A) → Some a ≡ Some b → a ≡ b
 same_some a b e = cc
 
--- What is read is read in one way, forms are given in one way, and the rules over a text have one end.
+-- Reading has only one result, a patch gets its forms in only one way, and the rules over a text have only one outcome.
 pub record ReadOnce : Type 0 where
   pub patch : (bytes : List ℕ) (one other : Patch) → IsPatchOf bytes one → IsPatchOf bytes other → one ≡ other
   pub patch_fault : (bytes : List ℕ) (one other : PatchFault) → IsFirstFault bytes one → IsFirstFault bytes other → one ≡ other
@@ -139,7 +139,7 @@ module _ (laws : ReadOnce) where
   Leads-one holds some (Ending (act ∷ acts) status) a b one two = one ∙ sym two
   Leads-one holds some (Ending [] status) a b one two = absurd one
 
--- a run that is over has no next act
+-- a run that has ended has no next act
 over_or_next : (stage : Stage) (status : ℕ) (act : Act) → status_at stage ≡ Some status → next_act stage ≡ Some act → ⊥
 over_or_next (Doing acts work) status act over next = none_some status over
 over_or_next (Ending (a ∷ acts) s) status act over next = none_some status over
@@ -149,14 +149,14 @@ stored-told : (holds : Option Files) (name bytes : List ℕ) → IsSome holds �
 stored-told None name bytes some = some
 stored-told (Some files) name bytes some = refl
 
--- a shelf that tells its files tells them after each act
+-- a shelf that reports its files reports them after each act
 done-told : (act : Act) (old : Told) → IsSome old.files → IsSome (done act old).files
 done-told (Load name limit) old some = some
 done-told (Store name bytes) old some = stored-told old.files name bytes some
 done-told (Print bytes) old some = some
 done-told (Report line) old some = some
 
--- the files after an act are those before it, changed by the act alone
+-- the files after an act depend only on the act and the files before it
 done-files : (act : Act) (old other : Told) → other.files ≡ old.files → (done act other).files ≡ (done act old).files
 done-files (Load name limit) old other same = same
 done-files (Store name bytes) old other same = ap (λ (f : Option Files). stored f name bytes) same
@@ -166,14 +166,14 @@ done-files (Report line) old other same = same
 prepended : (a b : Act) (acts part rest : List Act) → a ≡ b → acts ≡ part ++ rest → b ∷ acts ≡ a ∷ part ++ rest
 prepended a b acts part rest e f = cc
 
--- another way from the stage that follows is one from this one
+-- another path from the next stage, restated for an equal stage
 moved : (act b : Act) (mid to last : Stage) (other : Told) (acts : List Act) → act ≡ b → mid ≡ to → Path (done b other) to acts last
     → Path (done act other) mid acts last
 moved act b mid to last other acts e f path =
     subst (λ (s : Stage). Path (done act other) s acts last) (sym f) (subst (λ (x : Act). Path (done x other) to acts last) (sym e) path)
 
 module _ (laws : ReadOnce) where
-  -- Two ways from a stage to the end of a run have the same acts and the same status.
+  -- Two paths from a stage to the end of a run have the same acts and the same status.
   Path-one : (old other : Told) → IsSome old.files → other.files ≡ old.files → (from : Stage) (acts others : List Act) (last last' : Stage) (status status' : ℕ)
       → Path old from acts last → status_at last ≡ Some status → Path other from others last' → status_at last' ≡ Some status'
       → (acts ≡ others) × (status ≡ status')
@@ -193,7 +193,7 @@ module _ (laws : ReadOnce) where
       let tails : acts ≡ others = rest.0 in
       ((λ i. act i ∷ tails i), rest.1)
 
-  -- What a run has done that has a next act begins each way to its end.
+  -- The acts of a run that has a next act are a prefix of each path to its end.
   Path-begins : (old other : Told) → IsSome old.files → other.files ≡ old.files
       → (from : Stage) (part acts : List Act) (stage last : Stage) (next : Act) (status : ℕ)
       → Path old from part stage → next_act stage ≡ Some next → Path other from acts last → status_at last ≡ Some status

@@ -1,4 +1,4 @@
--- Each whole run goes one of its ways.
+-- Each whole run has one of the reasons.
 use Rattle.std.proofs.Common.{◌≡◌, Bool, false, ◌||◌, ℕ, List, [], ◌∷◌, ◌++◌, Option, Some, None, refl, sym, ap, ◌∙◌, inl, inr, subst, append_assoc}
 use Rattle.std.proofs.lemmas.List.{append-nil}
 use Rattle.run_acts.specs.Acts.{Act, Load, Print, Report, Told, done, after}
@@ -31,7 +31,7 @@ ending old (p ∷ pending) s (a ∷ acts) last status path over =
     let tails : acts ≡ pending = rest.0 in
     ((λ i. sym same i ∷ tails i), rest.1)
 
--- a run does these acts from a stage that is known
+-- a run does these acts from a known stage
 ending-at : (old : Told) (mid : Stage) (pending : List Act) (s : ℕ) (acts : List Act) (last : Stage) (status : ℕ) → mid ≡ Ending pending s
     → Path old mid acts last → status_at last ≡ Some status → (acts ≡ pending) × (status ≡ s)
 ending-at old mid pending s acts last status is path over = ending old pending s acts last status (subst (λ (m : Stage). Path old m acts last) is path) over
@@ -39,7 +39,7 @@ ending-at old mid pending s acts last status is path over = ending old pending s
 in_front : (a p : Act) (acts pending rest : List Act) → a ≡ p → acts ≡ pending ++ rest → a ∷ acts ≡ p ∷ pending ++ rest
 in_front a p acts pending rest e f = cc
 
--- what is left of the acts, behind those at hand
+-- the rest of the acts, after those at hand
 record Through (old : Told) (pending : List Act) (work : Work) (acts : List Act) (last : Stage) : Type 0 where
   pub rest : List Act
   pub acts_are : acts ≡ pending ++ rest
@@ -57,7 +57,7 @@ through old (p ∷ pending) work (a ∷ acts) last status path over =
     let more = through (done p old) pending work acts last status moved over in
     record { rest = more.rest; acts_are = in_front a p acts pending more.rest same more.acts_are; path = more.path }
 
--- what became of the files, after the acts at hand
+-- what happened to the files, after the acts at hand
 record Went (old : Told) (patch : Patch) (defined : List (List ℕ)) (mode : Mode) (names : List (List ℕ)) (refused : Bool) (pending acts : List Act)
     (status : ℕ) : Type 0 where
   pub rest : List Act
@@ -70,7 +70,7 @@ joined_acts : (load : Act) (acts own rest : List Act) → acts ≡ own ++ rest �
 joined_acts load acts own rest e = cc
 
 module _ (patch : Patch) (defined : List (List ℕ)) (mode : Mode) where
-  -- from the files that are left all goes well
+  -- the statement holds for the remaining files
   abbrev GoesOn : List (List ℕ) → Stage → ℕ → Type 0
   GoesOn names last status = (old : Told) (refused : Bool) (pending acts : List Act) → Path old (going pending patch defined mode names refused) acts last
       → Went old patch defined mode names refused pending acts status

@@ -1,4 +1,4 @@
--- What may become of files in turn: whether each is there, and whether one is refused.
+-- What may happen to files in turn: whether each is present, and whether one is refused.
 use Rattle.std.specs.Prelude.{ℕ, ◌≡◌, ◌⊎◌, true, false, List, [], ◌∷◌, Some, None}
 use Rattle.run_acts.specs.Acts.{Told, after}
 use Rattle.run_acts.specs.Loaded.{Found}
@@ -7,14 +7,14 @@ use Rattle.run_words.specs.declared.order.Mode.{Mode}
 use Rattle.run_files.specs.Treatment.{Treated, Treats}
 
 module _ (patch : Patch) (defined : List (List ℕ)) (mode : Mode) where
-  -- each file is there in its turn, after the acts of those before it
+  -- each file is present in its turn, after the acts of those before it
   abbrev pub AllThere : Told → List (List ℕ) → Type 0
   AllThere old [] = Unit {0}
   AllThere old (name ∷ names) = (Found old.files name None → ⊥)
       × ((bytes : List ℕ) (treated : Treated) → Found old.files name (Some bytes) → Treats mode patch defined name bytes treated
       → AllThere (after treated.acts old) names)
 
-  -- no file is refused in its turn: none is too long, and the rules meet no fault over it
+  -- no file is refused in its turn: none is too long, and the rules meet no fault in it
   abbrev pub NoneRefused : Told → List (List ℕ) → Type 0
   NoneRefused old [] = Unit {0}
   NoneRefused old (name ∷ names) =

@@ -1,4 +1,4 @@
-// The number of jobs stands in no act. The function does nothing.
+// No act depends on the number of jobs. The function does nothing.
 ghost use Rattle.std.specs.Prelude.{◌≡◌, ℕ, List};
 ghost use Rattle.run_acts.specs.Acts.{Act, Told};
 ghost use Rattle.run_files.specs.RunStages.Paths.{AreActs, ComesTo};
@@ -6,11 +6,11 @@ ghost use Rattle.run_words.specs.JobLaws.Jobs.{SameButJobs};
 
 use run_words::jobs_leave_orders;
 
-/// Words that are the same but for their jobs ask for the same, and so have the same acts, whatever the shelf tells: also where it
-/// tells nothing of its files.
+/// Words that differ only in their jobs ask for the same, and so have the same acts. This holds whatever the shelf reports, and
+/// also if it reports nothing about its files.
 ///
-/// - `acts`: a list of acts of the ones, with its status, is one of the others.
-/// - `comes`: where a run with the ones may come to an act, so may one with the others.
+/// - `acts`: a list of acts of the first words, with its status, is a list of acts of the second ones.
+/// - `comes`: an act that a run with the first words may come to, a run with the second ones may come to as well.
 ///
 /// Does nothing.
 pub fn jobs_leave_acts()

@@ -15,7 +15,7 @@ use crate::run_laws::{acts_have_a_reason, statuses_have_a_cause};
 use read_laws::{bytes_are_read, patches_get_their_forms};
 use text_laws::chains_have_an_end;
 
-/// It can't be that some words have no list of acts, whatever a shelf tells. Does nothing.
+/// It is impossible that some words have no list of acts, whatever a shelf reports. Does nothing.
 pub fn words_have_acts()
     ensures { (words : List (List ℕ)) (old : Told) →
         Weakly ((acts : List Act) × ((status : ℕ) × AreActs words old acts status)) }
@@ -26,11 +26,11 @@ pub fn words_have_acts()
     acts_have_a_reason();
 }
 
-/// Of runs that edit files, where the shelf tells its files, no count of faults rises, the patch is read, and has its forms, where
-/// isomorphisms are named, and each file is there in its turn.
+/// The status of a run that edits files, if the shelf reports its files, no count of faults rises, the patch is read (and gets
+/// its forms if isomorphisms are named), and each file is present in its turn.
 ///
-/// - `fine`: where no file is refused, the status is 0, or 7 for want of memory.
-/// - `refused`: where some file is refused, it is 4, or 7.
+/// - `fine`: if no file is refused, the status is 0, or 7 if memory ran out.
+/// - `refused`: if some file is refused, the status is 4, or 7 if memory ran out.
 ///
 /// Does nothing.
 pub fn runs_are_complete()

@@ -1,4 +1,4 @@
--- The state before each rule to which the rules of a patch come is sound.
+-- The state before each rule that the run of a patch reaches is sound.
 use Rattle.std.proofs.Common.{ℕ, Bool, List, ◌∷◌}
 use Rattle.std.specs.Prelude.{All}
 use Rattle.std.proofs.lemmas.List.Elements.{All-head, All-tail}

@@ -1,4 +1,4 @@
--- A text that fair edits make is cut into the tokens that they leave.
+-- A text that fair edits produce is cut into the tokens that they leave.
 use Rattle.std.proofs.Common.{◌≡◌, ℕ, Bool, true, false, cond, List, [], ◌∷◌, refl, sym, ap, ◌∙◌}
 use Rattle.c_terms.specs.declared.token.TokenKind.{TokenKind}
 use Rattle.c_lexer.specs.declared.piece.PieceKind.{PieceKind}

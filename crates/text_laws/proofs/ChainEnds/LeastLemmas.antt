@@ -1,4 +1,4 @@
--- Where some edits clash, that there is no first clash can't be.
+-- If some edits clash, it is impossible that there is no first clash.
 use Rattle.std.proofs.Common.{◌≡◌, ◌<◌, ◌≤◌, ◌⊎◌, ℕ, zero, suc, inl, inr, refl, sym, ◌∙◌, arith, List}
 use Rattle.edit_marks.specs.declared.edit_conflict.edit.Edit.{Edit}
 use Rattle.edit_marks.specs.declared.edit_conflict.clash.Clash.{Clash}

@@ -1,4 +1,4 @@
--- The numbers of a list, in order and each once.
+-- The numbers of a list, sorted and without duplicates.
 use Rattle.std.proofs.Common.{◌≡◌, ◌<◌, ◌+◌, ◌⊎◌, ◌↔◌, ℕ, zero, suc, inl, inr, refl, sym, ◌∙◌, subst, arith, List, [], ◌∷◌, length}
 use Rattle.std.specs.Prelude.{Contains, slice_index, slice_index_or}
 use Rattle.std.specs.List.Sorted.{IsStrictlyIncreasing}

@@ -1,4 +1,4 @@
--- That pieces are read as no items can't be.
+-- It is impossible that pieces can't be read as items.
 use Rattle.std.proofs.Common.{◌≡◌, ◌≤◌, ◌<◌, ◌⊎◌, ℕ, inl, inr, refl, arith, List, [], ◌∷◌, drop}
 use Rattle.c_terms.specs.declared.token.Token.{Token}
 use Rattle.c_terms.specs.declared.tree.Tree.{Tree}

@@ -1,4 +1,4 @@
--- Each token of a text that edits make has a byte at least: there are no more ids than bytes.
+-- Each token of a text that edits produce has at least one byte, so there are no more ids than bytes.
 use Rattle.std.proofs.Common.{◌≡◌, ◌≤◌, ◌+◌, ℕ, Bool, true, false, sym, ap, subst, ◌∙◌, arith, List, [], ◌∷◌, ◌++◌, length}
 use Rattle.std.proofs.Common.{length-append, map}
 use Rattle.std.specs.Prelude.{Option, None, Some, not, nat_lt, IsSomeAnd}

@@ -1,6 +1,6 @@
--- Nothing but white space stands between the tokens of a plus line.
--- Proof: a gap is blanks, which are white space and splices; a splice has a newline, and a line has one at its end alone, behind
--- its last token.
+-- Only white space is between the tokens of a plus line.
+-- Proof: a gap is blanks, which are white space and splices; a splice contains a newline, and a line has a newline only at
+-- its end, after its last token.
 use Rattle.std.proofs.Common.{◌≡◌, ℕ, ◌≤◌, ◌==◌, Bool, true, false, refl, sym, ap, ◌∙◌, subst, true≢false, List, [], ◌∷◌, ◌++◌, drop, length, Some, if◌then◌else◌}
 use Rattle.std.specs.List.{list_all}
 use Rattle.c_lexer.specs.declared.state.Kind.{Kind}

@@ -1,4 +1,4 @@
--- A token that the test of plus code passes is a token of C that is no Stray, or a metavariable.
+-- A token that passes the test of plus code is a token of C that is no Stray, or a metavariable.
 use Rattle.std.proofs.Common.{◌≡◌, ℕ, Bool, true, refl, sym, true≢false, List, [], ◌∷◌, Option, Some, None}
 use Rattle.std.specs.List.{list_all}
 use Rattle.std.proofs.lemmas.List.Elements.{All-nil, All-cons}

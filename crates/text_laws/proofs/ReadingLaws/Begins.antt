@@ -1,4 +1,4 @@
--- No item begins behind a Stray: one that ends ends with `;` or `}`.
+-- No item begins after a Stray: the item before it ends with `;` or `}`.
 use Rattle.std.proofs.Common.{◌≡◌, ◌+◌, ◌&&◌, ℕ, zero, suc, Bool, true, false, refl, sym, ap, subst, ◌∙◌, arith, List, [], ◌∷◌, map, take, drop, get_or, ◌-◌}
 use Rattle.std.specs.Prelude.{if◌then◌else◌, All}
 use Rattle.cpp_lines.specs.declared.sign.Bracket.{Bracket}

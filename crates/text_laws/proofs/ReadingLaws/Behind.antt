@@ -1,4 +1,4 @@
--- Of two tokens that stand side by side but for blanks, the second of which is shown, the first is shown where it is a Stray.
+-- If only blanks are between two tokens, the first is a Stray and the second is shown, then the first is shown.
 use Rattle.std.proofs.Common.{◌≡◌, ◌⊎◌, ◌+◌, ◌&&◌, ◌||◌, ℕ, zero, suc, Bool, true, false, not, inl, inr, refl, sym, ap, subst, ◌∙◌, arith, List, [], ◌∷◌}
 use Rattle.std.specs.Prelude.{if◌then◌else◌, Option, None, Some, slice_get, ◌==◌, codes, Contains, IsSomeAnd}
 use Rattle.std.specs.Str.{bytes_eq}

@@ -1,4 +1,4 @@
--- The rows take no Stray: no token of a tree is one.
+-- The rows accept no Stray, so no token of a tree is one.
 use Rattle.std.proofs.Common.{◌≡◌, ℕ, refl, List, [], ◌∷◌}
 use Rattle.std.specs.Prelude.{Bool, true, false, not, ◌&&◌, IsTrue}
 use Rattle.std.specs.List.{list_all}

@@ -1,4 +1,4 @@
--- Pieces but for their ids, and the ids, are the pieces.
+-- Pieces are determined by the pieces without ids and the list of ids.
 use Rattle.std.proofs.Common.{◌≡◌, ℕ, refl, ap, List, [], ◌∷◌}
 use Rattle.c_lexer.specs.declared.piece.PieceKind.{PieceKind}
 use Rattle.c_lexer.specs.declared.piece.PieceKind.TheVariants.{Word, Blank, Comment, Line}

@@ -1,4 +1,4 @@
--- Terms and witnesses without the ids of tokens are of tokens of C where they are so with them.
+-- Terms and witnesses without the ids of tokens consist of tokens of C if they do with them.
 use Rattle.std.proofs.Common.{◌≡◌, ℕ, sym, ap, ◌∙◌, subst, List, [], ◌∷◌, ◌++◌, map}
 use Rattle.c_terms.specs.declared.token.Token.{Token}
 use Rattle.c_terms.specs.declared.label.Label.{Label}

@@ -1,4 +1,4 @@
--- Environments with values of tokens of C, as they grow and are cut down.
+-- Environments whose values consist of tokens of C, when they are extended and restricted.
 use Rattle.std.proofs.Common.{ℕ, zero, suc, Bool, true, false, cond, List, [], ◌∷◌, ◌++◌, take, drop}
 use Rattle.std.specs.Prelude.{All}
 use Rattle.std.specs.List.{flat_map, list_any}

@@ -1,4 +1,4 @@
--- The rule to which the rules of a patch come over a text, and the state before it.
+-- The rule that the run of a patch over a text reaches, and the state before it.
 use Rattle.std.specs.Prelude.{ℕ, suc, List, ◌∷◌}
 use Rattle.c_lexer.specs.Pieces.{TextPiece}
 use Rattle.c_lexer.specs.Lexes.{Lexes}
@@ -9,11 +9,11 @@ use Rattle.rule_chain.specs.RuleWork.States.{Chained, first_state}
 use Rattle.rule_chain.specs.RuleWork.OneRule.{Leads}
 use Rattle.rule_chain.specs.Chain.{is_followed}
 
--- The rules that are left, of which the first has this number, stand before this state.
+-- The run has reached this state, and these rules are left, the first of which has this number.
 pub data IsBefore (defined : List (List ℕ)) (rules : List Rule) (text : List ℕ) : ℕ → List Rule → Chained → Type 0 where
   -- before the first rule the text is cut and read
   first : (pieces : List TextPiece) (items : List Item) → Lexes text pieces → Reads pieces items
       → IsBefore defined rules text 0 rules (first_state pieces items)
-  -- a rule leads on
+  -- a rule leads to the next state
   later : (number : ℕ) (rule : Rule) (rest : List Rule) (s next : Chained) → IsBefore defined rules text number (rule ∷ rest) s
       → Leads defined number rule (is_followed rest) s next → IsBefore defined rules text (suc number) rest next

@@ -18,7 +18,7 @@ abbrev pub tokens_of : List TextPiece → List TextPiece
 tokens_of [] = []
 tokens_of (p ∷ pieces) = where_token p.kind p (tokens_of pieces)
 
--- The pieces without what edits remove and with what they insert; the added tokens have the ids from `next` on. The old pieces,
--- where no edit changes anything.
+-- The pieces without what edits remove and with what they insert; the added tokens have the ids from `next` on. If no edit
+-- changes anything, these are the old pieces.
 abbrev pub left_pieces : ℕ → List TextPiece → List Edit → List TextPiece
 left_pieces next pieces edits = cond (is_edited edits) (output_of pieces edits next) pieces

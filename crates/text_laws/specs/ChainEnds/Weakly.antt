@@ -1,4 +1,4 @@
--- What can't be absent, though the law names none.
+-- That something can't be absent, without naming it.
 
 -- that there is none is absurd
 abbrev pub Weakly : Type 0 → Type 0

@@ -1,4 +1,4 @@
--- What the rules of a patch keep.
+-- What the rules of a patch preserve.
 use Rattle.std.specs.Prelude.{◌<◌, All}
 use Rattle.c_lexer.specs.Lexes.{Cuts}
 use Rattle.c_lexer.specs.Ids.{ids_of}
@@ -7,8 +7,8 @@ use Rattle.rule_chain.specs.RuleWork.States.{Chained}
 use Rattle.text_laws.specs.OutputLaws.Differ.{AllDiffer}
 use Rattle.text_laws.specs.ValueLaws.Carried.{CarriesTerms}
 
--- The pieces are cut of a text, and the items are read of them. The ids of their tokens differ, and are below the next one. The
--- values of environments are places, or terms of tokens of C that are no Strays.
+-- A text is cut into the pieces, and the items are read from them. The ids of their tokens differ, and are below the next
+-- one. The values of environments are places, or terms of tokens of C that are no Strays.
 pub record IsSoundState (s : Chained) : Type 0 where
   pub cuts : Cuts s.pieces
   pub reads : Reads s.pieces s.items

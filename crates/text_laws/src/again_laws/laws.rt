@@ -1,4 +1,4 @@
-// Texts that rules leave, cut again. The functions do nothing.
+// Laws of the texts that rules leave, when cut again. The functions do nothing.
 ghost use Rattle.std.specs.Prelude.{◌≡◌, ◌∷◌, ℕ, List};
 ghost use Rattle.c_lexer.specs.Pieces.{TextPiece};
 ghost use Rattle.c_lexer.specs.Lexes.{Lexes};
@@ -21,11 +21,12 @@ use crate::token_laws::{first_states_are_sound, states_stay_sound};
 use crate::value_laws::found_values_are_sound;
 use crate::{edits_are_fair, touches_are_sound};
 
-/// Of the text that a rule leaves whose plus code is of tokens of C and metavariables, from a sound state.
+/// The text that a rule leaves from a sound state, if its plus code consists of tokens of C and metavariables, is cut again
+/// into the tokens that its edits leave.
 ///
 /// - `solid`: however it is cut, its tokens, comments and preprocessor lines are those of the pieces that the edits leave, in order.
-/// - `tokens`: cut into pieces with the ids of its page, its tokens are those of these pieces, with their texts and ids: the kept ones
-///   with the ids that they had, the added ones with new ones.
+/// - `tokens`: cut into pieces with the ids of its page, its tokens are those of these pieces, with their texts and ids:
+///   the kept ones with their old ids, the added ones with new ids.
 ///
 /// Does nothing.
 pub fn new_texts_are_of_their_tokens()
@@ -43,11 +44,11 @@ pub fn new_texts_are_of_their_tokens()
     edits_are_fair();
 }
 
-/// Of each patch that is read, over each text, at each rule to which its rules come: the text that the edits of this rule leave is
-/// cut again into exactly the kept and the added tokens, with their ids.
+/// For each patch that is read, over each text, at each rule that the run reaches, the text that the edits of this rule
+/// leave is cut again into exactly the kept and the added tokens, with their ids.
 ///
-/// - `read`: of a patch that bytes spell.
-/// - `forms`: of such a patch with all forms, under whatever isomorphisms.
+/// - `read`: for a patch that bytes spell.
+/// - `forms`: for such a patch with all forms, under any isomorphisms.
 ///
 /// Does nothing.
 pub fn patches_leave_their_tokens()

@@ -1,4 +1,4 @@
-// The rules over a text have an end. The functions do nothing.
+// Laws on the end of the rules over a text. The functions do nothing.
 ghost use Rattle.std.specs.Prelude.{ℕ, List};
 ghost use Rattle.c_lexer.specs.Pieces.{TextPiece};
 ghost use Rattle.cpp_lines.specs.declared.reading.Item.{Item};
@@ -14,17 +14,17 @@ use crate::plus_laws::read_plus_code_is_sound;
 use crate::token_laws::{first_states_are_sound, new_texts_are_cut, states_stay_sound};
 use c_lexer::every_text_is_cut;
 
-/// It can't be that pieces are read as no items. Does nothing.
+/// It is impossible that pieces can't be read as items. Does nothing.
 pub fn texts_are_read()
     ensures { (pieces : List TextPiece) → Weakly ((items : List Item) × Reads pieces items) }
 {
     every_text_is_cut();
 }
 
-/// Over each text the rules of a patch lead to a last state or to a fault: it can't be that there is no such end.
+/// Over each text the rules of a patch lead to a last state or to a fault: it is impossible that there is no such end.
 ///
-/// - `read`: of a patch that bytes spell.
-/// - `forms`: of such a patch with all forms, under whatever isomorphisms.
+/// - `read`: for a patch that bytes spell.
+/// - `forms`: for such a patch with all forms, under any isomorphisms.
 ///
 /// Does nothing.
 pub fn chains_have_an_end()

@@ -1,4 +1,4 @@
-// What plus code is like. The function does nothing.
+// A law of plus code. The function does nothing.
 ghost use Rattle.std.specs.Prelude.{ℕ, List, All};
 ghost use Rattle.smpl_patch.specs.declared.rule.Iso.{Iso as Isomorphism};
 ghost use Rattle.smpl_patch.specs.declared.rule.Rule.{Rule as PatchRule};
@@ -10,11 +10,11 @@ ghost use Rattle.text_laws.specs.Sound.{HavePlusCode};
 use c_lexer::blank_texts;
 use sound_laws::patches_are_sound;
 
-/// Each line of plus code in a patch that bytes spell is of tokens of C that are no Strays, with texts of their kinds, and of
-/// metavariables, and nothing but white space stands between them.
+/// Each line of plus code in a patch that bytes spell consists of tokens of C that are no Strays, with texts of their
+/// kinds, and of metavariables, with only white space between them.
 ///
 /// - `read`: in each rule of the patch.
-/// - `forms`: in each rule of the patch with all forms, under whatever isomorphisms.
+/// - `forms`: in each rule of the patch with all forms, under any isomorphisms.
 ///
 /// Does nothing.
 pub fn read_plus_code_is_sound()

@@ -9,7 +9,7 @@ ghost use Rattle.text_laws.specs.ReadingLaws.Sound.{IsSoundItem};
 
 use c_file::read_once;
 
-/// A text is cut in one way into pieces whose tokens have given ids, and is read in one way. Does nothing.
+/// There is one way to cut a text into pieces whose tokens have given ids, and one way to read it. Does nothing.
 pub fn readings_are_one()
     ensures pieces { (left right : List TextPiece) → Cuts left → Cuts right →
         text_of left ≡ text_of right → ids_of left ≡ ids_of right → left ≡ right }
@@ -20,8 +20,8 @@ pub fn readings_are_one()
     read_once();
 }
 
-/// Each token of a tree that is read is a token of C that is no Stray, with a text of its kind, is one of the text's pieces,
-/// and stands behind no Stray, blanks aside. Does nothing.
+/// Each token of a tree that is read is a token of C that is no Stray, with a text of its kind, is one of the text's
+/// pieces, and doesn't follow a Stray, not even after blanks. Does nothing.
 pub fn trees_are_sound()
     ensures { (pieces : List TextPiece) (items : List Item) → Cuts pieces → Reads pieces items
         → All (IsSoundItem pieces) items }

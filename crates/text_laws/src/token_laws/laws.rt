@@ -18,7 +18,7 @@ use crate::{ids_stay_apart, text_keeps_its_tokens, touches_are_sound};
 use c_lexer::every_text_is_cut;
 use rule_chain::ids_stay_below_next;
 
-/// Before the first rule: the ids of the text's tokens differ and are below the next one. Does nothing.
+/// Before the first rule, the ids of the text's tokens differ and are below the next one. Does nothing.
 pub fn first_states_are_sound()
     ensures { (bytes : List ℕ) (pieces : List TextPiece) (items : List Item) → Lexes bytes pieces → Reads pieces items →
         IsSoundState (first_state pieces items) }
@@ -26,9 +26,9 @@ pub fn first_states_are_sound()
     ids_differ();
 }
 
-/// So it is after each rule whose plus code is of tokens of C and metavariables, whether the text is read once more or not: the ids
-/// of the tokens that were read last differ, all ids are below the next one, and the values of environments are places, or terms of
-/// tokens of C. Does nothing.
+/// After each rule whose plus code consists of tokens of C and metavariables, whether the text is read again or not, the
+/// ids of the tokens that were read last differ, all ids are below the next one, and the values of environments are places,
+/// or terms of tokens of C. Does nothing.
 pub fn states_stay_sound()
     ensures { (defined : List (List ℕ)) (number : ℕ) (rule : Rule) (followed : Bool) (s next : Chained) →
         HavePlusCode rule.tokens → IsSoundState s → Leads defined number rule followed s next → IsSoundState next }
@@ -38,7 +38,7 @@ pub fn states_stay_sound()
     found_values_are_sound();
 }
 
-/// Of the text that such a rule leaves from there.
+/// The text that such a rule leaves from a sound state is cut into the tokens whose ids it has.
 ///
 /// - `counted`: however it is cut, it has as many tokens as ids.
 /// - `pieces`: it is cut into pieces whose tokens have these ids, in order.

@@ -1,4 +1,4 @@
-// What values a rule finds. The function does nothing.
+// A law of the values that a rule finds. The function does nothing.
 ghost use Rattle.std.specs.Prelude.{ℕ, List, All};
 ghost use Rattle.c_lexer.specs.Pieces.{TextPiece};
 ghost use Rattle.c_lexer.specs.Lexes.{Cuts};
@@ -13,11 +13,11 @@ ghost use Rattle.text_laws.specs.ValueLaws.Carried.{CarriesTerms};
 use crate::output_laws::values_are_sound;
 use crate::reading_laws::trees_are_sound;
 
-/// Of a rule, of whatever number, over the items of a text that is read, under environments whose values are places, or terms of
-/// tokens of C that are no Strays.
+/// A rule with any number, over the items of a text that is read, finds only places and terms of tokens of C that are no
+/// Strays, if the values of the environments before it are such.
 ///
-/// - `found`: such are all values of its witnesses, in their environments and in their trees.
-/// - `carried`: and such are the values of the environments after it.
+/// - `found`: all values of its witnesses are such, in their environments and in their trees.
+/// - `carried`: so are the values of the environments after it.
 ///
 /// Does nothing.
 pub fn found_values_are_sound()

@@ -1,4 +1,4 @@
--- There is one list of the trees of a forest.
+-- A forest has one list of its trees.
 use Rattle.std.proofs.Common.{◌≡◌, ◌⊎◌, inl, inr, refl, sym, ap, ◌∙◌, Bool, true, false, ◌||◌, List, [], ◌∷◌}
 use Rattle.std.specs.declared.cmp.Ordering.{Ordering}
 use Rattle.std.specs.declared.cmp.Ordering.TheVariants.{Less, Equal, Greater}
@@ -16,7 +16,7 @@ module _ (decls : List VarDecl) where
   abbrev R : Witness → Witness → Ordering
   R = witness_order decls
 
-  -- what is before the first of trees in order is none of them
+  -- a tree before the first tree of an ascending list is not in the list
   misses : (w : Witness) (ws : List Witness) → BeforeFirst decls w ws → Rise decls ws → has ws w ≡ false
   misses w [] b r = refl
   misses w (u ∷ us) b r =

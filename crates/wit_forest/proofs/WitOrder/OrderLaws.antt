@@ -23,7 +23,7 @@ module _ (decls : List VarDecl) where
   abbrev R : Witness → Witness → Ordering
   R = witness_order decls
 
-  -- ---- the other way round
+  -- ---- reversed arguments
 
   abbrev Turns : Witness → Type 0
   Turns w = (u : Witness) → R w u ≡ ordering_reverse (R u w)
@@ -55,7 +55,7 @@ module _ (decls : List VarDecl) where
       (reverse_then _ _ _ _ (declared_turns x y) (reverse_then _ _ _ _ (value_order_total.antisymm v u) (lists_turn vs us e)))
       ∙ ap ordering_reverse (sym (order-Bind-Bind decls m y u us n x v vs))))
 
-  -- ---- three of them
+  -- ---- three trees
 
   nats : (a b c : ℕ) → Follow (nat_cmp a b) (nat_cmp b c) (nat_cmp a c)
   nats = follow_of nat_cmp nat_cmp_total
@@ -88,7 +88,7 @@ module _ (decls : List VarDecl) where
   down : (b c : Ordering) → Follow Greater b c
   down b c = record { rise = λ h k. absurd cc; end = λ h k. absurd cc; same = λ h. absurd cc }
 
-  -- the rest of two touches before a bind, of a touch before two binds, of two binds after a touch
+  -- the remaining cases: two touches before a bind, a touch before two binds, two binds after a touch
   behind : (a : Ordering) → Follow a Less Less
   behind a = record { rise = λ h k. refl; end = λ h k. refl; same = λ h. refl }
 

@@ -36,7 +36,7 @@ not_true : (b : Bool) → not b ≡ true → b ≡ false
 not_true true h = absurd cc
 not_true false h = refl
 
--- what one member passes some member does
+-- a test that one member passes is passed by some member
 pub any_at : {X : Type 0} (q : X → Bool) (xs : List X) (i : ℕ) (x : X) → i < length xs → x ≡ get_or xs i x → q x ≡ true → list_any q xs ≡ true
 any_at q [] i x lt e h = absurd (omega arith)
 any_at q (y ∷ ys) zero x lt e h = let k : q y ≡ true = ap q (sym e) ∙ h in either_true (q y) (list_any q ys) k
@@ -53,7 +53,7 @@ any_push q xs x = list_any-append q xs (x ∷ []) ∙ ap (λ b. list_any q xs ||
 pub all_step : {X : Type 0} (q : X → Bool) (xs : List X) (x : X) (i : ℕ) → i < length xs → x ≡ get_or xs i x → list_all q (take (i + 1) xs) ≡ (list_all q (take i xs) && q x)
 all_step q xs x i lt e = list_all_more q xs i x lt ∙ ap (λ y. list_all q (take i xs) && q y) (sym e)
 
--- a tree that is the same as one of the list adds nothing
+-- a tree that is the same as one in the list adds nothing
 pub known_tree : (ws : List Witness) (i : ℕ) (last w z : Witness) → i < length ws → last ≡ get_or ws i last → same_witness last w ≡ true
     → has ws z ≡ (has ws z || same_witness w z)
 known_tree ws i last w z lt e h =

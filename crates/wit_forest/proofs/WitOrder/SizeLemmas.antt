@@ -28,7 +28,7 @@ forests_sized (v ∷ vs) (w ∷ ws) e h =
 clash : (b : Bool) → b ≡ false → b ≡ true → ⊥
 clash b h k = let e : false ≡ true = sym h ∙ k in absurd cc
 
--- the same trees have one size
+-- the same trees have the same size
 pub size-along : (w : Witness) → Sized w
 size-along = witness_induction Sized
     (λ n a p. witness_cases (λ u. same_witness (Touch n a p) u ≡ true → size (Touch n a p) ≡ size u)

@@ -1,5 +1,5 @@
--- Orders that are told part by part: what three answers of a total order say of one another, and that it stays so where the
--- answers of another part are put behind.
+-- Lexicographic orders: how three answers of a total order relate to one another, and that they still do when the answers of
+-- a second part are appended.
 use Rattle.std.proofs.Common.{◌≡◌, refl, sym, ap, ◌∙◌, ◌&&◌}
 use Rattle.std.specs.Cmp.{IsTotalOrder}
 use Rattle.std.specs.declared.cmp.Ordering.{Ordering}
@@ -22,7 +22,7 @@ follow_of R o x y z = record {
   same = λ h. o.congr x y z h;
 }
 
--- by the first part where it tells, else by the second
+-- by the first part if it decides, else by the second
 pub follow_then : (a b c d e f : Ordering) → Follow a b c → Follow d e f → Follow (ordering_then a d) (ordering_then b e) (ordering_then c f)
 follow_then Less Less c d e f h k = let l = h.rise refl refl in record {
   rise = λ p q. ap (λ o. ordering_then o f) l;
@@ -55,7 +55,7 @@ follow_then Equal b c d e f h k = let l = h.same refl in equal_case b c d e f l 
     }
 follow_then Greater b c d e f h k = record { rise = λ p q. absurd cc; end = λ p q. absurd cc; same = λ p. absurd cc }
 
--- the other way round
+-- reversed arguments
 pub reverse_then : (a b d e : Ordering) → a ≡ ordering_reverse b → d ≡ ordering_reverse e → ordering_then a d ≡ ordering_reverse (ordering_then b e)
 reverse_then a Less d e h k = ap (λ o. ordering_then o d) h
 reverse_then a Equal d e h k = ap (λ o. ordering_then o d) h ∙ k

@@ -1,5 +1,6 @@
--- The values that entries leave a variable are all under which the set has the environment, where those are among finitely
--- many: an entry that leaves the variable open, or excludes some values, would allow a place that is none of them.
+-- The values that the entries assign to a variable are all those under which the set has the environment, if the latter are
+-- among finitely many: an entry that leaves the variable open, or excludes some values, would allow a place that is not
+-- among them.
 use Rattle.std.proofs.Common.{◌≡◌, ℕ, suc, ◌+◌, ◌≤◌, Bool, true, false, ◌&&◌, ◌||◌, not, eqb, cond, refl, sym, ap, ◌∙◌, subst, arith, List, [], ◌∷◌, ◌++◌, length, get_or, take, add-one, ◌<◌, zero, Option, Some, None}
 use Rattle.std.specs.List.{list_any}
 use Rattle.std.proofs.lemmas.List.{take_all}
@@ -67,7 +68,7 @@ module _ (x : Var) (env : Environment) where
   bound_of [] = None
   bound_of (p ∷ ps) = cond (same_var p.0 x) (Some p.1) (bound_of ps)
 
-  -- past x nothing depends on its value
+  -- after x nothing depends on its value
   past : (v : Value) (ps : List (Var × Bound)) → Above x ps → entry_denotes ps (change env x v) ≡ others_allow x env ps
   past v [] a = refl
   past v (p ∷ ps) a = at (same_var p.0 x) (less-apart x p.0 a.0) (past v ps a.1)
@@ -77,7 +78,7 @@ module _ (x : Var) (env : Environment) where
       at true e h = absurd cc
       at false e h = ap (λ b. fits (env p.0) p.1 && b) h
 
-  -- an entry by what it says of x and of the others
+  -- an entry, given what it says about x and about the others
   split : (v : Value) (ps : List (Var × Bound)) → Rising ps → entry_denotes ps (change env x v) ≡ (others_allow x env ps && allows v (bound_of ps))
   split v [] r = refl
   split v (p ∷ ps) r = at (same_var p.0 x) refl (split v ps r.1)
@@ -160,7 +161,7 @@ or_third : (a b c : Bool) → ((a || b) || c) ≡ (a || (b || c))
 or_third true b c = refl
 or_third false b c = refl
 
--- the values of one more entry, behind others
+-- the values of one more entry, after others
 pub chosen_next : (x : Var) (env : Environment) (es : Entries) (i : ℕ) (e ps : List (Var × Bound)) (v : Value) (old before after : Bool)
     → i < length es → e ≡ get_or es i e → ps ≡ e → before ≡ (old || chosen x env (take i es) v)
     → after ≡ (before || (others_allow x env ps && is_same_as v (own_value x ps)))

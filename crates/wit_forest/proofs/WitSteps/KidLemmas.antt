@@ -1,4 +1,4 @@
--- The forest of a part is what it touches and the forests of what it leads to, but for quantifiers.
+-- The forest of a part is what the part touches and the forests of the parts that it leads to, except for quantifiers.
 use Rattle.std.proofs.Common.{◌≡◌, ℕ, suc, zero, ◌+◌, ◌<◌, ⊎_elim, Bool, true, false, not, cond, ◌&&◌, ◌||◌, eqb, refl, sym, ap, ◌∙◌, arith, add-one, List, [], ◌∷◌, ◌++◌, map, Option, Some, None, Contains}
 use Rattle.std.proofs.lemmas.List.Folds.{list_any-append}
 use Rattle.std.specs.Prelude.{slice_get}
@@ -52,7 +52,7 @@ module _ (g : Flow) (ok : IsSound g) (p q : ℕ → Bool) where
       ∙ ap (λ b. q s || (p s && b)) (passes-agree g ok false (rounds g false p q (count_of g)) E
       (settled g ok false p q (count_of g + 1) (omega arith)) s lt)
 
-  -- where it holds at a node, it holds at each from which walks come to that through p
+  -- if the until holds at a node, it holds at each node from which walks reach that one through p
   pub behind : (m : ℕ) → E m ≡ true → (n k : ℕ) → k < count_of g → rounds g false p (λ j. eqb j m) n k ≡ true → E k ≡ true
   behind m e zero k lt h = absurd cc
   behind m e (suc n) k lt h = ⊎_elim
@@ -131,7 +131,7 @@ module _ (decls : List VarDecl) (tokens : List PatToken) (g : Flow) (ok : IsSoun
     cond-has true = refl
     cond-has false = refl
 
-    -- the ways from here over next nodes, where nothing is found behind a node at which the until fails
+    -- the ways from here over next nodes, if nothing is found after a node at which the until fails
     ways : ((k : ℕ) → k < count_of g → H part k ≡ false → here (at fs part) k ≡ false) → (xs : List ℕ)
         → ((k : ℕ) → Contains xs k → k < count_of g)
         → some (flat_map (way_on g H part i s) xs)
@@ -152,7 +152,7 @@ module _ (decls : List VarDecl) (tokens : List PatToken) (g : Flow) (ok : IsSoun
             let none = dead k (nodes k (zero, omega arith, refl)) e in
             h ∙ ap (λ r. cond (list_any (H part) xs) (here (at fs i) s) false || (r || list_any (λ k. here (at fs part) k) xs)) (sym none)
 
-  -- an until that fails at a node has no trees from there on
+  -- an until that fails at a node has no trees from that node on
   module _ (f h : Plain) where
     abbrev on : ℕ → Bool
     on n = W.holds f n env
@@ -194,7 +194,7 @@ module _ (decls : List VarDecl) (tokens : List PatToken) (g : Flow) (ok : IsSoun
     dead_part : (k : ℕ) → k < count_of g → H part k ≡ false → here (at fs part) k ≡ false
     dead_part k l r = ap (λ f. here f k) e ∙ dead (at fs i) (at fs j) k l (sym (ap (λ f. W.holds f k env) e) ∙ r)
 
-    -- the trees here, and those behind each next node
+    -- the trees here, and those after each next node
     pair : (b c : Bool) → has (union decls (cond b (forest W (at fs j) s env) []) (cond c (forest W (at fs i) s env) [])) z
         ≡ (some (cond b ((j, s) ∷ []) []) || cond c (here (at fs i) s) false)
     pair b c =
@@ -231,7 +231,7 @@ module _ (decls : List VarDecl) (tokens : List PatToken) (g : Flow) (ok : IsSoun
   every_until part i j s e lt =
       au-step W ok env z (at fs i) (at fs j) s lt ∙ every_case part i j s (AU (at fs i) (at fs j)) e (H j s) (H i s)
 
-  -- what a part's forest has, its own touches have or the forest of what it leads to, and nothing else
+  -- each tree of a part's forest is one of its own touches or in the forest of a part that it leads to, and nothing else is
   pub kid_step : (n : Node) → is_quantifier n ≡ false → (part s : ℕ) → s < count_of g → at fs part ≡ plain_of fs n
       → here (plain_of fs n) s ≡ (has (own_touches decls tokens g n s env) z || some (kids g H n part s))
   kid_step node.True q part s lt e = refl

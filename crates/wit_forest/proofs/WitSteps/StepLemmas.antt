@@ -12,7 +12,7 @@ use Rattle.smpl_terms.proofs.VarLaws.{same_var-sym, same_var-refl, same_var-equa
 use Rattle.smpl_terms.proofs.ValueLaws.{same-refl}
 use Rattle.wit_forest.specs.WitTrees.Alike.{Alike}
 
--- one more pair behind the others: it tells where none of them does
+-- one more pair after the others: it decides if none of them does
 pub value_in-push : (ps : List (Var × Value)) (p : Var × Value) (y : Var)
     → value_in (ps ++ p ∷ []) y ≡ cond (is_some (value_in ps y)) (value_in ps y) (cond (same_var p.0 y) (Some p.1) None)
 value_in-push [] p y = refl
@@ -24,7 +24,7 @@ value_in-push (q ∷ ps) p y = at (same_var q.0 y) (value_in-push ps p y)
     at true h = refl
     at false h = h
 
--- one more variable with a value, among those of an environment without it
+-- one more variable with a value, in an environment without it
 pub changed_value : (env rest r : List (Var × Value)) (x : Var) (v : Value)
     → ((y : Var) → value_in rest y ≡ cond (same_var y x) None (value_in env y))
     → ((y : Var) → value_in r y ≡ cond (same_var x y) (Some v) (value_in rest y))
@@ -42,7 +42,7 @@ changed_value env rest r x v h k y =
 tells : (ps : List (Var × Value)) (x y : Var) → same_var x y ≡ true → value_in ps x ≡ value_in ps y
 tells ps x y h = ap (value_in ps) (same_var-equal x y h)
 
--- a pair whose variable has a value adds nothing
+-- a pair whose variable already has a value adds nothing
 pub put_known : (ps : List (Var × Value)) (p : Var × Value) → true ≡ has_value ps p.0 → (y : Var) → value_in ps y ≡ value_in (ps ++ p ∷ []) y
 put_known ps p h y = sym (value_in-push ps p y ∙ at (value_in ps y) (same_var p.0 y) refl refl)
   where
@@ -51,7 +51,7 @@ put_known ps p h y = sym (value_in-push ps p y ∙ at (value_in ps y) (same_var 
     at None false e f = refl
     at None true e f = let clash : true ≡ false = h ∙ ap is_some (tells ps p.0 y f ∙ e) in absurd cc
 
--- one whose variable has none adds its own
+-- a pair whose variable has no value yet adds its own
 pub put_new : (ps : List (Var × Value)) (p : Var × Value) → value_in ps p.0 ≡ None
     → (y : Var) → cond (same_var p.0 y) (Some p.1) (value_in ps y) ≡ value_in (ps ++ p ∷ []) y
 put_new ps p h y = at (value_in ps y) (same_var p.0 y) refl refl ∙ sym (value_in-push ps p y)
@@ -74,7 +74,7 @@ kept_step (Some u) b true false v h = refl
 kept_step None false true false v h = refl
 kept_step None true true false v h = absurd (let e : true ≡ false = h refl in cc)
 
--- one more pair of the list, where x is left out
+-- one more pair of the list, with x left out
 pub without_step : (ps rest next : List (Var × Value)) (p : Var × Value) (x : Var)
     → ((y : Var) → value_in rest y ≡ cond (same_var y x) None (value_in ps y))
     → ((y : Var) → value_in next y ≡ cond (same_var p.0 x) (value_in rest y) (value_in (rest ++ p ∷ []) y))
@@ -107,7 +107,7 @@ pub none_of : (o : Option Value) → false ≡ is_some o → o ≡ None
 none_of None h = refl
 none_of (Some v) h = absurd cc
 
--- a number of a list by its place
+-- the number at a place of a list is in the list
 pub member : (xs : List ℕ) (i : ℕ) → i < length xs → Contains xs (get_or xs i 0)
 member [] i lt = absurd (omega (arith, lt))
 member (x ∷ xs) zero lt = Contains-first x xs

@@ -43,7 +43,7 @@ at_value false v u d h = same-refl d
 pub value_alike : (d : Environment) (x : Var) (v u : Value) → same v u ≡ true → Alike (change d x v) (change d x u)
 value_alike d x v u h y = at_value (same_var y x) v u (d y) h
 
--- values that are the same are the place of the same block
+-- values that are the same are the places of the same block
 module _ (g : Flow) (v u : Value) (h : same v u ≡ true) where
   brace-alike : (is : NodeKind → Bool) (l : NodeLabel) → is_brace is v l ≡ is_brace is u l
   brace-alike is l = λ i. is l.kind && same-along v u h (Place l.brace) i

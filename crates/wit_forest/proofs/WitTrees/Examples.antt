@@ -1,5 +1,5 @@
--- Forests at small graphs. A value is named by its place among the graph's values, and where an atom matches, and what it
--- touches there, is told by a table.
+-- Forests at small graphs. A value is named by its place among the graph's values; a table says where an atom matches and
+-- what it touches there.
 use Rattle.std.proofs.Common.{◌≡◌, ℕ, zero, suc, ◌+◌, Bool, true, false, not, ◌&&◌, ◌||◌, refl, List, [], ◌∷◌, Option, Some, None, slice_index_or, cond, map}
 use Rattle.std.specs.Prelude.{codes, eqb, slice_get}
 use Rattle.std.specs.List.{list_any, list_all}
@@ -51,7 +51,7 @@ abbrev places : ℕ → ℕ → List Value
 places n zero = []
 places n (suc k) = Place n ∷ places (suc n) k
 
--- by the places of the blocks that nodes open and close
+-- the places of the blocks that nodes open and close
 abbrev labels : List (Option ℕ) → List (Option ℕ) → List NodeLabel
 labels (Some id ∷ opens) (_ ∷ closes) = label kind.OpenBrace id ∷ labels opens closes
 labels (None ∷ opens) (Some id ∷ closes) = label kind.CloseBrace id ∷ labels opens closes
@@ -62,7 +62,7 @@ abbrev is_brace : Option ℕ → Value → Bool
 is_brace None x = false
 is_brace (Some id) x = same (Place id) x
 
--- what a table says, and where formulas hold by it
+-- what a table says, and where formulas hold by the table
 module _ (g : Flow) (values : List Value) (rows : List Row) (bails : List ℕ) (opens closes : List (Option ℕ)) where
   abbrev matches : Pattern → ℕ → Environment → Bool
   matches q s env = list_any (λ r. fits r s q.atom env) rows
@@ -109,7 +109,7 @@ f1 = (Exists (v 0 (codes "E")) (Atom (p 0)))
 forest1_2 : forest w1 f1 2 start ≡ ((Bind 2 (v 0 (codes "E")) (Place 0) ((Touch 2 0 (2 ∷ 1 ∷ 0 ∷ 2 ∷ 0 ∷ [])) ∷ [])) ∷ ((Bind 2 (v 0 (codes "E")) (Place 1) ((Touch 2 0 (2 ∷ 1 ∷ 0 ∷ 2 ∷ 2 ∷ [])) ∷ [])) ∷ []))
 forest1_2 = simp order-Bind-Bind refl
 
--- of a disjunction the first branch that matches is touched, and nothing of the others
+-- the first branch of a disjunction that matches is touched, and no other branch
 abbrev w2 : World
 w2 = (world ((1 ∷ []) ∷ (2 ∷ []) ∷ (3 ∷ []) ∷ (4 ∷ []) ∷ (4 ∷ []) ∷ []) ((Some 4) ∷ (Some 4) ∷ (Some 3) ∷ (Some 4) ∷ None ∷ []) ((1 ∷ []) ∷ (2 ∷ []) ∷ [] ∷ [] ∷ [] ∷ []) 33 ((2, 0, (((v 0 (codes "x")), 3) ∷ []), ((2 ∷ 1 ∷ []) ∷ [])) ∷ (2, 1, [], ((2 ∷ 1 ∷ []) ∷ [])) ∷ []) [] (None ∷ (Some 26) ∷ None ∷ None ∷ None ∷ []) (None ∷ None ∷ None ∷ (Some 26) ∷ None ∷ []) ((v 0 (codes "x")) ∷ []))
 
@@ -129,7 +129,7 @@ f3 = (And (Exists (v 0 (codes "l")) (Atom (p 0))) (AX (And (AU (And (Not (Exists
 forest3_2 : forest w3 f3 2 start ≡ ((Bind 2 (v 0 (codes "l")) (Place 0) ((Touch 2 0 (2 ∷ 1 ∷ [])) ∷ [])) ∷ ((Bind 4 (v 0 (codes "m")) (Place 0) ((Touch 4 1 (2 ∷ 2 ∷ 4 ∷ [])) ∷ [])) ∷ ((Bind 5 (v 0 (codes "m")) (Place 1) ((Touch 5 1 (2 ∷ 2 ∷ 6 ∷ [])) ∷ [])) ∷ [])))
 forest3_2 = simp (order-Touch-Touch, order-Bind-Bind) refl
 
--- a value is told where it is bound
+-- a value is reported where it is bound
 abbrev w4 : World
 w4 = (world ((1 ∷ []) ∷ (2 ∷ []) ∷ (3 ∷ []) ∷ (4 ∷ []) ∷ (5 ∷ []) ∷ (6 ∷ []) ∷ (6 ∷ []) ∷ []) ((Some 6) ∷ (Some 6) ∷ (Some 3) ∷ (Some 4) ∷ (Some 5) ∷ (Some 6) ∷ None ∷ []) ((1 ∷ []) ∷ (2 ∷ []) ∷ [] ∷ [] ∷ [] ∷ [] ∷ [] ∷ []) 50 ((2, 0, [], ((2 ∷ 1 ∷ []) ∷ [])) ∷ (4, 1, (((v 0 (codes "x")), 6) ∷ []), ((2 ∷ 3 ∷ []) ∷ [])) ∷ (3, 2, (((v 0 (codes "x")), 5) ∷ []), []) ∷ []) [] (None ∷ (Some 34) ∷ None ∷ None ∷ None ∷ None ∷ None ∷ []) (None ∷ None ∷ None ∷ None ∷ None ∷ (Some 34) ∷ None ∷ []) ((v 0 (codes "x")) ∷ []))
 
@@ -139,7 +139,7 @@ f4 = (And (Atom (p 0)) (AX (Exists (v 0 (codes "x")) (And (AU (And (And (Not (At
 forest4_2 : forest w4 f4 2 start ≡ ((Touch 2 0 (2 ∷ 1 ∷ [])) ∷ ((Bind 3 (v 0 (codes "x")) (Place 6) ((Touch 4 1 (2 ∷ 3 ∷ [])) ∷ [])) ∷ []))
 forest4_2 = simp (order-Touch-Touch, order-Touch-Bind) refl
 
--- a loop is gone through once
+-- a loop is entered once
 abbrev w7 : World
 w7 = (world ((1 ∷ []) ∷ (2 ∷ []) ∷ (3 ∷ []) ∷ (4 ∷ 5 ∷ []) ∷ (3 ∷ []) ∷ (6 ∷ []) ∷ (7 ∷ []) ∷ (7 ∷ []) ∷ []) ((Some 7) ∷ (Some 7) ∷ (Some 3) ∷ (Some 5) ∷ (Some 3) ∷ (Some 6) ∷ (Some 7) ∷ None ∷ []) ((1 ∷ []) ∷ (2 ∷ []) ∷ [] ∷ (4 ∷ []) ∷ [] ∷ [] ∷ [] ∷ [] ∷ []) 51 ((2, 0, [], ((2 ∷ 1 ∷ []) ∷ [])) ∷ (5, 1, [], ((2 ∷ 3 ∷ []) ∷ [])) ∷ []) [] (None ∷ (Some 33) ∷ None ∷ None ∷ None ∷ None ∷ None ∷ None ∷ []) (None ∷ None ∷ None ∷ None ∷ None ∷ None ∷ (Some 33) ∷ None ∷ []) [])
 
@@ -149,7 +149,7 @@ f7 = (And (Atom (p 0)) (EX (EU (And (Not (Atom (p 0))) (Not (Atom (p 1)))) (Atom
 forest7_2 : forest w7 f7 2 start ≡ ((Touch 2 0 (2 ∷ 1 ∷ [])) ∷ ((Touch 5 1 (2 ∷ 3 ∷ [])) ∷ []))
 forest7_2 = simp order-Touch-Touch refl
 
--- a tree stands once, however many walks come to it
+-- a tree occurs once, however many walks reach it
 abbrev w8 : World
 w8 = (world ((1 ∷ []) ∷ (2 ∷ []) ∷ (3 ∷ []) ∷ (4 ∷ 5 ∷ []) ∷ (5 ∷ []) ∷ (6 ∷ 7 ∷ []) ∷ (7 ∷ []) ∷ (8 ∷ []) ∷ (9 ∷ []) ∷ (9 ∷ []) ∷ []) ((Some 9) ∷ (Some 9) ∷ (Some 3) ∷ (Some 5) ∷ (Some 5) ∷ (Some 7) ∷ (Some 7) ∷ (Some 8) ∷ (Some 9) ∷ None ∷ []) ((1 ∷ []) ∷ (2 ∷ []) ∷ [] ∷ (4 ∷ []) ∷ [] ∷ (6 ∷ []) ∷ [] ∷ [] ∷ [] ∷ [] ∷ []) 59 ((2, 0, [], ((2 ∷ 1 ∷ []) ∷ [])) ∷ (7, 1, [], ((2 ∷ 4 ∷ []) ∷ [])) ∷ []) [] (None ∷ (Some 33) ∷ None ∷ None ∷ None ∷ None ∷ None ∷ None ∷ None ∷ None ∷ []) (None ∷ None ∷ None ∷ None ∷ None ∷ None ∷ None ∷ None ∷ (Some 33) ∷ None ∷ []) [])
 
@@ -202,7 +202,7 @@ f14 = (Exists (v 0 (codes "x")) (And (Atom (p 0)) (EX (And (EU (And (And (Not (A
 forest14_2 : forest w14 f14 2 start ≡ ((Bind 2 (v 0 (codes "x")) (Place 0) ((Touch 2 0 (2 ∷ 1 ∷ [])) ∷ ((Touch 4 2 (2 ∷ 3 ∷ [])) ∷ []))) ∷ [])
 forest14_2 = simp order-Touch-Touch refl
 
--- a nest: what is repeated is touched at each node that it matches, with a value of its own
+-- a nest: the repeated part is touched at each node that it matches, with its own value
 abbrev w20 : World
 w20 = (world ((1 ∷ []) ∷ (2 ∷ []) ∷ (3 ∷ []) ∷ (4 ∷ []) ∷ (5 ∷ []) ∷ (6 ∷ []) ∷ (7 ∷ []) ∷ (8 ∷ []) ∷ (8 ∷ []) ∷ []) ((Some 8) ∷ (Some 8) ∷ (Some 3) ∷ (Some 4) ∷ (Some 5) ∷ (Some 6) ∷ (Some 7) ∷ (Some 8) ∷ None ∷ []) ((1 ∷ []) ∷ (2 ∷ []) ∷ [] ∷ [] ∷ [] ∷ [] ∷ [] ∷ [] ∷ [] ∷ []) 3 ((2, 0, [], []) ∷ (3, 1, (((v 0 (codes "x")), 0) ∷ []), ((2 ∷ 2 ∷ []) ∷ [])) ∷ (5, 1, (((v 0 (codes "x")), 1) ∷ []), ((2 ∷ 4 ∷ []) ∷ [])) ∷ (6, 2, [], []) ∷ []) [] (None ∷ (Some 38) ∷ None ∷ None ∷ None ∷ None ∷ None ∷ None ∷ None ∷ []) (None ∷ None ∷ None ∷ None ∷ None ∷ None ∷ None ∷ (Some 38) ∷ None ∷ []) ((v 0 (codes "x")) ∷ []))
 

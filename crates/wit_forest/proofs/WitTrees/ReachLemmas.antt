@@ -1,4 +1,4 @@
--- What walks come to, step by step.
+-- What walks reach, step by step.
 use Rattle.std.proofs.Common.{◌≡◌, ℕ, suc, zero, ◌+◌, ◌<◌, ⊎_elim, Bool, true, false, cond, ◌&&◌, ◌||◌, eqb, refl, sym, ap, ◌∙◌, arith, add-one, List, [], ◌∷◌}
 use Rattle.std.proofs.lemmas.Bool.{cases_lt}
 use Rattle.std.proofs.lemmas.Bool.Decides.{nat_tests}
@@ -36,7 +36,7 @@ any-filter p q (x ∷ xs) = at (p x) (any-filter p q xs)
     at false h = h
 
 module _ (g : Flow) (ok : IsSound g) (test : ℕ → Bool) where
-  -- a node comes to itself, and where it passes, to what its successors come to
+  -- a node reaches itself, and if it passes, what its successors reach
   pub reach-step : (s m : ℕ) → s < count_of g
       → is_reached g test s m ≡ (eqb s m || (test s && list_any (λ k. is_reached g test k m) (succ_of g s)))
   reach-step s m lt =
@@ -46,7 +46,7 @@ module _ (g : Flow) (ok : IsSound g) (test : ℕ → Bool) where
       ap (λ j. rounds g false test e j s) (add-one (count_of g)) ∙ ap (λ b. eqb s m || (test s && b)) next
 
   module _ (q : ℕ → Bool) where
-    -- q at some node that walks from s come to
+    -- q holds at some node that walks from s reach
     abbrev pub somewhere : ℕ → Bool
     somewhere s = list_any (λ m. is_reached g test s m && q m) (numbers (count_of g))
 
@@ -76,6 +76,6 @@ module _ (g : Flow) (ok : IsSound g) (test : ℕ → Bool) where
         (and_right (is_reached g test k.0 m.0) (q m.0) m.2)))
         (or_cases (q s) _ h)
 
-    -- here, or where s passes, from a successor
+    -- q holds here, or if s passes, at a node that a successor reaches
     pub somewhere-step : (s : ℕ) → s < count_of g → somewhere s ≡ (q s || (test s && list_any somewhere (succ_of g s)))
     somewhere-step s lt = same_bool (onward s lt) (back s lt)

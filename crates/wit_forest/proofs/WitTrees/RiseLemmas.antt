@@ -1,4 +1,4 @@
--- Forests rise.
+-- Forests are ascending.
 use Rattle.std.proofs.Common.{ℕ, Bool, true, false, cond, not, ◌&&◌, Option, Some, None, List, [], ◌∷◌, map}
 use Rattle.std.specs.List.{filter, list_any}
 use Rattle.std.specs.Prelude.{slice_get}

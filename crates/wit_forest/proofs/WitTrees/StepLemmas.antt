@@ -33,14 +33,15 @@ module _ (w : World) (ok : IsSound w.graph) (env : Environment) (z : Witness) wh
         ≡ list_any (λ m. is_reached w.graph way s m && has (choice m) z) (numbers (count_of w.graph))
     au_somewhere s = has-union_map w choice (reached w.graph way s) z ∙ any-filter (is_reached w.graph way s) (λ m. has (choice m) z) (numbers (count_of w.graph))
 
-    -- A[f U h]: here, and where f holds and h doesn't, what the until has at each next node
+    -- A[f U h]: the trees here, and if f holds and h doesn't, those of the until at each next node
     pub au-step : (s : ℕ) → s < count_of w.graph → has (forest w (AU f h) s env) z
         ≡ (has (choice s) z || (way s && list_any (λ k. has (forest w (AU f h) k env) z) (succ_of w.graph s)))
     au-step s lt =
         au_somewhere s ∙ somewhere-step w.graph ok way (λ m. has (choice m) z) s lt
         ∙ sym (λ i. has (choice s) z || (way s && list_any (λ k. au_somewhere k i) (succ_of w.graph s)))
 
-    -- E[f U h] with each of its nodes: the end's trees where that holds, the way's where it holds and the until at a next node
+    -- E[f U h] at each of its nodes: the end's trees if the end holds, and the way's if the way holds and the until holds at
+    -- a next node
     abbrev both : ℕ → List Witness
     both n = union w.decls (if w.holds h n env then forest w h n env else [])
         (if w.holds f n env && list_any (λ k. w.holds (EU f h) k env) (succ_of w.graph n) then forest w f n env else [])

@@ -1,4 +1,4 @@
--- Which trees unions have, and that they rise.
+-- Which trees unions have, and that unions are ascending.
 use Rattle.std.proofs.Common.{◌≡◌, Bool, true, false, ◌||◌, refl, sym, ap, ◌∙◌, List, [], ◌∷◌}
 use Rattle.std.specs.List.{list_any}
 use Rattle.std.specs.declared.cmp.Ordering.{Ordering}
@@ -52,7 +52,7 @@ module _ (decls : List VarDecl) where
   has-union_of [] z = refl
   has-union_of (ws ∷ more) z = has-union ws (union_of decls more) z ∙ ap (λ b. has ws z || b) (has-union_of more z)
 
-  -- ---- they rise
+  -- ---- they are ascending
 
   placed_first : (o : Ordering) (v w u : Witness) (us more : List Witness) → witness_order decls v w ≡ Less → witness_order decls v u ≡ Less
       → BeforeFirst decls v (placed o w u us more)

@@ -1,4 +1,4 @@
--- Walks that come to a node through nodes that pass.
+-- Walks that reach a node through nodes that pass.
 use Rattle.std.specs.Prelude.{◌≡◌, ℕ, Bool, true, List, ◌∷◌}
 use Rattle.cfg_build.specs.CfgGraph.Flow.{Flow}
 use Rattle.cfg_build.specs.CfgGraph.Walks.{IsWalk}

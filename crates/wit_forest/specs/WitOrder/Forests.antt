@@ -27,6 +27,6 @@ module _ (decls : List VarDecl) where
   abbrev pub NoneAbove : Witness → List Witness → Type 0
   NoneAbove w ws = list_all (λ u. not (is_lt (witness_order decls w u))) ws ≡ true
 
--- the same trees stand in both
+-- both have the same trees
 abbrev pub HaveSame : List Witness → List Witness → Type 0
 HaveSame vs ws = (w : Witness) → has vs w ≡ has ws w

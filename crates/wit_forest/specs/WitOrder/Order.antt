@@ -13,13 +13,13 @@ use Rattle.smpl_patch.specs.declared.witness.Witness.{Witness, out-Witness}
 use Rattle.smpl_patch.specs.declared.witness.Witness.TheOpen.{Witness-F}
 use Rattle.smpl_patch.specs.declared.witness.Witness.TheFolds.{fold-Witness}
 
--- how many declarations stand before that of x; all, if it has none
+-- how many declarations come before that of x; all, if it has none
 abbrev pub rank : List VarDecl → Var → ℕ
 rank [] x = 0
 rank (d ∷ ds) x = cond (same_var d.var x) 0 (suc (rank ds x))
 
 module _ (decls : List VarDecl) where
-  -- as they are declared; those that are not after them, as variables are ordered
+  -- in the order of declarations; undeclared variables come last, in the order of variables
   abbrev pub declared_order : Var → Var → Ordering
   declared_order x y = ordering_then (nat_cmp (rank decls x) (rank decls y)) (var_order x y)
 

@@ -1,5 +1,5 @@
--- When two trees of witnesses are the same: of one node, with one atom and one place, or with one variable, the same value,
--- and the same trees under it. Values are the same as terms are, ids aside.
+-- When two trees of witnesses are the same: they have the same node, and the same atom and place, or the same variable, the
+-- same value and the same trees under it. Values are the same if their terms are, ids aside.
 use Rattle.std.specs.Prelude.{Bool, true, false, ◌&&◌, eqb, List, [], ◌∷◌}
 use Rattle.c_terms.specs.Same.{same_bytes}
 use Rattle.smpl_terms.specs.Vars.{same_var}
@@ -8,7 +8,7 @@ use Rattle.smpl_patch.specs.declared.witness.Witness.{Witness, out-Witness}
 use Rattle.smpl_patch.specs.declared.witness.Witness.TheOpen.{Witness-F}
 use Rattle.smpl_patch.specs.declared.witness.Witness.TheFolds.{fold-Witness}
 
--- one test for each, in order
+-- each test passes the element at its place
 abbrev pub all_pass : {T : Type 0} → List (T → Bool) → List T → Bool
 all_pass [] [] = true
 all_pass [] (t ∷ ts) = false

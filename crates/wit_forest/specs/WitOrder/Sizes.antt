@@ -8,10 +8,10 @@ abbrev pub size_step : Witness-F ℕ → ℕ
 size_step (Witness-F.Touch n a p) = 1
 size_step (Witness-F.Bind n x v sizes) = 1 + sum sizes
 
--- its touches and binds
+-- how many touches and binds it has
 abbrev pub size : Witness → ℕ
 size = fold-Witness ℕ size_step
 
--- those of all the trees
+-- how many all the trees have
 abbrev pub forest_size : List Witness → ℕ
 forest_size ws = sum (map size ws)

@@ -1,4 +1,4 @@
--- Which values the entries of a set allow a variable, where the others have those of an environment.
+-- Which values the entries of a set assign to a variable, if the others have those of an environment.
 use Rattle.std.specs.Prelude.{Bool, false, ◌&&◌, ◌||◌, cond, Option, None, Some, List, [], ◌∷◌}
 use Rattle.std.specs.List.{list_any, list_all}
 use Rattle.smpl_terms.specs.declared.var.Var.{Var}
@@ -28,11 +28,11 @@ abbrev pub is_same_as : Value → Option Value → Bool
 is_same_as v None = false
 is_same_as v (Some u) = same u v
 
--- some entry has v as the one value of x, and allows what env gives the others
+-- some entry has v as the one value of x, and allows the values that env gives the others
 abbrev pub chosen : Var → Environment → Entries → Value → Bool
 chosen x env entries v = list_any (λ e. others_allow x env e && is_same_as v (own_value x e)) entries
 
--- the variables of each entry rise
+-- the variables of each entry are ascending
 abbrev pub AllRise : Entries → Type 0
 AllRise [] = Unit {0}
 AllRise (e ∷ es) = Rising e × AllRise es

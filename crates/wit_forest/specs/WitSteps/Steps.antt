@@ -16,17 +16,17 @@ there i (Some k) = (i, k) ∷ []
 abbrev pub told : List (List Entries) → Environment → ℕ → ℕ → Bool
 told rows env part s = set_denotes (set_at rows part s) env
 
--- a graph, and where which part holds
+-- a graph, and which parts hold at which nodes
 module _ (g : Flow) (holds : ℕ → ℕ → Bool) where
-  -- the part at the node, where it holds
+  -- the part at the node, if it holds there
   abbrev pub held : ℕ → ℕ → List (ℕ × ℕ)
   held i s = if holds i s then (i, s) ∷ [] else []
 
-  -- the way here and the until at a next node, where it holds there
+  -- the way here and the until at a next node, if the until holds there
   abbrev pub way_on : ℕ → ℕ → ℕ → ℕ → List (ℕ × ℕ)
   way_on until way s k = if holds until k then (way, s) ∷ (until, k) ∷ [] else []
 
-  -- of the node of the table with the number `part`; atoms and quantifiers lead nowhere by themselves
+  -- for the node of the table with the number `part`; atoms and quantifiers lead nowhere by themselves
   abbrev pub kids : Node → ℕ → ℕ → List (ℕ × ℕ)
   kids (node.And i j) part s = (i, s) ∷ (j, s) ∷ []
   kids (node.Or i j) part s = held i s ++ held j s
@@ -39,7 +39,7 @@ module _ (g : Flow) (holds : ℕ → ℕ → Bool) where
   kids (node.Down b i) part s = there i (slice_get (down_of g s) b)
   kids _ part s = []
 
--- quantifiers lead to their part under other environments
+-- quantifiers lead to their parts under other environments
 abbrev pub is_quantifier : Node → Bool
 is_quantifier (node.Exists x i) = true
 is_quantifier _ = false

@@ -1,4 +1,4 @@
--- What the nodes of a table touch: atoms and braces each place where they are aligned, and nothing else.
+-- What the nodes of a table touch: for atoms and braces each place where they are aligned, and nothing else.
 use Rattle.std.specs.Prelude.{ℕ, List, [], map}
 use Rattle.cfg_build.specs.CfgGraph.Flow.{Flow}
 use Rattle.smpl_terms.specs.Environments.{Environment}

@@ -14,8 +14,8 @@ use Rattle.ctl_formula.specs.Plain.{EU, Past, Down, Exists}
 use Rattle.ctl_fixpoint.specs.CtlHolds.Rounds.{rounds}
 use Rattle.wit_forest.specs.WitTrees.Unions.{union, union_of}
 
--- what forests are told by: a graph, the values that variables can have in it, where formulas hold, what an atom touches,
--- and the order in which variables are declared
+-- what forests depend on: a graph, the values that variables can have in it, where formulas hold, what an atom touches, and
+-- the order in which variables are declared
 pub record World : Type 0 where
   pub graph : Flow
   pub values : List Value
@@ -37,11 +37,11 @@ is_hidden_name (c ∷ cs) = eqb c 123
 abbrev pub is_hidden : Var → Bool
 is_hidden x = is_hidden_name x.name
 
--- some walk from s comes to n, and each node before n passes
+-- some walk from s reaches n, and each node before n passes
 abbrev pub is_reached : Flow → (ℕ → Bool) → ℕ → ℕ → Bool
 is_reached g test s n = rounds g false test (λ k. eqb k n) (count_of g + 1) s
 
--- the nodes that walks from s come to through nodes that pass
+-- the nodes that walks from s reach through nodes that pass
 abbrev pub reached : Flow → (ℕ → Bool) → ℕ → List ℕ
 reached g test s = filter (is_reached g test s) (numbers (count_of g))
 
@@ -53,12 +53,12 @@ module _ (w : World) where
   at_option f None = []
   at_option f (Some k) = f k
 
-  -- under a value: a tree, or for a hidden variable the forest itself
+  -- under a value: one tree, or for a hidden variable the forest itself
   abbrev pub bound_to : Bool → ℕ → Var → Value → List Witness → List Witness
   bound_to true s x v ws = ws
   bound_to false s x v ws = Bind s x v ws ∷ []
 
-  -- It is meant where the formula holds at s under env.
+  -- This has a meaning only if the formula holds at s under env.
   abbrev pub forest : Plain → ℕ → Environment → List Witness
   forest True s env = []
   forest (Atom p) s env = touched p s env

@@ -20,7 +20,7 @@ module _ (decls : List VarDecl) (tokens : List PatToken) where
   paths_at p env None = []
   paths_at p env (Some l) = map (λ a. a.path) (aligns decls tokens env p l)
 
-  -- the nodes of a graph: an until looks at walks of at most one more node than there are
+  -- the nodes of a graph: an until considers walks of at most one more node than there are
   abbrev pub world_of : Flow → World
   world_of g = record {
     graph = g;

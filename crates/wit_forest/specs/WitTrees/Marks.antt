@@ -19,7 +19,7 @@ abbrev pub is_there : Option PlusBlock → Bool
 is_there None = false
 is_there (Some b) = true
 
--- a mark, or plus code
+-- it has a mark, or plus code
 abbrev pub is_marked : Option PatToken → Bool
 is_marked None = false
 is_marked (Some p) = not (is_context p.mark) || (is_there p.before || is_there p.after)
@@ -28,6 +28,6 @@ module _ (tokens : List PatToken) where
   abbrev pub is_marked_tree : Tree → Bool
   is_marked_tree t = list_any (λ a. is_marked (slice_get tokens a.id)) (leaves t)
 
-  -- some token of what is compared of the pattern's first form is marked
+  -- some token of the compared part of the pattern's first form is marked
   abbrev pub is_touched : Pattern → Bool
   is_touched p = in_first (λ form. list_any is_marked_tree (held p.spot form)) p.forms

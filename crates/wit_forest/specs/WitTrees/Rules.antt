@@ -1,5 +1,5 @@
--- The witnesses of a rule in one item: by nodes, then by the values of the exported variables, which take every value of the
--- graph in turn, in order, the first variable slowest. Each has its forest.
+-- The witnesses of a rule in one item: by nodes, then by the values of the exported variables, which range over all values
+-- of the graph in order, the first variable slowest. Each has its forest.
 use Rattle.std.specs.Prelude.{ℕ, ◌+◌, List, [], ◌∷◌, map}
 use Rattle.std.specs.List.{filter, flat_map}
 use Rattle.std.specs.declared.cmp.Ordering.{Ordering}

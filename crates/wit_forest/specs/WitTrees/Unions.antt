@@ -6,7 +6,7 @@ use Rattle.smpl_patch.specs.declared.pattern.VarDecl.{VarDecl}
 use Rattle.smpl_patch.specs.declared.witness.Witness.{Witness}
 use Rattle.wit_forest.specs.WitOrder.Order.{witness_order}
 
--- before the first tree that is not less, unless that is the same
+-- inserts a tree before the first tree that is not less, unless that one is the same
 abbrev pub placed : Ordering → Witness → Witness → List Witness → List Witness → List Witness
 placed Less w u us more = w ∷ u ∷ us
 placed Equal w u us more = u ∷ us

@@ -10,7 +10,7 @@ use smpl_patch::{VarDecl, Witness};
 use smpl_terms::{Value, Var, same_var, value_order, var_order};
 use std::cmp::Ordering;
 
-/// How many declarations stand before that of the variable.
+/// Returns how many declarations come before that of the variable.
 fn rank(decls: &[VarDecl], x: &Var) -> usize
     ensures { result ≡ of.rank decls.now x.now }
 {
@@ -22,7 +22,8 @@ fn rank(decls: &[VarDecl], x: &Var) -> usize
     decls.len()
 }
 
-/// As they are declared; those that are not after them, as variables are ordered. Linear in the declarations.
+/// Compares two variables in the order of their declarations. Variables that are not declared come after those that are, in
+/// the order of variables. Linear in the declarations.
 pub fn declared_order(decls: &[VarDecl], x: &Var, y: &Var) -> Ordering
     ensures value { result ≡ of.declared_order decls.now x.now y.now }
 {
@@ -38,7 +39,7 @@ fn order_of_paths(p: &TreePath, q: &TreePath) -> Ordering
     p.steps().cmp(q.steps())
 }
 
-/// By atom, then by place.
+/// Compares two touches by atom, then by place.
 fn order_of_touches(a: u32, p: &TreePath, b: u32, q: &TreePath) -> Ordering
     ensures { result ≡ ordering_then (nat_cmp a b) (slice_cmp nat_cmp p.now q.now) }
 {
@@ -48,7 +49,7 @@ fn order_of_touches(a: u32, p: &TreePath, b: u32, q: &TreePath) -> Ordering
     }
 }
 
-/// By variable, then by value.
+/// Compares two binds by variable, then by value.
 fn order_of_values(decls: &[VarDecl], x: &Var, v: &Value, y: &Var, u: &Value) -> Ordering
     ensures { result ≡ ordering_then (of.declared_order decls.now x.now y.now) (value_order v.now u.now) }
 {
@@ -58,8 +59,8 @@ fn order_of_values(decls: &[VarDecl], x: &Var, v: &Value, y: &Var, u: &Value) ->
     }
 }
 
-/// By node; a touch before a bind; touches by atom, then by place; binds by variable, then by value, then by the trees
-/// under them. Stops at the first difference, takes no memory, and recurses once a level.
+/// Compares two trees by node, with a touch before a bind; touches by atom, then by place; binds by variable, then by value,
+/// then by the trees under them. Stops at the first difference, takes no memory, and recurses once per level.
 #[cycle(order)]
 pub fn witness_order(decls: &[VarDecl], a: &Witness, b: &Witness) -> Ordering
     ensures value { result ≡ of.witness_order decls.now a.now b.now }

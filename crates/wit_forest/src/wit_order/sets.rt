@@ -13,7 +13,7 @@ use c_terms::NoMemory;
 use smpl_patch::{VarDecl, Witness};
 use std::alloc::Global;
 
-/// The forest of these trees: in order, each once. For n trees it takes n log n comparisons.
+/// Returns the forest of these trees: in order, each once. Takes n log n comparisons for n trees.
 pub fn distinct(
     alloc: Global,
     decls: &[VarDecl],
@@ -27,7 +27,7 @@ pub fn distinct(
     without_repeats(alloc, decls, trees)
 }
 
-/// The trees of a sorted list, each once.
+/// Returns the trees of a sorted list, each once.
 fn without_repeats(
     alloc: Global,
     decls: &[VarDecl],
@@ -44,7 +44,7 @@ fn without_repeats(
     Ok(kept)
 }
 
-/// Adds a tree, unless it is the last.
+/// Adds a tree, unless it is the same as the last one.
 fn put_new(decls: &[VarDecl], kept: &mut Vec<Witness>, w: Witness) -> Result<(), NoMemory>
     ensures trees { IfOk result (λ _. (z : Tree) → has kept.new.items z ≡ (has kept.old.items z || same_witness w z)) }
     ensures among { IfOk result (λ _. (test : Tree → Bool) → list_all test kept.old.items ≡ true
@@ -59,7 +59,7 @@ fn put_new(decls: &[VarDecl], kept: &mut Vec<Witness>, w: Witness) -> Result<(),
     Ok(())
 }
 
-/// Whether the last tree of the list is the same.
+/// Whether the last tree of the list is the same as `w`.
 fn is_last(decls: &[VarDecl], kept: &[Witness], w: &Witness) -> bool
     ensures known { result ≡ true → (z : Tree) → has kept.now z ≡ (has kept.now z || same_witness w.now z) }
     ensures rise { result ≡ false → NoneAbove decls.now w.now kept.now → Rise decls.now kept.now →

@@ -4,7 +4,7 @@ ghost use Rattle.wit_forest.specs.WitOrder.Sizes.{size, forest_size};
 
 use smpl_patch::Witness;
 
-/// What is left of a budget after the nodes of a tree, or none where there are more. Recurses once a level.
+/// Returns what is left of a budget after the nodes of a tree, or none if the tree has more. Recurses once per level.
 #[cycle(sizes)]
 fn tree_within(tree: &Witness, budget: u32) -> Option<u32>
     ensures { MatchOption result (budget < size tree.now) (λ left. left + size tree.now ≡ budget) }
@@ -18,8 +18,8 @@ fn tree_within(tree: &Witness, budget: u32) -> Option<u32>
     }
 }
 
-/// What is left of a budget after the nodes of all the trees, or none where there are more. Looks at no more nodes than the
-/// budget, and takes no memory. Recurses once a level.
+/// Returns what is left of a budget after the nodes of all the trees, or none if they have more. Looks at no more nodes than
+/// the budget allows, and takes no memory. Recurses once per level.
 #[cycle(sizes)]
 pub fn within(trees: &[Witness], budget: u32) -> Option<u32>
     ensures left { MatchOption result (budget < forest_size trees.now) (λ left. left + forest_size trees.now ≡ budget) }

@@ -1,4 +1,4 @@
-// What holds of the forests of all parts.
+// Laws that hold for the forests of all parts.
 ghost use Rattle.std.specs.Prelude.{◌≡◌, ◌||◌, ◌+◌, ◌<◌, ℕ, true, false, List};
 ghost use Rattle.std.specs.List.{list_any};
 ghost use Rattle.cfg_build.specs.CfgGraph.Flow.{Flow, IsSound, count_of};
@@ -20,8 +20,8 @@ ghost use Rattle.wit_forest.specs.WitSteps.Steps.{kids, is_quantifier};
 ghost use Rattle.wit_forest.specs.WitSteps.Choices.{chosen, AllRise};
 ghost use Rattle.wit_forest.specs.WitSteps.Touches.{own_touches};
 
-/// A node of a table that is no quantifier has at a graph's node what it touches there and what the forests of the parts
-/// have that it leads to, and nothing else. `part` is its number.
+/// Except for quantifiers, the forest of a node of a table, at a node of the graph, consists of exactly what the former
+/// touches there and the forests of the parts that it leads to. `part` is its number.
 pub fn forest_by_steps()
     ensures { (decls : List VarDecl) (tokens : List PatToken) (g : Flow) → IsSound g
         → (parts : List Plain) (env : Environment) (z : Tree) (n : Item) → is_quantifier n ≡ false
@@ -32,9 +32,9 @@ pub fn forest_by_steps()
         (kids g (λ i k. holds decls tokens g (count_of g + 1) (at parts i) k env) n part s)) }
 {}
 
-/// The values that the entries of a set leave a variable are exactly those under which the set has the environment, where
-/// these are among finitely many. So they are where the set stands for a formula that binds the variable: each such value is
-/// one of the graph.
+/// The values that the entries of a set assign to a variable are exactly those under which the set has the environment, if
+/// the latter are among finitely many. This is so if the set denotes where a formula holds that binds the variable: each
+/// such value is one of the graph.
 pub fn choices_are_all()
     ensures { (x : Name) (env : Environment) (values : List Datum) (v : Datum) (entries : Entries)
         → AllRise entries

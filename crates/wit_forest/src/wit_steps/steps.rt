@@ -46,7 +46,7 @@ fn put_if(kids: &mut Vec<(usize, u32)>, here: bool, part: usize, node: u32) -> R
     Ok(())
 }
 
-/// Adds the part at the node, where it holds.
+/// Adds the part at the node, if it holds there.
 fn put_held(
     kids: &mut Vec<(usize, u32)>,
     g: &Graph,
@@ -64,7 +64,7 @@ fn put_held(
     put_if(kids, here, part, node)
 }
 
-/// The part at each next node.
+/// Returns the part at each next node.
 fn every_next(alloc: Global, next: &[u32], part: usize) -> Result<Vec<(usize, u32)>, NoMemory>
     ensures { IfOk result (λ r. r.items ≡ map (λ k. (part, k)) next.now) }
 {
@@ -105,7 +105,7 @@ fn either(
     Ok(kids)
 }
 
-/// The part at each next node where it holds.
+/// Returns the part at each next node where it holds.
 fn some_next(
     alloc: Global,
     g: &Graph,
@@ -126,7 +126,7 @@ fn some_next(
     Ok(kids)
 }
 
-/// The way, and where that holds the until at each next node.
+/// Returns the way, and if it holds also the until at each next node.
 fn way_on_every(
     alloc: Global,
     next: &[u32],
@@ -146,7 +146,8 @@ fn way_on_every(
     Ok(kids)
 }
 
-/// `A[way U end]`: the end, where it holds; else the way, and the until at each next node if the way holds.
+/// Returns what `A[way U end]` leads to: the end, if it holds; otherwise the way, and the until at each next node if the way
+/// holds.
 fn every_until(
     alloc: Global,
     g: &Graph,
@@ -190,7 +191,7 @@ fn put_way(
     Ok(())
 }
 
-/// The way and the until, for each next node where the until holds.
+/// Returns the way and the until, for each next node where the until holds.
 fn ways_on(
     alloc: Global,
     g: &Graph,
@@ -237,7 +238,8 @@ fn some_way(
     Ok(Vec::new(alloc))
 }
 
-/// `E[way U end]`: the end, where it holds; and the way, if it holds, with the until at each next node where that holds.
+/// Returns what `E[way U end]` leads to: the end, if it holds; and the way, if it holds, with the until at each next node
+/// where the until holds.
 fn some_until(
     alloc: Global,
     g: &Graph,
@@ -274,7 +276,7 @@ fn there(alloc: Global, i: usize, node: Option<u32>) -> Result<Vec<(usize, u32)>
     }
 }
 
-/// The part at the first node of a body.
+/// Returns the part at the first node of a body.
 fn body(
     alloc: Global,
     g: &Graph,
@@ -288,8 +290,8 @@ fn body(
     there(alloc, i, g.down(s, number))
 }
 
-/// The parts at nodes whose forests make up that of a part, by the node of its number in the formula's table; none for
-/// atoms and quantifiers. Each set that is asked takes what [`denotes`] does.
+/// Returns the parts at nodes whose forests make up that of a part, given the part's number and its node in the formula's
+/// table. Returns none for atoms and quantifiers. Each look-up in a set costs what [`denotes`] does.
 pub fn kids(
     alloc: Global,
     g: &Graph,

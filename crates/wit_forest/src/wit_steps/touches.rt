@@ -14,7 +14,7 @@ use smpl_patch::{Pattern, Witness};
 use smpl_terms::Env;
 use std::alloc::Global;
 
-/// A touch for each place.
+/// Adds a touch for each place.
 fn put_places(
     found: &mut Vec<Witness>,
     places: Vec<Alignment>,
@@ -53,8 +53,8 @@ fn put_touches(
     put_places(found, places, p.atom, s)
 }
 
-/// Adds a touch for each place where an atom or a brace is aligned at the node, if it is touched. Nothing is added of other
-/// nodes of the table. A pattern of 2^32 forms or more is refused as if memory had run out.
+/// Adds a touch for each place where an atom or a brace is aligned at the node, if it is touched. Adds nothing for other
+/// nodes of the table. A pattern of 2^32 forms or more fails as if memory had run out.
 pub fn put_own(
     alloc: Global,
     g: &Graph,

@@ -1,4 +1,4 @@
-// The values of a variable, read off a set.
+// The values that a set assigns to a variable.
 ghost use Rattle.std.specs.Prelude.{◌≡◌, ◌&&◌, ◌||◌, Bool, true, IfOk, option_copied};
 ghost use Rattle.std.specs.List.{list_any};
 ghost use Rattle.env_sets.specs.Bounds.{fits};
@@ -14,7 +14,7 @@ use env_sets::{Bound, Entry, EnvSet};
 use smpl_terms::{Env, SharedList, Value, Var, same_value, same_var};
 use std::alloc::Global;
 
-/// Whether the bound allows the variable's value; one without a value counts as the place 0.
+/// Whether the bound allows the variable's value; a variable without a value counts as the place 0.
 fn allowed(env: &Env, y: &Var, bound: &Bound) -> bool
     ensures { result ≡ fits (total env.now y.now) bound.now }
 {
@@ -30,7 +30,7 @@ fn passes(env: &Env, x: &Var, y: &Var, bound: &Bound) -> bool
     same_var(y, x) || allowed(env, y, bound)
 }
 
-/// Whether the bounds of all variables but one allow their values.
+/// Whether the bounds of all variables other than x allow their values.
 fn others_allow(pairs: &[(Var, Bound)], env: &Env, x: &Var) -> bool
     ensures { result ≡ of.others_allow x.now (total env.now) pairs.now }
 {
@@ -51,7 +51,7 @@ fn as_value(bound: &Bound) -> Option<&Value>
     }
 }
 
-/// The one value that the variable may have.
+/// Returns the one value that the variable may have, if there is one.
 fn own_value<'a>(pairs: &'a [(Var, Bound)], x: &Var) -> Option<&'a Value>
     ensures { option_copied result ≡ of.own_value x.now pairs.now }
 {
@@ -63,7 +63,7 @@ fn own_value<'a>(pairs: &'a [(Var, Bound)], x: &Var) -> Option<&'a Value>
     None
 }
 
-/// Whether the last value of the list is the same.
+/// Whether the last value of the list is the same as `v`.
 fn is_last(values: &[Value], v: &Value) -> bool
     ensures { result ≡ true → (z : Datum) → list_any (λ u. same u z) values.now
         ≡ (list_any (λ u. same u z) values.now || same v.now z) }
@@ -74,7 +74,7 @@ fn is_last(values: &[Value], v: &Value) -> bool
     same_value(&values[values.len() - 1], v)
 }
 
-/// Adds the value, unless it is the last.
+/// Adds the value, unless it is the same as the last one.
 fn put_value(alloc: Global, values: &mut Vec<Value>, v: &Value) -> Result<(), NoMemory>
     ensures { IfOk result (λ _. (z : Datum) → list_any (λ u. same u z) values.new.items
         ≡ (list_any (λ u. same u z) values.old.items || same v.now z)) }
@@ -86,7 +86,7 @@ fn put_value(alloc: Global, values: &mut Vec<Value>, v: &Value) -> Result<(), No
     Ok(())
 }
 
-/// Adds the value that an entry leaves the variable, if the entry allows what the others have.
+/// Adds the value that an entry assigns to the variable, if the entry allows the values of the others.
 fn put_choice(
     alloc: Global,
     values: &mut Vec<Value>,
@@ -107,8 +107,8 @@ fn put_choice(
     }
 }
 
-/// The values that the entries of a set leave a variable, where the other variables have those of the environment. Linear
-/// in the set; values that come one after another are put once.
+/// Returns the values that the entries of a set assign to a variable, where the other variables have the values of the
+/// environment. Linear in the set; of equal values in a row, only one is returned.
 pub fn values_in(alloc: Global, set: &EnvSet, env: &Env, x: &Var) -> Result<Vec<Value>, NoMemory>
     ensures values { IfOk result (λ r. (z : Datum) → list_any (λ u. same u z) r.items
         ≡ of.chosen x.now (total env.now) set.now z) }
@@ -121,7 +121,7 @@ pub fn values_in(alloc: Global, set: &EnvSet, env: &Env, x: &Var) -> Result<Vec<
     Ok(values)
 }
 
-/// Adds the values that the entries of these blocks leave the variable.
+/// Adds the values that the entries of these blocks assign to the variable.
 fn put_block_choices(
     alloc: Global,
     values: &mut Vec<Value>,
@@ -139,7 +139,7 @@ fn put_block_choices(
     Ok(())
 }
 
-/// Adds the values that these entries leave the variable.
+/// Adds the values that these entries assign to the variable.
 fn put_choices(
     alloc: Global,
     values: &mut Vec<Value>,

@@ -1,4 +1,4 @@
-// What holds of all forests.
+// Laws that hold for all forests.
 ghost use Rattle.std.specs.Prelude.{◌≡◌, ℕ, List};
 ghost use Rattle.cfg_build.specs.CfgGraph.Flow.{Flow};
 ghost use Rattle.smpl_terms.specs.Environments.{Environment};
@@ -16,8 +16,8 @@ pub fn forests_rise()
         (env : Environment) → Rise decls (forest_of decls tokens g f s env) }
 {}
 
-/// Where two environments give each variable the same value, ids aside, a formula holds under both or under neither, and
-/// its forests are equal.
+/// If two environments give each variable the same value, ids aside, a formula holds under both or under neither, and its
+/// forests are equal.
 pub fn alike_environments()
     ensures holding { (decls : List VarDecl) (tokens : List PatToken) (g : Flow) (m : ℕ)
         (f : Plain) (s : ℕ) (d e : Environment) → Alike d e

@@ -43,7 +43,7 @@ fn is_marked_token(tokens: &[PatToken], token: &Token) -> bool
     }
 }
 
-/// Whether some token of the tree is marked. Recurses once a level.
+/// Whether some token of the tree is marked. Recurses once per level.
 fn is_marked_tree(tokens: &[PatToken], tree: &Tree) -> bool
     ensures { result ≡ of.is_marked_tree tokens.now tree.now }
 {
@@ -104,8 +104,8 @@ fn is_marked_form(tokens: &[PatToken], spot: Spot, form: &Tree) -> bool
     }
 }
 
-/// Whether some token of what is compared of the pattern's first form is removed or starred, or has plus code. Takes no
-/// memory. Recurses once a level.
+/// Whether some token of the compared part of the pattern's first form is removed or starred, or has plus code. Takes no
+/// memory. Recurses once per level.
 pub fn is_touched(tokens: &[PatToken], p: &Pattern) -> bool
     ensures { result ≡ of.is_touched tokens.now p.now }
 {

@@ -10,7 +10,7 @@ or_nothing : (b : Bool) → (b || false) ≡ b
 or_nothing true = refl
 or_nothing false = refl
 
--- of one node alone
+-- the case of a single node
 one_passes : (next : List ℕ) (test : ℕ → Bool) → 1 ≤ length next → length next < 2 → test (get_or next 0 0) ≡ passes false test next
 one_passes [] test some one = absurd (omega arith)
 one_passes (k ∷ []) test some one = sym (or_nothing (test k))

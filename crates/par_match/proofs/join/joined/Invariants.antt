@@ -4,7 +4,7 @@ use Rattle.par_match.specs.Answers.{AreAnswers}
 use Rattle.par_match.specs.Parts.{Holds}
 use Rattle.par_match.proofs.join.joined.Given as goal
 
--- the jobs before `from` have answered, and each cell holds what came of its range
+-- the jobs before `from` have answered, and each cell holds the outcome of its range
 abbrev pub invariant-loop-from : goal.invariant-loop-from
 invariant-loop-from g l = (l.from ≤ l.n)
     × AreAnswers (g.W.Worker.may_answer l.worker) 0 l.from l.answers.items

@@ -4,7 +4,7 @@ use Rattle.rule_chain.specs.Chain.{Outcome, Runs}
 use Rattle.rule_chain.specs.Stops.{IsAt}
 use Rattle.rule_chain.proofs.chain.over_readings.Given as goal
 
--- whatever end the rules that are left lead to from here, all rules lead to it from the start
+-- whatever end the remaining rules lead to from here, all rules lead to from the start
 abbrev pub invariant-loop-number : goal.invariant-loop-number
 invariant-loop-number g l = record {
   on : (s : Chained) → IsAt l.initial.reached s → (now : Chained) × (IsAt l.reached now

@@ -16,7 +16,7 @@ returns-in-Ok c =
     let rows = (c.in-Ok.ensures.matches (ap is_simple app ∙ spatch_is_simple)).0 ∙ ap (λ a. matches_of a words) app in
     options_found words c.requires (found_of c.in-Ok.matches) (shown_options c.in_ok-read-in-Ok.field-0) c.in_ok-read-in-Ok.ensures fault rows
 
--- an error of another kind than memory has one of the kinds
+-- an error of a kind other than `OutOfMemory` has one of the kinds
 has_kinds : (kinds : Kinds) (e : Error) → HasKind kinds e → (kind_of e ≡ OutOfMemory → ⊥) → kinds ≡ [] → ⊥
 has_kinds kinds e (inl h) other none = other h
 has_kinds kinds e (inr h) other none = let bad : IsAmong (kind_of e) [] = subst (IsAmong (kind_of e)) none h in bad

@@ -17,7 +17,7 @@ use Rattle.spatch_run.specs.declared.files.Turn.TheVariants as turn
 use Rattle.spatch_run.proofs.Treating.{turn_goes, turn_absent}
 use Rattle.spatch_run.proofs.files.edit_files.Goals as goal
 
--- the files that are left, with the next in front
+-- the remaining files, the next one first
 left_of : (xs : List (Bor (List ℕ))) (i : ℕ) (x : Bor (List ℕ)) → i < length xs → map (λ name. name.now) (drop i xs) ≡ (get_or xs i x).now ∷ map (λ name. name.now) (drop (i + 1) xs)
 left_of xs i x less = rw add-one (ap (map (λ name. name.now)) (drop-cons xs i x less))
 

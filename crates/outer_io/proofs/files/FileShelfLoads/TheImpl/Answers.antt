@@ -1,4 +1,4 @@
--- A shelf that tells nothing meets what is said of the contents that are loaded.
+-- A shelf that reveals nothing satisfies the clauses about the content that is loaded.
 use Rattle.std.proofs.Common.{Result, Ok, Err, IfOk, refl}
 use Rattle.outer_io.proofs.files.FileShelfLoads.TheImpl.Goals as goal
 

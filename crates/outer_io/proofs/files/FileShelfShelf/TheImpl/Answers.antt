@@ -1,4 +1,4 @@
--- A shelf that tells nothing meets what is said of the contents that are stored.
+-- A shelf that reveals nothing satisfies the clauses about the content that is stored.
 use Rattle.std.proofs.Common.{◌≡◌, Result, Ok, Err, OnOk, OnErr, refl, false, true}
 use Rattle.outer_io.proofs.files.FileShelfShelf.TheImpl.Goals as goal
 

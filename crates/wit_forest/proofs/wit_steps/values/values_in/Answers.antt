@@ -10,7 +10,7 @@ use Rattle.wit_forest.specs.WitSteps.Choices.{chosen, AllRise}
 use Rattle.wit_forest.proofs.WitSteps.ChoiceLemmas.{rise_both, chosen_both}
 use Rattle.wit_forest.proofs.wit_steps.values.values_in.Goals as goal
 
--- of the first entries, and then of those in blocks
+-- the values of the first entries, and then of those in blocks
 parts_chosen : (x : Var) (env : Environment) (set first : Entries) (blocks : List Entries) (start : List Value) (mid end : Bool) (z : Value)
     → start ≡ [] → mid ≡ (list_any (λ u. same u z) start || chosen x env first z)
     → end ≡ (mid || chosen x env (all_entries blocks) z) → first ++ all_entries blocks ≡ set → end ≡ chosen x env set z

@@ -16,16 +16,19 @@ pub opens_least : (d : ℕ) (ts : List Token) → d ≤ opens_from d ts
 opens_least d [] = omega (arith, opens-nil d)
 opens_least d (t ∷ ts) = omega (arith, opens-cons d t ts)
 
-turn_at : (xs : List Token) (i d : ℕ) (t : Token) → i < length xs → t ≡ get_or xs i t → opens_from d (drop i xs) ≡ max d (opens_from (step t d) (drop (i + 1) xs))
+turn_at : (xs : List Token) (i d : ℕ) (t : Token) → i < length xs → t ≡ get_or xs i t
+    → opens_from d (drop i xs) ≡ max d (opens_from (step t d) (drop (i + 1) xs))
 turn_at xs i d t h e = ap (opens_from d) (split xs i t h e) ∙ opens-cons d t (drop (i + 1) xs)
   where
     split : (xs : List Token) (i : ℕ) (t : Token) → i < length xs → t ≡ get_or xs i t → drop i xs ≡ t ∷ drop (i + 1) xs
     split xs i t h e = rw (add-one, drop-cons xs i t) (ap (λ (u : Token). u ∷ drop (suc i) xs) (sym e))
 
-pub below_turn : (xs : List Token) (i d : ℕ) (t : Token) → i < length xs → t ≡ get_or xs i t → d ≤ 200 → 200 < opens_from d (drop i xs) → 200 < opens_from (step t d) (drop (i + 1) xs)
+pub below_turn : (xs : List Token) (i d : ℕ) (t : Token) → i < length xs → t ≡ get_or xs i t → d ≤ 200
+    → 200 < opens_from d (drop i xs) → 200 < opens_from (step t d) (drop (i + 1) xs)
 below_turn xs i d t h e le big = omega (arith, turn_at xs i d t h e)
 
-pub above_turn : (xs : List Token) (i d : ℕ) (t : Token) → i < length xs → t ≡ get_or xs i t → 200 < opens_from (step t d) (drop (i + 1) xs) → 200 < opens_from d (drop i xs)
+pub above_turn : (xs : List Token) (i d : ℕ) (t : Token) → i < length xs → t ≡ get_or xs i t
+    → 200 < opens_from (step t d) (drop (i + 1) xs) → 200 < opens_from d (drop i xs)
 above_turn xs i d t h e big = omega (arith, turn_at xs i d t h e)
 
 pub at_end_small : (xs : List Token) (i d : ℕ) → length xs ≤ i → d ≤ 200 → 200 < opens_from d (drop i xs) → ⊥

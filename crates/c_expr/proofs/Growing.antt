@@ -73,7 +73,8 @@ taking_of f q r t = pick (takes f (left r) q) t
     pick true h = refl
     pick false h = let never : ⊥ = cc in absurd never
 
-next_inv : (m : Kind) (q : Root) (o : Option Rule) (r : Rule) → next_rule m q o ≡ Some r → (o ≡ Some r) × IsTrue (within (kind_of r) m) × IsTrue (takes (family_of m) (left r) q)
+next_inv : (m : Kind) (q : Root) (o : Option Rule) (r : Rule) → next_rule m q o ≡ Some r
+    → (o ≡ Some r) × IsTrue (within (kind_of r) m) × IsTrue (takes (family_of m) (left r) q)
 next_inv m q o r e =
     let t = taking_inv (family_of m) q (rule_of_kind m o) r e in
     let k = kind_inv m o r t.0 in
@@ -119,32 +120,36 @@ root_stops : (m : Kind) (q : Root) (c : Class) → IsTrue (within (root_kind (fa
 root_stops m None c w s = refl
 root_stops m (Some r) c w s = ends_rule r c (stops_mono (kind_of r) m c w s)
 
-left_root : (f : Family) (r : Rule) (l : Kind) (q : Root) (c : Class) → left r ≡ Some l → IsTrue (within (root_kind f q) l) → IsTrue (opens (own r) c) → IsTrue (root_ends q c)
+left_root : (f : Family) (r : Rule) (l : Kind) (q : Root) (c : Class) → left r ≡ Some l → IsTrue (within (root_kind f q) l)
+    → IsTrue (opens (own r) c) → IsTrue (root_ends q c)
 left_root f r l None c e w o = refl
 left_root f r l (Some q) c e w o = left_ends r l q c e w o
 
 -- the first tree ends where the whole tree continues
-pub grows_ends : {m : Kind} {p q : Root} {a t : Tree} {xs ys : List Seen} → Grows m p a xs q t ys → IsTrue (within (root_kind (family_of m) p) m) → IsTrue (stops m (front ys))
+pub grows_ends : {m : Kind} {p q : Root} {a t : Tree} {xs ys : List Seen} → Grows m p a xs q t ys
+    → IsTrue (within (root_kind (family_of m) p) m) → IsTrue (stops m (front ys))
     → IsTrue (root_ends p (front xs))
 grows_ends {m} {p} {xs = xs} here w s = root_stops m p (front xs) w s
 grows_ends {m} {p} {xs = xs} (more r l v e u al runs rest) w s = left_root (family_of m) r l p (front xs) e u (word_opens runs (tail_word r l e))
 
 pub record Growing (most : ℕ) (m : Kind) (xs : List Seen) (q : Root) (t : Tree) (ys : List Seen) : Type 0 where
   pub sound : Spells (root_kind (family_of m) q) xs t ys
-  pub kept : IsTrue (within (root_kind (family_of m) q) m)
+  pub memo : IsTrue (within (root_kind (family_of m) q) m)
   pub only : (u : Tree) (zs : List Seen) → Spells m xs u zs → IsTrue (stops m (front zs)) → levels u ≤ most → (p : Root) × Grows m q t ys p u zs
 
 -- ---- the first operand
 
 operand_sound : {m : Kind} {q : Root} {xs ys : List Seen} {t : Tree} → Operand m q xs t ys → Spells (root_kind (family_of m) q) xs t ys
 operand_sound {m} (token {s = s} {ys = ys} h) = leaf (subst (λ (f : Family). IsTrue (has_leaf f s.class)) (sym (family_bottom (family_of m))) h)
-operand_sound (headed {xs = xs} {ys = ys} {cs = cs} r v e b al runs) = branch r (within_refl (kind_of r)) b al (subst (λ (ps : Row). Runs ps xs cs ys) (own_head r e) runs)
+operand_sound (headed {xs = xs} {ys = ys} {cs = cs} r v e b al runs) =
+    branch r (within_refl (kind_of r)) b al (subst (λ (ps : Row). Runs ps xs cs ys) (own_head r e) runs)
 
 pub operand_within : {m : Kind} {q : Root} {xs ys : List Seen} {t : Tree} → Operand m q xs t ys → IsTrue (within (root_kind (family_of m) q) m)
 operand_within {m} (token h) = bottom_within m
 operand_within (headed r v e b al runs) = v
 
-start_only : (most : ℕ) (m : Kind) (xs : List Seen) (q : Root) (t : Tree) (ys : List Seen) → OnlyOperand most m xs q t ys → (u : Tree) (zs : List Seen) → IsTrue (stops m (front zs)) → levels u ≤ most
+start_only : (most : ℕ) (m : Kind) (xs : List Seen) (q : Root) (t : Tree) (ys : List Seen) → OnlyOperand most m xs q t ys
+    → (u : Tree) (zs : List Seen) → IsTrue (stops m (front zs)) → levels u ≤ most
     → Unwound m xs u zs → (p : Root) × Grows m q t ys p u zs
 start_only most m xs q t ys one u zs s le w =
     let e : IsTrue (root_ends w.first_root (front w.middle)) = grows_ends w.grown (operand_within w.operand) s in
@@ -152,19 +157,22 @@ start_only most m xs q t ys one u zs s le w =
     let same = one w.first_root w.first w.middle w.operand e l in (
       w.root,
       subst (λ (a : Root). Grows m a t ys w.root u zs) (sym same.0)
-          (subst (λ (a : Tree). Grows m w.first_root a ys w.root u zs) (sym same.1) (subst (λ (bs : List Seen). Grows m w.first_root w.first bs w.root u zs) (sym same.2) w.grown)),
+          (subst (λ (a : Tree). Grows m w.first_root a ys w.root u zs) (sym same.1)
+          (subst (λ (bs : List Seen). Grows m w.first_root w.first bs w.root u zs) (sym same.2) w.grown)),
     )
 
-pub growing_start : (most : ℕ) (m : Kind) (xs : List Seen) (q : Root) (t : Tree) (ys : List Seen) → Operand m q xs t ys → OnlyOperand most m xs q t ys → Growing most m xs q t ys
+pub growing_start : (most : ℕ) (m : Kind) (xs : List Seen) (q : Root) (t : Tree) (ys : List Seen) → Operand m q xs t ys
+    → OnlyOperand most m xs q t ys → Growing most m xs q t ys
 growing_start most m xs q t ys o one = record {
   sound = operand_sound o;
-  kept = operand_within o;
+  memo = operand_within o;
   only = λ u zs d s le. start_only most m xs q t ys one u zs s le (unwind d);
 }
 
 -- ---- one more turn
 
-more_same : (most : ℕ) (m : Kind) (q : Root) (t : Tree) (ys : List Seen) (r : Rule) (cs : List Tree) (zs : List Seen) → goes_on m q (front ys) ≡ Some r → OnlyGrowth most r t ys cs zs
+more_same : (most : ℕ) (m : Kind) (q : Root) (t : Tree) (ys : List Seen) (r : Rule) (cs : List Tree) (zs : List Seen)
+    → goes_on m q (front ys) ≡ Some r → OnlyGrowth most r t ys cs zs
     → {p : Root} {u : Tree} {vs : List Seen} → Grows m q t ys p u vs → IsTrue (stops m (front vs)) → levels u ≤ most
     → Grows m (Some r) (build r (t ∷ cs)) zs p u vs
 more_same most m q t ys r cs zs next one here s le =
@@ -183,22 +191,26 @@ more_same most m q t ys r cs zs next one {p} {u} {vs} (more {ys = xs'} {cs = ds}
     subst (λ (ks : List Tree). Grows m (Some r) (build r (t ∷ ks)) zs p u vs) (sym done_here.0)
     (subst (λ (bs : List Seen). Grows m (Some r) (build r (t ∷ ds)) bs p u vs) (sym done_here.1) rest')
 
-pub growing_more : (most : ℕ) (m : Kind) (xs : List Seen) (q : Root) (t : Tree) (ys : List Seen) (r : Rule) (cs : List Tree) (zs : List Seen) → Growing most m xs q t ys
-    → goes_on m q (front ys) ≡ Some r → Runs (own r) ys cs zs → OnlyGrowth most r t ys cs zs → IsTrue (allows r (t ∷ cs)) → Growing most m xs (Some r) (build r (t ∷ cs)) zs
+pub growing_more : (most : ℕ) (m : Kind) (xs : List Seen) (q : Root) (t : Tree) (ys : List Seen) (r : Rule) (cs : List Tree)
+    (zs : List Seen) → Growing most m xs q t ys
+    → goes_on m q (front ys) ≡ Some r → Runs (own r) ys cs zs → OnlyGrowth most r t ys cs zs → IsTrue (allows r (t ∷ cs))
+    → Growing most m xs (Some r) (build r (t ∷ cs)) zs
 growing_more most m xs q t ys r cs zs g next runs one al =
     let n = next_inv m q (tail (family_of m) (front ys)) r next in
     let l = some_left (family_of m) q (left r) n.2 in
     let shape : symbol.Child l.0 ∷ own r ≡ row r =
     ap (λ (ps : Row). symbol.Child l.0 ∷ ps) (own_tail r l.0 l.1) ∙ sym (left_child (family_of (kind_of r)) (row r) l.0 l.1) in
     record {
-      sound = branch r (within_refl (kind_of r)) (tail_begins r l.0 (front xs) l.1) al (subst (λ (ps : Row). Runs ps xs (t ∷ cs) zs) shape (child (lift l.2 g.sound) runs));
-      kept = n.1;
+      sound = branch r (within_refl (kind_of r)) (tail_begins r l.0 (front xs) l.1) al
+          (subst (λ (ps : Row). Runs ps xs (t ∷ cs) zs) shape (child (lift l.2 g.sound) runs));
+      memo = n.1;
       only = λ u vs d s le. let h = g.only u vs d s le in (h.0, more_same most m q t ys r cs zs next one h.1 s le);
     }
 
 -- ---- the end
 
-nothing_more : (m : Kind) (q : Root) (t : Tree) (ys : List Seen) → goes_on m q (front ys) ≡ None → {p : Root} {u : Tree} {vs : List Seen} → Grows m q t ys p u vs → (t ≡ u) × (ys ≡ vs)
+nothing_more : (m : Kind) (q : Root) (t : Tree) (ys : List Seen) → goes_on m q (front ys) ≡ None
+    → {p : Root} {u : Tree} {vs : List Seen} → Grows m q t ys p u vs → (t ≡ u) × (ys ≡ vs)
 nothing_more m q t ys none here = (refl, refl)
 nothing_more m q t ys none (more r l v e w al runs rest) =
     let here_tail : tail (family_of m) (front ys) ≡ Some r =
@@ -213,13 +225,15 @@ growing_end most m xs q t ys g none u zs d s le = let h = g.only u zs d s le in 
 
 -- ---- as the code's answers cite it
 
-pub turn : (most : ℕ) (m : Kind) (xs : List Seen) (q p : Root) (t u : Tree) (ys zs : List Seen) (c : Class) (r : Rule) → Growing most m xs q t ys → c ≡ front ys → Some r ≡ goes_on m q c
+pub turn : (most : ℕ) (m : Kind) (xs : List Seen) (q p : Root) (t u : Tree) (ys zs : List Seen) (c : Class) (r : Rule)
+    → Growing most m xs q t ys → c ≡ front ys → Some r ≡ goes_on m q c
     → GrowsBy most r t ys p u zs → Growing most m xs p u zs
 turn most m xs q p t u ys zs c r g e n by =
     subst (λ (a : Root). Growing most m xs a u zs) (sym by.1) (subst (λ (a : Tree). Growing most m xs (Some r) a zs) (sym by.2)
     (growing_more most m xs q t ys r by.0 zs g (ap (goes_on m q) (sym e) ∙ sym n) by.3 by.4 by.5))
 
-pub shorter : (most : ℕ) (m : Kind) (q p : Root) (t u : Tree) (ys zs : List Seen) (c : Class) (r : Rule) → c ≡ front ys → Some r ≡ goes_on m q c → GrowsBy most r t ys p u zs → length zs < length ys
+pub shorter : (most : ℕ) (m : Kind) (q p : Root) (t u : Tree) (ys zs : List Seen) (c : Class) (r : Rule) → c ≡ front ys
+    → Some r ≡ goes_on m q c → GrowsBy most r t ys p u zs → length zs < length ys
 shorter most m q p t u ys zs c r e n by =
     let h = next_inv m q (tail (family_of m) (front ys)) r (ap (goes_on m q) (sym e) ∙ sym n) in
     let l = some_left (family_of m) q (left r) h.2 in
@@ -240,14 +254,16 @@ never_more most m q t ys r next none {p} {u} {vs} (more {ys = xs'} {cs = ds} r' 
     let lev : levels (build r (t ∷ ds)) ≤ most = omega (arith, grows_levels rest') in
     none ds xs' (subst (λ (x : Rule). Runs (own x) ys ds xs') same runs) (grows_ends rest' n.1 s) (subst (λ (x : Rule). IsTrue (allows x (t ∷ ds))) same al) lev
 
-pub stuck : (most : ℕ) (m : Kind) (xs : List Seen) (q : Root) (t : Tree) (ys : List Seen) (c : Class) (r : Rule) → Growing most m xs q t ys → c ≡ front ys → Some r ≡ goes_on m q c → NoGrowth most r t ys
+pub stuck : (most : ℕ) (m : Kind) (xs : List Seen) (q : Root) (t : Tree) (ys : List Seen) (c : Class) (r : Rule)
+    → Growing most m xs q t ys → c ≡ front ys → Some r ≡ goes_on m q c → NoGrowth most r t ys
     → NoTreeAt most m xs
 stuck most m xs q t ys c r g e n none u zs d s le = let h = g.only u zs d s le in never_more most m q t ys r (ap (goes_on m q) (sym e) ∙ sym n) none h.1 s le
 
 pub found : (most : ℕ) (m : Kind) (xs : List Seen) (q : Root) (t : Tree) (ys : List Seen) → Growing most m xs q t ys → Spells m xs t ys
-found most m xs q t ys g = lift g.kept g.sound
+found most m xs q t ys g = lift g.memo g.sound
 
-pub finished : (most : ℕ) (m : Kind) (xs : List Seen) (q : Root) (t : Tree) (ys : List Seen) (c : Class) → Growing most m xs q t ys → c ≡ front ys → None ≡ goes_on m q c → OnlyTree most m xs t ys
+pub finished : (most : ℕ) (m : Kind) (xs : List Seen) (q : Root) (t : Tree) (ys : List Seen) (c : Class)
+    → Growing most m xs q t ys → c ≡ front ys → None ≡ goes_on m q c → OnlyTree most m xs t ys
 finished most m xs q t ys c g e n = growing_end most m xs q t ys g (ap (goes_on m q) (sym e) ∙ sym n)
 
 pub no_start : (most : ℕ) (m : Kind) (xs : List Seen) → NoOperand most m xs → NoTreeAt most m xs

@@ -11,5 +11,5 @@ mod DepthLemmas
 mod RangeLemmas
 mod OneTree
 mod RangeTree
-mod KeptLemmas
-mod OutlineLemmas
+mod MemoLemmas
+mod RecognizerLemmas

@@ -36,7 +36,8 @@ head_same a b xs ys e = (cc, cc)
 parted : (c : Tree) (cs : List Tree) (xs : List Token) → join (map leaves (c ∷ cs)) ++ xs ≡ leaves c ++ (join (map leaves cs) ++ xs)
 parted c cs xs = append_assoc (leaves c) (join (map leaves cs)) xs
 
-kids_whole : (cs us : List Tree) → Each Whole cs → all_pass (map same_tree cs) us ≡ true → (xs ys : List Token) → join (map leaves cs) ++ xs ≡ join (map leaves us) ++ ys → (cs ≡ us) × (xs ≡ ys)
+kids_whole : (cs us : List Tree) → Each Whole cs → all_pass (map same_tree cs) us ≡ true → (xs ys : List Token)
+    → join (map leaves cs) ++ xs ≡ join (map leaves us) ++ ys → (cs ≡ us) × (xs ≡ ys)
 kids_whole [] [] e h xs ys eq = (refl, eq)
 kids_whole [] (u ∷ us) e h xs ys eq = absurd (cc)
 kids_whole (c ∷ cs) [] e h xs ys eq = absurd (cc)
@@ -47,7 +48,8 @@ kids_whole (c ∷ cs) (u ∷ us) e h xs ys eq =
     let rest = kids_whole cs us e.1 b xs ys first.1 in
     (ap (λ (x : Tree). x ∷ cs) first.0 ∙ ap (λ (ks : List Tree). u ∷ ks) rest.0, rest.1)
 
-branch_whole : (l : Label) (cs : List Tree) → Each Whole cs → (k : Label) (us : List Tree) (xs ys : List Token) → same_tree (Branch l cs) (Branch k us) ≡ true → leaves (Branch l cs) ++ xs ≡ leaves (Branch k us) ++ ys
+branch_whole : (l : Label) (cs : List Tree) → Each Whole cs → (k : Label) (us : List Tree) (xs ys : List Token)
+    → same_tree (Branch l cs) (Branch k us) ≡ true → leaves (Branch l cs) ++ xs ≡ leaves (Branch k us) ++ ys
     → (Branch l cs ≡ Branch k us) × (xs ≡ ys)
 branch_whole l cs e k us xs ys h eq =
     let m : (same_label l k && all_pass (map same_tree cs) us) ≡ true = sym (same-Branch-Branch l cs k us) ∙ h in
@@ -69,7 +71,8 @@ whole = tree_induction Whole
     (λ a. tree_cases (λ u. (xs ys : List Token) → same_tree (Leaf a) u ≡ true → leaves (Leaf a) ++ xs ≡ leaves u ++ ys → (Leaf a ≡ u) × (xs ≡ ys))
     (λ b xs ys h eq. leaf_whole a b xs ys eq)
     (λ k us xs ys h eq. let f = same-Leaf-Branch a k us in absurd (cc)))
-    (λ l cs e. tree_cases (λ u. (xs ys : List Token) → same_tree (Branch l cs) u ≡ true → leaves (Branch l cs) ++ xs ≡ leaves u ++ ys → (Branch l cs ≡ u) × (xs ≡ ys))
+    (λ l cs e. tree_cases (λ u. (xs ys : List Token) → same_tree (Branch l cs) u ≡ true
+    → leaves (Branch l cs) ++ xs ≡ leaves u ++ ys → (Branch l cs ≡ u) × (xs ≡ ys))
     (λ b xs ys h eq. let f = same-Branch-Leaf l cs b in absurd (cc))
     (λ k us xs ys h eq. branch_whole l cs e k us xs ys h eq))
 
@@ -93,7 +96,8 @@ no_bool h = let never : ⊥ = cc in absurd never
 seen_some : (names : Names) (leads : Bool) (ts : List Token) → ((ss : List Seen) → AreSeenAs names leads ts ss → ⊥) → ⊥
 seen_some names leads [] f = f [] tt
 seen_some names leads (t ∷ ts) f = seen_some names (leads_member t) ts (λ ss a.
-    let none : NoMember (seen_at names t ts false ∷ ss) → IsTrue leads → IsTrue (may_be_type (seen_at names t ts false ∷ ss)) → IsTrue (ends_as_member names (t ∷ ts)) → ⊥ = λ n h m w.
+    let none : NoMember (seen_at names t ts false ∷ ss) → IsTrue leads → IsTrue (may_be_type (seen_at names t ts false ∷ ss))
+    → IsTrue (ends_as_member names (t ∷ ts)) → ⊥ = λ n h m w.
     f (seen_at names t ts true ∷ ss) (record { token = refl; class = refl; marked = λ x. (h, m, w, n); unmarked_else = λ x y w z. refl }, a) in
     f (seen_at names t ts false ∷ ss) (record { token = refl; class = refl; marked = no_bool; unmarked_else = λ x y w z. absurd (none z x y w) }, a))
 
@@ -102,5 +106,6 @@ seen_some names leads (t ∷ ts) f = seen_some names (leads_member t) ts (λ ss 
 pub one_of_range : (k : Kind) (names : Names) (ts : List Token) (t u : Tree) → IsTrue (stands_alone k) → IsTreeOf k names ts t → IsTreeOf k names ts u → t ≡ u
 one_of_range k names ts t u o h g =
     stable t u (λ n. seen_some names false ts (λ ss a.
-    n ((one_tree 1000 k ss t [] (tree_spelled names k ts t ss o a h) (alone_stops k o) h.shallow u [] (tree_spelled names k ts u ss o a g) (alone_stops k o) g.shallow).0)))
+    n ((one_tree 1000 k ss t [] (tree_spelled names k ts t ss o a h) (alone_stops k o) h.shallow u []
+    (tree_spelled names k ts u ss o a g) (alone_stops k o) g.shallow).0)))
     (tree_leaves k names ts t h ∙ sym (tree_leaves k names ts u g))

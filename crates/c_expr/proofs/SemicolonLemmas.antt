@@ -24,7 +24,8 @@ semicolon-cons : (t : Token) (ts : List Token) (d : ℕ) → has_semicolon d (t 
 unfolding has_semicolon
 semicolon-cons t ts d = refl
 
-tells-from : (u : Group) (ts : List Token) (bs : List Bool) → TellsBranches bs ts → (d : ℕ) → flag_at (passed u bs) d ≡ semicolon_from u d (λ e. has_semicolon e ts)
+tells-from : (u : Group) (ts : List Token) (bs : List Bool) → TellsBranches bs ts → (d : ℕ)
+    → flag_at (passed u bs) d ≡ semicolon_from u d (λ e. has_semicolon e ts)
 tells-from groups.Opening ts bs h d = flags-behind bs d ∙ h (suc d)
 tells-from groups.Closing ts bs h zero = refl
 tells-from groups.Closing ts bs h (suc d) = h d
@@ -38,7 +39,8 @@ tells-more : (t : Token) (ts : List Token) (bs : List Bool) → TellsBranches bs
 tells-more t ts bs h d = tells-from (group t) ts bs h d ∙ sym (semicolon-cons t ts d)
 
 -- one token more, from the last one backwards
-pub branches_next : (tokens : List Token) (i : ℕ) (t : Token) (u : Group) (old new : List Bool) → 0 < i → i ≤ length tokens → t ≡ get_or tokens (i - 1) t → u ≡ group t → new ≡ passed u old
+pub branches_next : (tokens : List Token) (i : ℕ) (t : Token) (u : Group) (old new : List Bool) → 0 < i → i ≤ length tokens
+    → t ≡ get_or tokens (i - 1) t → u ≡ group t → new ≡ passed u old
     → TellsBranches old (drop i tokens) → TellsBranches new (drop (i - 1) tokens)
 branches_next tokens i t u old new pos fits is g n h =
     let v : Token = get_or tokens (i - 1) t in

@@ -20,7 +20,8 @@ use Rattle.c_expr.specs.Sight.{decided, led, leads_before, Marked}
 pub no_member : (ss : List Seen) → NoTreeAt 1000 kind.AssignLevel ss → NoMember ss
 no_member ss none u ys d e l = none u ys d (member_stops false (front ys) e) l
 
-pub found_member : (ss ys : List Seen) (t : Tree) (n : ℕ) (b : Bool) → Spells kind.AssignLevel ss t ys → OnlyTree 1000 kind.AssignLevel ss t ys → HasLevels t n 1000 → b ≡ ends_member (front ys)
+pub found_member : (ss ys : List Seen) (t : Tree) (n : ℕ) (b : Bool) → Spells kind.AssignLevel ss t ys
+    → OnlyTree 1000 kind.AssignLevel ss t ys → HasLevels t n 1000 → b ≡ ends_member (front ys)
     → decided (not b) (NoMember ss)
 found_member ss ys t n true d one deep e = λ none. none t ys d (sym e) (omega (arith, deep.0, deep.1))
 found_member ss ys t n false d one deep e = λ u zs d' e' l.
@@ -56,14 +57,18 @@ look-cons names t ts = refl
 abbrev mark : Token → Class → Bool → Seen
 mark t c b = record { token = t; class = c; typed = b }
 
-seen_here : (names : Names) (leads : Bool) (t : Token) (ts : List Token) (class : Class) (typed ends : Bool) (ss : List Seen) → class ≡ look names (t ∷ ts) → ends ≡ ends_as_member names (t ∷ ts)
+seen_here : (names : Names) (leads : Bool) (t : Token) (ts : List Token) (class : Class) (typed ends : Bool) (ss : List Seen)
+    → class ≡ look names (t ∷ ts) → ends ≡ ends_as_member names (t ∷ ts)
     → Marked typed leads ends (mark t class false ∷ ss) → IsSeenAs names leads t ts (mark t class typed) ss
 seen_here names leads t ts class typed ends ss e z m =
-    let m' : Marked typed leads (ends_as_member names (t ∷ ts)) (mark t class false ∷ ss) = subst (λ (b : Bool). Marked typed leads b (mark t class false ∷ ss)) z m in
+    let m' : Marked typed leads (ends_as_member names (t ∷ ts)) (mark t class false ∷ ss) =
+    subst (λ (b : Bool). Marked typed leads b (mark t class false ∷ ss)) z m in
     record { token = refl; class = e; marked = m'.only; unmarked_else = m'.all }
 
-turn_at : (names : Names) (tokens : List Token) (seen : List Seen) (j : ℕ) (t : Token) (class : Class) (typed leads ends : Bool) → length seen ≡ length tokens → j < length tokens → t ≡ get_or tokens j t
-    → class ≡ look names (t ∷ drop (j + 1) tokens) → ends ≡ ends_as_member names (t ∷ drop (j + 1) tokens) → Marked typed leads ends (drop j (set seen j (mark t class false)))
+turn_at : (names : Names) (tokens : List Token) (seen : List Seen) (j : ℕ) (t : Token) (class : Class) (typed leads ends : Bool)
+    → length seen ≡ length tokens → j < length tokens → t ≡ get_or tokens j t
+    → class ≡ look names (t ∷ drop (j + 1) tokens) → ends ≡ ends_as_member names (t ∷ drop (j + 1) tokens)
+    → Marked typed leads ends (drop j (set seen j (mark t class false)))
     → AreSeenAs names (leads_member t) (drop (j + 1) tokens) (drop (j + 1) seen)
     → AreSeenAs names leads (drop j tokens) (drop j (set (set seen j (mark t class false)) j (mark t class typed)))
 turn_at names tokens seen j t class typed leads ends even h e c z m right =
@@ -73,7 +78,8 @@ turn_at names tokens seen j t class typed leads ends even h e c z m right =
     let later : drop (j + 1) (set seen j a) ≡ drop (j + 1) seen = drop-set-lt (j + 1) seen j a (omega arith) in
     let first : drop j (set seen j a) ≡ a ∷ drop (j + 1) seen = drop-set seen j a (omega (arith, even)) in
     let long : length (set seen j a) ≡ length seen = length-set seen j a in
-    let second : drop j (set (set seen j a) j b) ≡ b ∷ drop (j + 1) seen = drop-set (set seen j a) j b (omega (arith, even, long)) ∙ ap (λ (ss : List Seen). b ∷ ss) later in
+    let second : drop j (set (set seen j a) j b) ≡ b ∷ drop (j + 1) seen =
+    drop-set (set seen j a) j b (omega (arith, even, long)) ∙ ap (λ (ss : List Seen). b ∷ ss) later in
     let here : IsSeenAs names leads t (drop (j + 1) tokens) b (drop (j + 1) seen) =
     seen_here names leads t (drop (j + 1) tokens) class typed ends (drop (j + 1) seen) c z (subst (λ (ss : List Seen). Marked typed leads ends ss) first m) in
     subst (λ (us : List Token). AreSeenAs names leads us (drop j (set (set seen j a) j b))) (sym ts)
@@ -94,19 +100,24 @@ look_end names tokens = sym (look-nil names) ∙ ap (look names) (sym (drop_all 
 pub same_length : (seen : List Seen) (j n : ℕ) (a b : Seen) → length seen ≡ n → length (set (set seen j a) j b) ≡ n
 same_length seen j n a b e = length-set (set seen j a) j b ∙ length-set seen j a ∙ e
 
-pub sight_next : (names : Names) (tokens rest : List Token) (i : ℕ) (t : Token) (class next : Class) → i ≤ length tokens → 0 < i → t ≡ get_or tokens (i - 1) t → rest ≡ drop (i - 1 + 1) tokens
+pub sight_next : (names : Names) (tokens rest : List Token) (i : ℕ) (t : Token) (class next : Class) → i ≤ length tokens → 0 < i
+    → t ≡ get_or tokens (i - 1) t → rest ≡ drop (i - 1 + 1) tokens
     → class ≡ class_of names t.kind t.text rest next → next ≡ look names (drop i tokens) → class ≡ look names (drop (i - 1) tokens)
 sight_next names tokens rest i t class next fits pos e r c n =
     let up : i ≡ i - 1 + 1 = omega arith in
     let n' : next ≡ look names (drop (i - 1 + 1) tokens) = n ∙ ap (λ (k : ℕ). look names (drop k tokens)) up in
-    let ts : drop (i - 1) tokens ≡ t ∷ drop (i - 1 + 1) tokens = drop_more tokens (i - 1) t (omega arith) ∙ ap (λ (x : Token). x ∷ drop (i - 1 + 1) tokens) (sym e) in
-    c ∙ ap (λ (us : List Token). class_of names t.kind t.text us next) r ∙ ap (class_of names t.kind t.text (drop (i - 1 + 1) tokens)) n' ∙ sym (look-cons names t (drop (i - 1 + 1) tokens)) ∙ ap (look names) (sym ts)
+    let ts : drop (i - 1) tokens ≡ t ∷ drop (i - 1 + 1) tokens =
+    drop_more tokens (i - 1) t (omega arith) ∙ ap (λ (x : Token). x ∷ drop (i - 1 + 1) tokens) (sym e) in
+    c ∙ ap (λ (us : List Token). class_of names t.kind t.text us next) r
+    ∙ ap (class_of names t.kind t.text (drop (i - 1 + 1) tokens)) n' ∙ sym (look-cons names t (drop (i - 1 + 1) tokens)) ∙ ap (look names) (sym ts)
 
-pub sight_turn : (names : Names) (tokens rest : List Token) (seen : List Seen) (i : ℕ) (t u v : Token) (class next : Class) (a b : Seen) (typed leads ends : Bool) (view : List Seen)
+pub sight_turn : (names : Names) (tokens rest : List Token) (seen : List Seen) (i : ℕ) (t u v : Token) (class next : Class)
+    (a b : Seen) (typed leads ends : Bool) (view : List Seen)
     → length seen ≡ length tokens → i ≤ length tokens → 0 < i
     → t ≡ get_or tokens (i - 1) t → u ≡ get_or tokens (i - 1) u → v ≡ get_or tokens (i - 1) v → rest ≡ drop (i - 1 + 1) tokens
     → class ≡ class_of names t.kind t.text rest next → next ≡ look names (drop i tokens)
-    → a ≡ mark u class false → b ≡ mark v class typed → view ≡ drop (i - 1) (set seen (i - 1) a) → ends ≡ ends_as_member names (drop (i - 1) tokens) → Marked typed leads ends view → leads ≡ leads_before tokens (i - 1)
+    → a ≡ mark u class false → b ≡ mark v class typed → view ≡ drop (i - 1) (set seen (i - 1) a)
+    → ends ≡ ends_as_member names (drop (i - 1) tokens) → Marked typed leads ends view → leads ≡ leads_before tokens (i - 1)
     → AreSeenAs names (leads_before tokens i) (drop i tokens) (drop i seen)
     → AreSeenAs names (leads_before tokens (i - 1)) (drop (i - 1) tokens) (drop (i - 1) (set (set seen (i - 1) a) (i - 1) b))
 sight_turn names tokens rest seen i t u v class next a b typed leads ends view even fits pos e eu ev r c n ea eb w z m l right =
@@ -115,8 +126,10 @@ sight_turn names tokens rest seen i t u v class next a b typed leads ends view e
     let b' : b ≡ mark t class typed = eb ∙ ap (λ (x : Token). mark x class typed) (one_item tokens (i - 1) v t (omega arith) ev e) in
     let n' : next ≡ look names (drop (i - 1 + 1) tokens) = n ∙ ap (λ (k : ℕ). look names (drop k tokens)) up in
     let c' : class ≡ look names (t ∷ drop (i - 1 + 1) tokens) =
-    c ∙ ap (λ (ts : List Token). class_of names t.kind t.text ts next) r ∙ ap (class_of names t.kind t.text (drop (i - 1 + 1) tokens)) n' ∙ sym (look-cons names t (drop (i - 1 + 1) tokens)) in
-    let ts : drop (i - 1) tokens ≡ t ∷ drop (i - 1 + 1) tokens = drop_more tokens (i - 1) t (omega arith) ∙ ap (λ (x : Token). x ∷ drop (i - 1 + 1) tokens) (sym e) in
+    c ∙ ap (λ (ts : List Token). class_of names t.kind t.text ts next) r
+    ∙ ap (class_of names t.kind t.text (drop (i - 1 + 1) tokens)) n' ∙ sym (look-cons names t (drop (i - 1 + 1) tokens)) in
+    let ts : drop (i - 1) tokens ≡ t ∷ drop (i - 1 + 1) tokens =
+    drop_more tokens (i - 1) t (omega arith) ∙ ap (λ (x : Token). x ∷ drop (i - 1 + 1) tokens) (sym e) in
     let z' : ends ≡ ends_as_member names (t ∷ drop (i - 1 + 1) tokens) = z ∙ ap (ends_as_member names) ts in
     let m' : Marked typed leads ends (drop (i - 1) (set seen (i - 1) (mark t class false))) =
     subst (λ (x : Seen). Marked typed leads ends (drop (i - 1) (set seen (i - 1) x))) a' (subst (λ (ss : List Seen). Marked typed leads ends ss) w m) in

@@ -7,4 +7,4 @@ pub mod Steps
 pub mod Ends
 pub mod Semicolons
 pub mod Sight
-pub mod Outlines
+pub mod Recognizers

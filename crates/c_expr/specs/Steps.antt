@@ -100,7 +100,8 @@ abbrev pub NoTreeAt : ℕ → Kind → List Seen → Type 0
 NoTreeAt most k xs = (u : Tree) (zs : List Seen) → Spells k xs u zs → IsTrue (stops k (front zs)) → levels u ≤ most → ⊥
 
 abbrev pub OnlyOperand : ℕ → Kind → List Seen → Root → Tree → List Seen → Type 0
-OnlyOperand most m xs q t ys = (p : Root) (u : Tree) (zs : List Seen) → Operand m p xs u zs → IsTrue (root_ends p (front zs)) → levels u ≤ most → (q ≡ p) × (t ≡ u) × (ys ≡ zs)
+OnlyOperand most m xs q t ys = (p : Root) (u : Tree) (zs : List Seen) → Operand m p xs u zs → IsTrue (root_ends p (front zs))
+    → levels u ≤ most → (q ≡ p) × (t ≡ u) × (ys ≡ zs)
 
 abbrev pub NoOperand : ℕ → Kind → List Seen → Type 0
 NoOperand most m xs = (p : Root) (u : Tree) (zs : List Seen) → Operand m p xs u zs → IsTrue (root_ends p (front zs)) → levels u ≤ most → ⊥
@@ -118,13 +119,16 @@ RunsTo most r xs before all ys = (cs : List Tree) × (all ≡ before ++ cs) × R
 -- ---- by what a tree grows
 
 abbrev pub OnlyGrowth : ℕ → Rule → Tree → List Seen → List Tree → List Seen → Type 0
-OnlyGrowth most r t xs cs ys = (ds : List Tree) (zs : List Seen) → Runs (own r) xs ds zs → IsTrue (ends (own r) (front zs)) → IsTrue (allows r (t ∷ ds)) → levels (build r (t ∷ ds)) ≤ most → (cs ≡ ds) × (ys ≡ zs)
+OnlyGrowth most r t xs cs ys = (ds : List Tree) (zs : List Seen) → Runs (own r) xs ds zs → IsTrue (ends (own r) (front zs))
+    → IsTrue (allows r (t ∷ ds)) → levels (build r (t ∷ ds)) ≤ most → (cs ≡ ds) × (ys ≡ zs)
 
 abbrev pub NoGrowth : ℕ → Rule → Tree → List Seen → Type 0
-NoGrowth most r t xs = (ds : List Tree) (zs : List Seen) → Runs (own r) xs ds zs → IsTrue (ends (own r) (front zs)) → IsTrue (allows r (t ∷ ds)) → levels (build r (t ∷ ds)) ≤ most → ⊥
+NoGrowth most r t xs = (ds : List Tree) (zs : List Seen) → Runs (own r) xs ds zs → IsTrue (ends (own r) (front zs))
+    → IsTrue (allows r (t ∷ ds)) → levels (build r (t ∷ ds)) ≤ most → ⊥
 
 abbrev pub GrowsBy : ℕ → Rule → Tree → List Seen → Root → Tree → List Seen → Type 0
-GrowsBy most r t xs q u ys = (cs : List Tree) × (q ≡ Some r) × (u ≡ build r (t ∷ cs)) × Runs (own r) xs cs ys × OnlyGrowth most r t xs cs ys × IsTrue (allows r (t ∷ cs))
+GrowsBy most r t xs q u ys = (cs : List Tree) × (q ≡ Some r) × (u ≡ build r (t ∷ cs)) × Runs (own r) xs cs ys
+    × OnlyGrowth most r t xs cs ys × IsTrue (allows r (t ∷ cs))
 
 -- ---- a branch
 

@@ -29,11 +29,11 @@ mod c_stmt;
 mod depth;
 mod ends;
 mod fault;
-mod kept;
 mod laws;
-mod outline;
+mod memo;
 mod parse;
 mod range;
+mod recognizer;
 mod see;
 mod semicolons;
 

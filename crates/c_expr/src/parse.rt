@@ -197,7 +197,7 @@ fn run<'a, 't>(
 
 /// A tree, its rule unless it is a leaf, its levels, and the tokens after it.
 #[derive(Drop)]
-pub struct Grown<'a, 't> {
+pub struct Parsed<'a, 't> {
     pub root: Option<Rule>,
     pub tree: Tree,
     pub levels: u16,
@@ -219,7 +219,7 @@ fn finish<'a, 't>(
     most: u16,
     rule: Rule,
     read: Position<'a, 't>,
-) -> Result<Grown<'a, 't>, ParseFault>
+) -> Result<Parsed<'a, 't>, ParseFault>
     requires { read.deepest ≡ levels_of_all read.children }
     ensures found { IfOk result
         (λ g. IsBranch rule read.entry.children read.entry.rest.now g.root g.tree g.rest.now) }
@@ -231,7 +231,7 @@ fn finish<'a, 't>(
         return Err(ParseFault::NoTree);
     }
     let label = label_of(rule, read.children.as_slice());
-    Ok(Grown {
+    Ok(Parsed {
         root: Some(rule),
         tree: Tree::Branch(label, read.children),
         levels: read.deepest + 1,
@@ -245,7 +245,7 @@ fn take_leaf<'a, 't>(
     most: u16,
     kind: Kind,
     rest: &'a [Seen<'t>],
-) -> Result<Grown<'a, 't>, ParseFault>
+) -> Result<Parsed<'a, 't>, ParseFault>
     requires { IsTrue (has_leaf (family_of kind) (front rest.now)) }
     ensures found { IfOk result (λ g. Operand kind g.root rest.now g.tree g.rest.now) }
     ensures only { IfOk result (λ g. OnlyOperand most kind rest.now g.root g.tree g.rest.now) }
@@ -256,7 +256,7 @@ fn take_leaf<'a, 't>(
         [] => Err(ParseFault::NoTree),
         [seen, ..] => {
             let token = seen.token().copy(alloc)?;
-            Ok(Grown {
+            Ok(Parsed {
                 root: None,
                 tree: Tree::Leaf(token),
                 levels: 0,
@@ -273,7 +273,7 @@ fn operand<'a, 't>(
     most: u16,
     kind: Kind,
     rest: &'a [Seen<'t>],
-) -> Result<Grown<'a, 't>, ParseFault>
+) -> Result<Parsed<'a, 't>, ParseFault>
     ensures found { IfOk result (λ g. Operand kind g.root rest.now g.tree g.rest.now) }
     ensures only { IfOk result (λ g. OnlyOperand most kind rest.now g.root g.tree g.rest.now) }
     ensures levels { IfOk result (λ g. HasLevels g.tree g.levels most) }
@@ -309,7 +309,7 @@ fn grow<'a, 't>(
     tree: Tree,
     height: u16,
     rest: &'a [Seen<'t>],
-) -> Result<Grown<'a, 't>, ParseFault>
+) -> Result<Parsed<'a, 't>, ParseFault>
     requires { height ≡ levels tree }
     ensures found { IfOk result (λ g. GrowsBy most rule tree rest.now g.root g.tree g.rest.now) }
     ensures levels { IfOk result (λ g. HasLevels g.tree g.levels most) }
@@ -337,7 +337,7 @@ pub fn parse<'a, 't>(
     most: u16,
     kind: Kind,
     rest: &'a [Seen<'t>],
-) -> Result<Grown<'a, 't>, ParseFault>
+) -> Result<Parsed<'a, 't>, ParseFault>
     ensures found { IfOk result (λ f. Spells kind rest.now f.tree f.rest.now) }
     ensures only { IfOk result (λ f. OnlyTree most kind rest.now f.tree f.rest.now) }
     ensures levels { IfOk result (λ f. HasLevels f.tree f.levels most) }

@@ -1,13 +1,13 @@
 // A range as it is seen: each token with its class, and with a mark if a type begins there as a member of a call's list.
 ghost use Rattle.std.specs.Prelude.{◌≡◌, ◌+◌, ◌<◌, IfOk, IfErr, false, length, drop};
 ghost use Rattle.c_rows.specs.Range.{NoMember, AreSeenAs};
-ghost use Rattle.c_expr.specs.Outlines.{AreRight};
+ghost use Rattle.c_expr.specs.Recognizers.{AreRight};
 ghost use Rattle.c_expr.specs.Sight.{decided, leads_before, Marked};
 
 use crate::ParseFault;
 use crate::ends::Ends;
-use crate::kept::Kept;
-use crate::outline::{outline, rest_at};
+use crate::memo::Memo;
+use crate::recognizer::{recognizer, rest_at};
 use crate::semicolons::Semicolons;
 use c_rows::{Class, Kind, Seen, ends_member, front, group_at, leads_member, look, may_be_type};
 use c_terms::{Names, Token};
@@ -19,19 +19,19 @@ pub const MOST_LEVELS: u16 = 1000;
 /// Whether no expression without commas begins at `at` and ends where a member of a call's list may end.
 fn has_no_member(
     alloc: Global,
-    kept: &mut Kept,
+    memo: &mut Memo,
     seen: &[Seen],
     at: usize,
 ) -> Result<bool, ParseFault>
     requires inside { at < length seen.now }
-    requires right { AreRight (at + 1) seen.now kept.old.entries.items }
-    ensures right { AreRight (at + 1) seen.now kept.new.entries.items }
+    requires right { AreRight (at + 1) seen.now memo.old.entries.items }
+    ensures right { AreRight (at + 1) seen.now memo.new.entries.items }
     ensures value { IfOk result (λ none. decided none (NoMember (drop at seen.now))) }
     ensures fault { IfErr result (λ fault. fault ≡ ParseFault.NoMemory) }
 {
-    match outline(
+    match recognizer(
         alloc,
-        kept,
+        memo,
         seen,
         at + 1,
         MOST_LEVELS,
@@ -62,23 +62,23 @@ fn leads_before(tokens: &[Token], i: usize) -> bool
 /// tokens and by its end, and no expression can be that member.
 fn is_marked(
     alloc: Global,
-    kept: &mut Kept,
+    memo: &mut Memo,
     leads: bool,
     ends: bool,
     seen: &[Seen],
     at: usize,
 ) -> Result<bool, ParseFault>
     requires inside { at < length seen.now }
-    requires right { AreRight (at + 1) seen.now kept.old.entries.items }
-    ensures right { AreRight (at + 1) seen.now kept.new.entries.items }
+    requires right { AreRight (at + 1) seen.now memo.old.entries.items }
+    ensures right { AreRight (at + 1) seen.now memo.new.entries.items }
     ensures value { IfOk result (λ typed. Marked typed leads ends (drop at seen.now)) }
     ensures fault { IfErr result (λ fault. fault ≡ ParseFault.NoMemory) }
 {
     if !leads || !ends || !may_be_type(rest_at(seen, at)) {
         return Ok(false);
     }
-    kept.reach(seen.len())?;
-    has_no_member(alloc, kept, seen, at)
+    memo.reach(seen.len())?;
+    has_no_member(alloc, memo, seen, at)
 }
 
 /// Returns a list as long as the tokens, with placeholder classes and no marks.
@@ -109,7 +109,7 @@ pub fn see<'t>(
     let mut seen = unseen(alloc, tokens)?;
     let mut ends = Ends::at_end(alloc);
     let mut semicolons = Semicolons::at_end(alloc);
-    let mut kept = Kept::nothing(alloc);
+    let mut memo = Memo::nothing(alloc);
     let mut next = Class::End;
     let mut i = tokens.len();
     while i > 0 {
@@ -126,7 +126,7 @@ pub fn see<'t>(
         seen[i] = Seen::new(&tokens[i], next, false);
         let leads = leads_before(tokens, i);
         let ended = ends_member(ends.nearest());
-        let typed = is_marked(alloc, &mut kept, leads, ended, seen.as_slice(), i)?;
+        let typed = is_marked(alloc, &mut memo, leads, ended, seen.as_slice(), i)?;
         seen[i] = Seen::new(&tokens[i], next, typed);
     }
     Ok(seen)

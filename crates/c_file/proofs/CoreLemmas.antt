@@ -20,7 +20,8 @@ core-at [] i = refl
 core-at (c ∷ cs) zero = refl
 core-at (c ∷ cs) (suc i) = core-at cs i
 
-step-at : (cs : List Tree) (place : Option ℕ) → option_and_then (λ i. option_flatten (slice_get (map core cs) i)) place ≡ option_and_then (λ i. option_and_then core (slice_get cs i)) place
+step-at : (cs : List Tree) (place : Option ℕ)
+    → option_and_then (λ i. option_flatten (slice_get (map core cs) i)) place ≡ option_and_then (λ i. option_and_then core (slice_get cs i)) place
 step-at cs None = refl
 step-at cs (Some i) = core-at cs i
 
@@ -29,7 +30,8 @@ core-Branch l cs = ap core (sym (rolls-Branch l cs)) ∙ fold-roll-Tree (Option 
     ∙ ap (λ n. option_and_then (λ i. option_flatten (slice_get (map core cs) i)) (core_place l n)) (length-cores cs) ∙ step-at cs (core_place l (length cs))
 
 -- the name in the child that has it is the name of the whole
-pub core-found : (l : Label) (cs : List Tree) (n place : ℕ) (o : Option Tree) → n ≡ length cs → Some place ≡ core_place l n → slice_get cs place ≡ o → core (Branch l cs) ≡ option_and_then core o
+pub core-found : (l : Label) (cs : List Tree) (n place : ℕ) (o : Option Tree) → n ≡ length cs → Some place ≡ core_place l n
+    → slice_get cs place ≡ o → core (Branch l cs) ≡ option_and_then core o
 core-found l cs n place o e p g =
     core-Branch l cs ∙ ap (λ k. option_and_then (λ i. option_and_then core (slice_get cs i)) (core_place l k)) (sym e)
     ∙ ap (λ q. option_and_then (λ i. option_and_then core (slice_get cs i)) q) (sym p) ∙ ap (λ q. option_and_then core q) g

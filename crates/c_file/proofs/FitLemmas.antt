@@ -109,7 +109,8 @@ module _ (names : Names) (may : List Token → List Token → Type 0) where
   most_parts (word {ps = ps} h rest) s = let r = most_parts rest s in omega (arith, r, weight-small ps)
   most_parts (child {k = k} {ps = ps} {xs = xs} {ys = ys} {cs = cs} d rest) s =
       let r = most_parts rest (and_right (full (family_of k) || nat_le (weight ps) 1) (steady ps) s) in
-      step-child (full (family_of k)) (weight ps) (length ys) (length xs) (length cs) (and_left (full (family_of k) || nat_le (weight ps) 1) (steady ps) s) (weight-small ps) (shorter d) r
+      step-child (full (family_of k)) (weight ps) (length ys) (length xs) (length cs)
+      (and_left (full (family_of k) || nat_le (weight ps) 1) (steady ps) s) (weight-small ps) (shorter d) r
   most_parts (argument {ps = ps} d rest) s =
       let one : least (family_of kind.AssignLevel) ≡ 1 = refl in let r = most_parts rest s in omega (arith, shorter d, r, one, weight-small ps)
   most_parts (type_argument {ps = ps} m d rest) s =
@@ -180,7 +181,8 @@ module _ (names : Names) (may : List Token → List Token → Type 0) where
     pub braced : {k : Kind} {xs ys : List Token} {t : Tree} → Derives names may k xs t ys → has_braces t ≡ true
     braced (leaf {t = t} h) = braces-Leaf t
     braced (branch {cs = cs} r w b al parts) =
-        braces-Branch (label_of r cs) cs ∙ and-true (has_both (form_of (label_of r cs)) (length cs)) (list_all (λ b. b) (map has_braces cs)) (both_of r cs (least_parts names may parts)) (row_braced parts)
+        braces-Branch (label_of r cs) cs ∙ and-true (has_both (form_of (label_of r cs)) (length cs))
+        (list_all (λ b. b) (map has_braces cs)) (both_of r cs (least_parts names may parts)) (row_braced parts)
 
     row_braced : {ps : Row} {xs ys : List Token} {cs : List Tree} → DerivesRow names may ps xs cs ys → list_all (λ b. b) (map has_braces cs) ≡ true
     row_braced done = refl
@@ -205,7 +207,8 @@ tokens-few v span =
     let d = length-drop span.first v.shown in
     omega (arith, m, t, d)
 
-pub all-fit : (v : VisibleTokens) (names : Names) (spans : List ItemSpan) (items : List Item) → ReadsFrom v names spans items → length v.shown ≤ 16777216 → All IsFit items
+pub all-fit : (v : VisibleTokens) (names : Names) (spans : List ItemSpan) (items : List Item) → ReadsFrom v names spans items
+    → length v.shown ≤ 16777216 → All IsFit items
 all-fit v names [] [] h few = All-nil IsFit
 all-fit v names [] (i ∷ is) h few = absurd h
 all-fit v names (s ∷ ss) [] h few = absurd h

@@ -34,7 +34,8 @@ counts-clash t u e le lt = clash 20000 (node_count u) (subst (λ (x : Tree). nod
 skipped-once : (s r span : ItemSpan) (why : Why) → s ≡ span → r ≡ span → Skipped s why ≡ Skipped r why
 skipped-once s r span why h g = ap (λ (x : ItemSpan). Skipped x why) (h ∙ sym g)
 
-reading-once : HaveOneTree → (names : Names) (tokens : List Token) (span : ItemSpan) (a b : Item) → IsReading names tokens span a → IsReading names tokens span b → a ≡ b
+reading-once : HaveOneTree → (names : Names) (tokens : List Token) (span : ItemSpan) (a b : Item)
+    → IsReading names tokens span a → IsReading names tokens span b → a ≡ b
 reading-once one names tokens span (Parsed t) (Parsed u) h g = ap (λ (x : Tree). Parsed x) (one names tokens t u h.1 g.1)
 reading-once one names tokens span (Parsed t) (Skipped r TooDeep) h g = absurd (clash 200 (opens_of tokens) h.0 g.1)
 reading-once one names tokens span (Parsed t) (Skipped r NoTree) h g = absurd (g.2 t h.1)
@@ -52,7 +53,8 @@ reading-once one names tokens span (Skipped s TooManyNodes) (Skipped r TooDeep) 
 reading-once one names tokens span (Skipped s TooManyNodes) (Skipped r NoTree) h g = absurd (g.2 h.2 h.3)
 reading-once one names tokens span (Skipped s TooManyNodes) (Skipped r TooManyNodes) h g = skipped-once s r span TooManyNodes h.0 g.0
 
-from-once : HaveOneTree → (v : VisibleTokens) (names : Names) (spans : List ItemSpan) (left right : List Item) → ReadsFrom v names spans left → ReadsFrom v names spans right → left ≡ right
+from-once : HaveOneTree → (v : VisibleTokens) (names : Names) (spans : List ItemSpan) (left right : List Item)
+    → ReadsFrom v names spans left → ReadsFrom v names spans right → left ≡ right
 from-once one v names [] [] [] h g = refl
 from-once one v names [] [] (b ∷ right) h g = absurd g
 from-once one v names [] (a ∷ left) right h g = absurd h
@@ -67,5 +69,6 @@ pub once : ShowOnce → HaveOneTree → (pieces : List TextPiece) (left right : 
 once shows one pieces left right h g =
     let e : h.0 ≡ g.0 = shows pieces h.0 g.0 h.1 g.1 in
     let same : ReadsFrom (record { pieces = pieces; shown = g.0 }) listed_names (items_of (signs_of (record { pieces = pieces; shown = g.0 }))) left =
-    subst (λ (s : List ℕ). ReadsFrom (record { pieces = pieces; shown = s }) listed_names (items_of (signs_of (record { pieces = pieces; shown = s }))) left) e h.2 in
+    subst (λ (s : List ℕ). ReadsFrom (record { pieces = pieces; shown = s }) listed_names
+    (items_of (signs_of (record { pieces = pieces; shown = s }))) left) e h.2 in
     from-once one (record { pieces = pieces; shown = g.0 }) listed_names (items_of (signs_of (record { pieces = pieces; shown = g.0 }))) left right same g.2

@@ -1,5 +1,6 @@
 -- Reading one item after another.
-use Rattle.std.proofs.Common.{◌≡◌, ◌≤◌, ◌<◌, ◌+◌, ◌-◌, ℕ, zero, suc, Bool, true, false, sym, ap, ◌∙◌, arith, subst, List, [], ◌∷◌, ◌++◌, slice_range, length, get_or, take, drop, append_assoc, Result, Ok, Err}
+use Rattle.std.proofs.Common.{◌≡◌, ◌≤◌, ◌<◌, ◌+◌, ◌-◌, ℕ, zero, suc, Bool, true, false, sym, ap, ◌∙◌, arith, subst, List, []}
+use Rattle.std.proofs.Common.{◌∷◌, ◌++◌, slice_range, length, get_or, take, drop, append_assoc, Result, Ok, Err}
 use Rattle.std.proofs.Math.Nat.{lt_of_not-le}
 use Rattle.std.proofs.Math.Seq.{take-length}
 use Rattle.std.proofs.lemmas.Bool.{false≢true}
@@ -42,7 +43,8 @@ is_deep (Err NoMemory) = false
 pub shallow-of-Ok : (names : Names) (tokens : List Token) (t : Tree) → Reads kind.External names tokens (Ok t) → opens_of tokens ≤ 200
 shallow-of-Ok names tokens t h = at-most (opens_of tokens) (λ big. false≢true (ap is_deep (h.too_deep.1 big)))
 
-pub shallow-of-NoTree : (names : Names) (tokens : List Token) (r : Result Tree ParseFault) → Reads kind.External names tokens r → r ≡ Err NoTree → opens_of tokens ≤ 200
+pub shallow-of-NoTree : (names : Names) (tokens : List Token) (r : Result Tree ParseFault) → Reads kind.External names tokens r
+    → r ≡ Err NoTree → opens_of tokens ≤ 200
 shallow-of-NoTree names tokens r h none = at-most (opens_of tokens) (λ big. false≢true (ap is_deep (sym none ∙ h.too_deep.1 big)))
 
 stand-le : (from : ℕ) (spans : List ItemSpan) (to : ℕ) → StandEndToEnd from spans to → from ≤ to
@@ -57,7 +59,8 @@ span-within from (s ∷ spans) to zero d h lt =
 span-within from (s ∷ spans) to (suc i) d h lt = span-within s.last spans to i d h.2 (omega (arith, lt))
 
 -- no span ends before it begins
-pub span-rises : (spans : List ItemSpan) (to : ℕ) (i : ℕ) (d : ItemSpan) → StandEndToEnd 0 spans to → i < length spans → (get_or spans i d).first ≤ (get_or spans i d).last
+pub span-rises : (spans : List ItemSpan) (to : ℕ) (i : ℕ) (d : ItemSpan) → StandEndToEnd 0 spans to → i < length spans
+    → (get_or spans i d).first ≤ (get_or spans i d).last
 span-rises spans to i d h lt = (span-within 0 spans to i d h lt).0
 
 -- and no span goes beyond the end
@@ -65,7 +68,8 @@ pub span-ends : (spans : List ItemSpan) (to : ℕ) (i : ℕ) (d : ItemSpan) → 
 span-ends spans to i d h lt = (span-within 0 spans to i d h lt).1
 
 -- one more item is read: what remains after it is what remains of all
-pub reads-more : (v : VisibleTokens) (start names more : Names) (spans : List ItemSpan) (i : ℕ) (d : ItemSpan) (items new : List Item) (tokens : List Token) (item : Item)
+pub reads-more : (v : VisibleTokens) (start names more : Names) (spans : List ItemSpan) (i : ℕ) (d : ItemSpan)
+    (items new : List Item) (tokens : List Token) (item : Item)
     → ((rest : List Item) → ReadsFrom v names (drop i spans) rest → ReadsFrom v start spans (items ++ rest))
     → i < length spans → tokens ≡ tokens_in v (get_or spans i d) → IsReading names tokens (get_or spans i d) item
     → more ≡ names_after names item → new ≡ items ++ item ∷ []
@@ -73,7 +77,8 @@ pub reads-more : (v : VisibleTokens) (start names more : Names) (spans : List It
 reads-more v start names more spans i d items new tokens item h lt et r em en rest hr =
     let first = subst (λ (ts : List Token). IsReading names ts (get_or spans i d) item) et r in
     let later = subst (λ (ns : Names). ReadsFrom v ns (drop (i + 1) spans) rest) em hr in
-    let both : ReadsFrom v names (drop i spans) (item ∷ rest) = subst (λ (ss : List ItemSpan). ReadsFrom v names ss (item ∷ rest)) (sym (drop_more spans i d lt)) (first, later) in
+    let both : ReadsFrom v names (drop i spans) (item ∷ rest) =
+    subst (λ (ss : List ItemSpan). ReadsFrom v names ss (item ∷ rest)) (sym (drop_more spans i d lt)) (first, later) in
     subst (λ (is : List Item). ReadsFrom v start spans is) (sym (ap (λ xs. xs ++ rest) en ∙ append_assoc items (item ∷ []) rest)) (h (item ∷ rest) both)
 
 -- after the last span nothing is left

@@ -30,7 +30,8 @@ abbrev pub IsReading : Names → List Token → ItemSpan → Item → Type 0
 IsReading names tokens span (Parsed t) = (opens_of tokens ≤ most_open) × Spells names tokens t × (node_count t ≤ most_nodes)
 IsReading names tokens span (Skipped s TooDeep) = (s ≡ span) × (most_open < opens_of tokens)
 IsReading names tokens span (Skipped s NoTree) = (s ≡ span) × (opens_of tokens ≤ most_open) × ((t : Tree) → Spells names tokens t → ⊥)
-IsReading names tokens span (Skipped s TooManyNodes) = (s ≡ span) × (opens_of tokens ≤ most_open) × (t : Tree) × Spells names tokens t × (most_nodes < node_count t)
+IsReading names tokens span (Skipped s TooManyNodes) =
+    (s ≡ span) × (opens_of tokens ≤ most_open) × (t : Tree) × Spells names tokens t × (most_nodes < node_count t)
 
 -- a skipped item declares nothing
 abbrev pub names_after : Names → Item → Names

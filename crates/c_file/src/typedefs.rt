@@ -2,14 +2,14 @@
 ghost use Rattle.std.specs.Prelude.{◌≡◌, OnOk, codes};
 ghost use Rattle.std.specs.List.{list_any};
 ghost use Rattle.std.specs.Option.{option_copied};
-ghost use Rattle.c_file.specs.Typedefs as of;
+ghost use Rattle.c_file.specs.Typedefs as spec;
 
 use c_terms::{Label, Names, NoMemory, Text, Token, TokenKind, Tree};
 use sqlite_items::at;
 use std::alloc::Global;
 
 fn name_of(token: &Token) -> Option<&Text>
-    ensures { option_copied result ≡ of.name_of token.now }
+    ensures { option_copied result ≡ spec.name_of token.now }
 {
     match token.kind {
         TokenKind::Name => Some(&token.text),
@@ -19,7 +19,7 @@ fn name_of(token: &Token) -> Option<&Text>
 
 /// Returns which child of a declarator with `n` children has the name, if one has.
 fn core_place(label: Label, n: usize) -> Option<usize>
-    ensures { result ≡ of.core_place label n }
+    ensures { result ≡ spec.core_place label n }
 {
     match label {
         Label::Pointer => Some(n.saturating_sub(1)),
@@ -31,7 +31,7 @@ fn core_place(label: Label, n: usize) -> Option<usize>
 
 /// Returns the name that a declarator declares, if there is one.
 fn core(tree: &Tree) -> Option<&Text>
-    ensures { option_copied result ≡ of.core tree.now }
+    ensures { option_copied result ≡ spec.core tree.now }
 {
     match tree {
         Tree::Leaf(token) => name_of(token),
@@ -48,7 +48,7 @@ fn core(tree: &Tree) -> Option<&Text>
 }
 
 fn is_typedef(tree: &Tree) -> bool
-    ensures { result ≡ of.is_typedef tree.now }
+    ensures { result ≡ spec.is_typedef tree.now }
 {
     match tree {
         Tree::Leaf(token) => token.text.as_bytes() == b"typedef".as_slice(),
@@ -57,7 +57,7 @@ fn is_typedef(tree: &Tree) -> bool
 }
 
 fn any_typedef(words: &[Tree]) -> bool
-    ensures { result ≡ list_any of.is_typedef words.now }
+    ensures { result ≡ list_any spec.is_typedef words.now }
 {
     for word in words {
         if is_typedef(word) {
@@ -69,7 +69,7 @@ fn any_typedef(words: &[Tree]) -> bool
 
 /// Whether a tree is a Specs with the word `typedef`.
 fn has_typedef(tree: &Tree) -> bool
-    ensures { result ≡ of.has_typedef tree.now }
+    ensures { result ≡ spec.has_typedef tree.now }
 {
     match tree {
         Tree::Branch(Label::Specs, words) => any_typedef(words.as_slice()),
@@ -78,7 +78,7 @@ fn has_typedef(tree: &Tree) -> bool
 }
 
 fn add_core(alloc: Global, names: &mut Names, tree: &Tree) -> Result<(), NoMemory>
-    ensures { OnOk result (names.new ≡ of.with_core names.old tree.now) }
+    ensures { OnOk result (names.new ≡ spec.with_core names.old tree.now) }
 {
     match core(tree) {
         Some(name) => names.add(alloc, name.copy(alloc)?),
@@ -87,7 +87,7 @@ fn add_core(alloc: Global, names: &mut Names, tree: &Tree) -> Result<(), NoMemor
 }
 
 fn add_cores(alloc: Global, names: &mut Names, trees: &[Tree]) -> Result<(), NoMemory>
-    ensures { OnOk result (names.new ≡ of.with_cores names.old trees.now) }
+    ensures { OnOk result (names.new ≡ spec.with_cores names.old trees.now) }
 {
     for tree in trees {
         add_core(alloc, names, tree)?;
@@ -97,7 +97,7 @@ fn add_cores(alloc: Global, names: &mut Names, trees: &[Tree]) -> Result<(), NoM
 
 /// Adds the names that an item declares as types.
 pub(crate) fn add_declared(alloc: Global, names: &mut Names, item: &Tree) -> Result<(), NoMemory>
-    ensures { OnOk result (names.new ≡ of.with_declared names.old item.now) }
+    ensures { OnOk result (names.new ≡ spec.with_declared names.old item.now) }
 {
     match item {
         Tree::Leaf(_) => Ok(()),

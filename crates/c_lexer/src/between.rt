@@ -25,7 +25,7 @@ fn walk(bytes: &[u8]) -> Option<State>
 }
 
 /// Whether no non-empty prefix of the bytes completes a text of a kind.
-fn is_quiet(start: State, bytes: &[u8]) -> bool
+fn never_accepts(start: State, bytes: &[u8]) -> bool
     ensures { IsTrue result ↔ MayFollow start bytes.now }
 {
     let mut state = start;
@@ -49,7 +49,7 @@ fn is_longer(left: &[u8], right: &[u8]) -> bool
         None => true,
         Some(state) => match kind_at(state) {
             None => true,
-            Some(_) => !is_quiet(state, right),
+            Some(_) => !never_accepts(state, right),
         },
     }
 }

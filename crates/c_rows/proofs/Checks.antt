@@ -15,9 +15,13 @@ use Rattle.c_rows.specs.declared.symbol.Fork.TheVariants as forks
 use Rattle.c_rows.specs.Kinds.{family_of, within, has_leaf}
 use Rattle.c_rows.specs.Rows.{Row, ways, row, kind_of}
 use Rattle.c_rows.specs.Branches.{begins, may_go}
-use Rattle.c_rows.specs.Choice.{head, tail, choose, pick_way, stops, stops_fork, ends, opens, leads, begins_way, every, implies, row_ok, steady, row_fine, weight, left, own, bottom}
+use Rattle.c_rows.specs.Choice.{head, tail, choose, pick_way, stops, stops_fork, ends, opens, leads, begins_way, every, implies}
+use Rattle.c_rows.specs.Choice.{row_ok, steady, row_fine, weight, left, own, bottom}
 use Rattle.c_rows.proofs.Numbers.{rules, rule_number, rule_listed}
-pub use Rattle.c_rows.proofs.FirstChecks.{and_left, and_right, modus, both, implies_both, not_true, every_from, at, every_at, row_at, closes, joins_at, member_at, joins, joins_rule, joins_way, closes_rule, closes_way, opens_rule, leaf_first, member_after, member_stops, member_first, Passes, passes_at, one_is, set_test, word_at}
+pub use Rattle.c_rows.proofs.FirstChecks.{and_left, and_right, modus, both, implies_both, not_true, every_from, at, every_at}
+pub use Rattle.c_rows.proofs.FirstChecks.{row_at, closes, joins_at, member_at, joins, joins_rule, joins_way, closes_rule}
+pub use Rattle.c_rows.proofs.FirstChecks.{closes_way, opens_rule, leaf_first, member_after, member_stops, member_first, Passes}
+pub use Rattle.c_rows.proofs.FirstChecks.{passes_at, one_is, set_test, word_at}
 
 -- ---- the choice of a way
 
@@ -50,7 +54,8 @@ any_here f (x ∷ xs) (suc i) ps c e l = or_right (leads f x c) (any_leads f xs 
     or_right true b h = refl
     or_right false b h = h
 
-picked : (f : Fork) (rows : List Row) (i : ℕ) (ps : Row) (c : Class) → IsTrue (apart f rows c) → slice_get rows i ≡ Some ps → IsTrue (leads f ps c) → pick_way f rows c ≡ Some ps
+picked : (f : Fork) (rows : List Row) (i : ℕ) (ps : Row) (c : Class) → IsTrue (apart f rows c) → slice_get rows i ≡ Some ps
+    → IsTrue (leads f ps c) → pick_way f rows c ≡ Some ps
 picked f [] i ps c a e l = let no : ⊥ = cc in absurd no
 picked f (x ∷ xs) zero ps c a e l = let same : x ≡ ps = cc in pick (leads f x c) (subst (λ (y : Row). IsTrue (leads f y c)) (sym same) l) same
   where
@@ -61,7 +66,8 @@ picked f (x ∷ xs) (suc i) ps c a e l =
     later (leads f x c) (and_left (implies (leads f x c) (not (any_leads f xs c))) (apart f xs c) a)
     (any_here f xs i ps c e l) (picked f xs i ps c (and_right (implies (leads f x c) (not (any_leads f xs c))) (apart f xs c) a) e l)
   where
-    later : (b : Bool) → IsTrue (implies b (not (any_leads f xs c))) → IsTrue (any_leads f xs c) → pick_way f xs c ≡ Some ps → (if b then Some x else pick_way f xs c) ≡ Some ps
+    later : (b : Bool) → IsTrue (implies b (not (any_leads f xs c))) → IsTrue (any_leads f xs c) → pick_way f xs c ≡ Some ps
+        → (if b then Some x else pick_way f xs c) ≡ Some ps
     later true h y p = let n : any_leads f xs c ≡ false = not_true (any_leads f xs c) h in let no : ⊥ = cc in absurd no
     later false h y p = p
 
@@ -84,7 +90,8 @@ led_in : (f : Fork) (rows : List Row) (c : Class) (ps : Row) → pick_way f rows
 led_in f [] c ps e = let no : ⊥ = cc in absurd no
 led_in f (x ∷ xs) c ps e = here (leads f x c) refl e (λ h. led_in f xs c ps h)
   where
-    here : (b : Bool) → leads f x c ≡ b → (if b then Some x else pick_way f xs c) ≡ Some ps → (pick_way f xs c ≡ Some ps → IsTrue (leads f ps c)) → IsTrue (leads f ps c)
+    here : (b : Bool) → leads f x c ≡ b → (if b then Some x else pick_way f xs c) ≡ Some ps
+        → (pick_way f xs c ≡ Some ps → IsTrue (leads f ps c)) → IsTrue (leads f ps c)
     here true q h more = let same : x ≡ ps = cc in subst (λ (y : Row). IsTrue (leads f y c)) same q
     here false q h more = more h
 
@@ -95,7 +102,8 @@ found_in : (f : Fork) (rows : List Row) (c : Class) (ps : Row) → pick_way f ro
 found_in f [] c ps e = let no : ⊥ = cc in absurd no
 found_in f (x ∷ xs) c ps e = here (leads f x c) e (λ h. found_in f xs c ps h)
   where
-    here : (b : Bool) → (if b then Some x else pick_way f xs c) ≡ Some ps → (pick_way f xs c ≡ Some ps → (i : ℕ) × (slice_get xs i ≡ Some ps)) → (i : ℕ) × (slice_get (x ∷ xs) i ≡ Some ps)
+    here : (b : Bool) → (if b then Some x else pick_way f xs c) ≡ Some ps
+        → (pick_way f xs c ≡ Some ps → (i : ℕ) × (slice_get xs i ≡ Some ps)) → (i : ℕ) × (slice_get (x ∷ xs) i ≡ Some ps)
     here true h more = (0, h)
     here false h more = let found = more h in (suc found.0, found.1)
 
@@ -212,8 +220,10 @@ heads_test : (r : Rule) → Passes (heads_at r)
 heads_test rule.Paren = refl
 heads_test _ = refl
 
-heads_here : (r : Rule) (c : Class) → left r ≡ None → IsTrue (begins r c) → IsTrue (opens (row r) c) → IsTrue (is_rule r (head (family_of (kind_of r)) c) && not (has_leaf (family_of (kind_of r)) c))
-heads_here r c e b o = modus (begins r c && opens (row r) c) _ (subst (λ (k : Option Kind). IsTrue (heads r k c)) e (passes_at (heads_at r) (heads_test r) c)) (both (begins r c) (opens (row r) c) b o)
+heads_here : (r : Rule) (c : Class) → left r ≡ None → IsTrue (begins r c) → IsTrue (opens (row r) c)
+    → IsTrue (is_rule r (head (family_of (kind_of r)) c) && not (has_leaf (family_of (kind_of r)) c))
+heads_here r c e b o = modus (begins r c && opens (row r) c) _
+    (subst (λ (k : Option Kind). IsTrue (heads r k c)) e (passes_at (heads_at r) (heads_test r) c)) (both (begins r c) (opens (row r) c) b o)
 
 pub head_is : (r : Rule) (c : Class) → left r ≡ None → IsTrue (begins r c) → IsTrue (opens (row r) c) → head (family_of (kind_of r)) c ≡ Some r
 head_is r c e b o = rule_is r (head (family_of (kind_of r)) c) (and_left (is_rule r (head (family_of (kind_of r)) c)) _ (heads_here r c e b o))
@@ -268,7 +278,8 @@ pair_test : (r : Rule) → IsTrue (list_all (pairs_at r) rules)
 pair_test rule.Paren = refl
 pair_test _ = refl
 
-pub left_ends : (r : Rule) (l : Kind) (q : Rule) (c : Class) → left r ≡ Some l → IsTrue (within (kind_of q) l) → IsTrue (opens (own r) c) → IsTrue (ends (own q) c)
+pub left_ends : (r : Rule) (l : Kind) (q : Rule) (c : Class) → left r ≡ Some l → IsTrue (within (kind_of q) l)
+    → IsTrue (opens (own r) c) → IsTrue (ends (own q) c)
 left_ends r l q c e w o =
     modus (opens (own r) c) (ends (own q) c) (modus (within (kind_of q) l) _ (subst (λ (k : Option Kind). IsTrue (pairs r k q c)) e
     (every_at (pair_at r q) (rule_at (pairs_at r) rules (rule_number q) q (pair_test r) (rule_listed q)) c)) w) o
@@ -289,10 +300,12 @@ is_none_is None h = refl
 is_none_is (Some k) h = let never : ⊥ = cc in absurd never
 
 pub head_left : (f : Family) (c : Class) (r : Rule) → head f c ≡ Some r → left r ≡ None
-head_left f c r e = is_none_is (left r) (and_left (is_none (left r)) (begins r c) (subst (λ (o : Option Rule). IsTrue (no_left c o)) e (passes_at (no_left_at f) (no_left_test f) c)))
+head_left f c r e = is_none_is (left r) (and_left (is_none (left r)) (begins r c)
+    (subst (λ (o : Option Rule). IsTrue (no_left c o)) e (passes_at (no_left_at f) (no_left_test f) c)))
 
 pub head_begins : (f : Family) (c : Class) (r : Rule) → head f c ≡ Some r → IsTrue (begins r c)
-head_begins f c r e = and_right (is_none (left r)) (begins r c) (subst (λ (o : Option Rule). IsTrue (no_left c o)) e (passes_at (no_left_at f) (no_left_test f) c))
+head_begins f c r e = and_right (is_none (left r)) (begins r c)
+    (subst (λ (o : Option Rule). IsTrue (no_left c o)) e (passes_at (no_left_at f) (no_left_test f) c))
 
 -- a rule that continues from a tree may begin anywhere
 abbrev tail_begins_at : Rule → Class → Bool

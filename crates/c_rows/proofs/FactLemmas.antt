@@ -16,7 +16,8 @@ use Rattle.c_rows.specs.declared.rule.Rule.{Rule}
 use Rattle.c_rows.specs.declared.rule.Rule.TheVariants as rule
 use Rattle.c_rows.specs.Labels.{branches_label, labelled, is_block_label, is_blockless, named}
 use Rattle.c_rows.specs.Rows.{naming_of, label_of, build}
-use Rattle.c_rows.specs.Branches.{allows, defines, is_loose_label, plain_part, plain_at, declares_at, declares_name, function_at, function_step, declares_function}
+use Rattle.c_rows.specs.Branches.{allows, defines, is_loose_label, plain_part, plain_at, declares_at, declares_name}
+use Rattle.c_rows.specs.Branches.{function_at, function_step, declares_function}
 use Rattle.c_rows.specs.Facts.{facts_of, leaf_facts, branch_facts, allows_facts}
 use Rattle.c_rows.proofs.PlainLemmas.{declares-Leaf, declares-Branch, function-Branch}
 
@@ -113,7 +114,8 @@ function-Leaf t = ap declares_function (sym (rolls-Leaf t)) ∙ fold-roll-Tree B
 pub leaf_same : (t : Token) → leaf_facts t ≡ facts_of (Leaf t)
 leaf_same t =
     let o = out-Leaf t in
-    facts_same (sym (ap plain_part o)) (sym (ap plain_at o)) (sym (declares-Leaf t)) (sym (function-Leaf t)) (sym (ap (labelled is_loose_label) o)) (sym (ap (labelled is_block_label) o))
+    facts_same (sym (ap plain_part o)) (sym (ap plain_at o)) (sym (declares-Leaf t)) (sym (function-Leaf t))
+    (sym (ap (labelled is_loose_label) o)) (sym (ap (labelled is_block_label) o))
 
 all_same : (cs : List Tree) → list_all (λ (f : Facts). f.plain) (map facts_of cs) ≡ list_all (λ part. plain_part (out-Tree part)) cs
 all_same [] = refl

@@ -143,15 +143,18 @@ specs_ways _ = refl
 -- the facts of a branch, by the cores of its children
 branch_core : (r : Rule) (cs : List Tree) → core (facts_of (build r cs)) ≡ core (label_facts (label_of r []) (cores cs))
 branch_core r cs =
-    ap core (sym (branch_same r cs)) ∙ label_core (label_of r []) (map facts_of cs) ∙ ap (λ (fs : List Facts). core (label_facts (label_of r []) fs)) (cores_of cs)
+    ap core (sym (branch_same r cs)) ∙ label_core (label_of r []) (map facts_of cs)
+    ∙ ap (λ (fs : List Facts). core (label_facts (label_of r []) fs)) (cores_of cs)
 
-branch_alike : (r : Rule) (cs ds : List Tree) → (IsTrue (not (is_args_rule r)) → cores cs ≡ cores ds) → core (facts_of (build r cs)) ≡ core (facts_of (build r ds))
+branch_alike : (r : Rule) (cs ds : List Tree) → (IsTrue (not (is_args_rule r)) → cores cs ≡ cores ds)
+    → core (facts_of (build r cs)) ≡ core (facts_of (build r ds))
 branch_alike rule.Args cs ds h = branch_core rule.Args cs ∙ sym (branch_core rule.Args ds)
 branch_alike r cs ds h = branch_core r cs ∙ ap (λ (fs : List Facts). core (label_facts (label_of r []) fs)) (h refl) ∙ sym (branch_core r ds)
 
 plain_by_cores : (r : Rule) (cs : List Tree) → is_plain (build r cs) ≡ list_all (λ (f : Facts). f.plain) (cores cs)
 plain_by_cores r cs =
-    ap (λ (f : Facts). f.plain_parts) (sym (branch_same r cs)) ∙ plain_core (map facts_of cs) ∙ ap (λ (fs : List Facts). list_all (λ (f : Facts). f.plain) fs) (cores_of cs)
+    ap (λ (f : Facts). f.plain_parts) (sym (branch_same r cs)) ∙ plain_core (map facts_of cs)
+    ∙ ap (λ (fs : List Facts). list_all (λ (f : Facts). f.plain) fs) (cores_of cs)
 
 branch_plain : (r : Rule) (cs ds : List Tree) → cores cs ≡ cores ds → is_plain (build r cs) ≡ is_plain (build r ds)
 branch_plain r cs ds h = plain_by_cores r cs ∙ ap (λ (fs : List Facts). list_all (λ (f : Facts). f.plain) fs) h ∙ sym (plain_by_cores r ds)
@@ -184,10 +187,12 @@ external_core (a ∷ b ∷ []) = refl
 external_core (a ∷ b ∷ c ∷ []) = refl
 external_core (a ∷ b ∷ c ∷ d ∷ cs) = refl
 
-allows_alike : (r : Rule) (cs ds : List Tree) → (IsTrue (not (is_args_rule r)) → cores cs ≡ cores ds) → (IsTrue (specs_first (row r)) → first_plain cs ≡ first_plain ds)
+allows_alike : (r : Rule) (cs ds : List Tree) → (IsTrue (not (is_args_rule r)) → cores cs ≡ cores ds)
+    → (IsTrue (specs_first (row r)) → first_plain cs ≡ first_plain ds)
     → IsTrue (allows r cs) → IsTrue (allows r ds)
 allows_alike rule.TypeName cs ds h e a =
-    type_core ds ∙ ap (λ (b : Bool). b && allows_type (cores ds)) (sym (e refl)) ∙ ap (λ (fs : List Facts). first_plain cs && allows_type fs) (sym (h refl)) ∙ sym (type_core cs) ∙ a
+    type_core ds ∙ ap (λ (b : Bool). b && allows_type (cores ds)) (sym (e refl))
+    ∙ ap (λ (fs : List Facts). first_plain cs && allows_type fs) (sym (h refl)) ∙ sym (type_core cs) ∙ a
 allows_alike rule.Case cs ds h e a = case_core ds ∙ ap allows_case (sym (h refl)) ∙ sym (case_core cs) ∙ a
 allows_alike rule.External cs ds h e a = external_core ds ∙ ap allows_external (sym (h refl)) ∙ sym (external_core cs) ∙ a
 allows_alike _ cs ds h e a = refl
@@ -206,7 +211,8 @@ module _ (names : Names) where
     tree_short may (leaf h) = omega arith
     tree_short may (branch r w b al parts) = row_short may parts
 
-    row_short : (may : List Token → List Token → Type 0) {ps : Row} {xs ys : List Token} {cs : List Tree} → DerivesRow names may ps xs cs ys → length ys ≤ length xs
+    row_short : (may : List Token → List Token → Type 0) {ps : Row} {xs ys : List Token} {cs : List Tree}
+        → DerivesRow names may ps xs cs ys → length ys ≤ length xs
     row_short may done = omega arith
     row_short may (word h rest) = let e = row_short may rest in omega arith
     row_short may (child d rest) = shorter _ _ _ (row_short may rest) (tree_short may d)
@@ -230,7 +236,8 @@ module _ (names : Names) where
       loosened_row (fork i w v way) = fork i w v (loosened_row way)
 
   -- without the filter
-  pub unfiltered : (may : List Token → List Token → Type 0) {k : Kind} {xs ys : List Token} {t : Tree} → Derives names may k xs t ys → Derives names Anywhere k xs t ys
+  pub unfiltered : (may : List Token → List Token → Type 0) {k : Kind} {xs ys : List Token} {t : Tree}
+      → Derives names may k xs t ys → Derives names Anywhere k xs t ys
   unfiltered may d = loosened may Anywhere (λ xs ys m. tt) d
 
   pub record Filtered (k : Kind) (xs : List Token) (t : Tree) (ys : List Token) : Type 0 where
@@ -247,14 +254,18 @@ module _ (names : Names) where
 
   -- members of at most n tokens up to the end
   abbrev pub FiltersTo : ℕ → Type 0
-  FiltersTo n = (b : Bool) (xs ys : List Token) (t : Tree) → Derives names Anywhere (member_kind b) xs t ys → IsTrue (ends_member (look names ys)) → length xs ≤ n → (Filtered (member_kind b) xs t ys → ⊥) → ⊥
+  FiltersTo n = (b : Bool) (xs ys : List Token) (t : Tree) → Derives names Anywhere (member_kind b) xs t ys
+      → IsTrue (ends_member (look names ys)) → length xs ≤ n → (Filtered (member_kind b) xs t ys → ⊥) → ⊥
 
   mutual
-    filter_tree : (n : ℕ) → FiltersTo n → {k : Kind} {xs ys : List Token} {t : Tree} → Derives names Anywhere k xs t ys → length xs ≤ suc n → (IsTrue (is_args (family_of k)) → length xs ≤ n)
+    filter_tree : (n : ℕ) → FiltersTo n → {k : Kind} {xs ys : List Token} {t : Tree} → Derives names Anywhere k xs t ys
+        → length xs ≤ suc n → (IsTrue (is_args (family_of k)) → length xs ≤ n)
         → IsTrue (after k (look names ys)) → (Filtered k xs t ys → ⊥) → ⊥
     filter_tree n go (leaf {t = t} h) s m a f = f (record { tree = tree.Leaf t; derived = leaf h; alike = refl; plain = λ i. refl })
     filter_tree n go {k} {xs} {ys} (branch {cs = cs} r w b al parts) s m a f =
-        let args : IsTrue (needs (row r)) → length xs ≤ n = λ h. m (subst (λ (o : Family). IsTrue (is_args o)) (within_family (kind_of r) k w) (modus (needs (row r)) (is_args (family_of (kind_of r))) (needs_test r) h)) in
+        let args : IsTrue (needs (row r)) → length xs ≤ n =
+        λ h. m (subst (λ (o : Family). IsTrue (is_args o)) (within_family (kind_of r) k w)
+        (modus (needs (row r)) (is_args (family_of (kind_of r))) (needs_test r) h)) in
         filter_row n go parts s args (led_rule r) (joins_rule r) (closes_rule r (look names ys) (after_mono (kind_of r) k (look names ys) w a)) (λ y.
         let same : IsTrue (not (is_args_rule r)) → cores cs ≡ cores y.trees = λ h. y.alike (memberless_rule r h) in
         f (record {
@@ -265,7 +276,8 @@ module _ (names : Names) where
               (subst (λ (o : Family). IsTrue (is_specs o)) (sym (within_family (kind_of r) k w)) h)));
         }))
 
-    filter_row : (n : ℕ) → FiltersTo n → {ps : Row} {xs ys : List Token} {cs : List Tree} → DerivesRow names Anywhere ps xs cs ys → length xs ≤ suc n → (IsTrue (needs ps) → length xs ≤ n) → IsTrue (led ps)
+    filter_row : (n : ℕ) → FiltersTo n → {ps : Row} {xs ys : List Token} {cs : List Tree}
+        → DerivesRow names Anywhere ps xs cs ys → length xs ≤ suc n → (IsTrue (needs ps) → length xs ≤ n) → IsTrue (led ps)
         → IsTrue (joins ps) → IsTrue (closes ps (look names ys)) → (FilteredRow ps xs cs ys → ⊥) → ⊥
     filter_row n go done s m e j c f = f (record { trees = []; derived = done; alike = λ h. refl; plain = λ h. refl })
     filter_row n go (word {w = w} {ps = ps} {t = t} {xs = xs} {cs = cs} h rest) s m e j c f =
@@ -278,7 +290,8 @@ module _ (names : Names) where
         }))
     filter_row n go (child {k = k} {ps = ps} {xs = xs} {ys = mid} {zs = ys} {t = t} {cs = cs} d rest) s m e j c f =
         filter_tree n go d s m (child_end names Anywhere k rest j c) (λ x.
-        filter_row n go rest (shorter (length mid) (length xs) (suc n) (tree_short Anywhere d) s) (never_needs (needs ps) (and_left (not (needs ps)) (led ps) e)) (and_right (not (needs ps)) (led ps) e)
+        filter_row n go rest (shorter (length mid) (length xs) (suc n) (tree_short Anywhere d) s)
+        (never_needs (needs ps) (and_left (not (needs ps)) (led ps) e)) (and_right (not (needs ps)) (led ps) e)
         (joins_rest k ps j) (closes_rest k ps (look names ys) c) (λ y. f (record {
           trees = x.tree ∷ y.trees;
           derived = child x.derived y.derived;
@@ -287,7 +300,8 @@ module _ (names : Names) where
         })))
     filter_row n go (argument {ps = ps} {xs = xs} {ys = mid} {zs = ys} {t = t} {cs = cs} d rest) s m e j c f =
         go false xs mid t d (member_end names Anywhere rest j c) (m refl) (λ x.
-        filter_row n go rest (shorter (length mid) (length xs) (suc n) (tree_short Anywhere d) s) (never_needs (needs ps) (and_left (not (needs ps)) (led ps) e)) (and_right (not (needs ps)) (led ps) e)
+        filter_row n go rest (shorter (length mid) (length xs) (suc n) (tree_short Anywhere d) s)
+        (never_needs (needs ps) (and_left (not (needs ps)) (led ps) e)) (and_right (not (needs ps)) (led ps) e)
         (joins_member ps j) (closes_member ps (look names ys) c) (λ y. f (record {
           trees = x.tree ∷ y.trees;
           derived = argument x.derived y.derived;
@@ -297,7 +311,8 @@ module _ (names : Names) where
     filter_row n go (type_argument {ps = ps} {xs = xs} {ys = mid} {zs = ys} {t = t} {cs = cs} o d rest) s m e j c f =
         let h : IsTrue (ends_member (look names mid)) = member_end names Anywhere rest j c in
         let stands : NoExpression names xs mid → ⊥ = λ g. go true xs mid t d h (m refl) (λ x.
-        filter_row n go rest (shorter (length mid) (length xs) (suc n) (tree_short Anywhere d) s) (never_needs (needs ps) (and_left (not (needs ps)) (led ps) e)) (and_right (not (needs ps)) (led ps) e)
+        filter_row n go rest (shorter (length mid) (length xs) (suc n) (tree_short Anywhere d) s)
+        (never_needs (needs ps) (and_left (not (needs ps)) (led ps) e)) (and_right (not (needs ps)) (led ps) e)
         (joins_member ps j) (closes_member ps (look names ys) c) (λ y. f (record {
           trees = x.tree ∷ y.trees;
           derived = type_argument g x.derived y.derived;
@@ -305,7 +320,8 @@ module _ (names : Names) where
           plain = λ a. let never : ⊥ = cc in absurd never;
         }))) in
         stands (λ u g. go false xs mid u g h (m refl) (λ x.
-        filter_row n go rest (shorter (length mid) (length xs) (suc n) (tree_short Anywhere d) s) (never_needs (needs ps) (and_left (not (needs ps)) (led ps) e)) (and_right (not (needs ps)) (led ps) e)
+        filter_row n go rest (shorter (length mid) (length xs) (suc n) (tree_short Anywhere d) s)
+        (never_needs (needs ps) (and_left (not (needs ps)) (led ps) e)) (and_right (not (needs ps)) (led ps) e)
         (joins_member ps j) (closes_member ps (look names ys) c) (λ y. f (record {
           trees = x.tree ∷ y.trees;
           derived = argument x.derived y.derived;
@@ -331,7 +347,8 @@ module _ (names : Names) where
 
   -- Where the rows alone derive a member of an argument list, they derive one to the letter. Proof: by induction on the
   -- number of tokens. If a type inside has the same tokens as an expression, that expression takes its place.
-  pub filters : (n : ℕ) (b : Bool) (xs ys : List Token) (t : Tree) → Derives names Anywhere (member_kind b) xs t ys → IsTrue (ends_member (look names ys)) → length xs ≤ n → (Filtered (member_kind b) xs t ys → ⊥) → ⊥
+  pub filters : (n : ℕ) (b : Bool) (xs ys : List Token) (t : Tree) → Derives names Anywhere (member_kind b) xs t ys
+      → IsTrue (ends_member (look names ys)) → length xs ≤ n → (Filtered (member_kind b) xs t ys → ⊥) → ⊥
   filters zero b [] ys t d h s f = no_member b (tree_first names Anywhere d (member_after b (look names ys) h))
   filters zero b (x ∷ xs) ys t d h s f = let never : ⊥ = omega arith in never
   filters (suc n) b xs ys t d h s f = filter_tree n (filters n) d s (not_args b) (member_after b (look names ys) h) f

@@ -182,7 +182,8 @@ opens_test rule.Paren = refl
 opens_test _ = refl
 
 pub opens_rule : (r : Rule) (c : Class) → IsTrue (begins r c) → IsTrue (opens (row r) c) → IsTrue (first (family_of (kind_of r)) c)
-opens_rule r c b o = modus (begins r c && opens (row r) c) (first (family_of (kind_of r)) c) (passes_at (opens_at r) (opens_test r) c) (both (begins r c) (opens (row r) c) b o)
+opens_rule r c b o = modus (begins r c && opens (row r) c) (first (family_of (kind_of r)) c)
+    (passes_at (opens_at r) (opens_test r) c) (both (begins r c) (opens (row r) c) b o)
 
 abbrev leaf_at : Family → Class → Bool
 leaf_at f c = implies (has_leaf f c) (first f c)

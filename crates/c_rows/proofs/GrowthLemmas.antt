@@ -53,7 +53,8 @@ weaken w here = here
 weaken {l} {m} {p} w (more r k v e u al runs rest) =
     more r k (within_trans (kind_of r) l m v w) e (subst (λ (f : Family). IsTrue (within (root_kind f p) k)) (within_family l m w) u) al runs (weaken w rest)
 
-at_end : {m : Kind} {p q : Root} {xs ys zs : List Seen} {a t : Tree} {cs : List Tree} (r : Rule) (l : Kind) → Grows m p a xs q t ys → IsTrue (within (kind_of r) m) → left r ≡ Some l
+at_end : {m : Kind} {p q : Root} {xs ys zs : List Seen} {a t : Tree} {cs : List Tree} (r : Rule) (l : Kind)
+    → Grows m p a xs q t ys → IsTrue (within (kind_of r) m) → left r ≡ Some l
     → IsTrue (within (root_kind (family_of m) q) l) → IsTrue (allows r (t ∷ cs)) → Runs (own r) ys cs zs → Grows m p a xs (Some r) (build r (t ∷ cs)) zs
 at_end r l here v e u al runs = more r l v e u al runs here
 at_end r l (more r' l' v' e' u' al' runs' rest) v e u al runs = more r' l' v' e' u' al' runs' (at_end r l rest v e u al runs)
@@ -79,7 +80,8 @@ extend {m} {l} r v e u al runs =
       kept = v;
     }
 
-from_row : {m : Kind} {xs ys : List Seen} {cs : List Tree} (r : Rule) (o : Option Kind) → IsTrue (within (kind_of r) m) → IsTrue (begins r (front xs)) → IsTrue (allows r cs) → left r ≡ o → Runs (row r) xs cs ys
+from_row : {m : Kind} {xs ys : List Seen} {cs : List Tree} (r : Rule) (o : Option Kind) → IsTrue (within (kind_of r) m)
+    → IsTrue (begins r (front xs)) → IsTrue (allows r cs) → left r ≡ o → Runs (row r) xs cs ys
     → FirstPart (row r) xs cs ys → Unwound m xs (build r cs) ys
 from_row {m} {xs} {ys} {cs} r None v b al e runs f = record {
   first_root = Some r;

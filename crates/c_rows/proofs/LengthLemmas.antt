@@ -96,7 +96,8 @@ full_or false n h small a c le = omega (arith, le_from n 1 h)
 
 pub smaller-child : (k : Kind) (ps : Row) (xs ys : List Seen) → IsTrue (steady (symbol.Child k ∷ ps)) → length ys + least (family_of k) ≤ length xs
     → 3 * length ys + weight ps < 3 * length xs + weight (symbol.Child k ∷ ps)
-smaller-child k ps xs ys s le = full_or (full (family_of k)) (weight ps) (and_left (full (family_of k) || nat_le (weight ps) 1) (steady ps) s) (weight-small ps) (length ys) (length xs) le
+smaller-child k ps xs ys s le = full_or (full (family_of k)) (weight ps)
+    (and_left (full (family_of k) || nat_le (weight ps) 1) (steady ps) s) (weight-small ps) (length ys) (length xs) le
 
 pub smaller-argument : (ps : Row) (xs ys : List Seen) → length ys + 1 ≤ length xs → 3 * length ys + weight ps < 3 * length xs + weight (symbol.Argument ∷ ps)
 smaller-argument ps xs ys le = omega (arith, weight-small ps)

@@ -36,24 +36,30 @@ module _ (names : Names) where
       rest_row (type_argument a d rest) p = rest_row rest (rest_tree d p)
       rest_row (fork i w v way) p = rest_row way p
 
-    module _ (go : (ts us : List Token) (t : Tree) → Rest ts → Derives names may kind.TypeArg ts t us → IsTrue (ends_member (look names us)) → may ts us → also ts us) where
+    module _ (go : (ts us : List Token) (t : Tree) → Rest ts → Derives names may kind.TypeArg ts t us
+        → IsTrue (ends_member (look names us)) → may ts us → also ts us) where
       mutual
-        pub changed : {k : Kind} {xs ys : List Token} {t : Tree} → Derives names may k xs t ys → Rest xs → IsTrue (after k (look names ys)) → Derives names also k xs t ys
+        pub changed : {k : Kind} {xs ys : List Token} {t : Tree} → Derives names may k xs t ys → Rest xs
+            → IsTrue (after k (look names ys)) → Derives names also k xs t ys
         changed (leaf h) p f = leaf h
         changed {k} {ys = ys} (branch r w b al parts) p f =
             branch r w b al (changed_row parts p (joins_rule r) (closes_rule r (look names ys) (after_mono (kind_of r) k (look names ys) w f)))
 
-        changed_row : {ps : Row} {xs ys : List Token} {cs : List Tree} → DerivesRow names may ps xs cs ys → Rest xs → IsTrue (joins ps) → IsTrue (closes ps (look names ys)) → DerivesRow names also ps xs cs ys
+        changed_row : {ps : Row} {xs ys : List Token} {cs : List Tree} → DerivesRow names may ps xs cs ys → Rest xs
+            → IsTrue (joins ps) → IsTrue (closes ps (look names ys)) → DerivesRow names also ps xs cs ys
         changed_row done p j c = done
         changed_row (word {t = t} {xs = xs} h rest) p j c = word h (changed_row rest (fall t xs p) j c)
         changed_row (child {k = k} {ps = ps} {zs = ys} d rest) p j c =
             child (changed d p (child_end names may k rest j c)) (changed_row rest (rest_tree d p) (joins_rest k ps j) (closes_rest k ps (look names ys) c))
         changed_row (argument {ps = ps} {ys = us} {zs = ys} d rest) p j c =
-            argument (changed d p (member_after false (look names us) (member_end names may rest j c))) (changed_row rest (rest_tree d p) (joins_member ps j) (closes_member ps (look names ys) c))
+            argument (changed d p (member_after false (look names us) (member_end names may rest j c)))
+            (changed_row rest (rest_tree d p) (joins_member ps j) (closes_member ps (look names ys) c))
         changed_row (type_argument {ps = ps} {xs = xs} {ys = us} {zs = ys} {t = t} a d rest) p j c =
             let h : IsTrue (ends_member (look names us)) = member_end names may rest j c in
-            type_argument (go xs us t p d h a) (changed d p (member_after true (look names us) h)) (changed_row rest (rest_tree d p) (joins_member ps j) (closes_member ps (look names ys) c))
-        changed_row (fork {f = f} {ps = ps} {ys = ys} i w v way) p j c = fork i w v (changed_row way p (joins_way f i ps w) (closes_way f i ps (look names ys) w c))
+            type_argument (go xs us t p d h a) (changed d p (member_after true (look names us) h))
+            (changed_row rest (rest_tree d p) (joins_member ps j) (closes_member ps (look names ys) c))
+        changed_row (fork {f = f} {ps = ps} {ys = ys} i w v way) p j c =
+            fork i w v (changed_row way p (joins_way f i ps w) (closes_way f i ps (look names ys) w c))
 
   -- Where the rows derive no expression, there is none that obeys the rule.
   none_loose : (n : ℕ) (xs ys : List Token) → NoExpression names xs ys → NoRival names n xs ys
@@ -61,9 +67,14 @@ module _ (names : Names) where
   none_loose (suc n) xs ys f = λ u d l. f u (unfiltered names (NoRival names n) d)
 
   pub letter_tree : (k : Kind) (ts : List Token) (t : Tree) → IsLetterTreeOf k names ts t → IsTreeOf k names ts t
-  letter_tree k ts t h = record { derived = loosened names (NoExpression names) (NoRival names (length ts)) (none_loose (length ts)) h.derived; shallow = h.shallow }
+  letter_tree k ts t h = record {
+    derived =
+        loosened names (NoExpression names) (NoRival names (length ts)) (none_loose (length ts)) h.derived;
+    shallow = h.shallow;
+  }
 
-  low_here : (ts : List Token) (u : Tree) (ys : List Token) → AllLow names ts → Derives names Anywhere kind.AssignLevel ts u ys → IsTrue (ends_member (look names ys)) → levels u ≤ 1000
+  low_here : (ts : List Token) (u : Tree) (ys : List Token) → AllLow names ts → Derives names Anywhere kind.AssignLevel ts u ys
+      → IsTrue (ends_member (look names ys)) → levels u ≤ 1000
   low_here [] u ys p d h = absurd (some_expression names [] (tree_first names Anywhere d (member_after false (look names ys) h)) refl)
   low_here (t ∷ ts) u ys p d h = p.0 u ys d h
 
@@ -84,16 +95,19 @@ module _ (names : Names) where
 
   -- If no expression that obeys the rule has the tokens of a type, the rows derive none with these tokens, provided
   -- that all expressions are low. Proof: an expression to the letter would have the same tokens, and obeys the rule.
-  none_low : (n : ℕ) (ts us : List Token) (t : Tree) → Low n ts → Derives names (NoRival names n) kind.TypeArg ts t us → IsTrue (ends_member (look names us)) → NoRival names n ts us → NoExpression names ts us
+  none_low : (n : ℕ) (ts us : List Token) (t : Tree) → Low n ts → Derives names (NoRival names n) kind.TypeArg ts t us
+      → IsTrue (ends_member (look names us)) → NoRival names n ts us → NoExpression names ts us
   none_low zero [] us t p d h r = absurd (some_token names [] (tree_first names (NoRival names 0) d (member_after true (look names us) h)) refl)
   none_low zero (x ∷ ts) us t p d h r = absurd (none_short x ts p.1)
   none_low (suc n) ts us t p d h r = λ u e.
       filters names (length ts) false ts us u e h (le_self (length ts)) (λ x.
-      r x.tree (loosened names (NoExpression names) (NoRival names n) (none_loose n) x.derived) (low_here ts x.tree us p.0 (unfiltered names (NoExpression names) x.derived) h))
+      r x.tree (loosened names (NoExpression names) (NoRival names n) (none_loose n) x.derived)
+      (low_here ts x.tree us p.0 (unfiltered names (NoExpression names) x.derived) h))
 
   pub tree_letter : (k : Kind) (ts : List Token) (t : Tree) → IsTrue (stands_alone k) → AllLow names ts → IsTreeOf k names ts t → IsLetterTreeOf k names ts t
   unfolding look
   tree_letter k ts t o p h = record {
-    derived = changed (NoRival names (length ts)) (NoExpression names) (Low (length ts)) (fall_low (length ts)) (none_low (length ts)) h.derived (p, le_self (length ts)) (alone_after k o);
+    derived = changed (NoRival names (length ts)) (NoExpression names) (Low (length ts)) (fall_low (length ts))
+        (none_low (length ts)) h.derived (p, le_self (length ts)) (alone_after k o);
     shallow = h.shallow;
   }

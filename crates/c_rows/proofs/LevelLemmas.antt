@@ -166,9 +166,12 @@ module _ (names : Names) (may : List Token → List Token → Type 0) where
     row_least : {ps : Row} {xs ys : List Token} {cs : List Tree} → DerivesRow names may ps xs cs ys → 4 * length ys + least ps ≤ 4 * length xs
     row_least (done {xs = xs}) = same_x (length xs)
     row_least (word {ps = ps} {xs = xs} {ys = ys} h rest) = word_least (least ps) (length xs) (length ys) (row_least rest)
-    row_least (child {k = k} {ps = ps} {xs = xs} {ys = mid} {zs = ys} d rest) = step_least (least ps) (least_tree (family_of k)) (length xs) (length mid) (length ys) (tree_least d) (row_least rest)
-    row_least (argument {ps = ps} {xs = xs} {ys = mid} {zs = ys} d rest) = step_least (least ps) 4 (length xs) (length mid) (length ys) (tree_least d) (row_least rest)
-    row_least (type_argument {ps = ps} {xs = xs} {ys = mid} {zs = ys} a d rest) = step_least (least ps) 4 (length xs) (length mid) (length ys) (tree_least d) (row_least rest)
+    row_least (child {k = k} {ps = ps} {xs = xs} {ys = mid} {zs = ys} d rest) =
+        step_least (least ps) (least_tree (family_of k)) (length xs) (length mid) (length ys) (tree_least d) (row_least rest)
+    row_least (argument {ps = ps} {xs = xs} {ys = mid} {zs = ys} d rest) =
+        step_least (least ps) 4 (length xs) (length mid) (length ys) (tree_least d) (row_least rest)
+    row_least (type_argument {ps = ps} {xs = xs} {ys = mid} {zs = ys} a d rest) =
+        step_least (least ps) 4 (length xs) (length mid) (length ys) (tree_least d) (row_least rest)
     row_least (fork {f = f} {ps = ps} {xs = xs} {ys = ys} i w v way) =
         weaken_least (least_fork f) (least ps) (length xs) (length ys) (le_is _ _ (row_at (least_at f) (ways f) i ps (least_ways f) w)) (row_least way)
 
@@ -177,17 +180,23 @@ module _ (names : Names) (may : List Token → List Token → Type 0) where
     tree_low {k} (leaf {t = t} {ys = ys} h) = leaf_low (levels (tree.Leaf t)) (height (family_of k)) (length ys) (levels-Leaf t)
     tree_low {k} {xs} {ys} (branch {cs = cs} r w b al parts) =
         subst (λ (f : Family). levels (build r cs) + 4 * length ys ≤ 4 * length xs + height f) (within_family (kind_of r) k w)
-        (branch_low (levels (build r cs)) (levels_of_all cs) (height (family_of (kind_of r))) (length xs) (length ys) (levels-Branch (label_of r cs) cs) (row_low parts (rule_credit r) (room_rule r)))
+        (branch_low (levels (build r cs)) (levels_of_all cs) (height (family_of (kind_of r))) (length xs) (length ys)
+        (levels-Branch (label_of r cs) cs) (row_low parts (rule_credit r) (room_rule r)))
 
-    row_low : {ps : Row} {xs ys : List Token} {cs : List Tree} → DerivesRow names may ps xs cs ys → (c : ℕ) → IsTrue (room ps c) → levels_of_all cs + c + 4 * length ys ≤ 4 * length xs + 8
+    row_low : {ps : Row} {xs ys : List Token} {cs : List Tree} → DerivesRow names may ps xs cs ys → (c : ℕ) → IsTrue (room ps c)
+        → levels_of_all cs + c + 4 * length ys ≤ 4 * length xs + 8
     row_low (done {xs = xs}) c h = end_low c (length xs) (le_is c 8 h)
-    row_low (word {ps = ps} {t = t} {xs = xs} {ys = ys} {cs = cs} g rest) c h = word_low (levels (tree.Leaf t)) (levels_of_all cs) c (length xs) (length ys) (levels-Leaf t) (row_low rest (c - 4) h)
+    row_low (word {ps = ps} {t = t} {xs = xs} {ys = ys} {cs = cs} g rest) c h =
+        word_low (levels (tree.Leaf t)) (levels_of_all cs) c (length xs) (length ys) (levels-Leaf t) (row_low rest (c - 4) h)
     row_low (child {k = k} {ps = ps} {xs = xs} {ys = mid} {zs = ys} {t = t} {cs = cs} d rest) c h =
-        step_low (levels t) (levels_of_all cs) c (height (family_of k)) (least ps) (least_tree (family_of k)) (length xs) (length mid) (length ys) (tree_low d) (tree_least d)
-        (row_low rest (c - least_tree (family_of k)) (and_right (nat_le (c + height (family_of k)) (least ps + 8)) (room ps (c - least_tree (family_of k))) h)) (row_least rest)
+        step_low (levels t) (levels_of_all cs) c (height (family_of k)) (least ps) (least_tree (family_of k)) (length xs)
+        (length mid) (length ys) (tree_low d) (tree_least d)
+        (row_low rest (c - least_tree (family_of k))
+        (and_right (nat_le (c + height (family_of k)) (least ps + 8)) (room ps (c - least_tree (family_of k))) h)) (row_least rest)
         (le_is _ _ (and_left (nat_le (c + height (family_of k)) (least ps + 8)) (room ps (c - least_tree (family_of k))) h))
     row_low (argument {ps = ps} {xs = xs} {ys = mid} {zs = ys} {t = t} {cs = cs} d rest) c h =
-        step_low (levels t) (levels_of_all cs) c 3 (least ps) 4 (length xs) (length mid) (length ys) (member_low (levels t) 0 (length xs) (length mid) (omega arith) (tree_low d)) (tree_least d)
+        step_low (levels t) (levels_of_all cs) c 3 (least ps) 4 (length xs) (length mid) (length ys)
+        (member_low (levels t) 0 (length xs) (length mid) (omega arith) (tree_low d)) (tree_least d)
         (row_low rest (c - 4) (and_right (nat_le (c + 3) (least ps + 8)) (room ps (c - 4)) h)) (row_least rest)
         (le_is _ _ (and_left (nat_le (c + 3) (least ps + 8)) (room ps (c - 4)) h))
     row_low (type_argument {ps = ps} {xs = xs} {ys = mid} {zs = ys} {t = t} {cs = cs} a d rest) c h =
@@ -195,7 +204,8 @@ module _ (names : Names) (may : List Token → List Token → Type 0) where
         (row_low rest (c - 4) (and_right (nat_le (c + 3) (least ps + 8)) (room ps (c - 4)) h)) (row_least rest)
         (le_is _ _ (and_left (nat_le (c + 3) (least ps + 8)) (room ps (c - 4)) h))
     row_low (fork {f = f} {ps = ps} {xs = xs} {ys = ys} {cs = cs} i w v way) c h =
-        weaken_low (levels_of_all cs) c (credit f) (length xs) (length ys) (le_is c (credit f) h) (row_low way (credit f) (row_at (room_at f) (ways f) i ps (room_ways f) w))
+        weaken_low (levels_of_all cs) c (credit f) (length xs) (length ys) (le_is c (credit f) h)
+        (row_low way (credit f) (row_at (room_at f) (ways f) i ps (room_ways f) w))
 
 short_low : (l x y : ℕ) → x ≤ 250 → l + 4 * y ≤ 4 * x + 0 → l ≤ 1000
 short_low l x y h g = omega arith

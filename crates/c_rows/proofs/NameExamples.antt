@@ -66,7 +66,8 @@ iterator_of_block : look (codes "t" ∷ []) (u ∷ left ∷ x ∷ right ∷ punc
 unfolding look
 iterator_of_block = refl
 
-iterator_of_block_behind_groups : look (codes "t" ∷ []) (u ∷ left ∷ x ∷ punct_of (codes "[") ∷ left ∷ right ∷ punct_of (codes "]") ∷ right ∷ punct_of (codes "{") ∷ []) ≡ class.NameOfIterator
+iterator_of_block_behind_groups : look (codes "t" ∷ [])
+    (u ∷ left ∷ x ∷ punct_of (codes "[") ∷ left ∷ right ∷ punct_of (codes "]") ∷ right ∷ punct_of (codes "{") ∷ []) ≡ class.NameOfIterator
 unfolding look
 iterator_of_block_behind_groups = refl
 
@@ -166,15 +167,18 @@ branches_of_expressions : look (codes "t" ∷ []) (pat_of (codes "\\(") ∷ u �
 unfolding look has_semicolon
 branches_of_expressions = refl
 
-branches_of_statements : look (codes "t" ∷ []) (pat_of (codes "\\(") ∷ u ∷ punct_of (codes ";") ∷ pat_of (codes "\\|") ∷ x ∷ punct_of (codes ";") ∷ pat_of (codes "\\)") ∷ []) ≡ class.PatOpenOfStatements
+branches_of_statements : look (codes "t" ∷ [])
+    (pat_of (codes "\\(") ∷ u ∷ punct_of (codes ";") ∷ pat_of (codes "\\|") ∷ x ∷ punct_of (codes ";") ∷ pat_of (codes "\\)") ∷ []) ≡ class.PatOpenOfStatements
 unfolding look has_semicolon
 branches_of_statements = refl
 
-empty_first_branch : look (codes "t" ∷ []) (pat_of (codes "\\(") ∷ pat_of (codes "\\|") ∷ x ∷ punct_of (codes ";") ∷ pat_of (codes "\\)") ∷ []) ≡ class.PatOpenOfStatements
+empty_first_branch : look (codes "t" ∷ [])
+    (pat_of (codes "\\(") ∷ pat_of (codes "\\|") ∷ x ∷ punct_of (codes ";") ∷ pat_of (codes "\\)") ∷ []) ≡ class.PatOpenOfStatements
 unfolding look
 empty_first_branch = refl
 
-branch_of_a_block : look (codes "t" ∷ []) (pat_of (codes "\\(") ∷ punct_of (codes "{") ∷ punct_of (codes "}") ∷ pat_of (codes "\\|") ∷ []) ≡ class.PatOpenOfStatements
+branch_of_a_block : look (codes "t" ∷ [])
+    (pat_of (codes "\\(") ∷ punct_of (codes "{") ∷ punct_of (codes "}") ∷ pat_of (codes "\\|") ∷ []) ≡ class.PatOpenOfStatements
 unfolding look
 branch_of_a_block = refl
 
@@ -182,7 +186,8 @@ semicolon_of_a_later_branch : look (codes "t" ∷ []) (pat_of (codes "\\(") ∷ 
 unfolding look has_semicolon
 semicolon_of_a_later_branch = refl
 
-semicolon_in_a_group : look (codes "t" ∷ []) (pat_of (codes "\\(") ∷ u ∷ punct_of (codes "{") ∷ punct_of (codes ";") ∷ punct_of (codes "}") ∷ pat_of (codes "\\|") ∷ []) ≡ class.PatOpen
+semicolon_in_a_group : look (codes "t" ∷ [])
+    (pat_of (codes "\\(") ∷ u ∷ punct_of (codes "{") ∷ punct_of (codes ";") ∷ punct_of (codes "}") ∷ pat_of (codes "\\|") ∷ []) ≡ class.PatOpen
 unfolding look has_semicolon
 semicolon_in_a_group = refl
 

@@ -14,7 +14,10 @@ use Rattle.c_rows.specs.declared.word.Word.TheVariants as word
 use Rattle.c_rows.specs.Texts.{keywords, signs, pattern_signs, class_in}
 use Rattle.c_rows.specs.Tokens.{is_string, is_sign}
 use Rattle.c_rows.specs.Words.{same_class, fits}
-use Rattle.c_rows.specs.Look.{Names, look, at_sign, at_name, at_string, has_members, begins_type, begins_unknown_cast, begins_nest, nest_or, closes_before_brace, is_name_before_brace, bracket, class_of, keyword_before, storage, sizeof, sizeof_bracket, alignof, sign_before, name, name_of_bracket, metavariable, pattern_before, declares, iterates, is_of_statements, has_semicolon}
+use Rattle.c_rows.specs.Look.{Names, look, at_sign, at_name, at_string, has_members, begins_type, begins_unknown_cast}
+use Rattle.c_rows.specs.Look.{begins_nest, nest_or, closes_before_brace, is_name_before_brace, bracket, class_of}
+use Rattle.c_rows.specs.Look.{keyword_before, storage, sizeof, sizeof_bracket, alignof, sign_before, name, name_of_bracket}
+use Rattle.c_rows.specs.Look.{metavariable, pattern_before, declares, iterates, is_of_statements, has_semicolon}
 use Rattle.c_rows.specs.Choice.{implies}
 use Rattle.c_rows.proofs.FirstChecks.{and_left, and_right, modus, Passes, passes_at}
 

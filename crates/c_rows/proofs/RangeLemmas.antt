@@ -11,7 +11,8 @@ use Rattle.c_rows.specs.Derives.{Derives, leaf, branch, DerivesRow, done, word, 
 use Rattle.c_rows.specs.Trees.{IsTreeOf}
 
 module _ (names : Names) (may : List Token → List Token → Type 0) where
-  first_part : (t : Tree) (cs : List Tree) (xs us ys : List Token) → xs ≡ leaves t ++ us → us ≡ join (map leaves cs) ++ ys → xs ≡ join (map leaves (t ∷ cs)) ++ ys
+  first_part : (t : Tree) (cs : List Tree) (xs us ys : List Token) → xs ≡ leaves t ++ us → us ≡ join (map leaves cs) ++ ys
+      → xs ≡ join (map leaves (t ∷ cs)) ++ ys
   first_part t cs xs us ys e f = e ∙ ap (λ (ts : List Token). leaves t ++ ts) f ∙ sym (append_assoc (leaves t) (join (map leaves cs)) ys)
 
   mutual

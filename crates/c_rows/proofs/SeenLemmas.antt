@@ -72,14 +72,16 @@ mutual
   tree_flag (leaf {s = s} {ys = ys} h) b f = leaf {s = flagged b s} h
   tree_flag {k} {xs} (branch r w g al runs) b f =
       branch r w (subst (λ (c : Class). IsTrue (begins r c)) (sym (front_same b xs)) g) al
-      (row_flag runs b (modus (full (family_of (kind_of r))) (headed (row r)) (headed_test r) (subst (λ (o : Family). IsTrue (full o)) (sym (within_family (kind_of r) k w)) f)))
+      (row_flag runs b (modus (full (family_of (kind_of r))) (headed (row r)) (headed_test r)
+      (subst (λ (o : Family). IsTrue (full o)) (sym (within_family (kind_of r) k w)) f)))
 
   row_flag : {ps : Row} {xs ys : List Seen} {cs : List Tree} → Runs ps xs cs ys → (b : Bool) → IsTrue (headed ps) → Runs ps (reflagged b xs) cs ys
   row_flag done b h = let never : ⊥ = cc in absurd never
   row_flag (word {s = s} f rest) b h = word {s = flagged b s} f rest
   row_flag (child d rest) b h = child (tree_flag d b h) rest
   row_flag (argument d rest) b h = let never : ⊥ = cc in absurd never
-  row_flag (fork {f = f} {ps = ps} {xs = xs} i w v way) b h = fork i w (subst (λ (c : Class). IsTrue (may_go f ps c)) (sym (front_same b xs)) v) (row_flag way b (headed_way f i ps w h))
+  row_flag (fork {f = f} {ps = ps} {xs = xs} i w v way) b h =
+      fork i w (subst (λ (c : Class). IsTrue (may_go f ps c)) (sym (front_same b xs)) v) (row_flag way b (headed_way f i ps w h))
 
 pub flag_free : (s : Seen) (ss : List Seen) → NoMember (unmarked s ∷ ss) → NoMember (s ∷ ss)
 flag_free s ss n = λ u ys d e l. n u ys (tree_flag d false refl) e l

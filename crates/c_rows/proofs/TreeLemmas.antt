@@ -75,17 +75,21 @@ module _ (names : Names) where
   no_args h = let never : ⊥ = cc in absurd never
 
   -- A whole tree that is seen, from a reading of types.
-  module _ (may : List Token → List Token → Type 0) (Wide Narrow : List Token → Type 0) (fall : (t : Token) (ts : List Token) → Wide (t ∷ ts) → Narrow ts) (widen : (ts : List Token) → Narrow ts → Wide ts) where
-    whole_taken : ((l : Bool) (ts us : List Token) (ss ys : List Seen) (t : Tree) → AreSeenAs names l ts ss → IsTrue (front_typed ss) → Derives names may kind.TypeArg ts t us
+  module _ (may : List Token → List Token → Type 0) (Wide Narrow : List Token → Type 0) (fall : (t : Token) (ts : List Token)
+      → Wide (t ∷ ts) → Narrow ts) (widen : (ts : List Token) → Narrow ts → Wide ts) where
+    whole_taken : ((l : Bool) (ts us : List Token) (ss ys : List Seen) (t : Tree) → AreSeenAs names l ts ss
+        → IsTrue (front_typed ss) → Derives names may kind.TypeArg ts t us
         → IsTrue (ends_member (look names us)) → Narrow ts → may ts us)
-        → (k : Kind) (ts : List Token) (t : Tree) (ss : List Seen) → IsTrue (stands_alone k) → AreSeenAs names false ts ss → Wide ts → Spells k ss t [] → Derives names may k ts t []
+        → (k : Kind) (ts : List Token) (t : Tree) (ss : List Seen) → IsTrue (stands_alone k) → AreSeenAs names false ts ss
+        → Wide ts → Spells k ss t [] → Derives names may k ts t []
     whole_taken allowed k ts t ss o a p d =
         let x = take_tree names may Wide Narrow fall widen allowed d false ts a p (alone_args k o) (alone_after k o) in
         subst (λ (r : List Token). Derives names may k ts t r) (no_tokens x.leads x.rest x.right) x.derived
 
     whole_kept : ((l : Bool) (ts us : List Token) (ss : List Seen) (t : Tree) → AreSeenAs names l ts ss → may ts us → Derives names may kind.TypeArg ts t us
         → IsTrue (ends_member (look names us)) → Narrow ts → NoMember ss)
-        → (k : Kind) (ts : List Token) (t : Tree) (ss : List Seen) → IsTrue (stands_alone k) → AreSeenAs names false ts ss → Wide ts → Derives names may k ts t [] → levels t ≤ 1000 → Spells k ss t []
+        → (k : Kind) (ts : List Token) (t : Tree) (ss : List Seen) → IsTrue (stands_alone k) → AreSeenAs names false ts ss
+        → Wide ts → Derives names may k ts t [] → levels t ≤ 1000 → Spells k ss t []
     unfolding look
     whole_kept barred k ts t ss o a p d n =
         let x = keep_tree names Wide Narrow fall widen may barred d false ss a p (alone_args k o) (alone_after k o) n in
@@ -106,19 +110,24 @@ module _ (names : Names) where
   none_short t ts h = omega arith
 
   mutual
-    rule_allowed : (n : ℕ) (l : Bool) (ts us : List Token) (ss ys : List Seen) (t : Tree) → AreSeenAs names l ts ss → IsTrue (front_typed ss) → Derives names (NoRival names n) kind.TypeArg ts t us
+    rule_allowed : (n : ℕ) (l : Bool) (ts us : List Token) (ss ys : List Seen) (t : Tree) → AreSeenAs names l ts ss
+        → IsTrue (front_typed ss) → Derives names (NoRival names n) kind.TypeArg ts t us
         → IsTrue (ends_member (look names us)) → Short n ts → NoRival names n ts us
     rule_allowed zero l ts us ss ys t a o d h p = tt
     rule_allowed (suc n) l ts us ss ys t a o d h p = λ u e low.
-        let y = keep_tree names (Short (suc n)) (Short n) (fall_short n) (widen_short n) (NoRival names n) (rule_barred n) e l ss a p no_args (member_after false (look names us) h) low in
+        let y = keep_tree names (Short (suc n)) (Short n) (fall_short n) (widen_short n) (NoRival names n)
+        (rule_barred n) e l ss a p no_args (member_after false (look names us) h) low in
         flag_none l ts ss a o u y.rest y.spelled (end_front y.leads us y.rest y.right h) low
 
-    rule_barred : (n : ℕ) (l : Bool) (ts us : List Token) (ss : List Seen) (t : Tree) → AreSeenAs names l ts ss → NoRival names n ts us → Derives names (NoRival names n) kind.TypeArg ts t us
+    rule_barred : (n : ℕ) (l : Bool) (ts us : List Token) (ss : List Seen) (t : Tree) → AreSeenAs names l ts ss
+        → NoRival names n ts us → Derives names (NoRival names n) kind.TypeArg ts t us
         → IsTrue (ends_member (look names us)) → Short n ts → NoMember ss
-    rule_barred zero l [] us ss t a none d h p = λ u ys x g low. some_token names [] (tree_first names (NoRival names 0) d (member_after true (look names us) h)) refl
+    rule_barred zero l [] us ss t a none d h p =
+        λ u ys x g low. some_token names [] (tree_first names (NoRival names 0) d (member_after true (look names us) h)) refl
     rule_barred zero l (x ∷ ts) us ss t a none d h p = absurd (none_short x ts p)
     rule_barred (suc n) l ts us ss t a none d h p = λ u ys x g low.
-        let e = take_tree names (NoRival names n) (Short (suc n)) (Short n) (fall_short n) (widen_short n) (rule_allowed n) x l ts a p no_args (member_after false (front ys) g) in
+        let e = take_tree names (NoRival names n) (Short (suc n)) (Short n) (fall_short n) (widen_short n)
+        (rule_allowed n) x l ts a p no_args (member_after false (front ys) g) in
         let same : us ≡ e.rest = same_end names (NoRival names (suc n)) (NoRival names n) d e.derived h (front_end e.leads e.rest ys e.right g) in
         none u (subst (λ (zs : List Token). Derives names (NoRival names n) kind.AssignLevel ts u zs) (sym same) e.derived) low
 
@@ -126,13 +135,17 @@ module _ (names : Names) where
   all_short ts = omega arith
 
   -- A tree of the range is one that the rows allow over the tokens as they are seen,
-  pub tree_spelled : (k : Kind) (ts : List Token) (t : Tree) (ss : List Seen) → IsTrue (stands_alone k) → AreSeenAs names false ts ss → IsTreeOf k names ts t → Spells k ss t []
+  pub tree_spelled : (k : Kind) (ts : List Token) (t : Tree) (ss : List Seen) → IsTrue (stands_alone k)
+      → AreSeenAs names false ts ss → IsTreeOf k names ts t → Spells k ss t []
   tree_spelled k ts t ss o a h =
-      whole_kept (NoRival names (length ts)) (Short (suc (length ts))) (Short (length ts)) (fall_short (length ts)) (widen_short (length ts)) (rule_barred (length ts)) k ts t ss o a (all_short ts) h.derived h.shallow
+      whole_kept (NoRival names (length ts)) (Short (suc (length ts))) (Short (length ts)) (fall_short (length ts))
+      (widen_short (length ts)) (rule_barred (length ts)) k ts t ss o a (all_short ts) h.derived h.shallow
 
   -- and conversely.
-  pub spelled_tree : (k : Kind) (ts : List Token) (t : Tree) (ss : List Seen) → IsTrue (stands_alone k) → AreSeenAs names false ts ss → Spells k ss t [] → levels t ≤ 1000 → IsTreeOf k names ts t
+  pub spelled_tree : (k : Kind) (ts : List Token) (t : Tree) (ss : List Seen) → IsTrue (stands_alone k)
+      → AreSeenAs names false ts ss → Spells k ss t [] → levels t ≤ 1000 → IsTreeOf k names ts t
   spelled_tree k ts t ss o a d n = record {
-    derived = whole_taken (NoRival names (length ts)) (Short (suc (length ts))) (Short (length ts)) (fall_short (length ts)) (widen_short (length ts)) (rule_allowed (length ts)) k ts t ss o a (all_short ts) d;
+    derived = whole_taken (NoRival names (length ts)) (Short (suc (length ts))) (Short (length ts)) (fall_short (length ts))
+        (widen_short (length ts)) (rule_allowed (length ts)) k ts t ss o a (all_short ts) d;
     shallow = n;
   }

@@ -28,7 +28,8 @@ root_ends (Some r) c = ends (own r) c
 -- a tree that begins with a token of its own and not with a tree to its left
 pub data Operand (m : Kind) : Root → List Seen → Tree → List Seen → Type 0 where
   token : {s : Seen} {ys : List Seen} → IsTrue (has_leaf (family_of m) s.class) → Operand m None (s ∷ ys) (tree.Leaf s.token) ys
-  headed : {xs ys : List Seen} {cs : List Tree} → (r : Rule) → IsTrue (within (kind_of r) m) → left r ≡ None → IsTrue (begins r (front xs)) → IsTrue (allows r cs) → Runs (own r) xs cs ys
+  headed : {xs ys : List Seen} {cs : List Tree} → (r : Rule) → IsTrue (within (kind_of r) m) → left r ≡ None
+      → IsTrue (begins r (front xs)) → IsTrue (allows r cs) → Runs (own r) xs cs ys
       → Operand m (Some r) xs (build r cs) ys
 
 -- the first tree, which ends at the first list, is the left end of the second, which ends at the second

@@ -24,4 +24,5 @@ pub record IsLetterTreeOf (kind : Kind) (names : Names) (tokens : List Token) (t
 -- argument list may end, has at most 1,000 levels.
 abbrev pub AllLow : Names → List Token → Type 0
 AllLow names [] = ⊤
-AllLow names (t ∷ ts) = ((u : Tree) (ys : List Token) → Derives names Anywhere kind.AssignLevel (t ∷ ts) u ys → IsTrue (ends_member (look names ys)) → levels u ≤ most_levels) × AllLow names ts
+AllLow names (t ∷ ts) = ((u : Tree) (ys : List Token) → Derives names Anywhere kind.AssignLevel (t ∷ ts) u ys
+    → IsTrue (ends_member (look names ys)) → levels u ≤ most_levels) × AllLow names ts

@@ -34,6 +34,7 @@ mod brackets;
 mod branches;
 mod choice;
 mod class;
+mod depth;
 mod facts;
 mod forks;
 mod guards;
@@ -61,6 +62,7 @@ use beginnings::{
 pub use branches::{Group, group_at};
 pub use choice::{choose, head, left, own, tail};
 pub use class::Class;
+pub use depth::{MOST_OPEN, depth_after};
 pub use facts::Facts;
 pub use forks::ways;
 pub use guards::allows;

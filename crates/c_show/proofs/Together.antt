@@ -12,15 +12,15 @@ use Rattle.c_lexer.specs.declared.state.State.TheVariants.{Start}
 use Rattle.c_lexer.specs.Kinds.{walk, step, kind_at, named}
 use Rattle.c_lexer.specs.First.{IsFirst}
 use Rattle.c_lexer.specs.Parts.{RunTogether}
-use Rattle.c_show.specs.Joint.{is_quiet, is_longer, is_longer_from, runs_together}
+use Rattle.c_show.specs.Joint.{never_accepts, is_longer, is_longer_from, runs_together}
 use Rattle.c_lexer.proofs.Walks.{Quiet, dead, quiet_after, quiet_one, quiet_step, first_quiet, quiet_first, came}
 
-quiet_decides : (q : State) (xs : List ℕ) → Decides (is_quiet q xs) (Quiet q xs)
+quiet_decides : (q : State) (xs : List ℕ) → Decides (never_accepts q xs) (Quiet q xs)
 quiet_decides q [] = ((λ _ n less. absurd (omega arith)), λ _. refl)
 quiet_decides q (c ∷ cs) = after (step q c) refl (λ t. quiet_decides t cs)
   where
-    told : (t : State) → step q c ≡ Some t → (r : Option Kind) → kind_at t ≡ r → Decides (is_quiet t cs) (Quiet t cs)
-        → Decides (elim r as (λ r. Bool) [ None ↦ is_quiet t cs | Some k ↦ false ]) (Quiet q (c ∷ cs))
+    told : (t : State) → step q c ≡ Some t → (r : Option Kind) → kind_at t ≡ r → Decides (never_accepts t cs) (Quiet t cs)
+        → Decides (elim r as (λ r. Bool) [ None ↦ never_accepts t cs | Some k ↦ false ]) (Quiet q (c ∷ cs))
     told t is (Some k) has rest = (
       (λ e. absurd (false≢true e)),
       λ quiet.
@@ -30,8 +30,12 @@ quiet_decides q (c ∷ cs) = after (step q c) refl (λ t. quiet_decides t cs)
     )
     told t is None none rest = ((λ e. quiet_after q t c cs is none (rest.0 e)), λ quiet. rest.1 ((quiet_step q t (c ∷ cs) 0 (omega arith) is none).0 quiet))
 
-    after : (r : Option State) → step q c ≡ r → ((t : State) → Decides (is_quiet t cs) (Quiet t cs))
-        → Decides (elim r as (λ r. Bool) [ None ↦ true | Some t ↦ elim (kind_at t) as (λ r. Bool) [ None ↦ is_quiet t cs | Some k ↦ false ] ]) (Quiet q (c ∷ cs))
+    after : (r : Option State) → step q c ≡ r → ((t : State) → Decides (never_accepts t cs) (Quiet t cs))
+        → Decides (elim r as (λ r. Bool) [
+          | None ↦ true
+          | Some t ↦
+              elim (kind_at t) as (λ r. Bool) [ None ↦ never_accepts t cs | Some k ↦ false ]
+        ]) (Quiet q (c ∷ cs))
     after None none rest = ((λ _. dead q c cs none), λ _. refl)
     after (Some t) is rest = told t is (kind_at t) refl (rest t)
 
@@ -43,7 +47,7 @@ longer_decides : (left right : List ℕ) → Decides (is_longer left right) ((k 
 longer_decides left right = after (walk (Some Start) left) refl
   where
     told : (q : State) → walk (Some Start) left ≡ Some q → (r : Option Kind) → kind_at q ≡ r
-        → Decides (elim r as (λ r. Bool) [ None ↦ true | Some k ↦ not (is_quiet q right) ]) ((k : Kind) → IsFirst k left right → ⊥)
+        → Decides (elim r as (λ r. Bool) [ None ↦ true | Some k ↦ not (never_accepts q right) ]) ((k : Kind) → IsFirst k left right → ⊥)
     told q is None none = (
       (λ _ k first.
           let at = came left k first.of_kind in
@@ -53,9 +57,10 @@ longer_decides left right = after (walk (Some Start) left) refl
       λ _. refl,
     )
     told q is (Some k) has =
-        let d = flips (is_quiet q right) (Quiet q right) (quiet_decides q right) in (
+        let d = flips (never_accepts q right) (Quiet q right) (quiet_decides q right) in (
           (λ e j first. d.0 e (first_quiet left right j q is first)),
-          λ none. d.1 (λ quiet. none (named left k) (quiet_first left right (named left k) (record { state = q; shape = k; is = is; has = has; name = refl }) quiet)),
+          λ none. d.1 (λ quiet. none (named left k)
+              (quiet_first left right (named left k) (record { state = q; shape = k; is = is; has = has; name = refl }) quiet)),
         )
 
     after : (r : Option State) → walk (Some Start) left ≡ r → Decides (is_longer_from r right) ((k : Kind) → IsFirst k left right → ⊥)

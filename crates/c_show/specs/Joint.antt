@@ -6,16 +6,16 @@ use Rattle.c_lexer.specs.declared.state.State.TheVariants.{Start}
 use Rattle.c_lexer.specs.Kinds.{walk, step, kind_at}
 
 -- whether no prefix of the bytes completes a text of a kind
-abbrev pub is_quiet : State → List ℕ → Bool
-is_quiet q [] = true
-is_quiet q (b ∷ bs) = elim (step q b) as (λ r. Bool) [
+abbrev pub never_accepts : State → List ℕ → Bool
+never_accepts q [] = true
+never_accepts q (b ∷ bs) = elim (step q b) as (λ r. Bool) [
   | None ↦ true
-  | Some t ↦ elim (kind_at t) as (λ r. Bool) [ None ↦ is_quiet t bs | Some k ↦ false ]
+  | Some t ↦ elim (kind_at t) as (λ r. Bool) [ None ↦ never_accepts t bs | Some k ↦ false ]
 ]
 
 abbrev pub is_longer_from : Option State → List ℕ → Bool
 is_longer_from None right = true
-is_longer_from (Some q) right = elim (kind_at q) as (λ r. Bool) [ None ↦ true | Some k ↦ not (is_quiet q right) ]
+is_longer_from (Some q) right = elim (kind_at q) as (λ r. Bool) [ None ↦ true | Some k ↦ not (never_accepts q right) ]
 
 -- whether the left text is not the first piece of both
 abbrev pub is_longer : List ℕ → List ℕ → Bool

@@ -52,7 +52,8 @@ kids-bare (c ∷ cs) (u ∷ us) e h =
     let b : all_pass (map same_tree cs) us ≡ true = grind (arith, common_steps) in
     let p = e.0 u a in let q = kids-bare cs us e.1 b in cc
 
-branch-bare : (l : Label) (cs : List Tree) → Each SameBare cs → (k : Label) (us : List Tree) → same_tree (Branch l cs) (Branch k us) ≡ true → bare (Branch l cs) ≡ bare (Branch k us)
+branch-bare : (l : Label) (cs : List Tree) → Each SameBare cs → (k : Label) (us : List Tree)
+    → same_tree (Branch l cs) (Branch k us) ≡ true → bare (Branch l cs) ≡ bare (Branch k us)
 branch-bare l cs e k us h =
     let m : (same_label l k && all_pass (map same_tree cs) us) ≡ true = sym (same-Branch-Branch l cs k us) ∙ h in
     let a : label_number l ≡ label_number k = grind (arith, nat_tests, common_steps) in
@@ -81,7 +82,8 @@ token-self a = let h = bytes-refl a.text in grind (arith, nat_tests)
 self-bare : (t : Tree) → same_tree t (bare t) ≡ true
 self-bare = tree_induction (λ t. same_tree t (bare t) ≡ true)
     (λ a. rw (bare-Leaf a, same-Leaf-Leaf a (bare_token a)) (token-self a))
-    (λ l cs e. rw (bare-Branch l cs, same-Branch-Branch l cs l (map bare cs)) (both (same_label l l) (all_pass (map same_tree cs) (map bare cs)) (label-refl l) (kids-self cs e)))
+    (λ l cs e. rw (bare-Branch l cs, same-Branch-Branch l cs l (map bare cs))
+    (both (same_label l l) (all_pass (map same_tree cs) (map bare cs)) (label-refl l) (kids-self cs e)))
 
 pub bare-same : (t u : Tree) → bare t ≡ bare u → same_tree t u ≡ true
 bare-same t u e =

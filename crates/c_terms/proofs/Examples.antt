@@ -30,7 +30,8 @@ punct = token kind.Punct
 
 -- `f(x)`
 abbrev call : ℕ → Tree
-call from = Branch label.Call (Leaf (name (codes "f") from) ∷ Leaf (punct (codes "(") (from + 1)) ∷ Branch label.Args (Leaf (name (codes "x") (from + 2)) ∷ []) ∷ Leaf (punct (codes ")") (from + 3)) ∷ [])
+call from = Branch label.Call (Leaf (name (codes "f") from) ∷ Leaf (punct (codes "(") (from + 1))
+    ∷ Branch label.Args (Leaf (name (codes "x") (from + 2)) ∷ []) ∷ Leaf (punct (codes ")") (from + 3)) ∷ [])
 
 -- ids don't count, kinds and bytes do
 ids_aside : same_token (name (codes "a") 1) (name (codes "a") 2) ≡ true

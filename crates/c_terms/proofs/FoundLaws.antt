@@ -1,7 +1,8 @@
 -- The path of each part of a tree leads to it.
 -- Proof: by induction on the tree. The parts of a branch are split by child, and a child's number is the number of
 -- children before it.
-use Rattle.std.proofs.Common.{◌≡◌, ℕ, zero, suc, Bool, true, false, cond, refl, sym, ap, ◌∙◌, subst, arith, List, [], ◌∷◌, ◌++◌, map, length, append_assoc, length-append, Some, slice_get}
+use Rattle.std.proofs.Common.{◌≡◌, ℕ, zero, suc, Bool, true, false, cond, refl, sym, ap, ◌∙◌, subst, arith, List, [], ◌∷◌, ◌++◌}
+use Rattle.std.proofs.Common.{map, length, append_assoc, length-append, Some, slice_get}
 use Rattle.std.specs.Option.{option_and_then}
 use Rattle.c_terms.specs.declared.label.Label.{Label}
 use Rattle.c_terms.specs.declared.tree.Tree.{Tree}
@@ -45,10 +46,12 @@ module _ (test : Label → ℕ → Tree → Bool) where
   abbrev Finds : Tree → Type 0
   Finds t = AllFound t (parts test t)
 
-  kids-found : (l : Label) (before rest : List Tree) → Each Finds rest → AllFound (Branch l (before ++ rest)) (parts_from test l (length before) (map (child_known test) rest))
+  kids-found : (l : Label) (before rest : List Tree) → Each Finds rest
+      → AllFound (Branch l (before ++ rest)) (parts_from test l (length before) (map (child_known test) rest))
   kids-found l before [] e = tt
   kids-found l before (c ∷ more) e =
-      let at : child (Branch l (before ++ c ∷ more)) (length before) ≡ Some c = child-Branch l (before ++ c ∷ more) (length before) ∙ child-behind before more c in
+      let at : child (Branch l (before ++ c ∷ more)) (length before) ≡ Some c =
+      child-Branch l (before ++ c ∷ more) (length before) ∙ child-behind before more c in
       let whole : (before ++ c ∷ []) ++ more ≡ before ++ c ∷ more = append_assoc before (c ∷ []) more in
       let count : length (before ++ c ∷ []) ≡ suc (length before) = omega (arith, length-append before (c ∷ [])) in
       let later = kids-found l (before ++ c ∷ []) more e.1 in

@@ -8,7 +8,8 @@ use Rattle.c_terms.specs.Lists.{comma_kids, more_kids, run_kids}
 more_kids-push : (ms : List Member) (m : Member) → more_kids (ms ++ m ∷ []) ≡ more_kids ms ++ (comma_kids m.comma ++ m.tree ∷ [])
 more_kids-push [] m = refl
 more_kids-push (x ∷ ms) m =
-    ap (λ ts. comma_kids x.comma ++ x.tree ∷ ts) (more_kids-push ms m) ∙ sym (append_assoc (comma_kids x.comma) (x.tree ∷ more_kids ms) (comma_kids m.comma ++ m.tree ∷ []))
+    ap (λ ts. comma_kids x.comma ++ x.tree ∷ ts) (more_kids-push ms m)
+    ∙ sym (append_assoc (comma_kids x.comma) (x.tree ∷ more_kids ms) (comma_kids m.comma ++ m.tree ∷ []))
 
 later : (ms : List Member) (i : ℕ) (m : Member) → 0 < i → i < length ms → m ≡ get_or ms i m
     → run_kids (take (suc i) ms) ≡ (run_kids (take i ms) ++ comma_kids m.comma) ++ m.tree ∷ []

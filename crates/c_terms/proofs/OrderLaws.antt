@@ -83,7 +83,8 @@ kids-end u us xs ys = let s = code-starts u in rw (s.1.1, sym (before_suc s.0)) 
 kids-more : (c : Tree) (cs : List Tree) (xs ys : List ℕ) → by_bytes (kids (c ∷ cs) ++ xs) (0 ∷ ys) ≡ Greater
 kids-more c cs xs ys = let s = code-starts c in rw (s.1.1, sym (after_zero s.0)) refl
 
-kids-coded : (cs us : List Tree) → Each Coded cs → (xs ys : List ℕ) → by_bytes (kids cs ++ xs) (kids us ++ ys) ≡ ordering_then (slice_cmp tree_order cs us) (by_bytes xs ys)
+kids-coded : (cs us : List Tree) → Each Coded cs → (xs ys : List ℕ)
+    → by_bytes (kids cs ++ xs) (kids us ++ ys) ≡ ordering_then (slice_cmp tree_order cs us) (by_bytes xs ys)
 kids-coded [] [] e xs ys = refl
 kids-coded [] (u ∷ us) e xs ys = kids-end u us xs ys
 kids-coded (c ∷ cs) [] e xs ys = kids-more c cs xs ys
@@ -93,7 +94,8 @@ kids-coded (c ∷ cs) (u ∷ us) e xs ys =
     ∙ sym (then-assoc (tree_order c u) (slice_cmp tree_order cs us) (by_bytes xs ys)))
 
 branch-coded : (l : Label) (cs : List Tree) → Each Coded cs → Coded (Branch l cs)
-branch-coded l cs e = tree_cases (λ u. (xs ys : List ℕ) → by_bytes (code (Branch l cs) ++ xs) (code u ++ ys) ≡ ordering_then (tree_order (Branch l cs) u) (by_bytes xs ys))
+branch-coded l cs e = tree_cases (λ u. (xs ys : List ℕ)
+    → by_bytes (code (Branch l cs) ++ xs) (code u ++ ys) ≡ ordering_then (tree_order (Branch l cs) u) (by_bytes xs ys))
     (λ b xs ys. rw (code-Branch l cs, code-Leaf b, order-Branch-Leaf l cs b) refl)
     (λ k us xs ys. rw (code-Branch l cs, code-Branch k us, order-Branch-Branch l cs k us)
     (ap (ordering_then (nat_cmp (label_number l) (label_number k))) (kids-coded cs us e xs ys)
@@ -134,7 +136,11 @@ is_eq-bytes (x ∷ xs) (y ∷ ys) = rw (is_eq-then (nat_cmp x y) (by_bytes xs ys
 
 is_eq-token : (a b : Token) → is_eq (token_order a b) ≡ same_token a b
 is_eq-token a b =
-    rw (is_eq-then (nat_cmp (kind_number a.kind) (kind_number b.kind)) (by_bytes a.text b.text), is_eq-nat (kind_number a.kind) (kind_number b.kind), is_eq-bytes a.text b.text) refl
+    rw (
+      is_eq-then (nat_cmp (kind_number a.kind) (kind_number b.kind)) (by_bytes a.text b.text),
+      is_eq-nat (kind_number a.kind) (kind_number b.kind),
+      is_eq-bytes a.text b.text,
+    ) refl
 
 abbrev Tied : Tree → Type 0
 Tied t = (u : Tree) → is_eq (tree_order t u) ≡ same_tree t u
@@ -145,9 +151,16 @@ kids-tied [] (u ∷ us) e = refl
 kids-tied (c ∷ cs) [] e = refl
 kids-tied (c ∷ cs) (u ∷ us) e = rw (is_eq-then (tree_order c u) (slice_cmp tree_order cs us), e.0 u, kids-tied cs us e.1) refl
 
-branch-tied : (l : Label) (cs : List Tree) → Each Tied cs → (k : Label) (us : List Tree) → is_eq (tree_order (Branch l cs) (Branch k us)) ≡ same_tree (Branch l cs) (Branch k us)
+branch-tied : (l : Label) (cs : List Tree) → Each Tied cs → (k : Label) (us : List Tree)
+    → is_eq (tree_order (Branch l cs) (Branch k us)) ≡ same_tree (Branch l cs) (Branch k us)
 branch-tied l cs e k us =
-    rw (order-Branch-Branch l cs k us, same-Branch-Branch l cs k us, is_eq-then (nat_cmp (label_number l) (label_number k)) (slice_cmp tree_order cs us), is_eq-nat (label_number l) (label_number k), kids-tied cs us e) refl
+    rw (
+      order-Branch-Branch l cs k us,
+      same-Branch-Branch l cs k us,
+      is_eq-then (nat_cmp (label_number l) (label_number k)) (slice_cmp tree_order cs us),
+      is_eq-nat (label_number l) (label_number k),
+      kids-tied cs us e,
+    ) refl
 
 -- the terms that the order makes equal are the same
 pub is_eq-tree_order : (t u : Tree) → is_eq (tree_order t u) ≡ same_tree t u

@@ -45,7 +45,8 @@ order-Branch-Branch l cs k us =
     ∙ ap (ordering_then (nat_cmp (label_number l) (label_number k))) (slice_cmp-map tree_order cs us)
 
 -- one step of a comparison of lists from a place on
-pub slice_cmp_at : {A : Type 0} (f : A → A → Ordering) (xs ys : List A) (i : ℕ) (x y : A) → i < length xs → i < length ys → x ≡ get_or xs i x → y ≡ get_or ys i y
+pub slice_cmp_at : {A : Type 0} (f : A → A → Ordering) (xs ys : List A) (i : ℕ) (x y : A) → i < length xs → i < length ys
+    → x ≡ get_or xs i x → y ≡ get_or ys i y
     → slice_cmp f (drop i xs) (drop i ys) ≡ ordering_then (f x y) (slice_cmp f (drop (suc i) xs) (drop (suc i) ys))
 slice_cmp_at f [] ys i x y h k e g = absurd (omega arith)
 slice_cmp_at f (a ∷ xs) [] i x y h k e g = absurd (omega arith)

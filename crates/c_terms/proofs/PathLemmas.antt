@@ -1,5 +1,6 @@
 -- The paths of the parts of a tree, with one more child.
-use Rattle.std.proofs.Common.{◌≡◌, ℕ, suc, ◌+◌, ◌-◌, ◌^◌, ◌<◌, ◌≤◌, max, Bool, true, false, cond, refl, sym, ap, ◌∙◌, arith, List, [], ◌∷◌, ◌++◌, map, length, take, drop, get_or, append_assoc, length-append, drop-cons}
+use Rattle.std.proofs.Common.{◌≡◌, ℕ, suc, ◌+◌, ◌-◌, ◌^◌, ◌<◌, ◌≤◌, max, Bool, true, false, cond, refl, sym, ap, ◌∙◌, arith}
+use Rattle.std.proofs.Common.{List, [], ◌∷◌, ◌++◌, map, length, take, drop, get_or, append_assoc, length-append, drop-cons}
 use Rattle.std.proofs.lemmas.List.{map-append}
 use Rattle.std.proofs.Math.Seq.{take-append_seam}
 use Rattle.c_terms.specs.declared.label.Label.{Label}
@@ -31,12 +32,14 @@ module _ (test : Label → ℕ → Tree → Bool) where
   -- the paths from child i on: its own, those in it, and those from the next child on
   pub paths-step : (above : List ℕ) (l : Label) (cs : List Tree) (i : ℕ) (c : Tree) → i < length cs → c ≡ get_or cs i c
       → paths_at above (parts_from test l i (map (child_known test) (drop i cs)))
-      ≡ (cond (test l i c) ((above ++ i ∷ []) ∷ []) [] ++ paths_at (above ++ i ∷ []) (parts test c)) ++ paths_at above (parts_from test l (i + 1) (map (child_known test) (drop (i + 1) cs)))
+      ≡ (cond (test l i c) ((above ++ i ∷ []) ∷ []) [] ++ paths_at (above ++ i ∷ []) (parts test c))
+      ++ paths_at above (parts_from test l (i + 1) (map (child_known test) (drop (i + 1) cs)))
   paths-step above l cs i c lt e =
       let one : i + 1 ≡ suc i = omega arith in
       let d : drop i cs ≡ c ∷ drop (suc i) cs = drop-cons cs i c lt ∙ ap (λ x. x ∷ drop (suc i) cs) (sym e) in
       rw (one, d)
-      (map-append (λ (p : Place). above ++ p.path) (part_at test l i c ++ map (below i) (parts test c)) (parts_from test l (suc i) (map (child_known test) (drop (suc i) cs)))
+      (map-append (λ (p : Place). above ++ p.path) (part_at test l i c ++ map (below i) (parts test c))
+      (parts_from test l (suc i) (map (child_known test) (drop (suc i) cs)))
       ∙ ap (λ ps. ps ++ paths_at above (parts_from test l (suc i) (map (child_known test) (drop (suc i) cs))))
       (map-append (λ (p : Place). above ++ p.path) (part_at test l i c) (map (below i) (parts test c))
       ∙ (λ k. paths-part above l i c k ++ paths-below above i (parts test c) k)))
@@ -53,7 +56,8 @@ pub paths-start : (test : Label → ℕ → Tree → Bool) (t : Tree) (l : Label
 paths-start test t l cs above found e = ap (λ ps. found ++ paths_at above ps) (sym (parts-Branch test l cs) ∙ ap (parts test) (sym e))
 
 -- one child more
-pub paths-more : (test : Label → ℕ → Tree → Bool) (above : List ℕ) (l : Label) (cs : List Tree) (i : ℕ) (c : Tree) (all own inside after : List (List ℕ)) (b : Bool) (now : List ℕ)
+pub paths-more : (test : Label → ℕ → Tree → Bool) (above : List ℕ) (l : Label) (cs : List Tree) (i : ℕ) (c : Tree)
+    (all own inside after : List (List ℕ)) (b : Bool) (now : List ℕ)
     → i < length cs → c ≡ get_or cs i c → b ≡ test l i c → now ≡ above ++ i ∷ []
     → own ++ paths_at above (parts_from test l i (map (child_known test) (drop i cs))) ≡ all
     → inside ≡ own ++ cond b (now ∷ []) [] → after ≡ inside ++ paths_at now (parts test c)
@@ -73,7 +77,8 @@ paths-more test above l cs i c all own inside after b now lt e f g h p q =
 pub child-number : (t : Tree) (l : Label) (cs : List Tree) (i : ℕ) → t ≡ Branch l cs → width t < 2 ^ 32 → i < length cs → i < 2 ^ 32
 child-number t l cs i e w h = let b : width t ≡ max (length cs) (greatest (map width cs)) = ap width e ∙ width-Branch l cs in omega (arith, b, h, w)
 
-pub child-width : (t : Tree) (l : Label) (cs : List Tree) (i : ℕ) (c : Tree) → t ≡ Branch l cs → width t < 2 ^ 32 → i < length cs → c ≡ get_or cs i c → width c < 2 ^ 32
+pub child-width : (t : Tree) (l : Label) (cs : List Tree) (i : ℕ) (c : Tree) → t ≡ Branch l cs → width t < 2 ^ 32
+    → i < length cs → c ≡ get_or cs i c → width c < 2 ^ 32
 child-width t l cs i c e w h f =
     let b : width t ≡ max (length cs) (greatest (map width cs)) = ap width e ∙ width-Branch l cs in
     let g = greatest-at width cs i c h f in omega (arith, b, g, w)

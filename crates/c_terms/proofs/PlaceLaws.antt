@@ -20,7 +20,8 @@ kids-kept step (c ∷ cs) e = let h = e.0 in let r = kids-kept step cs e.1 in cc
 at_leaf : (step : Tree-F Known → Known) (a : Token) → fold-Tree Known step (Leaf a) ≡ step (Tree-F.Leaf a)
 at_leaf step a = ap (fold-Tree Known step) (sym (rolls-Leaf a)) ∙ fold-roll-Tree Known step _
 
-at_branch : (step : Tree-F Known → Known) (l : Label) (cs : List Tree) → fold-Tree Known step (Branch l cs) ≡ step (Tree-F.Branch l (map (fold-Tree Known step) cs))
+at_branch : (step : Tree-F Known → Known) (l : Label) (cs : List Tree)
+    → fold-Tree Known step (Branch l cs) ≡ step (Tree-F.Branch l (map (fold-Tree Known step) cs))
 at_branch step l cs = ap (fold-Tree Known step) (sym (rolls-Branch l cs)) ∙ fold-roll-Tree Known step _
 
 places-kept : (t : Tree) → Keeps places_step t

@@ -81,7 +81,8 @@ token-along a b h c =
 abbrev Carries : Tree → Type 0
 Carries t = (u : Tree) → same_tree t u ≡ true → (x : Tree) → same_tree t x ≡ same_tree u x
 
-all-along : (cs us : List Tree) → Each Carries cs → all_pass (map same_tree cs) us ≡ true → (xs : List Tree) → all_pass (map same_tree cs) xs ≡ all_pass (map same_tree us) xs
+all-along : (cs us : List Tree) → Each Carries cs → all_pass (map same_tree cs) us ≡ true → (xs : List Tree)
+    → all_pass (map same_tree cs) xs ≡ all_pass (map same_tree us) xs
 all-along [] [] e h xs = refl
 all-along [] (u ∷ us) e h xs = absurd (cc)
 all-along (c ∷ cs) [] e h xs = absurd (cc)

@@ -65,7 +65,8 @@ bytes_at (a ∷ xs) (b ∷ ys) zero x y lt n e f = rw (e, f) refl
 bytes_at (a ∷ xs) (b ∷ ys) (suc i) x y lt n e f = bytes_at xs ys i x y (omega arith) (omega arith) e f
 
 -- the tests of two lists, from one place on
-pub all_pass_at : (f : Tree → Tree → Bool) (xs ys : List Tree) (i : ℕ) (x y : Tree) → i < length xs → length xs ≡ length ys → x ≡ get_or xs i x → y ≡ get_or ys i y
+pub all_pass_at : (f : Tree → Tree → Bool) (xs ys : List Tree) (i : ℕ) (x y : Tree) → i < length xs → length xs ≡ length ys
+    → x ≡ get_or xs i x → y ≡ get_or ys i y
     → all_pass (map f (drop i xs)) (drop i ys) ≡ (f x y && all_pass (map f (drop (suc i) xs)) (drop (suc i) ys))
 all_pass_at f [] ys i x y lt n e g = absurd (omega arith)
 all_pass_at f (a ∷ xs) [] i x y lt n e g = absurd (omega arith)

@@ -11,6 +11,7 @@ pub mod Names
 pub mod Shapes
 pub mod Places
 pub mod Lists
+pub mod Constants
 -- For internal use: how a text keeps its bytes.
 
 pub mod Kept

@@ -19,6 +19,7 @@
 //! c_rows.
 #![tactic(auto)]
 
+mod constant;
 mod label;
 mod laws;
 mod list;
@@ -31,6 +32,7 @@ mod text;
 mod token;
 mod tree;
 
+pub use constant::{is_constant_name, is_strings};
 pub use label::Label;
 pub use laws::{
     names_stay_distinct, numbers_tell_apart, paths_lead_to_parts, same_term_is_equality,

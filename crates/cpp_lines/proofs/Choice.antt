@@ -57,7 +57,9 @@ stand_from : (first : ℕ) (before : List Sign) (number : ℕ) (tokens : List Si
 stand_from first [] number [] e = omega arith
 stand_from first (sign ∷ before) number [] e = (refl, omega arith, omega arith)
 stand_from first before number (sign ∷ tokens) e =
-    elim (ends_item sign before) as (λ b. StandEndToEnd first (if b then record { first = first; last = number + 1 } ∷ items_from (number + 1) [] (number + 1) tokens else items_from first (sign ∷ before) (number + 1) tokens) (number + suc (length tokens))) [
+    elim (ends_item sign before) as (λ b. StandEndToEnd first
+    (if b then record { first = first; last = number + 1 }
+    ∷ items_from (number + 1) [] (number + 1) tokens else items_from first (sign ∷ before) (number + 1) tokens) (number + suc (length tokens))) [
       | true ↦ (refl, omega arith, rw (end number (length tokens)) (stand_from (number + 1) [] (number + 1) tokens (omega arith)))
       | false ↦ rw (end number (length tokens)) (stand_from first (sign ∷ before) (number + 1) tokens (omega arith))
     ]

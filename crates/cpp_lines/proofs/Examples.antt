@@ -83,14 +83,17 @@ abbrev blank : TextPiece
 blank = record { kind = Blank; text = codes " " }
 
 -- `a __init b` shows the pieces 0 and 4
-markers_are_hidden : shown_from [] [] 0 (piece (codes "a") ∷ blank ∷ piece (codes "__init") ∷ blank ∷ piece (codes "b") ∷ []) (line.Other ∷ line.Other ∷ line.Other ∷ line.Other ∷ line.Other ∷ []) ≡ 0 ∷ 4 ∷ []
+markers_are_hidden : shown_from [] [] 0 (piece (codes "a") ∷ blank ∷ piece (codes "__init") ∷ blank ∷ piece (codes "b") ∷ [])
+    (line.Other ∷ line.Other ∷ line.Other ∷ line.Other ∷ line.Other ∷ []) ≡ 0 ∷ 4 ∷ []
 markers_are_hidden = refl
 
 abbrev span : ℕ → ℕ → ItemSpan
 span first last = record { first = first; last = last }
 
 -- `int x; f ( ) { g ; } struct s { a ; } ;`
-three_items : items_of (sign.Other ∷ sign.Other ∷ sign.Semicolon ∷ sign.Other ∷ sign.Opening Paren ∷ sign.Closing Paren ∷ sign.Opening Brace ∷ sign.Other ∷ sign.Semicolon ∷ sign.Closing Brace ∷ sign.Other ∷ sign.Other ∷ sign.Opening Brace ∷ sign.Other ∷ sign.Semicolon ∷ sign.Closing Brace ∷ sign.Semicolon ∷ []) ≡ span 0 3 ∷ span 3 10 ∷ span 10 17 ∷ []
+three_items : items_of (sign.Other ∷ sign.Other ∷ sign.Semicolon ∷ sign.Other ∷ sign.Opening Paren ∷ sign.Closing Paren
+    ∷ sign.Opening Brace ∷ sign.Other ∷ sign.Semicolon ∷ sign.Closing Brace ∷ sign.Other ∷ sign.Other ∷ sign.Opening Brace
+    ∷ sign.Other ∷ sign.Semicolon ∷ sign.Closing Brace ∷ sign.Semicolon ∷ []) ≡ span 0 3 ∷ span 3 10 ∷ span 10 17 ∷ []
 three_items = refl
 
 -- an unmatched closing bracket doesn't count, and what is left is an item

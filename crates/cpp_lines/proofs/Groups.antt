@@ -40,10 +40,12 @@ shows_now Past = refl
 
 pub all_shown-hides : (frames : List Frame) → AreSound frames → all_shown frames ≡ not (hides 0 frames)
 all_shown-hides [] sound = refl
-all_shown-hides (frame ∷ frames) sound = rw (sound.0, shows_now frame.arm, all_shown-hides frames sound.1) (elim (is_shown frame.arm) as (λ (b : Bool). (not (hides 0 frames) && b) ≡ not (if b then hides 0 frames else true)) [
-  | true ↦ elim (hides 0 frames) as (λ (b : Bool). (not b && true) ≡ not b) [ true ↦ refl | false ↦ refl ]
-  | false ↦ elim (hides 0 frames) as (λ (b : Bool). (not b && false) ≡ false) [ true ↦ refl | false ↦ refl ]
-])
+all_shown-hides (frame ∷ frames) sound =
+    rw (sound.0, shows_now frame.arm, all_shown-hides frames sound.1)
+    (elim (is_shown frame.arm) as (λ (b : Bool). (not (hides 0 frames) && b) ≡ not (if b then hides 0 frames else true)) [
+      | true ↦ elim (hides 0 frames) as (λ (b : Bool). (not b && true) ≡ not b) [ true ↦ refl | false ↦ refl ]
+      | false ↦ elim (hides 0 frames) as (λ (b : Bool). (not b && false) ≡ false) [ true ↦ refl | false ↦ refl ]
+    ])
 
 shows_next : (arm : Arm) (n : ℕ) → shows_after (arm_after arm) n ≡ shows_after arm (suc n)
 shows_next Before zero = refl

@@ -43,7 +43,8 @@ start pieces mask masks = record {
   masks = masks;
 }
 
-directs_more : (pieces : List TextPiece) (ds : List Directive) (p : TextPiece) (d : Directive) → AreDirectives pieces ds → Directs p.kind p.text d → AreDirectives (pieces ++ p ∷ []) (ds ++ d ∷ [])
+directs_more : (pieces : List TextPiece) (ds : List Directive) (p : TextPiece) (d : Directive) → AreDirectives pieces ds
+    → Directs p.kind p.text d → AreDirectives (pieces ++ p ∷ []) (ds ++ d ∷ [])
 directs_more [] [] p d all one = (one, tt)
 directs_more [] (e ∷ ds) p d all one = absurd all
 directs_more (q ∷ pieces) [] p d all one = absurd all
@@ -54,12 +55,19 @@ pub record At (pieces : List TextPiece) (i : ℕ) (p : TextPiece) : Type 0 where
   pub before : take (i + 1) pieces ≡ take i pieces ++ p ∷ []
   pub here : drop i pieces ≡ p ∷ drop (i + 1) pieces
 
-joined_more : (pieces : List TextPiece) (i : ℕ) (shown : List ℕ) (lines : List Directive) (tokens : List Sign) (ds : List Directive) (p : TextPiece) (d : Directive) → At pieces i p → ((more : List Directive) → shown_from [] [] 0 pieces (ds ++ more) ≡ shown ++ shown_from lines tokens i (drop i pieces) more) → (more : List Directive) → shown_from [] [] 0 pieces ((ds ++ d ∷ []) ++ more) ≡ shown ++ shown_from lines tokens i (p ∷ drop (i + 1) pieces) (d ∷ more)
+joined_more : (pieces : List TextPiece) (i : ℕ) (shown : List ℕ) (lines : List Directive) (tokens : List Sign)
+    (ds : List Directive) (p : TextPiece) (d : Directive) → At pieces i p
+    → ((more : List Directive) → shown_from [] [] 0 pieces (ds ++ more) ≡ shown
+    ++ shown_from lines tokens i (drop i pieces) more) → (more : List Directive)
+    → shown_from [] [] 0 pieces ((ds ++ d ∷ []) ++ more) ≡ shown ++ shown_from lines tokens i (p ∷ drop (i + 1) pieces) (d ∷ more)
 joined_more pieces i shown lines tokens ds p d at joined more =
-    ap (λ (l : List Directive). shown_from [] [] 0 pieces l) (append_assoc ds (d ∷ []) more) ∙ (joined (d ∷ more) ∙ ap (λ (l : List TextPiece). shown ++ shown_from lines tokens i l (d ∷ more)) at.here)
+    ap (λ (l : List Directive). shown_from [] [] 0 pieces l) (append_assoc ds (d ∷ []) more)
+    ∙ (joined (d ∷ more) ∙ ap (λ (l : List TextPiece). shown ++ shown_from lines tokens i l (d ∷ more)) at.here)
 
 -- a piece that is not a token
-pub no_token : (pieces : List TextPiece) (i : ℕ) (frames : List Frame) (mask : Mask) (shown : List ℕ) (p : TextPiece) (d : Directive) → Progress pieces i frames mask shown → At pieces i p → Directs p.kind p.text d → is_word p.kind ≡ false → Progress pieces (i + 1) (frames_after d frames) mask shown
+pub no_token : (pieces : List TextPiece) (i : ℕ) (frames : List Frame) (mask : Mask) (shown : List ℕ) (p : TextPiece)
+    (d : Directive) → Progress pieces i frames mask shown → At pieces i p → Directs p.kind p.text d → is_word p.kind ≡ false
+    → Progress pieces (i + 1) (frames_after d frames) mask shown
 no_token pieces i frames mask shown p d g at does other = record {
   lines = d ∷ g.lines;
   tokens = g.tokens;
@@ -81,7 +89,8 @@ is_true Comment text word = refl
 is_true Line text word = absurd cc
 
 -- a token in an arm that is not shown
-pub hidden_token : (pieces : List TextPiece) (i : ℕ) (frames : List Frame) (mask : Mask) (shown : List ℕ) (p : TextPiece) → Progress pieces i frames mask shown → At pieces i p → is_word p.kind ≡ true → all_shown frames ≡ false → Progress pieces (i + 1) frames mask shown
+pub hidden_token : (pieces : List TextPiece) (i : ℕ) (frames : List Frame) (mask : Mask) (shown : List ℕ) (p : TextPiece)
+    → Progress pieces i frames mask shown → At pieces i p → is_word p.kind ≡ true → all_shown frames ≡ false → Progress pieces (i + 1) frames mask shown
 hidden_token pieces i frames mask shown p g at word hidden =
     let out : not (is_hidden 0 0 g.lines) ≡ false = sym (in_arm g.lines frames g.tell g.sound) ∙ hidden in
     record {
@@ -96,7 +105,9 @@ hidden_token pieces i frames mask shown p g at word hidden =
     }
 
 -- a token that is masked
-pub masked_token : (pieces : List TextPiece) (i : ℕ) (frames : List Frame) (mask next : Mask) (shown : List ℕ) (p : TextPiece) → (g : Progress pieces i frames mask shown) → At pieces i p → is_word p.kind ≡ true → all_shown frames ≡ true → is_masked (sign_of p.text) g.tokens ≡ true → Tells (sign_of p.text ∷ g.tokens) next → Progress pieces (i + 1) frames next shown
+pub masked_token : (pieces : List TextPiece) (i : ℕ) (frames : List Frame) (mask next : Mask) (shown : List ℕ) (p : TextPiece)
+    → (g : Progress pieces i frames mask shown) → At pieces i p → is_word p.kind ≡ true → all_shown frames ≡ true
+    → is_masked (sign_of p.text) g.tokens ≡ true → Tells (sign_of p.text ∷ g.tokens) next → Progress pieces (i + 1) frames next shown
 masked_token pieces i frames mask next shown p g at word in_arms masked tells =
     let here : not (is_hidden 0 0 g.lines) ≡ true = sym (in_arm g.lines frames g.tell g.sound) ∙ in_arms in
     record {
@@ -111,7 +122,9 @@ masked_token pieces i frames mask next shown p g at word in_arms masked tells =
     }
 
 -- a token that is shown
-pub shown_token : (pieces : List TextPiece) (i : ℕ) (frames : List Frame) (mask next : Mask) (shown : List ℕ) (p : TextPiece) → (g : Progress pieces i frames mask shown) → At pieces i p → is_word p.kind ≡ true → all_shown frames ≡ true → is_masked (sign_of p.text) g.tokens ≡ false → Tells (sign_of p.text ∷ g.tokens) next → Progress pieces (i + 1) frames next (shown ++ i ∷ [])
+pub shown_token : (pieces : List TextPiece) (i : ℕ) (frames : List Frame) (mask next : Mask) (shown : List ℕ) (p : TextPiece)
+    → (g : Progress pieces i frames mask shown) → At pieces i p → is_word p.kind ≡ true → all_shown frames ≡ true
+    → is_masked (sign_of p.text) g.tokens ≡ false → Tells (sign_of p.text ∷ g.tokens) next → Progress pieces (i + 1) frames next (shown ++ i ∷ [])
 shown_token pieces i frames mask next shown p g at word in_arms masked tells =
     let here : not (is_hidden 0 0 g.lines) ≡ true = sym (in_arm g.lines frames g.tell g.sound) ∙ in_arms in
     record {
@@ -119,17 +132,22 @@ shown_token pieces i frames mask next shown p g at word in_arms masked tells =
       tokens = sign_of p.text ∷ g.tokens;
       ds = g.ds ++ Other ∷ [];
       directs = rw at.before (directs_more (take i pieces) g.ds p Other g.directs (is_true p.kind p.text word));
-      joined = λ more. joined_more pieces i shown g.lines g.tokens g.ds p Other at g.joined more ∙ rw (word, here, masked) (sym (append_assoc shown (i ∷ []) (shown_from (Other ∷ g.lines) (sign_of p.text ∷ g.tokens) (i + 1) (drop (i + 1) pieces) more)));
+      joined = λ more. joined_more pieces i shown g.lines g.tokens g.ds p Other at g.joined more
+          ∙ rw (word, here, masked) (sym (append_assoc shown (i ∷ [])
+          (shown_from (Other ∷ g.lines) (sign_of p.text ∷ g.tokens) (i + 1) (drop (i + 1) pieces) more)));
       tell = tell_line Other g.lines frames g.tell;
       sound = g.sound;
       masks = tells;
     }
 
 -- at the end all pieces are done
-pub all_shown_tokens : (pieces : List TextPiece) (i : ℕ) (frames : List Frame) (mask : Mask) (shown : List ℕ) → Progress pieces i frames mask shown → length pieces ≤ i → AreShown pieces shown
+pub all_shown_tokens : (pieces : List TextPiece) (i : ℕ) (frames : List Frame) (mask : Mask) (shown : List ℕ)
+    → Progress pieces i frames mask shown → length pieces ≤ i → AreShown pieces shown
 all_shown_tokens pieces i frames mask shown g end =
     let goes = g.joined [] in
-    let whole : shown_from [] [] 0 pieces g.ds ≡ shown = ap (λ (l : List Directive). shown_from [] [] 0 pieces l) (sym (append-nil g.ds)) ∙ (goes ∙ (ap (λ (l : List TextPiece). shown ++ shown_from g.lines g.tokens i l []) (drop_all i pieces end) ∙ append-nil shown)) in
+    let whole : shown_from [] [] 0 pieces g.ds ≡ shown =
+    ap (λ (l : List Directive). shown_from [] [] 0 pieces l) (sym (append-nil g.ds))
+    ∙ (goes ∙ (ap (λ (l : List TextPiece). shown ++ shown_from g.lines g.tokens i l []) (drop_all i pieces end) ∙ append-nil shown)) in
     (g.ds, (subst (λ (l : List TextPiece). AreDirectives l g.ds) (take_all i pieces end) g.directs, sym whole))
 
 -- a piece that is read

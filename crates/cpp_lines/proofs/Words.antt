@@ -35,7 +35,8 @@ none_yet text pieces cuts is = record { more = pieces; cuts = cuts; text = is; w
 clash : (i j : Kind) → Some i ≡ Some j → is_token_kind i ≡ true → is_token_kind j ≡ false → ⊥
 clash i j e true_is false_is = let same : i ≡ j = cc in false≢true (sym false_is ∙ (ap is_token_kind (sym same) ∙ true_is))
 
-no_word : (k : PieceKind) (j : Kind) (text : List ℕ) (words : List (List ℕ)) → kind_of_piece k ≡ Some j → is_token_kind j ≡ false → word_before k text words ≡ words
+no_word : (k : PieceKind) (j : Kind) (text : List ℕ) (words : List (List ℕ)) → kind_of_piece k ≡ Some j
+    → is_token_kind j ≡ false → word_before k text words ≡ words
 no_word Blank j text words e false_is = refl
 no_word Comment j text words e false_is = refl
 no_word Line j text words e false_is = refl
@@ -53,17 +54,20 @@ no_word (Word Pat id) j text words e false_is = absurd cc
 clash_back : (i j : Kind) → Some i ≡ Some j → is_token_kind i ≡ false → is_token_kind j ≡ true → ⊥
 clash_back i j e false_is true_is = let same : i ≡ j = cc in false≢true (sym false_is ∙ (ap is_token_kind same ∙ true_is))
 
-a_word : (k : PieceKind) (j : Kind) (text : List ℕ) (words : List (List ℕ)) → kind_of_piece k ≡ Some j → is_token_kind j ≡ true → word_before k text words ≡ text ∷ words
+a_word : (k : PieceKind) (j : Kind) (text : List ℕ) (words : List (List ℕ)) → kind_of_piece k ≡ Some j → is_token_kind j ≡ true
+    → word_before k text words ≡ text ∷ words
 a_word Blank j text words e true_is = absurd (clash_back kind.Blank j e refl true_is)
 a_word Comment j text words e true_is = absurd (clash_back kind.Comment j e refl true_is)
 a_word Line j text words e true_is = absurd (clash_back kind.Line j e refl true_is)
 a_word (Word k id) j text words e true_is = refl
 
 -- a piece that is not a token is passed
-pub pass : (text : List ℕ) (at len : ℕ) (kind : Kind) → NoWordTo text at → IsFirst kind (take len (drop at text)) (drop len (drop at text)) → is_token_kind kind ≡ false → NoWordTo text (at + len)
+pub pass : (text : List ℕ) (at len : ℕ) (kind : Kind) → NoWordTo text at
+    → IsFirst kind (take len (drop at text)) (drop len (drop at text)) → is_token_kind kind ≡ false → NoWordTo text (at + len)
 pass text at len kind before first false_is pieces cuts is =
     let left = before pieces cuts is in
-    let b = split_first left.more kind (take len (drop at text)) (drop len (drop at text)) left.cuts (left.text ∙ sym (take-append-drop len (drop at text))) first in
+    let b = split_first left.more kind (take len (drop at text)) (drop len (drop at text)) left.cuts
+    (left.text ∙ sym (take-append-drop len (drop at text))) first in
     record {
       more = b.more;
       cuts = b.cuts;
@@ -72,16 +76,20 @@ pass text at len kind before first false_is pieces cuts is =
     }
 
 -- a token is the next word
-pub find : (text : List ℕ) (at len : ℕ) (kind : Kind) → NoWordTo text at → IsFirst kind (take len (drop at text)) (drop len (drop at text)) → is_token_kind kind ≡ true → IsNextWord text at (at + len)
+pub find : (text : List ℕ) (at len : ℕ) (kind : Kind) → NoWordTo text at
+    → IsFirst kind (take len (drop at text)) (drop len (drop at text)) → is_token_kind kind ≡ true → IsNextWord text at (at + len)
 find text at len kind before first true_is pieces cuts is =
     let left = before pieces cuts is in
-    let b = split_first left.more kind (take len (drop at text)) (drop len (drop at text)) left.cuts (left.text ∙ sym (take-append-drop len (drop at text))) first in
+    let b = split_first left.more kind (take len (drop at text)) (drop len (drop at text)) left.cuts
+    (left.text ∙ sym (take-append-drop len (drop at text))) first in
     let same : at + len - at ≡ len = omega arith in
     record {
       more = b.more;
       cuts = b.cuts;
       text = b.rest_is ∙ drop-drop len at text;
-      words = left.words ∙ (ap words_of b.is ∙ (a_word b.piece.kind kind b.piece.text (words_of b.more) b.of_kind true_is ∙ ap (λ (t : List ℕ). t ∷ words_of b.more) (b.text_is ∙ ap (λ (n : ℕ). take n (drop at text)) (sym same))));
+      words = left.words ∙ (ap words_of b.is ∙
+          (a_word b.piece.kind kind b.piece.text (words_of b.more) b.of_kind true_is
+          ∙ ap (λ (t : List ℕ). t ∷ words_of b.more) (b.text_is ∙ ap (λ (n : ℕ). take n (drop at text)) (sym same))));
     }
 
 no_pieces : (pieces : List TextPiece) → Cuts pieces → text_of pieces ≡ [] → words_of pieces ≡ []

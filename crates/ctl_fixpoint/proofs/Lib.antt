@@ -3,4 +3,4 @@ pub mod RowLemmas
 pub mod StepLemmas
 pub mod SweepLemmas
 pub mod CtlHolds
-pub mod NeedWords
+pub mod RequiredWords

@@ -79,7 +79,7 @@ module _ (decls : List VarDecl) (tokens : List PatToken) where
   pub part_good : (h f : Plain) → Good f → IsPart h f → Good h
   part_good h plain.True u p = subst Good (sym p) u
   part_good h (plain.Atom q) u p = subst Good (sym p) u
-  part_good h plain.Bail u p = subst Good (sym p) u
+  part_good h plain.EarlyExit u p = subst Good (sym p) u
   part_good h (plain.BraceOpen q b) u p = subst Good (sym p) u
   part_good h (plain.BraceClose q b) u p = subst Good (sym p) u
   part_good h (plain.Inside b) u p = subst Good (sym p) u
@@ -99,8 +99,8 @@ module _ (decls : List VarDecl) (tokens : List PatToken) where
   part_good h (plain.EU f k) u p = ⊎_elim (λ e. subst Good (sym e) u)
       (λ i. two_parts h f k (part_good h f) (part_good h k)
       (left_good f k u.guarded_by_parts u.stand) (right_good f k u.guarded_by_parts u.stand) i) p
-  part_good h (plain.Past f) u p = ⊎_elim (λ e. subst Good (sym e) u) (λ i. part_good h f (good f u.guarded_by_parts u.stand) i) p
-  part_good h (plain.Down b f) u p = ⊎_elim (λ e. subst Good (sym e) u) (λ i. part_good h f (good f u.guarded_by_parts u.stand) i) p
+  part_good h (plain.After f) u p = ⊎_elim (λ e. subst Good (sym e) u) (λ i. part_good h f (good f u.guarded_by_parts u.stand) i) p
+  part_good h (plain.InBranch b f) u p = ⊎_elim (λ e. subst Good (sym e) u) (λ i. part_good h f (good f u.guarded_by_parts u.stand) i) p
   part_good h (plain.Exists x f) u p = ⊎_elim (λ e. subst Good (sym e) u)
       (λ i. part_good h f (good f (and_right (bound (sure decls tokens) f x) _ u.guarded_by_parts) u.stand) i) p
 
@@ -111,7 +111,7 @@ module _ (decls : List VarDecl) (tokens : List PatToken) where
       → step_vars decls tokens v test n ≡ true
   step_free node.True fs len b v h test e = refl
   step_free (node.Atom p) fs len b v h test e = e
-  step_free node.Bail fs len b v h test e = refl
+  step_free node.EarlyExit fs len b v h test e = refl
   step_free (node.BraceOpen p y) fs len b v h test e = e
   step_free (node.BraceClose p y) fs len b v h test e = e
   step_free (node.Inside y) fs len b v h test e = e
@@ -127,8 +127,8 @@ module _ (decls : List VarDecl) (tokens : List PatToken) where
       and_both _ _ (h i (fst i j len b) test (and_left _ _ e)) (h j (snd i j len b) test (and_right _ _ e))
   step_free (node.EU i j) fs len b v h test e =
       and_both _ _ (h i (fst i j len b) test (and_left _ _ e)) (h j (snd i j len b) test (and_right _ _ e))
-  step_free (node.Past i) fs len b v h test e = h i (lt-true i len b) test e
-  step_free (node.Down y i) fs len b v h test e = h i (lt-true i len b) test e
+  step_free (node.After i) fs len b v h test e = h i (lt-true i len b) test e
+  step_free (node.InBranch y i) fs len b v h test e = h i (lt-true i len b) test e
   step_free (node.Exists x i) fs len b v h test e = h i (lt-true i len b) (λ y. test y || same_var y x) e
 
   module _ (g : Flow) (ok : IsSound g) where
@@ -140,7 +140,7 @@ module _ (decls : List VarDecl) (tokens : List PatToken) where
         → step decls tokens g x n s env ≡ holds decls tokens g m (plain_of fs n) s env
     step_means node.True fs len b z x m le env h u s lt = refl
     step_means (node.Atom p) fs len b z x m le env h u s lt = refl
-    step_means node.Bail fs len b z x m le env h u s lt = refl
+    step_means node.EarlyExit fs len b z x m le env h u s lt = refl
     step_means (node.BraceOpen p y) fs len b z x m le env h u s lt = refl
     step_means (node.BraceClose p y) fs len b z x m le env h u s lt = refl
     step_means (node.Inside y) fs len b z x m le env h u s lt = refl
@@ -173,10 +173,10 @@ module _ (decls : List VarDecl) (tokens : List PatToken) where
         (h i (fst i j len b) (left_good (at fs i) (at fs j) u.guarded_by_parts u.stand))
         (h j (snd i j len b) (right_good (at fs i) (at fs j) u.guarded_by_parts u.stand)) (count_of g) s lt
         ∙ settled g ok false (λ k. holds decls tokens g m (at fs i) k env) (λ k. holds decls tokens g m (at fs j) k env) m le s lt
-    step_means (node.Past i) fs len b z x m le env h u s lt =
+    step_means (node.After i) fs len b z x m le env h u s lt =
         there-agree (x i) (λ k. holds decls tokens g m (at fs i) k env) (past_of g s)
         (λ k e. h i (lt-true i len b) (good (at fs i) u.guarded_by_parts u.stand) k (past_node g ok s k lt e))
-    step_means (node.Down y i) fs len b z x m le env h u s lt =
+    step_means (node.InBranch y i) fs len b z x m le env h u s lt =
         there-agree (x i) (λ k. holds decls tokens g m (at fs i) k env) (slice_get (down_of g s) y)
         (λ k e. h i (lt-true i len b) (good (at fs i) u.guarded_by_parts u.stand) k (down_node g ok s y k lt e))
     step_means (node.Exists y i) fs len b z x m le env h u s lt = not_both true refl z

@@ -10,5 +10,5 @@ pub mod Steps
 pub mod Sweeps
 -- What ctl_holds defines.
 pub mod CtlHolds
--- What need_words defines.
-pub mod NeedWords
+-- What required_words defines.
+pub mod RequiredWords

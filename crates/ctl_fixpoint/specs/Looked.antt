@@ -2,12 +2,12 @@
 use Rattle.std.specs.Prelude.{List, ⊤}
 use Rattle.ctl_formula.specs.declared.node.Node.{Node}
 use Rattle.ctl_formula.specs.declared.node.Node.TheVariants as node
-use Rattle.ctl_fixpoint.specs.declared.need_words.looks.Look.{Look}
-use Rattle.ctl_fixpoint.specs.NeedWords.Looks.{AreLooks}
+use Rattle.ctl_fixpoint.specs.declared.required_words.form_groups.FormGroup.{FormGroup}
+use Rattle.ctl_fixpoint.specs.RequiredWords.FormGroups.{AreFormGroups}
 
 -- the looks are those of the part's pattern, if it has one
-abbrev pub AreLooksOf : Node → List Look → Type 0
-AreLooksOf (node.Atom p) looks = AreLooks p looks
-AreLooksOf (node.BraceOpen p b) looks = AreLooks p looks
-AreLooksOf (node.BraceClose p b) looks = AreLooks p looks
-AreLooksOf _ looks = ⊤
+abbrev pub AreFormGroupsOf : Node → List FormGroup → Type 0
+AreFormGroupsOf (node.Atom p) form_groups = AreFormGroups p form_groups
+AreFormGroupsOf (node.BraceOpen p b) form_groups = AreFormGroups p form_groups
+AreFormGroupsOf (node.BraceClose p b) form_groups = AreFormGroups p form_groups
+AreFormGroupsOf _ form_groups = ⊤

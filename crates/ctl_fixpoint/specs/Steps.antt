@@ -67,7 +67,7 @@ module _ (decls : List VarDecl) (tokens : List PatToken) (g : Flow) where
   abbrev pub step : (ℕ → ℕ → Bool) → Node → ℕ → Environment → Bool
   step x node.True s env = true
   step x (node.Atom p) s env = atom_at decls tokens g p s env
-  step x node.Bail s env = at_node g s (λ l. l.bail)
+  step x node.EarlyExit s env = at_node g s (λ l. l.bail)
   step x (node.BraceOpen p b) s env = brace_at decls tokens g is_open p b s env
   step x (node.BraceClose p b) s env = brace_at decls tokens g is_close p b s env
   step x (node.Inside b) s env = in_block g (env b) s
@@ -79,8 +79,8 @@ module _ (decls : List VarDecl) (tokens : List PatToken) (g : Flow) where
   step x (node.EX i) s env = passes false (x i) (succ_of g s)
   step x (node.AU i j) s env = rounds g true (x i) (x j) (count_of g) s
   step x (node.EU i j) s env = rounds g false (x i) (x j) (count_of g) s
-  step x (node.Past i) s env = passes_there (x i) (past_of g s)
-  step x (node.Down b i) s env = passes_there (x i) (slice_get (down_of g s) b)
+  step x (node.After i) s env = passes_there (x i) (past_of g s)
+  step x (node.InBranch b i) s env = passes_there (x i) (slice_get (down_of g s) b)
   step x (node.Exists y i) s env = x i s
 
 -- each variable of the node passes the test, where v says whether those of its parts do
@@ -88,7 +88,7 @@ module _ (decls : List VarDecl) (tokens : List PatToken) where
   abbrev pub step_vars : ((Var → Bool) → ℕ → Bool) → (Var → Bool) → Node → Bool
   step_vars v test node.True = true
   step_vars v test (node.Atom p) = pattern_vars decls tokens test p
-  step_vars v test node.Bail = true
+  step_vars v test node.EarlyExit = true
   step_vars v test (node.BraceOpen p b) = pattern_vars decls tokens test p && test b
   step_vars v test (node.BraceClose p b) = pattern_vars decls tokens test p && test b
   step_vars v test (node.Inside b) = test b
@@ -100,8 +100,8 @@ module _ (decls : List VarDecl) (tokens : List PatToken) where
   step_vars v test (node.EX i) = v test i
   step_vars v test (node.AU i j) = v test i && v test j
   step_vars v test (node.EU i j) = v test i && v test j
-  step_vars v test (node.Past i) = v test i
-  step_vars v test (node.Down b i) = v test i
+  step_vars v test (node.After i) = v test i
+  step_vars v test (node.InBranch b i) = v test i
   step_vars v test (node.Exists x i) = v (λ y. test y || same_var y x) i
 
 -- the row of a node of the table, given the rows of its parts

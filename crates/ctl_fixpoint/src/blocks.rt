@@ -11,7 +11,7 @@ ghost use Rattle.smpl_terms.specs.Values.{same};
 ghost use Rattle.smpl_terms.specs.Environments.{Environment};
 ghost use Rattle.env_sets.specs.Sets.{set_denotes, set_vars};
 ghost use Rattle.ctl_fixpoint.specs.CtlHolds.Holding.{at_node, is_brace, in_block, off_block};
-ghost use Rattle.ctl_fixpoint.specs.CtlHolds.Holding as of;
+ghost use Rattle.ctl_fixpoint.specs.CtlHolds.Holding as spec;
 ghost use Rattle.ctl_fixpoint.specs.Steps.{row_vars, Gives};
 
 use crate::point::{is_close, is_open};
@@ -43,7 +43,7 @@ fn off_place(alloc: Global, b: &Var, place: u64) -> Result<EnvSet, NoMemory>
 fn open_after(alloc: Global, g: &Graph, b: &Var, before: EnvSet, s: u32) -> Result<EnvSet, NoMemory>
     requires node { s < count_of g.now }
     ensures gives { IfOk result (λ r. (env : Environment) → set_denotes r env ≡ at_node g.now s
-        (λ l. is_brace of.is_open (env b.now) l || (not (is_brace of.is_close (env b.now) l) && set_denotes before env))) }
+        (λ l. is_brace spec.is_open (env b.now) l || (not (is_brace spec.is_close (env b.now) l) && set_denotes before env))) }
     ensures vars { IfOk result (λ r. (test : Var → Bool) → test b.now ≡ true → set_vars test before ≡ true
         → set_vars test r ≡ true) }
 {
@@ -78,7 +78,7 @@ pub fn inside_row(alloc: Global, g: &Graph, b: &Var) -> Result<Vec<EnvSet>, NoMe
 fn shut_after(alloc: Global, g: &Graph, b: &Var, shut: EnvSet, s: u32) -> Result<EnvSet, NoMemory>
     requires node { s < count_of g.now }
     ensures gives { IfOk result (λ r. (env : Environment) → set_denotes r env ≡ not (at_node g.now s
-        (λ l. is_brace of.is_open (env b.now) l || (not (is_brace of.is_close (env b.now) l) && not (set_denotes shut env))))) }
+        (λ l. is_brace spec.is_open (env b.now) l || (not (is_brace spec.is_close (env b.now) l) && not (set_denotes shut env))))) }
     ensures vars { IfOk result (λ r. (test : Var → Bool) → test b.now ≡ true → set_vars test shut ≡ true
         → set_vars test r ≡ true) }
 {
@@ -96,7 +96,7 @@ fn shut_after(alloc: Global, g: &Graph, b: &Var, shut: EnvSet, s: u32) -> Result
 fn without_end(alloc: Global, g: &Graph, b: &Var, shut: &EnvSet, s: u32) -> Result<EnvSet, NoMemory>
     requires node { s < count_of g.now }
     ensures gives { IfOk result (λ r. (env : Environment) → set_denotes r env ≡ at_node g.now s
-        (λ l. not (is_brace of.is_close (env b.now) l) && set_denotes shut.now env)) }
+        (λ l. not (is_brace spec.is_close (env b.now) l) && set_denotes shut.now env)) }
     ensures vars { IfOk result (λ r. (test : Var → Bool) → test b.now ≡ true → set_vars test shut.now ≡ true
         → set_vars test r ≡ true) }
 {

@@ -22,14 +22,14 @@
 //! Its folders:
 //!
 //! - `ctl_holds`: Path satisfaction: at which nodes of a control-flow graph, and under which environments, a formula holds.
-//! - `need_words`: The words that a formula needs: if an item lacks one of them, the formula holds nowhere in the item.
+//! - `required_words`: The words that a formula needs: if an item lacks one of them, the formula holds nowhere in the item.
 #![tactic(auto)]
 
 mod blocks;
 mod ctl_holds;
-mod need_words;
 mod part;
 mod point;
+mod required_words;
 mod rows;
 mod sweeps;
 mod until;
@@ -37,5 +37,7 @@ mod until;
 pub use ctl_holds::{
     bound_variables_have_values, every_part_has_a_number, sure_variables_stand, walks_by_rounds,
 };
-pub use need_words::{Look, formulas_need_words, looks_of, may_hold, needed_words, solve_by};
 pub use part::sat;
+pub use required_words::{
+    FormGroup, formulas_need_words, looks_of, may_hold, needed_words, solve_by,
+};

@@ -6,15 +6,15 @@ ghost use Rattle.smpl_terms.specs.declared.var.Var.{Var};
 ghost use Rattle.smpl_terms.specs.Environments.{Environment};
 ghost use Rattle.env_sets.specs.Sets.{set_denotes, set_vars};
 ghost use Rattle.pat_match.specs.Vars.{pattern_vars};
-ghost use Rattle.ctl_fixpoint.specs.NeedWords.Looks.{AreLooks};
+ghost use Rattle.ctl_fixpoint.specs.RequiredWords.FormGroups.{AreFormGroups};
 ghost use Rattle.ctl_formula.specs.Tables.{below};
 ghost use Rattle.ctl_fixpoint.specs.CtlHolds.Holding.{at_node, atom_at, brace_at};
-ghost use Rattle.ctl_fixpoint.specs.CtlHolds.Holding as of;
+ghost use Rattle.ctl_fixpoint.specs.CtlHolds.Holding as spec;
 ghost use Rattle.ctl_fixpoint.specs.CtlHolds.Rounds.{passes, passes_there};
-ghost use Rattle.ctl_fixpoint.specs.Looked.{AreLooksOf};
+ghost use Rattle.ctl_fixpoint.specs.Looked.{AreFormGroupsOf};
 ghost use Rattle.ctl_fixpoint.specs.Steps.{row_of, has, row_vars, is_pointwise, step, step_vars, Gives};
 
-use crate::need_words::{Look, looks_of, solve_by};
+use crate::required_words::{FormGroup, looks_of, solve_by};
 use crate::rows::{every_next, row_at, set_at, set_there, some_next};
 use c_terms::NoMemory;
 use cfg_build::{Graph, NodeKind};
@@ -37,13 +37,13 @@ fn all_if(alloc: Global, holds: bool) -> Result<EnvSet, NoMemory>
 }
 
 pub fn is_open(kind: NodeKind) -> bool
-    ensures { result ≡ of.is_open kind }
+    ensures { result ≡ spec.is_open kind }
 {
     matches!(kind, NodeKind::OpenBrace)
 }
 
 pub fn is_close(kind: NodeKind) -> bool
-    ensures { result ≡ of.is_close kind }
+    ensures { result ≡ spec.is_close kind }
 {
     matches!(kind, NodeKind::CloseBrace)
 }
@@ -65,18 +65,18 @@ fn atom_set(
     decls: &[VarDecl],
     tokens: &[PatToken],
     p: &Pattern,
-    looks: &[Look],
+    form_groups: &[FormGroup],
     s: u32,
 ) -> Result<EnvSet, NoMemory>
     requires node { s < count_of g.now }
-    requires looks { AreLooks p.now looks.now }
+    requires form_groups { AreFormGroups p.now form_groups.now }
     ensures gives { IfOk result (λ r. (env : Environment) →
         set_denotes r env ≡ atom_at decls.now tokens.now g.now p.now s env) }
     ensures vars { IfOk result (λ r. (test : Var → Bool)
         → pattern_vars decls.now tokens.now test p.now ≡ true
         → set_vars test r ≡ true) }
 {
-    solve_by(alloc, looks, p, decls, tokens, &g.label(s))
+    solve_by(alloc, form_groups, p, decls, tokens, &g.label(s))
 }
 
 /// Returns the environments under which the pattern matches at the node and the variable is the place of its label's `{`.
@@ -86,12 +86,12 @@ fn placed_set(
     decls: &[VarDecl],
     tokens: &[PatToken],
     p: &Pattern,
-    looks: &[Look],
+    form_groups: &[FormGroup],
     b: &Var,
     s: u32,
 ) -> Result<EnvSet, NoMemory>
     requires node { s < count_of g.now }
-    requires looks { AreLooks p.now looks.now }
+    requires form_groups { AreFormGroups p.now form_groups.now }
     ensures gives { IfOk result (λ r. (env : Environment) → set_denotes r env
         ≡ brace_at decls.now tokens.now g.now (λ k. true) p.now b.now s env) }
     ensures vars { IfOk result (λ r. (test : Var → Bool)
@@ -100,7 +100,7 @@ fn placed_set(
 {
     let label = g.label(s);
     let place = EnvSet::one(alloc, b, Bound::Is(Value::Place(label.brace)))?;
-    let matched = solve_by(alloc, looks, p, decls, tokens, &label)?;
+    let matched = solve_by(alloc, form_groups, p, decls, tokens, &label)?;
     meet(alloc, &place, &matched)
 }
 
@@ -110,20 +110,20 @@ fn open_set(
     decls: &[VarDecl],
     tokens: &[PatToken],
     p: &Pattern,
-    looks: &[Look],
+    form_groups: &[FormGroup],
     b: &Var,
     s: u32,
 ) -> Result<EnvSet, NoMemory>
     requires node { s < count_of g.now }
-    requires looks { AreLooks p.now looks.now }
+    requires form_groups { AreFormGroups p.now form_groups.now }
     ensures gives { IfOk result (λ r. (env : Environment) → set_denotes r env
-        ≡ brace_at decls.now tokens.now g.now of.is_open p.now b.now s env) }
+        ≡ brace_at decls.now tokens.now g.now spec.is_open p.now b.now s env) }
     ensures vars { IfOk result (λ r. (test : Var → Bool)
         → (pattern_vars decls.now tokens.now test p.now && test b.now) ≡ true
         → set_vars test r ≡ true) }
 {
     if is_open(g.label(s).kind) {
-        placed_set(alloc, g, decls, tokens, p, looks, b, s)
+        placed_set(alloc, g, decls, tokens, p, form_groups, b, s)
     } else {
         Ok(EnvSet::none(alloc))
     }
@@ -135,20 +135,20 @@ fn close_set(
     decls: &[VarDecl],
     tokens: &[PatToken],
     p: &Pattern,
-    looks: &[Look],
+    form_groups: &[FormGroup],
     b: &Var,
     s: u32,
 ) -> Result<EnvSet, NoMemory>
     requires node { s < count_of g.now }
-    requires looks { AreLooks p.now looks.now }
+    requires form_groups { AreFormGroups p.now form_groups.now }
     ensures gives { IfOk result (λ r. (env : Environment) → set_denotes r env
-        ≡ brace_at decls.now tokens.now g.now of.is_close p.now b.now s env) }
+        ≡ brace_at decls.now tokens.now g.now spec.is_close p.now b.now s env) }
     ensures vars { IfOk result (λ r. (test : Var → Bool)
         → (pattern_vars decls.now tokens.now test p.now && test b.now) ≡ true
         → set_vars test r ≡ true) }
 {
     if is_close(g.label(s).kind) {
-        placed_set(alloc, g, decls, tokens, p, looks, b, s)
+        placed_set(alloc, g, decls, tokens, p, form_groups, b, s)
     } else {
         Ok(EnvSet::none(alloc))
     }
@@ -210,7 +210,7 @@ fn point_set(
     g: &Graph,
     f: &Formula,
     node: &Node,
-    looks: &[Look],
+    form_groups: &[FormGroup],
     rows: &[StateRow],
     s: u32,
 ) -> Result<EnvSet, NoMemory>
@@ -219,7 +219,7 @@ fn point_set(
     requires kids { below (length rows.now) node.now ≡ true }
     requires wide { (i : ℕ) → i < length rows.now → length (row_of rows.now i) ≡ count_of g.now }
     requires pointwise { is_pointwise node.now ≡ true }
-    requires looks { AreLooksOf node.now looks.now }
+    requires form_groups { AreFormGroupsOf node.now form_groups.now }
     ensures gives { IfOk result (λ r. (env : Environment) → set_denotes r env
         ≡ step f.now.decls f.now.tokens g.now (λ i k. has (row_of rows.now i) k env) node.now s env) }
     ensures vars { IfOk result (λ r. (test : Var → Bool)
@@ -228,17 +228,17 @@ fn point_set(
 {
     match node {
         Node::True => EnvSet::all(alloc),
-        Node::Atom(p) => atom_set(alloc, g, f.decls(), f.tokens(), p, looks, s),
-        Node::Bail => bail_set(alloc, g, s),
-        Node::BraceOpen(p, b) => open_set(alloc, g, f.decls(), f.tokens(), p, looks, b, s),
-        Node::BraceClose(p, b) => close_set(alloc, g, f.decls(), f.tokens(), p, looks, b, s),
+        Node::Atom(p) => atom_set(alloc, g, f.decls(), f.tokens(), p, form_groups, s),
+        Node::EarlyExit => bail_set(alloc, g, s),
+        Node::BraceOpen(p, b) => open_set(alloc, g, f.decls(), f.tokens(), p, form_groups, b, s),
+        Node::BraceClose(p, b) => close_set(alloc, g, f.decls(), f.tokens(), p, form_groups, b, s),
         Node::Not(i) => complement(alloc, set_at(rows, *i, s)),
         Node::And(i, j) => meet(alloc, set_at(rows, *i, s), set_at(rows, *j, s)),
         Node::Or(i, j) => join(alloc, set_at(rows, *i, s), set_at(rows, *j, s)),
         Node::AX(i) => next_set(alloc, g, true, row_at(rows, *i), s),
         Node::EX(i) => next_set(alloc, g, false, row_at(rows, *i), s),
-        Node::Past(i) => past_set(alloc, g, row_at(rows, *i), s),
-        Node::Down(body, i) => down_set(alloc, g, *body, row_at(rows, *i), s),
+        Node::After(i) => past_set(alloc, g, row_at(rows, *i), s),
+        Node::InBranch(body, i) => down_set(alloc, g, *body, row_at(rows, *i), s),
         Node::Inside(_) => unreachable!(),
         Node::Outside(_) => unreachable!(),
         Node::AU(_, _) => unreachable!(),
@@ -248,8 +248,8 @@ fn point_set(
 }
 
 /// Returns the looks of the part's pattern, if it has one.
-fn node_looks(alloc: Global, node: &Node) -> Result<Vec<Look>, NoMemory>
-    ensures { IfOk result (λ looks. AreLooksOf node.now looks.items) }
+fn node_looks(alloc: Global, node: &Node) -> Result<Vec<FormGroup>, NoMemory>
+    ensures { IfOk result (λ form_groups. AreFormGroupsOf node.now form_groups.items) }
 {
     match node {
         Node::Atom(p) => looks_of(alloc, p),
@@ -278,10 +278,10 @@ pub fn point_row(
         → step_vars f.now.decls f.now.tokens (λ t i. row_vars t (row_of rows.now i)) test node.now ≡ true
         → row_vars test r.items ≡ true) }
 {
-    let looks = node_looks(alloc, node)?;
+    let form_groups = node_looks(alloc, node)?;
     let mut sets = Vec::with_capacity(alloc, g.count() as usize)?;
     for s in 0..g.count() {
-        sets.push(point_set(alloc, g, f, node, looks.as_slice(), rows, s)?)?;
+        sets.push(point_set(alloc, g, f, node, form_groups.as_slice(), rows, s)?)?;
     }
     Ok(sets)
 }

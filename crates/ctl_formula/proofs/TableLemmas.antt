@@ -80,7 +80,7 @@ pub plain_of-front : (n : Node) (fs more : List Plain) → below (length fs) n �
     → plain_of (fs ++ more) n ≡ plain_of fs n
 plain_of-front node.True fs more h = refl
 plain_of-front (node.Atom p) fs more h = refl
-plain_of-front node.Bail fs more h = refl
+plain_of-front node.EarlyExit fs more h = refl
 plain_of-front (node.BraceOpen p b) fs more h = refl
 plain_of-front (node.BraceClose p b) fs more h = refl
 plain_of-front (node.Inside b) fs more h = refl
@@ -96,8 +96,8 @@ plain_of-front (node.AU i j) fs more h = let a = at-front fs more i (lt-true _ _
     at-front fs more j (lt-true _ _ (and-right _ _ h)) in cc
 plain_of-front (node.EU i j) fs more h = let a = at-front fs more i (lt-true _ _ (and-left _ _ h)) in let b =
     at-front fs more j (lt-true _ _ (and-right _ _ h)) in cc
-plain_of-front (node.Past i) fs more h = ap plain.Past (at-front fs more i (lt-true _ _ h))
-plain_of-front (node.Down k i) fs more h = ap (plain.Down k) (at-front fs more i (lt-true _ _ h))
+plain_of-front (node.After i) fs more h = ap plain.After (at-front fs more i (lt-true _ _ h))
+plain_of-front (node.InBranch k i) fs more h = ap (plain.InBranch k) (at-front fs more i (lt-true _ _ h))
 plain_of-front (node.Exists x i) fs more h = ap (plain.Exists x) (at-front fs more i (lt-true _ _ h))
 
 -- a node's formula, in a table from some part on

@@ -7,7 +7,7 @@ pub data Plain : Type 0 where
   True : Plain
   Atom : Pattern → Plain
   -- the node begins a body that leaves the function
-  Bail : Plain
+  EarlyExit : Plain
   -- a brace, and the variable whose value is the place of the `{`
   BraceOpen : Pattern → Var → Plain
   BraceClose : Pattern → Var → Plain
@@ -22,15 +22,15 @@ pub data Plain : Type 0 where
   AU : Plain → Plain → Plain
   EU : Plain → Plain → Plain
   -- at the node past the statement; at the statement's body with this number
-  Past : Plain → Plain
-  Down : ℕ → Plain → Plain
+  After : Plain → Plain
+  InBranch : ℕ → Plain → Plain
   Exists : Var → Plain → Plain
 
 -- how many subformulas there are, f itself included; a part that occurs twice counts twice
 abbrev pub size : Plain → ℕ
 size True = 1
 size (Atom p) = 1
-size Bail = 1
+size EarlyExit = 1
 size (BraceOpen p b) = 1
 size (BraceClose p b) = 1
 size (Inside b) = 1
@@ -42,15 +42,15 @@ size (AX f) = 1 + size f
 size (EX f) = 1 + size f
 size (AU f g) = 1 + size f + size g
 size (EU f g) = 1 + size f + size g
-size (Past f) = 1 + size f
-size (Down i f) = 1 + size f
+size (After f) = 1 + size f
+size (InBranch i f) = 1 + size f
 size (Exists x f) = 1 + size f
 
 -- the largest number of subformulas around any one subformula
 abbrev pub depth : Plain → ℕ
 depth True = 0
 depth (Atom p) = 0
-depth Bail = 0
+depth EarlyExit = 0
 depth (BraceOpen p b) = 0
 depth (BraceClose p b) = 0
 depth (Inside b) = 0
@@ -62,8 +62,8 @@ depth (AX f) = 1 + depth f
 depth (EX f) = 1 + depth f
 depth (AU f g) = 1 + max (depth f) (depth g)
 depth (EU f g) = 1 + max (depth f) (depth g)
-depth (Past f) = 1 + depth f
-depth (Down i f) = 1 + depth f
+depth (After f) = 1 + depth f
+depth (InBranch i f) = 1 + depth f
 depth (Exists x f) = 1 + depth f
 
 -- the largest number of subformulas that a formula may have, and of those around one

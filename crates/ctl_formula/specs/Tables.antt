@@ -14,7 +14,7 @@ at fs i = slice_index_or fs i plain.True
 abbrev pub plain_of : List Plain → Node → Plain
 plain_of fs node.True = plain.True
 plain_of fs (node.Atom p) = plain.Atom p
-plain_of fs node.Bail = plain.Bail
+plain_of fs node.EarlyExit = plain.EarlyExit
 plain_of fs (node.BraceOpen p b) = plain.BraceOpen p b
 plain_of fs (node.BraceClose p b) = plain.BraceClose p b
 plain_of fs (node.Inside b) = plain.Inside b
@@ -26,8 +26,8 @@ plain_of fs (node.AX i) = plain.AX (at fs i)
 plain_of fs (node.EX i) = plain.EX (at fs i)
 plain_of fs (node.AU i j) = plain.AU (at fs i) (at fs j)
 plain_of fs (node.EU i j) = plain.EU (at fs i) (at fs j)
-plain_of fs (node.Past i) = plain.Past (at fs i)
-plain_of fs (node.Down b i) = plain.Down b (at fs i)
+plain_of fs (node.After i) = plain.After (at fs i)
+plain_of fs (node.InBranch b i) = plain.InBranch b (at fs i)
 plain_of fs (node.Exists x i) = plain.Exists x (at fs i)
 
 abbrev pub plains_from : List Plain → List Node → List Plain
@@ -42,7 +42,7 @@ plains ns = plains_from [] ns
 abbrev pub below : ℕ → Node → Bool
 below n node.True = true
 below n (node.Atom p) = true
-below n node.Bail = true
+below n node.EarlyExit = true
 below n (node.BraceOpen p b) = true
 below n (node.BraceClose p b) = true
 below n (node.Inside b) = true
@@ -54,8 +54,8 @@ below n (node.AX i) = nat_lt i n
 below n (node.EX i) = nat_lt i n
 below n (node.AU i j) = nat_lt i n && nat_lt j n
 below n (node.EU i j) = nat_lt i n && nat_lt j n
-below n (node.Past i) = nat_lt i n
-below n (node.Down b i) = nat_lt i n
+below n (node.After i) = nat_lt i n
+below n (node.InBranch b i) = nat_lt i n
 below n (node.Exists x i) = nat_lt i n
 
 abbrev pub ordered_from : ℕ → List Node → Bool

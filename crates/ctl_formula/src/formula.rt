@@ -8,7 +8,7 @@ ghost use Rattle.ctl_formula.specs.Formulas.{plain, IsFormula};
 
 use crate::{Node, Parts};
 use c_terms::NoMemory;
-use smpl_patch::{PatToken, VarDecl};
+use smpl_patch::{PatToken, VarDecl, copy_decls, copy_pattern_tokens};
 use sqlite_items::Items;
 use std::alloc::Global;
 use std::marker::Model;
@@ -106,31 +106,9 @@ impl Formula {
     {
         let parts = self.parts.copy(alloc)?;
         let decls = copy_decls(alloc, self.decls.as_slice())?;
-        let tokens = copy_tokens(alloc, self.tokens.as_slice())?;
+        let tokens = copy_pattern_tokens(alloc, self.tokens.as_slice())?;
         Ok(Formula::of(parts, self.root, decls, tokens))
     }
-}
-
-/// Returns equal declarations. Takes linear time.
-pub fn copy_decls(alloc: Global, decls: &[VarDecl]) -> Result<Items<VarDecl>, NoMemory>
-    ensures copies { IfOk result (λ copies. copies ≡ decls.now) }
-{
-    let mut copies = Vec::with_capacity(alloc, decls.len())?;
-    for d in decls {
-        copies.push(d.copy(alloc)?)?;
-    }
-    Ok(Items::from_vec(copies))
-}
-
-/// Returns equal pattern tokens, ids included. Takes linear time.
-pub fn copy_tokens(alloc: Global, tokens: &[PatToken]) -> Result<Items<PatToken>, NoMemory>
-    ensures copies { IfOk result (λ copies. copies ≡ tokens.now) }
-{
-    let mut copies = Vec::with_capacity(alloc, tokens.len())?;
-    for t in tokens {
-        copies.push(t.copy(alloc)?)?;
-    }
-    Ok(Items::from_vec(copies))
 }
 
 /// Returns the number of subformulas of the formula; one that occurs several times counts each time. Allocates nothing

@@ -17,6 +17,6 @@ mod formula;
 mod node;
 mod parts;
 
-pub use formula::{Formula, copy_decls, copy_tokens, parts_of};
+pub use formula::{Formula, parts_of};
 pub use node::{Node, is_equal_node};
 pub use parts::{MOST_AROUND, MOST_PARTS, Parts};

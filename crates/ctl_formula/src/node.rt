@@ -14,7 +14,7 @@ pub enum Node {
     /// The pattern matches at the node.
     Atom(Pattern),
     /// The node begins a body that leaves the function.
-    Bail,
+    EarlyExit,
     /// The pattern matches at an opening brace, and the variable's value is its place.
     BraceOpen(Pattern, Var),
     /// The pattern matches at a closing brace, and the variable's value is the place of the matching `{`.
@@ -38,9 +38,9 @@ pub enum Node {
     /// `E[f U g]`: some walk reaches `g`, through nodes with `f`.
     EU(usize, usize),
     /// `f` holds at the node past the statement.
-    Past(usize),
+    After(usize),
     /// `f` holds at the node's body with this number.
-    Down(usize, usize),
+    InBranch(usize, usize),
     /// `f` holds under some value of the variable.
     Exists(Var, usize),
 }
@@ -53,7 +53,7 @@ impl Node {
         match self {
             Node::True => Ok(Node::True),
             Node::Atom(p) => Ok(Node::Atom(p.copy(alloc)?)),
-            Node::Bail => Ok(Node::Bail),
+            Node::EarlyExit => Ok(Node::EarlyExit),
             Node::BraceOpen(p, b) => Ok(Node::BraceOpen(p.copy(alloc)?, b.copy(alloc)?)),
             Node::BraceClose(p, b) => Ok(Node::BraceClose(p.copy(alloc)?, b.copy(alloc)?)),
             Node::Inside(b) => Ok(Node::Inside(b.copy(alloc)?)),
@@ -65,8 +65,8 @@ impl Node {
             Node::EX(f) => Ok(Node::EX(*f)),
             Node::AU(f, g) => Ok(Node::AU(*f, *g)),
             Node::EU(f, g) => Ok(Node::EU(*f, *g)),
-            Node::Past(f) => Ok(Node::Past(*f)),
-            Node::Down(i, f) => Ok(Node::Down(*i, *f)),
+            Node::After(f) => Ok(Node::After(*f)),
+            Node::InBranch(i, f) => Ok(Node::InBranch(*i, *f)),
             Node::Exists(x, f) => Ok(Node::Exists(x.copy(alloc)?, *f)),
         }
     }
@@ -79,7 +79,7 @@ pub fn is_equal_node(a: &Node, b: &Node) -> bool
 {
     match (a, b) {
         (Node::True, Node::True) => true,
-        (Node::Bail, Node::Bail) => true,
+        (Node::EarlyExit, Node::EarlyExit) => true,
         (Node::Atom(p), Node::Atom(q)) => is_equal_pattern(p, q),
         (Node::BraceOpen(p, x), Node::BraceOpen(q, y)) => is_equal_var(x, y)
             && is_equal_pattern(p, q),
@@ -94,8 +94,8 @@ pub fn is_equal_node(a: &Node, b: &Node) -> bool
         (Node::EX(f), Node::EX(g)) => f == g,
         (Node::AU(f, h), Node::AU(g, k)) => f == g && h == k,
         (Node::EU(f, h), Node::EU(g, k)) => f == g && h == k,
-        (Node::Past(f), Node::Past(g)) => f == g,
-        (Node::Down(i, f), Node::Down(j, g)) => i == j && f == g,
+        (Node::After(f), Node::After(g)) => f == g,
+        (Node::InBranch(i, f), Node::InBranch(j, g)) => i == j && f == g,
         (Node::Exists(x, f), Node::Exists(y, g)) => f == g && is_equal_var(x, y),
         _ => false,
     }
@@ -113,7 +113,7 @@ pub fn key(node: &Node) -> (u8, usize, usize) {
     match node {
         Node::True => (0, 0, 0),
         Node::Atom(p) => (1, p.atom as usize, 0),
-        Node::Bail => (2, 0, 0),
+        Node::EarlyExit => (2, 0, 0),
         Node::BraceOpen(p, _) => (3, p.atom as usize, 0),
         Node::BraceClose(p, _) => (4, p.atom as usize, 0),
         Node::Inside(b) => (5, key_of_var(b), 0),
@@ -125,8 +125,8 @@ pub fn key(node: &Node) -> (u8, usize, usize) {
         Node::EX(f) => (11, *f, 0),
         Node::AU(f, g) => (12, *f, *g),
         Node::EU(f, g) => (13, *f, *g),
-        Node::Past(f) => (14, *f, 0),
-        Node::Down(i, f) => (15, *f, *i),
+        Node::After(f) => (14, *f, 0),
+        Node::InBranch(i, f) => (15, *f, *i),
         Node::Exists(x, f) => (16, *f, key_of_var(x)),
     }
 }

@@ -114,7 +114,7 @@ impl Parts {
         match node {
             Node::True => 1,
             Node::Atom(_) => 1,
-            Node::Bail => 1,
+            Node::EarlyExit => 1,
             Node::BraceOpen(_, _) => 1,
             Node::BraceClose(_, _) => 1,
             Node::Inside(_) => 1,
@@ -126,8 +126,8 @@ impl Parts {
             Node::EX(f) => size_of_one(self.size(*f)),
             Node::AU(f, g) => size_of_two(self.size(*f), self.size(*g)),
             Node::EU(f, g) => size_of_two(self.size(*f), self.size(*g)),
-            Node::Past(f) => size_of_one(self.size(*f)),
-            Node::Down(_, f) => size_of_one(self.size(*f)),
+            Node::After(f) => size_of_one(self.size(*f)),
+            Node::InBranch(_, f) => size_of_one(self.size(*f)),
             Node::Exists(_, f) => size_of_one(self.size(*f)),
         }
     }
@@ -139,7 +139,7 @@ impl Parts {
         match node {
             Node::True => 0,
             Node::Atom(_) => 0,
-            Node::Bail => 0,
+            Node::EarlyExit => 0,
             Node::BraceOpen(_, _) => 0,
             Node::BraceClose(_, _) => 0,
             Node::Inside(_) => 0,
@@ -151,8 +151,8 @@ impl Parts {
             Node::EX(f) => depth_around(self.depth(*f)),
             Node::AU(f, g) => depth_around(self.depth(*f).max(self.depth(*g))),
             Node::EU(f, g) => depth_around(self.depth(*f).max(self.depth(*g))),
-            Node::Past(f) => depth_around(self.depth(*f)),
-            Node::Down(_, f) => depth_around(self.depth(*f)),
+            Node::After(f) => depth_around(self.depth(*f)),
+            Node::InBranch(_, f) => depth_around(self.depth(*f)),
             Node::Exists(_, f) => depth_around(self.depth(*f)),
         }
     }

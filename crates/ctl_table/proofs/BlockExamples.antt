@@ -5,8 +5,8 @@ use Rattle.std.specs.Fmt.{digits}
 use Rattle.smpl_terms.specs.declared.var.Var.{Var}
 use Rattle.smpl_patch.specs.Bodies.{Block, Gap, Nest, AnyOf, End, Then, Body, NoMore, More}
 use Rattle.smpl_patch.specs.Bodies as bodies
-use Rattle.ctl_formula.specs.Plain.{Plain, Atom, Bail, BraceOpen, BraceClose, Inside, Outside, Not, And, Or, AX, EX, AU, EU, Past, True}
-use Rattle.ctl_formula.specs.Plain.{Down, Exists}
+use Rattle.ctl_formula.specs.Plain.{Plain, Atom, EarlyExit, BraceOpen, BraceClose, Inside, Outside, Not, And, Or, AX, EX, AU, EU, After, True}
+use Rattle.ctl_formula.specs.Plain.{InBranch, Exists}
 use Rattle.ctl_table.specs.Table.{formula}
 use Rattle.ctl_table.proofs.Examples.{v, p, reads}
 
@@ -23,13 +23,13 @@ plain forall_walks b = formula (reads [] [] []) forall_walks [] b
 
 -- a block as a whole body, given its formula inside
 abbrev block : Plain → Plain
-block f = And (Exists b0 (And (BraceOpen (p 0) b0) (Down 0 f))) (Past True)
+block f = And (Exists b0 (And (BraceOpen (p 0) b0) (InBranch 0 f))) (After True)
 
 -- `{ a(); ... b(); }`: dots pass only nodes of the block, and what follows them is in it
 between_statements : plain false (Then (Block (p 0) (Then (bodies.Atom (p 1)) (Then (Gap NoMore false false)
     (Then (bodies.Atom (p 2)) End))) (p 3)) End)
     ≡ block (And (Atom (p 1)) (EX (EU (And (And (Inside b0) (Not (Atom (p 1)))) (Not (Atom (p 2))))
-    (And (Inside b0) (And (Atom (p 2)) (Past (BraceClose (p 3) b0)))))))
+    (And (Inside b0) (And (Atom (p 2)) (After (BraceClose (p 3) b0)))))))
 unfolding digits
 between_statements = refl
 
@@ -45,7 +45,7 @@ before_the_end = refl
 -- the same over all walks
 before_the_end_forall : plain true (Then (Block (p 0) (Then (bodies.Atom (p 1)) (Then (Gap NoMore false false) End)) (p 2)) End)
     ≡ block (And (Atom (p 1)) (AX (And
-    (AU (And (Inside b0) (Not (Atom (p 1)))) (Or (Or (BraceClose (p 2) b0) (Outside b0)) Bail))
+    (AU (And (Inside b0) (Not (Atom (p 1)))) (Or (Or (BraceClose (p 2) b0) (Outside b0)) EarlyExit))
     (EU (And (Inside b0) (Not (Atom (p 1)))) (Or (BraceClose (p 2) b0) (Outside b0))))))
 unfolding digits
 before_the_end_forall = refl
@@ -53,7 +53,7 @@ before_the_end_forall = refl
 -- `when any` lets dots pass their neighbours, but not leave the block
 any_in_block : plain false (Then (Block (p 0) (Then (bodies.Atom (p 1)) (Then (Gap NoMore true false)
     (Then (bodies.Atom (p 2)) End))) (p 3)) End)
-    ≡ block (And (Atom (p 1)) (EX (EU (Inside b0) (And (Inside b0) (And (Atom (p 2)) (Past (BraceClose (p 3) b0)))))))
+    ≡ block (And (Atom (p 1)) (EX (EU (Inside b0) (And (Inside b0) (And (Atom (p 2)) (After (BraceClose (p 3) b0)))))))
 unfolding digits
 any_in_block = refl
 
@@ -64,7 +64,7 @@ when_in_block : plain false (Then (Block (p 0) (Then (bodies.Atom (p 1))
     ≡ block (And (Atom (p 1)) (EX (EU (And (And (And (Inside b0)
     (Not (And (Atom (p 4)) (EX (EU (And (And (Inside b0) (Not (Atom (p 4)))) (Not (Atom (p 5)))) (And (Inside b0) (Atom (p 5))))))))
     (Not (Atom (p 1)))) (Not (Atom (p 2))))
-    (And (Inside b0) (And (Atom (p 2)) (Past (BraceClose (p 3) b0)))))))
+    (And (Inside b0) (And (Atom (p 2)) (After (BraceClose (p 3) b0)))))))
 unfolding digits
 when_in_block = refl
 
@@ -72,8 +72,8 @@ when_in_block = refl
 branch_in_block : plain false (Then (Block (p 0) (Then (AnyOf (More (Then (bodies.Atom (p 1)) (Then (Gap NoMore false false)
     (Then (bodies.Atom (p 2)) End))) (More (Then (bodies.Atom (p 3)) End) NoMore))) End) (p 4)) End)
     ≡ block (Or (And (Atom (p 1)) (EX (EU (And (And (Inside b0) (Not (Atom (p 1)))) (Not (Atom (p 2))))
-    (And (Inside b0) (And (Atom (p 2)) (Past (BraceClose (p 4) b0)))))))
-    (And (And (Atom (p 3)) (Past (BraceClose (p 4) b0)))
+    (And (Inside b0) (And (Atom (p 2)) (After (BraceClose (p 4) b0)))))))
+    (And (And (Atom (p 3)) (After (BraceClose (p 4) b0)))
     (Not (And (Atom (p 1)) (EX (EU (And (And (Inside b0) (Not (Atom (p 1)))) (Not (Atom (p 2)))) (And (Inside b0) (Atom (p 2)))))))))
 unfolding digits
 branch_in_block = refl
@@ -82,26 +82,26 @@ branch_in_block = refl
 nest_in_block : plain false (Then (Block (p 0) (Then (bodies.Atom (p 1)) (Then (Nest true (Then (bodies.Atom (p 2)) End) NoMore true false)
     (Then (bodies.Atom (p 3)) End))) (p 4)) End)
     ≡ block (And (Atom (p 1)) (EX (And
-    (EU (And (Inside b0) (Or (Atom (p 2)) (Not (Atom (p 2))))) (And (Inside b0) (And (Atom (p 3)) (Past (BraceClose (p 4) b0)))))
+    (EU (And (Inside b0) (Or (Atom (p 2)) (Not (Atom (p 2))))) (And (Inside b0) (And (Atom (p 3)) (After (BraceClose (p 4) b0)))))
     (EU (Inside b0) (And (And (Inside b0) (Atom (p 2)))
-    (EU (Inside b0) (And (Inside b0) (And (Atom (p 3)) (Past (BraceClose (p 4) b0))))))))))
+    (EU (Inside b0) (And (Inside b0) (And (Atom (p 3)) (After (BraceClose (p 4) b0))))))))))
 unfolding digits
 nest_in_block = refl
 
 -- dots of a nested block stay in that block, and those after it stay in the outer one
 nested_block : plain false (Then (Block (p 0) (Then (Block (p 1) (Then (bodies.Atom (p 2)) (Then (Gap NoMore false false) End)) (p 3))
     (Then (Gap NoMore false false) (Then (bodies.Atom (p 4)) End))) (p 5)) End)
-    ≡ block (And (Exists b1 (And (BraceOpen (p 1) b1) (Down 0 (And (Atom (p 2))
+    ≡ block (And (Exists b1 (And (BraceOpen (p 1) b1) (InBranch 0 (And (Atom (p 2))
     (EX (EU (And (Inside b1) (Not (Atom (p 2)))) (Or (BraceClose (p 3) b1) (Outside b1))))))))
-    (Past (EU (And (Inside b0) (Not (Atom (p 4)))) (And (Inside b0) (And (Atom (p 4)) (Past (BraceClose (p 5) b0)))))))
+    (After (EU (And (Inside b0) (Not (Atom (p 4)))) (And (Inside b0) (And (Atom (p 4)) (After (BraceClose (p 5) b0)))))))
 unfolding digits
 nested_block = refl
 
 -- dots after a block that is not nested in another are ordinary dots
 after_block : plain false (Then (Block (p 0) (Then (bodies.Atom (p 1)) (Then (Gap NoMore false false) End)) (p 2))
     (Then (Gap NoMore false false) (Then (bodies.Atom (p 3)) End)))
-    ≡ And (Exists b0 (And (BraceOpen (p 0) b0) (Down 0 (And (Atom (p 1))
+    ≡ And (Exists b0 (And (BraceOpen (p 0) b0) (InBranch 0 (And (Atom (p 1))
     (EX (EU (And (Inside b0) (Not (Atom (p 1)))) (Or (BraceClose (p 2) b0) (Outside b0))))))))
-    (Past (EU (Not (Atom (p 3))) (Atom (p 3))))
+    (After (EU (Not (Atom (p 3))) (Atom (p 3))))
 unfolding digits
 after_block = refl

@@ -17,7 +17,8 @@ use Rattle.ctl_table.proofs.RowLemmas.{all-at, all-more, all-as, all-next, one-m
 pub record IsChosen (a b : List Node) (with alone made earlier : List ℕ) (i : ℕ) : Type 0 where
   pub within : all_below (length b) made ≡ true
   pub excluded : all_below (length b) earlier ≡ true
-  pub are : parts_at b made ++ table.choices (parts_at b earlier) (drop i (parts_at a with)) (drop i (parts_at a alone)) ≡ table.choices [] (parts_at a with) (parts_at a alone)
+  pub are : parts_at b made ++ table.choices (parts_at b earlier) (drop i (parts_at a with)) (drop i (parts_at a alone))
+      ≡ table.choices [] (parts_at a with) (parts_at a alone)
   pub grows : Grows a b
 
 pub chosen-none : (a : List Node) (with alone made earlier : List ℕ) → made ≡ [] → earlier ≡ [] → IsChosen a a with alone made earlier 0
@@ -60,7 +61,8 @@ chosen-more a b c d with alone made most earlier shown next i e f j l q hw ha x 
     let es = parts_at b earlier in
     let one = table.and_all (at (plains a) f) es in
     let one_is : at (plains d) j ≡ one =
-    stays c d j z.grows y.within ∙ y.is ∙ ap (λ (v : List ℕ). table.and_all (at (plains b) f) (parts_at b v)) seen ∙ ap (λ (v : Plain). table.and_all v es) (stays a b f x.grows (all-at (length a) with i e f l q hw)) in
+    stays c d j z.grows y.within ∙ y.is ∙ ap (λ (v : List ℕ). table.and_all (at (plains b) f) (parts_at b v)) seen
+    ∙ ap (λ (v : Plain). table.and_all v es) (stays a b f x.grows (all-at (length a) with i e f l q hw)) in
     let made_is : parts_at d (made ++ j ∷ []) ≡ parts_at b made ++ one ∷ [] =
     map-append (at (plains d)) made (j ∷ [])
     ∙ ap (λ (v : List Plain). v ++ at (plains d) j ∷ []) (all-stay b d made bd x.within)
@@ -115,7 +117,8 @@ take-least n is = let e : min (length is) n ≡ min n (length is) = omega arith 
 
 -- the last branch isn't needed alone
 pub choices-least : (a : List Node) (with alone : List ℕ)
-    → table.choices [] (parts_at a with) (parts_at a (take (min (length alone) (length with - 1)) alone)) ≡ table.choices [] (parts_at a with) (parts_at a alone)
+    → table.choices [] (parts_at a with) (parts_at a (take (min (length alone) (length with - 1)) alone))
+    ≡ table.choices [] (parts_at a with) (parts_at a alone)
 choices-least a with alone =
     ap (λ (z : List ℕ). table.choices [] (parts_at a with) (parts_at a z)) (take-least (length with - 1) alone)
     ∙ ap (λ (z : List Plain). table.choices [] (parts_at a with) z) (sym (take-map (at (plains a)) (length with - 1) alone))

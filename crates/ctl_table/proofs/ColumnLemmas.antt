@@ -19,8 +19,8 @@ use Rattle.ctl_formula.specs.Tables.{at, plains, Grows, Makes}
 use Rattle.ctl_formula.proofs.TableLemmas.{grows-trans, and-left, and-right}
 use Rattle.pattern_vars.specs.VarPlaces.Placing.{occurs_body}
 use Rattle.ctl_table.specs.Table as table
-use Rattle.ctl_table.specs.declared.follow.Made.{Made}
-use Rattle.ctl_table.specs.declared.follow.Made.TheVariants as made
+use Rattle.ctl_table.specs.declared.follow.Continuation.{Continuation}
+use Rattle.ctl_table.specs.declared.follow.Continuation.TheVariants as made
 use Rattle.ctl_table.specs.Settings.{all_below, parts_at, made_below, all_made_below, next_of, MakesAll}
 use Rattle.ctl_table.specs.Columns.{EndsWithNothing, column, rows_within, first_of_column, MakesColumns}
 use Rattle.ctl_table.proofs.MakingLemmas.{stays, all-stand, all-stay, both-true, lt-test}
@@ -73,7 +73,7 @@ column-long n w j (row ∷ rows) l h =
     (column-long n w j rows l (and-right (nat_eq (length row) w && all_below n row) (rows_within n w rows) h))
 
 -- no rows yet
-pub no-rows : (a : List Node) (nexts : List Made) (rows : List (List ℕ)) (fs : Made → List Plain) → ((n : Made) → fs n ≡ []) → Grows a a
+pub no-rows : (a : List Node) (nexts : List Continuation) (rows : List (List ℕ)) (fs : Continuation → List Plain) → ((n : Continuation) → fs n ≡ []) → Grows a a
     → rows ≡ [] → MakesColumns a a nexts rows fs
 no-rows a nexts rows fs e g q = subst (λ (z : List (List ℕ)). MakesColumns a a nexts z fs) (sym q) (record {
   within = refl;
@@ -90,7 +90,7 @@ part-at c f (x ∷ xs) (i ∷ row) zero d l e = ap (λ (z : List Plain). get_or 
 part-at c f (x ∷ xs) (i ∷ row) (suc j) d l e = part-at c f xs row j d (omega (arith, l)) (ap (λ (z : List Plain). drop 1 z) e)
 
 -- one branch more
-pub columns-step : (m : table.Setting) (a b c : List Node) (nexts : List Made) (w s v : List Var) (bs : List (List Elem)) (x y : List Elem)
+pub columns-step : (m : table.Setting) (a b c : List Node) (nexts : List Continuation) (w s v : List Var) (bs : List (List Elem)) (x y : List Elem)
     (rows next : List (List ℕ)) (row : List ℕ) (i : ℕ)
     → i < length bs → x ≡ get_or bs i x → y ≡ x → v ≡ filter (occurs_body m.reading (body y)) w → next ≡ rows ++ row ∷ []
     → all_made_below (length a) nexts ≡ true
@@ -98,10 +98,10 @@ pub columns-step : (m : table.Setting) (a b c : List Node) (nexts : List Made) (
     → MakesAll b c row (map (λ n. table.seq m None (body y) (next_of (plains b) m n) v s s) nexts)
     → MakesColumns a c nexts next (λ n. table.each m (bodies (take (i + 1) bs)) (next_of (plains a) m n) w s)
 columns-step m a b c nexts w s v bs x y rows next row i l q p u o below made one =
-    let k = λ (n : Made). next_of (plains a) m n in
-    let f = λ (n : Made). table.seq m None (body y) (next_of (plains b) m n) v s s in
-    let g = λ (n : Made). table.seq m None (body x) (k n) (filter (occurs_body m.reading (body x)) w) s s in
-    let same : (n : Made) → made_below (length a) n ≡ true → f n ≡ g n =
+    let k = λ (n : Continuation). next_of (plains a) m n in
+    let f = λ (n : Continuation). table.seq m None (body y) (next_of (plains b) m n) v s s in
+    let g = λ (n : Continuation). table.seq m None (body x) (k n) (filter (occurs_body m.reading (body x)) w) s s in
+    let same : (n : Continuation) → made_below (length a) n ≡ true → f n ≡ g n =
     λ n h. ap (λ (z : table.Follow). table.seq m None (body y) z v s s) (follow-stays a b m n made.grows h)
     ∙ ap (λ (z : List Var). table.seq m None (body y) (k n) z s s) u
     ∙ ap (λ (z : List Elem). table.seq m None (body z) (k n) (filter (occurs_body m.reading (body z)) w) s s) p in
@@ -134,32 +134,32 @@ last-pushed (y ∷ xs) x =
     ap (slice_get (y ∷ xs ++ x ∷ [])) n ∙ last-pushed xs x
 
 -- what may follow is at the front of the list that ends with nothing
-front-of : (nexts all : List Made) → EndsWithNothing nexts all → take (length nexts) all ≡ nexts
+front-of : (nexts all : List Continuation) → EndsWithNothing nexts all → take (length nexts) all ≡ nexts
 front-of nexts all e = elim e.kept [
   | inl q ↦ ap (take (length nexts)) q ∙ take-length nexts
   | inr q ↦ ap (take (length nexts)) q ∙ take-append-le (length nexts) nexts (made.Nothing ∷ []) (omega arith) ∙ take-length nexts
 ]
 
-front-at : (nexts all : List Made) (j : ℕ) (d : Made) → j < length nexts → EndsWithNothing nexts all → get_or all j d ≡ get_or nexts j d
-front-at nexts all j d l e = sym (get_or-take (length nexts) all j d l) ∙ ap (λ (z : List Made). get_or z j d) (front-of nexts all e)
+front-at : (nexts all : List Continuation) (j : ℕ) (d : Continuation) → j < length nexts → EndsWithNothing nexts all → get_or all j d ≡ get_or nexts j d
+front-at nexts all j d l e = sym (get_or-take (length nexts) all j d l) ∙ ap (λ (z : List Continuation). get_or z j d) (front-of nexts all e)
 
-pub front-long : (nexts all : List Made) → EndsWithNothing nexts all → length nexts ≤ length all
+pub front-long : (nexts all : List Continuation) → EndsWithNothing nexts all → length nexts ≤ length all
 front-long nexts all e =
     let n : length (take (length nexts) all) ≡ length nexts = ap length (front-of nexts all e) in
     omega (arith, n, length-take (length nexts) all)
 
 -- all of it has its parts in range
-pub all-within : (n : ℕ) (nexts all : List Made) → EndsWithNothing nexts all → all_made_below n nexts ≡ true → all_made_below n all ≡ true
+pub all-within : (n : ℕ) (nexts all : List Continuation) → EndsWithNothing nexts all → all_made_below n nexts ≡ true → all_made_below n all ≡ true
 all-within n nexts all e h = elim e.kept [
   | inl q ↦ ap (all_made_below n) q ∙ h
   | inr q ↦ ap (all_made_below n) q ∙ list_all-append (made_below n) nexts (made.Nothing ∷ []) ∙ both-true (all_made_below n nexts) true h refl
 ]
 
-pub last-long : (nexts all : List Made) → EndsWithNothing nexts all → length all - 1 < length all
+pub last-long : (nexts all : List Continuation) → EndsWithNothing nexts all → length all - 1 < length all
 last-long nexts all e = slice_get_within all (length all - 1) made.Nothing e.last
 
 -- as many parts as things that may follow
-pub all-long : (a b : List Node) (is : List ℕ) (f : Made → Plain) (nexts : List Made) → MakesAll a b is (map f nexts) → length is ≡ length nexts
+pub all-long : (a b : List Node) (is : List ℕ) (f : Continuation → Plain) (nexts : List Continuation) → MakesAll a b is (map f nexts) → length is ≡ length nexts
 all-long a b is f nexts x = sym (length-map is (at (plains b))) ∙ ap length x.are ∙ length-map nexts f
 
 -- the branch that the last would exclude doesn't exist
@@ -171,13 +171,15 @@ choices-front e (x ∷ fs) [] f g l = absurd (omega (arith, l))
 choices-front e (x ∷ fs) (y ∷ gs) f g l =
     ap (λ (z : List Plain). table.and_all x e ∷ z) (choices-front (e ++ Not y ∷ []) fs gs f g (omega (arith, l)))
 
-each-long : (m : table.Setting) (k h : table.Follow) (w s : List Var) (bs : List (List Elem)) → length (table.each m (bodies bs) k w s) ≡ length (table.each m (bodies bs) h w s)
+each-long : (m : table.Setting) (k h : table.Follow) (w s : List Var) (bs : List (List Elem))
+    → length (table.each m (bodies bs) k w s) ≡ length (table.each m (bodies bs) h w s)
 each-long m k h w s [] = refl
 each-long m k h w s (b ∷ bs) = let e = each-long m k h w s bs in omega (arith, e)
 
 -- the first branch that holds, if the last isn't made alone
 first-whole : (m : table.Setting) (k : table.Follow) (w s : List Var) (bs : List (List Elem)) (b : List Elem)
-    → table.choices [] (table.each m (bodies bs) k w s ++ table.seq m None (body b) k (filter (occurs_body m.reading (body b)) w) s s ∷ []) (table.each m (bodies bs) table.nothing w s)
+    → table.choices [] (table.each m (bodies bs) k w s
+    ++ table.seq m None (body b) k (filter (occurs_body m.reading (body b)) w) s s ∷ []) (table.each m (bodies bs) table.nothing w s)
     ≡ table.choices [] (table.each m (bodies (bs ++ b ∷ [])) k w s) (table.each m (bodies (bs ++ b ∷ [])) table.nothing w s)
 first-whole m k w s bs b =
     let row = λ (n : table.Follow). table.seq m None (body b) n (filter (occurs_body m.reading (body b)) w) s s in
@@ -188,7 +190,7 @@ first-whole m k w s bs b =
     ∙ ap (table.choices [] (table.each m (bodies (bs ++ b ∷ [])) k w s)) (sym (each-more m table.nothing w s bs b))
 
 -- the first branch that holds, before each of the things that may follow
-pub choice-each : (m : table.Setting) (a b c d : List Node) (nexts all : List Made) (w s : List Var) (bs front : List (List Elem)) (x y : List Elem)
+pub choice-each : (m : table.Setting) (a b c d : List Node) (nexts all : List Continuation) (w s : List Var) (bs front : List (List Elem)) (x y : List Elem)
     (rows : List (List ℕ)) (ends es is : List ℕ) (last : ℕ)
     → EndsWithNothing nexts all → last ≡ length all - 1 → bs ≡ front ++ x ∷ [] → y ≡ x → es ≡ ends → all_made_below (length a) nexts ≡ true
     → MakesColumns a b all rows (λ n. table.each m (bodies front) (next_of (plains a) m n) w s)
@@ -196,13 +198,13 @@ pub choice-each : (m : table.Setting) (a b c d : List Node) (nexts all : List Ma
     → MakesAll c d is (map (first_of_column (plains c) rows es last) (range_with_len 0 (length es)))
     → MakesAll a d is (map (λ n. table.elem m None None (AnyOf (bodies bs)) (next_of (plains a) m n) w s s) nexts)
 choice-each m a b c d nexts all w s bs front x y rows ends es is last ends_with q o p r below columns one firsts =
-    let k = λ (n : Made). next_of (plains a) m n in
-    let f = λ (n : Made). table.seq m None (body y) (next_of (plains b) m n) (filter (occurs_body m.reading (body y)) w) s s in
-    let g = λ (n : Made). table.seq m None (body x) (k n) (filter (occurs_body m.reading (body x)) w) s s in
-    let same : (n : Made) → made_below (length a) n ≡ true → f n ≡ g n =
+    let k = λ (n : Continuation). next_of (plains a) m n in
+    let f = λ (n : Continuation). table.seq m None (body y) (next_of (plains b) m n) (filter (occurs_body m.reading (body y)) w) s s in
+    let g = λ (n : Continuation). table.seq m None (body x) (k n) (filter (occurs_body m.reading (body x)) w) s s in
+    let same : (n : Continuation) → made_below (length a) n ≡ true → f n ≡ g n =
     λ n h. ap (λ (z : table.Follow). table.seq m None (body y) z (filter (occurs_body m.reading (body y)) w) s s) (follow-stays a b m n columns.grows h)
     ∙ ap (λ (z : List Elem). table.seq m None (body z) (k n) (filter (occurs_body m.reading (body z)) w) s s) p in
-    let row = λ (n : Made). table.elem m None None (AnyOf (bodies bs)) (k n) w s s in
+    let row = λ (n : Continuation). table.elem m None None (AnyOf (bodies bs)) (k n) w s s in
     let first = first_of_column (plains c) rows es last in
     let shown = first_of_column (plains c) rows ends last in
     let long = all-long b c ends f nexts one in
@@ -211,7 +213,8 @@ choice-each m a b c d nexts all w s bs front x y rows ends es is last ends_with 
     let alone : parts_at c (column last rows) ≡ table.each m (bodies front) table.nothing w s =
     kept last (omega (arith, q, last-long nexts all ends_with))
     ∙ columns.are last made.Nothing (omega (arith, q, last-long nexts all ends_with))
-    ∙ ap (λ (n : Made). table.each m (bodies front) (k n) w s) (ap (λ (z : ℕ). get_or all z made.Nothing) q ∙ get_or_from_slice_get all (length all - 1) made.Nothing made.Nothing ends_with.last) in
+    ∙ ap (λ (n : Continuation). table.each m (bodies front) (k n) w s)
+    (ap (λ (z : ℕ). get_or all z made.Nothing) q ∙ get_or_from_slice_get all (length all - 1) made.Nothing made.Nothing ends_with.last) in
     let at_one : (j : ℕ) → j < length nexts → get_or (map row nexts) j True ≡ shown j =
     λ j l.
     let n = get_or nexts j made.Nothing in
@@ -221,7 +224,7 @@ choice-each m a b c d nexts all w s bs front x y rows ends es is last ends_with 
     ∙ sym (ap (λ (z : List Plain). table.any_of (table.choices [] (z ++ at (plains c) (get_or ends j 0) ∷ []) (parts_at c (column last rows))))
     (kept j (omega (arith, l, front-long nexts all ends_with))
     ∙ columns.are j made.Nothing (omega (arith, l, front-long nexts all ends_with))
-    ∙ ap (λ (z : Made). table.each m (bodies front) (k z) w s) (front-at nexts all j made.Nothing l ends_with))
+    ∙ ap (λ (z : Continuation). table.each m (bodies front) (k z) w s) (front-at nexts all j made.Nothing l ends_with))
     ∙ ap (λ (z : Plain). table.any_of (table.choices [] (table.each m (bodies front) (k n) w s ++ z ∷ []) (parts_at c (column last rows))))
     (part-at c f nexts ends j made.Nothing l one.are ∙ same n (item-is (made_below (length a)) nexts j n made.Nothing l refl below))
     ∙ ap (λ (z : List Plain). table.any_of (table.choices [] (table.each m (bodies front) (k n) w s ++ g n ∷ []) z)) alone) in
@@ -231,7 +234,8 @@ choice-each m a b c d nexts all w s bs front x y rows ends es is last ends_with 
     ∙ sym (fill_by_all shown (map row nexts) (length nexts) True (length-map nexts row) at_one)) firsts
 
 -- no branches
-pub choice-none : (m : table.Setting) (a b : List Node) (k : Made → table.Follow) (nexts : List Made) (is : List ℕ) (bs : List (List Elem)) (w s : List Var) → length bs ≡ 0
+pub choice-none : (m : table.Setting) (a b : List Node) (k : Continuation → table.Follow) (nexts : List Continuation)
+    (is : List ℕ) (bs : List (List Elem)) (w s : List Var) → length bs ≡ 0
     → MakesAll a b is (map (λ n. table.any_of []) nexts) → MakesAll a b is (map (λ n. table.elem m None None (AnyOf (bodies bs)) (k n) w s s) nexts)
 choice-none m a b k nexts is [] w s e x = x
 choice-none m a b k nexts is (z ∷ zs) w s e x = absurd (omega (arith, e))
@@ -248,13 +252,15 @@ tail-slice : {A : Type 0} (x : A) (xs : List A) → take (length (x ∷ xs) - 1)
 tail-slice x xs = let e : length (x ∷ xs) - 1 ≡ length xs = omega arith in ap (λ (n : ℕ). take n xs) e ∙ take-length xs
 
 -- no branches: what follows alone
-pub every-none : (m : table.Setting) (a b : List Node) (k : Made → table.Follow) (nexts : List Made) (is : List ℕ) (bs : List (List Elem)) (w s : List Var) → length bs ≡ 0
+pub every-none : (m : table.Setting) (a b : List Node) (k : Continuation → table.Follow) (nexts : List Continuation)
+    (is : List ℕ) (bs : List (List Elem)) (w s : List Var) → length bs ≡ 0
     → MakesAll a b is (map (λ n. (k n).at s) nexts) → MakesAll a b is (map (λ n. table.elem m None None (AllOf (bodies bs)) (k n) w s s) nexts)
 every-none m a b k nexts is [] w s e x = x
 every-none m a b k nexts is (z ∷ zs) w s e x = absurd (omega (arith, e))
 
 -- all branches, the first before each of the things that may follow
-pub every-each : (m : table.Setting) (a b c d : List Node) (k : Made → table.Follow) (nexts : List Made) (bs : List (List Elem)) (x y : List Elem) (w v s : List Var)
+pub every-each : (m : table.Setting) (a b c d : List Node) (k : Continuation → table.Follow) (nexts : List Continuation)
+    (bs : List (List Elem)) (x y : List Elem) (w v s : List Var)
     (fs gs is js ks : List ℕ)
     → 1 ≤ length bs → x ≡ get_or bs 0 x → y ≡ x → v ≡ filter (occurs_body m.reading (body y)) w → gs ≡ fs → js ≡ is
     → MakesAll a b fs (map (λ n. table.seq m None (body y) (k n) v s s) nexts)
@@ -264,7 +270,7 @@ pub every-each : (m : table.Setting) (a b c d : List Node) (k : Made → table.F
 every-each m a b c d k nexts [] x y w v s fs gs is js ks l q p u i j g h z = absurd (omega (arith, l))
 every-each m a b c d k nexts (t ∷ ts) x y w v s fs gs is js ks l q p u i j g h z =
     let others = table.each m (bodies ts) table.nothing w s in
-    let row = λ (n : Made) (e : List Elem). table.seq m None (body e) (k n) (filter (occurs_body m.reading (body e)) w) s s in
+    let row = λ (n : Continuation) (e : List Elem). table.seq m None (body e) (k n) (filter (occurs_body m.reading (body e)) w) s s in
     let others_are : parts_at c js ≡ others =
     ap (parts_at c) j ∙ h.are ∙ ap (λ (e : List (List Elem)). table.each m (bodies e) table.nothing w s) (tail-slice t ts) in
     let firsts_are : parts_at c gs ≡ map (λ n. row n t) nexts =
@@ -279,7 +285,8 @@ every-each m a b c d k nexts (t ∷ ts) x y w v s fs gs is js ks l q p u i j g h
     ∙ map-map (λ f. table.and_all f others) (λ n. row n t) nexts) z
 
 -- one more thing that may follow
-pub first-step : (a b c : List Node) (rows : List (List ℕ)) (ends : List ℕ) (last j i e : ℕ) (is next alone : List ℕ) → alone ≡ column last rows → next ≡ is ++ i ∷ []
+pub first-step : (a b c : List Node) (rows : List (List ℕ)) (ends : List ℕ) (last j i e : ℕ) (is next alone : List ℕ)
+    → alone ≡ column last rows → next ≡ is ++ i ∷ []
     → e ≡ get_or ends j 0 → e < length a
     → all_below (length a) (column j rows) ≡ true → all_below (length a) (column last rows) ≡ true
     → MakesAll a b is (map (first_of_column (plains a) rows ends last) (range_with_len 0 j))

@@ -8,7 +8,7 @@ use Rattle.ctl_formula.specs.declared.node.Node.{Node}
 use Rattle.ctl_formula.specs.Tables.{at, plains, Makes}
 use Rattle.ctl_formula.proofs.TableLemmas.{grows-refl, grows-trans}
 use Rattle.ctl_table.specs.Table as table
-use Rattle.ctl_table.specs.declared.follow.MadeDots.{MadeDots}
+use Rattle.ctl_table.specs.declared.follow.DotsContinuation.{DotsContinuation}
 use Rattle.ctl_table.specs.Settings.{some_below}
 use Rattle.ctl_table.specs.Settings.{all_below, parts_at, some_at, dots_below, passed, dots_at, MakesAll, MakesSome}
 use Rattle.ctl_table.proofs.MakingLemmas.{made-up, stays, all-stay, all-stand, lt-test, both-true}
@@ -30,29 +30,29 @@ not-made a b is next o i j e h m n =
     (one-more a a b is j (parts_at a is) (Not (at (plains a) i)) (all-there a is h) m))
 
 -- `when any`: nothing more
-pub neighbours-none : (a : List Node) (is : List ℕ) (any : Bool) (more : List Plain) → any ≡ true → all_below (length a) is ≡ true
+pub last_atoms-none : (a : List Node) (is : List ℕ) (any : Bool) (more : List Plain) → any ≡ true → all_below (length a) is ≡ true
     → MakesAll a a is (parts_at a is ++ (if any then [] else more))
-neighbours-none a is any more e h =
+last_atoms-none a is any more e h =
     all-as a a is (parts_at a is) (parts_at a is ++ (if any then [] else more))
     (sym (append-nil (parts_at a is)) ∙ ap (λ (z : Bool). parts_at a is ++ (if z then [] else more)) (sym e)) (all-there a is h)
 
-pub neighbours-made : (a b c d : List Node) (is js ks : List ℕ) (before after : Option ℕ) (near : Option Plain) (any : Bool) → any ≡ false
+pub last_atoms-made : (a b c d : List Node) (is js ks : List ℕ) (before after : Option ℕ) (ends_of : Option Plain) (any : Bool) → any ≡ false
     → all_below (length a) is ≡ true → some_below (length a) after ≡ true
-    → MakesSome a b before near
+    → MakesSome a b before ends_of
     → MakesAll b c js (parts_at b is ++ table.nots (some_at (plains b) before))
     → MakesAll c d ks (parts_at c js ++ table.nots (some_at (plains c) after))
-    → MakesAll a d ks (parts_at a is ++ (if any then [] else (table.nots near ++ table.nots (some_at (plains a) after))))
-neighbours-made a b c d is js ks before after near any f h k x y z =
+    → MakesAll a d ks (parts_at a is ++ (if any then [] else (table.nots ends_of ++ table.nots (some_at (plains a) after))))
+last_atoms-made a b c d is js ks before after ends_of any f h k x y z =
     let ac = grows-trans a b c x.grows y.grows in
-    let first : parts_at c js ≡ parts_at a is ++ table.nots near =
+    let first : parts_at c js ≡ parts_at a is ++ table.nots ends_of =
     y.are ∙ ap (λ (v : List Plain). v ++ table.nots (some_at (plains b) before)) (all-stay a b is x.grows h)
     ∙ ap (λ (v : Option Plain). parts_at a is ++ table.nots v) x.is in
     record {
       within = z.within;
       are = z.are ∙ ap (λ (v : List Plain). v ++ table.nots (some_at (plains c) after)) first
-          ∙ ap (λ (v : Option Plain). (parts_at a is ++ table.nots near) ++ table.nots v) (some-stays a c after ac k)
-          ∙ append_assoc (parts_at a is) (table.nots near) (table.nots (some_at (plains a) after))
-          ∙ ap (λ (v : Bool). parts_at a is ++ (if v then [] else (table.nots near ++ table.nots (some_at (plains a) after)))) (sym f);
+          ∙ ap (λ (v : Option Plain). (parts_at a is ++ table.nots ends_of) ++ table.nots v) (some-stays a c after ac k)
+          ∙ append_assoc (parts_at a is) (table.nots ends_of) (table.nots (some_at (plains a) after))
+          ∙ ap (λ (v : Bool). parts_at a is ++ (if v then [] else (table.nots ends_of ++ table.nots (some_at (plains a) after)))) (sym f);
       grows = grows-trans a c d ac z.grows;
     }
 
@@ -80,15 +80,16 @@ staying-made a b o v i one is whens e h m p q =
       grows = m.grows;
     }
 
-pub condition-made : {E : Type 0} (a b c : List Node) (is js ks vs : List ℕ) (any : Bool) (near after : Option Plain) (r : Result ℕ E) → vs ≡ is → ks ≡ js
-    → MakesAll a b js (parts_at a vs ++ (if any then [] else (table.nots near ++ table.nots after)))
+pub condition-made : {E : Type 0} (a b c : List Node) (is js ks vs : List ℕ) (any : Bool) (ends_of after : Option Plain) (r : Result ℕ E) → vs ≡ is → ks ≡ js
+    → MakesAll a b js (parts_at a vs ++ (if any then [] else (table.nots ends_of ++ table.nots after)))
     → IfOk r (λ i. Makes b c i (table.all_of (parts_at b ks)))
-    → IfOk r (λ i. Makes a c i (table.condition any (parts_at a is) near after))
-condition-made a b c is js ks vs any near after r v k x y =
-    made-up a b c r (table.all_of (parts_at b ks)) (table.condition any (parts_at a is) near after) x.grows
-    (ap table.all_of (ap (parts_at b) k ∙ x.are ∙ ap (λ (z : List ℕ). parts_at a z ++ (if any then [] else (table.nots near ++ table.nots after))) v)) y
+    → IfOk r (λ i. Makes a c i (table.condition any (parts_at a is) ends_of after))
+condition-made a b c is js ks vs any ends_of after r v k x y =
+    made-up a b c r (table.all_of (parts_at b ks)) (table.condition any (parts_at a is) ends_of after) x.grows
+    (ap table.all_of (ap (parts_at b) k ∙ x.are ∙ ap (λ (z : List ℕ). parts_at a z ++ (if any then [] else (table.nots ends_of ++ table.nots after))) v)) y
 
-pub dots_at-made : {E : Type 0} (forall_walks : Bool) (a b c d : List Node) (before : List Var → Option Plain) (e : MadeDots) (target : ℕ) (t here around : List Var) (through f : ℕ) (r : Result ℕ E)
+pub dots_at-made : {E : Type 0} (forall_walks : Bool) (a b c d : List Node) (before : List Var → Option Plain)
+    (e : DotsContinuation) (target : ℕ) (t here around : List Var) (through f : ℕ) (r : Result ℕ E)
     → dots_below (length a) e ≡ true → target < length a → here ≡ e.here → around ≡ t ++ here
     → Makes a b through (table.condition e.any (parts_at a e.firsts.items) (before around) (some_at (plains a) e.after))
     → Makes b c f (passed (plains b) forall_walks e.nest e.strict (at (plains b) through) (at (plains b) target))

@@ -1,12 +1,12 @@
 pub mod MakingLemmas
 pub mod WrapLemmas
-pub mod BesideLemmas
+pub mod EndAtomLemmas
 pub mod FollowLemmas
 pub mod AlongLemmas
 pub mod Examples
 mod BlockExamples
 pub mod RowLemmas
-pub mod NearLemmas
+pub mod EndLemmas
 pub mod ChoiceLemmas
 pub mod ElementLemmas
 pub mod BranchLemmas

@@ -7,12 +7,12 @@ use Rattle.smpl_patch.specs.declared.elem.Elem.TheFolds.{fold_out-Dots}
 use Rattle.smpl_patch.specs.declared.pattern.Pattern.{Pattern}
 use Rattle.smpl_patch.specs.Bodies.{Element, DotsOf, element_step, dots_step}
 use Rattle.smpl_patch.proofs.BodyLemmas.{bodies, dots_of}
-use Rattle.ctl_formula.specs.Plain.{Plain, Atom, Not, And, Down, Exists}
+use Rattle.ctl_formula.specs.Plain.{Plain, Atom, Not, And, InBranch, Exists}
 use Rattle.ctl_formula.specs.declared.node.Node.{Node}
 use Rattle.ctl_formula.specs.Tables.{at, plains, Makes}
 use Rattle.ctl_formula.proofs.TableLemmas.{grows-trans}
 use Rattle.ctl_table.specs.Table as table
-use Rattle.ctl_table.specs.declared.follow.Made.{Made}
+use Rattle.ctl_table.specs.declared.follow.Continuation.{Continuation}
 use Rattle.ctl_table.specs.Settings.{parts_at, made_start, next_at, next_of, MakesAll}
 use Rattle.ctl_table.proofs.MakingLemmas.{made-up, stays, and-of}
 use Rattle.ctl_table.proofs.FollowLemmas.{all-kept}
@@ -33,17 +33,18 @@ not-made a b c f g r x y = made-up a b c r (Not (at (plains b) f)) (Not g) x.gro
 
 -- a part with a tail
 pub tail-made : {E : Type 0} (m : table.Setting) (a b c d : List Node) (w : List Var) (tail : Option Pattern) (p : Pattern) (f own down : ℕ) (r : Result ℕ E)
-    → f < length a → tail ≡ Some p → Makes a b own (table.own m w p (Atom p)) → Makes b c down (Down 1 (at (plains b) own))
+    → f < length a → tail ≡ Some p → Makes a b own (table.own m w p (Atom p)) → Makes b c down (InBranch 1 (at (plains b) own))
     → IfOk r (λ i. Makes c d i (And (at (plains c) f) (at (plains c) down)))
     → IfOk r (λ i. Makes a d i (table.with_tail m w tail (at (plains a) f)))
 tail-made m a b c d w tail p f own down r l q x y z =
     let ac = grows-trans a b c x.grows y.grows in
     made-up a c d r (And (at (plains c) f) (at (plains c) down)) (table.with_tail m w tail (at (plains a) f)) ac
-    (and-of (at (plains c) f) (at (plains c) down) (at (plains a) f) (Down 1 (table.own m w p (Atom p))) (stays a c f ac l) (y.is ∙ ap (Down 1) x.is)
+    (and-of (at (plains c) f) (at (plains c) down) (at (plains a) f) (InBranch 1 (table.own m w p (Atom p))) (stays a c f ac l) (y.is ∙ ap (InBranch 1) x.is)
     ∙ ap (λ (v : Option Pattern). table.with_tail m w v (at (plains a) f)) (sym q)) z
 
 -- a head with its bodies and its tail
-pub headed-made : {E : Type 0} (m : table.Setting) (a b c d e : List Node) (w : List Var) (tail : Option Pattern) (h : Plain) (is js : List ℕ) (fs : List Plain) (head f : ℕ) (r : Result ℕ E)
+pub headed-made : {E : Type 0} (m : table.Setting) (a b c d e : List Node) (w : List Var) (tail : Option Pattern) (h : Plain)
+    (is js : List ℕ) (fs : List Plain) (head f : ℕ) (r : Result ℕ E)
     → js ≡ is → MakesAll a b is fs → Makes b c head h → Makes c d f (table.and_all (at (plains c) head) (parts_at c js))
     → IfOk r (λ i. Makes d e i (table.with_tail m w tail (at (plains d) f)))
     → IfOk r (λ i. Makes a e i (table.with_tail m w tail (table.and_all h fs)))
@@ -54,7 +55,8 @@ headed-made m a b c d e w tail h is js fs head f r j x y z o =
     (z.is ∙ ap (λ (v : Plain). table.and_all v (parts_at c js)) y.is ∙ ap (table.and_all h) (ap (parts_at c) j ∙ all-kept a b c is fs x y.grows))) o
 
 -- an atom or a statement variable, and what follows it
-pub joined-made : {E : Type 0} (m : table.Setting) (a b c : List Node) (next : Made) (s : List Var) (statement : Bool) (start : table.Start) (f g : ℕ) (r : Result ℕ E)
+pub joined-made : {E : Type 0} (m : table.Setting) (a b c : List Node) (next : Continuation) (s : List Var) (statement : Bool)
+    (start : table.Start) (f g : ℕ) (r : Result ℕ E)
     → f < length a → start ≡ made_start next
     → Makes a b g (next_at (plains a) m next s)
     → IfOk r (λ i. Makes b c i (table.joined m.forall_walks statement (at (plains b) f) start (at (plains b) g)))
@@ -68,12 +70,12 @@ joined-made m a b c next s statement start f g r l q y z =
 
 -- an opening brace and the contents of its block
 pub braced-made : {E : Type 0} (a b c d e : List Node) (v : Var) (h : Plain) (inside opening down both : ℕ) (r : Result ℕ E) → inside < length a
-    → Makes a b opening h → Makes b c down (Down 0 (at (plains b) inside)) → Makes c d both (And (at (plains c) opening) (at (plains c) down))
+    → Makes a b opening h → Makes b c down (InBranch 0 (at (plains b) inside)) → Makes c d both (And (at (plains c) opening) (at (plains c) down))
     → IfOk r (λ i. Makes d e i (Exists v (at (plains d) both)))
-    → IfOk r (λ i. Makes a e i (Exists v (And h (Down 0 (at (plains a) inside)))))
+    → IfOk r (λ i. Makes a e i (Exists v (And h (InBranch 0 (at (plains a) inside)))))
 braced-made a b c d e v h inside opening down both r l x y z o =
-    made-up a d e r (Exists v (at (plains d) both)) (Exists v (And h (Down 0 (at (plains a) inside))))
+    made-up a d e r (Exists v (at (plains d) both)) (Exists v (And h (InBranch 0 (at (plains a) inside))))
     (grows-trans a c d (grows-trans a b c x.grows y.grows) z.grows)
     (ap (Exists v)
-    (z.is ∙ and-of (at (plains c) opening) (at (plains c) down) h (Down 0 (at (plains a) inside)) (stays b c opening y.grows x.within ∙ x.is)
-    (y.is ∙ ap (Down 0) (stays a b inside x.grows l)))) o
+    (z.is ∙ and-of (at (plains c) opening) (at (plains c) down) h (InBranch 0 (at (plains a) inside)) (stays b c opening y.grows x.within ∙ x.is)
+    (y.is ∙ ap (InBranch 0) (stays a b inside x.grows l)))) o

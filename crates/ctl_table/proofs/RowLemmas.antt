@@ -1,5 +1,6 @@
 -- Lists of parts that a loop makes one after another, and rows made from parts of several tables.
-use Rattle.std.proofs.Common.{◌≡◌, ℕ, zero, suc, ◌+◌, ◌-◌, ◌<◌, true, arith, refl, sym, ap, subst, ◌∙◌, List, [], ◌∷◌, ◌++◌, length, take, get_or, nat_lt, None, Result}
+use Rattle.std.proofs.Common.{◌≡◌, ℕ, zero, suc, ◌+◌, ◌-◌, ◌<◌, true, arith, refl, sym, ap, subst, ◌∙◌, List, [], ◌∷◌, ◌++◌}
+use Rattle.std.proofs.Common.{length, take, get_or, nat_lt, None, Result}
 use Rattle.std.specs.List.{filter}
 use Rattle.std.specs.Result.{IfOk}
 use Rattle.std.proofs.Math.Seq.{take-length}
@@ -8,7 +9,7 @@ use Rattle.smpl_terms.specs.declared.var.Var.{Var}
 use Rattle.smpl_patch.specs.declared.elem.Elem.{Elem}
 use Rattle.smpl_patch.specs.Bodies.{body}
 use Rattle.smpl_patch.proofs.BodyLemmas.{bodies}
-use Rattle.ctl_formula.specs.Plain.{Plain, And, Past, Not, Down}
+use Rattle.ctl_formula.specs.Plain.{Plain, And, After, Not, InBranch}
 use Rattle.ctl_formula.specs.declared.node.Node.{Node}
 use Rattle.ctl_formula.specs.Tables.{at, plains, Grows, Makes}
 use Rattle.ctl_formula.proofs.TableLemmas.{grows-refl, grows-trans, and-left, and-right, lt-true}
@@ -26,7 +27,8 @@ pub none-made : (a : List Node) → MakesAll a a [] []
 none-made a = record { within = refl; are = refl; grows = grows-refl a }
 
 -- one more part
-pub one-more : (a b c : List Node) (is : List ℕ) (i : ℕ) (fs : List Plain) (f : Plain) → MakesAll a b is fs → Makes b c i f → MakesAll a c (is ++ i ∷ []) (fs ++ f ∷ [])
+pub one-more : (a b c : List Node) (is : List ℕ) (i : ℕ) (fs : List Plain) (f : Plain) → MakesAll a b is fs → Makes b c i f
+    → MakesAll a c (is ++ i ∷ []) (fs ++ f ∷ [])
 one-more a b c is i fs f x y = record {
   within = all-more (length c) is i (all-stand b c is y.grows x.within) y.within;
   are = map-append (at (plains c)) is (i ∷ []) ∙ ap (λ z. z ++ at (plains c) i ∷ []) (all-stay b c is y.grows x.within ∙ x.are) ∙ ap (λ z. fs ++ z ∷ []) y.is;
@@ -35,7 +37,8 @@ one-more a b c is i fs f x y = record {
 
 -- a loop over bodies makes one more
 pub each-more : (m : table.Setting) (k : table.Follow) (w s : List Var) (bs : List (List Elem)) (b : List Elem)
-    → table.each m (bodies (bs ++ b ∷ [])) k w s ≡ table.each m (bodies bs) k w s ++ table.seq m None (body b) k (filter (occurs_body m.reading (body b)) w) s s ∷ []
+    → table.each m (bodies (bs ++ b ∷ [])) k w s ≡ table.each m (bodies bs) k w s
+    ++ table.seq m None (body b) k (filter (occurs_body m.reading (body b)) w) s s ∷ []
 each-more m k w s [] b = refl
 each-more m k w s (c ∷ bs) b = ap (λ z. table.seq m None (body c) k (filter (occurs_body m.reading (body c)) w) s s ∷ z) (each-more m k w s bs b)
 
@@ -44,11 +47,11 @@ pub when-more : (m : table.Setting) (s : List Var) (ws : List (List Elem)) (w : 
 when-more m s [] w = refl
 when-more m s (v ∷ ws) w = ap (λ z. when_at m (body v) s ∷ z) (when-more m s ws w)
 
-pub downs-more : (i : ℕ) (fs : List Plain) (f : Plain) → table.downs i (fs ++ f ∷ []) ≡ table.downs i fs ++ Down (i + length fs) f ∷ []
-downs-more i [] f = let z : i ≡ i + 0 = omega arith in ap (λ n. Down n f ∷ []) z
-downs-more i (g ∷ fs) f =
+pub in_branches-more : (i : ℕ) (fs : List Plain) (f : Plain) → table.in_branches i (fs ++ f ∷ []) ≡ table.in_branches i fs ++ InBranch (i + length fs) f ∷ []
+in_branches-more i [] f = let z : i ≡ i + 0 = omega arith in ap (λ n. InBranch n f ∷ []) z
+in_branches-more i (g ∷ fs) f =
     let z : suc i + length fs ≡ i + length (g ∷ fs) = omega arith in
-    ap (λ gs. Down i g ∷ gs) (downs-more (suc i) fs f ∙ ap (λ n. table.downs (suc i) fs ++ Down n f ∷ []) z)
+    ap (λ gs. InBranch i g ∷ gs) (in_branches-more (suc i) fs f ∙ ap (λ n. table.in_branches (suc i) fs ++ InBranch n f ∷ []) z)
 
 -- the last branch is never excluded
 pub choices-but_last : (e fs gs : List Plain) → table.choices e fs (take (length fs - 1) gs) ≡ table.choices e fs gs
@@ -63,9 +66,10 @@ choices-but_last e (f ∷ f2 ∷ fs) (g ∷ gs) =
 
 -- a part and what follows, made one after the other, and their row in the last table
 pub past-made : {E : Type 0} (a c d : List Node) (r : Result ℕ E) (f g : ℕ) (F G : Plain) → Grows a c → at (plains c) f ≡ F → at (plains c) g ≡ G
-    → IfOk r (λ i. Makes c d i (And (at (plains c) f) (Past (at (plains c) g)))) → IfOk r (λ i. Makes a d i (And F (Past G)))
+    → IfOk r (λ i. Makes c d i (And (at (plains c) f) (After (at (plains c) g)))) → IfOk r (λ i. Makes a d i (And F (After G)))
 past-made a c d r f g F G s p q h =
-    made-up a c d r (And (at (plains c) f) (Past (at (plains c) g))) (And F (Past G)) s (and-of (at (plains c) f) (Past (at (plains c) g)) F (Past G) p (ap Past q)) h
+    made-up a c d r (And (at (plains c) f) (After (at (plains c) g))) (And F (After G)) s
+    (and-of (at (plains c) f) (After (at (plains c) g)) F (After G) p (ap After q)) h
 
 -- the number at a place of a list
 pub all-at : (n : ℕ) (is : List ℕ) (i d f : ℕ) → i < length is → f ≡ get_or is i d → all_below n is ≡ true → f < n
@@ -86,23 +90,24 @@ pub all-as : (a b : List Node) (is : List ℕ) (fs gs : List Plain) → fs ≡ g
 all-as a b is fs gs e m = record { within = m.within; are = m.are ∙ e; grows = m.grows }
 
 -- one more part at the body with its number
-pub downs-step : (a b c : List Node) (inside is : List ℕ) (i d f j : ℕ) → i < length inside → f ≡ get_or inside i d → all_below (length a) inside ≡ true
-    → MakesAll a b is (table.downs 0 (parts_at a (take i inside))) → Makes b c j (Down i (at (plains b) f))
-    → MakesAll a c (is ++ j ∷ []) (table.downs 0 (parts_at a (take (i + 1) inside)))
-downs-step a b c inside is i d f j l q h x y =
+pub in_branches-step : (a b c : List Node) (inside is : List ℕ) (i d f j : ℕ) → i < length inside → f ≡ get_or inside i d → all_below (length a) inside ≡ true
+    → MakesAll a b is (table.in_branches 0 (parts_at a (take i inside))) → Makes b c j (InBranch i (at (plains b) f))
+    → MakesAll a c (is ++ j ∷ []) (table.in_branches 0 (parts_at a (take (i + 1) inside)))
+in_branches-step a b c inside is i d f j l q h x y =
     let same = stays a b f x.grows (all-at (length a) inside i d f l q h) in
     let front = parts_at a (take i inside) in
     let n : 0 + length front ≡ i = omega (arith, length-parts-take a inside i l) in
-    let e : table.downs 0 front ++ Down i (at (plains b) f) ∷ [] ≡ table.downs 0 (parts_at a (take (i + 1) inside)) =
-    ap (λ (z : Plain). table.downs 0 front ++ Down i z ∷ []) same
-    ∙ ap (λ (z : ℕ). table.downs 0 front ++ Down z (at (plains a) f) ∷ []) (sym n)
-    ∙ sym (downs-more 0 front (at (plains a) f))
-    ∙ ap (table.downs 0) (sym (parts-more a inside i d f l q)) in
-    all-as a c (is ++ j ∷ []) (table.downs 0 front ++ Down i (at (plains b) f) ∷ []) (table.downs 0 (parts_at a (take (i + 1) inside))) e
-    (one-more a b c is j (table.downs 0 front) (Down i (at (plains b) f)) x y)
+    let e : table.in_branches 0 front ++ InBranch i (at (plains b) f) ∷ [] ≡ table.in_branches 0 (parts_at a (take (i + 1) inside)) =
+    ap (λ (z : Plain). table.in_branches 0 front ++ InBranch i z ∷ []) same
+    ∙ ap (λ (z : ℕ). table.in_branches 0 front ++ InBranch z (at (plains a) f) ∷ []) (sym n)
+    ∙ sym (in_branches-more 0 front (at (plains a) f))
+    ∙ ap (table.in_branches 0) (sym (parts-more a inside i d f l q)) in
+    all-as a c (is ++ j ∷ []) (table.in_branches 0 front ++ InBranch i (at (plains b) f) ∷ []) (table.in_branches 0 (parts_at a (take (i + 1) inside))) e
+    (one-more a b c is j (table.in_branches 0 front) (InBranch i (at (plains b) f)) x y)
 
 -- one more body or branch
-pub each-step : (m : table.Setting) (a b c : List Node) (k l : table.Follow) (w s v : List Var) (bs : List (List Elem)) (x y : List Elem) (is : List ℕ) (i j : ℕ)
+pub each-step : (m : table.Setting) (a b c : List Node) (k l : table.Follow) (w s v : List Var) (bs : List (List Elem))
+    (x y : List Elem) (is : List ℕ) (i j : ℕ)
     → i < length bs → x ≡ get_or bs i x → y ≡ x → v ≡ filter (occurs_body m.reading (body y)) w → l ≡ k
     → MakesAll a b is (table.each m (bodies (take i bs)) k w s)
     → Makes b c j (table.seq m None (body y) l v s s)

@@ -6,12 +6,12 @@ use Rattle.ctl_formula.specs.Plain.{Plain}
 use Rattle.ctl_formula.specs.declared.node.Node.{Node}
 use Rattle.ctl_formula.specs.Tables.{at, Grows}
 use Rattle.ctl_table.specs.Table as table
-use Rattle.ctl_table.specs.declared.follow.Made.{Made}
-use Rattle.ctl_table.specs.declared.follow.Made.TheVariants as made
+use Rattle.ctl_table.specs.declared.follow.Continuation.{Continuation}
+use Rattle.ctl_table.specs.declared.follow.Continuation.TheVariants as made
 use Rattle.ctl_table.specs.Settings.{all_below, parts_at}
 
 -- nothing is the last thing that may follow: if it wasn't, it is appended
-pub record EndsWithNothing (nexts all : List Made) : Type 0 where
+pub record EndsWithNothing (nexts all : List Continuation) : Type 0 where
   pub kept : (all ≡ nexts) ⊎ (all ≡ nexts ++ made.Nothing ∷ [])
   pub last : slice_get all (length all - 1) ≡ Some made.Nothing
 
@@ -33,7 +33,7 @@ first_of_column fs rows ends last j =
 
 -- Column by column, the parts are the formulas that belong to each thing that may follow, and the old parts are
 -- unchanged.
-pub record MakesColumns (old new : List Node) (nexts : List Made) (rows : List (List ℕ)) (fs : Made → List Plain) : Type 0 where
+pub record MakesColumns (old new : List Node) (nexts : List Continuation) (rows : List (List ℕ)) (fs : Continuation → List Plain) : Type 0 where
   pub within : rows_within (length new) (length nexts) rows ≡ true
-  pub are : (j : ℕ) (d : Made) → j < length nexts → parts_at new (column j rows) ≡ fs (slice_index_or nexts j d)
+  pub are : (j : ℕ) (d : Continuation) → j < length nexts → parts_at new (column j rows) ≡ fs (slice_index_or nexts j d)
   pub grows : Grows old new

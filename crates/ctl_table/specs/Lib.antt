@@ -4,7 +4,7 @@ pub mod Blocks
 -- the table from the elements of a body to formulas
 pub mod Table
 -- the last atoms of an element, as made dots know them; the other definitions are internal
-pub mod Beside
+pub mod EndAtoms
 -- what the code works with and what follows a sequence, in the terms of the table; the other definitions are internal
 pub mod Settings
 -- Internal: a sequence, suffix by suffix.

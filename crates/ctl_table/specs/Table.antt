@@ -7,7 +7,7 @@ use Rattle.smpl_terms.specs.Vars.{same_var}
 use Rattle.smpl_patch.specs.declared.pattern.Pattern.{Pattern}
 use Rattle.smpl_patch.specs.Bodies.{Element, Compound, Block, Gap, Nest, AnyOf, AllOf, Body, End, Then, Bodies, NoMore, More}
 use Rattle.smpl_patch.specs.Bodies as bodies
-use Rattle.ctl_formula.specs.Plain.{Plain, True, Atom, Bail, BraceOpen, BraceClose, Inside, Outside, Not, And, Or, AX, EX, AU, EU, Past, Down, Exists}
+use Rattle.ctl_formula.specs.Plain.{Plain, True, Atom, EarlyExit, BraceOpen, BraceClose, Inside, Outside, Not, And, Or, AX, EX, AU, EU, After, InBranch, Exists}
 use Rattle.pattern_vars.specs.VarPlaces.Placing.{Reading, is_dots, any_body, occurs_element, occurs_body, at_suffix, is_alone}
 use Rattle.ctl_table.specs.Blocks.{blocks, index_of}
 
@@ -121,30 +121,30 @@ copy m p s = exists_all (filter (λ x. m.reading.stands p x && not (in_scope s x
 
 -- the last or the first atoms of an element that is beside dots
 abbrev mutual
-  pub near : Setting → Bool → Element → Scope → Option Plain
-  near m last (bodies.Atom p) s = cond (m.reading.is_statement p) None (Some (copy m p s))
-  near m last (Compound h bs t) s = Some (copy m h s)
-  near m last (Block o b c) s = None
-  near m last (Gap ws any strict) s = None
-  near m last (Nest plus b ws any strict) s = None
-  near m last (AnyOf bs) s = or_some (near_each m last bs s)
-  near m last (AllOf bs) s = near_first m last bs s
+  pub ends_of : Setting → Bool → Element → Scope → Option Plain
+  ends_of m last (bodies.Atom p) s = cond (m.reading.is_statement p) None (Some (copy m p s))
+  ends_of m last (Compound h bs t) s = Some (copy m h s)
+  ends_of m last (Block o b c) s = None
+  ends_of m last (Gap ws any strict) s = None
+  ends_of m last (Nest plus b ws any strict) s = None
+  ends_of m last (AnyOf bs) s = or_some (ends_of_each m last bs s)
+  ends_of m last (AllOf bs) s = ends_of_first m last bs s
 
-  pub near_body : Setting → Bool → Body → Scope → Option Plain
-  near_body m last End s = None
-  near_body m last (Then e rest) s = cond (last && not (is_end rest)) (near_body m last rest s) (near m last e s)
+  pub ends_of_body : Setting → Bool → Body → Scope → Option Plain
+  ends_of_body m last End s = None
+  ends_of_body m last (Then e rest) s = cond (last && not (is_end rest)) (ends_of_body m last rest s) (ends_of m last e s)
 
-  pub near_each : Setting → Bool → Bodies → Scope → List Plain
-  near_each m last NoMore s = []
-  near_each m last (More b bs) s = option_list (near_body m last b s) ++ near_each m last bs s
+  pub ends_of_each : Setting → Bool → Bodies → Scope → List Plain
+  ends_of_each m last NoMore s = []
+  ends_of_each m last (More b bs) s = option_list (ends_of_body m last b s) ++ ends_of_each m last bs s
 
-  pub near_first : Setting → Bool → Bodies → Scope → Option Plain
-  near_first m last NoMore s = None
-  near_first m last (More b bs) s = near_body m last b s
+  pub ends_of_first : Setting → Bool → Bodies → Scope → Option Plain
+  ends_of_first m last NoMore s = None
+  ends_of_first m last (More b bs) s = ends_of_body m last b s
 
-abbrev pub near_option : Setting → Bool → Option Element → Scope → Option Plain
-near_option m last None s = None
-near_option m last (Some e) s = near m last e s
+abbrev pub ends_of_option : Setting → Bool → Option Element → Scope → Option Plain
+ends_of_option m last None s = None
+ends_of_option m last (Some e) s = ends_of m last e s
 
 -- at all next nodes, or at some
 abbrev pub next_of : Bool → Plain → Plain
@@ -153,9 +153,9 @@ next_of forall_walks f = if forall_walks then AX f else EX f
 -- after an atom, or a statement variable, and what follows
 abbrev pub joined : Bool → Bool → Plain → Start → Plain → Plain
 joined forall_walks statement f Nothing g = f
-joined forall_walks statement f Dots g = And f (if statement then Past g else next_of forall_walks g)
-joined forall_walks statement f Brace g = And f (Past g)
-joined forall_walks statement f Other g = And f (Past g)
+joined forall_walks statement f Dots g = And f (if statement then After g else next_of forall_walks g)
+joined forall_walks statement f Brace g = And f (After g)
+joined forall_walks statement f Other g = And f (After g)
 
 -- The target of dots. Dots in a block reach what follows them only inside that block; their way may end where it leaves
 -- the block, but only if nothing except the block's end follows them.
@@ -171,12 +171,12 @@ abbrev pub stays : Option Var → List Plain
 stays None = []
 stays (Some b) = Inside b ∷ []
 
-abbrev pub or_bail : Bool → Plain → Plain
-or_bail strict t = if strict then t else Or t Bail
+abbrev pub or_early_exit : Bool → Plain → Plain
+or_early_exit strict t = if strict then t else Or t EarlyExit
 
 -- dots with their condition and their target
 abbrev pub until : Bool → Bool → Plain → Plain → Plain
-until forall_walks strict d t = if forall_walks then And (AU d (or_bail strict t)) (EU d t) else EU d t
+until forall_walks strict d t = if forall_walks then And (AU d (or_early_exit strict t)) (EU d t) else EU d t
 
 -- a nest with the dots' condition, its part and its target
 abbrev pub nested : Bool → Bool → Bool → Plain → Plain → Plain → Plain
@@ -198,12 +198,12 @@ closing m w c v = record { start = Brace; at = λ t. own m w c (BraceClose c v) 
 
 abbrev pub with_tail : Setting → List Var → Option Pattern → Plain → Plain
 with_tail m w None f = f
-with_tail m w (Some p) f = And f (Down 1 (own m w p (Atom p)))
+with_tail m w (Some p) f = And f (InBranch 1 (own m w p (Atom p)))
 
 -- each part at the body with its number
-abbrev pub downs : ℕ → List Plain → List Plain
-downs i [] = []
-downs i (f ∷ fs) = Down i f ∷ downs (suc i) fs
+abbrev pub in_branches : ℕ → List Plain → List Plain
+in_branches i [] = []
+in_branches i (f ∷ fs) = InBranch i f ∷ in_branches (suc i) fs
 
 -- each branch with what follows it and the negations of the branches before it
 abbrev pub choices : List Plain → List Plain → List Plain → List Plain
@@ -231,18 +231,18 @@ abbrev mutual
   elem m before after (bodies.Atom p) k w s t =
       joined m.forall_walks (m.reading.is_statement p) (own m w p (Atom p)) k.start (k.at s)
   elem m before after (Compound h bs tail) k w s t =
-      And (with_tail m w tail (and_all (own m w h (Atom h)) (downs 0 (each m bs nothing w s)))) (Past (k.at s))
+      And (with_tail m w tail (and_all (own m w h (Atom h)) (in_branches 0 (each m bs nothing w s)))) (After (k.at s))
   elem m before after (Block o b c) k w s t =
       let v = hidden m o in
       let inside = seq (within m v) None b (closing m w c v) (filter (occurs_body m.reading b) w) s s in
-      And (Exists v (And (own m w o (BraceOpen o v)) (Down 0 inside))) (Past (k.at s))
+      And (Exists v (And (own m w o (BraceOpen o v)) (InBranch 0 inside))) (After (k.at s))
   elem m before after (Gap ws any strict) k w s t =
       until m.forall_walks strict
-      (condition any (stays m.around ++ when_parts m ws s) (near_option m true before t) (near_option m false after s))
+      (condition any (stays m.around ++ when_parts m ws s) (ends_of_option m true before t) (ends_of_option m false after s))
       (target m.around k.start (k.at s))
   elem m before after (Nest plus b ws any strict) k w s t =
       nested m.forall_walks plus strict
-      (condition any (stays m.around ++ when_parts m ws s) (near_option m true before t) (near_option m false after s))
+      (condition any (stays m.around ++ when_parts m ws s) (ends_of_option m true before t) (ends_of_option m false after s))
       (seq m None b nothing (filter (occurs_body m.reading b) w) s s)
       (target m.around k.start (k.at s))
   elem m before after (AnyOf bs) k w s t = any_of (choices [] (each m bs k w s) (each m bs nothing w s))

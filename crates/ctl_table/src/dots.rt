@@ -11,9 +11,9 @@ ghost use Rattle.ctl_table.specs.Settings.{before_at, before_below};
 ghost use Rattle.ctl_table.specs.Settings.{dots_at as dots_from, passed as passed_by, MakesAll};
 ghost use Rattle.ctl_table.specs.Settings.{IsSame, MakesSome};
 
-use crate::beside::{Neighbours, at_inner, before_dots, deeper_atoms};
-use crate::follow::{Made, MadeDots};
-use crate::near::near_option;
+use crate::end_atoms::{LastAtoms, at_inner, before_dots, deeper_atoms};
+use crate::ends_of::ends_of_option;
+use crate::follow::{Continuation, DotsContinuation};
 use crate::setting::Setting;
 use crate::wrap::{all_of, exists_all, nested, until};
 use c_terms::NoMemory;
@@ -28,7 +28,7 @@ pub fn follow_at(
     alloc: Global,
     parts: &mut Parts,
     m: &Setting,
-    next: &Made,
+    next: &Continuation,
     scope: &Scope,
 ) -> Result<usize, NoMemory>
     requires { made_below (length parts.old) next.now ≡ true }
@@ -36,9 +36,9 @@ pub fn follow_at(
         (next_at (plains parts.old) (setting_at m.now) next.now scope.now)) }
 {
     match next {
-        Made::Nothing => parts.push(Node::True),
-        Made::Part(_, f) => Ok(*f),
-        Made::Dots(d, target, before) => {
+        Continuation::Nothing => parts.push(Node::True),
+        Continuation::Part(_, f) => Ok(*f),
+        Continuation::Dots(d, target, before) => {
             dots_at(
                 alloc,
                 parts,
@@ -57,8 +57,8 @@ fn dots_at(
     alloc: Global,
     parts: &mut Parts,
     forall_walks: bool,
-    before: &Option<Shared<Neighbours>>,
-    d: &MadeDots,
+    before: &Option<Shared<LastAtoms>>,
+    d: &DotsContinuation,
     target: usize,
     scope: &Scope,
 ) -> Result<usize, NoMemory>
@@ -79,8 +79,8 @@ fn dots_at(
 fn condition(
     alloc: Global,
     parts: &mut Parts,
-    before: &Option<Shared<Neighbours>>,
-    d: &MadeDots,
+    before: &Option<Shared<LastAtoms>>,
+    d: &DotsContinuation,
     scope: &Scope,
 ) -> Result<usize, NoMemory>
     requires before { before_below (length parts.old) before.now ≡ true }
@@ -91,16 +91,16 @@ fn condition(
         (some_at (plains parts.old) d.now.after))) }
 {
     let mut found = copied_numbers(alloc, d.firsts.as_slice())?;
-    push_neighbours(alloc, parts, before, d, scope, &mut found)?;
+    push_last_atoms(alloc, parts, before, d, scope, &mut found)?;
     all_of(parts, found.as_slice())
 }
 
 /// Appends further parts: `not` the element before the dots and `not` the one after them, unless there is a `when any`.
-fn push_neighbours(
+fn push_last_atoms(
     alloc: Global,
     parts: &mut Parts,
-    before: &Option<Shared<Neighbours>>,
-    d: &MadeDots,
+    before: &Option<Shared<LastAtoms>>,
+    d: &DotsContinuation,
     scope: &Scope,
     found: &mut Vec<usize>,
 ) -> Result<(), NoMemory>
@@ -116,8 +116,8 @@ fn push_neighbours(
     if d.any {
         return Ok(());
     }
-    let near = before_dots(alloc, parts, before, scope)?;
-    push_not(parts, near, found)?;
+    let ends_of = before_dots(alloc, parts, before, scope)?;
+    push_not(parts, ends_of, found)?;
     push_not(parts, d.after, found)
 }
 
@@ -182,7 +182,7 @@ fn push_numbers(more: &[usize], numbers: &mut Vec<usize>) -> Result<(), NoMemory
 fn passed(
     parts: &mut Parts,
     forall_walks: bool,
-    d: &MadeDots,
+    d: &DotsContinuation,
     through: usize,
     target: usize,
 ) -> Result<usize, NoMemory>
@@ -217,15 +217,15 @@ pub fn after_dots(
     scope: &Scope,
 ) -> Result<Option<usize>, NoMemory>
     ensures made { IfOk result (λ found. MakesSome parts.old parts.new found
-        (if any then None else table.near_option (setting_at m.now) false (element_or_none
+        (if any then None else table.ends_of_option (setting_at m.now) false (element_or_none
         (option_copied after.entry)) scope.now)) }
 {
     if any {
         return Ok(None);
     }
-    match near_option(alloc, parts, m, false, after, scope)? {
+    match ends_of_option(alloc, parts, m, false, after, scope)? {
         None => Ok(None),
-        Some(beside) => at_inner(alloc, parts, &beside, &VarSet::new(alloc)),
+        Some(end_atoms) => at_inner(alloc, parts, &end_atoms, &VarSet::new(alloc)),
     }
 }
 
@@ -234,20 +234,20 @@ pub fn deeper(
     alloc: Global,
     parts: &mut Parts,
     m: &Setting,
-    next: &Made,
+    next: &Continuation,
     scope: &Scope,
-) -> Result<Made, NoMemory>
+) -> Result<Continuation, NoMemory>
     requires { made_below (length parts.old) next.now ≡ true }
     ensures made { IfOk result (λ found. IsSame (setting_at m.now) scope.now parts.old parts.new next.now found) }
 {
     match next {
-        Made::Nothing => Ok(Made::Nothing),
-        Made::Part(start, f) => Ok(Made::Part(*start, *f)),
-        Made::Dots(d, target, before) => match before {
+        Continuation::Nothing => Ok(Continuation::Nothing),
+        Continuation::Part(start, f) => Ok(Continuation::Part(*start, *f)),
+        Continuation::Dots(d, target, before) => match before {
             None => next.share(),
             Some(known) => {
                 let known = deeper_atoms(alloc, parts, known, scope)?;
-                Ok(Made::Dots(d.share()?, *target, Some(known)))
+                Ok(Continuation::Dots(d.share()?, *target, Some(known)))
             }
         },
     }

@@ -13,11 +13,11 @@ ghost use Rattle.ctl_table.specs.Settings.{nest_below, dots_below, all_made_belo
 ghost use Rattle.ctl_table.specs.Settings.{dots_before, MakesAll, MakesBehind, MakesFollows, MakesLast, MakesSame};
 ghost use Rattle.ctl_table.specs.Columns.{column as column_of, rows_within, first_of_column};
 
-use crate::beside::{Neighbours, neighbours_of};
 use crate::dots::{after_dots, deeper, follow_at, staying};
 use crate::element::{dots, joined_next, part, past_next};
-use crate::follow::{Made, MadeDots, NestPart, all_behind, some_look_back};
-use crate::near::near_option;
+use crate::end_atoms::{LastAtoms, last_atoms_of};
+use crate::ends_of::ends_of_option;
+use crate::follow::{Continuation, DotsContinuation, NestPart, all_behind, some_look_back};
 use crate::own::own_atom;
 use crate::setting::Setting;
 use crate::wrap::{and_all, first_branch};
@@ -34,7 +34,7 @@ pub fn follows_at(
     alloc: Global,
     parts: &mut Parts,
     m: &Setting,
-    nexts: &[Made],
+    nexts: &[Continuation],
     scope: &Scope,
 ) -> Result<Vec<usize>, NoMemory>
     requires { all_made_below (length parts.old) nexts.now ≡ true }
@@ -55,7 +55,7 @@ pub fn atoms(
     parts: &mut Parts,
     m: &Setting,
     p: &Pattern,
-    nexts: &[Made],
+    nexts: &[Continuation],
     vars: &[Var],
     scope: &Scope,
 ) -> Result<Vec<usize>, NoMemory>
@@ -77,7 +77,7 @@ fn joined_each(
     m: &Setting,
     statement: bool,
     f: usize,
-    nexts: &[Made],
+    nexts: &[Continuation],
     scope: &Scope,
 ) -> Result<Vec<usize>, NoMemory>
     requires f { f < length parts.old }
@@ -96,19 +96,19 @@ fn joined_each(
 }
 
 /// Returns the parts for a statement, whose own part is given, before each thing that may follow it.
-pub fn past_each(
+pub fn after_each(
     alloc: Global,
     parts: &mut Parts,
     m: &Setting,
     f: usize,
-    nexts: &[Made],
+    nexts: &[Continuation],
     scope: &Scope,
 ) -> Result<Vec<usize>, NoMemory>
     requires f { f < length parts.old }
     requires nexts { all_made_below (length parts.old) nexts.now ≡ true }
     ensures made { IfOk result (λ is. MakesAll parts.old parts.new is.items
         (map (λ next. plain.And (at (plains parts.old) f)
-        (plain.Past ((follow parts.old m.now next).at scope.now)))
+        (plain.After ((follow parts.old m.now next).at scope.now)))
         nexts.now)) }
 {
     let mut made = Vec::new(alloc);
@@ -146,7 +146,7 @@ pub fn part_each(
     m: &Setting,
     place: &Place,
     fs: &[usize],
-) -> Result<Vec<Made>, NoMemory>
+) -> Result<Vec<Continuation>, NoMemory>
     requires { all_below (length parts.old) fs.now ≡ true }
     ensures made { IfOk result (λ made. MakesFollows (setting_at m.now) parts.old parts.new fs.now made.items
         (λ f. table.Other)
@@ -170,9 +170,9 @@ pub fn dots_each(
     d: &Dots,
     whens: Vec<usize>,
     nest: Option<NestPart>,
-    nexts: &[Made],
+    nexts: &[Continuation],
     place: &Place,
-) -> Result<Vec<Made>, NoMemory>
+) -> Result<Vec<Continuation>, NoMemory>
     requires whens { all_below (length parts.old) whens.items ≡ true }
     requires nest { nest_below (length parts.old) nest ≡ true }
     requires nexts { all_made_below (length parts.old) nexts.now ≡ true }
@@ -188,7 +188,7 @@ pub fn dots_each(
     let firsts = staying(alloc, parts, m.around, whens.as_slice())?;
     let after = after_dots(alloc, parts, m, d.any, after, scope)?;
     let here = copied_vars(alloc, place.here.as_slice())?;
-    let made = MadeDots {
+    let made = DotsContinuation {
         firsts,
         any: d.any,
         strict: d.strict,
@@ -205,10 +205,10 @@ fn each_dots(
     alloc: Global,
     parts: &mut Parts,
     m: &Setting,
-    d: &Shared<MadeDots>,
-    nexts: &[Made],
+    d: &Shared<DotsContinuation>,
+    nexts: &[Continuation],
     scope: &Scope,
-) -> Result<Vec<Made>, NoMemory>
+) -> Result<Vec<Continuation>, NoMemory>
     requires d { dots_below (length parts.old) d.now ≡ true }
     requires nexts { all_made_below (length parts.old) nexts.now ≡ true }
     ensures made { IfOk result (λ made. MakesFollows (setting_at m.now) parts.old parts.new nexts.now made.items
@@ -229,19 +229,19 @@ fn last_atoms(
     parts: &mut Parts,
     m: &Setting,
     e: &Elem,
-    nexts: &[Made],
+    nexts: &[Continuation],
     scope: &Scope,
-) -> Result<Option<Shared<Neighbours>>, NoMemory>
+) -> Result<Option<Shared<LastAtoms>>, NoMemory>
     ensures made { IfOk result (λ found. MakesLast (setting_at m.now) (element e.now) scope.now
         parts.old parts.new nexts.now found) }
 {
     if !some_look_back(nexts) {
         return Ok(None);
     }
-    match near_option(alloc, parts, m, true, Some(e), scope)? {
+    match ends_of_option(alloc, parts, m, true, Some(e), scope)? {
         None => Ok(None),
         Some(atoms) => {
-            let found = neighbours_of(alloc, parts, atoms, scope)?;
+            let found = last_atoms_of(alloc, parts, atoms, scope)?;
             Ok(Some(Shared::of(alloc, found)?))
         }
     }
@@ -254,9 +254,9 @@ pub fn behind_each(
     parts: &mut Parts,
     m: &Setting,
     e: &Elem,
-    nexts: &[Made],
+    nexts: &[Continuation],
     scope: &Scope,
-) -> Result<Vec<Made>, NoMemory>
+) -> Result<Vec<Continuation>, NoMemory>
     requires { all_made_below (length parts.old) nexts.now ≡ true }
     ensures made { IfOk result (λ found. MakesBehind (setting_at m.now) (element e.now) scope.now
         parts.old parts.new nexts.now found.items) }
@@ -271,9 +271,9 @@ pub fn deeper_each(
     alloc: Global,
     parts: &mut Parts,
     m: &Setting,
-    nexts: &[Made],
+    nexts: &[Continuation],
     scope: &Scope,
-) -> Result<Vec<Made>, NoMemory>
+) -> Result<Vec<Continuation>, NoMemory>
     requires { all_made_below (length parts.old) nexts.now ≡ true }
     ensures made { IfOk result (λ found. MakesSame (setting_at m.now) scope.now parts.old parts.new nexts.now found.items) }
 {
@@ -286,7 +286,11 @@ pub fn deeper_each(
 }
 
 /// Returns the parts for a disjunction without branches, before each thing that may follow it.
-pub fn no_branches(alloc: Global, parts: &mut Parts, nexts: &[Made]) -> Result<Vec<usize>, NoMemory>
+pub fn no_branches(
+    alloc: Global,
+    parts: &mut Parts,
+    nexts: &[Continuation],
+) -> Result<Vec<usize>, NoMemory>
     ensures made { IfOk result (λ is. MakesAll parts.old parts.new is.items
         (map (λ next. table.any_of []) nexts.now)) }
 {

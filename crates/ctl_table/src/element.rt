@@ -7,10 +7,10 @@ ghost use Rattle.ctl_table.specs.Settings.{setting_at, all_below, parts_at, dots
 ghost use Rattle.ctl_table.specs.Settings.{dots_before, MakesFollow};
 
 use crate::dots::follow_at;
-use crate::follow::{Made, MadeDots, Start, start_of};
+use crate::follow::{Continuation, DotsContinuation, Start, start_of};
 use crate::own::{own_atom, own_open};
 use crate::setting::Setting;
-use crate::wrap::{and_all, and_past, downs, exists_all, joined, target};
+use crate::wrap::{and_after, and_all, exists_all, in_branches, joined, target};
 use c_terms::NoMemory;
 use ctl_formula::{Node, Parts};
 use pattern_vars::{Place, Scope};
@@ -25,13 +25,13 @@ pub fn part(
     m: &Setting,
     place: &Place,
     f: usize,
-) -> Result<Made, NoMemory>
+) -> Result<Continuation, NoMemory>
     requires { f < length parts.old }
     ensures made { IfOk result (λ made. MakesFollow (setting_at m.now) parts.old parts.new made
         table.Other (λ b t. table.exists_all place.now.here (at (plains parts.old) f))) }
 {
     let f = exists_all(alloc, parts, place.here.as_slice(), f)?;
-    Ok(Made::Part(Start::Other, f))
+    Ok(Continuation::Part(Start::Other, f))
 }
 
 /// Returns the part for an atom and what follows it.
@@ -41,7 +41,7 @@ pub fn joined_next(
     m: &Setting,
     statement: bool,
     f: usize,
-    next: &Made,
+    next: &Continuation,
     scope: &Scope,
 ) -> Result<usize, NoMemory>
     requires f { f < length parts.old }
@@ -52,7 +52,7 @@ pub fn joined_next(
         k.start (k.at scope.now))) }
 {
     match next {
-        Made::Nothing => Ok(f),
+        Continuation::Nothing => Ok(f),
         _ => {
             let g = follow_at(alloc, parts, m, next, scope)?;
             joined(parts, m.forall_walks, statement, f, start_of(next), g)
@@ -66,17 +66,17 @@ pub fn past_next(
     parts: &mut Parts,
     m: &Setting,
     f: usize,
-    next: &Made,
+    next: &Continuation,
     scope: &Scope,
 ) -> Result<usize, NoMemory>
     requires f { f < length parts.old }
     requires next { made_below (length parts.old) next.now ≡ true }
     ensures made { let k = follow parts.old m.now next.now in
         IfOk result (λ i. Makes parts.old parts.new i
-        (plain.And (at (plains parts.old) f) (plain.Past (k.at scope.now)))) }
+        (plain.And (at (plains parts.old) f) (plain.After (k.at scope.now)))) }
 {
     let g = follow_at(alloc, parts, m, next, scope)?;
-    and_past(parts, f, g)
+    and_after(parts, f, g)
 }
 
 /// Returns the part for a head with its bodies and its tail.
@@ -93,11 +93,11 @@ pub fn headed(
     ensures made { IfOk result (λ i. Makes parts.old parts.new i
         (table.with_tail (setting_at m.now) vars.now tail.now
         (table.and_all (table.own (setting_at m.now) vars.now h.now (plain.Atom h.now))
-        (table.downs 0 (parts_at parts.old inside.now))))) }
+        (table.in_branches 0 (parts_at parts.old inside.now))))) }
 {
-    let downs = downs(alloc, parts, inside)?;
+    let in_branches = in_branches(alloc, parts, inside)?;
     let head = own_atom(alloc, parts, m, vars, h)?;
-    let f = and_all(parts, head, downs.as_slice())?;
+    let f = and_all(parts, head, in_branches.as_slice())?;
     with_tail(alloc, parts, m, vars, tail, f)
 }
 
@@ -117,7 +117,7 @@ fn with_tail(
         None => Ok(f),
         Some(p) => {
             let own = own_atom(alloc, parts, m, vars, p)?;
-            let down = parts.push(Node::Down(1, own))?;
+            let down = parts.push(Node::InBranch(1, own))?;
             parts.push(Node::And(f, down))
         }
     }
@@ -137,10 +137,10 @@ pub fn braced(
     ensures made { IfOk result (λ i. Makes parts.old parts.new i
         (plain.Exists v
         (plain.And (table.own (setting_at m.now) vars.now o.now (plain.BraceOpen o.now v))
-        (plain.Down 0 (at (plains parts.old) inside))))) }
+        (plain.InBranch 0 (at (plains parts.old) inside))))) }
 {
     let open = own_open(alloc, parts, m, vars, o, &v)?;
-    let down = parts.push(Node::Down(0, inside))?;
+    let down = parts.push(Node::InBranch(0, inside))?;
     let both = parts.push(Node::And(open, down))?;
     parts.push(Node::Exists(v, both))
 }
@@ -150,10 +150,10 @@ pub fn dots(
     alloc: Global,
     parts: &mut Parts,
     m: &Setting,
-    d: &Shared<MadeDots>,
-    next: &Made,
+    d: &Shared<DotsContinuation>,
+    next: &Continuation,
     scope: &Scope,
-) -> Result<Made, NoMemory>
+) -> Result<Continuation, NoMemory>
     requires d { dots_below (length parts.old) d.now ≡ true }
     requires next { made_below (length parts.old) next.now ≡ true }
     ensures made { IfOk result (λ made. MakesFollow (setting_at m.now) parts.old parts.new made
@@ -162,7 +162,7 @@ pub fn dots(
 {
     let g = follow_at(alloc, parts, m, next, scope)?;
     let target = target(alloc, parts, m.around, start_of(next), g)?;
-    Ok(Made::Dots(d.share()?, target, None))
+    Ok(Continuation::Dots(d.share()?, target, None))
 }
 
 /// Returns `not` a piece of `when` code, under the variables quantified around it.

@@ -4,7 +4,7 @@ ghost use Rattle.std.specs.List.{list_any};
 ghost use Rattle.ctl_table.specs.Settings.{start_at, made_start, behind, looks_back};
 ghost use Rattle.ctl_table.specs.Columns.{EndsWithNothing};
 
-use crate::beside::Neighbours;
+use crate::end_atoms::LastAtoms;
 use c_terms::NoMemory;
 use smpl_terms::{Shared, Var};
 use sqlite_items::Items;
@@ -28,7 +28,7 @@ pub struct NestPart {
 
 /// Dots whose parts are made, except for their target and the part of their condition about the element before them.
 #[derive(Drop)]
-pub struct MadeDots {
+pub struct DotsContinuation {
     /// The parts saying that the dots stay in the block around them, if there is one, followed by `not` each piece of
     /// `when` code.
     pub firsts: Vec<usize>,
@@ -43,16 +43,16 @@ pub struct MadeDots {
 
 /// What follows. Made dots are allocated once and shared by copies.
 #[derive(Drop)]
-pub enum Made {
+pub enum Continuation {
     Nothing,
     Part(Start, usize),
     /// Dots that lead to a part, after an element with these last atoms. None are known if no element precedes the
     /// dots, if it has no such atoms, or if these don't count.
-    Dots(Shared<MadeDots>, usize, Option<Shared<Neighbours>>),
+    Dots(Shared<DotsContinuation>, usize, Option<Shared<LastAtoms>>),
 }
 
 /// Returns the same atoms, shared.
-fn share_before(before: &Option<Shared<Neighbours>>) -> Result<Option<Shared<Neighbours>>, NoMemory>
+fn share_before(before: &Option<Shared<LastAtoms>>) -> Result<Option<Shared<LastAtoms>>, NoMemory>
     ensures { IfOk result (λ r. r ≡ before.now) }
 {
     match before {
@@ -61,57 +61,57 @@ fn share_before(before: &Option<Shared<Neighbours>>) -> Result<Option<Shared<Nei
     }
 }
 
-impl Made {
+impl Continuation {
     /// Returns the same value. Allocates nothing.
-    pub fn share(&self) -> Result<Made, NoMemory>
+    pub fn share(&self) -> Result<Continuation, NoMemory>
         ensures same { IfOk result (λ r. r ≡ self.now) }
     {
         match self {
-            Made::Nothing => Ok(Made::Nothing),
-            Made::Part(start, f) => Ok(Made::Part(*start, *f)),
-            Made::Dots(d, target, before) => {
-                Ok(Made::Dots(d.share()?, *target, share_before(before)?))
+            Continuation::Nothing => Ok(Continuation::Nothing),
+            Continuation::Part(start, f) => Ok(Continuation::Part(*start, *f)),
+            Continuation::Dots(d, target, before) => {
+                Ok(Continuation::Dots(d.share()?, *target, share_before(before)?))
             }
         }
     }
 
     /// Returns the same value, after an element with these last atoms. Allocates nothing.
-    fn behind(&self, before: &Option<Shared<Neighbours>>) -> Result<Made, NoMemory>
+    fn behind(&self, before: &Option<Shared<LastAtoms>>) -> Result<Continuation, NoMemory>
         ensures { IfOk result (λ r. r ≡ behind before.now self.now) }
     {
         match self {
-            Made::Nothing => Ok(Made::Nothing),
-            Made::Part(start, f) => Ok(Made::Part(*start, *f)),
-            Made::Dots(d, target, _) => {
-                Ok(Made::Dots(d.share()?, *target, share_before(before)?))
+            Continuation::Nothing => Ok(Continuation::Nothing),
+            Continuation::Part(start, f) => Ok(Continuation::Part(*start, *f)),
+            Continuation::Dots(d, target, _) => {
+                Ok(Continuation::Dots(d.share()?, *target, share_before(before)?))
             }
         }
     }
 }
 
-pub fn start_of(made: &Made) -> Start
+pub fn start_of(made: &Continuation) -> Start
     ensures { start_at result ≡ made_start made.now }
 {
     match made {
-        Made::Nothing => Start::Nothing,
-        Made::Part(start, _) => *start,
-        Made::Dots(_, _, _) => Start::Dots,
+        Continuation::Nothing => Start::Nothing,
+        Continuation::Part(start, _) => *start,
+        Continuation::Dots(_, _, _) => Start::Dots,
     }
 }
 
 /// Returns what may follow, with nothing as the last; if it wasn't the last, it is appended.
-pub fn with_nothing(alloc: Global, nexts: &[Made]) -> Result<Vec<Made>, NoMemory>
+pub fn with_nothing(alloc: Global, nexts: &[Continuation]) -> Result<Vec<Continuation>, NoMemory>
     ensures { IfOk result (λ all. EndsWithNothing nexts.now all.items) }
 {
     let mut all = shared(alloc, nexts)?;
     if ends_with_nothing(nexts) {
         return Ok(all);
     }
-    all.push(Made::Nothing)?;
+    all.push(Continuation::Nothing)?;
     Ok(all)
 }
 
-fn shared(alloc: Global, nexts: &[Made]) -> Result<Vec<Made>, NoMemory>
+fn shared(alloc: Global, nexts: &[Continuation]) -> Result<Vec<Continuation>, NoMemory>
     ensures { IfOk result (λ all. all.items ≡ nexts.now) }
 {
     let mut all = Vec::new(alloc);
@@ -122,11 +122,11 @@ fn shared(alloc: Global, nexts: &[Made]) -> Result<Vec<Made>, NoMemory>
     Ok(all)
 }
 
-fn ends_with_nothing(nexts: &[Made]) -> bool
-    ensures { result ≡ true → slice_get nexts.now (length nexts.now - 1) ≡ Some Made.Nothing }
+fn ends_with_nothing(nexts: &[Continuation]) -> bool
+    ensures { result ≡ true → slice_get nexts.now (length nexts.now - 1) ≡ Some Continuation.Nothing }
 {
     match nexts {
-        [.., Made::Nothing] => true,
+        [.., Continuation::Nothing] => true,
         _ => false,
     }
 }
@@ -134,9 +134,9 @@ fn ends_with_nothing(nexts: &[Made]) -> bool
 /// Returns all of these, after an element with these last atoms. Allocates only the list.
 pub fn all_behind(
     alloc: Global,
-    before: &Option<Shared<Neighbours>>,
-    nexts: &[Made],
-) -> Result<Vec<Made>, NoMemory>
+    before: &Option<Shared<LastAtoms>>,
+    nexts: &[Continuation],
+) -> Result<Vec<Continuation>, NoMemory>
     ensures { IfOk result (λ all. all.items ≡ map (behind before.now) nexts.now) }
 {
     let mut all = Vec::new(alloc);
@@ -148,18 +148,18 @@ pub fn all_behind(
 }
 
 /// Whether these are dots that may not pass the element before them.
-fn looks_back(made: &Made) -> bool
+fn looks_back(made: &Continuation) -> bool
     ensures { result ≡ looks_back made.now }
 {
     match made {
-        Made::Nothing => false,
-        Made::Part(_, _) => false,
-        Made::Dots(d, _, _) => !d.get().any,
+        Continuation::Nothing => false,
+        Continuation::Part(_, _) => false,
+        Continuation::Dots(d, _, _) => !d.get().any,
     }
 }
 
 /// Whether some of these are dots that may not pass the element before them.
-pub fn some_look_back(nexts: &[Made]) -> bool
+pub fn some_look_back(nexts: &[Continuation]) -> bool
     ensures { result ≡ list_any looks_back nexts.now }
 {
     nexts.iter().any(|next| looks_back(next))

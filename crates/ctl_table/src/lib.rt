@@ -1,7 +1,7 @@
 //! The table from the elements of a body to formulas.
 //!
 //! - [`sequence`] returns the part for a sequence, under the variables quantified inside it and around it.
-//! - [`Setting`] holds the other inputs of the table; its `within` returns that of a block. [`Made`] is what follows a
+//! - [`Setting`] holds the other inputs of the table; its `within` returns that of a block. [`Continuation`] is what follows a
 //!   sequence.
 //! - [`blocks`] returns the [`Blocks`] of a body, by which their hidden variables are named.
 //!
@@ -15,23 +15,23 @@
 //! Limits, and variables that may stay unbound, are up to ctl_translate.
 #![tactic(auto)]
 
-mod beside;
 mod braces;
 mod dots;
 mod each;
 mod element;
+mod end_atoms;
+mod ends_of;
 mod follow;
-mod loose;
-mod near;
 mod numbers;
 mod own;
 mod rows;
 mod setting;
+mod unquantified;
 mod wrap;
 
-pub use beside::{Beside, Neighbours};
 pub use braces::blocks;
-pub use follow::{Made, MadeDots, NestPart, Start};
+pub use end_atoms::{EndAtoms, LastAtoms};
+pub use follow::{Continuation, DotsContinuation, NestPart, Start};
 pub use numbers::Blocks;
 pub use rows::sequence;
 pub use setting::Setting;

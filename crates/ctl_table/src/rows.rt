@@ -17,14 +17,14 @@ ghost use Rattle.ctl_table.specs.Columns.{MakesColumns};
 ghost use Rattle.ctl_table.specs.Suffixes.{begins, along};
 
 use crate::each::{
-    and_each, atoms, behind_each, deeper_each, dots_each, first_branches, follows_at, no_branches,
-    part_each, past_each,
+    after_each, and_each, atoms, behind_each, deeper_each, dots_each, first_branches, follows_at,
+    no_branches, part_each,
 };
 use crate::element::{braced, headed, not_piece};
-use crate::follow::{Made, NestPart, Start, with_nothing};
-use crate::loose::{in_order, lone};
+use crate::follow::{Continuation, NestPart, Start, with_nothing};
 use crate::own::{hidden, own_close};
 use crate::setting::Setting;
+use crate::unquantified::{in_order, lone};
 use c_terms::NoMemory;
 use ctl_formula::Parts;
 use pattern_vars::{Place, Scope, extended, in_body, places_of};
@@ -42,7 +42,7 @@ pub fn sequence(
     parts: &mut Parts,
     m: &Setting,
     b: &[Elem],
-    next: &Made,
+    next: &Continuation,
     vars: &[Var],
     scope: &Scope,
 ) -> Result<usize, NoMemory>
@@ -64,7 +64,7 @@ fn sequences(
     parts: &mut Parts,
     m: &Setting,
     b: &[Elem],
-    nexts: &[Made],
+    nexts: &[Continuation],
     vars: &[Var],
     scope: &Scope,
 ) -> Result<Vec<usize>, NoMemory>
@@ -89,9 +89,9 @@ fn suffixes(
     parts: &mut Parts,
     m: &Setting,
     b: &[Elem],
-    nexts: &[Made],
+    nexts: &[Continuation],
     places: &[Place],
-) -> Result<Vec<Made>, NoMemory>
+) -> Result<Vec<Continuation>, NoMemory>
     requires nexts { all_made_below (length parts.old) nexts.now ≡ true }
     requires some { 1 ≤ length b.now }
     requires places { length places.now ≡ length b.now }
@@ -123,9 +123,9 @@ fn suffix(
     m: &Setting,
     after: Option<&Elem>,
     e: &Elem,
-    nexts: &[Made],
+    nexts: &[Continuation],
     place: &Place,
-) -> Result<Vec<Made>, NoMemory>
+) -> Result<Vec<Continuation>, NoMemory>
     requires { all_made_below (length parts.old) nexts.now ≡ true }
     ensures made { IfOk result (λ made.
         MakesFollows (setting_at m.now) parts.old parts.new nexts.now made.items
@@ -143,12 +143,12 @@ fn suffix(
         Elem::Compound(h, bodies, tail) => {
             let bodies = bodies.as_slice();
             let f = compound(alloc, parts, m, h, bodies, tail, vars, scope)?;
-            let fs = past_each(alloc, parts, m, f, nexts, scope)?;
+            let fs = after_each(alloc, parts, m, f, nexts, scope)?;
             part_each(alloc, parts, m, place, fs.as_slice())
         }
         Elem::Block(o, b, c) => {
             let f = block(alloc, parts, m, o, b.as_slice(), c, vars, scope)?;
-            let fs = past_each(alloc, parts, m, f, nexts, scope)?;
+            let fs = after_each(alloc, parts, m, f, nexts, scope)?;
             part_each(alloc, parts, m, place, fs.as_slice())
         }
         Elem::Gap(d) => {
@@ -212,7 +212,7 @@ fn block(
 {
     let v = hidden(alloc, m, o)?;
     let close = own_close(alloc, parts, m, vars, c, &v)?;
-    let brace = Made::Part(Start::Brace, close);
+    let brace = Continuation::Part(Start::Brace, close);
     let own = in_body(alloc, &m.reader, b, vars)?;
     let inner = m.within(&v);
     let inside = sequence(alloc, parts, &inner, b, &brace, own.as_slice(), scope)?;
@@ -235,7 +235,7 @@ fn nest(
 {
     let own = in_body(alloc, &m.reader, b, vars)?;
     let own = own.as_slice();
-    sequence(alloc, parts, m, b, &Made::Nothing, own, scope)
+    sequence(alloc, parts, m, b, &Continuation::Nothing, own, scope)
 }
 
 /// Returns `not` each piece of `when` code.
@@ -272,7 +272,7 @@ fn when_part(
     let alone = lone(alloc, m, w)?;
     let alone = alone.as_slice();
     let around = extended(alloc, scope, alone)?;
-    let f = sequence(alloc, parts, m, w, &Made::Nothing, &[], &around)?;
+    let f = sequence(alloc, parts, m, w, &Continuation::Nothing, &[], &around)?;
     not_piece(alloc, parts, alone, f)
 }
 
@@ -285,7 +285,7 @@ fn choice(
     parts: &mut Parts,
     m: &Setting,
     bs: &[Items<Elem>],
-    nexts: &[Made],
+    nexts: &[Continuation],
     vars: &[Var],
     scope: &Scope,
 ) -> Result<Vec<usize>, NoMemory>
@@ -316,7 +316,7 @@ fn one_branch(
     parts: &mut Parts,
     m: &Setting,
     b: &[Elem],
-    nexts: &[Made],
+    nexts: &[Continuation],
     vars: &[Var],
     scope: &Scope,
 ) -> Result<Vec<usize>, NoMemory>
@@ -339,7 +339,7 @@ fn branches(
     parts: &mut Parts,
     m: &Setting,
     bs: &[Items<Elem>],
-    nexts: &[Made],
+    nexts: &[Continuation],
     vars: &[Var],
     scope: &Scope,
 ) -> Result<Vec<Items<usize>>, NoMemory>
@@ -367,7 +367,7 @@ fn every(
     parts: &mut Parts,
     m: &Setting,
     bs: &[Items<Elem>],
-    nexts: &[Made],
+    nexts: &[Continuation],
     vars: &[Var],
     scope: &Scope,
 ) -> Result<Vec<usize>, NoMemory>
@@ -407,7 +407,7 @@ fn each(
         let body = b.as_slice();
         let own = ordered.in_body(alloc, &m.reader, body)?;
         let own = own.as_slice();
-        let row = sequence(alloc, parts, m, body, &Made::Nothing, own, scope)?;
+        let row = sequence(alloc, parts, m, body, &Continuation::Nothing, own, scope)?;
         made.push(row)?;
     }
     Ok(made)

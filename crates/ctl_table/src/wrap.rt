@@ -116,20 +116,20 @@ pub fn until(
     if !forall_walks {
         return Ok(some);
     }
-    let to = or_bail(parts, strict, t)?;
+    let to = or_early_exit(parts, strict, t)?;
     let all = parts.push(Node::AU(d, to))?;
     parts.push(Node::And(all, some))
 }
 
-fn or_bail(parts: &mut Parts, strict: bool, t: usize) -> Result<usize, NoMemory>
+fn or_early_exit(parts: &mut Parts, strict: bool, t: usize) -> Result<usize, NoMemory>
     requires { t < length parts.old }
     ensures made { IfOk result (λ i. Makes parts.old parts.new i
-        (table.or_bail strict (at (plains parts.old) t))) }
+        (table.or_early_exit strict (at (plains parts.old) t))) }
 {
     if strict {
         return Ok(t);
     }
-    let bail = parts.push(Node::Bail)?;
+    let bail = parts.push(Node::EarlyExit)?;
     parts.push(Node::Or(t, bail))
 }
 
@@ -224,13 +224,13 @@ fn and_inside(alloc: Global, parts: &mut Parts, b: &Var, f: usize) -> Result<usi
 }
 
 /// Returns the conjunction of a part and another at the node past its statement.
-pub fn and_past(parts: &mut Parts, f: usize, g: usize) -> Result<usize, NoMemory>
+pub fn and_after(parts: &mut Parts, f: usize, g: usize) -> Result<usize, NoMemory>
     requires f { f < length parts.old }
     requires g { g < length parts.old }
     ensures made { IfOk result (λ i. Makes parts.old parts.new i
-        (plain.And (at (plains parts.old) f) (plain.Past (at (plains parts.old) g)))) }
+        (plain.And (at (plains parts.old) f) (plain.After (at (plains parts.old) g)))) }
 {
-    let past = parts.push(Node::Past(g))?;
+    let past = parts.push(Node::After(g))?;
     parts.push(Node::And(f, past))
 }
 
@@ -264,12 +264,12 @@ pub fn joined(
         Start::Nothing => Ok(f),
         Start::Dots => {
             if statement {
-                return and_past(parts, f, g);
+                return and_after(parts, f, g);
             }
             and_next(parts, forall_walks, f, g)
         }
-        Start::Brace => and_past(parts, f, g),
-        Start::Other => and_past(parts, f, g),
+        Start::Brace => and_after(parts, f, g),
+        Start::Other => and_after(parts, f, g),
     }
 }
 
@@ -286,14 +286,18 @@ pub fn or_some(parts: &mut Parts, fs: &[usize]) -> Result<Option<usize>, NoMemor
 }
 
 /// Returns each part at the body with its number.
-pub fn downs(alloc: Global, parts: &mut Parts, inside: &[usize]) -> Result<Vec<usize>, NoMemory>
+pub fn in_branches(
+    alloc: Global,
+    parts: &mut Parts,
+    inside: &[usize],
+) -> Result<Vec<usize>, NoMemory>
     requires { all_below (length parts.old) inside.now ≡ true }
-    ensures made { IfOk result (λ made. MakesAll parts.old parts.new made.items (table.downs 0
+    ensures made { IfOk result (λ made. MakesAll parts.old parts.new made.items (table.in_branches 0
         (parts_at parts.old inside.now))) }
 {
     let mut made = Vec::new(alloc);
     for (i, f) in inside.iter().enumerate() {
-        let down = parts.push(Node::Down(i, *f))?;
+        let down = parts.push(Node::InBranch(i, *f))?;
         made.push(down)?;
     }
     Ok(made)

@@ -1,5 +1,6 @@
 -- The formula of a body has at least as many levels as its elements alone imply.
-use Rattle.std.proofs.Common.{◌≡◌, ℕ, suc, ◌+◌, ◌<◌, ◌≤◌, max, Bool, true, false, not, ◌&&◌, cond, nat_le, refl, sym, ap, ◌∙◌, subst, List, [], ◌∷◌, ◌++◌, length, drop, get_or, Option, None, Some, arith}
+use Rattle.std.proofs.Common.{◌≡◌, ℕ, suc, ◌+◌, ◌<◌, ◌≤◌, max, Bool, true, false, not, ◌&&◌, cond, nat_le, refl, sym, ap, ◌∙◌}
+use Rattle.std.proofs.Common.{subst, List, [], ◌∷◌, ◌++◌, length, drop, get_or, Option, None, Some, arith}
 use Rattle.std.proofs.lemmas.Bool.{lt-leb}
 use Rattle.std.specs.List.{filter}
 use Rattle.smpl_terms.specs.declared.var.Var.{Var}
@@ -7,9 +8,12 @@ use Rattle.smpl_patch.specs.declared.elem.Elem.{Elem}
 use Rattle.smpl_patch.specs.declared.rule.Rule.{Rule}
 use Rattle.smpl_patch.specs.Bodies.{Element, Compound, Block, Gap, Nest, AnyOf, AllOf, Body, End, Then, Bodies, NoMore, More, body, element}
 use Rattle.smpl_patch.specs.Bodies as bodies
-use Rattle.ctl_formula.specs.Plain.{Plain, Atom, BraceOpen, Not, And, Or, Exists, Down, size, depth, fits, most_parts}
+use Rattle.ctl_formula.specs.Plain.{Plain, Atom, BraceOpen, Not, And, Or, Exists, InBranch, size, depth, fits, most_parts}
 use Rattle.pattern_vars.specs.VarPlaces.Placing.{is_dots, is_alone, occurs_element, occurs_body, at_suffix}
-use Rattle.ctl_table.specs.Table.{Setting, Follow, Start, Nothing, Brace, Dots, Other, nothing, start_of, first_of, exists_all, and_all, or_all, any_of, near_option, own, hidden, joined, target, stays, within, until, nested, condition, closing, with_tail, downs, choices, seq, elem, each, first_and, when_parts, setting}
+use Rattle.ctl_table.specs.Table.{Setting, Follow, Start, Nothing, Brace, Dots, Other, nothing, start_of, first_of, exists_all}
+use Rattle.ctl_table.specs.Table.{and_all, or_all, any_of, ends_of_option, own, hidden, joined, target, stays, within, until}
+use Rattle.ctl_table.specs.Table.{nested, condition, closing, with_tail, in_branches, choices, seq, elem, each, first_and}
+use Rattle.ctl_table.specs.Table.{when_parts, setting}
 use Rattle.ctl_translate.specs.Rules as rules
 use Rattle.ctl_translate.specs.Deep.{levels_element, levels_body, levels_choice, levels_every}
 use Rattle.pattern_vars.proofs.VarPlaces.KeptLemmas.{drop-here}
@@ -89,7 +93,8 @@ first-step : (n a b c : ℕ) → n ≤ suc a → a ≤ b → b ≤ c → n ≤ s
 first-step n a b c h k l = omega (arith, h, k, l)
 
 mutual
-  pub seq-deep : (m : Setting) (before : Option Element) (b : Body) (k : Follow) (w s t : List Var) (n : ℕ) → ((u : List Var) → n ≤ suc (depth (k.at u))) → Counts k.start n
+  pub seq-deep : (m : Setting) (before : Option Element) (b : Body) (k : Follow) (w s t : List Var) (n : ℕ)
+      → ((u : List Var) → n ≤ suc (depth (k.at u))) → Counts k.start n
       → levels_body b n ≤ suc (depth (seq m before b k w s t))
   seq-deep m before End k w s t n g z = g t
   seq-deep m before (Then e rest) k w s t n g z =
@@ -102,22 +107,24 @@ mutual
       (elem-deep m before (first_of rest) e next (filter (occurs_element m.reading e) inside) (s ++ here) (t ++ here) (levels_body rest n)
       (λ u. seq-deep m (Some e) rest k later (s ++ here) u n g z) (counts-rest rest k.start n z))
 
-  elem-deep : (m : Setting) (before after : Option Element) (e : Element) (k : Follow) (w s t : List Var) (n : ℕ) → ((u : List Var) → n ≤ suc (depth (k.at u))) → Counts k.start n
+  elem-deep : (m : Setting) (before after : Option Element) (e : Element) (k : Follow) (w s t : List Var) (n : ℕ)
+      → ((u : List Var) → n ≤ suc (depth (k.at u))) → Counts k.start n
       → levels_element e n ≤ suc (depth (elem m before after e k w s t))
   elem-deep m before after (bodies.Atom p) k w s t n g z =
       joined-deep m.forall_walks (m.reading.is_statement p) (own m w p (Atom p)) k.start (k.at s) n (g s) z
   elem-deep m before after (Compound h bs tail) k w s t n g z =
-      past-step (depth (with_tail m w tail (and_all (own m w h (Atom h)) (downs 0 (each m bs nothing w s))))) (depth (k.at s)) n (g s)
+      past-step (depth (with_tail m w tail (and_all (own m w h (Atom h)) (in_branches 0 (each m bs nothing w s))))) (depth (k.at s)) n (g s)
   elem-deep m before after (Block o b c) k w s t n g z =
       let v = hidden m o in
       let inside = seq (within m v) None b (closing m w c v) (filter (occurs_body m.reading b) w) s s in
-      past-step (depth (Exists v (And (own m w o (BraceOpen o v)) (Down 0 inside)))) (depth (k.at s)) n (g s)
+      past-step (depth (Exists v (And (own m w o (BraceOpen o v)) (InBranch 0 inside)))) (depth (k.at s)) n (g s)
   elem-deep m before after (Gap ws any strict) k w s t n g z =
-      let d = condition any (stays m.around ++ when_parts m ws s) (near_option m true before t) (near_option m false after s) in
+      let d = condition any (stays m.around ++ when_parts m ws s) (ends_of_option m true before t) (ends_of_option m false after s) in
       let to = target m.around k.start (k.at s) in
-      until-step n (depth (k.at s)) (depth to) (depth (until m.forall_walks strict d to)) (g s) (target-deep m.around k.start (k.at s)) (until-deep m.forall_walks strict d to)
+      until-step n (depth (k.at s)) (depth to) (depth (until m.forall_walks strict d to)) (g s)
+      (target-deep m.around k.start (k.at s)) (until-deep m.forall_walks strict d to)
   elem-deep m before after (Nest plus b ws any strict) k w s t n g z =
-      let d = condition any (stays m.around ++ when_parts m ws s) (near_option m true before t) (near_option m false after s) in
+      let d = condition any (stays m.around ++ when_parts m ws s) (ends_of_option m true before t) (ends_of_option m false after s) in
       let part = seq m None b nothing (filter (occurs_body m.reading b) w) s s in
       let to = target m.around k.start (k.at s) in
       until-step n (depth (k.at s)) (depth to) (depth (nested m.forall_walks plus strict d part to)) (g s) (target-deep m.around k.start (k.at s))

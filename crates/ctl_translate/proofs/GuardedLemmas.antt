@@ -2,7 +2,7 @@
 use Rattle.std.proofs.Common.{◌≡◌, Bool, true, false, not, ◌&&◌, ◌||◌, refl, sym, ap, ◌∙◌, List}
 use Rattle.smpl_terms.specs.declared.var.Var.{Var}
 use Rattle.smpl_terms.specs.Vars.{same_var}
-use Rattle.ctl_formula.specs.Plain.{Plain, True, Atom, Bail, BraceOpen, BraceClose, Inside, Outside, Not, And, Or, AX, EX, AU, EU, Past, Down, Exists}
+use Rattle.ctl_formula.specs.Plain.{Plain, True, Atom, EarlyExit, BraceOpen, BraceClose, Inside, Outside, Not, And, Or, AX, EX, AU, EU, After, InBranch, Exists}
 use Rattle.ctl_formula.specs.Bounds.{Surely, bound, guarded, guarded_for}
 use Rattle.ctl_formula.proofs.TableLemmas.{and-left, and-right}
 use Rattle.ctl_table.specs.Table.{in_scope}
@@ -19,7 +19,7 @@ module _ (sure : Surely) (locals : List Var) (same : (x : Var) → same_var x x 
   pub guarded-all : (f : Plain) → known sure locals f ≡ true → ((x : Var) → in_scope locals x ≡ true → guarded_for sure x f ≡ true) → guarded sure f ≡ true
   guarded-all True h q = refl
   guarded-all (Atom p) h q = refl
-  guarded-all Bail h q = refl
+  guarded-all EarlyExit h q = refl
   guarded-all (BraceOpen p b) h q = refl
   guarded-all (BraceClose p b) h q = refl
   guarded-all (Inside b) h q = refl
@@ -43,8 +43,8 @@ module _ (sure : Surely) (locals : List Var) (same : (x : Var) → same_var x x 
       both (guarded sure f) (guarded sure g)
       (guarded-all f (and-left (known sure locals f) (known sure locals g) h) (λ x k. and-left (guarded_for sure x f) (guarded_for sure x g) (q x k)))
       (guarded-all g (and-right (known sure locals f) (known sure locals g) h) (λ x k. and-right (guarded_for sure x f) (guarded_for sure x g) (q x k)))
-  guarded-all (Past f) h q = guarded-all f h q
-  guarded-all (Down i f) h q = guarded-all f h q
+  guarded-all (After f) h q = guarded-all f h q
+  guarded-all (InBranch i f) h q = guarded-all f h q
   guarded-all (Exists y f) h q =
       both (bound sure f y) (guarded sure f)
       (local-or (in_scope locals y) (bound sure f y) (same_var y y) (and-left (in_scope locals y || bound sure f y) (known sure locals f) h) (same y)

@@ -12,7 +12,10 @@ use Rattle.smpl_patch.specs.Bodies as bodies
 use Rattle.smpl_patch.specs.Shapes.{count}
 use Rattle.ctl_formula.specs.Plain.{Plain, Atom, BraceOpen, Not, And, Or, size, depth, fits, most_around}
 use Rattle.pattern_vars.specs.VarPlaces.Placing.{is_dots, is_alone, occurs_element, occurs_body, at_suffix}
-use Rattle.ctl_table.specs.Table.{Setting, Follow, Start, Nothing, Brace, Dots, Other, nothing, start_of, first_of, exists_all, and_all, or_all, all_of, any_of, nots, hidden, own, near_option, joined, target, stays, within, until, nested, condition, lone, closing, with_tail, downs, choices, seq, elem, each, first_and, when_parts, setting}
+use Rattle.ctl_table.specs.Table.{Setting, Follow, Start, Nothing, Brace, Dots, Other, nothing, start_of, first_of, exists_all}
+use Rattle.ctl_table.specs.Table.{and_all, or_all, all_of, any_of, nots, hidden, own, ends_of_option, joined, target, stays}
+use Rattle.ctl_table.specs.Table.{within, until, nested, condition, lone, closing, with_tail, in_branches, choices, seq, elem}
+use Rattle.ctl_table.specs.Table.{each, first_and, when_parts, setting}
 use Rattle.ctl_translate.specs.Rules as rules
 use Rattle.ctl_translate.specs.Least.{Least, then_least, least_element, least_body, least_alone, least_choices, least_first}
 
@@ -58,9 +61,9 @@ one-more : (es : List Plain) (g : Plain) → joined_sizes (es ++ Not g ∷ []) �
 one-more [] g = omega arith
 one-more (e ∷ es) g = let r = one-more es g in omega (arith, r)
 
-downs-sizes : (i : ℕ) (fs : List Plain) → sizes fs ≤ sizes (downs i fs)
-downs-sizes i [] = omega arith
-downs-sizes i (f ∷ fs) = let r = downs-sizes (suc i) fs in omega (arith, r)
+in_branches-sizes : (i : ℕ) (fs : List Plain) → sizes fs ≤ sizes (in_branches i fs)
+in_branches-sizes i [] = omega arith
+in_branches-sizes i (f ∷ fs) = let r = in_branches-sizes (suc i) fs in omega (arith, r)
 
 target-size : (o : Option Var) (s : Start) (f : Plain) → size f ≤ size (target o s f)
 target-size None s f = omega arith
@@ -114,7 +117,8 @@ counts-rest : (rest : Body) (s : Start) (n : ℕ) → Counts s n → Counts (sta
 counts-rest End s n z = counts-same s n z
 counts-rest (Then e rest) s n z = counts-some (is_dots e) _
 
-joined-size : (forall_walks statement : Bool) (f : Plain) (s : Start) (g : Plain) (n : ℕ) → n ≤ size g → Counts s n → size f + n ≤ size (joined forall_walks statement f s g)
+joined-size : (forall_walks statement : Bool) (f : Plain) (s : Start) (g : Plain) (n : ℕ) → n ≤ size g → Counts s n
+    → size f + n ≤ size (joined forall_walks statement f s g)
 joined-size forall_walks statement f Nothing g n h z = omega (arith, z)
 joined-size forall_walks true f Dots g n h z = omega (arith, h)
 joined-size true false f Dots g n h z = omega (arith, h)
@@ -201,7 +205,8 @@ module _ (m : Setting) where
   tail-size w (Some p) f = omega arith
 
 mutual
-  pub seq-least : (m : Setting) (before : Option Element) (b : Body) (k : Follow) (w s t : List Var) (n : ℕ) → ((u : List Var) → n ≤ size (k.at u)) → Counts k.start n
+  pub seq-least : (m : Setting) (before : Option Element) (b : Body) (k : Follow) (w s t : List Var) (n : ℕ)
+      → ((u : List Var) → n ≤ size (k.at u)) → Counts k.start n
       → (least_body b).fixed + (least_body b).times * n ≤ size (seq m before b k w s t)
   seq-least m before End k w s t n g z = none-step n (size (k.at t)) (g t)
   seq-least m before (Then e rest) k w s t n g z =
@@ -216,7 +221,8 @@ mutual
       ((least_body rest).fixed + (least_body rest).times * n)
       (λ u. seq-least m (Some e) rest k later (s ++ here) u n g z) (counts-rest rest k.start n z)))
 
-  elem-least : (m : Setting) (before after : Option Element) (e : Element) (k : Follow) (w s t : List Var) (n : ℕ) → ((u : List Var) → n ≤ size (k.at u)) → Counts k.start n
+  elem-least : (m : Setting) (before after : Option Element) (e : Element) (k : Follow) (w s t : List Var) (n : ℕ)
+      → ((u : List Var) → n ≤ size (k.at u)) → Counts k.start n
       → (least_element e).fixed + (least_element e).times * n ≤ size (elem m before after e k w s t)
   elem-least m before after (bodies.Atom p) k w s t n g z =
       atom-step (size (own m w p (Atom p))) n (size (elem m before after (bodies.Atom p) k w s t))
@@ -225,9 +231,11 @@ mutual
   elem-least m before after (Compound h bs tail) k w s t n g z =
       let head = own m w h (Atom h) in
       let inside = each m bs nothing w s in
-      let f = and_all head (downs 0 inside) in
-      compound-step (least_alone bs) (sizes inside) (sizes (downs 0 inside)) (joined_sizes (downs 0 inside)) (size head) (size f) (size (with_tail m w tail f)) n (size (k.at s))
-      (alone-least m bs w s) (downs-sizes 0 inside) (joined-more (downs 0 inside)) (and-sizes head (downs 0 inside)) (tail-size m w tail f) (g s)
+      let f = and_all head (in_branches 0 inside) in
+      compound-step (least_alone bs) (sizes inside) (sizes (in_branches 0 inside)) (joined_sizes (in_branches 0 inside))
+      (size head) (size f) (size (with_tail m w tail f)) n (size (k.at s))
+      (alone-least m bs w s) (in_branches-sizes 0 inside) (joined-more (in_branches 0 inside))
+      (and-sizes head (in_branches 0 inside)) (tail-size m w tail f) (g s)
   elem-least m before after (Block o b c) k w s t n g z =
       let v = hidden m o in
       let inside = seq (within m v) None b (closing m w c v) (filter (occurs_body m.reading b) w) s s in
@@ -235,25 +243,26 @@ mutual
       (seq-least (within m v) None b (closing m w c v) (filter (occurs_body m.reading b) w) s s 0 (λ u. zero-least _) tt) (g s)
   elem-least m before after (Gap ws any strict) k w s t n g z =
       let whens = when_parts m ws s in
-      let near_before = near_option m true before t in
-      let near_after = near_option m false after s in
+      let ends_before = ends_of_option m true before t in
+      let ends_after = ends_of_option m false after s in
       let firsts = stays m.around ++ whens in
-      let d = condition any firsts near_before near_after in
+      let d = condition any firsts ends_before ends_after in
       let to = target m.around k.start (k.at s) in
       gap-step (least_alone ws) (sizes firsts) (size d) (size to) (size (until m.forall_walks strict d to)) n (size (k.at s))
-      (firsts-sizes m.around whens (least_alone ws) (whens-least m ws s)) (condition-size any firsts near_before near_after)
+      (firsts-sizes m.around whens (least_alone ws) (whens-least m ws s)) (condition-size any firsts ends_before ends_after)
       (until-size m.forall_walks strict d to) (target-size m.around k.start (k.at s)) (g s)
   elem-least m before after (Nest plus b ws any strict) k w s t n g z =
       let whens = when_parts m ws s in
-      let near_before = near_option m true before t in
-      let near_after = near_option m false after s in
+      let ends_before = ends_of_option m true before t in
+      let ends_after = ends_of_option m false after s in
       let firsts = stays m.around ++ whens in
-      let d = condition any firsts near_before near_after in
+      let d = condition any firsts ends_before ends_after in
       let part = seq m None b nothing (filter (occurs_body m.reading b) w) s s in
       let to = target m.around k.start (k.at s) in
-      nest-step (least_body b).fixed (least_body b).times (size part) (least_alone ws) (sizes firsts) (size d) (size to) (size (nested m.forall_walks plus strict d part to)) n (size (k.at s))
+      nest-step (least_body b).fixed (least_body b).times (size part) (least_alone ws) (sizes firsts) (size d) (size to)
+      (size (nested m.forall_walks plus strict d part to)) n (size (k.at s))
       (seq-least m None b nothing (filter (occurs_body m.reading b) w) s s 0 (λ u. zero-least _) (zero-least 0))
-      (firsts-sizes m.around whens (least_alone ws) (whens-least m ws s)) (condition-size any firsts near_before near_after)
+      (firsts-sizes m.around whens (least_alone ws) (whens-least m ws s)) (condition-size any firsts ends_before ends_after)
       (nested-size m.forall_walks plus strict d part to) (target-size m.around k.start (k.at s)) (g s)
   elem-least m before after (AnyOf bs) k w s t n g z =
       let found = choices [] (each m bs k w s) (each m bs nothing w s) in
@@ -264,11 +273,14 @@ mutual
   alone-least : (m : Setting) (bs : Bodies) (w s : List Var) → least_alone bs ≤ sizes (each m bs nothing w s)
   alone-least m NoMore w s = zero-least 0
   alone-least m (More b bs) w s =
-      alone-step (least_body b).fixed (least_body b).times (size (seq m None b nothing (filter (occurs_body m.reading b) w) s s)) (least_alone bs) (sizes (each m bs nothing w s))
+      alone-step (least_body b).fixed (least_body b).times
+      (size (seq m None b nothing (filter (occurs_body m.reading b) w) s s)) (least_alone bs) (sizes (each m bs nothing w s))
       (seq-least m None b nothing (filter (occurs_body m.reading b) w) s s 0 (λ u. zero-least _) (zero-least 0)) (alone-least m bs w s)
 
-  choices-least : (m : Setting) (bs : Bodies) (earlier : List Plain) (k : Follow) (w s : List Var) (n : ℕ) → ((u : List Var) → n ≤ size (k.at u)) → Counts k.start n
-      → count bs * joined_sizes earlier + ((least_choices bs).fixed + (least_choices bs).times * n) ≤ sizes (choices earlier (each m bs k w s) (each m bs nothing w s))
+  choices-least : (m : Setting) (bs : Bodies) (earlier : List Plain) (k : Follow) (w s : List Var) (n : ℕ)
+      → ((u : List Var) → n ≤ size (k.at u)) → Counts k.start n
+      → count bs * joined_sizes earlier + ((least_choices bs).fixed + (least_choices bs).times * n)
+      ≤ sizes (choices earlier (each m bs k w s) (each m bs nothing w s))
   choices-least m NoMore earlier k w s n g z = omega arith
   choices-least m (More b bs) earlier k w s n g z =
       let own_vars = filter (occurs_body m.reading b) w in

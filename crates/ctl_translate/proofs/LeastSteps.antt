@@ -44,7 +44,8 @@ pub record AreLeastOf (fixed times : ℕ) (rest all : Least) : Type 0 where
   pub below : fixed + rest.fixed ≤ all.fixed
   pub often : times + rest.times ≤ all.times
 
-branch-sum : (pf lf of later c nf rest all : ℕ) → pf + (lf + c * (2 + lf) + rest) ≤ all → of ≤ lf → later ≡ c → nf ≤ pf + (of + later * (2 + of)) → nf + rest ≤ all
+branch-sum : (pf lf of later c nf rest all : ℕ) → pf + (lf + c * (2 + lf) + rest) ≤ all → of ≤ lf → later ≡ c
+    → nf ≤ pf + (of + later * (2 + of)) → nf + rest ≤ all
 branch-sum pf lf of later c nf rest all h j q k =
     let m = mul-le later (2 + of) c (2 + lf) (omega (arith, q)) (omega (arith, j)) in
     omega (arith, h, j, k, m)

@@ -112,7 +112,8 @@ whole decls tokens forall_walks locals alone bs es w s =
     record { reading = read decls tokens; forall_walks = forall_walks; locals = locals; alone = alone; blocks = bs; around = None } in
     table.seq m None (body es) table.nothing w s s
 
-pub rule-formula : (r : Rule) (decls : List VarDecl) (tokens : List PatToken) (forall_walks : Bool) (locals alone : List Var) (bs : List ℕ) (es : List Elem) (w s : List Var)
+pub rule-formula : (r : Rule) (decls : List VarDecl) (tokens : List PatToken) (forall_walks : Bool) (locals alone : List Var)
+    (bs : List ℕ) (es : List Elem) (w s : List Var)
     → decls ≡ r.vars → tokens ≡ r.tokens → forall_walks ≡ rules.ranges_over_all r.mode → locals ≡ rules.locals r
     → alone ≡ filter (is_alone (rules.reading r) (body r.body)) (rules.locals r) → bs ≡ blocks (body r.body) → es ≡ r.body
     → w ≡ filter (λ x. not (is_alone (rules.reading r) (body r.body) x)) (rules.locals r)
@@ -123,10 +124,14 @@ rule-formula r decls tokens forall_walks locals alone bs es w s d t f l a b e v 
     ∙ ap (λ (z : Bool). whole r.vars r.tokens z locals alone bs es w s) f
     ∙ ap (λ (z : List Var). whole r.vars r.tokens (rules.ranges_over_all r.mode) z alone bs es w s) l
     ∙ ap (λ (z : List Var). whole r.vars r.tokens (rules.ranges_over_all r.mode) (rules.locals r) z bs es w s) a
-    ∙ ap (λ (z : List ℕ). whole r.vars r.tokens (rules.ranges_over_all r.mode) (rules.locals r) (filter (is_alone (rules.reading r) (body r.body)) (rules.locals r)) z es w s) b
-    ∙ ap (λ (z : List Elem). whole r.vars r.tokens (rules.ranges_over_all r.mode) (rules.locals r) (filter (is_alone (rules.reading r) (body r.body)) (rules.locals r)) (blocks (body r.body)) z w s) e
-    ∙ ap (λ (z : List Var). whole r.vars r.tokens (rules.ranges_over_all r.mode) (rules.locals r) (filter (is_alone (rules.reading r) (body r.body)) (rules.locals r)) (blocks (body r.body)) r.body z s) v
-    ∙ ap (λ (z : List Var). whole r.vars r.tokens (rules.ranges_over_all r.mode) (rules.locals r) (filter (is_alone (rules.reading r) (body r.body)) (rules.locals r)) (blocks (body r.body)) r.body
+    ∙ ap (λ (z : List ℕ). whole r.vars r.tokens (rules.ranges_over_all r.mode) (rules.locals r)
+    (filter (is_alone (rules.reading r) (body r.body)) (rules.locals r)) z es w s) b
+    ∙ ap (λ (z : List Elem). whole r.vars r.tokens (rules.ranges_over_all r.mode) (rules.locals r)
+    (filter (is_alone (rules.reading r) (body r.body)) (rules.locals r)) (blocks (body r.body)) z w s) e
+    ∙ ap (λ (z : List Var). whole r.vars r.tokens (rules.ranges_over_all r.mode) (rules.locals r)
+    (filter (is_alone (rules.reading r) (body r.body)) (rules.locals r)) (blocks (body r.body)) r.body z s) v
+    ∙ ap (λ (z : List Var). whole r.vars r.tokens (rules.ranges_over_all r.mode) (rules.locals r)
+    (filter (is_alone (rules.reading r) (body r.body)) (rules.locals r)) (blocks (body r.body)) r.body
     (filter (λ x. not (is_alone (rules.reading r) (body r.body) x)) (rules.locals r)) z) n
 
 -- the formula is guarded, in the terms of the code
@@ -137,7 +142,8 @@ root-guarded r decls tokens f d t e h =
     ∙ ap (λ (z : List PatToken). guarded (patterns.sure r.vars z) f) t
     ∙ ap (guarded (patterns.sure r.vars r.tokens)) e ∙ formula-guarded r h
 
-pub is-formula : (r : Rule) (f : FormulaOf) (ns : List Node) (i : ℕ) (decls : List VarDecl) (tokens : List PatToken) → f.nodes ≡ ns → f.root ≡ i → f.decls ≡ decls → f.tokens ≡ tokens
+pub is-formula : (r : Rule) (f : FormulaOf) (ns : List Node) (i : ℕ) (decls : List VarDecl) (tokens : List PatToken)
+    → f.nodes ≡ ns → f.root ≡ i → f.decls ≡ decls → f.tokens ≡ tokens
     → decls ≡ r.vars → tokens ≡ r.tokens → at (plains ns) i ≡ rules.formula_of r → fits (rules.formula_of r) ≡ true → rules.first_unbound r ≡ None
     → IsFormulaOf r f
 is-formula r f ns i decls tokens n p d t e v q l b = record {
@@ -161,8 +167,8 @@ kept-is test r decls tokens es xs d t e l =
     ∙ ap (λ (z : List Var). kept_by test r.vars r.tokens r.body z) l
 
 -- what a rule's formula says about each of its variables, in the terms of the code
-abbrev pub AllSaid : Rule → Bindings → Type 0
-AllSaid r found = (x : Var) → is_declared r.vars x ≡ true
+abbrev pub AllWhenFlags : Rule → Bindings → Type 0
+AllWhenFlags r found = (x : Var) → is_declared r.vars x ≡ true
     → binds_in found x ≡ Some (binds_at (patterns.sure r.vars r.tokens) x (rules.formula_of r))
 
 declared-at : (ds : List VarDecl) (i : ℕ) (d : VarDecl) → i < length ds → d ≡ get_or ds i d → is_declared ds d.var ≡ true
@@ -173,7 +179,7 @@ declared-at ds i d h e =
 
 -- what the code asks about the declaration with this number
 module _ (r : Rule) (exports : List Var) (found : Bindings) (ds : List VarDecl) (i : ℕ) (d : VarDecl) (u : Bool) (w : Option Var)
-    (e : (x : Var) → has exports x ≡ rules.is_exported r x) (s : AllSaid r found) (v : ds ≡ r.vars)
+    (e : (x : Var) → has exports x ≡ rules.is_exported r x) (s : AllWhenFlags r found) (v : ds ≡ r.vars)
     (h : i < length ds) (g : d ≡ get_or ds i d)
     (a : (b : Binds) → binds_in found d.var ≡ Some b
     → u ≡ (not d.inherited && (if has exports d.var then not b.holding else not b.guarded)))

@@ -16,12 +16,12 @@ use crate::deep::is_far_too_long;
 use crate::least::is_far_too_large;
 use crate::unbound::first_unbound;
 use c_terms::NoMemory;
-use ctl_formula::{Formula, Parts, copy_decls, copy_tokens};
-use ctl_table::{Made, Setting, blocks, sequence};
+use ctl_formula::{Formula, Parts};
+use ctl_table::{Continuation, Setting, blocks, sequence};
 use pattern_vars::{
     Decls, Ordered, Reader, Scope, VarSet, among, put_vars, standing_in_body, used_in_body,
 };
-use smpl_patch::{Elem, Mode, Rule, VarDecl};
+use smpl_patch::{Elem, Mode, Rule, VarDecl, copy_decls, copy_pattern_tokens};
 use smpl_terms::Var;
 use sqlite_items::Items;
 use std::alloc::{AllocError, Global};
@@ -193,7 +193,7 @@ fn root_of(
         around: None,
     };
     let around = Scope::none(alloc)?;
-    sequence(alloc, parts, &m, b, &Made::Nothing, placed, &around)
+    sequence(alloc, parts, &m, b, &Continuation::Nothing, placed, &around)
 }
 
 /// Returns the part for the rule's formula, given what patterns are read with.
@@ -233,7 +233,7 @@ fn formula(alloc: Global, parts: Parts, root: usize, rule: &Rule) -> Result<Form
     ensures { IfOk result (λ formula. IsFormulaOf rule.now formula) }
 {
     let decls = copy_decls(alloc, rule.vars.as_slice())?;
-    let tokens = copy_tokens(alloc, rule.tokens.as_slice())?;
+    let tokens = copy_pattern_tokens(alloc, rule.tokens.as_slice())?;
     Ok(Formula::of(parts, root, decls, tokens))
 }
 

@@ -4,7 +4,7 @@ ghost use Rattle.smpl_terms.specs.declared.var.Var.{Var as Variable};
 ghost use Rattle.smpl_patch.specs.Patterns as patterns;
 ghost use Rattle.pattern_vars.specs.Reads.{has, is_declared};
 ghost use Rattle.ctl_formula.specs.Tables.{at, plains};
-ghost use Rattle.ctl_translate.specs.declared.ctl_bound.masks.Binds.{Binds as Said};
+ghost use Rattle.ctl_translate.specs.declared.ctl_bound.masks.Binds.{Binds as WhenFlags};
 ghost use Rattle.ctl_translate.specs.CtlBound.Binding.{binds_at};
 ghost use Rattle.ctl_translate.specs.CtlBound.Saying.{binds_in};
 ghost use Rattle.ctl_translate.specs.Rules as rules;
@@ -49,7 +49,7 @@ fn is_unbound(
     found: &Bindings,
     d: &VarDecl,
 ) -> Result<bool, NoMemory>
-    ensures { IfOk result (λ unbound. (b : Said) → binds_in found.now d.now.var ≡ Some b → unbound
+    ensures { IfOk result (λ unbound. (b : WhenFlags) → binds_in found.now d.now.var ≡ Some b → unbound
         ≡ (not d.now.inherited && (if has exports.now d.now.var then not b.holding else not b.guarded))) }
 {
     if d.inherited {

@@ -23,8 +23,11 @@ plain_if : (decls : List VarDecl) (env : Environment) (removed : List ℕ) (s : 
     → IfSome block (λ b. AreSoundLines decls env b.lines) → IfSome file (λ f. AreSpaces f.indent) → ArePlainInserts (insert_if decls env removed s block file)
 plain_if decls env removed s None file h k = tt
 plain_if decls env removed s (Some b) None h k = tt
-plain_if decls env removed s (Some b) (Some f) h k =
-    (insert_plain decls env (10 ∷ f.indent) b (anchor_of (list_any (λ n. n == s.token) removed) s.after f.text) (block_ends (last_of_lines decls env None b.lines)) k h, tt)
+plain_if decls env removed s (Some b) (Some f) h k = (
+  insert_plain decls env (10 ∷ f.indent) b (anchor_of (list_any (λ n. n == s.token) removed) s.after f.text)
+      (block_ends (last_of_lines decls env None b.lines)) k h,
+  tt,
+)
 
 plain_at : (decls : List VarDecl) (tokens : List PatToken) (env : Environment) (files : List FileToken) (removed : List ℕ) (spots : List PlusSpot)
     → HaveSoundBlocks decls tokens env → HaveBlankIndents files → ArePlainInserts (inserts_at decls tokens env files removed spots)

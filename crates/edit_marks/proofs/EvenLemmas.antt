@@ -58,6 +58,7 @@ pub even_blocks : (tokens : List PatToken) → HaveEvenBlocks tokens → list_al
 even_blocks [] h = refl
 even_blocks (t ∷ tokens) h =
     let spot = λ (after : Bool) (pattern : ℕ). let s : PlusSpot = record { token = 0; after = after; pattern = pattern } in s in
-    let first : is_even_token t ≡ true = both (is_even_side t.before) (is_even_side t.after) (even_side t.before (h (spot false 0))) (even_side t.after (h (spot true 0))) in
+    let first : is_even_token t ≡ true = both (is_even_side t.before) (is_even_side t.after)
+    (even_side t.before (h (spot false 0))) (even_side t.after (h (spot true 0))) in
     let rest : HaveEvenBlocks tokens = λ s. h (record s { pattern = suc s.pattern }) in
     both (is_even_token t) (list_all is_even_token tokens) first (even_blocks tokens rest)

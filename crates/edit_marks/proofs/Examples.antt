@@ -33,12 +33,19 @@ abbrev joint : List ℕ
 joint = 10 ∷ 9 ∷ []
 
 -- the least lead is removed from each line, and a line that has no token doesn't count
-least_lead_goes : block_text [] [] joint (block (line 2 (codes "  ") (codes "a") ∷ empty_line ∷ line 4 (codes "    ") (codes "b") ∷ [])) ≡ codes "a;" ++ joint ++ joint ++ codes "  b;"
+least_lead_goes : block_text [] [] joint
+    (block (line 2 (codes "  ") (codes "a") ∷ empty_line ∷ line 4 (codes "    ") (codes "b") ∷ [])) ≡ codes "a;" ++ joint ++ joint ++ codes "  b;"
 unfolding runs_together
 least_lead_goes = refl
 
 -- a space separates tokens that are side by side and would run together
-tokens_are_parted : block_text [] [] joint (block (record { lead = 0; tokens = word (codes "a") ∷ word (codes "b") ∷ sign (codes "+") ∷ sign (codes "+") ∷ []; gaps = [] ∷ [] ∷ [] ∷ [] ∷ [] } ∷ [])) ≡ codes "a b+ +"
+tokens_are_parted : block_text [] [] joint
+    (block (record {
+      lead = 0;
+      tokens = word (codes "a") ∷ word (codes "b") ∷ sign (codes "+") ∷ sign (codes "+") ∷ [];
+      gaps =
+          [] ∷ [] ∷ [] ∷ [] ∷ [];
+    } ∷ [])) ≡ codes "a b+ +"
 unfolding runs_together
 tokens_are_parted = refl
 
@@ -70,6 +77,7 @@ two_lines =
     record { kind = Word Name 0; text = codes "a" } ∷ record { kind = Blank; text = 10 ∷ 9 ∷ [] } ∷ record { kind = Word Name 1; text = codes "b" }
     ∷ record { kind = Blank; text = codes " " } ∷ record { kind = Word Punct 2; text = codes ";" } ∷ []
 
-by_lines : file_tokens two_lines ≡ record { text = codes "a"; indent = [] } ∷ record { text = codes "b"; indent = 9 ∷ [] } ∷ record { text = codes ";"; indent = 9 ∷ [] } ∷ []
+by_lines : file_tokens two_lines ≡ record { text = codes "a"; indent = [] } ∷ record { text = codes "b"; indent = 9 ∷ [] }
+    ∷ record { text = codes ";"; indent = 9 ∷ [] } ∷ []
 unfolding two_lines
 by_lines = refl

@@ -1,6 +1,7 @@
 -- An alignment has only one edit: ascending lists with the same members are equal, and so are ordered lists of places of
 -- plus code.
-use Rattle.std.proofs.Common.{◌≡◌, ◌<◌, ◌≤◌, ◌+◌, ◌⊎◌, ℕ, zero, suc, Bool, true, false, inl, inr, refl, sym, ap, subst, ◌∙◌, arith, List, [], ◌∷◌, length, get_or}
+use Rattle.std.proofs.Common.{◌≡◌, ◌<◌, ◌≤◌, ◌+◌, ◌⊎◌, ℕ, zero, suc, Bool, true, false, inl, inr, refl, sym, ap, subst, ◌∙◌}
+use Rattle.std.proofs.Common.{arith, List, [], ◌∷◌, length, get_or}
 use Rattle.std.specs.Prelude.{All, Contains, ◌==◌, slice_index, slice_index_or, nat_lt, cond}
 use Rattle.std.specs.List.{sum_by}
 use Rattle.std.specs.List.Sorted.{IsPermutation, IsSortedBy, IsStrictlyIncreasing}
@@ -92,17 +93,21 @@ one_rising (x ∷ xs) (y ∷ ys) r s f g =
 -- ---- places of plus code
 
 pub spot_total : IsTotalOrder spot_order
-spot_total = then_total (then_total (on_total (λ s. s.token) nat_cmp_total) (on_total (λ s. side s.after) nat_cmp_total)) (on_total (λ s. s.pattern) nat_cmp_total)
+spot_total = then_total (then_total (on_total (λ s. s.token) nat_cmp_total) (on_total (λ s. side s.after) nat_cmp_total))
+    (on_total (λ s. s.pattern) nat_cmp_total)
 
 -- no place comes before an earlier one
 abbrev pub AreRising : List PlusSpot → Type 0
 AreRising [] = Unit {0}
 AreRising (s ∷ spots) = All (λ t. is_lt (spot_order t s) ≡ false) spots × AreRising spots
 
-rising_by : (spots : List PlusSpot) → ((i j : ℕ) (d : PlusSpot) → i ≤ j → j < length spots → is_lt (spot_order (get_or spots j d) (get_or spots i d)) ≡ false) → AreRising spots
+rising_by : (spots : List PlusSpot) → ((i j : ℕ) (d : PlusSpot) → i ≤ j → j < length spots
+    → is_lt (spot_order (get_or spots j d) (get_or spots i d)) ≡ false) → AreRising spots
 rising_by [] far = tt
-rising_by (s ∷ spots) far =
-    ((λ k d less. far 0 (suc k) d (omega arith) (omega (arith, less))), rising_by spots (λ i j d le less. far (suc i) (suc j) d (omega (arith, le)) (omega (arith, less))))
+rising_by (s ∷ spots) far = (
+  (λ k d less. far 0 (suc k) d (omega arith) (omega (arith, less))),
+  rising_by spots (λ i j d le less. far (suc i) (suc j) d (omega (arith, le)) (omega (arith, less))),
+)
 
 pub rising : (spots : List PlusSpot) → IsSortedBy (λ a b. is_lt (spot_order a b)) spots → AreRising spots
 rising spots up = rising_by spots (sorted_far (λ a b. is_lt (spot_order a b)) (ranks_by spot_total (λ s. s)) spots up)
@@ -157,7 +162,8 @@ count_more s t spots = sum_by-cons (λ u. one_if (spot_order s u)) t spots
 counts_itself : (s : PlusSpot) (spots : List PlusSpot) → 1 ≤ count s (s ∷ spots)
 counts_itself s spots = let one : one_if (spot_order s s) ≡ 1 = ap one_if (tied_itself spot_total s) in omega (arith, one, count_more s s spots)
 
-by_order : (s t u : PlusSpot) (o : Ordering) (n : ℕ) → spot_order s u ≡ o → 1 ≤ one_if o + n → is_lt (spot_order u t) ≡ false → (1 ≤ n → is_lt (spot_order s t) ≡ false)
+by_order : (s t u : PlusSpot) (o : Ordering) (n : ℕ) → spot_order s u ≡ o → 1 ≤ one_if o + n → is_lt (spot_order u t) ≡ false
+    → (1 ≤ n → is_lt (spot_order s t) ≡ false)
     → is_lt (spot_order s t) ≡ false
 by_order s t u Less n e some here later = later (omega (arith, some))
 by_order s t u Equal n e some here later = subst (λ (v : PlusSpot). is_lt (spot_order v t) ≡ false) (sym (same_spot s u e)) here
@@ -166,10 +172,12 @@ by_order s t u Greater n e some here later = later (omega (arith, some))
 none_before : (s t : PlusSpot) (spots : List PlusSpot) → All (λ u. is_lt (spot_order u t) ≡ false) spots → 1 ≤ count s spots → is_lt (spot_order s t) ≡ false
 none_before s t [] all some = absurd (omega (arith, some))
 none_before s t (u ∷ spots) all some =
-    by_order s t u (spot_order s u) (count s spots) refl (omega (arith, some, count_more s u spots)) (All-head (λ v. is_lt (spot_order v t) ≡ false) u spots all)
+    by_order s t u (spot_order s u) (count s spots) refl (omega (arith, some, count_more s u spots))
+    (All-head (λ v. is_lt (spot_order v t) ≡ false) u spots all)
     (λ more. none_before s t spots (All-tail (λ v. is_lt (spot_order v t) ≡ false) u spots all) more)
 
-first_by : (s t : PlusSpot) (o : Ordering) (n : ℕ) → spot_order s t ≡ o → 1 ≤ one_if o + n → (1 ≤ n → is_lt (spot_order s t) ≡ false) → is_lt (spot_order s t) ≡ false
+first_by : (s t : PlusSpot) (o : Ordering) (n : ℕ) → spot_order s t ≡ o → 1 ≤ one_if o + n
+    → (1 ≤ n → is_lt (spot_order s t) ≡ false) → is_lt (spot_order s t) ≡ false
 first_by s t Less n e some later = later (omega (arith, some))
 first_by s t Equal n e some later = ap is_lt e
 first_by s t Greater n e some later = later (omega (arith, some))

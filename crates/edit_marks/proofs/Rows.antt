@@ -128,7 +128,8 @@ before_blank : (p q : TextPiece) (rest : List ℕ) → Spelled p → BlankPiece 
 before_blank p q rest s b =
     let t = begins q.text kind.Blank b.of in
     let of_t : kind_of (t.byte ∷ t.more) ≡ Some kind.Blank = ap kind_of (sym t.is) ∙ b.of in
-    let first : IsFirst s.k p.text q.text = subst (λ (l : List ℕ). IsFirst s.k p.text l) (sym t.is) (parted_by_blanks p.text s.k t.byte t.more s.of s.plain (blank_first t.byte t.more of_t)) in
+    let first : IsFirst s.k p.text q.text = subst (λ (l : List ℕ). IsFirst s.k p.text l) (sym t.is)
+    (parted_by_blanks p.text s.k t.byte t.more s.of s.plain (blank_first t.byte t.more of_t)) in
     inr (inr (inl (record {
       first = first_as p s.k q.text s.is first;
       no_stray = no_stray p s;
@@ -181,7 +182,8 @@ both_second false b e = absurd (false≢true e)
 
 row_come : (left : Option (List ℕ)) (ps : List TextPiece) → Row left ps → all_come ps ≡ true
 row_come left [] row = refl
-row_come left (p ∷ ps) row = both (may_come p.kind) (all_come ps) (elim row.0 [ inl b ↦ ap may_come b.blank | inr w ↦ ap may_come w.word ∙ w.c_token.plain ]) (row_come (right_of p.kind p.text) ps row.1)
+row_come left (p ∷ ps) row = both (may_come p.kind) (all_come ps)
+    (elim row.0 [ inl b ↦ ap may_come b.blank | inr w ↦ ap may_come w.word ∙ w.c_token.plain ]) (row_come (right_of p.kind p.text) ps row.1)
 
 bare_come : (k : PieceKind) → may_come (kind_without_id k) ≡ may_come k
 bare_come (Word kind id) = refl
@@ -195,23 +197,27 @@ come_bare (p ∷ ps) = λ i. bare_come p.kind i && come_bare ps i
 
 come_join : (p : TextPiece) (ps : List TextPiece) → may_come p.kind ≡ true → all_come ps ≡ true → all_come (join_blank p ps) ≡ true
 come_join p [] h k = both (may_come p.kind) true h refl
-come_join p (q ∷ qs) h k = elim (is_blank p.kind && is_blank q.kind) as (λ b. all_come (if b then (let r : TextPiece = record { kind = Blank; text = p.text ++ q.text } in r) ∷ qs else p ∷ q ∷ qs) ≡ true) [
-  | true ↦ both_second (may_come q.kind) (all_come qs) k
-  | false ↦ both (may_come p.kind) (all_come (q ∷ qs)) h k
-]
+come_join p (q ∷ qs) h k = elim (is_blank p.kind
+    && is_blank q.kind) as (λ b. all_come (if b then (let r : TextPiece = record { kind = Blank; text = p.text ++ q.text } in r) ∷ qs else p ∷ q ∷ qs) ≡ true) [
+      | true ↦ both_second (may_come q.kind) (all_come qs) k
+      | false ↦ both (may_come p.kind) (all_come (q ∷ qs)) h k
+    ]
 
 come_joined : (ps : List TextPiece) → all_come ps ≡ true → all_come (join_blanks ps) ≡ true
 come_joined [] e = refl
-come_joined (p ∷ ps) e = come_join p (join_blanks ps) (both_first (may_come p.kind) (all_come ps) e) (come_joined ps (both_second (may_come p.kind) (all_come ps) e))
+come_joined (p ∷ ps) e = come_join p (join_blanks ps) (both_first (may_come p.kind) (all_come ps) e)
+    (come_joined ps (both_second (may_come p.kind) (all_come ps) e))
 
-text_join : (p : TextPiece) (ps : List TextPiece) → text_of (join_blank p ps) ≡ p.text ++ text_of ps
+pub text_join : (p : TextPiece) (ps : List TextPiece) → text_of (join_blank p ps) ≡ p.text ++ text_of ps
 text_join p [] = refl
-text_join p (q ∷ qs) = elim (is_blank p.kind && is_blank q.kind) as (λ b. text_of (if b then (let r : TextPiece = record { kind = Blank; text = p.text ++ q.text } in r) ∷ qs else p ∷ q ∷ qs) ≡ p.text ++ (q.text ++ text_of qs)) [
-  | true ↦ append_assoc p.text q.text (text_of qs)
-  | false ↦ refl
-]
+text_join p (q ∷ qs) = elim (is_blank p.kind
+    && is_blank q.kind) as (λ b. text_of
+    (if b then (let r : TextPiece = record { kind = Blank; text = p.text ++ q.text } in r) ∷ qs else p ∷ q ∷ qs) ≡ p.text ++ (q.text ++ text_of qs)) [
+      | true ↦ append_assoc p.text q.text (text_of qs)
+      | false ↦ refl
+    ]
 
-text_joined : (ps : List TextPiece) → text_of (join_blanks ps) ≡ text_of ps
+pub text_joined : (ps : List TextPiece) → text_of (join_blanks ps) ≡ text_of ps
 text_joined [] = refl
 text_joined (p ∷ ps) = text_join p (join_blanks ps) ∙ ap (λ (l : List ℕ). p.text ++ l) (text_joined ps)
 
@@ -231,9 +237,12 @@ space_begin c e = rw e refl
 
 spaces_walk : (cs : List ℕ) → AreSpaces cs → walk (Some (Blanks Plain)) cs ≡ Some (Blanks Plain)
 spaces_walk [] e = refl
-spaces_walk (c ∷ cs) e = ap (λ (q : Option State). walk q cs) (space_step c (both_first (is_space c) (list_all is_space cs) e)) ∙ spaces_walk cs (both_second (is_space c) (list_all is_space cs) e)
+spaces_walk (c ∷ cs) e = ap (λ (q : Option State). walk q cs) (space_step c (both_first (is_space c) (list_all is_space cs) e))
+    ∙ spaces_walk cs (both_second (is_space c) (list_all is_space cs) e)
 
 pub spaces_blank : (c : ℕ) (cs : List ℕ) → AreSpaces (c ∷ cs) → kind_of (c ∷ cs) ≡ Some kind.Blank
 spaces_blank c cs e =
-    let first : walk (Some Start) (c ∷ cs) ≡ Some (Blanks Plain) = ap (λ (q : Option State). walk q cs) (space_begin c (both_first (is_space c) (list_all is_space cs) e)) ∙ spaces_walk cs (both_second (is_space c) (list_all is_space cs) e) in
+    let first : walk (Some Start) (c ∷ cs) ≡ Some (Blanks Plain) =
+    ap (λ (q : Option State). walk q cs) (space_begin c (both_first (is_space c) (list_all is_space cs) e))
+    ∙ spaces_walk cs (both_second (is_space c) (list_all is_space cs) e) in
     ap (λ (q : Option State). option_map (named (c ∷ cs)) (option_and_then kind_at q)) first

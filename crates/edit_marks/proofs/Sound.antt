@@ -1,5 +1,6 @@
 -- The text of plus code consists of blanks and plain tokens.
-use Rattle.std.proofs.Common.{◌≡◌, ◌+◌, ◌-◌, ◌&&◌, ℕ, zero, suc, Bool, true, false, refl, sym, ap, ◌∙◌, inl, inr, arith, List, [], ◌∷◌, ◌++◌, append_assoc, map, drop, length, subst}
+use Rattle.std.proofs.Common.{◌≡◌, ◌+◌, ◌-◌, ◌&&◌, ℕ, zero, suc, Bool, true, false, refl, sym, ap, ◌∙◌, inl, inr, arith, List}
+use Rattle.std.proofs.Common.{[], ◌∷◌, ◌++◌, append_assoc, map, drop, length, subst}
 use Rattle.std.specs.Prelude.{Option, None, Some, if◌then◌else◌, ◌||◌, slice_get}
 use Rattle.std.specs.List.{list_all}
 use Rattle.std.proofs.lemmas.Bool.{false≢true}
@@ -18,7 +19,8 @@ use Rattle.c_lexer.specs.Words.{is_space}
 use Rattle.c_lexer.specs.Pieces.{TextPiece, text_of}
 use Rattle.c_show.specs.PlainText.{IsPlainText}
 use Rattle.c_show.specs.Joint.{runs_together}
-use Rattle.c_show.specs.Show.{Shown, shown, shown_kids, role_of, is_wide_after, is_wide_before, is_operator, is_named, is_star, is_parted, joined, show_of}
+use Rattle.c_show.specs.Show.{Shown, shown, shown_kids, role_of, is_wide_after, is_wide_before, is_operator, is_named, is_star}
+use Rattle.c_show.specs.Show.{is_split_into_nodes, joined, show_of}
 use Rattle.c_show.proofs.Pages.{shown-Leaf, shown-Branch}
 use Rattle.smpl_patch.specs.declared.pattern.VarDecl.{VarDecl}
 use Rattle.edit_marks.specs.declared.insert.Anchor.{Anchor}
@@ -26,7 +28,9 @@ use Rattle.edit_marks.specs.declared.insert.Anchor.TheVariants.{Removed, AfterLi
 use Rattle.edit_marks.specs.declared.line.Chunk.{Chunk}
 use Rattle.smpl_patch.specs.declared.pattern.PlusLine.{PlusLine}
 use Rattle.smpl_patch.specs.declared.pattern.PlusBlock.{PlusBlock}
-use Rattle.edit_marks.specs.Blocks.{Environment, is_meta, term, text_of_token, value_chunk, term_chunk, chunk_of, left_at, is_together, blank_between, left_after, chunk_text, tokens_text, without_lead, line_text, least_lead, lead_of, more_lines, lines_text, block_text}
+use Rattle.edit_marks.specs.Blocks.{Environment, is_meta, term, text_of_token, value_chunk, term_chunk, chunk_of, left_at}
+use Rattle.edit_marks.specs.Blocks.{is_together, blank_between, left_after, chunk_text, tokens_text, without_lead, line_text}
+use Rattle.edit_marks.specs.Blocks.{least_lead, lead_of, more_lines, lines_text, block_text}
 use Rattle.edit_marks.specs.Inserts.{insert_of}
 use Rattle.edit_marks.specs.Plain.{IsCToken, AreCTokens, IsCTerm, IsSoundToken, AreSpaces, AreSoundTokens, AreSoundGaps, AreSoundLines, IsJoint}
 use Rattle.edit_marks.proofs.Rows.{Row, after, row_append, after-append, row_plain, spaces_blank, both_second}
@@ -141,9 +145,11 @@ record Whole (c : Chunk) : Type 0 where
   rows : (left : Left) → is_together left c.first ≡ false → Rowed left c.text (left_after left c.last)
   none : c.last ≡ None → c.first ≡ None
 
-not_parted : (t u : Shown) → is_parted t u ≡ false → runs_together t.text u.text ≡ false
+not_parted : (t u : Shown) → is_split_into_nodes t u ≡ false → runs_together t.text u.text ≡ false
 not_parted t u e =
-    elim (runs_together t.text u.text) as (λ (a : Bool). (a || is_wide_after t.text || is_wide_before u.text || is_operator t.role || is_operator u.role || is_named t.kind && is_star u.role) ≡ false → a ≡ false) [
+    elim (runs_together t.text u.text) as (λ (a : Bool).
+    (a || is_wide_after t.text || is_wide_before u.text || is_operator t.role || is_operator u.role || is_named t.kind
+    && is_star u.role) ≡ false → a ≡ false) [
       | true ↦ λ f. absurd (false≢true (sym f))
       | false ↦ λ f. refl
     ] e
@@ -153,16 +159,21 @@ shown_rows t [] h = nothing (Some t.text)
 shown_rows t (u ∷ us) h =
     let right = last_text (Some u.text) (map strip us) in
     let more = shown_rows u us h.1 in
-    elim (is_parted t u) as (λ (b : Bool). is_parted t u ≡ b → Rowed (Some t.text) ((if b then 32 ∷ [] else []) ++ (u.text ++ joined (Some u) us)) right) [
-      | true ↦ λ e. both_rows (Some t.text) None right (32 ∷ []) (u.text ++ joined (Some u) us) (space_row (Some t.text)) (both_rows None (Some u.text) right u.text (joined (Some u) us) (token_row None u.kind u.text h.0 refl) more)
+    elim (is_split_into_nodes t u) as (λ (b : Bool). is_split_into_nodes t u ≡ b
+    → Rowed (Some t.text) ((if b then 32 ∷ [] else []) ++ (u.text ++ joined (Some u) us)) right) [
+      | true ↦ λ e. both_rows (Some t.text) None right (32 ∷ []) (u.text ++ joined (Some u) us) (space_row (Some t.text))
+          (both_rows None (Some u.text) right u.text (joined (Some u) us) (token_row None u.kind u.text h.0 refl) more)
       | false ↦ λ e. both_rows (Some t.text) (Some u.text) right u.text (joined (Some u) us) (token_row (Some t.text) u.kind u.text h.0 (not_parted t u e)) more
     ] refl
 
-all_rows : (left : Left) (us : List Shown) → All (map strip us) → is_together left (first_text (map strip us)) ≡ false → Rowed left (joined None us) (last_text left (map strip us))
+all_rows : (left : Left) (us : List Shown) → All (map strip us) → is_together left (first_text (map strip us)) ≡ false
+    → Rowed left (joined None us) (last_text left (map strip us))
 all_rows left [] h e = nothing left
-all_rows left (u ∷ us) h e = both_rows left (Some u.text) (last_text (Some u.text) (map strip us)) u.text (joined (Some u) us) (token_row left u.kind u.text h.0 e) (shown_rows u us h.1)
+all_rows left (u ∷ us) h e = both_rows left (Some u.text) (last_text (Some u.text) (map strip us)) u.text (joined (Some u) us)
+    (token_row left u.kind u.text h.0 e) (shown_rows u us h.1)
 
-term_rows : (t : Tree) (left : Left) → AreCTokens (leaves t) → is_together left (first_text (map strip_token (leaves t))) ≡ false → Rowed left (show_of t) (last_text left (map strip_token (leaves t)))
+term_rows : (t : Tree) (left : Left) → AreCTokens (leaves t)
+    → is_together left (first_text (map strip_token (leaves t))) ≡ false → Rowed left (show_of t) (last_text left (map strip_token (leaves t)))
 term_rows t left h e =
     let same = shows_leaves t Plain in
     let all = subst All (sym same) (all_stripped (leaves t) h) in
@@ -172,7 +183,8 @@ term_rows t left h e =
 after_last : (ts : List Token) (left : Left) → last_text left (map strip_token ts) ≡ left_after left (text_of_token (slice_get ts (length ts - 1)))
 after_last [] left = refl
 after_last (t ∷ ts) left =
-    elim (text_of_token (slice_get (t ∷ ts) (length (t ∷ ts) - 1))) as (λ (o : Left). o ≡ last_text left (map strip_token (t ∷ ts)) → last_text left (map strip_token (t ∷ ts)) ≡ left_after left o) [
+    elim (text_of_token (slice_get (t ∷ ts) (length (t ∷ ts) - 1))) as (λ (o : Left). o
+    ≡ last_text left (map strip_token (t ∷ ts)) → last_text left (map strip_token (t ∷ ts)) ≡ left_after left o) [
       | None ↦ λ e. absurd (some_last (strip_token t) (map strip_token ts) left (sym e))
       | Some l ↦ λ e. sym e
     ] (last_of t ts left)
@@ -183,7 +195,8 @@ none_first (t ∷ ts) e = absurd (some_last (strip_token t) (map strip_token ts)
 
 value_whole : (t : Tree) → AreCTokens (leaves t) → Whole (value_chunk t)
 value_whole t h = record {
-  rows = λ left e. subst (λ (o : Left). Rowed left (show_of t) o) (after_last (leaves t) left) (term_rows t left h (ap (is_together left) (sym (first_of (leaves t))) ∙ e));
+  rows = λ left e. subst (λ (o : Left). Rowed left (show_of t) o) (after_last (leaves t) left)
+      (term_rows t left h (ap (is_together left) (sym (first_of (leaves t))) ∙ e));
   none = none_first (leaves t);
 }
 
@@ -198,10 +211,11 @@ text_whole : (token : TokenKind) (text : List ℕ) → IsCToken token text → W
 text_whole token text c = record { rows = λ left e. token_row left token text c e; none = λ e. absurd (some_none text e) }
 
 whole : (decls : List VarDecl) (env : Environment) (t : Token) → IsSoundToken (is_meta t.kind) decls env t → Whole (chunk_of decls env t)
-whole decls env t h = elim (is_meta t.kind) as (λ (b : Bool). IsSoundToken b decls env t → Whole (if b then term_chunk (term decls env t.text) else record { text = t.text; first = Some t.text; last = Some t.text })) [
-  | true ↦ λ h. term_whole (term decls env t.text) h
-  | false ↦ λ h. text_whole t.kind t.text h
-] h
+whole decls env t h = elim (is_meta t.kind) as (λ (b : Bool). IsSoundToken b decls env t
+    → Whole (if b then term_chunk (term decls env t.text) else record { text = t.text; first = Some t.text; last = Some t.text })) [
+      | true ↦ λ h. term_whole (term decls env t.text) h
+      | false ↦ λ h. text_whole t.kind t.text h
+    ] h
 
 -- tokens, lines, blocks
 
@@ -215,13 +229,16 @@ same_after left first None h e = absurd (no_first left first (h refl) e)
 same_after left first (Some l) h e = refl
 
 between : (left : Left) (c : Chunk) → Whole c → Rowed left (blank_between left c.first ++ c.text) (left_after left c.last)
-between left c w = elim (is_together left c.first) as (λ (b : Bool). is_together left c.first ≡ b → Rowed left ((if b then 32 ∷ [] else []) ++ c.text) (left_after left c.last)) [
-  | true ↦ λ e. both_rows left None (left_after left c.last) (32 ∷ []) c.text (space_row left) (subst (λ (o : Left). Rowed None c.text o) (same_after left c.first c.last w.none e) (w.rows None refl))
-  | false ↦ λ e. w.rows left e
-] refl
+between left c w = elim (is_together left c.first) as (λ (b : Bool). is_together left c.first ≡ b
+    → Rowed left ((if b then 32 ∷ [] else []) ++ c.text) (left_after left c.last)) [
+      | true ↦ λ e. both_rows left None (left_after left c.last) (32 ∷ []) c.text (space_row left)
+          (subst (λ (o : Left). Rowed None c.text o) (same_after left c.first c.last w.none e) (w.rows None refl))
+      | false ↦ λ e. w.rows left e
+    ] refl
 
 chunk_row : (left : Left) (gap : List ℕ) (c : Chunk) → AreSpaces gap → Whole c → Rowed left (chunk_text left gap c) (left_after (left_at left gap) c.last)
-chunk_row left gap c e w = both_rows left (left_at left gap) (left_after (left_at left gap) c.last) gap (blank_between (left_at left gap) c.first ++ c.text) (gap_row left gap e) (between (left_at left gap) c w)
+chunk_row left gap c e w = both_rows left (left_at left gap) (left_after (left_at left gap) c.last) gap
+    (blank_between (left_at left gap) c.first ++ c.text) (gap_row left gap e) (between (left_at left gap) c w)
 
 record Rows (left : Left) (text : List ℕ) : Type 0 where
   right : Left
@@ -233,13 +250,15 @@ then_rows left mid a b h k = record { right = k.right; rowed = both_rows left mi
 no_rows : (left : Left) → Rows left []
 no_rows left = record { right = left; rowed = nothing left }
 
-tokens_rows : (decls : List VarDecl) (env : Environment) (left : Left) (gaps : List (List ℕ)) (tokens : List Token) → AreSoundGaps gaps → AreSoundTokens decls env tokens → Rows left (tokens_text decls env left gaps tokens)
+tokens_rows : (decls : List VarDecl) (env : Environment) (left : Left) (gaps : List (List ℕ)) (tokens : List Token)
+    → AreSoundGaps gaps → AreSoundTokens decls env tokens → Rows left (tokens_text decls env left gaps tokens)
 tokens_rows decls env left gaps [] g h = no_rows left
 tokens_rows decls env left [] (t ∷ tokens) g h = no_rows left
 tokens_rows decls env left (gap ∷ gaps) (t ∷ tokens) g h =
     let c = chunk_of decls env t in
     let next = left_after (left_at left gap) c.last in
-    then_rows left next (chunk_text left gap c) (tokens_text decls env next gaps tokens) (chunk_row left gap c g.0 (whole decls env t h.0)) (tokens_rows decls env next gaps tokens g.1 h.1)
+    then_rows left next (chunk_text left gap c) (tokens_text decls env next gaps tokens)
+    (chunk_row left gap c g.0 (whole decls env t h.0)) (tokens_rows decls env next gaps tokens g.1 h.1)
 
 drop_spaces : (m : ℕ) (gap : List ℕ) → AreSpaces gap → AreSpaces (drop m gap)
 drop_spaces zero gap e = e
@@ -251,21 +270,25 @@ sound_lead m [] g = tt
 sound_lead m (gap ∷ gaps) g = (drop_spaces m gap g.0, g.1)
 
 -- after anything that ends in a blank
-line_rows : (decls : List VarDecl) (env : Environment) (m : ℕ) (line : PlusLine) → AreSoundGaps line.gaps → AreSoundTokens decls env line.tokens → Rows None (line_text decls env m line)
+line_rows : (decls : List VarDecl) (env : Environment) (m : ℕ) (line : PlusLine) → AreSoundGaps line.gaps
+    → AreSoundTokens decls env line.tokens → Rows None (line_text decls env m line)
 line_rows decls env m line g h = tokens_rows decls env None (without_lead m line.gaps) line.tokens (sound_lead m line.gaps g) h
 
 joint_row : (left : Left) (joint : List ℕ) → IsJoint joint → Rowed left joint None
 joint_row left [] j = absurd j
 joint_row left (b ∷ bs) j = gap_row left (b ∷ bs) j
 
-more_rows : (decls : List VarDecl) (env : Environment) (m : ℕ) (joint : List ℕ) (left : Left) (lines : List PlusLine) → IsJoint joint → AreSoundLines decls env lines → Rows left (more_lines decls env m joint lines)
+more_rows : (decls : List VarDecl) (env : Environment) (m : ℕ) (joint : List ℕ) (left : Left) (lines : List PlusLine)
+    → IsJoint joint → AreSoundLines decls env lines → Rows left (more_lines decls env m joint lines)
 more_rows decls env m joint left [] j h = no_rows left
 more_rows decls env m joint left (line ∷ lines) j h =
     let here = line_rows decls env m line h.0.0 h.0.1 in
     then_rows left None joint (line_text decls env m line ++ more_lines decls env m joint lines) (joint_row left joint j)
-    (then_rows None here.right (line_text decls env m line) (more_lines decls env m joint lines) here.rowed (more_rows decls env m joint here.right lines j h.1))
+    (then_rows None here.right (line_text decls env m line) (more_lines decls env m joint lines) here.rowed
+    (more_rows decls env m joint here.right lines j h.1))
 
-lines_rows : (decls : List VarDecl) (env : Environment) (m : ℕ) (joint : List ℕ) (lines : List PlusLine) → IsJoint joint → AreSoundLines decls env lines → Rows None (lines_text decls env m joint lines)
+lines_rows : (decls : List VarDecl) (env : Environment) (m : ℕ) (joint : List ℕ) (lines : List PlusLine) → IsJoint joint
+    → AreSoundLines decls env lines → Rows None (lines_text decls env m joint lines)
 lines_rows decls env m joint [] j h = no_rows None
 lines_rows decls env m joint (line ∷ lines) j h =
     let here = line_rows decls env m line h.0.0 h.0.1 in
@@ -286,11 +309,13 @@ insert_rows : (anchor : Anchor) (joint text : List ℕ) (ends : Bool) → IsJoin
 insert_rows Removed joint text ends j h = h
 insert_rows AfterLine joint text ends j h = then_rows None None joint text (joint_row None joint j) h
 insert_rows AfterToken joint text ends j h = then_rows None None (32 ∷ []) text (space_row None) h
-insert_rows BeforeToken joint text ends j h = then_rows None h.right text (if ends then joint else 32 ∷ []) h.rowed (blank_rows h.right (if ends then joint else 32 ∷ []) (end_spaces joint ends j))
+insert_rows BeforeToken joint text ends j h =
+    then_rows None h.right text (if ends then joint else 32 ∷ []) h.rowed (blank_rows h.right (if ends then joint else 32 ∷ []) (end_spaces joint ends j))
 
 -- the text of plus code at an anchor is cut into blanks and plain tokens
 pub insert_plain : (decls : List VarDecl) (env : Environment) (joint : List ℕ) (block : PlusBlock) (anchor : Anchor) (ends : Bool)
     → IsJoint joint → AreSoundLines decls env block.lines → IsPlainText (insert_of anchor joint (block_text decls env joint block) ends)
 insert_plain decls env joint block anchor ends j h =
-    let all = insert_rows anchor joint (block_text decls env joint block) ends j (lines_rows decls env (lead_of (least_lead None block.lines)) joint block.lines j h) in
+    let all = insert_rows anchor joint (block_text decls env joint block) ends j
+    (lines_rows decls env (lead_of (least_lead None block.lines)) joint block.lines j h) in
     row_plain None all.rowed.pieces (insert_of anchor joint (block_text decls env joint block) ends) all.rowed.is all.rowed.row

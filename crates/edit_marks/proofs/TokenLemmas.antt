@@ -1,5 +1,6 @@
 -- The tokens of a text, piece by piece, and the lines that they are in.
-use Rattle.std.proofs.Common.{◌≡◌, ◌≢◌, ◌<◌, ◌≤◌, ◌+◌, ◌-◌, ◌==◌, ◌||◌, ℕ, zero, suc, Bool, true, false, inl, inr, refl, sym, ap, ◌∙◌, arith, List, [], ◌∷◌, ◌++◌, append_assoc, length, drop, take, get_or, length-drop}
+use Rattle.std.proofs.Common.{◌≡◌, ◌≢◌, ◌<◌, ◌≤◌, ◌+◌, ◌-◌, ◌==◌, ◌||◌, ℕ, zero, suc, Bool, true, false, inl, inr, refl, sym}
+use Rattle.std.proofs.Common.{ap, ◌∙◌, arith, List, [], ◌∷◌, ◌++◌, append_assoc, length, drop, take, get_or, length-drop}
 use Rattle.std.specs.Prelude.{Some, All, map, slice_get, slice_range, slice_index, if◌then◌else◌}
 use Rattle.std.specs.List.{list_any}
 use Rattle.std.proofs.lemmas.List.{get_or-take, get_or-drop, length-take-le, append-nil}
@@ -68,7 +69,8 @@ from_place (y ∷ ys) (suc i) x at = from_place ys i x at
 pub drop_here : {A : Type 0} (xs : List A) (i : ℕ) (x : A) → slice_get xs i ≡ Some x → drop i xs ≡ x ∷ drop (i + 1) xs
 drop_here xs i x at = let one : suc i ≡ i + 1 = omega arith in from_place xs i x at ∙ ap (λ (n : ℕ). x ∷ drop n xs) one
 
-one_place : (bytes : List ℕ) (k : PieceKind) (p : TokenPlace) → map (token_at bytes) (places_of k p) ≡ token_of k (slice_range bytes p.start p.end) (blanks_at bytes p.line)
+one_place : (bytes : List ℕ) (k : PieceKind) (p : TokenPlace)
+    → map (token_at bytes) (places_of k p) ≡ token_of k (slice_range bytes p.start p.end) (blanks_at bytes p.line)
 one_place bytes (Word a id) p = refl
 one_place bytes Blank p = refl
 one_place bytes Comment p = refl

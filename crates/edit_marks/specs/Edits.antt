@@ -1,5 +1,6 @@
 -- The edit of a touch: what an alignment removes, and the plus code that it inserts.
-use Rattle.std.specs.Prelude.{ℕ, ◌≡◌, ◌↔◌, ◌==◌, Bool, true, false, List, [], ◌∷◌, ◌++◌, Contains, IfSome, Option, None, Some, option_and_then, slice_get, if◌then◌else◌}
+use Rattle.std.specs.Prelude.{ℕ, ◌≡◌, ◌↔◌, ◌==◌, Bool, true, false, List, [], ◌∷◌, ◌++◌, Contains, IfSome, Option, None, Some}
+use Rattle.std.specs.Prelude.{option_and_then, slice_get, if◌then◌else◌}
 use Rattle.std.specs.List.{list_any}
 use Rattle.std.specs.List.Sorted.{IsPermutation, IsSortedBy, IsStrictlyIncreasing}
 use Rattle.std.specs.Ordering.{is_lt}
@@ -57,13 +58,15 @@ insert_if decls env removed s (Some block) (Some file) = insert_of_block decls e
 
 abbrev pub inserts_at : List VarDecl → List PatToken → Environment → List FileToken → List ℕ → List PlusSpot → List Insert
 inserts_at decls tokens env files removed [] = []
-inserts_at decls tokens env files removed (s ∷ spots) = insert_if decls env removed s (block_of tokens s) (slice_get files s.token) ++ inserts_at decls tokens env files removed spots
+inserts_at decls tokens env files removed (s ∷ spots) =
+    insert_if decls env removed s (block_of tokens s) (slice_get files s.token) ++ inserts_at decls tokens env files removed spots
 
 abbrev pub HaveEvenBlocks : List PatToken → Type 0
 HaveEvenBlocks tokens = (s : PlusSpot) → IfSome (block_of tokens s) (λ block. AreEven block.lines)
 
 -- the tokens aligned with minus tokens, and the blocks of all plus code whose anchors are aligned, in order
-pub record EditOf (decls : List VarDecl) (tokens : List PatToken) (env : Environment) (files : List FileToken) (pairs : List Aligned) (edit : Edit) : Type 0 where
+pub record EditOf (decls : List VarDecl) (tokens : List PatToken) (env : Environment) (files : List FileToken)
+    (pairs : List Aligned) (edit : Edit) : Type 0 where
   pub rise : IsStrictlyIncreasing edit.removed
   pub removed : (n : ℕ) → Contains edit.removed n ↔ Contains (minus_tokens tokens pairs) n
   pub spots : List PlusSpot

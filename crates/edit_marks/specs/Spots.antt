@@ -1,5 +1,6 @@
 -- Where an alignment inserts plus code.
-use Rattle.std.specs.Prelude.{ℕ, ◌-◌, ◌&&◌, Bool, true, false, List, [], ◌∷◌, ◌++◌, length, nat_lt, slice_index, slice_get, Option, None, Some, is_some, if◌then◌else◌}
+use Rattle.std.specs.Prelude.{ℕ, ◌-◌, ◌&&◌, Bool, true, false, List, [], ◌∷◌, ◌++◌, length, nat_lt, slice_index, slice_get}
+use Rattle.std.specs.Prelude.{Option, None, Some, is_some, if◌then◌else◌}
 use Rattle.std.specs.Ordering.{on, then_cmp, nat_cmp}
 use Rattle.std.specs.declared.cmp.Ordering.{Ordering}
 use Rattle.smpl_patch.specs.declared.pattern.PatToken.{PatToken}
@@ -18,7 +19,8 @@ spot_order = then_cmp (then_cmp (on (λ s. s.token) nat_cmp) (on (λ s. side s.a
 abbrev pub token_spots : PatToken → Aligned → List PlusSpot
 token_spots t p =
     (if is_some t.before && nat_lt 0 (length p.files) then record { token = slice_index p.files 0; after = false; pattern = p.pattern } ∷ [] else [])
-    ++ (if is_some t.after && nat_lt 0 (length p.files) then record { token = slice_index p.files (length p.files - 1); after = true; pattern = p.pattern } ∷ [] else [])
+    ++ (if is_some t.after && nat_lt 0 (length p.files) then
+    record { token = slice_index p.files (length p.files - 1); after = true; pattern = p.pattern } ∷ [] else [])
 
 abbrev pub spots_of : Option PatToken → Aligned → List PlusSpot
 spots_of None p = []

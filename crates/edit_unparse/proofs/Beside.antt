@@ -125,9 +125,17 @@ rest_false false b r e f g = absurd cc
 -- a part that was not its neighbour
 pub free_step : (p q : Part) (parts : List Part) → IsOfKind p.piece → Free p.piece → were_beside p.from q.from ≡ false → Good q parts → Good p (q ∷ parts)
 free_step p q parts of free were good =
-    elim (needs_space (left_of p) q.from q.piece.text) as (λ b. needs_space (left_of p) q.from q.piece.text ≡ b → Loose (p.piece ∷ ((if b then space ∷ [] else []) ++ q.piece ∷ after q parts))) [
+    elim (needs_space (left_of p) q.from q.piece.text) as (λ b. needs_space (left_of p) q.from q.piece.text ≡ b
+    → Loose (p.piece ∷ ((if b then space ∷ [] else []) ++ q.piece ∷ after q parts))) [
       | true ↦ λ e. (of, (parted_by_space p.piece (text_of (q.piece ∷ after q parts)) of free, (of_space, (inl refl, good))))
-      | false ↦ λ e. (of, (parted p.piece q.piece (text_of (after q parts)) of free (λ w. rest_false (is_word p.piece.kind) (were_beside p.from q.from) (runs_together p.piece.text q.piece.text) e w were), good))
+      | false ↦ λ e. (
+        of,
+        (
+          parted p.piece q.piece (text_of (after q parts)) of free
+              (λ w. rest_false (is_word p.piece.kind) (were_beside p.from q.from) (runs_together p.piece.text q.piece.text) e w were),
+          good,
+        ),
+      )
     ] refl
 
 -- bytes
@@ -235,8 +243,20 @@ stays p q rest old of_p of_q was dots back =
     elim (is_back_or_not p.text) [
       | inr other ↦ record { old = old; was = was; dots = no_three p q rest old b.byte b.more b.is of_p was dots; backslash = λ e. absurd (other e) }
       | inl is ↦ elim (is_blank_or_not q.kind) [
-        | inl blank ↦ record { old = old; was = was; dots = no_three p q rest old b.byte b.more b.is of_p was dots; backslash = λ e. two_of q.text rest old b.byte b.more b.is (back is blank) }
-        | inr other ↦ record { old = rest; was = lone_before p q rest is of_p of_q other; dots = λ dot two. let both : 92 ∷ [] ≡ 46 ∷ [] = sym is ∙ dot in cc; backslash = λ e. refl }
+        | inl blank ↦ record {
+          old = old;
+          was = was;
+          dots = no_three p q rest old b.byte b.more b.is of_p was dots;
+          backslash =
+              λ e. two_of q.text rest old b.byte b.more b.is (back is blank);
+        }
+        | inr other ↦ record {
+          old = rest;
+          was = lone_before p q rest is of_p of_q other;
+          dots =
+              λ dot two. let both : 92 ∷ [] ≡ 46 ∷ [] = sym is ∙ dot in cc;
+          backslash = λ e. refl;
+        }
       ]
     ]
 
@@ -244,13 +264,15 @@ beside_next : (k : ℕ) → were_beside (Some k) (Some (k + 1)) ≡ true
 beside_next k = (Decides-eqb (k + 1) (k + 1)).1 refl
 
 -- a part that was its neighbour, and still is
-pub old_step : (p q : Part) (parts : List Part) (k : ℕ) (old : List ℕ) → p.from ≡ Some k → q.from ≡ Some (k + 1) → IsOfKind p.piece → IsOfKind q.piece → IsFirstPiece p.piece (q.piece.text ++ old)
+pub old_step : (p q : Part) (parts : List Part) (k : ℕ) (old : List ℕ) → p.from ≡ Some k → q.from ≡ Some (k + 1)
+    → IsOfKind p.piece → IsOfKind q.piece → IsFirstPiece p.piece (q.piece.text ++ old)
     → (q.piece.text ≡ 46 ∷ [] → take 1 (text_of (after q parts)) ≡ 46 ∷ [] → take 1 old ≡ 46 ∷ [])
     → (p.piece.text ≡ 92 ∷ [] → q.piece.kind ≡ Blank → take 1 (text_of (after q parts)) ≡ take 1 old)
     → Good q parts → Good p (q ∷ parts)
 old_step p q parts k old from next of_p of_q was dots back good =
     let were : were_beside p.from q.from ≡ true = (λ i. were_beside (from i) (next i)) ∙ beside_next k in
-    let none : needs_space (left_of p) q.from q.piece.text ≡ false = needless (is_word p.piece.kind) (were_beside p.from q.from) (runs_together p.piece.text q.piece.text) were in
+    let none : needs_space (left_of p) q.from q.piece.text ≡ false =
+    needless (is_word p.piece.kind) (were_beside p.from q.from) (runs_together p.piece.text q.piece.text) were in
     subst (λ b. Loose (p.piece ∷ ((if b then space ∷ [] else []) ++ q.piece ∷ after q parts))) (sym none)
     (of_p, (inr (inl (stays p.piece q.piece (text_of (after q parts)) old of_p of_q was dots back)), good))
   where
@@ -265,10 +287,19 @@ nothing p k of e none =
     let both : None ≡ Some (kind_or_stray p.kind) = sym (ap kind_of_piece e ∙ none) ∙ h.0 in
     cc
 
-ends_by : (p : TextPiece) → IsOfKind p → (kind_of_piece p.kind ≡ Some kind.Stray → ⊥) → (k : PieceKind) → p.kind ≡ k → (c : ℕ) (os : List ℕ) → (c ≡ 10 → ⊥) → IsFirstPiece p (c ∷ os) → Free p
+ends_by : (p : TextPiece) → IsOfKind p → (kind_of_piece p.kind ≡ Some kind.Stray → ⊥) → (k : PieceKind) → p.kind ≡ k
+    → (c : ℕ) (os : List ℕ) → (c ≡ 10 → ⊥) → IsFirstPiece p (c ∷ os) → Free p
 ends_by p of no_stray Blank e c os other was = inl e
-ends_by p of no_stray Comment e c os other was = inr (inr (record { always = λ rest. first_as p kind.Comment rest (ap kind_of_piece e) (comment_ended p.text c os (first_of p kind.Comment (c ∷ os) (ap kind_of_piece e) was) other rest) }))
-ends_by p of no_stray Line e c os other was = inr (inr (record { always = λ rest. first_as p kind.Line rest (ap kind_of_piece e) (line_ended p.text c os (first_of p kind.Line (c ∷ os) (ap kind_of_piece e) was) other rest) }))
+ends_by p of no_stray Comment e c os other was =
+    inr (inr (record {
+      always = λ rest. first_as p kind.Comment rest (ap kind_of_piece e)
+          (comment_ended p.text c os (first_of p kind.Comment (c ∷ os) (ap kind_of_piece e) was) other rest);
+    }))
+ends_by p of no_stray Line e c os other was =
+    inr (inr (record {
+      always = λ rest. first_as p kind.Line rest (ap kind_of_piece e)
+          (line_ended p.text c os (first_of p kind.Line (c ∷ os) (ap kind_of_piece e) was) other rest);
+    }))
 ends_by p of no_stray (Word Stray id) e c os other was = absurd (no_stray (ap kind_of_piece e))
 ends_by p of no_stray (Word Name id) e c os other was = inr (inl (subst PlainWord (sym e) (plain_word (Word Name id) refl)))
 ends_by p of no_stray (Word Keyword id) e c os other was = inr (inl (subst PlainWord (sym e) (plain_word (Word Keyword id) refl)))
@@ -281,7 +312,8 @@ ends_by p of no_stray (Word Dots id) e c os other was = absurd (nothing p (Word 
 ends_by p of no_stray (Word Pat id) e c os other was = absurd (nothing p (Word Pat id) of e refl)
 
 -- a piece before a token that is removed or gets something before it ends by itself
-pub ends_before : (p q : TextPiece) (old : List ℕ) → IsOfKind p → IsOfKind q → (q.kind ≡ Blank → ⊥) → (kind_of_piece p.kind ≡ Some kind.Stray → ⊥) → IsFirstPiece p (q.text ++ old) → Free p
+pub ends_before : (p q : TextPiece) (old : List ℕ) → IsOfKind p → IsOfKind q → (q.kind ≡ Blank → ⊥)
+    → (kind_of_piece p.kind ≡ Some kind.Stray → ⊥) → IsFirstPiece p (q.text ++ old) → Free p
 ends_before p q old of_p of_q other no_stray was =
     let b = bytes_of q of_q in
     let was_there : IsFirstPiece p (b.byte ∷ (b.more ++ old)) = subst (λ (l : List ℕ). IsFirstPiece p (l ++ old)) b.is was in

@@ -34,21 +34,25 @@ unfolding runs_together
 not_parted = refl
 
 -- the blanks beside a removed token stay, and separate what is left
-blanks_stay : text_of (output_of (piece (Word Name 0) (codes "a") ∷ piece Blank (32 ∷ []) ∷ piece (Word Punct 1) (codes "-") ∷ piece Blank (9 ∷ []) ∷ piece (Word Name 2) (codes "b") ∷ []) (removal 1 ∷ []) 9) ≡ codes "a" ++ 32 ∷ 9 ∷ codes "b"
+blanks_stay : text_of (output_of (piece (Word Name 0) (codes "a") ∷ piece Blank (32 ∷ []) ∷ piece (Word Punct 1) (codes "-")
+    ∷ piece Blank (9 ∷ []) ∷ piece (Word Name 2) (codes "b") ∷ []) (removal 1 ∷ []) 9) ≡ codes "a" ++ 32 ∷ 9 ∷ codes "b"
 unfolding runs_together
 blanks_stay = refl
 
 -- `/` and what is left of `/b/` after it would begin a comment
-no_comment_begins : text_of (output_of (piece (Word Punct 0) (codes "/") ∷ piece (Word Name 1) (codes "b") ∷ piece (Word Punct 2) (codes "/") ∷ []) (removal 1 ∷ []) 9) ≡ codes "/ /"
+no_comment_begins : text_of (output_of (piece (Word Punct 0) (codes "/") ∷ piece (Word Name 1) (codes "b")
+    ∷ piece (Word Punct 2) (codes "/") ∷ []) (removal 1 ∷ []) 9) ≡ codes "/ /"
 unfolding runs_together
 no_comment_begins = refl
 
 -- a comment is not a token: no space comes after it
-after_a_comment : text_of (output_of (piece Comment (codes "/**/") ∷ piece (Word Name 0) (codes "a") ∷ piece (Word Name 1) (codes "b") ∷ []) (removal 0 ∷ []) 9) ≡ codes "/**/b"
+after_a_comment : text_of (output_of (piece Comment (codes "/**/") ∷ piece (Word Name 0) (codes "a")
+    ∷ piece (Word Name 1) (codes "b") ∷ []) (removal 0 ∷ []) 9) ≡ codes "/**/b"
 unfolding runs_together
 after_a_comment = refl
 
 -- neighbours in the old text stay next to each other, whatever they are
-old_neighbours : text_of (output_of (piece (Word Punct 0) (codes ".") ∷ piece (Word Punct 1) (codes ".") ∷ piece (Word Name 2) (codes "a") ∷ []) (removal 2 ∷ []) 9) ≡ codes ".."
+old_neighbours : text_of (output_of (piece (Word Punct 0) (codes ".") ∷ piece (Word Punct 1) (codes ".")
+    ∷ piece (Word Name 2) (codes "a") ∷ []) (removal 2 ∷ []) 9) ≡ codes ".."
 unfolding runs_together
 old_neighbours = refl

@@ -13,7 +13,8 @@ use Rattle.c_lexer.specs.Ids.{ids_of, id_before}
 use Rattle.edit_marks.specs.declared.edit_conflict.edit.Side.TheVariants.{Before, After}
 use Rattle.edit_marks.specs.declared.edit_conflict.edit.Edit.{Edit}
 use Rattle.edit_unparse.specs.Cutting.{cut}
-use Rattle.edit_unparse.specs.Output.{Part, Left, inserted, is_removed, new_part, new_parts, added, old_part, kept, parts_at, placed, left_of, gap, with_next, next_after, spaced, output_of}
+use Rattle.edit_unparse.specs.Output.{Part, Left, inserted, is_removed, new_part, new_parts, added, old_part, kept, parts_at}
+use Rattle.edit_unparse.specs.Output.{placed, left_of, gap, with_next, next_after, spaced, output_of}
 use Rattle.edit_unparse.specs.NextId.{free_id}
 use Rattle.edit_unparse.proofs.WrittenLemmas.{ids_of-append, gap_ids}
 
@@ -84,7 +85,8 @@ module _ (base : ℕ) where
       let same : ids_of (front ++ own ∷ rest) ≡ ids_of (own ∷ rest) =
       ids_of-append front (own ∷ rest) ∙ ap (λ (l : List ℕ). l ++ ids_of (own ∷ rest)) (gap_ids left p.from p.piece.text) in
       subst (Within n) (sym same)
-      (one_more p.from p.piece.kind n (ids_of rest) le old.0 (spaced_within (Some (left_of p)) (next_after p.from n p.piece.kind) parts (next_up p.from p.piece.kind n le) old.1))
+      (one_more p.from p.piece.kind n (ids_of rest) le old.0
+      (spaced_within (Some (left_of p)) (next_after p.from n p.piece.kind) parts (next_up p.from p.piece.kind n le) old.1))
 
   -- ---- the parts of a text whose ids are below base
 
@@ -108,7 +110,8 @@ module _ (base : ℕ) where
   at_old (Word k id) edits token number p h =
       both_old (added (inserted Before token edits)) (kept (is_removed token edits) number p ++ added (inserted After token edits))
       (added_old (inserted Before token edits))
-      (both_old (kept (is_removed token edits) number p) (added (inserted After token edits)) (kept_old (is_removed token edits) number p h) (added_old (inserted After token edits)))
+      (both_old (kept (is_removed token edits) number p) (added (inserted After token edits))
+      (kept_old (is_removed token edits) number p h) (added_old (inserted After token edits)))
   at_old Blank edits token number p h = (h, tt)
   at_old Comment edits token number p h = (h, tt)
   at_old Line edits token number p h = (h, tt)
@@ -119,7 +122,8 @@ module _ (base : ℕ) where
   first_old Comment number ids h = (tt, h)
   first_old Line number ids h = (tt, h)
 
-  placed_old : (edits : List Edit) (token number : ℕ) (pieces : List TextPiece) → All (λ id. id < base) (ids_of pieces) → AreOld (placed edits token number pieces)
+  placed_old : (edits : List Edit) (token number : ℕ) (pieces : List TextPiece) → All (λ id. id < base) (ids_of pieces)
+      → AreOld (placed edits token number pieces)
   placed_old edits token number [] h = tt
   placed_old edits token number (p ∷ pieces) h =
       let first = first_old p.kind number (ids_of pieces) h in

@@ -67,18 +67,21 @@ module _ (pieces : List TextPiece) (edits : List Edit) (next : ℕ) where
 
   module _ (marks : List Mark) (are : AreMarks edits marks) where
     -- a run that is too long
-    pub over_run : (at stop : ℕ) (from : Place) (d : Draft) → length pieces ≤ 16777216 → from.piece ≤ length pieces → from.token ≤ from.piece → Ahead edits marks at from.token
+    pub over_run : (at stop : ℕ) (from : Place) (d : Draft) → length pieces ≤ 16777216 → from.piece ≤ length pieces
+        → from.token ≤ from.piece → Ahead edits marks at from.token
         → stop ≡ next_token (drop at marks)
         → ((es : List Edit) → Untouched es from.token stop → Overflows d (placed es from.token from.piece (drop from.piece pieces)))
         → Ends pieces edits next d (placed edits from.token from.piece (drop from.piece pieces)) → 16777216 < length (text_of (output_of pieces edits next))
     over_run at stop from d small within few ahead is over ends =
         let less : from.token ≤ 4294967295 = omega (arith, small, within, few) in
-        let none : Untouched edits from.token stop = subst (λ (s : ℕ). Untouched edits from.token s) (sym is) (untouched edits marks at from.token are ahead less) in
+        let none : Untouched edits from.token stop =
+        subst (λ (s : ℕ). Untouched edits from.token s) (sym is) (untouched edits marks at from.token are ahead less) in
         let rest = placed edits from.token from.piece (drop from.piece pieces) in
         ends_over pieces edits next d rest [] (subst (Ends pieces edits next d) (sym (append-nil rest)) ends) (over edits none)
 
     -- a run up to the next touched token
-    pub is_at : (at stop : ℕ) (from to : Place) (d e : Draft) → length pieces ≤ 16777216 → from.piece ≤ length pieces → from.token ≤ from.piece → Ahead edits marks at from.token
+    pub is_at : (at stop : ℕ) (from to : Place) (d e : Draft) → length pieces ≤ 16777216 → from.piece ≤ length pieces
+        → from.token ≤ from.piece → Ahead edits marks at from.token
         → stop ≡ next_token (drop at marks) → IsRun pieces from stop to → Writes d e (old_parts from.piece (run_of pieces from.piece to.piece))
         → Ends pieces edits next d (placed edits from.token from.piece (drop from.piece pieces)) → IsAt pieces edits next marks at to e
     is_at at stop from to d e small within few ahead is run writes ends =
@@ -89,12 +92,14 @@ module _ (pieces : List TextPiece) (edits : List Edit) (next : ℕ) where
           few = own.passes.few;
           word = own.word;
           acts = ahead_on edits marks at from.token are ahead less to.token own.passes.up own.passes.below;
-          reached = ends_more pieces edits next d e (old_parts from.piece (run_of pieces from.piece to.piece)) (placed edits to.token to.piece (drop to.piece pieces))
+          reached = ends_more pieces edits next d e (old_parts from.piece (run_of pieces from.piece to.piece))
+              (placed edits to.token to.piece (drop to.piece pieces))
               (subst (Ends pieces edits next d) (own.passes.same edits (untouched edits marks at from.token are ahead less)) ends) writes;
         }
 
     -- a touched token, and the run after it
-    pub is_at_next : (at count stop : ℕ) (place to : Place) (d e f : Draft) → length pieces ≤ 16777216 → place.piece < length pieces → IsAt pieces edits next marks at place d
+    pub is_at_next : (at count stop : ℕ) (place to : Place) (d e f : Draft) → length pieces ≤ 16777216
+        → place.piece < length pieces → IsAt pieces edits next marks at place d
         → count ≡ prefix_len (is_at_token place.token) (take (length marks - at) (drop at marks)) → count ≤ length (take (length marks - at) (drop at marks))
         → ((p : TextPiece) → slice_get pieces place.piece ≡ Some p → Writes d e (token_parts edits place.token place.piece p))
         → stop ≡ next_token (take (length marks - (at + count)) (drop (at + count) marks))
@@ -110,7 +115,8 @@ module _ (pieces : List TextPiece) (edits : List Edit) (next : ℕ) where
         (ahead_next edits marks at place.token count are own.acts counted fits) (is ∙ ap next_token (take_rest marks (at + count))) run writes ends
 
     -- a run that is too long after a touched token
-    pub over_next : (at count stop : ℕ) (place : Place) (d e : Draft) → length pieces ≤ 16777216 → place.piece < length pieces → IsAt pieces edits next marks at place d
+    pub over_next : (at count stop : ℕ) (place : Place) (d e : Draft) → length pieces ≤ 16777216 → place.piece < length pieces
+        → IsAt pieces edits next marks at place d
         → count ≡ prefix_len (is_at_token place.token) (take (length marks - at) (drop at marks)) → count ≤ length (take (length marks - at) (drop at marks))
         → ((p : TextPiece) → slice_get pieces place.piece ≡ Some p → Writes d e (token_parts edits place.token place.piece p))
         → stop ≡ next_token (take (length marks - (at + count)) (drop (at + count) marks))
@@ -125,7 +131,8 @@ module _ (pieces : List TextPiece) (edits : List Edit) (next : ℕ) where
         (ahead_next edits marks at place.token count are own.acts counted fits) (is ∙ ap next_token (take_rest marks (at + count))) over ends
 
     -- the next touched token is a later one
-    pub stop_later : (at count stop : ℕ) (place : Place) (d : Draft) → length pieces ≤ 16777216 → place.piece < length pieces → IsAt pieces edits next marks at place d
+    pub stop_later : (at count stop : ℕ) (place : Place) (d : Draft) → length pieces ≤ 16777216 → place.piece < length pieces
+        → IsAt pieces edits next marks at place d
         → count ≡ prefix_len (is_at_token place.token) (take (length marks - at) (drop at marks)) → count ≤ length (take (length marks - at) (drop at marks))
         → stop ≡ next_token (take (length marks - (at + count)) (drop (at + count) marks)) → place.token + 1 ≤ stop
     stop_later at count stop place d small less own counted fits is =
@@ -134,7 +141,8 @@ module _ (pieces : List TextPiece) (edits : List Edit) (next : ℕ) where
         subst (λ (s : ℕ). place.token + 1 ≤ s) (sym (is ∙ ap next_token (take_rest marks (at + count)))) later.0
 
 -- if nothing is left, all is written
-pub all_written : (pieces : List TextPiece) (edits all : List Edit) (next : ℕ) (d : Draft) (token i : ℕ) → length pieces ≤ i → all ≡ edits → Ends pieces all next d (placed all token i (drop i pieces))
+pub all_written : (pieces : List TextPiece) (edits all : List Edit) (next : ℕ) (d : Draft) (token i : ℕ) → length pieces ≤ i
+    → all ≡ edits → Ends pieces all next d (placed all token i (drop i pieces))
     → (d.bytes.items ≡ text_of (output_of pieces edits next)) × (d.ids.items ≡ ids_of (output_of pieces edits next))
 all_written pieces edits all next d token i less same ends =
     let none : placed all token i (drop i pieces) ≡ [] = ap (placed all token i) (drop_all i pieces less) in

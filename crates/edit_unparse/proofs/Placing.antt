@@ -1,5 +1,6 @@
 -- The parts of the new text, joined with spaces, are loose: each stays separate from the next.
-use Rattle.std.proofs.Common.{◌≡◌, ◌<◌, ◌≤◌, ◌+◌, ◌==◌, ◌&&◌, ◌⊎◌, ℕ, Bool, true, false, refl, sym, ap, ◌∙◌, inl, inr, arith, List, [], ◌∷◌, ◌++◌, append_assoc, take, map, subst}
+use Rattle.std.proofs.Common.{◌≡◌, ◌<◌, ◌≤◌, ◌+◌, ◌==◌, ◌&&◌, ◌⊎◌, ℕ, Bool, true, false, refl, sym, ap, ◌∙◌, inl, inr, arith}
+use Rattle.std.proofs.Common.{List, [], ◌∷◌, ◌++◌, append_assoc, take, map, subst}
 use Rattle.std.specs.Prelude.{Option, Some, None, if◌then◌else◌}
 use Rattle.std.specs.List.{list_all}
 use Rattle.std.proofs.lemmas.Bool.{false≢true}
@@ -23,7 +24,8 @@ use Rattle.edit_marks.specs.declared.edit_conflict.edit.Side.TheVariants.{Before
 use Rattle.c_show.specs.Joint.{runs_together}
 use Rattle.c_show.proofs.Together.{runs_together-decides}
 use Rattle.edit_unparse.specs.Cutting.{cut, cut-lexes}
-use Rattle.edit_unparse.specs.Output.{Part, left_of, is_word, space, needs_space, were_beside, new_part, new_parts, added, inserted, is_removed, kept, old_part, parts_at, placed}
+use Rattle.edit_unparse.specs.Output.{Part, left_of, is_word, space, needs_space, were_beside, new_part, new_parts, added}
+use Rattle.edit_unparse.specs.Output.{inserted, is_removed, kept, old_part, parts_at, placed}
 use Rattle.c_show.specs.PlainText.{may_come}
 use Rattle.edit_unparse.specs.Fair.{is_stray, is_plain_text}
 use Rattle.edit_unparse.proofs.Beside.{after, Good, Free, PlainWord, plain_word, free_step, bytes_of, rest_false, has_kind}
@@ -59,7 +61,8 @@ of_first p rest first =
 bare_of_kind : (p : TextPiece) (rest : List ℕ) → IsFirstPiece p rest → IsOfKind (without_id p)
 bare_of_kind p rest first = by p.kind (known p.kind (λ k. kind_of p.text ≡ Some k) (of_first p rest first))
   where
-    by : (k : PieceKind) → (kind_of_piece k ≡ Some (kind_or_stray k)) × (kind_of p.text ≡ Some (kind_or_stray k)) → IsOfKind (record { kind = kind_without_id k; text = p.text })
+    by : (k : PieceKind) → (kind_of_piece k ≡ Some (kind_or_stray k)) × (kind_of p.text ≡ Some (kind_or_stray k))
+        → IsOfKind (record { kind = kind_without_id k; text = p.text })
     by Blank h = h.1
     by Comment h = h.1
     by Line h = h.1
@@ -92,7 +95,8 @@ cut_new (p ∷ ps) cuts e = (
 
 pub added_new : (texts : List (List ℕ)) → list_all is_plain_text texts ≡ true → AllNew (added texts)
 added_new [] e = tt
-added_new (t ∷ texts) e = all_new-append (new_parts t) (added texts) (cut_new (cut t) (cut-lexes t).1.0 (both_first (is_plain_text t) _ e)) (added_new texts (both_second (is_plain_text t) _ e))
+added_new (t ∷ texts) e = all_new-append (new_parts t) (added texts)
+    (cut_new (cut t) (cut-lexes t).1.0 (both_first (is_plain_text t) _ e)) (added_new texts (both_second (is_plain_text t) _ e))
 
 beside_new : (o p : Option ℕ) → p ≡ None → were_beside o p ≡ false
 beside_new None p e = refl
@@ -102,7 +106,8 @@ pub new_beside : (o p : Option ℕ) → o ≡ None → were_beside o p ≡ false
 new_beside o p e = ap (λ x. were_beside x p) e
 
 -- new parts before others
-pub through : (new : List Part) → AllNew new → (p : Part) (rest : List Part) → IsOfKind p.piece → (new ≡ [] → Good p rest) → ((new ≡ [] → ⊥) → Free p.piece) → ((l : Part) → New l → Good l rest) → Good p (new ++ rest)
+pub through : (new : List Part) → AllNew new → (p : Part) (rest : List Part) → IsOfKind p.piece → (new ≡ [] → Good p rest)
+    → ((new ≡ [] → ⊥) → Free p.piece) → ((l : Part) → New l → Good l rest) → Good p (new ++ rest)
 through [] all p rest of none free more = none refl
 through (x ∷ new) all p rest of none free more =
     free_step p x (new ++ rest) of (free (λ e. cc)) (beside_new p.from x.from all.0.from)
@@ -135,7 +140,8 @@ take_one xs ys b bs is = rw is refl
 one_old : (n : ℕ) (r : TextPiece) (rest : List ℕ) (xs : List Part) → IsOfKind r → Head n (r.text ++ rest) (old_part n r ∷ xs)
 one_old n r rest xs of = record {
   of = λ q more e. subst (λ (x : Part). IsOfKind x.piece) (head_of (old_part n r) q xs more e) of;
-  least = λ q more m e from. let both : Some m ≡ Some n = sym from ∙ ap (λ (x : Part). x.from) (sym (head_of (old_part n r) q xs more e)) in let same : m ≡ n = cc in omega arith;
+  least = λ q more m e from. let both : Some m ≡ Some n =
+      sym from ∙ ap (λ (x : Part). x.from) (sym (head_of (old_part n r) q xs more e)) in let same : m ≡ n = cc in omega arith;
   same = λ q more e from.
       let b = bytes_of r of in
       ap (λ (x : Part). take 1 x.piece.text) (sym (head_of (old_part n r) q xs more e)) ∙ sym (take_one r.text rest b.byte b.more b.is);
@@ -163,7 +169,8 @@ pub take_front : (f : TextPiece) (more : List ℕ) → IsOfKind f → take 1 (f.
 take_front f more of = let b = bytes_of f of in take_one f.text more b.byte b.more b.is
 
 -- what begins the text after a part, depending on whether a space is there
-after_with : (b : Bool) (f : Part) (fs : List Part) → take 1 (text_of ((if b then space ∷ [] else []) ++ f.piece ∷ after f fs)) ≡ 46 ∷ [] → IsOfKind f.piece → (b ≡ false) × (take 1 f.piece.text ≡ 46 ∷ [])
+after_with : (b : Bool) (f : Part) (fs : List Part)
+    → take 1 (text_of ((if b then space ∷ [] else []) ++ f.piece ∷ after f fs)) ≡ 46 ∷ [] → IsOfKind f.piece → (b ≡ false) × (take 1 f.piece.text ≡ 46 ∷ [])
 after_with true f fs e of = absurd (space_no_dot (32 ∷ []) refl e)
 after_with false f fs e of = (refl, sym (take_front f.piece (text_of (after f fs)) of) ∙ e)
 
@@ -191,14 +198,18 @@ module _ (edits : List Edit) (plain_texts : (token : ℕ) → AllNew (added (ins
       word : (gone : Bool) (rest : List Part) → Head (n + 1) (text_of rs) rest
           → Head n (r.text ++ text_of rs) ((added (inserted Before token edits) ++ (kept gone n r ++ added (inserted After token edits))) ++ rest)
       word gone rest h =
-          subst (Head n (r.text ++ text_of rs)) (sym (append_assoc (added (inserted Before token edits)) (kept gone n r ++ added (inserted After token edits)) rest))
-          (news_first n (r.text ++ text_of rs) (added (inserted Before token edits)) ((kept gone n r ++ added (inserted After token edits)) ++ rest) (plain_texts token).0 (middle gone))
+          subst (Head n (r.text ++ text_of rs)) (sym
+          (append_assoc (added (inserted Before token edits)) (kept gone n r ++ added (inserted After token edits)) rest))
+          (news_first n (r.text ++ text_of rs) (added (inserted Before token edits))
+          ((kept gone n r ++ added (inserted After token edits)) ++ rest) (plain_texts token).0 (middle gone))
         where
           middle : (gone : Bool) → Head n (r.text ++ text_of rs) ((kept gone n r ++ added (inserted After token edits)) ++ rest)
           middle false = one_old n r (text_of rs) (added (inserted After token edits) ++ rest) of_r
-          middle true = news_first n (r.text ++ text_of rs) (added (inserted After token edits)) rest (plain_texts token).1 (later n (text_of rs) (r.text ++ text_of rs) rest h)
+          middle true = news_first n (r.text ++ text_of rs) (added (inserted After token edits)) rest (plain_texts token).1
+              (later n (text_of rs) (r.text ++ text_of rs) rest h)
 
-      by : (k : PieceKind) → Head (n + 1) (text_of rs) (placed edits (id_after r.kind token) (n + 1) rs) → Head n (r.text ++ text_of rs) (parts_at k edits token n r ++ placed edits (id_after r.kind token) (n + 1) rs)
+      by : (k : PieceKind) → Head (n + 1) (text_of rs) (placed edits (id_after r.kind token) (n + 1) rs)
+          → Head n (r.text ++ text_of rs) (parts_at k edits token n r ++ placed edits (id_after r.kind token) (n + 1) rs)
       by (Word kind id) h = word (is_removed token edits) _ h
       by Blank h = one_old n r (text_of rs) _ of_r
       by Comment h = one_old n r (text_of rs) _ of_r
@@ -234,7 +245,11 @@ far_beside a n (Some m) less least = by (m == a + 1) refl
 
 -- a neighbour whose piece is removed is apart from what follows it
 pub gone_apart : (p : Part) (n : ℕ) (text : List ℕ) (b : Bool) → Next p n text b → Free p.piece → Apart p (n + 1)
-gone_apart p n text b next free = record { free = free; were = λ o least. ap (λ x. were_beside x o) next.from ∙ far_beside next.number (n + 1) o (omega (arith, next.before)) least }
+gone_apart p n text b next free = record {
+  free = free;
+  were =
+      λ o least. ap (λ x. were_beside x o) next.from ∙ far_beside next.number (n + 1) o (omega (arith, next.before)) least;
+}
 
 pub apart_more : (p : Part) (n : ℕ) → Apart p n → Apart p (n + 1)
 apart_more p n a = record { free = a.free; were = λ o least. a.were o (λ m e. let l = least m e in omega arith) }

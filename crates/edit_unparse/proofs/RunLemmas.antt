@@ -1,5 +1,6 @@
 -- Runs of pieces that no edit touches: which parts are there, and what of them is written.
-use Rattle.std.proofs.Common.{◌≡◌, ◌<◌, ◌≤◌, ◌+◌, ◌-◌, ◌==◌, ℕ, zero, suc, true, false, inl, inr, refl, sym, ap, ◌∙◌, arith, List, [], ◌∷◌, ◌++◌, append_assoc, length, take, drop, filter, subst}
+use Rattle.std.proofs.Common.{◌≡◌, ◌<◌, ◌≤◌, ◌+◌, ◌-◌, ◌==◌, ℕ, zero, suc, true, false, inl, inr, refl, sym, ap, ◌∙◌, arith}
+use Rattle.std.proofs.Common.{List, [], ◌∷◌, ◌++◌, append_assoc, length, take, drop, filter, subst}
 use Rattle.std.specs.Prelude.{Some, slice_get}
 use Rattle.std.specs.List.{list_any}
 use Rattle.std.proofs.lemmas.List.{append-nil, length-take-le, length-drop}
@@ -33,7 +34,11 @@ token_stays edits t n p none =
     λ i. added (before i) ++ (kept (gone i) n p ++ added (after i))
 
 not_there : (t stop : ℕ) → (t == stop) ≡ false → t ≤ stop → t < stop
-not_there t stop e le = grind (arith, (λ (same : t ≡ stop). let yes : (t == stop) ≡ true = (Decides-eqb t stop).1 same in let both : true ≡ false = sym yes ∙ e in both))
+not_there t stop e le = grind (
+  arith,
+  (λ (same : t ≡ stop). let yes : (t == stop) ≡ true = (Decides-eqb t stop).1 same in
+      let both : true ≡ false = sym yes ∙ e in both),
+)
 
 piece_stays : (edits : List Edit) (t n stop : ℕ) (k : PieceKind) (p : TextPiece) → is_stop k t stop ≡ false → t ≤ stop
     → ((u : ℕ) → t ≤ u → u < stop → filter (is_at u) (marks_from 0 edits) ≡ []) → parts_at k edits t n p ≡ old_part n p ∷ []
@@ -83,17 +88,20 @@ run_none pieces a = let e : a - a ≡ 0 = omega arith in ap (λ (n : ℕ). take 
 pub run_length : (pieces : List TextPiece) (a b : ℕ) → a ≤ b → b ≤ length pieces → length (run_of pieces a b) ≡ b - a
 run_length pieces a b le within = length-take-le (b - a) (drop a pieces) (omega (arith, length-drop a pieces))
 
-pub passes_start : (pieces : List TextPiece) (from : Place) (stop : ℕ) → from.piece ≤ length pieces → from.token ≤ from.piece → from.token ≤ stop → Passes pieces from stop from.piece from.token
+pub passes_start : (pieces : List TextPiece) (from : Place) (stop : ℕ) → from.piece ≤ length pieces → from.token ≤ from.piece
+    → from.token ≤ stop → Passes pieces from stop from.piece from.token
 passes_start pieces from stop within few ahead = record {
   on = omega arith;
   within = within;
   few = few;
   up = omega arith;
   below = ahead;
-  same = λ edits none. ap (λ (l : List TextPiece). old_parts from.piece l ++ placed edits from.token from.piece (drop from.piece pieces)) (sym (run_none pieces from.piece));
+  same = λ edits none. ap (λ (l : List TextPiece). old_parts from.piece l
+      ++ placed edits from.token from.piece (drop from.piece pieces)) (sym (run_none pieces from.piece));
 }
 
-pub passes_more : (pieces : List TextPiece) (from : Place) (stop i t : ℕ) (p : TextPiece) → slice_get pieces i ≡ Some p → i < length pieces → is_stop p.kind t stop ≡ false → Passes pieces from stop i t → Passes pieces from stop (i + 1) (id_after p.kind t)
+pub passes_more : (pieces : List TextPiece) (from : Place) (stop i t : ℕ) (p : TextPiece) → slice_get pieces i ≡ Some p
+    → i < length pieces → is_stop p.kind t stop ≡ false → Passes pieces from stop i t → Passes pieces from stop (i + 1) (id_after p.kind t)
 passes_more pieces from stop i t p at less go h =
     let b = below_stop t stop p.kind go h.below in
     record {
@@ -104,13 +112,15 @@ passes_more pieces from stop i t p at less go h =
       below = b.1;
       same = λ edits none.
           let after : List Part = placed edits (id_after p.kind t) (i + 1) (drop (i + 1) pieces) in
-          let stays : parts_at p.kind edits t i p ≡ old_part i p ∷ [] = piece_stays edits t i stop p.kind p go h.below (λ u le lt. none u (omega (arith, h.up, le)) lt) in
+          let stays : parts_at p.kind edits t i p ≡ old_part i p ∷ [] =
+          piece_stays edits t i stop p.kind p go h.below (λ u le lt. none u (omega (arith, h.up, le)) lt) in
           let len : from.piece + length (run_of pieces from.piece i) ≡ i = omega (arith, run_length pieces from.piece i h.on h.within, h.on) in
           let longer : old_parts from.piece (run_of pieces from.piece (i + 1)) ≡ old_parts from.piece (run_of pieces from.piece i) ++ old_part i p ∷ [] =
           ap (old_parts from.piece) (run_more pieces from.piece i p h.on at) ∙ old_parts-append from.piece (run_of pieces from.piece i) (p ∷ [])
           ∙ ap (λ (m : ℕ). old_parts from.piece (run_of pieces from.piece i) ++ old_part m p ∷ []) len in
           h.same edits none
-          ∙ ap (λ (l : List Part). old_parts from.piece (run_of pieces from.piece i) ++ l) (piece_here edits t i pieces p at ∙ ap (λ (l : List Part). l ++ after) stays)
+          ∙ ap (λ (l : List Part). old_parts from.piece (run_of pieces from.piece i) ++ l)
+          (piece_here edits t i pieces p at ∙ ap (λ (l : List Part). l ++ after) stays)
           ∙ sym (append_assoc (old_parts from.piece (run_of pieces from.piece i)) (old_part i p ∷ []) after)
           ∙ ap (λ (l : List Part). l ++ after) (sym longer);
     }
@@ -174,7 +184,8 @@ module _ (edits : List Edit) (marks : List Mark) (at t : ℕ) (are : AreMarks ed
 
 -- a step of the loop
 
-pub word_there : (pieces : List TextPiece) (i : ℕ) (k : PieceKind) (text : List ℕ) (p : TextPiece) → slice_get pieces i ≡ Some (record { kind = k; text = text }) → is_word k ≡ true → slice_get pieces i ≡ Some p → is_word p.kind ≡ true
+pub word_there : (pieces : List TextPiece) (i : ℕ) (k : PieceKind) (text : List ℕ) (p : TextPiece)
+    → slice_get pieces i ≡ Some (record { kind = k; text = text }) → is_word k ≡ true → slice_get pieces i ≡ Some p → is_word p.kind ≡ true
 word_there pieces i k text p is word at =
     let q : TextPiece = record { kind = k; text = text } in
     let both : Some p ≡ Some q = sym at ∙ is in
@@ -186,12 +197,14 @@ word_beyond [] i p le at = absurd cc
 word_beyond (q ∷ ps) zero p le at = absurd (omega (arith, le))
 word_beyond (q ∷ ps) (suc i) p le at = word_beyond ps i p (omega (arith, le)) at
 
-pub next_pass : (pieces : List TextPiece) (from : Place) (stop i t next : ℕ) (k : PieceKind) (text : List ℕ) → slice_get pieces i ≡ Some (record { kind = k; text = text }) → i < length pieces
+pub next_pass : (pieces : List TextPiece) (from : Place) (stop i t next : ℕ) (k : PieceKind) (text : List ℕ)
+    → slice_get pieces i ≡ Some (record { kind = k; text = text }) → i < length pieces
     → is_stop k t stop ≡ false → next ≡ id_after k t → Passes pieces from stop i t → Passes pieces from stop (i + 1) next
 next_pass pieces from stop i t next k text at less go is h =
     subst (Passes pieces from stop (i + 1)) (sym is) (passes_more pieces from stop i t (record { kind = k; text = text }) at less go h)
 
-pub next_ids : (pieces : List TextPiece) (a i : ℕ) (k : PieceKind) (text ids now new : List ℕ) → a ≤ i → slice_get pieces i ≡ Some (record { kind = k; text = text })
+pub next_ids : (pieces : List TextPiece) (a i : ℕ) (k : PieceKind) (text ids now new : List ℕ) → a ≤ i
+    → slice_get pieces i ≡ Some (record { kind = k; text = text })
     → new ≡ now ++ id_before k [] → now ≡ ids ++ ids_of (run_of pieces a i) → new ≡ ids ++ ids_of (run_of pieces a (i + 1))
 next_ids pieces a i k text ids now new le at is was =
     is ∙ ap (λ (l : List ℕ). l ++ id_before k []) was ∙ ids_more pieces a i (record { kind = k; text = text }) ids le at

@@ -1,5 +1,6 @@
 -- The texts of runs of pieces: what is written of them.
-use Rattle.std.proofs.Common.{◌≡◌, ◌<◌, ◌≤◌, ◌+◌, ◌-◌, ◌&&◌, ℕ, zero, suc, Bool, true, false, not, refl, sym, ap, ◌∙◌, arith, List, [], ◌∷◌, ◌++◌, append_assoc, length, length-append, take, drop, subst}
+use Rattle.std.proofs.Common.{◌≡◌, ◌<◌, ◌≤◌, ◌+◌, ◌-◌, ◌&&◌, ℕ, zero, suc, Bool, true, false, not, refl, sym, ap, ◌∙◌, arith}
+use Rattle.std.proofs.Common.{List, [], ◌∷◌, ◌++◌, append_assoc, length, length-append, take, drop, subst}
 use Rattle.std.specs.Prelude.{Option, Some, None, slice_get, if◌then◌else◌}
 use Rattle.std.proofs.lemmas.List.{append-nil, take-append-drop}
 use Rattle.std.proofs.Math.Seq.{take-append_seam, drop-append_seam}
@@ -11,7 +12,8 @@ use Rattle.edit_marks.specs.declared.edit_conflict.edit.Edit.{Edit}
 use Rattle.edit_unparse.specs.declared.draft.Draft.{Draft}
 use Rattle.edit_unparse.specs.declared.draft.Place.{Place}
 use Rattle.c_show.specs.Joint.{runs_together}
-use Rattle.edit_unparse.specs.Output.{Part, Left, left_of, is_word, space, gap, needs_space, were_beside, spaced, old_part, kept, added, inserted, is_removed, token_parts, parts_at, placed}
+use Rattle.edit_unparse.specs.Output.{Part, Left, left_of, is_word, space, gap, needs_space, were_beside, spaced, old_part}
+use Rattle.edit_unparse.specs.Output.{kept, added, inserted, is_removed, token_parts, parts_at, placed}
 use Rattle.edit_unparse.specs.Written.{left, Writes, Overflows}
 use Rattle.edit_unparse.specs.Runs.{run_of, old_parts, Untouched, Passes, SameButIds}
 use Rattle.edit_unparse.proofs.WrittenLemmas.{text_of-append, ids_of-append, gap_ids, overflows_more}
@@ -39,9 +41,11 @@ spaced_run n next p (q ∷ ps) more =
     ap (λ (g : List TextPiece). g ++ q ∷ spaced (Some (left_of (old_part (n + 1) q))) next (old_parts (n + 1 + 1) ps ++ more)) (no_gap p n q.text)
     ∙ ap (λ (l : List TextPiece). q ∷ l) (spaced_run (n + 1) next q ps more)
 
-end_is : (n : ℕ) (p : TextPiece) (ps : List TextPiece) (last : TextPiece) → slice_get (p ∷ ps) (length ps) ≡ Some last → end_of n p ps ≡ left_of (old_part (n + length ps) last)
+end_is : (n : ℕ) (p : TextPiece) (ps : List TextPiece) (last : TextPiece) → slice_get (p ∷ ps) (length ps) ≡ Some last
+    → end_of n p ps ≡ left_of (old_part (n + length ps) last)
 end_is n p [] last at = let same : p ≡ last = cc in let e : n ≡ n + 0 = omega arith in λ i. left_of (old_part (e i) (same i))
-end_is n p (q ∷ ps) last at = let e : n + 1 + length ps ≡ n + length (q ∷ ps) = omega arith in end_is (n + 1) q ps last at ∙ ap (λ (m : ℕ). left_of (old_part m last)) e
+end_is n p (q ∷ ps) last at = let e : n + 1 + length ps ≡ n + length (q ∷ ps) = omega arith in
+    end_is (n + 1) q ps last at ∙ ap (λ (m : ℕ). left_of (old_part m last)) e
 
 -- a run of pieces was written
 run_writes : (old new : Draft) (n : ℕ) (p last : TextPiece) (ps : List TextPiece)
@@ -108,11 +112,13 @@ module _ (pieces : List TextPiece) (old mid new : Draft) (a b : ℕ) (less : a <
 
   last_at : slice_get (parts.0 ∷ parts.1.0) (length parts.1.0) ≡ Some last.0
   last_at =
-      let at : slice_get (run_of pieces a b) (length parts.1.0) ≡ slice_get pieces (a + length parts.1.0) = get_run pieces a b (length parts.1.0) (omega (arith, less, parts.1.1.1)) in
+      let at : slice_get (run_of pieces a b) (length parts.1.0) ≡ slice_get pieces (a + length parts.1.0) =
+      get_run pieces a b (length parts.1.0) (omega (arith, less, parts.1.1.1)) in
       let here : a + length parts.1.0 ≡ b - 1 = omega (arith, less, parts.1.1.1) in
       sym (ap (λ (l : List TextPiece). slice_get l (length parts.1.0)) parts.1.1.0) ∙ at ∙ ap (slice_get pieces) here ∙ last.1
 
-  pub pieces_written : ((p : TextPiece) → slice_get pieces a ≡ Some p → new.bytes.items ≡ mid.bytes.items ++ (text_of (gap (left mid) (Some a) p.text) ++ text_of (run_of pieces a b)))
+  pub pieces_written : ((p : TextPiece) → slice_get pieces a ≡ Some p
+      → new.bytes.items ≡ mid.bytes.items ++ (text_of (gap (left mid) (Some a) p.text) ++ text_of (run_of pieces a b)))
       → ((p : TextPiece) → slice_get pieces (b - 1) ≡ Some p → left new ≡ Some (left_of (old_part (b - 1) p)))
       → (new.ids.items ≡ mid.ids.items) × (new.next ≡ mid.next) → Writes old new (old_parts a (run_of pieces a b))
   pieces_written bytes end others =
@@ -128,14 +134,16 @@ module _ (pieces : List TextPiece) (old mid new : Draft) (a b : ℕ) (less : a <
   longer : (xs ys zs : List ℕ) → 16777216 < length (xs ++ ys) → 16777216 < length (xs ++ (ys ++ zs))
   longer xs ys zs h = omega (arith, h, length-append xs ys, length-append xs (ys ++ zs), length-append ys zs)
 
-  pub pieces_overflow : ((p : TextPiece) → slice_get pieces a ≡ Some p → 16777216 < length (mid.bytes.items ++ (text_of (gap (left mid) (Some a) p.text) ++ text_of (run_of pieces a b))))
+  pub pieces_overflow : ((p : TextPiece) → slice_get pieces a ≡ Some p
+      → 16777216 < length (mid.bytes.items ++ (text_of (gap (left mid) (Some a) p.text) ++ text_of (run_of pieces a b))))
       → Overflows old (old_parts a (run_of pieces a b))
   pieces_overflow over =
       let p = parts.0 in
       let ps = parts.1.0 in
       let g = gap (left old) (Some a) p.text in
       let there : 16777216 < length (old.bytes.items ++ (text_of g ++ text_of (p ∷ ps))) =
-      subst (λ (l : List ℕ). 16777216 < length l) (λ i. same.bytes i ++ (text_of (gap (same.left i) (Some a) (first_is i).text) ++ text_of (parts.1.1.0 i))) (over first.0 first.1) in
+      subst (λ (l : List ℕ). 16777216 < length l)
+      (λ i. same.bytes i ++ (text_of (gap (same.left i) (Some a) (first_is i).text) ++ text_of (parts.1.1.0 i))) (over first.0 first.1) in
       subst (λ (l : List TextPiece). Overflows old (old_parts a l)) (sym parts.1.1.0) (record {
         over = λ more.
             let rest = spaced (Some (end_of a p ps)) old.next more in
@@ -143,11 +151,13 @@ module _ (pieces : List TextPiece) (old mid new : Draft) (a b : ℕ) (less : a <
             ap (λ (l : List TextPiece). text_of (g ++ p ∷ l)) (spaced_run a old.next p ps more)
             ∙ text_of-append g ((p ∷ ps) ++ rest) ∙ ap (λ (l : List ℕ). text_of g ++ l) (text_of-append (p ∷ ps) rest)
             ∙ sym (append_assoc (text_of g) (text_of (p ∷ ps)) (text_of rest)) in
-            subst (λ (l : List ℕ). 16777216 < length (old.bytes.items ++ l)) (sym all) (longer old.bytes.items (text_of g ++ text_of (p ∷ ps)) (text_of rest) there);
+            subst (λ (l : List ℕ). 16777216 < length (old.bytes.items ++ l)) (sym all)
+            (longer old.bytes.items (text_of g ++ text_of (p ∷ ps)) (text_of rest) there);
       })
 
 -- no piece was written
-pub none_written : (pieces : List TextPiece) (old new : Draft) (a b : ℕ) → b ≡ a → SameButIds old new → new.ids.items ≡ old.ids.items ++ ids_of (run_of pieces a b) → Writes old new (old_parts a (run_of pieces a b))
+pub none_written : (pieces : List TextPiece) (old new : Draft) (a b : ℕ) → b ≡ a → SameButIds old new
+    → new.ids.items ≡ old.ids.items ++ ids_of (run_of pieces a b) → Writes old new (old_parts a (run_of pieces a b))
 none_written pieces old new a b e same ids =
     let none : run_of pieces a b ≡ [] = ap (run_of pieces a) e ∙ run_none pieces a in
     let no_ids : new.ids.items ≡ old.ids.items = ids ∙ ap (λ (l : List TextPiece). old.ids.items ++ ids_of l) none ∙ append-nil old.ids.items in
@@ -170,13 +180,16 @@ take_split (suc a) (suc b) (q ∷ ps) le =
     let e : b - a ≡ suc b - suc a = omega arith in
     ap (λ (l : List TextPiece). q ∷ l) (take_split a b ps (omega (arith, le)) ∙ ap (λ (n : ℕ). take a ps ++ take n (drop a ps)) e)
 
-span_length : (pieces : List TextPiece) (a b : ℕ) → a ≤ b → length (text_of (take b pieces)) - length (text_of (take a pieces)) ≡ length (text_of (run_of pieces a b))
+span_length : (pieces : List TextPiece) (a b : ℕ) → a ≤ b
+    → length (text_of (take b pieces)) - length (text_of (take a pieces)) ≡ length (text_of (run_of pieces a b))
 span_length pieces a b le =
-    let both : length (text_of (take b pieces)) ≡ length (text_of (take a pieces) ++ text_of (run_of pieces a b)) = ap (λ (l : List TextPiece). length (text_of l)) (take_split a b pieces le) ∙ ap length (text_of-append (take a pieces) (run_of pieces a b)) in
+    let both : length (text_of (take b pieces)) ≡ length (text_of (take a pieces) ++ text_of (run_of pieces a b)) =
+    ap (λ (l : List TextPiece). length (text_of l)) (take_split a b pieces le) ∙ ap length (text_of-append (take a pieces) (run_of pieces a b)) in
     omega (arith, both, length-append (text_of (take a pieces)) (text_of (run_of pieces a b)))
 
 pub span_text : (pieces : List TextPiece) (a b : ℕ) → a ≤ b
-    → take (length (text_of (take b pieces)) - length (text_of (take a pieces))) (drop (length (text_of (take a pieces))) (text_of pieces)) ≡ text_of (run_of pieces a b)
+    → take (length (text_of (take b pieces)) - length (text_of (take a pieces)))
+    (drop (length (text_of (take a pieces))) (text_of pieces)) ≡ text_of (run_of pieces a b)
 span_text pieces a b le =
     let r = run_of pieces a b in
     let rest = drop (b - a) (drop a pieces) in
@@ -204,17 +217,20 @@ end_text pieces xs a b p less at =
 -- spans are ascending
 pub text_rises : (pieces : List TextPiece) (a b : ℕ) → a ≤ b → length (text_of (take a pieces)) ≤ length (text_of (take b pieces))
 text_rises pieces a b le =
-    let both : length (text_of (take b pieces)) ≡ length (text_of (take a pieces) ++ text_of (run_of pieces a b)) = ap (λ (l : List TextPiece). length (text_of l)) (take_split a b pieces le) ∙ ap length (text_of-append (take a pieces) (run_of pieces a b)) in
+    let both : length (text_of (take b pieces)) ≡ length (text_of (take a pieces) ++ text_of (run_of pieces a b)) =
+    ap (λ (l : List TextPiece). length (text_of l)) (take_split a b pieces le) ∙ ap length (text_of-append (take a pieces) (run_of pieces a b)) in
     omega (arith, both, length-append (text_of (take a pieces)) (text_of (run_of pieces a b)))
 
 -- if a text is too long at the end of a run, the whole is too long
-pub run_overflow : (pieces : List TextPiece) (from to : Place) (stop : ℕ) (old : Draft) (edits : List Edit) → Passes pieces from stop to.piece to.token → Untouched edits from.token stop
+pub run_overflow : (pieces : List TextPiece) (from to : Place) (stop : ℕ) (old : Draft) (edits : List Edit)
+    → Passes pieces from stop to.piece to.token → Untouched edits from.token stop
     → Overflows old (old_parts from.piece (run_of pieces from.piece to.piece)) → Overflows old (placed edits from.token from.piece (drop from.piece pieces))
 run_overflow pieces from to stop old edits h none over = subst (Overflows old) (sym (h.same edits none)) (overflows_more old _ _ over)
 
 -- the texts of a run and of its first piece, as they are in the bytes
 
-pub run_text : (pieces : List TextPiece) (bytes : List ℕ) (a b s e : ℕ) → a < b → bytes ≡ text_of pieces → s ≡ length (text_of (take a pieces)) → e ≡ length (text_of (take (b - 1 + 1) pieces))
+pub run_text : (pieces : List TextPiece) (bytes : List ℕ) (a b s e : ℕ) → a < b → bytes ≡ text_of pieces
+    → s ≡ length (text_of (take a pieces)) → e ≡ length (text_of (take (b - 1 + 1) pieces))
     → take (e - s) (drop s bytes) ≡ text_of (run_of pieces a b)
 run_text pieces bytes a b s e less is start end =
     let same : b - 1 + 1 ≡ b = omega (arith, less) in
@@ -222,14 +238,16 @@ run_text pieces bytes a b s e less is start end =
     (λ i. take (ends i - start i) (drop (start i) (is i))) ∙ span_text pieces a b (omega (arith, less))
 
 pub first_text : (pieces : List TextPiece) (bytes : List ℕ) (a s e : ℕ) (k : PieceKind) (p : TextPiece) → bytes ≡ text_of pieces
-    → slice_get pieces a ≡ Some (record { kind = k; text = take (e - s) (drop s (text_of pieces)) }) → slice_get pieces a ≡ Some p → take (e - s) (drop s bytes) ≡ p.text
+    → slice_get pieces a ≡ Some (record { kind = k; text = take (e - s) (drop s (text_of pieces)) })
+    → slice_get pieces a ≡ Some p → take (e - s) (drop s bytes) ≡ p.text
 first_text pieces bytes a s e k p is here at =
     let q : TextPiece = record { kind = k; text = take (e - s) (drop s (text_of pieces)) } in
     let both : Some q ≡ Some p = sym here ∙ at in
     let same : q ≡ p = cc in
     ap (λ (l : List ℕ). take (e - s) (drop s l)) is ∙ ap (λ (x : TextPiece). x.text) same
 
-pub last_kind : (pieces : List TextPiece) (b : ℕ) (k : PieceKind) (text : List ℕ) (p : TextPiece) → slice_get pieces b ≡ Some (record { kind = k; text = text }) → slice_get pieces b ≡ Some p → k ≡ p.kind
+pub last_kind : (pieces : List TextPiece) (b : ℕ) (k : PieceKind) (text : List ℕ) (p : TextPiece)
+    → slice_get pieces b ≡ Some (record { kind = k; text = text }) → slice_get pieces b ≡ Some p → k ≡ p.kind
 last_kind pieces b k text p here at =
     let q : TextPiece = record { kind = k; text = text } in
     let both : Some q ≡ Some p = sym here ∙ at in
@@ -242,18 +260,21 @@ gap_is l from text n e = ap (λ (m : ℕ). take m (32 ∷ [])) e ∙ own l
   where
     own : (l : Option Left) → take (length (text_of (gap l from text))) (32 ∷ []) ≡ text_of (gap l from text)
     own None = refl
-    own (Some l) = elim (needs_space l from text) as (λ b. take (length (text_of (if b then space ∷ [] else []))) (32 ∷ []) ≡ text_of (if b then space ∷ [] else [])) [ true ↦ refl | false ↦ refl ]
+    own (Some l) = elim (needs_space l from text) as (λ b. take (length (text_of (if b then space ∷ [] else []))) (32 ∷ [])
+        ≡ text_of (if b then space ∷ [] else [])) [ true ↦ refl | false ↦ refl ]
 
 pub bytes_more : (old mid new g text : List ℕ) → mid ≡ old ++ g → new ≡ mid ++ text → new ≡ old ++ (g ++ text)
 bytes_more old mid new g text h k = k ∙ ap (λ (l : List ℕ). l ++ text) h ∙ append_assoc old g text
 
 pub end_is_last : (pieces : List TextPiece) (mid new text : List ℕ) (a b s t n : ℕ) (p : TextPiece) → a < b → slice_get pieces (b - 1) ≡ Some p
-    → n ≡ length mid → t ≡ length (text_of (take (b - 1) pieces)) → s ≡ length (text_of (take a pieces)) → new ≡ mid ++ text → text ≡ text_of (run_of pieces a b)
+    → n ≡ length mid → t ≡ length (text_of (take (b - 1) pieces)) → s ≡ length (text_of (take a pieces)) → new ≡ mid ++ text
+    → text ≡ text_of (run_of pieces a b)
     → drop (n + (t - s)) new ≡ p.text
 end_is_last pieces mid new text a b s t n p less at len end start is run =
     (λ i. drop (len i + (end i - start i)) ((is ∙ ap (λ (l : List ℕ). mid ++ l) run) i)) ∙ end_text pieces mid a b p less at
 
-pub left_is : (n : ℕ) (w : Bool) (text : List ℕ) (p : TextPiece) → w ≡ is_word p.kind → text ≡ p.text → Some (let l : Left = record { from = Some n; is_word = w; text = text } in l) ≡ Some (left_of (old_part n p))
+pub left_is : (n : ℕ) (w : Bool) (text : List ℕ) (p : TextPiece) → w ≡ is_word p.kind → text ≡ p.text
+    → Some (let l : Left = record { from = Some n; is_word = w; text = text } in l) ≡ Some (left_of (old_part n p))
 left_is n w text p h k = λ i. Some (record { from = Some n; is_word = h i; text = k i })
 
 -- the piece at a place, as it is in the bytes

@@ -25,7 +25,8 @@ pub record Part : Type 0 where
 -- the texts of the inserts at a token, on one side
 abbrev pub texts_in : Side → ℕ → List Insert → List (List ℕ)
 texts_in side token [] = []
-texts_in side token (i ∷ inserts) = if i.token == token && side_number i.side == side_number side then i.text ∷ texts_in side token inserts else texts_in side token inserts
+texts_in side token (i ∷ inserts) = if i.token == token && side_number i.side == side_number side then i.text
+    ∷ texts_in side token inserts else texts_in side token inserts
 
 abbrev pub inserted : Side → ℕ → List Edit → List (List ℕ)
 inserted side token [] = []

@@ -44,7 +44,8 @@ pub record Passes (pieces : List TextPiece) (from : Place) (stop piece token : �
   pub up : from.token ≤ token
   pub below : token ≤ stop
   pub same : (edits : List Edit) → Untouched edits from.token stop
-      → placed edits from.token from.piece (drop from.piece pieces) ≡ old_parts from.piece (run_of pieces from.piece piece) ++ placed edits token piece (drop piece pieces)
+      → placed edits from.token from.piece (drop from.piece pieces) ≡ old_parts from.piece (run_of pieces from.piece piece)
+      ++ placed edits token piece (drop piece pieces)
 
 -- and a token comes after them, or nothing
 pub record IsRun (pieces : List TextPiece) (from : Place) (stop : ℕ) (to : Place) : Type 0 where

@@ -68,7 +68,8 @@ has_value-bare env x = ap is_some (value_in-bare env x) ∙ some_map (value_in e
 pub restricted-bare : (vars : List Var) (env : Pairs) → restricted vars (bare_env env) ≡ bare_env (restricted vars env)
 restricted-bare vars [] = refl
 restricted-bare vars (p ∷ ps) =
-    elim (is_among vars p.0) as (λ b. cond b (bare_pair p ∷ restricted vars (bare_env ps)) (restricted vars (bare_env ps)) ≡ bare_env (cond b (p ∷ restricted vars ps) (restricted vars ps))) [
+    elim (is_among vars p.0) as (λ b. cond b (bare_pair p ∷ restricted vars (bare_env ps)) (restricted vars (bare_env ps))
+    ≡ bare_env (cond b (p ∷ restricted vars ps) (restricted vars ps))) [
       | true ↦ ap (λ (r : Pairs). bare_pair p ∷ r) (restricted-bare vars ps)
       | false ↦ restricted-bare vars ps
     ]

@@ -105,7 +105,8 @@ pub are_places_push : (old new : List (Key × ℕ)) (envs : List Pairs) (env : P
 are_places_push old new envs env are none put e =
     put (record { env = e }) ∙ ap (λ b. cond b (Some (length envs)) (lookup (λ k. is_eq (env_order e k.env)) old)) (is_eq-env_order env e ∙ same_env-sym env e)
     ∙ ap (λ (o : Option ℕ). cond (same_env e env) (Some (length envs)) o) (are e)
-    ∙ elim (same_env e env) as (λ b. same_env e env ≡ b → cond b (Some (length envs)) (place_in e envs) ≡ option_or (place_in e envs) (cond b (Some (length envs)) None)) [
+    ∙ elim (same_env e env) as (λ b. same_env e env ≡ b
+    → cond b (Some (length envs)) (place_in e envs) ≡ option_or (place_in e envs) (cond b (Some (length envs)) None)) [
       | true ↦ λ t. ap (λ (o : Option ℕ). option_or o (Some (length envs))) (sym (place_in-like e env envs t ∙ none))
       | false ↦ λ t. sym (or_none (place_in e envs))
     ] refl

@@ -1,6 +1,6 @@
 // Different environments, in the order in which they were first added.
 ghost use Rattle.std.specs.Prelude.{◌≡◌, [], true, IfOk, IsSomeAnd, slice_get};
-ghost use Rattle.env_parts.specs.Parts as of;
+ghost use Rattle.env_parts.specs.Parts as spec;
 ghost use Rattle.env_parts.specs.Places.{place_in};
 
 use crate::key::Key;
@@ -61,8 +61,8 @@ impl DistinctEnvs {
     /// Returns the environments, with this one appended unless it is there, and the index at which it is found. Costs a look-up
     /// in a search tree, which compares it with as many environments as the tree is deep.
     pub fn with(self, alloc: Global, env: Env) -> Result<Placed, NoMemory>
-        ensures envs { IfOk result (λ r. r.envs ≡ of.with_new self env) }
-        ensures place { IfOk result (λ r. IsSomeAnd (slice_get r.envs r.place) (λ e. of.same_env env e ≡ true)) }
+        ensures envs { IfOk result (λ r. r.envs ≡ spec.with_new self env) }
+        ensures place { IfOk result (λ r. IsSomeAnd (slice_get r.envs r.place) (λ e. spec.same_env env e ≡ true)) }
     {
         let key = Key {
             env: env.copy(alloc)?,

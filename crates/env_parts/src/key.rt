@@ -3,7 +3,7 @@ ghost use Rattle.std.specs.Prelude.{Some, refl};
 ghost use Rattle.std.specs.Cmp.{partial_order_from_agreeing_total, partial_equiv_from_equiv};
 ghost use Rattle.std.specs.Ordering.{is_eq};
 ghost use Rattle.std.proofs.lemmas.Cmp.{eq_by_cmp_equiv, on_total};
-ghost use Rattle.env_parts.specs.Parts as of;
+ghost use Rattle.env_parts.specs.Parts as spec;
 ghost use Rattle.env_parts.specs.Ordered.{env_order_total};
 
 use crate::order::env_order;
@@ -17,7 +17,7 @@ pub struct Key {
 }
 
 impl PartialEq for Key {
-    ghost eq = { λ a b. is_eq (of.env_order a.env b.env) };
+    ghost eq = { λ a b. is_eq (spec.env_order a.env b.env) };
 
     ghost laws = { partial_equiv_from_equiv (eq_by_cmp_equiv (on_total (λ k. k.env) env_order_total)) };
 
@@ -31,9 +31,9 @@ impl Eq for Key {
 }
 
 impl PartialOrd for Key {
-    ghost partial_cmp = { λ a b. Some (of.env_order a.env b.env) };
+    ghost partial_cmp = { λ a b. Some (spec.env_order a.env b.env) };
 
-    ghost laws = { partial_order_from_agreeing_total (λ a b. of.env_order a.env b.env) (on_total (λ k. k.env) env_order_total) (λ a b. refl) (λ a b. refl) };
+    ghost laws = { partial_order_from_agreeing_total (λ a b. spec.env_order a.env b.env) (on_total (λ k. k.env) env_order_total) (λ a b. refl) (λ a b. refl) };
 
     fn partial_cmp(&self, other: &Key) -> Option<Ordering> {
         Some(self.cmp(other))
@@ -41,7 +41,7 @@ impl PartialOrd for Key {
 }
 
 impl Ord for Key {
-    ghost cmp = { λ a b. of.env_order a.env b.env };
+    ghost cmp = { λ a b. spec.env_order a.env b.env };
 
     ghost total = { on_total (λ k. k.env) env_order_total };
 

@@ -3,7 +3,7 @@ ghost use Rattle.std.specs.Prelude.{◌≡◌, ◌&&◌, IfOk};
 ghost use Rattle.std.specs.List.{list_all};
 ghost use Rattle.smpl_terms.specs.Vars.{same_var};
 ghost use Rattle.smpl_terms.specs.Values.{same};
-ghost use Rattle.env_parts.specs.Parts as of;
+ghost use Rattle.env_parts.specs.Parts as spec;
 
 use c_terms::NoMemory;
 use smpl_terms::{Env, Value, Var, same_value, same_var};
@@ -11,7 +11,7 @@ use std::alloc::Global;
 
 /// Whether `x` is one of these variables. Linear, and takes no memory.
 pub fn is_among(vars: &[Var], x: &Var) -> bool
-    ensures value { result ≡ of.is_among vars.now x.now }
+    ensures value { result ≡ spec.is_among vars.now x.now }
 {
     for y in vars {
         if same_var(y, x) {
@@ -23,7 +23,7 @@ pub fn is_among(vars: &[Var], x: &Var) -> bool
 
 /// Whether the variable of each pair is one of these.
 fn are_among(pairs: &[(Var, Value)], vars: &[Var]) -> bool
-    ensures { result ≡ list_all (λ p. of.is_among vars.now p.0) pairs.now }
+    ensures { result ≡ list_all (λ p. spec.is_among vars.now p.0) pairs.now }
 {
     for p in pairs {
         if !is_among(vars, &p.0) {
@@ -36,7 +36,7 @@ fn are_among(pairs: &[(Var, Value)], vars: &[Var]) -> bool
 /// Returns the pairs of these variables. Shares the environment if it has no others; otherwise it copies each pair that it
 /// keeps once for each pair that it keeps after it.
 pub fn restricted(alloc: Global, env: &Env, vars: &[Var]) -> Result<Env, NoMemory>
-    ensures pairs { IfOk result (λ r. r ≡ of.restricted vars.now env.now) }
+    ensures pairs { IfOk result (λ r. r ≡ spec.restricted vars.now env.now) }
 {
     let pairs = env.pairs();
     if are_among(pairs, vars) {
@@ -53,7 +53,7 @@ pub fn restricted(alloc: Global, env: &Env, vars: &[Var]) -> Result<Env, NoMemor
 
 /// Returns the environment with one more pair, or unchanged if it has a value of the variable.
 fn adopted(alloc: Global, env: Env, x: &Var, value: &Value) -> Result<Env, NoMemory>
-    ensures { IfOk result (λ r. r ≡ of.adopted env (x.now, value.now)) }
+    ensures { IfOk result (λ r. r ≡ spec.adopted env (x.now, value.now)) }
 {
     if env.has(x) {
         return Ok(env);
@@ -63,7 +63,7 @@ fn adopted(alloc: Global, env: Env, x: &Var, value: &Value) -> Result<Env, NoMem
 
 /// Returns the environment with those pairs of `more` whose variables it has no value of. Copies it once for each of them.
 pub fn joined(alloc: Global, env: &Env, more: &Env) -> Result<Env, NoMemory>
-    ensures pairs { IfOk result (λ r. r ≡ of.joined env.now more.now) }
+    ensures pairs { IfOk result (λ r. r ≡ spec.joined env.now more.now) }
 {
     let mut whole = env.copy(alloc)?;
     for p in more.pairs() {
@@ -79,7 +79,7 @@ fn same_pair(a: &(Var, Value), b: &(Var, Value)) -> bool
 }
 
 fn same_pairs(a: &[(Var, Value)], b: &[(Var, Value)]) -> bool
-    ensures { result ≡ of.same_env a.now b.now }
+    ensures { result ≡ spec.same_env a.now b.now }
 {
     if a.len() != b.len() {
         return false;
@@ -94,7 +94,7 @@ fn same_pairs(a: &[(Var, Value)], b: &[(Var, Value)]) -> bool
 
 /// Whether both have the same values of the same variables, ids aside. Stops at the first difference, and takes no memory.
 pub fn same_env(a: &Env, b: &Env) -> bool
-    ensures value { result ≡ of.same_env a.now b.now }
+    ensures value { result ≡ spec.same_env a.now b.now }
 {
     same_pairs(a.pairs(), b.pairs())
 }

@@ -17,7 +17,8 @@ pub fits-along : (v w : Value) → same v w ≡ true → (b : Bound) → fits v 
 fits-along v w e (Is x) = same-along v w e x
 fits-along v w e (Not xs) = ap not (any_same-along v w e xs)
 
-covers_step : (v : Value) (vs ws : List Value) (x : Value) → list_any (λ w. same w v) ws ≡ true → fits x (Not ws) ≡ true → fits x (Not vs) ≡ true → fits x (Not (v ∷ vs)) ≡ true
+covers_step : (v : Value) (vs ws : List Value) (x : Value) → list_any (λ w. same w v) ws ≡ true → fits x (Not ws) ≡ true
+    → fits x (Not vs) ≡ true → fits x (Not (v ∷ vs)) ≡ true
 covers_step v vs ws x e h r = grind (arith, common_steps, any_same-along v x)
 
 -- all of vs are among ws

@@ -25,10 +25,12 @@ values_sync : IsSync Values.the_row
 values_sync = search (runs_sync, crosses, sendable) depth 60
 
 bound_send : IsSend Bound.the_row
-bound_send = recorded_send _ _ _ (Bound.the_type).to_one (enum_send (shape Bound.the_type) ((value_in_send, tt), ((search (values_send, crosses, sendable) depth 60, tt), tt)))
+bound_send = recorded_send _ _ _ (Bound.the_type).to_one
+    (enum_send (shape Bound.the_type) ((value_in_send, tt), ((search (values_send, crosses, sendable) depth 60, tt), tt)))
 
 bound_sync : IsSync Bound.the_row
-bound_sync = recorded_sync _ _ _ (Bound.the_type).to_one (enum_sync (shape Bound.the_type) ((value_in_sync, tt), ((search (values_sync, crosses, sendable) depth 60, tt), tt)))
+bound_sync = recorded_sync _ _ _ (Bound.the_type).to_one
+    (enum_sync (shape Bound.the_type) ((value_in_sync, tt), ((search (values_sync, crosses, sendable) depth 60, tt), tt)))
 
 pub entry_send : IsSend Entry.the_row
 entry_send = search (bound_send, bound_sync, crosses, sendable) depth 60

@@ -23,7 +23,8 @@ split_step : (env : List (Var × Value)) (rest : Environment) (p : Var × Bound)
 split_step env rest p ps None h = grind (arith, common_steps)
 split_step env rest p ps (Some v) h = grind (arith, common_steps)
 
-pub split : (env : List (Var × Value)) (rest : Environment) (ps : List (Var × Bound)) → entry_denotes ps (over env rest) ≡ (agrees env ps && entry_denotes (free env ps) rest)
+pub split : (env : List (Var × Value)) (rest : Environment) (ps : List (Var × Bound))
+    → entry_denotes ps (over env rest) ≡ (agrees env ps && entry_denotes (free env ps) rest)
 split env rest [] = refl
 split env rest (p ∷ ps) = split_step env rest p ps (value_in env p.0) (split env rest ps)
 
@@ -33,6 +34,7 @@ vars_step : (env : List (Var × Value)) (t : Var → Bool) (p : Var × Bound) (p
 vars_step env t p ps true r h = r (grind (arith, common_steps))
 vars_step env t p ps false r h = let a = r (grind (arith, common_steps)) in grind (arith, common_steps)
 
-pub free_vars : (env : List (Var × Value)) (t : Var → Bool) (ps : List (Var × Bound)) → entry_vars (λ x. t x || has_value env x) ps ≡ true → entry_vars t (free env ps) ≡ true
+pub free_vars : (env : List (Var × Value)) (t : Var → Bool) (ps : List (Var × Bound))
+    → entry_vars (λ x. t x || has_value env x) ps ≡ true → entry_vars t (free env ps) ≡ true
 free_vars env t [] h = refl
 free_vars env t (p ∷ ps) h = vars_step env t p ps (has_value env p.0) (free_vars env t ps) h

@@ -1,5 +1,6 @@
 -- The entries of a set, grouped by the value at which they fix a variable.
-use Rattle.std.proofs.Common.{◌≡◌, ℕ, ◌+◌, ◌<◌, Bool, true, false, ◌&&◌, ◌||◌, refl, sym, ap, ◌∙◌, subst, arith, List, [], ◌∷◌, ◌++◌, length, get_or, take, set, Option, Some, None, ⊎_elim}
+use Rattle.std.proofs.Common.{◌≡◌, ℕ, ◌+◌, ◌<◌, Bool, true, false, ◌&&◌, ◌||◌, refl, sym, ap, ◌∙◌, subst, arith, List, [], ◌∷◌}
+use Rattle.std.proofs.Common.{◌++◌, length, get_or, take, set, Option, Some, None, ⊎_elim}
 use Rattle.std.specs.Option.{IfSome, MatchOption}
 use Rattle.std.specs.List.{list_any}
 use Rattle.std.proofs.lemmas.Bool.{cases_eq}
@@ -22,7 +23,8 @@ use Rattle.env_sets.proofs.SplitLemmas.{entry-split, fits-Decided}
 
 -- an entry that does not allow the value of x
 not_denoted : (x : Var) (env : Environment) (e : List (Var × Bound)) → passes x (fits (env x)) e ≡ false → entry_denotes e env ≡ false
-not_denoted x env e h = entry-split x (fits (env x)) env e (fits-Decided x (env x) (env x) (same-refl (env x)) e) ∙ ap (λ b. b && entry_denotes (without x e) env) h
+not_denoted x env e h = entry-split x (fits (env x)) env e (fits-Decided x (env x) (env x) (same-refl (env x)) e)
+    ∙ ap (λ b. b && entry_denotes (without x e) env) h
 
 -- an entry that fixes x to a value of the list
 pub fixed_at : (x : Var) (values : List Value) (e : List (Var × Bound)) (v : Value) (k : ℕ) → k < length values → same (get_or values k v) v ≡ true
@@ -54,7 +56,8 @@ or_turned false false true = refl
 or_turned false false false = refl
 
 -- one more entry in a group
-pub group_more : (x : Var) (values : List Value) (groups next : List Entries) (others : Entries) (e : List (Var × Bound)) (k : ℕ) → Rise values → k < length values
+pub group_more : (x : Var) (values : List Value) (groups next : List Entries) (others : Entries) (e : List (Var × Bound))
+    (k : ℕ) → Rise values → k < length values
     → ((env : Environment) (w : Value) → w ≡ get_or values k w → same w (env x) ≡ false → entry_denotes e env ≡ false)
     → next ≡ set groups k (get_or groups k [] ++ e ∷ [])
     → (es : Entries) → AreGroupsOf x values es groups others → AreGroupsOf x values (es ++ e ∷ []) next others
@@ -90,7 +93,8 @@ pub met_in_group : (x : Var) (values : List Value) (b : Entries) (groups : List 
     → k < length values → same (get_or values k v) v ≡ true → group ≡ get_or groups k []
     → (env : Environment) → (entry_denotes e env && (set_denotes group env || set_denotes others env)) ≡ (entry_denotes e env && set_denotes b env)
 met_in_group x values b groups others group e v k h only within here at env =
-    elim (same v (env x)) as (λ s. same v (env x) ≡ s → (entry_denotes e env && (set_denotes group env || set_denotes others env)) ≡ (entry_denotes e env && set_denotes b env)) [
+    elim (same v (env x)) as (λ s. same v (env x) ≡ s
+    → (entry_denotes e env && (set_denotes group env || set_denotes others env)) ≡ (entry_denotes e env && set_denotes b env)) [
       | true ↦ λ alike.
           let found : same (get_or values k v) (env x) ≡ true = sym (same-along v (env x) alike (get_or values k v)) ∙ here in
           ap (λ d. entry_denotes e env && d)
@@ -118,8 +122,10 @@ some_gives None N h f = tt
 some_gives (Some x) N h f = f x h
 
 -- one more entry is read
-pub groups_read : (x : Var) (values read : List Value) (es : Entries) (e : List (Var × Bound)) (groups old new : List Entries) (others next : Entries) → read ≡ values → old ≡ groups
-    → (AreGroupsOf x read es old others → AreGroupsOf x read (es ++ e ∷ []) new next) → AreGroupsOf x values es groups others → AreGroupsOf x values (es ++ e ∷ []) new next
+pub groups_read : (x : Var) (values read : List Value) (es : Entries) (e : List (Var × Bound)) (groups old new : List Entries)
+    (others next : Entries) → read ≡ values → old ≡ groups
+    → (AreGroupsOf x read es old others → AreGroupsOf x read (es ++ e ∷ []) new next) → AreGroupsOf x values es groups others
+    → AreGroupsOf x values (es ++ e ∷ []) new next
 groups_read x values read es e groups old new others next s o step h =
     let first = subst (λ gs. AreGroupsOf x values es gs others) (sym o) h in
     subst (λ vs. AreGroupsOf x vs (es ++ e ∷ []) new next) s (step (subst (λ vs. AreGroupsOf x vs es old others) (sym s) first))

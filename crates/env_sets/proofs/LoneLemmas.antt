@@ -60,9 +60,11 @@ nothing_has : (vs : List Value) (z : Value) → length vs ≡ 0 → list_any (λ
 nothing_has [] z h = refl
 nothing_has (v ∷ vs) z h = absurd (omega arith)
 
-pub nothing_left : (vs left : List Value) (z : Value) (e f d : Bool) → vs ≡ left → length vs ≡ 0 → list_any (λ v. same v z) left ≡ (e && not f) → (not e ≡ true → d ≡ true) → (f ≡ true → d ≡ true) → d ≡ true
+pub nothing_left : (vs left : List Value) (z : Value) (e f d : Bool) → vs ≡ left → length vs ≡ 0
+    → list_any (λ v. same v z) left ≡ (e && not f) → (not e ≡ true → d ≡ true) → (f ≡ true → d ≡ true) → d ≡ true
 nothing_left vs left z e true d is none split outside fixed = fixed refl
-nothing_left vs left z true false d is none split outside fixed = absurd (let n = sym split ∙ ap (list_any (λ v. same v z)) (sym is) ∙ nothing_has vs z none in cc)
+nothing_left vs left z true false d is none split outside fixed =
+    absurd (let n = sym split ∙ ap (list_any (λ v. same v z)) (sym is) ∙ nothing_has vs z none in cc)
 nothing_left vs left z false false d is none split outside fixed = outside refl
 
 -- more entries that add no environment
@@ -71,7 +73,8 @@ absorbed true b h = refl
 absorbed false true h = sym (h refl)
 absorbed false false h = refl
 
-pub more_meaning : (es ws all : List (List (Var × Bound))) (env : Environment) → all ≡ es ++ ws → (set_denotes ws env ≡ true → set_denotes es env ≡ true) → set_denotes all env ≡ set_denotes es env
+pub more_meaning : (es ws all : List (List (Var × Bound))) (env : Environment) → all ≡ es ++ ws
+    → (set_denotes ws env ≡ true → set_denotes es env ≡ true) → set_denotes all env ≡ set_denotes es env
 more_meaning es ws all env is h =
     ap (λ ds. set_denotes ds env) is ∙ list_any-append (λ e. entry_denotes e env) es ws ∙ absorbed (set_denotes es env) (set_denotes ws env) h
 

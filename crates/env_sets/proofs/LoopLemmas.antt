@@ -1,5 +1,6 @@
 -- Steps of loops over the members of an entry or a set.
-use Rattle.std.proofs.Common.{◌≡◌, ℕ, suc, zero, ◌+◌, ◌<◌, Bool, true, false, ◌&&◌, ◌||◌, not, Option, None, Some, refl, sym, ap, ◌∙◌, arith, List, [], ◌∷◌, ◌++◌, length, get_or, take, drop, inl, inr, ◌⊎◌, ⊎_elim}
+use Rattle.std.proofs.Common.{◌≡◌, ℕ, suc, zero, ◌+◌, ◌<◌, Bool, true, false, ◌&&◌, ◌||◌, not, Option, None, Some, refl, sym}
+use Rattle.std.proofs.Common.{ap, ◌∙◌, arith, List, [], ◌∷◌, ◌++◌, length, get_or, take, drop, inl, inr, ◌⊎◌, ⊎_elim}
 use Rattle.std.specs.List.{list_all, list_any}
 use Rattle.std.specs.Bool.{Decides}
 use Rattle.std.specs.Option.{option_to_list}
@@ -68,7 +69,8 @@ middle_false : (a b c : Bool) → b ≡ false → false ≡ (a && (b && c))
 middle_false a b c h = grind (arith, common_steps)
 
 -- what one member fails, not all pass
-pub all_fails_at : {X : Type 0} (q : X → Bool) (xs zs : List X) (i : ℕ) (x : X) → i < length xs → x ≡ get_or xs i x → xs ≡ zs → q x ≡ false → false ≡ list_all q zs
+pub all_fails_at : {X : Type 0} (q : X → Bool) (xs zs : List X) (i : ℕ) (x : X) → i < length xs → x ≡ get_or xs i x → xs ≡ zs
+    → q x ≡ false → false ≡ list_all q zs
 all_fails_at q xs zs i x lt e z h =
     let s = all_split q xs i x lt e in
     rw (← z, s) (middle_false (list_all q (take i xs)) (q x) (list_all q (drop (suc i) xs)) h)
@@ -81,10 +83,12 @@ pub all_at : {X : Type 0} (q : X → Bool) (xs : List X) (i : ℕ) (x : X) → i
 all_at q xs i x lt e h = middle_true (list_all q (take i xs)) (q x) (list_all q (drop (suc i) xs)) (sym (all_split q xs i x lt e) ∙ h)
 
 -- one more member
-pub any_step : {X : Type 0} (q : X → Bool) (xs : List X) (i : ℕ) (x : X) → i < length xs → x ≡ get_or xs i x → list_any q (take (i + 1) xs) ≡ (list_any q (take i xs) || q x)
+pub any_step : {X : Type 0} (q : X → Bool) (xs : List X) (i : ℕ) (x : X) → i < length xs → x ≡ get_or xs i x
+    → list_any q (take (i + 1) xs) ≡ (list_any q (take i xs) || q x)
 any_step q xs i x lt e = list_any_more q xs i x lt ∙ ap (λ y. list_any q (take i xs) || q y) (sym e)
 
-pub all_step : {X : Type 0} (q : X → Bool) (xs : List X) (i : ℕ) (x : X) → i < length xs → x ≡ get_or xs i x → list_all q (take (i + 1) xs) ≡ (list_all q (take i xs) && q x)
+pub all_step : {X : Type 0} (q : X → Bool) (xs : List X) (i : ℕ) (x : X) → i < length xs → x ≡ get_or xs i x
+    → list_all q (take (i + 1) xs) ≡ (list_all q (take i xs) && q x)
 all_step q xs i x lt e = list_all_more q xs i x lt ∙ ap (λ y. list_all q (take i xs) && q y) (sym e)
 
 pub both_parts : (a b : Bool) → (a && b) ≡ true → (a ≡ true) × (b ≡ true)
@@ -99,17 +103,20 @@ pub and-true : (a : Bool) → (a && true) ≡ a
 and-true true = refl
 and-true false = refl
 
-pub denotes_one : (es : List (List (Var × Bound))) (e : List (Var × Bound)) (env : Environment) → set_denotes (es ++ e ∷ []) env ≡ (set_denotes es env || entry_denotes e env)
+pub denotes_one : (es : List (List (Var × Bound))) (e : List (Var × Bound)) (env : Environment)
+    → set_denotes (es ++ e ∷ []) env ≡ (set_denotes es env || entry_denotes e env)
 denotes_one es e env = list_any-append (λ d. entry_denotes d env) es (e ∷ []) ∙ ap (λ b. set_denotes es env || b) (or-false (entry_denotes e env))
 
 pub vars_one : (es : List (List (Var × Bound))) (e : List (Var × Bound)) (t : Var → Bool) → set_vars t (es ++ e ∷ []) ≡ (set_vars t es && entry_vars t e)
 vars_one es e t = list_all-append (λ d. entry_vars t d) es (e ∷ []) ∙ ap (λ b. set_vars t es && b) (and-true (entry_vars t e))
 
-pub denotes_some : (es : List (List (Var × Bound))) (o : Option (List (Var × Bound))) (env : Environment) → set_denotes (es ++ option_to_list o) env ≡ (set_denotes es env || option_denotes o env)
+pub denotes_some : (es : List (List (Var × Bound))) (o : Option (List (Var × Bound))) (env : Environment)
+    → set_denotes (es ++ option_to_list o) env ≡ (set_denotes es env || option_denotes o env)
 denotes_some es None env = list_any-append (λ d. entry_denotes d env) es []
 denotes_some es (Some e) env = denotes_one es e env
 
-pub vars_some : (es : List (List (Var × Bound))) (o : Option (List (Var × Bound))) (t : Var → Bool) → set_vars t (es ++ option_to_list o) ≡ (set_vars t es && option_vars t o)
+pub vars_some : (es : List (List (Var × Bound))) (o : Option (List (Var × Bound))) (t : Var → Bool)
+    → set_vars t (es ++ option_to_list o) ≡ (set_vars t es && option_vars t o)
 vars_some es None t = list_all-append (λ d. entry_vars t d) es []
 vars_some es (Some e) t = vars_one es e t
 
@@ -139,7 +146,8 @@ known_value vs i last v z lt e h =
     ] refl
 
 -- a member whose test and another test fail together
-pub all_fails_at_both : {X : Type 0} (q : X → Bool) (xs zs : List X) (i : ℕ) (x : X) (r : Bool) → i < length xs → x ≡ get_or xs i x → xs ≡ zs → false ≡ (q x && r) → false ≡ (list_all q zs && r)
+pub all_fails_at_both : {X : Type 0} (q : X → Bool) (xs zs : List X) (i : ℕ) (x : X) (r : Bool) → i < length xs
+    → x ≡ get_or xs i x → xs ≡ zs → false ≡ (q x && r) → false ≡ (list_all q zs && r)
 all_fails_at_both q xs zs i x r lt e z h =
     elim r as (λ b. false ≡ (q x && b) → false ≡ (list_all q zs && b)) [
       | true ↦ λ k. all_fails_at q xs zs i x lt e z (sym (and-true (q x)) ∙ sym k) ∙ sym (and-true (list_all q zs))

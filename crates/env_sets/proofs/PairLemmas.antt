@@ -24,7 +24,8 @@ and-past : (a b c d : Bool) → a ≡ (b && d) → (a && c) ≡ (b && c && d)
 and-past a true c d e = grind (arith, common_steps)
 and-past a false c d e = grind (arith, common_steps)
 
-pub all-set : {X : Type 0} (q : X → Bool) (xs : List X) (n : ℕ) (y d : X) (r : Bool) → n < length xs → q y ≡ (q (get_or xs n d) && r) → list_all q (set xs n y) ≡ (list_all q xs && r)
+pub all-set : {X : Type 0} (q : X → Bool) (xs : List X) (n : ℕ) (y d : X) (r : Bool) → n < length xs
+    → q y ≡ (q (get_or xs n d) && r) → list_all q (set xs n y) ≡ (list_all q xs && r)
 all-set q [] n y d r lt e = absurd (omega arith)
 all-set q (x ∷ xs) zero y d r lt e = and-past (q y) (q x) (list_all q xs) r e
 all-set q (x ∷ xs) (suc n) y d r lt e = let h = all-set q xs n y d r (omega arith) e in and-swap (q x) (list_all q (set xs n y)) (list_all q xs) r h

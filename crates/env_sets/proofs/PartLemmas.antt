@@ -1,5 +1,7 @@
 -- The parts of a set by the values of one variable.
-use Rattle.std.proofs.Common.{◌≡◌, ℕ, suc, zero, ◌+◌, ◌<◌, ◌≤◌, Bool, true, false, ◌&&◌, ◌||◌, not, cond, refl, sym, ap, ◌∙◌, arith, List, [], ◌∷◌, ◌++◌, append-nil, subst, length, get_or, take, drop, set, inl, inr, ◌⊎◌, ⊎_elim}
+use Rattle.std.proofs.Common.{◌≡◌, ℕ, suc, zero, ◌+◌, ◌<◌, ◌≤◌, Bool, true, false, ◌&&◌, ◌||◌, not, cond, refl, sym, ap, ◌∙◌}
+use Rattle.std.proofs.Common.{arith, List, [], ◌∷◌, ◌++◌, append-nil, subst, length, get_or, take, drop, set, inl, inr, ◌⊎◌}
+use Rattle.std.proofs.Common.{⊎_elim}
 use Rattle.std.specs.List.{list_any}
 use Rattle.std.proofs.lemmas.Grind.{common_steps}
 use Rattle.std.proofs.lemmas.Bool.{cases_eq}
@@ -41,9 +43,11 @@ added x v e = cond (passes x (fits v) e) (without x e ∷ []) []
 
 adds_none : (x : Var) (v : Value) (e : List (Var × Bound)) (part es : List (List (Var × Bound))) → passes x (fits v) e ≡ false → part ≡ restricted x (fits v) es
     → part ≡ restricted x (fits v) (es ++ e ∷ [])
-adds_none x v e part es h k = k ∙ sym (append-nil (restricted x (fits v) es)) ∙ ap (λ b. restricted x (fits v) es ++ cond b (without x e ∷ []) []) (sym h) ∙ sym (restricted-push x (fits v) es e)
+adds_none x v e part es h k = k ∙ sym (append-nil (restricted x (fits v) es))
+    ∙ ap (λ b. restricted x (fits v) es ++ cond b (without x e ∷ []) []) (sym h) ∙ sym (restricted-push x (fits v) es e)
 
-adds_one : (x : Var) (v : Value) (e : List (Var × Bound)) (part next es : List (List (Var × Bound))) → part ≡ restricted x (fits v) es → next ≡ part ++ added x v e
+adds_one : (x : Var) (v : Value) (e : List (Var × Bound)) (part next es : List (List (Var × Bound)))
+    → part ≡ restricted x (fits v) es → next ≡ part ++ added x v e
     → next ≡ restricted x (fits v) (es ++ e ∷ [])
 adds_one x v e part next es h k = k ∙ ap (λ p. p ++ added x v e) h ∙ sym (restricted-push x (fits v) es e)
 
@@ -68,7 +72,8 @@ before : (j n : ℕ) → (j ≡ n → ⊥) → j < n + 1 → j < n
 before j n other less = ⊎_elim (λ (l : j < n). l) (λ (l : n < j). absurd (omega arith)) (apart_cases j n other)
 
 -- values of two places are not the same
-pub two_places : (ws : List Value) (j k : ℕ) (x y : Value) → Rise ws → (j ≡ k → ⊥) → j < length ws → k < length ws → x ≡ get_or ws j x → y ≡ get_or ws k y → same y x ≡ false
+pub two_places : (ws : List Value) (j k : ℕ) (x y : Value) → Rise ws → (j ≡ k → ⊥) → j < length ws → k < length ws
+    → x ≡ get_or ws j x → y ≡ get_or ws k y → same y x ≡ false
 two_places ws j k x y r ne lj lk e f =
     ⊎_elim
     (λ (h : j < k). same-sym y x ∙ less_apart x y (rise_apart ws j k x y r h lk e f))
@@ -101,14 +106,18 @@ abbrev pub Halfway : Var → List Value → List (List (Var × Bound)) → List 
 Halfway x values es e n parts = (length parts ≡ length values) × ((j : ℕ) (u : Value) → j < length values → u ≡ get_or values j u
     → (j < n → get_or parts j [] ≡ restricted x (fits u) (es ++ e ∷ [])) × (n ≤ j → get_or parts j [] ≡ restricted x (fits u) es))
 
-pub halfway_start : (x : Var) (values : List Value) (es : List (List (Var × Bound))) (e : List (Var × Bound)) (parts : List (List (List (Var × Bound)))) → AreRestrictions x values es parts → Halfway x values es e 0 parts
+pub halfway_start : (x : Var) (values : List Value) (es : List (List (Var × Bound))) (e : List (Var × Bound))
+    (parts : List (List (List (Var × Bound)))) → AreRestrictions x values es parts → Halfway x values es e 0 parts
 halfway_start x values es e parts h = (h.0, λ j u lt at. (λ no. absurd (omega arith), λ _. h.1 j u lt at))
 
-pub halfway_end : (x : Var) (values : List Value) (es : List (List (Var × Bound))) (e : List (Var × Bound)) (n : ℕ) (parts : List (List (List (Var × Bound)))) → length values ≤ n → Halfway x values es e n parts → AreRestrictions x values (es ++ e ∷ []) parts
+pub halfway_end : (x : Var) (values : List Value) (es : List (List (Var × Bound))) (e : List (Var × Bound)) (n : ℕ)
+    (parts : List (List (List (Var × Bound)))) → length values ≤ n → Halfway x values es e n parts → AreRestrictions x values (es ++ e ∷ []) parts
 halfway_end x values es e n parts all h = (h.0, λ j u lt at. (h.1 j u lt at).0 (omega arith))
 
-pub halfway_step : (x : Var) (values : List Value) (es : List (List (Var × Bound))) (e : List (Var × Bound)) (n : ℕ) (w : Value) (parts next : List (List (List (Var × Bound))))
-    → n < length values → w ≡ get_or values n w → next ≡ set parts n (get_or parts n [] ++ added x w e) → Halfway x values es e n parts → Halfway x values es e (n + 1) next
+pub halfway_step : (x : Var) (values : List Value) (es : List (List (Var × Bound))) (e : List (Var × Bound)) (n : ℕ) (w : Value)
+    (parts next : List (List (List (Var × Bound))))
+    → n < length values → w ≡ get_or values n w → next ≡ set parts n (get_or parts n [] ++ added x w e)
+    → Halfway x values es e n parts → Halfway x values es e (n + 1) next
 halfway_step x values es e n w parts next within here is h = (
   ap length is ∙ length-set parts n (get_or parts n [] ++ added x w e) ∙ h.0,
   λ j u lt at. ⊎_elim
@@ -116,11 +125,13 @@ halfway_step x values es e n w parts next within here is h = (
       let equal : u ≡ w = at ∙ ap (λ i. get_or values i u) same_place ∙ get_or_default values n u w within ∙ sym here in
       let now : get_or next j [] ≡ get_or parts n [] ++ added x w e =
       (λ i. get_or (is i) (same_place i) []) ∙ get_or-set_same parts n (get_or parts n [] ++ added x w e) [] (omega (arith, within, h.0)) in (
-        λ _. adds_one x u e (get_or parts n []) (get_or next j []) es ((h.1 n u within (at ∙ ap (λ i. get_or values i u) same_place)).1 (omega arith)) (now ∙ ap (λ z. get_or parts n [] ++ added x z e) (sym equal)),
+        λ _. adds_one x u e (get_or parts n []) (get_or next j []) es
+            ((h.1 n u within (at ∙ ap (λ i. get_or values i u) same_place)).1 (omega arith)) (now ∙ ap (λ z. get_or parts n [] ++ added x z e) (sym equal)),
         λ more. absurd (omega arith),
       ))
       (λ (other : j ≡ n → ⊥).
-      let kept : get_or next j [] ≡ get_or parts j [] = ap (λ ps. get_or ps j []) is ∙ get_or-set_other parts n j (get_or parts n [] ++ added x w e) [] other in (
+      let kept : get_or next j [] ≡ get_or parts j [] =
+      ap (λ ps. get_or ps j []) is ∙ get_or-set_other parts n j (get_or parts n [] ++ added x w e) [] other in (
         λ less. kept ∙ (h.1 j u lt at).0 (before j n other less),
         λ more. kept ∙ (h.1 j u lt at).1 (omega arith),
       ))
@@ -128,7 +139,8 @@ halfway_step x values es e n w parts next within here is h = (
 )
 
 -- an entry that bounds x alone
-pub lone_entry : (x : Var) (env : Environment) (ps : List (Var × Bound)) → entry_vars (λ y. same_var y x) ps ≡ true → entry_denotes ps env ≡ passes x (fits (env x)) ps
+pub lone_entry : (x : Var) (env : Environment) (ps : List (Var × Bound)) → entry_vars (λ y. same_var y x) ps ≡ true
+    → entry_denotes ps env ≡ passes x (fits (env x)) ps
 lone_entry x env [] h = refl
 lone_entry x env (p ∷ ps) h =
     let here : same_var p.0 x ≡ true = grind (arith, common_steps) in
@@ -136,7 +148,8 @@ lone_entry x env (p ∷ ps) h =
     let equal = ap (λ y. fits (env y) p.1) (same_var-equal p.0 x here) in
     grind (arith, common_steps)
 
-pub lone_set : (x : Var) (env : Environment) (es : List (List (Var × Bound))) → set_vars (λ y. same_var y x) es ≡ true → set_denotes es env ≡ list_any (λ e. passes x (fits (env x)) e) es
+pub lone_set : (x : Var) (env : Environment) (es : List (List (Var × Bound))) → set_vars (λ y. same_var y x) es ≡ true
+    → set_denotes es env ≡ list_any (λ e. passes x (fits (env x)) e) es
 lone_set x env [] h = refl
 lone_set x env (e ∷ es) h =
     let first = lone_entry x env e (grind (arith, common_steps)) in
@@ -148,12 +161,14 @@ passes_along : (x : Var) (v z : Value) → same v z ≡ true → (ps : List (Var
 passes_along x v z h [] = refl
 passes_along x v z h (p ∷ ps) = λ i. (not (same_var p.0 x) || fits-along v z h p.1 i) && passes_along x v z h ps i
 
-any_passes_along : (x : Var) (v z : Value) → same v z ≡ true → (es : List (List (Var × Bound))) → list_any (λ e. passes x (fits v) e) es ≡ list_any (λ e. passes x (fits z) e) es
+any_passes_along : (x : Var) (v z : Value) → same v z ≡ true → (es : List (List (Var × Bound)))
+    → list_any (λ e. passes x (fits v) e) es ≡ list_any (λ e. passes x (fits z) e) es
 any_passes_along x v z h [] = refl
 any_passes_along x v z h (e ∷ es) = λ i. passes_along x v z h e i || any_passes_along x v z h es i
 
 -- what parts of a set whose other entries bound x alone allow
-pub allowed_alike : (x : Var) (v : Value) (env : Environment) (fixed : List Value) (others : List (List (Var × Bound))) → set_vars (λ y. same_var y x) others ≡ true
+pub allowed_alike : (x : Var) (v : Value) (env : Environment) (fixed : List Value) (others : List (List (Var × Bound)))
+    → set_vars (λ y. same_var y x) others ≡ true
     → same v (env x) ≡ true → are_allowed x v fixed others ≡ (list_any (λ w. same w (env x)) fixed || set_denotes others env)
 allowed_alike x v env fixed others lone h =
     let e = any_passes_along x v (env x) h others ∙ sym (lone_set x env others lone) in
@@ -174,10 +189,12 @@ lone_end true A h = refl
 lone_end false A h = ap not (sym (h refl))
 
 -- no parts yet
-pub parts_start : (x : Var) (values : List Value) (parts : List (List (List (Var × Bound)))) (n : ℕ) → n ≡ length values → length parts ≡ n → ((k : ℕ) → get_or parts k [] ≡ []) → AreRestrictions x values [] parts
+pub parts_start : (x : Var) (values : List Value) (parts : List (List (List (Var × Bound)))) (n : ℕ) → n ≡ length values
+    → length parts ≡ n → ((k : ℕ) → get_or parts k [] ≡ []) → AreRestrictions x values [] parts
 parts_start x values parts n e count empty = (count ∙ e, λ k v lt at. empty k)
 
-pub empty_more : (parts : List (List (List (Var × Bound)))) (y : List (List (Var × Bound))) (k : ℕ) → y ≡ [] → ((j : ℕ) → get_or parts j [] ≡ []) → get_or (parts ++ y ∷ []) k [] ≡ []
+pub empty_more : (parts : List (List (List (Var × Bound)))) (y : List (List (Var × Bound))) (k : ℕ) → y ≡ []
+    → ((j : ℕ) → get_or parts j [] ≡ []) → get_or (parts ++ y ∷ []) k [] ≡ []
 empty_more [] y zero e h = e
 empty_more [] y (suc k) e h = refl
 empty_more (p ∷ ps) y zero e h = h 0
@@ -204,7 +221,8 @@ some_value [] i lt = absurd (omega arith)
 some_value (w ∷ ws) zero lt = (w, refl)
 some_value (w ∷ ws) (suc i) lt = some_value ws i (omega arith)
 
-pub part_smaller : (x : Var) (values : List Value) (a : List (List (Var × Bound))) (parts : List (List (List (Var × Bound)))) (i : ℕ) (part : List (List (Var × Bound)))
+pub part_smaller : (x : Var) (values : List Value) (a : List (List (Var × Bound))) (parts : List (List (List (Var × Bound))))
+    (i : ℕ) (part : List (List (Var × Bound)))
     → AreRestrictions x values a parts → i < length values → part ≡ get_or parts i [] → occurs x a ≡ true → size_of part < size_of a
 part_smaller x values a parts i part h lt at l =
     let v = some_value values i lt in
@@ -212,6 +230,7 @@ part_smaller x values a parts i part h lt at l =
     omega (arith, e, occurs_size x (fits v.0) a l)
 
 -- what all parts leave out
-pub part_is : (x : Var) (values : List Value) (a : List (List (Var × Bound))) (parts : List (List (List (Var × Bound)))) (i : ℕ) (part : List (List (Var × Bound))) (v : Value)
+pub part_is : (x : Var) (values : List Value) (a : List (List (Var × Bound))) (parts : List (List (List (Var × Bound)))) (i : ℕ)
+    (part : List (List (Var × Bound))) (v : Value)
     → AreRestrictions x values a parts → i < length values → part ≡ get_or parts i [] → v ≡ get_or values i v → part ≡ restricted x (fits v) a
 part_is x values a parts i part v h lt at e = at ∙ h.1 i v lt e

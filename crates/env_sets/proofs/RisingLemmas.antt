@@ -1,6 +1,7 @@
 -- Binary search in values in order.
 use Rattle.std.proofs.lemmas.Bool.Decides.{nat_tests}
-use Rattle.std.proofs.Common.{◌≡◌, ℕ, suc, zero, ◌+◌, ◌-◌, ◌<◌, ◌≤◌, ◌==◌, Bool, true, false, ◌||◌, ◌&&◌, not, refl, sym, ap, ◌∙◌, subst, arith, List, [], ◌∷◌, ◌++◌, length, get_or, take, drop, take-append-drop}
+use Rattle.std.proofs.Common.{◌≡◌, ℕ, suc, zero, ◌+◌, ◌-◌, ◌<◌, ◌≤◌, ◌==◌, Bool, true, false, ◌||◌, ◌&&◌, not, refl, sym, ap}
+use Rattle.std.proofs.Common.{◌∙◌, subst, arith, List, [], ◌∷◌, ◌++◌, length, get_or, take, drop, take-append-drop}
 use Rattle.std.specs.List.{list_any, list_all}
 use Rattle.std.specs.declared.cmp.Ordering.{Ordering}
 use Rattle.std.specs.declared.cmp.Ordering.TheVariants.{Less, Equal, Greater}
@@ -31,7 +32,8 @@ all_less w x v [] n b r lt e = absurd (omega arith)
 all_less w x v (y ∷ ws) zero b r lt e = ap (value_order w) e ∙ b
 all_less w x v (y ∷ ws) (suc n) b r lt e = value_order_total.trans w y x b (all_less y x v ws n r.0 r.1 (omega arith) e)
 
-pub front_misses : (ws : List Value) (n : ℕ) (x v : Value) → Rise ws → n < length ws → x ≡ get_or ws n x → value_order x v ≡ Less → list_any (λ w. same w v) (take (suc n) ws) ≡ false
+pub front_misses : (ws : List Value) (n : ℕ) (x v : Value) → Rise ws → n < length ws → x ≡ get_or ws n x
+    → value_order x v ≡ Less → list_any (λ w. same w v) (take (suc n) ws) ≡ false
 front_misses [] n x v r lt e h = absurd (omega arith)
 front_misses (w ∷ ws) zero x v r lt e h = front_step (same w v) false (ap (λ y. same y v) (sym e) ∙ less_apart x v h) refl
 front_misses (w ∷ ws) (suc n) x v r lt e h =
@@ -46,7 +48,8 @@ after_all (y ∷ ws) w v b r h =
     let less : value_order v y ≡ Less = value_order_total.trans v w y h b in
     front_step (same y v) (list_any (λ y. same y v) ws) (more_apart y v (turned v y Less less)) (after_all ws y v r.0 r.1 less)
 
-pub back_misses : (ws : List Value) (n : ℕ) (x v : Value) → Rise ws → n < length ws → x ≡ get_or ws n x → value_order x v ≡ Greater → list_any (λ w. same w v) (drop n ws) ≡ false
+pub back_misses : (ws : List Value) (n : ℕ) (x v : Value) → Rise ws → n < length ws → x ≡ get_or ws n x
+    → value_order x v ≡ Greater → list_any (λ w. same w v) (drop n ws) ≡ false
 back_misses [] n x v r lt e h = absurd (omega arith)
 back_misses (w ∷ ws) zero x v r lt e h =
     let here : value_order w v ≡ Greater = ap (λ y. value_order y v) (sym e) ∙ h in
@@ -54,7 +57,8 @@ back_misses (w ∷ ws) zero x v r lt e h =
 back_misses (w ∷ ws) (suc n) x v r lt e h = back_misses ws n x v r.1 (omega arith) e h
 
 -- what neither part has, the list does not have
-pub parts_miss : (ws : List Value) (n : ℕ) (v : Value) → list_any (λ w. same w v) (take n ws) ≡ false → list_any (λ w. same w v) (drop n ws) ≡ false → false ≡ list_any (λ w. same w v) ws
+pub parts_miss : (ws : List Value) (n : ℕ) (v : Value) → list_any (λ w. same w v) (take n ws) ≡ false
+    → list_any (λ w. same w v) (drop n ws) ≡ false → false ≡ list_any (λ w. same w v) ws
 parts_miss ws n v front back =
     sym (ap (list_any (λ w. same w v)) (sym (take-append-drop n ws)) ∙ list_any-append (λ w. same w v) (take n ws) (drop n ws) ∙ front_step _ _ front back)
 
@@ -68,20 +72,23 @@ before Less h = refl
 before Equal h = absurd cc
 before Greater h = absurd cc
 
-pub Rise-more : (ws : List Value) (n : ℕ) (x y : Value) → suc n < length ws → x ≡ get_or ws n x → y ≡ get_or ws (suc n) y → is_lt (value_order x y) ≡ true → Rise (take (suc n) ws) → Rise (take (suc (suc n)) ws)
+pub Rise-more : (ws : List Value) (n : ℕ) (x y : Value) → suc n < length ws → x ≡ get_or ws n x → y ≡ get_or ws (suc n) y
+    → is_lt (value_order x y) ≡ true → Rise (take (suc n) ws) → Rise (take (suc (suc n)) ws)
 Rise-more [] n x y lt e f h r = absurd (omega arith)
 Rise-more (w ∷ []) n x y lt e f h r = absurd (omega arith)
 Rise-more (w ∷ z ∷ ws) zero x y lt e f h r =
     (ap (λ a. value_order a z) (sym e) ∙ ap (value_order x) (sym f) ∙ before (value_order x y) h, (tt, tt))
 Rise-more (w ∷ z ∷ ws) (suc n) x y lt e f h r = (r.0, Rise-more (z ∷ ws) n x y (omega arith) e f h r.1)
 
-pub Rise-more_at : (ws : List Value) (n i : ℕ) (x y : Value) → i ≡ suc n → i < length ws → x ≡ get_or ws n x → y ≡ get_or ws i y → is_lt (value_order x y) ≡ true → Rise (take i ws) → Rise (take (i + 1) ws)
+pub Rise-more_at : (ws : List Value) (n i : ℕ) (x y : Value) → i ≡ suc n → i < length ws → x ≡ get_or ws n x → y ≡ get_or ws i y
+    → is_lt (value_order x y) ≡ true → Rise (take i ws) → Rise (take (i + 1) ws)
 Rise-more_at ws n i x y e lt f g h r =
     let next : suc (suc n) ≡ i + 1 = omega arith in
     subst (λ k. Rise (take k ws)) next
     (Rise-more ws n x y (omega arith) f (g ∙ ap (λ k. get_or ws k y) e) h (subst (λ k. Rise (take k ws)) e r))
 
-pub front_misses_at : (ws : List Value) (n m : ℕ) (x v : Value) → Rise ws → n < length ws → x ≡ get_or ws n x → value_order x v ≡ Less → m ≡ suc n → list_any (λ w. same w v) (take m ws) ≡ false
+pub front_misses_at : (ws : List Value) (n m : ℕ) (x v : Value) → Rise ws → n < length ws → x ≡ get_or ws n x
+    → value_order x v ≡ Less → m ≡ suc n → list_any (λ w. same w v) (take m ws) ≡ false
 front_misses_at ws n m x v r lt e h k = ap (λ j. list_any (λ w. same w v) (take j ws)) k ∙ front_misses ws n x v r lt e h
 
 four : (p q r s : Bool) → (((p || q) || r) || s) ≡ ((p || r) || (q || s))
@@ -131,7 +138,8 @@ pub both_hold : {a b : Bool} → a ≡ true → b ≡ true → (a && b) ≡ true
 both_hold {a} {b} h k = ap (λ c. c && b) h ∙ k
 
 -- no value before place n is after the one there
-pub none_above : (xs : List Value) (n : ℕ) (v : Value) → ((i : ℕ) → i < n → is_lt (value_order v (get_or xs i v)) ≡ false) → n ≤ length xs → list_all (λ u. not (is_lt (value_order v u))) (take n xs) ≡ true
+pub none_above : (xs : List Value) (n : ℕ) (v : Value) → ((i : ℕ) → i < n → is_lt (value_order v (get_or xs i v)) ≡ false)
+    → n ≤ length xs → list_all (λ u. not (is_lt (value_order v u))) (take n xs) ≡ true
 none_above xs zero v h lt = refl
 none_above [] (suc n) v h lt = absurd (omega arith)
 none_above (x ∷ xs) (suc n) v h lt = both_hold (ap not (h 0 (omega arith))) (none_above xs n v (λ i k. h (suc i) (omega arith)) (omega arith))

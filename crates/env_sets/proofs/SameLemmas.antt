@@ -27,5 +27,6 @@ pub is_alike : (v w : Value) (a b : Bound) (r : Bool) → a ≡ Is v → b ≡ I
 is_alike v w a b r e f g h x = ap (fits x) e ∙ same_alike v w x (sym g ∙ h) ∙ sym (ap (fits x) f)
 
 -- so do bounds of one variable in an environment
-pub pair_alike : (p q : Var × Bound) → same_var p.0 q.0 ≡ true → ((x : Value) → fits x p.1 ≡ fits x q.1) → (env : Environment) → fits (env p.0) p.1 ≡ fits (env q.0) q.1
+pub pair_alike : (p q : Var × Bound) → same_var p.0 q.0 ≡ true → ((x : Value) → fits x p.1 ≡ fits x q.1) → (env : Environment)
+    → fits (env p.0) p.1 ≡ fits (env q.0) q.1
 pair_alike p q e h env = ap (λ x. fits (env x) p.1) (same_var-equal p.0 q.0 e) ∙ h (env q.0)

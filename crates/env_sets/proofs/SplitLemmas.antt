@@ -1,5 +1,6 @@
 -- A set when one variable has a value: the entries that allow it, without the variable.
-use Rattle.std.proofs.Common.{◌≡◌, ℕ, ◌+◌, ◌<◌, ◌≤◌, suc, Bool, true, false, ◌&&◌, ◌||◌, not, cond, refl, sym, ap, ◌∙◌, arith, List, [], ◌∷◌, ◌++◌, length, get_or, take, ⊎_elim}
+use Rattle.std.proofs.Common.{◌≡◌, ℕ, ◌+◌, ◌<◌, ◌≤◌, suc, Bool, true, false, ◌&&◌, ◌||◌, not, cond, refl, sym, ap, ◌∙◌, arith}
+use Rattle.std.proofs.Common.{List, [], ◌∷◌, ◌++◌, length, get_or, take, ⊎_elim}
 use Rattle.std.proofs.lemmas.List.{take_more}
 use Rattle.std.proofs.lemmas.Grind.{common_steps}
 use Rattle.smpl_terms.specs.declared.var.Var.{Var}
@@ -23,7 +24,8 @@ Decided x test z (p ∷ ps) = (same_var p.0 x ≡ true → test p.1 ≡ fits z p
 entry_step : (x : Var) (test : Bound → Bool) (env : Environment) (p : Var × Bound) (ps : List (Var × Bound)) (b : Bool)
     → (b ≡ true → p.0 ≡ x) → (b ≡ true → test p.1 ≡ fits (env x) p.1)
     → entry_denotes ps env ≡ (passes x test ps && entry_denotes (without x ps) env)
-    → (fits (env p.0) p.1 && entry_denotes ps env) ≡ (((not b || test p.1) && passes x test ps) && entry_denotes (cond (not b) (p ∷ without x ps) (without x ps)) env)
+    → (fits (env p.0) p.1 && entry_denotes ps env)
+    ≡ (((not b || test p.1) && passes x test ps) && entry_denotes (cond (not b) (p ∷ without x ps) (without x ps)) env)
 entry_step x test env p ps true same_place decided rest =
     let e : test p.1 ≡ fits (env p.0) p.1 = decided refl ∙ ap (λ y. fits (env y) p.1) (sym (same_place refl)) in
     grind (arith, common_steps)
@@ -58,7 +60,8 @@ fits-AllDecided : (x : Var) (v z : Value) → same v z ≡ true → (es : List (
 fits-AllDecided x v z h [] = tt
 fits-AllDecided x v z h (e ∷ es) = (fits-Decided x v z h e, fits-AllDecided x v z h es)
 
-pub is-split : (x : Var) (v : Value) (env : Environment) (es : List (List (Var × Bound))) → same v (env x) ≡ true → set_denotes (restricted x (fits v) es) env ≡ set_denotes es env
+pub is-split : (x : Var) (v : Value) (env : Environment) (es : List (List (Var × Bound))) → same v (env x) ≡ true
+    → set_denotes (restricted x (fits v) es) env ≡ set_denotes es env
 is-split x v env es h = set-split x (fits v) env es (fits-AllDecided x v (env x) h es)
 
 -- when x is a value that no entry names
@@ -76,7 +79,8 @@ unnamed-AllDecided : (x : Var) (z : Value) (es : List (List (Var × Bound))) →
 unnamed-AllDecided x z [] h = tt
 unnamed-AllDecided x z (e ∷ es) h = (unnamed-Decided x z e (grind (arith, common_steps)), unnamed-AllDecided x z es (grind (arith, common_steps)))
 
-pub other-split : (x : Var) (env : Environment) (es : List (List (Var × Bound))) → none_named x (env x) es ≡ true → set_denotes (restricted x is_not es) env ≡ set_denotes es env
+pub other-split : (x : Var) (env : Environment) (es : List (List (Var × Bound))) → none_named x (env x) es ≡ true
+    → set_denotes (restricted x is_not es) env ≡ set_denotes es env
 other-split x env es h = set-split x is_not env es (unnamed-AllDecided x (env x) es h)
 
 -- the variables
@@ -92,10 +96,12 @@ without_fewer x t (p ∷ ps) h = vars_step x t p ps (same_var p.0 x) (without_fe
 restricted_step : (x : Var) (test : Bound → Bool) (t : Var → Bool) (e : List (Var × Bound)) (es : List (List (Var × Bound))) (b : Bool)
     → (entry_vars t e ≡ true → entry_vars t (without x e) ≡ true) → (set_vars t es ≡ true → set_vars t (restricted x test es) ≡ true)
     → (entry_vars t e && set_vars t es) ≡ true → set_vars t (cond b (without x e ∷ restricted x test es) (restricted x test es)) ≡ true
-restricted_step x test t e es true one rest h = let a = one (grind (arith, common_steps)) in let b = rest (grind (arith, common_steps)) in grind (arith, common_steps)
+restricted_step x test t e es true one rest h = let a = one (grind (arith, common_steps)) in let b =
+    rest (grind (arith, common_steps)) in grind (arith, common_steps)
 restricted_step x test t e es false one rest h = rest (grind (arith, common_steps))
 
-pub restricted_vars : (x : Var) (test : Bound → Bool) (t : Var → Bool) (es : List (List (Var × Bound))) → set_vars t es ≡ true → set_vars t (restricted x test es) ≡ true
+pub restricted_vars : (x : Var) (test : Bound → Bool) (t : Var → Bool) (es : List (List (Var × Bound))) → set_vars t es ≡ true
+    → set_vars t (restricted x test es) ≡ true
 restricted_vars x test t [] h = refl
 restricted_vars x test t (e ∷ es) h = restricted_step x test t e es (passes x test e) (without_fewer x t e) (restricted_vars x test t es) h
 
@@ -115,7 +121,8 @@ occurs_vars x t (e ∷ es) h k =
 -- what is left is smaller
 without_size : (x : Var) (ps : List (Var × Bound)) → length (without x ps) ≤ length ps
 without_size x [] = omega arith
-without_size x (p ∷ ps) = elim (same_var p.0 x) as (λ b. length (cond (not b) (p ∷ without x ps) (without x ps)) ≤ suc (length ps)) [ true ↦ omega (arith, without_size x ps) | false ↦ omega (arith, without_size x ps) ]
+without_size x (p ∷ ps) = elim (same_var p.0 x) as (λ b. length (cond (not b) (p ∷ without x ps) (without x ps))
+    ≤ suc (length ps)) [ true ↦ omega (arith, without_size x ps) | false ↦ omega (arith, without_size x ps) ]
 
 restricted_size : (x : Var) (test : Bound → Bool) (es : List (List (Var × Bound))) → size_of (restricted x test es) ≤ size_of es
 restricted_size x test [] = omega arith
@@ -133,19 +140,24 @@ pub occurs_size : (x : Var) (test : Bound → Bool) (es : List (List (Var × Bou
 occurs_size x test [] h = absurd cc
 occurs_size x test (e ∷ es) h =
     elim (passes x test e) as (λ b. size_of (cond b (without x e ∷ restricted x test es) (restricted x test es)) < length e + size_of es) [
-      | true ↦ ⊎_elim (λ a. omega (arith, without_shorter x e a, restricted_size x test es)) (λ r. omega (arith, without_size x e, occurs_size x test es r)) (or_cases (has_pair e x) (occurs x es) h)
-      | false ↦ ⊎_elim (λ a. omega (arith, without_shorter x e a, restricted_size x test es)) (λ r. omega (arith, occurs_size x test es r)) (or_cases (has_pair e x) (occurs x es) h)
+      | true ↦ ⊎_elim (λ a. omega (arith, without_shorter x e a, restricted_size x test es))
+          (λ r. omega (arith, without_size x e, occurs_size x test es r)) (or_cases (has_pair e x) (occurs x es) h)
+      | false ↦ ⊎_elim (λ a. omega (arith, without_shorter x e a, restricted_size x test es))
+          (λ r. omega (arith, occurs_size x test es r)) (or_cases (has_pair e x) (occurs x es) h)
     ]
 
 -- one more entry
-pub restricted-push : (x : Var) (test : Bound → Bool) (es : List (List (Var × Bound))) (e : List (Var × Bound)) → restricted x test (es ++ e ∷ []) ≡ restricted x test es ++ cond (passes x test e) (without x e ∷ []) []
+pub restricted-push : (x : Var) (test : Bound → Bool) (es : List (List (Var × Bound))) (e : List (Var × Bound))
+    → restricted x test (es ++ e ∷ []) ≡ restricted x test es ++ cond (passes x test e) (without x e ∷ []) []
 restricted-push x test [] e = elim (passes x test e) as (λ b. cond b (without x e ∷ []) [] ≡ [] ++ cond b (without x e ∷ []) []) [ true ↦ refl | false ↦ refl ]
 restricted-push x test (d ∷ es) e =
-    elim (passes x test d) as (λ b. cond b (without x d ∷ restricted x test (es ++ e ∷ [])) (restricted x test (es ++ e ∷ [])) ≡ cond b (without x d ∷ restricted x test es) (restricted x test es) ++ cond (passes x test e) (without x e ∷ []) [])
+    elim (passes x test d) as (λ b. cond b (without x d ∷ restricted x test (es ++ e ∷ [])) (restricted x test (es ++ e ∷ []))
+    ≡ cond b (without x d ∷ restricted x test es) (restricted x test es) ++ cond (passes x test e) (without x e ∷ []) [])
     [ true ↦ ap (λ l. without x d ∷ l) (restricted-push x test es e) | false ↦ restricted-push x test es e ]
 
 -- a step of the loop that restricts
-pub where_step : (x : Var) (test : Bound → Bool) (es : List (List (Var × Bound))) (i : ℕ) (e : List (Var × Bound)) (old new : List (List (Var × Bound))) (b : Bool)
+pub where_step : (x : Var) (test : Bound → Bool) (es : List (List (Var × Bound))) (i : ℕ) (e : List (Var × Bound))
+    (old new : List (List (Var × Bound))) (b : Bool)
     → i < length es → e ≡ get_or es i e → b ≡ passes x test e → old ≡ restricted x test (take i es) → new ≡ old ++ cond b (without x e ∷ []) []
     → new ≡ restricted x test (take (i + 1) es)
 where_step x test es i e old new b lt at is before after =
@@ -153,7 +165,8 @@ where_step x test es i e old new b lt at is before after =
     ∙ sym (ap (restricted x test) (take_more es i e lt ∙ ap (λ d. take i es ++ d ∷ []) (sym at)) ∙ restricted-push x test (take i es) e)
 
 -- the first entry bounds its first variable
-pub occurs_at : (es : List (List (Var × Bound))) (e : List (Var × Bound)) (p : Var × Bound) → 1 ≤ length es → e ≡ get_or es 0 e → 1 ≤ length e → p ≡ get_or e 0 p → occurs p.0 es ≡ true
+pub occurs_at : (es : List (List (Var × Bound))) (e : List (Var × Bound)) (p : Var × Bound) → 1 ≤ length es → e ≡ get_or es 0 e
+    → 1 ≤ length e → p ≡ get_or e 0 p → occurs p.0 es ≡ true
 occurs_at [] e p some at more here = absurd (omega arith)
 occurs_at ([] ∷ es) e p some at more here = absurd (omega (arith, ap length at))
 occurs_at ((q ∷ qs) ∷ es) e p some at more here =

@@ -49,7 +49,8 @@ witness x [] = Place 0
 witness x (p ∷ ps) = cond (same_var p.0 x) (pick p.1) (witness x ps)
 
 -- above x nothing changes
-above_same : (x : Var) (v : Value) (ps : List (Var × Bound)) (env : Environment) → Above x ps → entry_denotes ps (change env x v) ≡ entry_denotes (filter (other x) ps) env
+above_same : (x : Var) (v : Value) (ps : List (Var × Bound)) (env : Environment) → Above x ps
+    → entry_denotes ps (change env x v) ≡ entry_denotes (filter (other x) ps) env
 above_same x v [] env a = refl
 above_same x v (p ∷ ps) env a =
     let ne : same_var p.0 x ≡ false = less-apart x p.0 a.0 in
@@ -69,7 +70,8 @@ kept_step x v p ps env false e r rest h =
     let b : entry_denotes (filter (other x) ps) env ≡ true = grind (arith, common_steps) in
     both_true (fits (env p.0) p.1) (entry_denotes ps (change env x (witness x ps))) a (rest r.1 b)
 
-kept : (x : Var) (ps : List (Var × Bound)) (env : Environment) → Rising ps → entry_denotes (filter (other x) ps) env ≡ true → entry_denotes ps (change env x (witness x ps)) ≡ true
+kept : (x : Var) (ps : List (Var × Bound)) (env : Environment) → Rising ps → entry_denotes (filter (other x) ps) env ≡ true
+    → entry_denotes ps (change env x (witness x ps)) ≡ true
 kept x [] env r h = refl
 kept x (p ∷ ps) env r h = kept_step x (Place 0) p ps env (same_var p.0 x) refl r (kept x ps env) h
 
@@ -82,7 +84,8 @@ back_step x v p ps env false rest h =
     let a : fits (env p.0) p.1 ≡ true = grind (arith, common_steps) in
     both_true (fits (env p.0) p.1) (entry_denotes (filter (other x) ps) env) a (rest (grind (arith, common_steps)))
 
-back : (x : Var) (v : Value) (ps : List (Var × Bound)) (env : Environment) → entry_denotes ps (change env x v) ≡ true → entry_denotes (filter (other x) ps) env ≡ true
+back : (x : Var) (v : Value) (ps : List (Var × Bound)) (env : Environment) → entry_denotes ps (change env x v) ≡ true
+    → entry_denotes (filter (other x) ps) env ≡ true
 back x v [] env h = refl
 back x v (p ∷ ps) env h = back_step x v p ps env (same_var p.0 x) (back x v ps env) h
 
@@ -99,6 +102,7 @@ vars_step x t p ps false rest h =
     let a : t p.0 ≡ true = grind (arith, common_steps) in
     both_true (t p.0) (entry_vars t (filter (other x) ps)) a (rest (grind (arith, common_steps)))
 
-pub without_vars : (x : Var) (ps : List (Var × Bound)) (t : Var → Bool) → entry_vars (λ y. t y || same_var y x) ps ≡ true → entry_vars t (filter (λ p. not (same_var p.0 x)) ps) ≡ true
+pub without_vars : (x : Var) (ps : List (Var × Bound)) (t : Var → Bool) → entry_vars (λ y. t y || same_var y x) ps ≡ true
+    → entry_vars t (filter (λ p. not (same_var p.0 x)) ps) ≡ true
 without_vars x [] t h = refl
 without_vars x (p ∷ ps) t h = vars_step x t p ps (same_var p.0 x) (without_vars x ps t) h

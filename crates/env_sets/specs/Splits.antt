@@ -50,7 +50,8 @@ none_named x z entries = list_all (is_unnamed x z) entries
 
 -- for each of the values, the entries that allow it at x, without x
 abbrev pub AreRestrictions : Var → List Value → List (List (Var × Bound)) → List (List (List (Var × Bound))) → Type 0
-AreRestrictions x values es parts = (length parts ≡ length values) × ((k : ℕ) (v : Value) → k < length values → v ≡ slice_index_or values k v → slice_index_or parts k [] ≡ restricted x (fits v) es)
+AreRestrictions x values es parts = (length parts ≡ length values)
+    × ((k : ℕ) (v : Value) → k < length values → v ≡ slice_index_or values k v → slice_index_or parts k [] ≡ restricted x (fits v) es)
 
 -- the value is fixed by some entries, or others allow it at x
 abbrev pub are_allowed : Var → Value → List Value → List (List (Var × Bound)) → Bool
@@ -59,7 +60,8 @@ are_allowed x v fixed others = list_any (λ w. same w v) fixed || list_any (λ e
 -- if x is one of the values, the set is its group and the others; otherwise it is the others
 abbrev pub AreGroupsOf : Var → List Value → Entries → List Entries → Entries → Type 0
 AreGroupsOf x values es groups others = (length groups ≡ length values)
-    × (((env : Environment) (k : ℕ) (v : Value) → k < length values → v ≡ slice_index_or values k v → same v (env x) ≡ true → set_denotes es env ≡ (set_denotes (slice_index_or groups k []) env || set_denotes others env))
+    × (((env : Environment) (k : ℕ) (v : Value) → k < length values → v ≡ slice_index_or values k v → same v (env x) ≡ true
+    → set_denotes es env ≡ (set_denotes (slice_index_or groups k []) env || set_denotes others env))
     × ((env : Environment) → list_any (λ w. same w (env x)) values ≡ false → set_denotes es env ≡ set_denotes others env))
 
 -- each variable passes the test

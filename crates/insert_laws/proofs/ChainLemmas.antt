@@ -12,7 +12,7 @@ use Rattle.smpl_patch.specs.declared.rule.Rule.{Rule}
 use Rattle.smpl_patch.specs.Bodies.{body}
 use Rattle.smpl_patch.specs.Shapes.{patterns_body}
 use Rattle.ctl_translate.specs.Rules.{first_unbound}
-use Rattle.rule_envs.specs.declared.carrier.Carrier.{Carrier}
+use Rattle.rule_envs.specs.declared.carrier.FileEnv.{FileEnv}
 use Rattle.rule_chain.specs.RuleTurn.Turns.{turn_found, turn_carriers}
 use Rattle.rule_chain.specs.RuleEdits.Kinds.{kinds_of}
 use Rattle.rule_chain.specs.RuleEdits.Pages.{is_edited}
@@ -33,12 +33,12 @@ use Rattle.insert_laws.proofs.RuleLemmas.{IsFit}
 
 abbrev pub FoundLaw : Type 0
 FoundLaw = (defined : List (List ℕ)) (had : List ℕ) (number : ℕ) (rule : Rule) (pieces : List TextPiece) (items : List Item)
-    (carriers : List Carrier) (metas : Var → Bool) → IsReady rule → first_unbound rule ≡ None → AreMetas metas rule → Reads pieces items
+    (carriers : List FileEnv) (metas : Var → Bool) → IsReady rule → first_unbound rule ≡ None → AreMetas metas rule → Reads pieces items
     → All (CarriesTerms metas) carriers → All (ShowsTerms metas rule items) (touches (turn_found defined had number rule items carriers))
 
 abbrev pub CarriedLaw : Type 0
 CarriedLaw = (defined : List (List ℕ)) (had : List ℕ) (number : ℕ) (rule : Rule) (pieces : List TextPiece) (items : List Item)
-    (carriers : List Carrier) (metas : Var → Bool) → IsReady rule → first_unbound rule ≡ None → AreMetas metas rule → Reads pieces items
+    (carriers : List FileEnv) (metas : Var → Bool) → IsReady rule → first_unbound rule ≡ None → AreMetas metas rule → Reads pieces items
     → All (CarriesTerms metas) carriers → All (CarriesTerms metas) (turn_carriers defined had number rule items carriers)
 
 -- ---- one touch

@@ -64,13 +64,15 @@ module _ (isos : List Iso) (tokens : List PatToken) where
       → less + forms_element isos tokens (element e) ≡ left
       → left + forms_body isos tokens (body (take i es)) ≡ room → less + forms_body isos tokens (body (take (i + 1) es)) ≡ room
   body_spent es i e room left less h q s t =
-      let a : forms_body isos tokens (body (take (i + 1) es)) ≡ forms_body isos tokens (snoc (body (take i es)) (element e)) = ap (forms_body isos tokens) (taken es i e h q) in
+      let a : forms_body isos tokens (body (take (i + 1) es)) ≡ forms_body isos tokens (snoc (body (take i es)) (element e)) =
+      ap (forms_body isos tokens) (taken es i e h q) in
       omega (arith, forms-snoc (body (take i es)) (element e))
 
   pub body_part : (es : List Elem) (i : ℕ) (e : Elem) → i < length es → e ≡ get_or es i e
       → forms_body isos tokens (body (take i es)) + forms_element isos tokens (element e) ≤ forms_body isos tokens (body es)
   body_part [] i e h q = absurd (omega arith)
-  body_part (d ∷ es) zero e h q = let a : forms_element isos tokens (element e) ≡ forms_element isos tokens (element d) = ap (λ (x : Elem). forms_element isos tokens (element x)) q in omega arith
+  body_part (d ∷ es) zero e h q = let a : forms_element isos tokens (element e) ≡ forms_element isos tokens (element d) =
+      ap (λ (x : Elem). forms_element isos tokens (element x)) q in omega arith
   body_part (d ∷ es) (suc i) e h q = let r = body_part es i e (omega arith) q in omega (arith, r)
 
   takens : (bs : List (List Elem)) (i : ℕ) (b : List Elem) → i < length bs → b ≡ get_or bs i b → bodies (take (i + 1) bs) ≡ push (bodies (take i bs)) (body b)
@@ -89,11 +91,13 @@ module _ (isos : List Iso) (tokens : List PatToken) where
       → less + forms_body isos tokens (body b) ≡ left
       → left + forms_bodies isos tokens (bodies (take i bs)) ≡ room → less + forms_bodies isos tokens (bodies (take (i + 1) bs)) ≡ room
   bodies_spent bs i b room left less h q s t =
-      let a : forms_bodies isos tokens (bodies (take (i + 1) bs)) ≡ forms_bodies isos tokens (push (bodies (take i bs)) (body b)) = ap (forms_bodies isos tokens) (takens bs i b h q) in
+      let a : forms_bodies isos tokens (bodies (take (i + 1) bs))
+      ≡ forms_bodies isos tokens (push (bodies (take i bs)) (body b)) = ap (forms_bodies isos tokens) (takens bs i b h q) in
       omega (arith, forms-push (bodies (take i bs)) (body b))
 
   pub bodies_part : (bs : List (List Elem)) (i : ℕ) (b : List Elem) → i < length bs → b ≡ get_or bs i b
       → forms_bodies isos tokens (bodies (take i bs)) + forms_body isos tokens (body b) ≤ forms_bodies isos tokens (bodies bs)
   bodies_part [] i b h q = absurd (omega arith)
-  bodies_part (c ∷ bs) zero b h q = let a : forms_body isos tokens (body b) ≡ forms_body isos tokens (body c) = ap (λ (x : List Elem). forms_body isos tokens (body x)) q in omega arith
+  bodies_part (c ∷ bs) zero b h q = let a : forms_body isos tokens (body b) ≡ forms_body isos tokens (body c) =
+      ap (λ (x : List Elem). forms_body isos tokens (body x)) q in omega arith
   bodies_part (c ∷ bs) (suc i) b h q = let r = bodies_part bs i b (omega arith) q in omega (arith, r)

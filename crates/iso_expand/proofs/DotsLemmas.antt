@@ -19,7 +19,8 @@ dots_out d = fold_out-Dots Element DotsOf element_step dots_step d
 
 module _ (isos : List Iso) (tokens : List PatToken) where
   pub gap_made : (e : Elem) (d : Dots) (whens : List (List Elem)) → e ≡ elem.Gap d → bodies whens ≡ expanded_bodies isos tokens (bodies (out-Dots d).whens)
-      → element (elem.Gap (roll-Dots (record { whens = whens; any = (out-Dots d).any; strict = (out-Dots d).strict }))) ≡ expanded_element isos tokens (element e)
+      → element (elem.Gap (roll-Dots (record { whens = whens; any = (out-Dots d).any; strict = (out-Dots d).strict })))
+      ≡ expanded_element isos tokens (element e)
   gap_made e d whens is h =
       element-Gap (roll-Dots (record { whens = whens; any = (out-Dots d).any; strict = (out-Dots d).strict }))
       ∙ ap (λ (z : DotsOf). Gap z.whens z.any z.strict) (dots_made whens (out-Dots d).any (out-Dots d).strict)

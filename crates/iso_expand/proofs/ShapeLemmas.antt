@@ -6,7 +6,9 @@ use Rattle.smpl_patch.specs.declared.pattern.Pattern.{Pattern}
 use Rattle.smpl_patch.specs.declared.pattern.PatToken.{PatToken}
 use Rattle.smpl_patch.specs.declared.rule.Iso.{Iso}
 use Rattle.smpl_patch.specs.Bodies.{Element, Atom, Compound, Block, Gap, Nest, AnyOf, AllOf, Body, End, Then, Bodies, NoMore, More}
-use Rattle.smpl_patch.specs.Shapes.{is_dots, begins_with_dots, ends_with_dots, are_parted, has_no_dots_at_edge, count, is_formed, each_formed, are_formed, is_formed_body, option_patterns, patterns_element, patterns_body, patterns_bodies}
+use Rattle.smpl_patch.specs.Shapes.{is_dots, begins_with_dots, ends_with_dots, are_parted, has_no_dots_at_edge, count}
+use Rattle.smpl_patch.specs.Shapes.{is_formed, each_formed, are_formed, is_formed_body, option_patterns, patterns_element}
+use Rattle.smpl_patch.specs.Shapes.{patterns_body, patterns_bodies}
 use Rattle.smpl_patch.specs.Sound.{none_alike}
 use Rattle.iso_expand.specs.Bodies.{expanded_pattern, expanded_option, expanded_element, expanded_body, expanded_bodies}
 

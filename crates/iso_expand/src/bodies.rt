@@ -3,7 +3,7 @@ ghost use Rattle.std.specs.Prelude.{◌≡◌, ◌+◌, ◌≤◌, ◌<◌, leng
 ghost use Rattle.smpl_patch.specs.Bodies.{body, element};
 ghost use Rattle.smpl_patch.proofs.BodyLemmas.{bodies as bodies_of, dots_of};
 ghost use Rattle.iso_expand.specs.IsoForms.Forms.{Refused};
-ghost use Rattle.iso_expand.specs.Bodies as of;
+ghost use Rattle.iso_expand.specs.Bodies as spec;
 ghost use Rattle.iso_expand.specs.Stepped.{NoRoom};
 
 use crate::iso_forms::{FormsFault, forms_of};
@@ -19,9 +19,9 @@ fn forms_of_first(
     written: &[Tree],
     room: usize,
 ) -> Result<Items<Tree>, FormsFault>
-    ensures forms { IfOk result (λ all. all ≡ of.forms_of_first isos.now tokens.now written.now) }
+    ensures forms { IfOk result (λ all. all ≡ spec.forms_of_first isos.now tokens.now written.now) }
     ensures few { IfOk result (λ all. length all ≤ room) }
-    ensures refused { IfErr result (Refused room (of.forms_of_first isos.now tokens.now written.now)) }
+    ensures refused { IfErr result (Refused room (spec.forms_of_first isos.now tokens.now written.now)) }
 {
     match written.first() {
         None => Ok(Items::new(alloc)),
@@ -41,9 +41,9 @@ fn expanded(
     p: &Pattern,
     room: &mut usize,
 ) -> Result<Pattern, FormsFault>
-    ensures pattern { IfOk result (λ q. q ≡ of.expanded_pattern isos.now tokens.now p.now) }
-    ensures room { IfOk result (λ _. room.new + of.forms_pattern isos.now tokens.now p.now ≡ room.old) }
-    ensures refused { IfErr result (NoRoom room.old (of.forms_pattern isos.now tokens.now p.now)) }
+    ensures pattern { IfOk result (λ q. q ≡ spec.expanded_pattern isos.now tokens.now p.now) }
+    ensures room { IfOk result (λ _. room.new + spec.forms_pattern isos.now tokens.now p.now ≡ room.old) }
+    ensures refused { IfErr result (NoRoom room.old (spec.forms_pattern isos.now tokens.now p.now)) }
 {
     let forms = forms_of_first(alloc, isos, tokens, p.forms.as_slice(), *room)?;
     *room -= forms.len();
@@ -61,9 +61,9 @@ fn expanded_option(
     p: &Option<Pattern>,
     room: &mut usize,
 ) -> Result<Option<Pattern>, FormsFault>
-    ensures pattern { IfOk result (λ q. q ≡ of.expanded_option isos.now tokens.now p.now) }
-    ensures room { IfOk result (λ _. room.new + of.forms_option isos.now tokens.now p.now ≡ room.old) }
-    ensures refused { IfErr result (NoRoom room.old (of.forms_option isos.now tokens.now p.now)) }
+    ensures pattern { IfOk result (λ q. q ≡ spec.expanded_option isos.now tokens.now p.now) }
+    ensures room { IfOk result (λ _. room.new + spec.forms_option isos.now tokens.now p.now ≡ room.old) }
+    ensures refused { IfErr result (NoRoom room.old (spec.forms_option isos.now tokens.now p.now)) }
 {
     match p {
         None => Ok(None),
@@ -79,9 +79,9 @@ fn expanded_element(
     e: &Elem,
     room: &mut usize,
 ) -> Result<Elem, FormsFault>
-    ensures element { IfOk result (λ f. element f ≡ of.expanded_element isos.now tokens.now (element e.now)) }
-    ensures room { IfOk result (λ _. room.new + of.forms_element isos.now tokens.now (element e.now) ≡ room.old) }
-    ensures refused { IfErr result (NoRoom room.old (of.forms_element isos.now tokens.now (element e.now))) }
+    ensures element { IfOk result (λ f. element f ≡ spec.expanded_element isos.now tokens.now (element e.now)) }
+    ensures room { IfOk result (λ _. room.new + spec.forms_element isos.now tokens.now (element e.now) ≡ room.old) }
+    ensures refused { IfErr result (NoRoom room.old (spec.forms_element isos.now tokens.now (element e.now))) }
 {
     match e {
         Elem::Atom(p) => Ok(Elem::Atom(expanded(alloc, isos, tokens, p, room)?)),
@@ -135,9 +135,9 @@ pub fn expanded_body(
     b: &[Elem],
     room: &mut usize,
 ) -> Result<Items<Elem>, FormsFault>
-    ensures body { IfOk result (λ es. body es ≡ of.expanded_body isos.now tokens.now (body b.now)) }
-    ensures room { IfOk result (λ _. room.new + of.forms_body isos.now tokens.now (body b.now) ≡ room.old) }
-    ensures refused { IfErr result (NoRoom room.old (of.forms_body isos.now tokens.now (body b.now))) }
+    ensures body { IfOk result (λ es. body es ≡ spec.expanded_body isos.now tokens.now (body b.now)) }
+    ensures room { IfOk result (λ _. room.new + spec.forms_body isos.now tokens.now (body b.now) ≡ room.old) }
+    ensures refused { IfErr result (NoRoom room.old (spec.forms_body isos.now tokens.now (body b.now))) }
 {
     let mut out = Items::new(alloc);
     for e in b {
@@ -155,9 +155,9 @@ fn expanded_bodies(
     bs: &[Items<Elem>],
     room: &mut usize,
 ) -> Result<Items<Items<Elem>>, FormsFault>
-    ensures bodies { IfOk result (λ cs. bodies_of cs ≡ of.expanded_bodies isos.now tokens.now (bodies_of bs.now)) }
-    ensures room { IfOk result (λ _. room.new + of.forms_bodies isos.now tokens.now (bodies_of bs.now) ≡ room.old) }
-    ensures refused { IfErr result (NoRoom room.old (of.forms_bodies isos.now tokens.now (bodies_of bs.now))) }
+    ensures bodies { IfOk result (λ cs. bodies_of cs ≡ spec.expanded_bodies isos.now tokens.now (bodies_of bs.now)) }
+    ensures room { IfOk result (λ _. room.new + spec.forms_bodies isos.now tokens.now (bodies_of bs.now) ≡ room.old) }
+    ensures refused { IfErr result (NoRoom room.old (spec.forms_bodies isos.now tokens.now (bodies_of bs.now))) }
 {
     let mut out = Items::new(alloc);
     for b in bs {

@@ -1,5 +1,6 @@
 -- Tokens that are split at arrows up to some place.
-use Rattle.std.proofs.Common.{◌≡◌, ℕ, ◌+◌, ◌<◌, Bool, List, [], ◌∷◌, ◌++◌, length, drop, Option, Some, None, refl, sym, ap, ◌∙◌, subst, append_assoc, get_or, arith}
+use Rattle.std.proofs.Common.{◌≡◌, ℕ, ◌+◌, ◌<◌, Bool, List, [], ◌∷◌, ◌++◌, length, drop, Option, Some, None, refl, sym, ap, ◌∙◌}
+use Rattle.std.proofs.Common.{subst, append_assoc, get_or, arith}
 use Rattle.std.proofs.lemmas.List.{append-nil, drop-drop, drop_more}
 use Rattle.smpl_lexer.specs.declared.token.PatchToken.{PatchToken}
 use Rattle.iso_file.specs.declared.side.Parting.{Parting}
@@ -41,7 +42,10 @@ parts_first all = record { sides = join_none (sides_in all) (sides_some all); bo
 -- a token that begins no arrow
 sides_none : (t : PatchToken) (ts : List PatchToken) → arrow_first (t ∷ ts) ≡ None → sides_in (t ∷ ts) ≡ put t (sides_in ts)
 sides_none t [] e = refl
-sides_none t (n ∷ ts) e = ap (λ (o : Option Bool). elim o as (λ x. List (List PatchToken)) [ Some both ↦ [] ∷ sides_in ts | None ↦ put t (sides_in (n ∷ ts)) ]) e
+sides_none t (n ∷ ts) e = ap (λ (o : Option Bool). elim o as (λ x. List (List PatchToken)) [
+  | Some both ↦ [] ∷ sides_in ts
+  | None ↦ put t (sides_in (n ∷ ts))
+]) e
 
 arrows_none : (t : PatchToken) (ts : List PatchToken) → arrow_first (t ∷ ts) ≡ None → arrows_in (t ∷ ts) ≡ arrows_in ts
 arrows_none t [] e = refl
@@ -58,8 +62,10 @@ token_more all t ts p so_far e = record {
 pub arrow_more : (all : List PatchToken) (t n : PatchToken) (ts : List PatchToken) (p : Parting) (way : Bool) → Parts all (t ∷ n ∷ ts) p
     → arrow_of t n ≡ Some way → Parts all ts (with_arrow way p)
 arrow_more all t n ts p way so_far e =
-    let sides_are : sides_in (t ∷ n ∷ ts) ≡ [] ∷ sides_in ts = ap (λ (o : Option Bool). elim o as (λ x. List (List PatchToken)) [ Some both ↦ [] ∷ sides_in ts | None ↦ put t (sides_in (n ∷ ts)) ]) e in
-    let arrows_are : arrows_in (t ∷ n ∷ ts) ≡ way ∷ arrows_in ts = ap (λ (o : Option Bool). elim o as (λ x. List Bool) [ Some both ↦ both ∷ arrows_in ts | None ↦ arrows_in (n ∷ ts) ]) e in
+    let sides_are : sides_in (t ∷ n ∷ ts) ≡ [] ∷ sides_in ts =
+    ap (λ (o : Option Bool). elim o as (λ x. List (List PatchToken)) [ Some both ↦ [] ∷ sides_in ts | None ↦ put t (sides_in (n ∷ ts)) ]) e in
+    let arrows_are : arrows_in (t ∷ n ∷ ts) ≡ way ∷ arrows_in ts =
+    ap (λ (o : Option Bool). elim o as (λ x. List Bool) [ Some both ↦ both ∷ arrows_in ts | None ↦ arrows_in (n ∷ ts) ]) e in
     record {
       sides = ap (λ (gs : List (List PatchToken)). (p.sides ++ p.side ∷ []) ++ gs) (join_none (sides_in ts) (sides_some ts))
           ∙ append_assoc p.sides (p.side ∷ []) (sides_in ts)

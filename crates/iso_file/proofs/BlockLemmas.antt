@@ -1,5 +1,7 @@
 -- Blocks, and a file that is read up to some line.
-use Rattle.std.proofs.Common.{◌≡◌, ℕ, zero, suc, ◌+◌, ◌-◌, ◌<◌, ◌≤◌, ◌&&◌, ◌||◌, Bool, true, false, true≢false, eqb, List, [], ◌∷◌, ◌++◌, length, get_or, take, drop, slice_range, IsSome, refl, sym, ap, ◌∙◌, subst, append_assoc, arith}
+use Rattle.std.proofs.Common.{◌≡◌, ℕ, zero, suc, ◌+◌, ◌-◌, ◌<◌, ◌≤◌, ◌&&◌, ◌||◌, Bool, true, false, true≢false, eqb, List, []}
+use Rattle.std.proofs.Common.{◌∷◌, ◌++◌, length, get_or, take, drop, slice_range, IsSome, refl, sym, ap, ◌∙◌, subst}
+use Rattle.std.proofs.Common.{append_assoc, arith}
 use Rattle.std.proofs.Math.ListN.{drop_of_length-le}
 use Rattle.std.proofs.lemmas.List.{append-nil, drop_more, take_more, get_or-drop, length-drop}
 use Rattle.smpl_patch.specs.declared.rule.Iso.{Iso}
@@ -97,7 +99,8 @@ begin_more cur l gs =
     ∙ ap (λ (x : List (List (List PatchToken))). filled (cur ∷ []) ++ filled x) (sym (join_one l gs))
 
 parts_at : (seen : Bool) (all : List (List PatchToken)) (i : ℕ) (d : List PatchToken) → i < length all
-    → parts seen (drop i all) ≡ begin ((seen || is_header (get_or all i d)) && header_next (drop (i + 1) all)) (put (get_or all i d) (parts (seen || is_header (get_or all i d)) (drop (i + 1) all)))
+    → parts seen (drop i all) ≡ begin ((seen || is_header (get_or all i d)) && header_next (drop (i + 1) all))
+    (put (get_or all i d) (parts (seen || is_header (get_or all i d)) (drop (i + 1) all)))
 parts_at seen all i d within = ap (λ (ls : List (List PatchToken)). parts seen ls) (drop_more all i d within)
 
 one_line : (all : List (List PatchToken)) (i : ℕ) (d : List PatchToken) → i < length all → slice_range all i (i + 1) ≡ get_or all i d ∷ []
@@ -124,9 +127,11 @@ pub led_first : (all : List (List PatchToken)) → Led all [] 0 0 false
 led_first all = record { order = omega arith; done = []; fine = tt; whole = filled_join (parts false all) }
 
 -- the block before this line
-before_line : (all : List (List PatchToken)) (isos : List Iso) (start i : ℕ) (seen : Bool) (d : List PatchToken) (led : Led all isos start i seen) → i < length all
+before_line : (all : List (List PatchToken)) (isos : List Iso) (start i : ℕ) (seen : Bool) (d : List PatchToken)
+    (led : Led all isos start i seen) → i < length all
     → (seen || is_header (get_or all i d)) && header_next (drop (i + 1) all) ≡ true
-    → led.done ++ (filled (slice_range all start i ∷ []) ++ filled (join (slice_range all i (i + 1)) (parts (seen || is_header (get_or all i d)) (drop (i + 1) all)))) ≡ blocks all
+    → led.done ++ (filled (slice_range all start i ∷ [])
+    ++ filled (join (slice_range all i (i + 1)) (parts (seen || is_header (get_or all i d)) (drop (i + 1) all)))) ≡ blocks all
 before_line all isos start i seen d led within begins =
     let l = get_or all i d in
     let s = seen || is_header l in
@@ -138,7 +143,8 @@ before_line all isos start i seen d led within begins =
     ∙ ap (λ (x : List (List (List PatchToken))). led.done ++ filled (join cur x)) (sym (parts_at seen all i d within))
     ∙ led.whole
 
-pub led_begun : (all : List (List PatchToken)) (isos more : List Iso) (start i : ℕ) (seen : Bool) (d : List PatchToken) → Led all isos start i seen → i < length all
+pub led_begun : (all : List (List PatchToken)) (isos more : List Iso) (start i : ℕ) (seen : Bool) (d : List PatchToken)
+    → Led all isos start i seen → i < length all
     → (seen || is_header (get_or all i d)) && header_next (drop (i + 1) all) ≡ true → Adds isos (filled (slice_range all start i ∷ [])) more
     → Led all more i (i + 1) (seen || is_header (get_or all i d))
 led_begun all isos more start i seen d led within begins adds = record {
@@ -146,7 +152,8 @@ led_begun all isos more start i seen d led within begins adds = record {
   done = led.done ++ filled (slice_range all start i ∷ []);
   fine = subst (λ (x : List Iso). AreIsos (led.done ++ filled (slice_range all start i ∷ [])) x) (sym adds.all_are)
       (isos_append led.done (filled (slice_range all start i ∷ [])) isos adds.more led.fine adds.fine);
-  whole = append_assoc led.done (filled (slice_range all start i ∷ [])) (filled (join (slice_range all i (i + 1)) (parts (seen || is_header (get_or all i d)) (drop (i + 1) all))))
+  whole = append_assoc led.done (filled (slice_range all start i ∷ []))
+      (filled (join (slice_range all i (i + 1)) (parts (seen || is_header (get_or all i d)) (drop (i + 1) all))))
       ∙ before_line all isos start i seen d led within begins;
 }
 
@@ -169,28 +176,33 @@ led_on all isos start i seen d led within goes =
           ∙ led.whole;
     }
 
-pub fault_begun : (all : List (List PatchToken)) (isos : List Iso) (start i : ℕ) (seen : Bool) (d : List PatchToken) (f : IsoFault) → Led all isos start i seen → i < length all
+pub fault_begun : (all : List (List PatchToken)) (isos : List Iso) (start i : ℕ) (seen : Bool) (d : List PatchToken)
+    (f : IsoFault) → Led all isos start i seen → i < length all
     → (seen || is_header (get_or all i d)) && header_next (drop (i + 1) all) ≡ true → IsFirstBlockFault (filled (slice_range all start i ∷ [])) f
     → IsFirstBlockFault (blocks all) f
 fault_begun all isos start i seen d f led within begins wrong =
     subst (λ (bs : List (List (List PatchToken))). IsFirstBlockFault bs f) (before_line all isos start i seen d led within begins)
-    (fault_in led.done (filled (slice_range all start i ∷ [])) (filled (join (slice_range all i (i + 1)) (parts (seen || is_header (get_or all i d)) (drop (i + 1) all)))) isos f led.fine wrong)
+    (fault_in led.done (filled (slice_range all start i ∷ []))
+    (filled (join (slice_range all i (i + 1)) (parts (seen || is_header (get_or all i d)) (drop (i + 1) all)))) isos f led.fine wrong)
 
 -- the last block
-last_block : (all : List (List PatchToken)) (isos : List Iso) (start i : ℕ) (seen : Bool) (cur : List (List PatchToken)) (led : Led all isos start i seen) → drop i all ≡ []
+last_block : (all : List (List PatchToken)) (isos : List Iso) (start i : ℕ) (seen : Bool) (cur : List (List PatchToken))
+    (led : Led all isos start i seen) → drop i all ≡ []
     → cur ≡ slice_range all start i → led.done ++ filled (cur ∷ []) ≡ blocks all
 last_block all isos start i seen cur led none e =
     ap (λ (c : List (List PatchToken)). led.done ++ filled (c ∷ [])) (e ∙ sym (append-nil (slice_range all start i)))
     ∙ ap (λ (ls : List (List PatchToken)). led.done ++ filled (join (slice_range all start i) (parts seen ls))) (sym none) ∙ led.whole
 
-pub led_last : (all : List (List PatchToken)) (isos more : List Iso) (start i : ℕ) (seen : Bool) (cur : List (List PatchToken)) → Led all isos start i seen → drop i all ≡ []
+pub led_last : (all : List (List PatchToken)) (isos more : List Iso) (start i : ℕ) (seen : Bool) (cur : List (List PatchToken))
+    → Led all isos start i seen → drop i all ≡ []
     → cur ≡ slice_range all start i → Adds isos (filled (cur ∷ [])) more → AreIsos (blocks all) more
 led_last all isos more start i seen cur led none e adds =
     subst (λ (x : List Iso). AreIsos (blocks all) x) (sym adds.all_are)
     (subst (λ (bs : List (List (List PatchToken))). AreIsos bs (isos ++ adds.more)) (last_block all isos start i seen cur led none e)
     (isos_append led.done (filled (cur ∷ [])) isos adds.more led.fine adds.fine))
 
-pub fault_last : (all : List (List PatchToken)) (isos : List Iso) (start i : ℕ) (seen : Bool) (cur : List (List PatchToken)) (f : IsoFault) → Led all isos start i seen → drop i all ≡ []
+pub fault_last : (all : List (List PatchToken)) (isos : List Iso) (start i : ℕ) (seen : Bool) (cur : List (List PatchToken))
+    (f : IsoFault) → Led all isos start i seen → drop i all ≡ []
     → cur ≡ slice_range all start i → IsFirstBlockFault (filled (cur ∷ [])) f → IsFirstBlockFault (blocks all) f
 fault_last all isos start i seen cur f led none e wrong =
     subst (λ (bs : List (List (List PatchToken))). IsFirstBlockFault bs f)
@@ -213,7 +225,8 @@ begins_is : (all : List (List PatchToken)) (i : ℕ) (seen here begins : Bool) (
 begins_is all i seen here begins line item l is h b =
     ap (λ (x : Bool). x && header_next (drop (i + 1) all)) (sym (here_is all i seen here line item l is h)) ∙ sym b
 
-pub step_begun : (all : List (List PatchToken)) (isos more : List Iso) (start i : ℕ) (seen here begins : Bool) (line item : List PatchToken) → Led all isos start i seen
+pub step_begun : (all : List (List PatchToken)) (isos more : List Iso) (start i : ℕ) (seen here begins : Bool)
+    (line item : List PatchToken) → Led all isos start i seen
     → i < length all → line ≡ item → item ≡ get_or all i item → here ≡ seen || is_header line → begins ≡ here && header_next (drop (i + 1) all) → begins ≡ true
     → Adds isos (filled (slice_range all start i ∷ [])) more → Led all more i (i + 1) here
 step_begun all isos more start i seen here begins line item led within l is h b sure adds =
@@ -227,7 +240,8 @@ step_on all isos start i seen here begins line item led within l is h b not_here
     subst (λ (x : Bool). Led all isos start (i + 1) x) (sym (here_is all i seen here line item l is h))
     (led_on all isos start i seen item led within (begins_is all i seen here begins line item l is h b ∙ not_here))
 
-pub step_fault : (all : List (List PatchToken)) (isos : List Iso) (start i : ℕ) (seen here begins : Bool) (line item : List PatchToken) (f : IsoFault) → Led all isos start i seen
+pub step_fault : (all : List (List PatchToken)) (isos : List Iso) (start i : ℕ) (seen here begins : Bool)
+    (line item : List PatchToken) (f : IsoFault) → Led all isos start i seen
     → i < length all → line ≡ item → item ≡ get_or all i item → here ≡ seen || is_header line → begins ≡ here && header_next (drop (i + 1) all) → begins ≡ true
     → IsFirstBlockFault (filled (slice_range all start i ∷ [])) f → IsFirstBlockFault (blocks all) f
 step_fault all isos start i seen here begins line item f led within l is h b sure wrong =
@@ -240,7 +254,8 @@ some_lines (l ∷ ls) e = omega arith
 pub all_read : (all : List (List PatchToken)) (i : ℕ) → length all ≤ i → drop i all ≡ []
 all_read all i h = drop_of_length-le all h
 
-pub led_along : (all : List (List PatchToken)) (isos same : List Iso) (start other i : ℕ) (seen : Bool) → isos ≡ same → start ≡ other → Led all same other i seen
+pub led_along : (all : List (List PatchToken)) (isos same : List Iso) (start other i : ℕ) (seen : Bool) → isos ≡ same
+    → start ≡ other → Led all same other i seen
     → Led all isos start i seen
 led_along all isos same start other i seen e s led =
     subst (λ (x : List Iso). Led all x start i seen) (sym e) (subst (λ (n : ℕ). Led all same n i seen) (sym s) led)
@@ -248,7 +263,8 @@ led_along all isos same start other i seen e s led =
 -- a range doesn't grow beyond the end
 pub end_range : (all : List (List PatchToken)) (start i : ℕ) → length all ≤ i → slice_range all start (length all) ≡ slice_range all start i
 end_range all start i h =
-    take_all (length all - start) (drop start all) (omega (arith, length-drop start all)) ∙ sym (take_all (i - start) (drop start all) (omega (arith, h, length-drop start all)))
+    take_all (length all - start) (drop start all) (omega (arith, length-drop start all))
+    ∙ sym (take_all (i - start) (drop start all) (omega (arith, h, length-drop start all)))
   where
     take_all : (n : ℕ) (ls : List (List PatchToken)) → length ls ≤ n → take n ls ≡ ls
     take_all zero [] e = refl

@@ -1,6 +1,8 @@
 -- Sides up to the first one between which and the next a variable is lost: each has all variables of those after it, so
 -- if one of them loses a variable, each later one does too.
-use Rattle.std.proofs.Common.{◌≡◌, ℕ, zero, suc, ◌+◌, ◌-◌, ◌<◌, ◌≤◌, ◌⊎◌, inl, inr, Bool, true, false, ◌&&◌, ◌||◌, true≢false, List, [], length, get_or, slice_get, Option, Some, None, is_some, refl, sym, ap, ◌∙◌, subst, arith}
+use Rattle.std.proofs.Common.{◌≡◌, ℕ, zero, suc, ◌+◌, ◌-◌, ◌<◌, ◌≤◌, ◌⊎◌, inl, inr, Bool, true, false, ◌&&◌, ◌||◌, true≢false}
+use Rattle.std.proofs.Common.{List, [], length, get_or, slice_get, Option, Some, None, is_some, refl, sym, ap, ◌∙◌, subst}
+use Rattle.std.proofs.Common.{arith}
 use Rattle.std.proofs.lemmas.List.{get_or_read}
 use Rattle.std.proofs.lemmas.Option.{slice_get-get_or, get_or_from_slice_get, slice_get_within}
 use Rattle.smpl_patch.specs.declared.pattern.VarDecl.{VarDecl}
@@ -182,7 +184,8 @@ module _ (vars : List VarDecl) (sides : List (List PatchToken)) (arrows : List B
       e ∙ ap (λ (s : List PatchToken). lost_between vars s two) (one_is ∙ get_or_read sides i a i_in a_is [])
       ∙ ap (λ (s : List PatchToken). lost_between vars (side_at sides i) s) (two_is ∙ get_or_read sides j b j_in b_is [])
 
-  pub found_here : (i start j : ℕ) (o : Option ℕ) → IsStart arrows i start → start ≤ j → i < length sides → j < length sides → o ≡ lost_at i j → is_some o ≡ true
+  pub found_here : (i start j : ℕ) (o : Option ℕ) → IsStart arrows i start → start ≤ j → i < length sides → j < length sides
+      → o ≡ lost_at i j → is_some o ≡ true
       → ((l n : ℕ) → l < j → Loses vars sides arrows i l n → ⊥) → IsLostFrom vars sides arrows i o
   found_here i start j (Some at) s near i_in j_in e some before = lost_here i start j at s near i_in j_in (sym e) before
   found_here i start j None s near i_in j_in e some before = absurd (true≢false (sym some))

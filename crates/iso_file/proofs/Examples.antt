@@ -59,11 +59,13 @@ no_block = refl
 -- ---- sides
 
 -- `X <=> Y => Z`
-two_arrows : arrows_in (name (codes "X") 0 ∷ sign (codes "<=") 2 ∷ sign (codes ">") 4 ∷ name (codes "Y") 6 ∷ sign (codes "=") 8 ∷ sign (codes ">") 9 ∷ name (codes "Z") 11 ∷ [])
+two_arrows : arrows_in (name (codes "X") 0 ∷ sign (codes "<=") 2 ∷ sign (codes ">") 4 ∷ name (codes "Y") 6 ∷ sign (codes "=") 8
+    ∷ sign (codes ">") 9 ∷ name (codes "Z") 11 ∷ [])
     ≡ true ∷ false ∷ []
 two_arrows = refl
 
-three_sides : sides_in (name (codes "X") 0 ∷ sign (codes "<=") 2 ∷ sign (codes ">") 4 ∷ name (codes "Y") 6 ∷ sign (codes "=") 8 ∷ sign (codes ">") 9 ∷ name (codes "Z") 11 ∷ [])
+three_sides : sides_in (name (codes "X") 0 ∷ sign (codes "<=") 2 ∷ sign (codes ">") 4 ∷ name (codes "Y") 6 ∷ sign (codes "=") 8
+    ∷ sign (codes ">") 9 ∷ name (codes "Z") 11 ∷ [])
     ≡ (name (codes "X") 0 ∷ []) ∷ (name (codes "Y") 6 ∷ []) ∷ (name (codes "Z") 11 ∷ []) ∷ []
 three_sides = refl
 
@@ -89,7 +91,8 @@ abbrev var : List ℕ → VarDecl
 var text = record { var = record { rule = 0; name = text }; kind = Meta meta.Expr; inherited = false; not_names = []; not_places = [] }
 
 -- the second variable is lost, at its first place
-lost : lost_between (var (codes "X") ∷ var (codes "Y") ∷ []) (name (codes "X") 0 ∷ []) (name (codes "X") 5 ∷ name (codes "Y") 7 ∷ name (codes "Y") 9 ∷ []) ≡ Some 7
+lost : lost_between (var (codes "X") ∷ var (codes "Y") ∷ []) (name (codes "X") 0 ∷ [])
+    (name (codes "X") 5 ∷ name (codes "Y") 7 ∷ name (codes "Y") 9 ∷ []) ≡ Some 7
 lost = refl
 
 -- a name that is no variable is never lost

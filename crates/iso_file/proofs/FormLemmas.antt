@@ -1,5 +1,6 @@
 -- The form of a block.
-use Rattle.std.proofs.Common.{◌≡◌, ℕ, ◌+◌, ◌<◌, ◌&&◌, Bool, true, false, true≢false, List, [], ◌∷◌, length, get_or, take, drop, Option, Some, None, IsSome, refl, sym, ap, ◌∙◌, subst, arith, codes}
+use Rattle.std.proofs.Common.{◌≡◌, ℕ, ◌+◌, ◌<◌, ◌&&◌, Bool, true, false, true≢false, List, [], ◌∷◌, length, get_or, take, drop}
+use Rattle.std.proofs.Common.{Option, Some, None, IsSome, refl, sym, ap, ◌∙◌, subst, arith, codes}
 use Rattle.std.specs.Prelude.{is_some}
 use Rattle.std.proofs.Common.{inl, inr}
 use Rattle.c_terms.specs.declared.tree.Tree.{Tree}
@@ -10,13 +11,13 @@ use Rattle.smpl_lexer.specs.Tokens.{is_word}
 use Rattle.iso_file.specs.declared.fault.IsoFault.{IsoFault}
 use Rattle.iso_file.specs.declared.fault.IsoFault.TheVariants as fault
 use Rattle.iso_file.specs.declared.block.Block.{Block}
-use Rattle.iso_file.specs.declared.block.Judged.{Judged}
+use Rattle.iso_file.specs.declared.block.CheckedBlock.{CheckedBlock}
 use Rattle.iso_file.specs.Blocks.{is_header, header_name}
 use Rattle.iso_file.specs.Sides.{is_expression_line, second_at, concatenated, arrows_in, sides_in}
 use Rattle.iso_file.specs.Lost.{KeepsAll}
 use Rattle.iso_file.specs.Isos.{OrNoMemory, AreSides, AreVars, IsBehind, IsOfForm, IsIso, IsBlockFault, first_word}
 use Rattle.iso_file.specs.Isos.IsBlockFault.{other_word, of_no_form, lost}
-use Rattle.iso_file.specs.Stepped.{Decides, IsLost, IsJudged, Judges, IsUnder, Under, IsBlockOf, Behind, IsFormFault, is_begun}
+use Rattle.iso_file.specs.Stepped.{Decides, IsLost, IsCheckedBlock, Judges, IsUnder, Under, IsBlockOf, Behind, IsFormFault, is_begun}
 use Rattle.iso_file.specs.Stepped.IsFormFault.{of_no_form as no_form_fault, lost as lost_fault}
 
 some_same : (o : Option ℕ) (n m : ℕ) → o ≡ Some n → o ≡ Some m → n ≡ m
@@ -31,8 +32,8 @@ pub under_judged_none : (vars : List VarDecl) (tokens : List PatchToken) (sides 
     → Judges vars sides both None → Under vars tokens None
 under_judged_none vars tokens sides both e j trees some are = j trees (subst (λ (ss : List (List PatchToken)). AreSides vars ss trees) (sym e) are)
 
-pub under_judged : (vars : List VarDecl) (tokens : List PatchToken) (sides : List (List PatchToken)) (both : List Bool) (j : Judged) (b : Block)
-    → sides ≡ sides_in tokens → both ≡ arrows_in tokens → 0 < length both → IsJudged vars sides both j
+pub under_judged : (vars : List VarDecl) (tokens : List PatchToken) (sides : List (List PatchToken)) (both : List Bool) (j : CheckedBlock) (b : Block)
+    → sides ≡ sides_in tokens → both ≡ arrows_in tokens → 0 < length both → IsCheckedBlock vars sides both j
     → b ≡ record { vars = vars; trees = j.trees; both = both; lost = j.lost } → Under vars tokens (Some b)
 under_judged vars tokens sides both j b s a some is e =
     let P : Block → Type 0 = λ x. IsUnder vars tokens x in
@@ -41,7 +42,8 @@ under_judged vars tokens sides both j b s a some is e =
       arrows_are = a;
       some = some;
       trees = subst (λ (ss : List (List PatchToken)). AreSides vars ss j.trees) s is.trees;
-      lost = subst (λ (ways : List Bool). IsLost vars (sides_in tokens) ways j.lost) a (subst (λ (ss : List (List PatchToken)). IsLost vars ss both j.lost) s is.lost);
+      lost = subst (λ (ways : List Bool). IsLost vars (sides_in tokens) ways j.lost) a
+          (subst (λ (ss : List (List PatchToken)). IsLost vars ss both j.lost) s is.lost);
     })
 
 -- ---- after `@ name @`
@@ -154,10 +156,12 @@ of_form lines d b iso found h n v s w =
     let g = begun lines h in
     let rest : drop 2 lines ≡ g.rest = ap (λ (ls : List (List PatchToken)). drop 2 ls) g.is in
     let header : get_or lines 1 d ≡ g.header = ap (λ (ls : List (List PatchToken)). get_or ls 1 d) g.is in
-    let one : IsBehind g.rest b.vars found.sides b.both b.trees = subst (λ (ls : List (List PatchToken)). IsBehind ls b.vars found.sides b.both b.trees) rest found.behind in
+    let one : IsBehind g.rest b.vars found.sides b.both b.trees =
+    subst (λ (ls : List (List PatchToken)). IsBehind ls b.vars found.sides b.both b.trees) rest found.behind in
     let two : IsBehind g.rest iso.vars found.sides b.both b.trees = subst (λ (x : List VarDecl). IsBehind g.rest x found.sides b.both b.trees) (sym v) one in
     let three : IsBehind g.rest iso.vars found.sides iso.both b.trees = subst (λ (x : List Bool). IsBehind g.rest iso.vars found.sides x b.trees) (sym w) two in
-    let four : IsBehind g.rest iso.vars found.sides iso.both iso.sides = subst (λ (x : List Tree). IsBehind g.rest iso.vars found.sides iso.both x) (sym s) three in
+    let four : IsBehind g.rest iso.vars found.sides iso.both iso.sides =
+    subst (λ (x : List Tree). IsBehind g.rest iso.vars found.sides iso.both x) (sym s) three in
     record {
       word = g.word;
       header = g.header;
@@ -224,7 +228,8 @@ or_map P Q f k (inl e) = inl e
 or_map P Q f k (inr p) = inr (k f p)
 
 -- the first token of the first line
-pub first_seen : (lines : List (List PatchToken)) (item line : List PatchToken) (t : PatchToken) → IsSome (first_word lines) → line ≡ item → item ≡ get_or lines 0 item
+pub first_seen : (lines : List (List PatchToken)) (item line : List PatchToken) (t : PatchToken) → IsSome (first_word lines)
+    → line ≡ item → item ≡ get_or lines 0 item
     → t ≡ get_or line 0 t → first_word lines ≡ Some t
 first_seen lines item line t some l is first =
     first_is lines item t some (first ∙ ap (λ (x : List PatchToken). get_or x 0 t) (l ∙ is))

@@ -1,5 +1,6 @@
 -- A file that is cut up to some place.
-use Rattle.std.proofs.Common.{◌≡◌, ℕ, ◌+◌, ◌≤◌, Bool, true, false, List, [], ◌∷◌, ◌++◌, length, take, drop, Option, Some, None, refl, sym, ap, ◌∙◌, append_assoc, arith}
+use Rattle.std.proofs.Common.{◌≡◌, ℕ, ◌+◌, ◌≤◌, Bool, true, false, List, [], ◌∷◌, ◌++◌, length, take, drop, Option, Some, None}
+use Rattle.std.proofs.Common.{refl, sym, ap, ◌∙◌, append_assoc, arith}
 use Rattle.std.proofs.lemmas.List.{length-drop, drop-drop, take-append-drop, length-take-le, append-nil}
 use Rattle.c_terms.specs.declared.token.TokenKind.{TokenKind}
 use Rattle.c_lexer.specs.declared.state.Kind.{Kind}

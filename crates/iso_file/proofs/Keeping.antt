@@ -61,7 +61,8 @@ stands_by true false r h k = absurd (true≢false (sym k))
 stands_by false q r h k = absurd (true≢false (sym h))
 
 stands_first : (t : PatchToken) (ts : List PatchToken) → is_name t ≡ true → stands_in (t ∷ ts) t.token.text ≡ true
-stands_first t ts h = stands_by (is_name t) (bytes_eq t.token.text t.token.text) (stands_in ts t.token.text) h ((bytes_eq-Decides t.token.text t.token.text).1 refl)
+stands_first t ts h = stands_by (is_name t) (bytes_eq t.token.text t.token.text) (stands_in ts t.token.text) h
+    ((bytes_eq-Decides t.token.text t.token.text).1 refl)
 
 stands_later_by : (b r : Bool) → r ≡ true → (if b then true else r) ≡ true
 stands_later_by true r h = refl

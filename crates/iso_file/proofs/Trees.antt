@@ -1,5 +1,7 @@
 -- The trees of sides.
-use Rattle.std.proofs.Common.{◌≡◌, ◌≤◌, ◌<◌, ◌+◌, ◌-◌, ℕ, zero, suc, Bool, true, false, true≢false, refl, sym, ap, ◌∙◌, subst, arith, List, [], ◌∷◌, ◌++◌, map, length, get_or, take, slice_range, Option, Some, None, Result, Ok, Err}
+use Rattle.std.proofs.Common.{◌≡◌, ◌≤◌, ◌<◌, ◌+◌, ◌-◌, ℕ, zero, suc, Bool, true, false, true≢false, refl, sym, ap, ◌∙◌, subst}
+use Rattle.std.proofs.Common.{arith, List, [], ◌∷◌, ◌++◌, map, length, get_or, take, slice_range, Option, Some, None, Result}
+use Rattle.std.proofs.Common.{Ok, Err}
 use Rattle.std.proofs.Math.Nat.{lt_of_not-le}
 use Rattle.std.proofs.Math.Seq.{take-length}
 use Rattle.std.proofs.lemmas.List.{take_more}
@@ -37,7 +39,8 @@ reads_side : (vars : List VarDecl) (side : List PatchToken) (r : Result Tree Par
     → Reads kinds.Expr listed_names (map (made vars 0) side) r → Tells r found → Decides (IsSide vars side) found
 unfolding is_deep
 reads_side vars side (Ok t) found h e =
-    let deep : opens_of (map (made vars 0) side) ≤ 200 = at_most (opens_of (map (made vars 0) side)) (λ big. true≢false (sym (ap is_deep (h.too_deep.1 big)))) in
+    let deep : opens_of (map (made vars 0) side) ≤ 200 =
+    at_most (opens_of (map (made vars 0) side)) (λ big. true≢false (sym (ap is_deep (h.too_deep.1 big)))) in
     let here : IsSide vars side t = record { shallow = deep; tree_is = h.found } in
     subst (λ o. Decides (IsSide vars side) o) (sym e) here
 reads_side vars side (Err NoMemory) found h e = absurd e
@@ -77,21 +80,25 @@ no_sides vars (s ∷ ss) (suc i) d within none (t ∷ ts) are = no_sides vars ss
 
 -- ---- one after another
 
-here_by : (vars : List VarDecl) (sides : List (List PatchToken)) (i : ℕ) (side item : List PatchToken) (o : Option Tree) → side ≡ item → item ≡ get_or sides i item
+here_by : (vars : List VarDecl) (sides : List (List PatchToken)) (i : ℕ) (side item : List PatchToken) (o : Option Tree)
+    → side ≡ item → item ≡ get_or sides i item
     → Decides (IsSide vars side) o → Decides (IsSide vars (get_or sides i item)) o
 here_by vars sides i side item o s is d = subst (λ (x : List PatchToken). Decides (IsSide vars x) o) (s ∙ is) d
 
 pub none_at : (vars : List VarDecl) (sides : List (List PatchToken)) (i : ℕ) (side item : List PatchToken) (o : Option Tree) → i < length sides → side ≡ item
     → item ≡ get_or sides i item → Decides (IsSide vars side) o → o ≡ None → Decides (AreSides vars sides) None
 none_at vars sides i side item o within s is d none trees are =
-    let here : Decides (IsSide vars (get_or sides i item)) None = subst (λ (x : Option Tree). Decides (IsSide vars (get_or sides i item)) x) none (here_by vars sides i side item o s is d) in
+    let here : Decides (IsSide vars (get_or sides i item)) None =
+    subst (λ (x : Option Tree). Decides (IsSide vars (get_or sides i item)) x) none (here_by vars sides i side item o s is d) in
     no_sides vars sides i item within here trees are
 
-pub more_at : (vars : List VarDecl) (sides : List (List PatchToken)) (i : ℕ) (side item : List PatchToken) (o : Option Tree) (tree : Tree) (trees new : List Tree)
+pub more_at : (vars : List VarDecl) (sides : List (List PatchToken)) (i : ℕ) (side item : List PatchToken) (o : Option Tree)
+    (tree : Tree) (trees new : List Tree)
     → i < length sides → side ≡ item → item ≡ get_or sides i item → Decides (IsSide vars side) o → o ≡ Some tree → AreSides vars (take i sides) trees
     → new ≡ trees ++ tree ∷ [] → AreSides vars (take (i + 1) sides) new
 more_at vars sides i side item o tree trees new within s is d some are e =
-    let here : IsSide vars (get_or sides i item) tree = subst (λ (x : Option Tree). Decides (IsSide vars (get_or sides i item)) x) some (here_by vars sides i side item o s is d) in
+    let here : IsSide vars (get_or sides i item) tree =
+    subst (λ (x : Option Tree). Decides (IsSide vars (get_or sides i item)) x) some (here_by vars sides i side item o s is d) in
     subst (λ (x : List Tree). AreSides vars (take (i + 1) sides) x) (sym e)
     (subst (λ (x : List (List PatchToken)). AreSides vars x (trees ++ tree ∷ [])) (sym (take_more sides i item within))
     (sides_more vars (take i sides) trees (get_or sides i item) tree are here))

@@ -1,5 +1,6 @@
 -- Internal: what is read so far, and what the parts of a reader return.
-use Rattle.std.specs.Prelude.{ℕ, ◌≡◌, ◌<◌, ◌≤◌, ◌+◌, ◌&&◌, ◌||◌, ⊤, Bool, true, false, List, [], ◌∷◌, ◌++◌, length, slice_index_or, Option, Some, None, is_some, Result, Ok, Err}
+use Rattle.std.specs.Prelude.{ℕ, ◌≡◌, ◌<◌, ◌≤◌, ◌+◌, ◌&&◌, ◌||◌, ⊤, Bool, true, false, List, [], ◌∷◌, ◌++◌, length}
+use Rattle.std.specs.Prelude.{slice_index_or, Option, Some, None, is_some, Result, Ok, Err}
 use Rattle.c_terms.specs.declared.token.TokenKind.{TokenKind}
 use Rattle.smpl_lexer.specs.Pieces.{has_newline}
 use Rattle.smpl_lexer.specs.Tokens.{made}
@@ -10,7 +11,7 @@ use Rattle.c_expr.specs.declared.fault.ParseFault.{ParseFault}
 use Rattle.c_expr.specs.declared.fault.ParseFault.TheVariants.{NoMemory}
 use Rattle.smpl_patch.specs.declared.pattern.VarDecl.{VarDecl}
 use Rattle.iso_file.specs.declared.side.Parting.{Parting}
-use Rattle.iso_file.specs.declared.block.Judged.{Judged}
+use Rattle.iso_file.specs.declared.block.CheckedBlock.{CheckedBlock}
 use Rattle.iso_file.specs.declared.block.Block.{Block}
 use Rattle.iso_file.specs.Lines.{filled}
 use Rattle.iso_file.specs.Blocks.{is_header}
@@ -119,14 +120,14 @@ pub record IsStart (arrows : List Bool) (i start : ℕ) : Type 0 where
 
 -- ---- a block
 
-pub record IsJudged (vars : List VarDecl) (sides : List (List PatchToken)) (arrows : List Bool) (j : Judged) : Type 0 where
+pub record IsCheckedBlock (vars : List VarDecl) (sides : List (List PatchToken)) (arrows : List Bool) (j : CheckedBlock) : Type 0 where
   pub trees : AreSides vars sides j.trees
   pub lost : IsLost vars sides arrows j.lost
 
 -- these sides under these variables, or none if they aren't of the form
-abbrev pub Judges : List VarDecl → List (List PatchToken) → List Bool → Option Judged → Type 0
+abbrev pub Judges : List VarDecl → List (List PatchToken) → List Bool → Option CheckedBlock → Type 0
 Judges vars sides arrows None = (trees : List Tree) → AreSides vars sides trees → ⊥
-Judges vars sides arrows (Some j) = IsJudged vars sides arrows j
+Judges vars sides arrows (Some j) = IsCheckedBlock vars sides arrows j
 
 -- the tokens after `@@`, under variables
 pub record IsUnder (vars : List VarDecl) (tokens : List PatchToken) (b : Block) : Type 0 where

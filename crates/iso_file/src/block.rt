@@ -20,7 +20,7 @@ use std::alloc::Global;
 
 /// The trees of sides, and the first variable that is lost between them.
 #[derive(Drop)]
-pub struct Judged {
+pub struct CheckedBlock {
     pub trees: Items<Tree>,
     pub lost: Option<u32>,
 }
@@ -31,7 +31,7 @@ fn judge(
     vars: &[VarDecl],
     sides: &[Items<PatchToken>],
     both: &[bool],
-) -> Result<Option<Judged>, NoMemory>
+) -> Result<Option<CheckedBlock>, NoMemory>
     requires { length sides.now ≡ length both.now + 1 }
     ensures { IfOk result (λ j. Judges vars.now sides.now both.now j) }
 {
@@ -40,7 +40,7 @@ fn judge(
         None => Ok(None),
         Some(trees) => {
             let lost = first_lost(alloc, &table, sides, both)?;
-            Ok(Some(Judged { trees, lost }))
+            Ok(Some(CheckedBlock { trees, lost }))
         }
     }
 }
@@ -69,7 +69,7 @@ fn under(
     match judge(alloc, vars.as_slice(), sides.as_slice(), both.as_slice())? {
         None => Ok(None),
         Some(found) => {
-            let Judged { trees, lost } = found;
+            let CheckedBlock { trees, lost } = found;
             Ok(Some(Block {
                 vars,
                 trees,

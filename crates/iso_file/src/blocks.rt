@@ -1,7 +1,7 @@
 // The blocks of a file.
 ghost use Rattle.std.specs.Prelude.{◌≡◌, ◌||◌, ◌&&◌, [], ◌∷◌, IfOk, IfErr};
 ghost use Rattle.iso_file.specs.Lines.{filled};
-ghost use Rattle.iso_file.specs.Blocks as told;
+ghost use Rattle.iso_file.specs.Blocks as spec;
 ghost use Rattle.iso_file.specs.Blocks.{blocks};
 ghost use Rattle.iso_file.specs.Isos.{AreIsos, IsFirstBlockFault, OrNoMemory};
 ghost use Rattle.iso_file.specs.Stepped.{Adds, AllFilled};
@@ -36,14 +36,14 @@ fn with_block(
 
 /// Whether this line or an earlier one is a line `@ name @`.
 fn seen_at(seen: bool, line: &[PatchToken]) -> bool
-    ensures { result ≡ (seen || told.is_header line.now) }
+    ensures { result ≡ (seen || spec.is_header line.now) }
 {
     seen || is_header(line)
 }
 
 /// Whether a block begins at the line before these, given whether that line or an earlier one is a line `@ name @`.
 fn is_begin(seen: bool, rest: &[Items<PatchToken>]) -> bool
-    ensures { result ≡ (seen && told.header_next rest.now) }
+    ensures { result ≡ (seen && spec.header_next rest.now) }
 {
     seen && header_next(rest)
 }

@@ -1,6 +1,6 @@
 // The lines of a file that have tokens.
 ghost use Rattle.std.specs.Prelude.{◌≡◌, ◌+◌, ◌≤◌, ◌++◌, ◌∷◌, [], length, IfOk};
-ghost use Rattle.iso_file.specs.Lines as told;
+ghost use Rattle.iso_file.specs.Lines as spec;
 ghost use Rattle.iso_file.specs.Stepped as stepped;
 ghost use Rattle.iso_file.specs.Lines.{AreLinesOf, filled};
 ghost use Rattle.smpl_lexer.specs.Tokens as tokens;
@@ -14,7 +14,7 @@ use std::alloc::Global;
 /// Returns the kind of token that a piece is, or `None` if it isn't one. A preprocessor line counts as a token that no
 /// form has.
 fn token_kind(kind: Kind) -> Option<TokenKind>
-    ensures { result ≡ told.token_kind kind }
+    ensures { result ≡ spec.token_kind kind }
 {
     match kind {
         Kind::Name => Some(TokenKind::Name),
@@ -70,7 +70,7 @@ fn with_piece(
     text: &[u8],
     at: u32,
 ) -> Result<Cutting, NoMemory>
-    ensures { IfOk result (λ c. c ≡ stepped.with_piece (told.token_kind kind) text.now at cutting) }
+    ensures { IfOk result (λ c. c ≡ stepped.with_piece (spec.token_kind kind) text.now at cutting) }
 {
     match token_kind(kind) {
         Some(kind) => {

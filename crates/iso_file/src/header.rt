@@ -1,6 +1,6 @@
 // What the lines of a block are.
 ghost use Rattle.std.specs.Prelude.{◌≡◌, ◌++◌, ◌<◌, length, IfOk, IfSome};
-ghost use Rattle.iso_file.specs.Blocks as told;
+ghost use Rattle.iso_file.specs.Blocks as spec;
 ghost use Rattle.iso_file.specs.Sides as sides;
 
 use c_terms::NoMemory;
@@ -10,7 +10,7 @@ use std::alloc::Global;
 
 /// Whether the tokens are `@ name @`, alone on its line.
 pub fn is_header(tokens: &[PatchToken]) -> bool
-    ensures { result ≡ told.is_header tokens.now }
+    ensures { result ≡ spec.is_header tokens.now }
 {
     match tokens {
         [first, name, last] => is_at(first) && is_name(name) && is_at(last),
@@ -20,7 +20,7 @@ pub fn is_header(tokens: &[PatchToken]) -> bool
 
 /// Whether the first of the lines is such a line.
 pub fn header_next(lines: &[Items<PatchToken>]) -> bool
-    ensures { result ≡ told.header_next lines.now }
+    ensures { result ≡ spec.header_next lines.now }
 {
     match lines {
         [] => false,

@@ -1,7 +1,7 @@
 // Variables that are lost between two sides.
 ghost use Rattle.std.specs.Prelude.{◌≡◌, ◌<◌, ◌≤◌, ◌+◌, ℕ, List, length, IsSome, IfOk};
 ghost use Rattle.c_terms.specs.Names.{has_name};
-ghost use Rattle.iso_file.specs.Lost as told;
+ghost use Rattle.iso_file.specs.Lost as spec;
 ghost use Rattle.smpl_lexer.specs.declared.token.PatchToken.{PatchToken as Word};
 ghost use Rattle.iso_file.specs.Stepped as stepped;
 ghost use Rattle.iso_file.specs.Stepped.{IsLostFrom, IsLost, IsStart, IsUnbroken, IsFirstBreak};
@@ -14,15 +14,15 @@ use sqlite_items::Items;
 use std::alloc::Global;
 
 fn is_variable(vars: &VarTable<'_>, t: &PatchToken) -> bool
-    ensures { result ≡ told.is_variable vars.now t.now }
+    ensures { result ≡ spec.is_variable vars.now t.now }
 {
     is_name(t) && vars.find(t.token.text.as_bytes()).is_some()
 }
 
 /// Returns the first place of a variable that `from` doesn't contain.
 fn lost_between(vars: &VarTable<'_>, from: &Held, to: &[PatchToken]) -> Option<u32>
-    ensures { (side : List Word) → ((text : List ℕ) → has_name from.now text ≡ told.stands_in side text) →
-        result ≡ told.lost_between vars.now side to.now }
+    ensures { (side : List Word) → ((text : List ℕ) → has_name from.now text ≡ spec.stands_in side text) →
+        result ≡ spec.lost_between vars.now side to.now }
 {
     for t in to {
         if is_variable(vars, t) && !from.has(t.token.text.as_bytes()) {
@@ -39,7 +39,7 @@ fn lost(
     from: &[PatchToken],
     to: &[PatchToken],
 ) -> Result<Option<u32>, NoMemory>
-    ensures { IfOk result (λ lost. lost ≡ told.lost_between vars.now from.now to.now) }
+    ensures { IfOk result (λ lost. lost ≡ spec.lost_between vars.now from.now to.now) }
 {
     let held = Held::of(alloc, from)?;
     Ok(lost_between(vars, &held, to))

@@ -1,6 +1,6 @@
 // The sides of a block, and the arrows between them.
 ghost use Rattle.std.specs.Prelude.{◌≡◌, ◌++◌, ◌∷◌, [], IfOk};
-ghost use Rattle.iso_file.specs.Sides as told;
+ghost use Rattle.iso_file.specs.Sides as spec;
 ghost use Rattle.iso_file.specs.Stepped as stepped;
 
 use c_terms::NoMemory;
@@ -10,7 +10,7 @@ use std::alloc::Global;
 
 /// Returns whether the arrow goes both ways if the two tokens, with nothing between them, are an arrow.
 fn arrow_of(t: &PatchToken, next: &PatchToken) -> Option<bool>
-    ensures { result ≡ told.arrow_of t.now next.now }
+    ensures { result ≡ spec.arrow_of t.now next.now }
 {
     if !is_sign(next, b">") {
         None
@@ -71,8 +71,8 @@ fn with_token(alloc: Global, parting: Parting, t: &PatchToken) -> Result<Parting
 }
 
 fn part_at_arrows(alloc: Global, tokens: &[PatchToken]) -> Result<Parting, NoMemory>
-    ensures both { IfOk result (λ p. p.both ≡ told.arrows_in tokens.now) }
-    ensures sides { IfOk result (λ p. p.sides ++ p.side ∷ [] ≡ told.sides_in tokens.now) }
+    ensures both { IfOk result (λ p. p.both ≡ spec.arrows_in tokens.now) }
+    ensures sides { IfOk result (λ p. p.sides ++ p.side ∷ [] ≡ spec.sides_in tokens.now) }
 {
     let mut parting = Parting {
         both: Items::new(alloc),
@@ -105,8 +105,8 @@ pub struct Parted {
 
 /// Splits tokens at arrows. Takes linear time.
 pub fn part(alloc: Global, tokens: &[PatchToken]) -> Result<Parted, NoMemory>
-    ensures both { IfOk result (λ p. p.both ≡ told.arrows_in tokens.now) }
-    ensures sides { IfOk result (λ p. p.sides ≡ told.sides_in tokens.now) }
+    ensures both { IfOk result (λ p. p.both ≡ spec.arrows_in tokens.now) }
+    ensures sides { IfOk result (λ p. p.sides ≡ spec.sides_in tokens.now) }
 {
     let Parting {
         both,

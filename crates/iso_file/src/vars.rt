@@ -1,6 +1,6 @@
 // The variables of a block.
 ghost use Rattle.std.specs.Prelude.{◌≡◌, true, IfOk};
-ghost use Rattle.iso_file.specs.Sides as told;
+ghost use Rattle.iso_file.specs.Sides as spec;
 ghost use Rattle.iso_file.specs.Isos.{AreVars};
 ghost use Rattle.iso_file.specs.Stepped.{Decides};
 
@@ -12,14 +12,14 @@ use sqlite_items::Items;
 use std::alloc::Global;
 
 fn is_kind_word(t: &PatchToken) -> bool
-    ensures { result ≡ told.is_kind_word t.now }
+    ensures { result ≡ spec.is_kind_word t.now }
 {
     is_word(t, b"expression") || is_word(t, b"constant") || is_word(t, b"identifier")
 }
 
 /// Whether each declaration begins with one of the words for the allowed kinds.
 fn are_of_kinds(tokens: &[PatchToken]) -> bool
-    ensures { result ≡ told.are_of_kinds true tokens.now }
+    ensures { result ≡ spec.are_of_kinds true tokens.now }
 {
     let mut begins = true;
     for t in tokens {
@@ -32,7 +32,7 @@ fn are_of_kinds(tokens: &[PatchToken]) -> bool
 }
 
 fn is_kind(kind: VarKind) -> bool
-    ensures { result ≡ told.is_kind kind }
+    ensures { result ≡ spec.is_kind kind }
 {
     match kind {
         VarKind::Meta(MetaKind::Expr) => true,
@@ -43,7 +43,7 @@ fn is_kind(kind: VarKind) -> bool
 }
 
 fn have_kinds(vars: &[VarDecl]) -> bool
-    ensures { result ≡ told.have_kinds vars.now }
+    ensures { result ≡ spec.have_kinds vars.now }
 {
     for d in vars {
         if !is_kind(d.kind) {
@@ -54,7 +54,7 @@ fn have_kinds(vars: &[VarDecl]) -> bool
 }
 
 fn with_kinds(vars: Items<VarDecl>) -> Option<Items<VarDecl>>
-    ensures { result ≡ told.with_kinds vars }
+    ensures { result ≡ spec.with_kinds vars }
 {
     if have_kinds(vars.as_slice()) {
         Some(vars)

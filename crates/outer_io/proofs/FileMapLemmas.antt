@@ -20,31 +20,40 @@ abbrev pub plain : List (Bytes × Bytes) → List (List ℕ × List ℕ)
 plain entries = map (λ e. (e.0.items, e.1.items)) entries
 
 -- what the tree finds is what the files have
-pub find-plain : (name : List ℕ) (entries : List (Bytes × Bytes)) → find name_cmp name (plain entries) ≡ option_map (λ bytes. bytes.items) (lookup (is_at (λ (k : Bytes). slice_cmp nat_cmp name k.items)) entries)
+pub find-plain : (name : List ℕ) (entries : List (Bytes × Bytes))
+    → find name_cmp name (plain entries) ≡ option_map (λ bytes. bytes.items) (lookup (is_at (λ (k : Bytes). slice_cmp nat_cmp name k.items)) entries)
 find-plain name [] = refl
 find-plain name (e ∷ es) =
-    elim (slice_cmp nat_cmp name e.0.items) as (λ o. cond (is_eq o) (Some e.1.items) (find name_cmp name (plain es)) ≡ option_map (λ bytes. bytes.items) (cond (is_eq o) (Some e.1) (lookup (is_at (λ (k : Bytes). slice_cmp nat_cmp name k.items)) es))) [
+    elim (slice_cmp nat_cmp name e.0.items) as (λ o. cond (is_eq o) (Some e.1.items) (find name_cmp name (plain es))
+    ≡ option_map (λ bytes. bytes.items) (cond (is_eq o) (Some e.1) (lookup (is_at (λ (k : Bytes). slice_cmp nat_cmp name k.items)) es))) [
       | Less ↦ find-plain name es
       | Equal ↦ refl
       | Greater ↦ find-plain name es
     ]
 
 -- an insertion into the tree is one into the list of its entries
-pub plain-insert : (name bytes : Bytes) (entries : List (Bytes × Bytes)) → plain (insert_entry (λ (x y : Bytes). slice_cmp nat_cmp x.items y.items) entries name bytes) ≡ put name_cmp name.items bytes.items (plain entries)
+pub plain-insert : (name bytes : Bytes) (entries : List (Bytes × Bytes))
+    → plain (insert_entry (λ (x y : Bytes). slice_cmp nat_cmp x.items y.items) entries name bytes) ≡ put name_cmp name.items bytes.items (plain entries)
 plain-insert name bytes [] = refl
 plain-insert name bytes (e ∷ es) =
-    elim (slice_cmp nat_cmp name.items e.0.items) as (λ o. plain (match_ordering o ((name, bytes) ∷ e ∷ es) ((e.0, bytes) ∷ es) (e ∷ insert_entry (λ (x y : Bytes). slice_cmp nat_cmp x.items y.items) es name bytes)) ≡ by_order o ((name.items, bytes.items) ∷ plain (e ∷ es)) ((e.0.items, bytes.items) ∷ plain es) ((e.0.items, e.1.items) ∷ put name_cmp name.items bytes.items (plain es))) [
+    elim (slice_cmp nat_cmp name.items e.0.items) as (λ o. plain
+    (match_ordering o ((name, bytes) ∷ e ∷ es) ((e.0, bytes) ∷ es)
+    (e ∷ insert_entry (λ (x y : Bytes). slice_cmp nat_cmp x.items y.items) es name bytes))
+    ≡ by_order o ((name.items, bytes.items) ∷ plain (e ∷ es)) ((e.0.items, bytes.items) ∷ plain es)
+    ((e.0.items, e.1.items) ∷ put name_cmp name.items bytes.items (plain es))) [
       | Less ↦ refl
       | Equal ↦ refl
       | Greater ↦ ap (λ rest. (e.0.items, e.1.items) ∷ rest) (plain-insert name bytes es)
     ]
 
 -- a look-up in the tree is one in its files
-pub get-files_in : (name : List ℕ) (entries : List (Bytes × Bytes)) → get (files_in entries) name ≡ option_map (λ bytes. bytes.items) (lookup (is_at (λ (k : Bytes). slice_cmp nat_cmp name k.items)) entries)
+pub get-files_in : (name : List ℕ) (entries : List (Bytes × Bytes))
+    → get (files_in entries) name ≡ option_map (λ bytes. bytes.items) (lookup (is_at (λ (k : Bytes). slice_cmp nat_cmp name k.items)) entries)
 get-files_in name entries = get-from_entries nat_list_cmp_total (plain entries) name ∙ find-plain name entries
 
 -- an insertion into the tree is one into its files
-pub files_in-insert : (name bytes : Bytes) (entries : List (Bytes × Bytes)) → files_in (insert_entry (λ (x y : Bytes). slice_cmp nat_cmp x.items y.items) entries name bytes) ≡ insert (files_in entries) name.items bytes.items
+pub files_in-insert : (name bytes : Bytes) (entries : List (Bytes × Bytes))
+    → files_in (insert_entry (λ (x y : Bytes). slice_cmp nat_cmp x.items y.items) entries name bytes) ≡ insert (files_in entries) name.items bytes.items
 files_in-insert name bytes entries =
     same_map nat_list_cmp_total (slice_cmp-IsAntisymmetric nat_cmp-IsAntisymmetric) _ _ (λ q.
     get-from_entries nat_list_cmp_total (plain (insert_entry (λ (x y : Bytes). slice_cmp nat_cmp x.items y.items) entries name bytes)) q

@@ -9,7 +9,7 @@
 #![tactic(auto)]
 
 ghost use Rattle.std.specs.Prelude.{◌≡◌, ◌++◌, ◌<◌, IfOk, OnOk};
-ghost use Rattle.outer_io.specs.EscapedNames.Escapes as told;
+ghost use Rattle.outer_io.specs.EscapedNames.Escapes as spec;
 
 mod laws;
 
@@ -20,7 +20,7 @@ use std::alloc::Global;
 /// Returns the name as lines show it: a newline is `\n`, a tab `\t`, a backslash `\\`, and any
 /// other byte below 32, and 127, is `\x` and its two hexadecimal digits.
 pub fn escaped_name(alloc: Global, name: &[u8]) -> Result<Vec<u8>, NoMemory>
-    ensures escaped { IfOk result (λ escaped. escaped.items ≡ told.escaped_name name.now) }
+    ensures escaped { IfOk result (λ escaped. escaped.items ≡ spec.escaped_name name.now) }
 {
     let mut escaped = Vec::new(alloc);
     for byte in name {
@@ -31,7 +31,7 @@ pub fn escaped_name(alloc: Global, name: &[u8]) -> Result<Vec<u8>, NoMemory>
 
 /// Appends one byte, as lines show it.
 fn put_byte(escaped: &mut Vec<u8>, byte: u8) -> Result<(), NoMemory>
-    ensures { OnOk result (escaped.new.items ≡ escaped.old.items ++ told.escaped_byte byte) }
+    ensures { OnOk result (escaped.new.items ≡ escaped.old.items ++ spec.escaped_byte byte) }
 {
     match byte {
         b'\\' => escaped.extend_from_slice(b"\\\\")?,
@@ -49,7 +49,7 @@ fn put_byte(escaped: &mut Vec<u8>, byte: u8) -> Result<(), NoMemory>
 /// Returns a hexadecimal digit, in lower case.
 fn hex_digit(value: u8) -> u8
     requires digit { value < 16 }
-    ensures { result ≡ told.hex_digit value }
+    ensures { result ≡ spec.hex_digit value }
 {
     if value < 10 {
         b'0' + value

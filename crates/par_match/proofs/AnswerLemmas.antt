@@ -14,13 +14,15 @@ module _ {A : Type 0} (may : ℕ → A → Type 0) where
   each-join from [] ys h k i a e = subst (λ n. may n a) (omega arith) (k i a e)
   each-join from (x ∷ xs) ys h k zero a e = h zero a e
   each-join from (x ∷ xs) ys h k (suc i) a e =
-      let rest = each-join (suc from) xs ys (λ j b f. subst (λ n. may n b) (omega arith) (h (suc j) b f)) (λ j b f. subst (λ n. may n b) (omega arith) (k j b f)) in
+      let rest = each-join (suc from) xs ys (λ j b f. subst (λ n. may n b) (omega arith) (h (suc j) b f))
+      (λ j b f. subst (λ n. may n b) (omega arith) (k j b f)) in
       subst (λ n. may n a) (omega arith) (rest i a e)
 
   pub no-answers : (from : ℕ) → AreAnswers may from from []
   no-answers from = record { each = λ i a e. absurd (cc); count = omega arith }
 
-  pub more-answers : (from mid to : ℕ) (xs ys : List A) → from ≤ mid → mid ≤ to → AreAnswers may from mid xs → AreAnswers may mid to ys → AreAnswers may from to (xs ++ ys)
+  pub more-answers : (from mid to : ℕ) (xs ys : List A) → from ≤ mid → mid ≤ to → AreAnswers may from mid xs
+      → AreAnswers may mid to ys → AreAnswers may from to (xs ++ ys)
   more-answers from mid to xs ys l m h k = record {
     each = each-join from xs ys h.each (subst (λ n. EachMay n ys) (omega (arith, h.count, l)) k.each);
     count = omega (arith, length-append xs ys, h.count, k.count, l, m);
@@ -45,7 +47,8 @@ module _ {A : Type 0} (may : ℕ → A → Type 0) where
 
   module _ {F : Type 0} (may_fail : ℕ → F → Type 0) where
     -- the first fault of a range is the first of all if the jobs before it have answers
-    pub why-after : (from mid to n : ℕ) (xs : List A) (e : JobFault F) → from ≤ mid → to ≤ n → AreAnswers may from mid xs → IsWhy may may_fail mid to e → IsWhy may may_fail from n e
+    pub why-after : (from mid to n : ℕ) (xs : List A) (e : JobFault F) → from ≤ mid → to ≤ n → AreAnswers may from mid xs
+        → IsWhy may may_fail mid to e → IsWhy may may_fail from n e
     why-after from mid to n xs (Worker j f) l m h w = record {
       after = omega (arith, l, w.after);
       before = omega (arith, m, w.before);
@@ -54,5 +57,6 @@ module _ {A : Type 0} (may : ℕ → A → Type 0) where
     }
     why-after from mid to n xs NoMemory l m h w = w
 
-    pub fails-here : (from job to : ℕ) (xs : List A) (f : F) → from ≤ job → job < to → AreAnswers may from job xs → may_fail job f → IsWhy may may_fail from to (Worker job f)
+    pub fails-here : (from job to : ℕ) (xs : List A) (f : F) → from ≤ job → job < to → AreAnswers may from job xs
+        → may_fail job f → IsWhy may may_fail from to (Worker job f)
     fails-here from job to xs f l m h w = record { after = l; before = m; fails = w; lesser = has-answer from job xs h }

@@ -1,5 +1,6 @@
 -- Parts of lists, and numbers below a bound.
-use Rattle.std.proofs.Common.{◌≡◌, ℕ, suc, zero, ◌+◌, ◌-◌, ◌<◌, ◌≤◌, Bool, true, false, ◌&&◌, ◌||◌, nat_eq, nat_lt, nat_le, refl, sym, ap, ◌∙◌, arith, List, [], ◌∷◌, map, length, take, drop, get_or, drop-cons, length-drop}
+use Rattle.std.proofs.Common.{◌≡◌, ℕ, suc, zero, ◌+◌, ◌-◌, ◌<◌, ◌≤◌, Bool, true, false, ◌&&◌, ◌||◌, nat_eq, nat_lt, nat_le}
+use Rattle.std.proofs.Common.{refl, sym, ap, ◌∙◌, arith, List, [], ◌∷◌, map, length, take, drop, get_or, drop-cons, length-drop}
 use Rattle.std.proofs.lemmas.Bool.Decides.{nat_tests}
 use Rattle.std.proofs.lemmas.Grind.{common_steps}
 use Rattle.std.specs.List.{list_all}
@@ -126,7 +127,8 @@ pick_other : (T d R b w : Bool) → b ≡ false → R ≡ w → (R || (T && (b &
 pick_other T d R b w e f = grind (arith, common_steps)
 
 -- a number that must be n + k picks one k
-pub pick_one : (T : ℕ → Bool) (d : Bool) (a n m : ℕ) → some_below (λ k. T k && (nat_eq a (n + k) && d)) m ≡ (nat_le n a && (nat_lt a (n + m) && (T (a - n) && d)))
+pub pick_one : (T : ℕ → Bool) (d : Bool) (a n m : ℕ)
+    → some_below (λ k. T k && (nat_eq a (n + k) && d)) m ≡ (nat_le n a && (nat_lt a (n + m) && (T (a - n) && d)))
 pick_one T d a n zero = by (nat_lt a (n + 0)) (nat_le n a) refl refl
   where
     by : (lt le : Bool) → nat_lt a (n + 0) ≡ lt → nat_le n a ≡ le → false ≡ (nat_le n a && (nat_lt a (n + 0) && (T (a - n) && d)))

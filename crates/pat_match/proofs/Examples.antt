@@ -175,11 +175,13 @@ module _ (env : Environment) (a b : Tree) where
   last_comma : runs_from [] (bare_entry ∷ at_p ∷ []) env label.Args None (one true ∷ comma_piece 1 ∷ []) (record { comma = None; tree = a } ∷ []) ≡ false
   last_comma = refl
 
-  last_bare_comma : runs_from [] (bare_entry ∷ bare_entry ∷ []) env label.Args None (one true ∷ comma_piece 1 ∷ []) (record { comma = None; tree = a } ∷ []) ≡ true
+  last_bare_comma : runs_from [] (bare_entry ∷ bare_entry ∷ []) env label.Args None (one true ∷ comma_piece 1 ∷ [])
+      (record { comma = None; tree = a } ∷ []) ≡ true
   last_bare_comma = refl
 
   -- the comma before Dots that take nothing is aligned with nothing
-  comma_before_none : runs_from [] (bare_entry ∷ at_p ∷ []) env label.Args None (one true ∷ comma_piece 1 ∷ dots ∷ []) (record { comma = None; tree = a } ∷ []) ≡ false
+  comma_before_none : runs_from [] (bare_entry ∷ at_p ∷ []) env label.Args None (one true ∷ comma_piece 1 ∷ dots ∷ [])
+      (record { comma = None; tree = a } ∷ []) ≡ false
   comma_before_none = refl
 
   -- a disjunction fits if a branch fits, whatever the others do, and its first branch that fits is used
@@ -187,18 +189,21 @@ module _ (env : Environment) (a b : Tree) where
   later_branch = refl
 
   first_branch : (x y : Pair) → pairs_by [] [] env shape.Or label.PatOr
-      (record { token = None; fits = λ t. false; pairs = λ t. x ∷ [] } ∷ record { token = None; fits = λ t. true; pairs = λ t. y ∷ [] } ∷ one true ∷ []) a ≡ y ∷ []
+      (record { token = None; fits = λ t. false; pairs = λ t. x ∷ [] }
+      ∷ record { token = None; fits = λ t. true; pairs = λ t. y ∷ [] } ∷ one true ∷ []) a ≡ y ∷ []
   first_branch x y = refl
 
   every_branch : fits_by [] [] env shape.And label.PatAnd (one false ∷ one true ∷ []) a ≡ false
   every_branch = refl
 
   -- a sign with a position is aligned with nothing, so nothing fits
-  sign_with_position : fits_by [] (at_p ∷ []) env shape.Or label.PatOr (record { token = Some (token kind.Pat (codes "\\(") 0); fits = λ t. false; pairs = λ t. [] } ∷ one true ∷ []) a ≡ false
+  sign_with_position : fits_by [] (at_p ∷ []) env shape.Or label.PatOr
+      (record { token = Some (token kind.Pat (codes "\\(") 0); fits = λ t. false; pairs = λ t. [] } ∷ one true ∷ []) a ≡ false
   sign_with_position = refl
 
   -- the dots before and after one member: `f(..., E, ...)` on two arguments, of which the last is E
-  between_dots : runs_from [] [] env label.Args None (dots ∷ comma_piece 1 ∷ one true ∷ comma_piece 2 ∷ dots ∷ []) (record { comma = None; tree = a } ∷ member b ∷ []) ≡ true
+  between_dots : runs_from [] [] env label.Args None (dots ∷ comma_piece 1 ∷ one true ∷ comma_piece 2 ∷ dots ∷ [])
+      (record { comma = None; tree = a } ∷ member b ∷ []) ≡ true
   between_dots = refl
 
   -- Spots.

@@ -1,5 +1,6 @@
 -- The first token of a run of members.
-use Rattle.std.proofs.Common.{◌≡◌, ℕ, suc, ◌<◌, Bool, true, ◌&&◌, refl, sym, ap, ap₂, ◌∙◌, List, [], ◌∷◌, ◌++◌, map, drop, length, get_or, Option, Some, None, slice_get}
+use Rattle.std.proofs.Common.{◌≡◌, ℕ, suc, ◌<◌, Bool, true, ◌&&◌, refl, sym, ap, ap₂, ◌∙◌, List, [], ◌∷◌, ◌++◌, map, drop}
+use Rattle.std.proofs.Common.{length, get_or, Option, Some, None, slice_get}
 use Rattle.c_terms.specs.declared.token.Token.{Token}
 use Rattle.c_terms.specs.declared.token.TokenKind.TheVariants as kind
 use Rattle.c_terms.specs.declared.label.Label.{Label}
@@ -51,7 +52,8 @@ pub members_at : (ms : List Member) (i : ℕ) (m : Member) → i < length ms →
 members_at ms i m lt e = ap first_of_members (drop_at ms i m lt e)
 
 -- dots that take a run
-pub dots_fit : (decls : List VarDecl) (tokens : List PatToken) (env : Environment) (label : Label) (a : Token) (ms : List Member) (all : Bool) (first : Option ℕ)
+pub dots_fit : (decls : List VarDecl) (tokens : List PatToken) (env : Environment) (label : Label) (a : Token)
+    (ms : List Member) (all : Bool) (first : Option ℕ)
     → a.kind ≡ kind.Dots → all ≡ true → first ≡ first_of_run ms → (all && stands decls tokens env a first) ≡ run_fits decls tokens env label (Some a) ms
 dots_fit decls tokens env label a ms all first k e f =
     ap₂ (λ b o. b && stands decls tokens env a o) e (f ∙ run_first label ms)

@@ -1,5 +1,6 @@
 -- The same at a node: each sure variable of the compared part of a form has a value of the subtree.
-use Rattle.std.proofs.Common.{◌≡◌, ℕ, suc, zero, ◌+◌, Bool, true, false, ◌&&◌, ◌||◌, not, nat_eq, refl, sym, ap, ◌∙◌, List, [], ◌∷◌, map, length, Option, Some, None, slice_get, ⊎_elim, if◌then◌else◌}
+use Rattle.std.proofs.Common.{◌≡◌, ℕ, suc, zero, ◌+◌, Bool, true, false, ◌&&◌, ◌||◌, not, nat_eq, refl, sym, ap, ◌∙◌, List, []}
+use Rattle.std.proofs.Common.{◌∷◌, map, length, Option, Some, None, slice_get, ⊎_elim, if◌then◌else◌}
 use Rattle.std.specs.List.{list_any}
 use Rattle.c_terms.specs.declared.token.Token.{Token}
 use Rattle.c_terms.specs.declared.label.Label.{Label}
@@ -27,7 +28,9 @@ use Rattle.smpl_patch.specs.Held.{is_held, kept, held_at}
 use Rattle.smpl_patch.specs.Patterns.{is_statement_token, is_sure, held_sure}
 use Rattle.smpl_patch.proofs.SureLemmas.{sure_kids, sure-Branch}
 use Rattle.pat_match.specs.Fitting.{kids_fit, piece, fits_tree}
-use Rattle.pat_match.specs.Spots.{is_open_brace, is_close_brace, is_statement_node, is_simple_node, is_tail_node, is_disjunction, last_at, open_brace, close_brace, own_fit, option_fits, own_fits, branch_whole, whole_at, fits_at}
+use Rattle.pat_match.specs.Spots.{is_open_brace, is_close_brace, is_statement_node, is_simple_node, is_tail_node}
+use Rattle.pat_match.specs.Spots.{is_disjunction, last_at, open_brace, close_brace, own_fit, option_fits, own_fits}
+use Rattle.pat_match.specs.Spots.{branch_whole, whole_at, fits_at}
 use Rattle.pat_match.specs.Valued.{has_value}
 use Rattle.pat_match.proofs.ValueLemmas.{and_left, and_right, or_cases, or_left, or_right, has-kid}
 use Rattle.pat_match.proofs.SureLaw.{any_sure}
@@ -35,41 +38,41 @@ use Rattle.pat_match.proofs.SureLists.{sure_has_value}
 
 -- labels
 
-body-none : (l : Label) (n i : ℕ) → is_head_label l ≡ false → is_body l n i ≡ false
+pub body-none : (l : Label) (n i : ℕ) → is_head_label l ≡ false → is_body l n i ≡ false
 body-none label.IfElse n i h = absurd (cc)
 body-none label.Do n i h = absurd (cc)
 body-none _ n i h = ap (λ b. b && nat_eq (i + 1) n) h
 
-tail-none : (l : Label) (i : ℕ) → is_head_label l ≡ false → is_tail l i ≡ false
+pub tail-none : (l : Label) (i : ℕ) → is_head_label l ≡ false → is_tail l i ≡ false
 tail-none label.Do i h = absurd (cc)
 tail-none _ i h = refl
 
-head-plain : (l : Label) → is_head_label l ≡ true → shape_of l ≡ shape.Plain
+pub head-plain : (l : Label) → is_head_label l ≡ true → shape_of l ≡ shape.Plain
 head-plain label.Args h = absurd (cc)
 head-plain label.Params h = absurd (cc)
 head-plain label.PatOr h = absurd (cc)
 head-plain label.PatAnd h = absurd (cc)
 head-plain _ h = refl
 
-both_not : (a b : Bool) → a ≡ false → b ≡ false → (not a && not b) ≡ true
+pub both_not : (a b : Bool) → a ≡ false → b ≡ false → (not a && not b) ≡ true
 both_not true b h k = absurd (cc)
 both_not false true h k = absurd (cc)
 both_not false false h k = refl
 
-kept-all : (test : ℕ → Bool) (i : ℕ) (cs : List Tree) → ((j : ℕ) → test j ≡ true) → kept test i cs ≡ cs
+pub kept-all : (test : ℕ → Bool) (i : ℕ) (cs : List Tree) → ((j : ℕ) → test j ≡ true) → kept test i cs ≡ cs
 kept-all test i [] h = refl
 kept-all test i (c ∷ cs) h =
     ap (λ b. if b then c ∷ kept test (suc i) cs else kept test (suc i) cs) (h i) ∙ ap (λ ds. c ∷ ds) (kept-all test (suc i) cs h)
 
-or_false : (a : Bool) → (a || false) ≡ true → a ≡ true
+pub or_false : (a : Bool) → (a || false) ≡ true → a ≡ true
 or_false a h = ⊎_elim (λ b. b) (λ n. absurd (cc)) (or_cases a false h)
 
-any_at : (q : Tree → Bool) (cs : List Tree) (i : ℕ) (u : Tree) → slice_get cs i ≡ Some u → q u ≡ true → list_any q cs ≡ true
+pub any_at : (q : Tree → Bool) (cs : List Tree) (i : ℕ) (u : Tree) → slice_get cs i ≡ Some u → q u ≡ true → list_any q cs ≡ true
 any_at q [] i u e h = absurd (cc)
 any_at q (c ∷ cs) zero u e h = let s : c ≡ u = cc in or_left _ _ (ap q s ∙ h)
 any_at q (c ∷ cs) (suc i) u e h = or_right _ _ (any_at q cs i u e h)
 
-none_some : {X : Type 0} {u : X} → None ≡ Some u → ⊥
+pub none_some : {X : Type 0} {u : X} → None ≡ Some u → ⊥
 none_some e = absurd (cc)
 
 child_has : (v : Value) (i : ℕ) (u t : Tree) → child t i ≡ Some u → has_value u v ≡ true → has_value t v ≡ true
@@ -90,7 +93,7 @@ close_has : (k : NodeKind) (v : Value) (u t : Tree) → close_brace k t ≡ Some
 close_has kind.CloseBrace v u t e h = last_has v u t e h
 close_has _ v u t e h = absurd (none_some e)
 
-option_some : (q : Tree → Bool) (o : Option Tree) → option_fits q o ≡ true → (u : Tree) × (o ≡ Some u) × (q u ≡ true)
+pub option_some : (q : Tree → Bool) (o : Option Tree) → option_fits q o ≡ true → (u : Tree) × (o ≡ Some u) × (q u ≡ true)
 option_some q None h = absurd (cc)
 option_some q (Some u) h = (u, refl, h)
 
@@ -151,7 +154,8 @@ module _ (decls : List VarDecl) (tokens : List PatToken) (env : Environment) (x 
   held_whole b l cs = any_sure decls tokens env x (if b then kept (is_held spot.Whole l (length cs)) 0 cs else Branch l cs ∷ [])
 
   branch_sure : (b : Bool) (l : Label) (cs : List Tree) → is_head_label l ≡ b → held_whole b l cs ≡ true → is_sure decls tokens x (Branch l cs) ≡ true
-  branch_sure true l cs e s = sure-Branch decls tokens x l cs ∙ ap (λ r. sure_kids decls tokens x r cs) (head-plain l e) ∙ any_kept (is_held spot.Whole l (length cs)) 0 cs s
+  branch_sure true l cs e s = sure-Branch decls tokens x l cs ∙ ap (λ r. sure_kids decls tokens x r cs) (head-plain l e)
+      ∙ any_kept (is_held spot.Whole l (length cs)) 0 cs s
   branch_sure false l cs e s = or_false (is_sure decls tokens x (Branch l cs)) s
 
   own_sure : (b : Bool) (l : Label) (cs : List Tree) → is_head_label l ≡ b → not (is_disjunction (shape_of l)) ≡ true → held_whole b l cs ≡ true
@@ -163,7 +167,8 @@ module _ (decls : List VarDecl) (tokens : List PatToken) (env : Environment) (x 
       ∙ by_shape (shape_of l) cs n (sym (sure-Branch decls tokens x l cs) ∙ or_false (is_sure decls tokens x (Branch l cs)) s)
 
   abbrev OwnFits : NodeKind → Tree → Label → List Tree → Type 0
-  OwnFits k t l cs = (not (is_disjunction (shape_of l)) && kids_fit (own_fit (is_own k l (length cs)) 0) l (map (piece decls tokens env) cs) (out-Tree t)) ≡ true
+  OwnFits k t l cs = (not (is_disjunction (shape_of l))
+      && kids_fit (own_fit (is_own k l (length cs)) 0) l (map (piece decls tokens env) cs) (out-Tree t)) ≡ true
 
   own_layer : (k : NodeKind) (l : Label) (cs : List Tree) (t : Tree) → own_fits decls tokens env k (out-Tree (Branch l cs)) t ≡ true → OwnFits k t l cs
   own_layer k l cs t h = sym (ap (λ y. own_fits decls tokens env k y t) (out-Branch l cs)) ∙ h
@@ -206,7 +211,8 @@ module _ (decls : List VarDecl) (tokens : List PatToken) (env : Environment) (x 
 
   tail_law : (k : NodeKind) (t form : Tree) → At spot.Tail k t form
   tail_law k t = tree_cases (At spot.Tail k t)
-      (λ a h s. let f : false ≡ true = sym (ap (λ y. own_fits decls tokens env kind.DoTail y t) (out-Leaf a)) ∙ and_right (is_tail_node k) (own_fits decls tokens env kind.DoTail (out-Tree (Leaf a)) t) h in absurd (cc))
+      (λ a h s. let f : false ≡ true = sym (ap (λ y. own_fits decls tokens env kind.DoTail y t) (out-Leaf a))
+      ∙ and_right (is_tail_node k) (own_fits decls tokens env kind.DoTail (out-Tree (Leaf a)) t) h in absurd (cc))
       (λ l cs h s.
       let f = own_layer kind.DoTail l cs t (and_right _ _ h) in
       own_law kind.DoTail l cs t (and_right _ _ f) (sym (ap (λ y. any_sure decls tokens env x (held_at spot.Tail y (Branch l cs))) (out-Branch l cs)) ∙ s))

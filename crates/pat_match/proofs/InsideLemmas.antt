@@ -1,5 +1,6 @@
 -- The parts of a tree with one more child: whether one of them passes, and those that are aligned.
-use Rattle.std.proofs.Common.{◌≡◌, ℕ, suc, ◌<◌, ◌≤◌, Bool, true, false, ◌&&◌, ◌||◌, refl, sym, ap, ap₂, ◌∙◌, arith, List, [], ◌∷◌, ◌++◌, map, length, drop, get_or, drop-cons, append_assoc, if◌then◌else◌}
+use Rattle.std.proofs.Common.{◌≡◌, ℕ, suc, ◌<◌, ◌≤◌, Bool, true, false, ◌&&◌, ◌||◌, refl, sym, ap, ap₂, ◌∙◌, arith, List, []}
+use Rattle.std.proofs.Common.{◌∷◌, ◌++◌, map, length, drop, get_or, drop-cons, append_assoc, if◌then◌else◌}
 use Rattle.std.proofs.lemmas.Grind.{common_steps}
 use Rattle.std.specs.List.{list_any}
 use Rattle.c_terms.specs.declared.label.Label.{Label}
@@ -46,7 +47,8 @@ any-below : (q : Tree → Bool) (i : ℕ) (ps : List Place) → list_any (λ s. 
 any-below q i [] = refl
 any-below q i (p ∷ ps) = ap (λ b. q p.tree || b) (any-below q i ps)
 
-any-part : (q : Tree → Bool) (l : Label) (i : ℕ) (c : Tree) (b : Bool) → is_expression_part l i c ≡ b → list_any (λ s. q s.tree) (part_at is_expression_part l i c) ≡ (b && q c)
+any-part : (q : Tree → Bool) (l : Label) (i : ℕ) (c : Tree) (b : Bool) → is_expression_part l i c ≡ b
+    → list_any (λ s. q s.tree) (part_at is_expression_part l i c) ≡ (b && q c)
 any-part q l i c true e = rw e (grind (arith, common_steps))
 any-part q l i c false e = rw e refl
 
@@ -64,7 +66,8 @@ pub any_kids_step : (q : Tree → Bool) (l : Label) (cs : List Tree) (i j : ℕ)
     → d ≡ (a || list_any (λ s. q s.tree) (parts_of_child l i c)) → (a || list_any (λ s. q s.tree) (kids_parts l i (drop i cs))) ≡ w
     → (d || list_any (λ s. q s.tree) (kids_parts l j (drop j cs))) ≡ w
 any_kids_step q l cs i j c a d w n lt e g h =
-    let k = ap (list_any (λ (s : Place). q s.tree)) (kids_step l cs i c lt e) ∙ any-append (λ (s : Place). q s.tree) (parts_of_child l i c) (kids_parts l (suc i) (drop (suc i) cs)) in
+    let k = ap (list_any (λ (s : Place). q s.tree)) (kids_step l cs i c lt e)
+    ∙ any-append (λ (s : Place). q s.tree) (parts_of_child l i c) (kids_parts l (suc i) (drop (suc i) cs)) in
     ap (λ m. d || list_any (λ s. q s.tree) (kids_parts l m (drop m cs))) n
     ∙ or_assoc a _ _ d w g (ap (λ b. a || b) (sym k) ∙ h)
 
@@ -72,7 +75,8 @@ any-if : (q : Tree → Bool) (b : Bool) (ps : List Place) → list_any (λ s. q 
 any-if q true ps = refl
 any-if q false ps = refl
 
-pub any_own_step : (q : Tree → Bool) (own : ℕ → Bool) (l : Label) (cs : List Tree) (i j : ℕ) (c : Tree) (a d w : Bool) → j ≡ suc i → i < length cs → c ≡ get_or cs i c
+pub any_own_step : (q : Tree → Bool) (own : ℕ → Bool) (l : Label) (cs : List Tree) (i j : ℕ) (c : Tree) (a d w : Bool)
+    → j ≡ suc i → i < length cs → c ≡ get_or cs i c
     → d ≡ (a || (own i && list_any (λ s. q s.tree) (parts_of_child l i c))) → (a || list_any (λ s. q s.tree) (own_parts_from own l i (drop i cs))) ≡ w
     → (d || list_any (λ s. q s.tree) (own_parts_from own l j (drop j cs))) ≡ w
 any_own_step q own l cs i j c a d w n lt e g h =
@@ -91,8 +95,10 @@ or_three true b c = refl
 or_three false b c = refl
 
 -- once no child is left, a child and the parts inside it have been tested
-pub any_child_done : (q : Tree → Bool) (l : Label) (i : ℕ) (c : Tree) (inner : Label) (cs : List Tree) (j : ℕ) (asked a o d : Bool) → length cs ≤ j → asked ≡ is_expression_part l i c
-    → o ≡ (a || (asked && q c)) → (d || list_any (λ s. q s.tree) (kids_parts inner j (drop j cs))) ≡ (o || list_any (λ s. q s.tree) (parts is_expression_part c))
+pub any_child_done : (q : Tree → Bool) (l : Label) (i : ℕ) (c : Tree) (inner : Label) (cs : List Tree) (j : ℕ)
+    (asked a o d : Bool) → length cs ≤ j → asked ≡ is_expression_part l i c
+    → o ≡ (a || (asked && q c)) → (d || list_any (λ s. q s.tree) (kids_parts inner j (drop j cs)))
+    ≡ (o || list_any (λ s. q s.tree) (parts is_expression_part c))
     → d ≡ (a || list_any (λ s. q s.tree) (parts_of_child l i c))
 any_child_done q l i c inner cs j asked a o d le e g h =
     let none : kids_parts inner j (drop j cs) ≡ [] = ap (kids_parts inner j) (drop_past cs j le) in
@@ -147,21 +153,26 @@ module _ (decls : List VarDecl) (tokens : List PatToken) (env : Environment) (p 
   aligned-part above l i c false e = rw e refl
 
   pub aligned-child : (above : List ℕ) (l : Label) (i : ℕ) (c : Tree) → aligned above (parts_of_child l i c)
-      ≡ (if is_expression_part l i c then put_form (above ++ i ∷ []) (form_at decls tokens env p k c) else []) ++ aligned (above ++ i ∷ []) (parts is_expression_part c)
+      ≡ (if is_expression_part l i c then put_form (above ++ i ∷ []) (form_at decls tokens env p k c) else [])
+      ++ aligned (above ++ i ∷ []) (parts is_expression_part c)
   aligned-child above l i c =
       aligned-append above (part_at is_expression_part l i c) (map (below i) (parts is_expression_part c))
       ∙ ap₂ (λ xs ys. xs ++ ys) (aligned-part above l i c (is_expression_part l i c) refl) (aligned-below above i (parts is_expression_part c))
 
-  pub aligned_kids_step : (above : List ℕ) (l : Label) (cs : List Tree) (i j : ℕ) (c : Tree) (old new all : List Alignment) → j ≡ suc i → i < length cs → c ≡ get_or cs i c
-      → new ≡ old ++ aligned above (parts_of_child l i c) → old ++ aligned above (kids_parts l i (drop i cs)) ≡ all → new ++ aligned above (kids_parts l j (drop j cs)) ≡ all
+  pub aligned_kids_step : (above : List ℕ) (l : Label) (cs : List Tree) (i j : ℕ) (c : Tree) (old new all : List Alignment)
+      → j ≡ suc i → i < length cs → c ≡ get_or cs i c
+      → new ≡ old ++ aligned above (parts_of_child l i c) → old ++ aligned above (kids_parts l i (drop i cs)) ≡ all
+      → new ++ aligned above (kids_parts l j (drop j cs)) ≡ all
   aligned_kids_step above l cs i j c old new all n lt e g h =
       ap (λ m. new ++ aligned above (kids_parts l m (drop m cs))) n
       ∙ ap (λ xs. xs ++ aligned above (kids_parts l (suc i) (drop (suc i) cs))) g
       ∙ append_assoc old (aligned above (parts_of_child l i c)) (aligned above (kids_parts l (suc i) (drop (suc i) cs)))
-      ∙ ap (λ xs. old ++ xs) (sym (ap (aligned above) (kids_step l cs i c lt e) ∙ aligned-append above (parts_of_child l i c) (kids_parts l (suc i) (drop (suc i) cs))))
+      ∙ ap (λ xs. old ++ xs) (sym (ap (aligned above) (kids_step l cs i c lt e)
+      ∙ aligned-append above (parts_of_child l i c) (kids_parts l (suc i) (drop (suc i) cs))))
       ∙ h
 
-  pub aligned_own_step : (above : List ℕ) (own : ℕ → Bool) (l : Label) (cs : List Tree) (i j : ℕ) (c : Tree) (old new all : List Alignment) → j ≡ suc i → i < length cs → c ≡ get_or cs i c
+  pub aligned_own_step : (above : List ℕ) (own : ℕ → Bool) (l : Label) (cs : List Tree) (i j : ℕ) (c : Tree)
+      (old new all : List Alignment) → j ≡ suc i → i < length cs → c ≡ get_or cs i c
       → new ≡ old ++ aligned above (if own i then parts_of_child l i c else []) → old ++ aligned above (own_parts_from own l i (drop i cs)) ≡ all
       → new ++ aligned above (own_parts_from own l j (drop j cs)) ≡ all
   aligned_own_step above own l cs i j c old new all n lt e g h =
@@ -173,7 +184,8 @@ module _ (decls : List VarDecl) (tokens : List PatToken) (env : Environment) (p 
       ∙ h
 
   -- a child that is aligned, if it is asked for, and then the parts inside it
-  pub aligned_whole : (above now : List ℕ) (l : Label) (i : ℕ) (c : Tree) (old part : List Alignment) (asked : Bool) → asked ≡ is_expression_part l i c → now ≡ above ++ i ∷ []
+  pub aligned_whole : (above now : List ℕ) (l : Label) (i : ℕ) (c : Tree) (old part : List Alignment) (asked : Bool)
+      → asked ≡ is_expression_part l i c → now ≡ above ++ i ∷ []
       → part ≡ old ++ (if asked then put_form now (form_at decls tokens env p k c) else [])
       → part ++ aligned now (parts is_expression_part c) ≡ old ++ aligned above (parts_of_child l i c)
   aligned_whole above now l i c old part asked e n g =
@@ -183,9 +195,11 @@ module _ (decls : List VarDecl) (tokens : List PatToken) (env : Environment) (p 
       (ap₂ (λ b path. (if b then put_form path (form_at decls tokens env p k c) else []) ++ aligned path (parts is_expression_part c)) e n
       ∙ sym (aligned-child above l i c))
 
-  pub aligned_done : (above now : List ℕ) (l : Label) (i : ℕ) (c : Tree) (inner : Label) (cs : List Tree) (j : ℕ) (old part all : List Alignment) (asked : Bool) → length cs ≤ j
+  pub aligned_done : (above now : List ℕ) (l : Label) (i : ℕ) (c : Tree) (inner : Label) (cs : List Tree) (j : ℕ)
+      (old part all : List Alignment) (asked : Bool) → length cs ≤ j
       → asked ≡ is_expression_part l i c → now ≡ above ++ i ∷ [] → part ≡ old ++ (if asked then put_form now (form_at decls tokens env p k c) else [])
-      → all ++ aligned now (kids_parts inner j (drop j cs)) ≡ part ++ aligned now (parts is_expression_part c) → all ≡ old ++ aligned above (parts_of_child l i c)
+      → all ++ aligned now (kids_parts inner j (drop j cs)) ≡ part ++ aligned now (parts is_expression_part c)
+      → all ≡ old ++ aligned above (parts_of_child l i c)
   aligned_done above now l i c inner cs j old part all asked le e n g h =
       let none : aligned now (kids_parts inner j (drop j cs)) ≡ [] = ap (λ ds. aligned now (kids_parts inner j ds)) (drop_past cs j le) in
       sym (append-nil all) ∙ ap (λ xs. all ++ xs) (sym none) ∙ h ∙ aligned_whole above now l i c old part asked e n g

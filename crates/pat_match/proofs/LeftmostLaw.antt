@@ -1,5 +1,7 @@
 -- The leftmost alignment of a list is one of its alignments, and none is further left.
-use Rattle.std.proofs.Common.{◌≡◌, ℕ, suc, zero, ◌<◌, ◌≤◌, Bool, true, false, ◌&&◌, ◌||◌, cond, nat_le, nat_lt, nat_eq, refl, sym, ap, ◌∙◌, subst, arith, List, [], ◌∷◌, length, take, drop, Option, Some, None, inl, inr, ◌⊎◌, ⊎_elim}
+use Rattle.std.proofs.Common.{◌≡◌, ℕ, suc, zero, ◌<◌, ◌≤◌, Bool, true, false, ◌&&◌, ◌||◌, cond, nat_le, nat_lt, nat_eq, refl}
+use Rattle.std.proofs.Common.{sym, ap, ◌∙◌, subst, arith, List, [], ◌∷◌, length, take, drop, Option, Some, None, inl, inr, ◌⊎◌}
+use Rattle.std.proofs.Common.{⊎_elim}
 use Rattle.std.proofs.lemmas.Bool.Decides.{nat_tests}
 use Rattle.c_terms.specs.declared.token.Token.{Token}
 use Rattle.c_terms.specs.declared.label.Label.{Label}
@@ -124,7 +126,8 @@ module _ (decls : List VarDecl) (tokens : List PatToken) (env : Environment) (l 
       by (Some c) rest ks h = both_true _ _ (and_left _ _ h) (rest (Some c) ms ks (and_right _ _ h))
 
   -- and it is no further left than the leftmost
-  pub none_further : (before : Option Token) (ps : List Piece) (ms : List Member) (ks : List ℕ) → taken before ps ms ks ≡ true → is_left (first before ps ms) ks ≡ true
+  pub none_further : (before : Option Token) (ps : List Piece) (ms : List Member) (ks : List ℕ) → taken before ps ms ks ≡ true
+      → is_left (first before ps ms) ks ≡ true
   none_further before [] ms ks h = refl
   none_further before (p ∷ ps) ms ks h = by (as_comma p.token) (λ before ms ks. none_further before ps ms ks) ks h
     where

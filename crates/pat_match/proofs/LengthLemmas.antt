@@ -1,5 +1,6 @@
 -- How many members a list has, and lists that are too long.
-use Rattle.std.proofs.Common.{◌≡◌, ℕ, suc, zero, ◌<◌, Bool, false, ◌&&◌, ◌||◌, refl, sym, ap, ◌∙◌, arith, List, [], ◌∷◌, map, length, take, drop, get_or, Option, Some, None, length-drop}
+use Rattle.std.proofs.Common.{◌≡◌, ℕ, suc, zero, ◌<◌, Bool, false, ◌&&◌, ◌||◌, refl, sym, ap, ◌∙◌, arith, List, [], ◌∷◌, map}
+use Rattle.std.proofs.Common.{length, take, drop, get_or, Option, Some, None, length-drop}
 use Rattle.std.proofs.lemmas.Grind.{common_steps}
 use Rattle.std.specs.List.{list_any}
 use Rattle.c_terms.specs.declared.token.Token.{Token}
@@ -19,12 +20,14 @@ use Rattle.pat_match.proofs.RowLemmas.{at_comma, at_member, takes_single, single
 
 less_at : (before : Option Token) (t : Tree) (ts : List Tree) (o : Option Token) → comma t ≡ o → length (members_from before (t ∷ ts))
     ≡ length (elim o as (λ o. List Member) [ None ↦ record { comma = before; tree = t } ∷ members_from None ts | Some c ↦ members_from (Some c) ts ])
-less_at before t ts o e = ap (λ o. length (elim o as (λ o. List Member) [ None ↦ record { comma = before; tree = t } ∷ members_from None ts | Some c ↦ members_from (Some c) ts ])) e
+less_at before t ts o e = ap (λ o. length
+    (elim o as (λ o. List Member) [ None ↦ record { comma = before; tree = t } ∷ members_from None ts | Some c ↦ members_from (Some c) ts ])) e
 
 less_member : (before : Option Token) (t : Tree) (ts : List Tree) → comma t ≡ None → length (members_from before (t ∷ ts)) ≡ suc (length (members_from None ts))
 less_member before t ts e = less_at before t ts None e
 
-less_comma : (before : Option Token) (t : Tree) (ts : List Tree) (c : Token) → comma t ≡ Some c → length (members_from before (t ∷ ts)) ≡ length (members_from (Some c) ts)
+less_comma : (before : Option Token) (t : Tree) (ts : List Tree) (c : Token) → comma t ≡ Some c
+    → length (members_from before (t ∷ ts)) ≡ length (members_from (Some c) ts)
 less_comma before t ts c e = less_at before t ts (Some c) e
 
 -- the comma before the first doesn't count
@@ -63,7 +66,8 @@ module _ (decls : List VarDecl) (tokens : List PatToken) (label : Label) (env : 
   from before fs ms = runs_from decls tokens env label before (map (piece decls tokens env) fs) ms
 
   -- this many members are too few or too many for the child, or leave too many for the children after it
-  not_so_many : (before : Option Token) (f : Tree) (fs : List Tree) (ms : List Member) → is_wild label (leaf_of (out-Tree f)) ≡ false → suc (length fs) < length ms
+  not_so_many : (before : Option Token) (f : Tree) (fs : List Tree) (ms : List Member)
+      → is_wild label (leaf_of (out-Tree f)) ≡ false → suc (length fs) < length ms
       → ((b : Option Token) (ns : List Member) → length fs < length ns → from b fs ns ≡ false)
       → (k : ℕ) → k < suc (length ms) → (takes decls tokens env label before (piece decls tokens env f) (take k ms) && from None fs (drop k ms)) ≡ false
   not_so_many before f fs ms w lt rest zero less =
@@ -72,14 +76,16 @@ module _ (decls : List VarDecl) (tokens : List PatToken) (label : Label) (env : 
       rw (t, s) (ap (λ x. x && from None fs (drop 0 ms)) (and_false (comma_fits decls tokens env before (take 0 ms))))
   not_so_many before f fs ms w lt rest (suc zero) less =
       let r = rest None (drop 1 ms) (omega (arith, length-drop 1 ms)) in
-      ap (λ b. takes decls tokens env label before (piece decls tokens env f) (take 1 ms) && b) r ∙ and_false (takes decls tokens env label before (piece decls tokens env f) (take 1 ms))
+      ap (λ b. takes decls tokens env label before (piece decls tokens env f) (take 1 ms) && b) r
+      ∙ and_false (takes decls tokens env label before (piece decls tokens env f) (take 1 ms))
   not_so_many before f fs ms w lt rest (suc (suc k)) less =
       let t = takes_single decls tokens label env before f (take (suc (suc k)) ms) w in
       let s = single_none (fits_tree decls tokens env f) ms (suc (suc k)) less (λ n. omega (arith, n)) in
       rw (t, s) (ap (λ x. x && from None fs (drop (suc (suc k)) ms)) (and_false (comma_fits decls tokens env before (take (suc (suc k)) ms))))
 
   one_room : (before : Option Token) (f : Tree) (fs : List Tree) (ms : List Member) → is_wild label (leaf_of (out-Tree f)) ≡ false → suc (length fs) < length ms
-      → ((b : Option Token) (ns : List Member) → length fs < length ns → from b fs ns ≡ false) → (o : Option Token) → comma f ≡ o → from before (f ∷ fs) ms ≡ false
+      → ((b : Option Token) (ns : List Member) → length fs < length ns → from b fs ns ≡ false) → (o : Option Token)
+      → comma f ≡ o → from before (f ∷ fs) ms ≡ false
   one_room before f fs ms w lt rest (Some c) e =
       at_comma decls tokens label env before f fs ms c e ∙ ap (λ b. comma_fits decls tokens env before [] && b) (rest (Some c) ms (omega arith))
       ∙ and_false (comma_fits decls tokens env before [])

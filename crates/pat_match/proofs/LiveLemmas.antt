@@ -1,5 +1,6 @@
 -- The first form has its own sure variables.
-use Rattle.std.proofs.Common.{◌≡◌, ℕ, ◌<◌, zero, suc, Bool, true, false, ◌&&◌, ◌||◌, not, refl, ap₂, arith, List, [], ◌∷◌, length, get_or, slice_get, Option, Some, None}
+use Rattle.std.proofs.Common.{◌≡◌, ℕ, ◌<◌, zero, suc, Bool, true, false, ◌&&◌, ◌||◌, not, refl, ap₂, arith, List, [], ◌∷◌}
+use Rattle.std.proofs.Common.{length, get_or, slice_get, Option, Some, None}
 use Rattle.std.specs.List.{list_all}
 use Rattle.c_terms.specs.declared.token.Token.{Token}
 use Rattle.c_terms.specs.declared.token.TokenKind.{TokenKind}
@@ -41,7 +42,8 @@ module _ (decls : List VarDecl) (tokens : List PatToken) where
       all_true (token_passes decls tokens (keeps decls tokens s f f)) (leaves f)
       (λ a. ap₂ (λ x y. x && y) (meta_true decls (keeps decls tokens s f f) a.kind a h) (places_true (keeps decls tokens s f f) (slice_get tokens a.id) h))
 
-  first_itself : (s : Spot) (fs : List Tree) (i : ℕ) (f : Tree) → i ≡ 0 → i < length fs → f ≡ get_or fs i f → in_first (λ first. is_live decls tokens s first f) fs ≡ true
+  first_itself : (s : Spot) (fs : List Tree) (i : ℕ) (f : Tree) → i ≡ 0 → i < length fs → f ≡ get_or fs i f
+      → in_first (λ first. is_live decls tokens s first f) fs ≡ true
   first_itself s [] i f e lt g = absurd (omega arith)
   first_itself s (a ∷ fs) zero f e lt g = rw g (live_itself s a)
   first_itself s (a ∷ fs) (suc i) f e lt g = absurd (omega arith)

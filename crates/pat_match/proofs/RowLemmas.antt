@@ -1,5 +1,7 @@
 -- Rows with one more entry and one more child.
-use Rattle.std.proofs.Common.{◌≡◌, ℕ, suc, zero, ◌+◌, ◌-◌, ◌<◌, ◌≤◌, Bool, true, false, ◌&&◌, ◌||◌, nat_eq, nat_lt, nat_le, refl, sym, ap, ap₂, ◌∙◌, subst, arith, List, [], ◌∷◌, map, length, take, drop, get_or, Option, Some, None, slice_get, length-drop}
+use Rattle.std.proofs.Common.{◌≡◌, ℕ, suc, zero, ◌+◌, ◌-◌, ◌<◌, ◌≤◌, Bool, true, false, ◌&&◌, ◌||◌, nat_eq, nat_lt, nat_le}
+use Rattle.std.proofs.Common.{refl, sym, ap, ap₂, ◌∙◌, subst, arith, List, [], ◌∷◌, map, length, take, drop, get_or, Option}
+use Rattle.std.proofs.Common.{Some, None, slice_get, length-drop}
 use Rattle.std.proofs.lemmas.Bool.Decides.{nat_tests}
 use Rattle.std.proofs.lemmas.Grind.{common_steps}
 use Rattle.std.specs.List.{list_any}
@@ -75,7 +77,8 @@ module _ (decls : List VarDecl) (tokens : List PatToken) (label : Label) where
   takes_single env before f run h = let e = piece-token decls tokens env f in rw (e, h) refl
 
   -- the entries of a row together are equivalent to the child and the row
-  pub wild_step : (before : Option Token) (f : Tree) (ms : List Member) (row : List RowEntry) (n : ℕ) (env : Environment) → is_wild label (leaf_of (out-Tree f)) ≡ true → n ≤ length ms
+  pub wild_step : (before : Option Token) (f : Tree) (ms : List Member) (row : List RowEntry) (n : ℕ) (env : Environment)
+      → is_wild label (leaf_of (out-Tree f)) ≡ true → n ≤ length ms
       → list_any (wild_entry decls tokens label before f ms n env) row ≡ step_at decls tokens label before f ms row n env
   wild_step before f ms row n env w le =
       let m = suc (length (drop n ms)) in
@@ -85,7 +88,8 @@ module _ (decls : List VarDecl) (tokens : List PatToken) (label : Label) where
       λ i. nat_le n e.taken && (b i && (sym (takes_wild env before f (take (e.taken - n) (drop n ms)) w) i && set_denotes e.set env)))
       ∙ sym (pick T row n m env)
 
-  pub single_step : (before : Option Token) (f : Tree) (ms : List Member) (row : List RowEntry) (n : ℕ) (env : Environment) → is_wild label (leaf_of (out-Tree f)) ≡ false → n ≤ length ms
+  pub single_step : (before : Option Token) (f : Tree) (ms : List Member) (row : List RowEntry) (n : ℕ) (env : Environment)
+      → is_wild label (leaf_of (out-Tree f)) ≡ false → n ≤ length ms
       → list_any (single_entry decls tokens label before f ms n env) row ≡ step_at decls tokens label before f ms row n env
   single_step before f ms row n env w le =
       let m = suc (length (drop n ms)) in
@@ -103,7 +107,8 @@ module _ (decls : List VarDecl) (tokens : List PatToken) (label : Label) where
           rw (h, s, a, b, t) refl
       by e false h = other e h (nat_le n e.taken) refl (nat_lt e.taken (n + suc (length (drop n ms)))) refl
         where
-          other : (e : RowEntry) → nat_eq e.taken (suc n) ≡ false → (le : Bool) → nat_le n e.taken ≡ le → (lt : Bool) → nat_lt e.taken (n + suc (length (drop n ms))) ≡ lt
+          other : (e : RowEntry) → nat_eq e.taken (suc n) ≡ false → (le : Bool) → nat_le n e.taken ≡ le → (lt : Bool)
+              → nat_lt e.taken (n + suc (length (drop n ms))) ≡ lt
               → single_entry decls tokens label before f ms n env e
               ≡ (nat_le n e.taken && (nat_lt e.taken (n + suc (length (drop n ms)))
               && (takes decls tokens env label before (piece decls tokens env f) (take (e.taken - n) (drop n ms)) && set_denotes e.set env)))
@@ -113,7 +118,8 @@ module _ (decls : List VarDecl) (tokens : List PatToken) (label : Label) where
               let less : e.taken - n < suc (length (drop n ms)) = grind (arith, nat_tests) in
               let none = single_none (fits_tree decls tokens env f) (drop n ms) (e.taken - n) less (λ s. grind (arith, nat_tests)) in
               let t = takes_single env before f (take (e.taken - n) (drop n ms)) w in
-              rw (h, a, b, t, none) (ap (λ x. x && set_denotes e.set env) (sym (and_false (comma_fits decls tokens env before (take (e.taken - n) (drop n ms))))))
+              rw (h, a, b, t, none) (ap (λ x. x && set_denotes e.set env)
+              (sym (and_false (comma_fits decls tokens env before (take (e.taken - n) (drop n ms))))))
 
   -- lists with one fewer child
 
@@ -138,7 +144,8 @@ module _ (decls : List VarDecl) (tokens : List PatToken) (label : Label) where
   at_comma env before f fs ms c e = choice env before f fs ms (Some c) e
 
   pub at_member : (env : Environment) (before : Option Token) (f : Tree) (fs : List Tree) (ms : List Member) → comma f ≡ None
-      → whole env before (f ∷ fs) ms ≡ some_below (λ k. takes decls tokens env label before (piece decls tokens env f) (take k ms) && whole env None fs (drop k ms)) (suc (length ms))
+      → whole env before (f ∷ fs) ms ≡ some_below
+      (λ k. takes decls tokens env label before (piece decls tokens env f) (take k ms) && whole env None fs (drop k ms)) (suc (length ms))
   at_member env before f fs ms e = choice env before f fs ms None e
 
   bare_stands : (env : Environment) (o : Option PatToken) → stands_at decls env o None ≡ is_bare o
@@ -149,14 +156,17 @@ module _ (decls : List VarDecl) (tokens : List PatToken) (label : Label) where
   bare_fits env None = refl
   bare_fits env (Some a) = bare_stands env (slice_get tokens a.id)
 
-  comma_row : (env : Environment) (before : Option Token) (f : Tree) (fs : List Tree) (ms : List Member) (c : Token) (b : Bool) → comma f ≡ Some c → is_bare_comma tokens before ≡ b
+  comma_row : (env : Environment) (before : Option Token) (f : Tree) (fs : List Tree) (ms : List Member) (c : Token) (b : Bool)
+      → comma f ≡ Some c → is_bare_comma tokens before ≡ b
       → whole env before (f ∷ fs) ms ≡ (b && whole env (Some c) fs ms)
   comma_row env before f fs ms c b e g = at_comma env before f fs ms c e ∙ ap (λ o. o && whole env (Some c) fs ms) (bare_fits env before ∙ g)
 
   -- a comma before the i-th child, and what follows it
-  pub comma_next : (fs : List Tree) (i : ℕ) (f : Tree) (c : Token) (ms : List Member) (b : Bool) (env : Environment) → i < length fs → f ≡ get_or fs i f → comma f ≡ Some c
+  pub comma_next : (fs : List Tree) (i : ℕ) (f : Tree) (c : Token) (ms : List Member) (b : Bool) (env : Environment)
+      → i < length fs → f ≡ get_or fs i f → comma f ≡ Some c
       → is_bare_comma tokens (comma_before fs i) ≡ b
-      → fits_from decls tokens label (comma_before fs i) (drop i fs) ms env ≡ (b && fits_from decls tokens label (comma_before fs (suc i)) (drop (suc i) fs) ms env)
+      → fits_from decls tokens label (comma_before fs i) (drop i fs) ms env
+      ≡ (b && fits_from decls tokens label (comma_before fs (suc i)) (drop (suc i) fs) ms env)
   comma_next fs i f c ms b env lt g e bare =
       ap (λ gs. whole env (comma_before fs i) gs ms) (drop_at fs i f lt g) ∙ comma_row env (comma_before fs i) f (drop (suc i) fs) ms c b e bare
       ∙ ap (λ o. b && whole env o (drop (suc i) fs) ms) (sym (comma_before_at fs (suc i) i f refl lt g ∙ e))
@@ -168,22 +178,26 @@ module _ (decls : List VarDecl) (tokens : List PatToken) (label : Label) where
       && fits_from decls tokens label (comma_before fs (suc i)) (drop (suc i) fs) (drop k ms) env) (suc (length ms))
   member_next fs i f ms env lt g e =
       ap (λ gs. whole env (comma_before fs i) gs ms) (drop_at fs i f lt g) ∙ at_member env (comma_before fs i) f (drop (suc i) fs) ms e
-      ∙ ap (λ o. some_below (λ k. takes decls tokens env label (comma_before fs i) (piece decls tokens env f) (take k ms) && whole env o (drop (suc i) fs) (drop k ms)) (suc (length ms)))
+      ∙ ap (λ o. some_below (λ k. takes decls tokens env label (comma_before fs i) (piece decls tokens env f) (take k ms)
+      && whole env o (drop (suc i) fs) (drop k ms)) (suc (length ms)))
       (sym (comma_before_at fs (suc i) i f refl lt g ∙ e))
 
   -- rows
 
-  pub row_comma : (fs : List Tree) (i : ℕ) (f : Tree) (c : Token) (ms : List Member) (row : List RowEntry) → i < length fs → f ≡ get_or fs i f → comma f ≡ Some c
+  pub row_comma : (fs : List Tree) (i : ℕ) (f : Tree) (c : Token) (ms : List Member) (row : List RowEntry) → i < length fs
+      → f ≡ get_or fs i f → comma f ≡ Some c
       → is_bare_comma tokens (comma_before fs i) ≡ true
       → IsRow decls tokens label (comma_before fs (suc i)) (drop (suc i) fs) ms row → IsRow decls tokens label (comma_before fs i) (drop i fs) ms row
   row_comma fs i f c ms row lt g e bare r = λ n less env. r n less env ∙ sym (comma_next fs i f c (drop n ms) true env lt g e bare)
 
-  pub row_no_comma : (fs : List Tree) (i : ℕ) (f : Tree) (c : Token) (ms : List Member) (row : List RowEntry) → i < length fs → f ≡ get_or fs i f → comma f ≡ Some c
+  pub row_no_comma : (fs : List Tree) (i : ℕ) (f : Tree) (c : Token) (ms : List Member) (row : List RowEntry) → i < length fs
+      → f ≡ get_or fs i f → comma f ≡ Some c
       → is_bare_comma tokens (comma_before fs i) ≡ false → row ≡ [] → IsRow decls tokens label (comma_before fs i) (drop i fs) ms row
   row_no_comma fs i f c ms row lt g e bare r = λ n less env.
       ap (λ x. row_at x n env) r ∙ sym (comma_next fs i f c (drop n ms) false env lt g e bare)
 
-  pub row_member : (fs : List Tree) (i : ℕ) (f : Tree) (ms : List Member) (old row new : List RowEntry) → i < length fs → f ≡ get_or fs i f → comma f ≡ None → row ≡ old
+  pub row_member : (fs : List Tree) (i : ℕ) (f : Tree) (ms : List Member) (old row new : List RowEntry) → i < length fs
+      → f ≡ get_or fs i f → comma f ≡ None → row ≡ old
       → IsRow decls tokens label (comma_before fs (suc i)) (drop (suc i) fs) ms old → IsStep decls tokens label (comma_before fs i) f ms row new
       → IsRow decls tokens label (comma_before fs i) (drop i fs) ms new
   row_member fs i f ms old row new lt g e same r s = λ n less env.
@@ -201,18 +215,21 @@ module _ (decls : List VarDecl) (tokens : List PatToken) (label : Label) where
   nothing_left env before bare (m ∷ ms) zero e lt = grind (arith, nat_tests, common_steps)
   nothing_left env before bare (m ∷ ms) (suc n) e lt = let h = nothing_left env before bare ms n e (omega arith) in grind (arith, nat_tests, common_steps)
 
-  pub row_last : (before : Option Token) (bare : Bool) (fs : List Tree) (ms : List Member) (count : ℕ) (row : List RowEntry) → count ≡ length ms → fs ≡ [] → bare ≡ is_bare_comma tokens before
+  pub row_last : (before : Option Token) (bare : Bool) (fs : List Tree) (ms : List Member) (count : ℕ) (row : List RowEntry)
+      → count ≡ length ms → fs ≡ [] → bare ≡ is_bare_comma tokens before
       → ((n : ℕ) (env : Environment) → row_at row n env ≡ last_at bare count n) → IsRow decls tokens label before fs ms row
   row_last before bare fs ms count row e f g h = λ n less env.
       h n env ∙ ap (λ k. last_at bare k n) e ∙ nothing_left env before bare ms n (sym g) less ∙ ap (λ gs. whole env before gs (drop n ms)) (sym f)
 
-  pub row_at_number : (fs : List Tree) (i j : ℕ) (ms : List Member) (row : List RowEntry) → i ≡ j → IsRow decls tokens label (comma_before fs i) (drop i fs) ms row
+  pub row_at_number : (fs : List Tree) (i j : ℕ) (ms : List Member) (row : List RowEntry) → i ≡ j
+      → IsRow decls tokens label (comma_before fs i) (drop i fs) ms row
       → IsRow decls tokens label (comma_before fs j) (drop j fs) ms row
   row_at_number fs i j ms row e h = subst (λ k. IsRow decls tokens label (comma_before fs k) (drop k fs) ms row) e h
 
   -- the first children
 
-  pub wild_first : (fs : List Tree) (i : ℕ) (f : Tree) (b : Bool) → i < length fs → f ≡ get_or fs i f → first_is_wild label (drop i fs) ≡ b → is_wild label (leaf_of (out-Tree f)) ≡ b
+  pub wild_first : (fs : List Tree) (i : ℕ) (f : Tree) (b : Bool) → i < length fs → f ≡ get_or fs i f
+      → first_is_wild label (drop i fs) ≡ b → is_wild label (leaf_of (out-Tree f)) ≡ b
   wild_first fs i f b lt g e = sym (ap (first_is_wild label) (drop_at fs i f lt g)) ∙ e
 
   -- no member is left for the child
@@ -223,8 +240,10 @@ module _ (decls : List VarDecl) (tokens : List PatToken) (label : Label) where
       ∙ none_below _ (suc (length ms)) (λ k less.
       let z : k ≡ 0 = omega (arith, ap length n) in
       let t = takes_single env (comma_before fs i) f (take k ms) w in
-      let s : single_fits (fits_tree decls tokens env f) (take k ms) ≡ false = single_none (fits_tree decls tokens env f) ms k less (λ one. omega (arith, one, z)) in
-      rw (t, s) (ap (λ x. x && fits_from decls tokens label (comma_before fs (suc i)) (drop (suc i) fs) (drop k ms) env) (and_false (comma_fits decls tokens env (comma_before fs i) (take k ms)))))
+      let s : single_fits (fits_tree decls tokens env f) (take k ms) ≡ false =
+      single_none (fits_tree decls tokens env f) ms k less (λ one. omega (arith, one, z)) in
+      rw (t, s) (ap (λ x. x && fits_from decls tokens label (comma_before fs (suc i)) (drop (suc i) fs) (drop k ms) env)
+      (and_false (comma_fits decls tokens env (comma_before fs i) (take k ms)))))
 
   -- the child takes the next member
   pub next_member : (fs : List Tree) (i : ℕ) (f : Tree) (ms : List Member) (env : Environment) → i < length fs → f ≡ get_or fs i f → comma f ≡ None
@@ -237,17 +256,21 @@ module _ (decls : List VarDecl) (tokens : List PatToken) (label : Label) where
       ∙ one_below _ (suc (length ms)) (omega arith) (λ k less ne.
       let t = takes_single env (comma_before fs i) f (take k ms) w in
       let s = single_none (fits_tree decls tokens env f) ms k less ne in
-      rw (t, s) (ap (λ x. x && fits_from decls tokens label (comma_before fs (suc i)) (drop (suc i) fs) (drop k ms) env) (and_false (comma_fits decls tokens env (comma_before fs i) (take k ms)))))
-      ∙ ap (λ x. x && fits_from decls tokens label (comma_before fs (suc i)) (drop (suc i) fs) (drop 1 ms) env) (takes_single env (comma_before fs i) f (take 1 ms) w)
+      rw (t, s) (ap (λ x. x && fits_from decls tokens label (comma_before fs (suc i)) (drop (suc i) fs) (drop k ms) env)
+      (and_false (comma_fits decls tokens env (comma_before fs i) (take k ms)))))
+      ∙ ap (λ x. x && fits_from decls tokens label (comma_before fs (suc i)) (drop (suc i) fs) (drop 1 ms) env)
+      (takes_single env (comma_before fs i) f (take 1 ms) w)
 
   -- what one entry adds to a row if the child takes the member before those that it has taken
-  pub single_put : (before : Option Token) (f : Tree) (ms : List Member) (e : RowEntry) (from n : ℕ) (run : List Member) (env : Environment) → from ≡ e.taken - 1 → 0 < e.taken → e.taken ≤ length ms
+  pub single_put : (before : Option Token) (f : Tree) (ms : List Member) (e : RowEntry) (from n : ℕ) (run : List Member)
+      (env : Environment) → from ≡ e.taken - 1 → 0 < e.taken → e.taken ≤ length ms
       → run ≡ take (e.taken - from) (drop from ms)
       → (nat_eq from n && ((comma_fits decls tokens env before run && single_fits (fits_tree decls tokens env f) run) && set_denotes e.set env))
       ≡ single_entry decls tokens label before f ms n env e
   single_put before f ms e from n run env g lt le h = by (nat_eq from n) refl
     where
-      by : (b : Bool) → nat_eq from n ≡ b → (nat_eq from n && ((comma_fits decls tokens env before run && single_fits (fits_tree decls tokens env f) run) && set_denotes e.set env))
+      by : (b : Bool) → nat_eq from n ≡ b → (nat_eq from n
+          && ((comma_fits decls tokens env before run && single_fits (fits_tree decls tokens env f) run) && set_denotes e.set env))
           ≡ single_entry decls tokens label before f ms n env e
       by true s =
           let same : from ≡ n = grind (arith, nat_tests) in
@@ -261,13 +284,15 @@ module _ (decls : List VarDecl) (tokens : List PatToken) (label : Label) where
           rw (s, a) refl
 
   -- when no child is left
-  pub end_fits : (fs : List Tree) (i taken : ℕ) (ms : List Member) (bare : Bool) (env : Environment) → drop i fs ≡ [] → bare ≡ is_bare_comma tokens (comma_before fs i) → taken ≤ length ms
+  pub end_fits : (fs : List Tree) (i taken : ℕ) (ms : List Member) (bare : Bool) (env : Environment) → drop i fs ≡ []
+      → bare ≡ is_bare_comma tokens (comma_before fs i) → taken ≤ length ms
       → fits_from decls tokens label (comma_before fs i) (drop i fs) (drop taken ms) env ≡ last_at bare (length ms) taken
   end_fits fs i taken ms bare env e b le =
       ap (λ gs. whole env (comma_before fs i) gs (drop taken ms)) e ∙ sym (nothing_left env (comma_before fs i) bare ms taken (sym b) (omega arith))
 
   -- what follows a child that takes any run
-  pub rest_fits : (fs : List Tree) (i taken : ℕ) (f : Tree) (ms rest : List Member) (row : List RowEntry) (env : Environment) → i < length fs → f ≡ get_or fs i f
+  pub rest_fits : (fs : List Tree) (i taken : ℕ) (f : Tree) (ms rest : List Member) (row : List RowEntry) (env : Environment)
+      → i < length fs → f ≡ get_or fs i f
       → is_wild label (leaf_of (out-Tree f)) ≡ true → rest ≡ drop taken ms → IsRow decls tokens label (comma_before fs (suc i)) (drop (suc i) fs) rest row
       → step_at decls tokens label (comma_before fs i) f rest row 0 env ≡ fits_from decls tokens label (comma_before fs i) (drop i fs) (drop taken ms) env
   rest_fits fs i taken f ms rest row env lt g w e r =
@@ -278,7 +303,8 @@ module _ (decls : List VarDecl) (tokens : List PatToken) (label : Label) where
       ∙ ap (λ xs. fits_from decls tokens label (comma_before fs i) (drop i fs) xs env) e
 
   -- the same, for a row that counts from the next child on
-  pub rest_taken : (fs : List Tree) (i j taken : ℕ) (f : Tree) (ms rest : List Member) (row old : List RowEntry) (env : Environment) → j ≡ suc i → old ≡ row → i < length fs → f ≡ get_or fs i f
+  pub rest_taken : (fs : List Tree) (i j taken : ℕ) (f : Tree) (ms rest : List Member) (row old : List RowEntry)
+      (env : Environment) → j ≡ suc i → old ≡ row → i < length fs → f ≡ get_or fs i f
       → first_is_wild label (drop i fs) ≡ true → rest ≡ drop taken ms → IsRow decls tokens label (comma_before fs j) (drop j fs) rest row
       → step_at decls tokens label (comma_before fs i) f rest old 0 env ≡ fits_from decls tokens label (comma_before fs i) (drop i fs) (drop taken ms) env
   rest_taken fs i j taken f ms rest row old env n same lt g w e r =
@@ -286,7 +312,8 @@ module _ (decls : List VarDecl) (tokens : List PatToken) (label : Label) where
       ∙ rest_fits fs i taken f ms rest row env lt g (wild_first fs i f true lt g w) e (row_at_number fs j (suc i) rest row n r)
 
   -- a child that takes the next member, from what is known of it
-  pub member_taken : (fs : List Tree) (i taken after : ℕ) (f : Tree) (ms run : List Member) (s : Bool) (env : Environment) → i < length fs → f ≡ get_or fs i f → comma f ≡ None
+  pub member_taken : (fs : List Tree) (i taken after : ℕ) (f : Tree) (ms run : List Member) (s : Bool) (env : Environment)
+      → i < length fs → f ≡ get_or fs i f → comma f ≡ None
       → first_is_wild label (drop i fs) ≡ false → taken < length ms → after ≡ taken + 1 → run ≡ take (after - taken) (drop taken ms)
       → s ≡ (comma_fits decls tokens env (comma_before fs i) run && single_fits (fits_tree decls tokens env f) run)
       → fits_from decls tokens label (comma_before fs i) (drop i fs) (drop taken ms) env

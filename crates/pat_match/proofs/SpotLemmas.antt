@@ -23,13 +23,15 @@ own_fit-uneven_map q f xs us h = own_fit-uneven q 0 (map f xs) us (λ e. h (omeg
 
 module _ (decls : List VarDecl) (tokens : List PatToken) (env : Environment) where
   pub own_fit_at : (q : ℕ → Bool) (xs us : List Tree) (n i : ℕ) (x u : Tree) → i < length xs → length xs ≡ length us → x ≡ get_or xs i x → u ≡ get_or us i u
-      → own_fit q n (map (piece decls tokens env) (drop i xs)) (drop i us) ≡ ((not (q n) || fits_tree decls tokens env x u) && own_fit q (suc n) (map (piece decls tokens env) (drop (suc i) xs)) (drop (suc i) us))
+      → own_fit q n (map (piece decls tokens env) (drop i xs)) (drop i us)
+      ≡ ((not (q n) || fits_tree decls tokens env x u) && own_fit q (suc n) (map (piece decls tokens env) (drop (suc i) xs)) (drop (suc i) us))
   own_fit_at q [] us n i x u lt len e g = absurd (omega arith)
   own_fit_at q (a ∷ xs) [] n i x u lt len e g = absurd (omega arith)
   own_fit_at q (a ∷ xs) (b ∷ us) n zero x u lt len e g = rw (e, g) refl
   own_fit_at q (a ∷ xs) (b ∷ us) n (suc i) x u lt len e g = own_fit_at q xs us n i x u (omega arith) (omega arith) e g
 
-  pub own_fit_step : (q : ℕ → Bool) (xs us : List Tree) (i j : ℕ) (x u : Tree) (o b h w : Bool) → j ≡ suc i → i < length xs → length xs ≡ length us → x ≡ get_or xs i x → u ≡ get_or us i u
+  pub own_fit_step : (q : ℕ → Bool) (xs us : List Tree) (i j : ℕ) (x u : Tree) (o b h w : Bool) → j ≡ suc i → i < length xs
+      → length xs ≡ length us → x ≡ get_or xs i x → u ≡ get_or us i u
       → o ≡ (b && h) → h ≡ (not (q i) || fits_tree decls tokens env x u) → (b && own_fit q i (map (piece decls tokens env) (drop i xs)) (drop i us)) ≡ w
       → (o && own_fit q j (map (piece decls tokens env) (drop j xs)) (drop j us)) ≡ w
   own_fit_step q xs us i zero x u o b h w n lt len e g k m r = absurd (omega arith)

@@ -47,11 +47,11 @@ bare_position None x h = refl
 bare_position (Some p) x h = none_any x p.positions (and_left _ _ h)
 
 -- a sign is not a metavariable, and fits nothing
-sign_meta : (decls : List VarDecl) (a : Token) (k : TokenKind) (x : Var) → is_sign k ≡ true → is_meta_of decls a k x ≡ false
+pub sign_meta : (decls : List VarDecl) (a : Token) (k : TokenKind) (x : Var) → is_sign k ≡ true → is_meta_of decls a k x ≡ false
 sign_meta decls a (kind.Meta k) x h = absurd (cc)
 sign_meta decls a _ x h = refl
 
-sign_fits : (decls : List VarDecl) (env : Environment) (k : TokenKind) (a : Token) (t : Tree) → is_sign k ≡ true → token_fits decls env k a t ≡ false
+pub sign_fits : (decls : List VarDecl) (env : Environment) (k : TokenKind) (a : Token) (t : Tree) → is_sign k ≡ true → token_fits decls env k a t ≡ false
 sign_fits decls env kind.Pat a t h = refl
 sign_fits decls env _ a t h = absurd (cc)
 
@@ -59,7 +59,7 @@ not_or : (a b : Bool) → (not a || b) ≡ true → a ≡ true → b ≡ true
 not_or true b h k = h
 not_or false b h k = absurd (cc)
 
-false_and : (a b : Bool) → a ≡ false → (a && b) ≡ false
+pub false_and : (a b : Bool) → a ≡ false → (a && b) ≡ false
 false_and true b h = absurd (cc)
 false_and false b h = refl
 
@@ -150,7 +150,8 @@ module _ (decls : List VarDecl) (tokens : List PatToken) (env : Environment) (x 
   every_law (c ∷ cs) t e b h s = ⊎_elim
       (λ g. ⊎_elim
       (λ n.
-      let z = bare_no_sure c (sym (ap is_sign_token (piece-token decls tokens env c)) ∙ n) (sym (ap (is_bare_sign tokens) (piece-token decls tokens env c)) ∙ and_left _ _ b) in
+      let z = bare_no_sure c (sym (ap is_sign_token (piece-token decls tokens env c)) ∙ n)
+      (sym (ap (is_bare_sign tokens) (piece-token decls tokens env c)) ∙ and_left _ _ b) in
       absurd (cc))
       (λ f. e.0 t f g)
       (or_cases (is_sign_token (piece decls tokens env c).token) (fits_tree decls tokens env c t) (and_left _ _ h)))

@@ -1,5 +1,7 @@
 -- The same for lists, and so for all forms.
-use Rattle.std.proofs.Common.{◌≡◌, ℕ, suc, zero, ◌+◌, ◌<◌, Bool, true, false, ◌&&◌, ◌||◌, cond, refl, sym, ap, ◌∙◌, subst, arith, List, [], ◌∷◌, ◌++◌, map, length, take, drop, Option, Some, None, slice_get, inl, inr, ◌⊎◌, ⊎_elim, if◌then◌else◌}
+use Rattle.std.proofs.Common.{◌≡◌, ℕ, suc, zero, ◌+◌, ◌<◌, Bool, true, false, ◌&&◌, ◌||◌, cond, refl, sym, ap, ◌∙◌, subst}
+use Rattle.std.proofs.Common.{arith, List, [], ◌∷◌, ◌++◌, map, length, take, drop, Option, Some, None, slice_get, inl, inr, ◌⊎◌}
+use Rattle.std.proofs.Common.{⊎_elim, if◌then◌else◌}
 use Rattle.std.specs.List.{list_any}
 use Rattle.std.proofs.lemmas.Bool.Decides.{nat_tests}
 use Rattle.c_terms.specs.declared.token.Token.{Token}
@@ -38,17 +40,17 @@ use Rattle.pat_match.proofs.CountLemmas.{drop_more}
 use Rattle.pat_match.proofs.ValueLemmas.{and_left, and_right, or_cases, or_left, or_right, has-first, has-kid, has-run}
 use Rattle.pat_match.proofs.SureLaw.{position_at, any_sure, Law, Fit, ListLaw, sure_law}
 
-below_elim : (test : ℕ → Bool) (n : ℕ) → some_below test n ≡ true → (k : ℕ) × (k < n) × (test k ≡ true)
+pub below_elim : (test : ℕ → Bool) (n : ℕ) → some_below test n ≡ true → (k : ℕ) × (k < n) × (test k ≡ true)
 below_elim test zero h = absurd (cc)
 below_elim test (suc n) h = ⊎_elim
     (λ a. let r = below_elim test n a in (r.0, omega (arith, r.1), r.2)) (λ b. (n, omega arith, b)) (or_cases (some_below test n) (test n) h)
 
-any_drop : {X : Type 0} (q : X → Bool) (xs : List X) (i : ℕ) → list_any q (drop i xs) ≡ true → list_any q xs ≡ true
+pub any_drop : {X : Type 0} (q : X → Bool) (xs : List X) (i : ℕ) → list_any q (drop i xs) ≡ true → list_any q xs ≡ true
 any_drop q xs zero h = h
 any_drop q [] (suc i) h = absurd (cc)
 any_drop q (x ∷ xs) (suc i) h = or_right _ _ (any_drop q xs i h)
 
-any_take : {X : Type 0} (q : X → Bool) (xs : List X) (i : ℕ) → list_any q (take i xs) ≡ true → list_any q xs ≡ true
+pub any_take : {X : Type 0} (q : X → Bool) (xs : List X) (i : ℕ) → list_any q (take i xs) ≡ true → list_any q xs ≡ true
 any_take q xs zero h = absurd (cc)
 any_take q [] (suc i) h = absurd (cc)
 any_take q (x ∷ xs) (suc i) h = ⊎_elim (λ a. or_left _ _ a) (λ b. or_right _ _ (any_take q xs i b)) (or_cases (q x) (list_any q (take i xs)) h)
@@ -117,9 +119,13 @@ run_first (m ∷ ms) v id s h = ⊎_elim (λ f. inl (or_left _ _ (has-first m.tr
 
 kid_step : (b : Option Token) (u : Tree) (us : List Tree) (v : Value) (o : Option Token)
     → ((c : Option Token) → list_any (tree_has v) (members_from c us) ≡ true → list_any (λ u. has_value u v) us ≡ true)
-    → list_any (tree_has v) (elim o as (λ o. List Member) [ None ↦ record { comma = b; tree = u } ∷ members_from None us | Some c ↦ members_from (Some c) us ]) ≡ true
+    → list_any (tree_has v) (elim o as (λ o. List Member) [
+      | None ↦ record { comma = b; tree = u } ∷ members_from None us
+      | Some c ↦ members_from (Some c) us
+    ]) ≡ true
     → list_any (λ u. has_value u v) (u ∷ us) ≡ true
-kid_step b u us v None ih h = ⊎_elim (λ a. or_left _ _ a) (λ a. or_right _ _ (ih None a)) (or_cases (has_value u v) (list_any (tree_has v) (members_from None us)) h)
+kid_step b u us v None ih h = ⊎_elim (λ a. or_left _ _ a) (λ a. or_right _ _ (ih None a))
+    (or_cases (has_value u v) (list_any (tree_has v) (members_from None us)) h)
 kid_step b u us v (Some c) ih h = or_right _ _ (ih (Some c) h)
 
 kid_of : (us : List Tree) (v : Value) (b : Option Token) → list_any (tree_has v) (members_from b us) ≡ true → list_any (λ u. has_value u v) us ≡ true
@@ -143,7 +149,10 @@ comma_has v c = tree_cases (λ u. comma u ≡ Some c → same (value.Place c.id)
 
 comma_step : (b : Option Token) (u : Tree) (us : List Tree) (v : Value) (o : Option Token) → comma u ≡ o
     → ((c : Option Token) → list_any (comma_is v) (members_from c us) ≡ true → (is_id (id_of c) v ≡ true) ⊎ (list_any (λ u. has_value u v) us ≡ true))
-    → list_any (comma_is v) (elim o as (λ o. List Member) [ None ↦ record { comma = b; tree = u } ∷ members_from None us | Some c ↦ members_from (Some c) us ]) ≡ true
+    → list_any (comma_is v) (elim o as (λ o. List Member) [
+      | None ↦ record { comma = b; tree = u } ∷ members_from None us
+      | Some c ↦ members_from (Some c) us
+    ]) ≡ true
     → (is_id (id_of b) v ≡ true) ⊎ (list_any (λ u. has_value u v) (u ∷ us) ≡ true)
 comma_step b u us v None e ih h = ⊎_elim (λ a. inl a) (λ a. ⊎_elim (λ n. absurd (cc)) (λ r. inr (or_right _ _ r)) (ih None a))
     (or_cases (is_id (id_of b) v) (list_any (comma_is v) (members_from None us)) h)
@@ -200,7 +209,8 @@ module _ (decls : List VarDecl) (tokens : List PatToken) (env : Environment) (x 
   meta_run (kind.Meta k) a t h s = value_law (declared_as decls a.text) t h s
   meta_run _ a t h s = absurd (cc)
 
-  run_law : (a : Token) (ms : List Member) (k : ℕ) → Given l (env x) Q ms → run_fits decls tokens env l (Some a) (take k ms) ≡ true → is_own decls tokens x a ≡ true → Q
+  run_law : (a : Token) (ms : List Member) (k : ℕ) → Given l (env x) Q ms
+      → run_fits decls tokens env l (Some a) (take k ms) ≡ true → is_own decls tokens x a ≡ true → Q
   run_law a ms k g h s = ⊎_elim
       (λ m. g.runs 0 k (meta_run a.kind a (run l (take k ms)) (and_left _ _ h) m))
       (λ p.
@@ -222,13 +232,15 @@ module _ (decls : List VarDecl) (tokens : List PatToken) (env : Environment) (x 
   member_law c ms k false law g h s = g.member (any_take (tree_has (env x)) ms k (single_law c (take k ms) law h s))
 
   abbrev RunsLaw : List Tree → Type 0
-  RunsLaw cs = (before : Option Token) (ms : List Member) → Given l (env x) Q ms → runs_from decls tokens env l before (map (piece decls tokens env) cs) ms ≡ true
+  RunsLaw cs = (before : Option Token) (ms : List Member) → Given l (env x) Q ms
+      → runs_from decls tokens env l before (map (piece decls tokens env) cs) ms ≡ true
       → (before_sure before || any_sure decls tokens env x cs) ≡ true → Q
 
   runs_step : (c : Tree) (cs : List Tree) → Law decls tokens env x c → RunsLaw cs → (before : Option Token) (ms : List Member) (o : Option Token) → comma c ≡ o
       → Given l (env x) Q ms
       → elim o as (λ o. Bool) [
-        | None ↦ some_below (λ k. takes decls tokens env l before (piece decls tokens env c) (take k ms) && runs_from decls tokens env l None (map (piece decls tokens env) cs) (drop k ms)) (suc (length ms))
+        | None ↦ some_below (λ k. takes decls tokens env l before (piece decls tokens env c) (take k ms)
+            && runs_from decls tokens env l None (map (piece decls tokens env) cs) (drop k ms)) (suc (length ms))
         | Some d ↦ comma_fits decls tokens env before [] && runs_from decls tokens env l (Some d) (map (piece decls tokens env) cs) ms
       ] ≡ true
       → (before_sure before || (is_sure decls tokens x c || any_sure decls tokens env x cs)) ≡ true → Q
@@ -236,7 +248,8 @@ module _ (decls : List VarDecl) (tokens : List PatToken) (env : Environment) (x 
       let r = below_elim _ (suc (length ms)) h in
       ⊎_elim (λ a. comma_law before ms r.0 g (and_left _ _ (and_left _ _ r.2)) a)
       (λ b. ⊎_elim (λ a. member_law c ms r.0 (is_wild l (piece decls tokens env c).token) law g (and_right _ _ (and_left _ _ r.2)) a)
-      (λ a. ih None (drop r.0 ms) (given_drop l (env x) Q ms r.0 g) (and_right _ _ r.2) a) (or_cases (is_sure decls tokens x c) (any_sure decls tokens env x cs) b))
+      (λ a. ih None (drop r.0 ms) (given_drop l (env x) Q ms r.0 g) (and_right _ _ r.2) a)
+      (or_cases (is_sure decls tokens x c) (any_sure decls tokens env x cs) b))
       (or_cases (before_sure before) (is_sure decls tokens x c || any_sure decls tokens env x cs) s)
   runs_step c cs law ih before ms (Some d) e g h s =
       ⊎_elim (λ a. comma_law before ms 0 g (and_left _ _ h) a)
@@ -259,7 +272,8 @@ module _ (decls : List VarDecl) (tokens : List PatToken) (env : Environment) (x 
       (λ b h s. let f = sym (ap (kids_fit (list_fits decls tokens env l) l (map (piece decls tokens env) cs)) (out-Leaf b)) ∙ h in absurd (cc))
       (λ k us h s.
       let f = sym (ap (kids_fit (list_fits decls tokens env l) l (map (piece decls tokens env) cs)) (out-Branch k us)) ∙ h in
-      let n : has_value (Branch k us) (env x) ≡ has_value (Branch l us) (env x) = ap (λ j. has_value (Branch j us) (env x)) (sym (label-equal l k (and_left _ _ f))) in
+      let n : has_value (Branch k us) (env x) ≡ has_value (Branch l us) (env x) =
+      ap (λ j. has_value (Branch j us) (env x)) (sym (label-equal l k (and_left _ _ f))) in
       n ∙ runs_law decls tokens env x l (has_value (Branch l us) (env x) ≡ true) cs laws None (members us) (given_members l us (env x) e) (and_right _ _ f) s)
 
   -- if the form fits the tree, each of its sure variables has a value of the tree

@@ -1,5 +1,6 @@
 -- The values of a tree, by its parts: itself, its children, its runs, and its tokens.
-use Rattle.std.proofs.Common.{◌≡◌, ℕ, suc, zero, Bool, true, false, ◌&&◌, ◌||◌, refl, sym, ap, ◌∙◌, List, [], ◌∷◌, ◌++◌, append_assoc, map, take, drop, Some, slice_get, inl, inr, ◌⊎◌, ⊎_elim}
+use Rattle.std.proofs.Common.{◌≡◌, ℕ, suc, zero, Bool, true, false, ◌&&◌, ◌||◌, refl, sym, ap, ◌∙◌, List, [], ◌∷◌, ◌++◌}
+use Rattle.std.proofs.Common.{append_assoc, map, take, drop, Some, slice_get, inl, inr, ◌⊎◌, ⊎_elim}
 use Rattle.std.specs.List.{list_any}
 use Rattle.std.proofs.lemmas.List.Folds.{list_any-append}
 use Rattle.c_terms.specs.declared.token.Token.{Token}
@@ -121,11 +122,13 @@ after_any : (q : Tree → Bool) (l : Label) (before : List Member) (m : Member) 
     → list_any q (runs_after l before (m ∷ more ++ after)) ≡ true
 after_any q l before m [] after h = or_left _ _ h
 after_any q l before m (k ∷ more) after h =
-    or_right (q (run l (before ++ m ∷ []))) _ (after_any q l (before ++ m ∷ []) k more after (ap (λ ms. q (run l ms)) (append_assoc before (m ∷ []) (k ∷ more)) ∙ h))
+    or_right (q (run l (before ++ m ∷ []))) _
+    (after_any q l (before ++ m ∷ []) k more after (ap (λ ms. q (run l ms)) (append_assoc before (m ∷ []) (k ∷ more)) ∙ h))
 
 from_any : (q : Tree → Bool) (l : Label) (before : List Member) (m : Member) (more after : List Member) → q (run l (m ∷ more)) ≡ true
     → list_any q (runs_from l (before ++ m ∷ more ++ after)) ≡ true
-from_any q l [] m more after h = list_any-append q (runs_after l [] (m ∷ more ++ after)) (runs_from l (more ++ after)) ∙ or_left _ _ (after_any q l [] m more after h)
+from_any q l [] m more after h = list_any-append q (runs_after l [] (m ∷ more ++ after)) (runs_from l (more ++ after))
+    ∙ or_left _ _ (after_any q l [] m more after h)
 from_any q l (b ∷ before) m more after h =
     list_any-append q (runs_after l [] (b ∷ before ++ m ∷ more ++ after)) (runs_from l (before ++ m ∷ more ++ after))
     ∙ or_right (list_any q (runs_after l [] (b ∷ before ++ m ∷ more ++ after))) _ (from_any q l before m more after h)

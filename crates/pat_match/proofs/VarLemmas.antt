@@ -60,10 +60,12 @@ module _ (decls : List VarDecl) (tokens : List PatToken) (t : Var → Bool) wher
       (λ l cs h. ap (λ x. comma_vars decls tokens t (comma_at x)) (out-Branch l cs))
 
   -- the comma at a place of a list
-  pub comma-at : (fs : List Tree) (k : ℕ) (x : Tree) (c : Token) → k < length fs → x ≡ get_or fs k x → Some c ≡ comma x → list_all (form_vars decls tokens t) fs ≡ true
+  pub comma-at : (fs : List Tree) (k : ℕ) (x : Tree) (c : Token) → k < length fs → x ≡ get_or fs k x → Some c ≡ comma x
+      → list_all (form_vars decls tokens t) fs ≡ true
       → comma_vars decls tokens t (Some c) ≡ true
   comma-at fs k x c lt e s h = ap (comma_vars decls tokens t) s ∙ comma-one x (all_at (form_vars decls tokens t) fs k x lt e h)
 
   -- the children of a branch
-  pub kids-vars : (f : Tree) (l : Label) (cs ds : List Tree) → f ≡ Branch l cs → ds ≡ cs → form_vars decls tokens t f ≡ true → list_all (form_vars decls tokens t) ds ≡ true
+  pub kids-vars : (f : Tree) (l : Label) (cs ds : List Tree) → f ≡ Branch l cs → ds ≡ cs → form_vars decls tokens t f ≡ true
+      → list_all (form_vars decls tokens t) ds ≡ true
   kids-vars f l cs ds e g h = ap (list_all (form_vars decls tokens t)) g ∙ sym (ap (form_vars decls tokens t) e ∙ vars-Branch l cs) ∙ h

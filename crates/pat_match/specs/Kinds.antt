@@ -1,6 +1,6 @@
 -- Kinds of trees: which trees a metavariable of a kind may stand for, and which names it excepts.
-use Rattle.std.specs.Prelude.{ℕ, Bool, true, false, ◌&&◌, ◌||◌, nat_lt, nat_eq, List}
-use Rattle.std.specs.List.{list_any, list_all}
+use Rattle.std.specs.Prelude.{ℕ, Bool, true, false, ◌&&◌, ◌||◌, List}
+use Rattle.std.specs.List.{list_any}
 use Rattle.c_terms.specs.declared.token.Token.{Token}
 use Rattle.c_terms.specs.declared.token.TokenKind.{TokenKind}
 use Rattle.c_terms.specs.declared.token.TokenKind.TheVariants as kind
@@ -10,6 +10,7 @@ use Rattle.c_terms.specs.declared.label.Label.{Label}
 use Rattle.c_terms.specs.declared.label.Label.TheVariants as label
 use Rattle.c_terms.specs.declared.tree.Tree.{Tree}
 use Rattle.c_terms.specs.declared.tree.Tree.TheOpen.{Tree-F}
+use Rattle.c_terms.specs.Constants.{is_constant_name, is_strings}
 use Rattle.c_terms.specs.Same.{same_bytes, same_token}
 use Rattle.c_terms.specs.Shapes.{is_operand, is_expression_label, is_type_label, is_statement_label}
 
@@ -22,21 +23,6 @@ is_literal kind.Number = true
 is_literal kind.Char = true
 is_literal kind.Str = true
 is_literal _ = false
-
--- `A` to `Z`
-abbrev pub is_capital : ℕ → Bool
-is_capital c = nat_lt 64 c && nat_lt c 91
-
--- a capital letter, a digit or `_`
-abbrev pub is_constant_byte : ℕ → Bool
-is_constant_byte c = is_capital c || ((nat_lt 47 c && nat_lt c 58) || nat_eq c 95)
-
-abbrev pub is_constant_name : List ℕ → Bool
-is_constant_name text = list_all is_constant_byte text && list_any is_capital text
-
-abbrev pub is_strings : Label → Bool
-is_strings label.Strings = true
-is_strings _ = false
 
 abbrev pub token_is_of : MetaKind → Token → Bool
 token_is_of meta.Expr t = is_operand t.kind

@@ -1,6 +1,7 @@
 -- Rows: for each number of members that a list's first children may have taken, the environments in which the other
 -- children fit the members that follow.
-use Rattle.std.specs.Prelude.{◌≡◌, ℕ, suc, zero, ◌+◌, ◌-◌, ◌<◌, Bool, false, ◌&&◌, nat_eq, nat_le, Option, None, Some, List, [], ◌∷◌, map, take, drop, length, slice_index_or}
+use Rattle.std.specs.Prelude.{◌≡◌, ℕ, suc, zero, ◌+◌, ◌-◌, ◌<◌, Bool, false, ◌&&◌, nat_eq, nat_le, Option, None, Some, List, []}
+use Rattle.std.specs.Prelude.{◌∷◌, map, take, drop, length, slice_index_or}
 use Rattle.std.specs.List.{list_any, list_all}
 use Rattle.c_terms.specs.declared.token.Token.{Token}
 use Rattle.c_terms.specs.declared.label.Label.{Label}

@@ -1,5 +1,6 @@
 -- Where a form is matched against a node: heads by their own tokens, braces, statement variables, expression parts.
-use Rattle.std.specs.Prelude.{ℕ, suc, ◌-◌, Bool, true, false, ◌&&◌, ◌||◌, not, Option, Some, None, List, [], ◌∷◌, ◌++◌, map, length, slice_get, if◌then◌else◌, codes}
+use Rattle.std.specs.Prelude.{ℕ, suc, ◌-◌, Bool, true, false, ◌&&◌, ◌||◌, not, Option, Some, None, List, [], ◌∷◌, ◌++◌, map}
+use Rattle.std.specs.Prelude.{length, slice_get, if◌then◌else◌, codes}
 use Rattle.c_terms.specs.declared.token.Token.{Token}
 use Rattle.c_terms.specs.declared.label.Label.{Label}
 use Rattle.c_terms.specs.declared.tree.Tree.{Tree, out-Tree}

@@ -4,7 +4,7 @@ ghost use Rattle.smpl_terms.specs.Environments.{total};
 ghost use Rattle.c_terms.specs.declared.tree.Tree.{out-Tree};
 ghost use Rattle.cfg_build.specs.CfgGraph.Own as own;
 ghost use Rattle.pat_match.specs.Spots as at;
-ghost use Rattle.pat_match.specs.Matching as of;
+ghost use Rattle.pat_match.specs.Matching as spec;
 
 use crate::role::{NodeRole, may_fit, role_of};
 use crate::spots::fit_at;
@@ -37,7 +37,7 @@ pub fn fits_seat(
     requires within { i < length p.now.forms }
     requires form { form.now ≡ slice_index_or p.now.forms i form.now }
     ensures { IfOk result (λ r. r
-        ≡ of.fits_seat decls.now tokens.now (total env.now) p.now role form.now tree.now) }
+        ≡ spec.fits_seat decls.now tokens.now (total env.now) p.now role form.now tree.now) }
 {
     let set = fit_at(alloc, decls, tokens, p.spot, role.kind, form, tree)?;
     let fits = denotes(&set, env);
@@ -56,7 +56,7 @@ fn form_at(
 ) -> Result<Option<u32>, NoMemory>
     requires few { length p.now.forms < 2 ^ 32 }
     ensures { IfOk result (λ o. o
-        ≡ of.form_at decls.now tokens.now (total env.now) p.now role tree.now) }
+        ≡ spec.form_at decls.now tokens.now (total env.now) p.now role tree.now) }
 {
     let forms = p.forms.as_slice();
     for i in 0..forms.len() {
@@ -73,7 +73,7 @@ fn put_form(
     path: &[u32],
     form: Option<u32>,
 ) -> Result<(), NoMemory>
-    ensures { IfOk result (λ _. found.new.items ≡ found.old.items ++ of.put_form path.now form) }
+    ensures { IfOk result (λ _. found.new.items ≡ found.old.items ++ spec.put_form path.now form) }
 {
     match form {
         None => Ok(()),
@@ -100,7 +100,7 @@ fn put_part(
 ) -> Result<(), NoMemory>
     requires few { length p.now.forms < 2 ^ 32 }
     ensures { IfOk result (λ _. found.new.items ≡ found.old.items
-        ++ (if asked then of.put_form path.now (of.form_at decls.now tokens.now (total env.now) p.now role tree.now)
+        ++ (if asked then spec.put_form path.now (spec.form_at decls.now tokens.now (total env.now) p.now role tree.now)
         else [])) }
 {
     if !asked {
@@ -127,7 +127,7 @@ fn put_child(
 ) -> Result<(), NoMemory>
     requires few { length p.now.forms < 2 ^ 32 }
     ensures found { OnOk result (found.new.items ≡ found.old.items
-        ++ of.aligned_at decls.now tokens.now (total env.now)
+        ++ spec.aligned_at decls.now tokens.now (total env.now)
         p.now role above.old.items (at.parts_of_child label i child.now)) }
     ensures above { OnOk result (above.new.items ≡ above.old.items) }
 {
@@ -179,7 +179,7 @@ fn put_own(
 ) -> Result<(), NoMemory>
     requires few { length p.now.forms < 2 ^ 32 }
     ensures found { OnOk result (found.new.items ≡ found.old.items
-        ++ of.aligned_at decls.now tokens.now (total env.now)
+        ++ spec.aligned_at decls.now tokens.now (total env.now)
         p.now role above.old.items (if own then at.parts_of_child label i child.now else [])) }
     ensures above { OnOk result (above.new.items ≡ above.old.items) }
 {
@@ -205,7 +205,7 @@ fn align_own_parts(
 ) -> Result<Vec<Alignment>, NoMemory>
     requires few { length p.now.forms < 2 ^ 32 }
     ensures { IfOk result (λ r. r.items
-        ≡ of.aligned_at decls.now tokens.now (total env.now) p.now role path.now
+        ≡ spec.aligned_at decls.now tokens.now (total env.now) p.now role path.now
         (at.own_parts_from (own.is_own role.kind label (length children.now)) label 0 children.now)) }
 {
     let mut found = Vec::new(alloc);
@@ -242,7 +242,7 @@ fn align_inside(
 ) -> Result<Vec<Alignment>, NoMemory>
     requires few { length p.now.forms < 2 ^ 32 }
     ensures { IfOk result (λ r. r.items
-        ≡ of.aligned_at decls.now tokens.now (total env.now) p.now role path.now
+        ≡ spec.aligned_at decls.now tokens.now (total env.now) p.now role path.now
         (at.own_parts role.kind (out-Tree tree.now))) }
 {
     match tree {
@@ -266,7 +266,7 @@ fn align_whole(
 ) -> Result<Vec<Alignment>, NoMemory>
     requires few { length p.now.forms < 2 ^ 32 }
     ensures { IfOk result (λ r. r.items
-        ≡ of.put_form path.now (of.form_at decls.now tokens.now (total env.now) p.now role tree.now)) }
+        ≡ spec.put_form path.now (spec.form_at decls.now tokens.now (total env.now) p.now role tree.now)) }
 {
     let mut found = Vec::new(alloc);
     let form = form_at(alloc, p, decls, tokens, role, tree, env)?;
@@ -289,7 +289,7 @@ pub fn align(
 ) -> Result<Vec<Alignment>, NoMemory>
     requires few { length p.now.forms < 2 ^ 32 }
     ensures exact { IfOk result (λ r. r.items
-        ≡ of.aligns decls.now tokens.now (total env.now) p.now node.now) }
+        ≡ spec.aligns decls.now tokens.now (total env.now) p.now node.now) }
 {
     let tree = node.tree.as_tree();
     let steps = node.path.steps(alloc)?;

@@ -3,7 +3,7 @@ ghost use Rattle.std.specs.Prelude.{◌≡◌};
 ghost use Rattle.std.specs.Option.{option_copied};
 ghost use Rattle.c_terms.specs.declared.tree.Tree.{out-Tree};
 ghost use Rattle.c_terms.specs.Lists as lists;
-ghost use Rattle.pat_match.specs.Spots as of;
+ghost use Rattle.pat_match.specs.Spots as spec;
 
 use c_terms::{Token, TokenKind, Tree, child, same_text};
 use cfg_build::NodeKind;
@@ -18,19 +18,19 @@ fn is_punct(kind: TokenKind) -> bool
 }
 
 pub fn is_open_brace(token: &Token) -> bool
-    ensures { result ≡ of.is_open_brace token.now }
+    ensures { result ≡ spec.is_open_brace token.now }
 {
     is_punct(token.kind) && same_text(token.text.as_bytes(), b"{")
 }
 
 pub fn is_close_brace(token: &Token) -> bool
-    ensures { result ≡ of.is_close_brace token.now }
+    ensures { result ≡ spec.is_close_brace token.now }
 {
     is_punct(token.kind) && same_text(token.text.as_bytes(), b"}")
 }
 
 fn last_child(tree: &Tree) -> Option<&Tree>
-    ensures { option_copied result ≡ of.last_at (out-Tree tree.now) }
+    ensures { option_copied result ≡ spec.last_at (out-Tree tree.now) }
 {
     match tree {
         Tree::Leaf(_) => None,
@@ -45,7 +45,7 @@ fn last_child(tree: &Tree) -> Option<&Tree>
 }
 
 pub fn open_brace(kind: NodeKind, tree: &Tree) -> Option<&Tree>
-    ensures { option_copied result ≡ of.open_brace kind tree.now }
+    ensures { option_copied result ≡ spec.open_brace kind tree.now }
 {
     match kind {
         NodeKind::OpenBrace => child(tree, 0),
@@ -54,7 +54,7 @@ pub fn open_brace(kind: NodeKind, tree: &Tree) -> Option<&Tree>
 }
 
 pub fn close_brace(kind: NodeKind, tree: &Tree) -> Option<&Tree>
-    ensures { option_copied result ≡ of.close_brace kind tree.now }
+    ensures { option_copied result ≡ spec.close_brace kind tree.now }
 {
     match kind {
         NodeKind::CloseBrace => last_child(tree),

@@ -18,7 +18,7 @@ ghost use Rattle.pat_match.specs.Matching.{var_passes, meta_passes};
 ghost use Rattle.pat_match.specs.Vars.{comma_vars, leaf_vars, form_vars};
 ghost use Rattle.pat_match.specs.Rows.{comma_before, first_is_wild};
 ghost use Rattle.pat_match.specs.Rows as row;
-ghost use Rattle.pat_match.specs.Runs as of;
+ghost use Rattle.pat_match.specs.Runs as spec;
 
 use crate::sets::both;
 use crate::tokens::{first_id, is_bare_token, is_tree, with_stand};
@@ -121,7 +121,7 @@ pub fn run_tree(alloc: Global, label: Label, members: &[ListMember]) -> Result<T
 }
 
 fn is_arguments(label: Label) -> bool
-    ensures { result ≡ of.is_arguments label }
+    ensures { result ≡ spec.is_arguments label }
 {
     match label {
         Label::Args => true,
@@ -130,7 +130,7 @@ fn is_arguments(label: Label) -> bool
 }
 
 fn is_parameters(label: Label) -> bool
-    ensures { result ≡ of.is_parameters label }
+    ensures { result ≡ spec.is_parameters label }
 {
     match label {
         Label::Params => true,
@@ -139,7 +139,7 @@ fn is_parameters(label: Label) -> bool
 }
 
 fn is_list_kind(kind: MetaKind, label: Label) -> bool
-    ensures { result ≡ of.is_list_kind kind label }
+    ensures { result ≡ spec.is_list_kind kind label }
 {
     match kind {
         MetaKind::ExprList => is_arguments(label),
@@ -149,7 +149,7 @@ fn is_list_kind(kind: MetaKind, label: Label) -> bool
 }
 
 fn is_wild_kind(label: Label, kind: TokenKind) -> bool
-    ensures { result ≡ of.is_wild_kind label kind }
+    ensures { result ≡ spec.is_wild_kind label kind }
 {
     match kind {
         TokenKind::Dots => true,
@@ -160,7 +160,7 @@ fn is_wild_kind(label: Label, kind: TokenKind) -> bool
 
 /// Whether the member of a pattern's list takes any run of members. Takes no memory.
 pub fn is_wild(label: Label, form: &Tree) -> bool
-    ensures { result ≡ of.is_wild label (leaf_of (out-Tree form.now)) }
+    ensures { result ≡ spec.is_wild label (leaf_of (out-Tree form.now)) }
 {
     match form {
         Tree::Leaf(token) => is_wild_kind(label, token.kind),
@@ -185,7 +185,7 @@ fn fit_comma(
     run: &[ListMember],
 ) -> Result<EnvSet, NoMemory>
     ensures meaning { IfOk result (λ r. (env : Environment) → set_denotes r env
-        ≡ of.comma_fits decls.now tokens.now env (Some comma.now) run.now) }
+        ≡ spec.comma_fits decls.now tokens.now env (Some comma.now) run.now) }
     ensures vars { IfOk result (λ r. (t : Var → Bool)
         → comma_vars decls.now tokens.now t (Some comma.now) ≡ true →
         set_vars t r ≡ true) }
@@ -208,7 +208,7 @@ pub fn fit_comma_before(
 ) -> Result<EnvSet, NoMemory>
     requires within { i ≤ length forms.now }
     ensures meaning { IfOk result (λ r. (env : Environment) → set_denotes r env
-        ≡ of.comma_fits decls.now tokens.now env (comma_before forms.now i) run.now) }
+        ≡ spec.comma_fits decls.now tokens.now env (comma_before forms.now i) run.now) }
     ensures vars { IfOk result (λ r. (t : Var → Bool)
         → list_all (form_vars decls.now tokens.now t) forms.now ≡ true →
         set_vars t r ≡ true) }
@@ -225,7 +225,7 @@ pub fn fit_comma_before(
 /// Whether the pattern's comma directly before its i-th child may be aligned with nothing. Takes no memory.
 pub fn is_bare_before(tokens: &[PatToken], forms: &[Tree], i: usize) -> bool
     requires within { i ≤ length forms.now }
-    ensures { result ≡ of.is_bare_comma tokens.now (comma_before forms.now i) }
+    ensures { result ≡ spec.is_bare_comma tokens.now (comma_before forms.now i) }
 {
     if i == 0 {
         return true;
@@ -326,7 +326,7 @@ fn takes_all(tokens: &[PatToken], token: &Token) -> bool
 /// Whether the member of a pattern's list takes every run in every environment. Takes no memory.
 fn takes_every(tokens: &[PatToken], form: &Tree) -> bool
     ensures { result ≡ true → (decls : List VarDecl) (env : Environment) (label : Label)
-        (run : List Member) → of.run_fits decls tokens.now env label (leaf_of (out-Tree form.now)) run ≡ true }
+        (run : List Member) → spec.run_fits decls tokens.now env label (leaf_of (out-Tree form.now)) run ≡ true }
 {
     match form {
         Tree::Leaf(token) => takes_all(tokens, token),
@@ -344,7 +344,7 @@ fn fit_dots(
 ) -> Result<EnvSet, NoMemory>
     requires { token.now.kind ≡ token_kind.Dots }
     ensures meaning { IfOk result (λ r. (label : Label) (env : Environment) → set_denotes r env
-        ≡ of.run_fits decls.now tokens.now env label (Some token.now) run.now) }
+        ≡ spec.run_fits decls.now tokens.now env label (Some token.now) run.now) }
     ensures vars { IfOk result (λ r. (t : Var → Bool) →
         leaf_vars decls.now tokens.now t (Some token.now) ≡ true → set_vars t r ≡ true) }
 {
@@ -364,7 +364,7 @@ fn fit_run(
     run: &[ListMember],
 ) -> Result<EnvSet, NoMemory>
     ensures meaning { IfOk result (λ r. (env : Environment) → set_denotes r env
-        ≡ of.run_fits decls.now tokens.now env label (leaf_of (out-Tree form.now)) run.now) }
+        ≡ spec.run_fits decls.now tokens.now env label (leaf_of (out-Tree form.now)) run.now) }
     ensures vars { IfOk result (λ r. (t : Var → Bool) →
         leaf_vars decls.now tokens.now t (leaf_of (out-Tree form.now)) ≡ true → set_vars t r ≡ true) }
 {
@@ -389,9 +389,9 @@ fn fit_run(
 /// memory.
 pub fn is_free(tokens: &[PatToken], forms: &[Tree], i: usize, form: &Tree) -> bool
     requires within { i ≤ length forms.now }
-    ensures comma { result ≡ true → of.is_bare_comma tokens.now (comma_before forms.now i) ≡ true }
+    ensures comma { result ≡ true → spec.is_bare_comma tokens.now (comma_before forms.now i) ≡ true }
     ensures run { result ≡ true → (decls : List VarDecl) (env : Environment) (label : Label)
-        (run : List Member) → of.run_fits decls tokens.now env label (leaf_of (out-Tree form.now)) run ≡ true }
+        (run : List Member) → spec.run_fits decls tokens.now env label (leaf_of (out-Tree form.now)) run ≡ true }
 {
     takes_every(tokens, form) && is_bare_before(tokens, forms, i)
 }
@@ -410,8 +410,8 @@ pub fn fit_wild(
 ) -> Result<EnvSet, NoMemory>
     requires within { i ≤ length forms.now }
     ensures meaning { IfOk result (λ r. (env : Environment) → set_denotes r env
-        ≡ (of.comma_fits decls.now tokens.now env (comma_before forms.now i) run.now
-        && of.run_fits decls.now tokens.now env label (leaf_of (out-Tree form.now)) run.now)) }
+        ≡ (spec.comma_fits decls.now tokens.now env (comma_before forms.now i) run.now
+        && spec.run_fits decls.now tokens.now env label (leaf_of (out-Tree form.now)) run.now)) }
     ensures vars { IfOk result (λ r. (t : Var → Bool)
         → list_all (form_vars decls.now tokens.now t) forms.now ≡ true →
         form_vars decls.now tokens.now t form.now ≡ true → set_vars t r ≡ true) }

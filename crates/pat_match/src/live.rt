@@ -4,7 +4,7 @@ ghost use Rattle.std.specs.List.{list_any, list_all};
 ghost use Rattle.c_terms.specs.declared.tree.Tree.{out-Tree};
 ghost use Rattle.c_terms.specs.Trees.{leaves};
 ghost use Rattle.smpl_patch.specs.Patterns.{declared_as};
-ghost use Rattle.pat_match.specs.Matching as of;
+ghost use Rattle.pat_match.specs.Matching as spec;
 
 use c_terms::{Token, TokenKind, Tree};
 use smpl_patch::{PatToken, Pattern, Spot, VarDecl, declared_as, is_held_sure};
@@ -19,7 +19,7 @@ fn keeps(
     form: &Tree,
     x: &Var,
 ) -> bool
-    ensures { result ≡ of.keeps decls.now tokens.now spot first.now form.now x.now }
+    ensures { result ≡ spec.keeps decls.now tokens.now spot first.now form.now x.now }
 {
     !is_held_sure(decls, tokens, spot, x, first) || is_held_sure(decls, tokens, spot, x, form)
 }
@@ -32,8 +32,8 @@ fn keeps_meta(
     form: &Tree,
     token: &Token,
 ) -> bool
-    ensures { result ≡ of.meta_passes decls.now
-        (of.keeps decls.now tokens.now spot first.now form.now)
+    ensures { result ≡ spec.meta_passes decls.now
+        (spec.keeps decls.now tokens.now spot first.now form.now)
         token.now.kind token.now }
 {
     match token.kind {
@@ -53,7 +53,7 @@ fn keeps_all(
     form: &Tree,
     vars: &[Var],
 ) -> bool
-    ensures { result ≡ list_all (of.keeps decls.now tokens.now spot first.now form.now) vars.now }
+    ensures { result ≡ list_all (spec.keeps decls.now tokens.now spot first.now form.now) vars.now }
 {
     for x in vars {
         if !keeps(decls, tokens, spot, first, form, x) {
@@ -71,7 +71,7 @@ fn keeps_positions(
     form: &Tree,
     id: u64,
 ) -> bool
-    ensures { result ≡ of.positions_pass (of.keeps decls.now tokens.now spot first.now form.now)
+    ensures { result ≡ spec.positions_pass (spec.keeps decls.now tokens.now spot first.now form.now)
         (slice_get tokens.now id) }
 {
     match tokens.get(id as usize) {
@@ -89,8 +89,8 @@ fn keeps_part(
     form: &Tree,
     part: &Tree,
 ) -> bool
-    ensures { result ≡ list_all (of.token_passes decls.now tokens.now
-        (of.keeps decls.now tokens.now spot first.now form.now)) (leaves part.now) }
+    ensures { result ≡ list_all (spec.token_passes decls.now tokens.now
+        (spec.keeps decls.now tokens.now spot first.now form.now)) (leaves part.now) }
 {
     match part {
         Tree::Leaf(token) => {
@@ -110,7 +110,7 @@ fn keeps_part(
 
 /// Whether the form has the sure variables of the pattern's first form. Takes no memory.
 fn is_live(decls: &[VarDecl], tokens: &[PatToken], p: &Pattern, form: &Tree) -> bool
-    ensures { result ≡ of.is_live_in decls.now tokens.now p.now form.now }
+    ensures { result ≡ spec.is_live_in decls.now tokens.now p.now form.now }
 {
     match p.forms.as_slice() {
         [first, ..] => keeps_part(decls, tokens, p.spot, first, form, first),
@@ -129,7 +129,7 @@ pub fn is_live_at(
 ) -> bool
     requires within { i < length p.now.forms }
     requires form { form.now ≡ slice_index_or p.now.forms i form.now }
-    ensures { result ≡ of.is_live_in decls.now tokens.now p.now form.now }
+    ensures { result ≡ spec.is_live_in decls.now tokens.now p.now form.now }
 {
     if i == 0 {
         return true;

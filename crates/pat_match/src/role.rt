@@ -2,13 +2,12 @@
 ghost use Rattle.std.specs.Prelude.{◌≡◌, ◌<◌, ◌&&◌, length, slice_index_or};
 ghost use Rattle.c_terms.specs.declared.tree.Tree.{out-Tree};
 ghost use Rattle.pat_match.specs.Matching.{is_live_in};
-ghost use Rattle.pat_match.specs.Roles as of;
+ghost use Rattle.pat_match.specs.Roles as spec;
 
 use crate::live::is_live_at;
-use crate::spots::is_statement_kind;
 use c_terms::Tree;
 use cfg_build::{NodeKind, NodeLabel};
-use smpl_patch::{PatToken, Pattern, VarDecl};
+use smpl_patch::{PatToken, Pattern, VarDecl, is_statement_kind};
 
 /// The role of a node for the forms that are matched against it.
 #[derive(Clone, Copy, Debug, PartialEq, Eq)]
@@ -20,7 +19,7 @@ pub struct NodeRole {
 
 /// Returns the role of a node of this kind whose statement or block is at this path from the item. Takes no memory.
 pub fn role_at(kind: NodeKind, path: &[u32]) -> NodeRole
-    ensures { result ≡ of.role_at kind path.now }
+    ensures { result ≡ spec.role_at kind path.now }
 {
     let outermost = match kind {
         NodeKind::OpenBrace => path.len() == 1,
@@ -31,7 +30,7 @@ pub fn role_at(kind: NodeKind, path: &[u32]) -> NodeRole
 
 /// Returns the role of a node. For a `{` it reads the path, up to its second number. Takes no memory.
 pub fn role_of(node: &NodeLabel) -> NodeRole
-    ensures { result ≡ of.role_of node.now }
+    ensures { result ≡ spec.role_of node.now }
 {
     let outermost = match node.kind {
         NodeKind::OpenBrace => node.path.has_one_step(),
@@ -44,7 +43,7 @@ pub fn role_of(node: &NodeLabel) -> NodeRole
 }
 
 fn is_statement_variable(form: &Tree) -> bool
-    ensures { result ≡ of.is_statement_variable (out-Tree form.now) }
+    ensures { result ≡ spec.is_statement_variable (out-Tree form.now) }
 {
     match form {
         Tree::Leaf(token) => is_statement_kind(token.kind),
@@ -54,7 +53,7 @@ fn is_statement_variable(form: &Tree) -> bool
 
 /// Whether the form may be at a node of this role: a statement variable matches no function's own block.
 fn may_stand(role: NodeRole, form: &Tree) -> bool
-    ensures { result ≡ of.may_stand role form.now }
+    ensures { result ≡ spec.may_stand role form.now }
 {
     !(role.outermost && is_statement_variable(form))
 }
@@ -70,7 +69,7 @@ pub fn may_fit(
 ) -> bool
     requires within { i < length p.now.forms }
     requires form { form.now ≡ slice_index_or p.now.forms i form.now }
-    ensures { result ≡ (is_live_in decls.now tokens.now p.now form.now && of.may_stand role form.now) }
+    ensures { result ≡ (is_live_in decls.now tokens.now p.now form.now && spec.may_stand role form.now) }
 {
     is_live_at(decls, tokens, p, i, form) && may_stand(role, form)
 }

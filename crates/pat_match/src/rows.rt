@@ -9,7 +9,7 @@ ghost use Rattle.env_sets.specs.Sets.{set_denotes, set_vars};
 ghost use Rattle.pat_match.specs.Runs.{is_wild};
 ghost use Rattle.pat_match.specs.Fitting.{leaf_of};
 ghost use Rattle.pat_match.specs.Vars.{form_vars};
-ghost use Rattle.pat_match.specs.Rows as of;
+ghost use Rattle.pat_match.specs.Rows as spec;
 
 use crate::lists::{ListMember, fit_wild, is_free};
 use crate::sets::{both, is_none, put_set, union};
@@ -27,11 +27,11 @@ pub struct RowEntry {
 
 /// Adds an entry, unless its set is evidently empty.
 pub fn push_entry(row: &mut Vec<RowEntry>, taken: usize, set: EnvSet) -> Result<(), NoMemory>
-    ensures meaning { IfOk result (λ _. (n : ℕ) (env : Environment) → of.row_at row.new.items n env
-        ≡ (of.row_at row.old.items n env || (nat_eq taken n && set_denotes set env))) }
-    ensures vars { IfOk result (λ _. (t : Var → Bool) → of.row_vars t row.old.items ≡ true
+    ensures meaning { IfOk result (λ _. (n : ℕ) (env : Environment) → spec.row_at row.new.items n env
+        ≡ (spec.row_at row.old.items n env || (nat_eq taken n && set_denotes set env))) }
+    ensures vars { IfOk result (λ _. (t : Var → Bool) → spec.row_vars t row.old.items ≡ true
         → set_vars t set ≡ true →
-        of.row_vars t row.new.items ≡ true) }
+        spec.row_vars t row.new.items ≡ true) }
 {
     if is_none(&set) {
         return Ok(());
@@ -42,9 +42,9 @@ pub fn push_entry(row: &mut Vec<RowEntry>, taken: usize, set: EnvSet) -> Result<
 
 /// Returns the row when no child is left: all members are taken.
 pub fn last_row(alloc: Global, bare: bool, count: usize) -> Result<Vec<RowEntry>, NoMemory>
-    ensures meaning { IfOk result (λ r. (n : ℕ) (env : Environment) → of.row_at r.items n env
-        ≡ of.last_at bare count n) }
-    ensures vars { IfOk result (λ r. (t : Var → Bool) → of.row_vars t r.items ≡ true) }
+    ensures meaning { IfOk result (λ r. (n : ℕ) (env : Environment) → spec.row_at r.items n env
+        ≡ spec.last_at bare count n) }
+    ensures vars { IfOk result (λ r. (t : Var → Bool) → spec.row_vars t r.items ≡ true) }
 {
     let mut row = Vec::new(alloc);
     if !bare {
@@ -71,8 +71,8 @@ fn put_run(
 ) -> Result<(), NoMemory>
     requires within { i ≤ length forms.now }
     ensures meaning { IfOk result (λ _. (env : Environment) → set_denotes entries.new.items env
-        ≡ (set_denotes entries.old.items env || of.wild_entry decls.now tokens.now label
-        (of.comma_before forms.now i) form.now members.now from env entry.now)) }
+        ≡ (set_denotes entries.old.items env || spec.wild_entry decls.now tokens.now label
+        (spec.comma_before forms.now i) form.now members.now from env entry.now)) }
     ensures vars { IfOk result (λ _. (t : Var → Bool)
         → list_all (form_vars decls.now tokens.now t) forms.now ≡ true →
         form_vars decls.now tokens.now t form.now ≡ true → set_vars t entry.now.set ≡ true →
@@ -108,10 +108,10 @@ pub fn fit_some_run(
     requires left { from ≤ length members.now }
     requires wild { is_wild label (leaf_of (out-Tree form.now)) ≡ true }
     ensures meaning { IfOk result (λ r. (env : Environment) → set_denotes r env
-        ≡ of.step_at decls.now tokens.now label (of.comma_before forms.now i) form.now members.now row.now from env) }
+        ≡ spec.step_at decls.now tokens.now label (spec.comma_before forms.now i) form.now members.now row.now from env) }
     ensures vars { IfOk result (λ r. (t : Var → Bool)
         → list_all (form_vars decls.now tokens.now t) forms.now ≡ true →
-        form_vars decls.now tokens.now t form.now ≡ true → of.row_vars t row.now ≡ true → set_vars t r ≡ true) }
+        form_vars decls.now tokens.now t form.now ≡ true → spec.row_vars t row.now ≡ true → set_vars t r ≡ true) }
 {
     let mut entries = Vec::new(alloc);
     for entry in row {
@@ -145,7 +145,7 @@ fn set_at(sets: &[EnvSet], n: usize) -> &EnvSet
 fn put_entry(alloc: Global, sets: &mut Vec<EnvSet>, entry: &RowEntry) -> Result<(), NoMemory>
     ensures even { IfOk result (λ _. length sets.new.items ≡ length sets.old.items) }
     ensures meaning { IfOk result (λ _. (n : ℕ) (env : Environment) → n < length sets.old.items
-        → of.set_at sets.new.items n env ≡ (of.set_at sets.old.items n env
+        → spec.set_at sets.new.items n env ≡ (spec.set_at sets.old.items n env
         || (nat_eq entry.now.taken n && set_denotes entry.now.set env))) }
     ensures vars { IfOk result (λ _. (t : Var → Bool) → list_all (set_vars t) sets.old.items ≡ true
         → set_vars t entry.now.set ≡ true → list_all (set_vars t) sets.new.items ≡ true) }
@@ -163,7 +163,7 @@ fn put_entry(alloc: Global, sets: &mut Vec<EnvSet>, entry: &RowEntry) -> Result<
 fn no_sets(alloc: Global, count: usize) -> Result<Vec<EnvSet>, NoMemory>
     requires { count + 1 < 2 ^ 64 }
     ensures even { IfOk result (λ r. length r.items ≡ count + 1) }
-    ensures meaning { IfOk result (λ r. (n : ℕ) (env : Environment) → of.set_at r.items n env ≡ false) }
+    ensures meaning { IfOk result (λ r. (n : ℕ) (env : Environment) → spec.set_at r.items n env ≡ false) }
     ensures vars { IfOk result (λ r. (t : Var → Bool) → list_all (set_vars t) r.items ≡ true) }
 {
     let mut sets = Vec::with_capacity(alloc, count + 1)?;
@@ -178,8 +178,8 @@ fn sets_by_count(alloc: Global, row: &[RowEntry], count: usize) -> Result<Vec<En
     requires { count + 1 < 2 ^ 64 }
     ensures even { IfOk result (λ r. length r.items ≡ count + 1) }
     ensures meaning { IfOk result (λ r. (n : ℕ) (env : Environment) → n < count + 1
-        → of.set_at r.items n env ≡ of.row_at row.now n env) }
-    ensures vars { IfOk result (λ r. (t : Var → Bool) → of.row_vars t row.now ≡ true
+        → spec.set_at r.items n env ≡ spec.row_at row.now n env) }
+    ensures vars { IfOk result (λ r. (t : Var → Bool) → spec.row_vars t row.now ≡ true
         → list_all (set_vars t) r.items ≡ true) }
 {
     let mut sets = no_sets(alloc, count)?;
@@ -212,13 +212,13 @@ fn put_from(
 ) -> Result<EnvSet, NoMemory>
     requires { from < length sets.now }
     ensures set { IfOk result (λ r. (env : Environment) →
-        set_denotes r env ≡ (set_denotes set env || of.set_at sets.now from env)) }
-    ensures row { IfOk result (λ r. (n : ℕ) (env : Environment) → of.row_at out.new.items n env
-        ≡ (of.row_at out.old.items n env || (nat_eq from n && set_denotes r env))) }
+        set_denotes r env ≡ (set_denotes set env || spec.set_at sets.now from env)) }
+    ensures row { IfOk result (λ r. (n : ℕ) (env : Environment) → spec.row_at out.new.items n env
+        ≡ (spec.row_at out.old.items n env || (nat_eq from n && set_denotes r env))) }
     ensures vars { IfOk result (λ r. (t : Var → Bool) → set_vars t set ≡ true →
         list_all (set_vars t) sets.now ≡ true → set_vars t r ≡ true) }
-    ensures row_vars { IfOk result (λ r. (t : Var → Bool) → of.row_vars t out.old.items ≡ true →
-        set_vars t r ≡ true → of.row_vars t out.new.items ≡ true) }
+    ensures row_vars { IfOk result (λ r. (t : Var → Bool) → spec.row_vars t out.old.items ≡ true →
+        set_vars t r ≡ true → spec.row_vars t out.new.items ≡ true) }
 {
     let all = either(alloc, set, set_at(sets, from))?;
     let here = all.copy(alloc)?;
@@ -231,9 +231,9 @@ fn put_from(
 fn fit_every_row(alloc: Global, row: &[RowEntry], count: usize) -> Result<Vec<RowEntry>, NoMemory>
     requires { count + 1 < 2 ^ 64 }
     ensures meaning { IfOk result (λ r. (n : ℕ) (env : Environment) → n < count + 1
-        → of.row_at r.items n env ≡ of.tail_at count row.now n env) }
-    ensures vars { IfOk result (λ r. (t : Var → Bool) → of.row_vars t row.now ≡ true
-        → of.row_vars t r.items ≡ true) }
+        → spec.row_at r.items n env ≡ spec.tail_at count row.now n env) }
+    ensures vars { IfOk result (λ r. (t : Var → Bool) → spec.row_vars t row.now ≡ true
+        → spec.row_vars t r.items ≡ true) }
 {
     let sets = sets_by_count(alloc, row, count)?;
     let mut out = Vec::new(alloc);
@@ -260,12 +260,12 @@ pub fn fit_wild_row(
 ) -> Result<Vec<RowEntry>, NoMemory>
     requires within { i ≤ length forms.now }
     requires wild { is_wild label (leaf_of (out-Tree form.now)) ≡ true }
-    ensures meaning { IfOk result (λ r. of.IsStep decls.now tokens.now label
-        (of.comma_before forms.now i) form.now members.now row.now r.items) }
+    ensures meaning { IfOk result (λ r. spec.IsStep decls.now tokens.now label
+        (spec.comma_before forms.now i) form.now members.now row.now r.items) }
     ensures vars { IfOk result (λ r. (t : Var → Bool)
         → list_all (form_vars decls.now tokens.now t) forms.now ≡ true →
-        form_vars decls.now tokens.now t form.now ≡ true → of.row_vars t row.now ≡ true →
-        of.row_vars t r.items ≡ true) }
+        form_vars decls.now tokens.now t form.now ≡ true → spec.row_vars t row.now ≡ true →
+        spec.row_vars t r.items ≡ true) }
 {
     if is_free(tokens, forms, i, form) {
         return fit_every_row(alloc, row, members.len());

@@ -3,7 +3,6 @@ ghost use Rattle.std.specs.Prelude.{◌≡◌, List, true, false, map, length};
 ghost use Rattle.std.specs.List.{list_all};
 ghost use Rattle.c_terms.specs.declared.tree.Tree.{out-Tree};
 ghost use Rattle.smpl_terms.specs.Environments.{Environment};
-ghost use Rattle.smpl_patch.specs.Patterns as patterns;
 ghost use Rattle.smpl_patch.specs.declared.pattern.VarDecl.{VarDecl};
 ghost use Rattle.smpl_patch.specs.declared.pattern.PatToken.{PatToken};
 ghost use Rattle.pat_match.specs.Tokens.{leaf_fits};
@@ -12,16 +11,7 @@ ghost use Rattle.pat_match.specs.Fitting.{leaf_of, is_bare_sign, is_sign_token, 
 use crate::kinds::is_same_leaf;
 use crate::tokens::is_bare_token;
 use c_terms::{Token, TokenKind, Tree};
-use smpl_patch::PatToken;
-
-fn is_sign(kind: TokenKind) -> bool
-    ensures { result ≡ patterns.is_sign kind }
-{
-    match kind {
-        TokenKind::Pat => true,
-        _ => false,
-    }
-}
+use smpl_patch::{PatToken, is_sign};
 
 pub fn is_sign_tree(tree: &Tree) -> bool
     ensures { result ≡ is_sign_token (leaf_of (out-Tree tree.now)) }

@@ -6,7 +6,7 @@ ghost use Rattle.smpl_terms.specs.Environments.{Environment};
 ghost use Rattle.env_sets.specs.Sets.{set_denotes, set_vars};
 ghost use Rattle.pat_match.specs.Vars.{form_vars, pattern_vars};
 ghost use Rattle.pat_match.specs.Spots as at;
-ghost use Rattle.pat_match.specs.Matching as of;
+ghost use Rattle.pat_match.specs.Matching as spec;
 
 use crate::inside::fit_inside;
 use crate::role::{NodeRole, may_fit, role_of};
@@ -56,7 +56,7 @@ pub fn solve_form(
     requires within { i < length p.now.forms }
     requires form { form.now ≡ slice_index_or p.now.forms i form.now }
     ensures meaning { IfOk result (λ r. (env : Environment) → set_denotes r env ≡ list_any
-        (λ s. of.fits_seat decls.now tokens.now env p.now role form.now s.tree) (at.seats p.now.spot role.kind tree.now)) }
+        (λ s. spec.fits_seat decls.now tokens.now env p.now role form.now s.tree) (at.seats p.now.spot role.kind tree.now)) }
     ensures vars { IfOk result (λ r. (t : Var → Bool) → form_vars decls.now tokens.now t form.now
         ≡ true →
         set_vars t r ≡ true) }
@@ -87,7 +87,7 @@ pub fn solve(
     node: &NodeLabel,
 ) -> Result<EnvSet, NoMemory>
     ensures meaning { IfOk result (λ r. (env : Environment) → set_denotes r env
-        ≡ of.matches decls.now tokens.now env p.now node.now) }
+        ≡ spec.matches decls.now tokens.now env p.now node.now) }
     ensures vars { IfOk result (λ r. (t : Var → Bool) → pattern_vars decls.now tokens.now t p.now
         ≡ true →
         set_vars t r ≡ true) }

@@ -3,7 +3,6 @@ ghost use Rattle.std.specs.Prelude.{◌≡◌, Bool, true, false, not, ◌&&◌,
 ghost use Rattle.std.specs.List.{list_all};
 ghost use Rattle.c_terms.specs.declared.tree.Tree.{out-Tree};
 ghost use Rattle.c_terms.specs.Shapes.{shape_of};
-ghost use Rattle.smpl_patch.specs.Patterns.{is_statement_token};
 ghost use Rattle.smpl_terms.specs.Environments.{Environment};
 ghost use Rattle.env_sets.specs.Sets.{set_denotes, set_vars};
 ghost use Rattle.smpl_terms.specs.declared.var.Var.{Var};
@@ -11,28 +10,19 @@ ghost use Rattle.pat_match.specs.Vars.{form_vars};
 ghost use Rattle.cfg_build.specs.CfgGraph.Own as own;
 ghost use Rattle.pat_match.specs.Fitting.{piece, fits_tree, kids_fit};
 ghost use Rattle.smpl_patch.specs.declared.pattern.Spot.TheVariants as spot;
-ghost use Rattle.pat_match.specs.Spots as of;
+ghost use Rattle.pat_match.specs.Spots as spec;
 
 use crate::braces::{close_brace, is_close_brace, is_open_brace, open_brace};
 use crate::fit::fit;
 use crate::sets::{both, is_none};
-use c_terms::{Label, MetaKind, NoMemory, Shape, Token, TokenKind, Tree};
+use c_terms::{Label, NoMemory, Shape, Token, Tree};
 use cfg_build::{NodeKind, is_own};
 use env_sets::EnvSet;
-use smpl_patch::{PatToken, Spot, VarDecl};
+use smpl_patch::{PatToken, Spot, VarDecl, is_statement_kind};
 use std::alloc::Global;
 
-pub fn is_statement_kind(kind: TokenKind) -> bool
-    ensures { result ≡ is_statement_token kind }
-{
-    match kind {
-        TokenKind::Meta(MetaKind::Stmt) => true,
-        _ => false,
-    }
-}
-
 fn is_statement_node(kind: NodeKind) -> bool
-    ensures { result ≡ of.is_statement_node kind }
+    ensures { result ≡ spec.is_statement_node kind }
 {
     match kind {
         NodeKind::Simple => true,
@@ -43,7 +33,7 @@ fn is_statement_node(kind: NodeKind) -> bool
 }
 
 fn is_simple_node(kind: NodeKind) -> bool
-    ensures { result ≡ of.is_simple_node kind }
+    ensures { result ≡ spec.is_simple_node kind }
 {
     match kind {
         NodeKind::Simple => true,
@@ -52,7 +42,7 @@ fn is_simple_node(kind: NodeKind) -> bool
 }
 
 fn is_tail_node(kind: NodeKind) -> bool
-    ensures { result ≡ of.is_tail_node kind }
+    ensures { result ≡ spec.is_tail_node kind }
 {
     match kind {
         NodeKind::DoTail => true,
@@ -69,7 +59,7 @@ fn fit_open(
     tree: &Tree,
 ) -> Result<EnvSet, NoMemory>
     ensures meaning { IfOk result (λ r. (env : Environment) → set_denotes r env
-        ≡ of.option_fits (fits_tree decls.now tokens.now env form.now) (of.open_brace kind tree.now)) }
+        ≡ spec.option_fits (fits_tree decls.now tokens.now env form.now) (spec.open_brace kind tree.now)) }
     ensures vars { IfOk result (λ r. (t : Var → Bool) → form_vars decls.now tokens.now t form.now
         ≡ true →
         set_vars t r ≡ true) }
@@ -89,7 +79,7 @@ fn fit_close(
     tree: &Tree,
 ) -> Result<EnvSet, NoMemory>
     ensures meaning { IfOk result (λ r. (env : Environment) → set_denotes r env
-        ≡ of.option_fits (fits_tree decls.now tokens.now env form.now) (of.close_brace kind tree.now)) }
+        ≡ spec.option_fits (fits_tree decls.now tokens.now env form.now) (spec.close_brace kind tree.now)) }
     ensures vars { IfOk result (λ r. (t : Var → Bool) → form_vars decls.now tokens.now t form.now
         ≡ true →
         set_vars t r ≡ true) }
@@ -154,7 +144,7 @@ fn fit_own_all(
     trees: &[Tree],
 ) -> Result<EnvSet, NoMemory>
     ensures meaning { IfOk result (λ r. (env : Environment) → set_denotes r env
-        ≡ of.own_fit (own.is_own kind label (length forms.now)) 0 (map (piece decls.now tokens.now env) forms.now) trees.now) }
+        ≡ spec.own_fit (own.is_own kind label (length forms.now)) 0 (map (piece decls.now tokens.now env) forms.now) trees.now) }
     ensures vars { IfOk result (λ r. (t : Var → Bool)
         → list_all (form_vars decls.now tokens.now t) forms.now ≡ true →
         set_vars t r ≡ true) }
@@ -184,7 +174,7 @@ fn fit_own_kids(
     tree: &Tree,
 ) -> Result<EnvSet, NoMemory>
     ensures meaning { IfOk result (λ r. (env : Environment) → set_denotes r env
-        ≡ kids_fit (of.own_fit (own.is_own kind label (length forms.now)) 0) label (map (piece decls.now tokens.now env) forms.now) (out-Tree tree.now)) }
+        ≡ kids_fit (spec.own_fit (own.is_own kind label (length forms.now)) 0) label (map (piece decls.now tokens.now env) forms.now) (out-Tree tree.now)) }
     ensures vars { IfOk result (λ r. (t : Var → Bool)
         → list_all (form_vars decls.now tokens.now t) forms.now ≡ true →
         set_vars t r ≡ true) }
@@ -201,7 +191,7 @@ fn fit_own_kids(
 }
 
 fn is_disjunction(label: Label) -> bool
-    ensures { result ≡ of.is_disjunction (shape_of label) }
+    ensures { result ≡ spec.is_disjunction (shape_of label) }
 {
     match label.shape() {
         Shape::Or => true,
@@ -219,7 +209,7 @@ fn fit_own(
     tree: &Tree,
 ) -> Result<EnvSet, NoMemory>
     ensures meaning { IfOk result (λ r. (env : Environment) → set_denotes r env
-        ≡ of.own_fits decls.now tokens.now env kind (out-Tree form.now) tree.now) }
+        ≡ spec.own_fits decls.now tokens.now env kind (out-Tree form.now) tree.now) }
     ensures vars { IfOk result (λ r. (t : Var → Bool) → form_vars decls.now tokens.now t form.now
         ≡ true →
         set_vars t r ≡ true) }
@@ -245,7 +235,7 @@ fn fit_token_whole(
     tree: &Tree,
 ) -> Result<EnvSet, NoMemory>
     ensures meaning { IfOk result (λ r. (env : Environment) → set_denotes r env
-        ≡ of.token_whole decls.now tokens.now env kind token.now form.now tree.now) }
+        ≡ spec.token_whole decls.now tokens.now env kind token.now form.now tree.now) }
     ensures vars { IfOk result (λ r. (t : Var → Bool) → form_vars decls.now tokens.now t form.now
         ≡ true →
         set_vars t r ≡ true) }
@@ -270,7 +260,7 @@ fn fit_branch_whole(
     tree: &Tree,
 ) -> Result<EnvSet, NoMemory>
     ensures meaning { IfOk result (λ r. (env : Environment) → set_denotes r env
-        ≡ of.branch_whole decls.now tokens.now env kind form.now tree.now) }
+        ≡ spec.branch_whole decls.now tokens.now env kind form.now tree.now) }
     ensures vars { IfOk result (λ r. (t : Var → Bool) → form_vars decls.now tokens.now t form.now
         ≡ true →
         set_vars t r ≡ true) }
@@ -292,7 +282,7 @@ fn fit_whole(
     tree: &Tree,
 ) -> Result<EnvSet, NoMemory>
     ensures meaning { IfOk result (λ r. (env : Environment) → set_denotes r env
-        ≡ of.whole_at decls.now tokens.now env kind (out-Tree form.now) form.now tree.now) }
+        ≡ spec.whole_at decls.now tokens.now env kind (out-Tree form.now) form.now tree.now) }
     ensures vars { IfOk result (λ r. (t : Var → Bool) → form_vars decls.now tokens.now t form.now
         ≡ true →
         set_vars t r ≡ true) }
@@ -312,7 +302,7 @@ fn fit_tail(
     tree: &Tree,
 ) -> Result<EnvSet, NoMemory>
     ensures meaning { IfOk result (λ r. (env : Environment) → set_denotes r env
-        ≡ of.fits_at decls.now tokens.now env spot.Tail kind form.now tree.now) }
+        ≡ spec.fits_at decls.now tokens.now env spot.Tail kind form.now tree.now) }
     ensures vars { IfOk result (λ r. (t : Var → Bool) → form_vars decls.now tokens.now t form.now
         ≡ true →
         set_vars t r ≡ true) }
@@ -335,7 +325,7 @@ pub fn fit_at(
     tree: &Tree,
 ) -> Result<EnvSet, NoMemory>
     ensures meaning { IfOk result (λ r. (env : Environment) → set_denotes r env
-        ≡ of.fits_at decls.now tokens.now env spot kind form.now tree.now) }
+        ≡ spec.fits_at decls.now tokens.now env spot kind form.now tree.now) }
     ensures vars { IfOk result (λ r. (t : Var → Bool) → form_vars decls.now tokens.now t form.now
         ≡ true →
         set_vars t r ≡ true) }

@@ -9,7 +9,7 @@ ghost use Rattle.env_sets.specs.Sets.{set_denotes, set_vars};
 ghost use Rattle.smpl_patch.specs.Patterns.{declared_as};
 ghost use Rattle.pat_match.specs.Matching.{var_passes, meta_passes};
 ghost use Rattle.pat_match.specs.Vars.{stand_vars, place_vars, token_vars};
-ghost use Rattle.pat_match.specs.Tokens as of;
+ghost use Rattle.pat_match.specs.Tokens as spec;
 
 use crate::kinds::{has_kind, is_excepted, is_same_leaf};
 use crate::sets::{all_or_none, is_none};
@@ -70,9 +70,9 @@ fn with_not_places(
 ) -> Result<EnvSet, NoMemory>
     ensures meaning { IfOk result (λ r. (env : Environment) → set_denotes r env
         ≡ (set_denotes set env
-        && list_all (λ y. not (same (Place id) (env y))) (of.not_places decls.now x.now))) }
+        && list_all (λ y. not (same (Place id) (env y))) (spec.not_places decls.now x.now))) }
     ensures vars { IfOk result (λ r. (t : Var → Bool) → set_vars t set ≡ true →
-        list_all t (of.not_places decls.now x.now) ≡ true → set_vars t r ≡ true) }
+        list_all t (spec.not_places decls.now x.now) ≡ true → set_vars t r ≡ true) }
 {
     for decl in decls {
         if same_var(&decl.var, x) {
@@ -91,7 +91,7 @@ fn with_positions(
     id: u64,
 ) -> Result<EnvSet, NoMemory>
     ensures meaning { IfOk result (λ r. (env : Environment) → set_denotes r env
-        ≡ (set_denotes set env && list_all (of.is_place decls.now env id) positions.now)) }
+        ≡ (set_denotes set env && list_all (spec.is_place decls.now env id) positions.now)) }
     ensures vars { IfOk result (λ r. (t : Var → Bool) → set_vars t set ≡ true →
         list_all (place_vars decls.now t) positions.now ≡ true → set_vars t r ≡ true) }
 {
@@ -105,7 +105,7 @@ fn with_positions(
 }
 
 fn is_absent(block: &Option<PlusBlock>) -> bool
-    ensures { result ≡ of.is_absent block.now }
+    ensures { result ≡ spec.is_absent block.now }
 {
     match block {
         None => true,
@@ -114,14 +114,14 @@ fn is_absent(block: &Option<PlusBlock>) -> bool
 }
 
 fn is_bare(entry: &PatToken) -> bool
-    ensures { result ≡ of.is_bare (Some entry.now) }
+    ensures { result ≡ spec.is_bare (Some entry.now) }
 {
     entry.positions.len() == 0 && (is_absent(&entry.before) && is_absent(&entry.after))
 }
 
 /// Whether the token has neither a position nor plus code. Takes no memory.
 pub fn is_bare_token(tokens: &[PatToken], id: u64) -> bool
-    ensures { result ≡ of.is_bare (slice_get tokens.now id) }
+    ensures { result ≡ spec.is_bare (slice_get tokens.now id) }
 {
     match tokens.get(id as usize) {
         None => true,
@@ -132,7 +132,7 @@ pub fn is_bare_token(tokens: &[PatToken], id: u64) -> bool
 /// Returns the set if a token with this entry may be aligned with nothing, and the empty set otherwise.
 fn where_bare(alloc: Global, set: EnvSet, entry: &PatToken) -> EnvSet
     ensures meaning { (env : Environment) → set_denotes result env ≡ (set_denotes set env
-        && of.is_bare (Some entry.now)) }
+        && spec.is_bare (Some entry.now)) }
     ensures vars { (t : Var → Bool) → set_vars t set ≡ true → set_vars t result ≡ true }
 {
     if is_bare(entry) {
@@ -153,7 +153,7 @@ pub fn with_stand(
     first: Option<u64>,
 ) -> Result<EnvSet, NoMemory>
     ensures meaning { IfOk result (λ r. (env : Environment) → set_denotes r env
-        ≡ (set_denotes set env && of.stands decls.now tokens.now env token.now first)) }
+        ≡ (set_denotes set env && spec.stands decls.now tokens.now env token.now first)) }
     ensures vars { IfOk result (λ r. (t : Var → Bool) → set_vars t set ≡ true →
         stand_vars decls.now t (slice_get tokens.now token.now.id) ≡ true → set_vars t r ≡ true) }
 {
@@ -168,7 +168,7 @@ pub fn with_stand(
 
 /// Returns the id of the tree's first token. Takes no memory.
 pub fn first_id(tree: &Tree) -> Option<u64>
-    ensures { result ≡ of.first_id tree.now }
+    ensures { result ≡ spec.first_id tree.now }
 {
     match first_leaf(tree) {
         Some(token) => Some(token.id),
@@ -185,7 +185,7 @@ fn fit_meta(
     tree: &Tree,
 ) -> Result<EnvSet, NoMemory>
     ensures meaning { IfOk result (λ r. (env : Environment) → set_denotes r env
-        ≡ of.meta_fits decls.now env kind (declared_as decls.now name.now) tree.now) }
+        ≡ spec.meta_fits decls.now env kind (declared_as decls.now name.now) tree.now) }
     ensures vars { IfOk result (λ r. (t : Var → Bool)
         → var_passes t (declared_as decls.now name.now) ≡ true →
         set_vars t r ≡ true) }
@@ -210,7 +210,7 @@ fn fit_token(
     tree: &Tree,
 ) -> Result<EnvSet, NoMemory>
     ensures meaning { IfOk result (λ r. (env : Environment) → set_denotes r env
-        ≡ of.token_fits decls.now env token.now.kind token.now tree.now) }
+        ≡ spec.token_fits decls.now env token.now.kind token.now tree.now) }
     ensures vars { IfOk result (λ r. (t : Var → Bool)
         → meta_passes decls.now t token.now.kind token.now ≡ true →
         set_vars t r ≡ true) }
@@ -232,7 +232,7 @@ pub fn fit_leaf(
     tree: &Tree,
 ) -> Result<EnvSet, NoMemory>
     ensures meaning { IfOk result (λ r. (env : Environment) → set_denotes r env
-        ≡ of.leaf_fits decls.now tokens.now env token.now tree.now) }
+        ≡ spec.leaf_fits decls.now tokens.now env token.now tree.now) }
     ensures vars { IfOk result (λ r. (t : Var → Bool)
         → token_vars decls.now tokens.now t token.now ≡ true →
         set_vars t r ≡ true) }

@@ -1,5 +1,6 @@
 -- Numbers of declarations by the names of their variables.
-use Rattle.std.proofs.Common.{◌≡◌, ℕ, ◌+◌, ◌<◌, Bool, true, false, true≢false, ◌&&◌, not, cond, nat_eq, List, [], ◌∷◌, map, length, get_or, drop, refl, sym, ap, ◌∙◌, Option, Some, slice_get}
+use Rattle.std.proofs.Common.{◌≡◌, ℕ, ◌+◌, ◌<◌, Bool, true, false, true≢false, ◌&&◌, not, cond, nat_eq, List, [], ◌∷◌, map}
+use Rattle.std.proofs.Common.{length, get_or, drop, refl, sym, ap, ◌∙◌, Option, Some, slice_get}
 use Rattle.std.specs.Map.{lookup}
 use Rattle.std.specs.Cmp.Lexicographic.{pointwise}
 use Rattle.std.proofs.lemmas.List.{drop_more}
@@ -50,7 +51,8 @@ module _ {K : Type 0} (f : K → List ℕ) where
       apart q false false h t = refl
 
       by : (b : Bool) → same_bytes (f k) (f e.0) ≡ b
-          → number_in (pairs (insert_entry (λ a b. pointwise nat_eq (f a) (f b)) es k n)) other ≡ cond (same_bytes (f k) other) (Some n) (number_in (pairs es) other)
+          → number_in (pairs (insert_entry (λ a b. pointwise nat_eq (f a) (f b)) es k n)) other
+          ≡ cond (same_bytes (f k) other) (Some n) (number_in (pairs es) other)
           → number_in (pairs (cond b ((e.0, n) ∷ es) (e ∷ insert_entry (λ a b. pointwise nat_eq (f a) (f b)) es k n))) other
           ≡ cond (same_bytes (f k) other) (Some n) (number_in (pairs (e ∷ es)) other)
       by true q h = same (same_bytes-equal (f k) (f e.0) q)

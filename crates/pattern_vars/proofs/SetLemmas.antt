@@ -1,5 +1,6 @@
 -- Sets of variables, and loops that put more in.
-use Rattle.std.proofs.Common.{◌≡◌, ℕ, nat_lt, not, None, Some, suc, add-one, if◌then◌else◌, ◌+◌, ◌<◌, Bool, true, false, ◌&&◌, ◌||◌, cond, eqb, List, [], ◌∷◌, ◌++◌, map, length, get_or, drop, refl, sym, ap, ◌∙◌}
+use Rattle.std.proofs.Common.{◌≡◌, ℕ, nat_lt, not, None, Some, suc, add-one, if◌then◌else◌, ◌+◌, ◌<◌, Bool, true, false, ◌&&◌}
+use Rattle.std.proofs.Common.{◌||◌, cond, eqb, List, [], ◌∷◌, ◌++◌, map, length, get_or, drop, refl, sym, ap, ◌∙◌}
 use Rattle.std.proofs.lemmas.List.{drop_more, length-map}
 use Rattle.std.proofs.lemmas.List.Folds.{list_any-append}
 use Rattle.std.specs.List.{list_any, position, position_or_len}
@@ -55,7 +56,8 @@ vars-append [] k = refl
 vars-append (q ∷ keys) k = ap (λ vs. q.var ∷ vs) (vars-append keys k)
 
 -- one more key
-pub put_more : (keys : List Key) (k : Key) (y : Var) → has (vars_of (cond (list_any (same_key k) keys) keys (keys ++ k ∷ []))) y ≡ (has (vars_of keys) y || same_var k.var y)
+pub put_more : (keys : List Key) (k : Key) (y : Var)
+    → has (vars_of (cond (list_any (same_key k) keys) keys (keys ++ k ∷ []))) y ≡ (has (vars_of keys) y || same_var k.var y)
 put_more keys k y = by (list_any (same_key k) keys) refl
   where
     known : has (vars_of keys) k.var ≡ true → (q : Bool) → same_var k.var y ≡ q → has (vars_of keys) y ≡ (has (vars_of keys) y || q)

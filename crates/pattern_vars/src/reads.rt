@@ -5,19 +5,19 @@ ghost use Rattle.c_terms.specs.Trees.{leaves};
 ghost use Rattle.smpl_terms.specs.declared.var.Var.{Var as Variable};
 ghost use Rattle.smpl_patch.specs.Held as parts;
 ghost use Rattle.smpl_patch.specs.Held.{kept, held};
-ghost use Rattle.smpl_patch.specs.Patterns as of;
+ghost use Rattle.smpl_patch.specs.Patterns as spec;
 ghost use Rattle.pattern_vars.specs.Reads.{has, reads, reads_token, reads_tree};
 
 use crate::{Decls, VarSet};
 use c_terms::{Label, NoMemory, Token, TokenKind, Tree};
-use smpl_patch::{PatToken, Pattern, PlusBlock, PlusLine, Spot, is_held};
+use smpl_patch::{PatToken, Pattern, PlusBlock, PlusLine, Spot, is_held, is_split_into_nodes};
 use smpl_terms::Var;
 use std::alloc::Global;
 
 /// Puts in the variable of the metavariable with this name, if one is declared.
 fn put_named(alloc: Global, decls: &Decls, name: &[u8], set: &mut VarSet) -> Result<(), NoMemory>
     ensures { OnOk result ((y : Variable) → has set.new y
-        ≡ (has set.old y || of.is_var_of (of.declared_as decls.now name.now) y)) }
+        ≡ (has set.old y || spec.is_var_of (spec.declared_as decls.now name.now) y)) }
 {
     match decls.declared(name) {
         Some(d) => set.put(alloc, &d.var),
@@ -27,7 +27,7 @@ fn put_named(alloc: Global, decls: &Decls, name: &[u8], set: &mut VarSet) -> Res
 
 fn put_meta(alloc: Global, decls: &Decls, token: &Token, set: &mut VarSet) -> Result<(), NoMemory>
     ensures { OnOk result ((y : Variable) → has set.new y
-        ≡ (has set.old y || of.is_meta_of decls.now token.now token.now.kind y)) }
+        ≡ (has set.old y || spec.is_meta_of decls.now token.now token.now.kind y)) }
 {
     match token.kind {
         TokenKind::Meta(_) => put_named(alloc, decls, token.text.as_bytes(), set),
@@ -52,7 +52,7 @@ fn put_positions(
     set: &mut VarSet,
 ) -> Result<(), NoMemory>
     ensures { OnOk result ((y : Variable) → has set.new y
-        ≡ (has set.old y || of.is_position_of (slice_get tokens.now id) y)) }
+        ≡ (has set.old y || spec.is_position_of (slice_get tokens.now id) y)) }
 {
     match tokens.get(id as usize) {
         Some(p) => put_vars(alloc, p.positions.as_slice(), set),
@@ -69,7 +69,7 @@ pub fn put_own(
     set: &mut VarSet,
 ) -> Result<(), NoMemory>
     ensures { OnOk result ((y : Variable) → has set.new y
-        ≡ (has set.old y || of.is_own decls.now tokens.now y token.now)) }
+        ≡ (has set.old y || spec.is_own decls.now tokens.now y token.now)) }
 {
     put_meta(alloc, decls, token, set)?;
     put_positions(alloc, tokens, token.id, set)?;
@@ -78,7 +78,7 @@ pub fn put_own(
 
 fn put_line(alloc: Global, decls: &Decls, line: &PlusLine, set: &mut VarSet) -> Result<(), NoMemory>
     ensures { OnOk result ((y : Variable) → has set.new y
-        ≡ (has set.old y || of.in_line decls.now y line.now)) }
+        ≡ (has set.old y || spec.in_line decls.now y line.now)) }
 {
     for token in line.tokens.as_slice() {
         put_meta(alloc, decls, token, set)?;
@@ -94,7 +94,7 @@ pub fn put_block(
     set: &mut VarSet,
 ) -> Result<(), NoMemory>
     ensures { OnOk result ((y : Variable) → has set.new y
-        ≡ (has set.old y || of.in_block decls.now y block.now)) }
+        ≡ (has set.old y || spec.in_block decls.now y block.now)) }
 {
     match block {
         None => Ok(()),
@@ -116,7 +116,7 @@ fn put_plus(
     set: &mut VarSet,
 ) -> Result<(), NoMemory>
     ensures { OnOk result ((y : Variable) → has set.new y
-        ≡ (has set.old y || of.in_plus decls.now (slice_get tokens.now id) y)) }
+        ≡ (has set.old y || spec.in_plus decls.now (slice_get tokens.now id) y)) }
 {
     match tokens.get(id as usize) {
         None => Ok(()),
@@ -207,16 +207,6 @@ fn put_kept(
     Ok(())
 }
 
-pub fn is_parted(spot: Spot, label: Label) -> bool
-    ensures { result ≡ parts.is_parted spot label }
-{
-    match spot {
-        Spot::Whole => label.is_head(),
-        Spot::Tail => true,
-        Spot::Inside => false,
-    }
-}
-
 /// Puts in the variables of the compared parts of a form.
 fn put_form(
     alloc: Global,
@@ -233,7 +223,7 @@ fn put_form(
     match form {
         Tree::Leaf(_) => put_tree(alloc, decls, tokens, plus, form, set),
         Tree::Branch(label, children) => {
-            if is_parted(spot, *label) {
+            if is_split_into_nodes(spot, *label) {
                 put_kept(
                     alloc,
                     decls,

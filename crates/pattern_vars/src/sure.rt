@@ -4,35 +4,17 @@ ghost use Rattle.std.specs.List.{list_any, list_all};
 ghost use Rattle.smpl_terms.specs.declared.var.Var.{Var as Variable};
 ghost use Rattle.smpl_patch.specs.Held as parts;
 ghost use Rattle.smpl_patch.specs.Held.{kept};
-ghost use Rattle.smpl_patch.specs.Patterns as of;
+ghost use Rattle.smpl_patch.specs.Patterns as spec;
 ghost use Rattle.pattern_vars.specs.Reads.{has, is_declared};
 ghost use Rattle.pattern_vars.specs.Sure.{has_unless_all};
 
 use crate::common::{met, put_set};
 use crate::decls::declared_vars;
-use crate::reads::{is_parted, put_own};
+use crate::reads::put_own;
 use crate::{Decls, VarSet};
-use c_terms::{Label, NoMemory, Shape, TokenKind, Tree};
-use smpl_patch::{PatToken, Pattern, Spot, is_held};
+use c_terms::{Label, NoMemory, Shape, Tree};
+use smpl_patch::{PatToken, Pattern, Spot, is_held, is_sign_tree, is_split_into_nodes};
 use std::alloc::Global;
-
-fn is_sign(kind: TokenKind) -> bool
-    ensures { result ≡ of.is_sign kind }
-{
-    match kind {
-        TokenKind::Pat => true,
-        _ => false,
-    }
-}
-
-fn is_sign_tree(tree: &Tree) -> bool
-    ensures { result ≡ of.is_sign_tree tree.now }
-{
-    match tree {
-        Tree::Leaf(token) => is_sign(token.kind),
-        Tree::Branch(_, _) => false,
-    }
-}
 
 /// Returns what the branches so far and one more have in common. `None` stands for all variables.
 fn met_with(alloc: Global, common: Option<VarSet>, own: VarSet) -> Result<VarSet, NoMemory>
@@ -54,7 +36,7 @@ fn common_with(
     common: Option<VarSet>,
 ) -> Result<Option<VarSet>, NoMemory>
     ensures { IfOk result (λ both. (y : Variable) → is_declared decls.now y ≡ true → has_unless_all both y
-        ≡ (has_unless_all common y && (of.is_sign_tree branch.now || of.is_sure decls.now tokens.now y branch.now))) }
+        ≡ (has_unless_all common y && (spec.is_sign_tree branch.now || spec.is_sure decls.now tokens.now y branch.now))) }
 {
     if is_sign_tree(branch) {
         return Ok(common);
@@ -73,7 +55,7 @@ fn common_of(
     branches: &[Tree],
 ) -> Result<VarSet, NoMemory>
     ensures { IfOk result (λ common. (y : Variable) → is_declared decls.now y ≡ true → has common y
-        ≡ list_all (λ t. of.is_sign_tree t || of.is_sure decls.now tokens.now y t) branches.now) }
+        ≡ list_all (λ t. spec.is_sign_tree t || spec.is_sure decls.now tokens.now y t) branches.now) }
 {
     let mut common = None;
     for branch in branches {
@@ -95,7 +77,7 @@ fn put_common(
     set: &mut VarSet,
 ) -> Result<(), NoMemory>
     ensures { OnOk result ((y : Variable) → is_declared decls.now y ≡ true → has set.new y
-        ≡ (has set.old y || list_all (λ t. of.is_sign_tree t || of.is_sure decls.now tokens.now y t) branches.now)) }
+        ≡ (has set.old y || list_all (λ t. spec.is_sign_tree t || spec.is_sure decls.now tokens.now y t) branches.now)) }
 {
     let common = common_of(alloc, decls, tokens, branches)?;
     put_set(alloc, &common, set)
@@ -111,7 +93,7 @@ fn put_each(
     set: &mut VarSet,
 ) -> Result<(), NoMemory>
     ensures { OnOk result ((y : Variable) → is_declared decls.now y ≡ true → has set.new y
-        ≡ (has set.old y || list_any (λ t. of.is_sure decls.now tokens.now y t) trees.now)) }
+        ≡ (has set.old y || list_any (λ t. spec.is_sure decls.now tokens.now y t) trees.now)) }
 {
     for tree in trees {
         put_sure_in(alloc, decls, tokens, tree, set)?;
@@ -129,7 +111,7 @@ fn put_sure_in(
     set: &mut VarSet,
 ) -> Result<(), NoMemory>
     ensures { OnOk result ((y : Variable) → is_declared decls.now y ≡ true → has set.new y
-        ≡ (has set.old y || of.is_sure decls.now tokens.now y tree.now)) }
+        ≡ (has set.old y || spec.is_sure decls.now tokens.now y tree.now)) }
 {
     match tree {
         Tree::Leaf(token) => put_own(alloc, decls, tokens, token, set),
@@ -151,7 +133,7 @@ fn put_sure_where(
     set: &mut VarSet,
 ) -> Result<(), NoMemory>
     ensures { OnOk result ((y : Variable) → is_declared decls.now y ≡ true → has set.new y
-        ≡ (has set.old y || (here && of.is_sure decls.now tokens.now y tree.now))) }
+        ≡ (has set.old y || (here && spec.is_sure decls.now tokens.now y tree.now))) }
 {
     if here {
         put_sure_in(alloc, decls, tokens, tree, set)?;
@@ -169,7 +151,7 @@ fn put_sure_kept(
     set: &mut VarSet,
 ) -> Result<(), NoMemory>
     ensures { OnOk result ((y : Variable) → is_declared decls.now y ≡ true → has set.new y
-        ≡ (has set.old y || list_any (of.is_sure decls.now tokens.now y)
+        ≡ (has set.old y || list_any (spec.is_sure decls.now tokens.now y)
         (kept (parts.is_held spot label (length trees.now)) 0 trees.now))) }
 {
     for i in 0..trees.len() {
@@ -189,12 +171,12 @@ fn put_sure_held(
     set: &mut VarSet,
 ) -> Result<(), NoMemory>
     ensures { OnOk result ((y : Variable) → is_declared decls.now y ≡ true → has set.new y
-        ≡ (has set.old y || of.held_sure decls.now tokens.now spot y form.now)) }
+        ≡ (has set.old y || spec.held_sure decls.now tokens.now spot y form.now)) }
 {
     match form {
         Tree::Leaf(_) => put_sure_in(alloc, decls, tokens, form, set),
         Tree::Branch(label, children) => {
-            if is_parted(spot, *label) {
+            if is_split_into_nodes(spot, *label) {
                 put_sure_kept(alloc, decls, tokens, spot, *label, children.as_slice(), set)
             } else {
                 put_sure_in(alloc, decls, tokens, form, set)
@@ -214,7 +196,7 @@ pub fn put_sure(
     set: &mut VarSet,
 ) -> Result<(), NoMemory>
     ensures { OnOk result ((y : Variable) → is_declared decls.now y ≡ true → has set.new y
-        ≡ (has set.old y || of.sure decls.now tokens.now p.now y)) }
+        ≡ (has set.old y || spec.sure decls.now tokens.now p.now y)) }
 {
     match p.forms.as_slice() {
         [form, ..] => put_sure_held(alloc, decls, tokens, p.spot, form, set),

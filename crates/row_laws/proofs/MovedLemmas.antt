@@ -23,7 +23,8 @@ no_args_type : {A : Type 0} → IsTrue (is_args (family_of kind.TypeArg)) → A
 no_args_type h = let never : ⊥ = cc in absurd never
 
 -- `Wide` holds of what is left of the tokens, and `Narrow` behind the first of them.
-module _ (names : Names) (may also : List Token → List Token → Type 0) (Wide Narrow : List Token → Type 0) (fall : (t : Token) (ts : List Token) → Wide (t ∷ ts) → Narrow ts)
+module _ (names : Names) (may also : List Token → List Token → Type 0) (Wide Narrow : List Token → Type 0)
+    (fall : (t : Token) (ts : List Token) → Wide (t ∷ ts) → Narrow ts)
     (widen : (ts : List Token) → Narrow ts → Wide ts) where
   mutual
     pub left_wide : {k : Kind} {xs ys : List Token} {t : Tree} → Derives names may k xs t ys → Wide xs → Wide ys
@@ -41,20 +42,26 @@ module _ (names : Names) (may also : List Token → List Token → Type 0) (Wide
   -- Where types are members by one condition, and by another one behind the first token, so is the tree derived.
   module _ (go : (xs ys : List Token) → Narrow xs → may xs ys → also xs ys) where
     mutual
-      pub moved : {k : Kind} {xs ys : List Token} {t : Tree} → Derives names may k xs t ys → Wide xs → (IsTrue (is_args (family_of k)) → Narrow xs) → Derives names also k xs t ys
+      pub moved : {k : Kind} {xs ys : List Token} {t : Tree} → Derives names may k xs t ys → Wide xs
+          → (IsTrue (is_args (family_of k)) → Narrow xs) → Derives names also k xs t ys
       moved (leaf h) p m = leaf h
       moved {k} {xs} (branch r w b al parts) p m =
-          let args : IsTrue (needs (row r)) → Narrow xs = λ h. m (subst (λ (o : Family). IsTrue (is_args o)) (within_family (kind_of r) k w) (modus (needs (row r)) (is_args (family_of (kind_of r))) (needs_test r) h)) in
+          let args : IsTrue (needs (row r)) → Narrow xs =
+          λ h. m (subst (λ (o : Family). IsTrue (is_args o)) (within_family (kind_of r) k w)
+          (modus (needs (row r)) (is_args (family_of (kind_of r))) (needs_test r) h)) in
           branch r w b al (moved_row parts p args (led_rule r))
 
-      moved_row : {ps : Row} {xs ys : List Token} {cs : List Tree} → DerivesRow names may ps xs cs ys → Wide xs → (IsTrue (needs ps) → Narrow xs) → IsTrue (led ps) → DerivesRow names also ps xs cs ys
+      moved_row : {ps : Row} {xs ys : List Token} {cs : List Tree} → DerivesRow names may ps xs cs ys → Wide xs
+          → (IsTrue (needs ps) → Narrow xs) → IsTrue (led ps) → DerivesRow names also ps xs cs ys
       moved_row done p m e = done
       moved_row (word {w = w} {ps = ps} {t = t} {xs = xs} h rest) p m e =
           word h (moved_row rest (widen xs (fall t xs p)) (λ i. fall t xs p) (and_right (implies (needs ps) (lead_word w)) (led ps) e))
       moved_row (child {ps = ps} d rest) p m e =
-          child (moved d p m) (moved_row rest (left_wide d p) (never_needs (needs ps) (and_left (not (needs ps)) (led ps) e)) (and_right (not (needs ps)) (led ps) e))
+          child (moved d p m) (moved_row rest (left_wide d p) (never_needs (needs ps) (and_left (not (needs ps)) (led ps) e))
+          (and_right (not (needs ps)) (led ps) e))
       moved_row (argument {ps = ps} d rest) p m e =
-          argument (moved d p no_args) (moved_row rest (left_wide d p) (never_needs (needs ps) (and_left (not (needs ps)) (led ps) e)) (and_right (not (needs ps)) (led ps) e))
+          argument (moved d p no_args) (moved_row rest (left_wide d p)
+          (never_needs (needs ps) (and_left (not (needs ps)) (led ps) e)) (and_right (not (needs ps)) (led ps) e))
       moved_row (type_argument {ps = ps} {xs = xs} {ys = ys} a d rest) p m e =
           type_argument (go xs ys (m refl) a) (moved d p no_args_type)
           (moved_row rest (left_wide d p) (never_needs (needs ps) (and_left (not (needs ps)) (led ps) e)) (and_right (not (needs ps)) (led ps) e))

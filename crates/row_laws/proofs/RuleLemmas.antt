@@ -23,7 +23,8 @@ module _ (names : Names) where
   pub agree : (may also : List Token → List Token → Type 0) (m n : ℕ) → IsTheRule names m may → IsTheRule names m also → n ≤ m
       → (xs ys : List Token) → length xs ≤ n → may xs ys → also xs ys
   agree may also m zero p q l xs ys s a =
-      q.stands_else xs ys (omega arith) (λ u d low. p.gives_way xs ys (omega arith) a u (turned also may 0 (λ us vs h b. let never : ⊥ = omega arith in absurd never) d s) low)
+      q.stands_else xs ys (omega arith) (λ u d low. p.gives_way xs ys (omega arith) a u
+      (turned also may 0 (λ us vs h b. let never : ⊥ = omega arith in absurd never) d s) low)
   agree may also m (suc n) p q l xs ys s a =
       q.stands_else xs ys (omega arith) (λ u d low.
       p.gives_way xs ys (omega arith) a u (turned also may (suc n) (λ us vs h b. agree also may m n q p (omega arith) us vs (omega arith) b) d s) low)
@@ -66,9 +67,11 @@ module _ (names : Names) where
 
   pub types_agree : (m n : ℕ) (xs ys : List Token) → length xs ≤ m → length xs ≤ n → NoRival names m xs ys → NoRival names n xs ys
   types_agree m n xs ys s h =
-      agree (NoRival names m) (NoRival names n) (length xs) (length xs) (fewer (NoRival names m) (length xs) m s (rule m)) (fewer (NoRival names n) (length xs) n h (rule n)) (le_self (length xs)) xs ys (le_self (length xs))
+      agree (NoRival names m) (NoRival names n) (length xs) (length xs) (fewer (NoRival names m) (length xs) m s (rule m))
+      (fewer (NoRival names n) (length xs) n h (rule n)) (le_self (length xs)) xs ys (le_self (length xs))
 
   pub trees_agree : (m n : ℕ) (k : Kind) (xs ys : List Token) (t : Tree) → length xs ≤ m → length xs ≤ n
       → Derives names (NoRival names m) k xs t ys → Derives names (NoRival names n) k xs t ys
   trees_agree m n k xs ys t s h d =
-      trees_same (NoRival names m) (NoRival names n) (length xs) (fewer (NoRival names m) (length xs) m s (rule m)) (fewer (NoRival names n) (length xs) n h (rule n)) k xs ys t (le_self (length xs)) d
+      trees_same (NoRival names m) (NoRival names n) (length xs) (fewer (NoRival names m) (length xs) m s (rule m))
+      (fewer (NoRival names n) (length xs) n h (rule n)) k xs ys t (le_self (length xs)) d

@@ -13,7 +13,7 @@ use Rattle.smpl_patch.specs.declared.rule.Rule.{Rule}
 use Rattle.rule_chain.specs.declared.rule_edits.texts.NewText.{NewText}
 use Rattle.rule_chain.specs.RuleEdits.Pages.{Page, is_edited, old_page, page_of, page_after, IsNew}
 use Rattle.rule_chain.specs.declared.rule_work.fault.FileFault.{FileFault}
-use Rattle.rule_chain.specs.declared.rule_work.state.Findings.{Findings}
+use Rattle.rule_chain.specs.declared.rule_work.state.FileState.{FileState}
 use Rattle.rule_chain.specs.RuleWork.States.{Chained}
 use Rattle.rule_chain.specs.RuleWork.OneRule.{MayRead, IsFault, Leads, worked}
 use Rattle.rule_chain.specs.RuleWork.Worked.{IsAtReading, Works}
@@ -54,7 +54,7 @@ edited_is next pieces edits (Some t) new = sym new.0
 -- ---- one rule
 
 module _ (defined : List (List ℕ)) (rules : List Rule) (number : ℕ) (rule : Rule) (lt : number < length rules) (at : rule ≡ get_or rules number rule) where
-  pub leads : (file : FileItems) (next : ℕ) (s : Chained) (findings : Findings) (text : Option NewText) → IsAtReading file next s
+  pub leads : (file : FileItems) (next : ℕ) (s : Chained) (findings : FileState) (text : Option NewText) → IsAtReading file next s
       → Works defined number rule s findings text → LeadsOn defined rules number s (number + 1) findings text
   leads file next s findings text reading works = record {
     state = worked defined number rule s works.edits;

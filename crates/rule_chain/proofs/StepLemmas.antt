@@ -11,7 +11,7 @@ use Rattle.rule_chain.specs.declared.rule_edits.texts.NewText.{NewText}
 use Rattle.rule_chain.specs.RuleEdits.Pages.{Page, page_in}
 use Rattle.rule_chain.specs.declared.rule_work.fault.FileFault.{FileFault}
 use Rattle.rule_chain.specs.declared.rule_work.fault.FileFault.TheVariants.{NoMemory}
-use Rattle.rule_chain.specs.declared.rule_work.state.Findings.{Findings}
+use Rattle.rule_chain.specs.declared.rule_work.state.FileState.{FileState}
 use Rattle.rule_chain.specs.declared.rule_work.state.SkipNote.{SkipNote}
 use Rattle.rule_chain.specs.RuleWork.States.{Chained, IsCut, ReadsAgain, notes_from, first_state}
 use Rattle.rule_chain.specs.RuleWork.OneRule.{MayRead}
@@ -35,7 +35,7 @@ pub none_left : (defined : List (List ℕ)) (rules : List Rule) (done : ℕ) (s 
 none_left defined rules done s all =
     subst (λ (x : List Rule). Runs defined done x s (Done s)) (sym (drop_of_length-le rules all)) refl
 
-module _ (findings : Findings) (text : NewText) (reading : ℕ) (skipped : List SkipNote) (file : FileItems) (s : Chained)
+module _ (findings : FileState) (text : NewText) (reading : ℕ) (skipped : List SkipNote) (file : FileItems) (s : Chained)
     (left : IsLeft findings text reading skipped s) (cut : IsCut (page_in text) file.pieces) (reads : Reads file.pieces file.items) where
   -- the text is read again
   read_state : Chained
@@ -96,7 +96,7 @@ module _ (findings : Findings) (text : NewText) (reading : ℕ) (skipped : List 
         ),
       )
 
-module _ (defined : List (List ℕ)) (rules : List Rule) (from done : ℕ) (s : Chained) (findings : Findings) where
+module _ (defined : List (List ℕ)) (rules : List Rule) (from done : ℕ) (s : Chained) (findings : FileState) where
   pub ended : (on : LeadsOn defined rules from s done findings None) → length rules ≤ done → (applied : Applied) → AnswersState applied on.state
       → Steps defined rules from s (Ended applied)
   ended on all applied answers =

@@ -3,7 +3,7 @@ use Rattle.std.specs.Prelude.{ℕ, ◌≡◌, ◌+◌, ◌<◌, ◌≤◌, ◌&&
 use Rattle.smpl_patch.specs.declared.rule.Rule.{Rule}
 use Rattle.rule_chain.specs.declared.rule_edits.texts.NewText.{NewText}
 use Rattle.rule_chain.specs.RuleEdits.Pages.{Page, page_in}
-use Rattle.rule_chain.specs.declared.rule_work.state.Findings.{Findings}
+use Rattle.rule_chain.specs.declared.rule_work.state.FileState.{FileState}
 use Rattle.rule_chain.specs.declared.rule_work.state.SkipNote.{SkipNote}
 use Rattle.rule_chain.specs.RuleWork.States.{Chained}
 use Rattle.rule_chain.specs.RuleWork.OneRule.{MayRead}
@@ -21,7 +21,7 @@ page_left page (Some t) = page_in t
 
 -- Some rules, from one number up to another, lead to a state of the same reading with these findings and this page. Whatever
 -- the remaining rules lead to, from there or from the new text once it is read, all of them lead to.
-pub record LeadsOn (defined : List (List ℕ)) (rules : List Rule) (from : ℕ) (s : Chained) (done : ℕ) (findings : Findings)
+pub record LeadsOn (defined : List (List ℕ)) (rules : List Rule) (from : ℕ) (s : Chained) (done : ℕ) (findings : FileState)
     (text : Option NewText) : Type 0 where
   pub state : Chained
   pub findings_are : AreFindingsOf findings state
@@ -42,7 +42,7 @@ pub record IsAt (r : Reached) (s : Chained) : Type 0 where
   pub skipped : s.skipped ≡ r.skipped
 
 -- what is left of a state after a rule that edits
-pub record IsLeft (findings : Findings) (text : NewText) (reading : ℕ) (skipped : List SkipNote) (s : Chained) : Type 0 where
+pub record IsLeft (findings : FileState) (text : NewText) (reading : ℕ) (skipped : List SkipNote) (s : Chained) : Type 0 where
   pub findings_are : AreFindingsOf findings s
   pub page : s.page ≡ page_in text
   pub reading_is : s.reading ≡ reading
@@ -54,7 +54,7 @@ GoesOn rules done s (Ended applied) = (length rules ≤ done) × AnswersState ap
 GoesOn rules done s (On r) = (next : Chained) × (MayRead (is_followed (drop done rules)) s next × (IsAt r next × (r.done ≡ done)))
 
 -- what follows after this many rules of this count, whatever the rules are
-abbrev pub ComesOf : ℕ → Findings → NewText → ℕ → List SkipNote → ℕ → Step → Type 0
+abbrev pub ComesOf : ℕ → FileState → NewText → ℕ → List SkipNote → ℕ → Step → Type 0
 ComesOf count findings text reading skipped done st =
     (rules : List Rule) (s : Chained) → length rules ≡ count → IsLeft findings text reading skipped s → GoesOn rules done s st
 

@@ -4,7 +4,7 @@ ghost use Rattle.rule_chain.specs.RuleWork.States.{Chained};
 ghost use Rattle.rule_chain.specs.RuleWork.Worked.{AreFindingsOf};
 ghost use Rattle.rule_chain.specs.Results.{AnswersState};
 
-use crate::rule_work::{Findings, SkipNote};
+use crate::rule_work::{FileState, SkipNote};
 use crate::state::Applied;
 use c_terms::NoMemory;
 use rule_envs::envs_of;
@@ -16,12 +16,12 @@ pub fn answer(
     alloc: Global,
     bytes: Vec<u8>,
     skipped: Items<SkipNote>,
-    findings: Findings,
+    findings: FileState,
 ) -> Result<Applied, NoMemory>
     ensures { IfOk result (λ applied. (s : Chained) → AreFindingsOf findings s → bytes.items ≡ s.page.bytes
         → s.skipped ≡ skipped → AnswersState applied s) }
 {
-    let Findings {
+    let FileState {
         carriers,
         had: _,
         found,

@@ -14,7 +14,7 @@ ghost use Rattle.rule_chain.specs.Stops.{IsAt, ComesOf, Steps, IsFurther};
 use crate::answers::answer;
 use crate::readings::{cut, read_again, with_notes};
 use crate::rule_edits::NewText;
-use crate::rule_work::{FileFault, Findings, SkipNote};
+use crate::rule_work::{FileFault, FileState, SkipNote};
 use crate::rules::{Stopped, over_reading};
 use crate::state::{Applied, Reached, Step};
 use c_file::read_file;
@@ -41,7 +41,7 @@ fn begin(alloc: Global, bytes: Vec<u8>) -> Result<Reached, NoMemory>
     let next = lexed.token_count() as u64;
     let file = read_file(alloc, lexed)?;
     let skipped = with_notes(Items::new(alloc), 0, file.items())?;
-    let findings = Findings {
+    let findings = FileState {
         carriers: first_carriers(alloc)?,
         had: Items::new(alloc),
         found: Items::new(alloc),
@@ -64,7 +64,7 @@ fn go_on(
     done: usize,
     reading: u32,
     skipped: Items<SkipNote>,
-    findings: Findings,
+    findings: FileState,
     text: NewText,
 ) -> Result<Step, NoMemory>
     requires reading { reading + 1 < 2 ^ 32 }

@@ -9,5 +9,5 @@ mod state;
 mod works;
 
 pub use fault::FileFault;
-pub use state::{Findings, SkipNote};
+pub use state::{FileState, SkipNote};
 pub use works::{Worked, work};

@@ -10,7 +10,7 @@ ghost use Rattle.rule_chain.specs.Chain.{Runs, Refused};
 ghost use Rattle.rule_chain.specs.Stops.{LeadsOn};
 
 use crate::rule_edits::NewText;
-use crate::rule_work::{FileFault, Findings, Worked, work};
+use crate::rule_work::{FileFault, FileState, Worked, work};
 use c_file::{CFile, Graphs};
 use c_terms::Text;
 use par_match::Gate;
@@ -22,7 +22,7 @@ use std::thread::Threads;
 /// Where the rules over one reading stop: after a rule that edits, or after the last.
 #[derive(Drop)]
 pub struct Stopped {
-    pub findings: Findings,
+    pub findings: FileState,
     /// How many rules of the patch are done.
     pub done: usize,
     pub text: Option<NewText>,
@@ -39,7 +39,7 @@ fn work_at<R: Threads + Sync, G: Gate>(
     file: &CFile,
     graphs: &mut Graphs<'_>,
     next: u64,
-    findings: Findings,
+    findings: FileState,
     jobs: u32,
     gate: &G,
 ) -> Result<Worked, FileFault>
@@ -85,7 +85,7 @@ pub fn over_reading<R: Threads + Sync, G: Gate>(
     from: usize,
     file: &CFile,
     next: u64,
-    findings: Findings,
+    findings: FileState,
     jobs: u32,
     gate: &G,
 ) -> Result<Stopped, FileFault>

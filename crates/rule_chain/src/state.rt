@@ -1,5 +1,5 @@
 // The state of the chain, and its result.
-use crate::rule_work::{Findings, SkipNote};
+use crate::rule_work::{FileState, SkipNote};
 use c_file::CFile;
 use smpl_patch::RuleWitness;
 use smpl_terms::Env;
@@ -27,7 +27,7 @@ pub struct Reached {
     pub next: u64,
     /// The number of the reading.
     pub reading: u32,
-    pub findings: Findings,
+    pub findings: FileState,
     pub skipped: Items<SkipNote>,
     /// How many rules are done.
     pub done: usize,

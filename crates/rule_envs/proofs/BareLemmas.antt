@@ -7,7 +7,7 @@ use Rattle.smpl_terms.specs.declared.var.Var.{Var}
 use Rattle.smpl_patch.specs.declared.rule.Dep.{Dep}
 use Rattle.env_parts.specs.Parts.{Pairs, bare_env, restricted, same_env, with_new, distinct_after, distinct}
 use Rattle.env_parts.proofs.PartLemmas.{restricted-bare, same_env-bare_both}
-use Rattle.rule_envs.specs.declared.carrier.Carrier.{Carrier}
+use Rattle.rule_envs.specs.declared.carrier.FileEnv.{FileEnv}
 use Rattle.rule_envs.specs.Shares.{bare_carrier, share, projections}
 use Rattle.rule_envs.specs.Carriers.{exported}
 use Rattle.rule_envs.proofs.ShareLemmas.{share-bare}
@@ -18,7 +18,8 @@ seen-bare (x ∷ xs) env = λ i. same_env-bare_both env x i || seen-bare xs env 
 
 with_new-bare : (seen : List Pairs) (env : Pairs) → map bare_env (with_new seen env) ≡ with_new (map bare_env seen) (bare_env env)
 with_new-bare seen env =
-    elim (list_any (same_env env) seen) as (λ b. map bare_env (cond b seen (seen ++ env ∷ [])) ≡ cond b (map bare_env seen) (map bare_env seen ++ bare_env env ∷ [])) [
+    elim (list_any (same_env env) seen) as (λ b. map bare_env (cond b seen (seen ++ env ∷ []))
+    ≡ cond b (map bare_env seen) (map bare_env seen ++ bare_env env ∷ [])) [
       | true ↦ refl
       | false ↦ map_push bare_env seen env
     ]
@@ -33,14 +34,14 @@ cons-bare : (o : Option Pairs) (rest : List Pairs) → map bare_env (cons_option
 cons-bare None rest = refl
 cons-bare (Some env) rest = refl
 
-all_shares-bare : (defined : List (List ℕ)) (had : List ℕ) (depends : Dep) (inherited : List Var) (cs : List Carrier)
+all_shares-bare : (defined : List (List ℕ)) (had : List ℕ) (depends : Dep) (inherited : List Var) (cs : List FileEnv)
     → map bare_env (filter_map (share defined had depends inherited) cs) ≡ filter_map (share defined had depends inherited) (map bare_carrier cs)
 all_shares-bare defined had depends inherited [] = refl
 all_shares-bare defined had depends inherited (c ∷ cs) =
     cons-bare (share defined had depends inherited c) (filter_map (share defined had depends inherited) cs)
     ∙ (λ i. cons_option (sym (share-bare defined had depends inherited c) i) (all_shares-bare defined had depends inherited cs i))
 
-pub projections-bare : (defined : List (List ℕ)) (had : List ℕ) (depends : Dep) (inherited : List Var) (cs : List Carrier)
+pub projections-bare : (defined : List (List ℕ)) (had : List ℕ) (depends : Dep) (inherited : List Var) (cs : List FileEnv)
     → map bare_env (projections defined had depends inherited cs) ≡ projections defined had depends inherited (map bare_carrier cs)
 projections-bare defined had depends inherited cs =
     distinct-bare [] (filter_map (share defined had depends inherited) cs) ∙ ap distinct (all_shares-bare defined had depends inherited cs)

@@ -6,19 +6,19 @@ use Rattle.std.proofs.lemmas.List.{map-append, append-nil, append_assoc, drop_al
 use Rattle.std.proofs.lemmas.Option.{slice_get-map, get_or_from_slice_get}
 use Rattle.env_parts.specs.Parts.{Pairs, bare_env, joined}
 use Rattle.env_parts.proofs.PartLemmas.{joined-bare}
-use Rattle.rule_envs.specs.declared.carrier.Carrier.{Carrier}
+use Rattle.rule_envs.specs.declared.carrier.FileEnv.{FileEnv}
 use Rattle.rule_envs.specs.Shares.{bare_carrier, StandsAt}
 use Rattle.rule_envs.specs.Carriers.{extended, replaced, becomes_by, next_carriers}
 use Rattle.rule_envs.specs.Places.{parts_at}
 
 -- each environment replaced by its extensions with the parts at its place
-abbrev pub all_replaced : ℕ → List (List Pairs) → List Carrier → List (Option ℕ) → List Carrier
+abbrev pub all_replaced : ℕ → List (List Pairs) → List FileEnv → List (Option ℕ) → List FileEnv
 all_replaced number parts [] places = []
 all_replaced number parts (c ∷ cs) [] = []
 all_replaced number parts (c ∷ cs) (place ∷ places) = replaced number c (parts_at parts place) ++ all_replaced number parts cs places
 
 -- extensions don't depend on ids
-extended-bare : (number : ℕ) (c : Carrier) (parts : List Pairs)
+extended-bare : (number : ℕ) (c : FileEnv) (parts : List Pairs)
     → map bare_carrier (map (extended number c) parts) ≡ map (extended number (bare_carrier c)) (map bare_env parts)
 extended-bare number c [] = refl
 extended-bare number c (part ∷ parts) =
@@ -26,7 +26,7 @@ extended-bare number c (part ∷ parts) =
     let r = extended-bare number c parts in
     λ i. record { env = e i; rules = c.rules ++ number ∷ [] } ∷ r i
 
-pub replaced-bare : (number : ℕ) (c : Carrier) (parts : List Pairs)
+pub replaced-bare : (number : ℕ) (c : FileEnv) (parts : List Pairs)
     → map bare_carrier (replaced number c parts) ≡ replaced number (bare_carrier c) (map bare_env parts)
 replaced-bare number c [] = refl
 replaced-bare number c (part ∷ parts) = extended-bare number c (part ∷ parts)
@@ -42,11 +42,12 @@ parts_at-some : (parts : List (List Pairs)) (brings : Pairs → List Pairs) (pro
 parts_at-some parts brings projections k env brought there =
     let whole : slice_get (map (map bare_env) parts) k ≡ Some (brings env) =
     ap (λ ps. slice_get ps k) brought ∙ slice_get-map brings projections k ∙ ap (option_map brings) there in
-    at_some (slice_get parts k) (get_or parts k []) (brings env) (λ x h. get_or_from_slice_get parts k x [] h) (sym (slice_get-map (map bare_env) parts k) ∙ whole)
+    at_some (slice_get parts k) (get_or parts k []) (brings env) (λ x h. get_or_from_slice_get parts k x [] h)
+    (sym (slice_get-map (map bare_env) parts k) ∙ whole)
 
-module _ (number : ℕ) (share : Carrier → Option Pairs) (brings : Pairs → List Pairs) (projections : List Pairs)
+module _ (number : ℕ) (share : FileEnv → Option Pairs) (brings : Pairs → List Pairs) (projections : List Pairs)
     (parts : List (List Pairs)) (brought : map (map bare_env) parts ≡ map brings projections) where
-  becomes_one : (c : Carrier) (o : Option Pairs) (place : Option ℕ) → StandsAt projections o place
+  becomes_one : (c : FileEnv) (o : Option Pairs) (place : Option ℕ) → StandsAt projections o place
       → map bare_carrier (replaced number c (parts_at parts place)) ≡ becomes_by number share brings (bare_carrier c) o
   becomes_one c None place stands =
       replaced-bare number c (parts_at parts place)
@@ -57,7 +58,7 @@ module _ (number : ℕ) (share : Carrier → Option Pairs) (brings : Pairs → L
       ∙ ap (λ p. replaced number (bare_carrier c) (map bare_env (parts_at parts p))) stands.1.0
       ∙ ap (replaced number (bare_carrier c)) (parts_at-some parts brings projections k env brought stands.1.1)
 
-  pub all_becomes : (cs : List Carrier) (places : List (Option ℕ)) → AllZip (StandsAt projections) (map share (map bare_carrier cs)) places
+  pub all_becomes : (cs : List FileEnv) (places : List (Option ℕ)) → AllZip (StandsAt projections) (map share (map bare_carrier cs)) places
       → map bare_carrier (all_replaced number parts cs places) ≡ next_carriers number share brings (map bare_carrier cs)
   all_becomes [] places stand = refl
   all_becomes (c ∷ cs) [] stand = absurd stand
@@ -67,29 +68,29 @@ module _ (number : ℕ) (share : Carrier → Option Pairs) (brings : Pairs → L
 
 -- ---- the loop over the environments
 
-pub all_done : (number : ℕ) (parts : List (List Pairs)) (cs : List Carrier) (places : List (Option ℕ)) (i : ℕ) (next : List Carrier)
+pub all_done : (number : ℕ) (parts : List (List Pairs)) (cs : List FileEnv) (places : List (Option ℕ)) (i : ℕ) (next : List FileEnv)
     → length cs ≤ i → next ++ all_replaced number parts (drop i cs) (drop i places) ≡ all_replaced number parts cs places
     → next ≡ all_replaced number parts cs places
 all_done number parts cs places i next past h =
     sym (append-nil next)
-    ∙ ap (λ (xs : List Carrier). next ++ all_replaced number parts xs (drop i places)) (sym (drop_all i cs past)) ∙ h
+    ∙ ap (λ (xs : List FileEnv). next ++ all_replaced number parts xs (drop i places)) (sym (drop_all i cs past)) ∙ h
 
 -- the environments so far, those that replace this one, and those that replace the later ones
-pub one_replaced : (number : ℕ) (parts : List (List Pairs)) (cs : List Carrier) (places : List (Option ℕ)) (i : ℕ) (next now : List Carrier)
-    (c : Carrier) (d : Option ℕ) → i < length cs → length places ≡ length cs → c ≡ get_or cs i c
+pub one_replaced : (number : ℕ) (parts : List (List Pairs)) (cs : List FileEnv) (places : List (Option ℕ)) (i : ℕ) (next now : List FileEnv)
+    (c : FileEnv) (d : Option ℕ) → i < length cs → length places ≡ length cs → c ≡ get_or cs i c
     → next ++ all_replaced number parts (drop i cs) (drop i places) ≡ all_replaced number parts cs places
     → now ≡ next ++ replaced number c (parts_at parts (get_or places i d))
     → now ++ all_replaced number parts (drop (i + 1) cs) (drop (i + 1) places) ≡ all_replaced number parts cs places
 one_replaced number parts cs places i next now c d within even at h is =
     let place = get_or places i d in
-    let left : drop i cs ≡ c ∷ drop (i + 1) cs = drop_more cs i c within ∙ ap (λ (x : Carrier). x ∷ drop (i + 1) cs) (sym at) in
+    let left : drop i cs ≡ c ∷ drop (i + 1) cs = drop_more cs i c within ∙ ap (λ (x : FileEnv). x ∷ drop (i + 1) cs) (sym at) in
     let right : drop i places ≡ place ∷ drop (i + 1) places =
     drop_more places i d (omega arith) in
     let more = all_replaced number parts (drop (i + 1) cs) (drop (i + 1) places) in
-    ap (λ (xs : List Carrier). xs ++ more) is ∙ append_assoc next (replaced number c (parts_at parts place)) more
+    ap (λ (xs : List FileEnv). xs ++ more) is ∙ append_assoc next (replaced number c (parts_at parts place)) more
     ∙ (λ j. next ++ all_replaced number parts (sym left j) (sym right j)) ∙ h
 
-pub front_is_less : (all now more : List Carrier) (f : Carrier → Carrier) (most : ℕ) → now ++ more ≡ all → most < length now → most < length (map f all)
+pub front_is_less : (all now more : List FileEnv) (f : FileEnv → FileEnv) (most : ℕ) → now ++ more ≡ all → most < length now → most < length (map f all)
 front_is_less all now more f most h lt =
     let e : length now + length more ≡ length all = sym (length-append now more) ∙ ap length h in
     let m : length (map f all) ≡ length all = length-map all f in omega arith

@@ -7,7 +7,7 @@ use Rattle.smpl_terms.specs.declared.value.Value.TheVariants.{Place}
 use Rattle.smpl_terms.specs.Environments.{has_value}
 use Rattle.smpl_patch.specs.declared.rule.Dep.TheVariants.{Always, Had, Ever}
 use Rattle.env_parts.specs.Parts.{Pairs, restricted, distinct}
-use Rattle.rule_envs.specs.declared.carrier.Carrier.{Carrier}
+use Rattle.rule_envs.specs.declared.carrier.FileEnv.{FileEnv}
 use Rattle.rule_envs.specs.Depends.{judge}
 use Rattle.rule_envs.specs.Shares.{projections}
 use Rattle.rule_envs.specs.Carriers.{exported, first_carriers, next_carriers}
@@ -22,15 +22,15 @@ b = record { rule = 0; name = codes "b" }
 abbrev both : ℕ → ℕ → Pairs
 both n m = (a, Place n) ∷ (b, Place m) ∷ []
 
-abbrev empty : Carrier
+abbrev empty : FileEnv
 empty = record { env = []; rules = [] }
 
-abbrev carrier : Pairs → List ℕ → Carrier
+abbrev carrier : Pairs → List ℕ → FileEnv
 carrier env rules = record { env = env; rules = rules }
 
 -- what a rule that inherits both variables is run under, if each environment that carries rules takes part
-abbrev under : (List ℕ → Bool) → List Carrier → List Pairs
-under depends cs = distinct (filter_map (λ (c : Carrier). cond (depends c.rules && list_all (has_value c.env) (a ∷ b ∷ []))
+abbrev under : (List ℕ → Bool) → List FileEnv → List Pairs
+under depends cs = distinct (filter_map (λ (c : FileEnv). cond (depends c.rules && list_all (has_value c.env) (a ∷ b ∷ []))
     (Some (restricted (a ∷ b ∷ []) c.env)) None) cs)
 
 -- the values of two environments are never mixed, equal choices count once, and an environment that lacks a variable doesn't

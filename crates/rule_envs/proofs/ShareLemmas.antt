@@ -1,5 +1,6 @@
 -- Shares of environments, with and without the ids of tokens, and their places among the projections.
-use Rattle.std.proofs.Common.{◌≡◌, ◌<◌, ◌+◌, ℕ, zero, suc, true, false, ◌&&◌, cond, Some, None, Option, refl, sym, ap, ◌∙◌, subst, List, [], ◌∷◌, ◌++◌, length, get_or, take, map}
+use Rattle.std.proofs.Common.{◌≡◌, ◌<◌, ◌+◌, ℕ, zero, suc, true, false, ◌&&◌, cond, Some, None, Option, refl, sym, ap, ◌∙◌}
+use Rattle.std.proofs.Common.{subst, List, [], ◌∷◌, ◌++◌, length, get_or, take, map}
 use Rattle.std.specs.Prelude.{option_map, slice_get, IsSomeAnd, MatchOption}
 use Rattle.std.specs.List.{list_all, list_any, filter_map, cons_option, AllZip}
 use Rattle.std.proofs.lemmas.List.{take_more, map-append, append-nil}
@@ -9,7 +10,7 @@ use Rattle.smpl_terms.specs.Environments.{has_value}
 use Rattle.smpl_patch.specs.declared.rule.Dep.{Dep}
 use Rattle.env_parts.specs.Parts.{Pairs, bare_env, restricted, same_env, with_new, distinct_after}
 use Rattle.env_parts.proofs.PartLemmas.{has_value-bare, restricted-bare, same_env-bare}
-use Rattle.rule_envs.specs.declared.carrier.Carrier.{Carrier}
+use Rattle.rule_envs.specs.declared.carrier.FileEnv.{FileEnv}
 use Rattle.rule_envs.specs.Depends.{judge}
 use Rattle.rule_envs.specs.Shares.{bare_carrier, share, StandsAt}
 
@@ -18,7 +19,7 @@ has_all-bare env [] = refl
 has_all-bare env (x ∷ xs) = λ i. has_value-bare env x i && has_all-bare env xs i
 
 -- a share doesn't depend on ids
-pub share-bare : (defined : List (List ℕ)) (had : List ℕ) (depends : Dep) (inherited : List Var) (c : Carrier)
+pub share-bare : (defined : List (List ℕ)) (had : List ℕ) (depends : Dep) (inherited : List Var) (c : FileEnv)
     → share defined had depends inherited (bare_carrier c) ≡ option_map bare_env (share defined had depends inherited c)
 share-bare defined had depends inherited c =
     (λ i. cond (judge c.rules had defined depends && has_all-bare c.env inherited i) (Some (restricted-bare inherited c.env i)) None)
@@ -34,7 +35,7 @@ abbrev pub Joins : List Pairs → List Pairs → Option Pairs → Option ℕ →
 Joins envs now o place = MatchOption o ((now ≡ envs) × (place ≡ None)) (λ env.
     (now ≡ with_new envs env) × ((k : ℕ) × ((place ≡ Some k) × IsSomeAnd (slice_get now k) (λ e. same_env env e ≡ true))))
 
-pub share_rest : (f : Carrier → Option Pairs) (envs now : List Pairs) (o : Option Pairs) (place : Option ℕ) (c : Carrier) (cs : List Carrier)
+pub share_rest : (f : FileEnv → Option Pairs) (envs now : List Pairs) (o : Option Pairs) (place : Option ℕ) (c : FileEnv) (cs : List FileEnv)
     → o ≡ f c → Joins envs now o place → distinct_after now (filter_map f cs) ≡ distinct_after envs (filter_map f (c ∷ cs))
 share_rest f envs now None place c cs is joins =
     ap (λ (x : List Pairs). distinct_after x (filter_map f cs)) joins.0

@@ -5,24 +5,24 @@ use Rattle.smpl_terms.specs.declared.var.Var.{Var}
 use Rattle.smpl_terms.specs.Environments.{has_value}
 use Rattle.smpl_patch.specs.declared.rule.Dep.{Dep}
 use Rattle.env_parts.specs.Parts.{Pairs, restricted, distinct, bare_env}
-use Rattle.rule_envs.specs.declared.carrier.Carrier.{Carrier}
+use Rattle.rule_envs.specs.declared.carrier.FileEnv.{FileEnv}
 use Rattle.rule_envs.specs.Depends.{judge}
 
 -- the environment without the ids of tokens
-abbrev pub bare_carrier : Carrier → Carrier
+abbrev pub bare_carrier : FileEnv → FileEnv
 bare_carrier c = record c { env = bare_env c.env }
 
 module _ (defined : List (List ℕ)) (had : List ℕ) (depends : Dep) (inherited : List Var) where
   -- the condition that the rule depends on holds for the environment, and it has all inherited variables
-  abbrev pub takes_part : Carrier → Bool
+  abbrev pub takes_part : FileEnv → Bool
   takes_part c = judge c.rules had defined depends && list_all (has_value c.env) inherited
 
   -- its values of the inherited variables, if it takes part
-  abbrev pub share : Carrier → Option Pairs
+  abbrev pub share : FileEnv → Option Pairs
   share c = cond (takes_part c) (Some (restricted inherited c.env)) None
 
   -- what the rule is run under: the distinct shares, in the order in which they first appear
-  abbrev pub projections : List Carrier → List Pairs
+  abbrev pub projections : List FileEnv → List Pairs
   projections carriers = distinct (filter_map share carriers)
 
 -- the place of a share among the projections, or none if there is no share

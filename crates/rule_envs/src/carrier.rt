@@ -1,6 +1,6 @@
 // Environments with the rules that they carry.
 ghost use Rattle.std.specs.Prelude.{◌≡◌, IfOk, map};
-ghost use Rattle.rule_envs.specs.Carriers as of;
+ghost use Rattle.rule_envs.specs.Carriers as spec;
 
 use c_terms::NoMemory;
 use smpl_terms::{Env, SharedList};
@@ -9,17 +9,17 @@ use std::alloc::Global;
 
 /// An environment, and the rules that had a witness on the way to it, by number. Copies share the list of rules.
 #[derive(Drop)]
-pub struct Carrier {
+pub struct FileEnv {
     pub env: Env,
     pub rules: SharedList<u32>,
 }
 
 /// Returns what the first rule begins with: one empty environment, which carries no rule.
-pub fn first_carriers(alloc: Global) -> Result<Items<Carrier>, NoMemory>
-    ensures carriers { IfOk result (λ carriers. carriers ≡ of.first_carriers) }
+pub fn first_carriers(alloc: Global) -> Result<Items<FileEnv>, NoMemory>
+    ensures carriers { IfOk result (λ carriers. carriers ≡ spec.first_carriers) }
 {
     let mut carriers = Items::new(alloc);
-    carriers.push(Carrier {
+    carriers.push(FileEnv {
         env: Env::empty(alloc),
         rules: SharedList::empty(),
     })?;
@@ -27,16 +27,16 @@ pub fn first_carriers(alloc: Global) -> Result<Items<Carrier>, NoMemory>
 }
 
 /// Returns an equal carrier. It shares the environment and the list of rules, so that this takes the same time for any carrier.
-pub fn copied(alloc: Global, carrier: &Carrier) -> Result<Carrier, NoMemory>
+pub fn copied(alloc: Global, carrier: &FileEnv) -> Result<FileEnv, NoMemory>
     ensures { IfOk result (λ c. c ≡ carrier.now) }
 {
     let env = carrier.env.copy(alloc)?;
     let rules = carrier.rules.share()?;
-    Ok(Carrier { env, rules })
+    Ok(FileEnv { env, rules })
 }
 
 /// Returns the environments alone, in order. They share their pairs.
-pub fn envs_of(alloc: Global, carriers: &[Carrier]) -> Result<Items<Env>, NoMemory>
+pub fn envs_of(alloc: Global, carriers: &[FileEnv]) -> Result<Items<Env>, NoMemory>
     ensures envs { IfOk result (λ envs. envs ≡ map (λ c. c.env) carriers.now) }
 {
     let mut envs = Items::new(alloc);

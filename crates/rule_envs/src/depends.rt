@@ -2,7 +2,7 @@
 ghost use Rattle.std.specs.Prelude.{◌≡◌, eqb};
 ghost use Rattle.std.specs.List.{list_any};
 ghost use Rattle.c_terms.specs.Same.{same_bytes};
-ghost use Rattle.rule_envs.specs.Depends as of;
+ghost use Rattle.rule_envs.specs.Depends as spec;
 
 use c_terms::{Text, same_text};
 use smpl_patch::Dep;
@@ -11,7 +11,7 @@ use smpl_patch::Dep;
 /// have had a witness and the virtual names `defined` are defined. Recurses once per level of the condition, and takes no
 /// memory.
 pub fn judge(dep: &Dep, carried: &[u32], had: &[u32], defined: &[Text]) -> bool
-    ensures value { result ≡ of.judge carried.now had.now defined.now dep.now }
+    ensures value { result ≡ spec.judge carried.now had.now defined.now dep.now }
 {
     match dep {
         Dep::Always => true,

@@ -1,6 +1,6 @@
 // The values that witnesses pass to later rules.
 ghost use Rattle.std.specs.Prelude.{◌≡◌, IfOk, map};
-ghost use Rattle.rule_envs.specs.Carriers as of;
+ghost use Rattle.rule_envs.specs.Carriers as spec;
 
 use c_terms::NoMemory;
 use env_parts::{DistinctEnvs, restricted};
@@ -16,7 +16,7 @@ pub fn exported(
     exports: &[Var],
     found: &[RuleWitness],
 ) -> Result<Items<Env>, NoMemory>
-    ensures envs { IfOk result (λ envs. envs ≡ of.exported exports.now (map (λ w. w.env) found.now)) }
+    ensures envs { IfOk result (λ envs. envs ≡ spec.exported exports.now (map (λ w. w.env) found.now)) }
 {
     let mut envs = DistinctEnvs::new(alloc);
     for w in found {

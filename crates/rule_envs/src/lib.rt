@@ -26,7 +26,7 @@ mod next;
 mod rule_formulas;
 mod shares;
 
-pub use carrier::{Carrier, envs_of, first_carriers};
+pub use carrier::{FileEnv, envs_of, first_carriers};
 pub use depends::judge;
 pub use exports::exported;
 pub use fault::EnvsFault;

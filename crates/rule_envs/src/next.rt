@@ -1,12 +1,12 @@
 // The environments after a rule.
 ghost use Rattle.std.specs.Prelude.{◌≡◌, ◌<◌, ◌≤◌, ◌++◌, ℕ, List, [], Option, IfOk, IfErr, IsErrOf, map, length};
 ghost use Rattle.env_parts.specs.Parts.{Pairs, bare_env};
-ghost use Rattle.rule_envs.specs.declared.carrier.Carrier.{Carrier as One};
+ghost use Rattle.rule_envs.specs.declared.carrier.FileEnv.{FileEnv as One};
 ghost use Rattle.rule_envs.specs.Shares.{bare_carrier};
-ghost use Rattle.rule_envs.specs.Carriers as of;
+ghost use Rattle.rule_envs.specs.Carriers as spec;
 ghost use Rattle.rule_envs.specs.Places.{parts_at};
 
-use crate::carrier::{Carrier, copied};
+use crate::carrier::{FileEnv, copied};
 use crate::fault::EnvsFault;
 use c_terms::NoMemory;
 use env_parts::joined;
@@ -16,24 +16,24 @@ use std::alloc::Global;
 
 const MOST_ENVIRONMENTS: usize = 10_000;
 
-fn extended(alloc: Global, number: u32, carrier: &Carrier, part: &Env) -> Result<Carrier, NoMemory>
-    ensures { IfOk result (λ c. c ≡ of.extended number carrier.now part.now) }
+fn extended(alloc: Global, number: u32, carrier: &FileEnv, part: &Env) -> Result<FileEnv, NoMemory>
+    ensures { IfOk result (λ c. c ≡ spec.extended number carrier.now part.now) }
 {
     let env = joined(alloc, &carrier.env, part)?;
     let mut rules = Vec::from_slice(alloc, carrier.rules.as_slice())?;
     rules.push(number)?;
     let rules = SharedList::of(alloc, rules)?;
-    Ok(Carrier { env, rules })
+    Ok(FileEnv { env, rules })
 }
 
 fn extend(
     alloc: Global,
     number: u32,
-    carrier: &Carrier,
+    carrier: &FileEnv,
     parts: &[Env],
-    next: Items<Carrier>,
-) -> Result<Items<Carrier>, NoMemory>
-    ensures { IfOk result (λ now. now ≡ next ++ map (of.extended number carrier.now) parts.now) }
+    next: Items<FileEnv>,
+) -> Result<Items<FileEnv>, NoMemory>
+    ensures { IfOk result (λ now. now ≡ next ++ map (spec.extended number carrier.now) parts.now) }
 {
     let mut next = next;
     for part in parts {
@@ -47,11 +47,11 @@ fn extend(
 fn replace(
     alloc: Global,
     number: u32,
-    carrier: &Carrier,
+    carrier: &FileEnv,
     parts: &[Env],
-    next: Items<Carrier>,
-) -> Result<Items<Carrier>, NoMemory>
-    ensures { IfOk result (λ now. now ≡ next ++ of.replaced number carrier.now parts.now) }
+    next: Items<FileEnv>,
+) -> Result<Items<FileEnv>, NoMemory>
+    ensures { IfOk result (λ now. now ≡ next ++ spec.replaced number carrier.now parts.now) }
 {
     if parts.is_empty() {
         let mut next = next;
@@ -84,18 +84,18 @@ fn parts_of<'a>(parts: &'a [Items<Env>], place: Option<usize>) -> &'a [Env]
 pub fn next_carriers(
     alloc: Global,
     number: u32,
-    carriers: &[Carrier],
+    carriers: &[FileEnv],
     places: &[Option<usize>],
     parts: &[Items<Env>],
-) -> Result<Items<Carrier>, EnvsFault>
+) -> Result<Items<FileEnv>, EnvsFault>
     requires lengths { length places.now ≡ length carriers.now }
     ensures carriers { IfOk result (λ next. (share : One → Option Pairs) (brings : Pairs → List Pairs)
-        → of.AreBrought share brings (map bare_carrier carriers.now) places.now (map (map bare_env) parts.now)
-        → map bare_carrier next ≡ of.next_carriers number share brings (map bare_carrier carriers.now)) }
-    ensures few { IfOk result (λ next. length next ≤ of.most_environments) }
+        → spec.AreBrought share brings (map bare_carrier carriers.now) places.now (map (map bare_env) parts.now)
+        → map bare_carrier next ≡ spec.next_carriers number share brings (map bare_carrier carriers.now)) }
+    ensures few { IfOk result (λ next. length next ≤ spec.most_environments) }
     ensures too_many { IsErrOf result EnvsFault.TooMany → (share : One → Option Pairs) (brings : Pairs → List Pairs)
-        → of.AreBrought share brings (map bare_carrier carriers.now) places.now (map (map bare_env) parts.now)
-        → of.most_environments < length (of.next_carriers number share brings (map bare_carrier carriers.now)) }
+        → spec.AreBrought share brings (map bare_carrier carriers.now) places.now (map (map bare_env) parts.now)
+        → spec.most_environments < length (spec.next_carriers number share brings (map bare_carrier carriers.now)) }
 {
     let mut next = Items::new(alloc);
     for i in 0..carriers.len() {

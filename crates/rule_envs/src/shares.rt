@@ -3,9 +3,9 @@ ghost use Rattle.std.specs.Prelude.{◌≡◌, IfOk, IsSomeAnd, MatchOption, Non
 ghost use Rattle.std.specs.List.{list_all, AllZip};
 ghost use Rattle.smpl_terms.specs.Environments.{has_value};
 ghost use Rattle.env_parts.specs.Parts as parts;
-ghost use Rattle.rule_envs.specs.Shares as of;
+ghost use Rattle.rule_envs.specs.Shares as spec;
 
-use crate::carrier::Carrier;
+use crate::carrier::FileEnv;
 use crate::depends::judge;
 use c_terms::{NoMemory, Text};
 use env_parts::{DistinctEnvs, restricted};
@@ -40,9 +40,9 @@ fn share(
     had: &[u32],
     depends: &Dep,
     inherited: &[Var],
-    carrier: &Carrier,
+    carrier: &FileEnv,
 ) -> Result<Option<Env>, NoMemory>
-    ensures { IfOk result (λ o. o ≡ of.share defined.now had.now depends.now inherited.now carrier.now) }
+    ensures { IfOk result (λ o. o ≡ spec.share defined.now had.now depends.now inherited.now carrier.now) }
 {
     if !judge(depends, carrier.rules.as_slice(), had, defined) {
         return Ok(None);
@@ -87,12 +87,12 @@ pub fn projections(
     had: &[u32],
     depends: &Dep,
     inherited: &[Var],
-    carriers: &[Carrier],
+    carriers: &[FileEnv],
 ) -> Result<Projected, NoMemory>
     ensures projections { IfOk result (λ r. r.projections
-        ≡ of.projections defined.now had.now depends.now inherited.now carriers.now) }
-    ensures places { IfOk result (λ r. AllZip (of.StandsAt (map parts.bare_env r.projections))
-        (map (of.share defined.now had.now depends.now inherited.now) (map of.bare_carrier carriers.now)) r.places) }
+        ≡ spec.projections defined.now had.now depends.now inherited.now carriers.now) }
+    ensures places { IfOk result (λ r. AllZip (spec.StandsAt (map parts.bare_env r.projections))
+        (map (spec.share defined.now had.now depends.now inherited.now) (map spec.bare_carrier carriers.now)) r.places) }
 {
     let mut envs = DistinctEnvs::new(alloc);
     let mut places = Items::new(alloc);

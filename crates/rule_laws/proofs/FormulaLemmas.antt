@@ -13,9 +13,9 @@ use Rattle.ctl_fixpoint.specs.CtlHolds.Parts.{EachPattern}
 use Rattle.pattern_vars.specs.VarPlaces.Placing.{Reading, occurs_element, occurs_body, at_suffix, is_alone}
 use Rattle.ctl_table.specs.Table.{Setting, Follow, Start, Nothing, Brace, Dots, Other, nothing, start_of, first_of, in_scope}
 use Rattle.ctl_table.specs.Table.{exists_all}
-use Rattle.ctl_table.specs.Table.{and_all, or_all, all_of, any_of, or_some, option_list, nots, hidden, own, copy, near}
-use Rattle.ctl_table.specs.Table.{near_body, near_each, near_first, near_option, is_end, joined, target, stays, within, until, nested}
-use Rattle.ctl_table.specs.Table.{condition, lone, closing, with_tail, downs, choices, seq, elem, each, first_and, when_parts}
+use Rattle.ctl_table.specs.Table.{and_all, or_all, all_of, any_of, or_some, option_list, nots, hidden, own, copy, ends_of}
+use Rattle.ctl_table.specs.Table.{ends_of_body, ends_of_each, ends_of_first, ends_of_option, is_end, joined, target, stays, within, until, nested}
+use Rattle.ctl_table.specs.Table.{condition, lone, closing, with_tail, in_branches, choices, seq, elem, each, first_and, when_parts}
 use Rattle.ctl_table.specs.Table.{setting, formula}
 
 all-append : {A : Type 0} (Q : A → Type 0) (xs ys : List A) → AllByRecursion Q xs → AllByRecursion Q ys → AllByRecursion Q (xs ++ ys)
@@ -115,9 +115,9 @@ module _ (P : Pattern → Type 0) where
       has-all_of (whens ++ (nots before ++ nots after))
       (all-append Has whens (nots before ++ nots after) h (all-append Has (nots before) (nots after) (has-nots before k) (has-nots after l)))
 
-  has-downs : (i : ℕ) (fs : List Plain) → HaveAll fs → HaveAll (downs i fs)
-  has-downs i [] h = tt
-  has-downs i (f ∷ fs) h = (h.0, has-downs (suc i) fs h.1)
+  has-in_branches : (i : ℕ) (fs : List Plain) → HaveAll fs → HaveAll (in_branches i fs)
+  has-in_branches i [] h = tt
+  has-in_branches i (f ∷ fs) h = (h.0, has-in_branches (suc i) fs h.1)
 
   has-choices : (earlier fs gs : List Plain) → HaveAll earlier → HaveAll fs → HaveAll gs → HaveAll (choices earlier fs gs)
   has-choices earlier [] gs h k l = tt
@@ -137,37 +137,37 @@ module _ (P : Pattern → Type 0) where
     has-copy p s h = has-exists_all (filter (λ x. m.reading.stands p x && not (in_scope s x)) m.locals) (Atom p) h
 
     mutual
-      has-near : (last : Bool) (e : Element) (s : List Var) → Each (patterns_element e) → HaveAll (option_list (near m last e s))
-      has-near last (bodies.Atom p) s h =
+      has-ends_of : (last : Bool) (e : Element) (s : List Var) → Each (patterns_element e) → HaveAll (option_list (ends_of m last e s))
+      has-ends_of last (bodies.Atom p) s h =
           has-choice (m.reading.is_statement p) None (Some (copy m p s)) tt (has-copy p s h.0, tt)
-      has-near last (Compound q bs t) s h = (has-copy q s h.0, tt)
-      has-near last (Block o b c) s h = tt
-      has-near last (Gap ws any strict) s h = tt
-      has-near last (Nest plus b ws any strict) s h = tt
-      has-near last (AnyOf bs) s h = has-or_some (near_each m last bs s) (has-near_each last bs s h)
-      has-near last (AllOf bs) s h = has-near_first last bs s h
+      has-ends_of last (Compound q bs t) s h = (has-copy q s h.0, tt)
+      has-ends_of last (Block o b c) s h = tt
+      has-ends_of last (Gap ws any strict) s h = tt
+      has-ends_of last (Nest plus b ws any strict) s h = tt
+      has-ends_of last (AnyOf bs) s h = has-or_some (ends_of_each m last bs s) (has-ends_of_each last bs s h)
+      has-ends_of last (AllOf bs) s h = has-ends_of_first last bs s h
 
-      has-near_body : (last : Bool) (b : Body) (s : List Var) → Each (patterns_body b) → HaveAll (option_list (near_body m last b s))
-      has-near_body last End s h = tt
-      has-near_body last (Then e rest) s h =
-          has-choice (last && not (is_end rest)) (near_body m last rest s) (near m last e s)
-          (has-near_body last rest s (all-back P (patterns_element e) (patterns_body rest) h))
-          (has-near last e s (all-front P (patterns_element e) (patterns_body rest) h))
+      has-ends_of_body : (last : Bool) (b : Body) (s : List Var) → Each (patterns_body b) → HaveAll (option_list (ends_of_body m last b s))
+      has-ends_of_body last End s h = tt
+      has-ends_of_body last (Then e rest) s h =
+          has-choice (last && not (is_end rest)) (ends_of_body m last rest s) (ends_of m last e s)
+          (has-ends_of_body last rest s (all-back P (patterns_element e) (patterns_body rest) h))
+          (has-ends_of last e s (all-front P (patterns_element e) (patterns_body rest) h))
 
-      has-near_each : (last : Bool) (bs : Bodies) (s : List Var) → Each (patterns_bodies bs) → HaveAll (near_each m last bs s)
-      has-near_each last NoMore s h = tt
-      has-near_each last (More b bs) s h =
-          all-append Has (option_list (near_body m last b s)) (near_each m last bs s)
-          (has-near_body last b s (all-front P (patterns_body b) (patterns_bodies bs) h))
-          (has-near_each last bs s (all-back P (patterns_body b) (patterns_bodies bs) h))
+      has-ends_of_each : (last : Bool) (bs : Bodies) (s : List Var) → Each (patterns_bodies bs) → HaveAll (ends_of_each m last bs s)
+      has-ends_of_each last NoMore s h = tt
+      has-ends_of_each last (More b bs) s h =
+          all-append Has (option_list (ends_of_body m last b s)) (ends_of_each m last bs s)
+          (has-ends_of_body last b s (all-front P (patterns_body b) (patterns_bodies bs) h))
+          (has-ends_of_each last bs s (all-back P (patterns_body b) (patterns_bodies bs) h))
 
-      has-near_first : (last : Bool) (bs : Bodies) (s : List Var) → Each (patterns_bodies bs) → HaveAll (option_list (near_first m last bs s))
-      has-near_first last NoMore s h = tt
-      has-near_first last (More b bs) s h = has-near_body last b s (all-front P (patterns_body b) (patterns_bodies bs) h)
+      has-ends_of_first : (last : Bool) (bs : Bodies) (s : List Var) → Each (patterns_bodies bs) → HaveAll (option_list (ends_of_first m last bs s))
+      has-ends_of_first last NoMore s h = tt
+      has-ends_of_first last (More b bs) s h = has-ends_of_body last b s (all-front P (patterns_body b) (patterns_bodies bs) h)
 
-    has-near_option : (last : Bool) (o : Option Element) (s : List Var) → EachOf o → HaveAll (option_list (near_option m last o s))
-    has-near_option last None s h = tt
-    has-near_option last (Some e) s h = has-near last e s h
+    has-ends_of_option : (last : Bool) (o : Option Element) (s : List Var) → EachOf o → HaveAll (option_list (ends_of_option m last o s))
+    has-ends_of_option last None s h = tt
+    has-ends_of_option last (Some e) s h = has-ends_of last e s h
 
     has-with_tail : (w : List Var) (t : Option Pattern) (f : Plain) → Each (option_patterns t) → Has f → Has (with_tail m w t f)
     has-with_tail w None f h k = k
@@ -194,10 +194,10 @@ module _ (P : Pattern → Type 0) where
     has-elem m before after (bodies.Atom p) k w s t o a h g =
         has-joined m.forall_walks (m.reading.is_statement p) (own m w p (Atom p)) k.start (k.at s) (has-own m w p (Atom p) h.0) (g s)
     has-elem m before after (Compound p bs tail) k w s t o a h g = (
-      has-with_tail m w tail (and_all (own m w p (Atom p)) (downs 0 (each m bs nothing w s)))
+      has-with_tail m w tail (and_all (own m w p (Atom p)) (in_branches 0 (each m bs nothing w s)))
           (all-back P (patterns_bodies bs) (option_patterns tail) h.1)
-          (has-and_all (own m w p (Atom p)) (downs 0 (each m bs nothing w s)) (has-own m w p (Atom p) h.0)
-          (has-downs 0 (each m bs nothing w s)
+          (has-and_all (own m w p (Atom p)) (in_branches 0 (each m bs nothing w s)) (has-own m w p (Atom p) h.0)
+          (has-in_branches 0 (each m bs nothing w s)
           (has-each m bs nothing w s (all-front P (patterns_bodies bs) (option_patterns tail) h.1) (λ u. tt)))),
       g s,
     )
@@ -209,17 +209,19 @@ module _ (P : Pattern → Type 0) where
         ((has-own m w p (BraceOpen p v) h.0, inside), g s)
     has-elem m before after (Gap ws any strict) k w s t o a h g =
         has-until m.forall_walks strict
-        (condition any (stays m.around ++ when_parts m ws s) (near_option m true before t) (near_option m false after s)) (target m.around k.start (k.at s))
-        (has-condition any (stays m.around ++ when_parts m ws s) (near_option m true before t) (near_option m false after s) (has-firsts m.around (when_parts m ws s) (has-whens m ws s h))
-        (has-near_option m true before t o) (has-near_option m false after s a))
+        (condition any (stays m.around ++ when_parts m ws s) (ends_of_option m true before t) (ends_of_option m false after s))
+        (target m.around k.start (k.at s))
+        (has-condition any (stays m.around ++ when_parts m ws s) (ends_of_option m true before t)
+        (ends_of_option m false after s) (has-firsts m.around (when_parts m ws s) (has-whens m ws s h))
+        (has-ends_of_option m true before t o) (has-ends_of_option m false after s a))
         (has-target m.around k.start (k.at s) (g s))
     has-elem m before after (Nest plus b ws any strict) k w s t o a h g =
         has-nested m.forall_walks plus strict
-        (condition any (stays m.around ++ when_parts m ws s) (near_option m true before t) (near_option m false after s))
+        (condition any (stays m.around ++ when_parts m ws s) (ends_of_option m true before t) (ends_of_option m false after s))
         (seq m None b nothing (filter (occurs_body m.reading b) w) s s) (target m.around k.start (k.at s))
-        (has-condition any (stays m.around ++ when_parts m ws s) (near_option m true before t) (near_option m false after s)
+        (has-condition any (stays m.around ++ when_parts m ws s) (ends_of_option m true before t) (ends_of_option m false after s)
         (has-firsts m.around (when_parts m ws s) (has-whens m ws s (all-back P (patterns_body b) (patterns_bodies ws) h)))
-        (has-near_option m true before t o) (has-near_option m false after s a))
+        (has-ends_of_option m true before t o) (has-ends_of_option m false after s a))
         (has-seq m None b nothing (filter (occurs_body m.reading b) w) s s tt
         (all-front P (patterns_body b) (patterns_bodies ws) h) (λ u. tt))
         (has-target m.around k.start (k.at s) (g s))

@@ -13,13 +13,15 @@ NoneFell-refl now = record { shelf = omega arith; out = omega arith; err = omega
 pub NoneFell-then : (first before now : Counts) → NoneFell first before → NoneFell before now → NoneFell first now
 NoneFell-then first before now one two = record { shelf = omega arith; out = omega arith; err = omega arith }
 
-LineMayStand-earlier : (first before now : Counts) (line : List ℕ) (old new : Told) → NoneFell first before → LineMayStand before now line old new → LineMayStand first now line old new
+LineMayStand-earlier : (first before now : Counts) (line : List ℕ) (old new : Told) → NoneFell first before
+    → LineMayStand before now line old new → LineMayStand first now line old new
 LineMayStand-earlier first before now line old new fell (inl whole) = inl whole
 LineMayStand-earlier first before now line old new fell (inr (inl none)) = inr (inl none)
 LineMayStand-earlier first before now line old new fell (inr (inr part)) =
     inr (inr (Rose-earlier _ _ _ fell.err part.0, part.1))
 
-Fails-earlier : (first before now : Counts) (act : Act) (old new : Told) (status : ℕ) → NoneFell first before → Fails before now act old new status → Fails first now act old new status
+Fails-earlier : (first before now : Counts) (act : Act) (old new : Told) (status : ℕ) → NoneFell first before
+    → Fails before now act old new status → Fails first now act old new status
 Fails-earlier first before now (Load name limit) old new status fell fails = (
   Rose-earlier _ _ _ fell.shelf fails.0,
   elim fails.1 [
@@ -35,7 +37,8 @@ Fails-earlier first before now (Report line) old new status fell fails =
     (fails.0, Rose-earlier _ _ _ fell.err fails.1, fails.2)
 
 -- the counts may begin earlier
-pub Breaks-earlier : (first before now : Counts) (act : Act) (old new : Told) (status : ℕ) → NoneFell first before → Breaks before now act old new status → Breaks first now act old new status
+pub Breaks-earlier : (first before now : Counts) (act : Act) (old new : Told) (status : ℕ) → NoneFell first before
+    → Breaks before now act old new status → Breaks first now act old new status
 Breaks-earlier first before now act old new status fell (inl none) = inl none
 Breaks-earlier first before now act old new status fell (inr fails) = inr (Fails-earlier first before now act old new status fell fails)
 
@@ -47,6 +50,7 @@ not_failed before now calm (Print bytes) old new status fails = calm.out fails.1
 not_failed before now calm (Report line) old new status fails = calm.err fails.1
 
 -- an act breaks only if memory ran out or a count rose
-pub not_broken : (before now : Counts) → NoneRose before now → (act : Act) (old new : Told) (status : ℕ) → (status ≡ 7 → ⊥) → Breaks before now act old new status → ⊥
+pub not_broken : (before now : Counts) → NoneRose before now → (act : Act) (old new : Told) (status : ℕ) → (status ≡ 7 → ⊥)
+    → Breaks before now act old new status → ⊥
 not_broken before now calm act old new status memory (inl none) = memory none.0
 not_broken before now calm act old new status memory (inr fails) = not_failed before now calm act old new status fails

@@ -13,7 +13,8 @@ cannot_print_line : cannot_print ≡ codes "spatch: cannot print\n"
 cannot_print_line = refl
 
 -- a load leaves no trace, and two puts are written one after the other
-acts_in_order : after (Load (codes "p") 9 ∷ Print (codes "ab") ∷ Report (codes "x") ∷ Print (codes "c") ∷ []) (told None 3 (Some []) (Some (codes "w"))) ≡ told None 3 (Some (codes "abc")) (Some (codes "wx"))
+acts_in_order : after (Load (codes "p") 9 ∷ Print (codes "ab") ∷ Report (codes "x") ∷ Print (codes "c") ∷ [])
+    (told None 3 (Some []) (Some (codes "w"))) ≡ told None 3 (Some (codes "abc")) (Some (codes "wx"))
 acts_in_order = refl
 
 -- what isn't reported stays unreported
@@ -21,7 +22,8 @@ untold_stays : after (Print (codes "ab") ∷ Report (codes "x") ∷ []) (told No
 untold_stays = refl
 
 -- each store counts, even one of the same bytes on a shelf that reports nothing
-stores_count : after (Store (codes "k.c") (codes "x") ∷ Load (codes "k.c") 9 ∷ Store (codes "k.c") (codes "x") ∷ []) (told None 0 None None) ≡ told None 2 None None
+stores_count : after (Store (codes "k.c") (codes "x") ∷ Load (codes "k.c") 9 ∷ Store (codes "k.c") (codes "x") ∷ [])
+    (told None 0 None None) ≡ told None 2 None None
 stores_count = refl
 
 -- a store that fails counts too

@@ -14,6 +14,8 @@ pub found_none : (holds : Option Files) (name : List ℕ) → IsSomeAnd holds (�
 found_none None name is = absurd is
 found_none (Some files) name is = sym is
 
-pub found_long : (holds : Option Files) (name : List ℕ) (limit : ℕ) → IfSome holds (λ files. IsSomeAnd (get files name) (λ bytes. limit < length bytes)) → (under : Option (List ℕ)) × (Found holds name under × IsSomeAnd under (λ bytes. limit < length bytes))
+pub found_long : (holds : Option Files) (name : List ℕ) (limit : ℕ)
+    → IfSome holds (λ files. IsSomeAnd (get files name) (λ bytes. limit < length bytes))
+    → (under : Option (List ℕ)) × (Found holds name under × IsSomeAnd under (λ bytes. limit < length bytes))
 found_long None name limit is = (Some (replicate (limit + 1) 0), (refl, rw length-replicate (omega arith)))
 found_long (Some files) name limit is = (get files name, (refl, is))

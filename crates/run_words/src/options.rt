@@ -5,7 +5,7 @@ ghost use Rattle.std.specs.List.{list_all};
 ghost use Rattle.std.specs.Str.{is_utf8};
 ghost use Rattle.clap.specs.Words.{app_of, found_of, matched_of, raw_values, rule_of};
 ghost use Rattle.run_words.specs.Commands.{valued_new, flag_new, files_new, spatch_app};
-ghost use Rattle.run_words.specs.Options as told;
+ghost use Rattle.run_words.specs.Options as spec;
 ghost use Rattle.run_words.specs.Shown.{IsFound, shown_options};
 
 use c_terms::NoMemory;
@@ -100,7 +100,7 @@ fn read<'a>(alloc: Global, matches: &ArgMatches<'a>) -> Result<Given<'a>, AllocE
 pub fn parse<'a>(alloc: Global, words: &'a [&'a str]) -> Result<Option<Given<'a>>, NoMemory>
     requires { list_all is_utf8 (map (λ w. w.now) words.now) ≡ true }
     ensures { IfOk result (λ given. option_map shown_options given
-        ≡ told.options_of (map (λ w. w.now) words.entry.now)) }
+        ≡ spec.options_of (map (λ w. w.now) words.entry.now)) }
 {
     let command = command(alloc)?;
     match command.try_get_matches_from(words) {

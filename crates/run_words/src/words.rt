@@ -4,7 +4,7 @@ ghost use Rattle.std.specs.Option.{option_map_or};
 ghost use Rattle.run_words.specs.Values.{count_in, decimal_value, names_in};
 ghost use Rattle.std.specs.List.{list_all};
 ghost use Rattle.std.specs.Str.{is_utf8};
-ghost use Rattle.run_words.specs.Orders as told;
+ghost use Rattle.run_words.specs.Orders as spec;
 ghost use Rattle.run_words.specs.Shown.{HasJobs, shown_options, shown_order, shown_value};
 
 use crate::options::{Given, parse};
@@ -35,10 +35,10 @@ pub fn texts_of<'a>(alloc: Global, words: &'a [Text]) -> Result<Option<Vec<&'a s
 /// Returns what the words ask for, if they are a command. Takes memory in proportion to the words.
 pub fn order_of<'a>(alloc: Global, words: &'a [&'a str]) -> Result<Option<Order<'a>>, NoMemory>
     requires { list_all is_utf8 (map (λ w. w.now) words.now) ≡ true }
-    ensures order { IfOk result (λ order. option_map shown_order order ≡ told.order_of (map (λ w. w.now) words.entry.now)) }
+    ensures order { IfOk result (λ order. option_map shown_order order ≡ spec.order_of (map (λ w. w.now) words.entry.now)) }
 
     // A patch is applied with the number of jobs that the words give.
-    ensures jobs { IfOk result (λ order. IfSome order (HasJobs (told.jobs_of (map (λ w. w.now) words.entry.now)))) }
+    ensures jobs { IfOk result (λ order. IfSome order (HasJobs (spec.jobs_of (map (λ w. w.now) words.entry.now)))) }
 {
     match parse(alloc, words)? {
         Some(given) => order_given(alloc, given),
@@ -47,7 +47,7 @@ pub fn order_of<'a>(alloc: Global, words: &'a [&'a str]) -> Result<Option<Order<
 }
 
 fn is_filled(value: Option<&str>) -> bool
-    ensures { result ≡ told.is_filled (shown_value value.entry) }
+    ensures { result ≡ spec.is_filled (shown_value value.entry) }
 {
     match value {
         Some(text) => !text.is_empty(),
@@ -56,7 +56,7 @@ fn is_filled(value: Option<&str>) -> bool
 }
 
 fn are_filled(given: &Given<'_>) -> bool
-    ensures { result ≡ told.are_filled (shown_options given.now) }
+    ensures { result ≡ spec.are_filled (shown_options given.now) }
 {
     is_filled(given.sp_file)
         && is_filled(given.iso_file)
@@ -68,7 +68,7 @@ fn are_filled(given: &Given<'_>) -> bool
 
 /// Whether the number of jobs is valid, if it is given.
 fn has_jobs(given: &Given<'_>) -> bool
-    ensures { result ≡ told.has_jobs (shown_options given.now) }
+    ensures { result ≡ spec.has_jobs (shown_options given.now) }
 {
     match given.jobs {
         Some(value) => count(value, MOST_JOBS).is_some(),
@@ -78,8 +78,8 @@ fn has_jobs(given: &Given<'_>) -> bool
 
 /// Returns the maximum number of concurrent jobs: one if no number is given.
 fn jobs_of(given: &Given<'_>) -> u32
-    requires { told.has_jobs (shown_options given.now) ≡ true }
-    ensures value { result ≡ told.jobs_in (shown_options given.now) }
+    requires { spec.has_jobs (shown_options given.now) ≡ true }
+    ensures value { result ≡ spec.jobs_in (shown_options given.now) }
     ensures some { 1 ≤ result }
     ensures few { result ≤ 64 }
 {
@@ -103,14 +103,14 @@ fn jobs_in(value: &str) -> u32
 
 /// Whether no option has an empty value, and the number of jobs is valid.
 fn has_values(given: &Given<'_>) -> bool
-    ensures { result ≡ (told.are_filled (shown_options given.now) && told.has_jobs (shown_options given.now)) }
+    ensures { result ≡ (spec.are_filled (shown_options given.now) && spec.has_jobs (shown_options given.now)) }
 {
     are_filled(given) && has_jobs(given)
 }
 
 fn order_given<'a>(alloc: Global, given: Given<'a>) -> Result<Option<Order<'a>>, NoMemory>
-    ensures order { IfOk result (λ order. option_map shown_order order ≡ told.ordered (shown_options given.entry)) }
-    ensures jobs { IfOk result (λ order. IfSome order (HasJobs (told.jobs_in (shown_options given.entry)))) }
+    ensures order { IfOk result (λ order. option_map shown_order order ≡ spec.ordered (shown_options given.entry)) }
+    ensures jobs { IfOk result (λ order. IfSome order (HasJobs (spec.jobs_in (shown_options given.entry)))) }
 {
     if !has_values(&given) {
         return Ok(None);
@@ -123,7 +123,7 @@ fn order_given<'a>(alloc: Global, given: Given<'a>) -> Result<Option<Order<'a>>,
 
 /// Whether something is given that is only allowed with files.
 fn is_about_files(given: &Given<'_>) -> bool
-    ensures { result ≡ told.is_about_files (shown_options given.now) }
+    ensures { result ≡ spec.is_about_files (shown_options given.now) }
 {
     given.iso_file.is_some()
         || given.define.is_some()
@@ -134,9 +134,9 @@ fn is_about_files(given: &Given<'_>) -> bool
 
 /// Returns what is asked for with a seed.
 fn generating<'a>(alloc: Global, given: &Given<'a>, value: &str) -> Option<Order<'a>>
-    requires { told.has_jobs (shown_options given.now) ≡ true }
-    ensures order { option_map shown_order result ≡ told.generating (shown_options given.now) value.now }
-    ensures jobs { IfSome result (HasJobs (told.jobs_in (shown_options given.now))) }
+    requires { spec.has_jobs (shown_options given.now) ≡ true }
+    ensures order { option_map shown_order result ≡ spec.generating (shown_options given.now) value.now }
+    ensures jobs { IfSome result (HasJobs (spec.jobs_in (shown_options given.now))) }
 {
     if is_about_files(given) {
         return None;
@@ -147,9 +147,9 @@ fn generating<'a>(alloc: Global, given: &Given<'a>, value: &str) -> Option<Order
 }
 
 fn on_text<'a>(alloc: Global, given: &Given<'a>, seed: u64, functions: u32) -> Option<Order<'a>>
-    requires { told.has_jobs (shown_options given.now) ≡ true }
-    ensures order { option_map shown_order result ≡ told.on_text (shown_options given.now) seed functions }
-    ensures jobs { IfSome result (HasJobs (told.jobs_in (shown_options given.now))) }
+    requires { spec.has_jobs (shown_options given.now) ≡ true }
+    ensures order { option_map shown_order result ≡ spec.on_text (shown_options given.now) seed functions }
+    ensures jobs { IfSome result (HasJobs (spec.jobs_in (shown_options given.now))) }
 {
     match given.sp_file {
         Some(patch) => Some(Order::Apply(PatchOrder {
@@ -170,9 +170,9 @@ fn on_text<'a>(alloc: Global, given: &Given<'a>, seed: u64, functions: u32) -> O
 
 /// Returns what is asked for without a seed.
 fn editing<'a>(alloc: Global, given: Given<'a>) -> Result<Option<Order<'a>>, NoMemory>
-    requires { told.has_jobs (shown_options given) ≡ true }
-    ensures order { IfOk result (λ order. option_map shown_order order ≡ told.editing (shown_options given.entry)) }
-    ensures jobs { IfOk result (λ order. IfSome order (HasJobs (told.jobs_in (shown_options given.entry)))) }
+    requires { spec.has_jobs (shown_options given) ≡ true }
+    ensures order { IfOk result (λ order. option_map shown_order order ≡ spec.editing (shown_options given.entry)) }
+    ensures jobs { IfOk result (λ order. IfSome order (HasJobs (spec.jobs_in (shown_options given.entry)))) }
 {
     if given.files.is_empty() || given.functions.is_some() {
         return Ok(None);

@@ -12,7 +12,8 @@ use Rattle.smpl_body.specs.SmplWhen.Cutting.{cut}
 use Rattle.smpl_body.specs.Deep.{deep_fault}
 use Rattle.smpl_body.specs.Spelled.{body_forms}
 use Rattle.smpl_body.specs.DotsOf.{edges}
-use Rattle.smpl_body.specs.Bodies.{Spells, place_in, at_of, nested_hosts, all_edges, edge_faults, minus_faults, first_some, tree_fault, IsBodyFault, deep, unspelled, misplaced, body_elements, IsBody}
+use Rattle.smpl_body.specs.Bodies.{Spells, place_in, at_of, nested_hosts, all_edges, edge_faults, minus_faults, first_some}
+use Rattle.smpl_body.specs.Bodies.{tree_fault, IsBodyFault, deep, unspelled, misplaced, body_elements, IsBody}
 use Rattle.smpl_body.specs.SoFar.{AllSpell, IsMade}
 use Rattle.smpl_body.proofs.OnceLemmas.{OneTree, read-once, all-once}
 use Rattle.smpl_body.proofs.SpelledLemmas.{NoneSpell}

@@ -54,7 +54,8 @@ dots-Leaf listed a inside = ap (λ t. dots_in listed t inside) (sym (rolls-Leaf 
 
 pub dots-Branch : (listed : Bool) (l : Label) (cs : List Tree) (inside : Bool)
     → dots_in listed (Branch l cs) inside ≡ join (map (λ (d : Bool → List ℕ). d (is_list l)) (map (dots_in listed) cs))
-dots-Branch listed l cs inside = ap (λ t. dots_in listed t inside) (sym (rolls-Branch l cs)) ∙ ap (λ f. f inside) (fold-roll-Tree (Bool → List ℕ) (dots_step listed) _)
+dots-Branch listed l cs inside = ap (λ t. dots_in listed t inside) (sym (rolls-Branch l cs))
+    ∙ ap (λ f. f inside) (fold-roll-Tree (Bool → List ℕ) (dots_step listed) _)
 
 -- the last of several
 pub last-at : (ts : List Tree) (d : Tree) → 1 ≤ length ts → gap (get_or ts (length ts - 1) d) ≡ last_gap ts

@@ -12,7 +12,8 @@ use Rattle.smpl_patch.specs.Faults.{first_of}
 use Rattle.smpl_meta.specs.declared.patterns.Placed.{Placed}
 use Rattle.smpl_body.specs.Deep.{deep_from}
 use Rattle.smpl_body.specs.DotsOf.{list_dots, statement_dots, own_ends, edges}
-use Rattle.smpl_body.specs.Bodies.{signs_fit, without_positions, without_clauses, edge_faults, minus_dots, minus_signs, first_some, place_in, IsBodyFault, deep, unspelled}
+use Rattle.smpl_body.specs.Bodies.{signs_fit, without_positions, without_clauses, edge_faults, minus_dots, minus_signs}
+use Rattle.smpl_body.specs.Bodies.{first_some, place_in, IsBodyFault, deep, unspelled}
 use Rattle.smpl_body.proofs.EdgeLemmas.{edges-Leaf, edges-Branch, dots-Leaf, dots-Branch}
 
 -- a token of a pattern: its number, its place, the sign of its line

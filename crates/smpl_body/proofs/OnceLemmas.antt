@@ -15,7 +15,8 @@ use Rattle.smpl_body.specs.Spelled.{IsTree, IsFirst, IsRead, AreRead, code_forms
 
 -- tokens have at most one tree of a kind
 abbrev pub OneTree : Type 0
-OneTree = (kind : Kind) (names : Names) (tokens : List Token) (t u : Tree) → IsTrue (stands_alone kind) → IsTreeOf kind names tokens t → IsTreeOf kind names tokens u → t ≡ u
+OneTree = (kind : Kind) (names : Names) (tokens : List Token) (t u : Tree) → IsTrue (stands_alone kind)
+    → IsTreeOf kind names tokens t → IsTreeOf kind names tokens u → t ≡ u
 
 module _ (law : OneTree) where
   pub tree-once : (f : Form) (tokens : List Token) (t u : Tree) → IsTree f tokens t → IsTree f tokens u → t ≡ u

@@ -1,5 +1,7 @@
 -- Tokens that are read as a tree of one form, and of the first of several.
-use Rattle.std.proofs.Common.{◌≡◌, ◌≤◌, ◌<◌, ◌+◌, ◌-◌, ℕ, zero, suc, false, true, Bool, refl, sym, ap, ◌∙◌, arith, subst, List, [], ◌∷◌, slice_range, length, take, drop, get_or, drop-cons, Result, Ok, Err, Option, Some, None, inl, inr}
+use Rattle.std.proofs.Common.{◌≡◌, ◌≤◌, ◌<◌, ◌+◌, ◌-◌, ℕ, zero, suc, false, true, Bool, refl, sym, ap, ◌∙◌, arith, subst, List}
+use Rattle.std.proofs.Common.{[], ◌∷◌, slice_range, length, take, drop, get_or, drop-cons, Result, Ok, Err, Option, Some, None}
+use Rattle.std.proofs.Common.{inl, inr}
 use Rattle.std.specs.Prelude.{MatchOption}
 use Rattle.std.proofs.Math.Nat.{lt_of_not-le}
 use Rattle.std.proofs.Math.Seq.{take-length}
@@ -53,10 +55,12 @@ form-found form tokens t (Some u) h kept =
     subst (IsTree form tokens) (sym kept.0)
     (record { shallow = at-most (opens_of tokens) (λ big. false≢true (ap is_deep (h.too_deep.1 big))); spells = h.found; is_form = kept.1 })
 
-pub form-none : (form : Form) (tokens : List Token) (r : Result Tree ParseFault) → Reads (kind_of form) listed_names tokens r → r ≡ Err NoTreeFault → NoTree form tokens
+pub form-none : (form : Form) (tokens : List Token) (r : Result Tree ParseFault) → Reads (kind_of form) listed_names tokens r
+    → r ≡ Err NoTreeFault → NoTree form tokens
 form-none form tokens r h e = λ u is. h.no_tree e u is.spells
 
-pub form-deep : (form : Form) (tokens : List Token) (r : Result Tree ParseFault) → Reads (kind_of form) listed_names tokens r → r ≡ Err TooDeep → NoTree form tokens
+pub form-deep : (form : Form) (tokens : List Token) (r : Result Tree ParseFault) → Reads (kind_of form) listed_names tokens r
+    → r ≡ Err TooDeep → NoTree form tokens
 form-deep form tokens r h e = λ u is. let big = h.too_deep.0 e in absurd (omega (arith, big, is.shallow))
 
 -- ---- the first of several forms
@@ -93,7 +97,8 @@ drop-all zero (x ∷ xs) h = absurd (omega (arith, h))
 drop-all (suc n) [] h = refl
 drop-all (suc n) (x ∷ xs) h = drop-all n xs (omega (arith, h))
 
-pub first-end : (forms : List Form) (i : ℕ) (tokens : List Token) → length forms ≤ i → Into forms (drop i forms) tokens → (t : Tree) → IsFirst forms tokens t → ⊥
+pub first-end : (forms : List Form) (i : ℕ) (tokens : List Token) → length forms ≤ i → Into forms (drop i forms) tokens
+    → (t : Tree) → IsFirst forms tokens t → ⊥
 first-end forms i tokens h from = λ t is. subst (λ (fs : List Form). IsFirst fs tokens t) (drop-all i forms h) (from t is)
 
 -- trees of each form are read by themselves

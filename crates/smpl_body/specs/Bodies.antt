@@ -1,5 +1,6 @@
 -- The body of a rule: what spells it, what is wrong with it, and its elements.
-use Rattle.std.specs.Prelude.{ℕ, ◌+◌, ◌≡◌, ◌==◌, Bool, true, false, ◌&&◌, ◌||◌, not, if◌then◌else◌, List, [], ◌∷◌, ◌++◌, map, Option, None, Some, slice_get, codes}
+use Rattle.std.specs.Prelude.{ℕ, ◌+◌, ◌≡◌, ◌==◌, Bool, true, false, ◌&&◌, ◌||◌, not, if◌then◌else◌, List, [], ◌∷◌, ◌++◌, map}
+use Rattle.std.specs.Prelude.{Option, None, Some, slice_get, codes}
 use Rattle.std.specs.List.{list_all}
 use Rattle.std.specs.Str.{bytes_eq}
 use Rattle.c_terms.specs.declared.token.TokenKind.{TokenKind}
@@ -13,7 +14,7 @@ use Rattle.smpl_patch.specs.declared.fault.PatchFault.{PatchFault}
 use Rattle.smpl_patch.specs.declared.fault.PatchFault.TheVariants.{BadPattern, DotsAtEdge, MinusDots}
 use Rattle.smpl_patch.specs.Faults.{first_of}
 use Rattle.smpl_meta.specs.declared.patterns.Placed.{Placed}
-use Rattle.smpl_body.specs.declared.smpl_when.clauses.Said.{Said}
+use Rattle.smpl_body.specs.declared.smpl_when.clauses.WhenFlags.{WhenFlags}
 use Rattle.smpl_body.specs.declared.smpl_when.cutting.Code.{Code}
 use Rattle.smpl_body.specs.declared.smpl_when.cutting.Cutting.{Cutting}
 use Rattle.smpl_body.specs.SmplWhen.Cutting.{cut}
@@ -51,12 +52,12 @@ abbrev pub no_codes : List ℕ → Bool
 no_codes [] = true
 no_codes (k ∷ ks) = false
 
-abbrev pub says_nothing : Option Said → Bool
+abbrev pub says_nothing : Option WhenFlags → Bool
 says_nothing None = true
 says_nothing (Some s) = not s.any && not s.strict && no_codes s.codes
 
 -- none of the tokens with these numbers has a clause
-abbrev pub without_clauses : List Said → List ℕ → Bool
+abbrev pub without_clauses : List WhenFlags → List ℕ → Bool
 without_clauses said ids = list_all (λ id. says_nothing (slice_get said id)) ids
 
 -- No position follows dots that are statements, a sign, or a word of a clause. Dots that are members of a list have no
@@ -148,33 +149,33 @@ pub data IsBodyFault (ps : List Placed) (end : ℕ) : PatchFault → Type 0 wher
 -- ---- the elements of a body
 
 -- what the clauses of a token say, without code
-abbrev pub is_any : Option Said → Bool
+abbrev pub is_any : Option WhenFlags → Bool
 is_any None = false
 is_any (Some s) = s.any
 
-abbrev pub is_strict : Option Said → Bool
+abbrev pub is_strict : Option WhenFlags → Bool
 is_strict None = false
 is_strict (Some s) = s.strict
 
-abbrev pub codes_of : Option Said → List ℕ
+abbrev pub codes_of : Option WhenFlags → List ℕ
 codes_of None = []
 codes_of (Some s) = s.codes
 
 -- The clauses within code: if no dots are at an edge, there is no code within code.
-abbrev pub code_dots : List Said → ℕ → Dots
+abbrev pub code_dots : List WhenFlags → ℕ → Dots
 code_dots said id = roll-Dots (record { whens = []; any = is_any (slice_get said id); strict = is_strict (slice_get said id) })
 
 -- the code with a given number as elements, whose first pattern has a given number
-abbrev pub code_at : List Said → Option Tree → Option ℕ → List (List Elem)
+abbrev pub code_at : List WhenFlags → Option Tree → Option ℕ → List (List Elem)
 code_at said None n = []
 code_at said (Some t) None = []
 code_at said (Some t) (Some n) = elements (code_dots said) n t ∷ []
 
-abbrev pub whens_of : List Said → List Tree → List ℕ → List ℕ → List (List Elem)
+abbrev pub whens_of : List WhenFlags → List Tree → List ℕ → List ℕ → List (List Elem)
 whens_of said cs starts [] = []
 whens_of said cs starts (k ∷ ks) = code_at said (slice_get cs k) (slice_get starts k) ++ whens_of said cs starts ks
 
-abbrev pub body_dots : List Said → List Tree → List ℕ → ℕ → Dots
+abbrev pub body_dots : List WhenFlags → List Tree → List ℕ → ℕ → Dots
 body_dots said cs starts id = roll-Dots (record {
   whens = whens_of said cs starts (codes_of (slice_get said id));
   any = is_any (slice_get said id);
@@ -187,7 +188,7 @@ starts_from n [] = []
 starts_from n (t ∷ ts) = n ∷ starts_from (n + atoms t) ts
 
 -- The elements of a body: its patterns are numbered from 0, and those of its clauses' code after them.
-abbrev pub body_elements : List Said → Tree → List Tree → List Elem
+abbrev pub body_elements : List WhenFlags → Tree → List Tree → List Elem
 body_elements said t cs = elements (body_dots said cs (starts_from (atoms t) cs)) 0 t
 
 -- The body has no fault, and these are its elements.

@@ -5,7 +5,7 @@ use Rattle.smpl_meta.specs.declared.patterns.Placed.{Placed}
 use Rattle.smpl_body.specs.declared.smpl_when.cutting.Code.{Code}
 use Rattle.smpl_body.specs.Spelled.{AreRead}
 use Rattle.smpl_patch.specs.declared.elem.Elem.{Elem}
-use Rattle.smpl_body.specs.declared.smpl_when.clauses.Said.{Said}
+use Rattle.smpl_body.specs.declared.smpl_when.clauses.WhenFlags.{WhenFlags}
 use Rattle.smpl_body.specs.Bodies.{Spells, body_elements}
 
 -- the trees of the pieces of code follow the trees before
@@ -22,6 +22,6 @@ pub record AllSpell (ps : List Placed) (all : List Tree) : Type 0 where
   pub spells : Spells ps body codes
 
 -- the elements, if there is a first tree
-abbrev pub IsMade : List Said → List Tree → List Elem → Type 0
+abbrev pub IsMade : List WhenFlags → List Tree → List Elem → Type 0
 IsMade said [] es = ⊤
 IsMade said (t ∷ cs) es = es ≡ body_elements said t cs

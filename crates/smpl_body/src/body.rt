@@ -1,7 +1,7 @@
 // A body: its elements, or its first fault.
 ghost use Rattle.std.specs.Prelude.{◌≡◌, ◌∷◌, ◌<◌, length, IfOk, IfErr};
 ghost use Rattle.smpl_lexer.specs.Texts.{OrNoMemory};
-ghost use Rattle.smpl_body.specs.Bodies as told;
+ghost use Rattle.smpl_body.specs.Bodies as spec;
 ghost use Rattle.smpl_body.specs.Bodies.{IsBody, IsBodyFault};
 ghost use Rattle.smpl_body.specs.SoFar.{IsMade};
 
@@ -19,7 +19,7 @@ use std::alloc::Global;
 
 /// Returns the place that is reported for a body that nothing spells: its first token, or the rule's end.
 fn place_in(placed: &[Placed], end: u32) -> u32
-    ensures { result ≡ told.place_in placed.now end }
+    ensures { result ≡ spec.place_in placed.now end }
 {
     match placed {
         [] => end,

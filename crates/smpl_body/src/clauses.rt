@@ -2,17 +2,17 @@
 ghost use Rattle.std.specs.Prelude.{◌≡◌, ◌++◌, ◌+◌, slice_get, IfOk, IfSome};
 ghost use Rattle.std.specs.Option.{option_copied};
 ghost use Rattle.smpl_body.specs.SmplElem.Elements.{atoms};
-ghost use Rattle.smpl_body.specs.Bodies as told;
+ghost use Rattle.smpl_body.specs.Bodies as spec;
 
 use crate::smpl_elem::{DotsSource, count_atoms, elements};
-use crate::smpl_when::{Clauses, Said};
+use crate::smpl_when::{Clauses, WhenFlags};
 use c_terms::{NoMemory, Tree};
 use smpl_patch::{Dots, Elem};
 use sqlite_items::{Items, at};
 use std::alloc::Global;
 
-fn is_any(found: Option<&Said>) -> bool
-    ensures { result ≡ told.is_any (option_copied found.entry) }
+fn is_any(found: Option<&WhenFlags>) -> bool
+    ensures { result ≡ spec.is_any (option_copied found.entry) }
 {
     match found {
         None => false,
@@ -20,8 +20,8 @@ fn is_any(found: Option<&Said>) -> bool
     }
 }
 
-fn is_strict(found: Option<&Said>) -> bool
-    ensures { result ≡ told.is_strict (option_copied found.entry) }
+fn is_strict(found: Option<&WhenFlags>) -> bool
+    ensures { result ≡ spec.is_strict (option_copied found.entry) }
 {
     match found {
         None => false,
@@ -29,8 +29,8 @@ fn is_strict(found: Option<&Said>) -> bool
     }
 }
 
-fn codes_of<'a>(found: Option<&'a Said>) -> &'a [usize]
-    ensures { result.now ≡ told.codes_of (option_copied found.entry) }
+fn codes_of<'a>(found: Option<&'a WhenFlags>) -> &'a [usize]
+    ensures { result.now ≡ spec.codes_of (option_copied found.entry) }
 {
     match found {
         None => &[],
@@ -75,7 +75,7 @@ fn put_code(
     start: Option<&u32>,
     whens: Items<Items<Elem>>,
 ) -> Result<Items<Items<Elem>>, NoMemory>
-    ensures { IfOk result (λ r. r ≡ whens ++ told.code_at said.now (option_copied tree.entry) (option_copied start.entry)) }
+    ensures { IfOk result (λ r. r ≡ whens ++ spec.code_at said.now (option_copied tree.entry) (option_copied start.entry)) }
 {
     let tree = match tree {
         None => return Ok(whens),
@@ -100,7 +100,7 @@ fn whens_of(
     starts: &[u32],
     codes: &[usize],
 ) -> Result<Items<Items<Elem>>, NoMemory>
-    ensures { IfOk result (λ whens. whens ≡ told.whens_of said.now trees.now starts.now codes.now) }
+    ensures { IfOk result (λ whens. whens ≡ spec.whens_of said.now trees.now starts.now codes.now) }
 {
     let mut whens = Items::new(alloc);
     for k in codes {
@@ -133,7 +133,7 @@ fn after_atoms(first: u32, tree: &Tree) -> Option<u32>
 
 /// Returns the number of the first pattern of each piece of code. The first piece begins at the given number.
 pub(crate) fn starts_from(alloc: Global, first: u32, trees: &[Tree]) -> Result<Items<u32>, NoMemory>
-    ensures { IfOk result (λ starts. starts ≡ told.starts_from first trees.now) }
+    ensures { IfOk result (λ starts. starts ≡ spec.starts_from first trees.now) }
 {
     let mut starts = Items::new(alloc);
     let mut next = first;

@@ -1,14 +1,14 @@
 // The dots of trees: members of lists, and statements.
 ghost use Rattle.std.specs.Prelude.{◌≡◌, ◌++◌, ◌&&◌, map, IfOk, OnOk};
 ghost use Rattle.c_terms.specs.Trees.{join};
-ghost use Rattle.smpl_body.specs.DotsOf as told;
+ghost use Rattle.smpl_body.specs.DotsOf as spec;
 
 use c_terms::{Label, NoMemory, Token, TokenKind, Tree};
 use sqlite_items::Items;
 use std::alloc::Global;
 
 pub(crate) fn is_dots(kind: TokenKind) -> bool
-    ensures { result ≡ told.is_dots kind }
+    ensures { result ≡ spec.is_dots kind }
 {
     match kind {
         TokenKind::Dots => true,
@@ -17,7 +17,7 @@ pub(crate) fn is_dots(kind: TokenKind) -> bool
 }
 
 fn is_list(label: Label) -> bool
-    ensures { result ≡ told.is_list label }
+    ensures { result ≡ spec.is_list label }
 {
     match label {
         Label::Args => true,
@@ -27,7 +27,7 @@ fn is_list(label: Label) -> bool
 }
 
 fn is_wanted(listed: bool, inside: bool) -> bool
-    ensures { result ≡ told.is_wanted listed inside }
+    ensures { result ≡ spec.is_wanted listed inside }
 {
     if listed { inside } else { !inside }
 }
@@ -39,7 +39,7 @@ fn put_wanted(
     inside: bool,
     found: &mut Items<u64>,
 ) -> Result<(), NoMemory>
-    ensures { OnOk result (found.new ≡ found.old ++ told.wanted listed token.now inside) }
+    ensures { OnOk result (found.new ≡ found.old ++ spec.wanted listed token.now inside) }
 {
     if is_dots(token.kind) && is_wanted(listed, inside) {
         found.push(token.id)?;
@@ -50,7 +50,7 @@ fn put_wanted(
 
 /// Adds the numbers of the dots that are members of a list, or of the dots that aren't.
 fn put_dots(tree: &Tree, listed: bool, inside: bool, found: &mut Items<u64>) -> Result<(), NoMemory>
-    ensures { OnOk result (found.new ≡ found.old ++ told.dots_in listed tree.now inside) }
+    ensures { OnOk result (found.new ≡ found.old ++ spec.dots_in listed tree.now inside) }
 {
     match tree {
         Tree::Leaf(token) => put_wanted(token, listed, inside, found),
@@ -67,7 +67,7 @@ fn put_dots(tree: &Tree, listed: bool, inside: bool, found: &mut Items<u64>) -> 
 /// Returns the numbers of the dots in trees that are members of a list of arguments or parameters. Linear. Recurses once
 /// per level.
 pub(crate) fn list_dots(alloc: Global, trees: &[Tree]) -> Result<Items<u64>, NoMemory>
-    ensures { IfOk result (λ ids. ids ≡ join (map told.list_dots trees.now)) }
+    ensures { IfOk result (λ ids. ids ≡ join (map spec.list_dots trees.now)) }
 {
     let mut found = Items::new(alloc);
     for tree in trees {
@@ -78,7 +78,7 @@ pub(crate) fn list_dots(alloc: Global, trees: &[Tree]) -> Result<Items<u64>, NoM
 
 /// Returns the numbers of the dots in trees that are statements. Linear. Recurses once per level.
 pub(crate) fn statement_dots(alloc: Global, trees: &[Tree]) -> Result<Items<u64>, NoMemory>
-    ensures { IfOk result (λ ids. ids ≡ join (map told.statement_dots trees.now)) }
+    ensures { IfOk result (λ ids. ids ≡ join (map spec.statement_dots trees.now)) }
 {
     let mut found = Items::new(alloc);
     for tree in trees {

@@ -2,7 +2,7 @@
 ghost use Rattle.std.specs.Prelude.{◌≡◌, ◌++◌, map, IfOk, OnOk};
 ghost use Rattle.c_terms.specs.Trees.{join};
 ghost use Rattle.smpl_body.specs.Bodies.{nested_host, nested_hosts};
-ghost use Rattle.smpl_body.specs.DotsOf as told;
+ghost use Rattle.smpl_body.specs.DotsOf as spec;
 
 use crate::dots::is_dots;
 use crate::smpl_when::Code;
@@ -12,7 +12,7 @@ use std::alloc::Global;
 
 /// Adds the number of the first child, if it is a token.
 fn put_first_id(children: &[Tree], found: &mut Items<u64>) -> Result<(), NoMemory>
-    ensures { OnOk result (found.new ≡ found.old ++ told.first_id children.now) }
+    ensures { OnOk result (found.new ≡ found.old ++ spec.first_id children.now) }
 {
     match children {
         [Tree::Leaf(token), ..] => {
@@ -25,7 +25,7 @@ fn put_first_id(children: &[Tree], found: &mut Items<u64>) -> Result<(), NoMemor
 
 /// Adds the number of the first token, if the tree is dots or a nest.
 fn put_gap(tree: &Tree, found: &mut Items<u64>) -> Result<(), NoMemory>
-    ensures { OnOk result (found.new ≡ found.old ++ told.gap tree.now) }
+    ensures { OnOk result (found.new ≡ found.old ++ spec.gap tree.now) }
 {
     match tree {
         Tree::Leaf(token) => {
@@ -41,7 +41,7 @@ fn put_gap(tree: &Tree, found: &mut Items<u64>) -> Result<(), NoMemory>
 }
 
 fn put_first(trees: &[Tree], found: &mut Items<u64>) -> Result<(), NoMemory>
-    ensures { OnOk result (found.new ≡ found.old ++ told.first_gap trees.now) }
+    ensures { OnOk result (found.new ≡ found.old ++ spec.first_gap trees.now) }
 {
     match trees {
         [] => Ok(()),
@@ -50,7 +50,7 @@ fn put_first(trees: &[Tree], found: &mut Items<u64>) -> Result<(), NoMemory>
 }
 
 fn put_last(trees: &[Tree], found: &mut Items<u64>) -> Result<(), NoMemory>
-    ensures { OnOk result (found.new ≡ found.old ++ told.last_gap trees.now) }
+    ensures { OnOk result (found.new ≡ found.old ++ spec.last_gap trees.now) }
 {
     match trees {
         [] => Ok(()),
@@ -60,7 +60,7 @@ fn put_last(trees: &[Tree], found: &mut Items<u64>) -> Result<(), NoMemory>
 
 /// Adds the dots and nests that are first or last in a sequence.
 fn put_ends(trees: &[Tree], found: &mut Items<u64>) -> Result<(), NoMemory>
-    ensures { OnOk result (found.new ≡ found.old ++ told.ends trees.now) }
+    ensures { OnOk result (found.new ≡ found.old ++ spec.ends trees.now) }
 {
     put_first(trees, found)?;
     put_last(trees, found)
@@ -68,7 +68,7 @@ fn put_ends(trees: &[Tree], found: &mut Items<u64>) -> Result<(), NoMemory>
 
 /// Returns the statements of a list of statements.
 fn statements(tree: &Tree) -> &[Tree]
-    ensures { result.now ≡ told.statements tree.now }
+    ensures { result.now ≡ spec.statements tree.now }
 {
     match tree {
         Tree::Leaf(_) => &[],
@@ -78,7 +78,7 @@ fn statements(tree: &Tree) -> &[Tree]
 }
 
 fn put_branch_ends(trees: &[Tree], found: &mut Items<u64>) -> Result<(), NoMemory>
-    ensures { OnOk result (found.new ≡ found.old ++ told.branch_ends trees.now) }
+    ensures { OnOk result (found.new ≡ found.old ++ spec.branch_ends trees.now) }
 {
     for tree in trees {
         put_ends(statements(tree), found)?;
@@ -87,7 +87,7 @@ fn put_branch_ends(trees: &[Tree], found: &mut Items<u64>) -> Result<(), NoMemor
 }
 
 fn put_body_ends(trees: &[Tree], found: &mut Items<u64>) -> Result<(), NoMemory>
-    ensures { OnOk result (found.new ≡ found.old ++ told.body_ends trees.now) }
+    ensures { OnOk result (found.new ≡ found.old ++ spec.body_ends trees.now) }
 {
     for tree in trees {
         put_gap(tree, found)?;
@@ -97,7 +97,7 @@ fn put_body_ends(trees: &[Tree], found: &mut Items<u64>) -> Result<(), NoMemory>
 
 /// Returns all trees but the first and the last.
 fn inner(trees: &[Tree]) -> &[Tree]
-    ensures { result.now ≡ told.inner trees.now }
+    ensures { result.now ≡ spec.inner trees.now }
 {
     match trees {
         [_, inner @ .., _] => inner,
@@ -106,7 +106,7 @@ fn inner(trees: &[Tree]) -> &[Tree]
 }
 
 fn put_head_ends(is_head: bool, trees: &[Tree], found: &mut Items<u64>) -> Result<(), NoMemory>
-    ensures { OnOk result (found.new ≡ found.old ++ told.head_ends is_head trees.now) }
+    ensures { OnOk result (found.new ≡ found.old ++ spec.head_ends is_head trees.now) }
 {
     if is_head {
         put_body_ends(trees, found)
@@ -117,7 +117,7 @@ fn put_head_ends(is_head: bool, trees: &[Tree], found: &mut Items<u64>) -> Resul
 
 /// Adds the edges of the sequences that are parts of a branch.
 fn put_own_ends(label: Label, trees: &[Tree], found: &mut Items<u64>) -> Result<(), NoMemory>
-    ensures { OnOk result (found.new ≡ found.old ++ told.own_ends label trees.now) }
+    ensures { OnOk result (found.new ≡ found.old ++ spec.own_ends label trees.now) }
 {
     match label {
         Label::PatOr => put_branch_ends(trees, found),
@@ -129,7 +129,7 @@ fn put_own_ends(label: Label, trees: &[Tree], found: &mut Items<u64>) -> Result<
 
 /// Adds the dots and nests at edges within a tree.
 fn put_edged(tree: &Tree, found: &mut Items<u64>) -> Result<(), NoMemory>
-    ensures { OnOk result (found.new ≡ found.old ++ (told.edged tree.now).found) }
+    ensures { OnOk result (found.new ≡ found.old ++ (spec.edged tree.now).found) }
 {
     match tree {
         Tree::Leaf(_) => Ok(()),
@@ -144,7 +144,7 @@ fn put_edged(tree: &Tree, found: &mut Items<u64>) -> Result<(), NoMemory>
 }
 
 fn put_edges(tree: &Tree, found: &mut Items<u64>) -> Result<(), NoMemory>
-    ensures { OnOk result (found.new ≡ found.old ++ told.edges tree.now) }
+    ensures { OnOk result (found.new ≡ found.old ++ spec.edges tree.now) }
 {
     put_ends(statements(tree), found)?;
     put_edged(tree, found)
@@ -178,7 +178,7 @@ pub(crate) fn all_edges(
     codes: &[Code],
     trees: &[Tree],
 ) -> Result<Items<u64>, NoMemory>
-    ensures { IfOk result (λ ids. ids ≡ nested_hosts codes.now ++ join (map told.edges trees.now)) }
+    ensures { IfOk result (λ ids. ids ≡ nested_hosts codes.now ++ join (map spec.edges trees.now)) }
 {
     let mut found = Items::new(alloc);
     put_nested(codes, &mut found)?;

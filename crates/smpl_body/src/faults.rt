@@ -2,7 +2,7 @@
 ghost use Rattle.std.specs.Prelude.{◌≡◌, ◌++◌, slice_get, IfOk};
 ghost use Rattle.std.specs.Option.{option_copied};
 ghost use Rattle.smpl_patch.specs.Faults.{first_of, first_from};
-ghost use Rattle.smpl_body.specs.Bodies as told;
+ghost use Rattle.smpl_body.specs.Bodies as spec;
 
 use crate::dots::statement_dots;
 use crate::edges::all_edges;
@@ -15,7 +15,7 @@ use sqlite_items::at;
 use std::alloc::Global;
 
 fn at_of(found: Option<&Placed>) -> u32
-    ensures { result ≡ told.at_of (option_copied found.entry) }
+    ensures { result ≡ spec.at_of (option_copied found.entry) }
 {
     match found {
         None => 0,
@@ -24,7 +24,7 @@ fn at_of(found: Option<&Placed>) -> u32
 }
 
 fn sign_of(found: Option<&Placed>) -> u8
-    ensures { result ≡ told.sign_of (option_copied found.entry) }
+    ensures { result ≡ spec.sign_of (option_copied found.entry) }
 {
     match found {
         None => 0,
@@ -33,7 +33,7 @@ fn sign_of(found: Option<&Placed>) -> u8
 }
 
 fn edge_fault(placed: &[Placed], ids: &[u64]) -> Option<PatchFault>
-    ensures { result ≡ first_of (told.edge_faults placed.now ids.now) }
+    ensures { result ≡ first_of (spec.edge_faults placed.now ids.now) }
 {
     let mut first = None;
     for id in ids {
@@ -45,7 +45,7 @@ fn edge_fault(placed: &[Placed], ids: &[u64]) -> Option<PatchFault>
 
 /// Returns the first of the fault so far and the fault of the dots with this number.
 fn with_dots(placed: &[Placed], first: Option<PatchFault>, id: u64) -> Option<PatchFault>
-    ensures { result ≡ first_from first (told.minus_dot placed.now id) }
+    ensures { result ≡ first_from first (spec.minus_dot placed.now id) }
 {
     if sign_of(at(placed, id as usize)) == b'-' {
         let place = at_of(at(placed, id as usize));
@@ -57,7 +57,7 @@ fn with_dots(placed: &[Placed], first: Option<PatchFault>, id: u64) -> Option<Pa
 
 /// Returns the first fault of dots that are statements on `-` lines.
 fn with_all_dots(placed: &[Placed], ids: &[u64]) -> Option<PatchFault>
-    ensures { result ≡ first_of (told.minus_dots placed.now ids.now) }
+    ensures { result ≡ first_of (spec.minus_dots placed.now ids.now) }
 {
     let mut first = None;
     for id in ids {
@@ -67,7 +67,7 @@ fn with_all_dots(placed: &[Placed], ids: &[u64]) -> Option<PatchFault>
 }
 
 fn is_nest_sign(p: &Placed) -> bool
-    ensures { result ≡ told.is_nest_sign p.now }
+    ensures { result ≡ spec.is_nest_sign p.now }
 {
     let text = p.token.text.as_bytes();
     is_pat(p.token.kind)
@@ -78,7 +78,7 @@ fn is_nest_sign(p: &Placed) -> bool
 }
 
 fn with_sign(first: Option<PatchFault>, p: &Placed) -> Option<PatchFault>
-    ensures { result ≡ first_from first (told.minus_sign p.now) }
+    ensures { result ≡ first_from first (spec.minus_sign p.now) }
 {
     if p.sign == b'-' && is_nest_sign(p) {
         Some(earlier(first, PatchFault::MinusDots(p.at)))
@@ -89,7 +89,7 @@ fn with_sign(first: Option<PatchFault>, p: &Placed) -> Option<PatchFault>
 
 /// Returns the first of the fault so far and the faults of signs of nests on `-` lines.
 fn with_signs(placed: &[Placed], first: Option<PatchFault>) -> Option<PatchFault>
-    ensures { result ≡ first_from first (told.minus_signs placed.now) }
+    ensures { result ≡ first_from first (spec.minus_signs placed.now) }
 {
     let mut first = first;
     for p in placed {
@@ -99,7 +99,7 @@ fn with_signs(placed: &[Placed], first: Option<PatchFault>) -> Option<PatchFault
 }
 
 fn minus_fault(placed: &[Placed], ids: &[u64]) -> Option<PatchFault>
-    ensures { result ≡ first_of (told.minus_dots placed.now ids.now ++ told.minus_signs placed.now) }
+    ensures { result ≡ first_of (spec.minus_dots placed.now ids.now ++ spec.minus_signs placed.now) }
 {
     with_signs(placed, with_all_dots(placed, ids))
 }
@@ -112,7 +112,7 @@ pub(crate) fn tree_fault(
     cut: &Cutting,
     trees: &[Tree],
 ) -> Result<Option<PatchFault>, NoMemory>
-    ensures { IfOk result (λ f. f ≡ told.tree_fault placed.now cut.now trees.now) }
+    ensures { IfOk result (λ f. f ≡ spec.tree_fault placed.now cut.now trees.now) }
 {
     let edges = all_edges(alloc, cut.codes.as_slice(), trees)?;
     match edge_fault(placed, edges.as_slice()) {

@@ -1,17 +1,17 @@
 // Where positions and clauses are allowed.
 ghost use Rattle.std.specs.Prelude.{◌≡◌, slice_get, IfOk};
 ghost use Rattle.std.specs.Option.{option_copied};
-ghost use Rattle.smpl_body.specs.Bodies as told;
+ghost use Rattle.smpl_body.specs.Bodies as spec;
 
 use crate::dots::{list_dots, statement_dots};
-use crate::smpl_when::{Clauses, Cutting, Said};
+use crate::smpl_when::{Clauses, Cutting, WhenFlags};
 use c_terms::{NoMemory, TokenKind, Tree};
 use smpl_meta::Placed;
 use sqlite_items::at;
 use std::alloc::Global;
 
 fn has_position(found: Option<&Placed>) -> bool
-    ensures { result ≡ told.has_position (option_copied found.entry) }
+    ensures { result ≡ spec.has_position (option_copied found.entry) }
 {
     match found {
         None => false,
@@ -21,7 +21,7 @@ fn has_position(found: Option<&Placed>) -> bool
 
 /// Whether no position follows any of the tokens with these numbers.
 fn without_positions(placed: &[Placed], ids: &[u64]) -> bool
-    ensures { result ≡ told.without_positions placed.now ids.now }
+    ensures { result ≡ spec.without_positions placed.now ids.now }
 {
     for id in ids {
         if has_position(at(placed, *id as usize)) {
@@ -32,7 +32,7 @@ fn without_positions(placed: &[Placed], ids: &[u64]) -> bool
 }
 
 pub(crate) fn is_pat(kind: TokenKind) -> bool
-    ensures { result ≡ told.is_pat kind }
+    ensures { result ≡ spec.is_pat kind }
 {
     match kind {
         TokenKind::Pat => true,
@@ -41,14 +41,14 @@ pub(crate) fn is_pat(kind: TokenKind) -> bool
 }
 
 fn sign_fits(p: &Placed) -> bool
-    ensures { result ≡ told.sign_fits p.now }
+    ensures { result ≡ spec.sign_fits p.now }
 {
     !(is_pat(p.token.kind) && has_position(Some(p)))
 }
 
 /// Whether no position follows a sign.
 fn signs_fit(placed: &[Placed]) -> bool
-    ensures { result ≡ told.signs_fit placed.now }
+    ensures { result ≡ spec.signs_fit placed.now }
 {
     for p in placed {
         if !sign_fits(p) {
@@ -58,8 +58,8 @@ fn signs_fit(placed: &[Placed]) -> bool
     true
 }
 
-fn says_nothing(found: Option<&Said>) -> bool
-    ensures { result ≡ told.says_nothing (option_copied found.entry) }
+fn says_nothing(found: Option<&WhenFlags>) -> bool
+    ensures { result ≡ spec.says_nothing (option_copied found.entry) }
 {
     match found {
         None => true,
@@ -69,7 +69,7 @@ fn says_nothing(found: Option<&Said>) -> bool
 
 /// Whether none of the tokens with these numbers has a clause.
 fn without_clauses(said: &Clauses, ids: &[u64]) -> bool
-    ensures { result ≡ told.without_clauses said.now ids.now }
+    ensures { result ≡ spec.without_clauses said.now ids.now }
 {
     for id in ids {
         if !says_nothing(said.get(*id)) {
@@ -87,7 +87,7 @@ pub(crate) fn fits(
     cut: &Cutting,
     trees: &[Tree],
 ) -> Result<bool, NoMemory>
-    ensures { IfOk result (λ b. b ≡ told.fits placed.now cut.now trees.now) }
+    ensures { IfOk result (λ b. b ≡ spec.fits placed.now cut.now trees.now) }
 {
     let alone = statement_dots(alloc, trees)?;
     let members = list_dots(alloc, trees)?;

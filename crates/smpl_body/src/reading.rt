@@ -2,7 +2,7 @@
 ghost use Rattle.std.specs.Prelude.{◌≡◌, IfOk, MatchOption};
 ghost use Rattle.c_terms.specs.Names.{listed_names};
 ghost use Rattle.c_terms.specs.declared.tree.Tree.{Tree as Term};
-ghost use Rattle.smpl_body.specs.Spelled as told;
+ghost use Rattle.smpl_body.specs.Spelled as spec;
 ghost use Rattle.smpl_body.specs.Spelled.{IsTree, NoTree, IsFirst, IsRead};
 
 use c_expr::{ParseFault, parse_kind};
@@ -19,7 +19,7 @@ pub enum Form {
 }
 
 fn is_function(tree: &Tree) -> bool
-    ensures { result ≡ told.is_function tree.now }
+    ensures { result ≡ spec.is_function tree.now }
 {
     match tree {
         Tree::Leaf(_) => false,
@@ -29,7 +29,7 @@ fn is_function(tree: &Tree) -> bool
 }
 
 fn kind_of(form: Form) -> Kind
-    ensures { result ≡ told.kind_of form }
+    ensures { result ≡ spec.kind_of form }
 {
     match form {
         Form::Expression => Kind::Expr,
@@ -40,7 +40,7 @@ fn kind_of(form: Form) -> Kind
 
 /// Returns the tree if it has the form: an item may be a declaration rather than a function.
 fn of_form(form: Form, tree: Tree) -> Option<Tree>
-    ensures { MatchOption result (told.IsOfForm form tree → ⊥) (λ t. (t ≡ tree) × told.IsOfForm form tree) }
+    ensures { MatchOption result (spec.IsOfForm form tree → ⊥) (λ t. (t ≡ tree) × spec.IsOfForm form tree) }
 {
     match form {
         Form::Expression => Some(tree),

@@ -20,7 +20,7 @@ mod clauses;
 mod cutting;
 mod words;
 
-pub use clauses::{Clauses, Said};
+pub use clauses::{Clauses, WhenFlags};
 pub use cutting::{Code, Cutting, OpenCode, Where, cut};
 
 /// [`cut`] splits a body as the grammar of clauses does, and the grammar splits it in exactly one way. Does nothing.

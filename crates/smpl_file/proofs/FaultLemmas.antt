@@ -46,7 +46,8 @@ meaning-fault bytes patch f s h = or-map (λ g. first_fault patch ≡ Some g) (I
 pub text-fault : (bytes : List ℕ) (f : PatchFault) → OrNoMemory (IsTextFault bytes) f → OrNoMemory (IsSpellingFault bytes) f
 text-fault bytes f h = or-map (IsTextFault bytes) (IsSpellingFault bytes) f (λ g k. in_text k) h
 
-pub heads-fault : (bytes : List ℕ) (text : PatchText) (f : PatchFault) → IsTextOf bytes text → OrNoMemory (IsFirstHeadFault text) f → OrNoMemory (IsSpellingFault bytes) f
+pub heads-fault : (bytes : List ℕ) (text : PatchText) (f : PatchFault) → IsTextOf bytes text
+    → OrNoMemory (IsFirstHeadFault text) f → OrNoMemory (IsSpellingFault bytes) f
 heads-fault bytes text f is h = or-map (IsFirstHeadFault text) (IsSpellingFault bytes) f (λ g k. in_heads text is k) h
 
 pub rules-fault : (bytes : List ℕ) (text : PatchText) (heads : List RuleHead) (f : PatchFault) → IsTextOf bytes text → AreHeads text [] text.rules heads

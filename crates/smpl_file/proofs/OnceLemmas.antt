@@ -1,5 +1,6 @@
 -- Bytes spell at most one patch, and then what they spell has no fault.
-use Rattle.std.proofs.Common.{◌≡◌, ℕ, zero, suc, ◌+◌, ◌<◌, List, [], ◌∷◌, ◌++◌, length, take, Some, None, refl, sym, ap, ◌∙◌, subst, arith, slice_get, append_assoc}
+use Rattle.std.proofs.Common.{◌≡◌, ℕ, zero, suc, ◌+◌, ◌<◌, List, [], ◌∷◌, ◌++◌, length, take, Some, None, refl, sym, ap, ◌∙◌}
+use Rattle.std.proofs.Common.{subst, arith, slice_get, append_assoc}
 use Rattle.std.specs.Prelude.{IfSome}
 use Rattle.std.proofs.lemmas.List.{append-nil}
 use Rattle.smpl_terms.specs.declared.var.Var.{Var as Variable}
@@ -42,11 +43,13 @@ HeadsOnce = (text : PatchText) (earlier : List RuleHead) (rules : List RuleText)
     → AreHeads text earlier rules other → one ≡ other
 
 abbrev pub HeadApart : Type 0
-HeadApart = (virtuals : List (List ℕ)) (earlier : List RuleHead) (rule : ℕ) (r : RuleText) (h : RuleHead) (fault : PatchFault) → IsHead virtuals earlier rule r h
+HeadApart = (virtuals : List (List ℕ)) (earlier : List RuleHead) (rule : ℕ) (r : RuleText) (h : RuleHead) (fault : PatchFault)
+    → IsHead virtuals earlier rule r h
     → IsHeadFault virtuals earlier r fault → ⊥
 
 abbrev pub PlusOnce : Type 0
-PlusOnce = (vars : List VarDecl) (rule : ℕ) (body : List BodyLine) (one other : List PatToken) → AreAnchored vars rule body one → AreAnchored vars rule body other → one ≡ other
+PlusOnce = (vars : List VarDecl) (rule : ℕ) (body : List BodyLine) (one other : List PatToken) → AreAnchored vars rule body one
+    → AreAnchored vars rule body other → one ≡ other
 
 abbrev pub PlusApart : Type 0
 PlusApart = (vars : List VarDecl) (rule : ℕ) (body : List BodyLine) (tokens : List PatToken) (fault : PatchFault) → AreAnchored vars rule body tokens
@@ -72,7 +75,8 @@ module _ (plus : PlusOnce) (bodies : BodyOnce) where
       let exports = a.exports ∙ sym b.exports in
       λ i. record { name = name i; depends = depends i; mode = mode i; vars = vars i; exports = exports i; body = body i; tokens = tokens i }
 
-  rules-once : (known : List Variable) (n : ℕ) (rs : List RuleText) (hs : List RuleHead) (xs ys : List Rule) → AreRules known n rs hs xs → AreRules known n rs hs ys → xs ≡ ys
+  rules-once : (known : List Variable) (n : ℕ) (rs : List RuleText) (hs : List RuleHead) (xs ys : List Rule)
+      → AreRules known n rs hs xs → AreRules known n rs hs ys → xs ≡ ys
   rules-once known n [] [] [] [] a b = refl
   rules-once known n [] [] [] (y ∷ ys) a b = absurd b
   rules-once known n [] [] (x ∷ xs) ys a b = absurd a
@@ -94,7 +98,8 @@ record Read (known : List Variable) (n k : ℕ) (rs : List RuleText) (hs : List 
   pub head_at : slice_get hs k ≡ Some head
   pub is : IsRule known (n + k) text head rule
 
-read-at : (known : List Variable) (n k : ℕ) (rs : List RuleText) (hs : List RuleHead) (xs : List Rule) → AreRules known n rs hs xs → k < length rs → Read known n k rs hs
+read-at : (known : List Variable) (n k : ℕ) (rs : List RuleText) (hs : List RuleHead) (xs : List Rule)
+    → AreRules known n rs hs xs → k < length rs → Read known n k rs hs
 read-at known n k [] [] [] a h = absurd (omega arith)
 read-at known n k [] [] (x ∷ xs) a h = absurd a
 read-at known n k [] (g ∷ hs) [] a h = absurd a
@@ -106,7 +111,15 @@ read-at known n zero (r ∷ rs) (g ∷ hs) (x ∷ xs) a h =
     record { text = r; head = g; rule = x; text_at = refl; head_at = refl; is = subst (λ (m : ℕ). IsRule known m r g x) (omega arith) a.0 }
 read-at known n (suc k) (r ∷ rs) (g ∷ hs) (x ∷ xs) a h =
     let q = read-at known (suc n) k rs hs xs a.1 (omega arith) in
-    record { text = q.text; head = q.head; rule = q.rule; text_at = q.text_at; head_at = q.head_at; is = subst (λ (m : ℕ). IsRule known m q.text q.head q.rule) (omega arith) q.is }
+    record {
+      text = q.text;
+      head = q.head;
+      rule = q.rule;
+      text_at = q.text_at;
+      head_at = q.head_at;
+      is =
+          subst (λ (m : ℕ). IsRule known m q.text q.head q.rule) (omega arith) q.is;
+    }
 
 module _ (plus : PlusApart) (bodies : BodyApart) where
   rule-apart : (known : List Variable) (n : ℕ) (r : RuleText) (h : RuleHead) (x : Rule) (f : PatchFault) → IsRule known n r h x → IsRuleFault n r h f → ⊥
@@ -132,12 +145,21 @@ record HeadAt (text : PatchText) (earlier : List RuleHead) (k : ℕ) (rs : List 
   pub at : slice_get rs k ≡ Some rule
   pub is : IsHead text.virtuals (earlier ++ front) (length (earlier ++ front)) rule head
 
-head-in : (text : PatchText) (earlier : List RuleHead) (k : ℕ) (rs : List RuleText) (hs : List RuleHead) → AreHeads text earlier rs hs → k < length rs → HeadAt text earlier k rs
+head-in : (text : PatchText) (earlier : List RuleHead) (k : ℕ) (rs : List RuleText) (hs : List RuleHead)
+    → AreHeads text earlier rs hs → k < length rs → HeadAt text earlier k rs
 head-in text earlier k [] [] a h = absurd (omega arith)
 head-in text earlier k [] (g ∷ hs) a h = absurd a
 head-in text earlier k (r ∷ rs) [] a h = absurd a
 head-in text earlier zero (r ∷ rs) (g ∷ hs) a h =
-    record { front = []; rule = r; head = g; before = tt; at = refl; is = subst (λ (l : List RuleHead). IsHead text.virtuals l (length l) r g) (sym (append-nil earlier)) a.0 }
+    record {
+      front = [];
+      rule = r;
+      head = g;
+      before = tt;
+      at = refl;
+      is =
+          subst (λ (l : List RuleHead). IsHead text.virtuals l (length l) r g) (sym (append-nil earlier)) a.0;
+    }
 head-in text earlier (suc k) (r ∷ rs) (g ∷ hs) a h =
     let q = head-in text (earlier ++ g ∷ []) k rs hs a.1 (omega arith) in
     record {
@@ -154,11 +176,13 @@ go-take zero rs a = tt
 go-take (suc k) [] a = tt
 go-take (suc k) (r ∷ rs) a = (a.0, go-take k rs a.1)
 
-heads-apart : HeadsOnce → HeadApart → (text : PatchText) (heads : List RuleHead) (f : PatchFault) → AllGoOn text.rules → AreHeads text [] text.rules heads → IsFirstHeadFault text f → ⊥
+heads-apart : HeadsOnce → HeadApart → (text : PatchText) (heads : List RuleHead) (f : PatchFault) → AllGoOn text.rules
+    → AreHeads text [] text.rules heads → IsFirstHeadFault text f → ⊥
 heads-apart once apart text heads f go are w =
     let q = head-in text [] w.rule text.rules heads are w.within in
     let same : q.front ≡ w.heads = once text [] (take w.rule text.rules) q.front w.heads (go-take w.rule text.rules go) q.before w.before in
-    let wrong : IsHeadFault text.virtuals w.heads q.rule f = of-some (λ r. IsHeadFault text.virtuals w.heads r f) (slice_get text.rules w.rule) q.rule q.at w.here in
+    let wrong : IsHeadFault text.virtuals w.heads q.rule f =
+    of-some (λ r. IsHeadFault text.virtuals w.heads r f) (slice_get text.rules w.rule) q.rule q.at w.here in
     let there : IsHeadFault text.virtuals q.front q.rule f = subst (λ (l : List RuleHead). IsHeadFault text.virtuals l q.rule f) (sym same) wrong in
     apart text.virtuals q.front (length q.front) q.rule q.head f q.is there
 
@@ -180,7 +204,8 @@ module _ (text : TextOnce) (go : TextGoesOn) (heads : HeadsOnce) where
       let rules : one.rules ≡ other.rules = rules-once plus bodies (taken a.heads) 0 a.text.rules a.heads one.rules other.rules a.are_rules.rules m.rules in
       λ i. record { virtuals = virtuals i; rules = rules i }
 
-  pub patch-apart : TextApart → HeadApart → PlusApart → BodyApart → (bytes : List ℕ) (patch : Patch) (f : PatchFault) → IsSpelled bytes patch → IsSpellingFault bytes f → ⊥
+  pub patch-apart : TextApart → HeadApart → PlusApart → BodyApart → (bytes : List ℕ) (patch : Patch) (f : PatchFault)
+      → IsSpelled bytes patch → IsSpellingFault bytes f → ⊥
   patch-apart texts head plus bodies bytes patch f a (in_text w) = texts bytes a.text f a.is_text w
   patch-apart texts head plus bodies bytes patch f a (in_heads t is w) =
       let e = text bytes t a.text is a.is_text in
@@ -192,7 +217,8 @@ module _ (text : TextOnce) (go : TextGoesOn) (heads : HeadsOnce) where
       let wrong = subst (λ (l : List RuleHead). IsFirstRuleFault a.text l f) same (subst (λ (x : PatchText). IsFirstRuleFault x hs f) e w) in
       rules-apart plus bodies a.text a.heads (taken a.heads) patch.rules f a.are_rules.rules wrong
 
-  pub faultless : TextApart → HeadApart → PlusOnce → PlusApart → BodyOnce → BodyApart → (bytes : List ℕ) (patch : Patch) (f : PatchFault) → IsPatchOf bytes patch → IsFirstFault bytes f → ⊥
+  pub faultless : TextApart → HeadApart → PlusOnce → PlusApart → BodyOnce → BodyApart
+      → (bytes : List ℕ) (patch : Patch) (f : PatchFault) → IsPatchOf bytes patch → IsFirstFault bytes f → ⊥
   faultless texts head once plus body bodies bytes patch f a (spelling w) = patch-apart texts head plus bodies bytes patch f a.spelled w
   faultless texts head once plus body bodies bytes patch f a (meaning p s e) =
       let same : p ≡ patch = patch-once once body bytes p patch s a.spelled in

@@ -1,5 +1,6 @@
 -- Rules that are read one after another.
-use Rattle.std.proofs.Common.{◌≡◌, ℕ, zero, suc, ◌+◌, ◌<◌, ◌≤◌, ◌^◌, lit<, List, [], ◌∷◌, ◌++◌, length, take, Option, Some, None, refl, sym, ap, ◌∙◌, subst, arith, get_or, slice_get}
+use Rattle.std.proofs.Common.{◌≡◌, ℕ, zero, suc, ◌+◌, ◌<◌, ◌≤◌, ◌^◌, lit<, List, [], ◌∷◌, ◌++◌, length, take, Option, Some}
+use Rattle.std.proofs.Common.{None, refl, sym, ap, ◌∙◌, subst, arith, get_or, slice_get}
 use Rattle.std.specs.Prelude.{IfSome}
 use Rattle.std.proofs.lemmas.List.{take_more}
 use Rattle.std.proofs.lemmas.Option.{slice_get_within, get_or_from_slice_get}
@@ -112,7 +113,8 @@ pub to-some : {A : Type 0} (P : A → Type 0) (o : Option A) (x : A) → o ≡ S
 to-some {A} P o x e h = let Q : Option A → Type 0 = λ k. IfSome k P in subst Q (sym e) h
 
 -- as many rules as a text has
-pub rules-length : (known : List Variable) (n : ℕ) (rs : List RuleText) (hs : List RuleHead) (xs : List Rule) → AreRules known n rs hs xs → length xs ≡ length rs
+pub rules-length : (known : List Variable) (n : ℕ) (rs : List RuleText) (hs : List RuleHead) (xs : List Rule)
+    → AreRules known n rs hs xs → length xs ≡ length rs
 rules-length known n [] [] [] are = refl
 rules-length known n [] [] (y ∷ xs) are = absurd are
 rules-length known n [] (g ∷ hs) [] are = absurd are
@@ -138,7 +140,8 @@ pub some-both : {A : Type 0} (P Q R : A → Type 0) (o : Option A) → ((x : A) 
 some-both P Q R None k h g = h
 some-both P Q R (Some x) k h g = k x h g
 
-pub is-rule : (known : List Variable) (n : ℕ) (r : RuleText) (h : RuleHead) (tokens : List PatToken) (body : List Elem) (x : Rule) → x ≡ made h known tokens body
+pub is-rule : (known : List Variable) (n : ℕ) (r : RuleText) (h : RuleHead) (tokens : List PatToken) (body : List Elem)
+    (x : Rule) → x ≡ made h known tokens body
     → AreAnchored h.vars n r.body tokens → IsBody (pattern_tokens h.vars r.body) body → IsRule known n r h x
 is-rule known n r h tokens body x e are is = record {
   name = ap (λ (y : Rule). y.name) e;
@@ -163,14 +166,16 @@ rules-step text heads known i xs more x are within e is before =
     subst (λ (l : List Rule). AreRules known 0 (take (i + 1) text.rules) (take (i + 1) heads) l) (sym e)
     (rules-more known text.rules heads i xs r.0 h.0 x r.1 h.1 before two)
 
-pub rules-all : (text : PatchText) (heads : List RuleHead) (known : List Variable) (n : ℕ) (xs : List Rule) → AreHeads text [] text.rules heads → n ≡ length text.rules
+pub rules-all : (text : PatchText) (heads : List RuleHead) (known : List Variable) (n : ℕ) (xs : List Rule)
+    → AreHeads text [] text.rules heads → n ≡ length text.rules
     → AreRules known 0 (take n text.rules) (take n heads) xs → AreRules known 0 text.rules heads xs
 rules-all text heads known n xs are e is =
     let same : n ≡ length heads = omega (arith, e, heads-length text [] text.rules heads are) in
     let one = subst (λ (l : List RuleText). AreRules known 0 l (take n heads) xs) (take_self text.rules n e) is in
     subst (λ (l : List RuleHead). AreRules known 0 text.rules l xs) (take_self heads n same) one
 
-pub rule-fault : (text : PatchText) (heads : List RuleHead) (known : List Variable) (i : ℕ) (xs : List Rule) (f : PatchFault) → AreHeads text [] text.rules heads
+pub rule-fault : (text : PatchText) (heads : List RuleHead) (known : List Variable) (i : ℕ) (xs : List Rule) (f : PatchFault)
+    → AreHeads text [] text.rules heads
     → i < length text.rules → known ≡ taken heads → AreRules known 0 (take i text.rules) (take i heads) xs
     → IfSome (slice_get text.rules i) (λ r. IfSome (slice_get heads i) (λ h. OrNoMemory (IsRuleFault i r h) f)) → OrNoMemory (IsFirstRuleFault text heads) f
 rule-fault text heads known i xs f are within same before wrong =

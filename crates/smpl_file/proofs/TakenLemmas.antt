@@ -32,7 +32,8 @@ looked_up [] k = refl
 looked_up (q ∷ keys) k = ap (λ (b : Bool). b || list_any (same_key k) keys) (key-same k q) ∙ ap (λ (b : Bool). same_var q.var k.var || b) (looked_up keys k)
 
 -- one more key
-pub put_more : (keys : List Key) (k : Key) (y : Variable) → has_key (cond (list_any (same_key k) keys) keys (keys ++ k ∷ [])) y ≡ has_key keys y || same_var k.var y
+pub put_more : (keys : List Key) (k : Key) (y : Variable)
+    → has_key (cond (list_any (same_key k) keys) keys (keys ++ k ∷ [])) y ≡ has_key keys y || same_var k.var y
 put_more keys k y = by (list_any (same_key k) keys) refl
   where
     known : has_key keys k.var ≡ true → (q : Bool) → same_var k.var y ≡ q → has_key keys y ≡ has_key keys y || q

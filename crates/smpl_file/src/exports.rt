@@ -1,6 +1,6 @@
 // The variables of rules that other rules inherit.
 ghost use Rattle.std.specs.Prelude.{◌≡◌, ◌++◌, IfOk};
-ghost use Rattle.smpl_file.specs.Exports as told;
+ghost use Rattle.smpl_file.specs.Exports as spec;
 
 use crate::taken::Taken;
 use c_terms::NoMemory;
@@ -23,7 +23,7 @@ fn with_places(alloc: Global, known: Items<Var>, d: &VarDecl) -> Result<Items<Va
 
 /// Appends the variables that a declaration takes from other rules.
 fn with_taken(alloc: Global, known: Items<Var>, d: &VarDecl) -> Result<Items<Var>, NoMemory>
-    ensures { IfOk result (λ vs. vs ≡ known ++ told.taken_by d.now) }
+    ensures { IfOk result (λ vs. vs ≡ known ++ spec.taken_by d.now) }
 {
     let mut known = known;
     if d.inherited {
@@ -33,7 +33,7 @@ fn with_taken(alloc: Global, known: Items<Var>, d: &VarDecl) -> Result<Items<Var
 }
 
 fn with_all(alloc: Global, known: Items<Var>, vars: &[VarDecl]) -> Result<Items<Var>, NoMemory>
-    ensures { IfOk result (λ vs. vs ≡ known ++ told.taken_by_all vars.now) }
+    ensures { IfOk result (λ vs. vs ≡ known ++ spec.taken_by_all vars.now) }
 {
     let mut known = known;
     for d in vars {
@@ -49,7 +49,7 @@ fn with_rule(
     heads: &Earlier,
     rule: usize,
 ) -> Result<Items<Var>, NoMemory>
-    ensures { IfOk result (λ vs. vs ≡ known ++ told.taken_at heads.now.heads rule) }
+    ensures { IfOk result (λ vs. vs ≡ known ++ spec.taken_at heads.now.heads rule) }
 {
     match heads.head(rule) {
         None => Ok(known),
@@ -58,7 +58,7 @@ fn with_rule(
 }
 
 fn taken_vars(alloc: Global, heads: &Earlier) -> Result<Items<Var>, NoMemory>
-    ensures { IfOk result (λ vs. vs ≡ told.taken heads.now.heads) }
+    ensures { IfOk result (λ vs. vs ≡ spec.taken heads.now.heads) }
 {
     let mut known = Items::new(alloc);
     for i in 0..heads.len() {
@@ -69,13 +69,13 @@ fn taken_vars(alloc: Global, heads: &Earlier) -> Result<Items<Var>, NoMemory>
 
 /// Returns all variables that rules take from other rules. Linear in the declarations if no hashes collide.
 pub fn taken(alloc: Global, heads: &Earlier) -> Result<Taken, NoMemory>
-    ensures { IfOk result (λ vs. vs ≡ told.taken heads.now.heads) }
+    ensures { IfOk result (λ vs. vs ≡ spec.taken heads.now.heads) }
 {
     Taken::of(alloc, taken_vars(alloc, heads)?)
 }
 
 fn is_exported(alloc: Global, known: &Taken, d: &VarDecl) -> Result<bool, NoMemory>
-    ensures { IfOk result (λ b. b ≡ told.is_exported known.now d.now) }
+    ensures { IfOk result (λ b. b ≡ spec.is_exported known.now d.now) }
 {
     if d.inherited {
         return Ok(false);
@@ -85,7 +85,7 @@ fn is_exported(alloc: Global, known: &Taken, d: &VarDecl) -> Result<bool, NoMemo
 
 /// Returns the rule's own variables that are among these, in declared order. Takes one look-up for each own variable.
 pub fn exports_of(alloc: Global, known: &Taken, vars: &[VarDecl]) -> Result<Items<Var>, NoMemory>
-    ensures { IfOk result (λ xs. xs ≡ told.exports_of known.now vars.now) }
+    ensures { IfOk result (λ xs. xs ≡ spec.exports_of known.now vars.now) }
 {
     let mut exports = Items::new(alloc);
     for d in vars {

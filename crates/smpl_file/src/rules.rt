@@ -2,11 +2,8 @@
 ghost use Rattle.std.specs.Prelude.{◌≡◌, ◌<◌, [], length, slice_get, IfOk, IfErr, IfSome};
 ghost use Rattle.smpl_lexer.specs.Texts.{OrNoMemory, IsSmall};
 ghost use Rattle.smpl_meta.specs.Heads.{AreHeads};
-ghost use Rattle.smpl_meta.specs.Patterns.{pattern_tokens};
-ghost use Rattle.smpl_plus.specs.Anchors.{AreAnchored};
-ghost use Rattle.smpl_body.specs.Bodies.{IsBody};
 ghost use Rattle.smpl_file.specs.Exports as exported;
-ghost use Rattle.smpl_file.specs.Patches as told;
+ghost use Rattle.smpl_file.specs.Patches as spec;
 
 use crate::depends::copy_dep;
 use crate::exports::{exports_of, taken};
@@ -15,20 +12,10 @@ use c_terms::NoMemory;
 use smpl_body::read_body;
 use smpl_lexer::PatchText;
 use smpl_meta::{Earlier, RuleHead};
-use smpl_patch::{Elem, PatToken, Patch, PatchFault, Rule, VarDecl};
+use smpl_patch::{Elem, PatToken, Patch, PatchFault, Rule, copy_decls};
 use smpl_plus::anchor;
 use sqlite_items::Items;
 use std::alloc::Global;
-
-fn copy_vars(alloc: Global, vars: &[VarDecl]) -> Result<Items<VarDecl>, NoMemory>
-    ensures { IfOk result (λ vs. vs ≡ vars.now) }
-{
-    let mut copies = Items::new(alloc);
-    for d in vars {
-        copies.push(d.copy(alloc)?)?;
-    }
-    Ok(copies)
-}
 
 /// Makes a rule from a head, a body, and what is at the tokens of its patterns.
 fn made_rule(
@@ -38,13 +25,13 @@ fn made_rule(
     tokens: Items<PatToken>,
     body: Items<Elem>,
 ) -> Result<Rule, NoMemory>
-    ensures { IfOk result (λ rule. rule ≡ told.made head.now known.now tokens body) }
+    ensures { IfOk result (λ rule. rule ≡ spec.made head.now known.now tokens body) }
 {
     let vars = head.vars.as_slice();
     let name = head.name.copy(alloc)?;
     let depends = copy_dep(alloc, &head.depends)?;
     let exports = exports_of(alloc, known, vars)?;
-    let vars = copy_vars(alloc, vars)?;
+    let vars = copy_decls(alloc, vars)?;
     Ok(Rule {
         name,
         depends,
@@ -67,9 +54,9 @@ fn rule_of(
     requires within { rule < length text.now.rules }
     requires small { IsSmall text.now }
     ensures read { IfOk result (λ made. IfSome (slice_get text.now.rules rule)
-        (λ r. told.IsRule known.now rule r head.now made)) }
+        (λ r. spec.IsRule known.now rule r head.now made)) }
     ensures fault { IfErr result (λ fault. IfSome (slice_get text.now.rules rule)
-        (λ r. OrNoMemory (told.IsRuleFault rule r head.now) fault)) }
+        (λ r. OrNoMemory (spec.IsRuleFault rule r head.now) fault)) }
 {
     let tokens = anchor(alloc, text, rule, head)?;
     let body = read_body(alloc, text, rule, head)?;
@@ -87,9 +74,9 @@ fn rule_at(
     requires within { rule < length text.now.rules }
     requires small { IsSmall text.now }
     ensures read { IfOk result (λ made. IfSome (slice_get text.now.rules rule) (λ r.
-        IfSome (slice_get heads.now.heads rule) (λ h. told.IsRule known.now rule r h made))) }
+        IfSome (slice_get heads.now.heads rule) (λ h. spec.IsRule known.now rule r h made))) }
     ensures fault { IfErr result (λ fault. IfSome (slice_get text.now.rules rule) (λ r.
-        IfSome (slice_get heads.now.heads rule) (λ h. OrNoMemory (told.IsRuleFault rule r h) fault))) }
+        IfSome (slice_get heads.now.heads rule) (λ h. OrNoMemory (spec.IsRuleFault rule r h) fault))) }
 {
     match heads.head(rule as usize) {
         None => Err(PatchFault::NoMemory),
@@ -108,9 +95,9 @@ fn rules_under(
     requires heads { AreHeads text.now [] text.now.rules heads.now.heads }
     requires known { known.now ≡ exported.taken heads.now.heads }
     ensures rules { IfOk result (λ rules.
-        told.AreRules known.now 0 text.now.rules heads.now.heads rules) }
+        spec.AreRules known.now 0 text.now.rules heads.now.heads rules) }
     ensures fault { IfErr result
-        (λ fault. OrNoMemory (told.IsFirstRuleFault text.now heads.now.heads) fault) }
+        (λ fault. OrNoMemory (spec.IsFirstRuleFault text.now heads.now.heads) fault) }
 {
     let mut rules = Items::new(alloc);
     for i in 0..text.rules.len() {
@@ -124,9 +111,9 @@ fn rules_under(
 pub fn rules_of(alloc: Global, text: PatchText, heads: &Earlier) -> Result<Patch, PatchFault>
     requires small { IsSmall text }
     requires heads { AreHeads text [] text.rules heads.now.heads }
-    ensures patch { IfOk result (λ patch. told.AreRulesOf text heads.now.heads patch) }
+    ensures patch { IfOk result (λ patch. spec.AreRulesOf text heads.now.heads patch) }
     ensures fault { IfErr result
-        (λ fault. OrNoMemory (told.IsFirstRuleFault text heads.now.heads) fault) }
+        (λ fault. OrNoMemory (spec.IsFirstRuleFault text heads.now.heads) fault) }
 {
     let known = taken(alloc, heads)?;
     let rules = rules_under(alloc, &text, heads, &known)?;

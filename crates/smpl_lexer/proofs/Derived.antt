@@ -90,7 +90,11 @@ module _ {P : Type 0} (step : P → PatchToken → Option P) (ends : P → Bool)
       let left : ts ≡ front ++ u ∷ rest = cc in
       token front rest u left
       (can.0, d.out p q t (front ++ can.0) is (subst (λ (y : PatchToken). May p (y ∷ (front ++ can.0))) same can.1))
-      (λ more. cannot (more.0, subst (λ (y : PatchToken). May p (y ∷ ((front ++ u ∷ []) ++ more.0))) (sym same) (d.into p q t ((front ++ u ∷ []) ++ more.0) is more.1)))
+      (λ more. cannot (
+        more.0,
+        subst (λ (y : PatchToken). May p (y ∷ ((front ++ u ∷ []) ++ more.0))) (sym same)
+            (d.into p q t ((front ++ u ∷ []) ++ more.0) is more.1),
+      ))
   put_back p q t ts _ is (early can cannot) =
       early (can.0, d.out p q t (ts ++ can.0) is can.1) (λ may. cannot (d.into p q t ts is may))
 

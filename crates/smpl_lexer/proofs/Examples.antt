@@ -16,7 +16,8 @@ use Rattle.smpl_lexer.specs.CutLines.{CutLine}
 use Rattle.smpl_lexer.specs.Texts.{body_line, text_of, text_faults}
 
 -- the last line may have no newline, and an empty line is one
-three_lines : lines_from 0 (codes "a" ++ (10 ∷ 10 ∷ codes "b")) ≡ record { start = 0; bytes = 97 ∷ 10 ∷ [] } ∷ record { start = 2; bytes = 10 ∷ [] } ∷ record { start = 3; bytes = 98 ∷ [] } ∷ []
+three_lines : lines_from 0 (codes "a" ++ (10 ∷ 10 ∷ codes "b")) ≡ record { start = 0; bytes = 97 ∷ 10 ∷ [] }
+    ∷ record { start = 2; bytes = 10 ∷ [] } ∷ record { start = 3; bytes = 98 ∷ [] } ∷ []
 three_lines = refl
 
 without_newline : content (97 ∷ 10 ∷ []) ≡ 97 ∷ []
@@ -61,7 +62,8 @@ no_name = refl
 goes_on_too_far : header_stop (at_sign 0 ∷ at_sign 1 ∷ word (codes "x") 3 ∷ []) 4 ≡ Some 3
 goes_on_too_far = refl
 
-whole_header : header_stop (at_sign 0 ∷ word (codes "depends") 1 ∷ word (codes "on") 9 ∷ mark (codes "!") 12 ∷ mark (codes "(") 13 ∷ word (codes "a") 14 ∷ mark (codes "||") 16
+whole_header : header_stop (at_sign 0 ∷ word (codes "depends") 1 ∷ word (codes "on") 9 ∷ mark (codes "!") 12
+    ∷ mark (codes "(") 13 ∷ word (codes "a") 14 ∷ mark (codes "||") 16
     ∷ word (codes "never") 19 ∷ word (codes "b") 25 ∷ mark (codes ")") 26 ∷ word (codes "exists") 28 ∷ at_sign 34 ∷ []) 35 ≡ None
 whole_header = refl
 
@@ -91,12 +93,14 @@ abbrev cut : List CutLine
 cut = record {
   role = role.Header;
   line = record { start = 0; bytes = codes "@@" ++ 10 ∷ [] };
-  pieces = record { kind = Plain kind.Stray; text = codes "@" } ∷ record { kind = Plain kind.Stray; text = codes "@" } ∷ record { kind = Plain kind.Blank; text = 10 ∷ [] } ∷ [];
+  pieces = record { kind = Plain kind.Stray; text = codes "@" } ∷ record { kind = Plain kind.Stray; text = codes "@" }
+      ∷ record { kind = Plain kind.Blank; text = 10 ∷ [] } ∷ [];
 }
     ∷ record {
       role = role.Second;
       line = record { start = 3; bytes = codes "@@" ++ 10 ∷ [] };
-      pieces = record { kind = Plain kind.Stray; text = codes "@" } ∷ record { kind = Plain kind.Stray; text = codes "@" } ∷ record { kind = Plain kind.Blank; text = 10 ∷ [] } ∷ [];
+      pieces = record { kind = Plain kind.Stray; text = codes "@" } ∷ record { kind = Plain kind.Stray; text = codes "@" }
+          ∷ record { kind = Plain kind.Blank; text = 10 ∷ [] } ∷ [];
     }
     ∷ record {
       role = role.Body;

@@ -13,7 +13,8 @@ use Rattle.smpl_lexer.specs.Lines.{end_of}
 use Rattle.smpl_lexer.specs.Tokens.{bad_from}
 use Rattle.smpl_lexer.specs.Sections.{is_plus}
 use Rattle.smpl_lexer.specs.CutLines.{CutLine, plain_tokens, place_in, role_faults, faults_of}
-use Rattle.smpl_lexer.specs.Texts.{AllGoOn, ended, with_decls, with_line, body_line, gather_line, gather, nothing, line_faults, end_faults, section_of, IsTextOf}
+use Rattle.smpl_lexer.specs.Texts.{AllGoOn, ended, with_decls, with_line, body_line, gather_line, gather, nothing, line_faults}
+use Rattle.smpl_lexer.specs.Texts.{end_faults, section_of, IsTextOf}
 
 nil_left : {A : Type 0} (xs ys : List A) → xs ++ ys ≡ [] → xs ≡ []
 nil_left [] ys e = refl
@@ -63,7 +64,8 @@ good_lines : (g : Gathered) (cs : List CutLine) → line_faults cs ≡ [] → Go
 good_lines g [] none good = good
 good_lines g (c ∷ cs) none good =
     let here : role_faults c.role c.line.start (plain_tokens c) (end_of c.line) ≡ []
-    = nil_right (bad_from (is_plus c.role c.line.bytes) (place_in c) c.pieces) (role_faults c.role c.line.start (plain_tokens c) (end_of c.line)) (nil_left (faults_of c) (line_faults cs) none) in
+    = nil_right (bad_from (is_plus c.role c.line.bytes) (place_in c) c.pieces)
+    (role_faults c.role c.line.start (plain_tokens c) (end_of c.line)) (nil_left (faults_of c) (line_faults cs) none) in
     good_lines (gather_line c.role c.line.start c.line.bytes (plain_tokens c) g) cs (nil_right (faults_of c) (line_faults cs) none)
     (good_line c.role c.line.start c.line.bytes (plain_tokens c) (end_of c.line) g here good)
 
@@ -73,4 +75,5 @@ headers_go_on bytes t text =
     let none : line_faults cs ≡ [] = nil_left (line_faults cs) (end_faults (section_of section.Before cs) (length bytes)) text.faultless in
     let good = good_lines nothing cs none (record { rules = tt; last = tt }) in
     let g = gather nothing cs in
-    subst (λ (x : PatchText). AllGoOn x.rules) (sym text.is) (all_more g.rules (ended g.last (length bytes)) good.rules (last_ends g.last 0 (length bytes) good.last))
+    subst (λ (x : PatchText). AllGoOn x.rules) (sym text.is)
+    (all_more g.rules (ended g.last (length bytes)) good.rules (last_ends g.last 0 (length bytes) good.last))

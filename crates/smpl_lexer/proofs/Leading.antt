@@ -1,5 +1,6 @@
 -- A line that is cut up to some place.
-use Rattle.std.proofs.Common.{◌≡◌, ℕ, ◌+◌, ◌≤◌, Bool, true, false, List, [], ◌∷◌, ◌++◌, length, take, drop, Option, Some, None, refl, sym, ap, ◌∙◌, append_assoc, arith}
+use Rattle.std.proofs.Common.{◌≡◌, ℕ, ◌+◌, ◌≤◌, Bool, true, false, List, [], ◌∷◌, ◌++◌, length, take, drop, Option, Some, None}
+use Rattle.std.proofs.Common.{refl, sym, ap, ◌∙◌, append_assoc, arith}
 use Rattle.std.proofs.lemmas.List.{length-drop, drop-drop, take-append-drop, length-take-le, append-nil}
 use Rattle.c_terms.specs.declared.token.TokenKind.{TokenKind}
 use Rattle.smpl_patch.specs.declared.fault.PatchFault.{PatchFault}
@@ -11,7 +12,8 @@ use Rattle.smpl_lexer.specs.Tokens.{tokens_from, bad_from, token_kind, put_token
 use Rattle.smpl_lexer.specs.Cutting.{IsCutTo}
 
 -- however the rest is cut, the whole is cut so
-pub record Leads (signs plus : Bool) (at : ℕ) (bytes : List ℕ) (first : Option PatchFault) (start : ℕ) (tokens : List PatchToken) (so_far : Option PatchFault) : Type 0 where
+pub record Leads (signs plus : Bool) (at : ℕ) (bytes : List ℕ) (first : Option PatchFault) (start : ℕ)
+    (tokens : List PatchToken) (so_far : Option PatchFault) : Type 0 where
   pub within : start ≤ length bytes
   pub leads : (ps : List LinePiece) → joined ps ≡ drop start bytes → Cut signs ps
       → IsCutTo signs plus at bytes first (record { tokens = tokens ++ tokens_from (at + start) ps; first = first_from so_far (bad_from plus (at + start) ps) })
@@ -45,7 +47,8 @@ leads_first signs plus at bytes first = record {
 pub leads_more : (signs plus : Bool) (at : ℕ) (bytes : List ℕ) (first : Option PatchFault) (start : ℕ) (tokens : List PatchToken) (so_far : Option PatchFault)
     → Leads signs plus at bytes first start tokens so_far → (k : LineKind) (len : ℕ) (text : List ℕ) → len ≤ length (drop start bytes)
     → text ≡ take len (drop start bytes) → IsFirstPiece signs k (take len (drop start bytes)) (drop len (drop start bytes))
-    → Leads signs plus at bytes first (start + len) (tokens ++ put_token (token_kind k) text (at + start) []) (first_from so_far (put_bad (is_bad plus k text) (at + start) []))
+    → Leads signs plus at bytes first (start + len) (tokens ++ put_token (token_kind k) text (at + start) [])
+    (first_from so_far (put_bad (is_bad plus k text) (at + start) []))
 leads_more signs plus at bytes first start tokens so_far l k len text within is piece = record {
   within = omega (arith, l.within, within, length-drop start bytes);
   leads = λ ps rest cuts.
@@ -56,15 +59,18 @@ leads_more signs plus at bytes first start tokens so_far l k len text within is 
       let len_is : length text ≡ len = ap length is ∙ length-take-le len (drop start bytes) within in
       let place : at + start + length text ≡ at + (start + len) = omega (arith, len_is) in
       let done = l.leads (p ∷ ps) whole (placed, cuts) in
-      let same : tokens ++ put_token (token_kind k) text (at + start) (tokens_from (at + start + length text) ps) ≡ (tokens ++ put_token (token_kind k) text (at + start) []) ++ tokens_from (at + (start + len)) ps
+      let same : tokens ++ put_token (token_kind k) text (at + start) (tokens_from (at + start + length text) ps)
+      ≡ (tokens ++ put_token (token_kind k) text (at + start) []) ++ tokens_from (at + (start + len)) ps
       = rw (place, put_token-append) (sym (append_assoc tokens (put_token (token_kind k) text (at + start) []) (tokens_from (at + (start + len)) ps))) in
-      let faults : first_from so_far (put_bad (is_bad plus k text) (at + start) (bad_from plus (at + start + length text) ps)) ≡ first_from (first_from so_far (put_bad (is_bad plus k text) (at + start) [])) (bad_from plus (at + (start + len)) ps)
+      let faults : first_from so_far (put_bad (is_bad plus k text) (at + start) (bad_from plus (at + start + length text) ps))
+      ≡ first_from (first_from so_far (put_bad (is_bad plus k text) (at + start) [])) (bad_from plus (at + (start + len)) ps)
       = rw place (first_from-put_bad (is_bad plus k text) so_far (at + start) (bad_from plus (at + (start + len)) ps)) in
       record { pieces = done.pieces; text = done.text; cuts = done.cuts; tokens = sym same ∙ done.tokens; faults = sym faults ∙ done.faults };
 }
 
 pub leads_last : (signs plus : Bool) (at : ℕ) (bytes : List ℕ) (first : Option PatchFault) (start : ℕ) (tokens : List PatchToken) (so_far : Option PatchFault)
-    → Leads signs plus at bytes first start tokens so_far → drop start bytes ≡ [] → IsCutTo signs plus at bytes first (record { tokens = tokens; first = so_far })
+    → Leads signs plus at bytes first start tokens so_far → drop start bytes ≡ []
+    → IsCutTo signs plus at bytes first (record { tokens = tokens; first = so_far })
 leads_last signs plus at bytes first start tokens so_far l none =
     let done = l.leads [] (sym none) tt in
     record { pieces = done.pieces; text = done.text; cuts = done.cuts; tokens = sym (append-nil tokens) ∙ done.tokens; faults = done.faults }

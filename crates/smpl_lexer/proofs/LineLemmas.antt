@@ -1,5 +1,6 @@
 -- The first line of some bytes.
-use Rattle.std.proofs.Common.{◌≡◌, ℕ, suc, ◌+◌, ◌<◌, ◌==◌, inl, inr, Bool, true, false, List, [], ◌∷◌, length, take, drop, refl, ap, ◌∙◌, get_or, arith, if◌then◌else◌}
+use Rattle.std.proofs.Common.{◌≡◌, ℕ, suc, ◌+◌, ◌<◌, ◌==◌, inl, inr, Bool, true, false, List, [], ◌∷◌, length, take, drop, refl}
+use Rattle.std.proofs.Common.{ap, ◌∙◌, get_or, arith, if◌then◌else◌}
 use Rattle.std.proofs.lemmas.Bool.{eq-eqb}
 use Rattle.std.proofs.lemmas.Bool.Decides.{eqb_tells}
 use Rattle.std.proofs.lemmas.List.{drop_more}
@@ -34,7 +35,8 @@ content-other bytes i within is = ap content (drop_more bytes i 0 within)
 
 -- the first line of some bytes, and the lines after it
 abbrev Split : ℕ → List ℕ → Type 0
-Split start bytes = lines_from start bytes ≡ record { start = start; bytes = take (line_length bytes) bytes } ∷ lines_from (start + line_length bytes) (drop (line_length bytes) bytes)
+Split start bytes = lines_from start bytes ≡ record { start = start; bytes = take (line_length bytes) bytes }
+    ∷ lines_from (start + line_length bytes) (drop (line_length bytes) bytes)
 
 newline_first : (start b : ℕ) (bs : List ℕ) → (b == 10) ≡ true → Split start (b ∷ bs)
 newline_first start b bs is = rw is refl
@@ -51,7 +53,9 @@ more_line start b c bs split = elim (b == 10) as (λ (t : Bool). (b == 10) ≡ t
   | false ↦ λ e.
       let n = line_length (c ∷ bs) in
       let place : start + 1 + line_length (c ∷ bs) ≡ start + suc (line_length (c ∷ bs)) = omega arith in
-      let rest : lines_from (start + 1 + line_length (c ∷ bs)) (drop (line_length (c ∷ bs)) (c ∷ bs)) ≡ lines_from (start + suc (line_length (c ∷ bs))) (drop (line_length (c ∷ bs)) (c ∷ bs)) = ap (λ (m : ℕ). lines_from m (drop (line_length (c ∷ bs)) (c ∷ bs))) place in
+      let rest : lines_from (start + 1 + line_length (c ∷ bs)) (drop (line_length (c ∷ bs)) (c ∷ bs))
+      ≡ lines_from (start + suc (line_length (c ∷ bs))) (drop (line_length (c ∷ bs)) (c ∷ bs)) =
+      ap (λ (m : ℕ). lines_from m (drop (line_length (c ∷ bs)) (c ∷ bs))) place in
       rw e (ap (begun start b) split ∙ ap (λ (ls : List Line). record { start = start; bytes = b ∷ take (line_length (c ∷ bs)) (c ∷ bs) } ∷ ls) rest)
 ] refl
 

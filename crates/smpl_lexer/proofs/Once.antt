@@ -1,5 +1,6 @@
 -- A patch is read in one way: it has one text or one fault, and not both.
-use Rattle.std.proofs.Common.{◌≡◌, ℕ, zero, suc, ◌+◌, ◌<◌, ◌⊎◌, Bool, List, [], ◌∷◌, ◌++◌, length, take, drop, Some, None, refl, sym, ap, ◌∙◌, subst, inl, inr, arith, add-one}
+use Rattle.std.proofs.Common.{◌≡◌, ℕ, zero, suc, ◌+◌, ◌<◌, ◌⊎◌, Bool, List, [], ◌∷◌, ◌++◌, length, take, drop, Some, None, refl}
+use Rattle.std.proofs.Common.{sym, ap, ◌∙◌, subst, inl, inr, arith, add-one}
 use Rattle.std.proofs.lemmas.List.{take_at}
 use Rattle.c_lexer.specs.declared.state.Kind.{Kind}
 use Rattle.c_lexer.specs.Kinds.{kind_of}
@@ -90,7 +91,8 @@ by_once (suc n) j k xs ys A B e one other = (one.0 ∙ sym other.0, same_front x
 
 piece_once : (signs : Bool) (j k : LineKind) (xs ys A B : List ℕ) → xs ++ A ≡ ys ++ B → IsFirstPiece signs j xs A
     → IsFirstPiece signs k ys B → (j ≡ k) × ((xs ≡ ys) × (A ≡ B))
-piece_once signs j k xs ys A B e one other = by_once (sign_at signs (ys ++ B)) j k xs ys A B e (subst (λ (l : List ℕ). IsFirstBy (sign_at signs l) j xs A) e one) other
+piece_once signs j k xs ys A B e one other =
+    by_once (sign_at signs (ys ++ B)) j k xs ys A B e (subst (λ (l : List ℕ). IsFirstBy (sign_at signs l) j xs A) e one) other
 
 not_empty : (n : ℕ) (k : LineKind) (xs A : List ℕ) → IsFirstBy n k xs A → [] ≡ xs ++ A → ⊥
 not_empty n k (x ∷ xs) A one e = absurd (cc)

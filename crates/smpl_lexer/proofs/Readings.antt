@@ -42,7 +42,8 @@ begins_some (b ∷ bs) some = record { byte = b; rest = bs; are = refl }
 pub lines_left : (start : ℕ) (bs : List ℕ) → 0 < length bs
     → lines_from start bs ≡ record { start = start; bytes = take (line_length bs) bs } ∷ lines_from (start + line_length bs) (drop (line_length bs) bs)
 lines_left start bs some = let b = begins_some bs some in
-    subst (λ (x : List ℕ). lines_from start x ≡ record { start = start; bytes = take (line_length x) x } ∷ lines_from (start + line_length x) (drop (line_length x) x)) (sym b.are) (split_lines start b.byte b.rest)
+    subst (λ (x : List ℕ). lines_from start x ≡ record { start = start; bytes = take (line_length x) x }
+    ∷ lines_from (start + line_length x) (drop (line_length x) x)) (sym b.are) (split_lines start b.byte b.rest)
 
 pub leads_on_more : (bytes : List ℕ) (start : ℕ) (r after : Reading) (text : List ℕ) → LeadsOn bytes start r
     → 0 < length (drop start bytes)
@@ -88,9 +89,12 @@ line_read r start bytes role role_is skip skip_is signs signs_is plus plus_is cu
     let text : joined is_cut.pieces ≡ drop (skipped role bytes) bytes = rw (← skip_is) is_cut.text in
     let cuts : Cut (has_signs role bytes) is_cut.pieces = rw (← signs_is) is_cut.cuts in
     let tokens : cut.tokens ≡ tokens_from (start + skipped role bytes) is_cut.pieces = rw (← skip_is) is_cut.tokens in
-    let bad : cut.first ≡ first_from r.first (bad_from (is_plus role bytes) (start + skipped role bytes) is_cut.pieces) = rw (← skip_is, ← plus_is) is_cut.faults in
+    let bad : cut.first ≡ first_from r.first (bad_from (is_plus role bytes) (start + skipped role bytes) is_cut.pieces) =
+    rw (← skip_is, ← plus_is) is_cut.faults in
     let firsts : new ≡ first_from r.first (faults_of c) = new_is
-    ∙ (rw (end_is, tokens, bad) (sym (first_from-append r.first (bad_from (is_plus role bytes) (start + skipped role bytes) is_cut.pieces) (role_faults role start (tokens_from (start + skipped role bytes) is_cut.pieces) (start + length (content bytes)))))) in
+    ∙ (rw (end_is, tokens, bad) (sym (first_from-append r.first
+    (bad_from (is_plus role bytes) (start + skipped role bytes) is_cut.pieces)
+    (role_faults role start (tokens_from (start + skipped role bytes) is_cut.pieces) (start + length (content bytes)))))) in
     let gathered : g ≡ gather_line role start bytes (plain_tokens c) r.gathered = rw (← tokens) g_is in
     record {
       line = c;

@@ -1,7 +1,8 @@
 -- A text is small.
 --
 -- Proof: each line has at least one byte, so there are no more lines than bytes; each rule has a line of its own, its header.
-use Rattle.std.proofs.Common.{◌≡◌, ℕ, suc, ◌+◌, ◌≤◌, ◌==◌, Bool, true, false, List, [], ◌∷◌, length, drop, All, Option, Some, None, refl, sym, subst, arith, if◌then◌else◌}
+use Rattle.std.proofs.Common.{◌≡◌, ℕ, suc, ◌+◌, ◌≤◌, ◌==◌, Bool, true, false, List, [], ◌∷◌, length, drop, All, Option, Some}
+use Rattle.std.proofs.Common.{None, refl, sym, subst, arith, if◌then◌else◌}
 use Rattle.std.proofs.lemmas.List.Elements.{All-nil, All-cons, All-head, All-tail, All-append, All-push, All-weaker}
 use Rattle.std.proofs.lemmas.List.{length-append, length-drop}
 use Rattle.smpl_lexer.specs.declared.section.Section.{Section}
@@ -16,7 +17,8 @@ use Rattle.smpl_lexer.specs.declared.gather.Gathered.{Gathered}
 use Rattle.smpl_lexer.specs.Lines.{Line, lines_from, begun, content, newline}
 use Rattle.smpl_lexer.specs.Sections.{section_after, skipped}
 use Rattle.smpl_lexer.specs.CutLines.{CutLine, AreCutLines, plain_tokens}
-use Rattle.smpl_lexer.specs.Texts.{most_bytes, ended, with_decls, with_line, body_line, gather_line, gather, nothing, finished, text_of, IsTextOf, IsSmallRule, IsSmall}
+use Rattle.smpl_lexer.specs.Texts.{most_bytes, ended, with_decls, with_line, body_line, gather_line, gather, nothing, finished}
+use Rattle.smpl_lexer.specs.Texts.{text_of, IsTextOf, IsSmallRule, IsSmall}
 
 -- ---- lines
 
@@ -38,7 +40,8 @@ longer ls n all = All-weaker (λ (l : Line). length l.bytes ≤ n) (λ (l : Line
 begun_short : (start b : ℕ) (ls : List Line) (n : ℕ) → AreShort ls n → AreShort (begun start b ls) (suc n)
 begun_short start b [] n short = record {
   count = omega arith;
-  bytes = All-cons (λ (l : Line). length l.bytes ≤ suc n) (record { start = start; bytes = b ∷ [] }) [] (omega arith) (All-nil (λ (l : Line). length l.bytes ≤ suc n));
+  bytes = All-cons (λ (l : Line). length l.bytes ≤ suc n) (record { start = start; bytes = b ∷ [] }) [] (omega arith)
+      (All-nil (λ (l : Line). length l.bytes ≤ suc n));
 }
 begun_short start b (l ∷ ls) n short = record {
   count = omega (arith, short.count);
@@ -52,10 +55,12 @@ lines_short start [] = record { count = omega arith; bytes = All-nil (λ (l : Li
 lines_short start (b ∷ bs) = by (b == newline) (lines_short (start + 1) bs)
   where
     by : (is : Bool) → AreShort (lines_from (start + 1) bs) (length bs)
-        → AreShort (if is then record { start = start; bytes = b ∷ [] } ∷ lines_from (start + 1) bs else begun start b (lines_from (start + 1) bs)) (suc (length bs))
+        → AreShort (if is then record { start = start; bytes = b ∷ [] }
+        ∷ lines_from (start + 1) bs else begun start b (lines_from (start + 1) bs)) (suc (length bs))
     by true short = record {
       count = omega (arith, short.count);
-      bytes = All-cons (λ (l : Line). length l.bytes ≤ suc (length bs)) (record { start = start; bytes = b ∷ [] }) (lines_from (start + 1) bs) (omega arith) (longer (lines_from (start + 1) bs) (length bs) short.bytes);
+      bytes = All-cons (λ (l : Line). length l.bytes ≤ suc (length bs)) (record { start = start; bytes = b ∷ [] })
+          (lines_from (start + 1) bs) (omega arith) (longer (lines_from (start + 1) bs) (length bs) short.bytes);
     }
     by false short = begun_short start b (lines_from (start + 1) bs) (length bs) short
 
@@ -85,7 +90,8 @@ module _ (most : ℕ) where
 
   ended_small : (left : ℕ) (o : Option RuleText) (end : ℕ) → LastFits left o → All RuleFits (ended o end)
   ended_small left None end fits = All-nil RuleFits
-  ended_small left (Some r) end fits = All-cons RuleFits (record r { end = end }) [] (record { lines = omega (arith, fits.0); texts = fits.1 }) (All-nil RuleFits)
+  ended_small left (Some r) end fits = All-cons RuleFits (record r { end = end }) []
+      (record { lines = omega (arith, fits.0); texts = fits.1 }) (All-nil RuleFits)
 
   last_less : (left : ℕ) (o : Option RuleText) → LastFits (suc left) o → LastFits left o
   last_less left None fits = tt
@@ -145,7 +151,8 @@ module _ (most : ℕ) where
   all_fit s [] (c ∷ cs) g cut short fits = absurd cut
   all_fit s (l ∷ ls) [] g cut short fits = absurd cut
   all_fit s (l ∷ ls) (c ∷ cs) g cut short fits =
-      let here : length c.line.bytes ≤ most = subst (λ (x : Line). length x.bytes ≤ most) (sym cut.0) (All-head (λ (l : Line). length l.bytes ≤ most) l ls short) in
+      let here : length c.line.bytes ≤ most = subst (λ (x : Line). length x.bytes ≤ most) (sym cut.0)
+      (All-head (λ (l : Line). length l.bytes ≤ most) l ls short) in
       all_fit (section_after c.role) ls cs (gather_line c.role c.line.start c.line.bytes (plain_tokens c) g) cut.1.1.1
       (All-tail (λ (l : Line). length l.bytes ≤ most) l ls short)
       (gathered_fits c.role c.line.start c.line.bytes (plain_tokens c) (length ls) g here fits)
@@ -172,7 +179,8 @@ small_of t fits = record { rules = fits.rules; each = All-weaker (RuleFits most_
 lines_fit : (most : ℕ) (bytes : List ℕ) → length bytes ≤ most
     → All (λ (l : Line). length l.bytes ≤ most) (lines_from 0 bytes)
 lines_fit most bytes short =
-    All-weaker (λ (l : Line). length l.bytes ≤ length bytes) (λ (l : Line). length l.bytes ≤ most) (λ l h. omega (arith, h, short)) (lines_from 0 bytes) (lines_short 0 bytes).bytes
+    All-weaker (λ (l : Line). length l.bytes ≤ length bytes) (λ (l : Line). length l.bytes ≤ most)
+    (λ l h. omega (arith, h, short)) (lines_from 0 bytes) (lines_short 0 bytes).bytes
 
 text_fits : (most : ℕ) (bytes : List ℕ) (cs : List CutLine) → length bytes ≤ most
     → AreCutLines section.Before (lines_from 0 bytes) cs → TextFits most (text_of (length bytes) cs)

@@ -1,7 +1,7 @@
 // Cuts a line into tokens.
 ghost use Rattle.std.specs.Prelude.{◌≡◌, ◌+◌, ◌≤◌, ◌++◌, [], length, IfOk, OnOk};
 ghost use Rattle.smpl_patch.specs.Faults.{first_from};
-ghost use Rattle.smpl_lexer.specs.Tokens as told;
+ghost use Rattle.smpl_lexer.specs.Tokens as spec;
 ghost use Rattle.smpl_lexer.specs.Cutting.{IsCutTo};
 
 use crate::piece::{LineKind, first_in_line, is_bad, token_kind};
@@ -26,7 +26,7 @@ fn push_token(
     text: &[u8],
     at: u32,
 ) -> Result<(), NoMemory>
-    ensures { OnOk result (tokens.new ≡ tokens.old ++ told.put_token (told.token_kind kind) text.now at []) }
+    ensures { OnOk result (tokens.new ≡ tokens.old ++ spec.put_token (spec.token_kind kind) text.now at []) }
 {
     if let Some(kind) = token_kind(kind) {
         let text = Text::from_bytes(alloc, text)?;
@@ -40,7 +40,7 @@ fn push_token(
 
 /// Returns the first fault so far, that of a piece included, if it has one.
 fn with_bad(first: Option<PatchFault>, bad: bool, at: u32) -> Option<PatchFault>
-    ensures { result ≡ first_from first (told.put_bad bad at []) }
+    ensures { result ≡ first_from first (spec.put_bad bad at []) }
 {
     if bad {
         Some(earlier(first, PatchFault::BadToken(at)))

@@ -2,7 +2,8 @@
 --
 -- Proof: by recursion on the tokens. Each place has what an operand would complete (`Fill`), or what one has completed
 -- (`Done`), for the innermost group, and for each group around it what that group would complete (`Around`).
-use Rattle.std.proofs.Common.{◌≡◌, ℕ, ◌+◌, ◌-◌, ◌⊎◌, inl, inr, ◌==◌, ◌||◌, Bool, true, false, List, [], ◌∷◌, Option, Some, None, refl, sym, ap, subst, codes, arith, if◌then◌else◌}
+use Rattle.std.proofs.Common.{◌≡◌, ℕ, ◌+◌, ◌-◌, ◌⊎◌, inl, inr, ◌==◌, ◌||◌, Bool, true, false, List, [], ◌∷◌, Option, Some, None}
+use Rattle.std.proofs.Common.{refl, sym, ap, subst, codes, arith, if◌then◌else◌}
 use Rattle.std.proofs.lemmas.Bool.{eqb-true, eq-eqb}
 use Rattle.smpl_patch.specs.declared.rule.Dep.{Dep}
 use Rattle.smpl_patch.specs.declared.rule.Dep.TheVariants as dep
@@ -68,12 +69,15 @@ word_by level left t q true is e = word is (cc)
 word_by level left t q false is e = let n = name_by level left t q (is_rule_name t) refl e in named n.0 n.1
 
 open_by : (level left : ℕ) (t : PatchToken) (q : HeaderPlace) (b : Bool) → is_sign (codes "(") t ≡ b
-    → (if b then counted left (h.Operand (level + 1) (less left)) else (if is_word (codes "ever") t || is_word (codes "never") t then Some (h.Word level left) else rule_name level left t)) ≡ Some q → Operand level left t q
+    → (if b then counted left (h.Operand (level + 1) (less left)) else
+    (if is_word (codes "ever") t || is_word (codes "never") t then Some (h.Word level left) else rule_name level left t)) ≡ Some q → Operand level left t q
 open_by level left t q true is e = opens is (counted_is left (h.Operand (level + 1) (less left)) q e)
 open_by level left t q false is e = word_by level left t q (is_word (codes "ever") t || is_word (codes "never") t) refl e
 
 bang_by : (level left : ℕ) (t : PatchToken) (q : HeaderPlace) (b : Bool) → is_sign (codes "!") t ≡ b
-    → (if b then counted left (h.Operand level (less left)) else (if is_sign (codes "(") t then counted left (h.Operand (level + 1) (less left)) else (if is_word (codes "ever") t || is_word (codes "never") t then Some (h.Word level left) else rule_name level left t))) ≡ Some q
+    → (if b then counted left (h.Operand level (less left)) else
+    (if is_sign (codes "(") t then counted left (h.Operand (level + 1) (less left)) else
+    (if is_word (codes "ever") t || is_word (codes "never") t then Some (h.Word level left) else rule_name level left t))) ≡ Some q
     → Operand level left t q
 bang_by level left t q true is e = bang is (counted_is left (h.Operand level (less left)) q e)
 bang_by level left t q false is e = open_by level left t q (is_sign (codes "(") t) refl e
@@ -106,7 +110,8 @@ level_by level left t q false is e = close_by level left t q (is_sign (codes ")"
 
 sides_by : (level left : ℕ) (t : PatchToken) (q : HeaderPlace) (a b : Bool) → is_sign (codes "||") t ≡ a
     → is_sign (codes "&&") t ≡ b
-    → (if a || b then Some (h.Operand level left) else (if level == 0 then after_depends t else (if is_sign (codes ")") t then Some (h.Operated (level - 1) left) else None))) ≡ Some q
+    → (if a || b then Some (h.Operand level left) else
+    (if level == 0 then after_depends t else (if is_sign (codes ")") t then Some (h.Operated (level - 1) left) else None))) ≡ Some q
     → Operated level left t q
 sides_by level left t q true b is also e = ors is (cc)
 sides_by level left t q false true is also e = ands also (cc)
@@ -232,7 +237,8 @@ module _ (earlier : List RuleHead) where
 
   from_word : {all xs : List PatchToken} {level : ℕ} (left : ℕ) (w t : PatchToken) (ts : List PatchToken) (q : HeaderPlace)
       → ((mark_of w ≡ mark.Ever) ⊎ (mark_of w ≡ mark.Never))
-      → Around all level xs → Fill xs (w ∷ condition (t ∷ ts)) → (is_rule_name t ≡ true) × ((q ≡ h.Operated level (less left)) × (left ≡ 0 → ⊥)) → Moves all ts q
+      → Around all level xs → Fill xs (w ∷ condition (t ∷ ts))
+      → (is_rule_name t ≡ true) × ((q ≡ h.Operated level (less left)) × (left ≡ 0 → ⊥)) → Moves all ts q
   from_word {xs = xs} left w t ts q which around f n =
       let g = is_name t n.0 in
       let f' : Fill xs (w ∷ t ∷ condition ts) = subst (λ (l : List PatchToken). Fill xs (w ∷ l)) (goes_on t ts g.goes) f in
@@ -254,7 +260,8 @@ module _ (earlier : List RuleHead) where
   moves : {all : List PatchToken} {p : HeaderPlace} (t : PatchToken) (ts : List PatchToken) (q : HeaderPlace)
       → At all p (condition (t ∷ ts)) → header_step p t ≡ Some q → Moves all ts q
   moves t ts q (hole {level = level} {left = left} around f) e = from_hole t ts q around f (operand_is level left t q e)
-  moves t ts q (worded {level = level} {left = left} w which around f) e = from_word left w t ts q which around f (name_by level left t q (is_rule_name t) refl e)
+  moves t ts q (worded {level = level} {left = left} w which around f) e =
+      from_word left w t ts q which around f (name_by level left t q (is_rule_name t) refl e)
   moves t ts q (full {level = level} {left = left} around done) e = from_full t ts q around done (operated_is level left t q e)
 
   no_end : {all ys : List PatchToken} {p : HeaderPlace} (end : ℕ) → At all p ys → stop_at (header_ends p) end ≡ None → ⊥

@@ -40,8 +40,16 @@ abbrev earlier : List RuleHead
 earlier = record { name = codes "r"; depends = dep.Always; mode = mode.Exists; vars = x_of_r ∷ [] } ∷ []
 
 -- `identifier y != {a, b};`
-two_not : vars_of [] 3 (word (codes "identifier") 0 ∷ word (codes "y") 1 ∷ mark (codes "!=") 2 ∷ mark (codes "{") 3 ∷ word (codes "a") 4 ∷ mark (codes ",") 5 ∷ word (codes "b") 6 ∷ mark (codes "}") 7 ∷ mark (codes ";") 8 ∷ [])
-    ≡ record { var = record { rule = 3; name = codes "y" }; kind = Meta meta.Ident; inherited = false; not_names = codes "a" ∷ codes "b" ∷ []; not_places = [] } ∷ []
+two_not : vars_of [] 3 (word (codes "identifier") 0 ∷ word (codes "y") 1 ∷ mark (codes "!=") 2 ∷ mark (codes "{") 3
+    ∷ word (codes "a") 4 ∷ mark (codes ",") 5 ∷ word (codes "b") 6 ∷ mark (codes "}") 7 ∷ mark (codes ";") 8 ∷ [])
+    ≡ record {
+      var = record { rule = 3; name = codes "y" };
+      kind = Meta meta.Ident;
+      inherited = false;
+      not_names =
+          codes "a" ∷ codes "b" ∷ [];
+      not_places = [];
+    } ∷ []
 two_not = refl
 
 -- `expression list;` declares a variable that is called list
@@ -55,20 +63,25 @@ inherits : vars_of earlier 1 (word (codes "expression") 0 ∷ word (codes "r") 1
 inherits = refl
 
 -- `expression x, x;`, `symbol x, x;` and `symbol x; expression x;`
-twice : first_of (decl_faults [] (word (codes "expression") 0 ∷ word (codes "x") 1 ∷ mark (codes ",") 2 ∷ word (codes "x") 3 ∷ mark (codes ";") 4 ∷ [])) ≡ Some (TwiceNamed 3)
+twice : first_of (decl_faults [] (word (codes "expression") 0 ∷ word (codes "x") 1 ∷ mark (codes ",") 2 ∷ word (codes "x") 3
+    ∷ mark (codes ";") 4 ∷ [])) ≡ Some (TwiceNamed 3)
 twice = refl
 
 symbols_twice : decl_faults [] (word (codes "symbol") 0 ∷ word (codes "x") 1 ∷ mark (codes ",") 2 ∷ word (codes "x") 3 ∷ mark (codes ";") 4 ∷ []) ≡ []
 symbols_twice = refl
 
-symbol_and_variable : first_of (decl_faults [] (word (codes "symbol") 0 ∷ word (codes "x") 1 ∷ mark (codes ";") 2 ∷ word (codes "expression") 3 ∷ word (codes "x") 4 ∷ mark (codes ";") 5 ∷ [])) ≡ Some (TwiceNamed 4)
+symbol_and_variable : first_of (decl_faults []
+    (word (codes "symbol") 0 ∷ word (codes "x") 1 ∷ mark (codes ";") 2 ∷ word (codes "expression") 3 ∷ word (codes "x") 4
+    ∷ mark (codes ";") 5 ∷ [])) ≡ Some (TwiceNamed 4)
 symbol_and_variable = refl
 
 -- `identifier r.x;`, `expression s.x;`, `expression if;`, and a declaration without its `;`
-other_kind : first_of (decl_faults earlier (word (codes "identifier") 0 ∷ word (codes "r") 1 ∷ mark (codes ".") 2 ∷ word (codes "x") 3 ∷ mark (codes ";") 4 ∷ [])) ≡ Some (KindDiffers 1)
+other_kind : first_of (decl_faults earlier
+    (word (codes "identifier") 0 ∷ word (codes "r") 1 ∷ mark (codes ".") 2 ∷ word (codes "x") 3 ∷ mark (codes ";") 4 ∷ [])) ≡ Some (KindDiffers 1)
 other_kind = refl
 
-no_rule : first_of (decl_faults earlier (word (codes "expression") 0 ∷ word (codes "s") 1 ∷ mark (codes ".") 2 ∷ word (codes "x") 3 ∷ mark (codes ";") 4 ∷ [])) ≡ Some (UnknownRule 1)
+no_rule : first_of (decl_faults earlier (word (codes "expression") 0 ∷ word (codes "s") 1 ∷ mark (codes ".") 2
+    ∷ word (codes "x") 3 ∷ mark (codes ";") 4 ∷ [])) ≡ Some (UnknownRule 1)
 no_rule = refl
 
 keyword_named : first_of (decl_faults [] (word (codes "expression") 0 ∷ keyword (codes "if") 1 ∷ mark (codes ";") 2 ∷ [])) ≡ Some (BadMetavariable 1)
@@ -90,21 +103,45 @@ abbrev p_decl : List VarDecl
 p_decl = record { var = record { rule = 0; name = codes "p" }; kind = Position; inherited = false; not_names = []; not_places = [] } ∷ []
 
 abbrev placed : List Placed
-placed = pattern_tokens p_decl (record { sign = 32; many = false; start = 0; text = codes "x@p"; tokens = word (codes "x") 0 ∷ made Stray (codes "@") 1 ∷ word (codes "p") 2 ∷ [] } ∷ [])
+placed = pattern_tokens p_decl (record {
+  sign = 32;
+  many = false;
+  start = 0;
+  text = codes "x@p";
+  tokens =
+      word (codes "x") 0 ∷ made Stray (codes "@") 1 ∷ word (codes "p") 2 ∷ [];
+} ∷ [])
 
-one_token : placed ≡ record { token = record { kind = Name; text = codes "x"; id = 0 }; at = 0; sign = 32; line = 0; positions = record { rule = 0; name = codes "p" } ∷ [] } ∷ []
+one_token : placed ≡ record {
+  token = record { kind = Name; text = codes "x"; id = 0 };
+  at = 0;
+  sign = 32;
+  line = 0;
+  positions =
+      record { rule = 0; name = codes "p" } ∷ [];
+} ∷ []
 one_token = refl
 
 -- `... when != a` and in the next line `b`: the code ends with its line
 abbrev dotted : List Placed
-dotted = pattern_tokens [] (record { sign = 32; many = false; start = 0; text = []; tokens = made Dots (codes "...") 0 ∷ word (codes "when") 4 ∷ mark (codes "!=") 9 ∷ word (codes "a") 12 ∷ [] }
+dotted = pattern_tokens [] (record {
+  sign = 32;
+  many = false;
+  start = 0;
+  text = [];
+  tokens =
+      made Dots (codes "...") 0 ∷ word (codes "when") 4 ∷ mark (codes "!=") 9 ∷ word (codes "a") 12 ∷ [];
+}
     ∷ record { sign = 43; many = false; start = 14; text = []; tokens = word (codes "c") 15 ∷ [] }
     ∷ record { sign = 32; many = false; start = 17; text = []; tokens = word (codes "b") 17 ∷ [] } ∷ [])
 
 two_outside : length (split dotted).main ≡ 2
 two_outside = refl
 
-one_clause : (split dotted).clauses ≡ (0, Not (record { token = record { kind = Name; text = codes "a"; id = 3 }; at = 12; sign = 32; line = 0; positions = [] } ∷ [])) ∷ []
+one_clause : (split dotted).clauses ≡ (
+  0,
+  Not (record { token = record { kind = Name; text = codes "a"; id = 3 }; at = 12; sign = 32; line = 0; positions = [] } ∷ []),
+) ∷ []
 one_clause = refl
 
 -- `!(ever r)` has three counted tokens
@@ -115,13 +152,15 @@ counts_three = refl
 abbrev at : ℕ → PatchToken
 at place = made Stray (codes "@") place
 
-is_header : IsHeader earlier 200 (at 0 ∷ word (codes "s") 1 ∷ word (codes "depends") 2 ∷ word (codes "on") 3 ∷ mark (codes "!") 4 ∷ word (codes "r") 5 ∷ at 6 ∷ [])
+is_header : IsHeader earlier 200 (at 0 ∷ word (codes "s") 1 ∷ word (codes "depends") 2 ∷ word (codes "on") 3
+    ∷ mark (codes "!") 4 ∷ word (codes "r") 5 ∷ at 6 ∷ [])
 is_header = named (at 0) (word (codes "s") 1) refl refl
     (depends {cs = mark (codes "!") 4 ∷ word (codes "r") 5 ∷ []} {ts = at 6 ∷ []} (word (codes "depends") 2) (word (codes "on") 3) refl refl
     (one_both (one_prefix (negated (mark (codes "!") 4) refl (plain (word (codes "r") 5) refl)))) (omega arith) (bare (at 6) refl))
 
 -- `@s depends on r t@` stops at t, and `@s depends on` at its end
-at_second_name : header_stop (at 0 ∷ word (codes "s") 1 ∷ word (codes "depends") 2 ∷ word (codes "on") 3 ∷ word (codes "r") 4 ∷ word (codes "t") 5 ∷ at 6 ∷ []) 9 ≡ Some 5
+at_second_name : header_stop (at 0 ∷ word (codes "s") 1 ∷ word (codes "depends") 2 ∷ word (codes "on") 3 ∷ word (codes "r") 4
+    ∷ word (codes "t") 5 ∷ at 6 ∷ []) 9 ≡ Some 5
 at_second_name = refl
 
 at_end : header_stop (at 0 ∷ word (codes "s") 1 ∷ word (codes "depends") 2 ∷ word (codes "on") 3 ∷ []) 9 ≡ Some 9

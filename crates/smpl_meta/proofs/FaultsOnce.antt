@@ -1,5 +1,6 @@
 -- A text has at most one first fault of its heads, and none if it has heads.
-use Rattle.std.proofs.Common.{◌≡◌, ℕ, zero, suc, ◌<◌, ◌⊎◌, inl, inr, List, [], ◌∷◌, ◌++◌, length, take, Option, Some, refl, sym, ◌∙◌, subst, append_assoc, slice_get, arith}
+use Rattle.std.proofs.Common.{◌≡◌, ℕ, zero, suc, ◌<◌, ◌⊎◌, inl, inr, List, [], ◌∷◌, ◌++◌, length, take, Option, Some, refl, sym}
+use Rattle.std.proofs.Common.{◌∙◌, subst, append_assoc, slice_get, arith}
 use Rattle.std.specs.Prelude.{IfSome}
 use Rattle.std.proofs.lemmas.List.{append-nil}
 use Rattle.smpl_patch.specs.declared.fault.PatchFault.{PatchFault}
@@ -38,7 +39,8 @@ faulty_at text earlier (q ∷ rs) (h ∷ hs) (suc n) r f are get is =
 faulty : (text : PatchText) (f : PatchFault) → IsFirstHeadFault text f → Faulty text [] text.rules f
 faulty text f first =
     let r = rule_at text.rules first.rule first.within in
-    let here : IsHeadFault text.virtuals first.heads r.0 f = subst (λ (o : Option RuleText). IfSome o (λ x. IsHeadFault text.virtuals first.heads x f)) r.1 first.here in
+    let here : IsHeadFault text.virtuals first.heads r.0 f =
+    subst (λ (o : Option RuleText). IfSome o (λ x. IsHeadFault text.virtuals first.heads x f)) r.1 first.here in
     faulty_at text [] text.rules first.heads first.rule r.0 f first.before r.1 here
 
 once_from : (text : PatchText) (earlier : List RuleHead) (rs : List RuleText) (f g : PatchFault) → AllGoOn rs

@@ -2,7 +2,8 @@
 --
 -- Proof: by induction on how a condition is spelled. Reading what is spelled leads from before an operand to after one, at
 -- the same level of brackets, and uses up as many of the counted tokens as it contains.
-use Rattle.std.proofs.Common.{◌≡◌, ℕ, ◌+◌, ◌-◌, ◌≤◌, ◌==◌, ◌||◌, Bool, true, false, List, [], ◌∷◌, ◌++◌, Option, Some, None, refl, ap, ◌∙◌, subst, codes, arith, if◌then◌else◌}
+use Rattle.std.proofs.Common.{◌≡◌, ℕ, ◌+◌, ◌-◌, ◌≤◌, ◌==◌, ◌||◌, Bool, true, false, List, [], ◌∷◌, ◌++◌, Option, Some, None}
+use Rattle.std.proofs.Common.{refl, ap, ◌∙◌, subst, codes, arith, if◌then◌else◌}
 use Rattle.std.specs.Prelude.{cond}
 use Rattle.std.specs.Str.{bytes_eq}
 use Rattle.std.proofs.lemmas.Bool.{eqb-true}
@@ -11,7 +12,8 @@ use Rattle.smpl_lexer.specs.declared.token.PatchToken.{PatchToken}
 use Rattle.smpl_lexer.specs.declared.places.HeaderPlace.{HeaderPlace}
 use Rattle.smpl_lexer.specs.declared.places.HeaderPlace.TheVariants as h
 use Rattle.smpl_lexer.specs.Tokens.{is_word, is_sign, is_at, is_stray_kind}
-use Rattle.smpl_lexer.specs.Headers.{is_rule_name, is_mode, after_mode, after_depends, after_name, counted, less, rule_name, operand, operated, header_step, header_ends, header_stop, stop}
+use Rattle.smpl_lexer.specs.Headers.{is_rule_name, is_mode, after_mode, after_depends, after_name, counted, less, rule_name}
+use Rattle.smpl_lexer.specs.Headers.{operand, operated, header_step, header_ends, header_stop, stop}
 use Rattle.smpl_meta.specs.declared.head.RuleHead.{RuleHead}
 use Rattle.smpl_meta.specs.declared.depends.Mark.{Mark}
 use Rattle.smpl_meta.specs.declared.depends.Mark.TheVariants as mark
@@ -54,27 +56,42 @@ module _ (t : PatchToken) where
   ever_by false is = never_by (is_word (codes "never") t) refl
 
   and_by : (e : Bool) → is_sign (codes "&&") t ≡ e
-      → Marked t (if e then mark.And else (if is_word (codes "ever") t then mark.Ever else (if is_word (codes "never") t then mark.Never else (if is_rule_name t then mark.Name else mark.Other))))
+      → Marked t (if e then mark.And else (if is_word (codes "ever") t then mark.Ever else
+      (if is_word (codes "never") t then mark.Never else (if is_rule_name t then mark.Name else mark.Other))))
   and_by true is = ands is
   and_by false is = ever_by (is_word (codes "ever") t) refl
 
   or_by : (d : Bool) → is_sign (codes "||") t ≡ d
-      → Marked t (if d then mark.Or else (if is_sign (codes "&&") t then mark.And else (if is_word (codes "ever") t then mark.Ever else (if is_word (codes "never") t then mark.Never else (if is_rule_name t then mark.Name else mark.Other)))))
+      → Marked t (if d then mark.Or else (if is_sign (codes "&&") t then mark.And else
+      (if is_word (codes "ever") t then mark.Ever else
+      (if is_word (codes "never") t then mark.Never else (if is_rule_name t then mark.Name else mark.Other)))))
   or_by true is = ors is
   or_by false is = and_by (is_sign (codes "&&") t) refl
 
   close_by : (c : Bool) → is_sign (codes ")") t ≡ c
-      → Marked t (if c then mark.Close else (if is_sign (codes "||") t then mark.Or else (if is_sign (codes "&&") t then mark.And else (if is_word (codes "ever") t then mark.Ever else (if is_word (codes "never") t then mark.Never else (if is_rule_name t then mark.Name else mark.Other))))))
+      → Marked t (if c then mark.Close else (if is_sign (codes "||") t then mark.Or else
+      (if is_sign (codes "&&") t then mark.And else
+      (if is_word (codes "ever") t then mark.Ever else
+      (if is_word (codes "never") t then mark.Never else (if is_rule_name t then mark.Name else mark.Other))))))
   close_by true is = closes is
   close_by false is = or_by (is_sign (codes "||") t) refl
 
   open_by : (b : Bool) → is_sign (codes "(") t ≡ b
-      → Marked t (if b then mark.Open else (if is_sign (codes ")") t then mark.Close else (if is_sign (codes "||") t then mark.Or else (if is_sign (codes "&&") t then mark.And else (if is_word (codes "ever") t then mark.Ever else (if is_word (codes "never") t then mark.Never else (if is_rule_name t then mark.Name else mark.Other)))))))
+      → Marked t (if b then mark.Open else (if is_sign (codes ")") t then mark.Close else
+      (if is_sign (codes "||") t then mark.Or else
+      (if is_sign (codes "&&") t then mark.And else
+      (if is_word (codes "ever") t then mark.Ever else
+      (if is_word (codes "never") t then mark.Never else (if is_rule_name t then mark.Name else mark.Other)))))))
   open_by true is = opens is
   open_by false is = close_by (is_sign (codes ")") t) refl
 
   bang_by : (a : Bool) → is_sign (codes "!") t ≡ a
-      → Marked t (if a then mark.Not else (if is_sign (codes "(") t then mark.Open else (if is_sign (codes ")") t then mark.Close else (if is_sign (codes "||") t then mark.Or else (if is_sign (codes "&&") t then mark.And else (if is_word (codes "ever") t then mark.Ever else (if is_word (codes "never") t then mark.Never else (if is_rule_name t then mark.Name else mark.Other))))))))
+      → Marked t (if a then mark.Not else (if is_sign (codes "(") t then mark.Open else
+      (if is_sign (codes ")") t then mark.Close else
+      (if is_sign (codes "||") t then mark.Or else
+      (if is_sign (codes "&&") t then mark.And else
+      (if is_word (codes "ever") t then mark.Ever else
+      (if is_word (codes "never") t then mark.Never else (if is_rule_name t then mark.Name else mark.Other))))))))
   bang_by true is = bang is
   bang_by false is = open_by (is_sign (codes "(") t) refl
 
@@ -109,7 +126,9 @@ not_zero_by n true is some = absurd (some (eqb-true n 0 is))
 module _ (level : ℕ) (t : PatchToken) where
   pub bang_leads : (left : ℕ) → is_sign (codes "!") t ≡ true
       → operand level left t ≡ counted left (h.Operand level (less left))
-  bang_leads left is = ap (λ (b : Bool). if b then counted left (h.Operand level (less left)) else (if is_sign (codes "(") t then counted left (h.Operand (level + 1) (less left)) else (if is_word (codes "ever") t || is_word (codes "never") t then Some (h.Word level left) else rule_name level left t))) is
+  bang_leads left is = ap (λ (b : Bool). if b then counted left (h.Operand level (less left)) else
+      (if is_sign (codes "(") t then counted left (h.Operand (level + 1) (less left)) else
+      (if is_word (codes "ever") t || is_word (codes "never") t then Some (h.Word level left) else rule_name level left t))) is
 
   pub open_leads : (left : ℕ) → is_sign (codes "(") t ≡ true
       → operand level left t ≡ counted left (h.Operand (level + 1) (less left))
@@ -130,9 +149,13 @@ module _ (level : ℕ) (t : PatchToken) where
   pub name_leads : (left : ℕ) → is_rule_name t ≡ true → operand level left t ≡ counted left (h.Operated level (less left))
   name_leads left is =
       let p = plain t is in
-      ap (λ (b : Bool). if b then counted left (h.Operand level (less left)) else (if is_sign (codes "(") t then counted left (h.Operand (level + 1) (less left)) else (if is_word (codes "ever") t || is_word (codes "never") t then Some (h.Word level left) else rule_name level left t))) (no_sign (codes "!") t p.kind)
-      ∙ (ap (λ (b : Bool). if b then counted left (h.Operand (level + 1) (less left)) else (if is_word (codes "ever") t || is_word (codes "never") t then Some (h.Word level left) else rule_name level left t)) (no_sign (codes "(") t p.kind)
-      ∙ (ap (λ (b : Bool). if b then Some (h.Word level left) else rule_name level left t) (either_word (is_word (codes "ever") t) (is_word (codes "never") t) p.ever p.never)
+      ap (λ (b : Bool). if b then counted left (h.Operand level (less left)) else
+      (if is_sign (codes "(") t then counted left (h.Operand (level + 1) (less left)) else
+      (if is_word (codes "ever") t || is_word (codes "never") t then Some (h.Word level left) else rule_name level left t))) (no_sign (codes "!") t p.kind)
+      ∙ (ap (λ (b : Bool). if b then counted left (h.Operand (level + 1) (less left)) else
+      (if is_word (codes "ever") t || is_word (codes "never") t then Some (h.Word level left) else rule_name level left t)) (no_sign (codes "(") t p.kind)
+      ∙ (ap (λ (b : Bool). if b then Some (h.Word level left) else rule_name level left t)
+      (either_word (is_word (codes "ever") t) (is_word (codes "never") t) p.ever p.never)
       ∙ word_leads left is))
 
   pub or_leads : (left : ℕ) → is_sign (codes "||") t ≡ true → operated level left t ≡ Some (h.Operand level left)
@@ -146,7 +169,9 @@ module _ (level : ℕ) (t : PatchToken) where
   close_leads left is =
       let s = sign (codes ")") t is in
       let some : ((level + 1) == 0) ≡ false = not_zero_by (level + 1) ((level + 1) == 0) refl (λ e. absurd (omega (arith, e))) in
-      let sides : operated (level + 1) left t ≡ (if (level + 1) == 0 then after_depends t else (if is_sign (codes ")") t then Some (h.Operated (level + 1 - 1) left) else None)) = rw (s.0, s.1) refl in
+      let sides : operated (level + 1) left t ≡
+      (if (level + 1) == 0 then after_depends t else
+      (if is_sign (codes ")") t then Some (h.Operated (level + 1 - 1) left) else None)) = rw (s.0, s.1) refl in
       sides
       ∙ (ap (λ (b : Bool). if b then after_depends t else (if is_sign (codes ")") t then Some (h.Operated (level + 1 - 1) left) else None)) some
       ∙ (ap (λ (b : Bool). if b then Some (h.Operated (level + 1 - 1) left) else None) is
@@ -157,7 +182,10 @@ module _ (level : ℕ) (t : PatchToken) where
 module _ (end : ℕ) where
   pub goes : (p q : HeaderPlace) (t : PatchToken) (ts : List PatchToken) → header_step p t ≡ Some q → Ends q ts end
       → Ends p (t ∷ ts) end
-  goes p q t ts e next = ap (λ (o : Option HeaderPlace). elim o as (λ (x : Option HeaderPlace). Option ℕ) [ None ↦ Some t.at | Some r ↦ stop header_step header_ends r ts end ]) e ∙ next
+  goes p q t ts e next = ap (λ (o : Option HeaderPlace). elim o as (λ (x : Option HeaderPlace). Option ℕ) [
+    | None ↦ Some t.at
+    | Some r ↦ stop header_step header_ends r ts end
+  ]) e ∙ next
 
   more : (t : PatchToken) (ts : List PatchToken) (m : Mark) → mark_of t ≡ m
       → counted_in (t ∷ ts) ≡ cond (is_counted m) 1 0 + counted_in ts
@@ -214,9 +242,11 @@ module _ (end : ℕ) where
     }
 
     reads : {l : Level} {xs zs : List PatchToken} {d : Dep} → Spells earlier l xs d zs → Reads xs zs
-    reads (either t first is second) = joined t mark.Or is refl (λ level left. or_leads level t left (or_of t (marked t mark.Or is))) (reads first) (reads second)
+    reads (either t first is second) = joined t mark.Or is refl
+        (λ level left. or_leads level t left (or_of t (marked t mark.Or is))) (reads first) (reads second)
     reads (one_both s) = reads s
-    reads (both t first is second) = joined t mark.And is refl (λ level left. and_leads level t left (and_of t (marked t mark.And is))) (reads first) (reads second)
+    reads (both t first is second) = joined t mark.And is refl
+        (λ level left. and_leads level t left (and_of t (marked t mark.And is))) (reads first) (reads second)
     reads (one_prefix s) = reads s
     reads (negated {xs = xs} t is s) =
         let r = reads s in
@@ -235,9 +265,11 @@ module _ (end : ℕ) where
           counts = let c = more t xs mark.Open is in let d = more u zs mark.Close close in omega (arith, c, d, r.counts);
           leads = λ level left rest tail e next.
               goes (h.Operand level left) (h.Operand (level + 1) (rest + r.count)) t (xs ++ tail)
-              (open_leads level t left (open_of t (marked t mark.Open is)) ∙ taken left (rest + r.count) (λ (n : ℕ). h.Operand (level + 1) n) (omega (arith, e)))
+              (open_leads level t left (open_of t (marked t mark.Open is))
+              ∙ taken left (rest + r.count) (λ (n : ℕ). h.Operand (level + 1) n) (omega (arith, e)))
               (r.leads (level + 1) (rest + r.count) rest tail refl
-              (goes (h.Operated (level + 1) rest) (h.Operated level rest) u (zs ++ tail) (close_leads level u rest (close_of u (marked u mark.Close close))) next));
+              (goes (h.Operated (level + 1) rest) (h.Operated level rest) u (zs ++ tail)
+              (close_leads level u rest (close_of u (marked u mark.Close close))) next));
         }
     reads (name {zs = zs} t is) = record {
       count = 1;

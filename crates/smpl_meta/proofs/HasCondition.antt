@@ -64,7 +64,8 @@ module _ (earlier : List RuleHead) (end : ℕ) where
       → (if b then Some (h.Operand 0 200) else None) ≡ Some q → Ends q ts end → Has (behind_on (t ∷ ts))
   on_by t ts q true is e ends =
       let q_is : q ≡ h.Operand 0 200 = cc in
-      subst (λ (l : List PatchToken). Has l) (sym (found t ts is)) (spelled (condition ts) (behind earlier ts 200 end (subst (λ (p : HeaderPlace). Ends p ts end) q_is ends)))
+      subst (λ (l : List PatchToken). Has l) (sym (found t ts is))
+      (spelled (condition ts) (behind earlier ts 200 end (subst (λ (p : HeaderPlace). Ends p ts end) q_is ends)))
   on_by t ts q false is e ends = absurd (cc)
 
   depends : (ts : List PatchToken) → Ends h.Depends ts end → Has (behind_on ts)
@@ -76,7 +77,8 @@ module _ (earlier : List RuleHead) (end : ℕ) where
       → (if b then Some h.Depends else after_depends t) ≡ Some q → Ends q ts end → Has (behind_on (t ∷ ts))
   depends_by t ts q true is e ends =
       let q_is : q ≡ h.Depends = cc in
-      subst (λ (l : List PatchToken). Has l) (sym (skipped t ts (word_not_on (codes "depends") t is refl))) (depends ts (subst (λ (p : HeaderPlace). Ends p ts end) q_is ends))
+      subst (λ (l : List PatchToken). Has l) (sym (skipped t ts (word_not_on (codes "depends") t is refl)))
+      (depends ts (subst (λ (p : HeaderPlace). Ends p ts end) q_is ends))
   depends_by t ts q false is e ends = always (behind_on (t ∷ ts)) (mode_by t ts q (is_mode t) refl e ends)
 
   named : (ts : List PatchToken) → Ends h.Named ts end → Has (behind_on ts)

@@ -10,16 +10,18 @@ use Rattle.smpl_meta.specs.Decls.{decl_faults, vars_of}
 use Rattle.smpl_meta.specs.Heads.{name_token, name_fault, depends_tokens, unknown_faults, head_faults, IsHead}
 use Rattle.smpl_meta.specs.Shunting.{head_of}
 use Rattle.smpl_meta.proofs.FirstLemmas.{first_append}
-use Rattle.smpl_meta.proofs.Shunts.{shunted}
+use Rattle.smpl_meta.proofs.Shunts.{condition_stack}
 
 pub head_first : (virtuals : List (List ℕ)) (earlier : List RuleHead) (r : RuleText) (one two three : Option PatchFault)
-    → one ≡ first_from None (name_fault virtuals earlier (name_token r.header)) → two ≡ first_from one (unknown_faults virtuals earlier (depends_tokens r.header))
+    → one ≡ first_from None (name_fault virtuals earlier (name_token r.header))
+    → two ≡ first_from one (unknown_faults virtuals earlier (depends_tokens r.header))
     → three ≡ first_from two (decl_faults earlier r.decls) → three ≡ first_of (head_faults virtuals earlier r)
 head_first virtuals earlier r one two three a b c =
     let names = name_fault virtuals earlier (name_token r.header) in
     let unknown = unknown_faults virtuals earlier (depends_tokens r.header) in
     let decls = decl_faults earlier r.decls in
-    c ∙ (ap (λ (o : Option PatchFault). first_from o (decl_faults earlier r.decls)) (b ∙ ap (λ (o : Option PatchFault). first_from o (unknown_faults virtuals earlier (depends_tokens r.header))) a)
+    c ∙ (ap (λ (o : Option PatchFault). first_from o (decl_faults earlier r.decls))
+    (b ∙ ap (λ (o : Option PatchFault). first_from o (unknown_faults virtuals earlier (depends_tokens r.header))) a)
     ∙ (sym (first_append (first_from None names) unknown decls) ∙ sym (first_append None names (unknown ++ decls))))
 
 pub head_is : (virtuals : List (List ℕ)) (earlier : List RuleHead) (rule : ℕ) (r : RuleText) (vars : List VarDecl) (h : RuleHead)
@@ -29,5 +31,5 @@ head_is virtuals earlier rule r vars h none vars_are is = record {
   name = ap (λ (x : RuleHead). x.name) is;
   mode = ap (λ (x : RuleHead). x.mode) is;
   vars = ap (λ (x : RuleHead). x.vars) is ∙ vars_are;
-  depends = λ d spelled. ap (λ (x : RuleHead). x.depends) is ∙ shunted earlier (depends_tokens r.header) d spelled;
+  depends = λ d spelled. ap (λ (x : RuleHead). x.depends) is ∙ condition_stack earlier (depends_tokens r.header) d spelled;
 }

@@ -1,5 +1,6 @@
 -- Names in an index, and their places in a list.
-use Rattle.std.proofs.Common.{◌≡◌, ℕ, suc, ◌+◌, Bool, true, false, refl, sym, ap, ◌∙◌, true≢false, List, [], ◌∷◌, ◌++◌, map, Option, Some, None, is_some, option_map, if◌then◌else◌, arith, slice_get, length, ◌<◌}
+use Rattle.std.proofs.Common.{◌≡◌, ℕ, suc, ◌+◌, Bool, true, false, refl, sym, ap, ◌∙◌, true≢false, List, [], ◌∷◌, ◌++◌, map}
+use Rattle.std.proofs.Common.{Option, Some, None, is_some, option_map, if◌then◌else◌, arith, slice_get, length, ◌<◌}
 use Rattle.std.specs.Prelude.{option_and_then}
 use Rattle.std.specs.Str.{bytes_eq}
 use Rattle.std.specs.Map.{lookup}
@@ -45,7 +46,8 @@ module _ {K : Type 0} (f : K → List ℕ) where
   inserted k n other (e ∷ es) none = by (bytes_eq (f k) (f e.0)) refl (inserted k n other es)
     where
       by : (b : Bool) → bytes_eq (f k) (f e.0) ≡ b
-          → (number_in (pairs es) (f k) ≡ None → number_in (pairs (insert_entry (λ a b. bytes_eq (f a) (f b)) es k n)) other ≡ or_else (number_in (pairs es) other) (only (f k) n other))
+          → (number_in (pairs es) (f k) ≡ None → number_in (pairs (insert_entry (λ a b. bytes_eq (f a) (f b)) es k n)) other
+          ≡ or_else (number_in (pairs es) other) (only (f k) n other))
           → number_in (pairs (if b then (e.0, n) ∷ es else e ∷ insert_entry (λ a b. bytes_eq (f a) (f b)) es k n)) other
           ≡ or_else (number_in (pairs (e ∷ es)) other) (only (f k) n other)
       by true h rest =
@@ -160,14 +162,16 @@ number_by n [] name = refl
 number_by n (h ∷ hs) name = ap (λ o. if bytes_eq h.name name then Some n else o) (number_by (n + 1) hs name)
 
 -- and its number is the place
-pub number-is-place : (heads : List RuleHead) (names : List (List ℕ)) (name : List ℕ) → names ≡ head_names heads → number_from 0 name heads ≡ place_from 0 names name
+pub number-is-place : (heads : List RuleHead) (names : List (List ℕ)) (name : List ℕ) → names ≡ head_names heads
+    → number_from 0 name heads ≡ place_from 0 names name
 number-is-place heads names name same = number_by 0 heads name ∙ sym (ap (λ xs. place_from 0 xs name) same)
 
 names-length : (heads : List RuleHead) → length (head_names heads) ≡ length heads
 names-length [] = refl
 names-length (h ∷ hs) = ap (λ k. suc k) (names-length hs)
 
-pub number_within : (heads : List RuleHead) (names : List (List ℕ)) (name : List ℕ) (i : ℕ) → names ≡ head_names heads → Some i ≡ place_from 0 names name → i < length heads
+pub number_within : (heads : List RuleHead) (names : List (List ℕ)) (name : List ℕ) (i : ℕ) → names ≡ head_names heads
+    → Some i ≡ place_from 0 names name → i < length heads
 number_within heads names name i same e =
     let w : i < 0 + length names = place_within 0 i names name (sym e) in
     omega (arith, w, ap length same ∙ names-length heads)

@@ -121,7 +121,9 @@ plain t e =
 
 mark_by : (a b c d e f g n : Bool) → a ≡ false → b ≡ false → c ≡ false → d ≡ false → e ≡ false → f ≡ false → g ≡ false
     → n ≡ true
-    → (if a then mark.Not else (if b then mark.Open else (if c then mark.Close else (if d then mark.Or else (if e then mark.And else (if f then mark.Ever else (if g then mark.Never else (if n then mark.Name else mark.Other)))))))) ≡ mark.Name
+    → (if a then mark.Not else (if b then mark.Open else
+    (if c then mark.Close else (if d then mark.Or else
+    (if e then mark.And else (if f then mark.Ever else (if g then mark.Never else (if n then mark.Name else mark.Other)))))))) ≡ mark.Name
 mark_by a b c d e f g n ea eb ec ed ee ef eg en = rw (ea, eb, ec, ed, ee, ef, eg, en) refl
 
 none_by : (a b c : Bool) → a ≡ false → b ≡ false → c ≡ false → ((a || b) || c) ≡ false
@@ -136,8 +138,10 @@ no_at t e = ap (λ (k : TokenKind). is_stray_kind k && bytes_eq t.token.text (co
 -- a rule's name is a name in a condition
 pub name_goes : (t : PatchToken) → Plain t → is_rule_name t ≡ true → Goes t mark.Name
 name_goes t p e = record {
-  mark = mark_by (is_sign (codes "!") t) (is_sign (codes "(") t) (is_sign (codes ")") t) (is_sign (codes "||") t) (is_sign (codes "&&") t) (is_word (codes "ever") t) (is_word (codes "never") t) (is_rule_name t)
-      (no_sign (codes "!") t p.kind) (no_sign (codes "(") t p.kind) (no_sign (codes ")") t p.kind) (no_sign (codes "||") t p.kind) (no_sign (codes "&&") t p.kind) p.ever p.never e;
+  mark = mark_by (is_sign (codes "!") t) (is_sign (codes "(") t) (is_sign (codes ")") t) (is_sign (codes "||") t)
+      (is_sign (codes "&&") t) (is_word (codes "ever") t) (is_word (codes "never") t) (is_rule_name t)
+      (no_sign (codes "!") t p.kind) (no_sign (codes "(") t p.kind) (no_sign (codes ")") t p.kind)
+      (no_sign (codes "||") t p.kind) (no_sign (codes "&&") t p.kind) p.ever p.never e;
   goes = none_by (is_word (codes "exists") t) (is_word (codes "forall") t) (is_at t) p.exists p.forall (no_at t p.kind);
 }
 
@@ -164,8 +168,10 @@ mode_no_side t false false is also e = absurd (cc)
 
 at_no_side : (t : PatchToken) → is_at t ≡ true → (is_sign (codes "||") t ≡ false) × (is_sign (codes "&&") t ≡ false)
 at_no_side t e =
-    let k = stray_kind t.token.kind (and_both (is_stray_kind t.token.kind) (bytes_eq t.token.text (codes "@")) e).0 in
-    (ap (λ (k : TokenKind). is_mark_kind k && bytes_eq t.token.text (codes "||")) k, ap (λ (k : TokenKind). is_mark_kind k && bytes_eq t.token.text (codes "&&")) k)
+    let k = stray_kind t.token.kind (and_both (is_stray_kind t.token.kind) (bytes_eq t.token.text (codes "@")) e).0 in (
+      ap (λ (k : TokenKind). is_mark_kind k && bytes_eq t.token.text (codes "||")) k,
+      ap (λ (k : TokenKind). is_mark_kind k && bytes_eq t.token.text (codes "&&")) k,
+    )
 
 side_by : (t : PatchToken) (a b : Bool) → is_mode t ≡ a → is_at t ≡ b → (a || b) ≡ true
     → (is_sign (codes "||") t ≡ false) × (is_sign (codes "&&") t ≡ false)

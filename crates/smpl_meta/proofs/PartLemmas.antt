@@ -1,5 +1,6 @@
 -- Declarations that are read up to some declaration.
-use Rattle.std.proofs.Common.{◌≡◌, ℕ, suc, ◌+◌, ◌<◌, ◌≤◌, Bool, true, false, List, [], ◌∷◌, ◌++◌, length, take, drop, Option, refl, sym, ap, ◌∙◌, append_assoc, if◌then◌else◌, codes, arith}
+use Rattle.std.proofs.Common.{◌≡◌, ℕ, suc, ◌+◌, ◌<◌, ◌≤◌, Bool, true, false, List, [], ◌∷◌, ◌++◌, length, take, drop, Option}
+use Rattle.std.proofs.Common.{refl, sym, ap, ◌∙◌, append_assoc, if◌then◌else◌, codes, arith}
 use Rattle.std.proofs.lemmas.List.{drop-drop, length-drop, append-nil}
 use Rattle.smpl_patch.specs.declared.fault.PatchFault.{PatchFault}
 use Rattle.smpl_patch.specs.Faults.{first_from}
@@ -57,13 +58,15 @@ parts_more tokens before start items new first now n s some n_is within new_is n
           ∙ (sym (append_assoc items (items_or_none (declared (take n (drop start tokens)))) (items_of (parts (drop (start + n) tokens))))
           ∙ ap (λ (l : List Item). l ++ items_of (parts (drop (start + n) tokens))) (sym new_is)));
       same_first = s.same_first ∙ (ap (λ (l : List (List PatchToken)). first_from first (form_faults l)) split
-          ∙ (first_append first (form_fault (take n (drop start tokens)) (declared (take n (drop start tokens)))) (form_faults (parts (drop (start + n) tokens)))
+          ∙ (first_append first (form_fault (take n (drop start tokens)) (declared (take n (drop start tokens))))
+          (form_faults (parts (drop (start + n) tokens)))
           ∙ ap (λ (o : Option PatchFault). first_from o (form_faults (parts (drop (start + n) tokens)))) (sym now_is)));
     }
 
 pub parts_last_items : (tokens : List PatchToken) (before : Option PatchFault) (start : ℕ) (items : List Item) (first : Option PatchFault)
     → PartsSoFar tokens before start items first → drop start tokens ≡ [] → items ≡ items_of (parts tokens)
-parts_last_items tokens before start items first s none = sym (s.same_items ∙ (ap (λ (l : List PatchToken). items ++ items_of (parts l)) none ∙ append-nil items))
+parts_last_items tokens before start items first s none =
+    sym (s.same_items ∙ (ap (λ (l : List PatchToken). items ++ items_of (parts l)) none ∙ append-nil items))
 
 pub parts_last_first : (tokens : List PatchToken) (before : Option PatchFault) (start : ℕ) (items : List Item) (first : Option PatchFault)
     → PartsSoFar tokens before start items first → drop start tokens ≡ [] → first ≡ first_from before (form_faults (parts tokens))

@@ -37,7 +37,11 @@ pub stops_behind : (end : ℕ) (more : List PatchToken) {xs : List PatchToken} {
     → stop header_step header_ends p (xs ++ more) end ≡ stop header_step header_ends q more end
 stops_behind end more here = refl
 stops_behind end more (on {t = t} {ts = ts} is rest) =
-    ap (λ (o : Option HeaderPlace). elim o as (λ (x : Option HeaderPlace). Option ℕ) [ None ↦ Some t.at | Some r ↦ stop header_step header_ends r (ts ++ more) end ]) is
+    ap (λ (o : Option HeaderPlace). elim o as (λ (x : Option HeaderPlace). Option ℕ) [
+      | None ↦ Some t.at
+      | Some r ↦
+          stop header_step header_ends r (ts ++ more) end
+    ]) is
     ∙ stops_behind end more rest
 
 -- one more token

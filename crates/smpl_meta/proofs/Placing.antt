@@ -20,20 +20,26 @@ with_last v (q ∷ r ∷ ps) p = ap (λ (l : List Placed). q ∷ l) (with_last v
 
 module _ (vars : List VarDecl) (sign line : ℕ) where
   two_by : (out : List Placed) (t n : PatchToken) (ts : List PatchToken) (o : Option Variable)
-      → elim o as (λ (x : Option Variable). List Placed) [ Some v ↦ put_tokens vars sign line (with_position v out) ts | None ↦ put_tokens vars sign line (put vars sign line out t) (n ∷ ts) ]
+      → elim o as (λ (x : Option Variable). List Placed) [
+        | Some v ↦ put_tokens vars sign line (with_position v out) ts
+        | None ↦
+            put_tokens vars sign line (put vars sign line out t) (n ∷ ts)
+      ]
       ≡ put_tokens vars sign line (put_two vars sign line out t o) (drop (width_of o) (t ∷ n ∷ ts))
   two_by out t n ts None = refl
   two_by out t n ts (Some v) = refl
 
   pub two_more : (out : List Placed) (ts : List PatchToken) (i : ℕ) (t n : PatchToken) (found : Option Variable)
       → i < length ts → i + 1 < length ts → t ≡ get_or ts i t → n ≡ get_or ts (i + 1) n
-      → found ≡ at_position vars out t n → put_tokens vars sign line out (drop i ts) ≡ put_tokens vars sign line (put_two vars sign line out t found) (drop (i + width_of found) ts)
+      → found ≡ at_position vars out t n → put_tokens vars sign line out (drop i ts)
+      ≡ put_tokens vars sign line (put_two vars sign line out t found) (drop (i + width_of found) ts)
   two_more out ts i t n found within more is also found_is =
       let rest : drop i ts ≡ t ∷ n ∷ drop (i + 1 + 1) ts = at_item ts i t within is
       ∙ ap (λ (l : List PatchToken). t ∷ l) (at_item ts (i + 1) n more also) in
       ap (put_tokens vars sign line out) rest
       ∙ (two_by out t n (drop (i + 1 + 1) ts) (at_position vars out t n)
-      ∙ (ap (λ (o : Option Variable). put_tokens vars sign line (put_two vars sign line out t o) (drop (width_of o) (t ∷ n ∷ drop (i + 1 + 1) ts))) (sym found_is)
+      ∙ (ap (λ (o : Option Variable). put_tokens vars sign line (put_two vars sign line out t o)
+      (drop (width_of o) (t ∷ n ∷ drop (i + 1 + 1) ts))) (sym found_is)
       ∙ ap (put_tokens vars sign line (put_two vars sign line out t found)) (ap (drop (width_of found)) (sym rest) ∙ drop-drop (width_of found) i ts)))
 
 pub lines_more : (vars : List VarDecl) (ls : List BodyLine) (i line : ℕ) (l : BodyLine) (out : List Placed)

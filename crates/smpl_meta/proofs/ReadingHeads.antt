@@ -36,7 +36,8 @@ pub fault-here : (text : PatchText) (rules : List RuleText) (i : ℕ) (virtuals 
 fault-here text rules i virtuals hs r f all within e same are wrong =
     let within-text : i < length text.rules = subst (λ (l : List RuleText). i < length l) all within in
     let here : IsHeadFault text.virtuals hs r f = subst (λ (v : List (List ℕ)). IsHeadFault v hs r f) same wrong in
-    let get : slice_get text.rules i ≡ Some r = subst (λ (l : List RuleText). slice_get l i ≡ Some r) all (slice_get_read rules (length rules) i r refl within e) in
+    let get : slice_get text.rules i ≡ Some r =
+    subst (λ (l : List RuleText). slice_get l i ≡ Some r) all (slice_get_read rules (length rules) i r refl within e) in
     record {
       rule = i;
       within = within-text;

@@ -75,8 +75,8 @@ module _ (earlier : List RuleHead) where
   does (never {zs = zs} w t is_word is) = λ e b ps. steps (state e b ps) w (t ∷ zs) mark.Never is_word
       ∙ steps (record { either = e; both = b; word = mark.Never; waiting = ps }) t zs mark.Name is
 
-  pub shunted : (ts : List PatchToken) (d : Dep) → DependsOn earlier ts d → dep_of earlier ts ≡ d
-  shunted [] d e = sym e
-  shunted (t ∷ ts) d spelled =
+  pub condition_stack : (ts : List PatchToken) (d : Dep) → DependsOn earlier ts d → dep_of earlier ts ≡ d
+  condition_stack [] d e = sym e
+  condition_stack (t ∷ ts) d spelled =
       let f = does spelled [] tt in
       ap (λ (s : Shunt). or_always (closed s.either s.both)) f.reads ∙ ap or_always f.closes

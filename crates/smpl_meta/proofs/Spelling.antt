@@ -2,7 +2,8 @@
 --
 -- Proof: the tokens after `on` up to `exists`, `forall` or `@` have a condition, as is known; the rest of the header
 -- and the count of its tokens are read off the places, by recursion on the tokens.
-use Rattle.std.proofs.Common.{◌≡◌, ℕ, ◌+◌, ◌-◌, ◌≤◌, ◌==◌, ◌||◌, ◌⊎◌, inl, inr, Bool, true, false, List, [], ◌∷◌, ◌++◌, Some, None, refl, sym, ap, ◌∙◌, subst, codes, arith, if◌then◌else◌}
+use Rattle.std.proofs.Common.{◌≡◌, ℕ, ◌+◌, ◌-◌, ◌≤◌, ◌==◌, ◌||◌, ◌⊎◌, inl, inr, Bool, true, false, List, [], ◌∷◌, ◌++◌, Some}
+use Rattle.std.proofs.Common.{None, refl, sym, ap, ◌∙◌, subst, codes, arith, if◌then◌else◌}
 use Rattle.std.specs.Prelude.{cond}
 use Rattle.std.proofs.lemmas.Bool.{eqb-true}
 use Rattle.smpl_lexer.specs.declared.token.PatchToken.{PatchToken}
@@ -20,7 +21,8 @@ use Rattle.smpl_meta.specs.Spelled.Goes.{free, depends}
 use Rattle.smpl_meta.specs.Spelled.IsHeader.{unnamed, named as with_name}
 use Rattle.smpl_meta.proofs.Marks as marks
 use Rattle.smpl_meta.proofs.Conditions as conditions
-use Rattle.smpl_meta.proofs.Conditions.{Ends, Step, stepped, Operand, Operated, operand_is, operated_is, name_by, goes_on, stops, ever_or_never, is_name, behind}
+use Rattle.smpl_meta.proofs.Conditions.{Ends, Step, stepped, Operand, Operated, operand_is, operated_is, name_by, goes_on}
+use Rattle.smpl_meta.proofs.Conditions.{stops, ever_or_never, is_name, behind}
 use Rattle.smpl_meta.proofs.Conditions.Operand.{bang, opens, word, named}
 use Rattle.smpl_meta.proofs.Conditions.Operated.{ors, ands, ends, closes}
 
@@ -70,7 +72,8 @@ module _ (end : ℕ) where
       → cond (is_counted m) 1 0 + next ≤ left → Rest next ts → Rest left (t ∷ ts)
   longer left next t ts m is goes room r =
       let first : condition (t ∷ ts) ≡ t ∷ condition ts = goes_on t ts goes in
-      let count : counted_in (t ∷ condition ts) ≡ cond (is_counted m) 1 0 + counted_in (condition ts) = ap (λ (k : Mark). cond (is_counted k) 1 0 + counted_in (condition ts)) is in
+      let count : counted_in (t ∷ condition ts) ≡ cond (is_counted m) 1 0 + counted_in (condition ts) =
+      ap (λ (k : Mark). cond (is_counted k) 1 0 + counted_in (condition ts)) is in
       let all : counted_in (condition (t ∷ ts)) ≡ cond (is_counted m) 1 0 + counted_in (condition ts) = ap counted_in first ∙ count in
       record {
         tail = r.tail;

@@ -1,5 +1,7 @@
 -- Parts and chunks of tokens.
-use Rattle.std.proofs.Common.{◌≡◌, ℕ, zero, suc, ◌+◌, ◌<◌, ◌≤◌, ◌⊎◌, inl, inr, ◌&&◌, not, Bool, true, false, List, [], ◌∷◌, ◌++◌, length, take, drop, Option, Some, None, option_map, option_and_then, refl, sym, ap, ◌∙◌, get_or, arith, if◌then◌else◌, append_assoc, codes}
+use Rattle.std.proofs.Common.{◌≡◌, ℕ, zero, suc, ◌+◌, ◌<◌, ◌≤◌, ◌⊎◌, inl, inr, ◌&&◌, not, Bool, true, false, List, [], ◌∷◌}
+use Rattle.std.proofs.Common.{◌++◌, length, take, drop, Option, Some, None, option_map, option_and_then, refl, sym, ap, ◌∙◌}
+use Rattle.std.proofs.Common.{get_or, arith, if◌then◌else◌, append_assoc, codes}
 use Rattle.std.proofs.lemmas.List.{take_all, length-drop, drop-drop}
 use Rattle.std.proofs.lemmas.Bool.Decides.{eqb_tells}
 use Rattle.smpl_lexer.specs.declared.token.PatchToken.{PatchToken}
@@ -69,7 +71,8 @@ more_by : (w : Bool) (t : PatchToken) (ts : List PatchToken) (b : Bool) → (is_
     → (chunk_length (within_after w t) ts < length ts
     → chunks (within_after w t) ts ≡ take (chunk_length (within_after w t) ts) ts ∷ chunks false (drop (suc (chunk_length (within_after w t) ts)) ts))
     → (if b then [] ∷ chunks w ts else put t (chunks (within_after w t) ts))
-    ≡ take (if b then 0 else suc (chunk_length (within_after w t) ts)) (t ∷ ts) ∷ chunks false (drop (suc (if b then 0 else suc (chunk_length (within_after w t) ts))) (t ∷ ts))
+    ≡ take (if b then 0 else suc (chunk_length (within_after w t) ts)) (t ∷ ts)
+    ∷ chunks false (drop (suc (if b then 0 else suc (chunk_length (within_after w t) ts))) (t ∷ ts))
 more_by w t ts true is e after = ap (λ (v : Bool). [] ∷ chunks v ts) (not_within w (is_sign (codes ",") t) is)
 more_by w t ts false is e after = ap (put t) (after (omega arith))
 
@@ -124,9 +127,11 @@ chunk_last {A} read items x ts n n_is same some = ap (λ (o : Option (List A)). 
 pub chunk_more : {A : Type 0} (read : List PatchToken → Option A) (items : List A) (x : A) (ts : List PatchToken) (n : ℕ)
     → n ≡ chunk_length false ts → n < length ts
     → read (take n ts) ≡ Some x
-    → option_map (λ (more : List A). items ++ more) (all_of read (chunks false ts)) ≡ option_map (λ (more : List A). (items ++ x ∷ []) ++ more) (all_of read (chunks false (drop (suc n) ts)))
+    → option_map (λ (more : List A). items ++ more) (all_of read (chunks false ts))
+    ≡ option_map (λ (more : List A). (items ++ x ∷ []) ++ more) (all_of read (chunks false (drop (suc n) ts)))
 chunk_more {A} read items x ts n n_is less some = ap (λ (o : Option (List A)). option_map (λ (more : List A). items ++ more) o)
-    (ap (all_of read) (rw (← n_is) at (chunks_more false ts (omega (arith, n_is, less)))) ∙ with_chunks read x (take n ts) (chunks false (drop (suc n) ts)) some)
+    (ap (all_of read) (rw (← n_is) at (chunks_more false ts (omega (arith, n_is, less))))
+    ∙ with_chunks read x (take n ts) (chunks false (drop (suc n) ts)) some)
     ∙ map_twice items x (all_of read (chunks false (drop (suc n) ts)))
 
 -- the chunks that were read are the items, and the rest of the tokens is left
@@ -143,19 +148,22 @@ so_far_first read tokens = record { within = omega arith; same = map_nothing (al
 
 pub so_far_none : {A : Type 0} (read : List PatchToken → Option A) (tokens : List PatchToken) (start : ℕ) (items : List A) (n : ℕ)
     → SoFar read tokens start items
-    → n ≡ chunk_length false (drop start tokens) → n ≤ length (drop start tokens) → read (take n (drop start tokens)) ≡ None → all_of read (chunks false tokens) ≡ None
+    → n ≡ chunk_length false (drop start tokens) → n ≤ length (drop start tokens) → read (take n (drop start tokens)) ≡ None
+    → all_of read (chunks false tokens) ≡ None
 so_far_none {A} read tokens start items n s n_is within none = s.same
     ∙ ap (λ (o : Option (List A)). option_map (λ (more : List A). items ++ more) o) (chunk_none read (drop start tokens) n n_is within none)
 
 pub so_far_last : {A : Type 0} (read : List PatchToken → Option A) (tokens : List PatchToken) (start : ℕ) (items : List A) (x : A) (n : ℕ)
     → SoFar read tokens start items
-    → n ≡ chunk_length false (drop start tokens) → n ≡ length (drop start tokens) → read (take n (drop start tokens)) ≡ Some x → all_of read (chunks false tokens) ≡ Some (items ++ x ∷ [])
+    → n ≡ chunk_length false (drop start tokens) → n ≡ length (drop start tokens) → read (take n (drop start tokens)) ≡ Some x
+    → all_of read (chunks false tokens) ≡ Some (items ++ x ∷ [])
 so_far_last read tokens start items x n s n_is same some = s.same
     ∙ chunk_last read items x (drop start tokens) n n_is same some
 
 pub so_far_more : {A : Type 0} (read : List PatchToken → Option A) (tokens : List PatchToken) (start : ℕ) (items : List A) (x : A) (n : ℕ)
     → SoFar read tokens start items
-    → n ≡ chunk_length false (drop start tokens) → n < length (drop start tokens) → read (take n (drop start tokens)) ≡ Some x → SoFar read tokens (start + (n + 1)) (items ++ x ∷ [])
+    → n ≡ chunk_length false (drop start tokens) → n < length (drop start tokens) → read (take n (drop start tokens)) ≡ Some x
+    → SoFar read tokens (start + (n + 1)) (items ++ x ∷ [])
 so_far_more {A} read tokens start items x n s n_is less some = record {
   within = omega (arith, less, s.within, length-drop start tokens);
   same = s.same ∙ (chunk_more read items x (drop start tokens) n n_is less some

@@ -1,5 +1,6 @@
 -- A header stops exactly where its tokens no longer begin a header.
-use Rattle.std.proofs.Common.{◌≡◌, ℕ, ◌≤◌, ◌⊎◌, inl, inr, Bool, true, false, List, [], ◌∷◌, ◌++◌, Option, Some, None, refl, sym, ap, ◌∙◌, subst, codes, if◌then◌else◌}
+use Rattle.std.proofs.Common.{◌≡◌, ℕ, ◌≤◌, ◌⊎◌, inl, inr, Bool, true, false, List, [], ◌∷◌, ◌++◌, Option, Some, None, refl, sym}
+use Rattle.std.proofs.Common.{ap, ◌∙◌, subst, codes, if◌then◌else◌}
 use Rattle.std.proofs.lemmas.List.{append-nil}
 use Rattle.smpl_lexer.specs.declared.token.PatchToken.{PatchToken}
 use Rattle.smpl_lexer.specs.declared.places.HeaderPlace.{HeaderPlace}
@@ -159,7 +160,11 @@ module _ (earlier : List RuleHead) where
       → header_stop (front ++ t ∷ rest) end ≡ Some t.at
   token_stops front rest t end q None pass is cannot =
       stops_behind end (t ∷ rest) pass
-      ∙ ap (λ (o : Option HeaderPlace). elim o as (λ (x : Option HeaderPlace). Option ℕ) [ None ↦ Some t.at | Some r ↦ stop header_step header_ends r rest end ]) is
+      ∙ ap (λ (o : Option HeaderPlace). elim o as (λ (x : Option HeaderPlace). Option ℕ) [
+        | None ↦ Some t.at
+        | Some r ↦
+            stop header_step header_ends r rest end
+      ]) is
   token_stops front rest t end q (Some r) pass is cannot = absurd (cannot (stands earlier (front ++ t ∷ []) r (passes_more t pass is)))
 
   end_stops : (ts : List PatchToken) (end : ℕ) (o : Option ℕ) (b : Bool) → header_stop ts end ≡ o → o ≡ stop_at b end

@@ -9,7 +9,8 @@ use Rattle.smpl_meta.specs.declared.head.RuleHead.{RuleHead}
 use Rattle.smpl_meta.specs.declared.item.DeclKind.{DeclKind}
 use Rattle.smpl_meta.specs.declared.item.Named.{Named}
 use Rattle.smpl_meta.specs.declared.item.Item.{Item}
-use Rattle.smpl_meta.specs.Decls.{is_known, named_faults, nots_faults, item_faults, item_faults_by, items_faults, texts_of, place_not, places_not, vars_in, vars_of_items}
+use Rattle.smpl_meta.specs.Decls.{is_known, named_faults, nots_faults, item_faults, item_faults_by, items_faults, texts_of}
+use Rattle.smpl_meta.specs.Decls.{place_not, places_not, vars_in, vars_of_items}
 use Rattle.smpl_meta.proofs.FirstLemmas.{first_append}
 
 pub at_item : {X : Type 0} (xs : List X) (i : ℕ) (x : X) → i < length xs → x ≡ get_or xs i x
@@ -45,10 +46,12 @@ one_longer is i x within e = take_more is i x within ∙ ap (λ (y : Item). take
 
 pub items_more : (earlier : List RuleHead) (is : List Item) (i : ℕ) (x : Item) (o : Option PatchFault) → i < length is
     → x ≡ get_or is i x
-    → first_from o (items_faults earlier (take i is) (drop i is)) ≡ first_from (first_from o (item_faults earlier (take i is) x)) (items_faults earlier (take (i + 1) is) (drop (i + 1) is))
+    → first_from o (items_faults earlier (take i is) (drop i is))
+    ≡ first_from (first_from o (item_faults earlier (take i is) x)) (items_faults earlier (take (i + 1) is) (drop (i + 1) is))
 items_more earlier is i x o within e = ap (λ (l : List Item). first_from o (items_faults earlier (take i is) l)) (at_item is i x within e)
     ∙ (first_append o (item_faults earlier (take i is) x) (items_faults earlier (take i is ++ x ∷ []) (drop (i + 1) is))
-    ∙ ap (λ (l : List Item). first_from (first_from o (item_faults earlier (take i is) x)) (items_faults earlier l (drop (i + 1) is))) (sym (one_longer is i x within e)))
+    ∙ ap (λ (l : List Item). first_from (first_from o (item_faults earlier (take i is) x))
+    (items_faults earlier l (drop (i + 1) is))) (sym (one_longer is i x within e)))
 
 -- an item of which it is known whether its name is used again, before the others
 pub items-step : (earlier : List RuleHead) (is : List Item) (i : ℕ) (x : Item) (o new start : Option PatchFault) (again : Bool)

@@ -1,5 +1,6 @@
 -- The head of a rule: its name, what it depends on, its mode, and its variables.
-use Rattle.std.specs.Prelude.{ℕ, ◌≡◌, ◌==◌, ◌||◌, ◌&&◌, not, Bool, true, false, if◌then◌else◌, List, [], ◌∷◌, ◌++◌, length, take, ◌<◌, slice_get, IfSome, ⊤, Option, Some, None, codes}
+use Rattle.std.specs.Prelude.{ℕ, ◌≡◌, ◌==◌, ◌||◌, ◌&&◌, not, Bool, true, false, if◌then◌else◌, List, [], ◌∷◌, ◌++◌, length}
+use Rattle.std.specs.Prelude.{take, ◌<◌, slice_get, IfSome, ⊤, Option, Some, None, codes}
 use Rattle.std.specs.Str.{bytes_eq}
 use Rattle.smpl_patch.specs.declared.rule.Dep.{Dep}
 use Rattle.smpl_patch.specs.declared.rule.Dep.TheVariants as dep

@@ -10,7 +10,7 @@ use Rattle.smpl_meta.specs.declared.depends.Mark.{Mark}
 use Rattle.smpl_meta.specs.declared.depends.Mark.TheVariants as mark
 use Rattle.smpl_meta.specs.declared.depends.Pending.{Pending}
 use Rattle.smpl_meta.specs.declared.depends.Pending.TheVariants as pending
-use Rattle.smpl_meta.specs.declared.depends.Shunted.{Shunted}
+use Rattle.smpl_meta.specs.declared.depends.ConditionStack.{ConditionStack}
 use Rattle.smpl_meta.specs.Heads.{mark_of, named_dep, name_text, name_token, depends_tokens, mode_of}
 
 -- the state of the reader, with the innermost pending one first
@@ -20,7 +20,7 @@ pub record Shunt : Type 0 where
   pub word : Mark
   pub waiting : List Pending
 
-abbrev pub kept : Shunted → Shunt
+abbrev pub kept : ConditionStack → Shunt
 kept s = record { either = s.either; both = s.both; word = s.word; waiting = reverse s.pending }
 
 abbrev pub both_of : Option Dep → Dep → Dep

@@ -2,7 +2,7 @@
 ghost use Rattle.std.specs.Prelude.{◌≡◌, ◌++◌, IfOk};
 ghost use Rattle.smpl_patch.specs.Faults.{first_from};
 ghost use Rattle.smpl_meta.specs.Forms.{parts};
-ghost use Rattle.smpl_meta.specs.Decls as told;
+ghost use Rattle.smpl_meta.specs.Decls as spec;
 
 use crate::earlier::Earlier;
 use crate::faults::with_items;
@@ -31,7 +31,7 @@ pub struct Declared {
 }
 
 fn with_form(first: Option<PatchFault>, part: &[PatchToken]) -> Option<PatchFault>
-    ensures { result ≡ first_from first (told.not_of_form part.now) }
+    ensures { result ≡ first_from first (spec.not_of_form part.now) }
 {
     match part {
         [] => first,
@@ -45,8 +45,8 @@ fn put_part(
     part: &[PatchToken],
     more: Option<Items<Item>>,
 ) -> Result<Parsed, NoMemory>
-    ensures items { IfOk result (λ p. p.items ≡ items ++ told.items_or_none more) }
-    ensures first { IfOk result (λ p. p.first ≡ first_from first (told.form_fault part.now more)) }
+    ensures items { IfOk result (λ p. p.items ≡ items ++ spec.items_or_none more) }
+    ensures first { IfOk result (λ p. p.first ≡ first_from first (spec.form_fault part.now more)) }
 {
     match more {
         None => Ok(Parsed {
@@ -66,9 +66,9 @@ fn parse(
     tokens: &[PatchToken],
     first: Option<PatchFault>,
 ) -> Result<Parsed, NoMemory>
-    ensures items { IfOk result (λ p. p.items ≡ told.items_of (parts tokens.now)) }
+    ensures items { IfOk result (λ p. p.items ≡ spec.items_of (parts tokens.now)) }
     ensures first { IfOk result
-        (λ p. p.first ≡ first_from first (told.form_faults (parts tokens.now))) }
+        (λ p. p.first ≡ first_from first (spec.form_faults (parts tokens.now))) }
 {
     let mut parsed = Parsed {
         items: Items::new(alloc),
@@ -94,9 +94,9 @@ pub fn declare(
     earlier: &Earlier,
     first: Option<PatchFault>,
 ) -> Result<Declared, NoMemory>
-    ensures vars { IfOk result (λ d. d.vars ≡ told.vars_of earlier.now.heads rule tokens.now) }
+    ensures vars { IfOk result (λ d. d.vars ≡ spec.vars_of earlier.now.heads rule tokens.now) }
     ensures first { IfOk result
-        (λ d. d.first ≡ first_from first (told.decl_faults earlier.now.heads tokens.now)) }
+        (λ d. d.first ≡ first_from first (spec.decl_faults earlier.now.heads tokens.now)) }
 {
     let parsed = parse(alloc, tokens, first)?;
     let first = with_items(alloc, parsed.first, earlier, parsed.items.as_slice())?;

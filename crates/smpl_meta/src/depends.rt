@@ -1,7 +1,7 @@
 // What a rule depends on.
 ghost use Rattle.std.specs.Prelude.{◌≡◌, ◌<◌, ◌^◌, length, reverse, Option, IfOk};
 ghost use Rattle.smpl_patch.specs.declared.rule.Dep.{Dep as Condition};
-ghost use Rattle.smpl_meta.specs.Heads as told;
+ghost use Rattle.smpl_meta.specs.Heads as spec;
 ghost use Rattle.smpl_meta.specs.Shunting as shunt;
 ghost use Rattle.smpl_meta.specs.Shunting.{kept};
 
@@ -36,7 +36,7 @@ pub enum Pending {
 /// What has been read of a condition: the part before the last `||`, the part after it, the word before a name, and what
 /// is pending, the innermost last.
 #[derive(Drop)]
-pub struct Shunted {
+pub struct ConditionStack {
     pub either: Option<Dep>,
     pub both: Option<Dep>,
     pub word: Mark,
@@ -45,7 +45,7 @@ pub struct Shunted {
 
 /// Returns what a token is in a condition.
 fn mark_of(t: &PatchToken) -> Mark
-    ensures { result ≡ told.mark_of t.now }
+    ensures { result ≡ spec.mark_of t.now }
 {
     if is_sign(t, b"!") {
         Mark::Not
@@ -69,7 +69,7 @@ fn mark_of(t: &PatchToken) -> Mark
 }
 
 fn plain_dep(alloc: Global, name: &Text, rule: Option<u32>) -> Result<Dep, NoMemory>
-    ensures { IfOk result (λ d. d ≡ told.plain_dep name.now rule) }
+    ensures { IfOk result (λ d. d ≡ spec.plain_dep name.now rule) }
 {
     match rule {
         None => Ok(Dep::Defined(name.copy(alloc)?)),
@@ -78,7 +78,7 @@ fn plain_dep(alloc: Global, name: &Text, rule: Option<u32>) -> Result<Dep, NoMem
 }
 
 fn ever_dep(alloc: Global, name: &Text, rule: Option<u32>) -> Result<Dep, NoMemory>
-    ensures { IfOk result (λ d. d ≡ told.ever_dep name.now rule) }
+    ensures { IfOk result (λ d. d ≡ spec.ever_dep name.now rule) }
 {
     match rule {
         None => Ok(Dep::Defined(name.copy(alloc)?)),
@@ -88,7 +88,7 @@ fn ever_dep(alloc: Global, name: &Text, rule: Option<u32>) -> Result<Dep, NoMemo
 
 fn named_dep(alloc: Global, earlier: &Earlier, word: Mark, name: &Text) -> Result<Dep, NoMemory>
     requires { length earlier.now.heads < 2 ^ 32 }
-    ensures { IfOk result (λ d. d ≡ told.named_dep earlier.now.heads word name.now) }
+    ensures { IfOk result (λ d. d ≡ spec.named_dep earlier.now.heads word name.now) }
 {
     let rule = earlier.number_of(name.as_bytes());
     match word {
@@ -160,10 +160,10 @@ fn negated(alloc: Global, pending: Items<Pending>, operand: Dep) -> Result<Opera
 }
 
 /// Takes an operand and each `!` before it.
-fn take(alloc: Global, s: Shunted, operand: Dep) -> Result<Shunted, NoMemory>
+fn take(alloc: Global, s: ConditionStack, operand: Dep) -> Result<ConditionStack, NoMemory>
     ensures { IfOk result (λ r. kept r ≡ shunt.take (kept s) operand) }
 {
-    let Shunted {
+    let ConditionStack {
         either,
         both,
         word: _,
@@ -171,7 +171,7 @@ fn take(alloc: Global, s: Shunted, operand: Dep) -> Result<Shunted, NoMemory>
     } = s;
     let Operand { pending, dep } = negated(alloc, pending, operand)?;
     let both = Some(both_of(alloc, both, dep)?);
-    Ok(Shunted {
+    Ok(ConditionStack {
         either,
         both,
         word: Mark::Name,
@@ -180,11 +180,11 @@ fn take(alloc: Global, s: Shunted, operand: Dep) -> Result<Shunted, NoMemory>
 }
 
 /// Reads a `)`.
-fn close(alloc: Global, s: Shunted) -> Result<Shunted, NoMemory>
+fn close(alloc: Global, s: ConditionStack) -> Result<ConditionStack, NoMemory>
     ensures { IfOk result
         (λ r. kept r ≡ shunt.close_on (kept s).waiting (shunt.closed s.either s.both)) }
 {
-    let Shunted {
+    let ConditionStack {
         either,
         both,
         word: _,
@@ -192,20 +192,20 @@ fn close(alloc: Global, s: Shunted) -> Result<Shunted, NoMemory>
     } = s;
     let inside = closed(alloc, either, both)?;
     match pending.pop() {
-        None => Ok(Shunted {
+        None => Ok(ConditionStack {
             either: None,
             both: inside,
             word: Mark::Name,
             pending,
         }),
-        Some(Pending::Not) => Ok(Shunted {
+        Some(Pending::Not) => Ok(ConditionStack {
             either: None,
             both: inside,
             word: Mark::Name,
             pending,
         }),
         Some(Pending::Open(either, both)) => {
-            let outer = Shunted {
+            let outer = ConditionStack {
                 either,
                 both,
                 word: Mark::Name,
@@ -219,17 +219,17 @@ fn close(alloc: Global, s: Shunted) -> Result<Shunted, NoMemory>
     }
 }
 
-fn push(s: Shunted, last: Pending) -> Result<Shunted, NoMemory>
+fn push(s: ConditionStack, last: Pending) -> Result<ConditionStack, NoMemory>
     ensures { IfOk result (λ r. kept r ≡ shunt.pushed (kept s) last) }
 {
-    let Shunted {
+    let ConditionStack {
         either,
         both,
         word,
         mut pending,
     } = s;
     pending.push(last)?;
-    Ok(Shunted {
+    Ok(ConditionStack {
         either,
         both,
         word,
@@ -237,17 +237,17 @@ fn push(s: Shunted, last: Pending) -> Result<Shunted, NoMemory>
     })
 }
 
-fn open_group(s: Shunted) -> Result<Shunted, NoMemory>
+fn open_group(s: ConditionStack) -> Result<ConditionStack, NoMemory>
     ensures { IfOk result (λ r. kept r ≡ shunt.grouped (kept s)) }
 {
-    let Shunted {
+    let ConditionStack {
         either,
         both,
         word: _,
         mut pending,
     } = s;
     pending.push(Pending::Open(either, both))?;
-    Ok(Shunted {
+    Ok(ConditionStack {
         either: None,
         both: None,
         word: Mark::Name,
@@ -255,16 +255,16 @@ fn open_group(s: Shunted) -> Result<Shunted, NoMemory>
     })
 }
 
-fn with_word(s: Shunted, word: Mark) -> Shunted
+fn with_word(s: ConditionStack, word: Mark) -> ConditionStack
     ensures { kept result ≡ shunt.worded (kept s) word }
 {
-    let Shunted {
+    let ConditionStack {
         either,
         both,
         word: _,
         pending,
     } = s;
-    Shunted {
+    ConditionStack {
         either,
         both,
         word,
@@ -272,17 +272,17 @@ fn with_word(s: Shunted, word: Mark) -> Shunted
     }
 }
 
-fn other_side(alloc: Global, s: Shunted) -> Result<Shunted, NoMemory>
+fn other_side(alloc: Global, s: ConditionStack) -> Result<ConditionStack, NoMemory>
     ensures { IfOk result (λ r. kept r ≡ shunt.sided (kept s)) }
 {
-    let Shunted {
+    let ConditionStack {
         either,
         both,
         word,
         pending,
     } = s;
     let either = closed(alloc, either, both)?;
-    Ok(Shunted {
+    Ok(ConditionStack {
         either,
         both: None,
         word,
@@ -290,7 +290,12 @@ fn other_side(alloc: Global, s: Shunted) -> Result<Shunted, NoMemory>
     })
 }
 
-fn step(alloc: Global, earlier: &Earlier, s: Shunted, t: &PatchToken) -> Result<Shunted, NoMemory>
+fn step(
+    alloc: Global,
+    earlier: &Earlier,
+    s: ConditionStack,
+    t: &PatchToken,
+) -> Result<ConditionStack, NoMemory>
     requires { length earlier.now.heads < 2 ^ 32 }
     ensures { IfOk result (λ r. kept r ≡ shunt.step earlier.now.heads (kept s) t.now) }
 {
@@ -315,7 +320,7 @@ pub fn dep_of(alloc: Global, earlier: &Earlier, tokens: &[PatchToken]) -> Result
     requires { length earlier.now.heads < 2 ^ 32 }
     ensures { IfOk result (λ d. d ≡ shunt.dep_of earlier.now.heads tokens.now) }
 {
-    let mut s = Shunted {
+    let mut s = ConditionStack {
         either: None,
         both: None,
         word: Mark::Name,

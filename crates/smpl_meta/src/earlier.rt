@@ -2,7 +2,7 @@
 ghost use Rattle.std.specs.Prelude.{◌≡◌, ◌==◌, ◌<◌, ◌^◌, length, slice_get, IfOk};
 ghost use Rattle.std.specs.Option.{option_copied};
 ghost use Rattle.smpl_meta.specs.Before.{first_under, with_head};
-ghost use Rattle.smpl_meta.specs.Heads as told;
+ghost use Rattle.smpl_meta.specs.Heads as spec;
 ghost use Rattle.smpl_meta.specs.Known as known;
 
 use crate::head::RuleHead;
@@ -144,7 +144,7 @@ impl Earlier {
 
     /// Whether a `virtual` line has the name. Takes one look-up.
     pub fn is_virtual(&self, name: &[u8]) -> bool
-        ensures { result ≡ told.is_virtual self.now.virtuals name.now }
+        ensures { result ≡ spec.is_virtual self.now.virtuals name.now }
     {
         self.virtuals.place(name).is_some()
     }

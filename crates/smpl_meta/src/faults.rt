@@ -4,7 +4,7 @@
 ghost use Rattle.std.specs.Prelude.{◌≡◌, [], IfOk};
 ghost use Rattle.std.specs.Option.{option_copied};
 ghost use Rattle.smpl_patch.specs.Faults.{first_from};
-ghost use Rattle.smpl_meta.specs.Decls as told;
+ghost use Rattle.smpl_meta.specs.Decls as spec;
 
 use crate::earlier::Earlier;
 use crate::index::NameIndex;
@@ -18,7 +18,7 @@ use smpl_patch::{PatchFault, VarDecl, VarKind, earlier as earlier_fault};
 use std::alloc::Global;
 
 fn with_word(first: Option<PatchFault>, t: &PatchToken) -> Option<PatchFault>
-    ensures { result ≡ first_from first (told.word_fault t.now) }
+    ensures { result ≡ first_from first (spec.word_fault t.now) }
 {
     if is_keyword(t) {
         Some(earlier_fault(first, PatchFault::BadMetavariable(t.at)))
@@ -28,7 +28,7 @@ fn with_word(first: Option<PatchFault>, t: &PatchToken) -> Option<PatchFault>
 }
 
 fn with_from_word(first: Option<PatchFault>, from: &Option<PatchToken>) -> Option<PatchFault>
-    ensures { result ≡ first_from first (told.from_word from.now) }
+    ensures { result ≡ first_from first (spec.from_word from.now) }
 {
     match from {
         None => first,
@@ -37,7 +37,7 @@ fn with_from_word(first: Option<PatchFault>, from: &Option<PatchToken>) -> Optio
 }
 
 fn with_twice(first: Option<PatchFault>, again: bool, i: &Item) -> Option<PatchFault>
-    ensures { result ≡ first_from first (told.twice_by again i.now) }
+    ensures { result ≡ first_from first (spec.twice_by again i.now) }
 {
     if again {
         Some(earlier_fault(first, PatchFault::TwiceNamed(i.named.name.at)))
@@ -47,7 +47,7 @@ fn with_twice(first: Option<PatchFault>, again: bool, i: &Item) -> Option<PatchF
 }
 
 fn is_kind(kind: DeclKind, found: VarKind) -> bool
-    ensures { result ≡ told.is_kind kind found }
+    ensures { result ≡ spec.is_kind kind found }
 {
     match kind {
         DeclKind::Symbol => false,
@@ -61,7 +61,7 @@ fn with_found(
     r: &PatchToken,
     found: Option<&VarDecl>,
 ) -> Option<PatchFault>
-    ensures { result ≡ first_from first (told.found_fault kind r.now (option_copied found.entry)) }
+    ensures { result ≡ first_from first (spec.found_fault kind r.now (option_copied found.entry)) }
 {
     match found {
         None => Some(earlier_fault(first, PatchFault::UnknownRule(r.at))),
@@ -82,7 +82,7 @@ fn with_from(
     from: &Option<PatchToken>,
     x: &PatchToken,
 ) -> Option<PatchFault>
-    ensures { result ≡ first_from first (told.from_fault earlier.now.heads kind from.now x.now) }
+    ensures { result ≡ first_from first (spec.from_fault earlier.now.heads kind from.now x.now) }
 {
     match from {
         None => first,
@@ -99,7 +99,7 @@ fn with_named(
     kind: DeclKind,
     named: &Named,
 ) -> Option<PatchFault>
-    ensures { result ≡ first_from first (told.named_faults earlier.now.heads kind named.now) }
+    ensures { result ≡ first_from first (spec.named_faults earlier.now.heads kind named.now) }
 {
     let first = with_from_word(first, &named.from);
     let first = with_word(first, &named.name);
@@ -112,7 +112,7 @@ fn with_nots(
     kind: DeclKind,
     nots: &[Named],
 ) -> Option<PatchFault>
-    ensures { result ≡ first_from first (told.nots_faults earlier.now.heads kind nots.now) }
+    ensures { result ≡ first_from first (spec.nots_faults earlier.now.heads kind nots.now) }
 {
     let mut first = first;
     for named in nots {
@@ -127,7 +127,7 @@ fn with_item(
     again: bool,
     i: &Item,
 ) -> Option<PatchFault>
-    ensures { result ≡ first_from first (told.item_faults_by again earlier.now.heads i.now) }
+    ensures { result ≡ first_from first (spec.item_faults_by again earlier.now.heads i.now) }
 {
     let first = with_twice(first, again, i);
     let first = with_named(first, earlier, i.kind, &i.named);
@@ -142,7 +142,7 @@ pub fn with_items(
     items: &[Item],
 ) -> Result<Option<PatchFault>, NoMemory>
     ensures { IfOk result
-        (λ f. f ≡ first_from first (told.items_faults earlier.now.heads [] items.now)) }
+        (λ f. f ≡ first_from first (spec.items_faults earlier.now.heads [] items.now)) }
 {
     let mut first = first;
     let mut seen = Seen {

@@ -1,6 +1,6 @@
 // The form of declarations.
 ghost use Rattle.std.specs.Prelude.{◌≡◌, IfOk, option_map, option_and_then};
-ghost use Rattle.smpl_meta.specs.Forms as told;
+ghost use Rattle.smpl_meta.specs.Forms as spec;
 
 use crate::item::{DeclKind, Item, Named};
 use crate::lists::{PartReader, parts_between};
@@ -20,7 +20,7 @@ fn excepted_of(
     tokens: &[PatchToken],
     named: Named,
 ) -> Result<Option<Item>, NoMemory>
-    ensures { IfOk result (λ o. o ≡ told.excepted_of kind tokens.now named) }
+    ensures { IfOk result (λ o. o ≡ spec.excepted_of kind tokens.now named) }
 {
     match kind {
         DeclKind::Symbol => Ok(None),
@@ -39,7 +39,7 @@ fn except(
     tokens: &[PatchToken],
 ) -> Result<Option<Item>, NoMemory>
     ensures { IfOk result
-        (λ o. o ≡ option_and_then (told.excepted_of kind tokens.now) (told.plain_of x.now)) }
+        (λ o. o ≡ option_and_then (spec.excepted_of kind tokens.now) (spec.plain_of x.now)) }
 {
     match plain_of(alloc, x)? {
         None => Ok(None),
@@ -49,7 +49,7 @@ fn except(
 
 /// Reads `x` or `r.x`.
 fn bare(alloc: Global, kind: DeclKind, tokens: &[PatchToken]) -> Result<Option<Item>, NoMemory>
-    ensures { IfOk result (λ o. o ≡ option_map (told.bare_item kind) (told.named_of tokens.now)) }
+    ensures { IfOk result (λ o. o ≡ option_map (spec.bare_item kind) (spec.named_of tokens.now)) }
 {
     match named_of(alloc, tokens)? {
         None => Ok(None),
@@ -62,7 +62,7 @@ fn bare(alloc: Global, kind: DeclKind, tokens: &[PatchToken]) -> Result<Option<I
 }
 
 fn item_of(alloc: Global, kind: DeclKind, tokens: &[PatchToken]) -> Result<Option<Item>, NoMemory>
-    ensures { IfOk result (λ o. o ≡ told.item_of kind tokens.now) }
+    ensures { IfOk result (λ o. o ≡ spec.item_of kind tokens.now) }
 {
     match tokens {
         [x, differs, rest @ ..] => {
@@ -85,7 +85,7 @@ struct ItemReader {
 impl PartReader for ItemReader {
     type Part = Item;
 
-    ghost spelled = { λ r. told.item_of r.kind };
+    ghost spelled = { λ r. spec.item_of r.kind };
 
     fn read(&self, alloc: Global, tokens: &[PatchToken]) -> Result<Option<Item>, NoMemory> {
         item_of(alloc, self.kind, tokens)
@@ -98,14 +98,14 @@ fn items_in(
     kind: DeclKind,
     tokens: &[PatchToken],
 ) -> Result<Option<Items<Item>>, NoMemory>
-    ensures { IfOk result (λ o. o ≡ told.items_in kind tokens.now) }
+    ensures { IfOk result (λ o. o ≡ spec.items_in kind tokens.now) }
 {
     parts_between(alloc, &ItemReader { kind }, tokens)
 }
 
 /// Whether `list` belongs to the kind. It does if a name follows.
 fn is_listed(tokens: &[PatchToken]) -> bool
-    ensures { result ≡ told.is_listed tokens.now }
+    ensures { result ≡ spec.is_listed tokens.now }
 {
     match tokens {
         [l, x, ..] => is_word(l, b"list") && is_wordish(x),
@@ -115,7 +115,7 @@ fn is_listed(tokens: &[PatchToken]) -> bool
 
 /// Returns the kind that one word names.
 fn kind_of(t: &PatchToken) -> Option<DeclKind>
-    ensures { result ≡ told.kind_of t.now }
+    ensures { result ≡ spec.kind_of t.now }
 {
     if is_word(t, b"expression") {
         Some(DeclKind::Var(VarKind::Meta(MetaKind::Expr)))
@@ -138,7 +138,7 @@ fn kind_of(t: &PatchToken) -> Option<DeclKind>
 
 /// Returns the kind that a word and `list` name together.
 fn list_kind_of(t: &PatchToken) -> Option<DeclKind>
-    ensures { result ≡ told.list_kind_of t.now }
+    ensures { result ≡ spec.list_kind_of t.now }
 {
     if is_word(t, b"expression") {
         Some(DeclKind::Var(VarKind::Meta(MetaKind::ExprList)))
@@ -154,7 +154,7 @@ fn items_by(
     kind: Option<DeclKind>,
     tokens: &[PatchToken],
 ) -> Result<Option<Items<Item>>, NoMemory>
-    ensures { IfOk result (λ o. o ≡ told.items_by kind tokens.now) }
+    ensures { IfOk result (λ o. o ≡ spec.items_by kind tokens.now) }
 {
     match kind {
         None => Ok(None),
@@ -164,7 +164,7 @@ fn items_by(
 
 /// Returns the items of a declaration that is given without its `;`.
 fn front_items(alloc: Global, tokens: &[PatchToken]) -> Result<Option<Items<Item>>, NoMemory>
-    ensures { IfOk result (λ o. o ≡ told.front_items tokens.now) }
+    ensures { IfOk result (λ o. o ≡ spec.front_items tokens.now) }
 {
     match tokens {
         [] => Ok(None),
@@ -180,7 +180,7 @@ fn front_items(alloc: Global, tokens: &[PatchToken]) -> Result<Option<Items<Item
 
 /// Returns the items of a declaration, which ends in `;`, or `None` if it is malformed.
 pub fn declared(alloc: Global, part: &[PatchToken]) -> Result<Option<Items<Item>>, NoMemory>
-    ensures { IfOk result (λ o. o ≡ told.declared part.now) }
+    ensures { IfOk result (λ o. o ≡ spec.declared part.now) }
 {
     match before_sign(b";", part) {
         None => Ok(None),

@@ -4,7 +4,7 @@
 ghost use Rattle.std.specs.Prelude.{◌≡◌, ◌<◌, ◌^◌, length, IfOk};
 ghost use Rattle.std.specs.Option.{option_copied};
 ghost use Rattle.smpl_patch.specs.Faults.{first_from};
-ghost use Rattle.smpl_meta.specs.Heads as told;
+ghost use Rattle.smpl_meta.specs.Heads as spec;
 
 use crate::earlier::Earlier;
 use c_terms::{NoMemory, Text};
@@ -15,7 +15,7 @@ use std::alloc::Global;
 /// Whether an earlier rule or a `virtual` line has the name.
 fn is_taken(earlier: &Earlier, name: &[u8]) -> bool
     requires { length earlier.now.heads < 2 ^ 32 }
-    ensures { result ≡ told.is_taken earlier.now.virtuals earlier.now.heads name.now }
+    ensures { result ≡ spec.is_taken earlier.now.virtuals earlier.now.heads name.now }
 {
     match earlier.number_of(name) {
         Some(_) => true,
@@ -25,7 +25,7 @@ fn is_taken(earlier: &Earlier, name: &[u8]) -> bool
 
 /// Returns the token of the rule's name, if it has one.
 pub fn name_token(header: &[PatchToken]) -> Option<&PatchToken>
-    ensures { option_copied result ≡ told.name_token header.now }
+    ensures { option_copied result ≡ spec.name_token header.now }
 {
     match header {
         [_, t, ..] => { if is_rule_name(t) { Some(t) } else { None } }
@@ -34,7 +34,7 @@ pub fn name_token(header: &[PatchToken]) -> Option<&PatchToken>
 }
 
 pub fn name_text(alloc: Global, name: Option<&PatchToken>) -> Result<Text, NoMemory>
-    ensures { IfOk result (λ t. t ≡ told.name_text (option_copied name.entry)) }
+    ensures { IfOk result (λ t. t ≡ spec.name_text (option_copied name.entry)) }
 {
     match name {
         None => Text::from_bytes(alloc, b""),
@@ -49,7 +49,7 @@ pub fn with_name(
 ) -> Option<PatchFault>
     requires { length earlier.now.heads < 2 ^ 32 }
     ensures { result ≡ first_from first
-        (told.name_fault earlier.now.virtuals earlier.now.heads (option_copied name.entry)) }
+        (spec.name_fault earlier.now.virtuals earlier.now.heads (option_copied name.entry)) }
 {
     match name {
         None => first,
@@ -64,7 +64,7 @@ pub fn with_name(
 }
 
 fn behind_on(header: &[PatchToken]) -> &[PatchToken]
-    ensures { result.now ≡ told.behind_on header.now }
+    ensures { result.now ≡ spec.behind_on header.now }
 {
     for i in 0..header.len() {
         if is_word(&header[i], b"on") {
@@ -75,7 +75,7 @@ fn behind_on(header: &[PatchToken]) -> &[PatchToken]
 }
 
 fn condition(tokens: &[PatchToken]) -> &[PatchToken]
-    ensures { result.now ≡ told.condition tokens.now }
+    ensures { result.now ≡ spec.condition tokens.now }
 {
     for i in 0..tokens.len() {
         if is_mode(&tokens[i]) || is_at(&tokens[i]) {
@@ -87,20 +87,20 @@ fn condition(tokens: &[PatchToken]) -> &[PatchToken]
 
 /// Returns the tokens of the header's condition.
 pub fn depends_tokens(header: &[PatchToken]) -> &[PatchToken]
-    ensures { result.now ≡ told.depends_tokens header.now }
+    ensures { result.now ≡ spec.depends_tokens header.now }
 {
     condition(behind_on(header))
 }
 
 fn is_unknown(earlier: &Earlier, t: &PatchToken) -> bool
     requires { length earlier.now.heads < 2 ^ 32 }
-    ensures { result ≡ told.is_unknown earlier.now.virtuals earlier.now.heads t.now }
+    ensures { result ≡ spec.is_unknown earlier.now.virtuals earlier.now.heads t.now }
 {
     is_rule_name(t) && !is_taken(earlier, t.token.text.as_bytes())
 }
 
 fn with_bad(first: Option<PatchFault>, unknown: bool, at: u32) -> Option<PatchFault>
-    ensures { result ≡ first_from first (told.unknown_fault unknown at) }
+    ensures { result ≡ first_from first (spec.unknown_fault unknown at) }
 {
     if unknown {
         Some(earlier_fault(first, PatchFault::UnknownRule(at)))
@@ -117,7 +117,7 @@ pub fn with_unknown(
 ) -> Option<PatchFault>
     requires { length earlier.now.heads < 2 ^ 32 }
     ensures { result ≡ first_from first
-        (told.unknown_faults earlier.now.virtuals earlier.now.heads tokens.now) }
+        (spec.unknown_faults earlier.now.virtuals earlier.now.heads tokens.now) }
 {
     let mut first = first;
     for t in tokens {
@@ -127,7 +127,7 @@ pub fn with_unknown(
 }
 
 fn has_word(text: &[u8], tokens: &[PatchToken]) -> bool
-    ensures { result ≡ told.has_word text.now tokens.now }
+    ensures { result ≡ spec.has_word text.now tokens.now }
 {
     for t in tokens {
         if is_word(t, text) {
@@ -138,13 +138,13 @@ fn has_word(text: &[u8], tokens: &[PatchToken]) -> bool
 }
 
 fn is_edit(l: &BodyLine) -> bool
-    ensures { result ≡ told.is_edit l.now }
+    ensures { result ≡ spec.is_edit l.now }
 {
     l.sign == b'-' || l.sign == b'+'
 }
 
 fn has_edit(lines: &[BodyLine]) -> bool
-    ensures { result ≡ told.has_edit lines.now }
+    ensures { result ≡ spec.has_edit lines.now }
 {
     for l in lines {
         if is_edit(l) {
@@ -156,7 +156,7 @@ fn has_edit(lines: &[BodyLine]) -> bool
 
 /// Returns the rule's mode: the one that its header gives, or else the one that follows from its lines.
 pub fn mode_of(rule: &RuleText) -> Mode
-    ensures { result ≡ told.mode_of rule.now }
+    ensures { result ≡ spec.mode_of rule.now }
 {
     let header = rule.header.as_slice();
     if has_word(b"exists", header) {

@@ -54,7 +54,7 @@ use c_terms::NoMemory;
 pub use earlier::Earlier;
 pub use head::RuleHead;
 pub use item::{DeclKind, Item, Named};
-pub use patterns::{Placed, made, pattern_tokens};
+pub use patterns::{Placed, made, made_all, pattern_tokens};
 use smpl_lexer::{PatchText, PatchToken, RuleText};
 use smpl_patch::{PatchFault, VarDecl};
 use sqlite_items::Items;

@@ -1,6 +1,6 @@
 // Names in declarations: `x` and `r.x`.
 ghost use Rattle.std.specs.Prelude.{◌≡◌, IfOk};
-ghost use Rattle.smpl_meta.specs.Forms as told;
+ghost use Rattle.smpl_meta.specs.Forms as spec;
 
 use crate::item::Named;
 use c_terms::{NoMemory, TokenKind};
@@ -9,7 +9,7 @@ use std::alloc::Global;
 
 /// Whether the token is a keyword.
 pub fn is_keyword(t: &PatchToken) -> bool
-    ensures { result ≡ told.is_keyword t.now }
+    ensures { result ≡ spec.is_keyword t.now }
 {
     match t.token.kind {
         TokenKind::Keyword => true,
@@ -19,14 +19,14 @@ pub fn is_keyword(t: &PatchToken) -> bool
 
 /// Whether the token has the form of a name, even if it is a keyword.
 pub fn is_wordish(t: &PatchToken) -> bool
-    ensures { result ≡ told.is_wordish t.now }
+    ensures { result ≡ spec.is_wordish t.now }
 {
     is_name(t) || is_keyword(t)
 }
 
 /// Reads `x`.
 pub fn plain_of(alloc: Global, x: &PatchToken) -> Result<Option<Named>, NoMemory>
-    ensures { IfOk result (λ o. o ≡ told.plain_of x.now) }
+    ensures { IfOk result (λ o. o ≡ spec.plain_of x.now) }
 {
     if !is_wordish(x) {
         return Ok(None);
@@ -44,7 +44,7 @@ pub fn member_of(
     dot: &PatchToken,
     x: &PatchToken,
 ) -> Result<Option<Named>, NoMemory>
-    ensures { IfOk result (λ o. o ≡ told.member_of r.now dot.now x.now) }
+    ensures { IfOk result (λ o. o ≡ spec.member_of r.now dot.now x.now) }
 {
     if !(is_wordish(r) && is_sign(dot, b".") && is_wordish(x)) {
         return Ok(None);
@@ -57,7 +57,7 @@ pub fn member_of(
 
 /// Reads `x` or `r.x`.
 pub fn named_of(alloc: Global, tokens: &[PatchToken]) -> Result<Option<Named>, NoMemory>
-    ensures { IfOk result (λ o. o ≡ told.named_of tokens.now) }
+    ensures { IfOk result (λ o. o ≡ spec.named_of tokens.now) }
 {
     match tokens {
         [x] => plain_of(alloc, x),

@@ -1,6 +1,6 @@
 // What an item must differ from: `!= y`, `!= {y, z}`.
 ghost use Rattle.std.specs.Prelude.{◌≡◌, IfOk};
-ghost use Rattle.smpl_meta.specs.Forms as told;
+ghost use Rattle.smpl_meta.specs.Forms as spec;
 
 use crate::item::Named;
 use crate::lists::{PartReader, parts_between};
@@ -14,7 +14,7 @@ use std::alloc::Global;
 
 /// Reads a name that an identifier must differ from.
 fn name_not(alloc: Global, tokens: &[PatchToken]) -> Result<Option<Named>, NoMemory>
-    ensures { IfOk result (λ o. o ≡ told.name_not tokens.now) }
+    ensures { IfOk result (λ o. o ≡ spec.name_not tokens.now) }
 {
     match tokens {
         [x] => plain_of(alloc, x),
@@ -24,7 +24,7 @@ fn name_not(alloc: Global, tokens: &[PatchToken]) -> Result<Option<Named>, NoMem
 
 /// Reads a position of another rule that a position must differ from.
 fn place_not(alloc: Global, tokens: &[PatchToken]) -> Result<Option<Named>, NoMemory>
-    ensures { IfOk result (λ o. o ≡ told.place_not tokens.now) }
+    ensures { IfOk result (λ o. o ≡ spec.place_not tokens.now) }
 {
     match tokens {
         [r, dot, x] => member_of(alloc, r, dot, x),
@@ -33,7 +33,7 @@ fn place_not(alloc: Global, tokens: &[PatchToken]) -> Result<Option<Named>, NoMe
 }
 
 fn not_of(alloc: Global, kind: VarKind, tokens: &[PatchToken]) -> Result<Option<Named>, NoMemory>
-    ensures { IfOk result (λ o. o ≡ told.not_of kind tokens.now) }
+    ensures { IfOk result (λ o. o ≡ spec.not_of kind tokens.now) }
 {
     match kind {
         VarKind::Meta(MetaKind::Ident) => name_not(alloc, tokens),
@@ -51,7 +51,7 @@ struct NotReader {
 impl PartReader for NotReader {
     type Part = Named;
 
-    ghost spelled = { λ r. told.not_of r.kind };
+    ghost spelled = { λ r. spec.not_of r.kind };
 
     fn read(&self, alloc: Global, tokens: &[PatchToken]) -> Result<Option<Named>, NoMemory> {
         not_of(alloc, self.kind, tokens)
@@ -64,7 +64,7 @@ fn nots_between(
     kind: VarKind,
     tokens: &[PatchToken],
 ) -> Result<Option<Items<Named>>, NoMemory>
-    ensures { IfOk result (λ o. o ≡ told.nots_between kind tokens.now) }
+    ensures { IfOk result (λ o. o ≡ spec.nots_between kind tokens.now) }
 {
     parts_between(alloc, &NotReader { kind }, tokens)
 }
@@ -74,7 +74,7 @@ fn one_not(
     kind: VarKind,
     tokens: &[PatchToken],
 ) -> Result<Option<Items<Named>>, NoMemory>
-    ensures { IfOk result (λ o. o ≡ told.one_not kind tokens.now) }
+    ensures { IfOk result (λ o. o ≡ spec.one_not kind tokens.now) }
 {
     match not_of(alloc, kind, tokens)? {
         None => Ok(None),
@@ -91,7 +91,7 @@ fn braced(
     kind: VarKind,
     tokens: &[PatchToken],
 ) -> Result<Option<Items<Named>>, NoMemory>
-    ensures { IfOk result (λ o. o ≡ told.braced kind tokens.now) }
+    ensures { IfOk result (λ o. o ≡ spec.braced kind tokens.now) }
 {
     match before_sign(b"}", tokens) {
         None => Ok(None),
@@ -105,7 +105,7 @@ pub fn nots_of(
     kind: VarKind,
     tokens: &[PatchToken],
 ) -> Result<Option<Items<Named>>, NoMemory>
-    ensures { IfOk result (λ o. o ≡ told.nots_of kind tokens.now) }
+    ensures { IfOk result (λ o. o ≡ spec.nots_of kind tokens.now) }
 {
     match tokens {
         [] => Ok(None),

@@ -1,6 +1,6 @@
 // Splits the tokens of declarations into parts.
 ghost use Rattle.std.specs.Prelude.{◌≡◌, ◌≤◌, ◌<◌, length, MatchOption, false};
-ghost use Rattle.smpl_meta.specs.Forms as told;
+ghost use Rattle.smpl_meta.specs.Forms as spec;
 ghost use Rattle.smpl_meta.specs.Splits as split;
 
 use smpl_lexer::{PatchToken, is_sign};
@@ -37,7 +37,7 @@ pub fn chunk_length(tokens: &[PatchToken]) -> usize
 
 /// Whether the token after this one is within braces.
 fn within_after(within: bool, t: &PatchToken) -> bool
-    ensures { result ≡ told.within_after within t.now }
+    ensures { result ≡ spec.within_after within t.now }
 {
     if is_sign(t, b"{") {
         true
@@ -50,8 +50,8 @@ fn within_after(within: bool, t: &PatchToken) -> bool
 
 /// Returns the tokens before the last one, if the last one is this sign.
 pub fn before_sign<'a>(text: &[u8], tokens: &'a [PatchToken]) -> Option<&'a [PatchToken]>
-    ensures { MatchOption result (told.before_sign text.now tokens.now ≡ None)
-        (λ front. told.before_sign text.now tokens.now ≡ Some front.now) }
+    ensures { MatchOption result (spec.before_sign text.now tokens.now ≡ None)
+        (λ front. spec.before_sign text.now tokens.now ≡ Some front.now) }
 {
     match tokens {
         [] => None,

@@ -1,8 +1,8 @@
 // The tokens of a rule's patterns.
-ghost use Rattle.std.specs.Prelude.{◌≡◌, ◌<◌, ◌^◌, [], length, IfOk};
+ghost use Rattle.std.specs.Prelude.{◌≡◌, ◌<◌, ◌^◌, [], length, IfOk, map};
 ghost use Rattle.std.specs.Option.{option_copied};
 ghost use Rattle.smpl_meta.specs.Index.{Indexes, names_of};
-ghost use Rattle.smpl_meta.specs.Patterns as told;
+ghost use Rattle.smpl_meta.specs.Patterns as spec;
 
 use crate::variables::VarTable;
 use c_terms::{MetaKind, NoMemory, Token, TokenKind};
@@ -24,7 +24,7 @@ pub struct Placed {
 }
 
 fn meta_of(found: Option<&VarDecl>) -> Option<MetaKind>
-    ensures { result ≡ told.meta_of (option_copied found.entry) }
+    ensures { result ≡ spec.meta_of (option_copied found.entry) }
 {
     match found {
         None => None,
@@ -36,7 +36,7 @@ fn meta_of(found: Option<&VarDecl>) -> Option<MetaKind>
 }
 
 fn declared_meta(vars: &VarTable<'_>, t: &PatchToken) -> Option<MetaKind>
-    ensures { result ≡ told.declared_meta vars.now t.now }
+    ensures { result ≡ spec.declared_meta vars.now t.now }
 {
     if is_name(t) {
         meta_of(vars.find(t.token.text.as_bytes()))
@@ -46,7 +46,7 @@ fn declared_meta(vars: &VarTable<'_>, t: &PatchToken) -> Option<MetaKind>
 }
 
 fn kind_by(meta: Option<MetaKind>, kind: TokenKind) -> TokenKind
-    ensures { result ≡ told.kind_by meta kind }
+    ensures { result ≡ spec.kind_by meta kind }
 {
     match meta {
         None => kind,
@@ -56,7 +56,7 @@ fn kind_by(meta: Option<MetaKind>, kind: TokenKind) -> TokenKind
 
 /// Returns the token with this id, as a metavariable if its name is declared. Fails only when out of memory.
 pub fn made(alloc: Global, vars: &VarTable<'_>, id: u64, t: &PatchToken) -> Result<Token, NoMemory>
-    ensures { IfOk result (λ token. token ≡ told.made vars.now id t.now) }
+    ensures { IfOk result (λ token. token ≡ spec.made vars.now id t.now) }
 {
     Ok(Token {
         kind: kind_by(declared_meta(vars, t), t.token.kind),
@@ -65,8 +65,23 @@ pub fn made(alloc: Global, vars: &VarTable<'_>, id: u64, t: &PatchToken) -> Resu
     })
 }
 
+/// The tokens of a pattern that have no numbers of their own: each as [`made`] has it, with the id 0. Linear.
+pub fn made_all(
+    alloc: Global,
+    vars: &VarTable<'_>,
+    tokens: &[PatchToken],
+) -> Result<Items<Token>, NoMemory>
+    ensures { IfOk result (λ out. out ≡ map (spec.made vars.now 0) tokens.now) }
+{
+    let mut out = Items::new(alloc);
+    for t in tokens {
+        out.push(made(alloc, vars, 0, t)?)?;
+    }
+    Ok(out)
+}
+
 fn copied_position(alloc: Global, found: Option<&VarDecl>) -> Result<Option<Var>, NoMemory>
-    ensures { IfOk result (λ v. v ≡ told.position_of (option_copied found.entry)) }
+    ensures { IfOk result (λ v. v ≡ spec.position_of (option_copied found.entry)) }
 {
     match found {
         None => Ok(None),
@@ -82,7 +97,7 @@ fn declared_position(
     vars: &VarTable<'_>,
     t: &PatchToken,
 ) -> Result<Option<Var>, NoMemory>
-    ensures { IfOk result (λ v. v ≡ told.declared_position vars.now t.now) }
+    ensures { IfOk result (λ v. v ≡ spec.declared_position vars.now t.now) }
 {
     if is_name(t) {
         copied_position(alloc, vars.find(t.token.text.as_bytes()))
@@ -99,7 +114,7 @@ fn at_position(
     t: &PatchToken,
     n: &PatchToken,
 ) -> Result<Option<Var>, NoMemory>
-    ensures { IfOk result (λ v. v ≡ told.at_position vars.now out.now t.now n.now) }
+    ensures { IfOk result (λ v. v ≡ spec.at_position vars.now out.now t.now n.now) }
 {
     match out {
         [] => Ok(None),
@@ -115,7 +130,7 @@ fn at_position(
 
 /// Attaches the position to the last token.
 fn with_position(out: Items<Placed>, v: Var) -> Result<Items<Placed>, NoMemory>
-    ensures { IfOk result (λ r. r ≡ told.with_position v out) }
+    ensures { IfOk result (λ r. r ≡ spec.with_position v out) }
 {
     let mut out = out;
     match out.pop() {
@@ -149,7 +164,7 @@ fn put(
     out: Items<Placed>,
     t: &PatchToken,
 ) -> Result<Items<Placed>, NoMemory>
-    ensures { IfOk result (λ r. r ≡ told.put vars.now sign line out t.now) }
+    ensures { IfOk result (λ r. r ≡ spec.put vars.now sign line out t.now) }
 {
     let mut out = out;
     let token = made(alloc, vars, out.len() as u64, t)?;
@@ -179,8 +194,8 @@ fn put_two(
     t: &PatchToken,
     position: Option<Var>,
 ) -> Result<Taken, NoMemory>
-    ensures out { IfOk result (λ r. r.out ≡ told.put_two vars.now sign line out t.now position) }
-    ensures width { IfOk result (λ r. r.width ≡ told.width_of position) }
+    ensures out { IfOk result (λ r. r.out ≡ spec.put_two vars.now sign line out t.now position) }
+    ensures width { IfOk result (λ r. r.width ≡ spec.width_of position) }
 {
     match position {
         Some(v) => Ok(Taken {
@@ -202,7 +217,7 @@ fn put_tokens(
     out: Items<Placed>,
     tokens: &[PatchToken],
 ) -> Result<Items<Placed>, NoMemory>
-    ensures { IfOk result (λ r. r ≡ told.put_tokens vars.now sign line out tokens.now) }
+    ensures { IfOk result (λ r. r ≡ spec.put_tokens vars.now sign line out tokens.now) }
 {
     let mut out = out;
     let mut i = 0;
@@ -228,7 +243,7 @@ fn put_line(
     out: Items<Placed>,
     l: &BodyLine,
 ) -> Result<Items<Placed>, NoMemory>
-    ensures { IfOk result (λ r. r ≡ told.put_line vars.now line out l.now) }
+    ensures { IfOk result (λ r. r ≡ spec.put_line vars.now line out l.now) }
 {
     if l.sign == b'+' {
         return Ok(out);
@@ -244,7 +259,7 @@ pub fn pattern_tokens(
     body: &[BodyLine],
 ) -> Result<Items<Placed>, NoMemory>
     requires { length body.now < 2 ^ 32 }
-    ensures { IfOk result (λ r. r ≡ told.pattern_tokens vars.now body.now) }
+    ensures { IfOk result (λ r. r ≡ spec.pattern_tokens vars.now body.now) }
 {
     let table = VarTable::of(alloc, vars)?;
     let mut out = Items::new(alloc);

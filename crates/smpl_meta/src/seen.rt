@@ -1,7 +1,7 @@
 // The names of the items seen so far, each found by one look-up.
 ghost use Rattle.std.specs.Prelude.{◌≡◌, IfOk, if◌then◌else◌, true};
-ghost use Rattle.smpl_meta.specs.Seen as of;
-ghost use Rattle.smpl_meta.specs.Decls as told;
+ghost use Rattle.smpl_meta.specs.Seen as spec;
+ghost use Rattle.smpl_meta.specs.Decls as declared;
 ghost use Rattle.smpl_meta.specs.declared.item.Item.{Item as Declared};
 
 use crate::index::NameIndex;
@@ -17,7 +17,7 @@ pub struct Seen {
 }
 
 pub fn is_symbol(kind: DeclKind) -> bool
-    ensures { result ≡ told.is_symbol kind }
+    ensures { result ≡ declared.is_symbol kind }
 {
     match kind {
         DeclKind::Symbol => true,
@@ -27,7 +27,7 @@ pub fn is_symbol(kind: DeclKind) -> bool
 
 /// Whether an earlier item has the same name, unless both are symbols. Takes one look-up.
 pub fn is_seen(seen: &Seen, i: &Item) -> bool
-    ensures { result ≡ of.is_seen seen.now i.now }
+    ensures { result ≡ spec.is_seen seen.now i.now }
 {
     let name = i.named.name.token.text.as_bytes();
     if is_symbol(i.kind) {
@@ -43,7 +43,7 @@ fn with_name(
     symbol: bool,
     name: &[u8],
 ) -> Result<NameIndex, NoMemory>
-    ensures { IfOk result (λ r. of.IsPut symbol name.now index r) }
+    ensures { IfOk result (λ r. spec.IsPut symbol name.now index r) }
 {
     let mut index = index;
     if !symbol {
@@ -54,8 +54,8 @@ fn with_name(
 
 /// Adds an item to those seen so far.
 pub fn with_seen(alloc: Global, seen: Seen, i: &Item) -> Result<Seen, NoMemory>
-    ensures { IfOk result (λ r. (j : Declared) → of.is_seen r j
-        ≡ (if of.is_seen seen j then true else told.is_again j i.now)) }
+    ensures { IfOk result (λ r. (j : Declared) → spec.is_seen r j
+        ≡ (if spec.is_seen seen j then true else declared.is_again j i.now)) }
 {
     let Seen { all, variables } = seen;
     let name = i.named.name.token.text.as_bytes();

@@ -1,7 +1,7 @@
 // The variables of declarations.
 ghost use Rattle.std.specs.Prelude.{◌≡◌, ◌++◌, IfOk};
 ghost use Rattle.std.specs.Option.{option_copied};
-ghost use Rattle.smpl_meta.specs.Decls as told;
+ghost use Rattle.smpl_meta.specs.Decls as spec;
 
 use crate::earlier::Earlier;
 use crate::item::{DeclKind, Item, Named};
@@ -13,7 +13,7 @@ use sqlite_items::Items;
 use std::alloc::Global;
 
 fn texts_of(alloc: Global, nots: &[Named]) -> Result<Items<Text>, NoMemory>
-    ensures { IfOk result (λ out. out ≡ told.texts_of nots.now) }
+    ensures { IfOk result (λ out. out ≡ spec.texts_of nots.now) }
 {
     let mut out = Items::new(alloc);
     for n in nots {
@@ -23,7 +23,7 @@ fn texts_of(alloc: Global, nots: &[Named]) -> Result<Items<Text>, NoMemory>
 }
 
 fn names_not(alloc: Global, kind: VarKind, nots: &[Named]) -> Result<Items<Text>, NoMemory>
-    ensures { IfOk result (λ out. out ≡ told.names_not kind nots.now) }
+    ensures { IfOk result (λ out. out ≡ spec.names_not kind nots.now) }
 {
     match kind {
         VarKind::Meta(_) => texts_of(alloc, nots),
@@ -36,7 +36,7 @@ fn push_var(
     vars: Items<Var>,
     found: Option<&VarDecl>,
 ) -> Result<Items<Var>, NoMemory>
-    ensures { IfOk result (λ out. out ≡ vars ++ told.var_in (option_copied found.entry)) }
+    ensures { IfOk result (λ out. out ≡ vars ++ spec.var_in (option_copied found.entry)) }
 {
     let mut vars = vars;
     match found {
@@ -55,7 +55,7 @@ fn push_place(
     from: &Option<PatchToken>,
     x: &PatchToken,
 ) -> Result<Items<Var>, NoMemory>
-    ensures { IfOk result (λ out. out ≡ vars ++ told.place_not earlier.now.heads from.now x.now) }
+    ensures { IfOk result (λ out. out ≡ vars ++ spec.place_not earlier.now.heads from.now x.now) }
 {
     match from {
         None => Ok(vars),
@@ -67,7 +67,7 @@ fn push_place(
 }
 
 fn places_not(alloc: Global, earlier: &Earlier, nots: &[Named]) -> Result<Items<Var>, NoMemory>
-    ensures { IfOk result (λ out. out ≡ told.places_not earlier.now.heads nots.now) }
+    ensures { IfOk result (λ out. out ≡ spec.places_not earlier.now.heads nots.now) }
 {
     let mut vars = Items::new(alloc);
     for n in nots {
@@ -83,7 +83,7 @@ fn own(
     kind: VarKind,
     i: &Item,
 ) -> Result<VarDecl, NoMemory>
-    ensures { IfOk result (λ d. d ≡ told.own earlier.now.heads rule kind i.now) }
+    ensures { IfOk result (λ d. d ≡ spec.own earlier.now.heads rule kind i.now) }
 {
     let name = i.named.name.token.text.copy(alloc)?;
     let not_names = names_not(alloc, kind, i.nots.as_slice())?;
@@ -104,7 +104,7 @@ fn push_inherited(
     found: Option<&VarDecl>,
 ) -> Result<Items<VarDecl>, NoMemory>
     ensures { IfOk result
-        (λ out. out ≡ vars ++ told.inherited_from kind (option_copied found.entry)) }
+        (λ out. out ≡ vars ++ spec.inherited_from kind (option_copied found.entry)) }
 {
     let mut vars = vars;
     match found {
@@ -131,7 +131,7 @@ fn push_by(
     i: &Item,
 ) -> Result<Items<VarDecl>, NoMemory>
     ensures { IfOk result
-        (λ out. out ≡ vars ++ told.var_by earlier.now.heads rule kind i.now.named.from i.now) }
+        (λ out. out ≡ vars ++ spec.var_by earlier.now.heads rule kind i.now.named.from i.now) }
 {
     let mut vars = vars;
     match &i.named.from {
@@ -154,7 +154,7 @@ fn push_vars(
     i: &Item,
 ) -> Result<Items<VarDecl>, NoMemory>
     ensures { IfOk result
-        (λ out. out ≡ vars ++ told.vars_in earlier.now.heads rule i.now.kind i.now) }
+        (λ out. out ≡ vars ++ spec.vars_in earlier.now.heads rule i.now.kind i.now) }
 {
     match i.kind {
         DeclKind::Symbol => Ok(vars),
@@ -169,7 +169,7 @@ pub fn vars_of(
     rule: u32,
     items: &[Item],
 ) -> Result<Items<VarDecl>, NoMemory>
-    ensures { IfOk result (λ out. out ≡ told.vars_of_items earlier.now.heads rule items.now) }
+    ensures { IfOk result (λ out. out ≡ spec.vars_of_items earlier.now.heads rule items.now) }
 {
     let mut vars = Items::new(alloc);
     for i in items {

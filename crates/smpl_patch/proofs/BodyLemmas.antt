@@ -27,7 +27,8 @@ element-Block o b c = ap element (sym (elem.rolls-Block o b c)) ∙ fold-roll-El
 pub element-Gap : (d : Dots) → element (elem.Gap d) ≡ Gap (dots_of d).whens (dots_of d).any (dots_of d).strict
 element-Gap d = ap element (sym (elem.rolls-Gap d)) ∙ fold-roll-Elem Element DotsOf element_step dots_step _
 
-pub element-Nest : (plus : Bool) (b : List Elem) (d : Dots) → element (elem.Nest plus b d) ≡ Nest plus (body b) (dots_of d).whens (dots_of d).any (dots_of d).strict
+pub element-Nest : (plus : Bool) (b : List Elem) (d : Dots)
+    → element (elem.Nest plus b d) ≡ Nest plus (body b) (dots_of d).whens (dots_of d).any (dots_of d).strict
 element-Nest plus b d = ap element (sym (elem.rolls-Nest plus b d)) ∙ fold-roll-Elem Element DotsOf element_step dots_step _
 
 pub element-AnyOf : (bs : List (List Elem)) → element (elem.AnyOf bs) ≡ AnyOf (bodies bs)

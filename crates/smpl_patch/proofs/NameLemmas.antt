@@ -16,7 +16,8 @@ named : (ds : List VarDecl) (name : List ℕ) (x : Var) → is_var_of (declared_
 named [] name x h = absurd cc
 named (d ∷ ds) name x h =
     elim (not (is_position_kind d.kind) && same_bytes d.var.name name) as
-    (λ b. (not (is_position_kind d.kind) && same_bytes d.var.name name) ≡ b → is_var_of (cond b (Some d) (declared_as ds name)) x ≡ true → same_bytes name x.name ≡ true) [
+    (λ b. (not (is_position_kind d.kind) && same_bytes d.var.name name) ≡ b
+    → is_var_of (cond b (Some d) (declared_as ds name)) x ≡ true → same_bytes name x.name ≡ true) [
       | true ↦ λ q p.
           let e = same_bytes-equal d.var.name name (right (not (is_position_kind d.kind)) (same_bytes d.var.name name) q) in
           let s = same_var-equal d.var x p in

@@ -1,7 +1,11 @@
 -- The order of faults, and the first of several.
 use Rattle.std.specs.Prelude.{ℕ, ◌≡◌, ◌==◌, ◌&&◌, ◌||◌, Bool, false, nat_lt, if◌then◌else◌, ◌⊎◌, List, [], ◌∷◌, Option, Some, None}
 use Rattle.smpl_patch.specs.declared.fault.PatchFault.{PatchFault}
-use Rattle.smpl_patch.specs.declared.fault.PatchFault.TheVariants.{PatchTooLong, BadToken, BadHeader, BadMetavariable, TwiceNamed, UnknownRule, KindDiffers, BadPattern, StarWithEdit, PlusWithoutAnchor, DotsAtEdge, MinusDots, MayStayUnbound, UnboundInPlus, ScriptRule, TooDeep, TooLarge, NoMemory}
+use Rattle.smpl_patch.specs.declared.fault.PatchFault.TheVariants.{PatchTooLong, BadToken, BadHeader, BadMetavariable}
+use Rattle.smpl_patch.specs.declared.fault.PatchFault.TheVariants.{TwiceNamed, UnknownRule, KindDiffers, BadPattern}
+use Rattle.smpl_patch.specs.declared.fault.PatchFault.TheVariants.{StarWithEdit, PlusWithoutAnchor, DotsAtEdge, MinusDots}
+use Rattle.smpl_patch.specs.declared.fault.PatchFault.TheVariants.{MayStayUnbound, UnboundInPlus, ScriptRule, TooDeep, TooLarge}
+use Rattle.smpl_patch.specs.declared.fault.PatchFault.TheVariants.{NoMemory}
 
 -- the number that users see
 abbrev pub number_of : PatchFault → ℕ

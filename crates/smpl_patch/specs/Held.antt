@@ -8,10 +8,10 @@ use Rattle.smpl_patch.specs.declared.pattern.Spot.{Spot}
 use Rattle.smpl_patch.specs.declared.pattern.Spot.TheVariants as spot
 
 -- whether only some children of a branch with this label are compared
-abbrev pub is_parted : Spot → Label → Bool
-is_parted spot.Whole l = is_head_label l
-is_parted spot.Tail l = true
-is_parted spot.Inside l = false
+abbrev pub is_split_into_nodes : Spot → Label → Bool
+is_split_into_nodes spot.Whole l = is_head_label l
+is_split_into_nodes spot.Tail l = true
+is_split_into_nodes spot.Inside l = false
 
 -- whether child i of n is compared: of a head or of a tail, only their own children are
 abbrev pub is_held : Spot → Label → (n i : ℕ) → Bool
@@ -26,7 +26,7 @@ kept test i (t ∷ ts) = if test i then t ∷ kept test (suc i) ts else kept tes
 
 abbrev pub held_at : Spot → Tree-F Tree → Tree → List Tree
 held_at s (Tree-F.Leaf a) form = form ∷ []
-held_at s (Tree-F.Branch l cs) form = if is_parted s l then kept (is_held s l (length cs)) 0 cs else form ∷ []
+held_at s (Tree-F.Branch l cs) form = if is_split_into_nodes s l then kept (is_held s l (length cs)) 0 cs else form ∷ []
 
 -- the trees of a form that are compared
 abbrev pub held : Spot → Tree → List Tree

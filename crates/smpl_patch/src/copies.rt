@@ -27,7 +27,8 @@ fn copy_tokens(alloc: Global, tokens: &[Token]) -> Result<Items<Token>, NoMemory
     Ok(Items::from_vec(copies))
 }
 
-fn copy_texts(alloc: Global, texts: &[Text]) -> Result<Items<Text>, NoMemory>
+/// Copies texts. Linear. Fails only when out of memory.
+pub fn copy_texts(alloc: Global, texts: &[Text]) -> Result<Items<Text>, NoMemory>
     ensures { IfOk result (λ copies. copies ≡ texts.now) }
 {
     let mut copies = Vec::with_capacity(alloc, texts.len())?;
@@ -37,12 +38,35 @@ fn copy_texts(alloc: Global, texts: &[Text]) -> Result<Items<Text>, NoMemory>
     Ok(Items::from_vec(copies))
 }
 
-fn copy_vars(alloc: Global, vars: &[Var]) -> Result<Items<Var>, NoMemory>
+/// Copies variables. Linear. Fails only when out of memory.
+pub fn copy_vars(alloc: Global, vars: &[Var]) -> Result<Items<Var>, NoMemory>
     ensures { IfOk result (λ copies. copies ≡ vars.now) }
 {
     let mut copies = Vec::with_capacity(alloc, vars.len())?;
     for v in vars {
         copies.push(v.copy(alloc)?)?;
+    }
+    Ok(Items::from_vec(copies))
+}
+
+/// Copies declarations. Linear. Fails only when out of memory.
+pub fn copy_decls(alloc: Global, decls: &[VarDecl]) -> Result<Items<VarDecl>, NoMemory>
+    ensures { IfOk result (λ copies. copies ≡ decls.now) }
+{
+    let mut copies = Vec::with_capacity(alloc, decls.len())?;
+    for d in decls {
+        copies.push(d.copy(alloc)?)?;
+    }
+    Ok(Items::from_vec(copies))
+}
+
+/// Copies what is known of a pattern's tokens. Linear. Fails only when out of memory.
+pub fn copy_pattern_tokens(alloc: Global, tokens: &[PatToken]) -> Result<Items<PatToken>, NoMemory>
+    ensures { IfOk result (λ copies. copies ≡ tokens.now) }
+{
+    let mut copies = Vec::with_capacity(alloc, tokens.len())?;
+    for t in tokens {
+        copies.push(t.copy(alloc)?)?;
     }
     Ok(Items::from_vec(copies))
 }

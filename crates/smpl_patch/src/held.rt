@@ -2,7 +2,7 @@
 ghost use Rattle.std.specs.Prelude.{◌≡◌, ◌&&◌, length};
 ghost use Rattle.std.specs.List.{list_any};
 ghost use Rattle.smpl_patch.specs.Held as parts;
-ghost use Rattle.smpl_patch.specs.Patterns as of;
+ghost use Rattle.smpl_patch.specs.Patterns as spec;
 
 use crate::reading::{stands_in, used_in};
 use crate::sure::is_sure_in;
@@ -21,8 +21,8 @@ pub(crate) enum Question {
     Sure,
 }
 
-fn is_parted(spot: Spot, label: Label) -> bool
-    ensures { result ≡ parts.is_parted spot label }
+pub fn is_split_into_nodes(spot: Spot, label: Label) -> bool
+    ensures { result ≡ parts.is_split_into_nodes spot label }
 {
     match spot {
         Spot::Whole => label.is_head(),
@@ -44,7 +44,7 @@ pub fn is_held(spot: Spot, label: Label, n: usize, i: usize) -> bool
 }
 
 fn answer(question: Question, decls: &[VarDecl], tokens: &[PatToken], x: &Var, tree: &Tree) -> bool
-    ensures { result ≡ of.answer decls.now tokens.now question x.now tree.now }
+    ensures { result ≡ spec.answer decls.now tokens.now question x.now tree.now }
 {
     match question {
         Question::Stands => stands_in(decls, tokens, x, tree),
@@ -61,7 +61,7 @@ fn answer_where(
     x: &Var,
     tree: &Tree,
 ) -> bool
-    ensures { result ≡ (here && of.answer decls.now tokens.now question x.now tree.now) }
+    ensures { result ≡ (here && spec.answer decls.now tokens.now question x.now tree.now) }
 {
     here && answer(question, decls, tokens, x, tree)
 }
@@ -75,7 +75,7 @@ fn kept_answer(
     x: &Var,
     trees: &[Tree],
 ) -> bool
-    ensures { result ≡ list_any (of.answer decls.now tokens.now question x.now) (parts.kept (parts.is_held spot label (length trees.now)) 0 trees.now) }
+    ensures { result ≡ list_any (spec.answer decls.now tokens.now question x.now) (parts.kept (parts.is_held spot label (length trees.now)) 0 trees.now) }
 {
     for i in 0..trees.len() {
         let here = is_held(spot, label, trees.len(), i);
@@ -94,12 +94,12 @@ fn held_answer(
     x: &Var,
     form: &Tree,
 ) -> bool
-    ensures { result ≡ of.held_answer decls.now tokens.now question spot x.now form.now }
+    ensures { result ≡ spec.held_answer decls.now tokens.now question spot x.now form.now }
 {
     match form {
         Tree::Leaf(_) => answer(question, decls, tokens, x, form),
         Tree::Branch(label, children) => {
-            if is_parted(spot, *label) {
+            if is_split_into_nodes(spot, *label) {
                 kept_answer(
                     question,
                     decls,
@@ -123,7 +123,7 @@ fn of_first(
     p: &Pattern,
     x: &Var,
 ) -> bool
-    ensures { result ≡ of.of_first decls.now tokens.now question p.now x.now }
+    ensures { result ≡ spec.of_first decls.now tokens.now question p.now x.now }
 {
     match p.forms.as_slice() {
         [form, ..] => held_answer(question, decls, tokens, p.spot, x, form),
@@ -134,7 +134,7 @@ fn of_first(
 /// Whether the variable appears in the compared parts of the pattern's first form. Takes no memory. Recurses once per
 /// level.
 pub fn stands(decls: &[VarDecl], tokens: &[PatToken], p: &Pattern, x: &Var) -> bool
-    ensures value { result ≡ of.stands decls.now tokens.now p.now x.now }
+    ensures value { result ≡ spec.stands decls.now tokens.now p.now x.now }
 {
     of_first(Question::Stands, decls, tokens, p, x)
 }
@@ -142,7 +142,7 @@ pub fn stands(decls: &[VarDecl], tokens: &[PatToken], p: &Pattern, x: &Var) -> b
 /// Whether the variable appears in the compared parts of the pattern's first form, or in plus code that is anchored there.
 /// Takes no memory. Recurses once per level.
 pub fn used(decls: &[VarDecl], tokens: &[PatToken], p: &Pattern, x: &Var) -> bool
-    ensures value { result ≡ of.used decls.now tokens.now p.now x.now }
+    ensures value { result ≡ spec.used decls.now tokens.now p.now x.now }
 {
     of_first(Question::Used, decls, tokens, p, x)
 }
@@ -150,7 +150,7 @@ pub fn used(decls: &[VarDecl], tokens: &[PatToken], p: &Pattern, x: &Var) -> boo
 /// Whether the variable is a sure variable of the compared parts of the pattern's first form: it has a value wherever they
 /// match. Takes no memory. Recurses once per level.
 pub fn is_sure(decls: &[VarDecl], tokens: &[PatToken], p: &Pattern, x: &Var) -> bool
-    ensures value { result ≡ of.sure decls.now tokens.now p.now x.now }
+    ensures value { result ≡ spec.sure decls.now tokens.now p.now x.now }
 {
     of_first(Question::Sure, decls, tokens, p, x)
 }
@@ -164,7 +164,7 @@ pub fn is_held_sure(
     x: &Var,
     form: &Tree,
 ) -> bool
-    ensures value { result ≡ of.held_sure decls.now tokens.now spot x.now form.now }
+    ensures value { result ≡ spec.held_sure decls.now tokens.now spot x.now form.now }
 {
     held_answer(Question::Sure, decls, tokens, spot, x, form)
 }

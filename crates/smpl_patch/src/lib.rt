@@ -27,12 +27,13 @@ mod rule;
 mod sure;
 mod witness;
 
+pub use copies::{copy_decls, copy_pattern_tokens, copy_texts, copy_vars};
 pub use elem::{Dots, Elem};
 pub use equal::is_equal_pattern;
 pub use fault::{PatchFault, earlier, fault_number, fault_place, first_is_least};
-pub use held::{is_held, is_held_sure, is_sure, stands, used};
+pub use held::{is_held, is_held_sure, is_split_into_nodes, is_sure, stands, used};
 pub use pattern::{Mark, PatToken, Pattern, PlusBlock, PlusLine, Spot, VarDecl, VarKind};
-pub use reading::{declared_as, has_var, is_own, is_statement};
+pub use reading::{declared_as, has_var, is_own, is_statement, is_statement_kind};
 pub use rule::{Dep, Iso, Mode, Patch, Rule};
-pub use sure::is_sure_in;
+pub use sure::{is_sign, is_sign_tree, is_sure_in};
 pub use witness::{RuleWitness, Witness};

@@ -5,14 +5,14 @@ ghost use Rattle.std.specs.Option.{option_copied};
 ghost use Rattle.c_terms.specs.Trees.{leaves};
 ghost use Rattle.c_terms.specs.declared.tree.Tree.{out-Tree};
 ghost use Rattle.smpl_terms.specs.Vars.{same_var};
-ghost use Rattle.smpl_patch.specs.Patterns as of;
+ghost use Rattle.smpl_patch.specs.Patterns as spec;
 
 use crate::{PatToken, Pattern, PlusBlock, PlusLine, VarDecl, VarKind};
 use c_terms::{MetaKind, Token, TokenKind, Tree, same_text};
 use smpl_terms::{Var, same_var};
 
 fn is_position_kind(kind: VarKind) -> bool
-    ensures { result ≡ of.is_position_kind kind }
+    ensures { result ≡ spec.is_position_kind kind }
 {
     match kind {
         VarKind::Position => true,
@@ -23,7 +23,7 @@ fn is_position_kind(kind: VarKind) -> bool
 /// Returns the declaration of the metavariable with this name: the first one of the name that is not a position. Takes no
 /// memory.
 pub fn declared_as<'a>(decls: &'a [VarDecl], name: &[u8]) -> Option<&'a VarDecl>
-    ensures value { option_copied result ≡ of.declared_as decls.now name.now }
+    ensures value { option_copied result ≡ spec.declared_as decls.now name.now }
 {
     for d in decls {
         if !is_position_kind(d.kind) && same_text(d.var.name.as_bytes(), name) {
@@ -46,7 +46,7 @@ pub fn has_var(vars: &[Var], x: &Var) -> bool
 }
 
 fn is_declared_as(decls: &[VarDecl], name: &[u8], x: &Var) -> bool
-    ensures { result ≡ of.is_var_of (of.declared_as decls.now name.now) x.now }
+    ensures { result ≡ spec.is_var_of (spec.declared_as decls.now name.now) x.now }
 {
     match declared_as(decls, name) {
         Some(d) => same_var(&d.var, x),
@@ -57,13 +57,13 @@ fn is_declared_as(decls: &[VarDecl], name: &[u8], x: &Var) -> bool
 /// Whether a metavariable of this name is the variable. Compares the names first, which mostly saves the search of the
 /// declarations.
 fn is_named(decls: &[VarDecl], name: &[u8], x: &Var) -> bool
-    ensures { result ≡ of.is_var_of (of.declared_as decls.now name.now) x.now }
+    ensures { result ≡ spec.is_var_of (spec.declared_as decls.now name.now) x.now }
 {
     same_text(name, x.name.as_bytes()) && is_declared_as(decls, name, x)
 }
 
 fn is_meta_of(decls: &[VarDecl], token: &Token, x: &Var) -> bool
-    ensures { result ≡ of.is_meta_of decls.now token.now token.now.kind x.now }
+    ensures { result ≡ spec.is_meta_of decls.now token.now token.now.kind x.now }
 {
     match token.kind {
         TokenKind::Meta(_) => is_named(decls, token.text.as_bytes(), x),
@@ -72,7 +72,7 @@ fn is_meta_of(decls: &[VarDecl], token: &Token, x: &Var) -> bool
 }
 
 fn is_position_of(tokens: &[PatToken], id: u64, x: &Var) -> bool
-    ensures { result ≡ of.is_position_of (slice_get tokens.now id) x.now }
+    ensures { result ≡ spec.is_position_of (slice_get tokens.now id) x.now }
 {
     match tokens.get(id as usize) {
         Some(p) => has_var(p.positions.as_slice(), x),
@@ -82,14 +82,14 @@ fn is_position_of(tokens: &[PatToken], id: u64, x: &Var) -> bool
 
 /// Whether the variable is the token's, or a position at it. Takes no memory.
 pub fn is_own(decls: &[VarDecl], tokens: &[PatToken], x: &Var, token: &Token) -> bool
-    ensures value { result ≡ of.is_own decls.now tokens.now x.now token.now }
+    ensures value { result ≡ spec.is_own decls.now tokens.now x.now token.now }
 {
     is_meta_of(decls, token, x) || is_position_of(tokens, token.id, x)
 }
 
 /// Whether the variable is that of one of the tree's tokens, or a position at one.
 pub(crate) fn stands_in(decls: &[VarDecl], tokens: &[PatToken], x: &Var, tree: &Tree) -> bool
-    ensures { result ≡ of.stands_in decls.now tokens.now x.now tree.now }
+    ensures { result ≡ spec.stands_in decls.now tokens.now x.now tree.now }
 {
     match tree {
         Tree::Leaf(token) => is_own(decls, tokens, x, token),
@@ -105,7 +105,7 @@ pub(crate) fn stands_in(decls: &[VarDecl], tokens: &[PatToken], x: &Var, tree: &
 }
 
 fn in_line(decls: &[VarDecl], x: &Var, line: &PlusLine) -> bool
-    ensures { result ≡ of.in_line decls.now x.now line.now }
+    ensures { result ≡ spec.in_line decls.now x.now line.now }
 {
     for token in line.tokens.as_slice() {
         if is_meta_of(decls, token, x) {
@@ -116,7 +116,7 @@ fn in_line(decls: &[VarDecl], x: &Var, line: &PlusLine) -> bool
 }
 
 fn in_block(decls: &[VarDecl], x: &Var, block: &Option<PlusBlock>) -> bool
-    ensures { result ≡ of.in_block decls.now x.now block.now }
+    ensures { result ≡ spec.in_block decls.now x.now block.now }
 {
     match block {
         None => false,
@@ -132,7 +132,7 @@ fn in_block(decls: &[VarDecl], x: &Var, block: &Option<PlusBlock>) -> bool
 }
 
 fn in_plus(decls: &[VarDecl], tokens: &[PatToken], id: u64, x: &Var) -> bool
-    ensures { result ≡ of.in_plus decls.now (slice_get tokens.now id) x.now }
+    ensures { result ≡ spec.in_plus decls.now (slice_get tokens.now id) x.now }
 {
     match tokens.get(id as usize) {
         None => false,
@@ -141,14 +141,14 @@ fn in_plus(decls: &[VarDecl], tokens: &[PatToken], id: u64, x: &Var) -> bool
 }
 
 fn is_at(decls: &[VarDecl], tokens: &[PatToken], x: &Var, token: &Token) -> bool
-    ensures { result ≡ (of.is_own decls.now tokens.now x.now token.now || of.in_plus decls.now (slice_get tokens.now token.now.id) x.now) }
+    ensures { result ≡ (spec.is_own decls.now tokens.now x.now token.now || spec.in_plus decls.now (slice_get tokens.now token.now.id) x.now) }
 {
     is_own(decls, tokens, x, token) || in_plus(decls, tokens, token.id, x)
 }
 
 /// Whether the variable is that of one of the tree's tokens, a position at one, or in plus code that is anchored at one.
 pub(crate) fn used_in(decls: &[VarDecl], tokens: &[PatToken], x: &Var, tree: &Tree) -> bool
-    ensures { result ≡ of.used_in decls.now tokens.now x.now tree.now }
+    ensures { result ≡ spec.used_in decls.now tokens.now x.now tree.now }
 {
     match tree {
         Tree::Leaf(token) => is_at(decls, tokens, x, token),
@@ -163,8 +163,8 @@ pub(crate) fn used_in(decls: &[VarDecl], tokens: &[PatToken], x: &Var, tree: &Tr
     }
 }
 
-fn is_statement_kind(kind: TokenKind) -> bool
-    ensures { result ≡ of.is_statement_token kind }
+pub fn is_statement_kind(kind: TokenKind) -> bool
+    ensures { result ≡ spec.is_statement_token kind }
 {
     match kind {
         TokenKind::Meta(MetaKind::Stmt) => true,
@@ -173,7 +173,7 @@ fn is_statement_kind(kind: TokenKind) -> bool
 }
 
 fn is_statement_tree(tree: &Tree) -> bool
-    ensures { result ≡ of.is_statement_tree (out-Tree tree.now) }
+    ensures { result ≡ spec.is_statement_tree (out-Tree tree.now) }
 {
     match tree {
         Tree::Leaf(token) => is_statement_kind(token.kind),
@@ -183,7 +183,7 @@ fn is_statement_tree(tree: &Tree) -> bool
 
 /// Whether the atom is a statement variable. Takes no memory.
 pub fn is_statement(p: &Pattern) -> bool
-    ensures value { result ≡ of.is_statement p.now }
+    ensures value { result ≡ spec.is_statement p.now }
 {
     match p.forms.as_slice() {
         [form, ..] => is_statement_tree(form),

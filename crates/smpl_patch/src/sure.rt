@@ -1,14 +1,14 @@
 // The sure variables of a pattern.
 ghost use Rattle.std.specs.Prelude.{◌≡◌, ◌||◌, map};
 ghost use Rattle.std.specs.List.{list_any, list_all};
-ghost use Rattle.smpl_patch.specs.Patterns as of;
+ghost use Rattle.smpl_patch.specs.Patterns as spec;
 
 use crate::{PatToken, VarDecl, is_own};
 use c_terms::{Shape, TokenKind, Tree};
 use smpl_terms::Var;
 
-fn is_sign(kind: TokenKind) -> bool
-    ensures { result ≡ of.is_sign kind }
+pub fn is_sign(kind: TokenKind) -> bool
+    ensures { result ≡ spec.is_sign kind }
 {
     match kind {
         TokenKind::Pat => true,
@@ -16,8 +16,8 @@ fn is_sign(kind: TokenKind) -> bool
     }
 }
 
-fn is_sign_tree(tree: &Tree) -> bool
-    ensures { result ≡ of.is_sign_tree tree.now }
+pub fn is_sign_tree(tree: &Tree) -> bool
+    ensures { result ≡ spec.is_sign_tree tree.now }
 {
     match tree {
         Tree::Leaf(token) => is_sign(token.kind),
@@ -27,7 +27,7 @@ fn is_sign_tree(tree: &Tree) -> bool
 
 #[cycle(sure)]
 fn in_every(decls: &[VarDecl], tokens: &[PatToken], x: &Var, trees: &[Tree]) -> bool
-    ensures { result ≡ list_all (λ t. of.is_sign_tree t || of.is_sure decls.now tokens.now x.now t) trees.now }
+    ensures { result ≡ list_all (λ t. spec.is_sign_tree t || spec.is_sure decls.now tokens.now x.now t) trees.now }
 {
     for tree in trees {
         if !is_sign_tree(tree) && !is_sure_in(decls, tokens, x, tree) {
@@ -39,7 +39,7 @@ fn in_every(decls: &[VarDecl], tokens: &[PatToken], x: &Var, trees: &[Tree]) -> 
 
 #[cycle(sure)]
 fn in_some(decls: &[VarDecl], tokens: &[PatToken], x: &Var, trees: &[Tree]) -> bool
-    ensures { result ≡ list_any (λ t. of.is_sure decls.now tokens.now x.now t) trees.now }
+    ensures { result ≡ list_any (λ t. spec.is_sure decls.now tokens.now x.now t) trees.now }
 {
     for tree in trees {
         if is_sure_in(decls, tokens, x, tree) {
@@ -52,7 +52,7 @@ fn in_some(decls: &[VarDecl], tokens: &[PatToken], x: &Var, trees: &[Tree]) -> b
 /// Whether the variable is a sure variable of the form. Takes no memory. Recurses once per level.
 #[cycle(sure)]
 pub fn is_sure_in(decls: &[VarDecl], tokens: &[PatToken], x: &Var, tree: &Tree) -> bool
-    ensures { result ≡ of.is_sure decls.now tokens.now x.now tree.now }
+    ensures { result ≡ spec.is_sure decls.now tokens.now x.now tree.now }
 {
     match tree {
         Tree::Leaf(token) => is_own(decls, tokens, x, token),

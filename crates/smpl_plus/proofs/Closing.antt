@@ -1,5 +1,6 @@
 -- Blocks that are opened and closed.
-use Rattle.std.proofs.Common.{◌≡◌, ℕ, zero, suc, ◌<◌, ◌≤◌, ◌==◌, Bool, true, false, if◌then◌else◌, List, [], ◌∷◌, ◌++◌, map, length, Option, Some, None, is_some, refl, sym, ap, ◌∙◌, subst, append_assoc, arith, set, get_or}
+use Rattle.std.proofs.Common.{◌≡◌, ℕ, zero, suc, ◌<◌, ◌≤◌, ◌==◌, Bool, true, false, if◌then◌else◌, List, [], ◌∷◌, ◌++◌, map}
+use Rattle.std.proofs.Common.{length, Option, Some, None, is_some, refl, sym, ap, ◌∙◌, subst, append_assoc, arith, set, get_or}
 use Rattle.std.proofs.lemmas.List.{append-nil, length-append}
 use Rattle.std.proofs.lemmas.Bool.{eq-eqb}
 use Rattle.std.proofs.lemmas.Bool.Decides.{nat_tests}
@@ -16,8 +17,10 @@ use Rattle.smpl_plus.specs.declared.anchors.Anchor.{Anchor}
 use Rattle.smpl_plus.specs.declared.anchors.OpenBlock.{OpenBlock}
 use Rattle.smpl_plus.specs.declared.anchors.Anchoring.{Anchoring}
 use Rattle.smpl_plus.specs.Outside.{may_anchor}
-use Rattle.smpl_plus.specs.Blocks.{Block, Blocks, ended, all_blocks, has_tokens, put_line, with_plus, is_many, IsPlusLine, ArePlusLines, IsPlusBlock, ArePlusBlocks}
-use Rattle.smpl_plus.specs.Anchors.{tokens_before, place_of_block, anchor_at, anchor_of, no_anchor, differ, other_in, mixed_at, block_faults, anchor_faults, bare, changed, with_block, with_blocks}
+use Rattle.smpl_plus.specs.Blocks.{Block, Blocks, ended, all_blocks, has_tokens, put_line, with_plus, is_many, IsPlusLine}
+use Rattle.smpl_plus.specs.Blocks.{ArePlusLines, IsPlusBlock, ArePlusBlocks}
+use Rattle.smpl_plus.specs.Anchors.{tokens_before, place_of_block, anchor_at, anchor_of, no_anchor, differ, other_in, mixed_at}
+use Rattle.smpl_plus.specs.Anchors.{block_faults, anchor_faults, bare, changed, with_block, with_blocks}
 use Rattle.smpl_plus.specs.SoFar.{IsKept, IsOpen, SoFar}
 
 -- a changed item at a place
@@ -71,7 +74,8 @@ abbrev pub closed_blocks : Blocks → Blocks
 closed_blocks b = record { whole = all_blocks b; last = None }
 
 none_by : (vars : List VarDecl) (ps : List Placed) (b : Blocks) (a r : Anchoring) (last : Option Block) → b.last ≡ last
-    → IsOpen vars ps last None → r.tokens.items ≡ a.tokens.items → r.first ≡ a.first → r.pending ≡ None → (s : SoFar vars ps b a) → SoFar vars ps (closed_blocks b) r
+    → IsOpen vars ps last None → r.tokens.items ≡ a.tokens.items → r.first ≡ a.first → r.pending ≡ None
+    → (s : SoFar vars ps b a) → SoFar vars ps (closed_blocks b) r
 none_by vars ps b a r (Some x) e kept tokens first closed s = absurd kept
 none_by vars ps b a r None e kept tokens first closed s =
     let same : b.whole ≡ all_blocks b = sym (append-nil b.whole) ∙ ap (λ (o : Option Block). b.whole ++ ended o) (sym e) in
@@ -83,11 +87,13 @@ none_by vars ps b a r None e kept tokens first closed s =
       last = subst (IsOpen vars ps None) (sym closed) tt;
     }
 
-pub close-none : (vars : List VarDecl) (ps : List Placed) (b : Blocks) (a r : Anchoring) → a.pending ≡ None → r.tokens.items ≡ a.tokens.items → r.first ≡ a.first
+pub close-none : (vars : List VarDecl) (ps : List Placed) (b : Blocks) (a r : Anchoring) → a.pending ≡ None
+    → r.tokens.items ≡ a.tokens.items → r.first ≡ a.first
     → r.pending ≡ None → SoFar vars ps b a → SoFar vars ps (closed_blocks b) r
 close-none vars ps b a r none tokens first closed s = none_by vars ps b a r b.last refl (subst (IsOpen vars ps b.last) none s.last) tokens first closed s
 
-some_by : (vars : List VarDecl) (ps : List Placed) (may : List Bool) (b : Blocks) (a r : Anchoring) (o : OpenBlock) (anchor : Option Anchor) (c : PlusBlock) (last : Option Block) → b.last ≡ last
+some_by : (vars : List VarDecl) (ps : List Placed) (may : List Bool) (b : Blocks) (a r : Anchoring) (o : OpenBlock)
+    (anchor : Option Anchor) (c : PlusBlock) (last : Option Block) → b.last ≡ last
     → may ≡ may_anchor ps → IsOpen vars ps last (Some o) → anchor ≡ anchor_at may o.before → c ≡ block_of o
     → r.tokens.items ≡ with_block a.tokens.items anchor c
     → r.first ≡ first_from (first_from a.first (no_anchor anchor o.at)) (mixed_at o.other) → r.pending ≡ None
@@ -114,7 +120,8 @@ some_by vars ps may b a r o anchor c (Some x) e m kept an cl tokens first closed
       last = subst (IsOpen vars ps None) (sym closed) tt;
     }
 
-pub close-some : (vars : List VarDecl) (ps : List Placed) (may : List Bool) (b : Blocks) (a r : Anchoring) (o : OpenBlock) (anchor : Option Anchor) (c : PlusBlock)
+pub close-some : (vars : List VarDecl) (ps : List Placed) (may : List Bool) (b : Blocks) (a r : Anchoring) (o : OpenBlock)
+    (anchor : Option Anchor) (c : PlusBlock)
     → a.pending ≡ Some o → may ≡ may_anchor ps → anchor ≡ anchor_at may o.before → c ≡ block_of o
     → r.tokens.items ≡ with_block a.tokens.items anchor c
     → r.first ≡ first_from (first_from a.first (no_anchor anchor o.at)) (mixed_at o.other) → r.pending ≡ None
@@ -160,7 +167,8 @@ none-other : (l : BodyLine) → other_in l.many (l ∷ []) ≡ None
 none-other l = ap (λ (t : Bool). if t then Some l.start else None) (same-kind l.many)
 
 pub open-new : (vars : List VarDecl) (ps : List Placed) (b : Option Block) (n : ℕ) (l : BodyLine) (q : PlusLine) (o : OpenBlock)
-    → IsOpen vars ps b None → o.before ≡ tokens_before n ps → o.at ≡ l.start → o.many ≡ l.many → o.other ≡ None → o.lines ≡ q ∷ [] → IsPlusLine vars l q → IsOpen vars ps (Some (with_plus b n l)) (Some o)
+    → IsOpen vars ps b None → o.before ≡ tokens_before n ps → o.at ≡ l.start → o.many ≡ l.many → o.other ≡ None
+    → o.lines ≡ q ∷ [] → IsPlusLine vars l q → IsOpen vars ps (Some (with_plus b n l)) (Some o)
 open-new vars ps (Some x) n l q o kept before at many other lines is = absurd kept
 open-new vars ps None n l q o kept before at many other lines is = record {
   some = omega arith;
@@ -172,7 +180,8 @@ open-new vars ps None n l q o kept before at many other lines is = record {
 }
 
 pub open-more : (vars : List VarDecl) (ps : List Placed) (b : Option Block) (n : ℕ) (l : BodyLine) (q : PlusLine) (old o : OpenBlock)
-    → IsOpen vars ps b (Some old) → o.before ≡ old.before → o.at ≡ old.at → o.many ≡ old.many → o.other ≡ other-with old.other old.many l → o.lines ≡ old.lines ++ q ∷ [] → IsPlusLine vars l q → IsOpen vars ps (Some (with_plus b n l)) (Some o)
+    → IsOpen vars ps b (Some old) → o.before ≡ old.before → o.at ≡ old.at → o.many ≡ old.many
+    → o.other ≡ other-with old.other old.many l → o.lines ≡ old.lines ++ q ∷ [] → IsPlusLine vars l q → IsOpen vars ps (Some (with_plus b n l)) (Some o)
 open-more vars ps None n l q old o kept before at many other lines is = absurd kept
 open-more vars ps (Some x) n l q old o kept before at many other lines is = record {
   some = omega (arith, length-append x.lines (l ∷ []));
@@ -189,14 +198,18 @@ open-more vars ps (Some x) n l q old o kept before at many other lines is = reco
 eqb_no : (a b : ℕ) → (a ≡ b → ⊥) → (a == b) ≡ false
 eqb_no a b h = grind (arith, nat_tests)
 
-plus_is : (ps : List Placed) (n : ℕ) (b : Blocks) (l : BodyLine) → l.sign ≡ 43 → record { whole = b.whole; last = Some (with_plus b.last n l) } ≡ put_line ps n b l
+plus_is : (ps : List Placed) (n : ℕ) (b : Blocks) (l : BodyLine) → l.sign ≡ 43
+    → record { whole = b.whole; last = Some (with_plus b.last n l) } ≡ put_line ps n b l
 plus_is ps n b l e =
-    sym (ap (λ (t : Bool). if t then record { whole = b.whole; last = Some (with_plus b.last n l) } else (if has_tokens ps n then record { whole = all_blocks b; last = None } else b)) (eq-eqb l.sign 43 e))
+    sym (ap (λ (t : Bool). if t then record { whole = b.whole; last = Some (with_plus b.last n l) } else
+    (if has_tokens ps n then record { whole = all_blocks b; last = None } else b)) (eq-eqb l.sign 43 e))
 
-other_is : (ps : List Placed) (n : ℕ) (b : Blocks) (l : BodyLine) (t : Bool) → (l.sign ≡ 43 → ⊥) → has_tokens ps n ≡ t → (if t then record { whole = all_blocks b; last = None } else b) ≡ put_line ps n b l
+other_is : (ps : List Placed) (n : ℕ) (b : Blocks) (l : BodyLine) (t : Bool) → (l.sign ≡ 43 → ⊥) → has_tokens ps n ≡ t
+    → (if t then record { whole = all_blocks b; last = None } else b) ≡ put_line ps n b l
 other_is ps n b l t e has =
     ap (λ (t : Bool). if t then record { whole = all_blocks b; last = None } else b) (sym has)
-    ∙ sym (ap (λ (t : Bool). if t then record { whole = b.whole; last = Some (with_plus b.last n l) } else (if has_tokens ps n then record { whole = all_blocks b; last = None } else b)) (eqb_no l.sign 43 e))
+    ∙ sym (ap (λ (t : Bool). if t then record { whole = b.whole; last = Some (with_plus b.last n l) } else
+    (if has_tokens ps n then record { whole = all_blocks b; last = None } else b)) (eqb_no l.sign 43 e))
 
 pub plus-line : (vars : List VarDecl) (ps : List Placed) (b : Blocks) (a r : Anchoring) (n : ℕ) (l : BodyLine) (o : OpenBlock) → l.sign ≡ 43
     → r.tokens.items ≡ a.tokens.items → r.first ≡ a.first → r.pending ≡ Some o → IsOpen vars ps (Some (with_plus b.last n l)) (Some o)

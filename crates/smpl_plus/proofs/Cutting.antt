@@ -17,7 +17,8 @@ leads_first bytes = record {
   leads = λ ps joins cut. record { pieces = ps; joins = joins; cut = cut; are = refl };
 }
 
-pub leads_more : (bytes : List ℕ) (start : ℕ) (gaps : List (List ℕ)) (blank : List ℕ) (k : Kind) (len : ℕ) (text : List ℕ) (more_gaps : List (List ℕ)) (more_blank : List ℕ)
+pub leads_more : (bytes : List ℕ) (start : ℕ) (gaps : List (List ℕ)) (blank : List ℕ) (k : Kind) (len : ℕ) (text : List ℕ)
+    (more_gaps : List (List ℕ)) (more_blank : List ℕ)
     → Leads bytes start gaps blank → len ≤ length (drop start bytes) → text ≡ take len (drop start bytes)
     → IsFirst k (take len (drop start bytes)) (drop len (drop start bytes))
     → ((more : List ℕ → List (List ℕ)) → gaps ++ gaps_by k text blank more ≡ more_gaps ++ more more_blank)
@@ -35,7 +36,8 @@ leads_more bytes start gaps blank k len text more_gaps more_blank l within is pi
           record { pieces = done.pieces; joins = done.joins; cut = done.cut; are = sym (more (λ b. gaps_from b ps)) ∙ done.are };
     }
 
-pub leads_last : (bytes : List ℕ) (start : ℕ) (gaps : List (List ℕ)) (blank : List ℕ) → Leads bytes start gaps blank → drop start bytes ≡ [] → AreGaps bytes gaps
+pub leads_last : (bytes : List ℕ) (start : ℕ) (gaps : List (List ℕ)) (blank : List ℕ) → Leads bytes start gaps blank
+    → drop start bytes ≡ [] → AreGaps bytes gaps
 leads_last bytes start gaps blank l none =
     let done = l.leads [] (sym none) tt in
     record { pieces = done.pieces; joins = done.joins; cut = done.cut; are = sym (append-nil gaps) ∙ done.are }
@@ -43,7 +45,8 @@ leads_last bytes start gaps blank l none =
 -- ---- the first blanks are no longer than the text
 
 gaps_short : (k : Kind) (text blank : List ℕ) (ps : List Piece) → lead_of (gaps_from (blank ++ text) ps) ≤ length (blank ++ text) + length (joined ps)
-    → lead_of (gaps_from blank ps) ≤ length blank + length (joined ps) → lead_of (gaps_by k text blank (λ b. gaps_from b ps)) ≤ length blank + length (text ++ joined ps)
+    → lead_of (gaps_from blank ps) ≤ length blank + length (joined ps)
+    → lead_of (gaps_by k text blank (λ b. gaps_from b ps)) ≤ length blank + length (text ++ joined ps)
 gaps_short kind.Blank text blank ps more same = omega (arith, more, length-append blank text, length-append text (joined ps))
 gaps_short kind.Comment text blank ps more same = omega (arith, same, length-append text (joined ps))
 gaps_short kind.Line text blank ps more same = omega (arith, same, length-append text (joined ps))

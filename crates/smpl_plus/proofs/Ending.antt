@@ -16,7 +16,8 @@ use Rattle.smpl_plus.specs.Anchors.{has_star, anchor_faults, first_phase, plus_f
 use Rattle.smpl_plus.specs.SoFar.{SoFar}
 
 -- one more line
-lines-push : (ps : List Placed) (line : ℕ) (b : Blocks) (ls : List BodyLine) (l : BodyLine) → put_lines ps line b (ls ++ l ∷ []) ≡ put_line ps (line + length ls) (put_lines ps line b ls) l
+lines-push : (ps : List Placed) (line : ℕ) (b : Blocks) (ls : List BodyLine) (l : BodyLine)
+    → put_lines ps line b (ls ++ l ∷ []) ≡ put_line ps (line + length ls) (put_lines ps line b ls) l
 lines-push ps line b [] l = ap (λ (n : ℕ). put_line ps n b l) (omega arith)
 lines-push ps line b (k ∷ ls) l =
     lines-push ps (suc line) (put_line ps line b k) ls l
@@ -28,7 +29,8 @@ lines-more ps body i k l same within is =
     let longer : take (i + 1) body ≡ take i body ++ l ∷ [] = take_more body i l within ∙ ap (λ (y : BodyLine). take i body ++ y ∷ []) (sym is) in
     let n : 0 + length (take i body) ≡ i = omega (arith, length-take-le i body (omega arith)) in
     ap (λ (j : ℕ). put_line ps j (put_lines ps 0 no_blocks (take i body)) l) same
-    ∙ sym (ap (put_lines ps 0 no_blocks) longer ∙ lines-push ps 0 no_blocks (take i body) l ∙ ap (λ (k : ℕ). put_line ps k (put_lines ps 0 no_blocks (take i body)) l) n)
+    ∙ sym (ap (put_lines ps 0 no_blocks) longer ∙ lines-push ps 0 no_blocks (take i body) l
+    ∙ ap (λ (k : ℕ). put_line ps k (put_lines ps 0 no_blocks (take i body)) l) n)
 
 -- ---- faults by phases
 

@@ -43,7 +43,8 @@ empty_of_another_kind : first_phase (plus_faults [] 0 (call 32 6 ∷ line false 
 empty_of_another_kind = refl
 
 -- a blank line does not split a block
-behind_a_blank_line : first_phase (plus_faults [] 0 (call 32 6 ∷ line true 13 (codes " b();") ∷ blank 21 ∷ line false 22 (codes " c();") ∷ [])) ≡ Some (PlusWithoutAnchor 22)
+behind_a_blank_line : first_phase (plus_faults [] 0
+    (call 32 6 ∷ line true 13 (codes " b();") ∷ blank 21 ∷ line false 22 (codes " c();") ∷ [])) ≡ Some (PlusWithoutAnchor 22)
 behind_a_blank_line = refl
 
 -- without an anchor, the block's first line counts

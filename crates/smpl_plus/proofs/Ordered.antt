@@ -1,5 +1,6 @@
 -- The tokens of patterns are in the order of their lines.
-use Rattle.std.proofs.Common.{◌≡◌, ℕ, suc, ◌+◌, ◌<◌, ◌≤◌, ◌||◌, ◌==◌, Bool, true, false, if◌then◌else◌, List, [], ◌∷◌, ◌++◌, length, take, drop, Option, Some, None, refl, sym, ap, ◌∙◌, subst, arith, nat_lt}
+use Rattle.std.proofs.Common.{◌≡◌, ℕ, suc, ◌+◌, ◌<◌, ◌≤◌, ◌||◌, ◌==◌, Bool, true, false, if◌then◌else◌, List, [], ◌∷◌, ◌++◌}
+use Rattle.std.proofs.Common.{length, take, drop, Option, Some, None, refl, sym, ap, ◌∙◌, subst, arith, nat_lt}
 use Rattle.std.proofs.lemmas.List.{take-append-drop, length-take-le, length-drop, drop-drop}
 use Rattle.std.proofs.Math.Seq.{take-append-add}
 use Rattle.std.proofs.lemmas.Bool.{eqb-true}
@@ -55,7 +56,11 @@ module _ (vars : List VarDecl) (sign line : ℕ) where
   two_by : (out : List Placed) (t n : PatchToken) (ts : List PatchToken) (o : Option Variable)
       → ((v : Variable) → InOrder line (put_tokens vars sign line (with_position v out) ts))
       → InOrder line (put_tokens vars sign line (put vars sign line out t) (n ∷ ts))
-      → InOrder line (elim o as (λ o. List Placed) [ Some v ↦ put_tokens vars sign line (with_position v out) ts | None ↦ put_tokens vars sign line (put vars sign line out t) (n ∷ ts) ])
+      → InOrder line (elim o as (λ o. List Placed) [
+        | Some v ↦ put_tokens vars sign line (with_position v out) ts
+        | None ↦
+            put_tokens vars sign line (put vars sign line out t) (n ∷ ts)
+      ])
   two_by out t n ts (Some v) some none = some v
   two_by out t n ts None some none = none
 
@@ -75,7 +80,8 @@ order-lines vars line out [] o = o.rising
 order-lines vars line out (l ∷ ls) o =
     let next : InOrder line (put_line vars line out l) =
     order-if (l.sign == 43) line out (put_tokens vars l.sign line out l.tokens) o (order-tokens vars l.sign line out l.tokens o) in
-    order-lines vars (suc line) (put_line vars line out l) ls (record { rising = next.rising; below = below-more (suc line) (put_line vars line out l) next.below })
+    order-lines vars (suc line) (put_line vars line out l) ls
+    (record { rising = next.rising; below = below-more (suc line) (put_line vars line out l) next.below })
 
 pub pattern-tokens-rise : (vars : List VarDecl) (body : List BodyLine) → RisingFrom 0 (pattern_tokens vars body)
 pattern-tokens-rise vars body = order-lines vars 0 [] body (record { rising = tt; below = tt })
@@ -130,11 +136,13 @@ run_by : (line : ℕ) (p : Placed) (ps : List Placed) (b : Bool) → (p.line == 
     → (n ≤ length (p ∷ ps)) × AllBelow (suc line) (take n (p ∷ ps)) × RisingFrom (suc line) (drop n (p ∷ ps)) × ((b || has_tokens ps line) ≡ nat_lt 0 n)
 run_by line p ps true e low r run n is =
     let here : p.line ≡ line = eqb-true p.line line e in
-    subst (λ (k : ℕ). (k ≤ length (p ∷ ps)) × AllBelow (suc line) (take k (p ∷ ps)) × RisingFrom (suc line) (drop k (p ∷ ps)) × ((true || has_tokens ps line) ≡ nat_lt 0 k)) (sym is)
+    subst (λ (k : ℕ). (k ≤ length (p ∷ ps)) × AllBelow (suc line) (take k (p ∷ ps)) × RisingFrom (suc line) (drop k (p ∷ ps))
+    × ((true || has_tokens ps line) ≡ nat_lt 0 k)) (sym is)
     (omega (arith, run.within), (omega arith, run.front), run.back, sym (less_yes 0 (suc (run_length line ps)) (omega arith)))
 run_by line p ps false e low r run n is =
     let above : line < p.line = grind (arith, nat_tests) in
-    subst (λ (k : ℕ). (k ≤ length (p ∷ ps)) × AllBelow (suc line) (take k (p ∷ ps)) × RisingFrom (suc line) (drop k (p ∷ ps)) × ((false || has_tokens ps line) ≡ nat_lt 0 k)) (sym is)
+    subst (λ (k : ℕ). (k ≤ length (p ∷ ps)) × AllBelow (suc line) (take k (p ∷ ps)) × RisingFrom (suc line) (drop k (p ∷ ps))
+    × ((false || has_tokens ps line) ≡ nat_lt 0 k)) (sym is)
     (omega arith, tt, (omega (arith, above), r), any-above line p.line ps r above)
 
 pub run-of : (line m : ℕ) (ps : List Placed) → RisingFrom m ps → line ≤ m → Run line ps

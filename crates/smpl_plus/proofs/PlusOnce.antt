@@ -76,7 +76,9 @@ pub tokens_once : (vars : List VarDecl) (rule : ℕ) (body : List BodyLine) (one
     → AreAnchored vars rule body one → AreAnchored vars rule body other → one ≡ other
 tokens_once vars rule body one other a b =
     let ps = pattern_tokens vars body in
-    a.are ∙ (ap (with_blocks (pattern_tokens vars body) (map bare (pattern_tokens vars body)) (blocks_of (pattern_tokens vars body) body)) (blocks_once vars (blocks_of (pattern_tokens vars body) body) a.blocks b.blocks a.lines b.lines) ∙ sym b.are)
+    a.are ∙ (ap (with_blocks (pattern_tokens vars body) (map bare (pattern_tokens vars body))
+    (blocks_of (pattern_tokens vars body) body))
+    (blocks_once vars (blocks_of (pattern_tokens vars body) body) a.blocks b.blocks a.lines b.lines) ∙ sym b.are)
 
 pub tokens_or_fault : (vars : List VarDecl) (rule : ℕ) (body : List BodyLine) (tokens : List PatToken) (f : PatchFault)
     → AreAnchored vars rule body tokens → first_phase (plus_faults vars rule body) ≡ Some f → ⊥

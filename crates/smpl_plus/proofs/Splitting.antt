@@ -54,12 +54,15 @@ either_by false false false s x y z w p t u v one two three four = four
 
 when-host : (host line : ℕ) (s : Split) (p : Placed) → Alike s (split.when_by host line s p) p (behind_when line p)
 when-host host line s p =
-    pick (not (p.line == line)) s _ _ p _ _ (beside s (split.to_clauses s host split.Broken) _ p _ refl (after-host host (split.to_clauses s host split.Broken) p))
+    pick (not (p.line == line)) s _ _ p _ _ (beside s (split.to_clauses s host split.Broken) _ p _ refl
+    (after-host host (split.to_clauses s host split.Broken) p))
     (either_by (is_word (codes "any") p) (is_word (codes "strict") p) (is_differs p) s _ _ _ _ p _ _ _
-    (kept s _ p After refl refl) (kept s _ p After refl refl) (kept s _ p (Code line) refl refl) (beside s (split.to_clauses s host split.Broken) _ p _ refl (after-host host (split.to_clauses s host split.Broken) p)))
+    (kept s _ p After refl refl) (kept s _ p After refl refl) (kept s _ p (Code line) refl refl)
+    (beside s (split.to_clauses s host split.Broken) _ p _ refl (after-host host (split.to_clauses s host split.Broken) p)))
 
 code-host : (host line : ℕ) (code : List Placed) (s : Split) (p : Placed) → Alike s (split.code_by host line code s p) p (in_code line p)
-code-host host line code s p = pick (p.line == line) s _ _ p _ _ (kept s _ p (Code line) refl refl) (beside s (split.to_clauses s host (split.Not code)) _ p _ refl (after-host host (split.to_clauses s host (split.Not code)) p))
+code-host host line code s p = pick (p.line == line) s _ _ p _ _ (kept s _ p (Code line) refl refl)
+    (beside s (split.to_clauses s host (split.Not code)) _ p _ refl (after-host host (split.to_clauses s host (split.Not code)) p))
 
 one : (w : split.Where) (s : Split) (p : Placed) → Alike s (split_by w s p) p (stand (place_of w) p)
 one split.Free s p = to-main s p

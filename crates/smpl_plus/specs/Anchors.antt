@@ -1,5 +1,6 @@
 -- Where plus code is anchored, and what belongs to each token of a pattern.
-use Rattle.std.specs.Prelude.{ℕ, zero, suc, ◌-◌, ◌≡◌, ◌==◌, ◌&&◌, not, nat_lt, Bool, true, false, if◌then◌else◌, List, [], ◌∷◌, ◌++◌, map, length, Option, Some, None, slice_index_or, All, ◌<◌, ◌^◌}
+use Rattle.std.specs.Prelude.{ℕ, zero, suc, ◌-◌, ◌≡◌, ◌==◌, ◌&&◌, not, nat_lt, Bool, true, false, if◌then◌else◌, List, [], ◌∷◌}
+use Rattle.std.specs.Prelude.{◌++◌, map, length, Option, Some, None, slice_index_or, All, ◌<◌, ◌^◌}
 use Rattle.smpl_patch.specs.declared.pattern.VarDecl.{VarDecl}
 use Rattle.smpl_patch.specs.declared.pattern.Mark.{Mark}
 use Rattle.smpl_patch.specs.declared.pattern.Mark.TheVariants as mark

@@ -7,7 +7,7 @@ ghost use Rattle.smpl_meta.specs.declared.patterns.Placed.{Placed as Word};
 ghost use Rattle.smpl_plus.specs.Outside.{may_anchor as may_of};
 ghost use Rattle.smpl_plus.specs.Blocks as blocks;
 ghost use Rattle.smpl_plus.specs.Blocks.{Block, Blocks, IsPlusLine};
-ghost use Rattle.smpl_plus.specs.Anchors as told;
+ghost use Rattle.smpl_plus.specs.Anchors as spec;
 ghost use Rattle.smpl_plus.specs.SoFar.{SoFar, IsOpen, AtLine, RisingFrom, run_length};
 
 use crate::lines::plus_line;
@@ -49,7 +49,7 @@ pub struct Anchoring {
 }
 
 fn mark_of(sign: u8) -> Mark
-    ensures { result ≡ told.mark_of sign }
+    ensures { result ≡ spec.mark_of sign }
 {
     if sign == b'-' {
         Mark::Minus
@@ -71,7 +71,7 @@ fn copied(alloc: Global, vars: &[Var]) -> Result<Items<Var>, NoMemory>
 }
 
 fn bare(alloc: Global, p: &Placed) -> Result<PatToken, NoMemory>
-    ensures { IfOk result (λ t. t ≡ told.bare p.now) }
+    ensures { IfOk result (λ t. t ≡ spec.bare p.now) }
 {
     Ok(PatToken {
         mark: mark_of(p.sign),
@@ -83,7 +83,7 @@ fn bare(alloc: Global, p: &Placed) -> Result<PatToken, NoMemory>
 
 /// Returns the tokens without plus code.
 pub fn bare_tokens(alloc: Global, placed: &[Placed]) -> Result<Vec<PatToken>, NoMemory>
-    ensures { IfOk result (λ out. out.items ≡ map told.bare placed.now) }
+    ensures { IfOk result (λ out. out.items ≡ map spec.bare placed.now) }
 {
     let mut tokens = Vec::new(alloc);
     for p in placed {
@@ -93,7 +93,7 @@ pub fn bare_tokens(alloc: Global, placed: &[Placed]) -> Result<Vec<PatToken>, No
 }
 
 fn anchor_before(may: &[bool], n: usize) -> Option<Anchor>
-    ensures { result ≡ told.anchor_before may.now n }
+    ensures { result ≡ spec.anchor_before may.now n }
 {
     if n < may.len() && may[n] {
         Some(Anchor::Before(n))
@@ -104,7 +104,7 @@ fn anchor_before(may: &[bool], n: usize) -> Option<Anchor>
 
 /// Returns the anchor of code that comes after n tokens: after the last of them, or else before the next one.
 fn anchor_at(may: &[bool], n: usize) -> Option<Anchor>
-    ensures { result ≡ told.anchor_at may.now n }
+    ensures { result ≡ spec.anchor_at may.now n }
 {
     if n > 0 && n <= may.len() && may[n - 1] {
         Some(Anchor::After(n - 1))
@@ -115,7 +115,7 @@ fn anchor_at(may: &[bool], n: usize) -> Option<Anchor>
 
 /// Puts the block before the token with this number.
 fn with_before(tokens: Vec<PatToken>, n: usize, block: PlusBlock) -> Vec<PatToken>
-    ensures { result.items ≡ told.changed (told.with_before block) n tokens.items }
+    ensures { result.items ≡ spec.changed (spec.with_before block) n tokens.items }
 {
     if n >= tokens.len() {
         return tokens;
@@ -128,7 +128,7 @@ fn with_before(tokens: Vec<PatToken>, n: usize, block: PlusBlock) -> Vec<PatToke
 
 /// Puts the block after the token with this number.
 fn with_after(tokens: Vec<PatToken>, n: usize, block: PlusBlock) -> Vec<PatToken>
-    ensures { result.items ≡ told.changed (told.with_after block) n tokens.items }
+    ensures { result.items ≡ spec.changed (spec.with_after block) n tokens.items }
 {
     if n >= tokens.len() {
         return tokens;
@@ -141,7 +141,7 @@ fn with_after(tokens: Vec<PatToken>, n: usize, block: PlusBlock) -> Vec<PatToken
 
 /// Puts the block at its anchor.
 fn with_block(tokens: Vec<PatToken>, anchor: Option<Anchor>, block: PlusBlock) -> Vec<PatToken>
-    ensures { result.items ≡ told.with_block tokens.items anchor block }
+    ensures { result.items ≡ spec.with_block tokens.items anchor block }
 {
     match anchor {
         None => tokens,
@@ -151,7 +151,7 @@ fn with_block(tokens: Vec<PatToken>, anchor: Option<Anchor>, block: PlusBlock) -
 }
 
 fn with_fault(first: Option<PatchFault>, anchor: Option<Anchor>, at: u32) -> Option<PatchFault>
-    ensures { result ≡ first_from first (told.no_anchor anchor at) }
+    ensures { result ≡ first_from first (spec.no_anchor anchor at) }
 {
     match anchor {
         None => Some(earlier(first, PatchFault::PlusWithoutAnchor(at))),
@@ -160,7 +160,7 @@ fn with_fault(first: Option<PatchFault>, anchor: Option<Anchor>, at: u32) -> Opt
 }
 
 fn with_other(first: Option<PatchFault>, other: Option<u32>) -> Option<PatchFault>
-    ensures { result ≡ first_from first (told.mixed_at other) }
+    ensures { result ≡ first_from first (spec.mixed_at other) }
 {
     match other {
         None => first,
@@ -205,14 +205,14 @@ pub fn closed(may: &[bool], s: Anchoring) -> Anchoring
 
 /// Whether one of two lines begins with `+` alone, and the other with `++`.
 fn differ(many: bool, other: bool) -> bool
-    ensures { result ≡ told.differ many other }
+    ensures { result ≡ spec.differ many other }
 {
     if many { !other } else { other }
 }
 
 /// Returns where the first line of the other kind begins, one more line included.
 fn first_other(other: Option<u32>, many: bool, l: &BodyLine) -> Option<u32>
-    ensures { result ≡ (if is_some other then other else told.other_in many (l.now ∷ [])) }
+    ensures { result ≡ (if is_some other then other else spec.other_in many (l.now ∷ [])) }
 {
     if other.is_some() {
         other
@@ -232,7 +232,7 @@ fn with_plus(
     line: PlusLine,
 ) -> Result<OpenBlock, NoMemory>
     ensures { IfOk result (λ o. (vars : List Variable) (ps : List Word) (b : Option Block) (n : ℕ) →
-        IsOpen vars ps b pending → before ≡ told.tokens_before n ps →
+        IsOpen vars ps b pending → before ≡ spec.tokens_before n ps →
         IsPlusLine vars l.now line → IsOpen vars ps (Some (blocks.with_plus b n l.now)) (Some o)) }
 {
     match pending {

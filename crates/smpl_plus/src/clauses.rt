@@ -1,7 +1,7 @@
 // The tokens in `when` clauses.
 ghost use Rattle.std.specs.Prelude.{◌≡◌, IfOk};
 ghost use Rattle.smpl_meta.specs.Patterns as patterns;
-ghost use Rattle.smpl_plus.specs.Outside as told;
+ghost use Rattle.smpl_plus.specs.Outside as spec;
 
 use c_terms::{NoMemory, TokenKind};
 use smpl_meta::Placed;
@@ -61,7 +61,7 @@ fn is_differs(p: &Placed) -> bool
 }
 
 fn outside(p: &Placed) -> Standing
-    ensures { result ≡ told.outside p.now }
+    ensures { result ≡ spec.outside p.now }
 {
     let next = if is_host(p) {
         Where::After
@@ -75,7 +75,7 @@ fn outside(p: &Placed) -> Standing
 }
 
 fn within(next: Where) -> Standing
-    ensures { result ≡ told.within next }
+    ensures { result ≡ spec.within next }
 {
     Standing {
         outside: false,
@@ -84,7 +84,7 @@ fn within(next: Where) -> Standing
 }
 
 fn after(p: &Placed) -> Standing
-    ensures { result ≡ told.after p.now }
+    ensures { result ≡ spec.after p.now }
 {
     if is_word(p, b"when") {
         within(Where::When(p.line))
@@ -94,7 +94,7 @@ fn after(p: &Placed) -> Standing
 }
 
 fn behind_when(line: u32, p: &Placed) -> Standing
-    ensures { result ≡ told.behind_when line p.now }
+    ensures { result ≡ spec.behind_when line p.now }
 {
     if p.line != line {
         after(p)
@@ -108,7 +108,7 @@ fn behind_when(line: u32, p: &Placed) -> Standing
 }
 
 fn in_code(line: u32, p: &Placed) -> Standing
-    ensures { result ≡ told.in_code line p.now }
+    ensures { result ≡ spec.in_code line p.now }
 {
     if p.line == line {
         within(Where::Code(line))
@@ -118,7 +118,7 @@ fn in_code(line: u32, p: &Placed) -> Standing
 }
 
 fn stand(place: Where, p: &Placed) -> Standing
-    ensures { result ≡ told.stand place p.now }
+    ensures { result ≡ spec.stand place p.now }
 {
     match place {
         Where::Free => outside(p),
@@ -130,7 +130,7 @@ fn stand(place: Where, p: &Placed) -> Standing
 
 /// Whether the token is one of C or a metavariable.
 fn is_code(kind: TokenKind) -> bool
-    ensures { result ≡ told.is_code kind }
+    ensures { result ≡ spec.is_code kind }
 {
     match kind {
         TokenKind::Dots => false,
@@ -142,7 +142,7 @@ fn is_code(kind: TokenKind) -> bool
 
 /// Returns for each token whether plus code may be anchored at it: it is one of C or a metavariable, outside clauses. Linear.
 pub fn may_anchor(alloc: Global, tokens: &[Placed]) -> Result<Items<bool>, NoMemory>
-    ensures { IfOk result (λ may. may ≡ told.may_anchor tokens.now) }
+    ensures { IfOk result (λ may. may ≡ spec.may_anchor tokens.now) }
 {
     let mut may = Items::new(alloc);
     let mut place = Where::Free;

@@ -22,7 +22,7 @@ ghost use Rattle.smpl_meta.specs.Patterns.{split};
 ghost use Rattle.smpl_meta.specs.declared.patterns.Placed.{Placed as Word};
 ghost use Rattle.smpl_plus.specs.declared.clauses.Where.TheVariants.{Free};
 ghost use Rattle.smpl_plus.specs.Outside.{outside_from};
-ghost use Rattle.smpl_plus.specs.Anchors as told;
+ghost use Rattle.smpl_plus.specs.Anchors as spec;
 ghost use Rattle.smpl_plus.specs.Anchors.{AreAnchored, IsShort};
 
 mod anchors;
@@ -38,7 +38,7 @@ use sqlite_items::Items;
 use std::alloc::Global;
 
 fn has_star(body: &[BodyLine]) -> bool
-    ensures { result ≡ told.has_star body.now }
+    ensures { result ≡ spec.has_star body.now }
 {
     for l in body {
         if l.sign == b'*' {
@@ -67,7 +67,7 @@ fn has_edit(body: &[BodyLine]) -> bool
 
 /// Whether the body has a `*` line and a `-` or `+` line.
 fn is_starred_edit(body: &[BodyLine]) -> bool
-    ensures { result ≡ (told.has_star body.now && heads.has_edit body.now) }
+    ensures { result ≡ (spec.has_star body.now && heads.has_edit body.now) }
 {
     has_star(body) && has_edit(body)
 }
@@ -81,7 +81,7 @@ fn anchor_body(
     requires { IsShort body.now }
     ensures tokens { IfOk result (AreAnchored vars.now rule body.now) }
     ensures fault { IfErr result (OrNoMemory
-        (λ f. told.first_phase (told.plus_faults vars.now rule body.now) ≡ Some f)) }
+        (λ f. spec.first_phase (spec.plus_faults vars.now rule body.now) ≡ Some f)) }
 {
     if is_starred_edit(body) {
         return Err(PatchFault::StarWithEdit(rule));
@@ -118,7 +118,7 @@ pub fn anchor(
     ensures tokens { IfOk result (λ tokens. IfSome (slice_get text.now.rules rule)
         (λ r. AreAnchored head.now.vars rule r.body tokens)) }
     ensures fault { IfErr result (λ fault. IfSome (slice_get text.now.rules rule) (λ r. OrNoMemory
-        (λ f. told.first_phase (told.plus_faults head.now.vars rule r.body) ≡ Some f) fault)) }
+        (λ f. spec.first_phase (spec.plus_faults head.now.vars rule r.body) ≡ Some f) fault)) }
 {
     let rules = text.rules.as_slice();
     let r = &rules[rule as usize];
@@ -132,7 +132,7 @@ pub fn plus_code_is_read_once()
         AreAnchored vars rule body one → AreAnchored vars rule body other → one ≡ other }
     ensures apart { (vars : List Variable) (rule : ℕ) (body : List Line) (tokens : List Anchored)
         (fault : Fault) → AreAnchored vars rule body tokens →
-        told.first_phase (told.plus_faults vars rule body) ≡ Some fault → ⊥ }
+        spec.first_phase (spec.plus_faults vars rule body) ≡ Some fault → ⊥ }
 {}
 
 /// The law that each token of a rule's patterns has the mark of its line and its own positions, whatever plus code there
@@ -141,7 +141,7 @@ pub fn tokens_keep_their_lines()
     ensures marks { (vars : List Variable) (rule : ℕ) (body : List Line) (tokens : List Anchored) →
         AreAnchored vars rule body tokens →
         map (λ (t : Anchored). t.mark) tokens
-        ≡ map (λ (p : Word). told.mark_of p.sign) (patterns.pattern_tokens vars body) }
+        ≡ map (λ (p : Word). spec.mark_of p.sign) (patterns.pattern_tokens vars body) }
     ensures positions { (vars : List Variable) (rule : ℕ) (body : List Line) (tokens : List Anchored) →
         AreAnchored vars rule body tokens →
         map (λ (t : Anchored). t.positions) tokens

@@ -1,32 +1,15 @@
 // Lines of plus code, cut again for their blanks.
-ghost use Rattle.std.specs.Prelude.{◌≡◌, ◌≤◌, ◌<◌, ◌+◌, ◌^◌, ◌++◌, ◌∷◌, [], ℕ, List, length, map, IfOk};
-ghost use Rattle.c_lexer.specs.declared.state.Kind.{Kind as PieceKind};
-ghost use Rattle.smpl_plus.specs.Blocks as told;
+ghost use Rattle.std.specs.Prelude.{◌≡◌, ◌≤◌, ◌<◌, ◌+◌, ◌^◌, ◌++◌, ◌∷◌, [], ℕ, List, length, IfOk};
+ghost use Rattle.smpl_plus.specs.Blocks as spec;
 ghost use Rattle.smpl_plus.specs.Blocks.{AreGaps, IsPlusLine};
-ghost use Rattle.smpl_meta.specs.Patterns.{made as made_of};
 
 use c_lexer::{Kind, first_piece};
-use c_terms::{NoMemory, Text, Token};
-use smpl_lexer::{BodyLine, PatchToken};
-use smpl_meta::{VarTable, made};
+use c_terms::{NoMemory, Text};
+use smpl_lexer::BodyLine;
+use smpl_meta::{VarTable, made_all};
 use smpl_patch::PlusLine;
 use sqlite_items::Items;
 use std::alloc::Global;
-
-/// Returns the tokens of a line. Those with declared names are metavariables.
-fn made_all(
-    alloc: Global,
-    vars: &VarTable<'_>,
-    tokens: &[PatchToken],
-) -> Result<Items<Token>, NoMemory>
-    ensures { IfOk result (λ out. out ≡ map (made_of vars.now 0) tokens.now) }
-{
-    let mut out = Items::new(alloc);
-    for t in tokens {
-        out.push(made(alloc, vars, 0, t)?)?;
-    }
-    Ok(out)
-}
 
 /// The blanks before the tokens so far, and those before the next token.
 #[derive(Drop)]
@@ -60,7 +43,7 @@ fn with_blank(alloc: Global, before: Gaps, text: &[u8]) -> Result<Gaps, NoMemory
 /// Adds one more piece.
 fn with_piece(alloc: Global, before: Gaps, kind: Kind, text: &[u8]) -> Result<Gaps, NoMemory>
     ensures { IfOk result (λ r. (more : List ℕ → List (List ℕ)) →
-        before.gaps ++ told.gaps_by kind text.now before.blank more ≡ r.gaps ++ more r.blank) }
+        before.gaps ++ spec.gaps_by kind text.now before.blank more ≡ r.gaps ++ more r.blank) }
 {
     match kind {
         Kind::Blank => with_blank(alloc, before, text),
@@ -95,8 +78,8 @@ fn gaps_of(alloc: Global, bytes: &[u8]) -> Result<Items<Text>, NoMemory>
 }
 
 fn lead_of(gaps: &[Text]) -> u32
-    requires { told.lead_of gaps.now < 2 ^ 32 }
-    ensures { result ≡ told.lead_of gaps.now }
+    requires { spec.lead_of gaps.now < 2 ^ 32 }
+    ensures { result ≡ spec.lead_of gaps.now }
 {
     match gaps {
         [] => 0,

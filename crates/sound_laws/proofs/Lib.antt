@@ -3,4 +3,4 @@ pub mod SmplFormed
 pub mod SmplSound
 pub mod SmplAllSound
 pub mod IsoLaws
-pub mod IsoFine
+pub mod IsoWellformed

@@ -6,5 +6,5 @@ pub mod SmplFormed
 pub mod SmplSound
 -- What iso_laws defines.
 pub mod IsoLaws
--- What iso_fine defines.
-pub mod IsoFine
+-- What iso_wellformed defines.
+pub mod IsoWellformed

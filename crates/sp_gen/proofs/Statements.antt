@@ -1,12 +1,14 @@
 -- The result of a draw, one more statement, and one more function.
-use Rattle.std.proofs.Common.{◌≡◌, ◌≢◌, ℕ, zero, suc, ◌+◌, ◌%◌, ◌⊎◌, inl, inr, true, false, eqb, refl, sym, ap, ◌∙◌, List, [], ◌++◌, append_assoc, Result, Ok, Err, OnOk, arith, codes, add-zero}
+use Rattle.std.proofs.Common.{◌≡◌, ◌≢◌, ℕ, zero, suc, ◌+◌, ◌%◌, ◌⊎◌, inl, inr, true, false, eqb, refl, sym, ap, ◌∙◌, List, []}
+use Rattle.std.proofs.Common.{◌++◌, append_assoc, Result, Ok, Err, OnOk, arith, codes, add-zero}
 use Rattle.std.specs.Fmt.{decimal}
 use Rattle.std.proofs.lemmas.List.{append-nil}
 use Rattle.std.proofs.lemmas.Bool.Decides.{eqb_tells}
 use Rattle.sp_gen.specs.Generated.{next_state, statement_text, statement, after_statement, statements, after_statements, function, functions_from}
 
 -- the appended text is the expected one
-pub put_in : {X E : Type 0} (r : Result X E) (after before put wanted : List ℕ) → OnOk r (after ≡ before ++ put) → put ≡ wanted → OnOk r (after ≡ before ++ wanted)
+pub put_in : {X E : Type 0} (r : Result X E) (after before put wanted : List ℕ) → OnOk r (after ≡ before ++ put) → put ≡ wanted
+    → OnOk r (after ≡ before ++ wanted)
 put_in (Ok x) after before put wanted h e = h ∙ ap (λ t. before ++ t) e
 put_in (Err x) after before put wanted h e = h
 
@@ -81,7 +83,8 @@ unfolding functions_from after_functions
 functions_more zero k state = append-nil (function k state) ∙ ap (λ j. function j state) (sym (add-zero k))
 functions_more (suc n) k state =
     ap (λ l. function k state ++ l) (functions_more n (k + 1) (after_statements 6 state))
-    ∙ sym (append_assoc (function k state) (functions_from n (k + 1) (after_statements 6 state)) (function (k + 1 + n) (after_functions n (after_statements 6 state))))
+    ∙ sym (append_assoc (function k state) (functions_from n (k + 1) (after_statements 6 state))
+    (function (k + 1 + n) (after_functions n (after_statements 6 state))))
     ∙ ap (λ j. function k state ++ functions_from n (k + 1) (after_statements 6 state) ++ function j (after_functions n (after_statements 6 state))) moved
   where
     moved : k + 1 + n ≡ k + suc n

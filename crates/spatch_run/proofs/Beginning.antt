@@ -22,5 +22,6 @@ unfed_first words now old =
     let first = first_act (order_of words) in
     broken (begun (order_of words)) first.0 first.1 (NoneFell-refl now) (inl (refl, refl))
 
-pub follows : (words : List (List ℕ)) (order : Option Order) {before now : Counts} {old new : Told} {status : ℕ} → order_of words ≡ order → Ends (begun order) before now old new status → Follows words before now old new status
+pub follows : (words : List (List ℕ)) (order : Option Order) {before now : Counts} {old new : Told} {status : ℕ}
+    → order_of words ≡ order → Ends (begun order) before now old new status → Follows words before now old new status
 follows words order is ends = rw is ends

@@ -11,7 +11,8 @@ after-append : (acts more : List Act) (old : Told) → after (acts ++ more) old 
 after-append [] more old = refl
 after-append (act ∷ acts) more old = after-append acts more (done act old)
 
-Path-append : (old : Told) (from mid to : Stage) (acts more : List Act) → Path old from acts mid → Path (after acts old) mid more to → Path old from (acts ++ more) to
+Path-append : (old : Told) (from mid to : Stage) (acts more : List Act) → Path old from acts mid
+    → Path (after acts old) mid more to → Path old from (acts ++ more) to
 Path-append old from mid to [] more first second = rw (← first) second
 Path-append old from mid to (act ∷ acts) more first second =
     (first.0, (first.1.0, (first.1.1.0, Path-append (done act old) first.1.0 mid to acts more first.1.1.1 second)))
@@ -27,7 +28,8 @@ Goes-then {from = from} {mid = mid} {to = to} {old = old} first second = record 
 }
 
 -- one act was done
-pub Goes-act : (from : Stage) (act : Act) (to : Stage) (old new : Told) → next_act from ≡ Some act → Leads old.files from to → new ≡ done act old → Goes from old to new
+pub Goes-act : (from : Stage) (act : Act) (to : Stage) (old new : Told) → next_act from ≡ Some act → Leads old.files from to
+    → new ≡ done act old → Goes from old to new
 Goes-act from act to old new next leads told = record {
   acts = act ∷ [];
   path = (next, (to, (leads, refl)));
@@ -45,7 +47,8 @@ over from now old status is = record {
 }
 
 -- the next act broke
-pub broken : (from : Stage) (act : Act) {before now : Counts} {old new : Told} {status : ℕ} → next_act from ≡ Some act → NoneFell before now → Breaks before now act old new status → Ends from before now old new status
+pub broken : (from : Stage) (act : Act) {before now : Counts} {old new : Told} {status : ℕ} → next_act from ≡ Some act
+    → NoneFell before now → Breaks before now act old new status → Ends from before now old new status
 broken from act {old = old} next fell breaks = record {
   stage = from;
   mid = old;
@@ -55,7 +58,8 @@ broken from act {old = old} next fell breaks = record {
 }
 
 -- the run went on, and ended from there; the counts may begin earlier
-pub Goes-ends : {from mid : Stage} {first before now : Counts} {old here new : Told} {status : ℕ} → Goes from old mid here → NoneFell first before → Ends mid before now here new status → Ends from first now old new status
+pub Goes-ends : {from mid : Stage} {first before now : Counts} {old here new : Told} {status : ℕ} → Goes from old mid here
+    → NoneFell first before → Ends mid before now here new status → Ends from first now old new status
 Goes-ends {first = first} {before = before} {now = now} {new = new} {status = status} goes fell rest = record {
   stage = rest.stage;
   mid = rest.mid;

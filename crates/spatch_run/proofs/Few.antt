@@ -10,7 +10,8 @@ use Rattle.run_words.specs.declared.order.Target.{Target as CodeTarget}
 use Rattle.run_words.specs.declared.order.Target.TheVariants as target
 use Rattle.run_words.specs.Options.{Options, options_of}
 use Rattle.run_words.specs.Values.{count_in, seed_in, decimal_value, begins_with_zero}
-use Rattle.run_words.specs.Orders.{Target, OnFiles, OnText, Order, Apply, Generate, most_functions, are_filled, has_jobs, is_about_files, defined_in, editing, on_text, generating, ordered, order_of}
+use Rattle.run_words.specs.Orders.{Target, OnFiles, OnText, Order, Apply, Generate, most_functions, are_filled, has_jobs}
+use Rattle.run_words.specs.Orders.{is_about_files, defined_in, editing, on_text, generating, ordered, order_of}
 use Rattle.run_words.specs.Shown.{shown_target, few_functions}
 
 abbrev HasFew : Target → Type 0
@@ -41,7 +42,8 @@ few_map f (Some a) few = few a
 few_editing : (o : Options) → AsksFew (editing o)
 few_editing o = few_cond _ _ (few_then _ o.sp_file (λ patch. few_map _ (defined_in o) (λ defined. tt)))
 
-few_patch : (patch : Option (List ℕ)) (seed functions : ℕ) (rest : Option Order) → functions ≤ 100000 → AsksFew rest → AsksFew (option_map_or (λ p. Some (Apply p None [] (OnText seed functions))) patch rest)
+few_patch : (patch : Option (List ℕ)) (seed functions : ℕ) (rest : Option Order) → functions ≤ 100000 → AsksFew rest
+    → AsksFew (option_map_or (λ p. Some (Apply p None [] (OnText seed functions))) patch rest)
 few_patch None seed functions rest few more = more
 few_patch (Some p) seed functions rest few more = few
 
@@ -64,13 +66,15 @@ most_of false b c n m most is = let e : None ≡ Some m = is in absurd cc
 count_few : (value : List ℕ) (n : ℕ) → count_in most_functions value ≡ Some n → n ≤ 100000
 count_few value n is = most_of (nat_le 1 (length value)) (list_all is_digit value) (not (begins_with_zero value)) (decimal_value value) n most_functions is
 
-few_counted : (o : Options) (seed : ℕ) (count : Option ℕ) → ((n : ℕ) → count ≡ Some n → n ≤ 100000) → AsksFew (option_and_then (λ functions. on_text o seed functions) count)
+few_counted : (o : Options) (seed : ℕ) (count : Option ℕ) → ((n : ℕ) → count ≡ Some n → n ≤ 100000)
+    → AsksFew (option_and_then (λ functions. on_text o seed functions) count)
 few_counted o seed None few = tt
 few_counted o seed (Some n) few = few_on_text o seed n (few n refl)
 
 few_generating : (o : Options) (value : List ℕ) → AsksFew (generating o value)
 few_generating o value =
-    few_cond_not (is_about_files o) _ (few_then _ (seed_in value) (λ seed. few_then _ o.functions (λ text. few_counted o seed (count_in most_functions text) (count_few text))))
+    few_cond_not (is_about_files o) _ (few_then _ (seed_in value)
+    (λ seed. few_then _ o.functions (λ text. few_counted o seed (count_in most_functions text) (count_few text))))
 
 few_either : (o : Options) (value : Option (List ℕ)) → AsksFew (option_map_or (generating o) value (editing o))
 few_either o None = few_editing o
@@ -92,5 +96,6 @@ few_shown : (target : CodeTarget) → HasFew (shown_target target) → few_funct
 few_shown (target.Files mode names) few = tt
 few_shown (target.Text seed functions) few = few
 
-pub few_ordered : (words : List (List ℕ)) (patch : List ℕ) (isos : Option (List ℕ)) (defined : List (List ℕ)) (target : CodeTarget) → order_of words ≡ Some (Apply patch isos defined (shown_target target)) → few_functions target
+pub few_ordered : (words : List (List ℕ)) (patch : List ℕ) (isos : Option (List ℕ)) (defined : List (List ℕ))
+    (target : CodeTarget) → order_of words ≡ Some (Apply patch isos defined (shown_target target)) → few_functions target
 few_ordered words patch isos defined target is = few_shown target (subst AsksFew is (few_asked words))

@@ -21,13 +21,15 @@ use Rattle.iso_file.specs.Isos.{AreIsosOf, IsFileFault}
 use Rattle.iso_file.specs.Isos.IsFileFault.{too_long}
 use Rattle.run_words.specs.Orders.{Target}
 use Rattle.run_files.specs.RunLines.Patches.{patch_fault_line, iso_fault_line}
-use Rattle.run_files.specs.RunStages.Stages.{Stage, Work, ReadPatch, ReadIsos, EditFiles, Doing, refusing, first_load, WorkLeads, PatchLeads, IsosFileLeads, ReadLeads, IsosLead}
+use Rattle.run_files.specs.RunStages.Stages.{Stage, Work, ReadPatch, ReadIsos, EditFiles, Doing, refusing, first_load}
+use Rattle.run_files.specs.RunStages.Stages.{WorkLeads, PatchLeads, IsosFileLeads, ReadLeads, IsosLead}
 use Rattle.run_files.specs.RunStages.Ends.{Ends, LeadsBy}
 use Rattle.run_files.specs.RunStages.Ends.LeadsBy.{unfed, from}
 use Rattle.spatch_run.proofs.Chain.{Goes-act, Goes-ends, broken}
 
 -- what was observed before a load is observed after it
-pub no_trace : {holds holds' : Option Files} {stores stores' : ℕ} {out err err' : Option (List ℕ)} → holds' ≡ holds → stores' ≡ stores → err' ≡ err → told holds' stores' out err' ≡ told holds stores out err
+pub no_trace : {holds holds' : Option Files} {stores stores' : ℕ} {out err err' : Option (List ℕ)} → holds' ≡ holds
+    → stores' ≡ stores → err' ≡ err → told holds' stores' out err' ≡ told holds stores out err
 no_trace same same_stores same_err = rw (same, same_stores, same_err) refl
 
 load_done : (work : Work) (old : Told) → done (first_load work) old ≡ old
@@ -36,22 +38,27 @@ load_done (ReadIsos patch name defined target) old = refl
 load_done (EditFiles patch defined mode name names refused) old = refl
 
 -- a load was done, and the run ended from there
-pub loaded : (work : Work) (to : Stage) {first before now : Counts} {old here new : Told} {status : ℕ} → WorkLeads old.files work to → here ≡ old → NoneFell first before → Ends to before now here new status → Ends (Doing [] work) first now old new status
+pub loaded : (work : Work) (to : Stage) {first before now : Counts} {old here new : Told} {status : ℕ}
+    → WorkLeads old.files work to → here ≡ old → NoneFell first before → Ends to before now here new status → Ends (Doing [] work) first now old new status
 loaded work to {old = old} {here = here} leads same fell rest =
     Goes-ends (Goes-act (Doing [] work) (first_load work) to old here refl leads (same ∙ sym (load_done work old))) fell rest
 
 -- a load was done, and memory ran out
-pub loaded_unfed : (work : Work) {first before now : Counts} {old here new : Told} {status : ℕ} → here ≡ old → NoneFell first before → NoneFell before now → status ≡ 7 → new ≡ here → Ends (Doing [] work) first now old new status
+pub loaded_unfed : (work : Work) {first before now : Counts} {old here new : Told} {status : ℕ} → here ≡ old
+    → NoneFell first before → NoneFell before now → status ≡ 7 → new ≡ here → Ends (Doing [] work) first now old new status
 loaded_unfed work {first = first} {before = before} {now = now} same fell more seven none =
     broken (Doing [] work) (first_load work) refl (NoneFell-then first before now fell more) (inl (seven, none ∙ same))
 
 -- a load was done, and the run ended from some stage that the load leads to
-pub loaded_by : (work : Work) (To : Stage → Type 0) {first before now : Counts} {old here new : Told} {status : ℕ} → ((to : Stage) → To to → WorkLeads old.files work to) → here ≡ old → NoneFell first before → LeadsBy To before now here new status → Ends (Doing [] work) first now old new status
+pub loaded_by : (work : Work) (To : Stage → Type 0) {first before now : Counts} {old here new : Told} {status : ℕ}
+    → ((to : Stage) → To to → WorkLeads old.files work to) → here ≡ old → NoneFell first before
+    → LeadsBy To before now here new status → Ends (Doing [] work) first now old new status
 loaded_by work To leads same fell (unfed more seven none) = loaded_unfed work same fell more seven none
 loaded_by work To leads same fell (from stage to ends) = loaded work stage (leads stage to) same fell ends
 
 -- a weaker condition on the next stage holds too
-pub by_other : (To Other : Stage → Type 0) {before now : Counts} {old new : Told} {status : ℕ} → ((to : Stage) → To to → Other to) → LeadsBy To before now old new status → LeadsBy Other before now old new status
+pub by_other : (To Other : Stage → Type 0) {before now : Counts} {old new : Told} {status : ℕ}
+    → ((to : Stage) → To to → Other to) → LeadsBy To before now old new status → LeadsBy Other before now old new status
 by_other To Other other (unfed fell seven none) = unfed fell seven none
 by_other To Other other (from stage to ends) = from stage (other stage to) ends
 
@@ -66,14 +73,17 @@ module _ (name : List ℕ) (isos : Option (List ℕ)) (defined : List (List ℕ)
   pub patch_absent : (under : Option (List ℕ)) → under ≡ None → PatchLeads under name isos defined target (refusing (cannot_read name) 5)
   patch_absent under none = rw none refl
 
-  pub patch_long : (under : Option (List ℕ)) → IsSomeAnd under (λ bytes. 1048576 < length bytes) → PatchLeads under name isos defined target (refusing (patch_fault_line name patch_fault.PatchTooLong) 2)
+  pub patch_long : (under : Option (List ℕ)) → IsSomeAnd under (λ bytes. 1048576 < length bytes)
+      → PatchLeads under name isos defined target (refusing (patch_fault_line name patch_fault.PatchTooLong) 2)
   patch_long None long = absurd long
   patch_long (Some bytes) long = inl (patch_fault.PatchTooLong, (spelling (in_text (text_too_long long)), refl))
 
-  pub patch_bad : (under : Option (List ℕ)) (bytes : List ℕ) (fault : PatchFault) → under ≡ Some bytes → IsFirstFault bytes fault → PatchLeads under name isos defined target (refusing (patch_fault_line name fault) 2)
+  pub patch_bad : (under : Option (List ℕ)) (bytes : List ℕ) (fault : PatchFault) → under ≡ Some bytes
+      → IsFirstFault bytes fault → PatchLeads under name isos defined target (refusing (patch_fault_line name fault) 2)
   patch_bad under bytes fault is bad = rw is (inl (fault, (bad, refl)))
 
-  pub patch_read : (under : Option (List ℕ)) (bytes : List ℕ) (patch : Patch) → under ≡ Some bytes → IsPatchOf bytes patch → (to : Stage) → ReadLeads patch isos defined target to → PatchLeads under name isos defined target to
+  pub patch_read : (under : Option (List ℕ)) (bytes : List ℕ) (patch : Patch) → under ≡ Some bytes → IsPatchOf bytes patch
+      → (to : Stage) → ReadLeads patch isos defined target to → PatchLeads under name isos defined target to
   patch_read under bytes patch is read to leads = rw is (inr (patch, (read, leads)))
 
 -- ---- the isomorphisms
@@ -82,12 +92,15 @@ module _ (patch : Patch) (name : List ℕ) (defined : List (List ℕ)) (target :
   pub isos_absent : (under : Option (List ℕ)) → under ≡ None → IsosFileLeads under patch name defined target (refusing (cannot_read name) 5)
   isos_absent under none = rw none refl
 
-  pub isos_long : (under : Option (List ℕ)) → IsSomeAnd under (λ bytes. 1048576 < length bytes) → IsosFileLeads under patch name defined target (refusing (iso_fault_line name iso_fault.TooLong) 3)
+  pub isos_long : (under : Option (List ℕ)) → IsSomeAnd under (λ bytes. 1048576 < length bytes)
+      → IsosFileLeads under patch name defined target (refusing (iso_fault_line name iso_fault.TooLong) 3)
   isos_long None long = absurd long
   isos_long (Some bytes) long = inl (iso_fault.TooLong, (too_long long, refl))
 
-  pub isos_bad : (under : Option (List ℕ)) (bytes : List ℕ) (fault : IsoFault) → under ≡ Some bytes → IsFileFault bytes fault → IsosFileLeads under patch name defined target (refusing (iso_fault_line name fault) 3)
+  pub isos_bad : (under : Option (List ℕ)) (bytes : List ℕ) (fault : IsoFault) → under ≡ Some bytes → IsFileFault bytes fault
+      → IsosFileLeads under patch name defined target (refusing (iso_fault_line name fault) 3)
   isos_bad under bytes fault is bad = rw is (inl (fault, (bad, refl)))
 
-  pub isos_read : (under : Option (List ℕ)) (bytes : List ℕ) (isos : List Iso) → under ≡ Some bytes → AreIsosOf bytes isos → (to : Stage) → IsosLead isos patch name defined target to → IsosFileLeads under patch name defined target to
+  pub isos_read : (under : Option (List ℕ)) (bytes : List ℕ) (isos : List Iso) → under ≡ Some bytes → AreIsosOf bytes isos
+      → (to : Stage) → IsosLead isos patch name defined target to → IsosFileLeads under patch name defined target to
   isos_read under bytes isos is read to leads = rw is (inr (isos, (read, leads)))

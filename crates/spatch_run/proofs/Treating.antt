@@ -27,25 +27,31 @@ use Rattle.spatch_run.proofs.Chain.{Goes-act, Goes-then, Goes-ends, broken, over
 -- ---- acts at hand
 
 -- stages that have acts at hand, and do them in order
-module _ (holding : List Act → Stage) (next : (act : Act) (acts : List Act) → next_act (holding (act ∷ acts)) ≡ Some act) (leads : (holds : Option Files) (act : Act) (acts : List Act) → Leads holds (holding (act ∷ acts)) (holding acts)) where
+module _ (holding : List Act → Stage) (next : (act : Act) (acts : List Act) → next_act (holding (act ∷ acts)) ≡ Some act)
+    (leads : (holds : Option Files) (act : Act) (acts : List Act) → Leads holds (holding (act ∷ acts)) (holding acts)) where
   acts_path : (old : Told) (acts : List Act) → Path old (holding acts) acts (holding [])
   acts_path old [] = refl
   acts_path old (act ∷ acts) = (next act acts, (holding acts, (leads old.files act acts, acts_path (done act old) acts)))
 
   part_path : (old : Told) (part more : List Act) → Path old (holding (part ++ more)) part (holding more)
   part_path old [] more = refl
-  part_path old (act ∷ part) more = (next act (part ++ more), (holding (part ++ more), (leads old.files act (part ++ more), part_path (done act old) part more)))
+  part_path old (act ∷ part) more = (
+    next act (part ++ more),
+    (holding (part ++ more), (leads old.files act (part ++ more), part_path (done act old) part more)),
+  )
 
   pub does_goes : (acts : List Act) {old new : Told} → Does acts old new → Goes (holding acts) old (holding []) new
   does_goes acts {old = old} does = record { acts = acts; path = acts_path old acts; told = does.told }
 
-  pub stops_ends : (acts : List Act) {before now : Counts} {old new : Told} {status : ℕ} → NoneFell before now → Stops acts before now old new status → Ends (holding acts) before now old new status
+  pub stops_ends : (acts : List Act) {before now : Counts} {old new : Told} {status : ℕ} → NoneFell before now
+      → Stops acts before now old new status → Ends (holding acts) before now old new status
   stops_ends acts {old = old} fell stops = record {
     stage = holding (stops.act ∷ stops.rest);
     mid = after stops.part old;
     goes = record {
       acts = stops.part;
-      path = subst (λ (x : List Act). Path old (holding x) stops.part (holding (stops.act ∷ stops.rest))) (sym stops.is) (part_path old stops.part (stops.act ∷ stops.rest));
+      path = subst (λ (x : List Act). Path old (holding x) stops.part (holding (stops.act ∷ stops.rest))) (sym stops.is)
+          (part_path old stops.part (stops.act ∷ stops.rest));
       told = refl;
     };
     fell = fell;
@@ -60,85 +66,148 @@ found_any None name none = refl
 found_any (Some files) name none = absurd (cc)
 
 module _ (patch : Patch) (defined : List (List ℕ)) (mode : Mode) where
-  going_next : (names : List (List ℕ)) (refused : Bool) (act : Act) (acts : List Act) → next_act (going (act ∷ acts) patch defined mode names refused) ≡ Some act
+  going_next : (names : List (List ℕ)) (refused : Bool) (act : Act) (acts : List Act)
+      → next_act (going (act ∷ acts) patch defined mode names refused) ≡ Some act
   going_next [] refused act acts = refl
   going_next (name ∷ names) refused act acts = refl
 
-  going_leads : (names : List (List ℕ)) (refused : Bool) (holds : Option Files) (act : Act) (acts : List Act) → Leads holds (going (act ∷ acts) patch defined mode names refused) (going acts patch defined mode names refused)
+  going_leads : (names : List (List ℕ)) (refused : Bool) (holds : Option Files) (act : Act) (acts : List Act)
+      → Leads holds (going (act ∷ acts) patch defined mode names refused) (going acts patch defined mode names refused)
   going_leads [] refused holds act acts = refl
   going_leads (name ∷ names) refused holds act acts = refl
 
   -- a file was loaded, which leaves no trace
-  file_loaded : (name : List ℕ) (names : List (List ℕ)) (refused : Bool) (bytes : List ℕ) (treated : Treated) {old here : Told} → Found old.files name (Some bytes) → here ≡ old → TreatsFile old.files mode patch defined name bytes treated → Goes (Doing [] (EditFiles patch defined mode name names refused)) old (going treated.acts patch defined mode names (refused || treated.refused)) here
+  file_loaded : (name : List ℕ) (names : List (List ℕ)) (refused : Bool) (bytes : List ℕ) (treated : Treated) {old here : Told}
+      → Found old.files name (Some bytes) → here ≡ old → TreatsFile old.files mode patch defined name bytes treated
+      → Goes (Doing [] (EditFiles patch defined mode name names refused)) old (going treated.acts patch defined mode names (refused || treated.refused)) here
   file_loaded name names refused bytes treated {old = old} {here = here} found same treats =
-      Goes-act (Doing [] (EditFiles patch defined mode name names refused)) (Load name file_limit) (going treated.acts patch defined mode names (refused || treated.refused)) old here refl (Some bytes, (found, (treated, (treats, refl)))) same
+      Goes-act (Doing [] (EditFiles patch defined mode name names refused)) (Load name file_limit)
+      (going treated.acts patch defined mode names (refused || treated.refused)) old here refl (Some bytes, (found, (treated, (treats, refl)))) same
 
   -- a file was loaded and treated
-  file_goes : (name : List ℕ) (names : List (List ℕ)) (refused here_refused : Bool) (bytes : List ℕ) {old here new : Told} → Found old.files name (Some bytes) → here ≡ old → TreatsAll (TreatsFile old.files mode patch defined name bytes) here_refused here new → Goes (Doing [] (EditFiles patch defined mode name names refused)) old (going [] patch defined mode names (refused || here_refused)) new
+  file_goes : (name : List ℕ) (names : List (List ℕ)) (refused here_refused : Bool) (bytes : List ℕ) {old here new : Told}
+      → Found old.files name (Some bytes) → here ≡ old
+      → TreatsAll (TreatsFile old.files mode patch defined name bytes) here_refused here new
+      → Goes (Doing [] (EditFiles patch defined mode name names refused)) old (going [] patch defined mode names (refused || here_refused)) new
   file_goes name names refused here_refused bytes {old = old} {here = here} {new = new} found same all =
       let treated = all.treated in
       let r = refused || treated.refused in
-      let goes = Goes-then (file_loaded name names refused bytes treated found same all.treats) (does_goes (λ (acts : List Act). going acts patch defined mode names r) (going_next names r) (going_leads names r) treated.acts all.does) in
-      subst (λ (b : Bool). Goes (Doing [] (EditFiles patch defined mode name names refused)) old (going [] patch defined mode names (refused || b)) new) all.refused_is goes
+      let goes = Goes-then (file_loaded name names refused bytes treated found same all.treats)
+      (does_goes (λ (acts : List Act). going acts patch defined mode names r) (going_next names r) (going_leads names r) treated.acts all.does) in
+      subst (λ (b : Bool). Goes (Doing [] (EditFiles patch defined mode name names refused)) old
+      (going [] patch defined mode names (refused || b)) new) all.refused_is goes
 
   -- a file was loaded, and its treatment was cut off
-  pub file_cut : (name : List ℕ) (names : List (List ℕ)) (refused : Bool) (bytes : List ℕ) {first before now : Counts} {old here new : Told} {status : ℕ} → Found old.files name (Some bytes) → here ≡ old → NoneFell first before → NoneFell before now → TreatsPart (Treats mode patch defined name bytes) before now here new status → Ends (Doing [] (EditFiles patch defined mode name names refused)) first now old new status
+  pub file_cut : (name : List ℕ) (names : List (List ℕ)) (refused : Bool)
+      (bytes : List ℕ) {first before now : Counts} {old here new : Told} {status : ℕ} → Found old.files name (Some bytes)
+      → here ≡ old → NoneFell first before → NoneFell before now
+      → TreatsPart (Treats mode patch defined name bytes) before now here new status
+      → Ends (Doing [] (EditFiles patch defined mode name names refused)) first now old new status
   file_cut name names refused bytes {first = first} {before = before} {now = now} found same fell more (earlier seven none) =
-      broken (Doing [] (EditFiles patch defined mode name names refused)) (Load name file_limit) refl (NoneFell-then first before now fell more) (inl (seven, none ∙ same))
+      broken (Doing [] (EditFiles patch defined mode name names refused)) (Load name file_limit) refl
+      (NoneFell-then first before now fell more) (inl (seven, none ∙ same))
   file_cut name names refused bytes found same fell more (later treated treats stops) =
       let r = refused || treated.refused in
-      Goes-ends (file_loaded name names refused bytes treated found same (inl treats)) fell (stops_ends (λ (acts : List Act). going acts patch defined mode names r) (going_next names r) (going_leads names r) treated.acts more stops)
+      Goes-ends (file_loaded name names refused bytes treated found same (inl treats)) fell
+      (stops_ends (λ (acts : List Act). going acts patch defined mode names r) (going_next names r) (going_leads names r) treated.acts more stops)
 
   -- a file that is over its limit
-  pub long_cut : (name : List ℕ) (names : List (List ℕ)) (refused : Bool) (under : Option (List ℕ)) {first before now : Counts} {old here new : Told} {status : ℕ} → Found old.files name under → IsSomeAnd under (λ bytes. 16777216 < length bytes) → here ≡ old → NoneFell first before → NoneFell before now → Stops (Report (too_long_line name) ∷ []) before now here new status → Ends (Doing [] (EditFiles patch defined mode name names refused)) first now old new status
+  pub long_cut : (name : List ℕ) (names : List (List ℕ)) (refused : Bool)
+      (under : Option (List ℕ)) {first before now : Counts} {old here new : Told} {status : ℕ} → Found old.files name under
+      → IsSomeAnd under (λ bytes. 16777216 < length bytes) → here ≡ old → NoneFell first before → NoneFell before now
+      → Stops (Report (too_long_line name) ∷ []) before now here new status
+      → Ends (Doing [] (EditFiles patch defined mode name names refused)) first now old new status
   long_cut name names refused None found long same fell more stops = absurd long
   long_cut name names refused (Some bytes) found long same fell more stops =
       file_cut name names refused bytes found same fell more (later (refuses (too_long_line name)) (inl (long, refl)) stops)
 
-  pub turns_long : (name : List ℕ) (under : Option (List ℕ)) {old here new : Told} → Found old.files name under → IsSomeAnd under (λ bytes. 16777216 < length bytes) → here ≡ old → Does (Report (too_long_line name) ∷ []) here new → TurnsTo (turn.Treated true) patch defined mode name old new
+  pub turns_long : (name : List ℕ) (under : Option (List ℕ)) {old here new : Told} → Found old.files name under
+      → IsSomeAnd under (λ bytes. 16777216 < length bytes) → here ≡ old → Does (Report (too_long_line name) ∷ []) here new
+      → TurnsTo (turn.Treated true) patch defined mode name old new
   turns_long name None found long same does = absurd long
-  turns_long name (Some bytes) {new = new} found long same does =
-      (bytes, (found, record { treated = refuses (too_long_line name); treats = inl (inl (long, refl)); refused_is = refl; does = subst (λ (t : Told). Does (Report (too_long_line name) ∷ []) t new) same does }))
+  turns_long name (Some bytes) {new = new} found long same does = (
+    bytes,
+    (
+      found,
+      record {
+        treated = refuses (too_long_line name);
+        treats = inl (inl (long, refl));
+        refused_is = refl;
+        does = subst (λ (t : Told). Does (Report (too_long_line name) ∷ []) t new) same does;
+      },
+    ),
+  )
 
-  pub turns_treated : (name bytes : List ℕ) (under : Option (List ℕ)) (refused : Bool) {old here new : Told} → Found old.files name under → under ≡ Some bytes → here ≡ old → TreatsAll (Treats mode patch defined name bytes) refused here new → TurnsTo (turn.Treated refused) patch defined mode name old new
-  turns_treated name bytes under refused {old = old} {new = new} found is same all =
-      (bytes, (subst (λ (u : Option (List ℕ)). Found old.files name u) is found, record { treated = all.treated; treats = inl all.treats; refused_is = all.refused_is; does = subst (λ (t : Told). Does all.treated.acts t new) same all.does }))
+  pub turns_treated : (name bytes : List ℕ) (under : Option (List ℕ)) (refused : Bool) {old here new : Told}
+      → Found old.files name under → under ≡ Some bytes → here ≡ old
+      → TreatsAll (Treats mode patch defined name bytes) refused here new → TurnsTo (turn.Treated refused) patch defined mode name old new
+  turns_treated name bytes under refused {old = old} {new = new} found is same all = (
+    bytes,
+    (
+      subst (λ (u : Option (List ℕ)). Found old.files name u) is found,
+      record {
+        treated = all.treated;
+        treats = inl all.treats;
+        refused_is = all.refused_is;
+        does =
+            subst (λ (t : Told). Does all.treated.acts t new) same all.does;
+      },
+    ),
+  )
 
   -- a pipe, a device or a socket
-  pub special_cut : (name : List ℕ) (names : List (List ℕ)) (refused : Bool) {before now : Counts} {old new : Told} {status : ℕ} → old.files ≡ None → NoneFell before now → Stops (Report (special_line name) ∷ []) before now old new status → Ends (Doing [] (EditFiles patch defined mode name names refused)) before now old new status
+  pub special_cut : (name : List ℕ) (names : List (List ℕ)) (refused : Bool) {before now : Counts} {old new : Told} {status : ℕ}
+      → old.files ≡ None → NoneFell before now → Stops (Report (special_line name) ∷ []) before now old new status
+      → Ends (Doing [] (EditFiles patch defined mode name names refused)) before now old new status
   special_cut name names refused {before = before} {old = old} none fell stops =
       let treated = refuses (special_line name) in
       let r = refused || true in
-      Goes-ends (file_loaded name names refused [] treated (found_any old.files name none) refl (inr (none, refl))) (NoneFell-refl before) (stops_ends (λ (acts : List Act). going acts patch defined mode names r) (going_next names r) (going_leads names r) treated.acts fell stops)
+      Goes-ends (file_loaded name names refused [] treated (found_any old.files name none) refl (inr (none, refl)))
+      (NoneFell-refl before) (stops_ends (λ (acts : List Act). going acts patch defined mode names r) (going_next names r)
+      (going_leads names r) treated.acts fell stops)
 
-  pub turns_special : (name : List ℕ) {old new : Told} → old.files ≡ None → Does (Report (special_line name) ∷ []) old new → TurnsTo (turn.Treated true) patch defined mode name old new
+  pub turns_special : (name : List ℕ) {old new : Told} → old.files ≡ None → Does (Report (special_line name) ∷ []) old new
+      → TurnsTo (turn.Treated true) patch defined mode name old new
   turns_special name {old = old} none does =
       ([], (found_any old.files name none, record { treated = refuses (special_line name); treats = inr (none, refl); refused_is = refl; does = does }))
 
-  pub turns_absent : (name : List ℕ) (under : Option (List ℕ)) {old new : Told} → Found old.files name under → under ≡ None → new ≡ old → TurnsTo turn.Absent patch defined mode name old new
+  pub turns_absent : (name : List ℕ) (under : Option (List ℕ)) {old new : Told} → Found old.files name under → under ≡ None
+      → new ≡ old → TurnsTo turn.Absent patch defined mode name old new
   turns_absent name under {old = old} found is same = (subst (λ (u : Option (List ℕ)). Found old.files name u) is found, same)
 
   -- a file was treated in its turn
-  pub turn_goes : (name : List ℕ) (names : List (List ℕ)) (refused here_refused : Bool) {old new : Told} → TurnsTo (turn.Treated here_refused) patch defined mode name old new → Goes (Doing [] (EditFiles patch defined mode name names refused)) old (going [] patch defined mode names (refused || here_refused)) new
+  pub turn_goes : (name : List ℕ) (names : List (List ℕ)) (refused here_refused : Bool) {old new : Told}
+      → TurnsTo (turn.Treated here_refused) patch defined mode name old new
+      → Goes (Doing [] (EditFiles patch defined mode name names refused)) old (going [] patch defined mode names (refused || here_refused)) new
   turn_goes name names refused here_refused turned = file_goes name names refused here_refused turned.0 turned.1.0 refl turned.1.1
 
   -- nothing is stored under its name
-  pub turn_absent : (name : List ℕ) (names : List (List ℕ)) (refused : Bool) {old new : Told} → TurnsTo turn.Absent patch defined mode name old new → Goes (Doing [] (EditFiles patch defined mode name names refused)) old (refusing (cannot_read name) 5) new
+  pub turn_absent : (name : List ℕ) (names : List (List ℕ)) (refused : Bool) {old new : Told}
+      → TurnsTo turn.Absent patch defined mode name old new
+      → Goes (Doing [] (EditFiles patch defined mode name names refused)) old (refusing (cannot_read name) 5) new
   turn_absent name names refused {old = old} {new = new} turned =
-      Goes-act (Doing [] (EditFiles patch defined mode name names refused)) (Load name file_limit) (refusing (cannot_read name) 5) old new refl (None, (turned.0, refl)) turned.1
+      Goes-act (Doing [] (EditFiles patch defined mode name names refused)) (Load name file_limit)
+      (refusing (cannot_read name) 5) old new refl (None, (turned.0, refl)) turned.1
 
 -- ---- a generated text
 
 module _ (patch : Patch) (defined : List (List ℕ)) where
-  pub sum_done : (seed functions : ℕ) (refused : Bool) {before now : Counts} {old new : Told} {status : ℕ} → NoneFell before now → status ≡ end_status refused → TreatsAll (Sums patch defined generated_name (generated seed functions)) refused old new → LeadsBy (TargetLeads patch defined (OnText seed functions)) before now old new status
+  pub sum_done : (seed functions : ℕ) (refused : Bool) {before now : Counts} {old new : Told} {status : ℕ} → NoneFell before now
+      → status ≡ end_status refused → TreatsAll (Sums patch defined generated_name (generated seed functions)) refused old new
+      → LeadsBy (TargetLeads patch defined (OnText seed functions)) before now old new status
   sum_done seed functions refused {before = before} {now = now} {old = old} {new = new} {status = status} fell is all =
       let treated = all.treated in
       let s = end_status treated.refused in
-      let ends = Goes-ends (does_goes (λ (acts : List Act). Ending acts s) (λ act acts. refl) (λ holds act acts. refl) treated.acts all.does) fell (over (Ending [] s) now new s refl) in
-      from (Ending treated.acts s) (treated, (all.treats, refl)) (subst (λ (n : ℕ). Ends (Ending treated.acts s) before now old new n) (ap end_status all.refused_is ∙ sym is) ends)
+      let ends = Goes-ends (does_goes (λ (acts : List Act). Ending acts s) (λ act acts. refl)
+      (λ holds act acts. refl) treated.acts all.does) fell (over (Ending [] s) now new s refl) in
+      from (Ending treated.acts s) (treated, (all.treats, refl))
+      (subst (λ (n : ℕ). Ends (Ending treated.acts s) before now old new n) (ap end_status all.refused_is ∙ sym is) ends)
 
-  pub sum_cut : (seed functions : ℕ) {before now : Counts} {old new : Told} {status : ℕ} → NoneFell before now → TreatsPart (Sums patch defined generated_name (generated seed functions)) before now old new status → LeadsBy (TargetLeads patch defined (OnText seed functions)) before now old new status
+  pub sum_cut : (seed functions : ℕ) {before now : Counts} {old new : Told} {status : ℕ} → NoneFell before now
+      → TreatsPart (Sums patch defined generated_name (generated seed functions)) before now old new status
+      → LeadsBy (TargetLeads patch defined (OnText seed functions)) before now old new status
   sum_cut seed functions fell (earlier seven none) = unfed fell seven none
   sum_cut seed functions fell (later treated treats stops) =
       let s = end_status treated.refused in
-      from (Ending treated.acts s) (treated, (treats, refl)) (stops_ends (λ (acts : List Act). Ending acts s) (λ act acts. refl) (λ holds act acts. refl) treated.acts fell stops)
+      from (Ending treated.acts s) (treated, (treats, refl))
+      (stops_ends (λ (acts : List Act). Ending acts s) (λ act acts. refl) (λ holds act acts. refl) treated.acts fell stops)

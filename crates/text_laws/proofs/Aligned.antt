@@ -257,7 +257,8 @@ module _ (P : Token → Type 0) where
     forms_found decls tokens env p k t (f ∷ fs) h =
         cond_found (fits_seat decls tokens env p k f t) (Some (numbers (alignment_at decls tokens env p.spot k.kind f t)))
         (first_aligned decls tokens env p k t fs)
-        (numbers_have (alignment_at decls tokens env p.spot k.kind f t) (spot_aligned decls tokens env p.spot k.kind f t h)) (forms_found decls tokens env p k t fs h)
+        (numbers_have (alignment_at decls tokens env p.spot k.kind f t) (spot_aligned decls tokens env p.spot k.kind f t h))
+        (forms_found decls tokens env p k t fs h)
 
     pub tokens_found : (decls : List VarDecl) (tokens : List PatToken) (env : Environment) (p : Pattern) (k : NodeRole) (t : Tree) → InTree t
         → FoundHave Q (aligned_tokens decls tokens env p k t)

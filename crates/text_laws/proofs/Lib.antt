@@ -15,4 +15,4 @@ pub mod ValueLaws
 pub mod PlusLaws
 pub mod TokenLaws
 pub mod AgainLaws
-pub mod ChainEnds
+pub mod ChainTotal

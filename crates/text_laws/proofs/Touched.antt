@@ -94,7 +94,8 @@ module _ (pieces : List TextPiece) where
       (t : Touched)
       → All (IsSoundItem pieces) items → Found (alignment patterns decls tokens items kinds ids t)
   found_at patterns decls tokens items kinds ids t h =
-      then_any (λ p. option_and_then (λ k. option_and_then (λ tree. aligned_tokens decls tokens (total t.env) p (role_at k t.path) tree) (tree_at items t.item t.path))
+      then_any (λ p. option_and_then (λ k. option_and_then
+      (λ tree. aligned_tokens decls tokens (total t.env) p (role_at k t.path) tree) (tree_at items t.item t.path))
       (kind_at kinds t.item t.node))
       (λ p. then_any (λ k. option_and_then (λ tree. aligned_tokens decls tokens (total t.env) p (role_at k t.path) tree) (tree_at items t.item t.path))
       (λ k. then_tree (λ tree. aligned_tokens decls tokens (total t.env) p (role_at k t.path) tree)

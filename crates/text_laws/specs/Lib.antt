@@ -12,5 +12,5 @@ pub mod PlusLaws
 pub mod TokenLaws
 -- What again_laws defines.
 pub mod AgainLaws
--- What chain_ends defines.
-pub mod ChainEnds
+-- What chain_total defines.
+pub mod ChainTotal

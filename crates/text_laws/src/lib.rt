@@ -19,11 +19,11 @@
 //! - `token_laws`: What the rules of a patch preserve, from the first reading of a text on, and that a text which they
 //!   leave is cut into the tokens whose ids it has.
 //! - `again_laws`: The text that a rule leaves is cut again into exactly the kept and the added tokens.
-//! - `chain_ends`: The rules of a patch over a text come to an end.
+//! - `chain_total`: The rules of a patch over a text come to an end.
 #![tactic(auto)]
 
 mod again_laws;
-mod chain_ends;
+mod chain_total;
 mod laws;
 mod output_laws;
 mod plus_laws;
@@ -32,7 +32,7 @@ mod token_laws;
 mod value_laws;
 
 pub use again_laws::{new_texts_are_of_their_tokens, patches_leave_their_tokens};
-pub use chain_ends::{chains_have_an_end, texts_are_read};
+pub use chain_total::{chains_have_an_end, texts_are_read};
 pub use laws::{
     edits_are_fair, ids_stay_apart, ids_stay_few, text_keeps_its_tokens, touches_are_sound,
 };

@@ -37,7 +37,7 @@ module _ (g : Flow) (ok : IsSound g) (a b : ℕ → ℕ → Bool) where
       → kids g a x part s ≡ kids g b x part s
   kids_agree node.True part s l e u = refl
   kids_agree (node.Atom p) part s l e u = refl
-  kids_agree node.Bail part s l e u = refl
+  kids_agree node.EarlyExit part s l e u = refl
   kids_agree (node.BraceOpen p v) part s l e u = refl
   kids_agree (node.BraceClose p v) part s l e u = refl
   kids_agree (node.Inside b) part s l e u = refl
@@ -52,6 +52,6 @@ module _ (g : Flow) (ok : IsSound g) (a b : ℕ → ℕ → Bool) where
   kids_agree (node.EU i j) part s l e u =
       let on = each_way part i s (succ_of g s) (λ k c. node_after g ok s k l c) (u refl) in
       λ n. cond (e.1 s l n) ((j, s) ∷ []) [] ++ cond (e.0 s l n) (on n) []
-  kids_agree (node.Past i) part s l e u = refl
-  kids_agree (node.Down v i) part s l e u = refl
+  kids_agree (node.After i) part s l e u = refl
+  kids_agree (node.InBranch v i) part s l e u = refl
   kids_agree (node.Exists v i) part s l e u = refl

@@ -1,6 +1,7 @@
 -- All trees of a forest are found: if a family of parts at nodes under environments is closed under what its members lead
 -- to, each tree of a member's forest is found.
-use Rattle.std.proofs.Common.{◌≡◌, ℕ, suc, zero, ◌<◌, ⊎_elim, Bool, true, false, not, cond, ◌&&◌, ◌||◌, eqb, refl, sym, ap, ◌∙◌, subst, arith, List, [], ◌∷◌, ◌++◌, map, Contains}
+use Rattle.std.proofs.Common.{◌≡◌, ℕ, suc, zero, ◌<◌, ⊎_elim, Bool, true, false, not, cond, ◌&&◌, ◌||◌, eqb, refl, sym, ap, ◌∙◌}
+use Rattle.std.proofs.Common.{subst, arith, List, [], ◌∷◌, ◌++◌, map, Contains}
 use Rattle.std.specs.Prelude.{nat_lt}
 use Rattle.std.specs.List.{filter, flat_map, list_any}
 use Rattle.cfg_build.specs.CfgGraph.Flow.{Flow, IsSound, count_of, succ_of}
@@ -107,7 +108,8 @@ module _ (decls : List VarDecl) (tokens : List PatToken) (g : Flow) (fs : List P
       by_every_until : (s : ℕ) → C i s env → has (forest W (AU (at fs a) (at fs b)) s env) z ≡ true → F ≡ true
       by_every_until s c h =
           found_on_walks g ok way (λ m. has (choice m) z) (λ k. true) (λ k. C i k env) F look (λ m lm q n k lk r. refl) next
-          s (closed.inside i s env c) c (sym (has-union_map W choice (reached g way s) z ∙ any-filter (is_reached g way s) (λ m. has (choice m) z) (numbers (count_of g))) ∙ h)
+          s (closed.inside i s env c) c (sym (has-union_map W choice (reached g way s) z
+          ∙ any-filter (is_reached g way s) (λ m. has (choice m) z) (numbers (count_of g))) ∙ h)
 
     module _ (i a b : ℕ) (ih : Found i) (e : N i ≡ node.EU a b) (la : a < i) (lb : b < i) (env : Environment) where
       abbrev here_on : ℕ → Bool
@@ -138,7 +140,8 @@ module _ (decls : List VarDecl) (tokens : List PatToken) (g : Flow) (fs : List P
       on_way k c w j m u p here =
           let step : Contains (way_on g (H env) i a k j) p = subst (λ t. Contains (cond t ((a, k) ∷ (i, j) ∷ []) []) p) (sym (is_until_here k j c u)) here in
           let all = Contains-flat (way_on g (H env) i a k) (succ_of g k) j p m step in
-          leads k c p (Contains-right (held g (H env) b k) _ p (subst (λ t. Contains (cond t (flat_map (way_on g (H env) i a k) (succ_of g k)) []) p) (sym w) all))
+          leads k c p (Contains-right (held g (H env) b k) _ p
+          (subst (λ t. Contains (cond t (flat_map (way_on g (H env) i a k) (succ_of g k)) []) p) (sym w) all))
 
       end_by : (k : ℕ) (t : Bool) → ((j : ℕ × ℕ) → Contains (cond t ((b, k) ∷ []) []) j → C j.0 j.1 env)
           → has (cond t (forest W (at fs b) k env) []) z ≡ true → F ≡ true
@@ -169,7 +172,8 @@ module _ (decls : List VarDecl) (tokens : List PatToken) (g : Flow) (fs : List P
       by_some_until : (s : ℕ) → C i s env → has (forest W (EU (at fs a) (at fs b)) s env) z ≡ true → F ≡ true
       by_some_until s c h =
           found_on_walks g ok here_on (λ m. has (both m) z) until (λ k. C i k env) F seen back onward
-          s (closed.inside i s env c) c (sym (has-union_map W both (reached g here_on s) z ∙ any-filter (is_reached g here_on s) (λ m. has (both m) z) (numbers (count_of g))) ∙ h)
+          s (closed.inside i s env c) c (sym (has-union_map W both (reached g here_on s) z
+          ∙ any-filter (is_reached g here_on s) (λ m. has (both m) z) (numbers (count_of g))) ∙ h)
 
     or-no : (b : Bool) → (b || false) ≡ true → b ≡ true
     or-no true h = refl
@@ -196,7 +200,7 @@ module _ (decls : List VarDecl) (tokens : List PatToken) (g : Flow) (fs : List P
         → has (forest W (plain_of fs x) s env) z ≡ true → F ≡ true
     by_node node.True i ih e b s env c h = by_kids node.True i ih e refl refl s env c h
     by_node (node.Atom p) i ih e b s env c h = by_kids (node.Atom p) i ih e refl refl s env c h
-    by_node node.Bail i ih e b s env c h = by_kids node.Bail i ih e refl refl s env c h
+    by_node node.EarlyExit i ih e b s env c h = by_kids node.EarlyExit i ih e refl refl s env c h
     by_node (node.BraceOpen p v) i ih e b s env c h = by_kids (node.BraceOpen p v) i ih e refl refl s env c h
     by_node (node.BraceClose p v) i ih e b s env c h = by_kids (node.BraceClose p v) i ih e refl refl s env c h
     by_node (node.Inside y) i ih e b s env c h = by_kids (node.Inside y) i ih e refl refl s env c h
@@ -210,8 +214,8 @@ module _ (decls : List VarDecl) (tokens : List PatToken) (g : Flow) (fs : List P
         by_every_until i a d ih e (lt-true a i (and_left _ _ b)) (lt-true d i (and_right (nat_lt a i) _ b)) env s c h
     by_node (node.EU a d) i ih e b s env c h =
         by_some_until i a d ih e (lt-true a i (and_left _ _ b)) (lt-true d i (and_right (nat_lt a i) _ b)) env s c h
-    by_node (node.Past a) i ih e b s env c h = by_kids (node.Past a) i ih e refl refl s env c h
-    by_node (node.Down v a) i ih e b s env c h = by_kids (node.Down v a) i ih e refl refl s env c h
+    by_node (node.After a) i ih e b s env c h = by_kids (node.After a) i ih e refl refl s env c h
+    by_node (node.InBranch v a) i ih e b s env c h = by_kids (node.InBranch v a) i ih e refl refl s env c h
     by_node (node.Exists x a) i ih e b s env c h = by_quantifier i x a ih e (lt-true a i b) s env c h
 
     all_found : (n : ℕ) → Found n

@@ -45,7 +45,7 @@ module _ (g : Flow) (f : FormulaOf) (ok : IsSound g) (s : ℕ) (lt : s < count_o
   own_alike : (n : Node) → has (own_touches f.decls f.tokens g n s d) z ≡ has (own_touches f.decls f.tokens g n s e) z
   own_alike node.True = refl
   own_alike (node.Atom p) = atom_alike p
-  own_alike node.Bail = refl
+  own_alike node.EarlyExit = refl
   own_alike (node.BraceOpen p v) = atom_alike p
   own_alike (node.BraceClose p v) = atom_alike p
   own_alike (node.Inside b) = refl
@@ -57,8 +57,8 @@ module _ (g : Flow) (f : FormulaOf) (ok : IsSound g) (s : ℕ) (lt : s < count_o
   own_alike (node.EX i) = refl
   own_alike (node.AU i j) = refl
   own_alike (node.EU i j) = refl
-  own_alike (node.Past i) = refl
-  own_alike (node.Down v i) = refl
+  own_alike (node.After i) = refl
+  own_alike (node.InBranch v i) = refl
   own_alike (node.Exists v i) = refl
 
 module _ (g : Flow) (f : FormulaOf) (ok : IsSound g) (states : List State) (found : List Witness) where

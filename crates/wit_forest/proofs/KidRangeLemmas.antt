@@ -1,5 +1,6 @@
 -- The parts that a node leads to are its own parts, and for an until also itself, at nodes of the graph.
-use Rattle.std.proofs.Common.{◌≡◌, ℕ, suc, zero, ◌<◌, Bool, true, false, cond, refl, subst, arith, List, [], ◌∷◌, ◌++◌, map, length, get_or, Option, Some, None, Contains}
+use Rattle.std.proofs.Common.{◌≡◌, ℕ, suc, zero, ◌<◌, Bool, true, false, cond, refl, subst, arith, List, [], ◌∷◌, ◌++◌, map}
+use Rattle.std.proofs.Common.{length, get_or, Option, Some, None, Contains}
 use Rattle.std.specs.Prelude.{slice_get, nat_lt}
 use Rattle.std.specs.List.{flat_map}
 use Rattle.cfg_build.specs.CfgGraph.Flow.{Flow, IsSound, count_of, succ_of, past_of, down_of}
@@ -25,15 +26,15 @@ EachKid P (node.AX i) = P i
 EachKid P (node.EX i) = P i
 EachKid P (node.AU i j) = P i × P j
 EachKid P (node.EU i j) = P i × P j
-EachKid P (node.Past i) = P i
-EachKid P (node.Down b i) = P i
+EachKid P (node.After i) = P i
+EachKid P (node.InBranch b i) = P i
 EachKid P (node.Exists x i) = P i
 EachKid P _ = Unit {0}
 
 pub each_below : (n : ℕ) (x : Node) → below n x ≡ true → EachKid (λ i. i < n) x
 each_below n node.True b = tt
 each_below n (node.Atom p) b = tt
-each_below n node.Bail b = tt
+each_below n node.EarlyExit b = tt
 each_below n (node.BraceOpen p v) b = tt
 each_below n (node.BraceClose p v) b = tt
 each_below n (node.Inside y) b = tt
@@ -45,8 +46,8 @@ each_below n (node.AX i) b = lt-true i n b
 each_below n (node.EX i) b = lt-true i n b
 each_below n (node.AU i j) b = (lt-true i n (and_left _ _ b), lt-true j n (and_right (nat_lt i n) _ b))
 each_below n (node.EU i j) b = (lt-true i n (and_left _ _ b), lt-true j n (and_right (nat_lt i n) _ b))
-each_below n (node.Past i) b = lt-true i n b
-each_below n (node.Down v i) b = lt-true i n b
+each_below n (node.After i) b = lt-true i n b
+each_below n (node.InBranch v i) b = lt-true i n b
 each_below n (node.Exists x i) b = lt-true i n b
 
 module _ (g : Flow) (ok : IsSound g) (H : ℕ → ℕ → Bool) (P : ℕ → Type 0) where
@@ -103,7 +104,7 @@ module _ (g : Flow) (ok : IsSound g) (H : ℕ → ℕ → Bool) (P : ℕ → Typ
   all_fine : (x : Node) (part s : ℕ) → s < count_of g → EachKid P x → (is_until x ≡ true → P part) → Every (kids g H x part s)
   all_fine node.True part s l e u = tt
   all_fine (node.Atom p) part s l e u = tt
-  all_fine node.Bail part s l e u = tt
+  all_fine node.EarlyExit part s l e u = tt
   all_fine (node.BraceOpen p v) part s l e u = tt
   all_fine (node.BraceClose p v) part s l e u = tt
   all_fine (node.Inside b) part s l e u = tt
@@ -117,8 +118,8 @@ module _ (g : Flow) (ok : IsSound g) (H : ℕ → ℕ → Bool) (P : ℕ → Typ
   all_fine (node.EU i j) part s l e u =
       joined (held g H j s) _ (one_of (H j s) j s e.1 l)
       (some_of (H i s) (flat_map (way_on g H part i s) (succ_of g s)) (each_way part i s (succ_of g s) (λ k c. node_after g ok s k l c) (u refl) e.0 l))
-  all_fine (node.Past i) part s l e u = option i (past_of g s) (λ k r. past_node g ok s k l r) e
-  all_fine (node.Down v i) part s l e u = option i (slice_get (down_of g s) v) (λ k r. down_node g ok s v k l r) e
+  all_fine (node.After i) part s l e u = option i (past_of g s) (λ k r. past_node g ok s k l r) e
+  all_fine (node.InBranch v i) part s l e u = option i (slice_get (down_of g s) v) (λ k r. down_node g ok s v k l r) e
   all_fine (node.Exists v i) part s l e u = tt
 
   at_member : (ks : List (ℕ × ℕ)) (k : ℕ × ℕ) (i : ℕ) → i < length ks → get_or ks i k ≡ k → Every ks → Fine k

@@ -1,6 +1,7 @@
 -- The preconditions of a step, from those shared by all: the parts of a part are in range, and the sets say what holds
 -- there.
-use Rattle.std.proofs.Common.{◌≡◌, ℕ, ◌<◌, ◌≤◌, Bool, true, false, nat_lt, refl, ap, ◌∙◌, subst, arith, List, [], length, slice_index_or, slice_get, Some, Contains, Result, Ok, Err, IfOk}
+use Rattle.std.proofs.Common.{◌≡◌, ℕ, ◌<◌, ◌≤◌, Bool, true, false, nat_lt, refl, ap, ◌∙◌, subst, arith, List, [], length}
+use Rattle.std.proofs.Common.{slice_index_or, slice_get, Some, Contains, Result, Ok, Err, IfOk}
 use Rattle.std.proofs.lemmas.Bool.Decides.{nat_tests}
 use Rattle.std.proofs.lemmas.Option.{get_or_from_slice_get}
 use Rattle.cfg_build.specs.CfgGraph.Flow.{Flow, count_of}
@@ -36,7 +37,7 @@ is_lt i k h = grind (arith, nat_tests)
 pub below_all : (k : ℕ) (x : Node) → EachKid (λ i. i < k) x → below k x ≡ true
 below_all k node.True e = refl
 below_all k (node.Atom p) e = refl
-below_all k node.Bail e = refl
+below_all k node.EarlyExit e = refl
 below_all k (node.BraceOpen p v) e = refl
 below_all k (node.BraceClose p v) e = refl
 below_all k (node.Inside b) e = refl
@@ -48,14 +49,14 @@ below_all k (node.AX i) e = is_lt i k e
 below_all k (node.EX i) e = is_lt i k e
 below_all k (node.AU i j) e = and_both _ _ (is_lt i k e.0) (is_lt j k e.1)
 below_all k (node.EU i j) e = and_both _ _ (is_lt i k e.0) (is_lt j k e.1)
-below_all k (node.Past i) e = is_lt i k e
-below_all k (node.Down v i) e = is_lt i k e
+below_all k (node.After i) e = is_lt i k e
+below_all k (node.InBranch v i) e = is_lt i k e
 below_all k (node.Exists x i) e = is_lt i k e
 
 each_kid : (P Q R : ℕ → Type 0) → ((i : ℕ) → P i → Q i → R i) → (x : Node) → EachKid P x → EachKid Q x → EachKid R x
 each_kid P Q R h node.True a b = tt
 each_kid P Q R h (node.Atom p) a b = tt
-each_kid P Q R h node.Bail a b = tt
+each_kid P Q R h node.EarlyExit a b = tt
 each_kid P Q R h (node.BraceOpen p v) a b = tt
 each_kid P Q R h (node.BraceClose p v) a b = tt
 each_kid P Q R h (node.Inside y) a b = tt
@@ -67,8 +68,8 @@ each_kid P Q R h (node.AX i) a b = h i a b
 each_kid P Q R h (node.EX i) a b = h i a b
 each_kid P Q R h (node.AU i j) a b = (h i a.0 b.0, h j a.1 b.1)
 each_kid P Q R h (node.EU i j) a b = (h i a.0 b.0, h j a.1 b.1)
-each_kid P Q R h (node.Past i) a b = h i a b
-each_kid P Q R h (node.Down v i) a b = h i a b
+each_kid P Q R h (node.After i) a b = h i a b
+each_kid P Q R h (node.InBranch v i) a b = h i a b
 each_kid P Q R h (node.Exists x i) a b = h i a b
 
 -- two facts about an `Ok` result, combined

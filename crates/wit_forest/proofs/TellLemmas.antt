@@ -4,7 +4,7 @@ use Rattle.cfg_build.specs.CfgGraph.Flow.{Flow, IsSound, count_of}
 use Rattle.smpl_terms.specs.Environments.{Environment}
 use Rattle.env_sets.specs.Sets.{Entries, set_denotes}
 use Rattle.env_sets.specs.States.{set_at}
-use Rattle.ctl_formula.specs.Plain.{Plain, True, Atom, Bail, BraceOpen, BraceClose, Inside, Outside, Not, And, Or, AX, EX, AU, EU, Past, Down, Exists}
+use Rattle.ctl_formula.specs.Plain.{Plain, True, Atom, EarlyExit, BraceOpen, BraceClose, Inside, Outside, Not, And, Or, AX, EX, AU, EU, After, InBranch, Exists}
 use Rattle.ctl_formula.specs.Tables.{at, plains}
 use Rattle.ctl_formula.specs.Formulas.{FormulaOf, plain}
 use Rattle.ctl_fixpoint.specs.CtlHolds.Rounds.{holds}
@@ -24,7 +24,7 @@ told_is_holds g f rows ok sets i s lt part ls env =
 pub part_trans : (a b c : Plain) → IsPart a b → IsPart b c → IsPart a c
 part_trans a b True p q = subst (IsPart a) q p
 part_trans a b (Atom t) p q = subst (IsPart a) q p
-part_trans a b Bail p q = subst (IsPart a) q p
+part_trans a b EarlyExit p q = subst (IsPart a) q p
 part_trans a b (BraceOpen t x) p q = subst (IsPart a) q p
 part_trans a b (BraceClose t x) p q = subst (IsPart a) q p
 part_trans a b (Inside y) p q = subst (IsPart a) q p
@@ -36,6 +36,6 @@ part_trans a b (AX f) p q = ⊎_elim (λ e. subst (IsPart a) e p) (λ r. inr (pa
 part_trans a b (EX f) p q = ⊎_elim (λ e. subst (IsPart a) e p) (λ r. inr (part_trans a b f p r)) q
 part_trans a b (AU f h) p q = ⊎_elim (λ e. subst (IsPart a) e p) (λ r. inr (⊎_elim (λ s. inl (part_trans a b f p s)) (λ s. inr (part_trans a b h p s)) r)) q
 part_trans a b (EU f h) p q = ⊎_elim (λ e. subst (IsPart a) e p) (λ r. inr (⊎_elim (λ s. inl (part_trans a b f p s)) (λ s. inr (part_trans a b h p s)) r)) q
-part_trans a b (Past f) p q = ⊎_elim (λ e. subst (IsPart a) e p) (λ r. inr (part_trans a b f p r)) q
-part_trans a b (Down i f) p q = ⊎_elim (λ e. subst (IsPart a) e p) (λ r. inr (part_trans a b f p r)) q
+part_trans a b (After f) p q = ⊎_elim (λ e. subst (IsPart a) e p) (λ r. inr (part_trans a b f p r)) q
+part_trans a b (InBranch i f) p q = ⊎_elim (λ e. subst (IsPart a) e p) (λ r. inr (part_trans a b f p r)) q
 part_trans a b (Exists x f) p q = ⊎_elim (λ e. subst (IsPart a) e p) (λ r. inr (part_trans a b f p r)) q

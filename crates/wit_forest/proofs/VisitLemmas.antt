@@ -19,7 +19,8 @@ use Rattle.wit_forest.specs.WitSteps.Steps.{kids, is_quantifier}
 use Rattle.wit_forest.specs.WitSteps.Touches.{own_touches}
 use Rattle.wit_forest.proofs.WitSteps.KidLemmas.{kid_step}
 use Rattle.wit_forest.specs.declared.states.State.{State}
-use Rattle.wit_forest.specs.Gathered.{Covered, node_at, forest_at, holds_at, quantified, IsHiddenDone, IsShownDone, IsExplored, Adds, Grows, HasTooMany, is_there}
+use Rattle.wit_forest.specs.Gathered.{Covered, node_at, forest_at, holds_at, quantified, IsHiddenDone, IsShownDone, IsExplored}
+use Rattle.wit_forest.specs.Gathered.{Adds, Grows, HasTooMany, is_there}
 use Rattle.wit_forest.proofs.AddLemmas.{of_state}
 use Rattle.wit_forest.proofs.LargeLemmas.{large_more}
 use Rattle.wit_forest.proofs.LoopLemmas.{none_in}
@@ -72,7 +73,8 @@ module _ (g : Flow) (f : FormulaOf) (i s : ℕ) (env : Environment) where
       subst (λ h. HasTooMany f.decls (λ z. is_there g f old found z || has (forest_of f.decls f.tokens g h s env) z)) (sym e) l
 
   -- trees are added for a quantifier, and no state
-  pub shown_adds : (old : List State) (found trees ws : List Witness) → ((z : Witness) → has trees z ≡ (has found z || has ws z)) → Adds g f old old found trees ws
+  pub shown_adds : (old : List State) (found trees ws : List Witness)
+      → ((z : Witness) → has trees z ≡ (has found z || has ws z)) → Adds g f old old found trees ws
   shown_adds old found trees ws h z =
       ap (λ b. b || list_any (of_state g f z) old) (h z) ∙ or_turned (has found z) (has ws z) (list_any (of_state g f z) old)
 
@@ -121,7 +123,8 @@ module _ (g : Flow) (f : FormulaOf) (i s : ℕ) (env : Environment) where
     of_kid z k = has (forest_at g f k.0 k.1 env) z
 
     pub step_adds : IsSound g → s < count_of g
-        → ((z : Witness) → list_any (of_state g f z) new ≡ (list_any (of_state g f z) old || list_any (of_kid z) (kids g (holds_at g f env) (node_at g f i) i s)))
+        → ((z : Witness) → list_any (of_state g f z) new
+        ≡ (list_any (of_state g f z) old || list_any (of_kid z) (kids g (holds_at g f env) (node_at g f i) i s)))
         → Adds g f old new found trees (forest_at g f i s env)
     step_adds ok lt h z =
         let own_has = has (own_touches f.decls f.tokens g x s env) z in

@@ -17,7 +17,7 @@ ghost use Rattle.wit_forest.specs.WitOrder.Forests.{has};
 ghost use Rattle.smpl_patch.specs.declared.witness.Witness.{Witness as Tree};
 ghost use Rattle.wit_forest.specs.Gathered.{node_at, forest_at as part_forest, holds_at, quantified, is_there};
 ghost use Rattle.wit_forest.specs.Gathered.{Covered, AreReady, InRange, IsBound, IsHiddenDone, IsShownDone, IsExplored, Adds, Grows, HasTooMany};
-ghost use Rattle.wit_forest.specs.WitTrees.Forest as of;
+ghost use Rattle.wit_forest.specs.WitTrees.Forest as spec;
 ghost use Rattle.wit_forest.specs.WitTrees.Graphs.{forest_of};
 
 use crate::fault::ForestFault;
@@ -35,7 +35,7 @@ use std::alloc::Global;
 
 /// Whether the variable is that of a block: its name begins with `{`.
 fn is_hidden(x: &Var) -> bool
-    ensures { result ≡ of.is_hidden x.now }
+    ensures { result ≡ spec.is_hidden x.now }
 {
     match x.name.as_bytes() {
         [b'{', ..] => true,
@@ -91,7 +91,7 @@ fn visit_hidden(
     requires range { InRange g.now f.now part part node }
     requires ready { AreReady g.now f.now sets.now }
     requires bound { IsBound f.now x.now part }
-    requires hidden { of.is_hidden x.now ≡ true }
+    requires hidden { spec.is_hidden x.now ≡ true }
     ensures there { IfOk result (λ _. (found : List Tree)
         → Adds g.now f.now states.old states.new found found (quantified g.now f.now x.now part node (total env.now))) }
     ensures done { IfOk result (λ _. IsHiddenDone g.now f.now states.new x.now part node (total env.now)) }
@@ -149,7 +149,7 @@ fn visit_values(
     requires range { InRange g.now f.now part part node }
     requires ready { AreReady g.now f.now sets.now }
     requires bound { IsBound f.now x.now part }
-    requires shown { of.is_hidden x.now ≡ false }
+    requires shown { spec.is_hidden x.now ≡ false }
     ensures there { IfOk result (λ _. (z : Tree) → has found.new z
         ≡ (has found.old z || has (quantified g.now f.now x.now part node (total env.now)) z)) }
     ensures done { IfOk result (λ _. IsShownDone g.now f.now found.new x.now part node (total env.now)) }
@@ -184,8 +184,8 @@ fn visit_quantifier(
     requires bound { IsBound f.now x.now part }
     ensures there { IfOk result (λ _. Adds g.now f.now states.old states.new found.old found.new
         (quantified g.now f.now x.now part node (total env.now))) }
-    ensures hidden { IfOk result (λ _. of.is_hidden x.now ≡ true → IsHiddenDone g.now f.now states.new x.now part node (total env.now)) }
-    ensures shown { IfOk result (λ _. of.is_hidden x.now ≡ false → IsShownDone g.now f.now found.new x.now part node (total env.now)) }
+    ensures hidden { IfOk result (λ _. spec.is_hidden x.now ≡ true → IsHiddenDone g.now f.now states.new x.now part node (total env.now)) }
+    ensures shown { IfOk result (λ _. spec.is_hidden x.now ≡ false → IsShownDone g.now f.now found.new x.now part node (total env.now)) }
     ensures grows { IfOk result (λ _. Grows g.now f.now part states.old states.new found.old found.new) }
     ensures too_many { result ≡ Err ForestFault.TooMany → HasTooMany f.now.decls
         (λ z. is_there g.now f.now states.old found.old z || has (quantified g.now f.now x.now part node (total env.now)) z) }

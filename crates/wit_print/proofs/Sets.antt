@@ -1,5 +1,6 @@
 -- Sets of names, and the witnesses of each rule.
-use Rattle.std.proofs.Common.{arith, ◌≡◌, ◌≢◌, ℕ, ◌+◌, ◌<◌, ◌≤◌, ◌⊎◌, inl, inr, Bool, true, false, ◌||◌, cond, eqb, refl, sym, ap, ◌∙◌, List, [], ◌∷◌, ◌++◌, map, length, get_or, take, set, nat_eq}
+use Rattle.std.proofs.Common.{arith, ◌≡◌, ◌≢◌, ℕ, ◌+◌, ◌<◌, ◌≤◌, ◌⊎◌, inl, inr, Bool, true, false, ◌||◌, cond, eqb, refl, sym}
+use Rattle.std.proofs.Common.{ap, ◌∙◌, List, [], ◌∷◌, ◌++◌, map, length, get_or, take, set, nat_eq}
 use Rattle.std.specs.List.{list_any, filter}
 use Rattle.std.proofs.lemmas.List.Folds.{list_any-append}
 use Rattle.std.proofs.lemmas.List.Elements.{filter-append, filter_more}
@@ -101,7 +102,8 @@ pub group_next : (count i : ℕ) (ws : List RuleWitness) (w : RuleWitness) (grou
 group_next count i ws w groups lt is are = rw (take_more ws i w lt, is) are
 
 -- the groups that the borrows lead to: the witness is added to its own group, or to none
-pub group_put : {Z : Type 0} (count : ℕ) (before : List RuleWitness) (groups : List (Vec (Bor RuleWitness) Z)) (w : Bor RuleWitness) (old new : Vec (Bor RuleWitness) Z)
+pub group_put : {Z : Type 0} (count : ℕ) (before : List RuleWitness) (groups : List (Vec (Bor RuleWitness) Z))
+    (w : Bor RuleWitness) (old new : Vec (Bor RuleWitness) Z)
     → w.now.rule < length groups → old ≡ get_or groups w.now.rule old → new.items ≡ old.items ++ w ∷ []
     → AreGroups count before (shown_groups groups) → AreGroups count (before ++ w.now ∷ []) (shown_groups (set groups w.now.rule new))
 group_put {Z} count before groups w old new lt is pushed are =
@@ -120,5 +122,7 @@ pub reported_next : (exports : List Var) (keys : List (List ℕ)) (all : List Va
     → told ≡ (d.inherited || has_name keys d.var.name) → old ≡ filter (is_reported exports) (take i all) → new ≡ old ++ cond told (d ∷ []) []
     → new ≡ filter (is_reported exports) (take (i + 1) all)
 reported_next exports keys all i d old new told lt is names tells before after =
-    after ∙ ap (λ b. old ++ cond b (d ∷ []) []) (tells ∙ ap (λ b. d.inherited || b) (names d.var.name)) ∙ ap (λ vs. vs ++ cond (is_reported exports d) (d ∷ []) []) before
-    ∙ ap (λ e. filter (is_reported exports) (take i all) ++ cond (is_reported exports e) (e ∷ []) []) (sym is) ∙ sym (filter_more (is_reported exports) all i d lt)
+    after ∙ ap (λ b. old ++ cond b (d ∷ []) []) (tells ∙ ap (λ b. d.inherited || b) (names d.var.name))
+    ∙ ap (λ vs. vs ++ cond (is_reported exports d) (d ∷ []) []) before
+    ∙ ap (λ e. filter (is_reported exports) (take i all) ++ cond (is_reported exports e) (e ∷ []) []) (sym is)
+    ∙ sym (filter_more (is_reported exports) all i d lt)

@@ -1,5 +1,6 @@
 -- Lists that are kept in one list: one more list, and the list of a number.
-use Rattle.std.proofs.Common.{◌≡◌, ℕ, zero, suc, ◌+◌, ◌-◌, ◌<◌, ◌≤◌, refl, sym, ap, subst, ◌∙◌, arith, List, [], ◌∷◌, ◌++◌, length, take, drop, get_or, length-append, Some, slice_get}
+use Rattle.std.proofs.Common.{◌≡◌, ℕ, zero, suc, ◌+◌, ◌-◌, ◌<◌, ◌≤◌, refl, sym, ap, subst, ◌∙◌, arith, List, [], ◌∷◌, ◌++◌}
+use Rattle.std.proofs.Common.{length, take, drop, get_or, length-append, Some, slice_get}
 use Rattle.std.specs.List.{slice_range}
 use Rattle.std.proofs.lemmas.List.{length-take-le, length-drop, take-append-le, drop-append-le, drop-take, take-take}
 use Rattle.std.proofs.Math.Seq.{drop-append_seam, take-length}
@@ -26,7 +27,8 @@ range-new n xs ys w =
     let s : (n + length ys) - n ≡ length ys = omega arith in
     (λ k. take (s k) (d k)) ∙ take-length ys
 
-lists-more : (from : ℕ) (es : List ℕ) (n : ℕ) (xs ys : List ℕ) → AreEnds from es → last_end from es ≤ n → n ≤ length xs → lists_of from es (take n xs ++ ys) ≡ lists_of from es xs
+lists-more : (from : ℕ) (es : List ℕ) (n : ℕ) (xs ys : List ℕ) → AreEnds from es → last_end from es ≤ n → n ≤ length xs
+    → lists_of from es (take n xs ++ ys) ≡ lists_of from es xs
 lists-more from [] n xs ys h l w = refl
 lists-more from (e ∷ es) n xs ys h l w =
     let r = ends-rise e es h.1 in
@@ -58,7 +60,8 @@ row-pushed ends xs ys k =
     let new = ap (slice_range zs n) e ∙ range-new n xs ys k.within in
     lists-snoc 0 ends (length zs) zs ∙ (λ j. before j ++ new j ∷ [])
 
-row-kept : (ends xs ys : List ℕ) → AreKept ends (length xs) → AreKept (ends ++ length (take (last_end 0 ends) xs ++ ys) ∷ []) (length (take (last_end 0 ends) xs ++ ys))
+row-kept : (ends xs ys : List ℕ) → AreKept ends (length xs)
+    → AreKept (ends ++ length (take (last_end 0 ends) xs ++ ys) ∷ []) (length (take (last_end 0 ends) xs ++ ys))
 row-kept ends xs ys k =
     let n = last_end 0 ends in
     let l = length-take-le n xs k.within in
@@ -70,12 +73,14 @@ pub lists-length : (from : ℕ) (es xs : List ℕ) → length (lists_of from es 
 lists-length from [] xs = refl
 lists-length from (e ∷ es) xs = ap suc (lists-length e es xs)
 
-pub lists-get : (from : ℕ) (es xs : List ℕ) (n : ℕ) → n < length es → get_or (lists_of from es xs) n [] ≡ slice_range xs (last_end from (take n es)) (get_or es n 0)
+pub lists-get : (from : ℕ) (es xs : List ℕ) (n : ℕ) → n < length es
+    → get_or (lists_of from es xs) n [] ≡ slice_range xs (last_end from (take n es)) (get_or es n 0)
 lists-get from [] xs n h = absurd (omega arith)
 lists-get from (e ∷ es) xs zero h = refl
 lists-get from (e ∷ es) xs (suc n) h = lists-get e es xs n (omega arith)
 
-pub ends-get : (from : ℕ) (es : List ℕ) (n : ℕ) → AreEnds from es → n < length es → (last_end from (take n es) ≤ get_or es n 0) × (get_or es n 0 ≤ last_end from es)
+pub ends-get : (from : ℕ) (es : List ℕ) (n : ℕ) → AreEnds from es → n < length es
+    → (last_end from (take n es) ≤ get_or es n 0) × (get_or es n 0 ≤ last_end from es)
 ends-get from [] n h l = absurd (omega arith)
 ends-get from (e ∷ es) zero h l = (h.0, ends-rise e es h.1)
 ends-get from (e ∷ es) (suc n) h l = ends-get e es n h.1 (omega arith)
@@ -88,7 +93,8 @@ last-get from (e ∷ (f ∷ es)) x h =
     last-get e (f ∷ es) x (h ∙ ap (slice_get (e ∷ f ∷ es)) k)
 
 -- one more list, as the code appends it
-pub pushed : (ends xs ys ends' xs' : List ℕ) (from end : ℕ) → AreKept ends (length xs) → from ≡ last_end 0 ends → xs' ≡ take from xs ++ ys → end ≡ length xs' → ends' ≡ ends ++ end ∷ []
+pub pushed : (ends xs ys ends' xs' : List ℕ) (from end : ℕ) → AreKept ends (length xs) → from ≡ last_end 0 ends
+    → xs' ≡ take from xs ++ ys → end ≡ length xs' → ends' ≡ ends ++ end ∷ []
     → (lists_of 0 ends' xs' ≡ lists_of 0 ends xs ++ ys ∷ []) × AreKept ends' (length xs')
 pushed ends xs ys ends' xs' from end k f x n e =
     let zs = take (last_end 0 ends) xs ++ ys in
@@ -99,6 +105,7 @@ pushed ends xs ys ends' xs' from end k f x n e =
     (ap (λ (p : List ℕ × List ℕ). lists_of 0 p.0 p.1) both ∙ row-pushed ends xs ys k, subst P (sym both) (row-kept ends xs ys k))
 
 -- the list of a number ends somewhere
-pub kept-within : (ends numbers : List ℕ) (all : List (List ℕ)) (found : List ℕ) (n : ℕ) → lists_of 0 ends numbers ≡ all → found ≡ ends → n < length all → n < length found
+pub kept-within : (ends numbers : List ℕ) (all : List (List ℕ)) (found : List ℕ) (n : ℕ) → lists_of 0 ends numbers ≡ all
+    → found ≡ ends → n < length all → n < length found
 kept-within ends numbers all found n e f h =
     let l = lists-length 0 ends numbers in let a = ap length e in let b = ap length f in omega (arith, l, a, b, h)

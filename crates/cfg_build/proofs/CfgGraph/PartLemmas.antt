@@ -1,5 +1,6 @@
 -- What is inside a label's tree is among the values of its graph.
-use Rattle.std.proofs.Common.{◌≡◌, ℕ, zero, suc, refl, sym, ap, ◌∙◌, subst, arith, List, [], ◌∷◌, ◌++◌, append_assoc, map, Option, None, Some, slice_get, option_and_then, Contains}
+use Rattle.std.proofs.Common.{◌≡◌, ℕ, zero, suc, refl, sym, ap, ◌∙◌, subst, arith, List, [], ◌∷◌, ◌++◌, append_assoc, map}
+use Rattle.std.proofs.Common.{Option, None, Some, slice_get, option_and_then, Contains}
 use Rattle.std.proofs.lemmas.List.Elements.{Contains-append_left, Contains-append_right}
 use Rattle.c_terms.specs.declared.label.Label.{Label}
 use Rattle.c_terms.specs.declared.list.Member.{Member}
@@ -35,7 +36,8 @@ there-append (p ∷ ps) qs = ap (λ ts. terms_at p.tree ++ ts) (there-append ps 
 there-step : (k : ℕ) (ps : List Place) (more : List Place) → terms_there (map (below k) ps ++ more) ≡ terms_there ps ++ terms_there more
 there-step k ps more = there-append (map (below k) ps) more ∙ ap (λ ts. ts ++ terms_there more) (there-below k ps)
 
-in-children : (k : ℕ) (cs : List Tree) (i : ℕ) (c x : Tree) → slice_get cs i ≡ Some c → Contains (terms_in c) x → Contains (terms_there (places_from k (map places cs))) x
+in-children : (k : ℕ) (cs : List Tree) (i : ℕ) (c x : Tree) → slice_get cs i ≡ Some c → Contains (terms_in c) x
+    → Contains (terms_there (places_from k (map places cs))) x
 in-children k [] i c x e h = absurd (cc)
 in-children k (d ∷ cs) zero c x e h = let same : c ≡ d = cc in
     subst (λ ts. Contains ts x) (sym (there-step k (places d) (places_from (suc k) (map places cs))))
@@ -71,31 +73,40 @@ itself : (t : Tree) → Contains (terms_in t) t
 itself t = let b = terms-first t in subst (λ ts. Contains ts t) (sym b.1) (first t b.0)
 
 -- the run of all members in between, among the runs that begin with those before
-in-after : (l : Label) (before : List Member) (m : Member) (more after : List Member) → Contains (runs_after l before (m ∷ more ++ after)) (run l (before ++ m ∷ more))
+in-after : (l : Label) (before : List Member) (m : Member) (more after : List Member)
+    → Contains (runs_after l before (m ∷ more ++ after)) (run l (before ++ m ∷ more))
 in-after l before m [] after = first (run l (before ++ m ∷ [])) (runs_after l (before ++ m ∷ []) after)
 in-after l before m (k ∷ more) after =
-    let rest = subst (λ ms. Contains (runs_after l (before ++ m ∷ []) (k ∷ more ++ after)) (run l ms)) (append_assoc before (m ∷ []) (k ∷ more)) (in-after l (before ++ m ∷ []) k more after) in
+    let rest = subst (λ ms. Contains (runs_after l (before ++ m ∷ []) (k ∷ more ++ after)) (run l ms))
+    (append_assoc before (m ∷ []) (k ∷ more)) (in-after l (before ++ m ∷ []) k more after) in
     Contains-append_right (run l (before ++ m ∷ []) ∷ []) (runs_after l (before ++ m ∷ []) (k ∷ more ++ after)) (run l (before ++ m ∷ k ∷ more)) rest
 
 in-from : (l : Label) (before : List Member) (m : Member) (more after : List Member) → Contains (runs_from l (before ++ m ∷ more ++ after)) (run l (m ∷ more))
-in-from l [] m more after = Contains-append_left (runs_after l [] (m ∷ more ++ after)) (runs_from l (more ++ after)) (run l (m ∷ more)) (in-after l [] m more after)
-in-from l (b ∷ before) m more after = Contains-append_right (runs_after l [] (b ∷ before ++ m ∷ more ++ after)) (runs_from l (before ++ m ∷ more ++ after)) (run l (m ∷ more)) (in-from l before m more after)
+in-from l [] m more after = Contains-append_left (runs_after l [] (m ∷ more ++ after)) (runs_from l (more ++ after))
+    (run l (m ∷ more)) (in-after l [] m more after)
+in-from l (b ∷ before) m more after = Contains-append_right (runs_after l [] (b ∷ before ++ m ∷ more ++ after))
+    (runs_from l (before ++ m ∷ more ++ after)) (run l (m ∷ more)) (in-from l before m more after)
 
 in-runs : (l : Label) (before ms after : List Member) → Contains (runs l (before ++ ms ++ after)) (run l ms)
 in-runs l before [] after = first (run l []) (runs_from l (before ++ [] ++ after))
-in-runs l before (m ∷ more) after = Contains-append_right (run l [] ∷ []) (runs_from l (before ++ m ∷ more ++ after)) (run l (m ∷ more)) (in-from l before m more after)
+in-runs l before (m ∷ more) after = Contains-append_right (run l [] ∷ []) (runs_from l (before ++ m ∷ more ++ after))
+    (run l (m ∷ more)) (in-from l before m more after)
 
-runs-here : (l : Label) (cs : List Tree) (before ms after : List Member) → shape_of l ≡ shape.List → members cs ≡ before ++ ms ++ after → Contains (terms_at (Branch l cs)) (run l ms)
+runs-here : (l : Label) (cs : List Tree) (before ms after : List Member) → shape_of l ≡ shape.List
+    → members cs ≡ before ++ ms ++ after → Contains (terms_at (Branch l cs)) (run l ms)
 runs-here l cs before ms after s e =
-    let here = subst (λ k. Contains (runs_of_shape k l cs) (run l ms)) (sym s) (subst (λ xs. Contains (runs l xs) (run l ms)) (sym e) (in-runs l before ms after)) in
+    let here = subst (λ k. Contains (runs_of_shape k l cs) (run l ms)) (sym s)
+    (subst (λ xs. Contains (runs l xs) (run l ms)) (sym e) (in-runs l before ms after)) in
     let here = subst (λ layer. Contains (runs_at layer) (run l ms)) (sym (out-Branch l cs)) here in
     Contains-append_right (Branch l cs ∷ []) (runs_at (out-Tree (Branch l cs))) (run l ms) here
 
-runs-in : (l : Label) (cs : List Tree) (before ms after : List Member) → shape_of l ≡ shape.List → members cs ≡ before ++ ms ++ after → Contains (terms_in (Branch l cs)) (run l ms)
+runs-in : (l : Label) (cs : List Tree) (before ms after : List Member) → shape_of l ≡ shape.List
+    → members cs ≡ before ++ ms ++ after → Contains (terms_in (Branch l cs)) (run l ms)
 runs-in l cs before ms after s e = subst (λ ts. Contains ts (run l ms)) (sym (ap terms_there (places-Branch l cs)))
     (Contains-append_left (terms_at (Branch l cs)) (terms_there (places_from 0 (map places cs))) (run l ms) (runs-here l cs before ms after s e))
 
-pub subtree-term : (g : Flow) (n : ℕ) (l : NodeLabel) (path : List ℕ) (t : Tree) → slice_get g.labels n ≡ Some l → subtree l.tree path ≡ Some t → Contains (terms_of g) t
+pub subtree-term : (g : Flow) (n : ℕ) (l : NodeLabel) (path : List ℕ) (t : Tree) → slice_get g.labels n ≡ Some l
+    → subtree l.tree path ≡ Some t → Contains (terms_of g) t
 subtree-term g n l path t e s = in-join (λ l. terms_in l.tree) g.labels n l t e (in-subtree path l.tree t t s (itself t))
 
 pub run-term : (g : Flow) (n : ℕ) (l : NodeLabel) (path : List ℕ) (k : Label) (cs : List Tree) (before ms after : List Member) → slice_get g.labels n ≡ Some l
@@ -105,8 +116,10 @@ run-term g n l path k cs before ms after e s h m =
 
 map-contains : (ts : List Token) (a : Token) → Contains ts a → Contains (map (λ (t : Token). t.id) ts) a.id
 map-contains [] a h = absurd (omega (arith, h.1))
-map-contains (t ∷ ts) a (zero, l, e) = subst (λ (i : ℕ). Contains (t.id ∷ map (λ (t : Token). t.id) ts) i) (ap (λ (t : Token). t.id) e) (first t.id (map (λ (t : Token). t.id) ts))
+map-contains (t ∷ ts) a (zero, l, e) = subst (λ (i : ℕ). Contains (t.id ∷ map (λ (t : Token). t.id) ts) i)
+    (ap (λ (t : Token). t.id) e) (first t.id (map (λ (t : Token). t.id) ts))
 map-contains (t ∷ ts) a (suc i, l, e) = Contains-append_right (t.id ∷ []) (map (λ (t : Token). t.id) ts) a.id (map-contains ts a (i, omega (arith, l), e))
 
 pub token-place : (g : Flow) (n : ℕ) (l : NodeLabel) (a : Token) → slice_get g.labels n ≡ Some l → Contains (leaves l.tree) a → Contains (places_of g) a.id
-token-place g n l a e h = in-join places_in g.labels n l a.id e (Contains-append_right (l.brace ∷ []) (map (λ (t : Token). t.id) (leaves l.tree)) a.id (map-contains (leaves l.tree) a h))
+token-place g n l a e h = in-join places_in g.labels n l a.id e
+    (Contains-append_right (l.brace ∷ []) (map (λ (t : Token). t.id) (leaves l.tree)) a.id (map-contains (leaves l.tree) a h))

@@ -48,4 +48,5 @@ earlier ns k s h e = let g = h k in let n = ap seat_needs e in omega (arith, g, 
 -- one step up
 pub way-up : (p q steps more : List ℕ) (i : ℕ) → p ≡ q ++ i ∷ [] → more ≡ steps ++ i ∷ [] → q ++ reverse more ≡ p ++ reverse steps
 way-up p q steps more i e m =
-    ap (λ s. q ++ reverse s) m ∙ ap (λ s. q ++ s) (reverse-append steps (i ∷ [])) ∙ sym (append_assoc q (i ∷ []) (reverse steps)) ∙ ap (λ p. p ++ reverse steps) (sym e)
+    ap (λ s. q ++ reverse s) m ∙ ap (λ s. q ++ s) (reverse-append steps (i ∷ []))
+    ∙ sym (append_assoc q (i ∷ []) (reverse steps)) ∙ ap (λ p. p ++ reverse steps) (sym e)

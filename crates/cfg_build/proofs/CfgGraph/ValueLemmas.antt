@@ -14,7 +14,8 @@ use Rattle.cfg_build.specs.CfgGraph.Values.{runs_at, terms_at, terms_in, terms_o
 pub first : {X : Type 0} (x : X) (xs : List X) → Contains (x ∷ xs) x
 first x xs = (zero, omega arith, refl)
 
-pub in-join : {X : Type 0} (f : NodeLabel → List X) (ls : List NodeLabel) (n : ℕ) (l : NodeLabel) (x : X) → slice_get ls n ≡ Some l → Contains (f l) x → Contains (join (map f ls)) x
+pub in-join : {X : Type 0} (f : NodeLabel → List X) (ls : List NodeLabel) (n : ℕ) (l : NodeLabel) (x : X)
+    → slice_get ls n ≡ Some l → Contains (f l) x → Contains (join (map f ls)) x
 in-join f [] n l x e h = absurd (cc)
 in-join f (m ∷ ls) zero l x e h = let g : l ≡ m = cc in Contains-append_left (f m) (join (map f ls)) x (subst (λ k. Contains (f k) x) g h)
 in-join f (m ∷ ls) (suc n) l x e h = Contains-append_right (f m) (join (map f ls)) x (in-join f ls n l x e h)

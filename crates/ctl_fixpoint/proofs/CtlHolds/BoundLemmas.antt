@@ -16,8 +16,8 @@ use Rattle.smpl_terms.proofs.VarLaws.{same_var-sym}
 use Rattle.smpl_patch.specs.declared.pattern.VarDecl.{VarDecl}
 use Rattle.smpl_patch.specs.declared.pattern.PatToken.{PatToken}
 use Rattle.smpl_patch.specs.Patterns.{sure}
-use Rattle.ctl_formula.specs.Plain.{Plain, True, Atom, Bail, BraceOpen, BraceClose, Inside, Outside, Not, And, Or, AX, EX, AU}
-use Rattle.ctl_formula.specs.Plain.{EU, Past, Down, Exists}
+use Rattle.ctl_formula.specs.Plain.{Plain, True, Atom, EarlyExit, BraceOpen, BraceClose, Inside, Outside, Not, And, Or, AX, EX, AU}
+use Rattle.ctl_formula.specs.Plain.{EU, After, InBranch, Exists}
 use Rattle.ctl_formula.specs.Bounds.{bound, bound_not}
 use Rattle.ctl_fixpoint.specs.CtlHolds.Values.{values_of, is_among}
 use Rattle.ctl_fixpoint.specs.CtlHolds.Parts.{EachPattern}
@@ -30,15 +30,15 @@ use Rattle.ctl_fixpoint.proofs.CtlHolds.GraphLemmas.{node_after, first_after, pa
 use Rattle.ctl_fixpoint.proofs.CtlHolds.AtomLemmas.{atom-among, block-among, brace-among}
 use Rattle.ctl_fixpoint.proofs.CtlHolds.HoldLemmas.{holds_decides}
 
-there_found : (x : ℕ → Bool) (o : Option ℕ) → passes_there x o ≡ true → (k : ℕ) × (o ≡ Some k) × (x k ≡ true)
+pub there_found : (x : ℕ → Bool) (o : Option ℕ) → passes_there x o ≡ true → (k : ℕ) × (o ≡ Some k) × (x k ≡ true)
 there_found x None h = not_both false h refl
 there_found x (Some k) h = (k, refl, h)
 
 -- another variable keeps its value
-other-value : (env : Environment) (y : Var) (v : Value) (x : Var) → not (same_var y x) ≡ true → change env y v x ≡ env x
+pub other-value : (env : Environment) (y : Var) (v : Value) (x : Var) → not (same_var y x) ≡ true → change env y v x ≡ env x
 other-value env y v x h = ap (λ b. cond b v (env x)) (same_var-sym x y ∙ not_true (same_var y x) h)
 
-some_label : (ls : List NodeLabel) (s : ℕ) → s < length ls → (l : NodeLabel) × (slice_get ls s ≡ Some l)
+pub some_label : (ls : List NodeLabel) (s : ℕ) → s < length ls → (l : NodeLabel) × (slice_get ls s ≡ Some l)
 some_label [] s lt = absurd (omega (arith, lt))
 some_label (l ∷ ls) zero lt = (l, refl)
 some_label (l ∷ ls) (suc s) lt = some_label ls s (omega (arith, lt))
@@ -87,7 +87,7 @@ module _ (decls : List VarDecl) (tokens : List PatToken) (g : Flow) (ok : IsSoun
       × (bound_not (sure decls tokens) f x ≡ true → holds decls tokens g m f s env ≡ false → Among env x)
   bound_law True e s lt env x = (λ b h. not_both false b refl, λ b h. not_both true refl h)
   bound_law (Atom p) e s lt env x = (λ b h. atom-among decls tokens g p e s env x b h, λ b h. not_both false b refl)
-  bound_law Bail e s lt env x = (λ b h. not_both false b refl, λ b h. not_both false b refl)
+  bound_law EarlyExit e s lt env x = (λ b h. not_both false b refl, λ b h. not_both false b refl)
   bound_law (BraceOpen p y) e s lt env x =
       (λ b h. brace-among decls tokens g p e s env x is_open y b h, λ b h. not_both false b refl)
   bound_law (BraceClose p y) e s lt env x =
@@ -139,13 +139,13 @@ module _ (decls : List VarDecl) (tokens : List PatToken) (g : Flow) (ok : IsSoun
     λ b w. (bound_law h e.1 s lt env x).1 b
         (until_not g ok false (λ n. holds decls tokens g m f n env) (λ n. holds decls tokens g m h n env) m s pos w),
   )
-  bound_law (Past f) e s lt env x = (
+  bound_law (After f) e s lt env x = (
     λ b w.
         let k = there_found (λ n. holds decls tokens g m f n env) (past_of g s) w in
         (bound_law f e k.0 (past_node g ok s k.0 lt k.1) env x).0 b k.2,
     λ b w. not_both false b refl,
   )
-  bound_law (Down i f) e s lt env x = (
+  bound_law (InBranch i f) e s lt env x = (
     λ b w.
         let k = there_found (λ n. holds decls tokens g m f n env) (slice_get (down_of g s) i) w in
         (bound_law f e k.0 (down_node g ok s i k.0 lt k.1) env x).0 b k.2,

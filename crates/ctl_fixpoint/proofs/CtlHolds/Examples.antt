@@ -13,7 +13,7 @@ use Rattle.smpl_terms.specs.declared.var.Var.{Var}
 use Rattle.smpl_terms.specs.declared.value.Value.{Value}
 use Rattle.smpl_terms.specs.declared.value.Value.TheVariants.{Term, Place}
 use Rattle.smpl_terms.specs.Environments.{Environment}
-use Rattle.ctl_formula.specs.Plain.{Plain, True, Bail, Inside, Outside, Not, And, Or, AX, EX, AU, EU, Past, Down}
+use Rattle.ctl_formula.specs.Plain.{Plain, True, EarlyExit, Inside, Outside, Not, And, Or, AX, EX, AU, EU, After, InBranch}
 use Rattle.ctl_fixpoint.specs.CtlHolds.Rounds.{holds}
 
 abbrev label : NodeKind → Bool → NodeLabel
@@ -39,7 +39,7 @@ env x = Place 7
 module _ (b : Var) where
   -- the exit is the only node outside the block that has no body
   abbrev exit : Plain
-  exit = And (Outside b) (Not (Down 0 True))
+  exit = And (Outside b) (Not (InBranch 0 True))
 
   -- some walk leaves the function; a walk that stays in a loop forever does not, so not every walk does
   some_leave : at 8 (EU True exit) 0 env ≡ true
@@ -62,7 +62,7 @@ module _ (b : Var) where
   way_before : at 8 (EU (Not exit) exit) 3 env ≡ true
   way_before = refl
 
-  way_broken : at 8 (EU (Not Bail) exit) 3 env ≡ false
+  way_broken : at 8 (EU (Not EarlyExit) exit) 3 env ≡ false
   way_broken = refl
 
   -- from node 0 the exit is the fifth node: a bound of four is too small, and one more than the number of nodes is enough
@@ -80,27 +80,27 @@ module _ (b : Var) where
   loop_not_longer = refl
 
   -- next is not past: past the `if` is the `}`, while next are its branches
-  past_is_not_next : at 8 (Past (AX exit)) 2 env ≡ true
+  past_is_not_next : at 8 (After (AX exit)) 2 env ≡ true
   past_is_not_next = refl
 
   next_is_not_past : at 8 (AX (AX exit)) 2 env ≡ false
   next_is_not_past = refl
 
-  -- where there is no such node, neither `Past` nor `Down` holds for anything
-  no_past : at 8 (Past True) 3 env ≡ false
+  -- where there is no such node, neither `After` nor `InBranch` holds for anything
+  no_past : at 8 (After True) 3 env ≡ false
   no_past = refl
 
-  no_third_body : at 8 (Down 2 True) 2 env ≡ false
+  no_third_body : at 8 (InBranch 2 True) 2 env ≡ false
   no_third_body = refl
 
-  first_body : at 8 (Down 0 Bail) 2 env ≡ true
+  first_body : at 8 (InBranch 0 EarlyExit) 2 env ≡ true
   first_body = refl
 
-  second_body : at 8 (Down 1 Bail) 2 env ≡ false
+  second_body : at 8 (InBranch 1 EarlyExit) 2 env ≡ false
   second_body = refl
 
   -- a bail is marked at the node itself; the `}` of a block is not outside it yet
-  bail_there : at 8 (And (EX Bail) (Not Bail)) 2 env ≡ true
+  bail_there : at 8 (And (EX EarlyExit) (Not EarlyExit)) 2 env ≡ true
   bail_there = refl
 
   exit_there : at 8 exit 5 env ≡ false

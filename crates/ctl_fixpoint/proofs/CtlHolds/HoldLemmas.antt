@@ -7,8 +7,8 @@ use Rattle.cfg_build.specs.CfgGraph.Flow.{Flow, IsSound, count_of, succ_of, past
 use Rattle.smpl_terms.specs.Environments.{Environment, change}
 use Rattle.smpl_patch.specs.declared.pattern.VarDecl.{VarDecl}
 use Rattle.smpl_patch.specs.declared.pattern.PatToken.{PatToken}
-use Rattle.ctl_formula.specs.Plain.{Plain, True, Atom, Bail, BraceOpen, BraceClose, Inside, Outside, Not, And, Or, AX, EX, AU}
-use Rattle.ctl_formula.specs.Plain.{EU, Past, Down, Exists}
+use Rattle.ctl_formula.specs.Plain.{Plain, True, Atom, EarlyExit, BraceOpen, BraceClose, Inside, Outside, Not, And, Or, AX, EX, AU}
+use Rattle.ctl_formula.specs.Plain.{EU, After, InBranch, Exists}
 use Rattle.ctl_fixpoint.specs.CtlHolds.Values.{values_of}
 use Rattle.ctl_fixpoint.specs.CtlHolds.Holding.{Holds}
 use Rattle.ctl_fixpoint.specs.CtlHolds.Rounds.{passes_there, holds}
@@ -64,7 +64,7 @@ module _ (decls : List VarDecl) (tokens : List PatToken) (g : Flow) (ok : IsSoun
       → Decides (holds decls tokens g m f s env) (Holds decls tokens g m f s env)
   holds_decides True s lt env = (λ h. tt, λ w. refl)
   holds_decides (Atom p) s lt env = (λ h. h, λ w. w)
-  holds_decides Bail s lt env = (λ h. h, λ w. w)
+  holds_decides EarlyExit s lt env = (λ h. h, λ w. w)
   holds_decides (BraceOpen p b) s lt env = (λ h. h, λ w. w)
   holds_decides (BraceClose p b) s lt env = (λ h. h, λ w. w)
   holds_decides (Inside b) s lt env = (λ h. h, λ w. w)
@@ -86,10 +86,10 @@ module _ (decls : List VarDecl) (tokens : List PatToken) (g : Flow) (ok : IsSoun
       some_decides g ok (λ k. Holds decls tokens g m f k env) (λ k. Holds decls tokens g m h k env)
       (λ k. holds decls tokens g m f k env) (λ k. holds decls tokens g m h k env)
       (λ k l. holds_decides f k l env) (λ k l. holds_decides h k l env) m s lt
-  holds_decides (Past f) s lt env =
+  holds_decides (After f) s lt env =
       there_decides (λ k. holds decls tokens g m f k env) (λ k. Holds decls tokens g m f k env) (past_of g s)
       (λ k e. holds_decides f k (past_node g ok s k lt e) env)
-  holds_decides (Down i f) s lt env =
+  holds_decides (InBranch i f) s lt env =
       there_decides (λ k. holds decls tokens g m f k env) (λ k. Holds decls tokens g m f k env) (slice_get (down_of g s) i)
       (λ k e. holds_decides f k (down_node g ok s i k lt e) env)
   holds_decides (Exists x f) s lt env =

@@ -35,7 +35,7 @@ module _ (h : Plain) (Found : Type 0) (fs : List Plain) (i : ℕ) (inside : (j :
   by_node : (n : Node) → below i n ≡ true → (h ≡ plain_of fs n → Found) → IsPart h (plain_of fs n) → Found
   by_node node.True b own p = own p
   by_node (node.Atom q) b own p = own p
-  by_node node.Bail b own p = own p
+  by_node node.EarlyExit b own p = own p
   by_node (node.BraceOpen q y) b own p = own p
   by_node (node.BraceClose q y) b own p = own p
   by_node (node.Inside y) b own p = own p
@@ -47,8 +47,8 @@ module _ (h : Plain) (Found : Type 0) (fs : List Plain) (i : ℕ) (inside : (j :
   by_node (node.EX j) b own p = ⊎_elim own (inside j (lt-true j i b)) p
   by_node (node.AU j k) b own p = ⊎_elim own (two j k b) p
   by_node (node.EU j k) b own p = ⊎_elim own (two j k b) p
-  by_node (node.Past j) b own p = ⊎_elim own (inside j (lt-true j i b)) p
-  by_node (node.Down y j) b own p = ⊎_elim own (inside j (lt-true j i b)) p
+  by_node (node.After j) b own p = ⊎_elim own (inside j (lt-true j i b)) p
+  by_node (node.InBranch y j) b own p = ⊎_elim own (inside j (lt-true j i b)) p
   by_node (node.Exists x j) b own p = ⊎_elim own (inside j (lt-true j i b)) p
 
 module _ (ns : List Node) (o : ordered ns ≡ true) (h : Plain) where

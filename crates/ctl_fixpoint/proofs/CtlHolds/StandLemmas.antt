@@ -116,7 +116,7 @@ pub each_step : (P : Pattern → Type 0) (n : Node) (fs : List Plain) (len : ℕ
     → ((i : ℕ) → i < len → EachPattern P (at fs i)) → EachPattern P (plain_of fs n)
 each_step P node.True fs len b o h = tt
 each_step P (node.Atom p) fs len b o h = o
-each_step P node.Bail fs len b o h = tt
+each_step P node.EarlyExit fs len b o h = tt
 each_step P (node.BraceOpen p y) fs len b o h = o
 each_step P (node.BraceClose p y) fs len b o h = o
 each_step P (node.Inside y) fs len b o h = tt
@@ -128,6 +128,6 @@ each_step P (node.AX i) fs len b o h = h i (lt-true i len b)
 each_step P (node.EX i) fs len b o h = h i (lt-true i len b)
 each_step P (node.AU i j) fs len b o h = (h i (fst i j len b), h j (snd i j len b))
 each_step P (node.EU i j) fs len b o h = (h i (fst i j len b), h j (snd i j len b))
-each_step P (node.Past i) fs len b o h = h i (lt-true i len b)
-each_step P (node.Down y i) fs len b o h = h i (lt-true i len b)
+each_step P (node.After i) fs len b o h = h i (lt-true i len b)
+each_step P (node.InBranch y i) fs len b o h = h i (lt-true i len b)
 each_step P (node.Exists x i) fs len b o h = h i (lt-true i len b)

@@ -14,8 +14,8 @@ use Rattle.smpl_patch.specs.declared.pattern.VarDecl.{VarDecl}
 use Rattle.smpl_patch.specs.declared.pattern.PatToken.{PatToken}
 use Rattle.smpl_patch.specs.declared.pattern.Pattern.{Pattern}
 use Rattle.pat_match.specs.Matching.{matches}
-use Rattle.ctl_formula.specs.Plain.{Plain, True, Atom, Bail, BraceOpen, BraceClose, Inside, Outside, Not, And, Or, AX, EX, AU}
-use Rattle.ctl_formula.specs.Plain.{EU, Past, Down, Exists}
+use Rattle.ctl_formula.specs.Plain.{Plain, True, Atom, EarlyExit, BraceOpen, BraceClose, Inside, Outside, Not, And, Or, AX, EX, AU}
+use Rattle.ctl_formula.specs.Plain.{EU, After, InBranch, Exists}
 use Rattle.ctl_fixpoint.specs.CtlHolds.Values.{values_of}
 use Rattle.ctl_fixpoint.specs.CtlHolds.Untils.{SomeWalk, EveryWalk}
 
@@ -69,7 +69,7 @@ module _ (decls : List VarDecl) (tokens : List PatToken) (g : Flow) where
     abbrev pub Holds : Plain → ℕ → Environment → Type 0
     Holds True s env = Unit {0}
     Holds (Atom p) s env = atom_at p s env ≡ true
-    Holds Bail s env = at_node g s (λ l. l.bail) ≡ true
+    Holds EarlyExit s env = at_node g s (λ l. l.bail) ≡ true
     Holds (BraceOpen p b) s env = brace_at is_open p b s env ≡ true
     Holds (BraceClose p b) s env = brace_at is_close p b s env ≡ true
     Holds (Inside b) s env = in_block g (env b) s ≡ true
@@ -81,6 +81,6 @@ module _ (decls : List VarDecl) (tokens : List PatToken) (g : Flow) where
     Holds (EX f) s env = (k : ℕ) × Contains (succ_of g s) k × Holds f k env
     Holds (AU f h) s env = EveryWalk g m (λ k. Holds f k env) (λ k. Holds h k env) s
     Holds (EU f h) s env = SomeWalk g m (λ k. Holds f k env) (λ k. Holds h k env) s
-    Holds (Past f) s env = (k : ℕ) × (past_of g s ≡ Some k) × Holds f k env
-    Holds (Down i f) s env = (k : ℕ) × (slice_get (down_of g s) i ≡ Some k) × Holds f k env
+    Holds (After f) s env = (k : ℕ) × (past_of g s ≡ Some k) × Holds f k env
+    Holds (InBranch i f) s env = (k : ℕ) × (slice_get (down_of g s) i ≡ Some k) × Holds f k env
     Holds (Exists x f) s env = (v : Value) × Contains (values_of g) v × Holds f s (change env x v)

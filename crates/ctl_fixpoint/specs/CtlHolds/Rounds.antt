@@ -5,8 +5,8 @@ use Rattle.cfg_build.specs.CfgGraph.Flow.{Flow, succ_of, past_of, down_of}
 use Rattle.smpl_terms.specs.Environments.{Environment, change}
 use Rattle.smpl_patch.specs.declared.pattern.VarDecl.{VarDecl}
 use Rattle.smpl_patch.specs.declared.pattern.PatToken.{PatToken}
-use Rattle.ctl_formula.specs.Plain.{Plain, True, Atom, Bail, BraceOpen, BraceClose, Inside, Outside, Not, And, Or, AX, EX, AU}
-use Rattle.ctl_formula.specs.Plain.{EU, Past, Down, Exists}
+use Rattle.ctl_formula.specs.Plain.{Plain, True, Atom, EarlyExit, BraceOpen, BraceClose, Inside, Outside, Not, And, Or, AX, EX, AU}
+use Rattle.ctl_formula.specs.Plain.{EU, After, InBranch, Exists}
 use Rattle.ctl_fixpoint.specs.CtlHolds.Values.{values_of}
 use Rattle.ctl_fixpoint.specs.CtlHolds.Holding.{at_node, is_open, is_close, in_block, off_block, atom_at, brace_at}
 
@@ -34,7 +34,7 @@ module _ (decls : List VarDecl) (tokens : List PatToken) (g : Flow) (m : ℕ) wh
   abbrev pub holds : Plain → ℕ → Environment → Bool
   holds True s env = true
   holds (Atom p) s env = atom_at decls tokens g p s env
-  holds Bail s env = at_node g s (λ l. l.bail)
+  holds EarlyExit s env = at_node g s (λ l. l.bail)
   holds (BraceOpen p b) s env = brace_at decls tokens g is_open p b s env
   holds (BraceClose p b) s env = brace_at decls tokens g is_close p b s env
   holds (Inside b) s env = in_block g (env b) s
@@ -46,6 +46,6 @@ module _ (decls : List VarDecl) (tokens : List PatToken) (g : Flow) (m : ℕ) wh
   holds (EX f) s env = passes false (λ k. holds f k env) (succ_of g s)
   holds (AU f h) s env = rounds g true (λ k. holds f k env) (λ k. holds h k env) m s
   holds (EU f h) s env = rounds g false (λ k. holds f k env) (λ k. holds h k env) m s
-  holds (Past f) s env = passes_there (λ k. holds f k env) (past_of g s)
-  holds (Down i f) s env = passes_there (λ k. holds f k env) (slice_get (down_of g s) i)
+  holds (After f) s env = passes_there (λ k. holds f k env) (past_of g s)
+  holds (InBranch i f) s env = passes_there (λ k. holds f k env) (slice_get (down_of g s) i)
   holds (Exists x f) s env = list_any (λ v. holds f s (change env x v)) (values_of g)

@@ -19,7 +19,7 @@ use Rattle.ctl_translate.specs.declared.ctl_bound.steps.Step.{Step}
 is_below-node : (i : ℕ) (n : Node) → is_below i (step_of n) ≡ below i n
 is_below-node i node.True = refl
 is_below-node i (node.Atom p) = refl
-is_below-node i node.Bail = refl
+is_below-node i node.EarlyExit = refl
 is_below-node i (node.BraceOpen p b) = refl
 is_below-node i (node.BraceClose p b) = refl
 is_below-node i (node.Inside b) = refl
@@ -31,8 +31,8 @@ is_below-node i (node.AX f) = refl
 is_below-node i (node.EX f) = refl
 is_below-node i (node.AU f g) = refl
 is_below-node i (node.EU f g) = refl
-is_below-node i (node.Past f) = refl
-is_below-node i (node.Down b f) = refl
+is_below-node i (node.After f) = refl
+is_below-node i (node.InBranch b f) = refl
 is_below-node i (node.Exists y f) = refl
 
 pub said-part : (sure : Surely) (x : Var) (fs : List Plain) (i : ℕ)
@@ -45,7 +45,7 @@ pub says-node : (sure : Surely) (x : Var) (fs : List Plain) (n : Node)
     → says (map (binds_at sure x) fs) (names sure n x) (step_of n) ≡ binds_at sure x (plain_of fs n)
 says-node sure x fs node.True = refl
 says-node sure x fs (node.Atom p) = refl
-says-node sure x fs node.Bail = refl
+says-node sure x fs node.EarlyExit = refl
 says-node sure x fs (node.BraceOpen p b) = refl
 says-node sure x fs (node.BraceClose p b) = refl
 says-node sure x fs (node.Inside b) = refl
@@ -78,10 +78,10 @@ says-node sure x fs (node.EU f g) =
       failing = (q i).failing;
       guarded = (p i).guarded && (q i).guarded;
     }
-says-node sure x fs (node.Past f) =
-    ap (λ p. says (p ∷ []) (names sure (node.Past f) x) (step_of (node.Past 0))) (said-part sure x fs f)
-says-node sure x fs (node.Down b f) =
-    ap (λ p. says (p ∷ []) (names sure (node.Down b f) x) (step_of (node.Down b 0))) (said-part sure x fs f)
+says-node sure x fs (node.After f) =
+    ap (λ p. says (p ∷ []) (names sure (node.After f) x) (step_of (node.After 0))) (said-part sure x fs f)
+says-node sure x fs (node.InBranch b f) =
+    ap (λ p. says (p ∷ []) (names sure (node.InBranch b f) x) (step_of (node.InBranch b 0))) (said-part sure x fs f)
 says-node sure x fs (node.Exists y f) =
     ap (λ p. says (p ∷ []) (names sure (node.Exists y f) x) (step_of (node.Exists y 0))) (said-part sure x fs f)
 

@@ -9,7 +9,7 @@ use Rattle.ctl_translate.specs.declared.ctl_bound.steps.Step.TheVariants as step
 abbrev pub step_of : Node → Step
 step_of node.True = step.True
 step_of (node.Atom p) = step.Atom
-step_of node.Bail = step.Atom
+step_of node.EarlyExit = step.Atom
 step_of (node.BraceOpen p b) = step.Atom
 step_of (node.BraceClose p b) = step.Atom
 step_of (node.Inside b) = step.Atom
@@ -21,8 +21,8 @@ step_of (node.AX f) = step.Next f
 step_of (node.EX f) = step.Next f
 step_of (node.AU f g) = step.Until f g
 step_of (node.EU f g) = step.Until f g
-step_of (node.Past f) = step.Moved f
-step_of (node.Down b f) = step.Moved f
+step_of (node.After f) = step.Moved f
+step_of (node.InBranch b f) = step.Moved f
 step_of (node.Exists y f) = step.Exists f
 
 -- the numbers of its parts are below n

@@ -55,7 +55,7 @@ fn put_names(
     match node {
         Node::True => Ok(()),
         Node::Atom(p) => put_sure(alloc, decls, tokens, p, set),
-        Node::Bail => Ok(()),
+        Node::EarlyExit => Ok(()),
         Node::BraceOpen(p, b) => put_brace(alloc, decls, tokens, p, b, set),
         Node::BraceClose(p, b) => put_brace(alloc, decls, tokens, p, b, set),
         Node::Inside(b) => set.put(alloc, b),
@@ -67,8 +67,8 @@ fn put_names(
         Node::EX(_) => Ok(()),
         Node::AU(_, _) => Ok(()),
         Node::EU(_, _) => Ok(()),
-        Node::Past(_) => Ok(()),
-        Node::Down(_, _) => Ok(()),
+        Node::After(_) => Ok(()),
+        Node::InBranch(_, _) => Ok(()),
         Node::Exists(y, _) => set.put(alloc, y),
     }
 }

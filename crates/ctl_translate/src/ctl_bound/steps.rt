@@ -36,7 +36,7 @@ fn step_of(node: &Node) -> Step
     match node {
         Node::True => Step::True,
         Node::Atom(_) => Step::Atom,
-        Node::Bail => Step::Atom,
+        Node::EarlyExit => Step::Atom,
         Node::BraceOpen(_, _) => Step::Atom,
         Node::BraceClose(_, _) => Step::Atom,
         Node::Inside(_) => Step::Atom,
@@ -48,8 +48,8 @@ fn step_of(node: &Node) -> Step
         Node::EX(f) => Step::Next(*f),
         Node::AU(f, g) => Step::Until(*f, *g),
         Node::EU(f, g) => Step::Until(*f, *g),
-        Node::Past(f) => Step::Moved(*f),
-        Node::Down(_, f) => Step::Moved(*f),
+        Node::After(f) => Step::Moved(*f),
+        Node::InBranch(_, f) => Step::Moved(*f),
         Node::Exists(_, f) => Step::Exists(*f),
     }
 }

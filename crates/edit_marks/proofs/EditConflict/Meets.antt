@@ -1,5 +1,6 @@
 -- Two edits meet at a token exactly if each has an act there and the two acts conflict.
-use Rattle.std.proofs.Common.{◌≡◌, ◌<◌, ◌+◌, ◌⊎◌, ◌==◌, ◌||◌, ◌&&◌, ℕ, zero, suc, Bool, true, false, refl, sym, ap, ◌∙◌, arith, inl, inr, List, [], ◌∷◌, subst, slice_get}
+use Rattle.std.proofs.Common.{◌≡◌, ◌<◌, ◌+◌, ◌⊎◌, ◌==◌, ◌||◌, ◌&&◌, ℕ, zero, suc, Bool, true, false, refl, sym, ap, ◌∙◌, arith}
+use Rattle.std.proofs.Common.{inl, inr, List, [], ◌∷◌, subst, slice_get}
 use Rattle.std.specs.Prelude.{Some, not}
 use Rattle.std.specs.Cmp.{first_so, second_so}
 use Rattle.std.specs.List.{list_any}
@@ -129,7 +130,8 @@ source_of n (e ∷ es) m h = elim (In-either m (marks_of n e) (marks_from (n + 1
 
 -- from edits to acts
 
-removal_mark : (edit token : ℕ) (tokens : List ℕ) → list_any (λ n. n == token) tokens ≡ true → In (record { token = token; edit = edit; act = Remove }) (removal_marks edit tokens)
+removal_mark : (edit token : ℕ) (tokens : List ℕ) → list_any (λ n. n == token) tokens ≡ true
+    → In (record { token = token; edit = edit; act = Remove }) (removal_marks edit tokens)
 removal_mark edit token [] h = absurd cc
 removal_mark edit token (t ∷ tokens) h = elim (either (t == token) (list_any (λ n. n == token) tokens) h) [
   | inl e ↦ inl (ap (λ (x : ℕ). record { token = x; edit = edit; act = Remove }) (sym (same t token e)))
@@ -187,7 +189,8 @@ from_edits n k [] e m at h = absurd cc
 from_edits n zero (x ∷ es) e m at h =
     let here : x ≡ e = cc in
     let zero_more : n + 0 ≡ n = omega arith in
-    In-left m (marks_of n x) (marks_from (n + 1) es) (subst (λ (j : ℕ). In m (marks_of j x)) zero_more (subst (λ (y : Edit). In m (marks_of (n + 0) y)) (sym here) h))
+    In-left m (marks_of n x) (marks_from (n + 1) es)
+    (subst (λ (j : ℕ). In m (marks_of j x)) zero_more (subst (λ (y : Edit). In m (marks_of (n + 0) y)) (sym here) h))
 from_edits n (suc k) (x ∷ es) e m at h =
     let next : n + suc k ≡ n + 1 + k = omega arith in
     In-right m (marks_of n x) (marks_from (n + 1) es) (from_edits (n + 1) k es e m at (subst (λ (j : ℕ). In m (marks_of j e)) next h))
@@ -199,7 +202,11 @@ pub record Acting (edit token : ℕ) (marks : List Mark) (a : Act) : Type 0 wher
 removed_act : (edits : List Edit) (k token : ℕ) (e : Edit) → slice_get edits k ≡ Some e → removes token e ≡ true → Acting k token (marks_from 0 edits) Remove
 removed_act edits k token e at h =
     let zero_plus : 0 + k ≡ k = omega arith in
-    record { among = from_edits 0 k edits e _ at (subst (λ (j : ℕ). In (record { token = token; edit = k; act = Remove }) (marks_of j e)) (sym zero_plus) (In-left _ (removal_marks k e.removed) (insert_marks k 0 e.inserts) (removal_mark k token e.removed h))) }
+    record {
+      among = from_edits 0 k edits e _ at
+          (subst (λ (j : ℕ). In (record { token = token; edit = k; act = Remove }) (marks_of j e)) (sym zero_plus)
+          (In-left _ (removal_marks k e.removed) (insert_marks k 0 e.inserts) (removal_mark k token e.removed h)));
+    }
 
 placed_act : (edits : List Edit) (k token : ℕ) (e : Edit) (s : Side) → slice_get edits k ≡ Some e
     → Placed k token s (insert_marks k 0 e.inserts) → Placed k token s (marks_from 0 edits)
@@ -211,10 +218,12 @@ placed_act edits k token e s at p =
       side = p.side;
       many = p.many;
       same_side = p.same_side;
-      among = from_edits 0 k edits e m at (subst (λ (j : ℕ). In m (marks_of j e)) (sym zero_plus) (In-right _ (removal_marks k e.removed) (insert_marks k 0 e.inserts) p.among));
+      among = from_edits 0 k edits e m at (subst (λ (j : ℕ). In m (marks_of j e)) (sym zero_plus)
+          (In-right _ (removal_marks k e.removed) (insert_marks k 0 e.inserts) p.among));
     }
 
-inserted_act : (edits : List Edit) (k token : ℕ) (e : Edit) (s : Side) → slice_get edits k ≡ Some e → inserts s token e ≡ true → Placed k token s (marks_from 0 edits)
+inserted_act : (edits : List Edit) (k token : ℕ) (e : Edit) (s : Side) → slice_get edits k ≡ Some e → inserts s token e ≡ true
+    → Placed k token s (marks_from 0 edits)
 inserted_act edits k token e s at h = placed_act edits k token e s at (insert_mark k 0 token s e.inserts h)
 
 alone_act : (edits : List Edit) (k token : ℕ) (e : Edit) (s : Side) → slice_get edits k ≡ Some e → inserts_alone s token e ≡ true
@@ -223,7 +232,8 @@ unfolding placed_act
 alone_act edits k token e s at h =
     let r = alone_mark k 0 token s e.inserts h in (placed_act edits k token e s at r.0, r.1)
 
-some_insert : (edits : List Edit) (k token : ℕ) (e : Edit) → slice_get edits k ≡ Some e → inserts_at token e ≡ true → (s : Side) × Placed k token s (marks_from 0 edits)
+some_insert : (edits : List Edit) (k token : ℕ) (e : Edit) → slice_get edits k ≡ Some e → inserts_at token e ≡ true
+    → (s : Side) × Placed k token s (marks_from 0 edits)
 some_insert edits k token e at h = elim (either (inserts Before token e) (inserts After token e) h) [
   | inl b ↦ (Before, inserted_act edits k token e Before at b)
   | inr a ↦ (After, inserted_act edits k token e After at a)

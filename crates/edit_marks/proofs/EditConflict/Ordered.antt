@@ -1,5 +1,6 @@
 -- Acts sorted by token, and at each token by edit.
-use Rattle.std.proofs.Common.{◌≡◌, ◌<◌, ◌≤◌, ◌+◌, ◌⊎◌, ℕ, zero, suc, Bool, true, false, refl, sym, ap, arith, inl, inr, List, [], ◌∷◌, ◌++◌, filter, drop, length, get_or, subst, cond}
+use Rattle.std.proofs.Common.{◌≡◌, ◌<◌, ◌≤◌, ◌+◌, ◌⊎◌, ℕ, zero, suc, Bool, true, false, refl, sym, ap, arith, inl, inr, List}
+use Rattle.std.proofs.Common.{[], ◌∷◌, ◌++◌, filter, drop, length, get_or, subst, cond}
 use Rattle.std.specs.List.Sorted.{IsNonDecreasingBy}
 use Rattle.std.proofs.lemmas.Bool.Decides.{Decides-eqb}
 use Rattle.edit_marks.specs.declared.edit_conflict.edit.Insert.{Insert}
@@ -115,4 +116,5 @@ Ordered-by (m ∷ ms) up r = (
 )
 
 pub marks_ordered : (edits : List Edit) (marks : List Mark) → AreMarks edits marks → Ordered marks
-marks_ordered edits marks are = Ordered-by marks are.rise (λ token. subst Rising (sym (are.all token)) (Rising-filter (is_at token) (marks_from 0 edits) (from_Rising 0 edits)))
+marks_ordered edits marks are = Ordered-by marks are.rise
+    (λ token. subst Rising (sym (are.all token)) (Rising-filter (is_at token) (marks_from 0 edits) (from_Rising 0 edits)))

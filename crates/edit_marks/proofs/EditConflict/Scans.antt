@@ -1,5 +1,6 @@
 -- The search through sorted acts.
-use Rattle.std.proofs.Common.{◌≡◌, ◌<◌, ◌≤◌, ◌+◌, ◌⊎◌, ◌==◌, ◌||◌, ◌&&◌, ℕ, suc, Bool, true, false, refl, sym, ap, ◌∙◌, arith, inl, inr, List, [], ◌∷◌, subst, take, drop, fold, cond}
+use Rattle.std.proofs.Common.{◌≡◌, ◌<◌, ◌≤◌, ◌+◌, ◌⊎◌, ◌==◌, ◌||◌, ◌&&◌, ℕ, suc, Bool, true, false, refl, sym, ap, ◌∙◌, arith}
+use Rattle.std.proofs.Common.{inl, inr, List, [], ◌∷◌, subst, take, drop, fold, cond}
 use Rattle.std.specs.Prelude.{Some, None, if◌then◌else◌}
 use Rattle.std.specs.Cmp.{first_so, second_so}
 use Rattle.std.specs.List.{list_any, prefix_len}
@@ -48,7 +49,8 @@ joins (Insert After false n) (Insert After true m) acts = sym (or_assoc acts.rem
 joins (Insert After true n) (Insert After false m) acts = or_true acts.removes ∙ sym (or_true (acts.removes || acts.after))
 joins (Insert After false n) (Insert After false m) acts = or_true acts.removes ∙ sym (or_true (acts.removes || acts.after))
 
-all_acts : (acts : Acts) (ms : List Mark) (y : Act) → conflicts (fold (λ acts m. acts_with acts m.act) acts ms) y ≡ (conflicts acts y || list_any (λ m. conflict m.act y) ms)
+all_acts : (acts : Acts) (ms : List Mark) (y : Act)
+    → conflicts (fold (λ acts m. acts_with acts m.act) acts ms) y ≡ (conflicts acts y || list_any (λ m. conflict m.act y) ms)
 all_acts acts [] y = or_false (conflicts acts y)
 all_acts acts (m ∷ ms) y =
     all_acts (acts_with acts m.act) ms y
@@ -200,7 +202,8 @@ pub met : (test : Act → Bool) (token edit : ℕ) (ms : List Mark) → Ordered 
 met test token edit [] o h = absurd cc
 met test token edit (m ∷ ms) o h = by (m.token == token) refl (test m.act) refl (met test token edit ms o.1)
   where
-    by : (s : Bool) → (m.token == token) ≡ s → (t : Bool) → test m.act ≡ t → (first_met test token ms ≡ Some edit → Met test token edit ms) → Met test token edit (m ∷ ms)
+    by : (s : Bool) → (m.token == token) ≡ s → (t : Bool) → test m.act ≡ t
+        → (first_met test token ms ≡ Some edit → Met test token edit ms) → Met test token edit (m ∷ ms)
     by false e t f rest =
         let none : None ≡ Some edit = sym (ap (λ s. if s then (if test m.act then Some m.edit else first_met test token ms) else None) e) ∙ h in
         absurd cc
@@ -233,11 +236,13 @@ met test token edit (m ∷ ms) o h = by (m.token == token) refl (test m.act) ref
           ];
         }
 
-pub not_met : (test : Act → Bool) (token : ℕ) (ms : List Mark) → Ordered ms → ((x : Mark) → In x ms → token ≤ x.token) → first_met test token ms ≡ None → (d : Mark) → In d ms → d.token ≡ token → test d.act ≡ true → ⊥
+pub not_met : (test : Act → Bool) (token : ℕ) (ms : List Mark) → Ordered ms → ((x : Mark) → In x ms → token ≤ x.token)
+    → first_met test token ms ≡ None → (d : Mark) → In d ms → d.token ≡ token → test d.act ≡ true → ⊥
 not_met test token [] o up h d k same passes = k
 not_met test token (m ∷ ms) o up h d k same passes = by (m.token == token) refl (test m.act) refl (not_met test token ms o.1 (λ x l. up x (inr l)))
   where
-    by : (s : Bool) → (m.token == token) ≡ s → (t : Bool) → test m.act ≡ t → (first_met test token ms ≡ None → (d : Mark) → In d ms → d.token ≡ token → test d.act ≡ true → ⊥) → ⊥
+    by : (s : Bool) → (m.token == token) ≡ s → (t : Bool) → test m.act ≡ t
+        → (first_met test token ms ≡ None → (d : Mark) → In d ms → d.token ≡ token → test d.act ≡ true → ⊥) → ⊥
     by false e t f rest =
         let more = up m (inl refl) in
         let apart : m.token ≡ token → ⊥ = other_token m.token token e in
@@ -262,10 +267,14 @@ pub in_run : (t p : ℕ) (ms : List Mark) (x : Mark) → In x (take (prefix_len 
 in_run t p [] x h = absurd h
 in_run t p (m ∷ ms) x h = by (is_of t p m) refl (in_run t p ms x) h
   where
-    by : (b : Bool) → is_of t p m ≡ b → (In x (take (prefix_len (is_of t p) ms) ms) → (x.token ≡ t) × (x.edit ≡ p)) → In x (take (cond b (1 + prefix_len (is_of t p) ms) 0) (m ∷ ms)) → (x.token ≡ t) × (x.edit ≡ p)
+    by : (b : Bool) → is_of t p m ≡ b → (In x (take (prefix_len (is_of t p) ms) ms) → (x.token ≡ t) × (x.edit ≡ p))
+        → In x (take (cond b (1 + prefix_len (is_of t p) ms) 0) (m ∷ ms)) → (x.token ≡ t) × (x.edit ≡ p)
     by false e rest h = absurd h
     by true e rest h = elim (taken h) [
-      | inl here ↦ (ap (λ (y : Mark). y.token) here ∙ same_token m.token t (first_so _ _ e), ap (λ (y : Mark). y.edit) here ∙ same_token m.edit p (second_so _ _ e))
+      | inl here ↦ (
+        ap (λ (y : Mark). y.token) here ∙ same_token m.token t (first_so _ _ e),
+        ap (λ (y : Mark). y.edit) here ∙ same_token m.edit p (second_so _ _ e),
+      )
       | inr later ↦ rest later
     ]
       where
@@ -299,11 +308,13 @@ earlier_on t p m x h k = elim h [
   | inr same ↦ elim k [ inl more ↦ inl (omega (arith, same.0)) | inr both ↦ inr (same.0 ∙ both.0, omega (arith, same.1, both.1)) ]
 ]
 
-pub after_run : (t p : ℕ) (ms : List Mark) → Ordered ms → ((x : Mark) → In x ms → (t < x.token) ⊎ ((t ≡ x.token) × (p ≤ x.edit))) → (x : Mark) → In x (drop (prefix_len (is_of t p) ms) ms) → Earlier t p x
+pub after_run : (t p : ℕ) (ms : List Mark) → Ordered ms
+    → ((x : Mark) → In x ms → (t < x.token) ⊎ ((t ≡ x.token) × (p ≤ x.edit))) → (x : Mark) → In x (drop (prefix_len (is_of t p) ms) ms) → Earlier t p x
 after_run t p [] o up x h = absurd h
 after_run t p (m ∷ ms) o up x h = by (is_of t p m) refl (after_run t p ms o.1 (λ y k. up y (inr k)) x) h
   where
-    by : (b : Bool) → is_of t p m ≡ b → (In x (drop (prefix_len (is_of t p) ms) ms) → Earlier t p x) → In x (drop (cond b (1 + prefix_len (is_of t p) ms) 0) (m ∷ ms)) → Earlier t p x
+    by : (b : Bool) → is_of t p m ≡ b → (In x (drop (prefix_len (is_of t p) ms) ms) → Earlier t p x)
+        → In x (drop (cond b (1 + prefix_len (is_of t p) ms) 0) (m ∷ ms)) → Earlier t p x
     by true e rest h = rest (subst (λ (n : ℕ). In x (drop n (m ∷ ms))) (one_more (prefix_len (is_of t p) ms)) h)
     by false e rest h =
         let here = strict t p m e (up m (inl refl)) in
@@ -391,20 +402,26 @@ module _ (m : Mark) (ms : List Mark) (o : Ordered (m ∷ ms)) where
   tests d h = run_conflicts front h.two.act ∙ In-any (λ (x : Mark). conflict x.act h.two.act) h.one front h.one_front h.meet
 
   -- if nothing is met, the remaining acts come after the run
-  pub go_on : first_met (conflicts (fold (λ acts m. acts_with acts m.act) no_acts front)) m.token back ≡ None → (d : Clash) → MarkClash (m ∷ ms) d → MarkClash back d
+  pub go_on : first_met (conflicts (fold (λ acts m. acts_with acts m.act) no_acts front)) m.token back ≡ None → (d : Clash)
+      → MarkClash (m ∷ ms) d → MarkClash back d
   go_on none d c = elim (split d c) [
-    | inl h ↦ absurd (not_met (conflicts (fold (λ acts m. acts_with acts m.act) no_acts front)) m.token back (Ordered-drop run (m ∷ ms) o) back_up none h.two h.two_back h.two_token (tests d h))
+    | inl h ↦ absurd (not_met (conflicts (fold (λ acts m. acts_with acts m.act) no_acts front)) m.token back
+        (Ordered-drop run (m ∷ ms) o) back_up none h.two h.two_back h.two_token (tests d h))
     | inr rest ↦ rest
   ]
 
   -- what is met is a clash, and no clash comes before it
   pub is_met : (q : ℕ) → first_met (conflicts (fold (λ acts m. acts_with acts m.act) no_acts front)) m.token back ≡ Some q
-      → MarkClash (m ∷ ms) (record { token = m.token; first = m.edit; second = q }) × ((d : Clash) → MarkClash (m ∷ ms) d → NotAfter (record { token = m.token; first = m.edit; second = q }) d)
+      → MarkClash (m ∷ ms) (record { token = m.token; first = m.edit; second = q })
+      × ((d : Clash) → MarkClash (m ∷ ms) d → NotAfter (record { token = m.token; first = m.edit; second = q }) d)
   is_met q some =
       let found = met (conflicts (fold (λ acts m. acts_with acts m.act) no_acts front)) m.token q back (Ordered-drop run (m ∷ ms) o) some in
       let first = any-In (λ (x : Mark). conflict x.act found.mark.act) front (sym (run_conflicts front found.mark.act) ∙ found.passes) in
       let place = in_run m.token m.edit (m ∷ ms) first.mark first.among in
-      let rise : m.edit < q = elim (later found.mark found.among) [ inl less ↦ absurd (omega (arith, less, found.token_is)) | inr both ↦ omega (arith, both.1, found.edit_is) ] in (
+      let rise : m.edit < q = elim (later found.mark found.among) [
+        | inl less ↦ absurd (omega (arith, less, found.token_is))
+        | inr both ↦ omega (arith, both.1, found.edit_is)
+      ] in (
         record {
           one = first.mark;
           two = found.mark;

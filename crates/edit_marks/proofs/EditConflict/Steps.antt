@@ -1,5 +1,6 @@
 -- One run of the search, among acts from a place on.
-use Rattle.std.proofs.Common.{◌≡◌, ◌<◌, ◌+◌, ◌-◌, ℕ, suc, true, refl, sym, ap, ◌∙◌, arith, List, ◌∷◌, subst, take, drop, length, get_or, fold, drop-cons, cond, ◌&&◌}
+use Rattle.std.proofs.Common.{◌≡◌, ◌<◌, ◌+◌, ◌-◌, ℕ, suc, true, refl, sym, ap, ◌∙◌, arith, List, ◌∷◌, subst, take, drop, length}
+use Rattle.std.proofs.Common.{get_or, fold, drop-cons, cond, ◌&&◌}
 use Rattle.std.specs.Prelude.{Option, Some, None}
 use Rattle.std.specs.List.{prefix_len}
 use Rattle.std.proofs.lemmas.Bool.Decides.{Decides-eqb}
@@ -30,7 +31,8 @@ begins marks at m less here = drop-cons marks at m less ∙ ap (λ (x : Mark). x
 own_run : (m : Mark) (ms : List Mark) → 0 < prefix_len (is_of m.token m.edit) (m ∷ ms)
 own_run m ms =
     let same : is_of m.token m.edit m ≡ true = λ i. (Decides-eqb m.token m.token).1 refl i && (Decides-eqb m.edit m.edit).1 refl i in
-    let is : prefix_len (is_of m.token m.edit) (m ∷ ms) ≡ 1 + prefix_len (is_of m.token m.edit) ms = ap (λ b. cond b (1 + prefix_len (is_of m.token m.edit) ms) 0) same in
+    let is : prefix_len (is_of m.token m.edit) (m ∷ ms) ≡ 1 + prefix_len (is_of m.token m.edit) ms =
+    ap (λ b. cond b (1 + prefix_len (is_of m.token m.edit) ms) 0) same in
     omega (arith, is)
 
 module _ (marks : List Mark) (at n : ℕ) (m : Mark) (acts : Acts) (o : Ordered marks) (s : Step marks at n m acts) where
@@ -58,7 +60,8 @@ module _ (marks : List Mark) (at n : ℕ) (m : Mark) (acts : Acts) (o : Ordered 
       ∙ ap (drop (prefix_len (is_of m.token m.edit) (m ∷ drop (suc at) marks))) rest
 
   answer : (r : Option ℕ) → r ≡ first_met (conflicts acts) m.token (take (length marks - (at + n)) (drop (at + n) marks))
-      → first_met (conflicts (taken (take (prefix_len (is_of m.token m.edit) (m ∷ drop (suc at) marks)) (m ∷ drop (suc at) marks)))) m.token (drop (prefix_len (is_of m.token m.edit) (m ∷ drop (suc at) marks)) (m ∷ drop (suc at) marks)) ≡ r
+      → first_met (conflicts (taken (take (prefix_len (is_of m.token m.edit) (m ∷ drop (suc at) marks))
+      (m ∷ drop (suc at) marks)))) m.token (drop (prefix_len (is_of m.token m.edit) (m ∷ drop (suc at) marks)) (m ∷ drop (suc at) marks)) ≡ r
   answer r e = sym (e ∙ (λ i. first_met (conflicts (acts_are i)) m.token ((take_rest marks (at + n) ∙ back_is) i)))
 
   pub nothing_here : None ≡ first_met (conflicts acts) m.token (take (length marks - (at + n)) (drop (at + n) marks))
@@ -68,7 +71,8 @@ module _ (marks : List Mark) (at n : ℕ) (m : Mark) (acts : Acts) (o : Ordered 
       (go_on m (drop (suc at) marks) ordered (answer None e) d (subst (λ (ms : List Mark). MarkClash ms d) rest c))
 
   pub clash_here : (q : ℕ) → Some q ≡ first_met (conflicts acts) m.token (take (length marks - (at + n)) (drop (at + n) marks))
-      → MarkClash (drop at marks) (record { token = m.token; first = m.edit; second = q }) × ((d : Clash) → MarkClash (drop at marks) d → NotAfter (record { token = m.token; first = m.edit; second = q }) d)
+      → MarkClash (drop at marks) (record { token = m.token; first = m.edit; second = q })
+      × ((d : Clash) → MarkClash (drop at marks) d → NotAfter (record { token = m.token; first = m.edit; second = q }) d)
   clash_here q e =
       let r = is_met m (drop (suc at) marks) ordered q (answer (Some q) e) in (
         subst (λ (ms : List Mark). MarkClash ms (record { token = m.token; first = m.edit; second = q })) (sym rest) r.0,

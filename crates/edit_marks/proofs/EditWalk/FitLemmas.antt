@@ -46,14 +46,16 @@ module _ (P : Edit → Type 0) where
   once_all edits all = fold_all [] edits (All-nil P) all
 
   -- and it holds for each edit if it holds for the edit of each touch
-  pub each_all : (R : Touched → Edit → Type 0) (ts : List Touched) (edits : List Edit) → ((t : Touched) (e : Edit) → R t e → P e) → AllZip R ts edits → All P edits
+  pub each_all : (R : Touched → Edit → Type 0) (ts : List Touched) (edits : List Edit)
+      → ((t : Touched) (e : Edit) → R t e → P e) → AllZip R ts edits → All P edits
   each_all R [] [] from zip = All-nil P
   each_all R [] (e ∷ edits) from zip = absurd zip
   each_all R (t ∷ ts) [] from zip = absurd zip
   each_all R (t ∷ ts) (e ∷ edits) from zip = All-cons P e edits (from t e zip.0) (each_all R ts edits from zip.1)
 
   -- the same, if more is known of each touch
-  pub each_all_with : (R : Touched → Edit → Type 0) (Q : Touched → Type 0) (ts : List Touched) (edits : List Edit) → ((t : Touched) (e : Edit) → Q t → R t e → P e)
+  pub each_all_with : (R : Touched → Edit → Type 0) (Q : Touched → Type 0) (ts : List Touched) (edits : List Edit)
+      → ((t : Touched) (e : Edit) → Q t → R t e → P e)
       → All Q ts → AllZip R ts edits → All P edits
   each_all_with R Q [] [] from have zip = All-nil P
   each_all_with R Q [] (e ∷ edits) from have zip = absurd zip
@@ -117,7 +119,8 @@ inserts_within : (decls : List VarDecl) (tokens : List PatToken) (env : Environm
     → All (λ (i : Insert). i.token < length files) (inserts_at decls tokens env files removed spots)
 inserts_within decls tokens env files removed [] = All-nil (λ (i : Insert). i.token < length files)
 inserts_within decls tokens env files removed (s ∷ spots) =
-    All-append (λ (i : Insert). i.token < length files) (insert_if decls env removed s (block_of tokens s) (slice_get files s.token)) (inserts_at decls tokens env files removed spots)
+    All-append (λ (i : Insert). i.token < length files)
+    (insert_if decls env removed s (block_of tokens s) (slice_get files s.token)) (inserts_at decls tokens env files removed spots)
     (if_within decls env removed (length files) s (block_of tokens s) (slice_get files s.token) (λ f at. some_within files s.token f at))
     (inserts_within decls tokens env files removed spots)
 
@@ -143,9 +146,11 @@ edit_fits decls tokens env pieces found edit is =
     let below : All (λ m. m < n) minus = minus_below tokens n (pairs_of (ids_of pieces) found) (pairs_below (ids_of pieces) found) in
     record {
       rise = is.rise;
-      removed = All-weaker (Contains edit.removed) (λ m. m < n) (λ m has. All-contains (λ k. k < n) minus m below ((is.removed m).0 has)) edit.removed (All-contains_itself edit.removed);
+      removed = All-weaker (Contains edit.removed) (λ m. m < n)
+          (λ m has. All-contains (λ k. k < n) minus m below ((is.removed m).0 has)) edit.removed (All-contains_itself edit.removed);
       inserts = subst (λ (l : List Insert). All (λ (i : Insert). i.token < n) l) (sym is.inserts)
-          (subst (λ (m : ℕ). All (λ (i : Insert). i.token < m) (inserts_at decls tokens env (file_tokens pieces) edit.removed is.spots)) (count_of (text_of pieces) 0 pieces)
+          (subst (λ (m : ℕ). All (λ (i : Insert). i.token < m)
+          (inserts_at decls tokens env (file_tokens pieces) edit.removed is.spots)) (count_of (text_of pieces) 0 pieces)
           (inserts_within decls tokens env (file_tokens pieces) edit.removed is.spots));
       in_order = subst AreInOrder (sym is.inserts) (inserts_in_order decls tokens env (file_tokens pieces) edit.removed is.spots is.sorted);
     }

@@ -32,7 +32,8 @@ each_one R one (t ∷ ts) (a ∷ as') (b ∷ bs) h k =
 module _ (witnesses : List RuleWitness) (rule : Rule) (items : List Item) (kinds : List (List NodeKind)) (pieces : List TextPiece) where
   one_at : (t : Touched) (a b : Edit) → IsEditAt rule items kinds pieces t a → IsEditAt rule items kinds pieces t b → a ≡ b
   one_at t a b h k =
-      one_edit rule.vars rule.tokens t.env (file_tokens pieces) (pairs_at (patterns_body (body rule.body)) rule.vars rule.tokens items kinds (ids_of pieces) t) a b h k
+      one_edit rule.vars rule.tokens t.env (file_tokens pieces)
+      (pairs_at (patterns_body (body rule.body)) rule.vars rule.tokens items kinds (ids_of pieces) t) a b h k
 
   pub one_list : (a b : List Edit) → AreEdits witnesses rule items kinds pieces a → AreEdits witnesses rule items kinds pieces b → a ≡ b
   one_list a b h k =

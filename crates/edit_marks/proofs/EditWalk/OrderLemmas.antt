@@ -51,7 +51,8 @@ module _ (decls : List VarDecl) (tokens : List PatToken) (env : Environment) (fi
   all_later s i [] a h = All-nil (λ j. is_lt (insert_order j i) ≡ false)
   all_later s i (t ∷ spots) a h =
       let P = λ (x : PlusSpot). is_lt (spot_order x s) ≡ false in
-      All-append (λ j. is_lt (insert_order j i) ≡ false) (insert_if decls env removed t (block_of tokens t) (slice_get files t.token)) (inserts_at decls tokens env files removed spots)
+      All-append (λ j. is_lt (insert_order j i) ≡ false)
+      (insert_if decls env removed t (block_of tokens t) (slice_get files t.token)) (inserts_at decls tokens env files removed spots)
       (if_later s t i (block_of tokens t) (slice_get files t.token) a (All-head P t spots h)) (all_later s i spots a (All-tail P t spots h))
 
   one_first : (s : PlusSpot) (block : Option PlusBlock) (file : Option FileToken) (rest : List Insert) → AreInOrder rest
@@ -63,7 +64,9 @@ module _ (decls : List VarDecl) (tokens : List PatToken) (env : Environment) (fi
   in_order : (spots : List PlusSpot) → AreRising spots → AreInOrder (inserts_at decls tokens env files removed spots)
   in_order [] h = tt
   in_order (s ∷ spots) h =
-      one_first s (block_of tokens s) (slice_get files s.token) (inserts_at decls tokens env files removed spots) (in_order spots h.1) (λ i a. all_later s i spots a h.0)
+      one_first s (block_of tokens s) (slice_get files s.token) (inserts_at decls tokens env files removed spots)
+      (in_order spots h.1) (λ i a. all_later s i spots a h.0)
 
-  pub inserts_in_order : (spots : List PlusSpot) → IsSortedBy (λ a b. is_lt (spot_order a b)) spots → AreInOrder (inserts_at decls tokens env files removed spots)
+  pub inserts_in_order : (spots : List PlusSpot) → IsSortedBy (λ a b. is_lt (spot_order a b)) spots
+      → AreInOrder (inserts_at decls tokens env files removed spots)
   inserts_in_order spots up = in_order spots (rising spots up)

@@ -29,10 +29,12 @@ touches-Bind item node x v under env =
 pub touch_adds : (R : Touched → Edit → Type 0) (old new : List Edit) (edit : Edit) (item node atom : ℕ) (path : List ℕ) (env : Values) (t : Witness)
     → t ≡ Touch node atom path → R (touched item node atom path env) edit → new ≡ old ++ edit ∷ [] → Adds R old new (touches_in item env t)
 touch_adds R old new edit item node atom path env t is edits h =
-    subst (Adds R old new) (sym (ap (touches_in item env) is ∙ touches-Touch item node atom path env)) (adds_one R old new (touched item node atom path env) edit edits h)
+    subst (Adds R old new) (sym (ap (touches_in item env) is ∙ touches-Touch item node atom path env))
+    (adds_one R old new (touched item node atom path env) edit edits h)
 
 -- all trees under a value
-pub bind_adds : (R : Touched → Edit → Type 0) (old new : List Edit) (item node : ℕ) (x : Var) (v : Value) (under trees : List Witness) (env more : Values) (t : Witness) (n : ℕ)
+pub bind_adds : (R : Touched → Edit → Type 0) (old new : List Edit) (item node : ℕ) (x : Var) (v : Value)
+    (under trees : List Witness) (env more : Values) (t : Witness) (n : ℕ)
     → t ≡ Bind node x v under → trees ≡ under → more ≡ bound env x v → length trees ≤ n
     → Adds R old new (flat_map (touches_in item more) (take n trees)) → Adds R old new (touches_in item env t)
 bind_adds R old new item node x v under trees env more t n is same deeper done h =

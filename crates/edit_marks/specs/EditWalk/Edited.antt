@@ -30,7 +30,8 @@ IsEditAt rule items kinds pieces =
     IsEdit (patterns_body (body rule.body)) rule.vars rule.tokens items kinds (ids_of pieces) (file_tokens pieces)
 
 -- the edits of all touches in order, each once
-pub record AreEdits (witnesses : List RuleWitness) (rule : Rule) (items : List Item) (kinds : List (List NodeKind)) (pieces : List TextPiece) (edits : List Edit) : Type 0 where
+pub record AreEdits (witnesses : List RuleWitness) (rule : Rule) (items : List Item) (kinds : List (List NodeKind))
+    (pieces : List TextPiece) (edits : List Edit) : Type 0 where
   pub all : List Edit
   pub each : AllZip (IsEditAt rule items kinds pieces) (touches witnesses) all
   pub distinct : edits ≡ once all

@@ -2,7 +2,7 @@
 ghost use Rattle.std.specs.Prelude.{◌≡◌, ◌≤◌, ◌^◌, IfOk, length, map};
 ghost use Rattle.std.specs.Option.{option_copied, option_map};
 ghost use Rattle.edit_marks.specs.EditWalk.Touches.{Touched};
-ghost use Rattle.edit_marks.specs.EditWalk.Named as of;
+ghost use Rattle.edit_marks.specs.EditWalk.Named as spec;
 ghost use Rattle.edit_marks.specs.EditWalk.Sites.{IsSite, IsEditHere, patterns_at};
 
 use crate::edit_conflict::Edit;
@@ -22,21 +22,21 @@ use std::alloc::Global;
 
 fn pattern_of<'a>(patterns: &'a [&'a Pattern], atoms: &Numbers, atom: u32) -> Option<&'a Pattern>
     requires { atoms.now ≡ map (λ p. p.atom) (map (λ p. p.now) patterns.now) }
-    ensures { option_copied result ≡ of.pattern_of (map (λ p. p.now) patterns.now) atom }
+    ensures { option_copied result ≡ spec.pattern_of (map (λ p. p.now) patterns.now) atom }
 {
     let number = atoms.find(u64::from(atom))?;
     Some(patterns[number])
 }
 
 fn kind_at(kinds: &[Items<NodeKind>], item: u32, node: u32) -> Option<NodeKind>
-    ensures { result ≡ of.kind_at kinds.now item node }
+    ensures { result ≡ spec.kind_at kinds.now item node }
 {
     let own = at(kinds, item as usize)?;
     own.get(node as usize).copied()
 }
 
 fn tree_at<'a>(items: &'a [Item], item: u32, path: &TreePath) -> Option<&'a Tree>
-    ensures { option_copied result ≡ of.tree_at items.now item path.now }
+    ensures { option_copied result ≡ spec.tree_at items.now item path.now }
 {
     match at(items, item as usize)? {
         Item::Parsed(tree) => subtree(tree, path.steps()),
@@ -56,7 +56,7 @@ fn alignment(
 ) -> Result<Option<Vec<AlignedToken>>, NoMemory>
     requires { IsSite site.now }
     ensures { IfOk result (λ found. option_map (λ f. f.items) found
-        ≡ of.alignment (patterns_at site.now) site.now.decls.now site.now.tokens.now site.now.items.now
+        ≡ spec.alignment (patterns_at site.now) site.now.decls.now site.now.tokens.now site.now.items.now
         site.now.kinds.now site.now.ids.now
         (record { item = item; node = node; atom = atom; path = path.now; env = env.now })) }
 {
@@ -80,7 +80,7 @@ fn pairs_of(
 ) -> Result<Vec<Aligned>, NoMemory>
     requires { length ids.now ≤ 2 ^ 32 }
     ensures { IfOk result (λ pairs. pairs.items
-        ≡ of.pairs_of ids.now (option_map (λ f. f.items) found)) }
+        ≡ spec.pairs_of ids.now (option_map (λ f. f.items) found)) }
 {
     match found {
         None => Ok(Vec::new(alloc)),

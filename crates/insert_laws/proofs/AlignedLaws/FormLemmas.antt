@@ -15,14 +15,14 @@ use Rattle.c_terms.proofs.Induct.{Each, tree_induction}
 use Rattle.smpl_patch.specs.declared.pattern.PatToken.{PatToken}
 use Rattle.smpl_patch.specs.declared.pattern.Spot.{Spot}
 use Rattle.smpl_patch.specs.declared.rule.Iso.{Iso}
-use Rattle.smpl_patch.specs.Held.{is_parted, is_held, kept, held_at}
+use Rattle.smpl_patch.specs.Held.{is_split_into_nodes, is_held, kept, held_at}
 use Rattle.iso_expand.specs.IsoForms.Kinds.{is_expression}
 use Rattle.iso_expand.specs.IsoForms.Replacing.{is_plain, becomes}
 use Rattle.iso_expand.specs.IsoForms.Forms.{choices, is_among, with_form, with_forms, branches, with_iso, with_isos, of_choices, forms}
 use Rattle.iso_expand.proofs.IsoForms.FormLemmas.{forms-Leaf, forms-Branch}
 use Rattle.sound_laws.proofs.IsoLaws.GoodLemmas.{each-append, left_true, right_true}
 use Rattle.ctl_fixpoint.proofs.CtlHolds.TestLemmas.{or_cases, or_left, or_right, not_both}
-use Rattle.insert_laws.proofs.TermLaws.AtomLemmas.{any_joined, or_nothing, held_leaves}
+use Rattle.ctl_fixpoint.proofs.CtlHolds.AtomLemmas.{any_joined, or_nothing, held_leaves}
 use Rattle.insert_laws.specs.AlignedLaws.Compared.{compared}
 use Rattle.insert_laws.proofs.AlignedLaws.PlainLemmas.{plain, AllPlain, becomes_plain}
 
@@ -133,7 +133,7 @@ module _ (tokens : List PatToken) (q : Token → Bool) (marked : (a : Token) →
     whole = branch_whole l cs fs h;
     at = λ s k.
         ap (λ y. any (held_at s y (Branch l cs))) (out-Branch l cs)
-        ∙ branch_at l cs fs h s (is_parted s l) (sym (ap (λ y. any (held_at s y (Branch l fs))) (out-Branch l fs)) ∙ k);
+        ∙ branch_at l cs fs h s (is_split_into_nodes s l) (sym (ap (λ y. any (held_at s y (Branch l fs))) (out-Branch l fs)) ∙ k);
   }
 
   -- ---- choices

@@ -22,7 +22,7 @@ use Rattle.pat_match.specs.Runs.{Pair, Piece, as_comma, is_wild, comma_pairs, wi
 use Rattle.pat_match.specs.Fitting.{leaf_of, first_pairs, every_pairs, zip_pairs, kids_pairs, pairs_by, piece, alignment}
 use Rattle.pat_match.proofs.Pieces.{piece-Leaf, piece-Branch, piece-token}
 use Rattle.ctl_fixpoint.proofs.CtlHolds.TestLemmas.{or_cases, or_left, or_right, not_both}
-use Rattle.insert_laws.proofs.TermLaws.AtomLemmas.{any_joined, or_nothing}
+use Rattle.ctl_fixpoint.proofs.CtlHolds.AtomLemmas.{any_joined, or_nothing}
 
 module _ (decls : List VarDecl) (tokens : List PatToken) (env : Environment) (q : Token → Bool) where
   -- the pattern token of one of the pairs passes

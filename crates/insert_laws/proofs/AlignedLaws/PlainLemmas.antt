@@ -19,7 +19,8 @@ use Rattle.smpl_patch.specs.declared.rule.Iso.{Iso}
 use Rattle.iso_expand.specs.declared.iso_forms.matching.Bound.{Bound}
 use Rattle.iso_expand.specs.IsoForms.Matching.{value, matched}
 use Rattle.iso_expand.specs.IsoForms.Making.{numbered, make_leaf, make_step, made, id_of, first_id}
-use Rattle.iso_expand.specs.IsoForms.Replacing.{mark_of, is_plain, is_plain_of, are_plain, is_open, may_become, targets_from, targets, replaced, by_sides, becomes}
+use Rattle.iso_expand.specs.IsoForms.Replacing.{mark_of, is_plain, is_plain_of, are_plain, is_open, may_become, targets_from}
+use Rattle.iso_expand.specs.IsoForms.Replacing.{targets, replaced, by_sides, becomes}
 use Rattle.sound_laws.proofs.IsoLaws.GoodLemmas.{both_true, left_true, right_true, no_some, each-append, Good, Values, value-good}
 use Rattle.sound_laws.proofs.IsoLaws.FittingLemmas.{fits}
 

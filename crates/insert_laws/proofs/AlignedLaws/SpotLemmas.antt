@@ -30,7 +30,7 @@ use Rattle.pat_match.specs.Spots.{is_open_brace, is_close_brace, own_pairs, opti
 use Rattle.pat_match.specs.Spots.{own_alignment, branch_alignment, whole_alignment, alignment_at}
 use Rattle.pat_match.proofs.Pieces.{fits-Branch}
 use Rattle.ctl_fixpoint.proofs.CtlHolds.TestLemmas.{or_left, or_right, and_left, not_both}
-use Rattle.insert_laws.proofs.TermLaws.AtomLemmas.{any_kept}
+use Rattle.ctl_fixpoint.proofs.CtlHolds.AtomLemmas.{any_kept}
 use Rattle.insert_laws.specs.AlignedLaws.Compared.{compared, IsCompared, is_head_at, is_head_tree, HasNoBodies}
 use Rattle.insert_laws.proofs.AlignedLaws.PairLemmas.{some, has, any, has-Branch, split, tree_law}
 

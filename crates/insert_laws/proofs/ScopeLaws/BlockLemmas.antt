@@ -11,9 +11,9 @@ use Rattle.ctl_formula.specs.Plain.{Plain, Atom, BraceOpen, BraceClose, Not, And
 use Rattle.wit_forest.specs.WitTrees.Forest.{is_hidden}
 use Rattle.pattern_vars.specs.VarPlaces.Placing.{occurs_element, occurs_body, at_suffix, is_alone}
 use Rattle.ctl_table.specs.Table.{Setting, Follow, Start, Nothing, Brace, Dots, Other, nothing, start_of, first_of, in_scope}
-use Rattle.ctl_table.specs.Table.{exists_all, and_all, or_all, all_of, any_of, or_some, option_list, nots, hidden, own, copy, near}
-use Rattle.ctl_table.specs.Table.{near_body, near_each, near_first, near_option, is_end, joined, target, stays, within, until, nested}
-use Rattle.ctl_table.specs.Table.{condition, lone, closing, with_tail, downs, choices, seq, elem, each, first_and, when_parts}
+use Rattle.ctl_table.specs.Table.{exists_all, and_all, or_all, all_of, any_of, or_some, option_list, nots, hidden, own, copy, ends_of}
+use Rattle.ctl_table.specs.Table.{ends_of_body, ends_of_each, ends_of_first, ends_of_option, is_end, joined, target, stays, within, until, nested}
+use Rattle.ctl_table.specs.Table.{condition, lone, closing, with_tail, in_branches, choices, seq, elem, each, first_and, when_parts}
 use Rattle.ctl_table.specs.Table.{setting}
 use Rattle.ctl_translate.specs.Rules.{formula_of, reading, ranges_over_all, locals}
 use Rattle.insert_laws.specs.TermLaws.Terms.{HidesBlocks}
@@ -101,9 +101,9 @@ has-condition false whens before after h k l =
     has-all_of (whens ++ (nots before ++ nots after))
     (all-append whens (nots before ++ nots after) h (all-append (nots before) (nots after) (has-nots before k) (has-nots after l)))
 
-has-downs : (i : ℕ) (fs : List Plain) → HaveAll fs → HaveAll (downs i fs)
-has-downs i [] h = tt
-has-downs i (f ∷ fs) h = (h.0, has-downs (suc i) fs h.1)
+has-in_branches : (i : ℕ) (fs : List Plain) → HaveAll fs → HaveAll (in_branches i fs)
+has-in_branches i [] h = tt
+has-in_branches i (f ∷ fs) h = (h.0, has-in_branches (suc i) fs h.1)
 
 has-choices : (earlier fs gs : List Plain) → HaveAll earlier → HaveAll fs → HaveAll gs → HaveAll (choices earlier fs gs)
 has-choices earlier [] gs h k l = tt
@@ -119,32 +119,32 @@ module _ (m : Setting) where
   has-copy p s = has-exists_all (filter (λ x. m.reading.stands p x && not (in_scope s x)) m.locals) (Atom p) tt
 
   mutual
-    has-near : (last : Bool) (e : Element) (s : List Var) → HaveAll (option_list (near m last e s))
-    has-near last (bodies.Atom p) s = has-choice (m.reading.is_statement p) None (Some (copy m p s)) tt (has-copy p s, tt)
-    has-near last (Compound q bs t) s = (has-copy q s, tt)
-    has-near last (Block o b c) s = tt
-    has-near last (Gap ws any strict) s = tt
-    has-near last (Nest plus b ws any strict) s = tt
-    has-near last (AnyOf bs) s = has-or_some (near_each m last bs s) (has-near_each last bs s)
-    has-near last (AllOf bs) s = has-near_first last bs s
+    has-ends_of : (last : Bool) (e : Element) (s : List Var) → HaveAll (option_list (ends_of m last e s))
+    has-ends_of last (bodies.Atom p) s = has-choice (m.reading.is_statement p) None (Some (copy m p s)) tt (has-copy p s, tt)
+    has-ends_of last (Compound q bs t) s = (has-copy q s, tt)
+    has-ends_of last (Block o b c) s = tt
+    has-ends_of last (Gap ws any strict) s = tt
+    has-ends_of last (Nest plus b ws any strict) s = tt
+    has-ends_of last (AnyOf bs) s = has-or_some (ends_of_each m last bs s) (has-ends_of_each last bs s)
+    has-ends_of last (AllOf bs) s = has-ends_of_first last bs s
 
-    has-near_body : (last : Bool) (b : Body) (s : List Var) → HaveAll (option_list (near_body m last b s))
-    has-near_body last End s = tt
-    has-near_body last (Then e rest) s =
-        has-choice (last && not (is_end rest)) (near_body m last rest s) (near m last e s) (has-near_body last rest s) (has-near last e s)
+    has-ends_of_body : (last : Bool) (b : Body) (s : List Var) → HaveAll (option_list (ends_of_body m last b s))
+    has-ends_of_body last End s = tt
+    has-ends_of_body last (Then e rest) s =
+        has-choice (last && not (is_end rest)) (ends_of_body m last rest s) (ends_of m last e s) (has-ends_of_body last rest s) (has-ends_of last e s)
 
-    has-near_each : (last : Bool) (bs : Bodies) (s : List Var) → HaveAll (near_each m last bs s)
-    has-near_each last NoMore s = tt
-    has-near_each last (More b bs) s =
-        all-append (option_list (near_body m last b s)) (near_each m last bs s) (has-near_body last b s) (has-near_each last bs s)
+    has-ends_of_each : (last : Bool) (bs : Bodies) (s : List Var) → HaveAll (ends_of_each m last bs s)
+    has-ends_of_each last NoMore s = tt
+    has-ends_of_each last (More b bs) s =
+        all-append (option_list (ends_of_body m last b s)) (ends_of_each m last bs s) (has-ends_of_body last b s) (has-ends_of_each last bs s)
 
-    has-near_first : (last : Bool) (bs : Bodies) (s : List Var) → HaveAll (option_list (near_first m last bs s))
-    has-near_first last NoMore s = tt
-    has-near_first last (More b bs) s = has-near_body last b s
+    has-ends_of_first : (last : Bool) (bs : Bodies) (s : List Var) → HaveAll (option_list (ends_of_first m last bs s))
+    has-ends_of_first last NoMore s = tt
+    has-ends_of_first last (More b bs) s = has-ends_of_body last b s
 
-  has-near_option : (last : Bool) (o : Option Element) (s : List Var) → HaveAll (option_list (near_option m last o s))
-  has-near_option last None s = tt
-  has-near_option last (Some e) s = has-near last e s
+  has-ends_of_option : (last : Bool) (o : Option Element) (s : List Var) → HaveAll (option_list (ends_of_option m last o s))
+  has-ends_of_option last None s = tt
+  has-ends_of_option last (Some e) s = has-ends_of last e s
 
   has-with_tail : (w : List Var) (t : Option Pattern) (f : Plain) → Has f → Has (with_tail m w t f)
   has-with_tail w None f k = k
@@ -169,9 +169,9 @@ mutual
   has-elem m a before after (bodies.Atom p) k w s t g =
       has-joined m.forall_walks (m.reading.is_statement p) (own m w p (Atom p)) k.start (k.at s) (has-own m w p (Atom p) tt) (g s)
   has-elem m a before after (Compound p bs tail) k w s t g = (
-    has-with_tail m w tail (and_all (own m w p (Atom p)) (downs 0 (each m bs nothing w s)))
-        (has-and_all (own m w p (Atom p)) (downs 0 (each m bs nothing w s)) (has-own m w p (Atom p) tt)
-        (has-downs 0 (each m bs nothing w s) (has-each m a bs nothing w s (λ u. tt)))),
+    has-with_tail m w tail (and_all (own m w p (Atom p)) (in_branches 0 (each m bs nothing w s)))
+        (has-and_all (own m w p (Atom p)) (in_branches 0 (each m bs nothing w s)) (has-own m w p (Atom p) tt)
+        (has-in_branches 0 (each m bs nothing w s) (has-each m a bs nothing w s (λ u. tt)))),
     g s,
   )
   has-elem m a before after (Block p b c) k w s t g =
@@ -181,16 +181,16 @@ mutual
       ((has-own m w p (BraceOpen p v) refl, inside), g s)
   has-elem m a before after (Gap ws any strict) k w s t g =
       has-until m.forall_walks strict
-      (condition any (stays m.around ++ when_parts m ws s) (near_option m true before t) (near_option m false after s)) (target m.around k.start (k.at s))
-      (has-condition any (stays m.around ++ when_parts m ws s) (near_option m true before t) (near_option m false after s)
-      (has-firsts m.around a (when_parts m ws s) (has-whens m a ws s)) (has-near_option m true before t) (has-near_option m false after s))
+      (condition any (stays m.around ++ when_parts m ws s) (ends_of_option m true before t) (ends_of_option m false after s)) (target m.around k.start (k.at s))
+      (has-condition any (stays m.around ++ when_parts m ws s) (ends_of_option m true before t) (ends_of_option m false after s)
+      (has-firsts m.around a (when_parts m ws s) (has-whens m a ws s)) (has-ends_of_option m true before t) (has-ends_of_option m false after s))
       (has-target m.around a k.start (k.at s) (g s))
   has-elem m a before after (Nest plus b ws any strict) k w s t g =
       has-nested m.forall_walks plus strict
-      (condition any (stays m.around ++ when_parts m ws s) (near_option m true before t) (near_option m false after s))
+      (condition any (stays m.around ++ when_parts m ws s) (ends_of_option m true before t) (ends_of_option m false after s))
       (seq m None b nothing (filter (occurs_body m.reading b) w) s s) (target m.around k.start (k.at s))
-      (has-condition any (stays m.around ++ when_parts m ws s) (near_option m true before t) (near_option m false after s)
-      (has-firsts m.around a (when_parts m ws s) (has-whens m a ws s)) (has-near_option m true before t) (has-near_option m false after s))
+      (has-condition any (stays m.around ++ when_parts m ws s) (ends_of_option m true before t) (ends_of_option m false after s)
+      (has-firsts m.around a (when_parts m ws s) (has-whens m a ws s)) (has-ends_of_option m true before t) (has-ends_of_option m false after s))
       (has-seq m a None b nothing (filter (occurs_body m.reading b) w) s s (λ u. tt))
       (has-target m.around a k.start (k.at s) (g s))
   has-elem m a before after (AnyOf bs) k w s t g =

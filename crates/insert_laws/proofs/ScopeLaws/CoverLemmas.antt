@@ -11,14 +11,14 @@ use Rattle.smpl_patch.specs.declared.rule.Rule.{Rule}
 use Rattle.smpl_patch.specs.Patterns.{used}
 use Rattle.smpl_patch.specs.Bodies.{Element, Compound, Block, Gap, Nest, AnyOf, AllOf, Body, End, Then, Bodies, NoMore, More, body}
 use Rattle.smpl_patch.specs.Bodies as bodies
-use Rattle.ctl_formula.specs.Plain.{Plain, True, Atom, Bail, BraceOpen, BraceClose, Inside, Outside, Not, And, Or, AX, EX, AU, EU, Past, Down, Exists}
+use Rattle.ctl_formula.specs.Plain.{Plain, True, Atom, EarlyExit, BraceOpen, BraceClose, Inside, Outside, Not, And, Or, AX, EX, AU, EU, After, InBranch, Exists}
 use Rattle.ctl_fixpoint.proofs.CtlHolds.TestLemmas.{or_cases, or_left, or_right, true_or_false, not_both}
 use Rattle.pattern_vars.specs.Reads.{has}
 use Rattle.pattern_vars.specs.VarPlaces.Placing.{Reading, any_option, any_element, any_body, any_bodies, occurs_element, occurs_body, is_inside, after_dots}
 use Rattle.pattern_vars.specs.VarPlaces.Placing.{at_suffix, is_alone}
 use Rattle.ctl_table.specs.Table.{Setting, Follow, Start, Nothing, Brace, Dots, Other, nothing, start_of, first_of, in_scope}
-use Rattle.ctl_table.specs.Table.{exists_all, and_all, or_all, all_of, any_of, nots, hidden, own, near_option, joined, target, stays}
-use Rattle.ctl_table.specs.Table.{within, until, nested, condition, closing, with_tail, downs, choices, seq, elem, each, first_and, when_parts}
+use Rattle.ctl_table.specs.Table.{exists_all, and_all, or_all, all_of, any_of, nots, hidden, own, ends_of_option, joined, target, stays}
+use Rattle.ctl_table.specs.Table.{within, until, nested, condition, closing, with_tail, in_branches, choices, seq, elem, each, first_and, when_parts}
 use Rattle.ctl_table.specs.Table.{setting}
 use Rattle.ctl_translate.specs.Rules.{formula_of, reading, ranges_over_all, locals}
 use Rattle.insert_laws.specs.ScopeLaws.Scopes.{Covers, is_free}
@@ -69,7 +69,7 @@ module _ (used : Pattern → Var → Bool) where
   has-more : (q r : Var → Bool) (f : Plain) → Under q r → Has q f → Has r f
   has-more q r True u h = tt
   has-more q r (Atom p) u h = λ x k. u x (h x k)
-  has-more q r Bail u h = tt
+  has-more q r EarlyExit u h = tt
   has-more q r (BraceOpen p b) u h = λ x k. u x (h x k)
   has-more q r (BraceClose p b) u h = λ x k. u x (h x k)
   has-more q r (Inside b) u h = tt
@@ -81,8 +81,8 @@ module _ (used : Pattern → Var → Bool) where
   has-more q r (EX f) u h = has-more q r f u h
   has-more q r (AU f g) u h = (has-more q r f u h.0, has-more q r g u h.1)
   has-more q r (EU f g) u h = (has-more q r f u h.0, has-more q r g u h.1)
-  has-more q r (Past f) u h = has-more q r f u h
-  has-more q r (Down i f) u h = has-more q r f u h
+  has-more q r (After f) u h = has-more q r f u h
+  has-more q r (InBranch i f) u h = has-more q r f u h
   has-more q r (Exists y f) u h =
       has-more (λ x. q x || same_var y x) (λ x. r x || same_var y x) f (λ x k. or_more (q x) (r x) (same_var y x) (u x) k) h
 
@@ -156,9 +156,9 @@ module _ (used : Pattern → Var → Bool) where
         has-all_of (whens ++ (nots before ++ nots after))
         (all-append test whens (nots before ++ nots after) h (all-append test (nots before) (nots after) (has-nots before) (has-nots after)))
 
-    has-downs : (i : ℕ) (fs : List Plain) → HaveAll test fs → HaveAll test (downs i fs)
-    has-downs i [] h = tt
-    has-downs i (f ∷ fs) h = (h.0, has-downs (suc i) fs h.1)
+    has-in_branches : (i : ℕ) (fs : List Plain) → HaveAll test fs → HaveAll test (in_branches i fs)
+    has-in_branches i [] h = tt
+    has-in_branches i (f ∷ fs) h = (h.0, has-in_branches (suc i) fs h.1)
 
     has-choices : (earlier fs gs : List Plain) → HaveAll test earlier → HaveAll test fs → HaveAll test (choices earlier fs gs)
     has-choices earlier [] gs h k = tt
@@ -286,9 +286,9 @@ mutual
       (or_right (m.reading.used p x) (uses_bodies m bs x) a)) in
       let last : Known test w (λ x. any_option (λ q. m.reading.used q x) tail) =
       λ x a. h x (or_right (m.reading.used p x || uses_bodies m bs x) (any_option (λ q. m.reading.used q x) tail) a) in (
-        has-with_tail m test w tail (and_all (own m w p (Atom p)) (downs 0 (each m bs nothing w s))) last
-            (has-and_all m.reading.used test (own m w p (Atom p)) (downs 0 (each m bs nothing w s)) (has-own m test w p (Atom p) head (λ u. u))
-            (has-downs m.reading.used test 0 (each m bs nothing w s) (has-each m test bs nothing w s inner (λ u. tt)))),
+        has-with_tail m test w tail (and_all (own m w p (Atom p)) (in_branches 0 (each m bs nothing w s))) last
+            (has-and_all m.reading.used test (own m w p (Atom p)) (in_branches 0 (each m bs nothing w s)) (has-own m test w p (Atom p) head (λ u. u))
+            (has-in_branches m.reading.used test 0 (each m bs nothing w s) (has-each m test bs nothing w s inner (λ u. tt)))),
         g s,
       )
   has-elem m test before after (Block p b c) k w s t h g =
@@ -312,16 +312,16 @@ mutual
       )
   has-elem m test before after (Gap ws any strict) k w s t h g =
       has-until m.reading.used test m.forall_walks strict
-      (condition any (stays m.around ++ when_parts m ws s) (near_option m true before t) (near_option m false after s)) (target m.around k.start (k.at s))
-      (has-condition m.reading.used test any (stays m.around ++ when_parts m ws s) (near_option m true before t) (near_option m false after s)
+      (condition any (stays m.around ++ when_parts m ws s) (ends_of_option m true before t) (ends_of_option m false after s)) (target m.around k.start (k.at s))
+      (has-condition m.reading.used test any (stays m.around ++ when_parts m ws s) (ends_of_option m true before t) (ends_of_option m false after s)
       (has-stays m.reading.used test m.around (when_parts m ws s) (has-whens m.reading.used test m ws s)))
       (has-target m.reading.used test m.around k.start (k.at s) (g s))
   has-elem m test before after (Nest plus b ws any strict) k w s t h g =
       let inner : Known test w (uses_body m b) = λ x a. h x (or_left (uses_body m b x) false a) in
       has-nested m.reading.used test m.forall_walks plus strict
-      (condition any (stays m.around ++ when_parts m ws s) (near_option m true before t) (near_option m false after s))
+      (condition any (stays m.around ++ when_parts m ws s) (ends_of_option m true before t) (ends_of_option m false after s))
       (seq m None b nothing (filter (occurs_body m.reading b) w) s s) (target m.around k.start (k.at s))
-      (has-condition m.reading.used test any (stays m.around ++ when_parts m ws s) (near_option m true before t) (near_option m false after s)
+      (has-condition m.reading.used test any (stays m.around ++ when_parts m ws s) (ends_of_option m true before t) (ends_of_option m false after s)
       (has-stays m.reading.used test m.around (when_parts m ws s) (has-whens m.reading.used test m ws s)))
       (has-seq m test None b nothing (filter (occurs_body m.reading b) w) s s (known-body m test w b inner) (λ u. tt))
       (has-target m.reading.used test m.around k.start (k.at s) (g s))

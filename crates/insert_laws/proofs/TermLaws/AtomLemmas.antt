@@ -27,7 +27,7 @@ use Rattle.smpl_patch.specs.declared.pattern.VarDecl.{VarDecl}
 use Rattle.smpl_patch.specs.declared.pattern.PatToken.{PatToken}
 use Rattle.smpl_patch.specs.declared.pattern.Pattern.{Pattern}
 use Rattle.smpl_patch.specs.declared.pattern.Spot.{Spot}
-use Rattle.smpl_patch.specs.Held.{is_parted, is_held, kept, held_at, held}
+use Rattle.smpl_patch.specs.Held.{is_split_into_nodes, is_held, kept, held_at, held}
 use Rattle.smpl_patch.specs.Patterns.{declared_as, is_var_of, is_meta_of, is_position_of, is_own, held_sure, in_first, sure}
 use Rattle.pat_match.specs.Spots.{seats}
 use Rattle.pat_match.specs.Roles.{role_of}
@@ -39,75 +39,11 @@ use Rattle.ctl_fixpoint.proofs.CtlHolds.TestLemmas.{or_cases, or_left, or_right,
 use Rattle.ctl_fixpoint.proofs.CtlHolds.AtomLemmas.{label_of}
 use Rattle.insert_laws.specs.TermLaws.Terms.{is_term, IsNoPosition}
 use Rattle.insert_laws.proofs.TermLaws.HeldLemmas.{held_has_term}
+use Rattle.ctl_fixpoint.proofs.CtlHolds.AtomLemmas.{held_leaves, kept_sure, meta_at, position_at}
 
 -- what stands in a part of a form that is compared stands in the form
 
-kept_step : (q : Tree → Bool) (test : ℕ → Bool) (i : ℕ) (c : Tree) (cs : List Tree) (b : Bool)
-    → (list_any q (kept test (suc i) cs) ≡ true → list_any q cs ≡ true)
-    → list_any q (if b then c ∷ kept test (suc i) cs else kept test (suc i) cs) ≡ true → list_any q (c ∷ cs) ≡ true
-kept_step q test i c cs true r h = ⊎_elim (λ a. or_left _ _ a) (λ a. or_right _ _ (r a)) (or_cases (q c) _ h)
-kept_step q test i c cs false r h = or_right (q c) _ (r h)
-
-pub any_kept : (q : Tree → Bool) (test : ℕ → Bool) (i : ℕ) (cs : List Tree) → list_any q (kept test i cs) ≡ true
-    → list_any q cs ≡ true
-any_kept q test i [] h = h
-any_kept q test i (c ∷ cs) h = kept_step q test i c cs (test i) (any_kept q test (suc i) cs) h
-
-pub any_joined : (q : Token → Bool) (cs : List Tree) → list_any (λ c. list_any q (leaves c)) cs ≡ true
-    → list_any q (join (map leaves cs)) ≡ true
-any_joined q [] h = h
-any_joined q (c ∷ cs) h =
-    list_any-append q (leaves c) (join (map leaves cs))
-    ∙ ⊎_elim
-    (λ a. or_left (list_any q (leaves c)) _ a)
-    (λ b. or_right (list_any q (leaves c)) _ (any_joined q cs b))
-    (or_cases (list_any q (leaves c)) _ h)
-
-pub or_nothing : (a : Bool) → (a || false) ≡ true → a ≡ true
-or_nothing true h = refl
-or_nothing false h = h
-
-held_branch : (q : Token → Bool) (s : Spot) (l : Label) (cs : List Tree) (b : Bool)
-    → list_any (λ t. list_any q (leaves t)) (if b then kept (is_held s l (length cs)) 0 cs else Branch l cs ∷ []) ≡ true
-    → list_any q (leaves (Branch l cs)) ≡ true
-held_branch q s l cs true h =
-    ap (list_any q) (leaves-Branch l cs)
-    ∙ any_joined q cs (any_kept (λ t. list_any q (leaves t)) (is_held s l (length cs)) 0 cs h)
-held_branch q s l cs false h = or_nothing _ h
-
-pub held_leaves : (q : Token → Bool) (s : Spot) (form : Tree) → list_any (λ t. list_any q (leaves t)) (held s form) ≡ true
-    → list_any q (leaves form) ≡ true
-held_leaves q s = tree_cases
-    (λ form. list_any (λ t. list_any q (leaves t)) (held s form) ≡ true → list_any q (leaves form) ≡ true)
-    (λ a h. or_nothing _ (sym (ap (λ y. list_any (λ t. list_any q (leaves t)) (held_at s y (Leaf a))) (out-Leaf a)) ∙ h))
-    (λ l cs h. held_branch q s l cs (is_parted s l)
-    (sym (ap (λ y. list_any (λ t. list_any q (leaves t)) (held_at s y (Branch l cs))) (out-Branch l cs)) ∙ h))
-
 -- the other forms that match have each sure variable of the first as a sure one
-
-all_any : (q : Var → Bool) (x : Var) (ys : List Var) → list_all q ys ≡ true → list_any (λ y. same_var y x) ys ≡ true
-    → q x ≡ true
-all_any q x ys h k =
-    let y = any_found (λ y. same_var y x) ys k in
-    subst (λ z. q z ≡ true) (same_var-equal y.0 x y.2) (all_has q y.0 ys y.1 h)
-
-var_at : (q : Var → Bool) (x : Var) (o : Option VarDecl) → var_passes q o ≡ true → is_var_of o x ≡ true → q x ≡ true
-var_at q x None h k = absurd (cc)
-var_at q x (Some d) h k = subst (λ z. q z ≡ true) (same_var-equal d.var x k) h
-
-position_at : (q : Var → Bool) (x : Var) (o : Option PatToken) → positions_pass q o ≡ true → is_position_of o x ≡ true
-    → q x ≡ true
-position_at q x None h k = absurd (cc)
-position_at q x (Some p) h k = all_any q x p.positions h k
-
-meta_at : (decls : List VarDecl) (q : Var → Bool) (x : Var) (k : TokenKind) (a : Token) → meta_passes decls q k a ≡ true
-    → is_meta_of decls a k x ≡ true → q x ≡ true
-meta_at decls q x (token_kind.Meta k) a h e = var_at q x (declared_as decls a.text) h e
-meta_at decls q x _ a h e = absurd (cc)
-
-kept_sure : (a b : Bool) → a ≡ true → (not a || b) ≡ true → b ≡ true
-kept_sure true b e h = h
-kept_sure false b e h = absurd (cc)
 
 module _ (decls : List VarDecl) (tokens : List PatToken) (env : Environment) (x : Var) (off : IsNoPosition tokens x) where
   token_at : (q : Var → Bool) (a : Token) → token_passes decls tokens q a ≡ true → is_own decls tokens x a ≡ true → q x ≡ true

@@ -16,8 +16,8 @@ use Rattle.smpl_patch.specs.declared.pattern.VarDecl.{VarDecl}
 use Rattle.smpl_patch.specs.declared.pattern.PatToken.{PatToken}
 use Rattle.smpl_patch.specs.declared.pattern.Pattern.{Pattern}
 use Rattle.smpl_patch.specs.Patterns.{sure}
-use Rattle.ctl_formula.specs.Plain.{Plain, True, Atom, Bail, BraceOpen, BraceClose, Inside, Outside, Not, And, Or, AX, EX, AU}
-use Rattle.ctl_formula.specs.Plain.{EU, Past, Down, Exists}
+use Rattle.ctl_formula.specs.Plain.{Plain, True, Atom, EarlyExit, BraceOpen, BraceClose, Inside, Outside, Not, And, Or, AX, EX, AU}
+use Rattle.ctl_formula.specs.Plain.{EU, After, InBranch, Exists}
 use Rattle.ctl_formula.specs.Bounds.{bound, bound_not}
 use Rattle.ctl_fixpoint.specs.CtlHolds.Values.{values_of}
 use Rattle.ctl_fixpoint.specs.CtlHolds.Parts.{EachPattern}
@@ -31,20 +31,9 @@ use Rattle.ctl_fixpoint.proofs.CtlHolds.HoldLemmas.{holds_decides}
 use Rattle.wit_forest.specs.WitTrees.Forest.{is_hidden}
 use Rattle.insert_laws.specs.TermLaws.Terms.{is_term, IsNoPosition, HidesBlocks, HasTerms}
 use Rattle.insert_laws.proofs.TermLaws.AtomLemmas.{atom_term, brace_term}
-
-there_found : (x : ℕ → Bool) (o : Option ℕ) → passes_there x o ≡ true → (k : ℕ) × (o ≡ Some k) × (x k ≡ true)
-there_found x None h = not_both false h refl
-there_found x (Some k) h = (k, refl, h)
+use Rattle.ctl_fixpoint.proofs.CtlHolds.BoundLemmas.{other-value, some_label, there_found}
 
 -- another variable keeps its value
-other-value : (env : Environment) (y : Var) (v : Value) (x : Var) → not (same_var y x) ≡ true → change env y v x ≡ env x
-other-value env y v x h = ap (λ b. cond b v (env x)) (same_var-sym x y ∙ not_true (same_var y x) h)
-
-some_label : (ls : List NodeLabel) (s : ℕ) → s < length ls → (l : NodeLabel) × (slice_get ls s ≡ Some l)
-some_label [] s lt = absurd (omega (arith, lt))
-some_label (l ∷ ls) zero lt = (l, refl)
-some_label (l ∷ ls) (suc s) lt = some_label ls s (omega (arith, lt))
-
 -- a hidden variable is no other one
 not_hidden : (b x : Var) → is_hidden b ≡ true → is_hidden x ≡ false → same_var b x ≡ true → ⊥
 not_hidden b x h k e = not_both (is_hidden x) (ap is_hidden (sym (same_var-equal b x e)) ∙ h) k
@@ -98,7 +87,7 @@ module _ (decls : List VarDecl) (tokens : List PatToken) (g : Flow) (ok : IsSoun
       × (bound_not (sure decls tokens) f x ≡ true → holds decls tokens g m f s env ≡ false → TermOf env x)
   bound_law True e i s lt env x off hide = (λ b h. not_both false b refl, λ b h. not_both true refl h)
   bound_law (Atom p) e i s lt env x off hide = (λ b h. atom_term decls tokens env x off g p s e b h, λ b h. not_both false b refl)
-  bound_law Bail e i s lt env x off hide = (λ b h. not_both false b refl, λ b h. not_both false b refl)
+  bound_law EarlyExit e i s lt env x off hide = (λ b h. not_both false b refl, λ b h. not_both false b refl)
   bound_law (BraceOpen p y) e i s lt env x off hide = (
     λ b h. brace_law p e y i s env x off hide b (λ a. brace_term decls tokens env x off g p s e is_open y a h),
     λ b h. not_both false b refl,
@@ -154,13 +143,13 @@ module _ (decls : List VarDecl) (tokens : List PatToken) (g : Flow) (ok : IsSoun
     λ b w. (bound_law h e.1 i.1 s lt env x off hide).1 b
         (until_not g ok false (λ n. holds decls tokens g m f n env) (λ n. holds decls tokens g m h n env) m s pos w),
   )
-  bound_law (Past f) e i s lt env x off hide = (
+  bound_law (After f) e i s lt env x off hide = (
     λ b w.
         let k = there_found (λ n. holds decls tokens g m f n env) (past_of g s) w in
         (bound_law f e i k.0 (past_node g ok s k.0 lt k.1) env x off hide).0 b k.2,
     λ b w. not_both false b refl,
   )
-  bound_law (Down j f) e i s lt env x off hide = (
+  bound_law (InBranch j f) e i s lt env x off hide = (
     λ b w.
         let k = there_found (λ n. holds decls tokens g m f n env) (slice_get (down_of g s) j) w in
         (bound_law f e i k.0 (down_node g ok s j k.0 lt k.1) env x off hide).0 b k.2,

@@ -33,6 +33,7 @@ use Rattle.pat_match.proofs.Pieces.{fits-Leaf, fits-Branch, piece-token}
 use Rattle.pat_match.proofs.RowLemmas.{choice}
 use Rattle.ctl_fixpoint.proofs.CtlHolds.TestLemmas.{or_cases, and_left, and_right, not_both}
 use Rattle.insert_laws.specs.TermLaws.Terms.{is_term, IsNoPosition}
+use Rattle.pat_match.proofs.SureLaw.{false_and, sign_fits, sign_meta}
 
 term_same : (t : Tree) (v : Value) → same (value.Term t) v ≡ true → is_term v ≡ true
 term_same t (value.Term u) h = refl
@@ -40,21 +41,9 @@ term_same t (value.Place p) h = absurd (cc)
 
 -- a sign and a comma are no metavariables, and a sign fits nothing
 
-sign_meta : (decls : List VarDecl) (a : Token) (k : TokenKind) (x : Var) → is_sign k ≡ true → is_meta_of decls a k x ≡ false
-sign_meta decls a (kind.Meta k) x h = absurd (cc)
-sign_meta decls a _ x h = refl
-
 punct_meta : (decls : List VarDecl) (a : Token) (k : TokenKind) (x : Var) → is_punct k ≡ true → is_meta_of decls a k x ≡ false
 punct_meta decls a (kind.Meta k) x h = absurd (cc)
 punct_meta decls a _ x h = refl
-
-sign_fits : (decls : List VarDecl) (env : Environment) (k : TokenKind) (a : Token) (t : Tree) → is_sign k ≡ true → token_fits decls env k a t ≡ false
-sign_fits decls env kind.Pat a t h = refl
-sign_fits decls env _ a t h = absurd (cc)
-
-false_and : (a b : Bool) → a ≡ false → (a && b) ≡ false
-false_and true b h = absurd (cc)
-false_and false b h = refl
 
 below_elim : (test : ℕ → Bool) (n : ℕ) → some_below test n ≡ true → (k : ℕ) × (test k ≡ true)
 below_elim test zero h = not_both false h refl

@@ -28,34 +28,9 @@ use Rattle.pat_match.specs.Spots.{close_brace, own_fit, option_fits, own_fits, b
 use Rattle.ctl_fixpoint.proofs.CtlHolds.TestLemmas.{or_cases, or_left, or_right, and_left, and_right, not_both}
 use Rattle.insert_laws.specs.TermLaws.Terms.{is_term, IsNoPosition}
 use Rattle.insert_laws.proofs.TermLaws.FitLemmas.{HasTerm, any_sure, tree_law}
+use Rattle.pat_match.proofs.HeldLaw.{body-none, both_not, head-plain, kept-all, tail-none}
 
 -- labels
-
-body-none : (l : Label) (n i : ℕ) → is_head_label l ≡ false → is_body l n i ≡ false
-body-none label.IfElse n i h = absurd (cc)
-body-none label.Do n i h = absurd (cc)
-body-none _ n i h = ap (λ b. b && nat_eq (i + 1) n) h
-
-tail-none : (l : Label) (i : ℕ) → is_head_label l ≡ false → is_tail l i ≡ false
-tail-none label.Do i h = absurd (cc)
-tail-none _ i h = refl
-
-head-plain : (l : Label) → is_head_label l ≡ true → shape_of l ≡ shape.Plain
-head-plain label.Args h = absurd (cc)
-head-plain label.Params h = absurd (cc)
-head-plain label.PatOr h = absurd (cc)
-head-plain label.PatAnd h = absurd (cc)
-head-plain _ h = refl
-
-both_not : (a b : Bool) → a ≡ false → b ≡ false → (not a && not b) ≡ true
-both_not true b h k = absurd (cc)
-both_not false true h k = absurd (cc)
-both_not false false h k = refl
-
-kept-all : (test : ℕ → Bool) (i : ℕ) (cs : List Tree) → ((j : ℕ) → test j ≡ true) → kept test i cs ≡ cs
-kept-all test i [] h = refl
-kept-all test i (c ∷ cs) h =
-    ap (λ b. if b then c ∷ kept test (suc i) cs else kept test (suc i) cs) (h i) ∙ ap (λ ds. c ∷ ds) (kept-all test (suc i) cs h)
 
 or_nothing : (a : Bool) → (a || false) ≡ true → a ≡ true
 or_nothing true h = refl

@@ -29,7 +29,7 @@ use Rattle.pat_match.specs.Roles.{role_of}
 use Rattle.pat_match.specs.Spots.{seats}
 use Rattle.pat_match.specs.Matching.{put_form, form_at, aligned_at}
 use Rattle.pattern_vars.specs.Reads.{is_declared}
-use Rattle.ctl_formula.specs.Plain.{Plain, True, Atom, Bail, BraceOpen, BraceClose, Inside, Outside, Not, And, Or, AX, EX, AU, EU, Past, Down, Exists}
+use Rattle.ctl_formula.specs.Plain.{Plain, True, Atom, EarlyExit, BraceOpen, BraceClose, Inside, Outside, Not, And, Or, AX, EX, AU, EU, After, InBranch, Exists}
 use Rattle.ctl_formula.specs.Bounds.{bound, guarded}
 use Rattle.ctl_fixpoint.specs.CtlHolds.Rounds.{holds}
 use Rattle.ctl_fixpoint.specs.CtlHolds.Parts.{EachPattern}
@@ -224,7 +224,7 @@ module _ (rule : Rule) (metas : Var → Bool) (are : AreMetas metas rule) (items
         → (s : ℕ) → s < count_of g → (env : Environment) → Have (Fine test) (forest w f s env)
     forest_fine True ps st hb gd test cov s lt env = tt
     forest_fine (Atom p) ps st hb gd test cov s lt env = touched_fine test p ps cov s env
-    forest_fine Bail ps st hb gd test cov s lt env = tt
+    forest_fine EarlyExit ps st hb gd test cov s lt env = tt
     forest_fine (BraceOpen p b) ps st hb gd test cov s lt env = touched_fine test p ps cov s env
     forest_fine (BraceClose p b) ps st hb gd test cov s lt env = touched_fine test p ps cov s env
     forest_fine (Inside b) ps st hb gd test cov s lt env = tt
@@ -262,9 +262,9 @@ module _ (rule : Rule) (metas : Var → Bool) (are : AreMetas metas rule) (items
         (if_h (Fine test) (w.holds f n env && list_any (λ k. w.holds (EU f h) k env) (succ_of w.graph n)) (forest w f n env) []
         (forest_fine f ps.0 st.0 hb.0 (and_left _ _ gd) test cov.0 n below env) tt))
         (reached w.graph (λ n. w.holds f n env) s) (reached_below g (λ n. w.holds f n env) s)
-    forest_fine (Past f) ps st hb gd test cov s lt env =
+    forest_fine (After f) ps st hb gd test cov s lt env =
         option_fine test (λ k. forest w f k env) (past_of w.graph s) (λ k e. forest_fine f ps st hb gd test cov k (past_node g ok s k lt e) env)
-    forest_fine (Down i f) ps st hb gd test cov s lt env =
+    forest_fine (InBranch i f) ps st hb gd test cov s lt env =
         option_fine test (λ k. forest w f k env) (slice_get (down_of w.graph s) i)
         (λ k e. forest_fine f ps st hb gd test cov k (down_node g ok s i k lt e) env)
     forest_fine (Exists x f) ps st hb gd test cov s lt env =

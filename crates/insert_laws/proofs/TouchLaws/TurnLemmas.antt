@@ -42,7 +42,7 @@ use Rattle.env_parts.specs.Parts.{Pairs, is_among, restricted, bare_env}
 use Rattle.env_parts.proofs.PartLemmas.{has_value-bare}
 use Rattle.rule_chain.specs.RuleWitnesses.Bare.{bare_tree, bare_witness}
 use Rattle.rule_chain.specs.RuleWitnesses.Choices.{AreNew}
-use Rattle.rule_envs.specs.declared.carrier.Carrier.{Carrier}
+use Rattle.rule_envs.specs.declared.carrier.FileEnv.{FileEnv}
 use Rattle.rule_envs.specs.Inherited.{inherited_of}
 use Rattle.rule_envs.specs.Depends.{judge}
 use Rattle.rule_envs.specs.Shares.{takes_part, share, projections}
@@ -249,10 +249,10 @@ module _ (pattern_law : PatternLaw) (cover_law : CoverLaw) (block_law : BlockLaw
       SomeHas None = Unit {0}
       SomeHas (Some env) = IsShared env
 
-      abbrev part : Carrier → Option Pairs
+      abbrev part : FileEnv → Option Pairs
       part c = share defined had rule.depends (inherited_of rule) c
 
-      share_by : (c : Carrier) → CarriesTerms metas c → (b : Bool) → takes_part defined had rule.depends (inherited_of rule) c ≡ b
+      share_by : (c : FileEnv) → CarriesTerms metas c → (b : Bool) → takes_part defined had rule.depends (inherited_of rule) c ≡ b
           → SomeHas (cond b (Some (restricted (inherited_of rule) c.env)) None)
       share_by c h true e = record {
         gives = restricted_gives metas (inherited_of rule) c.env h;
@@ -263,20 +263,20 @@ module _ (pattern_law : PatternLaw) (cover_law : CoverLaw) (block_law : BlockLaw
       }
       share_by c h false e = tt
 
-      share_has : (c : Carrier) → CarriesTerms metas c → SomeHas (part c)
+      share_has : (c : FileEnv) → CarriesTerms metas c → SomeHas (part c)
       share_has c h = share_by c h (takes_part defined had rule.depends (inherited_of rule) c) refl
 
       cons_has : (o : Option Pairs) (envs : List Pairs) → SomeHas o → All IsShared envs → All IsShared (cons_option o envs)
       cons_has None envs h k = k
       cons_has (Some env) envs h k = All-cons IsShared env envs h k
 
-      shares_have : (carriers : List Carrier) → All (CarriesTerms metas) carriers → All IsShared (filter_map part carriers)
+      shares_have : (carriers : List FileEnv) → All (CarriesTerms metas) carriers → All IsShared (filter_map part carriers)
       shares_have [] h = All-nil IsShared
       shares_have (c ∷ carriers) h =
           cons_has (part c) (filter_map part carriers) (share_has c (All-head (CarriesTerms metas) c carriers h))
           (shares_have carriers (All-tail (CarriesTerms metas) c carriers h))
 
-      pub all_show : (carriers : List Carrier) → All (CarriesTerms metas) carriers
+      pub all_show : (carriers : List FileEnv) → All (CarriesTerms metas) carriers
           → All Shows (touches (turn_found defined had number rule items carriers))
       all_show carriers h =
           flat_each IsLeft Shows touches_of left_shows (turn_found defined had number rule items carriers)
@@ -285,17 +285,17 @@ module _ (pattern_law : PatternLaw) (cover_law : CoverLaw) (block_law : BlockLaw
 
       -- ---- the environments after the rule
 
-      replaced_c : (c : Carrier) (parts : List Pairs) → CarriesTerms metas c → All Gives parts → All (CarriesTerms metas) (replaced number c parts)
+      replaced_c : (c : FileEnv) (parts : List Pairs) → CarriesTerms metas c → All Gives parts → All (CarriesTerms metas) (replaced number c parts)
       replaced_c c [] h k = All-cons (CarriesTerms metas) c [] h (All-nil (CarriesTerms metas))
       replaced_c c (p ∷ parts) h k =
           map_each Gives (CarriesTerms metas) (extended number c) (λ env e. joined_gives metas c.env env h e) (p ∷ parts) k
 
-      becomes_c : (c : Carrier) (o : Option Pairs) → CarriesTerms metas c → SomeHas o
+      becomes_c : (c : FileEnv) (o : Option Pairs) → CarriesTerms metas c → SomeHas o
           → All (CarriesTerms metas) (becomes_by number part (brings number rule items) c o)
       becomes_c c None h k = All-cons (CarriesTerms metas) c [] h (All-nil (CarriesTerms metas))
       becomes_c c (Some env) h k = replaced_c c (brings number rule items env) h (brought env k)
 
-      pub all_carried : (carriers : List Carrier) → All (CarriesTerms metas) carriers
+      pub all_carried : (carriers : List FileEnv) → All (CarriesTerms metas) carriers
           → All (CarriesTerms metas) (turn_carriers defined had number rule items carriers)
       all_carried carriers h =
           flat_each (CarriesTerms metas) (CarriesTerms metas) (λ c. becomes_by number part (brings number rule items) c (part c))

@@ -8,8 +8,8 @@ use Rattle.smpl_terms.specs.Environments.{Environment}
 use Rattle.smpl_patch.specs.declared.pattern.VarDecl.{VarDecl}
 use Rattle.smpl_patch.specs.declared.pattern.PatToken.{PatToken}
 use Rattle.smpl_patch.specs.Patterns.{is_position_of, sure}
-use Rattle.ctl_formula.specs.Plain.{Plain, True, Atom, Bail, BraceOpen, BraceClose, Inside, Outside, Not, And, Or, AX, EX, AU}
-use Rattle.ctl_formula.specs.Plain.{EU, Past, Down, Exists}
+use Rattle.ctl_formula.specs.Plain.{Plain, True, Atom, EarlyExit, BraceOpen, BraceClose, Inside, Outside, Not, And, Or, AX, EX, AU}
+use Rattle.ctl_formula.specs.Plain.{EU, After, InBranch, Exists}
 use Rattle.ctl_formula.specs.Bounds.{bound, bound_not}
 use Rattle.ctl_fixpoint.specs.CtlHolds.Holding.{Holds}
 use Rattle.wit_forest.specs.WitTrees.Forest.{is_hidden}
@@ -26,7 +26,7 @@ IsNoPosition tokens x = (n : ℕ) → is_position_of (slice_get tokens n) x ≡ 
 abbrev pub HidesBlocks : Plain → Type 0
 HidesBlocks True = Unit {0}
 HidesBlocks (Atom p) = Unit {0}
-HidesBlocks Bail = Unit {0}
+HidesBlocks EarlyExit = Unit {0}
 HidesBlocks (BraceOpen p b) = is_hidden b ≡ true
 HidesBlocks (BraceClose p b) = is_hidden b ≡ true
 HidesBlocks (Inside b) = is_hidden b ≡ true
@@ -38,8 +38,8 @@ HidesBlocks (AX f) = HidesBlocks f
 HidesBlocks (EX f) = HidesBlocks f
 HidesBlocks (AU f h) = HidesBlocks f × HidesBlocks h
 HidesBlocks (EU f h) = HidesBlocks f × HidesBlocks h
-HidesBlocks (Past f) = HidesBlocks f
-HidesBlocks (Down i f) = HidesBlocks f
+HidesBlocks (After f) = HidesBlocks f
+HidesBlocks (InBranch i f) = HidesBlocks f
 HidesBlocks (Exists x f) = HidesBlocks f
 
 -- each variable that a formula binds has a term where it holds, and each that it binds when it fails has one where it

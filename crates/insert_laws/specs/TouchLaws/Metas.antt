@@ -19,7 +19,7 @@ use Rattle.pat_match.specs.Spots.{seats}
 use Rattle.pattern_vars.specs.Reads.{is_declared}
 use Rattle.wit_forest.specs.WitTrees.Forest.{is_hidden}
 use Rattle.env_parts.specs.Parts.{Pairs}
-use Rattle.rule_envs.specs.declared.carrier.Carrier.{Carrier}
+use Rattle.rule_envs.specs.declared.carrier.FileEnv.{FileEnv}
 use Rattle.edit_marks.specs.EditWalk.Touches.{Touched}
 use Rattle.insert_laws.specs.TermLaws.Terms.{is_term, IsNoPosition}
 
@@ -27,7 +27,7 @@ use Rattle.insert_laws.specs.TermLaws.Terms.{is_term, IsNoPosition}
 abbrev pub GivesTerms : (Var → Bool) → Pairs → Type 0
 GivesTerms metas env = (x : Var) → metas x ≡ true → (v : Value) → value_in env x ≡ Some v → is_term v ≡ true
 
-abbrev pub CarriesTerms : (Var → Bool) → Carrier → Type 0
+abbrev pub CarriesTerms : (Var → Bool) → FileEnv → Type 0
 CarriesTerms metas c = GivesTerms metas c.env
 
 -- the variables that pass are positions at no token of the rule, and none is the hidden variable of a block

@@ -6,7 +6,7 @@ ghost use Rattle.c_file.specs.Reads.{Reads};
 ghost use Rattle.smpl_terms.specs.declared.var.Var.{Var as Variable};
 ghost use Rattle.smpl_patch.specs.declared.rule.Rule.{Rule as PatchRule};
 ghost use Rattle.ctl_translate.specs.Rules.{first_unbound};
-ghost use Rattle.rule_envs.specs.declared.carrier.Carrier.{Carrier};
+ghost use Rattle.rule_envs.specs.declared.carrier.FileEnv.{FileEnv};
 ghost use Rattle.rule_chain.specs.RuleTurn.Turns.{turn_found, turn_carriers};
 ghost use Rattle.rule_laws.specs.Ready.{IsReady};
 ghost use Rattle.edit_marks.specs.EditWalk.Touches.{touches};
@@ -28,11 +28,11 @@ use rule_laws::formulas_have_patterns_of_their_bodies;
 /// Does nothing.
 pub fn touches_show_terms()
     ensures found { (defined : List (List ℕ)) (had : List ℕ) (number : ℕ) (rule : PatchRule) (pieces : List TextPiece)
-        (items : List Item) (carriers : List Carrier) (metas : Variable → Bool) → IsReady rule → first_unbound rule ≡ None →
+        (items : List Item) (carriers : List FileEnv) (metas : Variable → Bool) → IsReady rule → first_unbound rule ≡ None →
         AreMetas metas rule → Reads pieces items → All (CarriesTerms metas) carriers →
         All (ShowsTerms metas rule items) (touches (turn_found defined had number rule items carriers)) }
     ensures carried { (defined : List (List ℕ)) (had : List ℕ) (number : ℕ) (rule : PatchRule) (pieces : List TextPiece)
-        (items : List Item) (carriers : List Carrier) (metas : Variable → Bool) → IsReady rule → first_unbound rule ≡ None →
+        (items : List Item) (carriers : List FileEnv) (metas : Variable → Bool) → IsReady rule → first_unbound rule ≡ None →
         AreMetas metas rule → Reads pieces items → All (CarriesTerms metas) carriers →
         All (CarriesTerms metas) (turn_carriers defined had number rule items carriers) }
 {

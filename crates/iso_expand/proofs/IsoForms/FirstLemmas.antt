@@ -22,7 +22,8 @@ AreFirst [] (c ∷ cs) = ⊥
 AreFirst (fs ∷ fss) [] = ⊥
 AreFirst (fs ∷ fss) (c ∷ cs) = (slice_get fs 0 ≡ Some c) × AreFirst fss cs
 
-put_before : (t : Tree) (css more : List (List Tree)) (cs : List Tree) → slice_get css 0 ≡ Some cs → slice_get (map (λ ds. t ∷ ds) css ++ more) 0 ≡ Some (t ∷ cs)
+put_before : (t : Tree) (css more : List (List Tree)) (cs : List Tree) → slice_get css 0 ≡ Some cs
+    → slice_get (map (λ ds. t ∷ ds) css ++ more) 0 ≡ Some (t ∷ cs)
 put_before t [] more cs h = absurd cc
 put_before t (ds ∷ css) more cs h = let e : ds ≡ cs = cc in ap (λ (x : List Tree). Some (t ∷ x)) e
 
@@ -55,7 +56,8 @@ module _ (tokens : List PatToken) (isos : List Iso) where
   of_first l css cs h = by (is_expression l)
     where
       by : (b : Bool) → slice_get (if b then with_isos tokens (branches l css) isos else branches l css) 0 ≡ Some (Branch l cs)
-      by true = stays_at (branches l css) (with_isos tokens (branches l css) isos) 0 (Branch l cs) (isos-extend tokens (branches l css) isos) (first_branch l css cs h)
+      by true = stays_at (branches l css) (with_isos tokens (branches l css) isos) 0 (Branch l cs)
+          (isos-extend tokens (branches l css) isos) (first_branch l css cs h)
       by false = first_branch l css cs h
 
   pub first_form : (t : Tree) → slice_get (forms tokens isos t) 0 ≡ Some t

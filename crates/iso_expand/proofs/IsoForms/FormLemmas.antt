@@ -1,5 +1,6 @@
 -- Forms of branches, and lower bounds for their number.
-use Rattle.std.proofs.Common.{◌≡◌, ℕ, ◌+◌, ◌<◌, ◌≤◌, Bool, true, false, if◌then◌else◌, List, [], ◌∷◌, ◌++◌, length, get_or, drop, map, refl, sym, ap, subst, ◌∙◌, arith, length-append}
+use Rattle.std.proofs.Common.{◌≡◌, ℕ, ◌+◌, ◌<◌, ◌≤◌, Bool, true, false, if◌then◌else◌, List, [], ◌∷◌, ◌++◌, length, get_or}
+use Rattle.std.proofs.Common.{drop, map, refl, sym, ap, subst, ◌∙◌, arith, length-append}
 use Rattle.std.proofs.lemmas.List.{length-map}
 use Rattle.c_terms.specs.declared.token.Token.{Token}
 use Rattle.c_terms.specs.declared.label.Label.{Label}
@@ -55,7 +56,8 @@ module _ (tokens : List PatToken) (isos : List Iso) where
       (λ l cs each.
       let n = some_choice (map (forms tokens isos) cs) (all_some cs each) in
       let m = choices-fit l (choices (map (forms tokens isos) cs)) in
-      let e : length (forms tokens isos (Branch l cs)) ≡ length (of_choices tokens isos l (choices (map (forms tokens isos) cs))) = ap length (forms-Branch l cs) in
+      let e : length (forms tokens isos (Branch l cs))
+      ≡ length (of_choices tokens isos l (choices (map (forms tokens isos) cs))) = ap length (forms-Branch l cs) in
       omega arith)
 
   pub have_forms : (cs : List Tree) → AllSome (map (forms tokens isos) cs)
@@ -115,7 +117,8 @@ module _ (tokens : List PatToken) (isos : List Iso) where
       → grown_by css (map (forms tokens isos) rest) ≡ grown_by ([] ∷ []) (map (forms tokens isos) cs)
       → of_choices tokens isos l css ≡ forms tokens isos (Branch l cs)
   whole_branch l cs rest css none e =
-      ap (of_choices tokens isos l) (sym (ap (λ (xs : List Tree). grown_by css (map (forms tokens isos) xs)) none) ∙ e ∙ grown-choices (map (forms tokens isos) cs))
+      ap (of_choices tokens isos l) (sym (ap (λ (xs : List Tree). grown_by css (map (forms tokens isos) xs)) none) ∙ e
+      ∙ grown-choices (map (forms tokens isos) cs))
       ∙ sym (forms-Branch l cs)
 
   -- ---- the tree under another name

@@ -1,6 +1,6 @@
 -- Which trees of a pattern a variable of an isomorphism may stand for.
-use Rattle.std.specs.Prelude.{ℕ, Bool, true, false, not, ◌&&◌, ◌||◌, nat_lt, nat_eq, List, [], Option, Some, None}
-use Rattle.std.specs.List.{list_any, list_all}
+use Rattle.std.specs.Prelude.{ℕ, Bool, true, false, not, ◌||◌, List, [], Option, Some, None}
+use Rattle.std.specs.List.{list_any}
 use Rattle.c_terms.specs.declared.token.Token.{Token}
 use Rattle.c_terms.specs.declared.token.TokenKind.{TokenKind}
 use Rattle.c_terms.specs.declared.token.TokenKind.TheVariants as kind
@@ -10,6 +10,7 @@ use Rattle.c_terms.specs.declared.label.Label.{Label}
 use Rattle.c_terms.specs.declared.label.Label.TheVariants as label
 use Rattle.c_terms.specs.declared.tree.Tree.{Tree}
 use Rattle.c_terms.specs.declared.tree.Tree.TheOpen.{Tree-F}
+use Rattle.c_terms.specs.Constants.{is_constant_name, is_strings}
 use Rattle.c_terms.specs.Same.{same_bytes}
 use Rattle.c_terms.specs.Shapes as shapes
 use Rattle.smpl_patch.specs.declared.pattern.VarDecl.{VarDecl}
@@ -35,17 +36,6 @@ is_choice _ = false
 abbrev pub is_expression : Label → Bool
 is_expression l = shapes.is_expression_label l || is_choice l
 
--- `A` to `Z`
-abbrev pub is_capital : ℕ → Bool
-is_capital c = nat_lt 64 c && nat_lt c 91
-
--- a capital letter, a digit or `_`
-abbrev pub is_constant_byte : ℕ → Bool
-is_constant_byte c = is_capital c || ((nat_lt 47 c && nat_lt c 58) || nat_eq c 95)
-
-abbrev pub is_constant_name : List ℕ → Bool
-is_constant_name text = list_all is_constant_byte text && list_any is_capital text
-
 -- a constant, or a metavariable for one
 abbrev pub is_constant_token : TokenKind → List ℕ → Bool
 is_constant_token kind.Number text = true
@@ -66,10 +56,6 @@ token_is_of meta.Expr excepted t = is_expression_token t.kind
 token_is_of meta.Constant excepted t = is_constant_token t.kind t.text
 token_is_of meta.Ident excepted t = is_identifier_token excepted t.kind t.text
 token_is_of _ excepted t = false
-
-abbrev pub is_strings : Label → Bool
-is_strings label.Strings = true
-is_strings _ = false
 
 abbrev pub label_is_of : MetaKind → Label → Bool
 label_is_of meta.Expr l = is_expression l

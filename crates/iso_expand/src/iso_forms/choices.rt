@@ -1,6 +1,6 @@
 // One form of each child.
 ghost use Rattle.std.specs.Prelude.{◌≡◌, ◌≤◌, ◌<◌, ◌*◌, [], ◌∷◌, ◌++◌, map, length, IfOk, IfErr};
-ghost use Rattle.iso_expand.specs.IsoForms.Forms as of;
+ghost use Rattle.iso_expand.specs.IsoForms.Forms as spec;
 ghost use Rattle.iso_expand.specs.IsoForms.Forms.{Refused};
 ghost use Rattle.iso_expand.specs.IsoForms.Stepped.{grown, longer};
 
@@ -160,7 +160,7 @@ pub fn branches(
     label: Label,
     choices: Vec<Items<Tree>>,
 ) -> Result<Items<Tree>, NoMemory>
-    ensures { IfOk result (λ trees. trees ≡ of.branches label choices.items) }
+    ensures { IfOk result (λ trees. trees ≡ spec.branches label choices.items) }
 {
     let mut out = Items::new(alloc);
     for children in choices {

@@ -1,15 +1,17 @@
 // Which trees of a pattern a variable of an isomorphism may stand for.
-ghost use Rattle.std.specs.Prelude.{◌≡◌, ◌&&◌, ◌||◌, Bool, true, false, not};
-ghost use Rattle.std.specs.List.{list_any, list_all};
+ghost use Rattle.std.specs.Prelude.{◌≡◌, ◌&&◌, ◌||◌, true, false};
+ghost use Rattle.std.specs.List.{list_any};
 ghost use Rattle.c_terms.specs.declared.tree.Tree.{out-Tree};
 ghost use Rattle.c_terms.specs.Same.{same_bytes};
-ghost use Rattle.iso_expand.specs.IsoForms.Kinds as of;
+ghost use Rattle.iso_expand.specs.IsoForms.Kinds as spec;
 
-use c_terms::{Label, MetaKind, Text, Token, TokenKind, Tree, same_text};
+use c_terms::{
+    Label, MetaKind, Text, Token, TokenKind, Tree, is_constant_name, is_strings, same_text,
+};
 use smpl_patch::{VarDecl, declared_as};
 
 fn is_expression_token(kind: TokenKind) -> bool
-    ensures { result ≡ of.is_expression_token kind }
+    ensures { result ≡ spec.is_expression_token kind }
 {
     match kind {
         TokenKind::Name | TokenKind::Number | TokenKind::Char | TokenKind::Str => true,
@@ -21,7 +23,7 @@ fn is_expression_token(kind: TokenKind) -> bool
 }
 
 fn is_choice(label: Label) -> bool
-    ensures { result ≡ of.is_choice label }
+    ensures { result ≡ spec.is_choice label }
 {
     match label {
         Label::PatOr | Label::PatAnd => true,
@@ -31,54 +33,13 @@ fn is_choice(label: Label) -> bool
 
 /// Whether the label is that of an expression of C, or of a disjunction or conjunction of expressions.
 pub fn is_expression(label: Label) -> bool
-    ensures { result ≡ of.is_expression label }
+    ensures { result ≡ spec.is_expression label }
 {
     label.is_expression() || is_choice(label)
 }
 
-fn is_capital(byte: u8) -> bool
-    ensures { result ≡ of.is_capital byte }
-{
-    64 < byte && byte < 91
-}
-
-fn is_constant_byte(byte: u8) -> bool
-    ensures { result ≡ of.is_constant_byte byte }
-{
-    is_capital(byte) || ((47 < byte && byte < 58) || byte == 95)
-}
-
-fn has_capital(text: &[u8]) -> bool
-    ensures { result ≡ list_any of.is_capital text.now }
-{
-    for byte in text {
-        if is_capital(*byte) {
-            return true;
-        }
-    }
-    false
-}
-
-fn is_all_constant(text: &[u8]) -> bool
-    ensures { result ≡ list_all of.is_constant_byte text.now }
-{
-    for byte in text {
-        if !is_constant_byte(*byte) {
-            return false;
-        }
-    }
-    true
-}
-
-/// Whether the text consists of capital letters, digits and `_`, with at least one capital letter.
-fn is_constant_name(text: &[u8]) -> bool
-    ensures { result ≡ of.is_constant_name text.now }
-{
-    is_all_constant(text) && has_capital(text)
-}
-
 fn is_constant_token(token: &Token) -> bool
-    ensures { result ≡ of.is_constant_token token.now.kind token.now.text }
+    ensures { result ≡ spec.is_constant_token token.now.kind token.now.text }
 {
     match token.kind {
         TokenKind::Number | TokenKind::Char | TokenKind::Str => true,
@@ -100,7 +61,7 @@ fn is_one_of(names: &[Text], text: &[u8]) -> bool
 }
 
 fn is_excepted(vars: &[VarDecl], var: &[u8], text: &[u8]) -> bool
-    ensures { result ≡ list_any (λ n. same_bytes n text.now) (of.excepted vars.now var.now) }
+    ensures { result ≡ list_any (λ n. same_bytes n text.now) (spec.excepted vars.now var.now) }
 {
     match declared_as(vars, var) {
         Some(decl) => is_one_of(decl.not_names.as_slice(), text),
@@ -109,7 +70,7 @@ fn is_excepted(vars: &[VarDecl], var: &[u8], text: &[u8]) -> bool
 }
 
 fn is_identifier_token(vars: &[VarDecl], var: &[u8], token: &Token) -> bool
-    ensures { result ≡ of.is_identifier_token (of.excepted vars.now var.now) token.now.kind token.now.text }
+    ensures { result ≡ spec.is_identifier_token (spec.excepted vars.now var.now) token.now.kind token.now.text }
 {
     match token.kind {
         TokenKind::Name => !is_excepted(vars, var, token.text.as_bytes()),
@@ -119,7 +80,7 @@ fn is_identifier_token(vars: &[VarDecl], var: &[u8], token: &Token) -> bool
 }
 
 fn token_has_kind(vars: &[VarDecl], var: &[u8], kind: MetaKind, token: &Token) -> bool
-    ensures { result ≡ of.token_is_of kind (of.excepted vars.now var.now) token.now }
+    ensures { result ≡ spec.token_is_of kind (spec.excepted vars.now var.now) token.now }
 {
     match kind {
         MetaKind::Expr => is_expression_token(token.kind),
@@ -129,17 +90,8 @@ fn token_has_kind(vars: &[VarDecl], var: &[u8], kind: MetaKind, token: &Token) -
     }
 }
 
-fn is_strings(label: Label) -> bool
-    ensures { result ≡ of.is_strings label }
-{
-    match label {
-        Label::Strings => true,
-        _ => false,
-    }
-}
-
 fn label_has_kind(kind: MetaKind, label: Label) -> bool
-    ensures { result ≡ of.label_is_of kind label }
+    ensures { result ≡ spec.label_is_of kind label }
 {
     match kind {
         MetaKind::Expr => is_expression(label),
@@ -150,7 +102,7 @@ fn label_has_kind(kind: MetaKind, label: Label) -> bool
 
 /// Whether the variable, which is of this kind, may stand for the tree. Allocates nothing.
 pub fn has_kind(vars: &[VarDecl], var: &[u8], kind: MetaKind, tree: &Tree) -> bool
-    ensures { result ≡ of.is_of_kind kind (of.excepted vars.now var.now) (out-Tree tree.now) }
+    ensures { result ≡ spec.is_of_kind kind (spec.excepted vars.now var.now) (out-Tree tree.now) }
 {
     match tree {
         Tree::Leaf(token) => token_has_kind(vars, var, kind, token),

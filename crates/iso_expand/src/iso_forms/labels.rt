@@ -2,14 +2,14 @@
 ghost use Rattle.std.specs.Prelude.{◌≡◌};
 ghost use Rattle.std.specs.List.{list_any};
 ghost use Rattle.c_terms.specs.declared.tree.Tree.{out-Tree};
-ghost use Rattle.iso_expand.specs.IsoForms.Stepped as of;
+ghost use Rattle.iso_expand.specs.IsoForms.Stepped as spec;
 
 use c_terms::Tree;
 use smpl_patch::Iso;
 
 /// Whether the side is a branch with the tree's label, or a leaf.
 fn may_match(side: &Tree, tree: &Tree) -> bool
-    ensures { result ≡ of.may_match (out-Tree side.now) (out-Tree tree.now) }
+    ensures { result ≡ spec.may_match (out-Tree side.now) (out-Tree tree.now) }
 {
     match side {
         Tree::Leaf(_) => true,
@@ -21,7 +21,7 @@ fn may_match(side: &Tree, tree: &Tree) -> bool
 }
 
 fn has_side_for(sides: &[Tree], tree: &Tree) -> bool
-    ensures { result ≡ of.has_side_for sides.now tree.now }
+    ensures { result ≡ spec.has_side_for sides.now tree.now }
 {
     for side in sides {
         if may_match(side, tree) {
@@ -32,7 +32,7 @@ fn has_side_for(sides: &[Tree], tree: &Tree) -> bool
 }
 
 fn may_change(iso: &Iso, list: &[Tree]) -> bool
-    ensures { result ≡ list_any (of.has_side_for iso.now.sides) list.now }
+    ensures { result ≡ list_any (spec.has_side_for iso.now.sides) list.now }
 {
     for tree in list {
         if has_side_for(iso.sides.as_slice(), tree) {
@@ -45,7 +45,7 @@ fn may_change(iso: &Iso, list: &[Tree]) -> bool
 /// Whether some side is a leaf, or a branch with the label of some tree. Compares each side with each tree, and
 /// allocates nothing.
 pub fn may_grow(isos: &[Iso], list: &[Tree]) -> bool
-    ensures { result ≡ of.may_grow isos.now list.now }
+    ensures { result ≡ spec.may_grow isos.now list.now }
 {
     for iso in isos {
         if may_change(iso, list) {

@@ -1,7 +1,7 @@
 // A list of distinct forms.
 ghost use Rattle.std.specs.Prelude.{◌≡◌, ◌≤◌, ◌<◌, ℕ, List, [], length, OnOk, IfOk, IfErr};
 ghost use Rattle.c_terms.specs.Names.{has_name, with_name};
-ghost use Rattle.iso_expand.specs.IsoForms.Forms as of;
+ghost use Rattle.iso_expand.specs.IsoForms.Forms as spec;
 ghost use Rattle.iso_expand.specs.IsoForms.Forms.{Refused};
 ghost use Rattle.iso_expand.specs.IsoForms.Stepped.{Knows, Has};
 
@@ -84,8 +84,8 @@ impl Listed {
     /// Appends the tree, unless it is already in the list.
     pub fn add(&mut self, alloc: Global, tree: Tree, limit: usize) -> Result<(), FormsFault>
         requires { Has limit self.old self.old.list }
-        ensures forms { OnOk result (Has limit self.new (of.with_form self.old.list tree)) }
-        ensures refused { IfErr result (Refused limit (of.with_form self.old.list tree)) }
+        ensures forms { OnOk result (Has limit self.new (spec.with_form self.old.list tree)) }
+        ensures refused { IfErr result (Refused limit (spec.with_form self.old.list tree)) }
     {
         let key = spelled(alloc, &tree)?;
         if self.seen.has(key.as_slice()) {

@@ -1,6 +1,6 @@
 // The tree that a side makes.
 ghost use Rattle.std.specs.Prelude.{◌≡◌, IfOk};
-ghost use Rattle.iso_expand.specs.IsoForms.Making as of;
+ghost use Rattle.iso_expand.specs.IsoForms.Making as spec;
 
 use crate::iso_forms::matching::{Bound, value};
 use c_terms::{NoMemory, Token, TokenKind, Tree, first_leaf};
@@ -8,7 +8,7 @@ use sqlite_items::Items;
 use std::alloc::Global;
 
 fn numbered(alloc: Global, id: u64, token: &Token) -> Result<Tree, NoMemory>
-    ensures { IfOk result (λ tree. tree ≡ of.numbered id token.now) }
+    ensures { IfOk result (λ tree. tree ≡ spec.numbered id token.now) }
 {
     let text = token.text.copy(alloc)?;
     Ok(Tree::Leaf(Token {
@@ -19,7 +19,7 @@ fn numbered(alloc: Global, id: u64, token: &Token) -> Result<Tree, NoMemory>
 }
 
 fn make_variable(alloc: Global, bound: &[Bound], id: u64, token: &Token) -> Result<Tree, NoMemory>
-    ensures { IfOk result (λ tree. tree ≡ of.make_variable bound.now id token.now) }
+    ensures { IfOk result (λ tree. tree ≡ spec.make_variable bound.now id token.now) }
 {
     match value(bound, token.text.as_bytes()) {
         Some(tree) => tree.copy(alloc),
@@ -28,7 +28,7 @@ fn make_variable(alloc: Global, bound: &[Bound], id: u64, token: &Token) -> Resu
 }
 
 fn make_leaf(alloc: Global, bound: &[Bound], id: u64, token: &Token) -> Result<Tree, NoMemory>
-    ensures { IfOk result (λ tree. tree ≡ of.make_leaf bound.now id token.now.kind token.now) }
+    ensures { IfOk result (λ tree. tree ≡ spec.make_leaf bound.now id token.now.kind token.now) }
 {
     match token.kind {
         TokenKind::Meta(_) => make_variable(alloc, bound, id, token),
@@ -39,7 +39,7 @@ fn make_leaf(alloc: Global, bound: &[Bound], id: u64, token: &Token) -> Result<T
 /// Returns the tree that the side makes, giving the side's own tokens this id. Recurses once for each level of the
 /// side.
 pub fn made(alloc: Global, bound: &[Bound], id: u64, side: &Tree) -> Result<Tree, NoMemory>
-    ensures { IfOk result (λ tree. tree ≡ of.made bound.now id side.now) }
+    ensures { IfOk result (λ tree. tree ≡ spec.made bound.now id side.now) }
 {
     match side {
         Tree::Leaf(token) => make_leaf(alloc, bound, id, token),
@@ -55,7 +55,7 @@ pub fn made(alloc: Global, bound: &[Bound], id: u64, side: &Tree) -> Result<Tree
 
 /// Returns the id of the first token, or 0.
 pub fn first_id(tree: &Tree) -> u64
-    ensures { result ≡ of.first_id tree.now }
+    ensures { result ≡ spec.first_id tree.now }
 {
     match first_leaf(tree) {
         Some(token) => token.id,

@@ -2,7 +2,7 @@
 ghost use Rattle.std.specs.Prelude.{◌≡◌, map, IfOk};
 ghost use Rattle.std.specs.Option.{option_copied};
 ghost use Rattle.c_terms.specs.declared.tree.Tree.{out-Tree};
-ghost use Rattle.iso_expand.specs.IsoForms.Matching as of;
+ghost use Rattle.iso_expand.specs.IsoForms.Matching as spec;
 ghost use Rattle.iso_expand.specs.IsoForms.Stepped.{Answers};
 
 use crate::iso_forms::kinds::has_kind;
@@ -22,7 +22,7 @@ pub struct Bound {
 
 /// Returns what the variable stands for, if it is bound. Linear in the variables.
 pub fn value<'a>(bound: &'a [Bound], name: &[u8]) -> Option<&'a Tree>
-    ensures { option_copied result ≡ of.value bound.now name.now }
+    ensures { option_copied result ≡ spec.value bound.now name.now }
 {
     for b in bound {
         if same_text(b.name.as_bytes(), name) {
@@ -33,7 +33,7 @@ pub fn value<'a>(bound: &'a [Bound], name: &[u8]) -> Option<&'a Tree>
 }
 
 fn bind(alloc: Global, name: &Text, tree: &Tree, bound: &mut Items<Bound>) -> Result<bool, NoMemory>
-    ensures { IfOk result (λ fits. Answers fits bound.new (of.bind (of.value bound.old name.now) name.now tree.now bound.old)) }
+    ensures { IfOk result (λ fits. Answers fits bound.new (spec.bind (spec.value bound.old name.now) name.now tree.now bound.old)) }
 {
     if let Some(known) = value(bound.as_slice(), name.as_bytes()) {
         return Ok(same_term(known, tree));
@@ -45,7 +45,7 @@ fn bind(alloc: Global, name: &Text, tree: &Tree, bound: &mut Items<Bound>) -> Re
 }
 
 fn is_same_leaf(token: &Token, tree: &Tree) -> bool
-    ensures { result ≡ of.is_same_leaf token.now (out-Tree tree.now) }
+    ensures { result ≡ spec.is_same_leaf token.now (out-Tree tree.now) }
 {
     match tree {
         Tree::Leaf(other) => is_same_token(token, other),
@@ -61,7 +61,7 @@ fn match_variable(
     tree: &Tree,
     bound: &mut Items<Bound>,
 ) -> Result<bool, NoMemory>
-    ensures { IfOk result (λ fits. Answers fits bound.new (of.match_variable vars.now kind name.now tree.now bound.old)) }
+    ensures { IfOk result (λ fits. Answers fits bound.new (spec.match_variable vars.now kind name.now tree.now bound.old)) }
 {
     if has_kind(vars, name.as_bytes(), kind, tree) {
         bind(alloc, name, tree, bound)
@@ -77,7 +77,7 @@ fn match_leaf(
     tree: &Tree,
     bound: &mut Items<Bound>,
 ) -> Result<bool, NoMemory>
-    ensures { IfOk result (λ fits. Answers fits bound.new (of.match_leaf vars.now token.now.kind token.now tree.now bound.old)) }
+    ensures { IfOk result (λ fits. Answers fits bound.new (spec.match_leaf vars.now token.now.kind token.now tree.now bound.old)) }
 {
     match token.kind {
         TokenKind::Meta(kind) => match_variable(alloc, vars, kind, &token.text, tree, bound),
@@ -95,7 +95,7 @@ pub fn matches(
     tree: &Tree,
     bound: &mut Items<Bound>,
 ) -> Result<bool, NoMemory>
-    ensures { IfOk result (λ fits. Answers fits bound.new (of.matched vars.now side.now tree.now bound.old)) }
+    ensures { IfOk result (λ fits. Answers fits bound.new (spec.matched vars.now side.now tree.now bound.old)) }
 {
     match side {
         Tree::Leaf(token) => match_leaf(alloc, vars, token, tree, bound),
@@ -119,7 +119,7 @@ fn all_match(
     trees: &[Tree],
     bound: &mut Items<Bound>,
 ) -> Result<bool, NoMemory>
-    ensures { IfOk result (λ fits. Answers fits bound.new (of.each (map (of.matched vars.now) sides.now) trees.now bound.old)) }
+    ensures { IfOk result (λ fits. Answers fits bound.new (spec.each (map (spec.matched vars.now) sides.now) trees.now bound.old)) }
 {
     if sides.len() != trees.len() {
         return Ok(false);

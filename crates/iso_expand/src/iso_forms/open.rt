@@ -1,14 +1,14 @@
 // Where a tree may be replaced.
 ghost use Rattle.std.specs.Prelude.{◌≡◌, slice_get, IfOk};
 ghost use Rattle.std.specs.List.{list_all};
-ghost use Rattle.iso_expand.specs.IsoForms.Replacing as of;
+ghost use Rattle.iso_expand.specs.IsoForms.Replacing as spec;
 
 use c_terms::{NoMemory, Token, Tree, leaves};
 use smpl_patch::{Mark, PatToken};
 use std::alloc::Global;
 
 fn mark_number(mark: Mark) -> u8
-    ensures { result ≡ of.mark_number mark }
+    ensures { result ≡ spec.mark_number mark }
 {
     match mark {
         Mark::Context => 0,
@@ -18,7 +18,7 @@ fn mark_number(mark: Mark) -> u8
 }
 
 fn mark_of(tokens: &[PatToken], id: u64) -> u8
-    ensures { result ≡ of.mark_of (slice_get tokens.now id) }
+    ensures { result ≡ spec.mark_of (slice_get tokens.now id) }
 {
     match tokens.get(id as usize) {
         Some(p) => mark_number(p.mark),
@@ -27,14 +27,14 @@ fn mark_of(tokens: &[PatToken], id: u64) -> u8
 }
 
 fn stands_alone(p: &PatToken) -> bool
-    ensures { result ≡ of.stands_alone p.now }
+    ensures { result ≡ spec.stands_alone p.now }
 {
     p.positions.len() == 0 && !p.before.is_some() && !p.after.is_some()
 }
 
 /// Whether the token has neither a position nor plus code.
 fn is_plain(tokens: &[PatToken], id: u64) -> bool
-    ensures { result ≡ of.is_plain (slice_get tokens.now id) }
+    ensures { result ≡ spec.is_plain (slice_get tokens.now id) }
 {
     match tokens.get(id as usize) {
         Some(p) => stands_alone(p),
@@ -43,13 +43,13 @@ fn is_plain(tokens: &[PatToken], id: u64) -> bool
 }
 
 fn is_plain_of(tokens: &[PatToken], mark: u8, token: &Token) -> bool
-    ensures { result ≡ of.is_plain_of tokens.now mark token.now }
+    ensures { result ≡ spec.is_plain_of tokens.now mark token.now }
 {
     is_plain(tokens, token.id) && mark_of(tokens, token.id) == mark
 }
 
 fn are_plain_of(tokens: &[PatToken], mark: u8, all: &[Token]) -> bool
-    ensures { result ≡ list_all (of.is_plain_of tokens.now mark) all.now }
+    ensures { result ≡ list_all (spec.is_plain_of tokens.now mark) all.now }
 {
     for token in all {
         if !is_plain_of(tokens, mark, token) {
@@ -60,7 +60,7 @@ fn are_plain_of(tokens: &[PatToken], mark: u8, all: &[Token]) -> bool
 }
 
 fn are_plain(tokens: &[PatToken], all: &[Token]) -> bool
-    ensures { result ≡ of.are_plain tokens.now all.now }
+    ensures { result ≡ spec.are_plain tokens.now all.now }
 {
     match all.first() {
         None => false,
@@ -70,7 +70,7 @@ fn are_plain(tokens: &[PatToken], all: &[Token]) -> bool
 
 /// Whether there are tokens, all carry one mark, and none has a position or plus code. Takes linear time.
 pub fn is_open(alloc: Global, tokens: &[PatToken], tree: &Tree) -> Result<bool, NoMemory>
-    ensures { IfOk result (λ b. b ≡ of.is_open tokens.now tree.now) }
+    ensures { IfOk result (λ b. b ≡ spec.is_open tokens.now tree.now) }
 {
     let all = leaves(alloc, tree)?;
     Ok(are_plain(tokens, all.as_slice()))

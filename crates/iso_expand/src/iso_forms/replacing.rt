@@ -2,7 +2,7 @@
 ghost use Rattle.c_terms.specs.declared.tree.Tree.{Tree as Form};
 ghost use Rattle.std.specs.Prelude.{◌≡◌, ◌≤◌, ◌<◌, [], Some, slice_get, OnOk, IfOk, IfErr, length};
 ghost use Rattle.iso_expand.specs.IsoForms.Replacing as by;
-ghost use Rattle.iso_expand.specs.IsoForms.Forms as of;
+ghost use Rattle.iso_expand.specs.IsoForms.Forms as spec;
 ghost use Rattle.iso_expand.specs.IsoForms.Forms.{Refused};
 ghost use Rattle.iso_expand.specs.IsoForms.Stepped.{Has};
 
@@ -47,8 +47,8 @@ fn add_targets(
     limit: usize,
 ) -> Result<(), FormsFault>
     requires { Has limit forms.old forms.old.list }
-    ensures forms { OnOk result (Has limit forms.new (of.with_forms forms.old.list (by.targets_from iso.now.both bound.now id i 0 iso.now.sides))) }
-    ensures refused { IfErr result (Refused limit (of.with_forms forms.old.list (by.targets_from iso.now.both bound.now id i 0 iso.now.sides))) }
+    ensures forms { OnOk result (Has limit forms.new (spec.with_forms forms.old.list (by.targets_from iso.now.both bound.now id i 0 iso.now.sides))) }
+    ensures refused { IfErr result (Refused limit (spec.with_forms forms.old.list (by.targets_from iso.now.both bound.now id i 0 iso.now.sides))) }
 {
     let low = lowest(iso.both.as_slice(), i);
     for (j, side) in iso.sides.as_slice().iter().enumerate() {
@@ -71,8 +71,8 @@ fn add_form(
 ) -> Result<(), FormsFault>
     requires has { Has limit forms.old forms.old.list }
     requires within { k < length forms.old.list }
-    ensures forms { (t : Form) → slice_get forms.old.list k ≡ Some t → OnOk result (Has limit forms.new (of.with_forms forms.old.list (by.becomes tokens.now iso.now t))) }
-    ensures refused { (t : Form) → slice_get forms.old.list k ≡ Some t → IfErr result (Refused limit (of.with_forms forms.old.list (by.becomes tokens.now iso.now t))) }
+    ensures forms { (t : Form) → slice_get forms.old.list k ≡ Some t → OnOk result (Has limit forms.new (spec.with_forms forms.old.list (by.becomes tokens.now iso.now t))) }
+    ensures refused { (t : Form) → slice_get forms.old.list k ≡ Some t → IfErr result (Refused limit (spec.with_forms forms.old.list (by.becomes tokens.now iso.now t))) }
 {
     for (i, side) in iso.sides.as_slice().iter().enumerate() {
         let tree = &forms.list.as_slice()[k];
@@ -93,8 +93,8 @@ fn add_iso(
     limit: usize,
 ) -> Result<(), FormsFault>
     requires { Has limit forms.old forms.old.list }
-    ensures forms { OnOk result (Has limit forms.new (of.with_iso tokens.now forms.old.list iso.now)) }
-    ensures refused { IfErr result (Refused limit (of.with_iso tokens.now forms.old.list iso.now)) }
+    ensures forms { OnOk result (Has limit forms.new (spec.with_iso tokens.now forms.old.list iso.now)) }
+    ensures refused { IfErr result (Refused limit (spec.with_iso tokens.now forms.old.list iso.now)) }
 {
     for k in 0..forms.list.len() {
         add_form(alloc, tokens, iso, k, forms, limit)?;
@@ -111,9 +111,9 @@ pub fn with_isos(
     limit: usize,
 ) -> Result<Items<Tree>, FormsFault>
     requires { length list ≤ limit }
-    ensures all { IfOk result (λ all. all ≡ of.with_isos tokens.now list isos.now) }
+    ensures all { IfOk result (λ all. all ≡ spec.with_isos tokens.now list isos.now) }
     ensures few { IfOk result (λ all. length all ≤ limit) }
-    ensures refused { IfErr result (Refused limit (of.with_isos tokens.now list isos.now)) }
+    ensures refused { IfErr result (Refused limit (spec.with_isos tokens.now list isos.now)) }
 {
     if !may_grow(isos, list.as_slice()) {
         return Ok(list);

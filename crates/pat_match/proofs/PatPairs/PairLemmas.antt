@@ -1,5 +1,7 @@
 -- What a form is aligned with: one more branch, one more child and one more member.
-use Rattle.std.proofs.Common.{◌≡◌, ℕ, suc, zero, ◌+◌, ◌-◌, ◌<◌, ◌≤◌, Bool, true, false, ◌&&◌, ◌||◌, cond, nat_eq, refl, sym, ap, ap₂, ◌∙◌, subst, arith, List, [], ◌∷◌, ◌++◌, map, length, take, drop, get_or, append_assoc, append-nil, length-drop, Option, Some, None, inl, inr, ◌⊎◌}
+use Rattle.std.proofs.Common.{◌≡◌, ℕ, suc, zero, ◌+◌, ◌-◌, ◌<◌, ◌≤◌, Bool, true, false, ◌&&◌, ◌||◌, cond, nat_eq, refl, sym, ap}
+use Rattle.std.proofs.Common.{ap₂, ◌∙◌, subst, arith, List, [], ◌∷◌, ◌++◌, map, length, take, drop, get_or, append_assoc}
+use Rattle.std.proofs.Common.{append-nil, length-drop, Option, Some, None, inl, inr, ◌⊎◌}
 use Rattle.std.proofs.lemmas.List.{map-append}
 use Rattle.std.proofs.lemmas.Bool.Decides.{nat_tests}
 use Rattle.c_terms.specs.declared.token.Token.{Token}
@@ -11,7 +13,8 @@ use Rattle.smpl_terms.specs.Environments.{Environment}
 use Rattle.smpl_patch.specs.declared.pattern.VarDecl.{VarDecl}
 use Rattle.smpl_patch.specs.declared.pattern.PatToken.{PatToken}
 use Rattle.pat_match.specs.declared.pat_pairs.pairs.AlignedToken.{AlignedToken}
-use Rattle.pat_match.specs.Runs.{Pair, Piece, is_wild, is_bare_comma, takes, single_fits, comma_fits, some_below, least, leftmost, runs_pairs, comma_pairs, wild_pairs, single_pairs, taken_pairs}
+use Rattle.pat_match.specs.Runs.{Pair, Piece, is_wild, is_bare_comma, takes, single_fits, comma_fits, some_below, least}
+use Rattle.pat_match.specs.Runs.{leftmost, runs_pairs, comma_pairs, wild_pairs, single_pairs, taken_pairs}
 use Rattle.pat_match.specs.Fitting.{piece, all_fit, leaf_of, fits_tree, alignment, first_pairs, every_pairs, zip_pairs}
 use Rattle.pat_match.specs.Spots.{own_fit, own_pairs}
 use Rattle.pat_match.specs.declared.rows.RowEntry.{RowEntry}
@@ -28,7 +31,8 @@ pub numbers-append : (a b : List Pair) → numbers (a ++ b) ≡ numbers a ++ num
 numbers-append a b = map-append aligned_token a b
 
 -- one more part is found, and the rest is left
-pub found_step : (old new : List AlignedToken) (here rest whole : List Pair) → new ≡ old ++ numbers here → whole ≡ here ++ rest → new ++ numbers rest ≡ old ++ numbers whole
+pub found_step : (old new : List AlignedToken) (here rest whole : List Pair) → new ≡ old ++ numbers here → whole ≡ here ++ rest
+    → new ++ numbers rest ≡ old ++ numbers whole
 found_step old new here rest whole e g =
     ap (λ x. x ++ numbers rest) e ∙ append_assoc old (numbers here) (numbers rest)
     ∙ ap (λ x. old ++ x) (sym (numbers-append here rest)) ∙ ap (λ x. old ++ numbers x) (sym g)
@@ -66,7 +70,8 @@ least_one test n some others = by (nat_eq (least test n) 1) refl (least-passes t
         let no = others (least test n) r.0 ne in absurd (cc)
 
 -- a child that takes one member takes no other number of them
-others_none : (decls : List VarDecl) (tokens : List PatToken) (l : Label) (env : Environment) (before : Option Token) (f : Tree) (ms : List Member) (k : ℕ) (rest : Bool)
+others_none : (decls : List VarDecl) (tokens : List PatToken) (l : Label) (env : Environment) (before : Option Token) (f : Tree)
+    (ms : List Member) (k : ℕ) (rest : Bool)
     → k < suc (length ms) → (k ≡ 1 → ⊥) → is_wild l (leaf_of (out-Tree f)) ≡ false
     → (takes decls tokens env l before (piece decls tokens env f) (take k ms) && rest) ≡ false
 others_none decls tokens l env before f ms k rest less ne w =
@@ -77,7 +82,8 @@ others_none decls tokens l env before f ms k rest less ne w =
 module _ (decls : List VarDecl) (tokens : List PatToken) (env : Environment) where
   -- disjunctions and conjunctions
 
-  pub first_none : (fs : List Tree) (t : Tree) (i j : ℕ) (f : Tree) (w : List Pair) → j ≡ suc i → i < length fs → f ≡ get_or fs i f → fits_tree decls tokens env f t ≡ false
+  pub first_none : (fs : List Tree) (t : Tree) (i j : ℕ) (f : Tree) (w : List Pair) → j ≡ suc i → i < length fs
+      → f ≡ get_or fs i f → fits_tree decls tokens env f t ≡ false
       → first_pairs (map (piece decls tokens env) (drop i fs)) t ≡ w → first_pairs (map (piece decls tokens env) (drop j fs)) t ≡ w
   first_none fs t i j f w n lt g off h =
       ap (λ m. first_pairs (map (piece decls tokens env) (drop m fs)) t) n
@@ -116,7 +122,8 @@ module _ (decls : List VarDecl) (tokens : List PatToken) (env : Environment) whe
   zip_at xs us i x u lt le e g =
       ap₂ (λ ys vs. zip_pairs (map (piece decls tokens env) ys) vs) (drop_at xs i x lt e) (drop_at us i u le g)
 
-  pub zip_step : (xs us : List Tree) (i j : ℕ) (x u : Tree) (old new w : List AlignedToken) → j ≡ suc i → i < length xs → i < length us → x ≡ get_or xs i x → u ≡ get_or us i u
+  pub zip_step : (xs us : List Tree) (i j : ℕ) (x u : Tree) (old new w : List AlignedToken) → j ≡ suc i → i < length xs
+      → i < length us → x ≡ get_or xs i x → u ≡ get_or us i u
       → new ≡ old ++ numbers (alignment decls tokens env x u)
       → old ++ numbers (zip_pairs (map (piece decls tokens env) (drop i xs)) (drop i us)) ≡ w
       → new ++ numbers (zip_pairs (map (piece decls tokens env) (drop j xs)) (drop j us)) ≡ w
@@ -149,7 +156,8 @@ module _ (decls : List VarDecl) (tokens : List PatToken) (env : Environment) whe
           | Some c ↦ comma_pairs before [] ++ runs_pairs decls tokens env l (Some c) ps ms ks
         ]
 
-    chosen : (before : Option Token) (f : Tree) (fs : List Tree) (ms : List Member) (o : Option Token) → comma f ≡ o → left before (f ∷ fs) ms ≡ choice o before f fs ms
+    chosen : (before : Option Token) (f : Tree) (fs : List Tree) (ms : List Member) (o : Option Token) → comma f ≡ o
+        → left before (f ∷ fs) ms ≡ choice o before f fs ms
     chosen before f fs ms o e = ap (λ o. choice o before f fs ms) (piece_comma decls tokens l env f ∙ e)
 
     left_comma : (fs : List Tree) (i : ℕ) (f : Tree) (c : Token) (ms : List Member) → i < length fs → f ≡ get_or fs i f → comma f ≡ Some c
@@ -160,7 +168,8 @@ module _ (decls : List VarDecl) (tokens : List PatToken) (env : Environment) whe
 
     left_member : (fs : List Tree) (i : ℕ) (f : Tree) (ms : List Member) (k : ℕ) → i < length fs → f ≡ get_or fs i f → comma f ≡ None
         → k ≡ least (takes_first decls tokens env l fs i f ms) (suc (length ms))
-        → left (comma_before fs i) (drop i fs) ms ≡ taken_pairs l (comma_before fs i) (piece decls tokens env f) (take k ms) ++ left (comma_before fs (suc i)) (drop (suc i) fs) (drop k ms)
+        → left (comma_before fs i) (drop i fs) ms ≡ taken_pairs l (comma_before fs i) (piece decls tokens env f) (take k ms)
+        ++ left (comma_before fs (suc i)) (drop (suc i) fs) (drop k ms)
     left_member fs i f ms k lt g e h =
         let after : comma_before fs (suc i) ≡ None = comma_before_at fs (suc i) i f refl lt g ∙ e in
         let same : few (comma_before fs i) f (drop (suc i) fs) ms ≡ k =
@@ -171,8 +180,10 @@ module _ (decls : List VarDecl) (tokens : List PatToken) (env : Environment) whe
         ∙ ap (λ o. taken_pairs l (comma_before fs i) (piece decls tokens env f) (take k ms) ++ left o (drop (suc i) fs) (drop k ms)) (sym after)
 
     -- whether the child takes the first k members, and those after it the others
-    pub takes_test : (fs : List Tree) (i j k : ℕ) (f : Tree) (ms run : List Member) (row : List RowEntry) (flags : List Bool) (b flag : Bool) → j ≡ suc i → k < length ms
-        → IsRow decls tokens l (comma_before fs j) (drop j fs) ms row → length flags ≡ length ms → ((n : ℕ) → n < length ms → get_or flags n false ≡ row_at row n env)
+    pub takes_test : (fs : List Tree) (i j k : ℕ) (f : Tree) (ms run : List Member) (row : List RowEntry) (flags : List Bool)
+        (b flag : Bool) → j ≡ suc i → k < length ms
+        → IsRow decls tokens l (comma_before fs j) (drop j fs) ms row → length flags ≡ length ms
+        → ((n : ℕ) → n < length ms → get_or flags n false ≡ row_at row n env)
         → run ≡ take k ms → flag ≡ get_or flags k flag → b ≡ (takes decls tokens env l (comma_before fs i) (piece decls tokens env f) run && flag)
         → b ≡ takes_first decls tokens env l fs i f ms k
     takes_test fs i j k f ms run row flags b flag n lt is_row len is_flag cut here e =
@@ -182,16 +193,19 @@ module _ (decls : List VarDecl) (tokens : List PatToken) (env : Environment) whe
 
     -- the same with the number of the next child
 
-    pub next_fits : (fs : List Tree) (i j taken next : ℕ) (ms : List Member) (old new : List AlignedToken) → j ≡ suc i → IsNext decls tokens env l fs i ms taken next old new
+    pub next_fits : (fs : List Tree) (i j taken next : ℕ) (ms : List Member) (old new : List AlignedToken) → j ≡ suc i
+        → IsNext decls tokens env l fs i ms taken next old new
         → fits_from decls tokens l (comma_before fs j) (drop j fs) (drop next ms) env ≡ true
     next_fits fs i j taken next ms old new n s = ap (λ m. fits_from decls tokens l (comma_before fs m) (drop m fs) (drop next ms) env) n ∙ s.rest
 
-    pub next_found : (fs : List Tree) (i j taken next : ℕ) (ms : List Member) (old new w : List AlignedToken) → j ≡ suc i → IsNext decls tokens env l fs i ms taken next old new
+    pub next_found : (fs : List Tree) (i j taken next : ℕ) (ms : List Member) (old new w : List AlignedToken) → j ≡ suc i
+        → IsNext decls tokens env l fs i ms taken next old new
         → old ++ numbers (left (comma_before fs i) (drop i fs) (drop taken ms)) ≡ w → new ++ numbers (left (comma_before fs j) (drop j fs) (drop next ms)) ≡ w
     next_found fs i j taken next ms old new w n s h =
         ap (λ m. new ++ numbers (left (comma_before fs m) (drop m fs) (drop next ms))) n ∙ sym s.found ∙ h
 
-    pub next_comma : (fs : List Tree) (i taken : ℕ) (f : Tree) (c : Token) (ms : List Member) (old new : List AlignedToken) → i < length fs → f ≡ get_or fs i f → comma f ≡ Some c
+    pub next_comma : (fs : List Tree) (i taken : ℕ) (f : Tree) (c : Token) (ms : List Member) (old new : List AlignedToken)
+        → i < length fs → f ≡ get_or fs i f → comma f ≡ Some c
         → taken ≤ length ms → fits_from decls tokens l (comma_before fs i) (drop i fs) (drop taken ms) env ≡ true
         → new ≡ old ++ numbers (comma_pairs (comma_before fs i) []) → IsNext decls tokens env l fs i ms taken taken old new
     next_comma fs i taken f c ms old new lt g e le fits more = record {
@@ -201,7 +215,8 @@ module _ (decls : List VarDecl) (tokens : List PatToken) (env : Environment) whe
     }
 
     -- a child takes this many members: what is known of the number, and what is found
-    next_taken : (fs : List Tree) (i taken count next : ℕ) (f : Tree) (ms : List Member) (old new : List AlignedToken) → i < length fs → f ≡ get_or fs i f → comma f ≡ None
+    next_taken : (fs : List Tree) (i taken count next : ℕ) (f : Tree) (ms : List Member) (old new : List AlignedToken)
+        → i < length fs → f ≡ get_or fs i f → comma f ≡ None
         → taken ≤ length ms → fits_from decls tokens l (comma_before fs i) (drop i fs) (drop taken ms) env ≡ true
         → count ≡ least (takes_first decls tokens env l fs i f (drop taken ms)) (suc (length (drop taken ms))) → next ≡ taken + count
         → new ≡ old ++ numbers (taken_pairs l (comma_before fs i) (piece decls tokens env f) (take count (drop taken ms)))
@@ -217,30 +232,37 @@ module _ (decls : List VarDecl) (tokens : List PatToken) (env : Environment) whe
           within = omega (arith, sum, less, le, length-drop taken ms);
           rest = ap (λ xs. fits_from decls tokens l (comma_before fs (suc i)) (drop (suc i) fs) xs env) (sym same) ∙ and_right _ _ holds;
           found = sym (found_step old new _ _ _ more (left_member fs i f rest count lt g e few
-              ∙ ap (λ xs. taken_pairs l (comma_before fs i) (piece decls tokens env f) (take count rest) ++ left (comma_before fs (suc i)) (drop (suc i) fs) xs) same));
+              ∙ ap (λ xs. taken_pairs l (comma_before fs i) (piece decls tokens env f) (take count rest)
+              ++ left (comma_before fs (suc i)) (drop (suc i) fs) xs) same));
         }
 
-    pub next_wild : (fs : List Tree) (i taken count next : ℕ) (f : Tree) (ms rest run : List Member) (old mid new : List AlignedToken) → i < length fs → f ≡ get_or fs i f → comma f ≡ None
+    pub next_wild : (fs : List Tree) (i taken count next : ℕ) (f : Tree) (ms rest run : List Member)
+        (old mid new : List AlignedToken) → i < length fs → f ≡ get_or fs i f → comma f ≡ None
         → is_wild l (leaf_of (out-Tree f)) ≡ true → taken ≤ length ms → fits_from decls tokens l (comma_before fs i) (drop i fs) (drop taken ms) env ≡ true
         → rest ≡ drop taken ms → count ≡ least (takes_first decls tokens env l fs i f rest) (suc (length rest)) → next ≡ taken + count → run ≡ take count rest
         → mid ≡ old ++ numbers (comma_pairs (comma_before fs i) run) → new ≡ mid ++ numbers (wild_pairs l (leaf_of (out-Tree f)) run)
         → IsNext decls tokens env l fs i ms taken next old new
     next_wild fs i taken count next f ms rest run old mid new lt g e wild le fits r few sum cut here more =
-        let here_is : taken_pairs l (comma_before fs i) (piece decls tokens env f) run ≡ comma_pairs (comma_before fs i) run ++ wild_pairs l (leaf_of (out-Tree f)) run =
-        ap (λ o. comma_pairs (comma_before fs i) run ++ cond (is_wild l o) (wild_pairs l o run) (single_pairs (alignment decls tokens env f) run)) (piece-token decls tokens env f)
-        ∙ ap (λ b. comma_pairs (comma_before fs i) run ++ cond b (wild_pairs l (leaf_of (out-Tree f)) run) (single_pairs (alignment decls tokens env f) run)) wild in
+        let here_is : taken_pairs l (comma_before fs i) (piece decls tokens env f) run ≡ comma_pairs (comma_before fs i) run
+        ++ wild_pairs l (leaf_of (out-Tree f)) run =
+        ap (λ o. comma_pairs (comma_before fs i) run
+        ++ cond (is_wild l o) (wild_pairs l o run) (single_pairs (alignment decls tokens env f) run)) (piece-token decls tokens env f)
+        ∙ ap (λ b. comma_pairs (comma_before fs i) run
+        ++ cond b (wild_pairs l (leaf_of (out-Tree f)) run) (single_pairs (alignment decls tokens env f) run)) wild in
         let all : new ≡ old ++ numbers (taken_pairs l (comma_before fs i) (piece decls tokens env f) run) = more ∙ found_step old mid _ _ _ here here_is in
         next_taken fs i taken count next f ms old new lt g e le fits
         (few ∙ ap (λ xs. least (takes_first decls tokens env l fs i f xs) (suc (length xs))) r) sum
         (all ∙ ap (λ xs. old ++ numbers (taken_pairs l (comma_before fs i) (piece decls tokens env f) xs)) (cut ∙ ap (take count) r))
 
-    single_count : (fs : List Tree) (i : ℕ) (f : Tree) (ms : List Member) → i < length fs → f ≡ get_or fs i f → comma f ≡ None → is_wild l (leaf_of (out-Tree f)) ≡ false
+    single_count : (fs : List Tree) (i : ℕ) (f : Tree) (ms : List Member) → i < length fs → f ≡ get_or fs i f → comma f ≡ None
+        → is_wild l (leaf_of (out-Tree f)) ≡ false
         → fits_from decls tokens l (comma_before fs i) (drop i fs) ms env ≡ true → least (takes_first decls tokens env l fs i f ms) (suc (length ms)) ≡ 1
     single_count fs i f ms lt g e w fits =
         least_one (takes_first decls tokens env l fs i f ms) (suc (length ms)) (sym (member_next decls tokens l fs i f ms env lt g e) ∙ fits)
         (λ k less ne. others_none decls tokens l env (comma_before fs i) f ms k _ less ne w)
 
-    pub next_single : (fs : List Tree) (i taken next : ℕ) (f : Tree) (m : Member) (ms run : List Member) (old mid new : List AlignedToken) → i < length fs → f ≡ get_or fs i f → comma f ≡ None
+    pub next_single : (fs : List Tree) (i taken next : ℕ) (f : Tree) (m : Member) (ms run : List Member)
+        (old mid new : List AlignedToken) → i < length fs → f ≡ get_or fs i f → comma f ≡ None
         → is_wild l (leaf_of (out-Tree f)) ≡ false → taken ≤ length ms → fits_from decls tokens l (comma_before fs i) (drop i fs) (drop taken ms) env ≡ true
         → taken < length ms → m ≡ get_or ms taken m → next ≡ taken + 1 → run ≡ take (next - taken) (drop taken ms)
         → mid ≡ old ++ numbers (comma_pairs (comma_before fs i) run) → new ≡ mid ++ numbers (alignment decls tokens env f m.tree)
@@ -249,18 +271,24 @@ module _ (decls : List VarDecl) (tokens : List PatToken) (env : Environment) whe
         let one : next - taken ≡ 1 = omega (arith, sum) in
         let run_is : take 1 (drop taken ms) ≡ m ∷ [] = ap (take 1) (drop_at ms taken m less here_m) in
         let run_one : run ≡ m ∷ [] = cut ∙ ap (λ k. take k (drop taken ms)) one ∙ run_is in
-        let here_is : taken_pairs l (comma_before fs i) (piece decls tokens env f) (m ∷ []) ≡ comma_pairs (comma_before fs i) (m ∷ []) ++ alignment decls tokens env f m.tree =
-        ap (λ o. comma_pairs (comma_before fs i) (m ∷ []) ++ cond (is_wild l o) (wild_pairs l o (m ∷ [])) (alignment decls tokens env f m.tree)) (piece-token decls tokens env f)
-        ∙ ap (λ b. comma_pairs (comma_before fs i) (m ∷ []) ++ cond b (wild_pairs l (leaf_of (out-Tree f)) (m ∷ [])) (alignment decls tokens env f m.tree)) wild in
-        let mid_is : mid ≡ old ++ numbers (comma_pairs (comma_before fs i) (m ∷ [])) = here ∙ ap (λ xs. old ++ numbers (comma_pairs (comma_before fs i) xs)) run_one in
-        let all : new ≡ old ++ numbers (taken_pairs l (comma_before fs i) (piece decls tokens env f) (m ∷ [])) = more ∙ found_step old mid _ _ _ mid_is here_is in
+        let here_is : taken_pairs l (comma_before fs i) (piece decls tokens env f) (m ∷ [])
+        ≡ comma_pairs (comma_before fs i) (m ∷ []) ++ alignment decls tokens env f m.tree =
+        ap (λ o. comma_pairs (comma_before fs i) (m ∷ [])
+        ++ cond (is_wild l o) (wild_pairs l o (m ∷ [])) (alignment decls tokens env f m.tree)) (piece-token decls tokens env f)
+        ∙ ap (λ b. comma_pairs (comma_before fs i) (m ∷ [])
+        ++ cond b (wild_pairs l (leaf_of (out-Tree f)) (m ∷ [])) (alignment decls tokens env f m.tree)) wild in
+        let mid_is : mid ≡ old ++ numbers (comma_pairs (comma_before fs i) (m ∷ [])) =
+        here ∙ ap (λ xs. old ++ numbers (comma_pairs (comma_before fs i) xs)) run_one in
+        let all : new ≡ old ++ numbers (taken_pairs l (comma_before fs i) (piece decls tokens env f) (m ∷ [])) =
+        more ∙ found_step old mid _ _ _ mid_is here_is in
         next_taken fs i taken 1 next f ms old new lt g e le fits (sym (single_count fs i f (drop taken ms) lt g e wild fits)) sum
         (all ∙ ap (λ xs. old ++ numbers (taken_pairs l (comma_before fs i) (piece decls tokens env f) xs)) (sym run_is))
 
     -- if the rest of a list fits, a member is left for a child that takes one, and the child fits it
 
     pub member_left : (fs : List Tree) (i taken : ℕ) (f : Tree) (ms : List Member) → i < length fs → f ≡ get_or fs i f → comma f ≡ None
-        → is_wild l (leaf_of (out-Tree f)) ≡ false → taken ≤ length ms → fits_from decls tokens l (comma_before fs i) (drop i fs) (drop taken ms) env ≡ true → taken < length ms
+        → is_wild l (leaf_of (out-Tree f)) ≡ false → taken ≤ length ms
+        → fits_from decls tokens l (comma_before fs i) (drop i fs) (drop taken ms) env ≡ true → taken < length ms
     member_left fs i taken f ms lt g e wild le fits = by (drop taken ms) refl (length-drop taken ms)
       where
         by : (rest : List Member) → drop taken ms ≡ rest → length (drop taken ms) ≡ length ms - taken → taken < length ms
@@ -268,7 +296,8 @@ module _ (decls : List VarDecl) (tokens : List PatToken) (env : Environment) whe
         by (m ∷ rest) some len = omega (arith, le, len, ap length some)
 
     pub member_fits : (fs : List Tree) (i taken : ℕ) (f : Tree) (m : Member) (ms : List Member) → i < length fs → f ≡ get_or fs i f → comma f ≡ None
-        → is_wild l (leaf_of (out-Tree f)) ≡ false → taken < length ms → m ≡ get_or ms taken m → fits_from decls tokens l (comma_before fs i) (drop i fs) (drop taken ms) env ≡ true
+        → is_wild l (leaf_of (out-Tree f)) ≡ false → taken < length ms → m ≡ get_or ms taken m
+        → fits_from decls tokens l (comma_before fs i) (drop i fs) (drop taken ms) env ≡ true
         → fits_tree decls tokens env f m.tree ≡ true
     member_fits fs i taken f m ms lt g e wild less here fits =
         let some : 0 < length (drop taken ms) = omega (arith, length-drop taken ms, less) in
@@ -292,13 +321,15 @@ own_fit-even q i f (x ∷ xs) (u ∷ us) h = omega (arith, own_fit-even q (suc i
 -- own children
 
 module _ (decls : List VarDecl) (tokens : List PatToken) (env : Environment) where
-  pub own_next : (q : ℕ → Bool) (xs us : List Tree) (i j : ℕ) (x u : Tree) → j ≡ suc i → i < length xs → length xs ≡ length us → x ≡ get_or xs i x → u ≡ get_or us i u
+  pub own_next : (q : ℕ → Bool) (xs us : List Tree) (i j : ℕ) (x u : Tree) → j ≡ suc i → i < length xs → length xs ≡ length us
+      → x ≡ get_or xs i x → u ≡ get_or us i u
       → own_fit q i (map (piece decls tokens env) (drop i xs)) (drop i us) ≡ true → own_fit q j (map (piece decls tokens env) (drop j xs)) (drop j us) ≡ true
   own_next q xs us i j x u n lt len e g h =
       ap (λ m. own_fit q m (map (piece decls tokens env) (drop m xs)) (drop m us)) n
       ∙ and_right _ _ (sym (own_fit_at decls tokens env q xs us i i x u lt len e g) ∙ h)
 
-  pub own_pairs_step : (q : ℕ → Bool) (xs us : List Tree) (i j : ℕ) (x u : Tree) (old new w : List AlignedToken) → j ≡ suc i → i < length xs → i < length us → x ≡ get_or xs i x → u ≡ get_or us i u
+  pub own_pairs_step : (q : ℕ → Bool) (xs us : List Tree) (i j : ℕ) (x u : Tree) (old new w : List AlignedToken) → j ≡ suc i
+      → i < length xs → i < length us → x ≡ get_or xs i x → u ≡ get_or us i u
       → new ≡ old ++ numbers (cond (q i) (alignment decls tokens env x u) [])
       → old ++ numbers (own_pairs q i (map (piece decls tokens env) (drop i xs)) (drop i us)) ≡ w
       → new ++ numbers (own_pairs q j (map (piece decls tokens env) (drop j xs)) (drop j us)) ≡ w

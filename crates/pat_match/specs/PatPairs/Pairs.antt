@@ -53,7 +53,8 @@ module _ (decls : List VarDecl) (tokens : List PatToken) (env : Environment) whe
 
 -- From one child of a list to the next: the rest fits after this many members, and what is found, joined with what the rest
 -- is aligned with, stays the same.
-pub record IsNext (decls : List VarDecl) (tokens : List PatToken) (env : Environment) (l : Label) (fs : List Tree) (i : ℕ) (ms : List Member) (taken next : ℕ) (old new : List AlignedToken) : Type 0 where
+pub record IsNext (decls : List VarDecl) (tokens : List PatToken) (env : Environment) (l : Label) (fs : List Tree) (i : ℕ)
+    (ms : List Member) (taken next : ℕ) (old new : List AlignedToken) : Type 0 where
   pub within : next ≤ length ms
   pub rest : fits_from decls tokens l (comma_before fs (suc i)) (drop (suc i) fs) (drop next ms) env ≡ true
   pub found : old ++ numbers (left_pairs decls tokens env l (comma_before fs i) (drop i fs) (drop taken ms))

@@ -6,7 +6,7 @@ ghost use Rattle.smpl_terms.specs.Environments.{total};
 ghost use Rattle.smpl_patch.specs.declared.pattern.Spot.TheVariants as spot;
 ghost use Rattle.pat_match.specs.Fitting.{fits_tree, alignment};
 ghost use Rattle.pat_match.specs.Spots as at;
-ghost use Rattle.pat_match.specs.PatPairs.Pairs as of;
+ghost use Rattle.pat_match.specs.PatPairs.Pairs as spec;
 
 use crate::parts::{NodeRole, close_brace, fits_seat, is_close_brace, is_open_brace, open_brace};
 use crate::pat_pairs::own::put_own;
@@ -30,7 +30,7 @@ fn put_brace(
     requires fits { at.option_fits (fits_tree decls.now tokens.now (total env.now) form.now)
         (option_copied brace) ≡ true }
     ensures { OnOk result (found.new.items ≡ found.old.items
-        ++ of.numbers (at.option_pairs (alignment decls.now tokens.now (total env.now) form.now)
+        ++ spec.numbers (at.option_pairs (alignment decls.now tokens.now (total env.now) form.now)
         (option_copied brace.entry))) }
 {
     match brace {
@@ -52,7 +52,7 @@ fn put_token_whole(
 ) -> Result<(), NoMemory>
     requires fits { at.token_whole decls.now tokens.now (total env.now) kind token.now form.now tree.now ≡ true }
     ensures { OnOk result (found.new.items ≡ found.old.items
-        ++ of.numbers (at.token_alignment decls.now tokens.now (total env.now) kind token.now form.now tree.now)) }
+        ++ spec.numbers (at.token_alignment decls.now tokens.now (total env.now) kind token.now form.now tree.now)) }
 {
     if is_open_brace(token) {
         put_brace(
@@ -91,7 +91,7 @@ fn put_branch_whole(
 ) -> Result<(), NoMemory>
     requires fits { at.branch_whole decls.now tokens.now (total env.now) kind form.now tree.now ≡ true }
     ensures { OnOk result (found.new.items ≡ found.old.items
-        ++ of.numbers (at.branch_alignment decls.now tokens.now (total env.now) kind form.now tree.now)) }
+        ++ spec.numbers (at.branch_alignment decls.now tokens.now (total env.now) kind form.now tree.now)) }
 {
     match kind {
         NodeKind::Simple => put_pairs(alloc, found, decls, tokens, env, form, tree),
@@ -124,7 +124,7 @@ fn put_whole(
 ) -> Result<(), NoMemory>
     requires fits { at.whole_at decls.now tokens.now (total env.now) kind (out-Tree form.now) form.now tree.now ≡ true }
     ensures { OnOk result (found.new.items ≡ found.old.items
-        ++ of.numbers (at.whole_alignment decls.now tokens.now (total env.now) kind (out-Tree form.now) form.now tree.now)) }
+        ++ spec.numbers (at.whole_alignment decls.now tokens.now (total env.now) kind (out-Tree form.now) form.now tree.now)) }
 {
     match form {
         Tree::Leaf(token) => {
@@ -146,7 +146,7 @@ fn put_tail(
 ) -> Result<(), NoMemory>
     requires fits { at.fits_at decls.now tokens.now (total env.now) spot.Tail kind form.now tree.now ≡ true }
     ensures { OnOk result (found.new.items ≡ found.old.items
-        ++ of.numbers (at.alignment_at decls.now tokens.now (total env.now) spot.Tail kind form.now tree.now)) }
+        ++ spec.numbers (at.alignment_at decls.now tokens.now (total env.now) spot.Tail kind form.now tree.now)) }
 {
     put_own(
         alloc,
@@ -173,7 +173,7 @@ fn pairs_at(
 ) -> Result<Vec<AlignedToken>, NoMemory>
     requires fits { at.fits_at decls.now tokens.now (total env.now) spot kind form.now tree.now ≡ true }
     ensures { IfOk result (λ r. r.items
-        ≡ of.numbers (at.alignment_at decls.now tokens.now (total env.now) spot kind form.now tree.now)) }
+        ≡ spec.numbers (at.alignment_at decls.now tokens.now (total env.now) spot kind form.now tree.now)) }
 {
     let mut found = Vec::new(alloc);
     match spot {
@@ -200,7 +200,7 @@ pub fn aligned_tokens(
     env: &Env,
 ) -> Result<Option<Vec<AlignedToken>>, NoMemory>
     ensures exact { IfOk result (λ r. option_map (λ found. found.items) r
-        ≡ of.aligned_tokens decls.now tokens.now (total env.now) p.now role tree.now) }
+        ≡ spec.aligned_tokens decls.now tokens.now (total env.now) p.now role tree.now) }
 {
     let forms = p.forms.as_slice();
     for i in 0..forms.len() {

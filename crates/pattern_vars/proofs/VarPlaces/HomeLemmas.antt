@@ -11,7 +11,8 @@ use Rattle.smpl_patch.specs.declared.elem.Elem.{Elem}
 use Rattle.pattern_vars.specs.Reads.{has}
 use Rattle.pattern_vars.specs.declared.set.Key.{Key}
 use Rattle.pattern_vars.specs.Keys.{value_of}
-use Rattle.pattern_vars.specs.VarPlaces.Placing.{Reading, is_dots, is_choice, any_option, any_element, any_body, any_bodies, occurs_element, occurs_body, is_inside, after_dots, at_suffix}
+use Rattle.pattern_vars.specs.VarPlaces.Placing.{Reading, is_dots, is_choice, any_option, any_element, any_body, any_bodies}
+use Rattle.pattern_vars.specs.VarPlaces.Placing.{occurs_element, occurs_body, is_inside, after_dots, at_suffix}
 use Rattle.pattern_vars.specs.declared.var_places.homes.Home.{Home}
 use Rattle.pattern_vars.specs.declared.var_places.place.Place.{Place}
 use Rattle.pattern_vars.specs.declared.var_places.place.Shares.{Shares}
@@ -85,7 +86,8 @@ module _ (test : Pattern → Bool) where
     stands-body : (b : Body) → any_body false test b ≡ true → any_body true test b ≡ true
     stands-body End h = h
     stands-body (Then e rest) h =
-        or-both (any_element false test e) (any_body false test rest) (any_element true test e) (any_body true test rest) (stands-element e) (stands-body rest) h
+        or-both (any_element false test e) (any_body false test rest) (any_element true test e) (any_body true test rest)
+        (stands-element e) (stands-body rest) h
 
     stands-bodies : (bs : Bodies) → any_bodies false test bs ≡ true → any_bodies true test bs ≡ true
     stands-bodies NoMore h = h
@@ -99,7 +101,8 @@ pub shares-same : (h i h' i' : List Var) (t t' : List Shares) → h ≡ h' → i
 shares-same h i h' i' t t' a b c = cc
 
 places-same : (h i h' i' s : List Var) (t t' : List Place) → h ≡ h' → i ≡ i' → t ≡ t'
-    → (let p : Place = record { here = h; inside = i; scope = s ++ h } in p ∷ t) ≡ (let p : Place = record { here = h'; inside = i'; scope = s ++ h' } in p ∷ t')
+    → (let p : Place = record { here = h; inside = i; scope = s ++ h } in p ∷ t)
+    ≡ (let p : Place = record { here = h'; inside = i'; scope = s ++ h' } in p ∷ t')
 places-same h i h' i' s t t' a b c = cc
 
 -- where one variable is quantified
@@ -219,7 +222,8 @@ module _ (r : Reading) where
 
   occurs-then : (e : Element) (rest : Body) (x : Var) → occurs_body r (Then e rest) x ≡ (occurs_element r e x || occurs_body r rest x)
   occurs-then e rest x =
-      regroup (any_element false (λ p. r.used p x) e) (any_body false (λ p. r.used p x) rest) (any_element true (λ p. r.stands p x) e) (any_body true (λ p. r.stands p x) rest)
+      regroup (any_element false (λ p. r.used p x) e) (any_body false (λ p. r.used p x) rest)
+      (any_element true (λ p. r.stands p x) e) (any_body true (λ p. r.stands p x) rest)
 
   dots-occur : (e : Element) (rest : Body) (x : Var) → after_dots r e rest x ≡ true → occurs_body r rest x ≡ true
   dots-occur e End x h = absurd (true≢false (sym h))

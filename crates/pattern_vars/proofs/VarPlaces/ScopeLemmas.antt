@@ -39,7 +39,8 @@ scoped-none shares scope vars found v f = record {
   are = ap (λ (z : List Place). z ++ scoped shares (scope ++ [])) f ∙ ap (scoped shares) (append-nil scope);
 }
 
-left-is : (shares : List Shares) (i : ℕ) (s : Shares) (n : ℕ) (vars : List Var) → i < length shares → s ≡ get_or shares i s → drop n vars ≡ all_here (drop i shares)
+left-is : (shares : List Shares) (i : ℕ) (s : Shares) (n : ℕ) (vars : List Var) → i < length shares → s ≡ get_or shares i s
+    → drop n vars ≡ all_here (drop i shares)
     → drop n vars ≡ s.here ++ all_here (drop (i + 1) shares)
 left-is shares i s n vars l q h = h ∙ ap all_here (at-here shares i s l q)
 
@@ -50,7 +51,8 @@ scoped-within shares scope vars i count found s l q h =
     let rest = all_here (drop (i + 1) shares) in
     omega (arith, h.within, length-drop count vars, ap (λ (z : List Var). length z) (left-is shares i s count vars l q h.left), length-append s.here rest)
 
-scoped-step : (shares : List Shares) (scope vars : List Var) (i count : ℕ) (old new : List Place) (s : Shares) (p : Place) → i < length shares → s ≡ get_or shares i s
+scoped-step : (shares : List Shares) (scope vars : List Var) (i count : ℕ) (old new : List Place) (s : Shares) (p : Place)
+    → i < length shares → s ≡ get_or shares i s
     → p ≡ record { here = s.here; inside = s.inside; scope = scope ++ take (count + length s.here) vars } → new ≡ old ++ p ∷ []
     → AreScoped shares scope vars i count old → AreScoped shares scope vars (i + 1) (count + length s.here) new
 scoped-step shares scope vars i count old new s p l q e n h =
@@ -71,7 +73,8 @@ scoped-step shares scope vars i count old new s p l q e n h =
     }
 
 -- one more place
-pub scoped-more : (shares : List Shares) (scope vars : List Var) (i count k : ℕ) (old new : List Place) (s : Shares) (p : Place) → i < length shares → s ≡ get_or shares i s
+pub scoped-more : (shares : List Shares) (scope vars : List Var) (i count k : ℕ) (old new : List Place) (s : Shares) (p : Place)
+    → i < length shares → s ≡ get_or shares i s
     → k ≡ length s.here → p ≡ record { here = s.here; inside = s.inside; scope = scope ++ take (count + k) vars } → new ≡ old ++ p ∷ []
     → AreScoped shares scope vars i count old → AreScoped shares scope vars (i + 1) (count + k) new
 scoped-more shares scope vars i count k old new s p l q t e n h =

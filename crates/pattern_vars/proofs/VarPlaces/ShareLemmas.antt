@@ -17,7 +17,8 @@ use Rattle.pattern_vars.proofs.VarPlaces.HomeLemmas.{and-false, and-true, same-n
 kept-first : (p : Var → Bool) (w : List Var) (x : Var) → filter p (w ++ x ∷ []) ≡ filter p w ++ cond (p x) (x ∷ []) []
 kept-first p w x = filter-append p w (x ∷ [])
 
-put-more : (home : Var → Option Home) (n : ℕ) (b : Body) (w : List Var) (x : Var) → shares_from home n b (w ++ x ∷ []) ≡ put_in n (home x) x (shares_from home n b w)
+put-more : (home : Var → Option Home) (n : ℕ) (b : Body) (w : List Var) (x : Var)
+    → shares_from home n b (w ++ x ∷ []) ≡ put_in n (home x) x (shares_from home n b w)
 put-more home n End w x = refl
 put-more home n (Then e rest) w x =
     shares-same _ _ _ _ _ _ (kept-first (λ y. is_here (home y) n) w x) (kept-first (λ y. is_within (home y) n) w x) (put-more home (suc n) rest w x)
@@ -64,7 +65,8 @@ put-nothing n x (s ∷ ss) = cons-same _ _ _ _ (shared-none false false x s refl
 
 skip : (h : Home) (x : Var) (s : Shares) (n : ℕ) → nat_eq h.place n ≡ false → s ≡ shared_by (is_here (Some h) n) (is_within (Some h) n) x s
 skip h x s n q =
-    shared-none (h.here && nat_eq h.place n) (not h.here && nat_eq h.place n) x s (and-false h.here (nat_eq h.place n) q) (and-false (not h.here) (nat_eq h.place n) q)
+    shared-none (h.here && nat_eq h.place n) (not h.here && nat_eq h.place n) x s (and-false h.here (nat_eq h.place n) q)
+    (and-false (not h.here) (nat_eq h.place n) q)
 
 pub put-beyond : (h : Home) (x : Var) (ss : List Shares) (n : ℕ) → n + length ss ≤ h.place → ss ≡ put_in n (Some h) x ss
 put-beyond h x [] n l = refl

@@ -7,7 +7,8 @@ use Rattle.smpl_patch.specs.declared.elem.Elem.TheViews.{out-Elem, roll-Elem, ro
 use Rattle.smpl_patch.specs.declared.elem.Elem.TheFolds.{fold-Dots, fold-roll-Elem, fold_out-Dots}
 use Rattle.smpl_patch.specs.declared.elem.Dots.{Dots, out-Dots, roll-Dots}
 use Rattle.smpl_patch.specs.declared.elem.Elem.TheViews.{roll-out-Dots}
-use Rattle.smpl_patch.specs.Bodies.{Element, Atom, Compound, Block, Gap, Nest, AnyOf, AllOf, Body, End, Then, Bodies, NoMore, More, DotsOf, sequences, element_step, dots_step, element, body}
+use Rattle.smpl_patch.specs.Bodies.{Element, Atom, Compound, Block, Gap, Nest, AnyOf, AllOf, Body, End, Then, Bodies, NoMore}
+use Rattle.smpl_patch.specs.Bodies.{More, DotsOf, sequences, element_step, dots_step, element, body}
 
 abbrev bodies : List (List Elem) → Bodies
 bodies [] = NoMore

@@ -7,8 +7,10 @@ use Rattle.smpl_patch.specs.declared.elem.Dots.{Dots, roll-Dots}
 use Rattle.smpl_patch.specs.declared.rule.Iso.{Iso}
 use Rattle.smpl_patch.specs.declared.rule.Rule.{Rule}
 use Rattle.smpl_patch.specs.declared.rule.Patch.{Patch}
-use Rattle.smpl_patch.specs.Bodies.{Element, Atom, Compound, Block, Gap, Nest, AnyOf, AllOf, Body, End, Then, Bodies, NoMore, More, DotsOf, element_step, dots_step, element, body}
-use Rattle.smpl_patch.proofs.BodyLemmas.{bodies, dots_of, element-Atom, element-Compound, element-Block, element-Gap, element-Nest, element-AnyOf, element-AllOf}
+use Rattle.smpl_patch.specs.Bodies.{Element, Atom, Compound, Block, Gap, Nest, AnyOf, AllOf, Body, End, Then, Bodies, NoMore}
+use Rattle.smpl_patch.specs.Bodies.{More, DotsOf, element_step, dots_step, element, body}
+use Rattle.smpl_patch.proofs.BodyLemmas.{bodies, dots_of, element-Atom, element-Compound, element-Block, element-Gap}
+use Rattle.smpl_patch.proofs.BodyLemmas.{element-Nest, element-AnyOf, element-AllOf}
 use Rattle.iso_expand.specs.Bodies.{expanded_body}
 use Rattle.iso_expand.specs.Patches.{most_forms, forms_rule, AreExpanded, IsExpanded, IsFirstMany}
 use Rattle.read_laws.proofs.ReadEnds.TextLemmas.{order}

@@ -1,5 +1,6 @@
 -- Plus code and bodies are read or have a first fault, and so have the rules of a patch, and the patch.
-use Rattle.std.proofs.Common.{◌≡◌, ◌+◌, ◌<◌, ℕ, suc, Option, Some, None, IfSome, List, [], ◌∷◌, ◌++◌, map, length, take, slice_get, inl, inr, refl, subst, arith}
+use Rattle.std.proofs.Common.{◌≡◌, ◌+◌, ◌<◌, ℕ, suc, Option, Some, None, IfSome, List, [], ◌∷◌, ◌++◌, map, length, take}
+use Rattle.std.proofs.Common.{slice_get, inl, inr, refl, subst, arith}
 use Rattle.c_terms.specs.declared.tree.Tree.{Tree}
 use Rattle.smpl_terms.specs.declared.var.Var.{Var as Variable}
 use Rattle.smpl_patch.specs.declared.pattern.VarDecl.{VarDecl}

@@ -24,10 +24,12 @@ pub record HeadLaws : Type 0 where
   pub once : (text : PatchText) (earlier : List RuleHead) (rules : List RuleText) (one other : List RuleHead) → AllGoOn rules → AreHeads text earlier rules one
       → AreHeads text earlier rules other → one ≡ other
   pub first : (text : PatchText) (one other : PatchFault) → AllGoOn text.rules → IsFirstHeadFault text one → IsFirstHeadFault text other → one ≡ other
-  pub alone : (text : PatchText) (heads : List RuleHead) (fault : PatchFault) → AllGoOn text.rules → AreHeads text [] text.rules heads → IsFirstHeadFault text fault → ⊥
+  pub alone : (text : PatchText) (heads : List RuleHead) (fault : PatchFault) → AllGoOn text.rules
+      → AreHeads text [] text.rules heads → IsFirstHeadFault text fault → ⊥
 
 abbrev pub RuleFaultOnce : Type 0
-RuleFaultOnce = (text : PatchText) (heads : List RuleHead) (one other : PatchFault) → AreHeads text [] text.rules heads → IsFirstRuleFault text heads one → IsFirstRuleFault text heads other → one ≡ other
+RuleFaultOnce = (text : PatchText) (heads : List RuleHead) (one other : PatchFault) → AreHeads text [] text.rules heads
+    → IsFirstRuleFault text heads one → IsFirstRuleFault text heads other → one ≡ other
 
 abbrev pub SpellingOnce : Type 0
 SpellingOnce = (bytes : List ℕ) (one other : PatchFault) → IsSpellingFault bytes one → IsSpellingFault bytes other → one ≡ other
@@ -41,17 +43,20 @@ PatchApart = (bytes : List ℕ) (patch : Patch) (fault : PatchFault) → IsSpell
 
 module _ (texts : TextLaws) (heads : HeadLaws) (rules : RuleFaultOnce) where
   -- heads are read: no head has a fault
-  read : (bytes : List ℕ) (t u : PatchText) (hs : List RuleHead) (f : PatchFault) → IsTextOf bytes t → IsTextOf bytes u → AreHeads t [] t.rules hs → IsFirstHeadFault u f → ⊥
+  read : (bytes : List ℕ) (t u : PatchText) (hs : List RuleHead) (f : PatchFault) → IsTextOf bytes t → IsTextOf bytes u
+      → AreHeads t [] t.rules hs → IsFirstHeadFault u f → ⊥
   read bytes t u hs f is also are w =
       let e : u ≡ t = texts.once bytes u t also is in
       heads.alone t hs f (texts.go bytes t is) are (subst (λ (x : PatchText). IsFirstHeadFault x f) e w)
 
-  heads-fault : (bytes : List ℕ) (t u : PatchText) (f g : PatchFault) → IsTextOf bytes t → IsTextOf bytes u → IsFirstHeadFault t f → IsFirstHeadFault u g → f ≡ g
+  heads-fault : (bytes : List ℕ) (t u : PatchText) (f g : PatchFault) → IsTextOf bytes t → IsTextOf bytes u
+      → IsFirstHeadFault t f → IsFirstHeadFault u g → f ≡ g
   heads-fault bytes t u f g is also v w =
       let e : u ≡ t = texts.once bytes u t also is in
       heads.first t f g (texts.go bytes t is) v (subst (λ (x : PatchText). IsFirstHeadFault x g) e w)
 
-  rules-fault : (bytes : List ℕ) (t u : PatchText) (hs ks : List RuleHead) (f g : PatchFault) → IsTextOf bytes t → IsTextOf bytes u → AreHeads t [] t.rules hs → AreHeads u [] u.rules ks
+  rules-fault : (bytes : List ℕ) (t u : PatchText) (hs ks : List RuleHead) (f g : PatchFault) → IsTextOf bytes t
+      → IsTextOf bytes u → AreHeads t [] t.rules hs → AreHeads u [] u.rules ks
       → IsFirstRuleFault t hs f → IsFirstRuleFault u ks g → f ≡ g
   rules-fault bytes t u hs ks f g is also one other v w =
       let e : u ≡ t = texts.once bytes u t also is in

@@ -1,6 +1,7 @@
 -- Rules have at most one first fault of plus code and bodies.
 -- Proof: if two were in different rules, the earlier rule would be among those before the other, which have no faults.
-use Rattle.std.proofs.Common.{◌≡◌, ℕ, zero, suc, ◌+◌, ◌<◌, ◌⊎◌, inl, inr, List, [], ◌∷◌, ◌++◌, length, take, Option, Some, None, refl, sym, ap, ◌∙◌, subst, arith, slice_get}
+use Rattle.std.proofs.Common.{◌≡◌, ℕ, zero, suc, ◌+◌, ◌<◌, ◌⊎◌, inl, inr, List, [], ◌∷◌, ◌++◌, length, take, Option, Some, None}
+use Rattle.std.proofs.Common.{refl, sym, ap, ◌∙◌, subst, arith, slice_get}
 use Rattle.std.specs.Prelude.{IfSome}
 use Rattle.smpl_terms.specs.declared.var.Var.{Var as Variable}
 use Rattle.smpl_patch.specs.declared.pattern.VarDecl.{VarDecl}
@@ -63,7 +64,8 @@ record Before (known : List Variable) (n k : ℕ) (rs : List RuleText) (hs : Lis
   pub head_at : slice_get hs k ≡ Some head
   pub is : IsRule known (n + k) text head rule
 
-before : (known : List Variable) (n k m : ℕ) (rs : List RuleText) (hs : List RuleHead) (xs : List Rule) → AreRules known n (take m rs) (take m hs) xs → k < m → k < length rs
+before : (known : List Variable) (n k m : ℕ) (rs : List RuleText) (hs : List RuleHead) (xs : List Rule)
+    → AreRules known n (take m rs) (take m hs) xs → k < m → k < length rs
     → Before known n k rs hs
 before known n k zero rs hs xs a less within = absurd (omega (arith, less))
 before known n k (suc m) [] hs xs a less within = absurd (omega (arith, within))
@@ -74,10 +76,19 @@ before known n zero (suc m) (r ∷ rs) (g ∷ hs) (x ∷ xs) a less within =
     record { text = r; head = g; rule = x; text_at = refl; head_at = refl; is = subst (λ (i : ℕ). IsRule known i r g x) (omega arith) a.0 }
 before known n (suc k) (suc m) (r ∷ rs) (g ∷ hs) (x ∷ xs) a less within =
     let q = before known (suc n) k m rs hs xs a.1 (omega arith) (omega arith) in
-    record { text = q.text; head = q.head; rule = q.rule; text_at = q.text_at; head_at = q.head_at; is = subst (λ (i : ℕ). IsRule known i q.text q.head q.rule) (omega arith) q.is }
+    record {
+      text = q.text;
+      head = q.head;
+      rule = q.rule;
+      text_at = q.text_at;
+      head_at = q.head_at;
+      is =
+          subst (λ (i : ℕ). IsRule known i q.text q.head q.rule) (omega arith) q.is;
+    }
 
 -- the fault of a rule, by its text and its head
-fault-of : (text : PatchText) (heads : List RuleHead) (f : PatchFault) (v : IsFirstRuleFault text heads f) (r : RuleText) (h : RuleHead) → slice_get text.rules v.rule ≡ Some r
+fault-of : (text : PatchText) (heads : List RuleHead) (f : PatchFault) (v : IsFirstRuleFault text heads f) (r : RuleText)
+    (h : RuleHead) → slice_get text.rules v.rule ≡ Some r
     → slice_get heads v.rule ≡ Some h → IsRuleFault v.rule r h f
 fault-of text heads f v r h text_at head_at =
     let P : RuleText → Type 0 = λ r. IfSome (slice_get heads v.rule) (λ h. IsRuleFault v.rule r h f) in
@@ -90,13 +101,15 @@ module _ (plus : PlusApart) (bodies : BodyApart) where
   rule-apart known n r h x f a (in_plus e) = plus h.vars n r.body x.tokens f a.tokens e
   rule-apart known n r h x f a (in_body e w) = bodies (pattern_tokens h.vars r.body) r.end x.body f a.body w
 
-  none-earlier : (text : PatchText) (heads : List RuleHead) (f g : PatchFault) (v : IsFirstRuleFault text heads f) (w : IsFirstRuleFault text heads g) → v.rule < w.rule → ⊥
+  none-earlier : (text : PatchText) (heads : List RuleHead) (f g : PatchFault) (v : IsFirstRuleFault text heads f)
+      (w : IsFirstRuleFault text heads g) → v.rule < w.rule → ⊥
   none-earlier text heads f g v w less =
       let q = before (taken heads) 0 v.rule w.rule text.rules heads w.before w.are less v.within in
       rule-apart (taken heads) v.rule q.text q.head q.rule f (subst (λ (i : ℕ). IsRule (taken heads) i q.text q.head q.rule) (omega arith) q.is)
       (fault-of text heads f v q.text q.head q.text_at q.head_at)
 
-same-rule : BodyFaultOnce → (text : PatchText) (heads : List RuleHead) (f g : PatchFault) → AreHeads text [] text.rules heads → (v : IsFirstRuleFault text heads f)
+same-rule : BodyFaultOnce → (text : PatchText) (heads : List RuleHead) (f g : PatchFault) → AreHeads text [] text.rules heads
+    → (v : IsFirstRuleFault text heads f)
     (w : IsFirstRuleFault text heads g) → v.rule ≡ w.rule → f ≡ g
 same-rule bodies text heads f g are v w e =
     let r = some-at text.rules w.rule w.within in

@@ -34,9 +34,13 @@ use Rattle.smpl_patch.specs.declared.pattern.Spot.TheVariants as spot
 use Rattle.smpl_patch.specs.Patterns.{declared_as, is_statement_token}
 use Rattle.pat_match.specs.Kinds.{is_of_kind, is_named}
 use Rattle.pat_match.specs.Tokens.{is_place, not_places, stands_at, value_is, meta_fits, run_is, token_fits, stands, leaf_fits, first_id, id_of}
-use Rattle.pat_match.specs.Runs.{Piece, Pair, comma_fits, comma_pairs, taken_pairs, run_fits, takes, runs_from, list_pairs, single_fits, is_wild, as_comma, some_below, least, fewest, leftmost, runs_pairs}
+use Rattle.pat_match.specs.Runs.{Piece, Pair, comma_fits, comma_pairs, taken_pairs, run_fits, takes, runs_from, list_pairs}
+use Rattle.pat_match.specs.Runs.{single_fits, is_wild, as_comma, some_below, least, fewest, leftmost, runs_pairs}
 use Rattle.pat_match.specs.Fitting.{piece, fits_by, pairs_by, kids_pairs, kids_fit}
-use Rattle.pat_match.specs.Spots.{own_fits, own_fit, own_pairs, token_whole, branch_whole, whole_at, fits_at, is_disjunction, option_fits, option_pairs, open_brace, close_brace, is_open_brace, is_close_brace, is_statement_node, is_simple_node, is_tail_node, own_alignment, token_alignment, branch_alignment, whole_alignment, alignment_at}
+use Rattle.pat_match.specs.Spots.{own_fits, own_fit, own_pairs, token_whole, branch_whole, whole_at, fits_at, is_disjunction}
+use Rattle.pat_match.specs.Spots.{option_fits, option_pairs, open_brace, close_brace, is_open_brace, is_close_brace}
+use Rattle.pat_match.specs.Spots.{is_statement_node, is_simple_node, is_tail_node, own_alignment, token_alignment}
+use Rattle.pat_match.specs.Spots.{branch_alignment, whole_alignment, alignment_at}
 use Rattle.pat_match.specs.declared.role.NodeRole.{NodeRole}
 use Rattle.pat_match.specs.Roles.{may_stand}
 use Rattle.pat_match.specs.Matching.{fits_seat, is_live_in}
@@ -96,7 +100,8 @@ module _ (decls : List VarDecl) (tokens : List PatToken) (d e : Environment) (a 
   taken : (l : Label) (before : Option Token) (p : Piece) (ms : List Member) → takes decls tokens d l before p ms ≡ takes decls tokens e l before p ms
   taken l before p ms = λ i. comma before ms i && cond (is_wild l p.token) (run_of l p.token ms i) (single_fits p.fits ms)
 
-  runs : (l : Label) (before : Option Token) (ps : List Piece) (ms : List Member) → runs_from decls tokens d l before ps ms ≡ runs_from decls tokens e l before ps ms
+  runs : (l : Label) (before : Option Token) (ps : List Piece) (ms : List Member)
+      → runs_from decls tokens d l before ps ms ≡ runs_from decls tokens e l before ps ms
   runs l before [] [] = comma before []
   runs l before [] (m ∷ ms) = refl
   runs l before (p ∷ ps) ms = λ i. elim (as_comma p.token) as (λ o. Bool) [
@@ -174,7 +179,8 @@ module _ (decls : List VarDecl) (tokens : List PatToken) (d e : Environment) (a 
 
   own : (k : NodeKind) (form : Tree-F Tree) (t : Tree) → own_fits decls tokens d k form t ≡ own_fits decls tokens e k form t
   own k (Tree-F.Leaf b) t = refl
-  own k (Tree-F.Branch l fs) t = λ i. not (is_disjunction (shape_of l)) && kids_fit (own_fit (is_own k l (length fs)) 0) l (map (λ f. pieces f i) fs) (out-Tree t)
+  own k (Tree-F.Branch l fs) t = λ i. not (is_disjunction (shape_of l))
+      && kids_fit (own_fit (is_own k l (length fs)) 0) l (map (λ f. pieces f i) fs) (out-Tree t)
 
   whole_token : (k : NodeKind) (b : Token) (form t : Tree) → token_whole decls tokens d k b form t ≡ token_whole decls tokens e k b form t
   whole_token k b form t = λ i.
@@ -215,7 +221,8 @@ module _ (decls : List VarDecl) (tokens : List PatToken) (d e : Environment) (a 
   branch_aligned node_kind.Simple form t = λ i. (pieces form i).pairs t
   branch_aligned k form t = own_aligned k (out-Tree form) t
 
-  whole_aligned : (k : NodeKind) (layer : Tree-F Tree) (form t : Tree) → whole_alignment decls tokens d k layer form t ≡ whole_alignment decls tokens e k layer form t
+  whole_aligned : (k : NodeKind) (layer : Tree-F Tree) (form t : Tree)
+      → whole_alignment decls tokens d k layer form t ≡ whole_alignment decls tokens e k layer form t
   whole_aligned k (Tree-F.Leaf b) form t = token_aligned k b form t
   whole_aligned k (Tree-F.Branch l fs) form t = branch_aligned k form t
 

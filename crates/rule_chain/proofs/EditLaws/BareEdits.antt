@@ -56,7 +56,8 @@ module _ (item : ℕ) where
   abbrev Alike : Witness → Type 0
   Alike w = (env : Values) → touches_in item (bare_env env) (bare_tree w) ≡ map bare_touch (touches_in item env w)
 
-  all_alike : (ws : List Witness) → Each Alike ws → (env : Values) → flat_map (touches_in item (bare_env env)) (map bare_tree ws) ≡ map bare_touch (flat_map (touches_in item env) ws)
+  all_alike : (ws : List Witness) → Each Alike ws → (env : Values)
+      → flat_map (touches_in item (bare_env env)) (map bare_tree ws) ≡ map bare_touch (flat_map (touches_in item env) ws)
   all_alike [] h env = refl
   all_alike (w ∷ ws) h env =
       (λ i. h.0 env i ++ all_alike ws h.1 env i) ∙ sym (map-append bare_touch (touches_in item env w) (flat_map (touches_in item env) ws))
@@ -65,7 +66,8 @@ module _ (item : ℕ) where
   tree_alike = witness_induction Alike
       (λ node atom path env. ap (touches_in item (bare_env env)) (bare-Touch node atom path) ∙ touches-Touch item node atom path (bare_env env)
       ∙ sym (ap (map bare_touch) (touches-Touch item node atom path env)))
-      (λ node x v ws h env. ap (touches_in item (bare_env env)) (bare-Bind node x v ws) ∙ touches-Bind item node x (bare_value v) (map bare_tree ws) (bare_env env)
+      (λ node x v ws h env. ap (touches_in item (bare_env env)) (bare-Bind node x v ws)
+      ∙ touches-Bind item node x (bare_value v) (map bare_tree ws) (bare_env env)
       ∙ ap (λ (more : Values). flat_map (touches_in item more) (map bare_tree ws)) (bare_bound env x v)
       ∙ all_alike ws h (bound env x v)
       ∙ sym (ap (map bare_touch) (touches-Bind item node x v ws env)))
@@ -91,11 +93,13 @@ module _ (decls : List VarDecl) (tokens : List PatToken) (env : Values) (files :
         token = s.token;
         side = side_of s.after;
         many = block.many;
-        text = insert_of (anchor_of (list_any (λ n. n == s.token) removed) s.after file.text) (10 ∷ file.indent) (block_alike decls env (10 ∷ file.indent) block i)
+        text = insert_of (anchor_of (list_any (λ n. n == s.token) removed) s.after file.text) (10 ∷ file.indent)
+            (block_alike decls env (10 ∷ file.indent) block i)
             (block_ends (end_alike decls env None block.lines i));
       } in insert) ∷ []
 
-  inserts_alike : (removed : List ℕ) (spots : List PlusSpot) → inserts_at decls tokens (bare_env env) files removed spots ≡ inserts_at decls tokens env files removed spots
+  inserts_alike : (removed : List ℕ) (spots : List PlusSpot)
+      → inserts_at decls tokens (bare_env env) files removed spots ≡ inserts_at decls tokens env files removed spots
   inserts_alike removed [] = refl
   inserts_alike removed (s ∷ spots) = λ i. if_alike removed s (block_of tokens s) (slice_get files s.token) i ++ inserts_alike removed spots i
 
@@ -130,7 +134,8 @@ module _ (rule : Rule) (items : List Item) (kinds : List (List NodeKind)) (piece
 
   same_pairs : (t : Touched) → pairs_here (bare_touch t) ≡ pairs_here t
   same_pairs t = λ i. pairs_of (ids_of pieces)
-      (option_and_then (λ p. option_and_then (λ k. option_and_then (λ tree. aligned_alike rule.vars rule.tokens (total (bare_env t.env)) (total t.env) (bare_alike t.env) p (role_at k t.path) tree i)
+      (option_and_then (λ p. option_and_then (λ k. option_and_then
+      (λ tree. aligned_alike rule.vars rule.tokens (total (bare_env t.env)) (total t.env) (bare_alike t.env) p (role_at k t.path) tree i)
       (tree_at items t.item t.path)) (kind_at kinds t.item t.node)) (pattern_of patterns t.atom))
 
   without_ids : (t : Touched) (e : Edit) → IsEditAt rule items kinds pieces (bare_touch t) e → IsEditAt rule items kinds pieces t e
@@ -158,7 +163,8 @@ module _ (rule : Rule) (items : List Item) (kinds : List (List NodeKind)) (piece
   all_with (t ∷ ts) [] h = absurd h
   all_with (t ∷ ts) (e ∷ es) h = (with_ids t e h.0, all_with ts es h.1)
 
-  pub edits_without : (ws : List RuleWitness) (es : List Edit) → AreEdits (map bare_witness ws) rule items kinds pieces es → AreEdits ws rule items kinds pieces es
+  pub edits_without : (ws : List RuleWitness) (es : List Edit) → AreEdits (map bare_witness ws) rule items kinds pieces es
+      → AreEdits ws rule items kinds pieces es
   edits_without ws es h = record {
     all = h.all;
     each = all_without (touches ws) h.all (subst (λ (ts : List Touched). AllZip R ts h.all) (bare_touches ws) h.each);

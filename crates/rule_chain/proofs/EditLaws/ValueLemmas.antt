@@ -32,7 +32,9 @@ use Rattle.c_show.proofs.Pages.{shown-Leaf, shown-Branch}
 use Rattle.env_parts.specs.Parts.{Pairs, bare_value, bare_pair, bare_env}
 use Rattle.env_parts.proofs.PartLemmas.{value_in-bare, has_value-bare}
 use Rattle.edit_marks.specs.declared.line.Chunk.{Chunk}
-use Rattle.edit_marks.specs.Blocks.{Environment, term_of, term, is_meta, text_of_token, value_chunk, term_chunk, chunk_of, left_at, left_after, chunk_text, tokens_text, without_lead, line_text, more_lines, lines_text, lead_of, least_lead, block_text, last_token, last_of_lines}
+use Rattle.edit_marks.specs.Blocks.{Environment, term_of, term, is_meta, text_of_token, value_chunk, term_chunk, chunk_of}
+use Rattle.edit_marks.specs.Blocks.{left_at, left_after, chunk_text, tokens_text, without_lead, line_text, more_lines}
+use Rattle.edit_marks.specs.Blocks.{lines_text, lead_of, least_lead, block_text, last_token, last_of_lines}
 use Rattle.edit_marks.specs.EditWalk.Touches.{bound}
 use Rattle.wit_forest.specs.WitTrees.Alike.{Alike}
 
@@ -50,7 +52,8 @@ bare_bare = tree_induction (λ t. bare (bare t) ≡ bare t)
     (λ a. ap bare (bare-Leaf a) ∙ bare-Leaf (bare_token a) ∙ sym (bare-Leaf a))
     (λ l cs h. ap bare (bare-Branch l cs) ∙ bare-Branch l (map bare cs) ∙ ap (Branch l) (bare_kids cs h) ∙ sym (bare-Branch l cs))
 
-leaves_kids : (cs : List Tree) → Each (λ t. leaves (bare t) ≡ map bare_token (leaves t)) cs → join (map leaves (map bare cs)) ≡ map bare_token (join (map leaves cs))
+leaves_kids : (cs : List Tree) → Each (λ t. leaves (bare t) ≡ map bare_token (leaves t)) cs
+    → join (map leaves (map bare cs)) ≡ map bare_token (join (map leaves cs))
 leaves_kids [] h = refl
 leaves_kids (c ∷ cs) h = (λ i. h.0 i ++ leaves_kids cs h.1 i) ∙ sym (map-append bare_token (leaves c) (join (map leaves cs)))
 
@@ -76,7 +79,8 @@ text_bare None = refl
 text_bare (Some a) = refl
 
 text_at : (t : Tree) (n : ℕ) → text_of_token (slice_get (leaves (bare t)) n) ≡ text_of_token (slice_get (leaves t) n)
-text_at t n = ap (λ (l : List Token). text_of_token (slice_get l n)) (bare_leaves t) ∙ ap text_of_token (slice_get-map bare_token (leaves t) n) ∙ text_bare (slice_get (leaves t) n)
+text_at t n = ap (λ (l : List Token). text_of_token (slice_get l n)) (bare_leaves t)
+    ∙ ap text_of_token (slice_get-map bare_token (leaves t) n) ∙ text_bare (slice_get (leaves t) n)
 
 leaf_count : (t : Tree) → length (leaves (bare t)) ≡ length (leaves t)
 leaf_count t = ap length (bare_leaves t) ∙ length-map (leaves t) bare_token
@@ -108,7 +112,8 @@ insert_bare : (env : Pairs) (n : ℕ) (x : Var) (v : Value) → insert (bare_env
 insert_bare env n x v =
     (λ i. take-map bare_pair n env i ++ (x, bare_value v) ∷ drop-map bare_pair n env i) ∙ sym (map-append bare_pair (take n env) ((x, v) ∷ drop n env))
 
-bound_by : (b : Bool) (env : Pairs) (x : Var) (v : Value) → cond b (bare_env env) (with_pair (bare_env env) x (bare_value v)) ≡ bare_env (cond b env (with_pair env x v))
+bound_by : (b : Bool) (env : Pairs) (x : Var) (v : Value)
+    → cond b (bare_env env) (with_pair (bare_env env) x (bare_value v)) ≡ bare_env (cond b env (with_pair env x v))
 bound_by true env x v = refl
 bound_by false env x v = ap (λ (n : ℕ). insert (bare_env env) n (x, bare_value v)) (place_bare x env) ∙ insert_bare env (place_of x env) x v
 
@@ -140,7 +145,8 @@ module _ (decls : List VarDecl) (env : Environment) where
       ap (λ (c : Chunk). if is_meta t.kind then c else record { text = t.text; first = Some t.text; last = Some t.text })
       (ap term_chunk (decl_term (declared_as decls t.text)) ∙ bare_term_chunk (term decls env t.text))
 
-  tokens_alike : (left : Option (List ℕ)) (gaps : List (List ℕ)) (tokens : List Token) → tokens_text decls (bare_env env) left gaps tokens ≡ tokens_text decls env left gaps tokens
+  tokens_alike : (left : Option (List ℕ)) (gaps : List (List ℕ)) (tokens : List Token)
+      → tokens_text decls (bare_env env) left gaps tokens ≡ tokens_text decls env left gaps tokens
   tokens_alike left gaps [] = refl
   tokens_alike left [] (t ∷ tokens) = refl
   tokens_alike left (gap ∷ gaps) (t ∷ tokens) =

@@ -34,7 +34,8 @@ inserts_within : (token count : ℕ) (side : Side) (is : List Insert) → All (�
     → list_any (λ i. i.token == token && side_number i.side == side_number side) is ≡ true → token < count
 inserts_within token count side [] all h = absurd cc
 inserts_within token count side (i ∷ is) all h =
-    elim (either (i.token == token && side_number i.side == side_number side) (list_any (λ j. j.token == token && side_number j.side == side_number side) is) h) [
+    elim (either (i.token == token && side_number i.side == side_number side)
+    (list_any (λ j. j.token == token && side_number j.side == side_number side) is) h) [
       | inl e ↦
           let first : (i.token == token) ≡ true = first_part (i.token == token) (side_number i.side == side_number side) e in
           let same : i.token ≡ token = grind (arith, nat_tests) in

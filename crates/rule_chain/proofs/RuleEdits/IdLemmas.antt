@@ -1,5 +1,6 @@
 -- Ids stay below the next one.
-use Rattle.std.proofs.Common.{◌≡◌, ◌<◌, ◌≤◌, ◌+◌, ℕ, suc, Bool, true, false, not, nat_lt, cond, if◌then◌else◌, Option, Some, None, refl, sym, ap, subst, arith, List, [], ◌∷◌, ◌++◌, length, map}
+use Rattle.std.proofs.Common.{◌≡◌, ◌<◌, ◌≤◌, ◌+◌, ℕ, suc, Bool, true, false, not, nat_lt, cond, if◌then◌else◌, Option, Some}
+use Rattle.std.proofs.Common.{None, refl, sym, ap, subst, arith, List, [], ◌∷◌, ◌++◌, length, map}
 use Rattle.std.specs.Prelude.{All}
 use Rattle.std.specs.List.{filter, AllByRecursion}
 use Rattle.std.proofs.lemmas.Bool.Decides.{nat_tests}
@@ -12,7 +13,8 @@ use Rattle.c_lexer.specs.Ids.{ids_of, id_before}
 use Rattle.edit_marks.specs.declared.edit_conflict.edit.Side.TheVariants.{Before, After}
 use Rattle.edit_marks.specs.declared.edit_conflict.edit.Edit.{Edit}
 use Rattle.edit_unparse.specs.Cutting.{cut}
-use Rattle.edit_unparse.specs.Output.{Part, Left, inserted, is_removed, new_part, new_parts, added, old_part, kept, token_parts, parts_at, placed, gap, needs_space, space, left_of, with_next, spaced, output_of}
+use Rattle.edit_unparse.specs.Output.{Part, Left, inserted, is_removed, new_part, new_parts, added, old_part, kept, token_parts}
+use Rattle.edit_unparse.specs.Output.{parts_at, placed, gap, needs_space, space, left_of, with_next, spaced, output_of}
 use Rattle.edit_unparse.specs.Output as out
 use Rattle.rule_chain.specs.RuleEdits.Pages.{page_of, page_after, old_page, is_edited}
 
@@ -104,13 +106,15 @@ old-step : (next m id : ℕ) (ids : List ℕ) → id < next → next ≤ m → B
     → Below (m + count next (id ∷ ids)) (id ∷ ids)
 old-step next m id ids lt le h =
     let t : nat_lt id next ≡ true = grind (arith, nat_tests) in
-    let c : count next (id ∷ ids) ≡ count next ids = ap (λ b. length (cond (not b) (id ∷ filter (λ i. not (nat_lt i next)) ids) (filter (λ i. not (nat_lt i next)) ids))) t in
+    let c : count next (id ∷ ids) ≡ count next ids =
+    ap (λ b. length (cond (not b) (id ∷ filter (λ i. not (nat_lt i next)) ids) (filter (λ i. not (nat_lt i next)) ids))) t in
     subst (λ (n : ℕ). Below (m + n) (id ∷ ids)) (sym c) (omega arith, h)
 
 new-step : (next m : ℕ) (ids : List ℕ) → next ≤ m → Below ((m + 1) + count next ids) ids → Below (m + count next (m ∷ ids)) (m ∷ ids)
 new-step next m ids le h =
     let t : nat_lt m next ≡ false = grind (arith, nat_tests) in
-    let c : count next (m ∷ ids) ≡ suc (count next ids) = ap (λ b. length (cond (not b) (m ∷ filter (λ i. not (nat_lt i next)) ids) (filter (λ i. not (nat_lt i next)) ids))) t in
+    let c : count next (m ∷ ids) ≡ suc (count next ids) =
+    ap (λ b. length (cond (not b) (m ∷ filter (λ i. not (nat_lt i next)) ids) (filter (λ i. not (nat_lt i next)) ids))) t in
     let e : (m + 1) + count next ids ≡ m + suc (count next ids) = omega arith in
     subst (λ (n : ℕ). Below (m + n) (m ∷ ids)) (sym c) (omega arith, subst (λ (n : ℕ). Below n ids) e h)
 

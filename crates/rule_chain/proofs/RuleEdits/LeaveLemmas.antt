@@ -25,13 +25,15 @@ apart_of (Some c) never h = absurd (never c refl)
 module _ (next : ℕ) (pieces : List TextPiece) (edits : List Edit) (apart : (c : Clash) → IsClash edits c → ⊥) where
   pub leaves_old : is_edited edits ≡ false → length (text_of pieces) ≤ 16777216 → Leaves next pieces edits None
   leaves_old e short =
-      let after : page_after next pieces edits ≡ old_page next pieces = ap (λ b. cond b (page_of next (output_of pieces edits next)) (old_page next pieces)) e in
+      let after : page_after next pieces edits ≡ old_page next pieces =
+      ap (λ b. cond b (page_of next (output_of pieces edits next)) (old_page next pieces)) e in
       record { fine = record { apart = apart; short = subst (λ (p : Page). length p.bytes ≤ 16777216) (sym after) short }; new = e }
 
   pub leaves_new : (t : NewText) → is_edited edits ≡ true → page_in t ≡ page_of next (output_of pieces edits next)
       → length t.bytes.items ≤ 16777216 → Leaves next pieces edits (Some t)
   leaves_new t e is short =
-      let after : page_in t ≡ page_after next pieces edits = is ∙ ap (λ b. cond b (page_of next (output_of pieces edits next)) (old_page next pieces)) (sym e) in
+      let after : page_in t ≡ page_after next pieces edits =
+      is ∙ ap (λ b. cond b (page_of next (output_of pieces edits next)) (old_page next pieces)) (sym e) in
       record { fine = record { apart = apart; short = subst (λ (p : Page). length p.bytes ≤ 16777216) after short }; new = (e, after) }
 
   pub long_fault : (f : EditFault) → is_edited edits ≡ true
@@ -39,7 +41,8 @@ module _ (next : ℕ) (pieces : List TextPiece) (edits : List Edit) (apart : (c 
       → (f ≡ fault.NoMemory) ⊎ IsEditFault next pieces edits f
   long_fault f e (inl none) = inl none
   long_fault f e (inr long) =
-      let after : page_after next pieces edits ≡ page_of next (output_of pieces edits next) = ap (λ b. cond b (page_of next (output_of pieces edits next)) (old_page next pieces)) e in
+      let after : page_after next pieces edits ≡ page_of next (output_of pieces edits next) =
+      ap (λ b. cond b (page_of next (output_of pieces edits next)) (old_page next pieces)) e in
       inr (subst (IsEditFault next pieces edits) (sym long.0)
       (too_long apart (subst (λ (p : Page). 16777216 < length p.bytes) (sym after) long.1)))
 

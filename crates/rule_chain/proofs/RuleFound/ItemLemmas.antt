@@ -1,5 +1,6 @@
 -- What the jobs find in all items, under one environment.
-use Rattle.std.proofs.Common.{◌≡◌, ◌<◌, ◌≤◌, ◌+◌, ℕ, zero, suc, nat_lt, Bool, true, false, ◌||◌, refl, sym, ap, ap₂, ◌∙◌, subst, arith, Bor, Option, None, Some, List, [], ◌∷◌, ◌++◌, length, map}
+use Rattle.std.proofs.Common.{◌≡◌, ◌<◌, ◌≤◌, ◌+◌, ℕ, zero, suc, nat_lt, Bool, true, false, ◌||◌, refl, sym, ap, ap₂, ◌∙◌, subst}
+use Rattle.std.proofs.Common.{arith, Bor, Option, None, Some, List, [], ◌∷◌, ◌++◌, length, map}
 use Rattle.std.specs.Prelude.{slice_get}
 use Rattle.std.specs.List.{flat_map}
 use Rattle.std.proofs.lemmas.List.{map-append}
@@ -154,4 +155,5 @@ module _ (number : ℕ) (rule : Rule) (f : FormulaOf) (is : IsFormulaOf rule f) 
           let lt : job < length items = omega (arith, first.before, all, lent.count) in
           let zero_more : 0 + job ≡ job = omega arith in
           one_from number rule (bare_env env) 0 items job lt
-          (ap (λ (n : ℕ). is_large number rule n (item_graph (slice_get items job)) (bare_env env)) zero_more ∙ sym (large_is job lt) ∙ by_large job (lent_graph graphs job) (subst (λ ws. 1000000 < nodes_of ws) (own job) (first.fails refl)))
+          (ap (λ (n : ℕ). is_large number rule n (item_graph (slice_get items job)) (bare_env env)) zero_more
+          ∙ sym (large_is job lt) ∙ by_large job (lent_graph graphs job) (subst (λ ws. 1000000 < nodes_of ws) (own job) (first.fails refl)))

@@ -1,5 +1,6 @@
 -- Nothing is found in an item that lacks a word which the rule's formula needs.
-use Rattle.std.proofs.Common.{◌≡◌, ◌<◌, ◌+◌, ◌^◌, ℕ, zero, suc, Bool, true, false, not, refl, sym, ap, ap₂, ◌∙◌, arith, Option, None, Some, IfSome, List, [], ◌∷◌, ◌++◌, map}
+use Rattle.std.proofs.Common.{◌≡◌, ◌<◌, ◌+◌, ◌^◌, ℕ, zero, suc, Bool, true, false, not, refl, sym, ap, ap₂, ◌∙◌, arith, Option}
+use Rattle.std.proofs.Common.{None, Some, IfSome, List, [], ◌∷◌, ◌++◌, map}
 use Rattle.std.specs.List.{filter, flat_map}
 use Rattle.std.proofs.lemmas.List.Concat.{flat_map-append}
 use Rattle.c_terms.specs.declared.tree.Tree.{Tree}
@@ -24,8 +25,8 @@ use Rattle.wit_forest.specs.WitTrees.Forest.{numbers}
 use Rattle.wit_forest.specs.WitTrees.Rules.{witness_at, choices, in_order}
 use Rattle.env_parts.specs.Parts.{Pairs}
 use Rattle.c_file.specs.ItemGraphs.Trees.{item_tree}
-use Rattle.ctl_fixpoint.specs.NeedWords.Words.{needs, has_word, has_words}
-use Rattle.ctl_fixpoint.proofs.NeedWords.HoldWords.{holds_no}
+use Rattle.ctl_fixpoint.specs.RequiredWords.Words.{needs, has_word, has_words}
+use Rattle.ctl_fixpoint.proofs.RequiredWords.HoldWords.{holds_no}
 use Rattle.rule_chain.specs.RuleFound.Found.{witnesses_in}
 use Rattle.rule_chain.specs.RuleFound.Lacking.{AreNeeded, misses}
 

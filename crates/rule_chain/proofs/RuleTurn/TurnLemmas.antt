@@ -14,7 +14,7 @@ use Rattle.env_parts.specs.Parts.{Pairs, is_among, restricted, same_env, with_ne
 use Rattle.cpp_lines.specs.declared.reading.Item.{Item}
 use Rattle.smpl_patch.specs.declared.rule.Dep.{Dep}
 use Rattle.smpl_patch.specs.declared.rule.Rule.{Rule}
-use Rattle.rule_envs.specs.declared.carrier.Carrier.{Carrier}
+use Rattle.rule_envs.specs.declared.carrier.FileEnv.{FileEnv}
 use Rattle.rule_envs.specs.Inherited.{inherited_of}
 use Rattle.rule_envs.specs.Shares.{takes_part, share, projections, StandsAt, bare_carrier}
 use Rattle.rule_envs.specs.Carriers.{AreBrought}
@@ -65,8 +65,8 @@ module _ (P : Pairs → Type 0) where
   one_kept None rest is h = h
   one_kept (Some env) rest is h = All-cons P env rest (is env refl) h
 
-  shares_kept : (f : Carrier → Option Pairs) → ((c : Carrier) (env : Pairs) → f c ≡ Some env → P env)
-      → (cs : List Carrier) → All P (filter_map f cs)
+  shares_kept : (f : FileEnv → Option Pairs) → ((c : FileEnv) (env : Pairs) → f c ≡ Some env → P env)
+      → (cs : List FileEnv) → All P (filter_map f cs)
   shares_kept f each [] = All-nil P
   shares_kept f each (c ∷ cs) = one_kept (f c) (filter_map f cs) (each c) (shares_kept f each cs)
 
@@ -74,7 +74,7 @@ share_is : (b : Bool) (part env : Pairs) → cond b (Some part) None ≡ Some en
 share_is true part env h = ap (λ (o : Option Pairs). unwrap_or o part) h
 share_is false part env h = absurd cc
 
-pub all_new : (defined : List (List ℕ)) (had : List ℕ) (depends : Dep) (inherited exports : List Var) → AreApart exports inherited → (cs : List Carrier)
+pub all_new : (defined : List (List ℕ)) (had : List ℕ) (depends : Dep) (inherited exports : List Var) → AreApart exports inherited → (cs : List FileEnv)
     → All (AreNew exports) (projections defined had depends inherited cs)
 all_new defined had depends inherited exports apart cs =
     after_kept (AreNew exports) [] (filter_map (share defined had depends inherited) cs) (All-nil (AreNew exports))
@@ -92,7 +92,7 @@ same_length P (o ∷ os) (p ∷ ps) h = ap suc (same_length P os ps h.1)
 
 -- ---- what `projections` gives, as it is passed on
 
-module _ (defined : List (List ℕ)) (had : List ℕ) (number : ℕ) (rule : Rule) (items : List Item) (cs : List Carrier)
+module _ (defined : List (List ℕ)) (had : List ℕ) (number : ℕ) (rule : Rule) (items : List Item) (cs : List FileEnv)
     (inherited : List Var) (is_inherited : inherited ≡ inherited_of rule) (made envs : List Pairs) (same_envs : envs ≡ made)
     (is_made : made ≡ projections defined had rule.depends inherited cs) where
   pub run_under : map bare_env envs ≡ rule_projections defined had number rule items (map bare_carrier cs)

@@ -1,5 +1,6 @@
 -- Environments that are given values one variable after another contain each choice under which the set has them.
-use Rattle.std.proofs.Common.{◌≡◌, ℕ, suc, zero, ◌+◌, ◌-◌, ◌<◌, ◌≤◌, inl, inr, Bool, true, false, ◌||◌, cond, None, refl, sym, ap, ◌∙◌, subst, arith, List, [], ◌∷◌, ◌++◌, map, append_assoc, length, get_or, take, drop}
+use Rattle.std.proofs.Common.{◌≡◌, ℕ, suc, zero, ◌+◌, ◌-◌, ◌<◌, ◌≤◌, inl, inr, Bool, true, false, ◌||◌, cond, None, refl, sym}
+use Rattle.std.proofs.Common.{ap, ◌∙◌, subst, arith, List, [], ◌∷◌, ◌++◌, map, append_assoc, length, get_or, take, drop}
 use Rattle.std.specs.List.{All, filter, flat_map, list_all}
 use Rattle.std.proofs.lemmas.Bool.{cases_lt}
 use Rattle.std.proofs.lemmas.List.{append-nil, drop_more, drop_all, take_more, get_or_append_left, get_or_push, get_or_read}
@@ -188,10 +189,11 @@ pub open_step : (set : Entries) (xs : List Var) (sets : List Entries) (next : En
     → x ≡ get_or xs (length xs - 1 - i) x → length sets ≡ i + 1
     → ((k : ℕ) → k ≤ i → IsOpen set (drop (length xs - k) xs) (get_or sets k [])) → IsProjection x (get_or sets i []) next
     → (k : ℕ) → k ≤ i + 1 → IsOpen set (drop (length xs - k) xs) (get_or (sets ++ next ∷ []) k [])
-open_step set xs sets next i x lt is len each p k le = elim (cases_lt k (i + 1)) as (λ _. IsOpen set (drop (length xs - k) xs) (get_or (sets ++ next ∷ []) k [])) [
-  | inl low ↦ subst (IsOpen set (drop (length xs - k) xs)) (sym (get_or_append_left sets (next ∷ []) [] k (omega arith))) (each k (omega arith))
-  | inr high ↦ last high
-]
+open_step set xs sets next i x lt is len each p k le =
+    elim (cases_lt k (i + 1)) as (λ _. IsOpen set (drop (length xs - k) xs) (get_or (sets ++ next ∷ []) k [])) [
+      | inl low ↦ subst (IsOpen set (drop (length xs - k) xs)) (sym (get_or_append_left sets (next ∷ []) [] k (omega arith))) (each k (omega arith))
+      | inr high ↦ last high
+    ]
   where
     place : length xs - 1 - i ≡ length xs - (i + 1)
     place = omega arith

@@ -23,7 +23,7 @@ use Rattle.ctl_fixpoint.specs.CtlHolds.Values.{values_of, is_among}
 use Rattle.ctl_fixpoint.proofs.CtlHolds.BoundLemmas.{bound_values}
 use Rattle.ctl_fixpoint.proofs.CtlHolds.HoldLemmas.{holds_decides}
 use Rattle.ctl_fixpoint.proofs.CtlHolds.TestLemmas.{same_bool}
-use Rattle.ctl_formula.specs.Plain.{Plain, True, Atom, Bail, BraceOpen, BraceClose, Inside, Outside, Not, And, Or, AX, EX, AU, EU, Past, Down, Exists}
+use Rattle.ctl_formula.specs.Plain.{Plain, True, Atom, EarlyExit, BraceOpen, BraceClose, Inside, Outside, Not, And, Or, AX, EX, AU, EU, After, InBranch, Exists}
 use Rattle.ctl_fixpoint.specs.States.{AreStateSets}
 use Rattle.wit_forest.specs.WitOrder.Same.{same_forest}
 use Rattle.wit_forest.specs.WitOrder.Sizes.{forest_size}
@@ -138,7 +138,8 @@ module _ (f : FormulaOf) (g : Flow) (rule item s : ℕ) where
   node_more ws now next es i e lt is h k =
       let more : take (i + 1) es ≡ take i es ++ e ∷ [] = take_more es i e lt ∙ ap (λ d. take i es ++ d ∷ []) (sym is) in
       k ∙ bare-append now (ws ++ map W (take i es)) (W e ∷ []) h
-      ∙ ap (map bare_witness) (append_assoc ws (map W (take i es)) (W e ∷ []) ∙ ap (λ l. ws ++ l) (sym (map-append W (take i es) (e ∷ [])) ∙ ap (map W) (sym more)))
+      ∙ ap (map bare_witness) (append_assoc ws (map W (take i es)) (W e ∷ [])
+      ∙ ap (λ l. ws ++ l) (sym (map-append W (take i es) (e ∷ [])) ∙ ap (map W) (sym more)))
 
   -- the witnesses at the node
   pub node_all : (exports : List Var) (set : Entries) (env : Pairs) (es : List Pairs)
@@ -204,7 +205,7 @@ module _ (at_node : ℕ → List RuleWitness) (nodes : List ℕ) where
 part_itself : (f : Plain) → IsPart f f
 part_itself True = refl
 part_itself (Atom p) = refl
-part_itself Bail = refl
+part_itself EarlyExit = refl
 part_itself (BraceOpen p b) = refl
 part_itself (BraceClose p b) = refl
 part_itself (Inside b) = refl
@@ -216,8 +217,8 @@ part_itself (AX f) = inl refl
 part_itself (EX f) = inl refl
 part_itself (AU f h) = inl refl
 part_itself (EU f h) = inl refl
-part_itself (Past f) = inl refl
-part_itself (Down i f) = inl refl
+part_itself (After f) = inl refl
+part_itself (InBranch i f) = inl refl
 part_itself (Exists x f) = inl refl
 
 module _ (g : Flow) (f : FormulaOf) (rows : List (List Entries)) (ok : IsSound g) (sets : AreStateSets g f rows)

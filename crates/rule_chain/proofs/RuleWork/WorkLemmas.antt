@@ -10,7 +10,7 @@ use Rattle.edit_marks.specs.declared.edit_conflict.edit.Edit.{Edit}
 use Rattle.edit_marks.specs.EditWalk.Edited.{AreEdits}
 use Rattle.rule_chain.proofs.EditLaws.BareEdits.{edits_with}
 use Rattle.rule_chain.specs.RuleWitnesses.Bare.{bare_witness}
-use Rattle.rule_envs.specs.declared.carrier.Carrier.{Carrier}
+use Rattle.rule_envs.specs.declared.carrier.FileEnv.{FileEnv}
 use Rattle.rule_envs.specs.Shares.{bare_carrier}
 use Rattle.rule_envs.specs.Carriers.{most_environments}
 use Rattle.rule_chain.specs.declared.rule_turn.fault.TurnFault.{TurnFault}
@@ -22,7 +22,7 @@ use Rattle.rule_chain.specs.declared.rule_edits.texts.NewText.{NewText}
 use Rattle.rule_chain.specs.RuleEdits.Kinds.{kinds_of}
 use Rattle.rule_chain.specs.RuleEdits.Pages.{Page, IsNew}
 use Rattle.rule_chain.specs.RuleEdits.Faults.{AreFine, IsEditFault, Leaves}
-use Rattle.rule_chain.specs.declared.rule_work.state.Findings.{Findings}
+use Rattle.rule_chain.specs.declared.rule_work.state.FileState.{FileState}
 use Rattle.rule_chain.specs.declared.rule_work.fault.FileFault.{FileFault}
 use Rattle.rule_chain.specs.declared.rule_work.fault.FileFault.TheVariants.{NoMemory}
 use Rattle.rule_chain.specs.RuleWork.States.{Chained}
@@ -39,13 +39,13 @@ had-bare had number (w ∷ ws) = refl
 
 -- ---- one rule, from findings with ids, as they are passed on
 
-module _ (defined : List (List ℕ)) (number : ℕ) (rule : Rule) (file : FileItems) (next : ℕ) (f : Findings)
-    (had : List ℕ) (items : List Item) (carriers : List Carrier)
+module _ (defined : List (List ℕ)) (number : ℕ) (rule : Rule) (file : FileItems) (next : ℕ) (f : FileState)
+    (had : List ℕ) (items : List Item) (carriers : List FileEnv)
     (same_had : had ≡ f.had) (same_items : items ≡ file.items) (same_carriers : carriers ≡ f.carriers) where
   abbrev pub found_here : List RuleWitness
   found_here = turn_found defined had number rule items (map bare_carrier carriers)
 
-  abbrev pub carriers_here : List Carrier
+  abbrev pub carriers_here : List FileEnv
   carriers_here = turn_carriers defined had number rule items (map bare_carrier carriers)
 
   abbrev pub too_much_here : Bool
@@ -73,7 +73,7 @@ module _ (defined : List (List ℕ)) (number : ℕ) (rule : Rule) (file : FileIt
     next_as : s.page.next ≡ next
     next_as = ap (λ (p : Page). p.next) reading.page
 
-    are_few : (cs : List Carrier) → too_much_here ≡ false → map bare_carrier cs ≡ carriers_here → length cs ≤ most_environments
+    are_few : (cs : List FileEnv) → too_much_here ≡ false → map bare_carrier cs ≡ carriers_here → length cs ≤ most_environments
         → AreFew defined number rule s
     are_few cs few is most =
         let e : length (rule_carriers defined number rule s) ≡ length cs = ap length (carriers_as ∙ sym is) ∙ length-map cs bare_carrier in
@@ -87,7 +87,7 @@ module _ (defined : List (List ℕ)) (number : ℕ) (rule : Rule) (file : FileIt
         (edits_with rule file.items (kinds_of file.items) file.pieces passed edits are)
 
   -- what is left
-  pub rule_works : (ws passed : List RuleWitness) (cs : List Carrier) (left : Findings) (text : Option NewText)
+  pub rule_works : (ws passed : List RuleWitness) (cs : List FileEnv) (left : FileState) (text : Option NewText)
       → too_much_here ≡ false → map bare_witness ws ≡ found_here → map bare_carrier cs ≡ carriers_here → length cs ≤ most_environments → passed ≡ ws
       → ((edits : List Edit) × (AreEdits passed rule file.items (kinds_of file.items) file.pieces edits × Leaves next file.pieces edits text))
       → left.carriers ≡ cs → left.had ≡ had_after f.had number ws → left.found ≡ f.found ++ ws
@@ -109,7 +109,7 @@ module _ (defined : List (List ℕ)) (number : ℕ) (rule : Rule) (file : FileIt
   }
 
   -- the faults of its edits
-  pub edits_stop : (ws passed : List RuleWitness) (cs : List Carrier) (fault : EditFault) (told : FileFault) → told ≡ edit_fault number fault
+  pub edits_stop : (ws passed : List RuleWitness) (cs : List FileEnv) (fault : EditFault) (told : FileFault) → told ≡ edit_fault number fault
       → too_much_here ≡ false → map bare_witness ws ≡ found_here → map bare_carrier cs ≡ carriers_here → length cs ≤ most_environments → passed ≡ ws
       → (fault ≡ edit_faults.NoMemory) ⊎ ((edits : List Edit)
       × (AreEdits passed rule file.items (kinds_of file.items) file.pieces edits × IsEditFault next file.pieces edits fault))

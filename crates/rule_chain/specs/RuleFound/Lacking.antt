@@ -2,7 +2,7 @@
 use Rattle.std.specs.Prelude.{ℕ, ◌≡◌, Bool, true, false, not, Option, None, Some, List}
 use Rattle.c_terms.specs.declared.tree.Tree.{Tree}
 use Rattle.ctl_formula.specs.Formulas.{FormulaOf, plain}
-use Rattle.ctl_fixpoint.specs.NeedWords.Words.{needs, is_among, has_words}
+use Rattle.ctl_fixpoint.specs.RequiredWords.Words.{needs, is_among, has_words}
 
 -- the formula needs each of these words
 abbrev pub AreNeeded : List (List ℕ) → FormulaOf → Type 0

@@ -5,7 +5,7 @@ use Rattle.smpl_terms.specs.declared.var.Var.{Var}
 use Rattle.smpl_patch.specs.declared.rule.Rule.{Rule}
 use Rattle.smpl_patch.specs.declared.witness.RuleWitness.{RuleWitness}
 use Rattle.env_parts.specs.Parts.{Pairs, is_among}
-use Rattle.rule_envs.specs.declared.carrier.Carrier.{Carrier}
+use Rattle.rule_envs.specs.declared.carrier.FileEnv.{FileEnv}
 use Rattle.rule_envs.specs.Inherited.{inherited_of}
 use Rattle.rule_envs.specs.Shares.{share, projections}
 use Rattle.rule_envs.specs.Carriers as envs
@@ -23,8 +23,8 @@ AreApart [] inherited = Unit {0}
 AreApart (x ∷ xs) inherited = (is_among inherited x ≡ false) × (is_among xs x ≡ false) × AreApart xs inherited
 
 -- given the names that are defined, the rules that have had a witness, the items and the environments without ids
-module _ (defined : List (List ℕ)) (had : List ℕ) (number : ℕ) (rule : Rule) (items : List Item) (carriers : List Carrier) where
-  abbrev pub rule_share : Carrier → Option Pairs
+module _ (defined : List (List ℕ)) (had : List ℕ) (number : ℕ) (rule : Rule) (items : List Item) (carriers : List FileEnv) where
+  abbrev pub rule_share : FileEnv → Option Pairs
   rule_share = share defined had rule.depends (inherited_of rule)
 
   abbrev pub rule_projections : List Pairs
@@ -38,7 +38,7 @@ module _ (defined : List (List ℕ)) (had : List ℕ) (number : ℕ) (rule : Rul
   has_too_many = found.has_too_many number rule items rule_projections
 
   -- the environments after it
-  abbrev pub turn_carriers : List Carrier
+  abbrev pub turn_carriers : List FileEnv
   turn_carriers = envs.next_carriers number rule_share (found.brings number rule items) carriers
 
 -- the faults of finding witnesses, and of the environments after them, as those of the rule

@@ -4,7 +4,7 @@ use Rattle.smpl_patch.specs.declared.rule.Rule.{Rule}
 use Rattle.smpl_patch.specs.declared.witness.RuleWitness.{RuleWitness}
 use Rattle.edit_marks.specs.declared.edit_conflict.edit.Edit.{Edit}
 use Rattle.edit_marks.specs.EditWalk.Edited.{AreEdits}
-use Rattle.rule_envs.specs.declared.carrier.Carrier.{Carrier}
+use Rattle.rule_envs.specs.declared.carrier.FileEnv.{FileEnv}
 use Rattle.rule_envs.specs.Carriers.{most_environments}
 use Rattle.rule_chain.specs.declared.rule_edits.fault.EditFault.{EditFault}
 use Rattle.rule_chain.specs.declared.rule_edits.fault.EditFault.TheVariants as edit
@@ -45,7 +45,7 @@ module _ (defined : List (List ℕ)) (number : ℕ) (rule : Rule) (s : Chained) 
   abbrev pub rule_found : List RuleWitness
   rule_found = turn_found defined s.had number rule s.items s.carriers
 
-  abbrev pub rule_carriers : List Carrier
+  abbrev pub rule_carriers : List FileEnv
   rule_carriers = turn_carriers defined s.had number rule s.items s.carriers
 
   abbrev pub is_too_much : Bool

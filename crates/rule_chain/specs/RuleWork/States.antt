@@ -7,7 +7,7 @@ use Rattle.c_file.specs.Reads.{Reads}
 use Rattle.cpp_lines.specs.declared.reading.Item.{Item}
 use Rattle.cpp_lines.specs.declared.reading.Item.TheVariants.{Parsed, Skipped}
 use Rattle.smpl_patch.specs.declared.witness.RuleWitness.{RuleWitness}
-use Rattle.rule_envs.specs.declared.carrier.Carrier.{Carrier}
+use Rattle.rule_envs.specs.declared.carrier.FileEnv.{FileEnv}
 use Rattle.rule_envs.specs.Carriers.{first_carriers}
 use Rattle.rule_chain.specs.RuleEdits.Pages.{Page}
 use Rattle.rule_chain.specs.declared.rule_work.state.SkipNote.{SkipNote}
@@ -19,7 +19,7 @@ pub record Chained : Type 0 where
   pub reading : ℕ
   pub pieces : List TextPiece
   pub items : List Item
-  pub carriers : List Carrier
+  pub carriers : List FileEnv
   -- the rules that have had a witness
   pub had : List ℕ
   pub found : List RuleWitness

@@ -4,22 +4,22 @@ use Rattle.c_file.specs.File.{FileItems}
 use Rattle.edit_marks.specs.declared.edit_conflict.edit.Edit.{Edit}
 use Rattle.smpl_patch.specs.declared.rule.Rule.{Rule}
 use Rattle.rule_chain.specs.RuleWitnesses.Bare.{bare_witness}
-use Rattle.rule_envs.specs.declared.carrier.Carrier.{Carrier}
+use Rattle.rule_envs.specs.declared.carrier.FileEnv.{FileEnv}
 use Rattle.rule_envs.specs.Shares.{bare_carrier}
 use Rattle.rule_chain.specs.declared.rule_edits.texts.NewText.{NewText}
 use Rattle.rule_chain.specs.RuleEdits.Pages.{old_page, IsNew}
 use Rattle.rule_chain.specs.RuleEdits.Faults.{AreFine}
-use Rattle.rule_chain.specs.declared.rule_work.state.Findings.{Findings}
+use Rattle.rule_chain.specs.declared.rule_work.state.FileState.{FileState}
 use Rattle.rule_chain.specs.RuleWork.States.{Chained}
 use Rattle.rule_chain.specs.RuleWork.OneRule.{AreFew, RuleEdits, worked}
 
 -- the state has these rules with a witness and these environments, which the code keeps with ids
-pub record IsSeenAs (had : List ℕ) (carriers : List Carrier) (s : Chained) : Type 0 where
+pub record IsSeenAs (had : List ℕ) (carriers : List FileEnv) (s : Chained) : Type 0 where
   pub had_is : s.had ≡ had
   pub carriers_is : s.carriers ≡ map bare_carrier carriers
 
 -- the findings with the ids of terms are those of the state
-pub record AreFindingsOf (f : Findings) (s : Chained) : Type 0 where
+pub record AreFindingsOf (f : FileState) (s : Chained) : Type 0 where
   pub seen : IsSeenAs f.had f.carriers s
   pub found_is : s.found ≡ map bare_witness f.found
 
@@ -30,7 +30,7 @@ pub record IsAtReading (file : FileItems) (next : ℕ) (s : Chained) : Type 0 wh
   pub items : s.items ≡ file.items
 
 -- Starting from this state, the rule meets no fault and leaves these findings and this text.
-pub record Works (defined : List (List ℕ)) (number : ℕ) (rule : Rule) (s : Chained) (findings : Findings) (text : Option NewText) : Type 0 where
+pub record Works (defined : List (List ℕ)) (number : ℕ) (rule : Rule) (s : Chained) (findings : FileState) (text : Option NewText) : Type 0 where
   pub edits : List Edit
   pub few : AreFew defined number rule s
   pub are : RuleEdits defined number rule s edits

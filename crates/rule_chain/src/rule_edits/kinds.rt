@@ -1,7 +1,7 @@
 // The kinds of the nodes of a file's graphs.
 ghost use Rattle.std.specs.Prelude.{◌≡◌, ◌<◌, ◌++◌, ◌∷◌, [], ℕ, IfOk, length, slice_get};
 ghost use Rattle.c_file.specs.ItemGraphs.Made.{IsMade};
-ghost use Rattle.rule_chain.specs.RuleEdits.Kinds as of;
+ghost use Rattle.rule_chain.specs.RuleEdits.Kinds as spec;
 
 use c_file::Graphs;
 use c_terms::NoMemory;
@@ -12,7 +12,7 @@ use std::alloc::Global;
 
 fn kinds_at(alloc: Global, graphs: &mut Graphs<'_>, i: usize) -> Result<Items<NodeKind>, NoMemory>
     requires within { i < length graphs.old.items }
-    ensures kinds { IfOk result (λ kinds. kinds ≡ of.kinds_at graphs.old.items i) }
+    ensures kinds { IfOk result (λ kinds. kinds ≡ spec.kinds_at graphs.old.items i) }
     ensures items { graphs.new.items ≡ graphs.old.items }
     ensures kept { (k : ℕ) → IsMade graphs.old k → IsMade graphs.new k }
 {
@@ -31,7 +31,7 @@ pub fn kinds(
     count: usize,
 ) -> Result<Vec<Items<NodeKind>>, NoMemory>
     requires count { count ≡ length graphs.old.items }
-    ensures kinds { IfOk result (λ kinds. kinds.items ≡ of.kinds_of graphs.old.items) }
+    ensures kinds { IfOk result (λ kinds. kinds.items ≡ spec.kinds_of graphs.old.items) }
     ensures items { graphs.new.items ≡ graphs.old.items }
     ensures kept { (k : ℕ) → IsMade graphs.old k → IsMade graphs.new k }
 {

@@ -11,7 +11,7 @@ ghost use Rattle.edit_marks.specs.EditWalk.Fit.{FitsText};
 ghost use Rattle.edit_marks.specs.Edits.{HaveEvenBlocks};
 ghost use Rattle.c_file.specs.ItemGraphs.Made.{IsMade};
 ghost use Rattle.rule_chain.specs.RuleEdits.Kinds.{kinds_of};
-ghost use Rattle.rule_chain.specs.RuleEdits.Pages as of;
+ghost use Rattle.rule_chain.specs.RuleEdits.Pages as spec;
 ghost use Rattle.rule_chain.specs.RuleEdits.Faults.{Leaves, IsEditFault};
 ghost use Rattle.rule_chain.specs.declared.rule_edits.fault.EditFault.TheVariants as fault;
 
@@ -34,13 +34,13 @@ pub struct NewText {
 }
 
 fn changes(edit: &Edit) -> bool
-    ensures { result ≡ of.changes edit.now }
+    ensures { result ≡ spec.changes edit.now }
 {
     !edit.removed.is_empty() || !edit.inserts.is_empty()
 }
 
 fn is_edited(edits: &[Edit]) -> bool
-    ensures { result ≡ of.is_edited edits.now }
+    ensures { result ≡ spec.is_edited edits.now }
 {
     for edit in edits {
         if changes(edit) {
@@ -52,7 +52,7 @@ fn is_edited(edits: &[Edit]) -> bool
 
 /// Whether the forest of some witness has a tree.
 fn has_tree(found: &[RuleWitness]) -> bool
-    ensures { result ≡ list_any (λ w. not (of.is_empty w.forest)) found.now }
+    ensures { result ≡ list_any (λ w. not (spec.is_empty w.forest)) found.now }
 {
     for witness in found {
         if !witness.forest.is_empty() {
@@ -105,7 +105,7 @@ fn count_new(ids: &[u64], next: u64) -> usize
 
 fn written(alloc: Global, lexed: &Lexed, edits: &EditList, next: u64) -> Result<NewText, EditFault>
     requires fresh { next ≤ 2 ^ 62 }
-    ensures text { IfOk result (λ t. of.page_in t ≡ of.page_of next (output_of lexed.now edits.now next)) }
+    ensures text { IfOk result (λ t. spec.page_in t ≡ spec.page_of next (output_of lexed.now edits.now next)) }
     ensures short { IfOk result (λ t. length t.bytes.items ≤ 16777216) }
     ensures fault { IfErr result (λ f. (f ≡ fault.NoMemory)
         ⊎ ((f ≡ fault.TooLong) × (16777216 < length (text_of (output_of lexed.now edits.now next))))) }

@@ -12,7 +12,7 @@ ghost use Rattle.rule_chain.specs.RuleWitnesses.Bare.{bare_witness};
 ghost use Rattle.rule_chain.specs.RuleWitnesses.Choices.{AreNew};
 ghost use Rattle.rule_chain.specs.RuleWitnesses.Jobs.{BindsExports};
 ghost use Rattle.rule_chain.specs.declared.rule_witnesses.fault.JobFault.TheVariants as fault;
-ghost use Rattle.rule_chain.specs.RuleFound.Found as of;
+ghost use Rattle.rule_chain.specs.RuleFound.Found as spec;
 ghost use Rattle.rule_chain.specs.RuleFound.Lent.{AreLent};
 ghost use Rattle.rule_chain.specs.RuleFound.Lists.{AreFound, AreSmall, IsLargeSomewhere, brought};
 
@@ -71,9 +71,9 @@ fn over_lent<R: Threads + Sync, G: Gate>(
     ensures found { IfOk result (λ lists. (items : List Item) → AreLent rule.now items graphs.now
         → AreFound number rule.now items envs.now lists.items) }
     ensures few { OnOk result ((items : List Item) → AreLent rule.now items graphs.now
-        → AreSmall (of.is_large_under number rule.now items) envs.now) }
+        → AreSmall (spec.is_large_under number rule.now items) envs.now) }
     ensures too_many { result ≡ Err fault.TooMany → (items : List Item) → AreLent rule.now items graphs.now
-        → IsLargeSomewhere (of.is_large_under number rule.now items) envs.now }
+        → IsLargeSomewhere (spec.is_large_under number rule.now items) envs.now }
 {
     let later = envs.len() > 1;
     let first = under_first(
@@ -122,9 +122,9 @@ fn over_items<R: Threads + Sync, G: Gate>(
     requires new { All (AreNew rule.now.exports) envs.now }
     requires count { count ≡ length graphs.old.items }
     ensures found { IfOk result (λ lists. AreFound number rule.now graphs.old.items envs.now lists.items) }
-    ensures few { OnOk result (AreSmall (of.is_large_under number rule.now graphs.old.items) envs.now) }
+    ensures few { OnOk result (AreSmall (spec.is_large_under number rule.now graphs.old.items) envs.now) }
     ensures too_many { result ≡ Err fault.TooMany
-        → IsLargeSomewhere (of.is_large_under number rule.now graphs.old.items) envs.now }
+        → IsLargeSomewhere (spec.is_large_under number rule.now graphs.old.items) envs.now }
     ensures items { graphs.new.items ≡ graphs.old.items }
     ensures kept { (k : ℕ) → IsMade graphs.old k → IsMade graphs.new k }
 {
@@ -203,12 +203,12 @@ pub fn witnesses<R: Threads + Sync, G: Gate>(
     requires new { All (AreNew rule.now.exports) projections.now }
     requires count { count ≡ length graphs.old.items }
     ensures found { IfOk result (λ found. map bare_witness found.witnesses
-        ≡ of.rule_found number rule.now graphs.old.items (map bare_env projections.now)) }
+        ≡ spec.rule_found number rule.now graphs.old.items (map bare_env projections.now)) }
     ensures parts { IfOk result (λ found. map (map bare_env) found.parts
-        ≡ map (of.brings number rule.now graphs.old.items) (map bare_env projections.now)) }
-    ensures few { OnOk result (of.has_too_many number rule.now graphs.old.items (map bare_env projections.now) ≡ false) }
+        ≡ map (spec.brings number rule.now graphs.old.items) (map bare_env projections.now)) }
+    ensures few { OnOk result (spec.has_too_many number rule.now graphs.old.items (map bare_env projections.now) ≡ false) }
     ensures too_many { result ≡ Err fault.TooMany
-        → of.has_too_many number rule.now graphs.old.items (map bare_env projections.now) ≡ true }
+        → spec.has_too_many number rule.now graphs.old.items (map bare_env projections.now) ≡ true }
     ensures items { graphs.new.items ≡ graphs.old.items }
     ensures kept { (k : ℕ) → IsMade graphs.old k → IsMade graphs.new k }
 {

@@ -9,7 +9,7 @@ ghost use Rattle.rule_envs.specs.Carriers.{most_environments};
 ghost use Rattle.rule_envs.specs.RuleFormulas.Prepared.{IsPrepared};
 ghost use Rattle.rule_chain.specs.RuleWitnesses.Bare.{bare_witness};
 ghost use Rattle.rule_chain.specs.RuleWitnesses.Jobs.{BindsExports};
-ghost use Rattle.rule_chain.specs.RuleTurn.Turns as of;
+ghost use Rattle.rule_chain.specs.RuleTurn.Turns as spec;
 ghost use Rattle.rule_chain.specs.declared.rule_turn.fault.TurnFault.TheVariants as fault;
 
 use crate::rule_found::witnesses;
@@ -17,7 +17,7 @@ use crate::rule_turn::fault::TurnFault;
 use c_file::Graphs;
 use c_terms::Text;
 use par_match::Gate;
-use rule_envs::{Carrier, PreparedRule, next_carriers, projections};
+use rule_envs::{FileEnv, PreparedRule, next_carriers, projections};
 use smpl_patch::{Rule, RuleWitness};
 use sqlite_items::Items;
 use std::alloc::Global;
@@ -27,7 +27,7 @@ use std::thread::Threads;
 #[derive(Drop)]
 pub struct Turned {
     pub witnesses: Items<RuleWitness>,
-    pub carriers: Items<Carrier>,
+    pub carriers: Items<FileEnv>,
 }
 
 /// Runs a rule over one reading of a file: chooses what it runs under, finds its witnesses, and replaces the environments.
@@ -51,7 +51,7 @@ pub fn turn<R: Threads + Sync, G: Gate>(
     prepared: &PreparedRule,
     graphs: &mut Graphs<'_>,
     count: usize,
-    carriers: &[Carrier],
+    carriers: &[FileEnv],
     jobs: u32,
     gate: &G,
 ) -> Result<Turned, TurnFault>
@@ -60,21 +60,21 @@ pub fn turn<R: Threads + Sync, G: Gate>(
     requires prepared { IsPrepared rule.now prepared.now }
     requires stand { EachPattern (SureStand prepared.now.formula.decls prepared.now.formula.tokens) (plain prepared.now.formula) }
     requires binds { BindsExports prepared.now.formula rule.now.exports }
-    requires apart { of.AreApart rule.now.exports prepared.now.inherited }
+    requires apart { spec.AreApart rule.now.exports prepared.now.inherited }
     requires count { count ≡ length graphs.old.items }
     ensures found { IfOk result (λ t. map bare_witness t.witnesses
-        ≡ of.turn_found defined.now had.now number rule.now graphs.old.items (map bare_carrier carriers.now)) }
+        ≡ spec.turn_found defined.now had.now number rule.now graphs.old.items (map bare_carrier carriers.now)) }
     ensures carriers { IfOk result (λ t. map bare_carrier t.carriers
-        ≡ of.turn_carriers defined.now had.now number rule.now graphs.old.items (map bare_carrier carriers.now)) }
+        ≡ spec.turn_carriers defined.now had.now number rule.now graphs.old.items (map bare_carrier carriers.now)) }
     ensures few { OnOk result
-        (of.has_too_many defined.now had.now number rule.now graphs.old.items (map bare_carrier carriers.now) ≡ false) }
+        (spec.has_too_many defined.now had.now number rule.now graphs.old.items (map bare_carrier carriers.now) ≡ false) }
     ensures few_environments { IfOk result (λ t. length t.carriers ≤ most_environments) }
     ensures too_many { result ≡ Err fault.TooManyWitnesses
-        → of.has_too_many defined.now had.now number rule.now graphs.old.items (map bare_carrier carriers.now) ≡ true }
+        → spec.has_too_many defined.now had.now number rule.now graphs.old.items (map bare_carrier carriers.now) ≡ true }
     ensures too_many_environments { result ≡ Err fault.TooManyEnvironments
-        → (of.has_too_many defined.now had.now number rule.now graphs.old.items (map bare_carrier carriers.now) ≡ false)
+        → (spec.has_too_many defined.now had.now number rule.now graphs.old.items (map bare_carrier carriers.now) ≡ false)
         × (most_environments < length
-        (of.turn_carriers defined.now had.now number rule.now graphs.old.items (map bare_carrier carriers.now))) }
+        (spec.turn_carriers defined.now had.now number rule.now graphs.old.items (map bare_carrier carriers.now))) }
     ensures items { graphs.new.items ≡ graphs.old.items }
     ensures kept { (k : ℕ) → IsMade graphs.old k → IsMade graphs.new k }
 {

@@ -8,7 +8,7 @@ ghost use Rattle.env_parts.specs.Parts.{Pairs, bare_env};
 ghost use Rattle.env_sets.specs.Rising.{Rise};
 ghost use Rattle.env_sets.specs.Sets.{Entries, set_denotes};
 ghost use Rattle.wit_forest.specs.WitTrees.Rules as rules;
-ghost use Rattle.rule_chain.specs.RuleWitnesses.Choices as of;
+ghost use Rattle.rule_chain.specs.RuleWitnesses.Choices as spec;
 ghost use Rattle.rule_chain.specs.RuleWitnesses.Opened.{AreOpen};
 ghost use Rattle.rule_chain.specs.RuleWitnesses.Extended.{Adds, AreExtended, AreChoices};
 
@@ -80,7 +80,7 @@ fn all_extended(
     vars: &[Var],
     env: &Env,
 ) -> Result<Vec<Env>, NoMemory>
-    requires new { of.AreNew vars.now env.now }
+    requires new { spec.AreNew vars.now env.now }
     requires enough { length vars.now < length sets.now }
     ensures { IfOk result (λ envs. (set : Entries) → AreOpen set vars.now sets.now
         → AreChoices set vars.now (env.now ∷ []) envs.items) }
@@ -110,8 +110,8 @@ fn itself(alloc: Global, set: &EnvSet, env: &Env) -> Result<Vec<Env>, NoMemory>
 /// A set without entries has none. Without variables the set is only asked whether it has the environment itself. For n
 /// variables the set is projected n times, and then traversed once for each environment that is given one more value.
 pub fn choices(alloc: Global, set: &EnvSet, vars: &[Var], env: &Env) -> Result<Vec<Env>, NoMemory>
-    requires new { of.AreNew vars.now env.now }
-    ensures envs { IfOk result (λ envs. (values : List Datum) → of.Leaves values vars.now set.now env.now →
+    requires new { spec.AreNew vars.now env.now }
+    ensures envs { IfOk result (λ envs. (values : List Datum) → spec.Leaves values vars.now set.now env.now →
         map bare_env envs.items ≡ map bare_env
         (filter (λ e. set_denotes set.now (total e)) (rules.choices (rules.in_order values) vars.now env.now))) }
 {

@@ -1,6 +1,6 @@
 // What the rules of a patch leave of a file, apart from its text.
 use cpp_lines::Why;
-use rule_envs::Carrier;
+use rule_envs::FileEnv;
 use smpl_patch::RuleWitness;
 use sqlite_items::Items;
 
@@ -14,8 +14,8 @@ pub struct SkipNote {
 
 /// The environments so far, and what was found.
 #[derive(Drop)]
-pub struct Findings {
-    pub carriers: Items<Carrier>,
+pub struct FileState {
+    pub carriers: Items<FileEnv>,
     /// The rules that have had a witness.
     pub had: Items<u32>,
     pub found: Items<RuleWitness>,

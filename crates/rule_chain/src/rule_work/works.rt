@@ -9,14 +9,14 @@ ghost use Rattle.rule_envs.specs.RuleFormulas.Prepared.{IsPrepared};
 ghost use Rattle.rule_chain.specs.RuleWitnesses.Jobs.{BindsExports};
 ghost use Rattle.rule_chain.specs.RuleTurn.Turns.{AreApart};
 ghost use Rattle.rule_chain.specs.RuleWork.States.{Chained};
-ghost use Rattle.rule_chain.specs.RuleWork.OneRule as of;
+ghost use Rattle.rule_chain.specs.RuleWork.OneRule as spec;
 ghost use Rattle.rule_chain.specs.RuleWork.Worked.{AreFindingsOf, IsAtReading, Works};
 ghost use Rattle.rule_chain.specs.declared.rule_work.fault.FileFault.TheVariants as fault;
 
 use crate::rule_edits::{NewText, edit};
 use crate::rule_turn::{Turned, turn};
 use crate::rule_work::fault::{FileFault, of_edits, of_turn};
-use crate::rule_work::state::Findings;
+use crate::rule_work::state::FileState;
 use c_file::{CFile, Graphs};
 use c_terms::{NoMemory, Text};
 use par_match::Gate;
@@ -29,7 +29,7 @@ use std::thread::Threads;
 /// Returns the rules that have had a witness, after this one.
 #[tactic(auto, using(crate::proofs::RuleWork::HadLemmas::had_none, crate::proofs::RuleWork::HadLemmas::had_some))]
 fn had_after(had: Items<u32>, number: u32, found: &[RuleWitness]) -> Result<Items<u32>, NoMemory>
-    ensures { IfOk result (λ now. now ≡ of.had_after had number found.now) }
+    ensures { IfOk result (λ now. now ≡ spec.had_after had number found.now) }
 {
     if found.is_empty() {
         return Ok(had);
@@ -45,9 +45,9 @@ fn findings_after(
     found: Items<RuleWitness>,
     number: u32,
     turned: Turned,
-) -> Result<Findings, NoMemory>
+) -> Result<FileState, NoMemory>
     ensures carriers { IfOk result (λ f. f.carriers ≡ turned.carriers) }
-    ensures had { IfOk result (λ f. f.had ≡ of.had_after had number turned.witnesses) }
+    ensures had { IfOk result (λ f. f.had ≡ spec.had_after had number turned.witnesses) }
     ensures found { IfOk result (λ f. f.found ≡ found ++ turned.witnesses) }
 {
     let Turned {
@@ -57,7 +57,7 @@ fn findings_after(
     let had = had_after(had, number, witnesses.as_slice())?;
     let mut found = found;
     found.append(witnesses)?;
-    Ok(Findings {
+    Ok(FileState {
         carriers,
         had,
         found,
@@ -67,7 +67,7 @@ fn findings_after(
 /// The findings after a rule, and the new text if one of its edits isn't empty.
 #[derive(Drop)]
 pub struct Worked {
-    pub findings: Findings,
+    pub findings: FileState,
     pub text: Option<NewText>,
 }
 
@@ -98,7 +98,7 @@ pub fn work<R: Threads + Sync, G: Gate>(
     file: &CFile,
     graphs: &mut Graphs<'_>,
     next: u64,
-    findings: Findings,
+    findings: FileState,
     jobs: u32,
     gate: &G,
 ) -> Result<Worked, FileFault>
@@ -114,11 +114,11 @@ pub fn work<R: Threads + Sync, G: Gate>(
     ensures worked { IfOk result (λ w. (s : Chained) → AreFindingsOf findings s → IsAtReading file.now next s
         → Works defined.now number rule.now s w.findings w.text) }
     ensures fault { IfErr result (λ f. (f ≡ fault.NoMemory) ⊎ ((s : Chained) → AreFindingsOf findings s → IsAtReading file.now next s
-        → of.IsFault defined.now number rule.now s f)) }
+        → spec.IsFault defined.now number rule.now s f)) }
     ensures graphs { graphs.new.items ≡ graphs.old.items }
     ensures kept { (k : ℕ) → IsMade graphs.old k → IsMade graphs.new k }
 {
-    let Findings {
+    let FileState {
         carriers,
         had,
         found,

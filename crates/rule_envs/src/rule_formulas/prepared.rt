@@ -1,7 +1,7 @@
 // What is prepared once per patch.
 ghost use Rattle.std.specs.Prelude.{◌≡◌, IfOk, IfErr};
 ghost use Rattle.ctl_translate.specs.Answers.{IsFaultOf};
-ghost use Rattle.rule_envs.specs.RuleFormulas.Prepared as of;
+ghost use Rattle.rule_envs.specs.RuleFormulas.Prepared as spec;
 
 use crate::inherited_of;
 use ctl_formula::Formula;
@@ -25,7 +25,7 @@ pub struct Prepared {
 }
 
 fn prepared_rule(alloc: Global, rule: &Rule) -> Result<PreparedRule, FormulaFault>
-    ensures rule { IfOk result (λ p. of.IsPrepared rule.now p) }
+    ensures rule { IfOk result (λ p. spec.IsPrepared rule.now p) }
     ensures fault { IfErr result (λ fault. IsFaultOf rule.now fault) }
 {
     let formula = formula_of(alloc, rule)?;
@@ -36,8 +36,8 @@ fn prepared_rule(alloc: Global, rule: &Rule) -> Result<PreparedRule, FormulaFaul
 /// Returns what the rules of a patch are run by. Costs one [`formula_of`] per rule. Stops at the first rule whose formula is
 /// too large or may leave a variable without a value; a patch that is read has no such rule.
 pub fn prepare(alloc: Global, patch: &Patch) -> Result<Prepared, FormulaFault>
-    ensures rules { IfOk result (λ p. of.ArePrepared patch.now.rules p.rules) }
-    ensures fault { IfErr result (λ fault. of.IsPrepareFault patch.now.rules fault) }
+    ensures rules { IfOk result (λ p. spec.ArePrepared patch.now.rules p.rules) }
+    ensures fault { IfErr result (λ fault. spec.IsPrepareFault patch.now.rules fault) }
 {
     let mut rules = Items::new(alloc);
     for rule in patch.rules.as_slice() {

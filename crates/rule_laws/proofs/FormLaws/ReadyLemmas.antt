@@ -11,8 +11,8 @@ use Rattle.smpl_patch.specs.declared.pattern.Pattern.{Pattern}
 use Rattle.smpl_patch.specs.declared.rule.Iso.{Iso}
 use Rattle.smpl_patch.specs.declared.rule.Rule.{Rule}
 use Rattle.smpl_patch.specs.Patterns.{sure, stands}
-use Rattle.ctl_formula.specs.Plain.{Plain, True, Atom, Bail, BraceOpen, BraceClose, Inside, Outside, Not, And, Or, AX, EX}
-use Rattle.ctl_formula.specs.Plain.{AU, EU, Past, Down, Exists}
+use Rattle.ctl_formula.specs.Plain.{Plain, True, Atom, EarlyExit, BraceOpen, BraceClose, Inside, Outside, Not, And, Or, AX, EX}
+use Rattle.ctl_formula.specs.Plain.{AU, EU, After, InBranch, Exists}
 use Rattle.ctl_formula.specs.Bounds.{bound}
 use Rattle.ctl_fixpoint.specs.CtlHolds.Parts.{EachPattern}
 use Rattle.ctl_fixpoint.specs.CtlHolds.BoundLaw.{SureStand}
@@ -30,7 +30,7 @@ each-expanded : (isos : List Iso) (tokens : List PatToken) (P : Pattern → Type
     → (f : Plain) → EachPattern P f → EachPattern P (expanded_formula isos tokens f)
 each-expanded isos tokens P g True h = tt
 each-expanded isos tokens P g (Atom p) h = g p h
-each-expanded isos tokens P g Bail h = tt
+each-expanded isos tokens P g EarlyExit h = tt
 each-expanded isos tokens P g (BraceOpen p b) h = g p h
 each-expanded isos tokens P g (BraceClose p b) h = g p h
 each-expanded isos tokens P g (Inside b) h = tt
@@ -42,8 +42,8 @@ each-expanded isos tokens P g (AX f) h = each-expanded isos tokens P g f h
 each-expanded isos tokens P g (EX f) h = each-expanded isos tokens P g f h
 each-expanded isos tokens P g (AU f k) h = (each-expanded isos tokens P g f h.0, each-expanded isos tokens P g k h.1)
 each-expanded isos tokens P g (EU f k) h = (each-expanded isos tokens P g f h.0, each-expanded isos tokens P g k h.1)
-each-expanded isos tokens P g (Past f) h = each-expanded isos tokens P g f h
-each-expanded isos tokens P g (Down i f) h = each-expanded isos tokens P g f h
+each-expanded isos tokens P g (After f) h = each-expanded isos tokens P g f h
+each-expanded isos tokens P g (InBranch i f) h = each-expanded isos tokens P g f h
 each-expanded isos tokens P g (Exists x f) h = each-expanded isos tokens P g f h
 
 all-same : (f g : Var → Bool) → ((x : Var) → f x ≡ g x) → (xs : List Var) → list_all f xs ≡ list_all g xs

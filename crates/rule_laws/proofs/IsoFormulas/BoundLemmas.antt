@@ -6,8 +6,8 @@ use Rattle.smpl_terms.specs.Vars.{same_var}
 use Rattle.smpl_patch.specs.declared.pattern.PatToken.{PatToken}
 use Rattle.smpl_patch.specs.declared.pattern.Pattern.{Pattern}
 use Rattle.smpl_patch.specs.declared.rule.Iso.{Iso}
-use Rattle.ctl_formula.specs.Plain.{Plain, True, Atom, Bail, BraceOpen, BraceClose, Inside, Outside, Not, And, Or, AX}
-use Rattle.ctl_formula.specs.Plain.{EX, AU, EU, Past, Down, Exists}
+use Rattle.ctl_formula.specs.Plain.{Plain, True, Atom, EarlyExit, BraceOpen, BraceClose, Inside, Outside, Not, And, Or, AX}
+use Rattle.ctl_formula.specs.Plain.{EX, AU, EU, After, InBranch, Exists}
 use Rattle.ctl_formula.specs.Plain.{size, depth, most_parts, most_around, fits}
 use Rattle.ctl_formula.specs.Bounds.{Surely, bound, bound_not, guarded_for}
 use Rattle.iso_expand.specs.Bodies.{expanded_pattern}
@@ -26,7 +26,7 @@ module _ (isos : List Iso) (tokens : List PatToken) where
   size-same : (f : Plain) → size (F f) ≡ size f
   size-same True = refl
   size-same (Atom p) = refl
-  size-same Bail = refl
+  size-same EarlyExit = refl
   size-same (BraceOpen p b) = refl
   size-same (BraceClose p b) = refl
   size-same (Inside b) = refl
@@ -38,14 +38,14 @@ module _ (isos : List Iso) (tokens : List PatToken) where
   size-same (EX f) = ap (λ (n : ℕ). 1 + n) (size-same f)
   size-same (AU f g) = ap₂ one-more (size-same f) (size-same g)
   size-same (EU f g) = ap₂ one-more (size-same f) (size-same g)
-  size-same (Past f) = ap (λ (n : ℕ). 1 + n) (size-same f)
-  size-same (Down i f) = ap (λ (n : ℕ). 1 + n) (size-same f)
+  size-same (After f) = ap (λ (n : ℕ). 1 + n) (size-same f)
+  size-same (InBranch i f) = ap (λ (n : ℕ). 1 + n) (size-same f)
   size-same (Exists x f) = ap (λ (n : ℕ). 1 + n) (size-same f)
 
   depth-same : (f : Plain) → depth (F f) ≡ depth f
   depth-same True = refl
   depth-same (Atom p) = refl
-  depth-same Bail = refl
+  depth-same EarlyExit = refl
   depth-same (BraceOpen p b) = refl
   depth-same (BraceClose p b) = refl
   depth-same (Inside b) = refl
@@ -57,8 +57,8 @@ module _ (isos : List Iso) (tokens : List PatToken) where
   depth-same (EX f) = ap (λ (n : ℕ). 1 + n) (depth-same f)
   depth-same (AU f g) = ap₂ deeper (depth-same f) (depth-same g)
   depth-same (EU f g) = ap₂ deeper (depth-same f) (depth-same g)
-  depth-same (Past f) = ap (λ (n : ℕ). 1 + n) (depth-same f)
-  depth-same (Down i f) = ap (λ (n : ℕ). 1 + n) (depth-same f)
+  depth-same (After f) = ap (λ (n : ℕ). 1 + n) (depth-same f)
+  depth-same (InBranch i f) = ap (λ (n : ℕ). 1 + n) (depth-same f)
   depth-same (Exists x f) = ap (λ (n : ℕ). 1 + n) (depth-same f)
 
   pub fits-same : (f : Plain) → fits (F f) ≡ fits f
@@ -69,7 +69,7 @@ module _ (isos : List Iso) (tokens : List PatToken) where
       pub bound-same : (f : Plain) (x : Var) → bound new (F f) x ≡ bound old f x
       bound-same True x = refl
       bound-same (Atom p) x = same p x
-      bound-same Bail x = refl
+      bound-same EarlyExit x = refl
       bound-same (BraceOpen p b) x = ap (λ (z : Bool). z || same_var b x) (same p x)
       bound-same (BraceClose p b) x = ap (λ (z : Bool). z || same_var b x) (same p x)
       bound-same (Inside b) x = refl
@@ -81,14 +81,14 @@ module _ (isos : List Iso) (tokens : List PatToken) where
       bound-same (EX f) x = bound-same f x
       bound-same (AU f g) x = bound-same g x
       bound-same (EU f g) x = bound-same g x
-      bound-same (Past f) x = bound-same f x
-      bound-same (Down i f) x = bound-same f x
+      bound-same (After f) x = bound-same f x
+      bound-same (InBranch i f) x = bound-same f x
       bound-same (Exists y f) x = ap (λ (z : Bool). z && not (same_var y x)) (bound-same f x)
 
       unbound-same : (f : Plain) (x : Var) → bound_not new (F f) x ≡ bound_not old f x
       unbound-same True x = refl
       unbound-same (Atom p) x = refl
-      unbound-same Bail x = refl
+      unbound-same EarlyExit x = refl
       unbound-same (BraceOpen p b) x = refl
       unbound-same (BraceClose p b) x = refl
       unbound-same (Inside b) x = refl
@@ -100,14 +100,14 @@ module _ (isos : List Iso) (tokens : List PatToken) where
       unbound-same (EX f) x = unbound-same f x
       unbound-same (AU f g) x = unbound-same g x
       unbound-same (EU f g) x = unbound-same g x
-      unbound-same (Past f) x = refl
-      unbound-same (Down i f) x = refl
+      unbound-same (After f) x = refl
+      unbound-same (InBranch i f) x = refl
       unbound-same (Exists y f) x = ap (λ (z : Bool). z && not (same_var y x)) (unbound-same f x)
 
     pub guarded-same : (x : Var) (f : Plain) → guarded_for new x (F f) ≡ guarded_for old x f
     guarded-same x True = refl
     guarded-same x (Atom p) = refl
-    guarded-same x Bail = refl
+    guarded-same x EarlyExit = refl
     guarded-same x (BraceOpen p b) = refl
     guarded-same x (BraceClose p b) = refl
     guarded-same x (Inside b) = refl
@@ -119,6 +119,6 @@ module _ (isos : List Iso) (tokens : List PatToken) where
     guarded-same x (EX f) = guarded-same x f
     guarded-same x (AU f g) = ap₂ (λ (y z : Bool). y && z) (guarded-same x f) (guarded-same x g)
     guarded-same x (EU f g) = ap₂ (λ (y z : Bool). y && z) (guarded-same x f) (guarded-same x g)
-    guarded-same x (Past f) = guarded-same x f
-    guarded-same x (Down i f) = guarded-same x f
+    guarded-same x (After f) = guarded-same x f
+    guarded-same x (InBranch i f) = guarded-same x f
     guarded-same x (Exists y f) = ap₂ (λ (b c : Bool). (not (same_var y x) || b) && c) (bound-same f x) (guarded-same x f)

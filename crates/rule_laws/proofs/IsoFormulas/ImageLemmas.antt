@@ -3,9 +3,9 @@ use Rattle.std.proofs.Common.{◌≡◌, ℕ, suc, Bool, true, false, cond, refl
 use Rattle.smpl_terms.specs.declared.var.Var.{Var}
 use Rattle.smpl_patch.specs.declared.pattern.PatToken.{PatToken}
 use Rattle.smpl_patch.specs.declared.rule.Iso.{Iso}
-use Rattle.ctl_formula.specs.Plain.{Plain, Inside, Not, And, Or, EU, Down, Exists}
+use Rattle.ctl_formula.specs.Plain.{Plain, Inside, Not, And, Or, EU, InBranch, Exists}
 use Rattle.ctl_table.specs.Table.{Start, Nothing, Brace, Dots, Other, exists_all, and_all, or_all, all_of, any_of, or_some}
-use Rattle.ctl_table.specs.Table.{option_list, nots, joined, target, stays, until, nested, condition, downs, choices}
+use Rattle.ctl_table.specs.Table.{option_list, nots, joined, target, stays, until, nested, condition, in_branches, choices}
 use Rattle.rule_laws.specs.IsoFormulas.Formulas.{expanded_formula}
 
 pub map-append : {A B : Type 0} (f : A → B) (xs ys : List A) → map f (xs ++ ys) ≡ map f xs ++ map f ys
@@ -87,23 +87,23 @@ module _ (isos : List Iso) (tokens : List PatToken) where
   nested-image forall_walks true strict d p t =
       ap (λ (z : Plain). And z (EU (F d) (And (And (F d) (F p)) (EU (F d) (F t))))) (until-image forall_walks strict (And d (Or p (Not p))) t)
 
-  near-image : (any : Bool) (before after : Option Plain)
+  ends_of-image : (any : Bool) (before after : Option Plain)
       → (if any then [] else nots (expanded_some before) ++ nots (expanded_some after)) ≡ map F (if any then [] else nots before ++ nots after)
-  near-image true before after = refl
-  near-image false before after =
+  ends_of-image true before after = refl
+  ends_of-image false before after =
       ap₂ (λ (fs gs : List Plain). fs ++ gs) (nots-image before) (nots-image after) ∙ sym (map-append F (nots before) (nots after))
 
   pub condition-image : (any : Bool) (whens : List Plain) (before after : Option Plain)
       → condition any (map F whens) (expanded_some before) (expanded_some after) ≡ F (condition any whens before after)
   condition-image any whens before after =
       let others = if any then [] else nots before ++ nots after in
-      ap (λ (bs : List Plain). all_of (map F whens ++ bs)) (near-image any before after)
+      ap (λ (bs : List Plain). all_of (map F whens ++ bs)) (ends_of-image any before after)
       ∙ ap all_of (sym (map-append F whens others))
       ∙ all-image (whens ++ others)
 
-  pub downs-image : (i : ℕ) (fs : List Plain) → downs i (map F fs) ≡ map F (downs i fs)
-  downs-image i [] = refl
-  downs-image i (f ∷ fs) = ap (λ (gs : List Plain). F (Down i f) ∷ gs) (downs-image (suc i) fs)
+  pub in_branches-image : (i : ℕ) (fs : List Plain) → in_branches i (map F fs) ≡ map F (in_branches i fs)
+  in_branches-image i [] = refl
+  in_branches-image i (f ∷ fs) = ap (λ (gs : List Plain). F (InBranch i f) ∷ gs) (in_branches-image (suc i) fs)
 
   pub choices-image : (earlier fs gs : List Plain) → choices (map F earlier) (map F fs) (map F gs) ≡ map F (choices earlier fs gs)
   choices-image earlier [] gs = refl

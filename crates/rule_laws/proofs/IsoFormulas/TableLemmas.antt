@@ -8,20 +8,21 @@ use Rattle.smpl_patch.specs.declared.pattern.Pattern.{Pattern}
 use Rattle.smpl_patch.specs.declared.rule.Iso.{Iso}
 use Rattle.smpl_patch.specs.Bodies.{Element, Compound, Block, Gap, Nest, AnyOf, AllOf, Body, End, Then, Bodies, NoMore, More}
 use Rattle.smpl_patch.specs.Bodies as bodies
-use Rattle.ctl_formula.specs.Plain.{Plain, Atom, BraceOpen, BraceClose, Not, And, Past, Down, Exists}
+use Rattle.ctl_formula.specs.Plain.{Plain, Atom, BraceOpen, BraceClose, Not, And, After, InBranch, Exists}
 use Rattle.pattern_vars.specs.VarPlaces.Placing.{Reading, any_body, occurs_element, occurs_body, at_suffix, is_alone}
 use Rattle.ctl_table.specs.Blocks.{blocks}
 use Rattle.ctl_table.specs.Table.{Setting, Follow, Start, Dots, Other, nothing, start_of, first_of, in_scope}
-use Rattle.ctl_table.specs.Table.{exists_all, and_all, any_of, or_some, option_list, own, copy, hidden, near}
-use Rattle.ctl_table.specs.Table.{near_body, near_each, near_first, near_option, is_end, joined, target, stays, within, until, nested}
-use Rattle.ctl_table.specs.Table.{condition, lone, closing, with_tail, downs, choices, seq, elem, each, first_and, when_parts}
+use Rattle.ctl_table.specs.Table.{exists_all, and_all, any_of, or_some, option_list, own, copy, hidden, ends_of}
+use Rattle.ctl_table.specs.Table.{ends_of_body, ends_of_each, ends_of_first, ends_of_option, is_end, joined, target, stays, within, until, nested}
+use Rattle.ctl_table.specs.Table.{condition, lone, closing, with_tail, in_branches, choices, seq, elem, each, first_and, when_parts}
 use Rattle.ctl_table.specs.Table.{setting, formula}
 use Rattle.iso_expand.specs.Bodies.{expanded_pattern, expanded_option, expanded_element, expanded_body, expanded_bodies}
 use Rattle.rule_laws.specs.IsoFormulas.Formulas.{expanded_formula}
 use Rattle.rule_laws.proofs.IsoFormulas.PlacingLemmas.{filter-same, dots-same, blocks-same, Agree}
 use Rattle.rule_laws.proofs.IsoFormulas.PlacingLemmas as placing
 use Rattle.rule_laws.proofs.IsoFormulas.ImageLemmas.{map-append, expanded_some, exists-image, and-image, any-image, some-image, list-image, choice-image}
-use Rattle.rule_laws.proofs.IsoFormulas.ImageLemmas.{joined-image, target-image, firsts-image, until-image, nested-image, condition-image, downs-image, choices-image}
+use Rattle.rule_laws.proofs.IsoFormulas.ImageLemmas.{joined-image, target-image, firsts-image, until-image, nested-image}
+use Rattle.rule_laws.proofs.IsoFormulas.ImageLemmas.{condition-image, in_branches-image, choices-image}
 
 module _ (isos : List Iso) (tokens : List PatToken) where
   abbrev X : Pattern → Pattern
@@ -102,42 +103,42 @@ module _ (isos : List Iso) (tokens : List PatToken) where
         ∙ exists-image isos tokens (filter (λ x. m.reading.stands p x && not (in_scope s x)) m.locals) (Atom p)
 
     mutual
-      near-same : (last : Bool) (e : Element) (s : List Var) → near n last (XE e) s ≡ FO (near m last e s)
-      near-same last (bodies.Atom p) s =
+      ends_of-same : (last : Bool) (e : Element) (s : List Var) → ends_of n last (XE e) s ≡ FO (ends_of m last e s)
+      ends_of-same last (bodies.Atom p) s =
           ap₂ (λ (b : Bool) (f : Plain). cond b None (Some f)) (agree.statement p) (copy-image p s)
           ∙ choice-image isos tokens (m.reading.is_statement p) None (Some (copy m p s))
-      near-same last (Compound h bs t) s = ap Some (copy-image h s)
-      near-same last (Block o b c) s = refl
-      near-same last (Gap ws any strict) s = refl
-      near-same last (Nest plus b ws any strict) s = refl
-      near-same last (AnyOf bs) s = ap or_some (near-each last bs s) ∙ some-image isos tokens (near_each m last bs s)
-      near-same last (AllOf bs) s = near-first last bs s
+      ends_of-same last (Compound h bs t) s = ap Some (copy-image h s)
+      ends_of-same last (Block o b c) s = refl
+      ends_of-same last (Gap ws any strict) s = refl
+      ends_of-same last (Nest plus b ws any strict) s = refl
+      ends_of-same last (AnyOf bs) s = ap or_some (ends_of-each last bs s) ∙ some-image isos tokens (ends_of_each m last bs s)
+      ends_of-same last (AllOf bs) s = ends_of-first last bs s
 
-      near-body : (last : Bool) (b : Body) (s : List Var) → near_body n last (XB b) s ≡ FO (near_body m last b s)
-      near-body last End s = refl
-      near-body last (Then e rest) s =
-          ap (λ (b : Bool). cond (last && not b) (near_body n last (XB rest) s) (near n last (XE e) s)) (end-same rest)
-          ∙ ap₂ (λ (o p : Option Plain). cond (last && not (is_end rest)) o p) (near-body last rest s) (near-same last e s)
-          ∙ choice-image isos tokens (last && not (is_end rest)) (near_body m last rest s) (near m last e s)
+      ends_of-body : (last : Bool) (b : Body) (s : List Var) → ends_of_body n last (XB b) s ≡ FO (ends_of_body m last b s)
+      ends_of-body last End s = refl
+      ends_of-body last (Then e rest) s =
+          ap (λ (b : Bool). cond (last && not b) (ends_of_body n last (XB rest) s) (ends_of n last (XE e) s)) (end-same rest)
+          ∙ ap₂ (λ (o p : Option Plain). cond (last && not (is_end rest)) o p) (ends_of-body last rest s) (ends_of-same last e s)
+          ∙ choice-image isos tokens (last && not (is_end rest)) (ends_of_body m last rest s) (ends_of m last e s)
 
-      near-each : (last : Bool) (bs : Bodies) (s : List Var) → near_each n last (XS bs) s ≡ map F (near_each m last bs s)
-      near-each last NoMore s = refl
-      near-each last (More b bs) s =
-          ap₂ (λ (fs gs : List Plain). fs ++ gs) (ap option_list (near-body last b s) ∙ list-image isos tokens (near_body m last b s))
-          (near-each last bs s)
-          ∙ sym (map-append F (option_list (near_body m last b s)) (near_each m last bs s))
+      ends_of-each : (last : Bool) (bs : Bodies) (s : List Var) → ends_of_each n last (XS bs) s ≡ map F (ends_of_each m last bs s)
+      ends_of-each last NoMore s = refl
+      ends_of-each last (More b bs) s =
+          ap₂ (λ (fs gs : List Plain). fs ++ gs) (ap option_list (ends_of-body last b s) ∙ list-image isos tokens (ends_of_body m last b s))
+          (ends_of-each last bs s)
+          ∙ sym (map-append F (option_list (ends_of_body m last b s)) (ends_of_each m last bs s))
 
-      near-first : (last : Bool) (bs : Bodies) (s : List Var) → near_first n last (XS bs) s ≡ FO (near_first m last bs s)
-      near-first last NoMore s = refl
-      near-first last (More b bs) s = near-body last b s
+      ends_of-first : (last : Bool) (bs : Bodies) (s : List Var) → ends_of_first n last (XS bs) s ≡ FO (ends_of_first m last bs s)
+      ends_of-first last NoMore s = refl
+      ends_of-first last (More b bs) s = ends_of-body last b s
 
-    near-option : (last : Bool) (o : Option Element) (s : List Var) → near_option n last (XO o) s ≡ FO (near_option m last o s)
-    near-option last None s = refl
-    near-option last (Some e) s = near-same last e s
+    ends_of-option : (last : Bool) (o : Option Element) (s : List Var) → ends_of_option n last (XO o) s ≡ FO (ends_of_option m last o s)
+    ends_of-option last None s = refl
+    ends_of-option last (Some e) s = ends_of-same last e s
 
     tail-image : (w : List Var) (t : Option Pattern) (f : Plain) → with_tail n w (expanded_option isos tokens t) (F f) ≡ F (with_tail m w t f)
     tail-image w None f = refl
-    tail-image w (Some p) f = ap (λ (g : Plain). And (F f) (Down 1 g)) (own-image w p (Atom p))
+    tail-image w (Some p) f = ap (λ (g : Plain). And (F f) (InBranch 1 g)) (own-image w p (Atom p))
 
     lone-same : (w : Body) → lone n (XB w) ≡ lone m w
     lone-same w =
@@ -218,37 +219,38 @@ module _ (isos : List Iso) (tokens : List PatToken) where
     elem-image m read agree before after (Compound p bs tail) k l w s t h g =
         let head = own m w p (Atom p) in
         let parts = each m bs nothing w s in
-        ap₂ (λ (f q : Plain). And f (Past q))
+        ap₂ (λ (f q : Plain). And f (After q))
         (ap (with_tail (reread read m) w (expanded_option isos tokens tail))
-        (ap₂ (λ (f : Plain) (fs : List Plain). and_all f (downs 0 fs)) (own-image m read agree w p (Atom p))
+        (ap₂ (λ (f : Plain) (fs : List Plain). and_all f (in_branches 0 fs)) (own-image m read agree w p (Atom p))
         (each-image m read agree bs nothing nothing w s refl (λ u. refl))
-        ∙ ap (and_all (F head)) (downs-image isos tokens 0 parts)
-        ∙ and-image isos tokens head (downs 0 parts))
-        ∙ tail-image m read agree w tail (and_all head (downs 0 parts)))
+        ∙ ap (and_all (F head)) (in_branches-image isos tokens 0 parts)
+        ∙ and-image isos tokens head (in_branches 0 parts))
+        ∙ tail-image m read agree w tail (and_all head (in_branches 0 parts)))
         (g s)
     elem-image m read agree before after (Block p b c) k l w s t h g =
         let v = hidden m p in
         let part = filter (occurs_body m.reading b) w in
-        ap₂ (λ (f q : Plain). And f (Past q))
-        (ap₂ (λ (f q : Plain). Exists v (And f (Down 0 q))) (own-image m read agree w p (BraceOpen p v))
+        ap₂ (λ (f q : Plain). And f (After q))
+        (ap₂ (λ (f q : Plain). Exists v (And f (InBranch 0 q))) (own-image m read agree w p (BraceOpen p v))
         (ap (λ (vs : List Var). seq (reread read (within m v)) None (XB b) (closing (reread read m) w (X c) v) vs s s) (inner-same m read agree b w)
-        ∙ seq-image (within m v) read agree None b (closing m w c v) (closing (reread read m) w (X c) v) part s s refl (λ u. own-image m read agree w c (BraceClose c v))))
+        ∙ seq-image (within m v) read agree None b (closing m w c v) (closing (reread read m) w (X c) v) part s s refl
+        (λ u. own-image m read agree w c (BraceClose c v))))
         (g s)
     elem-image m read agree before after (Gap ws any strict) k l w s t h g =
-        let passed = condition any (stays m.around ++ when_parts m ws s) (near_option m true before t) (near_option m false after s) in
+        let passed = condition any (stays m.around ++ when_parts m ws s) (ends_of_option m true before t) (ends_of_option m false after s) in
         ap₂ (until m.forall_walks strict)
         (condition-same any (firsts-image isos tokens m.around (when_parts (reread read m) (XS ws) s) (when_parts m ws s) (when-image m read agree ws s))
-        (near-option m read agree true before t) (near-option m read agree false after s)
-        ∙ condition-image isos tokens any (stays m.around ++ when_parts m ws s) (near_option m true before t) (near_option m false after s))
+        (ends_of-option m read agree true before t) (ends_of-option m read agree false after s)
+        ∙ condition-image isos tokens any (stays m.around ++ when_parts m ws s) (ends_of_option m true before t) (ends_of_option m false after s))
         (ap₂ (target m.around) h (g s) ∙ target-image isos tokens m.around k.start (k.at s))
         ∙ until-image isos tokens m.forall_walks strict passed (target m.around k.start (k.at s))
     elem-image m read agree before after (Nest plus b ws any strict) k l w s t h g =
-        let passed = condition any (stays m.around ++ when_parts m ws s) (near_option m true before t) (near_option m false after s) in
+        let passed = condition any (stays m.around ++ when_parts m ws s) (ends_of_option m true before t) (ends_of_option m false after s) in
         let part = filter (occurs_body m.reading b) w in
         nested-same m.forall_walks plus strict
         (condition-same any (firsts-image isos tokens m.around (when_parts (reread read m) (XS ws) s) (when_parts m ws s) (when-image m read agree ws s))
-        (near-option m read agree true before t) (near-option m read agree false after s)
-        ∙ condition-image isos tokens any (stays m.around ++ when_parts m ws s) (near_option m true before t) (near_option m false after s))
+        (ends_of-option m read agree true before t) (ends_of-option m read agree false after s)
+        ∙ condition-image isos tokens any (stays m.around ++ when_parts m ws s) (ends_of_option m true before t) (ends_of_option m false after s))
         (ap (λ (vs : List Var). seq (reread read m) None (XB b) nothing vs s s) (inner-same m read agree b w)
         ∙ seq-image m read agree None b nothing nothing part s s refl (λ u. refl))
         (ap₂ (target m.around) h (g s) ∙ target-image isos tokens m.around k.start (k.at s))

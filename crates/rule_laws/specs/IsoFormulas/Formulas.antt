@@ -2,15 +2,15 @@
 use Rattle.std.specs.Prelude.{List}
 use Rattle.smpl_patch.specs.declared.pattern.PatToken.{PatToken}
 use Rattle.smpl_patch.specs.declared.rule.Iso.{Iso}
-use Rattle.ctl_formula.specs.Plain.{Plain, True, Atom, Bail, BraceOpen, BraceClose, Inside, Outside, Not, And, Or, AX}
-use Rattle.ctl_formula.specs.Plain.{EX, AU, EU, Past, Down, Exists}
+use Rattle.ctl_formula.specs.Plain.{Plain, True, Atom, EarlyExit, BraceOpen, BraceClose, Inside, Outside, Not, And, Or, AX}
+use Rattle.ctl_formula.specs.Plain.{EX, AU, EU, After, InBranch, Exists}
 use Rattle.iso_expand.specs.Bodies.{expanded_pattern}
 
 module _ (isos : List Iso) (tokens : List PatToken) where
   abbrev pub expanded_formula : Plain → Plain
   expanded_formula True = True
   expanded_formula (Atom p) = Atom (expanded_pattern isos tokens p)
-  expanded_formula Bail = Bail
+  expanded_formula EarlyExit = EarlyExit
   expanded_formula (BraceOpen p b) = BraceOpen (expanded_pattern isos tokens p) b
   expanded_formula (BraceClose p b) = BraceClose (expanded_pattern isos tokens p) b
   expanded_formula (Inside b) = Inside b
@@ -22,6 +22,6 @@ module _ (isos : List Iso) (tokens : List PatToken) where
   expanded_formula (EX f) = EX (expanded_formula f)
   expanded_formula (AU f g) = AU (expanded_formula f) (expanded_formula g)
   expanded_formula (EU f g) = EU (expanded_formula f) (expanded_formula g)
-  expanded_formula (Past f) = Past (expanded_formula f)
-  expanded_formula (Down i f) = Down i (expanded_formula f)
+  expanded_formula (After f) = After (expanded_formula f)
+  expanded_formula (InBranch i f) = InBranch i (expanded_formula f)
   expanded_formula (Exists x f) = Exists x (expanded_formula f)

@@ -1,6 +1,6 @@
 // The lines about files.
 ghost use Rattle.std.specs.Prelude.{◌≡◌, ◌++◌, IfOk, OnOk};
-ghost use Rattle.run_files.specs.RunLines.Files as told;
+ghost use Rattle.run_files.specs.RunLines.Files as spec;
 
 use crate::run_lines::line::Line;
 use crate::run_lines::patches::line_about;
@@ -11,7 +11,7 @@ use std::alloc::Global;
 
 /// Appends why a file is refused. Appends nothing for `NoMemory`: no file is refused because memory ran out.
 fn put_fault(line: &mut Line, fault: &FileFault) -> Result<(), NoMemory>
-    ensures { OnOk result (line.new ≡ line.old ++ told.fault_text fault.now) }
+    ensures { OnOk result (line.new ≡ line.old ++ spec.fault_text fault.now) }
 {
     match fault {
         FileFault::FileTooLong(rule) => {
@@ -35,7 +35,7 @@ fn put_fault(line: &mut Line, fault: &FileFault) -> Result<(), NoMemory>
 ///
 /// Linear in the name. Fails only when out of memory. The format is the project's own.
 pub fn refused_line(alloc: Global, name: &str, fault: &FileFault) -> Result<Vec<u8>, NoMemory>
-    ensures bytes { IfOk result (λ line. line.items ≡ told.refused_line name.now fault.now) }
+    ensures bytes { IfOk result (λ line. line.items ≡ spec.refused_line name.now fault.now) }
 {
     let mut line = line_about(alloc, name)?;
     line.put(b"refused: ")?;
@@ -48,7 +48,7 @@ pub fn refused_line(alloc: Global, name: &str, fault: &FileFault) -> Result<Vec<
 ///
 /// Linear in the name. Fails only when out of memory. The format is the project's own.
 pub fn too_long_line(alloc: Global, name: &str) -> Result<Vec<u8>, NoMemory>
-    ensures bytes { IfOk result (λ line. line.items ≡ told.too_long_line name.now) }
+    ensures bytes { IfOk result (λ line. line.items ≡ spec.too_long_line name.now) }
 {
     let mut line = line_about(alloc, name)?;
     line.put(b"refused: file too long")?;
@@ -60,7 +60,7 @@ pub fn too_long_line(alloc: Global, name: &str) -> Result<Vec<u8>, NoMemory>
 ///
 /// Linear in the name. Fails only when out of memory. The format is the project's own.
 pub fn special_line(alloc: Global, name: &str) -> Result<Vec<u8>, NoMemory>
-    ensures bytes { IfOk result (λ line. line.items ≡ told.special_line name.now) }
+    ensures bytes { IfOk result (λ line. line.items ≡ spec.special_line name.now) }
 {
     let mut line = line_about(alloc, name)?;
     line.put(b"refused: no regular file")?;
@@ -69,7 +69,7 @@ pub fn special_line(alloc: Global, name: &str) -> Result<Vec<u8>, NoMemory>
 }
 
 fn why_text(why: Why) -> &'static [u8]
-    ensures { result.now ≡ told.why_text why }
+    ensures { result.now ≡ spec.why_text why }
 {
     match why {
         Why::NoTree => b"no tree",
@@ -83,7 +83,7 @@ fn why_text(why: Why) -> &'static [u8]
 ///
 /// Linear in the name. Fails only when out of memory. The format is the project's own.
 pub fn skipped_line(alloc: Global, name: &str, note: &SkipNote) -> Result<Vec<u8>, NoMemory>
-    ensures bytes { IfOk result (λ line. line.items ≡ told.skipped_line name.now note.now) }
+    ensures bytes { IfOk result (λ line. line.items ≡ spec.skipped_line name.now note.now) }
 {
     let mut line = line_about(alloc, name)?;
     line.put_numbered(b"reading ", u64::from(note.reading))?;

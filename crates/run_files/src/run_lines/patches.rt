@@ -1,6 +1,6 @@
 // The lines about words, patches and isomorphisms.
 ghost use Rattle.std.specs.Prelude.{◌≡◌, ◌++◌, IfOk, OnOk};
-ghost use Rattle.run_files.specs.RunLines.Patches as told;
+ghost use Rattle.run_files.specs.RunLines.Patches as spec;
 
 use crate::run_lines::line::Line;
 use c_terms::NoMemory;
@@ -14,14 +14,14 @@ const USAGE: &str =
 
 /// Returns the usage line.
 pub fn usage() -> &'static str
-    ensures bytes { result.now ≡ told.usage }
+    ensures bytes { result.now ≡ spec.usage }
 {
     USAGE
 }
 
 /// Returns the start of a line about the given name: everything before the line's text.
 pub fn line_about(alloc: Global, name: &str) -> Result<Line, NoMemory>
-    ensures { IfOk result (λ line. line ≡ told.begun name.now) }
+    ensures { IfOk result (λ line. line ≡ spec.begun name.now) }
 {
     let mut line = Line::new(alloc);
     line.put(b"spatch: ")?;
@@ -32,7 +32,7 @@ pub fn line_about(alloc: Global, name: &str) -> Result<Line, NoMemory>
 
 /// Appends the place of a patch's fault.
 fn put_place(line: &mut Line, fault: &PatchFault) -> Result<(), NoMemory>
-    ensures { OnOk result (line.new ≡ line.old ++ told.fault_place_text fault.now) }
+    ensures { OnOk result (line.new ≡ line.old ++ spec.fault_place_text fault.now) }
 {
     match fault {
         PatchFault::PatchTooLong => Ok(()),
@@ -45,7 +45,7 @@ fn put_place(line: &mut Line, fault: &PatchFault) -> Result<(), NoMemory>
 }
 
 fn put_variable(line: &mut Line, name: &[u8]) -> Result<(), NoMemory>
-    ensures { OnOk result (line.new ≡ line.old ++ told.variable_text name.now) }
+    ensures { OnOk result (line.new ≡ line.old ++ spec.variable_text name.now) }
 {
     line.put(b" of ")?;
     line.put(name)
@@ -56,7 +56,7 @@ fn put_variable(line: &mut Line, name: &[u8]) -> Result<(), NoMemory>
 ///
 /// Linear in the name and the variable. Fails only when out of memory. The format is the project's own.
 pub fn patch_fault_line(alloc: Global, name: &str, fault: &PatchFault) -> Result<Vec<u8>, NoMemory>
-    ensures bytes { IfOk result (λ line. line.items ≡ told.patch_fault_line name.now fault.now) }
+    ensures bytes { IfOk result (λ line. line.items ≡ spec.patch_fault_line name.now fault.now) }
 {
     let mut line = line_about(alloc, name)?;
     line.put_numbered(b"patch fault ", u64::from(fault_number(fault)))?;
@@ -68,7 +68,7 @@ pub fn patch_fault_line(alloc: Global, name: &str, fault: &PatchFault) -> Result
 /// Appends the number of a fault in isomorphisms, and its place. Appends nothing for `NoMemory`: isomorphisms are never refused
 /// because memory ran out.
 fn put_iso_fault(line: &mut Line, fault: IsoFault) -> Result<(), NoMemory>
-    ensures { OnOk result (line.new ≡ line.old ++ told.iso_fault_text fault) }
+    ensures { OnOk result (line.new ≡ line.old ++ spec.iso_fault_text fault) }
 {
     match fault {
         IsoFault::BadIso(at) => line.put_numbered(b"1 at ", u64::from(at)),
@@ -84,7 +84,7 @@ fn put_iso_fault(line: &mut Line, fault: IsoFault) -> Result<(), NoMemory>
 ///
 /// Linear in the name. Fails only when out of memory. The format is the project's own.
 pub fn iso_fault_line(alloc: Global, name: &str, fault: IsoFault) -> Result<Vec<u8>, NoMemory>
-    ensures bytes { IfOk result (λ line. line.items ≡ told.iso_fault_line name.now fault) }
+    ensures bytes { IfOk result (λ line. line.items ≡ spec.iso_fault_line name.now fault) }
 {
     let mut line = line_about(alloc, name)?;
     line.put(b"isomorphism fault ")?;
@@ -98,7 +98,7 @@ pub fn iso_fault_line(alloc: Global, name: &str, fault: IsoFault) -> Result<Vec<
 ///
 /// Linear in the name. Fails only when out of memory. The format is the project's own.
 pub fn forms_line(alloc: Global, name: &str, rule: u32) -> Result<Vec<u8>, NoMemory>
-    ensures bytes { IfOk result (λ line. line.items ≡ told.forms_line name.now rule) }
+    ensures bytes { IfOk result (λ line. line.items ≡ spec.forms_line name.now rule) }
 {
     let mut line = line_about(alloc, name)?;
     line.put_numbered(b"too many forms in rule ", u64::from(rule))?;

@@ -1,7 +1,7 @@
 // What a patch finds in a generated text.
 ghost use Rattle.std.specs.Prelude.{◌≡◌, ◌++◌, IfOk, OnOk};
 ghost use Rattle.wit_print.specs.Report.{shown_name};
-ghost use Rattle.run_files.specs.RunLines.Summary as told;
+ghost use Rattle.run_files.specs.RunLines.Summary as spec;
 
 use crate::run_lines::line::Line;
 use c_terms::NoMemory;
@@ -10,7 +10,7 @@ use std::alloc::Global;
 
 /// Returns the number of witnesses that belong to the rule with this number.
 fn count_of(witnesses: &[RuleWitness], number: usize) -> usize
-    ensures { result ≡ told.count_of number witnesses.now }
+    ensures { result ≡ spec.count_of number witnesses.now }
 {
     witnesses
         .iter()
@@ -31,7 +31,7 @@ fn put_rule(
     rule: &Rule,
     witnesses: &[RuleWitness],
 ) -> Result<(), NoMemory>
-    ensures { OnOk result (line.new ≡ line.old ++ told.rule_line number rule.now witnesses.now) }
+    ensures { OnOk result (line.new ≡ line.old ++ spec.rule_line number rule.now witnesses.now) }
 {
     line.put_numbered(b"rule ", number as u64)?;
     line.put(b" ")?;
@@ -50,7 +50,7 @@ pub fn summary(
     witnesses: &[RuleWitness],
     length: usize,
 ) -> Result<Vec<u8>, NoMemory>
-    ensures text { IfOk result (λ text. text.items ≡ told.summary rules.now witnesses.now length) }
+    ensures text { IfOk result (λ text. text.items ≡ spec.summary rules.now witnesses.now length) }
 {
     let mut line = Line::new(alloc);
     for (number, rule) in rules.iter().enumerate() {

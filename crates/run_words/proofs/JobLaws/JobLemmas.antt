@@ -1,5 +1,6 @@
 -- Words with other jobs ask for the same.
-use Rattle.std.proofs.Common.{◌≡◌, ◌⊎◌, ◌&&◌, ℕ, Bool, true, false, cond, not, Option, Some, None, is_some, List, [], length, inl, inr, refl, sym, ap, ◌∙◌, option_and_then}
+use Rattle.std.proofs.Common.{◌≡◌, ◌⊎◌, ◌&&◌, ℕ, Bool, true, false, cond, not, Option, Some, None, is_some, List, [], length}
+use Rattle.std.proofs.Common.{inl, inr, refl, sym, ap, ◌∙◌, option_and_then}
 use Rattle.std.specs.Prelude.{nat_le}
 use Rattle.std.specs.List.{list_all}
 use Rattle.std.specs.Str.{is_utf8}
@@ -7,7 +8,8 @@ use Rattle.run_words.specs.Options.{Options}
 use Rattle.std.specs.Option.{option_map_or}
 use Rattle.c_lexer.specs.Words.{is_digit}
 use Rattle.run_words.specs.Values.{decimal_value, begins_with_zero, seed_in, count_in}
-use Rattle.run_words.specs.Orders.{OnText, Order, Apply, Generate, most_jobs, most_functions, is_filled, are_filled, has_jobs, is_about_files, editing, on_text, generating, ordered, order_of}
+use Rattle.run_words.specs.Orders.{OnText, Order, Apply, Generate, most_jobs, most_functions, is_filled, are_filled, has_jobs}
+use Rattle.run_words.specs.Orders.{is_about_files, editing, on_text, generating, ordered, order_of}
 use Rattle.run_words.specs.JobLaws.Jobs.{with_jobs, SameButJobs}
 
 -- ---- a number of jobs isn't empty

@@ -95,7 +95,8 @@ pub elements-done : (t : Tree) (dots : ℕ → Dots) (f : Form) (l : Label) (fir
     → made f dots t first parts' next ≡ elements dots first t
 elements-done t dots f l first next parts' ef el en ep =
     (λ i. made f dots t first (ep i) (en i))
-    ∙ ((λ i. made (ef i) dots t first (seqs dots (first + before (ef i)) (parts_from (ef i) (el i) t 0)) (first + before (ef i) + total (parts_from (ef i) (el i) t 0)))
+    ∙ ((λ i. made (ef i) dots t first (seqs dots (first + before (ef i)) (parts_from (ef i) (el i) t 0))
+    (first + before (ef i) + total (parts_from (ef i) (el i) t 0)))
     ∙ sym (elements-row t dots first))
 
 -- the last of the children

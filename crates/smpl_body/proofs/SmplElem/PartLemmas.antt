@@ -1,5 +1,6 @@
 -- What a tree is as a part of a body, one level at a time.
-use Rattle.std.proofs.Common.{◌≡◌, ℕ, zero, suc, ◌+◌, ◌<◌, ◌≤◌, refl, sym, ap, ◌∙◌, arith, List, [], ◌∷◌, map, length, drop, get_or, Bool, true, false, drop-cons}
+use Rattle.std.proofs.Common.{◌≡◌, ℕ, zero, suc, ◌+◌, ◌<◌, ◌≤◌, refl, sym, ap, ◌∙◌, arith, List, [], ◌∷◌, map, length, drop}
+use Rattle.std.proofs.Common.{get_or, Bool, true, false, drop-cons}
 use Rattle.std.proofs.lemmas.List.{length-map}
 use Rattle.c_terms.specs.declared.token.Token.{Token}
 use Rattle.c_terms.specs.declared.label.Label.{Label}
@@ -59,7 +60,8 @@ row-Leaf a =
     let k : the_nil ≡ kids (Leaf a) = sym (kids-Leaf a) in
     λ i. row (form_at (Leaf a)) (Leaf a) (picked (form_at (Leaf a)) (label_at (Leaf a)) (length (k i)) 0 (map part (k i)))
 
-row-Branch : (l : Label) (cs : List Tree) → row_of (Branch l (map (λ (p : Part). p.tree) (map part cs))) (map part cs) ≡ row (form_at (Branch l cs)) (Branch l cs) (parts (Branch l cs))
+row-Branch : (l : Label) (cs : List Tree)
+    → row_of (Branch l (map (λ (p : Part). p.tree) (map part cs))) (map part cs) ≡ row (form_at (Branch l cs)) (Branch l cs) (parts (Branch l cs))
 row-Branch l cs =
     let k = all-kept cs in
     let ks : cs ≡ kids (Branch l cs) = sym (kids-Branch l cs) in

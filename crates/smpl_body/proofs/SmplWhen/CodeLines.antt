@@ -4,7 +4,7 @@ use Rattle.std.specs.Prelude.{◌==◌, if◌then◌else◌}
 use Rattle.std.proofs.lemmas.Bool.Decides.{nat_tests}
 use Rattle.c_terms.specs.declared.token.Token.{Token}
 use Rattle.smpl_meta.specs.declared.patterns.Placed.{Placed}
-use Rattle.smpl_body.specs.declared.smpl_when.clauses.Said.{Said}
+use Rattle.smpl_body.specs.declared.smpl_when.clauses.WhenFlags.{WhenFlags}
 use Rattle.smpl_body.specs.declared.smpl_when.cutting.Code.{Code}
 use Rattle.smpl_body.specs.declared.smpl_when.cutting.Where.{Where}
 use Rattle.smpl_body.specs.declared.smpl_when.cutting.Where.TheVariants.{Free, After, When}
@@ -12,7 +12,8 @@ use Rattle.smpl_body.specs.declared.smpl_when.cutting.OpenCode.{OpenCode}
 use Rattle.smpl_body.specs.declared.smpl_when.cutting.Cutting.{Cutting}
 use Rattle.smpl_meta.specs.Patterns.{is_word, is_differs}
 use Rattle.smpl_body.specs.SmplWhen.Cutting as machine
-use Rattle.smpl_body.specs.SmplWhen.Cutting.{changed, say_any, say_strict, say_code, steps, step, step_by, put, put_by, finished, ended_by, goes_on, opened, open_codes, is_when}
+use Rattle.smpl_body.specs.SmplWhen.Cutting.{changed, say_any, say_strict, say_code, steps, step, step_by, put, put_by}
+use Rattle.smpl_body.specs.SmplWhen.Cutting.{finished, ended_by, goes_on, opened, open_codes, is_when}
 use Rattle.smpl_body.specs.SmplWhen.Grammar.{up_to_end_of, behind_end_of}
 use Rattle.smpl_body.proofs.SmplWhen.States.{st, GoOn, picked, goes}
 
@@ -29,13 +30,15 @@ pub record Kept (o : OpenCode) (d : Cutting) : Type 0 where
   pub line : open_now.line ≡ o.line
   pub back : open_now.back ≡ o.back
 
-pub kept_by : (v : Where) (m : List Token) (cs : List Code) (o : OpenCode) (ss : List Said) (ws : List ℕ) (b : Bool) (u : Where) (p : Placed) → Kept o (step_by v (st m cs (Some o) ss ws b u) p)
+pub kept_by : (v : Where) (m : List Token) (cs : List Code) (o : OpenCode) (ss : List WhenFlags) (ws : List ℕ) (b : Bool)
+    (u : Where) (p : Placed) → Kept o (step_by v (st m cs (Some o) ss ws b u) p)
 kept_by Free m cs o ss ws b u p = record { open_now = machine.with_token o p.token; inner = refl; line = refl; back = refl }
 kept_by (After h) m cs o ss ws b u p =
     pick (Kept o) (is_word (codes "when") p) _ _ (record { open_now = o; inner = refl; line = refl; back = refl })
     (record { open_now = machine.with_token o p.token; inner = refl; line = refl; back = refl })
 kept_by (When h line) m cs o ss ws b u p =
-    let anew = pick (Kept o) (is_word (codes "when") p) (machine.put_word (st m cs (Some o) ss ws true u) p (When h p.line)) (put (st m cs (Some o) ss ws true u) p)
+    let anew = pick (Kept o) (is_word (codes "when") p) (machine.put_word (st m cs (Some o) ss ws true u) p (When h p.line))
+    (put (st m cs (Some o) ss ws true u) p)
     (record { open_now = o; inner = refl; line = refl; back = refl })
     (record { open_now = machine.with_token o p.token; inner = refl; line = refl; back = refl }) in
     pick (Kept o) (not (p.line == line)) _ _ anew
@@ -63,7 +66,8 @@ abbrev pub Stops : ℕ → List Placed → Type 0
 Stops line [] = Unit {0}
 Stops line (p ∷ ps) = (line == p.line) ≡ false
 
-pub stops_by : (line : ℕ) (p : Placed) (ps : List Placed) (x : Bool) → (line == p.line) ≡ x → Stops line (behind_end_of line ps) → Stops line (if x then behind_end_of line ps else p ∷ ps)
+pub stops_by : (line : ℕ) (p : Placed) (ps : List Placed) (x : Bool) → (line == p.line) ≡ x → Stops line (behind_end_of line ps)
+    → Stops line (if x then behind_end_of line ps else p ∷ ps)
 stops_by line p ps true e k = k
 stops_by line p ps false e k = e
 
@@ -72,7 +76,7 @@ stops line [] = tt
 stops line (p ∷ ps) = stops_by line p ps (line == p.line) refl (stops line ps)
 
 -- code ends there
-pub turn_st : (o : OpenCode) (m : List Token) (cs : List Code) (ss : List Said) (ws : List ℕ) (b : Bool) (v : Where) (qs : List Placed) → Stops o.line qs
+pub turn_st : (o : OpenCode) (m : List Token) (cs : List Code) (ss : List WhenFlags) (ws : List ℕ) (b : Bool) (v : Where) (qs : List Placed) → Stops o.line qs
     → finished (steps (st m cs (Some o) ss ws b v) qs) ≡ finished (steps (finished (st m cs (Some o) ss ws b v)) qs)
 turn_st o m cs ss ws b v [] k = refl
 turn_st o m cs ss ws b v (q ∷ qs) k = ap (λ (x : Bool). finished (steps (picked (st m cs (Some o) ss ws b v) q x) qs)) k
@@ -82,12 +86,14 @@ stops_as a b qs e k = let P : ℕ → Type 0 = λ n. Stops n qs in subst P (sym 
 
 pub turn : (o : OpenCode) (c : Cutting) (qs : List Placed) → Kept o c → Stops o.line qs → finished (steps c qs) ≡ finished (steps (finished c) qs)
 turn o c qs k s =
-    let P : Option OpenCode → Type 0 = λ i. finished (steps (st c.main c.codes i c.said c.words c.broken c.next) qs) ≡ finished (steps (finished (st c.main c.codes i c.said c.words c.broken c.next)) qs) in
+    let P : Option OpenCode → Type 0 = λ i. finished (steps (st c.main c.codes i c.said c.words c.broken c.next) qs)
+    ≡ finished (steps (finished (st c.main c.codes i c.said c.words c.broken c.next)) qs) in
     let here : P (Some k.open_now) = turn_st k.open_now c.main c.codes c.said c.words c.broken c.next qs (stops_as k.open_now.line o.line qs k.line s) in
     subst P (sym k.inner) here
 
 -- tokens up to the end of the line, and those after it
-pub split_by : (c : Cutting) (line : ℕ) (p : Placed) (ps : List Placed) (x : Bool) → steps (step c p) ps ≡ steps (steps (step c p) (up_to_end_of line ps)) (behind_end_of line ps)
+pub split_by : (c : Cutting) (line : ℕ) (p : Placed) (ps : List Placed) (x : Bool)
+    → steps (step c p) ps ≡ steps (steps (step c p) (up_to_end_of line ps)) (behind_end_of line ps)
     → steps c (p ∷ ps) ≡ steps (steps c (if x then p ∷ up_to_end_of line ps else [])) (if x then behind_end_of line ps else p ∷ ps)
 split_by c line p ps true e = e
 split_by c line p ps false e = refl
@@ -96,7 +102,8 @@ pub split_steps : (c : Cutting) (line : ℕ) (ps : List Placed) → steps c ps �
 split_steps c line [] = refl
 split_steps c line (p ∷ ps) = split_by c line p ps (line == p.line) (split_steps (step c p) line ps)
 
-pub go_by : (o : OpenCode) (p : Placed) (ps : List Placed) (x : Bool) → (o.line == p.line) ≡ x → GoOn (Some o) (up_to_end_of o.line ps) → GoOn (Some o) (if x then p ∷ up_to_end_of o.line ps else [])
+pub go_by : (o : OpenCode) (p : Placed) (ps : List Placed) (x : Bool) → (o.line == p.line) ≡ x
+    → GoOn (Some o) (up_to_end_of o.line ps) → GoOn (Some o) (if x then p ∷ up_to_end_of o.line ps else [])
 go_by o p ps true e g = (e, g)
 go_by o p ps false e g = tt
 

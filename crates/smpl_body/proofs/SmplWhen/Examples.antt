@@ -4,7 +4,7 @@ use Rattle.c_terms.specs.declared.token.TokenKind.{TokenKind}
 use Rattle.c_terms.specs.declared.token.TokenKind.TheVariants.{Name, Punct, Dots, Pat}
 use Rattle.smpl_meta.specs.declared.patterns.Placed.{Placed}
 use Rattle.smpl_body.specs.declared.smpl_when.cutting.Code.{Code}
-use Rattle.smpl_body.specs.declared.smpl_when.clauses.Said.{Said}
+use Rattle.smpl_body.specs.declared.smpl_when.clauses.WhenFlags.{WhenFlags}
 use Rattle.smpl_body.specs.SmplWhen.Cutting.{cut}
 use Rattle.smpl_body.specs.SmplWhen.Grammar.{IsParted, Apart, with_own, with_code, nothing}
 use Rattle.smpl_body.specs.SmplWhen.Grammar.IsParted.{ends, plain, dots, apart, differs}
@@ -56,11 +56,11 @@ plain_name = refl
 
 -- ---- where two readings differ
 
-abbrev any_of : List Said → List Bool
-any_of ss = map (λ (s : Said). s.any) ss
+abbrev any_of : List WhenFlags → List Bool
+any_of ss = map (λ (s : WhenFlags). s.any) ss
 
-abbrev codes_of : List Said → List (List ℕ)
-codes_of ss = map (λ (s : Said). s.codes) ss
+abbrev codes_of : List WhenFlags → List (List ℕ)
+codes_of ss = map (λ (s : WhenFlags). s.codes) ss
 
 -- `... when when any`: the first `when` is malformed, and the second begins a clause of the same dots
 abbrev twice_when : List Placed
@@ -129,7 +129,8 @@ code_without_tokens = refl
 
 -- the grammar says so too
 no_code_is_parted : IsParted false Apart no_code
-    (with_own (placed Dots (codes "...") 0 0) (with_code false 0 (placed Name (codes "when") 1 0) (placed Punct (codes "!=") 2 0) nothing (with_own (placed Name (codes "h") 3 1) nothing)))
+    (with_own (placed Dots (codes "...") 0 0)
+    (with_code false 0 (placed Name (codes "when") 1 0) (placed Punct (codes "!=") 2 0) nothing (with_own (placed Name (codes "h") 3 1) nothing)))
 no_code_is_parted = dots _ refl (differs _ _ refl ends (apart refl (plain _ refl ends)))
 
 -- the end of a nest can have clauses, its beginning can't

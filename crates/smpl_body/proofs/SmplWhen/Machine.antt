@@ -1,10 +1,11 @@
 -- What the steps of a cutting lead to, part by part of the grammar.
-use Rattle.std.proofs.Common.{◌≡◌, ℕ, zero, suc, ◌+◌, ◌≤◌, Bool, true, false, ◌||◌, List, [], ◌∷◌, ◌++◌, length, Option, Some, None, refl, sym, ap, ◌∙◌, subst, arith, append_assoc, length-append, map, codes}
+use Rattle.std.proofs.Common.{◌≡◌, ℕ, zero, suc, ◌+◌, ◌≤◌, Bool, true, false, ◌||◌, List, [], ◌∷◌, ◌++◌, length, Option, Some}
+use Rattle.std.proofs.Common.{None, refl, sym, ap, ◌∙◌, subst, arith, append_assoc, length-append, map, codes}
 use Rattle.std.specs.Prelude.{◌==◌}
 use Rattle.std.proofs.lemmas.List.{append-nil}
 use Rattle.c_terms.specs.declared.token.Token.{Token}
 use Rattle.smpl_meta.specs.declared.patterns.Placed.{Placed}
-use Rattle.smpl_body.specs.declared.smpl_when.clauses.Said.{Said}
+use Rattle.smpl_body.specs.declared.smpl_when.clauses.WhenFlags.{WhenFlags}
 use Rattle.smpl_body.specs.declared.smpl_when.cutting.Code.{Code}
 use Rattle.smpl_body.specs.declared.smpl_when.cutting.Where.{Where}
 use Rattle.smpl_body.specs.declared.smpl_when.cutting.Where.TheVariants.{Free, After, When}
@@ -12,7 +13,8 @@ use Rattle.smpl_body.specs.declared.smpl_when.cutting.OpenCode.{OpenCode}
 use Rattle.smpl_body.specs.declared.smpl_when.cutting.Cutting.{Cutting}
 use Rattle.smpl_meta.specs.Patterns.{is_word, is_differs}
 use Rattle.smpl_body.specs.SmplWhen.Cutting as machine
-use Rattle.smpl_body.specs.SmplWhen.Cutting.{changed, say_any, say_strict, say_code, steps, step, step_by, put, put_by, finished, ended_by, goes_on, opened, open_codes, is_when}
+use Rattle.smpl_body.specs.SmplWhen.Cutting.{changed, say_any, say_strict, say_code, steps, step, step_by, put, put_by}
+use Rattle.smpl_body.specs.SmplWhen.Cutting.{finished, ended_by, goes_on, opened, open_codes, is_when}
 use Rattle.smpl_body.specs.SmplWhen.Grammar.{up_to_end_of, behind_end_of, Parts, nothing, with_code, Spot, Apart, Behind, takes_clauses, IsParted, IsCut}
 use Rattle.smpl_body.specs.SmplWhen.Grammar.IsParted.{ends, apart, differs}
 use Rattle.smpl_body.proofs.SmplWhen.Once.{parted_once}
@@ -23,8 +25,9 @@ use Rattle.smpl_body.proofs.SmplWhen.CodeLines.{kept_steps, stops, turn, split_s
 
 -- ---- `when !=`
 
-pub code_in_body : (h : ℕ) (w d : Placed) (m : List Token) (cs : List Code) (ss : List Said) (ws : List ℕ) (b : Bool) (c r : Parts) (e f : Cutting)
-    → Joined (st m (cs ++ []) (Some (opened None h w.line)) (changed (say_code (length (cs ++ []))) h ss) ((ws ++ w.token.id ∷ []) ++ d.token.id ∷ []) b Free) c e
+pub code_in_body : (h : ℕ) (w d : Placed) (m : List Token) (cs : List Code) (ss : List WhenFlags) (ws : List ℕ) (b : Bool) (c r : Parts) (e f : Cutting)
+    → Joined (st m (cs ++ []) (Some (opened None h w.line)) (changed (say_code (length (cs ++ []))) h ss)
+    ((ws ++ w.token.id ∷ []) ++ d.token.id ∷ []) b Free) c e
     → Joined (st e.main e.codes None e.said e.words e.broken (After h)) r f
     → Joined (st m cs None ss ws b (After h)) (with_code false h w d c r) f
 code_in_body h w d m cs ss ws b c r e f j k =
@@ -33,7 +36,7 @@ code_in_body h w d m cs ss ws b c r e f j k =
     let coded : e.codes ≡ cs ++ (own ∷ c.codes) = j.codes ∙ ap (λ (l : List Code). l ++ (own ∷ c.codes)) no_more in
     let counted : length e.codes ≡ suc (length cs) + length c.codes = ap (λ (l : List Code). length l) coded ∙ length-append cs (own ∷ c.codes) ∙ omega arith in
     let K : ℕ → ℕ → Type 0 = λ n k. f.said ≡ mapped (said_more k r) 0 (mapped (said_more (suc n) c) 0 (changed (say_code n) h ss)) in
-    let one : K (length (cs ++ [])) (length e.codes) = k.said ∙ ap (λ (l : List Said). mapped (said_more (length e.codes) r) 0 l) j.said in
+    let one : K (length (cs ++ [])) (length e.codes) = k.said ∙ ap (λ (l : List WhenFlags). mapped (said_more (length e.codes) r) 0 l) j.said in
     let two : K (length cs) (length e.codes) = let P : List Code → Type 0 = λ l. K (length l) (length e.codes) in subst P no_more one in
     let three : K (length cs) (suc (length cs) + length c.codes) = let P : ℕ → Type 0 = λ n. K (length cs) n in subst P counted two in
     record {
@@ -41,18 +44,22 @@ code_in_body h w d m cs ss ws b c r e f j k =
       codes = k.codes ∙ ap (λ (l : List Code). l ++ r.codes) coded ∙ append_assoc cs (own ∷ c.codes) r.codes;
       none = k.none;
       said = three ∙ said-code (length cs) false h w d c r ss;
-      words = k.words ∙ ap (λ (l : List ℕ). l ++ r.words) (j.words ∙ words_join ws (w.token.id ∷ []) (d.token.id ∷ []) c.words) ∙ append_assoc ws (w.token.id ∷ d.token.id ∷ c.words) r.words;
+      words = k.words ∙ ap (λ (l : List ℕ). l ++ r.words) (j.words ∙ words_join ws (w.token.id ∷ []) (d.token.id ∷ []) c.words)
+          ∙ append_assoc ws (w.token.id ∷ d.token.id ∷ c.words) r.words;
       broken = k.broken ∙ ap (λ (x : Bool). x || r.broken) j.broken ∙ or-assoc b c.broken r.broken;
       next = tt;
     }
 
-pub code_in_code : (h : ℕ) (w d : Placed) (m : List Token) (cs : List Code) (o : OpenCode) (ss : List Said) (ws : List ℕ) (b : Bool) (c : Parts) (e : Cutting)
-    → Joined (st m (cs ++ o.code ∷ []) (Some (opened (Some o) h w.line)) (changed (say_code (length (cs ++ o.code ∷ []))) h ss) ((ws ++ w.token.id ∷ []) ++ d.token.id ∷ []) b Free) c e
+pub code_in_code : (h : ℕ) (w d : Placed) (m : List Token) (cs : List Code) (o : OpenCode) (ss : List WhenFlags) (ws : List ℕ)
+    (b : Bool) (c : Parts) (e : Cutting)
+    → Joined (st m (cs ++ o.code ∷ []) (Some (opened (Some o) h w.line)) (changed (say_code (length (cs ++ o.code ∷ []))) h ss)
+    ((ws ++ w.token.id ∷ []) ++ d.token.id ∷ []) b Free) c e
     → Joined (st m cs (Some o) ss ws b (After h)) (with_code true h w d c nothing) e
 code_in_code h w d m cs o ss ws b c e j =
     let own : Code = record { host = h; nested = true; tokens = c.own } in
     let outer : Code = record { host = o.code.host; nested = o.code.nested; tokens = o.code.tokens ++ [] } in
-    let same_outer : o.code ≡ outer = ap (λ (l : List Token). let x : Code = record { host = o.code.host; nested = o.code.nested; tokens = l } in x) (sym (append-nil o.code.tokens)) in
+    let same_outer : o.code ≡ outer = ap (λ (l : List Token). let x : Code =
+    record { host = o.code.host; nested = o.code.nested; tokens = l } in x) (sym (append-nil o.code.tokens)) in
     let n = suc (length cs) in
     let counted : length (cs ++ o.code ∷ []) ≡ n = length-append cs (o.code ∷ []) ∙ omega arith in
     let P : ℕ → Type 0 = λ k. e.said ≡ mapped (said_more (suc k) c) 0 (changed (say_code k) h ss) in
@@ -62,17 +69,21 @@ code_in_code h w d m cs o ss ws b c e j =
       codes = j.codes ∙ append_assoc cs (o.code ∷ []) (own ∷ c.codes) ∙ ap (λ (x : Code). cs ++ (x ∷ own ∷ c.codes)) same_outer
           ∙ ap (λ (l : List Code). cs ++ (outer ∷ own ∷ l)) (sym (append-nil c.codes));
       none = j.none;
-      said = one ∙ sym (said-nothing (suc n + length c.codes) 0 (mapped (said_more (suc n) c) 0 (changed (say_code n) h ss))) ∙ said-code n true h w d c nothing ss;
-      words = j.words ∙ words_join ws (w.token.id ∷ []) (d.token.id ∷ []) c.words ∙ ap (λ (l : List ℕ). ws ++ (w.token.id ∷ d.token.id ∷ l)) (sym (append-nil c.words));
+      said = one ∙ sym (said-nothing (suc n + length c.codes) 0 (mapped (said_more (suc n) c) 0 (changed (say_code n) h ss)))
+          ∙ said-code n true h w d c nothing ss;
+      words = j.words ∙ words_join ws (w.token.id ∷ []) (d.token.id ∷ []) c.words
+          ∙ ap (λ (l : List ℕ). ws ++ (w.token.id ∷ d.token.id ∷ l)) (sym (append-nil c.words));
       broken = j.broken ∙ ap (λ (x : Bool). b || x) (sym (or-false c.broken));
       next = j.next;
     }
 
 -- after `when !=`
-pub third : (i : Option OpenCode) (h : ℕ) (w p : Placed) (m : List Token) (cs : List Code) (ss : List Said) (ws : List ℕ) (b : Bool) → goes_on i w.line ≡ true → goes_on i p.line ≡ true
+pub third : (i : Option OpenCode) (h : ℕ) (w p : Placed) (m : List Token) (cs : List Code) (ss : List WhenFlags) (ws : List ℕ)
+    (b : Bool) → goes_on i w.line ≡ true → goes_on i p.line ≡ true
     → is_word (codes "when") w ≡ true → (p.line == w.line) ≡ true → is_word (codes "any") p ≡ false → is_word (codes "strict") p ≡ false → is_differs p ≡ true
     → step (step (st m cs i ss ws b (After h)) w) p
-    ≡ st m (cs ++ open_codes i) (Some (opened i h w.line)) (changed (say_code (length (cs ++ open_codes i))) h ss) ((ws ++ w.token.id ∷ []) ++ p.token.id ∷ []) b Free
+    ≡ st m (cs ++ open_codes i) (Some (opened i h w.line)) (changed (say_code (length (cs ++ open_codes i))) h ss)
+    ((ws ++ w.token.id ∷ []) ++ p.token.id ∷ []) b Free
 third i h w p m cs ss ws b gw gp e f k l q =
     ap (λ (x : Cutting). step x p) (first i h w m cs ss ws b gw e)
     ∙ second (st m cs i ss (ws ++ w.token.id ∷ []) b (When h w.line)) h w.line p true false false true refl gp f k l q
@@ -81,10 +92,13 @@ pub as_st : (d : Cutting) (v : Where) → d.inner ≡ None → d.next ≡ v → 
 as_st d v e f =
     ap (λ (i : Option OpenCode). st d.main d.codes i d.said d.words d.broken d.next) e ∙ ap (λ (u : Where). st d.main d.codes None d.said d.words d.broken u) f
 
-pub code_joins : (nested : Bool) (h : ℕ) (w p : Placed) (ps : List Placed) → is_word (codes "when") w ≡ true → (p.line == w.line) ≡ true → is_word (codes "any") p ≡ false
-    → is_word (codes "strict") p ≡ false → is_differs p ≡ true → (c : Runs true Apart (up_to_end_of w.line ps)) (r : Runs nested (Behind h) (behind_end_of w.line ps))
-    → (m : List Token) (cs : List Code) (o : OpenCode) (ss : List Said) (ws : List ℕ) (b : Bool) → GoOn (inner_of nested o) (w ∷ p ∷ ps)
-    → Joined (st m cs (inner_of nested o) ss ws b (After h)) (with_code nested h w p c.parts r.parts) (finished (steps (st m cs (inner_of nested o) ss ws b (After h)) (w ∷ p ∷ ps)))
+pub code_joins : (nested : Bool) (h : ℕ) (w p : Placed) (ps : List Placed) → is_word (codes "when") w ≡ true
+    → (p.line == w.line) ≡ true → is_word (codes "any") p ≡ false
+    → is_word (codes "strict") p ≡ false → is_differs p ≡ true
+    → (c : Runs true Apart (up_to_end_of w.line ps)) (r : Runs nested (Behind h) (behind_end_of w.line ps))
+    → (m : List Token) (cs : List Code) (o : OpenCode) (ss : List WhenFlags) (ws : List ℕ) (b : Bool) → GoOn (inner_of nested o) (w ∷ p ∷ ps)
+    → Joined (st m cs (inner_of nested o) ss ws b (After h)) (with_code nested h w p c.parts r.parts)
+    (finished (steps (st m cs (inner_of nested o) ss ws b (After h)) (w ∷ p ∷ ps)))
 code_joins false h w p ps e f k l q c r m cs o ss ws b g =
     let on : OpenCode = opened None h w.line in
     let c0 : Cutting = st m cs None ss ws b (After h) in
@@ -107,7 +121,8 @@ code_joins false h w p ps e f k l q c r m cs o ss ws b g =
 code_joins true h w p ps e f k l q c r m cs o ss ws b g =
     let on : OpenCode = opened (Some o) h w.line in
     let c0 : Cutting = st m cs (Some o) ss ws b (After h) in
-    let c2 : Cutting = st m (cs ++ o.code ∷ []) (Some on) (changed (say_code (length (cs ++ o.code ∷ []))) h ss) ((ws ++ w.token.id ∷ []) ++ p.token.id ∷ []) b Free in
+    let c2 : Cutting = st m (cs ++ o.code ∷ []) (Some on) (changed (say_code (length (cs ++ o.code ∷ []))) h ss)
+    ((ws ++ w.token.id ∷ []) ++ p.token.id ∷ []) b Free in
     let us = up_to_end_of w.line ps in
     let in_line : o.line ≡ w.line = line_is o.line w.line g.0 in
     let all : us ≡ ps = same_up o w.line ps in_line g.1.1 in
@@ -118,13 +133,15 @@ code_joins true h w p ps e f k l q c r m cs o ss ws b g =
     let go_us : GoOn (Some on) us = let P : List Placed → Type 0 = λ qs. GoOn (Some on) qs in subst P (sym all) (go_as o on ps refl g.1.1) in
     let j = c.joins m (cs ++ o.code ∷ []) on (changed (say_code (length (cs ++ o.code ∷ []))) h ss) ((ws ++ w.token.id ∷ []) ++ p.token.id ∷ []) b go_us in
     let ahead : finished (steps (step (step c0 w) p) ps) ≡ finished (steps c2 us) =
-    ap (λ (x : Cutting). finished (steps x ps)) (third (Some o) h w p m cs ss ws b g.0 g.1.0 e f k l q) ∙ ap (λ (qs : List Placed). finished (steps c2 qs)) (sym all) in
+    ap (λ (x : Cutting). finished (steps x ps)) (third (Some o) h w p m cs ss ws b g.0 g.1.0 e f k l q)
+    ∙ ap (λ (qs : List Placed). finished (steps c2 qs)) (sym all) in
     let Q : Cutting → Type 0 = λ x. Joined c0 (with_code true h w p c.parts nothing) x in
     let at_nothing = subst Q (sym ahead) (code_in_code h w p m cs o ss ws b c.parts (finished (steps c2 us)) j) in
     let R : Parts → Type 0 = λ x. Joined c0 (with_code true h w p c.parts x) (finished (steps c0 (w ∷ p ∷ ps))) in
     subst R (sym nothing_more) at_nothing
 
-pub runs_code : (nested : Bool) (h : ℕ) (w p : Placed) (ps : List Placed) → is_word (codes "when") w ≡ true → (p.line == w.line) ≡ true → is_word (codes "any") p ≡ false
+pub runs_code : (nested : Bool) (h : ℕ) (w p : Placed) (ps : List Placed) → is_word (codes "when") w ≡ true
+    → (p.line == w.line) ≡ true → is_word (codes "any") p ≡ false
     → is_word (codes "strict") p ≡ false → is_differs p ≡ true → Runs true Apart (up_to_end_of w.line ps) → Runs nested (Behind h) (behind_end_of w.line ps)
     → Runs nested (Behind h) (w ∷ p ∷ ps)
 runs_code nested h w p ps e f k l q c r = record {
@@ -138,13 +155,15 @@ runs_code nested h w p ps e f k l q c r = record {
 abbrev pub All : ℕ → Type 0
 All n = (nested : Bool) (spot : Spot) (ps : List Placed) → length ps ≤ n → Runs nested spot ps
 
-pub at_second : (n : ℕ) → All n → (nested : Bool) (h : ℕ) (w p : Placed) (ps : List Placed) → suc (length ps) ≤ n → (x y z t : Bool) → is_word (codes "when") w ≡ true
+pub at_second : (n : ℕ) → All n → (nested : Bool) (h : ℕ) (w p : Placed) (ps : List Placed) → suc (length ps) ≤ n
+    → (x y z t : Bool) → is_word (codes "when") w ≡ true
     → (p.line == w.line) ≡ x → is_word (codes "any") p ≡ y → is_word (codes "strict") p ≡ z → is_differs p ≡ t → Runs nested (Behind h) (w ∷ p ∷ ps)
 at_second n ih nested h w p ps le false y z t e f k l q = runs_other_line nested h w p ps e f (ih nested (Behind h) (p ∷ ps) le)
 at_second n ih nested h w p ps le true true z t e f k l q = runs_any nested h w p ps e f k (ih nested (Behind h) ps (omega arith))
 at_second n ih nested h w p ps le true false true t e f k l q = runs_strict nested h w p ps e f k l (ih nested (Behind h) ps (omega arith))
 at_second n ih nested h w p ps le true false false true e f k l q =
-    runs_code nested h w p ps e f k l q (ih true Apart (up_to_end_of w.line ps) (omega (arith, length_up w.line ps))) (ih nested (Behind h) (behind_end_of w.line ps) (omega (arith, length_behind w.line ps)))
+    runs_code nested h w p ps e f k l q (ih true Apart (up_to_end_of w.line ps) (omega (arith, length_up w.line ps)))
+    (ih nested (Behind h) (behind_end_of w.line ps) (omega (arith, length_behind w.line ps)))
 at_second n ih nested h w p ps le true false false false e f k l q = runs_no_word nested h w p ps e f k l q (ih nested (Behind h) (p ∷ ps) le)
 
 pub at_when : (n : ℕ) → All n → (nested : Bool) (h : ℕ) (w : Placed) (ps : List Placed) → length ps ≤ n → (x : Bool) → is_word (codes "when") w ≡ x

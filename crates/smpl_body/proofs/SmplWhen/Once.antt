@@ -10,7 +10,8 @@ no_both e f = cc
 no_forms : {f g h : Form} {r s : Parts} → f ≡ g → f ≡ h → (g ≡ h → r ≡ s) → r ≡ s
 no_forms e f k = k (sym e ∙ f)
 
-pub parted_once : {nested : Bool} {spot : Spot} {ps : List Placed} (one other : Parts) → IsParted nested spot ps one → IsParted nested spot ps other → one ≡ other
+pub parted_once : {nested : Bool} {spot : Spot} {ps : List Placed} (one other : Parts) → IsParted nested spot ps one
+    → IsParted nested spot ps other → one ≡ other
 parted_once one other ends ends = refl
 parted_once one other (plain {r = r} p e d) (plain {r = s} _ f g) = ap (λ (x : Parts). with_own p x) (parted_once r s d g)
 parted_once one other (plain p e d) (dots _ f g) = no_both f e

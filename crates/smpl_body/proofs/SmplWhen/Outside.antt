@@ -5,7 +5,7 @@ use Rattle.c_terms.specs.declared.token.Token.{Token}
 use Rattle.smpl_meta.specs.declared.patterns.Placed.{Placed}
 use Rattle.smpl_meta.specs.Patterns as split
 use Rattle.smpl_meta.specs.Patterns.{Split, is_host_of, is_word, is_differs, split_by, split_all}
-use Rattle.smpl_body.specs.declared.smpl_when.clauses.Said.{Said}
+use Rattle.smpl_body.specs.declared.smpl_when.clauses.WhenFlags.{WhenFlags}
 use Rattle.smpl_body.specs.declared.smpl_when.cutting.Code.{Code}
 use Rattle.smpl_body.specs.declared.smpl_when.cutting.Where.{Where}
 use Rattle.smpl_body.specs.declared.smpl_when.cutting.Where.TheVariants.{Free, After, When}
@@ -55,18 +55,20 @@ host_by : (x : Bool) (id : ℕ) → place_by None (if x then After id else Free)
 host_by true id = refl
 host_by false id = refl
 
-alike-own : (m : List Token) (cs : List Code) (ss : List Said) (ws : List ℕ) (b : Bool) (v : Where) (s : Split) (p : Placed) → m ≡ tokens_of s.main
+alike-own : (m : List Token) (cs : List Code) (ss : List WhenFlags) (ws : List ℕ) (b : Bool) (v : Where) (s : Split) (p : Placed) → m ≡ tokens_of s.main
     → Alike (machine.put (st m cs None ss ws b v) p) (split.to_main s p)
 alike-own m cs ss ws b v s p e = record {
   main = ap (λ (l : List Token). l ++ p.token ∷ []) e ∙ sym (tokens-snoc s.main p);
   place = host_by (is_host_of p.token.kind p.token.text) p.token.id;
 }
 
-alike-after : (m : List Token) (cs : List Code) (ss : List Said) (ws : List ℕ) (b : Bool) (v : Where) (h k : ℕ) (s : Split) (p : Placed) → m ≡ tokens_of s.main
+alike-after : (m : List Token) (cs : List Code) (ss : List WhenFlags) (ws : List ℕ) (b : Bool) (v : Where) (h k : ℕ) (s : Split)
+    (p : Placed) → m ≡ tokens_of s.main
     → Alike (machine.after (st m cs None ss ws b v) h p) (split.after k s p)
 alike-after m cs ss ws b v h k s p e = both (is_word (codes "when") p) _ _ _ _ (record { main = e; place = refl }) (alike-own m cs ss ws b v s p e)
 
-alike-when : (m : List Token) (cs : List Code) (ss : List Said) (ws : List ℕ) (b : Bool) (v : Where) (h k line : ℕ) (s : Split) (p : Placed) → m ≡ tokens_of s.main
+alike-when : (m : List Token) (cs : List Code) (ss : List WhenFlags) (ws : List ℕ) (b : Bool) (v : Where) (h k line : ℕ)
+    (s : Split) (p : Placed) → m ≡ tokens_of s.main
     → Alike (machine.behind_when (st m cs None ss ws b v) h line p) (split.when_by k line s p)
 alike-when m cs ss ws b v h k line s p e =
     both (not (p.line == line)) _ _ _ _ (alike-after m cs ss ws true v h k (split.to_clauses s k split.Broken) p e)
@@ -78,27 +80,38 @@ alike-when m cs ss ws b v h k line s p e =
 main-pick : (m : List Token) (x : Bool) (a b : Cutting) → a.main ≡ m → b.main ≡ m → (if x then a else b).main ≡ m
 main-pick m x a b k l = pick (λ (d : Cutting). d.main ≡ m) x a b k l
 
-main-in : (v : Where) (m : List Token) (cs : List Code) (o : OpenCode) (ss : List Said) (ws : List ℕ) (b : Bool) (u : Where) (p : Placed) → (step_by v (st m cs (Some o) ss ws b u) p).main ≡ m
+main-in : (v : Where) (m : List Token) (cs : List Code) (o : OpenCode) (ss : List WhenFlags) (ws : List ℕ) (b : Bool)
+    (u : Where) (p : Placed) → (step_by v (st m cs (Some o) ss ws b u) p).main ≡ m
 main-in Free m cs o ss ws b u p = refl
 main-in (After h) m cs o ss ws b u p = main-pick m (is_word (codes "when") p) _ _ refl refl
 main-in (When h line) m cs o ss ws b u p =
-    let anew = main-pick m (is_word (codes "when") p) (machine.put_word (st m cs (Some o) ss ws true u) p (When h p.line)) (machine.put (st m cs (Some o) ss ws true u) p) refl refl in
+    let anew = main-pick m (is_word (codes "when") p) (machine.put_word (st m cs (Some o) ss ws true u) p (When h p.line))
+    (machine.put (st m cs (Some o) ss ws true u) p) refl refl in
     main-pick m (not (p.line == line)) _ _ anew
     (main-pick m (is_word (codes "any") p) _ _ refl (main-pick m (is_word (codes "strict") p) _ _ refl (main-pick m (is_differs p) _ _ refl anew)))
 
 place-kept : (o : OpenCode) (c : Cutting) → Kept o c → place_by c.inner c.next ≡ Inside o.line
 place-kept o c k = ap (λ (i : Option OpenCode). place_by i c.next) k.inner ∙ ap (λ (l : ℕ). Inside l) k.line
 
-alike-in : (v : Where) (m : List Token) (cs : List Code) (o : OpenCode) (ss : List Said) (ws : List ℕ) (b : Bool) (s : Split) (p : Placed) (k line : ℕ) (code : List Placed) (x : Bool)
+alike-in : (v : Where) (m : List Token) (cs : List Code) (o : OpenCode) (ss : List WhenFlags) (ws : List ℕ) (b : Bool)
+    (s : Split) (p : Placed) (k line : ℕ) (code : List Placed) (x : Bool)
     → m ≡ tokens_of s.main → o.line ≡ line → Alike (picked (st m cs (Some o) ss ws b v) p x)
-    (if x then record { main = s.main; clauses = s.clauses; words = s.words; next = split.Code k line (code ++ p ∷ []) } else split.after k (split.to_clauses s k (split.Not code)) p)
+    (if x then record {
+      main = s.main;
+      clauses = s.clauses;
+      words = s.words;
+      next =
+          split.Code k line (code ++ p ∷ []);
+    } else split.after k (split.to_clauses s k (split.Not code)) p)
 alike-in v m cs o ss ws b s p k line code true e at = record {
   main = main-in v m cs o ss ws b v p ∙ e;
   place = place-kept o (step_by v (st m cs (Some o) ss ws b v) p) (kept_by v m cs o ss ws b v p) ∙ ap (λ (l : ℕ). Inside l) at;
 }
-alike-in v m cs o ss ws b s p k line code false e at = alike-after m (cs ++ o.code ∷ []) ss ws _ (After o.back) o.back k (split.to_clauses s k (split.Not code)) p e
+alike-in v m cs o ss ws b s p k line code false e at =
+    alike-after m (cs ++ o.code ∷ []) ss ws _ (After o.back) o.back k (split.to_clauses s k (split.Not code)) p e
 
-alike-one : (i : Option OpenCode) (v : Where) (w : split.Where) (m : List Token) (cs : List Code) (ss : List Said) (ws : List ℕ) (b : Bool) (s : Split) (p : Placed)
+alike-one : (i : Option OpenCode) (v : Where) (w : split.Where) (m : List Token) (cs : List Code) (ss : List WhenFlags)
+    (ws : List ℕ) (b : Bool) (s : Split) (p : Placed)
     → m ≡ tokens_of s.main → place_by i v ≡ split_place w → Alike (step (st m cs i ss ws b v) p) (split_by w s p)
 alike-one None Free split.Free m cs ss ws b s p e f = alike-own m cs ss ws b Free s p e
 alike-one None (After h) (split.After k) m cs ss ws b s p e f = alike-after m cs ss ws b (After h) h k s p e

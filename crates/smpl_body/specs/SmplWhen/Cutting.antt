@@ -5,7 +5,7 @@ use Rattle.std.specs.Prelude.{ℕ, zero, suc, ◌==◌, ◌||◌, not, Bool, tru
 use Rattle.c_terms.specs.declared.token.Token.{Token}
 use Rattle.smpl_meta.specs.declared.patterns.Placed.{Placed}
 use Rattle.smpl_meta.specs.Patterns.{is_word, is_differs, is_host_of}
-use Rattle.smpl_body.specs.declared.smpl_when.clauses.Said.{Said}
+use Rattle.smpl_body.specs.declared.smpl_when.clauses.WhenFlags.{WhenFlags}
 use Rattle.smpl_body.specs.declared.smpl_when.cutting.Code.{Code}
 use Rattle.smpl_body.specs.declared.smpl_when.cutting.Where.{Where}
 use Rattle.smpl_body.specs.declared.smpl_when.cutting.Where.TheVariants.{Free, After, When}
@@ -15,21 +15,21 @@ use Rattle.smpl_body.specs.declared.smpl_when.cutting.Cutting.{Cutting}
 -- ---- what the clauses of each token say
 
 -- no clause
-abbrev pub unsaid : Placed → Said
+abbrev pub unsaid : Placed → WhenFlags
 unsaid p = record { any = false; strict = false; codes = [] }
 
-abbrev pub say_any : Said → Said
+abbrev pub say_any : WhenFlags → WhenFlags
 say_any s = record { any = true; strict = s.strict; codes = s.codes }
 
-abbrev pub say_strict : Said → Said
+abbrev pub say_strict : WhenFlags → WhenFlags
 say_strict s = record { any = s.any; strict = true; codes = s.codes }
 
 -- the code with this number is added
-abbrev pub say_code : ℕ → Said → Said
+abbrev pub say_code : ℕ → WhenFlags → WhenFlags
 say_code k s = record { any = s.any; strict = s.strict; codes = s.codes ++ k ∷ [] }
 
 -- the list with another item at a place
-abbrev pub changed : (Said → Said) → ℕ → List Said → List Said
+abbrev pub changed : (WhenFlags → WhenFlags) → ℕ → List WhenFlags → List WhenFlags
 changed f n [] = []
 changed f zero (s ∷ ss) = f s ∷ ss
 changed f (suc n) (s ∷ ss) = s ∷ changed f n ss
@@ -63,9 +63,17 @@ put c p = put_by c.inner c p
 
 -- a word of a clause
 abbrev pub put_word : Cutting → Placed → Where → Cutting
-put_word c p next = record { main = c.main; codes = c.codes; inner = c.inner; said = c.said; words = c.words ++ p.token.id ∷ []; broken = c.broken; next = next }
+put_word c p next = record {
+  main = c.main;
+  codes = c.codes;
+  inner = c.inner;
+  said = c.said;
+  words = c.words ++ p.token.id ∷ [];
+  broken = c.broken;
+  next = next;
+}
 
-abbrev pub with_said : Cutting → List Said → Cutting
+abbrev pub with_said : Cutting → List WhenFlags → Cutting
 with_said c said = record { main = c.main; codes = c.codes; inner = c.inner; said = said; words = c.words; broken = c.broken; next = c.next }
 
 abbrev pub with_broken : Cutting → Cutting
@@ -85,7 +93,16 @@ opened (Some o) host line = record { line = o.line; back = o.back; code = record
 abbrev pub with_code : Cutting → (host line : ℕ) → Cutting
 with_code c host line =
     let all = c.codes ++ open_codes c.inner in
-    record { main = c.main; codes = all; inner = Some (opened c.inner host line); said = changed (say_code (length all)) host c.said; words = c.words; broken = c.broken; next = Free }
+    record {
+      main = c.main;
+      codes = all;
+      inner = Some (opened c.inner host line);
+      said =
+          changed (say_code (length all)) host c.said;
+      words = c.words;
+      broken = c.broken;
+      next = Free;
+    }
 
 -- directly after dots, a nest or a clause
 abbrev pub after : Cutting → ℕ → Placed → Cutting
@@ -113,7 +130,15 @@ is_when _ = false
 -- code that is open ends, and so does a `when` in it that nothing follows
 abbrev pub ended_by : Option OpenCode → Cutting → Cutting
 ended_by None c = c
-ended_by (Some o) c = record { main = c.main; codes = c.codes ++ o.code ∷ []; inner = None; said = c.said; words = c.words; broken = c.broken || is_when c.next; next = After o.back }
+ended_by (Some o) c = record {
+  main = c.main;
+  codes = c.codes ++ o.code ∷ [];
+  inner = None;
+  said = c.said;
+  words = c.words;
+  broken = c.broken || is_when c.next;
+  next = After o.back;
+}
 
 -- no code is open, or the open code continues in this line
 abbrev pub goes_on : Option OpenCode → ℕ → Bool

@@ -10,7 +10,7 @@ use Rattle.std.specs.List.{list_any}
 use Rattle.c_terms.specs.declared.token.Token.{Token}
 use Rattle.smpl_meta.specs.declared.patterns.Placed.{Placed}
 use Rattle.smpl_meta.specs.Patterns.{is_word, is_differs, is_host_of}
-use Rattle.smpl_body.specs.declared.smpl_when.clauses.Said.{Said}
+use Rattle.smpl_body.specs.declared.smpl_when.clauses.WhenFlags.{WhenFlags}
 use Rattle.smpl_body.specs.declared.smpl_when.cutting.Code.{Code}
 use Rattle.smpl_body.specs.declared.smpl_when.cutting.Cutting.{Cutting}
 
@@ -160,11 +160,11 @@ numbers_at n k [] = []
 numbers_at n k (c ∷ cs) = if n == c.host then k ∷ numbers_at n (suc k) cs else numbers_at n (suc k) cs
 
 -- what the clauses of the token with the number n say
-abbrev pub said_at : ℕ → Parts → Said
+abbrev pub said_at : ℕ → Parts → WhenFlags
 said_at n r = record { any = has n r.anys; strict = has n r.stricts; codes = numbers_at n 0 r.codes }
 
 -- what the clauses of these tokens say, which are numbered from n
-abbrev pub said_from : ℕ → List Placed → Parts → List Said
+abbrev pub said_from : ℕ → List Placed → Parts → List WhenFlags
 said_from n [] r = []
 said_from n (p ∷ ps) r = said_at n r ∷ said_from (suc n) ps r
 

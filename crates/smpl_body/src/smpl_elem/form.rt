@@ -1,7 +1,7 @@
 // What a tree is as a part of a body, and which of its children are parts in turn.
 ghost use Rattle.std.specs.Prelude.{◌≡◌, ◌<◌, slice_get, IfOk};
 ghost use Rattle.std.specs.Option.{option_copied};
-ghost use Rattle.smpl_body.specs.SmplElem.Forms as told;
+ghost use Rattle.smpl_body.specs.SmplElem.Forms as spec;
 
 use c_terms::{Label, MetaKind, NoMemory, TokenKind, Tree};
 use sqlite_items::Items;
@@ -34,7 +34,7 @@ pub enum Form {
 
 /// Whether the tree is a list of statements.
 fn is_list(tree: &Tree) -> bool
-    ensures { result ≡ told.is_list tree.now }
+    ensures { result ≡ spec.is_list tree.now }
 {
     match tree {
         Tree::Leaf(_) => false,
@@ -44,7 +44,7 @@ fn is_list(tree: &Tree) -> bool
 }
 
 fn form_of_token(kind: TokenKind) -> Form
-    ensures { result ≡ told.form_of_token kind }
+    ensures { result ≡ spec.form_of_token kind }
 {
     match kind {
         TokenKind::Dots => Form::Gap,
@@ -55,7 +55,7 @@ fn form_of_token(kind: TokenKind) -> Form
 
 /// Returns the given form if the branches are lists of statements, else the form of an expression.
 fn form_of_choice(form: Form, children: &[Tree]) -> Form
-    ensures { result ≡ told.form_of_choice form children.now }
+    ensures { result ≡ spec.form_of_choice form children.now }
 {
     match children.get(1) {
         Some(child) => {
@@ -70,7 +70,7 @@ fn form_of_choice(form: Form, children: &[Tree]) -> Form
 }
 
 fn form_of_other(label: Label) -> Form
-    ensures { result ≡ told.form_of_other label }
+    ensures { result ≡ spec.form_of_other label }
 {
     if label.is_head() {
         Form::Head
@@ -82,7 +82,7 @@ fn form_of_other(label: Label) -> Form
 }
 
 fn form_of(label: Label, children: &[Tree]) -> Form
-    ensures { result ≡ told.form_of label children.now }
+    ensures { result ≡ spec.form_of label children.now }
 {
     match label {
         Label::PatOr => form_of_choice(Form::AnyOf, children),
@@ -96,7 +96,7 @@ fn form_of(label: Label, children: &[Tree]) -> Form
 }
 
 pub(crate) fn form_at(tree: &Tree) -> Form
-    ensures { result ≡ told.form_at tree.now }
+    ensures { result ≡ spec.form_at tree.now }
 {
     match tree {
         Tree::Leaf(token) => form_of_token(token.kind),
@@ -106,7 +106,7 @@ pub(crate) fn form_at(tree: &Tree) -> Form
 
 /// Returns the children of a branch. A token has none.
 pub(crate) fn kids(tree: &Tree) -> &[Tree]
-    ensures { result.now ≡ told.kids tree.now }
+    ensures { result.now ≡ spec.kids tree.now }
 {
     match tree {
         Tree::Leaf(_) => &[],
@@ -116,7 +116,7 @@ pub(crate) fn kids(tree: &Tree) -> &[Tree]
 
 /// Returns the label of a branch, or for a token the label of a list of statements.
 pub(crate) fn label_at(tree: &Tree) -> Label
-    ensures { result ≡ told.label_at tree.now }
+    ensures { result ≡ spec.label_at tree.now }
 {
     match tree {
         Tree::Leaf(_) => Label::StmtList,
@@ -127,7 +127,7 @@ pub(crate) fn label_at(tree: &Tree) -> Label
 /// Whether child `i` of `n` has elements of its own.
 pub(crate) fn is_part(form: Form, label: Label, n: usize, i: usize, child: &Tree) -> bool
     requires { i < n }
-    ensures { result ≡ told.is_part form label n i child.now }
+    ensures { result ≡ spec.is_part form label n i child.now }
 {
     match form {
         Form::AnyOf | Form::AllOf => is_list(child),
@@ -140,7 +140,7 @@ pub(crate) fn is_part(form: Form, label: Label, n: usize, i: usize, child: &Tree
 
 /// Returns the number of the form's own patterns before those of its parts.
 pub(crate) fn before(form: Form) -> u32
-    ensures { result ≡ told.before form }
+    ensures { result ≡ spec.before form }
 {
     match form {
         Form::Expression | Form::Plain | Form::Block | Form::Head | Form::Do => 1,
@@ -150,7 +150,7 @@ pub(crate) fn before(form: Form) -> u32
 
 /// Returns the number of the form's own patterns after those of its parts.
 pub(crate) fn after(form: Form) -> u32
-    ensures { result ≡ told.after form }
+    ensures { result ≡ spec.after form }
 {
     match form {
         Form::Block | Form::Do => 1,
@@ -160,7 +160,7 @@ pub(crate) fn after(form: Form) -> u32
 
 /// Returns the number of a token.
 pub(crate) fn id_at(tree: &Tree) -> u64
-    ensures { result ≡ told.id_at tree.now }
+    ensures { result ≡ spec.id_at tree.now }
 {
     match tree {
         Tree::Leaf(token) => token.id,
@@ -170,14 +170,14 @@ pub(crate) fn id_at(tree: &Tree) -> u64
 
 /// Returns the placeholder for a child that is not compared.
 pub(crate) fn nothing(alloc: Global) -> Tree
-    ensures { result ≡ told.nothing }
+    ensures { result ≡ spec.nothing }
 {
     Tree::Branch(Label::StmtList, Items::new(alloc))
 }
 
 /// Returns a copy of the first child.
 pub(crate) fn first_kid(alloc: Global, children: &[Tree]) -> Result<Tree, NoMemory>
-    ensures { IfOk result (λ t. t ≡ told.first_kid children.now) }
+    ensures { IfOk result (λ t. t ≡ spec.first_kid children.now) }
 {
     match children {
         [] => Ok(nothing(alloc)),
@@ -187,7 +187,7 @@ pub(crate) fn first_kid(alloc: Global, children: &[Tree]) -> Result<Tree, NoMemo
 
 /// Returns a copy of the last child.
 pub(crate) fn last_kid(alloc: Global, children: &[Tree]) -> Result<Tree, NoMemory>
-    ensures { IfOk result (λ t. t ≡ told.last_kid children.now) }
+    ensures { IfOk result (λ t. t ≡ spec.last_kid children.now) }
 {
     match children {
         [] => Ok(nothing(alloc)),
@@ -197,7 +197,7 @@ pub(crate) fn last_kid(alloc: Global, children: &[Tree]) -> Result<Tree, NoMemor
 
 /// Returns the number of the last child, which is a token.
 pub(crate) fn last_id(children: &[Tree]) -> u64
-    ensures { result ≡ told.id_at (told.last_kid children.now) }
+    ensures { result ≡ spec.id_at (spec.last_kid children.now) }
 {
     match children {
         [] => 0,
@@ -207,7 +207,7 @@ pub(crate) fn last_id(children: &[Tree]) -> u64
 
 /// Whether the first child is `<+...`.
 pub(crate) fn is_more(children: &[Tree]) -> bool
-    ensures { result ≡ told.is_more (told.first_kid children.now) }
+    ensures { result ≡ spec.is_more (spec.first_kid children.now) }
 {
     match children {
         [Tree::Leaf(sign), ..] => sign.text.as_bytes() == b"<+...".as_slice(),

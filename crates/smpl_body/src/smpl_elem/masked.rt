@@ -1,7 +1,7 @@
 // Heads and tails: what is compared of a statement with bodies.
 ghost use Rattle.std.specs.Prelude.{◌≡◌, length, IfOk};
 ghost use Rattle.smpl_patch.specs.Held.{is_held as is_held_at};
-ghost use Rattle.smpl_body.specs.SmplElem.Forms as told;
+ghost use Rattle.smpl_body.specs.SmplElem.Forms as spec;
 
 use crate::smpl_elem::form::nothing;
 use c_terms::{Label, NoMemory, Tree};
@@ -11,7 +11,7 @@ use std::alloc::Global;
 
 /// Returns a copy of the child, or its placeholder.
 fn child(alloc: Global, own: bool, tree: &Tree) -> Result<Tree, NoMemory>
-    ensures { IfOk result (λ t. t ≡ told.child_or own tree.now) }
+    ensures { IfOk result (λ t. t ≡ spec.child_or own tree.now) }
 {
     if own {
         tree.copy(alloc)
@@ -26,7 +26,7 @@ fn masked_children(
     label: Label,
     trees: &[Tree],
 ) -> Result<Items<Tree>, NoMemory>
-    ensures { IfOk result (λ ts. ts ≡ told.masked_from (is_held_at spot label (length trees.now)) 0 trees.now) }
+    ensures { IfOk result (λ ts. ts ≡ spec.masked_from (is_held_at spot label (length trees.now)) 0 trees.now) }
 {
     let mut kept = Vec::new(alloc);
     for i in 0..trees.len() {
@@ -39,7 +39,7 @@ fn masked_children(
 /// Returns a copy of the tree in which an empty list of statements replaces each child that is not compared at the spot.
 /// Linear in the children that are compared.
 pub(crate) fn masked(alloc: Global, spot: Spot, tree: &Tree) -> Result<Tree, NoMemory>
-    ensures { IfOk result (λ t. t ≡ told.masked spot tree.now) }
+    ensures { IfOk result (λ t. t ≡ spec.masked spot tree.now) }
 {
     match tree {
         Tree::Leaf(_) => tree.copy(alloc),

@@ -4,7 +4,7 @@ ghost use Rattle.c_terms.specs.Trees.{join};
 ghost use Rattle.smpl_patch.specs.declared.elem.Elem.TheVariants as elem;
 ghost use Rattle.smpl_patch.specs.declared.pattern.Spot.TheVariants as spots;
 ghost use Rattle.smpl_body.specs.SmplElem.Forms as forms_of;
-ghost use Rattle.smpl_body.specs.SmplElem.Elements as told;
+ghost use Rattle.smpl_body.specs.SmplElem.Elements as spec;
 
 use crate::smpl_elem::form::{
     Form, after, before, first_kid, form_at, id_at, is_more, is_part, kids, label_at, last_id,
@@ -19,9 +19,9 @@ use std::alloc::Global;
 /// What the clauses of tokens say.
 pub trait DotsSource {
     ghost use Rattle.std.specs.Prelude.{◌≡◌, ℕ, IfOk};
-    ghost use Rattle.smpl_patch.specs.declared.elem.Dots.{Dots as Said};
+    ghost use Rattle.smpl_patch.specs.declared.elem.Dots.{Dots as WhenFlags};
 
-    ghost dots_at: { Self → ℕ → Said };
+    ghost dots_at: { Self → ℕ → WhenFlags };
 
     /// Returns what the clauses of the token with this number say.
     fn dots(&self, alloc: Global, id: u64) -> Result<Dots, NoMemory>
@@ -36,7 +36,7 @@ pub struct Numbered {
 }
 
 fn pattern(alloc: Global, atom: u32, spot: Spot, tree: Tree) -> Result<Pattern, NoMemory>
-    ensures { IfOk result (λ p. p ≡ told.pattern atom spot tree) }
+    ensures { IfOk result (λ p. p ≡ spec.pattern atom spot tree) }
 {
     let mut forms = Items::new(alloc);
     forms.push(tree)?;
@@ -63,7 +63,7 @@ fn one(alloc: Global, elem: Elem) -> Result<Items<Elem>, NoMemory>
 }
 
 fn atom(alloc: Global, atom: u32, spot: Spot, tree: &Tree) -> Result<Items<Elem>, NoMemory>
-    ensures { IfOk result (λ elems. elems ≡ elem.Atom (told.pattern atom spot tree.now) ∷ []) }
+    ensures { IfOk result (λ elems. elems ≡ elem.Atom (spec.pattern atom spot tree.now) ∷ []) }
 {
     let pattern = pattern(alloc, atom, spot, tree.copy(alloc)?)?;
     one(alloc, Elem::Atom(pattern))
@@ -77,8 +77,8 @@ fn block(
     next: u32,
 ) -> Result<Items<Elem>, NoMemory>
     ensures { IfOk result (λ elems. elems ≡ elem.Block
-        (told.pattern first spots.Whole (forms_of.first_kid (forms_of.kids tree.now))) (join parts.items)
-        (told.pattern next spots.Whole (forms_of.last_kid (forms_of.kids tree.now))) ∷ []) }
+        (spec.pattern first spots.Whole (forms_of.first_kid (forms_of.kids tree.now))) (join parts.items)
+        (spec.pattern next spots.Whole (forms_of.last_kid (forms_of.kids tree.now))) ∷ []) }
 {
     let children = kids(tree);
     let start = pattern(alloc, first, Spot::Whole, first_kid(alloc, children)?)?;
@@ -118,7 +118,7 @@ fn head(
     parts: Vec<Items<Elem>>,
 ) -> Result<Items<Elem>, NoMemory>
     ensures { IfOk result (λ elems. elems ≡ elem.Compound
-        (told.pattern first spots.Whole (forms_of.masked spots.Whole tree.now)) parts.items NoTail ∷ []) }
+        (spec.pattern first spots.Whole (forms_of.masked spots.Whole tree.now)) parts.items NoTail ∷ []) }
 {
     let own = pattern(alloc, first, Spot::Whole, masked(alloc, Spot::Whole, tree)?)?;
     one(alloc, Elem::Compound(own, Items::from_vec(parts), None))
@@ -132,8 +132,8 @@ fn do_while(
     next: u32,
 ) -> Result<Items<Elem>, NoMemory>
     ensures { IfOk result (λ elems. elems ≡ elem.Compound
-        (told.pattern first spots.Whole (forms_of.masked spots.Whole tree.now)) parts.items
-        (Some (told.pattern next spots.Tail (forms_of.masked spots.Tail tree.now))) ∷ []) }
+        (spec.pattern first spots.Whole (forms_of.masked spots.Whole tree.now)) parts.items
+        (Some (spec.pattern next spots.Tail (forms_of.masked spots.Tail tree.now))) ∷ []) }
 {
     let own = pattern(alloc, first, Spot::Whole, masked(alloc, Spot::Whole, tree)?)?;
     let tail = pattern(alloc, next, Spot::Tail, masked(alloc, Spot::Tail, tree)?)?;
@@ -154,7 +154,7 @@ fn made<C: DotsSource>(
     next: u32,
 ) -> Result<Items<Elem>, NoMemory>
     ensures { IfOk result (λ elems. elems ≡
-        told.made form (C.dots_at clauses.now) tree.now first parts.items next) }
+        spec.made form (C.dots_at clauses.now) tree.now first parts.items next) }
 {
     match form {
         Form::Gap => gap(alloc, clauses, tree),
@@ -181,7 +181,7 @@ fn finished<C: DotsSource>(
     next: u32,
 ) -> Result<Numbered, NoMemory>
     ensures elems { IfOk result (λ r. r.elems ≡
-        told.made form (C.dots_at clauses.now) tree.now first parts.items next) }
+        spec.made form (C.dots_at clauses.now) tree.now first parts.items next) }
     ensures next { IfOk result (λ r. r.next ≡ next + forms_of.after form) }
 {
     let elems = made(alloc, form, clauses, tree, first, parts, next)?;
@@ -197,8 +197,8 @@ pub fn elements<C: DotsSource>(
     tree: &Tree,
     first: u32,
 ) -> Result<Numbered, NoMemory>
-    ensures elems { IfOk result (λ r. r.elems ≡ told.elements (C.dots_at clauses.now) first tree.now) }
-    ensures next { IfOk result (λ r. r.next ≡ first + told.atoms tree.now) }
+    ensures elems { IfOk result (λ r. r.elems ≡ spec.elements (C.dots_at clauses.now) first tree.now) }
+    ensures next { IfOk result (λ r. r.next ≡ first + spec.atoms tree.now) }
 {
     let form = form_at(tree);
     let label = label_at(tree);

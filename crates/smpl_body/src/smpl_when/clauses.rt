@@ -1,7 +1,7 @@
 // What the clauses of each token say.
 ghost use Rattle.std.specs.Prelude.{◌≡◌, map, slice_get, IfOk};
 ghost use Rattle.std.specs.Option.{option_copied};
-ghost use Rattle.smpl_body.specs.SmplWhen.Cutting as told;
+ghost use Rattle.smpl_body.specs.SmplWhen.Cutting as spec;
 
 use c_terms::NoMemory;
 use smpl_meta::Placed;
@@ -11,7 +11,7 @@ use std::marker::Model;
 
 /// What the clauses of a token say.
 #[derive(Drop)]
-pub struct Said {
+pub struct WhenFlags {
     /// `when any`
     pub any: bool,
     /// `when strict`
@@ -21,10 +21,10 @@ pub struct Said {
 }
 
 /// Returns what a token without clauses has.
-fn unsaid(alloc: Global, _p: &Placed) -> Said
-    ensures { result ≡ told.unsaid _p.now }
+fn unsaid(alloc: Global, _p: &Placed) -> WhenFlags
+    ensures { result ≡ spec.unsaid _p.now }
 {
-    Said {
+    WhenFlags {
         any: false,
         strict: false,
         codes: Items::new(alloc),
@@ -34,12 +34,12 @@ fn unsaid(alloc: Global, _p: &Placed) -> Said
 /// What the clauses of each token say, by the token's number.
 #[derive(Drop)]
 pub struct Clauses {
-    said: Vec<Said>,
+    said: Vec<WhenFlags>,
 }
 
 impl Model for Clauses {
     ghost use Rattle.std.specs.Prelude.{List};
-    ghost use Rattle.smpl_body.specs.declared.smpl_when.clauses.Said.{Said as What};
+    ghost use Rattle.smpl_body.specs.declared.smpl_when.clauses.WhenFlags.{WhenFlags as What};
 
     ghost Value = { List What };
 
@@ -103,7 +103,7 @@ impl Clauses {
     }
 
     /// Returns what the clauses of the token with this number say. Takes no memory.
-    pub fn get(&self, id: u64) -> Option<&Said>
+    pub fn get(&self, id: u64) -> Option<&WhenFlags>
         ensures value { option_copied result ≡ slice_get self.now id }
     {
         self.said.get(id as usize)

@@ -1,6 +1,6 @@
 // Splits a body into its own tokens and its clauses.
 ghost use Rattle.std.specs.Prelude.{◌≡◌, ◌++◌, IfOk};
-ghost use Rattle.smpl_body.specs.SmplWhen.Cutting as told;
+ghost use Rattle.smpl_body.specs.SmplWhen.Cutting as spec;
 
 use crate::smpl_when::clauses::Clauses;
 use crate::smpl_when::words::{is_differs, is_host, is_word};
@@ -58,7 +58,7 @@ pub struct Cutting {
 }
 
 fn next_of(p: &Placed) -> Where
-    ensures { result ≡ told.next_of p.now }
+    ensures { result ≡ spec.next_of p.now }
 {
     if is_host(p) {
         Where::After(p.token.id)
@@ -68,7 +68,7 @@ fn next_of(p: &Placed) -> Where
 }
 
 fn with_token(going: OpenCode, token: Token) -> Result<OpenCode, NoMemory>
-    ensures { IfOk result (λ r. r ≡ told.with_token going token) }
+    ensures { IfOk result (λ r. r ≡ spec.with_token going token) }
 {
     let mut going = going;
     going.code.tokens.push(token)?;
@@ -77,7 +77,7 @@ fn with_token(going: OpenCode, token: Token) -> Result<OpenCode, NoMemory>
 
 /// Adds a token outside clauses, or a token of the open code.
 fn put(alloc: Global, c: Cutting, p: &Placed) -> Result<Cutting, NoMemory>
-    ensures { IfOk result (λ r. r ≡ told.put c p.now) }
+    ensures { IfOk result (λ r. r ≡ spec.put c p.now) }
 {
     let token = p.token.copy(alloc)?;
     let Cutting {
@@ -109,7 +109,7 @@ fn put(alloc: Global, c: Cutting, p: &Placed) -> Result<Cutting, NoMemory>
 
 /// Adds a word of a clause.
 fn put_word(c: Cutting, p: &Placed, next: Where) -> Result<Cutting, NoMemory>
-    ensures { IfOk result (λ r. r ≡ told.put_word c p.now next) }
+    ensures { IfOk result (λ r. r ≡ spec.put_word c p.now next) }
 {
     let mut c = c;
     c.words.push(p.token.id)?;
@@ -118,7 +118,7 @@ fn put_word(c: Cutting, p: &Placed, next: Where) -> Result<Cutting, NoMemory>
 }
 
 fn with_any(c: Cutting, host: u64) -> Cutting
-    ensures { result ≡ told.with_said c (told.changed told.say_any host c.said) }
+    ensures { result ≡ spec.with_said c (spec.changed spec.say_any host c.said) }
 {
     let mut c = c;
     c.said = c.said.with_any(host);
@@ -126,7 +126,7 @@ fn with_any(c: Cutting, host: u64) -> Cutting
 }
 
 fn with_strict(c: Cutting, host: u64) -> Cutting
-    ensures { result ≡ told.with_said c (told.changed told.say_strict host c.said) }
+    ensures { result ≡ spec.with_said c (spec.changed spec.say_strict host c.said) }
 {
     let mut c = c;
     c.said = c.said.with_strict(host);
@@ -134,7 +134,7 @@ fn with_strict(c: Cutting, host: u64) -> Cutting
 }
 
 fn with_broken(c: Cutting) -> Cutting
-    ensures { result ≡ told.with_broken c }
+    ensures { result ≡ spec.with_broken c }
 {
     let mut c = c;
     c.broken = true;
@@ -156,8 +156,8 @@ fn opened(
     host: u64,
     line: u32,
 ) -> Result<NewCode, NoMemory>
-    ensures codes { IfOk result (λ r. r.codes ≡ codes ++ told.open_codes inner) }
-    ensures inside { IfOk result (λ r. r.going ≡ told.opened inner host line) }
+    ensures codes { IfOk result (λ r. r.codes ≡ codes ++ spec.open_codes inner) }
+    ensures inside { IfOk result (λ r. r.going ≡ spec.opened inner host line) }
 {
     let tokens = Items::new(alloc);
     match inner {
@@ -191,7 +191,7 @@ fn opened(
 
 /// Begins the code after `when !=`.
 fn with_code(alloc: Global, c: Cutting, host: u64, line: u32) -> Result<Cutting, NoMemory>
-    ensures { IfOk result (λ r. r ≡ told.with_code c host line) }
+    ensures { IfOk result (λ r. r ≡ spec.with_code c host line) }
 {
     let Cutting {
         main,
@@ -217,7 +217,7 @@ fn with_code(alloc: Global, c: Cutting, host: u64, line: u32) -> Result<Cutting,
 
 /// Takes a token directly after dots, a nest or a clause.
 fn after(alloc: Global, c: Cutting, host: u64, p: &Placed) -> Result<Cutting, NoMemory>
-    ensures { IfOk result (λ r. r ≡ told.after c host p.now) }
+    ensures { IfOk result (λ r. r ≡ spec.after c host p.now) }
 {
     if is_word(p, b"when") {
         put_word(c, p, Where::When(host, p.line))
@@ -234,7 +234,7 @@ fn behind_when(
     line: u32,
     p: &Placed,
 ) -> Result<Cutting, NoMemory>
-    ensures { IfOk result (λ r. r ≡ told.behind_when c host line p.now) }
+    ensures { IfOk result (λ r. r ≡ spec.behind_when c host line p.now) }
 {
     if p.line != line {
         after(alloc, with_broken(c), host, p)
@@ -251,7 +251,7 @@ fn behind_when(
 }
 
 fn is_when(next: Where) -> bool
-    ensures { result ≡ told.is_when next }
+    ensures { result ≡ spec.is_when next }
 {
     match next {
         Where::When(_, _) => true,
@@ -261,7 +261,7 @@ fn is_when(next: Where) -> bool
 
 /// Ends the open code.
 fn ended(c: Cutting) -> Result<Cutting, NoMemory>
-    ensures { IfOk result (λ r. r ≡ told.ended_by c.inner c) }
+    ensures { IfOk result (λ r. r ≡ spec.ended_by c.inner c) }
 {
     let Cutting {
         main,
@@ -304,7 +304,7 @@ fn ended(c: Cutting) -> Result<Cutting, NoMemory>
 
 /// Whether no code is open, or the open code continues in this line.
 fn goes_on(inner: &Option<OpenCode>, line: u32) -> bool
-    ensures { result ≡ told.goes_on inner.now line }
+    ensures { result ≡ spec.goes_on inner.now line }
 {
     match inner {
         None => true,
@@ -314,7 +314,7 @@ fn goes_on(inner: &Option<OpenCode>, line: u32) -> bool
 
 /// Ends the open code if the token is in another line.
 fn turned(c: Cutting, line: u32) -> Result<Cutting, NoMemory>
-    ensures { IfOk result (λ r. r ≡ told.turned c line) }
+    ensures { IfOk result (λ r. r ≡ spec.turned c line) }
 {
     if goes_on(&c.inner, line) {
         return Ok(c);
@@ -323,7 +323,7 @@ fn turned(c: Cutting, line: u32) -> Result<Cutting, NoMemory>
 }
 
 fn step(alloc: Global, c: Cutting, p: &Placed) -> Result<Cutting, NoMemory>
-    ensures { IfOk result (λ r. r ≡ told.step c p.now) }
+    ensures { IfOk result (λ r. r ≡ spec.step c p.now) }
 {
     let c = turned(c, p.line)?;
     match c.next {
@@ -335,7 +335,7 @@ fn step(alloc: Global, c: Cutting, p: &Placed) -> Result<Cutting, NoMemory>
 
 /// Ends the tokens.
 fn finished(c: Cutting) -> Result<Cutting, NoMemory>
-    ensures { IfOk result (λ r. r ≡ told.finished c) }
+    ensures { IfOk result (λ r. r ≡ spec.finished c) }
 {
     let c = ended(c)?;
     if is_when(c.next) {
@@ -346,7 +346,7 @@ fn finished(c: Cutting) -> Result<Cutting, NoMemory>
 
 /// Splits a body, given by its pattern tokens, into its own tokens and its clauses. Linear.
 pub fn cut(alloc: Global, placed: &[Placed]) -> Result<Cutting, NoMemory>
-    ensures { IfOk result (λ c. c ≡ told.cut placed.now) }
+    ensures { IfOk result (λ c. c ≡ spec.cut placed.now) }
 {
     let mut c = Cutting {
         main: Items::new(alloc),

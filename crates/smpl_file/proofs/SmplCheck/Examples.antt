@@ -48,7 +48,8 @@ plus_code_first : (d : Dep) → first_fault (patch (rule d (declared false x ∷
 plus_code_first d = refl
 
 -- of two variables the one declared first comes first, whatever its fault
-earlier_variable_first : (d : Dep) → first_fault (patch (rule d (declared false y ∷ declared false x ∷ []) (y ∷ []) (shows_x ∷ []) ∷ [])) ≡ Some (fault.MayStayUnbound y)
+earlier_variable_first : (d : Dep) → first_fault
+    (patch (rule d (declared false y ∷ declared false x ∷ []) (y ∷ []) (shows_x ∷ []) ∷ [])) ≡ Some (fault.MayStayUnbound y)
 earlier_variable_first d = refl
 
 -- an inherited variable has no fault of its own

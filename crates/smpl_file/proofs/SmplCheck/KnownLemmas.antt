@@ -35,7 +35,8 @@ same-value : (r : Rule) (c d : VarDecl) → is_unbound r c ≡ true → d.inheri
 same-value r c d h i e = ap (λ z. not z && may_lack r d.var) i ∙ (ap (may_lack r) e ∙ right (not c.inherited) (may_lack r c.var) h)
 
 -- the rule's own declaration of the first variable that may stay unbound declares one that may
-first-lacks : (r : Rule) (ds : List VarDecl) (x : Var) (d : VarDecl) → first_unbound_from r ds ≡ Some x → d.inherited ≡ false → d.var ≡ x → is_unbound r d ≡ true
+first-lacks : (r : Rule) (ds : List VarDecl) (x : Var) (d : VarDecl) → first_unbound_from r ds ≡ Some x → d.inherited ≡ false
+    → d.var ≡ x → is_unbound r d ≡ true
 first-lacks r [] x d h i e = absurd cc
 first-lacks r (c ∷ cs) x d h i e =
     elim (is_unbound r c) as (λ b. is_unbound r c ≡ b → (if b then Some c.var else first_unbound_from r cs) ≡ Some x → is_unbound r d ≡ true) [
@@ -79,5 +80,6 @@ later-first false x o v h q = h
 pub same-faults : (r : Rule) (u : Option Var) (ds : List VarDecl) → first_unbound_from r ds ≡ u → fault_by r u ds ≡ fault_of_vars r ds
 same-faults r u [] h = refl
 same-faults r u (d ∷ ds) h =
-    step (is_unbound_in_plus r d) (is_own_of u d) (is_unbound r d) (fault.UnboundInPlus d.var) (fault.MayStayUnbound d.var) (fault_by r u ds) (fault_of_vars r ds)
+    step (is_unbound_in_plus r d) (is_own_of u d) (is_unbound r d) (fault.UnboundInPlus d.var) (fault.MayStayUnbound d.var)
+    (fault_by r u ds) (fault_of_vars r ds)
     (is-own r d ds u h) (λ q. same-faults r u ds (later-first (is_unbound r d) d.var (first_unbound_from r ds) u h q))

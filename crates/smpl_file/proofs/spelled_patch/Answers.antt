@@ -23,7 +23,11 @@ returns-clause-few c =
     let text = c.in_ok-text.text in
     let heads = c.in_ok-heads.heads.heads in
     ok-map (λ (p : Patch). AreRulesOf text heads p) (λ (p : Patch). length p.rules < 2 ^ 32) c.rules_of.result
-    (λ p are. omega (arith, rules-length (taken heads) 0 text.rules heads p.rules are.rules, few-rules text c.in_ok-text.ensures.small)) c.rules_of.ensures.patch
+    (λ p are. omega (
+      arith,
+      rules-length (taken heads) 0 text.rules heads p.rules are.rules,
+      few-rules text c.in_ok-text.ensures.small,
+    )) c.rules_of.ensures.patch
 
 pub returns-clause-fault : goal.returns-clause-fault
 returns-clause-fault c =

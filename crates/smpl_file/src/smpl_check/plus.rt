@@ -7,9 +7,8 @@ ghost use Rattle.pattern_vars.specs.Reads.{has};
 ghost use Rattle.smpl_file.specs.SmplCheck.Checks as checks;
 
 use c_terms::NoMemory;
-use ctl_formula::copy_decls;
 use pattern_vars::{Decls, VarSet, put_block};
-use smpl_patch::{PatToken, Rule, VarDecl};
+use smpl_patch::{PatToken, Rule, VarDecl, copy_decls};
 use std::alloc::Global;
 
 /// Adds the variables in the plus code at the token.

@@ -14,13 +14,16 @@ returns-in_err-reading-clause-fault c =
     rw (p.1, p.2) (inl refl)
 
 pub returns-in-Some-clause-fault : goal.returns-in-Some-clause-fault
-returns-in-Some-clause-fault c = inr (fault_read c.args.bytes.now c.in_ok-reading.reading c.in-Some.fault c.in_ok-reading.ensures c.if-bytes-gt-MOST_BYTES.false (sym c.with_end.ensures ∙ c.in-Some.is))
+returns-in-Some-clause-fault c = inr (fault_read c.args.bytes.now c.in_ok-reading.reading c.in-Some.fault
+    c.in_ok-reading.ensures c.if-bytes-gt-MOST_BYTES.false (sym c.with_end.ensures ∙ c.in-Some.is))
 
 pub returns-in_ok-finished-in-None-clause-text : goal.returns-in_ok-finished-in-None-clause-text
 returns-in_ok-finished-in-None-clause-text c =
-    rw c.in_ok-finished-in-None.ensures (text_read c.args.bytes.now c.in_ok-reading.reading c.in_ok-reading.ensures c.if-bytes-gt-MOST_BYTES.false (sym c.with_end.ensures ∙ c.in-None.is))
+    rw c.in_ok-finished-in-None.ensures (text_read c.args.bytes.now c.in_ok-reading.reading c.in_ok-reading.ensures
+    c.if-bytes-gt-MOST_BYTES.false (sym c.with_end.ensures ∙ c.in-None.is))
 
 pub returns-in_ok-finished-in-None-clause-small : goal.returns-in_ok-finished-in-None-clause-small
 returns-in_ok-finished-in-None-clause-small c =
     text_is_small c.args.bytes.now c.in_ok-finished-in-None.field-0
-    (rw c.in_ok-finished-in-None.ensures (text_read c.args.bytes.now c.in_ok-reading.reading c.in_ok-reading.ensures c.if-bytes-gt-MOST_BYTES.false (sym c.with_end.ensures ∙ c.in-None.is)))
+    (rw c.in_ok-finished-in-None.ensures (text_read c.args.bytes.now c.in_ok-reading.reading c.in_ok-reading.ensures
+    c.if-bytes-gt-MOST_BYTES.false (sym c.with_end.ensures ∙ c.in-None.is)))

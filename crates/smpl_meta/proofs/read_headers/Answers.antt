@@ -17,5 +17,6 @@ loop-i-preserved c =
       virtuals = ap (λ (b : Before). b.virtuals) more ∙ c.loop-i.invariant.virtuals;
       count = omega (arith, ap (λ (b : Before). length b.heads) more, length-append before.heads (head ∷ []), c.loop-i.invariant.count);
       heads = subst (λ (hs : List RuleHead). AreHeads text [] (take (c.loop-i.i + 1) rules) hs) (sym (ap (λ (b : Before). b.heads) more))
-          (heads-more text rules c.loop-i.i before.virtuals before.heads c.index-rules-i.result head c.loop-i-test.true c.index-rules-i.is c.loop-i.invariant.virtuals c.loop-i.invariant.count c.loop-i.invariant.heads c.in_ok-head.ensures.head);
+          (heads-more text rules c.loop-i.i before.virtuals before.heads c.index-rules-i.result head c.loop-i-test.true
+          c.index-rules-i.is c.loop-i.invariant.virtuals c.loop-i.invariant.count c.loop-i.invariant.heads c.in_ok-head.ensures.head);
     }

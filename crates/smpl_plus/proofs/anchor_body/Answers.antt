@@ -10,7 +10,8 @@ use Rattle.smpl_plus.proofs.Ending.{no-star, anchored-all}
 use Rattle.smpl_plus.proofs.anchor_body.Goals as goal
 
 pub anchored-requires-clause-rising : goal.anchored-requires-clause-rising
-anchored-requires-clause-rising c = subst (RisingFrom 0) (sym (c.as_slice-2.ensures ∙ c.in_ok-placed.ensures)) (pattern-tokens-rise c.args.vars.now c.args.body.now)
+anchored-requires-clause-rising c = subst (RisingFrom 0) (sym (c.as_slice-2.ensures ∙ c.in_ok-placed.ensures))
+    (pattern-tokens-rise c.args.vars.now c.args.body.now)
 
 pub returns-in-Some-clause-fault : goal.returns-in-Some-clause-fault
 returns-in-Some-clause-fault c =
@@ -18,8 +19,10 @@ returns-in-Some-clause-fault c =
     let body = c.args.body.now in
     let all = c.in_ok-tokens.field-0 in
     let star : (has_star body && has_edit body) ≡ false = sym c.is_starred_edit.ensures ∙ c.if-is_starred_edit.false in
-    let of-vars = subst (λ (v : List VarDecl). SoFar v c.as_slice-2.result.now (record { whole = blocks_of c.as_slice-2.result.now body; last = None }) all) c.in_ok-table.ensures c.in_ok-tokens.ensures in
-    let s = subst (λ (p : List Placed). SoFar vars p (record { whole = blocks_of p body; last = None }) all) (c.as_slice-2.ensures ∙ c.in_ok-placed.ensures) of-vars in
+    let of-vars = subst (λ (v : List VarDecl). SoFar v c.as_slice-2.result.now
+    (record { whole = blocks_of c.as_slice-2.result.now body; last = None }) all) c.in_ok-table.ensures c.in_ok-tokens.ensures in
+    let s = subst (λ (p : List Placed). SoFar vars p (record { whole = blocks_of p body; last = None }) all)
+    (c.as_slice-2.ensures ∙ c.in_ok-placed.ensures) of-vars in
     let first : all.first ≡ Some c.in-Some.fault = cc in
     inr (no-star vars c.args.rule body star ∙ (sym s.first ∙ first))
 
@@ -29,8 +32,10 @@ returns-clause-tokens c =
     let body = c.args.body.now in
     let all = c.in_ok-tokens.field-0 in
     let star : (has_star body && has_edit body) ≡ false = sym c.is_starred_edit.ensures ∙ c.if-is_starred_edit.false in
-    let of-vars = subst (λ (v : List VarDecl). SoFar v c.as_slice-2.result.now (record { whole = blocks_of c.as_slice-2.result.now body; last = None }) all) c.in_ok-table.ensures c.in_ok-tokens.ensures in
-    let s = subst (λ (p : List Placed). SoFar vars p (record { whole = blocks_of p body; last = None }) all) (c.as_slice-2.ensures ∙ c.in_ok-placed.ensures) of-vars in
+    let of-vars = subst (λ (v : List VarDecl). SoFar v c.as_slice-2.result.now
+    (record { whole = blocks_of c.as_slice-2.result.now body; last = None }) all) c.in_ok-table.ensures c.in_ok-tokens.ensures in
+    let s = subst (λ (p : List Placed). SoFar vars p (record { whole = blocks_of p body; last = None }) all)
+    (c.as_slice-2.ensures ∙ c.in_ok-placed.ensures) of-vars in
     let first : all.first ≡ None = cc in
     let same : c.from_vec.result ≡ all.tokens.items = cc in
     anchored-all vars c.args.rule body all c.from_vec.result s star first same

@@ -1,6 +1,8 @@
 -- A text cut into pieces with no Stray and no Line has the same number of tokens when a newline is appended.
 -- Proof: piece by piece the two are the same, up to a piece that includes the newline: what was in its place has no token.
-use Rattle.std.proofs.Common.{◌≡◌, ℕ, zero, suc, ◌+◌, ◌<◌, ◌==◌, ◌⊎◌, inl, inr, Bool, true, false, refl, sym, ap, ◌∙◌, subst, arith, add-one, true≢false, List, [], ◌∷◌, ◌++◌, length, take, Option, Some, None, if◌then◌else◌, option_map, option_and_then, append_assoc}
+use Rattle.std.proofs.Common.{◌≡◌, ℕ, zero, suc, ◌+◌, ◌<◌, ◌==◌, ◌⊎◌, inl, inr, Bool, true, false, refl, sym, ap, ◌∙◌, subst}
+use Rattle.std.proofs.Common.{arith, add-one, true≢false, List, [], ◌∷◌, ◌++◌, length, take, Option, Some, None, if◌then◌else◌}
+use Rattle.std.proofs.Common.{option_map, option_and_then, append_assoc}
 use Rattle.std.proofs.lemmas.List.{take_at, append-nil}
 use Rattle.c_lexer.specs.declared.state.Kind.{Kind}
 use Rattle.c_lexer.specs.declared.state.Kind.TheVariants as kind
@@ -46,7 +48,8 @@ silent-count kind.Str n h = absurd (true≢false (sym h))
 silent-count kind.Punct n h = absurd (true≢false (sym h))
 silent-count kind.Stray n h = absurd (true≢false (sym h))
 
-gaps-by-count : (k : Kind) (text gap : List ℕ) (more : List ℕ → List (List ℕ)) (n : ℕ) → ((b : List ℕ) → length (more b) ≡ n) → length (gaps_by k text gap more) ≡ count_by k n
+gaps-by-count : (k : Kind) (text gap : List ℕ) (more : List ℕ → List (List ℕ)) (n : ℕ) → ((b : List ℕ) → length (more b) ≡ n)
+    → length (gaps_by k text gap more) ≡ count_by k n
 gaps-by-count kind.Blank text gap more n h = h (gap ++ text)
 gaps-by-count kind.Comment text gap more n h = h gap
 gaps-by-count kind.Line text gap more n h = h gap
@@ -133,7 +136,8 @@ soft-begin : (b : ℕ) → Soft b → SoftSome (begin b)
 soft-begin b (inl e) = soft-then (is_space b) _ _ e tt
 soft-begin b (inr e) = subst (λ (x : ℕ). SoftSome (begin x)) (sym e) tt
 
-soft-state : (text : List ℕ) (k : Kind) (o : Option State) → SoftSome o → option_map (named text) (option_and_then kind_at o) ≡ Some k → bad k ≡ false → silent k ≡ true
+soft-state : (text : List ℕ) (k : Kind) (o : Option State) → SoftSome o
+    → option_map (named text) (option_and_then kind_at o) ≡ Some k → bad k ≡ false → silent k ≡ true
 soft-state text k None s h b = let no : None ≡ Some k = h in absurd (cc)
 soft-state text k (Some (Blanks Plain)) s h b = let is : Some kind.Blank ≡ Some k = h in let same : kind.Blank ≡ k = cc in sym (ap silent same)
 soft-state text k (Some (Blanks Back)) s h b = let no : None ≡ Some k = h in absurd (cc)
@@ -193,7 +197,8 @@ order : (a b : ℕ) → (a < b) ⊎ ((a ≡ b) ⊎ (b < a))
 order a b = grind arith
 
 -- the front of a list with one more item is one of the list, or all of it
-take-last : (A : List ℕ) (x n : ℕ) → n < length (A ++ x ∷ []) → ((n < length A) × (take (suc n) (A ++ x ∷ []) ≡ take (suc n) A)) ⊎ (take (suc n) (A ++ x ∷ []) ≡ A ++ x ∷ [])
+take-last : (A : List ℕ) (x n : ℕ) → n < length (A ++ x ∷ [])
+    → ((n < length A) × (take (suc n) (A ++ x ∷ []) ≡ take (suc n) A)) ⊎ (take (suc n) (A ++ x ∷ []) ≡ A ++ x ∷ [])
 take-last [] x zero less = inr refl
 take-last [] x (suc n) less = absurd (omega (arith, less))
 take-last (y ∷ A) x zero less = inl (omega arith, refl)
@@ -260,7 +265,8 @@ module _ (law : BlankLaw) where
       by : Outcome (b ∷ bs) k → count_by k 0 ≡ count (q ∷ qs)
       by (worse j is w) = absurd (true≢false (sym w ∙ (ap bad (sym (piece j is).0) ∙ good.0)))
       by (quiet j is s t) =
-          silent-count k 0 t ∙ (sym (silent-count j 0 s) ∙ (ap (λ (x : Kind). count_by x 0) (sym (piece j is).0) ∙ ap (λ (l : List Piece). count_by q.kind (count l)) (sym (piece j is).1)))
+          silent-count k 0 t ∙ (sym (silent-count j 0 s)
+          ∙ (ap (λ (x : Kind). count_by x 0) (sym (piece j is).0) ∙ ap (λ (l : List Piece). count_by q.kind (count l)) (sym (piece j is).1)))
       by (blank same) =
           let is : kind_of (b ∷ bs ++ 10 ∷ []) ≡ Some kind.Blank = h ∙ ap Some same in
           let soft : AllSoft (b ∷ bs ++ 10 ∷ []) = blanks-soft (b ∷ bs ++ 10 ∷ []) ((law (b ∷ bs ++ 10 ∷ [])).0 is).0 in
@@ -294,14 +300,17 @@ module _ (law : BlankLaw) where
         ]
       ]
     where
-      over : (q : Piece) (qs : List Piece) (r : Piece) (rs : List Piece) → Cut (q ∷ qs) → NoneBad (q ∷ qs) → Cut (r ∷ rs) → r.text ++ joined rs ≡ q.text ++ (joined qs ++ 10 ∷ [])
+      over : (q : Piece) (qs : List Piece) (r : Piece) (rs : List Piece) → Cut (q ∷ qs) → NoneBad (q ∷ qs) → Cut (r ∷ rs)
+          → r.text ++ joined rs ≡ q.text ++ (joined qs ++ 10 ∷ [])
           → length q.text < length r.text → count (r ∷ rs) ≡ count (q ∷ qs)
       over q qs r rs cut good other E greater =
           let m = longer q.text r.text (joined qs ++ 10 ∷ []) (joined rs) (sym E) greater in
-          let front : r.text ≡ q.text ++ take (suc m.0) (joined qs ++ 10 ∷ []) = subst (λ (k : ℕ). r.text ≡ q.text ++ take k (joined qs ++ 10 ∷ [])) (next m.0) m.1.1 in
+          let front : r.text ≡ q.text ++ take (suc m.0) (joined qs ++ 10 ∷ []) =
+          subst (λ (k : ℕ). r.text ≡ q.text ++ take k (joined qs ++ 10 ∷ [])) (next m.0) m.1.1 in
           elim (take-last (joined qs) 10 m.0 m.1.0) [
             | inl h ↦
-                let longest : kind_of (q.text ++ take (suc m.0) (joined qs)) ≡ None = subst (λ (k : ℕ). kind_of (q.text ++ take k (joined qs)) ≡ None) (next m.0) (cut.0.longest m.0 h.0) in
+                let longest : kind_of (q.text ++ take (suc m.0) (joined qs)) ≡ None =
+                subst (λ (k : ℕ). kind_of (q.text ++ take k (joined qs)) ≡ None) (next m.0) (cut.0.longest m.0 h.0) in
                 let no : Some r.kind ≡ None = sym other.0.of_kind ∙ (ap kind_of front ∙ (ap (λ (l : List ℕ). kind_of (q.text ++ l)) h.1 ∙ longest)) in
                 absurd (cc)
             | inr h ↦

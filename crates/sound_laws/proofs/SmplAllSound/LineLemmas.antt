@@ -1,6 +1,7 @@
 -- A plus line of a text without faults has as many gaps as tokens.
 -- Proof: its pieces are those of the line as it is in the text, with its newline or, at the text's end, without one.
-use Rattle.std.proofs.Common.{◌≡◌, ℕ, suc, ◌+◌, ◌==◌, ◌⊎◌, inl, inr, Bool, true, false, ◌&&◌, refl, sym, ap, ◌∙◌, subst, arith, true≢false, List, [], ◌∷◌, ◌++◌, drop, length, Option, Some, None, if◌then◌else◌}
+use Rattle.std.proofs.Common.{◌≡◌, ℕ, suc, ◌+◌, ◌==◌, ◌⊎◌, inl, inr, Bool, true, false, ◌&&◌, refl, sym, ap, ◌∙◌, subst, arith}
+use Rattle.std.proofs.Common.{true≢false, List, [], ◌∷◌, ◌++◌, drop, length, Option, Some, None, if◌then◌else◌}
 use Rattle.std.specs.Cmp.{second_so}
 use Rattle.std.proofs.lemmas.Bool.{eqb-true}
 use Rattle.c_lexer.specs.declared.state.Kind.{Kind}
@@ -57,7 +58,8 @@ not-bad kind.Comment text h = refl
 not-bad kind.Line text h = absurd (true≢false h)
 not-bad kind.Stray text h = absurd (true≢false h)
 
-put-count : (k : Kind) (text : List ℕ) (at n : ℕ) (ts : List PatchToken) → bad k ≡ false → length ts ≡ n → length (put_token (token_kind (Plain k)) text at ts) ≡ count_by k n
+put-count : (k : Kind) (text : List ℕ) (at n : ℕ) (ts : List PatchToken) → bad k ≡ false → length ts ≡ n
+    → length (put_token (token_kind (Plain k)) text at ts) ≡ count_by k n
 put-count kind.Name text at n ts b h = ap suc h
 put-count kind.Keyword text at n ts b h = ap suc h
 put-count kind.Number text at n ts b h = ap suc h
@@ -69,7 +71,8 @@ put-count kind.Comment text at n ts b h = h
 put-count kind.Line text at n ts b h = absurd (true≢false b)
 put-count kind.Stray text at n ts b h = absurd (true≢false b)
 
-piece-of : (at : ℕ) (p : LinePiece) (ps : List LinePiece) (k : LineKind) → p.kind ≡ k → IsFirstBy 0 k p.text (joined_line ps) → is_bad true p.kind p.text ≡ false
+piece-of : (at : ℕ) (p : LinePiece) (ps : List LinePiece) (k : LineKind) → p.kind ≡ k → IsFirstBy 0 k p.text (joined_line ps)
+    → is_bad true p.kind p.text ≡ false
     → Pieces (at + length p.text) ps → Pieces at (p ∷ ps)
 piece-of at p ps Dots e first b rest = absurd first
 piece-of at p ps Sign e first b rest = absurd first
@@ -110,7 +113,8 @@ begun-end start b (l ∷ ls) e a = (put-byte b l.bytes e a.0, a.1)
 newline-ends : (x : ℕ) → 10 ≡ x → Ends (x ∷ [])
 newline-ends x e = subst (λ (y : ℕ). Ends (y ∷ [])) e (inl refl)
 
-byte-ends : (start b : ℕ) (ls : List Line) (c : Bool) → (b == 10) ≡ c → AllEnd ls → AllEnd (if c then record { start = start; bytes = b ∷ [] } ∷ ls else begun start b ls)
+byte-ends : (start b : ℕ) (ls : List Line) (c : Bool) → (b == 10) ≡ c → AllEnd ls
+    → AllEnd (if c then record { start = start; bytes = b ∷ [] } ∷ ls else begun start b ls)
 byte-ends start b ls true h a = (newline-ends b (sym (eqb-true b 10 h)), a)
 byte-ends start b ls false h a = begun-end start b ls h a
 
@@ -157,7 +161,8 @@ abbrev pub Even : BodyLine → Type 0
 Even l = (gaps : List (List ℕ)) → AreGaps (l.text ++ 10 ∷ []) gaps → length gaps ≡ length l.tokens
 
 module _ (law : BlankLaw) where
-  even-pieces : (at : ℕ) (ps : List LinePiece) (bytes : List ℕ) → joined_line ps ≡ bytes → Pieces at ps → Ends bytes → (gaps : List (List ℕ)) → AreGaps (content bytes ++ 10 ∷ []) gaps
+  even-pieces : (at : ℕ) (ps : List LinePiece) (bytes : List ℕ) → joined_line ps ≡ bytes → Pieces at ps → Ends bytes
+      → (gaps : List (List ℕ)) → AreGaps (content bytes ++ 10 ∷ []) gaps
       → length gaps ≡ length (tokens_from at ps)
   even-pieces at ps bytes e q (inl h) gaps g =
       let same : joined g.pieces ≡ joined q.pieces = g.joins ∙ (h ∙ (sym e ∙ sym q.joins)) in
@@ -166,7 +171,8 @@ module _ (law : BlankLaw) where
       let same : joined g.pieces ≡ joined q.pieces ++ 10 ∷ [] = g.joins ∙ ap (λ (l : List ℕ). l ++ 10 ∷ []) (h ∙ (sym e ∙ sym q.joins)) in
       ap length g.are ∙ (gaps-count [] g.pieces ∙ (count-newline law q.pieces g.pieces q.cut q.good g.cut same ∙ sym q.count))
 
-  gives-even : (c : CutLine) → c.role ≡ role.Body → IsCutLine c → faults_of c ≡ [] → Ends c.line.bytes → WhenPlus Even (body_line c.line.start c.line.bytes (plain_tokens c))
+  gives-even : (c : CutLine) → c.role ≡ role.Body → IsCutLine c → faults_of c ≡ [] → Ends c.line.bytes
+      → WhenPlus Even (body_line c.line.start c.line.bytes (plain_tokens c))
   gives-even c e is none ends s gaps g =
       let sign : sign_of c.line.bytes ≡ 43 = eqb-true (sign_of c.line.bytes) 43 s in
       let p = plus_tokens c e is none s in
@@ -202,7 +208,8 @@ module _ (P : BodyLine → Type 0) where
   abbrev Holds : Gathered → Type 0
   Holds g = AllBodies P g.rules × LastBody g.last
 
-  gathered-holds : (r : Role) (start : ℕ) (bytes : List ℕ) (ts : List PatchToken) (g : Gathered) → (r ≡ role.Body → P (body_line start bytes ts)) → Holds g → Holds (gather_line r start bytes ts g)
+  gathered-holds : (r : Role) (start : ℕ) (bytes : List ℕ) (ts : List PatchToken) (g : Gathered)
+      → (r ≡ role.Body → P (body_line start bytes ts)) → Holds g → Holds (gather_line r start bytes ts g)
   gathered-holds role.Virtual start bytes ts g h a = a
   gathered-holds role.Header start bytes ts g h a = (body-last start g.rules g.last a.0 a.1, tt)
   gathered-holds role.Declaration start bytes ts g h a = (a.0, decls-keep g.last ts a.1)
@@ -212,20 +219,23 @@ module _ (P : BodyLine → Type 0) where
   abbrev Gives : Type 0
   Gives = (c : CutLine) → c.role ≡ role.Body → IsCutLine c → faults_of c ≡ [] → Ends c.line.bytes → P (body_line c.line.start c.line.bytes (plain_tokens c))
 
-  all-hold : Gives → (s : Section) (ls : List Line) (cs : List CutLine) (g : Gathered) → AllEnd ls → AreCutLines s ls cs → line_faults cs ≡ [] → Holds g → Holds (gather g cs)
+  all-hold : Gives → (s : Section) (ls : List Line) (cs : List CutLine) (g : Gathered) → AllEnd ls → AreCutLines s ls cs
+      → line_faults cs ≡ [] → Holds g → Holds (gather g cs)
   all-hold gives s [] [] g ends cut none a = a
   all-hold gives s [] (c ∷ cs) g ends cut none a = absurd cut
   all-hold gives s (l ∷ ls) [] g ends cut none a = absurd cut
   all-hold gives s (l ∷ ls) (c ∷ cs) g ends cut none a =
       let here : Ends c.line.bytes = subst (λ (x : Line). Ends x.bytes) (sym cut.0) ends.0 in
-      all-hold gives (section_after c.role) ls cs (gather_line c.role c.line.start c.line.bytes (plain_tokens c) g) ends.1 cut.1.1.1 (back_empty (faults_of c) (line_faults cs) none)
+      all-hold gives (section_after c.role) ls cs
+      (gather_line c.role c.line.start c.line.bytes (plain_tokens c) g) ends.1 cut.1.1.1 (back_empty (faults_of c) (line_faults cs) none)
       (gathered-holds c.role c.line.start c.line.bytes (plain_tokens c) g (λ e. gives c e cut.1.1.0 (front_empty (faults_of c) (line_faults cs) none) here) a)
 
   text-holds : Gives → (bytes : List ℕ) (t : PatchText) → IsTextOf bytes t → AllBodies P t.rules
   text-holds gives bytes t text =
       let faultless = front_empty (line_faults text.lines) (end_faults (section_of section.Before text.lines) (length bytes)) text.faultless in
       let h = all-hold gives section.Before (lines_from 0 bytes) text.lines nothing (lines-end 0 bytes) text.are.cut faultless (tt, tt) in
-      subst (λ (x : PatchText). AllBodies P x.rules) (sym text.is) (body-last (length bytes) (gather nothing text.lines).rules (gather nothing text.lines).last h.0 h.1)
+      subst (λ (x : PatchText). AllBodies P x.rules) (sym text.is)
+      (body-last (length bytes) (gather nothing text.lines).rules (gather nothing text.lines).last h.0 h.1)
 
 pub text-even : BlankLaw → (bytes : List ℕ) (t : PatchText) → IsTextOf bytes t → AllBodies (WhenPlus Even) t.rules
 text-even law = text-holds (WhenPlus Even) (gives-even law)

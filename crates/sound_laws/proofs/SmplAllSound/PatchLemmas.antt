@@ -16,7 +16,9 @@ use Rattle.smpl_patch.specs.declared.rule.Rule.{Rule}
 use Rattle.smpl_patch.specs.declared.rule.Patch.{Patch}
 use Rattle.smpl_patch.specs.Bodies.{body as plain}
 use Rattle.smpl_patch.specs.Shapes.{is_formed_body, patterns_body}
-use Rattle.smpl_patch.specs.Sound.{declares, none_alike, is_own_var, is_sound_decl, is_below, is_sound_pattern, lengths, is_plus_token, is_gap, leads, is_sound_line, is_sound_block, is_sound_token, AreSoundRules, IsSound}
+use Rattle.smpl_patch.specs.Sound.{declares, none_alike, is_own_var, is_sound_decl, is_below, is_sound_pattern, lengths}
+use Rattle.smpl_patch.specs.Sound.{is_plus_token, is_gap, leads, is_sound_line, is_sound_block, is_sound_token, AreSoundRules}
+use Rattle.smpl_patch.specs.Sound.{IsSound}
 use Rattle.smpl_lexer.specs.declared.text.BodyLine.{BodyLine}
 use Rattle.smpl_lexer.specs.declared.text.RuleText.{RuleText}
 use Rattle.smpl_meta.specs.declared.head.RuleHead.{RuleHead}
@@ -48,7 +50,8 @@ lines-even vars [] (p ∷ ps) a h = absurd a
 lines-even vars (l ∷ ls) [] a h = absurd a
 lines-even vars (l ∷ ls) (p ∷ ps) a h =
     let tokens : length p.tokens ≡ length l.tokens = ap length a.0.tokens ∙ length-map l.tokens (made vars 0) in
-    both-true (even_line p) (list_all even_line ps) (eq-true (length p.gaps) (length p.tokens) (h.0 p.gaps a.0.gaps ∙ sym tokens)) (lines-even vars ls ps a.1 h.1)
+    both-true (even_line p) (list_all even_line ps)
+    (eq-true (length p.gaps) (length p.tokens) (h.0 p.gaps a.0.gaps ∙ sym tokens)) (lines-even vars ls ps a.1 h.1)
 
 abbrev even_tokens : Rule → Type 0
 even_tokens r = list_all (at_token even_block) r.tokens ≡ true
@@ -57,7 +60,8 @@ rule-even : (known : List Variable) (n : ℕ) (t : RuleText) (h : RuleHead) (x :
 rule-even known n t h x made lines =
     anchored_pass Even h.vars even_block (length t.body) (λ b c a e le. lines-even h.vars b.lines c.lines a e) n t.body x.tokens made.tokens lines (omega arith)
 
-rules-even : (known : List Variable) (n : ℕ) (ts : List RuleText) (hs : List RuleHead) (xs : List Rule) → AreRules known n ts hs xs → AllBodies (WhenPlus Even) ts → EachHas even_tokens xs
+rules-even : (known : List Variable) (n : ℕ) (ts : List RuleText) (hs : List RuleHead) (xs : List Rule)
+    → AreRules known n ts hs xs → AllBodies (WhenPlus Even) ts → EachHas even_tokens xs
 rules-even known n [] [] [] a lines = tt
 rules-even known n [] [] (x ∷ xs) a lines = absurd a
 rules-even known n [] (h ∷ hs) [] a lines = absurd a
@@ -69,8 +73,10 @@ rules-even known n (t ∷ ts) (h ∷ hs) (x ∷ xs) a lines = (rule-even known n
 
 -- ---- tokens
 
-lines-sound : (vars : List VarDecl) (ls : List PlusLine) → list_all (λ (l : PlusLine). list_all (λ (t : Token). is_plus_token vars t.kind t.text) l.tokens) ls ≡ true → list_all even_line ls ≡ true
-    → list_all (λ (l : PlusLine). list_all is_gap l.gaps) ls ≡ true → list_all (λ (l : PlusLine). leads l.lead l.gaps) ls ≡ true → list_all (is_sound_line vars) ls ≡ true
+lines-sound : (vars : List VarDecl) (ls : List PlusLine)
+    → list_all (λ (l : PlusLine). list_all (λ (t : Token). is_plus_token vars t.kind t.text) l.tokens) ls ≡ true → list_all even_line ls ≡ true
+    → list_all (λ (l : PlusLine). list_all is_gap l.gaps) ls ≡ true → list_all (λ (l : PlusLine). leads l.lead l.gaps) ls ≡ true
+    → list_all (is_sound_line vars) ls ≡ true
 lines-sound vars [] w e g l = refl
 lines-sound vars (x ∷ xs) w e g l =
     let whole : Bool = list_all (λ (t : Token). is_plus_token vars t.kind t.text) x.tokens in
@@ -82,17 +88,20 @@ lines-sound vars (x ∷ xs) w e g l =
     let evens : Bool = list_all even_line xs in
     both-true (is_sound_line vars x) (list_all (is_sound_line vars) xs)
     (both-true whole (even_line x && (gaps && lead)) (front-true whole wholes w)
-    (both-true (even_line x) (gaps && lead) (front-true (even_line x) evens e) (both-true gaps lead (front-true gaps all_gaps g) (front-true lead all_leads l))))
+    (both-true (even_line x) (gaps && lead) (front-true (even_line x) evens e)
+    (both-true gaps lead (front-true gaps all_gaps g) (front-true lead all_leads l))))
     (lines-sound vars xs (back-true whole wholes w) (back-true (even_line x) evens e) (back-true gaps all_gaps g) (back-true lead all_leads l))
 
-block-sound : (vars : List VarDecl) (o : Option PlusBlock) → whole_block vars o ≡ true → at_block even_block o ≡ true → gaps_block o ≡ true → leads_block o ≡ true → is_sound_block vars o ≡ true
+block-sound : (vars : List VarDecl) (o : Option PlusBlock) → whole_block vars o ≡ true → at_block even_block o ≡ true
+    → gaps_block o ≡ true → leads_block o ≡ true → is_sound_block vars o ≡ true
 block-sound vars None w e g l = refl
 block-sound vars (Some b) w e g l = lines-sound vars b.lines w e g l
 
 abbrev positions_in : List VarDecl → PatToken → Bool
 positions_in vars t = list_all (λ x. declares vars x Position) t.positions
 
-tokens-sound : (vars : List VarDecl) (ts : List PatToken) → list_all (positions_in vars) ts ≡ true → list_all (whole_token vars) ts ≡ true → list_all (at_token even_block) ts ≡ true
+tokens-sound : (vars : List VarDecl) (ts : List PatToken) → list_all (positions_in vars) ts ≡ true
+    → list_all (whole_token vars) ts ≡ true → list_all (at_token even_block) ts ≡ true
     → list_all gaps_token ts ≡ true → list_all leads_token ts ≡ true → list_all (is_sound_token vars) ts ≡ true
 tokens-sound vars [] p w e g l = refl
 tokens-sound vars (t ∷ ts) p w e g l =
@@ -107,10 +116,13 @@ tokens-sound vars (t ∷ ts) p w e g l =
     (back-true (whole_block vars t.before) (whole_block vars t.after) w0) (back-true (at_block even_block t.before) (at_block even_block t.after) e0)
     (back-true (gaps_block t.before) (gaps_block t.after) g0) (back-true (leads_block t.before) (leads_block t.after) l0) in
     both-true (is_sound_token vars t) (list_all (is_sound_token vars) ts)
-    (both-true (positions_in vars t) (is_sound_block vars t.before && is_sound_block vars t.after) (front-true (positions_in vars t) (list_all (positions_in vars) ts) p)
+    (both-true (positions_in vars t) (is_sound_block vars t.before && is_sound_block vars t.after)
+    (front-true (positions_in vars t) (list_all (positions_in vars) ts) p)
     (both-true (is_sound_block vars t.before) (is_sound_block vars t.after) before after))
-    (tokens-sound vars ts (back-true (positions_in vars t) (list_all (positions_in vars) ts) p) (back-true (whole_token vars t) (list_all (whole_token vars) ts) w)
-    (back-true (at_token even_block t) (list_all (at_token even_block) ts) e) (back-true (gaps_token t) (list_all gaps_token ts) g) (back-true (leads_token t) (list_all leads_token ts) l))
+    (tokens-sound vars ts (back-true (positions_in vars t) (list_all (positions_in vars) ts) p)
+    (back-true (whole_token vars t) (list_all (whole_token vars) ts) w)
+    (back-true (at_token even_block t) (list_all (at_token even_block) ts) e)
+    (back-true (gaps_token t) (list_all gaps_token ts) g) (back-true (leads_token t) (list_all leads_token ts) l))
 
 -- ---- rules
 
@@ -158,10 +170,12 @@ rules-sound earlier (r ∷ rs) p e = (
   }) e.1,
 )
 
-pub patch-sound : BlankLaw → (bytes : List ℕ) (patch : Patch) → IsSpelled bytes patch → nat_lt (length patch.virtuals) 4294967296 ≡ true → nat_lt (length patch.rules) 4294967296 ≡ true
+pub patch-sound : BlankLaw → (bytes : List ℕ) (patch : Patch) → IsSpelled bytes patch
+    → nat_lt (length patch.virtuals) 4294967296 ≡ true → nat_lt (length patch.rules) 4294967296 ≡ true
     → Parts [] patch.rules → IsSound patch
 patch-sound law bytes patch s virtuals count parts = record {
   virtuals = virtuals;
   count = count;
-  rules = rules-sound [] patch.rules parts (rules-even (taken s.heads) 0 s.text.rules s.heads patch.rules s.are_rules.rules (text-even law bytes s.text s.is_text));
+  rules = rules-sound [] patch.rules parts
+      (rules-even (taken s.heads) 0 s.text.rules s.heads patch.rules s.are_rules.rules (text-even law bytes s.text s.is_text));
 }

@@ -1,7 +1,8 @@
 -- How a newline after a text may change its pieces.
 -- Proof: by the states of the lexer. In few of them does a newline continue a piece, and in those the text without it is a
 -- piece of nearly the same kind, or blanks whose last splice is incomplete.
-use Rattle.std.proofs.Common.{◌≡◌, ℕ, ◌==◌, Bool, true, false, ◌&&◌, ◌||◌, refl, sym, ap, ◌∙◌, subst, true≢false, List, [], ◌∷◌, ◌++◌, Option, Some, None, if◌then◌else◌, option_map, option_and_then, codes}
+use Rattle.std.proofs.Common.{◌≡◌, ℕ, ◌==◌, Bool, true, false, ◌&&◌, ◌||◌, refl, sym, ap, ◌∙◌, subst, true≢false, List, [], ◌∷◌}
+use Rattle.std.proofs.Common.{◌++◌, Option, Some, None, if◌then◌else◌, option_map, option_and_then, codes}
 use Rattle.std.proofs.lemmas.Bool.{eqb-true}
 use Rattle.c_lexer.specs.declared.state.Kind.{Kind}
 use Rattle.c_lexer.specs.declared.state.Kind.TheVariants as kind
@@ -14,7 +15,7 @@ use Rattle.c_lexer.specs.declared.state.Went.TheVariants.{In, Close, Broken, Sto
 use Rattle.c_lexer.specs.declared.state.InLine.{InLine}
 use Rattle.c_lexer.specs.declared.state.State.{State}
 use Rattle.c_lexer.specs.declared.state.State.TheVariants.{Start, Blanks, Backslash, Word, Digits, One, Two, Open, Rest, Literal, Unended, Hash, Closed, Lone}
-use Rattle.c_lexer.specs.Words.{is_space, is_letter, is_digit, is_word_byte, is_quote, is_sign, is_exponent, is_among, is_one, is_two, is_three}
+use Rattle.c_lexer.specs.Words.{is_space, is_letter, is_digit, is_word_byte, is_quote, is_sign, is_exponent, is_among, is_punct1, is_two, is_three}
 use Rattle.c_lexer.specs.Kinds.{on, inside, line, literal, is_prefix, one, begin, step, kind_at, advance, walk, named, kind_of}
 use Rattle.sound_laws.proofs.SmplSound.BoolLemmas.{front-true}
 
@@ -63,7 +64,7 @@ quote-good b e = by (10 == b) refl
 begin-good : (b : ℕ) → AllGood (begin b)
 begin-good b =
     good-if (is_space b) _ _ (λ e. tt) (good-if (b == 92) _ _ (λ e. tt) (good-if (is_letter b) _ _ (λ e. tt) (good-if (is_digit b) _ _ (λ e. tt)
-    (good-if (b == 35) _ _ (λ e. tt) (good-if (is_quote b) _ _ (λ e. quote-good b e) (good-if (is_one b) _ _ (λ e. tt) tt))))))
+    (good-if (b == 35) _ _ (λ e. tt) (good-if (is_quote b) _ _ (λ e. quote-good b e) (good-if (is_punct1 b) _ _ (λ e. tt) tt))))))
 
 blanks-good : (s : Splice) (b : ℕ) → AllGood (step (Blanks s) b)
 blanks-good Plain b = good-if (is_space b) _ _ (λ e. tt) (good-if (b == 92) _ _ (λ e. tt) tt)
@@ -125,7 +126,9 @@ one-newline a = by (a == 10) (is_among (codes "+-<>=&|") a) (a == 45) (a == 46) 
         first true h = ap (is_among (codes "+-<>=&|")) (eqb-true a 10 h)
 
     by : (p q x y z : Bool) → (p && q) ≡ false
-        → (if ((p && q) || false || (x && false)) || (y && false) then Some (Two a 10) else (if y && false then Some (Digits 10) else (if z && false then Some (Rest Plain) else (if z && false then Some (Open false) else None)))) ≡ None
+        → (if ((p && q) || false || (x && false))
+        || (y && false) then Some (Two a 10) else
+        (if y && false then Some (Digits 10) else (if z && false then Some (Rest Plain) else (if z && false then Some (Open false) else None)))) ≡ None
     by true true x y z h = absurd (true≢false h)
     by true false true true true h = refl
     by true false true true false h = refl

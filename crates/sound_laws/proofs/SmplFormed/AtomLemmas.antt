@@ -1,7 +1,8 @@
 -- How often a number is that of a pattern of a tree's elements: at most as often as the tree's own patterns have it, and those
 -- of the code of its dots.
 -- Proof: by induction on the tree. Its own patterns are numbered one after another; each of its tokens has clauses once.
-use Rattle.std.proofs.Common.{◌≡◌, ℕ, zero, suc, ◌+◌, ◌<◌, ◌≤◌, refl, sym, ap, ◌∙◌, subst, arith, List, [], ◌∷◌, ◌++◌, map, length, Option, Some, None, slice_get}
+use Rattle.std.proofs.Common.{◌≡◌, ℕ, zero, suc, ◌+◌, ◌<◌, ◌≤◌, refl, sym, ap, ◌∙◌, subst, arith, List, [], ◌∷◌, ◌++◌, map}
+use Rattle.std.proofs.Common.{length, Option, Some, None, slice_get}
 use Rattle.std.proofs.lemmas.List.{append-nil}
 use Rattle.std.proofs.lemmas.Bool.{false≢true}
 use Rattle.std.proofs.lemmas.Bool.Decides.{nat_tests}
@@ -27,10 +28,12 @@ use Rattle.smpl_patch.specs.declared.elem.Elem.TheVariants as elem
 use Rattle.smpl_patch.specs.Bodies.{Element, element, body}
 use Rattle.smpl_patch.specs.Shapes.{option_patterns, patterns_element, patterns_body, patterns_bodies}
 use Rattle.smpl_patch.specs.Sound.{none_alike}
-use Rattle.smpl_patch.proofs.BodyLemmas.{bodies, dots_of, element-Atom, element-Compound, element-Block, element-Gap, element-Nest, element-AnyOf, element-AllOf}
+use Rattle.smpl_patch.proofs.BodyLemmas.{bodies, dots_of, element-Atom, element-Compound, element-Block, element-Gap}
+use Rattle.smpl_patch.proofs.BodyLemmas.{element-Nest, element-AnyOf, element-AllOf}
 use Rattle.smpl_body.specs.declared.smpl_elem.form.Form.{Form}
 use Rattle.smpl_body.specs.declared.smpl_elem.form.Form.TheVariants as form
-use Rattle.smpl_body.specs.SmplElem.Forms.{form_of_token, form_of, form_in, form_at, kids, label_at, is_list_at, is_part, before, after, first_kid, last_kid, id_in, id_at, is_more, masked}
+use Rattle.smpl_body.specs.SmplElem.Forms.{form_of_token, form_of, form_in, form_at, kids, label_at, is_list_at, is_part}
+use Rattle.smpl_body.specs.SmplElem.Forms.{before, after, first_kid, last_kid, id_in, id_at, is_more, masked}
 use Rattle.smpl_body.specs.SmplElem.Elements.{Part, part, picked, total, seqs, pattern, made, atoms, elements}
 use Rattle.smpl_body.proofs.SmplElem.PartLemmas.{kids-Leaf, kids-Branch}
 use Rattle.smpl_body.proofs.SmplElem.CountLemmas.{atoms-row}
@@ -112,18 +115,32 @@ module _ (x : ℕ) where
     body_append : (xs ys : List Elem) → occurs (patterns_body (body (xs ++ ys))) ≡ occurs (patterns_body (body xs)) + occurs (patterns_body (body ys))
     body_append [] ys = omega arith
     body_append (e ∷ xs) ys =
-        omega (arith, occurs_append (patterns_element (element e)) (patterns_body (body (xs ++ ys))), occurs_append (patterns_element (element e)) (patterns_body (body xs)), body_append xs ys)
+        omega (
+          arith,
+          occurs_append (patterns_element (element e)) (patterns_body (body (xs ++ ys))),
+          occurs_append (patterns_element (element e)) (patterns_body (body xs)),
+          body_append xs ys,
+        )
 
     joined_light : (f : Form) (l : Label) (n i k : ℕ) (cs : List Tree) → AllLight cs
         → occurs (patterns_body (body (joined dots k (picked f l n i (map part cs))))) ≤ hits k (total (picked f l n i (map part cs))) + loads cs
     joined_light f l n i k [] g = omega arith
     joined_light f l n i k (c ∷ cs) g = by (is_part f l n i (part c).tree) (λ j. joined_light f l n (i + 1) j cs g.1)
       where
-        by : (b : Bool) → ((j : ℕ) → occurs (patterns_body (body (joined dots j (picked f l n (i + 1) (map part cs))))) ≤ hits j (total (picked f l n (i + 1) (map part cs))) + loads cs) → let ps = if b then part c ∷ picked f l n (i + 1) (map part cs) else picked f l n (i + 1) (map part cs) in
+        by : (b : Bool) → ((j : ℕ) → occurs (patterns_body (body (joined dots j (picked f l n (i + 1) (map part cs)))))
+            ≤ hits j (total (picked f l n (i + 1) (map part cs))) + loads cs)
+            → let ps = if b then part c ∷ picked f l n (i + 1) (map part cs) else picked f l n (i + 1) (map part cs) in
             occurs (patterns_body (body (joined dots k ps))) ≤ hits k (total ps) + loads (c ∷ cs)
         by true more' =
             let ps = picked f l n (i + 1) (map part cs) in
-            omega (arith, body_append (elements dots k c) (joined dots (k + atoms c) ps), g.0 k, more' (k + atoms c), hits_split k (atoms c) (total ps), loads_more c cs)
+            omega (
+              arith,
+              body_append (elements dots k c) (joined dots (k + atoms c) ps),
+              g.0 k,
+              more' (k + atoms c),
+              hits_split k (atoms c) (total ps),
+              loads_more c cs,
+            )
         by false more' = omega (arith, more' k, loads_more c cs)
 
     each_light : (f : Form) (l : Label) (n i k : ℕ) (cs : List Tree) → AllLight cs
@@ -131,7 +148,9 @@ module _ (x : ℕ) where
     each_light f l n i k [] g = omega arith
     each_light f l n i k (c ∷ cs) g = by (is_part f l n i (part c).tree) (λ j. each_light f l n (i + 1) j cs g.1)
       where
-        by : (b : Bool) → ((j : ℕ) → occurs (patterns_bodies (bodies (seqs dots j (picked f l n (i + 1) (map part cs))))) ≤ hits j (total (picked f l n (i + 1) (map part cs))) + loads cs) → let ps = if b then part c ∷ picked f l n (i + 1) (map part cs) else picked f l n (i + 1) (map part cs) in
+        by : (b : Bool) → ((j : ℕ) → occurs (patterns_bodies (bodies (seqs dots j (picked f l n (i + 1) (map part cs)))))
+            ≤ hits j (total (picked f l n (i + 1) (map part cs))) + loads cs)
+            → let ps = if b then part c ∷ picked f l n (i + 1) (map part cs) else picked f l n (i + 1) (map part cs) in
             occurs (patterns_bodies (bodies (seqs dots k ps))) ≤ hits k (total ps) + loads (c ∷ cs)
         by true more' =
             let ps = picked f l n (i + 1) (map part cs) in
@@ -161,7 +180,8 @@ module _ (x : ℕ) where
 
     made_light : (f : Form) (t : Tree) (l : Label) (cs : List Tree) → AllLight cs → Needs f t cs → (k : ℕ)
         → let ps = picked f l (length cs) 0 (map part cs) in
-        occurs (patterns_body (body (made f dots t k (seqs dots (k + before f) ps) (k + before f + total ps)))) ≤ hits k (before f + total ps + after f) + load (leaves t)
+        occurs (patterns_body (body (made f dots t k (seqs dots (k + before f) ps) (k + before f + total ps))))
+        ≤ hits k (before f + total ps + after f) + load (leaves t)
     made_light form.Gap t l cs g n k =
         omega (arith, alone (elem.Gap (dots (id_at t))) _ (element-Gap (dots (id_at t))), n)
     made_light form.Expression t l cs g n k =
@@ -222,17 +242,32 @@ module _ (x : ℕ) where
             let mid = middle ds in
             let same : picked form.Nest m (length ds) 0 (map part ds) ≡ picked form.List m (length mid) 0 (map part mid) =
             inner_picked form.Nest (λ a b c d. refl) m ds ∙ sym (all_picked m (length mid) 0 (map part mid)) in
-            subst (λ (ps : List Part). occurs (patterns_body (body (joined dots j ps))) ≤ hits j (total ps) + loads mid) (sym same) (joined_light form.List m (length mid) 0 j mid (light_middle ds h))
+            subst (λ (ps : List Part). occurs (patterns_body (body (joined dots j ps))) ≤ hits j (total ps) + loads mid)
+            (sym same) (joined_light form.List m (length mid) 0 j mid (light_middle ds h))
     made_light form.AnyOf t l cs g n k =
         let ps = picked form.AnyOf l (length cs) 0 (map part cs) in
         let bs = seqs dots (k + 0) ps in
         let e : 0 + total ps + 0 ≡ total ps = omega arith in let m : k + 0 ≡ k = omega arith in
-        omega (arith, alone (elem.AnyOf bs) _ (element-AnyOf bs), each_light form.AnyOf l (length cs) 0 (k + 0) cs g, ap (hits k) e, ap (λ j. hits j (total ps)) m, n)
+        omega (
+          arith,
+          alone (elem.AnyOf bs) _ (element-AnyOf bs),
+          each_light form.AnyOf l (length cs) 0 (k + 0) cs g,
+          ap (hits k) e,
+          ap (λ j. hits j (total ps)) m,
+          n,
+        )
     made_light form.AllOf t l cs g n k =
         let ps = picked form.AllOf l (length cs) 0 (map part cs) in
         let bs = seqs dots (k + 0) ps in
         let e : 0 + total ps + 0 ≡ total ps = omega arith in let m : k + 0 ≡ k = omega arith in
-        omega (arith, alone (elem.AllOf bs) _ (element-AllOf bs), each_light form.AllOf l (length cs) 0 (k + 0) cs g, ap (hits k) e, ap (λ j. hits j (total ps)) m, n)
+        omega (
+          arith,
+          alone (elem.AllOf bs) _ (element-AllOf bs),
+          each_light form.AllOf l (length cs) 0 (k + 0) cs g,
+          ap (hits k) e,
+          ap (λ j. hits j (total ps)) m,
+          n,
+        )
     made_light form.Head t l cs g n k =
         let ps = picked form.Head l (length cs) 0 (map part cs) in
         let bs = seqs dots (k + 1) ps in
@@ -282,7 +317,8 @@ module _ (x : ℕ) where
     nest_load (c ∷ []) h = omega (arith, leaf_load c h, loads_more c [])
     nest_load (c ∷ d ∷ cs) h = omega (arith, leaf_load (last_kid (d ∷ cs)) h, loads_more c (d ∷ cs), last_load d cs)
 
-    choice_needs : (b : Bool) (t : Tree) (cs : List Tree) → loads cs ≤ load (leaves t) → Needs (if b then form.AnyOf else form.Expression) t cs × Needs (if b then form.AllOf else form.Expression) t cs
+    choice_needs : (b : Bool) (t : Tree) (cs : List Tree) → loads cs ≤ load (leaves t)
+        → Needs (if b then form.AnyOf else form.Expression) t cs × Needs (if b then form.AllOf else form.Expression) t cs
     choice_needs true t cs h = (h, h)
     choice_needs false t cs h = (h, h)
 
@@ -290,7 +326,8 @@ module _ (x : ℕ) where
     label_needs label.PatOr t cs f e h = (choice_needs (is_list_at (slice_get cs 1)) t cs h).0
     label_needs label.PatAnd t cs f e h = (choice_needs (is_list_at (slice_get cs 1)) t cs h).1
     label_needs label.PatNest t cs f e h =
-        let last : is_leaf (last_kid cs) ≡ true = right_true (is_leaf (first_kid cs)) (is_leaf (last_kid cs)) (right_true (apart cs) _ (right_true (unlisted cs) _ f)) in
+        let last : is_leaf (last_kid cs) ≡ true =
+        right_true (is_leaf (first_kid cs)) (is_leaf (last_kid cs)) (right_true (apart cs) _ (right_true (unlisted cs) _ f)) in
         let same : behind (id_at (last_kid (kids t))) ≡ behind (id_at (last_kid cs)) = ap (λ (ks : List Tree). behind (id_at (last_kid ks))) e in
         omega (arith, nest_load cs last, same, h)
     label_needs _ t cs f e h = h
@@ -330,7 +367,8 @@ module _ (x : ℕ) where
           let t = Leaf a in
           let here : behind (id_at t) ≤ load (leaves t) = omega (arith, leaf_load t (ap is_leaf_in (out-Leaf a))) in
           light_row t (subst (λ (ks : List Tree). AllLight ks) (sym (kids-Leaf a)) tt)
-          (needs_as (form_at t) (form_of_token a.kind) t (kids t) [] (ap form_in (out-Leaf a)) (kids-Leaf a) (token_needs (form_of_token a.kind) t (token_form a.kind) here))
+          (needs_as (form_at t) (form_of_token a.kind) t (kids t) [] (ap form_in (out-Leaf a)) (kids-Leaf a)
+          (token_needs (form_of_token a.kind) t (token_form a.kind) here))
       tree_light (branch l cs f le all) =
           let t = Branch l cs in
           let whole : loads cs ≤ load (leaves t) = omega (arith, ap load (leaves-Branch l cs)) in
@@ -350,7 +388,8 @@ none_like : (n : ℕ) (ps : List Pattern) → occurs n ps ≡ 0 → list_any (λ
 none_like n [] e = refl
 none_like n (p ∷ ps) e = by (nat_eq n p.atom) refl (none_like n ps)
   where
-    by : (b : Bool) → nat_eq n p.atom ≡ b → (occurs n ps ≡ 0 → list_any (λ (q : Pattern). nat_eq n q.atom) ps ≡ false) → (b || list_any (λ (q : Pattern). nat_eq n q.atom) ps) ≡ false
+    by : (b : Bool) → nat_eq n p.atom ≡ b → (occurs n ps ≡ 0 → list_any (λ (q : Pattern). nat_eq n q.atom) ps ≡ false)
+        → (b || list_any (λ (q : Pattern). nat_eq n q.atom) ps) ≡ false
     by true is rest = let here : one (nat_eq n p.atom) ≡ 1 = ap one is in absurd (omega (arith, here, e))
     by false is rest = let here : one (nat_eq n p.atom) ≡ 0 = ap one is in rest (omega (arith, here, e))
 

@@ -1,13 +1,15 @@
 -- What holds of the tokens of a body holds of those of its parts: its own tokens, and those of each piece of `when` code.
 -- Proof: by recursion on the grammar of clauses.
-use Rattle.std.proofs.Common.{◌≡◌, ℕ, zero, suc, ◌+◌, ◌<◌, ◌≤◌, refl, sym, ap, ◌∙◌, subst, arith, List, [], ◌∷◌, ◌++◌, length, Some, None, slice_get, ◌⊎◌, inl, inr}
+use Rattle.std.proofs.Common.{◌≡◌, ℕ, zero, suc, ◌+◌, ◌<◌, ◌≤◌, refl, sym, ap, ◌∙◌, subst, arith, List, [], ◌∷◌, ◌++◌, length}
+use Rattle.std.proofs.Common.{Some, None, slice_get, ◌⊎◌, inl, inr}
 use Rattle.std.proofs.lemmas.List.{length-append}
 use Rattle.std.specs.Prelude.{Bool, true, false, ◌==◌, if◌then◌else◌}
 use Rattle.std.specs.List.{list_all}
 use Rattle.c_terms.specs.declared.token.Token.{Token}
 use Rattle.smpl_meta.specs.declared.patterns.Placed.{Placed}
 use Rattle.smpl_body.specs.declared.smpl_when.cutting.Code.{Code}
-use Rattle.smpl_body.specs.SmplWhen.Grammar.{up_to_end_of, behind_end_of, Parts, Spot, IsParted, ends, plain, dots, apart, any, strict, differs, malformed, numbers_at, said_at, said_from}
+use Rattle.smpl_body.specs.SmplWhen.Grammar.{up_to_end_of, behind_end_of, Parts, Spot, IsParted, ends, plain, dots, apart, any}
+use Rattle.smpl_body.specs.SmplWhen.Grammar.{strict, differs, malformed, numbers_at, said_at, said_from}
 use Rattle.smpl_body.specs.Bodies.{codes_of}
 use Rattle.sound_laws.specs.SmplFormed.Bodies.{tokens_of, CountFrom}
 use Rattle.sound_laws.proofs.SmplFormed.SequenceLemmas.{and_both, left_true, right_true}
@@ -45,7 +47,8 @@ module _ (ok : Token → Bool) where
   rest_pass : (p : Placed) (ps : List Placed) → passes (p ∷ ps) ≡ true → passes ps ≡ true
   rest_pass p ps h = right_true (ok p.token) (passes ps) h
 
-  pub parts_pass : {nested : Bool} {spot : Spot} {ps : List Placed} {r : Parts} → IsParted nested spot ps r → passes ps ≡ true → (list_all ok r.own ≡ true) × AllPass r.codes
+  pub parts_pass : {nested : Bool} {spot : Spot} {ps : List Placed} {r : Parts} → IsParted nested spot ps r → passes ps ≡ true
+      → (list_all ok r.own ≡ true) × AllPass r.codes
   parts_pass ends h = (refl, tt)
   parts_pass (plain {ps = ps} {r = r} p e d) h =
       let q = parts_pass d (rest_pass p ps h) in (and_both (ok p.token) (list_all ok r.own) (left_true (ok p.token) (passes ps) h) q.0, q.1)
@@ -79,7 +82,8 @@ line_long : (line : ℕ) (ps : List Placed) → length (up_to_end_of line ps) + 
 line_long line [] = omega arith
 line_long line (p ∷ ps) = by (line == p.line) (line_long line ps)
   where
-    by : (b : Bool) → length (up_to_end_of line ps) + length (behind_end_of line ps) ≤ length ps → length (if b then p ∷ up_to_end_of line ps else []) + length (if b then behind_end_of line ps else p ∷ ps) ≤ suc (length ps)
+    by : (b : Bool) → length (up_to_end_of line ps) + length (behind_end_of line ps) ≤ length ps
+        → length (if b then p ∷ up_to_end_of line ps else []) + length (if b then behind_end_of line ps else p ∷ ps) ≤ suc (length ps)
     by true h = omega (arith, h)
     by false h = omega arith
 
@@ -111,7 +115,11 @@ parts_short (differs {ps = ps} {c = c} {r = r} w a e code d) =
     let n = suc (suc (length ps)) in
     record {
       own = omega (arith, more.own, line_long w.line ps);
-      each = (omega (arith, one.own, line_long w.line ps), short_append n c.codes r.codes (short_more front n c.codes (omega (arith, line_long w.line ps)) one.each) (short_more back n r.codes (omega (arith, line_long w.line ps)) more.each));
+      each = (
+        omega (arith, one.own, line_long w.line ps),
+        short_append n c.codes r.codes (short_more front n c.codes (omega (arith, line_long w.line ps)) one.each)
+            (short_more back n r.codes (omega (arith, line_long w.line ps)) more.each),
+      );
       count = omega (arith, one.count, more.count, line_long w.line ps, length-append c.codes r.codes);
     }
 parts_short (malformed {ps = ps} {r = r} w e d) =
@@ -135,7 +143,8 @@ module _ (n : ℕ) where
   behind_times line [] = omega arith
   behind_times line (p ∷ ps) = by (line == p.line) (behind_times line ps)
     where
-      by : (b : Bool) → placed_times (behind_end_of line ps) ≤ placed_times ps → placed_times (if b then behind_end_of line ps else p ∷ ps) ≤ placed_times (p ∷ ps)
+      by : (b : Bool) → placed_times (behind_end_of line ps) ≤ placed_times ps
+          → placed_times (if b then behind_end_of line ps else p ∷ ps) ≤ placed_times (p ∷ ps)
       by true h = omega (arith, h)
       by false h = omega arith
 
@@ -180,7 +189,8 @@ at_past (p ∷ ps) r n (suc i) =
     subst (λ (m : ℕ). (slice_get (said_from (suc n) ps r) i ≡ None) ⊎ (slice_get (said_from (suc n) ps r) i ≡ Some (said_at m r))) e (at_past ps r (suc n) i)
 
 -- the codes of a token, or none
-pub codes_at : (ps : List Placed) (r : Parts) (id : ℕ) → (codes_of (slice_get (said_from 0 ps r) id) ≡ []) ⊎ (codes_of (slice_get (said_from 0 ps r) id) ≡ numbers_at id 0 r.codes)
+pub codes_at : (ps : List Placed) (r : Parts) (id : ℕ)
+    → (codes_of (slice_get (said_from 0 ps r) id) ≡ []) ⊎ (codes_of (slice_get (said_from 0 ps r) id) ≡ numbers_at id 0 r.codes)
 codes_at ps r id = by (at_past ps r 0 id)
   where
     by : (slice_get (said_from 0 ps r) id ≡ None) ⊎ (slice_get (said_from 0 ps r) id ≡ Some (said_at (0 + id) r))
@@ -192,13 +202,15 @@ numbers_short : (n k : ℕ) (cs : List Code) → length (numbers_at n k cs) ≤ 
 numbers_short n k [] = omega arith
 numbers_short n k (c ∷ cs) = by (n == c.host) (numbers_short n (suc k) cs)
   where
-    by : (b : Bool) → length (numbers_at n (suc k) cs) ≤ length cs → length (if b then k ∷ numbers_at n (suc k) cs else numbers_at n (suc k) cs) ≤ suc (length cs)
+    by : (b : Bool) → length (numbers_at n (suc k) cs) ≤ length cs
+        → length (if b then k ∷ numbers_at n (suc k) cs else numbers_at n (suc k) cs) ≤ suc (length cs)
     by true h = omega (arith, h)
     by false h = omega (arith, h)
 
 pub codes_short : (ps : List Placed) (r : Parts) (id : ℕ) → length (codes_of (slice_get (said_from 0 ps r) id)) ≤ length r.codes
 codes_short ps r id = by (codes_at ps r id)
   where
-    by : (codes_of (slice_get (said_from 0 ps r) id) ≡ []) ⊎ (codes_of (slice_get (said_from 0 ps r) id) ≡ numbers_at id 0 r.codes) → length (codes_of (slice_get (said_from 0 ps r) id)) ≤ length r.codes
+    by : (codes_of (slice_get (said_from 0 ps r) id) ≡ [])
+        ⊎ (codes_of (slice_get (said_from 0 ps r) id) ≡ numbers_at id 0 r.codes) → length (codes_of (slice_get (said_from 0 ps r) id)) ≤ length r.codes
     by (inl e) = omega (arith, ap length e)
     by (inr e) = omega (arith, ap length e, numbers_short id 0 r.codes)

@@ -22,12 +22,15 @@ use Rattle.smpl_patch.specs.Shapes.{is_dots as is_dots_element, begins_with_dots
 use Rattle.smpl_patch.proofs.BodyLemmas.{element-Atom, element-Compound, element-Block, element-Gap, element-Nest, element-AnyOf, element-AllOf}
 use Rattle.smpl_body.specs.declared.smpl_elem.form.Form.{Form}
 use Rattle.smpl_body.specs.declared.smpl_elem.form.Form.TheVariants as form
-use Rattle.smpl_body.specs.SmplElem.Forms.{is_list_label, is_list, is_list_in, is_list_at, form_of_token, form_of, form_in, form_at, kids, label_at, is_part, before, first_kid, last_kid, id_at, is_more, masked}
+use Rattle.smpl_body.specs.SmplElem.Forms.{is_list_label, is_list, is_list_in, is_list_at, form_of_token, form_of, form_in}
+use Rattle.smpl_body.specs.SmplElem.Forms.{form_at, kids, label_at, is_part, before, first_kid, last_kid, id_at, is_more}
+use Rattle.smpl_body.specs.SmplElem.Forms.{masked}
 use Rattle.smpl_body.specs.SmplElem.Elements.{Part, part, picked, total, seqs, pattern, made, atoms, elements}
 use Rattle.smpl_body.proofs.SmplElem.PartLemmas.{part-tree, parts}
 use Rattle.smpl_body.proofs.SmplElem.CountLemmas.{elements-row}
 use Rattle.smpl_body.specs.DotsOf.{is_dots, id_in, first_id, gap_in, gap, first_gap, last_gap, ends, statements_in, statements, inner}
-use Rattle.sound_laws.specs.SmplFormed.Shapes.{is_nest_label, is_dots_in, is_dots_tree, is_leaf_in, is_leaf, begins, finishes, apart, unlisted, lists, has_form, Formed, token, branch, AllFormed, none, more}
+use Rattle.sound_laws.specs.SmplFormed.Shapes.{is_nest_label, is_dots_in, is_dots_tree, is_leaf_in, is_leaf, begins, finishes}
+use Rattle.sound_laws.specs.SmplFormed.Shapes.{apart, unlisted, lists, has_form, Formed, token, branch, AllFormed, none, more}
 use Rattle.sound_laws.proofs.SmplFormed.SequenceLemmas.{and_both, left_true, right_true, not_true}
 
 -- ---- what a tree is as a part
@@ -51,7 +54,8 @@ token_dotted (token_kind.Meta meta.Stmt) = refl
 token_dotted token_kind.Dots = refl
 token_dotted _ = refl
 
-choice_other : (b : Bool) (f : Form) → is_list_form f ≡ false → is_dots_form f ≡ false → (is_list_form (if b then f else form.Expression) ≡ false) × (is_dots_form (if b then f else form.Expression) ≡ false)
+choice_other : (b : Bool) (f : Form) → is_list_form f ≡ false → is_dots_form f ≡ false
+    → (is_list_form (if b then f else form.Expression) ≡ false) × (is_dots_form (if b then f else form.Expression) ≡ false)
 choice_other true f h g = (h, g)
 choice_other false f h g = (refl, refl)
 
@@ -91,12 +95,14 @@ pub record Single (es : List Elem) (dotted : Bool) : Type 0 where
 single : (x : Elem) (e : Element) (b : Bool) → element x ≡ e → is_dots_element e ≡ b → Single (x ∷ []) b
 single x e b is d = record { one = x; are = refl; is = ap is_dots_element is ∙ d }
 
-made_single : (f : Form) (dots : ℕ → Dots) (t : Tree) (n : ℕ) (parts : List (List Elem)) (m : ℕ) → is_list_form f ≡ false → Single (made f dots t n parts m) (is_dots_form f)
+made_single : (f : Form) (dots : ℕ → Dots) (t : Tree) (n : ℕ) (parts : List (List Elem)) (m : ℕ) → is_list_form f ≡ false
+    → Single (made f dots t n parts m) (is_dots_form f)
 made_single form.Gap dots t n parts m h = single _ _ true (element-Gap (dots (id_at t))) refl
 made_single form.Expression dots t n parts m h = single _ _ false (element-Atom (pattern n spot.Inside t)) refl
 made_single form.Plain dots t n parts m h = single _ _ false (element-Atom (pattern n spot.Whole t)) refl
 made_single form.List dots t n parts m h = absurd (false≢true (sym h))
-made_single form.Block dots t n parts m h = single _ _ false (element-Block (pattern n spot.Whole (first_kid (kids t))) (join parts) (pattern m spot.Whole (last_kid (kids t)))) refl
+made_single form.Block dots t n parts m h =
+    single _ _ false (element-Block (pattern n spot.Whole (first_kid (kids t))) (join parts) (pattern m spot.Whole (last_kid (kids t)))) refl
 made_single form.Nest dots t n parts m h = single _ _ true (element-Nest (is_more (first_kid (kids t))) (join parts) (dots (id_at (last_kid (kids t))))) refl
 made_single form.AnyOf dots t n parts m h = single _ _ false (element-AnyOf parts) refl
 made_single form.AllOf dots t n parts m h = single _ _ false (element-AllOf parts) refl
@@ -108,11 +114,14 @@ module _ (dots : ℕ → Dots) where
   pub tree_single : (t : Tree) (k : ℕ) → is_list t ≡ false → Single (elements dots k t) (is_dots_tree t)
   tree_single t k h =
       subst (λ (es : List Elem). Single es (is_dots_tree t)) (sym (elements-row t dots k))
-      (subst (λ (b : Bool). Single (made (form_at t) dots t k (seqs dots (k + before (form_at t)) (parts t)) (k + before (form_at t) + total (parts t))) b) (form_dotted t) (made_single (form_at t) dots t k (seqs dots (k + before (form_at t)) (parts t)) (k + before (form_at t) + total (parts t)) (form_listed t ∙ h)))
+      (subst (λ (b : Bool). Single (made (form_at t) dots t k (seqs dots (k + before (form_at t)) (parts t))
+      (k + before (form_at t) + total (parts t))) b) (form_dotted t)
+      (made_single (form_at t) dots t k (seqs dots (k + before (form_at t)) (parts t)) (k + before (form_at t) + total (parts t)) (form_listed t ∙ h)))
 
   -- the elements of a tree of this form, label and children
   pub tree_made : (t : Tree) (f : Form) (l : Label) (cs : List Tree) (k : ℕ) → form_at t ≡ f → label_at t ≡ l → kids t ≡ cs
-      → elements dots k t ≡ made f dots t k (seqs dots (k + before f) (picked f l (length cs) 0 (map part cs))) (k + before f + total (picked f l (length cs) 0 (map part cs)))
+      → elements dots k t ≡ made f dots t k (seqs dots (k + before f) (picked f l (length cs) 0 (map part cs)))
+      (k + before f + total (picked f l (length cs) 0 (map part cs)))
   tree_made t f l cs k ef el ek =
       elements-row t dots k
       ∙ (λ i. made (ef i) dots t k (seqs dots (k + before (ef i)) (picked (ef i) (el i) (length (ek i)) 0 (map part (ek i))))
@@ -129,7 +138,8 @@ module _ (dots : ℕ → Dots) where
     pub last : ends_with_dots (body es) ≡ finishes cs
     pub parted : are_parted (body es) ≡ apart cs
 
-  last_more : (x : Elem) (es : List Elem) (c : Tree) (cs : List Tree) → is_dots_element (element x) ≡ is_dots_tree c → length es ≡ length cs → ends_with_dots (body es) ≡ finishes cs
+  last_more : (x : Elem) (es : List Elem) (c : Tree) (cs : List Tree) → is_dots_element (element x) ≡ is_dots_tree c
+      → length es ≡ length cs → ends_with_dots (body es) ≡ finishes cs
       → ends_with_dots (body (x ∷ es)) ≡ finishes (c ∷ cs)
   last_more x [] c [] d n e = d
   last_more x [] c (u ∷ cs) d n e = let no : ⊥ = cc in absurd no
@@ -148,7 +158,8 @@ module _ (dots : ℕ → Dots) where
   pub all_follow : (cs : List Tree) (k : ℕ) → unlisted cs ≡ true → Follow (joined k (map part cs)) cs
   all_follow [] k u = record { long = refl; first = refl; last = refl; parted = refl }
   all_follow (c ∷ cs) k u =
-      follow_more (elements dots k c) c (joined (k + atoms c) (map part cs)) cs (tree_single c k (not_true (is_list c) (left_true (not (is_list c)) (unlisted cs) u)))
+      follow_more (elements dots k c) c (joined (k + atoms c) (map part cs)) cs
+      (tree_single c k (not_true (is_list c) (left_true (not (is_list c)) (unlisted cs) u)))
       (all_follow cs (k + atoms c) (right_true (not (is_list c)) (unlisted cs) u))
 
 -- ---- the children that are parts
@@ -208,7 +219,8 @@ unlisted_butlast : (cs : List Tree) → unlisted cs ≡ true → unlisted (butla
 unlisted_butlast [] u = refl
 unlisted_butlast (c ∷ []) u = refl
 unlisted_butlast (c ∷ d ∷ cs) u =
-    and_both (not (is_list c)) (unlisted (butlast (d ∷ cs))) (left_true (not (is_list c)) (unlisted (d ∷ cs)) u) (unlisted_butlast (d ∷ cs) (right_true (not (is_list c)) (unlisted (d ∷ cs)) u))
+    and_both (not (is_list c)) (unlisted (butlast (d ∷ cs))) (left_true (not (is_list c)) (unlisted (d ∷ cs)) u)
+    (unlisted_butlast (d ∷ cs) (right_true (not (is_list c)) (unlisted (d ∷ cs)) u))
 
 pub unlisted_middle : (cs : List Tree) → unlisted cs ≡ true → unlisted (middle cs) ≡ true
 unlisted_middle [] u = refl
@@ -244,11 +256,13 @@ pub picked_short : (f : Form) (l : Label) (n i : ℕ) (ps : List Part) → lengt
 picked_short f l n i [] = omega arith
 picked_short f l n i (p ∷ ps) = by (is_part f l n i p.tree) (picked_short f l n (i + 1) ps)
   where
-    by : (b : Bool) → length (picked f l n (i + 1) ps) ≤ length ps → length (if b then p ∷ picked f l n (i + 1) ps else picked f l n (i + 1) ps) ≤ suc (length ps)
+    by : (b : Bool) → length (picked f l n (i + 1) ps) ≤ length ps
+        → length (if b then p ∷ picked f l n (i + 1) ps else picked f l n (i + 1) ps) ≤ suc (length ps)
     by true h = omega (arith, h)
     by false h = omega (arith, h)
 
-pub lists_picked : (f : Form) → ((l : Label) (n i : ℕ) (c : Tree) → is_part f l n i c ≡ is_list c) → (l : Label) (n i : ℕ) (cs : List Tree) → length (picked f l n i (map part cs)) ≡ lists cs
+pub lists_picked : (f : Form) → ((l : Label) (n i : ℕ) (c : Tree) → is_part f l n i c ≡ is_list c)
+    → (l : Label) (n i : ℕ) (cs : List Tree) → length (picked f l n i (map part cs)) ≡ lists cs
 lists_picked f h l n i [] = refl
 lists_picked f h l n i (c ∷ cs) =
     let same : is_part f l n i (part c).tree ≡ is_list c = h l n i (part c).tree ∙ ap is_list (part-tree c) in
@@ -276,7 +290,8 @@ no_first (c ∷ cs) h e = no_id (out-Tree c) h e
 nest_gap : (l : Label) (cs : List Tree) → has_form l cs ≡ true → gap_in (Tree-F.Branch l cs) ≡ [] → is_nest_label l ≡ false
 nest_gap label.PatNest cs h e =
     absurd (no_first cs (left_true (is_leaf (first_kid cs)) (is_leaf (last_kid cs))
-    (right_true (apart cs) (is_leaf (first_kid cs) && is_leaf (last_kid cs)) (right_true (unlisted cs) (apart cs && (is_leaf (first_kid cs) && is_leaf (last_kid cs))) h))) e)
+    (right_true (apart cs) (is_leaf (first_kid cs) && is_leaf (last_kid cs))
+    (right_true (unlisted cs) (apart cs && (is_leaf (first_kid cs) && is_leaf (last_kid cs))) h))) e)
 nest_gap _ cs h e = refl
 
 token_gap : (a : Token) (b : Bool) → (if b then a.id ∷ [] else []) ≡ [] → b ≡ false

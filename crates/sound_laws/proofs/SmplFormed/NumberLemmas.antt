@@ -15,7 +15,7 @@ use Rattle.smpl_patch.specs.Shapes.{patterns_body, patterns_bodies}
 use Rattle.smpl_patch.specs.Sound.{none_alike}
 use Rattle.smpl_patch.proofs.BodyLemmas.{bodies}
 use Rattle.smpl_meta.specs.declared.patterns.Placed.{Placed}
-use Rattle.smpl_body.specs.declared.smpl_when.clauses.Said.{Said}
+use Rattle.smpl_body.specs.declared.smpl_when.clauses.WhenFlags.{WhenFlags}
 use Rattle.smpl_body.specs.declared.smpl_when.cutting.Code.{Code}
 use Rattle.smpl_body.specs.SmplWhen.Cutting.{cut}
 use Rattle.smpl_body.specs.SmplWhen.Grammar.{IsCut, numbers_at, said_from}
@@ -91,7 +91,8 @@ module _ (vs : List ℕ) where
   spread_more j c cs [] = refl
   spread_more j c cs (t ∷ ts) = by (t.id == c.host) (spread_more j c cs ts)
     where
-      by : (b : Bool) → spread j (c ∷ cs) ts ≡ heads c.host (nth vs j) ts + spread (suc j) cs ts → tally (if b then j ∷ numbers_at t.id (suc j) cs else numbers_at t.id (suc j) cs) + spread j (c ∷ cs) ts
+      by : (b : Bool) → spread j (c ∷ cs) ts ≡ heads c.host (nth vs j) ts + spread (suc j) cs ts
+          → tally (if b then j ∷ numbers_at t.id (suc j) cs else numbers_at t.id (suc j) cs) + spread j (c ∷ cs) ts
           ≡ ((if b then nth vs j else 0) + heads c.host (nth vs j) ts) + (tally (numbers_at t.id (suc j) cs) + spread (suc j) cs ts)
       by true r = omega (arith, r)
       by false r = omega (arith, r)
@@ -105,13 +106,15 @@ module _ (vs : List ℕ) where
   spread_all j (c ∷ cs) ts o = omega (arith, spread_more j c cs ts, one_head c.host (nth vs j) ts (o c.host), spread_all (suc j) cs ts o)
 
 -- what is said of a token are its codes, or nothing
-abbrev Told : List Said → List Code → ℕ → Type 0
+abbrev Told : List WhenFlags → List Code → ℕ → Type 0
 Told said cs id = (codes_of (slice_get said id) ≡ []) ⊎ (codes_of (slice_get said id) ≡ numbers_at id 0 cs)
 
 told : (ps : List Placed) → IsCut ps (cut ps) → (id : ℕ) → Told (cut ps).said (cut ps).codes id
-told ps c id = subst (λ (l : List Said). Told l (cut ps).codes id) (sym c.said) (subst (λ (ds : List Code). Told (said_from 0 ps c.parts) ds id) (sym c.codes) (codes_at ps c.parts id))
+told ps c id = subst (λ (l : List WhenFlags). Told l (cut ps).codes id) (sym c.said)
+    (subst (λ (ds : List Code). Told (said_from 0 ps c.parts) ds id) (sym c.codes) (codes_at ps c.parts id))
 
-told_cost : (vs : List ℕ) (b : ℕ) (said : List Said) (cs : List Code) (id : ℕ) → b ≤ tally vs (codes_of (slice_get said id)) → Told said cs id → b ≤ tally vs (numbers_at id 0 cs)
+told_cost : (vs : List ℕ) (b : ℕ) (said : List WhenFlags) (cs : List Code) (id : ℕ)
+    → b ≤ tally vs (codes_of (slice_get said id)) → Told said cs id → b ≤ tally vs (numbers_at id 0 cs)
 told_cost vs b said cs id le (inl e) = omega (arith, le, ap (tally vs) e)
 told_cost vs b said cs id le (inr e) = omega (arith, le, ap (tally vs) e)
 
@@ -135,20 +138,28 @@ module _ (x : ℕ) where
   no_load dots h [] = refl
   no_load dots h (t ∷ ts) = omega (arith, h t.id, no_load dots h ts)
 
-  bodies_append : (xs ys : List (List Elem)) → occurs x (patterns_bodies (bodies (xs ++ ys))) ≡ occurs x (patterns_bodies (bodies xs)) + occurs x (patterns_bodies (bodies ys))
+  bodies_append : (xs ys : List (List Elem))
+      → occurs x (patterns_bodies (bodies (xs ++ ys))) ≡ occurs x (patterns_bodies (bodies xs)) + occurs x (patterns_bodies (bodies ys))
   bodies_append [] ys = omega arith
   bodies_append (b ∷ xs) ys =
-      omega (arith, occurs_append x (patterns_body (body b)) (patterns_bodies (bodies (xs ++ ys))), occurs_append x (patterns_body (body b)) (patterns_bodies (bodies xs)), bodies_append xs ys)
+      omega (
+        arith,
+        occurs_append x (patterns_body (body b)) (patterns_bodies (bodies (xs ++ ys))),
+        occurs_append x (patterns_body (body b)) (patterns_bodies (bodies xs)),
+        bodies_append xs ys,
+      )
 
-  loaded : (dots : ℕ → Dots) (vs : List ℕ) (cs : List Code) → ((id : ℕ) → behind x dots id ≤ tally vs (numbers_at id 0 cs)) → (ts : List Token) → load x dots ts ≤ spread vs 0 cs ts
+  loaded : (dots : ℕ → Dots) (vs : List ℕ) (cs : List Code) → ((id : ℕ) → behind x dots id ≤ tally vs (numbers_at id 0 cs))
+      → (ts : List Token) → load x dots ts ≤ spread vs 0 cs ts
   loaded dots vs cs h [] = omega arith
   loaded dots vs cs h (t ∷ ts) = omega (arith, h t.id, loaded dots vs cs h ts)
 
-  module _ (said : List Said) where
+  module _ (said : List WhenFlags) where
     code_bare : (id : ℕ) → behind x (code_dots said) id ≡ 0
     code_bare id = ap (λ (b : Bodies). occurs x (patterns_bodies b)) (dots_rolled [] (is_any (slice_get said id)) (is_strict (slice_get said id)))
 
-    code_cost : {m : ℕ} {tokens : List Token} (t : Tree) → IsTop m tokens t → (n : ℕ) → occurs x (patterns_body (body (elements (code_dots said) n t))) ≤ hits x n (atoms t)
+    code_cost : {m : ℕ} {tokens : List Token} (t : Tree) → IsTop m tokens t → (n : ℕ)
+        → occurs x (patterns_body (body (elements (code_dots said) n t))) ≤ hits x n (atoms t)
     code_cost t top n = omega (arith, tree_light x (code_dots said) top.formed n, no_load (code_dots said) code_bare (leaves t))
 
     at_cost : (m : ℕ) (cs : List Code) (ts : List Tree) (n k : ℕ) → AllTop m cs ts
@@ -164,7 +175,13 @@ module _ (x : ℕ) where
         → occurs x (patterns_bodies (bodies (whens_of said ts (starts_from n ts) ks))) ≤ tally (costs n ts) ks
     whens_cost m cs ts n [] h = omega arith
     whens_cost m cs ts n (k ∷ ks) h =
-        omega (arith, bodies_append (code_at said (slice_get ts k) (slice_get (starts_from n ts) k)) (whens_of said ts (starts_from n ts) ks), at_cost m cs ts n k h, whens_cost m cs ts n ks h)
+        omega (
+          arith,
+          bodies_append (code_at said (slice_get ts k) (slice_get (starts_from n ts) k))
+              (whens_of said ts (starts_from n ts) ks),
+          at_cost m cs ts n k h,
+          whens_cost m cs ts n ks h,
+        )
 
     behind_cost : (m : ℕ) (cs : List Code) (ts : List Tree) (n id : ℕ) → AllTop m cs ts
         → behind x (body_dots said ts (starts_from n ts)) id ≤ tally (costs n ts) (codes_of (slice_get said id))
@@ -172,7 +189,8 @@ module _ (x : ℕ) where
         let ks = codes_of (slice_get said id) in
         omega (
           arith,
-          ap (λ (b : Bodies). occurs x (patterns_bodies b)) (dots_rolled (whens_of said ts (starts_from n ts) ks) (is_any (slice_get said id)) (is_strict (slice_get said id))),
+          ap (λ (b : Bodies). occurs x (patterns_bodies b))
+              (dots_rolled (whens_of said ts (starts_from n ts) ks) (is_any (slice_get said id)) (is_strict (slice_get said id))),
           whens_cost m cs ts n ks h,
         )
 
@@ -191,9 +209,11 @@ module _ (x : ℕ) where
         let dots = body_dots said ts (starts_from first ts) in
         let vs = costs first ts in
         let once : (h : ℕ) → times h main ≤ 1 = λ h. omega (arith, ap (times h) c.main, own_times h c.are, count_once h 0 ps number) in
-        let token_cost : (id : ℕ) → behind x dots id ≤ tally vs (numbers_at id 0 cs) = λ id. told_cost vs (behind x dots id) said cs id (behind_cost said n cs ts first id tops) (told ps c id) in
+        let token_cost : (id : ℕ) → behind x dots id ≤ tally vs (numbers_at id 0 cs) =
+        λ id. told_cost vs (behind x dots id) said cs id (behind_cost said n cs ts first id tops) (told ps c id) in
         let all : load x dots main ≤ spread vs 0 cs main = loaded dots vs cs token_cost main in
-        let light : occurs x (patterns_body (body (elements dots 0 is.tree))) ≤ hits x 0 first + load x dots (leaves is.tree) = tree_light x dots top.formed 0 in
+        let light : occurs x (patterns_body (body (elements dots 0 is.tree))) ≤ hits x 0 first + load x dots (leaves is.tree) =
+        tree_light x dots top.formed 0 in
         let zero' : 0 + first ≡ first = omega arith in
         omega (
           arith,
@@ -209,5 +229,6 @@ module _ (x : ℕ) where
           hits_once x 0 (first + all_atoms ts),
         )
 
-pub body_atoms : (ps : List Placed) (es : List Elem) → IsCut ps (cut ps) → CountFrom 0 ps → IsBody ps es → none_alike (λ (p q : Pattern). nat_eq p.atom q.atom) (patterns_body (body es)) ≡ true
+pub body_atoms : (ps : List Placed) (es : List Elem) → IsCut ps (cut ps) → CountFrom 0 ps → IsBody ps es
+    → none_alike (λ (p q : Pattern). nat_eq p.atom q.atom) (patterns_body (body es)) ≡ true
 body_atoms ps es c number is = all_differ (patterns_body (body es)) (λ x. number_once x ps es c number is)

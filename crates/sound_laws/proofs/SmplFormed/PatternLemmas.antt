@@ -45,7 +45,8 @@ module _ (ok : Token → Bool) (most : ℕ) where
   patterns_fit [] g = refl
   patterns_fit (p ∷ ps) g =
       and_both (fits p) (list_all fits ps)
-      (ap (λ (fs : List Tree). has_form fs && list_all (λ f. list_all ok (leaves f)) fs) g.0.are ∙ and_both (list_all ok (leaves g.0.form)) true (leaves_pass g.0.sound) refl)
+      (ap (λ (fs : List Tree). has_form fs && list_all (λ f. list_all ok (leaves f)) fs) g.0.are
+      ∙ and_both (list_all ok (leaves g.0.form)) true (leaves_pass g.0.sound) refl)
       (patterns_fit ps g.1)
 
   abbrev pub is_few : Pattern → Bool
@@ -56,7 +57,8 @@ module _ (ok : Token → Bool) (most : ℕ) where
   patterns_few (p ∷ ps) s g =
       and_both (is_few p) (list_all is_few ps)
       (ap (λ (fs : List Tree). list_all is_small (length fs ∷ map width fs)) g.0.are
-      ∙ and_both (is_small 1) (is_small (width g.0.form) && true) (small 1 (omega arith)) (and_both (is_small (width g.0.form)) true (small (width g.0.form) (omega (arith, narrow g.0.sound, s))) refl))
+      ∙ and_both (is_small 1) (is_small (width g.0.form) && true) (small 1 (omega arith))
+      (and_both (is_small (width g.0.form)) true (small (width g.0.form) (omega (arith, narrow g.0.sound, s))) refl))
       (patterns_few ps s g.1)
 
   pub patterns_stand : (decls : List VarDecl) (tokens : List PatToken) (ps : List Pattern) → AllGood ok most ps → AllStand decls tokens ps

@@ -1,5 +1,6 @@
 -- The trees that are read from a body and from the code of its clauses.
-use Rattle.std.proofs.Common.{◌≡◌, ℕ, zero, suc, ◌*◌, ◌<◌, ◌≤◌, refl, sym, ap, ◌∙◌, subst, arith, List, [], ◌∷◌, ◌++◌, map, length, Option, Some, None, slice_get, inl, inr}
+use Rattle.std.proofs.Common.{◌≡◌, ℕ, zero, suc, ◌*◌, ◌<◌, ◌≤◌, refl, sym, ap, ◌∙◌, subst, arith, List, [], ◌∷◌, ◌++◌, map}
+use Rattle.std.proofs.Common.{length, Option, Some, None, slice_get, inl, inr}
 use Rattle.std.proofs.lemmas.List.{length-append}
 use Rattle.std.proofs.lemmas.Bool.{false≢true}
 use Rattle.std.specs.Prelude.{Bool, true, false}
@@ -21,7 +22,7 @@ use Rattle.smpl_patch.specs.Bodies.{Element, DotsOf, element_step, dots_step, bo
 use Rattle.smpl_patch.specs.Shapes.{count, are_formed, is_formed_body, patterns_body, patterns_bodies, lengths_body, lengths_bodies}
 use Rattle.smpl_patch.proofs.BodyLemmas.{bodies, dots_of}
 use Rattle.smpl_meta.specs.declared.patterns.Placed.{Placed}
-use Rattle.smpl_body.specs.declared.smpl_when.clauses.Said.{Said}
+use Rattle.smpl_body.specs.declared.smpl_when.clauses.WhenFlags.{WhenFlags}
 use Rattle.smpl_body.specs.declared.smpl_when.cutting.Code.{Code}
 use Rattle.smpl_body.specs.SmplWhen.Cutting.{cut}
 use Rattle.smpl_body.specs.SmplWhen.Grammar.{IsCut}
@@ -31,11 +32,14 @@ use Rattle.smpl_body.specs.declared.reading.Form.{Form}
 use Rattle.smpl_body.specs.declared.reading.Form.TheVariants as form
 use Rattle.smpl_body.specs.Spelled.{kind_of, IsTree, IsFirst, IsRead, AreRead, body_forms, code_forms}
 use Rattle.smpl_body.specs.DotsOf.{ends, statements, edges}
-use Rattle.smpl_body.specs.Bodies.{at_of, nested_hosts, all_edges, edge_faults, minus_faults, first_some, is_any, is_strict, codes_of, code_dots, code_at, whens_of, body_dots, starts_from, IsBody}
+use Rattle.smpl_body.specs.Bodies.{at_of, nested_hosts, all_edges, edge_faults, minus_faults, first_some, is_any, is_strict}
+use Rattle.smpl_body.specs.Bodies.{codes_of, code_dots, code_at, whens_of, body_dots, starts_from, IsBody}
 use Rattle.smpl_body.proofs.EdgeLemmas.{edges_in}
 use Rattle.sound_laws.specs.SmplFormed.Shapes.{is_dots_tree, Formed}
 use Rattle.sound_laws.proofs.SmplFormed.RowShapes.{tree_formed, alone_undotted, list_listed}
-use Rattle.sound_laws.proofs.SmplFormed.SequenceLemmas.{and_both, small, is_small, count_is, AllGood, Whole, AllWhole, whole_formed, bodies_formed, bodies_few, bodies_good, all_few, all_good, GoodDots}
+use Rattle.sound_laws.proofs.SmplFormed.SequenceLemmas.{and_both, small, is_small, count_is, AllGood, Whole, AllWhole}
+use Rattle.sound_laws.proofs.SmplFormed.SequenceLemmas.{whole_formed, bodies_formed, bodies_few, bodies_good, all_few, all_good}
+use Rattle.sound_laws.proofs.SmplFormed.SequenceLemmas.{GoodDots}
 use Rattle.sound_laws.proofs.SmplFormed.KidLemmas.{front_empty, back_empty}
 use Rattle.sound_laws.proofs.SmplFormed.TreeLemmas.{tree_fine, tree_whole}
 use Rattle.sound_laws.specs.SmplFormed.Bodies.{tokens_of}
@@ -101,17 +105,19 @@ pub dots_rolled : (ws : List (List Elem)) (a s : Bool) → (dots_of (roll-Dots (
 dots_rolled ws a s = ap (λ (d : DotsOf). d.whens) (fold-roll-Dots Element DotsOf element_step dots_step _)
 
 module _ (ok : Token → Bool) (most : ℕ) where
-  good_dots : (ws : List (List Elem)) (a s : Bool) → AllWhole ok most ws → length ws < 4294967296 → GoodDots ok most (roll-Dots (record { whens = ws; any = a; strict = s }))
+  good_dots : (ws : List (List Elem)) (a s : Bool) → AllWhole ok most ws → length ws < 4294967296
+      → GoodDots ok most (roll-Dots (record { whens = ws; any = a; strict = s }))
   good_dots ws a s w le =
       let is = dots_rolled ws a s in
       record {
         formed = ap are_formed is ∙ bodies_formed ok most ws w;
         few = ap (λ b. list_all is_small (count b ∷ lengths_bodies b)) is
-            ∙ and_both (is_small (count (bodies ws))) (list_all is_small (lengths_bodies (bodies ws))) (ap is_small (count_is ws) ∙ small (length ws) le) (bodies_few ok most ws w);
+            ∙ and_both (is_small (count (bodies ws))) (list_all is_small (lengths_bodies (bodies ws)))
+            (ap is_small (count_is ws) ∙ small (length ws) le) (bodies_few ok most ws w);
         patterns = subst (λ b. AllGood ok most (patterns_bodies b)) (sym is) (bodies_good ok most ws w);
       }
 
-  module _ (said : List Said) where
+  module _ (said : List WhenFlags) where
     pub code_good : (id : ℕ) → GoodDots ok most (code_dots said id)
     code_good id = good_dots [] (is_any (slice_get said id)) (is_strict (slice_get said id)) tt (omega arith)
 
@@ -132,7 +138,8 @@ module _ (ok : Token → Bool) (most : ℕ) where
 
     whens_whole : (ts : List Tree) (starts ks : List ℕ) → AllCodeWhole ts → AllWhole ok most (whens_of said ts starts ks)
     whens_whole ts starts [] w = tt
-    whens_whole ts starts (k ∷ ks) w = whole_append (code_at said (slice_get ts k) (slice_get starts k)) (whens_of said ts starts ks) (at_whole ts starts k w) (whens_whole ts starts ks w)
+    whens_whole ts starts (k ∷ ks) w = whole_append (code_at said (slice_get ts k) (slice_get starts k))
+        (whens_of said ts starts ks) (at_whole ts starts k w) (whens_whole ts starts ks w)
 
     at_short : (o : Option Tree) (n : Option ℕ) → length (code_at said o n) ≤ 1
     at_short None n = omega arith
@@ -142,11 +149,17 @@ module _ (ok : Token → Bool) (most : ℕ) where
     whens_short : (ts : List Tree) (starts ks : List ℕ) → length (whens_of said ts starts ks) ≤ length ks
     whens_short ts starts [] = omega arith
     whens_short ts starts (k ∷ ks) =
-        omega (arith, length-append (code_at said (slice_get ts k) (slice_get starts k)) (whens_of said ts starts ks), at_short (slice_get ts k) (slice_get starts k), whens_short ts starts ks)
+        omega (
+          arith,
+          length-append (code_at said (slice_get ts k) (slice_get starts k)) (whens_of said ts starts ks),
+          at_short (slice_get ts k) (slice_get starts k),
+          whens_short ts starts ks,
+        )
 
     -- ---- a whole tree
 
-    top_whole : (n : ℕ) (dots : ℕ → Dots) (tokens : List Token) (t : Tree) → most ≡ 2 * n → most < 4294967296 → ((id : ℕ) → GoodDots ok most (dots id)) → IsTop n tokens t → list_all ok tokens ≡ true → edges t ≡ []
+    top_whole : (n : ℕ) (dots : ℕ → Dots) (tokens : List Token) (t : Tree) → most ≡ 2 * n → most < 4294967296
+        → ((id : ℕ) → GoodDots ok most (dots id)) → IsTop n tokens t → list_all ok tokens ≡ true → edges t ≡ []
         → (k : ℕ) → Whole ok most (elements dots k t)
     top_whole n dots tokens t e s good top v edge =
         let formed : Formed most t = subst (λ (m : ℕ). Formed m t) (sym e) top.formed in
@@ -154,7 +167,8 @@ module _ (ok : Token → Bool) (most : ℕ) where
         (tree_fine ok most dots s good formed (ap (list_all ok) top.are ∙ v) (back_empty (ends (statements t)) (edges_in t) edge))
         (front_empty (ends (statements t)) (edges_in t) edge) top.undotted
 
-    codes_whole : (n : ℕ) (cs : List Code) (ts : List Tree) → most ≡ 2 * n → most < 4294967296 → AllTop n cs ts → AllPass ok cs → join (map edges ts) ≡ [] → AllCodeWhole ts
+    codes_whole : (n : ℕ) (cs : List Code) (ts : List Tree) → most ≡ 2 * n → most < 4294967296 → AllTop n cs ts → AllPass ok cs
+        → join (map edges ts) ≡ [] → AllCodeWhole ts
     codes_whole n [] [] e s t v edge = tt
     codes_whole n [] (u ∷ ts) e s t v edge = absurd t
     codes_whole n (c ∷ cs) [] e s t v edge = absurd t
@@ -163,10 +177,12 @@ module _ (ok : Token → Bool) (most : ℕ) where
       codes_whole n cs ts e s t.1 v.1 (back_empty (edges u) (join (map edges ts)) edge),
     )
 
-    body_good : (ts : List Tree) (starts : List ℕ) (id : ℕ) → AllCodeWhole ts → length (codes_of (slice_get said id)) < 4294967296 → GoodDots ok most (body_dots said ts starts id)
+    body_good : (ts : List Tree) (starts : List ℕ) (id : ℕ) → AllCodeWhole ts
+        → length (codes_of (slice_get said id)) < 4294967296 → GoodDots ok most (body_dots said ts starts id)
     body_good ts starts id w le =
         let ks = codes_of (slice_get said id) in
-        good_dots (whens_of said ts starts ks) (is_any (slice_get said id)) (is_strict (slice_get said id)) (whens_whole ts starts ks w) (omega (arith, whens_short ts starts ks, le))
+        good_dots (whens_of said ts starts ks) (is_any (slice_get said id)) (is_strict (slice_get said id))
+        (whens_whole ts starts ks w) (omega (arith, whens_short ts starts ks, le))
 
 -- ---- bodies
 
@@ -182,23 +198,28 @@ module _ (ok : Token → Bool) (ps : List Placed) (es : List Elem) where
       let each_short : AllShort n (cut ps).codes = subst (λ (cs : List Code). AllShort n cs) (sym c.codes) short.each in
       let main_short : length (cut ps).main ≤ n = omega (arith, ap length c.main, short.own) in
       let none : all_edges (cut ps) (is.tree ∷ ts) ≡ [] =
-      no_edges ps (all_edges (cut ps) (is.tree ∷ ts)) (first_none (first_of (edge_faults ps (all_edges (cut ps) (is.tree ∷ ts)))) (first_of (minus_faults ps (is.tree ∷ ts))) is.faultless) in
+      no_edges ps (all_edges (cut ps) (is.tree ∷ ts))
+      (first_none (first_of (edge_faults ps (all_edges (cut ps) (is.tree ∷ ts)))) (first_of (minus_faults ps (is.tree ∷ ts))) is.faultless) in
       let edge : edges is.tree ++ join (map edges ts) ≡ [] = back_empty (nested_hosts (cut ps).codes) (join (map edges (is.tree ∷ ts))) none in
-      let codes_are = codes_whole ok most (cut ps).said n (cut ps).codes ts refl fits (all_top n (cut ps).codes ts each_short is.spells.code) codes_pass (back_empty (edges is.tree) (join (map edges ts)) edge) in
+      let codes_are = codes_whole ok most (cut ps).said n (cut ps).codes ts refl fits
+      (all_top n (cut ps).codes ts each_short is.spells.code) codes_pass (back_empty (edges is.tree) (join (map edges ts)) edge) in
       let starts = starts_from (atoms is.tree) ts in
       let few : (id : ℕ) → length (codes_of (slice_get (cut ps).said id)) < 4294967296 =
-      λ id. let e = ap (λ (l : List Said). length (codes_of (slice_get l id))) c.said in omega (arith, e, codes_short ps c.parts id, short.count, s) in
+      λ id. let e = ap (λ (l : List WhenFlags). length (codes_of (slice_get l id))) c.said in omega (arith, e, codes_short ps c.parts id, short.count, s) in
       subst (λ (xs : List Elem). Whole ok most xs) (sym is.are)
-      (top_whole ok most (cut ps).said n (body_dots (cut ps).said ts starts) (cut ps).main is.tree refl fits (λ id. body_good ok most (cut ps).said ts starts id codes_are (few id))
+      (top_whole ok most (cut ps).said n (body_dots (cut ps).said ts starts) (cut ps).main is.tree refl fits
+      (λ id. body_good ok most (cut ps).said ts starts id codes_are (few id))
       (top_read body_forms n (cut ps).main is.tree main_short is.spells.body) own (front_empty (edges is.tree) (join (map edges ts)) edge) 0)
 
   pub body_formed : IsCut ps (cut ps) → length ps < 2147483648 → list_all ok (tokens_of ps) ≡ true → IsBody ps es → is_formed_body (body es) ≡ true
   body_formed c s v is = whole_formed ok (2 * length ps) es (body_whole c s v is)
 
-  pub body_few : IsCut ps (cut ps) → length ps < 2147483648 → list_all ok (tokens_of ps) ≡ true → IsBody ps es → list_all is_small (length es ∷ lengths_body (body es)) ≡ true
+  pub body_few : IsCut ps (cut ps) → length ps < 2147483648 → list_all ok (tokens_of ps) ≡ true → IsBody ps es
+      → list_all is_small (length es ∷ lengths_body (body es)) ≡ true
   body_few c s v is =
       let w = body_whole c s v is in
       and_both (is_small (length es)) (list_all is_small (lengths_body (body es))) (small (length es) w.short) (all_few ok (2 * length ps) es w.fine)
 
-  pub body_patterns : IsCut ps (cut ps) → length ps < 2147483648 → list_all ok (tokens_of ps) ≡ true → IsBody ps es → AllGood ok (2 * length ps) (patterns_body (body es))
+  pub body_patterns : IsCut ps (cut ps) → length ps < 2147483648 → list_all ok (tokens_of ps) ≡ true → IsBody ps es
+      → AllGood ok (2 * length ps) (patterns_body (body es))
   body_patterns c s v is = all_good ok (2 * length ps) es (body_whole c s v is).fine

@@ -27,7 +27,9 @@ use Rattle.c_rows.specs.declared.symbol.Fork.{Fork}
 use Rattle.c_rows.specs.declared.symbol.Fork.TheVariants as forks
 use Rattle.c_rows.specs.Kinds.{family_of, has_leaf, is_operand}
 use Rattle.c_rows.specs.Words.{fits}
-use Rattle.c_rows.specs.Branches.{kind_of, label_of, branches_label, at_label, if_label, case_label, for_label, external_label, macro_label, text_is, labelled, is_decl_label, is_block_label, is_blockless, begins_dots, begins_declaration, may_go}
+use Rattle.c_rows.specs.Branches.{kind_of, label_of, branches_label, at_label, if_label, case_label, for_label, external_label}
+use Rattle.c_rows.specs.Branches.{macro_label, text_is, labelled, is_decl_label, is_block_label, is_blockless, begins_dots}
+use Rattle.c_rows.specs.Branches.{begins_declaration, may_go}
 use Rattle.c_rows.specs.Rows.{Row, row, ways}
 use Rattle.c_rows.specs.Choice.{full, implies}
 use Rattle.c_rows.specs.Look.{Names, look, class_of}
@@ -38,8 +40,15 @@ use Rattle.c_rows.proofs.FirstLemmas.{within_family}
 use Rattle.smpl_patch.specs.Patterns.{is_sign, is_sign_at as is_sign_in, is_sign_tree}
 use Rattle.smpl_body.specs.SmplElem.Forms.{is_list_in, is_list, first_kid, last_kid}
 use Rattle.smpl_body.specs.DotsOf.{is_dots}
-use Rattle.sound_laws.specs.SmplFormed.Shapes.{is_nest_label, is_dots_in, is_dots_tree, is_leaf_in, is_leaf, begins, apart, unlisted, undotted, lists, is_choice, has_form, Formed, token, branch, AllFormed, none, more}
-use Rattle.sound_laws.proofs.SmplFormed.RowTests.{is_list_kind, no_leaf, list_label, is_statement_family, is_safe, neither, rule_unlisted, is_nest_rule, other_rule, safe_rule, bare, bare_ways, is_plain_word, shy, calm, is_guarded, shy_way, calm_way, shy_ways, calm_ways, quiet, quiet_ways, ends_worded, worded_ways, begins_nest, nest_class, has_list, list_ways, rich, thrifty, thrifty_ways, rich_ways, thrifty_row, rich_row}
+use Rattle.sound_laws.specs.SmplFormed.Shapes.{is_nest_label, is_dots_in, is_dots_tree, is_leaf_in, is_leaf, begins, apart}
+use Rattle.sound_laws.specs.SmplFormed.Shapes.{unlisted, undotted, lists, is_choice, has_form, Formed, token, branch, AllFormed}
+use Rattle.sound_laws.specs.SmplFormed.Shapes.{none, more}
+use Rattle.sound_laws.proofs.SmplFormed.RowTests.{is_list_kind, no_leaf, list_label, is_statement_family, is_safe, neither}
+use Rattle.sound_laws.proofs.SmplFormed.RowTests.{rule_unlisted, is_nest_rule, other_rule, safe_rule, bare, bare_ways}
+use Rattle.sound_laws.proofs.SmplFormed.RowTests.{is_plain_word, shy, calm, is_guarded, shy_way, calm_way, shy_ways, calm_ways}
+use Rattle.sound_laws.proofs.SmplFormed.RowTests.{quiet, quiet_ways, ends_worded, worded_ways, begins_nest, nest_class}
+use Rattle.sound_laws.proofs.SmplFormed.RowTests.{has_list, list_ways, rich, thrifty, thrifty_ways, rich_ways, thrifty_row}
+use Rattle.sound_laws.proofs.SmplFormed.RowTests.{rich_row}
 
 -- ---- on Bool
 
@@ -66,12 +75,14 @@ either_other false b h f g = g h
 
 -- ---- tokens
 
-undotted_kind : (names : Names) (p : Class → Bool) → p class.Dots ≡ false → (k : TokenKind) (s : List ℕ) (ts : List Token) (next : Class) → IsTrue (p (class_of names k s ts next)) → is_dots k ≡ false
+undotted_kind : (names : Names) (p : Class → Bool) → p class.Dots ≡ false
+    → (k : TokenKind) (s : List ℕ) (ts : List Token) (next : Class) → IsTrue (p (class_of names k s ts next)) → is_dots k ≡ false
 undotted_kind names p off token_kind.Dots s ts next h = absurd (false≢true (sym off ∙ h))
 undotted_kind names p off _ s ts next h = refl
 
 -- a token of whose class dots are not is no dots
-undotted_token : (names : Names) (p : Class → Bool) → p class.Dots ≡ false → (t : Token) (ts : List Token) → IsTrue (p (look names (t ∷ ts))) → is_dots_tree (Leaf t) ≡ false
+undotted_token : (names : Names) (p : Class → Bool) → p class.Dots ≡ false → (t : Token) (ts : List Token)
+    → IsTrue (p (look names (t ∷ ts))) → is_dots_tree (Leaf t) ≡ false
 unfolding look
 undotted_token names p off t ts h = ap is_dots_in (out-Leaf t) ∙ undotted_kind names p off t.kind t.text ts (look names ts) h
 
@@ -84,7 +95,8 @@ unsigned_test (token_kind.Meta _) = refl
 unsigned_test _ = refl
 
 unsigned_kind : (names : Names) (t : Token) (ts : List Token) → IsTrue (is_operand (look names (t ∷ ts))) → is_sign t.kind ≡ false
-unsigned_kind names t ts h = not_true (is_sign t.kind) (modus (is_operand (look names (t ∷ ts))) (not (is_sign t.kind)) (token_tells unsigned_at unsigned_test names t ts) h)
+unsigned_kind names t ts h = not_true (is_sign t.kind)
+    (modus (is_operand (look names (t ∷ ts))) (not (is_sign t.kind)) (token_tells unsigned_at unsigned_test names t ts) h)
 
 -- an operand is no sign
 unsigned_token : (names : Names) (t : Token) (ts : List Token) → IsTrue (is_operand (look names (t ∷ ts))) → is_sign_tree (Leaf t) ≡ false
@@ -120,7 +132,8 @@ lists_more t cs = by (is_list t)
 lists_one : (t : Tree) (cs : List Tree) → is_list t ≡ true → suc (lists cs) ≤ lists (t ∷ cs)
 lists_one t cs e = let h : lists (t ∷ cs) ≡ suc (lists cs) = ap (λ (b : Bool). if b then suc (lists cs) else lists cs) e in omega (arith, h)
 
-of_lists : (a b : Tree) (cs : List Tree) → is_sign_tree b ≡ false → is_list b ≡ true → 1 ≤ lists cs → undotted (a ∷ b ∷ cs) ≡ true → is_choice (a ∷ b ∷ cs) ≡ true
+of_lists : (a b : Tree) (cs : List Tree) → is_sign_tree b ≡ false → is_list b ≡ true → 1 ≤ lists cs
+    → undotted (a ∷ b ∷ cs) ≡ true → is_choice (a ∷ b ∷ cs) ≡ true
 of_lists a b cs s l some q =
     let two : nat_le 2 (lists (a ∷ b ∷ cs)) ≡ true = at_least (lists (a ∷ b ∷ cs)) (omega (arith, lists_more a (b ∷ cs), lists_one b cs l, some)) in
     and_both (not (is_sign_tree b)) (if is_list b then nat_le 2 (lists (a ∷ b ∷ cs)) && undotted (a ∷ b ∷ cs) else true) (not_false (is_sign_tree b) s)
@@ -213,11 +226,15 @@ module _ (names : Names) (may : List Token → List Token → Type 0) where
 
   row_bare : {ps : Row} {xs ys : List Token} {cs : List Tree} → DerivesRow names may ps xs cs ys → IsTrue (bare ps) → unlisted cs ≡ true
   row_bare done h = refl
-  row_bare (word {t = t} {cs = cs} f rest) h = and_both (not (is_list (Leaf t))) (unlisted cs) (not_false (is_list (Leaf t)) (ap is_list_in (out-Leaf t))) (row_bare rest h)
+  row_bare (word {t = t} {cs = cs} f rest) h =
+      and_both (not (is_list (Leaf t))) (unlisted cs) (not_false (is_list (Leaf t)) (ap is_list_in (out-Leaf t))) (row_bare rest h)
   row_bare (child {k = k} {ps = ps} {t = t} {cs = cs} d rest) h =
-      and_both (not (is_list t)) (unlisted cs) (not_false (is_list t) (unlisted_tree (and_left (neither k) (bare ps) h) d)) (row_bare rest (and_right (neither k) (bare ps) h))
-  row_bare (argument {t = t} {cs = cs} d rest) h = and_both (not (is_list t)) (unlisted cs) (not_false (is_list t) (unlisted_tree {k = kind.AssignLevel} refl d)) (row_bare rest h)
-  row_bare (type_argument {t = t} {cs = cs} a d rest) h = and_both (not (is_list t)) (unlisted cs) (not_false (is_list t) (unlisted_tree {k = kind.TypeArg} refl d)) (row_bare rest h)
+      and_both (not (is_list t)) (unlisted cs) (not_false (is_list t) (unlisted_tree (and_left (neither k) (bare ps) h) d))
+      (row_bare rest (and_right (neither k) (bare ps) h))
+  row_bare (argument {t = t} {cs = cs} d rest) h =
+      and_both (not (is_list t)) (unlisted cs) (not_false (is_list t) (unlisted_tree {k = kind.AssignLevel} refl d)) (row_bare rest h)
+  row_bare (type_argument {t = t} {cs = cs} a d rest) h =
+      and_both (not (is_list t)) (unlisted cs) (not_false (is_list t) (unlisted_tree {k = kind.TypeArg} refl d)) (row_bare rest h)
   row_bare (fork {f = f} {ps = ps} i w v way) h = row_bare way (row_at bare (ways f) i ps (bare_ways f h) w)
 
   -- ---- dots and nests
@@ -240,10 +257,12 @@ module _ (names : Names) (may : List Token → List Token → Type 0) where
   row_nest (type_argument a d rest) h = absurd (false≢true h)
   row_nest (fork i w v way) h = absurd (false≢true h)
 
-  nest_first : {xs ys : List Token} {cs : List Tree} → DerivesRow names may (row rule.PatNest) xs cs ys → (begins_dots (look names xs) ≡ true) × (is_leaf (first_kid cs) ≡ true)
+  nest_first : {xs ys : List Token} {cs : List Tree} → DerivesRow names may (row rule.PatNest) xs cs ys
+      → (begins_dots (look names xs) ≡ true) × (is_leaf (first_kid cs) ≡ true)
   nest_first (fork {ps = ps} i w v way) = row_nest way (row_at begins_nest (ways forks.NestStart) i ps refl w)
 
-  other_branch : (r : Rule) {xs ys : List Token} (cs : List Tree) → begins_dots (look names xs) ≡ false → DerivesRow names may (row r) xs cs ys → is_nest_label (label_of r cs) ≡ false
+  other_branch : (r : Rule) {xs ys : List Token} (cs : List Tree) → begins_dots (look names xs) ≡ false
+      → DerivesRow names may (row r) xs cs ys → is_nest_label (label_of r cs) ≡ false
   other_branch r {xs} {ys} cs off parts = by (is_nest_rule r) refl
     where
       by : (e : Bool) → is_nest_rule r ≡ e → is_nest_label (label_of r cs) ≡ false
@@ -255,10 +274,12 @@ module _ (names : Names) (may : List Token → List Token → Type 0) where
   statement_tree off (leaf {t = t} {ys = ys} l) = undotted_token names (λ c. not (begins_dots c)) refl t ys (not_false (begins_dots (look names (t ∷ ys))) off)
   statement_tree off (derived {cs = cs} r w b al parts) = ap is_dots_in (out-Branch (label_of r cs) cs) ∙ other_branch r cs off parts
 
-  guarded_tree : (f : Fork) (k : Kind) (ps : Row) {xs ys : List Token} {t : Tree} → IsTrue (is_guarded k) → IsTrue (may_go f (symbol.Child k ∷ ps) (look names xs)) → Derives names may k xs t ys
+  guarded_tree : (f : Fork) (k : Kind) (ps : Row) {xs ys : List Token} {t : Tree} → IsTrue (is_guarded k)
+      → IsTrue (may_go f (symbol.Child k ∷ ps) (look names xs)) → Derives names may k xs t ys
       → is_dots_tree t ≡ false
   guarded_tree f kind.Statement ps {xs} g v d =
-      statement_tree (not_true (begins_dots (look names xs)) (and_right (not (begins_declaration (look names xs))) (not (begins_dots (look names xs))) (stands f (look names xs) ps v))) d
+      statement_tree (not_true (begins_dots (look names xs))
+      (and_right (not (begins_declaration (look names xs))) (not (begins_dots (look names xs))) (stands f (look names xs) ps v))) d
   guarded_tree f _ ps g v d = absurd (false≢true g)
 
   mutual
@@ -270,7 +291,8 @@ module _ (names : Names) (may : List Token → List Token → Type 0) where
     row_shy (type_argument a d rest) h = safe_tree {k = kind.TypeArg} refl d
     row_shy (fork {f = f} {ps = ps} i w v way) h = way_shy f ps way v (row_at shy_way (ways f) i ps (shy_ways f h) w)
 
-    way_shy : (f : Fork) (ps : Row) {xs ys : List Token} {cs : List Tree} → DerivesRow names may ps xs cs ys → IsTrue (may_go f ps (look names xs)) → IsTrue (shy_way ps) → begins cs ≡ false
+    way_shy : (f : Fork) (ps : Row) {xs ys : List Token} {cs : List Tree} → DerivesRow names may ps xs cs ys
+        → IsTrue (may_go f ps (look names xs)) → IsTrue (shy_way ps) → begins cs ≡ false
     way_shy f _ done v h = refl
     way_shy f _ (word {w = w} {t = t} {xs = xs} g rest) v h = plain_word w t xs h g
     way_shy f _ (child {k = k} {ps = ps} {t = t} d rest) v h =
@@ -285,18 +307,21 @@ module _ (names : Names) (may : List Token → List Token → Type 0) where
   shy_apart : (t : Tree) (cs : List Tree) → apart cs ≡ true → begins cs ≡ false → apart (t ∷ cs) ≡ true
   shy_apart t cs r h = and_both (not (is_dots_tree t && begins cs)) (apart cs) (second_other (is_dots_tree t) (begins cs) h) r
 
-  calm_word : (w : Word) (t : Token) {ps : Row} {xs ys : List Token} {cs : List Tree} → IsTrue (fits w (look names (t ∷ xs))) → DerivesRow names may ps xs cs ys → IsTrue (calm (symbol.Word w ∷ ps))
+  calm_word : (w : Word) (t : Token) {ps : Row} {xs ys : List Token} {cs : List Tree} → IsTrue (fits w (look names (t ∷ xs)))
+      → DerivesRow names may ps xs cs ys → IsTrue (calm (symbol.Word w ∷ ps))
       → (IsTrue (calm ps) → apart cs ≡ true) → apart (Leaf t ∷ cs) ≡ true
   calm_word w t {ps} {xs} {ys} {cs} f rest h more' =
       let r = more' (and_right (is_plain_word w || shy ps) (calm ps) h) in
       either_other (is_plain_word w) (shy ps) (and_left (is_plain_word w || shy ps) (calm ps) h)
       (λ p. either_apart (Leaf t) cs r (plain_word w t xs p f)) (λ s. shy_apart (Leaf t) cs r (row_shy rest s))
 
-  calm_child : {k : Kind} {ps : Row} {xs ys zs : List Token} {t : Tree} {cs : List Tree} → Derives names may k xs t ys → DerivesRow names may ps ys cs zs → IsTrue (calm (symbol.Child k ∷ ps))
+  calm_child : {k : Kind} {ps : Row} {xs ys zs : List Token} {t : Tree} {cs : List Tree} → Derives names may k xs t ys
+      → DerivesRow names may ps ys cs zs → IsTrue (calm (symbol.Child k ∷ ps))
       → (IsTrue (calm ps) → apart cs ≡ true) → apart (t ∷ cs) ≡ true
   calm_child {k} {ps} {xs} {ys} {zs} {t} {cs} d rest h more' =
       let r = more' (and_right (is_safe k || shy ps) (calm ps) h) in
-      either_other (is_safe k) (shy ps) (and_left (is_safe k || shy ps) (calm ps) h) (λ s. either_apart t cs r (safe_tree s d)) (λ s. shy_apart t cs r (row_shy rest s))
+      either_other (is_safe k) (shy ps) (and_left (is_safe k || shy ps) (calm ps) h) (λ s. either_apart t cs r (safe_tree s d))
+      (λ s. shy_apart t cs r (row_shy rest s))
 
   mutual
     row_calm : {ps : Row} {xs ys : List Token} {cs : List Tree} → DerivesRow names may ps xs cs ys → IsTrue (calm ps) → apart cs ≡ true
@@ -307,12 +332,14 @@ module _ (names : Names) (may : List Token → List Token → Type 0) where
     row_calm (type_argument {t = t} {cs = cs} a d rest) h = either_apart t cs (row_calm rest h) (safe_tree {k = kind.TypeArg} refl d)
     row_calm (fork {f = f} {ps = ps} i w v way) h = way_calm f ps way v (row_at calm_way (ways f) i ps (calm_ways f h) w)
 
-    way_calm : (f : Fork) (ps : Row) {xs ys : List Token} {cs : List Tree} → DerivesRow names may ps xs cs ys → IsTrue (may_go f ps (look names xs)) → IsTrue (calm_way ps) → apart cs ≡ true
+    way_calm : (f : Fork) (ps : Row) {xs ys : List Token} {cs : List Tree} → DerivesRow names may ps xs cs ys
+        → IsTrue (may_go f ps (look names xs)) → IsTrue (calm_way ps) → apart cs ≡ true
     way_calm f _ done v h = refl
     way_calm f _ (word {w = w} {t = t} g rest) v h = calm_word w t g rest h (row_calm rest)
     way_calm f _ (child {k = k} {ps = ps} {t = t} {cs = cs} d rest) v h = by (is_guarded k) refl h (row_calm rest)
       where
-        by : (e : Bool) → is_guarded k ≡ e → IsTrue (if e then calm ps else calm (symbol.Child k ∷ ps)) → (IsTrue (calm ps) → apart cs ≡ true) → apart (t ∷ cs) ≡ true
+        by : (e : Bool) → is_guarded k ≡ e → IsTrue (if e then calm ps else calm (symbol.Child k ∷ ps))
+            → (IsTrue (calm ps) → apart cs ≡ true) → apart (t ∷ cs) ≡ true
         by true e c r = either_apart t cs (r c) (guarded_tree f k ps e v d)
         by false e c r = calm_child {k = k} d rest c r
     way_calm f _ (argument {t = t} {cs = cs} d rest) v h = either_apart t cs (row_calm rest h) (safe_tree {k = kind.AssignLevel} refl d)
@@ -325,9 +352,12 @@ module _ (names : Names) (may : List Token → List Token → Type 0) where
       and_both (not (is_dots_tree (Leaf t))) (undotted cs) (not_false (is_dots_tree (Leaf t)) (plain_word w t xs (and_left (is_plain_word w) (quiet ps) h) f))
       (row_quiet rest (and_right (is_plain_word w) (quiet ps) h))
   row_quiet (child {k = k} {ps = ps} {t = t} {cs = cs} d rest) h =
-      and_both (not (is_dots_tree t)) (undotted cs) (not_false (is_dots_tree t) (safe_tree (and_left (is_safe k) (quiet ps) h) d)) (row_quiet rest (and_right (is_safe k) (quiet ps) h))
-  row_quiet (argument {t = t} {cs = cs} d rest) h = and_both (not (is_dots_tree t)) (undotted cs) (not_false (is_dots_tree t) (safe_tree {k = kind.AssignLevel} refl d)) (row_quiet rest h)
-  row_quiet (type_argument {t = t} {cs = cs} a d rest) h = and_both (not (is_dots_tree t)) (undotted cs) (not_false (is_dots_tree t) (safe_tree {k = kind.TypeArg} refl d)) (row_quiet rest h)
+      and_both (not (is_dots_tree t)) (undotted cs)
+      (not_false (is_dots_tree t) (safe_tree (and_left (is_safe k) (quiet ps) h) d)) (row_quiet rest (and_right (is_safe k) (quiet ps) h))
+  row_quiet (argument {t = t} {cs = cs} d rest) h =
+      and_both (not (is_dots_tree t)) (undotted cs) (not_false (is_dots_tree t) (safe_tree {k = kind.AssignLevel} refl d)) (row_quiet rest h)
+  row_quiet (type_argument {t = t} {cs = cs} a d rest) h =
+      and_both (not (is_dots_tree t)) (undotted cs) (not_false (is_dots_tree t) (safe_tree {k = kind.TypeArg} refl d)) (row_quiet rest h)
   row_quiet (fork {f = f} {ps = ps} i w v way) h = row_quiet way (row_at quiet (ways f) i ps (quiet_ways f h) w)
 
   -- ---- the last token of a nest
@@ -350,7 +380,8 @@ module _ (names : Names) (may : List Token → List Token → Type 0) where
 
   list_tree : {k : Kind} {xs ys : List Token} {t : Tree} → IsTrue (is_list_kind k) → Derives names may k xs t ys → (is_sign_tree t ≡ false) × (is_list t ≡ true)
   list_tree {k} h (leaf {t = t} {ys = ys} l) = absurd (no_leaf k (look names (t ∷ ys)) h l)
-  list_tree {k} h (derived {cs = cs} r w b al parts) = (ap is_sign_in (out-Branch (label_of r cs) cs), ap is_list_in (out-Branch (label_of r cs) cs) ∙ list_label k r cs h w)
+  list_tree {k} h (derived {cs = cs} r w b al parts) =
+      (ap is_sign_in (out-Branch (label_of r cs) cs), ap is_list_in (out-Branch (label_of r cs) cs) ∙ list_label k r cs h w)
 
   branches_choice : {xs ys : List Token} {cs : List Tree} → DerivesRow names may (row rule.PatBranches) xs cs ys → is_choice cs ≡ true
   branches_choice (word {t = t} f (child {t = u} {cs = cs} d rest)) = of_expressions (Leaf t) u cs (branch_tree d) (unlisted_tree {k = kind.Expr} refl d)
@@ -403,18 +434,22 @@ module _ (names : Names) (may : List Token → List Token → Type 0) where
     tree_less : {k : Kind} {xs ys : List Token} {t : Tree} → Derives names may k xs t ys → length ys + least (family_of k) ≤ length xs
     tree_less {k} (leaf h) = omega (arith, least_one (full (family_of k)))
     tree_less {k} {xs} {ys} (derived {cs = cs} r w b al parts) =
-        subst (λ (f : Family). length ys + least f ≤ length xs) (within_family (kind_of r) k w) (by (full (family_of (kind_of r))) (rich_row r) (row_less parts (thrifty_row r)) (row_more parts (thrifty_row r)))
+        subst (λ (f : Family). length ys + least f ≤ length xs) (within_family (kind_of r) k w)
+        (by (full (family_of (kind_of r))) (rich_row r) (row_less parts (thrifty_row r)) (row_more parts (thrifty_row r)))
       where
-        by : (e : Bool) → IsTrue (not e || rich (row r)) → length cs + 2 * length ys ≤ 2 * length xs → (IsTrue (rich (row r)) → length cs + 1 + 2 * length ys ≤ 2 * length xs)
+        by : (e : Bool) → IsTrue (not e || rich (row r)) → length cs + 2 * length ys ≤ 2 * length xs
+            → (IsTrue (rich (row r)) → length cs + 1 + 2 * length ys ≤ 2 * length xs)
             → length ys + (if e then 1 else 0) ≤ length xs
         by true h a b = omega (arith, b h)
         by false h a b = omega (arith, a)
 
-    row_less : {ps : Row} {xs ys : List Token} {cs : List Tree} → DerivesRow names may ps xs cs ys → IsTrue (thrifty ps) → length cs + 2 * length ys ≤ 2 * length xs
+    row_less : {ps : Row} {xs ys : List Token} {cs : List Tree} → DerivesRow names may ps xs cs ys → IsTrue (thrifty ps)
+        → length cs + 2 * length ys ≤ 2 * length xs
     row_less done h = omega arith
     row_less (word f rest) h = omega (arith, row_less rest h)
     row_less (child {k = k} {ps = ps} {xs = xs} {ys = us} {zs = ys} {t = t} {cs = cs} d rest) h =
-        by (full (family_of k)) (and_left (full (family_of k) || rich ps) (thrifty ps) h) (tree_less d) (row_less rest (and_right (full (family_of k) || rich ps) (thrifty ps) h))
+        by (full (family_of k)) (and_left (full (family_of k) || rich ps) (thrifty ps) h) (tree_less d)
+        (row_less rest (and_right (full (family_of k) || rich ps) (thrifty ps) h))
         (row_more rest (and_right (full (family_of k) || rich ps) (thrifty ps) h))
       where
         by : (e : Bool) → IsTrue (e || rich ps) → length us + (if e then 1 else 0) ≤ length xs → length cs + 2 * length ys ≤ 2 * length us
@@ -425,13 +460,15 @@ module _ (names : Names) (may : List Token → List Token → Type 0) where
     row_less (type_argument a d rest) h = omega (arith, tree_less d, row_less rest h)
     row_less (fork {f = f} {ps = ps} i w v way) h = row_less way (row_at thrifty (ways f) i ps (thrifty_ways f) w)
 
-    row_more : {ps : Row} {xs ys : List Token} {cs : List Tree} → DerivesRow names may ps xs cs ys → IsTrue (thrifty ps) → IsTrue (rich ps) → length cs + 1 + 2 * length ys ≤ 2 * length xs
+    row_more : {ps : Row} {xs ys : List Token} {cs : List Tree} → DerivesRow names may ps xs cs ys → IsTrue (thrifty ps)
+        → IsTrue (rich ps) → length cs + 1 + 2 * length ys ≤ 2 * length xs
     row_more done h g = absurd (false≢true g)
     row_more (word f rest) h g = omega (arith, row_less rest h)
     row_more (child {k = k} {ps = ps} {xs = xs} {ys = us} {zs = ys} {t = t} {cs = cs} d rest) h g =
         by (full (family_of k)) g (tree_less d) (row_less rest (and_right (full (family_of k) || rich ps) (thrifty ps) h))
       where
-        by : (e : Bool) → IsTrue e → length us + (if e then 1 else 0) ≤ length xs → length cs + 2 * length ys ≤ 2 * length us → length (t ∷ cs) + 1 + 2 * length ys ≤ 2 * length xs
+        by : (e : Bool) → IsTrue e → length us + (if e then 1 else 0) ≤ length xs → length cs + 2 * length ys ≤ 2 * length us
+            → length (t ∷ cs) + 1 + 2 * length ys ≤ 2 * length xs
         by true o le a = omega (arith, le, a)
         by false o le a = absurd (false≢true o)
     row_more (argument d rest) h g = omega (arith, tree_less d, row_less rest h)
@@ -448,7 +485,8 @@ module _ (names : Names) (may : List Token → List Token → Type 0) where
       tree_formed le (derived {cs = cs} r w b al parts) =
           branch (label_of r cs) cs (rule_form r cs parts) (omega (arith, le, row_less parts (thrifty_row r))) (row_formed le parts (thrifty_row r))
 
-      row_formed : {ps : Row} {xs ys : List Token} {cs : List Tree} → 2 * length xs ≤ most → DerivesRow names may ps xs cs ys → IsTrue (thrifty ps) → AllFormed most cs
+      row_formed : {ps : Row} {xs ys : List Token} {cs : List Tree} → 2 * length xs ≤ most → DerivesRow names may ps xs cs ys
+          → IsTrue (thrifty ps) → AllFormed most cs
       row_formed le done h = none
       row_formed le (word {t = t} {cs = cs} f rest) h = more (Leaf t) cs (token t) (row_formed (omega (arith, le)) rest h)
       row_formed le (child {k = k} {ps = ps} {t = t} {cs = cs} d rest) h =

@@ -11,8 +11,11 @@ use Rattle.smpl_patch.specs.declared.elem.Dots.{Dots}
 use Rattle.smpl_patch.specs.declared.elem.Elem.{Elem}
 use Rattle.smpl_patch.specs.declared.elem.Elem.TheVariants as elem
 use Rattle.smpl_patch.specs.Bodies.{Element, Atom, Compound, Block, Gap, Nest, AnyOf, AllOf, element, body}
-use Rattle.smpl_patch.specs.Shapes.{are_parted, has_no_dots_at_edge, count, is_formed, each_formed, are_formed, is_formed_body, option_patterns, patterns_element, patterns_body, patterns_bodies, members, lengths_element, lengths_body, lengths_bodies}
-use Rattle.smpl_patch.proofs.BodyLemmas.{bodies, dots_of, element-Atom, element-Compound, element-Block, element-Gap, element-Nest, element-AnyOf, element-AllOf}
+use Rattle.smpl_patch.specs.Shapes.{are_parted, has_no_dots_at_edge, count, is_formed, each_formed, are_formed, is_formed_body}
+use Rattle.smpl_patch.specs.Shapes.{option_patterns, patterns_element, patterns_body, patterns_bodies, members, lengths_element}
+use Rattle.smpl_patch.specs.Shapes.{lengths_body, lengths_bodies}
+use Rattle.smpl_patch.proofs.BodyLemmas.{bodies, dots_of, element-Atom, element-Compound, element-Block, element-Gap}
+use Rattle.smpl_patch.proofs.BodyLemmas.{element-Nest, element-AnyOf, element-AllOf}
 use Rattle.sound_laws.specs.SmplFormed.Shapes.{Sound}
 
 -- ---- on Bool
@@ -44,11 +47,13 @@ not_true false h = refl
 
 pub all_append : {A : Type 0} (p : A → Bool) (xs ys : List A) → list_all p xs ≡ true → list_all p ys ≡ true → list_all p (xs ++ ys) ≡ true
 all_append p [] ys h g = g
-all_append p (x ∷ xs) ys h g = and_both (p x) (list_all p (xs ++ ys)) (left_true (p x) (list_all p xs) h) (all_append p xs ys (right_true (p x) (list_all p xs) h) g)
+all_append p (x ∷ xs) ys h g = and_both (p x) (list_all p (xs ++ ys)) (left_true (p x) (list_all p xs) h)
+    (all_append p xs ys (right_true (p x) (list_all p xs) h) g)
 
 pub all_front : {A : Type 0} (p : A → Bool) (xs ys : List A) → list_all p (xs ++ ys) ≡ true → list_all p xs ≡ true
 all_front p [] ys h = refl
-all_front p (x ∷ xs) ys h = and_both (p x) (list_all p xs) (left_true (p x) (list_all p (xs ++ ys)) h) (all_front p xs ys (right_true (p x) (list_all p (xs ++ ys)) h))
+all_front p (x ∷ xs) ys h = and_both (p x) (list_all p xs) (left_true (p x) (list_all p (xs ++ ys)) h)
+    (all_front p xs ys (right_true (p x) (list_all p (xs ++ ys)) h))
 
 pub all_back : {A : Type 0} (p : A → Bool) (xs ys : List A) → list_all p (xs ++ ys) ≡ true → list_all p ys ≡ true
 all_back p [] ys h = h
@@ -133,12 +138,14 @@ module _ (ok : Token → Bool) (most : ℕ) where
 
   pub bodies_formed : (bs : List (List Elem)) → AllWhole bs → are_formed (bodies bs) ≡ true
   bodies_formed [] w = refl
-  bodies_formed (b ∷ bs) w = and_both (has_no_dots_at_edge (body b) && are_parted (body b) && each_formed (body b)) (are_formed (bodies bs)) (whole_formed b w.0) (bodies_formed bs w.1)
+  bodies_formed (b ∷ bs) w = and_both (has_no_dots_at_edge (body b) && are_parted (body b) && each_formed (body b))
+      (are_formed (bodies bs)) (whole_formed b w.0) (bodies_formed bs w.1)
 
   pub bodies_few : (bs : List (List Elem)) → AllWhole bs → list_all is_small (lengths_bodies (bodies bs)) ≡ true
   bodies_few [] w = refl
   bodies_few (b ∷ bs) w =
-      and_both (is_small (members (body b))) (list_all is_small (lengths_body (body b) ++ lengths_bodies (bodies bs))) (ap is_small (members_are b) ∙ small (length b) w.0.short)
+      and_both (is_small (members (body b))) (list_all is_small (lengths_body (body b) ++ lengths_bodies (bodies bs)))
+      (ap is_small (members_are b) ∙ small (length b) w.0.short)
       (all_append is_small (lengths_body (body b)) (lengths_bodies (bodies bs)) (all_few b w.0.fine) (bodies_few bs w.1))
 
   pub bodies_good : (bs : List (List Elem)) → AllWhole bs → AllGood (patterns_bodies (bodies bs))
@@ -179,10 +186,12 @@ module _ (ok : Token → Bool) (most : ℕ) where
       (good_append (patterns_body (body b)) (patterns_bodies (dots_of d).whens) (all_good b w.fine) g.patterns)
 
   few_of : (bs : List (List Elem)) → AllWhole bs → length bs < 4294967296 → list_all is_small (count (bodies bs) ∷ lengths_bodies (bodies bs)) ≡ true
-  few_of bs w s = and_both (is_small (count (bodies bs))) (list_all is_small (lengths_bodies (bodies bs))) (ap is_small (count_is bs) ∙ small (length bs) s) (bodies_few bs w)
+  few_of bs w s = and_both (is_small (count (bodies bs))) (list_all is_small (lengths_bodies (bodies bs)))
+      (ap is_small (count_is bs) ∙ small (length bs) s) (bodies_few bs w)
 
   choice_formed : (bs : List (List Elem)) → AllWhole bs → 2 ≤ length bs → (nat_le 2 (count (bodies bs)) && are_formed (bodies bs)) ≡ true
-  choice_formed bs w t = and_both (nat_le 2 (count (bodies bs))) (are_formed (bodies bs)) (ap (λ (n : ℕ). nat_le 2 n) (count_is bs) ∙ two (length bs) t) (bodies_formed bs w)
+  choice_formed bs w t = and_both (nat_le 2 (count (bodies bs))) (are_formed (bodies bs))
+      (ap (λ (n : ℕ). nat_le 2 n) (count_is bs) ∙ two (length bs) t) (bodies_formed bs w)
 
   pub fine_any : (bs : List (List Elem)) → AllWhole bs → 2 ≤ length bs → length bs < 4294967296 → Fine (elem.AnyOf bs)
   fine_any bs w t s = fine_as (elem.AnyOf bs) (AnyOf (bodies bs)) (element-AnyOf bs) (choice_formed bs w t) (few_of bs w s) (bodies_good bs w)
@@ -190,6 +199,7 @@ module _ (ok : Token → Bool) (most : ℕ) where
   pub fine_all : (bs : List (List Elem)) → AllWhole bs → 2 ≤ length bs → length bs < 4294967296 → Fine (elem.AllOf bs)
   fine_all bs w t s = fine_as (elem.AllOf bs) (AllOf (bodies bs)) (element-AllOf bs) (choice_formed bs w t) (few_of bs w s) (bodies_good bs w)
 
-  pub fine_head : (h : Pattern) (bs : List (List Elem)) (t : Option Pattern) → Good h → AllWhole bs → AllGood (option_patterns t) → length bs < 4294967296 → Fine (elem.Compound h bs t)
+  pub fine_head : (h : Pattern) (bs : List (List Elem)) (t : Option Pattern) → Good h → AllWhole bs
+      → AllGood (option_patterns t) → length bs < 4294967296 → Fine (elem.Compound h bs t)
   fine_head h bs t g w o s = fine_as (elem.Compound h bs t) (Compound h (bodies bs) t) (element-Compound h bs t) (bodies_formed bs w) (few_of bs w s)
       (g, good_append (patterns_bodies (bodies bs)) (option_patterns t) (bodies_good bs w) o)

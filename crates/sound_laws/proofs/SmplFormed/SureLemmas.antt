@@ -19,7 +19,7 @@ use Rattle.smpl_patch.specs.declared.pattern.VarDecl.{VarDecl}
 use Rattle.smpl_patch.specs.declared.pattern.PatToken.{PatToken}
 use Rattle.smpl_patch.specs.declared.pattern.Pattern.{Pattern}
 use Rattle.smpl_patch.specs.declared.pattern.Spot.{Spot}
-use Rattle.smpl_patch.specs.Held.{is_parted, is_held, kept, held_at, held}
+use Rattle.smpl_patch.specs.Held.{is_split_into_nodes, is_held, kept, held_at, held}
 use Rattle.smpl_patch.specs.Patterns.{is_own, stands_in, is_sign_tree, is_sure, in_first, sure, stands}
 use Rattle.smpl_patch.proofs.SureLemmas.{sure-Leaf, sure-Branch, sure_kids}
 use Rattle.sound_laws.specs.SmplFormed.Shapes.{has_branch, is_firm, Sound, sound_token, sound_branch, AllSound, no_more, one_more}
@@ -63,7 +63,8 @@ module _ (decls : List VarDecl) (tokens : List PatToken) (x : Variable) where
       let here = left_true (is_sign_tree b || tells b) (list_all (λ t. is_sign_tree t || tells t) cs)
       (right_true (is_sign_tree a || tells a) (list_all (λ t. is_sign_tree t || tells t) (b ∷ cs)) e)
       in
-      or_right (tells a) (tells b || list_any tells cs) (or_left (tells b) (list_any tells cs) (or_second (is_sign_tree b) (tells b) (not_true (is_sign_tree b) h) here))
+      or_right (tells a) (tells b || list_any tells cs)
+      (or_left (tells b) (list_any tells cs) (or_second (is_sign_tree b) (tells b) (not_true (is_sign_tree b) h) here))
 
   some_child : (l : Label) (cs : List Tree) → is_firm l cs ≡ true → sure_kids decls tokens x (shape_of l) cs ≡ true → list_any tells cs ≡ true
   some_child label.PatOr cs f h = every_second cs f h
@@ -83,7 +84,8 @@ module _ (decls : List VarDecl) (tokens : List PatToken) (x : Variable) where
       some_stands no_more h = absurd (false≢true h)
       some_stands (one_more c cs one rest) h = by (tells c) refl h (tree_stands one) (some_stands rest)
         where
-          by : (b : Bool) → tells c ≡ b → (b || list_any tells cs) ≡ true → (tells c ≡ true → stands_in decls tokens x c ≡ true) → (list_any tells cs ≡ true → list_any own (join (map leaves cs)) ≡ true)
+          by : (b : Bool) → tells c ≡ b → (b || list_any tells cs) ≡ true → (tells c ≡ true → stands_in decls tokens x c ≡ true)
+              → (list_any tells cs ≡ true → list_any own (join (map leaves cs)) ≡ true)
               → list_any own (leaves c ++ join (map leaves cs)) ≡ true
           by true e g f r = any_front own (leaves c) (join (map leaves cs)) (f e)
           by false e g f r = any_back own (leaves c) (join (map leaves cs)) (r g)
@@ -106,9 +108,11 @@ module _ (decls : List VarDecl) (tokens : List PatToken) (x : Variable) where
         by false r = r
 
     held_sound : (s : Spot) {t : Tree} → Sound ok most t → AllSound ok most (held s t)
-    held_sound s (sound_token a k) = subst (λ (ts : List Tree). AllSound ok most ts) (sym (ap (λ (o : Tree-F Tree). held_at s o (Leaf a)) (out-Leaf a))) (one_more (Leaf a) [] (sound_token a k) no_more)
+    held_sound s (sound_token a k) = subst (λ (ts : List Tree). AllSound ok most ts)
+        (sym (ap (λ (o : Tree-F Tree). held_at s o (Leaf a)) (out-Leaf a))) (one_more (Leaf a) [] (sound_token a k) no_more)
     held_sound s (sound_branch l cs f le all) =
-        subst (λ (ts : List Tree). AllSound ok most ts) (sym (ap (λ (o : Tree-F Tree). held_at s o (Branch l cs)) (out-Branch l cs))) (by (is_parted s l))
+        subst (λ (ts : List Tree). AllSound ok most ts)
+        (sym (ap (λ (o : Tree-F Tree). held_at s o (Branch l cs)) (out-Branch l cs))) (by (is_split_into_nodes s l))
       where
         by : (b : Bool) → AllSound ok most (if b then kept (is_held s l (length cs)) 0 cs else Branch l cs ∷ [])
         by true = kept_sound (is_held s l (length cs)) 0 all

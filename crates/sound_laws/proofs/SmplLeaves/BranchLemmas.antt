@@ -1,5 +1,6 @@
 -- The elements of a branch have its tokens in their order, if those of its children do.
-use Rattle.std.proofs.Common.{◌≡◌, ℕ, suc, ◌+◌, refl, sym, ap, ◌∙◌, arith, List, [], ◌∷◌, ◌++◌, map, length, append_assoc, Bool, true, false, ◌&&◌, nat_lt, if◌then◌else◌, Option, Some, None, slice_get}
+use Rattle.std.proofs.Common.{◌≡◌, ℕ, suc, ◌+◌, refl, sym, ap, ◌∙◌, arith, List, [], ◌∷◌, ◌++◌, map, length, append_assoc, Bool}
+use Rattle.std.proofs.Common.{true, false, ◌&&◌, nat_lt, if◌then◌else◌, Option, Some, None, slice_get}
 use Rattle.std.proofs.lemmas.List.{append-nil}
 use Rattle.std.proofs.lemmas.Bool.{false≢true}
 use Rattle.c_terms.specs.declared.token.Token.{Token}
@@ -22,7 +23,8 @@ use Rattle.smpl_patch.specs.Bodies.{body}
 use Rattle.smpl_patch.proofs.BodyLemmas.{element-Atom, element-Compound, element-Block, element-Nest, element-AnyOf, element-AllOf}
 use Rattle.smpl_body.specs.declared.smpl_elem.form.Form.{Form}
 use Rattle.smpl_body.specs.declared.smpl_elem.form.Form.TheVariants as form
-use Rattle.smpl_body.specs.SmplElem.Forms.{form_at, form_in, form_of, kids, label_at, label_in, is_list_at, before, first_kid, last_kid, id_at, is_more, masked, masked_from, masked_in}
+use Rattle.smpl_body.specs.SmplElem.Forms.{form_at, form_in, form_of, kids, label_at, label_in, is_list_at, before, first_kid}
+use Rattle.smpl_body.specs.SmplElem.Forms.{last_kid, id_at, is_more, masked, masked_from, masked_in}
 use Rattle.smpl_body.specs.SmplElem.Elements.{part, picked, total, seqs, pattern, made, elements}
 use Rattle.smpl_body.proofs.SmplElem.PartLemmas.{kids-Branch}
 use Rattle.smpl_body.proofs.SmplElem.CountLemmas.{elements-row}
@@ -46,7 +48,8 @@ masked-Branch s l cs = ap (masked_in s (Branch l cs)) (out-Branch l cs)
 -- the elements of a branch of this form
 pub branch-made : (l : Label) (cs : List Tree) (f : Form) (gap : ℕ → Dots) (n : ℕ) → form_of l cs ≡ f
     → elements gap n (Branch l cs)
-    ≡ made f gap (Branch l cs) n (seqs gap (n + before f) (picked f l (length cs) 0 (map part cs))) (n + before f + total (picked f l (length cs) 0 (map part cs)))
+    ≡ made f gap (Branch l cs) n (seqs gap (n + before f) (picked f l (length cs) 0 (map part cs)))
+    (n + before f + total (picked f l (length cs) 0 (map part cs)))
 branch-made l cs f gap n e =
     let t = Branch l cs in
     let ef = form-Branch l cs ∙ e in

@@ -1,5 +1,6 @@
 -- The children that are parts have their tokens; the others are the element's own, or signs.
-use Rattle.std.proofs.Common.{◌≡◌, ℕ, suc, ◌+◌, ◌≤◌, refl, sym, ap, ◌∙◌, arith, List, [], ◌∷◌, ◌++◌, map, drop, length, append_assoc, Bool, true, false, ◌&&◌, ◌||◌, not, nat_lt, if◌then◌else◌}
+use Rattle.std.proofs.Common.{◌≡◌, ℕ, suc, ◌+◌, ◌≤◌, refl, sym, ap, ◌∙◌, arith, List, [], ◌∷◌, ◌++◌, map, drop, length}
+use Rattle.std.proofs.Common.{append_assoc, Bool, true, false, ◌&&◌, ◌||◌, not, nat_lt, if◌then◌else◌}
 use Rattle.std.proofs.lemmas.List.{append-nil}
 use Rattle.std.proofs.lemmas.Bool.{false≢true}
 use Rattle.std.proofs.lemmas.Bool.Decides.{nat_tests}
@@ -152,7 +153,8 @@ module _ (gap : ℕ → Dots) where
       let h : own l n i ≡ true = (λ j. not (e j) && not (nt i j)) in ap (λ b. child_or b c) h
 
   pub head-by : (b : Bool) (l : Label) → NoTail l → (c : Tree) (cs : List Tree) (n i k : ℕ) → is_body l n i ≡ b → Kept c
-      → ((k : ℕ) → code (woven l n (i + 1) (masked_from (own l n) (i + 1) cs) (apart k (picked form.Head l n (i + 1) (map part cs)))) ≡ code (join (map leaves cs)))
+      → ((k : ℕ) → code (woven l n (i + 1) (masked_from (own l n) (i + 1) cs)
+      (apart k (picked form.Head l n (i + 1) (map part cs)))) ≡ code (join (map leaves cs)))
       → code (woven l n i (masked_from (own l n) i (c ∷ cs)) (apart k (picked form.Head l n i (map part (c ∷ cs))))) ≡ code (join (map leaves (c ∷ cs)))
   head-by true l nt c cs n i k e g rest =
       let ps = picked form.Head l n (i + 1) (map part cs) in

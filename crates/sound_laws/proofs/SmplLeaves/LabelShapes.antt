@@ -6,7 +6,8 @@ use Rattle.std.specs.Prelude.{Bool, true, false, ◌&&◌, ◌||◌, nat_lt, if�
 use Rattle.c_terms.specs.declared.label.Label.TheVariants as label
 use Rattle.c_terms.specs.declared.tree.Tree.{Tree, out-Tree}
 use Rattle.c_terms.proofs.SameLemmas.{out-Branch}
-use Rattle.c_rows.specs.Branches.{branches_label, at_label, if_label, case_label, for_label, external_label, macro_label, text_is, labelled, is_decl_label, is_block_label, is_blockless}
+use Rattle.c_rows.specs.Branches.{branches_label, at_label, if_label, case_label, for_label, external_label, macro_label}
+use Rattle.c_rows.specs.Branches.{text_is, labelled, is_decl_label, is_block_label, is_blockless}
 use Rattle.smpl_body.specs.SmplElem.Forms.{is_list, is_list_at, nothing, last_kid}
 use Rattle.sound_laws.specs.SmplLeaves.Shapes.{is_sign_in, is_sign, lists_and_signs, has_shape}
 

@@ -27,8 +27,11 @@ use Rattle.c_rows.proofs.FirstChecks.{and_left, and_right, row_at}
 use Rattle.smpl_body.specs.SmplElem.Forms.{is_list_in, is_list, last_kid}
 use Rattle.sound_laws.specs.SmplLeaves.Shapes.{is_sign, lists_and_signs, has_shape, Shaped, token, branch, AllShaped, none, more}
 use Rattle.sound_laws.proofs.SmplLeaves.SignLemmas.{is_sign_word, word_signed}
-use Rattle.sound_laws.proofs.SmplLeaves.RowTests.{is_list_kind, no_leaf, list_label, listless_rule, listed, listed_ways, ends_signed, signed_ways, filled, filled_ways}
-use Rattle.sound_laws.proofs.SmplLeaves.LabelShapes.{two_shape, at_shape, if_shape, case_shape, for_shape, external_shape, macro_shape, choice, choice_shape, choice_listed, choice_listless, or_left, or_right, and_both, later, signed_some}
+use Rattle.sound_laws.proofs.SmplLeaves.RowTests.{is_list_kind, no_leaf, list_label, listless_rule, listed, listed_ways}
+use Rattle.sound_laws.proofs.SmplLeaves.RowTests.{ends_signed, signed_ways, filled, filled_ways}
+use Rattle.sound_laws.proofs.SmplLeaves.LabelShapes.{two_shape, at_shape, if_shape, case_shape, for_shape, external_shape}
+use Rattle.sound_laws.proofs.SmplLeaves.LabelShapes.{macro_shape, choice, choice_shape, choice_listed, choice_listless, or_left}
+use Rattle.sound_laws.proofs.SmplLeaves.LabelShapes.{or_right, and_both, later, signed_some}
 
 -- ---- derivations
 

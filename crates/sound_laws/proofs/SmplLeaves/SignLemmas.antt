@@ -54,5 +54,6 @@ signed_test _ = refl
 token_signed : (names : Names) (t : Token) (ts : List Token) → IsTrue (is_sign_class (look names (t ∷ ts))) → is_sign_kind t.kind ≡ true
 token_signed names t ts h = modus (is_sign_class (look names (t ∷ ts))) (is_sign_kind t.kind) (token_tells signed_at signed_test names t ts) h
 
-pub word_signed : (names : Names) (w : Word) (t : Token) (ts : List Token) → IsTrue (is_sign_word w) → IsTrue (fits w (look names (t ∷ ts))) → is_sign (Leaf t) ≡ true
+pub word_signed : (names : Names) (w : Word) (t : Token) (ts : List Token) → IsTrue (is_sign_word w)
+    → IsTrue (fits w (look names (t ∷ ts))) → is_sign (Leaf t) ≡ true
 word_signed names w t ts h f = ap is_sign_in (out-Leaf t) ∙ token_signed names t ts (sign_class w (look names (t ∷ ts)) h f)

@@ -26,7 +26,8 @@ use Rattle.sound_laws.specs.SmplLeaves.Leaves.{is_code, code, element_tokens}
 use Rattle.sound_laws.specs.SmplLeaves.Shapes.{has_shape, Shaped, token, branch, AllShaped, none, more}
 use Rattle.sound_laws.proofs.SmplLeaves.CountedLemmas.{alone, one-uncounted}
 use Rattle.sound_laws.proofs.SmplLeaves.ChildLemmas.{Kept, AllKept}
-use Rattle.sound_laws.proofs.SmplLeaves.BranchLemmas.{tokens_of, whole-kept, expression-kept, plain-kept, statements-kept, or-by, and-by, block-kept, nest-kept, compound-kept, do-branch}
+use Rattle.sound_laws.proofs.SmplLeaves.BranchLemmas.{tokens_of, whole-kept, expression-kept, plain-kept, statements-kept}
+use Rattle.sound_laws.proofs.SmplLeaves.BranchLemmas.{or-by, and-by, block-kept, nest-kept, compound-kept, do-branch}
 
 -- ---- each label
 
@@ -103,7 +104,8 @@ label-kept label.PatNest cs s g = nest-kept cs s g
 -- ---- tokens
 
 leaf-made : (a : Token) (f : Form) (gap : ℕ → Dots) (n : ℕ) → form_in (Tree-F.Leaf a) ≡ f
-    → elements gap n (Leaf a) ≡ made f gap (Leaf a) n (seqs gap (n + before f) (picked f label.StmtList 0 0 [])) (n + before f + total (picked f label.StmtList 0 0 []))
+    → elements gap n (Leaf a) ≡ made f gap (Leaf a) n (seqs gap (n + before f) (picked f label.StmtList 0 0 []))
+    (n + before f + total (picked f label.StmtList 0 0 []))
 leaf-made a f gap n e =
     let t = Leaf a in
     let ef = ap form_in (out-Leaf a) ∙ e in

@@ -1,5 +1,6 @@
 -- The declarations of a rule have no more items than tokens, and an item has no more exclusions than tokens.
-use Rattle.std.proofs.Common.{◌≡◌, ℕ, suc, ◌+◌, ◌≤◌, Bool, true, false, refl, sym, ap, ◌∙◌, subst, arith, List, [], ◌∷◌, ◌++◌, length, Option, Some, None, if◌then◌else◌, drop, codes, option_map}
+use Rattle.std.proofs.Common.{◌≡◌, ℕ, suc, ◌+◌, ◌≤◌, Bool, true, false, refl, sym, ap, ◌∙◌, subst, arith, List, [], ◌∷◌, ◌++◌}
+use Rattle.std.proofs.Common.{length, Option, Some, None, if◌then◌else◌, drop, codes, option_map}
 use Rattle.std.specs.Prelude.{option_and_then, ◌&&◌, not}
 use Rattle.std.proofs.lemmas.List.{length-append}
 use Rattle.smpl_patch.specs.declared.pattern.VarDecl.{VarDecl}
@@ -13,7 +14,9 @@ use Rattle.smpl_meta.specs.declared.item.Named.{Named}
 use Rattle.smpl_meta.specs.declared.item.DeclKind.{DeclKind}
 use Rattle.smpl_meta.specs.declared.item.DeclKind.TheVariants.{Var, Symbol}
 use Rattle.smpl_meta.specs.Known.{var_of}
-use Rattle.smpl_meta.specs.Forms.{put, parts, within_after, chunks, before_sign, plain_of, named_of, not_of, all_of, one_not, nots_between, braced, nots_of, excepted_of, bare_item, item_of, is_listed, kind_of, list_kind_of, items_by, front_items, declared}
+use Rattle.smpl_meta.specs.Forms.{put, parts, within_after, chunks, before_sign, plain_of, named_of, not_of, all_of, one_not}
+use Rattle.smpl_meta.specs.Forms.{nots_between, braced, nots_of, excepted_of, bare_item, item_of, is_listed, kind_of}
+use Rattle.smpl_meta.specs.Forms.{list_kind_of, items_by, front_items, declared}
 use Rattle.smpl_meta.specs.Decls.{items_or_none, items_of, texts_of, names_not, var_in, place_not, places_not, inherited_from, var_by, vars_in, vars_of_items}
 use Rattle.sound_laws.proofs.SmplSound.FormLemmas.{then-made, map-made}
 
@@ -79,7 +82,8 @@ all_long {A} read (c ∷ cs) ns e =
 
 -- ---- exclusions
 
-nots_by : (k : VarKind) (t : PatchToken) (ts : List PatchToken) (ns : List Named) (b : Bool) → (if b then braced k ts else one_not k (t ∷ ts)) ≡ Some ns → length ns ≤ 1 + length ts
+nots_by : (k : VarKind) (t : PatchToken) (ts : List PatchToken) (ns : List Named) (b : Bool)
+    → (if b then braced k ts else one_not k (t ∷ ts)) ≡ Some ns → length ns ≤ 1 + length ts
 nots_by k t ts ns true e =
     let m = then-made (nots_between k) (before_sign (codes "}") ts) ns e in
     omega (arith, all_long (not_of k) (chunks false m.from) ns m.gives, chunks_long false m.from, before_long (codes "}") ts m.from m.is)
@@ -159,7 +163,8 @@ drop_short : (ts : List PatchToken) → length (drop 1 ts) ≤ length ts
 drop_short [] = omega arith
 drop_short (t ∷ ts) = omega arith
 
-front_by : (t : PatchToken) (ts : List PatchToken) (is : List Item) (b : Bool) → (if b then items_by (list_kind_of t) (drop 1 ts) else items_by (kind_of t) ts) ≡ Some is → FewItems (1 + length ts) is
+front_by : (t : PatchToken) (ts : List PatchToken) (is : List Item) (b : Bool)
+    → (if b then items_by (list_kind_of t) (drop 1 ts) else items_by (kind_of t) ts) ≡ Some is → FewItems (1 + length ts) is
 front_by t ts is true e = wider (1 + length (drop 1 ts)) (1 + length ts) is (omega (arith, drop_short ts)) (items_few (list_kind_of t) (drop 1 ts) is e)
 front_by t ts is false e = items_few (kind_of t) ts is e
 
@@ -181,7 +186,8 @@ all_few (p ∷ ps) =
     let n = length p + sizes ps in
     record {
       count = omega (arith, one.count, rest.count, length-append (items_or_none (declared p)) (items_of ps));
-      nots = nots_append n (items_or_none (declared p)) (items_of ps) (more_nots (length p) n (items_or_none (declared p)) (omega arith) one.nots) (more_nots (sizes ps) n (items_of ps) (omega arith) rest.nots);
+      nots = nots_append n (items_or_none (declared p)) (items_of ps)
+          (more_nots (length p) n (items_or_none (declared p)) (omega arith) one.nots) (more_nots (sizes ps) n (items_of ps) (omega arith) rest.nots);
     }
 
 -- ---- variables
@@ -211,7 +217,12 @@ place_short earlier (Some r) x = var_short (var_of earlier r.token.text x.token.
 
 places_short : (earlier : List RuleHead) (ns : List Named) → length (places_not earlier ns) ≤ length ns
 places_short earlier [] = omega arith
-places_short earlier (n ∷ ns) = omega (arith, length-append (place_not earlier n.from n.name) (places_not earlier ns), place_short earlier n.from n.name, places_short earlier ns)
+places_short earlier (n ∷ ns) = omega (
+  arith,
+  length-append (place_not earlier n.from n.name) (places_not earlier ns),
+  place_short earlier n.from n.name,
+  places_short earlier ns,
+)
 
 record FewVars (count n : ℕ) (ds : List VarDecl) : Type 0 where
   long : length ds ≤ count

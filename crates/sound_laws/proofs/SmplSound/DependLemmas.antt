@@ -1,5 +1,6 @@
 -- What rules depend on are earlier rules.
-use Rattle.std.proofs.Common.{◌≡◌, ℕ, suc, ◌+◌, ◌<◌, nat_lt, Bool, true, false, ◌&&◌, refl, sym, ap, ◌∙◌, List, [], ◌∷◌, length, Option, Some, None, if◌then◌else◌, arith}
+use Rattle.std.proofs.Common.{◌≡◌, ℕ, suc, ◌+◌, ◌<◌, nat_lt, Bool, true, false, ◌&&◌, refl, sym, ap, ◌∙◌, List, [], ◌∷◌, length}
+use Rattle.std.proofs.Common.{Option, Some, None, if◌then◌else◌, arith}
 use Rattle.std.specs.Str.{bytes_eq}
 use Rattle.std.proofs.lemmas.Bool.Decides.{nat_tests}
 use Rattle.smpl_patch.specs.declared.rule.Dep.{Dep}
@@ -65,15 +66,18 @@ module _ (earlier : List RuleHead) where
   ever-below x (Some m) e = let w : m < 0 + length earlier = number-within 0 m x earlier e in at-ever (length earlier) m ∙ less m (length earlier) (omega arith)
 
   spelled-below : (l : Level) (xs zs : List PatchToken) (d : Dep) → Spells earlier l xs d zs → Below d
-  spelled-below _ xs zs _ (either {a = a} {b = b} t p e q) = at-either (length earlier) a b ∙ both-true (is_below (length earlier) a) (is_below (length earlier) b) (spelled-below _ _ _ _ p) (spelled-below _ _ _ _ q)
+  spelled-below _ xs zs _ (either {a = a} {b = b} t p e q) =
+      at-either (length earlier) a b ∙ both-true (is_below (length earlier) a) (is_below (length earlier) b) (spelled-below _ _ _ _ p) (spelled-below _ _ _ _ q)
   spelled-below _ xs zs _ (one_both p) = spelled-below _ _ _ _ p
-  spelled-below _ xs zs _ (both {a = a} {b = b} t p e q) = at-both (length earlier) a b ∙ both-true (is_below (length earlier) a) (is_below (length earlier) b) (spelled-below _ _ _ _ p) (spelled-below _ _ _ _ q)
+  spelled-below _ xs zs _ (both {a = a} {b = b} t p e q) =
+      at-both (length earlier) a b ∙ both-true (is_below (length earlier) a) (is_below (length earlier) b) (spelled-below _ _ _ _ p) (spelled-below _ _ _ _ q)
   spelled-below _ xs zs _ (one_prefix p) = spelled-below _ _ _ _ p
   spelled-below _ xs zs _ (negated {a = a} t e p) = at-not (length earlier) a ∙ spelled-below _ _ _ _ p
   spelled-below _ xs zs _ (group t u e p f) = spelled-below _ _ _ _ p
   spelled-below _ xs zs _ (name t e) = plain-below t.token.text (number_from 0 t.token.text earlier) refl
   spelled-below _ xs zs _ (ever w t e f) = ever-below t.token.text (number_from 0 t.token.text earlier) refl
-  spelled-below _ xs zs _ (never w t e f) = at-not (length earlier) (ever_dep t.token.text (number_from 0 t.token.text earlier)) ∙ ever-below t.token.text (number_from 0 t.token.text earlier) refl
+  spelled-below _ xs zs _ (never w t e f) =
+      at-not (length earlier) (ever_dep t.token.text (number_from 0 t.token.text earlier)) ∙ ever-below t.token.text (number_from 0 t.token.text earlier) refl
 
   pub depends-below : (ts : List PatchToken) (d : Dep) → DependsOn earlier ts d → Below d
   depends-below [] d e = ap (is_below (length earlier)) e ∙ at-always (length earlier)

@@ -1,5 +1,6 @@
 -- What rules export, and what later rules take from them.
-use Rattle.std.proofs.Common.{◌≡◌, ℕ, suc, ◌+◌, Bool, true, false, not, ◌&&◌, ◌||◌, refl, sym, ap, ◌∙◌, true≢false, List, [], ◌∷◌, ◌++◌, length, if◌then◌else◌, cond, nat_eq, arith, eqb, inl, inr}
+use Rattle.std.proofs.Common.{◌≡◌, ℕ, suc, ◌+◌, Bool, true, false, not, ◌&&◌, ◌||◌, refl, sym, ap, ◌∙◌, true≢false, List, []}
+use Rattle.std.proofs.Common.{◌∷◌, ◌++◌, length, if◌then◌else◌, cond, nat_eq, arith, eqb, inl, inr}
 use Rattle.std.specs.List.{list_any, list_all}
 use Rattle.std.proofs.lemmas.Bool.Decides.{nat_tests}
 use Rattle.c_terms.specs.declared.token.MetaKind.{MetaKind}
@@ -56,9 +57,11 @@ own-later : (d : VarDecl) (ds : List VarDecl) (xs : List Variable) → list_all 
 own-later d ds [] e = refl
 own-later d ds (x ∷ xs) e = by (is_own_var ds x) refl e (own-later d ds xs)
   where
-    by : (b : Bool) → is_own_var ds x ≡ b → (b && list_all (is_own_var ds) xs) ≡ true → (list_all (is_own_var ds) xs ≡ true → list_all (is_own_var (d ∷ ds)) xs ≡ true)
+    by : (b : Bool) → is_own_var ds x ≡ b → (b && list_all (is_own_var ds) xs) ≡ true
+        → (list_all (is_own_var ds) xs ≡ true → list_all (is_own_var (d ∷ ds)) xs ≡ true)
         → (is_own_var (d ∷ ds) x && list_all (is_own_var (d ∷ ds)) xs) ≡ true
-    by true h e more = both-true (is_own_var (d ∷ ds) x) (list_all (is_own_var (d ∷ ds)) xs) (or-right (same_var d.var x && not d.inherited) (is_own_var ds x) h) (more e)
+    by true h e more = both-true (is_own_var (d ∷ ds) x) (list_all (is_own_var (d ∷ ds)) xs)
+        (or-right (same_var d.var x && not d.inherited) (is_own_var ds x) h) (more e)
     by false h e more = absurd (true≢false (sym e))
 
 not-inherited : (i has : Bool) → (not i && has) ≡ true → not i ≡ true
@@ -73,7 +76,8 @@ exports-own vs (d ∷ ds) = by (is_exported vs d) refl (own-later d ds (exports_
         → list_all (is_own_var (d ∷ ds)) (if b then d.var ∷ exports_of vs ds else exports_of vs ds) ≡ true
     by true h more =
         let own = both-true (same_var d.var d.var) (not d.inherited) (same_var-refl d.var) (not-inherited d.inherited (has_var vs d.var) h) in
-        both-true (is_own_var (d ∷ ds) d.var) (list_all (is_own_var (d ∷ ds)) (exports_of vs ds)) (or-left (same_var d.var d.var && not d.inherited) (is_own_var ds d.var) own) more
+        both-true (is_own_var (d ∷ ds) d.var) (list_all (is_own_var (d ∷ ds)) (exports_of vs ds))
+        (or-left (same_var d.var d.var && not d.inherited) (is_own_var ds d.var) own) more
     by false h more = more
 
 -- ---- what is taken is exported
@@ -114,7 +118,8 @@ Under vs (h ∷ hs) (r ∷ rs) = ((r.vars ≡ h.vars) × (r.exports ≡ exports_
 same-number : (n m : ℕ) → n ≡ m → nat_eq n m ≡ true
 same-number n m e = grind (arith, nat_tests)
 
-pub home-exported : (vs : List Variable) (n : ℕ) (hs : List RuleHead) (rs : List Rule) (x : Variable) (k : VarKind) → has_var vs x ≡ true → Under vs hs rs → Home n hs x k
+pub home-exported : (vs : List Variable) (n : ℕ) (hs : List RuleHead) (rs : List Rule) (x : Variable) (k : VarKind)
+    → has_var vs x ≡ true → Under vs hs rs → Home n hs x k
     → exported_from n rs x k ≡ true
 home-exported vs n [] rs x k known u o = absurd o
 home-exported vs n (h ∷ hs) [] x k known u o = absurd u
@@ -154,7 +159,8 @@ module _ (vs : List Variable) (hs : List RuleHead) (rs : List Rule) (under : Und
   places-sound : (ys : List Variable) → AllKnown vs ys → HomeAll hs ys → list_all (λ y. exported_from 0 rs y Position) ys ≡ true
   places-sound [] a o = refl
   places-sound (y ∷ ys) a o =
-      both-true (exported_from 0 rs y Position) (list_all (λ y. exported_from 0 rs y Position) ys) (home-exported vs 0 hs rs y Position a.0 under o.0) (places-sound ys a.1 o.1)
+      both-true (exported_from 0 rs y Position) (list_all (λ y. exported_from 0 rs y Position) ys)
+      (home-exported vs 0 hs rs y Position a.0 under o.0) (places-sound ys a.1 o.1)
 
   decl-sound : (number : length hs ≡ length rs) (d : VarDecl) → AllKnown vs (taken_by d) → GoodDecl hs d → is_sound_decl rs d ≡ true
   decl-sound number d a g = by d.inherited refl a
@@ -162,13 +168,16 @@ module _ (vs : List Variable) (hs : List RuleHead) (rs : List Rule) (under : Und
       by : (b : Bool) → d.inherited ≡ b → AllKnown vs ((if b then d.var ∷ [] else []) ++ d.not_places)
           → (cond b (exported_from 0 rs d.var d.kind) (nat_eq d.var.rule (length rs)) && list_all (λ y. exported_from 0 rs y Position) d.not_places) ≡ true
       by true i a =
-          both-true (exported_from 0 rs d.var d.kind) (list_all (λ y. exported_from 0 rs y Position) d.not_places) (home-exported vs 0 hs rs d.var d.kind a.0 under (g.inherits i))
+          both-true (exported_from 0 rs d.var d.kind) (list_all (λ y. exported_from 0 rs y Position) d.not_places)
+          (home-exported vs 0 hs rs d.var d.kind a.0 under (g.inherits i))
           (places-sound d.not_places a.1 g.places)
       by false i a =
-          both-true (nat_eq d.var.rule (length rs)) (list_all (λ y. exported_from 0 rs y Position) d.not_places) (same-number d.var.rule (length rs) (g.owned i ∙ number))
+          both-true (nat_eq d.var.rule (length rs)) (list_all (λ y. exported_from 0 rs y Position) d.not_places)
+          (same-number d.var.rule (length rs) (g.owned i ∙ number))
           (places-sound d.not_places a g.places)
 
-  pub decls-sound : (number : length hs ≡ length rs) (ds : List VarDecl) → AllKnown vs (taken_by_all ds) → GoodDecls hs ds → list_all (is_sound_decl rs) ds ≡ true
+  pub decls-sound : (number : length hs ≡ length rs) (ds : List VarDecl) → AllKnown vs (taken_by_all ds) → GoodDecls hs ds
+      → list_all (is_sound_decl rs) ds ≡ true
   decls-sound number [] a g = refl
   decls-sound number (d ∷ ds) a g =
       both-true (is_sound_decl rs d) (list_all (is_sound_decl rs) ds) (decl-sound number d (known-front vs (taken_by d) (taken_by_all ds) a) g.0)

@@ -11,7 +11,9 @@ use Rattle.smpl_meta.specs.declared.item.Item.{Item}
 use Rattle.smpl_meta.specs.declared.item.Named.{Named}
 use Rattle.smpl_meta.specs.declared.item.DeclKind.{DeclKind}
 use Rattle.smpl_meta.specs.declared.item.DeclKind.TheVariants.{Var, Symbol}
-use Rattle.smpl_meta.specs.Forms.{is_wordish, chunks, before_sign, plain_of, named_of, name_not, not_of, all_of, one_not, nots_between, braced, nots_of, excepted_of, bare_item, item_of, is_listed, kind_of, list_kind_of, items_by, front_items, declared}
+use Rattle.smpl_meta.specs.Forms.{is_wordish, chunks, before_sign, plain_of, named_of, name_not, not_of, all_of, one_not}
+use Rattle.smpl_meta.specs.Forms.{nots_between, braced, nots_of, excepted_of, bare_item, item_of, is_listed, kind_of}
+use Rattle.smpl_meta.specs.Forms.{list_kind_of, items_by, front_items, declared}
 use Rattle.smpl_meta.specs.Decls.{items_or_none, items_of}
 use Rattle.sound_laws.proofs.SmplSound.HomeLemmas.{AllPlain, FitNots, AllFit}
 

@@ -35,7 +35,8 @@ module _ (law : BlankLaw) where
   put_gap : (blank : List ℕ) (gaps : List (List ℕ)) → AreBlanks blank → list_all is_gap gaps ≡ true → list_all is_gap (blank ∷ gaps) ≡ true
   put_gap blank gaps h g = both-true (is_gap blank) (list_all is_gap gaps) (gap_blank blank h) g
 
-  by_kind : (k : Kind) (text blank : List ℕ) (more : List ℕ → List (List ℕ)) → kind_of text ≡ Some k → AreBlanks blank → ((b : List ℕ) → AreBlanks b → list_all is_gap (more b) ≡ true)
+  by_kind : (k : Kind) (text blank : List ℕ) (more : List ℕ → List (List ℕ)) → kind_of text ≡ Some k → AreBlanks blank
+      → ((b : List ℕ) → AreBlanks b → list_all is_gap (more b) ≡ true)
       → list_all is_gap (gaps_by k text blank more) ≡ true
   by_kind kind.Blank text blank more is h g = g (blank ++ text) (blanks_append blank text h ((law text).0 is).0)
   by_kind kind.Comment text blank more is h g = g blank h
@@ -55,11 +56,14 @@ module _ (law : BlankLaw) where
   line_gaps : (vars : List VarDecl) (l : BodyLine) (p : PlusLine) → IsPlusLine vars l p → list_all is_gap p.gaps ≡ true
   line_gaps vars l p is = ap (list_all is_gap) is.gaps.are ∙ pieces_gaps [] is.gaps.pieces is.gaps.cut none
 
-  lines_gaps : (vars : List VarDecl) (ls : List BodyLine) (ps : List PlusLine) → ArePlusLines vars ls ps → list_all (λ (l : PlusLine). list_all is_gap l.gaps) ps ≡ true
+  lines_gaps : (vars : List VarDecl) (ls : List BodyLine) (ps : List PlusLine) → ArePlusLines vars ls ps
+      → list_all (λ (l : PlusLine). list_all is_gap l.gaps) ps ≡ true
   lines_gaps vars [] [] a = refl
   lines_gaps vars [] (p ∷ ps) a = absurd a
   lines_gaps vars (l ∷ ls) [] a = absurd a
-  lines_gaps vars (l ∷ ls) (p ∷ ps) a = both-true (list_all is_gap p.gaps) (list_all (λ (q : PlusLine). list_all is_gap q.gaps) ps) (line_gaps vars l p a.0) (lines_gaps vars ls ps a.1)
+  lines_gaps vars (l ∷ ls) (p ∷ ps) a = both-true (list_all is_gap p.gaps)
+      (list_all (λ (q : PlusLine). list_all is_gap q.gaps) ps) (line_gaps vars l p a.0) (lines_gaps vars ls ps a.1)
 
-  pub gaps_blank : (vars : List VarDecl) (P : BodyLine → Type 0) (n : ℕ) (b : Block) (c : PlusBlock) → ArePlusLines vars b.lines c.lines → AllLines P b.lines → length b.lines ≤ n → block_gaps c ≡ true
+  pub gaps_blank : (vars : List VarDecl) (P : BodyLine → Type 0) (n : ℕ) (b : Block) (c : PlusBlock)
+      → ArePlusLines vars b.lines c.lines → AllLines P b.lines → length b.lines ≤ n → block_gaps c ≡ true
   gaps_blank vars P n b c a h le = lines_gaps vars b.lines c.lines a

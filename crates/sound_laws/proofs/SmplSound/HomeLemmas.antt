@@ -1,5 +1,6 @@
 -- A variable that a rule declares as inherited, or excludes, is declared by an earlier rule as its own.
-use Rattle.std.proofs.Common.{◌≡◌, ℕ, suc, ◌+◌, Bool, true, false, refl, sym, ap, ◌∙◌, subst, true≢false, List, [], ◌∷◌, ◌++◌, append_assoc, length, Option, Some, None, if◌then◌else◌, arith, ◌⊎◌, inl, inr}
+use Rattle.std.proofs.Common.{◌≡◌, ℕ, suc, ◌+◌, Bool, true, false, refl, sym, ap, ◌∙◌, subst, true≢false, List, [], ◌∷◌, ◌++◌}
+use Rattle.std.proofs.Common.{append_assoc, length, Option, Some, None, if◌then◌else◌, arith, ◌⊎◌, inl, inr}
 use Rattle.std.specs.Str.{bytes_eq}
 use Rattle.std.proofs.lemmas.Bool.Decides.{nat_tests}
 use Rattle.smpl_terms.specs.declared.var.Var.{Var as Variable}
@@ -15,7 +16,9 @@ use Rattle.smpl_meta.specs.declared.item.Named.{Named}
 use Rattle.smpl_meta.specs.declared.item.DeclKind.{DeclKind}
 use Rattle.smpl_meta.specs.declared.item.DeclKind.TheVariants.{Var, Symbol}
 use Rattle.smpl_meta.specs.Known.{var_named, head_named, var_of, kind_number}
-use Rattle.smpl_meta.specs.Decls.{is_kind, from_word, word_fault, found_fault, from_fault, twice_by, is_known, named_faults, nots_faults, item_faults, items_faults, var_in, place_not, places_not, inherited_from, var_by, vars_in, vars_of_items}
+use Rattle.smpl_meta.specs.Decls.{is_kind, from_word, word_fault, found_fault, from_fault, twice_by, is_known, named_faults}
+use Rattle.smpl_meta.specs.Decls.{nots_faults, item_faults, items_faults, var_in, place_not, places_not, inherited_from, var_by}
+use Rattle.smpl_meta.specs.Decls.{vars_in, vars_of_items}
 use Rattle.sound_laws.proofs.SmplSound.NameLemmas.{front-nil, back-nil, found-in, item-rest}
 
 -- ---- where a variable is a rule's own
@@ -67,7 +70,8 @@ home-front n [] more x k o = absurd o
 home-front n (h ∷ hs) more x k (inl is) = inl is
 home-front n (h ∷ hs) more x k (inr o) = inr (home-front (suc n) hs more x k o)
 
-home-here : (n : ℕ) (hs more : List RuleHead) (h : RuleHead) (x : Variable) (k : VarKind) → x.rule ≡ n + length hs → OwnIn h.vars x k → Home n (hs ++ h ∷ more) x k
+home-here : (n : ℕ) (hs more : List RuleHead) (h : RuleHead) (x : Variable) (k : VarKind) → x.rule ≡ n + length hs
+    → OwnIn h.vars x k → Home n (hs ++ h ∷ more) x k
 home-here n [] more h x k e o = let s : n ≡ x.rule = omega (arith, e) in inl (s, o)
 home-here n (g ∷ hs) more h x k e o = inr (home-here (suc n) hs more h x k (omega (arith, e)) o)
 
@@ -76,14 +80,16 @@ home-here n (g ∷ hs) more h x k e o = inr (home-here (suc n) hs more h x k (om
 -- among declarations, the one that is found
 own-found-by : (x : List ℕ) (d f : VarDecl) (ds : List VarDecl) (b : Bool) → (if b then Some d else var_named x ds) ≡ Some f → f.inherited ≡ false
     → (var_named x ds ≡ Some f → OwnIn ds f.var f.kind) → Is f.var f.kind d ⊎ OwnIn ds f.var f.kind
-own-found-by x d f ds true e h more = let same : d ≡ f = cc in inl (ap (λ (y : VarDecl). y.var) same, (ap (λ (y : VarDecl). y.inherited) same ∙ h, ap (λ (y : VarDecl). kind_number y.kind) same))
+own-found-by x d f ds true e h more = let same : d ≡ f = cc in
+    inl (ap (λ (y : VarDecl). y.var) same, (ap (λ (y : VarDecl). y.inherited) same ∙ h, ap (λ (y : VarDecl). kind_number y.kind) same))
 own-found-by x d f ds false e h more = inr (more e)
 
 own-found : (x : List ℕ) (ds : List VarDecl) (f : VarDecl) → var_named x ds ≡ Some f → f.inherited ≡ false → OwnIn ds f.var f.kind
 own-found x [] f e h = absurd (cc)
 own-found x (d ∷ ds) f e h = own-found-by x d f ds (bytes_eq d.var.name x) e h (λ r. own-found x ds f r h)
 
-good-by : (earlier : List RuleHead) (d f : VarDecl) (ds : List VarDecl) (x : List ℕ) (b : Bool) → GoodDecl earlier d → (if b then Some d else var_named x ds) ≡ Some f
+good-by : (earlier : List RuleHead) (d f : VarDecl) (ds : List VarDecl) (x : List ℕ) (b : Bool) → GoodDecl earlier d
+    → (if b then Some d else var_named x ds) ≡ Some f
     → (var_named x ds ≡ Some f → GoodDecl earlier f) → GoodDecl earlier f
 good-by earlier d f ds x true g e more = let same : d ≡ f = cc in subst (λ (y : VarDecl). GoodDecl earlier y) same g
 good-by earlier d f ds x false g e more = more e
@@ -92,7 +98,8 @@ good-found : (earlier : List RuleHead) (x : List ℕ) (ds : List VarDecl) (f : V
 good-found earlier x [] f g e = absurd (cc)
 good-found earlier x (d ∷ ds) f g e = good-by earlier d f ds x (bytes_eq d.var.name x) g.0 e (good-found earlier x ds f g.1)
 
-home-in : (pre hs : List RuleHead) (h : RuleHead) (x : List ℕ) (f : VarDecl) → GoodDecls pre h.vars → var_named x h.vars ≡ Some f → Home 0 (pre ++ h ∷ hs) f.var f.kind
+home-in : (pre hs : List RuleHead) (h : RuleHead) (x : List ℕ) (f : VarDecl) → GoodDecls pre h.vars
+    → var_named x h.vars ≡ Some f → Home 0 (pre ++ h ∷ hs) f.var f.kind
 home-in pre hs h x f g e = by f.inherited refl
   where
     good : GoodDecl pre f
@@ -102,7 +109,8 @@ home-in pre hs h x f g e = by f.inherited refl
     by true i = home-front 0 pre (h ∷ hs) f.var f.kind (good.inherits i)
     by false i = let r = good.owned i in home-here 0 pre hs h f.var f.kind (omega (arith, r)) (own-found x h.vars f e i)
 
-home-named : (pre hs : List RuleHead) (r x : List ℕ) (g : RuleHead) (f : VarDecl) → GoodHeads pre hs → head_named r hs ≡ Some g → var_named x g.vars ≡ Some f → Home 0 (pre ++ hs) f.var f.kind
+home-named : (pre hs : List RuleHead) (r x : List ℕ) (g : RuleHead) (f : VarDecl) → GoodHeads pre hs → head_named r hs ≡ Some g
+    → var_named x g.vars ≡ Some f → Home 0 (pre ++ hs) f.var f.kind
 home-named pre [] r x g f good e v = absurd (cc)
 home-named pre (h ∷ hs) r x g f good e v = by (bytes_eq h.name r) e (λ rest. home-named (pre ++ h ∷ []) hs r x g f good.1 rest v)
   where
@@ -167,7 +175,8 @@ module _ (earlier : List RuleHead) (good : GoodHeads [] earlier) (rule : ℕ) (n
 
   from-nil : (k : DeclKind) (n : Named) → named_faults earlier k n ≡ [] → from_fault earlier k n.from n.name ≡ []
   from-nil k n e =
-      back-nil (word_fault n.name) (from_fault earlier k n.from n.name) (back-nil (from_word n.from) (word_fault n.name ++ from_fault earlier k n.from n.name) e)
+      back-nil (word_fault n.name) (from_fault earlier k n.from n.name)
+      (back-nil (from_word n.from) (word_fault n.name ++ from_fault earlier k n.from n.name) e)
 
   place-home : (n : Named) (f : Option PatchToken) → from_fault earlier (Var Position) f n.name ≡ [] → HomeAll earlier (place_not earlier f n.name)
   place-home n None e = tt
@@ -199,7 +208,8 @@ module _ (earlier : List RuleHead) (good : GoodHeads [] earlier) (rule : ℕ) (n
   inherited-good k r x (Some d) h e =
       (record { owned = λ f. absurd (true≢false f); inherits = λ t. found-home k r x (Some d) h e d refl; places = tt }, tt)
 
-  by-good : (k : VarKind) (i : Item) (f : Option PatchToken) → FitNots (Var k) i.nots → from_fault earlier (Var k) f i.named.name ≡ [] → nots_faults earlier (Var k) i.nots ≡ []
+  by-good : (k : VarKind) (i : Item) (f : Option PatchToken) → FitNots (Var k) i.nots
+      → from_fault earlier (Var k) f i.named.name ≡ [] → nots_faults earlier (Var k) i.nots ≡ []
       → GoodDecls earlier (var_by earlier rule k f i)
   by-good k i None fit e es = (record { owned = λ f. number; inherits = λ t. absurd (true≢false (sym t)); places = nots-home k i.nots fit es }, tt)
   by-good k i (Some r) fit e es = inherited-good k r i.named.name.token.text (var_of earlier r.token.text i.named.name.token.text) refl e

@@ -1,6 +1,7 @@
 -- The tokens of plus lines are whole tokens of C, or declared metavariables.
 -- Proof: a plus line has no signs of patches, so each of its pieces is one that C has there, and no Stray.
-use Rattle.std.proofs.Common.{◌≡◌, ℕ, ◌+◌, ◌≤◌, ◌==◌, Bool, true, false, ◌&&◌, not, refl, sym, ap, ◌∙◌, subst, arith, true≢false, List, [], ◌∷◌, map, length, Option, Some, None, if◌then◌else◌}
+use Rattle.std.proofs.Common.{◌≡◌, ℕ, ◌+◌, ◌≤◌, ◌==◌, Bool, true, false, ◌&&◌, not, refl, sym, ap, ◌∙◌, subst, arith}
+use Rattle.std.proofs.Common.{true≢false, List, [], ◌∷◌, map, length, Option, Some, None, if◌then◌else◌}
 use Rattle.std.specs.List.{list_all}
 use Rattle.std.proofs.lemmas.Bool.{eqb-true}
 use Rattle.c_terms.specs.declared.token.Token.{Token}
@@ -47,7 +48,8 @@ rest_bad true at fs h = let no : ⊥ = cc in absurd no
 rest_bad false at fs h = h
 
 -- a piece of C that is not bad is of its kind
-put_of : (k : Kind) (text : List ℕ) (at : ℕ) (ts : List PatchToken) → kind_of text ≡ Some k → is_bad true (Plain k) text ≡ false → of_kinds ts ≡ true → of_kinds (put_token (token_kind (Plain k)) text at ts) ≡ true
+put_of : (k : Kind) (text : List ℕ) (at : ℕ) (ts : List PatchToken) → kind_of text ≡ Some k → is_bad true (Plain k) text ≡ false
+    → of_kinds ts ≡ true → of_kinds (put_token (token_kind (Plain k)) text at ts) ≡ true
 put_of kind.Name text at ts is b h = both-true (is_of_kind token.Name (kind_of text)) (of_kinds ts) (ap (is_of_kind token.Name) is) h
 put_of kind.Keyword text at ts is b h = both-true (is_of_kind token.Keyword (kind_of text)) (of_kinds ts) (ap (is_of_kind token.Keyword) is) h
 put_of kind.Number text at ts is b h = both-true (is_of_kind token.Number (kind_of text)) (of_kinds ts) (ap (is_of_kind token.Number) is) h
@@ -61,7 +63,9 @@ put_of kind.Stray text at ts is b h = absurd (true≢false b)
 
 pieces_of : (at : ℕ) (ps : List LinePiece) → Cut false ps → bad_from true at ps ≡ [] → of_kinds (tokens_from at ps) ≡ true
 pieces_of at [] cut b = refl
-pieces_of at (p ∷ ps) cut b = by p.kind cut.0 (some_bad (is_bad true p.kind p.text) at (bad_from true (at + length p.text) ps) b) (pieces_of (at + length p.text) ps cut.1 (rest_bad (is_bad true p.kind p.text) at (bad_from true (at + length p.text) ps) b))
+pieces_of at (p ∷ ps) cut b = by p.kind cut.0
+    (some_bad (is_bad true p.kind p.text) at (bad_from true (at + length p.text) ps) b)
+    (pieces_of (at + length p.text) ps cut.1 (rest_bad (is_bad true p.kind p.text) at (bad_from true (at + length p.text) ps) b))
   where
     by : (k : LineKind) → IsFirstBy 0 k p.text (joined ps) → is_bad true k p.text ≡ false → of_kinds (tokens_from (at + length p.text) ps) ≡ true
         → of_kinds (put_token (token_kind k) p.text at (tokens_from (at + length p.text) ps)) ≡ true
@@ -81,7 +85,8 @@ put_low low at (Some k) text ts le h = (le, h)
 
 pieces_low : (low at : ℕ) (ps : List LinePiece) → low ≤ at → AllFrom low (tokens_from at ps)
 pieces_low low at [] le = tt
-pieces_low low at (p ∷ ps) le = put_low low at (token_kind p.kind) p.text (tokens_from (at + length p.text) ps) le (pieces_low low (at + length p.text) ps (omega (arith, le)))
+pieces_low low at (p ∷ ps) le = put_low low at (token_kind p.kind) p.text (tokens_from (at + length p.text) ps) le
+    (pieces_low low (at + length p.text) ps (omega (arith, le)))
 
 no_branch : (start : ℕ) (ts : List PatchToken) → AllFrom (start + 1) ts → is_branch start ts ≡ false
 no_branch start [] h = refl
@@ -150,7 +155,8 @@ module _ (vars : List VarDecl) where
   raw_plus token.Dots text h = h
   raw_plus token.Pat text h = h
 
-  made_by : (t : PatchToken) (o : Option MetaKind) → declared_meta vars t ≡ o → is_of_kind t.token.kind (kind_of t.token.text) ≡ true → is_plus_token vars (kind_by o t.token.kind) t.token.text ≡ true
+  made_by : (t : PatchToken) (o : Option MetaKind) → declared_meta vars t ≡ o
+      → is_of_kind t.token.kind (kind_of t.token.text) ≡ true → is_plus_token vars (kind_by o t.token.kind) t.token.text ≡ true
   made_by t None e h = raw_plus t.token.kind t.token.text h
   made_by t (Some k) e h = meta_by vars t k (is_name t) e
 
@@ -166,7 +172,10 @@ module _ (vars : List VarDecl) where
   lines_whole [] (p ∷ ps) a h = absurd a
   lines_whole (l ∷ ls) [] a h = absurd a
   lines_whole (l ∷ ls) (p ∷ ps) a h =
-      both-true (line_whole p) (list_all line_whole ps) (ap (λ (ts : List Token). list_all (λ (t : Token). is_plus_token vars t.kind t.text) ts) a.0.tokens ∙ tokens_plus l.tokens h.0) (lines_whole ls ps a.1 h.1)
+      both-true (line_whole p) (list_all line_whole ps)
+      (ap (λ (ts : List Token). list_all (λ (t : Token). is_plus_token vars t.kind t.text) ts) a.0.tokens
+      ∙ tokens_plus l.tokens h.0) (lines_whole ls ps a.1 h.1)
 
-  pub block_is_whole : (n : ℕ) (b : Block) (c : PlusBlock) → ArePlusLines vars b.lines c.lines → AllLines Whole b.lines → length b.lines ≤ n → block_whole c ≡ true
+  pub block_is_whole : (n : ℕ) (b : Block) (c : PlusBlock) → ArePlusLines vars b.lines c.lines → AllLines Whole b.lines
+      → length b.lines ≤ n → block_whole c ≡ true
   block_is_whole n b c a h le = lines_whole b.lines c.lines a h

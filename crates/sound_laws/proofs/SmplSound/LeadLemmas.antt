@@ -1,5 +1,6 @@
 -- The first gap of a plus line is as long as its lead.
-use Rattle.std.proofs.Common.{◌≡◌, ℕ, suc, zero, Bool, true, false, ◌&&◌, refl, sym, ap, ◌∙◌, true≢false, List, [], ◌∷◌, map, length, Option, Some, None, nat_eq, arith}
+use Rattle.std.proofs.Common.{◌≡◌, ℕ, suc, zero, Bool, true, false, ◌&&◌, refl, sym, ap, ◌∙◌, true≢false, List, [], ◌∷◌, map}
+use Rattle.std.proofs.Common.{length, Option, Some, None, nat_eq, arith}
 use Rattle.std.specs.List.{list_all}
 use Rattle.std.proofs.lemmas.Bool.Decides.{nat_tests}
 use Rattle.smpl_patch.specs.declared.pattern.VarDecl.{VarDecl}
@@ -27,7 +28,8 @@ own-lead (gap ∷ gaps) = same-number (length gap)
 line-leads : (vars : List VarDecl) (l : BodyLine) (p : PlusLine) → IsPlusLine vars l p → leads p.lead p.gaps ≡ true
 line-leads vars l p is = ap (λ (n : ℕ). leads n p.gaps) is.lead ∙ own-lead p.gaps
 
-lines-lead : (vars : List VarDecl) (ls : List BodyLine) (ps : List PlusLine) → ArePlusLines vars ls ps → list_all (λ (p : PlusLine). leads p.lead p.gaps) ps ≡ true
+lines-lead : (vars : List VarDecl) (ls : List BodyLine) (ps : List PlusLine) → ArePlusLines vars ls ps
+    → list_all (λ (p : PlusLine). leads p.lead p.gaps) ps ≡ true
 lines-lead vars [] [] a = refl
 lines-lead vars [] (p ∷ ps) a = absurd a
 lines-lead vars (l ∷ ls) [] a = absurd a
@@ -52,7 +54,8 @@ bare-lead : (ps : List Placed) → AllLead (map bare ps)
 bare-lead [] = tt
 bare-lead (p ∷ ps) = (refl, bare-lead ps)
 
-changed-lead : (f : PatToken → PatToken) → ((t : PatToken) → leads_token t ≡ true → leads_token (f t) ≡ true) → (n : ℕ) (ts : List PatToken) → AllLead ts → AllLead (changed f n ts)
+changed-lead : (f : PatToken → PatToken) → ((t : PatToken) → leads_token t ≡ true → leads_token (f t) ≡ true)
+    → (n : ℕ) (ts : List PatToken) → AllLead ts → AllLead (changed f n ts)
 changed-lead f keeps n [] a = tt
 changed-lead f keeps zero (t ∷ ts) a = (keeps t a.0, a.1)
 changed-lead f keeps (suc n) (t ∷ ts) a = (a.0, changed-lead f keeps n ts a.1)
@@ -82,7 +85,9 @@ all-lead ts us e a = ap (list_all leads_token) e ∙ every us a
     every [] a = refl
     every (v ∷ vs) a = both-true (leads_token v) (list_all leads_token vs) a.0 (every vs a.1)
 
-pub anchored-lead : (vars : List VarDecl) (rule : ℕ) (body : List BodyLine) (tokens : List PatToken) → AreAnchored vars rule body tokens → list_all leads_token tokens ≡ true
+pub anchored-lead : (vars : List VarDecl) (rule : ℕ) (body : List BodyLine) (tokens : List PatToken)
+    → AreAnchored vars rule body tokens → list_all leads_token tokens ≡ true
 anchored-lead vars rule body tokens a =
     let ps = pattern_tokens vars body in
-    all-lead tokens (with_blocks ps (map bare ps) (blocks_of ps body) a.blocks) a.are (blocks-lead vars ps (map bare ps) (blocks_of ps body) a.blocks a.lines (bare-lead ps))
+    all-lead tokens (with_blocks ps (map bare ps) (blocks_of ps body) a.blocks) a.are
+    (blocks-lead vars ps (map bare ps) (blocks_of ps body) a.blocks a.lines (bare-lead ps))

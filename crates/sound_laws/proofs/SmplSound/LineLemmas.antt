@@ -64,7 +64,8 @@ module _ (P : BodyLine → Type 0) where
   abbrev Holds : Gathered → Type 0
   Holds g = AllBodies g.rules × LastBody g.last
 
-  gathered_holds : (r : Role) (start : ℕ) (bytes : List ℕ) (ts : List PatchToken) (g : Gathered) → (r ≡ role.Body → P (body_line start bytes ts)) → Holds g → Holds (gather_line r start bytes ts g)
+  gathered_holds : (r : Role) (start : ℕ) (bytes : List ℕ) (ts : List PatchToken) (g : Gathered)
+      → (r ≡ role.Body → P (body_line start bytes ts)) → Holds g → Holds (gather_line r start bytes ts g)
   gathered_holds role.Virtual start bytes ts g h a = a
   gathered_holds role.Header start bytes ts g h a = (body_last start g.rules g.last a.0 a.1, tt)
   gathered_holds role.Declaration start bytes ts g h a = (a.0, decls_keep g.last ts a.1)
@@ -74,19 +75,22 @@ module _ (P : BodyLine → Type 0) where
   abbrev pub Gives : Type 0
   Gives = (c : CutLine) → c.role ≡ role.Body → IsCutLine c → faults_of c ≡ [] → P (body_line c.line.start c.line.bytes (plain_tokens c))
 
-  all_hold : Gives → (s : Section) (ls : List Line) (cs : List CutLine) (g : Gathered) → AreCutLines s ls cs → line_faults cs ≡ [] → Holds g → Holds (gather g cs)
+  all_hold : Gives → (s : Section) (ls : List Line) (cs : List CutLine) (g : Gathered) → AreCutLines s ls cs
+      → line_faults cs ≡ [] → Holds g → Holds (gather g cs)
   all_hold gives s [] [] g cut none a = a
   all_hold gives s [] (c ∷ cs) g cut none a = absurd cut
   all_hold gives s (l ∷ ls) [] g cut none a = absurd cut
   all_hold gives s (l ∷ ls) (c ∷ cs) g cut none a =
-      all_hold gives (section_after c.role) ls cs (gather_line c.role c.line.start c.line.bytes (plain_tokens c) g) cut.1.1.1 (back_empty (faults_of c) (line_faults cs) none)
+      all_hold gives (section_after c.role) ls cs (gather_line c.role c.line.start c.line.bytes (plain_tokens c) g) cut.1.1.1
+      (back_empty (faults_of c) (line_faults cs) none)
       (gathered_holds c.role c.line.start c.line.bytes (plain_tokens c) g (λ e. gives c e cut.1.1.0 (front_empty (faults_of c) (line_faults cs) none)) a)
 
   pub text_holds : Gives → (bytes : List ℕ) (t : PatchText) → IsTextOf bytes t → AllBodies t.rules
   text_holds gives bytes t text =
       let faultless = front_empty (line_faults text.lines) (end_faults (section_of section.Before text.lines) (length bytes)) text.faultless in
       let h = all_hold gives section.Before (lines_from 0 bytes) text.lines nothing text.are.cut faultless (tt, tt) in
-      subst (λ (x : PatchText). AllBodies x.rules) (sym text.is) (body_last (length bytes) (gather nothing text.lines).rules (gather nothing text.lines).last h.0 h.1)
+      subst (λ (x : PatchText). AllBodies x.rules) (sym text.is)
+      (body_last (length bytes) (gather nothing text.lines).rules (gather nothing text.lines).last h.0 h.1)
 
 -- ---- kinds of tokens
 

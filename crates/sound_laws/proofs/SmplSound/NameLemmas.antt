@@ -1,5 +1,6 @@
 -- The variables of a rule's declarations have different names.
-use Rattle.std.proofs.Common.{◌≡◌, ℕ, Bool, true, false, not, ◌&&◌, ◌||◌, refl, sym, ap, ◌∙◌, true≢false, List, [], ◌∷◌, ◌++◌, Option, Some, None, if◌then◌else◌}
+use Rattle.std.proofs.Common.{◌≡◌, ℕ, Bool, true, false, not, ◌&&◌, ◌||◌, refl, sym, ap, ◌∙◌, true≢false, List, [], ◌∷◌, ◌++◌}
+use Rattle.std.proofs.Common.{Option, Some, None, if◌then◌else◌}
 use Rattle.std.specs.List.{list_any}
 use Rattle.std.specs.Str.{bytes_eq}
 use Rattle.std.proofs.lemmas.Slice.Eq.{bytes_eq-Decides}
@@ -12,7 +13,8 @@ use Rattle.smpl_meta.specs.declared.item.Item.{Item}
 use Rattle.smpl_meta.specs.declared.item.DeclKind.{DeclKind}
 use Rattle.smpl_meta.specs.declared.item.DeclKind.TheVariants.{Var, Symbol}
 use Rattle.smpl_meta.specs.Known.{var_named, head_named, var_of}
-use Rattle.smpl_meta.specs.Decls.{is_symbol, is_again, is_known, twice_by, named_faults, nots_faults, item_faults, items_faults, own, inherited_from, var_by, vars_in, vars_of_items}
+use Rattle.smpl_meta.specs.Decls.{is_symbol, is_again, is_known, twice_by, named_faults, nots_faults, item_faults, items_faults}
+use Rattle.smpl_meta.specs.Decls.{own, inherited_from, var_by, vars_in, vars_of_items}
 
 pub front-nil : {A : Type 0} (xs ys : List A) → xs ++ ys ≡ [] → xs ≡ []
 front-nil [] ys e = refl
@@ -47,7 +49,8 @@ pub record Found (earlier : List RuleHead) (r x : List ℕ) (d : VarDecl) : Type
 pub found-in : (earlier : List RuleHead) (r x : List ℕ) (d : VarDecl) → var_of earlier r x ≡ Some d → Found earlier r x d
 found-in earlier r x d e = by (head_named r earlier) refl e
   where
-    by : (o : Option RuleHead) → head_named r earlier ≡ o → (elim o as (λ p. Option VarDecl) [ None ↦ None | Some h ↦ var_named x h.vars ]) ≡ Some d → Found earlier r x d
+    by : (o : Option RuleHead) → head_named r earlier ≡ o
+        → (elim o as (λ p. Option VarDecl) [ None ↦ None | Some h ↦ var_named x h.vars ]) ≡ Some d → Found earlier r x d
     by None h e = absurd (cc)
     by (Some g) h e = record { head = g; named = h; declared = e }
 
@@ -136,7 +139,8 @@ module _ (earlier : List RuleHead) (rule : ℕ) where
   gives-other d i j _ ws n h none more = more
   gives-other d i j _ ws n h (one f name symbol) more =
       let apart : bytes_eq (name_of i) (name_of j) ≡ false = differ_by (bytes_eq (name_of i) (name_of j)) (is_symbol j.kind) (is_symbol i.kind) h symbol in
-      let here : bytes_eq d.var.name f.var.name ≡ false = ap (λ (x : List ℕ). bytes_eq x f.var.name) n ∙ ap (λ (x : List ℕ). bytes_eq (name_of i) x) name ∙ apart in
+      let here : bytes_eq d.var.name f.var.name ≡ false =
+      ap (λ (x : List ℕ). bytes_eq x f.var.name) n ∙ ap (λ (x : List ℕ). bytes_eq (name_of i) x) name ∙ apart in
       either (bytes_eq d.var.name f.var.name) (list_any (alike d) ws) here more
     where
       either : (a b : Bool) → a ≡ false → b ≡ false → (a || b) ≡ false
@@ -150,7 +154,8 @@ module _ (earlier : List RuleHead) (rule : ℕ) where
       gives-other d i j (vars_in earlier rule j.kind j) (vars_of_items earlier rule js) n (c j (item-fresh before j js e)) (gives j)
       (later-differ d i (before ++ j ∷ []) js n (covers-more before i j c) (item-rest before j js e))
 
-  gives-first : (i : Item) (vs ws : List VarDecl) → Gives i vs → ((d : VarDecl) → d.var.name ≡ name_of i → list_any (alike d) ws ≡ false) → none_alike alike ws ≡ true
+  gives-first : (i : Item) (vs ws : List VarDecl) → Gives i vs
+      → ((d : VarDecl) → d.var.name ≡ name_of i → list_any (alike d) ws ≡ false) → none_alike alike ws ≡ true
       → none_alike alike (vs ++ ws) ≡ true
   gives-first i _ ws none apart more = more
   gives-first i _ ws (one d name symbol) apart more = by (list_any (alike d) ws) (apart d name)

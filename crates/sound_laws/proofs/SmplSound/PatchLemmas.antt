@@ -66,7 +66,11 @@ same-length known (h ∷ hs) (r ∷ rs) u = ap suc (same-length known hs rs u.1)
 
 good-last : (pre hs : List RuleHead) (h : RuleHead) → GoodHeads pre hs → GoodDecls (pre ++ hs) h.vars → GoodHeads pre (hs ++ h ∷ [])
 good-last pre [] h g d = (subst (λ (l : List RuleHead). GoodDecls l h.vars) (append-nil pre) d, tt)
-good-last pre (f ∷ hs) h g d = (g.0, good-last (pre ++ f ∷ []) hs h g.1 (subst (λ (l : List RuleHead). GoodDecls l h.vars) (sym (append_assoc pre (f ∷ []) hs)) d))
+good-last pre (f ∷ hs) h g d = (
+  g.0,
+  good-last (pre ++ f ∷ []) hs h g.1
+      (subst (λ (l : List RuleHead). GoodDecls l h.vars) (sym (append_assoc pre (f ∷ []) hs)) d),
+)
 
 under-last : (known : List Variable) (hs : List RuleHead) (rs : List Rule) (h : RuleHead) (r : Rule) → Under known hs rs
     → (r.vars ≡ h.vars) × (r.exports ≡ exports_of known h.vars) → Under known (hs ++ h ∷ []) (rs ++ r ∷ [])
@@ -83,7 +87,8 @@ items-right virtuals earlier r e =
     let decls = back-nil unknown (decl_faults earlier r.decls) (back-nil names (unknown ++ decl_faults earlier r.decls) e) in
     back-nil (form_faults (parts r.decls)) (items_faults earlier [] (items_of (parts r.decls))) decls
 
-module _ (virtuals : List (List ℕ)) (known : List Variable) (heads : List RuleHead) (rules : List Rule) (ahead : Ahead known heads rules) (r : RuleText) (h : RuleHead)
+module _ (virtuals : List (List ℕ)) (known : List Variable) (heads : List RuleHead) (rules : List Rule)
+    (ahead : Ahead known heads rules) (r : RuleText) (h : RuleHead)
     (is : IsHead virtuals heads (length heads) r h) (x : Rule) (n : ℕ) (made : IsRule known n r h x) where
   right : items_faults heads [] (items_of (parts r.decls)) ≡ []
   right = items-right virtuals heads r is.faultless
@@ -92,10 +97,12 @@ module _ (virtuals : List (List ℕ)) (known : List Variable) (heads : List Rule
   vars-of = made.vars ∙ is.vars
 
   rule-names : names_differ rules x ≡ true
-  rule-names = ap (none_alike (λ (d e : VarDecl). bytes_eq d.var.name e.var.name)) vars-of ∙ names-differ heads (length heads) [] (items_of (parts r.decls)) right
+  rule-names = ap (none_alike (λ (d e : VarDecl). bytes_eq d.var.name e.var.name)) vars-of
+      ∙ names-differ heads (length heads) [] (items_of (parts r.decls)) right
 
   rule-exports : exports_are_own rules x ≡ true
-  rule-exports = ap (λ (l : List Variable). list_all (is_own_var x.vars) l) made.exports ∙ ap (λ (ds : List VarDecl). list_all (is_own_var ds) (exports_of known h.vars)) made.vars
+  rule-exports = ap (λ (l : List Variable). list_all (is_own_var x.vars) l) made.exports
+      ∙ ap (λ (ds : List VarDecl). list_all (is_own_var ds) (exports_of known h.vars)) made.vars
       ∙ exports-own known h.vars
 
   decls-good : GoodDecls heads h.vars
@@ -103,12 +110,14 @@ module _ (virtuals : List (List ℕ)) (known : List Variable) (heads : List Rule
       (items-good heads ahead.good (length heads) refl [] (items_of (parts r.decls)) (items-fitting (parts r.decls)) right)
 
   rule-vars : AllKnown known (taken_by_all h.vars) → vars_are_sound rules x ≡ true
-  rule-vars a = ap (list_all (is_sound_decl rules)) made.vars ∙ decls-sound known heads rules ahead.under (same-length known heads rules ahead.under) h.vars a decls-good
+  rule-vars a = ap (list_all (is_sound_decl rules)) made.vars
+      ∙ decls-sound known heads rules ahead.under (same-length known heads rules ahead.under) h.vars a decls-good
 
   rule-depends : ((d : Dep) × DependsOn heads (depends_tokens r.header) d) → depends_are_earlier rules x ≡ true
   rule-depends c =
       let count = same-length known heads rules ahead.under in
-      ap (is_below (length rules)) (made.depends ∙ is.depends c.0 c.1) ∙ ap (λ (m : ℕ). is_below m c.0) (sym count) ∙ depends-below heads (depends_tokens r.header) c.0 c.1
+      ap (is_below (length rules)) (made.depends ∙ is.depends c.0 c.1) ∙ ap (λ (m : ℕ). is_below m c.0) (sym count)
+      ∙ depends-below heads (depends_tokens r.header) c.0 c.1
 
   ahead-more : Ahead known (heads ++ h ∷ []) (rules ++ x ∷ [])
   ahead-more = record { good = good-last [] heads h ahead.good decls-good; under = under-last known heads rules h x ahead.under (made.vars, made.exports) }
@@ -124,7 +133,8 @@ pub record Passes (earlier rules : List Rule) : Type 0 where
 abbrev pub HaveConditions : Type 0
 HaveConditions = (earlier : List RuleHead) (ts : List PatchToken) (end : ℕ) → header_stop ts end ≡ None → (d : Dep) × DependsOn earlier (depends_tokens ts) d
 
-passed : HaveConditions → (text : PatchText) (known : List Variable) (n : ℕ) (heads : List RuleHead) (rules : List Rule) (ts : List RuleText) (hs : List RuleHead) (xs : List Rule)
+passed : HaveConditions → (text : PatchText) (known : List Variable) (n : ℕ) (heads : List RuleHead) (rules : List Rule)
+    (ts : List RuleText) (hs : List RuleHead) (xs : List Rule)
     → Ahead known heads rules → AllGoOn ts → AreHeads text heads ts hs → AreRules known n ts hs xs → AllKnown known (taken hs) → Passes rules xs
 passed c text known n heads rules [] [] [] a go are made k = record { names = tt; exports = tt; vars = tt; depends = tt }
 passed c text known n heads rules [] [] (x ∷ xs) a go are made k = absurd made
@@ -133,7 +143,8 @@ passed c text known n heads rules (t ∷ ts) [] xs a go are made k = absurd are
 passed c text known n heads rules (t ∷ ts) (h ∷ hs) [] a go are made k = absurd made
 passed c text known n heads rules (t ∷ ts) (h ∷ hs) (x ∷ xs) a go are made k =
     let b = ahead-more text.virtuals known heads rules a t h are.0 x n made.0 in
-    let rest = passed c text known (suc n) (heads ++ h ∷ []) (rules ++ x ∷ []) ts hs xs b go.1 are.1 made.1 (known-back known (taken_by_all h.vars) (taken hs) k) in
+    let rest = passed c text known (suc n) (heads ++ h ∷ []) (rules ++ x ∷ []) ts hs xs b go.1 are.1 made.1
+    (known-back known (taken_by_all h.vars) (taken hs) k) in
     let front = known-front known (taken_by_all h.vars) (taken hs) k in
     record {
       names = (rule-names text.virtuals known heads rules a t h are.0 x n made.0, rest.names);
@@ -142,10 +153,12 @@ passed c text known n heads rules (t ∷ ts) (h ∷ hs) (x ∷ xs) a go are made
       depends = (rule-depends text.virtuals known heads rules a t h are.0 x n made.0 (c heads t.header go.0.0 go.0.1), rest.depends);
     }
 
-pub patch-passes : HaveConditions → ((bytes : List ℕ) (text : PatchText) → IsTextOf bytes text → AllGoOn text.rules) → (bytes : List ℕ) (patch : Patch) → IsSpelled bytes patch
+pub patch-passes : HaveConditions → ((bytes : List ℕ) (text : PatchText) → IsTextOf bytes text → AllGoOn text.rules)
+    → (bytes : List ℕ) (patch : Patch) → IsSpelled bytes patch
     → Passes [] patch.rules
 patch-passes c go bytes patch s =
-    passed c s.text (taken s.heads) 0 [] [] s.text.rules s.heads patch.rules (record { good = tt; under = tt }) (go bytes s.text s.is_text) s.are_heads s.are_rules.rules
+    passed c s.text (taken s.heads) 0 [] [] s.text.rules s.heads patch.rules (record { good = tt; under = tt })
+    (go bytes s.text s.is_text) s.are_heads s.are_rules.rules
     (known-self (taken s.heads))
 
 -- ---- positions
@@ -154,7 +167,8 @@ abbrev pub KeepPositions : Type 0
 KeepPositions = (vars : List VarDecl) (rule : ℕ) (body : List BodyLine) (tokens : List PatToken) → AreAnchored vars rule body tokens
     → map (λ (t : PatToken). t.positions) tokens ≡ map (λ (p : Placed). p.positions) (pattern_tokens vars body)
 
-declared-in : KeepPositions → (known : List Variable) (n : ℕ) (before : List Rule) (ts : List RuleText) (hs : List RuleHead) (xs : List Rule) → AreRules known n ts hs xs
+declared-in : KeepPositions → (known : List Variable) (n : ℕ) (before : List Rule) (ts : List RuleText) (hs : List RuleHead)
+    (xs : List Rule) → AreRules known n ts hs xs
     → EachPasses positions_are_declared before xs
 declared-in c known n before [] [] [] a = tt
 declared-in c known n before [] [] (x ∷ xs) a = absurd a

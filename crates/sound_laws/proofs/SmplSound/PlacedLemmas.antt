@@ -1,6 +1,7 @@
 -- The tokens of a rule's patterns: they are numbered from 0, those that are metavariables are declared, and there are no more
 -- of them than the lines have.
-use Rattle.std.proofs.Common.{◌≡◌, ℕ, suc, ◌+◌, ◌<◌, ◌≤◌, ◌==◌, Bool, true, false, ◌&&◌, not, refl, sym, ap, ◌∙◌, subst, arith, true≢false, List, [], ◌∷◌, ◌++◌, length, Option, Some, None, if◌then◌else◌, nat_lt}
+use Rattle.std.proofs.Common.{◌≡◌, ℕ, suc, ◌+◌, ◌<◌, ◌≤◌, ◌==◌, Bool, true, false, ◌&&◌, not, refl, sym, ap, ◌∙◌, subst, arith}
+use Rattle.std.proofs.Common.{true≢false, List, [], ◌∷◌, ◌++◌, length, Option, Some, None, if◌then◌else◌, nat_lt}
 use Rattle.std.specs.List.{list_all}
 use Rattle.std.specs.Str.{bytes_eq}
 use Rattle.std.proofs.lemmas.List.{length-append}
@@ -41,10 +42,12 @@ kind_is : (q : VarKind) (k : MetaKind) → (elim q as (λ q. Option MetaKind) [ 
 kind_is (Meta m) k e = let same : m ≡ k = cc in ap (λ (x : MetaKind). same_kind (Meta x) (Meta k)) same ∙ same_meta k
 kind_is Position k e = let no : ⊥ = cc in absurd no
 
-named_by : (d : VarDecl) (ds : List VarDecl) (name : List ℕ) (k : MetaKind) (b : Bool) → bytes_eq d.var.name name ≡ b → meta_of (if b then Some d else var_named name ds) ≡ Some k
+named_by : (d : VarDecl) (ds : List VarDecl) (name : List ℕ) (k : MetaKind) (b : Bool) → bytes_eq d.var.name name ≡ b
+    → meta_of (if b then Some d else var_named name ds) ≡ Some k
     → (meta_of (var_named name ds) ≡ Some k → declares_name ds name k ≡ true) → declares_name (d ∷ ds) name k ≡ true
 named_by d ds name k true is e more =
-    or-left (bytes_eq d.var.name name && same_kind d.kind (Meta k)) (declares_name ds name k) (both-true (bytes_eq d.var.name name) (same_kind d.kind (Meta k)) is (kind_is d.kind k e))
+    or-left (bytes_eq d.var.name name && same_kind d.kind (Meta k)) (declares_name ds name k)
+    (both-true (bytes_eq d.var.name name) (same_kind d.kind (Meta k)) is (kind_is d.kind k e))
 named_by d ds name k false is e more = or-right (bytes_eq d.var.name name && same_kind d.kind (Meta k)) (declares_name ds name k) (more e)
 
 named_declared : (ds : List VarDecl) (name : List ℕ) (k : MetaKind) → meta_of (var_named name ds) ≡ Some k → declares_name ds name k ≡ true
@@ -56,11 +59,13 @@ raw_declared vars (token.Meta k) text h = absurd (true≢false (sym h))
 raw_declared vars _ text h = refl
 
 module _ (vars : List VarDecl) where
-  pub meta_by : (t : PatchToken) (k : MetaKind) (b : Bool) → (if b then meta_of (var_named t.token.text vars) else None) ≡ Some k → declares_name vars t.token.text k ≡ true
+  pub meta_by : (t : PatchToken) (k : MetaKind) (b : Bool)
+      → (if b then meta_of (var_named t.token.text vars) else None) ≡ Some k → declares_name vars t.token.text k ≡ true
   meta_by t k true e = named_declared vars t.token.text k e
   meta_by t k false e = let no : ⊥ = cc in absurd no
 
-  made_by : (t : PatchToken) (o : Option MetaKind) → declared_meta vars t ≡ o → not (is_meta t.token.kind) ≡ true → is_declared vars (kind_by o t.token.kind) t.token.text ≡ true
+  made_by : (t : PatchToken) (o : Option MetaKind) → declared_meta vars t ≡ o → not (is_meta t.token.kind) ≡ true
+      → is_declared vars (kind_by o t.token.kind) t.token.text ≡ true
   made_by t None e h = raw_declared vars t.token.kind t.token.text h
   made_by t (Some k) e h = meta_by t k (is_name t) e
 
@@ -81,7 +86,8 @@ module _ (vars : List VarDecl) where
   count_last n [] p c e = (omega (arith, e), tt)
   count_last n (q ∷ ps) p c e = (c.0, count_last (suc n) ps p c.1 (omega (arith, e)))
 
-  known_last : (ps : List Placed) (p : Placed) → list_all IsDeclared (tokens_of ps) ≡ true → IsDeclared p.token ≡ true → list_all IsDeclared (tokens_of (ps ++ p ∷ [])) ≡ true
+  known_last : (ps : List Placed) (p : Placed) → list_all IsDeclared (tokens_of ps) ≡ true → IsDeclared p.token ≡ true
+      → list_all IsDeclared (tokens_of (ps ++ p ∷ [])) ≡ true
   known_last [] p k h = both-true (IsDeclared p.token) true h refl
   known_last (q ∷ ps) p k h =
       both-true (IsDeclared q.token) (list_all IsDeclared (tokens_of (ps ++ p ∷ []))) (front-true (IsDeclared q.token) (list_all IsDeclared (tokens_of ps)) k)
@@ -112,7 +118,12 @@ module _ (vars : List VarDecl) where
   long_position v (p ∷ q ∷ ps) = ap suc (long_position v (q ∷ ps))
 
   put_position : (n : ℕ) (v : Variable) (out : List Placed) → Put n out → Put (suc (suc n)) (with_position v out)
-  put_position n v out p = record { count = count_position v 0 out p.count; known = ap (list_all IsDeclared) (known_position v out) ∙ p.known; short = omega (arith, p.short, long_position v out) }
+  put_position n v out p = record {
+    count = count_position v 0 out p.count;
+    known =
+        ap (list_all IsDeclared) (known_position v out) ∙ p.known;
+    short = omega (arith, p.short, long_position v out);
+  }
 
   more_put : (n m : ℕ) (ps : List Placed) → n ≤ m → Put n ps → Put m ps
   more_put n m ps h p = record { count = p.count; known = p.known; short = omega (arith, p.short, h) }
@@ -120,24 +131,32 @@ module _ (vars : List VarDecl) where
   as_put : (n m : ℕ) (ps : List Placed) → n ≡ m → Put n ps → Put m ps
   as_put n m ps e p = subst (λ (k : ℕ). Put k ps) e p
 
-  tokens_put : (sign line n : ℕ) (out : List Placed) (ts : List PatchToken) → unmarked ts ≡ true → Put n out → Put (n + length ts) (put_tokens vars sign line out ts)
+  tokens_put : (sign line n : ℕ) (out : List Placed) (ts : List PatchToken) → unmarked ts ≡ true → Put n out
+      → Put (n + length ts) (put_tokens vars sign line out ts)
   tokens_put sign line n out [] h p = as_put n (n + 0) out (omega arith) p
-  tokens_put sign line n out (t ∷ []) h p = as_put (suc n) (n + 1) _ (omega arith) (put_more sign line n out t (front-true (not (is_meta t.token.kind)) true h) p)
+  tokens_put sign line n out (t ∷ []) h p =
+      as_put (suc n) (n + 1) _ (omega arith) (put_more sign line n out t (front-true (not (is_meta t.token.kind)) true h) p)
   tokens_put sign line n out (t ∷ u ∷ ts) h p =
       let ht = front-true (not (is_meta t.token.kind)) (unmarked (u ∷ ts)) h in
       let rest = back-true (not (is_meta t.token.kind)) (unmarked (u ∷ ts)) h in
       by (at_position vars out t u)
       (λ v. as_put (suc (suc n) + length ts) (n + suc (suc (length ts))) _ (omega arith)
       (tokens_put sign line (suc (suc n)) (with_position v out) ts (back-true (not (is_meta u.token.kind)) (unmarked ts) rest) (put_position n v out p)))
-      (as_put (suc n + suc (length ts)) (n + suc (suc (length ts))) _ (omega arith) (tokens_put sign line (suc n) (put vars sign line out t) (u ∷ ts) rest (put_more sign line n out t ht p)))
+      (as_put (suc n + suc (length ts)) (n + suc (suc (length ts))) _ (omega arith)
+      (tokens_put sign line (suc n) (put vars sign line out t) (u ∷ ts) rest (put_more sign line n out t ht p)))
     where
       by : (o : Option Variable) → ((v : Variable) → Put (n + suc (suc (length ts))) (put_tokens vars sign line (with_position v out) ts))
           → Put (n + suc (suc (length ts))) (put_tokens vars sign line (put vars sign line out t) (u ∷ ts))
-          → Put (n + suc (suc (length ts))) (elim o as (λ q. List Placed) [ Some v ↦ put_tokens vars sign line (with_position v out) ts | None ↦ put_tokens vars sign line (put vars sign line out t) (u ∷ ts) ])
+          → Put (n + suc (suc (length ts))) (elim o as (λ q. List Placed) [
+            | Some v ↦
+                put_tokens vars sign line (with_position v out) ts
+            | None ↦ put_tokens vars sign line (put vars sign line out t) (u ∷ ts)
+          ])
       by None two one = one
       by (Some v) two one = two v
 
-  line_put : (sign line n : ℕ) (out : List Placed) (ts : List PatchToken) (b : Bool) → unmarked ts ≡ true → Put n out → Put (n + length ts) (if b then out else put_tokens vars sign line out ts)
+  line_put : (sign line n : ℕ) (out : List Placed) (ts : List PatchToken) (b : Bool) → unmarked ts ≡ true → Put n out
+      → Put (n + length ts) (if b then out else put_tokens vars sign line out ts)
   line_put sign line n out ts true h p = more_put n (n + length ts) out (omega arith) p
   line_put sign line n out ts false h p = tokens_put sign line n out ts h p
 
@@ -153,7 +172,8 @@ module _ (vars : List VarDecl) where
     pub short : length ps ≤ tokens_in ls
 
   pub are_placed : (ls : List BodyLine) → AllLines Unmarked ls → ArePlaced ls (pattern_tokens vars ls)
-  are_placed ls h = let p = lines_put 0 0 [] ls h (record { count = tt; known = refl; short = omega arith }) in record { count = p.count; known = p.known; short = omega (arith, p.short) }
+  are_placed ls h = let p = lines_put 0 0 [] ls h (record { count = tt; known = refl; short = omega arith }) in
+      record { count = p.count; known = p.known; short = omega (arith, p.short) }
 
   -- each has a number below so many, too
   numbered : (n m : ℕ) (ps : List Placed) → CountFrom n ps → n + length ps ≤ m → list_all IsDeclared (tokens_of ps) ≡ true
@@ -168,5 +188,6 @@ module _ (vars : List VarDecl) where
       lower : (a b : ℕ) → a < b → nat_lt a b ≡ true
       lower a b h = grind (arith, nat_tests)
 
-  pub all_numbered : (m : ℕ) (ls : List BodyLine) (ps : List Placed) → ArePlaced ls ps → length ps ≤ m → list_all (λ (t : Token). nat_lt t.id m && is_declared vars t.kind t.text) (tokens_of ps) ≡ true
+  pub all_numbered : (m : ℕ) (ls : List BodyLine) (ps : List Placed) → ArePlaced ls ps → length ps ≤ m
+      → list_all (λ (t : Token). nat_lt t.id m && is_declared vars t.kind t.text) (tokens_of ps) ≡ true
   all_numbered m ls ps a le = numbered 0 m ps a.count (omega (arith, le)) a.known

@@ -1,5 +1,6 @@
 -- Properties of each block of plus code, whichever token it is attached to.
-use Rattle.std.proofs.Common.{◌≡◌, ℕ, suc, zero, ◌+◌, ◌≤◌, ◌==◌, Bool, true, false, ◌&&◌, refl, ap, ◌∙◌, subst, arith, List, [], ◌∷◌, ◌++◌, map, length, Option, Some, None, if◌then◌else◌}
+use Rattle.std.proofs.Common.{◌≡◌, ℕ, suc, zero, ◌+◌, ◌≤◌, ◌==◌, Bool, true, false, ◌&&◌, refl, ap, ◌∙◌, subst, arith, List, []}
+use Rattle.std.proofs.Common.{◌∷◌, ◌++◌, map, length, Option, Some, None, if◌then◌else◌}
 use Rattle.std.specs.List.{list_all}
 use Rattle.std.proofs.lemmas.List.{length-append}
 use Rattle.smpl_patch.specs.declared.pattern.VarDecl.{VarDecl}
@@ -72,15 +73,18 @@ module _ (P : BodyLine → Type 0) where
   line_gathered ps n line b l h g = by (l.sign == 43) h (has_tokens ps line)
     where
       by : (x : Bool) → (x ≡ true → P l) → (y : Bool)
-          → Gathered (suc n) (if x then record { whole = b.whole; last = Some (with_plus b.last line l) } else (if y then record { whole = b.whole ++ ended b.last; last = None } else b))
+          → Gathered (suc n) (if x then record { whole = b.whole; last = Some (with_plus b.last line l) } else
+          (if y then record { whole = b.whole ++ ended b.last; last = None } else b))
       by true k y = record { whole = more_have n (suc n) b.whole (omega arith) g.whole; last = plus_has n line b.last l g.last (k refl) }
       by false k true = record { whole = more_have n (suc n) (b.whole ++ ended b.last) (omega arith) (ended_have n b.whole b.last g.whole g.last); last = tt }
       by false k false = record { whole = more_have n (suc n) b.whole (omega arith) g.whole; last = more_last n (suc n) b.last (omega arith) g.last }
 
-  lines_gathered : (ps : List Placed) (n line : ℕ) (b : Blocks) (ls : List BodyLine) → AllLines (WhenPlus P) ls → Gathered n b → Gathered (n + length ls) (put_lines ps line b ls)
+  lines_gathered : (ps : List Placed) (n line : ℕ) (b : Blocks) (ls : List BodyLine) → AllLines (WhenPlus P) ls → Gathered n b
+      → Gathered (n + length ls) (put_lines ps line b ls)
   lines_gathered ps n line b [] a g = subst (λ (m : ℕ). Gathered m b) (omega arith) g
   lines_gathered ps n line b (l ∷ ls) a g =
-      subst (λ (m : ℕ). Gathered m (put_lines ps line b (l ∷ ls))) (omega arith) (lines_gathered ps (suc n) (suc line) (put_line ps line b l) ls a.1 (line_gathered ps n line b l a.0 g))
+      subst (λ (m : ℕ). Gathered m (put_lines ps line b (l ∷ ls))) (omega arith)
+      (lines_gathered ps (suc n) (suc line) (put_line ps line b l) ls a.1 (line_gathered ps n line b l a.0 g))
 
   blocks_have : (ps : List Placed) (ls : List BodyLine) → AllLines (WhenPlus P) ls → AllHave (0 + length ls) (blocks_of ps ls)
   blocks_have ps ls a =
@@ -89,7 +93,8 @@ module _ (P : BodyLine → Type 0) where
 
   -- ---- at tokens
 
-  module _ (vars : List VarDecl) (ok : PlusBlock → Bool) (n : ℕ) (gives : (b : Block) (c : PlusBlock) → ArePlusLines vars b.lines c.lines → AllLines P b.lines → length b.lines ≤ n → ok c ≡ true) where
+  module _ (vars : List VarDecl) (ok : PlusBlock → Bool) (n : ℕ) (gives : (b : Block) (c : PlusBlock)
+      → ArePlusLines vars b.lines c.lines → AllLines P b.lines → length b.lines ≤ n → ok c ≡ true) where
     abbrev AllPass : List PatToken → Type 0
     AllPass [] = Unit {0}
     AllPass (t ∷ ts) = (at_token ok t ≡ true) × AllPass ts
@@ -98,7 +103,8 @@ module _ (P : BodyLine → Type 0) where
     bare_pass [] = tt
     bare_pass (p ∷ ps) = (refl, bare_pass ps)
 
-    changed_pass : (f : PatToken → PatToken) → ((t : PatToken) → at_token ok t ≡ true → at_token ok (f t) ≡ true) → (k : ℕ) (ts : List PatToken) → AllPass ts → AllPass (changed f k ts)
+    changed_pass : (f : PatToken → PatToken) → ((t : PatToken) → at_token ok t ≡ true → at_token ok (f t) ≡ true)
+        → (k : ℕ) (ts : List PatToken) → AllPass ts → AllPass (changed f k ts)
     changed_pass f keeps k [] a = tt
     changed_pass f keeps zero (t ∷ ts) a = (keeps t a.0, a.1)
     changed_pass f keeps (suc k) (t ∷ ts) a = (a.0, changed_pass f keeps k ts a.1)
@@ -114,7 +120,8 @@ module _ (P : BodyLine → Type 0) where
     block_pass ts (Some (Before k)) c h a = changed_pass (with_before c) (before_pass c h) k ts a
     block_pass ts (Some (After k)) c h a = changed_pass (with_after c) (after_pass c h) k ts a
 
-    blocks_pass : (ps : List Placed) (ts : List PatToken) (bs : List Block) (cs : List PlusBlock) → ArePlusBlocks vars bs cs → AllHave n bs → AllPass ts → AllPass (with_blocks ps ts bs cs)
+    blocks_pass : (ps : List Placed) (ts : List PatToken) (bs : List Block) (cs : List PlusBlock) → ArePlusBlocks vars bs cs
+        → AllHave n bs → AllPass ts → AllPass (with_blocks ps ts bs cs)
     blocks_pass ps ts [] cs a h l = l
     blocks_pass ps ts (b ∷ bs) [] a h l = l
     blocks_pass ps ts (b ∷ bs) (c ∷ cs) a h l =
@@ -125,8 +132,10 @@ module _ (P : BodyLine → Type 0) where
     every_pass (t ∷ ts) a = both-true (at_token ok t) (list_all (at_token ok) ts) a.0 (every_pass ts a.1)
 
     -- each block that stands at a token passes the test
-    pub anchored_pass : (rule : ℕ) (body : List BodyLine) (tokens : List PatToken) → AreAnchored vars rule body tokens → AllLines (WhenPlus P) body → length body ≤ n → list_all (at_token ok) tokens ≡ true
+    pub anchored_pass : (rule : ℕ) (body : List BodyLine) (tokens : List PatToken) → AreAnchored vars rule body tokens
+        → AllLines (WhenPlus P) body → length body ≤ n → list_all (at_token ok) tokens ≡ true
     anchored_pass rule body tokens a h le =
         let ps = pattern_tokens vars body in
         let have = more_have (0 + length body) n (blocks_of ps body) (omega (arith, le)) (blocks_have ps body h) in
-        ap (list_all (at_token ok)) a.are ∙ every_pass (with_blocks ps (map bare ps) (blocks_of ps body) a.blocks) (blocks_pass ps (map bare ps) (blocks_of ps body) a.blocks a.lines have (bare_pass ps))
+        ap (list_all (at_token ok)) a.are ∙ every_pass (with_blocks ps (map bare ps) (blocks_of ps body) a.blocks)
+        (blocks_pass ps (map bare ps) (blocks_of ps body) a.blocks a.lines have (bare_pass ps))

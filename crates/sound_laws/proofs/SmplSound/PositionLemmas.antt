@@ -1,5 +1,6 @@
 -- The positions at the tokens of patterns are declared.
-use Rattle.std.proofs.Common.{◌≡◌, ℕ, suc, ◌==◌, Bool, true, false, ◌&&◌, ◌||◌, refl, sym, ap, ◌∙◌, true≢false, List, [], ◌∷◌, ◌++◌, length, map, Option, Some, None, if◌then◌else◌}
+use Rattle.std.proofs.Common.{◌≡◌, ℕ, suc, ◌==◌, Bool, true, false, ◌&&◌, ◌||◌, refl, sym, ap, ◌∙◌, true≢false, List, [], ◌∷◌}
+use Rattle.std.proofs.Common.{◌++◌, length, map, Option, Some, None, if◌then◌else◌}
 use Rattle.std.specs.List.{list_all}
 use Rattle.std.specs.Str.{bytes_eq}
 use Rattle.smpl_terms.specs.declared.var.Var.{Var as Variable}
@@ -53,7 +54,8 @@ module _ (vars : List VarDecl) where
   AllPlaced [] = Unit {0}
   AllPlaced (p ∷ ps) = AllAt p.positions × AllPlaced ps
 
-  behind-by : (t : PatchToken) (v : Variable) (b : Bool) → (if b then position_of (var_named t.token.text vars) else None) ≡ Some v → declares vars v Position ≡ true
+  behind-by : (t : PatchToken) (v : Variable) (b : Bool)
+      → (if b then position_of (var_named t.token.text vars) else None) ≡ Some v → declares vars v Position ≡ true
   behind-by t v true e = found vars t.token.text v e
   behind-by t v false e = absurd (cc)
 
@@ -101,11 +103,16 @@ module _ (vars : List VarDecl) where
       by : (o : Option Variable) → at_position vars out t n ≡ o
           → ((v : Variable) → declares vars v Position ≡ true → AllPlaced (put_tokens vars sign line (with_position v out) ts))
           → AllPlaced (put_tokens vars sign line (put vars sign line out t) (n ∷ ts))
-          → AllPlaced (elim o as (λ q. List Placed) [ Some v ↦ put_tokens vars sign line (with_position v out) ts | None ↦ put_tokens vars sign line (put vars sign line out t) (n ∷ ts) ])
+          → AllPlaced (elim o as (λ q. List Placed) [
+            | Some v ↦ put_tokens vars sign line (with_position v out) ts
+            | None ↦
+                put_tokens vars sign line (put vars sign line out t) (n ∷ ts)
+          ])
       by None e two one = one
       by (Some v) e two one = two v (at-declared out t n v e)
 
-  line-by : (sign line : ℕ) (out : List Placed) (ts : List PatchToken) (b : Bool) → AllPlaced out → AllPlaced (if b then out else put_tokens vars sign line out ts)
+  line-by : (sign line : ℕ) (out : List Placed) (ts : List PatchToken) (b : Bool) → AllPlaced out
+      → AllPlaced (if b then out else put_tokens vars sign line out ts)
   line-by sign line out ts true a = a
   line-by sign line out ts false a = tokens-placed sign line out ts a
 
@@ -125,6 +132,7 @@ module _ (vars : List VarDecl) where
       both-true (list_all (λ x. declares vars x Position) t.positions) (list_all (λ (u : PatToken). list_all (λ x. declares vars x Position) u.positions) ts)
       (ap (list_all (λ x. declares vars x Position)) here ∙ a.0) (same-positions ts ps there a.1)
 
-  pub positions-declared : (ls : List BodyLine) (ts : List PatToken) → map (λ (t : PatToken). t.positions) ts ≡ map (λ (p : Placed). p.positions) (pattern_tokens vars ls)
+  pub positions-declared : (ls : List BodyLine) (ts : List PatToken)
+      → map (λ (t : PatToken). t.positions) ts ≡ map (λ (p : Placed). p.positions) (pattern_tokens vars ls)
       → list_all (λ (t : PatToken). list_all (λ x. declares vars x Position) t.positions) ts ≡ true
   positions-declared ls ts e = same-positions ts (pattern_tokens vars ls) e (lines-placed 0 [] ls tt)

@@ -1,5 +1,6 @@
 -- Patches that are spelled have the parts of soundness that their bodies give.
-use Rattle.std.proofs.Common.{◌≡◌, ℕ, suc, ◌<◌, ◌≤◌, nat_lt, nat_eq, Bool, true, ◌&&◌, refl, ap, ◌∙◌, List, [], ◌∷◌, ◌++◌, length, arith, map, Option, Some, None}
+use Rattle.std.proofs.Common.{◌≡◌, ℕ, suc, ◌<◌, ◌≤◌, nat_lt, nat_eq, Bool, true, ◌&&◌, refl, ap, ◌∙◌, List, [], ◌∷◌, ◌++◌}
+use Rattle.std.proofs.Common.{length, arith, map, Option, Some, None}
 use Rattle.std.specs.Prelude.{All}
 use Rattle.std.specs.List.{list_all}
 use Rattle.std.proofs.lemmas.List.Elements.{All-head, All-tail}
@@ -59,10 +60,14 @@ abbrev pub SmallLaw : Type 0
 SmallLaw = (bytes : List ℕ) (text : PatchText) → IsTextOf bytes text → IsSmall text
 
 abbrev Gives : (Rule → Type 0) → Type 0
-Gives Q = (known : List Variable) (n : ℕ) (t : RuleText) (h : RuleHead) (x : Rule) (earlier : List RuleHead) → IsRule known n t h x → h.vars ≡ vars_of earlier n t.decls → OfText t → Q x
+Gives Q = (known : List Variable) (n : ℕ) (t : RuleText) (h : RuleHead) (x : Rule) (earlier : List RuleHead)
+    → IsRule known n t h x → h.vars ≡ vars_of earlier n t.decls → OfText t → Q x
 
-each-has : (Q : Rule → Type 0) → Gives Q → (text : PatchText) (known : List Variable) (n : ℕ) (earlier : List RuleHead) (ts : List RuleText) (hs : List RuleHead) (xs : List Rule) → length earlier ≡ n
-    → AreRules known n ts hs xs → AreHeads text earlier ts hs → AllFew most_bytes ts → AllBodies Unmarked ts → AllBodies (WhenPlus Whole) ts → All IsSmallRule ts → EachHas Q xs
+each-has : (Q : Rule → Type 0) → Gives Q
+    → (text : PatchText) (known : List Variable) (n : ℕ) (earlier : List RuleHead) (ts : List RuleText) (hs : List RuleHead)
+    (xs : List Rule) → length earlier ≡ n
+    → AreRules known n ts hs xs → AreHeads text earlier ts hs → AllFew most_bytes ts → AllBodies Unmarked ts
+    → AllBodies (WhenPlus Whole) ts → All IsSmallRule ts → EachHas Q xs
 each-has Q gives text known n earlier [] [] [] e a are few lines whole small = tt
 each-has Q gives text known n earlier [] [] (x ∷ xs) e a are few lines whole small = absurd a
 each-has Q gives text known n earlier [] (h ∷ hs) xs e a are few lines whole small = absurd are
@@ -71,13 +76,15 @@ each-has Q gives text known n earlier (t ∷ ts) (h ∷ hs) [] e a are few lines
 each-has Q gives text known n earlier (t ∷ ts) (h ∷ hs) (x ∷ xs) e a are few lines whole small =
     let vars : h.vars ≡ vars_of earlier n t.decls = are.0.vars ∙ ap (λ (m : ℕ). vars_of earlier m t.decls) e in (
       gives known n t h x earlier a.0 vars (record { few = few.0; lines = lines.0; whole = whole.0; short = (All-head IsSmallRule t ts small).lines }),
-      each-has Q gives text known (suc n) (earlier ++ h ∷ []) ts hs xs (omega (arith, e, length-append earlier (h ∷ []))) a.1 are.1 few.1 lines.1 whole.1 (All-tail IsSmallRule t ts small),
+      each-has Q gives text known (suc n) (earlier ++ h ∷ []) ts hs xs
+          (omega (arith, e, length-append earlier (h ∷ []))) a.1 are.1 few.1 lines.1 whole.1 (All-tail IsSmallRule t ts small),
     )
 
 pub patch-has : (Q : Rule → Type 0) → Gives Q → SmallLaw → (bytes : List ℕ) (patch : Patch) → IsSpelled bytes patch → EachHas Q patch.rules
 patch-has Q gives small bytes patch s =
     each-has Q gives s.text (taken s.heads) 0 [] s.text.rules s.heads patch.rules refl s.are_rules.rules s.are_heads (text_few bytes s.text s.is_text).rules
-    (text_holds Unmarked gives_unmarked bytes s.text s.is_text) (text_holds (WhenPlus Whole) gives_whole bytes s.text s.is_text) (small bytes s.text s.is_text).each
+    (text_holds Unmarked gives_unmarked bytes s.text s.is_text) (text_holds (WhenPlus Whole) gives_whole bytes s.text s.is_text)
+    (small bytes s.text s.is_text).each
 
 -- a test that does not look at the rules before
 pub as-passes : (test : Rule → Bool) (before rules : List Rule) → EachHas (λ r. test r ≡ true) rules → EachPasses (λ earlier r. test r) before rules
@@ -98,19 +105,23 @@ module _ (known : List Variable) (n : ℕ) (t : RuleText) (h : RuleHead) (x : Ru
 
   pub as-long : KeepPositions → length ps ≡ length x.tokens
   as-long keep =
-      let same : length (map (λ (u : PatToken). u.positions) x.tokens) ≡ length (map (λ (p : Placed). p.positions) ps) = ap length (keep h.vars n t.body x.tokens made.tokens) in
+      let same : length (map (λ (u : PatToken). u.positions) x.tokens) ≡ length (map (λ (p : Placed). p.positions) ps) =
+      ap length (keep h.vars n t.body x.tokens made.tokens) in
       omega (arith, same, length-map x.tokens (λ (u : PatToken). u.positions), length-map ps (λ (p : Placed). p.positions))
 
 abbrev pub FormedLaw : Type 0
 FormedLaw = (ps : List Placed) (es : List Elem) → length ps < 2147483648 → IsBody ps es → is_formed_body (plain es) ≡ true
 
-pub patch-formed : FormedLaw → SmallLaw → (bytes : List ℕ) (patch : Patch) → IsSpelled bytes patch → EachPasses (λ earlier r. is_formed_body (plain r.body)) [] patch.rules
+pub patch-formed : FormedLaw → SmallLaw → (bytes : List ℕ) (patch : Patch) → IsSpelled bytes patch
+    → EachPasses (λ earlier r. is_formed_body (plain r.body)) [] patch.rules
 patch-formed law small bytes patch s =
     as-passes (λ r. is_formed_body (plain r.body)) [] patch.rules
-    (patch-has (λ r. is_formed_body (plain r.body) ≡ true) (λ known n t h x earlier made vars of. law (ps known n t h x made of) x.body (short known n t h x made of) made.body) small bytes patch s)
+    (patch-has (λ r. is_formed_body (plain r.body) ≡ true)
+    (λ known n t h x earlier made vars of. law (ps known n t h x made of) x.body (short known n t h x made of) made.body) small bytes patch s)
 
 abbrev pub AtomsLaw : Type 0
-AtomsLaw = (ps : List Placed) (es : List Elem) → CountFrom 0 ps → IsBody ps es → none_alike (λ (p q : Pattern). nat_eq p.atom q.atom) (patterns_body (plain es)) ≡ true
+AtomsLaw = (ps : List Placed) (es : List Elem) → CountFrom 0 ps → IsBody ps es
+    → none_alike (λ (p q : Pattern). nat_eq p.atom q.atom) (patterns_body (plain es)) ≡ true
 
 pub patch-atoms : AtomsLaw → SmallLaw → (bytes : List ℕ) (patch : Patch) → IsSpelled bytes patch
     → EachPasses (λ earlier r. none_alike (λ (p q : Pattern). nat_eq p.atom q.atom) (patterns_body (plain r.body))) [] patch.rules
@@ -136,12 +147,15 @@ pub patch-patterns : PatternsLaw → KeepPositions → SmallLaw → (bytes : Lis
     → EachPasses (λ earlier r. list_all (is_sound_pattern r.vars r.tokens) (patterns_body (plain r.body))) [] patch.rules
 patch-patterns law keep small bytes patch s =
     as-passes (λ r. list_all (is_sound_pattern r.vars r.tokens) (patterns_body (plain r.body))) [] patch.rules
-    (patch-has (λ r. list_all (is_sound_pattern r.vars r.tokens) (patterns_body (plain r.body)) ≡ true) (λ known n t h x earlier made vars of. rule-patterns law keep known n t h x made of) small bytes patch s)
+    (patch-has (λ r. list_all (is_sound_pattern r.vars r.tokens) (patterns_body (plain r.body)) ≡ true)
+    (λ known n t h x earlier made vars of. rule-patterns law keep known n t h x made of) small bytes patch s)
 
 abbrev pub SureLaw : Type 0
-SureLaw = (decls : List VarDecl) (tokens : List PatToken) (ps : List Placed) (es : List Elem) → length ps < 2147483648 → IsBody ps es → AllStand decls tokens (patterns_body (plain es))
+SureLaw = (decls : List VarDecl) (tokens : List PatToken) (ps : List Placed) (es : List Elem) → length ps < 2147483648
+    → IsBody ps es → AllStand decls tokens (patterns_body (plain es))
 
-pub patch-sure : SureLaw → SmallLaw → (bytes : List ℕ) (patch : Patch) → IsSpelled bytes patch → EachHas (λ r. AllStand r.vars r.tokens (patterns_body (plain r.body))) patch.rules
+pub patch-sure : SureLaw → SmallLaw → (bytes : List ℕ) (patch : Patch) → IsSpelled bytes patch
+    → EachHas (λ r. AllStand r.vars r.tokens (patterns_body (plain r.body))) patch.rules
 patch-sure law small bytes patch s =
     patch-has (λ r. AllStand r.vars r.tokens (patterns_body (plain r.body)))
     (λ known n t h x earlier made vars of. law x.vars x.tokens (ps known n t h x made of) x.body (short known n t h x made of) made.body) small bytes patch s
@@ -156,15 +170,19 @@ all-as : (vars : List VarDecl) (us : List PatToken) → list_all (whole_token va
 all-as vars [] = refl
 all-as vars (u ∷ us) = (λ i. (block-as vars u.before i && block-as vars u.after i) && all-as vars us i)
 
-rule-whole : (known : List Variable) (n : ℕ) (t : RuleText) (h : RuleHead) (x : Rule) → IsRule known n t h x → OfText t → list_all (whole_token x.vars) x.tokens ≡ true
+rule-whole : (known : List Variable) (n : ℕ) (t : RuleText) (h : RuleHead) (x : Rule) → IsRule known n t h x → OfText t
+    → list_all (whole_token x.vars) x.tokens ≡ true
 rule-whole known n t h x made of =
     ap (λ (ds : List VarDecl). list_all (whole_token ds) x.tokens) made.vars
-    ∙ (all-as h.vars x.tokens ∙ anchored_pass Whole h.vars (block_whole h.vars) (length t.body) (block_is_whole h.vars (length t.body)) n t.body x.tokens made.tokens of.whole (omega arith))
+    ∙ (all-as h.vars x.tokens ∙ anchored_pass Whole h.vars (block_whole h.vars) (length t.body)
+    (block_is_whole h.vars (length t.body)) n t.body x.tokens made.tokens of.whole (omega arith))
 
-pub patch-whole : SmallLaw → (bytes : List ℕ) (patch : Patch) → IsSpelled bytes patch → EachPasses (λ earlier r. list_all (whole_token r.vars) r.tokens) [] patch.rules
+pub patch-whole : SmallLaw → (bytes : List ℕ) (patch : Patch) → IsSpelled bytes patch
+    → EachPasses (λ earlier r. list_all (whole_token r.vars) r.tokens) [] patch.rules
 patch-whole small bytes patch s =
     as-passes (λ r. list_all (whole_token r.vars) r.tokens) [] patch.rules
-    (patch-has (λ r. list_all (whole_token r.vars) r.tokens ≡ true) (λ known n t h x earlier made vars of. rule-whole known n t h x made of) small bytes patch s)
+    (patch-has (λ r. list_all (whole_token r.vars) r.tokens ≡ true)
+    (λ known n t h x earlier made vars of. rule-whole known n t h x made of) small bytes patch s)
 
 -- ---- gaps
 
@@ -176,11 +194,14 @@ all-gaps : (us : List PatToken) → list_all gaps_token us ≡ list_all (at_toke
 all-gaps [] = refl
 all-gaps (u ∷ us) = (λ i. (gaps-as u.before i && gaps-as u.after i) && all-gaps us i)
 
-rule-gaps : BlankLaw → (known : List Variable) (n : ℕ) (t : RuleText) (h : RuleHead) (x : Rule) → IsRule known n t h x → OfText t → list_all gaps_token x.tokens ≡ true
+rule-gaps : BlankLaw → (known : List Variable) (n : ℕ) (t : RuleText) (h : RuleHead) (x : Rule) → IsRule known n t h x
+    → OfText t → list_all gaps_token x.tokens ≡ true
 rule-gaps law known n t h x made of =
-    all-gaps x.tokens ∙ anchored_pass Whole h.vars block_gaps (length t.body) (gaps_blank law h.vars Whole (length t.body)) n t.body x.tokens made.tokens of.whole (omega arith)
+    all-gaps x.tokens ∙ anchored_pass Whole h.vars block_gaps (length t.body)
+    (gaps_blank law h.vars Whole (length t.body)) n t.body x.tokens made.tokens of.whole (omega arith)
 
-pub patch-gaps : BlankLaw → SmallLaw → (bytes : List ℕ) (patch : Patch) → IsSpelled bytes patch → EachPasses (λ earlier r. list_all gaps_token r.tokens) [] patch.rules
+pub patch-gaps : BlankLaw → SmallLaw → (bytes : List ℕ) (patch : Patch) → IsSpelled bytes patch
+    → EachPasses (λ earlier r. list_all gaps_token r.tokens) [] patch.rules
 patch-gaps law small bytes patch s =
     as-passes (λ r. list_all gaps_token r.tokens) [] patch.rules
     (patch-has (λ r. list_all gaps_token r.tokens ≡ true) (λ known n t h x earlier made vars of. rule-gaps law known n t h x made of) small bytes patch s)

@@ -1,7 +1,8 @@
 -- A text has no more tokens than it has bytes: in its `virtual` lines, in the declarations of a rule, and in the lines of a
 -- body.
 -- Proof: each token has at least one byte, and each byte is in one line.
-use Rattle.std.proofs.Common.{◌≡◌, ℕ, zero, suc, ◌+◌, ◌≤◌, ◌==◌, Bool, true, false, List, [], ◌∷◌, ◌++◌, length, Option, Some, None, refl, sym, subst, ap, arith, if◌then◌else◌}
+use Rattle.std.proofs.Common.{◌≡◌, ℕ, zero, suc, ◌+◌, ◌≤◌, ◌==◌, Bool, true, false, List, [], ◌∷◌, ◌++◌, length, Option, Some}
+use Rattle.std.proofs.Common.{None, refl, sym, subst, ap, arith, if◌then◌else◌}
 use Rattle.std.proofs.lemmas.List.{length-append, length-drop}
 use Rattle.c_terms.specs.declared.token.TokenKind.{TokenKind}
 use Rattle.smpl_lexer.specs.declared.piece.LineKind.{LineKind}
@@ -50,7 +51,12 @@ pieces_short signs at (p ∷ ps) cut =
 
 line_short : (c : CutLine) → IsCutLine c → length (plain_tokens c) ≤ length c.line.bytes
 line_short c is =
-    omega (arith, pieces_short (has_signs c.role c.line.bytes) (place_in c) c.pieces is.cut, ap length is.text, length-drop (skipped c.role c.line.bytes) c.line.bytes)
+    omega (
+      arith,
+      pieces_short (has_signs c.role c.line.bytes) (place_in c) c.pieces is.cut,
+      ap length is.text,
+      length-drop (skipped c.role c.line.bytes) c.line.bytes,
+    )
 
 abbrev total : List Line → ℕ
 total [] = 0
@@ -65,7 +71,8 @@ lines_total start [] = refl
 lines_total start (b ∷ bs) = by (b == newline) (lines_total (start + 1) bs)
   where
     by : (is : Bool) → total (lines_from (start + 1) bs) ≡ length bs
-        → total (if is then record { start = start; bytes = b ∷ [] } ∷ lines_from (start + 1) bs else begun start b (lines_from (start + 1) bs)) ≡ suc (length bs)
+        → total (if is then record { start = start; bytes = b ∷ [] }
+        ∷ lines_from (start + 1) bs else begun start b (lines_from (start + 1) bs)) ≡ suc (length bs)
     by true e = omega (arith, e)
     by false e = omega (arith, begun_total start b (lines_from (start + 1) bs), e)
 
@@ -201,4 +208,5 @@ pub text_few : (bytes : List ℕ) (t : PatchText) → IsTextOf bytes t → HasFe
 text_few bytes t text =
     let all : Few (0 + total (lines_from 0 bytes)) (gather nothing text.lines) =
     all_few section.Before (lines_from 0 bytes) text.lines 0 nothing text.are.cut (record { virtuals = omega arith; rules = tt; last = tt }) in
-    subst HasFewTokens (sym text.is) (finished_few (0 + total (lines_from 0 bytes)) (length bytes) (gather nothing text.lines) (omega (arith, lines_total 0 bytes, text.are.short)) all)
+    subst HasFewTokens (sym text.is) (finished_few (0 + total (lines_from 0 bytes)) (length bytes) (gather nothing text.lines)
+    (omega (arith, lines_total 0 bytes, text.are.short)) all)

@@ -1,5 +1,6 @@
 -- Files in turn have acts, and their end follows from whether they are present and refused.
-use Rattle.std.proofs.Common.{◌≡◌, ◌<◌, ◌≤◌, ◌⊎◌, ◌||◌, ℕ, Bool, true, false, Option, Some, None, List, [], ◌∷◌, ◌++◌, length, inl, inr, refl, ap, ◌∙◌, subst, arith}
+use Rattle.std.proofs.Common.{◌≡◌, ◌<◌, ◌≤◌, ◌⊎◌, ◌||◌, ℕ, Bool, true, false, Option, Some, None, List, [], ◌∷◌, ◌++◌, length}
+use Rattle.std.proofs.Common.{inl, inr, refl, ap, ◌∙◌, subst, arith}
 use Rattle.std.specs.Prelude.{IsSome}
 use Rattle.std.specs.FinMap.{get}
 use Rattle.outer_io.specs.Files.{Files, stored}
@@ -13,7 +14,7 @@ use Rattle.run_files.specs.RunLines.Files.{too_long_line}
 use Rattle.run_words.specs.declared.order.Mode.{Mode}
 use Rattle.run_files.specs.Treatment.{Treated, file_limit, Treats, TreatsFile, treated_by, refuses}
 use Rattle.run_files.specs.RunStages.Reasons.{FilesEnd, AllDone, Missing, FilesDo}
-use Rattle.text_laws.specs.ChainEnds.Weakly.{Weakly}
+use Rattle.text_laws.specs.ChainTotal.Weakly.{Weakly}
 use Rattle.spatch_run.specs.RunEnds.Fates.{AllThere, NoneRefused, SomeRefused}
 
 -- the rules have an outcome over each text
@@ -147,6 +148,7 @@ module _ (patch : Patch) (defined : List (List ℕ)) (mode : Mode) where
           (rest.1.0, (inr (some.0, (some.1.0, (treated, (inl some.1.1.1.0, (rest.0, (refl, rest.1.1.0)))))), rest.1.1.1)),
         ) in
         elim some.1.1.1.1 [
-          | inl here ↦ behind (after treated.acts old) names (refused || treated.refused) (told_after treated.acts old told) (ap (λ (b : Bool). refused || b) here ∙ or_true refused) later on
+          | inl here ↦ behind (after treated.acts old) names (refused || treated.refused) (told_after treated.acts old told)
+              (ap (λ (b : Bool). refused || b) here ∙ or_true refused) later on
           | inr more ↦ refused_do (after treated.acts old) names (refused || treated.refused) (told_after treated.acts old told) later more on
         ]

@@ -19,7 +19,7 @@ use Rattle.run_files.specs.RunStages.Stages.{patch_limit, generated_name, end_st
 use Rattle.run_files.specs.RunStages.Reasons.{PatchFound, PatchRead, IsosFound, PatchReady, Reason, files_status}
 use Rattle.run_files.specs.RunStages.Reasons.PatchReady.{plain, expanded}
 use Rattle.run_files.specs.RunStages.Reasons.Reason.{unasked, is_generated, no_patch, bad_patch, no_isos, bad_isos, many_forms, summed, filed}
-use Rattle.text_laws.specs.ChainEnds.Weakly.{Weakly}
+use Rattle.text_laws.specs.ChainTotal.Weakly.{Weakly}
 use Rattle.spatch_run.proofs.RunEnds.FileLemmas.{HaveEnds, found_some, files_do}
 
 abbrev pub PatchLaw : Type 0

@@ -51,5 +51,6 @@ module _ (read_law : ReadLaw) (expanded_law : ExpandedLaw) (words : List (List �
 
   pub is_refused : SomeRefused patch defined mode old names → (status ≡ 4) ⊎ (status ≡ 7)
   is_refused refused = one_of status 4 7 (λ absent.
-      refused_do patch defined mode (ready_ends read_law expanded_law words old patch defined (OnFiles mode names) acts ready) old names false some there refused (λ rest.
+      refused_do patch defined mode (ready_ends read_law expanded_law words old patch defined (OnFiles mode names) acts ready)
+      old names false some there refused (λ rest.
       absent (by_end rest.0 rest.1.0 (AllDone true) rest.1.1.0 rest.1.1.1)))

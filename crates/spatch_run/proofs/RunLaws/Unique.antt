@@ -1,5 +1,6 @@
 -- If the shelf reports its files, a stage leads to only one stage, and words have only one list of acts.
-use Rattle.std.proofs.Common.{◌≡◌, false, true, Bool, ◌||◌, ◌<◌, ◌≤◌, ℕ, List, [], ◌∷◌, ◌++◌, length, Option, Some, None, refl, sym, ap, ◌∙◌, subst, inl, inr, arith}
+use Rattle.std.proofs.Common.{◌≡◌, false, true, Bool, ◌||◌, ◌<◌, ◌≤◌, ℕ, List, [], ◌∷◌, ◌++◌, length, Option, Some, None, refl}
+use Rattle.std.proofs.Common.{sym, ap, ◌∙◌, subst, inl, inr, arith}
 use Rattle.std.specs.Prelude.{IsSome}
 use Rattle.outer_io.specs.Files.{Files, stored}
 use Rattle.run_acts.specs.Acts.{Act, Load, Store, Print, Report, Told, done}
@@ -18,7 +19,9 @@ use Rattle.run_words.specs.declared.order.Mode.{Mode}
 use Rattle.run_words.specs.Orders.{Target, OnFiles, OnText, order_of}
 use Rattle.run_files.specs.RunLines.Patches.{patch_fault_line, iso_fault_line, forms_line}
 use Rattle.run_files.specs.Treatment.{Treated, file_limit, Treats, TreatsFile, Sums, treated_by, summed_by}
-use Rattle.run_files.specs.RunStages.Stages.{Stage, Doing, Ending, ReadPatch, ReadIsos, EditFiles, generated_name, refusing, going, end_status, begun, TargetLeads, ReadLeads, PatchLeads, IsosLead, IsosFileLeads, FileLeads, next_act, status_at, Leads}
+use Rattle.run_files.specs.RunStages.Stages.{Stage, Doing, Ending, ReadPatch, ReadIsos, EditFiles, generated_name, refusing}
+use Rattle.run_files.specs.RunStages.Stages.{going, end_status, begun, TargetLeads, ReadLeads, PatchLeads, IsosLead}
+use Rattle.run_files.specs.RunStages.Stages.{IsosFileLeads, FileLeads, next_act, status_at, Leads}
 use Rattle.run_files.specs.RunStages.Paths.{Path, AreActs, ComesTo}
 
 pub none_some : {A : Type 0} (a : A) → None ≡ Some a → ⊥

@@ -9,7 +9,8 @@ use Rattle.run_words.specs.declared.order.Mode.{Mode}
 use Rattle.run_words.specs.Orders.{Target, OnFiles, OnText, Order, Apply, Generate, order_of}
 use Rattle.run_files.specs.RunLines.Patches.{usage, patch_fault_line, iso_fault_line, forms_line}
 use Rattle.run_files.specs.Treatment.{file_limit}
-use Rattle.run_files.specs.RunStages.Stages.{Stage, Doing, Ending, ReadIsos, EditFiles, Work, patch_limit, refusing, going, end_status, begun, TargetLeads, ReadLeads, IsosFileLeads}
+use Rattle.run_files.specs.RunStages.Stages.{Stage, Doing, Ending, ReadIsos, EditFiles, Work, patch_limit, refusing, going}
+use Rattle.run_files.specs.RunStages.Stages.{end_status, begun, TargetLeads, ReadLeads, IsosFileLeads}
 use Rattle.run_files.specs.RunStages.Paths.{Path, AreActs}
 use Rattle.run_files.specs.RunStages.Reasons.{PatchRead, IsosFound, PatchReady, FilesEnd, FilesDo, files_status, Reason}
 use Rattle.run_files.specs.RunStages.Reasons.PatchReady.{plain, expanded}

@@ -12,7 +12,9 @@ use Rattle.run_words.specs.declared.order.Mode.{Mode}
 use Rattle.run_words.specs.Orders.{Target, OnFiles, OnText, Order, Apply, Generate, order_of}
 use Rattle.run_files.specs.RunLines.Patches.{usage, patch_fault_line, iso_fault_line, forms_line}
 use Rattle.run_files.specs.Treatment.{Treated, file_limit}
-use Rattle.run_files.specs.RunStages.Stages.{Stage, Doing, Ending, ReadIsos, EditFiles, Work, patch_limit, going, end_status, begun, TargetLeads, ReadLeads, PatchLeads, IsosLead, IsosFileLeads, FileLeads, status_at}
+use Rattle.run_files.specs.RunStages.Stages.{Stage, Doing, Ending, ReadIsos, EditFiles, Work, patch_limit, going, end_status}
+use Rattle.run_files.specs.RunStages.Stages.{begun, TargetLeads, ReadLeads, PatchLeads, IsosLead, IsosFileLeads, FileLeads}
+use Rattle.run_files.specs.RunStages.Stages.{status_at}
 use Rattle.run_files.specs.RunStages.Paths.{Path, AreActs}
 use Rattle.run_files.specs.RunStages.Reasons.{PatchFound, PatchRead, IsosFound, PatchReady, FilesEnd, AllDone, Missing, FilesDo, files_status, Reason}
 use Rattle.run_files.specs.RunStages.Reasons.PatchReady.{plain, expanded}
@@ -76,7 +78,8 @@ module _ (patch : Patch) (defined : List (List ℕ)) (mode : Mode) where
       → Went old patch defined mode names refused pending acts status
 
   one_file : (old : Told) (name : List ℕ) (names : List (List ℕ)) (refused : Bool) (under : Option (List ℕ)) (mid : Stage) (acts : List Act) (last : Stage)
-      (status : ℕ) → GoesOn names last status → Found old.files name under → FileLeads old.files under patch defined mode name names refused mid → Path old mid acts last
+      (status : ℕ) → GoesOn names last status → Found old.files name under
+      → FileLeads old.files under patch defined mode name names refused mid → Path old mid acts last
       → status_at last ≡ Some status → Went old patch defined mode (name ∷ names) refused [] (Load name file_limit ∷ acts) status
   one_file old name names refused None mid acts last status rec found leads path over =
       let end_of = ending-at old mid (Report (cannot_read name) ∷ []) 5 acts last status leads path over in

@@ -8,7 +8,7 @@ ghost use Rattle.run_words.specs.Orders.{OnFiles};
 ghost use Rattle.run_files.specs.RunStages.Paths.{AreActs};
 ghost use Rattle.run_files.specs.RunStages.Promise.{EndsRightly};
 ghost use Rattle.run_files.specs.RunStages.Reasons.{PatchReady};
-ghost use Rattle.text_laws.specs.ChainEnds.Weakly.{Weakly};
+ghost use Rattle.text_laws.specs.ChainTotal.Weakly.{Weakly};
 ghost use Rattle.spatch_run.specs.RunEnds.Fates.{AllThere, NoneRefused, SomeRefused};
 
 use crate::run_laws::{acts_have_a_reason, statuses_have_a_cause};

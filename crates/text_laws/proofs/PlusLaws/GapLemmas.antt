@@ -1,7 +1,8 @@
 -- Only white space is between the tokens of a plus line.
 -- Proof: a gap is blanks, which are white space and splices; a splice contains a newline, and a line has a newline only at
 -- its end, after its last token.
-use Rattle.std.proofs.Common.{◌≡◌, ℕ, ◌≤◌, ◌==◌, Bool, true, false, refl, sym, ap, ◌∙◌, subst, true≢false, List, [], ◌∷◌, ◌++◌, drop, length, Some, if◌then◌else◌}
+use Rattle.std.proofs.Common.{◌≡◌, ℕ, ◌≤◌, ◌==◌, Bool, true, false, refl, sym, ap, ◌∙◌, subst, true≢false, List, [], ◌∷◌, ◌++◌}
+use Rattle.std.proofs.Common.{drop, length, Some, if◌then◌else◌}
 use Rattle.std.specs.List.{list_all}
 use Rattle.c_lexer.specs.declared.state.Kind.{Kind}
 use Rattle.c_lexer.specs.declared.state.Kind.TheVariants as kind
@@ -124,7 +125,8 @@ module _ (law : BlankLaw) where
   by_kind kind.Punct text blank ps is h c after g = put_gap blank (gaps_from [] ps) h c (g [] none (ready [] ps tt))
   by_kind kind.Stray text blank ps is h c after g = put_gap blank (gaps_from [] ps) h c (g [] none (ready [] ps tt))
 
-  pieces_spaced : (blank : List ℕ) (ps : List Piece) → Cut ps → IsLine (joined ps) → AreBlanks blank → Ready blank ps → list_all spaced (gaps_from blank ps) ≡ true
+  pieces_spaced : (blank : List ℕ) (ps : List Piece) → Cut ps → IsLine (joined ps) → AreBlanks blank → Ready blank ps
+      → list_all spaced (gaps_from blank ps) ≡ true
   pieces_spaced blank [] cut l h c = refl
   pieces_spaced blank (p ∷ ps) cut l h c =
       by_kind p.kind p.text blank ps cut.0.of_kind h c (ready_after blank p.text ps cut.1 l c)

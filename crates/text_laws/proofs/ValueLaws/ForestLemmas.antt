@@ -14,7 +14,7 @@ use Rattle.smpl_patch.specs.declared.pattern.VarDecl.{VarDecl}
 use Rattle.smpl_patch.specs.declared.witness.Witness.{Witness}
 use Rattle.smpl_patch.specs.declared.witness.Witness.TheVariants.{Touch, Bind, rolls-Touch, rolls-Bind}
 use Rattle.smpl_patch.specs.declared.witness.Witness.TheFolds.{fold-roll-Witness}
-use Rattle.ctl_formula.specs.Plain.{Plain, True, Atom, Bail, BraceOpen, BraceClose, Inside, Outside, Not, And, Or, AX, EX, AU, EU, Past, Down, Exists}
+use Rattle.ctl_formula.specs.Plain.{Plain, True, Atom, EarlyExit, BraceOpen, BraceClose, Inside, Outside, Not, And, Or, AX, EX, AU, EU, After, InBranch, Exists}
 use Rattle.wit_forest.specs.WitOrder.Order.{witness_order}
 use Rattle.wit_forest.specs.WitTrees.Unions.{placed, put, union, union_of}
 use Rattle.wit_forest.specs.WitTrees.Forest.{World, is_hidden, reached, at_option, bound_to, forest}
@@ -110,7 +110,7 @@ module _ (w : World) (values : AreCValues w.values) where
   pub forest_b : (f : Plain) (s : ℕ) (env : Environment) → HaveBinds (forest w f s env)
   forest_b True s env = tt
   forest_b (Atom p) s env = touched_b p s env
-  forest_b Bail s env = tt
+  forest_b EarlyExit s env = tt
   forest_b (BraceOpen p b) s env = touched_b p s env
   forest_b (BraceClose p b) s env = touched_b p s env
   forest_b (Inside b) s env = tt
@@ -136,8 +136,8 @@ module _ (w : World) (values : AreCValues w.values) where
       (if_b (w.holds h n env) (forest w h n env) [] (forest_b h n env) tt)
       (if_b (w.holds f n env && list_any (λ k. w.holds (EU f h) k env) (succ_of w.graph n)) (forest w f n env) [] (forest_b f n env) tt))
       (reached w.graph (λ n. w.holds f n env) s)
-  forest_b (Past f) s env = option_b (λ k. forest w f k env) (λ k. forest_b f k env) (past_of w.graph s)
-  forest_b (Down i f) s env = option_b (λ k. forest w f k env) (λ k. forest_b f k env) (slice_get (down_of w.graph s) i)
+  forest_b (After f) s env = option_b (λ k. forest w f k env) (λ k. forest_b f k env) (past_of w.graph s)
+  forest_b (InBranch i f) s env = option_b (λ k. forest w f k env) (λ k. forest_b f k env) (slice_get (down_of w.graph s) i)
   forest_b (Exists x f) s env =
       values_b w.decls (λ v. bound_to w (is_hidden x) s x v (forest w f s (change env x v)))
       (λ v c. bound_to_b (is_hidden x) s x v (forest w f s (change env x v)) c (forest_b f s (change env x v)))

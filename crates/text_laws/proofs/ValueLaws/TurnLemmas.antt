@@ -24,7 +24,7 @@ use Rattle.edit_marks.specs.Plain.{AreCTokens}
 use Rattle.text_laws.specs.ReadingLaws.Sound.{IsSoundItem}
 use Rattle.env_parts.specs.Parts.{Pairs, restricted}
 use Rattle.rule_chain.specs.RuleWitnesses.Bare.{bare_witness}
-use Rattle.rule_envs.specs.declared.carrier.Carrier.{Carrier}
+use Rattle.rule_envs.specs.declared.carrier.FileEnv.{FileEnv}
 use Rattle.rule_envs.specs.Inherited.{inherited_of}
 use Rattle.rule_envs.specs.Shares.{takes_part, share, projections}
 use Rattle.rule_envs.specs.Carriers.{extended, replaced, becomes_by}
@@ -116,14 +116,14 @@ module _ (law : ValueLaw) (pieces : List TextPiece) (number : ℕ) (rule : Rule)
       SomeHas None = Unit {0}
       SomeHas (Some env) = HaveCValues env
 
-      abbrev part : Carrier → Option Pairs
+      abbrev part : FileEnv → Option Pairs
       part c = share defined had rule.depends (inherited_of rule) c
 
       share_by : (b : Bool) (env : Pairs) → HaveCValues env → SomeHas (cond b (Some env) None)
       share_by true env h = h
       share_by false env h = tt
 
-      share_has : (c : Carrier) → CarriesTerms c → SomeHas (part c)
+      share_has : (c : FileEnv) → CarriesTerms c → SomeHas (part c)
       share_has c h =
           share_by (takes_part defined had rule.depends (inherited_of rule) c) (restricted (inherited_of rule) c.env) (restricted_c (inherited_of rule) c.env h)
 
@@ -131,12 +131,13 @@ module _ (law : ValueLaw) (pieces : List TextPiece) (number : ℕ) (rule : Rule)
       cons_has None envs h k = k
       cons_has (Some env) envs h k = All-cons HaveCValues env envs h k
 
-      shares_have : (carriers : List Carrier) → All CarriesTerms carriers → All HaveCValues (filter_map part carriers)
+      shares_have : (carriers : List FileEnv) → All CarriesTerms carriers → All HaveCValues (filter_map part carriers)
       shares_have [] h = All-nil HaveCValues
       shares_have (c ∷ carriers) h =
-          cons_has (part c) (filter_map part carriers) (share_has c (All-head CarriesTerms c carriers h)) (shares_have carriers (All-tail CarriesTerms c carriers h))
+          cons_has (part c) (filter_map part carriers) (share_has c (All-head CarriesTerms c carriers h))
+          (shares_have carriers (All-tail CarriesTerms c carriers h))
 
-      pub all_found : (carriers : List Carrier) → All CarriesTerms carriers → All HasCTerms (turn_found defined had number rule items carriers)
+      pub all_found : (carriers : List FileEnv) → All CarriesTerms carriers → All HasCTerms (turn_found defined had number rule items carriers)
       all_found carriers h =
           flat_each HaveCValues HasCTerms (found_under number rule items)
           (λ env k. terms_of (found_under number rule items env) (under env k)) (projections defined had rule.depends (inherited_of rule) carriers)
@@ -148,17 +149,17 @@ module _ (law : ValueLaw) (pieces : List TextPiece) (number : ℕ) (rule : Rule)
 
       -- ---- the environments after the rule
 
-      replaced_c : (c : Carrier) (parts : List Pairs) → CarriesTerms c → All HaveCValues parts → All CarriesTerms (replaced number c parts)
+      replaced_c : (c : FileEnv) (parts : List Pairs) → CarriesTerms c → All HaveCValues parts → All CarriesTerms (replaced number c parts)
       replaced_c c [] h k = All-cons CarriesTerms c [] h (All-nil CarriesTerms)
       replaced_c c (p ∷ parts) h k =
           map_each HaveCValues CarriesTerms (extended number c) (λ env e. joined_c c.env env h e) (p ∷ parts) k
 
-      becomes_c : (c : Carrier) (o : Option Pairs) → CarriesTerms c → SomeHas o
+      becomes_c : (c : FileEnv) (o : Option Pairs) → CarriesTerms c → SomeHas o
           → All CarriesTerms (becomes_by number part (brings number rule items) c o)
       becomes_c c None h k = All-cons CarriesTerms c [] h (All-nil CarriesTerms)
       becomes_c c (Some env) h k = replaced_c c (brings number rule items env) h (brought env k)
 
-      pub all_carried : (carriers : List Carrier) → All CarriesTerms carriers → All CarriesTerms (turn_carriers defined had number rule items carriers)
+      pub all_carried : (carriers : List FileEnv) → All CarriesTerms carriers → All CarriesTerms (turn_carriers defined had number rule items carriers)
       all_carried carriers h =
           flat_each CarriesTerms CarriesTerms (λ c. becomes_by number part (brings number rule items) c (part c))
           (λ c k. becomes_c c (part c) k (share_has c k)) carriers h

@@ -5,7 +5,7 @@ ghost use Rattle.c_lexer.specs.Lexes.{Cuts};
 ghost use Rattle.cpp_lines.specs.declared.reading.Item.{Item};
 ghost use Rattle.c_file.specs.Reads.{Reads};
 ghost use Rattle.smpl_patch.specs.declared.rule.Rule.{Rule};
-ghost use Rattle.rule_envs.specs.declared.carrier.Carrier.{Carrier};
+ghost use Rattle.rule_envs.specs.declared.carrier.FileEnv.{FileEnv};
 ghost use Rattle.rule_chain.specs.RuleTurn.Turns.{turn_found, turn_carriers};
 ghost use Rattle.text_laws.specs.Sound.{HasCTerms};
 ghost use Rattle.text_laws.specs.ValueLaws.Carried.{CarriesTerms};
@@ -22,10 +22,10 @@ use crate::reading_laws::trees_are_sound;
 /// Does nothing.
 pub fn found_values_are_sound()
     ensures found { (defined : List (List ℕ)) (had : List ℕ) (number : ℕ) (rule : Rule) (pieces : List TextPiece)
-        (items : List Item) (carriers : List Carrier) → Cuts pieces → Reads pieces items → All CarriesTerms carriers →
+        (items : List Item) (carriers : List FileEnv) → Cuts pieces → Reads pieces items → All CarriesTerms carriers →
         All HasCTerms (turn_found defined had number rule items carriers) }
     ensures carried { (defined : List (List ℕ)) (had : List ℕ) (number : ℕ) (rule : Rule) (pieces : List TextPiece)
-        (items : List Item) (carriers : List Carrier) → Cuts pieces → Reads pieces items → All CarriesTerms carriers →
+        (items : List Item) (carriers : List FileEnv) → Cuts pieces → Reads pieces items → All CarriesTerms carriers →
         All CarriesTerms (turn_carriers defined had number rule items carriers) }
 {
     values_are_sound();

@@ -1,5 +1,6 @@
 -- Rounds find the ends of all walks.
-use Rattle.std.proofs.Common.{◌≡◌, ◌+◌, ◌<◌, ◌≤◌, ◌⊎◌, ◌↔◌, ℕ, zero, suc, Bool, true, false, eqb, List, [], ◌∷◌, ◌++◌, length, Contains, slice_index_or, filter, if◌then◌else◌, inl, inr, refl, sym, ap, ◌∙◌, subst, arith}
+use Rattle.std.proofs.Common.{◌≡◌, ◌+◌, ◌<◌, ◌≤◌, ◌⊎◌, ◌↔◌, ℕ, zero, suc, Bool, true, false, eqb, List, [], ◌∷◌, ◌++◌, length}
+use Rattle.std.proofs.Common.{Contains, slice_index_or, filter, if◌then◌else◌, inl, inr, refl, sym, ap, ◌∙◌, subst, arith}
 use Rattle.std.specs.Bool.{Decides}
 use Rattle.std.proofs.lemmas.Bool.{eqb-true, eq-eqb}
 use Rattle.cfg_build.specs.CfgGraph.Flow.{Flow, IsSound, count_of}
@@ -18,17 +19,17 @@ abbrev In : List ℕ → ℕ → Type 0
 In [] n = ⊥
 In (x ∷ xs) n = (x ≡ n) ⊎ In xs n
 
-to_contains : (xs : List ℕ) (n : ℕ) → In xs n → Contains xs n
+pub to_contains : (xs : List ℕ) (n : ℕ) → In xs n → Contains xs n
 to_contains [] n h = absurd h
 to_contains (x ∷ xs) n (inl e) = (0, omega arith, e)
 to_contains (x ∷ xs) n (inr h) = let c = to_contains xs n h in (suc c.0, omega (arith, c.1), c.2)
 
-from_at : (xs : List ℕ) (n k : ℕ) → k < length xs → slice_index_or xs k n ≡ n → In xs n
+pub from_at : (xs : List ℕ) (n k : ℕ) → k < length xs → slice_index_or xs k n ≡ n → In xs n
 from_at [] n k lt e = absurd (omega (arith, lt))
 from_at (x ∷ xs) n zero lt e = inl e
 from_at (x ∷ xs) n (suc k) lt e = inr (from_at xs n k (omega (arith, lt)) e)
 
-from_contains : (xs : List ℕ) (n : ℕ) → Contains xs n → In xs n
+pub from_contains : (xs : List ℕ) (n : ℕ) → Contains xs n → In xs n
 from_contains xs n c = from_at xs n c.0 c.1 c.2
 
 in_left : (xs ys : List ℕ) (n : ℕ) → In xs n → In (xs ++ ys) n

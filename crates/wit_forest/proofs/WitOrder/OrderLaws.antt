@@ -120,7 +120,8 @@ module _ (decls : List VarDecl) where
       (λ m y u us. witness_cases (λ t. Follow (R (Bind n x v vs) (Bind m y u us)) (R (Bind m y u us) t) (R (Bind n x v vs) t))
       (λ l c r. along _ _ _ _ _ _ (order-Bind-Bind decls n x v vs m y u us) (order-Bind-Touch decls m y u us l c r) (order-Bind-Touch decls n x v vs l c r)
       (follow_then _ _ _ _ _ _ (nats n m l) (last _)))
-      (λ l z d ds. along _ _ _ _ _ _ (order-Bind-Bind decls n x v vs m y u us) (order-Bind-Bind decls m y u us l z d ds) (order-Bind-Bind decls n x v vs l z d ds)
+      (λ l z d ds. along _ _ _ _ _ _ (order-Bind-Bind decls n x v vs m y u us) (order-Bind-Bind decls m y u us l z d ds)
+      (order-Bind-Bind decls n x v vs l z d ds)
       (follow_then _ _ _ _ _ _ (nats n m l) (follow_then _ _ _ _ _ _ (declared_follow x y z)
       (follow_then _ _ _ _ _ _ (follow_of value_order value_order_total v u d) (lists_follow vs us ds e)))))))
 

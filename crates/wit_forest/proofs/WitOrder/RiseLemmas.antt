@@ -1,5 +1,6 @@
 -- Trees in order, each once.
-use Rattle.std.proofs.Common.{◌≡◌, ℕ, suc, zero, ◌+◌, ◌<◌, ◌≤◌, ◌==◌, Bool, true, false, ◌||◌, ◌&&◌, not, refl, sym, ap, ◌∙◌, arith, List, [], ◌∷◌, ◌++◌, length, get_or, take}
+use Rattle.std.proofs.Common.{◌≡◌, ℕ, suc, zero, ◌+◌, ◌<◌, ◌≤◌, ◌==◌, Bool, true, false, ◌||◌, ◌&&◌, not, refl, sym, ap, ◌∙◌}
+use Rattle.std.proofs.Common.{arith, List, [], ◌∷◌, ◌++◌, length, get_or, take}
 use Rattle.std.proofs.lemmas.Bool.Decides.{nat_tests}
 use Rattle.std.proofs.lemmas.Grind.{common_steps}
 use Rattle.std.specs.List.{list_any, list_all}
@@ -50,7 +51,8 @@ all_at q (y ∷ ys) (suc i) x lt e h = all_at q ys i x (omega arith) e (both_par
 pub any_push : {X : Type 0} (q : X → Bool) (xs : List X) (x : X) → list_any q (xs ++ x ∷ []) ≡ (list_any q xs || q x)
 any_push q xs x = list_any-append q xs (x ∷ []) ∙ ap (λ b. list_any q xs || b) (or-false (q x))
 
-pub all_step : {X : Type 0} (q : X → Bool) (xs : List X) (x : X) (i : ℕ) → i < length xs → x ≡ get_or xs i x → list_all q (take (i + 1) xs) ≡ (list_all q (take i xs) && q x)
+pub all_step : {X : Type 0} (q : X → Bool) (xs : List X) (x : X) (i : ℕ) → i < length xs → x ≡ get_or xs i x
+    → list_all q (take (i + 1) xs) ≡ (list_all q (take i xs) && q x)
 all_step q xs x i lt e = list_all_more q xs i x lt ∙ ap (λ y. list_all q (take i xs) && q y) (sym e)
 
 -- a tree that is the same as one in the list adds nothing

@@ -19,7 +19,8 @@ use Rattle.smpl_patch.specs.declared.witness.Witness.TheVariants.{Touch, Bind}
 use Rattle.wit_forest.specs.WitOrder.Same.{same_witness, same_forest}
 use Rattle.wit_forest.specs.WitOrder.Order.{witness_order, declared_order, rank}
 use Rattle.wit_forest.proofs.WitOrder.Induct.{Each, witness_induction, witness_cases}
-use Rattle.wit_forest.proofs.WitOrder.WitnessLemmas.{order-Touch-Touch, order-Touch-Bind, order-Bind-Touch, order-Bind-Bind, same-Touch-Touch, same-Touch-Bind, same-Bind-Touch, same-Bind-Bind}
+use Rattle.wit_forest.proofs.WitOrder.WitnessLemmas.{order-Touch-Touch, order-Touch-Bind, order-Bind-Touch, order-Bind-Bind}
+use Rattle.wit_forest.proofs.WitOrder.WitnessLemmas.{same-Touch-Touch, same-Touch-Bind, same-Bind-Touch, same-Bind-Bind}
 use Rattle.wit_forest.proofs.WitOrder.StepLemmas.{is_eq-then}
 use Rattle.wit_forest.proofs.WitOrder.OrderLaws.{witness_order_total}
 
@@ -65,7 +66,8 @@ module _ (decls : List VarDecl) where
   and-false true = refl
   and-false false = refl
 
-  touches_tied : (n a : ℕ) (p : List ℕ) (m b : ℕ) (q : List ℕ) → is_eq (witness_order decls (Touch n a p) (Touch m b q)) ≡ same_witness (Touch n a p) (Touch m b q)
+  touches_tied : (n a : ℕ) (p : List ℕ) (m b : ℕ) (q : List ℕ)
+      → is_eq (witness_order decls (Touch n a p) (Touch m b q)) ≡ same_witness (Touch n a p) (Touch m b q)
   touches_tied n a p m b q =
       ap is_eq (order-Touch-Touch decls n a p m b q)
       ∙ is_eq-then (nat_cmp n m) _

@@ -1,5 +1,6 @@
 -- The forest of a part is what the part touches and the forests of the parts that it leads to, except for quantifiers.
-use Rattle.std.proofs.Common.{◌≡◌, ℕ, suc, zero, ◌+◌, ◌<◌, ⊎_elim, Bool, true, false, not, cond, ◌&&◌, ◌||◌, eqb, refl, sym, ap, ◌∙◌, arith, add-one, List, [], ◌∷◌, ◌++◌, map, Option, Some, None, Contains}
+use Rattle.std.proofs.Common.{◌≡◌, ℕ, suc, zero, ◌+◌, ◌<◌, ⊎_elim, Bool, true, false, not, cond, ◌&&◌, ◌||◌, eqb, refl, sym, ap}
+use Rattle.std.proofs.Common.{◌∙◌, arith, add-one, List, [], ◌∷◌, ◌++◌, map, Option, Some, None, Contains}
 use Rattle.std.proofs.lemmas.List.Folds.{list_any-append}
 use Rattle.std.specs.Prelude.{slice_get}
 use Rattle.std.specs.List.{flat_map, list_any}
@@ -82,7 +83,8 @@ module _ (decls : List VarDecl) (tokens : List PatToken) (g : Flow) (ok : IsSoun
   singles s a [] = refl
   singles s a (t ∷ ts) = λ i. or-false (same_witness (Touch s a t) z) i || singles s a ts i
 
-  touches : (p : Pattern) (s : ℕ) → has (union_of decls (map (λ path. Touch s p.atom path ∷ []) (W.touches p s env))) z ≡ (has (touches_of decls tokens g p s env) z || false)
+  touches : (p : Pattern) (s : ℕ) → has (union_of decls (map (λ path. Touch s p.atom path ∷ []) (W.touches p s env))) z
+      ≡ (has (touches_of decls tokens g p s env) z || false)
   touches p s =
       has-union_map W (λ path. Touch s p.atom path ∷ []) (W.touches p s env) z ∙ singles s p.atom (W.touches p s env)
       ∙ sym (or-false (has (touches_of decls tokens g p s env) z))
@@ -236,7 +238,7 @@ module _ (decls : List VarDecl) (tokens : List PatToken) (g : Flow) (ok : IsSoun
       → here (plain_of fs n) s ≡ (has (own_touches decls tokens g n s env) z || some (kids g H n part s))
   kid_step node.True q part s lt e = refl
   kid_step (node.Atom p) q part s lt e = touches p s
-  kid_step node.Bail q part s lt e = refl
+  kid_step node.EarlyExit q part s lt e = refl
   kid_step (node.BraceOpen p b) q part s lt e = touches p s
   kid_step (node.BraceClose p b) q part s lt e = touches p s
   kid_step (node.Inside b) q part s lt e = refl
@@ -255,6 +257,6 @@ module _ (decls : List VarDecl) (tokens : List PatToken) (g : Flow) (ok : IsSoun
       has-union_map W (λ k. cond (H i k) (forest W (at fs i) k env) []) (succ_of g s) z ∙ some_next i (succ_of g s)
   kid_step (node.AU i j) q part s lt e = every_until part i j s e lt
   kid_step (node.EU i j) q part s lt e = some_until part i j s e lt
-  kid_step (node.Past i) q part s lt e = option i (past_of g s)
-  kid_step (node.Down b i) q part s lt e = option i (slice_get (down_of g s) b)
+  kid_step (node.After i) q part s lt e = option i (past_of g s)
+  kid_step (node.InBranch b i) q part s lt e = option i (slice_get (down_of g s) b)
   kid_step (node.Exists x i) q part s lt e = absurd cc

@@ -1,5 +1,7 @@
 -- Environments pair by pair.
-use Rattle.std.proofs.Common.{◌≡◌, ℕ, suc, zero, ◌+◌, ◌<◌, Bool, true, false, cond, ◌&&◌, refl, sym, ap, ◌∙◌, arith, List, [], ◌∷◌, ◌++◌, length, get_or, take, Option, Some, None, unwrap_or, is_some, ◌≤◌, subst, add-one, Contains}
+use Rattle.std.proofs.Common.{◌≡◌, ℕ, suc, zero, ◌+◌, ◌<◌, Bool, true, false, cond, ◌&&◌, refl, sym, ap, ◌∙◌, arith, List, []}
+use Rattle.std.proofs.Common.{◌∷◌, ◌++◌, length, get_or, take, Option, Some, None, unwrap_or, is_some, ◌≤◌, subst, add-one}
+use Rattle.std.proofs.Common.{Contains}
 use Rattle.std.proofs.lemmas.List.{take_all, take_more}
 use Rattle.ctl_fixpoint.proofs.CtlHolds.TestLemmas.{Contains-first, Contains-later}
 use Rattle.smpl_terms.specs.declared.var.Var.{Var}

@@ -18,8 +18,10 @@ mapped : (s n : ℕ) (places : List Alignment) → map (λ a. Touch s n a.path) 
 mapped s n [] = refl
 mapped s n (a ∷ places) = ap (λ ws. Touch s n a.path ∷ ws) (mapped s n places)
 
-pub touches_are : (decls' decls : List VarDecl) (tokens'' tokens' tokens : List PatToken) (g : Flow) (p : Pattern) (s : ℕ) (env : Environment) (l : NodeLabel) (places : List Alignment)
-    → decls' ≡ decls → tokens'' ≡ tokens → tokens' ≡ tokens → true ≡ is_touched tokens'' p → slice_get g.labels s ≡ Some l → places ≡ aligns decls' tokens' env p l
+pub touches_are : (decls' decls : List VarDecl) (tokens'' tokens' tokens : List PatToken) (g : Flow) (p : Pattern) (s : ℕ)
+    (env : Environment) (l : NodeLabel) (places : List Alignment)
+    → decls' ≡ decls → tokens'' ≡ tokens → tokens' ≡ tokens → true ≡ is_touched tokens'' p → slice_get g.labels s ≡ Some l
+    → places ≡ aligns decls' tokens' env p l
     → map (λ a. Touch s p.atom a.path) places ≡ touches_of decls tokens g p s env
 touches_are decls' decls tokens'' tokens' tokens g p s env l places d t u h e is =
     let all : places ≡ aligns decls tokens env p l = is ∙ (λ i. aligns (d i) (u i) env p l) in

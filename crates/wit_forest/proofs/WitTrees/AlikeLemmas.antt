@@ -16,7 +16,7 @@ use Rattle.smpl_patch.specs.declared.pattern.VarDecl.{VarDecl}
 use Rattle.smpl_patch.specs.declared.pattern.PatToken.{PatToken}
 use Rattle.smpl_patch.specs.declared.pattern.Pattern.{Pattern}
 use Rattle.smpl_patch.specs.declared.witness.Witness.TheVariants.{Touch}
-use Rattle.ctl_formula.specs.Plain.{Plain, True, Atom, Bail, BraceOpen, BraceClose, Inside, Outside, Not, And, Or, AX, EX, AU, EU, Past, Down, Exists}
+use Rattle.ctl_formula.specs.Plain.{Plain, True, Atom, EarlyExit, BraceOpen, BraceClose, Inside, Outside, Not, And, Or, AX, EX, AU, EU, After, InBranch, Exists}
 use Rattle.ctl_fixpoint.specs.CtlHolds.Values.{values_of}
 use Rattle.ctl_fixpoint.specs.CtlHolds.Holding.{at_node, is_open, is_close, is_brace, open_after, in_block, off_block}
 use Rattle.ctl_fixpoint.specs.CtlHolds.Rounds.{holds, passes, passes_there, rounds}
@@ -67,7 +67,7 @@ module _ (decls : List VarDecl) (tokens : List PatToken) (g : Flow) where
     holding : (f : Plain) (s : ℕ) (d e : Environment) → Alike d e → H f s d ≡ H f s e
     holding True s d e a = refl
     holding (Atom p) s d e a = λ i. at_node g s (λ l. matches_alike decls tokens d e a p l i)
-    holding Bail s d e a = refl
+    holding EarlyExit s d e a = refl
     holding (BraceOpen p b) s d e a = λ i. at_node g s (λ l.
         is_open l.kind && same-along (d b) (e b) (a b) (Place l.brace) i && matches_alike decls tokens d e a p l i)
     holding (BraceClose p b) s d e a = λ i. at_node g s (λ l.
@@ -81,8 +81,8 @@ module _ (decls : List VarDecl) (tokens : List PatToken) (g : Flow) where
     holding (EX f) s d e a = λ i. passes false (λ k. holding f k d e a i) (succ_of g s)
     holding (AU f h) s d e a = λ i. rounds g true (λ k. holding f k d e a i) (λ k. holding h k d e a i) m s
     holding (EU f h) s d e a = λ i. rounds g false (λ k. holding f k d e a i) (λ k. holding h k d e a i) m s
-    holding (Past f) s d e a = λ i. passes_there (λ k. holding f k d e a i) (past_of g s)
-    holding (Down n f) s d e a = λ i. passes_there (λ k. holding f k d e a i) (slice_get (down_of g s) n)
+    holding (After f) s d e a = λ i. passes_there (λ k. holding f k d e a i) (past_of g s)
+    holding (InBranch n f) s d e a = λ i. passes_there (λ k. holding f k d e a i) (slice_get (down_of g s) n)
     holding (Exists x f) s d e a =
         λ i. list_any (λ v. holding f s (change d x v) (change e x v) (change_alike d e x v a) i) (values_of g)
 
@@ -105,7 +105,7 @@ module _ (decls : List VarDecl) (tokens : List PatToken) (g : Flow) where
   forests : (f : Plain) (s : ℕ) (d e : Environment) → Alike d e → forest W f s d ≡ forest W f s e
   forests True s d e a = refl
   forests (Atom p) s d e a = touched_alike p s d e a
-  forests Bail s d e a = refl
+  forests EarlyExit s d e a = refl
   forests (BraceOpen p b) s d e a = touched_alike p s d e a
   forests (BraceClose p b) s d e a = touched_alike p s d e a
   forests (Inside b) s d e a = refl
@@ -122,8 +122,8 @@ module _ (decls : List VarDecl) (tokens : List PatToken) (g : Flow) where
       (λ n. union decls (if held h n d e a i then forests h n d e a i else [])
       (if held f n d e a i && list_any (λ k. held (EU f h) k d e a i) (succ_of g n) then forests f n d e a i else []))
       (reached g (λ n. held f n d e a i) s))
-  forests (Past f) s d e a = λ i. at_option W (λ k. forests f k d e a i) (past_of g s)
-  forests (Down n f) s d e a = λ i. at_option W (λ k. forests f k d e a i) (slice_get (down_of g s) n)
+  forests (After f) s d e a = λ i. at_option W (λ k. forests f k d e a i) (past_of g s)
+  forests (InBranch n f) s d e a = λ i. at_option W (λ k. forests f k d e a i) (slice_get (down_of g s) n)
   forests (Exists x f) s d e a = λ i. union_of decls (map
       (λ v. bound_to W (is_hidden x) s x v (forests f s (change d x v) (change e x v) (change_alike d e x v a) i))
       (filter (λ v. held f s (change d x v) (change e x v) (change_alike d e x v a) i) (values_of g)))

@@ -18,7 +18,7 @@ use Rattle.smpl_patch.specs.declared.pattern.Spot.TheVariants as spot
 use Rattle.smpl_patch.specs.declared.pattern.VarKind.TheVariants as var_kind
 use Rattle.smpl_patch.specs.declared.pattern.VarDecl.{VarDecl}
 use Rattle.smpl_patch.specs.declared.witness.Witness.TheVariants.{Touch, Bind}
-use Rattle.ctl_formula.specs.Plain.{Plain, True, Atom, Bail, BraceOpen, BraceClose, Inside, Outside, Not, And, Or, AX, EX, AU, EU, Past, Down, Exists}
+use Rattle.ctl_formula.specs.Plain.{Plain, True, Atom, EarlyExit, BraceOpen, BraceClose, Inside, Outside, Not, And, Or, AX, EX, AU, EU, After, InBranch, Exists}
 use Rattle.ctl_fixpoint.specs.CtlHolds.Holding.{in_block, off_block}
 use Rattle.ctl_fixpoint.specs.CtlHolds.Rounds.{passes, passes_there, rounds}
 use Rattle.wit_forest.proofs.WitOrder.WitnessLemmas.{order-Touch-Touch, order-Touch-Bind, order-Bind-Bind}
@@ -70,7 +70,7 @@ module _ (g : Flow) (values : List Value) (rows : List Row) (bails : List ℕ) (
   abbrev holds : Plain → ℕ → Environment → Bool
   holds True s env = true
   holds (Atom q) s env = matches q s env
-  holds Bail s env = list_any (λ n. eqb n s) bails
+  holds EarlyExit s env = list_any (λ n. eqb n s) bails
   holds (BraceOpen q b) s env = is_brace (slice_index_or opens s None) (env b) && matches q s env
   holds (BraceClose q b) s env = is_brace (slice_index_or closes s None) (env b) && matches q s env
   holds (Inside b) s env = in_block g (env b) s
@@ -82,8 +82,8 @@ module _ (g : Flow) (values : List Value) (rows : List Row) (bails : List ℕ) (
   holds (EX f) s env = passes false (λ k. holds f k env) (succ_of g s)
   holds (AU f h) s env = rounds g true (λ k. holds f k env) (λ k. holds h k env) (count_of g + 1) s
   holds (EU f h) s env = rounds g false (λ k. holds f k env) (λ k. holds h k env) (count_of g + 1) s
-  holds (Past f) s env = passes_there (λ k. holds f k env) (past_of g s)
-  holds (Down i f) s env = passes_there (λ k. holds f k env) (slice_get (down_of g s) i)
+  holds (After f) s env = passes_there (λ k. holds f k env) (past_of g s)
+  holds (InBranch i f) s env = passes_there (λ k. holds f k env) (slice_get (down_of g s) i)
   holds (Exists x f) s env = list_any (λ y. holds f s (change env x y)) values
 
 abbrev world : List (List ℕ) → List (Option ℕ) → List (List ℕ) → ℕ → List Row → List ℕ → List (Option ℕ) → List (Option ℕ) → List Var → World
@@ -101,17 +101,25 @@ start x = Place 1000
 
 -- each call of an expression, by its argument
 abbrev w1 : World
-w1 = (world ((1 ∷ []) ∷ (2 ∷ []) ∷ (3 ∷ []) ∷ (4 ∷ []) ∷ (4 ∷ []) ∷ []) ((Some 4) ∷ (Some 4) ∷ (Some 3) ∷ (Some 4) ∷ None ∷ []) ((1 ∷ []) ∷ (2 ∷ []) ∷ [] ∷ [] ∷ [] ∷ []) 48 ((2, 0, (((v 0 (codes "E")), 0) ∷ []), ((2 ∷ 1 ∷ 0 ∷ 2 ∷ 0 ∷ []) ∷ [])) ∷ (2, 0, (((v 0 (codes "E")), 1) ∷ []), ((2 ∷ 1 ∷ 0 ∷ 2 ∷ 2 ∷ []) ∷ [])) ∷ []) [] (None ∷ (Some 34) ∷ None ∷ None ∷ None ∷ []) (None ∷ None ∷ None ∷ (Some 34) ∷ None ∷ []) ((v 0 (codes "E")) ∷ []))
+w1 = (world ((1 ∷ []) ∷ (2 ∷ []) ∷ (3 ∷ []) ∷ (4 ∷ []) ∷ (4 ∷ []) ∷ []) ((Some 4) ∷ (Some 4) ∷ (Some 3) ∷ (Some 4) ∷ None ∷ [])
+    ((1 ∷ []) ∷ (2 ∷ []) ∷ [] ∷ [] ∷ [] ∷ []) 48
+    ((2, 0, (((v 0 (codes "E")), 0) ∷ []), ((2 ∷ 1 ∷ 0 ∷ 2 ∷ 0 ∷ []) ∷ []))
+    ∷ (2, 0, (((v 0 (codes "E")), 1) ∷ []), ((2 ∷ 1 ∷ 0 ∷ 2 ∷ 2 ∷ []) ∷ [])) ∷ []) []
+    (None ∷ (Some 34) ∷ None ∷ None ∷ None ∷ []) (None ∷ None ∷ None ∷ (Some 34) ∷ None ∷ []) ((v 0 (codes "E")) ∷ []))
 
 abbrev f1 : Plain
 f1 = (Exists (v 0 (codes "E")) (Atom (p 0)))
 
-forest1_2 : forest w1 f1 2 start ≡ ((Bind 2 (v 0 (codes "E")) (Place 0) ((Touch 2 0 (2 ∷ 1 ∷ 0 ∷ 2 ∷ 0 ∷ [])) ∷ [])) ∷ ((Bind 2 (v 0 (codes "E")) (Place 1) ((Touch 2 0 (2 ∷ 1 ∷ 0 ∷ 2 ∷ 2 ∷ [])) ∷ [])) ∷ []))
+forest1_2 : forest w1 f1 2 start ≡ ((Bind 2 (v 0 (codes "E")) (Place 0) ((Touch 2 0 (2 ∷ 1 ∷ 0 ∷ 2 ∷ 0 ∷ [])) ∷ []))
+    ∷ ((Bind 2 (v 0 (codes "E")) (Place 1) ((Touch 2 0 (2 ∷ 1 ∷ 0 ∷ 2 ∷ 2 ∷ [])) ∷ [])) ∷ []))
 forest1_2 = simp order-Bind-Bind refl
 
 -- the first branch of a disjunction that matches is touched, and no other branch
 abbrev w2 : World
-w2 = (world ((1 ∷ []) ∷ (2 ∷ []) ∷ (3 ∷ []) ∷ (4 ∷ []) ∷ (4 ∷ []) ∷ []) ((Some 4) ∷ (Some 4) ∷ (Some 3) ∷ (Some 4) ∷ None ∷ []) ((1 ∷ []) ∷ (2 ∷ []) ∷ [] ∷ [] ∷ [] ∷ []) 33 ((2, 0, (((v 0 (codes "x")), 3) ∷ []), ((2 ∷ 1 ∷ []) ∷ [])) ∷ (2, 1, [], ((2 ∷ 1 ∷ []) ∷ [])) ∷ []) [] (None ∷ (Some 26) ∷ None ∷ None ∷ None ∷ []) (None ∷ None ∷ None ∷ (Some 26) ∷ None ∷ []) ((v 0 (codes "x")) ∷ []))
+w2 = (world ((1 ∷ []) ∷ (2 ∷ []) ∷ (3 ∷ []) ∷ (4 ∷ []) ∷ (4 ∷ []) ∷ []) ((Some 4) ∷ (Some 4) ∷ (Some 3) ∷ (Some 4) ∷ None ∷ [])
+    ((1 ∷ []) ∷ (2 ∷ []) ∷ [] ∷ [] ∷ [] ∷ []) 33
+    ((2, 0, (((v 0 (codes "x")), 3) ∷ []), ((2 ∷ 1 ∷ []) ∷ [])) ∷ (2, 1, [], ((2 ∷ 1 ∷ []) ∷ [])) ∷ []) []
+    (None ∷ (Some 26) ∷ None ∷ None ∷ None ∷ []) (None ∷ None ∷ None ∷ (Some 26) ∷ None ∷ []) ((v 0 (codes "x")) ∷ []))
 
 abbrev f2 : Plain
 f2 = (Or (Exists (v 0 (codes "x")) (Atom (p 0))) (And (Atom (p 1)) (Not (Exists (v 0 (codes "x")) (Atom (p 0))))))
@@ -121,27 +129,49 @@ forest2_2 = refl
 
 -- one value for each branch
 abbrev w3 : World
-w3 = (world ((1 ∷ []) ∷ (2 ∷ []) ∷ (3 ∷ []) ∷ (4 ∷ 5 ∷ []) ∷ (6 ∷ []) ∷ (6 ∷ []) ∷ (7 ∷ []) ∷ (7 ∷ []) ∷ []) ((Some 7) ∷ (Some 7) ∷ (Some 3) ∷ (Some 6) ∷ (Some 6) ∷ (Some 6) ∷ (Some 7) ∷ None ∷ []) ((1 ∷ []) ∷ (2 ∷ []) ∷ [] ∷ (4 ∷ 5 ∷ []) ∷ [] ∷ [] ∷ [] ∷ [] ∷ []) 59 ((2, 0, (((v 0 (codes "l")), 0) ∷ []), ((2 ∷ 1 ∷ []) ∷ [])) ∷ (4, 1, (((v 0 (codes "m")), 0) ∷ []), ((2 ∷ 2 ∷ 4 ∷ []) ∷ [])) ∷ (5, 1, (((v 0 (codes "m")), 1) ∷ []), ((2 ∷ 2 ∷ 6 ∷ []) ∷ [])) ∷ []) [] (None ∷ (Some 37) ∷ None ∷ None ∷ None ∷ None ∷ None ∷ None ∷ []) (None ∷ None ∷ None ∷ None ∷ None ∷ None ∷ (Some 37) ∷ None ∷ []) ((v 0 (codes "l")) ∷ (v 0 (codes "m")) ∷ []))
+w3 = (world ((1 ∷ []) ∷ (2 ∷ []) ∷ (3 ∷ []) ∷ (4 ∷ 5 ∷ []) ∷ (6 ∷ []) ∷ (6 ∷ []) ∷ (7 ∷ []) ∷ (7 ∷ []) ∷ [])
+    ((Some 7) ∷ (Some 7) ∷ (Some 3) ∷ (Some 6) ∷ (Some 6) ∷ (Some 6) ∷ (Some 7) ∷ None ∷ [])
+    ((1 ∷ []) ∷ (2 ∷ []) ∷ [] ∷ (4 ∷ 5 ∷ []) ∷ [] ∷ [] ∷ [] ∷ [] ∷ []) 59
+    ((2, 0, (((v 0 (codes "l")), 0) ∷ []), ((2 ∷ 1 ∷ []) ∷ [])) ∷ (4, 1, (((v 0 (codes "m")), 0) ∷ []), ((2 ∷ 2 ∷ 4 ∷ []) ∷ []))
+    ∷ (5, 1, (((v 0 (codes "m")), 1) ∷ []), ((2 ∷ 2 ∷ 6 ∷ []) ∷ [])) ∷ []) []
+    (None ∷ (Some 37) ∷ None ∷ None ∷ None ∷ None ∷ None ∷ None ∷ [])
+    (None ∷ None ∷ None ∷ None ∷ None ∷ None ∷ (Some 37) ∷ None ∷ []) ((v 0 (codes "l")) ∷ (v 0 (codes "m")) ∷ []))
 
 abbrev f3 : Plain
-f3 = (And (Exists (v 0 (codes "l")) (Atom (p 0))) (AX (And (AU (And (Not (Exists (v 0 (codes "l")) (Atom (p 0)))) (Not (Exists (v 0 (codes "m")) (Atom (p 1))))) (Or (Exists (v 0 (codes "m")) (Atom (p 1))) Bail)) (EU (And (Not (Exists (v 0 (codes "l")) (Atom (p 0)))) (Not (Exists (v 0 (codes "m")) (Atom (p 1))))) (Exists (v 0 (codes "m")) (Atom (p 1)))))))
+f3 = (And (Exists (v 0 (codes "l")) (Atom (p 0)))
+    (AX (And (AU (And (Not (Exists (v 0 (codes "l")) (Atom (p 0)))) (Not (Exists (v 0 (codes "m")) (Atom (p 1)))))
+    (Or (Exists (v 0 (codes "m")) (Atom (p 1))) EarlyExit))
+    (EU (And (Not (Exists (v 0 (codes "l")) (Atom (p 0)))) (Not (Exists (v 0 (codes "m")) (Atom (p 1))))) (Exists (v 0 (codes "m")) (Atom (p 1)))))))
 
-forest3_2 : forest w3 f3 2 start ≡ ((Bind 2 (v 0 (codes "l")) (Place 0) ((Touch 2 0 (2 ∷ 1 ∷ [])) ∷ [])) ∷ ((Bind 4 (v 0 (codes "m")) (Place 0) ((Touch 4 1 (2 ∷ 2 ∷ 4 ∷ [])) ∷ [])) ∷ ((Bind 5 (v 0 (codes "m")) (Place 1) ((Touch 5 1 (2 ∷ 2 ∷ 6 ∷ [])) ∷ [])) ∷ [])))
+forest3_2 : forest w3 f3 2 start ≡ ((Bind 2 (v 0 (codes "l")) (Place 0) ((Touch 2 0 (2 ∷ 1 ∷ [])) ∷ []))
+    ∷ ((Bind 4 (v 0 (codes "m")) (Place 0) ((Touch 4 1 (2 ∷ 2 ∷ 4 ∷ [])) ∷ []))
+    ∷ ((Bind 5 (v 0 (codes "m")) (Place 1) ((Touch 5 1 (2 ∷ 2 ∷ 6 ∷ [])) ∷ [])) ∷ [])))
 forest3_2 = simp (order-Touch-Touch, order-Bind-Bind) refl
 
 -- a value is reported where it is bound
 abbrev w4 : World
-w4 = (world ((1 ∷ []) ∷ (2 ∷ []) ∷ (3 ∷ []) ∷ (4 ∷ []) ∷ (5 ∷ []) ∷ (6 ∷ []) ∷ (6 ∷ []) ∷ []) ((Some 6) ∷ (Some 6) ∷ (Some 3) ∷ (Some 4) ∷ (Some 5) ∷ (Some 6) ∷ None ∷ []) ((1 ∷ []) ∷ (2 ∷ []) ∷ [] ∷ [] ∷ [] ∷ [] ∷ [] ∷ []) 50 ((2, 0, [], ((2 ∷ 1 ∷ []) ∷ [])) ∷ (4, 1, (((v 0 (codes "x")), 6) ∷ []), ((2 ∷ 3 ∷ []) ∷ [])) ∷ (3, 2, (((v 0 (codes "x")), 5) ∷ []), []) ∷ []) [] (None ∷ (Some 34) ∷ None ∷ None ∷ None ∷ None ∷ None ∷ []) (None ∷ None ∷ None ∷ None ∷ None ∷ (Some 34) ∷ None ∷ []) ((v 0 (codes "x")) ∷ []))
+w4 = (world ((1 ∷ []) ∷ (2 ∷ []) ∷ (3 ∷ []) ∷ (4 ∷ []) ∷ (5 ∷ []) ∷ (6 ∷ []) ∷ (6 ∷ []) ∷ [])
+    ((Some 6) ∷ (Some 6) ∷ (Some 3) ∷ (Some 4) ∷ (Some 5) ∷ (Some 6) ∷ None ∷ [])
+    ((1 ∷ []) ∷ (2 ∷ []) ∷ [] ∷ [] ∷ [] ∷ [] ∷ [] ∷ []) 50
+    ((2, 0, [], ((2 ∷ 1 ∷ []) ∷ [])) ∷ (4, 1, (((v 0 (codes "x")), 6) ∷ []), ((2 ∷ 3 ∷ []) ∷ []))
+    ∷ (3, 2, (((v 0 (codes "x")), 5) ∷ []), []) ∷ []) [] (None ∷ (Some 34) ∷ None ∷ None ∷ None ∷ None ∷ None ∷ [])
+    (None ∷ None ∷ None ∷ None ∷ None ∷ (Some 34) ∷ None ∷ []) ((v 0 (codes "x")) ∷ []))
 
 abbrev f4 : Plain
-f4 = (And (Atom (p 0)) (AX (Exists (v 0 (codes "x")) (And (AU (And (And (Not (Atom (p 2))) (Not (Atom (p 0)))) (Not (Atom (p 1)))) (Or (Atom (p 1)) Bail)) (EU (And (And (Not (Atom (p 2))) (Not (Atom (p 0)))) (Not (Atom (p 1)))) (Atom (p 1)))))))
+f4 = (And (Atom (p 0)) (AX (Exists (v 0 (codes "x"))
+    (And (AU (And (And (Not (Atom (p 2))) (Not (Atom (p 0)))) (Not (Atom (p 1)))) (Or (Atom (p 1)) EarlyExit))
+    (EU (And (And (Not (Atom (p 2))) (Not (Atom (p 0)))) (Not (Atom (p 1)))) (Atom (p 1)))))))
 
 forest4_2 : forest w4 f4 2 start ≡ ((Touch 2 0 (2 ∷ 1 ∷ [])) ∷ ((Bind 3 (v 0 (codes "x")) (Place 6) ((Touch 4 1 (2 ∷ 3 ∷ [])) ∷ [])) ∷ []))
 forest4_2 = simp (order-Touch-Touch, order-Touch-Bind) refl
 
 -- a loop is entered once
 abbrev w7 : World
-w7 = (world ((1 ∷ []) ∷ (2 ∷ []) ∷ (3 ∷ []) ∷ (4 ∷ 5 ∷ []) ∷ (3 ∷ []) ∷ (6 ∷ []) ∷ (7 ∷ []) ∷ (7 ∷ []) ∷ []) ((Some 7) ∷ (Some 7) ∷ (Some 3) ∷ (Some 5) ∷ (Some 3) ∷ (Some 6) ∷ (Some 7) ∷ None ∷ []) ((1 ∷ []) ∷ (2 ∷ []) ∷ [] ∷ (4 ∷ []) ∷ [] ∷ [] ∷ [] ∷ [] ∷ []) 51 ((2, 0, [], ((2 ∷ 1 ∷ []) ∷ [])) ∷ (5, 1, [], ((2 ∷ 3 ∷ []) ∷ [])) ∷ []) [] (None ∷ (Some 33) ∷ None ∷ None ∷ None ∷ None ∷ None ∷ None ∷ []) (None ∷ None ∷ None ∷ None ∷ None ∷ None ∷ (Some 33) ∷ None ∷ []) [])
+w7 = (world ((1 ∷ []) ∷ (2 ∷ []) ∷ (3 ∷ []) ∷ (4 ∷ 5 ∷ []) ∷ (3 ∷ []) ∷ (6 ∷ []) ∷ (7 ∷ []) ∷ (7 ∷ []) ∷ [])
+    ((Some 7) ∷ (Some 7) ∷ (Some 3) ∷ (Some 5) ∷ (Some 3) ∷ (Some 6) ∷ (Some 7) ∷ None ∷ [])
+    ((1 ∷ []) ∷ (2 ∷ []) ∷ [] ∷ (4 ∷ []) ∷ [] ∷ [] ∷ [] ∷ [] ∷ []) 51
+    ((2, 0, [], ((2 ∷ 1 ∷ []) ∷ [])) ∷ (5, 1, [], ((2 ∷ 3 ∷ []) ∷ [])) ∷ []) []
+    (None ∷ (Some 33) ∷ None ∷ None ∷ None ∷ None ∷ None ∷ None ∷ []) (None ∷ None ∷ None ∷ None ∷ None ∷ None ∷ (Some 33) ∷ None ∷ []) [])
 
 abbrev f7 : Plain
 f7 = (And (Atom (p 0)) (EX (EU (And (Not (Atom (p 0))) (Not (Atom (p 1)))) (Atom (p 1)))))
@@ -151,7 +181,12 @@ forest7_2 = simp order-Touch-Touch refl
 
 -- a tree occurs once, however many walks reach it
 abbrev w8 : World
-w8 = (world ((1 ∷ []) ∷ (2 ∷ []) ∷ (3 ∷ []) ∷ (4 ∷ 5 ∷ []) ∷ (5 ∷ []) ∷ (6 ∷ 7 ∷ []) ∷ (7 ∷ []) ∷ (8 ∷ []) ∷ (9 ∷ []) ∷ (9 ∷ []) ∷ []) ((Some 9) ∷ (Some 9) ∷ (Some 3) ∷ (Some 5) ∷ (Some 5) ∷ (Some 7) ∷ (Some 7) ∷ (Some 8) ∷ (Some 9) ∷ None ∷ []) ((1 ∷ []) ∷ (2 ∷ []) ∷ [] ∷ (4 ∷ []) ∷ [] ∷ (6 ∷ []) ∷ [] ∷ [] ∷ [] ∷ [] ∷ []) 59 ((2, 0, [], ((2 ∷ 1 ∷ []) ∷ [])) ∷ (7, 1, [], ((2 ∷ 4 ∷ []) ∷ [])) ∷ []) [] (None ∷ (Some 33) ∷ None ∷ None ∷ None ∷ None ∷ None ∷ None ∷ None ∷ None ∷ []) (None ∷ None ∷ None ∷ None ∷ None ∷ None ∷ None ∷ None ∷ (Some 33) ∷ None ∷ []) [])
+w8 = (world ((1 ∷ []) ∷ (2 ∷ []) ∷ (3 ∷ []) ∷ (4 ∷ 5 ∷ []) ∷ (5 ∷ []) ∷ (6 ∷ 7 ∷ []) ∷ (7 ∷ []) ∷ (8 ∷ []) ∷ (9 ∷ []) ∷ (9 ∷ [])
+    ∷ []) ((Some 9) ∷ (Some 9) ∷ (Some 3) ∷ (Some 5) ∷ (Some 5) ∷ (Some 7) ∷ (Some 7) ∷ (Some 8) ∷ (Some 9) ∷ None ∷ [])
+    ((1 ∷ []) ∷ (2 ∷ []) ∷ [] ∷ (4 ∷ []) ∷ [] ∷ (6 ∷ []) ∷ [] ∷ [] ∷ [] ∷ [] ∷ []) 59
+    ((2, 0, [], ((2 ∷ 1 ∷ []) ∷ [])) ∷ (7, 1, [], ((2 ∷ 4 ∷ []) ∷ [])) ∷ []) []
+    (None ∷ (Some 33) ∷ None ∷ None ∷ None ∷ None ∷ None ∷ None ∷ None ∷ None ∷ [])
+    (None ∷ None ∷ None ∷ None ∷ None ∷ None ∷ None ∷ None ∷ (Some 33) ∷ None ∷ []) [])
 
 abbrev f8 : Plain
 f8 = (And (Atom (p 0)) (EX (EU (And (Not (Atom (p 0))) (Not (Atom (p 1)))) (Atom (p 1)))))
@@ -161,20 +196,32 @@ forest8_2 = simp order-Touch-Touch refl
 
 -- a walk that leaves early ends there
 abbrev w9 : World
-w9 = (world ((1 ∷ []) ∷ (2 ∷ []) ∷ (3 ∷ []) ∷ (4 ∷ 5 ∷ []) ∷ (7 ∷ []) ∷ (6 ∷ []) ∷ (7 ∷ []) ∷ (7 ∷ []) ∷ []) ((Some 7) ∷ (Some 7) ∷ (Some 3) ∷ (Some 5) ∷ (Some 5) ∷ (Some 6) ∷ (Some 7) ∷ None ∷ []) ((1 ∷ []) ∷ (2 ∷ []) ∷ [] ∷ (4 ∷ []) ∷ [] ∷ [] ∷ [] ∷ [] ∷ []) 48 ((2, 0, [], ((2 ∷ 1 ∷ []) ∷ [])) ∷ (5, 1, [], ((2 ∷ 3 ∷ []) ∷ [])) ∷ []) (4 ∷ []) (None ∷ (Some 32) ∷ None ∷ None ∷ None ∷ None ∷ None ∷ None ∷ []) (None ∷ None ∷ None ∷ None ∷ None ∷ None ∷ (Some 32) ∷ None ∷ []) [])
+w9 = (world ((1 ∷ []) ∷ (2 ∷ []) ∷ (3 ∷ []) ∷ (4 ∷ 5 ∷ []) ∷ (7 ∷ []) ∷ (6 ∷ []) ∷ (7 ∷ []) ∷ (7 ∷ []) ∷ [])
+    ((Some 7) ∷ (Some 7) ∷ (Some 3) ∷ (Some 5) ∷ (Some 5) ∷ (Some 6) ∷ (Some 7) ∷ None ∷ [])
+    ((1 ∷ []) ∷ (2 ∷ []) ∷ [] ∷ (4 ∷ []) ∷ [] ∷ [] ∷ [] ∷ [] ∷ []) 48
+    ((2, 0, [], ((2 ∷ 1 ∷ []) ∷ [])) ∷ (5, 1, [], ((2 ∷ 3 ∷ []) ∷ [])) ∷ []) (4 ∷ [])
+    (None ∷ (Some 32) ∷ None ∷ None ∷ None ∷ None ∷ None ∷ None ∷ []) (None ∷ None ∷ None ∷ None ∷ None ∷ None ∷ (Some 32) ∷ None ∷ []) [])
 
 abbrev f9 : Plain
-f9 = (And (Atom (p 0)) (AX (And (AU (And (Not (Atom (p 0))) (Not (Atom (p 1)))) (Or (Atom (p 1)) Bail)) (EU (And (Not (Atom (p 0))) (Not (Atom (p 1)))) (Atom (p 1))))))
+f9 = (And (Atom (p 0)) (AX (And (AU (And (Not (Atom (p 0))) (Not (Atom (p 1)))) (Or (Atom (p 1)) EarlyExit))
+    (EU (And (Not (Atom (p 0))) (Not (Atom (p 1)))) (Atom (p 1))))))
 
 forest9_2 : forest w9 f9 2 start ≡ ((Touch 2 0 (2 ∷ 1 ∷ [])) ∷ ((Touch 5 1 (2 ∷ 3 ∷ [])) ∷ []))
 forest9_2 = simp order-Touch-Touch refl
 
 -- one tree for each value, over the forest under it
 abbrev w11 : World
-w11 = (world ((1 ∷ []) ∷ (2 ∷ []) ∷ (3 ∷ []) ∷ (4 ∷ []) ∷ (5 ∷ []) ∷ (6 ∷ []) ∷ (7 ∷ []) ∷ (8 ∷ []) ∷ (8 ∷ []) ∷ []) ((Some 8) ∷ (Some 8) ∷ (Some 3) ∷ (Some 4) ∷ (Some 5) ∷ (Some 6) ∷ (Some 7) ∷ (Some 8) ∷ None ∷ []) ((1 ∷ []) ∷ (2 ∷ []) ∷ [] ∷ [] ∷ [] ∷ [] ∷ [] ∷ [] ∷ [] ∷ []) 64 ((2, 0, (((v 0 (codes "x")), 0) ∷ []), ((2 ∷ 1 ∷ []) ∷ [])) ∷ (4, 0, (((v 0 (codes "x")), 1) ∷ []), ((2 ∷ 3 ∷ []) ∷ [])) ∷ (3, 1, (((v 0 (codes "x")), 0) ∷ []), []) ∷ (5, 1, (((v 0 (codes "x")), 1) ∷ []), []) ∷ (6, 2, [], ((2 ∷ 5 ∷ []) ∷ [])) ∷ []) [] (None ∷ (Some 38) ∷ None ∷ None ∷ None ∷ None ∷ None ∷ None ∷ None ∷ []) (None ∷ None ∷ None ∷ None ∷ None ∷ None ∷ None ∷ (Some 38) ∷ None ∷ []) ((v 0 (codes "x")) ∷ []))
+w11 = (world ((1 ∷ []) ∷ (2 ∷ []) ∷ (3 ∷ []) ∷ (4 ∷ []) ∷ (5 ∷ []) ∷ (6 ∷ []) ∷ (7 ∷ []) ∷ (8 ∷ []) ∷ (8 ∷ []) ∷ [])
+    ((Some 8) ∷ (Some 8) ∷ (Some 3) ∷ (Some 4) ∷ (Some 5) ∷ (Some 6) ∷ (Some 7) ∷ (Some 8) ∷ None ∷ [])
+    ((1 ∷ []) ∷ (2 ∷ []) ∷ [] ∷ [] ∷ [] ∷ [] ∷ [] ∷ [] ∷ [] ∷ []) 64
+    ((2, 0, (((v 0 (codes "x")), 0) ∷ []), ((2 ∷ 1 ∷ []) ∷ [])) ∷ (4, 0, (((v 0 (codes "x")), 1) ∷ []), ((2 ∷ 3 ∷ []) ∷ []))
+    ∷ (3, 1, (((v 0 (codes "x")), 0) ∷ []), []) ∷ (5, 1, (((v 0 (codes "x")), 1) ∷ []), []) ∷ (6, 2, [], ((2 ∷ 5 ∷ []) ∷ []))
+    ∷ []) [] (None ∷ (Some 38) ∷ None ∷ None ∷ None ∷ None ∷ None ∷ None ∷ None ∷ [])
+    (None ∷ None ∷ None ∷ None ∷ None ∷ None ∷ None ∷ (Some 38) ∷ None ∷ []) ((v 0 (codes "x")) ∷ []))
 
 abbrev f11 : Plain
-f11 = (Exists (v 0 (codes "x")) (And (Atom (p 0)) (EX (EU (And (And (Not (Atom (p 0))) (Not (Atom (p 2)))) (Or (Atom (p 1)) (Not (Atom (p 1))))) (Atom (p 2))))))
+f11 = (Exists (v 0 (codes "x")) (And (Atom (p 0))
+    (EX (EU (And (And (Not (Atom (p 0))) (Not (Atom (p 2)))) (Or (Atom (p 1)) (Not (Atom (p 1))))) (Atom (p 2))))))
 
 forest11_2 : forest w11 f11 2 start ≡ ((Bind 2 (v 0 (codes "x")) (Place 0) ((Touch 2 0 (2 ∷ 1 ∷ [])) ∷ ((Touch 6 2 (2 ∷ 5 ∷ [])) ∷ []))) ∷ [])
 forest11_2 = simp order-Touch-Touch refl
@@ -184,33 +231,60 @@ forest11_4 = simp order-Touch-Touch refl
 
 -- the variable of a block has no tree
 abbrev w13 : World
-w13 = (world ((1 ∷ []) ∷ (2 ∷ []) ∷ (3 ∷ 8 ∷ []) ∷ (4 ∷ []) ∷ (5 ∷ []) ∷ (6 ∷ []) ∷ (7 ∷ []) ∷ (2 ∷ []) ∷ (9 ∷ []) ∷ (9 ∷ []) ∷ []) ((Some 9) ∷ (Some 9) ∷ (Some 8) ∷ (Some 2) ∷ (Some 5) ∷ (Some 6) ∷ (Some 7) ∷ (Some 2) ∷ (Some 9) ∷ None ∷ []) ((1 ∷ []) ∷ (2 ∷ []) ∷ (3 ∷ []) ∷ (4 ∷ []) ∷ [] ∷ [] ∷ [] ∷ [] ∷ [] ∷ [] ∷ []) 56 ((2, 0, (((v 0 (codes "x")), 0) ∷ []), []) ∷ (1, 1, [], []) ∷ (3, 1, [], []) ∷ (5, 2, (((v 0 (codes "x")), 0) ∷ []), ((2 ∷ 1 ∷ 4 ∷ 2 ∷ []) ∷ [])) ∷ (7, 3, [], []) ∷ (8, 3, [], []) ∷ []) [] (None ∷ (Some 35) ∷ None ∷ (Some 40) ∷ None ∷ None ∷ None ∷ None ∷ None ∷ None ∷ []) (None ∷ None ∷ None ∷ None ∷ None ∷ None ∷ None ∷ (Some 40) ∷ (Some 35) ∷ None ∷ []) ((v 0 (codes "x")) ∷ []))
+w13 = (world ((1 ∷ []) ∷ (2 ∷ []) ∷ (3 ∷ 8 ∷ []) ∷ (4 ∷ []) ∷ (5 ∷ []) ∷ (6 ∷ []) ∷ (7 ∷ []) ∷ (2 ∷ []) ∷ (9 ∷ []) ∷ (9 ∷ [])
+    ∷ []) ((Some 9) ∷ (Some 9) ∷ (Some 8) ∷ (Some 2) ∷ (Some 5) ∷ (Some 6) ∷ (Some 7) ∷ (Some 2) ∷ (Some 9) ∷ None ∷ [])
+    ((1 ∷ []) ∷ (2 ∷ []) ∷ (3 ∷ []) ∷ (4 ∷ []) ∷ [] ∷ [] ∷ [] ∷ [] ∷ [] ∷ [] ∷ []) 56
+    ((2, 0, (((v 0 (codes "x")), 0) ∷ []), []) ∷ (1, 1, [], []) ∷ (3, 1, [], [])
+    ∷ (5, 2, (((v 0 (codes "x")), 0) ∷ []), ((2 ∷ 1 ∷ 4 ∷ 2 ∷ []) ∷ [])) ∷ (7, 3, [], []) ∷ (8, 3, [], []) ∷ []) []
+    (None ∷ (Some 35) ∷ None ∷ (Some 40) ∷ None ∷ None ∷ None ∷ None ∷ None ∷ None ∷ [])
+    (None ∷ None ∷ None ∷ None ∷ None ∷ None ∷ None ∷ (Some 40) ∷ (Some 35) ∷ None ∷ []) ((v 0 (codes "x")) ∷ []))
 
 abbrev f13 : Plain
-f13 = (Exists (v 0 (codes "x")) (And (And (Atom (p 0)) (Down 0 (And (Exists (v 0 (123 ∷ codes "0")) (And (BraceOpen (p 1) (v 0 (123 ∷ codes "0"))) (Down 0 (EU (And (Inside (v 0 (123 ∷ codes "0"))) (Not (Atom (p 2)))) (And (Inside (v 0 (123 ∷ codes "0"))) (And (Atom (p 2)) (EX (EU (And (Inside (v 0 (123 ∷ codes "0"))) (Not (Atom (p 2)))) (Or (BraceClose (p 3) (v 0 (123 ∷ codes "0"))) (Outside (v 0 (123 ∷ codes "0")))))))))))) (Past True)))) (Past True)))
+f13 = (Exists (v 0 (codes "x")) (And (And (Atom (p 0))
+    (InBranch 0 (And (Exists (v 0 (123 ∷ codes "0"))
+    (And (BraceOpen (p 1) (v 0 (123 ∷ codes "0")))
+    (InBranch 0 (EU (And (Inside (v 0 (123 ∷ codes "0"))) (Not (Atom (p 2))))
+    (And (Inside (v 0 (123 ∷ codes "0")))
+    (And (Atom (p 2)) (EX (EU (And (Inside (v 0 (123 ∷ codes "0"))) (Not (Atom (p 2))))
+    (Or (BraceClose (p 3) (v 0 (123 ∷ codes "0"))) (Outside (v 0 (123 ∷ codes "0")))))))))))) (After True)))) (After True)))
 
 forest13_2 : forest w13 f13 2 start ≡ ((Bind 2 (v 0 (codes "x")) (Place 0) ((Touch 5 2 (2 ∷ 1 ∷ 4 ∷ 2 ∷ [])) ∷ [])) ∷ [])
 forest13_2 = refl
 
 -- a nest
 abbrev w14 : World
-w14 = (world ((1 ∷ []) ∷ (2 ∷ []) ∷ (3 ∷ []) ∷ (4 ∷ []) ∷ (5 ∷ []) ∷ (6 ∷ []) ∷ (6 ∷ []) ∷ []) ((Some 6) ∷ (Some 6) ∷ (Some 3) ∷ (Some 4) ∷ (Some 5) ∷ (Some 6) ∷ None ∷ []) ((1 ∷ []) ∷ (2 ∷ []) ∷ [] ∷ [] ∷ [] ∷ [] ∷ [] ∷ []) 48 ((2, 0, (((v 0 (codes "x")), 0) ∷ []), ((2 ∷ 1 ∷ []) ∷ [])) ∷ (3, 1, (((v 0 (codes "x")), 0) ∷ []), []) ∷ (4, 2, [], ((2 ∷ 3 ∷ []) ∷ [])) ∷ []) [] (None ∷ (Some 32) ∷ None ∷ None ∷ None ∷ None ∷ None ∷ []) (None ∷ None ∷ None ∷ None ∷ None ∷ (Some 32) ∷ None ∷ []) ((v 0 (codes "x")) ∷ []))
+w14 = (world ((1 ∷ []) ∷ (2 ∷ []) ∷ (3 ∷ []) ∷ (4 ∷ []) ∷ (5 ∷ []) ∷ (6 ∷ []) ∷ (6 ∷ []) ∷ [])
+    ((Some 6) ∷ (Some 6) ∷ (Some 3) ∷ (Some 4) ∷ (Some 5) ∷ (Some 6) ∷ None ∷ [])
+    ((1 ∷ []) ∷ (2 ∷ []) ∷ [] ∷ [] ∷ [] ∷ [] ∷ [] ∷ []) 48
+    ((2, 0, (((v 0 (codes "x")), 0) ∷ []), ((2 ∷ 1 ∷ []) ∷ [])) ∷ (3, 1, (((v 0 (codes "x")), 0) ∷ []), [])
+    ∷ (4, 2, [], ((2 ∷ 3 ∷ []) ∷ [])) ∷ []) [] (None ∷ (Some 32) ∷ None ∷ None ∷ None ∷ None ∷ None ∷ [])
+    (None ∷ None ∷ None ∷ None ∷ None ∷ (Some 32) ∷ None ∷ []) ((v 0 (codes "x")) ∷ []))
 
 abbrev f14 : Plain
-f14 = (Exists (v 0 (codes "x")) (And (Atom (p 0)) (EX (And (EU (And (And (Not (Atom (p 0))) (Not (Atom (p 2)))) (Or (Atom (p 1)) (Not (Atom (p 1))))) (Atom (p 2))) (EU (And (Not (Atom (p 0))) (Not (Atom (p 2)))) (And (And (And (Not (Atom (p 0))) (Not (Atom (p 2)))) (Atom (p 1))) (EU (And (Not (Atom (p 0))) (Not (Atom (p 2)))) (Atom (p 2)))))))))
+f14 = (Exists (v 0 (codes "x")) (And (Atom (p 0))
+    (EX (And (EU (And (And (Not (Atom (p 0))) (Not (Atom (p 2)))) (Or (Atom (p 1)) (Not (Atom (p 1))))) (Atom (p 2)))
+    (EU (And (Not (Atom (p 0))) (Not (Atom (p 2))))
+    (And (And (And (Not (Atom (p 0))) (Not (Atom (p 2)))) (Atom (p 1))) (EU (And (Not (Atom (p 0))) (Not (Atom (p 2)))) (Atom (p 2)))))))))
 
 forest14_2 : forest w14 f14 2 start ≡ ((Bind 2 (v 0 (codes "x")) (Place 0) ((Touch 2 0 (2 ∷ 1 ∷ [])) ∷ ((Touch 4 2 (2 ∷ 3 ∷ [])) ∷ []))) ∷ [])
 forest14_2 = simp order-Touch-Touch refl
 
 -- a nest: the repeated part is touched at each node that it matches, with its own value
 abbrev w20 : World
-w20 = (world ((1 ∷ []) ∷ (2 ∷ []) ∷ (3 ∷ []) ∷ (4 ∷ []) ∷ (5 ∷ []) ∷ (6 ∷ []) ∷ (7 ∷ []) ∷ (8 ∷ []) ∷ (8 ∷ []) ∷ []) ((Some 8) ∷ (Some 8) ∷ (Some 3) ∷ (Some 4) ∷ (Some 5) ∷ (Some 6) ∷ (Some 7) ∷ (Some 8) ∷ None ∷ []) ((1 ∷ []) ∷ (2 ∷ []) ∷ [] ∷ [] ∷ [] ∷ [] ∷ [] ∷ [] ∷ [] ∷ []) 3 ((2, 0, [], []) ∷ (3, 1, (((v 0 (codes "x")), 0) ∷ []), ((2 ∷ 2 ∷ []) ∷ [])) ∷ (5, 1, (((v 0 (codes "x")), 1) ∷ []), ((2 ∷ 4 ∷ []) ∷ [])) ∷ (6, 2, [], []) ∷ []) [] (None ∷ (Some 38) ∷ None ∷ None ∷ None ∷ None ∷ None ∷ None ∷ None ∷ []) (None ∷ None ∷ None ∷ None ∷ None ∷ None ∷ None ∷ (Some 38) ∷ None ∷ []) ((v 0 (codes "x")) ∷ []))
+w20 = (world ((1 ∷ []) ∷ (2 ∷ []) ∷ (3 ∷ []) ∷ (4 ∷ []) ∷ (5 ∷ []) ∷ (6 ∷ []) ∷ (7 ∷ []) ∷ (8 ∷ []) ∷ (8 ∷ []) ∷ [])
+    ((Some 8) ∷ (Some 8) ∷ (Some 3) ∷ (Some 4) ∷ (Some 5) ∷ (Some 6) ∷ (Some 7) ∷ (Some 8) ∷ None ∷ [])
+    ((1 ∷ []) ∷ (2 ∷ []) ∷ [] ∷ [] ∷ [] ∷ [] ∷ [] ∷ [] ∷ [] ∷ []) 3
+    ((2, 0, [], []) ∷ (3, 1, (((v 0 (codes "x")), 0) ∷ []), ((2 ∷ 2 ∷ []) ∷ []))
+    ∷ (5, 1, (((v 0 (codes "x")), 1) ∷ []), ((2 ∷ 4 ∷ []) ∷ [])) ∷ (6, 2, [], []) ∷ []) []
+    (None ∷ (Some 38) ∷ None ∷ None ∷ None ∷ None ∷ None ∷ None ∷ None ∷ [])
+    (None ∷ None ∷ None ∷ None ∷ None ∷ None ∷ None ∷ (Some 38) ∷ None ∷ []) ((v 0 (codes "x")) ∷ []))
 
 abbrev f20 : Plain
 f20 =
     let once : Plain = Exists (v 0 (codes "x")) (Atom (p 1)) in
     let way : Plain = And (And (Not (Atom (p 0))) (Not (Atom (p 2)))) (Or once (Not once)) in
-    And (Atom (p 0)) (AX (And (AU way (Or (Atom (p 2)) Bail)) (EU way (Atom (p 2)))))
+    And (Atom (p 0)) (AX (And (AU way (Or (Atom (p 2)) EarlyExit)) (EU way (Atom (p 2)))))
 
-forest20_2 : forest w20 f20 2 start ≡ (Bind 3 (v 0 (codes "x")) (Place 0) (Touch 3 1 (2 ∷ 2 ∷ []) ∷ []) ∷ Bind 5 (v 0 (codes "x")) (Place 1) (Touch 5 1 (2 ∷ 4 ∷ []) ∷ []) ∷ [])
+forest20_2 : forest w20 f20 2 start ≡ (Bind 3 (v 0 (codes "x")) (Place 0) (Touch 3 1 (2 ∷ 2 ∷ []) ∷ [])
+    ∷ Bind 5 (v 0 (codes "x")) (Place 1) (Touch 5 1 (2 ∷ 4 ∷ []) ∷ []) ∷ [])
 forest20_2 = simp (order-Touch-Touch, order-Bind-Bind) refl

@@ -37,7 +37,9 @@ use Rattle.pat_match.specs.Kinds.{is_of_kind, is_named}
 use Rattle.pat_match.specs.Tokens.{is_place, not_places, stands_at, value_is, meta_fits, run_is, token_fits, leaf_fits, first_id, id_of}
 use Rattle.pat_match.specs.Runs.{Piece, comma_fits, run_fits, takes, runs_from, list_fits, single_fits, is_wild, as_comma, some_below}
 use Rattle.pat_match.specs.Fitting.{piece, fits_tree, fits_by, all_fit, kids_fit, is_sign_token, leaf_of}
-use Rattle.pat_match.specs.Spots.{own_fits, own_fit, token_whole, branch_whole, whole_at, fits_at, is_disjunction, option_fits, open_brace, close_brace, is_open_brace, is_close_brace, is_statement_node, is_simple_node, is_tail_node, seats}
+use Rattle.pat_match.specs.Spots.{own_fits, own_fit, token_whole, branch_whole, whole_at, fits_at, is_disjunction, option_fits}
+use Rattle.pat_match.specs.Spots.{open_brace, close_brace, is_open_brace, is_close_brace, is_statement_node, is_simple_node}
+use Rattle.pat_match.specs.Spots.{is_tail_node, seats}
 use Rattle.pat_match.specs.declared.role.NodeRole.{NodeRole}
 use Rattle.pat_match.specs.Roles.{role_of, may_stand}
 use Rattle.pat_match.specs.Matching.{fits_seat, matches, aligned_at, aligns, is_live_in, put_form, first_from}
@@ -154,7 +156,8 @@ module _ (decls : List VarDecl) (tokens : List PatToken) (d e : Environment) (a 
       let every = every-pieces decls tokens d forms t ∙ every_of forms h t ∙ sym (every-pieces decls tokens e forms t) in
       λ i. bare i && every i
   by_shape shape.List l forms h t =
-      kids (list_fits decls tokens d l) (list_fits decls tokens e l) l (map (piece decls tokens d) forms) (map (piece decls tokens e) forms) (λ us. runs l None forms h (members us)) (out-Tree t)
+      kids (list_fits decls tokens d l) (list_fits decls tokens e l) l (map (piece decls tokens d) forms)
+      (map (piece decls tokens e) forms) (λ us. runs l None forms h (members us)) (out-Tree t)
   by_shape shape.Plain l forms h t =
       kids all_fit all_fit l (map (piece decls tokens d) forms) (map (piece decls tokens e) forms) (all_of forms h) (out-Tree t)
 
@@ -172,7 +175,8 @@ module _ (decls : List VarDecl) (tokens : List PatToken) (d e : Environment) (a 
   own : (k : NodeKind) (form : Tree-F Tree) (t : Tree) → own_fits decls tokens d k form t ≡ own_fits decls tokens e k form t
   own k (Tree-F.Leaf b) t = refl
   own k (Tree-F.Branch l fs) t =
-      let inner = kids (own_fit (is_own k l (length fs)) 0) (own_fit (is_own k l (length fs)) 0) l (map (piece decls tokens d) fs) (map (piece decls tokens e) fs)
+      let inner = kids (own_fit (is_own k l (length fs)) 0) (own_fit (is_own k l (length fs)) 0) l
+      (map (piece decls tokens d) fs) (map (piece decls tokens e) fs)
       (own_of (is_own k l (length fs)) 0 fs (each fs)) (out-Tree t) in
       λ i. not (is_disjunction (shape_of l)) && inner i
 

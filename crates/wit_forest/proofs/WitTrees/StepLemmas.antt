@@ -31,7 +31,8 @@ module _ (w : World) (ok : IsSound w.graph) (env : Environment) (z : Witness) wh
 
     au_somewhere : (s : ℕ) → has (forest w (AU f h) s env) z
         ≡ list_any (λ m. is_reached w.graph way s m && has (choice m) z) (numbers (count_of w.graph))
-    au_somewhere s = has-union_map w choice (reached w.graph way s) z ∙ any-filter (is_reached w.graph way s) (λ m. has (choice m) z) (numbers (count_of w.graph))
+    au_somewhere s = has-union_map w choice (reached w.graph way s) z
+        ∙ any-filter (is_reached w.graph way s) (λ m. has (choice m) z) (numbers (count_of w.graph))
 
     -- A[f U h]: the trees here, and if f holds and h doesn't, those of the until at each next node
     pub au-step : (s : ℕ) → s < count_of w.graph → has (forest w (AU f h) s env) z

@@ -35,8 +35,8 @@ module _ (g : Flow) (holds : ℕ → ℕ → Bool) where
   kids (node.AU i j) part s =
       if holds j s then (j, s) ∷ [] else (i, s) ∷ (if holds i s then map (λ k. (part, k)) (succ_of g s) else [])
   kids (node.EU i j) part s = held j s ++ (if holds i s then flat_map (way_on part i s) (succ_of g s) else [])
-  kids (node.Past i) part s = there i (past_of g s)
-  kids (node.Down b i) part s = there i (slice_get (down_of g s) b)
+  kids (node.After i) part s = there i (past_of g s)
+  kids (node.InBranch b i) part s = there i (slice_get (down_of g s) b)
   kids _ part s = []
 
 -- quantifiers lead to their parts under other environments

@@ -9,8 +9,8 @@ use Rattle.smpl_patch.specs.declared.pattern.Pattern.{Pattern}
 use Rattle.smpl_patch.specs.declared.pattern.VarDecl.{VarDecl}
 use Rattle.smpl_patch.specs.declared.witness.Witness.{Witness}
 use Rattle.smpl_patch.specs.declared.witness.Witness.TheVariants.{Touch, Bind}
-use Rattle.ctl_formula.specs.Plain.{Plain, True, Atom, Bail, BraceOpen, BraceClose, Inside, Outside, Not, And, Or, AX, EX, AU}
-use Rattle.ctl_formula.specs.Plain.{EU, Past, Down, Exists}
+use Rattle.ctl_formula.specs.Plain.{Plain, True, Atom, EarlyExit, BraceOpen, BraceClose, Inside, Outside, Not, And, Or, AX, EX, AU}
+use Rattle.ctl_formula.specs.Plain.{EU, After, InBranch, Exists}
 use Rattle.ctl_fixpoint.specs.CtlHolds.Rounds.{rounds}
 use Rattle.wit_forest.specs.WitTrees.Unions.{union, union_of}
 
@@ -62,7 +62,7 @@ module _ (w : World) where
   abbrev pub forest : Plain → ℕ → Environment → List Witness
   forest True s env = []
   forest (Atom p) s env = touched p s env
-  forest Bail s env = []
+  forest EarlyExit s env = []
   forest (BraceOpen p b) s env = touched p s env
   forest (BraceClose p b) s env = touched p s env
   forest (Inside b) s env = []
@@ -80,8 +80,8 @@ module _ (w : World) where
       (λ n. union w.decls (if w.holds h n env then forest h n env else [])
       (if w.holds f n env && list_any (λ k. w.holds (EU f h) k env) (succ_of w.graph n) then forest f n env else []))
       (reached w.graph (λ n. w.holds f n env) s))
-  forest (Past f) s env = at_option (λ k. forest f k env) (past_of w.graph s)
-  forest (Down i f) s env = at_option (λ k. forest f k env) (slice_get (down_of w.graph s) i)
+  forest (After f) s env = at_option (λ k. forest f k env) (past_of w.graph s)
+  forest (InBranch i f) s env = at_option (λ k. forest f k env) (slice_get (down_of w.graph s) i)
   forest (Exists x f) s env = union_of w.decls (map
       (λ v. bound_to (is_hidden x) s x v (forest f s (change env x v)))
       (filter (λ v. w.holds f s (change env x v)) w.values))

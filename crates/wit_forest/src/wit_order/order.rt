@@ -3,7 +3,7 @@ ghost use Rattle.std.specs.Prelude.{◌≡◌};
 ghost use Rattle.std.specs.Cmp.Lexicographic.{slice_cmp};
 ghost use Rattle.std.specs.Ordering.{nat_cmp, ordering_then};
 ghost use Rattle.smpl_terms.specs.Values.{value_order};
-ghost use Rattle.wit_forest.specs.WitOrder.Order as of;
+ghost use Rattle.wit_forest.specs.WitOrder.Order as spec;
 
 use c_terms::TreePath;
 use smpl_patch::{VarDecl, Witness};
@@ -12,7 +12,7 @@ use std::cmp::Ordering;
 
 /// Returns how many declarations come before that of the variable.
 fn rank(decls: &[VarDecl], x: &Var) -> usize
-    ensures { result ≡ of.rank decls.now x.now }
+    ensures { result ≡ spec.rank decls.now x.now }
 {
     for (i, d) in decls.iter().enumerate() {
         if same_var(&d.var, x) {
@@ -25,7 +25,7 @@ fn rank(decls: &[VarDecl], x: &Var) -> usize
 /// Compares two variables in the order of their declarations. Variables that are not declared come after those that are, in
 /// the order of variables. Linear in the declarations.
 pub fn declared_order(decls: &[VarDecl], x: &Var, y: &Var) -> Ordering
-    ensures value { result ≡ of.declared_order decls.now x.now y.now }
+    ensures value { result ≡ spec.declared_order decls.now x.now y.now }
 {
     match rank(decls, x).cmp(&rank(decls, y)) {
         Ordering::Equal => var_order(x, y),
@@ -51,7 +51,7 @@ fn order_of_touches(a: u32, p: &TreePath, b: u32, q: &TreePath) -> Ordering
 
 /// Compares two binds by variable, then by value.
 fn order_of_values(decls: &[VarDecl], x: &Var, v: &Value, y: &Var, u: &Value) -> Ordering
-    ensures { result ≡ ordering_then (of.declared_order decls.now x.now y.now) (value_order v.now u.now) }
+    ensures { result ≡ ordering_then (spec.declared_order decls.now x.now y.now) (value_order v.now u.now) }
 {
     match declared_order(decls, x, y) {
         Ordering::Equal => value_order(v, u),
@@ -63,7 +63,7 @@ fn order_of_values(decls: &[VarDecl], x: &Var, v: &Value, y: &Var, u: &Value) ->
 /// then by the trees under them. Stops at the first difference, takes no memory, and recurses once per level.
 #[cycle(order)]
 pub fn witness_order(decls: &[VarDecl], a: &Witness, b: &Witness) -> Ordering
-    ensures value { result ≡ of.witness_order decls.now a.now b.now }
+    ensures value { result ≡ spec.witness_order decls.now a.now b.now }
 {
     match a {
         Witness::Touch(n, i, p) => match b {
@@ -94,7 +94,7 @@ pub fn witness_order(decls: &[VarDecl], a: &Witness, b: &Witness) -> Ordering
 
 #[cycle(order)]
 fn order_of_forests(decls: &[VarDecl], xs: &[Witness], ys: &[Witness]) -> Ordering
-    ensures { result ≡ slice_cmp (of.witness_order decls.now) xs.now ys.now }
+    ensures { result ≡ slice_cmp (spec.witness_order decls.now) xs.now ys.now }
 {
     let common = xs.len().min(ys.len());
     for i in 0..common {

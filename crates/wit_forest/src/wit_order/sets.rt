@@ -5,7 +5,7 @@ ghost use Rattle.std.specs.List.Sorted.{IsSortedBy};
 ghost use Rattle.std.specs.Ordering.{is_lt};
 ghost use Rattle.smpl_patch.specs.declared.witness.Witness.{Witness as Tree};
 ghost use Rattle.wit_forest.specs.WitOrder.Same.{same_witness};
-ghost use Rattle.wit_forest.specs.WitOrder.Order as of;
+ghost use Rattle.wit_forest.specs.WitOrder.Order as spec;
 ghost use Rattle.wit_forest.specs.WitOrder.Forests.{has, HaveSame, NoneAbove, Rise};
 
 use crate::wit_order::order::witness_order;
@@ -33,7 +33,7 @@ fn without_repeats(
     decls: &[VarDecl],
     trees: Vec<Witness>,
 ) -> Result<Vec<Witness>, NoMemory>
-    requires sorted { IsSortedBy (λ v w. is_lt (of.witness_order decls.now v w)) trees.items }
+    requires sorted { IsSortedBy (λ v w. is_lt (spec.witness_order decls.now v w)) trees.items }
     ensures trees { IfOk result (λ r. HaveSame r.items trees.items) }
     ensures rise { IfOk result (λ r. Rise decls.now r.items) }
 {

@@ -4,7 +4,7 @@ ghost use Rattle.std.specs.List.{flat_map};
 ghost use Rattle.cfg_build.specs.CfgGraph.Flow.{IsSound, count_of, succ_of, down_of};
 ghost use Rattle.smpl_terms.specs.Environments.{total};
 ghost use Rattle.ctl_formula.specs.Tables.{below};
-ghost use Rattle.wit_forest.specs.WitSteps.Steps as of;
+ghost use Rattle.wit_forest.specs.WitSteps.Steps as spec;
 
 use c_terms::NoMemory;
 use cfg_build::Graph;
@@ -17,7 +17,7 @@ use std::alloc::Global;
 fn told(sets: &StateSets, part: usize, node: u32, env: &Env) -> bool
     requires part { part < length sets.now }
     requires node { node < length (slice_index_or sets.now part []) }
-    ensures { result ≡ of.told sets.now (total env.now) part node }
+    ensures { result ≡ spec.told sets.now (total env.now) part node }
 {
     denotes(sets.at(part, node), env)
 }
@@ -58,7 +58,7 @@ fn put_held(
     requires part { part < length sets.now }
     requires node { node < length (slice_index_or sets.now part []) }
     ensures { IfOk result (λ _. kids.new.items
-        ≡ kids.old.items ++ of.held g.now (of.told sets.now (total env.now)) part node) }
+        ≡ kids.old.items ++ spec.held g.now (spec.told sets.now (total env.now)) part node) }
 {
     let here = told(sets, part, node, env);
     put_if(kids, here, part, node)
@@ -96,8 +96,8 @@ fn either(
     requires first_node { s < length (slice_index_or sets.now i []) }
     requires second { j < length sets.now }
     requires second_node { s < length (slice_index_or sets.now j []) }
-    ensures { IfOk result (λ r. r.items ≡ of.held g.now (of.told sets.now (total env.now)) i s
-        ++ of.held g.now (of.told sets.now (total env.now)) j s) }
+    ensures { IfOk result (λ r. r.items ≡ spec.held g.now (spec.told sets.now (total env.now)) i s
+        ++ spec.held g.now (spec.told sets.now (total env.now)) j s) }
 {
     let mut kids = Vec::new(alloc);
     put_held(&mut kids, g, sets, i, s, env)?;
@@ -117,7 +117,7 @@ fn some_next(
     requires part { part < length sets.now }
     requires nodes { (k : ℕ) → Contains next.now k → k < length (slice_index_or sets.now part []) }
     ensures { IfOk result (λ r. r.items
-        ≡ flat_map (of.held g.now (of.told sets.now (total env.now)) part) next.now) }
+        ≡ flat_map (spec.held g.now (spec.told sets.now (total env.now)) part) next.now) }
 {
     let mut kids = Vec::new(alloc);
     for k in next {
@@ -163,8 +163,8 @@ fn every_until(
     requires end { end < length sets.now }
     requires wide { (i : ℕ) → i < length sets.now → length (slice_index_or sets.now i []) ≡ count_of g.now }
     ensures { IfOk result (λ r. r.items
-        ≡ (if of.told sets.now (total env.now) end s then (end, s) ∷ []
-        else (way, s) ∷ (if of.told sets.now (total env.now) way s then map (λ k. (until, k)) (succ_of g.now s) else []))) }
+        ≡ (if spec.told sets.now (total env.now) end s then (end, s) ∷ []
+        else (way, s) ∷ (if spec.told sets.now (total env.now) way s then map (λ k. (until, k)) (succ_of g.now s) else []))) }
 {
     if told(sets, end, s, env) {
         return one(alloc, end, s);
@@ -205,7 +205,7 @@ fn ways_on(
     requires until { until < length sets.now }
     requires nodes { (k : ℕ) → Contains next.now k → k < length (slice_index_or sets.now until []) }
     ensures { IfOk result (λ r. r.items
-        ≡ flat_map (of.way_on g.now (of.told sets.now (total env.now)) until way s) next.now) }
+        ≡ flat_map (spec.way_on g.now (spec.told sets.now (total env.now)) until way s) next.now) }
 {
     let mut kids = Vec::new(alloc);
     for k in next {
@@ -229,8 +229,8 @@ fn some_way(
     requires until { until < length sets.now }
     requires way { way < length sets.now }
     requires wide { (i : ℕ) → i < length sets.now → length (slice_index_or sets.now i []) ≡ count_of g.now }
-    ensures { IfOk result (λ r. r.items ≡ (if of.told sets.now (total env.now) way s
-        then flat_map (of.way_on g.now (of.told sets.now (total env.now)) until way s) (succ_of g.now s) else [])) }
+    ensures { IfOk result (λ r. r.items ≡ (if spec.told sets.now (total env.now) way s
+        then flat_map (spec.way_on g.now (spec.told sets.now (total env.now)) until way s) (succ_of g.now s) else [])) }
 {
     if told(sets, way, s, env) {
         return ways_on(alloc, g, sets, g.succ(s), until, way, s, env);
@@ -256,9 +256,9 @@ fn some_until(
     requires way { way < length sets.now }
     requires end { end < length sets.now }
     requires wide { (i : ℕ) → i < length sets.now → length (slice_index_or sets.now i []) ≡ count_of g.now }
-    ensures { IfOk result (λ r. r.items ≡ of.held g.now (of.told sets.now (total env.now)) end s
-        ++ (if of.told sets.now (total env.now) way s
-        then flat_map (of.way_on g.now (of.told sets.now (total env.now)) until way s) (succ_of g.now s) else [])) }
+    ensures { IfOk result (λ r. r.items ≡ spec.held g.now (spec.told sets.now (total env.now)) end s
+        ++ (if spec.told sets.now (total env.now) way s
+        then flat_map (spec.way_on g.now (spec.told sets.now (total env.now)) until way s) (succ_of g.now s) else [])) }
 {
     let mut kids = Vec::new(alloc);
     put_held(&mut kids, g, sets, end, s, env)?;
@@ -268,7 +268,7 @@ fn some_until(
 }
 
 fn there(alloc: Global, i: usize, node: Option<u32>) -> Result<Vec<(usize, u32)>, NoMemory>
-    ensures { IfOk result (λ r. r.items ≡ of.there i node) }
+    ensures { IfOk result (λ r. r.items ≡ spec.there i node) }
 {
     match node {
         Some(k) => one(alloc, i, k),
@@ -285,7 +285,7 @@ fn body(
     s: u32,
 ) -> Result<Vec<(usize, u32)>, NoMemory>
     requires s { s < count_of g.now }
-    ensures { IfOk result (λ r. r.items ≡ of.there i (slice_get (down_of g.now s) number)) }
+    ensures { IfOk result (λ r. r.items ≡ spec.there i (slice_get (down_of g.now s) number)) }
 {
     there(alloc, i, g.down(s, number))
 }
@@ -307,7 +307,7 @@ pub fn kids(
     requires below { below (length sets.now) node.now ≡ true }
     requires wide { (i : ℕ) → i < length sets.now → length (slice_index_or sets.now i []) ≡ count_of g.now }
     ensures kids { IfOk result (λ r. r.items
-        ≡ of.kids g.now (of.told sets.now (total env.now)) node.now part s) }
+        ≡ spec.kids g.now (spec.told sets.now (total env.now)) node.now part s) }
 {
     match node {
         Node::And(i, j) => both(alloc, *i, *j, s),
@@ -316,8 +316,8 @@ pub fn kids(
         Node::EX(i) => some_next(alloc, g, sets, g.succ(s), *i, env),
         Node::AU(i, j) => every_until(alloc, g, sets, part, *i, *j, s, env),
         Node::EU(i, j) => some_until(alloc, g, sets, part, *i, *j, s, env),
-        Node::Past(i) => there(alloc, *i, g.past(s)),
-        Node::Down(number, i) => body(alloc, g, *number, *i, s),
+        Node::After(i) => there(alloc, *i, g.past(s)),
+        Node::InBranch(number, i) => body(alloc, g, *number, *i, s),
         _ => Ok(Vec::new(alloc)),
     }
 }

@@ -7,7 +7,7 @@ ghost use Rattle.smpl_terms.specs.Values.{same};
 ghost use Rattle.smpl_terms.specs.Vars.{same_var};
 ghost use Rattle.smpl_terms.specs.Environments.{total};
 ghost use Rattle.env_sets.specs.Blocks.{all_entries};
-ghost use Rattle.wit_forest.specs.WitSteps.Choices as of;
+ghost use Rattle.wit_forest.specs.WitSteps.Choices as spec;
 
 use c_terms::NoMemory;
 use env_sets::{Bound, Entry, EnvSet};
@@ -32,7 +32,7 @@ fn passes(env: &Env, x: &Var, y: &Var, bound: &Bound) -> bool
 
 /// Whether the bounds of all variables other than x allow their values.
 fn others_allow(pairs: &[(Var, Bound)], env: &Env, x: &Var) -> bool
-    ensures { result ≡ of.others_allow x.now (total env.now) pairs.now }
+    ensures { result ≡ spec.others_allow x.now (total env.now) pairs.now }
 {
     for p in pairs {
         if !passes(env, x, &p.0, &p.1) {
@@ -43,7 +43,7 @@ fn others_allow(pairs: &[(Var, Bound)], env: &Env, x: &Var) -> bool
 }
 
 fn as_value(bound: &Bound) -> Option<&Value>
-    ensures { option_copied result ≡ of.as_value bound.now }
+    ensures { option_copied result ≡ spec.as_value bound.now }
 {
     match bound {
         Bound::Is(v) => Some(v),
@@ -53,7 +53,7 @@ fn as_value(bound: &Bound) -> Option<&Value>
 
 /// Returns the one value that the variable may have, if there is one.
 fn own_value<'a>(pairs: &'a [(Var, Bound)], x: &Var) -> Option<&'a Value>
-    ensures { option_copied result ≡ of.own_value x.now pairs.now }
+    ensures { option_copied result ≡ spec.own_value x.now pairs.now }
 {
     for p in pairs {
         if same_var(&p.0, x) {
@@ -96,7 +96,7 @@ fn put_choice(
 ) -> Result<(), NoMemory>
     ensures { IfOk result (λ _. (z : Datum) → list_any (λ u. same u z) values.new.items
         ≡ (list_any (λ u. same u z) values.old.items
-        || (of.others_allow x.now (total env.now) pairs.now && of.is_same_as z (of.own_value x.now pairs.now)))) }
+        || (spec.others_allow x.now (total env.now) pairs.now && spec.is_same_as z (spec.own_value x.now pairs.now)))) }
 {
     if !others_allow(pairs, env, x) {
         return Ok(());
@@ -111,8 +111,8 @@ fn put_choice(
 /// environment. Linear in the set; of equal values in a row, only one is returned.
 pub fn values_in(alloc: Global, set: &EnvSet, env: &Env, x: &Var) -> Result<Vec<Value>, NoMemory>
     ensures values { IfOk result (λ r. (z : Datum) → list_any (λ u. same u z) r.items
-        ≡ of.chosen x.now (total env.now) set.now z) }
-    ensures rise { IfOk result (λ _. of.AllRise set.now) }
+        ≡ spec.chosen x.now (total env.now) set.now z) }
+    ensures rise { IfOk result (λ _. spec.AllRise set.now) }
 {
     let mut values = Vec::new(alloc);
     let (first, blocks) = set.blocks();
@@ -130,8 +130,8 @@ fn put_block_choices(
     x: &Var,
 ) -> Result<(), NoMemory>
     ensures values { IfOk result (λ _. (z : Datum) → list_any (λ u. same u z) values.new.items
-        ≡ (list_any (λ u. same u z) values.old.items || of.chosen x.now (total env.now) (all_entries blocks.now) z)) }
-    ensures rise { IfOk result (λ _. of.AllRise (all_entries blocks.now)) }
+        ≡ (list_any (λ u. same u z) values.old.items || spec.chosen x.now (total env.now) (all_entries blocks.now) z)) }
+    ensures rise { IfOk result (λ _. spec.AllRise (all_entries blocks.now)) }
 {
     for block in blocks {
         put_choices(alloc, values, block.as_slice(), env, x)?;
@@ -148,8 +148,8 @@ fn put_choices(
     x: &Var,
 ) -> Result<(), NoMemory>
     ensures values { IfOk result (λ _. (z : Datum) → list_any (λ u. same u z) values.new.items
-        ≡ (list_any (λ u. same u z) values.old.items || of.chosen x.now (total env.now) entries.now z)) }
-    ensures rise { IfOk result (λ _. of.AllRise entries.now) }
+        ≡ (list_any (λ u. same u z) values.old.items || spec.chosen x.now (total env.now) entries.now z)) }
+    ensures rise { IfOk result (λ _. spec.AllRise entries.now) }
 {
     for e in entries {
         put_choice(alloc, values, e.pairs(), env, x)?;

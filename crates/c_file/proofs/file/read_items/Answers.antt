@@ -10,7 +10,8 @@ pub tokens_in-requires-clause-within : goal.tokens_in-requires-clause-within
 tokens_in-requires-clause-within c = span-ends c.args.spans.now _ c.loop-span.span-index _ c.requires.stand c.loop-span-test.true
 
 pub loop-span-preserved : goal.loop-span-preserved
-loop-span-preserved c = reads-more c.args.visible.now listed_names _ _ c.args.spans.now c.loop-span.span-index _ _ _ _ c.in_ok-item.item c.loop-span.invariant c.loop-span-test.true
+loop-span-preserved c = reads-more c.args.visible.now listed_names _ _ c.args.spans.now c.loop-span.span-index _ _ _ _
+    c.in_ok-item.item c.loop-span.invariant c.loop-span-test.true
     (c.as_slice.ensures.value ∙ c.in_ok-tokens.ensures) c.in_ok-item.ensures c.in_ok-add_names.ensures c.in_ok-push.ensures.items
 
 pub returns : goal.returns

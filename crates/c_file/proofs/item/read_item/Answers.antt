@@ -5,8 +5,13 @@ use Rattle.c_file.proofs.item.read_item.Goals as goal
 
 pub returns-in-Ok : goal.returns-in-Ok
 returns-in-Ok c =
-    let h = reads-whole c.args.names.now c.args.tokens.now (Ok c.in-Ok.tree) c.in-Ok.ensures.reads in
-    (refl, shallow-of-Ok c.args.names.now c.args.tokens.now c.in-Ok.tree h, c.in-Ok.tree, h.found, omega (arith, c.count_nodes.ensures.value, c.if-count_nodes-gt-MOST_NODES.true))
+    let h = reads-whole c.args.names.now c.args.tokens.now (Ok c.in-Ok.tree) c.in-Ok.ensures.reads in (
+      refl,
+      shallow-of-Ok c.args.names.now c.args.tokens.now c.in-Ok.tree h,
+      c.in-Ok.tree,
+      h.found,
+      omega (arith, c.count_nodes.ensures.value, c.if-count_nodes-gt-MOST_NODES.true),
+    )
 
 pub returns-in-Ok-2 : goal.returns-in-Ok-2
 returns-in-Ok-2 c =

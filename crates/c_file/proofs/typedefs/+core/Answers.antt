@@ -9,7 +9,8 @@ pub core-requires : goal.core-requires
 core-requires t c =
     let cs = c.in-Branch.children in let i = c.in-Some.place in let inner = c.in-Some-at.inner.now in
     let at : slice_get cs i ≡ Some inner = ap (λ xs. slice_get xs i) (sym c.as_slice.ensures) ∙ sym c.in-Some-at.ensures in
-    let h = child-levels c.args.tree.now c.in-Branch.label cs i inner c.in-Branch.is (slice_get_within cs i inner at) (sym (get_or_from_slice_get cs i inner inner at)) in
+    let h = child-levels c.args.tree.now c.in-Branch.label cs i inner c.in-Branch.is (slice_get_within cs i inner at)
+    (sym (get_or_from_slice_get cs i inner inner at)) in
     (omega arith, tt)
 
 pub returns-in-Some-at : goal.returns-in-Some-at

@@ -13,5 +13,6 @@ given (Err f) bytes text h e = tt
 pub returns : goal.returns
 returns c =
     let tree = c.args.tree.now in
-    let written = sym (append-nil c.put_tree.new.page.text.items) ∙ c.in_ok-put_tree.ensures.text [] ∙ (λ i. c.new.ensures.items i ++ joined None (append-nil (shown tree Plain) i)) in
+    let written = sym (append-nil c.put_tree.new.page.text.items) ∙ c.in_ok-put_tree.ensures.text []
+    ∙ (λ i. c.new.ensures.items i ++ joined None (append-nil (shown tree Plain) i)) in
     record { text = given c.from_bytes.result c.as_slice.result.now (show_of tree) c.from_bytes.ensures.bytes (c.as_slice.ensures.value ∙ written) }

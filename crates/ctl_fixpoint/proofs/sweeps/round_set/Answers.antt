@@ -10,5 +10,6 @@ returns-clause-vars c =
     let in_end : c.args.s < length c.args.end.now = omega (arith, c.requires.node, c.requires.end) in
     IfOk-weaker c.join.result _ _ (λ r h test way end sets.
     h test (ap (set_vars test) c.set_in-3.ensures ∙ row_vars-at test c.args.end.now c.args.s end in_end)
-    (c.in_ok-through.ensures.vars test (ap (set_vars test) c.set_in-2.ensures ∙ row_vars-at test c.args.way.now c.args.s way in_way) (c.in_ok-next.ensures.vars test sets)))
+    (c.in_ok-through.ensures.vars test (ap (set_vars test) c.set_in-2.ensures
+    ∙ row_vars-at test c.args.way.now c.args.s way in_way) (c.in_ok-next.ensures.vars test sets)))
     c.join.ensures.vars

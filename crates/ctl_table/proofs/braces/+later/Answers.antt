@@ -14,7 +14,8 @@ put_later-put_later_of-requires t c =
 
 pub put_later-loop-e-preserved : goal.put_later-loop-e-preserved
 put_later-loop-e-preserved t c =
-    put-step (λ (e : Elem). blocks.later_element (element e)) (λ (es : List Elem). blocks.later_body (body es)) (λ x xs. refl) c.args.b.now c.loop-e.e-index c.e-item.result
+    put-step (λ (e : Elem). blocks.later_element (element e)) (λ (es : List Elem). blocks.later_body (body es))
+    (λ x xs. refl) c.args.b.now c.loop-e.e-index c.e-item.result
     c.loop-e.found.items c.put_later_of.new.found.items _ c.loop-e-test.true c.e-item.is c.in_ok-put_later_of.ensures c.loop-e.invariant
 
 pub put_later-returns : goal.put_later-returns
@@ -29,13 +30,15 @@ put_later_each-put_later-requires t c =
 
 pub put_later_each-loop-b-preserved : goal.put_later_each-loop-b-preserved
 put_later_each-loop-b-preserved t c =
-    put-step (λ (b : List Elem). blocks.later_body (body b)) (λ (bs : List (List Elem)). blocks.later_bodies (bodies bs)) (λ x xs. refl) c.args.bodies.now c.loop-b.b-index c.b-item.result
+    put-step (λ (b : List Elem). blocks.later_body (body b)) (λ (bs : List (List Elem)). blocks.later_bodies (bodies bs))
+    (λ x xs. refl) c.args.bodies.now c.loop-b.b-index c.b-item.result
     c.loop-b.found.items c.put_later.new.found.items _ c.loop-b-test.true c.b-item.is
     (c.in_ok-put_later.ensures ∙ ap (λ (z : List Elem). c.loop-b.found.items ++ blocks.later_body (body z)) c.as_slice.ensures) c.loop-b.invariant
 
 pub put_later_each-returns : goal.put_later_each-returns
 put_later_each-returns t c =
-    put-end (λ (bs : List (List Elem)). blocks.later_bodies (bodies bs)) refl c.args.bodies.now c.loop-b.b-index c.loop-b.found.items _ (omega arith) c.loop-b.invariant
+    put-end (λ (bs : List (List Elem)). blocks.later_bodies (bodies bs)) refl c.args.bodies.now c.loop-b.b-index
+    c.loop-b.found.items _ (omega arith) c.loop-b.invariant
 
 pub put_pieces-put_later-requires : goal.put_pieces-put_later-requires
 put_pieces-put_later-requires t c =
@@ -55,4 +58,5 @@ put_pieces-loop-w-preserved t c =
 
 pub put_pieces-returns : goal.put_pieces-returns
 put_pieces-returns t c =
-    put-end (λ (bs : List (List Elem)). blocks.pieces (bodies bs)) refl c.args.whens.now c.loop-w.w-index c.loop-w.found.items _ (omega arith) c.loop-w.invariant
+    put-end (λ (bs : List (List Elem)). blocks.pieces (bodies bs)) refl c.args.whens.now c.loop-w.w-index c.loop-w.found.items _
+    (omega arith) c.loop-w.invariant

@@ -14,7 +14,8 @@ put_opens-put_opens_of-requires t c =
 
 pub put_opens-loop-e-preserved : goal.put_opens-loop-e-preserved
 put_opens-loop-e-preserved t c =
-    put-step (λ (e : Elem). blocks.opens_element (element e)) (λ (es : List Elem). blocks.opens_body (body es)) (λ x xs. refl) c.args.b.now c.loop-e.e-index c.e-item.result
+    put-step (λ (e : Elem). blocks.opens_element (element e)) (λ (es : List Elem). blocks.opens_body (body es))
+    (λ x xs. refl) c.args.b.now c.loop-e.e-index c.e-item.result
     c.loop-e.found.items c.put_opens_of.new.found.items _ c.loop-e-test.true c.e-item.is c.in_ok-put_opens_of.ensures c.loop-e.invariant
 
 pub put_opens-returns : goal.put_opens-returns
@@ -29,10 +30,12 @@ put_opens_each-put_opens-requires t c =
 
 pub put_opens_each-loop-b-preserved : goal.put_opens_each-loop-b-preserved
 put_opens_each-loop-b-preserved t c =
-    put-step (λ (b : List Elem). blocks.opens_body (body b)) (λ (bs : List (List Elem)). blocks.opens_bodies (bodies bs)) (λ x xs. refl) c.args.bodies.now c.loop-b.b-index c.b-item.result
+    put-step (λ (b : List Elem). blocks.opens_body (body b)) (λ (bs : List (List Elem)). blocks.opens_bodies (bodies bs))
+    (λ x xs. refl) c.args.bodies.now c.loop-b.b-index c.b-item.result
     c.loop-b.found.items c.put_opens.new.found.items _ c.loop-b-test.true c.b-item.is
     (c.in_ok-put_opens.ensures ∙ ap (λ (z : List Elem). c.loop-b.found.items ++ blocks.opens_body (body z)) c.as_slice.ensures) c.loop-b.invariant
 
 pub put_opens_each-returns : goal.put_opens_each-returns
 put_opens_each-returns t c =
-    put-end (λ (bs : List (List Elem)). blocks.opens_bodies (bodies bs)) refl c.args.bodies.now c.loop-b.b-index c.loop-b.found.items _ (omega arith) c.loop-b.invariant
+    put-end (λ (bs : List (List Elem)). blocks.opens_bodies (bodies bs)) refl c.args.bodies.now c.loop-b.b-index
+    c.loop-b.found.items _ (omega arith) c.loop-b.invariant

@@ -13,7 +13,8 @@ passed-requires-clause-target c = stands-still c.args.parts.now c.condition.new.
 
 pub returns : goal.returns
 returns c = record {
-  made = dots_at-made c.args.forall_walks c.args.parts.now c.condition.new.parts c.passed.new.parts c.exists_all.new.parts (before_at (plains c.args.parts.now) c.args.before.now)
+  made = dots_at-made c.args.forall_walks c.args.parts.now c.condition.new.parts c.passed.new.parts c.exists_all.new.parts
+      (before_at (plains c.args.parts.now) c.args.before.now)
       c.args.d.now c.args.target c.args.scope.now c.as_slice-here.result.now c.in_ok-around.around c.in_ok-through.through c.in_ok-f.f c.exists_all.result
       c.requires.d c.requires.target c.as_slice-here.ensures c.in_ok-around.ensures
       c.in_ok-through.ensures.made c.in_ok-f.ensures.made c.exists_all.ensures.made;

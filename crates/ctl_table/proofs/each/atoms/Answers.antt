@@ -11,6 +11,7 @@ pub returns : goal.returns
 returns c = record {
   made = IfOk-weaker c.joined_each.result _ _
       (λ is h. joined-each (setting_at c.args.m.now) c.args.parts.now c.own_atom.new.parts c.joined_each.new.parts
-      c.is_statement-statement.result _ c.in_ok-f.f _ c.args.nexts.now is.items c.args.scope.now c.requires c.is_statement-statement.ensures.value c.in_ok-f.ensures.made h)
+      c.is_statement-statement.result _ c.in_ok-f.f _ c.args.nexts.now is.items c.args.scope.now c.requires
+      c.is_statement-statement.ensures.value c.in_ok-f.ensures.made h)
       c.joined_each.ensures.made;
 }

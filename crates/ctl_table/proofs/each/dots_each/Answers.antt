@@ -7,7 +7,7 @@ use Rattle.ctl_formula.specs.Plain.{Plain}
 use Rattle.ctl_formula.specs.Tables.{plains}
 use Rattle.ctl_formula.proofs.TableLemmas.{grows-trans}
 use Rattle.ctl_table.specs.Table as table
-use Rattle.ctl_table.specs.declared.follow.MadeDots.{MadeDots}
+use Rattle.ctl_table.specs.declared.follow.DotsContinuation.{DotsContinuation}
 use Rattle.ctl_table.specs.Settings.{setting_at, element_or_none, all_below, parts_at, dots_below, next_of, dots_before, MakesFollows}
 use Rattle.ctl_table.proofs.MakingLemmas.{all-stand, all-stay, both-true}
 use Rattle.ctl_table.proofs.FollowLemmas.{nest-stands}
@@ -33,7 +33,8 @@ each_dots-requires-clause-d c =
 pub each_dots-requires-clause-nexts : goal.each_dots-requires-clause-nexts
 each_dots-requires-clause-nexts c =
     nexts-stand c.args.parts.now c.after_dots.new.parts c.args.nexts.now
-    (grows-trans c.args.parts.now c.staying.new.parts c.after_dots.new.parts c.in_ok-firsts.ensures.made.grows c.in_ok-after.ensures.made.grows) c.requires.nexts
+    (grows-trans c.args.parts.now c.staying.new.parts c.after_dots.new.parts c.in_ok-firsts.ensures.made.grows
+    c.in_ok-after.ensures.made.grows) c.requires.nexts
 
 pub returns : goal.returns
 returns c =
@@ -46,7 +47,7 @@ returns c =
     let strict = (out-Dots c.args.d.now).strict in
     let firsts = table.stays m.around ++ parts_at a c.args.whens.items in
     let g = c.in_ok-after.ensures.made.grows in
-    let d : MadeDots = record {
+    let d : DotsContinuation = record {
       firsts = c.in_ok-firsts.firsts;
       any = any;
       strict = strict;
@@ -56,13 +57,14 @@ returns c =
     } in
     record {
       made = IfOk-weaker c.each_dots.result _ _
-          (λ fs h. dots-whole m a b c.each_dots.new.parts d firsts after c.args.place.now (dots_of c.args.d.now).any (dots_of c.args.d.now).strict c.args.nexts.now fs.items
+          (λ fs h. dots-whole m a b c.each_dots.new.parts d firsts after c.args.place.now (dots_of c.args.d.now).any
+          (dots_of c.args.d.now).strict c.args.nexts.now fs.items
           (grows-trans a a1 b c.in_ok-firsts.ensures.made.grows g)
           (all-stay a1 b c.in_ok-firsts.firsts.items g c.in_ok-firsts.ensures.made.within ∙ c.in_ok-firsts.ensures.made.are
           ∙ ap (λ z. table.stays m.around ++ parts_at a z) c.as_slice.ensures.value)
           c.requires.nest c.requires.nexts (c.in_ok-here.ensures ∙ c.as_slice-2.ensures) (sym (dots-any c.args.d.now)) (sym (dots-strict c.args.d.now))
           c.in_ok-after.ensures.made.is
-          (subst (λ (z : MadeDots). MakesFollows m b c.each_dots.new.parts c.args.nexts.now fs.items (λ n. table.Dots)
+          (subst (λ (z : DotsContinuation). MakesFollows m b c.each_dots.new.parts c.args.nexts.now fs.items (λ n. table.Dots)
           (λ n. dots_before (plains b) m z (next_of (plains b) m n) c.args.place.now.scope)) c.in_ok-made.ensures.value h))
           c.each_dots.ensures.made;
     }

@@ -12,7 +12,8 @@ loop-next-init c = init-all c.args.parts.now _ (cc)
 pub follow_at-requires : goal.follow_at-requires
 follow_at-requires c =
     made-stands c.args.parts.now c.loop-next.parts c.next-item.result c.loop-next.invariant.grows
-    (item-is (made_below (length c.args.parts.now)) c.args.nexts.now c.loop-next.next-index c.next-item.result c.next-item.result c.loop-next-test.true c.next-item.is c.requires)
+    (item-is (made_below (length c.args.parts.now)) c.args.nexts.now c.loop-next.next-index c.next-item.result
+    c.next-item.result c.loop-next-test.true c.next-item.is c.requires)
 
 pub loop-next-preserved : goal.loop-next-preserved
 loop-next-preserved c =

@@ -16,7 +16,8 @@ pub joined_next-requires : goal.joined_next-requires
 joined_next-requires c = record {
   f = stands-still c.args.parts.now c.loop-next.parts c.args.f c.loop-next.invariant.grows c.requires.f;
   next = made-stands c.args.parts.now c.loop-next.parts c.next-item.result c.loop-next.invariant.grows
-      (item-is (made_below (length c.args.parts.now)) c.args.nexts.now c.loop-next.next-index c.next-item.result c.next-item.result c.loop-next-test.true c.next-item.is c.requires.nexts);
+      (item-is (made_below (length c.args.parts.now)) c.args.nexts.now c.loop-next.next-index c.next-item.result
+      c.next-item.result c.loop-next-test.true c.next-item.is c.requires.nexts);
 }
 
 pub loop-next-preserved : goal.loop-next-preserved

@@ -32,5 +32,6 @@ loop-f-preserved c =
 
 pub returns : goal.returns
 returns c = record {
-  made = follows-taken (setting_at c.args.m.now) c.args.parts.now c.loop-f.parts _ _ c.args.fs.now c.loop-f.made.items c.loop-f.f-index (omega arith) c.loop-f.invariant;
+  made = follows-taken (setting_at c.args.m.now) c.args.parts.now c.loop-f.parts _ _ c.args.fs.now c.loop-f.made.items
+      c.loop-f.f-index (omega arith) c.loop-f.invariant;
 }

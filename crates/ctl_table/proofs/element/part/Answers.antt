@@ -9,5 +9,6 @@ use Rattle.ctl_table.proofs.element.part.Goals as goal
 pub returns : goal.returns
 returns c = record {
   made = part-made (setting_at c.args.m.now) c.args.parts.now c.exists_all.new.parts c.args.f c.in_ok-f.f c.args.place.now.here
-      (subst (λ (z : List Var). Makes c.args.parts.now c.exists_all.new.parts c.in_ok-f.f (table.exists_all z (at (plains c.args.parts.now) c.args.f))) c.as_slice.ensures c.in_ok-f.ensures.made);
+      (subst (λ (z : List Var). Makes c.args.parts.now c.exists_all.new.parts c.in_ok-f.f
+      (table.exists_all z (at (plains c.args.parts.now) c.args.f))) c.as_slice.ensures c.in_ok-f.ensures.made);
 }

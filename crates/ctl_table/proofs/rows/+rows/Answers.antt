@@ -1,4 +1,5 @@
-use Rattle.std.proofs.Common.{true, false, ℕ, ◌≡◌, ◌+◌, ◌-◌, ◌<◌, ◌∙◌, ◌++◌, ap, sym, subst, refl, arith, length, map, take, drop, get_or, List, [], ◌∷◌, None, Some}
+use Rattle.std.proofs.Common.{true, false, ℕ, ◌≡◌, ◌+◌, ◌-◌, ◌<◌, ◌∙◌, ◌++◌, ap, sym, subst, refl, arith, length, map, take}
+use Rattle.std.proofs.Common.{drop, get_or, List, [], ◌∷◌, None, Some}
 use Rattle.std.specs.Option.{option_copied}
 use Rattle.std.specs.List.{filter}
 use Rattle.std.specs.Result.{IfOk}
@@ -6,7 +7,8 @@ use Rattle.std.proofs.lemmas.Result.{IfOk-weaker}
 use Rattle.smpl_patch.specs.declared.elem.Elem.{Elem}
 use Rattle.smpl_patch.specs.Bodies.{body, element}
 use Rattle.smpl_patch.specs.Bodies as bodies
-use Rattle.smpl_patch.proofs.BodyLemmas.{bodies as bodies_of, dots_of, element-Atom, element-Compound, element-Block, element-Gap, element-Nest, element-AnyOf, element-AllOf}
+use Rattle.smpl_patch.proofs.BodyLemmas.{bodies as bodies_of, dots_of, element-Atom, element-Compound, element-Block}
+use Rattle.smpl_patch.proofs.BodyLemmas.{element-Gap, element-Nest, element-AnyOf, element-AllOf}
 use Rattle.smpl_terms.specs.declared.var.Var.{Var}
 use Rattle.ctl_formula.specs.Plain.{Plain}
 use Rattle.ctl_formula.specs.Tables.{plains, Makes}
@@ -14,8 +16,9 @@ use Rattle.ctl_formula.proofs.TableLemmas.{grows-refl, grows-trans}
 use Rattle.pattern_vars.specs.VarPlaces.Placing.{occurs_body}
 use Rattle.ctl_table.specs.Table as table
 use Rattle.pattern_vars.specs.VarPlaces.Places.{reading_at}
-use Rattle.ctl_table.specs.declared.follow.Made.{Made}
-use Rattle.ctl_table.specs.Settings.{setting_at, element_or_none, all_below, all_made_below, made_below, next_at, parts_at, next_of, suffix_at, start_with, block_at, compound_at, MakesAll, MakesBehind, MakesFollows}
+use Rattle.ctl_table.specs.declared.follow.Continuation.{Continuation}
+use Rattle.ctl_table.specs.Settings.{setting_at, element_or_none, all_below, all_made_below, made_below, next_at, parts_at}
+use Rattle.ctl_table.specs.Settings.{next_of, suffix_at, start_with, block_at, compound_at, MakesAll, MakesBehind, MakesFollows}
 use Rattle.ctl_table.specs.Columns.{rows_within, MakesColumns}
 use Rattle.ctl_table.specs.Suffixes.{begins, along}
 use Rattle.pattern_vars.proofs.VarPlaces.Weights.{weight_element, weight_body, body-at, bodies-at, weight-take, weight-first, weight-rest}
@@ -26,7 +29,8 @@ use Rattle.ctl_table.proofs.AlongLemmas.{length-places}
 use Rattle.ctl_table.proofs.BranchLemmas.{block-made, compound-made, when-made, elem-at, whens-are, nest-is}
 use Rattle.ctl_table.proofs.EachLemmas.{nexts-stand, follows-within, only-made, only-one}
 use Rattle.ctl_table.proofs.SuffixLemmas.{last-each, step-each, whole-each, sequences-made, sequences-none, row-each, same-rows, dots-each, past-each}
-use Rattle.ctl_table.proofs.ColumnLemmas.{no-rows, columns-step, rows-stand, choice-each, choice-none, last-branch, every-none, every-each, last-long, front-long, all-within, all-long}
+use Rattle.ctl_table.proofs.ColumnLemmas.{no-rows, columns-step, rows-stand, choice-each, choice-none, last-branch, every-none}
+use Rattle.ctl_table.proofs.ColumnLemmas.{every-each, last-long, front-long, all-within, all-long}
 use Rattle.ctl_table.proofs.rows.+rows.Goals as goal
 
 -- bodies or branches, nothing following
@@ -81,7 +85,8 @@ branches-loop-b-preserved t c =
 pub branches-returns : goal.branches-returns
 branches-returns t c = record {
   made = subst (λ (z : List (List Elem)). MakesColumns c.args.parts.now c.loop-b.parts c.args.nexts.now c.loop-b.rows.items
-      (λ n. table.each (setting_at c.args.m.now) (bodies_of z) (next_of (plains c.args.parts.now) (setting_at c.args.m.now) n) c.args.vars.now c.args.scope.now))
+      (λ n. table.each (setting_at c.args.m.now) (bodies_of z)
+      (next_of (plains c.args.parts.now) (setting_at c.args.m.now) n) c.args.vars.now c.args.scope.now))
       (taken c.loop-b.b-index c.args.bs.now (omega arith)) c.loop-b.invariant;
 }
 
@@ -138,9 +143,12 @@ compound-returns t c = record {
 
 pub block-returns : goal.block-returns
 block-returns t c = record {
-  made = block-made (setting_at c.args.m.now) (setting_at c.within-inner.result) c.args.parts.now c.own_close.new.parts c.sequence.new.parts c.braced.new.parts c.args.o.now c.args.c.now (body c.args.b.now)
+  made = block-made (setting_at c.args.m.now)
+      (setting_at c.within-inner.result) c.args.parts.now c.own_close.new.parts c.sequence.new.parts c.braced.new.parts
+      c.args.o.now c.args.c.now (body c.args.b.now)
       c.args.vars.now c.as_slice.result.now c.args.scope.now c.in_ok-v.v c.in_ok-close.close c.in_ok-inside.inside c.braced.result
-      c.in_ok-v.ensures c.within-inner.ensures c.in_ok-close.ensures.made (c.as_slice.ensures ∙ c.in_ok-own.ensures) c.in_ok-inside.ensures.made c.braced.ensures.made;
+      c.in_ok-v.ensures c.within-inner.ensures c.in_ok-close.ensures.made
+      (c.as_slice.ensures ∙ c.in_ok-own.ensures) c.in_ok-inside.ensures.made c.braced.ensures.made;
 }
 
 -- disjunctions
@@ -167,7 +175,8 @@ choice-first_branches-requires t c =
     let long = ap length c.as_slice-all.ensures.value in
     let width : length c.as_slice-all.result.now ≡ length c.as_slice-all.result.now - 1 + 1 =
     omega (arith, long, last-long c.args.nexts.now c.in_ok-all-in-len1-up.all.items ends_with) in
-    let as_many = ap length c.as_slice-ends.ensures.value ∙ all-long c.branches.new.parts c.one_branch.new.parts c.in_ok-ends-in-len1-up.ends.items _ c.args.nexts.now ends in
+    let as_many = ap length c.as_slice-ends.ensures.value
+    ∙ all-long c.branches.new.parts c.one_branch.new.parts c.in_ok-ends-in-len1-up.ends.items _ c.args.nexts.now ends in
     record {
       most = omega (arith, long, as_many, front-long c.args.nexts.now c.in_ok-all-in-len1-up.all.items ends_with);
       within = ap (rows_within (length c.one_branch.new.parts) (length c.as_slice-all.result.now - 1 + 1)) c.as_slice.ensures.value
@@ -192,16 +201,17 @@ choice-returns-in_ok-ends-in-len1-up t c =
     let all = c.in_ok-all-in-len1-up.all.items in
     let bs = c.args.bs.now in
     let front = take (length bs - 1) bs in
-    let each = λ (n : Made). table.each m (bodies_of front) (next_of (plains a) m n) c.args.vars.now c.args.scope.now in
+    let each = λ (n : Continuation). table.each m (bodies_of front) (next_of (plains a) m n) c.args.vars.now c.args.scope.now in
     record {
       made = IfOk-weaker c.first_branches.result _ _
           (λ is h. choice-each m a b c.one_branch.new.parts c.first_branches.new.parts c.args.nexts.now all
           c.args.vars.now c.args.scope.now bs front c.last-item.result c.as_slice-last.result.now
           c.as_slice.result.now c.in_ok-ends-in-len1-up.ends.items c.as_slice-ends.result.now is.items (length c.as_slice-all.result.now - 1)
-          c.in_ok-all-in-len1-up.ensures (ap (λ (z : List Made). length z - 1) c.as_slice-all.ensures.value)
+          c.in_ok-all-in-len1-up.ensures (ap (λ (z : List Continuation). length z - 1) c.as_slice-all.ensures.value)
           (last-branch bs c.last-item.result c.in-len1-up.len_at_least c.last-item.is) c.as_slice-last.ensures c.as_slice-ends.ensures.value c.requires
           (subst (λ (z : List (List ℕ)). MakesColumns a b all z each) (sym c.as_slice.ensures.value)
-          (subst (λ (z : List Made). MakesColumns a b z c.in_ok-rows-in-len1-up.rows.items each) c.as_slice-all.ensures.value c.in_ok-rows-in-len1-up.ensures.made))
+          (subst (λ (z : List Continuation). MakesColumns a b z c.in_ok-rows-in-len1-up.rows.items each)
+          c.as_slice-all.ensures.value c.in_ok-rows-in-len1-up.ensures.made))
           c.in_ok-ends-in-len1-up.ensures.made h)
           c.first_branches.ensures.made;
     }
@@ -214,7 +224,7 @@ one_branch-sequences-requires t c = (omega arith, c.requires)
 pub one_branch-returns : goal.one_branch-returns
 one_branch-returns t c =
     let m = setting_at c.args.m.now in
-    let k = λ (n : Made). next_of (plains c.args.parts.now) m n in
+    let k = λ (n : Continuation). next_of (plains c.args.parts.now) m n in
     record {
       made = subst (λ (z : List Var). IfOk c.sequences.result (λ is. MakesAll c.args.parts.now c.sequences.new.parts is.items
           (map (λ n. table.seq m None (body c.args.b.now) (k n) z c.args.scope.now c.args.scope.now) c.args.nexts.now)))
@@ -245,7 +255,8 @@ every-each-requires t c =
 pub every-and_each-requires : goal.every-and_each-requires
 every-and_each-requires t c = record {
   fs = ap (all_below (length c.each.new.parts)) c.as_slice.ensures.value
-      ∙ all-stand c.one_branch.new.parts c.each.new.parts c.in_ok-fs-in-len1-up.fs.items c.in_ok-others-in-len1-up.ensures.made.grows c.in_ok-fs-in-len1-up.ensures.made.within;
+      ∙ all-stand c.one_branch.new.parts c.each.new.parts c.in_ok-fs-in-len1-up.fs.items
+      c.in_ok-others-in-len1-up.ensures.made.grows c.in_ok-fs-in-len1-up.ensures.made.within;
   more = ap (all_below (length c.each.new.parts)) c.as_slice-in-len1-up.ensures.value ∙ c.in_ok-others-in-len1-up.ensures.made.within;
 }
 
@@ -280,7 +291,7 @@ suffixes-loop-i-init t c = (
 pub suffixes-behind_each-requires : goal.suffixes-behind_each-requires
 suffixes-behind_each-requires t c =
     let m = setting_at c.args.m.now in
-    let k = λ (n : Made). next_of (plains c.args.parts.now) m n in
+    let k = λ (n : Continuation). next_of (plains c.args.parts.now) m n in
     let es = drop c.loop-i.i c.args.b.now in
     ap (all_made_below (length c.loop-i.parts)) c.as_slice.ensures.value
     ∙ follows-within m c.args.parts.now c.loop-i.parts c.args.nexts.now c.loop-i.made.items
@@ -298,17 +309,22 @@ pub suffixes-loop-i-preserved : goal.suffixes-loop-i-preserved
 suffixes-loop-i-preserved t c =
     let n : c.loop-i.i - 1 + 1 ≡ c.loop-i.i = omega (arith, c.loop-i-test.true) in
     let m = setting_at c.args.m.now in
-    let k = λ (x : Made). next_of (plains c.args.parts.now) m x in
+    let k = λ (x : Continuation). next_of (plains c.args.parts.now) m x in
     let e = c.index-b-i-in-loop-i.result in (
       omega (arith, c.loop-i.invariant.0),
-      step-each m k c.args.parts.now c.loop-i.parts c.behind_each.new.parts c.suffix-in-loop-i.new.parts c.args.nexts.now c.loop-i.made.items c.in_ok-behind.behind.items c.in_ok-made-2.made.items c.args.b.now c.args.places.now (c.loop-i.i - 1)
+      step-each m k c.args.parts.now c.loop-i.parts c.behind_each.new.parts c.suffix-in-loop-i.new.parts c.args.nexts.now
+          c.loop-i.made.items c.in_ok-behind.behind.items c.in_ok-made-2.made.items c.args.b.now c.args.places.now (c.loop-i.i - 1)
           c.index-b-i-in-loop-i-2.result e c.index-places-i-in-loop-i.result (omega (arith, c.loop-i.invariant.0, n)) c.requires.places
           c.index-b-i-in-loop-i-2.is c.index-b-i-in-loop-i.is c.index-places-i-in-loop-i.is
           (subst (λ (z : ℕ). MakesFollows m c.args.parts.now c.loop-i.parts c.args.nexts.now c.loop-i.made.items
           (λ x. begins (drop z c.args.b.now) (k x).start) (λ x. along m (k x) (drop z c.args.b.now) (drop z c.args.places.now))) (sym n) c.loop-i.invariant.1)
-          (subst (λ (z : List Made). MakesBehind m (element e) c.index-places-i-in-loop-i.result.scope c.loop-i.parts c.behind_each.new.parts z c.in_ok-behind.behind.items) c.as_slice.ensures.value c.in_ok-behind.ensures.made)
-          (subst (λ (z : List Made). MakesFollows m c.behind_each.new.parts c.suffix-in-loop-i.new.parts z c.in_ok-made-2.made.items (λ f. start_with (element e))
-          (λ f. suffix_at m (Some (element c.index-b-i-in-loop-i-2.result)) (element e) (next_of (plains c.behind_each.new.parts) m f) c.index-places-i-in-loop-i.result))
+          (subst (λ (z : List Continuation). MakesBehind m
+          (element e) c.index-places-i-in-loop-i.result.scope c.loop-i.parts c.behind_each.new.parts z
+          c.in_ok-behind.behind.items) c.as_slice.ensures.value c.in_ok-behind.ensures.made)
+          (subst (λ (z : List Continuation). MakesFollows m c.behind_each.new.parts c.suffix-in-loop-i.new.parts z
+          c.in_ok-made-2.made.items (λ f. start_with (element e))
+          (λ f. suffix_at m (Some (element c.index-b-i-in-loop-i-2.result)) (element e)
+          (next_of (plains c.behind_each.new.parts) m f) c.index-places-i-in-loop-i.result))
           c.as_slice-behind.ensures.value c.in_ok-made-2.ensures.made),
     )
 
@@ -322,7 +338,8 @@ pub sequences-returns-then-b-eq0 : goal.sequences-returns-then-b-eq0
 sequences-returns-then-b-eq0 t c = record {
   made = IfOk-weaker c.follows_at.result _ _
       (λ is h. sequences-none (setting_at c.args.m.now) (λ n. next_of (plains c.args.parts.now) (setting_at c.args.m.now) n)
-      c.args.parts.now c.follows_at.new.parts c.args.nexts.now is.items c.args.b.now c.args.vars.now c.args.scope.now c.if-b-eq0.true h) c.follows_at.ensures.made;
+      c.args.parts.now c.follows_at.new.parts c.args.nexts.now is.items c.args.b.now c.args.vars.now c.args.scope.now
+      c.if-b-eq0.true h) c.follows_at.ensures.made;
 }
 
 pub sequences-suffixes-requires : goal.sequences-suffixes-requires
@@ -332,7 +349,8 @@ sequences-suffixes-requires t c = (
     c.requires,
     (
       omega arith,
-      ap length (c.as_slice.ensures.value ∙ c.in_ok-places.ensures) ∙ length-places (reading_at c.args.m.now.reader) c.args.b.now c.args.vars.now c.args.scope.now,
+      ap length (c.as_slice.ensures.value ∙ c.in_ok-places.ensures)
+          ∙ length-places (reading_at c.args.m.now.reader) c.args.b.now c.args.vars.now c.args.scope.now,
     ),
   ),
 )
@@ -349,14 +367,16 @@ sequences-returns t c = record {
       c.args.parts.now c.suffixes.new.parts c.follows_at-2.new.parts c.args.nexts.now c.in_ok-made.made.items is.items
       c.args.b.now c.args.vars.now c.args.scope.now c.as_slice.result.now (c.as_slice.ensures.value ∙ c.in_ok-places.ensures)
       c.in_ok-made.ensures.made
-      (subst (λ (z : List Made). MakesAll c.suffixes.new.parts c.follows_at-2.new.parts is.items (map (λ f. next_at (plains c.suffixes.new.parts) (setting_at c.args.m.now) f c.args.scope.now) z))
+      (subst (λ (z : List Continuation). MakesAll c.suffixes.new.parts c.follows_at-2.new.parts is.items
+      (map (λ f. next_at (plains c.suffixes.new.parts) (setting_at c.args.m.now) f c.args.scope.now) z))
       c.as_slice-2.ensures.value h)) c.follows_at-2.ensures.made;
 }
 
 pub sequence-sequences-requires : goal.sequence-sequences-requires
 sequence-sequences-requires t c = (
   omega arith,
-  ap (all_made_below (length c.args.parts.now)) c.from_ref-nexts.ensures.value ∙ both-true (made_below (length c.args.parts.now) c.args.next.now) true c.requires refl,
+  ap (all_made_below (length c.args.parts.now)) c.from_ref-nexts.ensures.value
+      ∙ both-true (made_below (length c.args.parts.now) c.args.next.now) true c.requires refl,
 )
 
 first-any : (is : List ℕ) (d e : ℕ) → 0 < length is → get_or is 0 d ≡ get_or is 0 e
@@ -366,13 +386,15 @@ first-any (i ∷ is) d e l = refl
 pub sequence-returns : goal.sequence-returns
 sequence-returns t c =
     let m = setting_at c.args.m.now in
-    let k = λ (n : Made). next_of (plains c.args.parts.now) m n in
+    let k = λ (n : Continuation). next_of (plains c.args.parts.now) m n in
     let only =
-    subst (λ (z : List Made). MakesAll c.args.parts.now c.sequences.new.parts c.in_ok-made.made.items
-    (map (λ n. table.seq m None (body c.args.b.now) (k n) c.args.vars.now c.args.scope.now c.args.scope.now) z)) c.from_ref-nexts.ensures.value c.in_ok-made.ensures.made in
+    subst (λ (z : List Continuation). MakesAll c.args.parts.now c.sequences.new.parts c.in_ok-made.made.items
+    (map (λ n. table.seq m None (body c.args.b.now) (k n) c.args.vars.now c.args.scope.now c.args.scope.now) z))
+    c.from_ref-nexts.ensures.value c.in_ok-made.ensures.made in
     record {
       made = only-made c.args.parts.now c.sequences.new.parts c.in_ok-made.made.items c.index.result.now _
-          (c.index.ensures ∙ first-any c.in_ok-made.made.items c.index.result.now 0 (only-one c.args.parts.now c.sequences.new.parts c.in_ok-made.made.items _ only)) only;
+          (c.index.ensures ∙ first-any c.in_ok-made.made.items c.index.result.now 0
+          (only-one c.args.parts.now c.sequences.new.parts c.in_ok-made.made.items _ only)) only;
     }
 
 -- suffixes
@@ -382,7 +404,7 @@ suffix-returns-in_ok-fs-in-Atom t c =
     let m = setting_at c.args.m.now in
     let a = c.args.parts.now in
     let after = element_or_none (option_copied c.args.after) in
-    let k = λ (n : Made). next_of (plains a) m n in
+    let k = λ (n : Continuation). next_of (plains a) m n in
     let place = c.args.place.now in
     let vars = c.as_slice-vars.result.now in
     let b = c.atoms.new.parts in
@@ -401,17 +423,20 @@ suffix-returns-in_ok-fs-in-Compound t c =
     let m = setting_at c.args.m.now in
     let a = c.args.parts.now in
     let after = element_or_none (option_copied c.args.after) in
-    let k = λ (n : Made). next_of (plains a) m n in
+    let k = λ (n : Continuation). next_of (plains a) m n in
     let place = c.args.place.now in
     let vars = c.as_slice-vars.result.now in
-    let b = c.past_each.new.parts in
+    let b = c.after_each.new.parts in
     let y = bodies.Compound c.in-Compound.h (bodies_of c.as_slice-bodies.result.now) c.in-Compound.tail in
     record {
       made = IfOk-weaker c.part_each-in-Compound.result _ _
           (λ fs h. row-each m a b c.part_each-in-Compound.new.parts after (element c.args.e.now) y k place c.args.nexts.now
           c.in_ok-fs-in-Compound.fs.items c.as_slice-in-Compound.result.now fs.items (λ n. table.elem m None None y (k n) vars place.scope place.scope)
-          (ap element c.in-Compound.is ∙ element-Compound _ _ _ ∙ ap (λ (z : List (List Elem)). bodies.Compound c.in-Compound.h (bodies_of z) c.in-Compound.tail) (sym c.as_slice-bodies.ensures)) refl c.as_slice-in-Compound.ensures.value
-          (past-each m a c.compound.new.parts b c.in_ok-f-in-Compound.f (compound_at m c.in-Compound.h (bodies_of c.as_slice-bodies.result.now) c.in-Compound.tail vars place.scope)
+          (ap element c.in-Compound.is ∙ element-Compound _ _ _
+          ∙ ap (λ (z : List (List Elem)). bodies.Compound c.in-Compound.h (bodies_of z) c.in-Compound.tail)
+          (sym c.as_slice-bodies.ensures)) refl c.as_slice-in-Compound.ensures.value
+          (past-each m a c.compound.new.parts b c.in_ok-f-in-Compound.f
+          (compound_at m c.in-Compound.h (bodies_of c.as_slice-bodies.result.now) c.in-Compound.tail vars place.scope)
           c.args.nexts.now c.in_ok-fs-in-Compound.fs.items place.scope c.requires c.in_ok-f-in-Compound.ensures.made c.in_ok-fs-in-Compound.ensures.made)
           (λ n s u. elem-at m after y (k n) vars place.scope place c.as_slice-vars.ensures refl s u) h) c.part_each-in-Compound.ensures.made;
     }
@@ -421,16 +446,18 @@ suffix-returns-in_ok-fs-in-Block t c =
     let m = setting_at c.args.m.now in
     let a = c.args.parts.now in
     let after = element_or_none (option_copied c.args.after) in
-    let k = λ (n : Made). next_of (plains a) m n in
+    let k = λ (n : Continuation). next_of (plains a) m n in
     let place = c.args.place.now in
     let vars = c.as_slice-vars.result.now in
-    let b = c.past_each-in-Block.new.parts in
+    let b = c.after_each-in-Block.new.parts in
     let y = bodies.Block c.in-Block.o (body c.as_slice-in-Block.result.now) c.in-Block.c in
     record {
       made = IfOk-weaker c.part_each-in-Block.result _ _
           (λ fs h. row-each m a b c.part_each-in-Block.new.parts after (element c.args.e.now) y k place c.args.nexts.now
           c.in_ok-fs-in-Block.fs.items c.as_slice-in-Block-2.result.now fs.items (λ n. table.elem m None None y (k n) vars place.scope place.scope)
-          (ap element c.in-Block.is ∙ element-Block _ _ _ ∙ ap (λ (z : List Elem). bodies.Block c.in-Block.o (body z) c.in-Block.c) (sym c.as_slice-in-Block.ensures)) refl c.as_slice-in-Block-2.ensures.value
+          (ap element c.in-Block.is ∙ element-Block _ _ _
+          ∙ ap (λ (z : List Elem). bodies.Block c.in-Block.o (body z) c.in-Block.c) (sym c.as_slice-in-Block.ensures)) refl
+          c.as_slice-in-Block-2.ensures.value
           (past-each m a c.block.new.parts b c.in_ok-f-in-Block.f (block_at m c.in-Block.o (body c.as_slice-in-Block.result.now) c.in-Block.c vars place.scope)
           c.args.nexts.now c.in_ok-fs-in-Block.fs.items place.scope c.requires c.in_ok-f-in-Block.ensures.made c.in_ok-fs-in-Block.ensures.made)
           (λ n s u. elem-at m after y (k n) vars place.scope place c.as_slice-vars.ensures refl s u) h) c.part_each-in-Block.ensures.made;
@@ -438,7 +465,8 @@ suffix-returns-in_ok-fs-in-Block t c =
 
 pub suffix-choice-requires : goal.suffix-choice-requires
 suffix-choice-requires t c =
-    let w = ap weight_element (ap element c.in-AnyOf.is ∙ element-AnyOf _ ∙ ap (λ (z : List (List Elem)). bodies.AnyOf (bodies_of z)) (sym c.as_slice-bodies-in-AnyOf.ensures)) in
+    let w = ap weight_element (ap element c.in-AnyOf.is ∙ element-AnyOf _
+    ∙ ap (λ (z : List (List Elem)). bodies.AnyOf (bodies_of z)) (sym c.as_slice-bodies-in-AnyOf.ensures)) in
     (omega (arith, w), ap (all_made_below (length c.deeper_each.new.parts)) c.as_slice-nexts.ensures.value ∙ c.in_ok-nexts-in-AnyOf.ensures.made.within)
 
 pub suffix-returns-in_ok-fs-in-AnyOf : goal.suffix-returns-in_ok-fs-in-AnyOf
@@ -446,7 +474,7 @@ suffix-returns-in_ok-fs-in-AnyOf t c =
     let m = setting_at c.args.m.now in
     let a = c.args.parts.now in
     let after = element_or_none (option_copied c.args.after) in
-    let k = λ (n : Made). next_of (plains a) m n in
+    let k = λ (n : Continuation). next_of (plains a) m n in
     let place = c.args.place.now in
     let vars = c.as_slice-vars.result.now in
     let d = c.deeper_each.new.parts in
@@ -456,9 +484,12 @@ suffix-returns-in_ok-fs-in-AnyOf t c =
       made = IfOk-weaker c.part_each-in-AnyOf.result _ _
           (λ fs h. row-each m a b c.part_each-in-AnyOf.new.parts after (element c.args.e.now) y k place c.args.nexts.now
           c.in_ok-fs-in-AnyOf.fs.items c.as_slice-in-AnyOf.result.now fs.items (λ n. table.elem m None None y (k n) vars place.scope place.scope)
-          (ap element c.in-AnyOf.is ∙ element-AnyOf _ ∙ ap (λ (z : List (List Elem)). bodies.AnyOf (bodies_of z)) (sym c.as_slice-bodies-in-AnyOf.ensures)) refl c.as_slice-in-AnyOf.ensures.value
-          (same-rows m place.scope a d b y vars c.args.nexts.now c.in_ok-nexts-in-AnyOf.nexts.items c.in_ok-fs-in-AnyOf.fs.items c.in_ok-nexts-in-AnyOf.ensures.made
-          (subst (λ (z : List Made). MakesAll d b c.in_ok-fs-in-AnyOf.fs.items (map (λ n. table.elem m None None y (next_of (plains d) m n) vars place.scope place.scope) z))
+          (ap element c.in-AnyOf.is ∙ element-AnyOf _
+          ∙ ap (λ (z : List (List Elem)). bodies.AnyOf (bodies_of z)) (sym c.as_slice-bodies-in-AnyOf.ensures)) refl c.as_slice-in-AnyOf.ensures.value
+          (same-rows m place.scope a d b y vars c.args.nexts.now c.in_ok-nexts-in-AnyOf.nexts.items c.in_ok-fs-in-AnyOf.fs.items
+          c.in_ok-nexts-in-AnyOf.ensures.made
+          (subst (λ (z : List Continuation). MakesAll d b c.in_ok-fs-in-AnyOf.fs.items
+          (map (λ n. table.elem m None None y (next_of (plains d) m n) vars place.scope place.scope) z))
           c.as_slice-nexts.ensures.value c.in_ok-fs-in-AnyOf.ensures.made))
           (λ n s u. elem-at m after y (k n) vars place.scope place c.as_slice-vars.ensures refl s u) h) c.part_each-in-AnyOf.ensures.made;
     }
@@ -468,7 +499,7 @@ suffix-returns-in_ok-fs-in-AllOf t c =
     let m = setting_at c.args.m.now in
     let a = c.args.parts.now in
     let after = element_or_none (option_copied c.args.after) in
-    let k = λ (n : Made). next_of (plains a) m n in
+    let k = λ (n : Continuation). next_of (plains a) m n in
     let place = c.args.place.now in
     let vars = c.as_slice-vars.result.now in
     let b = c.every.new.parts in
@@ -477,7 +508,8 @@ suffix-returns-in_ok-fs-in-AllOf t c =
       made = IfOk-weaker c.part_each-in-AllOf.result _ _
           (λ fs h. row-each m a b c.part_each-in-AllOf.new.parts after (element c.args.e.now) y k place c.args.nexts.now
           c.in_ok-fs-in-AllOf.fs.items c.as_slice-in-AllOf.result.now fs.items (λ n. table.elem m None None y (k n) vars place.scope place.scope)
-          (ap element c.in-AllOf.is ∙ element-AllOf _ ∙ ap (λ (z : List (List Elem)). bodies.AllOf (bodies_of z)) (sym c.as_slice-bodies-in-AllOf.ensures)) refl c.as_slice-in-AllOf.ensures.value
+          (ap element c.in-AllOf.is ∙ element-AllOf _
+          ∙ ap (λ (z : List (List Elem)). bodies.AllOf (bodies_of z)) (sym c.as_slice-bodies-in-AllOf.ensures)) refl c.as_slice-in-AllOf.ensures.value
           c.in_ok-fs-in-AllOf.ensures.made
           (λ n s u. elem-at m after y (k n) vars place.scope place c.as_slice-vars.ensures refl s u) h) c.part_each-in-AllOf.ensures.made;
     }
@@ -487,7 +519,7 @@ suffix-returns-in_ok-whens-in-Gap t c =
     let m = setting_at c.args.m.now in
     let a = c.args.parts.now in
     let after = element_or_none (option_copied c.args.after) in
-    let k = λ (n : Made). next_of (plains a) m n in
+    let k = λ (n : Continuation). next_of (plains a) m n in
     let place = c.args.place.now in
     let vars = c.as_slice-vars.result.now in
     let b = c.when_parts.new.parts in
@@ -497,7 +529,8 @@ suffix-returns-in_ok-whens-in-Gap t c =
       made = IfOk-weaker c.dots_each.result _ _
           (λ fs h. dots-each m a b c.dots_each.new.parts after (element c.args.e.now) (bodies.Gap (dots_of d).whens (dots_of d).any (dots_of d).strict)
           k (λ n. next_of (plains b) m n) place c.args.nexts.now fs.items
-          (table.stays m.around ++ parts_at b c.in_ok-whens-in-Gap.whens.items) (table.stays m.around ++ table.when_parts m (dots_of d).whens place.scope) (dots_of d).any (dots_of d).strict None
+          (table.stays m.around ++ parts_at b c.in_ok-whens-in-Gap.whens.items)
+          (table.stays m.around ++ table.when_parts m (dots_of d).whens place.scope) (dots_of d).any (dots_of d).strict None
           (ap element c.in-Gap.is ∙ element-Gap d) refl whens.grows
           (ap (λ (z : List Plain). table.stays m.around ++ z)
           (whens-are m a b c.in_ok-whens-in-Gap.whens.items d c.as_slice-in-Gap.result.now place.scope place c.as_slice-in-Gap.ensures refl whens))
@@ -510,7 +543,7 @@ suffix-returns-in_ok-whens-in-Nest t c =
     let m = setting_at c.args.m.now in
     let a = c.args.parts.now in
     let after = element_or_none (option_copied c.args.after) in
-    let k = λ (n : Made). next_of (plains a) m n in
+    let k = λ (n : Continuation). next_of (plains a) m n in
     let place = c.args.place.now in
     let vars = c.as_slice-vars.result.now in
     let b = c.when_parts-in-Nest.new.parts in
@@ -522,7 +555,8 @@ suffix-returns-in_ok-whens-in-Nest t c =
     let part =
     nest-is m a c.nest.new.parts b c.in_ok-part-in-Nest.part (body c.as_slice-in-Nest.result.now) vars
     place.scope place c.as_slice-vars.ensures refl nest whens.grows
-    ∙ ap (λ (z : List Elem). table.seq m None (body z) table.nothing (filter (occurs_body m.reading (body z)) place.inside) place.scope place.scope) c.as_slice-in-Nest.ensures in
+    ∙ ap (λ (z : List Elem). table.seq m None (body z) table.nothing
+    (filter (occurs_body m.reading (body z)) place.inside) place.scope place.scope) c.as_slice-in-Nest.ensures in
     record {
       made = IfOk-weaker c.dots_each-in-Nest.result _ _
           (λ fs h. dots-each m a b c.dots_each-in-Nest.new.parts after (element c.args.e.now)
@@ -532,22 +566,23 @@ suffix-returns-in_ok-whens-in-Nest t c =
           (Some (record { plus = c.in-Nest.plus; part = c.in_ok-part-in-Nest.part }))
           (ap element c.in-Nest.is ∙ element-Nest c.in-Nest.plus c.in-Nest.b d) refl grown
           (ap (λ (z : List Plain). table.stays m.around ++ z)
-          (whens-are m c.nest.new.parts b c.in_ok-whens-in-Nest.whens.items d c.as_slice-in-Nest-2.result.now place.scope place c.as_slice-in-Nest-2.ensures refl whens))
+          (whens-are m c.nest.new.parts b c.in_ok-whens-in-Nest.whens.items d c.as_slice-in-Nest-2.result.now place.scope place
+          c.as_slice-in-Nest-2.ensures refl whens))
           c.requires (λ n w. follow-stays a b m n grown w)
           (λ n s u. ap (λ (z : Plain). table.exists_all place.here (table.nested m.forall_walks c.in-Nest.plus (dots_of d).strict
-          (table.condition (dots_of d).any held (table.near_option m true s (u ++ place.here)) (table.near_option m false after place.scope)) z
+          (table.condition (dots_of d).any held (table.ends_of_option m true s (u ++ place.here)) (table.ends_of_option m false after place.scope)) z
           (table.target m.around (k n).start ((k n).at place.scope)))) part) h)
           c.dots_each-in-Nest.ensures.made;
     }
 
 -- what may follow, in the tables that grew
 
-pub suffix-past_each-requires-clause-nexts : goal.suffix-past_each-requires-clause-nexts
-suffix-past_each-requires-clause-nexts t c =
+pub suffix-after_each-requires-clause-nexts : goal.suffix-after_each-requires-clause-nexts
+suffix-after_each-requires-clause-nexts t c =
     nexts-stand c.args.parts.now c.compound.new.parts c.args.nexts.now c.in_ok-f-in-Compound.ensures.made.grows c.requires
 
-pub suffix-past_each-requires-in-Block-clause-nexts : goal.suffix-past_each-requires-in-Block-clause-nexts
-suffix-past_each-requires-in-Block-clause-nexts t c =
+pub suffix-after_each-requires-in-Block-clause-nexts : goal.suffix-after_each-requires-in-Block-clause-nexts
+suffix-after_each-requires-in-Block-clause-nexts t c =
     nexts-stand c.args.parts.now c.block.new.parts c.args.nexts.now c.in_ok-f-in-Block.ensures.made.grows c.requires
 
 pub suffix-dots_each-requires-clause-nexts : goal.suffix-dots_each-requires-clause-nexts
@@ -557,4 +592,5 @@ suffix-dots_each-requires-clause-nexts t c =
 pub suffix-dots_each-requires-in-Nest-clause-nexts : goal.suffix-dots_each-requires-in-Nest-clause-nexts
 suffix-dots_each-requires-in-Nest-clause-nexts t c =
     nexts-stand c.args.parts.now c.when_parts-in-Nest.new.parts c.args.nexts.now
-    (grows-trans c.args.parts.now c.nest.new.parts c.when_parts-in-Nest.new.parts c.in_ok-part-in-Nest.ensures.made.grows c.in_ok-whens-in-Nest.ensures.made.grows) c.requires
+    (grows-trans c.args.parts.now c.nest.new.parts c.when_parts-in-Nest.new.parts c.in_ok-part-in-Nest.ensures.made.grows
+    c.in_ok-whens-in-Nest.ensures.made.grows) c.requires

@@ -1,4 +1,5 @@
-use Rattle.std.proofs.Common.{◌≡◌, ◌+◌, ◌<◌, ◌&&◌, not, true, false, cond, map, take, get_or, refl, sym, ap, ◌∙◌, Bool, List, [], ◌∷◌, ◌++◌, append-nil, length, arith, ℕ}
+use Rattle.std.proofs.Common.{◌≡◌, ◌+◌, ◌<◌, ◌&&◌, not, true, false, cond, map, take, get_or, refl, sym, ap, ◌∙◌, Bool, List}
+use Rattle.std.proofs.Common.{[], ◌∷◌, ◌++◌, append-nil, length, arith, ℕ}
 use Rattle.std.specs.List.{filter}
 use Rattle.std.proofs.Math.Path.{fun_ext}
 use Rattle.std.proofs.Math.Seq.{take-length}
@@ -50,7 +51,8 @@ pub returns : goal.returns
 returns c =
     let r = c.args.rule.now in
     let ds = c.as_slice-d-items.result.now in
-    let pick : (Var → Bool) → List VarDecl → List Var = λ (f : Var → Bool) (xs : List VarDecl). map (λ d. d.var) (filter (λ d. not d.inherited && not (f d.var)) xs) in
+    let pick : (Var → Bool) → List VarDecl → List Var =
+    λ (f : Var → Bool) (xs : List VarDecl). map (λ d. d.var) (filter (λ d. not d.inherited && not (f d.var)) xs) in
     let all : c.loop-d.d-index ≡ length ds = omega arith in
     c.loop-d.invariant ∙ ap (pick (has c.in_ok-exports.exports)) (ap (λ (n : ℕ). take n ds) all ∙ take-length ds ∙ c.as_slice-d-items.ensures)
     ∙ ap (λ (f : Var → Bool). pick f r.vars) (fun_ext c.in_ok-exports.ensures)

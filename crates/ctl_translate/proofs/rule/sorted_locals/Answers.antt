@@ -9,7 +9,8 @@ use Rattle.ctl_translate.proofs.rule.sorted_locals.Goals as goal
 pub returns-clause-alone : goal.returns-clause-alone
 returns-clause-alone c =
     let test = is_alone (reading_at c.args.reader.now) (body c.args.b.now) in
-    c.in_ok-alone-2.ensures ∙ c.in_ok-alone.ensures ∙ filter-same (λ x. not (has c.in_ok-used.used x)) test c.args.locals.now (λ x. ap not (c.in_ok-used.ensures x))
+    c.in_ok-alone-2.ensures ∙ c.in_ok-alone.ensures
+    ∙ filter-same (λ x. not (has c.in_ok-used.used x)) test c.args.locals.now (λ x. ap not (c.in_ok-used.ensures x))
 
 pub returns-clause-placed : goal.returns-clause-placed
 returns-clause-placed c =

@@ -8,9 +8,12 @@ use Rattle.edit_marks.proofs.touch.edit_at.Goals as goal
 pub returns : goal.returns
 returns c = record {
   rise = subst IsStrictlyIncreasing (sym c.from_vec.ensures) c.in_ok-removed.ensures.rise;
-  removed = subst (λ (l : List ℕ). (n : ℕ) → Contains l n ↔ Contains (minus_tokens c.args.tokens.now c.args.pairs.now) n) (sym c.from_vec.ensures) c.in_ok-removed.ensures.same;
+  removed = subst (λ (l : List ℕ). (n : ℕ) → Contains l n ↔ Contains (minus_tokens c.args.tokens.now c.args.pairs.now) n)
+      (sym c.from_vec.ensures) c.in_ok-removed.ensures.same;
   spots = c.in_ok-spots.spots.items;
   all = c.in_ok-spots.ensures.all;
   sorted = c.in_ok-spots.ensures.sorted;
-  inserts = c.from_vec-2.ensures ∙ c.in_ok-inserts.ensures ∙ (λ i. inserts_at c.args.decls.now c.args.tokens.now c.args.env.now c.args.files.now ((c.deref.ensures.value ∙ sym c.from_vec.ensures) i) (c.deref-2.ensures.value i));
+  inserts = c.from_vec-2.ensures ∙ c.in_ok-inserts.ensures
+      ∙ (λ i. inserts_at c.args.decls.now c.args.tokens.now c.args.env.now c.args.files.now
+      ((c.deref.ensures.value ∙ sym c.from_vec.ensures) i) (c.deref-2.ensures.value i));
 }

@@ -13,7 +13,10 @@ returns-then-are_among c =
     let all : of.restricted c.args.vars.now c.args.env.now ≡ c.args.env.now =
     restricted_all c.args.vars.now c.args.env.now
     (ap (λ ps. list_all (λ p. of.is_among c.args.vars.now p.0) ps) (sym c.pairs-pairs.ensures.pairs) ∙ sym c.are_among.ensures ∙ c.if-are_among.true) in
-    record { pairs = IfOk-weaker c.copy.result (λ r. r ≡ c.args.env.now) (λ r. r ≡ of.restricted c.args.vars.now c.args.env.now) (λ r h. h ∙ sym all) c.copy.ensures.same }
+    record {
+      pairs = IfOk-weaker c.copy.result (λ r. r ≡ c.args.env.now) (λ r. r ≡ of.restricted c.args.vars.now c.args.env.now)
+          (λ r h. h ∙ sym all) c.copy.ensures.same;
+    }
 
 pub with-requires : goal.with-requires
 with-requires c = record {

@@ -7,7 +7,8 @@ use Rattle.env_sets.proofs.added.may_begin.Goals as goal
 pub returns-in-len1-up : goal.returns-in-len1-up
 returns-in-len1-up c = λ h.
     first_may_follow c.args.back.now (all_entries c.args.after.now) c.args.e.now c.first-item.result (omega (arith, c.in-len1-up.len_at_least)) c.first-item.is
-    (follow_along c.args.e.now c.pairs.result.now c.first-item.result c.pairs-in-len1-up.result.now c.pairs.ensures.pairs c.pairs-in-len1-up.ensures.pairs (c.may_follow.ensures h))
+    (follow_along c.args.e.now c.pairs.result.now c.first-item.result c.pairs-in-len1-up.result.now c.pairs.ensures.pairs
+    c.pairs-in-len1-up.ensures.pairs (c.may_follow.ensures h))
 
 pub returns-in-empty-after : goal.returns-in-empty-after
 returns-in-empty-after c = λ h.

@@ -10,5 +10,7 @@ returns-then-is_empty c = λ h.
 
 pub returns : goal.returns
 returns c = λ h.
-    last_may_precede (all_entries c.args.before.now) c.args.front.now _ c.index-front-front.result c.args.e.now (grind (arith, nat_tests)) c.index-front-front.is
-    (follow_along c.index-front-front.result c.pairs.result.now c.args.e.now c.pairs-2.result.now c.pairs.ensures.pairs c.pairs-2.ensures.pairs (c.may_follow.ensures h))
+    last_may_precede (all_entries c.args.before.now) c.args.front.now _ c.index-front-front.result c.args.e.now
+    (grind (arith, nat_tests)) c.index-front-front.is
+    (follow_along c.index-front-front.result c.pairs.result.now c.args.e.now c.pairs-2.result.now c.pairs.ensures.pairs
+    c.pairs-2.ensures.pairs (c.may_follow.ensures h))

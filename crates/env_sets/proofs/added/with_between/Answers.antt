@@ -6,5 +6,6 @@ use Rattle.env_sets.proofs.added.with_between.Goals as goal
 
 pub returns : goal.returns
 returns c = IfOk-weaker c.blocks_around.result _ _ (λ r h.
-    h ∙ around_parts (all_entries c.args.before.now) c.args.front.now (c.args.e.now ∷ c.args.back.now) (all_entries c.args.after.now) c.in_ok-block.block.items c.in_ok-block.ensures)
+    h ∙ around_parts (all_entries c.args.before.now) c.args.front.now (c.args.e.now ∷ c.args.back.now)
+    (all_entries c.args.after.now) c.in_ok-block.block.items c.in_ok-block.ensures)
     c.blocks_around.ensures

@@ -13,7 +13,8 @@ loop-e-preserved c = record {
       ∙ (λ i. c.loop-e.invariant.meaning rest i || c.in_ok-entry_given.ensures.meaning rest i)
       ∙ sym (any_step (λ e. entry_denotes e (over c.args.env.now rest)) c.args.a.now c.loop-e.e-index c.e-item.result (omega arith) c.e-item.is);
   vars = λ t h.
-      let parts = both_parts _ _ (sym (all_step (λ e. entry_vars (λ x. t x || has_value c.args.env.now x) e) c.args.a.now c.loop-e.e-index c.e-item.result (omega arith) c.e-item.is) ∙ h) in
+      let parts = both_parts _ _ (sym (all_step
+      (λ e. entry_vars (λ x. t x || has_value c.args.env.now x) e) c.args.a.now c.loop-e.e-index c.e-item.result (omega arith) c.e-item.is) ∙ h) in
       ap (set_vars t) c.in_ok-put_some.ensures
       ∙ vars_some c.loop-e.entries.items c.in_ok-entry_given.field-0 t
       ∙ both_true _ _ (c.loop-e.invariant.vars t parts.0) (c.in_ok-entry_given.ensures.vars t parts.1);

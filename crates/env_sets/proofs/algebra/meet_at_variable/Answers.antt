@@ -15,8 +15,10 @@ returns-then-have-clause-meaning c = λ env.
     ∙ denotes_one c.args.out.now.items c.in_ok-copy-in-Some.field-0 env
     ∙ ap (λ b. set_denotes c.args.out.now.items env || b)
     (ap (λ e. entry_denotes e env) c.in_ok-copy-in-Some.ensures.same
-    ∙ known (entry_denotes c.args.e.now env) (list_any (λ v. same v (env c.args.x.now)) c.args.parts.now.fixed) (set_denotes c.args.b.now env) (set_denotes c.args.parts.now.others env)
-    (λ yes. sym (any_same-along c.in-Some.v.now (env c.args.x.now) (fixed_same c.args.x.now c.args.e.now c.in-Some.v.now c.in-Some.ensures env yes) c.args.parts.now.fixed) ∙ sym c.have.ensures.value ∙ c.if-have.true)
+    ∙ known (entry_denotes c.args.e.now env) (list_any (λ v. same v (env c.args.x.now)) c.args.parts.now.fixed)
+    (set_denotes c.args.b.now env) (set_denotes c.args.parts.now.others env)
+    (λ yes. sym (any_same-along c.in-Some.v.now (env c.args.x.now)
+    (fixed_same c.args.x.now c.args.e.now c.in-Some.v.now c.in-Some.ensures env yes) c.args.parts.now.fixed) ∙ sym c.have.ensures.value ∙ c.if-have.true)
     (c.requires.parts env))
 
 pub returns-else-have-clause-meaning : goal.returns-else-have-clause-meaning
@@ -24,7 +26,9 @@ returns-else-have-clause-meaning c = IfOk-weaker c.meet_by_group.result _ _ (λ 
     h env
     ∙ ap (λ es. set_denotes c.args.out.now.items env || (entry_denotes c.args.e.now env && set_denotes es env)) c.entries.ensures.entries
     ∙ ap (λ b. set_denotes c.args.out.now.items env || b)
-    (unknown (entry_denotes c.args.e.now env) (list_any (λ v. same v (env c.args.x.now)) c.args.parts.now.fixed) (set_denotes c.args.b.now env) (set_denotes c.args.parts.now.others env)
-    (λ yes. sym (any_same-along c.in-Some.v.now (env c.args.x.now) (fixed_same c.args.x.now c.args.e.now c.in-Some.v.now c.in-Some.ensures env yes) c.args.parts.now.fixed) ∙ sym c.have.ensures.value ∙ c.if-have.false)
+    (unknown (entry_denotes c.args.e.now env) (list_any (λ v. same v (env c.args.x.now)) c.args.parts.now.fixed)
+    (set_denotes c.args.b.now env) (set_denotes c.args.parts.now.others env)
+    (λ yes. sym (any_same-along c.in-Some.v.now (env c.args.x.now)
+    (fixed_same c.args.x.now c.args.e.now c.in-Some.v.now c.in-Some.ensures env yes) c.args.parts.now.fixed) ∙ sym c.have.ensures.value ∙ c.if-have.false)
     (c.requires.parts env)))
     c.meet_by_group.ensures.meaning

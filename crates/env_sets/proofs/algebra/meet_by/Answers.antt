@@ -22,7 +22,8 @@ loop-e-preserved c = record {
       c.in_ok-meet_at_variable.ensures.meaning env
       ∙ ap (λ d. d || (entry_denotes c.e-item.result env && set_denotes c.args.b.now env)) (c.loop-e.invariant.meaning env)
       ∙ either_meets (set_denotes (take c.loop-e.e-index c.args.a.now) env) (entry_denotes c.e-item.result env) (set_denotes c.args.b.now env)
-      ∙ ap (λ d. d && set_denotes c.args.b.now env) (sym (any_step (λ e. entry_denotes e env) c.args.a.now c.loop-e.e-index c.e-item.result (omega arith) c.e-item.is));
+      ∙ ap (λ d. d && set_denotes c.args.b.now env)
+      (sym (any_step (λ e. entry_denotes e env) c.args.a.now c.loop-e.e-index c.e-item.result (omega arith) c.e-item.is));
   vars = λ t h second.
       let parts = both_parts _ _ (sym (all_step (λ e. entry_vars t e) c.args.a.now c.loop-e.e-index c.e-item.result (omega arith) c.e-item.is) ∙ h) in
       c.in_ok-meet_at_variable.ensures.vars t (c.loop-e.invariant.vars t parts.0 second) parts.1 second;

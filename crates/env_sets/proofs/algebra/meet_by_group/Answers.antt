@@ -27,7 +27,9 @@ returns-in-Some-place_in_order-clause-meaning c =
     let here = ap (λ vs. same (get_or vs k c.in-Some.v.now) c.in-Some.v.now) (sym values) ∙ c.in-Some-place_in_order.ensures.1 in
     IfOk-weaker c.meet_group_and_others.result _ _ (λ r h env.
     h env
-    ∙ ap (λ es. set_denotes c.args.out.now.items env || (entry_denotes c.args.e.now env && (set_denotes c.entries-in-Some-place_in_order.result.now env || set_denotes es env))) c.entries-in-Some-place_in_order-2.ensures.entries
+    ∙ ap (λ es. set_denotes c.args.out.now.items env
+    || (entry_denotes c.args.e.now env &&
+    (set_denotes c.entries-in-Some-place_in_order.result.now env || set_denotes es env))) c.entries-in-Some-place_in_order-2.ensures.entries
     ∙ ap (λ b. set_denotes c.args.out.now.items env || b)
     (met_in_group c.args.x.now c.args.groups.now.values c.args.b.now c.args.groups.now.groups.items c.args.groups.now.others
     c.entries-in-Some-place_in_order.result.now c.args.e.now c.in-Some.v.now k c.requires.groups c.in-Some.ensures within here group env))

@@ -10,10 +10,16 @@ pub returns-in-Some-clause-meaning : goal.returns-in-Some-clause-meaning
 returns-in-Some-clause-meaning c = subst (λ es. IfOk c.projected.result (λ r. IsProjection c.args.v.now es r)) c.in-Some.ensures c.projected.ensures.meaning
 
 pub returns-in-Some-clause-vars : goal.returns-in-Some-clause-vars
-returns-in-Some-clause-vars c = subst (λ es. IfOk c.projected.result (λ r. (t : Var → Bool) → set_vars (λ y. t y || same_var y c.args.v.now) es ≡ true → set_vars t r ≡ true)) c.in-Some.ensures c.projected.ensures.vars
+returns-in-Some-clause-vars c = subst (λ es. IfOk c.projected.result
+    (λ r. (t : Var → Bool) → set_vars (λ y. t y || same_var y c.args.v.now) es ≡ true → set_vars t r ≡ true)) c.in-Some.ensures c.projected.ensures.vars
 
 pub returns-in_ok-list-in-None-clause-meaning : goal.returns-in_ok-list-in-None-clause-meaning
-returns-in_ok-list-in-None-clause-meaning c = subst (λ es. IfOk c.projected-in-None.result (λ r. IsProjection c.args.v.now es r)) (c.entries.ensures.entries ∙ c.in_ok-list-in-None.ensures) c.projected-in-None.ensures.meaning
+returns-in_ok-list-in-None-clause-meaning c =
+    subst (λ es. IfOk c.projected-in-None.result (λ r. IsProjection c.args.v.now es r))
+    (c.entries.ensures.entries ∙ c.in_ok-list-in-None.ensures) c.projected-in-None.ensures.meaning
 
 pub returns-in_ok-list-in-None-clause-vars : goal.returns-in_ok-list-in-None-clause-vars
-returns-in_ok-list-in-None-clause-vars c = subst (λ es. IfOk c.projected-in-None.result (λ r. (t : Var → Bool) → set_vars (λ y. t y || same_var y c.args.v.now) es ≡ true → set_vars t r ≡ true)) (c.entries.ensures.entries ∙ c.in_ok-list-in-None.ensures) c.projected-in-None.ensures.vars
+returns-in_ok-list-in-None-clause-vars c =
+    subst (λ es. IfOk c.projected-in-None.result
+    (λ r. (t : Var → Bool) → set_vars (λ y. t y || same_var y c.args.v.now) es ≡ true → set_vars t r ≡ true))
+    (c.entries.ensures.entries ∙ c.in_ok-list-in-None.ensures) c.projected-in-None.ensures.vars

@@ -13,7 +13,8 @@ ascending_hold-requires c =
 
 pub returns-then-is_behind : goal.returns-then-is_behind
 returns-then-is_behind c =
-    sym (blocks_miss c.args.blocks.now c.loop-i.i c.index-blocks-i.result (total c.args.env.now) (blocks_ascend c.args.blocks.now c.requires) (omega arith) c.index-blocks-i.is
+    sym (blocks_miss c.args.blocks.now c.loop-i.i c.index-blocks-i.result (total c.args.env.now)
+    (blocks_ascend c.args.blocks.now c.requires) (omega arith) c.index-blocks-i.is
     (λ es. subst (λ b. FirstIsAfter (total c.args.env.now) (b ++ es)) c.as_slice-block.ensures.items (c.is_behind.ensures c.if-is_behind.true es))
     c.loop-i.invariant)
 

@@ -8,7 +8,8 @@ pub loop-low-preserved-then-ends_before : goal.loop-low-preserved-then-ends_befo
 loop-low-preserved-then-ends_before c = record {
   order = omega arith;
   within = c.loop-low.invariant.within;
-  front = front_blocks_miss c.args.blocks.now (c.loop-low.low + (c.loop-low.high - c.loop-low.low) / 2) (c.loop-low.low + (c.loop-low.high - c.loop-low.low) / 2 + 1)
+  front = front_blocks_miss c.args.blocks.now (c.loop-low.low + (c.loop-low.high - c.loop-low.low) / 2)
+      (c.loop-low.low + (c.loop-low.high - c.loop-low.low) / 2 + 1)
       c.index-blocks-middle.result (total c.args.env.now) (blocks_ascend c.args.blocks.now c.requires) (omega arith) c.index-blocks-middle.is (omega arith)
       (λ es. subst (λ b. LastIsBefore (total c.args.env.now) (es ++ b)) c.as_slice.ensures.items (c.ends_before.ensures c.if-ends_before.true es));
 }

@@ -7,4 +7,5 @@ pub returns-in-Is-default : goal.returns-in-Is-default
 returns-in-Is-default c = λ h. meet_none c.in-Is-default.v c.args.a.now c.args.b.now c.allows.result (search rules) (search rules) (grind (arith, common_steps))
 
 pub returns-in-Not-Is : goal.returns-in-Not-Is
-returns-in-Not-Is c = λ h. meet_none_right c.in-Not-Is.w c.args.a.now c.args.b.now c.allows-in-Not-Is.result (search rules) (search rules) (grind (arith, common_steps))
+returns-in-Not-Is c = λ h. meet_none_right c.in-Not-Is.w c.args.a.now c.args.b.now c.allows-in-Not-Is.result (search rules)
+    (search rules) (grind (arith, common_steps))

@@ -37,7 +37,8 @@ lone_outside all e x fixed known read others a env i f g r n m =
 
 pub outside_at-returns-then-is_empty-clause-meaning : goal.outside_at-returns-then-is_empty-clause-meaning
 outside_at-returns-then-is_empty-clause-meaning t c = IfOk-weaker c.one_entry.result _ _ (λ r h env.
-    lone_outside r.items c.in_ok-one.field-0 c.args.x.now c.in_ok-fixed.fixed c.in_ok-parts.parts.fixed c.entries-others.result.now c.in_ok-parts.parts.others c.args.a.now env
+    lone_outside r.items c.in_ok-one.field-0 c.args.x.now c.in_ok-fixed.fixed c.in_ok-parts.parts.fixed
+    c.entries-others.result.now c.in_ok-parts.parts.others c.args.a.now env
     h c.in_ok-one.ensures.pairs (c.in_ok-fixed.ensures.items ∙ c.into_vec.ensures.items) c.entries-others.ensures.entries
     (no_items (length c.entries-others.result.now) (sym c.if-is_empty.true ∙ c.is_empty.ensures)) (c.in_ok-parts.ensures.meaning env)) c.one_entry.ensures
 
@@ -46,7 +47,8 @@ outside-split_var-requires t c = record {
   first =
       occurs_at c.args.a.now c.first-item.result c.pair-item.result
       (omega (arith, c.in-len1-up.len_at_least)) c.first-item.is
-      (omega (arith, ap length c.pairs.ensures.pairs, c.in-len1-up-pairs.len_at_least)) (c.pair-item.is ∙ ap (λ ps. get_or ps 0 c.pair-item.result) c.pairs.ensures.pairs);
+      (omega (arith, ap length c.pairs.ensures.pairs, c.in-len1-up-pairs.len_at_least))
+      (c.pair-item.is ∙ ap (λ ps. get_or ps 0 c.pair-item.result) c.pairs.ensures.pairs);
 }
 
 pub outside-outside_at-requires : goal.outside-outside_at-requires
@@ -54,7 +56,8 @@ outside-outside_at-requires t c = (omega (arith, c.decreases), c.in_ok-x-in-len1
 
 pub outside_at-returns-then-is_empty-clause-vars : goal.outside_at-returns-then-is_empty-clause-vars
 outside_at-returns-then-is_empty-clause-vars t c = IfOk-weaker c.one_entry.result _ _ (λ r h test all.
-    ap (set_vars test) (h ∙ ap (λ e. e ∷ []) c.in_ok-one.ensures.pairs) ∙ lone_var (test c.args.x.now) (occurs_vars c.args.x.now test c.args.a.now c.requires.occurs all)) c.one_entry.ensures
+    ap (set_vars test) (h ∙ ap (λ e. e ∷ []) c.in_ok-one.ensures.pairs)
+    ∙ lone_var (test c.args.x.now) (occurs_vars c.args.x.now test c.args.a.now c.requires.occurs all)) c.one_entry.ensures
 
 pub outside_at-returns-in-Some-clause-meaning : goal.outside_at-returns-in-Some-clause-meaning
 outside_at-returns-in-Some-clause-meaning t c = IfOk-weaker c.outside_lone.result _ _ (λ r h env.
@@ -65,8 +68,10 @@ outside_at-returns-in-Some-clause-meaning t c = IfOk-weaker c.outside_lone.resul
     ∙ lone_end in_values (fixed || set_denotes others env)
     (λ none. or_true fixed (set_denotes others env)
     (ap (λ es. set_denotes es env) (sym c.entries-others.ensures.entries)
-    ∙ any_at (λ e. entry_denotes e env) c.entries-others.result.now c.shortest.result c.index-others-shortest.result c.shortest.ensures c.index-others-shortest.is
-    (c.in-Some.ensures env ∙ ap (λ vs. not (list_any (λ v. same v (env c.args.x.now)) vs)) (sym (c.as_slice.ensures.items ∙ c.in_ok-listed.ensures.items)) ∙ ap not none)))
+    ∙ any_at (λ e. entry_denotes e env) c.entries-others.result.now c.shortest.result c.index-others-shortest.result
+    c.shortest.ensures c.index-others-shortest.is
+    (c.in-Some.ensures env ∙ ap (λ vs. not (list_any (λ v. same v (env c.args.x.now)) vs))
+    (sym (c.as_slice.ensures.items ∙ c.in_ok-listed.ensures.items)) ∙ ap not none)))
     ∙ ap not (sym (c.in_ok-parts.ensures.meaning env)))
     c.outside_lone.ensures.meaning
 
@@ -79,8 +84,11 @@ split-outside-requires t c = (
   omega (
     arith,
     c.decreases,
-    part_smaller c.args.x.now c.as_slice-all.result.now c.args.a.now c.in_ok-parts.parts.items c.loop-i.i c.entries.result.now c.in_ok-parts.ensures c.loop-i-test.true
-        (c.entries.ensures.entries ∙ c.index.ensures ∙ get_or_default c.in_ok-parts.parts.items c.loop-i.i c.index.result.now [] (omega (arith, c.in_ok-parts.ensures.0, c.loop-i-test.true))) c.requires.occurs,
+    part_smaller c.args.x.now c.as_slice-all.result.now c.args.a.now c.in_ok-parts.parts.items c.loop-i.i c.entries.result.now
+        c.in_ok-parts.ensures c.loop-i-test.true
+        (c.entries.ensures.entries ∙ c.index.ensures
+        ∙ get_or_default c.in_ok-parts.parts.items c.loop-i.i c.index.result.now []
+        (omega (arith, c.in_ok-parts.ensures.0, c.loop-i-test.true))) c.requires.occurs,
   ),
   tt,
 )
@@ -93,8 +101,11 @@ pub split-loop-i-preserved : goal.split-loop-i-preserved
 split-loop-i-preserved t c =
     let v = c.index-all-i.result in
     let x = c.args.x.now in
-    let is_part = part_is x c.as_slice-all.result.now c.args.a.now c.in_ok-parts.parts.items c.loop-i.i c.entries.result.now v c.in_ok-parts.ensures c.loop-i-test.true
-    (c.entries.ensures.entries ∙ c.index.ensures ∙ get_or_default c.in_ok-parts.parts.items c.loop-i.i c.index.result.now [] (omega (arith, c.in_ok-parts.ensures.0, c.loop-i-test.true))) c.index-all-i.is in
+    let is_part = part_is x c.as_slice-all.result.now c.args.a.now c.in_ok-parts.parts.items c.loop-i.i c.entries.result.now v
+    c.in_ok-parts.ensures c.loop-i-test.true
+    (c.entries.ensures.entries ∙ c.index.ensures
+    ∙ get_or_default c.in_ok-parts.parts.items c.loop-i.i c.index.result.now []
+    (omega (arith, c.in_ok-parts.ensures.0, c.loop-i-test.true))) c.index-all-i.is in
     record {
       meaning = λ env.
           c.in_ok-put_fixed.ensures.meaning env
@@ -119,10 +130,12 @@ split-returns-clause-meaning t c = λ env.
     ∙ (λ i. (c.loop-i.invariant.meaning env ∙ ap (λ vs. list_any (λ v. same v (env x)) vs && not (set_denotes c.args.a.now env)) all_values) i
     || (c.in_ok-rest-2.ensures.meaning env i && not (list_any (λ v. same v (env x)) (c.into_vec.ensures.items i))))
     ∙ complement_end (list_any (λ v. same v (env x)) c.in_ok-values.values) (set_denotes c.deref.result.now env) (set_denotes c.args.a.now env)
-    (λ none. ap (λ es. set_denotes es env) (c.deref.ensures.value ∙ c.in_ok-other.ensures) ∙ other-split x env c.args.a.now (c.in_ok-values.ensures.meaning (env x) none))
+    (λ none. ap (λ es. set_denotes es env) (c.deref.ensures.value ∙ c.in_ok-other.ensures)
+    ∙ other-split x env c.args.a.now (c.in_ok-values.ensures.meaning (env x) none))
 
 pub split-returns-clause-vars : goal.split-returns-clause-vars
 split-returns-clause-vars t c = λ test all.
     c.in_ok-put_other.ensures.vars test (c.loop-i.invariant.vars test all)
-    (c.in_ok-rest-2.ensures.vars test (ap (set_vars test) (c.deref.ensures.value ∙ c.in_ok-other.ensures) ∙ restricted_vars c.args.x.now is_not test c.args.a.now all))
+    (c.in_ok-rest-2.ensures.vars test (ap (set_vars test) (c.deref.ensures.value ∙ c.in_ok-other.ensures)
+    ∙ restricted_vars c.args.x.now is_not test c.args.a.now all))
     (occurs_vars c.args.x.now test c.args.a.now c.requires.occurs all)

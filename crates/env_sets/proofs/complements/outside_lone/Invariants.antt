@@ -8,6 +8,7 @@ use Rattle.env_sets.proofs.complements.outside_lone.Given as goal
 
 abbrev pub invariant-loop-v : goal.invariant-loop-v
 invariant-loop-v l = record {
-  meaning : (env : Environment) → set_denotes l.out.items env ≡ (list_any (λ v. same v (env l.x)) (take l.v-index l.values) && not (list_any (λ v. same v (env l.x)) l.parts.fixed || set_denotes l.parts.others env));
+  meaning : (env : Environment) → set_denotes l.out.items env
+      ≡ (list_any (λ v. same v (env l.x)) (take l.v-index l.values) && not (list_any (λ v. same v (env l.x)) l.parts.fixed || set_denotes l.parts.others env));
   vars : (t : Var → Bool) → t l.x ≡ true → set_vars t l.out.items ≡ true;
 }

@@ -8,7 +8,8 @@ pub returns-in-None-clause-meaning : goal.returns-in-None-clause-meaning
 returns-in-None-clause-meaning c = λ env.
     let m = c.loop-p.invariant.meaning env in
     let n = c.in_ok-narrowed.ensures.meaning env in
-    all_fails (λ p. fits (env p.0) p.1) c.pairs-p-items.result.now c.args.b.now c.loop-p.p-index c.p-item.result _ _ (omega arith) c.p-item.is c.pairs-p-items.ensures.pairs m
+    all_fails (λ p. fits (env p.0) p.1) c.pairs-p-items.result.now c.args.b.now c.loop-p.p-index c.p-item.result _ _
+    (omega arith) c.p-item.is c.pairs-p-items.ensures.pairs m
     (rw c.in-None.is at n)
 
 pub loop-p-preserved : goal.loop-p-preserved

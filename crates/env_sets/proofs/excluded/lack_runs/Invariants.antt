@@ -5,4 +5,6 @@ use Rattle.smpl_terms.specs.Values.{same}
 use Rattle.env_sets.proofs.excluded.lack_runs.Given as goal
 
 abbrev pub invariant-loop-run : goal.invariant-loop-run
-invariant-loop-run l = (z : Value) → (list_any (λ v. same v z) l.values || list_any (λ v. same v z) l.out.items) ≡ ((list_any (λ v. same v z) l.values || list_any (λ v. same v z) l.initial.out.items) || list_any (λ ws. list_any (λ v. same v z) ws) (take l.run-index l.runs))
+invariant-loop-run l = (z : Value) → (list_any (λ v. same v z) l.values || list_any (λ v. same v z) l.out.items)
+    ≡ ((list_any (λ v. same v z) l.values || list_any (λ v. same v z) l.initial.out.items)
+    || list_any (λ ws. list_any (λ v. same v z) ws) (take l.run-index l.runs))

@@ -15,12 +15,14 @@ loop-e-preserved c =
     let values = c.values.inside.items.items in
     let new = c.put_in_group.new.groups in
     let h = c.deref_mut.ensures in
-    let more = groups_read x values c.as_slice-in-loop-e.result.now (take i b) e c.loop-e.groups.items c.deref_mut.result.now new c.loop-e.others.items c.put_in_group.new.others.items
+    let more = groups_read x values c.as_slice-in-loop-e.result.now
+    (take i b) e c.loop-e.groups.items c.deref_mut.result.now new c.loop-e.others.items c.put_in_group.new.others.items
     (c.as_slice-in-loop-e.ensures.items ∙ sym c.values.view_is) h.value (c.in_ok-put_in_group.ensures.meaning (take i b)) c.loop-e.invariant.meaning in
     let back = written_back new c.loop-e.groups.items c.loop-e.groups.len (sym h.len ∙ ap length h.value ∙ c.loop-e.invariant.meaning.0 ∙ sym more.0) in
     record {
       meaning = groups_next x values b i e new _ c.put_in_group.new.others.items (omega arith) c.e-item.is back more;
-      vars = λ t. vars_next t b i e c.loop-e.groups.items c.deref_mut.result.now new _ c.loop-e.others.items c.put_in_group.new.others.items (omega arith) c.e-item.is h.value back
+      vars = λ t. vars_next t b i e c.loop-e.groups.items c.deref_mut.result.now new _ c.loop-e.others.items
+          c.put_in_group.new.others.items (omega arith) c.e-item.is h.value back
           (c.in_ok-put_in_group.ensures.vars t) (c.loop-e.invariant.vars t);
     }
 

@@ -14,6 +14,8 @@ returns c = λ x a b either of_either of_a of_b joined joins from_either from_a 
     (λ r. or_true (set_denotes of_a env) (set_denotes of_b env) ((from_b env).1 (w.0, r)))
     (or_cases (set_denotes a (change env x w.0)) (set_denotes b (change env x w.0)) (sym (joins (change env x w.0)) ∙ w.1)))
     (λ h. ⊎_elim
-    (λ l. let w = (from_a env).0 l in (from_either env).1 (w.0, joins (change env x w.0) ∙ either_true (set_denotes a (change env x w.0)) (set_denotes b (change env x w.0)) w.1))
-    (λ r. let w = (from_b env).0 r in (from_either env).1 (w.0, joins (change env x w.0) ∙ or_true (set_denotes a (change env x w.0)) (set_denotes b (change env x w.0)) w.1))
+    (λ l. let w = (from_a env).0 l in (from_either env).1
+    (w.0, joins (change env x w.0) ∙ either_true (set_denotes a (change env x w.0)) (set_denotes b (change env x w.0)) w.1))
+    (λ r. let w = (from_b env).0 r in (from_either env).1
+    (w.0, joins (change env x w.0) ∙ or_true (set_denotes a (change env x w.0)) (set_denotes b (change env x w.0)) w.1))
     (or_cases (set_denotes of_a env) (set_denotes of_b env) (sym (joins_parts env) ∙ h)))

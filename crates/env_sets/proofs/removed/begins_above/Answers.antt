@@ -5,7 +5,8 @@ use Rattle.env_sets.proofs.removed.begins_above.Goals as goal
 
 pub returns-in-len1-up : goal.returns-in-len1-up
 returns-in-len1-up c = λ h env k.
-    first_is_after c.args.back.now (all_entries c.args.after.now) c.first-item.result env (omega (arith, c.in-len1-up.len_at_least)) c.first-item.is (c.is_above.ensures h env k)
+    first_is_after c.args.back.now (all_entries c.args.after.now) c.first-item.result env
+    (omega (arith, c.in-len1-up.len_at_least)) c.first-item.is (c.is_above.ensures h env k)
 
 pub returns-in-empty-after : goal.returns-in-empty-after
 returns-in-empty-after c = λ h env k.

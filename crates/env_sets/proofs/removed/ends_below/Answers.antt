@@ -10,4 +10,5 @@ returns-then-is_empty c = λ h env k.
 
 pub returns : goal.returns
 returns c = λ h env k.
-    last_is_before (all_entries c.args.before.now) c.args.front.now _ c.index-front-front.result env (grind (arith, nat_tests)) c.index-front-front.is (c.is_below.ensures h env k)
+    last_is_before (all_entries c.args.before.now) c.args.front.now _ c.index-front-front.result env
+    (grind (arith, nat_tests)) c.index-front-front.is (c.is_below.ensures h env k)

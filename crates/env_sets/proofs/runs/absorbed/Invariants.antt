@@ -9,7 +9,8 @@ abbrev pub invariant-loop-k : goal.invariant-loop-k
 invariant-loop-k l = record {
   within : l.k ≤ length l.runs;
   rise : Rise l.all.items;
-  meaning : (z : Value) → list_any (λ v. same v z) l.all.items ≡ (list_any (λ v. same v z) l.initial.all.items || list_any (λ ws. list_any (λ v. same v z) ws) (take l.k l.runs));
+  meaning : (z : Value) → list_any (λ v. same v z) l.all.items
+      ≡ (list_any (λ v. same v z) l.initial.all.items || list_any (λ ws. list_any (λ v. same v z) ws) (take l.k l.runs));
 }
 
 abbrev pub decreases-loop-k : goal.decreases-loop-k

@@ -6,7 +6,8 @@ use Rattle.env_sets.proofs.sharing.is_covered.Goals as goal
 
 pub returns-then-first_cover : goal.returns-then-first_cover
 returns-then-first_cover c = λ h env k.
-    first_holds c.args.set.now c.by_order.result.0.now c.by_order.result.1.now env c.by_order.ensures.entries (c.first_cover.ensures c.if-first_cover.true env k)
+    first_holds c.args.set.now c.by_order.result.0.now c.by_order.result.1.now env c.by_order.ensures.entries
+    (c.first_cover.ensures c.if-first_cover.true env k)
 
 pub returns : goal.returns
 returns c = λ h env k.

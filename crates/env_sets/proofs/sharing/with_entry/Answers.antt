@@ -13,12 +13,16 @@ returns-then-first_cover-clause-meaning c = λ env.
 pub returns-in_ok-put_entries-in-Some-clause-meaning : goal.returns-in_ok-put_entries-in-Some-clause-meaning
 returns-in_ok-put_entries-in-Some-clause-meaning c = λ env.
     with_rest c.args.set.now c.by_order.result.0.now c.put_entries.new.out.items c.with_blocks.result c.by_order.result.1.now c.in-Some.rest c.args.e.now env
-    c.by_order.ensures.entries (c.in_ok-put_entries-in-Some.ensures ∙ ap (λ es. es ++ c.by_order.result.0.now) c.in_ok-copies-in-Some.ensures.items) c.with_blocks.ensures.entries ((rw c.in-Some.is at c.in_ok-blocks_with.ensures.meaning) env)
+    c.by_order.ensures.entries (c.in_ok-put_entries-in-Some.ensures
+    ∙ ap (λ es. es ++ c.by_order.result.0.now) c.in_ok-copies-in-Some.ensures.items) c.with_blocks.ensures.entries
+    ((rw c.in-Some.is at c.in_ok-blocks_with.ensures.meaning) env)
 
 pub returns-in_ok-put_entries-in-Some-clause-vars : goal.returns-in_ok-put_entries-in-Some-clause-vars
 returns-in_ok-put_entries-in-Some-clause-vars c = λ t h k.
     with_rest_vars c.args.set.now c.by_order.result.0.now c.put_entries.new.out.items c.with_blocks.result c.by_order.result.1.now c.in-Some.rest t
-    c.by_order.ensures.entries (c.in_ok-put_entries-in-Some.ensures ∙ ap (λ es. es ++ c.by_order.result.0.now) c.in_ok-copies-in-Some.ensures.items) c.with_blocks.ensures.entries (λ all. (rw c.in-Some.is at c.in_ok-blocks_with.ensures.vars) t all k) h
+    c.by_order.ensures.entries (c.in_ok-put_entries-in-Some.ensures
+    ∙ ap (λ es. es ++ c.by_order.result.0.now) c.in_ok-copies-in-Some.ensures.items) c.with_blocks.ensures.entries
+    (λ all. (rw c.in-Some.is at c.in_ok-blocks_with.ensures.vars) t all k) h
 
 pub with_blocks-requires : goal.with_blocks-requires
 with_blocks-requires c = rw c.in-Some.is at c.in_ok-blocks_with.ensures.order

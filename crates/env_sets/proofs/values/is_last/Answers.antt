@@ -9,7 +9,8 @@ returns-then-is_empty-clause-rise c = λ _ _ _. empty_push c.args.kept.now c.arg
 pub returns-clause-known : goal.returns-clause-known
 returns-clause-known c = λ h z.
     let some = some_items (length c.args.kept.now) c.if-is_empty.ensures in
-    known_value c.args.kept.now (length c.args.kept.now - 1) c.index-kept-kept.result c.args.v.now z (omega (arith, some)) c.index-kept-kept.is (sym c.same_value.ensures.value ∙ h)
+    known_value c.args.kept.now (length c.args.kept.now - 1) c.index-kept-kept.result c.args.v.now z
+    (omega (arith, some)) c.index-kept-kept.is (sym c.same_value.ensures.value ∙ h)
 
 pub returns-clause-rise : goal.returns-clause-rise
 returns-clause-rise c = λ h none rise.

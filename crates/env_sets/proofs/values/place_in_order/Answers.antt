@@ -8,7 +8,8 @@ pub loop-low-preserved-in-Less : goal.loop-low-preserved-in-Less
 loop-low-preserved-in-Less c = record {
   order = omega arith;
   within = c.loop-low.invariant.within;
-  front = front_misses_at c.args.items.now (c.loop-low.low + (c.loop-low.high - c.loop-low.low) / 2) (c.loop-low.low + (c.loop-low.high - c.loop-low.low) / 2 + 1) c.index-items-middle.result c.args.v.now
+  front = front_misses_at c.args.items.now (c.loop-low.low + (c.loop-low.high - c.loop-low.low) / 2)
+      (c.loop-low.low + (c.loop-low.high - c.loop-low.low) / 2 + 1) c.index-items-middle.result c.args.v.now
       c.requires (omega arith) c.index-items-middle.is (sym c.in-Less.ensures.value) (omega arith);
   back = c.loop-low.invariant.back;
 }
@@ -23,7 +24,11 @@ loop-low-preserved c = record {
 }
 
 pub returns-in-Equal : goal.returns-in-Equal
-returns-in-Equal c = (omega arith, here_at c.index-items-middle.result c.args.v.now c.args.items.now (c.loop-low.low + (c.loop-low.high - c.loop-low.low) / 2) (omega arith) c.index-items-middle.is (sym c.in-Equal.ensures.value))
+returns-in-Equal c = (
+  omega arith,
+  here_at c.index-items-middle.result c.args.v.now c.args.items.now
+      (c.loop-low.low + (c.loop-low.high - c.loop-low.low) / 2) (omega arith) c.index-items-middle.is (sym c.in-Equal.ensures.value),
+)
 
 pub returns : goal.returns
 returns c =

@@ -28,7 +28,8 @@ returns-in_err-isos-clause-fault c =
     let begins : c.is_begin.result ≡ c.seen_at-seen.result && header_next (drop (v.i + 1) lines) = rw take_rest at c.is_begin.ensures in
     rw (p.1, p.2)
     (or_map (IsFirstBlockFault (filled (slice_range lines v.start v.i ∷ []))) (IsFirstBlockFault (blocks lines)) f
-    (λ g k. step_fault lines v.isos v.start v.i v.seen c.seen_at-seen.result c.is_begin.result c.as_slice.result.now c.index-lines-i.result g v.invariant c.loop-i-test.true
+    (λ g k. step_fault lines v.isos v.start v.i v.seen c.seen_at-seen.result c.is_begin.result c.as_slice.result.now
+    c.index-lines-i.result g v.invariant c.loop-i-test.true
     c.as_slice.ensures c.index-lines-i.is c.seen_at-seen.ensures begins c.if-is_begin.true k)
     c.in_err-isos.ensures.fault)
 
@@ -40,11 +41,13 @@ loop-i-preserved c =
     elim c.if-is_begin.branch [
       | then-is_begin+in_ok-isos w ↦
           led_along lines c.if-is_begin.isos w.in_ok-isos.isos c.if-is_begin.start v.i (v.i + 1) c.seen_at-seen.result w.isos-is w.start-is
-          (step_begun lines v.isos w.in_ok-isos.isos v.start v.i v.seen c.seen_at-seen.result c.is_begin.result c.as_slice.result.now c.index-lines-i.result v.invariant c.loop-i-test.true
+          (step_begun lines v.isos w.in_ok-isos.isos v.start v.i v.seen c.seen_at-seen.result c.is_begin.result
+          c.as_slice.result.now c.index-lines-i.result v.invariant c.loop-i-test.true
           c.as_slice.ensures c.index-lines-i.is c.seen_at-seen.ensures begins w.if-is_begin.true w.in_ok-isos.ensures.isos)
       | else-is_begin w ↦
           led_along lines c.if-is_begin.isos v.isos c.if-is_begin.start v.start (v.i + 1) c.seen_at-seen.result w.isos-is w.start-is
-          (step_on lines v.isos v.start v.i v.seen c.seen_at-seen.result c.is_begin.result c.as_slice.result.now c.index-lines-i.result v.invariant c.loop-i-test.true
+          (step_on lines v.isos v.start v.i v.seen c.seen_at-seen.result c.is_begin.result c.as_slice.result.now
+          c.index-lines-i.result v.invariant c.loop-i-test.true
           c.as_slice.ensures c.index-lines-i.is c.seen_at-seen.ensures begins w.if-is_begin.false)
     ]
 

@@ -20,6 +20,7 @@ returns-else-is_some c =
     let k = c.in-Some.k in
     let broken : IsBreak vars sides arrows k = subst (λ o. IsFirstBreak vars sides arrows o) c.in-Some.is c.in_ok-first_break.ensures in
     let absent : is_some c.in_ok-lost-in-Some.lost ≡ false = cc (c.is_some.ensures, c.if-is_some.false) in
-    let none : IsLostFrom vars sides arrows k None = subst (λ o. IsLostFrom vars sides arrows k o) (none_of c.in_ok-lost-in-Some.lost absent) c.in_ok-lost-in-Some.ensures in
+    let none : IsLostFrom vars sides arrows k None =
+    subst (λ o. IsLostFrom vars sides arrows k o) (none_of c.in_ok-lost-in-Some.lost absent) c.in_ok-lost-in-Some.ensures in
     IfOk-weaker c.lost_from-else-is_some.result (λ lost. IsLostFrom vars sides arrows (k + 1) lost) (λ lost. IsLost vars sides arrows lost)
     (λ found h. next_lost vars sides arrows k found c.requires broken none h) c.lost_from-else-is_some.ensures

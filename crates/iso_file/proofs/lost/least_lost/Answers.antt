@@ -12,7 +12,8 @@ loop-low-preserved c =
     let v = c.loop-low.invariant in
     let w = c.loop-low-test.true in
     let absent : is_some c.in_ok-lost.lost ≡ false = cc (c.is_some.ensures, c.if-is_some.false) in
-    let none : IsLostFrom vars sides arrows middle None = subst (λ o. IsLostFrom vars sides arrows middle o) (none_of c.in_ok-lost.lost absent) c.in_ok-lost.ensures in
+    let none : IsLostFrom vars sides arrows middle None =
+    subst (λ o. IsLostFrom vars sides arrows middle o) (none_of c.in_ok-lost.lost absent) c.in_ok-lost.ensures in
     let last : middle ≤ c.args.last = omega (arith, v.within) in
     record {
       order = omega (arith, v.order, w);

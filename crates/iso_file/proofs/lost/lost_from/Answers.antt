@@ -10,11 +10,13 @@ returns-then-is_some c =
     let o = c.lost_between-lost.result in
     let at : o ≡ lost_at vars sides arrows c.args.i c.loop-j.j =
     looked vars sides arrows c.args.i c.loop-j.j c.as_slice.result.now c.index-sides-i.result c.as_slice-in-loop-j.result.now c.index-sides-j.result o
-    (c.lost_between-lost.ensures c.as_slice.result.now c.in_ok-held.ensures) c.as_slice.ensures c.index-sides-i.is c.requires.within c.as_slice-in-loop-j.ensures
+    (c.lost_between-lost.ensures c.as_slice.result.now c.in_ok-held.ensures) c.as_slice.ensures c.index-sides-i.is
+    c.requires.within c.as_slice-in-loop-j.ensures
     c.index-sides-j.is c.loop-j-test.true in
     let near : c.start_of-j.result ≤ c.loop-j.j = omega arith in
     let some : is_some o ≡ true = cc (c.is_some.ensures, c.if-is_some.true) in
-    found_here vars sides arrows c.args.i c.start_of-j.result c.loop-j.j o c.start_of-j.ensures near c.requires.within c.loop-j-test.true at some c.loop-j.invariant
+    found_here vars sides arrows c.args.i c.start_of-j.result c.loop-j.j o c.start_of-j.ensures near c.requires.within
+    c.loop-j-test.true at some c.loop-j.invariant
 
 pub loop-j-preserved : goal.loop-j-preserved
 loop-j-preserved c =
@@ -24,7 +26,8 @@ loop-j-preserved c =
     let o = c.lost_between-lost.result in
     let at : o ≡ lost_at vars sides arrows c.args.i c.loop-j.j =
     looked vars sides arrows c.args.i c.loop-j.j c.as_slice.result.now c.index-sides-i.result c.as_slice-in-loop-j.result.now c.index-sides-j.result o
-    (c.lost_between-lost.ensures c.as_slice.result.now c.in_ok-held.ensures) c.as_slice.ensures c.index-sides-i.is c.requires.within c.as_slice-in-loop-j.ensures
+    (c.lost_between-lost.ensures c.as_slice.result.now c.in_ok-held.ensures) c.as_slice.ensures c.index-sides-i.is
+    c.requires.within c.as_slice-in-loop-j.ensures
     c.index-sides-j.is c.loop-j-test.true in
     let none : is_some o ≡ false = cc (c.is_some.ensures, c.if-is_some.false) in
     none_more vars sides arrows c.args.i c.loop-j.j o at none c.loop-j.invariant

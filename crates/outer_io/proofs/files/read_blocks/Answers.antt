@@ -7,15 +7,18 @@ use Rattle.std.proofs.KnownBytes.{Consumes-nil, Consumes-trans, Consumes-whole}
 use Rattle.outer_io.proofs.files.read_blocks.Goals as goal
 
 -- a reader that gave more than the limit had more than the limit
-longer : (before after : Option (List ℕ)) (read : List ℕ) (limit : ℕ) → Consumes before after read → limit < length read → IfSome before (λ left. limit < length left)
+longer : (before after : Option (List ℕ)) (read : List ℕ) (limit : ℕ) → Consumes before after read → limit < length read
+    → IfSome before (λ left. limit < length left)
 longer None after read limit consumed over = tt
 longer (Some left) None read limit consumed over = absurd consumed
 longer (Some left) (Some rest) read limit consumed over = omega (arith, ap length consumed, length-append read rest)
 
 -- a reader at its end gave all that it had
-at_end : (a b c : Option (List ℕ)) (read block : List ℕ) (n : ℕ) → Consumes a b read → Consumes b c (take n block) → n ≡ 0 → IsAtEnd c → IfSome a (λ left. read ≡ left)
+at_end : (a b c : Option (List ℕ)) (read block : List ℕ) (n : ℕ) → Consumes a b read → Consumes b c (take n block) → n ≡ 0
+    → IsAtEnd c → IfSome a (λ left. read ≡ left)
 at_end a b c read block n consumed more none end =
-    Consumes-whole a c read (λ left. read ≡ left) (subst (Consumes a c) (ap (λ m. read ++ take m block) none ∙ append-nil read) (Consumes-trans a b c read (take n block) consumed more)) end refl
+    Consumes-whole a c read (λ left. read ≡ left)
+    (subst (Consumes a c) (ap (λ m. read ++ take m block) none ∙ append-nil read) (Consumes-trans a b c read (take n block) consumed more)) end refl
 
 pub loop-init : goal.loop-init
 loop-init g c =

@@ -9,15 +9,18 @@ use Rattle.outer_io.proofs.streams.write_whole.Goals as goal
 -- a step of the loop
 moves_front : (all done rest : List ℕ) (n : ℕ) → all ≡ done ++ rest → all ≡ (done ++ take n rest) ++ take (length rest - n) (drop n rest)
 moves_front all done rest n e =
-    e ∙ ap (λ l. done ++ l) (sym (take-append-drop n rest)) ∙ sym (append_assoc done (take n rest) (drop n rest)) ∙ ap (λ l. (done ++ take n rest) ++ l) (sym (take_rest rest n))
+    e ∙ ap (λ l. done ++ l) (sym (take-append-drop n rest)) ∙ sym (append_assoc done (take n rest) (drop n rest))
+    ∙ ap (λ l. (done ++ take n rest) ++ l) (sym (take_rest rest n))
 
 -- what was written is a prefix of the piece
-front_of : (before after : Option (List ℕ)) (all done rest : List ℕ) → all ≡ done ++ rest → Appends before after done → (n : ℕ) × Appends before after (take n all)
+front_of : (before after : Option (List ℕ)) (all done rest : List ℕ) → all ≡ done ++ rest → Appends before after done
+    → (n : ℕ) × Appends before after (take n all)
 front_of before after all done rest split appended =
     (length done, subst (Appends before after) (sym (take-append_seam done rest) ∙ ap (take (length done)) (sym split)) appended)
 
 -- and also after one more write, even if it accepted nothing
-front_more : (before mid after : Option (List ℕ)) (all done rest : List ℕ) (n : ℕ) → all ≡ done ++ rest → Appends before mid done → Appends mid after (take n rest) → (x : ℕ) × Appends before after (take x all)
+front_more : (before mid after : Option (List ℕ)) (all done rest : List ℕ) (n : ℕ) → all ≡ done ++ rest
+    → Appends before mid done → Appends mid after (take n rest) → (x : ℕ) × Appends before after (take x all)
 front_more before mid after all done rest n split appended more =
     front_of before after all (done ++ take n rest) (drop n rest)
     (split ∙ ap (λ l. done ++ l) (sym (take-append-drop n rest)) ∙ sym (append_assoc done (take n rest) (drop n rest)))

@@ -20,7 +20,8 @@ loop-j-init t c = record {
 pub put_child-requires : goal.put_child-requires
 put_child-requires t c =
     let e = c.in-Branch.is ∙ ap (Branch c.in-Branch.inner) (sym c.as_slice-below-items.ensures) in
-    let d = child-levels c.args.child.now c.in-Branch.inner c.as_slice-below-items.result.now c.loop-j.j c.below-item.result e c.loop-j-test.true c.below-item.is in
+    let d = child-levels c.args.child.now c.in-Branch.inner c.as_slice-below-items.result.now c.loop-j.j c.below-item.result e
+    c.loop-j-test.true c.below-item.is in
     (omega arith, c.requires.few)
 
 pub loop-j-preserved : goal.loop-j-preserved

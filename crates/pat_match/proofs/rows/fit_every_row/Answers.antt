@@ -20,7 +20,8 @@ put_from-requires c = omega (arith, c.in_ok-sets.ensures.even, c.loop-from.invar
 
 pub loop-from-preserved : goal.loop-from-preserved
 loop-from-preserved c =
-    let set = λ (env : Environment). tail_set c.args.count c.args.row.now (c.loop-from.from - 1) c.loop-from.from env _ _ _ (omega (arith, c.loop-from-test.true))
+    let set = λ (env : Environment). tail_set c.args.count c.args.row.now (c.loop-from.from - 1) c.loop-from.from env _ _ _
+    (omega (arith, c.loop-from-test.true))
     (omega (arith, c.loop-from.invariant.within, c.loop-from-test.true)) (c.in_ok-set.ensures.set env) (c.loop-from.invariant.set env)
     (ap (λ l. set_at l (c.loop-from.from - 1) env) c.as_slice.ensures.value
     ∙ c.in_ok-sets.ensures.meaning (c.loop-from.from - 1) env (omega (arith, c.loop-from.invariant.within, c.loop-from-test.true))) in

@@ -23,7 +23,8 @@ loop-i-preserved c =
           ∙ sym (any_step (λ f. list_any (λ (s : Place). fits_seat c.args.decls.now c.args.tokens.now env c.args.p.now (role_of c.args.node.now) f s.tree)
           (seats c.args.p.now.spot c.args.node.now.kind c.args.node.now.tree)) forms c.loop-i.i c.index-forms-i.result lt c.index-forms-i.is);
       vars = λ t all.
-          let parts = both_parts (list_all (form_vars c.args.decls.now c.args.tokens.now t) (take c.loop-i.i forms)) (form_vars c.args.decls.now c.args.tokens.now t c.index-forms-i.result)
+          let parts = both_parts (list_all (form_vars c.args.decls.now c.args.tokens.now t) (take c.loop-i.i forms))
+          (form_vars c.args.decls.now c.args.tokens.now t c.index-forms-i.result)
           (sym (all_step (form_vars c.args.decls.now c.args.tokens.now t) forms c.loop-i.i c.index-forms-i.result lt c.index-forms-i.is) ∙ all) in
           c.in_ok-put_set.ensures.vars t (c.loop-i.invariant.vars t parts.0) (c.in_ok-here.ensures.vars t parts.1);
     }

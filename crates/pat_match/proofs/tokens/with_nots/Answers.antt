@@ -26,6 +26,7 @@ loop-y-preserved c =
           (set_denotes c.in_ok-out.out env) (set_denotes c.loop-y.out env) (set_denotes c.in_ok-other.other env) lt c.y-item.is
           (c.in_ok-out.ensures.meaning env) (c.in_ok-other.ensures.meaning env) (c.loop-y.invariant.meaning env);
       vars = λ t h all.
-          let parts = both_parts (list_all t (take c.loop-y.y-index c.args.vars.now)) (t c.y-item.result) (sym (all_step t c.args.vars.now c.loop-y.y-index c.y-item.result lt c.y-item.is) ∙ all) in
+          let parts = both_parts (list_all t (take c.loop-y.y-index c.args.vars.now)) (t c.y-item.result)
+          (sym (all_step t c.args.vars.now c.loop-y.y-index c.y-item.result lt c.y-item.is) ∙ all) in
           c.in_ok-out.ensures.vars t (c.loop-y.invariant.vars t h parts.0) (c.in_ok-other.ensures.vars t parts.1);
     }

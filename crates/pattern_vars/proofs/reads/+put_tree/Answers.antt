@@ -12,7 +12,8 @@ loop-child-preserved t c y =
     let test = reads_token c.args.decls.now c.args.tokens.now c.args.plus y in
     any-step (λ (t : Tree). list_any test (leaves t)) (λ (ts : List Tree). list_any test (join (map leaves ts)))
     (λ t ts. list_any-append test (leaves t) (join (map leaves ts))) c.as_slice-child-items.result.now c.loop-child.child-index c.child-item.result
-    (has c.loop-child.set y) (has c.put_tree.new.set y) _ c.loop-child-test.true c.child-item.is (c.in_ok-put_tree-in-Branch.ensures y) (c.loop-child.invariant y)
+    (has c.loop-child.set y) (has c.put_tree.new.set y) _ c.loop-child-test.true c.child-item.is
+    (c.in_ok-put_tree-in-Branch.ensures y) (c.loop-child.invariant y)
 
 pub returns-after-loop-child : goal.returns-after-loop-child
 returns-after-loop-child t c y =

@@ -1,10 +1,10 @@
 use Rattle.std.proofs.Common.{◌≡◌, refl, sym, ap, ◌∙◌, List, [], ◌∷◌, map}
 use Rattle.env_parts.specs.Parts.{Pairs, bare_env}
-use Rattle.rule_envs.specs.declared.carrier.Carrier.{Carrier}
+use Rattle.rule_envs.specs.declared.carrier.FileEnv.{FileEnv}
 use Rattle.rule_envs.specs.Shares.{bare_carrier}
 use Rattle.rule_chain.proofs.answers.answer.Goals as goal
 
-envs_bare : (cs : List Carrier) → map bare_env (map (λ c. c.env) cs) ≡ map (λ c. c.env) (map bare_carrier cs)
+envs_bare : (cs : List FileEnv) → map bare_env (map (λ c. c.env) cs) ≡ map (λ c. c.env) (map bare_carrier cs)
 envs_bare [] = refl
 envs_bare (c ∷ cs) = ap (λ (r : List Pairs). bare_env c.env ∷ r) (envs_bare cs)
 
@@ -13,7 +13,7 @@ returns c = λ s are text notes. record {
   bytes = text;
   witnesses = sym are.found_is;
   skipped = sym notes;
-  envs = ap (map bare_env) (c.in_ok-envs.ensures.envs ∙ ap (map (λ (k : Carrier). k.env)) c.as_slice.ensures)
+  envs = ap (map bare_env) (c.in_ok-envs.ensures.envs ∙ ap (map (λ (k : FileEnv). k.env)) c.as_slice.ensures)
       ∙ envs_bare c.args.findings.carriers
-      ∙ ap (map (λ (k : Carrier). k.env)) (sym are.seen.carriers_is);
+      ∙ ap (map (λ (k : FileEnv). k.env)) (sym are.seen.carriers_is);
 }

@@ -7,4 +7,5 @@ use Rattle.smpl_body.proofs.faults.minus_fault.Goals as goal
 pub returns : goal.returns
 returns c =
     let ps = c.args.placed.now in
-    c.with_signs.ensures ∙ (ap (λ o. first_from o (minus_signs ps)) c.with_all_dots.ensures ∙ sym (first_append None (minus_dots ps c.args.ids.now) (minus_signs ps)))
+    c.with_signs.ensures ∙ (ap (λ o. first_from o (minus_signs ps)) c.with_all_dots.ensures
+    ∙ sym (first_append None (minus_dots ps c.args.ids.now) (minus_signs ps)))

@@ -17,13 +17,16 @@ loop-start-preserved c =
     let within : n ≤ length (drop start ts) = omega (arith, c.part_length-n.ensures.within, length-drop start ts) in
     let some : 0 < length (drop start ts) = omega (arith, length-drop start ts, c.loop-start-test.true) in
     let more : c.in_ok-more.more ≡ declared (take n (drop start ts)) = rw take_rest at c.in_ok-more.ensures in
-    let items : c.in_ok-parsed.parsed.items ≡ c.loop-start.parsed.items ++ items_or_none (declared (take n (drop start ts))) = rw (← more) c.in_ok-parsed.ensures.items in
+    let items : c.in_ok-parsed.parsed.items ≡ c.loop-start.parsed.items ++ items_or_none (declared (take n (drop start ts))) =
+    rw (← more) c.in_ok-parsed.ensures.items in
     let first : c.in_ok-parsed.parsed.first ≡ first_from c.loop-start.parsed.first (form_fault (take n (drop start ts)) (declared (take n (drop start ts))))
     = rw (← more) (rw take_rest at c.in_ok-parsed.ensures.first) in
     parts_more ts c.args.first start c.loop-start.parsed.items _ c.loop-start.parsed.first _ n c.loop-start.invariant some n_is within items first
 
 pub returns-clause-items : goal.returns-clause-items
-returns-clause-items c = parts_last_items c.args.tokens.now c.args.first c.loop-start.start c.loop-start.parsed.items c.loop-start.parsed.first c.loop-start.invariant (drop_of_length-le c.args.tokens.now c.loop-start-test.false)
+returns-clause-items c = parts_last_items c.args.tokens.now c.args.first c.loop-start.start c.loop-start.parsed.items
+    c.loop-start.parsed.first c.loop-start.invariant (drop_of_length-le c.args.tokens.now c.loop-start-test.false)
 
 pub returns-clause-first : goal.returns-clause-first
-returns-clause-first c = parts_last_first c.args.tokens.now c.args.first c.loop-start.start c.loop-start.parsed.items c.loop-start.parsed.first c.loop-start.invariant (drop_of_length-le c.args.tokens.now c.loop-start-test.false)
+returns-clause-first c = parts_last_first c.args.tokens.now c.args.first c.loop-start.start c.loop-start.parsed.items
+    c.loop-start.parsed.first c.loop-start.invariant (drop_of_length-le c.args.tokens.now c.loop-start-test.false)

@@ -6,6 +6,7 @@ use Rattle.smpl_meta.proofs.faults.with_items.Given as goal
 
 abbrev pub invariant-loop-i : goal.invariant-loop-i
 invariant-loop-i l = record {
-  faults : first_from l.first (items_faults l.earlier.heads (take l.i l.items) (drop l.i l.items)) ≡ first_from l.fn.first (items_faults l.earlier.heads [] l.items);
+  faults : first_from l.first (items_faults l.earlier.heads (take l.i l.items) (drop l.i l.items))
+      ≡ first_from l.fn.first (items_faults l.earlier.heads [] l.items);
   seen : Knows l.seen (take l.i l.items);
 }

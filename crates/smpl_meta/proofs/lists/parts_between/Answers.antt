@@ -23,7 +23,8 @@ returns-then-n-rest g c =
     let n_is : c.chunk_length-n.result ≡ chunk_length false (drop start ts) = rw take_rest at c.chunk_length-n.ensures.value in
     let read : c.in_ok-read.field-0 ≡ g.R.PartReader.spelled c.args.reader.now (take n (drop start ts)) = rw take_rest at c.in_ok-read.ensures in
     let all : n ≡ length (drop start ts) = rw take_rest at c.if-n-rest.true in
-    rw c.in_ok-push-in-Some.ensures.ok (sym (so_far_last (g.R.PartReader.spelled c.args.reader.now) ts start c.loop-parts.parts c.in-Some.part n c.loop-parts.invariant n_is all (sym read ∙ c.in-Some.is)))
+    rw c.in_ok-push-in-Some.ensures.ok (sym (so_far_last
+    (g.R.PartReader.spelled c.args.reader.now) ts start c.loop-parts.parts c.in-Some.part n c.loop-parts.invariant n_is all (sym read ∙ c.in-Some.is)))
 
 pub loop-parts-preserved : goal.loop-parts-preserved
 loop-parts-preserved g c =
@@ -34,4 +35,5 @@ loop-parts-preserved g c =
     let read : c.in_ok-read.field-0 ≡ g.R.PartReader.spelled c.args.reader.now (take n (drop start ts)) = rw take_rest at c.in_ok-read.ensures in
     let not_all : n ≡ length (drop start ts) → ⊥ = rw take_rest at c.if-n-rest.false in
     let less : n < length (drop start ts) = omega (arith, c.chunk_length-n.ensures.within, length-drop start ts, not_all) in
-    rw c.in_ok-push-in-Some.ensures.ok (so_far_more (g.R.PartReader.spelled c.args.reader.now) ts start c.loop-parts.parts c.in-Some.part n c.loop-parts.invariant n_is less (sym read ∙ c.in-Some.is))
+    rw c.in_ok-push-in-Some.ensures.ok (so_far_more
+    (g.R.PartReader.spelled c.args.reader.now) ts start c.loop-parts.parts c.in-Some.part n c.loop-parts.invariant n_is less (sym read ∙ c.in-Some.is))

@@ -13,6 +13,7 @@ loop-l-preserved c =
     record {
       index = omega (arith, c.loop-l.invariant.index);
       at = at-step c.loop-l.number c.loop-l.before c.run.result ps c.run.ensures.value c.loop-l.invariant.at;
-      so_far = subst (λ (b : Blocks). SoFar c.args.vars.now ps b c.in_ok-s.s) (lines-more ps body i c.loop-l.number c.l-item.result c.loop-l.invariant.index c.loop-l-test.true c.l-item.is)
+      so_far = subst (λ (b : Blocks). SoFar c.args.vars.now ps b c.in_ok-s.s)
+          (lines-more ps body i c.loop-l.number c.l-item.result c.loop-l.invariant.index c.loop-l-test.true c.l-item.is)
           (c.in_ok-s.ensures (put_lines ps 0 no_blocks (take i body)) c.loop-l.invariant.so_far);
     }

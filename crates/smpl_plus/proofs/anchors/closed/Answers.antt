@@ -11,4 +11,5 @@ returns-in-None c = λ vars ps b may so_far. close-none vars ps b c.args.s _ c.i
 pub returns-in-Some : goal.returns-in-Some
 returns-in-Some c = λ vars ps b may so_far.
     close-some vars ps c.args.may.now b c.args.s _ c.in-Some.block c.anchor_at-anchor.result (block_of c.in-Some.block)
-    c.in-Some.is may c.anchor_at-anchor.ensures refl c.with_block.ensures (c.with_other.ensures ∙ ap (λ (f : Option PatchFault). first_from f (mixed_at c.in-Some.block.other)) c.with_fault.ensures) refl so_far
+    c.in-Some.is may c.anchor_at-anchor.ensures refl c.with_block.ensures
+    (c.with_other.ensures ∙ ap (λ (f : Option PatchFault). first_from f (mixed_at c.in-Some.block.other)) c.with_fault.ensures) refl so_far

@@ -15,9 +15,12 @@ loop-start-preserved c =
     let len = c.first_piece-kind.result.1 in
     let same : start + len - start ≡ len = omega arith in
     let within : len ≤ length (drop start bytes) = omega (arith, c.first_piece-kind.ensures.within, length-drop start bytes) in
-    let first : IsFirst c.first_piece-kind.result.0 (take len (drop start bytes)) (drop len (drop start bytes)) = rw take_rest at c.first_piece-kind.ensures.first in
-    leads_more bytes start c.loop-start.so_far.gaps c.loop-start.so_far.blank c.first_piece-kind.result.0 len _ c.in_ok-so_far.so_far.gaps c.in_ok-so_far.so_far.blank
+    let first : IsFirst c.first_piece-kind.result.0 (take len (drop start bytes)) (drop len (drop start bytes)) =
+    rw take_rest at c.first_piece-kind.ensures.first in
+    leads_more bytes start c.loop-start.so_far.gaps c.loop-start.so_far.blank c.first_piece-kind.result.0 len _
+    c.in_ok-so_far.so_far.gaps c.in_ok-so_far.so_far.blank
     c.loop-start.invariant within (ap (λ (n : ℕ). take n (drop start bytes)) same) first c.in_ok-so_far.ensures
 
 pub returns : goal.returns
-returns c = leads_last c.args.bytes.now c.loop-start.start c.loop-start.so_far.gaps c.loop-start.so_far.blank c.loop-start.invariant (drop_of_length-le c.args.bytes.now c.loop-start-test.false)
+returns c = leads_last c.args.bytes.now c.loop-start.start c.loop-start.so_far.gaps c.loop-start.so_far.blank
+    c.loop-start.invariant (drop_of_length-le c.args.bytes.now c.loop-start-test.false)

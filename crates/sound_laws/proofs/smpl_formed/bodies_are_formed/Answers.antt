@@ -19,7 +19,8 @@ pub returns-clause-atoms : goal.returns-clause-atoms
 returns-clause-atoms c ps es number is = body_atoms ps es (c.bodies_are_parted_once.ensures.cut ps) number is
 
 pub returns-clause-patterns : goal.returns-clause-patterns
-returns-clause-patterns c ok ps es s v is = patterns_fit ok (2 * length ps) (patterns_body (body es)) (body_patterns ok ps es (c.bodies_are_parted_once.ensures.cut ps) s v is)
+returns-clause-patterns c ok ps es s v is =
+    patterns_fit ok (2 * length ps) (patterns_body (body es)) (body_patterns ok ps es (c.bodies_are_parted_once.ensures.cut ps) s v is)
 
 pub returns-clause-narrow : goal.returns-clause-narrow
 returns-clause-narrow c ps es s is =

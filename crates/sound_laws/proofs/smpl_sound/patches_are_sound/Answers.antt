@@ -43,7 +43,8 @@ pub returns-clause-whole : goal.returns-clause-whole
 returns-clause-whole c = patch-whole c.patch_is_read_once.ensures.small
 
 pub returns-clause-few : goal.returns-clause-few
-returns-clause-few c = patch-few c.bodies_are_formed.ensures.few c.bodies_are_formed.ensures.narrow c.tokens_keep_their_lines.ensures.positions c.patch_is_read_once.ensures.small
+returns-clause-few c = patch-few c.bodies_are_formed.ensures.few c.bodies_are_formed.ensures.narrow
+    c.tokens_keep_their_lines.ensures.positions c.patch_is_read_once.ensures.small
 
 pub returns-clause-gaps : goal.returns-clause-gaps
 returns-clause-gaps c = patch-gaps c.blank_texts.ensures c.patch_is_read_once.ensures.small

@@ -30,5 +30,6 @@ loop-k-preserved c =
 pub returns-clause-fits_a_file : goal.returns-clause-fits_a_file
 returns-clause-fits_a_file c few =
     let all : c.loop-k.k ≡ c.args.functions = omega arith in
-    let whole : c.loop-k.text.items ≡ generated c.args.seed c.args.functions = c.loop-k.invariant.text ∙ ap (λ n. functions_from n 0 (first_state c.args.seed)) all in
+    let whole : c.loop-k.text.items ≡ generated c.args.seed c.args.functions =
+    c.loop-k.invariant.text ∙ ap (λ n. functions_from n 0 (first_state c.args.seed)) all in
     rw whole (short_enough c.args.seed c.args.functions few)

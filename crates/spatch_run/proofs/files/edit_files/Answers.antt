@@ -18,21 +18,35 @@ use Rattle.spatch_run.proofs.Treating.{turn_goes, turn_absent}
 use Rattle.spatch_run.proofs.files.edit_files.Goals as goal
 
 -- the remaining files, the next one first
-left_of : (xs : List (Bor (List ℕ))) (i : ℕ) (x : Bor (List ℕ)) → i < length xs → map (λ name. name.now) (drop i xs) ≡ (get_or xs i x).now ∷ map (λ name. name.now) (drop (i + 1) xs)
+left_of : (xs : List (Bor (List ℕ))) (i : ℕ) (x : Bor (List ℕ)) → i < length xs
+    → map (λ name. name.now) (drop i xs) ≡ (get_or xs i x).now ∷ map (λ name. name.now) (drop (i + 1) xs)
 left_of xs i x less = rw add-one (ap (map (λ name. name.now)) (drop-cons xs i x less))
 
 module _ (patch : Patch) (defined : List (List ℕ)) (mode : Mode) (xs : List (Bor (List ℕ))) (i : ℕ) (x : Bor (List ℕ)) (refused : Bool) where
-  step_on : (here_refused : Bool) {from : Stage} {old now new : Told} → i < length xs → Goes from old (going [] patch defined mode (map (λ name. name.now) (drop i xs)) refused) now → TurnsTo (turn.Treated here_refused) patch defined mode (get_or xs i x).now now new → Goes from old (going [] patch defined mode (map (λ name. name.now) (drop (i + 1) xs)) (refused || here_refused)) new
+  step_on : (here_refused : Bool) {from : Stage} {old now new : Told} → i < length xs
+      → Goes from old (going [] patch defined mode (map (λ name. name.now) (drop i xs)) refused) now
+      → TurnsTo (turn.Treated here_refused) patch defined mode (get_or xs i x).now now new
+      → Goes from old (going [] patch defined mode (map (λ name. name.now) (drop (i + 1) xs)) (refused || here_refused)) new
   step_on here_refused {from = from} {old = old} {now = now} less goes turned =
-      Goes-then (subst (λ (names : List (List ℕ)). Goes from old (going [] patch defined mode names refused) now) (left_of xs i x less) goes) (turn_goes patch defined mode (get_or xs i x).now (map (λ name. name.now) (drop (i + 1) xs)) refused here_refused turned)
+      Goes-then (subst (λ (names : List (List ℕ)). Goes from old (going [] patch defined mode names refused) now)
+      (left_of xs i x less) goes) (turn_goes patch defined mode (get_or xs i x).now (map (λ name. name.now) (drop (i + 1) xs)) refused here_refused turned)
 
-  step_cut : {from : Stage} {first before now : Counts} {old here new : Told} {status : ℕ} → i < length xs → Goes from old (going [] patch defined mode (map (λ name. name.now) (drop i xs)) refused) here → NoneFell first before → ((names : List (List ℕ)) (r : Bool) → Ends (Doing [] (EditFiles patch defined mode (get_or xs i x).now names r)) before now here new status) → Ends from first now old new status
+  step_cut : {from : Stage} {first before now : Counts} {old here new : Told} {status : ℕ} → i < length xs
+      → Goes from old (going [] patch defined mode (map (λ name. name.now) (drop i xs)) refused) here → NoneFell first before
+      → ((names : List (List ℕ)) (r : Bool)
+      → Ends (Doing [] (EditFiles patch defined mode (get_or xs i x).now names r)) before now here new status) → Ends from first now old new status
   step_cut {from = from} {old = old} {here = here} less goes fell ends =
-      Goes-ends (subst (λ (names : List (List ℕ)). Goes from old (going [] patch defined mode names refused) here) (left_of xs i x less) goes) fell (ends (map (λ name. name.now) (drop (i + 1) xs)) refused)
+      Goes-ends (subst (λ (names : List (List ℕ)). Goes from old (going [] patch defined mode names refused) here)
+      (left_of xs i x less) goes) fell (ends (map (λ name. name.now) (drop (i + 1) xs)) refused)
 
-  step_absent : {from : Stage} {first before mid now : Counts} {old here there new : Told} {status : ℕ} → i < length xs → Goes from old (going [] patch defined mode (map (λ name. name.now) (drop i xs)) refused) here → NoneFell first before → NoneFell before mid → TurnsTo turn.Absent patch defined mode (get_or xs i x).now here there → Ends (refusing (cannot_read (get_or xs i x).now) 5) mid now there new status → Ends from first now old new status
+  step_absent : {from : Stage} {first before mid now : Counts} {old here there new : Told} {status : ℕ} → i < length xs
+      → Goes from old (going [] patch defined mode (map (λ name. name.now) (drop i xs)) refused) here → NoneFell first before
+      → NoneFell before mid → TurnsTo turn.Absent patch defined mode (get_or xs i x).now here there
+      → Ends (refusing (cannot_read (get_or xs i x).now) 5) mid now there new status → Ends from first now old new status
   step_absent {from = from} {first = first} {before = before} {mid = mid} {old = old} {here = here} less goes fell more turned ends =
-      Goes-ends (Goes-then (subst (λ (names : List (List ℕ)). Goes from old (going [] patch defined mode names refused) here) (left_of xs i x less) goes) (turn_absent patch defined mode (get_or xs i x).now (map (λ name. name.now) (drop (i + 1) xs)) refused turned)) (NoneFell-then first before mid fell more) ends
+      Goes-ends (Goes-then (subst (λ (names : List (List ℕ)). Goes from old (going [] patch defined mode names refused) here)
+      (left_of xs i x less) goes) (turn_absent patch defined mode (get_or xs i x).now
+      (map (λ name. name.now) (drop (i + 1) xs)) refused turned)) (NoneFell-then first before mid fell more) ends
 
 pub loop-name-init : goal.loop-name-init
 loop-name-init g c = record { fell = NoneFell-refl _; goes = Goes-refl _ _ }
@@ -45,14 +59,19 @@ returns-in_err-take_turn g c = record {
   ends =
       let inv = c.loop-name.invariant in
       let p = err_from_is_err_and c.from_residual.result c.from_residual.ensures.1 in
-      rw (p.1, p.2) (step_cut c.args.ready.now.patch.now c.args.ready.now.defined.now c.args.mode c.args.names.now c.loop-name.name-index (record { ref_ptr = (0, 0); now = [] }) c.loop-name.refused (omega arith) inv.goes inv.fell c.in_err-take_turn.ensures.stopped);
+      rw (p.1, p.2) (step_cut c.args.ready.now.patch.now c.args.ready.now.defined.now c.args.mode c.args.names.now
+      c.loop-name.name-index (record { ref_ptr = (0, 0); now = [] }) c.loop-name.refused
+      (omega arith) inv.goes inv.fell c.in_err-take_turn.ensures.stopped);
 }
 
 pub returns-in-Absent : goal.returns-in-Absent
 returns-in-Absent g c = record {
   ends =
       let inv = c.loop-name.invariant in
-      step_absent c.args.ready.now.patch.now c.args.ready.now.defined.now c.args.mode c.args.names.now c.loop-name.name-index (record { ref_ptr = (0, 0); now = [] }) c.loop-name.refused (omega arith) inv.goes inv.fell c.in_ok-take_turn.ensures.fell (rw c.in-Absent.is at c.in_ok-take_turn.ensures.turned) (c.refuse_absent.ensures.ends _ _ _ _ _);
+      step_absent c.args.ready.now.patch.now c.args.ready.now.defined.now c.args.mode c.args.names.now c.loop-name.name-index
+      (record { ref_ptr = (0, 0); now = [] }) c.loop-name.refused
+      (omega arith) inv.goes inv.fell c.in_ok-take_turn.ensures.fell (rw c.in-Absent.is at c.in_ok-take_turn.ensures.turned)
+      (c.refuse_absent.ensures.ends _ _ _ _ _);
 }
 
 pub loop-name-preserved : goal.loop-name-preserved
@@ -60,7 +79,9 @@ loop-name-preserved g c =
     let inv = c.loop-name.invariant in
     record {
       fell = NoneFell-then _ _ _ inv.fell c.in_ok-take_turn.ensures.fell;
-      goes = rw c.either-refused.ensures (step_on c.args.ready.now.patch.now c.args.ready.now.defined.now c.args.mode c.args.names.now c.loop-name.name-index (record { ref_ptr = (0, 0); now = [] }) c.loop-name.refused c.in-Treated.here (omega arith) inv.goes (rw c.in-Treated.is at c.in_ok-take_turn.ensures.turned));
+      goes = rw c.either-refused.ensures (step_on c.args.ready.now.patch.now c.args.ready.now.defined.now c.args.mode
+          c.args.names.now c.loop-name.name-index (record { ref_ptr = (0, 0); now = [] }) c.loop-name.refused c.in-Treated.here
+          (omega arith) inv.goes (rw c.in-Treated.is at c.in_ok-take_turn.ensures.turned));
     }
 
 pub returns : goal.returns
@@ -68,5 +89,6 @@ returns g c = record {
   ends =
       let inv = c.loop-name.invariant in
       let none : drop c.loop-name.name-index c.args.names.now ≡ [] = drop_of_length-le c.args.names.now (omega arith) in
-      rw c.end_status.ensures (Goes-ends (rw none at inv.goes) inv.fell (over (Ending [] (end_status c.loop-name.refused)) _ _ (end_status c.loop-name.refused) refl));
+      rw c.end_status.ensures (Goes-ends (rw none at inv.goes) inv.fell
+      (over (Ending [] (end_status c.loop-name.refused)) _ _ (end_status c.loop-name.refused) refl));
 }

@@ -11,7 +11,8 @@ pub returns-in_err-line : goal.returns-in_err-line
 returns-in_err-line g c = record {
   ends = λ files out stores s o.
       let p = err_from_is_err_and c.from_residual.result c.from_residual.ensures.1 in
-      rw (p.1, p.2) (broken (refusing (forms_line c.args.name.now c.args.rule) 3) (Report (forms_line c.args.name.now c.args.rule)) refl (NoneFell-refl _) (inl (refl, refl)));
+      rw (p.1, p.2) (broken (refusing (forms_line c.args.name.now c.args.rule) 3)
+      (Report (forms_line c.args.name.now c.args.rule)) refl (NoneFell-refl _) (inl (refl, refl)));
 }
 
 pub returns : goal.returns

@@ -22,7 +22,8 @@ returns-in-Ok g c = record {
   ends =
       let defined = c.args.order.now.defined.items in
       let target = shown_target c.args.order.now.target in
-      by_other (TargetLeads c.in-Ok.whole defined target) (IsosLead c.args.isos.now c.args.patch c.args.name.now defined target) (λ to leads. inr (c.in-Ok.whole, (c.in-Ok.ensures.patch, leads))) c.use_patch.ensures.ends;
+      by_other (TargetLeads c.in-Ok.whole defined target) (IsosLead c.args.isos.now c.args.patch c.args.name.now defined target)
+      (λ to leads. inr (c.in-Ok.whole, (c.in-Ok.ensures.patch, leads))) c.use_patch.ensures.ends;
 }
 
 pub returns-in-Err-NoMemory : goal.returns-in-Err-NoMemory
@@ -32,5 +33,6 @@ pub returns-in-Err-TooManyForms : goal.returns-in-Err-TooManyForms
 returns-in-Err-TooManyForms g c = record {
   ends =
       let many = rw c.in-Err-TooManyForms.field-0-is at c.in-Err-TooManyForms.ensures.fault in
-      from (refusing (forms_line c.args.name.now c.in-Err-TooManyForms.rule) 3) (inl (c.in-Err-TooManyForms.rule, (many, refl))) (c.refuse_forms.ensures.ends _ _ _ _ _);
+      from (refusing (forms_line c.args.name.now c.in-Err-TooManyForms.rule) 3) (inl (c.in-Err-TooManyForms.rule, (many, refl)))
+      (c.refuse_forms.ensures.ends _ _ _ _ _);
 }

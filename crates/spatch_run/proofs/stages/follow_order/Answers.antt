@@ -23,8 +23,11 @@ returns-in_err-bytes g c = record {
   ends =
       let p = err_from_is_err_and c.from_residual.result c.from_residual.ensures.1 in
       let o = g.O.Sink.faults c.args.out.now in
-      let work = ReadPatch c.args.order.now.patch.now (shown_isos c.args.order.now.isos) c.args.order.now.defined.items (shown_target c.args.order.now.target) in
-      rw (p.1, p.2) (broken (Doing [] work) (first_load work) refl (record { shelf = c.in_err-bytes.ensures.later; out = omega arith; err = c.in_err-bytes.ensures.later_err }) (c.in_err-bytes.ensures.stopped (g.O.Sink.written c.args.out.now) o o));
+      let work = ReadPatch c.args.order.now.patch.now (shown_isos c.args.order.now.isos) c.args.order.now.defined.items
+      (shown_target c.args.order.now.target) in
+      rw (p.1, p.2) (broken (Doing [] work) (first_load work) refl
+      (record { shelf = c.in_err-bytes.ensures.later; out = omega arith; err = c.in_err-bytes.ensures.later_err })
+      (c.in_err-bytes.ensures.stopped (g.O.Sink.written c.args.out.now) o o));
 }
 
 pub returns-in-TooLong : goal.returns-in-TooLong
@@ -35,9 +38,12 @@ returns-in-TooLong g c = record {
       let isos = shown_isos c.args.order.now.isos in
       let defined = c.args.order.now.defined.items in
       let target = shown_target c.args.order.now.target in
-      let fell : NoneFell (counts (g.S.Loads.faults c.args.shelf.now) (g.O.Sink.faults c.args.out.now) (g.E.Sink.faults c.args.err.now)) (counts (g.S.Loads.faults c.load.new.shelf) (g.O.Sink.faults c.args.out.now) (g.E.Sink.faults c.load.new.err)) =
+      let fell : NoneFell (counts (g.S.Loads.faults c.args.shelf.now) (g.O.Sink.faults c.args.out.now)
+      (g.E.Sink.faults c.args.err.now)) (counts (g.S.Loads.faults c.load.new.shelf) (g.O.Sink.faults c.args.out.now) (g.E.Sink.faults c.load.new.err)) =
       record { shelf = c.in_ok-bytes.ensures.later; out = omega arith; err = c.in_ok-bytes.ensures.later_err } in
-      loaded (ReadPatch name isos defined target) (refusing (patch_fault_line name patch_fault.PatchTooLong) 2) (found.0, (found.1.0, patch_long name isos defined target found.0 found.1.1)) (no_trace c.in_ok-bytes.ensures.same c.in_ok-bytes.ensures.no_store c.in_ok-bytes.ensures.ok_err) fell (c.refuse_patch.ensures.ends _ _ _ _ _);
+      loaded (ReadPatch name isos defined target) (refusing (patch_fault_line name patch_fault.PatchTooLong) 2)
+      (found.0, (found.1.0, patch_long name isos defined target found.0 found.1.1))
+      (no_trace c.in_ok-bytes.ensures.same c.in_ok-bytes.ensures.no_store c.in_ok-bytes.ensures.ok_err) fell (c.refuse_patch.ensures.ends _ _ _ _ _);
 }
 
 pub returns-in-Absent : goal.returns-in-Absent
@@ -48,9 +54,12 @@ returns-in-Absent g c = record {
       let isos = shown_isos c.args.order.now.isos in
       let defined = c.args.order.now.defined.items in
       let target = shown_target c.args.order.now.target in
-      let fell : NoneFell (counts (g.S.Loads.faults c.args.shelf.now) (g.O.Sink.faults c.args.out.now) (g.E.Sink.faults c.args.err.now)) (counts (g.S.Loads.faults c.load.new.shelf) (g.O.Sink.faults c.args.out.now) (g.E.Sink.faults c.load.new.err)) =
+      let fell : NoneFell (counts (g.S.Loads.faults c.args.shelf.now) (g.O.Sink.faults c.args.out.now)
+      (g.E.Sink.faults c.args.err.now)) (counts (g.S.Loads.faults c.load.new.shelf) (g.O.Sink.faults c.args.out.now) (g.E.Sink.faults c.load.new.err)) =
       record { shelf = c.in_ok-bytes.ensures.later; out = omega arith; err = c.in_ok-bytes.ensures.later_err } in
-      loaded (ReadPatch name isos defined target) (refusing (cannot_read name) 5) (found.0, (found.1.0, patch_absent name isos defined target found.0 found.1.1)) (no_trace c.in_ok-bytes.ensures.same c.in_ok-bytes.ensures.no_store c.in_ok-bytes.ensures.ok_err) fell (c.refuse_absent.ensures.ends _ _ _ _ _);
+      loaded (ReadPatch name isos defined target) (refusing (cannot_read name) 5)
+      (found.0, (found.1.0, patch_absent name isos defined target found.0 found.1.1))
+      (no_trace c.in_ok-bytes.ensures.same c.in_ok-bytes.ensures.no_store c.in_ok-bytes.ensures.ok_err) fell (c.refuse_absent.ensures.ends _ _ _ _ _);
 }
 
 pub returns-in-Ok : goal.returns-in-Ok
@@ -62,9 +71,19 @@ returns-in-Ok g c = record {
       let isos = shown_isos c.args.order.now.isos in
       let defined = c.args.order.now.defined.items in
       let target = shown_target c.args.order.now.target in
-      let fell : NoneFell (counts (g.S.Loads.faults c.args.shelf.now) (g.O.Sink.faults c.args.out.now) (g.E.Sink.faults c.args.err.now)) (counts (g.S.Loads.faults c.load.new.shelf) (g.O.Sink.faults c.args.out.now) (g.E.Sink.faults c.load.new.err)) =
+      let fell : NoneFell (counts (g.S.Loads.faults c.args.shelf.now) (g.O.Sink.faults c.args.out.now)
+      (g.E.Sink.faults c.args.err.now)) (counts (g.S.Loads.faults c.load.new.shelf) (g.O.Sink.faults c.args.out.now) (g.E.Sink.faults c.load.new.err)) =
       record { shelf = c.in_ok-bytes.ensures.later; out = omega arith; err = c.in_ok-bytes.ensures.later_err } in
-      loaded_by (ReadPatch name isos defined target) (ReadLeads c.in-Ok.patch isos defined target) (λ to leads. (found.0, (found.1.0, patch_read name isos defined target found.0 c.deref.result.now c.in-Ok.patch under c.in-Ok.ensures.patch to leads))) (no_trace c.in_ok-bytes.ensures.same c.in_ok-bytes.ensures.no_store c.in_ok-bytes.ensures.ok_err) fell c.give_forms.ensures.ends;
+      loaded_by (ReadPatch name isos defined target) (ReadLeads c.in-Ok.patch isos defined target)
+      (λ to leads. (
+        found.0,
+        (
+          found.1.0,
+          patch_read name isos defined target found.0 c.deref.result.now c.in-Ok.patch under
+              c.in-Ok.ensures.patch to leads,
+        ),
+      )) (no_trace c.in_ok-bytes.ensures.same c.in_ok-bytes.ensures.no_store
+      c.in_ok-bytes.ensures.ok_err) fell c.give_forms.ensures.ends;
 }
 
 pub returns-then-is_no_memory : goal.returns-then-is_no_memory
@@ -74,9 +93,11 @@ returns-then-is_no_memory g c = record {
       let isos = shown_isos c.args.order.now.isos in
       let defined = c.args.order.now.defined.items in
       let target = shown_target c.args.order.now.target in
-      let fell : NoneFell (counts (g.S.Loads.faults c.args.shelf.now) (g.O.Sink.faults c.args.out.now) (g.E.Sink.faults c.args.err.now)) (counts (g.S.Loads.faults c.load.new.shelf) (g.O.Sink.faults c.args.out.now) (g.E.Sink.faults c.load.new.err)) =
+      let fell : NoneFell (counts (g.S.Loads.faults c.args.shelf.now) (g.O.Sink.faults c.args.out.now)
+      (g.E.Sink.faults c.args.err.now)) (counts (g.S.Loads.faults c.load.new.shelf) (g.O.Sink.faults c.args.out.now) (g.E.Sink.faults c.load.new.err)) =
       record { shelf = c.in_ok-bytes.ensures.later; out = omega arith; err = c.in_ok-bytes.ensures.later_err } in
-      loaded_unfed (ReadPatch name isos defined target) (no_trace c.in_ok-bytes.ensures.same c.in_ok-bytes.ensures.no_store c.in_ok-bytes.ensures.ok_err) fell (NoneFell-refl _) refl refl;
+      loaded_unfed (ReadPatch name isos defined target)
+      (no_trace c.in_ok-bytes.ensures.same c.in_ok-bytes.ensures.no_store c.in_ok-bytes.ensures.ok_err) fell (NoneFell-refl _) refl refl;
 }
 
 pub returns : goal.returns
@@ -84,12 +105,16 @@ returns g c = record {
   ends =
       let found = rw c.in-Bytes.is at c.in_ok-bytes.ensures.loaded in
       let under : found.0 ≡ Some c.deref.result.now = rw c.deref.ensures.value found.1.1.0 in
-      let bad : IsFirstFault c.deref.result.now c.in-Err.fault = not_memory c.is_no_memory.result c.if-is_no_memory.false c.is_no_memory.ensures c.in-Err.ensures.fault in
+      let bad : IsFirstFault c.deref.result.now c.in-Err.fault =
+      not_memory c.is_no_memory.result c.if-is_no_memory.false c.is_no_memory.ensures c.in-Err.ensures.fault in
       let name = c.args.order.now.patch.now in
       let isos = shown_isos c.args.order.now.isos in
       let defined = c.args.order.now.defined.items in
       let target = shown_target c.args.order.now.target in
-      let fell : NoneFell (counts (g.S.Loads.faults c.args.shelf.now) (g.O.Sink.faults c.args.out.now) (g.E.Sink.faults c.args.err.now)) (counts (g.S.Loads.faults c.load.new.shelf) (g.O.Sink.faults c.args.out.now) (g.E.Sink.faults c.load.new.err)) =
+      let fell : NoneFell (counts (g.S.Loads.faults c.args.shelf.now) (g.O.Sink.faults c.args.out.now)
+      (g.E.Sink.faults c.args.err.now)) (counts (g.S.Loads.faults c.load.new.shelf) (g.O.Sink.faults c.args.out.now) (g.E.Sink.faults c.load.new.err)) =
       record { shelf = c.in_ok-bytes.ensures.later; out = omega arith; err = c.in_ok-bytes.ensures.later_err } in
-      loaded (ReadPatch name isos defined target) (refusing (patch_fault_line name c.in-Err.fault) 2) (found.0, (found.1.0, patch_bad name isos defined target found.0 c.deref.result.now c.in-Err.fault under bad)) (no_trace c.in_ok-bytes.ensures.same c.in_ok-bytes.ensures.no_store c.in_ok-bytes.ensures.ok_err) fell (c.refuse_patch-in-Err.ensures.ends _ _ _ _ _);
+      loaded (ReadPatch name isos defined target) (refusing (patch_fault_line name c.in-Err.fault) 2)
+      (found.0, (found.1.0, patch_bad name isos defined target found.0 c.deref.result.now c.in-Err.fault under bad))
+      (no_trace c.in_ok-bytes.ensures.same c.in_ok-bytes.ensures.no_store c.in_ok-bytes.ensures.ok_err) fell (c.refuse_patch-in-Err.ensures.ends _ _ _ _ _);
 }

@@ -22,18 +22,21 @@ pub returns-in-Ok-Some-Generate : goal.returns-in-Ok-Some-Generate
 returns-in-Ok-Some-Generate g c = record {
   ends =
       let asked = rw c.in-Ok-Some-Generate.field-0-0-is at (rw c.in-Ok-Some-Generate.field-0-is at c.in-Ok-Some-Generate.ensures.order) in
-      follows (map (λ t. t.now) c.args.texts.now) (Some (Generate c.in-Ok-Some-Generate.seed c.in-Ok-Some-Generate.functions)) (sym asked) (c.print_text.ensures.ends _ _ _);
+      follows (map (λ t. t.now) c.args.texts.now) (Some (Generate c.in-Ok-Some-Generate.seed c.in-Ok-Some-Generate.functions))
+      (sym asked) (c.print_text.ensures.ends _ _ _);
 }
 
 pub follow_order-requires-clause-few : goal.follow_order-requires-clause-few
 follow_order-requires-clause-few g c κs within =
     let asked = rw c.in-Ok-Some-Apply.field-0-0-is at (rw c.in-Ok-Some-Apply.field-0-is at c.in-Ok-Some-Apply.ensures.order) in
-    few_ordered (map (λ t. t.now) c.args.texts.now) c.in-Ok-Some-Apply.order.patch.now (shown_isos c.in-Ok-Some-Apply.order.isos) c.in-Ok-Some-Apply.order.defined.items c.in-Ok-Some-Apply.order.target (sym asked)
+    few_ordered (map (λ t. t.now) c.args.texts.now) c.in-Ok-Some-Apply.order.patch.now
+    (shown_isos c.in-Ok-Some-Apply.order.isos) c.in-Ok-Some-Apply.order.defined.items c.in-Ok-Some-Apply.order.target (sym asked)
 
 pub returns-in-Ok-Some-Apply : goal.returns-in-Ok-Some-Apply
 returns-in-Ok-Some-Apply g c = record {
   ends =
       let asked = rw c.in-Ok-Some-Apply.field-0-0-is at (rw c.in-Ok-Some-Apply.field-0-is at c.in-Ok-Some-Apply.ensures.order) in
       let order = c.in-Ok-Some-Apply.order in
-      follows (map (λ t. t.now) c.args.texts.now) (Some (Apply order.patch.now (shown_isos order.isos) order.defined.items (shown_target order.target))) (sym asked) c.follow_order.ensures.ends;
+      follows (map (λ t. t.now) c.args.texts.now)
+      (Some (Apply order.patch.now (shown_isos order.isos) order.defined.items (shown_target order.target))) (sym asked) c.follow_order.ensures.ends;
 }

@@ -13,7 +13,8 @@ returns-in-Err g c = record { ends = unfed_first _ _ _ }
 
 pub returns-in-Ok-None : goal.returns-in-Ok-None
 returns-in-Ok-None g c = record {
-  ends = follows c.args.words.now None (none_asked c.args.words.now (rw c.in-Ok-None.field-0-is at c.in-Ok-None.ensures)) (c.refuse_words.ensures.ends _ _ _ _ _);
+  ends = follows c.args.words.now None (none_asked c.args.words.now (rw c.in-Ok-None.field-0-is at c.in-Ok-None.ensures))
+      (c.refuse_words.ensures.ends _ _ _ _ _);
 }
 
 pub returns-in-Ok-Some : goal.returns-in-Ok-Some

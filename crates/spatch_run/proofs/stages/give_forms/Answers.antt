@@ -15,5 +15,6 @@ returns-in-None g c = record { ends = rw c.in-None.is c.use_patch.ensures.ends }
 
 pub returns-in-Some : goal.returns-in-Some
 returns-in-Some g c = record {
-  ends = rw c.in-Some.is (from (Doing [] (ReadIsos c.args.patch c.in-Some.name.now c.args.order.now.defined.items (shown_target c.args.order.now.target))) refl c.load_isos.ensures.ends);
+  ends = rw c.in-Some.is (from (Doing [] (ReadIsos c.args.patch c.in-Some.name.now c.args.order.now.defined.items
+      (shown_target c.args.order.now.target))) refl c.load_isos.ensures.ends);
 }

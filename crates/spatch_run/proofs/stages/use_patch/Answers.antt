@@ -26,8 +26,13 @@ pub returns-in-Files : goal.returns-in-Files
 returns-in-Files g c = record {
   ends =
       let ends = rw (c.deref.ensures.value, c.deref-in-Files.ensures.value) at c.edit_files.ensures.ends in
-      rw c.in-Files.is (from (going [] c.args.patch.now c.args.order.now.defined.items c.in-Files.mode (map (λ name. name.now) c.in-Files.names.items) false) refl ends);
+      rw c.in-Files.is (from (going [] c.args.patch.now c.args.order.now.defined.items c.in-Files.mode
+      (map (λ name. name.now) c.in-Files.names.items) false) refl ends);
 }
 
 pub returns : goal.returns
-returns g c = record { ends = rw c.in-Text.is (rw c.deref.ensures.value at (c.sum_text.ensures.ends (g.S.Loads.holds c.args.shelf.now) (g.S.Loads.stores c.args.shelf.now) (g.S.Loads.faults c.args.shelf.now))) }
+returns g c = record {
+  ends = rw c.in-Text.is
+      (rw c.deref.ensures.value at (c.sum_text.ensures.ends (g.S.Loads.holds c.args.shelf.now) (g.S.Loads.stores c.args.shelf.now)
+      (g.S.Loads.faults c.args.shelf.now)));
+}

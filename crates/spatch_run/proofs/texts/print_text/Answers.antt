@@ -22,7 +22,9 @@ returns-in_err-print g c = record {
       let p = err_from_is_err_and c.from_residual-in_err-print.result c.from_residual-in_err-print.ensures.1 in
       let text = generated c.args.seed c.args.functions in
       let put : c.deref.result.now ≡ text = c.deref.ensures.value ∙ c.in_ok-text.ensures.text in
-      rw (p.1, p.2) (broken (Ending (Print text ∷ []) 0) (Print text) refl (record { shelf = omega arith; out = c.in_err-print.ensures.later; err = c.in_err-print.ensures.later_err }) (rw put at (c.in_err-print.ensures.stopped files stores s s)));
+      rw (p.1, p.2) (broken (Ending (Print text ∷ []) 0) (Print text) refl
+      (record { shelf = omega arith; out = c.in_err-print.ensures.later; err = c.in_err-print.ensures.later_err })
+      (rw put at (c.in_err-print.ensures.stopped files stores s s)));
 }
 
 pub returns : goal.returns
@@ -30,7 +32,11 @@ returns g c = record {
   ends = λ files stores s.
       let text = generated c.args.seed c.args.functions in
       let put : c.deref.result.now ≡ text = c.deref.ensures.value ∙ c.in_ok-text.ensures.text in
-      let fell : NoneFell (counts s (g.O.Sink.faults c.args.out.now) (g.E.Sink.faults c.args.err.now)) (counts s (g.O.Sink.faults c.print.new.out) (g.E.Sink.faults c.print.new.err)) =
+      let fell : NoneFell (counts s (g.O.Sink.faults c.args.out.now) (g.E.Sink.faults c.args.err.now))
+      (counts s (g.O.Sink.faults c.print.new.out) (g.E.Sink.faults c.print.new.err)) =
       record { shelf = omega arith; out = c.in_ok-print.ensures.later; err = c.in_ok-print.ensures.later_err } in
-      Goes-ends (Goes-act (Ending (Print text ∷ []) 0) (Print text) (Ending [] 0) (told files stores (g.O.Sink.written c.args.out.now) (g.E.Sink.written c.args.err.now)) (told files stores (g.O.Sink.written c.print.new.out) (g.E.Sink.written c.print.new.err)) refl refl (rw (c.in_ok-print.ensures.ok, c.in_ok-print.ensures.ok_err, put) refl)) fell (over (Ending [] 0) _ _ 0 refl);
+      Goes-ends (Goes-act (Ending (Print text ∷ []) 0) (Print text) (Ending [] 0)
+      (told files stores (g.O.Sink.written c.args.out.now) (g.E.Sink.written c.args.err.now))
+      (told files stores (g.O.Sink.written c.print.new.out) (g.E.Sink.written c.print.new.err)) refl refl
+      (rw (c.in_ok-print.ensures.ok, c.in_ok-print.ensures.ok_err, put) refl)) fell (over (Ending [] 0) _ _ 0 refl);
 }

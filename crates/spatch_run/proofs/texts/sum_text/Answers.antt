@@ -23,15 +23,19 @@ pub returns-in_err-refused : goal.returns-in_err-refused
 returns-in_err-refused g c = record {
   ends = λ files stores s.
       let p = err_from_is_err_and c.from_residual-in_err-refused.result c.from_residual-in_err-refused.ensures.1 in
-      let fell : NoneFell (counts s (g.O.Sink.faults c.args.out.now) (g.E.Sink.faults c.args.err.now)) (counts s (g.O.Sink.faults c.sum.new.out) (g.E.Sink.faults c.sum.new.err)) =
+      let fell : NoneFell (counts s (g.O.Sink.faults c.args.out.now) (g.E.Sink.faults c.args.err.now))
+      (counts s (g.O.Sink.faults c.sum.new.out) (g.E.Sink.faults c.sum.new.err)) =
       record { shelf = omega arith; out = c.in_err-refused.ensures.later; err = c.in_err-refused.ensures.later_err } in
-      rw (p.1, p.2) (sum_cut c.args.ready.now.patch.now c.args.ready.now.defined.now c.args.seed c.args.functions fell (rw c.in_ok-text.ensures.text at (c.in_err-refused.ensures.stopped files stores s s)));
+      rw (p.1, p.2) (sum_cut c.args.ready.now.patch.now c.args.ready.now.defined.now c.args.seed c.args.functions fell
+      (rw c.in_ok-text.ensures.text at (c.in_err-refused.ensures.stopped files stores s s)));
 }
 
 pub returns : goal.returns
 returns g c = record {
   ends = λ files stores s.
-      let fell : NoneFell (counts s (g.O.Sink.faults c.args.out.now) (g.E.Sink.faults c.args.err.now)) (counts s (g.O.Sink.faults c.sum.new.out) (g.E.Sink.faults c.sum.new.err)) =
+      let fell : NoneFell (counts s (g.O.Sink.faults c.args.out.now) (g.E.Sink.faults c.args.err.now))
+      (counts s (g.O.Sink.faults c.sum.new.out) (g.E.Sink.faults c.sum.new.err)) =
       record { shelf = omega arith; out = c.in_ok-refused.ensures.later; err = c.in_ok-refused.ensures.later_err } in
-      sum_done c.args.ready.now.patch.now c.args.ready.now.defined.now c.args.seed c.args.functions c.in_ok-refused.refused fell c.end_status.ensures (rw c.in_ok-text.ensures.text at (c.in_ok-refused.ensures.treated files stores));
+      sum_done c.args.ready.now.patch.now c.args.ready.now.defined.now c.args.seed c.args.functions c.in_ok-refused.refused fell
+      c.end_status.ensures (rw c.in_ok-text.ensures.text at (c.in_ok-refused.ensures.treated files stores));
 }

@@ -32,7 +32,8 @@ visit_values-loop-v-preserved t c =
     shown_more g f c.args.x.now c.args.part c.args.node (total c.args.env.now) us c.loop-v.v-index c.args.found.now c.loop-v.found c.put.new.self
     c.v-item.result c.in_ok-copy-2.field-0 c.in_ok-copy.field-0 (total c.in_ok-inner.inner) c.from_vec.result
     lt c.v-item.is c.in_ok-copy-2.ensures.same c.in_ok-copy.ensures.same (λ i y. c.in_ok-inner.ensures.value y i)
-    (subst (λ ws. same_forest ws (forest_at g f c.args.part c.args.node (total c.in_ok-inner.inner)) ≡ true) (sym c.from_vec.ensures) c.in_ok-under.ensures.trees)
+    (subst (λ ws. same_forest ws (forest_at g f c.args.part c.args.node (total c.in_ok-inner.inner)) ≡ true)
+    (sym c.from_vec.ensures) c.in_ok-under.ensures.trees)
     c.in_ok-put.ensures.trees c.loop-v.invariant
 
 pub visit_values-returns-in_err-under-clause-too_many : goal.visit_values-returns-in_err-under-clause-too_many
@@ -59,7 +60,8 @@ visit_values-returns-in_err-put-clause-too_many t c = λ h.
     (λ v. ap (λ l. list_any (λ u. same u v) l) c.deref-v-items.ensures.value ∙ c.in_ok-values.ensures.values v) c.requires.shown
     c.loop-v.v-index c.args.found.now c.loop-v.found c.v-item.result c.in_ok-copy-2.field-0 c.in_ok-copy.field-0 (total c.in_ok-inner.inner) c.from_vec.result
     lt c.v-item.is c.in_ok-copy-2.ensures.same c.in_ok-copy.ensures.same (λ i y. c.in_ok-inner.ensures.value y i)
-    (subst (λ ws. same_forest ws (forest_at g f c.args.part c.args.node (total c.in_ok-inner.inner)) ≡ true) (sym c.from_vec.ensures) c.in_ok-under.ensures.trees)
+    (subst (λ ws. same_forest ws (forest_at g f c.args.part c.args.node (total c.in_ok-inner.inner)) ≡ true)
+    (sym c.from_vec.ensures) c.in_ok-under.ensures.trees)
     c.loop-v.invariant
     (subst (λ d. HasTooMany d (λ z. has c.loop-v.found z || same_witness (Bind c.args.node c.in_ok-copy.field-0 c.in_ok-copy-2.field-0 c.from_vec.result) z))
     c.decls.ensures.decls (c.in_err-put.ensures.too_many (cc (h, p.1, p.2))))
@@ -87,11 +89,17 @@ visit-visit_quantifier-requires t c =
     let g = c.args.g.now in
     let f = c.args.f.now in
     let rows = c.args.sets.now in
-    let low = own_below g f rows c.requires.ready c.args.part c.args.part c.args.node c.requires.range c.node.result.now c.node.ensures.is c.node.ensures.kids c.in-Exists.x c.in-Exists.i c.in-Exists.is in (
+    let low = own_below g f rows c.requires.ready c.args.part c.args.part c.args.node c.requires.range c.node.result.now
+    c.node.ensures.is c.node.ensures.kids c.in-Exists.x c.in-Exists.i c.in-Exists.is in (
       omega (arith, low),
       (
-        own_in_range g f rows c.requires.ready c.args.part c.args.part c.args.node c.requires.range c.node.result.now c.node.ensures.is c.node.ensures.kids c.in-Exists.x c.in-Exists.i c.in-Exists.is,
-        (c.requires.ready, own_bound g f rows c.requires.ready c.args.part c.args.part c.args.node c.requires.range c.node.result.now c.node.ensures.is c.node.ensures.kids c.in-Exists.x c.in-Exists.i c.in-Exists.is),
+        own_in_range g f rows c.requires.ready c.args.part c.args.part c.args.node c.requires.range c.node.result.now
+            c.node.ensures.is c.node.ensures.kids c.in-Exists.x c.in-Exists.i c.in-Exists.is,
+        (
+          c.requires.ready,
+          own_bound g f rows c.requires.ready c.args.part c.args.part c.args.node c.requires.range
+              c.node.result.now c.node.ensures.is c.node.ensures.kids c.in-Exists.x c.in-Exists.i c.in-Exists.is,
+        ),
       ),
     )
 
@@ -132,7 +140,8 @@ visit-returns-in-Exists-clause-grows t c =
     let f = c.args.f.now in
     let new = c.visit_quantifier.new.states in
     let trees = c.visit_quantifier.new.found in
-    let low = own_below g f c.args.sets.now c.requires.ready c.args.part c.args.part c.args.node c.requires.range c.node.result.now c.node.ensures.is c.node.ensures.kids c.in-Exists.x c.in-Exists.i c.in-Exists.is in
+    let low = own_below g f c.args.sets.now c.requires.ready c.args.part c.args.part c.args.node c.requires.range
+    c.node.result.now c.node.ensures.is c.node.ensures.kids c.in-Exists.x c.in-Exists.i c.in-Exists.is in
     let le : c.in-Exists.i ≤ c.args.part = omega (arith, low) in
     IfOk-weaker c.visit_quantifier.result
     (λ _. Grows g f c.in-Exists.i c.args.states.now new c.args.found.now trees)
@@ -182,8 +191,14 @@ forest_at-visit-requires t c =
     let states = c.loop-at.states in
     let lt : c.loop-at.at < length states = omega arith in
     let is = get_or_from_slice_get states c.loop-at.at one one c.get-one.ensures in
-    let low = state_low g f c.args.part c.args.node (total c.args.env.now) c.loop-at.at states c.loop-at.found c.loop-at.invariant one lt is in
-    (omega (arith, low), (state_in_range g f c.args.part c.args.node (total c.args.env.now) c.loop-at.at states c.loop-at.found c.loop-at.invariant one lt is, c.requires.ready))
+    let low = state_low g f c.args.part c.args.node (total c.args.env.now) c.loop-at.at states c.loop-at.found c.loop-at.invariant one lt is in (
+      omega (arith, low),
+      (
+        state_in_range g f c.args.part c.args.node
+            (total c.args.env.now) c.loop-at.at states c.loop-at.found c.loop-at.invariant one lt is,
+        c.requires.ready,
+      ),
+    )
 
 pub forest_at-loop-at-preserved : goal.forest_at-loop-at-preserved
 forest_at-loop-at-preserved t c =
@@ -213,8 +228,10 @@ forest_at-returns-then-at-len-clause-trees t c =
     (λ r. HaveSame r.items c.loop-at.found)
     (λ r. Rise c.decls.result.now r.items)
     (λ r. same_forest r.items root ≡ true)
-    (λ r h rise. (one_forest f.decls r.items c.loop-at.found root h (subst (λ d. Rise d r.items) c.decls.ensures.decls rise) (root_rises g f c.args.part c.args.node env)
-    (gathered_all g f c.args.part c.args.node env c.requires.ready.sound c.requires.ready.formula c.loop-at.at c.loop-at.states c.loop-at.found le c.loop-at.invariant)).0)
+    (λ r h rise. (one_forest f.decls r.items c.loop-at.found root h (subst (λ d. Rise d r.items) c.decls.ensures.decls rise)
+    (root_rises g f c.args.part c.args.node env)
+    (gathered_all g f c.args.part c.args.node env c.requires.ready.sound c.requires.ready.formula c.loop-at.at c.loop-at.states
+    c.loop-at.found le c.loop-at.invariant)).0)
     c.into_forest.ensures.trees c.into_forest.ensures.rise
 
 pub forest_at-returns-then-at-len-clause-few : goal.forest_at-returns-then-at-len-clause-few
@@ -229,8 +246,10 @@ forest_at-returns-then-at-len-clause-few t c =
     (λ r. forest_size r.items ≤ 1000000)
     (λ r. forest_size root ≤ 1000000)
     (λ r h few.
-    let sizes = (one_forest f.decls r.items c.loop-at.found root h.0 (subst (λ d. Rise d r.items) c.decls.ensures.decls h.1) (root_rises g f c.args.part c.args.node env)
-    (gathered_all g f c.args.part c.args.node env c.requires.ready.sound c.requires.ready.formula c.loop-at.at c.loop-at.states c.loop-at.found le c.loop-at.invariant)).1 in
+    let sizes = (one_forest f.decls r.items c.loop-at.found root h.0 (subst (λ d. Rise d r.items) c.decls.ensures.decls h.1)
+    (root_rises g f c.args.part c.args.node env)
+    (gathered_all g f c.args.part c.args.node env c.requires.ready.sound c.requires.ready.formula c.loop-at.at c.loop-at.states
+    c.loop-at.found le c.loop-at.invariant)).1 in
     omega (arith, sizes, few))
     (of_both c.into_forest.result (λ r. HaveSame r.items c.loop-at.found) (λ r. Rise c.decls.result.now r.items)
     (λ r. (HaveSame r.items c.loop-at.found) × (Rise c.decls.result.now r.items)) (λ r h k. (h, k)) c.into_forest.ensures.trees c.into_forest.ensures.rise)
@@ -241,7 +260,8 @@ forest_at-returns-then-at-len-clause-too_many t c = λ h.
     let g = c.args.g.now in
     let f = c.args.f.now in
     let le : length c.loop-at.states ≤ c.loop-at.at = omega arith in
-    large_all g f c.args.part c.args.node (total c.args.env.now) c.requires.ready.sound c.requires.ready.formula c.loop-at.at c.loop-at.states c.loop-at.found le c.loop-at.invariant
+    large_all g f c.args.part c.args.node (total c.args.env.now) c.requires.ready.sound c.requires.ready.formula c.loop-at.at
+    c.loop-at.states c.loop-at.found le c.loop-at.invariant
     (subst (λ d. HasTooMany d (has c.loop-at.found)) c.decls.ensures.decls (c.into_forest.ensures.too_many h))
 
 pub forest_at-returns-in_err-visit-clause-too_many : goal.forest_at-returns-in_err-visit-clause-too_many

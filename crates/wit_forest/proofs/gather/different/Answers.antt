@@ -34,7 +34,8 @@ kept vs z = same_bool
 pub returns : goal.returns
 returns c =
     let sorted : IsSorted value_order c.sort_unstable_by.new.self.items =
-    c.sort_unstable_by.ensures.sorted (λ v w. is_lt (value_order v w)) (ranks_by value_order_total (λ v. v)) (always_returns_same _ _ _ (λ a r f k. search rules)) in
+    c.sort_unstable_by.ensures.sorted (λ v w. is_lt (value_order v w)) (ranks_by value_order_total (λ v. v))
+    (always_returns_same _ _ _ (λ a r f k. search rules)) in
     let is : c.dedup_by.new.self.items ≡ dedup same c.sort_unstable_by.new.self.items =
     dedup_same _ same _ (λ x y b f' x' y' k. search rules) _ _ c.dedup_by.ensures.filtered in
     record {

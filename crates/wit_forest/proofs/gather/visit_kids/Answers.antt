@@ -34,9 +34,11 @@ returns-clause-there c = λ z.
     let f = c.args.f.now in
     let env = total c.args.env.now in
     let node = c.node.result.now in
-    let told_kids = kids_told g f c.args.sets.now c.requires.ready c.args.part c.args.part c.args.node c.requires.range node c.node.ensures.is c.node.ensures.kids env in
+    let told_kids = kids_told g f c.args.sets.now c.requires.ready c.args.part c.args.part c.args.node c.requires.range node
+    c.node.ensures.is c.node.ensures.kids env in
     let here = ap (λ y. kids g (holds_at g f env) y c.args.part c.args.node) (sym (node_read g f c.args.part node c.node.ensures.node)) in
-    put_there g f {X = ℕ × ℕ} (λ k. k.0) (λ k. k.1) (λ k. env) c.args.part items c.loop-kid.kid-index c.args.states.now c.loop-kid.states le c.loop-kid.invariant z
+    put_there g f {X = ℕ × ℕ} (λ k. k.0) (λ k. k.1)
+    (λ k. env) c.args.part items c.loop-kid.kid-index c.args.states.now c.loop-kid.states le c.loop-kid.invariant z
     ∙ ap (λ (l : List (ℕ × ℕ)). list_any (of_state g f z) c.args.states.now || list_any (λ (k : ℕ × ℕ). has (forest_at g f k.0 k.1 env) z) l)
     (c.deref-kid-items.ensures.value ∙ c.in_ok-kids.ensures.kids ∙ told_kids ∙ here)
 
@@ -48,11 +50,13 @@ returns-clause-done c = λ k m.
     let f = c.args.f.now in
     let env = total c.args.env.now in
     let node = c.node.result.now in
-    let told_kids = kids_told g f c.args.sets.now c.requires.ready c.args.part c.args.part c.args.node c.requires.range node c.node.ensures.is c.node.ensures.kids env in
+    let told_kids = kids_told g f c.args.sets.now c.requires.ready c.args.part c.args.part c.args.node c.requires.range node
+    c.node.ensures.is c.node.ensures.kids env in
     let here = ap (λ y. kids g (holds_at g f env) y c.args.part c.args.node) (sym (node_read g f c.args.part node c.node.ensures.node)) in
     let same_items : items ≡ kids g (holds_at g f env) (node_at g f c.args.part) c.args.part c.args.node =
     c.deref-kid-items.ensures.value ∙ c.in_ok-kids.ensures.kids ∙ told_kids ∙ here in
-    put_done g f {X = ℕ × ℕ} (λ k. k.0) (λ k. k.1) (λ k. env) c.args.part items c.loop-kid.kid-index c.args.states.now c.loop-kid.states le c.loop-kid.invariant k
+    put_done g f {X = ℕ × ℕ} (λ k. k.0) (λ k. k.1)
+    (λ k. env) c.args.part items c.loop-kid.kid-index c.args.states.now c.loop-kid.states le c.loop-kid.invariant k
     (subst (λ (l : List (ℕ × ℕ)). Contains l k) (sym same_items) m)
 
 pub returns-clause-grows : goal.returns-clause-grows

@@ -6,4 +6,5 @@ use Rattle.wit_print.proofs.rules.by_rule.Goals as goal
 pub loop-w-preserved : goal.loop-w-preserved
 loop-w-preserved c =
     group_next c.args.count c.loop-w.w-index c.args.witnesses.now c.w-item.result (shown_groups c.put_own.new.groups.items)
-    c.loop-w-test.true (grind (arith, c.w-item.is, c.loop-w-test.true)) (c.in_ok-put_own.ensures c.args.count (take c.loop-w.w-index c.args.witnesses.now) c.loop-w.invariant)
+    c.loop-w-test.true (grind (arith, c.w-item.is, c.loop-w-test.true))
+    (c.in_ok-put_own.ensures c.args.count (take c.loop-w.w-index c.args.witnesses.now) c.loop-w.invariant)

@@ -8,4 +8,5 @@ returns-clause-ok c =
     let same : c.in_ok-key.key.items ≡ c.args.name = cc (c.in_ok-key.ensures.items, c.as_bytes-2.ensures.bytes) in
     let absent : has_name c.args.self.now c.args.name ≡ false = cc (c.if-has.ensures.value, c.as_bytes.ensures.bytes) in
     let new : has_name (map (λ k. k.items) c.self.inside.set.keys) c.args.name ≡ false = ap (λ names. has_name names c.args.name) c.self.view_is ∙ absent in
-    rw (← c.self.view_is) (ap (map (λ k. k.items)) c.in_ok-insert.ensures.keys ∙ put-new (λ k. k.items) c.self.inside.set.keys c.in_ok-key.key c.args.name same new)
+    rw (← c.self.view_is) (ap (map (λ k. k.items)) c.in_ok-insert.ensures.keys
+    ∙ put-new (λ k. k.items) c.self.inside.set.keys c.in_ok-key.key c.args.name same new)

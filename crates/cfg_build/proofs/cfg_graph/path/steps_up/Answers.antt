@@ -30,7 +30,8 @@ loop-steps-preserved c =
     let s = earlier c.args.nodes.now c.loop-steps.at _ c.requires.seated (sym c.seat_at.ensures ∙ c.in-Child.is) in
     let p = path-by c.args.nodes.now c.loop-steps.at _ c.requires.seated (sym c.seat_at.ensures ∙ c.in-Child.is) in
     record {
-      way = way-up (path_of c.args.nodes.now c.loop-steps.at) (path_of c.args.nodes.now c.in-Child.holder) c.loop-steps.steps.items c.push.new.self.items c.in-Child.i
+      way = way-up (path_of c.args.nodes.now c.loop-steps.at)
+          (path_of c.args.nodes.now c.in-Child.holder) c.loop-steps.steps.items c.push.new.self.items c.in-Child.i
           p c.in_ok-push-in-Child.ensures.items ∙ c.loop-steps.invariant.way;
       inside = omega (arith, s, c.loop-steps.invariant.inside);
     }

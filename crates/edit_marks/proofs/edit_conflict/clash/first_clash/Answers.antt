@@ -64,7 +64,8 @@ returns-in-Some-clause-first c =
     let marks = c.marks-marks.result.now in
     let k = c.loop-at.at in
     let s = step marks k c.run_length.result c.acts_of-acts.result c.loop-at-test.true c.run_length.ensures.value c.acts_of-acts.ensures in
-    let r = clash_here marks k c.run_length.result (at marks k) c.acts_of-acts.result (marks_ordered c.args.edits.now marks c.marks-marks.ensures.marks) s c.in-Some.second c.in-Some.ensures in
+    let r = clash_here marks k c.run_length.result (at marks k) c.acts_of-acts.result
+    (marks_ordered c.args.edits.now marks c.marks-marks.ensures.marks) s c.in-Some.second c.in-Some.ensures in
     first c.args.edits.now marks k _ c.edits-differ.ensures.differ c.marks-marks.ensures.marks c.loop-at.invariant.left r.0 r.1
 
 pub loop-at-preserved : goal.loop-at-preserved
@@ -76,9 +77,11 @@ loop-at-preserved c =
       within = omega arith;
       quiet = subst (λ (a : Acts). Quiet a (at marks k).token (drop (k + c.run_length.result) marks)) (sym c.acts_of_both.ensures)
           (quiet_here marks k c.run_length.result (at marks k) c.acts_of-acts.result (marks_ordered c.args.edits.now marks c.marks-marks.ensures.marks) s
-          c.settled_at-known.result (known_quiet marks k c.loop-at.settled (at marks k).token c.settled_at-known.result c.settled_at-known.ensures c.loop-at.invariant.quiet)
+          c.settled_at-known.result (known_quiet marks k c.loop-at.settled
+          (at marks k).token c.settled_at-known.result c.settled_at-known.ensures c.loop-at.invariant.quiet)
           c.in_default.ensures);
-      left = λ d m. nothing_here marks k c.run_length.result (at marks k) c.acts_of-acts.result (marks_ordered c.args.edits.now marks c.marks-marks.ensures.marks) s c.in_default.ensures d (c.loop-at.invariant.left d m);
+      left = λ d m. nothing_here marks k c.run_length.result (at marks k) c.acts_of-acts.result
+          (marks_ordered c.args.edits.now marks c.marks-marks.ensures.marks) s c.in_default.ensures d (c.loop-at.invariant.left d m);
     }
 
 pub returns-clause-none : goal.returns-clause-none

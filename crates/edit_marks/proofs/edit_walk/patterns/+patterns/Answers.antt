@@ -14,8 +14,10 @@ put_body-put_element-requires t c =
 
 pub put_body-loop-elem-preserved : goal.put_body-loop-elem-preserved
 put_body-loop-elem-preserved t c =
-    put-step (λ (e : Elem). patterns_element (element e)) (λ (es : List Elem). patterns_body (body es)) (λ x xs. refl) c.args.elems.now c.loop-elem.elem-index c.elem-item.result
-    (map (λ p. p.now) c.loop-elem.found.items) (map (λ p. p.now) c.put_element.new.found.items) _ c.loop-elem-test.true c.elem-item.is c.in_ok-put_element.ensures c.loop-elem.invariant
+    put-step (λ (e : Elem). patterns_element (element e)) (λ (es : List Elem). patterns_body (body es))
+    (λ x xs. refl) c.args.elems.now c.loop-elem.elem-index c.elem-item.result
+    (map (λ p. p.now) c.loop-elem.found.items)
+    (map (λ p. p.now) c.put_element.new.found.items) _ c.loop-elem-test.true c.elem-item.is c.in_ok-put_element.ensures c.loop-elem.invariant
 
 pub put_body-returns : goal.put_body-returns
 put_body-returns t c =
@@ -30,11 +32,14 @@ put_bodies-put_body-requires t c =
 
 pub put_bodies-loop-elems-preserved : goal.put_bodies-loop-elems-preserved
 put_bodies-loop-elems-preserved t c =
-    put-step (λ (b : List Elem). patterns_body (body b)) (λ (bs : List (List Elem)). patterns_bodies (bodies bs)) (λ x xs. refl) c.args.bodies.now c.loop-elems.elems-index c.elems-item.result
+    put-step (λ (b : List Elem). patterns_body (body b)) (λ (bs : List (List Elem)). patterns_bodies (bodies bs))
+    (λ x xs. refl) c.args.bodies.now c.loop-elems.elems-index c.elems-item.result
     (map (λ p. p.now) c.loop-elems.found.items) (map (λ p. p.now) c.put_body.new.found.items) _ c.loop-elems-test.true c.elems-item.is
-    (c.in_ok-put_body.ensures ∙ ap (λ (z : List Elem). map (λ p. p.now) c.loop-elems.found.items ++ patterns_body (body z)) c.as_slice.ensures) c.loop-elems.invariant
+    (c.in_ok-put_body.ensures ∙ ap (λ (z : List Elem). map (λ p. p.now) c.loop-elems.found.items ++ patterns_body (body z))
+    c.as_slice.ensures) c.loop-elems.invariant
 
 pub put_bodies-returns : goal.put_bodies-returns
 put_bodies-returns t c =
-    put-end (λ (bs : List (List Elem)). patterns_bodies (bodies bs)) refl c.args.bodies.now c.loop-elems.elems-index (map (λ p. p.now) c.loop-elems.found.items) _
+    put-end (λ (bs : List (List Elem)). patterns_bodies (bodies bs)) refl c.args.bodies.now c.loop-elems.elems-index
+    (map (λ p. p.now) c.loop-elems.found.items) _
     c.loop-elems-test.false c.loop-elems.invariant

@@ -20,4 +20,5 @@ invariant-put_body-loop-elem l =
 
 abbrev pub invariant-put_bodies-loop-elems : goal.invariant-put_bodies-loop-elems
 invariant-put_bodies-loop-elems l =
-    map (λ p. p.now) l.found.items ++ patterns_bodies (bodies (drop l.elems-index l.bodies)) ≡ map (λ p. p.now) l.initial.found.items ++ patterns_bodies (bodies l.bodies)
+    map (λ p. p.now) l.found.items ++ patterns_bodies (bodies (drop l.elems-index l.bodies))
+    ≡ map (λ p. p.now) l.initial.found.items ++ patterns_bodies (bodies l.bodies)

@@ -18,6 +18,7 @@ returns c =
     let es = c.put_witnesses.new.edits.items in
     same_site c.args.items.now c.args.kinds.now all es (map (λ (p : Bor Pattern). p.now) c.deref-2.result.now) (patterns_body (body rule.body))
     c.as_slice-2.result.now rule.vars c.as_slice-3.result.now rule.tokens c.in_ok-ids.ids (ids_of pieces) c.in_ok-files.files (file_tokens pieces)
-    (ap (map (λ (p : Bor Pattern). p.now)) c.deref-2.ensures.value ∙ c.in_ok-patterns.ensures ∙ ap (λ (b : List Elem). patterns_body (body b)) c.as_slice.ensures)
+    (ap (map (λ (p : Bor Pattern). p.now)) c.deref-2.ensures.value ∙ c.in_ok-patterns.ensures
+    ∙ ap (λ (b : List Elem). patterns_body (body b)) c.as_slice.ensures)
     c.as_slice-2.ensures c.as_slice-3.ensures (c.in_ok-ids.ensures.keys ∙ c.in_ok-token_ids.ensures.ids) c.in_ok-files.ensures
     (adds_all _ c.new-all.result.items es all c.new-all.ensures.items c.in_ok-put_witnesses.ensures)

@@ -25,7 +25,8 @@ returns-clause-fit c =
     let P = FitsText (length (ids_of pieces)) in
     let h = c.in_ok-list.ensures in
     subst (λ (l : List Edit). All P l) (sym h.distinct) (once_all P h.all
-    (each_all P (IsEditAt rule items kinds pieces) (touches c.args.witnesses.now) h.all (λ t e is. edit_fits rule.vars rule.tokens t.env pieces (found t) e is) h.each))
+    (each_all P (IsEditAt rule items kinds pieces) (touches c.args.witnesses.now) h.all
+    (λ t e is. edit_fits rule.vars rule.tokens t.env pieces (found t) e is) h.each))
 
 pub returns-clause-plain : goal.returns-clause-plain
 returns-clause-plain c = λ sound.

@@ -9,7 +9,8 @@ loop-tree-init c = adds_none (IsEditHere c.args.site.now) c.args.edits.now.items
 pub loop-tree-preserved : goal.loop-tree-preserved
 loop-tree-preserved c =
     adds_more (IsEditHere c.args.site.now) (touches_in c.args.item c.args.env.now) c.args.forest.now c.loop-tree.tree-index c.tree-item.result
-    c.args.edits.now.items c.loop-tree.edits.items c.put_tree.new.edits.items c.loop-tree-test.true c.tree-item.is c.loop-tree.invariant c.in_ok-put_tree.ensures
+    c.args.edits.now.items c.loop-tree.edits.items c.put_tree.new.edits.items c.loop-tree-test.true c.tree-item.is
+    c.loop-tree.invariant c.in_ok-put_tree.ensures
 
 pub returns : goal.returns
 returns c =

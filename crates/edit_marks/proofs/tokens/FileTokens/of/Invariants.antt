@@ -7,7 +7,8 @@ use Rattle.edit_marks.proofs.tokens.FileTokens.of.Given as goal
 
 abbrev pub invariant-loop-i : goal.invariant-loop-i
 invariant-loop-i l = record {
-  tokens : map (token_at l.bytes) l.places.items ++ tokens_from (text_of l.lexed) (length (text_of (take l.i l.lexed))) (drop l.i l.lexed) ≡ file_tokens l.lexed;
+  tokens : map (token_at l.bytes) l.places.items
+      ++ tokens_from (text_of l.lexed) (length (text_of (take l.i l.lexed))) (drop l.i l.lexed) ≡ file_tokens l.lexed;
   line : l.line ≡ line_start (text_of l.lexed) (length (text_of (take l.i l.lexed)));
   within : All (IsWithin l.bytes) l.places.items;
 }

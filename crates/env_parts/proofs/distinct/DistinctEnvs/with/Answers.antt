@@ -26,7 +26,8 @@ invariant_of-result c =
     let put : (q : Key) → lookup (λ (k : Key). is_eq (of.env_order q.env k.env)) c.insert.new.self.entries
     ≡ cond (is_eq (of.env_order c.args.env q.env)) (Some (length c.self.inside.envs)) (lookup (λ (k : Key). is_eq (of.env_order q.env k.env)) old) =
     λ q. c.in_ok-insert.ensures.updates.0 q
-    ∙ (λ i. cond (is_eq (of.env_order (c.in_ok-copy.ensures.same i) q.env)) (Some (c.len-place.ensures i)) (lookup (λ (k : Key). is_eq (of.env_order q.env k.env)) old)) in
+    ∙ (λ i. cond (is_eq (of.env_order (c.in_ok-copy.ensures.same i) q.env)) (Some (c.len-place.ensures i))
+    (lookup (λ (k : Key). is_eq (of.env_order q.env k.env)) old)) in
     subst (ArePlaces c.insert.new.self.entries) (sym c.in_ok-push.ensures.ok)
     (are_places_push old c.insert.new.self.entries c.self.inside.envs c.args.env c.self.invariant none put)
 

@@ -8,5 +8,6 @@ use Rattle.env_sets.proofs.entries.Entry.free_of.Goals as goal
 pub of-requires : goal.of-requires
 of-requires c = record {
   rising =
-      subst Rising (sym (c.in_ok-pairs.ensures ∙ ap (filter (λ p. not (has_value c.args.env.now p.0))) c.pairs.ensures.pairs)) (Rising-filter _ _ c.pairs.ensures.rising);
+      subst Rising (sym (c.in_ok-pairs.ensures ∙ ap (filter (λ p. not (has_value c.args.env.now p.0))) c.pairs.ensures.pairs))
+      (Rising-filter _ _ c.pairs.ensures.rising);
 }

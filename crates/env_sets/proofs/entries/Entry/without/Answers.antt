@@ -8,7 +8,8 @@ use Rattle.env_sets.proofs.entries.Entry.without.Goals as goal
 pub of-requires : goal.of-requires
 of-requires c = record {
   rising =
-      subst Rising (sym (c.in_ok-pairs.ensures ∙ ap (filter (λ p. not (same_var p.0 c.args.v.now))) c.pairs.ensures.pairs)) (Rising-filter _ _ c.pairs.ensures.rising);
+      subst Rising (sym (c.in_ok-pairs.ensures ∙ ap (filter (λ p. not (same_var p.0 c.args.v.now))) c.pairs.ensures.pairs))
+      (Rising-filter _ _ c.pairs.ensures.rising);
 }
 
 -- the new list is the filter of the old one, whose variables rise

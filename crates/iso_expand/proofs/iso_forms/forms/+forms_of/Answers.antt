@@ -47,7 +47,8 @@ loop-child-preserved t c =
     let w : ways ≡ forms tokens isos c.child-item.result = c.in_ok-ways-in-Branch.ensures.forms in
     let n : next ≡ grown css ways = c.in_ok-choices-in-Branch-2.ensures.all in
     record {
-      rest = sym (child_more tokens isos cs c.loop-child.child-index c.child-item.result css next ways c.loop-child-test.true c.child-item.is w n) ∙ c.loop-child.invariant.rest;
+      rest = sym (child_more tokens isos cs c.loop-child.child-index c.child-item.result css next ways c.loop-child-test.true
+          c.child-item.is w n) ∙ c.loop-child.invariant.rest;
       few = c.in_ok-choices-in-Branch-2.ensures.few;
       some = more_choices tokens isos css next ways c.child-item.result c.loop-child.invariant.some w n;
     }
@@ -61,7 +62,8 @@ returns-after-loop-child-clause-forms t c =
     let tree : c.args.tree.now ≡ Branch l cs = c.in-Branch.is ∙ ap (Branch l) (sym c.as_slice-child-items.ensures) in
     let none : drop c.loop-child.child-index cs ≡ [] = drop_all c.loop-child.child-index cs (omega arith) in
     let all : of_choices tokens isos l c.loop-child.choices.items ≡ forms tokens isos c.args.tree.now =
-    whole_branch tokens isos l cs (drop c.loop-child.child-index cs) c.loop-child.choices.items none c.loop-child.invariant.rest ∙ ap (forms tokens isos) (sym tree) in
+    whole_branch tokens isos l cs (drop c.loop-child.child-index cs) c.loop-child.choices.items none c.loop-child.invariant.rest
+    ∙ ap (forms tokens isos) (sym tree) in
     subst (λ (xs : List Tree). IfOk c.branch_forms.result (λ (ts : List Tree). ts ≡ xs)) all c.branch_forms.ensures.all
 
 pub returns-after-loop-child-clause-refused : goal.returns-after-loop-child-clause-refused
@@ -73,5 +75,6 @@ returns-after-loop-child-clause-refused t c =
     let tree : c.args.tree.now ≡ Branch l cs = c.in-Branch.is ∙ ap (Branch l) (sym c.as_slice-child-items.ensures) in
     let none : drop c.loop-child.child-index cs ≡ [] = drop_all c.loop-child.child-index cs (omega arith) in
     let all : of_choices tokens isos l c.loop-child.choices.items ≡ forms tokens isos c.args.tree.now =
-    whole_branch tokens isos l cs (drop c.loop-child.child-index cs) c.loop-child.choices.items none c.loop-child.invariant.rest ∙ ap (forms tokens isos) (sym tree) in
+    whole_branch tokens isos l cs (drop c.loop-child.child-index cs) c.loop-child.choices.items none c.loop-child.invariant.rest
+    ∙ ap (forms tokens isos) (sym tree) in
     subst (λ (xs : List Tree). IfErr c.branch_forms.result (Refused c.args.limit xs)) all c.branch_forms.ensures.refused

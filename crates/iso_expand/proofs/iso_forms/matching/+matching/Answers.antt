@@ -18,6 +18,7 @@ all_match-loop-i-preserved t c =
     subst (λ b. Answers b c.matches.new.bound (m c.index-sides-i.result c.index-trees-i.result c.loop-i.bound)) c.if-not-branch.false c.in_ok-matches.ensures in
     record {
       even = even;
-      rest = each_more m c.args.sides.now c.args.trees.now c.loop-i.i c.index-sides-i.result c.index-trees-i.result c.loop-i.bound c.matches.new.bound here there
+      rest = each_more m c.args.sides.now c.args.trees.now c.loop-i.i c.index-sides-i.result c.index-trees-i.result
+          c.loop-i.bound c.matches.new.bound here there
           c.index-sides-i.is c.index-trees-i.is found ∙ c.loop-i.invariant.rest;
     }

@@ -39,7 +39,8 @@ returns-in_err-add_targets-clause-refused c t at =
     c.first_id-id.ensures tree found in
     let p = err_from_is_err_and c.from_residual-in_err-add_targets.result c.from_residual-in_err-add_targets.ensures.1 in
     rw (p.1, p.2) (refused_more c.args.limit one all c.in_err-add_targets.field-0.0
-    (extends-along one (with_forms one rest) all (forms-extend one rest) (sym (side_more tokens iso t iso.sides i s list here is) ∙ c.loop-i.invariant.rest t at))
+    (extends-along one (with_forms one rest) all (forms-extend one rest)
+    (sym (side_more tokens iso t iso.sides i s list here is) ∙ c.loop-i.invariant.rest t at))
     (refused_along c.args.limit (with_forms list made_by) one c.in_err-add_targets.field-0.0 same c.in_err-add_targets.ensures.refused))
 
 pub loop-i-preserved : goal.loop-i-preserved
@@ -63,9 +64,11 @@ loop-i-preserved c =
                 (extends-along list (with_forms list made_by) c.match-branch-2.forms.list (forms-extend list made_by) (sym k.1));
             rest = λ t at.
                 let tree : u ≡ t =
-                tree_along base list c.as_slice.result.now c.args.k t u c.loop-i.invariant.extends c.requires.within at c.as_slice.ensures c.index-as_slice-k.is in
+                tree_along base list c.as_slice.result.now c.args.k t u c.loop-i.invariant.extends c.requires.within at
+                c.as_slice.ensures c.index-as_slice-k.is in
                 let found : replaced tokens iso.vars s t ≡ Some w.in-Some.bound =
-                replaced_along tokens iso.vars c.as_slice-in-loop-i.result.now s t u c.in_ok-bound.field-0 (Some w.in-Some.bound) c.as_slice-in-loop-i.ensures tree
+                replaced_along tokens iso.vars c.as_slice-in-loop-i.result.now s t u c.in_ok-bound.field-0
+                (Some w.in-Some.bound) c.as_slice-in-loop-i.ensures tree
                 c.in_ok-bound.ensures w.in-Some.is in
                 let same : with_forms list made_by ≡ with_forms list (targets iso t i (replaced tokens iso.vars s t)) =
                 targets_along iso list w.in-Some.bound w.as_slice-in-Some.result.now c.first_id-id.result i t u (replaced tokens iso.vars s t)
@@ -80,10 +83,12 @@ loop-i-preserved c =
             extends = extends-along base list c.match-branch-2.forms.list c.loop-i.invariant.extends (sym k.1);
             rest = λ t at.
                 let tree : u ≡ t =
-                tree_along base list c.as_slice.result.now c.args.k t u c.loop-i.invariant.extends c.requires.within at c.as_slice.ensures c.index-as_slice-k.is in
+                tree_along base list c.as_slice.result.now c.args.k t u c.loop-i.invariant.extends c.requires.within at
+                c.as_slice.ensures c.index-as_slice-k.is in
                 let none : c.in_ok-bound.field-0 ≡ None = none_of c.in_ok-bound.field-0 w.in_default.not-Some in
                 let found : replaced tokens iso.vars s t ≡ None =
-                replaced_along tokens iso.vars c.as_slice-in-loop-i.result.now s t u c.in_ok-bound.field-0 None c.as_slice-in-loop-i.ensures tree c.in_ok-bound.ensures none in
+                replaced_along tokens iso.vars c.as_slice-in-loop-i.result.now s t u c.in_ok-bound.field-0 None
+                c.as_slice-in-loop-i.ensures tree c.in_ok-bound.ensures none in
                 ap (λ (l : List Tree). with_forms l (by_sides tokens iso t (i + 1) (drop (i + 1) iso.sides)))
                 (k.1 ∙ ap (λ (o : Option (List Bound)). with_forms list (targets iso t i o)) (sym found))
                 ∙ sym (side_more tokens iso t iso.sides i s list here is) ∙ c.loop-i.invariant.rest t at;

@@ -11,5 +11,6 @@ invariant-loop-i l = record {
   has : Has l.limit l.forms l.forms.list;
   extends : Extends l.initial.forms.list l.forms.list;
   rest : (t : Tree) → slice_get l.initial.forms.list l.k ≡ Some t
-      → with_forms l.forms.list (by_sides l.tokens l.iso t l.i (drop l.i l.iso.sides)) ≡ with_forms l.initial.forms.list (by_sides l.tokens l.iso t 0 l.iso.sides);
+      → with_forms l.forms.list (by_sides l.tokens l.iso t l.i (drop l.i l.iso.sides))
+      ≡ with_forms l.initial.forms.list (by_sides l.tokens l.iso t 0 l.iso.sides);
 }

@@ -25,7 +25,8 @@ returns-in_err-add-clause-refused c =
     let more = target_more iso.both bound c.args.id c.args.i iso.sides j s c.in_ok-tree.tree list here is may c.in_ok-tree.ensures in
     let p = err_from_is_err_and c.from_residual-in_err-add.result c.from_residual-in_err-add.ensures.1 in
     rw (p.1, p.2) (refused_more c.args.limit (with_form list c.in_ok-tree.tree) all c.in_err-add.field-0.0
-    (extends-along (with_form list c.in_ok-tree.tree) (with_forms (with_form list c.in_ok-tree.tree) rest) all (forms-extend (with_form list c.in_ok-tree.tree) rest)
+    (extends-along (with_form list c.in_ok-tree.tree) (with_forms (with_form list c.in_ok-tree.tree) rest) all
+    (forms-extend (with_form list c.in_ok-tree.tree) rest)
     (sym more ∙ c.loop-j.invariant.rest)) c.in_err-add.ensures.refused)
 
 pub loop-j-preserved : goal.loop-j-preserved

@@ -7,5 +7,7 @@ pub returns : goal.returns
 returns c =
     let same : c.in_ok-key.key.items ≡ c.args.name.now = c.in_ok-key.ensures.items in
     let absent : has_name c.args.self.now c.args.name.now ≡ false = cc (c.if-has.ensures, c.has.ensures) in
-    let new : has_name (map (λ k. k.items) c.self.inside.set.keys) c.args.name.now ≡ false = ap (λ names. has_name names c.args.name.now) c.self.view_is ∙ absent in
-    rw (← c.self.view_is) (ap (map (λ k. k.items)) c.in_ok-insert.ensures.keys ∙ put-new (λ k. k.items) c.self.inside.set.keys c.in_ok-key.key c.args.name.now same new)
+    let new : has_name (map (λ k. k.items) c.self.inside.set.keys) c.args.name.now ≡ false =
+    ap (λ names. has_name names c.args.name.now) c.self.view_is ∙ absent in
+    rw (← c.self.view_is) (ap (map (λ k. k.items)) c.in_ok-insert.ensures.keys
+    ∙ put-new (λ k. k.items) c.self.inside.set.keys c.in_ok-key.key c.args.name.now same new)

@@ -15,5 +15,6 @@ loop-t-preserved c text =
           held_step c.args.tokens.now c.loop-t.t-index t c.loop-t.held c.if-is_name.held text c.loop-t-test.true c.t-item.is name more (c.loop-t.invariant text)
       | else-is_name w ↦
           let name : is_name t ≡ false = cc (c.is_name.ensures.value, w.if-is_name.false) in
-          held_skip c.args.tokens.now c.loop-t.t-index t c.loop-t.held c.if-is_name.held text c.loop-t-test.true c.t-item.is name w.held-is (c.loop-t.invariant text)
+          held_skip c.args.tokens.now c.loop-t.t-index t c.loop-t.held c.if-is_name.held text c.loop-t-test.true c.t-item.is
+          name w.held-is (c.loop-t.invariant text)
     ]

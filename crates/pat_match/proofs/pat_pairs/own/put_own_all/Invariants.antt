@@ -10,6 +10,7 @@ abbrev pub invariant-loop-i : goal.invariant-loop-i
 invariant-loop-i l = record {
   even : length l.forms ≡ length l.trees;
   fits : own_fit (is_own l.kind l.label (length l.forms)) l.i (map (piece l.decls l.tokens (total l.env)) (drop l.i l.forms)) (drop l.i l.trees) ≡ true;
-  found : l.found.items ++ numbers (own_pairs (is_own l.kind l.label (length l.forms)) l.i (map (piece l.decls l.tokens (total l.env)) (drop l.i l.forms)) (drop l.i l.trees))
+  found : l.found.items ++ numbers (own_pairs (is_own l.kind l.label (length l.forms)) l.i
+      (map (piece l.decls l.tokens (total l.env)) (drop l.i l.forms)) (drop l.i l.trees))
       ≡ l.initial.found.items ++ numbers (own_pairs (is_own l.kind l.label (length l.forms)) 0 (map (piece l.decls l.tokens (total l.env)) l.forms) l.trees);
 }

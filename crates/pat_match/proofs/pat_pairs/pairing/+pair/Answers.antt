@@ -4,7 +4,8 @@ use Rattle.std.specs.Option.{option_copied}
 use Rattle.smpl_terms.specs.Environments.{total}
 use Rattle.pat_match.specs.Fitting.{piece, alignment}
 use Rattle.pat_match.specs.PatPairs.Pairs.{numbers}
-use Rattle.pat_match.proofs.PatPairs.PairLemmas.{all_fit-even, all_next, zip_step, first_none, first_here, first_past, next_fits, next_found, next_comma, next_single}
+use Rattle.pat_match.proofs.PatPairs.PairLemmas.{all_fit-even, all_next, zip_step, first_none, first_here, first_past}
+use Rattle.pat_match.proofs.PatPairs.PairLemmas.{next_fits, next_found, next_comma, next_single}
 use Rattle.pat_match.proofs.pat_pairs.pairing.+pair.Goals as goal
 
 pub put_all-loop-i-init : goal.put_all-loop-i-init

@@ -9,7 +9,8 @@ returns-in-Some c =
     let inside = c.self.inside in
     let name = c.args.name.now in
     let i = c.in-Some.i.now in
-    let e : Some i ≡ number_in (pairs (λ k. k.items) inside.numbers.entries) name = c.in-Some.ensures.value ∙ found (λ k. k.items) name inside.numbers.entries in
+    let e : Some i ≡ number_in (pairs (λ k. k.items) inside.numbers.entries) name =
+    c.in-Some.ensures.value ∙ found (λ k. k.items) name inside.numbers.entries in
     c.numbered.ensures ∙ ap (λ ds. slice_get ds i) c.as_slice.ensures ∙ ap (at inside.decls) e ∙ c.self.invariant name
     ∙ ap (λ ds. declared_as ds name) c.self.view_is
 

@@ -16,5 +16,6 @@ loop-b-preserved c y n h =
 
 pub returns : goal.returns
 returns c y n h =
-    counted-all (reading_at c.args.reader.now) c.loop-b.counted c.args.bs.now c.loop-b.b-index y (n + bodies_with (reading_at c.args.reader.now) (bodies c.args.bs.now) y)
+    counted-all (reading_at c.args.reader.now) c.loop-b.counted c.args.bs.now c.loop-b.b-index y
+    (n + bodies_with (reading_at c.args.reader.now) (bodies c.args.bs.now) y)
     (omega arith) (c.loop-b.invariant y n h)

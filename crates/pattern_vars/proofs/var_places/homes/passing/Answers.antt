@@ -16,7 +16,8 @@ loop-i-preserved c y =
     let l : c.loop-i.i < length vars = omega arith in
     let one : Var → Bool = λ v. passes c.args.again (value_of c.args.homes.now.entries v) && same_var v y in
     any-step one (λ (vs : List Var). list_any one vs) (λ v vs. refl) vars c.loop-i.i c.at.result.now
-    (has c.loop-i.found y) (has c.put_passing.new.set y) _ l (element_at vars c.loop-i.i c.at.result.now l c.at.ensures) (c.in_ok-put_passing.ensures y) (c.loop-i.invariant y)
+    (has c.loop-i.found y) (has c.put_passing.new.set y) _ l (element_at vars c.loop-i.i c.at.result.now l c.at.ensures)
+    (c.in_ok-put_passing.ensures y) (c.loop-i.invariant y)
 
 pub returns : goal.returns
 returns c y =

@@ -13,10 +13,12 @@ loop-i-preserved c y =
     let vars = c.args.vars.now in
     let home : Var → Home = λ v. record { place = c.args.place; here = true; again = true } in
     let l : c.loop-i.i < length vars = omega arith in
-    each-step home vars c.loop-i.i c.at.result.now y (value_of c.loop-i.homes.entries y) (value_of c.put_home.new.homes.entries y) (value_of c.args.homes.now.entries y)
+    each-step home vars c.loop-i.i c.at.result.now y (value_of c.loop-i.homes.entries y)
+    (value_of c.put_home.new.homes.entries y) (value_of c.args.homes.now.entries y)
     l c.at.ensures (c.loop-i.invariant y) (c.in_ok-put_home.ensures y)
 
 pub returns : goal.returns
 returns c y =
     let home : Var → Home = λ v. record { place = c.args.place; here = true; again = true } in
-    each-end c.args.vars.now c.loop-i.i y (Some (home y)) (value_of c.args.homes.now.entries y) (value_of c.loop-i.homes.entries y) (omega arith) (c.loop-i.invariant y)
+    each-end c.args.vars.now c.loop-i.i y (Some (home y)) (value_of c.args.homes.now.entries y)
+    (value_of c.loop-i.homes.entries y) (omega arith) (c.loop-i.invariant y)

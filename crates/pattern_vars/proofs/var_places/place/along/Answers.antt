@@ -11,7 +11,8 @@ loop-share-init c =
 pub overflow_add-count : goal.overflow_add-count
 overflow_add-count c =
     let scope = joined c.args.inside.now.outer in
-    let within = scoped-within c.args.shares.now scope c.args.inside.now.vars c.loop-share.share-index c.loop-share.count c.loop-share.found.items c.share-item.result
+    let within = scoped-within c.args.shares.now scope c.args.inside.now.vars c.loop-share.share-index c.loop-share.count
+    c.loop-share.found.items c.share-item.result
     c.loop-share-test.true c.share-item.is c.loop-share.invariant in
     omega (arith, within, c.len-count.ensures, c.requires.fits)
 
@@ -25,4 +26,5 @@ loop-share-preserved c =
 pub returns : goal.returns
 returns c =
     let scope = joined c.args.inside.now.outer in
-    scoped-end c.args.shares.now scope c.args.inside.now.vars c.loop-share.share-index c.loop-share.count c.loop-share.found.items (omega arith) c.loop-share.invariant
+    scoped-end c.args.shares.now scope c.args.inside.now.vars c.loop-share.share-index c.loop-share.count
+    c.loop-share.found.items (omega arith) c.loop-share.invariant

@@ -18,5 +18,7 @@ loop-x-init c = c.in_ok-found.ensures ∙ sym (sorted-none (home_in (reading_at 
 
 pub loop-x-preserved : goal.loop-x-preserved
 loop-x-preserved c =
-    sorted-step (home_in (reading_at c.args.reader.now) 0 (body c.args.b.now)) (body c.args.b.now) c.args.vars.now c.loop-x.x-index c.x-item.result c.in_ok-home.home
-    c.loop-x.found.items c.put_var.new.shares.items c.loop-x-test.true c.x-item.is (c.in_ok-home.ensures ∙ c.in_ok-homes.ensures c.x-item.result) c.loop-x.invariant c.in_ok-put_var.ensures
+    sorted-step (home_in (reading_at c.args.reader.now) 0 (body c.args.b.now))
+    (body c.args.b.now) c.args.vars.now c.loop-x.x-index c.x-item.result c.in_ok-home.home
+    c.loop-x.found.items c.put_var.new.shares.items c.loop-x-test.true c.x-item.is
+    (c.in_ok-home.ensures ∙ c.in_ok-homes.ensures c.x-item.result) c.loop-x.invariant c.in_ok-put_var.ensures

@@ -32,19 +32,23 @@ put_body-loop-e-preserved t c y =
 pub put_body-returns : goal.put_body-returns
 put_body-returns t c y =
     let test : Pattern → Bool = λ p. reads_by c.args.reader.now c.args.plus p y in
-    any-end (λ (es : List Elem). placing.any_body c.args.whens test (body es)) refl c.args.b.now c.loop-e.e-index (has c.loop-e.set y) _ (omega arith) (c.loop-e.invariant y)
+    any-end (λ (es : List Elem). placing.any_body c.args.whens test (body es)) refl c.args.b.now c.loop-e.e-index
+    (has c.loop-e.set y) _ (omega arith) (c.loop-e.invariant y)
 
 pub put_bodies-loop-b-preserved : goal.put_bodies-loop-b-preserved
 put_bodies-loop-b-preserved t c y =
     let test : Pattern → Bool = λ p. reads_by c.args.reader.now c.args.plus p y in
-    any-step (λ (b : List Elem). placing.any_body c.args.whens test (body b)) (λ (bs : List (List Elem)). placing.any_bodies c.args.whens test (bodies bs)) (λ x xs. refl)
+    any-step (λ (b : List Elem). placing.any_body c.args.whens test (body b))
+    (λ (bs : List (List Elem)). placing.any_bodies c.args.whens test (bodies bs)) (λ x xs. refl)
     c.args.bs.now c.loop-b.b-index c.b-item.result (has c.loop-b.set y) (has c.put_body.new.set y) _ c.loop-b-test.true c.b-item.is
-    (c.in_ok-put_body.ensures y ∙ ap (λ (z : List Elem). has c.loop-b.set y || placing.any_body c.args.whens test (body z)) c.as_slice.ensures) (c.loop-b.invariant y)
+    (c.in_ok-put_body.ensures y ∙ ap (λ (z : List Elem). has c.loop-b.set y || placing.any_body c.args.whens test (body z))
+    c.as_slice.ensures) (c.loop-b.invariant y)
 
 pub put_bodies-returns : goal.put_bodies-returns
 put_bodies-returns t c y =
     let test : Pattern → Bool = λ p. reads_by c.args.reader.now c.args.plus p y in
-    any-end (λ (bs : List (List Elem)). placing.any_bodies c.args.whens test (bodies bs)) refl c.args.bs.now c.loop-b.b-index (has c.loop-b.set y) _ (omega arith) (c.loop-b.invariant y)
+    any-end (λ (bs : List (List Elem)). placing.any_bodies c.args.whens test (bodies bs)) refl c.args.bs.now c.loop-b.b-index
+    (has c.loop-b.set y) _ (omega arith) (c.loop-b.invariant y)
 
 pub put_compound-returns : goal.put_compound-returns
 put_compound-returns t c y =
@@ -52,7 +56,8 @@ put_compound-returns t c y =
     let head = test c.args.h.now in
     let inside = placing.any_bodies c.args.whens test (bodies c.args.bs.now) in
     put-two (has c.args.set.now y) (has c.put_bodies.new.set y) (has c.put_option.new.set y) (head || inside) (placing.any_option test c.args.tail.now)
-    (put-two (has c.args.set.now y) (has c.put_pattern.new.set y) (has c.put_bodies.new.set y) head inside (c.in_ok-put_pattern.ensures y) (c.in_ok-put_bodies.ensures y))
+    (put-two (has c.args.set.now y) (has c.put_pattern.new.set y) (has c.put_bodies.new.set y) head inside
+    (c.in_ok-put_pattern.ensures y) (c.in_ok-put_bodies.ensures y))
     (c.in_ok-put_option.ensures y)
 
 pub put_block-returns : goal.put_block-returns
@@ -61,7 +66,8 @@ put_block-returns t c y =
     let head = test c.args.o.now in
     let inside = placing.any_body c.args.whens test (body c.args.b.now) in
     put-two (has c.args.set.now y) (has c.put_body.new.set y) (has c.put_pattern-2.new.set y) (head || inside) (test c.args.c.now)
-    (put-two (has c.args.set.now y) (has c.put_pattern.new.set y) (has c.put_body.new.set y) head inside (c.in_ok-put_pattern.ensures y) (c.in_ok-put_body.ensures y))
+    (put-two (has c.args.set.now y) (has c.put_pattern.new.set y) (has c.put_body.new.set y) head inside
+    (c.in_ok-put_pattern.ensures y) (c.in_ok-put_body.ensures y))
     (c.in_ok-put_pattern-2.ensures y)
 
 pub put_nest-returns : goal.put_nest-returns

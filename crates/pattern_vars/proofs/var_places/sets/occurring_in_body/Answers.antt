@@ -14,5 +14,6 @@ returns c y =
     let stands : Pattern → Bool = λ p. reads_by c.args.reader.now false p y in
     let first = placing.any_body false used (body c.args.b.now) in
     let second = placing.any_body true stands (body c.args.b.now) in
-    put-two (has c.new-set.result y) (has c.put_body.new.set y) (has c.put_body-2.new.set y) first second (c.in_ok-put_body.ensures y) (c.in_ok-put_body-2.ensures y)
+    put-two (has c.new-set.result y) (has c.put_body.new.set y) (has c.put_body-2.new.set y) first second
+    (c.in_ok-put_body.ensures y) (c.in_ok-put_body-2.ensures y)
     ∙ ap (λ (vs : List Var). has vs y || (first || second)) c.new-set.ensures

@@ -19,7 +19,8 @@ returns-then-not-has_tree-clause-text c =
     let items = c.args.file.now.items in
     let pieces = c.args.file.now.pieces in
     let e : c.has_tree.result ≡ false = grind (arith, common_steps) in
-    let short : length (text_of pieces) ≤ 16777216 = subst (λ (ps : List TextPiece). length (text_of ps) ≤ 16777216) c.lexed.ensures.lexed c.nothing_new.ensures.short in
+    let short : length (text_of pieces) ≤ 16777216 =
+    subst (λ (ps : List TextPiece). length (text_of ps) ≤ 16777216) c.lexed.ensures.lexed c.nothing_new.ensures.short in
     subst (λ (left : Option NewText). (edits : List Edit) × (AreEdits found rule items (kinds_of items) pieces edits × Leaves c.args.next pieces edits left))
     (sym c.nothing_new.ensures.none)
     (nothing_leaves found rule items (kinds_of items) c.args.next pieces (sym c.has_tree.ensures ∙ e) short)

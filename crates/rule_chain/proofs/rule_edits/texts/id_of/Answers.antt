@@ -22,13 +22,15 @@ loop-i-preserved c =
           record {
             passed = omega arith;
             rest = ap (λ n. slice_get (ids_of (drop (i + 1) pieces)) (c.args.token - n)) w.number-is
-                ∙ sym (word_passed pieces i c.piece.result.kind _ c.piece.ensures.piece w.in-Word.field-0 w.in-Word.id c.args.token c.loop-i.number w.in-Word.is lt)
+                ∙ sym (word_passed pieces i c.piece.result.kind _ c.piece.ensures.piece w.in-Word.field-0 w.in-Word.id
+                c.args.token c.loop-i.number w.in-Word.is lt)
                 ∙ c.loop-i.invariant.rest;
           }
       | in_default w ↦ record {
         passed = omega arith;
         rest = ap (λ n. slice_get (ids_of (drop (i + 1) pieces)) (c.args.token - n)) w.number-is
-            ∙ ap (λ ids. slice_get ids (c.args.token - c.loop-i.number)) (sym (no_word pieces i c.piece.result.kind _ c.piece.ensures.piece (λ k id. w.in_default.not-Word k id)))
+            ∙ ap (λ ids. slice_get ids (c.args.token - c.loop-i.number))
+            (sym (no_word pieces i c.piece.result.kind _ c.piece.ensures.piece (λ k id. w.in_default.not-Word k id)))
             ∙ c.loop-i.invariant.rest;
       }
     ]

@@ -15,35 +15,41 @@ loop-s-init c = ap (map bare_witness) c.none-found.ensures.none
 pub at-set-requires-clause-node : goal.at-set-requires-clause-node
 at-set-requires-clause-node c =
     let p = item_at c.as_slice-s-items.result.now c.args.matched.now.nodes c.loop-s.s-index c.as_slice-s-items.ensures c.loop-s-test.true in
-    let within = matched_within c.args.g.now c.args.f.now c.args.matched.now.sets c.args.matched.now.nodes c.requires.matched c.loop-s.s-index (get_or c.as_slice-s-items.result.now c.loop-s.s-index 0) p.0 p.1 in
+    let within = matched_within c.args.g.now c.args.f.now c.args.matched.now.sets c.args.matched.now.nodes c.requires.matched
+    c.loop-s.s-index (get_or c.as_slice-s-items.result.now c.loop-s.s-index 0) p.0 p.1 in
     let row = c.requires.matched.sets.nodes c.root-root.result c.root-root.ensures.within in
     omega (arith, within, row)
 
 pub with_node-requires-clause-node : goal.with_node-requires-clause-node
 with_node-requires-clause-node c =
     let p = item_at c.as_slice-s-items.result.now c.args.matched.now.nodes c.loop-s.s-index c.as_slice-s-items.ensures c.loop-s-test.true in
-    matched_within c.args.g.now c.args.f.now c.args.matched.now.sets c.args.matched.now.nodes c.requires.matched c.loop-s.s-index (get_or c.as_slice-s-items.result.now c.loop-s.s-index 0) p.0 p.1
+    matched_within c.args.g.now c.args.f.now c.args.matched.now.sets c.args.matched.now.nodes c.requires.matched
+    c.loop-s.s-index (get_or c.as_slice-s-items.result.now c.loop-s.s-index 0) p.0 p.1
 
 pub with_node-requires-clause-told : goal.with_node-requires-clause-told
 with_node-requires-clause-told c =
     let p = item_at c.as_slice-s-items.result.now c.args.matched.now.nodes c.loop-s.s-index c.as_slice-s-items.ensures c.loop-s-test.true in
-    let lt = matched_within c.args.g.now c.args.f.now c.args.matched.now.sets c.args.matched.now.nodes c.requires.matched c.loop-s.s-index (get_or c.as_slice-s-items.result.now c.loop-s.s-index 0) p.0 p.1 in
+    let lt = matched_within c.args.g.now c.args.f.now c.args.matched.now.sets c.args.matched.now.nodes c.requires.matched
+    c.loop-s.s-index (get_or c.as_slice-s-items.result.now c.loop-s.s-index 0) p.0 p.1 in
     set_told c.args.g.now c.args.f.now c.args.matched.now.sets c.count-count.ensures.sound c.requires.matched.sets c.root-root.result c.root-root.ensures.root
     c.root-root.ensures.within (get_or c.as_slice-s-items.result.now c.loop-s.s-index 0) lt c.at-set.result.now c.at-set.ensures.set
 
 pub with_node-requires-clause-leaves : goal.with_node-requires-clause-leaves
 with_node-requires-clause-leaves c =
     let p = item_at c.as_slice-s-items.result.now c.args.matched.now.nodes c.loop-s.s-index c.as_slice-s-items.ensures c.loop-s-test.true in
-    let lt = matched_within c.args.g.now c.args.f.now c.args.matched.now.sets c.args.matched.now.nodes c.requires.matched c.loop-s.s-index (get_or c.as_slice-s-items.result.now c.loop-s.s-index 0) p.0 p.1 in
+    let lt = matched_within c.args.g.now c.args.f.now c.args.matched.now.sets c.args.matched.now.nodes c.requires.matched
+    c.loop-s.s-index (get_or c.as_slice-s-items.result.now c.loop-s.s-index 0) p.0 p.1 in
     set_leaves c.args.g.now c.args.f.now c.args.matched.now.sets c.count-count.ensures.sound c.requires.matched.sets c.root-root.result c.root-root.ensures.root
-    c.root-root.ensures.within (get_or c.as_slice-s-items.result.now c.loop-s.s-index 0) lt c.at-set.result.now c.at-set.ensures.set c.requires.stand c.args.exports.now c.requires.binds
+    c.root-root.ensures.within (get_or c.as_slice-s-items.result.now c.loop-s.s-index 0) lt c.at-set.result.now
+    c.at-set.ensures.set c.requires.stand c.args.exports.now c.requires.binds
     c.args.env.now
 
 pub loop-s-preserved : goal.loop-s-preserved
 loop-s-preserved c =
     let p = item_at c.as_slice-s-items.result.now c.args.matched.now.nodes c.loop-s.s-index c.as_slice-s-items.ensures c.loop-s-test.true in
     nodes_more (λ s. witnesses_at c.args.f.now c.args.g.now c.args.exports.now c.args.rule c.args.item s c.args.env.now) c.args.matched.now.nodes
-    c.loop-s.found.witnesses c.in_ok-found.found.witnesses c.loop-s.s-index (get_or c.as_slice-s-items.result.now c.loop-s.s-index 0) p.0 p.1 c.loop-s.invariant c.in_ok-found.ensures.found
+    c.loop-s.found.witnesses c.in_ok-found.found.witnesses c.loop-s.s-index
+    (get_or c.as_slice-s-items.result.now c.loop-s.s-index 0) p.0 p.1 c.loop-s.invariant c.in_ok-found.ensures.found
 
 pub returns-in_err-found-clause-too_many : goal.returns-in_err-found-clause-too_many
 returns-in_err-found-clause-too_many c = λ h.
@@ -56,7 +62,8 @@ returns-in_err-found-clause-too_many c = λ h.
     subst (λ ws. 1000000 < nodes_of ws)
     (matched_all g f c.args.matched.now.sets nodes c.requires.matched c.count-count.ensures.sound low c.args.exports.now c.args.rule c.args.item c.args.env.now)
     (nodes_past (λ s. witnesses_at f g c.args.exports.now c.args.rule c.args.item s c.args.env.now) nodes
-    c.loop-s.found.witnesses c.loop-s.s-index (get_or c.as_slice-s-items.result.now c.loop-s.s-index 0) p.0 p.1 c.loop-s.invariant (c.in_err-found.ensures.too_many (cc (h, e.1, e.2))))
+    c.loop-s.found.witnesses c.loop-s.s-index
+    (get_or c.as_slice-s-items.result.now c.loop-s.s-index 0) p.0 p.1 c.loop-s.invariant (c.in_err-found.ensures.too_many (cc (h, e.1, e.2))))
 
 pub returns-clause-found : goal.returns-clause-found
 returns-clause-found c =
@@ -82,5 +89,6 @@ returns-clause-few c =
     nodes-same c.into_items.result (witnesses_of f g c.args.exports.now c.args.rule c.args.item c.args.env.now)
     (ap (map bare_witness) c.into_items.ensures.items ∙ c.loop-s.invariant ∙ ap all (take_all c.loop-s.s-index nodes end)
     ∙ ap (map bare_witness)
-    (matched_all g f c.args.matched.now.sets nodes c.requires.matched c.count-count.ensures.sound low c.args.exports.now c.args.rule c.args.item c.args.env.now)) in
+    (matched_all g f c.args.matched.now.sets nodes c.requires.matched c.count-count.ensures.sound low c.args.exports.now
+    c.args.rule c.args.item c.args.env.now)) in
     omega (arith, same, c.into_items.ensures.few)

@@ -21,14 +21,16 @@ loop-i-preserved t c =
     let k = is_kid c.args.tree.now c.index-children-i.result _ c.loop-i.i c.kids-children.ensures c.loop-i-test.true c.index-children-i.is in
     let p = kid_part f l c.args.tree.now c.index-children-i.result _ c.loop-i.i _ _ c.kids-children.ensures c.is_part.ensures c.if-not-is_part.false in
     let sum : c.in_ok-count.count ≡ c.loop-i.count + c.in_ok-more.more = search rules in
-    rw sum (counts-part f l c.args.tree.now c.index-children-i.result c.loop-i.count c.in_ok-more.more c.loop-i.i _ k p c.in_ok-more.ensures.value c.loop-i.invariant)
+    rw sum (counts-part f l c.args.tree.now c.index-children-i.result c.loop-i.count c.in_ok-more.more c.loop-i.i _ k p
+    c.in_ok-more.ensures.value c.loop-i.invariant)
 
 pub returns-clause-value : goal.returns-clause-value
 returns-clause-value t c =
     let f = c.form_at-form.result in
     let l = c.label_at-label.result in
     let n = counts-end f l c.args.tree.now _ c.loop-i.count c.loop-i.i _ c.kids-children.ensures c.loop-i-test.false c.loop-i.invariant in
-    let e : c.loop-i.count + c.after.result ≡ atoms c.args.tree.now = atoms-done c.args.tree.now f l c.loop-i.count c.after.result c.form_at-form.ensures c.label_at-label.ensures n c.after.ensures in
+    let e : c.loop-i.count + c.after.result ≡ atoms c.args.tree.now =
+    atoms-done c.args.tree.now f l c.loop-i.count c.after.result c.form_at-form.ensures c.label_at-label.ensures n c.after.ensures in
     search rules
 
 pub returns-clause-many : goal.returns-clause-many
@@ -36,7 +38,8 @@ returns-clause-many t c =
     let f = c.form_at-form.result in
     let l = c.label_at-label.result in
     let n = counts-end f l c.args.tree.now _ c.loop-i.count c.loop-i.i _ c.kids-children.ensures c.loop-i-test.false c.loop-i.invariant in
-    let e : c.loop-i.count + c.after.result ≡ atoms c.args.tree.now = atoms-done c.args.tree.now f l c.loop-i.count c.after.result c.form_at-form.ensures c.label_at-label.ensures n c.after.ensures in
+    let e : c.loop-i.count + c.after.result ≡ atoms c.args.tree.now =
+    atoms-done c.args.tree.now f l c.loop-i.count c.after.result c.form_at-form.ensures c.label_at-label.ensures n c.after.ensures in
     search rules
 
 pub returns-in_err-more-clause-many : goal.returns-in_err-more-clause-many

@@ -20,7 +20,8 @@ loop-i-preserved g t c =
     let p = kid_part f l tree child _ c.loop-i.i _ _ c.kids-children.ensures c.is_part.ensures c.if-not-is_part.false in
     record {
       counts = rw c.in_ok-part.ensures.next (counts-part f l tree child c.loop-i.next (atoms child) c.loop-i.i _ k p refl c.loop-i.invariant.counts);
-      makes = makes-part f l tree (g.C.DotsSource.dots_at c.args.clauses.now) child c.loop-i.next c.in_ok-part.part.next c.loop-i.i c.loop-i.parts.items c.push.new.self.items _
+      makes = makes-part f l tree (g.C.DotsSource.dots_at c.args.clauses.now) child c.loop-i.next c.in_ok-part.part.next
+          c.loop-i.i c.loop-i.parts.items c.push.new.self.items _
           c.in_ok-part.part.elems k p c.in_ok-part.ensures.elems c.in_ok-part.ensures.next c.in_ok-push.ensures.items c.loop-i.invariant.makes;
     }
 

@@ -16,7 +16,8 @@ of-requires g c =
     let at : c.place-at.result ≡ place_of c.args.v.now c.args.self.now = c.place-at.ensures ∙ ap (place_of c.args.v.now) (c.deref.ensures.value ∙ copies g c) in
     record {
       rising =
-          subst Rising (sym (c.in_ok-insert.ensures.items ∙ (λ i. insert (copies g c i) c.place-at.result (c.in_ok-copy.ensures.same i, c.in_ok-copied.field-0))))
+          subst Rising (sym (c.in_ok-insert.ensures.items
+          ∙ (λ i. insert (copies g c i) c.place-at.result (c.in_ok-copy.ensures.same i, c.in_ok-copied.field-0))))
           (Rising-insert_at c.args.v.now c.in_ok-copied.field-0 (c.args.v.now, c.in_ok-copied.field-0) c.args.self.now c.place-at.result at
           c.pairs.ensures.rising
           (absent_at c.args.self.now c.place-at.result c.args.v.now (c.args.v.now, c.in_ok-copied.field-0) c.requires.absent));

@@ -21,7 +21,8 @@ witness_order-returns-in_default-order_of_values t c =
     let a = c.in-Bind in
     let b = c.in-Bind-b-2 in
     let e : Equal ≡ nat_cmp a.n b.m = cc in
-    let h = order-by-value c.args.decls.now a.n a.x a.v a.fs b.m b.y b.u b.us e c.order_of_values.result c.order_of_values.ensures c.in_default-order_of_values.not-Equal in
+    let h = order-by-value c.args.decls.now a.n a.x a.v a.fs b.m b.y b.u b.us e c.order_of_values.result
+    c.order_of_values.ensures c.in_default-order_of_values.not-Equal in
     record { value = cc }
 
 pub order_of_forests-returns : goal.order_of_forests-returns

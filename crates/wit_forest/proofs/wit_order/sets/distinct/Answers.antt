@@ -12,11 +12,13 @@ use Rattle.wit_forest.proofs.wit_order.sets.distinct.Goals as goal
 
 pub without_repeats-requires : goal.without_repeats-requires
 without_repeats-requires c = record {
-  sorted = c.sort_unstable_by.ensures.sorted (λ v w. is_lt (witness_order c.args.decls.now v w)) (ranks_by (witness_order_total c.args.decls.now) (λ v. v)) (always_returns_same _ _ _ (λ a r f k. search rules));
+  sorted = c.sort_unstable_by.ensures.sorted (λ v w. is_lt (witness_order c.args.decls.now v w))
+      (ranks_by (witness_order_total c.args.decls.now) (λ v. v)) (always_returns_same _ _ _ (λ a r f k. search rules));
 }
 
 pub returns-clause-trees : goal.returns-clause-trees
 returns-clause-trees c =
     IfOk-weaker c.without_repeats.result (λ r. HaveSame r.items c.sort_unstable_by.new.self.items) (λ r. HaveSame r.items c.args.trees.items)
-    (λ r h z. h z ∙ sym (list_any-IsPermutation (λ u. same_witness u z) c.args.trees.items c.sort_unstable_by.new.self.items c.sort_unstable_by.ensures.permutation))
+    (λ r h z. h z ∙ sym (list_any-IsPermutation
+    (λ u. same_witness u z) c.args.trees.items c.sort_unstable_by.new.self.items c.sort_unstable_by.ensures.permutation))
     c.without_repeats.ensures.trees

@@ -6,7 +6,8 @@ use Rattle.wit_forest.proofs.WitOrder.RiseLemmas.{Rise-push, before_sorted, empt
 use Rattle.wit_forest.proofs.wit_order.sets.is_last.Goals as goal
 
 pub returns-then-is_empty-clause-rise : goal.returns-then-is_empty-clause-rise
-returns-then-is_empty-clause-rise c = λ _ _ _. empty_push c.args.decls.now c.args.kept.now c.args.w.now (no_items (length c.args.kept.now) c.if-is_empty.ensures)
+returns-then-is_empty-clause-rise c = λ _ _ _. empty_push c.args.decls.now c.args.kept.now c.args.w.now
+    (no_items (length c.args.kept.now) c.if-is_empty.ensures)
 
 pub returns-clause-known : goal.returns-clause-known
 returns-clause-known c = λ h z.

@@ -18,16 +18,19 @@ loop-w-preserved c =
     let decls = c.args.decls.now in
     let items = c.args.trees.items in
     let n = length c.loop-w.yielded in
-    let t = YieldsList-turn (YieldsList-from_vec items (search rules) (search rules)) c.loop-w.yielded c.loop-w.w-iterator c.loop-w.yielded_by c.next.result c.next.new.self w c.in-Some.is c.next.ensures.steps in
+    let t = YieldsList-turn (YieldsList-from_vec items (search rules) (search rules)) c.loop-w.yielded c.loop-w.w-iterator
+    c.loop-w.yielded_by c.next.result c.next.new.self w c.in-Some.is c.next.ensures.steps in
     let next : length (c.loop-w.yielded ++ w ∷ []) ≡ n + 1 = length_push c.loop-w.yielded w in
     record {
-      trees = λ z. c.in_ok-put_new.ensures.trees z ∙ ap (λ b. b || same_witness w z) (c.loop-w.invariant.trees z) ∙ sym (any_push (λ u. same_witness u z) c.loop-w.yielded w);
+      trees = λ z. c.in_ok-put_new.ensures.trees z ∙ ap (λ b. b || same_witness w z) (c.loop-w.invariant.trees z)
+          ∙ sym (any_push (λ u. same_witness u z) c.loop-w.yielded w);
       among = λ q h.
           let parts = both_parts _ _ (sym (ap (λ k. list_all q (take k items)) next ∙ all_step q items w n t.0 t.1) ∙ h) in
           c.in_ok-put_new.ensures.among q (c.loop-w.invariant.among q parts.0) parts.1;
       rise = c.in_ok-put_new.ensures.rise
           (c.loop-w.invariant.among (λ u. not (is_lt (witness_order decls w u)))
           (none_above decls items n w (λ i lt. ap (λ a. is_lt (witness_order decls a (get_or items i w))) t.1
-          ∙ sorted_far (λ x y. is_lt (witness_order decls x y)) (ranks_by (witness_order_total decls) (λ u. u)) items c.requires.sorted i n w (omega arith) t.0) (omega (arith, t.0))))
+          ∙ sorted_far (λ x y. is_lt (witness_order decls x y))
+          (ranks_by (witness_order_total decls) (λ u. u)) items c.requires.sorted i n w (omega arith) t.0) (omega (arith, t.0))))
           c.loop-w.invariant.rise;
     }

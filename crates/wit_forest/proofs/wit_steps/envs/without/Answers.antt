@@ -16,4 +16,5 @@ returns-then-not-has c =
 pub loop-p-preserved : goal.loop-p-preserved
 loop-p-preserved c =
     let lt : c.loop-p.p-index < length c.pairs-p-items.result.now = omega arith in
-    without_next c.pairs-p-items.result.now c.loop-p.p-index c.loop-p.rest c.in_ok-rest.rest c.p-item.result c.args.x.now lt c.p-item.is c.loop-p.invariant c.in_ok-rest.ensures
+    without_next c.pairs-p-items.result.now c.loop-p.p-index c.loop-p.rest c.in_ok-rest.rest c.p-item.result c.args.x.now lt
+    c.p-item.is c.loop-p.invariant c.in_ok-rest.ensures

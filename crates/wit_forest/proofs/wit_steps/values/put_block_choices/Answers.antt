@@ -39,7 +39,8 @@ loop-block-preserved c =
     let lt : c.loop-block.block-index < length c.args.blocks.now = omega arith in
     record {
       values = λ z. block_more c.args.x.now (total c.args.env.now) bs c.loop-block.block-index _ c.block-item.result c.as_slice.result.now z
-          (list_any (λ u. same u z) c.args.values.now.items) (list_any (λ u. same u z) c.loop-block.values.items) _ lt c.block-item.is (omega arith) c.as_slice.ensures.items
+          (list_any (λ u. same u z) c.args.values.now.items)
+          (list_any (λ u. same u z) c.loop-block.values.items) _ lt c.block-item.is (omega arith) c.as_slice.ensures.items
           (c.loop-block.invariant.values z) (c.in_ok-put_choices.ensures.values z);
       rise = block_rise bs c.loop-block.block-index _ c.block-item.result c.as_slice.result.now lt c.block-item.is (omega arith) c.as_slice.ensures.items
           c.loop-block.invariant.rise c.in_ok-put_choices.ensures.rise;

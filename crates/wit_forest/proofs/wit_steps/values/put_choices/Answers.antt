@@ -10,6 +10,7 @@ loop-e-preserved c =
     let lt : c.loop-e.e-index < length entries = omega arith in
     let is = c.e-item.is in
     record {
-      values = λ z. chosen_next c.args.x.now (total c.args.env.now) entries c.loop-e.e-index c.e-item.result c.pairs.result.now z _ _ _ lt is c.pairs.ensures.pairs (c.loop-e.invariant.values z) (c.in_ok-put_choice.ensures z);
+      values = λ z. chosen_next c.args.x.now (total c.args.env.now) entries c.loop-e.e-index c.e-item.result c.pairs.result.now
+          z _ _ _ lt is c.pairs.ensures.pairs (c.loop-e.invariant.values z) (c.in_ok-put_choice.ensures z);
       rise = rise_more entries c.loop-e.e-index c.e-item.result lt is c.pairs.ensures.rising c.loop-e.invariant.rise;
     }

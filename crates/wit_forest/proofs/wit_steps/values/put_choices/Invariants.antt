@@ -8,6 +8,7 @@ use Rattle.wit_forest.proofs.wit_steps.values.put_choices.Given as goal
 
 abbrev pub invariant-loop-e : goal.invariant-loop-e
 invariant-loop-e l = record {
-  values : (z : Value) → list_any (λ u. same u z) l.values.items ≡ (list_any (λ u. same u z) l.initial.values.items || chosen l.x (total l.env) (take l.e-index l.entries) z);
+  values : (z : Value) → list_any (λ u. same u z) l.values.items
+      ≡ (list_any (λ u. same u z) l.initial.values.items || chosen l.x (total l.env) (take l.e-index l.entries) z);
   rise : AllRise (take l.e-index l.entries);
 }

@@ -21,5 +21,7 @@ of-path-requires c =
 pub returns : goal.returns
 returns c =
     let l = kept-length c.self.inside.nodes.items c.args.self.now (ap (λ g. g.labels) c.self.view_is) in
-    label-there c.self.inside.nodes.items c.args.self.now.labels c.args.n c.index-node.result.now c.of-tree.result c.of-path.result (ap (λ g. g.labels) c.self.view_is)
-    (omega (arith, l, c.requires)) c.index-node.ensures (c.of-tree.ensures.value ∙ c.tree_of.ensures) (c.of-path.ensures ∙ ap (λ ns. path_of ns c.args.n) c.as_slice.ensures.value)
+    label-there c.self.inside.nodes.items c.args.self.now.labels c.args.n c.index-node.result.now c.of-tree.result
+    c.of-path.result (ap (λ g. g.labels) c.self.view_is)
+    (omega (arith, l, c.requires)) c.index-node.ensures (c.of-tree.ensures.value ∙ c.tree_of.ensures)
+    (c.of-path.ensures ∙ ap (λ ns. path_of ns c.args.n) c.as_slice.ensures.value)

@@ -11,4 +11,5 @@ use Rattle.pattern_vars.proofs.var_places.ordered.Ordered.in_body.Goals as goal
 pub returns : goal.returns
 returns c =
     subst (λ (z : List Var). IfOk c.among.result (λ found. found ≡ z))
-    (filter-same (has c.in_ok-set.set) (placing.occurs_body (reading_at c.args.reader.now) (body c.args.b.now)) c.args.self.now c.in_ok-set.ensures) c.among.ensures
+    (filter-same (has c.in_ok-set.set) (placing.occurs_body (reading_at c.args.reader.now) (body c.args.b.now)) c.args.self.now
+    c.in_ok-set.ensures) c.among.ensures

@@ -1,5 +1,5 @@
 use Rattle.std.proofs.Common.{◌<◌, ◌≤◌, length, sym, ap, ◌∙◌, arith, set}
-use Rattle.smpl_body.specs.declared.smpl_when.clauses.Said.{Said}
+use Rattle.smpl_body.specs.declared.smpl_when.clauses.WhenFlags.{WhenFlags}
 use Rattle.smpl_body.specs.SmplWhen.Cutting.{say_any}
 use Rattle.smpl_body.proofs.SmplWhen.Changing.{changed-set, changed_past}
 use Rattle.smpl_body.proofs.smpl_when.clauses.Clauses.with_any.Goals as goal
@@ -10,7 +10,7 @@ returns c =
     let n = c.args.host in
     let t = c.index_mut-s.result.now in
     let within : n < length ts = omega (arith, c.if-at-len.false, c.len.ensures, c.self.inside.said.ok.0) in
-    rw (← c.self.view_is) (ap (λ (s : Said). set ts n (say_any s)) c.index_mut-s.ensures.value ∙ sym (changed-set say_any n ts t within))
+    rw (← c.self.view_is) (ap (λ (s : WhenFlags). set ts n (say_any s)) c.index_mut-s.ensures.value ∙ sym (changed-set say_any n ts t within))
 
 pub returns-then-at-len : goal.returns-then-at-len
 returns-then-at-len c =

@@ -1,0 +1,16 @@
+use Rattle.std.proofs.Common.{◌≡◌, Bool, true, ◌||◌, drop}
+use Rattle.std.specs.List.{list_any}
+use Rattle.smpl_terms.specs.declared.var.Var.{Var}
+use Rattle.smpl_terms.specs.Environments.{Environment}
+use Rattle.env_sets.specs.Sets.{set_denotes, set_vars}
+use Rattle.pat_match.specs.Vars.{pattern_vars}
+use Rattle.ctl_fixpoint.specs.RequiredWords.FormGroups.{fits_some}
+use Rattle.ctl_fixpoint.proofs.required_words.solving.put_forms.Given as goal
+
+abbrev pub invariant-loop-i : goal.invariant-loop-i
+invariant-loop-i l = record {
+  meaning : (env : Environment) →
+      (set_denotes l.entries.items env || list_any (fits_some l.decls l.tokens env l.p l.role l.tree) (drop l.i l.p.forms))
+      ≡ (set_denotes l.initial.entries.items env || list_any (fits_some l.decls l.tokens env l.p l.role l.tree) (drop l.first l.p.forms));
+  vars : (t : Var → Bool) → pattern_vars l.decls l.tokens t l.p ≡ true → set_vars t l.initial.entries.items ≡ true → set_vars t l.entries.items ≡ true;
+}

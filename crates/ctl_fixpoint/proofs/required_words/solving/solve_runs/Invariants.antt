@@ -1,0 +1,17 @@
+use Rattle.std.proofs.Common.{◌≡◌, Bool, true, ◌||◌, drop, length}
+use Rattle.std.specs.List.{list_any}
+use Rattle.smpl_terms.specs.declared.var.Var.{Var}
+use Rattle.smpl_terms.specs.Environments.{Environment}
+use Rattle.env_sets.specs.Sets.{set_denotes, set_vars}
+use Rattle.pat_match.specs.Vars.{pattern_vars}
+use Rattle.ctl_fixpoint.specs.RequiredWords.FormGroups.{Covers, fits_some}
+use Rattle.ctl_fixpoint.proofs.required_words.solving.solve_runs.Given as goal
+
+abbrev pub invariant-loop-n : goal.invariant-loop-n
+invariant-loop-n l = record {
+  covers : Covers l.p.spot l.p.forms l.next (drop l.n l.form_groups) (length l.p.forms);
+  meaning : (env : Environment) →
+      (set_denotes l.entries.items env || list_any (fits_some l.decls l.tokens env l.p l.role l.tree) (drop l.next l.p.forms))
+      ≡ list_any (fits_some l.decls l.tokens env l.p l.role l.tree) l.p.forms;
+  vars : (t : Var → Bool) → pattern_vars l.decls l.tokens t l.p ≡ true → set_vars t l.entries.items ≡ true;
+}

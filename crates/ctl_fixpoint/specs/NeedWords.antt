@@ -1,6 +1,0 @@
--- Definitions of need_words.
--- The modules that public contracts rest on.
-pub mod Words
-pub mod Looks
--- For internal use: in which patterns of a table words occur.
-pub mod Standing

@@ -1,7 +1,0 @@
-use Rattle.std.proofs.Common.{◌≡◌, false, take}
-use Rattle.std.specs.List.{list_any}
-use Rattle.pat_match.specs.Kinds.{is_capital}
-use Rattle.pat_match.proofs.kinds.has_capital.Given as goal
-
-abbrev pub invariant-loop-byte : goal.invariant-loop-byte
-invariant-loop-byte l = list_any is_capital (take l.byte-index l.text) ≡ false

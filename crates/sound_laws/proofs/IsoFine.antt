@@ -1,5 +1,0 @@
--- Lemmas of iso_fine. The weight of the tokens of a file, the width of its trees, sides that cover others, isomorphisms.
-pub mod WeightLemmas
-pub mod WidthLemmas
-pub mod CoverLemmas
-pub mod FineLemmas

@@ -1,1 +1,0 @@
--- Definitions of iso_fine.

@@ -1,0 +1,1 @@
+-- Definitions of iso_wellformed.

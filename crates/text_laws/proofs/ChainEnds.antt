@@ -1,7 +1,0 @@
--- Lemmas of chain_ends: readings, lists in order, edits of touches, the first clash, the rules.
-pub mod ReadLemmas
-pub mod NumberLemmas
-pub mod SpotLemmas
-pub mod EditLemmas
-pub mod LeastLemmas
-pub mod RunLemmas

@@ -1,5 +1,0 @@
-use Rattle.text_laws.proofs.ChainEnds.ReadLemmas.{reads_some}
-use Rattle.text_laws.proofs.chain_ends.laws.texts_are_read.Goals as goal
-
-pub returns : goal.returns
-returns c = reads_some c.every_text_is_cut.ensures.pieces

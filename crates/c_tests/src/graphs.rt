@@ -99,7 +99,7 @@ fn node_row(alloc: Global, graph: &Graph, n: u32) -> Result<String, AllocError> 
     }
     let past = joined(alloc, past.as_slice())?;
     let mut down = Vec::new(alloc);
-    for branch in 0..3u32 {
+    for branch in 0..3usize {
         if let Some(node) = graph.down(n, branch) {
             down.push(node)?;
         }

@@ -20,7 +20,7 @@ use Rattle.c_lexer.specs.Pieces.{TextPiece, text_of}
 use Rattle.c_show.specs.PlainText.{IsPlainText}
 use Rattle.c_show.specs.Joint.{runs_together}
 use Rattle.c_show.specs.Show.{Shown, shown, shown_kids, role_of, is_wide_after, is_wide_before, is_operator, is_named, is_star}
-use Rattle.c_show.specs.Show.{is_split_into_nodes, joined, show_of}
+use Rattle.c_show.specs.Show.{is_parted, joined, show_of}
 use Rattle.c_show.proofs.Pages.{shown-Leaf, shown-Branch}
 use Rattle.smpl_patch.specs.declared.pattern.VarDecl.{VarDecl}
 use Rattle.edit_marks.specs.declared.insert.Anchor.{Anchor}
@@ -145,7 +145,7 @@ record Whole (c : Chunk) : Type 0 where
   rows : (left : Left) → is_together left c.first ≡ false → Rowed left c.text (left_after left c.last)
   none : c.last ≡ None → c.first ≡ None
 
-not_parted : (t u : Shown) → is_split_into_nodes t u ≡ false → runs_together t.text u.text ≡ false
+not_parted : (t u : Shown) → is_parted t u ≡ false → runs_together t.text u.text ≡ false
 not_parted t u e =
     elim (runs_together t.text u.text) as (λ (a : Bool).
     (a || is_wide_after t.text || is_wide_before u.text || is_operator t.role || is_operator u.role || is_named t.kind
@@ -159,7 +159,7 @@ shown_rows t [] h = nothing (Some t.text)
 shown_rows t (u ∷ us) h =
     let right = last_text (Some u.text) (map strip us) in
     let more = shown_rows u us h.1 in
-    elim (is_split_into_nodes t u) as (λ (b : Bool). is_split_into_nodes t u ≡ b
+    elim (is_parted t u) as (λ (b : Bool). is_parted t u ≡ b
     → Rowed (Some t.text) ((if b then 32 ∷ [] else []) ++ (u.text ++ joined (Some u) us)) right) [
       | true ↦ λ e. both_rows (Some t.text) None right (32 ∷ []) (u.text ++ joined (Some u) us) (space_row (Some t.text))
           (both_rows None (Some u.text) right u.text (joined (Some u) us) (token_row None u.kind u.text h.0 refl) more)

@@ -1,5 +1,6 @@
--- Lemmas: the variables that are metavariables of a patch, plus code with terms, the variables that a touch uses, the rules
+-- Examples, and lemmas: the variables that are metavariables of a patch, plus code with terms, the variables that a touch uses, the rules
 -- of a patch, the chain.
+mod Examples
 pub mod KindLemmas
 pub mod PlusLemmas
 pub mod NamedLemmas

@@ -89,21 +89,21 @@ found (d ∷ ds) name m h = by (not (is_position_kind d.kind) && same_bytes d.va
 
 module _ (vars : List VarDecl) (env : Environment) where
   -- each metavariable that is declared here and passes has a term
-  abbrev pub HasTerms : (Var → Bool) → Type 0
-  HasTerms test = (x : Var) → test x ≡ true → is_meta_in vars x ≡ true → is_declared vars x ≡ true → (u : Tree) × (value_in env x ≡ Some (Term u))
+  abbrev pub GivesTerms : (Var → Bool) → Type 0
+  GivesTerms test = (x : Var) → test x ≡ true → is_meta_in vars x ≡ true → is_declared vars x ≡ true → (u : Tree) × (value_in env x ≡ Some (Term u))
 
   named_term : (name : List ℕ) (f : IsFound vars name) (u : Tree) → value_in env f.decl.var ≡ Some (Term u) → term vars env name ≡ Some u
   named_term name f u e =
       ap (option_and_then (λ (d : VarDecl). option_and_then term_of (value_in env d.var))) f.is ∙ ap (option_and_then term_of) e
 
-  meta_token : (m : MetaKind) (t : Token) → declares_name vars t.text m ≡ true → HasTerms (λ x. is_var_of (declared_as vars t.text) x)
+  meta_token : (m : MetaKind) (t : Token) → declares_name vars t.text m ≡ true → GivesTerms (λ x. is_var_of (declared_as vars t.text) x)
       → (u : Tree) × (term vars env t.text ≡ Some u)
   meta_token m t h has =
       let f = found vars t.text m h in
       let v = has f.decl.var (ap (λ o. is_var_of o f.decl.var) f.is ∙ same_var-refl f.decl.var) f.meta f.declared in
       (v.0, named_term t.text f v.0 v.1)
 
-  by_kind : (k : TokenKind) (t : Token) → is_plus_token vars k t.text ≡ true → HasTerms (λ x. is_meta_of vars t k x)
+  by_kind : (k : TokenKind) (t : Token) → is_plus_token vars k t.text ≡ true → GivesTerms (λ x. is_meta_of vars t k x)
       → IsInstantiatedToken vars env (is_meta k) t
   by_kind (token.Meta m) t h has = meta_token m t h has
   by_kind token.Name t h has = tt
@@ -117,7 +117,7 @@ module _ (vars : List VarDecl) (env : Environment) where
   by_kind token.Pat t h has = tt
 
   tokens_instantiated : (ts : List Token) → list_all (λ t. is_plus_token vars t.kind t.text) ts ≡ true
-      → HasTerms (λ x. list_any (λ (t : Token). is_meta_of vars t t.kind x) ts) → AreInstantiatedTokens vars env ts
+      → GivesTerms (λ x. list_any (λ (t : Token). is_meta_of vars t t.kind x) ts) → AreInstantiatedTokens vars env ts
   tokens_instantiated [] h has = tt
   tokens_instantiated (t ∷ ts) h has = (
     by_kind t.kind t (and_left (is_plus_token vars t.kind t.text) (list_all (λ (t : Token). is_plus_token vars t.kind t.text) ts) h)
@@ -126,7 +126,7 @@ module _ (vars : List VarDecl) (env : Environment) where
         (λ x m. has x (or_right (is_meta_of vars t t.kind x) (list_any (λ (t : Token). is_meta_of vars t t.kind x) ts) m)),
   )
 
-  lines_instantiated : (ls : List PlusLine) → list_all (is_sound_line vars) ls ≡ true → HasTerms (λ x. list_any (in_line vars x) ls)
+  lines_instantiated : (ls : List PlusLine) → list_all (is_sound_line vars) ls ≡ true → GivesTerms (λ x. list_any (in_line vars x) ls)
       → AreInstantiatedLines vars env ls
   lines_instantiated [] h has = tt
   lines_instantiated (l ∷ ls) h has = (
@@ -137,13 +137,13 @@ module _ (vars : List VarDecl) (env : Environment) where
         (λ x m. has x (or_right (in_line vars x l) (list_any (in_line vars x) ls) m)),
   )
 
-  block_instantiated : (b : Option PlusBlock) → is_sound_block vars b ≡ true → HasTerms (λ x. in_block vars x b) → IsInstantiatedBlock vars env b
+  block_instantiated : (b : Option PlusBlock) → is_sound_block vars b ≡ true → GivesTerms (λ x. in_block vars x b) → IsInstantiatedBlock vars env b
   block_instantiated None h has = tt
   block_instantiated (Some b) h has = lines_instantiated b.lines h has
 
   -- ---- the blocks at spots
 
-  side_instantiated : (after : Bool) (p : PatToken) → is_sound_token vars p ≡ true → HasTerms (λ x. in_plus vars (Some p) x)
+  side_instantiated : (after : Bool) (p : PatToken) → is_sound_token vars p ≡ true → GivesTerms (λ x. in_plus vars (Some p) x)
       → IsInstantiatedBlock vars env (side_block after p)
   side_instantiated true p h has =
       block_instantiated p.after
@@ -164,7 +164,7 @@ module _ (vars : List VarDecl) (env : Environment) where
 
     -- each metavariable in plus code at the token of this number has a term
     abbrev pub HasAt : ℕ → Type 0
-    HasAt n = HasTerms (λ x. in_plus vars (slice_get tokens n) x)
+    HasAt n = GivesTerms (λ x. in_plus vars (slice_get tokens n) x)
 
     spot_instantiated : (s : PlusSpot) → HasAt s.pattern → IsInstantiatedBlock vars env (block_of tokens s)
     spot_instantiated s has = by (slice_get tokens s.pattern) refl

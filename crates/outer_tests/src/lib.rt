@@ -1,12 +1,10 @@
-//! Tests of stores of real files. The crate has nothing else, and no public items.
+//! Tests of stores of real files, and of what run_acts does. The crate has no public items.
 //!
-//! The tests are here rather than in outer_io because a crate with tests is proved twice.
-//!
-//! Its folders:
-//!
-//! - `run_acts`: the tests of run_acts.
+//! The tests are here rather than in outer_io and run_acts because a crate with tests is proved twice.
 #![tactic(auto)]
 
+#[cfg(test)]
+mod acts;
 #[cfg(test)]
 mod failing_files;
 #[cfg(test)]
@@ -15,7 +13,5 @@ mod files;
 mod others;
 #[cfg(test)]
 mod place;
-#[cfg(test)]
-mod run_acts;
 #[cfg(test)]
 mod trouble;

@@ -19,7 +19,8 @@ use Rattle.smpl_patch.specs.declared.pattern.VarKind.TheVariants as var_kind
 use Rattle.smpl_terms.specs.Environments.{Environment}
 use Rattle.cfg_build.specs.declared.cfg_graph.label.NodeKind.TheVariants as node
 use Rattle.cfg_build.specs.CfgGraph.Own.{is_own}
-use Rattle.pat_match.specs.Kinds.{is_constant_name, token_is_of, label_is_of, is_named}
+use Rattle.c_terms.specs.Constants.{is_constant_name}
+use Rattle.pat_match.specs.Kinds.{token_is_of, label_is_of, is_named}
 use Rattle.pat_match.specs.Tokens.{stands_at, token_fits}
 use Rattle.pat_match.specs.Runs.{Piece, Pair, runs_from, fewest, is_wild_kind}
 use Rattle.pat_match.specs.Fitting.{fits_by, pairs_by}

@@ -1,4 +1,4 @@
-//! The parts of [`solve`](crate::solve) and [`align`](crate::align), for the crate that returns the pairs of an alignment:
+//! The parts of [`solve`](crate::solve) and [`align`](crate::align), for pat_pairs, which returns the pairs of an alignment:
 //! matching a form against a subtree, the lists of forms and files, and the braces of nodes. Also matching one form at a node,
 //! and unions of sets, for the crates that choose among forms and join the sets of many nodes.
 

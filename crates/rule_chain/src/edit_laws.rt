@@ -1,4 +1,4 @@
-//! Laws of the edits of witnesses that the calls of other modules need. They restate what one crate says in the terms of
+//! Laws of the edits of witnesses that the calls of other modules need. They restate what one module says in the terms of
 //! another.
 //!
 //! - [`plain_inserts_are_fair`]: inserts whose texts are blanks and tokens of C are such as writing the new text requires.

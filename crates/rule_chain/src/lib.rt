@@ -3,6 +3,18 @@
 //! [`apply`] runs the whole chain over one text. It returns the new text, the witnesses, the skipped items and the
 //! environments, or the first fault. The prepared form that rules are run from is made once per patch, by rule_formulas.
 //!
+//! ```text
+//!       text ─► tokens, items ─► rule 0 ─► rule 1 ─► .. ─► text, witnesses, skipped items, environments
+//!                     ▲            │
+//!                     └─ new text ─┘   only after a rule that edits and is followed by another
+//!
+//!       one rule:   environments ─► projections ─► witnesses, item by item ─► edits ─► new text
+//!                                   rule_turn      rule_found                 rule_edits
+//! ```
+//!
+//! Under a rule with `- a();` and `+ b();` and a second one with `- b();` and `+ c();`, the text `void k(void) { a(); }`
+//! becomes `void k(void) { c(); }`: the second rule runs over the text that the first one left.
+//!
 //! Its folders:
 //!
 //! - `rule_witnesses`: The witnesses of a rule in one item: the nodes and the values of exported variables under which its
@@ -13,7 +25,7 @@
 //! - `rule_turn`: Runs one rule over one reading of a file, except for its edits: what it runs under, what it finds, and the
 //!   environments that result.
 //! - `rule_work`: Runs one rule of a patch over one reading of a file, including its edits.
-//! - `edit_laws`: Laws of the edits of witnesses that the calls above need. They restate what one crate says in the terms of
+//! - `edit_laws`: Laws of the edits of witnesses that `rule_work` needs. They restate what one module says in the terms of
 //!   another.
 #![tactic(auto)]
 

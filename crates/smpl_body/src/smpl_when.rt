@@ -7,7 +7,7 @@
 //! Code extends to the end of its line.
 //!
 //! In `... when any when != f(x)` the dots have two clauses, and the code is `f(x)`. A `when` that begins none of the three
-//! is reported by [`Cutting::broken`]. What the tokens spell is left to the crates above.
+//! is reported by [`Cutting::broken`]. What the tokens spell is left to the callers.
 #![tactic(auto)]
 
 ghost use Rattle.std.specs.Prelude.{◌≡◌, List, map, false};

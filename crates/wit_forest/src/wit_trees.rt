@@ -1,7 +1,7 @@
 //! What the forest of a formula is: at a node under an environment, the trees of what makes it hold there.
 //!
 //! The definition is `specs/WitTrees/Forest`, by the cases of a formula; [`forests_rise`] and [`alike_environments`] are the
-//! laws that all crates that make forests share. [`is_touched`] says which atoms have touches.
+//! laws that all modules that make forests share. [`is_touched`] says which atoms have touches.
 //!
 //! ```text
 //!       2 lock(a); ─► 3 if ─┬─► 4 unlock(a); ─┐        touch 2 0

@@ -24,7 +24,7 @@ module _ (g : Flow) (ok : IsSound g) where
 
   pub past_node : (n k : ℕ) → n < count_of g → past_of g n ≡ Some k → k < count_of g
   past_node n k lt e =
-      subst (λ (o : Option ℕ). IfSome o (λ j. j < count_of g)) e (ok.past_nodes n None (omega (arith, lt, ok.after_each)))
+      subst (λ (o : Option ℕ). IfSome o (λ j. j < count_of g)) e (ok.past_nodes n None (omega (arith, lt, ok.past_each)))
 
   pub down_node : (n i k : ℕ) → n < count_of g → slice_get (down_of g n) i ≡ Some k → k < count_of g
   down_node n i k lt e =

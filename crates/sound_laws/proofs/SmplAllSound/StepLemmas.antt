@@ -10,8 +10,8 @@ use Rattle.c_lexer.specs.declared.state.Splice.{Splice}
 use Rattle.c_lexer.specs.declared.state.Splice.TheVariants.{Plain, Back, BackReturn}
 use Rattle.c_lexer.specs.declared.state.Inside.{Inside}
 use Rattle.c_lexer.specs.declared.state.Inside.TheVariants.{Fresh, Usual, Escape, EscapeReturn, Double, DoubleReturn}
-use Rattle.c_lexer.specs.declared.state.Went.{Went}
-use Rattle.c_lexer.specs.declared.state.Went.TheVariants.{In, Close, Broken, Stop}
+use Rattle.c_lexer.specs.declared.state.LiteralStep.{LiteralStep}
+use Rattle.c_lexer.specs.declared.state.LiteralStep.TheVariants.{In, Close, Broken, Stop}
 use Rattle.c_lexer.specs.declared.state.InLine.{InLine}
 use Rattle.c_lexer.specs.declared.state.State.{State}
 use Rattle.c_lexer.specs.declared.state.State.TheVariants.{Start, Blanks, Backslash, Word, Digits, One, Two, Open, Rest, Literal, Unended, Hash, Closed, Lone}
@@ -83,7 +83,7 @@ hash-good : (o : Option InLine) → AllGood (option_map Hash o)
 hash-good None = tt
 hash-good (Some s) = tt
 
-literal-good : (quote : ℕ) (prefixed : Bool) (w : Went) → (10 == quote) ≡ false → AllGood (literal quote prefixed w)
+literal-good : (quote : ℕ) (prefixed : Bool) (w : LiteralStep) → (10 == quote) ≡ false → AllGood (literal quote prefixed w)
 literal-good quote prefixed (In l) e = e
 literal-good quote prefixed Close e = tt
 literal-good quote prefixed Broken e = good-if prefixed _ _ (λ e. tt) tt

@@ -53,7 +53,7 @@ loop-s-preserved c =
 
 pub returns-in_err-found-clause-too_many : goal.returns-in_err-found-clause-too_many
 returns-in_err-found-clause-too_many c = λ h.
-    let e = err_from_is_err_and c.from_residual-in_err-found.result c.from_residual-in_err-found.ensures.1 in
+    let e = err_from_is_err_and c.from_residual.result c.from_residual.ensures.1 in
     let f = c.args.f.now in
     let g = c.args.g.now in
     let nodes = c.args.matched.now.nodes in

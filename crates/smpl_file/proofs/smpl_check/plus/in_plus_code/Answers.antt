@@ -12,5 +12,5 @@ returns c x =
     let ts = c.as_slice-tokens.result.now in
     c.in_ok-put_tokens.ensures x
     ∙ ap (λ (vs : List Var). has vs x || list_any (λ t. in_plus c.in_ok-known.known (Some t) x) ts) c.new-set.ensures
-    ∙ ap (λ (ds : List VarDecl). list_any (λ t. in_plus ds (Some t) x) ts) (c.in_ok-known.ensures ∙ c.in_ok-decls.ensures.copies ∙ c.as_slice.ensures)
+    ∙ ap (λ (ds : List VarDecl). list_any (λ t. in_plus ds (Some t) x) ts) (c.in_ok-known.ensures ∙ c.in_ok-decls.ensures ∙ c.as_slice.ensures)
     ∙ ap (λ (us : List PatToken). list_any (λ t. in_plus c.args.rule.now.vars (Some t) x) us) c.as_slice-tokens.ensures

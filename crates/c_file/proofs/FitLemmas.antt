@@ -13,6 +13,7 @@ use Rattle.c_terms.specs.declared.tree.Tree.TheVariants.{Leaf, Branch, rolls-Lea
 use Rattle.c_terms.specs.declared.tree.Tree.TheFolds.{fold-roll-Tree}
 use Rattle.c_terms.specs.Trees.{greatest, width}
 use Rattle.c_terms.proofs.TreeLemmas.{width-Leaf, width-Branch}
+use Rattle.c_lexer.specs.Pieces.{most_bytes}
 use Rattle.c_rows.specs.declared.kind.Kind.{Kind}
 use Rattle.c_rows.specs.declared.kind.Kind.TheVariants as kind
 use Rattle.c_rows.specs.declared.kind.Family.{Family}
@@ -194,7 +195,7 @@ module _ (names : Names) (may : List Token → List Token → Type 0) where
 
 -- ---- items
 
-item-fit : (names : Names) (tokens : List Token) (span : ItemSpan) (item : Item) → IsReading names tokens span item → length tokens ≤ 16777216 → IsFit item
+item-fit : (names : Names) (tokens : List Token) (span : ItemSpan) (item : Item) → IsReading names tokens span item → length tokens ≤ most_bytes → IsFit item
 item-fit names tokens span (Parsed t) h few =
     let n = narrow names _ h.1.derived in
     (h.2, omega (arith, n, few), braced names _ h.1.derived)
@@ -208,7 +209,7 @@ tokens-few v span =
     omega (arith, m, t, d)
 
 pub all-fit : (v : VisibleTokens) (names : Names) (spans : List ItemSpan) (items : List Item) → ReadsFrom v names spans items
-    → length v.shown ≤ 16777216 → All IsFit items
+    → length v.shown ≤ most_bytes → All IsFit items
 all-fit v names [] [] h few = All-nil IsFit
 all-fit v names [] (i ∷ is) h few = absurd h
 all-fit v names (s ∷ ss) [] h few = absurd h

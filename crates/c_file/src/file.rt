@@ -1,6 +1,7 @@
 // All items of a file.
 ghost use Rattle.std.specs.Prelude.{◌≡◌, ◌≤◌, IfOk, All, length, slice_get};
 ghost use Rattle.c_terms.specs.Names.{listed_names};
+ghost use Rattle.c_lexer.specs.Pieces.{most_bytes};
 ghost use Rattle.cpp_lines.specs.Items.{StandEndToEnd};
 ghost use Rattle.cpp_lines.specs.Shown.{AreShown};
 ghost use Rattle.c_file.specs.Fit.{IsFit, item_graph};
@@ -98,7 +99,7 @@ pub fn read_file(alloc: Global, lexed: Lexed) -> Result<CFile, NoMemory>
 
 /// A text shows at most 16,777,216 tokens. Does nothing.
 fn few_are_shown(visible: &Visible)
-    ensures { length visible.now.shown ≤ 16777216 }
+    ensures { length visible.now.shown ≤ most_bytes }
 {
     let _shown = visible.shown();
 }

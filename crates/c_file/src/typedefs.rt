@@ -59,12 +59,7 @@ fn is_typedef(tree: &Tree) -> bool
 fn any_typedef(words: &[Tree]) -> bool
     ensures { result ≡ list_any spec.is_typedef words.now }
 {
-    for word in words {
-        if is_typedef(word) {
-            return true;
-        }
-    }
-    false
+    words.iter().any(|word| is_typedef(word))
 }
 
 /// Whether a tree is a Specs with the word `typedef`.

@@ -12,8 +12,8 @@
 //! `a+++b //c` gives Name, Punct `++`, Punct `+`, Name, Blank, Comment.
 //!
 //! The next piece is the longest text that begins at its place and is of a kind (C11 6.4 p4).
-//! Nothing here fails on bad C: a quote without an end is a Stray. A text may have up to 16,777,216
-//! bytes. Nothing recurses.
+//! Nothing here fails on bad C: a quote without an end is a Stray. A text may have up to
+//! [`MOST_BYTES`] bytes, 16,777,216. Nothing recurses.
 //!
 //! Which lines open groups and which words are markers is up to cpp_lines; which words are types is
 //! up to c_rows.
@@ -35,7 +35,7 @@ mod texts;
 mod within;
 
 pub use between::parts;
-pub use cut::{LexFault, lex};
+pub use cut::{LexFault, MOST_BYTES, lex};
 pub use laws::{
     comment_ends, cut_once, dots_join, every_text_is_cut, loose_pieces_stay, parted_texts_stay,
     space_parts,

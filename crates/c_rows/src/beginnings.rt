@@ -51,12 +51,20 @@ pub fn begins_specs(class: Class) -> bool
 pub fn begins_by_keyword(class: Class) -> bool
     ensures value { result ≡ words.begins_by_keyword class }
 {
-    match class {
-        Class::If | Class::While | Class::Do | Class::For | Class::Switch => true,
-        Class::Case | Class::Default | Class::Return | Class::Goto => true,
-        Class::Break | Class::Continue => true,
-        _ => false,
-    }
+    matches!(
+        class,
+        Class::If
+            | Class::While
+            | Class::Do
+            | Class::For
+            | Class::Switch
+            | Class::Case
+            | Class::Default
+            | Class::Return
+            | Class::Goto
+            | Class::Break
+            | Class::Continue
+    )
 }
 
 /// Whether a statement other than a declaration may begin with this class.

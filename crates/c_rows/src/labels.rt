@@ -140,12 +140,7 @@ fn external_label(children: &[Tree]) -> Label
 fn is_blockless(children: &[Tree]) -> bool
     ensures { result ≡ labels.is_blockless children.now }
 {
-    for child in children {
-        if is_block(child) {
-            return false;
-        }
-    }
-    true
+    children.iter().all(|child| !is_block(child))
 }
 
 /// With a Block, a macro's item is a MacroFun.

@@ -26,12 +26,7 @@ pub fn leaf_facts(token: &Token) -> Facts
 fn all_plain(parts: &[Facts]) -> bool
     ensures { result ≡ list_all (λ f. f.plain) parts.now }
 {
-    for part in parts {
-        if !part.plain {
-            return false;
-        }
-    }
-    true
+    parts.iter().all(|part| part.plain)
 }
 
 fn any_names(parts: &[Facts]) -> bool

@@ -18,21 +18,17 @@ pub fn is(text: &[u8], word: &[u8]) -> bool
 pub fn is_named(token: &Token) -> bool
     ensures value { result ≡ tokens.is_named token.now }
 {
-    match token.kind {
-        TokenKind::Name => true,
-        TokenKind::Meta(MetaKind::Ident) => true,
-        _ => false,
-    }
+    matches!(
+        token.kind,
+        TokenKind::Name | TokenKind::Meta(MetaKind::Ident)
+    )
 }
 
 /// Whether the token is a string.
 pub fn is_string(token: &Token) -> bool
     ensures { result ≡ tokens.is_string token.now }
 {
-    match token.kind {
-        TokenKind::Str => true,
-        _ => false,
-    }
+    matches!(token.kind, TokenKind::Str)
 }
 
 /// Whether the token is the punctuator with this text.
@@ -74,12 +70,10 @@ pub fn is_type_word(token: &Token) -> bool
 pub fn is_word(token: &Token) -> bool
     ensures { result ≡ tokens.is_word token.now }
 {
-    match token.kind {
-        TokenKind::Name => true,
-        TokenKind::Keyword => true,
-        TokenKind::Meta(_) => true,
-        _ => false,
-    }
+    matches!(
+        token.kind,
+        TokenKind::Name | TokenKind::Keyword | TokenKind::Meta(_)
+    )
 }
 
 /// Whether the text contains `for_each`.

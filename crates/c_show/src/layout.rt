@@ -87,31 +87,19 @@ fn is_wide_before(text: &[u8]) -> bool
 fn is_operator(role: Role) -> bool
     ensures { result ≡ is_operator role }
 {
-    match role {
-        Role::Plain => false,
-        Role::Operator => true,
-        Role::Star => false,
-    }
+    matches!(role, Role::Operator)
 }
 
 fn is_star(role: Role) -> bool
     ensures { result ≡ is_star role }
 {
-    match role {
-        Role::Plain => false,
-        Role::Operator => false,
-        Role::Star => true,
-    }
+    matches!(role, Role::Star)
 }
 
 fn is_named(kind: TokenKind) -> bool
     ensures { result ≡ is_named kind }
 {
-    match kind {
-        TokenKind::Name => true,
-        TokenKind::Keyword => true,
-        _ => false,
-    }
+    matches!(kind, TokenKind::Name | TokenKind::Keyword)
 }
 
 /// The part that a token plays as the child with this index.

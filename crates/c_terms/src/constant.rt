@@ -8,35 +8,25 @@ use crate::Label;
 fn is_capital(byte: u8) -> bool
     ensures { result ≡ spec.is_capital byte }
 {
-    64 < byte && byte < 91
+    byte.is_ascii_uppercase()
 }
 
 fn is_constant_byte(byte: u8) -> bool
     ensures { result ≡ spec.is_constant_byte byte }
 {
-    is_capital(byte) || ((47 < byte && byte < 58) || byte == 95)
+    is_capital(byte) || byte.is_ascii_digit() || byte == b'_'
 }
 
 fn has_capital(text: &[u8]) -> bool
     ensures { result ≡ list_any spec.is_capital text.now }
 {
-    for byte in text {
-        if is_capital(*byte) {
-            return true;
-        }
-    }
-    false
+    text.iter().any(|byte| is_capital(*byte))
 }
 
 fn is_all_constant(text: &[u8]) -> bool
     ensures { result ≡ list_all spec.is_constant_byte text.now }
 {
-    for byte in text {
-        if !is_constant_byte(*byte) {
-            return false;
-        }
-    }
-    true
+    text.iter().all(|byte| is_constant_byte(*byte))
 }
 
 /// Whether a name is one of a constant by its form: capital letters, digits and `_`, with at least one capital letter.

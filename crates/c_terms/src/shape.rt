@@ -38,105 +38,102 @@ impl Label {
     pub fn is_expression(self) -> bool
         ensures value { result ≡ is_expression_label self }
     {
-        match self {
+        matches!(
+            self,
             Label::Strings
-            | Label::Paren
-            | Label::Index
-            | Label::Call
-            | Label::Member
-            | Label::Arrow
-            | Label::PostOp
-            | Label::Literal
-            | Label::PreOp
-            | Label::Unary
-            | Label::SizeofExpr
-            | Label::SizeofType
-            | Label::Cast
-            | Label::Binary
-            | Label::Cond
-            | Label::CondShort
-            | Label::Assign
-            | Label::Comma => true,
-            _ => false,
-        }
+                | Label::Paren
+                | Label::Index
+                | Label::Call
+                | Label::Member
+                | Label::Arrow
+                | Label::PostOp
+                | Label::Literal
+                | Label::PreOp
+                | Label::Unary
+                | Label::SizeofExpr
+                | Label::SizeofType
+                | Label::Cast
+                | Label::Binary
+                | Label::Cond
+                | Label::CondShort
+                | Label::Assign
+                | Label::Comma
+        )
     }
 
     /// Whether a branch of this label is a declarator (6.7.6). A plain name is one too.
     pub fn is_declarator(self) -> bool
         ensures value { result ≡ is_declarator_label self }
     {
-        match self {
-            Label::Pointer | Label::DParen | Label::DArray | Label::DFun => true,
-            _ => false,
-        }
+        matches!(
+            self,
+            Label::Pointer | Label::DParen | Label::DArray | Label::DFun
+        )
     }
 
     /// Whether a branch of this label is a type: [`Label::TypeName`], [`Label::Specs`].
     pub fn is_type(self) -> bool
         ensures value { result ≡ is_type_label self }
     {
-        match self {
-            Label::TypeName | Label::Specs => true,
-            _ => false,
-        }
+        matches!(self, Label::TypeName | Label::Specs)
     }
 
     /// Whether a branch of this label is a statement (6.8), or a declaration among statements.
     pub fn is_statement(self) -> bool
         ensures value { result ≡ is_statement_label self }
     {
-        match self {
+        matches!(
+            self,
             Label::Decl
-            | Label::ExprStat
-            | Label::Empty
-            | Label::Block
-            | Label::If
-            | Label::IfElse
-            | Label::While
-            | Label::Do
-            | Label::For
-            | Label::ForDecl
-            | Label::Switch
-            | Label::Iterator
-            | Label::Case
-            | Label::CaseRange
-            | Label::Default
-            | Label::Label
-            | Label::Return
-            | Label::Goto
-            | Label::Break
-            | Label::Continue => true,
-            _ => false,
-        }
+                | Label::ExprStat
+                | Label::Empty
+                | Label::Block
+                | Label::If
+                | Label::IfElse
+                | Label::While
+                | Label::Do
+                | Label::For
+                | Label::ForDecl
+                | Label::Switch
+                | Label::Iterator
+                | Label::Case
+                | Label::CaseRange
+                | Label::Default
+                | Label::Label
+                | Label::Return
+                | Label::Goto
+                | Label::Break
+                | Label::Continue
+        )
     }
 
     /// Whether a branch of this label is an item of a file (6.9).
     pub fn is_item(self) -> bool
         ensures value { result ≡ is_item_label self }
     {
-        match self {
-            Label::Decl | Label::MacroItem | Label::Empty | Label::FunDef | Label::MacroFun => true,
-            _ => false,
-        }
+        matches!(
+            self,
+            Label::Decl | Label::MacroItem | Label::Empty | Label::FunDef | Label::MacroFun
+        )
     }
 
     /// Whether a branch of this label has bodies: a conditional, a loop, a `switch`, a function.
     pub fn is_head(self) -> bool
         ensures value { result ≡ is_head_label self }
     {
-        match self {
+        matches!(
+            self,
             Label::If
-            | Label::IfElse
-            | Label::While
-            | Label::Do
-            | Label::For
-            | Label::ForDecl
-            | Label::Switch
-            | Label::Iterator
-            | Label::FunDef
-            | Label::MacroFun => true,
-            _ => false,
-        }
+                | Label::IfElse
+                | Label::While
+                | Label::Do
+                | Label::For
+                | Label::ForDecl
+                | Label::Switch
+                | Label::Iterator
+                | Label::FunDef
+                | Label::MacroFun
+        )
     }
 
     /// Whether child `i` of a branch with `n` children is a body: the last one, the one before

@@ -97,10 +97,5 @@ fn next_word(text: &[u8]) -> Option<(usize, usize)>
 fn is_token(kind: Kind) -> bool
     ensures { result ≡ is_token_kind kind }
 {
-    match kind {
-        Kind::Blank => false,
-        Kind::Comment => false,
-        Kind::Line => false,
-        _ => true,
-    }
+    !matches!(kind, Kind::Blank | Kind::Comment | Kind::Line)
 }

@@ -37,11 +37,7 @@ pub fn all_shown(groups: &Vec<Frame>) -> bool
 fn is_shown(arm: Arm) -> bool
     ensures { result ≡ is_shown arm }
 {
-    match arm {
-        Arm::Before => false,
-        Arm::Shown => true,
-        Arm::Past => false,
-    }
+    matches!(arm, Arm::Shown)
 }
 
 /// Updates the open groups by a line.

@@ -99,9 +99,5 @@ pub fn ends_item(item: ItemSoFar, sign: Sign) -> bool
 fn is_function(body: Body) -> bool
     ensures { result ≡ is_function body }
 {
-    match body {
-        Body::Missing => false,
-        Body::Function => true,
-        Body::Other => false,
-    }
+    matches!(body, Body::Function)
 }

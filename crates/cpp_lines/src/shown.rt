@@ -1,5 +1,6 @@
 // Which tokens are shown.
 ghost use Rattle.std.specs.Prelude.{◌≡◌, ◌≤◌, length, IfOk};
+ghost use Rattle.c_lexer.specs.Pieces.{most_bytes};
 ghost use Rattle.cpp_lines.specs.Shown.{AreShown};
 
 use crate::directive::read_directive;
@@ -26,7 +27,7 @@ pub fn arms(alloc: Global, lexed: Lexed) -> Result<Visible, NoMemory>
 /// Returns the numbers of the shown tokens.
 fn shown_tokens(alloc: Global, lexed: &Lexed) -> Result<Vec<u32>, NoMemory>
     ensures shown { IfOk result (λ shown. AreShown lexed.now shown.items) }
-    ensures short { IfOk result (λ _. length lexed.now ≤ 16777216) }
+    ensures short { IfOk result (λ _. length lexed.now ≤ most_bytes) }
 {
     let bytes = lexed.bytes();
     let mut groups = Vec::new(alloc);

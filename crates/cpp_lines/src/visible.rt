@@ -1,6 +1,7 @@
 // The tokens of a text that are shown.
 ghost use Rattle.std.specs.Prelude.{◌≡◌, ◌<◌, ◌≤◌, length, All};
 ghost use Rattle.std.specs.List.Sorted.{IsStrictlyIncreasing};
+ghost use Rattle.c_lexer.specs.Pieces.{most_bytes};
 
 use c_lexer::Lexed;
 use std::marker::Model;
@@ -36,7 +37,7 @@ impl Visible {
         ensures shown { result.now ≡ self.now.shown }
         ensures rising { IsStrictlyIncreasing result.now }
         ensures within { All (λ number. number < length self.now.pieces) result.now }
-        ensures at_most { length result.now ≤ 16777216 }
+        ensures at_most { length result.now ≤ most_bytes }
     {
         self.shown.as_slice()
     }

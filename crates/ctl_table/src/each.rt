@@ -14,7 +14,7 @@ ghost use Rattle.ctl_table.specs.Settings.{dots_before, MakesAll, MakesBehind, M
 ghost use Rattle.ctl_table.specs.Columns.{column as column_of, rows_within, first_of_column};
 
 use crate::dots::{after_dots, deeper, follow_at, staying};
-use crate::element::{dots, joined_next, part, past_next};
+use crate::element::{after_next, dots, joined_next, part};
 use crate::end_atoms::{LastAtoms, last_atoms_of};
 use crate::ends_of::ends_of_option;
 use crate::follow::{Continuation, DotsContinuation, NestPart, all_behind, some_look_back};
@@ -113,7 +113,7 @@ pub fn after_each(
 {
     let mut made = Vec::new(alloc);
     for next in nexts {
-        let g = past_next(alloc, parts, m, f, next, scope)?;
+        let g = after_next(alloc, parts, m, f, next, scope)?;
         made.push(g)?;
     }
     Ok(made)

@@ -61,7 +61,7 @@ pub fn joined_next(
 }
 
 /// Returns the part for a statement and what follows the statement.
-pub fn past_next(
+pub fn after_next(
     alloc: Global,
     parts: &mut Parts,
     m: &Setting,

@@ -125,10 +125,7 @@ fn shared(alloc: Global, nexts: &[Continuation]) -> Result<Vec<Continuation>, No
 fn ends_with_nothing(nexts: &[Continuation]) -> bool
     ensures { result ≡ true → slice_get nexts.now (length nexts.now - 1) ≡ Some Continuation.Nothing }
 {
-    match nexts {
-        [.., Continuation::Nothing] => true,
-        _ => false,
-    }
+    matches!(nexts, [.., Continuation::Nothing])
 }
 
 /// Returns all of these, after an element with these last atoms. Allocates only the list.

@@ -60,10 +60,7 @@ impl From<AllocError> for FormulaFault {
 fn ranges_over_all(mode: Mode) -> bool
     ensures { result ≡ rules.ranges_over_all mode }
 {
-    match mode {
-        Mode::Exists => false,
-        Mode::Forall => true,
-    }
+    matches!(mode, Mode::Forall)
 }
 
 fn is_local(alloc: Global, exports: &VarSet, d: &VarDecl) -> Result<bool, NoMemory>

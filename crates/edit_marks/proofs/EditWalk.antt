@@ -5,7 +5,6 @@ pub mod NumberLemmas
 pub mod TokenLemmas
 pub mod GrowingLemmas
 pub mod TouchLemmas
-pub mod WeightLemmas
 pub mod SiteLemmas
 pub mod OrderLemmas
 pub mod FitLemmas

@@ -63,10 +63,7 @@ fn copy_text(alloc: Global, token: Option<&Token>) -> Result<Option<Text>, NoMem
 fn is_meta(kind: TokenKind) -> bool
     ensures { result ≡ is_meta kind }
 {
-    match kind {
-        TokenKind::Meta(_) => true,
-        _ => false,
-    }
+    matches!(kind, TokenKind::Meta(_))
 }
 
 /// The last tokens before a place: the one that the next token is directly beside, if any, and the last of all.

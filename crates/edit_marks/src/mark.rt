@@ -55,9 +55,5 @@ fn is_minus_at(tokens: &[PatToken], number: u32) -> bool
 fn is_minus(mark: Mark) -> bool
     ensures { result ≡ is_minus mark }
 {
-    match mark {
-        Mark::Context => false,
-        Mark::Minus => true,
-        Mark::Star => false,
-    }
+    matches!(mark, Mark::Minus)
 }

@@ -5,7 +5,7 @@ use Rattle.std.specs.List.{prefix_len}
 use Rattle.std.proofs.lemmas.List.{take_rest, drop_all, append-nil}
 use Rattle.c_lexer.specs.declared.piece.PieceKind.{PieceKind}
 use Rattle.c_lexer.specs.declared.piece.PieceKind.TheVariants.{Word, Blank, Comment, Line}
-use Rattle.c_lexer.specs.Pieces.{TextPiece, text_of}
+use Rattle.c_lexer.specs.Pieces.{TextPiece, text_of, most_bytes}
 use Rattle.c_lexer.specs.Lexes.{id_after}
 use Rattle.c_lexer.specs.Ids.{ids_of}
 use Rattle.edit_marks.specs.declared.edit_conflict.edit.Edit.{Edit}
@@ -58,7 +58,7 @@ module _ (pieces : List TextPiece) (edits : List Edit) (next : ℕ) where
 
   -- a token with too many parts
   pub over_token : (d : Draft) (token i : ℕ) (p : TextPiece) → slice_get pieces i ≡ Some p → is_word p.kind ≡ true → Overflows d (token_parts edits token i p)
-      → Ends pieces edits next d (placed edits token i (drop i pieces)) → 16777216 < length (text_of (output_of pieces edits next))
+      → Ends pieces edits next d (placed edits token i (drop i pieces)) → most_bytes < length (text_of (output_of pieces edits next))
   over_token d token i p at word over ends =
       let w = word_parts p.kind edits token i p word in
       let rest = placed edits (token + 1) (i + 1) (drop (i + 1) pieces) in
@@ -67,11 +67,11 @@ module _ (pieces : List TextPiece) (edits : List Edit) (next : ℕ) where
 
   module _ (marks : List Mark) (are : AreMarks edits marks) where
     -- a run that is too long
-    pub over_run : (at stop : ℕ) (from : Place) (d : Draft) → length pieces ≤ 16777216 → from.piece ≤ length pieces
+    pub over_run : (at stop : ℕ) (from : Place) (d : Draft) → length pieces ≤ most_bytes → from.piece ≤ length pieces
         → from.token ≤ from.piece → Ahead edits marks at from.token
         → stop ≡ next_token (drop at marks)
         → ((es : List Edit) → Untouched es from.token stop → Overflows d (placed es from.token from.piece (drop from.piece pieces)))
-        → Ends pieces edits next d (placed edits from.token from.piece (drop from.piece pieces)) → 16777216 < length (text_of (output_of pieces edits next))
+        → Ends pieces edits next d (placed edits from.token from.piece (drop from.piece pieces)) → most_bytes < length (text_of (output_of pieces edits next))
     over_run at stop from d small within few ahead is over ends =
         let less : from.token ≤ 4294967295 = omega (arith, small, within, few) in
         let none : Untouched edits from.token stop =
@@ -80,7 +80,7 @@ module _ (pieces : List TextPiece) (edits : List Edit) (next : ℕ) where
         ends_over pieces edits next d rest [] (subst (Ends pieces edits next d) (sym (append-nil rest)) ends) (over edits none)
 
     -- a run up to the next touched token
-    pub is_at : (at stop : ℕ) (from to : Place) (d e : Draft) → length pieces ≤ 16777216 → from.piece ≤ length pieces
+    pub is_at : (at stop : ℕ) (from to : Place) (d e : Draft) → length pieces ≤ most_bytes → from.piece ≤ length pieces
         → from.token ≤ from.piece → Ahead edits marks at from.token
         → stop ≡ next_token (drop at marks) → IsRun pieces from stop to → Writes d e (old_parts from.piece (run_of pieces from.piece to.piece))
         → Ends pieces edits next d (placed edits from.token from.piece (drop from.piece pieces)) → IsAt pieces edits next marks at to e
@@ -98,7 +98,7 @@ module _ (pieces : List TextPiece) (edits : List Edit) (next : ℕ) where
         }
 
     -- a touched token, and the run after it
-    pub is_at_next : (at count stop : ℕ) (place to : Place) (d e f : Draft) → length pieces ≤ 16777216
+    pub is_at_next : (at count stop : ℕ) (place to : Place) (d e f : Draft) → length pieces ≤ most_bytes
         → place.piece < length pieces → IsAt pieces edits next marks at place d
         → count ≡ prefix_len (is_at_token place.token) (take (length marks - at) (drop at marks)) → count ≤ length (take (length marks - at) (drop at marks))
         → ((p : TextPiece) → slice_get pieces place.piece ≡ Some p → Writes d e (token_parts edits place.token place.piece p))
@@ -115,13 +115,13 @@ module _ (pieces : List TextPiece) (edits : List Edit) (next : ℕ) where
         (ahead_next edits marks at place.token count are own.acts counted fits) (is ∙ ap next_token (take_rest marks (at + count))) run writes ends
 
     -- a run that is too long after a touched token
-    pub over_next : (at count stop : ℕ) (place : Place) (d e : Draft) → length pieces ≤ 16777216 → place.piece < length pieces
+    pub over_next : (at count stop : ℕ) (place : Place) (d e : Draft) → length pieces ≤ most_bytes → place.piece < length pieces
         → IsAt pieces edits next marks at place d
         → count ≡ prefix_len (is_at_token place.token) (take (length marks - at) (drop at marks)) → count ≤ length (take (length marks - at) (drop at marks))
         → ((p : TextPiece) → slice_get pieces place.piece ≡ Some p → Writes d e (token_parts edits place.token place.piece p))
         → stop ≡ next_token (take (length marks - (at + count)) (drop (at + count) marks))
         → ((es : List Edit) → Untouched es (place.token + 1) stop → Overflows e (placed es (place.token + 1) (place.piece + 1) (drop (place.piece + 1) pieces)))
-        → 16777216 < length (text_of (output_of pieces edits next))
+        → most_bytes < length (text_of (output_of pieces edits next))
     over_next at count stop place d e small less own counted fits token is over =
         let there = get_there pieces place.piece less in
         let ends = ends_token d e place.token place.piece there.0 there.1 (own.word there.0 there.1) (token there.0 there.1) own.reached in
@@ -131,7 +131,7 @@ module _ (pieces : List TextPiece) (edits : List Edit) (next : ℕ) where
         (ahead_next edits marks at place.token count are own.acts counted fits) (is ∙ ap next_token (take_rest marks (at + count))) over ends
 
     -- the next touched token is a later one
-    pub stop_later : (at count stop : ℕ) (place : Place) (d : Draft) → length pieces ≤ 16777216 → place.piece < length pieces
+    pub stop_later : (at count stop : ℕ) (place : Place) (d : Draft) → length pieces ≤ most_bytes → place.piece < length pieces
         → IsAt pieces edits next marks at place d
         → count ≡ prefix_len (is_at_token place.token) (take (length marks - at) (drop at marks)) → count ≤ length (take (length marks - at) (drop at marks))
         → stop ≡ next_token (take (length marks - (at + count)) (drop (at + count) marks)) → place.token + 1 ≤ stop

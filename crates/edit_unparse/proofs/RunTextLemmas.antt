@@ -6,7 +6,7 @@ use Rattle.std.proofs.lemmas.List.{append-nil, take-append-drop}
 use Rattle.std.proofs.Math.Seq.{take-append_seam, drop-append_seam}
 use Rattle.std.proofs.lemmas.Bool.Decides.{Decides-eqb}
 use Rattle.c_lexer.specs.declared.piece.PieceKind.{PieceKind}
-use Rattle.c_lexer.specs.Pieces.{TextPiece, text_of}
+use Rattle.c_lexer.specs.Pieces.{TextPiece, text_of, most_bytes}
 use Rattle.c_lexer.specs.Ids.{ids_of}
 use Rattle.edit_marks.specs.declared.edit_conflict.edit.Edit.{Edit}
 use Rattle.edit_unparse.specs.declared.draft.Draft.{Draft}
@@ -131,18 +131,18 @@ module _ (pieces : List TextPiece) (old mid new : Draft) (a b : ℕ) (less : a <
       (others.0 ∙ ids ∙ ap (λ (l : List TextPiece). old.ids.items ++ ids_of l) parts.1.1.0))
 
   -- a text that is already too long stays too long, whatever comes
-  longer : (xs ys zs : List ℕ) → 16777216 < length (xs ++ ys) → 16777216 < length (xs ++ (ys ++ zs))
+  longer : (xs ys zs : List ℕ) → most_bytes < length (xs ++ ys) → most_bytes < length (xs ++ (ys ++ zs))
   longer xs ys zs h = omega (arith, h, length-append xs ys, length-append xs (ys ++ zs), length-append ys zs)
 
   pub pieces_overflow : ((p : TextPiece) → slice_get pieces a ≡ Some p
-      → 16777216 < length (mid.bytes.items ++ (text_of (gap (left mid) (Some a) p.text) ++ text_of (run_of pieces a b))))
+      → most_bytes < length (mid.bytes.items ++ (text_of (gap (left mid) (Some a) p.text) ++ text_of (run_of pieces a b))))
       → Overflows old (old_parts a (run_of pieces a b))
   pieces_overflow over =
       let p = parts.0 in
       let ps = parts.1.0 in
       let g = gap (left old) (Some a) p.text in
-      let there : 16777216 < length (old.bytes.items ++ (text_of g ++ text_of (p ∷ ps))) =
-      subst (λ (l : List ℕ). 16777216 < length l)
+      let there : most_bytes < length (old.bytes.items ++ (text_of g ++ text_of (p ∷ ps))) =
+      subst (λ (l : List ℕ). most_bytes < length l)
       (λ i. same.bytes i ++ (text_of (gap (same.left i) (Some a) (first_is i).text) ++ text_of (parts.1.1.0 i))) (over first.0 first.1) in
       subst (λ (l : List TextPiece). Overflows old (old_parts a l)) (sym parts.1.1.0) (record {
         over = λ more.
@@ -151,7 +151,7 @@ module _ (pieces : List TextPiece) (old mid new : Draft) (a b : ℕ) (less : a <
             ap (λ (l : List TextPiece). text_of (g ++ p ∷ l)) (spaced_run a old.next p ps more)
             ∙ text_of-append g ((p ∷ ps) ++ rest) ∙ ap (λ (l : List ℕ). text_of g ++ l) (text_of-append (p ∷ ps) rest)
             ∙ sym (append_assoc (text_of g) (text_of (p ∷ ps)) (text_of rest)) in
-            subst (λ (l : List ℕ). 16777216 < length (old.bytes.items ++ l)) (sym all)
+            subst (λ (l : List ℕ). most_bytes < length (old.bytes.items ++ l)) (sym all)
             (longer old.bytes.items (text_of g ++ text_of (p ∷ ps)) (text_of rest) there);
       })
 

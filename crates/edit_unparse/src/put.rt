@@ -1,17 +1,14 @@
 // Writes the new text piece by piece.
 ghost use Rattle.std.specs.Prelude.{◌≡◌, ◌≤◌, ◌<◌, ◌+◌, ◌^◌, ◌∷◌, [], ◌++◌, length, drop, OnOk, IfOk, IsErrOf, Some, None};
 ghost use Rattle.c_lexer.specs.Spans.{kind_with_id};
-ghost use Rattle.c_lexer.specs.Pieces.{text_of, TextPiece};
+ghost use Rattle.c_lexer.specs.Pieces.{text_of, TextPiece, most_bytes};
 ghost use Rattle.edit_unparse.specs.Output.{Part, gap, is_word, old_part, were_beside};
 ghost use Rattle.edit_unparse.specs.Written.{Writes, Overflows, left};
 
 use crate::draft::{Draft, Last};
 use crate::fault::OutFault;
-use c_lexer::{Kind, PieceKind};
+use c_lexer::{Kind, MOST_BYTES, PieceKind};
 use c_show::runs_together;
-
-/// The largest number of bytes that a text may have.
-pub const MAX_LEN: usize = 16_777_216;
 
 impl Draft {
     /// Adds a piece of the old text, with its number there.
@@ -45,10 +42,10 @@ impl Draft {
         ensures bytes { OnOk result (self.new.bytes.items ≡ self.old.bytes.items ++ (text_of (gap (left self.old) from text.now) ++ text.now)) }
         ensures last { OnOk result (left self.new ≡ Some (record { from = from; is_word = is_word; text = text.now })) }
         ensures others { OnOk result ((self.new.ids.items ≡ self.old.ids.items) × (self.new.next ≡ self.old.next)) }
-        ensures too_long { IsErrOf result OutFault.TooLong → 16777216 < length (self.old.bytes.items ++ (text_of (gap (left self.old) from text.now) ++ text.now)) }
+        ensures too_long { IsErrOf result OutFault.TooLong → most_bytes < length (self.old.bytes.items ++ (text_of (gap (left self.old) from text.now) ++ text.now)) }
     {
         let spaces = self.spaces(from, text);
-        if text.len() + spaces > MAX_LEN - self.bytes.len() {
+        if text.len() + spaces > MOST_BYTES - self.bytes.len() {
             return Err(OutFault::TooLong);
         }
         if spaces == 1 {
@@ -64,7 +61,7 @@ impl Draft {
     /// Returns the number of bytes so far.
     pub fn len(&self) -> usize
         ensures value { result ≡ length self.now.bytes.items }
-        ensures short { result ≤ 16777216 }
+        ensures short { result ≤ most_bytes }
     {
         self.bytes.len()
     }
@@ -100,22 +97,12 @@ fn were_beside(left: Option<u32>, right: Option<u32>) -> bool
 pub fn is_word(kind: PieceKind) -> bool
     ensures { result ≡ is_word kind }
 {
-    match kind {
-        PieceKind::Word(_, _) => true,
-        PieceKind::Blank => false,
-        PieceKind::Comment => false,
-        PieceKind::Line => false,
-    }
+    matches!(kind, PieceKind::Word(_, _))
 }
 
 /// Whether a text of this kind is a token.
 fn is_token(kind: Kind) -> bool
     ensures { result ≡ is_word (kind_with_id kind 0) }
 {
-    match kind {
-        Kind::Blank => false,
-        Kind::Comment => false,
-        Kind::Line => false,
-        _ => true,
-    }
+    !matches!(kind, Kind::Blank | Kind::Comment | Kind::Line)
 }

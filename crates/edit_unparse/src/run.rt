@@ -1,6 +1,6 @@
 // Copies runs of pieces that no edit touches, each run at once.
 ghost use Rattle.std.specs.Prelude.{◌≡◌, ◌≤◌, ◌<◌, ◌+◌, ◌-◌, ◌++◌, [], List, length, take, drop, slice_get, OnOk, IfOk, IfErr, IsErrOf, Some};
-ghost use Rattle.c_lexer.specs.Pieces.{text_of, TextPiece};
+ghost use Rattle.c_lexer.specs.Pieces.{text_of, TextPiece, most_bytes};
 ghost use Rattle.c_lexer.specs.Lexes.{id_after};
 ghost use Rattle.c_lexer.specs.Ids.{ids_of, id_before};
 ghost use Rattle.edit_marks.specs.declared.edit_conflict.edit.Edit.{Edit};
@@ -11,8 +11,8 @@ ghost use Rattle.edit_unparse.specs.Runs.{run_of, old_parts, is_stop, Untouched,
 
 use crate::draft::{Draft, Last, Place};
 use crate::fault::OutFault;
-use crate::put::{MAX_LEN, is_word};
-use c_lexer::{Lexed, PieceKind};
+use crate::put::is_word;
+use c_lexer::{Lexed, MOST_BYTES, PieceKind};
 
 /// Adds the pieces from a place up to token number `stop`, or to the end, and returns the place reached.
 pub fn put_run(draft: &mut Draft, lexed: &Lexed, from: Place, stop: u32) -> Result<Place, OutFault>
@@ -40,7 +40,7 @@ fn put_ids(draft: &mut Draft, lexed: &Lexed, from: Place, stop: u32) -> Result<P
     requires few { from.token ≤ from.piece }
     requires ahead { from.token ≤ stop }
     ensures run { IfOk result (IsRun lexed.now from stop) }
-    ensures small { IfOk result (λ to. to.piece ≤ 16777216) }
+    ensures small { IfOk result (λ to. to.piece ≤ most_bytes) }
     ensures ids { IfOk result (λ to. draft.new.ids.items
         ≡ draft.old.ids.items ++ ids_of (run_of lexed.now from.piece to.piece)) }
     ensures same { OnOk result (SameButIds draft.old draft.new) }
@@ -63,7 +63,7 @@ fn put_ids(draft: &mut Draft, lexed: &Lexed, from: Place, stop: u32) -> Result<P
 
 /// Adds the id of a piece, if it is a token, and returns the number of the next token.
 fn put_id(draft: &mut Draft, kind: PieceKind, token: u32) -> Result<u32, OutFault>
-    requires { token ≤ 16777216 }
+    requires { token ≤ most_bytes }
     ensures next { IfOk result (λ next. next ≡ id_after kind token) }
     ensures ids { OnOk result (draft.new.ids.items ≡ draft.old.ids.items ++ id_before kind []) }
     ensures same { OnOk result (SameButIds draft.old draft.new) }
@@ -93,7 +93,7 @@ fn is_stop(kind: PieceKind, token: u32, stop: u32) -> bool
 fn put_texts(draft: &mut Draft, lexed: &Lexed, from: usize, to: usize) -> Result<(), OutFault>
     requires some { from < to }
     requires within { to ≤ length lexed.now }
-    requires small { to ≤ 16777216 }
+    requires small { to ≤ most_bytes }
     ensures bytes { (p : TextPiece) → slice_get lexed.now from ≡ Some p →
         OnOk result (draft.new.bytes.items ≡ draft.old.bytes.items
         ++ (text_of (gap (left draft.old) (Some from) p.text) ++ text_of (run_of lexed.now from to))) }
@@ -102,7 +102,7 @@ fn put_texts(draft: &mut Draft, lexed: &Lexed, from: usize, to: usize) -> Result
     ensures others { OnOk result ((draft.new.ids.items ≡ draft.old.ids.items)
         × (draft.new.next ≡ draft.old.next)) }
     ensures too_long { (p : TextPiece) → slice_get lexed.now from ≡ Some p →
-        IsErrOf result OutFault.TooLong → 16777216 < length (draft.old.bytes.items
+        IsErrOf result OutFault.TooLong → most_bytes < length (draft.old.bytes.items
         ++ (text_of (gap (left draft.old) (Some from) p.text) ++ text_of (run_of lexed.now from to))) }
 {
     let bytes = lexed.bytes();
@@ -112,7 +112,7 @@ fn put_texts(draft: &mut Draft, lexed: &Lexed, from: usize, to: usize) -> Result
     let first_text = part(bytes, first.start, first.end);
     let spaces = draft.spaces(Some(from as u32), first_text);
     let used = draft.len();
-    if text.len() + spaces > MAX_LEN - used {
+    if text.len() + spaces > MOST_BYTES - used {
         return Err(OutFault::TooLong);
     }
     draft.bytes.extend_from_slice(&b" "[..spaces])?;

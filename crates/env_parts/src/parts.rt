@@ -13,24 +13,14 @@ use std::alloc::Global;
 pub fn is_among(vars: &[Var], x: &Var) -> bool
     ensures value { result ≡ spec.is_among vars.now x.now }
 {
-    for y in vars {
-        if same_var(y, x) {
-            return true;
-        }
-    }
-    false
+    vars.iter().any(|y| same_var(y, x))
 }
 
 /// Whether the variable of each pair is one of these.
 fn are_among(pairs: &[(Var, Value)], vars: &[Var]) -> bool
     ensures { result ≡ list_all (λ p. spec.is_among vars.now p.0) pairs.now }
 {
-    for p in pairs {
-        if !is_among(vars, &p.0) {
-            return false;
-        }
-    }
-    true
+    pairs.iter().all(|p| is_among(vars, &p.0))
 }
 
 /// Returns the pairs of these variables. Shares the environment if it has no others; otherwise it copies each pair that it

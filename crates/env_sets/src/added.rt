@@ -88,16 +88,9 @@ fn block_covers(block: &[Entry], e: &Entry) -> bool
 fn block_for(blocks: &[SharedList<Entry>], e: &Entry) -> usize
     ensures { result ≤ length blocks.now }
 {
-    let (mut low, mut high) = (0, blocks.len());
-    while low < high {
-        let middle = low + (high - low) / 2;
-        if begins_later(blocks[middle].as_slice(), e) {
-            high = middle;
-        } else {
-            low = middle + 1;
-        }
-    }
-    if low == 0 { 0 } else { low - 1 }
+    blocks
+        .partition_point(|block| !begins_later(block.as_slice(), e))
+        .saturating_sub(1)
 }
 
 fn begins_later(block: &[Entry], e: &Entry) -> bool {
@@ -111,16 +104,7 @@ fn begins_later(block: &[Entry], e: &Entry) -> bool {
 fn place_for(block: &[Entry], e: &Entry) -> usize
     ensures { result ≤ length block.now }
 {
-    let (mut low, mut high) = (0, block.len());
-    while low < high {
-        let middle = low + (high - low) / 2;
-        if entry_order(&block[middle], e).is_gt() {
-            high = middle;
-        } else {
-            low = middle + 1;
-        }
-    }
-    low
+    block.partition_point(|other| !entry_order(other, e).is_gt())
 }
 
 /// Whether the last of the entries covers `e`.

@@ -390,10 +390,5 @@ pub fn denotes(a: &EnvSet, env: &Env) -> bool
 fn some_hold(entries: &[Entry], env: &Env) -> bool
     ensures { result ≡ set_denotes entries.now (total env.now) }
 {
-    for e in entries {
-        if entry_holds(e, env) {
-            return true;
-        }
-    }
-    false
+    entries.iter().any(|e| entry_holds(e, env))
 }

@@ -46,10 +46,7 @@ impl Bound {
     pub fn is_not(&self) -> bool
         ensures value { result ≡ is_not self.now }
     {
-        match self {
-            Bound::Is(_) => false,
-            Bound::Not(_) => true,
-        }
+        matches!(self, Bound::Not(_))
     }
 }
 

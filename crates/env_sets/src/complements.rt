@@ -201,23 +201,13 @@ fn one_entry(alloc: Global, e: Entry) -> Result<Vec<Entry>, NoMemory>
 fn are_lone(a: &[Entry], x: &Var) -> bool
     ensures { result ≡ set_vars (λ y. same_var y x.now) a.now }
 {
-    for e in a {
-        if !is_lone(e, x) {
-            return false;
-        }
-    }
-    true
+    a.iter().all(|e| is_lone(e, x))
 }
 
 fn is_lone(e: &Entry, x: &Var) -> bool
     ensures { result ≡ entry_vars (λ y. same_var y x.now) e.now }
 {
-    for p in e.pairs() {
-        if !same_var(&p.0, x) {
-            return false;
-        }
-    }
-    true
+    e.pairs().iter().all(|p| same_var(&p.0, x))
 }
 
 /// Returns the excluded values of x if the entry bounds x and nothing else.
@@ -252,12 +242,7 @@ fn shortest(a: &[Entry]) -> usize
 fn some_allow(a: &[Entry], x: &Var, v: &Value) -> bool
     ensures { result ≡ list_any (λ e. passes x.now (fits v.now) e) a.now }
 {
-    for e in a {
-        if is_allowed(e, x, v) {
-            return true;
-        }
-    }
-    false
+    a.iter().any(|e| is_allowed(e, x, v))
 }
 
 /// Adds the entries, narrowed to x being `v`.

@@ -339,12 +339,7 @@ fn pair_order(p: &(Var, Bound), q: &(Var, Bound)) -> Ordering {
 pub fn entry_holds(entry: &Entry, env: &Env) -> bool
     ensures { result ≡ entry_denotes entry.now (total env.now) }
 {
-    for p in entry.pairs() {
-        if !is_allowed(env, &p.0, &p.1) {
-            return false;
-        }
-    }
-    true
+    entry.pairs().iter().all(|p| is_allowed(env, &p.0, &p.1))
 }
 
 fn is_allowed(env: &Env, v: &Var, bound: &Bound) -> bool

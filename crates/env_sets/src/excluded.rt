@@ -358,24 +358,14 @@ fn put_runs(alloc: Global, out: &mut Vec<Value>, runs: &[SharedList<Value>]) -> 
 fn all_among(items: &[Value], others: &Values) -> bool
     ensures { result ≡ list_all (λ v. list_any (λ w. same w v) others.now) items.now }
 {
-    for v in items {
-        if !others.have(v) {
-            return false;
-        }
-    }
-    true
+    items.iter().all(|v| others.have(v))
 }
 
 /// Like `all_among`, for several lists.
 fn runs_among(runs: &[SharedList<Value>], others: &Values) -> bool
     ensures { result ≡ list_all (λ ws. list_all (λ v. list_any (λ w. same w v) others.now) ws) runs.now }
 {
-    for run in runs {
-        if !all_among(run.as_slice(), others) {
-            return false;
-        }
-    }
-    true
+    runs.iter().all(|run| all_among(run.as_slice(), others))
 }
 
 /// Whether the lists have the same values, one by one.

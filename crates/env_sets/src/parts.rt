@@ -131,24 +131,16 @@ pub fn where_other(alloc: Global, a: &[Entry], x: &Var) -> Result<Vec<Entry>, No
 pub fn is_allowed(e: &Entry, x: &Var, v: &Value) -> bool
     ensures { result ≡ passes x.now (fits v.now) e.now }
 {
-    for p in e.pairs() {
-        if same_var(&p.0, x) && !p.1.allows(v) {
-            return false;
-        }
-    }
-    true
+    e.pairs()
+        .iter()
+        .all(|p| !same_var(&p.0, x) || p.1.allows(v))
 }
 
 /// Whether the entry does not fix x.
 fn is_open(e: &Entry, x: &Var) -> bool
     ensures { result ≡ passes x.now is_not e.now }
 {
-    for p in e.pairs() {
-        if same_var(&p.0, x) && !p.1.is_not() {
-            return false;
-        }
-    }
-    true
+    e.pairs().iter().all(|p| !same_var(&p.0, x) || p.1.is_not())
 }
 
 /// Returns the values that the entries name at x, in order, each once.

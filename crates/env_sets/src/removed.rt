@@ -98,44 +98,28 @@ fn side_at(e: &Entry, x: &Var, v: &Value) -> Option<Ordering>
 fn is_below(e: &Entry, x: &Var, v: &Value) -> bool
     ensures { result ≡ true → (env : Environment) → same v.now (env x.now) ≡ true → side e.now env ≡ Less }
 {
-    match side_at(e, x, v) {
-        Some(Ordering::Less) => true,
-        _ => false,
-    }
+    matches!(side_at(e, x, v), Some(Ordering::Less))
 }
 
 fn is_above(e: &Entry, x: &Var, v: &Value) -> bool
     ensures { result ≡ true → (env : Environment) → same v.now (env x.now) ≡ true → side e.now env ≡ Greater }
 {
-    match side_at(e, x, v) {
-        Some(Ordering::Greater) => true,
-        _ => false,
-    }
+    matches!(side_at(e, x, v), Some(Ordering::Greater))
 }
 
 fn is_at(e: &Entry, x: &Var, v: &Value) -> bool
     ensures { result ≡ true → (env : Environment) → same v.now (env x.now) ≡ false → entry_denotes e.now env ≡ false }
 {
-    match side_at(e, x, v) {
-        Some(Ordering::Equal) => true,
-        _ => false,
-    }
+    matches!(side_at(e, x, v), Some(Ordering::Equal))
 }
 
 /// Returns the index of the last block whose first entry fixes x below `v`, or of the first block if there is none.
 fn block_at(blocks: &[SharedList<Entry>], x: &Var, v: &Value) -> usize
     ensures { result ≤ length blocks.now }
 {
-    let (mut low, mut high) = (0, blocks.len());
-    while low < high {
-        let middle = low + (high - low) / 2;
-        if begins_below(blocks[middle].as_slice(), x, v) {
-            low = middle + 1;
-        } else {
-            high = middle;
-        }
-    }
-    if low == 0 { 0 } else { low - 1 }
+    blocks
+        .partition_point(|block| begins_below(block.as_slice(), x, v))
+        .saturating_sub(1)
 }
 
 fn begins_below(block: &[Entry], x: &Var, v: &Value) -> bool {
@@ -149,16 +133,7 @@ fn begins_below(block: &[Entry], x: &Var, v: &Value) -> bool {
 fn count_before(block: &[Entry], x: &Var, v: &Value) -> usize
     ensures { result ≤ length block.now }
 {
-    let (mut low, mut high) = (0, block.len());
-    while low < high {
-        let middle = low + (high - low) / 2;
-        if is_below(&block[middle], x, v) {
-            low = middle + 1;
-        } else {
-            high = middle;
-        }
-    }
-    low
+    block.partition_point(|e| is_below(e, x, v))
 }
 
 /// Returns the number of entries at the front of a list that fix x at `v`.

@@ -78,21 +78,11 @@ fn most(counts: &[(Var, usize)]) -> usize
 fn some_bound(a: &[Entry], x: &Var) -> bool
     ensures { result ≡ occurs x.now a.now }
 {
-    for e in a {
-        if is_bound(e, x) {
-            return true;
-        }
-    }
-    false
+    a.iter().any(|e| is_bound(e, x))
 }
 
 fn is_bound(e: &Entry, x: &Var) -> bool
     ensures { result ≡ has_pair e.now x.now }
 {
-    for p in e.pairs() {
-        if same_var(&p.0, x) {
-            return true;
-        }
-    }
-    false
+    e.pairs().iter().any(|p| same_var(&p.0, x))
 }

@@ -133,12 +133,7 @@ fn is_last(kept: &[Value], v: &Value) -> bool
 pub fn has(items: &[Value], v: &Value) -> bool
     ensures { result ≡ list_any (λ w. same w v.now) items.now }
 {
-    for w in items {
-        if same_value(w, v) {
-            return true;
-        }
-    }
-    false
+    items.iter().any(|w| same_value(w, v))
 }
 
 /// Like `has`, for a list in order.

@@ -12,7 +12,7 @@ use Rattle.smpl_patch.specs.declared.rule.Rule.{Rule}
 use Rattle.smpl_patch.specs.Bodies.{body}
 use Rattle.smpl_patch.specs.Shapes.{patterns_body}
 use Rattle.ctl_translate.specs.Rules.{first_unbound}
-use Rattle.rule_envs.specs.declared.carrier.FileEnv.{FileEnv}
+use Rattle.rule_envs.specs.declared.file_env.FileEnv.{FileEnv}
 use Rattle.rule_chain.specs.RuleTurn.Turns.{turn_found, turn_carriers}
 use Rattle.rule_chain.specs.RuleEdits.Kinds.{kinds_of}
 use Rattle.rule_chain.specs.RuleEdits.Pages.{is_edited}

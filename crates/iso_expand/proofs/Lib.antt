@@ -1,4 +1,3 @@
-pub mod Weights
 pub mod BodyLemmas
 pub mod DotsLemmas
 pub mod RoomLemmas

@@ -17,7 +17,7 @@ use Rattle.iso_file.specs.Sides.{is_expression_line, second_at, concatenated, ar
 use Rattle.iso_file.specs.Lost.{KeepsAll}
 use Rattle.iso_file.specs.Isos.{OrNoMemory, AreSides, AreVars, IsBehind, IsOfForm, IsIso, IsBlockFault, first_word}
 use Rattle.iso_file.specs.Isos.IsBlockFault.{other_word, of_no_form, lost}
-use Rattle.iso_file.specs.Stepped.{Decides, IsLost, IsCheckedBlock, Judges, IsUnder, Under, IsBlockOf, Behind, IsFormFault, is_begun}
+use Rattle.iso_file.specs.Stepped.{Decides, IsLost, IsCheckedBlock, ChecksBlock, IsUnder, Under, IsBlockOf, Behind, IsFormFault, is_begun}
 use Rattle.iso_file.specs.Stepped.IsFormFault.{of_no_form as no_form_fault, lost as lost_fault}
 
 some_same : (o : Option ℕ) (n m : ℕ) → o ≡ Some n → o ≡ Some m → n ≡ m
@@ -29,7 +29,7 @@ pub under_none : (vars : List VarDecl) (tokens : List PatchToken) (both : List B
 under_none vars tokens both e none trees some are = let l : length both ≡ length (arrows_in tokens) = ap length e in omega arith
 
 pub under_judged_none : (vars : List VarDecl) (tokens : List PatchToken) (sides : List (List PatchToken)) (both : List Bool) → sides ≡ sides_in tokens
-    → Judges vars sides both None → Under vars tokens None
+    → ChecksBlock vars sides both None → Under vars tokens None
 under_judged_none vars tokens sides both e j trees some are = j trees (subst (λ (ss : List (List PatchToken)). AreSides vars ss trees) (sym e) are)
 
 pub under_judged : (vars : List VarDecl) (tokens : List PatchToken) (sides : List (List PatchToken)) (both : List Bool) (j : CheckedBlock) (b : Block)

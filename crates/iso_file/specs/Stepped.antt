@@ -125,9 +125,9 @@ pub record IsCheckedBlock (vars : List VarDecl) (sides : List (List PatchToken))
   pub lost : IsLost vars sides arrows j.lost
 
 -- these sides under these variables, or none if they aren't of the form
-abbrev pub Judges : List VarDecl → List (List PatchToken) → List Bool → Option CheckedBlock → Type 0
-Judges vars sides arrows None = (trees : List Tree) → AreSides vars sides trees → ⊥
-Judges vars sides arrows (Some j) = IsCheckedBlock vars sides arrows j
+abbrev pub ChecksBlock : List VarDecl → List (List PatchToken) → List Bool → Option CheckedBlock → Type 0
+ChecksBlock vars sides arrows None = (trees : List Tree) → AreSides vars sides trees → ⊥
+ChecksBlock vars sides arrows (Some j) = IsCheckedBlock vars sides arrows j
 
 -- the tokens after `@@`, under variables
 pub record IsUnder (vars : List VarDecl) (tokens : List PatchToken) (b : Block) : Type 0 where

@@ -3,7 +3,7 @@ ghost use Rattle.std.specs.Prelude.{◌≡◌, ◌+◌, ◌<◌, Some, IsSome, I
 ghost use Rattle.iso_file.specs.Blocks.{header_name};
 ghost use Rattle.iso_file.specs.Isos.{IsIso, IsBlockFault, OrNoMemory, first_word};
 ghost use Rattle.iso_file.specs.Stepped as stepped;
-ghost use Rattle.iso_file.specs.Stepped.{Judges, Under, Behind, IsFormFault};
+ghost use Rattle.iso_file.specs.Stepped.{ChecksBlock, Under, Behind, IsFormFault};
 
 use crate::fault::IsoFault;
 use crate::header::{concatenated, is_expression_line, is_header, second_at};
@@ -26,14 +26,14 @@ pub struct CheckedBlock {
 }
 
 /// Returns the trees of sides under variables and what is lost between them, or `None` if they aren't of the form.
-fn judge(
+fn check_block(
     alloc: Global,
     vars: &[VarDecl],
     sides: &[Items<PatchToken>],
     both: &[bool],
 ) -> Result<Option<CheckedBlock>, NoMemory>
     requires { length sides.now ≡ length both.now + 1 }
-    ensures { IfOk result (λ j. Judges vars.now sides.now both.now j) }
+    ensures { IfOk result (λ j. ChecksBlock vars.now sides.now both.now j) }
 {
     let table = VarTable::of(alloc, vars)?;
     match trees_of(alloc, &table, sides)? {
@@ -66,7 +66,7 @@ fn under(
     if both.is_empty() {
         return Ok(None);
     }
-    match judge(alloc, vars.as_slice(), sides.as_slice(), both.as_slice())? {
+    match check_block(alloc, vars.as_slice(), sides.as_slice(), both.as_slice())? {
         None => Ok(None),
         Some(found) => {
             let CheckedBlock { trees, lost } = found;

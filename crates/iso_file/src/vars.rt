@@ -34,12 +34,12 @@ fn are_of_kinds(tokens: &[PatchToken]) -> bool
 fn is_kind(kind: VarKind) -> bool
     ensures { result ≡ spec.is_kind kind }
 {
-    match kind {
-        VarKind::Meta(MetaKind::Expr) => true,
-        VarKind::Meta(MetaKind::Constant) => true,
-        VarKind::Meta(MetaKind::Ident) => true,
-        _ => false,
-    }
+    matches!(
+        kind,
+        VarKind::Meta(MetaKind::Expr)
+            | VarKind::Meta(MetaKind::Constant)
+            | VarKind::Meta(MetaKind::Ident)
+    )
 }
 
 fn have_kinds(vars: &[VarDecl]) -> bool

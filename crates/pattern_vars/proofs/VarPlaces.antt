@@ -1,5 +1,4 @@
 -- Lemmas of var_places.
-pub mod Weights
 pub mod KeptLemmas
 pub mod HomeLemmas
 pub mod ShareLemmas

@@ -2,6 +2,7 @@
 ghost use Rattle.std.specs.Prelude.{◌≡◌, ◌≤◌, ◌<◌, ◌+◌, ◌^◌, ◌⊎◌, ℕ, IfOk, IfErr, length, drop};
 ghost use Rattle.std.specs.List.{AllZip};
 ghost use Rattle.c_lexer.specs.Lexes.{Lexes};
+ghost use Rattle.c_lexer.specs.Pieces.{most_bytes};
 ghost use Rattle.c_file.specs.Reads.{Reads};
 ghost use Rattle.rule_envs.specs.RuleFormulas.Prepared.{ArePrepared};
 ghost use Rattle.rule_chain.specs.RuleWork.States.{Chained, first_state};
@@ -20,7 +21,7 @@ use crate::state::{Applied, Reached, Step};
 use c_file::read_file;
 use c_terms::{NoMemory, Text};
 use par_match::Gate;
-use rule_envs::{Prepared, PreparedRule, first_carriers};
+use rule_envs::{Prepared, PreparedRule, first_file_envs};
 use smpl_patch::{Patch, Rule};
 use sqlite_items::Items;
 use std::alloc::Global;
@@ -42,7 +43,7 @@ fn begin(alloc: Global, bytes: Vec<u8>) -> Result<Reached, NoMemory>
     let file = read_file(alloc, lexed)?;
     let skipped = with_notes(Items::new(alloc), 0, file.items())?;
     let findings = FileState {
-        carriers: first_carriers(alloc)?,
+        carriers: first_file_envs(alloc)?,
         had: Items::new(alloc),
         found: Items::new(alloc),
     };
@@ -207,7 +208,7 @@ pub fn apply<R: Threads + Sync, G: Gate>(
 ) -> Result<Applied, FileFault>
     requires some_jobs { 1 ≤ jobs }
     requires few_jobs { jobs ≤ 64 }
-    requires short { length bytes.items ≤ 16777216 }
+    requires short { length bytes.items ≤ most_bytes }
     requires few { length patch.now.rules < 2 ^ 32 }
     requires prepared { ArePrepared patch.now.rules prepared.now.rules }
     requires may { AllZip MayRun patch.now.rules prepared.now.rules }

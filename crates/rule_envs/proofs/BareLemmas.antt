@@ -7,9 +7,9 @@ use Rattle.smpl_terms.specs.declared.var.Var.{Var}
 use Rattle.smpl_patch.specs.declared.rule.Dep.{Dep}
 use Rattle.env_parts.specs.Parts.{Pairs, bare_env, restricted, same_env, with_new, distinct_after, distinct}
 use Rattle.env_parts.proofs.PartLemmas.{restricted-bare, same_env-bare_both}
-use Rattle.rule_envs.specs.declared.carrier.FileEnv.{FileEnv}
-use Rattle.rule_envs.specs.Shares.{bare_carrier, share, projections}
-use Rattle.rule_envs.specs.Carriers.{exported}
+use Rattle.rule_envs.specs.declared.file_env.FileEnv.{FileEnv}
+use Rattle.rule_envs.specs.Shares.{bare_file_env, share, projections}
+use Rattle.rule_envs.specs.FileEnvs.{exported}
 use Rattle.rule_envs.proofs.ShareLemmas.{share-bare}
 
 seen-bare : (seen : List Pairs) (env : Pairs) → list_any (same_env (bare_env env)) (map bare_env seen) ≡ list_any (same_env env) seen
@@ -35,14 +35,14 @@ cons-bare None rest = refl
 cons-bare (Some env) rest = refl
 
 all_shares-bare : (defined : List (List ℕ)) (had : List ℕ) (depends : Dep) (inherited : List Var) (cs : List FileEnv)
-    → map bare_env (filter_map (share defined had depends inherited) cs) ≡ filter_map (share defined had depends inherited) (map bare_carrier cs)
+    → map bare_env (filter_map (share defined had depends inherited) cs) ≡ filter_map (share defined had depends inherited) (map bare_file_env cs)
 all_shares-bare defined had depends inherited [] = refl
 all_shares-bare defined had depends inherited (c ∷ cs) =
     cons-bare (share defined had depends inherited c) (filter_map (share defined had depends inherited) cs)
     ∙ (λ i. cons_option (sym (share-bare defined had depends inherited c) i) (all_shares-bare defined had depends inherited cs i))
 
 pub projections-bare : (defined : List (List ℕ)) (had : List ℕ) (depends : Dep) (inherited : List Var) (cs : List FileEnv)
-    → map bare_env (projections defined had depends inherited cs) ≡ projections defined had depends inherited (map bare_carrier cs)
+    → map bare_env (projections defined had depends inherited cs) ≡ projections defined had depends inherited (map bare_file_env cs)
 projections-bare defined had depends inherited cs =
     distinct-bare [] (filter_map (share defined had depends inherited) cs) ∙ ap distinct (all_shares-bare defined had depends inherited cs)
 

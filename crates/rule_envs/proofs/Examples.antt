@@ -7,10 +7,10 @@ use Rattle.smpl_terms.specs.declared.value.Value.TheVariants.{Place}
 use Rattle.smpl_terms.specs.Environments.{has_value}
 use Rattle.smpl_patch.specs.declared.rule.Dep.TheVariants.{Always, Had, Ever}
 use Rattle.env_parts.specs.Parts.{Pairs, restricted, distinct}
-use Rattle.rule_envs.specs.declared.carrier.FileEnv.{FileEnv}
+use Rattle.rule_envs.specs.declared.file_env.FileEnv.{FileEnv}
 use Rattle.rule_envs.specs.Depends.{judge}
 use Rattle.rule_envs.specs.Shares.{projections}
-use Rattle.rule_envs.specs.Carriers.{exported, first_carriers, next_carriers}
+use Rattle.rule_envs.specs.FileEnvs.{exported, first_file_envs, next_file_envs}
 use Rattle.rule_envs.proofs.DependLemmas.{judge-Always, judge-Had, judge-Ever}
 
 abbrev a : Var
@@ -46,15 +46,15 @@ in_order : exported (a ∷ []) (both 5 1 ∷ both 2 1 ∷ both 5 3 ∷ []) ≡ (
 in_order = refl
 
 -- two witnesses of the first rule: each makes a new environment from the empty one
-each_its_own : next_carriers 0 (λ c. Some c.env) (λ env. both 1 2 ∷ both 3 4 ∷ []) first_carriers
+each_its_own : next_file_envs 0 (λ c. Some c.env) (λ env. both 1 2 ∷ both 3 4 ∷ []) first_file_envs
     ≡ carrier (both 1 2) (0 ∷ []) ∷ carrier (both 3 4) (0 ∷ []) ∷ []
 each_its_own = refl
 
 -- an environment without a witness stays, and doesn't carry the rule; so does one that takes no part
-stays : next_carriers 1 (λ c. Some c.env) (λ env. []) first_carriers ≡ first_carriers
+stays : next_file_envs 1 (λ c. Some c.env) (λ env. []) first_file_envs ≡ first_file_envs
 stays = refl
 
-no_part : next_carriers 1 (λ c. None) (λ env. both 1 2 ∷ []) first_carriers ≡ first_carriers
+no_part : next_file_envs 1 (λ c. None) (λ env. both 1 2 ∷ []) first_file_envs ≡ first_file_envs
 no_part = refl
 
 -- a rule's name is looked up only in the environment, and `ever` in the file: here the environment of the second witness, after

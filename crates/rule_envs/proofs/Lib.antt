@@ -1,5 +1,5 @@
 pub mod BareLemmas
-pub mod CarrierLemmas
+pub mod FileEnvLemmas
 pub mod DependLemmas
 pub mod ShareLemmas
 mod Examples

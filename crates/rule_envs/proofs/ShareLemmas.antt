@@ -10,9 +10,9 @@ use Rattle.smpl_terms.specs.Environments.{has_value}
 use Rattle.smpl_patch.specs.declared.rule.Dep.{Dep}
 use Rattle.env_parts.specs.Parts.{Pairs, bare_env, restricted, same_env, with_new, distinct_after}
 use Rattle.env_parts.proofs.PartLemmas.{has_value-bare, restricted-bare, same_env-bare}
-use Rattle.rule_envs.specs.declared.carrier.FileEnv.{FileEnv}
+use Rattle.rule_envs.specs.declared.file_env.FileEnv.{FileEnv}
 use Rattle.rule_envs.specs.Depends.{judge}
-use Rattle.rule_envs.specs.Shares.{bare_carrier, share, StandsAt}
+use Rattle.rule_envs.specs.Shares.{bare_file_env, share, StandsAt}
 
 has_all-bare : (env : Pairs) (vars : List Var) → list_all (has_value (bare_env env)) vars ≡ list_all (has_value env) vars
 has_all-bare env [] = refl
@@ -20,7 +20,7 @@ has_all-bare env (x ∷ xs) = λ i. has_value-bare env x i && has_all-bare env x
 
 -- a share doesn't depend on ids
 pub share-bare : (defined : List (List ℕ)) (had : List ℕ) (depends : Dep) (inherited : List Var) (c : FileEnv)
-    → share defined had depends inherited (bare_carrier c) ≡ option_map bare_env (share defined had depends inherited c)
+    → share defined had depends inherited (bare_file_env c) ≡ option_map bare_env (share defined had depends inherited c)
 share-bare defined had depends inherited c =
     (λ i. cond (judge c.rules had defined depends && has_all-bare c.env inherited i) (Some (restricted-bare inherited c.env i)) None)
     ∙ elim (judge c.rules had defined depends && list_all (has_value c.env) inherited) as

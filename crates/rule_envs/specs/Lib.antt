@@ -2,7 +2,7 @@
 pub mod Depends
 pub mod Inherited
 pub mod Shares
-pub mod Carriers
+pub mod FileEnvs
 pub mod Places
 -- What rule_formulas defines.
 pub mod RuleFormulas

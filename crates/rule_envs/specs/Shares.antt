@@ -5,12 +5,12 @@ use Rattle.smpl_terms.specs.declared.var.Var.{Var}
 use Rattle.smpl_terms.specs.Environments.{has_value}
 use Rattle.smpl_patch.specs.declared.rule.Dep.{Dep}
 use Rattle.env_parts.specs.Parts.{Pairs, restricted, distinct, bare_env}
-use Rattle.rule_envs.specs.declared.carrier.FileEnv.{FileEnv}
+use Rattle.rule_envs.specs.declared.file_env.FileEnv.{FileEnv}
 use Rattle.rule_envs.specs.Depends.{judge}
 
 -- the environment without the ids of tokens
-abbrev pub bare_carrier : FileEnv → FileEnv
-bare_carrier c = record c { env = bare_env c.env }
+abbrev pub bare_file_env : FileEnv → FileEnv
+bare_file_env c = record c { env = bare_env c.env }
 
 module _ (defined : List (List ℕ)) (had : List ℕ) (depends : Dep) (inherited : List Var) where
   -- the condition that the rule depends on holds for the environment, and it has all inherited variables

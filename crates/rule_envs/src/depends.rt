@@ -31,21 +31,13 @@ pub fn judge(dep: &Dep, carried: &[u32], had: &[u32], defined: &[Text]) -> bool
 fn has_rule(rule: u32, rules: &[u32]) -> bool
     ensures { result ≡ list_any (λ r. eqb r rule) rules.now }
 {
-    for r in rules {
-        if *r == rule {
-            return true;
-        }
-    }
-    false
+    rules.iter().any(|r| *r == rule)
 }
 
 fn is_defined(name: &Text, defined: &[Text]) -> bool
     ensures { result ≡ list_any (λ d. same_bytes d name.now) defined.now }
 {
-    for d in defined {
-        if same_text(d.as_bytes(), name.as_bytes()) {
-            return true;
-        }
-    }
-    false
+    defined
+        .iter()
+        .any(|d| same_text(d.as_bytes(), name.as_bytes()))
 }

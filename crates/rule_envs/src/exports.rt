@@ -1,6 +1,6 @@
 // The values that witnesses pass to later rules.
 ghost use Rattle.std.specs.Prelude.{◌≡◌, IfOk, map};
-ghost use Rattle.rule_envs.specs.Carriers as spec;
+ghost use Rattle.rule_envs.specs.FileEnvs as spec;
 
 use c_terms::NoMemory;
 use env_parts::{DistinctEnvs, restricted};

@@ -4,7 +4,7 @@
 //! - [`inherited_of`] lists the variables that a rule takes from earlier ones.
 //! - [`projections`] chooses the environments that take part and returns their distinct values of those variables, each once.
 //! - [`exported`] returns the distinct values of exported variables that some witnesses pass to later rules.
-//! - [`next_carriers`] replaces each environment that got witnesses by its extensions.
+//! - [`next_file_envs`] replaces each environment that got witnesses by its extensions.
 //! - [`ids_do_not_count`] is a law, and does nothing: values are compared without the ids of their tokens.
 //!
 //! Values of two environments are never combined: a projection is a part of one environment, and what is found under it extends
@@ -16,22 +16,22 @@
 //!   earlier rules.
 #![tactic(auto)]
 
-mod carrier;
 mod depends;
 mod exports;
 mod fault;
+mod file_env;
 mod inherited;
 mod laws;
 mod next;
 mod rule_formulas;
 mod shares;
 
-pub use carrier::{FileEnv, envs_of, first_carriers};
 pub use depends::judge;
 pub use exports::exported;
 pub use fault::EnvsFault;
+pub use file_env::{FileEnv, envs_of, first_file_envs};
 pub use inherited::inherited_of;
 pub use laws::ids_do_not_count;
-pub use next::next_carriers;
+pub use next::next_file_envs;
 pub use rule_formulas::{Prepared, PreparedRule, exported_variables_are_bound, prepare};
 pub use shares::{Projected, projections};

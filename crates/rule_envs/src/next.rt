@@ -1,13 +1,13 @@
 // The environments after a rule.
 ghost use Rattle.std.specs.Prelude.{◌≡◌, ◌<◌, ◌≤◌, ◌++◌, ℕ, List, [], Option, IfOk, IfErr, IsErrOf, map, length};
 ghost use Rattle.env_parts.specs.Parts.{Pairs, bare_env};
-ghost use Rattle.rule_envs.specs.declared.carrier.FileEnv.{FileEnv as One};
-ghost use Rattle.rule_envs.specs.Shares.{bare_carrier};
-ghost use Rattle.rule_envs.specs.Carriers as spec;
+ghost use Rattle.rule_envs.specs.declared.file_env.FileEnv.{FileEnv as One};
+ghost use Rattle.rule_envs.specs.Shares.{bare_file_env};
+ghost use Rattle.rule_envs.specs.FileEnvs as spec;
 ghost use Rattle.rule_envs.specs.Places.{parts_at};
 
-use crate::carrier::{FileEnv, copied};
 use crate::fault::EnvsFault;
+use crate::file_env::{FileEnv, copied};
 use c_terms::NoMemory;
 use env_parts::joined;
 use smpl_terms::{Env, SharedList};
@@ -81,7 +81,7 @@ fn parts_of<'a>(parts: &'a [Items<Env>], place: Option<usize>) -> &'a [Env]
 ///
 /// - `TooMany`: more than 10,000 environments result. At most one environment's extensions are made beyond that.
 /// - `NoMemory`: out of memory.
-pub fn next_carriers(
+pub fn next_file_envs(
     alloc: Global,
     number: u32,
     carriers: &[FileEnv],
@@ -90,12 +90,12 @@ pub fn next_carriers(
 ) -> Result<Items<FileEnv>, EnvsFault>
     requires lengths { length places.now ≡ length carriers.now }
     ensures carriers { IfOk result (λ next. (share : One → Option Pairs) (brings : Pairs → List Pairs)
-        → spec.AreBrought share brings (map bare_carrier carriers.now) places.now (map (map bare_env) parts.now)
-        → map bare_carrier next ≡ spec.next_carriers number share brings (map bare_carrier carriers.now)) }
+        → spec.AreBrought share brings (map bare_file_env carriers.now) places.now (map (map bare_env) parts.now)
+        → map bare_file_env next ≡ spec.next_file_envs number share brings (map bare_file_env carriers.now)) }
     ensures few { IfOk result (λ next. length next ≤ spec.most_environments) }
     ensures too_many { IsErrOf result EnvsFault.TooMany → (share : One → Option Pairs) (brings : Pairs → List Pairs)
-        → spec.AreBrought share brings (map bare_carrier carriers.now) places.now (map (map bare_env) parts.now)
-        → spec.most_environments < length (spec.next_carriers number share brings (map bare_carrier carriers.now)) }
+        → spec.AreBrought share brings (map bare_file_env carriers.now) places.now (map (map bare_env) parts.now)
+        → spec.most_environments < length (spec.next_file_envs number share brings (map bare_file_env carriers.now)) }
 {
     let mut next = Items::new(alloc);
     for i in 0..carriers.len() {

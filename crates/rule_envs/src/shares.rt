@@ -5,8 +5,8 @@ ghost use Rattle.smpl_terms.specs.Environments.{has_value};
 ghost use Rattle.env_parts.specs.Parts as parts;
 ghost use Rattle.rule_envs.specs.Shares as spec;
 
-use crate::carrier::FileEnv;
 use crate::depends::judge;
+use crate::file_env::FileEnv;
 use c_terms::{NoMemory, Text};
 use env_parts::{DistinctEnvs, restricted};
 use smpl_patch::Dep;
@@ -25,12 +25,7 @@ pub struct Projected {
 fn has_all(env: &Env, vars: &[Var]) -> bool
     ensures { result ≡ list_all (has_value env.now) vars.now }
 {
-    for x in vars {
-        if !env.has(x) {
-            return false;
-        }
-    }
-    true
+    vars.iter().all(|x| env.has(x))
 }
 
 /// Returns the environment's values of the inherited variables, if it takes part in the rule.
@@ -92,7 +87,7 @@ pub fn projections(
     ensures projections { IfOk result (λ r. r.projections
         ≡ spec.projections defined.now had.now depends.now inherited.now carriers.now) }
     ensures places { IfOk result (λ r. AllZip (spec.StandsAt (map parts.bare_env r.projections))
-        (map (spec.share defined.now had.now depends.now inherited.now) (map spec.bare_carrier carriers.now)) r.places) }
+        (map (spec.share defined.now had.now depends.now inherited.now) (map spec.bare_file_env carriers.now)) r.places) }
 {
     let mut envs = DistinctEnvs::new(alloc);
     let mut places = Items::new(alloc);

@@ -1,6 +1,7 @@
 -- The acts that result from a text under a patch, and whether it is refused.
 use Rattle.std.specs.Prelude.{ℕ, ◌≡◌, ◌⊎◌, ◌<◌, ◌≤◌, Bool, true, false, List, [], ◌∷◌, ◌++◌, length, map, cond, Option, None}
 use Rattle.c_terms.specs.Same.{same_bytes}
+use Rattle.c_lexer.specs.Pieces.{most_bytes}
 use Rattle.outer_io.specs.Files.{Files}
 use Rattle.run_acts.specs.Acts.{Act, Store, Print, Report}
 use Rattle.run_words.specs.declared.order.Mode.{Mode}
@@ -13,7 +14,7 @@ use Rattle.rule_chain.specs.Chain.{Chain, Outcome, Done, Refused}
 
 -- the maximum number of bytes of a file
 abbrev pub file_limit : ℕ
-file_limit = 16777216
+file_limit = most_bytes
 
 -- what results from a text: acts, and whether it is refused
 pub record Treated : Type 0 where

@@ -1,5 +1,6 @@
 // Applies a patch to the bytes of a text.
 ghost use Rattle.std.specs.Prelude.{◌≤◌, ◌↔◌, ◌≡◌, List, ℕ, Option, IsTrue, length, IfOk, IfErr};
+ghost use Rattle.c_lexer.specs.Pieces.{most_bytes};
 ghost use Rattle.outer_io.specs.Files.{Files};
 ghost use Rattle.run_acts.specs.Acts.{told};
 ghost use Rattle.run_acts.specs.Breaks.{counts};
@@ -49,7 +50,7 @@ pub fn apply_or_refuse<R: Threads + Sync, E: Sink, G: Gate>(
     gate: &G,
 ) -> Result<Option<Applied>, Stopped>
     requires ready { IsReady ready.now.patch.now ready.now.prepared.now }
-    requires short { length bytes.items ≤ 16777216 }
+    requires short { length bytes.items ≤ most_bytes }
     ensures done { IfOk result (λ applied. (files : Option Files) (stores : ℕ) (out : Option (List ℕ)) →
         AppliesTo ready.now.patch.now ready.now.defined.now name.now bytes.items applied
         (told files stores out (E.written err.old)) (told files stores out (E.written err.new))) }

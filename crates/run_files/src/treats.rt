@@ -1,5 +1,6 @@
 // The treatment of one text.
 ghost use Rattle.std.specs.Prelude.{◌≡◌, ◌≤◌, List, ℕ, Option, length, IfOk, OnOk, IfErr};
+ghost use Rattle.c_lexer.specs.Pieces.{most_bytes};
 ghost use Rattle.outer_io.specs.Files.{Files};
 ghost use Rattle.run_acts.specs.Acts.{told};
 ghost use Rattle.run_acts.specs.Breaks.{counts};
@@ -57,7 +58,7 @@ pub fn treat<R: Threads + Sync, S: Shelf, O: Sink, E: Sink, G: Gate>(
     gate: &G,
 ) -> Result<bool, Stopped>
     requires ready { IsReady ready.now.patch.now ready.now.prepared.now }
-    requires short { length bytes.items ≤ 16777216 }
+    requires short { length bytes.items ≤ most_bytes }
     ensures treated { IfOk result (λ refused. TreatsAll (Treats mode ready.now.patch.now ready.now.defined.now name.now bytes.items) refused
         (told (S.holds shelf.old) (S.stores shelf.old) (O.written out.old) (E.written err.old))
         (told (S.holds shelf.new) (S.stores shelf.new) (O.written out.new) (E.written err.new))) }
@@ -155,7 +156,7 @@ pub fn sum<R: Threads + Sync, O: Sink, E: Sink, G: Gate>(
     gate: &G,
 ) -> Result<bool, Stopped>
     requires ready { IsReady ready.now.patch.now ready.now.prepared.now }
-    requires short { length bytes.items ≤ 16777216 }
+    requires short { length bytes.items ≤ most_bytes }
     ensures treated { IfOk result (λ refused. (files : Option Files) (stores : ℕ) →
         TreatsAll (Sums ready.now.patch.now ready.now.defined.now name.now bytes.items) refused
         (told files stores (O.written out.old) (E.written err.old)) (told files stores (O.written out.new) (E.written err.new))) }

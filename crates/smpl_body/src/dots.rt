@@ -10,20 +10,13 @@ use std::alloc::Global;
 pub(crate) fn is_dots(kind: TokenKind) -> bool
     ensures { result ≡ spec.is_dots kind }
 {
-    match kind {
-        TokenKind::Dots => true,
-        _ => false,
-    }
+    matches!(kind, TokenKind::Dots)
 }
 
 fn is_list(label: Label) -> bool
     ensures { result ≡ spec.is_list label }
 {
-    match label {
-        Label::Args => true,
-        Label::Params => true,
-        _ => false,
-    }
+    matches!(label, Label::Args | Label::Params)
 }
 
 fn is_wanted(listed: bool, inside: bool) -> bool

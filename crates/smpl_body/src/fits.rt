@@ -23,21 +23,13 @@ fn has_position(found: Option<&Placed>) -> bool
 fn without_positions(placed: &[Placed], ids: &[u64]) -> bool
     ensures { result ≡ spec.without_positions placed.now ids.now }
 {
-    for id in ids {
-        if has_position(at(placed, *id as usize)) {
-            return false;
-        }
-    }
-    true
+    ids.iter().all(|id| !has_position(at(placed, *id as usize)))
 }
 
 pub(crate) fn is_pat(kind: TokenKind) -> bool
     ensures { result ≡ spec.is_pat kind }
 {
-    match kind {
-        TokenKind::Pat => true,
-        _ => false,
-    }
+    matches!(kind, TokenKind::Pat)
 }
 
 fn sign_fits(p: &Placed) -> bool
@@ -50,12 +42,7 @@ fn sign_fits(p: &Placed) -> bool
 fn signs_fit(placed: &[Placed]) -> bool
     ensures { result ≡ spec.signs_fit placed.now }
 {
-    for p in placed {
-        if !sign_fits(p) {
-            return false;
-        }
-    }
-    true
+    placed.iter().all(|p| sign_fits(p))
 }
 
 fn says_nothing(found: Option<&WhenFlags>) -> bool
@@ -71,12 +58,7 @@ fn says_nothing(found: Option<&WhenFlags>) -> bool
 fn without_clauses(said: &Clauses, ids: &[u64]) -> bool
     ensures { result ≡ spec.without_clauses said.now ids.now }
 {
-    for id in ids {
-        if !says_nothing(said.get(*id)) {
-            return false;
-        }
-    }
-    true
+    ids.iter().all(|id| says_nothing(said.get(*id)))
 }
 
 /// Whether no position follows dots that are statements, a sign, or a word of a clause, and no dots that are members of a

@@ -1,4 +1,3 @@
-pub mod TakenLemmas
 pub mod ExportLemmas
 pub mod RuleLemmas
 pub mod FaultLemmas

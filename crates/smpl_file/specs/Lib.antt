@@ -1,7 +1,5 @@
 -- What public contracts rest on, in reading order: what rules take from one another, and whole patches.
 pub mod Exports
 pub mod Patches
--- For internal use: variables as keys.
-pub mod Keys
 -- What smpl_check defines.
 pub mod SmplCheck

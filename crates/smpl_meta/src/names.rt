@@ -11,10 +11,7 @@ use std::alloc::Global;
 pub fn is_keyword(t: &PatchToken) -> bool
     ensures { result ≡ spec.is_keyword t.now }
 {
-    match t.token.kind {
-        TokenKind::Keyword => true,
-        _ => false,
-    }
+    matches!(t.token.kind, TokenKind::Keyword)
 }
 
 /// Whether the token has the form of a name, even if it is a keyword.

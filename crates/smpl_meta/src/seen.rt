@@ -19,10 +19,7 @@ pub struct Seen {
 pub fn is_symbol(kind: DeclKind) -> bool
     ensures { result ≡ declared.is_symbol kind }
 {
-    match kind {
-        DeclKind::Symbol => true,
-        DeclKind::Var(_) => false,
-    }
+    matches!(kind, DeclKind::Symbol)
 }
 
 /// Whether an earlier item has the same name, unless both are symbols. Takes one look-up.

@@ -1,5 +1,6 @@
 pub mod SureLemmas
 pub mod BodyLemmas
+pub mod Weights
 pub mod EqualLemmas
 pub mod FaultLemmas
 mod Examples

@@ -14,10 +14,7 @@ use smpl_terms::{Var, same_var};
 fn is_position_kind(kind: VarKind) -> bool
     ensures { result ≡ spec.is_position_kind kind }
 {
-    match kind {
-        VarKind::Position => true,
-        VarKind::Meta(_) => false,
-    }
+    matches!(kind, VarKind::Position)
 }
 
 /// Returns the declaration of the metavariable with this name: the first one of the name that is not a position. Takes no
@@ -37,12 +34,7 @@ pub fn declared_as<'a>(decls: &'a [VarDecl], name: &[u8]) -> Option<&'a VarDecl>
 pub fn has_var(vars: &[Var], x: &Var) -> bool
     ensures value { result ≡ list_any (λ y. same_var y x.now) vars.now }
 {
-    for y in vars {
-        if same_var(y, x) {
-            return true;
-        }
-    }
-    false
+    vars.iter().any(|y| same_var(y, x))
 }
 
 fn is_declared_as(decls: &[VarDecl], name: &[u8], x: &Var) -> bool
@@ -107,12 +99,10 @@ pub(crate) fn stands_in(decls: &[VarDecl], tokens: &[PatToken], x: &Var, tree: &
 fn in_line(decls: &[VarDecl], x: &Var, line: &PlusLine) -> bool
     ensures { result ≡ spec.in_line decls.now x.now line.now }
 {
-    for token in line.tokens.as_slice() {
-        if is_meta_of(decls, token, x) {
-            return true;
-        }
-    }
-    false
+    line.tokens
+        .as_slice()
+        .iter()
+        .any(|token| is_meta_of(decls, token, x))
 }
 
 fn in_block(decls: &[VarDecl], x: &Var, block: &Option<PlusBlock>) -> bool
@@ -166,10 +156,7 @@ pub(crate) fn used_in(decls: &[VarDecl], tokens: &[PatToken], x: &Var, tree: &Tr
 pub fn is_statement_kind(kind: TokenKind) -> bool
     ensures { result ≡ spec.is_statement_token kind }
 {
-    match kind {
-        TokenKind::Meta(MetaKind::Stmt) => true,
-        _ => false,
-    }
+    matches!(kind, TokenKind::Meta(MetaKind::Stmt))
 }
 
 fn is_statement_tree(tree: &Tree) -> bool

@@ -10,10 +10,7 @@ use smpl_terms::Var;
 pub fn is_sign(kind: TokenKind) -> bool
     ensures { result ≡ spec.is_sign kind }
 {
-    match kind {
-        TokenKind::Pat => true,
-        _ => false,
-    }
+    matches!(kind, TokenKind::Pat)
 }
 
 pub fn is_sign_tree(tree: &Tree) -> bool

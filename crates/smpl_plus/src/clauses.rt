@@ -132,12 +132,7 @@ fn stand(place: Where, p: &Placed) -> Standing
 fn is_code(kind: TokenKind) -> bool
     ensures { result ≡ spec.is_code kind }
 {
-    match kind {
-        TokenKind::Dots => false,
-        TokenKind::Pat => false,
-        TokenKind::Stray => false,
-        _ => true,
-    }
+    !matches!(kind, TokenKind::Dots | TokenKind::Pat | TokenKind::Stray)
 }
 
 /// Returns for each token whether plus code may be anchored at it: it is one of C or a metavariable, outside clauses. Linear.

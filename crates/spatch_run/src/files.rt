@@ -10,6 +10,7 @@ ghost use Rattle.run_files.specs.RunStages.Ends.{Ends};
 ghost use Rattle.spatch_run.specs.Answer.{answer};
 
 use crate::refusals::refuse_absent;
+use c_lexer::MOST_BYTES;
 use outer_io::{Shelf, Sink};
 use par_match::Gate;
 use run_acts::{Loaded, Status, Stopped, load};
@@ -18,7 +19,7 @@ use run_words::Mode;
 use std::alloc::Global;
 use std::thread::Threads;
 
-const FILE_LIMIT: u64 = 16_777_216;
+const FILE_LIMIT: u64 = MOST_BYTES as u64;
 
 /// Returns the status at the end, by whether something was refused.
 pub fn end_status(refused: bool) -> Status

@@ -22,7 +22,7 @@ use Rattle.ctl_fixpoint.specs.CtlHolds.Rounds.{holds}
 use Rattle.ctl_fixpoint.specs.CtlHolds.Values.{values_of}
 use Rattle.ctl_fixpoint.specs.States.{AreStateSets}
 use Rattle.wit_forest.specs.WitOrder.Forests.{has, Rise}
-use Rattle.wit_forest.specs.WitOrder.Sizes.{forest_size}
+use Rattle.wit_forest.specs.WitOrder.Sizes.{forest_size, most_nodes}
 use Rattle.wit_forest.specs.WitTrees.Alike.{Alike}
 use Rattle.wit_forest.specs.WitTrees.Forest.{is_hidden}
 use Rattle.wit_forest.specs.WitTrees.Graphs.{forest_of}
@@ -33,7 +33,7 @@ use Rattle.wit_forest.specs.declared.states.State.{State}
 -- different trees that pass the test have more touches and binds than a forest may have
 abbrev pub HasTooMany : List VarDecl → (Witness → Bool) → Type 0
 HasTooMany decls test =
-    (zs : List Witness) × Rise decls zs × ((z : Witness) → has zs z ≡ true → test z ≡ true) × (1000000 < forest_size zs)
+    (zs : List Witness) × Rise decls zs × ((z : Witness) → has zs z ≡ true → test z ≡ true) × (most_nodes < forest_size zs)
 
 -- the part at the node under an environment with the same values is among the states
 abbrev pub Covered : List State → ℕ → ℕ → Environment → Type 0

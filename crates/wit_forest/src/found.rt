@@ -4,7 +4,7 @@ ghost use Rattle.cfg_build.specs.CfgGraph.Flow.{count_of};
 ghost use Rattle.smpl_terms.specs.Environments.{total};
 ghost use Rattle.smpl_patch.specs.declared.witness.Witness.{Witness as Tree};
 ghost use Rattle.wit_forest.specs.WitOrder.Same.{same_witness};
-ghost use Rattle.wit_forest.specs.WitOrder.Sizes.{forest_size};
+ghost use Rattle.wit_forest.specs.WitOrder.Sizes.{forest_size, most_nodes};
 ghost use Rattle.wit_forest.specs.WitOrder.Forests.{has, HaveSame, Rise};
 ghost use Rattle.wit_forest.specs.WitSteps.Touches.{own_touches};
 ghost use Rattle.wit_forest.specs.Gathered.{HasTooMany};
@@ -21,7 +21,7 @@ use std::marker::Model;
 use std::mem;
 
 /// The largest number of nodes that a forest may have.
-const MOST: u32 = 1_000_000;
+pub const MOST_NODES: u32 = 1_000_000;
 
 /// Trees that have been found; the same tree may occur several times. Contracts see the list.
 ///
@@ -52,14 +52,14 @@ impl Model for Found {
 fn settled(alloc: Global, decls: &[VarDecl], trees: Vec<Witness>) -> Result<Found, ForestFault>
     ensures trees { IfOk result (λ r. HaveSame r trees.items) }
     ensures rise { IfOk result (λ r. Rise decls.now r) }
-    ensures few { IfOk result (λ r. forest_size r ≤ 1000000) }
+    ensures few { IfOk result (λ r. forest_size r ≤ most_nodes) }
     ensures too_many { result ≡ Err ForestFault.TooMany → HasTooMany decls.now (has trees.items) }
 {
     let trees = distinct(alloc, decls, trees)?;
-    match within(&trees, MOST) {
+    match within(&trees, MOST_NODES) {
         Some(left) => Ok(Found {
             trees,
-            room: MOST + left,
+            room: MOST_NODES + left,
         }),
         None => Err(ForestFault::TooMany),
     }
@@ -71,7 +71,7 @@ impl Found {
     {
         Found {
             trees: Vec::new(alloc),
-            room: 2 * MOST,
+            room: 2 * MOST_NODES,
         }
     }
 
@@ -131,7 +131,7 @@ impl Found {
     pub fn into_forest(self, alloc: Global, decls: &[VarDecl]) -> Result<Vec<Witness>, ForestFault>
         ensures trees { IfOk result (λ r. HaveSame r.items self) }
         ensures rise { IfOk result (λ r. Rise decls.now r.items) }
-        ensures few { IfOk result (λ r. forest_size r.items ≤ 1000000) }
+        ensures few { IfOk result (λ r. forest_size r.items ≤ most_nodes) }
         ensures too_many { result ≡ Err ForestFault.TooMany → HasTooMany decls.now (has self) }
     {
         let Found { trees, .. } = self;

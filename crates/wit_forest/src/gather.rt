@@ -12,7 +12,7 @@ ghost use Rattle.ctl_fixpoint.specs.CtlHolds.Parts.{EachPattern};
 ghost use Rattle.ctl_fixpoint.specs.CtlHolds.BoundLaw.{SureStand};
 ghost use Rattle.ctl_fixpoint.specs.States.{AreStateSets};
 ghost use Rattle.wit_forest.specs.WitOrder.Same.{same_forest};
-ghost use Rattle.wit_forest.specs.WitOrder.Sizes.{forest_size};
+ghost use Rattle.wit_forest.specs.WitOrder.Sizes.{forest_size, most_nodes};
 ghost use Rattle.wit_forest.specs.WitOrder.Forests.{has};
 ghost use Rattle.smpl_patch.specs.declared.witness.Witness.{Witness as Tree};
 ghost use Rattle.wit_forest.specs.Gathered.{node_at, forest_at as part_forest, holds_at, quantified, is_there};
@@ -243,8 +243,8 @@ fn forest_at(
     requires range { InRange g.now f.now part part node }
     requires ready { AreReady g.now f.now sets.now }
     ensures trees { IfOk result (λ ws. same_forest ws.items (part_forest g.now f.now part node (total env.now)) ≡ true) }
-    ensures few { OnOk result (forest_size (part_forest g.now f.now part node (total env.now)) ≤ 1000000) }
-    ensures too_many { result ≡ Err ForestFault.TooMany → 1000000 < forest_size (part_forest g.now f.now part node (total env.now)) }
+    ensures few { OnOk result (forest_size (part_forest g.now f.now part node (total env.now)) ≤ most_nodes) }
+    ensures too_many { result ≡ Err ForestFault.TooMany → most_nodes < forest_size (part_forest g.now f.now part node (total env.now)) }
 {
     let mut states = States::new(alloc);
     let mut found = Found::new(alloc);
@@ -277,8 +277,8 @@ pub fn forest(
     ensures trees { IfOk result (λ ws. same_forest ws.items
         (forest_of f.now.decls f.now.tokens g.now (plain f.now) s (total env.now)) ≡ true) }
     ensures few { OnOk result (forest_size
-        (forest_of f.now.decls f.now.tokens g.now (plain f.now) s (total env.now)) ≤ 1000000) }
-    ensures too_many { result ≡ Err ForestFault.TooMany → 1000000 < forest_size
+        (forest_of f.now.decls f.now.tokens g.now (plain f.now) s (total env.now)) ≤ most_nodes) }
+    ensures too_many { result ≡ Err ForestFault.TooMany → most_nodes < forest_size
         (forest_of f.now.decls f.now.tokens g.now (plain f.now) s (total env.now)) }
 {
     prove!(s < g.count());

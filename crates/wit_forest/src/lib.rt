@@ -40,6 +40,7 @@ mod wit_steps;
 mod wit_trees;
 
 pub use fault::ForestFault;
+pub use found::MOST_NODES;
 pub use gather::forest;
 pub use reach_laws::ends_of_untils_are_those_of_walks;
 pub use wit_order::{

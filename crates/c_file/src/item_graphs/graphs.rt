@@ -74,10 +74,7 @@ impl<'a> Graphs<'a> {
     fn is_made(&self, i: usize) -> bool
         ensures { result ≡ true → IsMade self.now i }
     {
-        match self.made.get(i) {
-            Some(Some(_)) => true,
-            _ => false,
-        }
+        matches!(self.made.get(i), Some(Some(_)))
     }
 
     /// Makes the graph of an item, unless it is made already. Fails only when out of memory, and then changes nothing. Costs

@@ -1,6 +1,7 @@
 // The ids of the tokens of a text.
 ghost use Rattle.std.specs.Prelude.{◌≡◌, ◌≤◌, ◌+◌, ◌++◌, [], IfOk, OnOk, length};
 ghost use Rattle.c_lexer.specs.Ids.{ids_of, id_before};
+ghost use Rattle.c_lexer.specs.Pieces.{most_bytes};
 
 use c_lexer::{Lexed, PieceKind};
 use c_terms::NoMemory;
@@ -9,7 +10,7 @@ use std::alloc::Global;
 /// Returns the ids of the tokens in order.
 pub fn token_ids(alloc: Global, lexed: &Lexed) -> Result<Vec<u64>, NoMemory>
     ensures ids { IfOk result (λ ids. ids.items ≡ ids_of lexed.now) }
-    ensures few { IfOk result (λ ids. length ids.items ≤ 16777216) }
+    ensures few { IfOk result (λ ids. length ids.items ≤ most_bytes) }
 {
     let mut ids = Vec::new(alloc);
     for i in 0..lexed.count() {

@@ -42,11 +42,11 @@ use Rattle.env_parts.specs.Parts.{Pairs, is_among, restricted, bare_env}
 use Rattle.env_parts.proofs.PartLemmas.{has_value-bare}
 use Rattle.rule_chain.specs.RuleWitnesses.Bare.{bare_tree, bare_witness}
 use Rattle.rule_chain.specs.RuleWitnesses.Choices.{AreNew}
-use Rattle.rule_envs.specs.declared.carrier.FileEnv.{FileEnv}
+use Rattle.rule_envs.specs.declared.file_env.FileEnv.{FileEnv}
 use Rattle.rule_envs.specs.Inherited.{inherited_of}
 use Rattle.rule_envs.specs.Depends.{judge}
 use Rattle.rule_envs.specs.Shares.{takes_part, share, projections}
-use Rattle.rule_envs.specs.Carriers.{extended, replaced, becomes_by}
+use Rattle.rule_envs.specs.FileEnvs.{extended, replaced, becomes_by}
 use Rattle.rule_chain.specs.RuleFound.Found.{witnesses_in, found_from, found_under, brings}
 use Rattle.rule_chain.specs.RuleTurn.Turns.{turn_found, turn_carriers}
 use Rattle.rule_chain.proofs.RuleTurn.TurnLemmas.{are_new}

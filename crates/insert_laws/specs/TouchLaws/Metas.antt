@@ -19,7 +19,7 @@ use Rattle.pat_match.specs.Spots.{seats}
 use Rattle.pattern_vars.specs.Reads.{is_declared}
 use Rattle.wit_forest.specs.WitTrees.Forest.{is_hidden}
 use Rattle.env_parts.specs.Parts.{Pairs}
-use Rattle.rule_envs.specs.declared.carrier.FileEnv.{FileEnv}
+use Rattle.rule_envs.specs.declared.file_env.FileEnv.{FileEnv}
 use Rattle.edit_marks.specs.EditWalk.Touches.{Touched}
 use Rattle.insert_laws.specs.TermLaws.Terms.{is_term, IsNoPosition}
 

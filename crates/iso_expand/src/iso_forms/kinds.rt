@@ -13,22 +13,22 @@ use smpl_patch::{VarDecl, declared_as};
 fn is_expression_token(kind: TokenKind) -> bool
     ensures { result ≡ spec.is_expression_token kind }
 {
-    match kind {
-        TokenKind::Name | TokenKind::Number | TokenKind::Char | TokenKind::Str => true,
-        TokenKind::Meta(MetaKind::Expr) => true,
-        TokenKind::Meta(MetaKind::Ident) => true,
-        TokenKind::Meta(MetaKind::Constant) => true,
-        _ => false,
-    }
+    matches!(
+        kind,
+        TokenKind::Name
+            | TokenKind::Number
+            | TokenKind::Char
+            | TokenKind::Str
+            | TokenKind::Meta(MetaKind::Expr)
+            | TokenKind::Meta(MetaKind::Ident)
+            | TokenKind::Meta(MetaKind::Constant)
+    )
 }
 
 fn is_choice(label: Label) -> bool
     ensures { result ≡ spec.is_choice label }
 {
-    match label {
-        Label::PatOr | Label::PatAnd => true,
-        _ => false,
-    }
+    matches!(label, Label::PatOr | Label::PatAnd)
 }
 
 /// Whether the label is that of an expression of C, or of a disjunction or conjunction of expressions.
@@ -52,12 +52,7 @@ fn is_constant_token(token: &Token) -> bool
 fn is_one_of(names: &[Text], text: &[u8]) -> bool
     ensures { result ≡ list_any (λ n. same_bytes n text.now) names.now }
 {
-    for name in names {
-        if same_text(name.as_bytes(), text) {
-            return true;
-        }
-    }
-    false
+    names.iter().any(|name| same_text(name.as_bytes(), text))
 }
 
 fn is_excepted(vars: &[VarDecl], var: &[u8], text: &[u8]) -> bool

@@ -23,23 +23,14 @@ fn may_match(side: &Tree, tree: &Tree) -> bool
 fn has_side_for(sides: &[Tree], tree: &Tree) -> bool
     ensures { result ≡ spec.has_side_for sides.now tree.now }
 {
-    for side in sides {
-        if may_match(side, tree) {
-            return true;
-        }
-    }
-    false
+    sides.iter().any(|side| may_match(side, tree))
 }
 
 fn may_change(iso: &Iso, list: &[Tree]) -> bool
     ensures { result ≡ list_any (spec.has_side_for iso.now.sides) list.now }
 {
-    for tree in list {
-        if has_side_for(iso.sides.as_slice(), tree) {
-            return true;
-        }
-    }
-    false
+    list.iter()
+        .any(|tree| has_side_for(iso.sides.as_slice(), tree))
 }
 
 /// Whether some side is a leaf, or a branch with the label of some tree. Compares each side with each tree, and
@@ -47,10 +38,5 @@ fn may_change(iso: &Iso, list: &[Tree]) -> bool
 pub fn may_grow(isos: &[Iso], list: &[Tree]) -> bool
     ensures { result ≡ spec.may_grow isos.now list.now }
 {
-    for iso in isos {
-        if may_change(iso, list) {
-            return true;
-        }
-    }
-    false
+    isos.iter().any(|iso| may_change(iso, list))
 }

@@ -51,12 +51,7 @@ fn is_plain_of(tokens: &[PatToken], mark: u8, token: &Token) -> bool
 fn are_plain_of(tokens: &[PatToken], mark: u8, all: &[Token]) -> bool
     ensures { result ≡ list_all (spec.is_plain_of tokens.now mark) all.now }
 {
-    for token in all {
-        if !is_plain_of(tokens, mark, token) {
-            return false;
-        }
-    }
-    true
+    all.iter().all(|token| is_plain_of(tokens, mark, token))
 }
 
 fn are_plain(tokens: &[PatToken], all: &[Token]) -> bool

@@ -111,21 +111,13 @@ fn passing(
 fn is_choice(e: &Elem) -> bool
     ensures { result ≡ placing.is_choice (element e.now) }
 {
-    match e {
-        Elem::AnyOf(_) => true,
-        Elem::AllOf(_) => true,
-        _ => false,
-    }
+    matches!(e, Elem::AnyOf(_) | Elem::AllOf(_))
 }
 
 fn is_dots(e: &Elem) -> bool
     ensures { result ≡ placing.is_dots (element e.now) }
 {
-    match e {
-        Elem::Gap(_) => true,
-        Elem::Nest(_, _, _) => true,
-        _ => false,
-    }
+    matches!(e, Elem::Gap(_) | Elem::Nest(_, _, _))
 }
 
 /// Whether variables of the element after this one may count at this one.

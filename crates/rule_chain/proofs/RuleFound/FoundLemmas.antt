@@ -9,7 +9,7 @@ use Rattle.env_parts.specs.Parts.{Pairs, bare_env}
 use Rattle.ctl_formula.specs.Formulas.{FormulaOf}
 use Rattle.ctl_translate.specs.Answers.{IsFormulaOf}
 use Rattle.wit_forest.specs.WitTrees.Rules as rules
-use Rattle.rule_envs.specs.Carriers as envs
+use Rattle.rule_envs.specs.FileEnvs as envs
 use Rattle.rule_envs.proofs.BareLemmas.{exported-bare}
 use Rattle.rule_chain.specs.RuleWitnesses.Bare.{bare_witness}
 use Rattle.rule_chain.specs.RuleWitnesses.Jobs.{nodes_of, witnesses_of}

@@ -14,10 +14,10 @@ use Rattle.env_parts.specs.Parts.{Pairs, is_among, restricted, same_env, with_ne
 use Rattle.cpp_lines.specs.declared.reading.Item.{Item}
 use Rattle.smpl_patch.specs.declared.rule.Dep.{Dep}
 use Rattle.smpl_patch.specs.declared.rule.Rule.{Rule}
-use Rattle.rule_envs.specs.declared.carrier.FileEnv.{FileEnv}
+use Rattle.rule_envs.specs.declared.file_env.FileEnv.{FileEnv}
 use Rattle.rule_envs.specs.Inherited.{inherited_of}
-use Rattle.rule_envs.specs.Shares.{takes_part, share, projections, StandsAt, bare_carrier}
-use Rattle.rule_envs.specs.Carriers.{AreBrought}
+use Rattle.rule_envs.specs.Shares.{takes_part, share, projections, StandsAt, bare_file_env}
+use Rattle.rule_envs.specs.FileEnvs.{AreBrought}
 use Rattle.rule_envs.proofs.BareLemmas.{projections-bare}
 use Rattle.rule_chain.specs.RuleWitnesses.Choices.{AreNew}
 use Rattle.rule_envs.specs.declared.fault.EnvsFault.{EnvsFault}
@@ -95,31 +95,31 @@ same_length P (o ∷ os) (p ∷ ps) h = ap suc (same_length P os ps h.1)
 module _ (defined : List (List ℕ)) (had : List ℕ) (number : ℕ) (rule : Rule) (items : List Item) (cs : List FileEnv)
     (inherited : List Var) (is_inherited : inherited ≡ inherited_of rule) (made envs : List Pairs) (same_envs : envs ≡ made)
     (is_made : made ≡ projections defined had rule.depends inherited cs) where
-  pub run_under : map bare_env envs ≡ rule_projections defined had number rule items (map bare_carrier cs)
+  pub run_under : map bare_env envs ≡ rule_projections defined had number rule items (map bare_file_env cs)
   run_under =
       ap (map bare_env) (same_envs ∙ is_made) ∙ projections-bare defined had rule.depends inherited cs
-      ∙ ap (λ (vars : List Var). projections defined had rule.depends vars (map bare_carrier cs)) is_inherited
+      ∙ ap (λ (vars : List Var). projections defined had rule.depends vars (map bare_file_env cs)) is_inherited
 
   pub under_new : AreApart rule.exports inherited → All (AreNew rule.exports) envs
   under_new apart =
       subst (All (AreNew rule.exports)) (sym (same_envs ∙ is_made)) (all_new defined had rule.depends inherited rule.exports apart cs)
 
   module _ (put places : List (Option ℕ)) (same_places : places ≡ put)
-      (stand : AllZip (StandsAt (map bare_env made)) (map (share defined had rule.depends inherited) (map bare_carrier cs)) put) where
+      (stand : AllZip (StandsAt (map bare_env made)) (map (share defined had rule.depends inherited) (map bare_file_env cs)) put) where
     pub places_of_all : length places ≡ length cs
     places_of_all =
-        ap length same_places ∙ same_length (map bare_env made) (map (share defined had rule.depends inherited) (map bare_carrier cs)) put stand
-        ∙ length-map (map bare_carrier cs) (share defined had rule.depends inherited) ∙ length-map cs bare_carrier
+        ap length same_places ∙ same_length (map bare_env made) (map (share defined had rule.depends inherited) (map bare_file_env cs)) put stand
+        ∙ length-map (map bare_file_env cs) (share defined had rule.depends inherited) ∙ length-map cs bare_file_env
 
     pub are_brought : (parts found : List (List Pairs)) → parts ≡ found → map (map bare_env) found ≡ map (brings number rule items) (map bare_env envs)
-        → AreBrought (rule_share defined had number rule items (map bare_carrier cs)) (brings number rule items) (map bare_carrier cs) places
+        → AreBrought (rule_share defined had number rule items (map bare_file_env cs)) (brings number rule items) (map bare_file_env cs) places
         (map (map bare_env) parts)
     are_brought parts found same is = record {
       projections = map bare_env envs;
       shares = subst₂ (λ (es : List Pairs) ps.
-          AllZip (StandsAt (map bare_env es)) (map (share defined had rule.depends (inherited_of rule)) (map bare_carrier cs)) ps)
+          AllZip (StandsAt (map bare_env es)) (map (share defined had rule.depends (inherited_of rule)) (map bare_file_env cs)) ps)
           (sym same_envs) (sym same_places)
-          (subst (λ (vars : List Var). AllZip (StandsAt (map bare_env made)) (map (share defined had rule.depends vars) (map bare_carrier cs)) put)
+          (subst (λ (vars : List Var). AllZip (StandsAt (map bare_env made)) (map (share defined had rule.depends vars) (map bare_file_env cs)) put)
           is_inherited stand);
       brought = ap (map (map bare_env)) same ∙ is;
     }

@@ -10,9 +10,9 @@ use Rattle.edit_marks.specs.declared.edit_conflict.edit.Edit.{Edit}
 use Rattle.edit_marks.specs.EditWalk.Edited.{AreEdits}
 use Rattle.rule_chain.proofs.EditLaws.BareEdits.{edits_with}
 use Rattle.rule_chain.specs.RuleWitnesses.Bare.{bare_witness}
-use Rattle.rule_envs.specs.declared.carrier.FileEnv.{FileEnv}
-use Rattle.rule_envs.specs.Shares.{bare_carrier}
-use Rattle.rule_envs.specs.Carriers.{most_environments}
+use Rattle.rule_envs.specs.declared.file_env.FileEnv.{FileEnv}
+use Rattle.rule_envs.specs.Shares.{bare_file_env}
+use Rattle.rule_envs.specs.FileEnvs.{most_environments}
 use Rattle.rule_chain.specs.declared.rule_turn.fault.TurnFault.{TurnFault}
 use Rattle.rule_chain.specs.declared.rule_turn.fault.TurnFault.TheVariants as turn_faults
 use Rattle.rule_chain.specs.RuleTurn.Turns.{turn_found, turn_carriers, has_too_many}
@@ -43,13 +43,13 @@ module _ (defined : List (List ℕ)) (number : ℕ) (rule : Rule) (file : FileIt
     (had : List ℕ) (items : List Item) (carriers : List FileEnv)
     (same_had : had ≡ f.had) (same_items : items ≡ file.items) (same_carriers : carriers ≡ f.carriers) where
   abbrev pub found_here : List RuleWitness
-  found_here = turn_found defined had number rule items (map bare_carrier carriers)
+  found_here = turn_found defined had number rule items (map bare_file_env carriers)
 
   abbrev pub carriers_here : List FileEnv
-  carriers_here = turn_carriers defined had number rule items (map bare_carrier carriers)
+  carriers_here = turn_carriers defined had number rule items (map bare_file_env carriers)
 
   abbrev pub too_much_here : Bool
-  too_much_here = has_too_many defined had number rule items (map bare_carrier carriers)
+  too_much_here = has_too_many defined had number rule items (map bare_file_env carriers)
 
   module _ (s : Chained) (seen : AreFindingsOf f s) (reading : IsAtReading file next s) where
     had_as : s.had ≡ had
@@ -58,8 +58,8 @@ module _ (defined : List (List ℕ)) (number : ℕ) (rule : Rule) (file : FileIt
     items_as : s.items ≡ items
     items_as = reading.items ∙ sym same_items
 
-    bare_as : s.carriers ≡ map bare_carrier carriers
-    bare_as = seen.seen.carriers_is ∙ ap (map bare_carrier) (sym same_carriers)
+    bare_as : s.carriers ≡ map bare_file_env carriers
+    bare_as = seen.seen.carriers_is ∙ ap (map bare_file_env) (sym same_carriers)
 
     found_as : rule_found defined number rule s ≡ found_here
     found_as = λ i. turn_found defined (had_as i) number rule (items_as i) (bare_as i)
@@ -73,10 +73,10 @@ module _ (defined : List (List ℕ)) (number : ℕ) (rule : Rule) (file : FileIt
     next_as : s.page.next ≡ next
     next_as = ap (λ (p : Page). p.next) reading.page
 
-    are_few : (cs : List FileEnv) → too_much_here ≡ false → map bare_carrier cs ≡ carriers_here → length cs ≤ most_environments
+    are_few : (cs : List FileEnv) → too_much_here ≡ false → map bare_file_env cs ≡ carriers_here → length cs ≤ most_environments
         → AreFew defined number rule s
     are_few cs few is most =
-        let e : length (rule_carriers defined number rule s) ≡ length cs = ap length (carriers_as ∙ sym is) ∙ length-map cs bare_carrier in
+        let e : length (rule_carriers defined number rule s) ≡ length cs = ap length (carriers_as ∙ sym is) ∙ length-map cs bare_file_env in
         record { witnesses = too_much_as ∙ few; environments = omega (arith, e, most) }
 
     rule_edits : (ws passed : List RuleWitness) (edits : List Edit) → passed ≡ ws → map bare_witness ws ≡ found_here
@@ -88,7 +88,7 @@ module _ (defined : List (List ℕ)) (number : ℕ) (rule : Rule) (file : FileIt
 
   -- what is left
   pub rule_works : (ws passed : List RuleWitness) (cs : List FileEnv) (left : FileState) (text : Option NewText)
-      → too_much_here ≡ false → map bare_witness ws ≡ found_here → map bare_carrier cs ≡ carriers_here → length cs ≤ most_environments → passed ≡ ws
+      → too_much_here ≡ false → map bare_witness ws ≡ found_here → map bare_file_env cs ≡ carriers_here → length cs ≤ most_environments → passed ≡ ws
       → ((edits : List Edit) × (AreEdits passed rule file.items (kinds_of file.items) file.pieces edits × Leaves next file.pieces edits text))
       → left.carriers ≡ cs → left.had ≡ had_after f.had number ws → left.found ≡ f.found ++ ws
       → (s : Chained) → AreFindingsOf f s → IsAtReading file next s → Works defined number rule s left text
@@ -100,7 +100,7 @@ module _ (defined : List (List ℕ)) (number : ℕ) (rule : Rule) (file : FileIt
     findings_are = record {
       seen = record {
         had_is = (λ i. had_after (seen.seen.had_is i) number ((found_as s seen reading ∙ sym found) i)) ∙ had-bare f.had number ws ∙ sym h;
-        carriers_is = carriers_as s seen reading ∙ sym carried ∙ ap (map bare_carrier) (sym c);
+        carriers_is = carriers_as s seen reading ∙ sym carried ∙ ap (map bare_file_env) (sym c);
       };
       found_is = (λ i. seen.found_is i ++ (found_as s seen reading ∙ sym found) i) ∙ sym (map-append bare_witness f.found ws)
           ∙ ap (map bare_witness) (sym w);
@@ -110,7 +110,7 @@ module _ (defined : List (List ℕ)) (number : ℕ) (rule : Rule) (file : FileIt
 
   -- the faults of its edits
   pub edits_stop : (ws passed : List RuleWitness) (cs : List FileEnv) (fault : EditFault) (told : FileFault) → told ≡ edit_fault number fault
-      → too_much_here ≡ false → map bare_witness ws ≡ found_here → map bare_carrier cs ≡ carriers_here → length cs ≤ most_environments → passed ≡ ws
+      → too_much_here ≡ false → map bare_witness ws ≡ found_here → map bare_file_env cs ≡ carriers_here → length cs ≤ most_environments → passed ≡ ws
       → (fault ≡ edit_faults.NoMemory) ⊎ ((edits : List Edit)
       × (AreEdits passed rule file.items (kinds_of file.items) file.pieces edits × IsEditFault next file.pieces edits fault))
       → (told ≡ NoMemory) ⊎ ((s : Chained) → AreFindingsOf f s → IsAtReading file next s → IsFault defined number rule s told)

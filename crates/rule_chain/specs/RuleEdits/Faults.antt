@@ -1,6 +1,6 @@
 -- Which faults edits meet, and what they leave if they meet none.
 use Rattle.std.specs.Prelude.{ℕ, ◌≡◌, ◌<◌, ◌≤◌, Option, Some, List, length, slice_get}
-use Rattle.c_lexer.specs.Pieces.{TextPiece}
+use Rattle.c_lexer.specs.Pieces.{TextPiece, most_bytes}
 use Rattle.c_lexer.specs.Ids.{ids_of}
 use Rattle.edit_marks.specs.declared.edit_conflict.edit.Edit.{Edit}
 use Rattle.edit_marks.specs.declared.edit_conflict.clash.Clash.{Clash}
@@ -9,10 +9,6 @@ use Rattle.rule_chain.specs.declared.rule_edits.texts.NewText.{NewText}
 use Rattle.rule_chain.specs.declared.rule_edits.fault.EditFault.{EditFault}
 use Rattle.rule_chain.specs.declared.rule_edits.fault.EditFault.TheVariants.{Conflict, TooLong}
 use Rattle.rule_chain.specs.RuleEdits.Pages.{page_after, IsNew}
-
--- the most bytes of a text
-abbrev pub most_bytes : ℕ
-most_bytes = 16777216
 
 -- no two clash, and the text that they make is not too long
 pub record AreFine (next : ℕ) (pieces : List TextPiece) (edits : List Edit) : Type 0 where

@@ -8,14 +8,11 @@ use Rattle.smpl_patch.specs.declared.rule.Rule.{Rule}
 use Rattle.smpl_patch.specs.declared.witness.RuleWitness.{RuleWitness}
 use Rattle.ctl_translate.specs.Rules.{formula_of}
 use Rattle.wit_forest.specs.WitTrees.Rules as rules
+use Rattle.wit_forest.specs.WitOrder.Sizes.{most_nodes}
 use Rattle.env_parts.specs.Parts.{Pairs}
 use Rattle.rule_chain.specs.RuleWitnesses.Bare.{bare_witness}
 use Rattle.rule_chain.specs.RuleWitnesses.Jobs.{nodes_of}
-use Rattle.rule_envs.specs.Carriers as envs
-
--- the most touches and binds of the witnesses in one item under one environment
-abbrev pub most_nodes : ℕ
-most_nodes = 1000000
+use Rattle.rule_envs.specs.FileEnvs as envs
 
 -- the witnesses of the rule with this number in one item, given the item's graph; an item that was skipped has no graph
 abbrev pub witnesses_in : ℕ → Rule → ℕ → Option Flow → Pairs → List RuleWitness

@@ -5,6 +5,7 @@ use Rattle.smpl_terms.specs.declared.var.Var.{Var}
 use Rattle.smpl_patch.specs.declared.witness.RuleWitness.{RuleWitness}
 use Rattle.ctl_formula.specs.Formulas.{FormulaOf}
 use Rattle.env_parts.specs.Parts.{Pairs}
+use Rattle.wit_forest.specs.WitOrder.Sizes.{most_nodes}
 use Rattle.rule_chain.specs.RuleWitnesses.Bare.{bare_witness}
 use Rattle.rule_chain.specs.RuleWitnesses.Jobs.{nodes_of, witnesses_of}
 
@@ -16,4 +17,4 @@ found_by f exports number item (Some g) env = witnesses_of f g exports number it
 -- these are the witnesses, ids aside, and they don't have too many touches and binds
 pub record AreFoundBy (witnesses found : List RuleWitness) : Type 0 where
   pub same : map bare_witness found ≡ map bare_witness witnesses
-  pub few : nodes_of witnesses ≤ 1000000
+  pub few : nodes_of witnesses ≤ most_nodes

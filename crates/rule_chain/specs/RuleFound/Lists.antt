@@ -6,7 +6,7 @@ use Rattle.cpp_lines.specs.declared.reading.Item.{Item}
 use Rattle.smpl_patch.specs.declared.rule.Rule.{Rule}
 use Rattle.smpl_terms.specs.declared.var.Var.{Var}
 use Rattle.rule_chain.specs.RuleWitnesses.Bare.{bare_witness}
-use Rattle.rule_envs.specs.Carriers as envs
+use Rattle.rule_envs.specs.FileEnvs as envs
 use Rattle.rule_chain.specs.RuleFound.Found.{found_under}
 
 -- the environment with this number, without ids

@@ -5,10 +5,10 @@ use Rattle.smpl_terms.specs.declared.var.Var.{Var}
 use Rattle.smpl_patch.specs.declared.rule.Rule.{Rule}
 use Rattle.smpl_patch.specs.declared.witness.RuleWitness.{RuleWitness}
 use Rattle.env_parts.specs.Parts.{Pairs, is_among}
-use Rattle.rule_envs.specs.declared.carrier.FileEnv.{FileEnv}
+use Rattle.rule_envs.specs.declared.file_env.FileEnv.{FileEnv}
 use Rattle.rule_envs.specs.Inherited.{inherited_of}
 use Rattle.rule_envs.specs.Shares.{share, projections}
-use Rattle.rule_envs.specs.Carriers as envs
+use Rattle.rule_envs.specs.FileEnvs as envs
 use Rattle.rule_envs.specs.declared.fault.EnvsFault.{EnvsFault}
 use Rattle.rule_envs.specs.declared.fault.EnvsFault.TheVariants as envs_faults
 use Rattle.rule_chain.specs.declared.rule_witnesses.fault.JobFault.{JobFault}
@@ -39,7 +39,7 @@ module _ (defined : List (List ℕ)) (had : List ℕ) (number : ℕ) (rule : Rul
 
   -- the environments after it
   abbrev pub turn_carriers : List FileEnv
-  turn_carriers = envs.next_carriers number rule_share (found.brings number rule items) carriers
+  turn_carriers = envs.next_file_envs number rule_share (found.brings number rule items) carriers
 
 -- the faults of finding witnesses, and of the environments after them, as those of the rule
 abbrev pub job_fault : JobFault → TurnFault

@@ -4,8 +4,8 @@ use Rattle.smpl_patch.specs.declared.rule.Rule.{Rule}
 use Rattle.smpl_patch.specs.declared.witness.RuleWitness.{RuleWitness}
 use Rattle.edit_marks.specs.declared.edit_conflict.edit.Edit.{Edit}
 use Rattle.edit_marks.specs.EditWalk.Edited.{AreEdits}
-use Rattle.rule_envs.specs.declared.carrier.FileEnv.{FileEnv}
-use Rattle.rule_envs.specs.Carriers.{most_environments}
+use Rattle.rule_envs.specs.declared.file_env.FileEnv.{FileEnv}
+use Rattle.rule_envs.specs.FileEnvs.{most_environments}
 use Rattle.rule_chain.specs.declared.rule_edits.fault.EditFault.{EditFault}
 use Rattle.rule_chain.specs.declared.rule_edits.fault.EditFault.TheVariants as edit
 use Rattle.rule_chain.specs.RuleEdits.Kinds.{kinds_of}

@@ -7,8 +7,8 @@ use Rattle.c_file.specs.Reads.{Reads}
 use Rattle.cpp_lines.specs.declared.reading.Item.{Item}
 use Rattle.cpp_lines.specs.declared.reading.Item.TheVariants.{Parsed, Skipped}
 use Rattle.smpl_patch.specs.declared.witness.RuleWitness.{RuleWitness}
-use Rattle.rule_envs.specs.declared.carrier.FileEnv.{FileEnv}
-use Rattle.rule_envs.specs.Carriers.{first_carriers}
+use Rattle.rule_envs.specs.declared.file_env.FileEnv.{FileEnv}
+use Rattle.rule_envs.specs.FileEnvs.{first_file_envs}
 use Rattle.rule_chain.specs.RuleEdits.Pages.{Page}
 use Rattle.rule_chain.specs.declared.rule_work.state.SkipNote.{SkipNote}
 
@@ -47,7 +47,7 @@ first_state pieces items = record {
   reading = 0;
   pieces = pieces;
   items = items;
-  carriers = first_carriers;
+  carriers = first_file_envs;
   had = [];
   found = [];
   skipped = notes_from 0 0 items;

@@ -4,8 +4,8 @@ use Rattle.c_file.specs.File.{FileItems}
 use Rattle.edit_marks.specs.declared.edit_conflict.edit.Edit.{Edit}
 use Rattle.smpl_patch.specs.declared.rule.Rule.{Rule}
 use Rattle.rule_chain.specs.RuleWitnesses.Bare.{bare_witness}
-use Rattle.rule_envs.specs.declared.carrier.FileEnv.{FileEnv}
-use Rattle.rule_envs.specs.Shares.{bare_carrier}
+use Rattle.rule_envs.specs.declared.file_env.FileEnv.{FileEnv}
+use Rattle.rule_envs.specs.Shares.{bare_file_env}
 use Rattle.rule_chain.specs.declared.rule_edits.texts.NewText.{NewText}
 use Rattle.rule_chain.specs.RuleEdits.Pages.{old_page, IsNew}
 use Rattle.rule_chain.specs.RuleEdits.Faults.{AreFine}
@@ -16,7 +16,7 @@ use Rattle.rule_chain.specs.RuleWork.OneRule.{AreFew, RuleEdits, worked}
 -- the state has these rules with a witness and these environments, which the code keeps with ids
 pub record IsSeenAs (had : List ℕ) (carriers : List FileEnv) (s : Chained) : Type 0 where
   pub had_is : s.had ≡ had
-  pub carriers_is : s.carriers ≡ map bare_carrier carriers
+  pub carriers_is : s.carriers ≡ map bare_file_env carriers
 
 -- the findings with the ids of terms are those of the state
 pub record AreFindingsOf (f : FileState) (s : Chained) : Type 0 where

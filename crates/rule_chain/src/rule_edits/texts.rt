@@ -1,7 +1,7 @@
 // Applies the edits of a rule to the text.
 ghost use Rattle.std.specs.Prelude.{◌≡◌, ◌<◌, ◌≤◌, ◌^◌, ◌⊎◌, ℕ, List, None, Some, All, IfOk, IfErr, length, slice_get, not, nat_lt};
 ghost use Rattle.std.specs.List.{filter, list_any};
-ghost use Rattle.c_lexer.specs.Pieces.{text_of};
+ghost use Rattle.c_lexer.specs.Pieces.{text_of, most_bytes};
 ghost use Rattle.c_lexer.specs.Ids.{ids_of};
 ghost use Rattle.edit_marks.specs.declared.edit_conflict.edit.Edit.{Edit as Change};
 ghost use Rattle.edit_unparse.specs.Output.{output_of};
@@ -106,9 +106,9 @@ fn count_new(ids: &[u64], next: u64) -> usize
 fn written(alloc: Global, lexed: &Lexed, edits: &EditList, next: u64) -> Result<NewText, EditFault>
     requires fresh { next ≤ 2 ^ 62 }
     ensures text { IfOk result (λ t. spec.page_in t ≡ spec.page_of next (output_of lexed.now edits.now next)) }
-    ensures short { IfOk result (λ t. length t.bytes.items ≤ 16777216) }
+    ensures short { IfOk result (λ t. length t.bytes.items ≤ most_bytes) }
     ensures fault { IfErr result (λ f. (f ≡ fault.NoMemory)
-        ⊎ ((f ≡ fault.TooLong) × (16777216 < length (text_of (output_of lexed.now edits.now next))))) }
+        ⊎ ((f ≡ fault.TooLong) × (most_bytes < length (text_of (output_of lexed.now edits.now next))))) }
 {
     match output(alloc, lexed, edits, next) {
         Ok(edited) => match next.checked_add(count_new(edited.ids.as_slice(), next) as u64) {
@@ -127,7 +127,7 @@ fn written(alloc: Global, lexed: &Lexed, edits: &EditList, next: u64) -> Result<
 /// Returns no new text: the old one, which is short enough, stays.
 fn nothing_new(lexed: &Lexed) -> Option<NewText>
     ensures none { result ≡ None }
-    ensures short { length (text_of lexed.now) ≤ 16777216 }
+    ensures short { length (text_of lexed.now) ≤ most_bytes }
 {
     let _text = lexed.bytes();
     None

@@ -3,6 +3,7 @@ ghost use Rattle.std.specs.Prelude.{◌≡◌, ◌<◌, [], Some, IfOk, IfErr, E
 ghost use Rattle.ctl_formula.specs.Formulas.{plain};
 ghost use Rattle.ctl_fixpoint.specs.CtlHolds.Parts.{EachPattern};
 ghost use Rattle.ctl_fixpoint.specs.CtlHolds.BoundLaw.{SureStand};
+ghost use Rattle.wit_forest.specs.WitOrder.Sizes.{most_nodes};
 ghost use Rattle.rule_chain.specs.RuleWitnesses.Choices.{AreNew};
 ghost use Rattle.rule_chain.specs.RuleWitnesses.Jobs.{BindsExports, nodes_of, witnesses_of};
 ghost use Rattle.rule_chain.specs.declared.rule_witnesses.fault.JobFault.TheVariants as fault;
@@ -74,7 +75,7 @@ pub fn first_found(
     requires new { AreNew exports.now env.now }
     ensures found { IfOk result (λ first. AreFoundBy (witnesses_of f.now g.now exports.now number item env.now) first.found) }
     ensures kept { IfOk result (λ first. IsKept f.now (Some g.now) first.kept) }
-    ensures too_many { result ≡ Err fault.TooMany → 1000000 < nodes_of (witnesses_of f.now g.now exports.now number item env.now) }
+    ensures too_many { result ≡ Err fault.TooMany → most_nodes < nodes_of (witnesses_of f.now g.now exports.now number item env.now) }
 {
     // The contracts of these calls say that the graph is sound and the root is in the table, which the proof needs.
     let _count = g.count();
@@ -104,7 +105,7 @@ fn found_anew(
     requires binds { BindsExports f.now exports.now }
     requires new { AreNew exports.now env.now }
     ensures found { IfOk result (λ found. AreFoundBy (witnesses_of f.now g.now exports.now number item env.now) found) }
-    ensures too_many { result ≡ Err fault.TooMany → 1000000 < nodes_of (witnesses_of f.now g.now exports.now number item env.now) }
+    ensures too_many { result ≡ Err fault.TooMany → most_nodes < nodes_of (witnesses_of f.now g.now exports.now number item env.now) }
 {
     let First { found, kept: _ } = first_found(alloc, number, f, exports, g, item, env, false)?;
     Ok(found)
@@ -126,7 +127,7 @@ pub fn next_found(
     requires new { AreNew exports.now env.now }
     requires kept { IsKept f.now (Some g.now) kept.now }
     ensures found { IfOk result (λ found. AreFoundBy (witnesses_of f.now g.now exports.now number item env.now) found) }
-    ensures too_many { result ≡ Err fault.TooMany → 1000000 < nodes_of (witnesses_of f.now g.now exports.now number item env.now) }
+    ensures too_many { result ≡ Err fault.TooMany → most_nodes < nodes_of (witnesses_of f.now g.now exports.now number item env.now) }
 {
     // The contract of this call says that the graph is sound, which the proof needs.
     let _count = g.count();

@@ -3,6 +3,7 @@ ghost use Rattle.std.specs.Prelude.{◌≡◌, ◌<◌, ◌≤◌, ◌^◌, ℕ,
 ghost use Rattle.ctl_formula.specs.Formulas.{plain};
 ghost use Rattle.ctl_fixpoint.specs.CtlHolds.Parts.{EachPattern, each_pattern-prop};
 ghost use Rattle.ctl_fixpoint.specs.CtlHolds.BoundLaw.{SureStand, sure_stand-prop};
+ghost use Rattle.wit_forest.specs.WitOrder.Sizes.{most_nodes};
 ghost use Rattle.rule_chain.specs.RuleWitnesses.Jobs.{BindsExports, nodes_of};
 ghost use Rattle.rule_chain.specs.declared.rule_witnesses.fault.JobFault.TheVariants as fault;
 ghost use Rattle.rule_chain.specs.RuleFound.Asked.{are_new};
@@ -49,7 +50,7 @@ impl<'a> Worker for FirstFinder<'a> {
         × IsKept w.f.now (lent_graph w.graphs.now job) first.kept };
 
     ghost may_fail = { λ w job why. why ≡ fault.TooMany
-        → 1000000 < nodes_of (found_by w.f.now w.exports.now w.number job (lent_graph w.graphs.now job) w.env.now) };
+        → most_nodes < nodes_of (found_by w.f.now w.exports.now w.number job (lent_graph w.graphs.now job) w.env.now) };
 
     fn answer(&self, job: usize) -> Result<First, JobFault> {
         match self.graphs[job] {
@@ -98,7 +99,7 @@ impl<'a> Worker for NextFinder<'a> {
         AreFoundBy (found_by w.f.now w.exports.now w.number job (lent_graph w.graphs.now job) w.env.now) found };
 
     ghost may_fail = { λ w job why. why ≡ fault.TooMany
-        → 1000000 < nodes_of (found_by w.f.now w.exports.now w.number job (lent_graph w.graphs.now job) w.env.now) };
+        → most_nodes < nodes_of (found_by w.f.now w.exports.now w.number job (lent_graph w.graphs.now job) w.env.now) };
 
     fn answer(&self, job: usize) -> Result<Items<RuleWitness>, JobFault> {
         match self.graphs[job] {

@@ -4,8 +4,8 @@ ghost use Rattle.ctl_formula.specs.Formulas.{plain};
 ghost use Rattle.ctl_fixpoint.specs.CtlHolds.Parts.{EachPattern};
 ghost use Rattle.ctl_fixpoint.specs.CtlHolds.BoundLaw.{SureStand};
 ghost use Rattle.c_file.specs.ItemGraphs.Made.{IsMade};
-ghost use Rattle.rule_envs.specs.Shares.{bare_carrier};
-ghost use Rattle.rule_envs.specs.Carriers.{most_environments};
+ghost use Rattle.rule_envs.specs.Shares.{bare_file_env};
+ghost use Rattle.rule_envs.specs.FileEnvs.{most_environments};
 ghost use Rattle.rule_envs.specs.RuleFormulas.Prepared.{IsPrepared};
 ghost use Rattle.rule_chain.specs.RuleWitnesses.Bare.{bare_witness};
 ghost use Rattle.rule_chain.specs.RuleWitnesses.Jobs.{BindsExports};
@@ -17,7 +17,7 @@ use crate::rule_turn::fault::TurnFault;
 use c_file::Graphs;
 use c_terms::Text;
 use par_match::Gate;
-use rule_envs::{FileEnv, PreparedRule, next_carriers, projections};
+use rule_envs::{FileEnv, PreparedRule, next_file_envs, projections};
 use smpl_patch::{Rule, RuleWitness};
 use sqlite_items::Items;
 use std::alloc::Global;
@@ -40,7 +40,7 @@ pub struct Turned {
 /// - `TooManyEnvironments`: they don't, and more than 10,000 environments result.
 /// - `NoMemory`: out of memory.
 ///
-/// Costs one [`projections`], one [`witnesses`] and one [`next_carriers`].
+/// Costs one [`projections`], one [`witnesses`] and one [`next_file_envs`].
 pub fn turn<R: Threads + Sync, G: Gate>(
     rt: &R,
     alloc: Global,
@@ -63,18 +63,18 @@ pub fn turn<R: Threads + Sync, G: Gate>(
     requires apart { spec.AreApart rule.now.exports prepared.now.inherited }
     requires count { count ≡ length graphs.old.items }
     ensures found { IfOk result (λ t. map bare_witness t.witnesses
-        ≡ spec.turn_found defined.now had.now number rule.now graphs.old.items (map bare_carrier carriers.now)) }
-    ensures carriers { IfOk result (λ t. map bare_carrier t.carriers
-        ≡ spec.turn_carriers defined.now had.now number rule.now graphs.old.items (map bare_carrier carriers.now)) }
+        ≡ spec.turn_found defined.now had.now number rule.now graphs.old.items (map bare_file_env carriers.now)) }
+    ensures carriers { IfOk result (λ t. map bare_file_env t.carriers
+        ≡ spec.turn_carriers defined.now had.now number rule.now graphs.old.items (map bare_file_env carriers.now)) }
     ensures few { OnOk result
-        (spec.has_too_many defined.now had.now number rule.now graphs.old.items (map bare_carrier carriers.now) ≡ false) }
+        (spec.has_too_many defined.now had.now number rule.now graphs.old.items (map bare_file_env carriers.now) ≡ false) }
     ensures few_environments { IfOk result (λ t. length t.carriers ≤ most_environments) }
     ensures too_many { result ≡ Err fault.TooManyWitnesses
-        → spec.has_too_many defined.now had.now number rule.now graphs.old.items (map bare_carrier carriers.now) ≡ true }
+        → spec.has_too_many defined.now had.now number rule.now graphs.old.items (map bare_file_env carriers.now) ≡ true }
     ensures too_many_environments { result ≡ Err fault.TooManyEnvironments
-        → (spec.has_too_many defined.now had.now number rule.now graphs.old.items (map bare_carrier carriers.now) ≡ false)
+        → (spec.has_too_many defined.now had.now number rule.now graphs.old.items (map bare_file_env carriers.now) ≡ false)
         × (most_environments < length
-        (spec.turn_carriers defined.now had.now number rule.now graphs.old.items (map bare_carrier carriers.now))) }
+        (spec.turn_carriers defined.now had.now number rule.now graphs.old.items (map bare_file_env carriers.now))) }
     ensures items { graphs.new.items ≡ graphs.old.items }
     ensures kept { (k : ℕ) → IsMade graphs.old k → IsMade graphs.new k }
 {
@@ -98,7 +98,7 @@ pub fn turn<R: Threads + Sync, G: Gate>(
         jobs,
         gate,
     )?;
-    let next = next_carriers(
+    let next = next_file_envs(
         alloc,
         number,
         carriers,

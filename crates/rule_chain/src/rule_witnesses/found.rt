@@ -1,23 +1,20 @@
 // What is found in one item.
 ghost use Rattle.std.specs.Prelude.{◌≡◌, ◌<◌, ◌≤◌, ◌+◌, ◌∷◌, ◌++◌, [], Err, IfOk};
-ghost use Rattle.wit_forest.specs.WitOrder.Sizes.{forest_size};
+ghost use Rattle.wit_forest.specs.WitOrder.Sizes.{forest_size, most_nodes};
 ghost use Rattle.rule_chain.specs.RuleWitnesses.Jobs.{nodes_of};
 
 use crate::rule_witnesses::fault::JobFault;
 use smpl_patch::{RuleWitness, Witness};
 use sqlite_items::Items;
 use std::alloc::Global;
-use wit_forest::within;
-
-/// The most touches and binds of the witnesses of one item.
-const MOST: u32 = 1_000_000;
+use wit_forest::{MOST_NODES, within};
 
 /// Witnesses, and how many more touches and binds they may have.
 #[derive(Drop)]
 pub struct Found {
     pub witnesses: Items<RuleWitness>,
     left: u32,
-    ghost budget: { left + nodes_of witnesses ≡ 1000000 },
+    ghost budget: { left + nodes_of witnesses ≡ most_nodes },
 }
 
 fn left_after(trees: &[Witness], left: u32) -> Result<u32, JobFault>
@@ -37,14 +34,14 @@ impl Found {
     {
         Found {
             witnesses: Items::new(alloc),
-            left: MOST,
+            left: MOST_NODES,
         }
     }
 
     /// Adds one witness.
     pub fn with(self, witness: RuleWitness) -> Result<Found, JobFault>
         ensures added { IfOk result (λ now. now.witnesses ≡ self.witnesses ++ witness ∷ []) }
-        ensures too_many { result ≡ Err JobFault.TooMany → 1000000 < nodes_of (self.witnesses ++ witness ∷ []) }
+        ensures too_many { result ≡ Err JobFault.TooMany → most_nodes < nodes_of (self.witnesses ++ witness ∷ []) }
     {
         let Found {
             mut witnesses,
@@ -58,7 +55,7 @@ impl Found {
     /// Returns the witnesses.
     pub fn into_items(self) -> Items<RuleWitness>
         ensures items { result ≡ self.witnesses }
-        ensures few { nodes_of result ≤ 1000000 }
+        ensures few { nodes_of result ≤ most_nodes }
     {
         let Found { witnesses, left: _ } = self;
         witnesses

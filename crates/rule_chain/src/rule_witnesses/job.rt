@@ -10,7 +10,7 @@ ghost use Rattle.ctl_fixpoint.specs.CtlHolds.Rounds.{holds};
 ghost use Rattle.ctl_fixpoint.specs.CtlHolds.Values.{values_of};
 ghost use Rattle.ctl_fixpoint.specs.States.{AreStateSets};
 ghost use Rattle.wit_forest.specs.WitOrder.Same.{same_forest};
-ghost use Rattle.wit_forest.specs.WitOrder.Sizes.{forest_size};
+ghost use Rattle.wit_forest.specs.WitOrder.Sizes.{forest_size, most_nodes};
 ghost use Rattle.wit_forest.specs.WitTrees.Graphs.{forest_of};
 ghost use Rattle.rule_chain.specs.RuleWitnesses.Bare.{bare_witness};
 ghost use Rattle.rule_chain.specs.RuleWitnesses.Choices.{AreNew, Leaves};
@@ -44,7 +44,7 @@ fn forest_at(
     requires sets { AreStateSets g.now f.now sets.now }
     ensures trees { IfOk result (λ ws. same_forest ws.items
         (forest_of f.now.decls f.now.tokens g.now (plain f.now) s (total env.now)) ≡ true) }
-    ensures too_many { result ≡ Err fault.TooMany → 1000000 < forest_size
+    ensures too_many { result ≡ Err fault.TooMany → most_nodes < forest_size
         (forest_of f.now.decls f.now.tokens g.now (plain f.now) s (total env.now)) }
 {
     match forest(alloc, g, f, sets, s, env) {
@@ -70,7 +70,7 @@ fn with_witness(
     requires sets { AreStateSets g.now f.now sets.now }
     ensures found { IfOk result (λ now. map bare_witness now.witnesses ≡ map bare_witness
         (so_far.witnesses ++ witness_at f.now g.now [] rule item s env.now ∷ [])) }
-    ensures too_many { result ≡ Err fault.TooMany → 1000000 < nodes_of
+    ensures too_many { result ≡ Err fault.TooMany → most_nodes < nodes_of
         (so_far.witnesses ++ witness_at f.now g.now [] rule item s env.now ∷ []) }
 {
     let trees = forest_at(alloc, g, f, sets, s, env)?;
@@ -108,7 +108,7 @@ fn with_node(
     requires new { AreNew exports.now env.now }
     ensures found { IfOk result (λ now. map bare_witness now.witnesses ≡ map bare_witness
         (so_far.witnesses ++ witnesses_at f.now g.now exports.now rule item s env.now)) }
-    ensures too_many { result ≡ Err fault.TooMany → 1000000 < nodes_of
+    ensures too_many { result ≡ Err fault.TooMany → most_nodes < nodes_of
         (so_far.witnesses ++ witnesses_at f.now g.now exports.now rule item s env.now) }
 {
     let envs = choices(alloc, set, exports, env)?;
@@ -146,8 +146,8 @@ pub fn item_witnesses(
     requires new { AreNew exports.now env.now }
     ensures found { IfOk result (λ found. map bare_witness found ≡ map bare_witness
         (witnesses_of f.now g.now exports.now rule item env.now)) }
-    ensures few { OnOk result (nodes_of (witnesses_of f.now g.now exports.now rule item env.now) ≤ 1000000) }
-    ensures too_many { result ≡ Err fault.TooMany → 1000000 < nodes_of
+    ensures few { OnOk result (nodes_of (witnesses_of f.now g.now exports.now rule item env.now) ≤ most_nodes) }
+    ensures too_many { result ≡ Err fault.TooMany → most_nodes < nodes_of
         (witnesses_of f.now g.now exports.now rule item env.now) }
 {
     // The contract of this call says that the graph is sound, which the proof needs.

@@ -36,11 +36,7 @@ pub enum Form {
 fn is_list(tree: &Tree) -> bool
     ensures { result ≡ spec.is_list tree.now }
 {
-    match tree {
-        Tree::Leaf(_) => false,
-        Tree::Branch(Label::StmtList, _) => true,
-        Tree::Branch(_, _) => false,
-    }
+    matches!(tree, Tree::Branch(Label::StmtList, _))
 }
 
 fn form_of_token(kind: TokenKind) -> Form

@@ -253,10 +253,7 @@ fn behind_when(
 fn is_when(next: Where) -> bool
     ensures { result ≡ spec.is_when next }
 {
-    match next {
-        Where::When(_, _) => true,
-        _ => false,
-    }
+    matches!(next, Where::When(_, _))
 }
 
 /// Ends the open code.

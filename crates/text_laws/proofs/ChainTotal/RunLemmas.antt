@@ -2,7 +2,7 @@
 use Rattle.std.proofs.Common.{◌≡◌, ◌<◌, ◌≤◌, ◌&&◌, ◌⊎◌, ℕ, zero, suc, Bool, true, false, inl, inr, refl, arith, List, [], ◌∷◌, ◌++◌, length, Some}
 use Rattle.std.specs.Prelude.{All, slice_get}
 use Rattle.std.proofs.lemmas.List.Elements.{All-head, All-tail}
-use Rattle.c_lexer.specs.Pieces.{TextPiece}
+use Rattle.c_lexer.specs.Pieces.{TextPiece, most_bytes}
 use Rattle.c_lexer.specs.Lexes.{Lexes}
 use Rattle.c_lexer.specs.Ids.{ids_of}
 use Rattle.cpp_lines.specs.declared.reading.Item.{Item}
@@ -14,12 +14,11 @@ use Rattle.edit_marks.specs.EditConflict.Clashes.{IsClash, IsFirstClash}
 use Rattle.edit_marks.specs.EditWalk.Fit.{FitsText}
 use Rattle.rule_chain.specs.RuleEdits.Kinds.{kinds_of}
 use Rattle.rule_chain.specs.RuleEdits.Pages.{is_edited}
-use Rattle.rule_chain.specs.RuleEdits.Faults.{most_bytes}
 use Rattle.rule_chain.specs.RuleEdits.Faults.IsEditFault.{conflict, too_long}
 use Rattle.rule_chain.specs.declared.rule_edits.fault.EditFault.{EditFault}
 use Rattle.rule_chain.specs.declared.rule_edits.fault.EditFault.TheVariants as edit
 use Rattle.rule_chain.proofs.RuleEdits.ClashLemmas.{clash_within}
-use Rattle.rule_envs.specs.Carriers.{most_environments}
+use Rattle.rule_envs.specs.FileEnvs.{most_environments}
 use Rattle.rule_chain.specs.declared.rule_work.fault.FileFault.{FileFault}
 use Rattle.rule_chain.specs.declared.rule_work.fault.FileFault.TheVariants.{TooManyWitnesses, TooManyEnvironments}
 use Rattle.rule_chain.specs.RuleWork.States.{Chained, IsCut, first_state, notes_from}

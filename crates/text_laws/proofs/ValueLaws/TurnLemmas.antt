@@ -24,10 +24,10 @@ use Rattle.edit_marks.specs.Plain.{AreCTokens}
 use Rattle.text_laws.specs.ReadingLaws.Sound.{IsSoundItem}
 use Rattle.env_parts.specs.Parts.{Pairs, restricted}
 use Rattle.rule_chain.specs.RuleWitnesses.Bare.{bare_witness}
-use Rattle.rule_envs.specs.declared.carrier.FileEnv.{FileEnv}
+use Rattle.rule_envs.specs.declared.file_env.FileEnv.{FileEnv}
 use Rattle.rule_envs.specs.Inherited.{inherited_of}
 use Rattle.rule_envs.specs.Shares.{takes_part, share, projections}
-use Rattle.rule_envs.specs.Carriers.{extended, replaced, becomes_by}
+use Rattle.rule_envs.specs.FileEnvs.{extended, replaced, becomes_by}
 use Rattle.rule_chain.specs.RuleFound.Found.{witnesses_in, found_from, found_under, brings}
 use Rattle.rule_chain.specs.RuleTurn.Turns.{turn_found, turn_carriers}
 use Rattle.text_laws.specs.OutputLaws.Values.{AreCValues}

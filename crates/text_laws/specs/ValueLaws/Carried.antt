@@ -1,5 +1,5 @@
 -- Environments whose values are places, or terms of tokens of C.
-use Rattle.rule_envs.specs.declared.carrier.FileEnv.{FileEnv}
+use Rattle.rule_envs.specs.declared.file_env.FileEnv.{FileEnv}
 use Rattle.text_laws.specs.Sound.{HaveCValues}
 
 -- each value of the environment is a place, or a term of tokens of C that are no Strays

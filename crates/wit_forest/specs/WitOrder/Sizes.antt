@@ -12,6 +12,10 @@ size_step (Witness-F.Bind n x v sizes) = 1 + sum sizes
 abbrev pub size : Witness → ℕ
 size = fold-Witness ℕ size_step
 
+-- the most touches and binds that a forest may have
+abbrev pub most_nodes : ℕ
+most_nodes = 1000000
+
 -- how many all the trees have
 abbrev pub forest_size : List Witness → ℕ
 forest_size ws = sum (map size ws)

@@ -3,7 +3,7 @@ use Rattle.smpl_patch.specs.declared.elem.Elem.{Elem}
 use Rattle.smpl_patch.specs.Bodies.{body, element}
 use Rattle.smpl_patch.proofs.BodyLemmas.{bodies}
 use Rattle.ctl_table.specs.Blocks as blocks
-use Rattle.pattern_vars.proofs.VarPlaces.Weights.{weight_body, body-at, bodies-at}
+use Rattle.smpl_patch.proofs.Weights.{weight_body, body-at, bodies-at}
 use Rattle.ctl_table.proofs.PutLemmas.{put-step, put-end}
 use Rattle.ctl_table.proofs.braces.+opens.Goals as goal
 

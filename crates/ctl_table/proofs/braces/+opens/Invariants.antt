@@ -2,7 +2,7 @@ use Rattle.std.proofs.Common.{◌≡◌, ◌++◌, drop}
 use Rattle.smpl_patch.specs.Bodies.{body, element}
 use Rattle.smpl_patch.proofs.BodyLemmas.{bodies}
 use Rattle.ctl_table.specs.Blocks as blocks
-use Rattle.pattern_vars.proofs.VarPlaces.Weights.{weight_element, weight_body, weight_bodies}
+use Rattle.smpl_patch.proofs.Weights.{weight_element, weight_body, weight_bodies}
 use Rattle.ctl_table.proofs.braces.+opens.Given as goal
 
 abbrev pub decreases-put_opens : goal.decreases-put_opens

@@ -12,8 +12,8 @@ use Rattle.ctl_table.proofs.each.after_each.Goals as goal
 pub loop-next-init : goal.loop-next-init
 loop-next-init c = init-all c.args.parts.now _ (cc)
 
-pub past_next-requires : goal.past_next-requires
-past_next-requires c = record {
+pub after_next-requires : goal.after_next-requires
+after_next-requires c = record {
   f = stands-still c.args.parts.now c.loop-next.parts c.args.f c.loop-next.invariant.grows c.requires.f;
   next = made-stands c.args.parts.now c.loop-next.parts c.next-item.result c.loop-next.invariant.grows
       (item-is (made_below (length c.args.parts.now)) c.args.nexts.now c.loop-next.next-index c.next-item.result
@@ -27,7 +27,7 @@ loop-next-preserved c =
     let x = c.next-item.result in
     let m = setting_at c.args.m.now in
     let row = λ (p : Plain) (k : table.Follow). And p (After (k.at c.args.scope.now)) in
-    map-step a b c.past_next.new.parts (λ n. row (at (plains a) c.args.f) (next_of (plains a) m n)) c.args.nexts.now x x
+    map-step a b c.after_next.new.parts (λ n. row (at (plains a) c.args.f) (next_of (plains a) m n)) c.args.nexts.now x x
     c.loop-next.made.items _ c.loop-next.next-index c.in_ok-g.g (row (at (plains b) c.args.f) (next_of (plains b) m x))
     c.loop-next-test.true c.next-item.is
     (ap (λ (p : Plain). row p (next_of (plains b) m x)) (stays a b c.args.f c.loop-next.invariant.grows c.requires.f)

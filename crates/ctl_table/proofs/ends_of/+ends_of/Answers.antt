@@ -6,7 +6,7 @@ use Rattle.smpl_patch.proofs.BodyLemmas.{bodies}
 use Rattle.ctl_table.specs.Table as table
 use Rattle.ctl_table.specs.Settings.{setting_at}
 use Rattle.ctl_table.specs.EndAtoms.{MakesEachEndAtoms}
-use Rattle.pattern_vars.proofs.VarPlaces.Weights.{weight_body, body-at, bodies-at, weight-first}
+use Rattle.smpl_patch.proofs.Weights.{weight_body, body-at, bodies-at, weight-first}
 use Rattle.ctl_table.proofs.RowLemmas.{taken}
 use Rattle.ctl_table.proofs.EndLemmas.{none-end_atoms, no-each_end_atoms, ends_of-none, ends_of-at, ends_of-step}
 use Rattle.ctl_table.proofs.EndLemmas.{ends_of_first-none, ends_of_first-at, end_atoms-as, any-made}

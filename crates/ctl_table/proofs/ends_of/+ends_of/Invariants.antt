@@ -4,7 +4,7 @@ use Rattle.smpl_patch.proofs.BodyLemmas.{bodies}
 use Rattle.ctl_table.specs.Table as table
 use Rattle.ctl_table.specs.Settings.{setting_at}
 use Rattle.ctl_table.specs.EndAtoms.{MakesEachEndAtoms}
-use Rattle.pattern_vars.proofs.VarPlaces.Weights.{weight_element, weight_body, weight_bodies}
+use Rattle.smpl_patch.proofs.Weights.{weight_element, weight_body, weight_bodies}
 use Rattle.ctl_table.proofs.ends_of.+ends_of.Given as goal
 
 abbrev pub decreases-ends_of : goal.decreases-ends_of

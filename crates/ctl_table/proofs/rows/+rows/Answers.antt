@@ -21,7 +21,7 @@ use Rattle.ctl_table.specs.Settings.{setting_at, element_or_none, all_below, all
 use Rattle.ctl_table.specs.Settings.{next_of, suffix_at, start_with, block_at, compound_at, MakesAll, MakesBehind, MakesFollows}
 use Rattle.ctl_table.specs.Columns.{rows_within, MakesColumns}
 use Rattle.ctl_table.specs.Suffixes.{begins, along}
-use Rattle.pattern_vars.proofs.VarPlaces.Weights.{weight_element, weight_body, body-at, bodies-at, weight-take, weight-first, weight-rest}
+use Rattle.smpl_patch.proofs.Weights.{weight_element, weight_body, body-at, bodies-at, weight-take, weight-first, weight-rest}
 use Rattle.ctl_table.proofs.MakingLemmas.{all-stand, both-true}
 use Rattle.ctl_table.proofs.FollowLemmas.{follow-stays}
 use Rattle.ctl_table.proofs.RowLemmas.{taken, init-all, all-next, each-step, when-step}

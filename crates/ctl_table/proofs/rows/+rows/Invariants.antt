@@ -5,7 +5,7 @@ use Rattle.ctl_table.specs.Table as table
 use Rattle.ctl_table.specs.Settings.{setting_at, follow, MakesAll, MakesFollows}
 use Rattle.ctl_table.specs.Columns.{MakesColumns}
 use Rattle.ctl_table.specs.Suffixes.{begins, along}
-use Rattle.pattern_vars.proofs.VarPlaces.Weights.{weight_element, weight_body, weight_bodies}
+use Rattle.smpl_patch.proofs.Weights.{weight_element, weight_body, weight_bodies}
 use Rattle.ctl_table.proofs.rows.+rows.Given as goal
 
 abbrev pub decreases-sequence : goal.decreases-sequence

@@ -1,7 +1,7 @@
 use Rattle.std.proofs.Common.{◌≡◌, ℕ, ◌+◌, ◌-◌, ◌<◌, ◌≤◌, arith, subst, length, drop}
 use Rattle.smpl_patch.specs.Bodies.{body}
 use Rattle.ctl_translate.specs.Deep.{levels_body}
-use Rattle.pattern_vars.proofs.VarPlaces.Weights.{body-at}
+use Rattle.smpl_patch.proofs.Weights.{body-at}
 use Rattle.ctl_translate.proofs.DeepLemmas.{levels-more}
 use Rattle.ctl_translate.proofs.deep.+levels.Goals as goal
 

@@ -2,7 +2,7 @@ use Rattle.std.proofs.Common.{◌≤◌, drop, length}
 use Rattle.smpl_patch.specs.Bodies.{body, element}
 use Rattle.smpl_patch.proofs.BodyLemmas.{bodies}
 use Rattle.ctl_translate.specs.Deep as deep
-use Rattle.pattern_vars.proofs.VarPlaces.Weights.{weight_element, weight_body, weight_bodies}
+use Rattle.smpl_patch.proofs.Weights.{weight_element, weight_body, weight_bodies}
 use Rattle.ctl_translate.proofs.deep.+levels.Given as goal
 
 abbrev pub decreases-levels_element : goal.decreases-levels_element

@@ -1,6 +1,6 @@
 use Rattle.std.proofs.Common.{ap, arith, refl}
 use Rattle.smpl_patch.specs.Bodies.{body}
-use Rattle.pattern_vars.proofs.VarPlaces.Weights.{weight_body, body-at, bodies-at}
+use Rattle.smpl_patch.proofs.Weights.{weight_body, body-at, bodies-at}
 use Rattle.ctl_translate.proofs.LeastSteps.{body-more, choices-more}
 use Rattle.ctl_translate.proofs.least.+least.Goals as goal
 

@@ -2,7 +2,7 @@ use Rattle.std.proofs.Common.{◌+◌, ◌≤◌, drop}
 use Rattle.smpl_patch.specs.Bodies.{body, element}
 use Rattle.smpl_patch.proofs.BodyLemmas.{bodies}
 use Rattle.ctl_translate.specs.Least as least
-use Rattle.pattern_vars.proofs.VarPlaces.Weights.{weight_element, weight_body, weight_bodies}
+use Rattle.smpl_patch.proofs.Weights.{weight_element, weight_body, weight_bodies}
 use Rattle.ctl_translate.proofs.LeastLemmas.{IsLeastOf}
 use Rattle.ctl_translate.proofs.LeastSteps.{AreLeastOf}
 use Rattle.ctl_translate.proofs.least.+least.Given as goal

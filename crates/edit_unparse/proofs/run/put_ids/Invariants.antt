@@ -1,4 +1,5 @@
 use Rattle.std.proofs.Common.{◌≡◌, ◌≤◌, ◌-◌, ◌++◌, length}
+use Rattle.c_lexer.specs.Pieces.{most_bytes}
 use Rattle.c_lexer.specs.Ids.{ids_of}
 use Rattle.edit_unparse.specs.Runs.{run_of, Passes, SameButIds}
 use Rattle.edit_unparse.proofs.run.put_ids.Given as goal
@@ -9,7 +10,7 @@ invariant-loop-piece l = record {
   ids : l.draft.ids.items ≡ l.initial.draft.ids.items ++ ids_of (run_of l.lexed l.fn.from.piece l.piece);
   same : SameButIds l.initial.draft l.draft;
   all : l.count ≡ length l.lexed;
-  few : l.count ≤ 16777216;
+  few : l.count ≤ most_bytes;
 }
 
 abbrev pub decreases-loop-piece : goal.decreases-loop-piece

@@ -5,7 +5,7 @@ use Rattle.smpl_patch.specs.Bodies.{body, element}
 use Rattle.smpl_patch.proofs.BodyLemmas.{bodies}
 use Rattle.iso_expand.specs.Bodies.{expanded_body, expanded_bodies, forms_element, forms_body, forms_bodies}
 use Rattle.iso_expand.specs.Stepped.{NoRoom}
-use Rattle.iso_expand.proofs.Weights.{weight_body, body-at, bodies-at}
+use Rattle.smpl_patch.proofs.Weights.{weight_body, body-at, bodies-at}
 use Rattle.iso_expand.proofs.BodyLemmas.{body_more, body_spent, body_part, bodies_more, bodies_spent, bodies_part}
 use Rattle.iso_expand.proofs.DotsLemmas.{gap_made, nest_made}
 use Rattle.iso_expand.proofs.RoomLemmas.{no_room_more}

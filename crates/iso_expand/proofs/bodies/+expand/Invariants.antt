@@ -2,7 +2,7 @@ use Rattle.std.proofs.Common.{◌≡◌, ℕ, ◌+◌, take, drop}
 use Rattle.smpl_patch.specs.Bodies.{body, element}
 use Rattle.smpl_patch.proofs.BodyLemmas.{bodies}
 use Rattle.iso_expand.specs.Bodies as of
-use Rattle.iso_expand.proofs.Weights.{weight_element, weight_body, weight_bodies}
+use Rattle.smpl_patch.proofs.Weights.{weight_element, weight_body, weight_bodies}
 use Rattle.iso_expand.proofs.bodies.+expand.Given as goal
 
 abbrev pub decreases-expanded_element : goal.decreases-expanded_element

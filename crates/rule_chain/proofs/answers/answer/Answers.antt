@@ -1,10 +1,10 @@
 use Rattle.std.proofs.Common.{◌≡◌, refl, sym, ap, ◌∙◌, List, [], ◌∷◌, map}
 use Rattle.env_parts.specs.Parts.{Pairs, bare_env}
-use Rattle.rule_envs.specs.declared.carrier.FileEnv.{FileEnv}
-use Rattle.rule_envs.specs.Shares.{bare_carrier}
+use Rattle.rule_envs.specs.declared.file_env.FileEnv.{FileEnv}
+use Rattle.rule_envs.specs.Shares.{bare_file_env}
 use Rattle.rule_chain.proofs.answers.answer.Goals as goal
 
-envs_bare : (cs : List FileEnv) → map bare_env (map (λ c. c.env) cs) ≡ map (λ c. c.env) (map bare_carrier cs)
+envs_bare : (cs : List FileEnv) → map bare_env (map (λ c. c.env) cs) ≡ map (λ c. c.env) (map bare_file_env cs)
 envs_bare [] = refl
 envs_bare (c ∷ cs) = ap (λ (r : List Pairs). bare_env c.env ∷ r) (envs_bare cs)
 

@@ -3,7 +3,7 @@ use Rattle.c_lexer.specs.Pieces.{TextPiece, text_of}
 use Rattle.c_lexer.specs.Ids.{ids_of}
 use Rattle.c_lexer.specs.Lexes.{Lexes}
 use Rattle.c_file.specs.Reads.{Reads}
-use Rattle.rule_envs.specs.Shares.{bare_carrier}
+use Rattle.rule_envs.specs.Shares.{bare_file_env}
 use Rattle.rule_chain.specs.RuleWitnesses.Bare.{bare_witness}
 use Rattle.rule_chain.specs.declared.rule_work.state.SkipNote.{SkipNote}
 use Rattle.rule_chain.specs.RuleWork.States.{notes_from}
@@ -27,7 +27,7 @@ returns-clause-at c =
       findings = record {
         seen = record {
           had_is = sym c.new-2.ensures;
-          carriers_is = sym (ap (map bare_carrier) c.in_ok-first_carriers.ensures.carriers);
+          carriers_is = sym (ap (map bare_file_env) c.in_ok-first_file_envs.ensures.carriers);
         };
         found_is = ap (map bare_witness) (sym c.new-3.ensures);
       };

@@ -1,6 +1,6 @@
 use Rattle.std.proofs.Common.{◌≡◌, drop, map}
 use Rattle.env_parts.specs.Parts.{restricted, distinct_after}
-use Rattle.rule_envs.specs.Carriers as of
+use Rattle.rule_envs.specs.FileEnvs as of
 use Rattle.smpl_patch.specs.declared.witness.RuleWitness.{RuleWitness}
 use Rattle.rule_envs.proofs.exports.exported.Given as goal
 

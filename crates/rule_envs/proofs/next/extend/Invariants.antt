@@ -1,5 +1,5 @@
 use Rattle.std.proofs.Common.{◌≡◌, ◌++◌, drop, map}
-use Rattle.rule_envs.specs.Carriers as of
+use Rattle.rule_envs.specs.FileEnvs as of
 use Rattle.rule_envs.proofs.next.extend.Given as goal
 
 abbrev pub invariant-loop-part : goal.invariant-loop-part

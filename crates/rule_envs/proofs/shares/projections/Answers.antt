@@ -3,7 +3,7 @@ use Rattle.std.specs.Prelude.{option_map}
 use Rattle.std.specs.List.{filter_map, AllZip}
 use Rattle.std.proofs.lemmas.List.{drop_more, take_all}
 use Rattle.env_parts.specs.Parts.{Pairs, bare_env, distinct_after}
-use Rattle.rule_envs.specs.declared.carrier.FileEnv.{FileEnv}
+use Rattle.rule_envs.specs.declared.file_env.FileEnv.{FileEnv}
 use Rattle.rule_envs.specs.Shares as of
 use Rattle.rule_envs.proofs.ShareLemmas.{share-bare, share_rest, share_stands, front_more}
 use Rattle.rule_envs.proofs.shares.projections.Goals as goal
@@ -17,7 +17,7 @@ loop-carrier-preserved c =
     let rest = drop (i + 1) cs in
     let within : i < length cs = omega arith in
     let left : drop i cs ≡ one ∷ rest = drop_more cs i one within ∙ ap (λ (x : FileEnv). x ∷ rest) (sym c.carrier-item.is) in
-    let bare : f (of.bare_carrier one) ≡ option_map bare_env c.in_ok-share.share =
+    let bare : f (of.bare_file_env one) ≡ option_map bare_env c.in_ok-share.share =
     share-bare c.args.defined.now c.args.had.now c.args.depends.now c.args.inherited.now one ∙ ap (option_map bare_env) (sym c.in_ok-share.ensures) in
     record {
       rest = share_rest f c.loop-carrier.envs c.in_ok-shared.shared.envs c.in_ok-share.share c.in_ok-shared.shared.place one rest
@@ -25,20 +25,20 @@ loop-carrier-preserved c =
           ∙ ap (λ (xs : List FileEnv). distinct_after c.loop-carrier.envs (filter_map f xs)) (sym left) ∙ c.loop-carrier.invariant.rest;
       stand =
           subst (λ (os : List (Option Pairs)). AllZip (of.StandsAt (map bare_env c.in_ok-shared.shared.envs)) os c.push.new.self)
-          (sym (front_more f of.bare_carrier cs i one within c.carrier-item.is
-          ∙ ap (λ (o : Option Pairs). map f (map of.bare_carrier (take i cs)) ++ o ∷ []) bare))
+          (sym (front_more f of.bare_file_env cs i one within c.carrier-item.is
+          ∙ ap (λ (o : Option Pairs). map f (map of.bare_file_env (take i cs)) ++ o ∷ []) bare))
           (subst (λ (ps : List (Option ℕ)). AllZip (of.StandsAt (map bare_env c.in_ok-shared.shared.envs))
-          (map f (map of.bare_carrier (take i cs)) ++ option_map bare_env c.in_ok-share.share ∷ []) ps)
+          (map f (map of.bare_file_env (take i cs)) ++ option_map bare_env c.in_ok-share.share ∷ []) ps)
           (sym c.in_ok-push.ensures.ok)
           (share_stands c.loop-carrier.envs c.in_ok-shared.shared.envs c.in_ok-share.share c.in_ok-shared.shared.place
-          (map f (map of.bare_carrier (take i cs))) c.loop-carrier.places c.in_ok-shared.ensures c.loop-carrier.invariant.stand));
+          (map f (map of.bare_file_env (take i cs))) c.loop-carrier.places c.in_ok-shared.ensures c.loop-carrier.invariant.stand));
     }
 
 pub returns-clause-places : goal.returns-clause-places
 returns-clause-places c =
     let f = of.share c.args.defined.now c.args.had.now c.args.depends.now c.args.inherited.now in
-    subst (λ (cs : List FileEnv). AllZip (of.StandsAt (map bare_env c.into_envs.result)) (map f (map of.bare_carrier cs)) c.loop-carrier.places)
+    subst (λ (cs : List FileEnv). AllZip (of.StandsAt (map bare_env c.into_envs.result)) (map f (map of.bare_file_env cs)) c.loop-carrier.places)
     (take_all c.loop-carrier.carrier-index c.args.carriers.now (omega arith))
     (subst (λ (envs : List Pairs). AllZip (of.StandsAt (map bare_env envs))
-    (map f (map of.bare_carrier (take c.loop-carrier.carrier-index c.args.carriers.now))) c.loop-carrier.places)
+    (map f (map of.bare_file_env (take c.loop-carrier.carrier-index c.args.carriers.now))) c.loop-carrier.places)
     (sym c.into_envs.ensures.envs) c.loop-carrier.invariant.stand)

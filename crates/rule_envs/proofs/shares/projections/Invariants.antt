@@ -9,5 +9,5 @@ invariant-loop-carrier l = record {
   rest : distinct_after l.envs (filter_map (of.share l.defined l.had l.depends l.inherited) (drop l.carrier-index l.carriers))
       ≡ of.projections l.defined l.had l.depends l.inherited l.carriers;
   stand : AllZip (of.StandsAt (map bare_env l.envs))
-      (map (of.share l.defined l.had l.depends l.inherited) (map of.bare_carrier (take l.carrier-index l.carriers))) l.places;
+      (map (of.share l.defined l.had l.depends l.inherited) (map of.bare_file_env (take l.carrier-index l.carriers))) l.places;
 }

@@ -4,7 +4,7 @@ use Rattle.smpl_patch.specs.Bodies.{body, element}
 use Rattle.smpl_patch.specs.Shapes.{patterns_element, patterns_body, patterns_bodies}
 use Rattle.smpl_patch.proofs.BodyLemmas.{bodies}
 use Rattle.edit_marks.proofs.EditWalk.ListLemmas.{put-step, put-end}
-use Rattle.edit_marks.proofs.EditWalk.WeightLemmas.{weight_body, body-at, bodies-at}
+use Rattle.smpl_patch.proofs.Weights.{weight_body, body-at, bodies-at}
 use Rattle.edit_marks.proofs.edit_walk.patterns.+patterns.Goals as goal
 
 pub put_body-put_element-requires : goal.put_body-put_element-requires

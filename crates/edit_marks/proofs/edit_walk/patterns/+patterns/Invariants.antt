@@ -2,7 +2,7 @@ use Rattle.std.proofs.Common.{◌≡◌, ◌++◌, map, drop}
 use Rattle.smpl_patch.specs.Bodies.{body, element}
 use Rattle.smpl_patch.specs.Shapes.{patterns_body, patterns_bodies}
 use Rattle.smpl_patch.proofs.BodyLemmas.{bodies}
-use Rattle.edit_marks.proofs.EditWalk.WeightLemmas.{weight_element, weight_body, weight_bodies}
+use Rattle.smpl_patch.proofs.Weights.{weight_element, weight_body, weight_bodies}
 use Rattle.edit_marks.proofs.edit_walk.patterns.+patterns.Given as goal
 
 abbrev pub decreases-put_body : goal.decreases-put_body

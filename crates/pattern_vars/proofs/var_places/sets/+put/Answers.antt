@@ -8,7 +8,7 @@ use Rattle.pattern_vars.specs.Reads.{has}
 use Rattle.pattern_vars.specs.VarPlaces.Places.{reads_by}
 use Rattle.pattern_vars.proofs.SetLemmas.{any-step, any-end, put-two}
 use Rattle.pattern_vars.specs.VarPlaces.Placing as placing
-use Rattle.pattern_vars.proofs.VarPlaces.Weights.{weight_body, body-at, bodies-at, one-body, one}
+use Rattle.smpl_patch.proofs.Weights.{weight_body, body-at, bodies-at, one-body, one}
 use Rattle.pattern_vars.proofs.var_places.sets.+put.Goals as goal
 
 pub put_body-put_element-requires : goal.put_body-put_element-requires

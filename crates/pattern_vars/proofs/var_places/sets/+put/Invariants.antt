@@ -5,7 +5,7 @@ use Rattle.smpl_patch.proofs.BodyLemmas.{bodies}
 use Rattle.pattern_vars.specs.Reads.{has}
 use Rattle.pattern_vars.specs.VarPlaces.Places.{reads_by}
 use Rattle.pattern_vars.specs.VarPlaces.Placing as placing
-use Rattle.pattern_vars.proofs.VarPlaces.Weights.{weight_element, weight_body, weight_bodies}
+use Rattle.smpl_patch.proofs.Weights.{weight_element, weight_body, weight_bodies}
 use Rattle.pattern_vars.proofs.var_places.sets.+put.Given as goal
 
 abbrev pub decreases-put_element : goal.decreases-put_element

@@ -1,6 +1,6 @@
 use Rattle.std.proofs.Common.{ap, ◌∙◌, List, map}
 use Rattle.smpl_patch.specs.declared.witness.RuleWitness.{RuleWitness}
-use Rattle.rule_envs.specs.Carriers as envs
+use Rattle.rule_envs.specs.FileEnvs as envs
 use Rattle.rule_chain.proofs.RuleFound.AddLemmas.{join_next, part_next}
 use Rattle.rule_chain.proofs.rule_found.whole.joined.Goals as goal
 

@@ -1,6 +1,6 @@
 use Rattle.std.proofs.Common.{◌≡◌, sym, ap, ◌∙◌, subst, map}
 use Rattle.std.proofs.lemmas.Result.{err_from_is_err_and}
-use Rattle.rule_envs.specs.Shares.{bare_carrier}
+use Rattle.rule_envs.specs.Shares.{bare_file_env}
 use Rattle.rule_chain.specs.RuleFound.Found as found
 use Rattle.rule_chain.specs.declared.rule_turn.fault.TurnFault.TheVariants.{TooManyWitnesses, TooManyEnvironments}
 use Rattle.rule_chain.specs.RuleTurn.Turns.{AreApart, rule_share}
@@ -15,8 +15,8 @@ witnesses-requires-clause-new g c κs within =
     c.in_ok-projected.ensures.projections
     (subst (AreApart c.args.rule.now.exports) (sym c.as_slice.ensures) c.requires.apart)
 
-pub next_carriers-requires : goal.next_carriers-requires
-next_carriers-requires g c = record {
+pub next_file_envs-requires : goal.next_file_envs-requires
+next_file_envs-requires g c = record {
   lengths = places_of_all c.args.defined.now c.args.had.now c.args.number c.args.rule.now c.args.graphs.now.items c.args.carriers.now
       c.as_slice.result.now (c.as_slice.ensures ∙ c.requires.prepared.inherited) c.in_ok-projected.projected.projections
       c.as_slice-2.result.now c.as_slice-2.ensures c.in_ok-projected.ensures.projections
@@ -38,7 +38,7 @@ returns-clause-carriers g c =
     let number = c.args.number in
     let rule = c.args.rule.now in
     let cs = c.args.carriers.now in
-    c.in_ok-next.ensures.carriers (rule_share c.args.defined.now c.args.had.now number rule items (map bare_carrier cs)) (found.brings number rule items)
+    c.in_ok-next.ensures.carriers (rule_share c.args.defined.now c.args.had.now number rule items (map bare_file_env cs)) (found.brings number rule items)
     (are_brought c.args.defined.now c.args.had.now number rule items cs c.as_slice.result.now
     (c.as_slice.ensures ∙ c.requires.prepared.inherited) c.in_ok-projected.projected.projections c.as_slice-2.result.now c.as_slice-2.ensures
     c.in_ok-projected.ensures.projections
@@ -91,7 +91,7 @@ returns-in_err-next-clause-too_many_environments g c = λ h.
           c.in_ok-projected.ensures.projections))
           ∙ c.in_ok-found.ensures.few,
       c.in_err-next.ensures.too_many (cc (environments_told _ (sym p.2 ∙ e)))
-          (rule_share c.args.defined.now c.args.had.now number rule items (map bare_carrier cs)) (found.brings number rule items)
+          (rule_share c.args.defined.now c.args.had.now number rule items (map bare_file_env cs)) (found.brings number rule items)
           (are_brought c.args.defined.now c.args.had.now number rule items cs c.as_slice.result.now
           (c.as_slice.ensures ∙ c.requires.prepared.inherited) c.in_ok-projected.projected.projections c.as_slice-2.result.now c.as_slice-2.ensures
           c.in_ok-projected.ensures.projections

@@ -8,6 +8,8 @@ pub mod Looked
 pub mod Steps
 -- untils by sweeps
 pub mod Sweeps
+-- what is known of a graph has one proof
+pub mod OneProof
 -- What ctl_holds defines.
 pub mod CtlHolds
 -- What required_words defines.

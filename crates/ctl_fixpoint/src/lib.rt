@@ -31,6 +31,7 @@ mod part;
 mod point;
 mod required_words;
 mod rows;
+mod sound_graph;
 mod sweeps;
 mod until;
 
@@ -41,3 +42,4 @@ pub use part::sat;
 pub use required_words::{
     FormGroup, formulas_need_words, looks_of, may_hold, needed_words, solve_by,
 };
+pub use sound_graph::SoundGraph;

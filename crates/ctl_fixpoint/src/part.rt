@@ -11,6 +11,7 @@ ghost use Rattle.ctl_fixpoint.specs.Steps.{row_of, IsRowBy};
 use crate::blocks::{inside_row, outside_row};
 use crate::point::point_row;
 use crate::rows::row_at;
+use crate::sound_graph::SoundGraph;
 use crate::until::{exists_row, until_row};
 use c_terms::NoMemory;
 use cfg_build::Graph;
@@ -49,15 +50,14 @@ fn part_row(
 /// has changed, in as many sweeps over the nodes as it takes until nothing changes. If edges lead back only to the heads of
 /// loops, nested d deep, this is as a rule linear in the nodes times d + 2, apart from the sets; each further jump backwards
 /// on a walk may take one more sweep.
-pub fn sat(alloc: Global, g: &Graph, f: &Formula) -> Result<StateSets, NoMemory>
+pub fn sat(alloc: Global, g: &SoundGraph<'_, '_>, f: &Formula) -> Result<StateSets, NoMemory>
     requires { EachPattern (SureStand f.now.decls f.now.tokens) (plain f.now) }
-    ensures { IfOk result (λ sets. AreStateSets g.now f.now sets) }
+    ensures { IfOk result (λ sets. AreStateSets g.now.graph.now f.now sets) }
 {
-    let _count = g.count();
     let _root = f.root();
     let mut rows = Vec::with_capacity(alloc, f.len())?;
     for i in 0..f.len() {
-        let row = part_row(alloc, g, f, f.node(i), &rows)?;
+        let row = part_row(alloc, g.graph, f, f.node(i), &rows)?;
         rows.push(StateRow::of(alloc, row)?)?;
     }
     Ok(StateSets::new(rows))

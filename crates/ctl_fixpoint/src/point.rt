@@ -20,7 +20,8 @@ use c_terms::NoMemory;
 use cfg_build::{Graph, NodeKind};
 use ctl_formula::{Formula, Node};
 use env_sets::{Bound, EnvSet, StateRow, complement, join, meet};
-use smpl_patch::{PatToken, Pattern, VarDecl};
+use pat_match::PatternContext;
+use smpl_patch::Pattern;
 use smpl_terms::{Value, Var};
 use std::alloc::Global;
 
@@ -62,8 +63,7 @@ fn bail_set(alloc: Global, g: &Graph, s: u32) -> Result<EnvSet, NoMemory>
 fn atom_set(
     alloc: Global,
     g: &Graph,
-    decls: &[VarDecl],
-    tokens: &[PatToken],
+    context: &PatternContext<'_>,
     p: &Pattern,
     form_groups: &[FormGroup],
     s: u32,
@@ -71,20 +71,19 @@ fn atom_set(
     requires node { s < count_of g.now }
     requires form_groups { AreFormGroups p.now form_groups.now }
     ensures gives { IfOk result (λ r. (env : Environment) →
-        set_denotes r env ≡ atom_at decls.now tokens.now g.now p.now s env) }
+        set_denotes r env ≡ atom_at context.now.decls.now context.now.tokens.now g.now p.now s env) }
     ensures vars { IfOk result (λ r. (test : Var → Bool)
-        → pattern_vars decls.now tokens.now test p.now ≡ true
+        → pattern_vars context.now.decls.now context.now.tokens.now test p.now ≡ true
         → set_vars test r ≡ true) }
 {
-    solve_by(alloc, form_groups, p, decls, tokens, &g.label(s))
+    solve_by(alloc, form_groups, p, context, &g.label(s))
 }
 
 /// Returns the environments under which the pattern matches at the node and the variable is the place of its label's `{`.
 fn placed_set(
     alloc: Global,
     g: &Graph,
-    decls: &[VarDecl],
-    tokens: &[PatToken],
+    context: &PatternContext<'_>,
     p: &Pattern,
     form_groups: &[FormGroup],
     b: &Var,
@@ -93,22 +92,21 @@ fn placed_set(
     requires node { s < count_of g.now }
     requires form_groups { AreFormGroups p.now form_groups.now }
     ensures gives { IfOk result (λ r. (env : Environment) → set_denotes r env
-        ≡ brace_at decls.now tokens.now g.now (λ k. true) p.now b.now s env) }
+        ≡ brace_at context.now.decls.now context.now.tokens.now g.now (λ k. true) p.now b.now s env) }
     ensures vars { IfOk result (λ r. (test : Var → Bool)
-        → (pattern_vars decls.now tokens.now test p.now && test b.now) ≡ true
+        → (pattern_vars context.now.decls.now context.now.tokens.now test p.now && test b.now) ≡ true
         → set_vars test r ≡ true) }
 {
     let label = g.label(s);
     let place = EnvSet::one(alloc, b, Bound::Is(Value::Place(label.brace)))?;
-    let matched = solve_by(alloc, form_groups, p, decls, tokens, &label)?;
+    let matched = solve_by(alloc, form_groups, p, context, &label)?;
     meet(alloc, &place, &matched)
 }
 
 fn open_set(
     alloc: Global,
     g: &Graph,
-    decls: &[VarDecl],
-    tokens: &[PatToken],
+    context: &PatternContext<'_>,
     p: &Pattern,
     form_groups: &[FormGroup],
     b: &Var,
@@ -117,13 +115,13 @@ fn open_set(
     requires node { s < count_of g.now }
     requires form_groups { AreFormGroups p.now form_groups.now }
     ensures gives { IfOk result (λ r. (env : Environment) → set_denotes r env
-        ≡ brace_at decls.now tokens.now g.now spec.is_open p.now b.now s env) }
+        ≡ brace_at context.now.decls.now context.now.tokens.now g.now spec.is_open p.now b.now s env) }
     ensures vars { IfOk result (λ r. (test : Var → Bool)
-        → (pattern_vars decls.now tokens.now test p.now && test b.now) ≡ true
+        → (pattern_vars context.now.decls.now context.now.tokens.now test p.now && test b.now) ≡ true
         → set_vars test r ≡ true) }
 {
     if is_open(g.label(s).kind) {
-        placed_set(alloc, g, decls, tokens, p, form_groups, b, s)
+        placed_set(alloc, g, context, p, form_groups, b, s)
     } else {
         Ok(EnvSet::none(alloc))
     }
@@ -132,8 +130,7 @@ fn open_set(
 fn close_set(
     alloc: Global,
     g: &Graph,
-    decls: &[VarDecl],
-    tokens: &[PatToken],
+    context: &PatternContext<'_>,
     p: &Pattern,
     form_groups: &[FormGroup],
     b: &Var,
@@ -142,13 +139,13 @@ fn close_set(
     requires node { s < count_of g.now }
     requires form_groups { AreFormGroups p.now form_groups.now }
     ensures gives { IfOk result (λ r. (env : Environment) → set_denotes r env
-        ≡ brace_at decls.now tokens.now g.now spec.is_close p.now b.now s env) }
+        ≡ brace_at context.now.decls.now context.now.tokens.now g.now spec.is_close p.now b.now s env) }
     ensures vars { IfOk result (λ r. (test : Var → Bool)
-        → (pattern_vars decls.now tokens.now test p.now && test b.now) ≡ true
+        → (pattern_vars context.now.decls.now context.now.tokens.now test p.now && test b.now) ≡ true
         → set_vars test r ≡ true) }
 {
     if is_close(g.label(s).kind) {
-        placed_set(alloc, g, decls, tokens, p, form_groups, b, s)
+        placed_set(alloc, g, context, p, form_groups, b, s)
     } else {
         Ok(EnvSet::none(alloc))
     }
@@ -226,12 +223,16 @@ fn point_set(
         → step_vars f.now.decls f.now.tokens (λ t i. row_vars t (row_of rows.now i)) test node.now ≡ true
         → set_vars test r ≡ true) }
 {
+    let context = PatternContext {
+        decls: f.decls(),
+        tokens: f.tokens(),
+    };
     match node {
         Node::True => EnvSet::all(alloc),
-        Node::Atom(p) => atom_set(alloc, g, f.decls(), f.tokens(), p, form_groups, s),
+        Node::Atom(p) => atom_set(alloc, g, &context, p, form_groups, s),
         Node::EarlyExit => bail_set(alloc, g, s),
-        Node::BraceOpen(p, b) => open_set(alloc, g, f.decls(), f.tokens(), p, form_groups, b, s),
-        Node::BraceClose(p, b) => close_set(alloc, g, f.decls(), f.tokens(), p, form_groups, b, s),
+        Node::BraceOpen(p, b) => open_set(alloc, g, &context, p, form_groups, b, s),
+        Node::BraceClose(p, b) => close_set(alloc, g, &context, p, form_groups, b, s),
         Node::Not(i) => complement(alloc, set_at(rows, *i, s)),
         Node::And(i, j) => meet(alloc, set_at(rows, *i, s), set_at(rows, *j, s)),
         Node::Or(i, j) => join(alloc, set_at(rows, *i, s), set_at(rows, *j, s)),

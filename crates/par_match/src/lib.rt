@@ -1,6 +1,7 @@
 //! Many jobs, shared among threads, with the same answers as one thread gives.
 //!
 //! - [`map_jobs`] does the jobs of a [`Worker`] in up to 64 threads, and returns their answers in order.
+//! - [`Workers`] says how they are done: how many at a time, and where threads and memory come from.
 //! - [`JobFault`] says which job failed first, or that memory ran out.
 //! - A [`Gate`] is notified of each job before it begins; [`FreeGate`] lets each pass.
 //!
@@ -20,12 +21,15 @@ mod join;
 mod map;
 mod parts;
 mod range;
+mod ranges;
 mod worker;
+mod workers;
 
 pub use fault::JobFault;
 pub use gate::{FreeGate, Gate};
 pub use map::map_jobs;
 pub use worker::Worker;
+pub use workers::Workers;
 
 #[cfg(test)]
 mod tests;

@@ -5,8 +5,8 @@ ghost use Rattle.par_match.specs.Answers.{AreAnswers, IsWhy};
 use crate::join::{in_order, joined};
 use crate::parts::take_ranges;
 use crate::range::do_range;
-use crate::{Gate, JobFault, Worker};
-use std::alloc::Global;
+use crate::ranges::Ranges;
+use crate::{Gate, JobFault, Worker, Workers};
 use std::sync::atomic::AtomicUsize;
 use std::thread;
 use std::thread::Threads;
@@ -15,44 +15,40 @@ use std::thread::Threads;
 /// negligible, and large enough that costly jobs which are side by side are seldom in one range.
 const MOST_RANGES: usize = 4_096;
 
-/// Does the jobs 0 to `n - 1` of a worker in up to `jobs` threads, and returns their answers in
-/// order. If jobs fail, returns the fault of the one with the lowest number. The gate is notified
-/// of each job before it begins.
+/// Does the jobs 0 to `n - 1` of a worker, as many at a time as `workers` says, and returns their answers in order. If jobs
+/// fail, returns the fault of the one with the lowest number. The gate is notified of each job before it begins.
 ///
-/// Starts no thread for one job or if `jobs` is 1. Allocates memory for the answers and a few words
-/// for each range: up to 4,096 jobs have a range each, and more are divided among at most 4,096
-/// ranges.
+/// Starts no thread for one job, or if only one may be done at a time. Allocates memory for the answers and a few words for each
+/// range: up to 4,096 jobs have a range each, and more are divided among at most 4,096 ranges.
 pub fn map_jobs<R: Threads + Sync, W: Worker, G: Gate>(
-    rt: &R,
-    alloc: Global,
-    jobs: u32,
+    workers: &Workers<'_, R, G>,
     n: usize,
     worker: &W,
-    gate: &G,
 ) -> Result<Vec<W::Answer>, JobFault<W::Fault>>
-    requires some { 1 ≤ jobs }
-    requires few { jobs ≤ 64 }
     requires known { n ≤ W.jobs worker.now }
     ensures answers { IfOk result (λ v. AreAnswers (W.may_answer worker.now) 0 n v.items) }
     ensures fault { IfErr result (λ e. IsWhy (W.may_answer worker.now) (W.may_fail worker.now) 0 n e) }
 {
-    if jobs == 1 || n < 2 {
+    let alloc = workers.alloc;
+    let gate = workers.gate;
+    if workers.jobs == 1 || n < 2 {
         return do_range(alloc, 0, n, worker, gate);
     }
     let size = range_size(n);
-    let ranges = n.div_ceil(size);
-    let threads = ranges.min(jobs as usize);
+    let ranges = Ranges { n, size };
+    let count = n.div_ceil(size);
+    let threads = count.min(workers.jobs as usize);
     let next = AtomicUsize::new(0);
     let taken = thread::map_indices(
-        rt,
+        workers.rt,
         alloc,
         threads,
         &|_|
-            requires { (0 < size) × (n ≤ W.jobs worker.now) }
-        { take_ranges(alloc, n, size, &next, worker, gate) },
+            requires { ranges.n ≤ W.jobs worker.now }
+        { take_ranges(alloc, ranges, &next, worker, gate) },
     )?;
-    let cells = in_order(alloc, ranges, size, taken, worker)?;
-    joined(alloc, n, size, cells, worker, gate)
+    let cells = in_order(alloc, count, size, taken, worker)?;
+    joined(alloc, ranges, cells, worker, gate)
 }
 
 /// Returns the number of jobs in a range.

@@ -1,7 +1,7 @@
 // What no clause says: that jobs run side by side, and that each call succeeds with ample memory.
 ghost use Rattle.std.specs.Prelude.{◌^◌};
 
-use crate::{FreeGate, Gate, JobFault, Worker, map_jobs};
+use crate::{FreeGate, Gate, JobFault, Worker, Workers, map_jobs};
 use std::alloc::Global;
 use std::sync::atomic::{AtomicBool, Ordering};
 use std::thread::Threads;
@@ -44,7 +44,13 @@ fn ask<R: Threads + Sync, G: Gate>(
     if jobs == 0 || jobs > 64 {
         return Err(JobFault::NoMemory);
     }
-    map_jobs(rt, alloc, jobs, n, &Squares { fails_from }, gate)
+    let workers = Workers {
+        rt,
+        alloc,
+        gate,
+        jobs,
+    };
+    map_jobs(&workers, n, &Squares { fails_from })
 }
 
 /// Whether the answers to jobs 0 to `n - 1` are their squares, in order.

@@ -6,12 +6,13 @@ ghost use Rattle.cfg_build.specs.CfgGraph.Own as own;
 ghost use Rattle.pat_match.specs.Spots as at;
 ghost use Rattle.pat_match.specs.Matching as spec;
 
+use crate::context::{PatternContext, PatternForm};
 use crate::role::{NodeRole, may_fit, role_of};
 use crate::spots::fit_at;
 use c_terms::{Label, NoMemory, Tree, TreePath, is_expression_part};
 use cfg_build::{NodeLabel, is_own};
 use env_sets::denotes;
-use smpl_patch::{PatToken, Pattern, Spot, VarDecl};
+use smpl_patch::{Pattern, Spot};
 use smpl_terms::Env;
 use std::alloc::Global;
 
@@ -22,45 +23,64 @@ pub struct Alignment {
     pub form: u32,
 }
 
-/// Whether the i-th form has the first form's sure variables, may be at a node of this role, and fits the subtree.
+/// A pattern that is aligned with subtrees of a node, of this role, under this environment.
+#[derive(Clone, Copy)]
+struct Aligner<'p> {
+    p: &'p Pattern,
+    context: &'p PatternContext<'p>,
+    role: NodeRole,
+    env: &'p Env,
+}
+
+/// Whether the form has the first form's sure variables, may be at a node of this role, and fits the subtree.
 pub fn fits_seat(
     alloc: Global,
-    p: &Pattern,
-    decls: &[VarDecl],
-    tokens: &[PatToken],
+    form: &PatternForm<'_>,
+    context: &PatternContext<'_>,
     role: NodeRole,
-    i: usize,
-    form: &Tree,
     tree: &Tree,
     env: &Env,
 ) -> Result<bool, NoMemory>
-    requires within { i < length p.now.forms }
-    requires form { form.now ≡ slice_index_or p.now.forms i form.now }
+    requires within { form.now.number < length form.now.pattern.now.forms }
+    requires form { form.now.tree.now ≡ slice_index_or form.now.pattern.now.forms form.now.number form.now.tree.now }
     ensures { IfOk result (λ r. r
-        ≡ spec.fits_seat decls.now tokens.now (total env.now) p.now role form.now tree.now) }
+        ≡ spec.fits_seat context.now.decls.now context.now.tokens.now
+        (total env.now) form.now.pattern.now role form.now.tree.now tree.now) }
 {
-    let set = fit_at(alloc, decls, tokens, p.spot, role.kind, form, tree)?;
+    let set = fit_at(
+        alloc,
+        context,
+        form.pattern.spot,
+        role.kind,
+        form.tree,
+        tree,
+    )?;
     let fits = denotes(&set, env);
-    Ok(fits && may_fit(decls, tokens, p, i, role, form))
+    Ok(fits && may_fit(context, form, role))
 }
 
 /// Returns the number of the first form that fits the subtree.
-fn form_at(
-    alloc: Global,
-    p: &Pattern,
-    decls: &[VarDecl],
-    tokens: &[PatToken],
-    role: NodeRole,
-    tree: &Tree,
-    env: &Env,
-) -> Result<Option<u32>, NoMemory>
-    requires few { length p.now.forms < 2 ^ 32 }
+fn form_at(alloc: Global, aligner: &Aligner<'_>, tree: &Tree) -> Result<Option<u32>, NoMemory>
+    requires few { length aligner.now.p.now.forms < 2 ^ 32 }
     ensures { IfOk result (λ o. o
-        ≡ spec.form_at decls.now tokens.now (total env.now) p.now role tree.now) }
+        ≡ spec.form_at aligner.now.context.now.decls.now aligner.now.context.now.tokens.now
+        (total aligner.now.env.now) aligner.now.p.now aligner.now.role tree.now) }
 {
-    let forms = p.forms.as_slice();
+    let forms = aligner.p.forms.as_slice();
     for i in 0..forms.len() {
-        if fits_seat(alloc, p, decls, tokens, role, i, &forms[i], tree, env)? {
+        let form = PatternForm {
+            pattern: aligner.p,
+            number: i,
+            tree: &forms[i],
+        };
+        if fits_seat(
+            alloc,
+            &form,
+            aligner.context,
+            aligner.role,
+            tree,
+            aligner.env,
+        )? {
             return Ok(Some(i as u32));
         }
     }
@@ -89,24 +109,21 @@ fn put_form(
 fn put_part(
     alloc: Global,
     found: &mut Vec<Alignment>,
-    p: &Pattern,
-    decls: &[VarDecl],
-    tokens: &[PatToken],
-    role: NodeRole,
-    env: &Env,
+    aligner: &Aligner<'_>,
     asked: bool,
     path: &[u32],
     tree: &Tree,
 ) -> Result<(), NoMemory>
-    requires few { length p.now.forms < 2 ^ 32 }
+    requires few { length aligner.now.p.now.forms < 2 ^ 32 }
     ensures { IfOk result (λ _. found.new.items ≡ found.old.items
-        ++ (if asked then spec.put_form path.now (spec.form_at decls.now tokens.now (total env.now) p.now role tree.now)
+        ++ (if asked then spec.put_form path.now (spec.form_at aligner.now.context.now.decls.now
+        aligner.now.context.now.tokens.now (total aligner.now.env.now) aligner.now.p.now aligner.now.role tree.now)
         else [])) }
 {
     if !asked {
         return Ok(());
     }
-    let form = form_at(alloc, p, decls, tokens, role, tree, env)?;
+    let form = form_at(alloc, aligner, tree)?;
     put_form(alloc, found, path, form)
 }
 
@@ -116,19 +133,15 @@ fn put_child(
     alloc: Global,
     found: &mut Vec<Alignment>,
     above: &mut Vec<u32>,
-    p: &Pattern,
-    decls: &[VarDecl],
-    tokens: &[PatToken],
-    role: NodeRole,
-    env: &Env,
+    aligner: &Aligner<'_>,
     label: Label,
     i: usize,
     child: &Tree,
 ) -> Result<(), NoMemory>
-    requires few { length p.now.forms < 2 ^ 32 }
+    requires few { length aligner.now.p.now.forms < 2 ^ 32 }
     ensures found { OnOk result (found.new.items ≡ found.old.items
-        ++ spec.aligned_at decls.now tokens.now (total env.now)
-        p.now role above.old.items (at.parts_of_child label i child.now)) }
+        ++ spec.aligned_at aligner.now.context.now.decls.now aligner.now.context.now.tokens.now (total aligner.now.env.now)
+        aligner.now.p.now aligner.now.role above.old.items (at.parts_of_child label i child.now)) }
     ensures above { OnOk result (above.new.items ≡ above.old.items) }
 {
     if i >= 4294967296 {
@@ -136,25 +149,12 @@ fn put_child(
     }
     above.push(i as u32)?;
     let asked = is_expression_part(label, i, child);
-    put_part(
-        alloc,
-        found,
-        p,
-        decls,
-        tokens,
-        role,
-        env,
-        asked,
-        above.as_slice(),
-        child,
-    )?;
+    put_part(alloc, found, aligner, asked, above.as_slice(), child)?;
     match child {
         Tree::Leaf(_) => {}
         Tree::Branch(inner, children) => {
             for (j, below) in children.as_slice().iter().enumerate() {
-                put_child(
-                    alloc, found, above, p, decls, tokens, role, env, *inner, j, below,
-                )?;
+                put_child(alloc, found, above, aligner, *inner, j, below)?;
             }
         }
     }
@@ -167,26 +167,20 @@ fn put_own(
     alloc: Global,
     found: &mut Vec<Alignment>,
     above: &mut Vec<u32>,
-    p: &Pattern,
-    decls: &[VarDecl],
-    tokens: &[PatToken],
-    role: NodeRole,
-    env: &Env,
+    aligner: &Aligner<'_>,
     own: bool,
     label: Label,
     i: usize,
     child: &Tree,
 ) -> Result<(), NoMemory>
-    requires few { length p.now.forms < 2 ^ 32 }
+    requires few { length aligner.now.p.now.forms < 2 ^ 32 }
     ensures found { OnOk result (found.new.items ≡ found.old.items
-        ++ spec.aligned_at decls.now tokens.now (total env.now)
-        p.now role above.old.items (if own then at.parts_of_child label i child.now else [])) }
+        ++ spec.aligned_at aligner.now.context.now.decls.now aligner.now.context.now.tokens.now (total aligner.now.env.now)
+        aligner.now.p.now aligner.now.role above.old.items (if own then at.parts_of_child label i child.now else [])) }
     ensures above { OnOk result (above.new.items ≡ above.old.items) }
 {
     if own {
-        put_child(
-            alloc, found, above, p, decls, tokens, role, env, label, i, child,
-        )
+        put_child(alloc, found, above, aligner, label, i, child)
     } else {
         Ok(())
     }
@@ -194,33 +188,26 @@ fn put_own(
 
 fn align_own_parts(
     alloc: Global,
-    p: &Pattern,
-    decls: &[VarDecl],
-    tokens: &[PatToken],
-    role: NodeRole,
-    env: &Env,
+    aligner: &Aligner<'_>,
     path: &[u32],
     label: Label,
     children: &[Tree],
 ) -> Result<Vec<Alignment>, NoMemory>
-    requires few { length p.now.forms < 2 ^ 32 }
+    requires few { length aligner.now.p.now.forms < 2 ^ 32 }
     ensures { IfOk result (λ r. r.items
-        ≡ spec.aligned_at decls.now tokens.now (total env.now) p.now role path.now
-        (at.own_parts_from (own.is_own role.kind label (length children.now)) label 0 children.now)) }
+        ≡ spec.aligned_at aligner.now.context.now.decls.now aligner.now.context.now.tokens.now
+        (total aligner.now.env.now) aligner.now.p.now aligner.now.role path.now
+        (at.own_parts_from (own.is_own aligner.now.role.kind label (length children.now)) label 0 children.now)) }
 {
     let mut found = Vec::new(alloc);
     let mut above = Vec::from_slice(alloc, path)?;
     for i in 0..children.len() {
-        let own = is_own(role.kind, label, children.len(), i);
+        let own = is_own(aligner.role.kind, label, children.len(), i);
         put_own(
             alloc,
             &mut found,
             &mut above,
-            p,
-            decls,
-            tokens,
-            role,
-            env,
+            aligner,
             own,
             label,
             i,
@@ -232,44 +219,38 @@ fn align_own_parts(
 
 fn align_inside(
     alloc: Global,
-    p: &Pattern,
-    decls: &[VarDecl],
-    tokens: &[PatToken],
-    role: NodeRole,
-    env: &Env,
+    aligner: &Aligner<'_>,
     path: &[u32],
     tree: &Tree,
 ) -> Result<Vec<Alignment>, NoMemory>
-    requires few { length p.now.forms < 2 ^ 32 }
+    requires few { length aligner.now.p.now.forms < 2 ^ 32 }
     ensures { IfOk result (λ r. r.items
-        ≡ spec.aligned_at decls.now tokens.now (total env.now) p.now role path.now
-        (at.own_parts role.kind (out-Tree tree.now))) }
+        ≡ spec.aligned_at aligner.now.context.now.decls.now aligner.now.context.now.tokens.now
+        (total aligner.now.env.now) aligner.now.p.now aligner.now.role path.now
+        (at.own_parts aligner.now.role.kind (out-Tree tree.now))) }
 {
     match tree {
         Tree::Leaf(_) => Ok(Vec::new(alloc)),
         Tree::Branch(label, children) => {
             let children = children.as_slice();
-            align_own_parts(alloc, p, decls, tokens, role, env, path, *label, children)
+            align_own_parts(alloc, aligner, path, *label, children)
         }
     }
 }
 
 fn align_whole(
     alloc: Global,
-    p: &Pattern,
-    decls: &[VarDecl],
-    tokens: &[PatToken],
-    role: NodeRole,
-    env: &Env,
+    aligner: &Aligner<'_>,
     path: &[u32],
     tree: &Tree,
 ) -> Result<Vec<Alignment>, NoMemory>
-    requires few { length p.now.forms < 2 ^ 32 }
+    requires few { length aligner.now.p.now.forms < 2 ^ 32 }
     ensures { IfOk result (λ r. r.items
-        ≡ spec.put_form path.now (spec.form_at decls.now tokens.now (total env.now) p.now role tree.now)) }
+        ≡ spec.put_form path.now (spec.form_at aligner.now.context.now.decls.now aligner.now.context.now.tokens.now
+        (total aligner.now.env.now) aligner.now.p.now aligner.now.role tree.now)) }
 {
     let mut found = Vec::new(alloc);
-    let form = form_at(alloc, p, decls, tokens, role, tree, env)?;
+    let form = form_at(alloc, aligner, tree)?;
     put_form(alloc, &mut found, path, form)?;
     Ok(found)
 }
@@ -279,25 +260,30 @@ fn align_whole(
 ///
 /// For each subtree it costs as much as `solve` does there, and a path for each that matches; it copies the path of the node
 /// once. Each level costs a few recursive calls. A child number of 2^32 or more is refused as if out of memory.
-pub fn align(
+pub fn align<'x>(
     alloc: Global,
-    p: &Pattern,
-    decls: &[VarDecl],
-    tokens: &[PatToken],
+    p: &'x Pattern,
+    context: &'x PatternContext<'x>,
     node: &NodeLabel,
-    env: &Env,
+    env: &'x Env,
 ) -> Result<Vec<Alignment>, NoMemory>
     requires few { length p.now.forms < 2 ^ 32 }
     ensures exact { IfOk result (λ r. r.items
-        ≡ spec.aligns decls.now tokens.now (total env.now) p.now node.now) }
+        ≡ spec.aligns context.now.decls.now context.now.tokens.now (total env.now) p.now node.now) }
 {
     let tree = node.tree.as_tree();
     let steps = node.path.steps(alloc)?;
     let path = steps.as_slice();
     let role = role_of(node);
+    let aligner = Aligner {
+        p,
+        context,
+        role,
+        env,
+    };
     match p.spot {
-        Spot::Inside => align_inside(alloc, p, decls, tokens, role, env, path, tree),
-        Spot::Whole => align_whole(alloc, p, decls, tokens, role, env, path, tree),
-        Spot::Tail => align_whole(alloc, p, decls, tokens, role, env, path, tree),
+        Spot::Inside => align_inside(alloc, &aligner, path, tree),
+        Spot::Whole => align_whole(alloc, &aligner, path, tree),
+        Spot::Tail => align_whole(alloc, &aligner, path, tree),
     }
 }

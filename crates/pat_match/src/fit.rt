@@ -11,9 +11,10 @@ ghost use Rattle.pat_match.specs.Fitting.{leaf_of, is_bare_sign, is_sign_token, 
 ghost use Rattle.pat_match.specs.Vars.{form_vars};
 ghost use Rattle.pat_match.specs.Rows.{comma_before, first_is_wild, row_at, row_vars, single_entry, IsStep, IsRow, fits_from};
 
+use crate::context::PatternContext;
 use crate::lengths::is_too_long;
 use crate::lists::{
-    ListMember, fit_comma_before, is_bare_before, is_wild, is_wild_at, list_members,
+    ListChild, ListMember, fit_comma_before, is_bare_before, is_wild, is_wild_at, list_members,
 };
 use crate::rows::{RowEntry, fit_some_run, fit_wild_row, last_row, push_entry};
 use crate::sets::{all_or_none, both, is_none, put_set, union};
@@ -21,52 +22,47 @@ use crate::signs::{has_bare_signs, has_other_token, is_sign_tree};
 use crate::tokens::fit_leaf;
 use c_terms::{Label, NoMemory, Shape, Tree, comma};
 use env_sets::EnvSet;
-use smpl_patch::{PatToken, VarDecl};
 use std::alloc::Global;
 
 /// Returns the environments in which the form fits the tree. Each level of the form costs a few recursive calls.
 #[cycle(fit)]
 pub fn fit(
     alloc: Global,
-    decls: &[VarDecl],
-    tokens: &[PatToken],
+    context: &PatternContext<'_>,
     form: &Tree,
     tree: &Tree,
 ) -> Result<EnvSet, NoMemory>
     ensures meaning { IfOk result (λ r. (env : Environment) → set_denotes r env
-        ≡ fits_tree decls.now tokens.now env form.now tree.now) }
-    ensures vars { IfOk result (λ r. (t : Var → Bool) → form_vars decls.now tokens.now t form.now
+        ≡ fits_tree context.now.decls.now context.now.tokens.now env form.now tree.now) }
+    ensures vars { IfOk result (λ r. (t : Var → Bool) → form_vars context.now.decls.now context.now.tokens.now t form.now
         ≡ true → set_vars t r ≡ true) }
 {
     match form {
-        Tree::Leaf(token) => fit_leaf(alloc, decls, tokens, token, tree),
-        Tree::Branch(label, forms) => {
-            fit_branch(alloc, decls, tokens, *label, forms.as_slice(), tree)
-        }
+        Tree::Leaf(token) => fit_leaf(alloc, context, token, tree),
+        Tree::Branch(label, forms) => fit_branch(alloc, context, *label, forms.as_slice(), tree),
     }
 }
 
 #[cycle(fit)]
 fn fit_branch(
     alloc: Global,
-    decls: &[VarDecl],
-    tokens: &[PatToken],
+    context: &PatternContext<'_>,
     label: Label,
     forms: &[Tree],
     tree: &Tree,
 ) -> Result<EnvSet, NoMemory>
     ensures meaning { IfOk result (λ r. (env : Environment) → set_denotes r env
-        ≡ fits_by decls.now tokens.now env (shape_of label) label
-        (map (piece decls.now tokens.now env) forms.now) tree.now) }
+        ≡ fits_by context.now.decls.now context.now.tokens.now env (shape_of label) label
+        (map (piece context.now.decls.now context.now.tokens.now env) forms.now) tree.now) }
     ensures vars { IfOk result (λ r. (t : Var → Bool)
-        → list_all (form_vars decls.now tokens.now t) forms.now ≡ true →
+        → list_all (form_vars context.now.decls.now context.now.tokens.now t) forms.now ≡ true →
         set_vars t r ≡ true) }
 {
     match label.shape() {
-        Shape::Or => fit_some(alloc, decls, tokens, forms, tree),
-        Shape::And => fit_every(alloc, decls, tokens, forms, tree),
-        Shape::List => fit_list(alloc, decls, tokens, label, forms, tree),
-        Shape::Plain => fit_kids(alloc, decls, tokens, label, forms, tree),
+        Shape::Or => fit_some(alloc, context, forms, tree),
+        Shape::And => fit_every(alloc, context, forms, tree),
+        Shape::List => fit_list(alloc, context, label, forms, tree),
+        Shape::Plain => fit_kids(alloc, context, label, forms, tree),
     }
 }
 
@@ -74,24 +70,23 @@ fn fit_branch(
 #[cycle(fit)]
 fn fit_some(
     alloc: Global,
-    decls: &[VarDecl],
-    tokens: &[PatToken],
+    context: &PatternContext<'_>,
     forms: &[Tree],
     tree: &Tree,
 ) -> Result<EnvSet, NoMemory>
     ensures meaning { IfOk result (λ r. (env : Environment) → set_denotes r env
-        ≡ (list_all (λ f. is_bare_sign tokens.now (leaf_of (out-Tree f))) forms.now
-        && list_any (λ f. fits_tree decls.now tokens.now env f tree.now) forms.now)) }
+        ≡ (list_all (λ f. is_bare_sign context.now.tokens.now (leaf_of (out-Tree f))) forms.now
+        && list_any (λ f. fits_tree context.now.decls.now context.now.tokens.now env f tree.now) forms.now)) }
     ensures vars { IfOk result (λ r. (t : Var → Bool)
-        → list_all (form_vars decls.now tokens.now t) forms.now ≡ true →
+        → list_all (form_vars context.now.decls.now context.now.tokens.now t) forms.now ≡ true →
         set_vars t r ≡ true) }
 {
-    if !has_bare_signs(tokens, forms) {
+    if !has_bare_signs(context.tokens, forms) {
         return Ok(EnvSet::none(alloc));
     }
     let mut entries = Vec::new(alloc);
     for form in forms {
-        let here = fit(alloc, decls, tokens, form, tree)?;
+        let here = fit(alloc, context, form, tree)?;
         put_set(&mut entries, here)?;
     }
     union(alloc, entries)
@@ -101,20 +96,19 @@ fn fit_some(
 #[cycle(fit)]
 fn fit_every(
     alloc: Global,
-    decls: &[VarDecl],
-    tokens: &[PatToken],
+    context: &PatternContext<'_>,
     forms: &[Tree],
     tree: &Tree,
 ) -> Result<EnvSet, NoMemory>
     ensures meaning { IfOk result (λ r. (env : Environment) → set_denotes r env
-        ≡ (list_all (λ f. is_bare_sign tokens.now (leaf_of (out-Tree f))) forms.now
+        ≡ (list_all (λ f. is_bare_sign context.now.tokens.now (leaf_of (out-Tree f))) forms.now
         && list_all (λ f. is_sign_token (leaf_of (out-Tree f))
-        || fits_tree decls.now tokens.now env f tree.now) forms.now)) }
+        || fits_tree context.now.decls.now context.now.tokens.now env f tree.now) forms.now)) }
     ensures vars { IfOk result (λ r. (t : Var → Bool)
-        → list_all (form_vars decls.now tokens.now t) forms.now ≡ true →
+        → list_all (form_vars context.now.decls.now context.now.tokens.now t) forms.now ≡ true →
         set_vars t r ≡ true) }
 {
-    if !has_bare_signs(tokens, forms) {
+    if !has_bare_signs(context.tokens, forms) {
         return Ok(EnvSet::none(alloc));
     }
     let mut out = EnvSet::all(alloc)?;
@@ -123,7 +117,7 @@ fn fit_every(
             return Ok(out);
         }
         if !is_sign_tree(form) {
-            let here = fit(alloc, decls, tokens, form, tree)?;
+            let here = fit(alloc, context, form, tree)?;
             out = both(alloc, out, here)?;
         }
     }
@@ -134,16 +128,15 @@ fn fit_every(
 #[cycle(fit)]
 fn fit_kids(
     alloc: Global,
-    decls: &[VarDecl],
-    tokens: &[PatToken],
+    context: &PatternContext<'_>,
     label: Label,
     forms: &[Tree],
     tree: &Tree,
 ) -> Result<EnvSet, NoMemory>
     ensures meaning { IfOk result (λ r. (env : Environment) → set_denotes r env
-        ≡ kids_fit all_fit label (map (piece decls.now tokens.now env) forms.now) (out-Tree tree.now)) }
+        ≡ kids_fit all_fit label (map (piece context.now.decls.now context.now.tokens.now env) forms.now) (out-Tree tree.now)) }
     ensures vars { IfOk result (λ r. (t : Var → Bool)
-        → list_all (form_vars decls.now tokens.now t) forms.now ≡ true →
+        → list_all (form_vars context.now.decls.now context.now.tokens.now t) forms.now ≡ true →
         set_vars t r ≡ true) }
 {
     match tree {
@@ -152,7 +145,7 @@ fn fit_kids(
             if label.number() != other.number() {
                 return Ok(EnvSet::none(alloc));
             }
-            fit_all(alloc, decls, tokens, forms, trees.as_slice())
+            fit_all(alloc, context, forms, trees.as_slice())
         }
     }
 }
@@ -162,15 +155,14 @@ fn fit_kids(
 #[cycle(fit)]
 fn fit_all(
     alloc: Global,
-    decls: &[VarDecl],
-    tokens: &[PatToken],
+    context: &PatternContext<'_>,
     forms: &[Tree],
     trees: &[Tree],
 ) -> Result<EnvSet, NoMemory>
     ensures meaning { IfOk result (λ r. (env : Environment) → set_denotes r env
-        ≡ all_fit (map (piece decls.now tokens.now env) forms.now) trees.now) }
+        ≡ all_fit (map (piece context.now.decls.now context.now.tokens.now env) forms.now) trees.now) }
     ensures vars { IfOk result (λ r. (t : Var → Bool)
-        → list_all (form_vars decls.now tokens.now t) forms.now ≡ true →
+        → list_all (form_vars context.now.decls.now context.now.tokens.now t) forms.now ≡ true →
         set_vars t r ≡ true) }
 {
     if forms.len() != trees.len() {
@@ -184,7 +176,7 @@ fn fit_all(
         if is_none(&out) {
             return Ok(out);
         }
-        let here = fit(alloc, decls, tokens, &forms[i], &trees[i])?;
+        let here = fit(alloc, context, &forms[i], &trees[i])?;
         out = both(alloc, out, here)?;
     }
     Ok(out)
@@ -195,8 +187,7 @@ fn fit_all(
 #[cycle(fit)]
 fn fit_member(
     alloc: Global,
-    decls: &[VarDecl],
-    tokens: &[PatToken],
+    context: &PatternContext<'_>,
     forms: &[Tree],
     i: usize,
     form: &Tree,
@@ -205,19 +196,19 @@ fn fit_member(
     requires within { i < length forms.now }
     requires child { form.now ≡ slice_index_or forms.now i form.now }
     ensures meaning { IfOk result (λ r. (env : Environment) → set_denotes r env
-        ≡ (comma_fits decls.now tokens.now env (comma_before forms.now i) run.now
-        && single_fits (fits_tree decls.now tokens.now env form.now) run.now)) }
+        ≡ (comma_fits context.now.decls.now context.now.tokens.now env (comma_before forms.now i) run.now
+        && single_fits (fits_tree context.now.decls.now context.now.tokens.now env form.now) run.now)) }
     ensures vars { IfOk result (λ r. (t : Var → Bool)
-        → list_all (form_vars decls.now tokens.now t) forms.now ≡ true →
-        form_vars decls.now tokens.now t form.now ≡ true → set_vars t r ≡ true) }
+        → list_all (form_vars context.now.decls.now context.now.tokens.now t) forms.now ≡ true →
+        form_vars context.now.decls.now context.now.tokens.now t form.now ≡ true → set_vars t r ≡ true) }
 {
     match run {
         [member] => {
-            let before = fit_comma_before(alloc, decls, tokens, forms, i, run)?;
+            let before = fit_comma_before(alloc, context, forms, i, run)?;
             if is_none(&before) {
                 return Ok(before);
             }
-            let here = fit(alloc, decls, tokens, form, member.tree())?;
+            let here = fit(alloc, context, form, member.tree())?;
             both(alloc, before, here)
         }
         _ => Ok(EnvSet::none(alloc)),
@@ -228,8 +219,7 @@ fn fit_member(
 #[cycle(fit)]
 fn put_single(
     alloc: Global,
-    decls: &[VarDecl],
-    tokens: &[PatToken],
+    context: &PatternContext<'_>,
     out: &mut Vec<RowEntry>,
     label: Label,
     forms: &[Tree],
@@ -241,11 +231,12 @@ fn put_single(
     requires within { i < length forms.now }
     requires child { form.now ≡ slice_index_or forms.now i form.now }
     ensures meaning { IfOk result (λ _. (n : ℕ) (env : Environment) → row_at out.new.items n env
-        ≡ (row_at out.old.items n env || single_entry decls.now tokens.now label
+        ≡ (row_at out.old.items n env || single_entry context.now.decls.now context.now.tokens.now label
         (comma_before forms.now i) form.now members.now n env entry)) }
     ensures vars { IfOk result (λ _. (t : Var → Bool)
-        → list_all (form_vars decls.now tokens.now t) forms.now ≡ true →
-        form_vars decls.now tokens.now t form.now ≡ true → set_vars t entry.set ≡ true → row_vars t out.old.items ≡ true →
+        → list_all (form_vars context.now.decls.now context.now.tokens.now t) forms.now ≡ true →
+        form_vars context.now.decls.now context.now.tokens.now t form.now ≡ true → set_vars t entry.set ≡ true
+        → row_vars t out.old.items ≡ true →
         row_vars t out.new.items ≡ true) }
 {
     let RowEntry { taken, set } = entry;
@@ -256,7 +247,7 @@ fn put_single(
         return Ok(());
     }
     let from = taken - 1;
-    let here = fit_member(alloc, decls, tokens, forms, i, form, &members[from..taken])?;
+    let here = fit_member(alloc, context, forms, i, form, &members[from..taken])?;
     let all = both(alloc, here, set)?;
     push_entry(out, from, all)
 }
@@ -265,8 +256,7 @@ fn put_single(
 #[cycle(fit)]
 fn fit_single_row(
     alloc: Global,
-    decls: &[VarDecl],
-    tokens: &[PatToken],
+    context: &PatternContext<'_>,
     label: Label,
     forms: &[Tree],
     i: usize,
@@ -277,16 +267,17 @@ fn fit_single_row(
     requires within { i < length forms.now }
     requires child { form.now ≡ slice_index_or forms.now i form.now }
     requires single { is_wild label (leaf_of (out-Tree form.now)) ≡ false }
-    ensures meaning { IfOk result (λ r. IsStep decls.now tokens.now label
+    ensures meaning { IfOk result (λ r. IsStep context.now.decls.now context.now.tokens.now label
         (comma_before forms.now i) form.now members.now row.items r.items) }
     ensures vars { IfOk result (λ r. (t : Var → Bool)
-        → list_all (form_vars decls.now tokens.now t) forms.now ≡ true →
-        form_vars decls.now tokens.now t form.now ≡ true → row_vars t row.items ≡ true → row_vars t r.items ≡ true) }
+        → list_all (form_vars context.now.decls.now context.now.tokens.now t) forms.now ≡ true →
+        form_vars context.now.decls.now context.now.tokens.now t form.now ≡ true → row_vars t row.items ≡ true
+        → row_vars t r.items ≡ true) }
 {
     let mut out = Vec::new(alloc);
     for entry in row {
         put_single(
-            alloc, decls, tokens, &mut out, label, forms, i, form, members, entry,
+            alloc, context, &mut out, label, forms, i, form, members, entry,
         )?;
     }
     Ok(out)
@@ -296,8 +287,7 @@ fn fit_single_row(
 #[cycle(fit)]
 fn fit_child(
     alloc: Global,
-    decls: &[VarDecl],
-    tokens: &[PatToken],
+    context: &PatternContext<'_>,
     label: Label,
     forms: &[Tree],
     i: usize,
@@ -305,20 +295,21 @@ fn fit_child(
     row: Vec<RowEntry>,
 ) -> Result<Vec<RowEntry>, NoMemory>
     requires within { i < length forms.now }
-    requires row { IsRow decls.now tokens.now label (comma_before forms.now (suc i)) (drop
+    requires row { IsRow context.now.decls.now context.now.tokens.now label
+        (comma_before forms.now (suc i)) (drop
         (suc i) forms.now)
         members.now row.items }
-    ensures meaning { IfOk result (λ r. IsRow decls.now tokens.now label
+    ensures meaning { IfOk result (λ r. IsRow context.now.decls.now context.now.tokens.now label
         (comma_before forms.now i) (drop i forms.now)
         members.now r.items) }
     ensures vars { IfOk result (λ r. (t : Var → Bool)
-        → list_all (form_vars decls.now tokens.now t) forms.now ≡ true →
+        → list_all (form_vars context.now.decls.now context.now.tokens.now t) forms.now ≡ true →
         row_vars t row.items ≡ true → row_vars t r.items ≡ true) }
 {
     let form = &forms[i];
     match comma(form) {
         Some(_) => {
-            if is_bare_before(tokens, forms, i) {
+            if is_bare_before(context.tokens, forms, i) {
                 Ok(row)
             } else {
                 Ok(Vec::new(alloc))
@@ -326,19 +317,15 @@ fn fit_child(
         }
         None => {
             if is_wild(label, form) {
-                fit_wild_row(
-                    alloc,
-                    decls,
-                    tokens,
+                let child = ListChild {
                     label,
                     forms,
                     i,
                     form,
-                    members,
-                    row.as_slice(),
-                )
+                };
+                fit_wild_row(alloc, context, &child, members, row.as_slice())
             } else {
-                fit_single_row(alloc, decls, tokens, label, forms, i, form, members, row)
+                fit_single_row(alloc, context, label, forms, i, form, members, row)
             }
         }
     }
@@ -348,27 +335,26 @@ fn fit_child(
 #[cycle(fit)]
 pub fn fit_rows(
     alloc: Global,
-    decls: &[VarDecl],
-    tokens: &[PatToken],
+    context: &PatternContext<'_>,
     label: Label,
     forms: &[Tree],
     start: usize,
     members: &[ListMember],
 ) -> Result<Vec<RowEntry>, NoMemory>
     requires within { start ≤ length forms.now }
-    ensures meaning { IfOk result (λ r. IsRow decls.now tokens.now label
+    ensures meaning { IfOk result (λ r. IsRow context.now.decls.now context.now.tokens.now label
         (comma_before forms.now start)
         (drop start forms.now) members.now r.items) }
     ensures vars { IfOk result (λ r. (t : Var → Bool)
-        → list_all (form_vars decls.now tokens.now t) forms.now ≡ true →
+        → list_all (form_vars context.now.decls.now context.now.tokens.now t) forms.now ≡ true →
         row_vars t r.items ≡ true) }
 {
-    let bare = is_bare_before(tokens, forms, forms.len());
+    let bare = is_bare_before(context.tokens, forms, forms.len());
     let mut row = last_row(alloc, bare, members.len())?;
     let mut i = forms.len();
     while i > start {
         i -= 1;
-        row = fit_child(alloc, decls, tokens, label, forms, i, members, row)?;
+        row = fit_child(alloc, context, label, forms, i, members, row)?;
     }
     Ok(row)
 }
@@ -385,8 +371,7 @@ struct Front {
 #[cycle(fit)]
 fn fit_rest(
     alloc: Global,
-    decls: &[VarDecl],
-    tokens: &[PatToken],
+    context: &PatternContext<'_>,
     label: Label,
     forms: &[Tree],
     i: usize,
@@ -397,34 +382,29 @@ fn fit_rest(
     requires left { taken ≤ length members.now }
     requires wild { first_is_wild label (drop i forms.now) ≡ true }
     ensures meaning { IfOk result (λ r. (env : Environment) → set_denotes r env
-        ≡ fits_from decls.now tokens.now label (comma_before forms.now i) (drop i forms.now)
+        ≡ fits_from context.now.decls.now context.now.tokens.now label (comma_before forms.now i)
+        (drop i forms.now)
         (drop taken members.now) env) }
     ensures vars { IfOk result (λ r. (t : Var → Bool)
-        → list_all (form_vars decls.now tokens.now t) forms.now ≡ true →
+        → list_all (form_vars context.now.decls.now context.now.tokens.now t) forms.now ≡ true →
         set_vars t r ≡ true) }
 {
     let rest = &members[taken..];
-    let row = fit_rows(alloc, decls, tokens, label, forms, i + 1, rest)?;
-    fit_some_run(
-        alloc,
-        decls,
-        tokens,
+    let row = fit_rows(alloc, context, label, forms, i + 1, rest)?;
+    let child = ListChild {
         label,
         forms,
         i,
-        &forms[i],
-        rest,
-        0,
-        row.as_slice(),
-    )
+        form: &forms[i],
+    };
+    fit_some_run(alloc, context, &child, rest, 0, row.as_slice())
 }
 
 /// Returns what the i-th child, which takes one member, adds to the children before it.
 #[cycle(fit)]
 fn fit_next(
     alloc: Global,
-    decls: &[VarDecl],
-    tokens: &[PatToken],
+    context: &PatternContext<'_>,
     label: Label,
     forms: &[Tree],
     i: usize,
@@ -436,17 +416,19 @@ fn fit_next(
     requires single { first_is_wild label (drop i forms.now) ≡ false }
     ensures left { IfOk result (λ r. r.taken ≤ length members.now) }
     ensures meaning { IfOk result (λ r. (env : Environment) →
-        fits_from decls.now tokens.now label (comma_before forms.now i) (drop i forms.now) (drop taken members.now) env
-        ≡ (set_denotes r.set env && fits_from decls.now tokens.now label
-        (comma_before forms.now (suc i)) (drop (suc i) forms.now) (drop r.taken members.now) env)) }
+        fits_from context.now.decls.now context.now.tokens.now label (comma_before forms.now i)
+        (drop i forms.now) (drop taken members.now) env
+        ≡ (set_denotes r.set env && fits_from context.now.decls.now context.now.tokens.now label
+        (comma_before forms.now (suc i)) (drop (suc i) forms.now)
+        (drop r.taken members.now) env)) }
     ensures vars { IfOk result (λ r. (t : Var → Bool)
-        → list_all (form_vars decls.now tokens.now t) forms.now ≡ true →
+        → list_all (form_vars context.now.decls.now context.now.tokens.now t) forms.now ≡ true →
         set_vars t r.set ≡ true) }
 {
     let form = &forms[i];
     match comma(form) {
         Some(_) => {
-            let set = all_or_none(alloc, is_bare_before(tokens, forms, i))?;
+            let set = all_or_none(alloc, is_bare_before(context.tokens, forms, i))?;
             Ok(Front { set, taken })
         }
         None => {
@@ -455,7 +437,7 @@ fn fit_next(
                 return Ok(Front { set, taken });
             }
             let run = &members[taken..taken + 1];
-            let set = fit_member(alloc, decls, tokens, forms, i, form, run)?;
+            let set = fit_member(alloc, context, forms, i, form, run)?;
             Ok(Front {
                 set,
                 taken: taken + 1,
@@ -468,16 +450,15 @@ fn fit_next(
 #[cycle(fit)]
 fn fit_members(
     alloc: Global,
-    decls: &[VarDecl],
-    tokens: &[PatToken],
+    context: &PatternContext<'_>,
     label: Label,
     forms: &[Tree],
     members: &[ListMember],
 ) -> Result<EnvSet, NoMemory>
     ensures meaning { IfOk result (λ r. (env : Environment) → set_denotes r env
-        ≡ fits_from decls.now tokens.now label None forms.now members.now env) }
+        ≡ fits_from context.now.decls.now context.now.tokens.now label None forms.now members.now env) }
     ensures vars { IfOk result (λ r. (t : Var → Bool)
-        → list_all (form_vars decls.now tokens.now t) forms.now ≡ true →
+        → list_all (form_vars context.now.decls.now context.now.tokens.now t) forms.now ≡ true →
         set_vars t r ≡ true) }
 {
     let mut out = EnvSet::all(alloc)?;
@@ -487,14 +468,14 @@ fn fit_members(
             return Ok(out);
         }
         if is_wild_at(label, forms, i) {
-            let rest = fit_rest(alloc, decls, tokens, label, forms, i, members, taken)?;
+            let rest = fit_rest(alloc, context, label, forms, i, members, taken)?;
             return both(alloc, out, rest);
         }
-        let next = fit_next(alloc, decls, tokens, label, forms, i, members, taken)?;
+        let next = fit_next(alloc, context, label, forms, i, members, taken)?;
         taken = next.taken;
         out = both(alloc, out, next.set)?;
     }
-    if taken == members.len() && is_bare_before(tokens, forms, forms.len()) {
+    if taken == members.len() && is_bare_before(context.tokens, forms, forms.len()) {
         Ok(out)
     } else {
         Ok(EnvSet::none(alloc))
@@ -506,40 +487,39 @@ fn fit_members(
 #[cycle(fit)]
 fn fit_children(
     alloc: Global,
-    decls: &[VarDecl],
-    tokens: &[PatToken],
+    context: &PatternContext<'_>,
     label: Label,
     forms: &[Tree],
     trees: &[Tree],
 ) -> Result<EnvSet, NoMemory>
     ensures meaning { IfOk result (λ r. (env : Environment) → set_denotes r env
-        ≡ list_fits decls.now tokens.now env label (map (piece decls.now tokens.now env) forms.now) trees.now) }
+        ≡ list_fits context.now.decls.now context.now.tokens.now env label
+        (map (piece context.now.decls.now context.now.tokens.now env) forms.now) trees.now) }
     ensures vars { IfOk result (λ r. (t : Var → Bool)
-        → list_all (form_vars decls.now tokens.now t) forms.now ≡ true →
+        → list_all (form_vars context.now.decls.now context.now.tokens.now t) forms.now ≡ true →
         set_vars t r ≡ true) }
 {
     if is_too_long(label, forms, trees) {
         return Ok(EnvSet::none(alloc));
     }
     let members = list_members(alloc, trees)?;
-    fit_members(alloc, decls, tokens, label, forms, members.as_slice())
+    fit_members(alloc, context, label, forms, members.as_slice())
 }
 
 /// Returns the environments in which a list of arguments or parameters fits.
 #[cycle(fit)]
 fn fit_list(
     alloc: Global,
-    decls: &[VarDecl],
-    tokens: &[PatToken],
+    context: &PatternContext<'_>,
     label: Label,
     forms: &[Tree],
     tree: &Tree,
 ) -> Result<EnvSet, NoMemory>
     ensures meaning { IfOk result (λ r. (env : Environment) → set_denotes r env
-        ≡ kids_fit (list_fits decls.now tokens.now env label) label
-        (map (piece decls.now tokens.now env) forms.now) (out-Tree tree.now)) }
+        ≡ kids_fit (list_fits context.now.decls.now context.now.tokens.now env label) label
+        (map (piece context.now.decls.now context.now.tokens.now env) forms.now) (out-Tree tree.now)) }
     ensures vars { IfOk result (λ r. (t : Var → Bool)
-        → list_all (form_vars decls.now tokens.now t) forms.now ≡ true →
+        → list_all (form_vars context.now.decls.now context.now.tokens.now t) forms.now ≡ true →
         set_vars t r ≡ true) }
 {
     match tree {
@@ -548,7 +528,7 @@ fn fit_list(
             if label.number() != other.number() {
                 return Ok(EnvSet::none(alloc));
             }
-            fit_children(alloc, decls, tokens, label, forms, trees.as_slice())
+            fit_children(alloc, context, label, forms, trees.as_slice())
         }
     }
 }

@@ -10,34 +10,34 @@ ghost use Rattle.pat_match.specs.Fitting.{fits_tree};
 ghost use Rattle.pat_match.specs.Vars.{form_vars};
 ghost use Rattle.pat_match.specs.Spots.{own_parts, own_parts_from, parts_of_child};
 
+use crate::context::PatternContext;
 use crate::fit::fit;
 use crate::sets::{put_set, union};
 use c_terms::{Label, NoMemory, Tree, is_expression_part};
 use cfg_build::{NodeKind, is_own};
 use env_sets::{Entry, EnvSet};
-use smpl_patch::{PatToken, VarDecl};
 use std::alloc::Global;
 
 /// Adds the environments in which the form fits the tree, if the tree is asked for.
 fn put_part(
     alloc: Global,
     entries: &mut Vec<Entry>,
-    decls: &[VarDecl],
-    tokens: &[PatToken],
+    context: &PatternContext<'_>,
     form: &Tree,
     asked: bool,
     tree: &Tree,
 ) -> Result<(), NoMemory>
     ensures meaning { IfOk result (λ _. (env : Environment) → set_denotes entries.new.items env
-        ≡ (set_denotes entries.old.items env || (asked && fits_tree decls.now tokens.now env form.now tree.now))) }
-    ensures vars { IfOk result (λ _. (t : Var → Bool) → form_vars decls.now tokens.now t form.now
+        ≡ (set_denotes entries.old.items env || (asked
+        && fits_tree context.now.decls.now context.now.tokens.now env form.now tree.now))) }
+    ensures vars { IfOk result (λ _. (t : Var → Bool) → form_vars context.now.decls.now context.now.tokens.now t form.now
         ≡ true →
         set_vars t entries.old.items ≡ true → set_vars t entries.new.items ≡ true) }
 {
     if !asked {
         return Ok(());
     }
-    let here = fit(alloc, decls, tokens, form, tree)?;
+    let here = fit(alloc, context, form, tree)?;
     put_set(entries, here)
 }
 
@@ -46,25 +46,25 @@ fn put_part(
 fn put_child(
     alloc: Global,
     entries: &mut Vec<Entry>,
-    decls: &[VarDecl],
-    tokens: &[PatToken],
+    context: &PatternContext<'_>,
     form: &Tree,
     label: Label,
     i: usize,
     child: &Tree,
 ) -> Result<(), NoMemory>
     ensures meaning { IfOk result (λ _. (env : Environment) → set_denotes entries.new.items env
-        ≡ (set_denotes entries.old.items env || list_any (λ s. fits_tree decls.now tokens.now env form.now s.tree)
+        ≡ (set_denotes entries.old.items env || list_any
+        (λ s. fits_tree context.now.decls.now context.now.tokens.now env form.now s.tree)
         (parts_of_child label i child.now))) }
-    ensures vars { IfOk result (λ _. (t : Var → Bool) → form_vars decls.now tokens.now t form.now
+    ensures vars { IfOk result (λ _. (t : Var → Bool) → form_vars context.now.decls.now context.now.tokens.now t form.now
         ≡ true →
         set_vars t entries.old.items ≡ true → set_vars t entries.new.items ≡ true) }
 {
     let asked = is_expression_part(label, i, child);
-    put_part(alloc, entries, decls, tokens, form, asked, child)?;
+    put_part(alloc, entries, context, form, asked, child)?;
     if let Tree::Branch(inner, children) = child {
         for (j, below) in children.as_slice().iter().enumerate() {
-            put_child(alloc, entries, decls, tokens, form, *inner, j, below)?;
+            put_child(alloc, entries, context, form, *inner, j, below)?;
         }
     }
     Ok(())
@@ -74,8 +74,7 @@ fn put_child(
 fn put_own(
     alloc: Global,
     entries: &mut Vec<Entry>,
-    decls: &[VarDecl],
-    tokens: &[PatToken],
+    context: &PatternContext<'_>,
     form: &Tree,
     own: bool,
     label: Label,
@@ -84,13 +83,13 @@ fn put_own(
 ) -> Result<(), NoMemory>
     ensures meaning { IfOk result (λ _. (env : Environment) → set_denotes entries.new.items env
         ≡ (set_denotes entries.old.items env || (own && list_any
-        (λ s. fits_tree decls.now tokens.now env form.now s.tree) (parts_of_child label i child.now)))) }
-    ensures vars { IfOk result (λ _. (t : Var → Bool) → form_vars decls.now tokens.now t form.now
+        (λ s. fits_tree context.now.decls.now context.now.tokens.now env form.now s.tree) (parts_of_child label i child.now)))) }
+    ensures vars { IfOk result (λ _. (t : Var → Bool) → form_vars context.now.decls.now context.now.tokens.now t form.now
         ≡ true →
         set_vars t entries.old.items ≡ true → set_vars t entries.new.items ≡ true) }
 {
     if own {
-        put_child(alloc, entries, decls, tokens, form, label, i, child)
+        put_child(alloc, entries, context, form, label, i, child)
     } else {
         Ok(())
     }
@@ -98,17 +97,16 @@ fn put_own(
 
 fn fit_own_parts(
     alloc: Global,
-    decls: &[VarDecl],
-    tokens: &[PatToken],
+    context: &PatternContext<'_>,
     kind: NodeKind,
     form: &Tree,
     label: Label,
     children: &[Tree],
 ) -> Result<EnvSet, NoMemory>
     ensures meaning { IfOk result (λ r. (env : Environment) → set_denotes r env
-        ≡ list_any (λ s. fits_tree decls.now tokens.now env form.now s.tree)
+        ≡ list_any (λ s. fits_tree context.now.decls.now context.now.tokens.now env form.now s.tree)
         (own_parts_from (own.is_own kind label (length children.now)) label 0 children.now)) }
-    ensures vars { IfOk result (λ r. (t : Var → Bool) → form_vars decls.now tokens.now t form.now
+    ensures vars { IfOk result (λ r. (t : Var → Bool) → form_vars context.now.decls.now context.now.tokens.now t form.now
         ≡ true →
         set_vars t r ≡ true) }
 {
@@ -118,8 +116,7 @@ fn fit_own_parts(
         put_own(
             alloc,
             &mut entries,
-            decls,
-            tokens,
+            context,
             form,
             own,
             label,
@@ -134,30 +131,22 @@ fn fit_own_parts(
 /// these tokens if it fits none.
 pub fn fit_inside(
     alloc: Global,
-    decls: &[VarDecl],
-    tokens: &[PatToken],
+    context: &PatternContext<'_>,
     kind: NodeKind,
     form: &Tree,
     tree: &Tree,
 ) -> Result<EnvSet, NoMemory>
     ensures meaning { IfOk result (λ r. (env : Environment) → set_denotes r env
-        ≡ list_any (λ s. fits_tree decls.now tokens.now env form.now s.tree) (own_parts kind (out-Tree tree.now))) }
-    ensures vars { IfOk result (λ r. (t : Var → Bool) → form_vars decls.now tokens.now t form.now
+        ≡ list_any (λ s. fits_tree context.now.decls.now context.now.tokens.now env form.now s.tree)
+        (own_parts kind (out-Tree tree.now))) }
+    ensures vars { IfOk result (λ r. (t : Var → Bool) → form_vars context.now.decls.now context.now.tokens.now t form.now
         ≡ true →
         set_vars t r ≡ true) }
 {
     match tree {
         Tree::Leaf(_) => Ok(EnvSet::none(alloc)),
         Tree::Branch(label, children) => {
-            fit_own_parts(
-                alloc,
-                decls,
-                tokens,
-                kind,
-                form,
-                *label,
-                children.as_slice(),
-            )
+            fit_own_parts(alloc, context, kind, form, *label, children.as_slice())
         }
     }
 }

@@ -16,12 +16,7 @@ use c_terms::{Label, Tree, comma};
 fn has_wild(label: Label, forms: &[Tree]) -> bool
     ensures { result ≡ list_any (λ f. runs.is_wild label (leaf_of (out-Tree f))) forms.now }
 {
-    for form in forms {
-        if is_wild(label, form) {
-            return true;
-        }
-    }
-    false
+    forms.iter().any(|form| is_wild(label, form))
 }
 
 /// Whether the children have more members than `count`. Stops at the first member beyond that.

@@ -20,6 +20,7 @@ ghost use Rattle.pat_match.specs.Rows.{comma_before, first_is_wild};
 ghost use Rattle.pat_match.specs.Rows as row;
 ghost use Rattle.pat_match.specs.Runs as spec;
 
+use crate::context::PatternContext;
 use crate::sets::both;
 use crate::tokens::{first_id, is_bare_token, is_tree, with_stand};
 use c_terms::{Label, MetaKind, NoMemory, Token, TokenKind, Tree, comma};
@@ -28,6 +29,15 @@ use smpl_patch::{PatToken, VarDecl, declared_as};
 use sqlite_items::Items;
 use std::alloc::Global;
 use std::marker::Model;
+
+/// A child of a pattern's list: the list's label and children, the number of the child among these, and its tree.
+#[derive(Clone, Copy)]
+pub struct ListChild<'p> {
+    pub label: Label,
+    pub forms: &'p [Tree],
+    pub i: usize,
+    pub form: &'p Tree,
+}
 
 /// A member of a list of the file: the comma before it, and its tree. Both are borrowed. Contracts see a `Member`.
 #[derive(Drop)]
@@ -179,45 +189,43 @@ pub fn is_wild_at(label: Label, forms: &[Tree], i: usize) -> bool
 /// Returns the environments in which the pattern's comma fits before the run.
 fn fit_comma(
     alloc: Global,
-    decls: &[VarDecl],
-    tokens: &[PatToken],
+    context: &PatternContext<'_>,
     comma: &Token,
     run: &[ListMember],
 ) -> Result<EnvSet, NoMemory>
     ensures meaning { IfOk result (λ r. (env : Environment) → set_denotes r env
-        ≡ spec.comma_fits decls.now tokens.now env (Some comma.now) run.now) }
+        ≡ spec.comma_fits context.now.decls.now context.now.tokens.now env (Some comma.now) run.now) }
     ensures vars { IfOk result (λ r. (t : Var → Bool)
-        → comma_vars decls.now tokens.now t (Some comma.now) ≡ true →
+        → comma_vars context.now.decls.now context.now.tokens.now t (Some comma.now) ≡ true →
         set_vars t r ≡ true) }
 {
     let all = EnvSet::all(alloc)?;
     match run {
-        [] => with_stand(alloc, all, decls, tokens, comma, None),
-        [first, ..] => with_stand(alloc, all, decls, tokens, comma, first.comma_id()),
+        [] => with_stand(alloc, all, context, comma, None),
+        [first, ..] => with_stand(alloc, all, context, comma, first.comma_id()),
     }
 }
 
 /// Returns the environments in which the pattern's comma directly before its i-th child, if there is one, fits before the run.
 pub fn fit_comma_before(
     alloc: Global,
-    decls: &[VarDecl],
-    tokens: &[PatToken],
+    context: &PatternContext<'_>,
     forms: &[Tree],
     i: usize,
     run: &[ListMember],
 ) -> Result<EnvSet, NoMemory>
     requires within { i ≤ length forms.now }
     ensures meaning { IfOk result (λ r. (env : Environment) → set_denotes r env
-        ≡ spec.comma_fits decls.now tokens.now env (comma_before forms.now i) run.now) }
+        ≡ spec.comma_fits context.now.decls.now context.now.tokens.now env (comma_before forms.now i) run.now) }
     ensures vars { IfOk result (λ r. (t : Var → Bool)
-        → list_all (form_vars decls.now tokens.now t) forms.now ≡ true →
+        → list_all (form_vars context.now.decls.now context.now.tokens.now t) forms.now ≡ true →
         set_vars t r ≡ true) }
 {
     if i == 0 {
         return EnvSet::all(alloc);
     }
     match comma(&forms[i - 1]) {
-        Some(token) => fit_comma(alloc, decls, tokens, token, run),
+        Some(token) => fit_comma(alloc, context, token, run),
         None => EnvSet::all(alloc),
     }
 }
@@ -337,50 +345,48 @@ fn takes_every(tokens: &[PatToken], form: &Tree) -> bool
 /// Returns the environments in which dots take the run: those in which the positions of the dots are at its first token.
 fn fit_dots(
     alloc: Global,
-    decls: &[VarDecl],
-    tokens: &[PatToken],
+    context: &PatternContext<'_>,
     token: &Token,
     run: &[ListMember],
 ) -> Result<EnvSet, NoMemory>
     requires { token.now.kind ≡ token_kind.Dots }
     ensures meaning { IfOk result (λ r. (label : Label) (env : Environment) → set_denotes r env
-        ≡ spec.run_fits decls.now tokens.now env label (Some token.now) run.now) }
+        ≡ spec.run_fits context.now.decls.now context.now.tokens.now env label (Some token.now) run.now) }
     ensures vars { IfOk result (λ r. (t : Var → Bool) →
-        leaf_vars decls.now tokens.now t (Some token.now) ≡ true → set_vars t r ≡ true) }
+        leaf_vars context.now.decls.now context.now.tokens.now t (Some token.now) ≡ true → set_vars t r ≡ true) }
 {
     let all = EnvSet::all(alloc)?;
     let first = first_of_run(run);
-    with_stand(alloc, all, decls, tokens, token, first)
+    with_stand(alloc, all, context, token, first)
 }
 
 /// Returns the environments in which dots or a list variable take the run. Linear in the run for a list variable, which copies
 /// it, and a few steps for dots.
 fn fit_run(
     alloc: Global,
-    decls: &[VarDecl],
-    tokens: &[PatToken],
+    context: &PatternContext<'_>,
     label: Label,
     form: &Tree,
     run: &[ListMember],
 ) -> Result<EnvSet, NoMemory>
     ensures meaning { IfOk result (λ r. (env : Environment) → set_denotes r env
-        ≡ spec.run_fits decls.now tokens.now env label (leaf_of (out-Tree form.now)) run.now) }
+        ≡ spec.run_fits context.now.decls.now context.now.tokens.now env label (leaf_of (out-Tree form.now)) run.now) }
     ensures vars { IfOk result (λ r. (t : Var → Bool) →
-        leaf_vars decls.now tokens.now t (leaf_of (out-Tree form.now)) ≡ true → set_vars t r ≡ true) }
+        leaf_vars context.now.decls.now context.now.tokens.now t (leaf_of (out-Tree form.now)) ≡ true → set_vars t r ≡ true) }
 {
     match form {
         Tree::Branch(_, _) => Ok(EnvSet::none(alloc)),
         Tree::Leaf(token) => {
-            if takes_all(tokens, token) {
+            if takes_all(context.tokens, token) {
                 return EnvSet::all(alloc);
             }
             if is_dots(token.kind) {
-                return fit_dots(alloc, decls, tokens, token, run);
+                return fit_dots(alloc, context, token, run);
             }
             let whole = run_tree(alloc, label, run)?;
-            let here = fit_wild_value(alloc, decls, token, &whole)?;
+            let here = fit_wild_value(alloc, context.decls, token, &whole)?;
             let first = first_id(&whole);
-            with_stand(alloc, here, decls, tokens, token, first)
+            with_stand(alloc, here, context, token, first)
         }
     }
 }
@@ -396,27 +402,24 @@ pub fn is_free(tokens: &[PatToken], forms: &[Tree], i: usize, form: &Tree) -> bo
     takes_every(tokens, form) && is_bare_before(tokens, forms, i)
 }
 
-/// Returns the environments in which dots or a list variable, the i-th child of a pattern's list, take the run, with the comma
-/// before it.
+/// Returns the environments in which the child, dots or a list variable, takes the run, with the comma before it.
 pub fn fit_wild(
     alloc: Global,
-    decls: &[VarDecl],
-    tokens: &[PatToken],
-    label: Label,
-    forms: &[Tree],
-    i: usize,
-    form: &Tree,
+    context: &PatternContext<'_>,
+    child: &ListChild<'_>,
     run: &[ListMember],
 ) -> Result<EnvSet, NoMemory>
-    requires within { i ≤ length forms.now }
+    requires within { child.now.i ≤ length child.now.forms.now }
     ensures meaning { IfOk result (λ r. (env : Environment) → set_denotes r env
-        ≡ (spec.comma_fits decls.now tokens.now env (comma_before forms.now i) run.now
-        && spec.run_fits decls.now tokens.now env label (leaf_of (out-Tree form.now)) run.now)) }
+        ≡ (spec.comma_fits context.now.decls.now context.now.tokens.now env
+        (comma_before child.now.forms.now child.now.i) run.now
+        && spec.run_fits context.now.decls.now context.now.tokens.now env child.now.label
+        (leaf_of (out-Tree child.now.form.now)) run.now)) }
     ensures vars { IfOk result (λ r. (t : Var → Bool)
-        → list_all (form_vars decls.now tokens.now t) forms.now ≡ true →
-        form_vars decls.now tokens.now t form.now ≡ true → set_vars t r ≡ true) }
+        → list_all (form_vars context.now.decls.now context.now.tokens.now t) child.now.forms.now ≡ true →
+        form_vars context.now.decls.now context.now.tokens.now t child.now.form.now ≡ true → set_vars t r ≡ true) }
 {
-    let before = fit_comma_before(alloc, decls, tokens, forms, i, run)?;
-    let here = fit_run(alloc, decls, tokens, label, form, run)?;
+    let before = fit_comma_before(alloc, context, child.forms, child.i, run)?;
+    let here = fit_run(alloc, context, child.label, child.form, run)?;
     both(alloc, before, here)
 }

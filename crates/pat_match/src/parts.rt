@@ -5,7 +5,7 @@
 pub use crate::aligning::fits_seat;
 pub use crate::braces::{close_brace, is_close_brace, is_open_brace, open_brace};
 pub use crate::fit::{fit, fit_rows};
-pub use crate::lists::{ListMember, fit_wild, is_wild, list_members, run_tree};
+pub use crate::lists::{ListChild, ListMember, fit_wild, is_wild, list_members, run_tree};
 pub use crate::role::{NodeRole, role_at, role_of};
 pub use crate::rows::RowEntry;
 pub use crate::sets::{put_set, union};

@@ -13,6 +13,7 @@
 //! that use this one decide what an alignment removes and inserts.
 #![tactic(auto)]
 
+mod bound;
 mod fewest;
 mod own;
 mod pairing;

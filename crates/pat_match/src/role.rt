@@ -4,10 +4,11 @@ ghost use Rattle.c_terms.specs.declared.tree.Tree.{out-Tree};
 ghost use Rattle.pat_match.specs.Matching.{is_live_in};
 ghost use Rattle.pat_match.specs.Roles as spec;
 
+use crate::context::{PatternContext, PatternForm};
 use crate::live::is_live_at;
 use c_terms::Tree;
 use cfg_build::{NodeKind, NodeLabel};
-use smpl_patch::{PatToken, Pattern, VarDecl, is_statement_kind};
+use smpl_patch::is_statement_kind;
 
 /// The role of a node for the forms that are matched against it.
 #[derive(Clone, Copy, Debug, PartialEq, Eq)]
@@ -58,18 +59,12 @@ fn may_stand(role: NodeRole, form: &Tree) -> bool
     !(role.outermost && is_statement_variable(form))
 }
 
-/// Whether the i-th form has the first form's sure variables and may be at a node of this role. Takes no memory.
-pub fn may_fit(
-    decls: &[VarDecl],
-    tokens: &[PatToken],
-    p: &Pattern,
-    i: usize,
-    role: NodeRole,
-    form: &Tree,
-) -> bool
-    requires within { i < length p.now.forms }
-    requires form { form.now ≡ slice_index_or p.now.forms i form.now }
-    ensures { result ≡ (is_live_in decls.now tokens.now p.now form.now && spec.may_stand role form.now) }
+/// Whether the form has the first form's sure variables and may be at a node of this role. Takes no memory.
+pub fn may_fit(context: &PatternContext<'_>, form: &PatternForm<'_>, role: NodeRole) -> bool
+    requires within { form.now.number < length form.now.pattern.now.forms }
+    requires form { form.now.tree.now ≡ slice_index_or form.now.pattern.now.forms form.now.number form.now.tree.now }
+    ensures { result ≡ (is_live_in context.now.decls.now context.now.tokens.now form.now.pattern.now form.now.tree.now
+        && spec.may_stand role form.now.tree.now) }
 {
-    is_live_at(decls, tokens, p, i, form) && may_stand(role, form)
+    is_live_at(context, form) && may_stand(role, form.tree)
 }

@@ -11,11 +11,11 @@ ghost use Rattle.pat_match.specs.Fitting.{leaf_of};
 ghost use Rattle.pat_match.specs.Vars.{form_vars};
 ghost use Rattle.pat_match.specs.Rows as spec;
 
-use crate::lists::{ListMember, fit_wild, is_free};
+use crate::context::PatternContext;
+use crate::lists::{ListChild, ListMember, fit_wild, is_free};
 use crate::sets::{both, is_none, put_set, union};
 use c_terms::{Label, NoMemory, Tree};
 use env_sets::{Entry, EnvSet, join};
-use smpl_patch::{PatToken, VarDecl};
 use std::alloc::Global;
 
 /// The number of members that are taken, and the environments in which the rest fits.
@@ -59,23 +59,19 @@ pub fn last_row(alloc: Global, bare: bool, count: usize) -> Result<Vec<RowEntry>
 fn put_run(
     alloc: Global,
     entries: &mut Vec<Entry>,
-    decls: &[VarDecl],
-    tokens: &[PatToken],
-    label: Label,
-    forms: &[Tree],
-    i: usize,
-    form: &Tree,
+    context: &PatternContext<'_>,
+    child: &ListChild<'_>,
     members: &[ListMember],
     from: usize,
     entry: &RowEntry,
 ) -> Result<(), NoMemory>
-    requires within { i ≤ length forms.now }
+    requires within { child.now.i ≤ length child.now.forms.now }
     ensures meaning { IfOk result (λ _. (env : Environment) → set_denotes entries.new.items env
-        ≡ (set_denotes entries.old.items env || spec.wild_entry decls.now tokens.now label
-        (spec.comma_before forms.now i) form.now members.now from env entry.now)) }
+        ≡ (set_denotes entries.old.items env || spec.wild_entry context.now.decls.now context.now.tokens.now child.now.label
+        (spec.comma_before child.now.forms.now child.now.i) child.now.form.now members.now from env entry.now)) }
     ensures vars { IfOk result (λ _. (t : Var → Bool)
-        → list_all (form_vars decls.now tokens.now t) forms.now ≡ true →
-        form_vars decls.now tokens.now t form.now ≡ true → set_vars t entry.now.set ≡ true →
+        → list_all (form_vars context.now.decls.now context.now.tokens.now t) child.now.forms.now ≡ true →
+        form_vars context.now.decls.now context.now.tokens.now t child.now.form.now ≡ true → set_vars t entry.now.set ≡ true →
         set_vars t entries.old.items ≡ true → set_vars t entries.new.items ≡ true) }
 {
     if entry.taken < from {
@@ -85,7 +81,7 @@ fn put_run(
         return Ok(());
     }
     let run = &members[from..entry.taken];
-    let here = fit_wild(alloc, decls, tokens, label, forms, i, form, run)?;
+    let here = fit_wild(alloc, context, child, run)?;
     let rest = entry.set.copy(alloc)?;
     let all = both(alloc, here, rest)?;
     put_set(entries, all)
@@ -94,40 +90,26 @@ fn put_run(
 /// Returns the environments in which the child takes some run from this member on, and the row fits what follows.
 pub fn fit_some_run(
     alloc: Global,
-    decls: &[VarDecl],
-    tokens: &[PatToken],
-    label: Label,
-    forms: &[Tree],
-    i: usize,
-    form: &Tree,
+    context: &PatternContext<'_>,
+    child: &ListChild<'_>,
     members: &[ListMember],
     from: usize,
     row: &[RowEntry],
 ) -> Result<EnvSet, NoMemory>
-    requires within { i ≤ length forms.now }
+    requires within { child.now.i ≤ length child.now.forms.now }
     requires left { from ≤ length members.now }
-    requires wild { is_wild label (leaf_of (out-Tree form.now)) ≡ true }
+    requires wild { is_wild child.now.label (leaf_of (out-Tree child.now.form.now)) ≡ true }
     ensures meaning { IfOk result (λ r. (env : Environment) → set_denotes r env
-        ≡ spec.step_at decls.now tokens.now label (spec.comma_before forms.now i) form.now members.now row.now from env) }
+        ≡ spec.step_at context.now.decls.now context.now.tokens.now child.now.label
+        (spec.comma_before child.now.forms.now child.now.i) child.now.form.now members.now row.now from env) }
     ensures vars { IfOk result (λ r. (t : Var → Bool)
-        → list_all (form_vars decls.now tokens.now t) forms.now ≡ true →
-        form_vars decls.now tokens.now t form.now ≡ true → spec.row_vars t row.now ≡ true → set_vars t r ≡ true) }
+        → list_all (form_vars context.now.decls.now context.now.tokens.now t) child.now.forms.now ≡ true →
+        form_vars context.now.decls.now context.now.tokens.now t child.now.form.now ≡ true → spec.row_vars t row.now ≡ true
+        → set_vars t r ≡ true) }
 {
     let mut entries = Vec::new(alloc);
     for entry in row {
-        put_run(
-            alloc,
-            &mut entries,
-            decls,
-            tokens,
-            label,
-            forms,
-            i,
-            form,
-            members,
-            from,
-            entry,
-        )?;
+        put_run(alloc, &mut entries, context, child, members, from, entry)?;
     }
     union(alloc, entries)
 }
@@ -249,32 +231,26 @@ fn fit_every_row(alloc: Global, row: &[RowEntry], count: usize) -> Result<Vec<Ro
 /// Returns the row from a child that takes any run.
 pub fn fit_wild_row(
     alloc: Global,
-    decls: &[VarDecl],
-    tokens: &[PatToken],
-    label: Label,
-    forms: &[Tree],
-    i: usize,
-    form: &Tree,
+    context: &PatternContext<'_>,
+    child: &ListChild<'_>,
     members: &[ListMember],
     row: &[RowEntry],
 ) -> Result<Vec<RowEntry>, NoMemory>
-    requires within { i ≤ length forms.now }
-    requires wild { is_wild label (leaf_of (out-Tree form.now)) ≡ true }
-    ensures meaning { IfOk result (λ r. spec.IsStep decls.now tokens.now label
-        (spec.comma_before forms.now i) form.now members.now row.now r.items) }
+    requires within { child.now.i ≤ length child.now.forms.now }
+    requires wild { is_wild child.now.label (leaf_of (out-Tree child.now.form.now)) ≡ true }
+    ensures meaning { IfOk result (λ r. spec.IsStep context.now.decls.now context.now.tokens.now child.now.label
+        (spec.comma_before child.now.forms.now child.now.i) child.now.form.now members.now row.now r.items) }
     ensures vars { IfOk result (λ r. (t : Var → Bool)
-        → list_all (form_vars decls.now tokens.now t) forms.now ≡ true →
-        form_vars decls.now tokens.now t form.now ≡ true → spec.row_vars t row.now ≡ true →
+        → list_all (form_vars context.now.decls.now context.now.tokens.now t) child.now.forms.now ≡ true →
+        form_vars context.now.decls.now context.now.tokens.now t child.now.form.now ≡ true → spec.row_vars t row.now ≡ true →
         spec.row_vars t r.items ≡ true) }
 {
-    if is_free(tokens, forms, i, form) {
+    if is_free(context.tokens, child.forms, child.i, child.form) {
         return fit_every_row(alloc, row, members.len());
     }
     let mut out = Vec::new(alloc);
     for from in 0..members.len() + 1 {
-        let set = fit_some_run(
-            alloc, decls, tokens, label, forms, i, form, members, from, row,
-        )?;
+        let set = fit_some_run(alloc, context, child, members, from, row)?;
         push_entry(&mut out, from, set)?;
     }
     Ok(out)

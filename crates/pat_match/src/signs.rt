@@ -35,12 +35,7 @@ fn is_bare_leaf(tokens: &[PatToken], tree: &Tree) -> bool
 pub fn has_bare_signs(tokens: &[PatToken], trees: &[Tree]) -> bool
     ensures { result ≡ list_all (λ f. is_bare_sign tokens.now (leaf_of (out-Tree f))) trees.now }
 {
-    for tree in trees {
-        if !is_bare_leaf(tokens, tree) {
-            return false;
-        }
-    }
-    true
+    trees.iter().all(|tree| is_bare_leaf(tokens, tree))
 }
 
 /// Whether the token is a token of C, and the tree is a different one.

@@ -8,6 +8,7 @@ ghost use Rattle.pat_match.specs.Vars.{form_vars, pattern_vars};
 ghost use Rattle.pat_match.specs.Spots as at;
 ghost use Rattle.pat_match.specs.Matching as spec;
 
+use crate::context::{PatternContext, PatternForm};
 use crate::inside::fit_inside;
 use crate::role::{NodeRole, may_fit, role_of};
 use crate::sets::{is_none, put_set, union};
@@ -15,57 +16,63 @@ use crate::spots::fit_at;
 use c_terms::{NoMemory, Tree};
 use cfg_build::{NodeKind, NodeLabel};
 use env_sets::EnvSet;
-use smpl_patch::{PatToken, Pattern, Spot, VarDecl};
+use smpl_patch::{Pattern, Spot};
 use std::alloc::Global;
 
 /// Returns the environments in which a form of this spot fits some subtree of the node.
 fn fit_seats(
     alloc: Global,
-    decls: &[VarDecl],
-    tokens: &[PatToken],
+    context: &PatternContext<'_>,
     spot: Spot,
     kind: NodeKind,
     form: &Tree,
     tree: &Tree,
 ) -> Result<EnvSet, NoMemory>
     ensures meaning { IfOk result (λ r. (env : Environment) → set_denotes r env
-        ≡ list_any (λ s. at.fits_at decls.now tokens.now env spot kind form.now s.tree) (at.seats spot kind tree.now)) }
-    ensures vars { IfOk result (λ r. (t : Var → Bool) → form_vars decls.now tokens.now t form.now
+        ≡ list_any (λ s. at.fits_at context.now.decls.now context.now.tokens.now env spot kind form.now s.tree)
+        (at.seats spot kind tree.now)) }
+    ensures vars { IfOk result (λ r. (t : Var → Bool) → form_vars context.now.decls.now context.now.tokens.now t form.now
         ≡ true →
         set_vars t r ≡ true) }
 {
     match spot {
-        Spot::Inside => fit_inside(alloc, decls, tokens, kind, form, tree),
-        Spot::Whole => fit_at(alloc, decls, tokens, Spot::Whole, kind, form, tree),
-        Spot::Tail => fit_at(alloc, decls, tokens, Spot::Tail, kind, form, tree),
+        Spot::Inside => fit_inside(alloc, context, kind, form, tree),
+        Spot::Whole => fit_at(alloc, context, Spot::Whole, kind, form, tree),
+        Spot::Tail => fit_at(alloc, context, Spot::Tail, kind, form, tree),
     }
 }
 
-/// Returns the environments in which the i-th form has the first form's sure variables, may be at a node of this role, and fits
+/// Returns the environments in which the form has the first form's sure variables, may be at a node of this role, and fits
 /// some subtree of the node.
 pub fn solve_form(
     alloc: Global,
-    p: &Pattern,
-    decls: &[VarDecl],
-    tokens: &[PatToken],
+    form: &PatternForm<'_>,
+    context: &PatternContext<'_>,
     role: NodeRole,
-    i: usize,
-    form: &Tree,
     tree: &Tree,
 ) -> Result<EnvSet, NoMemory>
-    requires within { i < length p.now.forms }
-    requires form { form.now ≡ slice_index_or p.now.forms i form.now }
+    requires within { form.now.number < length form.now.pattern.now.forms }
+    requires form { form.now.tree.now ≡ slice_index_or form.now.pattern.now.forms form.now.number form.now.tree.now }
     ensures meaning { IfOk result (λ r. (env : Environment) → set_denotes r env ≡ list_any
-        (λ s. spec.fits_seat decls.now tokens.now env p.now role form.now s.tree) (at.seats p.now.spot role.kind tree.now)) }
-    ensures vars { IfOk result (λ r. (t : Var → Bool) → form_vars decls.now tokens.now t form.now
+        (λ s. spec.fits_seat context.now.decls.now context.now.tokens.now env form.now.pattern.now role form.now.tree.now
+        s.tree) (at.seats form.now.pattern.now.spot role.kind tree.now)) }
+    ensures vars { IfOk result (λ r. (t : Var → Bool)
+        → form_vars context.now.decls.now context.now.tokens.now t form.now.tree.now
         ≡ true →
         set_vars t r ≡ true) }
 {
-    let set = fit_seats(alloc, decls, tokens, p.spot, role.kind, form, tree)?;
+    let set = fit_seats(
+        alloc,
+        context,
+        form.pattern.spot,
+        role.kind,
+        form.tree,
+        tree,
+    )?;
     if is_none(&set) {
         return Ok(set);
     }
-    if may_fit(decls, tokens, p, i, role, form) {
+    if may_fit(context, form, role) {
         Ok(set)
     } else {
         Ok(EnvSet::none(alloc))
@@ -82,13 +89,12 @@ pub fn solve_form(
 pub fn solve(
     alloc: Global,
     p: &Pattern,
-    decls: &[VarDecl],
-    tokens: &[PatToken],
+    context: &PatternContext<'_>,
     node: &NodeLabel,
 ) -> Result<EnvSet, NoMemory>
     ensures meaning { IfOk result (λ r. (env : Environment) → set_denotes r env
-        ≡ spec.matches decls.now tokens.now env p.now node.now) }
-    ensures vars { IfOk result (λ r. (t : Var → Bool) → pattern_vars decls.now tokens.now t p.now
+        ≡ spec.matches context.now.decls.now context.now.tokens.now env p.now node.now) }
+    ensures vars { IfOk result (λ r. (t : Var → Bool) → pattern_vars context.now.decls.now context.now.tokens.now t p.now
         ≡ true →
         set_vars t r ≡ true) }
 {
@@ -97,7 +103,12 @@ pub fn solve(
     let mut entries = Vec::new(alloc);
     let forms = p.forms.as_slice();
     for i in 0..forms.len() {
-        let here = solve_form(alloc, p, decls, tokens, role, i, &forms[i], tree)?;
+        let form = PatternForm {
+            pattern: p,
+            number: i,
+            tree: &forms[i],
+        };
+        let here = solve_form(alloc, &form, context, role, tree)?;
         put_set(&mut entries, here)?;
     }
     union(alloc, entries)

@@ -13,12 +13,13 @@ ghost use Rattle.smpl_patch.specs.declared.pattern.Spot.TheVariants as spot;
 ghost use Rattle.pat_match.specs.Spots as spec;
 
 use crate::braces::{close_brace, is_close_brace, is_open_brace, open_brace};
+use crate::context::PatternContext;
 use crate::fit::fit;
 use crate::sets::{both, is_none};
 use c_terms::{Label, NoMemory, Shape, Token, Tree};
 use cfg_build::{NodeKind, is_own};
 use env_sets::EnvSet;
-use smpl_patch::{PatToken, Spot, VarDecl, is_statement_kind};
+use smpl_patch::{Spot, is_statement_kind};
 use std::alloc::Global;
 
 fn is_statement_node(kind: NodeKind) -> bool
@@ -52,60 +53,59 @@ fn is_tail_node(kind: NodeKind) -> bool
 
 fn fit_open(
     alloc: Global,
-    decls: &[VarDecl],
-    tokens: &[PatToken],
+    context: &PatternContext<'_>,
     kind: NodeKind,
     form: &Tree,
     tree: &Tree,
 ) -> Result<EnvSet, NoMemory>
     ensures meaning { IfOk result (λ r. (env : Environment) → set_denotes r env
-        ≡ spec.option_fits (fits_tree decls.now tokens.now env form.now) (spec.open_brace kind tree.now)) }
-    ensures vars { IfOk result (λ r. (t : Var → Bool) → form_vars decls.now tokens.now t form.now
+        ≡ spec.option_fits (fits_tree context.now.decls.now context.now.tokens.now env form.now)
+        (spec.open_brace kind tree.now)) }
+    ensures vars { IfOk result (λ r. (t : Var → Bool) → form_vars context.now.decls.now context.now.tokens.now t form.now
         ≡ true →
         set_vars t r ≡ true) }
 {
     match open_brace(kind, tree) {
         None => Ok(EnvSet::none(alloc)),
-        Some(brace) => fit(alloc, decls, tokens, form, brace),
+        Some(brace) => fit(alloc, context, form, brace),
     }
 }
 
 fn fit_close(
     alloc: Global,
-    decls: &[VarDecl],
-    tokens: &[PatToken],
+    context: &PatternContext<'_>,
     kind: NodeKind,
     form: &Tree,
     tree: &Tree,
 ) -> Result<EnvSet, NoMemory>
     ensures meaning { IfOk result (λ r. (env : Environment) → set_denotes r env
-        ≡ spec.option_fits (fits_tree decls.now tokens.now env form.now) (spec.close_brace kind tree.now)) }
-    ensures vars { IfOk result (λ r. (t : Var → Bool) → form_vars decls.now tokens.now t form.now
+        ≡ spec.option_fits (fits_tree context.now.decls.now context.now.tokens.now env form.now)
+        (spec.close_brace kind tree.now)) }
+    ensures vars { IfOk result (λ r. (t : Var → Bool) → form_vars context.now.decls.now context.now.tokens.now t form.now
         ≡ true →
         set_vars t r ≡ true) }
 {
     match close_brace(kind, tree) {
         None => Ok(EnvSet::none(alloc)),
-        Some(brace) => fit(alloc, decls, tokens, form, brace),
+        Some(brace) => fit(alloc, context, form, brace),
     }
 }
 
 fn fit_where(
     alloc: Global,
-    decls: &[VarDecl],
-    tokens: &[PatToken],
+    context: &PatternContext<'_>,
     here: bool,
     form: &Tree,
     tree: &Tree,
 ) -> Result<EnvSet, NoMemory>
     ensures meaning { IfOk result (λ r. (env : Environment) → set_denotes r env
-        ≡ (here && fits_tree decls.now tokens.now env form.now tree.now)) }
-    ensures vars { IfOk result (λ r. (t : Var → Bool) → form_vars decls.now tokens.now t form.now
+        ≡ (here && fits_tree context.now.decls.now context.now.tokens.now env form.now tree.now)) }
+    ensures vars { IfOk result (λ r. (t : Var → Bool) → form_vars context.now.decls.now context.now.tokens.now t form.now
         ≡ true →
         set_vars t r ≡ true) }
 {
     if here {
-        fit(alloc, decls, tokens, form, tree)
+        fit(alloc, context, form, tree)
     } else {
         Ok(EnvSet::none(alloc))
     }
@@ -114,20 +114,19 @@ fn fit_where(
 /// Returns the environments in which the form fits the tree, or all environments if the tree is not the node's own.
 fn fit_own_child(
     alloc: Global,
-    decls: &[VarDecl],
-    tokens: &[PatToken],
+    context: &PatternContext<'_>,
     own: bool,
     form: &Tree,
     tree: &Tree,
 ) -> Result<EnvSet, NoMemory>
     ensures meaning { IfOk result (λ r. (env : Environment) → set_denotes r env
-        ≡ (not own || fits_tree decls.now tokens.now env form.now tree.now)) }
-    ensures vars { IfOk result (λ r. (t : Var → Bool) → form_vars decls.now tokens.now t form.now
+        ≡ (not own || fits_tree context.now.decls.now context.now.tokens.now env form.now tree.now)) }
+    ensures vars { IfOk result (λ r. (t : Var → Bool) → form_vars context.now.decls.now context.now.tokens.now t form.now
         ≡ true →
         set_vars t r ≡ true) }
 {
     if own {
-        fit(alloc, decls, tokens, form, tree)
+        fit(alloc, context, form, tree)
     } else {
         EnvSet::all(alloc)
     }
@@ -136,17 +135,17 @@ fn fit_own_child(
 /// Returns the environments in which the forms that are the node's own fit the trees.
 fn fit_own_all(
     alloc: Global,
-    decls: &[VarDecl],
-    tokens: &[PatToken],
+    context: &PatternContext<'_>,
     kind: NodeKind,
     label: Label,
     forms: &[Tree],
     trees: &[Tree],
 ) -> Result<EnvSet, NoMemory>
     ensures meaning { IfOk result (λ r. (env : Environment) → set_denotes r env
-        ≡ spec.own_fit (own.is_own kind label (length forms.now)) 0 (map (piece decls.now tokens.now env) forms.now) trees.now) }
+        ≡ spec.own_fit (own.is_own kind label (length forms.now)) 0
+        (map (piece context.now.decls.now context.now.tokens.now env) forms.now) trees.now) }
     ensures vars { IfOk result (λ r. (t : Var → Bool)
-        → list_all (form_vars decls.now tokens.now t) forms.now ≡ true →
+        → list_all (form_vars context.now.decls.now context.now.tokens.now t) forms.now ≡ true →
         set_vars t r ≡ true) }
 {
     if forms.len() != trees.len() {
@@ -158,7 +157,7 @@ fn fit_own_all(
             return Ok(out);
         }
         let own = is_own(kind, label, forms.len(), i);
-        let here = fit_own_child(alloc, decls, tokens, own, &forms[i], &trees[i])?;
+        let here = fit_own_child(alloc, context, own, &forms[i], &trees[i])?;
         out = both(alloc, out, here)?;
     }
     Ok(out)
@@ -166,17 +165,17 @@ fn fit_own_all(
 
 fn fit_own_kids(
     alloc: Global,
-    decls: &[VarDecl],
-    tokens: &[PatToken],
+    context: &PatternContext<'_>,
     kind: NodeKind,
     label: Label,
     forms: &[Tree],
     tree: &Tree,
 ) -> Result<EnvSet, NoMemory>
     ensures meaning { IfOk result (λ r. (env : Environment) → set_denotes r env
-        ≡ kids_fit (spec.own_fit (own.is_own kind label (length forms.now)) 0) label (map (piece decls.now tokens.now env) forms.now) (out-Tree tree.now)) }
+        ≡ kids_fit (spec.own_fit (own.is_own kind label (length forms.now)) 0) label
+        (map (piece context.now.decls.now context.now.tokens.now env) forms.now) (out-Tree tree.now)) }
     ensures vars { IfOk result (λ r. (t : Var → Bool)
-        → list_all (form_vars decls.now tokens.now t) forms.now ≡ true →
+        → list_all (form_vars context.now.decls.now context.now.tokens.now t) forms.now ≡ true →
         set_vars t r ≡ true) }
 {
     match tree {
@@ -185,7 +184,7 @@ fn fit_own_kids(
             if label.number() != other.number() {
                 return Ok(EnvSet::none(alloc));
             }
-            fit_own_all(alloc, decls, tokens, kind, label, forms, trees.as_slice())
+            fit_own_all(alloc, context, kind, label, forms, trees.as_slice())
         }
     }
 }
@@ -202,15 +201,14 @@ fn is_disjunction(label: Label) -> bool
 /// Returns the environments in which the own tokens of a head or tail fit. A disjunction fits neither.
 fn fit_own(
     alloc: Global,
-    decls: &[VarDecl],
-    tokens: &[PatToken],
+    context: &PatternContext<'_>,
     kind: NodeKind,
     form: &Tree,
     tree: &Tree,
 ) -> Result<EnvSet, NoMemory>
     ensures meaning { IfOk result (λ r. (env : Environment) → set_denotes r env
-        ≡ spec.own_fits decls.now tokens.now env kind (out-Tree form.now) tree.now) }
-    ensures vars { IfOk result (λ r. (t : Var → Bool) → form_vars decls.now tokens.now t form.now
+        ≡ spec.own_fits context.now.decls.now context.now.tokens.now env kind (out-Tree form.now) tree.now) }
+    ensures vars { IfOk result (λ r. (t : Var → Bool) → form_vars context.now.decls.now context.now.tokens.now t form.now
         ≡ true →
         set_vars t r ≡ true) }
 {
@@ -220,95 +218,91 @@ fn fit_own(
             if is_disjunction(*label) {
                 return Ok(EnvSet::none(alloc));
             }
-            fit_own_kids(alloc, decls, tokens, kind, *label, forms.as_slice(), tree)
+            fit_own_kids(alloc, context, kind, *label, forms.as_slice(), tree)
         }
     }
 }
 
 fn fit_token_whole(
     alloc: Global,
-    decls: &[VarDecl],
-    tokens: &[PatToken],
+    context: &PatternContext<'_>,
     kind: NodeKind,
     token: &Token,
     form: &Tree,
     tree: &Tree,
 ) -> Result<EnvSet, NoMemory>
     ensures meaning { IfOk result (λ r. (env : Environment) → set_denotes r env
-        ≡ spec.token_whole decls.now tokens.now env kind token.now form.now tree.now) }
-    ensures vars { IfOk result (λ r. (t : Var → Bool) → form_vars decls.now tokens.now t form.now
+        ≡ spec.token_whole context.now.decls.now context.now.tokens.now env kind token.now form.now tree.now) }
+    ensures vars { IfOk result (λ r. (t : Var → Bool) → form_vars context.now.decls.now context.now.tokens.now t form.now
         ≡ true →
         set_vars t r ≡ true) }
 {
     if is_open_brace(token) {
-        fit_open(alloc, decls, tokens, kind, form, tree)
+        fit_open(alloc, context, kind, form, tree)
     } else if is_close_brace(token) {
-        fit_close(alloc, decls, tokens, kind, form, tree)
+        fit_close(alloc, context, kind, form, tree)
     } else if is_statement_kind(token.kind) {
-        fit_where(alloc, decls, tokens, is_statement_node(kind), form, tree)
+        fit_where(alloc, context, is_statement_node(kind), form, tree)
     } else {
-        fit_where(alloc, decls, tokens, is_simple_node(kind), form, tree)
+        fit_where(alloc, context, is_simple_node(kind), form, tree)
     }
 }
 
 fn fit_branch_whole(
     alloc: Global,
-    decls: &[VarDecl],
-    tokens: &[PatToken],
+    context: &PatternContext<'_>,
     kind: NodeKind,
     form: &Tree,
     tree: &Tree,
 ) -> Result<EnvSet, NoMemory>
     ensures meaning { IfOk result (λ r. (env : Environment) → set_denotes r env
-        ≡ spec.branch_whole decls.now tokens.now env kind form.now tree.now) }
-    ensures vars { IfOk result (λ r. (t : Var → Bool) → form_vars decls.now tokens.now t form.now
+        ≡ spec.branch_whole context.now.decls.now context.now.tokens.now env kind form.now tree.now) }
+    ensures vars { IfOk result (λ r. (t : Var → Bool) → form_vars context.now.decls.now context.now.tokens.now t form.now
         ≡ true →
         set_vars t r ≡ true) }
 {
     match kind {
-        NodeKind::Simple => fit(alloc, decls, tokens, form, tree),
-        NodeKind::Head => fit_own(alloc, decls, tokens, NodeKind::Head, form, tree),
-        NodeKind::FunHead => fit_own(alloc, decls, tokens, NodeKind::FunHead, form, tree),
+        NodeKind::Simple => fit(alloc, context, form, tree),
+        NodeKind::Head => fit_own(alloc, context, NodeKind::Head, form, tree),
+        NodeKind::FunHead => fit_own(alloc, context, NodeKind::FunHead, form, tree),
         _ => Ok(EnvSet::none(alloc)),
     }
 }
 
 fn fit_whole(
     alloc: Global,
-    decls: &[VarDecl],
-    tokens: &[PatToken],
+    context: &PatternContext<'_>,
     kind: NodeKind,
     form: &Tree,
     tree: &Tree,
 ) -> Result<EnvSet, NoMemory>
     ensures meaning { IfOk result (λ r. (env : Environment) → set_denotes r env
-        ≡ spec.whole_at decls.now tokens.now env kind (out-Tree form.now) form.now tree.now) }
-    ensures vars { IfOk result (λ r. (t : Var → Bool) → form_vars decls.now tokens.now t form.now
+        ≡ spec.whole_at context.now.decls.now context.now.tokens.now env kind (out-Tree form.now) form.now tree.now) }
+    ensures vars { IfOk result (λ r. (t : Var → Bool) → form_vars context.now.decls.now context.now.tokens.now t form.now
         ≡ true →
         set_vars t r ≡ true) }
 {
     match form {
-        Tree::Leaf(token) => fit_token_whole(alloc, decls, tokens, kind, token, form, tree),
-        Tree::Branch(_, _) => fit_branch_whole(alloc, decls, tokens, kind, form, tree),
+        Tree::Leaf(token) => fit_token_whole(alloc, context, kind, token, form, tree),
+        Tree::Branch(_, _) => fit_branch_whole(alloc, context, kind, form, tree),
     }
 }
 
 fn fit_tail(
     alloc: Global,
-    decls: &[VarDecl],
-    tokens: &[PatToken],
+    context: &PatternContext<'_>,
     kind: NodeKind,
     form: &Tree,
     tree: &Tree,
 ) -> Result<EnvSet, NoMemory>
     ensures meaning { IfOk result (λ r. (env : Environment) → set_denotes r env
-        ≡ spec.fits_at decls.now tokens.now env spot.Tail kind form.now tree.now) }
-    ensures vars { IfOk result (λ r. (t : Var → Bool) → form_vars decls.now tokens.now t form.now
+        ≡ spec.fits_at context.now.decls.now context.now.tokens.now env spot.Tail kind form.now tree.now) }
+    ensures vars { IfOk result (λ r. (t : Var → Bool) → form_vars context.now.decls.now context.now.tokens.now t form.now
         ≡ true →
         set_vars t r ≡ true) }
 {
     if is_tail_node(kind) {
-        fit_own(alloc, decls, tokens, NodeKind::DoTail, form, tree)
+        fit_own(alloc, context, NodeKind::DoTail, form, tree)
     } else {
         Ok(EnvSet::none(alloc))
     }
@@ -317,22 +311,21 @@ fn fit_tail(
 /// Returns the environments in which a form of this spot fits the subtree at a node of this kind.
 pub fn fit_at(
     alloc: Global,
-    decls: &[VarDecl],
-    tokens: &[PatToken],
+    context: &PatternContext<'_>,
     spot: Spot,
     kind: NodeKind,
     form: &Tree,
     tree: &Tree,
 ) -> Result<EnvSet, NoMemory>
     ensures meaning { IfOk result (λ r. (env : Environment) → set_denotes r env
-        ≡ spec.fits_at decls.now tokens.now env spot kind form.now tree.now) }
-    ensures vars { IfOk result (λ r. (t : Var → Bool) → form_vars decls.now tokens.now t form.now
+        ≡ spec.fits_at context.now.decls.now context.now.tokens.now env spot kind form.now tree.now) }
+    ensures vars { IfOk result (λ r. (t : Var → Bool) → form_vars context.now.decls.now context.now.tokens.now t form.now
         ≡ true →
         set_vars t r ≡ true) }
 {
     match spot {
-        Spot::Whole => fit_whole(alloc, decls, tokens, kind, form, tree),
-        Spot::Tail => fit_tail(alloc, decls, tokens, kind, form, tree),
-        Spot::Inside => fit(alloc, decls, tokens, form, tree),
+        Spot::Whole => fit_whole(alloc, context, kind, form, tree),
+        Spot::Tail => fit_tail(alloc, context, kind, form, tree),
+        Spot::Inside => fit(alloc, context, form, tree),
     }
 }

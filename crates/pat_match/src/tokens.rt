@@ -11,6 +11,7 @@ ghost use Rattle.pat_match.specs.Matching.{var_passes, meta_passes};
 ghost use Rattle.pat_match.specs.Vars.{stand_vars, place_vars, token_vars};
 ghost use Rattle.pat_match.specs.Tokens as spec;
 
+use crate::context::PatternContext;
 use crate::kinds::{has_kind, is_excepted, is_same_leaf};
 use crate::sets::{all_or_none, is_none};
 use c_terms::{MetaKind, NoMemory, Token, TokenKind, Tree, first_leaf};
@@ -147,21 +148,20 @@ fn where_bare(alloc: Global, set: EnvSet, entry: &PatToken) -> EnvSet
 pub fn with_stand(
     alloc: Global,
     set: EnvSet,
-    decls: &[VarDecl],
-    tokens: &[PatToken],
+    context: &PatternContext<'_>,
     token: &Token,
     first: Option<u64>,
 ) -> Result<EnvSet, NoMemory>
     ensures meaning { IfOk result (λ r. (env : Environment) → set_denotes r env
-        ≡ (set_denotes set env && spec.stands decls.now tokens.now env token.now first)) }
+        ≡ (set_denotes set env && spec.stands context.now.decls.now context.now.tokens.now env token.now first)) }
     ensures vars { IfOk result (λ r. (t : Var → Bool) → set_vars t set ≡ true →
-        stand_vars decls.now t (slice_get tokens.now token.now.id) ≡ true → set_vars t r ≡ true) }
+        stand_vars context.now.decls.now t (slice_get context.now.tokens.now token.now.id) ≡ true → set_vars t r ≡ true) }
 {
-    match tokens.get(token.id as usize) {
+    match context.tokens.get(token.id as usize) {
         None => Ok(set),
         Some(entry) => match first {
             None => Ok(where_bare(alloc, set, entry)),
-            Some(id) => with_positions(alloc, set, decls, entry.positions.as_slice(), id),
+            Some(id) => with_positions(alloc, set, context.decls, entry.positions.as_slice(), id),
         },
     }
 }
@@ -226,21 +226,20 @@ fn fit_token(
 /// Returns the environments in which the token fits the tree.
 pub fn fit_leaf(
     alloc: Global,
-    decls: &[VarDecl],
-    tokens: &[PatToken],
+    context: &PatternContext<'_>,
     token: &Token,
     tree: &Tree,
 ) -> Result<EnvSet, NoMemory>
     ensures meaning { IfOk result (λ r. (env : Environment) → set_denotes r env
-        ≡ spec.leaf_fits decls.now tokens.now env token.now tree.now) }
+        ≡ spec.leaf_fits context.now.decls.now context.now.tokens.now env token.now tree.now) }
     ensures vars { IfOk result (λ r. (t : Var → Bool)
-        → token_vars decls.now tokens.now t token.now ≡ true →
+        → token_vars context.now.decls.now context.now.tokens.now t token.now ≡ true →
         set_vars t r ≡ true) }
 {
-    let here = fit_token(alloc, decls, token, tree)?;
+    let here = fit_token(alloc, context.decls, token, tree)?;
     if is_none(&here) {
         return Ok(here);
     }
     let first = first_id(tree);
-    with_stand(alloc, here, decls, tokens, token, first)
+    with_stand(alloc, here, context, token, first)
 }

@@ -31,6 +31,10 @@ at_pair R (a ∷ xs) [] i x y all lt one two = absurd all
 at_pair R (a ∷ xs) (b ∷ ys) zero x y all lt one two = subst (λ u. R u y) (sym one) (subst (λ v. R a v) (sym two) all.0)
 at_pair R (a ∷ xs) (b ∷ ys) (suc i) x y all lt one two = at_pair R xs ys i x y all.1 (omega arith) one two
 
+-- lists that are read as slices
+pub on_slices : {A B : Type 0} (R : A → B → Type 0) (xs xs' : List A) (ys ys' : List B) → xs' ≡ xs → ys' ≡ ys → AllZip R xs ys → AllZip R xs' ys'
+on_slices R xs xs' ys ys' one two all = subst (λ zs. AllZip R zs ys') (sym one) (subst (λ zs. AllZip R xs zs) (sym two) all)
+
 -- ---- the page after a rule
 
 page_stays : (next : ℕ) (pieces : List TextPiece) (edits : List Edit) → is_edited edits ≡ false → page_after next pieces edits ≡ old_page next pieces

@@ -2,6 +2,8 @@
 pub mod Chain
 pub mod Results
 pub mod Asked
+-- What is known of a rule that is ready to run has one proof, so that a struct may keep it.
+pub mod OneProof
 -- For internal use: the rules over one reading.
 pub mod Stops
 -- What rule_witnesses defines.

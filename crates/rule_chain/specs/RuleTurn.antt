@@ -1,3 +1,3 @@
 -- Definitions of rule_turn.
--- What the contract of `turn` depends on.
+-- What the contract of `match_rule` depends on.
 pub mod Turns

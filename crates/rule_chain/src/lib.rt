@@ -1,7 +1,8 @@
 //! Applies the rules of a patch to the text of a file, one after another.
 //!
-//! [`apply`] runs the whole chain over one text. It returns the new text, the witnesses, the skipped items and the
-//! environments, or the first fault. The prepared form that rules are run from is made once per patch, by rule_formulas.
+//! [`apply`] runs the whole chain of [`PatchRules`] over one text. It returns the new text, the witnesses, the skipped items and the
+//! environments, or the first fault. The prepared form that rules are run from is made once per patch, by `prepare` of
+//! rule_envs.
 //!
 //! ```text
 //!       text ─► tokens, items ─► rule 0 ─► rule 1 ─► .. ─► text, witnesses, skipped items, environments
@@ -33,6 +34,8 @@ mod answers;
 mod chain;
 mod edit_laws;
 mod laws;
+mod patch_rules;
+mod reading;
 mod readings;
 mod rule_edits;
 mod rule_found;
@@ -45,8 +48,9 @@ mod state;
 pub use chain::apply;
 pub use edit_laws::{ids_of_values_do_not_count, plain_inserts_are_fair};
 pub use laws::chain_has_one_end;
+pub use patch_rules::PatchRules;
 pub use rule_edits::ids_stay_below_next;
-pub use rule_found::Found;
+pub use rule_found::AllMatches;
 pub use rule_witnesses::{choices, ids_make_no_difference};
 pub use rule_work::{FileFault, SkipNote};
 pub use state::Applied;

@@ -12,4 +12,4 @@ mod under;
 mod whole;
 mod worker;
 
-pub use whole::{Found, witnesses};
+pub use whole::{AllMatches, witnesses};

@@ -11,10 +11,12 @@ mod found;
 mod job;
 mod laws;
 mod matched;
+mod query;
 mod values;
 
 pub use fault::JobFault;
 pub use job::item_witnesses;
 pub use laws::ids_make_no_difference;
-pub use matched::{Matched, match_item};
+pub use matched::{SatSets, match_item};
+pub use query::ItemQuery;
 pub use values::choices;

@@ -1,6 +1,6 @@
-//! Runs one rule of a patch over one reading of a file, including its edits.
+//! Runs one rule of a patch over one reading of a file: `match_rule` of rule_turn, then `edit` of rule_edits.
 //!
-//! [`work`] takes what the rules before it left, and returns what this one leaves, or the first fault that it meets. If the
+//! [`run_rule`] takes what the rules before it left, and returns what this one leaves, or the first fault that it meets. If the
 //! rule edits the text, reading it again is left to the chain of rules.
 #![tactic(auto)]
 
@@ -10,4 +10,4 @@ mod works;
 
 pub use fault::FileFault;
 pub use state::{FileState, SkipNote};
-pub use works::{Worked, work};
+pub use works::{RuleOutcome, run_rule};

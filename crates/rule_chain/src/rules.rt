@@ -1,22 +1,17 @@
 // Runs rules over one reading of the text.
-ghost use Rattle.std.specs.Prelude.{◌≡◌, ◌<◌, ◌≤◌, ◌+◌, ◌^◌, ◌⊎◌, true, None, IfOk, IfErr, length, drop, is_some};
-ghost use Rattle.std.specs.List.{AllZip};
-ghost use Rattle.rule_envs.specs.RuleFormulas.Prepared.{ArePrepared};
+ghost use Rattle.std.specs.Prelude.{◌≡◌, ◌<◌, ◌≤◌, ◌+◌, ◌⊎◌, true, None, IfOk, IfErr, length, drop, is_some};
 ghost use Rattle.rule_chain.specs.RuleWork.States.{Chained};
 ghost use Rattle.rule_chain.specs.RuleWork.Worked.{AreFindingsOf, IsAtReading};
 ghost use Rattle.rule_chain.specs.declared.rule_work.fault.FileFault.TheVariants as fault;
-ghost use Rattle.rule_chain.specs.Asked.{MayRun};
 ghost use Rattle.rule_chain.specs.Chain.{Runs, Refused};
 ghost use Rattle.rule_chain.specs.Stops.{LeadsOn};
 
+use crate::patch_rules::PatchRules;
+use crate::reading::Reading;
 use crate::rule_edits::NewText;
-use crate::rule_work::{FileFault, FileState, Worked, work};
-use c_file::{CFile, Graphs};
-use c_terms::Text;
-use par_match::Gate;
-use rule_envs::PreparedRule;
-use smpl_patch::Rule;
-use std::alloc::Global;
+use crate::rule_work::{FileFault, FileState, RuleOutcome, run_rule};
+use c_file::Graphs;
+use par_match::{Gate, Workers};
 use std::thread::Threads;
 
 /// Where the rules over one reading stop: after a rule that edits, or after the last.
@@ -29,102 +24,54 @@ pub struct Stopped {
 }
 
 /// Runs the rule with this number over a reading.
-fn work_at<R: Threads + Sync, G: Gate>(
-    rt: &R,
-    alloc: Global,
-    defined: &[Text],
-    rules: &[Rule],
-    prepared: &[PreparedRule],
+fn run_at<R: Threads + Sync, G: Gate>(
+    workers: &Workers<'_, R, G>,
+    rules: &PatchRules<'_>,
     number: usize,
-    file: &CFile,
+    reading: &Reading<'_>,
     graphs: &mut Graphs<'_>,
-    next: u64,
     findings: FileState,
-    jobs: u32,
-    gate: &G,
-) -> Result<Worked, FileFault>
-    requires some_jobs { 1 ≤ jobs }
-    requires few_jobs { jobs ≤ 64 }
-    requires prepared { ArePrepared rules.now prepared.now }
-    requires may { AllZip MayRun rules.now prepared.now }
-    requires few { length rules.now < 2 ^ 32 }
-    requires within { number < length rules.now }
-    requires fresh { next ≤ 2 ^ 62 }
-    requires items { graphs.old.items ≡ file.now.items }
-    ensures worked { IfOk result (λ w. (s : Chained) → AreFindingsOf findings s → IsAtReading file.now next s
-        → LeadsOn defined.now rules.now number s (number + 1) w.findings w.text) }
+) -> Result<RuleOutcome, FileFault>
+    requires within { number < length rules.now.patch.now.rules }
+    requires items { graphs.old.items ≡ reading.now.file.now.items }
+    ensures outcome { IfOk result (λ w. (s : Chained) → AreFindingsOf findings s → IsAtReading reading.now.file.now reading.now.next s
+        → LeadsOn rules.now.defined.now rules.now.patch.now.rules number s (number + 1) w.findings w.text) }
     ensures fault { IfErr result (λ f. (f ≡ fault.NoMemory) ⊎ ((s : Chained) → AreFindingsOf findings s
-        → IsAtReading file.now next s → Runs defined.now number (drop number rules.now) s (Refused f))) }
+        → IsAtReading reading.now.file.now reading.now.next s
+        → Runs rules.now.defined.now number (drop number rules.now.patch.now.rules) s (Refused f))) }
     ensures items { graphs.new.items ≡ graphs.old.items }
 {
-    let rule = &rules[number];
-    let made = &prepared[number];
-    work(
-        rt,
-        alloc,
-        defined,
-        number as u32,
-        rule,
-        made,
-        file,
-        graphs,
-        next,
-        findings,
-        jobs,
-        gate,
-    )
+    let ready = rules.at(number);
+    run_rule(workers, &ready, reading, graphs, findings)
 }
 
 /// Runs the rules from the number `from` on over one reading, up to and including the first that edits.
 pub fn over_reading<R: Threads + Sync, G: Gate>(
-    rt: &R,
-    alloc: Global,
-    defined: &[Text],
-    rules: &[Rule],
-    prepared: &[PreparedRule],
+    workers: &Workers<'_, R, G>,
+    rules: &PatchRules<'_>,
     from: usize,
-    file: &CFile,
-    next: u64,
+    reading: &Reading<'_>,
     findings: FileState,
-    jobs: u32,
-    gate: &G,
 ) -> Result<Stopped, FileFault>
-    requires some_jobs { 1 ≤ jobs }
-    requires few_jobs { jobs ≤ 64 }
-    requires prepared { ArePrepared rules.now prepared.now }
-    requires may { AllZip MayRun rules.now prepared.now }
-    requires few { length rules.now < 2 ^ 32 }
-    requires within { from ≤ length rules.now }
-    requires fresh { next ≤ 2 ^ 62 }
-    ensures stopped { IfOk result (λ st. (s : Chained) → AreFindingsOf findings s → IsAtReading file.now next s
-        → LeadsOn defined.now rules.now from s st.done st.findings st.text) }
-    ensures within { IfOk result (λ st. st.done ≤ length rules.now) }
-    ensures last { IfOk result (λ st. st.text ≡ None → st.done ≡ length rules.now) }
+    requires within { from ≤ length rules.now.patch.now.rules }
+    ensures stopped { IfOk result (λ st. (s : Chained) → AreFindingsOf findings s → IsAtReading reading.now.file.now reading.now.next s
+        → LeadsOn rules.now.defined.now rules.now.patch.now.rules from s st.done st.findings st.text) }
+    ensures within { IfOk result (λ st. st.done ≤ length rules.now.patch.now.rules) }
+    ensures last { IfOk result (λ st. st.text ≡ None → st.done ≡ length rules.now.patch.now.rules) }
     ensures on { IfOk result (λ st. is_some st.text ≡ true → from < st.done) }
     ensures fault { IfErr result (λ f. (f ≡ fault.NoMemory) ⊎ ((s : Chained) → AreFindingsOf findings s
-        → IsAtReading file.now next s → Runs defined.now from (drop from rules.now) s (Refused f))) }
+        → IsAtReading reading.now.file.now reading.now.next s
+        → Runs rules.now.defined.now from (drop from rules.now.patch.now.rules) s (Refused f))) }
 {
-    let mut graphs = Graphs::new(alloc, file)?;
+    let mut graphs = Graphs::new(workers.alloc, reading.file)?;
     let mut findings = findings;
-    for number in from..rules.len() {
-        let worked = work_at(
-            rt,
-            alloc,
-            defined,
-            rules,
-            prepared,
-            number,
-            file,
-            &mut graphs,
-            next,
-            findings,
-            jobs,
-            gate,
-        )?;
-        let Worked {
+    let count = rules.count();
+    for number in from..count {
+        let outcome = run_at(workers, rules, number, reading, &mut graphs, findings)?;
+        let RuleOutcome {
             findings: left,
             text,
-        } = worked;
+        } = outcome;
         match text {
             None => findings = left,
             Some(text) => {
@@ -138,7 +85,7 @@ pub fn over_reading<R: Threads + Sync, G: Gate>(
     }
     Ok(Stopped {
         findings,
-        done: rules.len(),
+        done: count,
         text: None,
     })
 }

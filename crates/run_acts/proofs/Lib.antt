@@ -1,3 +1,4 @@
 pub mod BreaksLemmas
 pub mod Standing
 pub mod Examples
+pub mod PlacesLemmas

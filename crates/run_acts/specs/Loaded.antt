@@ -2,8 +2,8 @@
 use Rattle.std.specs.Prelude.{ℕ, ◌≡◌, ◌<◌, ◌≤◌, List, Option, Some, None, length, IsSome, IsSomeAnd}
 use Rattle.std.specs.FinMap.{get}
 use Rattle.outer_io.specs.Files.{Files}
-use Rattle.run_acts.specs.declared.outside.Loaded.{Loaded}
-use Rattle.run_acts.specs.declared.outside.Loaded.TheVariants.{Bytes, TooLong, Absent}
+use Rattle.run_acts.specs.declared.acts.Loaded.{Loaded}
+use Rattle.run_acts.specs.declared.acts.Loaded.TheVariants.{Bytes, TooLong, Absent}
 
 -- This may be stored under a name: what the shelf reports, or some bytes if it reports nothing.
 abbrev pub Found : Option Files → List ℕ → Option (List ℕ) → Type 0

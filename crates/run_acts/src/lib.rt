@@ -2,6 +2,7 @@
 //!
 //! - [`load`], [`store`], [`print`] and [`report`] do one act each. If an act fails, its line is put on the error output, and
 //!   [`Stopped`] says which [`Status`] the run ends with.
+//! - An [`Outside`] is what a run works on: a shelf, an output and an error output.
 //! - [`line_of`], [`cannot_read`], [`cannot_write`] and [`cannot_print`] return the texts of lines.
 //!
 //! The contracts are about acts, what the shelf and the two outputs report after them, and the counts of faults. The contract
@@ -13,10 +14,12 @@
 //! which acts a run does, and in which order.
 #![tactic(auto)]
 
+mod acts;
 mod lines;
-mod outside;
+mod places;
 mod status;
 
+pub use acts::{Loaded, load, print, report, store};
 pub use lines::{cannot_print, cannot_read, cannot_write, line_of};
-pub use outside::{Loaded, load, print, report, store};
+pub use places::Outside;
 pub use status::{Status, Stopped};

@@ -1,5 +1,5 @@
 -- How a text is treated, by how many of the acts that result from it were done.
-use Rattle.std.proofs.Common.{◌≡◌, ◌≤◌, ◌∙◌, true, false, Bool, cond, ℕ, List, length, [], ◌∷◌, ◌++◌}
+use Rattle.std.proofs.Common.{◌≡◌, ◌≤◌, ◌∙◌, true, false, not, Bool, cond, ℕ, List, length, [], ◌∷◌, ◌++◌}
 use Rattle.std.proofs.Common.{None, Some, Err, refl, sym, inl, inr, map, ap, subst, codes}
 use Rattle.std.specs.Prelude.{Option}
 use Rattle.std.specs.Fmt.{decimal}
@@ -19,7 +19,7 @@ use Rattle.rule_chain.specs.Results.{AnswersState, IsResult}
 use Rattle.run_words.specs.declared.order.Mode.{Mode}
 use Rattle.run_files.specs.RunLines.Files.{refused_line, skipped_line}
 use Rattle.run_files.specs.RunLines.Summary.{summary, rule_lines}
-use Rattle.run_files.specs.Treatment.{refuses, printing, shown, kept, skipped_lines, treated_by, summed_by, Treats, Sums}
+use Rattle.run_files.specs.Treatment.{refuses, printing, storing, shown, kept, skipped_lines, treated_by, summed_by, Treats, Sums}
 use Rattle.run_files.specs.Does.{Does, Stops}
 use Rattle.run_files.specs.Cuts.{TreatsAll, TreatsPart}
 use Rattle.run_files.specs.Cuts.TreatsPart.{earlier, later}
@@ -52,6 +52,22 @@ pub shown_report : (mode : Mode) (patch : Patch) (name : List ℕ) (s : Chained)
     → printing (report_of patch name s.found) ≡ shown mode patch name s
 shown_report mode patch name s is =
     sym (ap (λ (b : Bool). cond b (printing (report_of patch name s.found)) (cond mode.in_place [] (printing s.page.bytes))) is)
+
+pub shown_text : (mode : Mode) (patch : Patch) (name : List ℕ) (s : Chained) → mode.witnesses ≡ false → mode.in_place ≡ false
+    → printing s.page.bytes ≡ shown mode patch name s
+shown_text mode patch name s unasked off =
+    sym (ap (λ (b : Bool). cond b (printing (report_of patch name s.found)) (cond mode.in_place [] (printing s.page.bytes))) unasked
+    ∙ ap (λ (b : Bool). cond b [] (printing s.page.bytes)) off)
+
+is_on : (b : Bool) → not b ≡ false → b ≡ true
+is_on true e = refl
+is_on false e = sym e
+
+-- the text is stored if that is asked for
+pub kept_text : (mode : Mode) (name old text : List ℕ) (s : Chained) → not mode.in_place ≡ false → s.page.bytes ≡ text
+    → storing name old text ≡ kept mode name old s
+kept_text mode name old text s on same =
+    ap (storing name old) (sym same) ∙ sym (ap (λ (b : Bool). cond b (storing name old s.page.bytes) []) (is_on mode.in_place on))
 
 -- neither a report nor a summary is empty
 pub report_prints : (patch : Patch) (name : List ℕ) (ws : List RuleWitness) → Print (report_of patch name ws) ∷ [] ≡ printing (report_of patch name ws)

@@ -1,25 +1,15 @@
 -- What a patch makes of the bytes of a file: a result, or a refusal that is reported.
-use Rattle.std.specs.Prelude.{ℕ, ◌≡◌, ◌<◌, ◌^◌, List, [], ◌∷◌, Option, Some, None, length}
-use Rattle.std.specs.List.{AllZip}
+use Rattle.std.specs.Prelude.{ℕ, ◌≡◌, List, [], ◌∷◌, Option, Some, None}
 use Rattle.run_acts.specs.Acts.{Report, Told}
 use Rattle.smpl_patch.specs.declared.rule.Patch.{Patch}
-use Rattle.rule_envs.specs.declared.rule_formulas.prepared.Prepared.{Prepared}
-use Rattle.rule_envs.specs.RuleFormulas.Prepared.{ArePrepared}
 use Rattle.rule_chain.specs.declared.rule_work.fault.FileFault.{FileFault}
 use Rattle.rule_chain.specs.RuleWork.States.{Chained}
 use Rattle.rule_chain.specs.declared.state.Applied.{Applied}
-use Rattle.rule_chain.specs.Asked.{MayRun}
 use Rattle.rule_chain.specs.Chain.{Chain, Done, Refused}
 use Rattle.rule_chain.specs.Results.{AnswersState}
 use Rattle.run_files.specs.RunLines.Files.{refused_line}
 use Rattle.run_files.specs.Treatment.{Treated, refuses}
 use Rattle.run_files.specs.Does.{Does}
-
--- the rules of the patch may be run with these prepared rules
-pub record IsReady (patch : Patch) (prepared : Prepared) : Type 0 where
-  pub few : length patch.rules < 2 ^ 32
-  pub prepared_are : ArePrepared patch.rules prepared.rules
-  pub may : AllZip MayRun patch.rules prepared.rules
 
 -- the bytes are refused under the patch, and this is their treatment
 abbrev pub Refuses : Patch → List (List ℕ) → List ℕ → List ℕ → Treated → Type 0

@@ -3,7 +3,7 @@
 pub mod Treatment
 pub mod Does
 pub mod Cuts
--- When the rules of a patch may be run and, for internal use, what they make of the bytes of a file.
+-- For internal use: what the rules of a patch make of the bytes of a file.
 pub mod Applies
 -- What run_lines defines.
 pub mod RunLines

@@ -21,8 +21,8 @@ pub record Treated : Type 0 where
   pub acts : List Act
   pub refused : Bool
 
-abbrev pub brings : List Act → Treated
-brings acts = record { acts = acts; refused = false }
+abbrev pub effects : List Act → Treated
+effects acts = record { acts = acts; refused = false }
 
 -- a refused text leads to one line and nothing else
 abbrev pub refuses : List ℕ → Treated
@@ -56,12 +56,12 @@ kept mode name bytes s = cond mode.in_place (storing name bytes s.page.bytes) []
 
 -- what results from the outcome of the rules over a file
 abbrev pub treated_by : Mode → Patch → List ℕ → List ℕ → Outcome → Treated
-treated_by mode patch name bytes (Done s) = brings (skipped_lines name s ++ shown mode patch name s ++ kept mode name bytes s)
+treated_by mode patch name bytes (Done s) = effects (skipped_lines name s ++ shown mode patch name s ++ kept mode name bytes s)
 treated_by mode patch name bytes (Refused fault) = refuses (refused_line name fault)
 
 -- what results from the outcome of the rules over a generated text
 abbrev pub summed_by : Patch → List ℕ → Outcome → Treated
-summed_by patch name (Done s) = brings (skipped_lines name s ++ printing (summary patch.rules s.found (length s.page.bytes)))
+summed_by patch name (Done s) = effects (skipped_lines name s ++ printing (summary patch.rules s.found (length s.page.bytes)))
 summed_by patch name (Refused fault) = refuses (refused_line name fault)
 
 -- this is the treatment of the bytes of a file of this name: there are too many, or it follows from the outcome of the rules

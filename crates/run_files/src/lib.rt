@@ -1,12 +1,13 @@
 //! Applies a patch to one text, a file or a generated one, and outputs the result.
 //!
-//! - [`treat`] applies a patch to the bytes of a file and outputs the result: lines about skipped items, then the report or the
-//!   new text on the output, then the new text on the shelf. If the file is refused, it reports only the line of the refusal.
+//! - [`process_file`] applies a patch to the bytes of a file and outputs the result: lines about skipped items, then the report
+//!   or the new text on the output, then the new text on the shelf. If the file is refused, it reports only the line of the
+//!   refusal.
 //! - [`sum`] does the same for a generated text, and prints its summary.
 //! - [`refuse_long`] is for a file that is over its limit, and [`refuse_special`] for a pipe, a device or a socket.
 //!
-//! A [`Ready`] is a patch together with its prepared rules. Under a patch with one rule whose `- f(x);` matches, the file
-//! `void k(void) { f(1); }` named `k.c` leads to one act: its new text goes to the output or, with `in_place`, to the shelf.
+//! Under a patch with one rule whose `- f(x);` matches, the file `void k(void) { f(1); }` named `k.c` leads to one act: its new
+//! text goes to the output or, with `in_place`, to the shelf.
 //!
 //! spatch_run decides the order of the texts and the status.
 //!
@@ -18,14 +19,13 @@
 #![tactic(auto)]
 
 mod applies;
-mod brings;
+mod effects;
 mod laws;
+mod process;
 mod run_lines;
 mod run_stages;
-mod treats;
 
-pub use applies::Ready;
-pub use brings::{refuse_long, refuse_special};
+pub use effects::{refuse_long, refuse_special};
 pub use laws::refusals_say_why;
+pub use process::{process_file, sum};
 pub use run_lines::{forms_line, iso_fault_line, patch_fault_line, usage};
-pub use treats::{sum, treat};

@@ -8,7 +8,6 @@
 #![tactic(auto)]
 
 mod files;
-mod line;
 mod patches;
 mod sums;
 

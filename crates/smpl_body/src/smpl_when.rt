@@ -18,7 +18,6 @@ ghost use Rattle.smpl_body.specs.SmplWhen.Grammar.{IsCut, IsParted, Parts, Apart
 
 mod clauses;
 mod cutting;
-mod words;
 
 pub use clauses::{Clauses, WhenFlags};
 pub use cutting::{Code, Cutting, OpenCode, Where, cut};

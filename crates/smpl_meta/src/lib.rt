@@ -4,6 +4,7 @@
 //!   depends on, its mode, and its variables ([`RuleHead`]). [`read_decls`] reads declarations alone.
 //! - [`Earlier`] is what precedes a rule: the names of `virtual` lines, and the heads of earlier rules, found by name.
 //! - [`pattern_tokens`] returns the tokens of a body's patterns in order ([`Placed`]). [`made`] makes one such token.
+//! - [`is_host`], [`is_word`] and [`is_differs`] say what such a token is in a `when` clause.
 //! - [`headers_are_spelled`], [`headers_have_conditions`] and [`heads_are_read_once`] are laws.
 //!
 //! After a `virtual v` and a rule `r` that declares `x`, `@s depends on !(v && ever r)@`, `expression r.x;`,
@@ -28,6 +29,7 @@ ghost use Rattle.smpl_meta.specs.Heads.{IsHead, IsHeadFault, IsHeadIn, IsHeadFau
 ghost use Rattle.smpl_meta.specs.Spelled.{IsHeader, StopsAt};
 ghost use Rattle.smpl_meta.specs.Shunting.{head_of};
 
+mod clause_words;
 mod decls;
 mod depends;
 mod earlier;
@@ -51,6 +53,7 @@ use crate::decls::{Declared, declare};
 use crate::depends::dep_of;
 use crate::header::{depends_tokens, mode_of, name_text, name_token, with_name, with_unknown};
 use c_terms::NoMemory;
+pub use clause_words::{is_differs, is_host, is_word};
 pub use earlier::Earlier;
 pub use head::RuleHead;
 pub use item::{DeclKind, Item, Named};

@@ -1,10 +1,9 @@
 // The tokens in `when` clauses.
 ghost use Rattle.std.specs.Prelude.{◌≡◌, IfOk};
-ghost use Rattle.smpl_meta.specs.Patterns as patterns;
 ghost use Rattle.smpl_plus.specs.Outside as spec;
 
 use c_terms::{NoMemory, TokenKind};
-use smpl_meta::Placed;
+use smpl_meta::{Placed, is_differs, is_host, is_word};
 use sqlite_items::Items;
 use std::alloc::Global;
 
@@ -26,38 +25,6 @@ pub enum Where {
 pub struct Standing {
     pub outside: bool,
     pub next: Where,
-}
-
-fn is_host(p: &Placed) -> bool
-    ensures { result ≡ patterns.is_host_of p.now.token.kind p.now.token.text }
-{
-    match p.token.kind {
-        TokenKind::Dots => true,
-        TokenKind::Pat => {
-            let text = p.token.text.as_bytes();
-            text == b"...>".as_slice() || text == b"...+>".as_slice()
-        }
-        _ => false,
-    }
-}
-
-fn is_word(p: &Placed, text: &[u8]) -> bool
-    ensures { result ≡ patterns.is_word text.now p.now }
-{
-    match p.token.kind {
-        TokenKind::Name => p.token.text.as_bytes() == text,
-        TokenKind::Meta(_) => p.token.text.as_bytes() == text,
-        _ => false,
-    }
-}
-
-fn is_differs(p: &Placed) -> bool
-    ensures { result ≡ patterns.is_differs p.now }
-{
-    match p.token.kind {
-        TokenKind::Punct => p.token.text.as_bytes() == b"!=".as_slice(),
-        _ => false,
-    }
 }
 
 fn outside(p: &Placed) -> Standing

@@ -1,5 +1,5 @@
 -- How a run ends by its words; a run in which nothing fails does all its acts.
-use Rattle.std.proofs.Common.{◌≡◌, ℕ, ◌⊎◌, List, inl, inr, ◌∙◌}
+use Rattle.std.proofs.Common.{◌≡◌, ℕ, ◌⊎◌, List, inl, inr, ◌∙◌, subst}
 use Rattle.run_acts.specs.Acts.{Told}
 use Rattle.run_acts.specs.Breaks.{Counts, NoneRose}
 use Rattle.run_acts.proofs.BreaksLemmas.{not_failed}
@@ -42,3 +42,8 @@ module _ {words : List (List ℕ)} {before now : Counts} {old new : Told} {statu
     | inl all ↦ all
     | inr seven ↦ absurd (memory seven)
   ]
+
+-- what holds of the shelf and the outputs holds of equal ones
+pub of_equal : {S O E : Type 0} (P : S → O → E → Type 0) {s s' : S} {o o' : O} {e e' : E} → P s o e → s ≡ s' → o ≡ o' → e ≡ e' → P s' o' e'
+of_equal P {s' = s'} {o = o} {o' = o'} {e = e} h one two three =
+    subst (λ z. P s' o' z) three (subst (λ y. P s' y e) two (subst (λ x. P x o e) one h))

@@ -2,8 +2,8 @@
 ghost use Rattle.std.specs.Prelude.{◌≡◌, ◌||◌, [], false, Bool, List, ℕ, map, IfOk, IfErr};
 ghost use Rattle.run_acts.specs.Acts.{told};
 ghost use Rattle.run_acts.specs.Breaks.{counts, NoneFell};
+ghost use Rattle.run_acts.specs.Places.{SamePlaces};
 ghost use Rattle.run_acts.specs.Statuses.{number_of, status_of};
-ghost use Rattle.run_files.specs.Applies.{IsReady};
 ghost use Rattle.run_files.specs.RunStages.Stages.{Doing, EditFiles, going, end_status};
 ghost use Rattle.spatch_run.specs.Turns.{TurnsTo};
 ghost use Rattle.run_files.specs.RunStages.Ends.{Ends};
@@ -12,11 +12,11 @@ ghost use Rattle.spatch_run.specs.Answer.{answer};
 use crate::refusals::refuse_absent;
 use c_lexer::MOST_BYTES;
 use outer_io::{Shelf, Sink};
-use par_match::Gate;
-use run_acts::{Loaded, Status, Stopped, load};
-use run_files::{Ready, refuse_long, refuse_special, treat};
+use par_match::{Gate, Workers};
+use rule_chain::PatchRules;
+use run_acts::{Loaded, Outside, Status, Stopped, load};
+use run_files::{process_file, refuse_long, refuse_special};
 use run_words::Mode;
-use std::alloc::Global;
 use std::thread::Threads;
 
 const FILE_LIMIT: u64 = MOST_BYTES as u64;
@@ -48,71 +48,64 @@ pub enum Turn {
 
 /// Loads a file and treats it. A pipe, a device or a socket is refused and not loaded.
 fn take_turn<R: Threads + Sync, S: Shelf, O: Sink, E: Sink, G: Gate>(
-    rt: &R,
-    alloc: Global,
-    ready: &Ready<'_>,
+    workers: &Workers<'_, R, G>,
+    rules: &PatchRules<'_>,
     mode: Mode,
     name: &str,
-    shelf: &mut S,
-    out: &mut O,
-    err: &mut E,
-    gate: &G,
+    outside: &mut Outside<'_, '_, '_, S, O, E>,
 ) -> Result<Turn, Stopped>
-    requires ready { IsReady ready.now.patch.now ready.now.prepared.now }
-    ensures turned { IfOk result (λ turned. TurnsTo turned ready.now.patch.now ready.now.defined.now mode name.now
-        (told (S.holds shelf.old) (S.stores shelf.old) (O.written out.old) (E.written err.old))
-        (told (S.holds shelf.new) (S.stores shelf.new) (O.written out.new) (E.written err.new))) }
+    ensures same { SamePlaces outside.old outside.new }
+    ensures turned { IfOk result (λ turned. TurnsTo turned rules.now.patch.now rules.now.defined.now mode name.now
+        (told (S.holds outside.old.shelf.now) (S.stores outside.old.shelf.now) (O.written outside.old.out.now) (E.written outside.old.err.now))
+        (told (S.holds outside.new.shelf.now) (S.stores outside.new.shelf.now) (O.written outside.new.out.now) (E.written outside.new.err.now))) }
     ensures fell { NoneFell
-        (counts (S.faults shelf.old) (O.faults out.old) (E.faults err.old))
-        (counts (S.faults shelf.new) (O.faults out.new) (E.faults err.new)) }
+        (counts (S.faults outside.old.shelf.now) (O.faults outside.old.out.now) (E.faults outside.old.err.now))
+        (counts (S.faults outside.new.shelf.now) (O.faults outside.new.out.now) (E.faults outside.new.err.now)) }
     ensures stopped { IfErr result (λ stopped. (names : List (List ℕ)) (refused : Bool) →
-        Ends (Doing [] (EditFiles ready.now.patch.now ready.now.defined.now mode name.now names refused))
-        (counts (S.faults shelf.old) (O.faults out.old) (E.faults err.old))
-        (counts (S.faults shelf.new) (O.faults out.new) (E.faults err.new))
-        (told (S.holds shelf.old) (S.stores shelf.old) (O.written out.old) (E.written err.old))
-        (told (S.holds shelf.new) (S.stores shelf.new) (O.written out.new) (E.written err.new))
+        Ends (Doing [] (EditFiles rules.now.patch.now rules.now.defined.now mode name.now names refused))
+        (counts (S.faults outside.old.shelf.now) (O.faults outside.old.out.now) (E.faults outside.old.err.now))
+        (counts (S.faults outside.new.shelf.now) (O.faults outside.new.out.now) (E.faults outside.new.err.now))
+        (told (S.holds outside.old.shelf.now) (S.stores outside.old.shelf.now) (O.written outside.old.out.now) (E.written outside.old.err.now))
+        (told (S.holds outside.new.shelf.now) (S.stores outside.new.shelf.now) (O.written outside.new.out.now) (E.written outside.new.err.now))
         (status_of stopped)) }
 {
-    if shelf.is_special(name) {
-        refuse_special(alloc, err, name)?;
+    let alloc = workers.alloc;
+    if outside.shelf.is_special(name) {
+        refuse_special(alloc, outside.err, name)?;
         return Ok(Turn::Treated(true));
     }
-    let bytes = match load(alloc, shelf, err, name, FILE_LIMIT)? {
+    let bytes = match load(alloc, outside.shelf, outside.err, name, FILE_LIMIT)? {
         Loaded::Bytes(bytes) => bytes,
         Loaded::TooLong => {
-            refuse_long(alloc, err, name)?;
+            refuse_long(alloc, outside.err, name)?;
             return Ok(Turn::Treated(true));
         }
         Loaded::Absent => return Ok(Turn::Absent),
     };
-    let refused = treat(rt, alloc, ready, mode, name, bytes, shelf, out, err, gate)?;
+    let refused = process_file(workers, rules, mode, name, bytes, outside)?;
     Ok(Turn::Treated(refused))
 }
 
 /// Loads and treats the files in turn, up to the last one or to a name under which nothing is stored.
 pub fn edit_files<R: Threads + Sync, S: Shelf, O: Sink, E: Sink, G: Gate>(
-    rt: &R,
-    alloc: Global,
-    ready: &Ready<'_>,
+    workers: &Workers<'_, R, G>,
+    rules: &PatchRules<'_>,
     mode: Mode,
     names: &[&str],
-    shelf: &mut S,
-    out: &mut O,
-    err: &mut E,
-    gate: &G,
+    outside: &mut Outside<'_, '_, '_, S, O, E>,
 ) -> Result<Status, Stopped>
-    requires ready { IsReady ready.now.patch.now ready.now.prepared.now }
-    ensures ends { Ends (going [] ready.now.patch.now ready.now.defined.now mode (map (λ name. name.now) names.now) false)
-        (counts (S.faults shelf.old) (O.faults out.old) (E.faults err.old))
-        (counts (S.faults shelf.new) (O.faults out.new) (E.faults err.new))
-        (told (S.holds shelf.old) (S.stores shelf.old) (O.written out.old) (E.written err.old))
-        (told (S.holds shelf.new) (S.stores shelf.new) (O.written out.new) (E.written err.new))
+    ensures same { SamePlaces outside.old outside.new }
+    ensures ends { Ends (going [] rules.now.patch.now rules.now.defined.now mode (map (λ name. name.now) names.now) false)
+        (counts (S.faults outside.old.shelf.now) (O.faults outside.old.out.now) (E.faults outside.old.err.now))
+        (counts (S.faults outside.new.shelf.now) (O.faults outside.new.out.now) (E.faults outside.new.err.now))
+        (told (S.holds outside.old.shelf.now) (S.stores outside.old.shelf.now) (O.written outside.old.out.now) (E.written outside.old.err.now))
+        (told (S.holds outside.new.shelf.now) (S.stores outside.new.shelf.now) (O.written outside.new.out.now) (E.written outside.new.err.now))
         (answer result) }
 {
     let mut refused = false;
     for name in names {
-        match take_turn(rt, alloc, ready, mode, name, shelf, out, err, gate)? {
-            Turn::Absent => return refuse_absent(alloc, err, name),
+        match take_turn(workers, rules, mode, name, outside)? {
+            Turn::Absent => return refuse_absent(workers.alloc, outside.err, name),
             Turn::Treated(here) => refused = either(refused, here),
         }
     }

@@ -20,6 +20,7 @@ ghost use Rattle.run_files.specs.RunStages.Promise.{IsExact, EndsRightly};
 ghost use Rattle.run_files.specs.RunStages.Causes.{Causes};
 
 mod files;
+mod host;
 mod laws;
 mod refusals;
 mod run_ends;
@@ -27,10 +28,12 @@ mod run_laws;
 mod stages;
 mod texts;
 
+use crate::host::Host;
 use crate::run_laws::statuses_have_a_cause;
 use c_terms::Text;
 use outer_io::{Shelf, Sink};
 use par_match::Gate;
+use run_acts::Outside;
 pub use run_acts::Status;
 pub use run_ends::{jobs_leave_acts, runs_are_complete, words_have_acts};
 pub use run_laws::acts_are_one_list;
@@ -55,7 +58,7 @@ pub fn run<R: AllocGlobal + Threads + Sync, S: Shelf, O: Sink, E: Sink, G: Gate>
         (told (S.holds shelf.new) (S.stores shelf.new) (O.written out.new) (E.written err.new))
         result }
 
-    // Otherwise the acts done are a prefix of them, and the next one failed or ran out of memory.
+    // However it ends, all of these acts are done, or a prefix of them, and then the next one failed or memory ran out.
     ensures ends { EndsRightly words.now
         (counts (S.faults shelf.old) (O.faults out.old) (E.faults err.old))
         (counts (S.faults shelf.new) (O.faults out.new) (E.faults err.new))
@@ -68,7 +71,7 @@ pub fn run<R: AllocGlobal + Threads + Sync, S: Shelf, O: Sink, E: Sink, G: Gate>
         (counts (S.faults shelf.old) (O.faults out.old) (E.faults err.old))
         (counts (S.faults shelf.new) (O.faults out.new) (E.faults err.new)) }
 
-    // Each status is returned for its cause, and must be returned if nothing fails.
+    // Each status has its cause. If the shelf reports its files and no count rises, a status that has a reason is returned, or 7.
     ensures causes { Causes words.now
         (counts (S.faults shelf.old) (O.faults out.old) (E.faults err.old))
         (counts (S.faults shelf.new) (O.faults out.new) (E.faults err.new))
@@ -76,6 +79,13 @@ pub fn run<R: AllocGlobal + Threads + Sync, S: Shelf, O: Sink, E: Sink, G: Gate>
         (told (S.holds shelf.new) (S.stores shelf.new) (O.written out.new) (E.written err.new))
         result }
 {
+    // A law: does nothing. The proof of `causes` needs its contract.
     statuses_have_a_cause();
-    status_of(follow_words(rt, rt.alloc(), words, shelf, out, err, gate)).number()
+    let host = Host {
+        rt,
+        alloc: rt.alloc(),
+        gate,
+    };
+    let mut outside = Outside { shelf, out, err };
+    status_of(follow_words(&host, words, &mut outside)).number()
 }

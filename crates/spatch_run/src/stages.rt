@@ -4,6 +4,7 @@ ghost use Rattle.std.specs.List.{list_all};
 ghost use Rattle.std.specs.Str.{is_utf8};
 ghost use Rattle.run_acts.specs.Acts.{told};
 ghost use Rattle.run_acts.specs.Breaks.{counts};
+ghost use Rattle.run_acts.specs.Places.{SamePlaces};
 ghost use Rattle.run_acts.specs.Statuses.{number_of};
 ghost use Rattle.ctl_translate.specs.declared.rule.FormulaFault.{FormulaFault as Fault};
 ghost use Rattle.ctl_translate.specs.declared.rule.FormulaFault.TheVariants as formula_fault;
@@ -18,6 +19,7 @@ ghost use Rattle.spatch_run.specs.Answer.{answer};
 ghost use Rattle.spatch_run.specs.Usable.{IsUsable};
 
 use crate::files::edit_files;
+use crate::host::Host;
 use crate::laws::patches_may_be_used;
 use crate::refusals::{refuse_absent, refuse_forms, refuse_isos, refuse_patch, refuse_words};
 use crate::texts::{print_text, sum_text};
@@ -26,10 +28,10 @@ use ctl_translate::FormulaFault;
 use iso_expand::{ExpandFault, expand};
 use iso_file::{IsoFault, read_isos};
 use outer_io::{Shelf, Sink};
-use par_match::Gate;
+use par_match::{Gate, Workers};
+use rule_chain::PatchRules;
 use rule_envs::{Prepared, prepare};
-use run_acts::{Loaded, Status, Stopped, load};
-use run_files::Ready;
+use run_acts::{Loaded, Outside, Status, Stopped, load};
 use run_words::{Order, PatchOrder, Target, order_of, texts_of};
 use smpl_file::read_patch;
 use smpl_patch::{Iso, Patch, PatchFault};
@@ -51,51 +53,51 @@ pub fn status_of(end: Result<Status, Stopped>) -> Status
 
 /// Reads the words and does what they ask for.
 pub fn follow_words<R: Threads + Sync, S: Shelf, O: Sink, E: Sink, G: Gate>(
-    rt: &R,
-    alloc: Global,
+    host: &Host<'_, R, G>,
     words: &[Text],
-    shelf: &mut S,
-    out: &mut O,
-    err: &mut E,
-    gate: &G,
+    outside: &mut Outside<'_, '_, '_, S, O, E>,
 ) -> Result<Status, Stopped>
+    ensures same { SamePlaces outside.old outside.new }
     ensures ends { Follows words.now
-        (counts (S.faults shelf.old) (O.faults out.old) (E.faults err.old))
-        (counts (S.faults shelf.new) (O.faults out.new) (E.faults err.new))
-        (told (S.holds shelf.old) (S.stores shelf.old) (O.written out.old) (E.written err.old))
-        (told (S.holds shelf.new) (S.stores shelf.new) (O.written out.new) (E.written err.new))
+        (counts (S.faults outside.old.shelf.now) (O.faults outside.old.out.now) (E.faults outside.old.err.now))
+        (counts (S.faults outside.new.shelf.now) (O.faults outside.new.out.now) (E.faults outside.new.err.now))
+        (told (S.holds outside.old.shelf.now) (S.stores outside.old.shelf.now) (O.written outside.old.out.now) (E.written outside.old.err.now))
+        (told (S.holds outside.new.shelf.now) (S.stores outside.new.shelf.now) (O.written outside.new.out.now) (E.written outside.new.err.now))
         (answer result) }
 {
-    match texts_of(alloc, words) {
+    match texts_of(host.alloc, words) {
         Err(NoMemory) => Err(Stopped::NoMemory),
-        Ok(None) => refuse_words(err),
-        Ok(Some(texts)) => follow_texts(rt, alloc, &texts, shelf, out, err, gate),
+        Ok(None) => refuse_words(outside.err),
+        Ok(Some(texts)) => follow_texts(host, &texts, outside),
     }
 }
 
 /// Reads the words, which are text, and does what they ask for.
 fn follow_texts<R: Threads + Sync, S: Shelf, O: Sink, E: Sink, G: Gate>(
-    rt: &R,
-    alloc: Global,
+    host: &Host<'_, R, G>,
     texts: &[&str],
-    shelf: &mut S,
-    out: &mut O,
-    err: &mut E,
-    gate: &G,
+    outside: &mut Outside<'_, '_, '_, S, O, E>,
 ) -> Result<Status, Stopped>
     requires texts { list_all is_utf8 (map (λ t. t.now) texts.now) ≡ true }
+    ensures same { SamePlaces outside.old outside.new }
     ensures ends { Follows (map (λ t. t.now) texts.now)
-        (counts (S.faults shelf.old) (O.faults out.old) (E.faults err.old))
-        (counts (S.faults shelf.new) (O.faults out.new) (E.faults err.new))
-        (told (S.holds shelf.old) (S.stores shelf.old) (O.written out.old) (E.written err.old))
-        (told (S.holds shelf.new) (S.stores shelf.new) (O.written out.new) (E.written err.new))
+        (counts (S.faults outside.old.shelf.now) (O.faults outside.old.out.now) (E.faults outside.old.err.now))
+        (counts (S.faults outside.new.shelf.now) (O.faults outside.new.out.now) (E.faults outside.new.err.now))
+        (told (S.holds outside.old.shelf.now) (S.stores outside.old.shelf.now) (O.written outside.old.out.now) (E.written outside.old.err.now))
+        (told (S.holds outside.new.shelf.now) (S.stores outside.new.shelf.now) (O.written outside.new.out.now) (E.written outside.new.err.now))
         (answer result) }
 {
-    match order_of(alloc, texts) {
+    match order_of(host.alloc, texts) {
         Err(NoMemory) => Err(Stopped::NoMemory),
-        Ok(None) => refuse_words(err),
-        Ok(Some(Order::Generate(seed, functions))) => print_text(alloc, seed, functions, out, err),
-        Ok(Some(Order::Apply(order))) => follow_order(rt, alloc, &order, shelf, out, err, gate),
+        Ok(None) => refuse_words(outside.err),
+        Ok(Some(Order::Generate(seed, functions))) => print_text(
+            host.alloc,
+            seed,
+            functions,
+            outside.out,
+            outside.err,
+        ),
+        Ok(Some(Order::Apply(order))) => follow_order(host, &order, outside),
     }
 }
 
@@ -108,62 +110,63 @@ fn is_no_memory(fault: &PatchFault) -> bool
 
 /// Loads and reads the patch, and continues with it.
 fn follow_order<R: Threads + Sync, S: Shelf, O: Sink, E: Sink, G: Gate>(
-    rt: &R,
-    alloc: Global,
+    host: &Host<'_, R, G>,
     order: &PatchOrder<'_>,
-    shelf: &mut S,
-    out: &mut O,
-    err: &mut E,
-    gate: &G,
+    outside: &mut Outside<'_, '_, '_, S, O, E>,
 ) -> Result<Status, Stopped>
     requires few { few_functions order.now.target }
+    ensures same { SamePlaces outside.old outside.new }
     ensures ends { Ends (Doing [] (ReadPatch order.now.patch.now (shown_isos order.now.isos) order.now.defined.items (shown_target order.now.target)))
-        (counts (S.faults shelf.old) (O.faults out.old) (E.faults err.old))
-        (counts (S.faults shelf.new) (O.faults out.new) (E.faults err.new))
-        (told (S.holds shelf.old) (S.stores shelf.old) (O.written out.old) (E.written err.old))
-        (told (S.holds shelf.new) (S.stores shelf.new) (O.written out.new) (E.written err.new))
+        (counts (S.faults outside.old.shelf.now) (O.faults outside.old.out.now) (E.faults outside.old.err.now))
+        (counts (S.faults outside.new.shelf.now) (O.faults outside.new.out.now) (E.faults outside.new.err.now))
+        (told (S.holds outside.old.shelf.now) (S.stores outside.old.shelf.now) (O.written outside.old.out.now) (E.written outside.old.err.now))
+        (told (S.holds outside.new.shelf.now) (S.stores outside.new.shelf.now) (O.written outside.new.out.now) (E.written outside.new.err.now))
         (answer result) }
 {
-    let bytes = match load(alloc, shelf, err, order.patch, PATCH_LIMIT)? {
+    let alloc = host.alloc;
+    let bytes = match load(alloc, outside.shelf, outside.err, order.patch, PATCH_LIMIT)? {
         Loaded::Bytes(bytes) => bytes,
-        Loaded::TooLong => return refuse_patch(alloc, err, order.patch, &PatchFault::PatchTooLong),
-        Loaded::Absent => return refuse_absent(alloc, err, order.patch),
+        Loaded::TooLong => return refuse_patch(
+            alloc,
+            outside.err,
+            order.patch,
+            &PatchFault::PatchTooLong,
+        ),
+        Loaded::Absent => return refuse_absent(alloc, outside.err, order.patch),
     };
     match read_patch(alloc, &bytes) {
-        Ok(patch) => give_forms(rt, alloc, order, patch, shelf, out, err, gate),
+        Ok(patch) => give_forms(host, order, patch, outside),
         Err(fault) => {
             if is_no_memory(&fault) {
                 return Err(Stopped::NoMemory);
             }
-            refuse_patch(alloc, err, order.patch, &fault)
+            refuse_patch(alloc, outside.err, order.patch, &fault)
         }
     }
 }
 
 /// Gives the patch its forms if isomorphisms are named, and continues with it.
 fn give_forms<R: Threads + Sync, S: Shelf, O: Sink, E: Sink, G: Gate>(
-    rt: &R,
-    alloc: Global,
+    host: &Host<'_, R, G>,
     order: &PatchOrder<'_>,
     patch: Patch,
-    shelf: &mut S,
-    out: &mut O,
-    err: &mut E,
-    gate: &G,
+    outside: &mut Outside<'_, '_, '_, S, O, E>,
 ) -> Result<Status, Stopped>
     requires few { few_functions order.now.target }
     requires read { (bytes : List ℕ) × IsPatchOf bytes patch }
+    ensures same { SamePlaces outside.old outside.new }
     ensures ends { LeadsBy (ReadLeads patch (shown_isos order.now.isos) order.now.defined.items (shown_target order.now.target))
-        (counts (S.faults shelf.old) (O.faults out.old) (E.faults err.old))
-        (counts (S.faults shelf.new) (O.faults out.new) (E.faults err.new))
-        (told (S.holds shelf.old) (S.stores shelf.old) (O.written out.old) (E.written err.old))
-        (told (S.holds shelf.new) (S.stores shelf.new) (O.written out.new) (E.written err.new))
+        (counts (S.faults outside.old.shelf.now) (O.faults outside.old.out.now) (E.faults outside.old.err.now))
+        (counts (S.faults outside.new.shelf.now) (O.faults outside.new.out.now) (E.faults outside.new.err.now))
+        (told (S.holds outside.old.shelf.now) (S.stores outside.old.shelf.now) (O.written outside.old.out.now) (E.written outside.old.err.now))
+        (told (S.holds outside.new.shelf.now) (S.stores outside.new.shelf.now) (O.written outside.new.out.now) (E.written outside.new.err.now))
         (answer result) }
 {
+    // A law: does nothing. What follows needs its contract.
     patches_may_be_used();
     match order.isos {
-        None => use_patch(rt, alloc, order, &patch, shelf, out, err, gate),
-        Some(name) => load_isos(rt, alloc, order, patch, name, shelf, out, err, gate),
+        None => use_patch(host, order, &patch, outside),
+        Some(name) => load_isos(host, order, patch, name, outside),
     }
 }
 
@@ -176,79 +179,64 @@ fn is_no_memory_for_isos(fault: IsoFault) -> bool
 
 /// Loads and reads the isomorphisms, and continues with the patch under them.
 fn load_isos<R: Threads + Sync, S: Shelf, O: Sink, E: Sink, G: Gate>(
-    rt: &R,
-    alloc: Global,
+    host: &Host<'_, R, G>,
     order: &PatchOrder<'_>,
     patch: Patch,
     name: &str,
-    shelf: &mut S,
-    out: &mut O,
-    err: &mut E,
-    gate: &G,
+    outside: &mut Outside<'_, '_, '_, S, O, E>,
 ) -> Result<Status, Stopped>
     requires few { few_functions order.now.target }
     requires read { (bytes : List ℕ) × IsPatchOf bytes patch }
+    ensures same { SamePlaces outside.old outside.new }
     ensures ends { Ends (Doing [] (ReadIsos patch name.now order.now.defined.items (shown_target order.now.target)))
-        (counts (S.faults shelf.old) (O.faults out.old) (E.faults err.old))
-        (counts (S.faults shelf.new) (O.faults out.new) (E.faults err.new))
-        (told (S.holds shelf.old) (S.stores shelf.old) (O.written out.old) (E.written err.old))
-        (told (S.holds shelf.new) (S.stores shelf.new) (O.written out.new) (E.written err.new))
+        (counts (S.faults outside.old.shelf.now) (O.faults outside.old.out.now) (E.faults outside.old.err.now))
+        (counts (S.faults outside.new.shelf.now) (O.faults outside.new.out.now) (E.faults outside.new.err.now))
+        (told (S.holds outside.old.shelf.now) (S.stores outside.old.shelf.now) (O.written outside.old.out.now) (E.written outside.old.err.now))
+        (told (S.holds outside.new.shelf.now) (S.stores outside.new.shelf.now) (O.written outside.new.out.now) (E.written outside.new.err.now))
         (answer result) }
 {
-    let bytes = match load(alloc, shelf, err, name, PATCH_LIMIT)? {
+    let alloc = host.alloc;
+    let bytes = match load(alloc, outside.shelf, outside.err, name, PATCH_LIMIT)? {
         Loaded::Bytes(bytes) => bytes,
-        Loaded::TooLong => return refuse_isos(alloc, err, name, IsoFault::TooLong),
-        Loaded::Absent => return refuse_absent(alloc, err, name),
+        Loaded::TooLong => return refuse_isos(alloc, outside.err, name, IsoFault::TooLong),
+        Loaded::Absent => return refuse_absent(alloc, outside.err, name),
     };
     match read_isos(alloc, &bytes) {
-        Ok(isos) => expand_patch(
-            rt,
-            alloc,
-            order,
-            patch,
-            name,
-            isos.as_slice(),
-            shelf,
-            out,
-            err,
-            gate,
-        ),
+        Ok(isos) => expand_patch(host, order, patch, name, isos.as_slice(), outside),
         Err(fault) => {
             if is_no_memory_for_isos(fault) {
                 return Err(Stopped::NoMemory);
             }
-            refuse_isos(alloc, err, name, fault)
+            refuse_isos(alloc, outside.err, name, fault)
         }
     }
 }
 
 /// Gives the patch its forms under the isomorphisms of this name, and continues with it.
 fn expand_patch<R: Threads + Sync, S: Shelf, O: Sink, E: Sink, G: Gate>(
-    rt: &R,
-    alloc: Global,
+    host: &Host<'_, R, G>,
     order: &PatchOrder<'_>,
     patch: Patch,
     name: &str,
     isos: &[Iso],
-    shelf: &mut S,
-    out: &mut O,
-    err: &mut E,
-    gate: &G,
+    outside: &mut Outside<'_, '_, '_, S, O, E>,
 ) -> Result<Status, Stopped>
     requires few { few_functions order.now.target }
     requires read { (bytes : List ℕ) × IsPatchOf bytes patch }
+    ensures same { SamePlaces outside.old outside.new }
     ensures ends { LeadsBy (IsosLead isos.now patch name.now order.now.defined.items (shown_target order.now.target))
-        (counts (S.faults shelf.old) (O.faults out.old) (E.faults err.old))
-        (counts (S.faults shelf.new) (O.faults out.new) (E.faults err.new))
-        (told (S.holds shelf.old) (S.stores shelf.old) (O.written out.old) (E.written err.old))
-        (told (S.holds shelf.new) (S.stores shelf.new) (O.written out.new) (E.written err.new))
+        (counts (S.faults outside.old.shelf.now) (O.faults outside.old.out.now) (E.faults outside.old.err.now))
+        (counts (S.faults outside.new.shelf.now) (O.faults outside.new.out.now) (E.faults outside.new.err.now))
+        (told (S.holds outside.old.shelf.now) (S.stores outside.old.shelf.now) (O.written outside.old.out.now) (E.written outside.old.err.now))
+        (told (S.holds outside.new.shelf.now) (S.stores outside.new.shelf.now) (O.written outside.new.out.now) (E.written outside.new.err.now))
         (answer result) }
 {
+    // A law: does nothing. What follows needs its contract.
     patches_may_be_used();
-    match expand(alloc, patch, isos) {
-        Ok(whole) => use_patch(rt, alloc, order, &whole, shelf, out, err, gate),
+    match expand(host.alloc, patch, isos) {
+        Ok(whole) => use_patch(host, order, &whole, outside),
         Err(ExpandFault::NoMemory) => Err(Stopped::NoMemory),
-        Err(ExpandFault::TooManyForms(rule)) => refuse_forms(alloc, err, name, rule),
+        Err(ExpandFault::TooManyForms(rule)) => refuse_forms(host.alloc, outside.err, name, rule),
     }
 }
 
@@ -276,37 +264,42 @@ fn prepared(alloc: Global, patch: &Patch) -> Result<Prepared, NoMemory>
 
 /// Applies the patch to what the order names.
 fn use_patch<R: Threads + Sync, S: Shelf, O: Sink, E: Sink, G: Gate>(
-    rt: &R,
-    alloc: Global,
+    host: &Host<'_, R, G>,
     order: &PatchOrder<'_>,
     patch: &Patch,
-    shelf: &mut S,
-    out: &mut O,
-    err: &mut E,
-    gate: &G,
+    outside: &mut Outside<'_, '_, '_, S, O, E>,
 ) -> Result<Status, Stopped>
     requires few { few_functions order.now.target }
     requires usable { IsUsable patch.now }
+    ensures same { SamePlaces outside.old outside.new }
     ensures ends { LeadsBy (TargetLeads patch.now order.now.defined.items (shown_target order.now.target))
-        (counts (S.faults shelf.old) (O.faults out.old) (E.faults err.old))
-        (counts (S.faults shelf.new) (O.faults out.new) (E.faults err.new))
-        (told (S.holds shelf.old) (S.stores shelf.old) (O.written out.old) (E.written err.old))
-        (told (S.holds shelf.new) (S.stores shelf.new) (O.written out.new) (E.written err.new))
+        (counts (S.faults outside.old.shelf.now) (O.faults outside.old.out.now) (E.faults outside.old.err.now))
+        (counts (S.faults outside.new.shelf.now) (O.faults outside.new.out.now) (E.faults outside.new.err.now))
+        (told (S.holds outside.old.shelf.now) (S.stores outside.old.shelf.now) (O.written outside.old.out.now) (E.written outside.old.err.now))
+        (told (S.holds outside.new.shelf.now) (S.stores outside.new.shelf.now) (O.written outside.new.out.now) (E.written outside.new.err.now))
         (answer result) }
 {
-    let prepared = prepared(alloc, patch)?;
-    let ready = Ready {
+    let prepared = prepared(host.alloc, patch)?;
+    let workers = Workers {
+        rt: host.rt,
+        alloc: host.alloc,
+        gate: host.gate,
+        jobs: order.jobs,
+    };
+    let rules = PatchRules {
         patch,
         prepared: &prepared,
         defined: &order.defined,
-        jobs: order.jobs,
     };
     match &order.target {
-        Target::Files(mode, names) => edit_files(
-            rt, alloc, &ready, *mode, names, shelf, out, err, gate,
-        ),
+        Target::Files(mode, names) => edit_files(&workers, &rules, *mode, names, outside),
         Target::Text(seed, functions) => sum_text(
-            rt, alloc, &ready, *seed, *functions, out, err, gate,
+            &workers,
+            &rules,
+            *seed,
+            *functions,
+            outside.out,
+            outside.err,
         ),
     }
 }

@@ -5,16 +5,16 @@ ghost use Rattle.run_acts.specs.Acts.{Print, told};
 ghost use Rattle.run_acts.specs.Breaks.{counts};
 ghost use Rattle.sp_gen.specs.Generated.{generated};
 ghost use Rattle.run_words.specs.Orders.{OnText};
-ghost use Rattle.run_files.specs.Applies.{IsReady};
 ghost use Rattle.run_files.specs.RunStages.Stages.{Ending, TargetLeads};
 ghost use Rattle.run_files.specs.RunStages.Ends.{Ends, LeadsBy};
 ghost use Rattle.spatch_run.specs.Answer.{answer};
 
 use crate::files::end_status;
 use outer_io::Sink;
-use par_match::Gate;
+use par_match::{Gate, Workers};
+use rule_chain::PatchRules;
 use run_acts::{Status, Stopped, print};
-use run_files::{Ready, sum};
+use run_files::sum;
 use sp_gen::generate;
 use std::alloc::Global;
 use std::thread::Threads;
@@ -42,24 +42,21 @@ pub fn print_text<O: Sink, E: Sink>(
 
 /// Applies the patch to the text that is generated from a seed, with this many functions.
 pub fn sum_text<R: Threads + Sync, O: Sink, E: Sink, G: Gate>(
-    rt: &R,
-    alloc: Global,
-    ready: &Ready<'_>,
+    workers: &Workers<'_, R, G>,
+    rules: &PatchRules<'_>,
     seed: u64,
     functions: u32,
     out: &mut O,
     err: &mut E,
-    gate: &G,
 ) -> Result<Status, Stopped>
-    requires ready { IsReady ready.now.patch.now ready.now.prepared.now }
     requires few { functions ≤ 100000 }
     ensures ends { (files : Option Files) (stores s : ℕ) →
-        LeadsBy (TargetLeads ready.now.patch.now ready.now.defined.now (OnText seed functions))
+        LeadsBy (TargetLeads rules.now.patch.now rules.now.defined.now (OnText seed functions))
         (counts s (O.faults out.old) (E.faults err.old)) (counts s (O.faults out.new) (E.faults err.new))
         (told files stores (O.written out.old) (E.written err.old)) (told files stores (O.written out.new) (E.written err.new))
         (answer result) }
 {
-    let text = generate(alloc, seed, functions)?;
-    let refused = sum(rt, alloc, ready, GENERATED, text, out, err, gate)?;
+    let text = generate(workers.alloc, seed, functions)?;
+    let refused = sum(workers, rules, GENERATED, text, out, err)?;
     Ok(end_status(refused))
 }

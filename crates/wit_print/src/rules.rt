@@ -8,7 +8,8 @@ ghost use Rattle.wit_print.specs.Groups.{AreGroups, shown_groups};
 ghost use Rattle.wit_print.specs.Report.{is_reported, rule_name, let_text, let_lines, tree_lines, witness_lines, shown_name, rule_lines, report_of};
 
 use crate::forest::put_tree;
-use crate::report::Report;
+use crate::report::put_value;
+use crate::text_buffer::TextBuffer;
 use c_terms::NoMemory;
 use indexmap::IndexSet;
 use outer_io::escaped_name;
@@ -34,7 +35,7 @@ pub fn print(
 ) -> Result<Vec<u8>, NoMemory>
     ensures report { IfOk result (λ text. text.items ≡ report_of patch.now name.now witnesses.now) }
 {
-    let mut report = Report::new(alloc);
+    let mut report = TextBuffer::new(alloc);
     report.put(b"file ")?;
     report.put(&escaped_name(alloc, name)?)?;
     report.put(b"\n")?;
@@ -78,7 +79,7 @@ fn put_own<'a>(groups: &mut Vec<Vec<&'a RuleWitness>>, w: &'a RuleWitness) -> Re
 
 fn put_rule(
     alloc: Global,
-    report: &mut Report,
+    report: &mut TextBuffer,
     rules: &[Rule],
     n: usize,
     rule: &Rule,
@@ -86,8 +87,7 @@ fn put_rule(
 ) -> Result<(), NoMemory>
     ensures { OnOk result (report.new ≡ report.old ++ rule_lines rules.now n rule.now (map (λ w. w.now) own.now)) }
 {
-    report.put(b"rule ")?;
-    report.put_number(n as u64)?;
+    report.put_numbered(b"rule ", n as u64)?;
     report.put(b" ")?;
     report.put(shown_name(rule.name.as_bytes()))?;
     report.put(b"\n")?;
@@ -97,7 +97,7 @@ fn put_rule(
 
 fn put_witnesses(
     alloc: Global,
-    report: &mut Report,
+    report: &mut TextBuffer,
     rules: &[Rule],
     vars: &[&VarDecl],
     own: &[&RuleWitness],
@@ -164,24 +164,22 @@ fn put_name(alloc: Global, names: &mut IndexSet<Vec<u8>>, name: &[u8]) -> Result
 
 fn put_witness(
     alloc: Global,
-    report: &mut Report,
+    report: &mut TextBuffer,
     rules: &[Rule],
     vars: &[&VarDecl],
     w: &RuleWitness,
 ) -> Result<(), NoMemory>
     ensures { OnOk result (report.new ≡ report.old ++ witness_lines rules.now (map (λ d. d.now) vars.now) w.now) }
 {
-    report.put(b"at ")?;
-    report.put_number(u64::from(w.item))?;
-    report.put(b" ")?;
-    report.put_number(u64::from(w.node))?;
+    report.put_numbered(b"at ", u64::from(w.item))?;
+    report.put_numbered(b" ", u64::from(w.node))?;
     report.put(b"\n")?;
     put_lets(report, rules, vars, &w.env)?;
     put_forest(alloc, report, w.forest.as_slice())
 }
 
 fn put_lets(
-    report: &mut Report,
+    report: &mut TextBuffer,
     rules: &[Rule],
     vars: &[&VarDecl],
     env: &Env,
@@ -196,7 +194,7 @@ fn put_lets(
 
 /// Writes the line of a variable, if it has a value.
 fn put_let(
-    report: &mut Report,
+    report: &mut TextBuffer,
     rules: &[Rule],
     d: &VarDecl,
     value: Option<&Value>,
@@ -213,7 +211,7 @@ fn put_let(
     }
     report.put(d.var.name.as_bytes())?;
     report.put(b" = ")?;
-    report.put_value(value)?;
+    put_value(report, value)?;
     report.put(b"\n")
 }
 
@@ -229,7 +227,7 @@ fn rule_name(rules: &[Rule], n: usize) -> &[u8]
     }
 }
 
-fn put_forest(alloc: Global, report: &mut Report, forest: &[Witness]) -> Result<(), NoMemory>
+fn put_forest(alloc: Global, report: &mut TextBuffer, forest: &[Witness]) -> Result<(), NoMemory>
     ensures { OnOk result (report.new ≡ report.old ++ flat_map (λ f. tree_lines f (codes " ")) forest.now) }
 {
     let mut blanks = Vec::from_slice(alloc, b" ")?;

@@ -15,8 +15,8 @@ use c_terms::{NoMemory, Text, Tree};
 use cfg_build::NodeLabel;
 use env_sets::{Entry, EnvSet};
 use pat_match::parts::{NodeRole, put_set, role_of, solve_form, union};
-use pat_match::solve;
-use smpl_patch::{PatToken, Pattern, VarDecl};
+use pat_match::{PatternContext, PatternForm, solve};
+use smpl_patch::Pattern;
 use std::alloc::Global;
 
 /// The number of parts of a node's tree that a look visits at most for each form that it may spare: less than trying these
@@ -67,31 +67,44 @@ fn is_absent(word: &Option<Text>, most: usize, tree: &Tree) -> bool
     }
 }
 
+/// A pattern, and the node that it is matched at: its role and tree.
+#[derive(Clone, Copy)]
+struct Target<'p> {
+    p: &'p Pattern,
+    context: &'p PatternContext<'p>,
+    role: NodeRole,
+    tree: &'p Tree,
+}
+
 /// Adds the environments of the forms from number `first` up to the end.
 fn put_forms(
     alloc: Global,
     entries: &mut Vec<Entry>,
-    p: &Pattern,
-    decls: &[VarDecl],
-    tokens: &[PatToken],
-    role: NodeRole,
+    target: &Target<'_>,
     first: usize,
     end: usize,
-    tree: &Tree,
 ) -> Result<(), NoMemory>
     requires in_order { first ≤ end }
-    requires within { end ≤ length p.now.forms }
+    requires within { end ≤ length target.now.p.now.forms }
     ensures meaning { IfOk result (λ _. (env : Environment) →
         (set_denotes entries.new.items env
-        || list_any (spec.fits_some decls.now tokens.now env p.now role tree.now) (drop end p.now.forms))
+        || list_any (spec.fits_some target.now.context.now.decls.now target.now.context.now.tokens.now env target.now.p.now
+        target.now.role target.now.tree.now) (drop end target.now.p.now.forms))
         ≡ (set_denotes entries.old.items env
-        || list_any (spec.fits_some decls.now tokens.now env p.now role tree.now) (drop first p.now.forms))) }
-    ensures vars { IfOk result (λ _. (t : Var → Bool) → pattern_vars decls.now tokens.now t p.now ≡ true
+        || list_any (spec.fits_some target.now.context.now.decls.now target.now.context.now.tokens.now env target.now.p.now
+        target.now.role target.now.tree.now) (drop first target.now.p.now.forms))) }
+    ensures vars { IfOk result (λ _. (t : Var → Bool)
+        → pattern_vars target.now.context.now.decls.now target.now.context.now.tokens.now t target.now.p.now ≡ true
         → set_vars t entries.old.items ≡ true → set_vars t entries.new.items ≡ true) }
 {
-    let forms = p.forms.as_slice();
+    let forms = target.p.forms.as_slice();
     for i in first..end {
-        let here = solve_form(alloc, p, decls, tokens, role, i, &forms[i], tree)?;
+        let form = PatternForm {
+            pattern: target.p,
+            number: i,
+            tree: &forms[i],
+        };
+        let here = solve_form(alloc, &form, target.context, target.role, target.tree)?;
         put_set(entries, here)?;
     }
     Ok(())
@@ -101,72 +114,49 @@ fn put_forms(
 fn put_run(
     alloc: Global,
     entries: &mut Vec<Entry>,
-    p: &Pattern,
-    decls: &[VarDecl],
-    tokens: &[PatToken],
-    role: NodeRole,
+    target: &Target<'_>,
     first: usize,
     form_group: &FormGroup,
-    tree: &Tree,
 ) -> Result<(), NoMemory>
     requires in_order { first ≤ form_group.now.end }
-    requires within { form_group.now.end ≤ length p.now.forms }
-    requires run { spec.IsRun p.now.spot p.now.forms form_group.now.word first form_group.now.end }
+    requires within { form_group.now.end ≤ length target.now.p.now.forms }
+    requires run { spec.IsRun target.now.p.now.spot target.now.p.now.forms form_group.now.word first form_group.now.end }
     ensures meaning { IfOk result (λ _. (env : Environment) →
         (set_denotes entries.new.items env
-        || list_any (spec.fits_some decls.now tokens.now env p.now role tree.now) (drop form_group.now.end p.now.forms))
+        || list_any (spec.fits_some target.now.context.now.decls.now target.now.context.now.tokens.now env target.now.p.now
+        target.now.role target.now.tree.now) (drop form_group.now.end target.now.p.now.forms))
         ≡ (set_denotes entries.old.items env
-        || list_any (spec.fits_some decls.now tokens.now env p.now role tree.now) (drop first p.now.forms))) }
-    ensures vars { IfOk result (λ _. (t : Var → Bool) → pattern_vars decls.now tokens.now t p.now ≡ true
+        || list_any (spec.fits_some target.now.context.now.decls.now target.now.context.now.tokens.now env target.now.p.now
+        target.now.role target.now.tree.now) (drop first target.now.p.now.forms))) }
+    ensures vars { IfOk result (λ _. (t : Var → Bool)
+        → pattern_vars target.now.context.now.decls.now target.now.context.now.tokens.now t target.now.p.now ≡ true
         → set_vars t entries.old.items ≡ true → set_vars t entries.new.items ≡ true) }
 {
     let most = (form_group.end - first).saturating_mul(PARTS_A_FORM);
-    if is_absent(&form_group.word, most, tree) {
+    if is_absent(&form_group.word, most, target.tree) {
         return Ok(());
     }
-    put_forms(
-        alloc,
-        entries,
-        p,
-        decls,
-        tokens,
-        role,
-        first,
-        form_group.end,
-        tree,
-    )
+    put_forms(alloc, entries, target, first, form_group.end)
 }
 
 /// Returns the environments of all forms at a node with this role and tree, run by run.
 fn solve_runs(
     alloc: Global,
     form_groups: &[FormGroup],
-    p: &Pattern,
-    decls: &[VarDecl],
-    tokens: &[PatToken],
-    role: NodeRole,
-    tree: &Tree,
+    target: &Target<'_>,
 ) -> Result<EnvSet, NoMemory>
-    requires { spec.Covers p.now.spot p.now.forms 0 form_groups.now (length p.now.forms) }
+    requires { spec.Covers target.now.p.now.spot target.now.p.now.forms 0 form_groups.now (length target.now.p.now.forms) }
     ensures meaning { IfOk result (λ r. (env : Environment) → set_denotes r env
-        ≡ list_any (spec.fits_some decls.now tokens.now env p.now role tree.now) p.now.forms) }
-    ensures vars { IfOk result (λ r. (t : Var → Bool) → pattern_vars decls.now tokens.now t p.now ≡ true
+        ≡ list_any (spec.fits_some target.now.context.now.decls.now target.now.context.now.tokens.now env target.now.p.now
+        target.now.role target.now.tree.now) target.now.p.now.forms) }
+    ensures vars { IfOk result (λ r. (t : Var → Bool)
+        → pattern_vars target.now.context.now.decls.now target.now.context.now.tokens.now t target.now.p.now ≡ true
         → set_vars t r ≡ true) }
 {
     let mut entries = Vec::new(alloc);
     let mut next = 0;
     for n in 0..form_groups.len() {
-        put_run(
-            alloc,
-            &mut entries,
-            p,
-            decls,
-            tokens,
-            role,
-            next,
-            &form_groups[n],
-            tree,
-        )?;
+        put_run(alloc, &mut entries, target, next, &form_groups[n])?;
         next = form_groups[n].end;
     }
     union(alloc, entries)
@@ -178,31 +168,28 @@ fn solve_runs(
 /// A run's word is looked for in the node's tree, over at most 32 parts for each form of the run, and the run's forms are
 /// skipped if the tree is known to lack the word. So if the tree has no word of the pattern, each run costs one step per
 /// part in a small tree and no step per form; in a larger tree the forms are tried, as `solve` tries them all.
-pub fn solve_by(
+pub fn solve_by<'x>(
     alloc: Global,
     form_groups: &[FormGroup],
-    p: &Pattern,
-    decls: &[VarDecl],
-    tokens: &[PatToken],
-    node: &NodeLabel,
+    p: &'x Pattern,
+    context: &'x PatternContext<'x>,
+    node: &'x NodeLabel,
 ) -> Result<EnvSet, NoMemory>
     requires { spec.AreFormGroups p.now form_groups.now }
     ensures meaning { IfOk result (λ r. (env : Environment) → set_denotes r env
-        ≡ matches decls.now tokens.now env p.now node.now) }
-    ensures vars { IfOk result (λ r. (t : Var → Bool) → pattern_vars decls.now tokens.now t p.now
+        ≡ matches context.now.decls.now context.now.tokens.now env p.now node.now) }
+    ensures vars { IfOk result (λ r. (t : Var → Bool) → pattern_vars context.now.decls.now context.now.tokens.now t p.now
         ≡ true →
         set_vars t r ≡ true) }
 {
     if form_groups.is_empty() {
-        return solve(alloc, p, decls, tokens, node);
+        return solve(alloc, p, context, node);
     }
-    solve_runs(
-        alloc,
-        form_groups,
+    let target = Target {
         p,
-        decls,
-        tokens,
-        role_of(node),
-        node.tree.as_tree(),
-    )
+        context,
+        role: role_of(node),
+        tree: node.tree.as_tree(),
+    };
+    solve_runs(alloc, form_groups, &target)
 }

@@ -103,12 +103,7 @@ fn has_form(forms: &[Tree]) -> bool
 fn each_spells(word: &[u8], spot: Spot, forms: &[Tree]) -> bool
     ensures { result ≡ list_all (spec.held_spells word.now spot) forms.now }
 {
-    for form in forms {
-        if !held_spells(word, spot, form) {
-            return false;
-        }
-    }
-    true
+    forms.iter().all(|form| held_spells(word, spot, form))
 }
 
 /// Whether the pattern has a form and each of its forms spells the word. Takes no memory.

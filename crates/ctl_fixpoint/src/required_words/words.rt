@@ -17,12 +17,7 @@ use std::alloc::Global;
 fn is_among(words: &[Text], word: &[u8]) -> bool
     ensures { result ≡ spec.is_among words.now word.now }
 {
-    for other in words {
-        if same_text(other.as_bytes(), word) {
-            return true;
-        }
-    }
-    false
+    words.iter().any(|other| same_text(other.as_bytes(), word))
 }
 
 /// Adds the word to the list if it is needed and isn't in the list yet.
@@ -147,10 +142,5 @@ pub fn needed_words(alloc: Global, f: &Formula) -> Result<Items<Text>, NoMemory>
 pub fn may_hold(words: &[Text], tree: &Tree) -> bool
     ensures value { result ≡ spec.has_words words.now tree.now }
 {
-    for word in words {
-        if !has_word(word.as_bytes(), tree) {
-            return false;
-        }
-    }
-    true
+    words.iter().all(|word| has_word(word.as_bytes(), tree))
 }

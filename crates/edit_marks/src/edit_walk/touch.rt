@@ -14,7 +14,7 @@ use c_terms::{NoMemory, Tree, TreePath, subtree};
 use cfg_build::NodeKind;
 use cpp_lines::Item;
 use pat_match::parts::role_at;
-use pat_match::{AlignedToken, aligned_tokens};
+use pat_match::{AlignedToken, PatternContext, aligned_tokens};
 use smpl_patch::Pattern;
 use smpl_terms::Env;
 use sqlite_items::{Items, at};
@@ -70,7 +70,11 @@ fn alignment(
         return Ok(None);
     };
     let role = role_at(kind, path.steps());
-    aligned_tokens(alloc, pattern, site.decls, site.tokens, role, tree, env)
+    let context = PatternContext {
+        decls: site.decls,
+        tokens: site.tokens,
+    };
+    aligned_tokens(alloc, pattern, &context, role, tree, env)
 }
 
 fn pairs_of(

@@ -8,11 +8,11 @@ ghost use Rattle.pat_match.specs.Fitting.{leaf_of, piece};
 ghost use Rattle.pat_match.specs.Rows.{comma_before, row_at, fits_from};
 ghost use Rattle.pat_match.specs.PatPairs.Pairs.{takes_first, IsNext};
 
-use crate::parts::{ListMember, RowEntry, fit_rows, fit_wild};
+use crate::parts::{ListChild, ListMember, RowEntry, fit_rows, fit_wild};
+use crate::pat_pairs::bound::BoundContext;
 use crate::pat_pairs::pairs::{AlignedToken, put_comma_before, put_run};
 use c_terms::{Label, NoMemory, Tree};
 use env_sets::denotes;
-use smpl_patch::{PatToken, VarDecl};
 use smpl_terms::Env;
 use std::alloc::Global;
 
@@ -48,111 +48,103 @@ fn row_flags(
     Ok(flags)
 }
 
-/// Whether dots or a list variable, the i-th child of a pattern's list, take the run.
+/// Whether the child, dots or a list variable, takes the run.
 fn takes_run(
     alloc: Global,
-    decls: &[VarDecl],
-    tokens: &[PatToken],
-    env: &Env,
-    label: Label,
-    forms: &[Tree],
-    i: usize,
-    form: &Tree,
+    bound: &BoundContext<'_>,
+    child: &ListChild<'_>,
     run: &[ListMember],
 ) -> Result<bool, NoMemory>
-    requires within { i ≤ length forms.now }
-    requires wild { is_wild label (leaf_of (out-Tree form.now)) ≡ true }
-    ensures { IfOk result (λ r. r ≡ takes decls.now tokens.now (total env.now) label (comma_before forms.now i)
-        (piece decls.now tokens.now (total env.now) form.now) run.now) }
+    requires within { child.now.i ≤ length child.now.forms.now }
+    requires wild { is_wild child.now.label (leaf_of (out-Tree child.now.form.now)) ≡ true }
+    ensures { IfOk result (λ r. r ≡ takes bound.now.context.now.decls.now bound.now.context.now.tokens.now
+        (total bound.now.env.now) child.now.label (comma_before child.now.forms.now child.now.i)
+        (piece bound.now.context.now.decls.now bound.now.context.now.tokens.now (total bound.now.env.now) child.now.form.now)
+        run.now) }
 {
-    let set = fit_wild(alloc, decls, tokens, label, forms, i, form, run)?;
-    Ok(denotes(&set, env))
+    let set = fit_wild(alloc, bound.context, child, run)?;
+    Ok(denotes(&set, bound.env))
 }
 
 fn takes_if(
     alloc: Global,
-    decls: &[VarDecl],
-    tokens: &[PatToken],
-    env: &Env,
-    label: Label,
-    forms: &[Tree],
-    i: usize,
-    form: &Tree,
+    bound: &BoundContext<'_>,
+    child: &ListChild<'_>,
     run: &[ListMember],
     rest_fits: bool,
 ) -> Result<bool, NoMemory>
-    requires within { i ≤ length forms.now }
-    requires wild { is_wild label (leaf_of (out-Tree form.now)) ≡ true }
-    ensures { IfOk result (λ r. r ≡ (takes decls.now tokens.now (total env.now) label (comma_before forms.now i)
-        (piece decls.now tokens.now (total env.now) form.now) run.now && rest_fits)) }
+    requires within { child.now.i ≤ length child.now.forms.now }
+    requires wild { is_wild child.now.label (leaf_of (out-Tree child.now.form.now)) ≡ true }
+    ensures { IfOk result (λ r. r ≡ (takes bound.now.context.now.decls.now bound.now.context.now.tokens.now
+        (total bound.now.env.now) child.now.label (comma_before child.now.forms.now child.now.i)
+        (piece bound.now.context.now.decls.now bound.now.context.now.tokens.now (total bound.now.env.now) child.now.form.now)
+        run.now && rest_fits)) }
 {
     if rest_fits {
-        takes_run(alloc, decls, tokens, env, label, forms, i, form, run)
+        takes_run(alloc, bound, child, run)
     } else {
         Ok(false)
     }
 }
 
-/// Returns the least number of members that the i-th child, which takes any run, may take such that the children after it take
+/// Returns the least number of members that the child, which takes any run, may take such that the children after it take
 /// the others. Costs as much as `solve` does for the children after it.
 fn fewest(
     alloc: Global,
-    decls: &[VarDecl],
-    tokens: &[PatToken],
-    env: &Env,
-    label: Label,
-    forms: &[Tree],
-    i: usize,
-    form: &Tree,
+    bound: &BoundContext<'_>,
+    child: &ListChild<'_>,
     members: &[ListMember],
 ) -> Result<usize, NoMemory>
-    requires within { i < length forms.now }
-    requires child { form.now ≡ slice_index_or forms.now i form.now }
-    requires wild { is_wild label (leaf_of (out-Tree form.now)) ≡ true }
-    ensures value { IfOk result (λ r. r ≡ least (takes_first decls.now tokens.now (total env.now) label forms.now i form.now
+    requires within { child.now.i < length child.now.forms.now }
+    requires child { child.now.form.now ≡ slice_index_or child.now.forms.now child.now.i child.now.form.now }
+    requires wild { is_wild child.now.label (leaf_of (out-Tree child.now.form.now)) ≡ true }
+    ensures value { IfOk result (λ r. r ≡ least (takes_first bound.now.context.now.decls.now bound.now.context.now.tokens.now
+        (total bound.now.env.now) child.now.label child.now.forms.now child.now.i child.now.form.now
         members.now) (suc (length members.now))) }
     ensures within { IfOk result (λ r. r ≤ length members.now) }
 {
-    let row = fit_rows(alloc, decls, tokens, label, forms, i + 1, members)?;
-    let flags = row_flags(alloc, row.as_slice(), members.len(), env)?;
+    let row = fit_rows(
+        alloc,
+        bound.context,
+        child.label,
+        child.forms,
+        child.i + 1,
+        members,
+    )?;
+    let flags = row_flags(alloc, row.as_slice(), members.len(), bound.env)?;
     for k in 0..members.len() {
         let run = &members[..k];
-        if takes_if(
-            alloc, decls, tokens, env, label, forms, i, form, run, flags[k],
-        )? {
+        if takes_if(alloc, bound, child, run, flags[k])? {
             return Ok(k);
         }
     }
     Ok(members.len())
 }
 
-/// Adds what the i-th child, which takes any run, is aligned with after `taken` members. Returns the number of members taken
+/// Adds what the child, which takes any run, is aligned with after `taken` members. Returns the number of members taken
 /// after it.
 pub fn put_wild(
     alloc: Global,
     found: &mut Vec<AlignedToken>,
-    decls: &[VarDecl],
-    tokens: &[PatToken],
-    env: &Env,
-    label: Label,
-    forms: &[Tree],
-    i: usize,
-    form: &Tree,
+    bound: &BoundContext<'_>,
+    child: &ListChild<'_>,
     members: &[ListMember],
     taken: usize,
 ) -> Result<usize, NoMemory>
-    requires within { i < length forms.now }
-    requires child { form.now ≡ slice_index_or forms.now i form.now }
-    requires wild { is_wild label (leaf_of (out-Tree form.now)) ≡ true }
+    requires within { child.now.i < length child.now.forms.now }
+    requires child { child.now.form.now ≡ slice_index_or child.now.forms.now child.now.i child.now.form.now }
+    requires wild { is_wild child.now.label (leaf_of (out-Tree child.now.form.now)) ≡ true }
     requires left { taken ≤ length members.now }
-    requires fits { fits_from decls.now tokens.now label (comma_before forms.now i) (drop i forms.now)
-        (drop taken members.now) (total env.now) ≡ true }
-    ensures { IfOk result (λ next. IsNext decls.now tokens.now (total env.now) label forms.now i members.now taken next
+    requires fits { fits_from bound.now.context.now.decls.now bound.now.context.now.tokens.now child.now.label
+        (comma_before child.now.forms.now child.now.i) (drop child.now.i child.now.forms.now)
+        (drop taken members.now) (total bound.now.env.now) ≡ true }
+    ensures { IfOk result (λ next. IsNext bound.now.context.now.decls.now bound.now.context.now.tokens.now
+        (total bound.now.env.now) child.now.label child.now.forms.now child.now.i members.now taken next
         found.old.items found.new.items) }
 {
     let rest = &members[taken..];
-    let count = fewest(alloc, decls, tokens, env, label, forms, i, form, rest)?;
-    put_comma_before(alloc, found, forms, i, &rest[..count])?;
-    put_run(alloc, found, label, form, &rest[..count])?;
+    let count = fewest(alloc, bound, child, rest)?;
+    put_comma_before(alloc, found, child.forms, child.i, &rest[..count])?;
+    put_run(alloc, found, child.label, child.form, &rest[..count])?;
     Ok(taken + count)
 }

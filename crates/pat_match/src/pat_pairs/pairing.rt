@@ -9,29 +9,27 @@ ghost use Rattle.pat_match.specs.Fitting.{leaf_of, piece, fits_tree, fits_by, pa
 ghost use Rattle.pat_match.specs.Rows.{comma_before, fits_from};
 ghost use Rattle.pat_match.specs.PatPairs.Pairs.{numbers, left_pairs, IsNext};
 
-use crate::parts::{ListMember, fit, is_wild, list_members};
+use crate::parts::{ListChild, ListMember, fit, is_wild, list_members};
+use crate::pat_pairs::bound::BoundContext;
 use crate::pat_pairs::fewest::put_wild;
 use crate::pat_pairs::pairs::{AlignedToken, put_comma_before, put_leaf};
 use c_terms::{Label, NoMemory, Shape, Tree, comma};
 use env_sets::denotes;
-use smpl_patch::{PatToken, VarDecl};
-use smpl_terms::Env;
 use std::alloc::Global;
 
 /// Whether the form fits the tree under this environment.
 fn does_fit(
     alloc: Global,
-    decls: &[VarDecl],
-    tokens: &[PatToken],
-    env: &Env,
+    bound: &BoundContext<'_>,
     form: &Tree,
     tree: &Tree,
 ) -> Result<bool, NoMemory>
     ensures { IfOk result (λ r. r
-        ≡ fits_tree decls.now tokens.now (total env.now) form.now tree.now) }
+        ≡ fits_tree bound.now.context.now.decls.now bound.now.context.now.tokens.now
+        (total bound.now.env.now) form.now tree.now) }
 {
-    let set = fit(alloc, decls, tokens, form, tree)?;
-    Ok(denotes(&set, env))
+    let set = fit(alloc, bound.context, form, tree)?;
+    Ok(denotes(&set, bound.env))
 }
 
 /// Adds what the form's tokens are aligned with in the tree, which the form fits. Each level of the form costs a few recursive
@@ -40,24 +38,22 @@ fn does_fit(
 pub fn put_pairs(
     alloc: Global,
     found: &mut Vec<AlignedToken>,
-    decls: &[VarDecl],
-    tokens: &[PatToken],
-    env: &Env,
+    bound: &BoundContext<'_>,
     form: &Tree,
     tree: &Tree,
 ) -> Result<(), NoMemory>
-    requires fits { fits_tree decls.now tokens.now (total env.now) form.now tree.now ≡ true }
+    requires fits { fits_tree bound.now.context.now.decls.now bound.now.context.now.tokens.now
+        (total bound.now.env.now) form.now tree.now ≡ true }
     ensures { OnOk result (found.new.items ≡ found.old.items
-        ++ numbers (alignment decls.now tokens.now (total env.now) form.now tree.now)) }
+        ++ numbers (alignment bound.now.context.now.decls.now bound.now.context.now.tokens.now
+        (total bound.now.env.now) form.now tree.now)) }
 {
     match form {
         Tree::Leaf(token) => put_leaf(alloc, found, token, tree),
         Tree::Branch(label, forms) => put_branch(
             alloc,
             found,
-            decls,
-            tokens,
-            env,
+            bound,
             *label,
             forms.as_slice(),
             tree,
@@ -69,24 +65,26 @@ pub fn put_pairs(
 fn put_branch(
     alloc: Global,
     found: &mut Vec<AlignedToken>,
-    decls: &[VarDecl],
-    tokens: &[PatToken],
-    env: &Env,
+    bound: &BoundContext<'_>,
     label: Label,
     forms: &[Tree],
     tree: &Tree,
 ) -> Result<(), NoMemory>
-    requires fits { fits_by decls.now tokens.now (total env.now) (shape_of label) label
-        (map (piece decls.now tokens.now (total env.now)) forms.now) tree.now ≡ true }
+    requires fits { fits_by bound.now.context.now.decls.now bound.now.context.now.tokens.now (total bound.now.env.now)
+        (shape_of label) label
+        (map (piece bound.now.context.now.decls.now bound.now.context.now.tokens.now (total bound.now.env.now)) forms.now)
+        tree.now ≡ true }
     ensures { OnOk result (found.new.items ≡ found.old.items
-        ++ numbers (pairs_by decls.now tokens.now (total env.now) (shape_of label) label
-        (map (piece decls.now tokens.now (total env.now)) forms.now) tree.now)) }
+        ++ numbers (pairs_by bound.now.context.now.decls.now bound.now.context.now.tokens.now (total bound.now.env.now)
+        (shape_of label) label
+        (map (piece bound.now.context.now.decls.now bound.now.context.now.tokens.now (total bound.now.env.now)) forms.now)
+        tree.now)) }
 {
     match label.shape() {
-        Shape::Or => put_first(alloc, found, decls, tokens, env, forms, tree),
-        Shape::And => put_every(alloc, found, decls, tokens, env, forms, tree),
-        Shape::List => put_list(alloc, found, decls, tokens, env, label, forms, tree),
-        Shape::Plain => put_kids(alloc, found, decls, tokens, env, label, forms, tree),
+        Shape::Or => put_first(alloc, found, bound, forms, tree),
+        Shape::And => put_every(alloc, found, bound, forms, tree),
+        Shape::List => put_list(alloc, found, bound, label, forms, tree),
+        Shape::Plain => put_kids(alloc, found, bound, label, forms, tree),
     }
 }
 
@@ -95,18 +93,17 @@ fn put_branch(
 fn put_first(
     alloc: Global,
     found: &mut Vec<AlignedToken>,
-    decls: &[VarDecl],
-    tokens: &[PatToken],
-    env: &Env,
+    bound: &BoundContext<'_>,
     forms: &[Tree],
     tree: &Tree,
 ) -> Result<(), NoMemory>
     ensures { OnOk result (found.new.items ≡ found.old.items
-        ++ numbers (first_pairs (map (piece decls.now tokens.now (total env.now)) forms.now) tree.now)) }
+        ++ numbers (first_pairs (map (piece bound.now.context.now.decls.now bound.now.context.now.tokens.now
+        (total bound.now.env.now)) forms.now) tree.now)) }
 {
     for form in forms {
-        if does_fit(alloc, decls, tokens, env, form, tree)? {
-            return put_pairs(alloc, found, decls, tokens, env, form, tree);
+        if does_fit(alloc, bound, form, tree)? {
+            return put_pairs(alloc, found, bound, form, tree);
         }
     }
     Ok(())
@@ -117,18 +114,18 @@ fn put_first(
 fn put_where_it_fits(
     alloc: Global,
     found: &mut Vec<AlignedToken>,
-    decls: &[VarDecl],
-    tokens: &[PatToken],
-    env: &Env,
+    bound: &BoundContext<'_>,
     form: &Tree,
     tree: &Tree,
 ) -> Result<(), NoMemory>
     ensures { OnOk result (found.new.items ≡ found.old.items
-        ++ numbers (cond (fits_tree decls.now tokens.now (total env.now) form.now tree.now)
-        (alignment decls.now tokens.now (total env.now) form.now tree.now) [])) }
+        ++ numbers (cond (fits_tree bound.now.context.now.decls.now bound.now.context.now.tokens.now
+        (total bound.now.env.now) form.now tree.now)
+        (alignment bound.now.context.now.decls.now bound.now.context.now.tokens.now (total bound.now.env.now) form.now tree.now)
+        [])) }
 {
-    if does_fit(alloc, decls, tokens, env, form, tree)? {
-        put_pairs(alloc, found, decls, tokens, env, form, tree)
+    if does_fit(alloc, bound, form, tree)? {
+        put_pairs(alloc, found, bound, form, tree)
     } else {
         Ok(())
     }
@@ -139,17 +136,16 @@ fn put_where_it_fits(
 fn put_every(
     alloc: Global,
     found: &mut Vec<AlignedToken>,
-    decls: &[VarDecl],
-    tokens: &[PatToken],
-    env: &Env,
+    bound: &BoundContext<'_>,
     forms: &[Tree],
     tree: &Tree,
 ) -> Result<(), NoMemory>
     ensures { OnOk result (found.new.items ≡ found.old.items
-        ++ numbers (every_pairs (map (piece decls.now tokens.now (total env.now)) forms.now) tree.now)) }
+        ++ numbers (every_pairs (map (piece bound.now.context.now.decls.now bound.now.context.now.tokens.now
+        (total bound.now.env.now)) forms.now) tree.now)) }
 {
     for form in forms {
-        put_where_it_fits(alloc, found, decls, tokens, env, form, tree)?;
+        put_where_it_fits(alloc, found, bound, form, tree)?;
     }
     Ok(())
 }
@@ -158,24 +154,22 @@ fn put_every(
 fn put_kids(
     alloc: Global,
     found: &mut Vec<AlignedToken>,
-    decls: &[VarDecl],
-    tokens: &[PatToken],
-    env: &Env,
+    bound: &BoundContext<'_>,
     label: Label,
     forms: &[Tree],
     tree: &Tree,
 ) -> Result<(), NoMemory>
-    requires fits { kids_fit all_fit label (map (piece decls.now tokens.now (total env.now)) forms.now)
+    requires fits { kids_fit all_fit label (map (piece bound.now.context.now.decls.now bound.now.context.now.tokens.now
+        (total bound.now.env.now)) forms.now)
         (out-Tree tree.now) ≡ true }
     ensures { OnOk result (found.new.items ≡ found.old.items
-        ++ numbers (kids_pairs zip_pairs (map (piece decls.now tokens.now (total env.now)) forms.now)
+        ++ numbers (kids_pairs zip_pairs (map (piece bound.now.context.now.decls.now bound.now.context.now.tokens.now
+        (total bound.now.env.now)) forms.now)
         (out-Tree tree.now))) }
 {
     match tree {
         Tree::Leaf(_) => Ok(()),
-        Tree::Branch(_, trees) => {
-            put_all(alloc, found, decls, tokens, env, forms, trees.as_slice())
-        }
+        Tree::Branch(_, trees) => put_all(alloc, found, bound, forms, trees.as_slice()),
     }
 }
 
@@ -184,18 +178,18 @@ fn put_kids(
 fn put_all(
     alloc: Global,
     found: &mut Vec<AlignedToken>,
-    decls: &[VarDecl],
-    tokens: &[PatToken],
-    env: &Env,
+    bound: &BoundContext<'_>,
     forms: &[Tree],
     trees: &[Tree],
 ) -> Result<(), NoMemory>
-    requires fits { all_fit (map (piece decls.now tokens.now (total env.now)) forms.now) trees.now ≡ true }
+    requires fits { all_fit (map (piece bound.now.context.now.decls.now bound.now.context.now.tokens.now
+        (total bound.now.env.now)) forms.now) trees.now ≡ true }
     ensures { OnOk result (found.new.items ≡ found.old.items
-        ++ numbers (zip_pairs (map (piece decls.now tokens.now (total env.now)) forms.now) trees.now)) }
+        ++ numbers (zip_pairs (map (piece bound.now.context.now.decls.now bound.now.context.now.tokens.now
+        (total bound.now.env.now)) forms.now) trees.now)) }
 {
     for i in 0..forms.len() {
-        put_pairs(alloc, found, decls, tokens, env, &forms[i], &trees[i])?;
+        put_pairs(alloc, found, bound, &forms[i], &trees[i])?;
     }
     Ok(())
 }
@@ -205,33 +199,26 @@ fn put_all(
 fn put_list(
     alloc: Global,
     found: &mut Vec<AlignedToken>,
-    decls: &[VarDecl],
-    tokens: &[PatToken],
-    env: &Env,
+    bound: &BoundContext<'_>,
     label: Label,
     forms: &[Tree],
     tree: &Tree,
 ) -> Result<(), NoMemory>
-    requires fits { kids_fit (list_fits decls.now tokens.now (total env.now) label) label
-        (map (piece decls.now tokens.now (total env.now)) forms.now) (out-Tree tree.now) ≡ true }
+    requires fits { kids_fit (list_fits bound.now.context.now.decls.now bound.now.context.now.tokens.now
+        (total bound.now.env.now) label) label
+        (map (piece bound.now.context.now.decls.now bound.now.context.now.tokens.now (total bound.now.env.now)) forms.now)
+        (out-Tree tree.now) ≡ true }
     ensures { OnOk result (found.new.items ≡ found.old.items
-        ++ numbers (kids_pairs (list_pairs decls.now tokens.now (total env.now) label)
-        (map (piece decls.now tokens.now (total env.now)) forms.now) (out-Tree tree.now))) }
+        ++ numbers (kids_pairs (list_pairs bound.now.context.now.decls.now bound.now.context.now.tokens.now
+        (total bound.now.env.now) label)
+        (map (piece bound.now.context.now.decls.now bound.now.context.now.tokens.now (total bound.now.env.now)) forms.now)
+        (out-Tree tree.now))) }
 {
     match tree {
         Tree::Leaf(_) => Ok(()),
         Tree::Branch(_, trees) => {
             let members = list_members(alloc, trees.as_slice())?;
-            put_members(
-                alloc,
-                found,
-                decls,
-                tokens,
-                env,
-                label,
-                forms,
-                members.as_slice(),
-            )
+            put_members(alloc, found, bound, label, forms, members.as_slice())
         }
     }
 }
@@ -241,22 +228,20 @@ fn put_list(
 fn put_members(
     alloc: Global,
     found: &mut Vec<AlignedToken>,
-    decls: &[VarDecl],
-    tokens: &[PatToken],
-    env: &Env,
+    bound: &BoundContext<'_>,
     label: Label,
     forms: &[Tree],
     members: &[ListMember],
 ) -> Result<(), NoMemory>
-    requires fits { fits_from decls.now tokens.now label None forms.now members.now (total env.now) ≡ true }
+    requires fits { fits_from bound.now.context.now.decls.now bound.now.context.now.tokens.now label None forms.now members.now
+        (total bound.now.env.now) ≡ true }
     ensures { OnOk result (found.new.items ≡ found.old.items
-        ++ numbers (left_pairs decls.now tokens.now (total env.now) label None forms.now members.now)) }
+        ++ numbers (left_pairs bound.now.context.now.decls.now bound.now.context.now.tokens.now
+        (total bound.now.env.now) label None forms.now members.now)) }
 {
     let mut taken: usize = 0;
     for i in 0..forms.len() {
-        taken = put_next(
-            alloc, found, decls, tokens, env, label, forms, i, members, taken,
-        )?;
+        taken = put_next(alloc, found, bound, label, forms, i, members, taken)?;
     }
     put_comma_before(alloc, found, forms, forms.len(), &[])
 }
@@ -266,9 +251,7 @@ fn put_members(
 fn put_next(
     alloc: Global,
     found: &mut Vec<AlignedToken>,
-    decls: &[VarDecl],
-    tokens: &[PatToken],
-    env: &Env,
+    bound: &BoundContext<'_>,
     label: Label,
     forms: &[Tree],
     i: usize,
@@ -277,9 +260,11 @@ fn put_next(
 ) -> Result<usize, NoMemory>
     requires within { i < length forms.now }
     requires left { taken ≤ length members.now }
-    requires fits { fits_from decls.now tokens.now label (comma_before forms.now i) (drop i forms.now)
-        (drop taken members.now) (total env.now) ≡ true }
-    ensures { IfOk result (λ next. IsNext decls.now tokens.now (total env.now) label forms.now i members.now taken next
+    requires fits { fits_from bound.now.context.now.decls.now bound.now.context.now.tokens.now label
+        (comma_before forms.now i) (drop i forms.now)
+        (drop taken members.now) (total bound.now.env.now) ≡ true }
+    ensures { IfOk result (λ next. IsNext bound.now.context.now.decls.now bound.now.context.now.tokens.now
+        (total bound.now.env.now) label forms.now i members.now taken next
         found.old.items found.new.items) }
 {
     let form = &forms[i];
@@ -290,57 +275,54 @@ fn put_next(
         }
         None => {
             if is_wild(label, form) {
-                put_wild(
-                    alloc, found, decls, tokens, env, label, forms, i, form, members, taken,
-                )
+                let child = ListChild {
+                    label,
+                    forms,
+                    i,
+                    form,
+                };
+                put_wild(alloc, found, bound, &child, members, taken)
             } else {
-                put_single(
-                    alloc, found, decls, tokens, env, label, forms, i, form, members, taken,
-                )
+                put_single(alloc, found, bound, label, forms, i, form, members, taken)
             }
         }
     }
 }
 
-/// Returns the member that the i-th child takes after `taken` members. By the contract the member exists and the child fits it.
+/// Returns the member that the child takes after `taken` members. By the contract the member exists and the child fits it.
 /// The contract depends on the declarations, tokens and environment; the call reads none of them.
 fn taken_member<'a, 'b>(
-    decls: &[VarDecl],
-    tokens: &[PatToken],
-    env: &Env,
-    label: Label,
-    forms: &[Tree],
-    i: usize,
-    form: &Tree,
+    bound: &BoundContext<'_>,
+    child: &ListChild<'_>,
     members: &'a [ListMember<'b>],
     taken: usize,
 ) -> &'a ListMember<'b>
-    requires within { i < length forms.now }
-    requires child { form.now ≡ slice_index_or forms.now i form.now }
-    requires member { comma form.now ≡ None }
-    requires single { is_wild label (leaf_of (out-Tree form.now)) ≡ false }
+    requires within { child.now.i < length child.now.forms.now }
+    requires child { child.now.form.now ≡ slice_index_or child.now.forms.now child.now.i child.now.form.now }
+    requires member { comma child.now.form.now ≡ None }
+    requires single { is_wild child.now.label (leaf_of (out-Tree child.now.form.now)) ≡ false }
     requires left { taken ≤ length members.now }
-    requires fits { fits_from decls.now tokens.now label (comma_before forms.now i) (drop i forms.now)
-        (drop taken members.now) (total env.now) ≡ true }
+    requires fits { fits_from bound.now.context.now.decls.now bound.now.context.now.tokens.now child.now.label
+        (comma_before child.now.forms.now child.now.i) (drop child.now.i child.now.forms.now)
+        (drop taken members.now) (total bound.now.env.now) ≡ true }
     ensures less { taken < length members.now }
     ensures item { result.now ≡ slice_index_or members.now taken result.now }
-    ensures fits { fits_tree decls.now tokens.now (total env.now) form.now result.now.tree ≡ true }
+    ensures fits { fits_tree bound.now.context.now.decls.now bound.now.context.now.tokens.now
+        (total bound.now.env.now) child.now.form.now result.now.tree ≡ true }
 {
     &members[taken]
 }
 
 /// Like `put_next`, for a child that takes one member.
 #[cycle(pair)]
-fn put_single(
+fn put_single<'x>(
     alloc: Global,
     found: &mut Vec<AlignedToken>,
-    decls: &[VarDecl],
-    tokens: &[PatToken],
-    env: &Env,
+    bound: &BoundContext<'_>,
     label: Label,
-    forms: &[Tree],
+    forms: &'x [Tree],
     i: usize,
-    form: &Tree,
+    form: &'x Tree,
     members: &[ListMember],
     taken: usize,
 ) -> Result<usize, NoMemory>
@@ -349,13 +331,21 @@ fn put_single(
     requires member { comma form.now ≡ None }
     requires single { is_wild label (leaf_of (out-Tree form.now)) ≡ false }
     requires left { taken ≤ length members.now }
-    requires fits { fits_from decls.now tokens.now label (comma_before forms.now i) (drop i forms.now)
-        (drop taken members.now) (total env.now) ≡ true }
-    ensures { IfOk result (λ next. IsNext decls.now tokens.now (total env.now) label forms.now i members.now taken next
+    requires fits { fits_from bound.now.context.now.decls.now bound.now.context.now.tokens.now label
+        (comma_before forms.now i) (drop i forms.now)
+        (drop taken members.now) (total bound.now.env.now) ≡ true }
+    ensures { IfOk result (λ next. IsNext bound.now.context.now.decls.now bound.now.context.now.tokens.now
+        (total bound.now.env.now) label forms.now i members.now taken next
         found.old.items found.new.items) }
 {
-    let member = taken_member(decls, tokens, env, label, forms, i, form, members, taken);
+    let child = ListChild {
+        label,
+        forms,
+        i,
+        form,
+    };
+    let member = taken_member(bound, &child, members, taken);
     put_comma_before(alloc, found, forms, i, &members[taken..taken + 1])?;
-    put_pairs(alloc, found, decls, tokens, env, form, member.tree())?;
+    put_pairs(alloc, found, bound, form, member.tree())?;
     Ok(taken + 1)
 }

@@ -8,33 +8,35 @@ ghost use Rattle.pat_match.specs.Fitting.{fits_tree, alignment};
 ghost use Rattle.pat_match.specs.Spots as at;
 ghost use Rattle.pat_match.specs.PatPairs.Pairs as spec;
 
+use crate::context::{PatternContext, PatternForm};
 use crate::parts::{NodeRole, close_brace, fits_seat, is_close_brace, is_open_brace, open_brace};
+use crate::pat_pairs::bound::BoundContext;
 use crate::pat_pairs::own::put_own;
 use crate::pat_pairs::pairing::put_pairs;
 use crate::pat_pairs::pairs::AlignedToken;
 use c_terms::{NoMemory, Token, Tree};
 use cfg_build::NodeKind;
-use smpl_patch::{PatToken, Pattern, Spot, VarDecl};
+use smpl_patch::{Pattern, Spot};
 use smpl_terms::Env;
 use std::alloc::Global;
 
 fn put_brace(
     alloc: Global,
     found: &mut Vec<AlignedToken>,
-    decls: &[VarDecl],
-    tokens: &[PatToken],
-    env: &Env,
+    bound: &BoundContext<'_>,
     form: &Tree,
     brace: Option<&Tree>,
 ) -> Result<(), NoMemory>
-    requires fits { at.option_fits (fits_tree decls.now tokens.now (total env.now) form.now)
+    requires fits { at.option_fits (fits_tree bound.now.context.now.decls.now bound.now.context.now.tokens.now
+        (total bound.now.env.now) form.now)
         (option_copied brace) ≡ true }
     ensures { OnOk result (found.new.items ≡ found.old.items
-        ++ spec.numbers (at.option_pairs (alignment decls.now tokens.now (total env.now) form.now)
+        ++ spec.numbers (at.option_pairs (alignment bound.now.context.now.decls.now bound.now.context.now.tokens.now
+        (total bound.now.env.now) form.now)
         (option_copied brace.entry))) }
 {
     match brace {
-        Some(brace) => put_pairs(alloc, found, decls, tokens, env, form, brace),
+        Some(brace) => put_pairs(alloc, found, bound, form, brace),
         None => Ok(()),
     }
 }
@@ -42,72 +44,45 @@ fn put_brace(
 fn put_token_whole(
     alloc: Global,
     found: &mut Vec<AlignedToken>,
-    decls: &[VarDecl],
-    tokens: &[PatToken],
-    env: &Env,
+    bound: &BoundContext<'_>,
     kind: NodeKind,
     token: &Token,
     form: &Tree,
     tree: &Tree,
 ) -> Result<(), NoMemory>
-    requires fits { at.token_whole decls.now tokens.now (total env.now) kind token.now form.now tree.now ≡ true }
+    requires fits { at.token_whole bound.now.context.now.decls.now bound.now.context.now.tokens.now
+        (total bound.now.env.now) kind token.now form.now tree.now ≡ true }
     ensures { OnOk result (found.new.items ≡ found.old.items
-        ++ spec.numbers (at.token_alignment decls.now tokens.now (total env.now) kind token.now form.now tree.now)) }
+        ++ spec.numbers (at.token_alignment bound.now.context.now.decls.now bound.now.context.now.tokens.now
+        (total bound.now.env.now) kind token.now form.now tree.now)) }
 {
     if is_open_brace(token) {
-        put_brace(
-            alloc,
-            found,
-            decls,
-            tokens,
-            env,
-            form,
-            open_brace(kind, tree),
-        )
+        put_brace(alloc, found, bound, form, open_brace(kind, tree))
     } else if is_close_brace(token) {
-        put_brace(
-            alloc,
-            found,
-            decls,
-            tokens,
-            env,
-            form,
-            close_brace(kind, tree),
-        )
+        put_brace(alloc, found, bound, form, close_brace(kind, tree))
     } else {
-        put_pairs(alloc, found, decls, tokens, env, form, tree)
+        put_pairs(alloc, found, bound, form, tree)
     }
 }
 
 fn put_branch_whole(
     alloc: Global,
     found: &mut Vec<AlignedToken>,
-    decls: &[VarDecl],
-    tokens: &[PatToken],
-    env: &Env,
+    bound: &BoundContext<'_>,
     kind: NodeKind,
     form: &Tree,
     tree: &Tree,
 ) -> Result<(), NoMemory>
-    requires fits { at.branch_whole decls.now tokens.now (total env.now) kind form.now tree.now ≡ true }
+    requires fits { at.branch_whole bound.now.context.now.decls.now bound.now.context.now.tokens.now
+        (total bound.now.env.now) kind form.now tree.now ≡ true }
     ensures { OnOk result (found.new.items ≡ found.old.items
-        ++ spec.numbers (at.branch_alignment decls.now tokens.now (total env.now) kind form.now tree.now)) }
+        ++ spec.numbers (at.branch_alignment bound.now.context.now.decls.now bound.now.context.now.tokens.now
+        (total bound.now.env.now) kind form.now tree.now)) }
 {
     match kind {
-        NodeKind::Simple => put_pairs(alloc, found, decls, tokens, env, form, tree),
-        NodeKind::Head => put_own(alloc, found, decls, tokens, env, NodeKind::Head, form, tree),
-        NodeKind::FunHead => {
-            put_own(
-                alloc,
-                found,
-                decls,
-                tokens,
-                env,
-                NodeKind::FunHead,
-                form,
-                tree,
-            )
-        }
+        NodeKind::Simple => put_pairs(alloc, found, bound, form, tree),
+        NodeKind::Head => put_own(alloc, found, bound, NodeKind::Head, form, tree),
+        NodeKind::FunHead => put_own(alloc, found, bound, NodeKind::FunHead, form, tree),
         _ => Ok(()),
     }
 }
@@ -115,71 +90,60 @@ fn put_branch_whole(
 fn put_whole(
     alloc: Global,
     found: &mut Vec<AlignedToken>,
-    decls: &[VarDecl],
-    tokens: &[PatToken],
-    env: &Env,
+    bound: &BoundContext<'_>,
     kind: NodeKind,
     form: &Tree,
     tree: &Tree,
 ) -> Result<(), NoMemory>
-    requires fits { at.whole_at decls.now tokens.now (total env.now) kind (out-Tree form.now) form.now tree.now ≡ true }
+    requires fits { at.whole_at bound.now.context.now.decls.now bound.now.context.now.tokens.now (total bound.now.env.now) kind
+        (out-Tree form.now) form.now tree.now ≡ true }
     ensures { OnOk result (found.new.items ≡ found.old.items
-        ++ spec.numbers (at.whole_alignment decls.now tokens.now (total env.now) kind (out-Tree form.now) form.now tree.now)) }
+        ++ spec.numbers (at.whole_alignment bound.now.context.now.decls.now bound.now.context.now.tokens.now
+        (total bound.now.env.now) kind (out-Tree form.now) form.now tree.now)) }
 {
     match form {
-        Tree::Leaf(token) => {
-            put_token_whole(alloc, found, decls, tokens, env, kind, token, form, tree)
-        }
-        Tree::Branch(_, _) => put_branch_whole(alloc, found, decls, tokens, env, kind, form, tree),
+        Tree::Leaf(token) => put_token_whole(alloc, found, bound, kind, token, form, tree),
+        Tree::Branch(_, _) => put_branch_whole(alloc, found, bound, kind, form, tree),
     }
 }
 
 fn put_tail(
     alloc: Global,
     found: &mut Vec<AlignedToken>,
-    decls: &[VarDecl],
-    tokens: &[PatToken],
-    env: &Env,
+    bound: &BoundContext<'_>,
     kind: NodeKind,
     form: &Tree,
     tree: &Tree,
 ) -> Result<(), NoMemory>
-    requires fits { at.fits_at decls.now tokens.now (total env.now) spot.Tail kind form.now tree.now ≡ true }
+    requires fits { at.fits_at bound.now.context.now.decls.now bound.now.context.now.tokens.now
+        (total bound.now.env.now) spot.Tail kind form.now tree.now ≡ true }
     ensures { OnOk result (found.new.items ≡ found.old.items
-        ++ spec.numbers (at.alignment_at decls.now tokens.now (total env.now) spot.Tail kind form.now tree.now)) }
+        ++ spec.numbers (at.alignment_at bound.now.context.now.decls.now bound.now.context.now.tokens.now
+        (total bound.now.env.now) spot.Tail kind form.now tree.now)) }
 {
-    put_own(
-        alloc,
-        found,
-        decls,
-        tokens,
-        env,
-        NodeKind::DoTail,
-        form,
-        tree,
-    )
+    put_own(alloc, found, bound, NodeKind::DoTail, form, tree)
 }
 
 /// Returns what a form of this spot is aligned with in a subtree that it fits.
 fn pairs_at(
     alloc: Global,
-    decls: &[VarDecl],
-    tokens: &[PatToken],
-    env: &Env,
+    bound: &BoundContext<'_>,
     spot: Spot,
     kind: NodeKind,
     form: &Tree,
     tree: &Tree,
 ) -> Result<Vec<AlignedToken>, NoMemory>
-    requires fits { at.fits_at decls.now tokens.now (total env.now) spot kind form.now tree.now ≡ true }
+    requires fits { at.fits_at bound.now.context.now.decls.now bound.now.context.now.tokens.now
+        (total bound.now.env.now) spot kind form.now tree.now ≡ true }
     ensures { IfOk result (λ r. r.items
-        ≡ spec.numbers (at.alignment_at decls.now tokens.now (total env.now) spot kind form.now tree.now)) }
+        ≡ spec.numbers (at.alignment_at bound.now.context.now.decls.now bound.now.context.now.tokens.now
+        (total bound.now.env.now) spot kind form.now tree.now)) }
 {
     let mut found = Vec::new(alloc);
     match spot {
-        Spot::Whole => put_whole(alloc, &mut found, decls, tokens, env, kind, form, tree)?,
-        Spot::Tail => put_tail(alloc, &mut found, decls, tokens, env, kind, form, tree)?,
-        Spot::Inside => put_pairs(alloc, &mut found, decls, tokens, env, form, tree)?,
+        Spot::Whole => put_whole(alloc, &mut found, bound, kind, form, tree)?,
+        Spot::Tail => put_tail(alloc, &mut found, bound, kind, form, tree)?,
+        Spot::Inside => put_pairs(alloc, &mut found, bound, form, tree)?,
     }
     Ok(found)
 }
@@ -190,23 +154,28 @@ fn pairs_at(
 ///
 /// Each disjunction in the form costs as much as `solve` does for its branches, and each dots or list variable in a list as
 /// much as `solve` does for the members after it. Each level costs a few recursive calls.
-pub fn aligned_tokens(
+pub fn aligned_tokens<'x>(
     alloc: Global,
     p: &Pattern,
-    decls: &[VarDecl],
-    tokens: &[PatToken],
+    context: &'x PatternContext<'x>,
     role: NodeRole,
     tree: &Tree,
-    env: &Env,
+    env: &'x Env,
 ) -> Result<Option<Vec<AlignedToken>>, NoMemory>
     ensures exact { IfOk result (λ r. option_map (λ found. found.items) r
-        ≡ spec.aligned_tokens decls.now tokens.now (total env.now) p.now role tree.now) }
+        ≡ spec.aligned_tokens context.now.decls.now context.now.tokens.now (total env.now) p.now role tree.now) }
 {
+    let bound = BoundContext { context, env };
     let forms = p.forms.as_slice();
     for i in 0..forms.len() {
         let form = &forms[i];
-        if fits_seat(alloc, p, decls, tokens, role, i, form, tree, env)? {
-            let found = pairs_at(alloc, decls, tokens, env, p.spot, role.kind, form, tree)?;
+        let choice = PatternForm {
+            pattern: p,
+            number: i,
+            tree: form,
+        };
+        if fits_seat(alloc, &choice, context, role, tree, env)? {
+            let found = pairs_at(alloc, &bound, p.spot, role.kind, form, tree)?;
             return Ok(Some(found));
         }
     }

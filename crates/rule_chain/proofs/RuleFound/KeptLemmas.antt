@@ -19,10 +19,10 @@ use Rattle.ctl_fixpoint.specs.CtlHolds.Rounds.{holds}
 use Rattle.ctl_fixpoint.proofs.CtlHolds.HoldLemmas.{holds_decides}
 use Rattle.rule_chain.specs.RuleWitnesses.Jobs.{witnesses_at, witnesses_of}
 use Rattle.rule_chain.specs.RuleWitnesses.Matched.{AreMatched}
-use Rattle.rule_chain.specs.declared.rule_witnesses.matched.Matched.{Matched}
+use Rattle.rule_chain.specs.declared.rule_witnesses.matched.SatSets.{SatSets}
 use Rattle.rule_chain.proofs.RuleWitnesses.MatchLemmas.{matched_all}
-use Rattle.rule_chain.specs.declared.rule_found.job.Kept.{Kept}
-use Rattle.rule_chain.specs.declared.rule_found.job.Kept.TheVariants.{Anew, Nowhere, Sets}
+use Rattle.rule_chain.specs.declared.rule_found.job.Cached.{Cached}
+use Rattle.rule_chain.specs.declared.rule_found.job.Cached.TheVariants.{Anew, Nowhere, Sets}
 use Rattle.rule_chain.specs.RuleFound.Kept.{AreTold, IsKept, AreKept}
 use Rattle.rule_chain.specs.RuleFound.Lent.{lent_graph}
 
@@ -32,7 +32,7 @@ module _ (f : FormulaOf) (g : Flow) (ok : IsSound g) where
   decided m le h s lt env = holds_decides f.decls f.tokens g ok m (omega (arith, le)) h s lt env
 
   -- both say the same
-  pub matched_told : (m : Matched) → AreMatched g f m.sets m.nodes → AreTold f g m
+  pub matched_told : (m : SatSets) → AreMatched g f m.sets m.nodes → AreTold f g m
   matched_told m are = (
     (are.sets.parts, are.sets.nodes),
     (
@@ -47,7 +47,7 @@ module _ (f : FormulaOf) (g : Flow) (ok : IsSound g) where
     ),
   )
 
-  pub told_matched : (m : Matched) → AreTold f g m → AreMatched g f m.sets m.nodes
+  pub told_matched : (m : SatSets) → AreTold f g m → AreMatched g f m.sets m.nodes
   told_matched m told = record {
     sets = record {
       parts = told.0.0;
@@ -72,7 +72,7 @@ module _ (f : FormulaOf) (g : Flow) (ok : IsSound g) where
       sym (matched_all g f sets nodes are ok within exports number item env)
       ∙ ap (flat_map (λ (s : ℕ). witnesses_at f g exports number item s env)) none
 
-  module _ (m : Matched) (are : AreMatched g f m.sets m.nodes) (none : m.nodes ≡ []) (within : f.root < length f.nodes) where
+  module _ (m : SatSets) (are : AreMatched g f m.sets m.nodes) (none : m.nodes ≡ []) (within : f.root < length f.nodes) where
     pub nothing_found : (exports : List Var) (number item : ℕ) (env : Pairs) → witnesses_of f g exports number item env ≡ []
     nothing_found exports number item env = no_node m.sets m.nodes are none within exports number item env
 
@@ -82,18 +82,18 @@ module _ (f : FormulaOf) (g : Flow) (ok : IsSound g) where
 -- ---- what the jobs keep
 
 -- if the sets aren't kept, nothing is stated
-pub told_kept : (f : FormulaOf) (g : Flow) (keep : Bool) (m : Matched) → AreTold f g m → IsKept f (Some g) (cond keep (Sets m) Anew)
+pub told_kept : (f : FormulaOf) (g : Flow) (keep : Bool) (m : SatSets) → AreTold f g m → IsKept f (Some g) (cond keep (Sets m) Anew)
 told_kept f g true m told = told
 told_kept f g false m told = tt
 
-kept_at : {A : Type 0} (field : A → Kept) (answers : List A) (j : ℕ) → j < length answers
+kept_at : {A : Type 0} (field : A → Cached) (answers : List A) (j : ℕ) → j < length answers
     → (a : A) × ((slice_get answers j ≡ Some a) × (get_or (map field answers) j Anew ≡ field a))
 kept_at field [] j lt = absurd (omega (arith, lt))
 kept_at field (x ∷ xs) zero lt = (x, (refl, refl))
 kept_at field (x ∷ xs) (suc j) lt = kept_at field xs j (omega (arith, lt))
 
-pub all_kept : (f : FormulaOf) (graphs : List (Option (Bor Flow))) {A : Type 0} (field : A → Kept) (answers : List A)
-    (kept : List Kept) → kept ≡ map field answers → length answers ≡ length graphs
+pub all_kept : (f : FormulaOf) (graphs : List (Option (Bor Flow))) {A : Type 0} (field : A → Cached) (answers : List A)
+    (kept : List Cached) → kept ≡ map field answers → length answers ≡ length graphs
     → ((j : ℕ) (a : A) → slice_get answers j ≡ Some a → IsKept f (lent_graph graphs (0 + j)) (field a)) → AreKept f graphs kept
 all_kept f graphs field answers kept is count each = λ i lt.
     let p = kept_at field answers i (omega (arith, lt, count)) in

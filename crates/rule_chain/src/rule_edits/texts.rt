@@ -129,6 +129,7 @@ fn nothing_new(lexed: &Lexed) -> Option<NewText>
     ensures none { result ≡ None }
     ensures short { length (text_of lexed.now) ≤ most_bytes }
 {
+    // The contract of this call says that the text is short enough, which the proof needs.
     let _text = lexed.bytes();
     None
 }

@@ -2,28 +2,24 @@
 ghost use Rattle.std.specs.Prelude.{◌≡◌, ◌≤◌, ◌^◌, ℕ, IfOk, OnOk, Err, List, length, map, true, false};
 ghost use Rattle.std.specs.List.{flat_map};
 ghost use Rattle.cpp_lines.specs.declared.reading.Item.{Item};
-ghost use Rattle.ctl_formula.specs.Formulas.{plain};
-ghost use Rattle.ctl_fixpoint.specs.CtlHolds.Parts.{EachPattern};
-ghost use Rattle.ctl_fixpoint.specs.CtlHolds.BoundLaw.{SureStand};
-ghost use Rattle.ctl_translate.specs.Answers.{IsFormulaOf};
 ghost use Rattle.env_parts.specs.Parts.{bare_env};
 ghost use Rattle.par_match.specs.declared.fault.JobFault.TheVariants.{Worker as WorkerStopped};
 ghost use Rattle.rule_chain.specs.RuleWitnesses.Bare.{bare_witness};
 ghost use Rattle.rule_chain.specs.RuleWitnesses.Choices.{AreNew};
-ghost use Rattle.rule_chain.specs.RuleWitnesses.Jobs.{BindsExports};
 ghost use Rattle.rule_chain.specs.declared.rule_witnesses.fault.JobFault.TheVariants as fault;
 ghost use Rattle.rule_chain.specs.RuleFound.Found.{found_under, is_large_under};
 ghost use Rattle.rule_chain.specs.RuleFound.Kept.{AreKept};
 ghost use Rattle.rule_chain.specs.RuleFound.Lent.{AreLent};
 
-use crate::rule_found::job::{First, Kept};
+use crate::patch_rules::ReadyRule;
+use crate::rule_found::job::{Cached, First};
 use crate::rule_found::worker::{FirstFinder, NextFinder};
-use crate::rule_witnesses::JobFault;
+use crate::rule_witnesses::{ItemQuery, JobFault};
 use c_terms::NoMemory;
 use cfg_build::Graph;
 use ctl_formula::Formula;
-use par_match::{Gate, JobFault as Stopped, map_jobs};
-use smpl_patch::{Rule, RuleWitness};
+use par_match::{Gate, JobFault as Stopped, Workers, map_jobs};
+use smpl_patch::RuleWitness;
 use smpl_terms::Env;
 use sqlite_items::Items;
 use std::alloc::Global;
@@ -44,7 +40,7 @@ const MOST_SETS: usize = 16_777_216;
 #[derive(Drop)]
 pub struct AllFirst {
     pub found: Items<RuleWitness>,
-    pub kept: Vec<Kept>,
+    pub kept: Vec<Cached>,
 }
 
 /// Returns what stopped the jobs: the fault of the first job that met one, or out of memory.
@@ -112,114 +108,102 @@ fn all_first(alloc: Global, answers: Vec<First>, later: bool) -> Result<AllFirst
 
 /// Returns the witnesses under the first environment and, if there are later ones, what is kept of each item.
 pub fn under_first<R: Threads + Sync, G: Gate>(
-    rt: &R,
-    alloc: Global,
-    number: u32,
-    rule: &Rule,
-    f: &Formula,
+    workers: &Workers<'_, R, G>,
+    ready: &ReadyRule<'_>,
     graphs: &[Option<&Graph<'_>>],
     env: &Env,
     later: bool,
-    jobs: u32,
-    gate: &G,
 ) -> Result<AllFirst, JobFault>
-    requires some_jobs { 1 ≤ jobs }
-    requires few_jobs { jobs ≤ 64 }
-    requires formula { IsFormulaOf rule.now f.now }
-    requires stand { EachPattern (SureStand f.now.decls f.now.tokens) (plain f.now) }
-    requires binds { BindsExports f.now rule.now.exports }
-    requires new { AreNew rule.now.exports env.now }
+    requires new { AreNew ready.now.rule.now.exports env.now }
     requires few_items { length graphs.now ≤ 2 ^ 32 }
-    ensures found { IfOk result (λ all. (items : List Item) → AreLent rule.now items graphs.now
-        → map bare_witness all.found ≡ found_under number rule.now items (bare_env env.now)) }
-    ensures few { OnOk result ((items : List Item) → AreLent rule.now items graphs.now
-        → is_large_under number rule.now items (bare_env env.now) ≡ false) }
+    ensures found { IfOk result (λ all. (items : List Item) → AreLent ready.now.rule.now items graphs.now
+        → map bare_witness all.found ≡ found_under ready.now.number ready.now.rule.now items (bare_env env.now)) }
+    ensures few { OnOk result ((items : List Item) → AreLent ready.now.rule.now items graphs.now
+        → is_large_under ready.now.number ready.now.rule.now items (bare_env env.now) ≡ false) }
     ensures count { IfOk result (λ all. later ≡ true → length all.kept.items ≡ length graphs.now) }
-    ensures kept { IfOk result (λ all. later ≡ true → AreKept f.now graphs.now all.kept.items) }
-    ensures too_many { result ≡ Err fault.TooMany → (items : List Item) → AreLent rule.now items graphs.now
-        → is_large_under number rule.now items (bare_env env.now) ≡ true }
+    ensures kept { IfOk result (λ all. later ≡ true → AreKept ready.now.prepared.now.formula graphs.now all.kept.items) }
+    ensures too_many { result ≡ Err fault.TooMany → (items : List Item) → AreLent ready.now.rule.now items graphs.now
+        → is_large_under ready.now.number ready.now.rule.now items (bare_env env.now) ≡ true }
 {
-    let finder = FirstFinder {
-        alloc,
-        number,
+    let f = &ready.prepared.formula;
+    let query = ItemQuery {
+        number: ready.number,
         f,
-        exports: rule.exports.as_slice(),
+        exports: ready.rule.exports.as_slice(),
+    };
+    let finder = FirstFinder {
+        alloc: workers.alloc,
+        query,
         graphs,
         env,
         keep: if later { most_kept(f, graphs) } else { 0 },
     };
-    match map_jobs(rt, alloc, jobs, graphs.len(), &finder, gate) {
-        Ok(answers) => Ok(all_first(alloc, answers, later)?),
+    match map_jobs(workers, graphs.len(), &finder) {
+        Ok(answers) => Ok(all_first(workers.alloc, answers, later)?),
         Err(stop) => Err(stopped(stop)),
     }
 }
 
 /// Returns the witnesses under one more environment, using what is kept of each item.
 pub fn under_next<R: Threads + Sync, G: Gate>(
-    rt: &R,
-    alloc: Global,
-    number: u32,
-    rule: &Rule,
-    f: &Formula,
+    workers: &Workers<'_, R, G>,
+    ready: &ReadyRule<'_>,
     graphs: &[Option<&Graph<'_>>],
-    kept: &[Kept],
+    kept: &[Cached],
     env: &Env,
-    jobs: u32,
-    gate: &G,
 ) -> Result<Items<RuleWitness>, JobFault>
-    requires some_jobs { 1 ≤ jobs }
-    requires few_jobs { jobs ≤ 64 }
-    requires formula { IsFormulaOf rule.now f.now }
-    requires stand { EachPattern (SureStand f.now.decls f.now.tokens) (plain f.now) }
-    requires binds { BindsExports f.now rule.now.exports }
-    requires new { AreNew rule.now.exports env.now }
+    requires new { AreNew ready.now.rule.now.exports env.now }
     requires few_items { length graphs.now ≤ 2 ^ 32 }
     requires count { length kept.now ≡ length graphs.now }
-    requires kept { AreKept f.now graphs.now kept.now }
-    ensures found { IfOk result (λ found. (items : List Item) → AreLent rule.now items graphs.now
-        → map bare_witness found ≡ found_under number rule.now items (bare_env env.now)) }
-    ensures few { OnOk result ((items : List Item) → AreLent rule.now items graphs.now
-        → is_large_under number rule.now items (bare_env env.now) ≡ false) }
-    ensures too_many { result ≡ Err fault.TooMany → (items : List Item) → AreLent rule.now items graphs.now
-        → is_large_under number rule.now items (bare_env env.now) ≡ true }
+    requires kept { AreKept ready.now.prepared.now.formula graphs.now kept.now }
+    ensures found { IfOk result (λ found. (items : List Item) → AreLent ready.now.rule.now items graphs.now
+        → map bare_witness found ≡ found_under ready.now.number ready.now.rule.now items (bare_env env.now)) }
+    ensures few { OnOk result ((items : List Item) → AreLent ready.now.rule.now items graphs.now
+        → is_large_under ready.now.number ready.now.rule.now items (bare_env env.now) ≡ false) }
+    ensures too_many { result ≡ Err fault.TooMany → (items : List Item) → AreLent ready.now.rule.now items graphs.now
+        → is_large_under ready.now.number ready.now.rule.now items (bare_env env.now) ≡ true }
 {
+    let query = ItemQuery {
+        number: ready.number,
+        f: &ready.prepared.formula,
+        exports: ready.rule.exports.as_slice(),
+    };
     let finder = NextFinder {
-        alloc,
-        number,
-        f,
-        exports: rule.exports.as_slice(),
+        alloc: workers.alloc,
+        query,
         graphs,
         kept,
         env,
     };
-    match map_jobs(rt, alloc, jobs, graphs.len(), &finder, gate) {
-        Ok(lists) => Ok(one_list(alloc, lists)?),
+    match map_jobs(workers, graphs.len(), &finder) {
+        Ok(lists) => Ok(one_list(workers.alloc, lists)?),
         Err(stop) => Err(stopped(stop)),
     }
 }
 
 /// The number of nodes of the item at which the formula holds. An item that is matched again counts for as many as are worth a
 /// thread.
-fn nodes_of_item(kept: &Kept) -> usize {
+fn nodes_of_item(kept: &Cached) -> usize {
     match kept {
-        Kept::Anew => NODES_A_THREAD,
-        Kept::Nowhere => 0,
-        Kept::Sets(matched) => matched.nodes.len(),
+        Cached::Anew => NODES_A_THREAD,
+        Cached::Nowhere => 0,
+        Cached::Sets(matched) => matched.nodes.len(),
     }
 }
 
-/// The number of jobs at a time that an environment after the first is worth, given what is kept of the items and the number of
-/// witnesses under the first: one for each 8,192 nodes at which the formula holds, where a witness counts for 64 nodes and an
-/// item that is matched again for 8,192. It is at least 1 and at most `jobs`.
-pub fn jobs_next(jobs: u32, kept: &[Kept], witnesses: usize) -> u32
-    requires some { 1 ≤ jobs }
-    ensures some { 1 ≤ result }
-    ensures most { result ≤ jobs }
+/// Returns the workers that do as many jobs at a time as an environment after the first is worth, given what is kept of the items
+/// and the number of witnesses under the first: one for each 8,192 nodes at which the formula holds, where a witness counts for 64
+/// nodes and an item that is matched again for 8,192. That is at least 1, and no more than before.
+pub fn workers_next<'w, R: Threads + Sync, G: Gate>(
+    workers: &Workers<'w, R, G>,
+    kept: &[Cached],
+    witnesses: usize,
+) -> Workers<'w, R, G>
+    ensures most { result.jobs ≤ workers.now.jobs }
 {
     let mut nodes = NODES_A_WITNESS.saturating_mul(witnesses);
     for item in kept {
         nodes = nodes.saturating_add(nodes_of_item(item));
     }
-    let worth = (nodes / NODES_A_THREAD).max(1);
-    worth.min(jobs as usize) as u32
+    workers.at_most((nodes / NODES_A_THREAD).max(1))
 }

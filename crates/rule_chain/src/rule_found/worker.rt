@@ -1,44 +1,37 @@
 // The workers of the jobs: each job finds what a formula finds in one item under one environment.
 ghost use Rattle.std.specs.Prelude.{◌≡◌, ◌<◌, ◌≤◌, ◌^◌, ℕ, true, length, IfOk, Err};
-ghost use Rattle.ctl_formula.specs.Formulas.{plain};
-ghost use Rattle.ctl_fixpoint.specs.CtlHolds.Parts.{EachPattern, each_pattern-prop};
-ghost use Rattle.ctl_fixpoint.specs.CtlHolds.BoundLaw.{SureStand, sure_stand-prop};
+ghost use Rattle.rule_chain.specs.RuleWitnesses.Jobs.{nodes_of};
 ghost use Rattle.wit_forest.specs.WitOrder.Sizes.{most_nodes};
-ghost use Rattle.rule_chain.specs.RuleWitnesses.Jobs.{BindsExports, nodes_of};
 ghost use Rattle.rule_chain.specs.declared.rule_witnesses.fault.JobFault.TheVariants as fault;
 ghost use Rattle.rule_chain.specs.RuleFound.Asked.{are_new};
 ghost use Rattle.rule_chain.specs.RuleFound.Jobs.{AreFoundBy, found_by};
 ghost use Rattle.rule_chain.specs.RuleFound.Kept.{IsKept, AreKept, are_kept-prop};
 ghost use Rattle.rule_chain.specs.RuleFound.Lent.{lent_graph};
 
-use crate::rule_found::job::{First, Kept, first_found, next_found};
-use crate::rule_witnesses::JobFault;
+use crate::rule_found::job::{Cached, First, first_found, next_found};
+use crate::rule_witnesses::{ItemQuery, JobFault};
 use cfg_build::Graph;
-use ctl_formula::Formula;
+use ctl_fixpoint::SoundGraph;
 use par_match::Worker;
 use smpl_patch::RuleWitness;
-use smpl_terms::{Env, Var};
+use smpl_terms::Env;
 use sqlite_items::Items;
 use std::alloc::Global;
 
 /// Finds what a formula finds in each item under the first environment, with one job per item, which has the item's number.
 #[derive(Drop)]
-pub struct FirstFinder<'a> {
+pub struct FirstFinder<'q, 'a> {
     pub alloc: Global,
-    pub number: u32,
-    pub f: &'a Formula,
-    pub exports: &'a [Var],
+    pub query: ItemQuery<'q>,
     pub graphs: &'a [Option<&'a Graph<'a>>],
     pub env: &'a Env,
     /// The number of items, from the first, for which what `match_item` returns is kept.
     pub keep: usize,
-    ghost stand: { EachPattern (SureStand f.now.decls f.now.tokens) (plain f.now) } by { each_pattern-prop (SureStand f.now.decls f.now.tokens) (sure_stand-prop f.now.decls f.now.tokens) (plain f.now) },
-    ghost binds: { BindsExports f.now exports.now },
-    ghost new: { are_new exports.now env.now ≡ true },
+    ghost new: { are_new query.exports.now env.now ≡ true },
     ghost few: { length graphs.now ≤ 2 ^ 32 },
 }
 
-impl<'a> Worker for FirstFinder<'a> {
+impl<'q, 'a> Worker for FirstFinder<'q, 'a> {
     type Answer = First;
 
     type Fault = JobFault;
@@ -46,21 +39,19 @@ impl<'a> Worker for FirstFinder<'a> {
     ghost jobs = { λ w. length w.graphs.now };
 
     ghost may_answer = { λ w job first.
-        AreFoundBy (found_by w.f.now w.exports.now w.number job (lent_graph w.graphs.now job) w.env.now) first.found
-        × IsKept w.f.now (lent_graph w.graphs.now job) first.kept };
+        AreFoundBy (found_by w.query.f.now w.query.exports.now w.query.number job (lent_graph w.graphs.now job) w.env.now) first.found
+        × IsKept w.query.f.now (lent_graph w.graphs.now job) first.kept };
 
     ghost may_fail = { λ w job why. why ≡ fault.TooMany
-        → most_nodes < nodes_of (found_by w.f.now w.exports.now w.number job (lent_graph w.graphs.now job) w.env.now) };
+        → most_nodes < nodes_of (found_by w.query.f.now w.query.exports.now w.query.number job (lent_graph w.graphs.now job) w.env.now) };
 
     fn answer(&self, job: usize) -> Result<First, JobFault> {
         match self.graphs[job] {
             None => Ok(First::nothing(self.alloc)),
-            Some(g) => first_found(
+            Some(graph) => first_found(
                 self.alloc,
-                self.number,
-                self.f,
-                self.exports,
-                g,
+                &self.query,
+                &SoundGraph::of(graph),
                 job as u32,
                 self.env,
                 job < self.keep,
@@ -72,23 +63,19 @@ impl<'a> Worker for FirstFinder<'a> {
 /// Finds what a formula finds in each item under one more environment, using what is kept of the item, with one job per item,
 /// which has the item's number.
 #[derive(Drop)]
-pub struct NextFinder<'a> {
+pub struct NextFinder<'q, 'a> {
     pub alloc: Global,
-    pub number: u32,
-    pub f: &'a Formula,
-    pub exports: &'a [Var],
+    pub query: ItemQuery<'q>,
     pub graphs: &'a [Option<&'a Graph<'a>>],
-    pub kept: &'a [Kept],
+    pub kept: &'a [Cached],
     pub env: &'a Env,
-    ghost stand: { EachPattern (SureStand f.now.decls f.now.tokens) (plain f.now) } by { each_pattern-prop (SureStand f.now.decls f.now.tokens) (sure_stand-prop f.now.decls f.now.tokens) (plain f.now) },
-    ghost binds: { BindsExports f.now exports.now },
-    ghost new: { are_new exports.now env.now ≡ true },
+    ghost new: { are_new query.exports.now env.now ≡ true },
     ghost few: { length graphs.now ≤ 2 ^ 32 },
     ghost kept_count: { length kept.now ≡ length graphs.now },
-    ghost each_kept: { AreKept f.now graphs.now kept.now } by { are_kept-prop f.now graphs.now kept.now },
+    ghost each_kept: { AreKept query.f.now graphs.now kept.now } by { are_kept-prop query.f.now graphs.now kept.now },
 }
 
-impl<'a> Worker for NextFinder<'a> {
+impl<'q, 'a> Worker for NextFinder<'q, 'a> {
     type Answer = Items<RuleWitness>;
 
     type Fault = JobFault;
@@ -96,20 +83,18 @@ impl<'a> Worker for NextFinder<'a> {
     ghost jobs = { λ w. length w.graphs.now };
 
     ghost may_answer = { λ w job found.
-        AreFoundBy (found_by w.f.now w.exports.now w.number job (lent_graph w.graphs.now job) w.env.now) found };
+        AreFoundBy (found_by w.query.f.now w.query.exports.now w.query.number job (lent_graph w.graphs.now job) w.env.now) found };
 
     ghost may_fail = { λ w job why. why ≡ fault.TooMany
-        → most_nodes < nodes_of (found_by w.f.now w.exports.now w.number job (lent_graph w.graphs.now job) w.env.now) };
+        → most_nodes < nodes_of (found_by w.query.f.now w.query.exports.now w.query.number job (lent_graph w.graphs.now job) w.env.now) };
 
     fn answer(&self, job: usize) -> Result<Items<RuleWitness>, JobFault> {
         match self.graphs[job] {
             None => Ok(Items::new(self.alloc)),
-            Some(g) => next_found(
+            Some(graph) => next_found(
                 self.alloc,
-                self.number,
-                self.f,
-                self.exports,
-                g,
+                &self.query,
+                &SoundGraph::of(graph),
                 &self.kept[job],
                 job as u32,
                 self.env,

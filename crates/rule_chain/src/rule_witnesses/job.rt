@@ -15,21 +15,32 @@ ghost use Rattle.wit_forest.specs.WitTrees.Graphs.{forest_of};
 ghost use Rattle.rule_chain.specs.RuleWitnesses.Bare.{bare_witness};
 ghost use Rattle.rule_chain.specs.RuleWitnesses.Choices.{AreNew, Leaves};
 ghost use Rattle.rule_chain.specs.RuleWitnesses.Matched.{AreMatched};
-ghost use Rattle.rule_chain.specs.RuleWitnesses.Jobs.{nodes_of, BindsExports, witness_at, witnesses_at, witnesses_of};
+ghost use Rattle.rule_chain.specs.RuleWitnesses.Jobs.{nodes_of, witness_at, witnesses_at, witnesses_of};
 ghost use Rattle.rule_chain.specs.declared.rule_witnesses.fault.JobFault.TheVariants as fault;
 
 use crate::rule_witnesses::fault::{JobFault, fault_of};
 use crate::rule_witnesses::found::Found;
-use crate::rule_witnesses::matched::Matched;
+use crate::rule_witnesses::matched::SatSets;
+use crate::rule_witnesses::query::ItemQuery;
 use crate::rule_witnesses::values::choices;
 use cfg_build::Graph;
+use ctl_fixpoint::SoundGraph;
 use ctl_formula::Formula;
 use env_sets::{EnvSet, StateSets};
 use smpl_patch::{RuleWitness, Witness};
-use smpl_terms::{Env, Var};
+use smpl_terms::Env;
 use sqlite_items::Items;
 use std::alloc::Global;
 use wit_forest::forest;
+
+/// A node of an item's graph, and the sets of a formula in that graph.
+#[derive(Clone, Copy)]
+struct Place<'g, 'a, 's> {
+    g: &'g Graph<'a>,
+    sets: &'s StateSets,
+    item: u32,
+    node: u32,
+}
 
 fn forest_at(
     alloc: Global,
@@ -56,30 +67,25 @@ fn forest_at(
 /// Adds the witness at a node under an environment, with its forest.
 fn with_witness(
     alloc: Global,
-    g: &Graph,
-    f: &Formula,
-    sets: &StateSets,
-    rule: u32,
-    item: u32,
-    s: u32,
+    query: &ItemQuery<'_>,
+    place: &Place<'_, '_, '_>,
     env: &Env,
     so_far: Found,
 ) -> Result<Found, JobFault>
-    requires node { s < count_of g.now }
-    requires stand { EachPattern (SureStand f.now.decls f.now.tokens) (plain f.now) }
-    requires sets { AreStateSets g.now f.now sets.now }
+    requires node { place.now.node < count_of place.now.g.now }
+    requires sets { AreStateSets place.now.g.now query.now.f.now place.now.sets.now }
     ensures found { IfOk result (λ now. map bare_witness now.witnesses ≡ map bare_witness
-        (so_far.witnesses ++ witness_at f.now g.now [] rule item s env.now ∷ [])) }
+        (so_far.witnesses ++ witness_at query.now.f.now place.now.g.now [] query.now.number place.now.item place.now.node env.now ∷ [])) }
     ensures too_many { result ≡ Err fault.TooMany → most_nodes < nodes_of
-        (so_far.witnesses ++ witness_at f.now g.now [] rule item s env.now ∷ []) }
+        (so_far.witnesses ++ witness_at query.now.f.now place.now.g.now [] query.now.number place.now.item place.now.node env.now ∷ []) }
 {
-    let trees = forest_at(alloc, g, f, sets, s, env)?;
+    let trees = forest_at(alloc, place.g, query.f, place.sets, place.node, env)?;
     let env = env.copy(alloc)?;
     let forest = Items::from_vec(trees);
     so_far.with(RuleWitness {
-        rule,
-        item,
-        node: s,
+        rule: query.number,
+        item: place.item,
+        node: place.node,
         env,
         forest,
     })
@@ -88,33 +94,27 @@ fn with_witness(
 /// Adds the witnesses at one node.
 fn with_node(
     alloc: Global,
-    g: &Graph,
-    f: &Formula,
-    sets: &StateSets,
+    query: &ItemQuery<'_>,
+    place: &Place<'_, '_, '_>,
     set: &EnvSet,
-    exports: &[Var],
-    rule: u32,
-    item: u32,
-    s: u32,
     env: &Env,
     so_far: Found,
 ) -> Result<Found, JobFault>
-    requires node { s < count_of g.now }
-    requires stand { EachPattern (SureStand f.now.decls f.now.tokens) (plain f.now) }
-    requires sets { AreStateSets g.now f.now sets.now }
+    requires node { place.now.node < count_of place.now.g.now }
+    requires sets { AreStateSets place.now.g.now query.now.f.now place.now.sets.now }
     requires told { (e : Environment) → set_denotes set.now e
-        ≡ holds f.now.decls f.now.tokens g.now (count_of g.now + 1) (plain f.now) s e }
-    requires leaves { Leaves (values_of g.now) exports.now set.now env.now }
-    requires new { AreNew exports.now env.now }
+        ≡ holds query.now.f.now.decls query.now.f.now.tokens place.now.g.now (count_of place.now.g.now + 1) (plain query.now.f.now) place.now.node e }
+    requires leaves { Leaves (values_of place.now.g.now) query.now.exports.now set.now env.now }
+    requires new { AreNew query.now.exports.now env.now }
     ensures found { IfOk result (λ now. map bare_witness now.witnesses ≡ map bare_witness
-        (so_far.witnesses ++ witnesses_at f.now g.now exports.now rule item s env.now)) }
+        (so_far.witnesses ++ witnesses_at query.now.f.now place.now.g.now query.now.exports.now query.now.number place.now.item place.now.node env.now)) }
     ensures too_many { result ≡ Err fault.TooMany → most_nodes < nodes_of
-        (so_far.witnesses ++ witnesses_at f.now g.now exports.now rule item s env.now) }
+        (so_far.witnesses ++ witnesses_at query.now.f.now place.now.g.now query.now.exports.now query.now.number place.now.item place.now.node env.now) }
 {
-    let envs = choices(alloc, set, exports, env)?;
+    let envs = choices(alloc, set, query.exports, env)?;
     let mut found = so_far;
     for e in &envs {
-        found = with_witness(alloc, g, f, sets, rule, item, s, e, found)?;
+        found = with_witness(alloc, query, place, e, found)?;
     }
     Ok(found)
 }
@@ -123,8 +123,7 @@ fn with_node(
 /// then by the values of the exported variables, each with its forest. The contract compares them without the ids of terms.
 ///
 /// `matched` is what [`match_item`](crate::rule_witnesses::match_item) returns for the formula and the graph: one serves all
-/// environments. `rule` and `item` are the numbers that the witnesses carry. The formula must bind each exported variable, and
-/// the sure variables of its patterns must occur in them.
+/// environments. `item` is the number of the item, which the witnesses carry.
 ///
 /// - `TooMany`: the forests have more than 1,000,000 touches and binds in all.
 /// - `NoMemory`: out of memory.
@@ -132,32 +131,32 @@ fn with_node(
 /// Costs one call of [`choices`](crate::rule_witnesses::choices) for each node of `matched`, and one of [`forest`] per witness.
 pub fn item_witnesses(
     alloc: Global,
-    g: &Graph,
-    f: &Formula,
-    matched: &Matched,
-    exports: &[Var],
-    rule: u32,
+    query: &ItemQuery<'_>,
+    g: &SoundGraph<'_, '_>,
+    matched: &SatSets,
     item: u32,
     env: &Env,
 ) -> Result<Items<RuleWitness>, JobFault>
-    requires stand { EachPattern (SureStand f.now.decls f.now.tokens) (plain f.now) }
-    requires matched { AreMatched g.now f.now matched.now.sets matched.now.nodes }
-    requires binds { BindsExports f.now exports.now }
-    requires new { AreNew exports.now env.now }
+    requires matched { AreMatched g.now.graph.now query.now.f.now matched.now.sets matched.now.nodes }
+    requires new { AreNew query.now.exports.now env.now }
     ensures found { IfOk result (λ found. map bare_witness found ≡ map bare_witness
-        (witnesses_of f.now g.now exports.now rule item env.now)) }
-    ensures few { OnOk result (nodes_of (witnesses_of f.now g.now exports.now rule item env.now) ≤ most_nodes) }
+        (witnesses_of query.now.f.now g.now.graph.now query.now.exports.now query.now.number item env.now)) }
+    ensures few { OnOk result (nodes_of (witnesses_of query.now.f.now g.now.graph.now query.now.exports.now query.now.number item env.now) ≤ most_nodes) }
     ensures too_many { result ≡ Err fault.TooMany → most_nodes < nodes_of
-        (witnesses_of f.now g.now exports.now rule item env.now) }
+        (witnesses_of query.now.f.now g.now.graph.now query.now.exports.now query.now.number item env.now) }
 {
-    // The contract of this call says that the graph is sound, which the proof needs.
-    let _count = g.count();
-    let root = f.root();
+    let root = query.f.root();
     let sets = &matched.sets;
     let mut found = Found::none(alloc);
     for s in matched.nodes.as_slice() {
         let set = sets.at(root, *s);
-        found = with_node(alloc, g, f, sets, set, exports, rule, item, *s, env, found)?;
+        let place = Place {
+            g: g.graph,
+            sets,
+            item,
+            node: *s,
+        };
+        found = with_node(alloc, query, &place, set, env, found)?;
     }
     Ok(found.into_items())
 }

@@ -1,5 +1,5 @@
 // Where a formula holds in one item, under any environment.
-ghost use Rattle.std.specs.Prelude.{◌≡◌, ◌<◌, ◌∷◌, ◌++◌, [], IfOk, cond, length, slice_index_or};
+ghost use Rattle.std.specs.Prelude.{◌≡◌, ◌<◌, ◌∷◌, ◌++◌, [], IfOk, OnOk, cond, length, slice_index_or};
 ghost use Rattle.std.specs.List.{filter};
 ghost use Rattle.cfg_build.specs.CfgGraph.Flow.{count_of};
 ghost use Rattle.env_sets.specs.States.{set_at};
@@ -11,7 +11,7 @@ ghost use Rattle.rule_chain.specs.RuleWitnesses.Matched.{AreMatched, has_entries
 
 use c_terms::NoMemory;
 use cfg_build::Graph;
-use ctl_fixpoint::sat;
+use ctl_fixpoint::{SoundGraph, sat};
 use ctl_formula::Formula;
 use env_sets::{EnvSet, StateSets};
 use sqlite_items::Items;
@@ -19,7 +19,7 @@ use std::alloc::Global;
 
 /// The sets of a formula in one graph, and the nodes, in ascending order, at which the set of the whole formula has an entry.
 #[derive(Drop)]
-pub struct Matched {
+pub struct SatSets {
     pub sets: StateSets,
     pub nodes: Items<u32>,
 }
@@ -56,14 +56,16 @@ fn nodes_with_entries(
 }
 
 /// Returns the sets of a formula in the graph of one item, and the nodes, in ascending order, at which the set of the whole
-/// formula has an entry: the formula holds at no other node. The sure variables of its patterns must occur in them.
+/// formula has an entry: the formula holds at no other node. The sure variables of its patterns must occur in them. The whole
+/// formula is a part of the table.
 ///
 /// Costs one call of [`sat`], and a look at each node.
-pub fn match_item(alloc: Global, g: &Graph, f: &Formula) -> Result<Matched, NoMemory>
+pub fn match_item(alloc: Global, g: &SoundGraph<'_, '_>, f: &Formula) -> Result<SatSets, NoMemory>
     requires stand { EachPattern (SureStand f.now.decls f.now.tokens) (plain f.now) }
-    ensures matched { IfOk result (λ m. AreMatched g.now f.now m.sets m.nodes) }
+    ensures matched { IfOk result (λ m. AreMatched g.now.graph.now f.now m.sets m.nodes) }
+    ensures root { OnOk result (f.now.root < length f.now.nodes) }
 {
     let sets = sat(alloc, g, f)?;
-    let nodes = nodes_with_entries(alloc, g, &sets, f.root())?;
-    Ok(Matched { sets, nodes })
+    let nodes = nodes_with_entries(alloc, g.graph, &sets, f.root())?;
+    Ok(SatSets { sets, nodes })
 }

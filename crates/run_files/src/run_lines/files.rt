@@ -2,15 +2,15 @@
 ghost use Rattle.std.specs.Prelude.{◌≡◌, ◌++◌, IfOk, OnOk};
 ghost use Rattle.run_files.specs.RunLines.Files as spec;
 
-use crate::run_lines::line::Line;
 use crate::run_lines::patches::line_about;
 use c_terms::NoMemory;
 use cpp_lines::Why;
 use rule_chain::{FileFault, SkipNote};
 use std::alloc::Global;
+use wit_print::TextBuffer;
 
 /// Appends why a file is refused. Appends nothing for `NoMemory`: no file is refused because memory ran out.
-fn put_fault(line: &mut Line, fault: &FileFault) -> Result<(), NoMemory>
+fn put_fault(line: &mut TextBuffer, fault: &FileFault) -> Result<(), NoMemory>
     ensures { OnOk result (line.new ≡ line.old ++ spec.fault_text fault.now) }
 {
     match fault {

@@ -2,12 +2,12 @@
 ghost use Rattle.std.specs.Prelude.{◌≡◌, ◌++◌, IfOk, OnOk};
 ghost use Rattle.run_files.specs.RunLines.Patches as spec;
 
-use crate::run_lines::line::Line;
 use c_terms::NoMemory;
 use iso_file::IsoFault;
 use outer_io::escaped_name;
 use smpl_patch::{PatchFault, fault_number, fault_place};
 use std::alloc::Global;
+use wit_print::TextBuffer;
 
 const USAGE: &str =
     "spatch: usage: spatch --sp-file P [--iso-file I] [--define a,b] [--jobs n] [--witnesses] [--in-place] FILE...\n";
@@ -20,10 +20,10 @@ pub fn usage() -> &'static str
 }
 
 /// Returns the start of a line about the given name: everything before the line's text.
-pub fn line_about(alloc: Global, name: &str) -> Result<Line, NoMemory>
+pub fn line_about(alloc: Global, name: &str) -> Result<TextBuffer, NoMemory>
     ensures { IfOk result (λ line. line ≡ spec.begun name.now) }
 {
-    let mut line = Line::new(alloc);
+    let mut line = TextBuffer::new(alloc);
     line.put(b"spatch: ")?;
     line.put(&escaped_name(alloc, name.as_bytes())?)?;
     line.put(b": ")?;
@@ -31,7 +31,7 @@ pub fn line_about(alloc: Global, name: &str) -> Result<Line, NoMemory>
 }
 
 /// Appends the place of a patch's fault.
-fn put_place(line: &mut Line, fault: &PatchFault) -> Result<(), NoMemory>
+fn put_place(line: &mut TextBuffer, fault: &PatchFault) -> Result<(), NoMemory>
     ensures { OnOk result (line.new ≡ line.old ++ spec.fault_place_text fault.now) }
 {
     match fault {
@@ -44,7 +44,7 @@ fn put_place(line: &mut Line, fault: &PatchFault) -> Result<(), NoMemory>
     }
 }
 
-fn put_variable(line: &mut Line, name: &[u8]) -> Result<(), NoMemory>
+fn put_variable(line: &mut TextBuffer, name: &[u8]) -> Result<(), NoMemory>
     ensures { OnOk result (line.new ≡ line.old ++ spec.variable_text name.now) }
 {
     line.put(b" of ")?;
@@ -67,7 +67,7 @@ pub fn patch_fault_line(alloc: Global, name: &str, fault: &PatchFault) -> Result
 
 /// Appends the number of a fault in isomorphisms, and its place. Appends nothing for `NoMemory`: isomorphisms are never refused
 /// because memory ran out.
-fn put_iso_fault(line: &mut Line, fault: IsoFault) -> Result<(), NoMemory>
+fn put_iso_fault(line: &mut TextBuffer, fault: IsoFault) -> Result<(), NoMemory>
     ensures { OnOk result (line.new ≡ line.old ++ spec.iso_fault_text fault) }
 {
     match fault {

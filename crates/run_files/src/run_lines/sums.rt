@@ -3,10 +3,10 @@ ghost use Rattle.std.specs.Prelude.{◌≡◌, ◌++◌, IfOk, OnOk};
 ghost use Rattle.wit_print.specs.Report.{shown_name};
 ghost use Rattle.run_files.specs.RunLines.Summary as spec;
 
-use crate::run_lines::line::Line;
 use c_terms::NoMemory;
 use smpl_patch::{Rule, RuleWitness};
 use std::alloc::Global;
+use wit_print::TextBuffer;
 
 /// Returns the number of witnesses that belong to the rule with this number.
 fn count_of(witnesses: &[RuleWitness], number: usize) -> usize
@@ -26,7 +26,7 @@ fn shown_name(name: &[u8]) -> &[u8]
 }
 
 fn put_rule(
-    line: &mut Line,
+    line: &mut TextBuffer,
     number: usize,
     rule: &Rule,
     witnesses: &[RuleWitness],
@@ -52,7 +52,7 @@ pub fn summary(
 ) -> Result<Vec<u8>, NoMemory>
     ensures text { IfOk result (λ text. text.items ≡ spec.summary rules.now witnesses.now length) }
 {
-    let mut line = Line::new(alloc);
+    let mut line = TextBuffer::new(alloc);
     for (number, rule) in rules.iter().enumerate() {
         put_rule(&mut line, number, rule, witnesses)?;
     }

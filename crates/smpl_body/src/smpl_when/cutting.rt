@@ -3,9 +3,8 @@ ghost use Rattle.std.specs.Prelude.{◌≡◌, ◌++◌, IfOk};
 ghost use Rattle.smpl_body.specs.SmplWhen.Cutting as spec;
 
 use crate::smpl_when::clauses::Clauses;
-use crate::smpl_when::words::{is_differs, is_host, is_word};
 use c_terms::{NoMemory, Token};
-use smpl_meta::Placed;
+use smpl_meta::{Placed, is_differs, is_host, is_word};
 use sqlite_items::Items;
 use std::alloc::Global;
 

@@ -3,11 +3,11 @@ use Rattle.std.proofs.Common.{◌≡◌, ◌<◌, ◌≤◌, ◌⊎◌, ◌||◌
 use Rattle.std.proofs.Common.{inl, inr, refl, ap, ◌∙◌, subst, arith}
 use Rattle.std.specs.Prelude.{IsSome}
 use Rattle.std.specs.FinMap.{get}
-use Rattle.outer_io.specs.Files.{Files, stored}
+use Rattle.outer_io.specs.Files.{Files}
 use Rattle.smpl_patch.specs.declared.rule.Rule.{Rule}
 use Rattle.smpl_patch.specs.declared.rule.Patch.{Patch}
 use Rattle.rule_chain.specs.Chain.{Chain, Outcome}
-use Rattle.run_acts.specs.Acts.{Act, Load, Store, Print, Report, Told, done, after}
+use Rattle.run_acts.specs.Acts.{Act, Load, Report, Told, done, after}
 use Rattle.run_acts.specs.Lines.{cannot_read}
 use Rattle.run_acts.specs.Loaded.{Found}
 use Rattle.run_files.specs.RunLines.Files.{too_long_line}
@@ -16,6 +16,7 @@ use Rattle.run_files.specs.Treatment.{Treated, file_limit, Treats, TreatsFile, t
 use Rattle.run_files.specs.RunStages.Reasons.{FilesEnd, AllDone, Missing, FilesDo}
 use Rattle.text_laws.specs.ChainTotal.Weakly.{Weakly}
 use Rattle.spatch_run.specs.RunEnds.Fates.{AllThere, NoneRefused, SomeRefused}
+use Rattle.spatch_run.proofs.RunLaws.Unique.{not-untold, done-told}
 
 -- the rules have an outcome over each text
 abbrev pub HaveEnds : List Rule → List (List ℕ) → Type 0
@@ -30,23 +31,9 @@ found_some None name = (Some [], refl)
 found_some (Some files) name = (get files name, refl)
 
 -- a shelf that reports its files does so after acts too
-stored_some : (holds : Option Files) (name bytes : List ℕ) → IsSome holds → IsSome (stored holds name bytes)
-stored_some None name bytes some = some
-stored_some (Some files) name bytes some = refl
-
-told_done : (act : Act) (old : Told) → IsSome old.files → IsSome (done act old).files
-told_done (Load name limit) old some = some
-told_done (Store name bytes) old some = stored_some old.files name bytes some
-told_done (Print bytes) old some = some
-told_done (Report line) old some = some
-
 told_after : (acts : List Act) (old : Told) → IsSome old.files → IsSome (after acts old).files
 told_after [] old some = some
-told_after (act ∷ acts) old some = told_after acts (done act old) (told_done act old some)
-
-not_untold : (holds : Option Files) → IsSome holds → holds ≡ None → ⊥
-not_untold None some none = let e : false ≡ true = some in absurd (cc)
-not_untold (Some files) some none = absurd (cc)
+told_after (act ∷ acts) old some = told_after acts (done act old) (done-told act old some)
 
 or_true : (b : Bool) → (b || true) ≡ true
 or_true true = refl
@@ -64,7 +51,7 @@ module _ (patch : Patch) (defined : List (List ℕ)) (mode : Mode) where
   treats_told : (holds : Option Files) (name bytes : List ℕ) (treated : Treated) → IsSome holds → TreatsFile holds mode patch defined name bytes treated
       → Treats mode patch defined name bytes treated
   treats_told holds name bytes treated some (inl treats) = treats
-  treats_told holds name bytes treated some (inr special) = absurd (not_untold holds some special.0)
+  treats_told holds name bytes treated some (inr special) = absurd (not-untold holds some special.0)
 
   -- ---- files have acts
 

@@ -51,7 +51,8 @@ Found-one (Some files) name a b some one two = one ∙ sym two
 not-both : (n : ℕ) → file_limit < n → n ≤ file_limit → ⊥
 not-both n long short = omega (arith, long, short)
 
-not-untold : (holds : Option Files) → IsSome holds → holds ≡ None → ⊥
+-- a shelf that reports its files doesn't report none
+pub not-untold : (holds : Option Files) → IsSome holds → holds ≡ None → ⊥
 not-untold None some none = let e : false ≡ true = some in absurd (cc)
 not-untold (Some files) some none = absurd (cc)
 
@@ -148,12 +149,12 @@ over_or_next (Doing acts work) status act over next = none_some status over
 over_or_next (Ending (a ∷ acts) s) status act over next = none_some status over
 over_or_next (Ending [] s) status act over next = none_some act next
 
-stored-told : (holds : Option Files) (name bytes : List ℕ) → IsSome holds → IsSome (stored holds name bytes)
+pub stored-told : (holds : Option Files) (name bytes : List ℕ) → IsSome holds → IsSome (stored holds name bytes)
 stored-told None name bytes some = some
 stored-told (Some files) name bytes some = refl
 
 -- a shelf that reports its files reports them after each act
-done-told : (act : Act) (old : Told) → IsSome old.files → IsSome (done act old).files
+pub done-told : (act : Act) (old : Told) → IsSome old.files → IsSome (done act old).files
 done-told (Load name limit) old some = some
 done-told (Store name bytes) old some = stored-told old.files name bytes some
 done-told (Print bytes) old some = some

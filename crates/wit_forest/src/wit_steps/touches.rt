@@ -9,7 +9,7 @@ use crate::wit_trees::is_touched;
 use c_terms::NoMemory;
 use cfg_build::Graph;
 use ctl_formula::{Formula, Node};
-use pat_match::{Alignment, align};
+use pat_match::{Alignment, PatternContext, align};
 use smpl_patch::{Pattern, Witness};
 use smpl_terms::Env;
 use std::alloc::Global;
@@ -49,7 +49,11 @@ fn put_touches(
     if p.forms.len() > u32::MAX as usize {
         return Err(NoMemory);
     }
-    let places = align(alloc, p, f.decls(), f.tokens(), &g.label(s), env)?;
+    let context = PatternContext {
+        decls: f.decls(),
+        tokens: f.tokens(),
+    };
+    let places = align(alloc, p, &context, &g.label(s), env)?;
     put_places(found, places, p.atom, s)
 }
 

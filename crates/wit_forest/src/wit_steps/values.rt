@@ -34,12 +34,7 @@ fn passes(env: &Env, x: &Var, y: &Var, bound: &Bound) -> bool
 fn others_allow(pairs: &[(Var, Bound)], env: &Env, x: &Var) -> bool
     ensures { result ≡ spec.others_allow x.now (total env.now) pairs.now }
 {
-    for p in pairs {
-        if !passes(env, x, &p.0, &p.1) {
-            return false;
-        }
-    }
-    true
+    pairs.iter().all(|p| passes(env, x, &p.0, &p.1))
 }
 
 fn as_value(bound: &Bound) -> Option<&Value>

@@ -17,7 +17,7 @@ returns-in-Err-clause-fault g c = let may = g.W.Worker.may_answer c.args.worker.
     let i = c.loop-from.invariant in let said = c.part_at-to.ensures in
     let why = subst (λ o. IfErr o (IsWhy may fail c.part_at-to.result.from c.part_at-to.result.to)) c.in-Err.is said.part.fault in
     let why' = subst (λ m. IsWhy may fail m c.part_at-to.result.to c.in-Err.fault) said.from why in
-    why-after may fail 0 c.loop-from.from c.part_at-to.result.to c.args.n c.loop-from.answers.items c.in-Err.fault (omega arith) said.within i.1 why'
+    why-after may fail 0 c.loop-from.from c.part_at-to.result.to c.args.ranges.n c.loop-from.answers.items c.in-Err.fault (omega arith) said.within i.1 why'
 
 pub loop-from-preserved : goal.loop-from-preserved
 loop-from-preserved g c = let may = g.W.Worker.may_answer c.args.worker.now in let fail = g.W.Worker.may_fail c.args.worker.now in

@@ -11,14 +11,14 @@ returns-in-Some-clause-meaning c =
     let here = comma_before_at c.args.forms.now c.args.i (c.args.i - 1) c.index-forms-i.result (omega (arith, c.if-i-eq0.false))
     (omega (arith, c.if-i-eq0.false)) c.index-forms-i.is in
     IfOk-weaker c.fit_comma.result _ _
-    (λ r h env. h env ∙ ap (λ o. comma_fits c.args.decls.now c.args.tokens.now env o c.args.run.now)
+    (λ r h env. h env ∙ ap (λ o. comma_fits c.args.context.now.decls.now c.args.context.now.tokens.now env o c.args.run.now)
     (ap option_copied (sym c.in-Some.is) ∙ c.comma.ensures.value ∙ sym here))
     c.fit_comma.ensures.meaning
 
 pub returns-in-Some-clause-vars : goal.returns-in-Some-clause-vars
 returns-in-Some-clause-vars c =
     IfOk-weaker c.fit_comma.result _ _
-    (λ r h t all. h t (comma-at c.args.decls.now c.args.tokens.now t c.args.forms.now (c.args.i - 1) c.index-forms-i.result _
+    (λ r h t all. h t (comma-at c.args.context.now.decls.now c.args.context.now.tokens.now t c.args.forms.now (c.args.i - 1) c.index-forms-i.result _
     (omega (arith, c.if-i-eq0.false)) c.index-forms-i.is
     (ap option_copied (sym c.in-Some.is) ∙ c.comma.ensures.value) all))
     c.fit_comma.ensures.vars
@@ -28,6 +28,6 @@ returns-in-None-clause-meaning c =
     let here = comma_before_at c.args.forms.now c.args.i (c.args.i - 1) c.index-forms-i.result (omega (arith, c.if-i-eq0.false))
     (omega (arith, c.if-i-eq0.false)) c.index-forms-i.is in
     IfOk-weaker c.all-in-None.result _ _
-    (λ r h env. h env ∙ ap (λ o. comma_fits c.args.decls.now c.args.tokens.now env o c.args.run.now)
+    (λ r h env. h env ∙ ap (λ o. comma_fits c.args.context.now.decls.now c.args.context.now.tokens.now env o c.args.run.now)
     (ap option_copied (sym c.in-None.is) ∙ c.comma.ensures.value ∙ sym here))
     c.all-in-None.ensures.meaning

@@ -2,6 +2,7 @@ use Rattle.std.proofs.Common.{sym}
 use Rattle.pat_match.proofs.LiveLemmas.{first_is_live}
 use Rattle.pat_match.proofs.live.is_live_at.Goals as goal
 
-pub returns-then-i-eq0 : goal.returns-then-i-eq0
-returns-then-i-eq0 c = sym (first_is_live c.args.decls.now c.args.tokens.now c.args.p.now c.args.i c.args.form.now
-    c.if-i-eq0.true c.requires.within c.requires.form)
+pub returns-then-form-eq0 : goal.returns-then-form-eq0
+returns-then-form-eq0 c = sym (first_is_live c.args.context.now.decls.now c.args.context.now.tokens.now c.args.form.now.pattern.now
+    c.args.form.now.number c.args.form.now.tree.now
+    c.if-form-eq0.true c.requires.within c.requires.form)

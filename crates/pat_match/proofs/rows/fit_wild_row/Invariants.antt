@@ -9,7 +9,9 @@ use Rattle.pat_match.proofs.rows.fit_wild_row.Given as goal
 abbrev pub invariant-loop-from : goal.invariant-loop-from
 invariant-loop-from l = record {
   meaning : (n : ℕ) (env : Environment) → row_at l.out.items n env
-      ≡ (nat_lt n l.from && step_at l.decls l.tokens l.label (comma_before l.forms l.i) l.form l.members l.row n env);
-  vars : (t : Var → Bool) → list_all (form_vars l.decls l.tokens t) l.forms ≡ true → form_vars l.decls l.tokens t l.form ≡ true
+      ≡ (nat_lt n l.from && step_at l.context.decls.now l.context.tokens.now l.child.label
+      (comma_before l.child.forms.now l.child.i) l.child.form.now l.members l.row n env);
+  vars : (t : Var → Bool) → list_all (form_vars l.context.decls.now l.context.tokens.now t) l.child.forms.now ≡ true
+      → form_vars l.context.decls.now l.context.tokens.now t l.child.form.now ≡ true
       → row_vars t l.row ≡ true → row_vars t l.out.items ≡ true;
 }

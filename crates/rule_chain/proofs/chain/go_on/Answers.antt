@@ -6,12 +6,12 @@ use Rattle.rule_chain.proofs.chain.go_on.Goals as goal
 
 pub returns-then-done-count-clause-comes : goal.returns-then-done-count-clause-comes
 returns-then-done-count-clause-comes c = λ rules s count left.
-    let all : length rules ≤ c.args.done = omega arith in
+    let all : length rules ≤ c.args.edited.done = omega arith in
     (all, c.in_ok-answer.ensures s left.findings_are (sym (ap (λ (p : Page). p.bytes) left.page)) left.skipped_is)
 
 pub returns-clause-comes : goal.returns-clause-comes
 returns-clause-comes c = λ rules s count left.
-    let lt : c.args.done < length rules = omega arith in
-    read_on c.args.findings c.args.text c.args.reading c.args.skipped c.in_ok-file.file s left c.in_ok-file.ensures.cut c.in_ok-file.ensures.reads
-    rules c.args.done c.in_ok-skipped.skipped lt
+    let lt : c.args.edited.done < length rules = omega arith in
+    read_on c.args.edited.findings c.args.edited.text c.args.reading c.args.skipped c.in_ok-file.file s left c.in_ok-file.ensures.cut c.in_ok-file.ensures.reads
+    rules c.args.edited.done c.in_ok-skipped.skipped lt
     (c.in_ok-skipped.ensures ∙ ap (λ items. c.args.skipped ++ notes_from (c.args.reading + 1) 0 items) c.items.ensures.items)

@@ -1,8 +1,8 @@
-use Rattle.std.proofs.Common.{◌≡◌, None, Some, refl, ap, subst, arith, length}
+use Rattle.std.proofs.Common.{◌≡◌, ℕ, None, Some, ap, sym, subst, arith, length}
 use Rattle.std.specs.Prelude.{Option, true, is_some}
 use Rattle.std.proofs.lemmas.Result.{err_from_is_err_and}
 use Rattle.rule_chain.specs.declared.rule_edits.texts.NewText.{NewText}
-use Rattle.rule_chain.specs.Stops.{LeadsOn}
+use Rattle.rule_chain.specs.Stops.{LeadsOn, IsFurther}
 use Rattle.rule_chain.proofs.StopLemmas.{Leading}
 use Rattle.rule_chain.proofs.StepLemmas.{step_ended, went_on, left_is, seen_fault}
 use Rattle.rule_chain.proofs.chain.next_reading.Goals as goal
@@ -11,11 +11,11 @@ pub returns-in_ok-answer-in-None-clause-step : goal.returns-in_ok-answer-in-None
 returns-in_ok-answer-in-None-clause-step g c = λ s at.
     let r = c.args.reached in
     let st = c.in_ok-stopped.stopped in
-    let on : Leading c.args.defined.now c.args.rules.now r.done st.done r.file r.next r.findings st.findings None =
-    subst (λ (t : Option NewText). Leading c.args.defined.now c.args.rules.now r.done st.done r.file r.next r.findings st.findings t)
+    let on : Leading c.args.rules.now.defined.now c.args.rules.now.patch.now.rules r.done st.done r.file r.next r.findings st.findings None =
+    subst (λ (t : Option NewText). Leading c.args.rules.now.defined.now c.args.rules.now.patch.now.rules r.done st.done r.file r.next r.findings st.findings t)
     c.in-None.is c.in_ok-stopped.ensures.stopped in
-    let done : st.done ≡ length c.args.rules.now = c.in_ok-stopped.ensures.last c.in-None.is in
-    step_ended c.args.defined.now c.args.rules.now r.done st.done s st.findings r.file r.next r on at at.at (omega arith)
+    let done : st.done ≡ length c.args.rules.now.patch.now.rules = c.in_ok-stopped.ensures.last c.in-None.is in
+    step_ended c.args.rules.now.defined.now c.args.rules.now.patch.now.rules r.done st.done s st.findings r.file r.next r on at at.at (omega arith)
     c.in_ok-answer-in-None.field-0 c.in_ok-answer-in-None.ensures
 
 pub returns-in_ok-go_on-in-Some-clause-step : goal.returns-in_ok-go_on-in-Some-clause-step
@@ -23,19 +23,20 @@ returns-in_ok-go_on-in-Some-clause-step g c = λ s at.
     let r = c.args.reached in
     let st = c.in_ok-stopped.stopped in
     let text = c.in-Some.text in
-    let on : LeadsOn c.args.defined.now c.args.rules.now r.done s st.done st.findings (Some text) =
-    subst (λ (t : Option NewText). LeadsOn c.args.defined.now c.args.rules.now r.done s st.done st.findings t)
+    let on : LeadsOn c.args.rules.now.defined.now c.args.rules.now.patch.now.rules r.done s st.done st.findings (Some text) =
+    subst (λ (t : Option NewText). LeadsOn c.args.rules.now.defined.now c.args.rules.now.patch.now.rules r.done s st.done st.findings t)
     c.in-Some.is (c.in_ok-stopped.ensures.stopped s at.findings at.at) in
-    went_on c.args.defined.now c.args.rules.now r.done st.done s st.findings text on c.in_ok-go_on-in-Some.field-0
-    (c.in_ok-go_on-in-Some.ensures.comes c.args.rules.now on.state refl
-    (left_is c.args.defined.now c.args.rules.now r.done st.done s st.findings r text at on))
+    went_on c.args.rules.now.defined.now c.args.rules.now.patch.now.rules r.done st.done s st.findings text on c.in_ok-go_on-in-Some.field-0
+    (c.in_ok-go_on-in-Some.ensures.comes c.args.rules.now.patch.now.rules on.state (sym c.count-count.ensures.count)
+    (left_is c.args.rules.now.defined.now c.args.rules.now.patch.now.rules r.done st.done s st.findings r text at on))
 
 pub returns-in_err-stopped-clause-fault : goal.returns-in_err-stopped-clause-fault
 returns-in_err-stopped-clause-fault g c =
     let p = err_from_is_err_and c.from_residual.result c.from_residual.ensures.1 in
-    rw (p.1, p.2) (seen_fault c.args.defined.now c.args.rules.now c.args.reached c.in_err-stopped.field-0.0 c.in_err-stopped.ensures.fault)
+    rw (p.1, p.2) (seen_fault c.args.rules.now.defined.now c.args.rules.now.patch.now.rules c.args.reached c.in_err-stopped.field-0.0 c.in_err-stopped.ensures.fault)
 
 pub returns-in_ok-go_on-in-Some-clause-further : goal.returns-in_ok-go_on-in-Some-clause-further
 returns-in_ok-go_on-in-Some-clause-further g c =
     let some : is_some c.in_ok-stopped.stopped.text ≡ true = ap is_some c.in-Some.is in
-    c.in_ok-go_on-in-Some.ensures.further c.args.reached.done (c.in_ok-stopped.ensures.on some)
+    subst (λ (n : ℕ). IsFurther c.args.reached.done n c.args.reached.reading c.in_ok-go_on-in-Some.field-0) c.count-count.ensures.count
+    (c.in_ok-go_on-in-Some.ensures.further c.args.reached.done (c.in_ok-stopped.ensures.on some))

@@ -6,7 +6,7 @@ use Rattle.rule_chain.proofs.rules.over_reading.Given as goal
 
 abbrev pub invariant-loop-number : goal.invariant-loop-number
 invariant-loop-number g l = record {
-  items : l.graphs.items ≡ l.file.items;
-  on : (s : Chained) → AreFindingsOf l.initial.findings s → IsAtReading l.file l.next s
-      → LeadsOn l.defined l.rules l.from s l.number l.findings None;
+  items : l.graphs.items ≡ l.reading.file.now.items;
+  on : (s : Chained) → AreFindingsOf l.initial.findings s → IsAtReading l.reading.file.now l.reading.next s
+      → LeadsOn l.rules.defined.now l.rules.patch.now.rules l.from s l.number l.findings None;
 }

@@ -16,19 +16,19 @@ pub returns-in_err-refuse-in-Err-clause-stopped : goal.returns-in_err-refuse-in-
 returns-in_err-refuse-in-Err-clause-stopped g c =
     let p = err_from_is_err_and c.from_residual.result c.from_residual.ensures.1 in
     let other : c.in-Err.fault ≡ NoMemory → ⊥ = λ e. false≢true (sym c.if-is_no_memory.false ∙ c.is_no_memory.ensures.1 e) in
-    let rules = c.args.ready.now.patch.now.rules in
+    let rules = c.args.rules.now.patch.now.rules in
     rw (p.1, p.2) (λ files out stores s o s' o'.
     later (refuses (refused_line c.args.name.now c.in-Err.fault))
-    (c.in-Err.fault, (chain_of rules c.args.ready.now.defined.now c.args.bytes.items c.in-Err.fault other c.in-Err.ensures.result, refl))
+    (c.in-Err.fault, (chain_of rules c.args.rules.now.defined.now c.args.bytes.items c.in-Err.fault other c.in-Err.ensures.result, refl))
     (c.in_err-refuse-in-Err.ensures.stopped files out stores s o s' o'))
 
 pub returns-in_ok-refuse-in-Err-clause-done : goal.returns-in_ok-refuse-in-Err-clause-done
 returns-in_ok-refuse-in-Err-clause-done g c = λ files stores out.
     let other : c.in-Err.fault ≡ NoMemory → ⊥ = λ e. false≢true (sym c.if-is_no_memory.false ∙ c.is_no_memory.ensures.1 e) in
-    let rules = c.args.ready.now.patch.now.rules in (
+    let rules = c.args.rules.now.patch.now.rules in (
       c.in-Err.fault,
       (
-        chain_of rules c.args.ready.now.defined.now c.args.bytes.items c.in-Err.fault other c.in-Err.ensures.result,
+        chain_of rules c.args.rules.now.defined.now c.args.bytes.items c.in-Err.fault other c.in-Err.ensures.result,
         c.in_ok-refuse-in-Err.ensures.done files stores out,
       ),
     )

@@ -3,6 +3,7 @@ use Rattle.std.proofs.lemmas.Result.{err_from_is_err_and}
 use Rattle.std.proofs.Math.Seq.{drop-cons}
 use Rattle.std.proofs.Math.ListN.{drop_of_length-le}
 use Rattle.run_acts.proofs.BreaksLemmas.{NoneFell-refl, NoneFell-then}
+use Rattle.run_acts.proofs.PlacesLemmas.{SamePlaces-refl, SamePlaces-then}
 use Rattle.std.specs.Borrow.{Bor}
 use Rattle.smpl_patch.specs.declared.rule.Patch.{Patch}
 use Rattle.run_words.specs.declared.order.Mode.{Mode}
@@ -49,46 +50,38 @@ module _ (patch : Patch) (defined : List (List ℕ)) (mode : Mode) (xs : List (B
       (map (λ name. name.now) (drop (i + 1) xs)) refused turned)) (NoneFell-then first before mid fell more) ends
 
 pub loop-name-init : goal.loop-name-init
-loop-name-init g c = record { fell = NoneFell-refl _; goes = Goes-refl _ _ }
+loop-name-init g c = record { same = SamePlaces-refl c.args.outside.now; fell = NoneFell-refl _; goes = Goes-refl _ _ }
 
-pub take_turn-requires-clause-ready : goal.take_turn-requires-clause-ready
-take_turn-requires-clause-ready g c κs within = c.requires.ready
+pub returns-in_err-take_turn-clause-ends : goal.returns-in_err-take_turn-clause-ends
+returns-in_err-take_turn-clause-ends g c =
+    let inv = c.loop-name.invariant in
+    let p = err_from_is_err_and c.from_residual.result c.from_residual.ensures.1 in
+    rw (p.1, p.2) (step_cut c.args.rules.now.patch.now c.args.rules.now.defined.now c.args.mode c.args.names.now
+    c.loop-name.name-index (record { ref_ptr = (0, 0); now = [] }) c.loop-name.refused
+    (omega arith) inv.goes inv.fell c.in_err-take_turn.ensures.stopped)
 
-pub returns-in_err-take_turn : goal.returns-in_err-take_turn
-returns-in_err-take_turn g c = record {
-  ends =
-      let inv = c.loop-name.invariant in
-      let p = err_from_is_err_and c.from_residual.result c.from_residual.ensures.1 in
-      rw (p.1, p.2) (step_cut c.args.ready.now.patch.now c.args.ready.now.defined.now c.args.mode c.args.names.now
-      c.loop-name.name-index (record { ref_ptr = (0, 0); now = [] }) c.loop-name.refused
-      (omega arith) inv.goes inv.fell c.in_err-take_turn.ensures.stopped);
-}
-
-pub returns-in-Absent : goal.returns-in-Absent
-returns-in-Absent g c = record {
-  ends =
-      let inv = c.loop-name.invariant in
-      step_absent c.args.ready.now.patch.now c.args.ready.now.defined.now c.args.mode c.args.names.now c.loop-name.name-index
-      (record { ref_ptr = (0, 0); now = [] }) c.loop-name.refused
-      (omega arith) inv.goes inv.fell c.in_ok-take_turn.ensures.fell (rw c.in-Absent.is at c.in_ok-take_turn.ensures.turned)
-      (c.refuse_absent.ensures.ends _ _ _ _ _);
-}
+pub returns-in-Absent-clause-ends : goal.returns-in-Absent-clause-ends
+returns-in-Absent-clause-ends g c =
+    let inv = c.loop-name.invariant in
+    step_absent c.args.rules.now.patch.now c.args.rules.now.defined.now c.args.mode c.args.names.now c.loop-name.name-index
+    (record { ref_ptr = (0, 0); now = [] }) c.loop-name.refused
+    (omega arith) inv.goes inv.fell c.in_ok-take_turn.ensures.fell (rw c.in-Absent.is at c.in_ok-take_turn.ensures.turned)
+    (c.refuse_absent.ensures.ends _ _ _ _ _)
 
 pub loop-name-preserved : goal.loop-name-preserved
 loop-name-preserved g c =
     let inv = c.loop-name.invariant in
     record {
+      same = SamePlaces-then c.args.outside.now c.loop-name.outside c.take_turn.new.outside inv.same c.in_ok-take_turn.ensures.same;
       fell = NoneFell-then _ _ _ inv.fell c.in_ok-take_turn.ensures.fell;
-      goes = rw c.either-refused.ensures (step_on c.args.ready.now.patch.now c.args.ready.now.defined.now c.args.mode
+      goes = rw c.either-refused.ensures (step_on c.args.rules.now.patch.now c.args.rules.now.defined.now c.args.mode
           c.args.names.now c.loop-name.name-index (record { ref_ptr = (0, 0); now = [] }) c.loop-name.refused c.in-Treated.here
           (omega arith) inv.goes (rw c.in-Treated.is at c.in_ok-take_turn.ensures.turned));
     }
 
-pub returns : goal.returns
-returns g c = record {
-  ends =
-      let inv = c.loop-name.invariant in
-      let none : drop c.loop-name.name-index c.args.names.now ≡ [] = drop_of_length-le c.args.names.now (omega arith) in
-      rw c.end_status.ensures (Goes-ends (rw none at inv.goes) inv.fell
-      (over (Ending [] (end_status c.loop-name.refused)) _ _ (end_status c.loop-name.refused) refl));
-}
+pub returns-clause-ends : goal.returns-clause-ends
+returns-clause-ends g c =
+    let inv = c.loop-name.invariant in
+    let none : drop c.loop-name.name-index c.args.names.now ≡ [] = drop_of_length-le c.args.names.now (omega arith) in
+    rw c.end_status.ensures (Goes-ends (rw none at inv.goes) inv.fell
+    (over (Ending [] (end_status c.loop-name.refused)) _ _ (end_status c.loop-name.refused) refl))

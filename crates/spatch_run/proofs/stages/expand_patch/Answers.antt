@@ -17,22 +17,19 @@ pub use_patch-requires-clause-usable : goal.use_patch-requires-clause-usable
 use_patch-requires-clause-usable g c κs within =
     c.patches_may_be_used.ensures.expanded c.requires.read.0 c.args.isos.now c.args.patch c.in-Ok.whole c.requires.read.1 c.in-Ok.ensures.patch
 
-pub returns-in-Ok : goal.returns-in-Ok
-returns-in-Ok g c = record {
-  ends =
-      let defined = c.args.order.now.defined.items in
-      let target = shown_target c.args.order.now.target in
-      by_other (TargetLeads c.in-Ok.whole defined target) (IsosLead c.args.isos.now c.args.patch c.args.name.now defined target)
-      (λ to leads. inr (c.in-Ok.whole, (c.in-Ok.ensures.patch, leads))) c.use_patch.ensures.ends;
-}
+pub returns-in-Ok-clause-ends : goal.returns-in-Ok-clause-ends
+returns-in-Ok-clause-ends g c =
+    let defined = c.args.order.now.defined.items in
+    let target = shown_target c.args.order.now.target in
+    by_other (TargetLeads c.in-Ok.whole defined target) (IsosLead c.args.isos.now c.args.patch c.args.name.now defined target)
+    (λ to leads. inr (c.in-Ok.whole, (c.in-Ok.ensures.patch, leads))) c.use_patch.ensures.ends
 
-pub returns-in-Err-NoMemory : goal.returns-in-Err-NoMemory
-returns-in-Err-NoMemory g c = record { ends = unfed (NoneFell-refl _) refl refl }
+pub returns-in-Err-NoMemory-clause-ends : goal.returns-in-Err-NoMemory-clause-ends
+returns-in-Err-NoMemory-clause-ends g c =
+    unfed (NoneFell-refl _) refl refl
 
-pub returns-in-Err-TooManyForms : goal.returns-in-Err-TooManyForms
-returns-in-Err-TooManyForms g c = record {
-  ends =
-      let many = rw c.in-Err-TooManyForms.field-0-is at c.in-Err-TooManyForms.ensures.fault in
-      from (refusing (forms_line c.args.name.now c.in-Err-TooManyForms.rule) 3) (inl (c.in-Err-TooManyForms.rule, (many, refl)))
-      (c.refuse_forms.ensures.ends _ _ _ _ _);
-}
+pub returns-in-Err-TooManyForms-clause-ends : goal.returns-in-Err-TooManyForms-clause-ends
+returns-in-Err-TooManyForms-clause-ends g c =
+    let many = rw c.in-Err-TooManyForms.field-0-is at c.in-Err-TooManyForms.ensures.fault in
+    from (refusing (forms_line c.args.name.now c.in-Err-TooManyForms.rule) 3) (inl (c.in-Err-TooManyForms.rule, (many, refl)))
+    (c.refuse_forms.ensures.ends _ _ _ _ _)

@@ -18,103 +18,96 @@ give_forms-requires-clause-few g c κs within = c.requires.few
 pub give_forms-requires-clause-read : goal.give_forms-requires-clause-read
 give_forms-requires-clause-read g c κs within = (c.deref.result.now, c.in-Ok.ensures.patch)
 
-pub returns-in_err-bytes : goal.returns-in_err-bytes
-returns-in_err-bytes g c = record {
-  ends =
-      let p = err_from_is_err_and c.from_residual.result c.from_residual.ensures.1 in
-      let o = g.O.Sink.faults c.args.out.now in
-      let work = ReadPatch c.args.order.now.patch.now (shown_isos c.args.order.now.isos) c.args.order.now.defined.items
-      (shown_target c.args.order.now.target) in
-      rw (p.1, p.2) (broken (Doing [] work) (first_load work) refl
-      (record { shelf = c.in_err-bytes.ensures.later; out = omega arith; err = c.in_err-bytes.ensures.later_err })
-      (c.in_err-bytes.ensures.stopped (g.O.Sink.written c.args.out.now) o o));
-}
+pub returns-in_err-bytes-clause-ends : goal.returns-in_err-bytes-clause-ends
+returns-in_err-bytes-clause-ends g c =
+    let p = err_from_is_err_and c.from_residual.result c.from_residual.ensures.1 in
+    let o = g.O.Sink.faults c.args.outside.now.out.now in
+    let work = ReadPatch c.args.order.now.patch.now (shown_isos c.args.order.now.isos) c.args.order.now.defined.items
+    (shown_target c.args.order.now.target) in
+    rw (p.1, p.2) (broken (Doing [] work) (first_load work) refl
+    (record { shelf = c.in_err-bytes.ensures.later; out = omega arith; err = c.in_err-bytes.ensures.later_err })
+    (c.in_err-bytes.ensures.stopped (g.O.Sink.written c.args.outside.now.out.now) o o))
 
-pub returns-in-TooLong : goal.returns-in-TooLong
-returns-in-TooLong g c = record {
-  ends =
-      let found = rw c.in-TooLong.is at c.in_ok-bytes.ensures.loaded in
-      let name = c.args.order.now.patch.now in
-      let isos = shown_isos c.args.order.now.isos in
-      let defined = c.args.order.now.defined.items in
-      let target = shown_target c.args.order.now.target in
-      let fell : NoneFell (counts (g.S.Loads.faults c.args.shelf.now) (g.O.Sink.faults c.args.out.now)
-      (g.E.Sink.faults c.args.err.now)) (counts (g.S.Loads.faults c.load.new.shelf) (g.O.Sink.faults c.args.out.now) (g.E.Sink.faults c.load.new.err)) =
-      record { shelf = c.in_ok-bytes.ensures.later; out = omega arith; err = c.in_ok-bytes.ensures.later_err } in
-      loaded (ReadPatch name isos defined target) (refusing (patch_fault_line name patch_fault.PatchTooLong) 2)
-      (found.0, (found.1.0, patch_long name isos defined target found.0 found.1.1))
-      (no_trace c.in_ok-bytes.ensures.same c.in_ok-bytes.ensures.no_store c.in_ok-bytes.ensures.ok_err) fell (c.refuse_patch.ensures.ends _ _ _ _ _);
-}
+pub returns-in-TooLong-clause-ends : goal.returns-in-TooLong-clause-ends
+returns-in-TooLong-clause-ends g c =
+    let found = rw c.in-TooLong.is at c.in_ok-bytes.ensures.loaded in
+    let name = c.args.order.now.patch.now in
+    let isos = shown_isos c.args.order.now.isos in
+    let defined = c.args.order.now.defined.items in
+    let target = shown_target c.args.order.now.target in
+    let old = c.args.outside.now in
+    let fell : NoneFell (counts (g.S.Loads.faults old.shelf.now) (g.O.Sink.faults old.out.now) (g.E.Sink.faults old.err.now))
+    (counts (g.S.Loads.faults c.load.new.shelf) (g.O.Sink.faults old.out.now) (g.E.Sink.faults c.load.new.err)) =
+    record { shelf = c.in_ok-bytes.ensures.later; out = omega arith; err = c.in_ok-bytes.ensures.later_err } in
+    loaded (ReadPatch name isos defined target) (refusing (patch_fault_line name patch_fault.PatchTooLong) 2)
+    (found.0, (found.1.0, patch_long name isos defined target found.0 found.1.1))
+    (no_trace c.in_ok-bytes.ensures.same c.in_ok-bytes.ensures.no_store c.in_ok-bytes.ensures.ok_err) fell (c.refuse_patch.ensures.ends _ _ _ _ _)
 
-pub returns-in-Absent : goal.returns-in-Absent
-returns-in-Absent g c = record {
-  ends =
-      let found = rw c.in-Absent.is at c.in_ok-bytes.ensures.loaded in
-      let name = c.args.order.now.patch.now in
-      let isos = shown_isos c.args.order.now.isos in
-      let defined = c.args.order.now.defined.items in
-      let target = shown_target c.args.order.now.target in
-      let fell : NoneFell (counts (g.S.Loads.faults c.args.shelf.now) (g.O.Sink.faults c.args.out.now)
-      (g.E.Sink.faults c.args.err.now)) (counts (g.S.Loads.faults c.load.new.shelf) (g.O.Sink.faults c.args.out.now) (g.E.Sink.faults c.load.new.err)) =
-      record { shelf = c.in_ok-bytes.ensures.later; out = omega arith; err = c.in_ok-bytes.ensures.later_err } in
-      loaded (ReadPatch name isos defined target) (refusing (cannot_read name) 5)
-      (found.0, (found.1.0, patch_absent name isos defined target found.0 found.1.1))
-      (no_trace c.in_ok-bytes.ensures.same c.in_ok-bytes.ensures.no_store c.in_ok-bytes.ensures.ok_err) fell (c.refuse_absent.ensures.ends _ _ _ _ _);
-}
+pub returns-in-Absent-clause-ends : goal.returns-in-Absent-clause-ends
+returns-in-Absent-clause-ends g c =
+    let found = rw c.in-Absent.is at c.in_ok-bytes.ensures.loaded in
+    let name = c.args.order.now.patch.now in
+    let isos = shown_isos c.args.order.now.isos in
+    let defined = c.args.order.now.defined.items in
+    let target = shown_target c.args.order.now.target in
+    let old = c.args.outside.now in
+    let fell : NoneFell (counts (g.S.Loads.faults old.shelf.now) (g.O.Sink.faults old.out.now) (g.E.Sink.faults old.err.now))
+    (counts (g.S.Loads.faults c.load.new.shelf) (g.O.Sink.faults old.out.now) (g.E.Sink.faults c.load.new.err)) =
+    record { shelf = c.in_ok-bytes.ensures.later; out = omega arith; err = c.in_ok-bytes.ensures.later_err } in
+    loaded (ReadPatch name isos defined target) (refusing (cannot_read name) 5)
+    (found.0, (found.1.0, patch_absent name isos defined target found.0 found.1.1))
+    (no_trace c.in_ok-bytes.ensures.same c.in_ok-bytes.ensures.no_store c.in_ok-bytes.ensures.ok_err) fell (c.refuse_absent.ensures.ends _ _ _ _ _)
 
-pub returns-in-Ok : goal.returns-in-Ok
-returns-in-Ok g c = record {
-  ends =
-      let found = rw c.in-Bytes.is at c.in_ok-bytes.ensures.loaded in
-      let under : found.0 ≡ Some c.deref.result.now = rw c.deref.ensures.value found.1.1.0 in
-      let name = c.args.order.now.patch.now in
-      let isos = shown_isos c.args.order.now.isos in
-      let defined = c.args.order.now.defined.items in
-      let target = shown_target c.args.order.now.target in
-      let fell : NoneFell (counts (g.S.Loads.faults c.args.shelf.now) (g.O.Sink.faults c.args.out.now)
-      (g.E.Sink.faults c.args.err.now)) (counts (g.S.Loads.faults c.load.new.shelf) (g.O.Sink.faults c.args.out.now) (g.E.Sink.faults c.load.new.err)) =
-      record { shelf = c.in_ok-bytes.ensures.later; out = omega arith; err = c.in_ok-bytes.ensures.later_err } in
-      loaded_by (ReadPatch name isos defined target) (ReadLeads c.in-Ok.patch isos defined target)
-      (λ to leads. (
-        found.0,
-        (
-          found.1.0,
-          patch_read name isos defined target found.0 c.deref.result.now c.in-Ok.patch under
-              c.in-Ok.ensures.patch to leads,
-        ),
-      )) (no_trace c.in_ok-bytes.ensures.same c.in_ok-bytes.ensures.no_store
-      c.in_ok-bytes.ensures.ok_err) fell c.give_forms.ensures.ends;
-}
+pub returns-in-Ok-clause-ends : goal.returns-in-Ok-clause-ends
+returns-in-Ok-clause-ends g c =
+    let found = rw c.in-Bytes.is at c.in_ok-bytes.ensures.loaded in
+    let under : found.0 ≡ Some c.deref.result.now = rw c.deref.ensures.value found.1.1.0 in
+    let name = c.args.order.now.patch.now in
+    let isos = shown_isos c.args.order.now.isos in
+    let defined = c.args.order.now.defined.items in
+    let target = shown_target c.args.order.now.target in
+    let old = c.args.outside.now in
+    let fell : NoneFell (counts (g.S.Loads.faults old.shelf.now) (g.O.Sink.faults old.out.now) (g.E.Sink.faults old.err.now))
+    (counts (g.S.Loads.faults c.load.new.shelf) (g.O.Sink.faults old.out.now) (g.E.Sink.faults c.load.new.err)) =
+    record { shelf = c.in_ok-bytes.ensures.later; out = omega arith; err = c.in_ok-bytes.ensures.later_err } in
+    loaded_by (ReadPatch name isos defined target) (ReadLeads c.in-Ok.patch isos defined target)
+    (λ to leads. (
+      found.0,
+      (
+        found.1.0,
+        patch_read name isos defined target found.0 c.deref.result.now c.in-Ok.patch under
+            c.in-Ok.ensures.patch to leads,
+      ),
+    )) (no_trace c.in_ok-bytes.ensures.same c.in_ok-bytes.ensures.no_store
+    c.in_ok-bytes.ensures.ok_err) fell c.give_forms.ensures.ends
 
-pub returns-then-is_no_memory : goal.returns-then-is_no_memory
-returns-then-is_no_memory g c = record {
-  ends =
-      let name = c.args.order.now.patch.now in
-      let isos = shown_isos c.args.order.now.isos in
-      let defined = c.args.order.now.defined.items in
-      let target = shown_target c.args.order.now.target in
-      let fell : NoneFell (counts (g.S.Loads.faults c.args.shelf.now) (g.O.Sink.faults c.args.out.now)
-      (g.E.Sink.faults c.args.err.now)) (counts (g.S.Loads.faults c.load.new.shelf) (g.O.Sink.faults c.args.out.now) (g.E.Sink.faults c.load.new.err)) =
-      record { shelf = c.in_ok-bytes.ensures.later; out = omega arith; err = c.in_ok-bytes.ensures.later_err } in
-      loaded_unfed (ReadPatch name isos defined target)
-      (no_trace c.in_ok-bytes.ensures.same c.in_ok-bytes.ensures.no_store c.in_ok-bytes.ensures.ok_err) fell (NoneFell-refl _) refl refl;
-}
+pub returns-then-is_no_memory-clause-ends : goal.returns-then-is_no_memory-clause-ends
+returns-then-is_no_memory-clause-ends g c =
+    let name = c.args.order.now.patch.now in
+    let isos = shown_isos c.args.order.now.isos in
+    let defined = c.args.order.now.defined.items in
+    let target = shown_target c.args.order.now.target in
+    let old = c.args.outside.now in
+    let fell : NoneFell (counts (g.S.Loads.faults old.shelf.now) (g.O.Sink.faults old.out.now) (g.E.Sink.faults old.err.now))
+    (counts (g.S.Loads.faults c.load.new.shelf) (g.O.Sink.faults old.out.now) (g.E.Sink.faults c.load.new.err)) =
+    record { shelf = c.in_ok-bytes.ensures.later; out = omega arith; err = c.in_ok-bytes.ensures.later_err } in
+    loaded_unfed (ReadPatch name isos defined target)
+    (no_trace c.in_ok-bytes.ensures.same c.in_ok-bytes.ensures.no_store c.in_ok-bytes.ensures.ok_err) fell (NoneFell-refl _) refl refl
 
-pub returns : goal.returns
-returns g c = record {
-  ends =
-      let found = rw c.in-Bytes.is at c.in_ok-bytes.ensures.loaded in
-      let under : found.0 ≡ Some c.deref.result.now = rw c.deref.ensures.value found.1.1.0 in
-      let bad : IsFirstFault c.deref.result.now c.in-Err.fault =
-      not_memory c.is_no_memory.result c.if-is_no_memory.false c.is_no_memory.ensures c.in-Err.ensures.fault in
-      let name = c.args.order.now.patch.now in
-      let isos = shown_isos c.args.order.now.isos in
-      let defined = c.args.order.now.defined.items in
-      let target = shown_target c.args.order.now.target in
-      let fell : NoneFell (counts (g.S.Loads.faults c.args.shelf.now) (g.O.Sink.faults c.args.out.now)
-      (g.E.Sink.faults c.args.err.now)) (counts (g.S.Loads.faults c.load.new.shelf) (g.O.Sink.faults c.args.out.now) (g.E.Sink.faults c.load.new.err)) =
-      record { shelf = c.in_ok-bytes.ensures.later; out = omega arith; err = c.in_ok-bytes.ensures.later_err } in
-      loaded (ReadPatch name isos defined target) (refusing (patch_fault_line name c.in-Err.fault) 2)
-      (found.0, (found.1.0, patch_bad name isos defined target found.0 c.deref.result.now c.in-Err.fault under bad))
-      (no_trace c.in_ok-bytes.ensures.same c.in_ok-bytes.ensures.no_store c.in_ok-bytes.ensures.ok_err) fell (c.refuse_patch-in-Err.ensures.ends _ _ _ _ _);
-}
+pub returns-clause-ends : goal.returns-clause-ends
+returns-clause-ends g c =
+    let found = rw c.in-Bytes.is at c.in_ok-bytes.ensures.loaded in
+    let under : found.0 ≡ Some c.deref.result.now = rw c.deref.ensures.value found.1.1.0 in
+    let bad : IsFirstFault c.deref.result.now c.in-Err.fault =
+    not_memory c.is_no_memory.result c.if-is_no_memory.false c.is_no_memory.ensures c.in-Err.ensures.fault in
+    let name = c.args.order.now.patch.now in
+    let isos = shown_isos c.args.order.now.isos in
+    let defined = c.args.order.now.defined.items in
+    let target = shown_target c.args.order.now.target in
+    let old = c.args.outside.now in
+    let fell : NoneFell (counts (g.S.Loads.faults old.shelf.now) (g.O.Sink.faults old.out.now) (g.E.Sink.faults old.err.now))
+    (counts (g.S.Loads.faults c.load.new.shelf) (g.O.Sink.faults old.out.now) (g.E.Sink.faults c.load.new.err)) =
+    record { shelf = c.in_ok-bytes.ensures.later; out = omega arith; err = c.in_ok-bytes.ensures.later_err } in
+    loaded (ReadPatch name isos defined target) (refusing (patch_fault_line name c.in-Err.fault) 2)
+    (found.0, (found.1.0, patch_bad name isos defined target found.0 c.deref.result.now c.in-Err.fault under bad))
+    (no_trace c.in_ok-bytes.ensures.same c.in_ok-bytes.ensures.no_store c.in_ok-bytes.ensures.ok_err) fell (c.refuse_patch-in-Err.ensures.ends _ _ _ _ _)

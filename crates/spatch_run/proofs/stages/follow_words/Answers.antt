@@ -8,18 +8,16 @@ follow_texts-requires-clause-texts g c κs within =
     let p = rw c.in-Ok-Some.field-0-is at c.in-Ok-Some.ensures in
     rw (c.deref.ensures.value, p.0) p.1
 
-pub returns-in-Err : goal.returns-in-Err
-returns-in-Err g c = record { ends = unfed_first _ _ _ }
+pub returns-in-Err-clause-ends : goal.returns-in-Err-clause-ends
+returns-in-Err-clause-ends g c =
+    unfed_first _ _ _
 
-pub returns-in-Ok-None : goal.returns-in-Ok-None
-returns-in-Ok-None g c = record {
-  ends = follows c.args.words.now None (none_asked c.args.words.now (rw c.in-Ok-None.field-0-is at c.in-Ok-None.ensures))
-      (c.refuse_words.ensures.ends _ _ _ _ _);
-}
+pub returns-in-Ok-None-clause-ends : goal.returns-in-Ok-None-clause-ends
+returns-in-Ok-None-clause-ends g c =
+    follows c.args.words.now None (none_asked c.args.words.now (rw c.in-Ok-None.field-0-is at c.in-Ok-None.ensures))
+    (c.refuse_words.ensures.ends _ _ _ _ _)
 
-pub returns-in-Ok-Some : goal.returns-in-Ok-Some
-returns-in-Ok-Some g c = record {
-  ends =
-      let p = rw c.in-Ok-Some.field-0-is at c.in-Ok-Some.ensures in
-      rw (c.deref.ensures.value, p.0) at c.follow_texts.ensures.ends;
-}
+pub returns-in-Ok-Some-clause-ends : goal.returns-in-Ok-Some-clause-ends
+returns-in-Ok-Some-clause-ends g c =
+    let p = rw c.in-Ok-Some.field-0-is at c.in-Ok-Some.ensures in
+    rw (c.deref.ensures.value, p.0) at c.follow_texts.ensures.ends

@@ -10,11 +10,11 @@ use_patch-requires-clause-few g c κs within = c.requires.few
 pub use_patch-requires-clause-usable : goal.use_patch-requires-clause-usable
 use_patch-requires-clause-usable g c κs within = c.patches_may_be_used.ensures.read c.requires.read.0 c.args.patch c.requires.read.1
 
-pub returns-in-None : goal.returns-in-None
-returns-in-None g c = record { ends = rw c.in-None.is c.use_patch.ensures.ends }
+pub returns-in-None-clause-ends : goal.returns-in-None-clause-ends
+returns-in-None-clause-ends g c =
+    rw c.in-None.is c.use_patch.ensures.ends
 
-pub returns-in-Some : goal.returns-in-Some
-returns-in-Some g c = record {
-  ends = rw c.in-Some.is (from (Doing [] (ReadIsos c.args.patch c.in-Some.name.now c.args.order.now.defined.items
-      (shown_target c.args.order.now.target))) refl c.load_isos.ensures.ends);
-}
+pub returns-in-Some-clause-ends : goal.returns-in-Some-clause-ends
+returns-in-Some-clause-ends g c =
+    rw c.in-Some.is (from (Doing [] (ReadIsos c.args.patch c.in-Some.name.now c.args.order.now.defined.items
+    (shown_target c.args.order.now.target))) refl c.load_isos.ensures.ends)

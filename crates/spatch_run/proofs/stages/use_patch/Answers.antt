@@ -8,31 +8,27 @@ use Rattle.spatch_run.proofs.stages.use_patch.Goals as goal
 pub prepared-requires : goal.prepared-requires
 prepared-requires g c = record { formulas = c.requires.usable.formulas }
 
-pub edit_files-requires-clause-ready : goal.edit_files-requires-clause-ready
-edit_files-requires-clause-ready g c κs within = record {
+-- what is known of the rules of the patch
+pub invariant_of-rules : goal.invariant_of-rules
+invariant_of-rules g c = record {
   few = c.requires.usable.few;
   prepared_are = c.in_ok-prepared.ensures;
   may = c.requires.usable.may c.in_ok-prepared.prepared.rules c.in_ok-prepared.ensures;
 }
 
-pub returns-in_err-prepared : goal.returns-in_err-prepared
-returns-in_err-prepared g c = record {
-  ends =
-      let p = err_from_is_err_and c.from_residual.result c.from_residual.ensures.1 in
-      rw (p.1, p.2) (unfed (NoneFell-refl _) refl refl);
-}
+pub returns-in_err-prepared-clause-ends : goal.returns-in_err-prepared-clause-ends
+returns-in_err-prepared-clause-ends g c =
+    let p = err_from_is_err_and c.from_residual.result c.from_residual.ensures.1 in
+    rw (p.1, p.2) (unfed (NoneFell-refl _) refl refl)
 
-pub returns-in-Files : goal.returns-in-Files
-returns-in-Files g c = record {
-  ends =
-      let ends = rw (c.deref.ensures.value, c.deref-in-Files.ensures.value) at c.edit_files.ensures.ends in
-      rw c.in-Files.is (from (going [] c.args.patch.now c.args.order.now.defined.items c.in-Files.mode
-      (map (λ name. name.now) c.in-Files.names.items) false) refl ends);
-}
+pub returns-in-Files-clause-ends : goal.returns-in-Files-clause-ends
+returns-in-Files-clause-ends g c =
+    let ends = rw (c.deref.ensures.value, c.deref-in-Files.ensures.value) at c.edit_files.ensures.ends in
+    rw c.in-Files.is (from (going [] c.args.patch.now c.args.order.now.defined.items c.in-Files.mode
+    (map (λ name. name.now) c.in-Files.names.items) false) refl ends)
 
-pub returns : goal.returns
-returns g c = record {
-  ends = rw c.in-Text.is
-      (rw c.deref.ensures.value at (c.sum_text.ensures.ends (g.S.Loads.holds c.args.shelf.now) (g.S.Loads.stores c.args.shelf.now)
-      (g.S.Loads.faults c.args.shelf.now)));
-}
+pub returns-clause-ends : goal.returns-clause-ends
+returns-clause-ends g c =
+    rw c.in-Text.is
+    (rw c.deref.ensures.value at (c.sum_text.ensures.ends (g.S.Loads.holds c.args.outside.now.shelf.now) (g.S.Loads.stores c.args.outside.now.shelf.now)
+    (g.S.Loads.faults c.args.outside.now.shelf.now)))

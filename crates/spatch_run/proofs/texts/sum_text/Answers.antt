@@ -6,9 +6,6 @@ use Rattle.run_files.specs.RunStages.Ends.LeadsBy.{unfed}
 use Rattle.spatch_run.proofs.Treating.{sum_done, sum_cut}
 use Rattle.spatch_run.proofs.texts.sum_text.Goals as goal
 
-pub sum-requires-clause-ready : goal.sum-requires-clause-ready
-sum-requires-clause-ready g c κs within = c.requires.ready
-
 pub sum-requires-clause-short : goal.sum-requires-clause-short
 sum-requires-clause-short g c κs within = c.in_ok-text.ensures.fits_a_file c.requires.few
 
@@ -26,7 +23,7 @@ returns-in_err-refused g c = record {
       let fell : NoneFell (counts s (g.O.Sink.faults c.args.out.now) (g.E.Sink.faults c.args.err.now))
       (counts s (g.O.Sink.faults c.sum.new.out) (g.E.Sink.faults c.sum.new.err)) =
       record { shelf = omega arith; out = c.in_err-refused.ensures.later; err = c.in_err-refused.ensures.later_err } in
-      rw (p.1, p.2) (sum_cut c.args.ready.now.patch.now c.args.ready.now.defined.now c.args.seed c.args.functions fell
+      rw (p.1, p.2) (sum_cut c.args.rules.now.patch.now c.args.rules.now.defined.now c.args.seed c.args.functions fell
       (rw c.in_ok-text.ensures.text at (c.in_err-refused.ensures.stopped files stores s s)));
 }
 
@@ -36,6 +33,6 @@ returns g c = record {
       let fell : NoneFell (counts s (g.O.Sink.faults c.args.out.now) (g.E.Sink.faults c.args.err.now))
       (counts s (g.O.Sink.faults c.sum.new.out) (g.E.Sink.faults c.sum.new.err)) =
       record { shelf = omega arith; out = c.in_ok-refused.ensures.later; err = c.in_ok-refused.ensures.later_err } in
-      sum_done c.args.ready.now.patch.now c.args.ready.now.defined.now c.args.seed c.args.functions c.in_ok-refused.refused fell
+      sum_done c.args.rules.now.patch.now c.args.rules.now.defined.now c.args.seed c.args.functions c.in_ok-refused.refused fell
       c.end_status.ensures (rw c.in_ok-text.ensures.text at (c.in_ok-refused.ensures.treated files stores));
 }

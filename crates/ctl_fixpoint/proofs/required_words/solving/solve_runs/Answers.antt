@@ -6,7 +6,8 @@ use Rattle.ctl_fixpoint.proofs.required_words.solving.solve_runs.Goals as goal
 
 pub put_run-requires-clause-run : goal.put_run-requires-clause-run
 put_run-requires-clause-run c =
-    (covers-at c.args.p.now.spot c.args.p.now.forms c.args.form_groups.now c.loop-n.n c.index-form_groups-n.result c.loop-n.next (length c.args.p.now.forms)
+    (covers-at c.args.target.now.p.now.spot c.args.target.now.p.now.forms c.args.form_groups.now c.loop-n.n
+    c.index-form_groups-n.result c.loop-n.next (length c.args.target.now.p.now.forms)
     (read-at c.args.form_groups.now c.args.form_groups.now c.loop-n.n c.index-form_groups-n.result refl c.loop-n-test.true c.index-form_groups-n.is)
     c.loop-n.invariant.covers).2
 
@@ -14,8 +15,10 @@ pub returns-clause-meaning : goal.returns-clause-meaning
 returns-clause-meaning c =
     let le : length c.args.form_groups.now ≤ c.loop-n.n = omega (arith, c.loop-n-test.false) in
     IfOk-weaker c.union.result _ _
-    (λ r h env. h env ∙ tried-all (fits_some c.args.decls.now c.args.tokens.now env c.args.p.now c.args.role c.args.tree.now)
-    c.args.p.now.forms c.loop-n.next _ _
-    (covers-all c.args.p.now.spot c.args.p.now.forms c.args.form_groups.now c.loop-n.n c.loop-n.next (length c.args.p.now.forms) le c.loop-n.invariant.covers)
+    (λ r h env. h env ∙ tried-all (fits_some c.args.target.now.context.now.decls.now c.args.target.now.context.now.tokens.now
+    env c.args.target.now.p.now c.args.target.now.role c.args.target.now.tree.now)
+    c.args.target.now.p.now.forms c.loop-n.next _ _
+    (covers-all c.args.target.now.p.now.spot c.args.target.now.p.now.forms c.args.form_groups.now c.loop-n.n c.loop-n.next
+    (length c.args.target.now.p.now.forms) le c.loop-n.invariant.covers)
     (c.loop-n.invariant.meaning env))
     c.union.ensures.meaning

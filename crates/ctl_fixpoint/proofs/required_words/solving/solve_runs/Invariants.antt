@@ -9,9 +9,13 @@ use Rattle.ctl_fixpoint.proofs.required_words.solving.solve_runs.Given as goal
 
 abbrev pub invariant-loop-n : goal.invariant-loop-n
 invariant-loop-n l = record {
-  covers : Covers l.p.spot l.p.forms l.next (drop l.n l.form_groups) (length l.p.forms);
+  covers : Covers l.target.p.now.spot l.target.p.now.forms l.next (drop l.n l.form_groups) (length l.target.p.now.forms);
   meaning : (env : Environment) →
-      (set_denotes l.entries.items env || list_any (fits_some l.decls l.tokens env l.p l.role l.tree) (drop l.next l.p.forms))
-      ≡ list_any (fits_some l.decls l.tokens env l.p l.role l.tree) l.p.forms;
-  vars : (t : Var → Bool) → pattern_vars l.decls l.tokens t l.p ≡ true → set_vars t l.entries.items ≡ true;
+      (set_denotes l.entries.items env || list_any
+      (fits_some l.target.context.now.decls.now l.target.context.now.tokens.now env l.target.p.now l.target.role
+      l.target.tree.now) (drop l.next l.target.p.now.forms))
+      ≡ list_any (fits_some l.target.context.now.decls.now l.target.context.now.tokens.now env l.target.p.now l.target.role
+      l.target.tree.now) l.target.p.now.forms;
+  vars : (t : Var → Bool) → pattern_vars l.target.context.now.decls.now l.target.context.now.tokens.now t l.target.p.now ≡ true
+      → set_vars t l.entries.items ≡ true;
 }

@@ -7,10 +7,11 @@ use Rattle.pat_match.proofs.pat_pairs.fewest.put_wild.Goals as goal
 
 pub returns : goal.returns
 returns c =
-    next_wild c.args.decls.now c.args.tokens.now (total c.args.env.now) c.args.label c.args.forms.now c.args.i c.args.taken
-    c.in_ok-count.count (c.args.taken + c.in_ok-count.count) c.args.form.now c.args.members.now
+    next_wild c.args.bound.now.context.now.decls.now c.args.bound.now.context.now.tokens.now
+    (total c.args.bound.now.env.now) c.args.child.now.label c.args.child.now.forms.now c.args.child.now.i c.args.taken
+    c.in_ok-count.count (c.args.taken + c.in_ok-count.count) c.args.child.now.form.now c.args.members.now
     (take (length c.args.members.now - c.args.taken) (drop c.args.taken c.args.members.now))
     _ _ _ _ c.requires.within
-    c.requires.child (wild_comma c.args.label c.args.form.now c.requires.wild) c.requires.wild c.requires.left c.requires.fits
+    c.requires.child (wild_comma c.args.child.now.label c.args.child.now.form.now c.requires.wild) c.requires.wild c.requires.left c.requires.fits
     (tail_slice c.args.members.now c.args.taken) c.in_ok-count.ensures.value refl refl
     c.in_ok-put_comma_before.ensures c.in_ok-put_run.ensures

@@ -7,11 +7,11 @@ use Rattle.rule_chain.proofs.rule_found.job.first_found.Goals as goal
 
 pub returns-then-is_empty-clause-found : goal.returns-then-is_empty-clause-found
 returns-then-is_empty-clause-found c =
-    let f = c.args.f.now in
+    let f = c.args.query.now.f.now in
     let m = c.in_ok-matched.matched in
-    let none = nothing_found f c.args.g.now c.count-count.ensures.sound m c.in_ok-matched.ensures.matched (c.is_empty.ensures.0 c.if-is_empty.true)
-    (subst (λ (n : ℕ). n < length f.nodes) c.root-root.ensures.root c.root-root.ensures.within)
-    c.args.exports.now c.args.number c.args.item c.args.env.now in
+    let none = nothing_found f c.args.g.now.graph.now c.args.g.now.sound m c.in_ok-matched.ensures.matched (c.is_empty.ensures.0 c.if-is_empty.true)
+    c.in_ok-matched.ensures.root
+    c.args.query.now.exports.now c.args.query.now.number c.args.item c.args.env.now in
     record {
       same = ap (map bare_witness) (c.nothing.ensures.found ∙ sym none);
       few = subst (λ ws. nodes_of ws ≤ 1000000) (sym none) (omega arith);
@@ -19,17 +19,17 @@ returns-then-is_empty-clause-found c =
 
 pub returns-then-is_empty-clause-kept : goal.returns-then-is_empty-clause-kept
 returns-then-is_empty-clause-kept c =
-    let f = c.args.f.now in
-    let g = c.args.g.now in
+    let f = c.args.query.now.f.now in
+    let g = c.args.g.now.graph.now in
     let m = c.in_ok-matched.matched in
     subst (λ o. IsKept f (Some g) o) (sym c.nothing.ensures.kept)
-    (nothing_kept f g c.count-count.ensures.sound m c.in_ok-matched.ensures.matched (c.is_empty.ensures.0 c.if-is_empty.true)
-    (subst (λ (n : ℕ). n < length f.nodes) c.root-root.ensures.root c.root-root.ensures.within))
+    (nothing_kept f g c.args.g.now.sound m c.in_ok-matched.ensures.matched (c.is_empty.ensures.0 c.if-is_empty.true)
+    c.in_ok-matched.ensures.root)
 
 pub returns-clause-kept : goal.returns-clause-kept
 returns-clause-kept c =
-    let f = c.args.f.now in
-    let g = c.args.g.now in
+    let f = c.args.query.now.f.now in
+    let g = c.args.g.now.graph.now in
     let m = c.in_ok-matched.matched in
     subst (λ o. IsKept f (Some g) o) (sym c.kept_if.ensures)
-    (told_kept f g c.args.keep m (matched_told f g c.count-count.ensures.sound m c.in_ok-matched.ensures.matched))
+    (told_kept f g c.args.keep m (matched_told f g c.args.g.now.sound m c.in_ok-matched.ensures.matched))

@@ -9,8 +9,8 @@ use Rattle.rule_chain.proofs.rule_found.whole.over_lent.Goals as goal
 
 pub loop-k-init : goal.loop-k-init
 loop-k-init g c =
-    let number = c.args.number in
-    let rule = c.args.rule.now in
+    let number = c.args.ready.now.number in
+    let rule = c.args.ready.now.rule.now in
     let envs = c.args.envs.now in
     let lists = c.put_list.new.lists.items in
     let one = c.in_ok-first.first.found in
@@ -32,8 +32,8 @@ loop-k-init g c =
 
 pub loop-k-preserved : goal.loop-k-preserved
 loop-k-preserved g c =
-    let number = c.args.number in
-    let rule = c.args.rule.now in
+    let number = c.args.ready.now.number in
+    let rule = c.args.ready.now.rule.now in
     let envs = c.args.envs.now in
     let k = c.loop-k.k in
     let old = c.loop-k.lists.items in

@@ -10,8 +10,8 @@ invariant-loop-k g l = record {
   from : 1 ≤ l.k;
   upto : l.k ≤ length l.envs;
   so_far : length l.lists.items ≡ l.k;
-  found : (items : List Item) → AreLent l.rule items l.graphs → (j : ℕ) → j < length l.lists.items
-      → found_at l.lists.items j ≡ found_under l.number l.rule items (env_at l.envs j);
-  few : (items : List Item) → AreLent l.rule items l.graphs → (j : ℕ) → j < length l.lists.items
-      → is_large_under l.number l.rule items (env_at l.envs j) ≡ false;
+  found : (items : List Item) → AreLent l.ready.rule.now items l.graphs → (j : ℕ) → j < length l.lists.items
+      → found_at l.lists.items j ≡ found_under l.ready.number l.ready.rule.now items (env_at l.envs j);
+  few : (items : List Item) → AreLent l.ready.rule.now items l.graphs → (j : ℕ) → j < length l.lists.items
+      → is_large_under l.ready.number l.ready.rule.now items (env_at l.envs j) ≡ false;
 }

@@ -1,0 +1,18 @@
+// What the patterns of a rule are read with, and one form of a pattern.
+use c_terms::Tree;
+use smpl_patch::{PatToken, Pattern, VarDecl};
+
+/// The declarations of a rule, and the tokens of its patterns. A token of a form has its entry at its id.
+#[derive(Clone, Copy)]
+pub struct PatternContext<'p> {
+    pub decls: &'p [VarDecl],
+    pub tokens: &'p [PatToken],
+}
+
+/// A form of a pattern: its number, and its tree, which is that of the pattern's form of this number.
+#[derive(Clone, Copy)]
+pub struct PatternForm<'p> {
+    pub pattern: &'p Pattern,
+    pub number: usize,
+    pub tree: &'p Tree,
+}

@@ -1,6 +1,0 @@
-use Rattle.std.proofs.Common.{◌≡◌, ◌++◌, drop}
-use Rattle.wit_print.specs.Report.{steps_text}
-use Rattle.wit_print.proofs.report.Report.put_path.Given as goal
-
-abbrev pub invariant-loop-step : goal.invariant-loop-step
-invariant-loop-step l = l.self ++ steps_text (drop l.step-index l.rest) ≡ l.initial.self ++ steps_text l.rest

@@ -10,7 +10,7 @@
 //! An item that is too deep, that no tree of at most 1,000 levels spells, or whose graph would have more than 20,000 nodes
 //! is skipped with its reason, and the items after it are read. Reading fails only when out of memory.
 //!
-//! c_lexer cuts the text, cpp_lines finds shown tokens and spans, c_stmt builds trees, and cfg_build builds graphs.
+//! c_lexer cuts the text, cpp_lines finds shown tokens and spans, c_expr builds trees, and cfg_build builds graphs.
 //!
 //! Its folders:
 //!

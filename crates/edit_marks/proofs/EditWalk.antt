@@ -5,7 +5,7 @@ pub mod NumberLemmas
 pub mod TokenLemmas
 pub mod GrowingLemmas
 pub mod TouchLemmas
-pub mod SiteLemmas
+pub mod WalkContextLemmas
 pub mod OrderLemmas
 pub mod FitLemmas
 pub mod PlainLemmas

@@ -6,10 +6,10 @@ use Rattle.smpl_patch.specs.declared.pattern.VarDecl.{VarDecl}
 use Rattle.edit_marks.specs.declared.edit_conflict.edit.Insert.{Insert}
 use Rattle.edit_marks.specs.declared.edit_conflict.edit.Edit.{Edit}
 use Rattle.smpl_patch.specs.declared.pattern.PatToken.{PatToken}
-use Rattle.edit_marks.specs.declared.mark.Aligned.{Aligned}
+use Rattle.edit_marks.specs.declared.removals.Aligned.{Aligned}
 use Rattle.smpl_patch.specs.declared.pattern.PlusBlock.{PlusBlock}
 use Rattle.edit_marks.specs.declared.spot.PlusSpot.{PlusSpot}
-use Rattle.edit_marks.specs.declared.tokens.FileToken.{FileToken}
+use Rattle.edit_marks.specs.declared.file_tokens.FileToken.{FileToken}
 use Rattle.edit_marks.specs.Blocks.{Environment, last_of_lines, block_ends}
 use Rattle.edit_marks.specs.Plain.{AreSpaces, AreSoundLines}
 use Rattle.edit_marks.specs.Edits.{block_of, anchor_of, insert_if, inserts_at, HaveSoundBlocks, HaveBlankIndents, ArePlainInserts, EditOf}

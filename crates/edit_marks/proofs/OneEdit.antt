@@ -18,9 +18,9 @@ use Rattle.smpl_patch.specs.declared.pattern.VarDecl.{VarDecl}
 use Rattle.smpl_patch.specs.declared.pattern.PatToken.{PatToken}
 use Rattle.edit_marks.specs.declared.edit_conflict.edit.Insert.{Insert}
 use Rattle.edit_marks.specs.declared.edit_conflict.edit.Edit.{Edit}
-use Rattle.edit_marks.specs.declared.mark.Aligned.{Aligned}
+use Rattle.edit_marks.specs.declared.removals.Aligned.{Aligned}
 use Rattle.edit_marks.specs.declared.spot.PlusSpot.{PlusSpot}
-use Rattle.edit_marks.specs.declared.tokens.FileToken.{FileToken}
+use Rattle.edit_marks.specs.declared.file_tokens.FileToken.{FileToken}
 use Rattle.edit_marks.specs.Blocks.{Environment}
 use Rattle.edit_marks.specs.Spots.{side, spot_order, all_spots}
 use Rattle.edit_marks.specs.Edits.{inserts_at, EditOf}

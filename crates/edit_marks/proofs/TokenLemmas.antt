@@ -10,8 +10,8 @@ use Rattle.c_lexer.specs.declared.piece.PieceKind.{PieceKind}
 use Rattle.c_lexer.specs.declared.piece.PieceKind.TheVariants.{Word, Blank, Comment, Line}
 use Rattle.c_lexer.specs.Pieces.{TextPiece, text_of}
 use Rattle.edit_marks.specs.Inserts.{line_start, indent_at}
-use Rattle.edit_marks.specs.declared.tokens.FileToken.{FileToken}
-use Rattle.edit_marks.specs.declared.tokens.TokenPlace.{TokenPlace}
+use Rattle.edit_marks.specs.declared.file_tokens.FileToken.{FileToken}
+use Rattle.edit_marks.specs.declared.file_tokens.TokenPlace.{TokenPlace}
 use Rattle.edit_marks.specs.Tokens.{token_of, tokens_from, file_tokens, blanks_at, token_at, places_of, IsWithin}
 
 -- ---- lines

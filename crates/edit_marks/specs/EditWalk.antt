@@ -9,4 +9,4 @@ pub mod Fit
 -- For internal use: lists of edits that grow, tables of numbers, and the context of the walk.
 pub mod Growing
 pub mod Numbered
-pub mod Sites
+pub mod WalkContexts

@@ -3,7 +3,7 @@ use Rattle.std.specs.Prelude.{ℕ, Bool, true, false, List, [], ◌∷◌, ◌++
 use Rattle.smpl_patch.specs.declared.pattern.Mark.{Mark}
 use Rattle.smpl_patch.specs.declared.pattern.Mark.TheVariants.{Context, Minus, Star}
 use Rattle.smpl_patch.specs.declared.pattern.PatToken.{PatToken}
-use Rattle.edit_marks.specs.declared.mark.Aligned.{Aligned}
+use Rattle.edit_marks.specs.declared.removals.Aligned.{Aligned}
 
 abbrev pub is_minus : Mark → Bool
 is_minus Context = false

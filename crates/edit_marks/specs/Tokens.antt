@@ -5,8 +5,8 @@ use Rattle.c_lexer.specs.declared.piece.PieceKind.{PieceKind}
 use Rattle.c_lexer.specs.declared.piece.PieceKind.TheVariants.{Word, Blank, Comment, Line}
 use Rattle.c_lexer.specs.Pieces.{TextPiece, text_of}
 use Rattle.edit_marks.specs.Inserts.{is_blank, indent_at}
-use Rattle.edit_marks.specs.declared.tokens.FileToken.{FileToken}
-use Rattle.edit_marks.specs.declared.tokens.TokenPlace.{TokenPlace}
+use Rattle.edit_marks.specs.declared.file_tokens.FileToken.{FileToken}
+use Rattle.edit_marks.specs.declared.file_tokens.TokenPlace.{TokenPlace}
 
 -- a piece with the blanks that begin its line, if it is a token
 abbrev pub token_of : PieceKind → List ℕ → List ℕ → List FileToken

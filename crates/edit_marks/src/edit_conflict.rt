@@ -12,7 +12,7 @@
 //! lines, or if one inserts at it and the other removes it. Equal edits count once. The calls fail only when out of memory.
 //! Nothing recurses.
 //!
-//! Module edit_walk finds the edits of a rule, and crate edit_unparse makes the new text.
+//! [`edits`](crate::edits) returns the edits of a rule, and `edited_text` of edit_unparse makes the new text.
 #![tactic(auto)]
 
 mod clash;

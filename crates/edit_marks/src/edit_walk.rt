@@ -16,16 +16,16 @@
 //! [`edits`] fails only when out of memory. It recurses once per level of a forest, of a body and of a term, and as matching
 //! does.
 //!
-//! The alignment is found by pat_pairs, and its edit by edit_marks. Clashes are found by edit_conflict, and the new text is
-//! made by edit_unparse.
+//! `aligned_tokens` of pat_match finds the alignment, and [`edit_of`](crate::edit_of) returns its edit.
+//! [`first_clash`](crate::first_clash) finds clashes, and `edited_text` of edit_unparse makes the new text.
 #![tactic(auto)]
 
 mod aligned;
+mod context;
 mod kinds;
 mod laws;
 mod numbers;
 mod patterns;
-mod site;
 mod tokens;
 mod touch;
 mod walk;

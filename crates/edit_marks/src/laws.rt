@@ -3,8 +3,8 @@ ghost use Rattle.std.specs.Prelude.{◌≡◌, List};
 ghost use Rattle.smpl_patch.specs.declared.pattern.VarDecl.{VarDecl};
 ghost use Rattle.smpl_patch.specs.declared.pattern.PatToken.{PatToken as PatternToken};
 ghost use Rattle.edit_marks.specs.declared.edit_conflict.edit.Edit.{Edit as Change};
-ghost use Rattle.edit_marks.specs.declared.mark.Aligned.{Aligned as Pairing};
-ghost use Rattle.edit_marks.specs.declared.tokens.FileToken.{FileToken as Token};
+ghost use Rattle.edit_marks.specs.declared.removals.Aligned.{Aligned as Pairing};
+ghost use Rattle.edit_marks.specs.declared.file_tokens.FileToken.{FileToken as Token};
 ghost use Rattle.edit_marks.specs.Blocks.{Environment};
 ghost use Rattle.edit_marks.specs.Edits.{EditOf};
 

@@ -14,8 +14,8 @@
 //!
 //! The calls fail only when out of memory. They recurse only to write a term out: once per level.
 //!
-//! Alignments are found by the crates of matching, and edit_walk walks over witnesses. Clashes are found by edit_conflict,
-//! and the new text is made by edit_unparse.
+//! `aligned_tokens` of pat_match finds alignments, [`edits`] walks over witnesses, and [`first_clash`] finds clashes.
+//! `edited_text` of edit_unparse makes the new text.
 //!
 //! Its folders:
 //!
@@ -24,25 +24,25 @@
 //!   inserts.
 #![tactic(auto)]
 
+mod alignment_edit;
 mod block;
 mod edit_conflict;
 mod edit_walk;
 mod even;
+mod file_tokens;
 mod insert;
 mod laws;
 mod line;
-mod mark;
+mod removals;
 mod spot;
-mod tokens;
-mod touch;
 mod values;
 
+pub use alignment_edit::edit_of;
 pub use edit_conflict::{Act, Clash, Edit, EditList, Insert, Mark, Side, first_clash};
 pub use edit_walk::{edits, node_kinds, witnesses_have_one_list};
 pub use even::have_even_blocks;
+pub use file_tokens::{FileToken, FileTokens};
 pub use insert::{Anchor, ends_line, indent_at, insert_text};
 pub use laws::alignment_has_one_edit;
-pub use mark::{Aligned, removed_tokens};
+pub use removals::{Aligned, removed_tokens};
 pub use spot::{PlusSpot, spots};
-pub use tokens::{FileToken, FileTokens};
-pub use touch::edit_of;

@@ -4,7 +4,7 @@ ghost use Rattle.std.specs.List.Sorted.{IsPermutation, IsSortedBy};
 ghost use Rattle.std.specs.Ordering.{is_lt};
 ghost use Rattle.edit_marks.specs.Spots.{side, spot_order, all_spots, spots_of, token_spots};
 
-use crate::mark::Aligned;
+use crate::removals::Aligned;
 use c_terms::NoMemory;
 use smpl_patch::PatToken;
 use std::alloc::Global;

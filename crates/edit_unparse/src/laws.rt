@@ -1,4 +1,4 @@
-// What `output` requires of inserted texts, and which ids the new text has. The functions do nothing.
+// What `edited_text` requires of inserted texts, and which ids the new text has. The functions do nothing.
 ghost use Rattle.std.specs.Prelude.{ℕ, ◌≡◌, ◌<◌, true, List, All};
 ghost use Rattle.c_show.specs.PlainText.{IsPlainText};
 ghost use Rattle.c_lexer.specs.Pieces.{TextPiece};

@@ -1,6 +1,6 @@
 //! The text that results from applying edits to a text.
 //!
-//! - [`output`] returns it, with the ids of its tokens, as an [`Edited`].
+//! - [`edited_text`] returns it, with the ids of its tokens, as an [`Edited`].
 //! - [`OutFault`] says why there is none.
 //! - [`plain_texts_are_fair`] and [`ids_stay_below`] are laws, about inserted texts and about ids; the functions do nothing.
 //!
@@ -10,8 +10,8 @@
 //! its neighbour would run together. Cut again, the text has exactly the kept and the added tokens. It may have up to
 //! 16,777,216 bytes. Nothing recurses.
 //!
-//! This crate doesn't check whether two edits clash; that is the task of edit_conflict, and edit_marks finds the edits of a
-//! rule.
+//! This crate doesn't check whether two edits clash: `first_clash` of edit_marks does, and `edits` of edit_marks returns the
+//! edits of a rule.
 #![tactic(auto)]
 
 mod draft;
@@ -24,4 +24,4 @@ mod run;
 pub use draft::Edited;
 pub use fault::OutFault;
 pub use laws::{ids_stay_below, plain_texts_are_fair};
-pub use place::output;
+pub use place::edited_text;

@@ -13,14 +13,14 @@ use Rattle.smpl_patch.specs.Bodies.{body}
 use Rattle.smpl_patch.specs.Shapes.{patterns_body}
 use Rattle.ctl_translate.specs.Rules.{first_unbound}
 use Rattle.rule_envs.specs.declared.file_env.FileEnv.{FileEnv}
-use Rattle.rule_chain.specs.RuleTurn.Turns.{turn_found, turn_carriers}
+use Rattle.rule_chain.specs.RuleMatches.Turns.{turn_found, turn_carriers}
 use Rattle.rule_chain.specs.RuleEdits.Kinds.{kinds_of}
 use Rattle.rule_chain.specs.RuleEdits.Pages.{is_edited}
-use Rattle.rule_chain.specs.RuleWork.States.{Chained, ReadsAgain, first_state}
-use Rattle.rule_chain.specs.RuleWork.OneRule.{MayRead, Leads, rule_found, worked}
+use Rattle.rule_chain.specs.RuleRun.States.{Chained, ReadsAgain, first_state}
+use Rattle.rule_chain.specs.RuleRun.OneRule.{MayRead, Leads, file_witnesses, worked}
 use Rattle.rule_chain.specs.Chain.{is_followed}
 use Rattle.rule_laws.specs.Ready.{IsReady}
-use Rattle.edit_marks.specs.declared.mark.Aligned.{Aligned}
+use Rattle.edit_marks.specs.declared.removals.Aligned.{Aligned}
 use Rattle.edit_marks.specs.EditWalk.Touches.{Touched, touches}
 use Rattle.edit_marks.specs.EditWalk.Named.{pairs_at}
 use Rattle.text_laws.specs.AgainLaws.Reached.{IsBefore}
@@ -104,9 +104,9 @@ module _ (found_law : FoundLaw) (carried_law : CarriedLaw) (metas : Var → Bool
 
     -- at a rule: its touches are instantiated
     pub at_rule : AlignedLaw → PathLaw → BareLaw → (number : ℕ) (rule : Rule) (rest : List Rule) (s : Chained)
-        → IsBefore defined rules text number (rule ∷ rest) s → All (IsInstantiated rule s.items s.pieces) (touches (rule_found defined number rule s))
+        → IsBefore defined rules text number (rule ∷ rest) s → All (IsInstantiated rule s.items s.pieces) (touches (file_witnesses defined number rule s))
     at_rule aligned_law path_law bare_law number rule rest s before =
         let one = before_termed before in
         let fit = All-head (IsFit metas) rule rest one.1 in
-        all_instantiated aligned_law path_law bare_law metas rule fit s.items s.pieces (touches (rule_found defined number rule s))
+        all_instantiated aligned_law path_law bare_law metas rule fit s.items s.pieces (touches (file_witnesses defined number rule s))
         (found_law defined s.had number rule s.pieces s.items s.carriers metas fit.ready fit.unbound fit.are one.0.reads one.0.carried)

@@ -37,7 +37,7 @@ use Rattle.pat_match.specs.Matching.{is_live_in, fits_seat}
 use Rattle.pat_match.specs.declared.pat_pairs.pairs.AlignedToken.{AlignedToken}
 use Rattle.pat_match.specs.PatPairs.Pairs.{aligned_token, numbers, first_aligned, aligned_tokens}
 use Rattle.ctl_fixpoint.proofs.CtlHolds.TestLemmas.{or_cases, or_left, or_right, and_left, and_right, not_both, not_true}
-use Rattle.edit_marks.specs.declared.mark.Aligned.{Aligned}
+use Rattle.edit_marks.specs.declared.removals.Aligned.{Aligned}
 use Rattle.edit_marks.specs.EditWalk.Keys.{number_of}
 use Rattle.edit_marks.specs.EditWalk.Touches.{Touched}
 use Rattle.edit_marks.specs.EditWalk.Named.{pattern_of, kind_at, part_of, tree_at, numbered, pairs_of, pairs_at}

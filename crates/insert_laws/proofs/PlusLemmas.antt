@@ -29,7 +29,7 @@ use Rattle.smpl_patch.specs.Sound.{same_kind, declares_name, is_plus_token, is_s
 use Rattle.pattern_vars.specs.Reads.{is_declared}
 use Rattle.ctl_fixpoint.proofs.CtlHolds.TestLemmas.{or_cases, or_left, or_right, and_left, and_right, and_both, not_both}
 use Rattle.edit_marks.specs.Blocks.{Environment, is_meta, term_of, term}
-use Rattle.edit_marks.specs.declared.mark.Aligned.{Aligned}
+use Rattle.edit_marks.specs.declared.removals.Aligned.{Aligned}
 use Rattle.edit_marks.specs.declared.spot.PlusSpot.{PlusSpot}
 use Rattle.edit_marks.specs.Spots.{token_spots, spots_of, all_spots}
 use Rattle.edit_marks.specs.Edits.{side_block, block_of}

@@ -5,8 +5,8 @@ ghost use Rattle.smpl_patch.specs.declared.rule.Rule.{Rule as PatchRule};
 ghost use Rattle.smpl_patch.specs.declared.rule.Patch.{Patch as Whole};
 ghost use Rattle.smpl_file.specs.Patches.{IsPatchOf};
 ghost use Rattle.iso_expand.specs.Patches.{IsExpanded};
-ghost use Rattle.rule_chain.specs.RuleWork.States.{Chained};
-ghost use Rattle.rule_chain.specs.RuleWork.OneRule.{rule_found};
+ghost use Rattle.rule_chain.specs.RuleRun.States.{Chained};
+ghost use Rattle.rule_chain.specs.RuleRun.OneRule.{file_witnesses};
 ghost use Rattle.edit_marks.specs.EditWalk.Touches.{touches};
 ghost use Rattle.text_laws.specs.AgainLaws.Reached.{IsBefore};
 ghost use Rattle.insert_laws.specs.Instantiated.{IsInstantiated};
@@ -38,11 +38,11 @@ pub fn plus_code_is_instantiated()
     ensures read { (bytes : List ℕ) (patch : Whole) (defined : List (List ℕ)) (text : List ℕ) (number : ℕ)
         (rule : PatchRule) (rest : List PatchRule) (s : Chained) → IsPatchOf bytes patch →
         IsBefore defined patch.rules text number (rule ∷ rest) s →
-        All (IsInstantiated rule s.items s.pieces) (touches (rule_found defined number rule s)) }
+        All (IsInstantiated rule s.items s.pieces) (touches (file_witnesses defined number rule s)) }
     ensures forms { (bytes : List ℕ) (isos : List Isomorphism) (patch whole : Whole) (defined : List (List ℕ))
         (text : List ℕ) (number : ℕ) (rule : PatchRule) (rest : List PatchRule) (s : Chained) → IsPatchOf bytes patch →
         IsExpanded isos patch whole → IsBefore defined whole.rules text number (rule ∷ rest) s →
-        All (IsInstantiated rule s.items s.pieces) (touches (rule_found defined number rule s)) }
+        All (IsInstantiated rule s.items s.pieces) (touches (file_witnesses defined number rule s)) }
 {
     spelled_patches_are_sound();
     patch_is_read_once();

@@ -5,7 +5,7 @@ pub mod CutLemmas
 pub mod OnceLemmas
 pub mod RuleWitnesses
 pub mod RuleEdits
-pub mod RuleFound
-pub mod RuleTurn
-pub mod RuleWork
+pub mod FileWitnesses
+pub mod RuleMatches
+pub mod RuleRun
 pub mod EditLaws

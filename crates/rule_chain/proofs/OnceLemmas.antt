@@ -20,10 +20,10 @@ use Rattle.rule_chain.specs.RuleEdits.Kinds.{kinds_of}
 use Rattle.rule_chain.specs.RuleEdits.Pages.{is_edited}
 use Rattle.rule_chain.specs.RuleEdits.Faults.{AreFine, IsEditFault}
 use Rattle.rule_chain.specs.RuleEdits.Faults.IsEditFault.{conflict, too_long}
-use Rattle.rule_chain.specs.declared.rule_work.fault.FileFault.{FileFault}
-use Rattle.rule_chain.specs.RuleWork.States.{Chained, ReadsAgain, first_state, notes_from}
-use Rattle.rule_chain.specs.RuleWork.OneRule.{edit_fault, MayRead, AreFew, RuleEdits, IsFault, Leads, worked, is_too_much, rule_found}
-use Rattle.rule_chain.specs.RuleWork.OneRule.IsFault.{too_many_witnesses, too_many_environments, in_edits}
+use Rattle.rule_chain.specs.declared.rule_run.fault.FileFault.{FileFault}
+use Rattle.rule_chain.specs.RuleRun.States.{Chained, ReadsAgain, first_state, notes_from}
+use Rattle.rule_chain.specs.RuleRun.OneRule.{edit_fault, MayRead, AreFew, RuleEdits, IsFault, Leads, worked, is_too_much, file_witnesses}
+use Rattle.rule_chain.specs.RuleRun.OneRule.IsFault.{too_many_witnesses, too_many_environments, in_edits}
 use Rattle.rule_chain.specs.Chain.{Outcome, Refused, Runs, Chain, is_followed}
 
 -- ---- the first clash
@@ -81,7 +81,7 @@ HaveOneReading = (pieces : List TextPiece) (a b : List Item) → Reads pieces a 
 
 module _ (one_list : HaveOneList) (defined : List (List ℕ)) (number : ℕ) (rule : Rule) (s : Chained) where
   edits_once : (a b : List Edit) → RuleEdits defined number rule s a → RuleEdits defined number rule s b → a ≡ b
-  edits_once a b = one_list (rule_found defined number rule s) rule s.items (kinds_of s.items) s.pieces a b
+  edits_once a b = one_list (file_witnesses defined number rule s) rule s.items (kinds_of s.items) s.pieces a b
 
   few_or_many : AreFew defined number rule s → is_too_much defined number rule s ≡ true → ⊥
   few_or_many few many = let e : false ≡ true = sym few.witnesses ∙ many in absurd cc

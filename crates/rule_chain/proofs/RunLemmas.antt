@@ -12,11 +12,11 @@ use Rattle.edit_unparse.specs.Output.{output_of}
 use Rattle.smpl_patch.specs.declared.rule.Rule.{Rule}
 use Rattle.rule_chain.specs.declared.rule_edits.texts.NewText.{NewText}
 use Rattle.rule_chain.specs.RuleEdits.Pages.{Page, is_edited, old_page, page_of, page_after, IsNew}
-use Rattle.rule_chain.specs.declared.rule_work.fault.FileFault.{FileFault}
-use Rattle.rule_chain.specs.declared.rule_work.state.FileState.{FileState}
-use Rattle.rule_chain.specs.RuleWork.States.{Chained}
-use Rattle.rule_chain.specs.RuleWork.OneRule.{MayRead, IsFault, Leads, worked}
-use Rattle.rule_chain.specs.RuleWork.Worked.{IsAtReading, Works}
+use Rattle.rule_chain.specs.declared.rule_run.fault.FileFault.{FileFault}
+use Rattle.rule_chain.specs.declared.rule_run.state.FileState.{FileState}
+use Rattle.rule_chain.specs.RuleRun.States.{Chained}
+use Rattle.rule_chain.specs.RuleRun.OneRule.{MayRead, IsFault, Leads, worked}
+use Rattle.rule_chain.specs.RuleRun.Worked.{IsAtReading, Works}
 use Rattle.rule_chain.specs.Chain.{Refused, Runs, is_followed}
 use Rattle.rule_chain.specs.Stops.{page_left, LeadsOn}
 

@@ -9,13 +9,13 @@ use Rattle.c_lexer.specs.Lexes.{Lexes}
 use Rattle.smpl_patch.specs.declared.rule.Rule.{Rule}
 use Rattle.rule_chain.specs.declared.rule_edits.texts.NewText.{NewText}
 use Rattle.rule_chain.specs.RuleEdits.Pages.{Page, page_in}
-use Rattle.rule_chain.specs.declared.rule_work.fault.FileFault.{FileFault}
-use Rattle.rule_chain.specs.declared.rule_work.fault.FileFault.TheVariants.{NoMemory}
-use Rattle.rule_chain.specs.declared.rule_work.state.FileState.{FileState}
-use Rattle.rule_chain.specs.declared.rule_work.state.SkipNote.{SkipNote}
-use Rattle.rule_chain.specs.RuleWork.States.{Chained, IsCut, ReadsAgain, notes_from, first_state}
-use Rattle.rule_chain.specs.RuleWork.OneRule.{MayRead}
-use Rattle.rule_chain.specs.RuleWork.Worked.{AreFindingsOf, IsAtReading}
+use Rattle.rule_chain.specs.declared.rule_run.fault.FileFault.{FileFault}
+use Rattle.rule_chain.specs.declared.rule_run.fault.FileFault.TheVariants.{NoMemory}
+use Rattle.rule_chain.specs.declared.rule_run.state.FileState.{FileState}
+use Rattle.rule_chain.specs.declared.rule_run.state.SkipNote.{SkipNote}
+use Rattle.rule_chain.specs.RuleRun.States.{Chained, IsCut, ReadsAgain, notes_from, first_state}
+use Rattle.rule_chain.specs.RuleRun.OneRule.{MayRead}
+use Rattle.rule_chain.specs.RuleRun.Worked.{AreFindingsOf, IsAtReading}
 use Rattle.rule_chain.specs.declared.state.Applied.{Applied}
 use Rattle.rule_chain.specs.declared.state.Reached.{Reached}
 use Rattle.rule_chain.specs.declared.state.Step.{Step}

@@ -4,11 +4,11 @@ use Rattle.std.proofs.Common.{List, drop}
 use Rattle.c_file.specs.File.{FileItems}
 use Rattle.smpl_patch.specs.declared.rule.Rule.{Rule}
 use Rattle.rule_chain.specs.declared.rule_edits.texts.NewText.{NewText}
-use Rattle.rule_chain.specs.declared.rule_work.fault.FileFault.{FileFault}
-use Rattle.rule_chain.specs.declared.rule_work.fault.FileFault.TheVariants.{NoMemory}
-use Rattle.rule_chain.specs.declared.rule_work.state.FileState.{FileState}
-use Rattle.rule_chain.specs.RuleWork.States.{Chained}
-use Rattle.rule_chain.specs.RuleWork.Worked.{AreFindingsOf, IsAtReading}
+use Rattle.rule_chain.specs.declared.rule_run.fault.FileFault.{FileFault}
+use Rattle.rule_chain.specs.declared.rule_run.fault.FileFault.TheVariants.{NoMemory}
+use Rattle.rule_chain.specs.declared.rule_run.state.FileState.{FileState}
+use Rattle.rule_chain.specs.RuleRun.States.{Chained}
+use Rattle.rule_chain.specs.RuleRun.Worked.{AreFindingsOf, IsAtReading}
 use Rattle.rule_chain.specs.Chain.{Outcome, Refused, Runs}
 use Rattle.rule_chain.specs.Stops.{page_left, LeadsOn}
 

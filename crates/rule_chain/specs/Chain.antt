@@ -5,9 +5,9 @@ use Rattle.c_lexer.specs.Pieces.{TextPiece}
 use Rattle.c_lexer.specs.Lexes.{Lexes}
 use Rattle.cpp_lines.specs.declared.reading.Item.{Item}
 use Rattle.c_file.specs.Reads.{Reads}
-use Rattle.rule_chain.specs.declared.rule_work.fault.FileFault.{FileFault}
-use Rattle.rule_chain.specs.RuleWork.States.{Chained, first_state}
-use Rattle.rule_chain.specs.RuleWork.OneRule.{IsFault, Leads}
+use Rattle.rule_chain.specs.declared.rule_run.fault.FileFault.{FileFault}
+use Rattle.rule_chain.specs.RuleRun.States.{Chained, first_state}
+use Rattle.rule_chain.specs.RuleRun.OneRule.{IsFault, Leads}
 
 -- how the chain ends: with its last state, or at the first fault
 pub data Outcome : Type 0 where

@@ -1,7 +1,7 @@
--- What the contract of the chain depends on, in reading order; rule_work comes first.
+-- What the contract of the chain depends on, in reading order; rule_run comes first.
 pub mod Chain
 pub mod Results
-pub mod Asked
+pub mod Required
 -- What is known of a rule that is ready to run has one proof, so that a struct may keep it.
 pub mod OneProof
 -- For internal use: the rules over one reading.
@@ -10,11 +10,11 @@ pub mod Stops
 pub mod RuleWitnesses
 -- What rule_edits defines.
 pub mod RuleEdits
--- What rule_found defines.
-pub mod RuleFound
--- What rule_turn defines.
-pub mod RuleTurn
--- What rule_work defines.
-pub mod RuleWork
+-- What file_witnesses defines.
+pub mod FileWitnesses
+-- What rule_matches defines.
+pub mod RuleMatches
+-- What rule_run defines.
+pub mod RuleRun
 -- What edit_laws defines.
 pub mod EditLaws

@@ -4,9 +4,9 @@ use Rattle.smpl_patch.specs.declared.rule.Rule.{Rule}
 use Rattle.env_parts.specs.Parts.{bare_env}
 use Rattle.rule_chain.specs.RuleWitnesses.Bare.{bare_witness}
 use Rattle.rule_chain.specs.declared.state.Applied.{Applied}
-use Rattle.rule_chain.specs.declared.rule_work.fault.FileFault.{FileFault}
-use Rattle.rule_chain.specs.declared.rule_work.fault.FileFault.TheVariants.{NoMemory}
-use Rattle.rule_chain.specs.RuleWork.States.{Chained}
+use Rattle.rule_chain.specs.declared.rule_run.fault.FileFault.{FileFault}
+use Rattle.rule_chain.specs.declared.rule_run.fault.FileFault.TheVariants.{NoMemory}
+use Rattle.rule_chain.specs.RuleRun.States.{Chained}
 use Rattle.rule_chain.specs.Chain.{Chain, Done, Refused}
 
 -- what is returned of the last state: the text, the witnesses, the skipped items and the environments

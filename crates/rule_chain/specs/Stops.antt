@@ -3,11 +3,11 @@ use Rattle.std.specs.Prelude.{ℕ, ◌≡◌, ◌+◌, ◌<◌, ◌≤◌, ◌&&
 use Rattle.smpl_patch.specs.declared.rule.Rule.{Rule}
 use Rattle.rule_chain.specs.declared.rule_edits.texts.NewText.{NewText}
 use Rattle.rule_chain.specs.RuleEdits.Pages.{Page, page_in}
-use Rattle.rule_chain.specs.declared.rule_work.state.FileState.{FileState}
-use Rattle.rule_chain.specs.declared.rule_work.state.SkipNote.{SkipNote}
-use Rattle.rule_chain.specs.RuleWork.States.{Chained}
-use Rattle.rule_chain.specs.RuleWork.OneRule.{MayRead}
-use Rattle.rule_chain.specs.RuleWork.Worked.{AreFindingsOf, IsAtReading}
+use Rattle.rule_chain.specs.declared.rule_run.state.FileState.{FileState}
+use Rattle.rule_chain.specs.declared.rule_run.state.SkipNote.{SkipNote}
+use Rattle.rule_chain.specs.RuleRun.States.{Chained}
+use Rattle.rule_chain.specs.RuleRun.OneRule.{MayRead}
+use Rattle.rule_chain.specs.RuleRun.Worked.{AreFindingsOf, IsAtReading}
 use Rattle.rule_chain.specs.declared.state.Reached.{Reached}
 use Rattle.rule_chain.specs.declared.state.Step.{Step}
 use Rattle.rule_chain.specs.declared.state.Step.TheVariants.{Ended, On}

@@ -1,10 +1,10 @@
 // The result for a file, made from the last state.
 ghost use Rattle.std.specs.Prelude.{◌≡◌, IfOk};
-ghost use Rattle.rule_chain.specs.RuleWork.States.{Chained};
-ghost use Rattle.rule_chain.specs.RuleWork.Worked.{AreFindingsOf};
+ghost use Rattle.rule_chain.specs.RuleRun.States.{Chained};
+ghost use Rattle.rule_chain.specs.RuleRun.Worked.{AreFindingsOf};
 ghost use Rattle.rule_chain.specs.Results.{AnswersState};
 
-use crate::rule_work::{FileState, SkipNote};
+use crate::rule_run::{FileState, SkipNote};
 use crate::state::Applied;
 use c_terms::NoMemory;
 use rule_envs::envs_of;

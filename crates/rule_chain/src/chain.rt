@@ -3,8 +3,8 @@ ghost use Rattle.std.specs.Prelude.{◌≡◌, ◌≤◌, ◌<◌, ◌+◌, ◌^
 ghost use Rattle.c_lexer.specs.Lexes.{Lexes};
 ghost use Rattle.c_lexer.specs.Pieces.{most_bytes};
 ghost use Rattle.c_file.specs.Reads.{Reads};
-ghost use Rattle.rule_chain.specs.RuleWork.States.{Chained, first_state};
-ghost use Rattle.rule_chain.specs.declared.rule_work.fault.FileFault.TheVariants as fault;
+ghost use Rattle.rule_chain.specs.RuleRun.States.{Chained, first_state};
+ghost use Rattle.rule_chain.specs.declared.rule_run.fault.FileFault.TheVariants as fault;
 ghost use Rattle.rule_chain.specs.Chain.{Runs, Done, Refused};
 ghost use Rattle.rule_chain.specs.Results.{IsResult, AnswersState};
 ghost use Rattle.rule_chain.specs.Stops.{IsAt, ComesOf, Steps, IsFurther};
@@ -14,8 +14,8 @@ use crate::patch_rules::PatchRules;
 use crate::reading::Reading;
 use crate::readings::{cut, read_again, with_notes};
 use crate::rule_edits::NewText;
-use crate::rule_work::{FileFault, FileState, SkipNote};
-use crate::rules::{Stopped, over_reading};
+use crate::rule_run::{FileFault, FileState, SkipNote};
+use crate::rules::{ReadingEnd, over_reading};
 use crate::state::{Applied, Reached, Step};
 use c_file::read_file;
 use c_terms::NoMemory;
@@ -132,7 +132,7 @@ fn next_reading<R: Threads + Sync, G: Gate>(
     let count = rules.count();
     let read = Reading { file: &file, next };
     let stopped = over_reading(workers, rules, done, &read, findings)?;
-    let Stopped {
+    let ReadingEnd {
         findings,
         done,
         text,
@@ -197,7 +197,7 @@ fn over_readings<R: Threads + Sync, G: Gate>(
 /// - `NoMemory`: out of memory; or ids go beyond 2^62, a reading has 2^32 items or more, or the new text isn't cut into as many
 ///   tokens as it has ids.
 ///
-/// All but the last carry the number of the rule, from 0. Costs one [`crate::rule_work::run_rule`] per rule, one reading of the
+/// All but the last carry the number of the rule, from 0. Costs one [`crate::rule_run::run_rule`] per rule, one reading of the
 /// text at the start, and one after each rule that edits and is followed by another.
 pub fn apply<R: Threads + Sync, G: Gate>(
     workers: &Workers<'_, R, G>,

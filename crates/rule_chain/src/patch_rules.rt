@@ -3,7 +3,7 @@ ghost use Rattle.std.specs.Prelude.{◌≡◌, ◌<◌, ◌^◌, length, slice_i
 ghost use Rattle.std.specs.List.{AllZip};
 ghost use Rattle.ctl_formula.specs.contracts.formula.Formula as formula;
 ghost use Rattle.rule_envs.specs.RuleFormulas.Prepared.{IsPrepared, ArePrepared};
-ghost use Rattle.rule_chain.specs.Asked.{MayRun};
+ghost use Rattle.rule_chain.specs.Required.{MayRun};
 ghost use Rattle.rule_chain.specs.OneProof.{is_prepared-prop, are_prepared-prop, may_run-prop, all_may_run-prop};
 
 use c_terms::Text;

@@ -5,10 +5,10 @@ ghost use Rattle.c_lexer.specs.Lexes.{Lexes, Cuts};
 ghost use Rattle.c_lexer.specs.Ids.{ids_of};
 ghost use Rattle.c_file.specs.Reads.{Reads};
 ghost use Rattle.rule_chain.specs.RuleEdits.Pages.{page_in};
-ghost use Rattle.rule_chain.specs.RuleWork.States.{IsCut, notes_from};
+ghost use Rattle.rule_chain.specs.RuleRun.States.{IsCut, notes_from};
 
 use crate::rule_edits::NewText;
-use crate::rule_work::SkipNote;
+use crate::rule_run::SkipNote;
 use c_file::{CFile, read_file};
 use c_lexer::{LexFault, Lexed, lex};
 use c_terms::NoMemory;

@@ -14,7 +14,7 @@ mod matched;
 mod query;
 mod values;
 
-pub use fault::JobFault;
+pub use fault::ItemFault;
 pub use job::item_witnesses;
 pub use laws::ids_make_no_difference;
 pub use matched::{SatSets, match_item};

@@ -1,22 +1,22 @@
 // Runs rules over one reading of the text.
 ghost use Rattle.std.specs.Prelude.{◌≡◌, ◌<◌, ◌≤◌, ◌+◌, ◌⊎◌, true, None, IfOk, IfErr, length, drop, is_some};
-ghost use Rattle.rule_chain.specs.RuleWork.States.{Chained};
-ghost use Rattle.rule_chain.specs.RuleWork.Worked.{AreFindingsOf, IsAtReading};
-ghost use Rattle.rule_chain.specs.declared.rule_work.fault.FileFault.TheVariants as fault;
+ghost use Rattle.rule_chain.specs.RuleRun.States.{Chained};
+ghost use Rattle.rule_chain.specs.RuleRun.Worked.{AreFindingsOf, IsAtReading};
+ghost use Rattle.rule_chain.specs.declared.rule_run.fault.FileFault.TheVariants as fault;
 ghost use Rattle.rule_chain.specs.Chain.{Runs, Refused};
 ghost use Rattle.rule_chain.specs.Stops.{LeadsOn};
 
 use crate::patch_rules::PatchRules;
 use crate::reading::Reading;
 use crate::rule_edits::NewText;
-use crate::rule_work::{FileFault, FileState, RuleOutcome, run_rule};
+use crate::rule_run::{FileFault, FileState, RuleOutcome, run_rule};
 use c_file::Graphs;
 use par_match::{Gate, Workers};
 use std::thread::Threads;
 
 /// Where the rules over one reading stop: after a rule that edits, or after the last.
 #[derive(Drop)]
-pub struct Stopped {
+pub struct ReadingEnd {
     pub findings: FileState,
     /// How many rules of the patch are done.
     pub done: usize,
@@ -52,7 +52,7 @@ pub fn over_reading<R: Threads + Sync, G: Gate>(
     from: usize,
     reading: &Reading<'_>,
     findings: FileState,
-) -> Result<Stopped, FileFault>
+) -> Result<ReadingEnd, FileFault>
     requires within { from ≤ length rules.now.patch.now.rules }
     ensures stopped { IfOk result (λ st. (s : Chained) → AreFindingsOf findings s → IsAtReading reading.now.file.now reading.now.next s
         → LeadsOn rules.now.defined.now rules.now.patch.now.rules from s st.done st.findings st.text) }
@@ -75,7 +75,7 @@ pub fn over_reading<R: Threads + Sync, G: Gate>(
         match text {
             None => findings = left,
             Some(text) => {
-                return Ok(Stopped {
+                return Ok(ReadingEnd {
                     findings: left,
                     done: number + 1,
                     text: Some(text),
@@ -83,7 +83,7 @@ pub fn over_reading<R: Threads + Sync, G: Gate>(
             }
         }
     }
-    Ok(Stopped {
+    Ok(ReadingEnd {
         findings,
         done: count,
         text: None,

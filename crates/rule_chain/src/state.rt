@@ -1,5 +1,5 @@
 // The state of the chain, and its result.
-use crate::rule_work::{FileState, SkipNote};
+use crate::rule_run::{FileState, SkipNote};
 use c_file::CFile;
 use smpl_patch::RuleWitness;
 use smpl_terms::Env;

@@ -1,2 +1,2 @@
--- Lemmas of chain_laws. The properties of each rule imply the preconditions of the chain.
-pub mod AskedLemmas
+-- Lemmas of chain_laws. The properties of each rule imply what is known of a rule that is run.
+pub mod RequiredLemmas

@@ -1,4 +1,4 @@
--- What the laws rest on: the preconditions of the calls that run a rule.
+-- What the laws rest on: what is known of a rule that is ready to run.
 pub mod Ready
 -- What iso_formulas defines.
 pub mod IsoFormulas

@@ -1,4 +1,4 @@
--- The preconditions of the calls that run a rule.
+-- What is known of a rule that is ready to run.
 use Rattle.std.specs.Prelude.{◌≡◌, true}
 use Rattle.std.specs.List.{list_all}
 use Rattle.smpl_patch.specs.declared.rule.Rule.{Rule}
@@ -9,7 +9,7 @@ use Rattle.ctl_fixpoint.specs.CtlHolds.Parts.{EachPattern}
 use Rattle.ctl_fixpoint.specs.CtlHolds.BoundLaw.{SureStand}
 use Rattle.edit_marks.specs.Edits.{HaveEvenBlocks}
 use Rattle.rule_envs.specs.Inherited.{inherited_of}
-use Rattle.rule_chain.specs.RuleTurn.Turns.{AreApart}
+use Rattle.rule_chain.specs.RuleMatches.Turns.{AreApart}
 
 pub record IsReady (rule : Rule) : Type 0 where
   -- each pattern of its formula contains its sure variables

@@ -1,4 +1,4 @@
-//! Laws of the chain for patches that are read: each rule satisfies the preconditions of `apply`.
+//! Laws of the chain for patches that are read: each rule may be run.
 //!
 //! The functions do nothing.
 #![tactic(auto)]

@@ -21,7 +21,7 @@ ghost use Rattle.ctl_translate.specs.declared.rule.FormulaFault.TheVariants as f
 ghost use Rattle.edit_marks.specs.Edits.{HaveEvenBlocks};
 ghost use Rattle.rule_envs.specs.Inherited.{inherited_of};
 ghost use Rattle.rule_envs.specs.RuleFormulas.Prepared.{IsPrepareFault};
-ghost use Rattle.rule_chain.specs.RuleTurn.Turns.{AreApart};
+ghost use Rattle.rule_chain.specs.RuleMatches.Turns.{AreApart};
 ghost use Rattle.rule_laws.specs.Ready.{IsReady};
 
 use rule_envs::exported_variables_are_bound;
@@ -73,7 +73,7 @@ pub fn rules_have_formulas()
     ensures fault { (patch : Whole) (f : Fault) → first_fault patch ≡ None → IsPrepareFault patch.rules f → f ≡ fault.NoMemory }
 {}
 
-/// Each rule of a patch that is read satisfies the preconditions of the calls that run it.
+/// Each rule of a patch that is read is ready to run, and its formula may be used.
 ///
 /// - `rules`: each rule of a patch that is read is ready.
 /// - `stand`, `binds`: the formula that is made of a rule that is ready, with the declarations and tokens that it carries,

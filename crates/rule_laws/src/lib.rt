@@ -1,4 +1,4 @@
-//! Laws of the rules of patches that are read: each rule satisfies the preconditions of the calls that run it.
+//! Laws of the rules of patches that are read: each rule may be run.
 //!
 //! - [`formulas_have_patterns_of_their_bodies`]: a rule's formula has no patterns but those of its body.
 //! - [`exports_are_apart`]: each variable that a rule exports occurs once among its exports, and isn't inherited.
@@ -12,7 +12,7 @@
 //! Its folders:
 //!
 //! - `iso_formulas`: The formulas of rules whose patterns have all their forms under isomorphisms.
-//! - `chain_laws`: Laws of the chain for patches that are read: each rule satisfies the preconditions of `apply`.
+//! - `chain_laws`: Laws of the chain for patches that are read: each rule may be run.
 //! - `form_laws`: Laws of the chain for patches whose patterns have all their forms under isomorphisms.
 #![tactic(auto)]
 

@@ -5,7 +5,7 @@ use Rattle.outer_io.specs.Files.{Files}
 use Rattle.run_acts.specs.declared.acts.Loaded.{Loaded}
 use Rattle.run_acts.specs.declared.acts.Loaded.TheVariants.{Bytes, TooLong, Absent}
 
--- This may be stored under a name: what the shelf reports, or some bytes if it reports nothing.
+-- This may be stored under a name: what the shelf reveals, or some bytes if it reveals nothing.
 abbrev pub Found : Option Files → List ℕ → Option (List ℕ) → Type 0
 Found None name under = IsSome under
 Found (Some files) name under = under ≡ get files name

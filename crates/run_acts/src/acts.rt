@@ -2,7 +2,7 @@
 ghost use Rattle.std.specs.Prelude.{◌≡◌, ◌≤◌, List, ℕ, Option, IfOk, OnOk, IfErr};
 ghost use Rattle.outer_io.specs.Files.{Files, stored, grown};
 ghost use Rattle.outer_io.specs.Faults.{counted};
-ghost use Rattle.run_acts.specs.Acts.{Load, Store, Print, Report, told};
+ghost use Rattle.run_acts.specs.Acts.{Load, Store, Print, Report, observed};
 ghost use Rattle.run_acts.specs.Breaks.{Breaks, counts};
 ghost use Rattle.run_acts.specs.Loaded.{Gives, Found};
 ghost use Rattle.run_acts.specs.Statuses.{status_of};
@@ -44,8 +44,8 @@ pub fn load<S: Loads, E: Sink>(
     ensures stopped { IfErr result (λ stopped. (out : Option (List ℕ)) (o o' : ℕ) →
         Breaks (counts (S.faults shelf.old) o (E.faults err.old))
         (counts (S.faults shelf.new) o' (E.faults err.new)) (Load name.now limit)
-        (told (S.holds shelf.old) (S.stores shelf.old) out (E.written err.old))
-        (told (S.holds shelf.new) (S.stores shelf.new) out (E.written err.new)) (status_of stopped)) }
+        (observed (S.holds shelf.old) (S.stores shelf.old) out (E.written err.old))
+        (observed (S.holds shelf.new) (S.stores shelf.new) out (E.written err.new)) (status_of stopped)) }
 {
     match shelf.load(name, limit) {
         Ok(bytes) => Ok(Loaded::Bytes(bytes)),
@@ -80,8 +80,8 @@ pub fn store<S: Shelf, E: Sink>(
     ensures stopped { IfErr result (λ stopped. (out : Option (List ℕ)) (o o' : ℕ) →
         Breaks (counts (S.faults shelf.old) o (E.faults err.old))
         (counts (S.faults shelf.new) o' (E.faults err.new)) (Store name.now bytes.now)
-        (told (S.holds shelf.old) (S.stores shelf.old) out (E.written err.old))
-        (told (S.holds shelf.new) (S.stores shelf.new) out (E.written err.new)) (status_of stopped)) }
+        (observed (S.holds shelf.old) (S.stores shelf.old) out (E.written err.old))
+        (observed (S.holds shelf.new) (S.stores shelf.new) out (E.written err.new)) (status_of stopped)) }
 {
     match shelf.store(name, bytes) {
         Ok(()) => Ok(()),
@@ -106,8 +106,8 @@ pub fn print<O: Sink, E: Sink>(out: &mut O, err: &mut E, bytes: &[u8]) -> Result
     ensures stopped { IfErr result (λ stopped. (files : Option Files) (stores s s' : ℕ) →
         Breaks (counts s (O.faults out.old) (E.faults err.old))
         (counts s' (O.faults out.new) (E.faults err.new)) (Print bytes.now)
-        (told files stores (O.written out.old) (E.written err.old))
-        (told files stores (O.written out.new) (E.written err.new)) (status_of stopped)) }
+        (observed files stores (O.written out.old) (E.written err.old))
+        (observed files stores (O.written out.new) (E.written err.new)) (status_of stopped)) }
 {
     match out.put(bytes) {
         Ok(()) => Ok(()),
@@ -126,8 +126,8 @@ pub fn report<E: Sink>(err: &mut E, line: &[u8]) -> Result<(), Stopped>
     ensures stopped { IfErr result
         (λ stopped. (files : Option Files) (out : Option (List ℕ)) (stores s o s' o' : ℕ) →
         Breaks (counts s o (E.faults err.old)) (counts s' o' (E.faults err.new)) (Report line.now)
-        (told files stores out (E.written err.old))
-        (told files stores out (E.written err.new)) (status_of stopped)) }
+        (observed files stores out (E.written err.old))
+        (observed files stores out (E.written err.new)) (status_of stopped)) }
 {
     match err.put(line) {
         Ok(()) => Ok(()),

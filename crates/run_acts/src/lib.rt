@@ -5,7 +5,7 @@
 //! - An [`Outside`] is what a run works on: a shelf, an output and an error output.
 //! - [`line_of`], [`cannot_read`], [`cannot_write`] and [`cannot_print`] return the texts of lines.
 //!
-//! The contracts are about acts, what the shelf and the two outputs report after them, and the counts of faults. The contract
+//! The contracts are about acts, what the shelf and the two outputs reveal after them, and the counts of faults. The contract
 //! of a run combines them: this many acts were done, and then the next one broke.
 //!
 //! A failed load of `k.c` puts `spatch: k.c: cannot read` on the error output, and the run ends with status 5.

@@ -6,11 +6,11 @@ use Rattle.smpl_patch.specs.declared.rule.Rule.{Rule}
 use Rattle.rule_chain.specs.declared.rule_edits.fault.EditFault.{EditFault}
 use Rattle.rule_chain.specs.RuleEdits.Faults.{IsEditFault}
 use Rattle.rule_chain.specs.RuleEdits.Faults.IsEditFault.{conflict, too_long}
-use Rattle.rule_chain.specs.declared.rule_work.fault.FileFault.{FileFault}
-use Rattle.rule_chain.specs.declared.rule_work.fault.FileFault.TheVariants.{NoMemory}
-use Rattle.rule_chain.specs.RuleWork.States.{Chained}
-use Rattle.rule_chain.specs.RuleWork.OneRule.{IsFault, edit_fault}
-use Rattle.rule_chain.specs.RuleWork.OneRule.IsFault.{too_many_witnesses, too_many_environments, in_edits}
+use Rattle.rule_chain.specs.declared.rule_run.fault.FileFault.{FileFault}
+use Rattle.rule_chain.specs.declared.rule_run.fault.FileFault.TheVariants.{NoMemory}
+use Rattle.rule_chain.specs.RuleRun.States.{Chained}
+use Rattle.rule_chain.specs.RuleRun.OneRule.{IsFault, edit_fault}
+use Rattle.rule_chain.specs.RuleRun.OneRule.IsFault.{too_many_witnesses, too_many_environments, in_edits}
 use Rattle.rule_chain.specs.Chain.{Refused, Runs}
 
 edits_say_why : (number next : ℕ) (pieces : List TextPiece) (edits : List Edit) (fault : EditFault) → IsEditFault next pieces edits fault

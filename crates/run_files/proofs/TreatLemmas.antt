@@ -3,23 +3,23 @@ use Rattle.std.proofs.Common.{◌≡◌, ◌≤◌, ◌∙◌, true, false, not,
 use Rattle.std.proofs.Common.{None, Some, Err, refl, sym, inl, inr, map, ap, subst, codes}
 use Rattle.std.specs.Prelude.{Option}
 use Rattle.std.specs.Fmt.{decimal}
-use Rattle.run_acts.specs.Acts.{Act, Report, Print, Told}
+use Rattle.run_acts.specs.Acts.{Act, Report, Print, Observed}
 use Rattle.run_acts.specs.Breaks.{Counts, NoneFell}
 use Rattle.smpl_patch.specs.declared.rule.Rule.{Rule}
 use Rattle.smpl_patch.specs.declared.rule.Patch.{Patch}
 use Rattle.smpl_patch.specs.declared.witness.RuleWitness.{RuleWitness}
 use Rattle.wit_print.specs.Report.{report_of}
-use Rattle.rule_chain.specs.declared.rule_work.state.SkipNote.{SkipNote}
-use Rattle.rule_chain.specs.declared.rule_work.fault.FileFault.{FileFault}
-use Rattle.rule_chain.specs.declared.rule_work.fault.FileFault.TheVariants.{NoMemory}
-use Rattle.rule_chain.specs.RuleWork.States.{Chained}
+use Rattle.rule_chain.specs.declared.rule_run.state.SkipNote.{SkipNote}
+use Rattle.rule_chain.specs.declared.rule_run.fault.FileFault.{FileFault}
+use Rattle.rule_chain.specs.declared.rule_run.fault.FileFault.TheVariants.{NoMemory}
+use Rattle.rule_chain.specs.RuleRun.States.{Chained}
 use Rattle.rule_chain.specs.declared.state.Applied.{Applied}
 use Rattle.rule_chain.specs.Chain.{Chain, Done, Refused}
 use Rattle.rule_chain.specs.Results.{AnswersState, IsResult}
 use Rattle.run_words.specs.declared.order.Mode.{Mode}
 use Rattle.run_files.specs.RunLines.Files.{refused_line, skipped_line}
 use Rattle.run_files.specs.RunLines.Summary.{summary, rule_lines}
-use Rattle.run_files.specs.Treatment.{refuses, printing, storing, shown, kept, skipped_lines, treated_by, summed_by, Treats, Sums}
+use Rattle.run_files.specs.Treatment.{refuses, printing, storing, shown, stored_after, skipped_lines, treated_by, summed_by, IsTreatmentOf, Sums}
 use Rattle.run_files.specs.Does.{Does, Stops}
 use Rattle.run_files.specs.Cuts.{TreatsAll, TreatsPart}
 use Rattle.run_files.specs.Cuts.TreatsPart.{earlier, later}
@@ -33,18 +33,18 @@ abbrev pub note_act : List ℕ → SkipNote → Act
 note_act name note = Report (skipped_line name note)
 
 -- the returned notes are those of the state
-pub notes_done : (name : List ℕ) (notes : List SkipNote) (s : Chained) (old mid new : Told) → notes ≡ s.skipped → mid ≡ old
+pub notes_done : (name : List ℕ) (notes : List SkipNote) (s : Chained) (old mid new : Observed) → notes ≡ s.skipped → mid ≡ old
     → Does (map (note_act name) notes) mid new → Does (skipped_lines name s) old new
 notes_done name notes s old mid new is same does =
     Does-as (map (note_act name) notes) (skipped_lines name s) old new (ap (map (note_act name)) is)
-    (Does-then [] (map (note_act name) notes) old mid new (record { told = same }) does)
+    (Does-then [] (map (note_act name) notes) old mid new (record { observed = same }) does)
 
-notes_stop : (name : List ℕ) (notes : List SkipNote) (s : Chained) (first before now : Counts) (old mid new : Told) (status : ℕ)
+notes_stop : (name : List ℕ) (notes : List SkipNote) (s : Chained) (first before now : Counts) (old mid new : Observed) (status : ℕ)
     → notes ≡ s.skipped → NoneFell first before → mid ≡ old → Stops (map (note_act name) notes) before now mid new status
     → Stops (skipped_lines name s) first now old new status
 notes_stop name notes s first before now old mid new status is fell same stops =
     Stops-as (map (note_act name) notes) (skipped_lines name s) first now old new status (ap (map (note_act name)) is)
-    (Stops-then [] (map (note_act name) notes) first before now old mid new status fell (record { told = same }) stops)
+    (Stops-then [] (map (note_act name) notes) first before now old mid new status fell (record { observed = same }) stops)
 
 -- ---- what is shown
 
@@ -64,9 +64,9 @@ is_on true e = refl
 is_on false e = sym e
 
 -- the text is stored if that is asked for
-pub kept_text : (mode : Mode) (name old text : List ℕ) (s : Chained) → not mode.in_place ≡ false → s.page.bytes ≡ text
-    → storing name old text ≡ kept mode name old s
-kept_text mode name old text s on same =
+pub stored_after_text : (mode : Mode) (name old text : List ℕ) (s : Chained) → not mode.in_place ≡ false → s.page.bytes ≡ text
+    → storing name old text ≡ stored_after mode name old s
+stored_after_text mode name old text s on same =
     ap (storing name old) (sym same) ∙ sym (ap (λ (b : Bool). cond b (storing name old s.page.bytes) []) (is_on mode.in_place on))
 
 -- neither a report nor a summary is empty
@@ -88,11 +88,11 @@ summary_shown rules applied s a =
     ∙ (λ i. summary rules (a.witnesses i) (length (a.bytes i)))
 
 -- what is made of the bytes, by whether they are refused
-pub applied_some : (patch : Patch) (defined : List (List ℕ)) (name bytes : List ℕ) (o : Option Applied) (applied : Applied) (old new : Told)
+pub applied_some : (patch : Patch) (defined : List (List ℕ)) (name bytes : List ℕ) (o : Option Applied) (applied : Applied) (old new : Observed)
     → o ≡ Some applied → AppliesTo patch defined name bytes o old new → AppliesTo patch defined name bytes (Some applied) old new
 applied_some patch defined name bytes o applied old new is made = subst (λ (a : Option Applied). AppliesTo patch defined name bytes a old new) is made
 
-pub applied_none : (patch : Patch) (defined : List (List ℕ)) (name bytes : List ℕ) (o : Option Applied) (old new : Told)
+pub applied_none : (patch : Patch) (defined : List (List ℕ)) (name bytes : List ℕ) (o : Option Applied) (old new : Observed)
     → ((applied : Applied) → o ≡ Some applied → ⊥) → AppliesTo patch defined name bytes o old new → AppliesTo patch defined name bytes None old new
 applied_none patch defined name bytes None old new not made = made
 applied_none patch defined name bytes (Some applied) old new not made = absurd (not applied refl)
@@ -106,7 +106,8 @@ chain_of rules defined bytes fault other (inr chain) = chain
 -- ---- a file
 
 module _ (mode : Mode) (patch : Patch) (defined : List (List ℕ)) (name bytes : List ℕ) (short : length bytes ≤ 16777216) where
-  pub refused_all : (old new : Told) → AppliesTo patch defined name bytes None old new → TreatsAll (Treats mode patch defined name bytes) true old new
+  pub refused_all : (old new : Observed) → AppliesTo patch defined name bytes None old new
+      → TreatsAll (IsTreatmentOf mode patch defined name bytes) true old new
   refused_all old new is = record {
     treated = refuses (refused_line name is.0);
     treats = inr (short, (Refused is.0, (is.1.0, refl)));
@@ -114,52 +115,52 @@ module _ (mode : Mode) (patch : Patch) (defined : List (List ℕ)) (name bytes :
     does = is.1.1;
   }
 
-  pub refused_part : (before now : Counts) (old new : Told) (status : ℕ) → TreatsPart (Refuses patch defined name bytes) before now old new status
-      → TreatsPart (Treats mode patch defined name bytes) before now old new status
+  pub refused_part : (before now : Counts) (old new : Observed) (status : ℕ) → TreatsPart (Refuses patch defined name bytes) before now old new status
+      → TreatsPart (IsTreatmentOf mode patch defined name bytes) before now old new status
   refused_part before now old new status (earlier memory same) = earlier memory same
   refused_part before now old new status (later treated is stops) =
       later treated (inr (short, (Refused is.0, (is.1.0, is.1.1)))) stops
 
   module _ (s : Chained) (chain : Chain patch.rules defined bytes (Done s)) (notes : List SkipNote) (notes_are : notes ≡ s.skipped) where
-    pub treated_all : (old mid one two new : Told) → mid ≡ old → Does (map (note_act name) notes) mid one → Does (shown mode patch name s) one two
-        → Does (kept mode name bytes s) two new → TreatsAll (Treats mode patch defined name bytes) false old new
+    pub treated_all : (old mid one two new : Observed) → mid ≡ old → Does (map (note_act name) notes) mid one → Does (shown mode patch name s) one two
+        → Does (stored_after mode name bytes s) two new → TreatsAll (IsTreatmentOf mode patch defined name bytes) false old new
     treated_all old mid one two new same first second third = record {
       treated = treated_by mode patch name bytes (Done s);
       treats = inr (short, (Done s, (chain, refl)));
       refused_is = refl;
-      does = Does-then (skipped_lines name s ++ shown mode patch name s) (kept mode name bytes s) old two new
+      does = Does-then (skipped_lines name s ++ shown mode patch name s) (stored_after mode name bytes s) old two new
           (Does-then (skipped_lines name s) (shown mode patch name s) old one two (notes_done name notes s old mid one notes_are same first) second) third;
     }
 
-    pub stopped_in_lines : (first before now : Counts) (old mid new : Told) (status : ℕ) → NoneFell first before → mid ≡ old
-        → Stops (map (note_act name) notes) before now mid new status → TreatsPart (Treats mode patch defined name bytes) first now old new status
+    pub stopped_in_lines : (first before now : Counts) (old mid new : Observed) (status : ℕ) → NoneFell first before → mid ≡ old
+        → Stops (map (note_act name) notes) before now mid new status → TreatsPart (IsTreatmentOf mode patch defined name bytes) first now old new status
     stopped_in_lines first before now old mid new status fell same stops =
         later (treated_by mode patch name bytes (Done s)) (inr (short, (Done s, (chain, refl))))
-        (Stops-first (skipped_lines name s ++ shown mode patch name s) (kept mode name bytes s) first now old new status
+        (Stops-first (skipped_lines name s ++ shown mode patch name s) (stored_after mode name bytes s) first now old new status
         (Stops-first (skipped_lines name s) (shown mode patch name s) first now old new status
         (notes_stop name notes s first before now old mid new status notes_are fell same stops)))
 
-    pub stopped_in_shown : (first before now : Counts) (old mid one new : Told) (status : ℕ) → NoneFell first before → mid ≡ old
+    pub stopped_in_shown : (first before now : Counts) (old mid one new : Observed) (status : ℕ) → NoneFell first before → mid ≡ old
         → Does (map (note_act name) notes) mid one → Stops (shown mode patch name s) before now one new status
-        → TreatsPart (Treats mode patch defined name bytes) first now old new status
+        → TreatsPart (IsTreatmentOf mode patch defined name bytes) first now old new status
     stopped_in_shown first before now old mid one new status fell same lines stops =
         later (treated_by mode patch name bytes (Done s)) (inr (short, (Done s, (chain, refl))))
-        (Stops-first (skipped_lines name s ++ shown mode patch name s) (kept mode name bytes s) first now old new status
+        (Stops-first (skipped_lines name s ++ shown mode patch name s) (stored_after mode name bytes s) first now old new status
         (Stops-then (skipped_lines name s) (shown mode patch name s) first before now old one new status fell
         (notes_done name notes s old mid one notes_are same lines) stops))
 
-    pub stopped_in_kept : (first before now : Counts) (old mid one two new : Told) (status : ℕ) → NoneFell first before → mid ≡ old
-        → Does (map (note_act name) notes) mid one → Does (shown mode patch name s) one two → Stops (kept mode name bytes s) before now two new status
-        → TreatsPart (Treats mode patch defined name bytes) first now old new status
+    pub stopped_in_kept : (first before now : Counts) (old mid one two new : Observed) (status : ℕ) → NoneFell first before → mid ≡ old
+        → Does (map (note_act name) notes) mid one → Does (shown mode patch name s) one two → Stops (stored_after mode name bytes s) before now two new status
+        → TreatsPart (IsTreatmentOf mode patch defined name bytes) first now old new status
     stopped_in_kept first before now old mid one two new status fell same lines text stops =
         later (treated_by mode patch name bytes (Done s)) (inr (short, (Done s, (chain, refl))))
-        (Stops-then (skipped_lines name s ++ shown mode patch name s) (kept mode name bytes s) first before now old two new status fell
+        (Stops-then (skipped_lines name s ++ shown mode patch name s) (stored_after mode name bytes s) first before now old two new status fell
         (Does-then (skipped_lines name s) (shown mode patch name s) old one two (notes_done name notes s old mid one notes_are same lines) text) stops)
 
 -- ---- a generated text
 
 module _ (patch : Patch) (defined : List (List ℕ)) (name bytes : List ℕ) where
-  pub sum_refused_all : (old new : Told) → AppliesTo patch defined name bytes None old new → TreatsAll (Sums patch defined name bytes) true old new
+  pub sum_refused_all : (old new : Observed) → AppliesTo patch defined name bytes None old new → TreatsAll (Sums patch defined name bytes) true old new
   sum_refused_all old new is = record {
     treated = refuses (refused_line name is.0);
     treats = (Refused is.0, (is.1.0, refl));
@@ -167,13 +168,13 @@ module _ (patch : Patch) (defined : List (List ℕ)) (name bytes : List ℕ) whe
     does = is.1.1;
   }
 
-  pub sum_refused_part : (before now : Counts) (old new : Told) (status : ℕ) → TreatsPart (Refuses patch defined name bytes) before now old new status
+  pub sum_refused_part : (before now : Counts) (old new : Observed) (status : ℕ) → TreatsPart (Refuses patch defined name bytes) before now old new status
       → TreatsPart (Sums patch defined name bytes) before now old new status
   sum_refused_part before now old new status (earlier memory same) = earlier memory same
   sum_refused_part before now old new status (later treated is stops) = later treated (Refused is.0, (is.1.0, is.1.1)) stops
 
   module _ (s : Chained) (chain : Chain patch.rules defined bytes (Done s)) (notes : List SkipNote) (notes_are : notes ≡ s.skipped) where
-    pub summed_all : (old mid one new : Told) → mid ≡ old → Does (map (note_act name) notes) mid one
+    pub summed_all : (old mid one new : Observed) → mid ≡ old → Does (map (note_act name) notes) mid one
         → Does (printing (summary patch.rules s.found (length s.page.bytes))) one new → TreatsAll (Sums patch defined name bytes) false old new
     summed_all old mid one new same first second = record {
       treated = summed_by patch name (Done s);
@@ -183,14 +184,14 @@ module _ (patch : Patch) (defined : List (List ℕ)) (name bytes : List ℕ) whe
           (notes_done name notes s old mid one notes_are same first) second;
     }
 
-    pub sum_stopped_in_lines : (first before now : Counts) (old mid new : Told) (status : ℕ) → NoneFell first before → mid ≡ old
+    pub sum_stopped_in_lines : (first before now : Counts) (old mid new : Observed) (status : ℕ) → NoneFell first before → mid ≡ old
         → Stops (map (note_act name) notes) before now mid new status → TreatsPart (Sums patch defined name bytes) first now old new status
     sum_stopped_in_lines first before now old mid new status fell same stops =
         later (summed_by patch name (Done s)) (Done s, (chain, refl))
         (Stops-first (skipped_lines name s) (printing (summary patch.rules s.found (length s.page.bytes))) first now old new status
         (notes_stop name notes s first before now old mid new status notes_are fell same stops))
 
-    pub stopped_in_summary : (first before now : Counts) (old mid one new : Told) (status : ℕ) → NoneFell first before → mid ≡ old
+    pub stopped_in_summary : (first before now : Counts) (old mid one new : Observed) (status : ℕ) → NoneFell first before → mid ≡ old
         → Does (map (note_act name) notes) mid one → Stops (printing (summary patch.rules s.found (length s.page.bytes))) before now one new status
         → TreatsPart (Sums patch defined name bytes) first now old new status
     stopped_in_summary first before now old mid one new status fell same lines stops =

@@ -1,9 +1,9 @@
 -- What a patch makes of the bytes of a file: a result, or a refusal that is reported.
 use Rattle.std.specs.Prelude.{ℕ, ◌≡◌, List, [], ◌∷◌, Option, Some, None}
-use Rattle.run_acts.specs.Acts.{Report, Told}
+use Rattle.run_acts.specs.Acts.{Report, Observed}
 use Rattle.smpl_patch.specs.declared.rule.Patch.{Patch}
-use Rattle.rule_chain.specs.declared.rule_work.fault.FileFault.{FileFault}
-use Rattle.rule_chain.specs.RuleWork.States.{Chained}
+use Rattle.rule_chain.specs.declared.rule_run.fault.FileFault.{FileFault}
+use Rattle.rule_chain.specs.RuleRun.States.{Chained}
 use Rattle.rule_chain.specs.declared.state.Applied.{Applied}
 use Rattle.rule_chain.specs.Chain.{Chain, Done, Refused}
 use Rattle.rule_chain.specs.Results.{AnswersState}
@@ -17,7 +17,7 @@ Refuses patch defined name bytes treated =
     (fault : FileFault) × (Chain patch.rules defined bytes (Refused fault) × (treated ≡ refuses (refused_line name fault)))
 
 -- the last state is returned, and nothing is output; or the text is refused, and its line is reported
-abbrev pub AppliesTo : Patch → List (List ℕ) → List ℕ → List ℕ → Option Applied → Told → Told → Type 0
+abbrev pub AppliesTo : Patch → List (List ℕ) → List ℕ → List ℕ → Option Applied → Observed → Observed → Type 0
 AppliesTo patch defined name bytes (Some applied) old new =
     (s : Chained) × (Chain patch.rules defined bytes (Done s) × (AnswersState applied s × (new ≡ old)))
 AppliesTo patch defined name bytes None old new =

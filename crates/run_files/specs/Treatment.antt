@@ -9,7 +9,7 @@ use Rattle.run_files.specs.RunLines.Files.{too_long_line, special_line, refused_
 use Rattle.run_files.specs.RunLines.Summary.{summary}
 use Rattle.smpl_patch.specs.declared.rule.Patch.{Patch}
 use Rattle.wit_print.specs.Report.{report_of}
-use Rattle.rule_chain.specs.RuleWork.States.{Chained}
+use Rattle.rule_chain.specs.RuleRun.States.{Chained}
 use Rattle.rule_chain.specs.Chain.{Chain, Outcome, Done, Refused}
 
 -- the maximum number of bytes of a file
@@ -49,14 +49,14 @@ shown mode patch name s =
     cond mode.witnesses (printing (report_of patch name s.found)) (cond mode.in_place [] (printing s.page.bytes))
 
 -- what is stored after that
-abbrev pub kept : Mode → List ℕ → List ℕ → Chained → List Act
-kept mode name bytes s = cond mode.in_place (storing name bytes s.page.bytes) []
+abbrev pub stored_after : Mode → List ℕ → List ℕ → Chained → List Act
+stored_after mode name bytes s = cond mode.in_place (storing name bytes s.page.bytes) []
 
 -- ---- texts
 
 -- what results from the outcome of the rules over a file
 abbrev pub treated_by : Mode → Patch → List ℕ → List ℕ → Outcome → Treated
-treated_by mode patch name bytes (Done s) = effects (skipped_lines name s ++ shown mode patch name s ++ kept mode name bytes s)
+treated_by mode patch name bytes (Done s) = effects (skipped_lines name s ++ shown mode patch name s ++ stored_after mode name bytes s)
 treated_by mode patch name bytes (Refused fault) = refuses (refused_line name fault)
 
 -- what results from the outcome of the rules over a generated text
@@ -65,17 +65,17 @@ summed_by patch name (Done s) = effects (skipped_lines name s ++ printing (summa
 summed_by patch name (Refused fault) = refuses (refused_line name fault)
 
 -- this is the treatment of the bytes of a file of this name: there are too many, or it follows from the outcome of the rules
-abbrev pub Treats : Mode → Patch → List (List ℕ) → List ℕ → List ℕ → Treated → Type 0
-Treats mode patch defined name bytes treated =
+abbrev pub IsTreatmentOf : Mode → Patch → List (List ℕ) → List ℕ → List ℕ → Treated → Type 0
+IsTreatmentOf mode patch defined name bytes treated =
     ((file_limit < length bytes) × (treated ≡ refuses (too_long_line name)))
     ⊎ ((length bytes ≤ file_limit) × ((end : Outcome) × (Chain patch.rules defined bytes end
     × (treated ≡ treated_by mode patch name bytes end))))
 
--- This is the treatment of what is stored under this name, with these bytes. If the shelf doesn't report what it holds, it may
+-- This is the treatment of what is stored under this name, with these bytes. If the shelf doesn't reveal what it holds, it may
 -- also be a pipe, a device or a socket, which is refused.
-abbrev pub TreatsFile : Option Files → Mode → Patch → List (List ℕ) → List ℕ → List ℕ → Treated → Type 0
-TreatsFile holds mode patch defined name bytes treated =
-    Treats mode patch defined name bytes treated
+abbrev pub IsFileTreatmentOf : Option Files → Mode → Patch → List (List ℕ) → List ℕ → List ℕ → Treated → Type 0
+IsFileTreatmentOf holds mode patch defined name bytes treated =
+    IsTreatmentOf mode patch defined name bytes treated
     ⊎ ((holds ≡ None) × (treated ≡ refuses (special_line name)))
 
 -- this is the treatment of a generated text

@@ -2,10 +2,10 @@
 ghost use Rattle.std.specs.Prelude.{◌≤◌, ◌↔◌, ◌≡◌, List, ℕ, Option, IsTrue, length, IfOk, IfErr};
 ghost use Rattle.c_lexer.specs.Pieces.{most_bytes};
 ghost use Rattle.outer_io.specs.Files.{Files};
-ghost use Rattle.run_acts.specs.Acts.{told};
+ghost use Rattle.run_acts.specs.Acts.{observed};
 ghost use Rattle.run_acts.specs.Breaks.{counts};
 ghost use Rattle.run_acts.specs.Statuses.{status_of};
-ghost use Rattle.rule_chain.specs.declared.rule_work.fault.FileFault.TheVariants as cause;
+ghost use Rattle.rule_chain.specs.declared.rule_run.fault.FileFault.TheVariants as cause;
 ghost use Rattle.run_files.specs.Cuts.{TreatsPart};
 ghost use Rattle.run_files.specs.Applies.{AppliesTo, Refuses};
 
@@ -34,12 +34,12 @@ pub fn apply_or_refuse<R: Threads + Sync, E: Sink, G: Gate>(
     requires short { length bytes.items ≤ most_bytes }
     ensures done { IfOk result (λ applied. (files : Option Files) (stores : ℕ) (out : Option (List ℕ)) →
         AppliesTo rules.now.patch.now rules.now.defined.now name.now bytes.items applied
-        (told files stores out (E.written err.old)) (told files stores out (E.written err.new))) }
+        (observed files stores out (E.written err.old)) (observed files stores out (E.written err.new))) }
     ensures later { E.faults err.old ≤ E.faults err.new }
     ensures stopped { IfErr result (λ stopped. (files : Option Files) (out : Option (List ℕ)) (stores s o s' o' : ℕ) →
         TreatsPart (Refuses rules.now.patch.now rules.now.defined.now name.now bytes.items)
         (counts s o (E.faults err.old)) (counts s' o' (E.faults err.new))
-        (told files stores out (E.written err.old)) (told files stores out (E.written err.new)) (status_of stopped)) }
+        (observed files stores out (E.written err.old)) (observed files stores out (E.written err.new)) (status_of stopped)) }
 {
     match apply(workers, rules, bytes) {
         Ok(applied) => Ok(Some(applied)),

@@ -1,7 +1,7 @@
 // The acts that result from a text.
 ghost use Rattle.std.specs.Prelude.{◌≡◌, ◌≤◌, ◌∷◌, [], List, ℕ, Option, map, OnOk, IfOk, IfErr};
 ghost use Rattle.outer_io.specs.Files.{Files};
-ghost use Rattle.run_acts.specs.Acts.{Report, told};
+ghost use Rattle.run_acts.specs.Acts.{Report, observed};
 ghost use Rattle.run_acts.specs.Breaks.{counts};
 ghost use Rattle.run_acts.specs.Statuses.{status_of};
 ghost use Rattle.run_files.specs.RunLines.Files as lines;
@@ -24,12 +24,12 @@ pub fn report_skipped<E: Sink>(
 ) -> Result<(), Stopped>
     ensures done { OnOk result ((files : Option Files) (stores : ℕ) (out : Option (List ℕ)) →
         Does (map (λ note. Report (lines.skipped_line name.now note)) notes.now)
-        (told files stores out (E.written err.old)) (told files stores out (E.written err.new))) }
+        (observed files stores out (E.written err.old)) (observed files stores out (E.written err.new))) }
     ensures later { E.faults err.old ≤ E.faults err.new }
     ensures stopped { IfErr result (λ stopped. (files : Option Files) (out : Option (List ℕ)) (stores s o s' o' : ℕ) →
         Stops (map (λ note. Report (lines.skipped_line name.now note)) notes.now)
         (counts s o (E.faults err.old)) (counts s' o' (E.faults err.new))
-        (told files stores out (E.written err.old)) (told files stores out (E.written err.new)) (status_of stopped)) }
+        (observed files stores out (E.written err.old)) (observed files stores out (E.written err.new)) (status_of stopped)) }
 {
     for note in notes {
         let line = skipped_line(alloc, name, note)?;
@@ -41,14 +41,14 @@ pub fn report_skipped<E: Sink>(
 /// Prints a text, unless it is empty.
 pub fn show<O: Sink, E: Sink>(out: &mut O, err: &mut E, text: &[u8]) -> Result<(), Stopped>
     ensures done { OnOk result ((files : Option Files) (stores : ℕ) → Does (printing text.now)
-        (told files stores (O.written out.old) (E.written err.old))
-        (told files stores (O.written out.new) (E.written err.new))) }
+        (observed files stores (O.written out.old) (E.written err.old))
+        (observed files stores (O.written out.new) (E.written err.new))) }
     ensures later { O.faults out.old ≤ O.faults out.new }
     ensures later_err { E.faults err.old ≤ E.faults err.new }
     ensures stopped { IfErr result (λ stopped. (files : Option Files) (stores s s' : ℕ) → Stops (printing text.now)
         (counts s (O.faults out.old) (E.faults err.old)) (counts s' (O.faults out.new) (E.faults err.new))
-        (told files stores (O.written out.old) (E.written err.old))
-        (told files stores (O.written out.new) (E.written err.new)) (status_of stopped)) }
+        (observed files stores (O.written out.old) (E.written err.old))
+        (observed files stores (O.written out.new) (E.written err.new)) (status_of stopped)) }
 {
     if text.is_empty() {
         return Ok(());
@@ -57,7 +57,7 @@ pub fn show<O: Sink, E: Sink>(out: &mut O, err: &mut E, text: &[u8]) -> Result<(
 }
 
 /// Stores a text if it differs from the bytes that were loaded.
-pub fn keep<S: Shelf, E: Sink>(
+pub fn store_if_changed<S: Shelf, E: Sink>(
     alloc: Global,
     shelf: &mut S,
     err: &mut E,
@@ -66,14 +66,14 @@ pub fn keep<S: Shelf, E: Sink>(
     text: &[u8],
 ) -> Result<(), Stopped>
     ensures done { OnOk result ((out : Option (List ℕ)) → Does (storing name.now bytes.now text.now)
-        (told (S.holds shelf.old) (S.stores shelf.old) out (E.written err.old))
-        (told (S.holds shelf.new) (S.stores shelf.new) out (E.written err.new))) }
+        (observed (S.holds shelf.old) (S.stores shelf.old) out (E.written err.old))
+        (observed (S.holds shelf.new) (S.stores shelf.new) out (E.written err.new))) }
     ensures later { S.faults shelf.old ≤ S.faults shelf.new }
     ensures later_err { E.faults err.old ≤ E.faults err.new }
     ensures stopped { IfErr result (λ stopped. (out : Option (List ℕ)) (o o' : ℕ) → Stops (storing name.now bytes.now text.now)
         (counts (S.faults shelf.old) o (E.faults err.old)) (counts (S.faults shelf.new) o' (E.faults err.new))
-        (told (S.holds shelf.old) (S.stores shelf.old) out (E.written err.old))
-        (told (S.holds shelf.new) (S.stores shelf.new) out (E.written err.new)) (status_of stopped)) }
+        (observed (S.holds shelf.old) (S.stores shelf.old) out (E.written err.old))
+        (observed (S.holds shelf.new) (S.stores shelf.new) out (E.written err.new)) (status_of stopped)) }
 {
     if same_text(bytes, text) {
         return Ok(());
@@ -85,12 +85,12 @@ pub fn keep<S: Shelf, E: Sink>(
 fn report_made<E: Sink>(err: &mut E, made: Result<Vec<u8>, NoMemory>) -> Result<(), Stopped>
     ensures done { OnOk result ((line : List ℕ) (files : Option Files) (stores : ℕ) (out : Option (List ℕ)) →
         IfOk made (λ made. made.items ≡ line) → Does (Report line ∷ [])
-        (told files stores out (E.written err.old)) (told files stores out (E.written err.new))) }
+        (observed files stores out (E.written err.old)) (observed files stores out (E.written err.new))) }
     ensures later { E.faults err.old ≤ E.faults err.new }
     ensures stopped { IfErr result (λ stopped. (line : List ℕ) (files : Option Files) (out : Option (List ℕ))
         (stores s o s' o' : ℕ) → IfOk made (λ made. made.items ≡ line) → Stops (Report line ∷ [])
         (counts s o (E.faults err.old)) (counts s' o' (E.faults err.new))
-        (told files stores out (E.written err.old)) (told files stores out (E.written err.new)) (status_of stopped)) }
+        (observed files stores out (E.written err.old)) (observed files stores out (E.written err.new)) (status_of stopped)) }
 {
     let line = made?;
     report(err, &line)
@@ -105,12 +105,12 @@ pub fn refuse<E: Sink>(
 ) -> Result<(), Stopped>
     ensures done { OnOk result ((files : Option Files) (stores : ℕ) (out : Option (List ℕ)) →
         Does (Report (lines.refused_line name.now fault.now) ∷ [])
-        (told files stores out (E.written err.old)) (told files stores out (E.written err.new))) }
+        (observed files stores out (E.written err.old)) (observed files stores out (E.written err.new))) }
     ensures later { E.faults err.old ≤ E.faults err.new }
     ensures stopped { IfErr result (λ stopped. (files : Option Files) (out : Option (List ℕ)) (stores s o s' o' : ℕ) →
         Stops (Report (lines.refused_line name.now fault.now) ∷ [])
         (counts s o (E.faults err.old)) (counts s' o' (E.faults err.new))
-        (told files stores out (E.written err.old)) (told files stores out (E.written err.new)) (status_of stopped)) }
+        (observed files stores out (E.written err.old)) (observed files stores out (E.written err.new)) (status_of stopped)) }
 {
     report_made(err, refused_line(alloc, name, fault))
 }
@@ -119,12 +119,12 @@ pub fn refuse<E: Sink>(
 pub fn refuse_long<E: Sink>(alloc: Global, err: &mut E, name: &str) -> Result<(), Stopped>
     ensures done { OnOk result ((files : Option Files) (stores : ℕ) (out : Option (List ℕ)) →
         Does (Report (lines.too_long_line name.now) ∷ [])
-        (told files stores out (E.written err.old)) (told files stores out (E.written err.new))) }
+        (observed files stores out (E.written err.old)) (observed files stores out (E.written err.new))) }
     ensures later { E.faults err.old ≤ E.faults err.new }
     ensures stopped { IfErr result (λ stopped. (files : Option Files) (out : Option (List ℕ)) (stores s o s' o' : ℕ) →
         Stops (Report (lines.too_long_line name.now) ∷ [])
         (counts s o (E.faults err.old)) (counts s' o' (E.faults err.new))
-        (told files stores out (E.written err.old)) (told files stores out (E.written err.new)) (status_of stopped)) }
+        (observed files stores out (E.written err.old)) (observed files stores out (E.written err.new)) (status_of stopped)) }
 {
     report_made(err, too_long_line(alloc, name))
 }
@@ -133,12 +133,12 @@ pub fn refuse_long<E: Sink>(alloc: Global, err: &mut E, name: &str) -> Result<()
 pub fn refuse_special<E: Sink>(alloc: Global, err: &mut E, name: &str) -> Result<(), Stopped>
     ensures done { OnOk result ((files : Option Files) (stores : ℕ) (out : Option (List ℕ)) →
         Does (Report (lines.special_line name.now) ∷ [])
-        (told files stores out (E.written err.old)) (told files stores out (E.written err.new))) }
+        (observed files stores out (E.written err.old)) (observed files stores out (E.written err.new))) }
     ensures later { E.faults err.old ≤ E.faults err.new }
     ensures stopped { IfErr result (λ stopped. (files : Option Files) (out : Option (List ℕ)) (stores s o s' o' : ℕ) →
         Stops (Report (lines.special_line name.now) ∷ [])
         (counts s o (E.faults err.old)) (counts s' o' (E.faults err.new))
-        (told files stores out (E.written err.old)) (told files stores out (E.written err.new)) (status_of stopped)) }
+        (observed files stores out (E.written err.old)) (observed files stores out (E.written err.new)) (status_of stopped)) }
 {
     report_made(err, special_line(alloc, name))
 }

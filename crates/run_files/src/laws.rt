@@ -1,7 +1,7 @@
 // What holds for every refusal.
 ghost use Rattle.std.specs.Prelude.{List, ℕ};
 ghost use Rattle.smpl_patch.specs.declared.rule.Rule.{Rule};
-ghost use Rattle.rule_chain.specs.declared.rule_work.fault.FileFault.TheVariants as cause;
+ghost use Rattle.rule_chain.specs.declared.rule_run.fault.FileFault.TheVariants as cause;
 ghost use Rattle.rule_chain.specs.Chain.{Chain, Refused};
 
 /// No text is refused because memory ran out, so the line of a refusal always says why. Does nothing.

@@ -2,19 +2,19 @@
 ghost use Rattle.std.specs.Prelude.{◌≡◌, ◌≤◌, List, ℕ, Option, length, IfOk, OnOk, IfErr};
 ghost use Rattle.c_lexer.specs.Pieces.{most_bytes};
 ghost use Rattle.outer_io.specs.Files.{Files};
-ghost use Rattle.run_acts.specs.Acts.{told};
+ghost use Rattle.run_acts.specs.Acts.{observed};
 ghost use Rattle.run_acts.specs.Breaks.{counts};
 ghost use Rattle.run_acts.specs.Places.{SamePlaces};
 ghost use Rattle.run_acts.specs.Statuses.{status_of};
-ghost use Rattle.rule_chain.specs.RuleWork.States.{Chained};
+ghost use Rattle.rule_chain.specs.RuleRun.States.{Chained};
 ghost use Rattle.rule_chain.specs.Results.{AnswersState};
 ghost use Rattle.run_files.specs.RunLines.Summary as lines;
-ghost use Rattle.run_files.specs.Treatment.{Treats, Sums, printing, shown, kept};
+ghost use Rattle.run_files.specs.Treatment.{IsTreatmentOf, Sums, printing, shown, stored_after};
 ghost use Rattle.run_files.specs.Does.{Does, Stops};
 ghost use Rattle.run_files.specs.Cuts.{TreatsAll, TreatsPart};
 
 use crate::applies::apply_or_refuse;
-use crate::effects::{keep, report_skipped, show};
+use crate::effects::{report_skipped, show, store_if_changed};
 use crate::run_lines::summary;
 use c_terms::NoMemory;
 use outer_io::{Shelf, Sink};
@@ -29,7 +29,7 @@ use wit_print::print as report_of;
 
 /// Returns a copy of the original bytes, to compare with the text to be stored. Copies nothing when no text is to be stored.
 fn copied(alloc: Global, mode: Mode, bytes: &[u8]) -> Result<Vec<u8>, NoMemory>
-    ensures { IfOk result (λ old. (name : List ℕ) (s : Chained) → kept mode name old.items s ≡ kept mode name bytes.now s) }
+    ensures { IfOk result (λ old. (name : List ℕ) (s : Chained) → stored_after mode name old.items s ≡ stored_after mode name bytes.now s) }
 {
     if mode.in_place {
         return Ok(Vec::from_slice(alloc, bytes)?);
@@ -55,17 +55,17 @@ pub fn process_file<R: Threads + Sync, S: Shelf, O: Sink, E: Sink, G: Gate>(
 ) -> Result<bool, Stopped>
     requires short { length bytes.items ≤ most_bytes }
     ensures same { SamePlaces outside.old outside.new }
-    ensures treated { IfOk result (λ refused. TreatsAll (Treats mode rules.now.patch.now rules.now.defined.now name.now bytes.items) refused
-        (told (S.holds outside.old.shelf.now) (S.stores outside.old.shelf.now) (O.written outside.old.out.now) (E.written outside.old.err.now))
-        (told (S.holds outside.new.shelf.now) (S.stores outside.new.shelf.now) (O.written outside.new.out.now) (E.written outside.new.err.now))) }
+    ensures treated { IfOk result (λ refused. TreatsAll (IsTreatmentOf mode rules.now.patch.now rules.now.defined.now name.now bytes.items) refused
+        (observed (S.holds outside.old.shelf.now) (S.stores outside.old.shelf.now) (O.written outside.old.out.now) (E.written outside.old.err.now))
+        (observed (S.holds outside.new.shelf.now) (S.stores outside.new.shelf.now) (O.written outside.new.out.now) (E.written outside.new.err.now))) }
     ensures later { S.faults outside.old.shelf.now ≤ S.faults outside.new.shelf.now }
     ensures later_out { O.faults outside.old.out.now ≤ O.faults outside.new.out.now }
     ensures later_err { E.faults outside.old.err.now ≤ E.faults outside.new.err.now }
-    ensures stopped { IfErr result (λ stopped. TreatsPart (Treats mode rules.now.patch.now rules.now.defined.now name.now bytes.items)
+    ensures stopped { IfErr result (λ stopped. TreatsPart (IsTreatmentOf mode rules.now.patch.now rules.now.defined.now name.now bytes.items)
         (counts (S.faults outside.old.shelf.now) (O.faults outside.old.out.now) (E.faults outside.old.err.now))
         (counts (S.faults outside.new.shelf.now) (O.faults outside.new.out.now) (E.faults outside.new.err.now))
-        (told (S.holds outside.old.shelf.now) (S.stores outside.old.shelf.now) (O.written outside.old.out.now) (E.written outside.old.err.now))
-        (told (S.holds outside.new.shelf.now) (S.stores outside.new.shelf.now) (O.written outside.new.out.now) (E.written outside.new.err.now)) (status_of stopped)) }
+        (observed (S.holds outside.old.shelf.now) (S.stores outside.old.shelf.now) (O.written outside.old.out.now) (E.written outside.old.err.now))
+        (observed (S.holds outside.new.shelf.now) (S.stores outside.new.shelf.now) (O.written outside.new.out.now) (E.written outside.new.err.now)) (status_of stopped)) }
 {
     let alloc = workers.alloc;
     let old = copied(alloc, mode, &bytes)?;
@@ -74,7 +74,7 @@ pub fn process_file<R: Threads + Sync, S: Shelf, O: Sink, E: Sink, G: Gate>(
     };
     report_skipped(alloc, outside.err, name, applied.skipped.as_slice())?;
     show_file(alloc, rules.patch, mode, name, &applied, outside)?;
-    keep_file(alloc, mode, name, &old, &applied.bytes, outside)?;
+    store_file(alloc, mode, name, &old, &applied.bytes, outside)?;
     Ok(false)
 }
 
@@ -89,16 +89,16 @@ fn show_file<S: Shelf, O: Sink, E: Sink>(
 ) -> Result<(), Stopped>
     ensures same { SamePlaces outside.old outside.new }
     ensures done { OnOk result ((s : Chained) → AnswersState applied.now s → Does (shown mode patch.now name.now s)
-        (told (S.holds outside.old.shelf.now) (S.stores outside.old.shelf.now) (O.written outside.old.out.now) (E.written outside.old.err.now))
-        (told (S.holds outside.new.shelf.now) (S.stores outside.new.shelf.now) (O.written outside.new.out.now) (E.written outside.new.err.now))) }
+        (observed (S.holds outside.old.shelf.now) (S.stores outside.old.shelf.now) (O.written outside.old.out.now) (E.written outside.old.err.now))
+        (observed (S.holds outside.new.shelf.now) (S.stores outside.new.shelf.now) (O.written outside.new.out.now) (E.written outside.new.err.now))) }
     ensures later { S.faults outside.old.shelf.now ≤ S.faults outside.new.shelf.now }
     ensures later_out { O.faults outside.old.out.now ≤ O.faults outside.new.out.now }
     ensures later_err { E.faults outside.old.err.now ≤ E.faults outside.new.err.now }
     ensures stopped { IfErr result (λ stopped. (s : Chained) → AnswersState applied.now s → Stops (shown mode patch.now name.now s)
         (counts (S.faults outside.old.shelf.now) (O.faults outside.old.out.now) (E.faults outside.old.err.now))
         (counts (S.faults outside.new.shelf.now) (O.faults outside.new.out.now) (E.faults outside.new.err.now))
-        (told (S.holds outside.old.shelf.now) (S.stores outside.old.shelf.now) (O.written outside.old.out.now) (E.written outside.old.err.now))
-        (told (S.holds outside.new.shelf.now) (S.stores outside.new.shelf.now) (O.written outside.new.out.now) (E.written outside.new.err.now)) (status_of stopped)) }
+        (observed (S.holds outside.old.shelf.now) (S.stores outside.old.shelf.now) (O.written outside.old.out.now) (E.written outside.old.err.now))
+        (observed (S.holds outside.new.shelf.now) (S.stores outside.new.shelf.now) (O.written outside.new.out.now) (E.written outside.new.err.now)) (status_of stopped)) }
 {
     if mode.witnesses {
         let text = report_of(alloc, patch, name.as_bytes(), applied.witnesses.as_slice())?;
@@ -111,7 +111,7 @@ fn show_file<S: Shelf, O: Sink, E: Sink>(
 }
 
 /// Stores the text if a store is asked for and the text differs from what was loaded.
-fn keep_file<S: Shelf, O: Sink, E: Sink>(
+fn store_file<S: Shelf, O: Sink, E: Sink>(
     alloc: Global,
     mode: Mode,
     name: &str,
@@ -120,22 +120,22 @@ fn keep_file<S: Shelf, O: Sink, E: Sink>(
     outside: &mut Outside<'_, '_, '_, S, O, E>,
 ) -> Result<(), Stopped>
     ensures same { SamePlaces outside.old outside.new }
-    ensures done { OnOk result ((s : Chained) → s.page.bytes ≡ text.now → Does (kept mode name.now old.now s)
-        (told (S.holds outside.old.shelf.now) (S.stores outside.old.shelf.now) (O.written outside.old.out.now) (E.written outside.old.err.now))
-        (told (S.holds outside.new.shelf.now) (S.stores outside.new.shelf.now) (O.written outside.new.out.now) (E.written outside.new.err.now))) }
+    ensures done { OnOk result ((s : Chained) → s.page.bytes ≡ text.now → Does (stored_after mode name.now old.now s)
+        (observed (S.holds outside.old.shelf.now) (S.stores outside.old.shelf.now) (O.written outside.old.out.now) (E.written outside.old.err.now))
+        (observed (S.holds outside.new.shelf.now) (S.stores outside.new.shelf.now) (O.written outside.new.out.now) (E.written outside.new.err.now))) }
     ensures later { S.faults outside.old.shelf.now ≤ S.faults outside.new.shelf.now }
     ensures later_out { O.faults outside.old.out.now ≤ O.faults outside.new.out.now }
     ensures later_err { E.faults outside.old.err.now ≤ E.faults outside.new.err.now }
-    ensures stopped { IfErr result (λ stopped. (s : Chained) → s.page.bytes ≡ text.now → Stops (kept mode name.now old.now s)
+    ensures stopped { IfErr result (λ stopped. (s : Chained) → s.page.bytes ≡ text.now → Stops (stored_after mode name.now old.now s)
         (counts (S.faults outside.old.shelf.now) (O.faults outside.old.out.now) (E.faults outside.old.err.now))
         (counts (S.faults outside.new.shelf.now) (O.faults outside.new.out.now) (E.faults outside.new.err.now))
-        (told (S.holds outside.old.shelf.now) (S.stores outside.old.shelf.now) (O.written outside.old.out.now) (E.written outside.old.err.now))
-        (told (S.holds outside.new.shelf.now) (S.stores outside.new.shelf.now) (O.written outside.new.out.now) (E.written outside.new.err.now)) (status_of stopped)) }
+        (observed (S.holds outside.old.shelf.now) (S.stores outside.old.shelf.now) (O.written outside.old.out.now) (E.written outside.old.err.now))
+        (observed (S.holds outside.new.shelf.now) (S.stores outside.new.shelf.now) (O.written outside.new.out.now) (E.written outside.new.err.now)) (status_of stopped)) }
 {
     if !mode.in_place {
         return Ok(());
     }
-    keep(alloc, outside.shelf, outside.err, name, old, text)
+    store_if_changed(alloc, outside.shelf, outside.err, name, old, text)
 }
 
 /// Applies the patch to a generated text of this name, outputs the result, and returns whether the text is refused.
@@ -155,13 +155,13 @@ pub fn sum<R: Threads + Sync, O: Sink, E: Sink, G: Gate>(
     requires short { length bytes.items ≤ most_bytes }
     ensures treated { IfOk result (λ refused. (files : Option Files) (stores : ℕ) →
         TreatsAll (Sums rules.now.patch.now rules.now.defined.now name.now bytes.items) refused
-        (told files stores (O.written out.old) (E.written err.old)) (told files stores (O.written out.new) (E.written err.new))) }
+        (observed files stores (O.written out.old) (E.written err.old)) (observed files stores (O.written out.new) (E.written err.new))) }
     ensures later { O.faults out.old ≤ O.faults out.new }
     ensures later_err { E.faults err.old ≤ E.faults err.new }
     ensures stopped { IfErr result (λ stopped. (files : Option Files) (stores n n' : ℕ) →
         TreatsPart (Sums rules.now.patch.now rules.now.defined.now name.now bytes.items)
         (counts n (O.faults out.old) (E.faults err.old)) (counts n' (O.faults out.new) (E.faults err.new))
-        (told files stores (O.written out.old) (E.written err.old)) (told files stores (O.written out.new) (E.written err.new))
+        (observed files stores (O.written out.old) (E.written err.old)) (observed files stores (O.written out.new) (E.written err.new))
         (status_of stopped)) }
 {
     let alloc = workers.alloc;
@@ -183,13 +183,13 @@ fn show_summary<O: Sink, E: Sink>(
 ) -> Result<(), Stopped>
     ensures done { OnOk result ((s : Chained) (files : Option Files) (stores : ℕ) → AnswersState applied.now s →
         Does (printing (lines.summary patch.now.rules s.found (length s.page.bytes)))
-        (told files stores (O.written out.old) (E.written err.old)) (told files stores (O.written out.new) (E.written err.new))) }
+        (observed files stores (O.written out.old) (E.written err.old)) (observed files stores (O.written out.new) (E.written err.new))) }
     ensures later { O.faults out.old ≤ O.faults out.new }
     ensures later_err { E.faults err.old ≤ E.faults err.new }
     ensures stopped { IfErr result (λ stopped. (s : Chained) (files : Option Files) (stores n n' : ℕ) → AnswersState applied.now s →
         Stops (printing (lines.summary patch.now.rules s.found (length s.page.bytes)))
         (counts n (O.faults out.old) (E.faults err.old)) (counts n' (O.faults out.new) (E.faults err.new))
-        (told files stores (O.written out.old) (E.written err.old)) (told files stores (O.written out.new) (E.written err.new))
+        (observed files stores (O.written out.old) (E.written err.old)) (observed files stores (O.written out.new) (E.written err.new))
         (status_of stopped)) }
 {
     let text = summary(

@@ -1,6 +1,6 @@
 //! What the words of a command line ask for.
 //!
-//! - [`texts_of`] converts the words to text, and [`order_of`] parses them: it returns an [`Order`], or `None` if they are no
+//! - [`utf8_words`] converts the words to text, and [`order_of`] parses them: it returns an [`Order`], or `None` if they are no
 //!   command.
 //!
 //! The words `--sp-file p --in-place a.c b.c` ask for the patch `p` to be applied to two files, each of which is stored again
@@ -22,4 +22,4 @@ mod words;
 
 pub use job_laws::jobs_leave_orders;
 pub use order::{Mode, Order, PatchOrder, Target};
-pub use words::{order_of, texts_of};
+pub use words::{order_of, utf8_words};

@@ -18,7 +18,7 @@ const MOST_JOBS: u64 = 64;
 const MOST_FUNCTIONS: u64 = 100_000;
 
 /// Returns the words as text, if each is UTF-8. Linear in the words.
-pub fn texts_of<'a>(alloc: Global, words: &'a [Text]) -> Result<Option<Vec<&'a str>>, NoMemory>
+pub fn utf8_words<'a>(alloc: Global, words: &'a [Text]) -> Result<Option<Vec<&'a str>>, NoMemory>
     ensures { IfOk result (λ texts. MatchOption texts (list_all is_utf8 words.entry.now ≡ false)
         (λ list. (map (λ t. t.now) list.items ≡ words.entry.now) × (list_all is_utf8 words.entry.now ≡ true))) }
 {

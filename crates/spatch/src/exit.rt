@@ -1,7 +1,7 @@
 // The status that the program exits with.
 ghost use Rattle.std.specs.Prelude.{◌≡◌, IfOk, OnErr};
 ghost use Rattle.std.specs.Process.{exit_status};
-ghost use Rattle.spatch_run.specs.Callers.{told, counts, IsExact, EndsRightly};
+ghost use Rattle.spatch_run.specs.Callers.{observed, counts, IsExact, EndsRightly};
 
 use c_terms::{NoMemory, Text};
 use outer_io::{Shelf, Sink};
@@ -26,14 +26,14 @@ pub fn exit_of<R: AllocGlobal + Threads + Sync, S: Shelf, O: Sink, E: Sink, G: G
     ensures exact { IfOk words (λ words. IsExact words.items
         (counts (S.faults shelf.old) (O.faults out.old) (E.faults err.old))
         (counts (S.faults shelf.new) (O.faults out.new) (E.faults err.new))
-        (told (S.holds shelf.old) (S.stores shelf.old) (O.written out.old) (E.written err.old))
-        (told (S.holds shelf.new) (S.stores shelf.new) (O.written out.new) (E.written err.new))
+        (observed (S.holds shelf.old) (S.stores shelf.old) (O.written out.old) (E.written err.old))
+        (observed (S.holds shelf.new) (S.stores shelf.new) (O.written out.new) (E.written err.new))
         (exit_status result)) }
     ensures ends { IfOk words (λ words. EndsRightly words.items
         (counts (S.faults shelf.old) (O.faults out.old) (E.faults err.old))
         (counts (S.faults shelf.new) (O.faults out.new) (E.faults err.new))
-        (told (S.holds shelf.old) (S.stores shelf.old) (O.written out.old) (E.written err.old))
-        (told (S.holds shelf.new) (S.stores shelf.new) (O.written out.new) (E.written err.new))
+        (observed (S.holds shelf.old) (S.stores shelf.old) (O.written out.old) (E.written err.old))
+        (observed (S.holds shelf.new) (S.stores shelf.new) (O.written out.new) (E.written err.new))
         (exit_status result)) }
 {
     match words {

@@ -1,6 +1,6 @@
 -- How a run begins.
 use Rattle.std.proofs.Common.{◌≡◌, List, ℕ, Option, Some, None, refl, inl}
-use Rattle.run_acts.specs.Acts.{Act, Load, Print, Report, Told}
+use Rattle.run_acts.specs.Acts.{Act, Load, Print, Report, Observed}
 use Rattle.run_acts.specs.Breaks.{Counts}
 use Rattle.run_acts.proofs.BreaksLemmas.{NoneFell-refl}
 use Rattle.sp_gen.specs.Generated.{generated}
@@ -17,11 +17,11 @@ first_act (Some (Apply patch isos defined target)) = (Load patch patch_limit, re
 first_act (Some (Generate seed functions)) = (Print (generated seed functions), refl)
 
 -- memory ran out before it
-pub unfed_first : (words : List (List ℕ)) (now : Counts) (old : Told) → Follows words now now old old 7
+pub unfed_first : (words : List (List ℕ)) (now : Counts) (old : Observed) → Follows words now now old old 7
 unfed_first words now old =
     let first = first_act (order_of words) in
     broken (begun (order_of words)) first.0 first.1 (NoneFell-refl now) (inl (refl, refl))
 
-pub follows : (words : List (List ℕ)) (order : Option Order) {before now : Counts} {old new : Told} {status : ℕ}
+pub follows : (words : List (List ℕ)) (order : Option Order) {before now : Counts} {old new : Observed} {status : ℕ}
     → order_of words ≡ order → Ends (begun order) before now old new status → Follows words before now old new status
 follows words order is ends = rw is ends

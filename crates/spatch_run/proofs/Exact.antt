@@ -1,26 +1,26 @@
 -- How a run ends by its words; a run in which nothing fails does all its acts.
 use Rattle.std.proofs.Common.{◌≡◌, ℕ, ◌⊎◌, List, inl, inr, ◌∙◌, subst}
-use Rattle.run_acts.specs.Acts.{Told}
+use Rattle.run_acts.specs.Acts.{Observed}
 use Rattle.run_acts.specs.Breaks.{Counts, NoneRose}
 use Rattle.run_acts.proofs.BreaksLemmas.{not_failed}
 use Rattle.run_files.specs.RunStages.Paths.{DoesAll}
 use Rattle.run_files.specs.RunStages.Ends.{Follows}
 use Rattle.run_files.specs.RunStages.Promise.{IsExact, EndsRightly}
 
-module _ {words : List (List ℕ)} {before now : Counts} {old new : Told} {status : ℕ} where
+module _ {words : List (List ℕ)} {before now : Counts} {old new : Observed} {status : ℕ} where
   pub ends_rightly : Follows words before now old new status → EndsRightly words before now old new status
   ends_rightly rest = elim rest.end [
     | inl whole ↦ inl (record {
       acts = rest.goes.acts;
       are = record { last = rest.stage; path = rest.goes.path; over = whole.0 };
-      told = whole.1 ∙ rest.goes.told;
+      observed = whole.1 ∙ rest.goes.observed;
     })
     | inr cut ↦ inr (
       rest.mid,
       (
         cut.0,
         (
-          record { acts = rest.goes.acts; stage = rest.stage; path = rest.goes.path; told = rest.goes.told; is_next = cut.1.0 },
+          record { acts = rest.goes.acts; stage = rest.stage; path = rest.goes.path; observed = rest.goes.observed; is_next = cut.1.0 },
           cut.1.1,
         ),
       ),

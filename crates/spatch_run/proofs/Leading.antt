@@ -3,7 +3,7 @@ use Rattle.std.proofs.Common.{◌≡◌, ◌⊎◌, Bool, false, ℕ, ◌<◌, L
 use Rattle.std.proofs.lemmas.Bool.{false≢true}
 use Rattle.std.specs.Prelude.{◌↔◌, IsTrue, IsSomeAnd}
 use Rattle.outer_io.specs.Files.{Files}
-use Rattle.run_acts.specs.Acts.{Told, told, done}
+use Rattle.run_acts.specs.Acts.{Observed, observed, after_act}
 use Rattle.run_acts.specs.Breaks.{Counts, NoneFell}
 use Rattle.run_acts.specs.Lines.{cannot_read}
 use Rattle.run_acts.proofs.BreaksLemmas.{NoneFell-then}
@@ -29,35 +29,35 @@ use Rattle.spatch_run.proofs.Chain.{Goes-act, Goes-ends, broken}
 
 -- what was observed before a load is observed after it
 pub no_trace : {holds holds' : Option Files} {stores stores' : ℕ} {out err err' : Option (List ℕ)} → holds' ≡ holds
-    → stores' ≡ stores → err' ≡ err → told holds' stores' out err' ≡ told holds stores out err
+    → stores' ≡ stores → err' ≡ err → observed holds' stores' out err' ≡ observed holds stores out err
 no_trace same same_stores same_err = rw (same, same_stores, same_err) refl
 
-load_done : (work : Work) (old : Told) → done (first_load work) old ≡ old
+load_done : (work : Work) (old : Observed) → after_act (first_load work) old ≡ old
 load_done (ReadPatch name isos defined target) old = refl
 load_done (ReadIsos patch name defined target) old = refl
 load_done (EditFiles patch defined mode name names refused) old = refl
 
 -- a load was done, and the run ended from there
-pub loaded : (work : Work) (to : Stage) {first before now : Counts} {old here new : Told} {status : ℕ}
+pub loaded : (work : Work) (to : Stage) {first before now : Counts} {old here new : Observed} {status : ℕ}
     → WorkLeads old.files work to → here ≡ old → NoneFell first before → Ends to before now here new status → Ends (Doing [] work) first now old new status
 loaded work to {old = old} {here = here} leads same fell rest =
     Goes-ends (Goes-act (Doing [] work) (first_load work) to old here refl leads (same ∙ sym (load_done work old))) fell rest
 
 -- a load was done, and memory ran out
-pub loaded_unfed : (work : Work) {first before now : Counts} {old here new : Told} {status : ℕ} → here ≡ old
+pub loaded_unfed : (work : Work) {first before now : Counts} {old here new : Observed} {status : ℕ} → here ≡ old
     → NoneFell first before → NoneFell before now → status ≡ 7 → new ≡ here → Ends (Doing [] work) first now old new status
 loaded_unfed work {first = first} {before = before} {now = now} same fell more seven none =
     broken (Doing [] work) (first_load work) refl (NoneFell-then first before now fell more) (inl (seven, none ∙ same))
 
 -- a load was done, and the run ended from some stage that the load leads to
-pub loaded_by : (work : Work) (To : Stage → Type 0) {first before now : Counts} {old here new : Told} {status : ℕ}
+pub loaded_by : (work : Work) (To : Stage → Type 0) {first before now : Counts} {old here new : Observed} {status : ℕ}
     → ((to : Stage) → To to → WorkLeads old.files work to) → here ≡ old → NoneFell first before
     → LeadsBy To before now here new status → Ends (Doing [] work) first now old new status
 loaded_by work To leads same fell (unfed more seven none) = loaded_unfed work same fell more seven none
 loaded_by work To leads same fell (from stage to ends) = loaded work stage (leads stage to) same fell ends
 
 -- a weaker condition on the next stage holds too
-pub by_other : (To Other : Stage → Type 0) {before now : Counts} {old new : Told} {status : ℕ}
+pub by_other : (To Other : Stage → Type 0) {before now : Counts} {old new : Observed} {status : ℕ}
     → ((to : Stage) → To to → Other to) → LeadsBy To before now old new status → LeadsBy Other before now old new status
 by_other To Other other (unfed fell seven none) = unfed fell seven none
 by_other To Other other (from stage to ends) = from stage (other stage to) ends

@@ -2,7 +2,7 @@
 use Rattle.std.proofs.Common.{◌≡◌, ◌<◌, Bool, true, ◌||◌, ℕ, List, [], ◌∷◌, ◌++◌, Option, Some, None, length, refl, sym, ap, ◌∙◌, inl, inr, subst}
 use Rattle.std.specs.Prelude.{IsSomeAnd}
 use Rattle.outer_io.specs.Files.{Files}
-use Rattle.run_acts.specs.Acts.{Act, Load, Report, Told, done, after}
+use Rattle.run_acts.specs.Acts.{Act, Load, Report, Observed, after_act, after}
 use Rattle.run_acts.specs.Breaks.{Counts, NoneFell}
 use Rattle.run_acts.specs.Lines.{cannot_read}
 use Rattle.run_acts.specs.Loaded.{Found}
@@ -10,7 +10,7 @@ use Rattle.run_acts.proofs.BreaksLemmas.{NoneFell-refl, NoneFell-then}
 use Rattle.smpl_patch.specs.declared.rule.Patch.{Patch}
 use Rattle.run_words.specs.declared.order.Mode.{Mode}
 use Rattle.run_files.specs.RunLines.Files.{too_long_line, special_line}
-use Rattle.run_files.specs.Treatment.{Treated, file_limit, refuses, Treats, TreatsFile, Sums}
+use Rattle.run_files.specs.Treatment.{Treated, file_limit, refuses, IsTreatmentOf, IsFileTreatmentOf, Sums}
 use Rattle.run_files.specs.Does.{Does, Stops}
 use Rattle.run_files.specs.Cuts.{TreatsAll, TreatsPart}
 use Rattle.run_files.specs.Cuts.TreatsPart.{earlier, later}
@@ -29,21 +29,21 @@ use Rattle.spatch_run.proofs.Chain.{Goes-act, Goes-then, Goes-ends, broken, over
 -- stages that have acts at hand, and do them in order
 module _ (holding : List Act → Stage) (next : (act : Act) (acts : List Act) → next_act (holding (act ∷ acts)) ≡ Some act)
     (leads : (holds : Option Files) (act : Act) (acts : List Act) → Leads holds (holding (act ∷ acts)) (holding acts)) where
-  acts_path : (old : Told) (acts : List Act) → Path old (holding acts) acts (holding [])
+  acts_path : (old : Observed) (acts : List Act) → Path old (holding acts) acts (holding [])
   acts_path old [] = refl
-  acts_path old (act ∷ acts) = (next act acts, (holding acts, (leads old.files act acts, acts_path (done act old) acts)))
+  acts_path old (act ∷ acts) = (next act acts, (holding acts, (leads old.files act acts, acts_path (after_act act old) acts)))
 
-  part_path : (old : Told) (part more : List Act) → Path old (holding (part ++ more)) part (holding more)
+  part_path : (old : Observed) (part more : List Act) → Path old (holding (part ++ more)) part (holding more)
   part_path old [] more = refl
   part_path old (act ∷ part) more = (
     next act (part ++ more),
-    (holding (part ++ more), (leads old.files act (part ++ more), part_path (done act old) part more)),
+    (holding (part ++ more), (leads old.files act (part ++ more), part_path (after_act act old) part more)),
   )
 
-  pub does_goes : (acts : List Act) {old new : Told} → Does acts old new → Goes (holding acts) old (holding []) new
-  does_goes acts {old = old} does = record { acts = acts; path = acts_path old acts; told = does.told }
+  pub does_goes : (acts : List Act) {old new : Observed} → Does acts old new → Goes (holding acts) old (holding []) new
+  does_goes acts {old = old} does = record { acts = acts; path = acts_path old acts; observed = does.observed }
 
-  pub stops_ends : (acts : List Act) {before now : Counts} {old new : Told} {status : ℕ} → NoneFell before now
+  pub stops_ends : (acts : List Act) {before now : Counts} {old new : Observed} {status : ℕ} → NoneFell before now
       → Stops acts before now old new status → Ends (holding acts) before now old new status
   stops_ends acts {old = old} fell stops = record {
     stage = holding (stops.act ∷ stops.rest);
@@ -52,7 +52,7 @@ module _ (holding : List Act → Stage) (next : (act : Act) (acts : List Act) �
       acts = stops.part;
       path = subst (λ (x : List Act). Path old (holding x) stops.part (holding (stops.act ∷ stops.rest))) (sym stops.is)
           (part_path old stops.part (stops.act ∷ stops.rest));
-      told = refl;
+      observed = refl;
     };
     fell = fell;
     end = inr (stops.act, (next stops.act stops.rest, stops.breaks));
@@ -77,17 +77,17 @@ module _ (patch : Patch) (defined : List (List ℕ)) (mode : Mode) where
   going_leads (name ∷ names) refused holds act acts = refl
 
   -- a file was loaded, which leaves no trace
-  file_loaded : (name : List ℕ) (names : List (List ℕ)) (refused : Bool) (bytes : List ℕ) (treated : Treated) {old here : Told}
-      → Found old.files name (Some bytes) → here ≡ old → TreatsFile old.files mode patch defined name bytes treated
+  file_loaded : (name : List ℕ) (names : List (List ℕ)) (refused : Bool) (bytes : List ℕ) (treated : Treated) {old here : Observed}
+      → Found old.files name (Some bytes) → here ≡ old → IsFileTreatmentOf old.files mode patch defined name bytes treated
       → Goes (Doing [] (EditFiles patch defined mode name names refused)) old (going treated.acts patch defined mode names (refused || treated.refused)) here
   file_loaded name names refused bytes treated {old = old} {here = here} found same treats =
       Goes-act (Doing [] (EditFiles patch defined mode name names refused)) (Load name file_limit)
       (going treated.acts patch defined mode names (refused || treated.refused)) old here refl (Some bytes, (found, (treated, (treats, refl)))) same
 
   -- a file was loaded and treated
-  file_goes : (name : List ℕ) (names : List (List ℕ)) (refused here_refused : Bool) (bytes : List ℕ) {old here new : Told}
+  file_goes : (name : List ℕ) (names : List (List ℕ)) (refused here_refused : Bool) (bytes : List ℕ) {old here new : Observed}
       → Found old.files name (Some bytes) → here ≡ old
-      → TreatsAll (TreatsFile old.files mode patch defined name bytes) here_refused here new
+      → TreatsAll (IsFileTreatmentOf old.files mode patch defined name bytes) here_refused here new
       → Goes (Doing [] (EditFiles patch defined mode name names refused)) old (going [] patch defined mode names (refused || here_refused)) new
   file_goes name names refused here_refused bytes {old = old} {here = here} {new = new} found same all =
       let treated = all.treated in
@@ -99,9 +99,9 @@ module _ (patch : Patch) (defined : List (List ℕ)) (mode : Mode) where
 
   -- a file was loaded, and its treatment was cut off
   pub file_cut : (name : List ℕ) (names : List (List ℕ)) (refused : Bool)
-      (bytes : List ℕ) {first before now : Counts} {old here new : Told} {status : ℕ} → Found old.files name (Some bytes)
+      (bytes : List ℕ) {first before now : Counts} {old here new : Observed} {status : ℕ} → Found old.files name (Some bytes)
       → here ≡ old → NoneFell first before → NoneFell before now
-      → TreatsPart (Treats mode patch defined name bytes) before now here new status
+      → TreatsPart (IsTreatmentOf mode patch defined name bytes) before now here new status
       → Ends (Doing [] (EditFiles patch defined mode name names refused)) first now old new status
   file_cut name names refused bytes {first = first} {before = before} {now = now} found same fell more (earlier seven none) =
       broken (Doing [] (EditFiles patch defined mode name names refused)) (Load name file_limit) refl
@@ -113,7 +113,7 @@ module _ (patch : Patch) (defined : List (List ℕ)) (mode : Mode) where
 
   -- a file that is over its limit
   pub long_cut : (name : List ℕ) (names : List (List ℕ)) (refused : Bool)
-      (under : Option (List ℕ)) {first before now : Counts} {old here new : Told} {status : ℕ} → Found old.files name under
+      (under : Option (List ℕ)) {first before now : Counts} {old here new : Observed} {status : ℕ} → Found old.files name under
       → IsSomeAnd under (λ bytes. 16777216 < length bytes) → here ≡ old → NoneFell first before → NoneFell before now
       → Stops (Report (too_long_line name) ∷ []) before now here new status
       → Ends (Doing [] (EditFiles patch defined mode name names refused)) first now old new status
@@ -121,9 +121,9 @@ module _ (patch : Patch) (defined : List (List ℕ)) (mode : Mode) where
   long_cut name names refused (Some bytes) found long same fell more stops =
       file_cut name names refused bytes found same fell more (later (refuses (too_long_line name)) (inl (long, refl)) stops)
 
-  pub turns_long : (name : List ℕ) (under : Option (List ℕ)) {old here new : Told} → Found old.files name under
+  pub turns_long : (name : List ℕ) (under : Option (List ℕ)) {old here new : Observed} → Found old.files name under
       → IsSomeAnd under (λ bytes. 16777216 < length bytes) → here ≡ old → Does (Report (too_long_line name) ∷ []) here new
-      → TurnsTo (turn.Treated true) patch defined mode name old new
+      → TurnsTo (turn.Processed true) patch defined mode name old new
   turns_long name None found long same does = absurd long
   turns_long name (Some bytes) {new = new} found long same does = (
     bytes,
@@ -133,14 +133,14 @@ module _ (patch : Patch) (defined : List (List ℕ)) (mode : Mode) where
         treated = refuses (too_long_line name);
         treats = inl (inl (long, refl));
         refused_is = refl;
-        does = subst (λ (t : Told). Does (Report (too_long_line name) ∷ []) t new) same does;
+        does = subst (λ (t : Observed). Does (Report (too_long_line name) ∷ []) t new) same does;
       },
     ),
   )
 
-  pub turns_treated : (name bytes : List ℕ) (under : Option (List ℕ)) (refused : Bool) {old here new : Told}
+  pub turns_treated : (name bytes : List ℕ) (under : Option (List ℕ)) (refused : Bool) {old here new : Observed}
       → Found old.files name under → under ≡ Some bytes → here ≡ old
-      → TreatsAll (Treats mode patch defined name bytes) refused here new → TurnsTo (turn.Treated refused) patch defined mode name old new
+      → TreatsAll (IsTreatmentOf mode patch defined name bytes) refused here new → TurnsTo (turn.Processed refused) patch defined mode name old new
   turns_treated name bytes under refused {old = old} {new = new} found is same all = (
     bytes,
     (
@@ -150,13 +150,13 @@ module _ (patch : Patch) (defined : List (List ℕ)) (mode : Mode) where
         treats = inl all.treats;
         refused_is = all.refused_is;
         does =
-            subst (λ (t : Told). Does all.treated.acts t new) same all.does;
+            subst (λ (t : Observed). Does all.treated.acts t new) same all.does;
       },
     ),
   )
 
   -- a pipe, a device or a socket
-  pub special_cut : (name : List ℕ) (names : List (List ℕ)) (refused : Bool) {before now : Counts} {old new : Told} {status : ℕ}
+  pub special_cut : (name : List ℕ) (names : List (List ℕ)) (refused : Bool) {before now : Counts} {old new : Observed} {status : ℕ}
       → old.files ≡ None → NoneFell before now → Stops (Report (special_line name) ∷ []) before now old new status
       → Ends (Doing [] (EditFiles patch defined mode name names refused)) before now old new status
   special_cut name names refused {before = before} {old = old} none fell stops =
@@ -166,23 +166,23 @@ module _ (patch : Patch) (defined : List (List ℕ)) (mode : Mode) where
       (NoneFell-refl before) (stops_ends (λ (acts : List Act). going acts patch defined mode names r) (going_next names r)
       (going_leads names r) treated.acts fell stops)
 
-  pub turns_special : (name : List ℕ) {old new : Told} → old.files ≡ None → Does (Report (special_line name) ∷ []) old new
-      → TurnsTo (turn.Treated true) patch defined mode name old new
+  pub turns_special : (name : List ℕ) {old new : Observed} → old.files ≡ None → Does (Report (special_line name) ∷ []) old new
+      → TurnsTo (turn.Processed true) patch defined mode name old new
   turns_special name {old = old} none does =
       ([], (found_any old.files name none, record { treated = refuses (special_line name); treats = inr (none, refl); refused_is = refl; does = does }))
 
-  pub turns_absent : (name : List ℕ) (under : Option (List ℕ)) {old new : Told} → Found old.files name under → under ≡ None
+  pub turns_absent : (name : List ℕ) (under : Option (List ℕ)) {old new : Observed} → Found old.files name under → under ≡ None
       → new ≡ old → TurnsTo turn.Absent patch defined mode name old new
   turns_absent name under {old = old} found is same = (subst (λ (u : Option (List ℕ)). Found old.files name u) is found, same)
 
   -- a file was treated in its turn
-  pub turn_goes : (name : List ℕ) (names : List (List ℕ)) (refused here_refused : Bool) {old new : Told}
-      → TurnsTo (turn.Treated here_refused) patch defined mode name old new
+  pub turn_goes : (name : List ℕ) (names : List (List ℕ)) (refused here_refused : Bool) {old new : Observed}
+      → TurnsTo (turn.Processed here_refused) patch defined mode name old new
       → Goes (Doing [] (EditFiles patch defined mode name names refused)) old (going [] patch defined mode names (refused || here_refused)) new
   turn_goes name names refused here_refused turned = file_goes name names refused here_refused turned.0 turned.1.0 refl turned.1.1
 
   -- nothing is stored under its name
-  pub turn_absent : (name : List ℕ) (names : List (List ℕ)) (refused : Bool) {old new : Told}
+  pub turn_absent : (name : List ℕ) (names : List (List ℕ)) (refused : Bool) {old new : Observed}
       → TurnsTo turn.Absent patch defined mode name old new
       → Goes (Doing [] (EditFiles patch defined mode name names refused)) old (refusing (cannot_read name) 5) new
   turn_absent name names refused {old = old} {new = new} turned =
@@ -192,7 +192,7 @@ module _ (patch : Patch) (defined : List (List ℕ)) (mode : Mode) where
 -- ---- a generated text
 
 module _ (patch : Patch) (defined : List (List ℕ)) where
-  pub sum_done : (seed functions : ℕ) (refused : Bool) {before now : Counts} {old new : Told} {status : ℕ} → NoneFell before now
+  pub sum_done : (seed functions : ℕ) (refused : Bool) {before now : Counts} {old new : Observed} {status : ℕ} → NoneFell before now
       → status ≡ end_status refused → TreatsAll (Sums patch defined generated_name (generated seed functions)) refused old new
       → LeadsBy (TargetLeads patch defined (OnText seed functions)) before now old new status
   sum_done seed functions refused {before = before} {now = now} {old = old} {new = new} {status = status} fell is all =
@@ -203,7 +203,7 @@ module _ (patch : Patch) (defined : List (List ℕ)) where
       from (Ending treated.acts s) (treated, (all.treats, refl))
       (subst (λ (n : ℕ). Ends (Ending treated.acts s) before now old new n) (ap end_status all.refused_is ∙ sym is) ends)
 
-  pub sum_cut : (seed functions : ℕ) {before now : Counts} {old new : Told} {status : ℕ} → NoneFell before now
+  pub sum_cut : (seed functions : ℕ) {before now : Counts} {old new : Observed} {status : ℕ} → NoneFell before now
       → TreatsPart (Sums patch defined generated_name (generated seed functions)) before now old new status
       → LeadsBy (TargetLeads patch defined (OnText seed functions)) before now old new status
   sum_cut seed functions fell (earlier seven none) = unfed fell seven none

@@ -6,7 +6,7 @@ use Rattle.ctl_translate.specs.declared.rule.FormulaFault.{FormulaFault}
 use Rattle.ctl_translate.specs.declared.rule.FormulaFault.TheVariants as fault
 use Rattle.rule_envs.specs.declared.rule_formulas.prepared.PreparedRule.{PreparedRule}
 use Rattle.rule_envs.specs.RuleFormulas.Prepared.{ArePrepared, IsPrepareFault}
-use Rattle.rule_chain.specs.Asked.{MayRun}
+use Rattle.rule_chain.specs.Required.{MayRun}
 
 -- Each rule has a formula that may be used, so preparing the rules fails only when out of memory; and each rule may run when
 -- prepared.

@@ -1,6 +1,6 @@
 // The files in turn.
 ghost use Rattle.std.specs.Prelude.{◌≡◌, ◌||◌, [], false, Bool, List, ℕ, map, IfOk, IfErr};
-ghost use Rattle.run_acts.specs.Acts.{told};
+ghost use Rattle.run_acts.specs.Acts.{observed};
 ghost use Rattle.run_acts.specs.Breaks.{counts, NoneFell};
 ghost use Rattle.run_acts.specs.Places.{SamePlaces};
 ghost use Rattle.run_acts.specs.Statuses.{number_of, status_of};
@@ -42,11 +42,11 @@ fn either(first: bool, second: bool) -> bool
 /// The outcome of a file's turn: whether the file is refused, or that nothing is stored under its name.
 #[derive(Clone, Copy, Debug, PartialEq, Eq)]
 pub enum Turn {
-    Treated(bool),
+    Processed(bool),
     Absent,
 }
 
-/// Loads a file and treats it. A pipe, a device or a socket is refused and not loaded.
+/// Loads a file and processes it. A pipe, a device or a socket is refused and not loaded.
 fn take_turn<R: Threads + Sync, S: Shelf, O: Sink, E: Sink, G: Gate>(
     workers: &Workers<'_, R, G>,
     rules: &PatchRules<'_>,
@@ -56,8 +56,8 @@ fn take_turn<R: Threads + Sync, S: Shelf, O: Sink, E: Sink, G: Gate>(
 ) -> Result<Turn, Stopped>
     ensures same { SamePlaces outside.old outside.new }
     ensures turned { IfOk result (λ turned. TurnsTo turned rules.now.patch.now rules.now.defined.now mode name.now
-        (told (S.holds outside.old.shelf.now) (S.stores outside.old.shelf.now) (O.written outside.old.out.now) (E.written outside.old.err.now))
-        (told (S.holds outside.new.shelf.now) (S.stores outside.new.shelf.now) (O.written outside.new.out.now) (E.written outside.new.err.now))) }
+        (observed (S.holds outside.old.shelf.now) (S.stores outside.old.shelf.now) (O.written outside.old.out.now) (E.written outside.old.err.now))
+        (observed (S.holds outside.new.shelf.now) (S.stores outside.new.shelf.now) (O.written outside.new.out.now) (E.written outside.new.err.now))) }
     ensures fell { NoneFell
         (counts (S.faults outside.old.shelf.now) (O.faults outside.old.out.now) (E.faults outside.old.err.now))
         (counts (S.faults outside.new.shelf.now) (O.faults outside.new.out.now) (E.faults outside.new.err.now)) }
@@ -65,28 +65,28 @@ fn take_turn<R: Threads + Sync, S: Shelf, O: Sink, E: Sink, G: Gate>(
         Ends (Doing [] (EditFiles rules.now.patch.now rules.now.defined.now mode name.now names refused))
         (counts (S.faults outside.old.shelf.now) (O.faults outside.old.out.now) (E.faults outside.old.err.now))
         (counts (S.faults outside.new.shelf.now) (O.faults outside.new.out.now) (E.faults outside.new.err.now))
-        (told (S.holds outside.old.shelf.now) (S.stores outside.old.shelf.now) (O.written outside.old.out.now) (E.written outside.old.err.now))
-        (told (S.holds outside.new.shelf.now) (S.stores outside.new.shelf.now) (O.written outside.new.out.now) (E.written outside.new.err.now))
+        (observed (S.holds outside.old.shelf.now) (S.stores outside.old.shelf.now) (O.written outside.old.out.now) (E.written outside.old.err.now))
+        (observed (S.holds outside.new.shelf.now) (S.stores outside.new.shelf.now) (O.written outside.new.out.now) (E.written outside.new.err.now))
         (status_of stopped)) }
 {
     let alloc = workers.alloc;
     if outside.shelf.is_special(name) {
         refuse_special(alloc, outside.err, name)?;
-        return Ok(Turn::Treated(true));
+        return Ok(Turn::Processed(true));
     }
     let bytes = match load(alloc, outside.shelf, outside.err, name, FILE_LIMIT)? {
         Loaded::Bytes(bytes) => bytes,
         Loaded::TooLong => {
             refuse_long(alloc, outside.err, name)?;
-            return Ok(Turn::Treated(true));
+            return Ok(Turn::Processed(true));
         }
         Loaded::Absent => return Ok(Turn::Absent),
     };
     let refused = process_file(workers, rules, mode, name, bytes, outside)?;
-    Ok(Turn::Treated(refused))
+    Ok(Turn::Processed(refused))
 }
 
-/// Loads and treats the files in turn, up to the last one or to a name under which nothing is stored.
+/// Loads and processes the files in turn, up to the last one or to a name under which nothing is stored.
 pub fn edit_files<R: Threads + Sync, S: Shelf, O: Sink, E: Sink, G: Gate>(
     workers: &Workers<'_, R, G>,
     rules: &PatchRules<'_>,
@@ -98,15 +98,15 @@ pub fn edit_files<R: Threads + Sync, S: Shelf, O: Sink, E: Sink, G: Gate>(
     ensures ends { Ends (going [] rules.now.patch.now rules.now.defined.now mode (map (λ name. name.now) names.now) false)
         (counts (S.faults outside.old.shelf.now) (O.faults outside.old.out.now) (E.faults outside.old.err.now))
         (counts (S.faults outside.new.shelf.now) (O.faults outside.new.out.now) (E.faults outside.new.err.now))
-        (told (S.holds outside.old.shelf.now) (S.stores outside.old.shelf.now) (O.written outside.old.out.now) (E.written outside.old.err.now))
-        (told (S.holds outside.new.shelf.now) (S.stores outside.new.shelf.now) (O.written outside.new.out.now) (E.written outside.new.err.now))
+        (observed (S.holds outside.old.shelf.now) (S.stores outside.old.shelf.now) (O.written outside.old.out.now) (E.written outside.old.err.now))
+        (observed (S.holds outside.new.shelf.now) (S.stores outside.new.shelf.now) (O.written outside.new.out.now) (E.written outside.new.err.now))
         (answer result) }
 {
     let mut refused = false;
     for name in names {
         match take_turn(workers, rules, mode, name, outside)? {
             Turn::Absent => return refuse_absent(workers.alloc, outside.err, name),
-            Turn::Treated(here) => refused = either(refused, here),
+            Turn::Processed(here) => refused = either(refused, here),
         }
     }
     Ok(end_status(refused))

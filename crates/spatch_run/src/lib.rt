@@ -14,7 +14,7 @@
 //! - `run_ends`: Every run has acts: what holds for a run whose patch, isomorphisms and files are as they should be.
 #![tactic(auto)]
 
-ghost use Rattle.run_acts.specs.Acts.{told};
+ghost use Rattle.run_acts.specs.Acts.{observed};
 ghost use Rattle.run_acts.specs.Breaks.{NoneFell, counts};
 ghost use Rattle.run_files.specs.RunStages.Promise.{IsExact, EndsRightly};
 ghost use Rattle.run_files.specs.RunStages.Causes.{Causes};
@@ -54,16 +54,16 @@ pub fn run<R: AllocGlobal + Threads + Sync, S: Shelf, O: Sink, E: Sink, G: Gate>
     ensures exact { IsExact words.now
         (counts (S.faults shelf.old) (O.faults out.old) (E.faults err.old))
         (counts (S.faults shelf.new) (O.faults out.new) (E.faults err.new))
-        (told (S.holds shelf.old) (S.stores shelf.old) (O.written out.old) (E.written err.old))
-        (told (S.holds shelf.new) (S.stores shelf.new) (O.written out.new) (E.written err.new))
+        (observed (S.holds shelf.old) (S.stores shelf.old) (O.written out.old) (E.written err.old))
+        (observed (S.holds shelf.new) (S.stores shelf.new) (O.written out.new) (E.written err.new))
         result }
 
     // However it ends, all of these acts are done, or a prefix of them, and then the next one failed or memory ran out.
     ensures ends { EndsRightly words.now
         (counts (S.faults shelf.old) (O.faults out.old) (E.faults err.old))
         (counts (S.faults shelf.new) (O.faults out.new) (E.faults err.new))
-        (told (S.holds shelf.old) (S.stores shelf.old) (O.written out.old) (E.written err.old))
-        (told (S.holds shelf.new) (S.stores shelf.new) (O.written out.new) (E.written err.new))
+        (observed (S.holds shelf.old) (S.stores shelf.old) (O.written out.old) (E.written err.old))
+        (observed (S.holds shelf.new) (S.stores shelf.new) (O.written out.new) (E.written err.new))
         result }
 
     // No count falls.
@@ -71,12 +71,13 @@ pub fn run<R: AllocGlobal + Threads + Sync, S: Shelf, O: Sink, E: Sink, G: Gate>
         (counts (S.faults shelf.old) (O.faults out.old) (E.faults err.old))
         (counts (S.faults shelf.new) (O.faults out.new) (E.faults err.new)) }
 
-    // Each status has its cause. If the shelf reports its files and no count rises, a status that has a reason is returned, or 7.
+    // Each status has its cause. If the shelf reveals its files and no count rises, a status that has a reason is returned, or
+    // 7.
     ensures causes { Causes words.now
         (counts (S.faults shelf.old) (O.faults out.old) (E.faults err.old))
         (counts (S.faults shelf.new) (O.faults out.new) (E.faults err.new))
-        (told (S.holds shelf.old) (S.stores shelf.old) (O.written out.old) (E.written err.old))
-        (told (S.holds shelf.new) (S.stores shelf.new) (O.written out.new) (E.written err.new))
+        (observed (S.holds shelf.old) (S.stores shelf.old) (O.written out.old) (E.written err.old))
+        (observed (S.holds shelf.new) (S.stores shelf.new) (O.written out.new) (E.written err.new))
         result }
 {
     // A law: does nothing. The proof of `causes` needs its contract.

@@ -1,7 +1,7 @@
 // The ends of a run that stops early: a line is reported, and a status is returned.
 ghost use Rattle.std.specs.Prelude.{List, ℕ, Option};
 ghost use Rattle.outer_io.specs.Files.{Files};
-ghost use Rattle.run_acts.specs.Acts.{told};
+ghost use Rattle.run_acts.specs.Acts.{observed};
 ghost use Rattle.run_acts.specs.Breaks.{counts};
 ghost use Rattle.run_acts.specs.Lines.{cannot_read};
 ghost use Rattle.run_acts.specs.Statuses.{number_of};
@@ -22,7 +22,7 @@ fn end_by<E: Sink>(err: &mut E, line: &[u8], status: Status) -> Result<Status, S
     ensures ends { (files : Option Files) (out : Option (List ℕ)) (stores s o : ℕ) →
         Ends (refusing line.now (number_of status))
         (counts s o (E.faults err.old)) (counts s o (E.faults err.new))
-        (told files stores out (E.written err.old)) (told files stores out (E.written err.new))
+        (observed files stores out (E.written err.old)) (observed files stores out (E.written err.new))
         (answer result) }
 {
     report(err, line)?;
@@ -34,7 +34,7 @@ pub fn refuse_words<E: Sink>(err: &mut E) -> Result<Status, Stopped>
     ensures ends { (files : Option Files) (out : Option (List ℕ)) (stores s o : ℕ) →
         Ends (refusing lines.usage 1)
         (counts s o (E.faults err.old)) (counts s o (E.faults err.new))
-        (told files stores out (E.written err.old)) (told files stores out (E.written err.new))
+        (observed files stores out (E.written err.old)) (observed files stores out (E.written err.new))
         (answer result) }
 {
     end_by(err, usage().as_bytes(), Status::WordsRefused)
@@ -45,7 +45,7 @@ pub fn refuse_absent<E: Sink>(alloc: Global, err: &mut E, name: &str) -> Result<
     ensures ends { (files : Option Files) (out : Option (List ℕ)) (stores s o : ℕ) →
         Ends (refusing (cannot_read name.now) 5)
         (counts s o (E.faults err.old)) (counts s o (E.faults err.new))
-        (told files stores out (E.written err.old)) (told files stores out (E.written err.new))
+        (observed files stores out (E.written err.old)) (observed files stores out (E.written err.new))
         (answer result) }
 {
     let line = cannot_read(alloc, name)?;
@@ -62,7 +62,7 @@ pub fn refuse_patch<E: Sink>(
     ensures ends { (files : Option Files) (out : Option (List ℕ)) (stores s o : ℕ) →
         Ends (refusing (lines.patch_fault_line name.now fault.now) 2)
         (counts s o (E.faults err.old)) (counts s o (E.faults err.new))
-        (told files stores out (E.written err.old)) (told files stores out (E.written err.new))
+        (observed files stores out (E.written err.old)) (observed files stores out (E.written err.new))
         (answer result) }
 {
     let line = patch_fault_line(alloc, name, fault)?;
@@ -79,7 +79,7 @@ pub fn refuse_isos<E: Sink>(
     ensures ends { (files : Option Files) (out : Option (List ℕ)) (stores s o : ℕ) →
         Ends (refusing (lines.iso_fault_line name.now fault) 3)
         (counts s o (E.faults err.old)) (counts s o (E.faults err.new))
-        (told files stores out (E.written err.old)) (told files stores out (E.written err.new))
+        (observed files stores out (E.written err.old)) (observed files stores out (E.written err.new))
         (answer result) }
 {
     let line = iso_fault_line(alloc, name, fault)?;
@@ -96,7 +96,7 @@ pub fn refuse_forms<E: Sink>(
     ensures ends { (files : Option Files) (out : Option (List ℕ)) (stores s o : ℕ) →
         Ends (refusing (lines.forms_line name.now rule) 3)
         (counts s o (E.faults err.old)) (counts s o (E.faults err.new))
-        (told files stores out (E.written err.old)) (told files stores out (E.written err.new))
+        (observed files stores out (E.written err.old)) (observed files stores out (E.written err.new))
         (answer result) }
 {
     let line = forms_line(alloc, name, rule)?;

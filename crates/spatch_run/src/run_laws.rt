@@ -1,6 +1,6 @@
 //! What holds for every run, whatever it is called with.
 //!
-//! - [`acts_are_one_list`] is a law: its clauses hold, and it does nothing. If the shelf reports its files, words have only one
+//! - [`acts_are_one_list`] is a law: its clauses hold, and it does nothing. If the shelf reveals its files, words have only one
 //!   list of acts, with one status.
 //! - [`acts_have_a_reason`]: the stages of a run and the plain description of its acts, file by file, are equivalent.
 //! - [`statuses_have_a_cause`]: each status is returned for its cause, and a status with a cause must be returned if nothing
@@ -8,7 +8,7 @@
 #![tactic(auto)]
 
 ghost use Rattle.std.specs.Prelude.{◌≡◌, ◌∷◌, ◌++◌, ℕ, List, IsSome};
-ghost use Rattle.run_acts.specs.Acts.{Act, Told};
+ghost use Rattle.run_acts.specs.Acts.{Act, Observed};
 ghost use Rattle.run_acts.specs.Breaks.{Counts};
 ghost use Rattle.run_files.specs.RunStages.Paths.{AreActs, ComesTo};
 ghost use Rattle.run_files.specs.RunStages.Promise.{EndsRightly};
@@ -19,17 +19,17 @@ use read_laws::{isos_are_read_once, patches_are_expanded_once, patches_have_one_
 use rule_chain::chain_has_one_end;
 use smpl_file::patches_are_read_once;
 
-/// A list of words has only one list of acts if the shelf reports its files: nothing else determines them.
+/// A list of words has only one list of acts if the shelf reveals its files: nothing else determines them.
 ///
 /// - `same`: two lists of acts of the same words and the same files are equal, and so are their statuses.
 /// - `begins`: the acts that a run has done so far, followed by its next act, are a prefix of that list.
 ///
 /// Does nothing.
 pub fn acts_are_one_list()
-    ensures same { (words : List (List ℕ)) (old other : Told) (acts others : List Act) (status status' : ℕ) →
+    ensures same { (words : List (List ℕ)) (old other : Observed) (acts others : List Act) (status status' : ℕ) →
         IsSome old.files → other.files ≡ old.files → AreActs words old acts status →
         AreActs words other others status' → (acts ≡ others) × (status ≡ status') }
-    ensures begins { (words : List (List ℕ)) (old other mid : Told) (next : Act) (acts : List Act) (status : ℕ) →
+    ensures begins { (words : List (List ℕ)) (old other mid : Observed) (next : Act) (acts : List Act) (status : ℕ) →
         IsSome old.files → other.files ≡ old.files → (comes : ComesTo words old mid next) →
         AreActs words other acts status → (rest : List Act) × (acts ≡ comes.acts ++ next ∷ rest) }
 {
@@ -47,16 +47,16 @@ pub fn acts_are_one_list()
 ///
 /// Does nothing.
 pub fn acts_have_a_reason()
-    ensures reason { (words : List (List ℕ)) (old : Told) (acts : List Act) (status : ℕ) →
+    ensures reason { (words : List (List ℕ)) (old : Observed) (acts : List Act) (status : ℕ) →
         AreActs words old acts status → Reason words old acts status }
-    ensures ways { (words : List (List ℕ)) (old : Told) (acts : List Act) (status : ℕ) →
+    ensures ways { (words : List (List ℕ)) (old : Observed) (acts : List Act) (status : ℕ) →
         Reason words old acts status → AreActs words old acts status }
 {}
 
 /// If a run ends rightly, each status that it may return has its cause, and a status with a cause must be returned if nothing
 /// fails. Does nothing.
 pub fn statuses_have_a_cause()
-    ensures { (words : List (List ℕ)) (before now : Counts) (old new : Told) (status : ℕ) →
+    ensures { (words : List (List ℕ)) (before now : Counts) (old new : Observed) (status : ℕ) →
         EndsRightly words before now old new status → Causes words before now old new status }
 {
     acts_are_one_list();

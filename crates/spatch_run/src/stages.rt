@@ -1,8 +1,8 @@
-// The stages of a run up to the files, one function for each.
+// The stages of a run before its files: the words, the patch, the isomorphisms. One function per stage.
 ghost use Rattle.std.specs.Prelude.{◌≡◌, ◌↔◌, [], List, ℕ, true, map, IfOk, IsTrue};
 ghost use Rattle.std.specs.List.{list_all};
 ghost use Rattle.std.specs.Str.{is_utf8};
-ghost use Rattle.run_acts.specs.Acts.{told};
+ghost use Rattle.run_acts.specs.Acts.{observed};
 ghost use Rattle.run_acts.specs.Breaks.{counts};
 ghost use Rattle.run_acts.specs.Places.{SamePlaces};
 ghost use Rattle.run_acts.specs.Statuses.{number_of};
@@ -32,7 +32,7 @@ use par_match::{Gate, Workers};
 use rule_chain::PatchRules;
 use rule_envs::{Prepared, prepare};
 use run_acts::{Loaded, Outside, Status, Stopped, load};
-use run_words::{Order, PatchOrder, Target, order_of, texts_of};
+use run_words::{Order, PatchOrder, Target, order_of, utf8_words};
 use smpl_file::read_patch;
 use smpl_patch::{Iso, Patch, PatchFault};
 use std::alloc::Global;
@@ -61,11 +61,11 @@ pub fn follow_words<R: Threads + Sync, S: Shelf, O: Sink, E: Sink, G: Gate>(
     ensures ends { Follows words.now
         (counts (S.faults outside.old.shelf.now) (O.faults outside.old.out.now) (E.faults outside.old.err.now))
         (counts (S.faults outside.new.shelf.now) (O.faults outside.new.out.now) (E.faults outside.new.err.now))
-        (told (S.holds outside.old.shelf.now) (S.stores outside.old.shelf.now) (O.written outside.old.out.now) (E.written outside.old.err.now))
-        (told (S.holds outside.new.shelf.now) (S.stores outside.new.shelf.now) (O.written outside.new.out.now) (E.written outside.new.err.now))
+        (observed (S.holds outside.old.shelf.now) (S.stores outside.old.shelf.now) (O.written outside.old.out.now) (E.written outside.old.err.now))
+        (observed (S.holds outside.new.shelf.now) (S.stores outside.new.shelf.now) (O.written outside.new.out.now) (E.written outside.new.err.now))
         (answer result) }
 {
-    match texts_of(host.alloc, words) {
+    match utf8_words(host.alloc, words) {
         Err(NoMemory) => Err(Stopped::NoMemory),
         Ok(None) => refuse_words(outside.err),
         Ok(Some(texts)) => follow_texts(host, &texts, outside),
@@ -83,8 +83,8 @@ fn follow_texts<R: Threads + Sync, S: Shelf, O: Sink, E: Sink, G: Gate>(
     ensures ends { Follows (map (λ t. t.now) texts.now)
         (counts (S.faults outside.old.shelf.now) (O.faults outside.old.out.now) (E.faults outside.old.err.now))
         (counts (S.faults outside.new.shelf.now) (O.faults outside.new.out.now) (E.faults outside.new.err.now))
-        (told (S.holds outside.old.shelf.now) (S.stores outside.old.shelf.now) (O.written outside.old.out.now) (E.written outside.old.err.now))
-        (told (S.holds outside.new.shelf.now) (S.stores outside.new.shelf.now) (O.written outside.new.out.now) (E.written outside.new.err.now))
+        (observed (S.holds outside.old.shelf.now) (S.stores outside.old.shelf.now) (O.written outside.old.out.now) (E.written outside.old.err.now))
+        (observed (S.holds outside.new.shelf.now) (S.stores outside.new.shelf.now) (O.written outside.new.out.now) (E.written outside.new.err.now))
         (answer result) }
 {
     match order_of(host.alloc, texts) {
@@ -119,8 +119,8 @@ fn follow_order<R: Threads + Sync, S: Shelf, O: Sink, E: Sink, G: Gate>(
     ensures ends { Ends (Doing [] (ReadPatch order.now.patch.now (shown_isos order.now.isos) order.now.defined.items (shown_target order.now.target)))
         (counts (S.faults outside.old.shelf.now) (O.faults outside.old.out.now) (E.faults outside.old.err.now))
         (counts (S.faults outside.new.shelf.now) (O.faults outside.new.out.now) (E.faults outside.new.err.now))
-        (told (S.holds outside.old.shelf.now) (S.stores outside.old.shelf.now) (O.written outside.old.out.now) (E.written outside.old.err.now))
-        (told (S.holds outside.new.shelf.now) (S.stores outside.new.shelf.now) (O.written outside.new.out.now) (E.written outside.new.err.now))
+        (observed (S.holds outside.old.shelf.now) (S.stores outside.old.shelf.now) (O.written outside.old.out.now) (E.written outside.old.err.now))
+        (observed (S.holds outside.new.shelf.now) (S.stores outside.new.shelf.now) (O.written outside.new.out.now) (E.written outside.new.err.now))
         (answer result) }
 {
     let alloc = host.alloc;
@@ -158,8 +158,8 @@ fn give_forms<R: Threads + Sync, S: Shelf, O: Sink, E: Sink, G: Gate>(
     ensures ends { LeadsBy (ReadLeads patch (shown_isos order.now.isos) order.now.defined.items (shown_target order.now.target))
         (counts (S.faults outside.old.shelf.now) (O.faults outside.old.out.now) (E.faults outside.old.err.now))
         (counts (S.faults outside.new.shelf.now) (O.faults outside.new.out.now) (E.faults outside.new.err.now))
-        (told (S.holds outside.old.shelf.now) (S.stores outside.old.shelf.now) (O.written outside.old.out.now) (E.written outside.old.err.now))
-        (told (S.holds outside.new.shelf.now) (S.stores outside.new.shelf.now) (O.written outside.new.out.now) (E.written outside.new.err.now))
+        (observed (S.holds outside.old.shelf.now) (S.stores outside.old.shelf.now) (O.written outside.old.out.now) (E.written outside.old.err.now))
+        (observed (S.holds outside.new.shelf.now) (S.stores outside.new.shelf.now) (O.written outside.new.out.now) (E.written outside.new.err.now))
         (answer result) }
 {
     // A law: does nothing. What follows needs its contract.
@@ -191,8 +191,8 @@ fn load_isos<R: Threads + Sync, S: Shelf, O: Sink, E: Sink, G: Gate>(
     ensures ends { Ends (Doing [] (ReadIsos patch name.now order.now.defined.items (shown_target order.now.target)))
         (counts (S.faults outside.old.shelf.now) (O.faults outside.old.out.now) (E.faults outside.old.err.now))
         (counts (S.faults outside.new.shelf.now) (O.faults outside.new.out.now) (E.faults outside.new.err.now))
-        (told (S.holds outside.old.shelf.now) (S.stores outside.old.shelf.now) (O.written outside.old.out.now) (E.written outside.old.err.now))
-        (told (S.holds outside.new.shelf.now) (S.stores outside.new.shelf.now) (O.written outside.new.out.now) (E.written outside.new.err.now))
+        (observed (S.holds outside.old.shelf.now) (S.stores outside.old.shelf.now) (O.written outside.old.out.now) (E.written outside.old.err.now))
+        (observed (S.holds outside.new.shelf.now) (S.stores outside.new.shelf.now) (O.written outside.new.out.now) (E.written outside.new.err.now))
         (answer result) }
 {
     let alloc = host.alloc;
@@ -227,8 +227,8 @@ fn expand_patch<R: Threads + Sync, S: Shelf, O: Sink, E: Sink, G: Gate>(
     ensures ends { LeadsBy (IsosLead isos.now patch name.now order.now.defined.items (shown_target order.now.target))
         (counts (S.faults outside.old.shelf.now) (O.faults outside.old.out.now) (E.faults outside.old.err.now))
         (counts (S.faults outside.new.shelf.now) (O.faults outside.new.out.now) (E.faults outside.new.err.now))
-        (told (S.holds outside.old.shelf.now) (S.stores outside.old.shelf.now) (O.written outside.old.out.now) (E.written outside.old.err.now))
-        (told (S.holds outside.new.shelf.now) (S.stores outside.new.shelf.now) (O.written outside.new.out.now) (E.written outside.new.err.now))
+        (observed (S.holds outside.old.shelf.now) (S.stores outside.old.shelf.now) (O.written outside.old.out.now) (E.written outside.old.err.now))
+        (observed (S.holds outside.new.shelf.now) (S.stores outside.new.shelf.now) (O.written outside.new.out.now) (E.written outside.new.err.now))
         (answer result) }
 {
     // A law: does nothing. What follows needs its contract.
@@ -275,8 +275,8 @@ fn use_patch<R: Threads + Sync, S: Shelf, O: Sink, E: Sink, G: Gate>(
     ensures ends { LeadsBy (TargetLeads patch.now order.now.defined.items (shown_target order.now.target))
         (counts (S.faults outside.old.shelf.now) (O.faults outside.old.out.now) (E.faults outside.old.err.now))
         (counts (S.faults outside.new.shelf.now) (O.faults outside.new.out.now) (E.faults outside.new.err.now))
-        (told (S.holds outside.old.shelf.now) (S.stores outside.old.shelf.now) (O.written outside.old.out.now) (E.written outside.old.err.now))
-        (told (S.holds outside.new.shelf.now) (S.stores outside.new.shelf.now) (O.written outside.new.out.now) (E.written outside.new.err.now))
+        (observed (S.holds outside.old.shelf.now) (S.stores outside.old.shelf.now) (O.written outside.old.out.now) (E.written outside.old.err.now))
+        (observed (S.holds outside.new.shelf.now) (S.stores outside.new.shelf.now) (O.written outside.new.out.now) (E.written outside.new.err.now))
         (answer result) }
 {
     let prepared = prepared(host.alloc, patch)?;

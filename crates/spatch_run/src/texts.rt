@@ -1,7 +1,7 @@
 // Generated texts.
 ghost use Rattle.std.specs.Prelude.{◌≤◌, ◌∷◌, [], List, ℕ, Option};
 ghost use Rattle.outer_io.specs.Files.{Files};
-ghost use Rattle.run_acts.specs.Acts.{Print, told};
+ghost use Rattle.run_acts.specs.Acts.{Print, observed};
 ghost use Rattle.run_acts.specs.Breaks.{counts};
 ghost use Rattle.sp_gen.specs.Generated.{generated};
 ghost use Rattle.run_words.specs.Orders.{OnText};
@@ -32,7 +32,7 @@ pub fn print_text<O: Sink, E: Sink>(
 ) -> Result<Status, Stopped>
     ensures ends { (files : Option Files) (stores s : ℕ) → Ends (Ending (Print (generated seed functions) ∷ []) 0)
         (counts s (O.faults out.old) (E.faults err.old)) (counts s (O.faults out.new) (E.faults err.new))
-        (told files stores (O.written out.old) (E.written err.old)) (told files stores (O.written out.new) (E.written err.new))
+        (observed files stores (O.written out.old) (E.written err.old)) (observed files stores (O.written out.new) (E.written err.new))
         (answer result) }
 {
     let text = generate(alloc, seed, functions)?;
@@ -53,7 +53,7 @@ pub fn sum_text<R: Threads + Sync, O: Sink, E: Sink, G: Gate>(
     ensures ends { (files : Option Files) (stores s : ℕ) →
         LeadsBy (TargetLeads rules.now.patch.now rules.now.defined.now (OnText seed functions))
         (counts s (O.faults out.old) (E.faults err.old)) (counts s (O.faults out.new) (E.faults err.new))
-        (told files stores (O.written out.old) (E.written err.old)) (told files stores (O.written out.new) (E.written err.new))
+        (observed files stores (O.written out.old) (E.written err.old)) (observed files stores (O.written out.new) (E.written err.new))
         (answer result) }
 {
     let text = generate(workers.alloc, seed, functions)?;

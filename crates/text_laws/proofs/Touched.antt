@@ -23,9 +23,9 @@ use Rattle.smpl_patch.specs.declared.pattern.Pattern.{Pattern}
 use Rattle.smpl_patch.specs.declared.pattern.PlusBlock.{PlusBlock}
 use Rattle.edit_marks.specs.declared.edit_conflict.edit.Insert.{Insert}
 use Rattle.edit_marks.specs.declared.edit_conflict.edit.Edit.{Edit}
-use Rattle.edit_marks.specs.declared.mark.Aligned.{Aligned}
+use Rattle.edit_marks.specs.declared.removals.Aligned.{Aligned}
 use Rattle.edit_marks.specs.declared.spot.PlusSpot.{PlusSpot}
-use Rattle.edit_marks.specs.declared.tokens.FileToken.{FileToken}
+use Rattle.edit_marks.specs.declared.file_tokens.FileToken.{FileToken}
 use Rattle.edit_marks.specs.Blocks.{Environment}
 use Rattle.edit_marks.specs.Plain.{AreCTokens}
 use Rattle.edit_marks.specs.Removals.{is_minus_at, minus_tokens}

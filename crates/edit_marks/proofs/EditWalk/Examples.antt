@@ -1,7 +1,7 @@
 -- The definitions on small cases.
 use Rattle.std.proofs.Common.{◌≡◌, refl, List, [], ◌∷◌}
 use Rattle.std.specs.Prelude.{None, Some}
-use Rattle.edit_marks.specs.declared.mark.Aligned.{Aligned}
+use Rattle.edit_marks.specs.declared.removals.Aligned.{Aligned}
 use Rattle.pat_match.specs.declared.pat_pairs.pairs.AlignedToken.{AlignedToken}
 use Rattle.edit_marks.specs.EditWalk.Keys.{number_of}
 use Rattle.edit_marks.specs.EditWalk.Named.{pairs_of}

@@ -14,9 +14,9 @@ use Rattle.edit_marks.specs.declared.edit_conflict.edit.Insert.{Insert}
 use Rattle.edit_marks.specs.declared.edit_conflict.edit.Edit.{Edit}
 use Rattle.edit_marks.specs.EditConflict.Same.{same_edit}
 use Rattle.edit_marks.specs.EditConflict.Once.{once, with_edit}
-use Rattle.edit_marks.specs.declared.mark.Aligned.{Aligned}
+use Rattle.edit_marks.specs.declared.removals.Aligned.{Aligned}
 use Rattle.edit_marks.specs.declared.spot.PlusSpot.{PlusSpot}
-use Rattle.edit_marks.specs.declared.tokens.FileToken.{FileToken}
+use Rattle.edit_marks.specs.declared.file_tokens.FileToken.{FileToken}
 use Rattle.edit_marks.specs.Blocks.{Environment}
 use Rattle.edit_marks.specs.Inserts.{indent_at}
 use Rattle.edit_marks.specs.Removals.{is_minus_at, minus_tokens}

@@ -8,7 +8,7 @@ use Rattle.c_lexer.specs.declared.piece.PieceKind.{PieceKind}
 use Rattle.c_lexer.specs.declared.piece.PieceKind.TheVariants.{Word, Blank, Comment, Line}
 use Rattle.c_lexer.specs.Pieces.{TextPiece, text_of}
 use Rattle.c_lexer.specs.Words.{is_space}
-use Rattle.edit_marks.specs.declared.tokens.FileToken.{FileToken}
+use Rattle.edit_marks.specs.declared.file_tokens.FileToken.{FileToken}
 use Rattle.edit_marks.specs.Inserts.{is_blank, line_start, indent_at}
 use Rattle.edit_marks.specs.Plain.{AreSpaces}
 use Rattle.edit_marks.specs.Edits.{HaveBlankIndents}

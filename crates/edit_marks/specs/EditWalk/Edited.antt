@@ -15,7 +15,7 @@ use Rattle.smpl_patch.specs.Shapes.{patterns_body}
 use Rattle.edit_marks.specs.declared.edit_conflict.edit.Edit.{Edit}
 use Rattle.edit_marks.specs.EditConflict.Once.{once}
 use Rattle.edit_marks.specs.Edits.{EditOf}
-use Rattle.edit_marks.specs.declared.tokens.FileToken.{FileToken}
+use Rattle.edit_marks.specs.declared.file_tokens.FileToken.{FileToken}
 use Rattle.edit_marks.specs.EditWalk.Touches.{Touched, touches}
 use Rattle.edit_marks.specs.Tokens.{file_tokens}
 use Rattle.edit_marks.specs.EditWalk.Named.{pairs_at}

@@ -3,12 +3,12 @@ ghost use Rattle.std.specs.Prelude.{◌≡◌, ◌≤◌, ◌^◌, IfOk, length,
 ghost use Rattle.std.specs.Option.{option_copied, option_map};
 ghost use Rattle.edit_marks.specs.EditWalk.Touches.{Touched};
 ghost use Rattle.edit_marks.specs.EditWalk.Named as spec;
-ghost use Rattle.edit_marks.specs.EditWalk.Sites.{IsSite, IsEditHere, patterns_at};
+ghost use Rattle.edit_marks.specs.EditWalk.WalkContexts.{IsWalkContext, IsEditHere, patterns_at};
 
 use crate::edit_conflict::Edit;
 use crate::edit_walk::aligned::numbered;
+use crate::edit_walk::context::WalkContext;
 use crate::edit_walk::numbers::Numbers;
-use crate::edit_walk::site::Site;
 use crate::{Aligned, edit_of};
 use c_terms::{NoMemory, Tree, TreePath, subtree};
 use cfg_build::NodeKind;
@@ -47,34 +47,34 @@ fn tree_at<'a>(items: &'a [Item], item: u32, path: &TreePath) -> Option<&'a Tree
 /// Returns what is aligned at a touch.
 fn alignment(
     alloc: Global,
-    site: &Site<'_>,
+    context: &WalkContext<'_>,
     env: &Env,
     item: u32,
     node: u32,
     atom: u32,
     path: &TreePath,
 ) -> Result<Option<Vec<AlignedToken>>, NoMemory>
-    requires { IsSite site.now }
+    requires { IsWalkContext context.now }
     ensures { IfOk result (λ found. option_map (λ f. f.items) found
-        ≡ spec.alignment (patterns_at site.now) site.now.decls.now site.now.tokens.now site.now.items.now
-        site.now.kinds.now site.now.ids.now
+        ≡ spec.alignment (patterns_at context.now) context.now.decls.now context.now.tokens.now context.now.items.now
+        context.now.kinds.now context.now.ids.now
         (record { item = item; node = node; atom = atom; path = path.now; env = env.now })) }
 {
-    let Some(pattern) = pattern_of(site.patterns, site.atoms, atom) else {
+    let Some(pattern) = pattern_of(context.patterns, context.atoms, atom) else {
         return Ok(None);
     };
-    let Some(kind) = kind_at(site.kinds, item, node) else {
+    let Some(kind) = kind_at(context.kinds, item, node) else {
         return Ok(None);
     };
-    let Some(tree) = tree_at(site.items, item, path) else {
+    let Some(tree) = tree_at(context.items, item, path) else {
         return Ok(None);
     };
     let role = role_at(kind, path.steps());
-    let context = PatternContext {
-        decls: site.decls,
-        tokens: site.tokens,
+    let pattern_context = PatternContext {
+        decls: context.decls,
+        tokens: context.tokens,
     };
-    aligned_tokens(alloc, pattern, &context, role, tree, env)
+    aligned_tokens(alloc, pattern, &pattern_context, role, tree, env)
 }
 
 fn pairs_of(
@@ -95,19 +95,26 @@ fn pairs_of(
 /// Returns the edit of a touch.
 pub fn touch_edit(
     alloc: Global,
-    site: &Site<'_>,
+    context: &WalkContext<'_>,
     env: &Env,
     item: u32,
     node: u32,
     atom: u32,
     path: &TreePath,
 ) -> Result<Edit, NoMemory>
-    requires { IsSite site.now }
-    ensures { IfOk result (IsEditHere site.now
+    requires { IsWalkContext context.now }
+    ensures { IfOk result (IsEditHere context.now
         (record { item = item; node = node; atom = atom; path = path.now; env = env.now })) }
 {
-    let found = alignment(alloc, site, env, item, node, atom, path)?;
-    let pairs = pairs_of(alloc, site.ids, found)?;
-    let edit = edit_of(alloc, site.decls, site.tokens, env, site.files, &pairs)?;
+    let found = alignment(alloc, context, env, item, node, atom, path)?;
+    let pairs = pairs_of(alloc, context.ids, found)?;
+    let edit = edit_of(
+        alloc,
+        context.decls,
+        context.tokens,
+        env,
+        context.files,
+        &pairs,
+    )?;
     Ok(edit)
 }

@@ -7,13 +7,13 @@ ghost use Rattle.edit_marks.specs.EditWalk.Touches.{bound, touches_in, touches_o
 ghost use Rattle.edit_marks.specs.EditWalk.Edited.{IsEditAt, AreEdits};
 ghost use Rattle.edit_marks.specs.EditWalk.Fit.{FitsText, HaveSoundTouches};
 ghost use Rattle.edit_marks.specs.EditWalk.Growing.{Adds};
-ghost use Rattle.edit_marks.specs.EditWalk.Sites.{IsSite, IsEditHere};
+ghost use Rattle.edit_marks.specs.EditWalk.WalkContexts.{IsWalkContext, IsEditHere};
 
 use crate::FileTokens;
 use crate::edit_conflict::{Edit, EditList};
+use crate::edit_walk::context::WalkContext;
 use crate::edit_walk::numbers::Numbers;
 use crate::edit_walk::patterns::patterns_of;
-use crate::edit_walk::site::Site;
 use crate::edit_walk::tokens::token_ids;
 use crate::edit_walk::touch::touch_edit;
 use c_lexer::Lexed;
@@ -87,7 +87,7 @@ fn all_edits(
     let atoms = Numbers::of(alloc, atoms_of(alloc, &patterns)?)?;
     let files = FileTokens::of(alloc, lexed)?;
     let ids = Numbers::of(alloc, token_ids(alloc, lexed)?)?;
-    let site = Site {
+    let context = WalkContext {
         decls: rule.vars.as_slice(),
         tokens: rule.tokens.as_slice(),
         patterns: &patterns,
@@ -97,7 +97,7 @@ fn all_edits(
         files: &files,
         ids: &ids,
     };
-    put_witnesses(alloc, &site, witnesses, &mut all)?;
+    put_witnesses(alloc, &context, witnesses, &mut all)?;
     Ok(all)
 }
 
@@ -114,48 +114,48 @@ fn atoms_of(alloc: Global, patterns: &[&Pattern]) -> Result<Vec<u64>, NoMemory>
 
 fn put_witnesses(
     alloc: Global,
-    site: &Site<'_>,
+    context: &WalkContext<'_>,
     witnesses: &[RuleWitness],
     edits: &mut Vec<Edit>,
 ) -> Result<(), NoMemory>
-    requires { IsSite site.now }
-    ensures { OnOk result (Adds (IsEditHere site.now) edits.old.items edits.new.items
+    requires { IsWalkContext context.now }
+    ensures { OnOk result (Adds (IsEditHere context.now) edits.old.items edits.new.items
         (touches witnesses.now)) }
 {
     for witness in witnesses {
-        put_witness(alloc, site, witness, edits)?;
+        put_witness(alloc, context, witness, edits)?;
     }
     Ok(())
 }
 
 fn put_witness(
     alloc: Global,
-    site: &Site<'_>,
+    context: &WalkContext<'_>,
     witness: &RuleWitness,
     edits: &mut Vec<Edit>,
 ) -> Result<(), NoMemory>
-    requires { IsSite site.now }
-    ensures { OnOk result (Adds (IsEditHere site.now) edits.old.items edits.new.items
+    requires { IsWalkContext context.now }
+    ensures { OnOk result (Adds (IsEditHere context.now) edits.old.items edits.new.items
         (touches_of witness.now)) }
 {
     let forest = witness.forest.as_slice();
-    put_forest(alloc, site, witness.item, &witness.env, forest, edits)
+    put_forest(alloc, context, witness.item, &witness.env, forest, edits)
 }
 
 fn put_forest(
     alloc: Global,
-    site: &Site<'_>,
+    context: &WalkContext<'_>,
     item: u32,
     env: &Env,
     forest: &[Witness],
     edits: &mut Vec<Edit>,
 ) -> Result<(), NoMemory>
-    requires { IsSite site.now }
-    ensures { OnOk result (Adds (IsEditHere site.now) edits.old.items edits.new.items
+    requires { IsWalkContext context.now }
+    ensures { OnOk result (Adds (IsEditHere context.now) edits.old.items edits.new.items
         (flat_map (touches_in item env.now) forest.now)) }
 {
     for tree in forest {
-        put_tree(alloc, site, item, env, tree, edits)?;
+        put_tree(alloc, context, item, env, tree, edits)?;
     }
     Ok(())
 }
@@ -163,19 +163,19 @@ fn put_forest(
 /// Adds the edits of the touches of a tree that was found under these values. Recurses once per level.
 fn put_tree(
     alloc: Global,
-    site: &Site<'_>,
+    context: &WalkContext<'_>,
     item: u32,
     env: &Env,
     tree: &Witness,
     edits: &mut Vec<Edit>,
 ) -> Result<(), NoMemory>
-    requires { IsSite site.now }
-    ensures { OnOk result (Adds (IsEditHere site.now) edits.old.items edits.new.items
+    requires { IsWalkContext context.now }
+    ensures { OnOk result (Adds (IsEditHere context.now) edits.old.items edits.new.items
         (touches_in item env.now tree.now)) }
 {
     match tree {
         Witness::Touch(node, atom, path) => {
-            let edit = touch_edit(alloc, site, env, item, *node, *atom, path)?;
+            let edit = touch_edit(alloc, context, env, item, *node, *atom, path)?;
             edits.push(edit)?;
             Ok(())
         }
@@ -183,7 +183,7 @@ fn put_tree(
             let deeper = bound(alloc, env, x, value)?;
             let inner = &deeper;
             for below in under.as_slice() {
-                put_tree(alloc, site, item, inner, below, edits)?;
+                put_tree(alloc, context, item, inner, below, edits)?;
             }
             Ok(())
         }

@@ -25,9 +25,9 @@ use Rattle.wit_forest.proofs.WitOrder.Induct.{Each, witness_induction}
 use Rattle.env_parts.specs.Parts.{bare_value, bare_env}
 use Rattle.edit_marks.specs.declared.edit_conflict.edit.Insert.{Insert}
 use Rattle.edit_marks.specs.declared.edit_conflict.edit.Edit.{Edit}
-use Rattle.edit_marks.specs.declared.mark.Aligned.{Aligned}
+use Rattle.edit_marks.specs.declared.removals.Aligned.{Aligned}
 use Rattle.edit_marks.specs.declared.spot.PlusSpot.{PlusSpot}
-use Rattle.edit_marks.specs.declared.tokens.FileToken.{FileToken}
+use Rattle.edit_marks.specs.declared.file_tokens.FileToken.{FileToken}
 use Rattle.edit_marks.specs.Blocks.{block_ends}
 use Rattle.edit_marks.specs.Inserts.{insert_of}
 use Rattle.edit_marks.specs.Edits.{block_of, side_of, anchor_of, insert_if, inserts_at, EditOf}

@@ -34,40 +34,40 @@ use Rattle.wit_forest.specs.WitTrees.Rules.{choices, in_order}
 use Rattle.wit_forest.proofs.WitTrees.AlikeLemmas.{forest_alike, holds_alike}
 use Rattle.rule_chain.specs.RuleWitnesses.Bare.{bare_tree, bare_witness}
 use Rattle.rule_chain.specs.RuleWitnesses.Choices.{Leaves}
-use Rattle.rule_chain.specs.RuleWitnesses.Jobs.{nodes_of, BindsExports, witness_at, witnesses_at, witnesses_of}
+use Rattle.rule_chain.specs.RuleWitnesses.Jobs.{touches_and_binds, BindsExports, witness_at, witnesses_at, witnesses_of}
 use Rattle.rule_chain.proofs.RuleWitnesses.BareLemmas.{same-bare_forest, size-bare_forest, bare_env_twice}
 use Rattle.rule_chain.proofs.RuleWitnesses.ChoiceLemmas.{bare_alike, passing_alike}
 
 -- ---- sizes
 
-pub nodes-cons : (w : RuleWitness) (ws : List RuleWitness) → nodes_of (w ∷ ws) ≡ forest_size w.forest + nodes_of ws
+pub nodes-cons : (w : RuleWitness) (ws : List RuleWitness) → touches_and_binds (w ∷ ws) ≡ forest_size w.forest + touches_and_binds ws
 nodes-cons w ws = sum_by-cons (λ (n : ℕ). n) (forest_size w.forest) (map (λ u. forest_size u.forest) ws)
 
-pub nodes-append : (vs ws : List RuleWitness) → nodes_of (vs ++ ws) ≡ nodes_of vs + nodes_of ws
+pub nodes-append : (vs ws : List RuleWitness) → touches_and_binds (vs ++ ws) ≡ touches_and_binds vs + touches_and_binds ws
 nodes-append [] ws = omega arith
 nodes-append (v ∷ vs) ws =
     let rest = nodes-append vs ws in let first = nodes-cons v (vs ++ ws) in let all = nodes-cons v vs in omega (arith, rest, first, all)
 
-nodes-bare : (ws : List RuleWitness) → nodes_of (map bare_witness ws) ≡ nodes_of ws
+nodes-bare : (ws : List RuleWitness) → touches_and_binds (map bare_witness ws) ≡ touches_and_binds ws
 nodes-bare [] = refl
 nodes-bare (w ∷ ws) =
     nodes-cons (bare_witness w) (map bare_witness ws) ∙ (λ i. size-bare_forest w.forest i + nodes-bare ws i) ∙ sym (nodes-cons w ws)
 
 -- witnesses that are equal without ids have the same size
-pub nodes-same : (vs ws : List RuleWitness) → map bare_witness vs ≡ map bare_witness ws → nodes_of vs ≡ nodes_of ws
-nodes-same vs ws h = sym (nodes-bare vs) ∙ ap nodes_of h ∙ nodes-bare ws
+pub nodes-same : (vs ws : List RuleWitness) → map bare_witness vs ≡ map bare_witness ws → touches_and_binds vs ≡ touches_and_binds ws
+nodes-same vs ws h = sym (nodes-bare vs) ∙ ap touches_and_binds h ∙ nodes-bare ws
 
 -- one more witness within the budget
-pub budget_more : (ws : List RuleWitness) (w : RuleWitness) (before after : ℕ) → before + nodes_of ws ≡ 1000000 → after + forest_size w.forest ≡ before
-    → after + nodes_of (ws ++ w ∷ []) ≡ 1000000
+pub budget_more : (ws : List RuleWitness) (w : RuleWitness) (before after : ℕ) → before + touches_and_binds ws ≡ 1000000 → after + forest_size w.forest ≡ before
+    → after + touches_and_binds (ws ++ w ∷ []) ≡ 1000000
 budget_more ws w before after h k =
     let all = nodes-append ws (w ∷ []) in let one = nodes-cons w [] in omega (arith, h, k, all, one)
 
-pub budget_past : (ws : List RuleWitness) (w : RuleWitness) (left : ℕ) → left + nodes_of ws ≡ 1000000 → left < forest_size w.forest
-    → 1000000 < nodes_of (ws ++ w ∷ [])
+pub budget_past : (ws : List RuleWitness) (w : RuleWitness) (left : ℕ) → left + touches_and_binds ws ≡ 1000000 → left < forest_size w.forest
+    → 1000000 < touches_and_binds (ws ++ w ∷ [])
 budget_past ws w left h k = let all = nodes-append ws (w ∷ []) in let one = nodes-cons w [] in omega (arith, h, k, all, one)
 
-pub large_last : (ws : List RuleWitness) (w : RuleWitness) → 1000000 < forest_size w.forest → 1000000 < nodes_of (ws ++ w ∷ [])
+pub large_last : (ws : List RuleWitness) (w : RuleWitness) → 1000000 < forest_size w.forest → 1000000 < touches_and_binds (ws ++ w ∷ [])
 large_last ws w h = let all = nodes-append ws (w ∷ []) in let one = nodes-cons w [] in omega (arith, h, all, one)
 
 -- ---- one witness
@@ -96,8 +96,8 @@ module _ (f : FormulaOf) (g : Flow) (rule item s : ℕ) where
   -- and the forests are too large
   pub many_made : (env own : Pairs) (trees forest : List Witness) (ws : List RuleWitness) → own ≡ env → forest ≡ trees
       → same_forest trees (forest_of f.decls f.tokens g (plain f) s (total env)) ≡ true
-      → 1000000 < nodes_of (ws ++ record { rule = rule; item = item; node = s; env = own; forest = forest } ∷ [])
-      → 1000000 < nodes_of (ws ++ W env ∷ [])
+      → 1000000 < touches_and_binds (ws ++ record { rule = rule; item = item; node = s; env = own; forest = forest } ∷ [])
+      → 1000000 < touches_and_binds (ws ++ W env ∷ [])
   many_made env own trees forest ws e k h many =
       subst (λ (n : ℕ). 1000000 < n) (nodes-same (ws ++ record { rule = rule; item = item; node = s; env = own; forest = forest } ∷ [])
       (ws ++ W env ∷ []) (same_made env own trees forest ws e k h)) many
@@ -160,7 +160,7 @@ module _ (f : FormulaOf) (g : Flow) (rule item s : ℕ) where
   -- some of them are too large
   pub node_past : (ws now at_node : List RuleWitness) (es : List Pairs) (i : ℕ) (e : Pairs) → i < length es → e ≡ get_or es i e
       → map bare_witness now ≡ map bare_witness (ws ++ map W (take i es)) → map bare_witness (map W es) ≡ map bare_witness at_node
-      → 1000000 < nodes_of (now ++ W e ∷ []) → 1000000 < nodes_of (ws ++ at_node)
+      → 1000000 < touches_and_binds (now ++ W e ∷ []) → 1000000 < touches_and_binds (ws ++ at_node)
   node_past ws now at_node es i e lt is h k many =
       let part = nodes-same (now ++ W e ∷ []) (ws ++ map W (take (i + 1) es)) (node_more ws now (now ++ W e ∷ []) es i e lt is h refl) in
       let whole = nodes-same (ws ++ map W es) (ws ++ at_node) (bare-append_both ws ws (map W es) at_node refl k) in
@@ -168,9 +168,10 @@ module _ (f : FormulaOf) (g : Flow) (rule item s : ℕ) where
       ap (map W) (sym (take-append-drop (i + 1) es)) ∙ map-append W (take (i + 1) es) (drop (i + 1) es) in
       let a = nodes-append ws (map W (take (i + 1) es)) in
       let b = nodes-append ws (map W es) in
-      let c = ap nodes_of parts ∙ nodes-append (map W (take (i + 1) es)) (map W (drop (i + 1) es)) in
-      at_least (nodes_of (now ++ W e ∷ [])) (nodes_of (ws ++ at_node)) (nodes_of ws) (nodes_of (map W (take (i + 1) es))) (nodes_of (map W (drop (i + 1) es)))
-      (part ∙ a) (sym whole ∙ b ∙ ap (λ n. nodes_of ws + n) c) many
+      let c = ap touches_and_binds parts ∙ nodes-append (map W (take (i + 1) es)) (map W (drop (i + 1) es)) in
+      at_least (touches_and_binds (now ++ W e ∷ [])) (touches_and_binds (ws ++ at_node)) (touches_and_binds ws)
+      (touches_and_binds (map W (take (i + 1) es))) (touches_and_binds (map W (drop (i + 1) es)))
+      (part ∙ a) (sym whole ∙ b ∙ ap (λ n. touches_and_binds ws + n) c) many
     where
       at_least : (n m a b c : ℕ) → n ≡ a + b → m ≡ a + (b + c) → 1000000 < n → 1000000 < m
       at_least n m a b c h k l = omega arith
@@ -190,13 +191,13 @@ module _ (at_node : ℕ → List RuleWitness) (nodes : List ℕ) where
   -- those up to a node are too large
   pub nodes_past : (now : List RuleWitness) (k s : ℕ) → k < length nodes → s ≡ get_or nodes k s
       → map bare_witness now ≡ map bare_witness (flat_map at_node (take k nodes))
-      → 1000000 < nodes_of (now ++ at_node s) → 1000000 < nodes_of (flat_map at_node nodes)
+      → 1000000 < touches_and_binds (now ++ at_node s) → 1000000 < touches_and_binds (flat_map at_node nodes)
   nodes_past now k s lt is h many =
       let same = nodes-same (now ++ at_node s) (flat_map at_node (take (k + 1) nodes)) (nodes_more now (now ++ at_node s) k s lt is h refl) in
-      let parts : nodes_of (flat_map at_node nodes)
-      ≡ nodes_of (flat_map at_node (take (k + 1) nodes)) + nodes_of (flat_map at_node (drop (k + 1) nodes)) =
-      ap (λ ns. nodes_of (flat_map at_node ns)) (sym (take-append-drop (k + 1) nodes))
-      ∙ ap nodes_of (flat_map-append at_node (take (k + 1) nodes) (drop (k + 1) nodes))
+      let parts : touches_and_binds (flat_map at_node nodes)
+      ≡ touches_and_binds (flat_map at_node (take (k + 1) nodes)) + touches_and_binds (flat_map at_node (drop (k + 1) nodes)) =
+      ap (λ ns. touches_and_binds (flat_map at_node ns)) (sym (take-append-drop (k + 1) nodes))
+      ∙ ap touches_and_binds (flat_map-append at_node (take (k + 1) nodes) (drop (k + 1) nodes))
       ∙ nodes-append (flat_map at_node (take (k + 1) nodes)) (flat_map at_node (drop (k + 1) nodes)) in
       omega (arith, many, same, parts)
 

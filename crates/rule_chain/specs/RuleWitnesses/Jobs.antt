@@ -12,8 +12,8 @@ use Rattle.wit_forest.specs.WitOrder.Sizes.{forest_size}
 use Rattle.wit_forest.specs.WitTrees.Rules as rules
 
 -- the number of touches and binds of all their forests
-abbrev pub nodes_of : List RuleWitness → ℕ
-nodes_of found = sum (map (λ w. forest_size w.forest) found)
+abbrev pub touches_and_binds : List RuleWitness → ℕ
+touches_and_binds found = sum (map (λ w. forest_size w.forest) found)
 
 -- in every way in which the formula holds, each of these variables has a value
 abbrev pub BindsExports : FormulaOf → List Var → Type 0

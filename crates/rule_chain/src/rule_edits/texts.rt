@@ -20,7 +20,7 @@ use crate::rule_edits::kinds::kinds;
 use c_file::{CFile, Graphs};
 use c_lexer::{Lexed, PieceKind};
 use edit_marks::{Clash, Edit, EditList, edits, first_clash};
-use edit_unparse::{OutFault, output};
+use edit_unparse::{OutFault, edited_text};
 use smpl_patch::{Rule, RuleWitness};
 use std::alloc::Global;
 
@@ -110,7 +110,7 @@ fn written(alloc: Global, lexed: &Lexed, edits: &EditList, next: u64) -> Result<
     ensures fault { IfErr result (λ f. (f ≡ fault.NoMemory)
         ⊎ ((f ≡ fault.TooLong) × (most_bytes < length (text_of (output_of lexed.now edits.now next))))) }
 {
-    match output(alloc, lexed, edits, next) {
+    match edited_text(alloc, lexed, edits, next) {
         Ok(edited) => match next.checked_add(count_new(edited.ids.as_slice(), next) as u64) {
             Some(next) => Ok(NewText {
                 bytes: edited.bytes,
@@ -135,7 +135,7 @@ fn nothing_new(lexed: &Lexed) -> Option<NewText>
 }
 
 /// Returns the text that the edits leave, if one of them isn't empty.
-fn left(
+fn text_after(
     alloc: Global,
     lexed: &Lexed,
     list: EditList,
@@ -168,7 +168,7 @@ fn left(
 /// If the forest of some witness has a tree, the graphs of all items are made, and the cost is linear in the text, apart from
 /// that of the edits. No forest has a tree if no token of the rule is marked and all its variables are inherited or exported:
 /// then nothing is edited, and the cost is linear in the witnesses.
-pub fn edit(
+pub fn text_after_edits(
     alloc: Global,
     rule: &Rule,
     file: &CFile,
@@ -200,5 +200,5 @@ pub fn edit(
         kinds.as_slice(),
         file.lexed(),
     )?;
-    left(alloc, file.lexed(), list, next)
+    text_after(alloc, file.lexed(), list, next)
 }

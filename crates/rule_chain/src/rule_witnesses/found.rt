@@ -1,9 +1,9 @@
 // What is found in one item.
 ghost use Rattle.std.specs.Prelude.{◌≡◌, ◌<◌, ◌≤◌, ◌+◌, ◌∷◌, ◌++◌, [], Err, IfOk};
 ghost use Rattle.wit_forest.specs.WitOrder.Sizes.{forest_size, most_nodes};
-ghost use Rattle.rule_chain.specs.RuleWitnesses.Jobs.{nodes_of};
+ghost use Rattle.rule_chain.specs.RuleWitnesses.Jobs.{touches_and_binds};
 
-use crate::rule_witnesses::fault::JobFault;
+use crate::rule_witnesses::fault::ItemFault;
 use smpl_patch::{RuleWitness, Witness};
 use sqlite_items::Items;
 use std::alloc::Global;
@@ -14,16 +14,16 @@ use wit_forest::{MOST_NODES, within};
 pub struct Found {
     pub witnesses: Items<RuleWitness>,
     left: u32,
-    ghost budget: { left + nodes_of witnesses ≡ most_nodes },
+    ghost budget: { left + touches_and_binds witnesses ≡ most_nodes },
 }
 
-fn left_after(trees: &[Witness], left: u32) -> Result<u32, JobFault>
+fn left_after(trees: &[Witness], left: u32) -> Result<u32, ItemFault>
     ensures left { IfOk result (λ now. now + forest_size trees.now ≡ left) }
-    ensures too_many { result ≡ Err JobFault.TooMany → left < forest_size trees.now }
+    ensures too_many { result ≡ Err ItemFault.TooMany → left < forest_size trees.now }
 {
     match within(trees, left) {
         Some(now) => Ok(now),
-        None => Err(JobFault::TooMany),
+        None => Err(ItemFault::TooMany),
     }
 }
 
@@ -39,9 +39,9 @@ impl Found {
     }
 
     /// Adds one witness.
-    pub fn with(self, witness: RuleWitness) -> Result<Found, JobFault>
+    pub fn with(self, witness: RuleWitness) -> Result<Found, ItemFault>
         ensures added { IfOk result (λ now. now.witnesses ≡ self.witnesses ++ witness ∷ []) }
-        ensures too_many { result ≡ Err JobFault.TooMany → most_nodes < nodes_of (self.witnesses ++ witness ∷ []) }
+        ensures too_many { result ≡ Err ItemFault.TooMany → most_nodes < touches_and_binds (self.witnesses ++ witness ∷ []) }
     {
         let Found {
             mut witnesses,
@@ -55,7 +55,7 @@ impl Found {
     /// Returns the witnesses.
     pub fn into_items(self) -> Items<RuleWitness>
         ensures items { result ≡ self.witnesses }
-        ensures few { nodes_of result ≤ most_nodes }
+        ensures few { touches_and_binds result ≤ most_nodes }
     {
         let Found { witnesses, left: _ } = self;
         witnesses

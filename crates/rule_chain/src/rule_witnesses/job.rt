@@ -15,10 +15,10 @@ ghost use Rattle.wit_forest.specs.WitTrees.Graphs.{forest_of};
 ghost use Rattle.rule_chain.specs.RuleWitnesses.Bare.{bare_witness};
 ghost use Rattle.rule_chain.specs.RuleWitnesses.Choices.{AreNew, Leaves};
 ghost use Rattle.rule_chain.specs.RuleWitnesses.Matched.{AreMatched};
-ghost use Rattle.rule_chain.specs.RuleWitnesses.Jobs.{nodes_of, witness_at, witnesses_at, witnesses_of};
-ghost use Rattle.rule_chain.specs.declared.rule_witnesses.fault.JobFault.TheVariants as fault;
+ghost use Rattle.rule_chain.specs.RuleWitnesses.Jobs.{touches_and_binds, witness_at, witnesses_at, witnesses_of};
+ghost use Rattle.rule_chain.specs.declared.rule_witnesses.fault.ItemFault.TheVariants as fault;
 
-use crate::rule_witnesses::fault::{JobFault, fault_of};
+use crate::rule_witnesses::fault::{ItemFault, fault_of};
 use crate::rule_witnesses::found::Found;
 use crate::rule_witnesses::matched::SatSets;
 use crate::rule_witnesses::query::ItemQuery;
@@ -49,7 +49,7 @@ fn forest_at(
     sets: &StateSets,
     s: u32,
     env: &Env,
-) -> Result<Vec<Witness>, JobFault>
+) -> Result<Vec<Witness>, ItemFault>
     requires node { s < count_of g.now }
     requires stand { EachPattern (SureStand f.now.decls f.now.tokens) (plain f.now) }
     requires sets { AreStateSets g.now f.now sets.now }
@@ -71,12 +71,12 @@ fn with_witness(
     place: &Place<'_, '_, '_>,
     env: &Env,
     so_far: Found,
-) -> Result<Found, JobFault>
+) -> Result<Found, ItemFault>
     requires node { place.now.node < count_of place.now.g.now }
     requires sets { AreStateSets place.now.g.now query.now.f.now place.now.sets.now }
     ensures found { IfOk result (λ now. map bare_witness now.witnesses ≡ map bare_witness
         (so_far.witnesses ++ witness_at query.now.f.now place.now.g.now [] query.now.number place.now.item place.now.node env.now ∷ [])) }
-    ensures too_many { result ≡ Err fault.TooMany → most_nodes < nodes_of
+    ensures too_many { result ≡ Err fault.TooMany → most_nodes < touches_and_binds
         (so_far.witnesses ++ witness_at query.now.f.now place.now.g.now [] query.now.number place.now.item place.now.node env.now ∷ []) }
 {
     let trees = forest_at(alloc, place.g, query.f, place.sets, place.node, env)?;
@@ -99,7 +99,7 @@ fn with_node(
     set: &EnvSet,
     env: &Env,
     so_far: Found,
-) -> Result<Found, JobFault>
+) -> Result<Found, ItemFault>
     requires node { place.now.node < count_of place.now.g.now }
     requires sets { AreStateSets place.now.g.now query.now.f.now place.now.sets.now }
     requires told { (e : Environment) → set_denotes set.now e
@@ -108,7 +108,7 @@ fn with_node(
     requires new { AreNew query.now.exports.now env.now }
     ensures found { IfOk result (λ now. map bare_witness now.witnesses ≡ map bare_witness
         (so_far.witnesses ++ witnesses_at query.now.f.now place.now.g.now query.now.exports.now query.now.number place.now.item place.now.node env.now)) }
-    ensures too_many { result ≡ Err fault.TooMany → most_nodes < nodes_of
+    ensures too_many { result ≡ Err fault.TooMany → most_nodes < touches_and_binds
         (so_far.witnesses ++ witnesses_at query.now.f.now place.now.g.now query.now.exports.now query.now.number place.now.item place.now.node env.now) }
 {
     let envs = choices(alloc, set, query.exports, env)?;
@@ -136,13 +136,13 @@ pub fn item_witnesses(
     matched: &SatSets,
     item: u32,
     env: &Env,
-) -> Result<Items<RuleWitness>, JobFault>
+) -> Result<Items<RuleWitness>, ItemFault>
     requires matched { AreMatched g.now.graph.now query.now.f.now matched.now.sets matched.now.nodes }
     requires new { AreNew query.now.exports.now env.now }
     ensures found { IfOk result (λ found. map bare_witness found ≡ map bare_witness
         (witnesses_of query.now.f.now g.now.graph.now query.now.exports.now query.now.number item env.now)) }
-    ensures few { OnOk result (nodes_of (witnesses_of query.now.f.now g.now.graph.now query.now.exports.now query.now.number item env.now) ≤ most_nodes) }
-    ensures too_many { result ≡ Err fault.TooMany → most_nodes < nodes_of
+    ensures few { OnOk result (touches_and_binds (witnesses_of query.now.f.now g.now.graph.now query.now.exports.now query.now.number item env.now) ≤ most_nodes) }
+    ensures too_many { result ≡ Err fault.TooMany → most_nodes < touches_and_binds
         (witnesses_of query.now.f.now g.now.graph.now query.now.exports.now query.now.number item env.now) }
 {
     let root = query.f.root();

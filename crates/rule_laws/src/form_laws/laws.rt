@@ -1,4 +1,4 @@
-// A law of the preconditions of the chain, for patches with all forms. The function does nothing.
+// A law of what is known of each rule that is run, for patches with all forms. The function does nothing.
 ghost use Rattle.std.specs.Prelude.{◌≡◌, ◌<◌, ◌^◌, ℕ, List, length};
 ghost use Rattle.std.specs.List.{AllZip};
 ghost use Rattle.smpl_patch.specs.declared.rule.Iso.{Iso as Isomorphism};
@@ -9,17 +9,16 @@ ghost use Rattle.ctl_translate.specs.declared.rule.FormulaFault.{FormulaFault as
 ghost use Rattle.ctl_translate.specs.declared.rule.FormulaFault.TheVariants as fault;
 ghost use Rattle.rule_envs.specs.declared.rule_formulas.prepared.PreparedRule.{PreparedRule};
 ghost use Rattle.rule_envs.specs.RuleFormulas.Prepared.{ArePrepared, IsPrepareFault};
-ghost use Rattle.rule_chain.specs.Asked.{MayRun};
+ghost use Rattle.rule_chain.specs.Required.{MayRun};
 
 use crate::iso_formulas::{accepted_patches_stay_accepted, formulas_keep_their_shape};
 use crate::{rules_have_formulas, rules_may_run};
 use sound_laws::patches_are_sound;
 
-/// A patch that is read still satisfies the preconditions of the chain when its patterns have all their forms, under any
-/// isomorphisms.
+/// The rules of a patch that is read may be run also when its patterns have all their forms, under any isomorphisms.
 ///
-/// - `may`: each rule satisfies the preconditions of `apply` of rule_chain, when the rules are run in the form that
-///   `prepare` makes of them.
+/// - `may`: each rule has what `PatchRules` of rule_chain keeps of it, when the rules are run in the form that `prepare`
+///   makes of them.
 /// - `fault`: making the formulas of the rules fails only when out of memory.
 /// - `count`: there are fewer than 2^32 rules.
 ///

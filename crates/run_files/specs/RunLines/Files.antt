@@ -3,9 +3,9 @@ use Rattle.std.specs.Prelude.{ℕ, List, [], ◌++◌, codes}
 use Rattle.std.specs.Fmt.{decimal}
 use Rattle.cpp_lines.specs.declared.reading.Why.{Why}
 use Rattle.cpp_lines.specs.declared.reading.Why.TheVariants.{NoTree, TooDeep, TooManyNodes}
-use Rattle.rule_chain.specs.declared.rule_work.state.SkipNote.{SkipNote}
-use Rattle.rule_chain.specs.declared.rule_work.fault.FileFault.{FileFault}
-use Rattle.rule_chain.specs.declared.rule_work.fault.FileFault.TheVariants.{FileTooLong, Conflict, TooManyWitnesses, TooManyEnvironments, NoMemory}
+use Rattle.rule_chain.specs.declared.rule_run.state.SkipNote.{SkipNote}
+use Rattle.rule_chain.specs.declared.rule_run.fault.FileFault.{FileFault}
+use Rattle.rule_chain.specs.declared.rule_run.fault.FileFault.TheVariants.{FileTooLong, Conflict, TooManyWitnesses, TooManyEnvironments, NoMemory}
 use Rattle.run_files.specs.RunLines.Patches.{line_about}
 
 -- why a file is refused; no file is refused because memory ran out

@@ -1,6 +1,6 @@
 -- Why a whole run has these acts and this status, in terms of the acts, file by file. Stages don't occur here.
 use Rattle.std.specs.Prelude.{ℕ, ◌≡◌, ◌⊎◌, Bool, false, ◌||◌, List, [], ◌∷◌, ◌++◌, Option, Some, None}
-use Rattle.run_acts.specs.Acts.{Act, Load, Print, Report, Told, after}
+use Rattle.run_acts.specs.Acts.{Act, Load, Print, Report, Observed, after}
 use Rattle.run_acts.specs.Lines.{cannot_read}
 use Rattle.run_acts.specs.Loaded.{Found}
 use Rattle.smpl_patch.specs.declared.rule.Iso.{Iso}
@@ -14,19 +14,19 @@ use Rattle.sp_gen.specs.Generated.{generated}
 use Rattle.run_words.specs.declared.order.Mode.{Mode}
 use Rattle.run_words.specs.Orders.{Target, OnFiles, OnText, Apply, Generate, order_of}
 use Rattle.run_files.specs.RunLines.Patches.{usage, patch_fault_line, iso_fault_line, forms_line}
-use Rattle.run_files.specs.Treatment.{Treated, file_limit, TreatsFile, Sums}
+use Rattle.run_files.specs.Treatment.{Treated, file_limit, IsFileTreatmentOf, Sums}
 use Rattle.run_files.specs.RunStages.Stages.{patch_limit, generated_name, end_status}
 
 -- ---- the patch
 
 -- the words ask for this patch, and these are its bytes, or nothing is stored under its name
-pub record PatchFound (words : List (List ℕ)) (old : Told) (name : List ℕ) (under : Option (List ℕ)) (isos : Option (List ℕ))
+pub record PatchFound (words : List (List ℕ)) (old : Observed) (name : List ℕ) (under : Option (List ℕ)) (isos : Option (List ℕ))
     (defined : List (List ℕ)) (target : Target) : Type 0 where
   pub order : order_of words ≡ Some (Apply name isos defined target)
   pub found : Found old.files name under
 
 -- the words ask for this patch, which was read, and these acts load it
-pub record PatchRead (words : List (List ℕ)) (old : Told) (patch : Patch) (isos : Option (List ℕ)) (defined : List (List ℕ)) (target : Target)
+pub record PatchRead (words : List (List ℕ)) (old : Observed) (patch : Patch) (isos : Option (List ℕ)) (defined : List (List ℕ)) (target : Target)
     (acts : List Act) : Type 0 where
   pub name : List ℕ
   pub bytes : List ℕ
@@ -35,7 +35,7 @@ pub record PatchRead (words : List (List ℕ)) (old : Told) (patch : Patch) (iso
   pub acts_are : acts ≡ Load name patch_limit ∷ []
 
 -- the patch was read, and isomorphisms of this name are asked for, under which these bytes are stored, or nothing
-pub record IsosFound (words : List (List ℕ)) (old : Told) (patch : Patch) (name : List ℕ) (under : Option (List ℕ)) (defined : List (List ℕ))
+pub record IsosFound (words : List (List ℕ)) (old : Observed) (patch : Patch) (name : List ℕ) (under : Option (List ℕ)) (defined : List (List ℕ))
     (target : Target) (acts : List Act) : Type 0 where
   pub before : List Act
   pub read : PatchRead words old patch (Some name) defined target before
@@ -43,7 +43,7 @@ pub record IsosFound (words : List (List ℕ)) (old : Told) (patch : Patch) (nam
   pub acts_are : acts ≡ before ++ Load name patch_limit ∷ []
 
 -- the patch that the words ask for, with all its forms, and the acts that load it and its isomorphisms
-pub data PatchReady (words : List (List ℕ)) (old : Told) (whole : Patch) (defined : List (List ℕ)) (target : Target) (acts : List Act) : Type 0 where
+pub data PatchReady (words : List (List ℕ)) (old : Observed) (whole : Patch) (defined : List (List ℕ)) (target : Target) (acts : List Act) : Type 0 where
   plain : PatchRead words old whole None defined target acts → PatchReady words old whole defined target acts
   expanded : (patch : Patch) (name bytes : List ℕ) (isos : List Iso) → IsosFound words old patch name (Some bytes) defined target acts
       → AreIsosOf bytes isos → IsExpanded isos patch whole → PatchReady words old whole defined target acts
@@ -62,18 +62,18 @@ files_status (AllDone refused) = end_status refused
 files_status (Missing name) = 5
 
 -- The files in turn: each is loaded, as observed at that time, and leads to its acts.
-abbrev pub FilesDo : Told → Patch → List (List ℕ) → Mode → List (List ℕ) → Bool → List Act → FilesEnd → Type 0
+abbrev pub FilesDo : Observed → Patch → List (List ℕ) → Mode → List (List ℕ) → Bool → List Act → FilesEnd → Type 0
 FilesDo old patch defined mode [] refused acts end = (acts ≡ []) × (end ≡ AllDone refused)
 FilesDo old patch defined mode (name ∷ names) refused acts end =
     (Found old.files name None × ((acts ≡ Load name file_limit ∷ Report (cannot_read name) ∷ []) × (end ≡ Missing name)))
     ⊎ ((bytes : List ℕ) × (Found old.files name (Some bytes) × ((treated : Treated)
-    × (TreatsFile old.files mode patch defined name bytes treated × ((rest : List Act)
+    × (IsFileTreatmentOf old.files mode patch defined name bytes treated × ((rest : List Act)
     × ((acts ≡ Load name file_limit ∷ treated.acts ++ rest)
     × FilesDo (after treated.acts old) patch defined mode names (refused || treated.refused) rest end))))))
 
 -- ---- whole runs
 
-pub data Reason (words : List (List ℕ)) (old : Told) (acts : List Act) (status : ℕ) : Type 0 where
+pub data Reason (words : List (List ℕ)) (old : Observed) (acts : List Act) (status : ℕ) : Type 0 where
   -- 1: the words are no command
   unasked : order_of words ≡ None → acts ≡ Report usage ∷ [] → status ≡ 1 → Reason words old acts status
   -- 0: a text is generated

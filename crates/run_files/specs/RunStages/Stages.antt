@@ -15,7 +15,7 @@ use Rattle.sp_gen.specs.Generated.{generated}
 use Rattle.run_words.specs.declared.order.Mode.{Mode}
 use Rattle.run_words.specs.Orders.{Target, OnFiles, OnText, Order, Apply, Generate}
 use Rattle.run_files.specs.RunLines.Patches.{usage, patch_fault_line, iso_fault_line, forms_line}
-use Rattle.run_files.specs.Treatment.{Treated, file_limit, TreatsFile, Sums}
+use Rattle.run_files.specs.Treatment.{Treated, file_limit, IsFileTreatmentOf, Sums}
 
 -- the maximum number of bytes of a patch, and of isomorphisms
 abbrev pub patch_limit : ℕ
@@ -99,7 +99,7 @@ IsosFileLeads (Some bytes) patch name defined target to =
 abbrev pub FileLeads : Option Files → Option (List ℕ) → Patch → List (List ℕ) → Mode → List ℕ → List (List ℕ) → Bool → Stage → Type 0
 FileLeads holds None patch defined mode name names refused to = to ≡ refusing (cannot_read name) 5
 FileLeads holds (Some bytes) patch defined mode name names refused to =
-    (treated : Treated) × (TreatsFile holds mode patch defined name bytes treated
+    (treated : Treated) × (IsFileTreatmentOf holds mode patch defined name bytes treated
     × (to ≡ going treated.acts patch defined mode names (refused || treated.refused)))
 
 -- ---- acts

@@ -7,16 +7,16 @@ use Rattle.outer_io.specs.Files.{Files}
 use Rattle.smpl_patch.specs.declared.rule.Rule.{Rule}
 use Rattle.smpl_patch.specs.declared.rule.Patch.{Patch}
 use Rattle.rule_chain.specs.Chain.{Chain, Outcome}
-use Rattle.run_acts.specs.Acts.{Act, Load, Report, Told, done, after}
+use Rattle.run_acts.specs.Acts.{Act, Load, Report, Observed, after_act, after}
 use Rattle.run_acts.specs.Lines.{cannot_read}
 use Rattle.run_acts.specs.Loaded.{Found}
 use Rattle.run_files.specs.RunLines.Files.{too_long_line}
 use Rattle.run_words.specs.declared.order.Mode.{Mode}
-use Rattle.run_files.specs.Treatment.{Treated, file_limit, Treats, TreatsFile, treated_by, refuses}
+use Rattle.run_files.specs.Treatment.{Treated, file_limit, IsTreatmentOf, IsFileTreatmentOf, treated_by, refuses}
 use Rattle.run_files.specs.RunStages.Reasons.{FilesEnd, AllDone, Missing, FilesDo}
 use Rattle.text_laws.specs.ChainTotal.Weakly.{Weakly}
 use Rattle.spatch_run.specs.RunEnds.Fates.{AllThere, NoneRefused, SomeRefused}
-use Rattle.spatch_run.proofs.RunLaws.Unique.{not-untold, done-told}
+use Rattle.spatch_run.proofs.RunLaws.Unique.{not-untold, after_act-observed}
 
 -- the rules have an outcome over each text
 abbrev pub HaveEnds : List Rule → List (List ℕ) → Type 0
@@ -30,10 +30,10 @@ pub found_some : (holds : Option Files) (name : List ℕ) → (under : Option (L
 found_some None name = (Some [], refl)
 found_some (Some files) name = (get files name, refl)
 
--- a shelf that reports its files does so after acts too
-told_after : (acts : List Act) (old : Told) → IsSome old.files → IsSome (after acts old).files
+-- a shelf that reveals its files does so after acts too
+told_after : (acts : List Act) (old : Observed) → IsSome old.files → IsSome (after acts old).files
 told_after [] old some = some
-told_after (act ∷ acts) old some = told_after acts (done act old) (done-told act old some)
+told_after (act ∷ acts) old some = told_after acts (after_act act old) (after_act-observed act old some)
 
 or_true : (b : Bool) → (b || true) ≡ true
 or_true true = refl
@@ -44,25 +44,25 @@ or_false true = refl
 or_false false = refl
 
 module _ (patch : Patch) (defined : List (List ℕ)) (mode : Mode) where
-  abbrev pub Does : Told → List (List ℕ) → Bool → List Act → FilesEnd → Type 0
+  abbrev pub Does : Observed → List (List ℕ) → Bool → List Act → FilesEnd → Type 0
   Does old names refused acts end = FilesDo old patch defined mode names refused acts end
 
-  -- if the shelf reports its files, none is a pipe, a device or a socket
-  treats_told : (holds : Option Files) (name bytes : List ℕ) (treated : Treated) → IsSome holds → TreatsFile holds mode patch defined name bytes treated
-      → Treats mode patch defined name bytes treated
+  -- if the shelf reveals its files, none is a pipe, a device or a socket
+  treats_told : (holds : Option Files) (name bytes : List ℕ) (treated : Treated) → IsSome holds → IsFileTreatmentOf holds mode patch defined name bytes treated
+      → IsTreatmentOf mode patch defined name bytes treated
   treats_told holds name bytes treated some (inl treats) = treats
   treats_told holds name bytes treated some (inr special) = absurd (not-untold holds some special.0)
 
   -- ---- files have acts
 
   module _ (ends : HaveEnds patch.rules defined) where
-    treats_some : (name bytes : List ℕ) → Weakly ((treated : Treated) × Treats mode patch defined name bytes treated)
+    treats_some : (name bytes : List ℕ) → Weakly ((treated : Treated) × IsTreatmentOf mode patch defined name bytes treated)
     treats_some name bytes = λ absent. elim (order (length bytes) file_limit) [
       | inr long ↦ absent (refuses (too_long_line name), inl (long, refl))
       | inl short ↦ ends bytes (λ e. absent (treated_by mode patch name bytes e.0, inr (short, (e.0, (e.1, refl)))))
     ]
 
-    pub files_do : (old : Told) (names : List (List ℕ)) (refused : Bool) → Weakly ((acts : List Act) × ((end : FilesEnd) × Does old names refused acts end))
+    pub files_do : (old : Observed) (names : List (List ℕ)) (refused : Bool) → Weakly ((acts : List Act) × ((end : FilesEnd) × Does old names refused acts end))
     files_do old [] refused = λ absent. absent ([], (AllDone refused, (refl, refl)))
     files_do old (name ∷ names) refused = λ absent.
         let found = found_some old.files name in
@@ -80,37 +80,37 @@ module _ (patch : Patch) (defined : List (List ℕ)) (mode : Mode) where
   -- ---- how they end
 
   -- if each is present and an earlier one was refused
-  stays : (old : Told) (names : List (List ℕ)) (acts : List Act) (end : FilesEnd) → IsSome old.files → Does old names true acts end
+  stays : (old : Observed) (names : List (List ℕ)) (acts : List Act) (end : FilesEnd) → IsSome old.files → Does old names true acts end
       → AllThere patch defined mode old names → end ≡ AllDone true
-  stays old [] acts end told does there = does.1
-  stays old (name ∷ names) acts end told (inl none) there = absurd (there.0 none.0)
-  stays old (name ∷ names) acts end told (inr some) there =
-      let treats = treats_told old.files name some.0 some.1.1.0 told some.1.1.1.0 in
-      stays (after some.1.1.0.acts old) names some.1.1.1.1.0 end (told_after some.1.1.0.acts old told) some.1.1.1.1.1.1
+  stays old [] acts end observed does there = does.1
+  stays old (name ∷ names) acts end observed (inl none) there = absurd (there.0 none.0)
+  stays old (name ∷ names) acts end observed (inr some) there =
+      let treats = treats_told old.files name some.0 some.1.1.0 observed some.1.1.1.0 in
+      stays (after some.1.1.0.acts old) names some.1.1.1.1.0 end (told_after some.1.1.0.acts old observed) some.1.1.1.1.1.1
       (there.1 some.0 some.1.1.0 some.1.0 treats)
 
   -- if each is present and none is refused
-  pub fine : (old : Told) (names : List (List ℕ)) (refused : Bool) (acts : List Act) (end : FilesEnd) → IsSome old.files → Does old names refused acts end
+  pub fine : (old : Observed) (names : List (List ℕ)) (refused : Bool) (acts : List Act) (end : FilesEnd) → IsSome old.files → Does old names refused acts end
       → AllThere patch defined mode old names → NoneRefused patch defined mode old names → end ≡ AllDone refused
-  fine old [] refused acts end told does there none = does.1
-  fine old (name ∷ names) refused acts end told (inl gone) there none = absurd (there.0 gone.0)
-  fine old (name ∷ names) refused acts end told (inr some) there none =
+  fine old [] refused acts end observed does there none = does.1
+  fine old (name ∷ names) refused acts end observed (inl gone) there none = absurd (there.0 gone.0)
+  fine old (name ∷ names) refused acts end observed (inr some) there none =
       let treated = some.1.1.0 in
-      let treats = treats_told old.files name some.0 treated told some.1.1.1.0 in
+      let treats = treats_told old.files name some.0 treated observed some.1.1.1.0 in
       let here = none some.0 treated some.1.0 treats in
-      let rest = fine (after treated.acts old) names (refused || treated.refused) some.1.1.1.1.0 end (told_after treated.acts old told) some.1.1.1.1.1.1
+      let rest = fine (after treated.acts old) names (refused || treated.refused) some.1.1.1.1.0 end (told_after treated.acts old observed) some.1.1.1.1.1.1
       (there.1 some.0 treated some.1.0 treats) here.1 in
       rest ∙ ap (λ (b : Bool). AllDone (refused || b)) here.0 ∙ ap AllDone (or_false refused)
 
   -- if each is present and some is refused, they have acts with this end
   module _ (ends : HaveEnds patch.rules defined) where
-    abbrev Refusing : Told → List (List ℕ) → Bool → Type 0
+    abbrev Refusing : Observed → List (List ℕ) → Bool → Type 0
     Refusing old names refused = (acts : List Act) × ((end : FilesEnd) × (Does old names refused acts end × (end ≡ AllDone true)))
 
     -- after a file that is refused
-    behind : (old : Told) (names : List (List ℕ)) (refused : Bool) → IsSome old.files → refused ≡ true → AllThere patch defined mode old names
+    behind : (old : Observed) (names : List (List ℕ)) (refused : Bool) → IsSome old.files → refused ≡ true → AllThere patch defined mode old names
         → Weakly (Refusing old names refused)
-    behind old names refused told is there = λ absent.
+    behind old names refused observed is there = λ absent.
         files_do ends old names refused (λ rest.
         absent (
           rest.0,
@@ -118,15 +118,15 @@ module _ (patch : Patch) (defined : List (List ℕ)) (mode : Mode) where
             rest.1.0,
             (
               rest.1.1,
-              stays old names rest.0 rest.1.0 told (subst (λ (b : Bool). Does old names b rest.0 rest.1.0) is rest.1.1) there,
+              stays old names rest.0 rest.1.0 observed (subst (λ (b : Bool). Does old names b rest.0 rest.1.0) is rest.1.1) there,
             ),
           ),
         ))
 
-    pub refused_do : (old : Told) (names : List (List ℕ)) (refused : Bool) → IsSome old.files → AllThere patch defined mode old names
+    pub refused_do : (old : Observed) (names : List (List ℕ)) (refused : Bool) → IsSome old.files → AllThere patch defined mode old names
         → SomeRefused patch defined mode old names → Weakly (Refusing old names refused)
-    refused_do old [] refused told there some = absurd some
-    refused_do old (name ∷ names) refused told there some = λ absent.
+    refused_do old [] refused observed there some = absurd some
+    refused_do old (name ∷ names) refused observed there some = λ absent.
         let treated = some.1.1.0 in
         let later = there.1 some.0 treated some.1.0 some.1.1.1.0 in
         let on : Refusing (after treated.acts old) names (refused || treated.refused) → ⊥ = λ rest.
@@ -135,7 +135,7 @@ module _ (patch : Patch) (defined : List (List ℕ)) (mode : Mode) where
           (rest.1.0, (inr (some.0, (some.1.0, (treated, (inl some.1.1.1.0, (rest.0, (refl, rest.1.1.0)))))), rest.1.1.1)),
         ) in
         elim some.1.1.1.1 [
-          | inl here ↦ behind (after treated.acts old) names (refused || treated.refused) (told_after treated.acts old told)
+          | inl here ↦ behind (after treated.acts old) names (refused || treated.refused) (told_after treated.acts old observed)
               (ap (λ (b : Bool). refused || b) here ∙ or_true refused) later on
-          | inr more ↦ refused_do (after treated.acts old) names (refused || treated.refused) (told_after treated.acts old told) later more on
+          | inr more ↦ refused_do (after treated.acts old) names (refused || treated.refused) (told_after treated.acts old observed) later more on
         ]

@@ -9,7 +9,7 @@ use Rattle.iso_file.specs.Isos.{AreIsosOf, IsFileFault}
 use Rattle.iso_expand.specs.Patches.{IsExpanded, IsFirstMany}
 use Rattle.sp_gen.specs.Generated.{generated}
 use Rattle.rule_chain.specs.Chain.{Chain, Outcome}
-use Rattle.run_acts.specs.Acts.{Act, Load, Print, Report, Told}
+use Rattle.run_acts.specs.Acts.{Act, Load, Print, Report, Observed}
 use Rattle.run_acts.specs.Lines.{cannot_read}
 use Rattle.run_acts.specs.Loaded.{Found}
 use Rattle.run_files.specs.RunLines.Patches.{usage, patch_fault_line, iso_fault_line, forms_line}
@@ -40,14 +40,14 @@ ExpandedLaw = (bytes : List ℕ) (isos : List Iso) (patch whole : Patch) (define
     → IsExpanded isos patch whole → Weakly ((end : Outcome) × Chain whole.rules defined text end)
 
 -- the rules of a patch that is ready have an outcome over each text
-pub ready_ends : ReadLaw → ExpandedLaw → (words : List (List ℕ)) (old : Told) (patch : Patch) (defined : List (List ℕ)) (target : Target) (acts : List Act)
+pub ready_ends : ReadLaw → ExpandedLaw → (words : List (List ℕ)) (old : Observed) (patch : Patch) (defined : List (List ℕ)) (target : Target) (acts : List Act)
     → PatchReady words old patch defined target acts → HaveEnds patch.rules defined
 ready_ends read forms words old patch defined target acts (plain r) = λ text. read r.bytes patch defined text r.is.spelled
 ready_ends read forms words old patch defined target acts (expanded first name bytes isos found are is) =
     λ text. forms found.read.bytes isos first patch defined text found.read.is.spelled is
 
 module _ (patch_law : PatchLaw) (isos_law : IsosLaw) (forms_law : FormsLaw) (read_law : ReadLaw) (expanded_law : ExpandedLaw) (words : List (List ℕ))
-    (old : Told) (absent : ((acts : List Act) × ((status : ℕ) × Reason words old acts status)) → ⊥) where
+    (old : Observed) (absent : ((acts : List Act) × ((status : ℕ) × Reason words old acts status)) → ⊥) where
   -- the patch has all its forms
   target_by : (patch : Patch) (defined : List (List ℕ)) (target : Target) (before : List Act) → PatchReady words old patch defined target before → ⊥
   target_by patch defined (OnFiles mode names) before ready =

@@ -2,7 +2,7 @@
 use Rattle.std.proofs.Common.{◌≡◌, ◌<◌, ◌⊎◌, ℕ, true, false, List, ◌++◌, inl, inr, refl, sym, ap, arith}
 use Rattle.std.specs.Prelude.{IsSome}
 use Rattle.smpl_patch.specs.declared.rule.Patch.{Patch}
-use Rattle.run_acts.specs.Acts.{Act, Told}
+use Rattle.run_acts.specs.Acts.{Act, Observed}
 use Rattle.run_acts.specs.Breaks.{Counts, NoneRose}
 use Rattle.run_words.specs.declared.order.Mode.{Mode}
 use Rattle.run_words.specs.Orders.{OnFiles}
@@ -33,7 +33,7 @@ one_of n a b h = elim (same_or_not n a) [
   ]
 ]
 
-module _ (read_law : ReadLaw) (expanded_law : ExpandedLaw) (words : List (List ℕ)) (before now : Counts) (old new : Told) (status : ℕ) (patch : Patch)
+module _ (read_law : ReadLaw) (expanded_law : ExpandedLaw) (words : List (List ℕ)) (before now : Counts) (old new : Observed) (status : ℕ) (patch : Patch)
     (defined : List (List ℕ)) (mode : Mode) (names : List (List ℕ)) (acts : List Act) (some : IsSome old.files) (calm : NoneRose before now)
     (causes : Causes words before now old new status) (ready : PatchReady words old patch defined (OnFiles mode names) acts)
     (there : AllThere patch defined mode old names) where

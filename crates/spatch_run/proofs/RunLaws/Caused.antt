@@ -2,7 +2,7 @@
 use Rattle.std.proofs.Common.{◌≡◌, ◌⊎◌, ◌<◌, ◌≤◌, ℕ, Bool, true, false, List, refl, sym, inl, inr, subst, arith}
 use Rattle.std.specs.Prelude.{IsSome}
 use Rattle.outer_io.specs.Faults.{Rose}
-use Rattle.run_acts.specs.Acts.{Act, Load, Store, Print, Report, Told, done}
+use Rattle.run_acts.specs.Acts.{Act, Load, Store, Print, Report, Observed, after_act}
 use Rattle.run_acts.specs.Breaks.{Counts, NoneRose, Fails, Breaks}
 use Rattle.run_acts.specs.Lines.{cannot_read}
 use Rattle.run_acts.proofs.BreaksLemmas.{not_failed}
@@ -16,14 +16,14 @@ use Rattle.run_files.specs.RunStages.Causes.{DoneFor, Causes}
 -- the laws of the acts
 abbrev pub ActsOne : Type 0
 ActsOne =
-    (words : List (List ℕ)) (old other : Told) (acts others : List Act) (status status' : ℕ) → IsSome old.files → other.files ≡ old.files
+    (words : List (List ℕ)) (old other : Observed) (acts others : List Act) (status status' : ℕ) → IsSome old.files → other.files ≡ old.files
     → AreActs words old acts status → AreActs words other others status' → (acts ≡ others) × (status ≡ status')
 
 abbrev pub ActsWhy : Type 0
-ActsWhy = (words : List (List ℕ)) (old : Told) (acts : List Act) (status : ℕ) → AreActs words old acts status → Reason words old acts status
+ActsWhy = (words : List (List ℕ)) (old : Observed) (acts : List Act) (status : ℕ) → AreActs words old acts status → Reason words old acts status
 
 abbrev pub WaysAre : Type 0
-WaysAre = (words : List (List ℕ)) (old : Told) (acts : List Act) (status : ℕ) → Reason words old acts status → AreActs words old acts status
+WaysAre = (words : List (List ℕ)) (old : Observed) (acts : List Act) (status : ℕ) → Reason words old acts status → AreActs words old acts status
 
 end_few : (refused : Bool) → end_status refused < 6
 end_few true = omega arith
@@ -37,7 +37,7 @@ few : (status s : ℕ) → s < 6 → status ≡ s → status < 6
 few status s less is = omega (arith, less, is)
 
 -- a whole run ends with a status below 6
-reason_few : (words : List (List ℕ)) (old : Told) (acts : List Act) (status : ℕ) → Reason words old acts status → status < 6
+reason_few : (words : List (List ℕ)) (old : Observed) (acts : List Act) (status : ℕ) → Reason words old acts status → status < 6
 reason_few words old acts status (unasked a b s) = few status 1 (omega arith) s
 reason_few words old acts status (is_generated seed functions a b s) = few status 0 (omega arith) s
 reason_few words old acts status (no_patch name isos defined target a b s) = few status 5 (omega arith) s
@@ -50,16 +50,16 @@ reason_few words old acts status (summed patch defined seed functions treated be
 reason_few words old acts status (filed patch defined mode names before rest end a b c s) = few status (files_status end) (files_few end) s
 
 -- how a run ends
-data Outcome (words : List (List ℕ)) (before now : Counts) (old new : Told) (status : ℕ) : Type 0 where
+data Outcome (words : List (List ℕ)) (before now : Counts) (old new : Observed) (status : ℕ) : Type 0 where
   whole : DoneFor words old new status → status < 6 → Outcome words before now old new status
-  unread : (mid : Told) (name : List ℕ) (limit : ℕ) → status ≡ 5 → ComesTo words old mid (Load name limit) → Rose before.shelf now.shelf
-      → new ≡ done (Report (cannot_read name)) mid → Outcome words before now old new status
-  failed : (mid : Told) (act : Act) → status ≡ 6 → ComesTo words old mid act → Fails before now act mid new 6 → Outcome words before now old new status
+  unread : (mid : Observed) (name : List ℕ) (limit : ℕ) → status ≡ 5 → ComesTo words old mid (Load name limit) → Rose before.shelf now.shelf
+      → new ≡ after_act (Report (cannot_read name)) mid → Outcome words before now old new status
+  failed : (mid : Observed) (act : Act) → status ≡ 6 → ComesTo words old mid act → Fails before now act mid new 6 → Outcome words before now old new status
   unfed : (act : Act) → status ≡ 7 → ComesTo words old new act → Outcome words before now old new status
 
-broken : (words : List (List ℕ)) (before now : Counts) (old mid new : Told) (act : Act) (status : ℕ) → ComesTo words old mid act
+broken : (words : List (List ℕ)) (before now : Counts) (old mid new : Observed) (act : Act) (status : ℕ) → ComesTo words old mid act
     → Breaks before now act mid new status → Outcome words before now old new status
-broken words before now old mid new act status comes (inl none) = unfed act none.0 (subst (λ (t : Told). ComesTo words old t act) (sym none.1) comes)
+broken words before now old mid new act status comes (inl none) = unfed act none.0 (subst (λ (t : Observed). ComesTo words old t act) (sym none.1) comes)
 broken words before now old mid new (Load name limit) status comes (inr fails) = elim fails.1 [
   | inl five ↦ unread mid name limit five.0 comes fails.0 five.1
   | inr six ↦ failed mid (Load name limit) six.0 comes (fails.0, inr (refl, six.1, six.2))
@@ -69,14 +69,14 @@ broken words before now old mid new (Print bytes) status comes (inr fails) = fai
 broken words before now old mid new (Report line) status comes (inr fails) = failed mid (Report line) fails.0 comes (refl, fails.1, fails.2)
 
 module _ (one : ActsOne) (why : ActsWhy) (ways : WaysAre) where
-  outcome : (words : List (List ℕ)) (before now : Counts) (old new : Told) (status : ℕ) → EndsRightly words before now old new status
+  outcome : (words : List (List ℕ)) (before now : Counts) (old new : Observed) (status : ℕ) → EndsRightly words before now old new status
       → Outcome words before now old new status
   outcome words before now old new status (inl all) =
       let reason = why words old all.acts status all.are in
-      whole (record { acts = all.acts; reason = reason; told = all.told }) (reason_few words old all.acts status reason)
+      whole (record { acts = all.acts; reason = reason; observed = all.observed }) (reason_few words old all.acts status reason)
   outcome words before now old new status (inr cut) = broken words before now old cut.0 new cut.1.0 status cut.1.1.0 cut.1.1.1
 
-  module _ (words : List (List ℕ)) (before now : Counts) (old new : Told) (status : ℕ) where
+  module _ (words : List (List ℕ)) (before now : Counts) (old new : Observed) (status : ℕ) where
     whole_of : Outcome words before now old new status → status < 5 → DoneFor words old new status
     whole_of (whole did few) lt = did
     whole_of (unread mid name limit s c r t) lt = absurd (omega (arith, s, lt))
@@ -84,15 +84,15 @@ module _ (one : ActsOne) (why : ActsWhy) (ways : WaysAre) where
     whole_of (unfed act s c) lt = absurd (omega (arith, s, lt))
 
     unread_of : Outcome words before now old new status → status ≡ 5 → DoneFor words old new 5
-        ⊎ ((mid : Told) × ((name : List ℕ) × ((limit : ℕ) × (ComesTo words old mid (Load name limit)
-        × (Rose before.shelf now.shelf × (new ≡ done (Report (cannot_read name)) mid))))))
+        ⊎ ((mid : Observed) × ((name : List ℕ) × ((limit : ℕ) × (ComesTo words old mid (Load name limit)
+        × (Rose before.shelf now.shelf × (new ≡ after_act (Report (cannot_read name)) mid))))))
     unread_of (whole did few) is = inl (subst (λ (n : ℕ). DoneFor words old new n) is did)
     unread_of (unread mid name limit s c r t) is = inr (mid, (name, (limit, (c, (r, t)))))
     unread_of (failed mid act s c f) is = absurd (omega (arith, s, is))
     unread_of (unfed act s c) is = absurd (omega (arith, s, is))
 
     failed_of : Outcome words before now old new status → status ≡ 6
-        → (mid : Told) × ((act : Act) × (ComesTo words old mid act × Fails before now act mid new 6))
+        → (mid : Observed) × ((act : Act) × (ComesTo words old mid act × Fails before now act mid new 6))
     failed_of (whole did few) is = absurd (omega (arith, few, is))
     failed_of (unread mid name limit s c r t) is = absurd (omega (arith, s, is))
     failed_of (failed mid act s c f) is = (mid, (act, (c, f)))
@@ -119,7 +119,7 @@ module _ (one : ActsOne) (why : ActsWhy) (ways : WaysAre) where
       | inr fails ↦ absurd (not_failed before now calm cut.1.0 cut.0 new status fails)
     ]
 
-  pub caused : (words : List (List ℕ)) (before now : Counts) (old new : Told) (status : ℕ) → EndsRightly words before now old new status
+  pub caused : (words : List (List ℕ)) (before now : Counts) (old new : Observed) (status : ℕ) → EndsRightly words before now old new status
       → Causes words before now old new status
   caused words before now old new status ends =
       let o = outcome words before now old new status ends in

@@ -1,9 +1,9 @@
--- If the shelf reports its files, a stage leads to only one stage, and words have only one list of acts.
+-- If the shelf reveals its files, a stage leads to only one stage, and words have only one list of acts.
 use Rattle.std.proofs.Common.{◌≡◌, false, true, Bool, ◌||◌, ◌<◌, ◌≤◌, ℕ, List, [], ◌∷◌, ◌++◌, length, Option, Some, None, refl}
 use Rattle.std.proofs.Common.{sym, ap, ◌∙◌, subst, inl, inr, arith}
 use Rattle.std.specs.Prelude.{IsSome}
 use Rattle.outer_io.specs.Files.{Files, stored}
-use Rattle.run_acts.specs.Acts.{Act, Load, Store, Print, Report, Told, done}
+use Rattle.run_acts.specs.Acts.{Act, Load, Store, Print, Report, Observed, after_act}
 use Rattle.run_acts.specs.Loaded.{Found}
 use Rattle.smpl_patch.specs.declared.rule.Iso.{Iso}
 use Rattle.smpl_patch.specs.declared.rule.Rule.{Rule}
@@ -18,7 +18,7 @@ use Rattle.sp_gen.specs.Generated.{generated}
 use Rattle.run_words.specs.declared.order.Mode.{Mode}
 use Rattle.run_words.specs.Orders.{Target, OnFiles, OnText, order_of}
 use Rattle.run_files.specs.RunLines.Patches.{patch_fault_line, iso_fault_line, forms_line}
-use Rattle.run_files.specs.Treatment.{Treated, file_limit, Treats, TreatsFile, Sums, treated_by, summed_by}
+use Rattle.run_files.specs.Treatment.{Treated, file_limit, IsTreatmentOf, IsFileTreatmentOf, Sums, treated_by, summed_by}
 use Rattle.run_files.specs.RunStages.Stages.{Stage, Doing, Ending, ReadPatch, ReadIsos, EditFiles, generated_name, refusing}
 use Rattle.run_files.specs.RunStages.Stages.{going, end_status, begun, TargetLeads, ReadLeads, PatchLeads, IsosLead}
 use Rattle.run_files.specs.RunStages.Stages.{IsosFileLeads, FileLeads, next_act, status_at, Leads}
@@ -51,25 +51,26 @@ Found-one (Some files) name a b some one two = one ∙ sym two
 not-both : (n : ℕ) → file_limit < n → n ≤ file_limit → ⊥
 not-both n long short = omega (arith, long, short)
 
--- a shelf that reports its files doesn't report none
+-- a shelf that reveals its files doesn't reveal none
 pub not-untold : (holds : Option Files) → IsSome holds → holds ≡ None → ⊥
 not-untold None some none = let e : false ≡ true = some in absurd (cc)
 not-untold (Some files) some none = absurd (cc)
 
 module _ (laws : ReadOnce) where
-  Treats-one : (mode : Mode) (patch : Patch) (defined : List (List ℕ)) (name bytes : List ℕ) (a b : Treated) → Treats mode patch defined name bytes a
-      → Treats mode patch defined name bytes b → a ≡ b
-  Treats-one mode patch defined name bytes a b (inl one) (inl two) = one.1 ∙ sym two.1
-  Treats-one mode patch defined name bytes a b (inl one) (inr two) = absurd (not-both (length bytes) one.0 two.0)
-  Treats-one mode patch defined name bytes a b (inr one) (inl two) = absurd (not-both (length bytes) two.0 one.0)
-  Treats-one mode patch defined name bytes a b (inr one) (inr two) =
+  IsTreatmentOf-one : (mode : Mode) (patch : Patch) (defined : List (List ℕ)) (name bytes : List ℕ) (a b : Treated)
+      → IsTreatmentOf mode patch defined name bytes a
+      → IsTreatmentOf mode patch defined name bytes b → a ≡ b
+  IsTreatmentOf-one mode patch defined name bytes a b (inl one) (inl two) = one.1 ∙ sym two.1
+  IsTreatmentOf-one mode patch defined name bytes a b (inl one) (inr two) = absurd (not-both (length bytes) one.0 two.0)
+  IsTreatmentOf-one mode patch defined name bytes a b (inr one) (inl two) = absurd (not-both (length bytes) two.0 one.0)
+  IsTreatmentOf-one mode patch defined name bytes a b (inr one) (inr two) =
       one.1.1.1 ∙ ap (treated_by mode patch name bytes) (laws.chain patch.rules defined bytes one.1.0 two.1.0 one.1.1.0 two.1.1.0) ∙ sym two.1.1.1
 
-  TreatsFile-one : (holds : Option Files) → IsSome holds → (mode : Mode) (patch : Patch) (defined : List (List ℕ)) (name bytes : List ℕ) (a b : Treated)
-      → TreatsFile holds mode patch defined name bytes a → TreatsFile holds mode patch defined name bytes b → a ≡ b
-  TreatsFile-one holds some mode patch defined name bytes a b (inl one) (inl two) = Treats-one mode patch defined name bytes a b one two
-  TreatsFile-one holds some mode patch defined name bytes a b (inl one) (inr two) = absurd (not-untold holds some two.0)
-  TreatsFile-one holds some mode patch defined name bytes a b (inr one) two = absurd (not-untold holds some one.0)
+  IsFileTreatmentOf-one : (holds : Option Files) → IsSome holds → (mode : Mode) (patch : Patch) (defined : List (List ℕ)) (name bytes : List ℕ) (a b : Treated)
+      → IsFileTreatmentOf holds mode patch defined name bytes a → IsFileTreatmentOf holds mode patch defined name bytes b → a ≡ b
+  IsFileTreatmentOf-one holds some mode patch defined name bytes a b (inl one) (inl two) = IsTreatmentOf-one mode patch defined name bytes a b one two
+  IsFileTreatmentOf-one holds some mode patch defined name bytes a b (inl one) (inr two) = absurd (not-untold holds some two.0)
+  IsFileTreatmentOf-one holds some mode patch defined name bytes a b (inr one) two = absurd (not-untold holds some one.0)
 
   Sums-one : (patch : Patch) (defined : List (List ℕ)) (name bytes : List ℕ) (a b : Treated) → Sums patch defined name bytes a
       → Sums patch defined name bytes b → a ≡ b
@@ -126,7 +127,7 @@ module _ (laws : ReadOnce) where
   FileLeads-one holds some None patch defined mode name names refused a b one two = one ∙ sym two
   FileLeads-one holds some (Some bytes) patch defined mode name names refused a b one two =
       one.1.1 ∙ ap (λ (t : Treated). going t.acts patch defined mode names (refused || t.refused))
-      (TreatsFile-one holds some mode patch defined name bytes one.0 two.0 one.1.0 two.1.0) ∙ sym two.1.1
+      (IsFileTreatmentOf-one holds some mode patch defined name bytes one.0 two.0 one.1.0 two.1.0) ∙ sym two.1.1
 
   Leads-one : (holds : Option Files) → IsSome holds → (from a b : Stage) → Leads holds from a → Leads holds from b → a ≡ b
   Leads-one holds some (Doing (act ∷ acts) work) a b one two = one ∙ sym two
@@ -149,36 +150,37 @@ over_or_next (Doing acts work) status act over next = none_some status over
 over_or_next (Ending (a ∷ acts) s) status act over next = none_some status over
 over_or_next (Ending [] s) status act over next = none_some act next
 
-pub stored-told : (holds : Option Files) (name bytes : List ℕ) → IsSome holds → IsSome (stored holds name bytes)
-stored-told None name bytes some = some
-stored-told (Some files) name bytes some = refl
+pub stored-observed : (holds : Option Files) (name bytes : List ℕ) → IsSome holds → IsSome (stored holds name bytes)
+stored-observed None name bytes some = some
+stored-observed (Some files) name bytes some = refl
 
--- a shelf that reports its files reports them after each act
-pub done-told : (act : Act) (old : Told) → IsSome old.files → IsSome (done act old).files
-done-told (Load name limit) old some = some
-done-told (Store name bytes) old some = stored-told old.files name bytes some
-done-told (Print bytes) old some = some
-done-told (Report line) old some = some
+-- a shelf that reveals its files reveals them after each act
+pub after_act-observed : (act : Act) (old : Observed) → IsSome old.files → IsSome (after_act act old).files
+after_act-observed (Load name limit) old some = some
+after_act-observed (Store name bytes) old some = stored-observed old.files name bytes some
+after_act-observed (Print bytes) old some = some
+after_act-observed (Report line) old some = some
 
 -- the files after an act depend only on the act and the files before it
-done-files : (act : Act) (old other : Told) → other.files ≡ old.files → (done act other).files ≡ (done act old).files
-done-files (Load name limit) old other same = same
-done-files (Store name bytes) old other same = ap (λ (f : Option Files). stored f name bytes) same
-done-files (Print bytes) old other same = same
-done-files (Report line) old other same = same
+after_act-files : (act : Act) (old other : Observed) → other.files ≡ old.files → (after_act act other).files ≡ (after_act act old).files
+after_act-files (Load name limit) old other same = same
+after_act-files (Store name bytes) old other same = ap (λ (f : Option Files). stored f name bytes) same
+after_act-files (Print bytes) old other same = same
+after_act-files (Report line) old other same = same
 
 prepended : (a b : Act) (acts part rest : List Act) → a ≡ b → acts ≡ part ++ rest → b ∷ acts ≡ a ∷ part ++ rest
 prepended a b acts part rest e f = cc
 
 -- another path from the next stage, restated for an equal stage
-moved : (act b : Act) (mid to last : Stage) (other : Told) (acts : List Act) → act ≡ b → mid ≡ to → Path (done b other) to acts last
-    → Path (done act other) mid acts last
+moved : (act b : Act) (mid to last : Stage) (other : Observed) (acts : List Act) → act ≡ b → mid ≡ to → Path (after_act b other) to acts last
+    → Path (after_act act other) mid acts last
 moved act b mid to last other acts e f path =
-    subst (λ (s : Stage). Path (done act other) s acts last) (sym f) (subst (λ (x : Act). Path (done x other) to acts last) (sym e) path)
+    subst (λ (s : Stage). Path (after_act act other) s acts last) (sym f) (subst (λ (x : Act). Path (after_act x other) to acts last) (sym e) path)
 
 module _ (laws : ReadOnce) where
   -- Two paths from a stage to the end of a run have the same acts and the same status.
-  Path-one : (old other : Told) → IsSome old.files → other.files ≡ old.files → (from : Stage) (acts others : List Act) (last last' : Stage) (status status' : ℕ)
+  Path-one : (old other : Observed) → IsSome old.files → other.files ≡ old.files
+      → (from : Stage) (acts others : List Act) (last last' : Stage) (status status' : ℕ)
       → Path old from acts last → status_at last ≡ Some status → Path other from others last' → status_at last' ≡ Some status'
       → (acts ≡ others) × (status ≡ status')
   Path-one old other some same from [] [] last last' status status' one over two over' =
@@ -191,14 +193,14 @@ module _ (laws : ReadOnce) where
       let act : a ≡ b = same_some a b (sym one.0 ∙ two.0) in
       let leads = subst (λ (f : Option Files). Leads f from two.1.0) same two.1.1.0 in
       let mid : one.1.0 ≡ two.1.0 = Leads-one laws old.files some from one.1.0 two.1.0 one.1.1.0 leads in
-      let rest = Path-one (done a old) (done a other) (done-told a old some)
-      (done-files a old other same) one.1.0 acts others last last' status status' one.1.1.1 over
+      let rest = Path-one (after_act a old) (after_act a other) (after_act-observed a old some)
+      (after_act-files a old other same) one.1.0 acts others last last' status status' one.1.1.1 over
       (moved a b one.1.0 two.1.0 last' other others act mid two.1.1.1) over' in
       let tails : acts ≡ others = rest.0 in
       ((λ i. act i ∷ tails i), rest.1)
 
   -- The acts of a run that has a next act are a prefix of each path to its end.
-  Path-begins : (old other : Told) → IsSome old.files → other.files ≡ old.files
+  Path-begins : (old other : Observed) → IsSome old.files → other.files ≡ old.files
       → (from : Stage) (part acts : List Act) (stage last : Stage) (next : Act) (status : ℕ)
       → Path old from part stage → next_act stage ≡ Some next → Path other from acts last → status_at last ≡ Some status
       → (rest : List Act) × (acts ≡ part ++ next ∷ rest)
@@ -212,16 +214,17 @@ module _ (laws : ReadOnce) where
       let act : a ≡ b = same_some a b (sym one.0 ∙ two.0) in
       let leads = subst (λ (f : Option Files). Leads f from two.1.0) same two.1.1.0 in
       let mid : one.1.0 ≡ two.1.0 = Leads-one laws old.files some from one.1.0 two.1.0 one.1.1.0 leads in
-      let rest = Path-begins (done a old) (done a other) (done-told a old some)
-      (done-files a old other same) one.1.0 part acts stage last next status one.1.1.1 is (moved a b one.1.0 two.1.0 last other acts act mid two.1.1.1) over in
+      let rest = Path-begins (after_act a old) (after_act a other) (after_act-observed a old some)
+      (after_act-files a old other same) one.1.0 part acts stage last next status one.1.1.1 is
+      (moved a b one.1.0 two.1.0 last other acts act mid two.1.1.1) over in
       (rest.0, prepended a b acts part (next ∷ rest.0) act rest.1)
 
-  pub acts_one : (words : List (List ℕ)) (old other : Told) (acts others : List Act) (status status' : ℕ) → IsSome old.files → other.files ≡ old.files
+  pub acts_one : (words : List (List ℕ)) (old other : Observed) (acts others : List Act) (status status' : ℕ) → IsSome old.files → other.files ≡ old.files
       → AreActs words old acts status → AreActs words other others status' → (acts ≡ others) × (status ≡ status')
   acts_one words old other acts others status status' some same one two =
       Path-one old other some same (begun (order_of words)) acts others one.last two.last status status' one.path one.over two.path two.over
 
-  pub first_acts : (words : List (List ℕ)) (old other mid : Told) (next : Act) (acts : List Act) (status : ℕ) → IsSome old.files → other.files ≡ old.files
+  pub first_acts : (words : List (List ℕ)) (old other mid : Observed) (next : Act) (acts : List Act) (status : ℕ) → IsSome old.files → other.files ≡ old.files
       → (comes : ComesTo words old mid next) → AreActs words other acts status → (rest : List Act) × (acts ≡ comes.acts ++ next ∷ rest)
   first_acts words old other mid next acts status some same comes are =
       Path-begins old other some same (begun (order_of words)) comes.acts acts comes.stage are.last next status comes.path comes.is_next are.path are.over

@@ -1,7 +1,7 @@
 -- Each way of a run is a path of stages.
 use Rattle.std.proofs.Common.{◌≡◌, Bool, false, ◌||◌, ℕ, List, [], ◌∷◌, ◌++◌, Option, Some, None, refl, sym, ap, ◌∙◌, inl, inr, subst, append_assoc}
 use Rattle.std.proofs.lemmas.List.{append-nil}
-use Rattle.run_acts.specs.Acts.{Act, Load, Print, Report, Told, done, after}
+use Rattle.run_acts.specs.Acts.{Act, Load, Print, Report, Observed, after_act, after}
 use Rattle.run_acts.specs.Lines.{cannot_read}
 use Rattle.smpl_patch.specs.declared.rule.Patch.{Patch}
 use Rattle.sp_gen.specs.Generated.{generated}
@@ -16,17 +16,17 @@ use Rattle.run_files.specs.RunStages.Reasons.{PatchRead, IsosFound, PatchReady, 
 use Rattle.run_files.specs.RunStages.Reasons.PatchReady.{plain, expanded}
 use Rattle.run_files.specs.RunStages.Reasons.Reason.{unasked, is_generated, no_patch, bad_patch, no_isos, bad_isos, many_forms, summed, filed}
 
-ends_path : (old : Told) (pending : List Act) (s : ℕ) → Path old (Ending pending s) pending (Ending [] s)
+ends_path : (old : Observed) (pending : List Act) (s : ℕ) → Path old (Ending pending s) pending (Ending [] s)
 ends_path old [] s = refl
-ends_path old (p ∷ pending) s = (refl, (Ending pending s, (refl, ends_path (done p old) pending s)))
+ends_path old (p ∷ pending) s = (refl, (Ending pending s, (refl, ends_path (after_act p old) pending s)))
 
-pass : (old : Told) (pending : List Act) (work : Work) (rest : List Act) (last : Stage) → Path (after pending old) (Doing [] work) rest last
+pass : (old : Observed) (pending : List Act) (work : Work) (rest : List Act) (last : Stage) → Path (after pending old) (Doing [] work) rest last
     → Path old (Doing pending work) (pending ++ rest) last
 pass old [] work rest last path = path
-pass old (p ∷ pending) work rest last path = (refl, (Doing pending work, (refl, pass (done p old) pending work rest last path)))
+pass old (p ∷ pending) work rest last path = (refl, (Doing pending work, (refl, pass (after_act p old) pending work rest last path)))
 
 module _ (patch : Patch) (defined : List (List ℕ)) (mode : Mode) where
-  files_path : (names : List (List ℕ)) (old : Told) (refused : Bool) (pending acts : List Act) (end : FilesEnd)
+  files_path : (names : List (List ℕ)) (old : Observed) (refused : Bool) (pending acts : List Act) (end : FilesEnd)
       → FilesDo (after pending old) patch defined mode names refused acts end
       → Path old (going pending patch defined mode names refused) (pending ++ acts) (Ending [] (files_status end))
   files_path [] old refused pending acts end does =
@@ -59,7 +59,7 @@ module _ (patch : Patch) (defined : List (List ℕ)) (mode : Mode) where
       (subst (λ (x : List Act). Path (after pending old) (Doing [] (EditFiles patch defined mode name names refused)) x (Ending [] (files_status end)))
       (sym is) path)
 
-module _ (words : List (List ℕ)) (old : Told) where
+module _ (words : List (List ℕ)) (old : Observed) where
   -- some acts lead from the beginning to this status
   abbrev Leading : List Act → ℕ → Type 0
   Leading acts s = Path old (begun (order_of words)) acts (Ending [] s)

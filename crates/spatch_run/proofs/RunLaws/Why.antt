@@ -1,7 +1,7 @@
 -- Each whole run has one of the reasons.
 use Rattle.std.proofs.Common.{◌≡◌, Bool, false, ◌||◌, ℕ, List, [], ◌∷◌, ◌++◌, Option, Some, None, refl, sym, ap, ◌∙◌, inl, inr, subst, append_assoc}
 use Rattle.std.proofs.lemmas.List.{append-nil}
-use Rattle.run_acts.specs.Acts.{Act, Load, Print, Report, Told, done, after}
+use Rattle.run_acts.specs.Acts.{Act, Load, Print, Report, Observed, after_act, after}
 use Rattle.run_acts.specs.Lines.{cannot_read}
 use Rattle.run_acts.specs.Loaded.{Found}
 use Rattle.smpl_patch.specs.declared.rule.Iso.{Iso}
@@ -22,19 +22,19 @@ use Rattle.run_files.specs.RunStages.Reasons.Reason.{unasked, is_generated, no_p
 use Rattle.spatch_run.proofs.RunLaws.Unique.{none_some, same_some}
 
 -- a run that only has acts at hand does them
-ending : (old : Told) (pending : List Act) (s : ℕ) (acts : List Act) (last : Stage) (status : ℕ) → Path old (Ending pending s) acts last
+ending : (old : Observed) (pending : List Act) (s : ℕ) (acts : List Act) (last : Stage) (status : ℕ) → Path old (Ending pending s) acts last
     → status_at last ≡ Some status → (acts ≡ pending) × (status ≡ s)
 ending old [] s [] last status path over = (refl, same_some status s (sym over ∙ ap status_at path))
 ending old [] s (a ∷ acts) last status path over = absurd (none_some a path.0)
 ending old (p ∷ pending) s [] last status path over = absurd (none_some status (ap status_at (sym path) ∙ over))
 ending old (p ∷ pending) s (a ∷ acts) last status path over =
     let same : p ≡ a = same_some p a path.0 in
-    let rest = ending (done a old) pending s acts last status (subst (λ (m : Stage). Path (done a old) m acts last) path.1.1.0 path.1.1.1) over in
+    let rest = ending (after_act a old) pending s acts last status (subst (λ (m : Stage). Path (after_act a old) m acts last) path.1.1.0 path.1.1.1) over in
     let tails : acts ≡ pending = rest.0 in
     ((λ i. sym same i ∷ tails i), rest.1)
 
 -- a run does these acts from a known stage
-ending-at : (old : Told) (mid : Stage) (pending : List Act) (s : ℕ) (acts : List Act) (last : Stage) (status : ℕ) → mid ≡ Ending pending s
+ending-at : (old : Observed) (mid : Stage) (pending : List Act) (s : ℕ) (acts : List Act) (last : Stage) (status : ℕ) → mid ≡ Ending pending s
     → Path old mid acts last → status_at last ≡ Some status → (acts ≡ pending) × (status ≡ s)
 ending-at old mid pending s acts last status is path over = ending old pending s acts last status (subst (λ (m : Stage). Path old m acts last) is path) over
 
@@ -42,25 +42,25 @@ in_front : (a p : Act) (acts pending rest : List Act) → a ≡ p → acts ≡ p
 in_front a p acts pending rest e f = cc
 
 -- the rest of the acts, after those at hand
-record Through (old : Told) (pending : List Act) (work : Work) (acts : List Act) (last : Stage) : Type 0 where
+record Through (old : Observed) (pending : List Act) (work : Work) (acts : List Act) (last : Stage) : Type 0 where
   pub rest : List Act
   pub acts_are : acts ≡ pending ++ rest
   pub path : Path (after pending old) (Doing [] work) rest last
 
 -- a run does the acts at hand, and goes on from its work
-through : (old : Told) (pending : List Act) (work : Work) (acts : List Act) (last : Stage) (status : ℕ) → Path old (Doing pending work) acts last
+through : (old : Observed) (pending : List Act) (work : Work) (acts : List Act) (last : Stage) (status : ℕ) → Path old (Doing pending work) acts last
     → status_at last ≡ Some status → Through old pending work acts last
 through old [] work acts last status path over = record { rest = acts; acts_are = refl; path = path }
 through old (p ∷ pending) work [] last status path over = absurd (none_some status (ap status_at (sym path) ∙ over))
 through old (p ∷ pending) work (a ∷ acts) last status path over =
     let same : a ≡ p = sym (same_some p a path.0) in
-    let moved = subst (λ (x : Act). Path (done x old) (Doing pending work) acts last) same
-    (subst (λ (m : Stage). Path (done a old) m acts last) path.1.1.0 path.1.1.1) in
-    let more = through (done p old) pending work acts last status moved over in
+    let moved = subst (λ (x : Act). Path (after_act x old) (Doing pending work) acts last) same
+    (subst (λ (m : Stage). Path (after_act a old) m acts last) path.1.1.0 path.1.1.1) in
+    let more = through (after_act p old) pending work acts last status moved over in
     record { rest = more.rest; acts_are = in_front a p acts pending more.rest same more.acts_are; path = more.path }
 
 -- what happened to the files, after the acts at hand
-record Went (old : Told) (patch : Patch) (defined : List (List ℕ)) (mode : Mode) (names : List (List ℕ)) (refused : Bool) (pending acts : List Act)
+record Went (old : Observed) (patch : Patch) (defined : List (List ℕ)) (mode : Mode) (names : List (List ℕ)) (refused : Bool) (pending acts : List Act)
     (status : ℕ) : Type 0 where
   pub rest : List Act
   pub end : FilesEnd
@@ -74,10 +74,10 @@ joined_acts load acts own rest e = cc
 module _ (patch : Patch) (defined : List (List ℕ)) (mode : Mode) where
   -- the statement holds for the remaining files
   abbrev GoesOn : List (List ℕ) → Stage → ℕ → Type 0
-  GoesOn names last status = (old : Told) (refused : Bool) (pending acts : List Act) → Path old (going pending patch defined mode names refused) acts last
+  GoesOn names last status = (old : Observed) (refused : Bool) (pending acts : List Act) → Path old (going pending patch defined mode names refused) acts last
       → Went old patch defined mode names refused pending acts status
 
-  one_file : (old : Told) (name : List ℕ) (names : List (List ℕ)) (refused : Bool) (under : Option (List ℕ)) (mid : Stage) (acts : List Act) (last : Stage)
+  one_file : (old : Observed) (name : List ℕ) (names : List (List ℕ)) (refused : Bool) (under : Option (List ℕ)) (mid : Stage) (acts : List Act) (last : Stage)
       (status : ℕ) → GoesOn names last status → Found old.files name under
       → FileLeads old.files under patch defined mode name names refused mid → Path old mid acts last
       → status_at last ≡ Some status → Went old patch defined mode (name ∷ names) refused [] (Load name file_limit ∷ acts) status
@@ -103,13 +103,14 @@ module _ (patch : Patch) (defined : List (List ℕ)) (mode : Mode) where
         status_is = more.status_is;
       }
 
-  file_first : (old : Told) (name : List ℕ) (names : List (List ℕ)) (refused : Bool) (acts : List Act) (last : Stage) (status : ℕ) → GoesOn names last status
+  file_first : (old : Observed) (name : List ℕ) (names : List (List ℕ)) (refused : Bool) (acts : List Act) (last : Stage)
+      (status : ℕ) → GoesOn names last status
       → Path old (Doing [] (EditFiles patch defined mode name names refused)) acts last → status_at last ≡ Some status
       → Went old patch defined mode (name ∷ names) refused [] acts status
   file_first old name names refused [] last status rec path over = absurd (none_some status (ap status_at (sym path) ∙ over))
   file_first old name names refused (act ∷ acts) last status rec path over =
       let load : act ≡ Load name file_limit = sym (same_some (Load name file_limit) act path.0) in
-      let there = subst (λ (x : Act). Path (done x old) path.1.0 acts last) load path.1.1.1 in
+      let there = subst (λ (x : Act). Path (after_act x old) path.1.0 acts last) load path.1.1.1 in
       let went = one_file old name names refused path.1.1.0.0 path.1.0 acts last status rec path.1.1.0.1.0 path.1.1.0.1.1 there over in
       subst (λ (x : Act). Went old patch defined mode (name ∷ names) refused [] (x ∷ acts) status) (sym load) went
 
@@ -134,7 +135,7 @@ module _ (patch : Patch) (defined : List (List ℕ)) (mode : Mode) where
         status_is = one.status_is;
       }
 
-module _ (words : List (List ℕ)) (old : Told) where
+module _ (words : List (List ℕ)) (old : Observed) where
   -- the patch has all its forms
   ready_why : (patch : Patch) (defined : List (List ℕ)) (target : Target) (before : List Act) (mid : Stage) (acts : List Act) (last : Stage) (status : ℕ)
       → PatchReady words old patch defined target before → TargetLeads patch defined target mid → Path old mid acts last → status_at last ≡ Some status
@@ -179,7 +180,7 @@ module _ (words : List (List ℕ)) (old : Told) where
   forms_first patch name defined target before [] last status read path over = absurd (none_some status (ap status_at (sym path) ∙ over))
   forms_first patch name defined target before (act ∷ acts) last status read path over =
       let load : act ≡ Load name patch_limit = sym (same_some (Load name patch_limit) act path.0) in
-      let there = subst (λ (x : Act). Path (done x old) path.1.0 acts last) load path.1.1.1 in
+      let there = subst (λ (x : Act). Path (after_act x old) path.1.0 acts last) load path.1.1.1 in
       let found : IsosFound words old patch name path.1.1.0.0 defined target (before ++ Load name patch_limit ∷ []) =
       record { before = before; read = read; found = path.1.1.0.1.0; acts_are = refl } in
       let why = isos_why patch name path.1.1.0.0 defined target
@@ -223,10 +224,10 @@ module _ (words : List (List ℕ)) (old : Told) where
   order_why (Some (Apply name isos defined target)) [] last status is path over = absurd (none_some status (ap status_at (sym path) ∙ over))
   order_why (Some (Apply name isos defined target)) (act ∷ acts) last status is path over =
       let load : act ≡ Load name patch_limit = sym (same_some (Load name patch_limit) act path.0) in
-      let there = subst (λ (x : Act). Path (done x old) path.1.0 acts last) load path.1.1.1 in
+      let there = subst (λ (x : Act). Path (after_act x old) path.1.0 acts last) load path.1.1.1 in
       let found : PatchFound words old name path.1.1.0.0 isos defined target = record { order = is; found = path.1.1.0.1.0 } in
       let why = patch_why name isos defined target path.1.1.0.0 path.1.0 acts last status found path.1.1.0.1.1 there over in
       subst (λ (x : Act). Reason words old (x ∷ acts) status) (sym load) why
 
-pub acts_why : (words : List (List ℕ)) (old : Told) (acts : List Act) (status : ℕ) → AreActs words old acts status → Reason words old acts status
+pub acts_why : (words : List (List ℕ)) (old : Observed) (acts : List Act) (status : ℕ) → AreActs words old acts status → Reason words old acts status
 acts_why words old acts status are = order_why words old (order_of words) acts are.last status refl are.path are.over

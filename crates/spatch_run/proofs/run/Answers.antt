@@ -1,6 +1,6 @@
 -- The shelf and the outputs that `outside` leads to at its end are those that the caller passed.
 use Rattle.std.proofs.Common.{rules}
-use Rattle.run_acts.specs.Acts.{told}
+use Rattle.run_acts.specs.Acts.{observed}
 use Rattle.run_acts.specs.Breaks.{NoneFell, counts}
 use Rattle.run_files.specs.RunStages.Promise.{IsExact, EndsRightly}
 use Rattle.run_files.specs.RunStages.Causes.{Causes}
@@ -14,8 +14,8 @@ returns-clause-exact g c =
     rw (c.number.ensures, c.status_of.ensures) (of_equal (λ s o e. IsExact c.args.words.now
     (counts (g.S.Loads.faults shelf) (g.O.Sink.faults out) (g.E.Sink.faults err))
     (counts (g.S.Loads.faults s) (g.O.Sink.faults o) (g.E.Sink.faults e))
-    (told (g.S.Loads.holds shelf) (g.S.Loads.stores shelf) (g.O.Sink.written out) (g.E.Sink.written err))
-    (told (g.S.Loads.holds s) (g.S.Loads.stores s) (g.O.Sink.written o) (g.E.Sink.written e)) (answer c.follow_words.result))
+    (observed (g.S.Loads.holds shelf) (g.S.Loads.stores shelf) (g.O.Sink.written out) (g.E.Sink.written err))
+    (observed (g.S.Loads.holds s) (g.S.Loads.stores s) (g.O.Sink.written o) (g.E.Sink.written e)) (answer c.follow_words.result))
     {s = last.shelf.now} {o = last.out.now} {e = last.err.now}
     (exact c.follow_words.ensures.ends) (search rules) (search rules) (search rules))
 
@@ -25,8 +25,8 @@ returns-clause-ends g c =
     rw (c.number.ensures, c.status_of.ensures) (of_equal (λ s o e. EndsRightly c.args.words.now
     (counts (g.S.Loads.faults shelf) (g.O.Sink.faults out) (g.E.Sink.faults err))
     (counts (g.S.Loads.faults s) (g.O.Sink.faults o) (g.E.Sink.faults e))
-    (told (g.S.Loads.holds shelf) (g.S.Loads.stores shelf) (g.O.Sink.written out) (g.E.Sink.written err))
-    (told (g.S.Loads.holds s) (g.S.Loads.stores s) (g.O.Sink.written o) (g.E.Sink.written e)) (answer c.follow_words.result))
+    (observed (g.S.Loads.holds shelf) (g.S.Loads.stores shelf) (g.O.Sink.written out) (g.E.Sink.written err))
+    (observed (g.S.Loads.holds s) (g.S.Loads.stores s) (g.O.Sink.written o) (g.E.Sink.written e)) (answer c.follow_words.result))
     {s = last.shelf.now} {o = last.out.now} {e = last.err.now}
     (ends_rightly c.follow_words.ensures.ends) (search rules) (search rules) (search rules))
 
@@ -45,7 +45,7 @@ returns-clause-causes g c =
     rw (c.number.ensures, c.status_of.ensures) (of_equal (λ s o e. Causes c.args.words.now
     (counts (g.S.Loads.faults shelf) (g.O.Sink.faults out) (g.E.Sink.faults err))
     (counts (g.S.Loads.faults s) (g.O.Sink.faults o) (g.E.Sink.faults e))
-    (told (g.S.Loads.holds shelf) (g.S.Loads.stores shelf) (g.O.Sink.written out) (g.E.Sink.written err))
-    (told (g.S.Loads.holds s) (g.S.Loads.stores s) (g.O.Sink.written o) (g.E.Sink.written e)) (answer c.follow_words.result))
+    (observed (g.S.Loads.holds shelf) (g.S.Loads.stores shelf) (g.O.Sink.written out) (g.E.Sink.written err))
+    (observed (g.S.Loads.holds s) (g.S.Loads.stores s) (g.O.Sink.written o) (g.E.Sink.written e)) (answer c.follow_words.result))
     {s = last.shelf.now} {o = last.out.now} {e = last.err.now}
     (c.statuses_have_a_cause.ensures _ _ _ _ _ _ (ends_rightly c.follow_words.ensures.ends)) (search rules) (search rules) (search rules))

@@ -1,6 +1,6 @@
 // Words have acts, and runs are complete. The functions do nothing.
 ghost use Rattle.std.specs.Prelude.{◌≡◌, ◌⊎◌, ℕ, List, IsSome};
-ghost use Rattle.run_acts.specs.Acts.{Act, Told};
+ghost use Rattle.run_acts.specs.Acts.{Act, Observed};
 ghost use Rattle.run_acts.specs.Breaks.{Counts, NoneRose};
 ghost use Rattle.smpl_patch.specs.declared.rule.Patch.{Patch as Whole};
 ghost use Rattle.run_words.specs.declared.order.Mode.{Mode as HowFiles};
@@ -15,9 +15,9 @@ use crate::run_laws::{acts_have_a_reason, statuses_have_a_cause};
 use read_laws::{bytes_are_read, patches_get_their_forms};
 use text_laws::chains_have_an_end;
 
-/// It is impossible that some words have no list of acts, whatever a shelf reports. Does nothing.
+/// It is impossible that some words have no list of acts, whatever a shelf reveals. Does nothing.
 pub fn words_have_acts()
-    ensures { (words : List (List ℕ)) (old : Told) →
+    ensures { (words : List (List ℕ)) (old : Observed) →
         Weakly ((acts : List Act) × ((status : ℕ) × AreActs words old acts status)) }
 {
     bytes_are_read();
@@ -26,7 +26,7 @@ pub fn words_have_acts()
     acts_have_a_reason();
 }
 
-/// The status of a run that edits files, if the shelf reports its files, no count of faults rises, the patch is read (and gets
+/// The status of a run that edits files, if the shelf reveals its files, no count of faults rises, the patch is read (and gets
 /// its forms if isomorphisms are named), and each file is present in its turn.
 ///
 /// - `fine`: if no file is refused, the status is 0, or 7 if memory ran out.
@@ -34,12 +34,12 @@ pub fn words_have_acts()
 ///
 /// Does nothing.
 pub fn runs_are_complete()
-    ensures fine { (words : List (List ℕ)) (before now : Counts) (old new : Told) (status : ℕ) (patch : Whole)
+    ensures fine { (words : List (List ℕ)) (before now : Counts) (old new : Observed) (status : ℕ) (patch : Whole)
         (defined : List (List ℕ)) (mode : HowFiles) (names : List (List ℕ)) (acts : List Act) → IsSome old.files →
         NoneRose before now → EndsRightly words before now old new status →
         PatchReady words old patch defined (OnFiles mode names) acts → AllThere patch defined mode old names →
         NoneRefused patch defined mode old names → (status ≡ 0) ⊎ (status ≡ 7) }
-    ensures refused { (words : List (List ℕ)) (before now : Counts) (old new : Told) (status : ℕ) (patch : Whole)
+    ensures refused { (words : List (List ℕ)) (before now : Counts) (old new : Observed) (status : ℕ) (patch : Whole)
         (defined : List (List ℕ)) (mode : HowFiles) (names : List (List ℕ)) (acts : List Act) → IsSome old.files →
         NoneRose before now → EndsRightly words before now old new status →
         PatchReady words old patch defined (OnFiles mode names) acts → AllThere patch defined mode old names →

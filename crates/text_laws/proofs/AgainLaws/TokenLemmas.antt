@@ -13,7 +13,7 @@ use Rattle.edit_unparse.specs.Output.{output_of}
 use Rattle.edit_unparse.specs.Words.{unless_blank, solid}
 use Rattle.edit_unparse.proofs.Again.{reads_again}
 use Rattle.rule_chain.specs.RuleEdits.Pages as pages
-use Rattle.rule_chain.specs.RuleWork.States.{IsCut}
+use Rattle.rule_chain.specs.RuleRun.States.{IsCut}
 use Rattle.text_laws.specs.AgainLaws.Tokens.{where_token, tokens_of, left_pieces}
 
 abbrev piece : PieceKind → List ℕ → TextPiece

@@ -15,8 +15,8 @@ use Rattle.smpl_patch.specs.Bodies.{body}
 use Rattle.smpl_patch.specs.Shapes.{patterns_body}
 use Rattle.edit_marks.specs.declared.edit_conflict.edit.Edit.{Edit}
 use Rattle.edit_marks.specs.EditConflict.Once.{once}
-use Rattle.edit_marks.specs.declared.mark.Aligned.{Aligned}
-use Rattle.edit_marks.specs.declared.tokens.FileToken.{FileToken}
+use Rattle.edit_marks.specs.declared.removals.Aligned.{Aligned}
+use Rattle.edit_marks.specs.declared.file_tokens.FileToken.{FileToken}
 use Rattle.edit_marks.specs.Blocks.{Environment}
 use Rattle.edit_marks.specs.Removals.{minus_tokens}
 use Rattle.edit_marks.specs.Spots.{all_spots}

@@ -19,12 +19,12 @@ use Rattle.rule_chain.specs.declared.rule_edits.fault.EditFault.{EditFault}
 use Rattle.rule_chain.specs.declared.rule_edits.fault.EditFault.TheVariants as edit
 use Rattle.rule_chain.proofs.RuleEdits.ClashLemmas.{clash_within}
 use Rattle.rule_envs.specs.FileEnvs.{most_environments}
-use Rattle.rule_chain.specs.declared.rule_work.fault.FileFault.{FileFault}
-use Rattle.rule_chain.specs.declared.rule_work.fault.FileFault.TheVariants.{TooManyWitnesses, TooManyEnvironments}
-use Rattle.rule_chain.specs.RuleWork.States.{Chained, IsCut, first_state, notes_from}
-use Rattle.rule_chain.specs.RuleWork.OneRule.{edit_fault, MayRead, rule_found, rule_carriers, is_too_much, RuleEdits, worked, AreFew, IsFault}
-use Rattle.rule_chain.specs.RuleWork.OneRule.{Leads}
-use Rattle.rule_chain.specs.RuleWork.OneRule.IsFault.{too_many_witnesses, too_many_environments, in_edits}
+use Rattle.rule_chain.specs.declared.rule_run.fault.FileFault.{FileFault}
+use Rattle.rule_chain.specs.declared.rule_run.fault.FileFault.TheVariants.{TooManyWitnesses, TooManyEnvironments}
+use Rattle.rule_chain.specs.RuleRun.States.{Chained, IsCut, first_state, notes_from}
+use Rattle.rule_chain.specs.RuleRun.OneRule.{edit_fault, MayRead, file_witnesses, rule_carriers, is_too_much, RuleEdits, worked, AreFew, IsFault}
+use Rattle.rule_chain.specs.RuleRun.OneRule.{Leads}
+use Rattle.rule_chain.specs.RuleRun.OneRule.IsFault.{too_many_witnesses, too_many_environments, in_edits}
 use Rattle.rule_chain.specs.Chain.{Outcome, Done, Refused, is_followed, Runs, Chain}
 use Rattle.text_laws.specs.Sound.{HavePlusCode}
 use Rattle.text_laws.specs.TokenLaws.States.{IsSoundState}
@@ -106,7 +106,7 @@ module _ (cut_law : CutLaw) (state_law : StateLaw) (text_law : TextLaw) (defined
     carriers_by : is_too_much defined number rule s ≡ false
         → (length (rule_carriers defined number rule s) ≤ most_environments) ⊎ (most_environments < length (rule_carriers defined number rule s)) → ⊥
     carriers_by calm (inl few) =
-        let edited = edits_some rule s.items (kinds_of s.items) s.pieces (rule_found defined number rule s) in
+        let edited = edits_some rule s.items (kinds_of s.items) s.pieces (file_witnesses defined number rule s) in
         worked_by (record { witnesses = calm; environments = few }) edited.edits edited.are edited.fit
     carriers_by calm (inr many) = refused (TooManyEnvironments number) (too_many_environments calm many)
 

@@ -6,7 +6,7 @@ use Rattle.c_lexer.specs.Pieces.{TextPiece}
 use Rattle.c_lexer.specs.Lexes.{Lexes}
 use Rattle.c_lexer.specs.Ids.{id_before, ids_of, kind_without_id, without_ids}
 use Rattle.rule_chain.specs.RuleEdits.Pages.{Page}
-use Rattle.rule_chain.specs.RuleWork.States.{IsCut}
+use Rattle.rule_chain.specs.RuleRun.States.{IsCut}
 use Rattle.rule_chain.proofs.CutLemmas.{same_text, same_cuts}
 
 -- the kind with the first of the ids, and the ids that are left

@@ -8,8 +8,8 @@ use Rattle.c_lexer.specs.Ids.{ids_of}
 use Rattle.cpp_lines.specs.declared.reading.Item.{Item}
 use Rattle.c_file.specs.Reads.{Reads}
 use Rattle.rule_chain.specs.RuleEdits.Pages.{Page}
-use Rattle.rule_chain.specs.RuleWork.States.{Chained, first_state, ReadsAgain}
-use Rattle.rule_chain.specs.RuleWork.OneRule.{MayRead}
+use Rattle.rule_chain.specs.RuleRun.States.{Chained, first_state, ReadsAgain}
+use Rattle.rule_chain.specs.RuleRun.OneRule.{MayRead}
 use Rattle.text_laws.specs.OutputLaws.Differ.{AllDiffer}
 use Rattle.text_laws.specs.ValueLaws.Carried.{CarriesTerms}
 use Rattle.text_laws.specs.TokenLaws.States.{IsSoundState}

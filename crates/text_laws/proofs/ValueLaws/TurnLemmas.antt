@@ -28,8 +28,8 @@ use Rattle.rule_envs.specs.declared.file_env.FileEnv.{FileEnv}
 use Rattle.rule_envs.specs.Inherited.{inherited_of}
 use Rattle.rule_envs.specs.Shares.{takes_part, share, projections}
 use Rattle.rule_envs.specs.FileEnvs.{extended, replaced, becomes_by}
-use Rattle.rule_chain.specs.RuleFound.Found.{witnesses_in, found_from, found_under, brings}
-use Rattle.rule_chain.specs.RuleTurn.Turns.{turn_found, turn_carriers}
+use Rattle.rule_chain.specs.FileWitnesses.Found.{witnesses_in, found_from, found_under, brings}
+use Rattle.rule_chain.specs.RuleMatches.Turns.{turn_found, turn_carriers}
 use Rattle.text_laws.specs.OutputLaws.Values.{AreCValues}
 use Rattle.text_laws.specs.Sound.{HaveCValues, HasCTerms}
 use Rattle.text_laws.specs.ValueLaws.Carried.{CarriesTerms}

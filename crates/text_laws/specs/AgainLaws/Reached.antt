@@ -5,8 +5,8 @@ use Rattle.c_lexer.specs.Lexes.{Lexes}
 use Rattle.cpp_lines.specs.declared.reading.Item.{Item}
 use Rattle.c_file.specs.Reads.{Reads}
 use Rattle.smpl_patch.specs.declared.rule.Rule.{Rule}
-use Rattle.rule_chain.specs.RuleWork.States.{Chained, first_state}
-use Rattle.rule_chain.specs.RuleWork.OneRule.{Leads}
+use Rattle.rule_chain.specs.RuleRun.States.{Chained, first_state}
+use Rattle.rule_chain.specs.RuleRun.OneRule.{Leads}
 use Rattle.rule_chain.specs.Chain.{is_followed}
 
 -- The run has reached this state, and these rules are left, the first of which has this number.

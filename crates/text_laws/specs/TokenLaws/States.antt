@@ -3,7 +3,7 @@ use Rattle.std.specs.Prelude.{◌<◌, All}
 use Rattle.c_lexer.specs.Lexes.{Cuts}
 use Rattle.c_lexer.specs.Ids.{ids_of}
 use Rattle.c_file.specs.Reads.{Reads}
-use Rattle.rule_chain.specs.RuleWork.States.{Chained}
+use Rattle.rule_chain.specs.RuleRun.States.{Chained}
 use Rattle.text_laws.specs.OutputLaws.Differ.{AllDiffer}
 use Rattle.text_laws.specs.ValueLaws.Carried.{CarriesTerms}
 

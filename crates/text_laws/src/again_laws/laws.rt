@@ -9,8 +9,8 @@ ghost use Rattle.smpl_file.specs.Patches.{IsSpelled};
 ghost use Rattle.iso_expand.specs.Patches.{IsExpanded};
 ghost use Rattle.edit_marks.specs.declared.edit_conflict.edit.Edit.{Edit};
 ghost use Rattle.edit_unparse.specs.Words.{solid};
-ghost use Rattle.rule_chain.specs.RuleWork.States.{Chained, IsCut};
-ghost use Rattle.rule_chain.specs.RuleWork.OneRule.{RuleEdits, worked};
+ghost use Rattle.rule_chain.specs.RuleRun.States.{Chained, IsCut};
+ghost use Rattle.rule_chain.specs.RuleRun.OneRule.{RuleEdits, worked};
 ghost use Rattle.text_laws.specs.Sound.{HavePlusCode};
 ghost use Rattle.text_laws.specs.TokenLaws.States.{IsSoundState};
 ghost use Rattle.text_laws.specs.AgainLaws.Tokens.{tokens_of, left_pieces};
@@ -24,7 +24,8 @@ use crate::{edits_are_fair, touches_are_sound};
 /// The text that a rule leaves from a sound state, if its plus code consists of tokens of C and metavariables, is cut again
 /// into the tokens that its edits leave.
 ///
-/// - `solid`: however it is cut, its tokens, comments and preprocessor lines are those of the pieces that the edits leave, in order.
+/// - `solid`: however it is cut, its tokens, comments and preprocessor lines are those of the pieces that the edits leave, in
+///   order.
 /// - `tokens`: cut into pieces with the ids of its page, its tokens are those of these pieces, with their texts and ids:
 ///   the kept ones with their old ids, the added ones with new ids.
 ///

@@ -7,8 +7,8 @@ ghost use Rattle.cpp_lines.specs.declared.reading.Item.{Item};
 ghost use Rattle.c_file.specs.Reads.{Reads};
 ghost use Rattle.smpl_patch.specs.declared.rule.Rule.{Rule};
 ghost use Rattle.edit_marks.specs.declared.edit_conflict.edit.Edit.{Edit};
-ghost use Rattle.rule_chain.specs.RuleWork.States.{Chained, IsCut, first_state};
-ghost use Rattle.rule_chain.specs.RuleWork.OneRule.{RuleEdits, Leads, worked};
+ghost use Rattle.rule_chain.specs.RuleRun.States.{Chained, IsCut, first_state};
+ghost use Rattle.rule_chain.specs.RuleRun.OneRule.{RuleEdits, Leads, worked};
 ghost use Rattle.text_laws.specs.Sound.{HavePlusCode};
 ghost use Rattle.text_laws.specs.TokenLaws.States.{IsSoundState};
 

@@ -5,8 +5,8 @@ use Rattle.c_lexer.specs.Lexes.{Lexes}
 use Rattle.c_file.specs.Reads.{Reads}
 use Rattle.rule_envs.specs.Shares.{bare_file_env}
 use Rattle.rule_chain.specs.RuleWitnesses.Bare.{bare_witness}
-use Rattle.rule_chain.specs.declared.rule_work.state.SkipNote.{SkipNote}
-use Rattle.rule_chain.specs.RuleWork.States.{notes_from}
+use Rattle.rule_chain.specs.declared.rule_run.state.SkipNote.{SkipNote}
+use Rattle.rule_chain.specs.RuleRun.States.{notes_from}
 use Rattle.rule_chain.proofs.chain.begin.Goals as goal
 
 pub returns-clause-cut : goal.returns-clause-cut

@@ -1,6 +1,6 @@
 use Rattle.std.proofs.Common.{◌<◌, ◌≤◌, ◌++◌, ◌+◌, ◌∙◌, ap, sym, arith, length}
 use Rattle.rule_chain.specs.RuleEdits.Pages.{Page}
-use Rattle.rule_chain.specs.RuleWork.States.{notes_from}
+use Rattle.rule_chain.specs.RuleRun.States.{notes_from}
 use Rattle.rule_chain.proofs.StepLemmas.{read_on}
 use Rattle.rule_chain.proofs.chain.go_on.Goals as goal
 

@@ -33,7 +33,8 @@ returns-in_ok-go_on-in-Some-clause-step g c = λ s at.
 pub returns-in_err-stopped-clause-fault : goal.returns-in_err-stopped-clause-fault
 returns-in_err-stopped-clause-fault g c =
     let p = err_from_is_err_and c.from_residual.result c.from_residual.ensures.1 in
-    rw (p.1, p.2) (seen_fault c.args.rules.now.defined.now c.args.rules.now.patch.now.rules c.args.reached c.in_err-stopped.field-0.0 c.in_err-stopped.ensures.fault)
+    rw (p.1, p.2) (seen_fault c.args.rules.now.defined.now c.args.rules.now.patch.now.rules c.args.reached
+    c.in_err-stopped.field-0.0 c.in_err-stopped.ensures.fault)
 
 pub returns-in_ok-go_on-in-Some-clause-further : goal.returns-in_ok-go_on-in-Some-clause-further
 returns-in_ok-go_on-in-Some-clause-further g c =

@@ -1,6 +1,6 @@
 use Rattle.std.proofs.Common.{◌≡◌, ◌≤◌, ◌<◌, ◌+◌, subst, arith, length}
 use Rattle.std.proofs.lemmas.Result.{err_from_is_err_and}
-use Rattle.rule_chain.specs.RuleWork.States.{Chained}
+use Rattle.rule_chain.specs.RuleRun.States.{Chained}
 use Rattle.rule_chain.specs.declared.state.Step.{Step}
 use Rattle.rule_chain.specs.declared.state.Step.TheVariants.{On}
 use Rattle.rule_chain.specs.Stops.{IsAt, Steps, IsFurther}
@@ -17,7 +17,8 @@ loop-number-preserved g c =
     let reading : c.in-On.next.reading ≡ r.reading + 1 = further.2 in
     record {
       on = comes_on c.args.rules.now.defined.now c.args.rules.now.patch.now.rules c.args.reached r c.in-On.next 0 c.loop-number.invariant.on
-          (subst (λ (st : Step). (s : Chained) → IsAt r s → Steps c.args.rules.now.defined.now c.args.rules.now.patch.now.rules r.done s st) c.in-On.is c.in_ok-came.ensures.step);
+          (subst (λ (st : Step). (s : Chained) → IsAt r s
+          → Steps c.args.rules.now.defined.now c.args.rules.now.patch.now.rules r.done s st) c.in-On.is c.in_ok-came.ensures.step);
       far = omega arith;
       within = within;
       reading = omega arith;
@@ -27,7 +28,8 @@ pub returns-in-Ended-clause-done : goal.returns-in-Ended-clause-done
 returns-in-Ended-clause-done g c =
     let r = c.loop-number.reached in
     comes_to c.args.rules.now.defined.now c.args.rules.now.patch.now.rules c.args.reached r 0 c.in-Ended.applied c.loop-number.invariant.on
-    (subst (λ (st : Step). (s : Chained) → IsAt r s → Steps c.args.rules.now.defined.now c.args.rules.now.patch.now.rules r.done s st) c.in-Ended.is c.in_ok-came.ensures.step)
+    (subst (λ (st : Step). (s : Chained) → IsAt r s
+    → Steps c.args.rules.now.defined.now c.args.rules.now.patch.now.rules r.done s st) c.in-Ended.is c.in_ok-came.ensures.step)
 
 pub returns-clause-done : goal.returns-clause-done
 returns-clause-done g c =

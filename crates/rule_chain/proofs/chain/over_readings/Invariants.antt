@@ -1,5 +1,5 @@
 use Rattle.std.proofs.Common.{◌≤◌, length, drop}
-use Rattle.rule_chain.specs.RuleWork.States.{Chained}
+use Rattle.rule_chain.specs.RuleRun.States.{Chained}
 use Rattle.rule_chain.specs.Chain.{Outcome, Runs}
 use Rattle.rule_chain.specs.Stops.{IsAt}
 use Rattle.rule_chain.proofs.chain.over_readings.Given as goal

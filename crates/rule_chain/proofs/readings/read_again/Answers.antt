@@ -2,7 +2,7 @@ use Rattle.std.proofs.Common.{◌∙◌, subst, sym, List}
 use Rattle.c_lexer.specs.Pieces.{TextPiece}
 use Rattle.c_file.specs.Reads.{Reads}
 use Rattle.rule_chain.specs.RuleEdits.Pages.{page_in}
-use Rattle.rule_chain.specs.RuleWork.States.{IsCut}
+use Rattle.rule_chain.specs.RuleRun.States.{IsCut}
 use Rattle.rule_chain.proofs.readings.read_again.Goals as goal
 
 pub returns-clause-cut : goal.returns-clause-cut

@@ -1,5 +1,5 @@
 use Rattle.std.proofs.Common.{◌≡◌, ◌++◌, drop}
-use Rattle.rule_chain.specs.RuleWork.States.{notes_from}
+use Rattle.rule_chain.specs.RuleRun.States.{notes_from}
 use Rattle.rule_chain.proofs.readings.with_notes.Given as goal
 
 abbrev pub invariant-loop-at : goal.invariant-loop-at

@@ -14,27 +14,33 @@ loop-number-init g c = record {
 pub loop-number-preserved : goal.loop-number-preserved
 loop-number-preserved g c = record {
   items = c.run_at.ensures.items ∙ c.loop-number.invariant.items;
-  on = goes_on c.args.rules.now.defined.now c.args.rules.now.patch.now.rules c.args.from c.loop-number.number (c.loop-number.number + 1) c.args.reading.now.file.now c.args.reading.now.next
+  on = goes_on c.args.rules.now.defined.now c.args.rules.now.patch.now.rules c.args.from c.loop-number.number
+      (c.loop-number.number + 1) c.args.reading.now.file.now c.args.reading.now.next
       c.args.findings c.loop-number.findings c.in_ok-outcome.outcome.findings None c.loop-number.invariant.on
-      (subst (λ (t : Option NewText). Leading c.args.rules.now.defined.now c.args.rules.now.patch.now.rules c.loop-number.number (c.loop-number.number + 1) c.args.reading.now.file.now c.args.reading.now.next
+      (subst (λ (t : Option NewText). Leading c.args.rules.now.defined.now c.args.rules.now.patch.now.rules c.loop-number.number
+      (c.loop-number.number + 1) c.args.reading.now.file.now c.args.reading.now.next
       c.loop-number.findings c.in_ok-outcome.outcome.findings t) c.in-None.is c.in_ok-outcome.ensures.outcome);
 }
 
 pub returns-in-Some-clause-stopped : goal.returns-in-Some-clause-stopped
 returns-in-Some-clause-stopped g c =
-    goes_on c.args.rules.now.defined.now c.args.rules.now.patch.now.rules c.args.from c.loop-number.number (c.loop-number.number + 1) c.args.reading.now.file.now c.args.reading.now.next
+    goes_on c.args.rules.now.defined.now c.args.rules.now.patch.now.rules c.args.from c.loop-number.number
+    (c.loop-number.number + 1) c.args.reading.now.file.now c.args.reading.now.next
     c.args.findings c.loop-number.findings c.in_ok-outcome.outcome.findings (Some c.in-Some.text) c.loop-number.invariant.on
-    (subst (λ (t : Option NewText). Leading c.args.rules.now.defined.now c.args.rules.now.patch.now.rules c.loop-number.number (c.loop-number.number + 1) c.args.reading.now.file.now c.args.reading.now.next
+    (subst (λ (t : Option NewText). Leading c.args.rules.now.defined.now c.args.rules.now.patch.now.rules c.loop-number.number
+    (c.loop-number.number + 1) c.args.reading.now.file.now c.args.reading.now.next
     c.loop-number.findings c.in_ok-outcome.outcome.findings t) c.in-Some.is c.in_ok-outcome.ensures.outcome)
 
 pub returns-in_err-outcome-clause-fault : goal.returns-in_err-outcome-clause-fault
 returns-in_err-outcome-clause-fault g c =
     let p = err_from_is_err_and c.from_residual-in_err-outcome.result c.from_residual-in_err-outcome.ensures.1 in
-    rw (p.1, p.2) (stops_at c.args.rules.now.defined.now c.args.rules.now.patch.now.rules c.args.from c.loop-number.number c.args.reading.now.file.now c.args.reading.now.next c.args.findings
+    rw (p.1, p.2) (stops_at c.args.rules.now.defined.now c.args.rules.now.patch.now.rules c.args.from c.loop-number.number
+    c.args.reading.now.file.now c.args.reading.now.next c.args.findings
     c.loop-number.findings c.in_err-outcome.field-0.0 c.loop-number.invariant.on c.in_err-outcome.ensures.fault)
 
 pub returns-clause-stopped : goal.returns-clause-stopped
 returns-clause-stopped g c =
     let end : c.loop-number.number ≡ c.count-count.result = omega (arith, c.count-count.ensures.count) in
-    subst (λ (n : ℕ). Leading c.args.rules.now.defined.now c.args.rules.now.patch.now.rules c.args.from n c.args.reading.now.file.now c.args.reading.now.next c.args.findings c.loop-number.findings None)
+    subst (λ (n : ℕ). Leading c.args.rules.now.defined.now c.args.rules.now.patch.now.rules c.args.from n
+    c.args.reading.now.file.now c.args.reading.now.next c.args.findings c.loop-number.findings None)
     end c.loop-number.invariant.on

@@ -1,9 +1,9 @@
 use Rattle.std.proofs.Common.{◌≡◌, ◌⊎◌, ◌+◌, ℕ, List, inl, inr, subst, drop}
 use Rattle.std.proofs.lemmas.Result.{IfOk-weaker, IfErr-weaker}
-use Rattle.rule_chain.specs.RuleWork.States.{Chained}
-use Rattle.rule_chain.specs.RuleWork.OneRule.{IsFault}
-use Rattle.rule_chain.specs.RuleWork.Worked.{AreFindingsOf, IsAtReading, Works}
-use Rattle.rule_chain.specs.declared.rule_work.fault.FileFault.TheVariants as fault
+use Rattle.rule_chain.specs.RuleRun.States.{Chained}
+use Rattle.rule_chain.specs.RuleRun.OneRule.{IsFault}
+use Rattle.rule_chain.specs.RuleRun.Worked.{AreFindingsOf, IsAtReading, Works}
+use Rattle.rule_chain.specs.declared.rule_run.fault.FileFault.TheVariants as fault
 use Rattle.rule_chain.specs.Chain.{Runs, Refused}
 use Rattle.rule_chain.specs.Stops.{LeadsOn}
 use Rattle.rule_chain.proofs.RunLemmas.{leads, refuses}

@@ -1,9 +1,9 @@
 use Rattle.std.proofs.Common.{◌≡◌, ◌∙◌, ap, refl, inl, arith, get_or}
 use Rattle.std.proofs.lemmas.Result.{err_from_is_err_and}
 use Rattle.cpp_lines.specs.declared.reading.Why.TheVariants.{NoTree}
-use Rattle.rule_chain.specs.declared.rule_work.state.SkipNote.{SkipNote}
+use Rattle.rule_chain.specs.declared.rule_run.state.SkipNote.{SkipNote}
 use Rattle.outer_io.specs.Files.{grown}
-use Rattle.run_acts.specs.Acts.{told}
+use Rattle.run_acts.specs.Acts.{observed}
 use Rattle.run_acts.specs.Breaks.{NoneFell, counts}
 use Rattle.run_files.specs.RunLines.Files.{skipped_line}
 use Rattle.run_files.proofs.ActLemmas.{stops_at, does_at, own_default}
@@ -21,7 +21,7 @@ returns-in_err-line-clause-stopped g c =
     let now = counts s' o' (g.E.Sink.faults c.loop-note.err) in
     let note = get_or c.args.notes.now c.loop-note.note-index none in
     stops_at (note_act c.args.name.now) c.args.notes.now c.loop-note.note-index note before before now _
-    (told files stores out (g.E.Sink.written c.loop-note.err)) _ 7
+    (observed files stores out (g.E.Sink.written c.loop-note.err)) _ 7
     (omega arith) (own_default c.args.notes.now c.loop-note.note-index none (omega arith))
     (record { shelf = omega arith; out = omega arith; err = omega arith })
     (c.loop-note.invariant.done files stores out) (inl (refl, refl)))
@@ -35,7 +35,7 @@ returns-in_err-report-clause-stopped g c =
     let fell : NoneFell (counts s o (g.E.Sink.faults c.args.err.now)) (counts s o (g.E.Sink.faults c.loop-note.err)) =
     record { shelf = omega arith; out = omega arith; err = c.loop-note.invariant.later } in
     stops_at (note_act c.args.name.now) c.args.notes.now c.loop-note.note-index note _ (counts s o (g.E.Sink.faults c.loop-note.err)) _ _
-    (told files stores out (g.E.Sink.written c.loop-note.err)) _ _
+    (observed files stores out (g.E.Sink.written c.loop-note.err)) _ _
     (omega arith) (own_default c.args.notes.now c.loop-note.note-index none (omega arith)) fell
     (c.loop-note.invariant.done files stores out) (rw put at (c.in_err-report.ensures.stopped files out stores s o s' o')))
 
@@ -45,7 +45,7 @@ loop-note-preserved g c = record {
   done = λ files stores out.
       let note = get_or c.args.notes.now c.loop-note.note-index none in
       let put : c.deref.result.now ≡ skipped_line c.args.name.now note = c.deref.ensures.value ∙ c.in_ok-line.ensures.bytes in
-      does_at (note_act c.args.name.now) c.args.notes.now c.loop-note.note-index note _ (told files stores out (g.E.Sink.written c.loop-note.err)) _
+      does_at (note_act c.args.name.now) c.args.notes.now c.loop-note.note-index note _ (observed files stores out (g.E.Sink.written c.loop-note.err)) _
       (omega arith) (own_default c.args.notes.now c.loop-note.note-index none (omega arith)) (c.loop-note.invariant.done files stores out)
-      (ap (told files stores out) (c.in_ok-report.ensures.ok ∙ ap (grown (g.E.Sink.written c.loop-note.err)) put));
+      (ap (observed files stores out) (c.in_ok-report.ensures.ok ∙ ap (grown (g.E.Sink.written c.loop-note.err)) put));
 }

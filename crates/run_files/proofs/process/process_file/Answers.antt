@@ -1,8 +1,8 @@
 use Rattle.std.proofs.Common.{◌≡◌, ◌∙◌, ap, sym, arith, List, ℕ}
 use Rattle.std.proofs.lemmas.Result.{err_from_is_err_and}
-use Rattle.run_acts.specs.Acts.{told}
+use Rattle.run_acts.specs.Acts.{observed}
 use Rattle.run_acts.specs.Breaks.{NoneFell, counts}
-use Rattle.run_files.specs.Treatment.{kept}
+use Rattle.run_files.specs.Treatment.{stored_after}
 use Rattle.run_files.proofs.ActLemmas.{Does-as, Stops-as}
 use Rattle.run_files.proofs.TreatLemmas.{applied_some, applied_none, refused_all, refused_part, treated_all}
 use Rattle.run_files.proofs.TreatLemmas.{stopped_in_lines, stopped_in_shown, stopped_in_kept}
@@ -22,8 +22,8 @@ returns-in_default-clause-treated g c =
     let rules = c.args.rules.now in
     let shelf = c.args.outside.now.shelf.now in let out = c.args.outside.now.out.now in
     let is = applied_none rules.patch.now rules.defined.now c.args.name.now c.args.bytes.items c.in_ok-applied.field-0
-    (told (g.S.Loads.holds shelf) (g.S.Loads.stores shelf) (g.O.Sink.written out) (g.E.Sink.written c.args.outside.now.err.now))
-    (told (g.S.Loads.holds shelf) (g.S.Loads.stores shelf) (g.O.Sink.written out) (g.E.Sink.written c.apply_or_refuse.new.err))
+    (observed (g.S.Loads.holds shelf) (g.S.Loads.stores shelf) (g.O.Sink.written out) (g.E.Sink.written c.args.outside.now.err.now))
+    (observed (g.S.Loads.holds shelf) (g.S.Loads.stores shelf) (g.O.Sink.written out) (g.E.Sink.written c.apply_or_refuse.new.err))
     c.in_default.not-Some (c.in_ok-applied.ensures.done (g.S.Loads.holds shelf) (g.S.Loads.stores shelf) (g.O.Sink.written out)) in
     refused_all c.args.mode rules.patch.now rules.defined.now c.args.name.now c.args.bytes.items c.requires.short _ _ is
 
@@ -33,8 +33,8 @@ returns-in_err-report_skipped-clause-stopped g c =
     let rules = c.args.rules.now in
     let shelf = c.args.outside.now.shelf.now in let out = c.args.outside.now.out.now in
     let is = applied_some rules.patch.now rules.defined.now c.args.name.now c.args.bytes.items c.in_ok-applied.field-0 c.in-Some.applied
-    (told (g.S.Loads.holds shelf) (g.S.Loads.stores shelf) (g.O.Sink.written out) (g.E.Sink.written c.args.outside.now.err.now))
-    (told (g.S.Loads.holds shelf) (g.S.Loads.stores shelf) (g.O.Sink.written out) (g.E.Sink.written c.apply_or_refuse.new.err))
+    (observed (g.S.Loads.holds shelf) (g.S.Loads.stores shelf) (g.O.Sink.written out) (g.E.Sink.written c.args.outside.now.err.now))
+    (observed (g.S.Loads.holds shelf) (g.S.Loads.stores shelf) (g.O.Sink.written out) (g.E.Sink.written c.apply_or_refuse.new.err))
     c.in-Some.is (c.in_ok-applied.ensures.done (g.S.Loads.holds shelf) (g.S.Loads.stores shelf) (g.O.Sink.written out)) in
     let fell : NoneFell (counts (g.S.Loads.faults shelf) (g.O.Sink.faults out) (g.E.Sink.faults c.args.outside.now.err.now))
     (counts (g.S.Loads.faults shelf) (g.O.Sink.faults out) (g.E.Sink.faults c.apply_or_refuse.new.err)) =
@@ -50,8 +50,8 @@ returns-in_err-show_file-clause-stopped g c =
     let rules = c.args.rules.now in
     let shelf = c.args.outside.now.shelf.now in let out = c.args.outside.now.out.now in
     let is = applied_some rules.patch.now rules.defined.now c.args.name.now c.args.bytes.items c.in_ok-applied.field-0 c.in-Some.applied
-    (told (g.S.Loads.holds shelf) (g.S.Loads.stores shelf) (g.O.Sink.written out) (g.E.Sink.written c.args.outside.now.err.now))
-    (told (g.S.Loads.holds shelf) (g.S.Loads.stores shelf) (g.O.Sink.written out) (g.E.Sink.written c.apply_or_refuse.new.err))
+    (observed (g.S.Loads.holds shelf) (g.S.Loads.stores shelf) (g.O.Sink.written out) (g.E.Sink.written c.args.outside.now.err.now))
+    (observed (g.S.Loads.holds shelf) (g.S.Loads.stores shelf) (g.O.Sink.written out) (g.E.Sink.written c.apply_or_refuse.new.err))
     c.in-Some.is (c.in_ok-applied.ensures.done (g.S.Loads.holds shelf) (g.S.Loads.stores shelf) (g.O.Sink.written out)) in
     let fell : NoneFell (counts (g.S.Loads.faults shelf) (g.O.Sink.faults out) (g.E.Sink.faults c.args.outside.now.err.now))
     (counts (g.S.Loads.faults shelf) (g.O.Sink.faults out) (g.E.Sink.faults c.report_skipped.new.err)) =
@@ -61,14 +61,14 @@ returns-in_err-show_file-clause-stopped g c =
     (c.in_ok-report_skipped.ensures.done (g.S.Loads.holds shelf) (g.S.Loads.stores shelf) (g.O.Sink.written out))
     (c.in_err-show_file.ensures.stopped is.0 is.1.1.0))
 
-pub returns-in_err-keep_file-clause-stopped : goal.returns-in_err-keep_file-clause-stopped
-returns-in_err-keep_file-clause-stopped g c =
-    let p = err_from_is_err_and c.from_residual-in_err-keep_file.result c.from_residual-in_err-keep_file.ensures.1 in
+pub returns-in_err-store_file-clause-stopped : goal.returns-in_err-store_file-clause-stopped
+returns-in_err-store_file-clause-stopped g c =
+    let p = err_from_is_err_and c.from_residual-in_err-store_file.result c.from_residual-in_err-store_file.ensures.1 in
     let rules = c.args.rules.now in
     let shelf = c.args.outside.now.shelf.now in let out = c.args.outside.now.out.now in let name = c.args.name.now in
     let is = applied_some rules.patch.now rules.defined.now c.args.name.now c.args.bytes.items c.in_ok-applied.field-0 c.in-Some.applied
-    (told (g.S.Loads.holds shelf) (g.S.Loads.stores shelf) (g.O.Sink.written out) (g.E.Sink.written c.args.outside.now.err.now))
-    (told (g.S.Loads.holds shelf) (g.S.Loads.stores shelf) (g.O.Sink.written out) (g.E.Sink.written c.apply_or_refuse.new.err))
+    (observed (g.S.Loads.holds shelf) (g.S.Loads.stores shelf) (g.O.Sink.written out) (g.E.Sink.written c.args.outside.now.err.now))
+    (observed (g.S.Loads.holds shelf) (g.S.Loads.stores shelf) (g.O.Sink.written out) (g.E.Sink.written c.apply_or_refuse.new.err))
     c.in-Some.is (c.in_ok-applied.ensures.done (g.S.Loads.holds shelf) (g.S.Loads.stores shelf) (g.O.Sink.written out)) in
     let fell : NoneFell (counts (g.S.Loads.faults shelf) (g.O.Sink.faults out) (g.E.Sink.faults c.args.outside.now.err.now))
     (counts (g.S.Loads.faults c.show_file.new.outside.shelf.now) (g.O.Sink.faults c.show_file.new.outside.out.now)
@@ -79,31 +79,31 @@ returns-in_err-keep_file-clause-stopped g c =
       err = omega (arith, c.in_ok-applied.ensures.later, c.in_ok-report_skipped.ensures.later, c.in_ok-show_file.ensures.later_err);
     } in
     let text : is.0.page.bytes ≡ c.deref-3.result.now = sym (c.deref-3.ensures.value ∙ is.1.1.0.bytes) in
-    let same : kept c.args.mode name c.deref-2.result.now is.0 ≡ kept c.args.mode name c.args.bytes.items is.0 =
-    ap (λ (b : List ℕ). kept c.args.mode name b is.0) c.deref-2.ensures.value ∙ c.in_ok-old.ensures name is.0
-    ∙ ap (λ (b : List ℕ). kept c.args.mode name b is.0) c.deref.ensures.value in
-    let cut = c.in_err-keep_file.ensures.stopped is.0 text in
+    let same : stored_after c.args.mode name c.deref-2.result.now is.0 ≡ stored_after c.args.mode name c.args.bytes.items is.0 =
+    ap (λ (b : List ℕ). stored_after c.args.mode name b is.0) c.deref-2.ensures.value ∙ c.in_ok-old.ensures name is.0
+    ∙ ap (λ (b : List ℕ). stored_after c.args.mode name b is.0) c.deref.ensures.value in
+    let cut = c.in_err-store_file.ensures.stopped is.0 text in
     rw (p.1, p.2) (stopped_in_kept c.args.mode rules.patch.now rules.defined.now name c.args.bytes.items c.requires.short is.0 is.1.0
     c.as_slice.result.now (c.as_slice.ensures ∙ is.1.1.0.skipped) _ _ _ _ _ _ _ _ _ fell is.1.1.1
     (c.in_ok-report_skipped.ensures.done (g.S.Loads.holds shelf) (g.S.Loads.stores shelf) (g.O.Sink.written out))
     (c.in_ok-show_file.ensures.done is.0 is.1.1.0)
-    (Stops-as (kept c.args.mode name c.deref-2.result.now is.0) (kept c.args.mode name c.args.bytes.items is.0) _ _ _ _ _ same cut))
+    (Stops-as (stored_after c.args.mode name c.deref-2.result.now is.0) (stored_after c.args.mode name c.args.bytes.items is.0) _ _ _ _ _ same cut))
 
 pub returns-clause-treated : goal.returns-clause-treated
 returns-clause-treated g c =
     let rules = c.args.rules.now in
     let shelf = c.args.outside.now.shelf.now in let out = c.args.outside.now.out.now in let name = c.args.name.now in
     let is = applied_some rules.patch.now rules.defined.now c.args.name.now c.args.bytes.items c.in_ok-applied.field-0 c.in-Some.applied
-    (told (g.S.Loads.holds shelf) (g.S.Loads.stores shelf) (g.O.Sink.written out) (g.E.Sink.written c.args.outside.now.err.now))
-    (told (g.S.Loads.holds shelf) (g.S.Loads.stores shelf) (g.O.Sink.written out) (g.E.Sink.written c.apply_or_refuse.new.err))
+    (observed (g.S.Loads.holds shelf) (g.S.Loads.stores shelf) (g.O.Sink.written out) (g.E.Sink.written c.args.outside.now.err.now))
+    (observed (g.S.Loads.holds shelf) (g.S.Loads.stores shelf) (g.O.Sink.written out) (g.E.Sink.written c.apply_or_refuse.new.err))
     c.in-Some.is (c.in_ok-applied.ensures.done (g.S.Loads.holds shelf) (g.S.Loads.stores shelf) (g.O.Sink.written out)) in
     let text : is.0.page.bytes ≡ c.deref-3.result.now = sym (c.deref-3.ensures.value ∙ is.1.1.0.bytes) in
-    let same : kept c.args.mode name c.deref-2.result.now is.0 ≡ kept c.args.mode name c.args.bytes.items is.0 =
-    ap (λ (b : List ℕ). kept c.args.mode name b is.0) c.deref-2.ensures.value ∙ c.in_ok-old.ensures name is.0
-    ∙ ap (λ (b : List ℕ). kept c.args.mode name b is.0) c.deref.ensures.value in
+    let same : stored_after c.args.mode name c.deref-2.result.now is.0 ≡ stored_after c.args.mode name c.args.bytes.items is.0 =
+    ap (λ (b : List ℕ). stored_after c.args.mode name b is.0) c.deref-2.ensures.value ∙ c.in_ok-old.ensures name is.0
+    ∙ ap (λ (b : List ℕ). stored_after c.args.mode name b is.0) c.deref.ensures.value in
     treated_all c.args.mode rules.patch.now rules.defined.now name c.args.bytes.items c.requires.short is.0 is.1.0
     c.as_slice.result.now (c.as_slice.ensures ∙ is.1.1.0.skipped) _ _ _ _ _ is.1.1.1
     (c.in_ok-report_skipped.ensures.done (g.S.Loads.holds shelf) (g.S.Loads.stores shelf) (g.O.Sink.written out))
     (c.in_ok-show_file.ensures.done is.0 is.1.1.0)
-    (Does-as (kept c.args.mode name c.deref-2.result.now is.0) (kept c.args.mode name c.args.bytes.items is.0) _ _ same
-    (c.in_ok-keep_file.ensures.done is.0 text))
+    (Does-as (stored_after c.args.mode name c.deref-2.result.now is.0) (stored_after c.args.mode name c.args.bytes.items is.0) _ _ same
+    (c.in_ok-store_file.ensures.done is.0 text))

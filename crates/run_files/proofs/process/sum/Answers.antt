@@ -1,6 +1,6 @@
 use Rattle.std.proofs.Common.{◌∙◌, arith}
 use Rattle.std.proofs.lemmas.Result.{err_from_is_err_and}
-use Rattle.run_acts.specs.Acts.{told}
+use Rattle.run_acts.specs.Acts.{observed}
 use Rattle.run_acts.specs.Breaks.{NoneFell, counts}
 use Rattle.run_files.proofs.TreatLemmas.{applied_some, applied_none, sum_refused_all, sum_refused_part, summed_all, sum_stopped_in_lines, stopped_in_summary}
 use Rattle.run_files.proofs.process.sum.Goals as goal
@@ -17,8 +17,8 @@ pub returns-in_default-clause-treated : goal.returns-in_default-clause-treated
 returns-in_default-clause-treated g c = λ files stores.
     let rules = c.args.rules.now in let out = c.args.out.now in
     let is = applied_none rules.patch.now rules.defined.now c.args.name.now c.args.bytes.items c.in_ok-applied.field-0
-    (told files stores (g.O.Sink.written out) (g.E.Sink.written c.args.err.now))
-    (told files stores (g.O.Sink.written out) (g.E.Sink.written c.apply_or_refuse.new.err))
+    (observed files stores (g.O.Sink.written out) (g.E.Sink.written c.args.err.now))
+    (observed files stores (g.O.Sink.written out) (g.E.Sink.written c.apply_or_refuse.new.err))
     c.in_default.not-Some (c.in_ok-applied.ensures.done files stores (g.O.Sink.written out)) in
     sum_refused_all rules.patch.now rules.defined.now c.args.name.now c.args.bytes.items _ _ is
 
@@ -28,8 +28,8 @@ returns-in_err-report_skipped-clause-stopped g c =
     let rules = c.args.rules.now in let out = c.args.out.now in
     rw (p.1, p.2) (λ files stores n n'.
     let is = applied_some rules.patch.now rules.defined.now c.args.name.now c.args.bytes.items c.in_ok-applied.field-0 c.in-Some.applied
-    (told files stores (g.O.Sink.written out) (g.E.Sink.written c.args.err.now))
-    (told files stores (g.O.Sink.written out) (g.E.Sink.written c.apply_or_refuse.new.err))
+    (observed files stores (g.O.Sink.written out) (g.E.Sink.written c.args.err.now))
+    (observed files stores (g.O.Sink.written out) (g.E.Sink.written c.apply_or_refuse.new.err))
     c.in-Some.is (c.in_ok-applied.ensures.done files stores (g.O.Sink.written out)) in
     let fell : NoneFell (counts n (g.O.Sink.faults out) (g.E.Sink.faults c.args.err.now))
     (counts n (g.O.Sink.faults out) (g.E.Sink.faults c.apply_or_refuse.new.err)) =
@@ -44,8 +44,8 @@ returns-in_err-show_summary-clause-stopped g c =
     let rules = c.args.rules.now in let out = c.args.out.now in
     rw (p.1, p.2) (λ files stores n n'.
     let is = applied_some rules.patch.now rules.defined.now c.args.name.now c.args.bytes.items c.in_ok-applied.field-0 c.in-Some.applied
-    (told files stores (g.O.Sink.written out) (g.E.Sink.written c.args.err.now))
-    (told files stores (g.O.Sink.written out) (g.E.Sink.written c.apply_or_refuse.new.err))
+    (observed files stores (g.O.Sink.written out) (g.E.Sink.written c.args.err.now))
+    (observed files stores (g.O.Sink.written out) (g.E.Sink.written c.apply_or_refuse.new.err))
     c.in-Some.is (c.in_ok-applied.ensures.done files stores (g.O.Sink.written out)) in
     let fell : NoneFell (counts n (g.O.Sink.faults out) (g.E.Sink.faults c.args.err.now))
     (counts n (g.O.Sink.faults out) (g.E.Sink.faults c.report_skipped.new.err)) =
@@ -59,8 +59,8 @@ pub returns-clause-treated : goal.returns-clause-treated
 returns-clause-treated g c = λ files stores.
     let rules = c.args.rules.now in let out = c.args.out.now in
     let is = applied_some rules.patch.now rules.defined.now c.args.name.now c.args.bytes.items c.in_ok-applied.field-0 c.in-Some.applied
-    (told files stores (g.O.Sink.written out) (g.E.Sink.written c.args.err.now))
-    (told files stores (g.O.Sink.written out) (g.E.Sink.written c.apply_or_refuse.new.err))
+    (observed files stores (g.O.Sink.written out) (g.E.Sink.written c.args.err.now))
+    (observed files stores (g.O.Sink.written out) (g.E.Sink.written c.apply_or_refuse.new.err))
     c.in-Some.is (c.in_ok-applied.ensures.done files stores (g.O.Sink.written out)) in
     summed_all rules.patch.now rules.defined.now c.args.name.now c.args.bytes.items is.0 is.1.0
     c.as_slice.result.now (c.as_slice.ensures ∙ is.1.1.0.skipped) _ _ _ _ is.1.1.1

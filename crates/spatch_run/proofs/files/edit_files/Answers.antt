@@ -7,7 +7,7 @@ use Rattle.run_acts.proofs.PlacesLemmas.{SamePlaces-refl, SamePlaces-then}
 use Rattle.std.specs.Borrow.{Bor}
 use Rattle.smpl_patch.specs.declared.rule.Patch.{Patch}
 use Rattle.run_words.specs.declared.order.Mode.{Mode}
-use Rattle.run_acts.specs.Acts.{Told}
+use Rattle.run_acts.specs.Acts.{Observed}
 use Rattle.run_files.specs.RunStages.Ends.{Goes, Ends}
 use Rattle.run_acts.specs.Breaks.{Counts, NoneFell}
 use Rattle.run_acts.specs.Lines.{cannot_read}
@@ -24,15 +24,15 @@ left_of : (xs : List (Bor (List ℕ))) (i : ℕ) (x : Bor (List ℕ)) → i < le
 left_of xs i x less = rw add-one (ap (map (λ name. name.now)) (drop-cons xs i x less))
 
 module _ (patch : Patch) (defined : List (List ℕ)) (mode : Mode) (xs : List (Bor (List ℕ))) (i : ℕ) (x : Bor (List ℕ)) (refused : Bool) where
-  step_on : (here_refused : Bool) {from : Stage} {old now new : Told} → i < length xs
+  step_on : (here_refused : Bool) {from : Stage} {old now new : Observed} → i < length xs
       → Goes from old (going [] patch defined mode (map (λ name. name.now) (drop i xs)) refused) now
-      → TurnsTo (turn.Treated here_refused) patch defined mode (get_or xs i x).now now new
+      → TurnsTo (turn.Processed here_refused) patch defined mode (get_or xs i x).now now new
       → Goes from old (going [] patch defined mode (map (λ name. name.now) (drop (i + 1) xs)) (refused || here_refused)) new
   step_on here_refused {from = from} {old = old} {now = now} less goes turned =
       Goes-then (subst (λ (names : List (List ℕ)). Goes from old (going [] patch defined mode names refused) now)
       (left_of xs i x less) goes) (turn_goes patch defined mode (get_or xs i x).now (map (λ name. name.now) (drop (i + 1) xs)) refused here_refused turned)
 
-  step_cut : {from : Stage} {first before now : Counts} {old here new : Told} {status : ℕ} → i < length xs
+  step_cut : {from : Stage} {first before now : Counts} {old here new : Observed} {status : ℕ} → i < length xs
       → Goes from old (going [] patch defined mode (map (λ name. name.now) (drop i xs)) refused) here → NoneFell first before
       → ((names : List (List ℕ)) (r : Bool)
       → Ends (Doing [] (EditFiles patch defined mode (get_or xs i x).now names r)) before now here new status) → Ends from first now old new status
@@ -40,7 +40,7 @@ module _ (patch : Patch) (defined : List (List ℕ)) (mode : Mode) (xs : List (B
       Goes-ends (subst (λ (names : List (List ℕ)). Goes from old (going [] patch defined mode names refused) here)
       (left_of xs i x less) goes) fell (ends (map (λ name. name.now) (drop (i + 1) xs)) refused)
 
-  step_absent : {from : Stage} {first before mid now : Counts} {old here there new : Told} {status : ℕ} → i < length xs
+  step_absent : {from : Stage} {first before mid now : Counts} {old here there new : Observed} {status : ℕ} → i < length xs
       → Goes from old (going [] patch defined mode (map (λ name. name.now) (drop i xs)) refused) here → NoneFell first before
       → NoneFell before mid → TurnsTo turn.Absent patch defined mode (get_or xs i x).now here there
       → Ends (refusing (cannot_read (get_or xs i x).now) 5) mid now there new status → Ends from first now old new status
@@ -75,8 +75,8 @@ loop-name-preserved g c =
       same = SamePlaces-then c.args.outside.now c.loop-name.outside c.take_turn.new.outside inv.same c.in_ok-take_turn.ensures.same;
       fell = NoneFell-then _ _ _ inv.fell c.in_ok-take_turn.ensures.fell;
       goes = rw c.either-refused.ensures (step_on c.args.rules.now.patch.now c.args.rules.now.defined.now c.args.mode
-          c.args.names.now c.loop-name.name-index (record { ref_ptr = (0, 0); now = [] }) c.loop-name.refused c.in-Treated.here
-          (omega arith) inv.goes (rw c.in-Treated.is at c.in_ok-take_turn.ensures.turned));
+          c.args.names.now c.loop-name.name-index (record { ref_ptr = (0, 0); now = [] }) c.loop-name.refused c.in-Processed.here
+          (omega arith) inv.goes (rw c.in-Processed.is at c.in_ok-take_turn.ensures.turned));
     }
 
 pub returns-clause-ends : goal.returns-clause-ends

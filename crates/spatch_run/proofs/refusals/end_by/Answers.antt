@@ -1,6 +1,6 @@
 use Rattle.std.proofs.Common.{[], refl, arith}
 use Rattle.std.proofs.lemmas.Result.{err_from_is_err_and}
-use Rattle.run_acts.specs.Acts.{Report, told}
+use Rattle.run_acts.specs.Acts.{Report, observed}
 use Rattle.run_acts.specs.Breaks.{NoneFell, counts}
 use Rattle.run_acts.specs.Statuses.{number_of}
 use Rattle.run_files.specs.RunStages.Stages.{refusing, Ending}
@@ -21,7 +21,7 @@ returns g c = record {
       let fell : NoneFell (counts s o (g.E.Sink.faults c.args.err.now)) (counts s o (g.E.Sink.faults c.report.new.err)) =
       record { shelf = omega arith; out = omega arith; err = c.in_ok-report.ensures.later } in
       Goes-ends (Goes-act (refusing c.args.line.now (number_of c.args.status)) (Report c.args.line.now)
-      (Ending [] (number_of c.args.status)) (told files stores out (g.E.Sink.written c.args.err.now))
-      (told files stores out (g.E.Sink.written c.report.new.err)) refl refl (rw c.in_ok-report.ensures.ok refl)) fell
+      (Ending [] (number_of c.args.status)) (observed files stores out (g.E.Sink.written c.args.err.now))
+      (observed files stores out (g.E.Sink.written c.report.new.err)) refl refl (rw c.in_ok-report.ensures.ok refl)) fell
       (over (Ending [] (number_of c.args.status)) _ _ (number_of c.args.status) refl);
 }

@@ -1,6 +1,6 @@
 use Rattle.std.proofs.Common.{◌≡◌, ◌∙◌, [], ◌∷◌, refl, inl, arith}
 use Rattle.std.proofs.lemmas.Result.{err_from_is_err_and}
-use Rattle.run_acts.specs.Acts.{Print, told}
+use Rattle.run_acts.specs.Acts.{Print, observed}
 use Rattle.run_acts.specs.Breaks.{NoneFell, counts}
 use Rattle.run_acts.proofs.BreaksLemmas.{NoneFell-refl}
 use Rattle.sp_gen.specs.Generated.{generated}
@@ -36,7 +36,7 @@ returns g c = record {
       (counts s (g.O.Sink.faults c.print.new.out) (g.E.Sink.faults c.print.new.err)) =
       record { shelf = omega arith; out = c.in_ok-print.ensures.later; err = c.in_ok-print.ensures.later_err } in
       Goes-ends (Goes-act (Ending (Print text ∷ []) 0) (Print text) (Ending [] 0)
-      (told files stores (g.O.Sink.written c.args.out.now) (g.E.Sink.written c.args.err.now))
-      (told files stores (g.O.Sink.written c.print.new.out) (g.E.Sink.written c.print.new.err)) refl refl
+      (observed files stores (g.O.Sink.written c.args.out.now) (g.E.Sink.written c.args.err.now))
+      (observed files stores (g.O.Sink.written c.print.new.out) (g.E.Sink.written c.print.new.err)) refl refl
       (rw (c.in_ok-print.ensures.ok, c.in_ok-print.ensures.ok_err, put) refl)) fell (over (Ending [] 0) _ _ 0 refl);
 }

@@ -7,7 +7,7 @@ use Rattle.smpl_patch.specs.Shapes.{patterns_body}
 use Rattle.edit_marks.specs.EditWalk.Touches.{touches}
 use Rattle.edit_marks.specs.Tokens.{file_tokens}
 use Rattle.edit_marks.proofs.EditWalk.GrowingLemmas.{adds_all}
-use Rattle.edit_marks.proofs.EditWalk.SiteLemmas.{same_site}
+use Rattle.edit_marks.proofs.EditWalk.WalkContextLemmas.{same_site}
 use Rattle.edit_marks.proofs.edit_walk.walk.all_edits.Goals as goal
 
 pub returns : goal.returns

@@ -1,18 +1,18 @@
 use Rattle.edit_marks.specs.EditWalk.Touches.{touches_in}
-use Rattle.edit_marks.specs.EditWalk.Sites.{IsEditHere}
+use Rattle.edit_marks.specs.EditWalk.WalkContexts.{IsEditHere}
 use Rattle.edit_marks.proofs.EditWalk.GrowingLemmas.{adds_none, adds_more, adds_end}
 use Rattle.edit_marks.proofs.edit_walk.walk.put_forest.Goals as goal
 
 pub loop-tree-init : goal.loop-tree-init
-loop-tree-init c = adds_none (IsEditHere c.args.site.now) c.args.edits.now.items
+loop-tree-init c = adds_none (IsEditHere c.args.context.now) c.args.edits.now.items
 
 pub loop-tree-preserved : goal.loop-tree-preserved
 loop-tree-preserved c =
-    adds_more (IsEditHere c.args.site.now) (touches_in c.args.item c.args.env.now) c.args.forest.now c.loop-tree.tree-index c.tree-item.result
+    adds_more (IsEditHere c.args.context.now) (touches_in c.args.item c.args.env.now) c.args.forest.now c.loop-tree.tree-index c.tree-item.result
     c.args.edits.now.items c.loop-tree.edits.items c.put_tree.new.edits.items c.loop-tree-test.true c.tree-item.is
     c.loop-tree.invariant c.in_ok-put_tree.ensures
 
 pub returns : goal.returns
 returns c =
-    adds_end (IsEditHere c.args.site.now) (touches_in c.args.item c.args.env.now) c.args.forest.now c.loop-tree.tree-index
+    adds_end (IsEditHere c.args.context.now) (touches_in c.args.item c.args.env.now) c.args.forest.now c.loop-tree.tree-index
     c.args.edits.now.items c.loop-tree.edits.items c.loop-tree-test.false c.loop-tree.invariant

@@ -4,7 +4,7 @@ use Rattle.std.proofs.lemmas.List.{take_all}
 use Rattle.std.proofs.lemmas.Result.{err_from_is_err_and}
 use Rattle.cfg_build.specs.CfgGraph.Flow.{count_of}
 use Rattle.rule_chain.specs.RuleWitnesses.Bare.{bare_witness}
-use Rattle.rule_chain.specs.RuleWitnesses.Jobs.{nodes_of, witnesses_at, witnesses_of}
+use Rattle.rule_chain.specs.RuleWitnesses.Jobs.{touches_and_binds, witnesses_at, witnesses_of}
 use Rattle.rule_chain.proofs.RuleWitnesses.JobLemmas.{nodes_more, nodes_past, nodes-same, set_told, set_leaves}
 use Rattle.rule_chain.proofs.RuleWitnesses.MatchLemmas.{item_at, matched_within, matched_all}
 use Rattle.rule_chain.proofs.rule_witnesses.job.item_witnesses.Goals as goal
@@ -31,7 +31,8 @@ with_node-requires-clause-told c =
     let p = item_at c.as_slice-s-items.result.now c.args.matched.now.nodes c.loop-s.s-index c.as_slice-s-items.ensures c.loop-s-test.true in
     let lt = matched_within c.args.g.now.graph.now c.args.query.now.f.now c.args.matched.now.sets c.args.matched.now.nodes c.requires.matched
     c.loop-s.s-index (get_or c.as_slice-s-items.result.now c.loop-s.s-index 0) p.0 p.1 in
-    set_told c.args.g.now.graph.now c.args.query.now.f.now c.args.matched.now.sets c.args.g.now.sound c.requires.matched.sets c.root-root.result c.root-root.ensures.root
+    set_told c.args.g.now.graph.now c.args.query.now.f.now c.args.matched.now.sets c.args.g.now.sound c.requires.matched.sets
+    c.root-root.result c.root-root.ensures.root
     c.root-root.ensures.within (get_or c.as_slice-s-items.result.now c.loop-s.s-index 0) lt c.at-set.result.now c.at-set.ensures.set
 
 pub with_node-requires-clause-leaves : goal.with_node-requires-clause-leaves
@@ -39,7 +40,8 @@ with_node-requires-clause-leaves c =
     let p = item_at c.as_slice-s-items.result.now c.args.matched.now.nodes c.loop-s.s-index c.as_slice-s-items.ensures c.loop-s-test.true in
     let lt = matched_within c.args.g.now.graph.now c.args.query.now.f.now c.args.matched.now.sets c.args.matched.now.nodes c.requires.matched
     c.loop-s.s-index (get_or c.as_slice-s-items.result.now c.loop-s.s-index 0) p.0 p.1 in
-    set_leaves c.args.g.now.graph.now c.args.query.now.f.now c.args.matched.now.sets c.args.g.now.sound c.requires.matched.sets c.root-root.result c.root-root.ensures.root
+    set_leaves c.args.g.now.graph.now c.args.query.now.f.now c.args.matched.now.sets c.args.g.now.sound c.requires.matched.sets
+    c.root-root.result c.root-root.ensures.root
     c.root-root.ensures.within (get_or c.as_slice-s-items.result.now c.loop-s.s-index 0) lt c.at-set.result.now
     c.at-set.ensures.set c.args.query.now.stand c.args.query.now.exports.now c.args.query.now.binds
     c.args.env.now
@@ -47,7 +49,8 @@ with_node-requires-clause-leaves c =
 pub loop-s-preserved : goal.loop-s-preserved
 loop-s-preserved c =
     let p = item_at c.as_slice-s-items.result.now c.args.matched.now.nodes c.loop-s.s-index c.as_slice-s-items.ensures c.loop-s-test.true in
-    nodes_more (λ s. witnesses_at c.args.query.now.f.now c.args.g.now.graph.now c.args.query.now.exports.now c.args.query.now.number c.args.item s c.args.env.now) c.args.matched.now.nodes
+    nodes_more (λ s. witnesses_at c.args.query.now.f.now c.args.g.now.graph.now c.args.query.now.exports.now
+    c.args.query.now.number c.args.item s c.args.env.now) c.args.matched.now.nodes
     c.loop-s.found.witnesses c.in_ok-found.found.witnesses c.loop-s.s-index
     (get_or c.as_slice-s-items.result.now c.loop-s.s-index 0) p.0 p.1 c.loop-s.invariant c.in_ok-found.ensures.found
 
@@ -59,8 +62,9 @@ returns-in_err-found-clause-too_many c = λ h.
     let nodes = c.args.matched.now.nodes in
     let p = item_at c.as_slice-s-items.result.now nodes c.loop-s.s-index c.as_slice-s-items.ensures c.loop-s-test.true in
     let low = subst (λ (n : ℕ). n < length f.nodes) c.root-root.ensures.root c.root-root.ensures.within in
-    subst (λ ws. 1000000 < nodes_of ws)
-    (matched_all g f c.args.matched.now.sets nodes c.requires.matched c.args.g.now.sound low c.args.query.now.exports.now c.args.query.now.number c.args.item c.args.env.now)
+    subst (λ ws. 1000000 < touches_and_binds ws)
+    (matched_all g f c.args.matched.now.sets nodes c.requires.matched c.args.g.now.sound low c.args.query.now.exports.now
+    c.args.query.now.number c.args.item c.args.env.now)
     (nodes_past (λ s. witnesses_at f g c.args.query.now.exports.now c.args.query.now.number c.args.item s c.args.env.now) nodes
     c.loop-s.found.witnesses c.loop-s.s-index
     (get_or c.as_slice-s-items.result.now c.loop-s.s-index 0) p.0 p.1 c.loop-s.invariant (c.in_err-found.ensures.too_many (cc (h, e.1, e.2))))
@@ -71,11 +75,13 @@ returns-clause-found c =
     let g = c.args.g.now.graph.now in
     let nodes = c.args.matched.now.nodes in
     let low = subst (λ (n : ℕ). n < length f.nodes) c.root-root.ensures.root c.root-root.ensures.within in
-    let all = λ (ns : List ℕ). map bare_witness (flat_map (λ s. witnesses_at f g c.args.query.now.exports.now c.args.query.now.number c.args.item s c.args.env.now) ns) in
+    let all = λ (ns : List ℕ). map bare_witness
+    (flat_map (λ s. witnesses_at f g c.args.query.now.exports.now c.args.query.now.number c.args.item s c.args.env.now) ns) in
     let end : length nodes ≤ c.loop-s.s-index = omega (arith, ap length c.as_slice-s-items.ensures, c.loop-s-test.false) in
     ap (map bare_witness) c.into_items.ensures.items ∙ c.loop-s.invariant ∙ ap all (take_all c.loop-s.s-index nodes end)
     ∙ ap (map bare_witness)
-    (matched_all g f c.args.matched.now.sets nodes c.requires.matched c.args.g.now.sound low c.args.query.now.exports.now c.args.query.now.number c.args.item c.args.env.now)
+    (matched_all g f c.args.matched.now.sets nodes c.requires.matched c.args.g.now.sound low c.args.query.now.exports.now
+    c.args.query.now.number c.args.item c.args.env.now)
 
 pub returns-clause-few : goal.returns-clause-few
 returns-clause-few c =
@@ -83,9 +89,11 @@ returns-clause-few c =
     let g = c.args.g.now.graph.now in
     let nodes = c.args.matched.now.nodes in
     let low = subst (λ (n : ℕ). n < length f.nodes) c.root-root.ensures.root c.root-root.ensures.within in
-    let all = λ (ns : List ℕ). map bare_witness (flat_map (λ s. witnesses_at f g c.args.query.now.exports.now c.args.query.now.number c.args.item s c.args.env.now) ns) in
+    let all = λ (ns : List ℕ). map bare_witness
+    (flat_map (λ s. witnesses_at f g c.args.query.now.exports.now c.args.query.now.number c.args.item s c.args.env.now) ns) in
     let end : length nodes ≤ c.loop-s.s-index = omega (arith, ap length c.as_slice-s-items.ensures, c.loop-s-test.false) in
-    let same : nodes_of c.into_items.result ≡ nodes_of (witnesses_of f g c.args.query.now.exports.now c.args.query.now.number c.args.item c.args.env.now) =
+    let same : touches_and_binds c.into_items.result
+    ≡ touches_and_binds (witnesses_of f g c.args.query.now.exports.now c.args.query.now.number c.args.item c.args.env.now) =
     nodes-same c.into_items.result (witnesses_of f g c.args.query.now.exports.now c.args.query.now.number c.args.item c.args.env.now)
     (ap (map bare_witness) c.into_items.ensures.items ∙ c.loop-s.invariant ∙ ap all (take_all c.loop-s.s-index nodes end)
     ∙ ap (map bare_witness)

@@ -1,4 +1,4 @@
-use Rattle.rule_laws.proofs.ChainLaws.AskedLemmas.{all-may}
+use Rattle.rule_laws.proofs.ChainLaws.RequiredLemmas.{all-may}
 use Rattle.rule_laws.proofs.chain_laws.laws.rules_that_are_read_may_run.Goals as goal
 
 pub returns : goal.returns

@@ -1,7 +1,7 @@
 use Rattle.std.proofs.Common.{◌∙◌}
 use Rattle.std.proofs.lemmas.List.Elements.{All-from_recursion, recursion_from_All}
 use Rattle.rule_laws.specs.Ready.{IsReady}
-use Rattle.rule_laws.proofs.ChainLaws.AskedLemmas.{all-may}
+use Rattle.rule_laws.proofs.ChainLaws.RequiredLemmas.{all-may}
 use Rattle.rule_laws.proofs.FormLaws.ReadyLemmas.{rules-ready, few-rules}
 use Rattle.rule_laws.proofs.form_laws.laws.rules_with_forms_may_run.Goals as goal
 

@@ -1,4 +1,4 @@
-use Rattle.rule_chain.specs.RuleWork.OneRule.{rule_found}
+use Rattle.rule_chain.specs.RuleRun.OneRule.{file_witnesses}
 use Rattle.rule_chain.specs.RuleEdits.Kinds.{kinds_of}
 use Rattle.c_lexer.proofs.Exists.{lexes_some}
 use Rattle.text_laws.proofs.AgainLaws.TokenLemmas.{again_solid, cut_tokens}
@@ -6,7 +6,7 @@ use Rattle.text_laws.proofs.again_laws.laws.new_texts_are_of_their_tokens.Goals 
 
 pub returns-clause-solid : goal.returns-clause-solid
 returns-clause-solid c = λ defined number rule s edits again plus sound are lexes.
-    let found = rule_found defined number rule s in
+    let found = file_witnesses defined number rule s in
     let terms = c.found_values_are_sound.ensures.found defined s.had number rule s.pieces s.items s.carriers sound.cuts sound.reads sound.carried in
     let fair = c.edits_are_fair.ensures found rule s.items (kinds_of s.items) s.pieces edits sound.cuts sound.reads sound.differ
     (c.touches_are_sound.ensures rule found plus terms) are in
@@ -14,7 +14,7 @@ returns-clause-solid c = λ defined number rule s edits again plus sound are lex
 
 pub returns-clause-tokens : goal.returns-clause-tokens
 returns-clause-tokens c = λ defined number rule s edits pieces plus sound are is.
-    let found = rule_found defined number rule s in
+    let found = file_witnesses defined number rule s in
     let terms = c.found_values_are_sound.ensures.found defined s.had number rule s.pieces s.items s.carriers sound.cuts sound.reads sound.carried in
     let fair = c.edits_are_fair.ensures found rule s.items (kinds_of s.items) s.pieces edits sound.cuts sound.reads sound.differ
     (c.touches_are_sound.ensures rule found plus terms) are in

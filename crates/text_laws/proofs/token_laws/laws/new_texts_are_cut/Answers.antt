@@ -1,4 +1,4 @@
-use Rattle.rule_chain.specs.RuleWork.OneRule.{rule_found, worked}
+use Rattle.rule_chain.specs.RuleRun.OneRule.{file_witnesses, worked}
 use Rattle.rule_chain.specs.RuleEdits.Kinds.{kinds_of}
 use Rattle.text_laws.proofs.TokenLaws.PieceLemmas.{cut_again}
 use Rattle.text_laws.proofs.token_laws.laws.new_texts_are_cut.Goals as goal
@@ -6,8 +6,8 @@ use Rattle.text_laws.proofs.token_laws.laws.new_texts_are_cut.Goals as goal
 pub returns-clause-counted : goal.returns-clause-counted
 returns-clause-counted c = λ defined number rule s edits again plus sound are lexes.
     let terms = c.found_values_are_sound.ensures.found defined s.had number rule s.pieces s.items s.carriers sound.cuts sound.reads sound.carried in
-    c.text_keeps_its_tokens.ensures (rule_found defined number rule s) rule s.items (kinds_of s.items) s.pieces edits s.page.next again
-    sound.cuts sound.reads sound.differ (c.touches_are_sound.ensures rule (rule_found defined number rule s) plus terms) are lexes
+    c.text_keeps_its_tokens.ensures (file_witnesses defined number rule s) rule s.items (kinds_of s.items) s.pieces edits s.page.next again
+    sound.cuts sound.reads sound.differ (c.touches_are_sound.ensures rule (file_witnesses defined number rule s) plus terms) are lexes
 
 pub returns-clause-pieces : goal.returns-clause-pieces
 returns-clause-pieces c = λ defined number rule s edits plus sound are.
@@ -15,5 +15,5 @@ returns-clause-pieces c = λ defined number rule s edits plus sound are.
     let cut = c.every_text_is_cut.ensures.pieces left.page.bytes in
     let terms = c.found_values_are_sound.ensures.found defined s.had number rule s.pieces s.items s.carriers sound.cuts sound.reads sound.carried in
     cut_again left.page cut.0 cut.1
-    (c.text_keeps_its_tokens.ensures (rule_found defined number rule s) rule s.items (kinds_of s.items) s.pieces edits s.page.next cut.0
-    sound.cuts sound.reads sound.differ (c.touches_are_sound.ensures rule (rule_found defined number rule s) plus terms) are cut.1)
+    (c.text_keeps_its_tokens.ensures (file_witnesses defined number rule s) rule s.items (kinds_of s.items) s.pieces edits s.page.next cut.0
+    sound.cuts sound.reads sound.differ (c.touches_are_sound.ensures rule (file_witnesses defined number rule s) plus terms) are cut.1)

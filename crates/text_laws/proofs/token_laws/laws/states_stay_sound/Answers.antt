@@ -1,6 +1,6 @@
 use Rattle.std.proofs.Common.{◌&&◌, refl}
 use Rattle.rule_chain.specs.RuleEdits.Pages.{is_edited}
-use Rattle.rule_chain.specs.RuleWork.OneRule.{worked}
+use Rattle.rule_chain.specs.RuleRun.OneRule.{worked}
 use Rattle.text_laws.proofs.TokenLaws.StateLemmas.{left_sound, read_sound}
 use Rattle.text_laws.proofs.token_laws.laws.states_stay_sound.Goals as goal
 

@@ -1,0 +1,25 @@
+// The context of the walk.
+use crate::FileTokens;
+use crate::edit_walk::numbers::Numbers;
+use cfg_build::NodeKind;
+use cpp_lines::Item;
+use smpl_patch::{PatToken, Pattern, VarDecl};
+use sqlite_items::Items;
+
+/// What the walk needs of a rule and of a file.
+#[derive(Clone, Copy)]
+pub struct WalkContext<'a> {
+    pub decls: &'a [VarDecl],
+    pub tokens: &'a [PatToken],
+    /// The patterns of the rule.
+    pub patterns: &'a [&'a Pattern],
+    /// The numbers of the patterns' atoms.
+    pub atoms: &'a Numbers,
+    pub items: &'a [Item],
+    /// The kinds of the nodes of each item.
+    pub kinds: &'a [Items<NodeKind>],
+    /// The tokens of the file.
+    pub files: &'a FileTokens<'a>,
+    /// The ids of the tokens of the file.
+    pub ids: &'a Numbers,
+}

@@ -1,0 +1,3 @@
+-- Lemmas of rule_matches.
+pub mod TurnLemmas
+pub mod Examples

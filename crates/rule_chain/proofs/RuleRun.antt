@@ -1,0 +1,3 @@
+-- Lemmas of rule_run.
+pub mod HadLemmas
+pub mod WorkLemmas

@@ -1,0 +1,141 @@
+-- What a rule does, seen from a state whose terms have no ids.
+use Rattle.std.proofs.Common.{◌≡◌, ◌<◌, ◌≤◌, ◌⊎◌, inl, inr, ℕ, refl, sym, ap, subst, ◌∙◌, arith, Bool, true, false, Option, List, [], ◌∷◌, ◌++◌, length, map}
+use Rattle.std.proofs.Math.Path.{subst₂, subst₃}
+use Rattle.std.proofs.lemmas.List.{map-append, length-map}
+use Rattle.smpl_patch.specs.declared.rule.Rule.{Rule}
+use Rattle.smpl_patch.specs.declared.witness.RuleWitness.{RuleWitness}
+use Rattle.cpp_lines.specs.declared.reading.Item.{Item}
+use Rattle.c_file.specs.File.{FileItems}
+use Rattle.edit_marks.specs.declared.edit_conflict.edit.Edit.{Edit}
+use Rattle.edit_marks.specs.EditWalk.Edited.{AreEdits}
+use Rattle.rule_chain.proofs.EditLaws.BareEdits.{edits_with}
+use Rattle.rule_chain.specs.RuleWitnesses.Bare.{bare_witness}
+use Rattle.rule_envs.specs.declared.file_env.FileEnv.{FileEnv}
+use Rattle.rule_envs.specs.Shares.{bare_file_env}
+use Rattle.rule_envs.specs.FileEnvs.{most_environments}
+use Rattle.rule_chain.specs.declared.rule_matches.fault.TurnFault.{TurnFault}
+use Rattle.rule_chain.specs.declared.rule_matches.fault.TurnFault.TheVariants as turn_faults
+use Rattle.rule_chain.specs.RuleMatches.Turns.{turn_found, turn_carriers, has_too_many}
+use Rattle.rule_chain.specs.declared.rule_edits.fault.EditFault.{EditFault}
+use Rattle.rule_chain.specs.declared.rule_edits.fault.EditFault.TheVariants as edit_faults
+use Rattle.rule_chain.specs.declared.rule_edits.texts.NewText.{NewText}
+use Rattle.rule_chain.specs.RuleEdits.Kinds.{kinds_of}
+use Rattle.rule_chain.specs.RuleEdits.Pages.{Page, IsNew}
+use Rattle.rule_chain.specs.RuleEdits.Faults.{AreFine, IsEditFault, Leaves}
+use Rattle.rule_chain.specs.declared.rule_run.state.FileState.{FileState}
+use Rattle.rule_chain.specs.declared.rule_run.fault.FileFault.{FileFault}
+use Rattle.rule_chain.specs.declared.rule_run.fault.FileFault.TheVariants.{NoMemory}
+use Rattle.rule_chain.specs.RuleRun.States.{Chained}
+use Rattle.rule_chain.specs.RuleRun.OneRule.{had_after, turn_fault, edit_fault, file_witnesses, rule_carriers, is_too_much, RuleEdits, AreFew}
+use Rattle.rule_chain.specs.RuleRun.OneRule.{IsFault}
+use Rattle.rule_chain.specs.RuleRun.OneRule.IsFault.{too_many_witnesses, too_many_environments, in_edits}
+use Rattle.rule_chain.specs.RuleRun.Worked.{AreFindingsOf, IsAtReading, Works}
+
+-- ---- witnesses without ids
+
+had-bare : (had : List ℕ) (number : ℕ) (ws : List RuleWitness) → had_after had number (map bare_witness ws) ≡ had_after had number ws
+had-bare had number [] = refl
+had-bare had number (w ∷ ws) = refl
+
+-- ---- one rule, from findings with ids, as they are passed on
+
+module _ (defined : List (List ℕ)) (number : ℕ) (rule : Rule) (file : FileItems) (next : ℕ) (f : FileState)
+    (had : List ℕ) (items : List Item) (carriers : List FileEnv)
+    (same_had : had ≡ f.had) (same_items : items ≡ file.items) (same_carriers : carriers ≡ f.carriers) where
+  abbrev pub found_here : List RuleWitness
+  found_here = turn_found defined had number rule items (map bare_file_env carriers)
+
+  abbrev pub carriers_here : List FileEnv
+  carriers_here = turn_carriers defined had number rule items (map bare_file_env carriers)
+
+  abbrev pub too_much_here : Bool
+  too_much_here = has_too_many defined had number rule items (map bare_file_env carriers)
+
+  module _ (s : Chained) (seen : AreFindingsOf f s) (reading : IsAtReading file next s) where
+    had_as : s.had ≡ had
+    had_as = seen.seen.had_is ∙ sym same_had
+
+    items_as : s.items ≡ items
+    items_as = reading.items ∙ sym same_items
+
+    bare_as : s.carriers ≡ map bare_file_env carriers
+    bare_as = seen.seen.carriers_is ∙ ap (map bare_file_env) (sym same_carriers)
+
+    found_as : file_witnesses defined number rule s ≡ found_here
+    found_as = λ i. turn_found defined (had_as i) number rule (items_as i) (bare_as i)
+
+    carriers_as : rule_carriers defined number rule s ≡ carriers_here
+    carriers_as = λ i. turn_carriers defined (had_as i) number rule (items_as i) (bare_as i)
+
+    too_much_as : is_too_much defined number rule s ≡ too_much_here
+    too_much_as = λ i. has_too_many defined (had_as i) number rule (items_as i) (bare_as i)
+
+    next_as : s.page.next ≡ next
+    next_as = ap (λ (p : Page). p.next) reading.page
+
+    are_few : (cs : List FileEnv) → too_much_here ≡ false → map bare_file_env cs ≡ carriers_here → length cs ≤ most_environments
+        → AreFew defined number rule s
+    are_few cs few is most =
+        let e : length (rule_carriers defined number rule s) ≡ length cs = ap length (carriers_as ∙ sym is) ∙ length-map cs bare_file_env in
+        record { witnesses = too_much_as ∙ few; environments = omega (arith, e, most) }
+
+    rule_edits : (ws passed : List RuleWitness) (edits : List Edit) → passed ≡ ws → map bare_witness ws ≡ found_here
+        → AreEdits passed rule file.items (kinds_of file.items) file.pieces edits → RuleEdits defined number rule s edits
+    rule_edits ws passed edits same is are =
+        subst₃ (λ w its ps. AreEdits w rule its (kinds_of its) ps edits)
+        (ap (map bare_witness) same ∙ is ∙ sym found_as) (sym reading.items) (sym reading.pieces)
+        (edits_with rule file.items (kinds_of file.items) file.pieces passed edits are)
+
+  -- what is left
+  pub rule_works : (ws passed : List RuleWitness) (cs : List FileEnv) (left : FileState) (text : Option NewText)
+      → too_much_here ≡ false → map bare_witness ws ≡ found_here → map bare_file_env cs ≡ carriers_here → length cs ≤ most_environments → passed ≡ ws
+      → ((edits : List Edit) × (AreEdits passed rule file.items (kinds_of file.items) file.pieces edits × Leaves next file.pieces edits text))
+      → left.carriers ≡ cs → left.had ≡ had_after f.had number ws → left.found ≡ f.found ++ ws
+      → (s : Chained) → AreFindingsOf f s → IsAtReading file next s → Works defined number rule s left text
+  rule_works ws passed cs left text few found carried most same e c h w s seen reading = record {
+    edits = e.0;
+    few = are_few s seen reading cs few carried most;
+    are = rule_edits s seen reading ws passed e.0 same found e.1.0;
+    fine = subst₂ (λ n ps. AreFine n ps e.0) (sym (next_as s seen reading)) (sym reading.pieces) e.1.1.fine;
+    findings_are = record {
+      seen = record {
+        had_is = (λ i. had_after (seen.seen.had_is i) number ((found_as s seen reading ∙ sym found) i)) ∙ had-bare f.had number ws ∙ sym h;
+        carriers_is = carriers_as s seen reading ∙ sym carried ∙ ap (map bare_file_env) (sym c);
+      };
+      found_is = (λ i. seen.found_is i ++ (found_as s seen reading ∙ sym found) i) ∙ sym (map-append bare_witness f.found ws)
+          ∙ ap (map bare_witness) (sym w);
+    };
+    text_is = subst₂ (λ n ps. IsNew n ps e.0 text) (sym (next_as s seen reading)) (sym reading.pieces) e.1.1.new;
+  }
+
+  -- the faults of its edits
+  pub edits_stop : (ws passed : List RuleWitness) (cs : List FileEnv) (fault : EditFault) (told : FileFault) → told ≡ edit_fault number fault
+      → too_much_here ≡ false → map bare_witness ws ≡ found_here → map bare_file_env cs ≡ carriers_here → length cs ≤ most_environments → passed ≡ ws
+      → (fault ≡ edit_faults.NoMemory) ⊎ ((edits : List Edit)
+      × (AreEdits passed rule file.items (kinds_of file.items) file.pieces edits × IsEditFault next file.pieces edits fault))
+      → (told ≡ NoMemory) ⊎ ((s : Chained) → AreFindingsOf f s → IsAtReading file next s → IsFault defined number rule s told)
+  edits_stop ws passed cs fault told is few found carried most same (inl none) = inl (is ∙ ap (edit_fault number) none)
+  edits_stop ws passed cs fault told is few found carried most same (inr e) = inr (λ s seen reading.
+      subst (IsFault defined number rule s) (sym is)
+      (in_edits e.0 fault (are_few s seen reading cs few carried most) (rule_edits s seen reading ws passed e.0 same found e.1.0)
+      (subst₂ (λ n ps. IsEditFault n ps e.0 fault) (sym (next_as s seen reading)) (sym reading.pieces) e.1.1)))
+
+  -- its other faults
+  told_by : (fault : TurnFault) → (fault ≡ turn_faults.TooManyWitnesses → too_much_here ≡ true)
+      → (fault ≡ turn_faults.TooManyEnvironments → (too_much_here ≡ false) × (most_environments < length carriers_here))
+      → (turn_fault number fault ≡ NoMemory)
+      ⊎ ((s : Chained) → AreFindingsOf f s → IsAtReading file next s → IsFault defined number rule s (turn_fault number fault))
+  told_by turn_faults.TooManyWitnesses many wide = inr (λ s seen reading. too_many_witnesses (too_much_as s seen reading ∙ many refl))
+  told_by turn_faults.TooManyEnvironments many wide = inr (λ s seen reading.
+      let w = wide refl in
+      let e : length (rule_carriers defined number rule s) ≡ length carriers_here = ap length (carriers_as s seen reading) in
+      too_many_environments (too_much_as s seen reading ∙ w.0) (omega (arith, e, w.1)))
+  told_by turn_faults.NoMemory many wide = inl refl
+
+  pub turn_stops : (fault : TurnFault) (told : FileFault) → told ≡ turn_fault number fault
+      → (fault ≡ turn_faults.TooManyWitnesses → too_much_here ≡ true)
+      → (fault ≡ turn_faults.TooManyEnvironments → (too_much_here ≡ false) × (most_environments < length carriers_here))
+      → (told ≡ NoMemory) ⊎ ((s : Chained) → AreFindingsOf f s → IsAtReading file next s → IsFault defined number rule s told)
+  turn_stops fault told is many wide =
+      subst (λ (t : FileFault). (t ≡ NoMemory) ⊎ ((s : Chained) → AreFindingsOf f s → IsAtReading file next s → IsFault defined number rule s t)) (sym is)
+      (told_by fault many wide)

@@ -1,3 +1,0 @@
--- Lemmas of rule_turn.
-pub mod TurnLemmas
-pub mod Examples

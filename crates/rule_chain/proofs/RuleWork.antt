@@ -1,3 +1,0 @@
--- Lemmas of rule_work.
-pub mod HadLemmas
-pub mod WorkLemmas

@@ -1,5 +1,0 @@
-use Rattle.rule_chain.proofs.RuleFound.AskedLemmas.{new_told}
-use Rattle.rule_chain.proofs.rule_found.worker.FirstFinderWorker.answer.Goals as goal
-
-pub first_found-requires : goal.first_found-requires
-first_found-requires c = record { new = new_told c.args.self.now.query.exports.now c.args.self.now.env.now c.args.self.now.new }

@@ -1,0 +1,5 @@
+-- Definitions of rule_run.
+-- What the contract of `run_rule` depends on, in reading order; rule_matches and rule_edits come first.
+pub mod States
+pub mod OneRule
+pub mod Worked

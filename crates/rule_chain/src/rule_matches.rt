@@ -1,0 +1,9 @@
+//! Finds the witnesses of one rule over one reading of a file, and the environments after it. `run_rule` of rule_run calls it;
+//! it makes no edits.
+#![tactic(auto)]
+
+mod fault;
+mod turns;
+
+pub use fault::TurnFault;
+pub use turns::{RuleMatches, match_rule};

@@ -1,0 +1,53 @@
+// Why a rule fails on a file, apart from its edits.
+ghost use Rattle.std.specs.Prelude.{◌≡◌};
+
+use crate::rule_witnesses::ItemFault;
+use c_terms::NoMemory;
+use rule_envs::EnvsFault;
+
+/// Why a rule fails on a file, apart from its edits.
+#[derive(Drop)]
+pub enum TurnFault {
+    /// The witnesses in one item under one environment have more than 1,000,000 touches and binds.
+    TooManyWitnesses,
+    /// More than 10,000 environments result.
+    TooManyEnvironments,
+    /// Out of memory.
+    NoMemory,
+}
+
+impl From<NoMemory> for TurnFault {
+    ghost use Rattle.rule_chain.specs.declared.rule_matches.fault.TurnFault.TheVariants as fault;
+
+    ghost from_gives = { λ _ e. e ≡ fault.NoMemory };
+
+    fn from(_: NoMemory) -> TurnFault {
+        TurnFault::NoMemory
+    }
+}
+
+impl From<ItemFault> for TurnFault {
+    ghost use Rattle.rule_chain.specs.RuleMatches.Turns.{job_fault};
+
+    ghost from_gives = { λ fault e. e ≡ job_fault fault };
+
+    fn from(fault: ItemFault) -> TurnFault {
+        match fault {
+            ItemFault::TooMany => TurnFault::TooManyWitnesses,
+            ItemFault::NoMemory => TurnFault::NoMemory,
+        }
+    }
+}
+
+impl From<EnvsFault> for TurnFault {
+    ghost use Rattle.rule_chain.specs.RuleMatches.Turns.{envs_fault};
+
+    ghost from_gives = { λ fault e. e ≡ envs_fault fault };
+
+    fn from(fault: EnvsFault) -> TurnFault {
+        match fault {
+            EnvsFault::TooMany => TurnFault::TooManyEnvironments,
+            EnvsFault::NoMemory => TurnFault::NoMemory,
+        }
+    }
+}

@@ -1,0 +1,131 @@
+// Runs one rule over one reading of a file.
+ghost use Rattle.std.specs.Prelude.{◌≡◌, ◌⊎◌, ◌++◌, ℕ, IfOk, IfErr};
+ghost use Rattle.c_file.specs.ItemGraphs.Made.{IsMade};
+ghost use Rattle.rule_chain.specs.RuleRun.States.{Chained};
+ghost use Rattle.rule_chain.specs.RuleRun.OneRule as spec;
+ghost use Rattle.rule_chain.specs.RuleRun.Worked.{AreFindingsOf, IsAtReading, Works};
+ghost use Rattle.rule_chain.specs.declared.rule_run.fault.FileFault.TheVariants as fault;
+
+use crate::patch_rules::ReadyRule;
+use crate::reading::Reading;
+use crate::rule_edits::{NewText, text_after_edits};
+use crate::rule_matches::{RuleMatches, match_rule};
+use crate::rule_run::fault::{FileFault, of_edits, of_turn};
+use crate::rule_run::state::FileState;
+use c_file::Graphs;
+use c_terms::NoMemory;
+use par_match::{Gate, Workers};
+use smpl_patch::RuleWitness;
+use sqlite_items::Items;
+use std::thread::Threads;
+
+/// Returns the rules that have had a witness, after this one.
+#[tactic(auto, using(crate::proofs::RuleRun::HadLemmas::had_none, crate::proofs::RuleRun::HadLemmas::had_some))]
+fn had_after(had: Items<u32>, number: u32, found: &[RuleWitness]) -> Result<Items<u32>, NoMemory>
+    ensures { IfOk result (λ now. now ≡ spec.had_after had number found.now) }
+{
+    if found.is_empty() {
+        return Ok(had);
+    }
+    let mut had = had;
+    had.push(number)?;
+    Ok(had)
+}
+
+/// Returns the findings after the rule.
+fn findings_after(
+    had: Items<u32>,
+    found: Items<RuleWitness>,
+    number: u32,
+    matches: RuleMatches,
+) -> Result<FileState, NoMemory>
+    ensures carriers { IfOk result (λ f. f.carriers ≡ matches.carriers) }
+    ensures had { IfOk result (λ f. f.had ≡ spec.had_after had number matches.witnesses) }
+    ensures found { IfOk result (λ f. f.found ≡ found ++ matches.witnesses) }
+{
+    let RuleMatches {
+        witnesses,
+        carriers,
+    } = matches;
+    let had = had_after(had, number, witnesses.as_slice())?;
+    let mut found = found;
+    found.append(witnesses)?;
+    Ok(FileState {
+        carriers,
+        had,
+        found,
+    })
+}
+
+/// The findings after a rule, and the new text if one of its edits isn't empty.
+#[derive(Drop)]
+pub struct RuleOutcome {
+    pub findings: FileState,
+    pub text: Option<NewText>,
+}
+
+/// Runs one rule over a reading of the file: finds its witnesses, replaces the environments, and applies all its edits to the
+/// text at once.
+///
+/// `graphs` are those of the file, and `findings` are what the rules before left. There is no new text if no edit changes
+/// anything. The contract ignores the ids of terms.
+///
+/// The call returns the first fault in this order, with the number of the rule:
+///
+/// - `TooManyWitnesses`: the witnesses in one item under one environment have more than 1,000,000 touches and binds.
+/// - `TooManyEnvironments`: more than 10,000 environments result.
+/// - `Conflict`: two edits clash; the id is that of the first token at which they do.
+/// - `FileTooLong`: the new text would have more than 16,777,216 bytes.
+/// - `NoMemory`: out of memory.
+///
+/// Costs one [`match_rule`] and one [`text_after_edits`].
+pub fn run_rule<R: Threads + Sync, G: Gate>(
+    workers: &Workers<'_, R, G>,
+    ready: &ReadyRule<'_>,
+    reading: &Reading<'_>,
+    graphs: &mut Graphs<'_>,
+    findings: FileState,
+) -> Result<RuleOutcome, FileFault>
+    requires items { graphs.old.items ≡ reading.now.file.now.items }
+    ensures outcome { IfOk result (λ w. (s : Chained) → AreFindingsOf findings s → IsAtReading reading.now.file.now reading.now.next s
+        → Works ready.now.defined.now ready.now.number ready.now.rule.now s w.findings w.text) }
+    ensures fault { IfErr result (λ f. (f ≡ fault.NoMemory) ⊎ ((s : Chained) → AreFindingsOf findings s
+        → IsAtReading reading.now.file.now reading.now.next s
+        → spec.IsFault ready.now.defined.now ready.now.number ready.now.rule.now s f)) }
+    ensures graphs { graphs.new.items ≡ graphs.old.items }
+    ensures kept { (k : ℕ) → IsMade graphs.old k → IsMade graphs.new k }
+{
+    let FileState {
+        carriers,
+        had,
+        found,
+    } = findings;
+    let count = reading.file.items().len();
+    let matches = match match_rule(
+        workers,
+        ready,
+        had.as_slice(),
+        carriers.as_slice(),
+        graphs,
+        count,
+    ) {
+        Ok(matches) => matches,
+        Err(fault) => return Err(of_turn(ready.number, fault)),
+    };
+    let text = match text_after_edits(
+        workers.alloc,
+        ready.rule,
+        reading.file,
+        graphs,
+        reading.next,
+        matches.witnesses.as_slice(),
+    ) {
+        Ok(text) => text,
+        Err(fault) => return Err(of_edits(ready.number, fault)),
+    };
+    let left = findings_after(had, found, ready.number, matches)?;
+    Ok(RuleOutcome {
+        findings: left,
+        text,
+    })
+}

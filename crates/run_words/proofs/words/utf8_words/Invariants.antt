@@ -1,0 +1,10 @@
+use Rattle.std.proofs.Common.{◌≡◌, true, map, take}
+use Rattle.std.specs.List.{list_all}
+use Rattle.std.specs.Str.{is_utf8}
+use Rattle.run_words.proofs.words.utf8_words.Given as goal
+
+abbrev pub invariant-loop-word : goal.invariant-loop-word
+invariant-loop-word l = record {
+  same : map (λ t. t.now) l.texts.items ≡ take l.word-index l.words;
+  are_text : list_all is_utf8 (take l.word-index l.words) ≡ true;
+}

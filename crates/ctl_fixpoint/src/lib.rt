@@ -2,7 +2,7 @@
 //!
 //! [`sat`] returns, for each part of a formula's table and each node of the graph, the set of environments under which the
 //! part holds there. Parts are processed in the table's order, each once, so a part that occurs several times in the formula
-//! is computed once.
+//! is computed once. The graph is a [`SoundGraph`]: one that contracts know to be sound, as every graph is.
 //!
 //! ```text
 //!       0 head ─► 1 {  ─► 2 lock(a); ─► 3 f(); ─► 4 unlock(a); ─► 5 } ─► 6 exit (goes to itself)

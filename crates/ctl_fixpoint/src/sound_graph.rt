@@ -8,6 +8,7 @@ use cfg_build::Graph;
 /// A graph that contracts know to be sound: each node has a successor, and all numbers are nodes. Every graph is.
 #[derive(Clone, Copy)]
 pub struct SoundGraph<'g, 'a> {
+    /// The graph itself.
     pub graph: &'g Graph<'a>,
     pub ghost sound: { IsSound graph.now } by { is_sound-prop graph.now },
 }

@@ -32,6 +32,7 @@ pub fn edit_of(
     Ok(edit)
 }
 
+/// Returns the edit that an alignment makes: the removed tokens, and the inserts.
 fn edit_at(
     alloc: Global,
     decls: &[VarDecl],
@@ -52,6 +53,7 @@ fn edit_at(
     })
 }
 
+/// Returns the inserts at these places, in order.
 fn inserts_at(
     alloc: Global,
     decls: &[VarDecl],
@@ -81,6 +83,7 @@ fn inserts_at(
     Ok(inserts)
 }
 
+/// Appends the insert at this place, or nothing if the pattern token has no block there or the file has no such token.
 fn push_insert(
     alloc: Global,
     decls: &[VarDecl],
@@ -102,6 +105,7 @@ fn push_insert(
     }
 }
 
+/// Appends the insert of a block at this place, or nothing if the file has no such token.
 fn push_block(
     alloc: Global,
     decls: &[VarDecl],
@@ -123,6 +127,7 @@ fn push_block(
     }
 }
 
+/// Appends the insert of a block at this token.
 fn push_at_token(
     alloc: Global,
     decls: &[VarDecl],

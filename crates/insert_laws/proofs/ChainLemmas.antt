@@ -13,11 +13,11 @@ use Rattle.smpl_patch.specs.Bodies.{body}
 use Rattle.smpl_patch.specs.Shapes.{patterns_body}
 use Rattle.ctl_translate.specs.Rules.{first_unbound}
 use Rattle.rule_envs.specs.declared.file_env.FileEnv.{FileEnv}
-use Rattle.rule_chain.specs.RuleMatches.Turns.{turn_found, turn_carriers}
+use Rattle.rule_chain.specs.RuleMatches.Turns.{rule_found, file_envs_after}
 use Rattle.rule_chain.specs.RuleEdits.Kinds.{kinds_of}
 use Rattle.rule_chain.specs.RuleEdits.Pages.{is_edited}
 use Rattle.rule_chain.specs.RuleRun.States.{Chained, ReadsAgain, first_state}
-use Rattle.rule_chain.specs.RuleRun.OneRule.{MayRead, Leads, file_witnesses, worked}
+use Rattle.rule_chain.specs.RuleRun.OneRule.{MayRead, Leads, file_witnesses, state_after}
 use Rattle.rule_chain.specs.Chain.{is_followed}
 use Rattle.rule_laws.specs.Ready.{IsReady}
 use Rattle.edit_marks.specs.declared.removals.Aligned.{Aligned}
@@ -33,13 +33,13 @@ use Rattle.insert_laws.proofs.RuleLemmas.{IsFit}
 
 abbrev pub FoundLaw : Type 0
 FoundLaw = (defined : List (List ℕ)) (had : List ℕ) (number : ℕ) (rule : Rule) (pieces : List TextPiece) (items : List Item)
-    (carriers : List FileEnv) (metas : Var → Bool) → IsReady rule → first_unbound rule ≡ None → AreMetas metas rule → Reads pieces items
-    → All (CarriesTerms metas) carriers → All (ShowsTerms metas rule items) (touches (turn_found defined had number rule items carriers))
+    (file_envs : List FileEnv) (metas : Var → Bool) → IsReady rule → first_unbound rule ≡ None → AreMetas metas rule → Reads pieces items
+    → All (CarriesTerms metas) file_envs → All (ShowsTerms metas rule items) (touches (rule_found defined had number rule items file_envs))
 
 abbrev pub CarriedLaw : Type 0
 CarriedLaw = (defined : List (List ℕ)) (had : List ℕ) (number : ℕ) (rule : Rule) (pieces : List TextPiece) (items : List Item)
-    (carriers : List FileEnv) (metas : Var → Bool) → IsReady rule → first_unbound rule ≡ None → AreMetas metas rule → Reads pieces items
-    → All (CarriesTerms metas) carriers → All (CarriesTerms metas) (turn_carriers defined had number rule items carriers)
+    (file_envs : List FileEnv) (metas : Var → Bool) → IsReady rule → first_unbound rule ≡ None → AreMetas metas rule → Reads pieces items
+    → All (CarriesTerms metas) file_envs → All (CarriesTerms metas) (file_envs_after defined had number rule items file_envs)
 
 -- ---- one touch
 
@@ -64,7 +64,7 @@ module _ (aligned_law : AlignedLaw) (path_law : PathLaw) (bare_law : BareLaw) (m
 
 record IsTermed (metas : Var → Bool) (s : Chained) : Type 0 where
   reads : Reads s.pieces s.items
-  carried : All (CarriesTerms metas) s.carriers
+  carried : All (CarriesTerms metas) s.file_envs
 
 no_values : (metas : Var → Bool) → CarriesTerms metas (record { env = []; rules = [] })
 no_values metas x m v e = absurd (cc)
@@ -86,10 +86,10 @@ module _ (found_law : FoundLaw) (carried_law : CarriedLaw) (metas : Var → Bool
   step : (number : ℕ) (rule : Rule) (followed : Bool) (old next : Chained) → IsFit metas rule → IsTermed metas old
       → Leads defined number rule followed old next → IsTermed metas next
   step number rule followed old next fit t leads =
-      read_termed metas (is_edited leads.edits && followed) (worked defined number rule old leads.edits) next
+      read_termed metas (is_edited leads.edits && followed) (state_after defined number rule old leads.edits) next
       (record {
         reads = t.reads;
-        carried = carried_law defined old.had number rule old.pieces old.items old.carriers metas fit.ready fit.unbound fit.are t.reads t.carried;
+        carried = carried_law defined old.had number rule old.pieces old.items old.file_envs metas fit.ready fit.unbound fit.are t.reads t.carried;
       })
       leads.reads
 
@@ -109,4 +109,4 @@ module _ (found_law : FoundLaw) (carried_law : CarriedLaw) (metas : Var → Bool
         let one = before_termed before in
         let fit = All-head (IsFit metas) rule rest one.1 in
         all_instantiated aligned_law path_law bare_law metas rule fit s.items s.pieces (touches (file_witnesses defined number rule s))
-        (found_law defined s.had number rule s.pieces s.items s.carriers metas fit.ready fit.unbound fit.are one.0.reads one.0.carried)
+        (found_law defined s.had number rule s.pieces s.items s.file_envs metas fit.ready fit.unbound fit.are one.0.reads one.0.carried)

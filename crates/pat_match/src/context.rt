@@ -12,7 +12,10 @@ pub struct PatternContext<'p> {
 /// A form of a pattern: its number, and its tree, which is that of the pattern's form of this number.
 #[derive(Clone, Copy)]
 pub struct PatternForm<'p> {
+    /// The pattern that this is a form of.
     pub pattern: &'p Pattern,
+    /// The form's place among the pattern's forms, from 0.
     pub number: usize,
+    /// The tree of that form.
     pub tree: &'p Tree,
 }

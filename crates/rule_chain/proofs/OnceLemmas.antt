@@ -22,7 +22,7 @@ use Rattle.rule_chain.specs.RuleEdits.Faults.{AreFine, IsEditFault}
 use Rattle.rule_chain.specs.RuleEdits.Faults.IsEditFault.{conflict, too_long}
 use Rattle.rule_chain.specs.declared.rule_run.fault.FileFault.{FileFault}
 use Rattle.rule_chain.specs.RuleRun.States.{Chained, ReadsAgain, first_state, notes_from}
-use Rattle.rule_chain.specs.RuleRun.OneRule.{edit_fault, MayRead, AreFew, RuleEdits, IsFault, Leads, worked, is_too_much, file_witnesses}
+use Rattle.rule_chain.specs.RuleRun.OneRule.{edit_fault, MayRead, AreFew, RuleEdits, IsFault, Leads, state_after, is_too_much, file_witnesses}
 use Rattle.rule_chain.specs.RuleRun.OneRule.IsFault.{too_many_witnesses, too_many_environments, in_edits}
 use Rattle.rule_chain.specs.Chain.{Outcome, Refused, Runs, Chain, is_followed}
 
@@ -136,9 +136,9 @@ module _ (one_list : HaveOneList) (one_cut : HaveOneCut) (one_reading : HaveOneR
       → Leads defined number rule followed s a → Leads defined number rule followed s b → a ≡ b
   leads_once number rule followed s a b one two =
       let e : one.edits ≡ two.edits = edits_once one_list defined number rule s one.edits two.edits one.are two.are in
-      let reads : MayRead (is_edited two.edits && followed) (worked defined number rule s two.edits) a =
-      subst (λ (x : List Edit). MayRead (is_edited x && followed) (worked defined number rule s x) a) e one.reads in
-      may_once one_cut one_reading (is_edited two.edits && followed) (worked defined number rule s two.edits) a b reads two.reads
+      let reads : MayRead (is_edited two.edits && followed) (state_after defined number rule s two.edits) a =
+      subst (λ (x : List Edit). MayRead (is_edited x && followed) (state_after defined number rule s x) a) e one.reads in
+      may_once one_cut one_reading (is_edited two.edits && followed) (state_after defined number rule s two.edits) a b reads two.reads
 
   runs_once : (number : ℕ) (rules : List Rule) (s : Chained) (a b : Outcome) → Runs defined number rules s a → Runs defined number rules s b → a ≡ b
   runs_once number [] s a b one two = one ∙ sym two

@@ -15,8 +15,8 @@ use Rattle.rule_chain.specs.RuleEdits.Pages.{Page, is_edited, old_page, page_of,
 use Rattle.rule_chain.specs.declared.rule_run.fault.FileFault.{FileFault}
 use Rattle.rule_chain.specs.declared.rule_run.state.FileState.{FileState}
 use Rattle.rule_chain.specs.RuleRun.States.{Chained}
-use Rattle.rule_chain.specs.RuleRun.OneRule.{MayRead, IsFault, Leads, worked}
-use Rattle.rule_chain.specs.RuleRun.Worked.{IsAtReading, Works}
+use Rattle.rule_chain.specs.RuleRun.OneRule.{MayRead, IsFault, Leads, state_after}
+use Rattle.rule_chain.specs.RuleRun.Worked.{IsAtReading, IsOutcome}
 use Rattle.rule_chain.specs.Chain.{Refused, Runs, is_followed}
 use Rattle.rule_chain.specs.Stops.{page_left, LeadsOn}
 
@@ -59,9 +59,9 @@ edited_is next pieces edits (Some t) new = sym new.0
 
 module _ (defined : List (List ℕ)) (rules : List Rule) (number : ℕ) (rule : Rule) (lt : number < length rules) (at : rule ≡ get_or rules number rule) where
   pub leads : (file : FileItems) (next : ℕ) (s : Chained) (findings : FileState) (text : Option NewText) → IsAtReading file next s
-      → Works defined number rule s findings text → LeadsOn defined rules number s (number + 1) findings text
+      → IsOutcome defined number rule s findings text → LeadsOn defined rules number s (number + 1) findings text
   leads file next s findings text reading works = record {
-    state = worked defined number rule s works.edits;
+    state = state_after defined number rule s works.edits;
     findings_are = works.findings_are;
     page = page_is file next s works.edits text reading works.text_is;
     pieces = refl;
@@ -76,7 +76,7 @@ module _ (defined : List (List ℕ)) (rules : List Rule) (number : ℕ) (rule : 
           few = works.few;
           are = works.are;
           fine = works.fine;
-          reads = subst (λ (b : Bool). MayRead (b && is_followed rest) (worked defined number rule s works.edits) after) e may;
+          reads = subst (λ (b : Bool). MayRead (b && is_followed rest) (state_after defined number rule s works.edits) after) e may;
         } in
         let one : number + 1 ≡ suc number = omega arith in
         subst (λ (x : List Rule). Runs defined number x s end) (sym (left_of rules number rule lt at))

@@ -83,7 +83,7 @@ module _ (findings : FileState) (text : NewText) (reading : ℕ) (skipped : List
           (
             record {
               findings = record {
-                seen = record { had_is = left.findings_are.seen.had_is; carriers_is = left.findings_are.seen.carriers_is };
+                seen = record { had_is = left.findings_are.seen.had_is; file_envs_is = left.findings_are.seen.file_envs_is };
                 found_is = left.findings_are.found_is;
               };
               at = at_reading;

@@ -14,7 +14,7 @@ pub record AnswersState (applied : Applied) (s : Chained) : Type 0 where
   pub bytes : applied.bytes.items ≡ s.page.bytes
   pub witnesses : map bare_witness applied.witnesses ≡ s.found
   pub skipped : applied.skipped ≡ s.skipped
-  pub envs : map bare_env applied.envs ≡ map (λ c. c.env) s.carriers
+  pub envs : map bare_env applied.envs ≡ map (λ c. c.env) s.file_envs
 
 -- The chain ends with a last state, which is returned; or it ends at its first fault, which is returned; or memory ran out.
 abbrev pub IsResult : List Rule → List (List ℕ) → List ℕ → Result Applied FileFault → Type 0

@@ -22,11 +22,11 @@ pub fn answer(
         → s.skipped ≡ skipped → AnswersState applied s) }
 {
     let FileState {
-        carriers,
+        file_envs,
         had: _,
         found,
     } = findings;
-    let envs = envs_of(alloc, carriers.as_slice())?;
+    let envs = envs_of(alloc, file_envs.as_slice())?;
     Ok(Applied {
         bytes,
         witnesses: found,

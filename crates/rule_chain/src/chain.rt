@@ -41,7 +41,7 @@ fn begin(alloc: Global, bytes: Vec<u8>) -> Result<Reached, NoMemory>
     let file = read_file(alloc, lexed)?;
     let skipped = with_notes(Items::new(alloc), 0, file.items())?;
     let findings = FileState {
-        carriers: first_file_envs(alloc)?,
+        file_envs: first_file_envs(alloc)?,
         had: Items::new(alloc),
         found: Items::new(alloc),
     };

@@ -19,7 +19,8 @@ pub struct PatchRules<'p> {
     /// The virtual names that are defined.
     pub defined: &'p [Text],
     pub ghost few: { length patch.now.rules < 2 ^ 32 },
-    pub ghost prepared_are: { ArePrepared patch.now.rules prepared.now.rules } by { are_prepared-prop formula.the_row.coded patch.now.rules prepared.now.rules },
+    pub ghost prepared_are: { ArePrepared patch.now.rules prepared.now.rules } by { are_prepared-prop formula.the_row.coded
+        patch.now.rules prepared.now.rules },
     pub ghost may: { AllZip MayRun patch.now.rules prepared.now.rules } by { all_may_run-prop patch.now.rules prepared.now.rules },
 }
 

@@ -3,7 +3,7 @@
 #![tactic(auto)]
 
 mod fault;
-mod turns;
+mod matching;
 
-pub use fault::TurnFault;
-pub use turns::{RuleMatches, match_rule};
+pub use fault::MatchFault;
+pub use matching::{RuleMatches, match_rule};

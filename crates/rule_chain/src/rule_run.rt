@@ -5,9 +5,9 @@
 #![tactic(auto)]
 
 mod fault;
+mod outcome;
 mod state;
-mod works;
 
 pub use fault::FileFault;
+pub use outcome::{RuleOutcome, run_rule};
 pub use state::{FileState, SkipNote};
-pub use works::{RuleOutcome, run_rule};

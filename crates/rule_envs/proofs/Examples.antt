@@ -25,8 +25,8 @@ both n m = (a, Place n) ∷ (b, Place m) ∷ []
 abbrev empty : FileEnv
 empty = record { env = []; rules = [] }
 
-abbrev carrier : Pairs → List ℕ → FileEnv
-carrier env rules = record { env = env; rules = rules }
+abbrev file_env : Pairs → List ℕ → FileEnv
+file_env env rules = record { env = env; rules = rules }
 
 -- what a rule that inherits both variables is run under, if each environment that carries rules takes part
 abbrev under : (List ℕ → Bool) → List FileEnv → List Pairs
@@ -36,10 +36,10 @@ under depends cs = distinct (filter_map (λ (c : FileEnv). cond (depends c.rules
 -- the values of two environments are never mixed, equal choices count once, and an environment that lacks a variable doesn't
 -- take part
 pairs_stay_together : projections [] (0 ∷ []) Always (a ∷ b ∷ [])
-    (carrier (both 1 2) (0 ∷ []) ∷ empty ∷ carrier (both 3 4) (0 ∷ []) ∷ carrier (both 1 2) (0 ∷ 1 ∷ []) ∷ [])
+    (file_env (both 1 2) (0 ∷ []) ∷ empty ∷ file_env (both 3 4) (0 ∷ []) ∷ file_env (both 1 2) (0 ∷ 1 ∷ []) ∷ [])
     ≡ both 1 2 ∷ both 3 4 ∷ []
-pairs_stay_together = ap (λ (j : List ℕ → Bool). under j (carrier (both 1 2) (0 ∷ []) ∷ empty ∷ carrier (both 3 4) (0 ∷ [])
-    ∷ carrier (both 1 2) (0 ∷ 1 ∷ []) ∷ [])) (λ i r. judge-Always r (0 ∷ []) [] i)
+pairs_stay_together = ap (λ (j : List ℕ → Bool). under j (file_env (both 1 2) (0 ∷ []) ∷ empty ∷ file_env (both 3 4) (0 ∷ [])
+    ∷ file_env (both 1 2) (0 ∷ 1 ∷ []) ∷ [])) (λ i r. judge-Always r (0 ∷ []) [] i)
 
 -- the order is that of first appearance, and not that of the values
 in_order : exported (a ∷ []) (both 5 1 ∷ both 2 1 ∷ both 5 3 ∷ []) ≡ ((a, Place 5) ∷ []) ∷ ((a, Place 2) ∷ []) ∷ []
@@ -47,7 +47,7 @@ in_order = refl
 
 -- two witnesses of the first rule: each makes a new environment from the empty one
 each_its_own : next_file_envs 0 (λ c. Some c.env) (λ env. both 1 2 ∷ both 3 4 ∷ []) first_file_envs
-    ≡ carrier (both 1 2) (0 ∷ []) ∷ carrier (both 3 4) (0 ∷ []) ∷ []
+    ≡ file_env (both 1 2) (0 ∷ []) ∷ file_env (both 3 4) (0 ∷ []) ∷ []
 each_its_own = refl
 
 -- an environment without a witness stays, and doesn't carry the rule; so does one that takes no part

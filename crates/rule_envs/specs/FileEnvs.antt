@@ -36,11 +36,11 @@ module _ (number : ℕ) (share : FileEnv → Option Pairs) (brings : Pairs → L
 
   -- each in its place
   abbrev pub next_file_envs : List FileEnv → List FileEnv
-  next_file_envs carriers = flat_map (λ c. becomes_by c (share c)) carriers
+  next_file_envs file_envs = flat_map (λ c. becomes_by c (share c)) file_envs
 
 -- Each environment has the place of its share among some projections, and these parts are what is found under each of them.
-pub record AreBrought (share : FileEnv → Option Pairs) (brings : Pairs → List Pairs) (carriers : List FileEnv)
+pub record AreBrought (share : FileEnv → Option Pairs) (brings : Pairs → List Pairs) (file_envs : List FileEnv)
     (places : List (Option ℕ)) (parts : List (List Pairs)) : Type 0 where
   pub projections : List Pairs
-  pub shares : AllZip (StandsAt projections) (map share carriers) places
+  pub shares : AllZip (StandsAt projections) (map share file_envs) places
   pub brought : parts ≡ map brings projections

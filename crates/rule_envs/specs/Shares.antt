@@ -23,7 +23,7 @@ module _ (defined : List (List ℕ)) (had : List ℕ) (depends : Dep) (inherited
 
   -- what the rule is run under: the distinct shares, in the order in which they first appear
   abbrev pub projections : List FileEnv → List Pairs
-  projections carriers = distinct (filter_map share carriers)
+  projections file_envs = distinct (filter_map share file_envs)
 
 -- the place of a share among the projections, or none if there is no share
 abbrev pub StandsAt : List Pairs → Option Pairs → Option ℕ → Type 0

@@ -16,32 +16,32 @@ pub struct FileEnv {
 
 /// Returns what the first rule begins with: one empty environment, which carries no rule.
 pub fn first_file_envs(alloc: Global) -> Result<Items<FileEnv>, NoMemory>
-    ensures carriers { IfOk result (λ carriers. carriers ≡ spec.first_file_envs) }
+    ensures file_envs { IfOk result (λ file_envs. file_envs ≡ spec.first_file_envs) }
 {
-    let mut carriers = Items::new(alloc);
-    carriers.push(FileEnv {
+    let mut file_envs = Items::new(alloc);
+    file_envs.push(FileEnv {
         env: Env::empty(alloc),
         rules: SharedList::empty(),
     })?;
-    Ok(carriers)
+    Ok(file_envs)
 }
 
-/// Returns an equal carrier. It shares the environment and the list of rules, so that this takes the same time for any carrier.
-pub fn copied(alloc: Global, carrier: &FileEnv) -> Result<FileEnv, NoMemory>
-    ensures { IfOk result (λ c. c ≡ carrier.now) }
+/// Returns an equal environment of the file. It shares the environment and the list of rules, so that this takes the same time for any.
+pub fn copied(alloc: Global, file_env: &FileEnv) -> Result<FileEnv, NoMemory>
+    ensures { IfOk result (λ c. c ≡ file_env.now) }
 {
-    let env = carrier.env.copy(alloc)?;
-    let rules = carrier.rules.share()?;
+    let env = file_env.env.copy(alloc)?;
+    let rules = file_env.rules.share()?;
     Ok(FileEnv { env, rules })
 }
 
 /// Returns the environments alone, in order. They share their pairs.
-pub fn envs_of(alloc: Global, carriers: &[FileEnv]) -> Result<Items<Env>, NoMemory>
-    ensures envs { IfOk result (λ envs. envs ≡ map (λ c. c.env) carriers.now) }
+pub fn envs_of(alloc: Global, file_envs: &[FileEnv]) -> Result<Items<Env>, NoMemory>
+    ensures envs { IfOk result (λ envs. envs ≡ map (λ c. c.env) file_envs.now) }
 {
     let mut envs = Items::new(alloc);
-    for carrier in carriers {
-        envs.push(carrier.env.copy(alloc)?)?;
+    for file_env in file_envs {
+        envs.push(file_env.env.copy(alloc)?)?;
     }
     Ok(envs)
 }

@@ -10,9 +10,9 @@ ghost use Rattle.rule_envs.specs.FileEnvs as spec;
 /// What a rule is run under and the values that witnesses export are the same without the ids of tokens as with them. Does
 /// nothing.
 pub fn ids_do_not_count()
-    ensures projections { (defined : List (List ℕ)) (had : List ℕ) (depends : Dep) (inherited : List Var) (carriers : List FileEnv) →
-        map bare_env (shares.projections defined had depends inherited carriers)
-        ≡ shares.projections defined had depends inherited (map shares.bare_file_env carriers) }
+    ensures projections { (defined : List (List ℕ)) (had : List ℕ) (depends : Dep) (inherited : List Var) (file_envs : List FileEnv) →
+        map bare_env (shares.projections defined had depends inherited file_envs)
+        ≡ shares.projections defined had depends inherited (map shares.bare_file_env file_envs) }
     ensures exported { (exports : List Var) (envs : List Pairs) →
         map bare_env (spec.exported exports envs) ≡ spec.exported exports (map bare_env envs) }
 {}

@@ -16,11 +16,11 @@ use std::alloc::Global;
 
 const MOST_ENVIRONMENTS: usize = 10_000;
 
-fn extended(alloc: Global, number: u32, carrier: &FileEnv, part: &Env) -> Result<FileEnv, NoMemory>
-    ensures { IfOk result (λ c. c ≡ spec.extended number carrier.now part.now) }
+fn extended(alloc: Global, number: u32, file_env: &FileEnv, part: &Env) -> Result<FileEnv, NoMemory>
+    ensures { IfOk result (λ c. c ≡ spec.extended number file_env.now part.now) }
 {
-    let env = joined(alloc, &carrier.env, part)?;
-    let mut rules = Vec::from_slice(alloc, carrier.rules.as_slice())?;
+    let env = joined(alloc, &file_env.env, part)?;
+    let mut rules = Vec::from_slice(alloc, file_env.rules.as_slice())?;
     rules.push(number)?;
     let rules = SharedList::of(alloc, rules)?;
     Ok(FileEnv { env, rules })
@@ -29,15 +29,15 @@ fn extended(alloc: Global, number: u32, carrier: &FileEnv, part: &Env) -> Result
 fn extend(
     alloc: Global,
     number: u32,
-    carrier: &FileEnv,
+    file_env: &FileEnv,
     parts: &[Env],
     next: Items<FileEnv>,
 ) -> Result<Items<FileEnv>, NoMemory>
-    ensures { IfOk result (λ now. now ≡ next ++ map (spec.extended number carrier.now) parts.now) }
+    ensures { IfOk result (λ now. now ≡ next ++ map (spec.extended number file_env.now) parts.now) }
 {
     let mut next = next;
     for part in parts {
-        let more = extended(alloc, number, carrier, part)?;
+        let more = extended(alloc, number, file_env, part)?;
         next.push(more)?;
     }
     Ok(next)
@@ -47,18 +47,18 @@ fn extend(
 fn replace(
     alloc: Global,
     number: u32,
-    carrier: &FileEnv,
+    file_env: &FileEnv,
     parts: &[Env],
     next: Items<FileEnv>,
 ) -> Result<Items<FileEnv>, NoMemory>
-    ensures { IfOk result (λ now. now ≡ next ++ spec.replaced number carrier.now parts.now) }
+    ensures { IfOk result (λ now. now ≡ next ++ spec.replaced number file_env.now parts.now) }
 {
     if parts.is_empty() {
         let mut next = next;
-        next.push(copied(alloc, carrier)?)?;
+        next.push(copied(alloc, file_env)?)?;
         return Ok(next);
     }
-    extend(alloc, number, carrier, parts, next)
+    extend(alloc, number, file_env, parts, next)
 }
 
 /// Returns the parts at the place of a projection, or none if there is no place.
@@ -84,23 +84,23 @@ fn parts_of<'a>(parts: &'a [Items<Env>], place: Option<usize>) -> &'a [Env]
 pub fn next_file_envs(
     alloc: Global,
     number: u32,
-    carriers: &[FileEnv],
+    file_envs: &[FileEnv],
     places: &[Option<usize>],
     parts: &[Items<Env>],
 ) -> Result<Items<FileEnv>, EnvsFault>
-    requires lengths { length places.now ≡ length carriers.now }
-    ensures carriers { IfOk result (λ next. (share : One → Option Pairs) (brings : Pairs → List Pairs)
-        → spec.AreBrought share brings (map bare_file_env carriers.now) places.now (map (map bare_env) parts.now)
-        → map bare_file_env next ≡ spec.next_file_envs number share brings (map bare_file_env carriers.now)) }
+    requires lengths { length places.now ≡ length file_envs.now }
+    ensures file_envs { IfOk result (λ next. (share : One → Option Pairs) (brings : Pairs → List Pairs)
+        → spec.AreBrought share brings (map bare_file_env file_envs.now) places.now (map (map bare_env) parts.now)
+        → map bare_file_env next ≡ spec.next_file_envs number share brings (map bare_file_env file_envs.now)) }
     ensures few { IfOk result (λ next. length next ≤ spec.most_environments) }
     ensures too_many { IsErrOf result EnvsFault.TooMany → (share : One → Option Pairs) (brings : Pairs → List Pairs)
-        → spec.AreBrought share brings (map bare_file_env carriers.now) places.now (map (map bare_env) parts.now)
-        → spec.most_environments < length (spec.next_file_envs number share brings (map bare_file_env carriers.now)) }
+        → spec.AreBrought share brings (map bare_file_env file_envs.now) places.now (map (map bare_env) parts.now)
+        → spec.most_environments < length (spec.next_file_envs number share brings (map bare_file_env file_envs.now)) }
 {
     let mut next = Items::new(alloc);
-    for i in 0..carriers.len() {
+    for i in 0..file_envs.len() {
         let brought = parts_of(parts, places[i]);
-        next = replace(alloc, number, &carriers[i], brought, next)?;
+        next = replace(alloc, number, &file_envs[i], brought, next)?;
         if next.len() > MOST_ENVIRONMENTS {
             return Err(EnvsFault::TooMany);
         }

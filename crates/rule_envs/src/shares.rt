@@ -35,17 +35,17 @@ fn share(
     had: &[u32],
     depends: &Dep,
     inherited: &[Var],
-    carrier: &FileEnv,
+    file_env: &FileEnv,
 ) -> Result<Option<Env>, NoMemory>
-    ensures { IfOk result (λ o. o ≡ spec.share defined.now had.now depends.now inherited.now carrier.now) }
+    ensures { IfOk result (λ o. o ≡ spec.share defined.now had.now depends.now inherited.now file_env.now) }
 {
-    if !judge(depends, carrier.rules.as_slice(), had, defined) {
+    if !judge(depends, file_env.rules.as_slice(), had, defined) {
         return Ok(None);
     }
-    if !has_all(&carrier.env, inherited) {
+    if !has_all(&file_env.env, inherited) {
         return Ok(None);
     }
-    let env = restricted(alloc, &carrier.env, inherited)?;
+    let env = restricted(alloc, &file_env.env, inherited)?;
     Ok(Some(env))
 }
 
@@ -82,17 +82,17 @@ pub fn projections(
     had: &[u32],
     depends: &Dep,
     inherited: &[Var],
-    carriers: &[FileEnv],
+    file_envs: &[FileEnv],
 ) -> Result<Projected, NoMemory>
     ensures projections { IfOk result (λ r. r.projections
-        ≡ spec.projections defined.now had.now depends.now inherited.now carriers.now) }
+        ≡ spec.projections defined.now had.now depends.now inherited.now file_envs.now) }
     ensures places { IfOk result (λ r. AllZip (spec.StandsAt (map parts.bare_env r.projections))
-        (map (spec.share defined.now had.now depends.now inherited.now) (map spec.bare_file_env carriers.now)) r.places) }
+        (map (spec.share defined.now had.now depends.now inherited.now) (map spec.bare_file_env file_envs.now)) r.places) }
 {
     let mut envs = DistinctEnvs::new(alloc);
     let mut places = Items::new(alloc);
-    for carrier in carriers {
-        let share = share(alloc, defined, had, depends, inherited, carrier)?;
+    for file_env in file_envs {
+        let share = share(alloc, defined, had, depends, inherited, file_env)?;
         let shared = with_share(alloc, envs, share)?;
         envs = shared.envs;
         places.push(shared.place)?;

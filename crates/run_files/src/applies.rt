@@ -16,6 +16,7 @@ use rule_chain::{Applied, FileFault, PatchRules, apply};
 use run_acts::Stopped;
 use std::thread::Threads;
 
+/// Whether memory ran out, so that nothing is known to be wrong with the file.
 fn is_no_memory(fault: &FileFault) -> bool
     ensures { IsTrue result ↔ (fault.now ≡ cause.NoMemory) }
 {

@@ -21,6 +21,8 @@
 //!
 //! If both branches led to one node, its states would be explored once, and their trees would be in the forest once.
 //!
+//! A forest that is returned has at most [`MOST_NODES`] touches and binds.
+//!
 //! Its folders:
 //!
 //! - `wit_order`: Forests of witnesses: trees in order, each once.

@@ -48,7 +48,7 @@ use Rattle.rule_envs.specs.Depends.{judge}
 use Rattle.rule_envs.specs.Shares.{takes_part, share, projections}
 use Rattle.rule_envs.specs.FileEnvs.{extended, replaced, becomes_by}
 use Rattle.rule_chain.specs.FileWitnesses.Found.{witnesses_in, found_from, found_under, brings}
-use Rattle.rule_chain.specs.RuleMatches.Turns.{turn_found, turn_carriers}
+use Rattle.rule_chain.specs.RuleMatches.Turns.{rule_found, file_envs_after}
 use Rattle.rule_chain.proofs.RuleMatches.TurnLemmas.{are_new}
 use Rattle.rule_laws.specs.Ready.{IsReady}
 use Rattle.edit_marks.specs.EditWalk.Touches.{Touched, touches_in, touches_of, touches}
@@ -270,18 +270,18 @@ module _ (pattern_law : PatternLaw) (cover_law : CoverLaw) (block_law : BlockLaw
       cons_has None envs h k = k
       cons_has (Some env) envs h k = All-cons IsShared env envs h k
 
-      shares_have : (carriers : List FileEnv) → All (CarriesTerms metas) carriers → All IsShared (filter_map part carriers)
+      shares_have : (file_envs : List FileEnv) → All (CarriesTerms metas) file_envs → All IsShared (filter_map part file_envs)
       shares_have [] h = All-nil IsShared
-      shares_have (c ∷ carriers) h =
-          cons_has (part c) (filter_map part carriers) (share_has c (All-head (CarriesTerms metas) c carriers h))
-          (shares_have carriers (All-tail (CarriesTerms metas) c carriers h))
+      shares_have (c ∷ file_envs) h =
+          cons_has (part c) (filter_map part file_envs) (share_has c (All-head (CarriesTerms metas) c file_envs h))
+          (shares_have file_envs (All-tail (CarriesTerms metas) c file_envs h))
 
-      pub all_show : (carriers : List FileEnv) → All (CarriesTerms metas) carriers
-          → All Shows (touches (turn_found defined had number rule items carriers))
-      all_show carriers h =
-          flat_each IsLeft Shows touches_of left_shows (turn_found defined had number rule items carriers)
-          (flat_each IsShared IsLeft (found_under number rule items) under (projections defined had rule.depends (inherited_of rule) carriers)
-          (distinct_all IsShared (filter_map part carriers) (shares_have carriers h)))
+      pub all_show : (file_envs : List FileEnv) → All (CarriesTerms metas) file_envs
+          → All Shows (touches (rule_found defined had number rule items file_envs))
+      all_show file_envs h =
+          flat_each IsLeft Shows touches_of left_shows (rule_found defined had number rule items file_envs)
+          (flat_each IsShared IsLeft (found_under number rule items) under (projections defined had rule.depends (inherited_of rule) file_envs)
+          (distinct_all IsShared (filter_map part file_envs) (shares_have file_envs h)))
 
       -- ---- the environments after the rule
 
@@ -295,8 +295,8 @@ module _ (pattern_law : PatternLaw) (cover_law : CoverLaw) (block_law : BlockLaw
       becomes_c c None h k = All-cons (CarriesTerms metas) c [] h (All-nil (CarriesTerms metas))
       becomes_c c (Some env) h k = replaced_c c (brings number rule items env) h (brought env k)
 
-      pub all_carried : (carriers : List FileEnv) → All (CarriesTerms metas) carriers
-          → All (CarriesTerms metas) (turn_carriers defined had number rule items carriers)
-      all_carried carriers h =
+      pub all_carried : (file_envs : List FileEnv) → All (CarriesTerms metas) file_envs
+          → All (CarriesTerms metas) (file_envs_after defined had number rule items file_envs)
+      all_carried file_envs h =
           flat_each (CarriesTerms metas) (CarriesTerms metas) (λ c. becomes_by number part (brings number rule items) c (part c))
-          (λ c k. becomes_c c (part c) k (share_has c k)) carriers h
+          (λ c k. becomes_c c (part c) k (share_has c k)) file_envs h

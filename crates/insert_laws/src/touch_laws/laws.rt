@@ -7,7 +7,7 @@ ghost use Rattle.smpl_terms.specs.declared.var.Var.{Var as Variable};
 ghost use Rattle.smpl_patch.specs.declared.rule.Rule.{Rule as PatchRule};
 ghost use Rattle.ctl_translate.specs.Rules.{first_unbound};
 ghost use Rattle.rule_envs.specs.declared.file_env.FileEnv.{FileEnv};
-ghost use Rattle.rule_chain.specs.RuleMatches.Turns.{turn_found, turn_carriers};
+ghost use Rattle.rule_chain.specs.RuleMatches.Turns.{rule_found, file_envs_after};
 ghost use Rattle.rule_laws.specs.Ready.{IsReady};
 ghost use Rattle.edit_marks.specs.EditWalk.Touches.{touches};
 ghost use Rattle.insert_laws.specs.TouchLaws.Metas.{AreMetas, CarriesTerms, ShowsTerms};
@@ -28,13 +28,13 @@ use rule_laws::formulas_have_patterns_of_their_bodies;
 /// Does nothing.
 pub fn touches_show_terms()
     ensures found { (defined : List (List ℕ)) (had : List ℕ) (number : ℕ) (rule : PatchRule) (pieces : List TextPiece)
-        (items : List Item) (carriers : List FileEnv) (metas : Variable → Bool) → IsReady rule → first_unbound rule ≡ None →
-        AreMetas metas rule → Reads pieces items → All (CarriesTerms metas) carriers →
-        All (ShowsTerms metas rule items) (touches (turn_found defined had number rule items carriers)) }
+        (items : List Item) (file_envs : List FileEnv) (metas : Variable → Bool) → IsReady rule → first_unbound rule ≡ None →
+        AreMetas metas rule → Reads pieces items → All (CarriesTerms metas) file_envs →
+        All (ShowsTerms metas rule items) (touches (rule_found defined had number rule items file_envs)) }
     ensures carried { (defined : List (List ℕ)) (had : List ℕ) (number : ℕ) (rule : PatchRule) (pieces : List TextPiece)
-        (items : List Item) (carriers : List FileEnv) (metas : Variable → Bool) → IsReady rule → first_unbound rule ≡ None →
-        AreMetas metas rule → Reads pieces items → All (CarriesTerms metas) carriers →
-        All (CarriesTerms metas) (turn_carriers defined had number rule items carriers) }
+        (items : List Item) (file_envs : List FileEnv) (metas : Variable → Bool) → IsReady rule → first_unbound rule ≡ None →
+        AreMetas metas rule → Reads pieces items → All (CarriesTerms metas) file_envs →
+        All (CarriesTerms metas) (file_envs_after defined had number rule items file_envs) }
 {
     bound_metavariables_have_terms();
     atoms_have_their_variables();

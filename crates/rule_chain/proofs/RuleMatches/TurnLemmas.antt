@@ -25,7 +25,7 @@ use Rattle.rule_envs.specs.declared.fault.EnvsFault.TheVariants as envs_faults
 use Rattle.rule_chain.specs.declared.rule_witnesses.fault.ItemFault.{ItemFault}
 use Rattle.rule_chain.specs.declared.rule_witnesses.fault.ItemFault.TheVariants as job_faults
 use Rattle.rule_chain.specs.FileWitnesses.Found.{brings}
-use Rattle.rule_chain.specs.declared.rule_matches.fault.TurnFault.TheVariants.{TooManyWitnesses, TooManyEnvironments}
+use Rattle.rule_chain.specs.declared.rule_matches.fault.MatchFault.TheVariants.{TooManyWitnesses, TooManyEnvironments}
 use Rattle.rule_chain.specs.RuleMatches.Turns.{AreApart, rule_share, rule_projections, job_fault, envs_fault}
 
 -- a pair of another variable

@@ -13,9 +13,9 @@ use Rattle.rule_chain.specs.RuleWitnesses.Bare.{bare_witness}
 use Rattle.rule_envs.specs.declared.file_env.FileEnv.{FileEnv}
 use Rattle.rule_envs.specs.Shares.{bare_file_env}
 use Rattle.rule_envs.specs.FileEnvs.{most_environments}
-use Rattle.rule_chain.specs.declared.rule_matches.fault.TurnFault.{TurnFault}
-use Rattle.rule_chain.specs.declared.rule_matches.fault.TurnFault.TheVariants as turn_faults
-use Rattle.rule_chain.specs.RuleMatches.Turns.{turn_found, turn_carriers, has_too_many}
+use Rattle.rule_chain.specs.declared.rule_matches.fault.MatchFault.{MatchFault}
+use Rattle.rule_chain.specs.declared.rule_matches.fault.MatchFault.TheVariants as match_faults
+use Rattle.rule_chain.specs.RuleMatches.Turns.{rule_found, file_envs_after, has_too_many}
 use Rattle.rule_chain.specs.declared.rule_edits.fault.EditFault.{EditFault}
 use Rattle.rule_chain.specs.declared.rule_edits.fault.EditFault.TheVariants as edit_faults
 use Rattle.rule_chain.specs.declared.rule_edits.texts.NewText.{NewText}
@@ -26,10 +26,10 @@ use Rattle.rule_chain.specs.declared.rule_run.state.FileState.{FileState}
 use Rattle.rule_chain.specs.declared.rule_run.fault.FileFault.{FileFault}
 use Rattle.rule_chain.specs.declared.rule_run.fault.FileFault.TheVariants.{NoMemory}
 use Rattle.rule_chain.specs.RuleRun.States.{Chained}
-use Rattle.rule_chain.specs.RuleRun.OneRule.{had_after, turn_fault, edit_fault, file_witnesses, rule_carriers, is_too_much, RuleEdits, AreFew}
+use Rattle.rule_chain.specs.RuleRun.OneRule.{had_after, match_fault, edit_fault, file_witnesses, rule_file_envs, is_too_much, RuleEdits, AreFew}
 use Rattle.rule_chain.specs.RuleRun.OneRule.{IsFault}
 use Rattle.rule_chain.specs.RuleRun.OneRule.IsFault.{too_many_witnesses, too_many_environments, in_edits}
-use Rattle.rule_chain.specs.RuleRun.Worked.{AreFindingsOf, IsAtReading, Works}
+use Rattle.rule_chain.specs.RuleRun.Worked.{AreFindingsOf, IsAtReading, IsOutcome}
 
 -- ---- witnesses without ids
 
@@ -40,16 +40,16 @@ had-bare had number (w ∷ ws) = refl
 -- ---- one rule, from findings with ids, as they are passed on
 
 module _ (defined : List (List ℕ)) (number : ℕ) (rule : Rule) (file : FileItems) (next : ℕ) (f : FileState)
-    (had : List ℕ) (items : List Item) (carriers : List FileEnv)
-    (same_had : had ≡ f.had) (same_items : items ≡ file.items) (same_carriers : carriers ≡ f.carriers) where
+    (had : List ℕ) (items : List Item) (file_envs : List FileEnv)
+    (same_had : had ≡ f.had) (same_items : items ≡ file.items) (same_file_envs : file_envs ≡ f.file_envs) where
   abbrev pub found_here : List RuleWitness
-  found_here = turn_found defined had number rule items (map bare_file_env carriers)
+  found_here = rule_found defined had number rule items (map bare_file_env file_envs)
 
-  abbrev pub carriers_here : List FileEnv
-  carriers_here = turn_carriers defined had number rule items (map bare_file_env carriers)
+  abbrev pub file_envs_here : List FileEnv
+  file_envs_here = file_envs_after defined had number rule items (map bare_file_env file_envs)
 
   abbrev pub too_much_here : Bool
-  too_much_here = has_too_many defined had number rule items (map bare_file_env carriers)
+  too_much_here = has_too_many defined had number rule items (map bare_file_env file_envs)
 
   module _ (s : Chained) (seen : AreFindingsOf f s) (reading : IsAtReading file next s) where
     had_as : s.had ≡ had
@@ -58,14 +58,14 @@ module _ (defined : List (List ℕ)) (number : ℕ) (rule : Rule) (file : FileIt
     items_as : s.items ≡ items
     items_as = reading.items ∙ sym same_items
 
-    bare_as : s.carriers ≡ map bare_file_env carriers
-    bare_as = seen.seen.carriers_is ∙ ap (map bare_file_env) (sym same_carriers)
+    bare_as : s.file_envs ≡ map bare_file_env file_envs
+    bare_as = seen.seen.file_envs_is ∙ ap (map bare_file_env) (sym same_file_envs)
 
     found_as : file_witnesses defined number rule s ≡ found_here
-    found_as = λ i. turn_found defined (had_as i) number rule (items_as i) (bare_as i)
+    found_as = λ i. rule_found defined (had_as i) number rule (items_as i) (bare_as i)
 
-    carriers_as : rule_carriers defined number rule s ≡ carriers_here
-    carriers_as = λ i. turn_carriers defined (had_as i) number rule (items_as i) (bare_as i)
+    file_envs_as : rule_file_envs defined number rule s ≡ file_envs_here
+    file_envs_as = λ i. file_envs_after defined (had_as i) number rule (items_as i) (bare_as i)
 
     too_much_as : is_too_much defined number rule s ≡ too_much_here
     too_much_as = λ i. has_too_many defined (had_as i) number rule (items_as i) (bare_as i)
@@ -73,10 +73,10 @@ module _ (defined : List (List ℕ)) (number : ℕ) (rule : Rule) (file : FileIt
     next_as : s.page.next ≡ next
     next_as = ap (λ (p : Page). p.next) reading.page
 
-    are_few : (cs : List FileEnv) → too_much_here ≡ false → map bare_file_env cs ≡ carriers_here → length cs ≤ most_environments
+    are_few : (cs : List FileEnv) → too_much_here ≡ false → map bare_file_env cs ≡ file_envs_here → length cs ≤ most_environments
         → AreFew defined number rule s
     are_few cs few is most =
-        let e : length (rule_carriers defined number rule s) ≡ length cs = ap length (carriers_as ∙ sym is) ∙ length-map cs bare_file_env in
+        let e : length (rule_file_envs defined number rule s) ≡ length cs = ap length (file_envs_as ∙ sym is) ∙ length-map cs bare_file_env in
         record { witnesses = too_much_as ∙ few; environments = omega (arith, e, most) }
 
     rule_edits : (ws passed : List RuleWitness) (edits : List Edit) → passed ≡ ws → map bare_witness ws ≡ found_here
@@ -88,10 +88,10 @@ module _ (defined : List (List ℕ)) (number : ℕ) (rule : Rule) (file : FileIt
 
   -- what is left
   pub rule_works : (ws passed : List RuleWitness) (cs : List FileEnv) (left : FileState) (text : Option NewText)
-      → too_much_here ≡ false → map bare_witness ws ≡ found_here → map bare_file_env cs ≡ carriers_here → length cs ≤ most_environments → passed ≡ ws
+      → too_much_here ≡ false → map bare_witness ws ≡ found_here → map bare_file_env cs ≡ file_envs_here → length cs ≤ most_environments → passed ≡ ws
       → ((edits : List Edit) × (AreEdits passed rule file.items (kinds_of file.items) file.pieces edits × Leaves next file.pieces edits text))
-      → left.carriers ≡ cs → left.had ≡ had_after f.had number ws → left.found ≡ f.found ++ ws
-      → (s : Chained) → AreFindingsOf f s → IsAtReading file next s → Works defined number rule s left text
+      → left.file_envs ≡ cs → left.had ≡ had_after f.had number ws → left.found ≡ f.found ++ ws
+      → (s : Chained) → AreFindingsOf f s → IsAtReading file next s → IsOutcome defined number rule s left text
   rule_works ws passed cs left text few found carried most same e c h w s seen reading = record {
     edits = e.0;
     few = are_few s seen reading cs few carried most;
@@ -100,7 +100,7 @@ module _ (defined : List (List ℕ)) (number : ℕ) (rule : Rule) (file : FileIt
     findings_are = record {
       seen = record {
         had_is = (λ i. had_after (seen.seen.had_is i) number ((found_as s seen reading ∙ sym found) i)) ∙ had-bare f.had number ws ∙ sym h;
-        carriers_is = carriers_as s seen reading ∙ sym carried ∙ ap (map bare_file_env) (sym c);
+        file_envs_is = file_envs_as s seen reading ∙ sym carried ∙ ap (map bare_file_env) (sym c);
       };
       found_is = (λ i. seen.found_is i ++ (found_as s seen reading ∙ sym found) i) ∙ sym (map-append bare_witness f.found ws)
           ∙ ap (map bare_witness) (sym w);
@@ -110,7 +110,7 @@ module _ (defined : List (List ℕ)) (number : ℕ) (rule : Rule) (file : FileIt
 
   -- the faults of its edits
   pub edits_stop : (ws passed : List RuleWitness) (cs : List FileEnv) (fault : EditFault) (told : FileFault) → told ≡ edit_fault number fault
-      → too_much_here ≡ false → map bare_witness ws ≡ found_here → map bare_file_env cs ≡ carriers_here → length cs ≤ most_environments → passed ≡ ws
+      → too_much_here ≡ false → map bare_witness ws ≡ found_here → map bare_file_env cs ≡ file_envs_here → length cs ≤ most_environments → passed ≡ ws
       → (fault ≡ edit_faults.NoMemory) ⊎ ((edits : List Edit)
       × (AreEdits passed rule file.items (kinds_of file.items) file.pieces edits × IsEditFault next file.pieces edits fault))
       → (told ≡ NoMemory) ⊎ ((s : Chained) → AreFindingsOf f s → IsAtReading file next s → IsFault defined number rule s told)
@@ -121,21 +121,21 @@ module _ (defined : List (List ℕ)) (number : ℕ) (rule : Rule) (file : FileIt
       (subst₂ (λ n ps. IsEditFault n ps e.0 fault) (sym (next_as s seen reading)) (sym reading.pieces) e.1.1)))
 
   -- its other faults
-  told_by : (fault : TurnFault) → (fault ≡ turn_faults.TooManyWitnesses → too_much_here ≡ true)
-      → (fault ≡ turn_faults.TooManyEnvironments → (too_much_here ≡ false) × (most_environments < length carriers_here))
-      → (turn_fault number fault ≡ NoMemory)
-      ⊎ ((s : Chained) → AreFindingsOf f s → IsAtReading file next s → IsFault defined number rule s (turn_fault number fault))
-  told_by turn_faults.TooManyWitnesses many wide = inr (λ s seen reading. too_many_witnesses (too_much_as s seen reading ∙ many refl))
-  told_by turn_faults.TooManyEnvironments many wide = inr (λ s seen reading.
+  told_by : (fault : MatchFault) → (fault ≡ match_faults.TooManyWitnesses → too_much_here ≡ true)
+      → (fault ≡ match_faults.TooManyEnvironments → (too_much_here ≡ false) × (most_environments < length file_envs_here))
+      → (match_fault number fault ≡ NoMemory)
+      ⊎ ((s : Chained) → AreFindingsOf f s → IsAtReading file next s → IsFault defined number rule s (match_fault number fault))
+  told_by match_faults.TooManyWitnesses many wide = inr (λ s seen reading. too_many_witnesses (too_much_as s seen reading ∙ many refl))
+  told_by match_faults.TooManyEnvironments many wide = inr (λ s seen reading.
       let w = wide refl in
-      let e : length (rule_carriers defined number rule s) ≡ length carriers_here = ap length (carriers_as s seen reading) in
+      let e : length (rule_file_envs defined number rule s) ≡ length file_envs_here = ap length (file_envs_as s seen reading) in
       too_many_environments (too_much_as s seen reading ∙ w.0) (omega (arith, e, w.1)))
-  told_by turn_faults.NoMemory many wide = inl refl
+  told_by match_faults.NoMemory many wide = inl refl
 
-  pub turn_stops : (fault : TurnFault) (told : FileFault) → told ≡ turn_fault number fault
-      → (fault ≡ turn_faults.TooManyWitnesses → too_much_here ≡ true)
-      → (fault ≡ turn_faults.TooManyEnvironments → (too_much_here ≡ false) × (most_environments < length carriers_here))
+  pub matches_stop : (fault : MatchFault) (told : FileFault) → told ≡ match_fault number fault
+      → (fault ≡ match_faults.TooManyWitnesses → too_much_here ≡ true)
+      → (fault ≡ match_faults.TooManyEnvironments → (too_much_here ≡ false) × (most_environments < length file_envs_here))
       → (told ≡ NoMemory) ⊎ ((s : Chained) → AreFindingsOf f s → IsAtReading file next s → IsFault defined number rule s told)
-  turn_stops fault told is many wide =
+  matches_stop fault told is many wide =
       subst (λ (t : FileFault). (t ≡ NoMemory) ⊎ ((s : Chained) → AreFindingsOf f s → IsAtReading file next s → IsFault defined number rule s t)) (sym is)
       (told_by fault many wide)

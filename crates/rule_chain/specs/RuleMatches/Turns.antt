@@ -14,8 +14,8 @@ use Rattle.rule_envs.specs.declared.fault.EnvsFault.TheVariants as envs_faults
 use Rattle.rule_chain.specs.declared.rule_witnesses.fault.ItemFault.{ItemFault}
 use Rattle.rule_chain.specs.declared.rule_witnesses.fault.ItemFault.TheVariants as job_faults
 use Rattle.rule_chain.specs.FileWitnesses.Found as found
-use Rattle.rule_chain.specs.declared.rule_matches.fault.TurnFault.{TurnFault}
-use Rattle.rule_chain.specs.declared.rule_matches.fault.TurnFault.TheVariants.{TooManyWitnesses, TooManyEnvironments, NoMemory}
+use Rattle.rule_chain.specs.declared.rule_matches.fault.MatchFault.{MatchFault}
+use Rattle.rule_chain.specs.declared.rule_matches.fault.MatchFault.TheVariants.{TooManyWitnesses, TooManyEnvironments, NoMemory}
 
 -- each of these variables occurs once, and none is inherited
 abbrev pub AreApart : List Var → List Var → Type 0
@@ -23,29 +23,29 @@ AreApart [] inherited = Unit {0}
 AreApart (x ∷ xs) inherited = (is_among inherited x ≡ false) × (is_among xs x ≡ false) × AreApart xs inherited
 
 -- given the names that are defined, the rules that have had a witness, the items and the environments without ids
-module _ (defined : List (List ℕ)) (had : List ℕ) (number : ℕ) (rule : Rule) (items : List Item) (carriers : List FileEnv) where
+module _ (defined : List (List ℕ)) (had : List ℕ) (number : ℕ) (rule : Rule) (items : List Item) (file_envs : List FileEnv) where
   abbrev pub rule_share : FileEnv → Option Pairs
   rule_share = share defined had rule.depends (inherited_of rule)
 
   abbrev pub rule_projections : List Pairs
-  rule_projections = projections defined had rule.depends (inherited_of rule) carriers
+  rule_projections = projections defined had rule.depends (inherited_of rule) file_envs
 
   -- its witnesses
-  abbrev pub turn_found : List RuleWitness
-  turn_found = found.file_witnesses number rule items rule_projections
+  abbrev pub rule_found : List RuleWitness
+  rule_found = found.file_witnesses number rule items rule_projections
 
   abbrev pub has_too_many : Bool
   has_too_many = found.has_too_many number rule items rule_projections
 
   -- the environments after it
-  abbrev pub turn_carriers : List FileEnv
-  turn_carriers = envs.next_file_envs number rule_share (found.brings number rule items) carriers
+  abbrev pub file_envs_after : List FileEnv
+  file_envs_after = envs.next_file_envs number rule_share (found.brings number rule items) file_envs
 
 -- the faults of finding witnesses, and of the environments after them, as those of the rule
-abbrev pub job_fault : ItemFault → TurnFault
+abbrev pub job_fault : ItemFault → MatchFault
 job_fault job_faults.TooMany = TooManyWitnesses
 job_fault job_faults.NoMemory = NoMemory
 
-abbrev pub envs_fault : EnvsFault → TurnFault
+abbrev pub envs_fault : EnvsFault → MatchFault
 envs_fault envs_faults.TooMany = TooManyEnvironments
 envs_fault envs_faults.NoMemory = NoMemory

@@ -11,18 +11,18 @@ use Rattle.rule_chain.specs.declared.rule_edits.fault.EditFault.TheVariants as e
 use Rattle.rule_chain.specs.RuleEdits.Kinds.{kinds_of}
 use Rattle.rule_chain.specs.RuleEdits.Pages.{is_edited, page_after}
 use Rattle.rule_chain.specs.RuleEdits.Faults.{AreFine, IsEditFault}
-use Rattle.rule_chain.specs.RuleMatches.Turns.{turn_found, turn_carriers, has_too_many}
-use Rattle.rule_chain.specs.declared.rule_matches.fault.TurnFault.{TurnFault}
-use Rattle.rule_chain.specs.declared.rule_matches.fault.TurnFault.TheVariants as turn
+use Rattle.rule_chain.specs.RuleMatches.Turns.{rule_found, file_envs_after, has_too_many}
+use Rattle.rule_chain.specs.declared.rule_matches.fault.MatchFault.{MatchFault}
+use Rattle.rule_chain.specs.declared.rule_matches.fault.MatchFault.TheVariants as matching
 use Rattle.rule_chain.specs.declared.rule_run.fault.FileFault.{FileFault}
 use Rattle.rule_chain.specs.declared.rule_run.fault.FileFault.TheVariants.{TooManyWitnesses, TooManyEnvironments, Conflict, FileTooLong, NoMemory}
 use Rattle.rule_chain.specs.RuleRun.States.{Chained, ReadsAgain}
 
 -- the fault of what a rule finds, with the rule's number
-abbrev pub turn_fault : ℕ → TurnFault → FileFault
-turn_fault number turn.TooManyWitnesses = TooManyWitnesses number
-turn_fault number turn.TooManyEnvironments = TooManyEnvironments number
-turn_fault number turn.NoMemory = NoMemory
+abbrev pub match_fault : ℕ → MatchFault → FileFault
+match_fault number matching.TooManyWitnesses = TooManyWitnesses number
+match_fault number matching.TooManyEnvironments = TooManyEnvironments number
+match_fault number matching.NoMemory = NoMemory
 
 -- the fault of a rule's edits, with the rule's number
 abbrev pub edit_fault : ℕ → EditFault → FileFault
@@ -43,23 +43,23 @@ MayRead true s next = ReadsAgain s next
 module _ (defined : List (List ℕ)) (number : ℕ) (rule : Rule) (s : Chained) where
   -- its witnesses, the environments after it, and whether they have too many touches and binds in some item
   abbrev pub file_witnesses : List RuleWitness
-  file_witnesses = turn_found defined s.had number rule s.items s.carriers
+  file_witnesses = rule_found defined s.had number rule s.items s.file_envs
 
-  abbrev pub rule_carriers : List FileEnv
-  rule_carriers = turn_carriers defined s.had number rule s.items s.carriers
+  abbrev pub rule_file_envs : List FileEnv
+  rule_file_envs = file_envs_after defined s.had number rule s.items s.file_envs
 
   abbrev pub is_too_much : Bool
-  is_too_much = has_too_many defined s.had number rule s.items s.carriers
+  is_too_much = has_too_many defined s.had number rule s.items s.file_envs
 
   -- the edits of all its witnesses
   abbrev pub RuleEdits : List Edit → Type 0
   RuleEdits = AreEdits file_witnesses rule s.items (kinds_of s.items) s.pieces
 
   -- what it leaves if it meets no fault; the pieces and items are still those of the last reading
-  abbrev pub worked : List Edit → Chained
-  worked edits = record s {
+  abbrev pub state_after : List Edit → Chained
+  state_after edits = record s {
     page = page_after s.page.next s.pieces edits;
-    carriers = rule_carriers;
+    file_envs = rule_file_envs;
     had = had_after s.had number file_witnesses;
     found = s.found ++ file_witnesses;
   }
@@ -67,13 +67,13 @@ module _ (defined : List (List ℕ)) (number : ℕ) (rule : Rule) (s : Chained) 
 -- neither too many witnesses in an item, nor too many environments
 pub record AreFew (defined : List (List ℕ)) (number : ℕ) (rule : Rule) (s : Chained) : Type 0 where
   pub witnesses : is_too_much defined number rule s ≡ false
-  pub environments : length (rule_carriers defined number rule s) ≤ most_environments
+  pub environments : length (rule_file_envs defined number rule s) ≤ most_environments
 
 -- the first fault that the rule meets
 pub data IsFault (defined : List (List ℕ)) (number : ℕ) (rule : Rule) (s : Chained) : FileFault → Type 0 where
   too_many_witnesses : is_too_much defined number rule s ≡ true → IsFault defined number rule s (TooManyWitnesses number)
   too_many_environments : is_too_much defined number rule s ≡ false
-      → most_environments < length (rule_carriers defined number rule s)
+      → most_environments < length (rule_file_envs defined number rule s)
       → IsFault defined number rule s (TooManyEnvironments number)
   in_edits : (edits : List Edit) (fault : EditFault) → AreFew defined number rule s → RuleEdits defined number rule s edits
       → IsEditFault s.page.next s.pieces edits fault → IsFault defined number rule s (edit_fault number fault)
@@ -84,4 +84,4 @@ pub record Leads (defined : List (List ℕ)) (number : ℕ) (rule : Rule) (follo
   pub few : AreFew defined number rule s
   pub are : RuleEdits defined number rule s edits
   pub fine : AreFine s.page.next s.pieces edits
-  pub reads : MayRead (is_edited edits && followed) (worked defined number rule s edits) next
+  pub reads : MayRead (is_edited edits && followed) (state_after defined number rule s edits) next

@@ -19,7 +19,7 @@ pub record Chained : Type 0 where
   pub reading : ℕ
   pub pieces : List TextPiece
   pub items : List Item
-  pub carriers : List FileEnv
+  pub file_envs : List FileEnv
   -- the rules that have had a witness
   pub had : List ℕ
   pub found : List RuleWitness
@@ -47,7 +47,7 @@ first_state pieces items = record {
   reading = 0;
   pieces = pieces;
   items = items;
-  carriers = first_file_envs;
+  file_envs = first_file_envs;
   had = [];
   found = [];
   skipped = notes_from 0 0 items;

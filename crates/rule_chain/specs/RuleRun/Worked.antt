@@ -11,16 +11,16 @@ use Rattle.rule_chain.specs.RuleEdits.Pages.{old_page, IsNew}
 use Rattle.rule_chain.specs.RuleEdits.Faults.{AreFine}
 use Rattle.rule_chain.specs.declared.rule_run.state.FileState.{FileState}
 use Rattle.rule_chain.specs.RuleRun.States.{Chained}
-use Rattle.rule_chain.specs.RuleRun.OneRule.{AreFew, RuleEdits, worked}
+use Rattle.rule_chain.specs.RuleRun.OneRule.{AreFew, RuleEdits, state_after}
 
 -- the state has these rules with a witness and these environments, which the code keeps with ids
-pub record IsSeenAs (had : List ℕ) (carriers : List FileEnv) (s : Chained) : Type 0 where
+pub record IsSeenAs (had : List ℕ) (file_envs : List FileEnv) (s : Chained) : Type 0 where
   pub had_is : s.had ≡ had
-  pub carriers_is : s.carriers ≡ map bare_file_env carriers
+  pub file_envs_is : s.file_envs ≡ map bare_file_env file_envs
 
 -- the findings with the ids of terms are those of the state
 pub record AreFindingsOf (f : FileState) (s : Chained) : Type 0 where
-  pub seen : IsSeenAs f.had f.carriers s
+  pub seen : IsSeenAs f.had f.file_envs s
   pub found_is : s.found ≡ map bare_witness f.found
 
 -- the state is just after a reading: nothing has edited the page since
@@ -30,10 +30,10 @@ pub record IsAtReading (file : FileItems) (next : ℕ) (s : Chained) : Type 0 wh
   pub items : s.items ≡ file.items
 
 -- Starting from this state, the rule meets no fault and leaves these findings and this text.
-pub record Works (defined : List (List ℕ)) (number : ℕ) (rule : Rule) (s : Chained) (findings : FileState) (text : Option NewText) : Type 0 where
+pub record IsOutcome (defined : List (List ℕ)) (number : ℕ) (rule : Rule) (s : Chained) (findings : FileState) (text : Option NewText) : Type 0 where
   pub edits : List Edit
   pub few : AreFew defined number rule s
   pub are : RuleEdits defined number rule s edits
   pub fine : AreFine s.page.next s.pieces edits
-  pub findings_are : AreFindingsOf findings (worked defined number rule s edits)
+  pub findings_are : AreFindingsOf findings (state_after defined number rule s edits)
   pub text_is : IsNew s.page.next s.pieces edits text

@@ -46,6 +46,7 @@ impl First {
     }
 }
 
+/// Returns what is kept of an item: where the formula holds, if that is to be kept, and otherwise nothing.
 fn kept_if(keep: bool, matched: SatSets) -> Cached
     ensures { result ≡ cond keep (held.Sets matched) held.Anew }
 {
@@ -65,9 +66,11 @@ pub fn first_found(
     keep: bool,
 ) -> Result<First, ItemFault>
     requires new { AreNew query.now.exports.now env.now }
-    ensures found { IfOk result (λ first. AreFoundBy (witnesses_of query.now.f.now g.now.graph.now query.now.exports.now query.now.number item env.now) first.found) }
+    ensures found { IfOk result (λ first. AreFoundBy
+        (witnesses_of query.now.f.now g.now.graph.now query.now.exports.now query.now.number item env.now) first.found) }
     ensures kept { IfOk result (λ first. IsKept query.now.f.now (Some g.now.graph.now) first.kept) }
-    ensures too_many { result ≡ Err fault.TooMany → most_nodes < touches_and_binds (witnesses_of query.now.f.now g.now.graph.now query.now.exports.now query.now.number item env.now) }
+    ensures too_many { result ≡ Err fault.TooMany → most_nodes < touches_and_binds
+        (witnesses_of query.now.f.now g.now.graph.now query.now.exports.now query.now.number item env.now) }
 {
     let matched = match_item(alloc, g, query.f)?;
     if matched.nodes.is_empty() {
@@ -89,8 +92,10 @@ fn found_anew(
     env: &Env,
 ) -> Result<Items<RuleWitness>, ItemFault>
     requires new { AreNew query.now.exports.now env.now }
-    ensures found { IfOk result (λ found. AreFoundBy (witnesses_of query.now.f.now g.now.graph.now query.now.exports.now query.now.number item env.now) found) }
-    ensures too_many { result ≡ Err fault.TooMany → most_nodes < touches_and_binds (witnesses_of query.now.f.now g.now.graph.now query.now.exports.now query.now.number item env.now) }
+    ensures found { IfOk result (λ found. AreFoundBy
+        (witnesses_of query.now.f.now g.now.graph.now query.now.exports.now query.now.number item env.now) found) }
+    ensures too_many { result ≡ Err fault.TooMany → most_nodes < touches_and_binds
+        (witnesses_of query.now.f.now g.now.graph.now query.now.exports.now query.now.number item env.now) }
 {
     let First { found, kept: _ } = first_found(alloc, query, g, item, env, false)?;
     Ok(found)
@@ -107,8 +112,10 @@ pub fn next_found(
 ) -> Result<Items<RuleWitness>, ItemFault>
     requires new { AreNew query.now.exports.now env.now }
     requires kept { IsKept query.now.f.now (Some g.now.graph.now) kept.now }
-    ensures found { IfOk result (λ found. AreFoundBy (witnesses_of query.now.f.now g.now.graph.now query.now.exports.now query.now.number item env.now) found) }
-    ensures too_many { result ≡ Err fault.TooMany → most_nodes < touches_and_binds (witnesses_of query.now.f.now g.now.graph.now query.now.exports.now query.now.number item env.now) }
+    ensures found { IfOk result (λ found. AreFoundBy
+        (witnesses_of query.now.f.now g.now.graph.now query.now.exports.now query.now.number item env.now) found) }
+    ensures too_many { result ≡ Err fault.TooMany → most_nodes < touches_and_binds
+        (witnesses_of query.now.f.now g.now.graph.now query.now.exports.now query.now.number item env.now) }
 {
     match kept {
         Cached::Anew => found_anew(alloc, query, g, item, env),

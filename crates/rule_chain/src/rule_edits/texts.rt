@@ -33,12 +33,14 @@ pub struct NewText {
     pub next: u64,
 }
 
+/// Whether the edit removes or inserts anything.
 fn changes(edit: &Edit) -> bool
     ensures { result ≡ spec.changes edit.now }
 {
     !edit.removed.is_empty() || !edit.inserts.is_empty()
 }
 
+/// Whether some edit changes anything.
 fn is_edited(edits: &[Edit]) -> bool
     ensures { result ≡ spec.is_edited edits.now }
 {
@@ -103,6 +105,7 @@ fn count_new(ids: &[u64], next: u64) -> usize
     count
 }
 
+/// Returns the text that the edits make, whether or not they clash. New tokens have ids from `next` on.
 fn written(alloc: Global, lexed: &Lexed, edits: &EditList, next: u64) -> Result<NewText, EditFault>
     requires fresh { next ≤ 2 ^ 62 }
     ensures text { IfOk result (λ t. spec.page_in t ≡ spec.page_of next (output_of lexed.now edits.now next)) }

@@ -7,7 +7,7 @@ use rule_envs::EnvsFault;
 
 /// Why a rule fails on a file, apart from its edits.
 #[derive(Drop)]
-pub enum TurnFault {
+pub enum MatchFault {
     /// The witnesses in one item under one environment have more than 1,000,000 touches and binds.
     TooManyWitnesses,
     /// More than 10,000 environments result.
@@ -16,38 +16,38 @@ pub enum TurnFault {
     NoMemory,
 }
 
-impl From<NoMemory> for TurnFault {
-    ghost use Rattle.rule_chain.specs.declared.rule_matches.fault.TurnFault.TheVariants as fault;
+impl From<NoMemory> for MatchFault {
+    ghost use Rattle.rule_chain.specs.declared.rule_matches.fault.MatchFault.TheVariants as fault;
 
     ghost from_gives = { λ _ e. e ≡ fault.NoMemory };
 
-    fn from(_: NoMemory) -> TurnFault {
-        TurnFault::NoMemory
+    fn from(_: NoMemory) -> MatchFault {
+        MatchFault::NoMemory
     }
 }
 
-impl From<ItemFault> for TurnFault {
+impl From<ItemFault> for MatchFault {
     ghost use Rattle.rule_chain.specs.RuleMatches.Turns.{job_fault};
 
     ghost from_gives = { λ fault e. e ≡ job_fault fault };
 
-    fn from(fault: ItemFault) -> TurnFault {
+    fn from(fault: ItemFault) -> MatchFault {
         match fault {
-            ItemFault::TooMany => TurnFault::TooManyWitnesses,
-            ItemFault::NoMemory => TurnFault::NoMemory,
+            ItemFault::TooMany => MatchFault::TooManyWitnesses,
+            ItemFault::NoMemory => MatchFault::NoMemory,
         }
     }
 }
 
-impl From<EnvsFault> for TurnFault {
+impl From<EnvsFault> for MatchFault {
     ghost use Rattle.rule_chain.specs.RuleMatches.Turns.{envs_fault};
 
     ghost from_gives = { λ fault e. e ≡ envs_fault fault };
 
-    fn from(fault: EnvsFault) -> TurnFault {
+    fn from(fault: EnvsFault) -> MatchFault {
         match fault {
-            EnvsFault::TooMany => TurnFault::TooManyEnvironments,
-            EnvsFault::NoMemory => TurnFault::NoMemory,
+            EnvsFault::TooMany => MatchFault::TooManyEnvironments,
+            EnvsFault::NoMemory => MatchFault::NoMemory,
         }
     }
 }

@@ -1,9 +1,9 @@
 // Why a file has no result.
 ghost use Rattle.std.specs.Prelude.{◌≡◌};
-ghost use Rattle.rule_chain.specs.RuleRun.OneRule.{edit_fault, turn_fault};
+ghost use Rattle.rule_chain.specs.RuleRun.OneRule.{edit_fault, match_fault};
 
 use crate::rule_edits::EditFault;
-use crate::rule_matches::TurnFault;
+use crate::rule_matches::MatchFault;
 use c_terms::NoMemory;
 use edit_marks::Edit;
 use std::alloc::{AllocError, AllocFailed};
@@ -65,12 +65,12 @@ pub fn of_edits(number: u32, fault: EditFault) -> FileFault
 }
 
 /// Returns the file's fault for a fault of the rule with this number, apart from its edits.
-pub fn of_turn(number: u32, fault: TurnFault) -> FileFault
-    ensures { result ≡ turn_fault number fault }
+pub fn of_matches(number: u32, fault: MatchFault) -> FileFault
+    ensures { result ≡ match_fault number fault }
 {
     match fault {
-        TurnFault::TooManyWitnesses => FileFault::TooManyWitnesses(number),
-        TurnFault::TooManyEnvironments => FileFault::TooManyEnvironments(number),
-        TurnFault::NoMemory => FileFault::NoMemory,
+        MatchFault::TooManyWitnesses => FileFault::TooManyWitnesses(number),
+        MatchFault::TooManyEnvironments => FileFault::TooManyEnvironments(number),
+        MatchFault::NoMemory => FileFault::NoMemory,
     }
 }

@@ -15,7 +15,7 @@ pub struct SkipNote {
 /// The environments so far, and what was found.
 #[derive(Drop)]
 pub struct FileState {
-    pub carriers: Items<FileEnv>,
+    pub file_envs: Items<FileEnv>,
     /// The rules that have had a witness.
     pub had: Items<u32>,
     pub found: Items<RuleWitness>,

@@ -141,7 +141,8 @@ pub fn item_witnesses(
     requires new { AreNew query.now.exports.now env.now }
     ensures found { IfOk result (λ found. map bare_witness found ≡ map bare_witness
         (witnesses_of query.now.f.now g.now.graph.now query.now.exports.now query.now.number item env.now)) }
-    ensures few { OnOk result (touches_and_binds (witnesses_of query.now.f.now g.now.graph.now query.now.exports.now query.now.number item env.now) ≤ most_nodes) }
+    ensures few { OnOk result (touches_and_binds
+        (witnesses_of query.now.f.now g.now.graph.now query.now.exports.now query.now.number item env.now) ≤ most_nodes) }
     ensures too_many { result ≡ Err fault.TooMany → most_nodes < touches_and_binds
         (witnesses_of query.now.f.now g.now.graph.now query.now.exports.now query.now.number item env.now) }
 {

@@ -15,6 +15,7 @@ pub struct ItemQuery<'a> {
     pub f: &'a Formula,
     /// The exported variables, which the formula binds.
     pub exports: &'a [Var],
-    pub ghost stand: { EachPattern (SureStand f.now.decls f.now.tokens) (plain f.now) } by { each_pattern-prop (SureStand f.now.decls f.now.tokens) (sure_stand-prop f.now.decls f.now.tokens) (plain f.now) },
+    pub ghost stand: { EachPattern (SureStand f.now.decls f.now.tokens) (plain f.now) } by { each_pattern-prop
+        (SureStand f.now.decls f.now.tokens) (sure_stand-prop f.now.decls f.now.tokens) (plain f.now) },
     pub ghost binds: { BindsExports f.now exports.now },
 }

@@ -22,7 +22,7 @@ use Rattle.rule_envs.specs.FileEnvs.{most_environments}
 use Rattle.rule_chain.specs.declared.rule_run.fault.FileFault.{FileFault}
 use Rattle.rule_chain.specs.declared.rule_run.fault.FileFault.TheVariants.{TooManyWitnesses, TooManyEnvironments}
 use Rattle.rule_chain.specs.RuleRun.States.{Chained, IsCut, first_state, notes_from}
-use Rattle.rule_chain.specs.RuleRun.OneRule.{edit_fault, MayRead, file_witnesses, rule_carriers, is_too_much, RuleEdits, worked, AreFew, IsFault}
+use Rattle.rule_chain.specs.RuleRun.OneRule.{edit_fault, MayRead, file_witnesses, rule_file_envs, is_too_much, RuleEdits, state_after, AreFew, IsFault}
 use Rattle.rule_chain.specs.RuleRun.OneRule.{Leads}
 use Rattle.rule_chain.specs.RuleRun.OneRule.IsFault.{too_many_witnesses, too_many_environments, in_edits}
 use Rattle.rule_chain.specs.Chain.{Outcome, Done, Refused, is_followed, Runs, Chain}
@@ -44,7 +44,7 @@ StateLaw = (defined : List (List ℕ)) (number : ℕ) (rule : Rule) (followed : 
 
 abbrev pub TextLaw : Type 0
 TextLaw = (defined : List (List ℕ)) (number : ℕ) (rule : Rule) (s : Chained) (edits : List Edit) → HavePlusCode rule.tokens → IsSoundState s
-    → RuleEdits defined number rule s edits → (pieces : List TextPiece) × IsCut (worked defined number rule s edits).page pieces
+    → RuleEdits defined number rule s edits → (pieces : List TextPiece) × IsCut (state_after defined number rule s edits).page pieces
 
 abbrev pub RuleHasCode : Rule → Type 0
 RuleHasCode r = HavePlusCode r.tokens
@@ -69,7 +69,7 @@ module _ (cut_law : CutLaw) (state_law : StateLaw) (text_law : TextLaw) (defined
     module _ (few : AreFew defined number rule s) (edits : List Edit) (are : RuleEdits defined number rule s edits)
         (fit : All (FitsText (length (ids_of s.pieces))) edits) where
       abbrev left : Chained
-      left = worked defined number rule s edits
+      left = state_after defined number rule s edits
 
       clash_at : (d : Clash) → IsFirstClash edits d → ⊥
       clash_at d first =
@@ -103,16 +103,16 @@ module _ (cut_law : CutLaw) (state_law : StateLaw) (text_law : TextLaw) (defined
       worked_by : ⊥
       worked_by = short_by (order (length left.page.bytes) most_bytes)
 
-    carriers_by : is_too_much defined number rule s ≡ false
-        → (length (rule_carriers defined number rule s) ≤ most_environments) ⊎ (most_environments < length (rule_carriers defined number rule s)) → ⊥
-    carriers_by calm (inl few) =
+    file_envs_by : is_too_much defined number rule s ≡ false
+        → (length (rule_file_envs defined number rule s) ≤ most_environments) ⊎ (most_environments < length (rule_file_envs defined number rule s)) → ⊥
+    file_envs_by calm (inl few) =
         let edited = edits_some rule s.items (kinds_of s.items) s.pieces (file_witnesses defined number rule s) in
         worked_by (record { witnesses = calm; environments = few }) edited.edits edited.are edited.fit
-    carriers_by calm (inr many) = refused (TooManyEnvironments number) (too_many_environments calm many)
+    file_envs_by calm (inr many) = refused (TooManyEnvironments number) (too_many_environments calm many)
 
     found_by : (b : Bool) → is_too_much defined number rule s ≡ b → ⊥
     found_by true much = refused (TooManyWitnesses number) (too_many_witnesses much)
-    found_by false calm = carriers_by calm (order (length (rule_carriers defined number rule s)) most_environments)
+    found_by false calm = file_envs_by calm (order (length (rule_file_envs defined number rule s)) most_environments)
 
     ends : ⊥
     ends = found_by (is_too_much defined number rule s) refl

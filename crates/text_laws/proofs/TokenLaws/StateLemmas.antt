@@ -34,7 +34,7 @@ lower n m le ids h = All-weaker (λ id. id < n) (λ id. id < m) (λ id lt. omega
 
 -- the state that a rule leaves, before its text is read
 pub left_sound : (s left : Chained) → IsSoundState s → left.pieces ≡ s.pieces → left.items ≡ s.items → s.page.next ≤ left.page.next
-    → All CarriesTerms left.carriers → IsSoundState left
+    → All CarriesTerms left.file_envs → IsSoundState left
 left_sound s left sound pieces items rises carried = record {
   cuts = subst (λ (ps : List TextPiece). Cuts ps) (sym pieces) sound.cuts;
   reads = subst (λ (ps : List TextPiece). Reads ps left.items) (sym pieces) (subst (λ (is : List Item). Reads s.pieces is) (sym items) sound.reads);
@@ -44,7 +44,7 @@ left_sound s left sound pieces items rises carried = record {
   carried = carried;
 }
 
-again_sound : (left next : Chained) → IsSoundPage left.page → All CarriesTerms left.carriers → ReadsAgain left next → IsSoundState next
+again_sound : (left next : Chained) → IsSoundPage left.page → All CarriesTerms left.file_envs → ReadsAgain left next → IsSoundState next
 again_sound left next page carried again = subst IsSoundState (sym again.is) (record {
   cuts = again.cut.cuts;
   reads = again.reads;

@@ -29,7 +29,7 @@ use Rattle.rule_envs.specs.Inherited.{inherited_of}
 use Rattle.rule_envs.specs.Shares.{takes_part, share, projections}
 use Rattle.rule_envs.specs.FileEnvs.{extended, replaced, becomes_by}
 use Rattle.rule_chain.specs.FileWitnesses.Found.{witnesses_in, found_from, found_under, brings}
-use Rattle.rule_chain.specs.RuleMatches.Turns.{turn_found, turn_carriers}
+use Rattle.rule_chain.specs.RuleMatches.Turns.{rule_found, file_envs_after}
 use Rattle.text_laws.specs.OutputLaws.Values.{AreCValues}
 use Rattle.text_laws.specs.Sound.{HaveCValues, HasCTerms}
 use Rattle.text_laws.specs.ValueLaws.Carried.{CarriesTerms}
@@ -131,17 +131,17 @@ module _ (law : ValueLaw) (pieces : List TextPiece) (number : ℕ) (rule : Rule)
       cons_has None envs h k = k
       cons_has (Some env) envs h k = All-cons HaveCValues env envs h k
 
-      shares_have : (carriers : List FileEnv) → All CarriesTerms carriers → All HaveCValues (filter_map part carriers)
+      shares_have : (file_envs : List FileEnv) → All CarriesTerms file_envs → All HaveCValues (filter_map part file_envs)
       shares_have [] h = All-nil HaveCValues
-      shares_have (c ∷ carriers) h =
-          cons_has (part c) (filter_map part carriers) (share_has c (All-head CarriesTerms c carriers h))
-          (shares_have carriers (All-tail CarriesTerms c carriers h))
+      shares_have (c ∷ file_envs) h =
+          cons_has (part c) (filter_map part file_envs) (share_has c (All-head CarriesTerms c file_envs h))
+          (shares_have file_envs (All-tail CarriesTerms c file_envs h))
 
-      pub all_found : (carriers : List FileEnv) → All CarriesTerms carriers → All HasCTerms (turn_found defined had number rule items carriers)
-      all_found carriers h =
+      pub all_found : (file_envs : List FileEnv) → All CarriesTerms file_envs → All HasCTerms (rule_found defined had number rule items file_envs)
+      all_found file_envs h =
           flat_each HaveCValues HasCTerms (found_under number rule items)
-          (λ env k. terms_of (found_under number rule items env) (under env k)) (projections defined had rule.depends (inherited_of rule) carriers)
-          (distinct_c (filter_map part carriers) (shares_have carriers h))
+          (λ env k. terms_of (found_under number rule items env) (under env k)) (projections defined had rule.depends (inherited_of rule) file_envs)
+          (distinct_c (filter_map part file_envs) (shares_have file_envs h))
         where
           terms_of : (ws : List RuleWitness) → All IsFound ws → All HasCTerms ws
           terms_of [] k = All-nil HasCTerms
@@ -159,7 +159,7 @@ module _ (law : ValueLaw) (pieces : List TextPiece) (number : ℕ) (rule : Rule)
       becomes_c c None h k = All-cons CarriesTerms c [] h (All-nil CarriesTerms)
       becomes_c c (Some env) h k = replaced_c c (brings number rule items env) h (brought env k)
 
-      pub all_carried : (carriers : List FileEnv) → All CarriesTerms carriers → All CarriesTerms (turn_carriers defined had number rule items carriers)
-      all_carried carriers h =
+      pub all_carried : (file_envs : List FileEnv) → All CarriesTerms file_envs → All CarriesTerms (file_envs_after defined had number rule items file_envs)
+      all_carried file_envs h =
           flat_each CarriesTerms CarriesTerms (λ c. becomes_by number part (brings number rule items) c (part c))
-          (λ c k. becomes_c c (part c) k (share_has c k)) carriers h
+          (λ c k. becomes_c c (part c) k (share_has c k)) file_envs h

@@ -14,4 +14,4 @@ pub record IsSoundState (s : Chained) : Type 0 where
   pub reads : Reads s.pieces s.items
   pub differ : AllDiffer (ids_of s.pieces)
   pub below : All (λ id. id < s.page.next) (ids_of s.pieces)
-  pub carried : All CarriesTerms s.carriers
+  pub carried : All CarriesTerms s.file_envs

@@ -10,7 +10,7 @@ ghost use Rattle.iso_expand.specs.Patches.{IsExpanded};
 ghost use Rattle.edit_marks.specs.declared.edit_conflict.edit.Edit.{Edit};
 ghost use Rattle.edit_unparse.specs.Words.{solid};
 ghost use Rattle.rule_chain.specs.RuleRun.States.{Chained, IsCut};
-ghost use Rattle.rule_chain.specs.RuleRun.OneRule.{RuleEdits, worked};
+ghost use Rattle.rule_chain.specs.RuleRun.OneRule.{RuleEdits, state_after};
 ghost use Rattle.text_laws.specs.Sound.{HavePlusCode};
 ghost use Rattle.text_laws.specs.TokenLaws.States.{IsSoundState};
 ghost use Rattle.text_laws.specs.AgainLaws.Tokens.{tokens_of, left_pieces};
@@ -33,11 +33,11 @@ use crate::{edits_are_fair, touches_are_sound};
 pub fn new_texts_are_of_their_tokens()
     ensures solid { (defined : List (List ℕ)) (number : ℕ) (rule : PatchRule) (s : Chained) (edits : List Edit)
         (again : List TextPiece) → HavePlusCode rule.tokens → IsSoundState s → RuleEdits defined number rule s edits →
-        Lexes (worked defined number rule s edits).page.bytes again →
+        Lexes (state_after defined number rule s edits).page.bytes again →
         solid again ≡ solid (left_pieces s.page.next s.pieces edits) }
     ensures tokens { (defined : List (List ℕ)) (number : ℕ) (rule : PatchRule) (s : Chained) (edits : List Edit)
         (pieces : List TextPiece) → HavePlusCode rule.tokens → IsSoundState s → RuleEdits defined number rule s edits →
-        IsCut (worked defined number rule s edits).page pieces →
+        IsCut (state_after defined number rule s edits).page pieces →
         tokens_of pieces ≡ tokens_of (left_pieces s.page.next s.pieces edits) }
 {
     found_values_are_sound();
@@ -56,13 +56,13 @@ pub fn patches_leave_their_tokens()
     ensures read { (bytes : List ℕ) (patch : Whole) (defined : List (List ℕ)) (text : List ℕ) (number : ℕ)
         (rule : PatchRule) (rest : List PatchRule) (s : Chained) (edits : List Edit) (pieces : List TextPiece) →
         IsSpelled bytes patch → IsBefore defined patch.rules text number (rule ∷ rest) s →
-        RuleEdits defined number rule s edits → IsCut (worked defined number rule s edits).page pieces →
+        RuleEdits defined number rule s edits → IsCut (state_after defined number rule s edits).page pieces →
         tokens_of pieces ≡ tokens_of (left_pieces s.page.next s.pieces edits) }
     ensures forms { (bytes : List ℕ) (isos : List Isomorphism) (patch whole : Whole) (defined : List (List ℕ))
         (text : List ℕ) (number : ℕ) (rule : PatchRule) (rest : List PatchRule) (s : Chained) (edits : List Edit)
         (pieces : List TextPiece) → IsSpelled bytes patch → IsExpanded isos patch whole →
         IsBefore defined whole.rules text number (rule ∷ rest) s → RuleEdits defined number rule s edits →
-        IsCut (worked defined number rule s edits).page pieces →
+        IsCut (state_after defined number rule s edits).page pieces →
         tokens_of pieces ≡ tokens_of (left_pieces s.page.next s.pieces edits) }
 {
     read_plus_code_is_sound();

@@ -8,7 +8,7 @@ ghost use Rattle.c_file.specs.Reads.{Reads};
 ghost use Rattle.smpl_patch.specs.declared.rule.Rule.{Rule};
 ghost use Rattle.edit_marks.specs.declared.edit_conflict.edit.Edit.{Edit};
 ghost use Rattle.rule_chain.specs.RuleRun.States.{Chained, IsCut, first_state};
-ghost use Rattle.rule_chain.specs.RuleRun.OneRule.{RuleEdits, Leads, worked};
+ghost use Rattle.rule_chain.specs.RuleRun.OneRule.{RuleEdits, Leads, state_after};
 ghost use Rattle.text_laws.specs.Sound.{HavePlusCode};
 ghost use Rattle.text_laws.specs.TokenLaws.States.{IsSoundState};
 
@@ -47,11 +47,11 @@ pub fn states_stay_sound()
 pub fn new_texts_are_cut()
     ensures counted { (defined : List (List ℕ)) (number : ℕ) (rule : Rule) (s : Chained) (edits : List Edit)
         (again : List TextPiece) → HavePlusCode rule.tokens → IsSoundState s → RuleEdits defined number rule s edits →
-        Lexes (worked defined number rule s edits).page.bytes again →
-        length (ids_of again) ≡ length (worked defined number rule s edits).page.ids }
+        Lexes (state_after defined number rule s edits).page.bytes again →
+        length (ids_of again) ≡ length (state_after defined number rule s edits).page.ids }
     ensures pieces { (defined : List (List ℕ)) (number : ℕ) (rule : Rule) (s : Chained) (edits : List Edit) →
         HavePlusCode rule.tokens → IsSoundState s → RuleEdits defined number rule s edits →
-        (pieces : List TextPiece) × IsCut (worked defined number rule s edits).page pieces }
+        (pieces : List TextPiece) × IsCut (state_after defined number rule s edits).page pieces }
 {
     every_text_is_cut();
     text_keeps_its_tokens();

@@ -6,7 +6,7 @@ ghost use Rattle.cpp_lines.specs.declared.reading.Item.{Item};
 ghost use Rattle.c_file.specs.Reads.{Reads};
 ghost use Rattle.smpl_patch.specs.declared.rule.Rule.{Rule};
 ghost use Rattle.rule_envs.specs.declared.file_env.FileEnv.{FileEnv};
-ghost use Rattle.rule_chain.specs.RuleMatches.Turns.{turn_found, turn_carriers};
+ghost use Rattle.rule_chain.specs.RuleMatches.Turns.{rule_found, file_envs_after};
 ghost use Rattle.text_laws.specs.Sound.{HasCTerms};
 ghost use Rattle.text_laws.specs.ValueLaws.Carried.{CarriesTerms};
 
@@ -22,11 +22,11 @@ use crate::reading_laws::trees_are_sound;
 /// Does nothing.
 pub fn found_values_are_sound()
     ensures found { (defined : List (List ℕ)) (had : List ℕ) (number : ℕ) (rule : Rule) (pieces : List TextPiece)
-        (items : List Item) (carriers : List FileEnv) → Cuts pieces → Reads pieces items → All CarriesTerms carriers →
-        All HasCTerms (turn_found defined had number rule items carriers) }
+        (items : List Item) (file_envs : List FileEnv) → Cuts pieces → Reads pieces items → All CarriesTerms file_envs →
+        All HasCTerms (rule_found defined had number rule items file_envs) }
     ensures carried { (defined : List (List ℕ)) (had : List ℕ) (number : ℕ) (rule : Rule) (pieces : List TextPiece)
-        (items : List Item) (carriers : List FileEnv) → Cuts pieces → Reads pieces items → All CarriesTerms carriers →
-        All CarriesTerms (turn_carriers defined had number rule items carriers) }
+        (items : List Item) (file_envs : List FileEnv) → Cuts pieces → Reads pieces items → All CarriesTerms file_envs →
+        All CarriesTerms (file_envs_after defined had number rule items file_envs) }
 {
     values_are_sound();
     trees_are_sound();

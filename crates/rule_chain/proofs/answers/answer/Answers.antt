@@ -14,6 +14,6 @@ returns c = λ s are text notes. record {
   witnesses = sym are.found_is;
   skipped = sym notes;
   envs = ap (map bare_env) (c.in_ok-envs.ensures.envs ∙ ap (map (λ (k : FileEnv). k.env)) c.as_slice.ensures)
-      ∙ envs_bare c.args.findings.carriers
-      ∙ ap (map (λ (k : FileEnv). k.env)) (sym are.seen.carriers_is);
+      ∙ envs_bare c.args.findings.file_envs
+      ∙ ap (map (λ (k : FileEnv). k.env)) (sym are.seen.file_envs_is);
 }

@@ -27,7 +27,7 @@ returns-clause-at c =
       findings = record {
         seen = record {
           had_is = sym c.new-2.ensures;
-          carriers_is = sym (ap (map bare_file_env) c.in_ok-first_file_envs.ensures.carriers);
+          file_envs_is = sym (ap (map bare_file_env) c.in_ok-first_file_envs.ensures.file_envs);
         };
         found_is = ap (map bare_witness) (sym c.new-3.ensures);
       };

@@ -4,5 +4,5 @@ use Rattle.rule_envs.proofs.next.extend.Given as goal
 
 abbrev pub invariant-loop-part : goal.invariant-loop-part
 invariant-loop-part l =
-    l.next ++ map (of.extended l.number l.carrier) (drop l.part-index l.parts)
-    ≡ l.initial.next ++ map (of.extended l.number l.carrier) l.parts
+    l.next ++ map (of.extended l.number l.file_env) (drop l.part-index l.parts)
+    ≡ l.initial.next ++ map (of.extended l.number l.file_env) l.parts

@@ -4,10 +4,10 @@ use Rattle.env_parts.specs.Parts.{bare_env, distinct_after}
 use Rattle.rule_envs.specs.Shares as of
 use Rattle.rule_envs.proofs.shares.projections.Given as goal
 
-abbrev pub invariant-loop-carrier : goal.invariant-loop-carrier
-invariant-loop-carrier l = record {
-  rest : distinct_after l.envs (filter_map (of.share l.defined l.had l.depends l.inherited) (drop l.carrier-index l.carriers))
-      ≡ of.projections l.defined l.had l.depends l.inherited l.carriers;
+abbrev pub invariant-loop-file_env : goal.invariant-loop-file_env
+invariant-loop-file_env l = record {
+  rest : distinct_after l.envs (filter_map (of.share l.defined l.had l.depends l.inherited) (drop l.file_env-index l.file_envs))
+      ≡ of.projections l.defined l.had l.depends l.inherited l.file_envs;
   stand : AllZip (of.StandsAt (map bare_env l.envs))
-      (map (of.share l.defined l.had l.depends l.inherited) (map of.bare_file_env (take l.carrier-index l.carriers))) l.places;
+      (map (of.share l.defined l.had l.depends l.inherited) (map of.bare_file_env (take l.file_env-index l.file_envs))) l.places;
 }

@@ -2,16 +2,16 @@ use Rattle.std.proofs.Common.{◌≡◌, sym, ap, ◌∙◌, subst, map}
 use Rattle.std.proofs.lemmas.Result.{err_from_is_err_and}
 use Rattle.rule_envs.specs.Shares.{bare_file_env}
 use Rattle.rule_chain.specs.FileWitnesses.Found as found
-use Rattle.rule_chain.specs.declared.rule_matches.fault.TurnFault.TheVariants.{TooManyWitnesses, TooManyEnvironments}
+use Rattle.rule_chain.specs.declared.rule_matches.fault.MatchFault.TheVariants.{TooManyWitnesses, TooManyEnvironments}
 use Rattle.rule_chain.specs.RuleMatches.Turns.{AreApart, rule_share}
 use Rattle.rule_chain.proofs.RuleMatches.TurnLemmas.{run_under, under_new, places_of_all, are_brought}
 use Rattle.rule_chain.proofs.RuleMatches.TurnLemmas.{witnesses_told, not_by_witnesses, environments_told, not_by_environments}
-use Rattle.rule_chain.proofs.rule_matches.turns.match_rule.Goals as goal
+use Rattle.rule_chain.proofs.rule_matches.matching.match_rule.Goals as goal
 
 pub witnesses-requires-clause-new : goal.witnesses-requires-clause-new
 witnesses-requires-clause-new g c κs within =
     under_new c.args.ready.now.defined.now c.args.had.now c.args.ready.now.number c.args.ready.now.rule.now
-    c.args.graphs.now.items c.args.carriers.now c.as_slice.result.now
+    c.args.graphs.now.items c.args.file_envs.now c.as_slice.result.now
     (c.as_slice.ensures ∙ c.args.ready.now.prepared_is.inherited) c.in_ok-projected.projected.projections c.as_slice-2.result.now c.as_slice-2.ensures
     c.in_ok-projected.ensures.projections
     (subst (AreApart c.args.ready.now.rule.now.exports) (sym c.as_slice.ensures) c.args.ready.now.may.apart)
@@ -19,7 +19,7 @@ witnesses-requires-clause-new g c κs within =
 pub next_file_envs-requires : goal.next_file_envs-requires
 next_file_envs-requires g c = record {
   lengths = places_of_all c.args.ready.now.defined.now c.args.had.now c.args.ready.now.number c.args.ready.now.rule.now
-      c.args.graphs.now.items c.args.carriers.now
+      c.args.graphs.now.items c.args.file_envs.now
       c.as_slice.result.now (c.as_slice.ensures ∙ c.args.ready.now.prepared_is.inherited) c.in_ok-projected.projected.projections
       c.as_slice-2.result.now c.as_slice-2.ensures c.in_ok-projected.ensures.projections
       c.in_ok-projected.projected.places c.as_slice-3.result.now c.as_slice-3.ensures c.in_ok-projected.ensures.places;
@@ -30,17 +30,17 @@ returns-clause-found g c =
     let items = c.args.graphs.now.items in
     c.in_ok-found.ensures.found
     ∙ ap (found.file_witnesses c.args.ready.now.number c.args.ready.now.rule.now items)
-    (run_under c.args.ready.now.defined.now c.args.had.now c.args.ready.now.number c.args.ready.now.rule.now items c.args.carriers.now c.as_slice.result.now
+    (run_under c.args.ready.now.defined.now c.args.had.now c.args.ready.now.number c.args.ready.now.rule.now items c.args.file_envs.now c.as_slice.result.now
     (c.as_slice.ensures ∙ c.args.ready.now.prepared_is.inherited) c.in_ok-projected.projected.projections c.as_slice-2.result.now c.as_slice-2.ensures
     c.in_ok-projected.ensures.projections)
 
-pub returns-clause-carriers : goal.returns-clause-carriers
-returns-clause-carriers g c =
+pub returns-clause-file_envs : goal.returns-clause-file_envs
+returns-clause-file_envs g c =
     let items = c.args.graphs.now.items in
     let number = c.args.ready.now.number in
     let rule = c.args.ready.now.rule.now in
-    let cs = c.args.carriers.now in
-    c.in_ok-next.ensures.carriers (rule_share c.args.ready.now.defined.now c.args.had.now number rule items
+    let cs = c.args.file_envs.now in
+    c.in_ok-next.ensures.file_envs (rule_share c.args.ready.now.defined.now c.args.had.now number rule items
     (map bare_file_env cs)) (found.brings number rule items)
     (are_brought c.args.ready.now.defined.now c.args.had.now number rule items cs c.as_slice.result.now
     (c.as_slice.ensures ∙ c.args.ready.now.prepared_is.inherited) c.in_ok-projected.projected.projections c.as_slice-2.result.now c.as_slice-2.ensures
@@ -53,7 +53,7 @@ returns-clause-few g c =
     let items = c.args.graphs.now.items in
     ap (found.has_too_many c.args.ready.now.number c.args.ready.now.rule.now items)
     (sym (run_under c.args.ready.now.defined.now c.args.had.now c.args.ready.now.number c.args.ready.now.rule.now items
-    c.args.carriers.now c.as_slice.result.now
+    c.args.file_envs.now c.as_slice.result.now
     (c.as_slice.ensures ∙ c.args.ready.now.prepared_is.inherited) c.in_ok-projected.projected.projections c.as_slice-2.result.now c.as_slice-2.ensures
     c.in_ok-projected.ensures.projections))
     ∙ c.in_ok-found.ensures.few
@@ -65,7 +65,7 @@ returns-in_err-found-clause-too_many g c = λ h.
     let items = c.args.graphs.now.items in
     ap (found.has_too_many c.args.ready.now.number c.args.ready.now.rule.now items)
     (sym (run_under c.args.ready.now.defined.now c.args.had.now c.args.ready.now.number c.args.ready.now.rule.now items
-    c.args.carriers.now c.as_slice.result.now
+    c.args.file_envs.now c.as_slice.result.now
     (c.as_slice.ensures ∙ c.args.ready.now.prepared_is.inherited) c.in_ok-projected.projected.projections c.as_slice-2.result.now c.as_slice-2.ensures
     c.in_ok-projected.ensures.projections))
     ∙ c.in_err-found.ensures.too_many (cc (witnesses_told _ (sym p.2 ∙ e)))
@@ -89,7 +89,7 @@ returns-in_err-next-clause-too_many_environments g c = λ h.
     let items = c.args.graphs.now.items in
     let number = c.args.ready.now.number in
     let rule = c.args.ready.now.rule.now in
-    let cs = c.args.carriers.now in (
+    let cs = c.args.file_envs.now in (
       ap (found.has_too_many number rule items)
           (sym (run_under c.args.ready.now.defined.now c.args.had.now number rule items cs c.as_slice.result.now
           (c.as_slice.ensures ∙ c.args.ready.now.prepared_is.inherited) c.in_ok-projected.projected.projections c.as_slice-2.result.now c.as_slice-2.ensures

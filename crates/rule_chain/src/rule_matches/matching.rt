@@ -5,11 +5,11 @@ ghost use Rattle.rule_envs.specs.Shares.{bare_file_env};
 ghost use Rattle.rule_envs.specs.FileEnvs.{most_environments};
 ghost use Rattle.rule_chain.specs.RuleWitnesses.Bare.{bare_witness};
 ghost use Rattle.rule_chain.specs.RuleMatches.Turns as spec;
-ghost use Rattle.rule_chain.specs.declared.rule_matches.fault.TurnFault.TheVariants as fault;
+ghost use Rattle.rule_chain.specs.declared.rule_matches.fault.MatchFault.TheVariants as fault;
 
 use crate::file_witnesses::witnesses;
 use crate::patch_rules::ReadyRule;
-use crate::rule_matches::fault::TurnFault;
+use crate::rule_matches::fault::MatchFault;
 use c_file::Graphs;
 use par_match::{Gate, Workers};
 use rule_envs::{FileEnv, next_file_envs, projections};
@@ -21,13 +21,13 @@ use std::thread::Threads;
 #[derive(Drop)]
 pub struct RuleMatches {
     pub witnesses: Items<RuleWitness>,
-    pub carriers: Items<FileEnv>,
+    pub file_envs: Items<FileEnv>,
 }
 
 /// Matches one rule against one reading of a file: chooses what it runs under, finds its witnesses, and replaces the
 /// environments. Edits are left to `run_rule` of rule_run.
 ///
-/// `had` lists the rules that have had a witness on the file, `carriers` are the environments so far, and `count` is the number
+/// `had` lists the rules that have had a witness on the file, `file_envs` are the environments so far, and `count` is the number
 /// of the file's items. The contract ignores the ids of terms.
 ///
 /// - `TooManyWitnesses`: the witnesses in one item under one environment have more than 1,000,000 touches and binds.
@@ -39,24 +39,24 @@ pub fn match_rule<R: Threads + Sync, G: Gate>(
     workers: &Workers<'_, R, G>,
     ready: &ReadyRule<'_>,
     had: &[u32],
-    carriers: &[FileEnv],
+    file_envs: &[FileEnv],
     graphs: &mut Graphs<'_>,
     count: usize,
-) -> Result<RuleMatches, TurnFault>
+) -> Result<RuleMatches, MatchFault>
     requires count { count ≡ length graphs.old.items }
     ensures found { IfOk result (λ t. map bare_witness t.witnesses
-        ≡ spec.turn_found ready.now.defined.now had.now ready.now.number ready.now.rule.now graphs.old.items (map bare_file_env carriers.now)) }
-    ensures carriers { IfOk result (λ t. map bare_file_env t.carriers
-        ≡ spec.turn_carriers ready.now.defined.now had.now ready.now.number ready.now.rule.now graphs.old.items (map bare_file_env carriers.now)) }
+        ≡ spec.rule_found ready.now.defined.now had.now ready.now.number ready.now.rule.now graphs.old.items (map bare_file_env file_envs.now)) }
+    ensures file_envs { IfOk result (λ t. map bare_file_env t.file_envs
+        ≡ spec.file_envs_after ready.now.defined.now had.now ready.now.number ready.now.rule.now graphs.old.items (map bare_file_env file_envs.now)) }
     ensures few { OnOk result
-        (spec.has_too_many ready.now.defined.now had.now ready.now.number ready.now.rule.now graphs.old.items (map bare_file_env carriers.now) ≡ false) }
-    ensures few_environments { IfOk result (λ t. length t.carriers ≤ most_environments) }
+        (spec.has_too_many ready.now.defined.now had.now ready.now.number ready.now.rule.now graphs.old.items (map bare_file_env file_envs.now) ≡ false) }
+    ensures few_environments { IfOk result (λ t. length t.file_envs ≤ most_environments) }
     ensures too_many { result ≡ Err fault.TooManyWitnesses
-        → spec.has_too_many ready.now.defined.now had.now ready.now.number ready.now.rule.now graphs.old.items (map bare_file_env carriers.now) ≡ true }
+        → spec.has_too_many ready.now.defined.now had.now ready.now.number ready.now.rule.now graphs.old.items (map bare_file_env file_envs.now) ≡ true }
     ensures too_many_environments { result ≡ Err fault.TooManyEnvironments
-        → (spec.has_too_many ready.now.defined.now had.now ready.now.number ready.now.rule.now graphs.old.items (map bare_file_env carriers.now) ≡ false)
+        → (spec.has_too_many ready.now.defined.now had.now ready.now.number ready.now.rule.now graphs.old.items (map bare_file_env file_envs.now) ≡ false)
         × (most_environments < length
-        (spec.turn_carriers ready.now.defined.now had.now ready.now.number ready.now.rule.now graphs.old.items (map bare_file_env carriers.now))) }
+        (spec.file_envs_after ready.now.defined.now had.now ready.now.number ready.now.rule.now graphs.old.items (map bare_file_env file_envs.now))) }
     ensures items { graphs.new.items ≡ graphs.old.items }
     ensures kept { (k : ℕ) → IsMade graphs.old k → IsMade graphs.new k }
 {
@@ -66,7 +66,7 @@ pub fn match_rule<R: Threads + Sync, G: Gate>(
         had,
         &ready.rule.depends,
         ready.prepared.inherited.as_slice(),
-        carriers,
+        file_envs,
     )?;
     let found = witnesses(
         workers,
@@ -78,12 +78,12 @@ pub fn match_rule<R: Threads + Sync, G: Gate>(
     let next = next_file_envs(
         workers.alloc,
         ready.number,
-        carriers,
+        file_envs,
         projected.places.as_slice(),
         found.parts.as_slice(),
     )?;
     Ok(RuleMatches {
         witnesses: found.witnesses,
-        carriers: next,
+        file_envs: next,
     })
 }

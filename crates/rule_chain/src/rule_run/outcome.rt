@@ -3,14 +3,14 @@ ghost use Rattle.std.specs.Prelude.{◌≡◌, ◌⊎◌, ◌++◌, ℕ, IfOk, I
 ghost use Rattle.c_file.specs.ItemGraphs.Made.{IsMade};
 ghost use Rattle.rule_chain.specs.RuleRun.States.{Chained};
 ghost use Rattle.rule_chain.specs.RuleRun.OneRule as spec;
-ghost use Rattle.rule_chain.specs.RuleRun.Worked.{AreFindingsOf, IsAtReading, Works};
+ghost use Rattle.rule_chain.specs.RuleRun.Worked.{AreFindingsOf, IsAtReading, IsOutcome};
 ghost use Rattle.rule_chain.specs.declared.rule_run.fault.FileFault.TheVariants as fault;
 
 use crate::patch_rules::ReadyRule;
 use crate::reading::Reading;
 use crate::rule_edits::{NewText, text_after_edits};
 use crate::rule_matches::{RuleMatches, match_rule};
-use crate::rule_run::fault::{FileFault, of_edits, of_turn};
+use crate::rule_run::fault::{FileFault, of_edits, of_matches};
 use crate::rule_run::state::FileState;
 use c_file::Graphs;
 use c_terms::NoMemory;
@@ -39,19 +39,19 @@ fn findings_after(
     number: u32,
     matches: RuleMatches,
 ) -> Result<FileState, NoMemory>
-    ensures carriers { IfOk result (λ f. f.carriers ≡ matches.carriers) }
+    ensures file_envs { IfOk result (λ f. f.file_envs ≡ matches.file_envs) }
     ensures had { IfOk result (λ f. f.had ≡ spec.had_after had number matches.witnesses) }
     ensures found { IfOk result (λ f. f.found ≡ found ++ matches.witnesses) }
 {
     let RuleMatches {
         witnesses,
-        carriers,
+        file_envs,
     } = matches;
     let had = had_after(had, number, witnesses.as_slice())?;
     let mut found = found;
     found.append(witnesses)?;
     Ok(FileState {
-        carriers,
+        file_envs,
         had,
         found,
     })
@@ -88,7 +88,7 @@ pub fn run_rule<R: Threads + Sync, G: Gate>(
 ) -> Result<RuleOutcome, FileFault>
     requires items { graphs.old.items ≡ reading.now.file.now.items }
     ensures outcome { IfOk result (λ w. (s : Chained) → AreFindingsOf findings s → IsAtReading reading.now.file.now reading.now.next s
-        → Works ready.now.defined.now ready.now.number ready.now.rule.now s w.findings w.text) }
+        → IsOutcome ready.now.defined.now ready.now.number ready.now.rule.now s w.findings w.text) }
     ensures fault { IfErr result (λ f. (f ≡ fault.NoMemory) ⊎ ((s : Chained) → AreFindingsOf findings s
         → IsAtReading reading.now.file.now reading.now.next s
         → spec.IsFault ready.now.defined.now ready.now.number ready.now.rule.now s f)) }
@@ -96,7 +96,7 @@ pub fn run_rule<R: Threads + Sync, G: Gate>(
     ensures kept { (k : ℕ) → IsMade graphs.old k → IsMade graphs.new k }
 {
     let FileState {
-        carriers,
+        file_envs,
         had,
         found,
     } = findings;
@@ -105,12 +105,12 @@ pub fn run_rule<R: Threads + Sync, G: Gate>(
         workers,
         ready,
         had.as_slice(),
-        carriers.as_slice(),
+        file_envs.as_slice(),
         graphs,
         count,
     ) {
         Ok(matches) => matches,
-        Err(fault) => return Err(of_turn(ready.number, fault)),
+        Err(fault) => return Err(of_matches(ready.number, fault)),
     };
     let text = match text_after_edits(
         workers.alloc,

@@ -2,3 +2,4 @@ pub mod ActLemmas
 pub mod ReportLemmas
 pub mod TreatLemmas
 pub mod RefusalLemmas
+pub mod WordLines

@@ -2,7 +2,8 @@
 //!
 //! - [`patch_fault_line`] returns a line about a patch, [`iso_fault_line`] and [`forms_line`] return lines about isomorphisms,
 //!   and [`refused_line`], [`too_long_line`], [`special_line`] and [`skipped_line`] return lines about a file.
-//! - [`usage`] returns the usage line, and [`summary`] reports what a patch finds in a generated text.
+//! - [`refused_words`] returns the lines about words that are no command, and [`said`] the texts about the program.
+//! - [`summary`] reports what a patch finds in a generated text.
 //!
 //! A conflict in `k.c` is reported as `spatch: k.c: refused: conflict in rule 0 at token 8`.
 #![tactic(auto)]
@@ -10,7 +11,9 @@
 mod files;
 mod patches;
 mod sums;
+mod words;
 
 pub use files::{refused_line, skipped_line, special_line, too_long_line};
-pub use patches::{forms_line, iso_fault_line, patch_fault_line, usage};
+pub use patches::{forms_line, iso_fault_line, patch_fault_line};
 pub use sums::summary;
+pub use words::{refused_words, said};

@@ -1,5 +1,5 @@
 -- A parse of the command gives exactly what the grammar says about the words.
-use Rattle.std.proofs.Common.{◌≡◌, ◌∙◌, refl, sym, ap, Bool, true, false, cond, List, [], ◌∷◌, ◌++◌, Option, Some, None, codes, fold, is_some, slice_get}
+use Rattle.std.proofs.Common.{◌≡◌, ◌∙◌, refl, sym, ap, Bool, true, false, ◌||◌, cond, List, [], ◌∷◌, ◌++◌, Option, Some, None, codes, fold, is_some, slice_get}
 use Rattle.std.proofs.Common.{option_map, option_and_then, IfSome, inl, inr, true≢false}
 use Rattle.std.specs.List.{list_all}
 use Rattle.std.specs.Str.{bytes_eq, is_utf8}
@@ -22,10 +22,11 @@ use Rattle.run_words.specs.Parts.{Part, flag_options, parts_from, valued_options
 use Rattle.run_words.specs.Options.{Options, are_new, collected, files_in, has_flag, options_in, options_of, value_of}
 use Rattle.run_words.specs.Commands.{spatch_app}
 use Rattle.run_words.specs.Shown.{IsFound}
-use Rattle.run_words.proofs.Rules.{file_rule, flag_rule, of_one, spatch, spatch_rules, spatch_serves, valued_rule}
+use Rattle.run_words.proofs.Rules.{OfEach, file_rule, flag_rule, of_one, spatch, spatch_rules, spatch_serves, valued_rule}
 use Rattle.run_words.proofs.Walks.{guard, guard_or, or_none, put_all, says_walk, walk_says}
 use Rattle.run_words.proofs.Known.{AreKnown, parts_known}
-use Rattle.run_words.proofs.Rows.{at_new, files_all, first_some, flag_found, flag_row, has_look, look, look_all, look_append, none_first, some_all, value_found}
+use Rattle.run_words.proofs.Rows.{at_new, files_all, first_first, first_some, flag_found, flag_row, has_look, look, look_all}
+use Rattle.run_words.proofs.Rows.{look_append, none_first, some_all, value_found}
 
 -- ---- the rows at the end
 
@@ -61,8 +62,18 @@ look_default flag name rows = elim (cases_Bool (has_row flag rows)) [
       rw (e, made) (look_append name rows (default_row flag))
 ]
 
+-- the rows with those of these flags that are absent
+abbrev defaulted : List Text → List Row → List Row
+defaulted [] rows = rows
+defaulted (flag ∷ flags) rows = defaulted flags (with_default rows (flag_rule flag))
+
+-- the row of a name among those
+abbrev default_of : List Text → Text → Option Row
+default_of [] name = None
+default_of (flag ∷ flags) name = first_some (or_default flag name) (default_of flags name)
+
 abbrev with_flags : List Row → List Row
-with_flags rows = with_default (with_default rows (flag_rule (codes "witnesses"))) (flag_rule (codes "in-place"))
+with_flags rows = defaulted flag_options rows
 
 no_default : (a : Rule) (rows : List Row) → a.defaults ≡ [] → with_default rows a ≡ rows
 no_default a rows none = rw none (same_cond (has_row a.id rows) rows)
@@ -82,15 +93,33 @@ plain_rules = valued_rule (codes "sp-file") ∷ valued_rule (codes "iso-file") �
     ∷ valued_rule (codes "generate") ∷ valued_rule (codes "functions") ∷ []
 
 abbrev other_rules : List Rule
-other_rules = flag_rule (codes "witnesses") ∷ flag_rule (codes "in-place") ∷ file_rule ∷ []
+other_rules = flag_rule (codes "witnesses") ∷ flag_rule (codes "in-place") ∷ flag_rule (codes "help") ∷ flag_rule (codes "version") ∷ file_rule ∷ []
 
 ended_is : (rows : List Row) → fold with_default rows spatch_rules ≡ with_flags rows
 ended_is rows = skips plain_rules other_rules rows (refl, (refl, (refl, (refl, (refl, (refl, tt)))))) ∙ skips (file_rule ∷ []) [] (with_flags rows) (refl, tt)
 
-look_ended : (name : Text) (rows : List Row) → look name (with_flags rows)
-    ≡ first_some (first_some (look name rows) (or_default (codes "witnesses") name)) (or_default (codes "in-place") name)
-look_ended name rows = look_default (codes "in-place") name (with_default rows (flag_rule (codes "witnesses")))
-    ∙ ap (λ o. first_some o (or_default (codes "in-place") name)) (look_default (codes "witnesses") name rows)
+look_defaulted : (flags : List Text) (name : Text) (rows : List Row) → look name (defaulted flags rows) ≡ first_some (look name rows) (default_of flags name)
+look_defaulted [] name rows = sym (none_first (look name rows))
+look_defaulted (flag ∷ flags) name rows = look_defaulted flags name (with_default rows (flag_rule flag))
+    ∙ (ap (λ o. first_some o (default_of flags name)) (look_default flag name rows)
+    ∙ first_first (look name rows) (or_default flag name) (default_of flags name))
+
+look_ended : (name : Text) (rows : List Row) → look name (with_flags rows) ≡ first_some (look name rows) (default_of flag_options name)
+look_ended name rows = look_defaulted flag_options name rows
+
+or_true_left : (a b : Bool) → a ≡ true → (a || b) ≡ true
+or_true_left a b e = rw e refl
+
+or_true_right : (a b : Bool) → b ≡ true → (a || b) ≡ true
+or_true_right true b e = refl
+or_true_right false b e = e
+
+-- a name that is none of the flags has no such row
+no_default_of : (flags : List Text) (name : Text) → ((flag : Text) → is_in flags flag ≡ true → bytes_eq flag name ≡ false) → default_of flags name ≡ None
+no_default_of [] name differ = refl
+no_default_of (flag ∷ flags) name differ =
+    let here : bytes_eq flag name ≡ false = differ flag (or_true_left (bytes_eq flag flag) (is_in flags flag) ((bytes_eq-Decides flag flag).1 refl)) in
+    rw here (no_default_of flags name (λ other h. differ other (or_true_right (bytes_eq other flag) (is_in flags other) h)))
 
 -- ---- faults after the walk
 
@@ -118,7 +147,7 @@ level_is words =
     let W = walk_fault spatch [] (walk_from nothing_held) words in
     let S = settle_fault spatch.rules spatch.args_override_self end.held in
     let defaults : defaults_fault (settled_rows spatch.rules end.held.pending end.held.rows) spatch_rules ≡ [] =
-    no_defaults spatch_rules (refl, (refl, (refl, (refl, (refl, (refl, (refl, (refl, (refl, tt)))))))))
+    no_defaults spatch_rules (refl, (refl, (refl, (refl, (refl, (refl, (refl, (refl, (refl, (refl, (refl, tt)))))))))))
     (settled_rows spatch.rules end.held.pending end.held.rows) in
     ap (λ d. or_else W (or_else S (or_else d []))) defaults ∙ ap (or_else W) (or_none S)
 
@@ -156,11 +185,8 @@ value_at : (name : Text) → bytes_eq (codes "FILE") name ≡ false → ((flag :
     → (f : Found) (parts : List Part) (end : List Row) → AreKnown parts → put_all [] parts ≡ Some end → rows_of f ≡ with_flags end
     → value_of name parts ≡ first_value f name
 value_at name other differ f parts end known put rows =
-    let no_witnesses = differ (codes "witnesses") refl in
-    let no_place = differ (codes "in-place") refl in
-    let left : first_some (first_some (look name end) (or_default (codes "witnesses") name)) (or_default (codes "in-place") name) ≡ look name end =
-    rw (no_witnesses, no_place) (none_first (first_some (look name end) None) ∙ none_first (look name end)) in
-    let plain : look name (with_flags end) ≡ look name end = look_ended name end ∙ left in
+    let none : default_of flag_options name ≡ None = no_default_of flag_options name differ in
+    let plain : look name (with_flags end) ≡ look name end = look_ended name end ∙ (ap (first_some (look name end)) none ∙ none_first (look name end)) in
     sym (first_value-rows f name
     ∙ (ap (first_of name) rows
     ∙ (ap (option_and_then (λ r. slice_get r.values 0)) (plain ∙ look_all name other parts [] end put)
@@ -171,22 +197,31 @@ read_row o = option_and_then row_text o
 
 flag_at : (name : Text) → bytes_eq (codes "FILE") name ≡ false → ((valued : Text) → is_in valued_options valued ≡ true → bytes_eq valued name ≡ false)
     → (f : Found) (parts : List Part) (end : List Row) → AreKnown parts → put_all [] parts ≡ Some end → rows_of f ≡ with_flags end
-    → one_text f name ≡ read_row (first_some (first_some (flag_row name (has_flag name parts)) (or_default (codes "witnesses") name)) (or_default
-    (codes "in-place") name))
+    → one_text f name ≡ read_row (first_some (flag_row name (has_flag name parts)) (default_of flag_options name))
 flag_at name other differ f parts end known put rows =
     one_text-rows f name ∙ (ap (one_of name) rows
-    ∙ ap read_row (look_ended name end ∙ ap (λ o. first_some (first_some o (or_default (codes "witnesses") name)) (or_default (codes "in-place") name))
+    ∙ ap read_row (look_ended name end ∙ ap (λ o. first_some o (default_of flag_options name))
     (look_all name other parts [] end put ∙ flag_found name other differ parts known)))
 
-witnesses_read : (given : Bool) → read_row (first_some (first_some (flag_row (codes "witnesses") given) (or_default (codes "witnesses")
-    (codes "witnesses"))) (or_default (codes "in-place") (codes "witnesses"))) ≡ Some (bool_text given)
+-- a flag reads as what was given, if its row is there by itself
+abbrev IsRead : Text → Type 0
+IsRead name = (given : Bool) → read_row (first_some (flag_row name given) (default_of flag_options name)) ≡ Some (bool_text given)
+
+witnesses_read : IsRead (codes "witnesses")
 witnesses_read true = refl
 witnesses_read false = refl
 
-in_place_read : (given : Bool) → read_row (first_some (first_some (flag_row (codes "in-place") given) (or_default (codes "witnesses") (codes "in-place")))
-    (or_default (codes "in-place") (codes "in-place"))) ≡ Some (bool_text given)
+in_place_read : IsRead (codes "in-place")
 in_place_read true = refl
 in_place_read false = refl
+
+help_read : IsRead (codes "help")
+help_read true = refl
+help_read false = refl
+
+version_read : IsRead (codes "version")
+version_read true = refl
+version_read false = refl
 
 files_look : (o : Option Row) → option_map_or (λ vs. vs) (option_map (λ r. r.values) o) [] ≡ option_map_or (λ r. r.values) o []
 files_look None = refl
@@ -200,26 +235,27 @@ files_found : (f : Found) (parts : List Part) (end : List Row) → AreKnown part
     → option_map_or raw_values (matched_of f (codes "FILE")) [] ≡ files_in parts
 files_found f parts end known put rows =
     let plain : look (codes "FILE") (with_flags end) ≡ look (codes "FILE") end =
-    look_ended (codes "FILE") end ∙ (none_first (first_some (look (codes "FILE") end) None) ∙ none_first (look (codes "FILE") end)) in
+    look_ended (codes "FILE") end ∙ none_first (look (codes "FILE") end) in
     map_or raw_values (matched_of f (codes "FILE")) []
     ∙ (ap (λ o. option_map_or (λ y. y) o []) (raw_values-rows f (codes "FILE") ∙ ap (all_of (codes "FILE")) rows)
     ∙ (files_look (look (codes "FILE") (with_flags end))
     ∙ (ap (λ o. option_map_or (λ r. r.values) o []) plain
     ∙ files_all parts known [] end put)))
 
-no_flag : (name : Text) → bytes_eq (codes "witnesses") name ≡ false → bytes_eq (codes "in-place") name ≡ false → (flag : Text)
-    → is_in flag_options flag ≡ true → bytes_eq flag name ≡ false
-no_flag name a b flag = of_one (λ n. bytes_eq n name ≡ false) flag_options flag (a, (b, tt))
+-- a name differs from each flag's
+abbrev DiffersFrom : Text → List Text → Type 0
+DiffersFrom name names = OfEach (λ n. bytes_eq n name ≡ false) names
 
-no_valued : (name : Text) → bytes_eq (codes "sp-file") name ≡ false → bytes_eq (codes "iso-file") name ≡ false → bytes_eq (codes "define") name ≡ false
-    → bytes_eq (codes "jobs") name ≡ false → bytes_eq (codes "generate") name ≡ false → bytes_eq (codes "functions") name ≡ false
-    → (valued : Text) → is_in valued_options valued ≡ true → bytes_eq valued name ≡ false
-no_valued name a b c d e g valued = of_one (λ n. bytes_eq n name ≡ false) valued_options valued (a, (b, (c, (d, (e, (g, tt))))))
+no_flag : (name : Text) → DiffersFrom name flag_options → (flag : Text) → is_in flag_options flag ≡ true → bytes_eq flag name ≡ false
+no_flag name differs flag = of_one (λ n. bytes_eq n name ≡ false) flag_options flag differs
+
+no_valued : (name : Text) → DiffersFrom name valued_options → (valued : Text) → is_in valued_options valued ≡ true → bytes_eq valued name ≡ false
+no_valued name differs valued = of_one (λ n. bytes_eq n name ≡ false) valued_options valued differs
 
 -- ---- whole parses
 
-abbrev made : (sp_file iso_file define jobs generate functions : Option Text) (witnesses in_place : Bool) (files : List Text) → Options
-made sp_file iso_file define jobs generate functions witnesses in_place files = record {
+abbrev made : (sp_file iso_file define jobs generate functions : Option Text) (witnesses in_place help version : Bool) (files : List Text) → Options
+made sp_file iso_file define jobs generate functions witnesses in_place help version files = record {
   sp_file = sp_file;
   iso_file = iso_file;
   define = define;
@@ -228,38 +264,48 @@ made sp_file iso_file define jobs generate functions witnesses in_place files = 
   functions = functions;
   witnesses = witnesses;
   in_place = in_place;
+  help = help;
+  version = version;
   files = files;
 }
 
-same_made : (a1 a2 a3 a4 a5 a6 b1 b2 b3 b4 b5 b6 : Option Text) (a7 a8 b7 b8 : Bool) (a9 b9 : List Text) → a1 ≡ b1 → a2 ≡ b2 → a3 ≡ b3 → a4 ≡ b4
-    → a5 ≡ b5 → a6 ≡ b6
-    → a7 ≡ b7 → a8 ≡ b8 → a9 ≡ b9 → made a1 a2 a3 a4 a5 a6 a7 a8 a9 ≡ made b1 b2 b3 b4 b5 b6 b7 b8 b9
-same_made a1 a2 a3 a4 a5 a6 b1 b2 b3 b4 b5 b6 a7 a8 b7 b8 a9 b9 e1 e2 e3 e4 e5 e6 e7 e8 e9 = rw (e1, e2, e3, e4, e5, e6, e7, e8, e9) refl
+same_made : (a1 a2 a3 a4 a5 a6 b1 b2 b3 b4 b5 b6 : Option Text) (a7 a8 a9 a10 b7 b8 b9 b10 : Bool) (a11 b11 : List Text)
+    → a1 ≡ b1 → a2 ≡ b2 → a3 ≡ b3 → a4 ≡ b4 → a5 ≡ b5 → a6 ≡ b6
+    → a7 ≡ b7 → a8 ≡ b8 → a9 ≡ b9 → a10 ≡ b10 → a11 ≡ b11
+    → made a1 a2 a3 a4 a5 a6 a7 a8 a9 a10 a11 ≡ made b1 b2 b3 b4 b5 b6 b7 b8 b9 b10 b11
+same_made a1 a2 a3 a4 a5 a6 b1 b2 b3 b4 b5 b6 a7 a8 a9 a10 b7 b8 b9 b10 a11 b11 e1 e2 e3 e4 e5 e6 e7 e8 e9 e10 e11 =
+    rw (e1, e2, e3, e4, e5, e6, e7, e8, e9, e10, e11) refl
 
 are_collected : (f : Found) (o : Options) (parts : List Part) (end : List Row) → IsFound f o → AreKnown parts → put_all [] parts ≡ Some end
     → rows_of f ≡ with_flags end
     → o ≡ collected parts
 are_collected f o parts end found known put rows =
     let sp_file : o.sp_file ≡ value_of (codes "sp-file") parts = found.sp_file
-    ∙ sym (value_at (codes "sp-file") refl (no_flag (codes "sp-file") refl refl) f parts end known put rows) in
+    ∙ sym (value_at (codes "sp-file") refl (no_flag (codes "sp-file") (refl, (refl, (refl, (refl, tt))))) f parts end known put rows) in
     let iso_file : o.iso_file ≡ value_of (codes "iso-file") parts = found.iso_file
-    ∙ sym (value_at (codes "iso-file") refl (no_flag (codes "iso-file") refl refl) f parts end known put rows) in
+    ∙ sym (value_at (codes "iso-file") refl (no_flag (codes "iso-file") (refl, (refl, (refl, (refl, tt))))) f parts end known put rows) in
     let define : o.define ≡ value_of (codes "define") parts = found.define
-    ∙ sym (value_at (codes "define") refl (no_flag (codes "define") refl refl) f parts end known put rows) in
-    let jobs : o.jobs ≡ value_of (codes "jobs") parts = found.jobs ∙ sym (value_at (codes "jobs") refl (no_flag
-    (codes "jobs") refl refl) f parts end known put rows) in
+    ∙ sym (value_at (codes "define") refl (no_flag (codes "define") (refl, (refl, (refl, (refl, tt))))) f parts end known put rows) in
+    let jobs : o.jobs ≡ value_of (codes "jobs") parts = found.jobs
+    ∙ sym (value_at (codes "jobs") refl (no_flag (codes "jobs") (refl, (refl, (refl, (refl, tt))))) f parts end known put rows) in
     let generate : o.generate ≡ value_of (codes "generate") parts = found.generate
-    ∙ sym (value_at (codes "generate") refl (no_flag (codes "generate") refl refl) f parts end known put rows) in
+    ∙ sym (value_at (codes "generate") refl (no_flag (codes "generate") (refl, (refl, (refl, (refl, tt))))) f parts end known put rows) in
     let functions : o.functions ≡ value_of (codes "functions") parts = found.functions
-    ∙ sym (value_at (codes "functions") refl (no_flag (codes "functions") refl refl) f parts end known put rows) in
+    ∙ sym (value_at (codes "functions") refl (no_flag (codes "functions") (refl, (refl, (refl, (refl, tt))))) f parts end known put rows) in
     let witnesses : o.witnesses ≡ has_flag (codes "witnesses") parts = found.witnesses (has_flag (codes "witnesses") parts)
-    (flag_at (codes "witnesses") refl (no_valued (codes "witnesses") refl refl refl refl refl refl) f parts end known put rows
+    (flag_at (codes "witnesses") refl (no_valued (codes "witnesses") (refl, (refl, (refl, (refl, (refl, (refl, tt))))))) f parts end known put rows
     ∙ witnesses_read (has_flag (codes "witnesses") parts)) in
     let in_place : o.in_place ≡ has_flag (codes "in-place") parts = found.in_place (has_flag (codes "in-place") parts)
-    (flag_at (codes "in-place") refl (no_valued (codes "in-place") refl refl refl refl refl refl) f parts end known put rows
+    (flag_at (codes "in-place") refl (no_valued (codes "in-place") (refl, (refl, (refl, (refl, (refl, (refl, tt))))))) f parts end known put rows
     ∙ in_place_read (has_flag (codes "in-place") parts)) in
+    let help : o.help ≡ has_flag (codes "help") parts = found.help (has_flag (codes "help") parts)
+    (flag_at (codes "help") refl (no_valued (codes "help") (refl, (refl, (refl, (refl, (refl, (refl, tt))))))) f parts end known put rows
+    ∙ help_read (has_flag (codes "help") parts)) in
+    let version : o.version ≡ has_flag (codes "version") parts = found.version (has_flag (codes "version") parts)
+    (flag_at (codes "version") refl (no_valued (codes "version") (refl, (refl, (refl, (refl, (refl, (refl, tt))))))) f parts end known put rows
+    ∙ version_read (has_flag (codes "version") parts)) in
     let files : o.files ≡ files_in parts = found.files ∙ files_found f parts end known put rows in
-    same_made _ _ _ _ _ _ _ _ _ _ _ _ _ _ _ _ _ _ sp_file iso_file define jobs generate functions witnesses in_place files
+    same_made _ _ _ _ _ _ _ _ _ _ _ _ _ _ _ _ _ _ _ _ _ _ sp_file iso_file define jobs generate functions witnesses in_place help version files
 
 no_names : (name : Text) → bytes_eq (codes "FILE") name ≡ false → false ≡ false
 no_names name h = refl

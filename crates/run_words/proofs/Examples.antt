@@ -3,7 +3,13 @@ use Rattle.std.specs.Prelude.{◌≡◌, [], ◌∷◌, true, false, Some, None,
 use Rattle.std.specs.Char.{encode_utf8}
 use Rattle.std.specs.Str.{chars, is_utf8}
 use Rattle.run_words.specs.Options.{options_of}
-use Rattle.run_words.specs.Orders.{Apply, Generate, OnFiles, OnText, jobs_of, order_of, ordered}
+use Rattle.run_words.specs.Orders.{Apply, Generate, OnFiles, OnText, Say, jobs_of, order_of, ordered, working}
+use Rattle.run_words.specs.declared.order.Saying.TheVariants as saying
+use Rattle.run_words.specs.declared.option_name.OptionName.TheVariants as name
+use Rattle.run_words.specs.declared.fault.Need.TheVariants as need
+use Rattle.run_words.specs.declared.fault.WordFault.TheVariants.{NotText, StandsTwice, TakesNone, ValueAbsent, BadValue, Needed, Apart, ApartFromFiles}
+use Rattle.run_words.specs.OptionNames.{is_near, meant_by}
+use Rattle.run_words.specs.Faults.{fault_from, options_fault, word_fault}
 use Rattle.run_words.specs.Parts.{Valued, Flag, File, parts_from, parts_of}
 use Rattle.run_words.specs.Values.{count_in, names_in, seed_in}
 
@@ -72,34 +78,34 @@ twice = refl
 
 a_file : order_of (codes "k.c" ∷ codes "--sp-file=p" ∷ codes "--witnesses" ∷ [])
     ≡ Some (Apply (codes "p") None [] (OnFiles (record { witnesses = true; in_place = false }) (codes "k.c" ∷ [])))
-unfolding order_of ordered options_of parts_from is_utf8 chars encode_utf8
+unfolding order_of ordered working options_of parts_from is_utf8 chars encode_utf8
 a_file = refl
 
 no_file : order_of (codes "--sp-file=p" ∷ []) ≡ None
-unfolding order_of ordered options_of parts_from is_utf8 chars encode_utf8
+unfolding order_of ordered working options_of parts_from is_utf8 chars encode_utf8
 no_file = refl
 
 -- an empty value is refused, but an empty word names a file
 empty_value : order_of (codes "--sp-file=" ∷ codes "k.c" ∷ []) ≡ None
-unfolding order_of ordered options_of parts_from is_utf8 chars encode_utf8
+unfolding order_of ordered working options_of parts_from is_utf8 chars encode_utf8
 empty_value = refl
 
 empty_word : order_of (codes "--sp-file=p" ∷ [] ∷ []) ≡ Some (Apply (codes "p") None [] (OnFiles (record { witnesses = false; in_place = false }) ([] ∷ [])))
-unfolding order_of ordered options_of parts_from is_utf8 chars encode_utf8
+unfolding order_of ordered working options_of parts_from is_utf8 chars encode_utf8
 empty_word = refl
 
 -- jobs are only allowed with a patch
 a_text : order_of (codes "--generate=1" ∷ codes "--functions=2" ∷ []) ≡ Some (Generate 1 2)
-unfolding order_of ordered options_of parts_from is_utf8 chars encode_utf8
+unfolding order_of ordered working options_of parts_from is_utf8 chars encode_utf8
 a_text = refl
 
 jobs_of_a_text : order_of (codes "--generate=1" ∷ codes "--functions=2" ∷ codes "--jobs=3" ∷ []) ≡ None
-unfolding order_of ordered options_of parts_from is_utf8 chars encode_utf8
+unfolding order_of ordered working options_of parts_from is_utf8 chars encode_utf8
 jobs_of_a_text = refl
 
 a_patch_on_a_text : order_of (codes "--generate=1" ∷ codes "--functions=2" ∷ codes "--jobs=3" ∷ codes "--sp-file=p" ∷ []) ≡ Some (Apply
     (codes "p") None [] (OnText 1 2))
-unfolding order_of ordered options_of parts_from is_utf8 chars encode_utf8
+unfolding order_of ordered working options_of parts_from is_utf8 chars encode_utf8
 a_patch_on_a_text = refl
 
 -- as many jobs as the words give, or one if they give no number
@@ -115,3 +121,65 @@ jobs_unsaid = refl
 no_text : order_of (codes "--sp-file=p" ∷ (255 ∷ []) ∷ []) ≡ None
 unfolding order_of is_utf8 chars encode_utf8
 no_text = refl
+
+-- ---- texts about the program
+
+-- `--help` goes before `--version`, and values that are wrong for other reasons than being empty don't matter
+help_first : order_of (codes "--version" ∷ codes "--jobs=0" ∷ codes "--help" ∷ []) ≡ Some (Say saying.Help)
+unfolding order_of ordered working options_of parts_from is_utf8 chars encode_utf8
+help_first = refl
+
+version_said : order_of (codes "--sp-file" ∷ codes "p" ∷ codes "k.c" ∷ codes "--version" ∷ []) ≡ Some (Say saying.Version)
+unfolding order_of ordered working options_of parts_from is_utf8 chars encode_utf8
+version_said = refl
+
+-- but the words must be options and files, and no value may be empty
+help_wrong : order_of (codes "--help" ∷ codes "--inplace" ∷ []) ≡ None
+unfolding order_of ordered working options_of parts_from is_utf8 chars encode_utf8
+help_wrong = refl
+
+help_empty : order_of (codes "--help" ∷ codes "--iso-file=" ∷ []) ≡ None
+unfolding order_of ordered working options_of parts_from is_utf8 chars encode_utf8
+help_empty = refl
+
+-- ---- what is wrong with words
+
+-- of two options without values, each of which is none, the first counts
+absent_first : fault_from (codes "--sp-file" ∷ codes "--bogus" ∷ []) [] None ≡ Some (ValueAbsent (codes "--sp-file"))
+unfolding fault_from
+absent_first = refl
+
+twice_first : fault_from (codes "--in-place" ∷ codes "--in-place" ∷ codes "--bogus" ∷ []) [] None ≡ Some (StandsTwice (codes "--in-place"))
+unfolding fault_from
+twice_first = refl
+
+takes_none : fault_from (codes "--in-place=yes" ∷ []) [] None ≡ Some (TakesNone (codes "--in-place"))
+unfolding fault_from
+takes_none = refl
+
+coccinelle : meant_by (codes "--cocci-file") ≡ Some name.SpFile
+unfolding is_near
+coccinelle = refl
+
+file_needed : word_fault (codes "--sp-file" ∷ codes "p" ∷ []) ≡ Some (Needed need.File)
+unfolding word_fault fault_from options_fault options_of parts_from is_utf8 chars encode_utf8
+file_needed = refl
+
+-- a wrong value is told before what is needed
+value_first : word_fault (codes "--jobs" ∷ codes "65" ∷ []) ≡ Some (BadValue name.Jobs (codes "65"))
+unfolding word_fault fault_from options_fault options_of parts_from is_utf8 chars encode_utf8
+value_first = refl
+
+functions_alone : word_fault (codes "--functions" ∷ codes "1" ∷ codes "--sp-file=p" ∷ codes "k.c" ∷ []) ≡ Some (ApartFromFiles name.Functions)
+unfolding word_fault fault_from options_fault options_of parts_from is_utf8 chars encode_utf8
+functions_alone = refl
+
+two_apart : word_fault (codes "--generate=1" ∷ codes "--functions=1" ∷ codes "--in-place" ∷ codes "--witnesses" ∷ [])
+    ≡ Some (Apart name.Generate name.Witnesses)
+unfolding word_fault fault_from options_fault options_of parts_from is_utf8 chars encode_utf8
+two_apart = refl
+
+-- words are counted from 1, and one that isn't UTF-8 is told first
+second_word : word_fault (codes "--bogus" ∷ (255 ∷ []) ∷ []) ≡ Some (NotText 2)
+unfolding word_fault fault_from options_fault options_of parts_from is_utf8 chars encode_utf8
+second_word = refl

@@ -1,3 +1,4 @@
 -- Lemmas of job_laws.
 -- Lemmas: what words with other jobs ask for.
 pub mod JobLemmas
+pub mod FaultLemmas

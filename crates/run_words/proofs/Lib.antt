@@ -7,5 +7,13 @@ pub mod Texts
 pub mod Numbers
 pub mod Names
 pub mod Ordered
+pub mod WordLaws
+pub mod FaultWalk
+pub mod FormLemmas
+pub mod ValueLaws
+pub mod PlainLaws
+pub mod SeededLaws
+pub mod OptionLaws
+pub mod Told
 pub mod Examples
 pub mod JobLaws

@@ -4,7 +4,7 @@ use Rattle.std.proofs.Common.{Option, Some, None, le_trans, le_refl, arith, lt-l
 use Rattle.std.proofs.lemmas.Bool.{and_parts, false≢true}
 use Rattle.std.proofs.lemmas.Bool.Decides.{nat_tests}
 use Rattle.std.proofs.lemmas.List.{drop_all}
-use Rattle.std.specs.Prelude.{◌==◌, not, nat_le, is_some}
+use Rattle.std.specs.Prelude.{◌==◌, not, nat_le}
 use Rattle.std.specs.List.{list_all}
 use Rattle.c_lexer.specs.Words.{is_digit}
 use Rattle.run_words.specs.Values.{begins_with_zero, count_in, decimal_from, decimal_value, number_in}

@@ -1,20 +1,36 @@
 -- The order, by the tests in turn.
-use Rattle.std.proofs.Common.{◌≡◌, ◌∙◌, sym, ap, ℕ, true, false, ◌&&◌, List, Option, None, Some, option_and_then}
+use Rattle.std.proofs.Common.{◌≡◌, ◌∙◌, sym, ap, ℕ, true, false, cond, List, Option, None, Some, option_and_then}
 use Rattle.std.specs.List.{list_all}
 use Rattle.std.specs.Option.{option_map_or}
 use Rattle.std.specs.Str.{is_utf8}
 use Rattle.std.proofs.lemmas.Bool.{cond-true, cond-false}
 use Rattle.run_words.specs.Options.{Options, options_of}
-use Rattle.run_words.specs.Orders.{are_filled, editing, generating, has_jobs, jobs_in, jobs_of, order_of, ordered}
+use Rattle.run_words.specs.Orders.{Order, Say, are_filled, asks_text, editing, generating, has_jobs, jobs_in, jobs_of, order_of, ordered, saying_in, working}
 
-pub refused : (o : Options) → false ≡ (are_filled o && has_jobs o) → None ≡ ordered o
-unfolding ordered
-refused o h = sym (cond-false (are_filled o && has_jobs o) (option_map_or (generating o) o.generate (editing o)) None (sym h))
+-- what is asked for if no value is empty
+abbrev asked : Options → Option Order
+asked o = cond (asks_text o) (Some (Say (saying_in o))) (working o)
 
-pub ordered_told : (o : Options) → true ≡ (are_filled o && has_jobs o) → (value : Option (List ℕ)) → o.generate ≡ value
-    → option_map_or (generating o) value (editing o) ≡ ordered o
+pub refused : (o : Options) → false ≡ are_filled o → None ≡ ordered o
 unfolding ordered
-ordered_told o h value is = sym (cond-true (are_filled o && has_jobs o) (option_map_or (generating o) o.generate (editing o)) None (sym h)
+refused o h = sym (cond-false (are_filled o) (asked o) None (sym h))
+
+pub said : (o : Options) → true ≡ are_filled o → true ≡ asks_text o → Some (Say (saying_in o)) ≡ ordered o
+unfolding ordered
+said o h asks = sym (cond-true (are_filled o) (asked o) None (sym h) ∙ cond-true (asks_text o) (Some (Say (saying_in o))) (working o) (sym asks))
+
+pub worked : (o : Options) → true ≡ are_filled o → false ≡ asks_text o → working o ≡ ordered o
+unfolding ordered
+worked o h asks = sym (cond-true (are_filled o) (asked o) None (sym h) ∙ cond-false (asks_text o) (Some (Say (saying_in o))) (working o) (sym asks))
+
+pub jobless : (o : Options) → false ≡ has_jobs o → None ≡ working o
+unfolding working
+jobless o h = sym (cond-false (has_jobs o) (option_map_or (generating o) o.generate (editing o)) None (sym h))
+
+pub working_told : (o : Options) → true ≡ has_jobs o → (value : Option (List ℕ)) → o.generate ≡ value
+    → option_map_or (generating o) value (editing o) ≡ working o
+unfolding working
+working_told o h value is = sym (cond-true (has_jobs o) (option_map_or (generating o) o.generate (editing o)) None (sym h)
     ∙ ap (λ g. option_map_or (generating o) g (editing o)) is)
 
 pub order_told : (words : List (List ℕ)) → list_all is_utf8 words ≡ true → (o : Option Options) → o ≡ options_of words

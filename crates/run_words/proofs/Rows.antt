@@ -125,7 +125,7 @@ valued_no_file : (name : Text) → is_in valued_options name ≡ true → bytes_
 valued_no_file name = of_one (λ n. bytes_eq n (codes "FILE") ≡ false) valued_options name (refl, (refl, (refl, (refl, (refl, (refl, tt))))))
 
 flag_no_file : (name : Text) → is_in flag_options name ≡ true → bytes_eq name (codes "FILE") ≡ false
-flag_no_file name = of_one (λ n. bytes_eq n (codes "FILE") ≡ false) flag_options name (refl, (refl, tt))
+flag_no_file name = of_one (λ n. bytes_eq n (codes "FILE") ≡ false) flag_options name (refl, (refl, (refl, (refl, tt))))
 
 -- ---- all parts
 
@@ -138,7 +138,7 @@ then_some false x next end h k = k refl h
 abbrev pub found_in : Text → List Part → Option Row
 found_in name parts = option_map row_of_part (find (λ p. bytes_eq (id_of p) name) parts)
 
-first_first : {X : Type 0} (a b c : Option X) → first_some (first_some a b) c ≡ first_some a (first_some b c)
+pub first_first : {X : Type 0} (a b c : Option X) → first_some (first_some a b) c ≡ first_some a (first_some b c)
 first_first None b c = refl
 first_first (Some x) b c = refl
 

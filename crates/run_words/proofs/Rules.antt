@@ -1,5 +1,5 @@
 -- The rules of the built command: which argument belongs to a name, a position or a short name.
-use Rattle.std.proofs.Common.{◌≡◌, ◌∙◌, refl, sym, subst, ℕ, Bool, true, false, cond, ◌||◌, List, [], ◌∷◌, Some, None, codes, inl, inr}
+use Rattle.std.proofs.Common.{◌≡◌, ◌∙◌, refl, sym, subst, ℕ, Bool, true, false, cond, ◌||◌, List, [], ◌∷◌, Option, Some, None, codes, inl, inr}
 use Rattle.std.specs.Str.{bytes_eq}
 use Rattle.std.proofs.lemmas.Bool.{or_cases, or_parts, false_from_ne_true}
 use Rattle.std.proofs.lemmas.Slice.Eq.{bytes_eq-Decides}
@@ -54,7 +54,8 @@ spatch = (built spatch_app).top
 
 abbrev pub spatch_rules : List Rule
 spatch_rules = valued_rule (codes "sp-file") ∷ valued_rule (codes "iso-file") ∷ valued_rule (codes "define") ∷ valued_rule (codes "jobs")
-    ∷ valued_rule (codes "generate") ∷ valued_rule (codes "functions") ∷ flag_rule (codes "witnesses") ∷ flag_rule (codes "in-place") ∷ file_rule ∷ []
+    ∷ valued_rule (codes "generate") ∷ valued_rule (codes "functions") ∷ flag_rule (codes "witnesses") ∷ flag_rule (codes "in-place")
+    ∷ flag_rule (codes "help") ∷ flag_rule (codes "version") ∷ file_rule ∷ []
 
 differs : (word name : List ℕ) → bytes_eq name word ≡ false → bytes_eq word name ≡ false
 differs word name h = bytes_eq_sym word name ∙ h
@@ -66,19 +67,16 @@ valued_long name = of_one (λ n. arg_by_long spatch.rules n ≡ Some (valued_rul
 
 flag_long : (name : List ℕ) → is_in flag_options name ≡ true → arg_by_long spatch.rules name ≡ Some (flag_rule name)
 unfolding spatch_app
-flag_long name = of_one (λ n. arg_by_long spatch.rules n ≡ Some (flag_rule n)) flag_options name (refl, (refl, tt))
+flag_long name = of_one (λ n. arg_by_long spatch.rules n ≡ Some (flag_rule n)) flag_options name (refl, (refl, (refl, (refl, tt))))
 
 valued_id : (name : List ℕ) → is_in valued_options name ≡ true → arg_by_id spatch.rules name ≡ Some (valued_rule name)
 unfolding spatch_app
 valued_id name = of_one (λ n. arg_by_id spatch.rules n ≡ Some (valued_rule n)) valued_options name
     (refl, (refl, (refl, (refl, (refl, (refl, tt))))))
 
--- none of eight tests passes, and the last argument is positional
-none_of : (a b c d e f g h : Bool) (x1 x2 x3 x4 x5 x6 x7 x8 : Rule) → a ≡ false → b ≡ false → c ≡ false → d ≡ false → e ≡ false → f ≡ false → g ≡ false
-    → h ≡ false
-    → cond (a || false) (Some x1) (cond (b || false) (Some x2) (cond (c || false) (Some x3) (cond (d || false) (Some x4)
-    (cond (e || false) (Some x5) (cond (f || false) (Some x6) (cond (g || false) (Some x7) (cond (h || false) (Some x8) None))))))) ≡ None
-none_of a b c d e f g h x1 x2 x3 x4 x5 x6 x7 x8 ea eb ec ed ee ef eg eh = rw (ea, eb, ec, ed, ee, ef, eg, eh) refl
+-- the first argument is another
+passed : (a : Bool) (x : Rule) (rest : Option Rule) → a ≡ false → rest ≡ None → cond (a || false) (Some x) rest ≡ None
+passed a x rest e none = rw (e, none) refl
 
 other_long : (name : List ℕ) → is_in valued_options name ≡ false → is_in flag_options name ≡ false → arg_by_long spatch.rules name ≡ None
 unfolding spatch_app
@@ -91,9 +89,13 @@ other_long name v f =
     let v6 = or_parts _ _ v5.1 in
     let f1 = or_parts _ _ f in
     let f2 = or_parts _ _ f1.1 in
-    none_of _ _ _ _ _ _ _ _ _ _ _ _ _ _ _ _ (differs (codes "sp-file") name v1.0) (differs (codes "iso-file") name v2.0) (differs (codes "define") name v3.0)
-    (differs (codes "jobs") name v4.0) (differs (codes "generate") name v5.0) (differs (codes "functions") name v6.0)
-    (differs (codes "witnesses") name f1.0) (differs (codes "in-place") name f2.0)
+    let f3 = or_parts _ _ f2.1 in
+    let f4 = or_parts _ _ f3.1 in
+    passed _ _ _ (differs (codes "sp-file") name v1.0) (passed _ _ _ (differs (codes "iso-file") name v2.0) (passed _ _ _ (differs (codes "define") name v3.0)
+    (passed _ _ _ (differs (codes "jobs") name v4.0) (passed _ _ _ (differs (codes "generate") name v5.0)
+    (passed _ _ _ (differs (codes "functions") name v6.0) (passed _ _ _ (differs (codes "witnesses") name f1.0)
+    (passed _ _ _ (differs (codes "in-place") name f2.0) (passed _ _ _ (differs (codes "help") name f3.0)
+    (passed _ _ _ (differs (codes "version") name f4.0) refl)))))))))
 
 pub spatch_serves : Serves spatch
 unfolding spatch_app

@@ -1,6 +1,6 @@
 -- Words as text, one after another.
 use Rattle.std.proofs.Common.{◌≡◌, ◌∙◌, refl, sym, ap, ℕ, zero, suc, ◌+◌, ◌<◌, true, false, List, [], ◌∷◌, ◌++◌, length, get_or, map, take, take-suc}
-use Rattle.std.proofs.Common.{add-one, le_of_suc-le-suc, IsUtf8, arith}
+use Rattle.std.proofs.Common.{add-one, le_of_suc-le-suc, IsUtf8, arith, Result, Ok, Err, MatchResult, is_ok}
 use Rattle.std.specs.List.{list_all}
 use Rattle.std.specs.Str.{is_utf8}
 use Rattle.std.specs.Borrow.{Bor}
@@ -38,3 +38,9 @@ more_same words i word texts text low is same so = map_append texts text ∙ (ap
 pub more_text : (words : List (List ℕ)) (i : ℕ) (word : List ℕ) → i < length words → word ≡ get_or words i word → IsUtf8 word
     → list_all is_utf8 (take i words) ≡ true → list_all is_utf8 (take (i + 1) words) ≡ true
 more_text words i word low is text so = ap (list_all is_utf8) (one_more words i word low is) ∙ all_append (take i words) word so (is_utf8-from_IsUtf8 word text)
+
+-- a word is text where the library reads it as text
+pub read_as_text : {E : Type 0} (word : List ℕ) (read : Result (Bor (List ℕ)) E) (P : E → Type 0)
+    → MatchResult read (λ s. (s.now ≡ word) × IsUtf8 word) (λ e. (IsUtf8 word → ⊥) × P e) → is_ok read ≡ is_utf8 word
+read_as_text word (Ok text) P h = sym (is_utf8-from_IsUtf8 word h.1)
+read_as_text word (Err e) P h = sym (false_from_ne_true _ (λ text. h.0 (IsUtf8-from_is_utf8 word text)))

@@ -4,8 +4,12 @@ pub mod Parts
 pub mod Options
 pub mod Values
 pub mod Orders
+-- Why words are no command.
+pub mod OptionNames
+pub mod Faults
 -- What results represent, for callers and for internal use.
 pub mod Shown
+pub mod Forms
 -- For internal use: the command as clap represents it.
 pub mod Commands
 -- What job_laws defines.

@@ -13,6 +13,8 @@ pub record Options : Type 0 where
   pub functions : Option (List ℕ)
   pub witnesses : Bool
   pub in_place : Bool
+  pub help : Bool
+  pub version : Bool
   -- in this order
   pub files : List (List ℕ)
 
@@ -53,6 +55,8 @@ collected parts = record {
   functions = value_of (codes "functions") parts;
   witnesses = has_flag (codes "witnesses") parts;
   in_place = has_flag (codes "in-place") parts;
+  help = has_flag (codes "help") parts;
+  version = has_flag (codes "version") parts;
   files = files_in parts;
 }
 

@@ -4,6 +4,8 @@ use Rattle.std.specs.List.{list_all}
 use Rattle.std.specs.Str.{is_utf8}
 use Rattle.std.specs.Option.{option_map_or}
 use Rattle.run_words.specs.declared.order.Mode.{Mode}
+use Rattle.run_words.specs.declared.order.Saying.{Saying}
+use Rattle.run_words.specs.declared.order.Saying.TheVariants as saying
 use Rattle.run_words.specs.Options.{Options, options_of}
 use Rattle.run_words.specs.Values.{seed_in, count_in, decimal_value, names_in}
 
@@ -19,6 +21,8 @@ pub data Order : Type 0 where
   Apply : (patch : List ℕ) (isos : Option (List ℕ)) (defined : List (List ℕ)) (target : Target) → Order
   -- the text that is generated from this seed, with this many functions, is printed
   Generate : (seed functions : ℕ) → Order
+  -- a text about the program is printed
+  Say : (saying : Saying) → Order
 
 -- ---- values
 
@@ -57,7 +61,7 @@ mode_in o = record { witnesses = o.witnesses; in_place = o.in_place }
 
 -- something is given that is only allowed with files
 abbrev pub is_about_files : Options → Bool
-is_about_files o = is_some o.iso_file || is_some o.define || o.witnesses || o.in_place || has_files o
+is_about_files o = has_files o || is_some o.iso_file || is_some o.define || o.witnesses || o.in_place
 
 -- without `--generate`: a patch and a file are required
 abbrev pub editing : Options → Option Order
@@ -74,8 +78,20 @@ generating o value = cond (is_about_files o) None
     (option_and_then (λ seed. option_and_then (λ text. option_and_then (λ functions. on_text o seed functions) (count_in most_functions text)) o.functions)
     (seed_in value))
 
+-- without `--help` and `--version`
+unfoldable pub working : Options → Option Order
+working o = cond (has_jobs o) (option_map_or (generating o) o.generate (editing o)) None
+
+-- a text about the program is asked for
+abbrev pub asks_text : Options → Bool
+asks_text o = o.help || o.version
+
+abbrev pub saying_in : Options → Saying
+saying_in o = cond o.help saying.Help saying.Version
+
+-- if one of `--help` and `--version` is given, the words ask for its text and for nothing else
 unfoldable pub ordered : Options → Option Order
-ordered o = cond (are_filled o && has_jobs o) (option_map_or (generating o) o.generate (editing o)) None
+ordered o = cond (are_filled o) (cond (asks_text o) (Some (Say (saying_in o))) (working o)) None
 
 -- what the words ask for; nothing if they are no command, for example if one of them isn't UTF-8
 unfoldable pub order_of : List (List ℕ) → Option Order

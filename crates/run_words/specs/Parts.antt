@@ -32,7 +32,7 @@ abbrev pub valued_options : List (List ℕ)
 valued_options = codes "sp-file" ∷ codes "iso-file" ∷ codes "define" ∷ codes "jobs" ∷ codes "generate" ∷ codes "functions" ∷ []
 
 abbrev pub flag_options : List (List ℕ)
-flag_options = codes "witnesses" ∷ codes "in-place" ∷ []
+flag_options = codes "witnesses" ∷ codes "in-place" ∷ codes "help" ∷ codes "version" ∷ []
 
 -- the word begins with `-` and is longer than one byte
 abbrev pub is_option : List ℕ → Bool

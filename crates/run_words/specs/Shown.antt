@@ -11,7 +11,7 @@ use Rattle.run_words.specs.declared.order.Target.TheVariants as target
 use Rattle.run_words.specs.declared.order.Order.{Order as CodeOrder}
 use Rattle.run_words.specs.declared.order.Order.TheVariants as order
 use Rattle.run_words.specs.Options.{Options}
-use Rattle.run_words.specs.Orders.{Target, OnFiles, OnText, Order, Apply, Generate}
+use Rattle.run_words.specs.Orders.{Target, OnFiles, OnText, Order, Apply, Generate, Say}
 
 abbrev pub shown_target : CodeTarget → Target
 shown_target (target.Files mode names) = OnFiles mode (map (λ name. name.now) names.items)
@@ -23,11 +23,13 @@ shown_isos isos = option_map (λ name. name.now) isos
 abbrev pub shown_order : CodeOrder → Order
 shown_order (order.Apply p) = Apply p.patch.now (shown_isos p.isos) p.defined.items (shown_target p.target)
 shown_order (order.Generate seed functions) = Generate seed functions
+shown_order (order.Say saying) = Say saying
 
 -- the patch is applied with this many jobs
 abbrev pub HasJobs : ℕ → CodeOrder → Type 0
 HasJobs jobs (order.Apply p) = p.jobs ≡ jobs
 HasJobs jobs (order.Generate seed functions) = Unit {0}
+HasJobs jobs (order.Say saying) = Unit {0}
 
 -- a generated text has at most 100,000 functions
 abbrev pub few_functions : CodeTarget → Type 0
@@ -49,6 +51,8 @@ shown_options g = record {
   functions = shown_value g.functions;
   witnesses = g.witnesses;
   in_place = g.in_place;
+  help = g.help;
+  version = g.version;
   files = map (λ name. name.now) g.files.items;
 }
 
@@ -62,4 +66,6 @@ pub record IsFound (f : Found) (o : Options) : Type 0 where
   pub functions : o.functions ≡ first_value f (codes "functions")
   pub witnesses : (b : Bool) → one_text f (codes "witnesses") ≡ Some (bool_text b) → o.witnesses ≡ b
   pub in_place : (b : Bool) → one_text f (codes "in-place") ≡ Some (bool_text b) → o.in_place ≡ b
+  pub help : (b : Bool) → one_text f (codes "help") ≡ Some (bool_text b) → o.help ≡ b
+  pub version : (b : Bool) → one_text f (codes "version") ≡ Some (bool_text b) → o.version ≡ b
   pub files : o.files ≡ option_map_or raw_values (matched_of f (codes "FILE")) []

@@ -2,6 +2,7 @@
 //!
 //! - [`utf8_words`] converts the words to text, and [`order_of`] parses them: it returns an [`Order`], or `None` if they are no
 //!   command.
+//! - [`word_fault`] says why words are no command: it returns the first [`WordFault`], or `None` if they are one.
 //!
 //! The words `--sp-file p --in-place a.c b.c` ask for the patch `p` to be applied to two files, each of which is stored again
 //! if it changes.
@@ -14,12 +15,20 @@
 //! - `job_laws`: Words that differ only in their jobs ask for the same.
 #![tactic(auto)]
 
+mod fault;
+mod faults;
 mod job_laws;
+mod option_name;
 mod options;
 mod order;
 mod values;
+mod walk;
+mod word;
 mod words;
 
+pub use fault::{Need, WordFault};
+pub use faults::{faults_are_all, text_fault, word_fault};
 pub use job_laws::jobs_leave_orders;
-pub use order::{Mode, Order, PatchOrder, Target};
+pub use option_name::OptionName;
+pub use order::{Mode, Order, PatchOrder, Saying, Target};
 pub use words::{order_of, utf8_words};

@@ -52,6 +52,8 @@ fn command<'a>(alloc: Global) -> Result<Command<'a>, AllocError>
         .arg(valued(alloc, "functions"))?
         .arg(flag(alloc, "witnesses"))?
         .arg(flag(alloc, "in-place"))?
+        .arg(flag(alloc, "help"))?
+        .arg(flag(alloc, "version"))?
         .arg(files(alloc))
 }
 
@@ -66,6 +68,8 @@ pub struct Given<'a> {
     pub functions: Option<&'a str>,
     pub witnesses: bool,
     pub in_place: bool,
+    pub help: bool,
+    pub version: bool,
     pub files: Vec<&'a str>,
 }
 
@@ -92,6 +96,8 @@ fn read<'a>(alloc: Global, matches: &ArgMatches<'a>) -> Result<Given<'a>, AllocE
         functions: matches.get_str("functions"),
         witnesses: matches.get_flag("witnesses"),
         in_place: matches.get_flag("in-place"),
+        help: matches.get_flag("help"),
+        version: matches.get_flag("version"),
         files,
     })
 }

@@ -36,10 +36,21 @@ pub struct PatchOrder<'a> {
     pub ghost few_jobs: { jobs ≤ 64 },
 }
 
+/// A text about the program.
+#[derive(Clone, Copy, Debug, PartialEq, Eq)]
+pub enum Saying {
+    /// How to call it.
+    Help,
+    /// Its name and version.
+    Version,
+}
+
 /// What a command line asks for.
 #[derive(Drop)]
 pub enum Order<'a> {
     Apply(PatchOrder<'a>),
     /// Print the text that is generated from this seed, with this many functions.
     Generate(u64, u32),
+    /// Print a text about the program.
+    Say(Saying),
 }

@@ -1,5 +1,5 @@
 // From words to what they ask for.
-ghost use Rattle.std.specs.Prelude.{◌≡◌, ◌≤◌, ◌&&◌, true, false, [], Some, map, option_map, is_some, IfOk, IfSome, MatchOption};
+ghost use Rattle.std.specs.Prelude.{◌≡◌, ◌≤◌, true, false, [], Some, map, option_map, is_some, IfOk, IfSome, MatchOption};
 ghost use Rattle.std.specs.Option.{option_map_or};
 ghost use Rattle.run_words.specs.Values.{count_in, decimal_value, names_in};
 ghost use Rattle.std.specs.List.{list_all};
@@ -8,14 +8,14 @@ ghost use Rattle.run_words.specs.Orders as spec;
 ghost use Rattle.run_words.specs.Shown.{HasJobs, shown_options, shown_order, shown_value};
 
 use crate::options::{Given, parse};
-use crate::order::{Mode, Order, PatchOrder, Target};
+use crate::order::{Mode, Order, PatchOrder, Saying, Target};
 use crate::values::{count, names, seed};
 use c_terms::{NoMemory, Text};
 use std::alloc::Global;
 
-const MOST_JOBS: u64 = 64;
+pub const MOST_JOBS: u64 = 64;
 
-const MOST_FUNCTIONS: u64 = 100_000;
+pub const MOST_FUNCTIONS: u64 = 100_000;
 
 /// Returns the words as text, if each is UTF-8. Linear in the words.
 pub fn utf8_words<'a>(alloc: Global, words: &'a [Text]) -> Result<Option<Vec<&'a str>>, NoMemory>
@@ -55,7 +55,8 @@ fn is_filled(value: Option<&str>) -> bool
     }
 }
 
-fn are_filled(given: &Given<'_>) -> bool
+/// Whether no value that is given is empty.
+pub fn are_filled(given: &Given<'_>) -> bool
     ensures { result ≡ spec.are_filled (shown_options given.now) }
 {
     is_filled(given.sp_file)
@@ -101,18 +102,43 @@ fn jobs_in(value: &str) -> u32
     }
 }
 
-/// Whether no option has an empty value, and the number of jobs is valid.
-fn has_values(given: &Given<'_>) -> bool
-    ensures { result ≡ (spec.are_filled (shown_options given.now) && spec.has_jobs (shown_options given.now)) }
+/// Whether a text about the program is asked for.
+pub fn asks_text(given: &Given<'_>) -> bool
+    ensures { result ≡ spec.asks_text (shown_options given.now) }
 {
-    are_filled(given) && has_jobs(given)
+    given.help || given.version
+}
+
+/// Returns the text that is asked for: help goes before the version.
+fn saying_in(given: &Given<'_>) -> Saying
+    ensures { result ≡ spec.saying_in (shown_options given.now) }
+{
+    if given.help {
+        Saying::Help
+    } else {
+        Saying::Version
+    }
 }
 
 fn order_given<'a>(alloc: Global, given: Given<'a>) -> Result<Option<Order<'a>>, NoMemory>
     ensures order { IfOk result (λ order. option_map shown_order order ≡ spec.ordered (shown_options given.entry)) }
     ensures jobs { IfOk result (λ order. IfSome order (HasJobs (spec.jobs_in (shown_options given.entry)))) }
 {
-    if !has_values(&given) {
+    if !are_filled(&given) {
+        return Ok(None);
+    }
+    if asks_text(&given) {
+        return Ok(Some(Order::Say(saying_in(&given))));
+    }
+    working(alloc, given)
+}
+
+/// Returns what is asked for without `--help` and `--version`.
+fn working<'a>(alloc: Global, given: Given<'a>) -> Result<Option<Order<'a>>, NoMemory>
+    ensures order { IfOk result (λ order. option_map shown_order order ≡ spec.working (shown_options given.entry)) }
+    ensures jobs { IfOk result (λ order. IfSome order (HasJobs (spec.jobs_in (shown_options given.entry)))) }
+{
+    if !has_jobs(&given) {
         return Ok(None);
     }
     match given.generate {
@@ -121,15 +147,22 @@ fn order_given<'a>(alloc: Global, given: Given<'a>) -> Result<Option<Order<'a>>,
     }
 }
 
+/// Whether a file is given.
+pub fn has_files(given: &Given<'_>) -> bool
+    ensures { result ≡ spec.has_files (shown_options given.now) }
+{
+    !given.files.is_empty()
+}
+
 /// Whether something is given that is only allowed with files.
 fn is_about_files(given: &Given<'_>) -> bool
     ensures { result ≡ spec.is_about_files (shown_options given.now) }
 {
-    given.iso_file.is_some()
+    has_files(given)
+        || given.iso_file.is_some()
         || given.define.is_some()
         || given.witnesses
         || given.in_place
-        || !given.files.is_empty()
 }
 
 /// Returns what is asked for with a seed.
@@ -174,7 +207,7 @@ fn editing<'a>(alloc: Global, given: Given<'a>) -> Result<Option<Order<'a>>, NoM
     ensures order { IfOk result (λ order. option_map shown_order order ≡ spec.editing (shown_options given.entry)) }
     ensures jobs { IfOk result (λ order. IfSome order (HasJobs (spec.jobs_in (shown_options given.entry)))) }
 {
-    if given.files.is_empty() || given.functions.is_some() {
+    if !has_files(&given) || given.functions.is_some() {
         return Ok(None);
     }
     let Some(patch) = given.sp_file else {

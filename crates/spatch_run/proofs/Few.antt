@@ -10,7 +10,8 @@ use Rattle.run_words.specs.declared.order.Target.{Target as CodeTarget}
 use Rattle.run_words.specs.declared.order.Target.TheVariants as target
 use Rattle.run_words.specs.Options.{Options, options_of}
 use Rattle.run_words.specs.Values.{count_in, seed_in, decimal_value, begins_with_zero}
-use Rattle.run_words.specs.Orders.{Target, OnFiles, OnText, Order, Apply, Generate, most_functions, are_filled, has_jobs}
+use Rattle.run_words.specs.declared.order.Saying.{Saying}
+use Rattle.run_words.specs.Orders.{Target, OnFiles, OnText, Order, Apply, Generate, Say, most_functions, are_filled, asks_text, has_jobs, saying_in, working}
 use Rattle.run_words.specs.Orders.{is_about_files, defined_in, editing, on_text, generating, ordered, order_of}
 use Rattle.run_words.specs.Shown.{shown_target, few_functions}
 
@@ -21,6 +22,7 @@ HasFew (OnText seed functions) = functions ≤ 100000
 abbrev AsksFew : Option Order → Type 0
 AsksFew None = Unit {0}
 AsksFew (Some (Generate seed functions)) = Unit {0}
+AsksFew (Some (Say saying)) = Unit {0}
 AsksFew (Some (Apply patch isos defined target)) = HasFew target
 
 few_cond : (b : Bool) (o : Option Order) → AsksFew o → AsksFew (cond b o None)
@@ -80,9 +82,17 @@ few_either : (o : Options) (value : Option (List ℕ)) → AsksFew (option_map_o
 few_either o None = few_editing o
 few_either o (Some value) = few_generating o value
 
+few_working : (o : Options) → AsksFew (working o)
+unfolding working
+few_working o = few_cond (has_jobs o) _ (few_either o o.generate)
+
+few_saying : (asks : Bool) (saying : Saying) (order : Option Order) → AsksFew order → AsksFew (cond asks (Some (Say saying)) order)
+few_saying true saying order few = tt
+few_saying false saying order few = few
+
 few_ordered_by : (o : Options) → AsksFew (ordered o)
 unfolding ordered
-few_ordered_by o = few_cond (are_filled o && has_jobs o) _ (few_either o o.generate)
+few_ordered_by o = few_cond (are_filled o) _ (few_saying (asks_text o) (saying_in o) (working o) (few_working o))
 
 few_asked : (words : List (List ℕ)) → AsksFew (order_of words)
 unfolding order_of

@@ -6,6 +6,7 @@ ghost use Rattle.run_acts.specs.Breaks.{counts};
 ghost use Rattle.run_acts.specs.Lines.{cannot_read};
 ghost use Rattle.run_acts.specs.Statuses.{number_of};
 ghost use Rattle.run_files.specs.RunLines.Patches as lines;
+ghost use Rattle.run_files.specs.RunLines.Words.{refused_words};
 ghost use Rattle.run_files.specs.RunStages.Stages.{refusing};
 ghost use Rattle.run_files.specs.RunStages.Ends.{Ends};
 ghost use Rattle.spatch_run.specs.Answer.{answer};
@@ -13,7 +14,8 @@ ghost use Rattle.spatch_run.specs.Answer.{answer};
 use iso_file::IsoFault;
 use outer_io::Sink;
 use run_acts::{Status, Stopped, cannot_read, report};
-use run_files::{forms_line, iso_fault_line, patch_fault_line, usage};
+use run_files::{forms_line, iso_fault_line, patch_fault_line, refused_words};
+use run_words::WordFault;
 use smpl_patch::PatchFault;
 use std::alloc::Global;
 
@@ -29,15 +31,20 @@ fn end_by<E: Sink>(err: &mut E, line: &[u8], status: Status) -> Result<Status, S
     Ok(status)
 }
 
-/// Reports the usage line.
-pub fn refuse_words<E: Sink>(err: &mut E) -> Result<Status, Stopped>
+/// Reports the usage line and why the words are no command.
+pub fn refuse_words<E: Sink>(
+    alloc: Global,
+    err: &mut E,
+    fault: Option<WordFault>,
+) -> Result<Status, Stopped>
     ensures ends { (files : Option Files) (out : Option (List ℕ)) (stores s o : ℕ) →
-        Ends (refusing lines.usage 1)
+        Ends (refusing (refused_words fault) 1)
         (counts s o (E.faults err.old)) (counts s o (E.faults err.new))
         (observed files stores out (E.written err.old)) (observed files stores out (E.written err.new))
         (answer result) }
 {
-    end_by(err, usage().as_bytes(), Status::WordsRefused)
+    let line = refused_words(alloc, fault)?;
+    end_by(err, &line, Status::WordsRefused)
 }
 
 /// Reports the line about a name under which nothing is stored.

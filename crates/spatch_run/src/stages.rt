@@ -1,7 +1,8 @@
 // The stages of a run before its files: the words, the patch, the isomorphisms. One function per stage.
-ghost use Rattle.std.specs.Prelude.{◌≡◌, ◌↔◌, [], List, ℕ, true, map, IfOk, IsTrue};
+ghost use Rattle.std.specs.Prelude.{◌≡◌, ◌↔◌, [], List, ℕ, Option, None, true, map, IfOk, IsTrue};
 ghost use Rattle.std.specs.List.{list_all};
 ghost use Rattle.std.specs.Str.{is_utf8};
+ghost use Rattle.outer_io.specs.Files.{Files};
 ghost use Rattle.run_acts.specs.Acts.{observed};
 ghost use Rattle.run_acts.specs.Breaks.{counts};
 ghost use Rattle.run_acts.specs.Places.{SamePlaces};
@@ -12,6 +13,7 @@ ghost use Rattle.smpl_patch.specs.declared.fault.PatchFault.TheVariants as patch
 ghost use Rattle.smpl_file.specs.Patches.{IsPatchOf};
 ghost use Rattle.iso_file.specs.declared.fault.IsoFault.TheVariants as iso_fault;
 ghost use Rattle.rule_envs.specs.RuleFormulas.Prepared.{ArePrepared, IsPrepareFault};
+ghost use Rattle.run_words.specs.Orders.{order_of};
 ghost use Rattle.run_words.specs.Shown.{shown_isos, shown_target, few_functions};
 ghost use Rattle.run_files.specs.RunStages.Stages.{Doing, ReadPatch, ReadIsos, TargetLeads, ReadLeads, IsosLead};
 ghost use Rattle.run_files.specs.RunStages.Ends.{Ends, Follows, LeadsBy};
@@ -22,7 +24,7 @@ use crate::files::edit_files;
 use crate::host::Host;
 use crate::laws::patches_may_be_used;
 use crate::refusals::{refuse_absent, refuse_forms, refuse_isos, refuse_patch, refuse_words};
-use crate::texts::{print_text, sum_text};
+use crate::texts::{print_text, say, sum_text};
 use c_terms::{NoMemory, Text};
 use ctl_translate::FormulaFault;
 use iso_expand::{ExpandFault, expand};
@@ -32,7 +34,7 @@ use par_match::{Gate, Workers};
 use rule_chain::PatchRules;
 use rule_envs::{Prepared, prepare};
 use run_acts::{Loaded, Outside, Status, Stopped, load};
-use run_words::{Order, PatchOrder, Target, order_of, utf8_words};
+use run_words::{Order, PatchOrder, Target, order_of, text_fault, utf8_words, word_fault};
 use smpl_file::read_patch;
 use smpl_patch::{Iso, Patch, PatchFault};
 use std::alloc::Global;
@@ -67,7 +69,10 @@ pub fn follow_words<R: Threads + Sync, S: Shelf, O: Sink, E: Sink, G: Gate>(
 {
     match utf8_words(host.alloc, words) {
         Err(NoMemory) => Err(Stopped::NoMemory),
-        Ok(None) => refuse_words(outside.err),
+        Ok(None) => {
+            let fault = text_fault(words);
+            refuse_words(host.alloc, outside.err, Some(fault))
+        }
         Ok(Some(texts)) => follow_texts(host, &texts, outside),
     }
 }
@@ -89,7 +94,8 @@ fn follow_texts<R: Threads + Sync, S: Shelf, O: Sink, E: Sink, G: Gate>(
 {
     match order_of(host.alloc, texts) {
         Err(NoMemory) => Err(Stopped::NoMemory),
-        Ok(None) => refuse_words(outside.err),
+        Ok(None) => refuse_texts(host.alloc, texts, outside.err),
+        Ok(Some(Order::Say(saying))) => say(saying, outside.out, outside.err),
         Ok(Some(Order::Generate(seed, functions))) => print_text(
             host.alloc,
             seed,
@@ -99,6 +105,19 @@ fn follow_texts<R: Threads + Sync, S: Shelf, O: Sink, E: Sink, G: Gate>(
         ),
         Ok(Some(Order::Apply(order))) => follow_order(host, &order, outside),
     }
+}
+
+/// Reports why words, which are text, are no command.
+fn refuse_texts<E: Sink>(alloc: Global, texts: &[&str], err: &mut E) -> Result<Status, Stopped>
+    requires texts { list_all is_utf8 (map (λ t. t.now) texts.now) ≡ true }
+    requires none { order_of (map (λ t. t.now) texts.now) ≡ None }
+    ensures ends { (files : Option Files) (out : Option (List ℕ)) (stores s o : ℕ) → Follows (map (λ t. t.now) texts.now)
+        (counts s o (E.faults err.old)) (counts s o (E.faults err.new))
+        (observed files stores out (E.written err.old)) (observed files stores out (E.written err.new))
+        (answer result) }
+{
+    let fault = word_fault(alloc, texts)?;
+    refuse_words(alloc, err, fault)
 }
 
 /// Whether memory ran out, so that nothing is known to be wrong with the patch.

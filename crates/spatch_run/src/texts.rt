@@ -1,10 +1,11 @@
-// Generated texts.
+// Texts about the program, and generated ones.
 ghost use Rattle.std.specs.Prelude.{◌≤◌, ◌∷◌, [], List, ℕ, Option};
 ghost use Rattle.outer_io.specs.Files.{Files};
 ghost use Rattle.run_acts.specs.Acts.{Print, observed};
 ghost use Rattle.run_acts.specs.Breaks.{counts};
 ghost use Rattle.sp_gen.specs.Generated.{generated};
 ghost use Rattle.run_words.specs.Orders.{OnText};
+ghost use Rattle.run_files.specs.RunLines.Words.{said};
 ghost use Rattle.run_files.specs.RunStages.Stages.{Ending, TargetLeads};
 ghost use Rattle.run_files.specs.RunStages.Ends.{Ends, LeadsBy};
 ghost use Rattle.spatch_run.specs.Answer.{answer};
@@ -14,7 +15,8 @@ use outer_io::Sink;
 use par_match::{Gate, Workers};
 use rule_chain::PatchRules;
 use run_acts::{Status, Stopped, print};
-use run_files::sum;
+use run_files::{said, sum};
+use run_words::Saying;
 use sp_gen::generate;
 use std::alloc::Global;
 use std::thread::Threads;
@@ -37,6 +39,17 @@ pub fn print_text<O: Sink, E: Sink>(
 {
     let text = generate(alloc, seed, functions)?;
     print(out, err, &text)?;
+    Ok(Status::Done)
+}
+
+/// Prints a text about the program.
+pub fn say<O: Sink, E: Sink>(saying: Saying, out: &mut O, err: &mut E) -> Result<Status, Stopped>
+    ensures ends { (files : Option Files) (stores s : ℕ) → Ends (Ending (Print (said saying) ∷ []) 0)
+        (counts s (O.faults out.old) (E.faults err.old)) (counts s (O.faults out.new) (E.faults err.new))
+        (observed files stores (O.written out.old) (E.written err.old)) (observed files stores (O.written out.new) (E.written err.new))
+        (answer result) }
+{
+    print(out, err, said(saying).as_bytes())?;
     Ok(Status::Done)
 }
 

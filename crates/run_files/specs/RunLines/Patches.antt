@@ -1,4 +1,4 @@
--- The lines about words, patches and isomorphisms.
+-- The lines about patches and isomorphisms.
 use Rattle.std.specs.Prelude.{ℕ, List, [], ◌++◌, codes}
 use Rattle.std.specs.Fmt.{decimal}
 use Rattle.outer_io.specs.EscapedNames.Escapes.{escaped_name}
@@ -7,9 +7,6 @@ use Rattle.smpl_patch.specs.declared.fault.PatchFault.TheVariants.{PatchTooLong,
 use Rattle.smpl_patch.specs.Faults.{number_of, place_of}
 use Rattle.iso_file.specs.declared.fault.IsoFault.{IsoFault}
 use Rattle.iso_file.specs.declared.fault.IsoFault.TheVariants as iso
-
-abbrev pub usage : List ℕ
-usage = codes "spatch: usage: spatch --sp-file P [--iso-file I] [--define a,b] [--jobs n] [--witnesses] [--in-place] FILE...\n"
 
 -- the start of a line about this name, in which no byte of the name ends the line
 abbrev pub begun : List ℕ → List ℕ

@@ -2,8 +2,7 @@
 use Rattle.std.specs.Prelude.{ℕ, ◌≡◌, ◌⊎◌, List, Some}
 use Rattle.run_acts.specs.Acts.{Act, Observed, after}
 use Rattle.run_acts.specs.Breaks.{Counts, NoneFell, Breaks}
-use Rattle.run_words.specs.Orders.{order_of}
-use Rattle.run_files.specs.RunStages.Stages.{Stage, begun, next_act, status_at}
+use Rattle.run_files.specs.RunStages.Stages.{Stage, begun_by, next_act, status_at}
 use Rattle.run_files.specs.RunStages.Paths.{Path}
 
 -- The run goes on from one stage to another: some acts lead there, and `new` is observed after them.
@@ -23,7 +22,7 @@ pub record Ends (from : Stage) (before now : Counts) (old new : Observed) (statu
 
 -- The run begins as these words ask, and ends from there.
 abbrev pub Follows : List (List ℕ) → Counts → Counts → Observed → Observed → ℕ → Type 0
-Follows words before now old new status = Ends (begun (order_of words)) before now old new status
+Follows words before now old new status = Ends (begun_by words) before now old new status
 
 -- The run goes on from some stage that `to` allows, and ends from there; or memory ran out before the stage was known.
 pub data LeadsBy (to : Stage → Type 0) (before now : Counts) (old new : Observed) (status : ℕ) : Type 0 where

@@ -12,8 +12,11 @@ use Rattle.iso_file.specs.Isos.{AreIsosOf, IsFileFault}
 use Rattle.iso_expand.specs.Patches.{IsExpanded, IsFirstMany}
 use Rattle.sp_gen.specs.Generated.{generated}
 use Rattle.run_words.specs.declared.order.Mode.{Mode}
-use Rattle.run_words.specs.Orders.{Target, OnFiles, OnText, Apply, Generate, order_of}
-use Rattle.run_files.specs.RunLines.Patches.{usage, patch_fault_line, iso_fault_line, forms_line}
+use Rattle.run_words.specs.declared.order.Saying.{Saying}
+use Rattle.run_words.specs.Orders.{Target, OnFiles, OnText, Apply, Generate, Say, order_of}
+use Rattle.run_words.specs.Faults.{word_fault}
+use Rattle.run_files.specs.RunLines.Words.{refused_words, said}
+use Rattle.run_files.specs.RunLines.Patches.{patch_fault_line, iso_fault_line, forms_line}
 use Rattle.run_files.specs.Treatment.{Treated, file_limit, IsFileTreatmentOf, Sums}
 use Rattle.run_files.specs.RunStages.Stages.{patch_limit, generated_name, end_status}
 
@@ -74,8 +77,10 @@ FilesDo old patch defined mode (name ∷ names) refused acts end =
 -- ---- whole runs
 
 pub data Reason (words : List (List ℕ)) (old : Observed) (acts : List Act) (status : ℕ) : Type 0 where
-  -- 1: the words are no command
-  unasked : order_of words ≡ None → acts ≡ Report usage ∷ [] → status ≡ 1 → Reason words old acts status
+  -- 1: the words are no command, and this is why
+  unasked : order_of words ≡ None → acts ≡ Report (refused_words (word_fault words)) ∷ [] → status ≡ 1 → Reason words old acts status
+  -- 0: a text about the program is asked for
+  is_said : (saying : Saying) → order_of words ≡ Some (Say saying) → acts ≡ Print (said saying) ∷ [] → status ≡ 0 → Reason words old acts status
   -- 0: a text is generated
   is_generated : (seed functions : ℕ) → order_of words ≡ Some (Generate seed functions) → acts ≡ Print (generated seed functions) ∷ []
       → status ≡ 0 → Reason words old acts status

@@ -13,8 +13,11 @@ use Rattle.iso_file.specs.Isos.{AreIsosOf, IsFileFault}
 use Rattle.iso_expand.specs.Patches.{IsExpanded, IsFirstMany}
 use Rattle.sp_gen.specs.Generated.{generated}
 use Rattle.run_words.specs.declared.order.Mode.{Mode}
-use Rattle.run_words.specs.Orders.{Target, OnFiles, OnText, Order, Apply, Generate}
-use Rattle.run_files.specs.RunLines.Patches.{usage, patch_fault_line, iso_fault_line, forms_line}
+use Rattle.run_words.specs.declared.fault.WordFault.{WordFault}
+use Rattle.run_words.specs.Orders.{Target, OnFiles, OnText, Order, Apply, Generate, Say, order_of}
+use Rattle.run_words.specs.Faults.{word_fault}
+use Rattle.run_files.specs.RunLines.Words.{refused_words, said}
+use Rattle.run_files.specs.RunLines.Patches.{patch_fault_line, iso_fault_line, forms_line}
 use Rattle.run_files.specs.Treatment.{Treated, file_limit, IsFileTreatmentOf, Sums}
 
 -- the maximum number of bytes of a patch, and of isomorphisms
@@ -57,11 +60,15 @@ going acts patch defined mode (name ∷ names) refused = Doing acts (EditFiles p
 
 -- ---- what leads from one to the next
 
--- the stage at which a run begins, by what its words ask for
-abbrev pub begun : Option Order → Stage
-begun None = refusing usage 1
-begun (Some (Apply patch isos defined target)) = Doing [] (ReadPatch patch isos defined target)
-begun (Some (Generate seed functions)) = Ending (Print (generated seed functions) ∷ []) 0
+-- the stage at which a run begins, by what is wrong with its words and what they ask for
+abbrev pub begun : Option WordFault → Option Order → Stage
+begun fault None = refusing (refused_words fault) 1
+begun fault (Some (Apply patch isos defined target)) = Doing [] (ReadPatch patch isos defined target)
+begun fault (Some (Generate seed functions)) = Ending (Print (generated seed functions) ∷ []) 0
+begun fault (Some (Say saying)) = Ending (Print (said saying) ∷ []) 0
+
+abbrev pub begun_by : List (List ℕ) → Stage
+begun_by words = begun (word_fault words) (order_of words)
 
 -- what a patch with all its forms leads to
 abbrev pub TargetLeads : Patch → List (List ℕ) → Target → Stage → Type 0

@@ -1,4 +1,4 @@
-// The lines about words, patches and isomorphisms.
+// The lines about patches and isomorphisms.
 ghost use Rattle.std.specs.Prelude.{◌≡◌, ◌++◌, IfOk, OnOk};
 ghost use Rattle.run_files.specs.RunLines.Patches as spec;
 
@@ -8,16 +8,6 @@ use outer_io::escaped_name;
 use smpl_patch::{PatchFault, fault_number, fault_place};
 use std::alloc::Global;
 use wit_print::TextBuffer;
-
-const USAGE: &str =
-    "spatch: usage: spatch --sp-file P [--iso-file I] [--define a,b] [--jobs n] [--witnesses] [--in-place] FILE...\n";
-
-/// Returns the usage line.
-pub fn usage() -> &'static str
-    ensures bytes { result.now ≡ spec.usage }
-{
-    USAGE
-}
 
 /// Returns the start of a line about the given name: everything before the line's text.
 pub fn line_about(alloc: Global, name: &str) -> Result<TextBuffer, NoMemory>

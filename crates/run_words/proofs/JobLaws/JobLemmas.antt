@@ -8,7 +8,8 @@ use Rattle.run_words.specs.Options.{Options}
 use Rattle.std.specs.Option.{option_map_or}
 use Rattle.c_lexer.specs.Words.{is_digit}
 use Rattle.run_words.specs.Values.{decimal_value, begins_with_zero, seed_in, count_in}
-use Rattle.run_words.specs.Orders.{OnText, Order, Apply, Generate, most_jobs, most_functions, is_filled, are_filled, has_jobs}
+use Rattle.run_words.specs.Orders.{OnText, Order, Apply, Generate, Say, asks_text, saying_in, working, most_jobs}
+use Rattle.run_words.specs.Orders.{most_functions, is_filled, are_filled, has_jobs}
 use Rattle.run_words.specs.Orders.{is_about_files, editing, on_text, generating, ordered, order_of}
 use Rattle.run_words.specs.JobLaws.Jobs.{with_jobs, SameButJobs}
 
@@ -71,19 +72,22 @@ module _ (o : Options) (jobs : Option (List ℕ)) (has_one : has_jobs o ≡ true
   generate_same None = refl
   generate_same (Some value) = generating_same value
 
-  filled_same : are_filled other ≡ are_filled o
+  pub filled_same : are_filled other ≡ are_filled o
   filled_same =
       ap (λ (b : Bool). is_filled o.sp_file && is_filled o.iso_file && is_filled o.define && b && is_filled o.generate && is_filled o.functions)
       (filled_by jobs o has_other ∙ sym (filled_by o.jobs o has_one))
 
-  may_same : (are_filled other && has_jobs other) ≡ (are_filled o && has_jobs o)
-  may_same = ap (λ (b : Bool). b && has_jobs other) filled_same ∙ ap (λ (b : Bool). are_filled o && b) (has_other ∙ sym has_one)
+  working_same : working other ≡ working o
+  unfolding working
+  working_same =
+      ap (λ (b : Bool). cond b (option_map_or (generating other) o.generate (editing other)) None) (has_other ∙ sym has_one)
+      ∙ ap (λ (x : Option Order). cond (has_jobs o) x None) (generate_same o.generate)
 
   pub ordered_same : ordered other ≡ ordered o
   unfolding ordered
   ordered_same =
-      ap (λ (b : Bool). cond b (option_map_or (generating other) o.generate (editing other)) None) may_same
-      ∙ ap (λ (x : Option Order). cond (are_filled o && has_jobs o) x None) (generate_same o.generate)
+      ap (λ (b : Bool). cond b (cond (asks_text o) (Some (Say (saying_in o))) (working other)) None) filled_same
+      ∙ ap (λ (x : Option Order). cond (are_filled o) (cond (asks_text o) (Some (Say (saying_in o))) x) None) working_same
 
 pub order_same : (words others : List (List ℕ)) → SameButJobs words others → order_of others ≡ order_of words
 unfolding order_of

@@ -16,6 +16,8 @@ with_jobs jobs o = record {
   functions = o.functions;
   witnesses = o.witnesses;
   in_place = o.in_place;
+  help = o.help;
+  version = o.version;
   files = o.files;
 }
 

@@ -12,13 +12,15 @@ use Rattle.rule_chain.specs.Chain.{Chain, Outcome}
 use Rattle.run_acts.specs.Acts.{Act, Load, Print, Report, Observed}
 use Rattle.run_acts.specs.Lines.{cannot_read}
 use Rattle.run_acts.specs.Loaded.{Found}
-use Rattle.run_files.specs.RunLines.Patches.{usage, patch_fault_line, iso_fault_line, forms_line}
-use Rattle.run_words.specs.Orders.{Target, OnFiles, OnText, Order, Apply, Generate, order_of}
+use Rattle.run_files.specs.RunLines.Words.{refused_words, said}
+use Rattle.run_files.specs.RunLines.Patches.{patch_fault_line, iso_fault_line, forms_line}
+use Rattle.run_words.specs.Orders.{Target, OnFiles, OnText, Order, Apply, Generate, Say, order_of}
+use Rattle.run_words.specs.Faults.{word_fault}
 use Rattle.run_files.specs.Treatment.{Treated, summed_by}
 use Rattle.run_files.specs.RunStages.Stages.{patch_limit, generated_name, end_status}
 use Rattle.run_files.specs.RunStages.Reasons.{PatchFound, PatchRead, IsosFound, PatchReady, Reason, files_status}
 use Rattle.run_files.specs.RunStages.Reasons.PatchReady.{plain, expanded}
-use Rattle.run_files.specs.RunStages.Reasons.Reason.{unasked, is_generated, no_patch, bad_patch, no_isos, bad_isos, many_forms, summed, filed}
+use Rattle.run_files.specs.RunStages.Reasons.Reason.{unasked, is_said, is_generated, no_patch, bad_patch, no_isos, bad_isos, many_forms, summed, filed}
 use Rattle.text_laws.specs.ChainTotal.Weakly.{Weakly}
 use Rattle.spatch_run.proofs.RunEnds.FileLemmas.{HaveEnds, found_some, files_do}
 
@@ -113,7 +115,8 @@ module _ (patch_law : PatchLaw) (isos_law : IsosLaw) (forms_law : FormsLaw) (rea
       ))
 
   order_by : (o : Option Order) → order_of words ≡ o → ⊥
-  order_by None e = absent (Report usage ∷ [], (1, unasked e refl refl))
+  order_by None e = absent (Report (refused_words (word_fault words)) ∷ [], (1, unasked e refl refl))
+  order_by (Some (Say saying)) e = absent (Print (said saying) ∷ [], (0, is_said saying e refl refl))
   order_by (Some (Generate seed functions)) e =
       absent (Print (generated seed functions) ∷ [], (0, is_generated seed functions e refl refl))
   order_by (Some (Apply name isos defined target)) e =

@@ -10,7 +10,7 @@ use Rattle.run_files.specs.RunStages.Stages.{end_status}
 use Rattle.run_files.specs.RunStages.Paths.{AreActs, ComesTo}
 use Rattle.run_files.specs.RunStages.Promise.{EndsRightly}
 use Rattle.run_files.specs.RunStages.Reasons.{Reason, FilesEnd, AllDone, Missing, files_status}
-use Rattle.run_files.specs.RunStages.Reasons.Reason.{unasked, is_generated, no_patch, bad_patch, no_isos, bad_isos, many_forms, summed, filed}
+use Rattle.run_files.specs.RunStages.Reasons.Reason.{unasked, is_said, is_generated, no_patch, bad_patch, no_isos, bad_isos, many_forms, summed, filed}
 use Rattle.run_files.specs.RunStages.Causes.{DoneFor, Causes}
 
 -- the laws of the acts
@@ -39,6 +39,7 @@ few status s less is = omega (arith, less, is)
 -- a whole run ends with a status below 6
 reason_few : (words : List (List ℕ)) (old : Observed) (acts : List Act) (status : ℕ) → Reason words old acts status → status < 6
 reason_few words old acts status (unasked a b s) = few status 1 (omega arith) s
+reason_few words old acts status (is_said saying a b s) = few status 0 (omega arith) s
 reason_few words old acts status (is_generated seed functions a b s) = few status 0 (omega arith) s
 reason_few words old acts status (no_patch name isos defined target a b s) = few status 5 (omega arith) s
 reason_few words old acts status (bad_patch name bytes isos defined target fault a b c s) = few status 2 (omega arith) s

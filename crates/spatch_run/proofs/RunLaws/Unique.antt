@@ -16,11 +16,11 @@ use Rattle.iso_expand.specs.Patches.{IsExpanded, IsFirstMany}
 use Rattle.rule_chain.specs.Chain.{Chain, Outcome}
 use Rattle.sp_gen.specs.Generated.{generated}
 use Rattle.run_words.specs.declared.order.Mode.{Mode}
-use Rattle.run_words.specs.Orders.{Target, OnFiles, OnText, order_of}
+use Rattle.run_words.specs.Orders.{Target, OnFiles, OnText}
 use Rattle.run_files.specs.RunLines.Patches.{patch_fault_line, iso_fault_line, forms_line}
 use Rattle.run_files.specs.Treatment.{Treated, file_limit, IsTreatmentOf, IsFileTreatmentOf, Sums, treated_by, summed_by}
 use Rattle.run_files.specs.RunStages.Stages.{Stage, Doing, Ending, ReadPatch, ReadIsos, EditFiles, generated_name, refusing}
-use Rattle.run_files.specs.RunStages.Stages.{going, end_status, begun, TargetLeads, ReadLeads, PatchLeads, IsosLead}
+use Rattle.run_files.specs.RunStages.Stages.{going, end_status, begun_by, TargetLeads, ReadLeads, PatchLeads, IsosLead}
 use Rattle.run_files.specs.RunStages.Stages.{IsosFileLeads, FileLeads, next_act, status_at, Leads}
 use Rattle.run_files.specs.RunStages.Paths.{Path, AreActs, ComesTo}
 
@@ -222,9 +222,9 @@ module _ (laws : ReadOnce) where
   pub acts_one : (words : List (List ℕ)) (old other : Observed) (acts others : List Act) (status status' : ℕ) → IsSome old.files → other.files ≡ old.files
       → AreActs words old acts status → AreActs words other others status' → (acts ≡ others) × (status ≡ status')
   acts_one words old other acts others status status' some same one two =
-      Path-one old other some same (begun (order_of words)) acts others one.last two.last status status' one.path one.over two.path two.over
+      Path-one old other some same (begun_by words) acts others one.last two.last status status' one.path one.over two.path two.over
 
   pub first_acts : (words : List (List ℕ)) (old other mid : Observed) (next : Act) (acts : List Act) (status : ℕ) → IsSome old.files → other.files ≡ old.files
       → (comes : ComesTo words old mid next) → AreActs words other acts status → (rest : List Act) × (acts ≡ comes.acts ++ next ∷ rest)
   first_acts words old other mid next acts status some same comes are =
-      Path-begins old other some same (begun (order_of words)) comes.acts acts comes.stage are.last next status comes.path comes.is_next are.path are.over
+      Path-begins old other some same (begun_by words) comes.acts acts comes.stage are.last next status comes.path comes.is_next are.path are.over

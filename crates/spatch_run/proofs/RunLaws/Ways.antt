@@ -6,15 +6,17 @@ use Rattle.run_acts.specs.Lines.{cannot_read}
 use Rattle.smpl_patch.specs.declared.rule.Patch.{Patch}
 use Rattle.sp_gen.specs.Generated.{generated}
 use Rattle.run_words.specs.declared.order.Mode.{Mode}
-use Rattle.run_words.specs.Orders.{Target, OnFiles, OnText, Order, Apply, Generate, order_of}
-use Rattle.run_files.specs.RunLines.Patches.{usage, patch_fault_line, iso_fault_line, forms_line}
+use Rattle.run_words.specs.Orders.{Target, OnFiles, OnText, Order, Apply, Generate, Say, order_of}
+use Rattle.run_words.specs.Faults.{word_fault}
+use Rattle.run_files.specs.RunLines.Words.{refused_words, said}
+use Rattle.run_files.specs.RunLines.Patches.{patch_fault_line, iso_fault_line, forms_line}
 use Rattle.run_files.specs.Treatment.{file_limit}
 use Rattle.run_files.specs.RunStages.Stages.{Stage, Doing, Ending, ReadIsos, EditFiles, Work, patch_limit, refusing, going}
-use Rattle.run_files.specs.RunStages.Stages.{end_status, begun, TargetLeads, ReadLeads, IsosFileLeads}
+use Rattle.run_files.specs.RunStages.Stages.{end_status, begun, begun_by, TargetLeads, ReadLeads, IsosFileLeads}
 use Rattle.run_files.specs.RunStages.Paths.{Path, AreActs}
 use Rattle.run_files.specs.RunStages.Reasons.{PatchRead, IsosFound, PatchReady, FilesEnd, FilesDo, files_status, Reason}
 use Rattle.run_files.specs.RunStages.Reasons.PatchReady.{plain, expanded}
-use Rattle.run_files.specs.RunStages.Reasons.Reason.{unasked, is_generated, no_patch, bad_patch, no_isos, bad_isos, many_forms, summed, filed}
+use Rattle.run_files.specs.RunStages.Reasons.Reason.{unasked, is_said, is_generated, no_patch, bad_patch, no_isos, bad_isos, many_forms, summed, filed}
 
 ends_path : (old : Observed) (pending : List Act) (s : ℕ) → Path old (Ending pending s) pending (Ending [] s)
 ends_path old [] s = refl
@@ -62,13 +64,14 @@ module _ (patch : Patch) (defined : List (List ℕ)) (mode : Mode) where
 module _ (words : List (List ℕ)) (old : Observed) where
   -- some acts lead from the beginning to this status
   abbrev Leading : List Act → ℕ → Type 0
-  Leading acts s = Path old (begun (order_of words)) acts (Ending [] s)
+  Leading acts s = Path old (begun_by words) acts (Ending [] s)
 
-  from_order : (order : Option Order) (acts rest : List Act) (s : ℕ) → order_of words ≡ order → Path old (begun order) rest (Ending [] s) → acts ≡ rest
+  from_order : (order : Option Order) (acts rest : List Act) (s : ℕ) → order_of words ≡ order
+      → Path old (begun (word_fault words) order) rest (Ending [] s) → acts ≡ rest
       → Leading acts s
   from_order order acts rest s is path same =
-      subst (λ (o : Option Order). Path old (begun o) acts (Ending [] s)) (sym is)
-      (subst (λ (x : List Act). Path old (begun order) x (Ending [] s)) (sym same) path)
+      subst (λ (o : Option Order). Path old (begun (word_fault words) o) acts (Ending [] s)) (sym is)
+      (subst (λ (x : List Act). Path old (begun (word_fault words) order) x (Ending [] s)) (sym same) path)
 
   -- a patch was read
   read_path : (patch : Patch) (isos : Option (List ℕ)) (defined : List (List ℕ)) (target : Target) (before : List Act) (mid : Stage) (rest : List Act) (s : ℕ)
@@ -104,8 +107,11 @@ module _ (words : List (List ℕ)) (old : Observed) where
 
   pub ways_are_acts : (acts : List Act) (status : ℕ) → Reason words old acts status → AreActs words old acts status
   ways_are_acts acts status (unasked none is over) =
-      let pending = Report usage ∷ [] in
+      let pending = Report (refused_words (word_fault words)) ∷ [] in
       whole_run acts pending 1 status (from_order None pending pending 1 none (ends_path old pending 1) refl) is over
+  ways_are_acts acts status (is_said saying order is over) =
+      let pending = Print (said saying) ∷ [] in
+      whole_run acts pending 0 status (from_order (Some (Say saying)) pending pending 0 order (ends_path old pending 0) refl) is over
   ways_are_acts acts status (is_generated seed functions order is over) =
       let pending = Print (generated seed functions) ∷ [] in
       whole_run acts pending 0 status (from_order (Some (Generate seed functions)) pending pending 0 order (ends_path old pending 0) refl) is over

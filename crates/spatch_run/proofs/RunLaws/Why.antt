@@ -9,8 +9,10 @@ use Rattle.smpl_patch.specs.declared.rule.Patch.{Patch}
 use Rattle.iso_file.specs.Isos.{AreIsosOf}
 use Rattle.sp_gen.specs.Generated.{generated}
 use Rattle.run_words.specs.declared.order.Mode.{Mode}
-use Rattle.run_words.specs.Orders.{Target, OnFiles, OnText, Order, Apply, Generate, order_of}
-use Rattle.run_files.specs.RunLines.Patches.{usage, patch_fault_line, iso_fault_line, forms_line}
+use Rattle.run_words.specs.Orders.{Target, OnFiles, OnText, Order, Apply, Generate, Say, order_of}
+use Rattle.run_words.specs.Faults.{word_fault}
+use Rattle.run_files.specs.RunLines.Words.{refused_words, said}
+use Rattle.run_files.specs.RunLines.Patches.{patch_fault_line, iso_fault_line, forms_line}
 use Rattle.run_files.specs.Treatment.{Treated, file_limit}
 use Rattle.run_files.specs.RunStages.Stages.{Stage, Doing, Ending, ReadIsos, EditFiles, Work, patch_limit, going, end_status}
 use Rattle.run_files.specs.RunStages.Stages.{begun, TargetLeads, ReadLeads, PatchLeads, IsosLead, IsosFileLeads, FileLeads}
@@ -18,7 +20,7 @@ use Rattle.run_files.specs.RunStages.Stages.{status_at}
 use Rattle.run_files.specs.RunStages.Paths.{Path, AreActs}
 use Rattle.run_files.specs.RunStages.Reasons.{PatchFound, PatchRead, IsosFound, PatchReady, FilesEnd, AllDone, Missing, FilesDo, files_status, Reason}
 use Rattle.run_files.specs.RunStages.Reasons.PatchReady.{plain, expanded}
-use Rattle.run_files.specs.RunStages.Reasons.Reason.{unasked, is_generated, no_patch, bad_patch, no_isos, bad_isos, many_forms, summed, filed}
+use Rattle.run_files.specs.RunStages.Reasons.Reason.{unasked, is_said, is_generated, no_patch, bad_patch, no_isos, bad_isos, many_forms, summed, filed}
 use Rattle.spatch_run.proofs.RunLaws.Unique.{none_some, same_some}
 
 -- a run that only has acts at hand does them
@@ -213,11 +215,15 @@ module _ (words : List (List ℕ)) (old : Observed) where
       record { name = name; bytes = bytes; found = found; is = gives.1.0; acts_are = refl } in
       read_why gives.0 isos defined target (Load name patch_limit ∷ []) mid acts last status read gives.1.1 path over
 
-  order_why : (order : Option Order) (acts : List Act) (last : Stage) (status : ℕ) → order_of words ≡ order → Path old (begun order) acts last
+  order_why : (order : Option Order) (acts : List Act) (last : Stage) (status : ℕ) → order_of words ≡ order
+      → Path old (begun (word_fault words) order) acts last
       → status_at last ≡ Some status → Reason words old acts status
   order_why None acts last status is path over =
-      let end_of = ending old (Report usage ∷ []) 1 acts last status path over in
+      let end_of = ending old (Report (refused_words (word_fault words)) ∷ []) 1 acts last status path over in
       unasked is end_of.0 end_of.1
+  order_why (Some (Say saying)) acts last status is path over =
+      let end_of = ending old (Print (said saying) ∷ []) 0 acts last status path over in
+      is_said saying is end_of.0 end_of.1
   order_why (Some (Generate seed functions)) acts last status is path over =
       let end_of = ending old (Print (generated seed functions) ∷ []) 0 acts last status path over in
       is_generated seed functions is end_of.0 end_of.1

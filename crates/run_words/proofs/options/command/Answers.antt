@@ -20,4 +20,6 @@ returns c =
     let a6 = c.in_ok-arg-6.ensures.shape c.valued-6.ensures.local ∙ ap₂ with_rule a5 c.valued-6.ensures.rule in
     let a7 = c.in_ok-arg-7.ensures.shape c.flag.ensures.local ∙ ap₂ with_rule a6 c.flag.ensures.rule in
     let a8 = c.in_ok-arg-8.ensures.shape c.flag-2.ensures.local ∙ ap₂ with_rule a7 c.flag-2.ensures.rule in
-    IfOk-weaker c.arg-9.result _ _ (λ m h. h.shape c.files.ensures.local ∙ ap₂ with_rule a8 c.files.ensures.rule) c.arg-9.ensures
+    let a9 = c.in_ok-arg-9.ensures.shape c.flag-3.ensures.local ∙ ap₂ with_rule a8 c.flag-3.ensures.rule in
+    let a10 = c.in_ok-arg-10.ensures.shape c.flag-4.ensures.local ∙ ap₂ with_rule a9 c.flag-4.ensures.rule in
+    IfOk-weaker c.arg-11.result _ _ (λ m h. h.shape c.files.ensures.local ∙ ap₂ with_rule a10 c.files.ensures.rule) c.arg-11.ensures

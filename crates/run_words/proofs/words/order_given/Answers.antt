@@ -1,29 +1,22 @@
-use Rattle.std.proofs.Common.{◌∙◌, ap, sym, Some, None}
-use Rattle.std.proofs.lemmas.Bool.{and_parts}
+use Rattle.std.proofs.Common.{◌∙◌, ap, Some}
 use Rattle.std.proofs.lemmas.Result.{IfOk-weaker}
-use Rattle.run_words.specs.Shown.{shown_options, shown_value}
-use Rattle.run_words.proofs.Ordered.{ordered_told, refused}
+use Rattle.run_words.specs.Orders.{Say}
+use Rattle.run_words.specs.Shown.{shown_options}
+use Rattle.run_words.proofs.Ordered.{refused, said, worked}
 use Rattle.run_words.proofs.words.order_given.Goals as goal
 
-pub returns-then-not-has_values : goal.returns-then-not-has_values
-returns-then-not-has_values c = record { order = refused (shown_options c.args.given) c.if-not-has_values.ensures; jobs = tt }
+pub returns-then-not-are_filled : goal.returns-then-not-are_filled
+returns-then-not-are_filled c = record { order = refused (shown_options c.args.given) c.if-not-are_filled.ensures; jobs = tt }
 
-pub generating-requires : goal.generating-requires
-generating-requires c = (and_parts _ _ (sym c.if-not-has_values.ensures)).1
-
-pub returns-in-Some : goal.returns-in-Some
-returns-in-Some c = record {
-  order = c.generating.ensures.order ∙ ordered_told (shown_options c.args.given) c.if-not-has_values.ensures (Some c.in-Some.value.now)
-      (ap shown_value c.in-Some.is);
-  jobs = c.generating.ensures.jobs;
+pub returns-then-asks_text : goal.returns-then-asks_text
+returns-then-asks_text c = record {
+  order = ap (λ s. Some (Say s)) c.saying_in.ensures ∙ said (shown_options c.args.given) c.if-not-are_filled.ensures c.if-asks_text.ensures;
+  jobs = tt;
 }
-
-pub editing-requires : goal.editing-requires
-editing-requires c = (and_parts _ _ (sym c.if-not-has_values.ensures)).1
 
 pub returns : goal.returns
 returns c = record {
-  order = IfOk-weaker c.editing.result _ _ (λ r h. h ∙ ordered_told (shown_options c.args.given) c.if-not-has_values.ensures None
-      (ap shown_value c.in-None.is)) c.editing.ensures.order;
-  jobs = c.editing.ensures.jobs;
+  order = IfOk-weaker c.working.result _ _ (λ r h. h ∙ worked (shown_options c.args.given) c.if-not-are_filled.ensures c.if-asks_text.ensures)
+      c.working.ensures.order;
+  jobs = c.working.ensures.jobs;
 }

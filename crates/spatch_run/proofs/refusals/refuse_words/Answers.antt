@@ -1,10 +1,22 @@
-use Rattle.std.proofs.Common.{◌≡◌, ◌∙◌}
-use Rattle.run_files.specs.RunLines.Patches.{usage}
+use Rattle.std.proofs.Common.{◌≡◌, ◌∙◌, refl, inl}
+use Rattle.std.proofs.lemmas.Result.{err_from_is_err_and}
+use Rattle.run_acts.specs.Acts.{Report}
+use Rattle.run_acts.proofs.BreaksLemmas.{NoneFell-refl}
+use Rattle.run_files.specs.RunLines.Words.{refused_words}
+use Rattle.run_files.specs.RunStages.Stages.{refusing}
+use Rattle.spatch_run.proofs.Chain.{broken}
 use Rattle.spatch_run.proofs.refusals.refuse_words.Goals as goal
+
+pub returns-in_err-line : goal.returns-in_err-line
+returns-in_err-line g c = record {
+  ends = λ files out stores s o.
+      let p = err_from_is_err_and c.from_residual.result c.from_residual.ensures.1 in
+      rw (p.1, p.2) (broken (refusing (refused_words c.args.fault) 1) (Report (refused_words c.args.fault)) refl (NoneFell-refl _) (inl (refl, refl)));
+}
 
 pub returns : goal.returns
 returns g c = record {
   ends = λ files out stores s o.
-      let put : c.as_bytes.result.now ≡ usage = c.as_bytes.ensures.value ∙ c.usage.ensures.bytes in
+      let put : c.deref.result.now ≡ refused_words c.args.fault = c.deref.ensures.value ∙ c.in_ok-line.ensures.bytes in
       rw put at (c.end_by.ensures.ends files out stores s o);
 }

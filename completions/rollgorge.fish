@@ -1,0 +1,11 @@
+# Completes the words of rollgorge in fish. Made by .ci/words.
+complete -c rollgorge -l sp-file -x -a '(__fish_complete_suffix .cocci)' -d 'the patch (needed)'
+complete -c rollgorge -l in-place -d 'store each file that changes; its text isn\'t printed'
+complete -c rollgorge -l witnesses -d 'print what each rule finds, in place of the text'
+complete -c rollgorge -l iso-file -x -a '(__fish_complete_suffix .iso)' -d 'isomorphisms; examples/standard.iso has the usual ones'
+complete -c rollgorge -l define -x -d 'the virtual names that hold'
+complete -c rollgorge -l jobs -x -d 'match n items at a time, 1 to 64; the answer is the same'
+complete -c rollgorge -l generate -x -d 'in place of files, a text made from the seed S'
+complete -c rollgorge -l functions -x -d 'of K functions, 1 to 100000'
+complete -c rollgorge -l help -d 'Prints how to call the program.'
+complete -c rollgorge -l version -d 'Prints its name and version.'
